@@ -1,0 +1,5 @@
+pub mod Equal
+pub mod Clone
+pub mod Lookup
+pub mod Join
+pub mod Ids

@@ -1,0 +1,33 @@
+use Rattle.std.proofs.Common.{arith, sym, ◌∙◌, ◌≡◌, ◌&&◌, Bool, false, get_or, int_eq, ℤ}
+use Rattle.arrow_values.specs.Equal.{field_eq, member_eq}
+use Rattle.arrow_values.proofs.Equal.{mode_same, fields_same, members_same, nullable_differs, metadata_differs, pointwise_fails}
+use Rattle.arrow_values.proofs.tree.equal.+equal.Goals as goal
+
+pub same_type-returns-in-Struct-b : goal.same_type-returns-in-Struct-b
+same_type-returns-in-Struct-b t c = rw (c.in-Struct.is, c.in-Struct-b.is) (c.same_fields.ensures ∙ fields_same c.in-Struct.fields c.in-Struct-b.others)
+
+pub same_type-returns-then-same_members : goal.same_type-returns-then-same_members
+same_type-returns-then-same_members t c =
+    rw (c.in-Union.is, c.in-Union-b.is, ← members_same c.in-Union.members c.in-Union-b.others, ← c.if-same_members.ensures) (c.eq.ensures ∙ mode_same c.in-Union.mode c.in-Union-b.other_mode)
+
+pub same_type-returns-else-same_members : goal.same_type-returns-else-same_members
+same_type-returns-else-same_members t c =
+    rw (c.in-Union.is, c.in-Union-b.is, ← members_same c.in-Union.members c.in-Union-b.others, ← c.if-same_members.ensures) c.if-same_members.false
+
+pub same_field-returns-then-a-b : goal.same_field-returns-then-a-b
+same_field-returns-then-a-b t c = nullable_differs c.args.a.now c.args.b.now (rw (← c.a.view_is, ← c.b.view_is) c.if-a-b.true)
+
+pub same_field-returns-then-not-same_metadata : goal.same_field-returns-then-not-same_metadata
+same_field-returns-then-not-same_metadata t c = metadata_differs c.args.a.now c.args.b.now (rw (← c.a.view_is, ← c.b.view_is) c.if-not-same_metadata.ensures)
+
+pub same_members-returns-then-not-same_member : goal.same_members-returns-then-not-same_member
+same_members-returns-then-not-same_member t c =
+    let m = c.index.result.now in
+    let n = c.index-in-loop-i.result.now in
+    let e : false ≡ (int_eq m.0 n.0 && field_eq m.1 n.1) = c.if-not-same_member.ensures in
+    let h : false ≡ member_eq (get_or c.args.a.now c.loop-i.i m) (get_or c.args.b.now c.loop-i.i n) =
+        rw (← c.a.view_is, ← c.b.view_is, ← c.index.ensures, ← c.index-in-loop-i.ensures) e in
+    pointwise_fails member_eq c.args.a.now c.args.b.now c.loop-i.i m n
+        (rw (← c.a.view_is) (omega (arith, c.loop-i-test.true, c.len-i-end.ensures)))
+        (rw (← c.b.view_is) (omega (arith, c.loop-i-test.true, c.len-i-end.ensures, c.if-len.false, c.len.ensures, c.len-2.ensures))) h
+        ∙ sym c.loop-i.invariant

@@ -1,0 +1,10 @@
+pub mod Tree
+pub mod Code
+pub mod View
+pub mod Falls
+pub mod Equal
+pub mod Texts
+pub mod Union
+pub mod UnionRest
+pub mod Errors
+pub mod Coordinates

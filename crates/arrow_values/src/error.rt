@@ -1,0 +1,151 @@
+//! Why a call is refused: Arrow's error, the one of GeoArrow, which hold each other, and that of joining two unions.
+ghost use Rattle.std.specs.Prelude.{◌≡◌, IfOk, IsOk, true};
+ghost use Rattle.arrow_values.specs.Errors.{IsArrowFormOf, is_arrow, IsInvalidArgument};
+ghost use Rattle.arrow_values.specs.declared.error.ArrowError.TheVariants.{OutOfMemory};
+ghost use Rattle.arrow_values.specs.declared.error.GeoArrowError.TheVariants.{Arrow, IOError};
+
+use std::alloc::{AllocError, AllocFailed, Global};
+use std::io;
+use thiserror::Error;
+
+/// The errors of Arrow's schema crate that this library answers or hands on, and want of memory.
+#[derive(Debug, Drop, Error)]
+#[cycle(errors)]
+pub enum ArrowError {
+    /// A data type is not one that was wanted.
+    #[error("Schema error: {0}")]
+    SchemaError(String),
+    /// An argument cannot be taken.
+    #[error("Invalid argument error: {0}")]
+    InvalidArgumentError(String),
+    /// An error of GeoArrow, handed through Arrow.
+    #[error("External error: {0}")]
+    ExternalError(Box<GeoArrowError>),
+    /// No memory was left for the answer.
+    #[error("Out of memory")]
+    OutOfMemory,
+}
+
+/// The errors of GeoArrow. This library answers `Arrow`, `Crs`, `External` and `InvalidGeoArrow` alone; the other
+/// variants are for the crates that stand on it.
+#[derive(Debug, Drop, Error)]
+#[cycle(errors)]
+pub enum GeoArrowError {
+    /// An error of Arrow; want of memory among them.
+    #[error(transparent)]
+    Arrow(ArrowError),
+    /// A coordinate reference system cannot be taken.
+    #[error("CRS related error: {0}")]
+    Crs(String),
+    /// What came from outside cannot be read.
+    #[error("External error: {0}")]
+    External(String),
+    /// An error of FlatGeobuf.
+    #[error("FlatGeobuf error: {0}")]
+    FlatGeobuf(String),
+    /// An error of GeoParquet.
+    #[error("GeoParquet error: {0}")]
+    GeoParquet(String),
+    /// An error of a reader or a writer.
+    #[error(transparent)]
+    IOError(io::Error),
+    /// Data that does not conform to the GeoArrow specification.
+    #[error("Data not conforming to GeoArrow specification: {0}")]
+    InvalidGeoArrow(String),
+    /// A geometry of a type that the operation does not take.
+    #[error("Incorrect geometry type for operation: {0}")]
+    IncorrectGeometryType(String),
+    /// A container that cannot hold more.
+    #[error("Overflow: data does not fit in i32 offsets.")]
+    Overflow,
+    /// An error of well-known binary.
+    #[error("WKB error: {0}")]
+    Wkb(String),
+    /// An error of well-known text.
+    #[error("WKT error: {0}")]
+    Wkt(String),
+}
+
+/// What a call of GeoArrow answers.
+pub type GeoArrowResult<T> = Result<T, GeoArrowError>;
+
+/// Why two unions could not be joined.
+#[derive(Clone, Copy, Debug, PartialEq, Eq)]
+pub enum AppendFault {
+    /// The first id of the second union that the first union has too.
+    RepeatedId(i8),
+    /// No memory was left for the members.
+    OutOfMemory,
+}
+
+impl From<AllocError> for ArrowError {
+    ghost from_gives = { λ _ e. e ≡ OutOfMemory };
+
+    fn from(_error: AllocError) -> ArrowError {
+        ArrowError::OutOfMemory
+    }
+}
+
+impl From<AllocError> for GeoArrowError {
+    ghost from_gives = { λ _ e. e ≡ Arrow OutOfMemory };
+
+    fn from(_error: AllocError) -> GeoArrowError {
+        GeoArrowError::Arrow(ArrowError::OutOfMemory)
+    }
+}
+
+impl<T: Drop> From<AllocFailed<T>> for ArrowError {
+    ghost from_gives = { λ _ e. e ≡ OutOfMemory };
+
+    fn from(_error: AllocFailed<T>) -> ArrowError {
+        ArrowError::OutOfMemory
+    }
+}
+
+impl<T: Drop> From<AllocFailed<T>> for GeoArrowError {
+    ghost from_gives = { λ _ e. e ≡ Arrow OutOfMemory };
+
+    fn from(_error: AllocFailed<T>) -> GeoArrowError {
+        GeoArrowError::Arrow(ArrowError::OutOfMemory)
+    }
+}
+
+impl From<ArrowError> for GeoArrowError {
+    ghost from_gives = { λ a e. e ≡ Arrow a };
+
+    fn from(error: ArrowError) -> GeoArrowError {
+        GeoArrowError::Arrow(error)
+    }
+}
+
+impl From<io::Error> for GeoArrowError {
+    ghost from_gives = { λ a e. e ≡ IOError a };
+
+    fn from(error: io::Error) -> GeoArrowError {
+        GeoArrowError::IOError(error)
+    }
+}
+
+impl GeoArrowError {
+    /// This error as one of Arrow: what an `Arrow` holds comes out as it is, and takes no memory; every other error is
+    /// boxed as an `ExternalError`. Errs for want of memory alone.
+    pub fn into_arrow_error(self, alloc: Global) -> Result<ArrowError, AllocError>
+        ensures form { IfOk result (IsArrowFormOf self) }
+        ensures no_memory { is_arrow self ≡ true → IsOk result }
+    {
+        match self {
+            GeoArrowError::Arrow(inner) => Ok(inner),
+            other => Ok(ArrowError::ExternalError(Box::new(alloc, other)?)),
+        }
+    }
+}
+
+/// An argument that cannot be taken, by this message; or want of memory where there is none for the message.
+pub(crate) fn invalid_argument(alloc: Global, message: &str) -> ArrowError
+    ensures { IsInvalidArgument result }
+{
+    match String::from_str(alloc, message) {
+        Ok(message) => ArrowError::InvalidArgumentError(message),
+        Err(_) => ArrowError::OutOfMemory,
+    }
+}

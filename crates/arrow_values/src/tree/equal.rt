@@ -1,0 +1,194 @@
+//! Equality: two data types, fields or lists of them are equal where all parts are, nested metadata and order included.
+ghost use Rattle.std.specs.Prelude.{◌≡◌, ◌&&◌, ◌↔◌, IsTrue};
+ghost use Rattle.std.specs.Ordering.{int_eq};
+ghost use Rattle.std.specs.Cmp.{partial_equiv_from_equiv};
+ghost use Rattle.std.proofs.lemmas.Cmp.{on_equiv};
+ghost use Rattle.arrow_values.specs.View.{tree, metadata_of};
+ghost use Rattle.arrow_values.specs.Equal.{tree_eq, metadata_eq, field_eq, field_lists_eq, member_eq, member_lists_eq, tree_equivalence, field_equivalence, fields_equivalence, members_equivalence};
+
+use crate::tree::{DataType, Field, Fields, UnionFields};
+use std::collections::BTreeMap;
+
+impl PartialEq for DataType {
+    ghost eq = { λ a b. tree_eq (tree a) (tree b) };
+
+    ghost laws = { partial_equiv_from_equiv (on_equiv tree tree_equivalence) };
+
+    #[tactic(auto, using(crate::specs::Equal::tree_decides))]
+    fn eq(&self, other: &DataType) -> bool
+        ensures value { result ≡ tree_eq (tree self.now) (tree other.now) }
+        ensures same { IsTrue result ↔ (tree self.now ≡ tree other.now) }
+    {
+        same_type(self, other)
+    }
+}
+
+impl Eq for DataType {
+    ghost laws = { on_equiv tree tree_equivalence };
+}
+
+impl PartialEq for Field {
+    ghost eq = { field_eq };
+
+    ghost laws = { partial_equiv_from_equiv field_equivalence };
+
+    #[tactic(auto, using(crate::specs::Equal::field_decides))]
+    fn eq(&self, other: &Field) -> bool
+        ensures value { result ≡ field_eq self.now other.now }
+        ensures same { IsTrue result ↔ (self.now ≡ other.now) }
+    {
+        same_field(self, other)
+    }
+}
+
+impl Eq for Field {
+    ghost laws = { field_equivalence };
+}
+
+impl PartialEq for Fields {
+    ghost eq = { field_lists_eq };
+
+    ghost laws = { partial_equiv_from_equiv fields_equivalence };
+
+    #[tactic(auto, using(crate::specs::Equal::field_lists_decide))]
+    fn eq(&self, other: &Fields) -> bool
+        ensures value { result ≡ field_lists_eq self.now other.now }
+        ensures same { IsTrue result ↔ (self.now ≡ other.now) }
+    {
+        same_fields(self, other)
+    }
+}
+
+impl Eq for Fields {
+    ghost laws = { fields_equivalence };
+}
+
+impl PartialEq for UnionFields {
+    ghost eq = { member_lists_eq };
+
+    ghost laws = { partial_equiv_from_equiv members_equivalence };
+
+    #[tactic(auto, using(crate::specs::Equal::member_lists_decide))]
+    fn eq(&self, other: &UnionFields) -> bool
+        ensures value { result ≡ member_lists_eq self.now other.now }
+        ensures same { IsTrue result ↔ (self.now ≡ other.now) }
+    {
+        same_members(self, other)
+    }
+}
+
+impl Eq for UnionFields {
+    ghost laws = { members_equivalence };
+}
+
+#[cycle(equal)]
+fn same_type(a: &DataType, b: &DataType) -> bool
+    ensures { result ≡ tree_eq (tree a.now) (tree b.now) }
+{
+    match a {
+        DataType::Null => matches!(b, DataType::Null),
+        DataType::Boolean => matches!(b, DataType::Boolean),
+        DataType::Int8 => matches!(b, DataType::Int8),
+        DataType::Int16 => matches!(b, DataType::Int16),
+        DataType::Int32 => matches!(b, DataType::Int32),
+        DataType::Int64 => matches!(b, DataType::Int64),
+        DataType::UInt8 => matches!(b, DataType::UInt8),
+        DataType::UInt16 => matches!(b, DataType::UInt16),
+        DataType::UInt32 => matches!(b, DataType::UInt32),
+        DataType::UInt64 => matches!(b, DataType::UInt64),
+        DataType::Float16 => matches!(b, DataType::Float16),
+        DataType::Float32 => matches!(b, DataType::Float32),
+        DataType::Float64 => matches!(b, DataType::Float64),
+        DataType::Date32 => matches!(b, DataType::Date32),
+        DataType::Date64 => matches!(b, DataType::Date64),
+        DataType::Binary => matches!(b, DataType::Binary),
+        DataType::LargeBinary => matches!(b, DataType::LargeBinary),
+        DataType::BinaryView => matches!(b, DataType::BinaryView),
+        DataType::Utf8 => matches!(b, DataType::Utf8),
+        DataType::LargeUtf8 => matches!(b, DataType::LargeUtf8),
+        DataType::Utf8View => matches!(b, DataType::Utf8View),
+        DataType::List(inner) => match b {
+            DataType::List(other) => same_field(inner, other),
+            _ => false,
+        },
+        DataType::LargeList(inner) => match b {
+            DataType::LargeList(other) => same_field(inner, other),
+            _ => false,
+        },
+        DataType::FixedSizeList(inner, size) => match b {
+            DataType::FixedSizeList(other, other_size) => {
+                same_field(inner, other) && *size == *other_size
+            }
+            _ => false,
+        },
+        DataType::Struct(fields) => match b {
+            DataType::Struct(others) => same_fields(fields, others),
+            _ => false,
+        },
+        DataType::Union(members, mode) => match b {
+            DataType::Union(others, other_mode) => {
+                same_members(members, others) && *mode == *other_mode
+            }
+            _ => false,
+        },
+    }
+}
+
+#[cycle(equal)]
+fn same_field(a: &Field, b: &Field) -> bool
+    ensures { result ≡ field_eq a.now b.now }
+{
+    if a.name != b.name {
+        return false;
+    }
+    if a.nullable != b.nullable {
+        return false;
+    }
+    if !same_metadata(&a.metadata, &b.metadata) {
+        return false;
+    }
+    same_type(&a.data_type, &b.data_type)
+}
+
+fn same_metadata(a: &BTreeMap<String, String>, b: &BTreeMap<String, String>) -> bool
+    ensures { result ≡ metadata_eq (metadata_of a.now.entries) (metadata_of b.now.entries) }
+{
+    *a == *b
+}
+
+#[cycle(equal)]
+fn same_fields(a: &Fields, b: &Fields) -> bool
+    ensures { result ≡ field_lists_eq a.now b.now }
+{
+    if a.members.len() != b.members.len() {
+        return false;
+    }
+    for i in 0..a.members.len() {
+        if !same_field(&a.members[i], &b.members[i]) {
+            return false;
+        }
+    }
+    true
+}
+
+#[cycle(equal)]
+fn same_members(a: &UnionFields, b: &UnionFields) -> bool
+    ensures { result ≡ member_lists_eq a.now b.now }
+{
+    if a.members.len() != b.members.len() {
+        return false;
+    }
+    for i in 0..a.members.len() {
+        if !same_member(&a.members[i], &b.members[i]) {
+            return false;
+        }
+    }
+    true
+}
+
+#[cycle(equal)]
+fn same_member(a: &(i8, Field), b: &(i8, Field)) -> bool
+    ensures { result ≡ member_eq a.now b.now }
+{
+    a.0 == b.0 && same_field(&a.1, &b.1)
+}

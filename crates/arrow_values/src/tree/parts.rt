@@ -1,0 +1,119 @@
+//! A field, made and read, and its extension texts.
+ghost use Rattle.std.specs.Prelude.{◌≡◌, [], IfOk, string_bytes};
+ghost use Rattle.arrow_values.specs.Tree.{list, field_tree};
+ghost use Rattle.arrow_values.specs.View.{tree, metadata_of};
+ghost use Rattle.arrow_values.specs.Texts.{text_at, text_of, extension_name, extension_metadata};
+
+use crate::tree::{DataType, Field};
+use std::alloc::{AllocError, Global};
+use std::collections::BTreeMap;
+
+/// The metadata key under which the name of a field's extension type stands (Arrow, "Extension Types").
+pub const EXTENSION_TYPE_NAME_KEY: &str = "ARROW:extension:name";
+
+/// The metadata key under which the metadata of a field's extension type stands (Arrow, "Extension Types").
+pub const EXTENSION_TYPE_METADATA_KEY: &str = "ARROW:extension:metadata";
+
+impl Field {
+    /// A field of that name, data type and nullability, without metadata. Errs for want of memory alone.
+    pub fn new(
+        alloc: Global,
+        name: &str,
+        data_type: DataType,
+        nullable: bool,
+    ) -> Result<Field, AllocError>
+        ensures { IfOk result (λ f. f ≡ field_tree name.now (tree data_type) nullable []) }
+    {
+        let name = String::from_str(alloc, name)?;
+        Ok(Field::from_parts(name, data_type, nullable, BTreeMap::new(alloc)))
+    }
+
+    /// A field of type `List(value)`, without metadata of its own. Errs for want of memory alone.
+    pub fn new_list(
+        alloc: Global,
+        name: &str,
+        value: Field,
+        nullable: bool,
+    ) -> Result<Field, AllocError>
+        ensures { IfOk result (λ f. f ≡ field_tree name.now (list value.name value.tree value.nullable value.metadata) nullable []) }
+    {
+        let value = Box::new(alloc, value)?;
+        Field::new(alloc, name, DataType::List(value), nullable)
+    }
+
+    /// The field of these parts, which are moved in and take no further memory.
+    pub fn from_parts(
+        name: String,
+        data_type: DataType,
+        nullable: bool,
+        metadata: BTreeMap<String, String>,
+    ) -> Field
+        ensures { result ≡ field_tree (string_bytes name) (tree data_type) nullable (metadata_of metadata.entries) }
+    {
+        Field {
+            name,
+            data_type,
+            nullable,
+            metadata,
+        }
+    }
+
+    /// The name.
+    pub fn name(&self) -> &str
+        ensures { result.now ≡ self.now.name }
+    {
+        self.name.as_str()
+    }
+
+    /// The data type.
+    pub fn data_type(&self) -> &DataType
+        ensures { tree result.now ≡ self.now.tree }
+    {
+        &self.data_type
+    }
+
+    /// Whether values may be null.
+    pub fn is_nullable(&self) -> bool
+        ensures { result ≡ self.now.nullable }
+    {
+        self.nullable
+    }
+
+    /// The map of texts.
+    pub fn metadata(&self) -> &BTreeMap<String, String>
+        ensures { metadata_of result.now.entries ≡ self.now.metadata }
+    {
+        &self.metadata
+    }
+
+    /// The same field with that map in place of its own.
+    pub fn with_metadata(self, metadata: BTreeMap<String, String>) -> Field
+        ensures { result ≡ record self { metadata = metadata_of metadata.entries } }
+    {
+        Field::from_parts(self.name, self.data_type, self.nullable, metadata)
+    }
+
+    /// The text at `EXTENSION_TYPE_NAME_KEY`, if one stands there.
+    pub fn extension_type_name(&self) -> Option<&str>
+        ensures { text_of result ≡ extension_name self.now }
+    {
+        text_at(&self.metadata, EXTENSION_TYPE_NAME_KEY)
+    }
+
+    /// The text at `EXTENSION_TYPE_METADATA_KEY`, if one stands there.
+    pub fn extension_type_metadata(&self) -> Option<&str>
+        ensures { text_of result ≡ extension_metadata self.now }
+    {
+        text_at(&self.metadata, EXTENSION_TYPE_METADATA_KEY)
+    }
+}
+
+/// The text at a key.
+fn text_at<'a>(texts: &'a BTreeMap<String, String>, key: &str) -> Option<&'a str>
+    ensures { text_of result ≡ text_at key.now (metadata_of texts.now.entries) }
+{
+    match texts.get(key) {
+        Some(text) => Some(text.as_str()),
+        None => None,
+    }
+}

@@ -1,0 +1,128 @@
+//! Unions made of ids and fields, cut and joined.
+ghost use Rattle.std.specs.Prelude.{◌≡◌, ◌++◌, ◌⊎◌, IfOk, IfErr, OnOk, OnErr, IsTrue, true};
+ghost use Rattle.std.specs.List.{list_all, zip};
+ghost use Rattle.arrow_values.specs.Union.{AreUnionParts, HasTypeIds, are_distinct, has, has_id, is_type_id, retained, shared_id};
+ghost use Rattle.arrow_values.specs.Errors.{IsMemory, is_invalid_argument, fault_id};
+
+use crate::error::{AppendFault, ArrowError, invalid_argument};
+use crate::tree::{Field, UnionFields};
+use std::alloc::{AllocError, Global};
+
+impl UnionFields {
+    /// The union of these members: the first id with the first field, and so on. Errs, as `InvalidArgumentError`,
+    /// where there are not as many ids as fields, where an id is negative, and where one is repeated; else for want
+    /// of memory alone. A union may have no members.
+    pub fn try_new(
+        alloc: Global,
+        type_ids: Vec<i8>,
+        fields: Vec<Field>,
+    ) -> Result<UnionFields, ArrowError>
+        ensures members { IfOk result (λ ms. ms ≡ zip type_ids.items fields.items) }
+        ensures ids { IfOk result HasTypeIds }
+        ensures fits { IfOk result (λ _. AreUnionParts type_ids.items fields.items) }
+        ensures refused { IfErr result (λ e. IsMemory e ⊎ ¬ AreUnionParts type_ids.items fields.items) }
+        ensures variant { IfErr result (λ e. IsMemory e ⊎ (is_invalid_argument e ≡ true)) }
+    {
+        if type_ids.len() != fields.len() {
+            return Err(invalid_argument(alloc, "lengths differ"));
+        }
+        if !none_negative(&type_ids) {
+            return Err(invalid_argument(alloc, "negative type id"));
+        }
+        if !all_distinct(&type_ids) {
+            return Err(invalid_argument(alloc, "repeated type id"));
+        }
+        let members = join(alloc, type_ids, fields)?;
+        Ok(UnionFields { members })
+    }
+
+    /// Keeps the members whose id is in the slice, in their order.
+    pub fn retain_ids(&mut self, ids: &[i8])
+        ensures members { self.new ≡ retained ids.now self.old }
+        ensures ids { HasTypeIds self.old → HasTypeIds self.new }
+    {
+        self.members.retain(|member| ids.contains(&member.0));
+    }
+
+    /// Puts the members of `other` last. Errs as `RepeatedId` with the first id of `other` that is here already, where
+    /// there is one, and else for want of memory alone; `other` is then handed back, and both unions are as they were.
+    pub fn append(&mut self, other: UnionFields) -> Result<(), (UnionFields, AppendFault)>
+        ensures joined { OnOk result (self.new ≡ self.old ++ other) }
+        ensures ids { HasTypeIds self.old → HasTypeIds other → HasTypeIds self.new }
+        ensures none_shared { OnOk result (shared_id self.old other ≡ None) }
+        ensures fault { IfErr result (λ e. shared_id self.old other ≡ fault_id e.1) }
+        ensures unchanged { OnErr result (self.new ≡ self.old) }
+        ensures given_back { IfErr result (λ e. e.0 ≡ other) }
+    {
+        if let Some(id) = self.shared_id(&other) {
+            return Err((other, AppendFault::RepeatedId(id)));
+        }
+        let mut members = other.members;
+        match self.members.append(&mut members) {
+            Ok(()) => Ok(()),
+            Err(_) => Err((UnionFields { members }, AppendFault::OutOfMemory)),
+        }
+    }
+
+    /// Whether a member has the id.
+    fn has_id(&self, id: i8) -> bool
+        ensures { result ≡ has_id id self.now }
+    {
+        self.members.iter().any(|member| member.0 == id)
+    }
+
+    /// The first id of `other` that is here too.
+    fn shared_id(&self, other: &UnionFields) -> Option<i8>
+        ensures { result ≡ shared_id self.now other.now }
+    {
+        for (id, _) in &other.members {
+            if self.has_id(*id) {
+                return Some(*id);
+            }
+        }
+        None
+    }
+}
+
+/// Whether no id is negative, and so each is 0 to 127.
+fn none_negative(ids: &[i8]) -> bool
+    ensures { result ≡ list_all is_type_id ids.now }
+{
+    for id in ids {
+        if *id < 0 {
+            return false;
+        }
+    }
+    true
+}
+
+/// Whether each id stands once.
+fn all_distinct(ids: &[i8]) -> bool
+    ensures { result ≡ are_distinct ids.now }
+{
+    for i in 0..ids.len() {
+        if ids[i + 1..].contains(&ids[i]) {
+            return false;
+        }
+    }
+    true
+}
+
+/// The pairs of id and field, as far as both go.
+fn join(
+    alloc: Global,
+    ids: Vec<i8>,
+    fields: Vec<Field>,
+) -> Result<Vec<(i8, Field)>, AllocError>
+    ensures { IfOk result (λ v. v.items ≡ zip ids.items fields.items) }
+{
+    let mut members = Vec::with_capacity(alloc, ids.len())?;
+    let mut rest = fields.into_iter();
+    for id in &ids {
+        let Some(field) = rest.next() else {
+            return Ok(members);
+        };
+        members.push((*id, field))?;
+    }
+    Ok(members)
+}
