@@ -1,5 +1,5 @@
 -- What the tests of the code compute is what the specs say.
-use Rattle.std.proofs.Common.{◌≡◌, ◌<◌, List, [], ◌∷◌, Bool, true, false, not, true≢false, ◌&&◌, map, refl, sym, ◌∙◌, ap, ℤ, ℕ, zero, suc, length, get_or, drop, arith}
+use Rattle.std.proofs.Common.{◌≡◌, ◌<◌, List, [], ◌∷◌, Bool, true, false, not, true≢false, ◌&&◌, map, refl, sym, ap, ℤ, ℕ, zero, suc, length, get_or, drop, arith}
 use Rattle.std.specs.Cmp.Lexicographic.{pointwise}
 use Rattle.std.specs.Ordering.{int_eq}
 use denote.Enum.Bare.{sameb}

@@ -1,7 +1,7 @@
 -- The ids of a union, cut and joined.
-use Rattle.std.proofs.Common.{◌≡◌, ◌+◌, suc, ℤ, Bool, true, false, not, cond, ◌&&◌, ◌||◌, List, [], ◌∷◌, ◌++◌, length, map, Option, Some, None, refl, sym, ap, ◌∙◌, true≢false, arith}
+use Rattle.std.proofs.Common.{◌≡◌, ℤ, Bool, true, false, not, cond, ◌&&◌, ◌||◌, List, [], ◌∷◌, ◌++◌, length, Option, Some, None, refl, sym, ap, ◌∙◌, true≢false, arith}
 use Rattle.std.specs.Ordering.{int_eq}
-use Rattle.std.specs.List.{list_any, list_all, filter, zip}
+use Rattle.std.specs.List.{list_all, filter, zip}
 use Rattle.std.proofs.lemmas.List.Folds.{list_any-append, list_all-append}
 use Rattle.std.proofs.lemmas.Bool.Decides.{Decides-int_eq, same_from_decides, Decides-like}
 use Rattle.arrow_values.specs.Tree.{FieldTree, Members}
@@ -91,14 +91,14 @@ distinct_joined [] ns h k none = k
 distinct_joined (m ∷ ms) ns h k none =
     let h : (not (has m.0 (ids_of ms)) ≡ true) × (are_distinct (ids_of ms) ≡ true) = both _ _ h in
     and_true _ _ (ap not (list_any-append (λ j. int_eq j m.0) (ids_of ms) (ids_of ns) ∙ neither _ _ (not_true _ h.0) (lacks_first m ms ns none)))
-        (distinct_joined ms ns h.1 k (shared_later m ms ns none))
+    (distinct_joined ms ns h.1 k (shared_later m ms ns none))
 
 joined_ids : (ms ns all : Members) → all ≡ ms ++ ns → shared_id ms ns ≡ None → HasTypeIds ms → HasTypeIds ns → HasTypeIds all
 joined_ids ms ns all is none h k =
     let h : (list_all is_type_id (ids_of ms) ≡ true) × (are_distinct (ids_of ms) ≡ true) = both _ _ h in
     let k : (list_all is_type_id (ids_of ns) ≡ true) × (are_distinct (ids_of ns) ≡ true) = both _ _ k in
     ap (λ l. are_type_ids (ids_of l)) is ∙ ap are_type_ids (ids_of-append ms ns)
-        ∙ and_true _ _ (list_all-append is_type_id (ids_of ms) (ids_of ns) ∙ and_true _ _ h.0 k.0) (distinct_joined ms ns h.1 k.1 none)
+    ∙ and_true _ _ (list_all-append is_type_id (ids_of ms) (ids_of ns) ∙ and_true _ _ h.0 k.0) (distinct_joined ms ns h.1 k.1 none)
 
 -- what a join leaves, whether there was memory for it or not
 pub appended_ids : (done : Bool) (ms ns old other new : Members) → ms ≡ old → ns ≡ other → new ≡ cond done (ms ++ ns) ms → shared_id old other ≡ None → HasTypeIds old → HasTypeIds other → HasTypeIds new

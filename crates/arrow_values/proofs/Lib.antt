@@ -3,3 +3,4 @@ pub mod Clone
 pub mod Lookup
 pub mod Join
 pub mod Ids
+pub mod TextLaws

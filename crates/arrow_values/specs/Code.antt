@@ -182,7 +182,7 @@ tree_code = code_by (List Mark) (coded_list mark_code) (λ t. tree_marks t []) (
 abbrev pub field_code : Coded FieldTree
 field_code =
     code_by (Text × (Tree × (Bool × Metadata))) (coded× text_code (coded× tree_code (coded× coded_bool metadata_code)))
-        (λ f. (f.name, (f.tree, (f.nullable, f.metadata)))) (λ p. record { name = p.0; tree = p.1.0; nullable = p.1.1.0; metadata = p.1.1.1 }) (λ _. refl)
+    (λ f. (f.name, (f.tree, (f.nullable, f.metadata)))) (λ p. record { name = p.0; tree = p.1.0; nullable = p.1.1.0; metadata = p.1.1.1 }) (λ _. refl)
 
 abbrev pub fields_code : Coded (List FieldTree)
 fields_code = coded_list field_code

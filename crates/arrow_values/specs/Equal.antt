@@ -1,5 +1,5 @@
 -- When two trees are equal: all parts are.
-use Rattle.std.specs.Prelude.{◌≡◌, ℕ, eqb, ℤ, Bool, true, false, ◌&&◌, List, [], ◌∷◌}
+use Rattle.std.specs.Prelude.{◌≡◌, eqb, ℤ, Bool, true, false, ◌&&◌, List}
 use Rattle.std.specs.Ordering.{int_eq}
 use mathlib.Core.Bool.{beq}
 use Rattle.std.specs.Bool.{Decides}
@@ -8,7 +8,6 @@ use Rattle.std.specs.Cmp.Lexicographic.{pointwise, pointwise_decides, bytes_deci
 use Rattle.std.proofs.Common.{refl, sym, ◌∙◌, ap, true≢false}
 use Rattle.std.proofs.lemmas.Bool.Decides.{Decides-eqb, Decides-int_eq, Decides-and, Decides-like, same_from_decides}
 use Rattle.arrow_values.specs.declared.tree.UnionMode.{UnionMode}
-use Rattle.arrow_values.specs.declared.tree.UnionMode.TheVariants.{Sparse, Dense}
 use Rattle.arrow_values.specs.Tree.{Text, Metadata, Plain, Tree, plain, list, large_list, fixed_size_list, struct, union, FieldTrees, no_fields, field, MemberTrees, no_members, member, FieldTree}
 use Rattle.arrow_values.specs.Code.{plain_code, plain_from, plain_from-code, is_dense, mode_from, mode_from-is_dense}
 
@@ -70,8 +69,8 @@ mode_decides u v =
 field_decides-at : (f g : FieldTree) → Decides (tree_eq f.tree g.tree) (f.tree ≡ g.tree) → Decides (field_eq f g) (f ≡ g)
 field_decides-at f g trees =
     Decides-like _ (λ h. λ i. record { name = h.0.0.0 i; tree = h.0.0.1 i; nullable = h.0.1 i; metadata = h.1 i })
-        (λ e. (((ap (λ x. x.name) e, ap (λ x. x.tree) e), ap (λ x. x.nullable) e), ap (λ x. x.metadata) e))
-        (Decides-and _ _ (Decides-and _ _ (Decides-and _ _ (text_decides f.name g.name) trees) (bool_decides f.nullable g.nullable)) (metadata_decides f.metadata g.metadata))
+    (λ e. (((ap (λ x. x.name) e, ap (λ x. x.tree) e), ap (λ x. x.nullable) e), ap (λ x. x.metadata) e))
+    (Decides-and _ _ (Decides-and _ _ (Decides-and _ _ (text_decides f.name g.name) trees) (bool_decides f.nullable g.nullable)) (metadata_decides f.metadata g.metadata))
 
 -- a field from its parts
 abbrev of_parts : Text → Tree → Bool → Metadata → FieldTree
@@ -128,30 +127,30 @@ mutual
   pub tree_decides : (t u : Tree) → Decides (tree_eq t u) (t ≡ u)
   tree_decides (plain p) (plain q) = Decides-like _ (λ e. ap plain e) (λ e. ap (plain_of p) e) (plain_decides p q)
   tree_decides (list n t b m) (list o u c k) =
-    Decides-like _ (λ e. ap (λ f. list f.name f.tree f.nullable f.metadata) e) (λ e. ap (inner (of_parts n t b m)) e) (field_decides-at (of_parts n t b m) (of_parts o u c k) (tree_decides t u))
+      Decides-like _ (λ e. ap (λ f. list f.name f.tree f.nullable f.metadata) e) (λ e. ap (inner (of_parts n t b m)) e) (field_decides-at (of_parts n t b m) (of_parts o u c k) (tree_decides t u))
   tree_decides (large_list n t b m) (large_list o u c k) =
-    Decides-like _ (λ e. ap (λ f. large_list f.name f.tree f.nullable f.metadata) e) (λ e. ap (inner (of_parts n t b m)) e) (field_decides-at (of_parts n t b m) (of_parts o u c k) (tree_decides t u))
+      Decides-like _ (λ e. ap (λ f. large_list f.name f.tree f.nullable f.metadata) e) (λ e. ap (inner (of_parts n t b m)) e) (field_decides-at (of_parts n t b m) (of_parts o u c k) (tree_decides t u))
   tree_decides (fixed_size_list n t b m s) (fixed_size_list o u c k r) =
-    Decides-like _ (λ h. λ i. fixed_size_list (h.0 i).name (h.0 i).tree (h.0 i).nullable (h.0 i).metadata (h.1 i)) (λ e. (ap (inner (of_parts n t b m)) e, ap (size_of s) e))
-        (Decides-and _ _ (field_decides-at (of_parts n t b m) (of_parts o u c k) (tree_decides t u)) (Decides-int_eq s r))
+      Decides-like _ (λ h. λ i. fixed_size_list (h.0 i).name (h.0 i).tree (h.0 i).nullable (h.0 i).metadata (h.1 i)) (λ e. (ap (inner (of_parts n t b m)) e, ap (size_of s) e))
+      (Decides-and _ _ (field_decides-at (of_parts n t b m) (of_parts o u c k) (tree_decides t u)) (Decides-int_eq s r))
   tree_decides (struct fs) (struct gs) = Decides-like _ (λ e. ap struct e) (λ e. ap (fields_in fs) e) (fields_decides fs gs)
   tree_decides (union ms u) (union ns v) =
-    Decides-like _ (λ h. λ i. union (h.0 i) (h.1 i)) (λ e. (ap (members_in ms) e, ap (mode_in u) e)) (Decides-and _ _ (members_decides ms ns) (mode_decides u v))
+      Decides-like _ (λ h. λ i. union (h.0 i) (h.1 i)) (λ e. (ap (members_in ms) e, ap (mode_in u) e)) (Decides-and _ _ (members_decides ms ns) (mode_decides u v))
   tree_decides _ _ = (λ h. absurd (true≢false (sym h)), λ e. cc)
 
   pub fields_decides : (fs gs : FieldTrees) → Decides (fields_eq fs gs) (fs ≡ gs)
   fields_decides no_fields no_fields = (λ h. refl, λ h. refl)
   fields_decides (field n t b m fs) (field o u c k gs) =
-    Decides-like _ (λ h. λ i. field (h.0 i).name (h.0 i).tree (h.0 i).nullable (h.0 i).metadata (h.1 i)) (λ e. (ap (first_field (of_parts n t b m)) e, ap other_fields e))
-        (Decides-and _ _ (field_decides-at (of_parts n t b m) (of_parts o u c k) (tree_decides t u)) (fields_decides fs gs))
+      Decides-like _ (λ h. λ i. field (h.0 i).name (h.0 i).tree (h.0 i).nullable (h.0 i).metadata (h.1 i)) (λ e. (ap (first_field (of_parts n t b m)) e, ap other_fields e))
+      (Decides-and _ _ (field_decides-at (of_parts n t b m) (of_parts o u c k) (tree_decides t u)) (fields_decides fs gs))
   fields_decides _ _ = (λ h. absurd (true≢false (sym h)), λ e. cc)
 
   pub members_decides : (ms ns : MemberTrees) → Decides (members_eq ms ns) (ms ≡ ns)
   members_decides no_members no_members = (λ h. refl, λ h. refl)
   members_decides (member i n t b m ms) (member j o u c k ns) =
-    Decides-like _ (λ h. λ x. member (h.0.0 x) (h.0.1 x).name (h.0.1 x).tree (h.0.1 x).nullable (h.0.1 x).metadata (h.1 x))
-        (λ e. ((ap (first_id i) e, ap (first_member (of_parts n t b m)) e), ap other_members e))
-        (Decides-and _ _ (Decides-and _ _ (Decides-int_eq i j) (field_decides-at (of_parts n t b m) (of_parts o u c k) (tree_decides t u))) (members_decides ms ns))
+      Decides-like _ (λ h. λ x. member (h.0.0 x) (h.0.1 x).name (h.0.1 x).tree (h.0.1 x).nullable (h.0.1 x).metadata (h.1 x))
+      (λ e. ((ap (first_id i) e, ap (first_member (of_parts n t b m)) e), ap other_members e))
+      (Decides-and _ _ (Decides-and _ _ (Decides-int_eq i j) (field_decides-at (of_parts n t b m) (of_parts o u c k) (tree_decides t u))) (members_decides ms ns))
   members_decides _ _ = (λ h. absurd (true≢false (sym h)), λ e. cc)
 
 pub field_decides : (f g : FieldTree) → Decides (field_eq f g) (f ≡ g)

@@ -7,4 +7,5 @@ pub mod Texts
 pub mod Union
 pub mod UnionRest
 pub mod Errors
+pub mod Extension
 pub mod Coordinates

@@ -1,6 +1,9 @@
 -- The texts of a field, as contracts see them: by key.
-use Rattle.std.specs.Prelude.{Option}
+use Rattle.std.specs.Prelude.{◌≡◌, not, [], ◌∷◌, Option, Some, None, if◌then◌else◌}
 use Rattle.std.specs.Option.{option_map}
+use Rattle.std.specs.Ordering.{nat_cmp, match_ordering}
+use Rattle.std.specs.Cmp.Lexicographic.{slice_cmp}
+use Rattle.std.specs.List.{filter}
 use Rattle.std.specs.Borrow.{Bor}
 use Rattle.std.specs.Map.{lookup}
 use Rattle.std.specs.Str.{bytes_eq}
@@ -22,3 +25,22 @@ extension_name f = text_at EXTENSION_TYPE_NAME_KEY.now f.metadata
 -- the metadata of a field's extension type
 abbrev pub extension_metadata : FieldTree → Option Text
 extension_metadata f = text_at EXTENSION_TYPE_METADATA_KEY.now f.metadata
+
+-- the texts, with `text` at the key, in the order of the keys
+abbrev pub put_text : Text → Text → Metadata → Metadata
+put_text key text [] = (key, text) ∷ []
+put_text key text (e ∷ m) = match_ordering (slice_cmp nat_cmp key e.0) ((key, text) ∷ e ∷ m) ((e.0, text) ∷ m) (e ∷ put_text key text m)
+
+-- the texts, without one at the key
+abbrev pub remove_text : Text → Metadata → Metadata
+remove_text key m = filter (λ e. not (bytes_eq key e.0)) m
+
+-- the texts, with a name at the name key, and a text or nothing at the metadata key
+abbrev pub set_extension : Text → Option Text → Metadata → Metadata
+set_extension name None m = remove_text EXTENSION_TYPE_METADATA_KEY.now (put_text EXTENSION_TYPE_NAME_KEY.now name m)
+set_extension name (Some text) m = put_text EXTENSION_TYPE_METADATA_KEY.now text (put_text EXTENSION_TYPE_NAME_KEY.now name m)
+
+-- n has the name at the name key, the text or nothing at the metadata key, and at each other key what m has
+abbrev pub SetsExtension : Text → Option Text → Metadata → Metadata → Type 0
+SetsExtension name text m n =
+    (key : Text) → text_at key n ≡ (if bytes_eq EXTENSION_TYPE_METADATA_KEY.now key then text else (if bytes_eq EXTENSION_TYPE_NAME_KEY.now key then Some name else text_at key m))

@@ -1,9 +1,9 @@
 -- The tree that a `DataType` stands for, where fields are seen already as theirs.
-use Rattle.std.specs.Prelude.{◌≡◌, ℕ, suc, ◌+◌, ◌≤◌, max, ℤ, Bool, List, [], ◌∷◌, map, String, string_bytes}
+use Rattle.std.specs.Prelude.{◌≡◌, ℕ, ℤ, List, [], ◌∷◌, map, String, string_bytes}
 use Rattle.std.proofs.Common.{refl, ap}
 use Rattle.std.specs.declared.alloc.Global.{Global}
 use Rattle.std.specs.Borrow.{Bor}
-use Rattle.arrow_values.specs.Tree.{Text, Metadata, Plain, null, boolean, int8, int16, int32, int64, uint8, uint16, uint32, uint64, float16, float32, float64, date32, date64, binary, large_binary, binary_view, utf8, large_utf8, utf8_view, Tree, plain, list, large_list, fixed_size_list, struct, union, FieldTrees, no_fields, field, MemberTrees, no_members, member, FieldTree, Members, depth, fields_depth, members_depth}
+use Rattle.arrow_values.specs.Tree.{Metadata, null, boolean, int8, int16, int32, int64, uint8, uint16, uint32, uint64, float16, float32, float64, date32, date64, binary, large_binary, binary_view, utf8, large_utf8, utf8_view, Tree, plain, list, large_list, fixed_size_list, struct, union, FieldTrees, no_fields, field, MemberTrees, no_members, member, FieldTree, Members, depth, fields_depth, members_depth}
 use Rattle.arrow_values.specs.declared.tree.DataType.{DataType}
 use Rattle.arrow_values.specs.declared.tree.DataType.TheVariants.{Null, Boolean, Int8, Int16, Int32, Int64, UInt8, UInt16, UInt32, UInt64, Float16, Float32, Float64, Date32, Date64, Binary, LargeBinary, BinaryView, Utf8, LargeUtf8, Utf8View, List as ListOf, LargeList, FixedSizeList, Struct, Union}
 
@@ -43,8 +43,8 @@ tree (FixedSizeList f s) = fixed_size_list f.value.name f.value.tree f.value.nul
 tree (Struct fs) = struct (field_trees fs)
 tree (Union ms mode) = union (member_trees ms) mode
 
-abbrev pub metadata_of : List (String Global × String Global) → Metadata
-metadata_of es = map (λ e. (string_bytes e.0, string_bytes e.1)) es
+abbrev pub texts_of : List (String Global × String Global) → Metadata
+texts_of es = map (λ e. (string_bytes e.0, string_bytes e.1)) es
 
 -- sizes, for recursion
 abbrev pub field_size : FieldTree → ℕ

@@ -4,9 +4,14 @@
 
 mod coordinates;
 mod error;
+mod extension;
+mod texts;
 mod tree;
 
 pub use coordinates::Dimensions;
 pub use error::{AppendFault, ArrowError, GeoArrowError, GeoArrowResult};
-pub use tree::{DataType, Field, Fields, UnionFields, UnionIter, UnionMode};
-pub use tree::{EXTENSION_TYPE_METADATA_KEY, EXTENSION_TYPE_NAME_KEY};
+pub use extension::ExtensionType;
+pub use tree::{
+    DataType, EXTENSION_TYPE_METADATA_KEY, EXTENSION_TYPE_NAME_KEY, Field, Fields, UnionFields,
+    UnionIter, UnionMode,
+};

@@ -11,10 +11,9 @@ mod union_changes;
 mod union_fields;
 
 pub use parts::{EXTENSION_TYPE_METADATA_KEY, EXTENSION_TYPE_NAME_KEY};
-pub use union_fields::UnionIter;
-
 use std::collections::BTreeMap;
 use std::marker::Model;
+pub use union_fields::UnionIter;
 
 /// How the members of a union lie in memory. No reading of a tree looks at it.
 #[derive(Clone, Copy, Debug, PartialEq, Eq)]
@@ -117,13 +116,13 @@ impl Model for Field {
     ghost coded = { field_code };
 
     ghost use Rattle.std.specs.Prelude.{string_bytes};
-    ghost use Rattle.arrow_values.specs.View.{tree, metadata_of, field_size};
+    ghost use Rattle.arrow_values.specs.View.{tree, texts_of, field_size};
 
     ghost view = { λ f. record {
-        name = string_bytes f.name;
-        tree = tree f.data_type;
-        nullable = f.nullable;
-        metadata = metadata_of f.metadata.entries
+      name = string_bytes f.name;
+      tree = tree f.data_type;
+      nullable = f.nullable;
+      metadata = texts_of f.metadata.entries;
     } };
 
     ghost size = { field_size };

@@ -3,7 +3,7 @@ ghost use Rattle.std.specs.Prelude.{◌≡◌, ◌&&◌, ◌↔◌, IsTrue};
 ghost use Rattle.std.specs.Ordering.{int_eq};
 ghost use Rattle.std.specs.Cmp.{partial_equiv_from_equiv};
 ghost use Rattle.std.proofs.lemmas.Cmp.{on_equiv};
-ghost use Rattle.arrow_values.specs.View.{tree, metadata_of};
+ghost use Rattle.arrow_values.specs.View.{tree, texts_of};
 ghost use Rattle.arrow_values.specs.Equal.{tree_eq, metadata_eq, field_eq, field_lists_eq, member_eq, member_lists_eq, tree_equivalence, field_equivalence, fields_equivalence, members_equivalence};
 
 use crate::tree::{DataType, Field, Fields, UnionFields};
@@ -151,7 +151,7 @@ fn same_field(a: &Field, b: &Field) -> bool
 }
 
 fn same_metadata(a: &BTreeMap<String, String>, b: &BTreeMap<String, String>) -> bool
-    ensures { result ≡ metadata_eq (metadata_of a.now.entries) (metadata_of b.now.entries) }
+    ensures { result ≡ metadata_eq (texts_of a.now.entries) (texts_of b.now.entries) }
 {
     *a == *b
 }

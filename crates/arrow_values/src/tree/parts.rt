@@ -1,9 +1,10 @@
 //! A field, made and read, and its extension texts.
 ghost use Rattle.std.specs.Prelude.{◌≡◌, [], IfOk, string_bytes};
 ghost use Rattle.arrow_values.specs.Tree.{list, field_tree};
-ghost use Rattle.arrow_values.specs.View.{tree, metadata_of};
-ghost use Rattle.arrow_values.specs.Texts.{text_at, text_of, extension_name, extension_metadata};
+ghost use Rattle.arrow_values.specs.View.{tree, texts_of};
+ghost use Rattle.arrow_values.specs.Texts.{text_of, extension_name, extension_metadata};
 
+use crate::texts::text_at;
 use crate::tree::{DataType, Field};
 use std::alloc::{AllocError, Global};
 use std::collections::BTreeMap;
@@ -48,7 +49,7 @@ impl Field {
         nullable: bool,
         metadata: BTreeMap<String, String>,
     ) -> Field
-        ensures { result ≡ field_tree (string_bytes name) (tree data_type) nullable (metadata_of metadata.entries) }
+        ensures { result ≡ field_tree (string_bytes name) (tree data_type) nullable (texts_of metadata.entries) }
     {
         Field {
             name,
@@ -81,16 +82,30 @@ impl Field {
 
     /// The map of texts.
     pub fn metadata(&self) -> &BTreeMap<String, String>
-        ensures { metadata_of result.now.entries ≡ self.now.metadata }
+        ensures { texts_of result.now.entries ≡ self.now.metadata }
     {
         &self.metadata
     }
 
     /// The same field with that map in place of its own.
     pub fn with_metadata(self, metadata: BTreeMap<String, String>) -> Field
-        ensures { result ≡ record self { metadata = metadata_of metadata.entries } }
+        ensures { result ≡ record self { metadata = texts_of metadata.entries } }
     {
         Field::from_parts(self.name, self.data_type, self.nullable, metadata)
+    }
+
+    /// Puts that map in place of the field's own.
+    pub fn set_metadata(&mut self, metadata: BTreeMap<String, String>)
+        ensures { self.new ≡ record self.old { metadata = texts_of metadata.entries } }
+    {
+        self.metadata = metadata;
+    }
+
+    /// The same field with that data type in place of its own.
+    pub fn with_data_type(self, data_type: DataType) -> Field
+        ensures { result ≡ record self { tree = tree data_type } }
+    {
+        Field::from_parts(self.name, data_type, self.nullable, self.metadata)
     }
 
     /// The text at `EXTENSION_TYPE_NAME_KEY`, if one stands there.
@@ -105,15 +120,5 @@ impl Field {
         ensures { text_of result ≡ extension_metadata self.now }
     {
         text_at(&self.metadata, EXTENSION_TYPE_METADATA_KEY)
-    }
-}
-
-/// The text at a key.
-fn text_at<'a>(texts: &'a BTreeMap<String, String>, key: &str) -> Option<&'a str>
-    ensures { text_of result ≡ text_at key.now (metadata_of texts.now.entries) }
-{
-    match texts.get(key) {
-        Some(text) => Some(text.as_str()),
-        None => None,
     }
 }

@@ -109,11 +109,7 @@ fn all_distinct(ids: &[i8]) -> bool
 }
 
 /// The pairs of id and field, as far as both go.
-fn join(
-    alloc: Global,
-    ids: Vec<i8>,
-    fields: Vec<Field>,
-) -> Result<Vec<(i8, Field)>, AllocError>
+fn join(alloc: Global, ids: Vec<i8>, fields: Vec<Field>) -> Result<Vec<(i8, Field)>, AllocError>
     ensures { IfOk result (λ v. v.items ≡ zip ids.items fields.items) }
 {
     let mut members = Vec::with_capacity(alloc, ids.len())?;

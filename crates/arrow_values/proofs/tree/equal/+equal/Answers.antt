@@ -1,4 +1,4 @@
-use Rattle.std.proofs.Common.{arith, sym, ◌∙◌, ◌≡◌, ◌&&◌, Bool, false, get_or, int_eq, ℤ}
+use Rattle.std.proofs.Common.{arith, sym, ◌∙◌, ◌≡◌, ◌&&◌, false, get_or, int_eq}
 use Rattle.arrow_values.specs.Equal.{field_eq, member_eq}
 use Rattle.arrow_values.proofs.Equal.{mode_same, fields_same, members_same, nullable_differs, metadata_differs, pointwise_fails}
 use Rattle.arrow_values.proofs.tree.equal.+equal.Goals as goal
@@ -26,8 +26,8 @@ same_members-returns-then-not-same_member t c =
     let n = c.index-in-loop-i.result.now in
     let e : false ≡ (int_eq m.0 n.0 && field_eq m.1 n.1) = c.if-not-same_member.ensures in
     let h : false ≡ member_eq (get_or c.args.a.now c.loop-i.i m) (get_or c.args.b.now c.loop-i.i n) =
-        rw (← c.a.view_is, ← c.b.view_is, ← c.index.ensures, ← c.index-in-loop-i.ensures) e in
+    rw (← c.a.view_is, ← c.b.view_is, ← c.index.ensures, ← c.index-in-loop-i.ensures) e in
     pointwise_fails member_eq c.args.a.now c.args.b.now c.loop-i.i m n
-        (rw (← c.a.view_is) (omega (arith, c.loop-i-test.true, c.len-i-end.ensures)))
-        (rw (← c.b.view_is) (omega (arith, c.loop-i-test.true, c.len-i-end.ensures, c.if-len.false, c.len.ensures, c.len-2.ensures))) h
-        ∙ sym c.loop-i.invariant
+    (rw (← c.a.view_is) (omega (arith, c.loop-i-test.true, c.len-i-end.ensures)))
+    (rw (← c.b.view_is) (omega (arith, c.loop-i-test.true, c.len-i-end.ensures, c.if-len.false, c.len.ensures, c.len-2.ensures))) h
+    ∙ sym c.loop-i.invariant

@@ -1,4 +1,4 @@
-use Rattle.std.proofs.Common.{◌≡◌, drop, length}
+use Rattle.std.proofs.Common.{◌≡◌, drop}
 use Rattle.arrow_values.specs.Equal.{field_lists_eq, member_lists_eq}
 use Rattle.arrow_values.proofs.tree.equal.+equal.Given as goal
 

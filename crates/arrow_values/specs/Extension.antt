@@ -1,0 +1,27 @@
+-- What contracts say of an extension type, at any implementation.
+use Rattle.std.specs.Prelude.{◌≡◌, ◌⊎◌, Some}
+use Rattle.arrow_values.specs.Tree.{FieldTree}
+use Rattle.arrow_values.specs.Texts.{extension_name, extension_metadata, set_extension}
+use Rattle.arrow_values.specs.declared.error.ArrowError.{ArrowError}
+use Rattle.arrow_values.specs.declared.extension.ExtensionType.{Ghosts}
+
+module _ {X M : Type 0} (g : Ghosts X M) where
+  -- the field's extension name is that of the type
+  abbrev pub IsNamed : FieldTree → Type 0
+  IsNamed f = extension_name f ≡ Some g.name_text
+
+  -- the field's name, metadata text and tree stand for e
+  abbrev pub Reads : FieldTree → X → Type 0
+  Reads f e = IsNamed f × g.StandsFor (extension_metadata f) (g.metadata_of e) × g.Accepts f.tree e
+
+  -- n is f with the two extension keys as e has them, and otherwise unchanged
+  abbrev pub Writes : FieldTree → X → FieldTree → Type 0
+  Writes f e n = n ≡ record f { metadata = set_extension g.name_text (g.printed (g.metadata_of e)) f.metadata }
+
+  -- what the metadata of e prints stands for it
+  abbrev pub StandsForPrinted : X → Type 0
+  StandsForPrinted e = g.StandsFor (g.printed (g.metadata_of e)) (g.metadata_of e)
+
+  -- the field's metadata text is refused so; or, where it stands for a metadata, its tree is
+  abbrev pub Refuses : FieldTree → ArrowError → Type 0
+  Refuses f r = g.RefusesText (extension_metadata f) r ⊎ (((m : M) × g.StandsFor (extension_metadata f) m) × g.RefusesTree f.tree r)

@@ -1,0 +1,211 @@
+//! Extension types, and the calls of a field that go through them.
+ghost use Rattle.std.specs.Prelude.{◌≡◌, ◌⊎◌, ◌↔◌, true, IsOk, IsSome, IfOk, IfErr, OnOk, OnErr, MatchResult, Option, string_bytes};
+ghost use Rattle.std.specs.Option.{option_map};
+
+use crate::error::{ArrowError, invalid_argument};
+use crate::texts::with_extension;
+use crate::tree::{DataType, Field};
+use std::alloc::Global;
+
+/// A type that is written on a field by a name and a metadata text, and that some data types can carry (Arrow,
+/// "Extension Types").
+///
+/// An implementation says what it means by its ghost members: which text its metadata prints, which metadata a text
+/// stands for, and which data types it accepts and as what. A field's calls are proved once, from these alone.
+pub trait ExtensionType: Sized {
+    ghost use Rattle.arrow_values.specs.Tree.{Text, Tree};
+    ghost use Rattle.arrow_values.specs.View.{tree};
+    ghost use Rattle.arrow_values.specs.Texts.{text_of};
+    ghost use Rattle.arrow_values.specs.Errors.{IsMemory};
+    ghost use Rattle.arrow_values.specs.declared.error.ArrowError.{ArrowError};
+
+    /// The name of the extension type.
+    const NAME: &'static str;
+
+    /// What the metadata text of the extension type stands for.
+    type Metadata;
+
+    // The bytes of `NAME`.
+    ghost name_text: { Text };
+
+    // The metadata of a type.
+    ghost metadata_of: { Self → Self.Metadata };
+
+    // The text that a metadata prints, if any.
+    ghost printed: { Self.Metadata → Option Text };
+
+    // A text, or none, stands for a metadata.
+    ghost StandsFor: { Option Text → Self.Metadata → Type 0 };
+
+    // Two metadata are of one value.
+    ghost SameMetadata: { Self.Metadata → Self.Metadata → Type 0 };
+
+    // A tree is accepted as the shape of a type, whatever its metadata is.
+    ghost Accepts: { Tree → Self → Type 0 };
+
+    // Two types are of one shape: they agree in coordinate type and dimension, as far as they have them.
+    ghost Agrees: { Self → Self → Type 0 };
+
+    // How a text is refused, want of memory aside.
+    ghost RefusesText: { Option Text → ArrowError → Type 0 };
+
+    // How a tree is refused where a type is made, want of memory aside.
+    ghost RefusesTree: { Tree → ArrowError → Type 0 };
+
+    // How a tree is refused where a type is written, want of memory aside.
+    ghost RefusesUse: { Self → Tree → ArrowError → Type 0 };
+
+    /// `NAME`.
+    fn extension_name() -> &'static str
+        ensures { result.now ≡ name_text };
+
+    /// The metadata of this type.
+    fn metadata(&self) -> &Self::Metadata
+        ensures { result.now ≡ metadata_of self.now };
+
+    /// The text that the metadata prints; none, without memory, where it prints none. Errs for want of memory alone,
+    /// and only where there is a text.
+    fn serialize_metadata(&self, alloc: Global) -> Result<Option<String>, ArrowError>
+        ensures { MatchResult result (λ text. option_map string_bytes text ≡ printed (metadata_of self.now))
+            (λ e. IsMemory e × IsSome (printed (metadata_of self.now))) };
+
+    /// The metadata that a text, or its absence, stands for. Errs where it stands for none, else for want of memory
+    /// alone.
+    fn deserialize_metadata(
+        alloc: Global,
+        metadata: Option<&str>,
+    ) -> Result<Self::Metadata, ArrowError>
+        ensures exact { MatchResult result (StandsFor (text_of metadata.entry))
+            (λ e. IsMemory e ⊎ ((m : Self.Metadata) → StandsFor (text_of metadata.entry) m → ⊥)) }
+        ensures refusal { IfErr result (λ e. IsMemory e ⊎ RefusesText (text_of metadata.entry) e) };
+
+    /// Whether a field of that data type can carry this type: the data type is accepted as this type's shape. Where it
+    /// can, this takes no memory; where it can not, this errs.
+    fn supports_data_type(&self, alloc: Global, data_type: &DataType) -> Result<(), ArrowError>
+        ensures exact { IsOk result ↔ Accepts (tree data_type.now) self.now }
+        ensures refusal { IfErr result (λ e. IsMemory e ⊎ RefusesUse self.now (tree data_type.now) e) };
+
+    /// The type of that metadata as whose shape the data type is accepted. Where it is accepted as some shape, this
+    /// takes no memory; where it is not, this errs.
+    fn try_new(
+        alloc: Global,
+        data_type: &DataType,
+        metadata: Self::Metadata,
+    ) -> Result<Self, ArrowError>
+        ensures exact { MatchResult result (λ e. Accepts (tree data_type.now) e × (metadata_of e ≡ metadata))
+            (λ _. (e : Self) → Accepts (tree data_type.now) e → ⊥) }
+        ensures refusal { IfErr result (λ e. IsMemory e ⊎ RefusesTree (tree data_type.now) e) };
+
+    /// A law: a data type is accepted as one shape alone. There is nothing to run.
+    fn accepts_one_shape(data_type: &DataType)
+        ensures { (a b : Self) → Accepts (tree data_type.now) a → Accepts (tree data_type.now) b → Agrees a b };
+
+    /// A law: a text, or its absence, stands for one metadata alone. There is nothing to run.
+    fn stands_for_one_metadata(metadata: Option<&str>)
+        ensures { (m n : Self.Metadata) → StandsFor (text_of metadata.entry) m → StandsFor (text_of metadata.entry) n
+            → SameMetadata m n };
+
+    // A tree that is accepted as one type's shape is accepted as that of each type that agrees with it.
+    ghost accepts_by_shape: { (t : Tree) (a e : Self) → Accepts t a → Agrees e a → Accepts t e };
+
+    ghost agrees_with_itself: { (e : Self) → Agrees e e };
+}
+
+impl Field {
+    ghost use Rattle.arrow_values.specs.Errors.{IsMemory, is_invalid_argument};
+    ghost use Rattle.arrow_values.specs.Texts.{SetsExtension};
+    ghost use Rattle.arrow_values.specs.Extension.{IsNamed, Reads, Refuses, Writes, StandsForPrinted};
+
+    /// The extension type that the field carries: its name, the metadata that its metadata text stands for, and the
+    /// shape as which its data type is accepted. Errs, as `InvalidArgumentError`, where there is no extension name or
+    /// another one; then as `deserialize_metadata` and as `try_new` err.
+    pub fn try_extension_type<E: ExtensionType>(&self, alloc: Global) -> Result<E, ArrowError>
+        ensures ok { IfOk result (Reads E.ExtensionType self.now) }
+        ensures only { IfOk result (λ e. (a : E) → Reads E.ExtensionType self.now a
+            → E.Agrees e a × E.SameMetadata (E.metadata_of e) (E.metadata_of a)) }
+        ensures err { IfErr result (λ r. IsMemory r ⊎ ((e : E) → Reads E.ExtensionType self.now e → ⊥)) }
+        ensures unnamed { IfErr result (λ r. IsMemory r ⊎ IsNamed E.ExtensionType self.now
+            ⊎ (is_invalid_argument r ≡ true)) }
+        ensures handed_on { IfErr result (λ r. IsMemory r
+            ⊎ (IsNamed E.ExtensionType self.now → Refuses E.ExtensionType self.now r)) }
+    {
+        match self.extension_type_name() {
+            None => return Err(invalid_argument(alloc, "extension name missing")),
+            Some(name) => {
+                if name != E::extension_name() {
+                    return Err(invalid_argument(alloc, "extension name differs"));
+                }
+            }
+        }
+        let metadata = E::deserialize_metadata(alloc, self.extension_type_metadata())?;
+        E::accepts_one_shape(self.data_type());
+        E::stands_for_one_metadata(self.extension_type_metadata());
+        E::try_new(alloc, self.data_type(), metadata)
+    }
+
+    /// Writes an extension type on the field: its name at the name key, and at the metadata key the text of its
+    /// metadata, or nothing. Errs, as `supports_data_type` does, where the field's data type cannot carry the type,
+    /// else for want of memory alone; the field is then as it was.
+    pub fn try_with_extension_type<E: ExtensionType>(
+        &mut self,
+        alloc: Global,
+        extension_type: &E,
+    ) -> Result<(), ArrowError>
+        ensures ok { OnOk result (Writes E.ExtensionType self.old extension_type.now self.new) }
+        ensures keys { OnOk result (SetsExtension E.name_text (E.printed (E.metadata_of extension_type.now))
+            self.old.metadata self.new.metadata) }
+        ensures supported { OnOk result (E.Accepts self.old.tree extension_type.now) }
+        ensures refused { IfErr result (λ r. IsMemory r ⊎ ¬ E.Accepts self.old.tree extension_type.now) }
+        ensures handed_on { IfErr result (λ r. IsMemory r ⊎ E.RefusesUse extension_type.now self.old.tree r) }
+        ensures unchanged { OnErr result (self.new ≡ self.old) }
+    {
+        extension_type.supports_data_type(alloc, self.data_type())?;
+        let text = extension_type.serialize_metadata(alloc)?;
+        let texts = with_extension(alloc, self.metadata(), E::extension_name(), text)?;
+        self.set_metadata(texts);
+        Ok(())
+    }
+
+    /// The field with an extension type written on it, as `try_with_extension_type` does. The field's data type must
+    /// be able to carry the type, which `supports_data_type` tests. Errs for want of memory alone.
+    pub fn with_extension_type<E: ExtensionType>(
+        self,
+        alloc: Global,
+        extension_type: &E,
+    ) -> Result<Field, ArrowError>
+        requires { E.Accepts self.tree extension_type.now }
+        ensures written { MatchResult result (Writes E.ExtensionType self extension_type.now) IsMemory }
+        ensures keys { IfOk result (λ f. SetsExtension E.name_text (E.printed (E.metadata_of extension_type.now))
+            self.metadata f.metadata) }
+    {
+        let mut field = self;
+        field.try_with_extension_type(alloc, extension_type)?;
+        Ok(field)
+    }
+
+    /// A law: a field reads as one value of an extension type alone. There is nothing to run.
+    pub fn reads_as_one<E: ExtensionType>(&self, one: &E, other: &E)
+        ensures { Reads E.ExtensionType self.now one.now → Reads E.ExtensionType self.now other.now
+            → E.Agrees one.now other.now × E.SameMetadata (E.metadata_of one.now) (E.metadata_of other.now) }
+    {
+        E::accepts_one_shape(self.data_type());
+        E::stands_for_one_metadata(self.extension_type_metadata());
+    }
+
+    /// A law: a field on which an extension type was written reads as that type, where the text that its metadata
+    /// prints, or its absence, stands for that metadata. There is nothing to run.
+    pub fn reads_back<E: ExtensionType>(&self, extension_type: &E, written: &Field)
+        ensures { E.Accepts self.now.tree extension_type.now → StandsForPrinted E.ExtensionType extension_type.now
+            → Writes E.ExtensionType self.now extension_type.now written.now
+            → Reads E.ExtensionType written.now extension_type.now }
+    {}
+
+    /// A law: a data type is accepted as a type's shape exactly where it is accepted as that of a type which agrees with
+    /// it. There is nothing to run.
+    pub fn supports_where_one_agrees<E: ExtensionType>(&self, extension_type: &E)
+        ensures there { E.Accepts self.now.tree extension_type.now
+            → ((a : E) × (E.Accepts self.now.tree a × E.Agrees extension_type.now a)) }
+        ensures back { (a : E) → E.Accepts self.now.tree a → E.Agrees extension_type.now a
+            → E.Accepts self.now.tree extension_type.now }
+    {}
+}

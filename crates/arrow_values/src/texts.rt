@@ -1,0 +1,79 @@
+//! The map of a field's texts: look-ups, and the map with other extension texts.
+ghost use Rattle.std.specs.Prelude.{◌≡◌, IfOk, OnOk, string_bytes};
+ghost use Rattle.std.specs.Option.{option_map};
+ghost use Rattle.std.specs.String.{string_cmp};
+ghost use Rattle.std.specs.BTreeMap.{IsOrdered};
+ghost use Rattle.arrow_values.specs.View.{texts_of};
+ghost use Rattle.arrow_values.specs.Texts.{text_at, text_of, put_text, remove_text, set_extension};
+
+use crate::tree::{EXTENSION_TYPE_METADATA_KEY, EXTENSION_TYPE_NAME_KEY};
+use std::alloc::{AllocError, Global};
+use std::collections::BTreeMap;
+
+/// The text at a key.
+pub(crate) fn text_at<'a>(texts: &'a BTreeMap<String, String>, key: &str) -> Option<&'a str>
+    ensures { text_of result ≡ text_at key.now (texts_of texts.now.entries) }
+{
+    match texts.get(key) {
+        Some(text) => Some(text.as_str()),
+        None => None,
+    }
+}
+
+/// A map of the same texts.
+pub(crate) fn clone_texts(
+    texts: &BTreeMap<String, String>,
+) -> Result<BTreeMap<String, String>, AllocError>
+    ensures { IfOk result (λ made. texts_of made.entries ≡ texts_of texts.now.entries) }
+{
+    texts.clone()
+}
+
+/// Puts a text at a key.
+fn put_text(
+    alloc: Global,
+    texts: &mut BTreeMap<String, String>,
+    key: &str,
+    text: String,
+) -> Result<(), AllocError>
+    ensures texts { OnOk result (texts_of texts.new.entries
+        ≡ put_text key.now (string_bytes text) (texts_of texts.old.entries)) }
+    ensures ordered { OnOk result (IsOrdered string_cmp texts.new) }
+{
+    let key = String::from_str(alloc, key)?;
+    texts.insert(key, text)?;
+    Ok(())
+}
+
+/// Removes the text at a key.
+fn remove_text(texts: &mut BTreeMap<String, String>, key: &str)
+    requires { IsOrdered string_cmp texts.old }
+    ensures { texts_of texts.new.entries ≡ remove_text key.now (texts_of texts.old.entries) }
+{
+    texts.remove(key);
+}
+
+/// A map of the same texts, but that the name key has `name`, and the metadata key has `text`, or nothing.
+pub(crate) fn with_extension(
+    alloc: Global,
+    texts: &BTreeMap<String, String>,
+    name: &str,
+    text: Option<String>,
+) -> Result<BTreeMap<String, String>, AllocError>
+    ensures { IfOk result (λ made. texts_of made.entries
+        ≡ set_extension name.now (option_map string_bytes text) (texts_of texts.now.entries)) }
+{
+    let mut made = clone_texts(texts)?;
+    let name = String::from_str(alloc, name)?;
+    put_text(alloc, &mut made, EXTENSION_TYPE_NAME_KEY, name)?;
+    match text {
+        Some(text) => {
+            put_text(alloc, &mut made, EXTENSION_TYPE_METADATA_KEY, text)?;
+            Ok(made)
+        }
+        None => {
+            remove_text(&mut made, EXTENSION_TYPE_METADATA_KEY);
+            Ok(made)
+        }
+    }
+}
