@@ -1,0 +1,11 @@
+pub mod Members
+pub mod LastEntry
+pub mod TextsRead
+pub mod Depths
+pub mod FieldRead
+pub mod TypeRead
+pub mod LoopsRead
+pub mod Writes
+pub mod Round
+pub mod Form
+pub mod Texts

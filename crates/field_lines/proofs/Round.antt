@@ -1,0 +1,127 @@
+-- The value of a field stands for that field, and holds no float.
+use Rattle.std.proofs.Common.{◌≡◌, ℤ, pos, negsuc, [], ◌∷◌, Bool, true, false, cond, IsTrue, ◌&&◌, Some, None, option_map, option_and_then, refl, ap, ◌∙◌}
+use Rattle.std.proofs.lemmas.Bool.{false≢true}
+use Rattle.std.specs.List.{list_all}
+use Rattle.serde_json.specs.Data.{Data, number, string}
+use Rattle.serde_json.specs.Find.{of_integer, as_integer, as_str}
+use Rattle.serde_json.specs.Written.{has_float, items_have_float, members_have_float}
+use Rattle.arrow_values.specs.declared.tree.UnionMode.{UnionMode}
+use Rattle.arrow_values.specs.declared.tree.UnionMode.TheVariants.{Sparse, Dense}
+use Rattle.arrow_values.specs.Tree.{Text, Metadata, Plain, null, boolean, int8, int16, int32, int64, uint8, uint16, uint32, uint64, float16, float32, float64, date32, date64, binary, large_binary, binary_view, utf8, large_utf8, utf8_view, Tree, plain, list, large_list, fixed_size_list, struct, union, FieldTrees, no_fields, field, MemberTrees, no_members, member, FieldTree, field_tree}
+use Rattle.arrow_values.specs.Union.{is_type_id, are_distinct}
+use Rattle.field_lines.specs.Names.{plain_name, plain_named, mode_name, mode_named}
+use Rattle.field_lines.specs.FieldOfValue.{kept, is_size, size_of_value, texts_in, field_from, field_before, member_before, list_of, large_list_of, fixed_size_list_of, tree_ids, union_of, field_of_value, type_of_value, fields_in, members_in}
+use Rattle.field_lines.specs.ValueOfField.{texts_value, parts_value, type_value, fields_value, members_value, value_of_field}
+use Rattle.field_lines.specs.LineForm.{HasLineForm, FieldsHaveLineForm, MembersHaveLineForm}
+
+-- no float
+no_float-texts : (m : Metadata) → members_have_float (texts_value m) ≡ false
+no_float-texts [] = refl
+no_float-texts (e ∷ es) = no_float-texts es
+
+no_float-parts : (n : Text) (d : Data) (b : Bool) (m : Metadata) → has_float d ≡ false → has_float (parts_value n d b m) ≡ false
+no_float-parts n d b [] h = rw h refl
+no_float-parts n d b (e ∷ es) h = rw (no_float-texts es, h) refl
+
+no_float-integer : (z : ℤ) → has_float (number (of_integer z)) ≡ false
+no_float-integer (pos n) = refl
+no_float-integer (negsuc n) = refl
+
+mutual
+  no_float-type : (t : Tree) → has_float (type_value t) ≡ false
+  no_float-type (plain p) = refl
+  no_float-type (list n t b m) = rw (no_float-parts n (type_value t) b m (no_float-type t)) refl
+  no_float-type (large_list n t b m) = rw (no_float-parts n (type_value t) b m (no_float-type t)) refl
+  no_float-type (fixed_size_list n t b m s) = rw (no_float-parts n (type_value t) b m (no_float-type t), no_float-integer s) refl
+  no_float-type (struct fs) = rw (no_float-fields fs) refl
+  no_float-type (union ms mode) = rw (no_float-members ms) refl
+
+  no_float-fields : (fs : FieldTrees) → items_have_float (fields_value fs) ≡ false
+  no_float-fields no_fields = refl
+  no_float-fields (field n t b m fs) = rw (no_float-parts n (type_value t) b m (no_float-type t), no_float-fields fs) refl
+
+  no_float-members : (ms : MemberTrees) → items_have_float (members_value ms) ≡ false
+  no_float-members no_members = refl
+  no_float-members (member i n t b m ms) = rw (no_float-integer i, no_float-parts n (type_value t) b m (no_float-type t), no_float-members ms) refl
+
+pub no_float-field : (f : FieldTree) → has_float (value_of_field f) ≡ false
+no_float-field f = no_float-parts f.name (type_value f.tree) f.nullable f.metadata (no_float-type f.tree)
+
+-- the words
+named_plain : (p : Plain) → plain_named (plain_name p) ≡ Some p
+named_plain null = refl
+named_plain boolean = refl
+named_plain int8 = refl
+named_plain int16 = refl
+named_plain int32 = refl
+named_plain int64 = refl
+named_plain uint8 = refl
+named_plain uint16 = refl
+named_plain uint32 = refl
+named_plain uint64 = refl
+named_plain float16 = refl
+named_plain float32 = refl
+named_plain float64 = refl
+named_plain date32 = refl
+named_plain date64 = refl
+named_plain binary = refl
+named_plain large_binary = refl
+named_plain binary_view = refl
+named_plain utf8 = refl
+named_plain large_utf8 = refl
+named_plain utf8_view = refl
+
+named_mode : (mode : UnionMode) → mode_named (mode_name mode) ≡ Some mode
+named_mode Sparse = refl
+named_mode Dense = refl
+
+-- the numbers
+as_integer-of : (z : ℤ) → as_integer (of_integer z) ≡ Some z
+as_integer-of (pos n) = refl
+as_integer-of (negsuc n) = refl
+
+kept-integer : (p : ℤ → Bool) (z : ℤ) → IsTrue (p z) → option_and_then (kept p) (as_integer (of_integer z)) ≡ Some z
+kept-integer p z is = ap (option_and_then (kept p)) (as_integer-of z) ∙ ap (λ b. cond b (Some z) None) is
+
+texts_in-value : (m : Metadata) → texts_in (texts_value m) ≡ Some m
+texts_in-value [] = refl
+texts_in-value (e ∷ es) = ap (λ o. option_and_then (λ text. option_map (λ texts. ((e.0, text) ∷ texts)) o) (as_str (string e.1))) (texts_in-value es)
+
+-- the parts are read back, where the type is
+parts_read : (n : Text) (d : Data) (t : Tree) (b : Bool) (m : Metadata) → type_of_value d ≡ Some t → field_of_value (parts_value n d b m) ≡ Some (field_tree n t b m)
+parts_read n d t b [] is = ap (λ o. field_from (Some n) (Some b) o (Some [])) is
+parts_read n d t b (e ∷ es) is =
+    ap (λ o. field_from (Some n) (Some b) o (texts_in (texts_value (e ∷ es)))) is ∙ ap (λ o. field_from (Some n) (Some b) (Some t) o) (texts_in-value (e ∷ es))
+
+both : (a b : Bool) → IsTrue (a && b) → IsTrue a × IsTrue b
+both true b h = (refl, h)
+both false b h = absurd (false≢true h)
+
+mutual
+  type_read : (t : Tree) → HasLineForm t → type_of_value (type_value t) ≡ Some t
+  type_read (plain p) h = ap (option_map plain) (named_plain p)
+  type_read (list n t b m) h = ap (option_map list_of) (parts_read n (type_value t) t b m (type_read t h))
+  type_read (large_list n t b m) h = ap (option_map large_list_of) (parts_read n (type_value t) t b m (type_read t h))
+  type_read (fixed_size_list n t b m s) h =
+      ap (option_and_then (λ f. option_map (fixed_size_list_of f) (size_of_value (number (of_integer s))))) (parts_read n (type_value t) t b m (type_read t h.0)) ∙ ap (option_map (fixed_size_list n t b m)) (kept-integer is_size s h.1)
+  type_read (struct fs) h = ap (option_map struct) (fields_read fs h)
+  type_read (union ms mode) h =
+      let parts = both (list_all is_type_id (tree_ids ms)) (are_distinct (tree_ids ms)) h.1 in
+      ap (option_and_then (λ mode. option_and_then (union_of mode) (members_in (members_value ms)))) (named_mode mode) ∙ ap (option_and_then (union_of mode)) (members_read ms h.0 parts.0) ∙ ap (λ b. cond b (Some (union ms mode)) None) parts.1
+
+  fields_read : (fs : FieldTrees) → FieldsHaveLineForm fs → fields_in (fields_value fs) ≡ Some fs
+  fields_read no_fields h = refl
+  fields_read (field n t b m fs) h =
+      ap (option_and_then (λ f. option_map (field_before f) (fields_in (fields_value fs)))) (parts_read n (type_value t) t b m (type_read t h.0)) ∙ ap (option_map (field n t b m)) (fields_read fs h.1)
+
+  members_read : (ms : MemberTrees) → MembersHaveLineForm ms → IsTrue (list_all is_type_id (tree_ids ms)) → members_in (members_value ms) ≡ Some ms
+  members_read no_members h ids = refl
+  members_read (member i n t b m ms) h ids =
+      let parts = both (is_type_id i) (list_all is_type_id (tree_ids ms)) ids in
+      ap (option_and_then (λ id. option_and_then (λ f. option_map (member_before id f) (members_in (members_value ms))) (field_of_value (parts_value n (type_value t) b m)))) (kept-integer is_type_id i parts.0)
+      ∙ ap (option_and_then (λ f. option_map (member_before i f) (members_in (members_value ms)))) (parts_read n (type_value t) t b m (type_read t h.0))
+      ∙ ap (option_map (member i n t b m)) (members_read ms h.1 parts.1)
+
+-- the value of a field stands for it
+pub field_read : (f : FieldTree) → HasLineForm f.tree → field_of_value (value_of_field f) ≡ Some f
+field_read f h = parts_read f.name (type_value f.tree) f.tree f.nullable f.metadata (type_read f.tree h)

@@ -1,0 +1,92 @@
+//! The words of the line format.
+ghost use Rattle.std.specs.Prelude.{◌≡◌, option_map};
+ghost use Rattle.arrow_values.specs.Tree.{plain};
+ghost use Rattle.arrow_values.specs.View.{tree};
+ghost use Rattle.field_lines.specs.Names.{plain_named, mode_named, type_name, mode_name};
+
+use arrow_values::{DataType, UnionMode};
+
+/// The plain type of a word.
+pub(crate) fn plain_named(word: &str) -> Option<DataType>
+    ensures { option_map tree result ≡ option_map plain (plain_named word.now) }
+{
+    match word {
+        "null" => Some(DataType::Null),
+        "boolean" => Some(DataType::Boolean),
+        "int8" => Some(DataType::Int8),
+        "int16" => Some(DataType::Int16),
+        "int32" => Some(DataType::Int32),
+        "int64" => Some(DataType::Int64),
+        "uint8" => Some(DataType::UInt8),
+        "uint16" => Some(DataType::UInt16),
+        "uint32" => Some(DataType::UInt32),
+        "uint64" => Some(DataType::UInt64),
+        "float16" => Some(DataType::Float16),
+        "float32" => Some(DataType::Float32),
+        "float64" => Some(DataType::Float64),
+        "date32" => Some(DataType::Date32),
+        "date64" => Some(DataType::Date64),
+        "binary" => Some(DataType::Binary),
+        "large_binary" => Some(DataType::LargeBinary),
+        "binary_view" => Some(DataType::BinaryView),
+        "utf8" => Some(DataType::Utf8),
+        "large_utf8" => Some(DataType::LargeUtf8),
+        "utf8_view" => Some(DataType::Utf8View),
+        _ => None,
+    }
+}
+
+/// The union mode of a word.
+pub(crate) fn mode_named(word: &str) -> Option<UnionMode>
+    ensures { result ≡ mode_named word.now }
+{
+    match word {
+        "sparse" => Some(UnionMode::Sparse),
+        "dense" => Some(UnionMode::Dense),
+        _ => None,
+    }
+}
+
+/// The word of a plain type, and no word of any other.
+pub(crate) fn plain_name(data_type: &DataType) -> &'static str
+    ensures { result.now ≡ type_name (tree data_type.now) }
+{
+    match data_type {
+        DataType::Null => "null",
+        DataType::Boolean => "boolean",
+        DataType::Int8 => "int8",
+        DataType::Int16 => "int16",
+        DataType::Int32 => "int32",
+        DataType::Int64 => "int64",
+        DataType::UInt8 => "uint8",
+        DataType::UInt16 => "uint16",
+        DataType::UInt32 => "uint32",
+        DataType::UInt64 => "uint64",
+        DataType::Float16 => "float16",
+        DataType::Float32 => "float32",
+        DataType::Float64 => "float64",
+        DataType::Date32 => "date32",
+        DataType::Date64 => "date64",
+        DataType::Binary => "binary",
+        DataType::LargeBinary => "large_binary",
+        DataType::BinaryView => "binary_view",
+        DataType::Utf8 => "utf8",
+        DataType::LargeUtf8 => "large_utf8",
+        DataType::Utf8View => "utf8_view",
+        DataType::List(_)
+        | DataType::LargeList(_)
+        | DataType::FixedSizeList(_, _)
+        | DataType::Struct(_)
+        | DataType::Union(_, _) => "",
+    }
+}
+
+/// The word of a union mode.
+pub(crate) fn mode_name(mode: UnionMode) -> &'static str
+    ensures { result.now ≡ mode_name mode }
+{
+    match mode {
+        UnionMode::Sparse => "sparse",
+        UnionMode::Dense => "dense",
+    }
+}
