@@ -3,8 +3,7 @@ ghost use Rattle.std.specs.Prelude.{◌≡◌, ◌≤◌, Some, IfOk, IfSome, op
 ghost use Rattle.serde_json.specs.Data.{depth};
 ghost use Rattle.serde_json.specs.Read.{max_depth};
 ghost use Rattle.serde_json.specs.View.{view};
-ghost use Rattle.serde_json.specs.Written.{compact_text};
-ghost use Rattle.field_lines.specs.Line.{value_of_line, field_of_line};
+ghost use Rattle.field_lines.specs.Line.{value_of_line, field_of_line, line_of_field};
 ghost use Rattle.field_lines.specs.LineForm.{HasLineForm};
 ghost use Rattle.field_lines.specs.ValueOfField.{value_of_field};
 
@@ -42,7 +41,7 @@ pub fn parse_line(alloc: Global, line: &[u8]) -> Result<Option<Field>, AllocErro
 /// The line of a field, without a line feed: compact JSON with its keys in the order of their bytes,
 /// no ignored key and no empty metadata. Errs for want of memory alone.
 pub fn field_line(alloc: Global, field: &Field) -> Result<String, AllocError>
-    ensures text { IfOk result (λ s. string_bytes s ≡ compact_text (value_of_field field.now)) }
+    ensures text { IfOk result (λ s. string_bytes s ≡ line_of_field field.now) }
     ensures reads_back { IfOk result (λ s. HasLineForm field.now.tree → depth (value_of_field field.now) ≤ max_depth → field_of_line (string_bytes s) ≡ Some field.now) }
 {
     write_field(alloc, field)?.to_string(alloc)

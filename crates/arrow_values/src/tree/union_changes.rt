@@ -1,5 +1,5 @@
 //! Unions made of ids and fields, cut and joined.
-ghost use Rattle.std.specs.Prelude.{◌≡◌, ◌++◌, ◌⊎◌, IfOk, IfErr, OnOk, OnErr, IsTrue, true};
+ghost use Rattle.std.specs.Prelude.{◌≡◌, ◌++◌, ◌⊎◌, [], IsOk, IfOk, IfErr, OnOk, OnErr, IsTrue, None, true};
 ghost use Rattle.std.specs.List.{list_all, zip};
 ghost use Rattle.arrow_values.specs.Union.{AreUnionParts, HasTypeIds, are_distinct, has, has_id, is_type_id, retained, shared_id};
 ghost use Rattle.arrow_values.specs.Errors.{IsMemory, is_invalid_argument, fault_id};
@@ -11,7 +11,7 @@ use std::alloc::{AllocError, Global};
 impl UnionFields {
     /// The union of these members: the first id with the first field, and so on. Errs, as `InvalidArgumentError`,
     /// where there are not as many ids as fields, where an id is negative, and where one is repeated; else for want
-    /// of memory alone. A union may have no members.
+    /// of memory alone. A union may have no members, and then takes no memory.
     pub fn try_new(
         alloc: Global,
         type_ids: Vec<i8>,
@@ -22,6 +22,7 @@ impl UnionFields {
         ensures fits { IfOk result (λ _. AreUnionParts type_ids.items fields.items) }
         ensures refused { IfErr result (λ e. IsMemory e ⊎ ¬ AreUnionParts type_ids.items fields.items) }
         ensures variant { IfErr result (λ e. IsMemory e ⊎ (is_invalid_argument e ≡ true)) }
+        ensures no_memory { type_ids.items ≡ [] → fields.items ≡ [] → IsOk result }
     {
         if type_ids.len() != fields.len() {
             return Err(invalid_argument(alloc, "lengths differ"));
@@ -53,6 +54,7 @@ impl UnionFields {
         ensures fault { IfErr result (λ e. shared_id self.old other ≡ fault_id e.1) }
         ensures unchanged { OnErr result (self.new ≡ self.old) }
         ensures given_back { IfErr result (λ e. e.0 ≡ other) }
+        ensures no_memory { other ≡ [] → IsOk result }
     {
         if let Some(id) = self.shared_id(&other) {
             return Err((other, AppendFault::RepeatedId(id)));
@@ -110,7 +112,8 @@ fn all_distinct(ids: &[i8]) -> bool
 
 /// The pairs of id and field, as far as both go.
 fn join(alloc: Global, ids: Vec<i8>, fields: Vec<Field>) -> Result<Vec<(i8, Field)>, AllocError>
-    ensures { IfOk result (λ v. v.items ≡ zip ids.items fields.items) }
+    ensures members { IfOk result (λ v. v.items ≡ zip ids.items fields.items) }
+    ensures no_memory { ids.items ≡ [] → IsOk result }
 {
     let mut members = Vec::with_capacity(alloc, ids.len())?;
     let mut rest = fields.into_iter();

@@ -1,0 +1,74 @@
+-- Lines in bytes that hold a line feed or none, and when what comes is past a limit.
+use Rattle.std.proofs.Common.{◌≡◌, ◌≢◌, ◌⊎◌, inl, inr, ℕ, zero, suc, ◌+◌, ◌-◌, ◌<◌, ◌≤◌, true, eqb, [], ◌∷◌, ◌++◌, length, take, drop, get_or, refl, sym, ap, ◌∙◌, append_assoc, length-append, length-take, add-one, arith}
+use Rattle.std.proofs.lemmas.Bool.{eq-eqb, eqb-true}
+use Rattle.std.proofs.lemmas.List.{take_rest, get_or_append_left, get_or_at}
+use Rattle.std.proofs.lemmas.List.Elements.{All-nil, All-cons}
+use Rattle.geoarrow_fields.specs.Lines.{Bytes, line_feed, max_lines, max_line_bytes, IsLine, BeginsTooLong, IsPastLimit}
+
+-- the byte at a place is no line feed
+abbrev pub IsOther : Bytes → ℕ → Type 0
+IsOther bytes k = eqb (get_or bytes k 0) line_feed ≢ true
+
+other_byte : (byte : ℕ) → eqb byte line_feed ≢ true → byte ≢ line_feed
+other_byte byte h is = h (eq-eqb byte line_feed is)
+
+-- what stands before a place up to which no line feed stands is of one line
+pub line_before : (rest : Bytes) (at : ℕ) → at ≤ length rest → ((k : ℕ) → k < at → IsOther rest k) → IsLine (take at rest)
+line_before rest zero within h = All-nil (λ b. b ≢ line_feed)
+line_before [] (suc at) within h = absurd (omega arith)
+line_before (byte ∷ rest) (suc at) within h =
+    All-cons (λ b. b ≢ line_feed) byte (take at rest) (other_byte byte (h 0 (omega arith))) (line_before rest at (omega arith) (λ k lt. h (suc k) (omega arith)))
+
+-- bytes with no line feed are of one line
+pub line_whole : (rest : Bytes) → ((k : ℕ) → k < length rest → IsOther rest k) → IsLine rest
+line_whole [] h = All-nil (λ b. b ≢ line_feed)
+line_whole (byte ∷ rest) h =
+    All-cons (λ b. b ≢ line_feed) byte rest (other_byte byte (h 0 (omega arith))) (line_whole rest (λ k lt. h (suc k) (omega arith)))
+
+-- the line feed at a place parts the bytes
+parted : (rest : Bytes) (at : ℕ) → at < length rest → eqb (get_or rest at 0) line_feed ≡ true → rest ≡ take at rest ++ (line_feed ∷ drop (suc at) rest)
+parted [] at within feed = absurd (omega arith)
+parted (byte ∷ rest) zero within feed = ap (λ b. b ∷ rest) (eqb-true byte line_feed feed)
+parted (byte ∷ rest) (suc at) within feed = ap (λ l. byte ∷ l) (parted rest at (omega arith) feed)
+
+-- the bytes after a place, as the code has them
+abbrev pub after : Bytes → ℕ → Bytes
+after rest at = take (length rest - (at + 1)) (drop (at + 1) rest)
+
+after_is : (rest : Bytes) (at : ℕ) → drop (suc at) rest ≡ after rest at
+after_is rest at = ap (λ k. drop k rest) (sym (add-one at)) ∙ sym (take_rest rest (at + 1))
+
+-- the begun line ends at the line feed
+pub line_parted : (begun rest : Bytes) (at : ℕ) → at < length rest → eqb (get_or rest at 0) line_feed ≡ true
+    → begun ++ rest ≡ (begun ++ take at rest) ++ (line_feed ∷ after rest at)
+line_parted begun rest at within feed =
+    ap (λ l. begun ++ l) (parted rest at within feed ∙ ap (λ l. take at rest ++ (line_feed ∷ l)) (after_is rest at))
+    ∙ sym (append_assoc begun (take at rest) (line_feed ∷ after rest at))
+
+pub length_line : (begun rest : Bytes) (at : ℕ) → at ≤ length rest → length (begun ++ take at rest) ≡ length begun + at
+length_line begun rest at within = length-append begun (take at rest) ∙ ap (λ n. length begun + n) (omega (arith, length-take at rest))
+
+-- a line that comes is past a limit
+pub limit_passed : (total : ℕ) (later line tail : Bytes) → later ≡ line ++ tail → IsLine line → 0 < length later
+    → (total ≡ max_lines) ⊎ (max_line_bytes < length line) → IsPastLimit total later
+limit_passed total later line tail joined is some (inl many) = inl (many, some)
+limit_passed total later line tail joined is some (inr long) = inr (record { begun = line; rest = tail; joined = joined; line = is; long = long })
+
+-- a line that a line feed ends within its limit is not too long
+ended_inside : (later line tail : Bytes) → later ≡ line ++ (line_feed ∷ tail) → length line ≤ max_line_bytes → ¬ BeginsTooLong later
+ended_inside later line tail joined short long =
+    let at : length line < length long.begun = omega (arith, long.long) in
+    long.line (length line) 0 at
+    (sym (get_or_append_left long.begun long.rest 0 (length line) at) ∙ ap (λ l. get_or l (length line) 0) (sym long.joined ∙ joined) ∙ get_or_at line line_feed tail 0 (length line) refl)
+
+pub line_inside : (total : ℕ) (later line tail : Bytes) → later ≡ line ++ (line_feed ∷ tail) → total < max_lines → length line ≤ max_line_bytes → ¬ IsPastLimit total later
+line_inside total later line tail joined few short (inl (many, some)) = omega arith
+line_inside total later line tail joined few short (inr long) = ended_inside later line tail joined short long
+
+-- what has come of a line within its limit is not too long
+begun_short : (later : Bytes) → length later ≤ max_line_bytes → ¬ BeginsTooLong later
+begun_short later short long = omega (arith, long.long, ap length long.joined, length-append long.begun long.rest)
+
+pub begun_inside : (total : ℕ) (later : Bytes) → (0 < length later → total < max_lines) → length later ≤ max_line_bytes → ¬ IsPastLimit total later
+begun_inside total later room short (inl (many, some)) = let few : total < max_lines = room some in omega arith
+begun_inside total later room short (inr long) = begun_short later short long

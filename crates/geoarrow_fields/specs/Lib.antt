@@ -1,0 +1,4 @@
+pub mod Lines
+pub mod Answer
+pub mod Output
+pub mod Progress

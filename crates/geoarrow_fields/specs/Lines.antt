@@ -1,0 +1,75 @@
+-- The lines of an input, and their limits.
+use Rattle.std.specs.Prelude.{◌≡◌, ◌≢◌, ◌⊎◌, ℕ, ◌<◌, ◌≤◌, ◌==◌, List, [], ◌∷◌, ◌++◌, length, All, if◌then◌else◌}
+
+-- the bytes of an input, of a line without its line feed, or of an output
+abbrev pub Bytes : Type 0
+Bytes = List ℕ
+
+-- the byte that ends a line
+abbrev pub line_feed : ℕ
+line_feed = 10
+
+-- at most so many lines are answered
+abbrev pub max_lines : ℕ
+max_lines = 1000000
+
+-- at most so many bytes stand in a line, its line feed not among them
+abbrev pub max_line_bytes : ℕ
+max_line_bytes = 1048576
+
+-- a byte at the head of the first line, which it begins where there is none
+abbrev pub begin_line : ℕ → List Bytes → List Bytes
+begin_line byte [] = (byte ∷ []) ∷ []
+begin_line byte (line ∷ lines) = (byte ∷ line) ∷ lines
+
+-- a byte before these lines: a line feed ends an empty line, and another byte stands in the first line
+abbrev pub put_byte : ℕ → List Bytes → List Bytes
+put_byte byte lines = if byte == line_feed then [] ∷ lines else begin_line byte lines
+
+-- the lines of an input: a line feed ends each, and the last may lack it
+abbrev pub lines_of : Bytes → List Bytes
+lines_of [] = []
+lines_of (byte ∷ bytes) = put_byte byte (lines_of bytes)
+
+-- these lines, each with its line feed
+abbrev pub ended_lines : List Bytes → Bytes
+ended_lines [] = []
+ended_lines (line ∷ lines) = line ++ (line_feed ∷ ended_lines lines)
+
+-- no byte of it is a line feed
+abbrev pub IsLine : Bytes → Type 0
+IsLine bytes = All (λ byte. byte ≢ line_feed) bytes
+
+-- it has at most as many bytes as a line may have
+abbrev pub IsShort : Bytes → Type 0
+IsShort line = length line ≤ max_line_bytes
+
+-- these are no more lines than an input may have, and none of them is too long
+pub record IsWithinLimits (lines : List Bytes) : Type 0 where
+  pub few : length lines ≤ max_lines
+  pub short : All IsShort lines
+
+-- it begins with more bytes than a line may have, and no line feed among them
+pub record BeginsTooLong (bytes : Bytes) : Type 0 where
+  pub begun : Bytes
+  pub rest : Bytes
+  pub joined : bytes ≡ begun ++ rest
+  pub line : IsLine begun
+  pub long : max_line_bytes < length begun
+
+-- what comes after `count` lines is past a limit: a byte of a line too many, or a line that is too long
+abbrev pub IsPastLimit : ℕ → Bytes → Type 0
+IsPastLimit count later = ((count ≡ max_lines) × (0 < length later)) ⊎ BeginsTooLong later
+
+-- an input is these lines, each with its line feed, and what comes after them
+pub record IsSplit (input : Bytes) (lines : List Bytes) (later : Bytes) : Type 0 where
+  pub joined : input ≡ ended_lines lines ++ later
+  pub each : All IsLine lines
+
+-- some first lines of an input are within the limits, and what comes after them is past one
+pub record PassesLimit (input : Bytes) : Type 0 where
+  pub lines : List Bytes
+  pub later : Bytes
+  pub split : IsSplit input lines later
+  pub within : IsWithinLimits lines
+  pub past : IsPastLimit (length lines) later

@@ -1,0 +1,116 @@
+//! The lines of a chunk of the input: their limits, their answers, and the line that goes on into the next chunk.
+ghost use Rattle.std.specs.Prelude.{◌≡◌, ◌≢◌, ◌⊎◌, ◌+◌, ◌<◌, ◌≤◌, List, [], ◌∷◌, ◌++◌, length, All, IfOk, OnOk, IfErr, MatchBool};
+ghost use Rattle.std.specs.Io.KnownBytes.{Keeps};
+ghost use Rattle.geoarrow_fields.specs.Lines.{Bytes, max_lines, max_line_bytes, lines_of, ended_lines, IsLine, IsSplit, IsWithinLimits, PassesLimit};
+ghost use Rattle.geoarrow_fields.specs.Output.{Answered, AppendsSome, AppendsPartOfSome};
+ghost use Rattle.geoarrow_fields.specs.Progress.{IsBegun, AnswersNext, AnswersSome, AnswersToLimit, AnswersInside};
+
+use crate::Command;
+use crate::output::{Fault, write_answer};
+use memchr::memchr;
+use std::alloc::Global;
+use std::io::Write;
+
+/// At most so many lines are answered.
+const MAX_LINES: usize = 1_000_000;
+
+/// At most so many bytes stand in a line, its line feed not among them.
+const MAX_LINE_BYTES: usize = 1_048_576;
+
+/// A law: lines that are put together, each with its line feed, and a rest with none after them are an input of just
+/// these lines and the rest, unless that is empty; and every input is put together so. There is nothing to run.
+pub fn splits_at_line_feeds()
+    ensures ended { (lines : List Bytes) → All IsLine lines → lines_of (ended_lines lines) ≡ lines }
+    ensures last { (lines : List Bytes) (rest : Bytes) → All IsLine lines → IsLine rest → 0 < length rest
+        → lines_of (ended_lines lines ++ rest) ≡ lines ++ rest ∷ [] }
+    ensures every { (input : Bytes) → (lines : List Bytes) × (rest : Bytes) × IsSplit input lines rest × IsLine rest }
+{}
+
+/// A law: the lines of an input are within the limits, or some first of them are and what comes after those is past a
+/// limit, and not both. There is nothing to run.
+pub fn keeps_limits_or_passes_one()
+    ensures either { (input : Bytes) → IsWithinLimits (lines_of input) ⊎ PassesLimit input }
+    ensures never_both { (input : Bytes) → IsWithinLimits (lines_of input) → ¬ PassesLimit input }
+{}
+
+/// Whether a line of `begun` and `more` bytes is past a limit, after `count` lines.
+fn is_past_limit(count: usize, begun: usize, more: usize) -> bool
+    requires few { count ≤ max_lines }
+    requires short { begun ≤ max_line_bytes }
+    ensures { MatchBool result ((count ≡ max_lines) ⊎ (max_line_bytes < begun + more))
+        ((count < max_lines) × (begun + more ≤ max_line_bytes)) }
+{
+    count == MAX_LINES || more > MAX_LINE_BYTES - begun
+}
+
+/// Answers the line that `begun` and `end` are together, and clears `begun`.
+pub(crate) fn end_line<W: Write>(
+    alloc: Global,
+    command: Command,
+    begun: &mut Vec<u8>,
+    end: &[u8],
+    writer: &mut W,
+) -> Result<(), Fault>
+    ensures ok { OnOk result (AppendsSome (Answered command ((begun.old.items ++ end.now) ∷ []))
+        (W.contents writer.old) (W.contents writer.new)) }
+    ensures clear { OnOk result (begun.new.items ≡ []) }
+    ensures kind { IfErr result (λ fault. fault ≢ Fault.Input) }
+    ensures memory { IfErr result (λ fault. fault ≡ Fault.Memory
+        → Keeps (W.contents writer.old) (W.contents writer.new)) }
+    ensures output { IfErr result (λ fault. fault ≡ Fault.Output
+        → AppendsPartOfSome (Answered command ((begun.old.items ++ end.now) ∷ []))
+        (W.contents writer.old) (W.contents writer.new)) }
+{
+    if begun.is_empty() {
+        return write_answer(alloc, command, end, writer);
+    }
+    begun.extend_from_slice(end)?;
+    write_answer(alloc, command, begun.as_slice(), writer)?;
+    begun.clear();
+    Ok(())
+}
+
+/// Answers the lines that end in `chunk`, the first of which goes on from `begun`, and leaves in `begun` what comes
+/// after them. Returns how many lines are answered, counted on from `count`.
+pub(crate) fn answer_chunk<W: Write>(
+    alloc: Global,
+    command: Command,
+    chunk: &[u8],
+    begun: &mut Vec<u8>,
+    count: usize,
+    writer: &mut W,
+) -> Result<usize, Fault>
+    requires { IsBegun count begun.old.items }
+    ensures ok { IfOk result (λ total. AppendsSome
+        (AnswersNext command count (begun.old.items ++ chunk.now) total begun.new.items)
+        (W.contents writer.old) (W.contents writer.new)) }
+    ensures begun { IfOk result (λ total. IsBegun total begun.new.items) }
+    ensures input { IfErr result (λ fault. fault ≡ Fault.Input
+        → AppendsSome (AnswersToLimit command count (begun.old.items ++ chunk.now))
+        (W.contents writer.old) (W.contents writer.new)) }
+    ensures memory { IfErr result (λ fault. fault ≡ Fault.Memory
+        → AppendsSome (AnswersInside command count (begun.old.items ++ chunk.now))
+        (W.contents writer.old) (W.contents writer.new)) }
+    ensures output { IfErr result (λ fault. fault ≡ Fault.Output
+        → AppendsPartOfSome (AnswersSome command count (begun.old.items ++ chunk.now))
+        (W.contents writer.old) (W.contents writer.new)) }
+{
+    let mut count = count;
+    let mut rest = chunk;
+    while let Some(at) = memchr(b'\n', rest) {
+        if is_past_limit(count, begun.len(), at) {
+            return Err(Fault::Input);
+        }
+        end_line(alloc, command, begun, &rest[..at], writer)?;
+        count += 1;
+        rest = &rest[at + 1..];
+    }
+    if rest.is_empty() {
+        return Ok(count);
+    }
+    if is_past_limit(count, begun.len(), rest.len()) {
+        return Err(Fault::Input);
+    }
+    begun.extend_from_slice(rest)?;
+    Ok(count)
+}

@@ -1,0 +1,80 @@
+//! What is written: answers, each with its line feed, and the line of an end.
+ghost use Rattle.std.specs.Prelude.{◌≡◌, ◌≢◌, [], ◌∷◌, ◌++◌, OnOk, OnErr, IfErr};
+ghost use Rattle.std.specs.Io.KnownBytes.{Appends, Keeps};
+ghost use Rattle.geoarrow_fields.specs.Output.{Answered, AppendsPart, AppendsSome, AppendsPartOfSome};
+
+use crate::answer::answer_line;
+use crate::{Command, RunEnd};
+use std::alloc::{AllocError, Global};
+use std::io::Write;
+
+/// Why a run ends before the end of its input.
+#[derive(Debug, Clone, Copy, PartialEq, Eq)]
+pub(crate) enum Fault {
+    /// The input is past a limit, or the reader failed.
+    Input,
+    /// Memory was wanting.
+    Memory,
+    /// The writer failed, or took nothing.
+    Output,
+}
+
+impl From<AllocError> for Fault {
+    ghost use Rattle.geoarrow_fields.specs.declared.output.Fault.TheVariants.{Memory};
+
+    ghost from_gives = { λ _ fault. fault ≡ Memory };
+
+    fn from(_refused: AllocError) -> Fault {
+        Fault::Memory
+    }
+}
+
+/// Writes all of a text, or ends as a fault of the output.
+fn write_whole<W: Write>(writer: &mut W, text: &[u8]) -> Result<(), Fault>
+    ensures ok { OnOk result (Appends (W.contents writer.old) (W.contents writer.new) text.now) }
+    ensures err { IfErr result (λ fault. fault ≡ Fault.Output) }
+    ensures part { AppendsPart (W.contents writer.old) (W.contents writer.new) text.now }
+{
+    let mut rest = text;
+    while !rest.is_empty() {
+        match writer.write(rest) {
+            Ok(0) => return Err(Fault::Output),
+            Ok(n) => rest = &rest[n..],
+            Err(_) => return Err(Fault::Output),
+        }
+    }
+    Ok(())
+}
+
+/// Answers a line, and writes the answer with its line feed.
+pub(crate) fn write_answer<W: Write>(
+    alloc: Global,
+    command: Command,
+    line: &[u8],
+    writer: &mut W,
+) -> Result<(), Fault>
+    ensures ok { OnOk result (AppendsSome (Answered command (line.now ∷ []))
+        (W.contents writer.old) (W.contents writer.new)) }
+    ensures kind { IfErr result (λ fault. fault ≢ Fault.Input) }
+    ensures memory { IfErr result (λ fault. fault ≡ Fault.Memory
+        → Keeps (W.contents writer.old) (W.contents writer.new)) }
+    ensures output { IfErr result (λ fault. fault ≡ Fault.Output
+        → AppendsPartOfSome (Answered command (line.now ∷ [])) (W.contents writer.old) (W.contents writer.new)) }
+{
+    let answer = answer_line(alloc, command, line)?;
+    write_whole(writer, answer.as_bytes())?;
+    write_whole(writer, b"\n")
+}
+
+/// Writes the last line of an end, and ends so unless the writer fails.
+pub(crate) fn finish<W: Write>(writer: &mut W, last: &[u8], end: RunEnd) -> RunEnd
+    ensures end { result ≢ RunEnd.OutputFault → result ≡ end }
+    ensures written { result ≢ RunEnd.OutputFault
+        → Appends (W.contents writer.old) (W.contents writer.new) last.now }
+    ensures part { AppendsPart (W.contents writer.old) (W.contents writer.new) last.now }
+{
+    if write_whole(writer, last).is_err() || writer.flush().is_err() {
+        return RunEnd::OutputFault;
+    }
+    end
+}

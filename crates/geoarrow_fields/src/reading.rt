@@ -1,0 +1,111 @@
+//! The loop that reads an input, answers its lines and ends.
+ghost use Rattle.std.specs.Prelude.{◌≡◌, ◌<◌, ◌≤◌, length, take, IfOk, OnOk, IfErr, vec_len};
+ghost use Rattle.std.specs.Io.KnownBytes.{Consumes, IsAtEnd, Keeps};
+ghost use Rattle.geoarrow_fields.specs.Output.{AnswersAll, AnswersFirst, StopsForInput, StopsForMemory, EndsForInput, EndsForMemory, BreaksOff, ReadsAndWrites, ReadsAndWritesPart};
+
+use crate::lines::{answer_chunk, end_line};
+use crate::output::{Fault, finish};
+use crate::{Command, RunEnd};
+use std::alloc::{AllocError, Global};
+use std::io::{Read, Write};
+
+/// So many bytes are asked of the reader at once.
+const CHUNK_BYTES: usize = 65_536;
+
+/// A chunk of so many bytes.
+fn zeros(alloc: Global, len: usize) -> Result<Vec<u8>, AllocError>
+    ensures { IfOk result (λ chunk. vec_len chunk ≡ len) }
+{
+    vec![in alloc; 0u8; len]
+}
+
+/// Reads once into the front of a slice, or ends as a fault of the input.
+fn read_front<R: Read>(reader: &mut R, chunk: &mut [u8]) -> Result<usize, Fault>
+    requires { 0 < length chunk.old }
+    ensures bound { IfOk result (λ n. n ≤ length chunk.new) }
+    ensures bytes { IfOk result (λ n. Consumes (R.remaining reader.old) (R.remaining reader.new) (take n chunk.new)) }
+    ensures end { IfOk result (λ n. n ≡ 0 → IsAtEnd (R.remaining reader.new)) }
+    ensures err { IfErr result (λ fault. (fault ≡ Fault.Input)
+        × Keeps (R.remaining reader.old) (R.remaining reader.new)) }
+{
+    match reader.read(chunk) {
+        Ok(n) => Ok(n),
+        Err(_) => Err(Fault::Input),
+    }
+}
+
+/// Reads once into the front of a chunk, which keeps its length, or ends as a fault of the input.
+fn read_chunk<R: Read>(reader: &mut R, chunk: &mut Vec<u8>) -> Result<usize, Fault>
+    requires { 0 < vec_len chunk.old }
+    ensures len { vec_len chunk.new ≡ vec_len chunk.old }
+    ensures bound { IfOk result (λ n. n ≤ vec_len chunk.new) }
+    ensures bytes { IfOk result (λ n. Consumes (R.remaining reader.old) (R.remaining reader.new) (take n chunk.new.items)) }
+    ensures end { IfOk result (λ n. n ≡ 0 → IsAtEnd (R.remaining reader.new)) }
+    ensures err { IfErr result (λ fault. (fault ≡ Fault.Input)
+        × Keeps (R.remaining reader.old) (R.remaining reader.new)) }
+{
+    read_front(reader, chunk.as_mut_slice())
+}
+
+/// Answers the lines that the reader gives, up to its end.
+fn answer_lines<R: Read, W: Write>(
+    alloc: Global,
+    command: Command,
+    reader: &mut R,
+    writer: &mut W,
+) -> Result<(), Fault>
+    ensures done { OnOk result (ReadsAndWrites (AnswersAll command)
+        (R.remaining reader.old) (R.remaining reader.new) (W.contents writer.old) (W.contents writer.new)) }
+    ensures end { OnOk result (IsAtEnd (R.remaining reader.new)) }
+    ensures input { IfErr result (λ fault. fault ≡ Fault.Input → ReadsAndWrites (StopsForInput command)
+        (R.remaining reader.old) (R.remaining reader.new) (W.contents writer.old) (W.contents writer.new)) }
+    ensures memory { IfErr result (λ fault. fault ≡ Fault.Memory → ReadsAndWrites (StopsForMemory command)
+        (R.remaining reader.old) (R.remaining reader.new) (W.contents writer.old) (W.contents writer.new)) }
+    ensures output { IfErr result (λ fault. fault ≡ Fault.Output → ReadsAndWritesPart (AnswersFirst command)
+        (R.remaining reader.old) (R.remaining reader.new) (W.contents writer.old) (W.contents writer.new)) }
+{
+    let mut chunk = zeros(alloc, CHUNK_BYTES)?;
+    let mut begun = Vec::new(alloc);
+    let mut count = 0;
+    loop {
+        let n = read_chunk(reader, &mut chunk)?;
+        if n == 0 {
+            if begun.is_empty() {
+                return Ok(());
+            }
+            return end_line(alloc, command, &mut begun, &[], writer);
+        }
+        count = answer_chunk(alloc, command, &chunk[..n], &mut begun, count, writer)?;
+    }
+}
+
+/// Reads lines, each up to a line feed or the end, and writes the answer to each with a line feed after it. Answers how
+/// it ended: `Done` at the reader's end.
+///
+/// `InputFault` comes at a fault of the reader of any kind, at a byte after the line feed of line 1,000,000, and at more
+/// than 1,048,576 bytes before a line feed or the end; `Memory` where memory is wanting. The line that is not finished
+/// then has no answer: in its place stands `error input` or `error memory`, and the answers before it stay.
+/// `OutputFault` comes at a fault of the writer of any kind, or a write that takes nothing; nothing more is written.
+pub fn run<R: Read, W: Write>(
+    alloc: Global,
+    command: Command,
+    reader: &mut R,
+    writer: &mut W,
+) -> RunEnd
+    ensures done { result ≡ RunEnd.Done → ReadsAndWrites (AnswersAll command)
+        (R.remaining reader.old) (R.remaining reader.new) (W.contents writer.old) (W.contents writer.new) }
+    ensures end { result ≡ RunEnd.Done → IsAtEnd (R.remaining reader.new) }
+    ensures input { result ≡ RunEnd.InputFault → ReadsAndWrites (EndsForInput command)
+        (R.remaining reader.old) (R.remaining reader.new) (W.contents writer.old) (W.contents writer.new) }
+    ensures memory { result ≡ RunEnd.Memory → ReadsAndWrites (EndsForMemory command)
+        (R.remaining reader.old) (R.remaining reader.new) (W.contents writer.old) (W.contents writer.new) }
+    ensures output { result ≡ RunEnd.OutputFault → ReadsAndWritesPart (BreaksOff command)
+        (R.remaining reader.old) (R.remaining reader.new) (W.contents writer.old) (W.contents writer.new) }
+{
+    match answer_lines(alloc, command, reader, writer) {
+        Ok(()) => finish(writer, b"", RunEnd::Done),
+        Err(Fault::Input) => finish(writer, b"error input\n", RunEnd::InputFault),
+        Err(Fault::Memory) => finish(writer, b"error memory\n", RunEnd::Memory),
+        Err(Fault::Output) => RunEnd::OutputFault,
+    }
+}

@@ -1,0 +1,149 @@
+-- When fields are the coordinates of a point.
+use Rattle.std.proofs.Common.{◌≡◌, ◌≢◌, suc, Bool, true, false, ◌||◌, List, [], ◌∷◌, length, refl, sym, ap, ◌∙◌, arith}
+use Rattle.std.specs.List.{list_any}
+use Rattle.std.specs.Str.{bytes_eq}
+use Rattle.std.proofs.lemmas.Slice.Eq.{bytes_eq-Decides}
+use Rattle.arrow_values.specs.Tree.{Text, Tree, plain, list, large_list, fixed_size_list, struct, union, FieldTree}
+use Rattle.arrow_values.specs.View.{field_trees}
+use Rattle.geoarrow_layout.specs.declared.kinds.CoordType.{CoordType}
+use Rattle.geoarrow_layout.specs.declared.kinds.CoordType.TheVariants.{Interleaved, Separated}
+use Rattle.geoarrow_layout.specs.declared.kinds.Dimension.{Dimension}
+use Rattle.geoarrow_layout.specs.declared.kinds.Dimension.TheVariants.{XY, XYZ, XYM, XYZM}
+use Rattle.geoarrow_layout.specs.Kinds.{interleaved_name}
+use Rattle.geoarrow_layout.specs.Shapes.{has_name, SameNames, IsSeparatedAs, Leaf, names_of}
+
+pub length-names : (fs : List FieldTree) → length (names_of (field_trees fs)) ≡ length fs
+length-names [] = refl
+length-names (f ∷ fs) = omega (arith, length-names fs)
+
+pub has_name-fields : (n : Text) (fs : List FieldTree) → list_any (λ f. bytes_eq f.name n) fs ≡ has_name n (names_of (field_trees fs))
+has_name-fields n [] = refl
+has_name-fields n (f ∷ fs) = rw (has_name-fields n fs)
+
+or_swap : (p q r : Bool) → (p || (q || r)) ≡ (q || (p || r))
+or_swap true true r = refl
+or_swap true false r = refl
+or_swap false true r = refl
+or_swap false false r = refl
+
+-- names without one of them
+record Without (x : Text) (names : List Text) : Type 0 where
+  rest : List Text
+  shorter : length names ≡ suc (length rest)
+  same : (n : Text) → has_name n names ≡ (bytes_eq x n || has_name n rest)
+
+without_head : (x a : Text) (names : List Text) (b : Bool) → bytes_eq a x ≡ b → (has_name x names ≡ true → Without x names) → has_name x (a ∷ names) ≡ true → Without x (a ∷ names)
+without_head x a names true e further h =
+    let same_name : a ≡ x = (bytes_eq-Decides a x).0 e in
+    record { rest = names; shorter = refl; same = λ n. ap (λ y. bytes_eq y n || has_name n names) same_name }
+without_head x a names false e further h =
+    let among : has_name x names ≡ true = ap (λ b. b || has_name x names) (sym e) ∙ h in
+    let w = further among in
+    record {
+      rest = a ∷ w.rest;
+      shorter = omega (arith, w.shorter);
+      same = λ n. ap (λ r. bytes_eq a n || r) (w.same n) ∙ or_swap (bytes_eq a n) (bytes_eq x n) (has_name n w.rest);
+    }
+
+without : (x : Text) (names : List Text) → has_name x names ≡ true → Without x names
+without x [] h = cc
+without x (a ∷ names) h = without_head x a names (bytes_eq a x) refl (without x names) h
+
+empty_from : (names : List Text) → length names ≡ 0 → names ≡ []
+empty_from [] h = refl
+empty_from (a ∷ names) h = absurd (omega arith)
+
+-- three names among which are three different ones are just those
+pub same_three : (x y z : Text) (names : List Text) → bytes_eq x y ≡ false → bytes_eq x z ≡ false → bytes_eq y z ≡ false → length names ≡ 3 → has_name x names ≡ true → has_name y names ≡ true → has_name z names ≡ true → SameNames names (x ∷ y ∷ z ∷ [])
+unfolding SameNames
+same_three x y z names xy xz yz count hx hy hz =
+    let a = without x names hx in
+    let has_y : has_name y a.rest ≡ true = ap (λ b. b || has_name y a.rest) (sym xy) ∙ sym (a.same y) ∙ hy in
+    let b = without y a.rest has_y in
+    let has_z : has_name z b.rest ≡ true = ap (λ p. p || has_name z b.rest) (sym yz) ∙ sym (b.same z) ∙ ap (λ p. p || has_name z a.rest) (sym xz) ∙ sym (a.same z) ∙ hz in
+    let d = without z b.rest has_z in
+    let none : d.rest ≡ [] = empty_from d.rest (omega arith) in
+    λ n. a.same n ∙ ap (λ r. bytes_eq x n || r) (b.same n ∙ ap (λ r. bytes_eq y n || r) (d.same n ∙ ap (λ r. bytes_eq z n || has_name n r) none))
+
+pub xyz_names : (names : List Text) → length names ≡ 3 → has_name (120 ∷ []) names ≡ true → has_name (121 ∷ []) names ≡ true → has_name (122 ∷ []) names ≡ true → IsSeparatedAs XYZ names
+xyz_names names count hx hy hz = (count, same_three _ _ _ names refl refl refl count hx hy hz)
+
+pub xym_names : (names : List Text) → length names ≡ 3 → has_name (120 ∷ []) names ≡ true → has_name (121 ∷ []) names ≡ true → has_name (109 ∷ []) names ≡ true → IsSeparatedAs XYM names
+xym_names names count hx hy hz = (count, same_three _ _ _ names refl refl refl count hx hy hz)
+
+-- no dimension has names of another count
+pub no_count : (names : List Text) → length names ≢ 2 → length names ≢ 3 → length names ≢ 4 → (d : Dimension) → IsSeparatedAs d names → ⊥
+no_count names two three four XY h = two h
+no_count names two three four XYZ h = three h.0
+no_count names two three four XYM h = three h.0
+no_count names two three four XYZM h = four h
+
+-- nor three names among which `x` or `y`, or both `z` and `m`, lack
+pub no_x : (names : List Text) → length names ≡ 3 → has_name (120 ∷ []) names ≡ false → (d : Dimension) → IsSeparatedAs d names → ⊥
+unfolding SameNames
+no_x names count lacks XY h = omega arith
+no_x names count lacks XYZ h = let e = h.1 (120 ∷ []) in cc
+no_x names count lacks XYM h = let e = h.1 (120 ∷ []) in cc
+no_x names count lacks XYZM h = omega arith
+
+pub no_y : (names : List Text) → length names ≡ 3 → has_name (121 ∷ []) names ≡ false → (d : Dimension) → IsSeparatedAs d names → ⊥
+unfolding SameNames
+no_y names count lacks XY h = omega arith
+no_y names count lacks XYZ h = let e = h.1 (121 ∷ []) in cc
+no_y names count lacks XYM h = let e = h.1 (121 ∷ []) in cc
+no_y names count lacks XYZM h = omega arith
+
+pub no_z_m : (names : List Text) → length names ≡ 3 → has_name (122 ∷ []) names ≡ false → has_name (109 ∷ []) names ≡ false → (d : Dimension) → IsSeparatedAs d names → ⊥
+unfolding SameNames
+no_z_m names count no_z no_m XY h = omega arith
+no_z_m names count no_z no_m XYZ h = let e = h.1 (122 ∷ []) in cc
+no_z_m names count no_z no_m XYM h = let e = h.1 (109 ∷ []) in cc
+no_z_m names count no_z no_m XYZM h = omega arith
+
+pub ruleset leaf_steps = (length-names, xyz_names, xym_names, no_count, no_x, no_y, no_z_m)
+
+-- names are the separated coordinates of one dimension at most
+pub separated_same : (names : List Text) (d e : Dimension) → IsSeparatedAs d names → IsSeparatedAs e names → d ≡ e
+unfolding SameNames
+separated_same names XY XY h k = refl
+separated_same names XYZ XYZ h k = refl
+separated_same names XYM XYM h k = refl
+separated_same names XYZM XYZM h k = refl
+separated_same names XY XYZ h k = absurd (omega (arith, k.0))
+separated_same names XY XYM h k = absurd (omega (arith, k.0))
+separated_same names XY XYZM h k = absurd (omega arith)
+separated_same names XYZ XY h k = absurd (omega (arith, h.0))
+separated_same names XYZ XYM h k = let e = h.1 (122 ∷ []) in let f = k.1 (122 ∷ []) in cc
+separated_same names XYZ XYZM h k = absurd (omega (arith, h.0))
+separated_same names XYM XY h k = absurd (omega (arith, h.0))
+separated_same names XYM XYZ h k = let e = h.1 (122 ∷ []) in let f = k.1 (122 ∷ []) in cc
+separated_same names XYM XYZM h k = absurd (omega (arith, h.0))
+separated_same names XYZM XY h k = absurd (omega arith)
+separated_same names XYZM XYZ h k = absurd (omega (arith, k.0))
+separated_same names XYZM XYM h k = absurd (omega (arith, k.0))
+
+-- texts that differ by a test that computes
+apart : (x y : Text) → bytes_eq x y ≡ false → x ≡ y → ⊥
+apart x y e h = let f : bytes_eq x y ≡ true = (bytes_eq-Decides x y).1 h in cc
+
+pub interleaved_same : (d e : Dimension) → interleaved_name d ≡ interleaved_name e → d ≡ e
+interleaved_same XY XY h = refl
+interleaved_same XYZ XYZ h = refl
+interleaved_same XYM XYM h = refl
+interleaved_same XYZM XYZM h = refl
+interleaved_same d e h = absurd (apart _ _ refl h)
+
+-- a leaf has one coordinate type and one dimension
+pub leaf_same : (t : Tree) (c b : CoordType) (d e : Dimension) → Leaf t c d → Leaf t b e → (c ≡ b) × (d ≡ e)
+leaf_same (fixed_size_list n t b m z) Interleaved Interleaved d e h k = (refl, interleaved_same d e (sym h.0 ∙ k.0))
+leaf_same (struct fs) Separated Separated d e h k = (refl, separated_same (names_of fs) d e h k)
+leaf_same (fixed_size_list n t b m z) Separated _ d e h k = absurd h
+leaf_same (fixed_size_list n t b m z) Interleaved Separated d e h k = absurd k
+leaf_same (struct fs) Interleaved _ d e h k = absurd h
+leaf_same (struct fs) Separated Interleaved d e h k = absurd k
+leaf_same (plain p) c _ d e h k = absurd h
+leaf_same (list n t b m) c _ d e h k = absurd h
+leaf_same (large_list n t b m) c _ d e h k = absurd h
+leaf_same (union ms mode) c _ d e h k = absurd h
+
+pub ruleset point_steps = (separated_same, interleaved_same, leaf_same)

@@ -1,0 +1,4 @@
+pub mod Kinds
+pub mod Shapes
+pub mod Layouts
+pub mod Faults

@@ -1,0 +1,81 @@
+//! Why a data type is not a layout.
+ghost use Rattle.std.specs.Prelude.{◌≡◌, ◌⊎◌, IfOk};
+ghost use Rattle.arrow_values.specs.Errors.{IsMemory};
+
+use arrow_values::{ArrowError, GeoArrowError};
+use std::alloc::{AllocError, Global};
+
+/// Why a data type is not of the layout that a reader looks for.
+#[derive(Clone, Copy, Debug, PartialEq, Eq)]
+pub enum LayoutFault {
+    /// A data type of another sort stands there.
+    UnexpectedType,
+    /// The inner field of a fixed size list is none of `xy`, `xyz`, `xym` and `xyzm`.
+    BadInterleavedName,
+    /// The size of a fixed size list is not that of the dimension that its inner field names.
+    BadSize,
+    /// The names of a struct's fields are those of no dimension.
+    BadFieldNames,
+    /// A struct has as many fields as no dimension has.
+    BadFieldCount,
+    /// A list holds a list of the other width.
+    MixedWidths,
+    /// A union's member has a type id that no geometry has there.
+    BadTypeId,
+    /// A union's member has a dimension other than its type id says.
+    MemberDimension,
+    /// A union has no members.
+    EmptyUnion,
+    /// The members of a union have several coordinate types.
+    SeveralCoordTypes,
+    /// The members of a collection's union have several dimensions.
+    SeveralDimensions,
+}
+
+impl LayoutFault {
+    ghost use Rattle.geoarrow_layout.specs.Faults.{fault_text, IsArrowFormOf};
+
+    /// The fault as an error of Arrow: `BadSize` is an `InvalidGeoArrow` in an `ExternalError`, as in the Rust crate,
+    /// and every other a `SchemaError`; or `OutOfMemory` where there is no memory for its text or its box.
+    pub fn into_arrow_error(self, alloc: Global) -> ArrowError
+        ensures { IsMemory result ⊎ IsArrowFormOf self result }
+    {
+        match self.try_arrow_error(alloc) {
+            Ok(error) => error,
+            Err(_) => ArrowError::OutOfMemory,
+        }
+    }
+
+    /// The same, or want of memory.
+    fn try_arrow_error(self, alloc: Global) -> Result<ArrowError, AllocError>
+        ensures { IfOk result (IsArrowFormOf self) }
+    {
+        let text = String::from_str(alloc, self.text())?;
+        match self {
+            LayoutFault::BadSize => {
+                let error = Box::new(alloc, GeoArrowError::InvalidGeoArrow(text))?;
+                Ok(ArrowError::ExternalError(error))
+            }
+            _ => Ok(ArrowError::SchemaError(text)),
+        }
+    }
+
+    /// The message.
+    fn text(self) -> &'static str
+        ensures { result.now ≡ fault_text self }
+    {
+        match self {
+            LayoutFault::UnexpectedType => "unexpected data type",
+            LayoutFault::BadInterleavedName => "unknown interleaved field name",
+            LayoutFault::BadSize => "list size differs from the field name",
+            LayoutFault::BadFieldNames => "unexpected field names",
+            LayoutFault::BadFieldCount => "unexpected number of fields",
+            LayoutFault::MixedWidths => "list widths differ",
+            LayoutFault::BadTypeId => "unexpected type id",
+            LayoutFault::MemberDimension => "member dimension differs from its type id",
+            LayoutFault::EmptyUnion => "union has no members",
+            LayoutFault::SeveralCoordTypes => "several coordinate types in union",
+            LayoutFault::SeveralDimensions => "several dimensions in union",
+        }
+    }
+}

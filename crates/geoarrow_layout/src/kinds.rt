@@ -1,0 +1,113 @@
+//! What a layout has: a coordinate type and a dimension.
+ghost use Rattle.std.specs.Prelude.{◌≡◌, ◌↔◌, ◌⊎◌, IfErr, Some, Ok};
+
+use arrow_values::{Dimensions, GeoArrowError, GeoArrowResult};
+use std::alloc::Global;
+use std::fmt;
+
+/// How the numbers of a coordinate are stored (GeoArrow, "Coordinate").
+#[derive(Clone, Copy, Debug, PartialEq, Eq, Hash)]
+pub enum CoordType {
+    /// All numbers of a coordinate lie side by side, in a fixed size list.
+    Interleaved,
+    /// Each dimension has an array of its own, as a field of a struct.
+    Separated,
+}
+
+impl Default for CoordType {
+    ghost use Rattle.std.specs.Prelude.{◌≡◌};
+    ghost use Rattle.geoarrow_layout.specs.declared.kinds.CoordType.TheVariants.{Separated};
+
+    ghost is_default = { λ c. c ≡ Separated };
+
+    fn default() -> CoordType {
+        CoordType::Separated
+    }
+}
+
+/// Which dimensions a coordinate has (GeoArrow, "Coordinate").
+#[derive(Clone, Copy, Debug, PartialEq, Eq, Hash)]
+pub enum Dimension {
+    /// Two of place.
+    XY,
+    /// Two of place and a height.
+    XYZ,
+    /// Two of place and a measure.
+    XYM,
+    /// Two of place, a height and a measure.
+    XYZM,
+}
+
+impl Dimension {
+    ghost use Rattle.geoarrow_layout.specs.Kinds.{size_of, dimension_name, IsDimension, RefusesDimensions};
+    ghost use Rattle.arrow_values.specs.Errors.{IsGeoMemory};
+
+    /// How many numbers a coordinate has: 2, 3, 3, 4.
+    pub fn size(&self) -> usize
+        ensures { result ≡ size_of self.now }
+    {
+        match self {
+            Dimension::XY => 2,
+            Dimension::XYZ => 3,
+            Dimension::XYM => 3,
+            Dimension::XYZM => 4,
+        }
+    }
+
+    /// The dimension that those dimensions are: the one of that name, and for 2, 3 and 4 of no known meaning XY, XYZ
+    /// and XYZM; takes no memory then. Errs, as `InvalidGeoArrow`, where they are some other number of no known
+    /// meaning.
+    pub fn try_from_dimensions(alloc: Global, dimensions: Dimensions) -> GeoArrowResult<Dimension>
+        ensures exact { (d : Dimension) → (result ≡ Ok d) ↔ IsDimension dimensions d }
+        ensures refusal { IfErr result (λ e. IsGeoMemory e ⊎ RefusesDimensions dimensions e) }
+    {
+        match dimensions {
+            Dimensions::Xy | Dimensions::Unknown(2) => Ok(Dimension::XY),
+            Dimensions::Xyz | Dimensions::Unknown(3) => Ok(Dimension::XYZ),
+            Dimensions::Xym => Ok(Dimension::XYM),
+            Dimensions::Xyzm | Dimensions::Unknown(4) => Ok(Dimension::XYZM),
+            Dimensions::Unknown(n) => Err(GeoArrowError::InvalidGeoArrow(format!(in alloc;
+                "Unsupported dimension Unknown({n})"
+            )?)),
+        }
+    }
+
+    /// The variant's name.
+    fn name(self) -> &'static str
+        ensures { result.now ≡ dimension_name self }
+    {
+        match self {
+            Dimension::XY => "XY",
+            Dimension::XYZ => "XYZ",
+            Dimension::XYM => "XYM",
+            Dimension::XYZM => "XYZM",
+        }
+    }
+}
+
+impl fmt::Display for Dimension {
+    ghost use Rattle.std.specs.Prelude.{Some};
+    ghost use Rattle.geoarrow_layout.specs.Kinds.{dimension_name};
+
+    ghost output = { λ d. Some (dimension_name d) };
+
+    fn fmt<W: fmt::Write>(&self, f: &mut fmt::Formatter<W>) -> fmt::Result {
+        f.write_str(self.name())
+    }
+}
+
+impl From<Dimension> for Dimensions {
+    ghost use Rattle.std.specs.Prelude.{◌≡◌};
+    ghost use Rattle.geoarrow_layout.specs.Kinds.{dimensions_of};
+
+    ghost from_gives = { λ d e. e ≡ dimensions_of d };
+
+    fn from(dimension: Dimension) -> Dimensions {
+        match dimension {
+            Dimension::XY => Dimensions::Xy,
+            Dimension::XYZ => Dimensions::Xyz,
+            Dimension::XYM => Dimensions::Xym,
+            Dimension::XYZM => Dimensions::Xyzm,
+        }
+    }
+}
