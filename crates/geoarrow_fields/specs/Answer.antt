@@ -1,5 +1,5 @@
 -- What is answered to a line.
-use Rattle.std.specs.Prelude.{◌≡◌, ◌⊎◌, List, [], ◌∷◌, ◌++◌, Bool, false, IsTrue, IsFalse, Option, Some, None, is_none, ◌&&◌, MatchOption, codes}
+use Rattle.std.specs.Prelude.{◌≡◌, ◌⊎◌, List, [], ◌∷◌, ◌++◌, Bool, false, IsTrue, IsFalse, Some, None, MatchOption, codes}
 use Rattle.std.specs.List.{list_any}
 use Rattle.std.specs.Option.{option_map_or}
 use Rattle.std.specs.Str.{bytes_eq}
@@ -20,8 +20,8 @@ use Rattle.geoarrow_fields.specs.Lines.{Bytes}
 abbrev pub geoarrow_names : List Bytes
 geoarrow_names =
     codes "geoarrow.point" ∷ codes "geoarrow.linestring" ∷ codes "geoarrow.polygon" ∷ codes "geoarrow.multipoint" ∷ codes "geoarrow.multilinestring"
-        ∷ codes "geoarrow.multipolygon" ∷ codes "geoarrow.geometrycollection" ∷ codes "geoarrow.box" ∷ codes "geoarrow.geometry" ∷ codes "geoarrow.wkb"
-        ∷ codes "geoarrow.wkt" ∷ []
+    ∷ codes "geoarrow.multipolygon" ∷ codes "geoarrow.geometrycollection" ∷ codes "geoarrow.box" ∷ codes "geoarrow.geometry" ∷ codes "geoarrow.wkb"
+    ∷ codes "geoarrow.wkt" ∷ []
 
 abbrev pub is_geoarrow_name : Bytes → Bool
 is_geoarrow_name name = list_any (bytes_eq name) geoarrow_names
