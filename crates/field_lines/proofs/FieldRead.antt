@@ -41,18 +41,6 @@ of_object (object es) ms is =
     ap (λ o. field_from (name_at es) (nullable_at es) o (metadata_at es)) (type_in-get es)
     ∙ ap (λ l. field_from (name_at l) (nullable_at l) (under type_of_value (codes "type") l) (metadata_at l)) same
 
-pub no_object : (d : Data) → None ≡ as_object d → None ≡ field_of_value d
-no_object null is = refl
-no_object (boolean b) is = refl
-no_object (number n) is = refl
-no_object (string s) is = refl
-no_object (array ds) is = refl
-no_object (object es) is = cc
-
-no_nullable_from : (n : Option Text) (t : Option Tree) (m : Option Metadata) → None ≡ field_from n None t m
-no_nullable_from None t m = refl
-no_nullable_from (Some n) t m = refl
-
 no_tree_from : (n : Option Text) (b : Option Bool) (m : Option Metadata) → None ≡ field_from n b None m
 no_tree_from None b m = refl
 no_tree_from (Some n) None m = refl
@@ -65,13 +53,6 @@ no_metadata_from (Some n) (Some b) None = refl
 no_metadata_from (Some n) (Some b) (Some t) = refl
 
 module _ (d : Data) (ms : Members) (object_is : Some ms ≡ as_object d) where
-  pub lacks_name : None ≡ name_at ms → None ≡ field_of_value d
-  lacks_name is = ap (λ o. field_from o (nullable_at ms) (under type_of_value (codes "type") ms) (metadata_at ms)) is ∙ sym (of_object d ms object_is)
-
-  pub lacks_nullable : None ≡ nullable_at ms → None ≡ field_of_value d
-  lacks_nullable is =
-      no_nullable_from (name_at ms) (under type_of_value (codes "type") ms) (metadata_at ms) ∙ ap (λ o. field_from (name_at ms) o (under type_of_value (codes "type") ms) (metadata_at ms)) is ∙ sym (of_object d ms object_is)
-
   lacks_tree : None ≡ under type_of_value (codes "type") ms → None ≡ field_of_value d
   lacks_tree is = no_tree_from (name_at ms) (nullable_at ms) (metadata_at ms) ∙ ap (λ o. field_from (name_at ms) (nullable_at ms) o (metadata_at ms)) is ∙ sym (of_object d ms object_is)
 

@@ -1,6 +1,6 @@
-pub mod Members
 pub mod LastEntry
 pub mod TextsRead
+pub mod PartsRead
 pub mod Depths
 pub mod FieldRead
 pub mod TypeRead

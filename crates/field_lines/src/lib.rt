@@ -9,6 +9,7 @@
 
 mod line;
 mod names;
+mod parts;
 mod read;
 mod write;
 

@@ -13,19 +13,11 @@ ghost use Rattle.field_lines.specs.FieldOfValue.{under, size_of_value, id_of_val
 ghost use Rattle.field_lines.specs.Steps.{AreMemberParts};
 
 use crate::names::{mode_named, plain_named};
+use crate::parts::{Parts, parts_of};
 use arrow_values::{ArrowError, DataType, Field, Fields, UnionFields, UnionMode};
 use serde_json::{Map, Value};
 use std::alloc::{AllocError, Global};
 use std::collections::BTreeMap;
-
-/// Takes what stands at a key out of an object.
-fn take(members: &mut Map<String, Value>, key: &str) -> Option<Value>
-    ensures value { option_map view result ≡ get_member key.now (members_view members.old.entries) }
-    ensures others { (q : Text) → bytes_eq key.now q ≡ false
-        → get_member q (members_view members.new.entries) ≡ get_member q (members_view members.old.entries) }
-{
-    members.remove(key)
-}
 
 /// The text that a value is.
 fn text_of(value: Value) -> Option<String>
@@ -57,22 +49,18 @@ fn items_of(value: Value) -> Option<Vec<Value>>
     }
 }
 
-/// Takes the text that stands at a key.
-fn take_text(members: &mut Map<String, Value>, key: &str) -> Option<String>
-    ensures value { option_map string_bytes result ≡ under as_str key.now (members_view members.old.entries) }
-    ensures others { (q : Text) → bytes_eq key.now q ≡ false
-        → get_member q (members_view members.new.entries) ≡ get_member q (members_view members.old.entries) }
+/// The text that a value is, where there is one.
+fn text_at(value: Option<Value>) -> Option<String>
+    ensures { option_map string_bytes result ≡ option_and_then as_str (option_map view value) }
 {
-    text_of(take(members, key)?)
+    text_of(value?)
 }
 
-/// Takes the truth value that stands at a key.
-fn take_bool(members: &mut Map<String, Value>, key: &str) -> Option<bool>
-    ensures value { result ≡ under as_bool key.now (members_view members.old.entries) }
-    ensures others { (q : Text) → bytes_eq key.now q ≡ false
-        → get_member q (members_view members.new.entries) ≡ get_member q (members_view members.old.entries) }
+/// The truth value that a value is, where there is one.
+fn bool_at(value: Option<Value>) -> Option<bool>
+    ensures { result ≡ option_and_then as_bool (option_map view value) }
 {
-    match take(members, key) {
+    match value {
         Some(Value::Bool(truth)) => Some(truth),
         _ => None,
     }
@@ -164,22 +152,28 @@ fn pair_of(value: Value) -> Option<(Value, Value)>
 pub fn read_field(alloc: Global, value: Value) -> Result<Option<Field>, AllocError>
     ensures { IfOk result (λ o. o ≡ field_of_value (view value)) }
 {
-    let Some(mut members) = object_of(value) else {
+    let Some(members) = object_of(value) else {
         return Ok(None);
     };
-    let Some(name) = take_text(&mut members, "name") else {
+    let Parts {
+        name,
+        nullable,
+        data_type,
+        metadata,
+    } = parts_of(members);
+    let Some(name) = text_at(name) else {
         return Ok(None);
     };
-    let Some(nullable) = take_bool(&mut members, "nullable") else {
+    let Some(nullable) = bool_at(nullable) else {
         return Ok(None);
     };
-    let Some(value) = take(&mut members, "type") else {
+    let Some(value) = data_type else {
         return Ok(None);
     };
     let Some(data_type) = read_type(alloc, value)? else {
         return Ok(None);
     };
-    let Some(metadata) = read_metadata(alloc, take(&mut members, "metadata"))? else {
+    let Some(metadata) = read_metadata(alloc, metadata)? else {
         return Ok(None);
     };
     Ok(Some(Field::from_parts(name, data_type, nullable, metadata)))

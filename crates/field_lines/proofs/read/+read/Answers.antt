@@ -1,4 +1,4 @@
-use Rattle.std.proofs.Common.{◌≡◌, ap, sym, subst, ◌∙◌, arith, codes, refl, length, option_and_then, option_map, IfOk, Some, true≢false, rules}
+use Rattle.std.proofs.Common.{◌≡◌, ap, sym, subst, ◌∙◌, arith, codes, length, option_and_then, option_map, IfOk, Some, true≢false, rules}
 use Rattle.std.proofs.lemmas.Int.{to_z-of_z}
 use Rattle.std.specs.Vec.Iter.{into_iter_items}
 use Rattle.std.proofs.lemmas.List.{nil_from_length}
@@ -6,7 +6,7 @@ use Rattle.serde_json.specs.Data.{Members, object}
 use Rattle.arrow_values.specs.Tree.{struct}
 use Rattle.arrow_values.specs.View.{tree, field_trees}
 use Rattle.serde_json.specs.View.{view, members_view}
-use Rattle.serde_json.specs.Find.{as_bool}
+use Rattle.serde_json.specs.Find.{as_str, as_bool}
 use Rattle.field_lines.specs.FieldOfValue.{metadata_of_value, type_of_value}
 use Rattle.field_lines.proofs.Depths.{falls_member, falls_object}
 use Rattle.field_lines.proofs.FieldRead.{lacks_type, no_type, no_metadata, is_field}
@@ -14,35 +14,33 @@ use Rattle.field_lines.proofs.TypeRead.{many_keys, at_one, id_in_range}
 use Rattle.field_lines.proofs.LoopsRead.{fields_go_on, fields_end, ends_without_field, members_go_on, members_end}
 use Rattle.field_lines.proofs.read.+read.Goals as goal
 
-pub read_field-returns-in_default-take : goal.read_field-returns-in_default-take
-read_field-returns-in_default-take t c =
-    lacks_type (view c.args.value) (members_view c.in-Some.members.entries) c.in-Some.ensures
-    (c.in_default-take.ensures.value ∙ c.in-Some-take_bool.ensures.others (codes "type") refl ∙ c.in-Some-take_text.ensures.others (codes "type") refl)
+pub read_field-returns-in_default-data_type : goal.read_field-returns-in_default-data_type
+read_field-returns-in_default-data_type t c =
+    lacks_type (view c.args.value) (members_view c.in-Some.members.entries) c.in-Some.ensures (ap (option_map view) (sym c.in_default-data_type.is) ∙ c.parts_of-name.ensures.data_type)
 
 pub read_field-read_type-requires : goal.read_field-read_type-requires
 read_field-read_type-requires t c =
     let low = falls_object (view c.args.value) (members_view c.in-Some.members.entries) c.in-Some.ensures in
-    let at = c.in-Some-take.ensures.value ∙ c.in-Some-take_bool.ensures.others (codes "type") refl ∙ c.in-Some-take_text.ensures.others (codes "type") refl in
-    let inside = falls_member (codes "type") (members_view c.in-Some.members.entries) (view c.in-Some-take.value) at in (omega arith, tt)
+    let at = ap (option_map view) (sym c.in-Some-data_type.is) ∙ c.parts_of-name.ensures.data_type in
+    let inside = falls_member (codes "type") (members_view c.in-Some.members.entries) (view c.in-Some-data_type.value) at in (omega arith, tt)
 
 pub read_field-returns-in_default-2 : goal.read_field-returns-in_default-2
 read_field-returns-in_default-2 t c =
-    let at = c.in-Some-take.ensures.value ∙ c.in-Some-take_bool.ensures.others (codes "type") refl ∙ c.in-Some-take_text.ensures.others (codes "type") refl in
-    no_type (view c.args.value) (members_view c.in-Some.members.entries) c.in-Some.ensures (view c.in-Some-take.value) at (rw c.in_default-2.is at c.in_ok-data_type.ensures)
+    no_type (view c.args.value) (members_view c.in-Some.members.entries) c.in-Some.ensures (view c.in-Some-data_type.value)
+    (ap (option_map view) (sym c.in-Some-data_type.is) ∙ c.parts_of-name.ensures.data_type) (rw c.in_default-2.is at c.in_ok-data_type.ensures)
 
 pub read_field-returns-in_default-3 : goal.read_field-returns-in_default-3
 read_field-returns-in_default-3 t c =
-    let texts = ap metadata_of_value (c.take-2.ensures.value ∙ c.in-Some-take.ensures.others (codes "metadata") refl ∙ c.in-Some-take_bool.ensures.others (codes "metadata") refl ∙ c.in-Some-take_text.ensures.others (codes "metadata") refl) in
-    no_metadata (view c.args.value) (members_view c.in-Some.members.entries) c.in-Some.ensures ((rw c.in_default-3.is at c.in_ok-metadata.ensures) ∙ texts)
+    no_metadata (view c.args.value) (members_view c.in-Some.members.entries) c.in-Some.ensures
+    ((rw c.in_default-3.is at c.in_ok-metadata.ensures) ∙ ap metadata_of_value c.parts_of-name.ensures.metadata)
 
 pub read_field-returns : goal.read_field-returns
 read_field-returns t c =
-    let texts = ap metadata_of_value (c.take-2.ensures.value ∙ c.in-Some-take.ensures.others (codes "metadata") refl ∙ c.in-Some-take_bool.ensures.others (codes "metadata") refl ∙ c.in-Some-take_text.ensures.others (codes "metadata") refl) in
-    let at = c.in-Some-take.ensures.value ∙ c.in-Some-take_bool.ensures.others (codes "type") refl ∙ c.in-Some-take_text.ensures.others (codes "type") refl in
     ap Some c.from_parts.ensures
-    ∙ is_field (view c.args.value) (members_view c.in-Some.members.entries) c.in-Some.ensures _ _ (view c.in-Some-take.value) _ _ c.in-Some-take_text.ensures.value
-    (c.in-Some-take_bool.ensures.value ∙ ap (option_and_then as_bool) (c.in-Some-take_text.ensures.others (codes "nullable") refl)) at
-    (rw c.in-Some-2.is at c.in_ok-data_type.ensures) ((rw c.in-Some-3.is at c.in_ok-metadata.ensures) ∙ texts)
+    ∙ is_field (view c.args.value) (members_view c.in-Some.members.entries) c.in-Some.ensures _ _ (view c.in-Some-data_type.value) _ _
+    (c.in-Some-text_at.ensures ∙ ap (option_and_then as_str) c.parts_of-name.ensures.name) (c.in-Some-bool_at.ensures ∙ ap (option_and_then as_bool) c.parts_of-name.ensures.nullable)
+    (ap (option_map view) (sym c.in-Some-data_type.is) ∙ c.parts_of-name.ensures.data_type)
+    (rw c.in-Some-2.is at c.in_ok-data_type.ensures) ((rw c.in-Some-3.is at c.in_ok-metadata.ensures) ∙ ap metadata_of_value c.parts_of-name.ensures.metadata)
 
 pub read_keys-returns-in_default-pop_first : goal.read_keys-returns-in_default-pop_first
 read_keys-returns-in_default-pop_first t c =
