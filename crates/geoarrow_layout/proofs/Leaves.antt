@@ -123,7 +123,7 @@ separated_same names XYZM XYZ h k = absurd (omega (arith, k.0))
 separated_same names XYZM XYM h k = absurd (omega (arith, k.0))
 
 -- texts that differ by a test that computes
-apart : (x y : Text) → bytes_eq x y ≡ false → x ≡ y → ⊥
+pub apart : (x y : Text) → bytes_eq x y ≡ false → x ≡ y → ⊥
 apart x y e h = let f : bytes_eq x y ≡ true = (bytes_eq-Decides x y).1 h in cc
 
 pub interleaved_same : (d e : Dimension) → interleaved_name d ≡ interleaved_name e → d ≡ e

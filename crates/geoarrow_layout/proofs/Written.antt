@@ -1,11 +1,22 @@
 -- What is written is read as what it was written for.
-use Rattle.std.proofs.Common.{refl}
+use Rattle.std.proofs.Common.{◌≡◌, ℤ, List, [], ◌∷◌, ◌++◌, Bool, true, false, inl, inr, refl}
+use Rattle.arrow_values.specs.Tree.{Tree, Members}
+use Rattle.arrow_values.specs.View.{member_trees}
+use Rattle.arrow_values.specs.Union.{HasTypeIds}
 use Rattle.geoarrow_layout.specs.declared.kinds.CoordType.{CoordType}
 use Rattle.geoarrow_layout.specs.declared.kinds.CoordType.TheVariants.{Interleaved, Separated}
 use Rattle.geoarrow_layout.specs.declared.kinds.Dimension.{Dimension}
 use Rattle.geoarrow_layout.specs.declared.kinds.Dimension.TheVariants.{XY, XYZ, XYM, XYZM}
-use Rattle.geoarrow_layout.specs.Shapes.{Leaf, SameNames}
-use Rattle.geoarrow_layout.specs.Layouts.{leaf_layout}
+use Rattle.geoarrow_layout.specs.declared.summary.ListWidth.TheVariants.{List as Lists}
+use Rattle.geoarrow_layout.specs.declared.encodings.NativeKind.{NativeKind}
+use Rattle.geoarrow_layout.specs.declared.encodings.NativeKind.TheVariants.{Point, LineString, Polygon, MultiPoint, MultiLineString, MultiPolygon, GeometryCollection}
+use Rattle.geoarrow_layout.specs.declared.encodings.Width.TheVariants.{Plain, Large, View}
+use Rattle.geoarrow_layout.specs.declared.encodings.Kind.{Kind}
+use Rattle.geoarrow_layout.specs.declared.encodings.Kind.TheVariants.{Native as OfNative, Geometry as OfGeometry, Rect as OfRect, Wkb as OfWkb, Wkt as OfWkt}
+use Rattle.geoarrow_layout.specs.Kinds.{name_of}
+use Rattle.geoarrow_layout.specs.Shapes.{Leaf, SameNames, Id, Member, AllMembers, Mixed, Collection, GeometryMember, Geometry, BoxShape, Accepted, Accepts}
+use Rattle.geoarrow_layout.specs.Layouts.{leaf_layout, member_layout, mixed_members, mixed_layout, native_layout, dimension_members, geometry_members, geometry_layout, box_layout, layout, IsWritten, IsWrittenSome}
+use Rattle.geoarrow_layout.proofs.UnionSteps.{all_map}
 
 pub written_leaf : (c : CoordType) (d : Dimension) → Leaf (leaf_layout c d) c d
 unfolding SameNames
@@ -14,3 +25,97 @@ written_leaf Separated XY = refl
 written_leaf Separated XYZ = (refl, λ n. refl)
 written_leaf Separated XYM = (refl, λ n. refl)
 written_leaf Separated XYZM = refl
+
+-- the members in a collection
+written_mixed : (c : CoordType) (d : Dimension) → AllMembers (λ i t. Member i t c d) (member_trees (mixed_members c d))
+written_mixed c d = (
+  (Point, refl, (leaf_layout c d, (Lists, refl), written_leaf c d)),
+  (
+    (LineString, refl, (leaf_layout c d, (Lists, refl), written_leaf c d)),
+    (
+      (Polygon, refl, (leaf_layout c d, (Lists, refl), written_leaf c d)),
+      (
+        (MultiPoint, refl, (leaf_layout c d, (Lists, refl), written_leaf c d)),
+        (
+          (MultiLineString, refl, (leaf_layout c d, (Lists, refl), written_leaf c d)),
+          (
+            (MultiPolygon, refl, (leaf_layout c d, (Lists, refl), written_leaf c d)),
+            tt,
+          ),
+        ),
+      ),
+    ),
+  ),
+)
+
+written_collection : (c : CoordType) (d : Dimension) → Collection (native_layout GeometryCollection c d) c d
+written_collection c d = (mixed_layout c d, (Lists, refl), (tt, written_mixed c d))
+
+-- the members of a union of geometries
+all_append : (P : ℤ → Tree → Type 0) (xs ys : Members) → AllMembers P (member_trees xs) → AllMembers P (member_trees ys) → AllMembers P (member_trees (xs ++ ys))
+all_append P [] ys h k = k
+all_append P (x ∷ xs) ys h k = (h.0, all_append P xs ys h.1 k)
+
+-- what holds of the members of each dimension
+all_dimensions : (P : ℤ → Tree → Type 0) (c : CoordType) → ((d : Dimension) → AllMembers P (member_trees (dimension_members c d))) → AllMembers P (member_trees (geometry_members c))
+all_dimensions P c h =
+    all_append P (dimension_members c XY ++ dimension_members c XYZ ++ dimension_members c XYM) (dimension_members c XYZM)
+    (all_append P (dimension_members c XY ++ dimension_members c XYZ) (dimension_members c XYM)
+    (all_append P (dimension_members c XY) (dimension_members c XYZ) (h XY) (h XYZ)) (h XYM)) (h XYZM)
+
+written_dimension : (c : CoordType) (d : Dimension) → AllMembers (GeometryMember c) (member_trees (dimension_members c d))
+written_dimension c d =
+    all_append (GeometryMember c) (mixed_members c d) (member_layout GeometryCollection d (native_layout GeometryCollection c d) ∷ [])
+    (all_map (λ i t. Member i t c d) (GeometryMember c) (λ i t m. (d, inl m)) (member_trees (mixed_members c d)) (written_mixed c d))
+    ((d, inr (refl, written_collection c d)), tt)
+
+written_geometry : (c : CoordType) → Geometry (geometry_layout c) c
+written_geometry c = (tt, all_dimensions (GeometryMember c) c (written_dimension c))
+
+written_box : (d : Dimension) → BoxShape (box_layout d) d
+written_box XY = refl
+written_box XYZ = (refl, λ h. let bad : false ≡ true = h.0 in cc, (refl, refl))
+written_box XYM = (refl, (refl, refl))
+written_box XYZM = refl
+
+written : (k : Kind) → Accepted k (layout k)
+written (OfNative Point c d) = (leaf_layout c d, (Lists, refl), written_leaf c d)
+written (OfNative LineString c d) = (leaf_layout c d, (Lists, refl), written_leaf c d)
+written (OfNative Polygon c d) = (leaf_layout c d, (Lists, refl), written_leaf c d)
+written (OfNative MultiPoint c d) = (leaf_layout c d, (Lists, refl), written_leaf c d)
+written (OfNative MultiLineString c d) = (leaf_layout c d, (Lists, refl), written_leaf c d)
+written (OfNative MultiPolygon c d) = (leaf_layout c d, (Lists, refl), written_leaf c d)
+written (OfNative GeometryCollection c d) = written_collection c d
+written (OfGeometry c) = written_geometry c
+written (OfRect d) = written_box d
+written (OfWkb Plain) = refl
+written (OfWkb Large) = refl
+written (OfWkb View) = refl
+written (OfWkt Plain) = refl
+written (OfWkt Large) = refl
+written (OfWkt View) = refl
+
+pub written_accepted : (k : Kind) → Accepts (name_of k) (layout k) k
+written_accepted k = (refl, written k)
+
+-- the ids of written members
+pub mixed_ids : (c : CoordType) (d : Dimension) → HasTypeIds (mixed_members c d)
+mixed_ids c XY = refl
+mixed_ids c XYZ = refl
+mixed_ids c XYM = refl
+mixed_ids c XYZM = refl
+
+pub geometry_ids : (c : CoordType) → HasTypeIds (geometry_members c)
+geometry_ids c = refl
+
+pub mixed_written : (c : CoordType) (d : Dimension) → AllMembers (IsWritten c d) (member_trees (mixed_members c d))
+mixed_written c d = ((Point, refl, refl), ((LineString, refl, refl), ((Polygon, refl, refl), ((MultiPoint, refl, refl), ((MultiLineString, refl, refl), ((MultiPolygon, refl, refl), tt))))))
+
+dimension_written : (c : CoordType) (d : Dimension) → AllMembers (IsWrittenSome c) (member_trees (dimension_members c d))
+dimension_written c d =
+    all_append (IsWrittenSome c) (mixed_members c d) (member_layout GeometryCollection d (native_layout GeometryCollection c d) ∷ [])
+    (all_map (IsWritten c d) (IsWrittenSome c) (λ i t m. (d, m)) (member_trees (mixed_members c d)) (mixed_written c d))
+    ((d, (GeometryCollection, refl, refl)), tt)
+
+pub geometry_written : (c : CoordType) → AllMembers (IsWrittenSome c) (member_trees (geometry_members c))
+geometry_written c = all_dimensions (IsWrittenSome c) c (dimension_written c)

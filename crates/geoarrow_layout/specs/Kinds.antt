@@ -1,13 +1,19 @@
--- What a layout has: the tables of coordinate types and dimensions.
-use Rattle.std.specs.Prelude.{◌≡◌, ℕ, ◌++◌, codes, string_bytes}
+-- What a layout has: the tables of coordinate types, dimensions and kinds.
+use Rattle.std.specs.Prelude.{◌≡◌, ℕ, ◌+◌, ◌*◌, ◌++◌, Option, Some, None, codes, string_bytes}
 use Rattle.std.specs.Fmt.{decimal}
 use Rattle.arrow_values.specs.Tree.{Text}
 use Rattle.arrow_values.specs.declared.coordinates.Dimensions.{Dimensions}
 use Rattle.arrow_values.specs.declared.coordinates.Dimensions.TheVariants.{Xy, Xyz, Xym, Xyzm, Unknown}
 use Rattle.arrow_values.specs.declared.error.GeoArrowError.{GeoArrowError}
 use Rattle.arrow_values.specs.declared.error.GeoArrowError.TheVariants.{InvalidGeoArrow}
+use Rattle.geoarrow_layout.specs.declared.kinds.CoordType.{CoordType}
+use Rattle.geoarrow_layout.specs.declared.kinds.CoordType.TheVariants.{Separated}
 use Rattle.geoarrow_layout.specs.declared.kinds.Dimension.{Dimension}
 use Rattle.geoarrow_layout.specs.declared.kinds.Dimension.TheVariants.{XY, XYZ, XYM, XYZM}
+use Rattle.geoarrow_layout.specs.declared.encodings.NativeKind.{NativeKind}
+use Rattle.geoarrow_layout.specs.declared.encodings.NativeKind.TheVariants.{Point, LineString, Polygon, MultiPoint, MultiLineString, MultiPolygon, GeometryCollection}
+use Rattle.geoarrow_layout.specs.declared.encodings.Kind.{Kind}
+use Rattle.geoarrow_layout.specs.declared.encodings.Kind.TheVariants.{Native, Geometry, Rect, Wkb, Wkt}
 
 -- how many numbers a coordinate has
 abbrev pub size_of : Dimension → ℕ
@@ -52,3 +58,70 @@ IsDimension (Unknown n) XYZM = n ≡ 4
 abbrev pub RefusesDimensions : Dimensions → GeoArrowError → Type 0
 RefusesDimensions (Unknown n) (InvalidGeoArrow message) = string_bytes message ≡ codes "Unsupported dimension Unknown(" ++ decimal n ++ codes ")"
 RefusesDimensions _ _ = ⊥
+
+-- the dimension's place among the four, by which type ids go
+abbrev pub order_of : Dimension → ℕ
+order_of XY = 0
+order_of XYZ = 1
+order_of XYM = 2
+order_of XYZM = 3
+
+-- the type id of a native kind in two dimensions
+abbrev pub offset_of : NativeKind → ℕ
+offset_of Point = 1
+offset_of LineString = 2
+offset_of Polygon = 3
+offset_of MultiPoint = 4
+offset_of MultiLineString = 5
+offset_of MultiPolygon = 6
+offset_of GeometryCollection = 7
+
+-- the type id of a native kind
+abbrev pub type_id_of : NativeKind → Dimension → ℕ
+type_id_of k d = 10 * order_of d + offset_of k
+
+-- the extension names
+abbrev pub native_name : NativeKind → Text
+native_name Point = codes "geoarrow.point"
+native_name LineString = codes "geoarrow.linestring"
+native_name Polygon = codes "geoarrow.polygon"
+native_name MultiPoint = codes "geoarrow.multipoint"
+native_name MultiLineString = codes "geoarrow.multilinestring"
+native_name MultiPolygon = codes "geoarrow.multipolygon"
+native_name GeometryCollection = codes "geoarrow.geometrycollection"
+
+abbrev pub geometry_name : Text
+geometry_name = codes "geoarrow.geometry"
+
+abbrev pub box_name : Text
+box_name = codes "geoarrow.box"
+
+abbrev pub wkb_name : Text
+wkb_name = codes "geoarrow.wkb"
+
+abbrev pub wkt_name : Text
+wkt_name = codes "geoarrow.wkt"
+
+-- the extension name of a kind
+abbrev pub name_of : Kind → Text
+name_of (Native k c d) = native_name k
+name_of (Geometry c) = geometry_name
+name_of (Rect d) = box_name
+name_of (Wkb w) = wkb_name
+name_of (Wkt w) = wkt_name
+
+-- the coordinate type of a kind; a box has its ordinates in fields of their own
+abbrev pub coord_type_of : Kind → Option CoordType
+coord_type_of (Native k c d) = Some c
+coord_type_of (Geometry c) = Some c
+coord_type_of (Rect d) = Some Separated
+coord_type_of (Wkb w) = None
+coord_type_of (Wkt w) = None
+
+-- the dimension of a kind, where its columns have one
+abbrev pub dimension_of : Kind → Option Dimension
+dimension_of (Native k c d) = Some d
+dimension_of (Geometry c) = None
+dimension_of (Rect d) = Some d
+dimension_of (Wkb w) = None
+dimension_of (Wkt w) = None

@@ -1,25 +1,147 @@
--- The trees that are written: a table.
-use Rattle.std.specs.Prelude.{pos, false, List, [], ◌∷◌, codes}
-use Rattle.arrow_values.specs.Tree.{Text, Tree, plain, float64, fixed_size_list, struct, FieldTree, field_tree}
-use Rattle.arrow_values.specs.View.{field_trees}
+-- The trees that are written: a table of names, list levels and type ids.
+use Rattle.std.specs.Prelude.{◌≡◌, ℤ, pos, Bool, true, false, List, [], ◌∷◌, ◌++◌, map, codes}
+use Rattle.arrow_values.specs.Tree.{Text, Tree, plain, float64, binary, large_binary, binary_view, utf8, large_utf8, utf8_view, list, fixed_size_list, struct, union, FieldTree, field_tree, Members}
+use Rattle.arrow_values.specs.View.{field_trees, member_trees}
+use Rattle.arrow_values.specs.declared.tree.UnionMode.TheVariants.{Dense}
 use Rattle.geoarrow_layout.specs.declared.kinds.CoordType.{CoordType}
 use Rattle.geoarrow_layout.specs.declared.kinds.CoordType.TheVariants.{Interleaved, Separated}
 use Rattle.geoarrow_layout.specs.declared.kinds.Dimension.{Dimension}
 use Rattle.geoarrow_layout.specs.declared.kinds.Dimension.TheVariants.{XY, XYZ, XYM, XYZM}
-use Rattle.geoarrow_layout.specs.Kinds.{size_of, interleaved_name}
+use Rattle.geoarrow_layout.specs.declared.encodings.NativeKind.{NativeKind}
+use Rattle.geoarrow_layout.specs.declared.encodings.NativeKind.TheVariants.{Point, LineString, Polygon, MultiPoint, MultiLineString, MultiPolygon, GeometryCollection}
+use Rattle.geoarrow_layout.specs.declared.encodings.Width.{Width}
+use Rattle.geoarrow_layout.specs.declared.encodings.Width.TheVariants.{Plain, Large, View}
+use Rattle.geoarrow_layout.specs.declared.encodings.Kind.{Kind}
+use Rattle.geoarrow_layout.specs.declared.encodings.Kind.TheVariants.{Native, Geometry, Rect, Wkb, Wkt}
+use Rattle.geoarrow_layout.specs.Kinds.{size_of, interleaved_name, type_id_of}
+use Rattle.geoarrow_layout.specs.Shapes.{Id}
 
 -- a field of 64-bit floats that is never null
 abbrev pub coordinate : Text → FieldTree
 coordinate name = field_tree name (plain float64) false []
 
--- a field for each dimension
-abbrev pub coordinates : Dimension → List FieldTree
-coordinates XY = coordinate (codes "x") ∷ coordinate (codes "y") ∷ []
-coordinates XYZ = coordinate (codes "x") ∷ coordinate (codes "y") ∷ coordinate (codes "z") ∷ []
-coordinates XYM = coordinate (codes "x") ∷ coordinate (codes "y") ∷ coordinate (codes "m") ∷ []
-coordinates XYZM = coordinate (codes "x") ∷ coordinate (codes "y") ∷ coordinate (codes "z") ∷ coordinate (codes "m") ∷ []
+-- the names of the coordinates
+abbrev pub coordinate_names : Dimension → List Text
+coordinate_names XY = codes "x" ∷ codes "y" ∷ []
+coordinate_names XYZ = codes "x" ∷ codes "y" ∷ codes "z" ∷ []
+coordinate_names XYM = codes "x" ∷ codes "y" ∷ codes "m" ∷ []
+coordinate_names XYZM = codes "x" ∷ codes "y" ∷ codes "z" ∷ codes "m" ∷ []
 
 -- a coordinate
 abbrev pub leaf_layout : CoordType → Dimension → Tree
 leaf_layout Interleaved d = fixed_size_list (interleaved_name d) (plain float64) false [] (pos (size_of d))
-leaf_layout Separated d = struct (field_trees (coordinates d))
+leaf_layout Separated d = struct (field_trees (map coordinate (coordinate_names d)))
+
+-- the names of the list items, from the outermost list
+abbrev pub list_names : NativeKind → List Text
+list_names Point = []
+list_names LineString = codes "vertices" ∷ []
+list_names Polygon = codes "rings" ∷ codes "vertices" ∷ []
+list_names MultiPoint = codes "points" ∷ []
+list_names MultiLineString = codes "linestrings" ∷ codes "vertices" ∷ []
+list_names MultiPolygon = codes "polygons" ∷ codes "rings" ∷ codes "vertices" ∷ []
+list_names GeometryCollection = codes "geometries" ∷ []
+
+-- lists of items of these names, never null
+abbrev pub lists_over : List Text → Tree → Tree
+lists_over [] u = u
+lists_over (name ∷ names) u = list name (lists_over names u) false []
+
+-- the lists of a kind over a coordinate
+abbrev pub over_leaf_layout : NativeKind → CoordType → Dimension → Tree
+over_leaf_layout k c d = lists_over (list_names k) (leaf_layout c d)
+
+-- how a kind is called in the name of a member
+abbrev pub type_name : NativeKind → Text
+type_name Point = codes "Point"
+type_name LineString = codes "LineString"
+type_name Polygon = codes "Polygon"
+type_name MultiPoint = codes "MultiPoint"
+type_name MultiLineString = codes "MultiLineString"
+type_name MultiPolygon = codes "MultiPolygon"
+type_name GeometryCollection = codes "GeometryCollection"
+
+-- what follows it
+abbrev pub dimension_suffix : Dimension → Text
+dimension_suffix XY = []
+dimension_suffix XYZ = codes " Z"
+dimension_suffix XYM = codes " M"
+dimension_suffix XYZM = codes " ZM"
+
+-- a member that holds that tree: its values may be null
+abbrev pub member_field : NativeKind → Dimension → Tree → FieldTree
+member_field k d t = field_tree (type_name k ++ dimension_suffix d) t true []
+
+abbrev pub member_layout : NativeKind → Dimension → Tree → ℤ × FieldTree
+member_layout k d t = (pos (type_id_of k d), member_field k d t)
+
+-- the kinds that a collection holds
+abbrev pub collected_kinds : List NativeKind
+collected_kinds = Point ∷ LineString ∷ Polygon ∷ MultiPoint ∷ MultiLineString ∷ MultiPolygon ∷ []
+
+-- members of these kinds
+abbrev pub members_over : List NativeKind → CoordType → Dimension → Members
+members_over ks c d = map (λ k. member_layout k d (over_leaf_layout k c d)) ks
+
+-- the members of the union in a collection
+abbrev pub mixed_members : CoordType → Dimension → Members
+mixed_members c d = members_over collected_kinds c d
+
+-- the union in a collection
+abbrev pub mixed_layout : CoordType → Dimension → Tree
+mixed_layout c d = union (member_trees (mixed_members c d)) Dense
+
+-- a native kind
+abbrev pub native_layout : NativeKind → CoordType → Dimension → Tree
+native_layout GeometryCollection c d = lists_over (list_names GeometryCollection) (mixed_layout c d)
+native_layout k c d = over_leaf_layout k c d
+
+-- the members of a union of geometries that are of one dimension
+abbrev pub dimension_members : CoordType → Dimension → Members
+dimension_members c d = mixed_members c d ++ (member_layout GeometryCollection d (native_layout GeometryCollection c d) ∷ [])
+
+-- all its members
+abbrev pub geometry_members : CoordType → Members
+geometry_members c = dimension_members c XY ++ dimension_members c XYZ ++ dimension_members c XYM ++ dimension_members c XYZM
+
+-- a union of geometries
+abbrev pub geometry_layout : CoordType → Tree
+geometry_layout c = union (member_trees (geometry_members c)) Dense
+
+-- the names of a box's fields
+abbrev pub box_names : Dimension → List Text
+box_names XY = codes "xmin" ∷ codes "ymin" ∷ codes "xmax" ∷ codes "ymax" ∷ []
+box_names XYZ = codes "xmin" ∷ codes "ymin" ∷ codes "zmin" ∷ codes "xmax" ∷ codes "ymax" ∷ codes "zmax" ∷ []
+box_names XYM = codes "xmin" ∷ codes "ymin" ∷ codes "mmin" ∷ codes "xmax" ∷ codes "ymax" ∷ codes "mmax" ∷ []
+box_names XYZM = codes "xmin" ∷ codes "ymin" ∷ codes "zmin" ∷ codes "mmin" ∷ codes "xmax" ∷ codes "ymax" ∷ codes "zmax" ∷ codes "mmax" ∷ []
+
+-- a box
+abbrev pub box_layout : Dimension → Tree
+box_layout d = struct (field_trees (map coordinate (box_names d)))
+
+-- well-known binary and text
+abbrev pub bytes_layout : Width → Tree
+bytes_layout Plain = plain binary
+bytes_layout Large = plain large_binary
+bytes_layout View = plain binary_view
+
+abbrev pub text_layout : Width → Tree
+text_layout Plain = plain utf8
+text_layout Large = plain large_utf8
+text_layout View = plain utf8_view
+
+-- the tree that is written for a kind
+abbrev pub layout : Kind → Tree
+layout (Native k c d) = native_layout k c d
+layout (Geometry c) = geometry_layout c
+layout (Rect d) = box_layout d
+layout (Wkb w) = bytes_layout w
+layout (Wkt w) = text_layout w
+
+-- a member of that coordinate type and dimension is written: its type id is that of its kind, and so is its tree
+abbrev pub IsWritten : CoordType → Dimension → ℤ → Tree → Type 0
+IsWritten c d i t = (k : NativeKind) × Id i k d × (t ≡ native_layout k c d)
+
+-- the same, in whatever dimension
+abbrev pub IsWrittenSome : CoordType → ℤ → Tree → Type 0
+IsWrittenSome c i t = (d : Dimension) × IsWritten c d i t

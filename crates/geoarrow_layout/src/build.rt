@@ -1,12 +1,17 @@
 //! The data types that are written.
-ghost use Rattle.std.specs.Prelude.{◌≡◌, IfOk, pos};
+ghost use Rattle.std.specs.Prelude.{◌≡◌, ◌++◌, [], false, pos, map, IfOk};
+ghost use Rattle.std.specs.List.{zip};
+ghost use Rattle.arrow_values.specs.Tree.{list};
 ghost use Rattle.arrow_values.specs.View.{tree};
 ghost use Rattle.geoarrow_layout.specs.Kinds.{size_of, interleaved_name};
-ghost use Rattle.geoarrow_layout.specs.Layouts.{coordinate, coordinates, leaf_layout};
+ghost use Rattle.geoarrow_layout.specs.Layouts.{coordinate, coordinate_names, leaf_layout, lists_over, list_names, over_leaf_layout, type_name, dimension_suffix, member_field, members_over, mixed_members, mixed_layout, native_layout, dimension_members, geometry_layout, box_names, box_layout};
 
+use crate::encodings::NativeKind;
+use crate::ids::type_id;
 use crate::kinds::{CoordType, Dimension};
-use arrow_values::{DataType, Field, Fields};
+use arrow_values::{DataType, Field, Fields, UnionFields, UnionMode};
 use std::alloc::{AllocError, Global};
+use std::collections::BTreeMap;
 
 /// The data type of a coordinate, which is also that of a point (GeoArrow, "Coordinate", "Point"): a fixed size list of
 /// `Float64`, or a struct of `Float64` fields. Errs for want of memory alone.
@@ -26,6 +31,61 @@ pub fn coord_data_type(
     }
 }
 
+/// The data type of a native kind (GeoArrow, "Native encoding"): the lists of the kind over a coordinate, and for a
+/// collection a list over the union of `mixed_data_type`. Errs for want of memory alone.
+pub fn list_data_type(
+    alloc: Global,
+    kind: NativeKind,
+    coord_type: CoordType,
+    dimension: Dimension,
+) -> Result<DataType, AllocError>
+    ensures { IfOk result (λ t. tree t ≡ native_layout kind coord_type dimension) }
+{
+    match kind {
+        NativeKind::GeometryCollection => {
+            let members = mixed_data_type(alloc, coord_type, dimension)?;
+            lists_over(alloc, list_names(kind), members)
+        }
+        _ => over_leaf(alloc, kind, coord_type, dimension),
+    }
+}
+
+/// The data type of the union in a collection (GeoArrow, "GeometryCollection"): a member for each of the other native
+/// kinds. Errs for want of memory alone.
+pub fn mixed_data_type(
+    alloc: Global,
+    coord_type: CoordType,
+    dimension: Dimension,
+) -> Result<DataType, AllocError>
+    ensures { IfOk result (λ t. tree t ≡ mixed_layout coord_type dimension) }
+{
+    let members = collected_members(alloc, coord_type, dimension)?;
+    Ok(DataType::Union(members, UnionMode::Dense))
+}
+
+/// The data type of a column of geometries of any kind (GeoArrow, "Geometry"): a union with a member for each native
+/// kind in each dimension. Errs for want of memory alone.
+pub fn geometry_data_type(alloc: Global, coord_type: CoordType) -> Result<DataType, AllocError>
+    ensures { IfOk result (λ t. tree t ≡ geometry_layout coord_type) }
+{
+    let xy = dimension_members(alloc, coord_type, Dimension::XY)?;
+    let xyz = dimension_members(alloc, coord_type, Dimension::XYZ)?;
+    let flat = joined(xy, xyz)?;
+    let xym = dimension_members(alloc, coord_type, Dimension::XYM)?;
+    let three = joined(flat, xym)?;
+    let xyzm = dimension_members(alloc, coord_type, Dimension::XYZM)?;
+    let members = joined(three, xyzm)?;
+    Ok(DataType::Union(members, UnionMode::Dense))
+}
+
+/// The data type of a box (GeoArrow, "Box"): a struct of the least and the greatest value of each dimension. Errs for
+/// want of memory alone.
+pub fn box_data_type(alloc: Global, dimension: Dimension) -> Result<DataType, AllocError>
+    ensures { IfOk result (λ t. tree t ≡ box_layout dimension) }
+{
+    Ok(DataType::Struct(Fields::from(box_fields(alloc, dimension)?)))
+}
+
 /// A field of `Float64` that is never null.
 fn coordinate(alloc: Global, name: &str) -> Result<Field, AllocError>
     ensures { IfOk result (λ f. f ≡ coordinate name.now) }
@@ -33,28 +93,211 @@ fn coordinate(alloc: Global, name: &str) -> Result<Field, AllocError>
     Field::new(alloc, name, DataType::Float64, false)
 }
 
-/// A field for each dimension, in order.
-fn coordinates(alloc: Global, dimension: Dimension) -> Result<Vec<Field>, AllocError>
-    ensures { IfOk result (λ v. v.items ≡ coordinates dimension) }
+/// Such a field of each name.
+fn coordinate_fields(alloc: Global, names: &[&str]) -> Result<Vec<Field>, AllocError>
+    ensures { IfOk result (λ v. v.items ≡ map (λ name. coordinate name.now) names.now) }
 {
     let mut fields = Vec::new(alloc);
-    fields.push(coordinate(alloc, "x")?)?;
-    fields.push(coordinate(alloc, "y")?)?;
+    for name in names {
+        fields.push(coordinate(alloc, name)?)?;
+    }
+    Ok(fields)
+}
+
+/// A field for each dimension, in order.
+fn coordinates(alloc: Global, dimension: Dimension) -> Result<Vec<Field>, AllocError>
+    ensures { IfOk result (λ v. v.items ≡ map coordinate (coordinate_names dimension)) }
+{
     match dimension {
-        Dimension::XY => Ok(fields),
+        Dimension::XY => coordinate_fields(alloc, &["x", "y"]),
+        Dimension::XYZ => coordinate_fields(alloc, &["x", "y", "z"]),
+        Dimension::XYM => coordinate_fields(alloc, &["x", "y", "m"]),
+        Dimension::XYZM => coordinate_fields(alloc, &["x", "y", "z", "m"]),
+    }
+}
+
+/// The fields of a box.
+fn box_fields(alloc: Global, dimension: Dimension) -> Result<Vec<Field>, AllocError>
+    ensures { IfOk result (λ v. v.items ≡ map coordinate (box_names dimension)) }
+{
+    match dimension {
+        Dimension::XY => coordinate_fields(alloc, &["xmin", "ymin", "xmax", "ymax"]),
         Dimension::XYZ => {
-            fields.push(coordinate(alloc, "z")?)?;
-            Ok(fields)
+            coordinate_fields(alloc, &["xmin", "ymin", "zmin", "xmax", "ymax", "zmax"])
         }
         Dimension::XYM => {
-            fields.push(coordinate(alloc, "m")?)?;
-            Ok(fields)
+            coordinate_fields(alloc, &["xmin", "ymin", "mmin", "xmax", "ymax", "mmax"])
         }
         Dimension::XYZM => {
-            fields.push(coordinate(alloc, "z")?)?;
-            fields.push(coordinate(alloc, "m")?)?;
-            Ok(fields)
+            let names = [
+                "xmin", "ymin", "zmin", "mmin", "xmax", "ymax", "zmax", "mmax",
+            ];
+            coordinate_fields(alloc, &names)
         }
+    }
+}
+
+/// A list of items of that name that are never null.
+fn list_over(alloc: Global, name: &str, inner: DataType) -> Result<DataType, AllocError>
+    ensures { IfOk result (λ t. tree t ≡ list name.now (tree inner) false []) }
+{
+    let field = Box::new(alloc, Field::new(alloc, name, inner, false)?)?;
+    Ok(DataType::List(field))
+}
+
+/// Lists of items of these names, the first outermost.
+fn lists_over(alloc: Global, names: &[&str], inner: DataType) -> Result<DataType, AllocError>
+    ensures { IfOk result (λ t. tree t ≡ lists_over (map (λ name. name.now) names.now) (tree inner)) }
+{
+    match names.split_first() {
+        Some((name, rest)) => {
+            let lower = lists_over(alloc, rest, inner)?;
+            list_over(alloc, name, lower)
+        }
+        None => Ok(inner),
+    }
+}
+
+/// The names of the list items of a kind, from the outermost list.
+fn list_names(kind: NativeKind) -> &'static [&'static str]
+    ensures { map (λ name. name.now) result.now ≡ list_names kind }
+{
+    match kind {
+        NativeKind::Point => &[],
+        NativeKind::LineString => &["vertices"],
+        NativeKind::Polygon => &["rings", "vertices"],
+        NativeKind::MultiPoint => &["points"],
+        NativeKind::MultiLineString => &["linestrings", "vertices"],
+        NativeKind::MultiPolygon => &["polygons", "rings", "vertices"],
+        NativeKind::GeometryCollection => &["geometries"],
+    }
+}
+
+/// The lists of a kind over a coordinate.
+fn over_leaf(
+    alloc: Global,
+    kind: NativeKind,
+    coord_type: CoordType,
+    dimension: Dimension,
+) -> Result<DataType, AllocError>
+    ensures { IfOk result (λ t. tree t ≡ over_leaf_layout kind coord_type dimension) }
+{
+    let leaf = coord_data_type(alloc, coord_type, dimension)?;
+    lists_over(alloc, list_names(kind), leaf)
+}
+
+/// The member of a union for a kind in a dimension, which holds that data type.
+fn member_field(
+    alloc: Global,
+    kind: NativeKind,
+    dimension: Dimension,
+    data_type: DataType,
+) -> Result<Field, AllocError>
+    ensures { IfOk result (λ f. f ≡ member_field kind dimension (tree data_type)) }
+{
+    let mut name = String::from_str(alloc, type_name(kind))?;
+    name.push_str(dimension_suffix(dimension))?;
+    Ok(Field::from_parts(name, data_type, true, BTreeMap::new(alloc)))
+}
+
+/// A union of these kinds, each over a coordinate, in one dimension.
+fn members_over(
+    alloc: Global,
+    kinds: &[NativeKind],
+    coord_type: CoordType,
+    dimension: Dimension,
+) -> Result<UnionFields, AllocError>
+    ensures { IfOk result (λ ms. ms ≡ members_over kinds.now coord_type dimension) }
+{
+    let mut ids = Vec::new(alloc);
+    let mut fields = Vec::new(alloc);
+    for kind in kinds {
+        let data_type = over_leaf(alloc, *kind, coord_type, dimension)?;
+        ids.push(type_id(*kind, dimension))?;
+        fields.push(member_field(alloc, *kind, dimension, data_type)?)?;
+    }
+    union_of(alloc, ids, fields)
+}
+
+/// The members of the union in a collection.
+fn collected_members(
+    alloc: Global,
+    coord_type: CoordType,
+    dimension: Dimension,
+) -> Result<UnionFields, AllocError>
+    ensures { IfOk result (λ ms. ms ≡ mixed_members coord_type dimension) }
+{
+    let kinds = [
+        NativeKind::Point,
+        NativeKind::LineString,
+        NativeKind::Polygon,
+        NativeKind::MultiPoint,
+        NativeKind::MultiLineString,
+        NativeKind::MultiPolygon,
+    ];
+    members_over(alloc, &kinds, coord_type, dimension)
+}
+
+/// The members of a union of geometries that are of one dimension.
+fn dimension_members(
+    alloc: Global,
+    coord_type: CoordType,
+    dimension: Dimension,
+) -> Result<UnionFields, AllocError>
+    ensures { IfOk result (λ ms. ms ≡ dimension_members coord_type dimension) }
+{
+    let members = collected_members(alloc, coord_type, dimension)?;
+    let kind = NativeKind::GeometryCollection;
+    let data_type = list_data_type(alloc, kind, coord_type, dimension)?;
+    let mut ids = Vec::new(alloc);
+    ids.push(type_id(kind, dimension))?;
+    let mut fields = Vec::new(alloc);
+    fields.push(member_field(alloc, kind, dimension, data_type)?)?;
+    let last = union_of(alloc, ids, fields)?;
+    joined(members, last)
+}
+
+/// The union of these members, whose ids are known to be distinct, so that only memory can be wanting.
+fn union_of(alloc: Global, ids: Vec<i8>, fields: Vec<Field>) -> Result<UnionFields, AllocError>
+    ensures { IfOk result (λ ms. ms ≡ zip ids.items fields.items) }
+{
+    UnionFields::try_new(alloc, ids, fields).map_err(|_| AllocError)
+}
+
+/// The members of both unions, whose ids are known to be distinct, so that only memory can be wanting.
+fn joined(mut members: UnionFields, last: UnionFields) -> Result<UnionFields, AllocError>
+    ensures { IfOk result (λ ms. ms ≡ members ++ last) }
+{
+    match members.append(last) {
+        Ok(()) => Ok(members),
+        Err(_) => Err(AllocError),
+    }
+}
+
+/// How a kind is called in the name of a member.
+fn type_name(kind: NativeKind) -> &'static str
+    ensures { result.now ≡ type_name kind }
+{
+    match kind {
+        NativeKind::Point => "Point",
+        NativeKind::LineString => "LineString",
+        NativeKind::Polygon => "Polygon",
+        NativeKind::MultiPoint => "MultiPoint",
+        NativeKind::MultiLineString => "MultiLineString",
+        NativeKind::MultiPolygon => "MultiPolygon",
+        NativeKind::GeometryCollection => "GeometryCollection",
+    }
+}
+
+/// What follows it in a dimension.
+fn dimension_suffix(dimension: Dimension) -> &'static str
+    ensures { result.now ≡ dimension_suffix dimension }
+{
+    match dimension {
+        Dimension::XY => "",
+        Dimension::XYZ => " Z",
+        Dimension::XYM => " M",
+        Dimension::XYZM => " ZM",
     }
 }
 

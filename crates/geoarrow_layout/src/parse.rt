@@ -1,88 +1,97 @@
-//! The readers: which layout a data type is.
-ghost use Rattle.std.specs.Prelude.{◌≡◌, pos, IfOk, IfErr};
-ghost use Rattle.std.specs.List.{list_any};
-ghost use Rattle.std.specs.Str.{bytes_eq};
-ghost use Rattle.arrow_values.specs.View.{tree, field_trees};
-ghost use Rattle.geoarrow_layout.specs.Kinds.{interleaved_name};
-ghost use Rattle.geoarrow_layout.specs.Shapes.{Answers, IsSeparatedAs, Leaf, has_name, names_of};
+//! The readers: which layout a data type is. They look at its summary alone, and so never at the nullability, the
+//! metadata and the data types of coordinate fields, at the names of list items and members, at a union's mode or at
+//! the order of its members. None takes memory.
+ghost use Rattle.arrow_values.specs.View.{tree};
+ghost use Rattle.geoarrow_layout.specs.Shapes.{Answers, AnswersOne, Leaf, Native, Mixed, Collection, Geometry, BoxShape};
 
-use crate::build::list_size;
+use crate::encodings::NativeKind;
 use crate::fault::LayoutFault;
 use crate::kinds::{CoordType, Dimension};
-use arrow_values::{DataType, Field};
+use crate::readers::{boxed, collection, geometry, mixed, native};
+use crate::walk::summarize;
+use arrow_values::DataType;
 
 /// Reads a point (GeoArrow, "Coordinate", "Point"): a fixed size list whose inner field's name says the dimension and
 /// whose size is that dimension's, or a struct of two fields, of four, or of three named x, y and z or x, y and m in
-/// any order. Data types and nullability of these fields are never looked at. Takes no memory.
-#[tactic(auto, using(crate::proofs::Leaves::point_steps))]
+/// any order. Errs on any other data type. Takes no memory.
 pub fn parse_point(data_type: &DataType) -> Result<(CoordType, Dimension), LayoutFault>
     ensures { Answers result (Leaf (tree data_type.now)) }
 {
-    match data_type {
-        DataType::FixedSizeList(inner, size) => {
-            let dimension = interleaved_dimension(inner.name())?;
-            if *size == list_size(dimension) {
-                Ok((CoordType::Interleaved, dimension))
-            } else {
-                Err(LayoutFault::BadSize)
-            }
-        }
-        DataType::Struct(fields) => {
-            let dimension = separated_dimension(fields.as_slice())?;
-            Ok((CoordType::Separated, dimension))
-        }
-        _ => Err(LayoutFault::UnexpectedType),
-    }
+    native(NativeKind::Point, &summarize(data_type))
 }
 
-/// The dimension that the inner field of a fixed size list names.
-fn interleaved_dimension(name: &str) -> Result<Dimension, LayoutFault>
-    ensures ok { IfOk result (λ d. name.now ≡ interleaved_name d) }
-    ensures err { IfErr result (λ _. (d : Dimension) → ¬ (name.now ≡ interleaved_name d)) }
+/// Reads a line string (GeoArrow, "LineString"): one list over a coordinate, of either width. Errs on any other data
+/// type. Takes no memory.
+pub fn parse_linestring(data_type: &DataType) -> Result<(CoordType, Dimension), LayoutFault>
+    ensures { Answers result (Native (tree data_type.now) NativeKind.LineString) }
 {
-    match name {
-        "xy" => Ok(Dimension::XY),
-        "xyz" => Ok(Dimension::XYZ),
-        "xym" => Ok(Dimension::XYM),
-        "xyzm" => Ok(Dimension::XYZM),
-        _ => Err(LayoutFault::BadInterleavedName),
-    }
+    native(NativeKind::LineString, &summarize(data_type))
 }
 
-/// The dimension that the fields of a struct say.
-#[tactic(auto, using(crate::proofs::Leaves::leaf_steps))]
-fn separated_dimension(fields: &[Field]) -> Result<Dimension, LayoutFault>
-    ensures ok { IfOk result (λ d. IsSeparatedAs d (names_of (field_trees fields.now))) }
-    ensures err { IfErr result (λ _. (d : Dimension) → ¬ IsSeparatedAs d (names_of (field_trees fields.now))) }
+/// Reads a polygon (GeoArrow, "Polygon"): two lists over a coordinate, both of one width. Errs on any other data type.
+/// Takes no memory.
+pub fn parse_polygon(data_type: &DataType) -> Result<(CoordType, Dimension), LayoutFault>
+    ensures { Answers result (Native (tree data_type.now) NativeKind.Polygon) }
 {
-    match fields.len() {
-        2 => Ok(Dimension::XY),
-        3 => {
-            if !has_name(fields, "x") || !has_name(fields, "y") {
-                Err(LayoutFault::BadFieldNames)
-            } else if has_name(fields, "m") {
-                Ok(Dimension::XYM)
-            } else if has_name(fields, "z") {
-                Ok(Dimension::XYZ)
-            } else {
-                Err(LayoutFault::BadFieldNames)
-            }
-        }
-        4 => Ok(Dimension::XYZM),
-        _ => Err(LayoutFault::BadFieldCount),
-    }
+    native(NativeKind::Polygon, &summarize(data_type))
 }
 
-/// Whether a field has that name.
-fn has_name(fields: &[Field], name: &str) -> bool
-    ensures { result ≡ has_name name.now (names_of (field_trees fields.now)) }
+/// Reads a multipoint (GeoArrow, "MultiPoint"): one list over a coordinate, of either width. Errs on any other data
+/// type. Takes no memory.
+pub fn parse_multipoint(data_type: &DataType) -> Result<(CoordType, Dimension), LayoutFault>
+    ensures { Answers result (Native (tree data_type.now) NativeKind.MultiPoint) }
 {
-    any_named(fields, name)
+    native(NativeKind::MultiPoint, &summarize(data_type))
 }
 
-/// The same, by the fields.
-fn any_named(fields: &[Field], name: &str) -> bool
-    ensures { result ≡ list_any (λ f. bytes_eq f.name name.now) fields.now }
+/// Reads a multilinestring (GeoArrow, "MultiLineString"): two lists over a coordinate, both of one width. Errs on any
+/// other data type. Takes no memory.
+pub fn parse_multilinestring(data_type: &DataType) -> Result<(CoordType, Dimension), LayoutFault>
+    ensures { Answers result (Native (tree data_type.now) NativeKind.MultiLineString) }
 {
-    fields.iter().any(|field| field.name() == name)
+    native(NativeKind::MultiLineString, &summarize(data_type))
+}
+
+/// Reads a multipolygon (GeoArrow, "MultiPolygon"): three lists over a coordinate, all of one width. Errs on any other
+/// data type. Takes no memory.
+pub fn parse_multipolygon(data_type: &DataType) -> Result<(CoordType, Dimension), LayoutFault>
+    ensures { Answers result (Native (tree data_type.now) NativeKind.MultiPolygon) }
+{
+    native(NativeKind::MultiPolygon, &summarize(data_type))
+}
+
+/// Reads the union in a collection (GeoArrow, "GeometryCollection"): a union of at least one member, where each member
+/// is of the kind and the dimension that its type id says, no collection among them, and all are of one coordinate type
+/// and dimension. Errs on any other data type. Takes no memory.
+pub fn parse_mixed(data_type: &DataType) -> Result<(CoordType, Dimension), LayoutFault>
+    ensures { Answers result (Mixed (tree data_type.now)) }
+{
+    mixed(&summarize(data_type))
+}
+
+/// Reads a collection (GeoArrow, "GeometryCollection"): one list, of either width, over a union as `parse_mixed` reads.
+/// Errs on any other data type. Takes no memory.
+pub fn parse_geometry_collection(
+    data_type: &DataType,
+) -> Result<(CoordType, Dimension), LayoutFault>
+    ensures { Answers result (Collection (tree data_type.now)) }
+{
+    collection(&summarize(data_type))
+}
+
+/// Reads geometries of any kind (GeoArrow, "Geometry"): a union of at least one member, where each member is of the
+/// kind and the dimension that its type id says, collections among them, and all are of one coordinate type. Errs on
+/// any other data type. Takes no memory.
+pub fn parse_geometry(data_type: &DataType) -> Result<CoordType, LayoutFault>
+    ensures { AnswersOne result (Geometry (tree data_type.now)) }
+{
+    geometry(&summarize(data_type))
+}
+
+/// Reads a box (GeoArrow, "Box"): a struct of four fields or of eight, or of six among which `mmin` and `mmax` or else
+/// `zmin` and `zmax` are. Errs on any other data type. Takes no memory.
+pub fn parse_box(data_type: &DataType) -> Result<Dimension, LayoutFault>
+    ensures { AnswersOne result (BoxShape (tree data_type.now)) }
+{
+    boxed(&summarize(data_type))
 }

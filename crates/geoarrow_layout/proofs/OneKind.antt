@@ -1,0 +1,88 @@
+-- A name and a tree have one kind at most.
+use Rattle.std.proofs.Common.{◌≡◌, refl, sym, ap, subst, ◌∙◌}
+use Rattle.arrow_values.specs.Tree.{Text, Tree, plain, list, large_list, fixed_size_list, struct, union, no_members, member}
+use Rattle.geoarrow_layout.specs.declared.kinds.CoordType.{CoordType}
+use Rattle.geoarrow_layout.specs.declared.kinds.Dimension.{Dimension}
+use Rattle.geoarrow_layout.specs.declared.encodings.NativeKind.{NativeKind}
+use Rattle.geoarrow_layout.specs.declared.encodings.NativeKind.TheVariants.{Point, LineString, Polygon, MultiPoint, MultiLineString, MultiPolygon, GeometryCollection}
+use Rattle.geoarrow_layout.specs.declared.encodings.Width.{Width}
+use Rattle.geoarrow_layout.specs.declared.encodings.Width.TheVariants.{Plain, Large, View}
+use Rattle.geoarrow_layout.specs.declared.encodings.Kind.{Kind}
+use Rattle.geoarrow_layout.specs.declared.encodings.Kind.TheVariants.{Native as OfNative, Geometry as OfGeometry, Rect as OfRect, Wkb as OfWkb, Wkt as OfWkt}
+use Rattle.geoarrow_layout.specs.Kinds.{native_name, wkb_name, wkt_name, name_of}
+use Rattle.geoarrow_layout.specs.Shapes.{names_of, Native, Geometry, BoxShape, IsBytes, IsText, Accepted, Accepts}
+use Rattle.geoarrow_layout.proofs.Leaves.{apart}
+use Rattle.geoarrow_layout.proofs.Parts.{any_native_same, geometry_part_same}
+use Rattle.geoarrow_layout.proofs.Boxes.{box_same}
+use Rattle.geoarrow_layout.proofs.KindSteps.{names_same, not_geometry, not_box}
+
+geometry_same : (t : Tree) (c b : CoordType) → Geometry t c → Geometry t b → c ≡ b
+geometry_same (union no_members mode) c b h g = absurd h.0
+geometry_same (union (member i n t x m ms) mode) c b h g = (geometry_part_same i t c b h.1.0.0 g.1.0.0 h.1.0.1 g.1.0.1).0
+geometry_same (plain p) c b h g = absurd h
+geometry_same (list n t x m) c b h g = absurd h
+geometry_same (large_list n t x m) c b h g = absurd h
+geometry_same (fixed_size_list n t x m z) c b h g = absurd h
+geometry_same (struct fs) c b h g = absurd h
+
+box_shape_same : (t : Tree) (d e : Dimension) → BoxShape t d → BoxShape t e → d ≡ e
+box_shape_same (struct fs) d e h g = box_same (names_of fs) d e h g
+box_shape_same (plain p) d e h g = absurd h
+box_shape_same (list n t x m) d e h g = absurd h
+box_shape_same (large_list n t x m) d e h g = absurd h
+box_shape_same (fixed_size_list n t x m z) d e h g = absurd h
+box_shape_same (union ms mode) d e h g = absurd h
+
+bytes_same : (w v : Width) (t : Tree) → IsBytes w t → IsBytes v t → w ≡ v
+bytes_same Plain Plain t h g = refl
+bytes_same Large Large t h g = refl
+bytes_same View View t h g = refl
+bytes_same w v t h g = cc
+
+text_same : (w v : Width) (t : Tree) → IsText w t → IsText v t → w ≡ v
+text_same Plain Plain t h g = refl
+text_same Large Large t h g = refl
+text_same View View t h g = refl
+text_same w v t h g = cc
+
+not_wkb : (k : NativeKind) → native_name k ≡ wkb_name → ⊥
+not_wkb Point h = apart _ _ refl h
+not_wkb LineString h = apart _ _ refl h
+not_wkb Polygon h = apart _ _ refl h
+not_wkb MultiPoint h = apart _ _ refl h
+not_wkb MultiLineString h = apart _ _ refl h
+not_wkb MultiPolygon h = apart _ _ refl h
+not_wkb GeometryCollection h = apart _ _ refl h
+
+not_wkt : (k : NativeKind) → native_name k ≡ wkt_name → ⊥
+not_wkt Point h = apart _ _ refl h
+not_wkt LineString h = apart _ _ refl h
+not_wkt Polygon h = apart _ _ refl h
+not_wkt MultiPoint h = apart _ _ refl h
+not_wkt MultiLineString h = apart _ _ refl h
+not_wkt MultiPolygon h = apart _ _ refl h
+not_wkt GeometryCollection h = apart _ _ refl h
+
+native_kinds_same : (t : Tree) (k l : NativeKind) (c b : CoordType) (d e : Dimension) → k ≡ l → Native t k c d → Native t l b e → OfNative k c d ≡ OfNative l b e
+native_kinds_same t k l c b d e same h g =
+    let p = any_native_same l t c b d e (subst (λ x. Native t x c d) same h) g in
+    ap (λ x. OfNative x c d) same ∙ ap (λ x. OfNative l x d) p.0 ∙ ap (λ x. OfNative l b x) p.1
+
+same_kind : (t : Tree) (k l : Kind) → name_of k ≡ name_of l → Accepted k t → Accepted l t → k ≡ l
+same_kind t (OfNative k c d) (OfNative l b e) same h g = native_kinds_same t k l c b d e (names_same k l same) h g
+same_kind t (OfGeometry c) (OfGeometry b) same h g = ap (λ x. OfGeometry x) (geometry_same t c b h g)
+same_kind t (OfRect d) (OfRect e) same h g = ap (λ x. OfRect x) (box_shape_same t d e h g)
+same_kind t (OfWkb w) (OfWkb v) same h g = ap (λ x. OfWkb x) (bytes_same w v t h g)
+same_kind t (OfWkt w) (OfWkt v) same h g = ap (λ x. OfWkt x) (text_same w v t h g)
+same_kind t (OfNative k c d) (OfGeometry b) same h g = absurd (not_geometry k same)
+same_kind t (OfNative k c d) (OfRect e) same h g = absurd (not_box k same)
+same_kind t (OfNative k c d) (OfWkb v) same h g = absurd (not_wkb k same)
+same_kind t (OfNative k c d) (OfWkt v) same h g = absurd (not_wkt k same)
+same_kind t (OfGeometry b) (OfNative k c d) same h g = absurd (not_geometry k (sym same))
+same_kind t (OfRect e) (OfNative k c d) same h g = absurd (not_box k (sym same))
+same_kind t (OfWkb v) (OfNative k c d) same h g = absurd (not_wkb k (sym same))
+same_kind t (OfWkt v) (OfNative k c d) same h g = absurd (not_wkt k (sym same))
+same_kind t k l same h g = absurd (apart _ _ refl same)
+
+pub one_kind : (name : Text) (t : Tree) (k l : Kind) → Accepts name t k → Accepts name t l → k ≡ l
+one_kind name t k l h g = same_kind t k l (sym h.0 ∙ g.0) h.1 g.1

@@ -1,0 +1,48 @@
+-- What a reader answers, in short words.
+use Rattle.std.proofs.Common.{◌≡◌, ◌↔◌, ℤ, Result, Ok, Err, Option, Some, ap, ◌∙◌}
+use Rattle.geoarrow_layout.specs.declared.kinds.CoordType.{CoordType}
+use Rattle.geoarrow_layout.specs.declared.kinds.Dimension.{Dimension}
+use Rattle.geoarrow_layout.specs.declared.fault.LayoutFault.{LayoutFault}
+use Rattle.geoarrow_layout.specs.declared.encodings.NativeKind.{NativeKind}
+use Rattle.geoarrow_layout.specs.Shapes.{Id, Answers}
+
+abbrev pub Answer : Type 0
+Answer = Result (CoordType × Dimension) LayoutFault
+
+-- an answer to one relation is an answer to another that holds at the same pairs
+pub answers_like : (r : Answer) (R S : CoordType → Dimension → Type 0) → ((c : CoordType) (d : Dimension) → R c d → S c d) → ((c : CoordType) (d : Dimension) → S c d → R c d) → Answers r R → Answers r S
+answers_like r R S to from h = λ c d. (λ e. to c d ((h c d).0 e), λ s. (h c d).1 (from c d s))
+
+abbrev pub Parts : Type 0
+Parts = Option (NativeKind × Dimension)
+
+abbrev pub some_parts : NativeKind → Dimension → Parts
+some_parts k d = Some (k, d)
+
+abbrev pub ok_pair : CoordType → Dimension → Answer
+ok_pair c d = Ok (c, d)
+
+abbrev ok_of : CoordType × Dimension → Answer
+ok_of p = Ok p
+
+abbrev pub refused : LayoutFault → Answer
+refused e = Err e
+
+-- the parts of an id
+abbrev pub IsPartsOf : ℤ → Parts → Type 0
+IsPartsOf i r = (k : NativeKind) (d : Dimension) → (r ≡ some_parts k d) ↔ Id i k d
+
+some_same : (p q : NativeKind × Dimension) → Some p ≡ Some q → p ≡ q
+some_same p q h = cc
+
+pub kinds_same : (k l : NativeKind) (d e : Dimension) → some_parts k d ≡ some_parts l e → (k ≡ l) × (d ≡ e)
+kinds_same k l d e h = let p = some_same (k, d) (l, e) h in (ap (λ x. x.0) p, ap (λ x. x.1) p)
+
+ok_same : (p q : CoordType × Dimension) → ok_of p ≡ ok_of q → p ≡ q
+ok_same p q h = cc
+
+pub pairs_same : (c b : CoordType) (d e : Dimension) → ok_pair c d ≡ ok_pair b e → (c ≡ b) × (d ≡ e)
+pairs_same c b d e h = let p = ok_same (c, d) (b, e) h in (ap (λ x. x.0) p, ap (λ x. x.1) p)
+
+pub pairs_from : (c b : CoordType) (d e : Dimension) → c ≡ b → d ≡ e → ok_pair c d ≡ ok_pair b e
+pairs_from c b d e h k = ap (λ x. ok_pair x d) h ∙ ap (λ x. ok_pair b x) k

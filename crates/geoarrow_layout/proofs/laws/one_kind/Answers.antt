@@ -1,0 +1,5 @@
+use Rattle.geoarrow_layout.proofs.OneKind as law
+use Rattle.geoarrow_layout.proofs.laws.one_kind.Goals as goal
+
+pub returns : goal.returns
+returns c = λ name t k l h g. law.one_kind name t k l h g

@@ -1,0 +1,21 @@
+use Rattle.std.proofs.Common.{sym, ◌∙◌, ap, ◌&&◌}
+use Rattle.geoarrow_layout.specs.Summary.{is_float64, place_in, known_names}
+use Rattle.geoarrow_layout.proofs.Leaves.{length-names}
+use Rattle.geoarrow_layout.proofs.FieldSteps.{FieldsSeen, fields_seen_none, fields_seen_more, fields_seen_end}
+use Rattle.geoarrow_layout.proofs.summary.struct_bottom.Goals as goal
+
+pub loop-field-init : goal.loop-field-init
+loop-field-init c = fields_seen_none
+
+pub loop-field-preserved : goal.loop-field-preserved
+loop-field-preserved c =
+    fields_seen_more _ _ _ _ _ _ c.loop-field.field-index c.field-item.result c.loop-field-test.true c.field-item.is
+    (c.name_place.ensures.place ∙ ap (λ n. place_in n known_names) c.name.ensures)
+    c.with_bit_u16-names.ensures
+    (ap (λ b. c.loop-field.all_float64 && b) (c.is_float64-all_float64.ensures ∙ ap is_float64 c.data_type.ensures))
+    c.loop-field.invariant
+
+pub returns : goal.returns
+returns c =
+    let seen = fields_seen_end _ _ _ _ c.loop-field-test.false c.loop-field.invariant in
+    (sym (length-names c.args.fields.now), seen.bits, seen.floats)

@@ -1,0 +1,62 @@
+//! The kind of a column, told from its extension name and a summary of its data type.
+ghost use Rattle.std.specs.Prelude.{◌≡◌};
+ghost use Rattle.arrow_values.specs.Tree.{Tree};
+ghost use Rattle.geoarrow_layout.specs.Kinds.{native_name, geometry_name, box_name};
+ghost use Rattle.geoarrow_layout.specs.Shapes.{AnswersKind};
+ghost use Rattle.geoarrow_layout.specs.Summary.{Summarizes};
+
+use crate::encodings::{Kind, NativeKind};
+use crate::readers::{any_native, boxed, geometry};
+use crate::summary::Summary;
+
+impl Summary {
+    /// The kind of a column of that extension name, whatever data type the summary is of: none where no kind of that
+    /// name has such a data type, and none for well-known binary and text, of which a summary says nothing. Takes no
+    /// memory.
+    pub fn kind(&self, name: &str) -> Option<Kind>
+        ensures { (t : Tree) → Summarizes self.now t → AnswersKind name.now t result }
+    {
+        match name {
+            "geoarrow.point" => native_kind(NativeKind::Point, self),
+            "geoarrow.linestring" => native_kind(NativeKind::LineString, self),
+            "geoarrow.polygon" => native_kind(NativeKind::Polygon, self),
+            "geoarrow.multipoint" => native_kind(NativeKind::MultiPoint, self),
+            "geoarrow.multilinestring" => native_kind(NativeKind::MultiLineString, self),
+            "geoarrow.multipolygon" => native_kind(NativeKind::MultiPolygon, self),
+            "geoarrow.geometrycollection" => native_kind(NativeKind::GeometryCollection, self),
+            "geoarrow.geometry" => geometry_kind(self),
+            "geoarrow.box" => box_kind(self),
+            _ => None,
+        }
+    }
+}
+
+/// The kind under the name of a native kind.
+fn native_kind(kind: NativeKind, summary: &Summary) -> Option<Kind>
+    ensures { (t : Tree) → Summarizes summary.now t → AnswersKind (native_name kind) t result }
+{
+    match any_native(kind, summary) {
+        Ok(pair) => Some(Kind::Native(kind, pair.0, pair.1)),
+        Err(_) => None,
+    }
+}
+
+/// The kind under the name of unions of geometries.
+fn geometry_kind(summary: &Summary) -> Option<Kind>
+    ensures { (t : Tree) → Summarizes summary.now t → AnswersKind geometry_name t result }
+{
+    match geometry(summary) {
+        Ok(coord_type) => Some(Kind::Geometry(coord_type)),
+        Err(_) => None,
+    }
+}
+
+/// The kind under the name of boxes.
+fn box_kind(summary: &Summary) -> Option<Kind>
+    ensures { (t : Tree) → Summarizes summary.now t → AnswersKind box_name t result }
+{
+    match boxed(summary) {
+        Ok(dimension) => Some(Kind::Rect(dimension)),
+        Err(_) => None,
+    }
+}

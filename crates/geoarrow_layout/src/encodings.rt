@@ -1,0 +1,101 @@
+//! Which kinds of columns there are.
+ghost use Rattle.std.specs.Prelude.{◌≡◌};
+ghost use Rattle.geoarrow_layout.specs.Kinds.{native_name, name_of, coord_type_of, dimension_of};
+
+use crate::kinds::{CoordType, Dimension};
+
+/// The kinds of geometry that have a layout of their own (GeoArrow, "Native encoding").
+#[derive(Clone, Copy, Debug, PartialEq, Eq)]
+pub enum NativeKind {
+    /// A coordinate.
+    Point,
+    /// A list of coordinates.
+    LineString,
+    /// A list of rings.
+    Polygon,
+    /// A list of points.
+    MultiPoint,
+    /// A list of line strings.
+    MultiLineString,
+    /// A list of polygons.
+    MultiPolygon,
+    /// A list of geometries of the other kinds, all of one dimension.
+    GeometryCollection,
+}
+
+/// How bytes and texts are stored (Arrow, "Variable-size Binary Layout", "Variable-size Binary View Layout").
+#[derive(Clone, Copy, Debug, PartialEq, Eq)]
+pub enum Width {
+    /// With 32-bit offsets.
+    Plain,
+    /// With 64-bit offsets.
+    Large,
+    /// As views.
+    View,
+}
+
+/// A kind of column: what its extension name and its data type say together.
+#[derive(Clone, Copy, Debug, PartialEq, Eq)]
+pub enum Kind {
+    /// Geometries of one kind, coordinate type and dimension.
+    Native(NativeKind, CoordType, Dimension),
+    /// Geometries of any kind and dimension, in a union.
+    Geometry(CoordType),
+    /// Boxes.
+    Rect(Dimension),
+    /// Well-known binary.
+    Wkb(Width),
+    /// Well-known text.
+    Wkt(Width),
+}
+
+impl Kind {
+    /// The extension name of a column of this kind (GeoArrow, "Extension types").
+    pub fn name(&self) -> &'static str
+        ensures { result.now ≡ name_of self.now }
+    {
+        match self {
+            Kind::Native(kind, _, _) => native_name(*kind),
+            Kind::Geometry(_) => "geoarrow.geometry",
+            Kind::Rect(_) => "geoarrow.box",
+            Kind::Wkb(_) => "geoarrow.wkb",
+            Kind::Wkt(_) => "geoarrow.wkt",
+        }
+    }
+
+    /// How the coordinates are stored: `Separated` for boxes, and none for well-known binary and text.
+    pub fn coord_type(&self) -> Option<CoordType>
+        ensures { result ≡ coord_type_of self.now }
+    {
+        match self {
+            Kind::Native(_, coord_type, _) | Kind::Geometry(coord_type) => Some(*coord_type),
+            Kind::Rect(_) => Some(CoordType::Separated),
+            Kind::Wkb(_) | Kind::Wkt(_) => None,
+        }
+    }
+
+    /// The dimension; none for geometries of any kind and for well-known binary and text.
+    pub fn dimension(&self) -> Option<Dimension>
+        ensures { result ≡ dimension_of self.now }
+    {
+        match self {
+            Kind::Native(_, _, dimension) | Kind::Rect(dimension) => Some(*dimension),
+            Kind::Geometry(_) | Kind::Wkb(_) | Kind::Wkt(_) => None,
+        }
+    }
+}
+
+/// The extension name of a native kind.
+fn native_name(kind: NativeKind) -> &'static str
+    ensures { result.now ≡ native_name kind }
+{
+    match kind {
+        NativeKind::Point => "geoarrow.point",
+        NativeKind::LineString => "geoarrow.linestring",
+        NativeKind::Polygon => "geoarrow.polygon",
+        NativeKind::MultiPoint => "geoarrow.multipoint",
+        NativeKind::MultiLineString => "geoarrow.multilinestring",
+        NativeKind::MultiPolygon => "geoarrow.multipolygon",
+        NativeKind::GeometryCollection => "geoarrow.geometrycollection",
+    }
+}

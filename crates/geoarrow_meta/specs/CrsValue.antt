@@ -1,0 +1,34 @@
+-- What may stand as a CRS value, and what its hash is fed.
+use Rattle.std.specs.Prelude.{◌≡◌, ◌++◌, true, false, is_some}
+use Rattle.std.specs.Hash.{HashWrites, u8, str}
+use Rattle.std.proofs.Common.{ap}
+use Rattle.std.specs.Cmp.{IsEquivalence, IsPartialEquivalence, decided, partial_equiv_from_equiv}
+use Rattle.serde_json.specs.Data.{Data, null, boolean, number, string, array, object}
+use Rattle.serde_json.specs.Find.{as_null}
+use Rattle.serde_json.specs.Written.{has_float}
+use Rattle.geoarrow_meta.specs.Same.{same, same-Decides}
+
+-- what may stand as a CRS value: it is not null, and each number in it, at any depth, is whole
+abbrev pub IsCrsValue : Data → Type 0
+IsCrsValue d = (is_some (as_null d) ≡ false) × (has_float d ≡ false)
+
+-- what the hash of a CRS value is fed: the sort of the value, and a text's bytes
+abbrev pub value_fed : Data → HashWrites
+value_fed null = u8 0
+value_fed (boolean b) = u8 1
+value_fed (number n) = u8 2
+value_fed (string s) = u8 3 ++ str s
+value_fed (array ds) = u8 4
+value_fed (object ms) = u8 5
+
+-- the same values feed the same
+pub value_fed-same : (d e : Data) → same d e ≡ true → value_fed d ≡ value_fed e
+value_fed-same d e h = ap value_fed ((same-Decides d e).0 h)
+
+-- `same` is an equivalence
+pub same-equiv : IsEquivalence same
+same-equiv = decided same same-Decides
+
+-- and so a partial one
+pub same-per : IsPartialEquivalence same
+same-per = partial_equiv_from_equiv same-equiv

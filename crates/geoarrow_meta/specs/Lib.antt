@@ -1,0 +1,9 @@
+pub mod Names
+pub mod Code
+pub mod Same
+pub mod CrsValue
+pub mod Parts
+pub mod Written
+pub mod Read
+pub mod Transform
+pub mod Whole

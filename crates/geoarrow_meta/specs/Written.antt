@@ -1,0 +1,85 @@
+-- Which JSON value a metadata is written as (GeoArrow, "Extension metadata"), and its normal form.
+use Rattle.std.specs.Prelude.{◌≡◌, ◌≤◌, ℕ, codes, Bool, true, false, Option, None, Some, option_map, unwrap_or, ⊤}
+use Rattle.arrow_values.specs.Tree.{Text}
+use Rattle.serde_json.specs.Data.{Data, null, string, object, Members, no_members, member, put, depth}
+use Rattle.serde_json.specs.Read.{read}
+use Rattle.serde_json.specs.Written.{compact_text}
+use Rattle.geoarrow_meta.specs.declared.edges.Edges.{Edges}
+use Rattle.geoarrow_meta.specs.declared.crs.crs_type.CrsType.{CrsType}
+use Rattle.geoarrow_meta.specs.declared.crs.Crs.{Crs}
+use Rattle.geoarrow_meta.specs.declared.metadata.Metadata.{Metadata}
+use Rattle.geoarrow_meta.specs.Names.{edges_text, crs_type_text}
+
+-- the CRS with neither value nor type
+abbrev pub no_crs : Crs
+no_crs = record { value = None; crs_type = None }
+
+-- the metadata with nothing in it
+abbrev pub empty : Metadata
+empty = record { crs = no_crs; edges = None }
+
+-- the metadata of three parts
+abbrev pub of_parts : Option Data → Option CrsType → Option Edges → Metadata
+of_parts v t e = record { crs = record { value = v; crs_type = t }; edges = e }
+
+-- the JSON text that stands at `crs_type`
+abbrev pub crs_type_data : CrsType → Data
+crs_type_data t = string (crs_type_text t)
+
+-- the JSON text that stands at `edges`
+abbrev pub edges_data : Edges → Data
+edges_data e = string (edges_text e)
+
+-- a member before others, if there is one
+abbrev pub with_some : Text → Option Data → Members → Members
+with_some k None ms = ms
+with_some k (Some d) ms = member k d ms
+
+-- the members after `put` of one, if there is one
+abbrev pub put_some : Text → Option Data → Members → Members
+put_some k None ms = ms
+put_some k (Some d) ms = put k d ms
+
+-- the object with `crs`, null where there is none, with `crs_type` where there is one, and with `edges` where there are some
+abbrev pub written : Option Data → Option CrsType → Option Edges → Data
+written v t e = object (member (codes "crs") (unwrap_or v null) (with_some (codes "crs_type") (option_map crs_type_data t) (with_some (codes "edges") (option_map edges_data e) no_members)))
+
+-- neither CRS value nor edges stand
+abbrev pub is_bare : Option Data → Option Edges → Bool
+is_bare None None = true
+is_bare None (Some e) = false
+is_bare (Some d) e = false
+
+-- the object of the parts, unless neither CRS value nor edges stand
+abbrev written_unless : Option Data → Option CrsType → Option Edges → Option Data
+written_unless None t None = None
+written_unless None t (Some e) = Some (written None t (Some e))
+written_unless (Some v) t e = Some (written (Some v) t e)
+
+-- nothing, where neither CRS value nor edges stand; else the object of the parts
+abbrev pub meta_value : Metadata → Option Data
+meta_value m = written_unless m.crs.value m.crs.crs_type m.edges
+
+-- the compact text of that value
+abbrev pub printed : Metadata → Option Text
+printed m = option_map compact_text (meta_value m)
+
+-- the CRS type, unless neither CRS value nor edges stand
+abbrev pub type_unless : Option Data → Option CrsType → Option Edges → Option CrsType
+type_unless None t None = None
+type_unless None t (Some e) = t
+type_unless (Some v) t e = t
+
+-- the metadata without the CRS type, where neither CRS value nor edges stand; else the metadata itself
+abbrev pub normal : Metadata → Metadata
+normal m = record { crs = record { value = m.crs.value; crs_type = type_unless m.crs.value m.crs.crs_type m.edges }; edges = m.edges }
+
+-- `serde_json` reads what it printed
+abbrev pub IsReadBack : Option Data → Type 0
+IsReadBack None = ⊤
+IsReadBack (Some d) = read (compact_text d) ≡ Some d
+
+-- a value, if there is one, is nested at most n levels
+abbrev pub NestsWithin : ℕ → Option Data → Type 0
+NestsWithin n None = ⊤
+NestsWithin n (Some d) = depth d ≤ n

@@ -1,0 +1,171 @@
+//! Coordinate reference systems.
+ghost use Rattle.std.specs.Prelude.{◌≡◌, ◌↔◌, false, Some, None, IfOk, IsTrue, IsSome, IfSome, Contains, option_map, string_bytes};
+ghost use Rattle.serde_json.specs.Data.{string};
+ghost use Rattle.serde_json.specs.Find.{as_object};
+ghost use Rattle.serde_json.specs.View.{view};
+ghost use Rattle.serde_json.specs.Written.{has_float};
+ghost use Rattle.geoarrow_meta.specs.CrsValue.{IsCrsValue};
+ghost use Rattle.geoarrow_meta.specs.Parts.{crs_value, crs_type};
+
+mod crs_type;
+mod value;
+
+use crate::walks::{holds_whole_numbers, is_same};
+pub use crs_type::CrsType;
+use serde_json::Value;
+use std::alloc::{AllocError, Global};
+pub use value::CrsValue;
+
+/// A coordinate reference system as a metadata holds it (GeoArrow, "Extension types", "Extension metadata", keys `crs`
+/// and `crs_type`): a JSON value, if there is one, and what it is written as, if that is known. A value that is there is
+/// not null, and its numbers are whole, at any depth: `serde_json` holds each as an integer of 64 bits. The default has
+/// neither value nor type. Two are equal, and then hash equally, where the JSON value and the type are.
+#[derive(Debug, Default, PartialEq, Eq, Hash, Drop)]
+pub struct Crs {
+    value: Option<CrsValue>,
+    crs_type: Option<CrsType>,
+}
+
+impl Crs {
+    /// Whether `from_projjson` takes the value: it is an object, and each number in it, at any depth, is whole: an
+    /// integer of 64 bits, as `serde_json` reads it, so neither 1.5 nor 1.0, 1e2 or -0. Takes no memory.
+    pub fn is_projjson(value: &Value) -> bool
+        ensures { IsTrue result ↔ (IsSome (as_object (view value.now))
+            × (has_float (view value.now) ≡ false)) }
+    {
+        value.is_object() && holds_whole_numbers(value)
+    }
+
+    /// Whether `from_authority_code` takes the text: there is a colon in it. Takes no memory.
+    pub fn is_authority_code(code: &str) -> bool
+        ensures { IsTrue result ↔ Contains code.now 58 }
+    {
+        code.as_bytes().contains(&b':')
+    }
+
+    /// The CRS of a PROJJSON object (PROJ, "PROJJSON"), of type `Projjson`. The value must be an object whose numbers
+    /// are whole, which `is_projjson` tests.
+    pub fn from_projjson(value: Value) -> Crs
+        requires object { IsSome (as_object (view value)) }
+        requires whole { has_float (view value) ≡ false }
+        ensures value { crs_value result ≡ Some (view value) }
+        ensures crs_type { crs_type result ≡ Some CrsType.Projjson }
+    {
+        Crs {
+            value: Some(CrsValue::new(value)),
+            crs_type: Some(CrsType::Projjson),
+        }
+    }
+
+    /// The CRS of a text of WKT2:2019 (ISO 19162), of type `Wkt2_2019`; the text is taken as it is.
+    pub fn from_wkt2_2019(text: String) -> Crs
+        ensures value { crs_value result ≡ Some (string (string_bytes text)) }
+        ensures crs_type { crs_type result ≡ Some CrsType.Wkt2_2019 }
+    {
+        Crs {
+            value: Some(CrsValue::new(Value::String(text))),
+            crs_type: Some(CrsType::Wkt2_2019),
+        }
+    }
+
+    /// The CRS of a text `AUTHORITY:CODE`, of type `AuthorityCode`. There must be a colon in the text, which
+    /// `is_authority_code` tests.
+    pub fn from_authority_code(code: String) -> Crs
+        requires { Contains (string_bytes code) 58 }
+        ensures value { crs_value result ≡ Some (string (string_bytes code)) }
+        ensures crs_type { crs_type result ≡ Some CrsType.AuthorityCode }
+    {
+        Crs {
+            value: Some(CrsValue::new(Value::String(code))),
+            crs_type: Some(CrsType::AuthorityCode),
+        }
+    }
+
+    /// The CRS of an opaque text that its producer knows, of type `Srid`.
+    pub fn from_srid(srid: String) -> Crs
+        ensures value { crs_value result ≡ Some (string (string_bytes srid)) }
+        ensures crs_type { crs_type result ≡ Some CrsType.Srid }
+    {
+        Crs {
+            value: Some(CrsValue::new(Value::String(srid))),
+            crs_type: Some(CrsType::Srid),
+        }
+    }
+
+    /// The CRS of a text of which it is not known what it is written as: no type.
+    pub fn from_unknown_crs_type(crs: String) -> Crs
+        ensures value { crs_value result ≡ Some (string (string_bytes crs)) }
+        ensures crs_type { crs_type result ≡ None }
+    {
+        Crs {
+            value: Some(CrsValue::new(Value::String(crs))),
+            crs_type: None,
+        }
+    }
+
+    // The CRS of two parts.
+    pub(crate) fn of_parts(value: Option<CrsValue>, crs_type: Option<CrsType>) -> Crs
+        ensures value { result.value ≡ value }
+        ensures crs_type { result.crs_type ≡ crs_type }
+    {
+        Crs { value, crs_type }
+    }
+
+    // The CRS of the value alone.
+    pub(crate) fn without_type(self) -> Crs
+        ensures value { result.value ≡ self.value }
+        ensures crs_type { result.crs_type ≡ None }
+    {
+        Crs {
+            value: self.value,
+            crs_type: None,
+        }
+    }
+
+    /// What the value is written as, if that is known.
+    pub fn crs_type(&self) -> Option<CrsType>
+        ensures { result ≡ crs_type self.now }
+    {
+        self.crs_type
+    }
+
+    /// The JSON value, if there is one; it is not null, and its numbers are whole.
+    pub fn crs_value(&self) -> Option<&Value>
+        ensures value { option_map (λ v. view v.now) result ≡ crs_value self.now }
+        ensures valid { IfSome (crs_value self.now) IsCrsValue }
+    {
+        match &self.value {
+            Some(value) => Some(value.as_value()),
+            None => None,
+        }
+    }
+
+    // Whether both hold the same value, or none.
+    pub(crate) fn same_value(&self, other: &Crs) -> bool
+        ensures same { IsTrue result ↔ (crs_value self.now ≡ crs_value other.now) }
+        ensures valid { IfSome (crs_value self.now) IsCrsValue }
+        ensures other_valid { IfSome (crs_value other.now) IsCrsValue }
+    {
+        let mine = self.crs_value();
+        let theirs = other.crs_value();
+        match (mine, theirs) {
+            (None, None) => true,
+            (Some(a), Some(b)) => is_same(a, b),
+            _ => false,
+        }
+    }
+
+    /// An equal CRS. Errs for want of memory alone.
+    pub fn try_clone(&self, alloc: Global) -> Result<Crs, AllocError>
+        ensures { IfOk result (λ c. c ≡ self.now) }
+    {
+        let value = match &self.value {
+            Some(value) => Some(value.try_clone(alloc)?),
+            None => None,
+        };
+        Ok(Crs {
+            value,
+            crs_type: self.crs_type,
+        })
+    }
+}

@@ -1,0 +1,44 @@
+//! What a CRS value is written as.
+ghost use Rattle.std.specs.Prelude.{◌≡◌, ◌↔◌, Some};
+ghost use Rattle.geoarrow_meta.specs.declared.crs.crs_type.CrsType.{CrsType};
+ghost use Rattle.geoarrow_meta.specs.Names.{crs_type_text};
+
+/// What a CRS value is written as (GeoArrow, "Extension types", "Extension metadata", key `crs_type`).
+#[derive(Debug, Clone, Copy, PartialEq, Eq, Hash)]
+pub enum CrsType {
+    /// A PROJJSON object.
+    Projjson,
+    /// A text of WKT2:2019 (ISO 19162).
+    Wkt2_2019,
+    /// A text of the form `AUTHORITY:CODE`.
+    AuthorityCode,
+    /// An opaque text that means something to the producer alone.
+    Srid,
+}
+
+impl CrsType {
+    /// The text that stands for the type in a metadata: `projjson`, `wkt2:2019`, `authority_code` or `srid`.
+    pub fn as_text(self) -> &'static str
+        ensures { result.now ≡ crs_type_text self }
+    {
+        match self {
+            CrsType::Projjson => "projjson",
+            CrsType::Wkt2_2019 => "wkt2:2019",
+            CrsType::AuthorityCode => "authority_code",
+            CrsType::Srid => "srid",
+        }
+    }
+
+    /// The type that a text stands for; none for any other text.
+    pub fn from_text(text: &str) -> Option<CrsType>
+        ensures { (t : CrsType) → (result ≡ Some t) ↔ (text.now ≡ crs_type_text t) }
+    {
+        match text {
+            "projjson" => Some(CrsType::Projjson),
+            "wkt2:2019" => Some(CrsType::Wkt2_2019),
+            "authority_code" => Some(CrsType::AuthorityCode),
+            "srid" => Some(CrsType::Srid),
+            _ => None,
+        }
+    }
+}

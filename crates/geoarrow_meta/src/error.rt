@@ -1,0 +1,49 @@
+//! The errors with which a metadata is refused.
+ghost use Rattle.std.specs.Prelude.{◌≡◌, ◌⊎◌};
+ghost use Rattle.arrow_values.specs.Errors.{IsMemory as IsArrowMemory, IsArrowFormOf};
+ghost use Rattle.serde_json.specs.Errors.{IsMemory};
+ghost use Rattle.geoarrow_meta.specs.Read.{IsCrsOrMemory, IsExternalOrMemory, MeansUnread};
+
+use arrow_values::{ArrowError, GeoArrowError};
+use serde_json::{Category, Error};
+use std::alloc::Global;
+
+// A `Crs` error of that text; want of memory where there is none for the text.
+pub(crate) fn crs_fault(alloc: Global, text: &str) -> GeoArrowError
+    ensures { IsCrsOrMemory result }
+{
+    match String::from_str(alloc, text) {
+        Ok(message) => GeoArrowError::Crs(message),
+        Err(_) => GeoArrowError::Arrow(ArrowError::OutOfMemory),
+    }
+}
+
+// An `External` error of that text; want of memory where there is none for the text.
+pub(crate) fn external_fault(alloc: Global, text: &str) -> GeoArrowError
+    ensures { IsExternalOrMemory result }
+{
+    match String::from_str(alloc, text) {
+        Ok(message) => GeoArrowError::External(message),
+        Err(_) => GeoArrowError::Arrow(ArrowError::OutOfMemory),
+    }
+}
+
+// The error as one of Arrow; want of memory where there is none for the box.
+pub(crate) fn boxed(alloc: Global, error: GeoArrowError) -> ArrowError
+    ensures { IsArrowMemory result ⊎ IsArrowFormOf error result }
+{
+    match error.into_arrow_error(alloc) {
+        Ok(error) => error,
+        Err(_) => ArrowError::OutOfMemory,
+    }
+}
+
+// What is answered for a text that was not read.
+pub(crate) fn unread(alloc: Global, error: &Error) -> ArrowError
+    ensures { MeansUnread (IsMemory error.now) result }
+{
+    if let Category::Memory = error.classify() {
+        return ArrowError::OutOfMemory;
+    }
+    boxed(alloc, external_fault(alloc, "metadata is not JSON"))
+}

@@ -1,0 +1,101 @@
+//! Laws of the metadata, for the crates above: functions whose contract is the law.
+ghost use Rattle.std.specs.Prelude.{◌≡◌, ◌↔◌, true, IsTrue, IfSome};
+ghost use Rattle.arrow_values.specs.Texts.{text_of};
+ghost use Rattle.serde_json.specs.View.{view};
+ghost use Rattle.geoarrow_meta.specs.declared.metadata.Metadata.{Metadata};
+ghost use Rattle.geoarrow_meta.specs.Parts.{crs_value, metadata_crs};
+ghost use Rattle.geoarrow_meta.specs.Written.{meta_value, printed, normal, IsReadBack, NestsWithin};
+ghost use Rattle.geoarrow_meta.specs.Whole.{is_whole};
+ghost use Rattle.geoarrow_meta.specs.Read.{StandsFor, TextStandsFor};
+
+use crate::crs::{Crs, CrsType};
+use crate::edges::Edges;
+use crate::metadata::Metadata;
+use crate::walks::holds_whole_numbers;
+use serde_json::Value;
+
+/// A law: the normal form of a normal form is that normal form. There is nothing to run.
+pub fn normal_form_is_its_own(metadata: &Metadata)
+    ensures { normal (normal metadata.now) ≡ normal metadata.now }
+{}
+
+/// A law: two metadata are written as the same JSON value, or both as nothing, exactly where their normal forms are
+/// equal.
+pub fn written_alike(one: &Metadata, other: &Metadata)
+    ensures { (meta_value one.now ≡ meta_value other.now)
+        ↔ (normal one.now ≡ normal other.now) }
+{
+    one.crs().crs_value();
+    other.crs().crs_value();
+}
+
+/// A law: the printed text of a metadata, or its absence, stands for the normal form, where `serde_json` reads what it
+/// printed as the value that it printed.
+pub fn printed_reads_back(metadata: &Metadata)
+    ensures { IsReadBack (meta_value metadata.now)
+        → TextStandsFor (printed metadata.now) (normal metadata.now) }
+{
+    metadata.crs().crs_value();
+}
+
+/// A law: where the CRS value of a metadata is nested at most 100 levels, or there is none, `serde_json` reads what it
+/// prints for the metadata as the value that it printed.
+#[tactic(auto, using(crate::proofs::ReadBack::nested_read_back))]
+pub fn nested_reads_back(metadata: &Metadata)
+    ensures { NestsWithin 100 (crs_value (metadata_crs metadata.now))
+        → IsReadBack (meta_value metadata.now) }
+{
+    crs_value_is_whole(metadata.crs());
+}
+
+// A CRS value is as `serde_json` holds one whose numbers are whole.
+fn crs_value_is_whole(crs: &Crs)
+    ensures { IfSome (crs_value crs.now) (λ d. is_whole d ≡ true) }
+{
+    match crs.crs_value() {
+        Some(value) => {
+            holds_whole_numbers(value);
+        }
+        None => {}
+    }
+}
+
+/// A law: a JSON value stands for one metadata at most. There is nothing to run.
+pub fn value_stands_for_one(value: &Value)
+    ensures { (m n : Metadata) → StandsFor (view value.now) m → StandsFor (view value.now) n
+        → m ≡ n }
+{}
+
+/// A law: a text, or its absence, stands for one metadata at most. There is nothing to run.
+pub fn text_stands_for_one(text: Option<&str>)
+    ensures { (m n : Metadata) → TextStandsFor (text_of text.entry) m
+        → TextStandsFor (text_of text.entry) n → m ≡ n }
+{}
+
+/// A law: `==` answers true for two metadata exactly where their parts are equal.
+pub fn equality_is_exact(one: &Metadata, other: &Metadata) -> bool
+    ensures { IsTrue result ↔ (one.now ≡ other.now) }
+{
+    *one == *other
+}
+
+/// A law: `==` answers true for two CRS exactly where JSON value and type are equal.
+pub fn crs_equality_is_exact(one: &Crs, other: &Crs) -> bool
+    ensures { IsTrue result ↔ (one.now ≡ other.now) }
+{
+    *one == *other
+}
+
+/// A law: `==` answers true for two edges exactly where they are the same.
+pub fn edges_equality_is_exact(one: Edges, other: Edges) -> bool
+    ensures { IsTrue result ↔ (one ≡ other) }
+{
+    one == other
+}
+
+/// A law: `==` answers true for two CRS types exactly where they are the same.
+pub fn crs_type_equality_is_exact(one: CrsType, other: CrsType) -> bool
+    ensures { IsTrue result ↔ (one ≡ other) }
+{
+    one == other
+}

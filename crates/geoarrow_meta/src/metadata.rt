@@ -1,0 +1,208 @@
+//! The metadata of an extension type.
+ghost use Rattle.std.specs.Prelude.{◌≡◌, ◌⊎◌, ◌↔◌, IsTrue, Option, Some, None, IfOk, IfErr, IfSome, IsSome, IsOk, MatchResult, OnOk, option_map, string_bytes, false};
+ghost use Rattle.arrow_values.specs.Errors.{IsMemory};
+ghost use Rattle.arrow_values.specs.Texts.{text_of, extension_metadata};
+ghost use Rattle.serde_json.specs.Read.{max_depth};
+ghost use Rattle.serde_json.specs.View.{view};
+ghost use Rattle.serde_json.specs.Written.{has_float, compact_text};
+ghost use Rattle.geoarrow_meta.specs.declared.metadata.Metadata.{Metadata};
+ghost use Rattle.geoarrow_meta.specs.CrsValue.{IsCrsValue};
+ghost use Rattle.geoarrow_meta.specs.Parts.{crs_value, metadata_crs, metadata_edges};
+ghost use Rattle.geoarrow_meta.specs.Written.{meta_value, printed, normal, is_bare, IsReadBack, NestsWithin};
+ghost use Rattle.geoarrow_meta.specs.Read.{StandsFor, TextStandsFor, RefusedAs, TextRefusedAs};
+
+mod read;
+mod write;
+
+use crate::crs::{Crs, CrsValue};
+use crate::edges::Edges;
+use crate::error::{boxed, crs_fault, external_fault, unread};
+use crate::walks::holds_whole_numbers;
+use arrow_values::{ArrowError, Field, GeoArrowResult};
+use read::{present_at, read_crs_type, read_edges};
+use serde_json::Value;
+use std::alloc::{AllocError, Global};
+use write::written_value;
+
+/// The metadata of an extension type (GeoArrow, "Extension types", "Extension metadata"): a CRS, and how edges run. The
+/// default has the default CRS and no edges. Two are equal, and then hash equally, where both parts are.
+#[derive(Debug, Default, PartialEq, Eq, Hash, Drop)]
+pub struct Metadata {
+    crs: Crs,
+    edges: Option<Edges>,
+}
+
+impl Metadata {
+    /// The metadata of a CRS and of edges, which may be missing.
+    pub fn new(crs: Crs, edges: Option<Edges>) -> Metadata
+        ensures crs { metadata_crs result ≡ crs }
+        ensures edges { metadata_edges result ≡ edges }
+    {
+        Metadata { crs, edges }
+    }
+
+    /// The CRS.
+    pub fn crs(&self) -> &Crs
+        ensures { result.now ≡ metadata_crs self.now }
+    {
+        &self.crs
+    }
+
+    /// How edges run; none means planar edges.
+    pub fn edges(&self) -> Option<Edges>
+        ensures { result ≡ metadata_edges self.now }
+    {
+        self.edges
+    }
+
+    /// An equal metadata. Errs for want of memory alone.
+    pub fn try_clone(&self, alloc: Global) -> Result<Metadata, AllocError>
+        ensures { IfOk result (λ m. m ≡ self.now) }
+    {
+        Ok(Metadata {
+            crs: self.crs.try_clone(alloc)?,
+            edges: self.edges,
+        })
+    }
+
+    /// The JSON value that the metadata is written as (GeoArrow, "Extension metadata"): an object with `crs`, null where
+    /// there is no CRS value, with `crs_type` where there is one, and with `edges` where there are some. Where neither CRS
+    /// value nor edges stand there is none, and that takes no memory. Errs for want of memory alone.
+    pub fn to_value(&self, alloc: Global) -> Result<Option<Value>, AllocError>
+        ensures value { IfOk result (λ o. option_map view o ≡ meta_value self.now) }
+        ensures whole { IfOk result (λ o. IfSome o (λ v. has_float (view v) ≡ false)) }
+        ensures memory { IfErr result (λ _. IsSome (meta_value self.now)) }
+        ensures valid { IfSome (crs_value (metadata_crs self.now)) IsCrsValue }
+    {
+        let value = self.crs.crs_value();
+        if value.is_none() && self.edges.is_none() {
+            return Ok(None);
+        }
+        Ok(Some(written_value(alloc, value, self.crs.crs_type(), self.edges)?))
+    }
+
+    /// The metadata that a JSON value stands for (GeoArrow, "Extension metadata"). The value must be an object. A `crs`,
+    /// `crs_type` or `edges` that is null or missing is absent; `crs` may be any other value whose numbers are whole, at
+    /// any depth (an integer of 64 bits: not 1.5, but not 1.0, 1e2 or -0 either), and `crs_type` and `edges` must be texts of
+    /// the format. Other keys are ignored. Errs, in this order, as
+    /// `External` where there is no object, as `Crs` where a number in `crs` is not whole, as `External` where `crs_type` is
+    /// none of the format's, or `edges` is none; else for want of memory alone.
+    pub fn from_value(alloc: Global, value: &Value) -> GeoArrowResult<Metadata>
+        ensures ok { IfOk result (StandsFor (view value.now)) }
+        ensures only { IfOk result (λ m. (n : Metadata) → StandsFor (view value.now) n → n ≡ m) }
+        ensures err { IfErr result (RefusedAs (view value.now)) }
+    {
+        if !value.is_object() {
+            return Err(external_fault(alloc, "metadata is not an object"));
+        }
+        let crs = present_at(value, "crs");
+        if let Some(found) = crs {
+            if !holds_whole_numbers(found) {
+                return Err(crs_fault(alloc, "CRS holds a number that is not whole"));
+            }
+        }
+        let Some(crs_type) = read_crs_type(present_at(value, "crs_type")) else {
+            return Err(external_fault(alloc, "unknown crs_type"));
+        };
+        let Some(edges) = read_edges(present_at(value, "edges")) else {
+            return Err(external_fault(alloc, "unknown edges"));
+        };
+        let kept = match crs {
+            Some(found) => Some(CrsValue::new(found.clone()?)),
+            None => None,
+        };
+        Ok(Metadata {
+            crs: Crs::of_parts(kept, crs_type),
+            edges,
+        })
+    }
+
+    /// The text that stands for the metadata at a field's `ARROW:extension:metadata`: the compact JSON text of `to_value`.
+    /// Where neither CRS value nor edges stand there is none, and that takes no memory. Errs for want of memory alone. A
+    /// text that is answered reads back to the normal form of the metadata where `serde_json` reads it as the value that
+    /// was printed, which it does where the CRS value is nested at most 100 levels.
+    pub fn serialize(&self, alloc: Global) -> Result<Option<String>, ArrowError>
+        ensures text { MatchResult result (λ text. option_map string_bytes text ≡ printed self.now)
+            (λ e. IsMemory e × IsSome (printed self.now)) }
+        ensures read_back { OnOk result (NestsWithin max_depth (meta_value self.now)
+            → IsReadBack (meta_value self.now)) }
+        ensures reads_as { IfOk result (λ text. IsReadBack (meta_value self.now)
+            → TextStandsFor (option_map string_bytes text) (normal self.now)) }
+        ensures nested { IfOk result (λ text. NestsWithin 100 (crs_value (metadata_crs self.now))
+            → TextStandsFor (option_map string_bytes text) (normal self.now)) }
+    {
+        match self.to_value(alloc)? {
+            None => Ok(None),
+            Some(value) => Ok(Some(value.to_string(alloc)?)),
+        }
+    }
+
+    /// The metadata that a text at a field's `ARROW:extension:metadata`, or its absence, stands for. No text gives the
+    /// default, without memory. Errs as `ExternalError` of `External` where `serde_json` does not read the text, and of the
+    /// error of `from_value` where that errs for the text's value; else for want of memory alone.
+    pub fn deserialize(alloc: Global, metadata: Option<&str>) -> Result<Metadata, ArrowError>
+        ensures exact { MatchResult result (TextStandsFor (text_of metadata.entry))
+            (λ e. IsMemory e
+            ⊎ ((m : Metadata) → TextStandsFor (text_of metadata.entry) m → ⊥)) }
+        ensures refusal { IfErr result (TextRefusedAs (text_of metadata.entry)) }
+        ensures no_memory { text_of metadata.entry ≡ None → IsOk result }
+    {
+        let Some(text) = metadata else {
+            return Ok(Metadata::default());
+        };
+        let value = match Value::from_str(alloc, text) {
+            Ok(value) => value,
+            Err(e) => return Err(unread(alloc, &e)),
+        };
+        match Metadata::from_value(alloc, &value) {
+            Ok(read) => Ok(read),
+            Err(e) => Err(boxed(alloc, e)),
+        }
+    }
+
+    /// The metadata that a field's metadata text, or its absence, stands for, whatever the name of its extension type is.
+    /// Errs as `deserialize` does.
+    pub fn try_from_field(alloc: Global, field: &Field) -> Result<Metadata, ArrowError>
+        ensures exact { MatchResult result (TextStandsFor (extension_metadata field.now))
+            (λ e. IsMemory e
+            ⊎ ((m : Metadata) → TextStandsFor (extension_metadata field.now) m → ⊥)) }
+        ensures refusal { IfErr result (TextRefusedAs (extension_metadata field.now)) }
+        ensures no_memory { extension_metadata field.now ≡ None → IsOk result }
+    {
+        Metadata::deserialize(alloc, field.extension_type_metadata())
+    }
+
+    /// Whether both are written as the same JSON value: their normal forms are equal. Takes no memory.
+    pub fn same_written(&self, other: &Metadata) -> bool
+        ensures value { IsTrue result ↔ (meta_value self.now ≡ meta_value other.now) }
+        ensures normal { IsTrue result ↔ (normal self.now ≡ normal other.now) }
+    {
+        if !self.crs.same_value(&other.crs) || self.edges != other.edges {
+            return false;
+        }
+        self.is_bare() || self.crs.crs_type() == other.crs.crs_type()
+    }
+
+    // Whether neither CRS value nor edges stand.
+    fn is_bare(&self) -> bool
+        ensures { result ≡ is_bare self.now.crs.value self.now.edges }
+    {
+        self.crs.crs_value().is_none() && self.edges.is_none()
+    }
+
+    /// The normal form: the CRS type is dropped where neither CRS value nor edges stand, since nothing writes it then.
+    /// Takes no memory.
+    pub fn normalized(self) -> Metadata
+        ensures value { result ≡ normal self }
+        ensures again { normal result ≡ result }
+    {
+        if !self.is_bare() {
+            return self;
+        }
+        let Metadata { crs, edges } = self;
+        Metadata {
+            crs: crs.without_type(),
+            edges,
+        }
+    }
+}

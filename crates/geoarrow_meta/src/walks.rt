@@ -1,0 +1,132 @@
+//! Walks over JSON values: whether their numbers are whole, and whether two of them are the same.
+ghost use Rattle.std.specs.Prelude.{◌≡◌, ◌↔◌, IsTrue, not, true, false};
+ghost use Rattle.serde_json.specs.View.{view, number_view, items_view, members_view};
+ghost use Rattle.serde_json.specs.Find.{is_float};
+ghost use Rattle.serde_json.specs.Written.{has_float, items_have_float, members_have_float};
+ghost use Rattle.geoarrow_meta.specs.Same.{same, same_items, same_members, same_num};
+ghost use Rattle.geoarrow_meta.specs.Whole.{is_integer, is_whole, items_are_whole, members_are_whole};
+
+use serde_json::{Map, Number, Value};
+
+// Whether each number in the value, at any depth, is one that `serde_json` holds as whole: an integer of 64 bits,
+// written with no fraction and no exponent, other than `-0`.
+#[cycle(whole)]
+pub(crate) fn holds_whole_numbers(value: &Value) -> bool
+    ensures no_float { result ≡ not (has_float (view value.now)) }
+    ensures integers { result ≡ is_whole (view value.now) }
+{
+    match value {
+        Value::Null | Value::Bool(_) | Value::String(_) => true,
+        Value::Number(number) => is_whole_number(number),
+        Value::Array(items) => items_hold_whole(items),
+        Value::Object(members) => members_hold_whole(members),
+    }
+}
+
+fn is_whole_number(number: &Number) -> bool
+    ensures no_float { result ≡ not (is_float (number_view number.now)) }
+    ensures integer { result ≡ is_integer (number_view number.now) }
+{
+    number.as_u64().is_some() || number.as_i64().is_some()
+}
+
+#[cycle(whole)]
+fn items_hold_whole(items: &Vec<Value>) -> bool
+    ensures no_float { result ≡ not (items_have_float (items_view items.now.items)) }
+    ensures integers { result ≡ items_are_whole (items_view items.now.items) }
+{
+    for item in items {
+        if !holds_whole_numbers(item) {
+            return false;
+        }
+    }
+    true
+}
+
+#[cycle(whole)]
+fn members_hold_whole(members: &Map<String, Value>) -> bool
+    ensures no_float { result ≡ not (members_have_float (members_view members.now.entries)) }
+    ensures integers { result ≡ members_are_whole (members_view members.now.entries) }
+{
+    for (_key, member) in members.iter() {
+        if !holds_whole_numbers(member) {
+            return false;
+        }
+    }
+    true
+}
+
+// Whether two values whose numbers are whole are the same.
+#[cycle(same)]
+pub(crate) fn same_value(a: &Value, b: &Value) -> bool
+    requires first { has_float (view a.now) ≡ false }
+    requires second { has_float (view b.now) ≡ false }
+    ensures { result ≡ same (view a.now) (view b.now) }
+{
+    match (a, b) {
+        (Value::Null, Value::Null) => true,
+        (Value::Bool(x), Value::Bool(y)) => *x == *y,
+        (Value::Number(x), Value::Number(y)) => same_number(x, y),
+        (Value::String(x), Value::String(y)) => x.as_str() == y.as_str(),
+        (Value::Array(x), Value::Array(y)) => same_arrays(x, y),
+        (Value::Object(x), Value::Object(y)) => same_objects(x, y),
+        _ => false,
+    }
+}
+
+// The same, in words of the two values.
+pub(crate) fn is_same(a: &Value, b: &Value) -> bool
+    requires first { has_float (view a.now) ≡ false }
+    requires second { has_float (view b.now) ≡ false }
+    ensures { IsTrue result ↔ (view a.now ≡ view b.now) }
+{
+    same_value(a, b)
+}
+
+fn same_number(a: &Number, b: &Number) -> bool
+    requires first { is_float (number_view a.now) ≡ false }
+    requires second { is_float (number_view b.now) ≡ false }
+    ensures { result ≡ same_num (number_view a.now) (number_view b.now) }
+{
+    match (a.as_u64(), b.as_u64()) {
+        (Some(x), Some(y)) => x == y,
+        (None, None) => a.as_i64() == b.as_i64(),
+        _ => false,
+    }
+}
+
+#[cycle(same)]
+fn same_arrays(a: &Vec<Value>, b: &Vec<Value>) -> bool
+    requires first { items_have_float (items_view a.now.items) ≡ false }
+    requires second { items_have_float (items_view b.now.items) ≡ false }
+    ensures { result ≡ same_items (items_view a.now.items) (items_view b.now.items) }
+{
+    let mut others = b.iter();
+    for x in a.iter() {
+        let Some(y) = others.next() else {
+            return false;
+        };
+        if !same_value(x, y) {
+            return false;
+        }
+    }
+    others.next().is_none()
+}
+
+#[cycle(same)]
+fn same_objects(a: &Map<String, Value>, b: &Map<String, Value>) -> bool
+    requires first { members_have_float (members_view a.now.entries) ≡ false }
+    requires second { members_have_float (members_view b.now.entries) ≡ false }
+    ensures { result ≡ same_members (members_view a.now.entries) (members_view b.now.entries) }
+{
+    let mut others = b.iter();
+    for (key, x) in a.iter() {
+        let Some((name, y)) = others.next() else {
+            return false;
+        };
+        if key.as_str() != name.as_str() || !same_value(x, y) {
+            return false;
+        }
+    }
+    others.next().is_none()
+}
