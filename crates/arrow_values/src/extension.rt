@@ -1,5 +1,5 @@
 //! Extension types, and the calls of a field that go through them.
-ghost use Rattle.std.specs.Prelude.{◌≡◌, ◌⊎◌, ◌↔◌, true, None, IsOk, IsSome, IfOk, IfErr, OnOk, OnErr, MatchResult, Option, string_bytes};
+ghost use Rattle.std.specs.Prelude.{◌≡◌, ◌⊎◌, ◌↔◌, true, IsOk, IsSome, IfOk, IfErr, OnOk, OnErr, MatchResult, Option, string_bytes};
 ghost use Rattle.std.specs.Option.{option_map};
 
 use crate::error::{ArrowError, invalid_argument};
@@ -70,15 +70,14 @@ pub trait ExtensionType: Sized {
             (λ e. IsMemory e × IsSome (printed (metadata_of self.now))) };
 
     /// The metadata that a text, or its absence, stands for. Errs where it stands for none, else for want of memory
-    /// alone. Where the absence of a text stands for one, that takes no memory.
+    /// alone.
     fn deserialize_metadata(
         alloc: Global,
         metadata: Option<&str>,
     ) -> Result<Self::Metadata, ArrowError>
         ensures exact { MatchResult result (StandsFor (text_of metadata.entry))
             (λ e. IsMemory e ⊎ ((m : Self.Metadata) → StandsFor (text_of metadata.entry) m → ⊥)) }
-        ensures refusal { IfErr result (λ e. IsMemory e ⊎ RefusesText (text_of metadata.entry) e) }
-        ensures no_memory { text_of metadata.entry ≡ None → (m : Self.Metadata) → StandsFor None m → IsOk result };
+        ensures refusal { IfErr result (λ e. IsMemory e ⊎ RefusesText (text_of metadata.entry) e) };
 
     /// Whether a field of that data type can carry this type: the data type is accepted as this type's shape. Where it
     /// can, this takes no memory; where it can not, this errs.
@@ -114,13 +113,12 @@ pub trait ExtensionType: Sized {
 
 impl Field {
     ghost use Rattle.arrow_values.specs.Errors.{IsMemory, is_invalid_argument};
-    ghost use Rattle.arrow_values.specs.Texts.{SetsExtension, extension_metadata};
+    ghost use Rattle.arrow_values.specs.Texts.{SetsExtension};
     ghost use Rattle.arrow_values.specs.Extension.{IsNamed, Reads, Refuses, Writes, StandsForPrinted};
 
     /// The extension type that the field carries: its name, the metadata that its metadata text stands for, and the
     /// shape as which its data type is accepted. Errs, as `InvalidArgumentError`, where there is no extension name or
-    /// another one; then as `deserialize_metadata` and as `try_new` err. Where there is no metadata text, a field that
-    /// carries the type is read without memory.
+    /// another one; then as `deserialize_metadata` and as `try_new` err.
     pub fn try_extension_type<E: ExtensionType>(&self, alloc: Global) -> Result<E, ArrowError>
         ensures ok { IfOk result (Reads E.ExtensionType self.now) }
         ensures only { IfOk result (λ e. (a : E) → Reads E.ExtensionType self.now a
@@ -130,7 +128,6 @@ impl Field {
             ⊎ (is_invalid_argument r ≡ true)) }
         ensures handed_on { IfErr result (λ r. IsMemory r
             ⊎ (IsNamed E.ExtensionType self.now → Refuses E.ExtensionType self.now r)) }
-        ensures no_memory { extension_metadata self.now ≡ None → (e : E) → Reads E.ExtensionType self.now e → IsOk result }
     {
         match self.extension_type_name() {
             None => return Err(invalid_argument(alloc, "extension name missing")),

@@ -1,9 +1,8 @@
 -- What one reading adds to a set of bits.
-use Rattle.std.proofs.Common.{◌≡◌, ◌≢◌, ◌↔◌, ◌<◌, ◌≤◌, Bool, true, false, ◌⊎◌, inl, inr, ℕ, ℤ, pos, Result, Ok, Err, Option, Some, None, refl, sym, ap, subst, ◌∙◌, rules, arith}
+use Rattle.std.proofs.Common.{◌≡◌, ◌<◌, ◌≤◌, true, false, inl, inr, ℕ, ℤ, pos, Ok, Err, refl, sym, ap, subst, ◌∙◌, arith}
 use lib.IntN.{negsuc, nat_abs}
 use lib.Signed.{lt_z}
 use Rattle.std.proofs.lemmas.Bool.{ltb-true, ltb-false}
-use Rattle.std.specs.Int.{bit_at}
 use Rattle.geoarrow_layout.specs.declared.kinds.CoordType.{CoordType}
 use Rattle.geoarrow_layout.specs.declared.kinds.Dimension.{Dimension}
 use Rattle.geoarrow_layout.specs.declared.fault.LayoutFault.{LayoutFault}

@@ -1,19 +1,15 @@
 -- What stands below the lists.
-use Rattle.std.proofs.Common.{◌≡◌, ◌≢◌, ◌↔◌, ◌<◌, ◌≤◌, ◌⊎◌, inl, inr, ℕ, zero, suc, ◌+◌, ℤ, pos, refl, sym, ap, subst, ◌∙◌, rules, arith, add-one, Bool, true, false, Option, Some, None, Result, Ok, Err, List, [], ◌∷◌, length}
+use Rattle.std.proofs.Common.{◌≡◌, ◌<◌, ◌≤◌, inl, inr, ℕ, zero, suc, ◌+◌, refl, sym, subst, ◌∙◌, arith, add-one, Bool, Option, Some, None, Err}
 use Rattle.arrow_values.specs.Tree.{Text, Metadata, Tree, plain, list, large_list, fixed_size_list, struct, union, FieldTree, MemberTrees}
 use Rattle.geoarrow_layout.specs.declared.kinds.CoordType.{CoordType}
-use Rattle.geoarrow_layout.specs.declared.kinds.CoordType.TheVariants.{Interleaved, Separated}
 use Rattle.geoarrow_layout.specs.declared.kinds.Dimension.{Dimension}
 use Rattle.geoarrow_layout.specs.declared.fault.LayoutFault.{LayoutFault}
 use Rattle.geoarrow_layout.specs.declared.summary.ListWidth.{ListWidth}
 use Rattle.geoarrow_layout.specs.declared.summary.ListWidth.TheVariants.{List as Lists, LargeList as LargeLists}
 use Rattle.geoarrow_layout.specs.declared.summary.Bottom.{Bottom}
-use Rattle.geoarrow_layout.specs.declared.summary.Bottom.TheVariants.{FixedSizeList, Struct, Union, OtherWidth, Deep, Other}
 use Rattle.geoarrow_layout.specs.declared.summary.Summary.{Summary}
-use Rattle.geoarrow_layout.specs.Kinds.{size_of, interleaved_name}
-use Rattle.geoarrow_layout.specs.Shapes.{names_of, ListsOver, Levels, Leaf, LeafUnder, IsSeparatedAs, Answers}
-use Rattle.geoarrow_layout.specs.Summary.{IsBits, SomeAt, IsFixedSize, IsStruct, IsList, IsBottom, AreLevels, SummarizesBy, other_width}
-use Rattle.geoarrow_layout.specs.Steps.{IsNoLeaf, Shows, Ended}
+use Rattle.geoarrow_layout.specs.Shapes.{ListsOver, Levels, Leaf, LeafUnder, Answers}
+use Rattle.geoarrow_layout.specs.Summary.{IsBottom, AreLevels, SummarizesBy}
 use Rattle.geoarrow_layout.proofs.Readings.{Answer, answers_like}
 
 -- one level more

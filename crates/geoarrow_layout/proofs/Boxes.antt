@@ -1,14 +1,13 @@
 -- Boxes, by the bits of their names.
-use Rattle.std.proofs.Common.{◌≡◌, ◌≢◌, ◌↔◌, ◌<◌, ℕ, refl, sym, ap, subst, ◌∙◌, ◌⊎◌, inl, inr, rules, arith, Bool, true, false, ◌&&◌, Option, Some, None, Result, Ok, Err, List, [], ◌∷◌, length, codes}
+use Rattle.std.proofs.Common.{◌≡◌, ◌<◌, ℕ, refl, sym, ap, subst, ◌∙◌, inl, inr, arith, Bool, true, false, ◌&&◌, Option, Result, Ok, Err, List, length}
 use Rattle.arrow_values.specs.Tree.{Text, Tree, plain, list, large_list, fixed_size_list, struct, union}
 use Rattle.geoarrow_layout.specs.declared.kinds.Dimension.{Dimension}
 use Rattle.geoarrow_layout.specs.declared.kinds.Dimension.TheVariants.{XY, XYZ, XYM, XYZM}
 use Rattle.geoarrow_layout.specs.declared.fault.LayoutFault.{LayoutFault}
 use Rattle.geoarrow_layout.specs.declared.summary.ListWidth.{ListWidth}
-use Rattle.geoarrow_layout.specs.declared.summary.Bottom.{Bottom}
-use Rattle.geoarrow_layout.specs.declared.summary.Bottom.TheVariants.{FixedSizeList, Struct, Union, OtherWidth, Deep, Other}
+use Rattle.geoarrow_layout.specs.declared.summary.Bottom.TheVariants.{Struct, OtherWidth, Deep, Other}
 use Rattle.geoarrow_layout.specs.declared.summary.Summary.{Summary}
-use Rattle.geoarrow_layout.specs.Shapes.{names_of, has_name, IsBoxAs, BoxShape, AnswersOne}
+use Rattle.geoarrow_layout.specs.Shapes.{names_of, IsBoxAs, BoxShape, AnswersOne}
 use Rattle.geoarrow_layout.specs.Summary.{IsBits, SomeAt, IsBottom, IsUnion, Summarizes}
 use Rattle.geoarrow_layout.specs.Steps.{has_bit}
 use Rattle.geoarrow_layout.proofs.FieldSteps.{has_at}

@@ -1,16 +1,15 @@
 -- Points that trees are taken for.
-use Rattle.std.proofs.Common.{◌≡◌, ◌≢◌, ◌↔◌, ◌<◌, ◌⊎◌, inl, inr, ℕ, ℤ, pos, refl, sym, ap, subst, ◌∙◌, arith, Bool, true, false, ◌&&◌, Option, Some, None, List, [], ◌∷◌, length, codes}
+use Rattle.std.proofs.Common.{◌≡◌, ◌≢◌, ◌↔◌, ◌<◌, ◌⊎◌, inl, inr, ℕ, ℤ, pos, refl, sym, ◌∙◌, arith, Bool, true, false, ◌&&◌, Option, Some, None, List, [], ◌∷◌, length}
 use Rattle.arrow_values.specs.Tree.{Text, Tree, plain, list, large_list, fixed_size_list, struct, union}
 use Rattle.geoarrow_layout.specs.declared.kinds.CoordType.{CoordType}
 use Rattle.geoarrow_layout.specs.declared.kinds.CoordType.TheVariants.{Interleaved, Separated}
 use Rattle.geoarrow_layout.specs.declared.kinds.Dimension.{Dimension}
 use Rattle.geoarrow_layout.specs.declared.kinds.Dimension.TheVariants.{XY, XYZ, XYM, XYZM}
 use Rattle.geoarrow_layout.specs.declared.summary.ListWidth.{ListWidth}
-use Rattle.geoarrow_layout.specs.declared.summary.Bottom.{Bottom}
 use Rattle.geoarrow_layout.specs.declared.summary.Bottom.TheVariants.{FixedSizeList, Struct, OtherWidth, Deep, Other}
 use Rattle.geoarrow_layout.specs.declared.summary.Summary.{Summary}
 use Rattle.geoarrow_layout.specs.Kinds.{size_of, interleaved_name}
-use Rattle.geoarrow_layout.specs.Shapes.{names_of, has_name, SameNames, IsSeparatedAs, Leaf}
+use Rattle.geoarrow_layout.specs.Shapes.{names_of, SameNames, IsSeparatedAs, Leaf}
 use Rattle.geoarrow_layout.specs.Summary.{IsBits, SomeAt, IsBottom, IsUnion, Summarizes}
 use Rattle.geoarrow_layout.specs.Inferred.{AnswersSome, Inferred, IsInferredAs, IsInferredSize, measured_names}
 use Rattle.geoarrow_layout.specs.Steps.{has_bit, is_measured, NamesSay, SizeSays}

@@ -1,6 +1,6 @@
 -- Ids and members: each is read in one way.
-use Rattle.std.proofs.Common.{◌≡◌, ◌≢◌, ◌↔◌, ◌<◌, ◌≤◌, ◌+◌, ◌*◌, ◌⊎◌, inl, inr, ℕ, zero, suc, ℤ, pos, Result, Ok, Err, Option, Some, None, refl, sym, ap, subst, ◌∙◌, rules, arith}
-use Rattle.arrow_values.specs.Tree.{Text, Metadata, Tree, plain, list, large_list, fixed_size_list, struct, union, MemberTrees, no_members, member}
+use Rattle.std.proofs.Common.{◌≡◌, ◌≢◌, ◌≤◌, ◌+◌, ◌*◌, inl, inr, ℕ, ℤ, pos, Option, None, refl, sym, ap, subst, ◌∙◌, arith}
+use Rattle.arrow_values.specs.Tree.{Tree, plain, list, large_list, fixed_size_list, struct, union, no_members, member}
 use Rattle.geoarrow_layout.specs.declared.kinds.CoordType.{CoordType}
 use Rattle.geoarrow_layout.specs.declared.kinds.Dimension.{Dimension}
 use Rattle.geoarrow_layout.specs.declared.kinds.Dimension.TheVariants.{XY, XYZ, XYM, XYZM}
@@ -8,10 +8,10 @@ use Rattle.geoarrow_layout.specs.declared.fault.LayoutFault.{LayoutFault}
 use Rattle.geoarrow_layout.specs.declared.encodings.NativeKind.{NativeKind}
 use Rattle.geoarrow_layout.specs.declared.encodings.NativeKind.TheVariants.{Point, LineString, Polygon, MultiPoint, MultiLineString, MultiPolygon, GeometryCollection}
 use Rattle.geoarrow_layout.specs.Kinds.{order_of, offset_of}
-use Rattle.geoarrow_layout.specs.Shapes.{Id, levels_of, LeafUnder, Leaf, OverLeaf, Member, GeometryPart, Collection, Mixed, Answers, Native}
+use Rattle.geoarrow_layout.specs.Shapes.{Id, LeafUnder, Leaf, OverLeaf, Member, GeometryPart, Collection, Mixed, Answers, Native}
 use Rattle.geoarrow_layout.proofs.Readings.{Answer, answers_like}
 use Rattle.geoarrow_layout.proofs.Leaves.{leaf_same}
-use Rattle.geoarrow_layout.proofs.Bottoms.{levels_same, AtNoList, NotList, Under}
+use Rattle.geoarrow_layout.proofs.Bottoms.{levels_same, AtNoList}
 use Rattle.geoarrow_layout.proofs.Readings.{IsPartsOf, some_parts, kinds_same, pairs_same, pairs_from, ok_pair, refused}
 
 abbrev pub Reading : Type 1

@@ -1,6 +1,6 @@
 -- Trees of one summary are of the same kinds.
-use Rattle.std.proofs.Common.{◌≡◌, ◌↔◌, ◌<◌, ◌≤◌, ◌⊎◌, inl, inr, ℕ, zero, suc, ℤ, Bool, true, Option, refl, sym, ap, subst, ◌∙◌, arith, List, [], ◌∷◌, length, codes}
-use Rattle.arrow_values.specs.Tree.{Text, Metadata, Tree, plain, list, large_list, fixed_size_list, struct, union, FieldTrees, MemberTrees}
+use Rattle.std.proofs.Common.{◌≡◌, ◌↔◌, ◌<◌, ◌≤◌, ◌⊎◌, inl, inr, ℕ, zero, suc, ℤ, Bool, Option, refl, sym, ap, subst, ◌∙◌, arith, List, [], ◌∷◌, length, codes}
+use Rattle.arrow_values.specs.Tree.{Text, Tree, plain, list, large_list, fixed_size_list, struct, union, FieldTrees, MemberTrees}
 use Rattle.geoarrow_layout.specs.declared.kinds.CoordType.{CoordType}
 use Rattle.geoarrow_layout.specs.declared.kinds.CoordType.TheVariants.{Interleaved, Separated}
 use Rattle.geoarrow_layout.specs.declared.kinds.Dimension.{Dimension}
@@ -14,8 +14,8 @@ use Rattle.geoarrow_layout.specs.declared.summary.Bottom.{Bottom}
 use Rattle.geoarrow_layout.specs.declared.summary.Bottom.TheVariants.{FixedSizeList, Struct, Union, OtherWidth, Deep, Other}
 use Rattle.geoarrow_layout.specs.declared.summary.Summary.{Summary}
 use Rattle.geoarrow_layout.specs.Shapes.{names_of, has_name, SameNames, IsSeparatedAs, Leaf, Levels, LeafUnder, Member, Mixed, Native, GeometryPart, Geometry, IsBoxAs, BoxShape, Accepted, Accepts, IsStructured}
-use Rattle.geoarrow_layout.specs.Summary.{IsBits, SomeAt, IsStruct, IsBottom, IsUnion, IsRootUnion, SummarizesBy, Summarizes}
-use Rattle.geoarrow_layout.specs.Steps.{IsNoLeaf, IsNested, Shows, ShowsInner}
+use Rattle.geoarrow_layout.specs.Summary.{IsBits, SomeAt, IsStruct, IsBottom, IsUnion, SummarizesBy, Summarizes}
+use Rattle.geoarrow_layout.specs.Steps.{IsNoLeaf, IsNested}
 use Rattle.geoarrow_layout.proofs.Leaves.{xyz_names, xym_names}
 use Rattle.geoarrow_layout.proofs.FieldSteps.{has_at}
 use Rattle.geoarrow_layout.proofs.Bottoms.{AtNoList, Under, not_less, not_more, are_levels, levels_same, leaf_apart}

@@ -1,20 +1,20 @@
 -- The dimension that the names of a struct say, by their bits.
-use Rattle.std.proofs.Common.{◌≡◌, ◌≢◌, ◌↔◌, ℕ, refl, sym, ap, subst, ◌∙◌, rules, arith, Bool, true, false, Result, Ok, Err, ◌⊎◌, inl, inr, List, [], ◌∷◌, length, codes, ℤ, pos, Option, Some, None}
+use Rattle.std.proofs.Common.{◌≡◌, ◌↔◌, ℕ, refl, sym, ap, subst, ◌∙◌, arith, Bool, true, false, Result, Ok, Err, inl, inr, List, length, Option}
 use Rattle.arrow_values.specs.Tree.{Text, Tree, plain, list, large_list, fixed_size_list, struct, union}
 use Rattle.geoarrow_layout.specs.declared.kinds.CoordType.{CoordType}
 use Rattle.geoarrow_layout.specs.declared.kinds.CoordType.TheVariants.{Interleaved, Separated}
 use Rattle.geoarrow_layout.specs.declared.kinds.Dimension.{Dimension}
-use Rattle.geoarrow_layout.specs.declared.kinds.Dimension.TheVariants.{XY, XYZ, XYM, XYZM}
+use Rattle.geoarrow_layout.specs.declared.kinds.Dimension.TheVariants.{XYZ, XYM}
 use Rattle.geoarrow_layout.specs.declared.fault.LayoutFault.{LayoutFault}
 use Rattle.geoarrow_layout.specs.declared.summary.ListWidth.{ListWidth}
 use Rattle.geoarrow_layout.specs.declared.summary.Bottom.{Bottom}
-use Rattle.geoarrow_layout.specs.declared.summary.Bottom.TheVariants.{FixedSizeList, Struct, Union, OtherWidth, Deep, Other}
-use Rattle.geoarrow_layout.specs.Shapes.{names_of, has_name, IsSeparatedAs, AnswersOne, Answers, Leaf}
+use Rattle.geoarrow_layout.specs.declared.summary.Bottom.TheVariants.{Struct, OtherWidth, Deep, Other}
+use Rattle.geoarrow_layout.specs.Shapes.{names_of, IsSeparatedAs, AnswersOne, Answers, Leaf}
 use Rattle.geoarrow_layout.specs.Summary.{IsBits, SomeAt, IsBottom}
 use Rattle.geoarrow_layout.specs.Steps.{has_bit, IsNoLeaf}
 use Rattle.geoarrow_layout.proofs.Leaves.{xyz_names, xym_names, no_x, no_y, no_z_m, separated_same}
 use Rattle.geoarrow_layout.proofs.FieldSteps.{has_at}
-use Rattle.geoarrow_layout.proofs.Readings.{Answer, answers_like}
+use Rattle.geoarrow_layout.proofs.Readings.{Answer}
 
 abbrev DimensionAnswer : Type 0
 DimensionAnswer = Result Dimension LayoutFault

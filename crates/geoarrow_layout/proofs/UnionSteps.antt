@@ -1,9 +1,9 @@
 -- What was seen of members says what the union is.
-use Rattle.std.proofs.Common.{◌≡◌, ◌≢◌, ◌↔◌, ◌<◌, ◌≤◌, ◌+◌, ◌*◌, ◌^◌, ◌⊎◌, inl, inr, ℕ, zero, suc, ℤ, pos, Result, Ok, Err, Option, Some, None, Bool, true, false, List, [], ◌∷◌, take, length, get_or, refl, sym, ap, subst, ◌∙◌, rules, arith, add-one, nat_eq}
+use Rattle.std.proofs.Common.{◌≡◌, ◌≢◌, ◌↔◌, ◌<◌, ◌≤◌, ◌+◌, ◌^◌, ◌⊎◌, inl, inr, ℕ, zero, suc, ℤ, pos, Result, Ok, Err, Option, Some, None, Bool, true, false, List, [], ◌∷◌, take, length, get_or, refl, sym, ap, subst, ◌∙◌, arith, add-one, nat_eq}
 use Rattle.std.specs.Int.{bit_at}
 use Rattle.std.proofs.Math.Dec.{eqb-suc-zero}
 use Rattle.std.proofs.lemmas.Nat.Bits.{same_from_bits, bit_at-pow_same, bit_at-pow_other, bit_at-lt}
-use Rattle.arrow_values.specs.Tree.{Text, Metadata, Tree, plain, list, large_list, fixed_size_list, struct, union, FieldTree, MemberTrees, no_members, member}
+use Rattle.arrow_values.specs.Tree.{Tree, plain, list, large_list, fixed_size_list, struct, union, FieldTree, MemberTrees, no_members, member}
 use Rattle.arrow_values.specs.View.{member_trees}
 use Rattle.geoarrow_layout.specs.declared.kinds.CoordType.{CoordType}
 use Rattle.geoarrow_layout.specs.declared.kinds.CoordType.TheVariants.{Interleaved, Separated}
@@ -16,15 +16,15 @@ use Rattle.geoarrow_layout.specs.declared.summary.Bottom.{Bottom}
 use Rattle.geoarrow_layout.specs.declared.summary.Bottom.TheVariants.{FixedSizeList, Struct, Union, OtherWidth, Deep, Other}
 use Rattle.geoarrow_layout.specs.declared.summary.Summary.{Summary}
 use Rattle.geoarrow_layout.specs.Kinds.{order_of}
-use Rattle.geoarrow_layout.specs.Shapes.{Mixed, Geometry, Member, GeometryPart, GeometryMember, AllMembers, SomeMember, HasMembers, MixedMembers, Answers, AnswersOne}
+use Rattle.geoarrow_layout.specs.Shapes.{Mixed, Geometry, Member, GeometryPart, AllMembers, SomeMember, HasMembers, MixedMembers, Answers, AnswersOne}
 use Rattle.geoarrow_layout.specs.Summary.{IsBits, IsFaultOf, Seen, place_of, AreLevels, IsBottom, IsInnerUnion, IsUnion, SummarizesBy, Summarizes}
 use Rattle.geoarrow_layout.specs.Steps.{AddsBits, CoordOf, DimensionOf, SomeAnswer, UnionSays, UnionSaysOne, IsNested, IsNoLeaf, Shows, ShowsInner}
-use Rattle.geoarrow_layout.proofs.Readings.{Answer, answers_like}
+use Rattle.geoarrow_layout.proofs.Readings.{Answer}
 use Rattle.geoarrow_layout.proofs.Readings.{ok_pair, refused, pairs_same}
 use Rattle.geoarrow_layout.proofs.MemberLists.{all_more, all_less, all_last, take_end}
 use Rattle.geoarrow_layout.proofs.Parts.{member_same, geometry_part_same, mixed_apart}
 use Rattle.geoarrow_layout.proofs.Bottoms.{NotList, not_less}
-use Rattle.geoarrow_layout.proofs.BitSteps.{bits_like, bits_more, no_bits, bit_is, same_or_not}
+use Rattle.geoarrow_layout.proofs.BitSteps.{bits_like, no_bits, bit_is, same_or_not}
 
 abbrev pub Reads : Type 1
 Reads = ℤ → Tree → CoordType → Dimension → Type 0

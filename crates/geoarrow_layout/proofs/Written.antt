@@ -1,5 +1,5 @@
 -- What is written is read as what it was written for.
-use Rattle.std.proofs.Common.{◌≡◌, ℤ, List, [], ◌∷◌, ◌++◌, Bool, true, false, inl, inr, refl}
+use Rattle.std.proofs.Common.{◌≡◌, ℤ, [], ◌∷◌, ◌++◌, true, false, inl, inr, refl}
 use Rattle.arrow_values.specs.Tree.{Tree, Members}
 use Rattle.arrow_values.specs.View.{member_trees}
 use Rattle.arrow_values.specs.Union.{HasTypeIds}
@@ -8,13 +8,12 @@ use Rattle.geoarrow_layout.specs.declared.kinds.CoordType.TheVariants.{Interleav
 use Rattle.geoarrow_layout.specs.declared.kinds.Dimension.{Dimension}
 use Rattle.geoarrow_layout.specs.declared.kinds.Dimension.TheVariants.{XY, XYZ, XYM, XYZM}
 use Rattle.geoarrow_layout.specs.declared.summary.ListWidth.TheVariants.{List as Lists}
-use Rattle.geoarrow_layout.specs.declared.encodings.NativeKind.{NativeKind}
 use Rattle.geoarrow_layout.specs.declared.encodings.NativeKind.TheVariants.{Point, LineString, Polygon, MultiPoint, MultiLineString, MultiPolygon, GeometryCollection}
 use Rattle.geoarrow_layout.specs.declared.encodings.Width.TheVariants.{Plain, Large, View}
 use Rattle.geoarrow_layout.specs.declared.encodings.Kind.{Kind}
 use Rattle.geoarrow_layout.specs.declared.encodings.Kind.TheVariants.{Native as OfNative, Geometry as OfGeometry, Rect as OfRect, Wkb as OfWkb, Wkt as OfWkt}
 use Rattle.geoarrow_layout.specs.Kinds.{name_of}
-use Rattle.geoarrow_layout.specs.Shapes.{Leaf, SameNames, Id, Member, AllMembers, Mixed, Collection, GeometryMember, Geometry, BoxShape, Accepted, Accepts}
+use Rattle.geoarrow_layout.specs.Shapes.{Leaf, SameNames, Member, AllMembers, Collection, GeometryMember, Geometry, BoxShape, Accepted, Accepts}
 use Rattle.geoarrow_layout.specs.Layouts.{leaf_layout, member_layout, mixed_members, mixed_layout, native_layout, dimension_members, geometry_members, geometry_layout, box_layout, layout, IsWritten, IsWrittenSome}
 use Rattle.geoarrow_layout.proofs.UnionSteps.{all_map}
 

@@ -1,5 +1,5 @@
 -- The trees that are written: a table of names, list levels and type ids.
-use Rattle.std.specs.Prelude.{◌≡◌, ℤ, pos, Bool, true, false, List, [], ◌∷◌, ◌++◌, map, codes}
+use Rattle.std.specs.Prelude.{◌≡◌, ℤ, pos, true, false, List, [], ◌∷◌, ◌++◌, map, codes}
 use Rattle.arrow_values.specs.Tree.{Text, Tree, plain, float64, binary, large_binary, binary_view, utf8, large_utf8, utf8_view, list, fixed_size_list, struct, union, FieldTree, field_tree, Members}
 use Rattle.arrow_values.specs.View.{field_trees, member_trees}
 use Rattle.arrow_values.specs.declared.tree.UnionMode.TheVariants.{Dense}

@@ -84,9 +84,9 @@ impl Metadata {
     /// The metadata that a JSON value stands for (GeoArrow, "Extension metadata"). The value must be an object. A `crs`,
     /// `crs_type` or `edges` that is null or missing is absent; `crs` may be any other value whose numbers are whole, at
     /// any depth (an integer of 64 bits: not 1.5, but not 1.0, 1e2 or -0 either), and `crs_type` and `edges` must be texts of
-    /// the format. Other keys are ignored. Errs, in this order, as
-    /// `External` where there is no object, as `Crs` where a number in `crs` is not whole, as `External` where `crs_type` is
-    /// none of the format's, or `edges` is none; else for want of memory alone.
+    /// the format. Other keys are ignored. Errs, in this order, as `External` where there is no object, as `Crs` where a
+    /// number in `crs` is not whole, as `External` where `crs_type` is none of the format's, and as `External` where `edges`
+    /// are none of the format's; else for want of memory alone.
     pub fn from_value(alloc: Global, value: &Value) -> GeoArrowResult<Metadata>
         ensures ok { IfOk result (StandsFor (view value.now)) }
         ensures only { IfOk result (λ m. (n : Metadata) → StandsFor (view value.now) n → n ≡ m) }

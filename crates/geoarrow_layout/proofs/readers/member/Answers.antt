@@ -2,7 +2,7 @@ use Rattle.std.proofs.Common.{◌≡◌, subst, rules, w8, to_z, of_z}
 use Rattle.std.proofs.lemmas.Int.{to_z-of_z}
 use Rattle.geoarrow_layout.specs.Shapes.{OverLeaf}
 use Rattle.geoarrow_layout.proofs.Readings.{IsPartsOf, some_parts}
-use Rattle.geoarrow_layout.proofs.Parts.{part_answer, part_refused, part_fault, part_unknown}
+use Rattle.geoarrow_layout.proofs.Parts.{part_answer, part_refused}
 use Rattle.geoarrow_layout.proofs.readers.member.Goals as goal
 
 pub returns-then-eq : goal.returns-then-eq
