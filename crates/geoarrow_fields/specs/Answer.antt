@@ -8,7 +8,8 @@ use Rattle.arrow_values.specs.Texts.{extension_name, extension_metadata}
 use Rattle.geoarrow_layout.specs.declared.kinds.CoordType.{CoordType}
 use Rattle.geoarrow_layout.specs.declared.kinds.CoordType.TheVariants.{Interleaved, Separated}
 use Rattle.geoarrow_layout.specs.declared.kinds.Dimension.{Dimension}
-use Rattle.geoarrow_layout.specs.Kinds.{dimension_name}
+use Rattle.geoarrow_layout.specs.declared.encodings.NativeKind.TheVariants.{Point, LineString, Polygon, MultiPoint, MultiLineString, MultiPolygon, GeometryCollection}
+use Rattle.geoarrow_layout.specs.Kinds.{dimension_name, native_name, box_name, geometry_name, wkb_name, wkt_name}
 use Rattle.geoarrow_layout.specs.Shapes.{Leaf}
 use Rattle.geoarrow_layout.specs.Layouts.{leaf_layout}
 use Rattle.field_lines.specs.Line.{field_of_line, line_of_field}
@@ -19,9 +20,8 @@ use Rattle.geoarrow_fields.specs.Lines.{Bytes}
 -- the extension names of GeoArrow
 abbrev pub geoarrow_names : List Bytes
 geoarrow_names =
-    codes "geoarrow.point" ∷ codes "geoarrow.linestring" ∷ codes "geoarrow.polygon" ∷ codes "geoarrow.multipoint" ∷ codes "geoarrow.multilinestring"
-    ∷ codes "geoarrow.multipolygon" ∷ codes "geoarrow.geometrycollection" ∷ codes "geoarrow.box" ∷ codes "geoarrow.geometry" ∷ codes "geoarrow.wkb"
-    ∷ codes "geoarrow.wkt" ∷ []
+    native_name Point ∷ native_name LineString ∷ native_name Polygon ∷ native_name MultiPoint ∷ native_name MultiLineString ∷ native_name MultiPolygon
+    ∷ native_name GeometryCollection ∷ box_name ∷ geometry_name ∷ wkb_name ∷ wkt_name ∷ []
 
 abbrev pub is_geoarrow_name : Bytes → Bool
 is_geoarrow_name name = list_any (bytes_eq name) geoarrow_names
@@ -32,7 +32,7 @@ has_geoarrow_name f = option_map_or is_geoarrow_name (extension_name f) false
 
 -- the field has the name of a point, and no metadata text
 abbrev pub IsPlainPoint : FieldTree → Type 0
-IsPlainPoint f = (extension_name f ≡ Some (codes "geoarrow.point")) × (extension_metadata f ≡ None)
+IsPlainPoint f = (extension_name f ≡ Some (native_name Point)) × (extension_metadata f ≡ None)
 
 -- the word of a coordinate type
 abbrev pub coord_type_name : CoordType → Bytes
