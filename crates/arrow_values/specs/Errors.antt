@@ -1,9 +1,10 @@
 -- What contracts say of the errors.
-use Rattle.std.specs.Prelude.{◌≡◌, ◌⊎◌, ℤ, Bool, true, false, Option, Some, None}
+use Rattle.std.specs.Prelude.{◌≡◌, ◌⊎◌, ℤ, Bool, true, false, Option, Some, None, string_bytes}
+use Rattle.arrow_values.specs.Tree.{Text}
 use Rattle.arrow_values.specs.declared.error.ArrowError.{ArrowError}
 use Rattle.arrow_values.specs.declared.error.ArrowError.TheVariants.{SchemaError, InvalidArgumentError, ExternalError', OutOfMemory}
 use Rattle.arrow_values.specs.declared.error.GeoArrowError.{GeoArrowError}
-use Rattle.arrow_values.specs.declared.error.GeoArrowError.TheVariants.{Arrow}
+use Rattle.arrow_values.specs.declared.error.GeoArrowError.TheVariants.{Arrow, InvalidGeoArrow}
 use Rattle.arrow_values.specs.declared.error.AppendFault.{AppendFault}
 use Rattle.arrow_values.specs.declared.error.AppendFault.TheVariants.{RepeatedId, OutOfMemory as NoRoom}
 
@@ -23,6 +24,16 @@ is_invalid_argument _ = false
 abbrev pub is_schema : ArrowError → Bool
 is_schema (SchemaError m) = true
 is_schema _ = false
+
+-- a `SchemaError` of that message
+abbrev pub IsSchemaOf : Text → ArrowError → Type 0
+IsSchemaOf text (SchemaError m) = string_bytes m ≡ text
+IsSchemaOf text _ = ⊥
+
+-- an `InvalidGeoArrow` of that message
+abbrev pub IsInvalidOf : Text → GeoArrowError → Type 0
+IsInvalidOf text (InvalidGeoArrow m) = string_bytes m ≡ text
+IsInvalidOf text _ = ⊥
 
 -- a refusal of an argument, want of memory aside
 abbrev pub IsInvalidArgument : ArrowError → Type 0

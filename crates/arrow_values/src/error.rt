@@ -1,6 +1,6 @@
 //! Why a call is refused: Arrow's error, the one of GeoArrow, which hold each other, and that of joining two unions.
-ghost use Rattle.std.specs.Prelude.{◌≡◌, IfOk, IsOk, true};
-ghost use Rattle.arrow_values.specs.Errors.{IsArrowFormOf, is_arrow, IsInvalidArgument};
+ghost use Rattle.std.specs.Prelude.{◌≡◌, ◌⊎◌, IfOk, IsOk, true};
+ghost use Rattle.arrow_values.specs.Errors.{IsArrowFormOf, is_arrow, IsInvalidArgument, IsMemory, IsGeoMemory, IsSchemaOf, IsInvalidOf};
 ghost use Rattle.arrow_values.specs.declared.error.ArrowError.TheVariants.{OutOfMemory};
 ghost use Rattle.arrow_values.specs.declared.error.GeoArrowError.TheVariants.{Arrow, IOError};
 
@@ -136,6 +136,30 @@ impl GeoArrowError {
         match self {
             GeoArrowError::Arrow(inner) => Ok(inner),
             other => Ok(ArrowError::ExternalError(Box::new(alloc, other)?)),
+        }
+    }
+}
+
+impl GeoArrowError {
+    /// An `InvalidGeoArrow` of that message; or want of memory where there is none for the message.
+    pub fn invalid_geoarrow(alloc: Global, message: &str) -> GeoArrowError
+        ensures { IsGeoMemory result ⊎ IsInvalidOf message.now result }
+    {
+        match String::from_str(alloc, message) {
+            Ok(message) => GeoArrowError::InvalidGeoArrow(message),
+            Err(_) => GeoArrowError::Arrow(ArrowError::OutOfMemory),
+        }
+    }
+}
+
+impl ArrowError {
+    /// A `SchemaError` of that message; or want of memory where there is none for the message.
+    pub fn schema_error(alloc: Global, message: &str) -> ArrowError
+        ensures { IsMemory result ⊎ IsSchemaOf message.now result }
+    {
+        match String::from_str(alloc, message) {
+            Ok(message) => ArrowError::SchemaError(message),
+            Err(_) => ArrowError::OutOfMemory,
         }
     }
 }

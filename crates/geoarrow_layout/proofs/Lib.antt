@@ -13,6 +13,7 @@ pub mod Boxes
 pub mod KindSteps
 pub mod Written
 pub mod OneKind
+pub mod KindReads
 pub mod SameSummary
 pub mod Listed
 pub mod Inferences

@@ -9,7 +9,9 @@ use Rattle.geoarrow_layout.specs.declared.encodings.Width.{Width}
 use Rattle.geoarrow_layout.specs.declared.encodings.Width.TheVariants.{Plain, Large, View}
 use Rattle.geoarrow_layout.specs.declared.encodings.Kind.{Kind}
 use Rattle.geoarrow_layout.specs.declared.encodings.Kind.TheVariants.{Native as OfNative, Geometry as OfGeometry, Rect as OfRect, Wkb as OfWkb, Wkt as OfWkt}
-use Rattle.geoarrow_layout.specs.Kinds.{native_name, wkb_name, wkt_name, name_of}
+use Rattle.geoarrow_layout.specs.declared.names.ExtensionName.{ExtensionName}
+use Rattle.geoarrow_layout.specs.declared.names.ExtensionName.TheVariants as names
+use Rattle.geoarrow_layout.specs.Kinds.{name_text, native_name, wkb_name, wkt_name, name_of}
 use Rattle.geoarrow_layout.specs.Shapes.{names_of, Native, Geometry, BoxShape, IsBytes, IsText, Accepted, Accepts}
 use Rattle.geoarrow_layout.proofs.Leaves.{apart}
 use Rattle.geoarrow_layout.proofs.Parts.{any_native_same, geometry_part_same}
@@ -45,7 +47,7 @@ text_same Large Large t h g = refl
 text_same View View t h g = refl
 text_same w v t h g = cc
 
-not_wkb : (k : NativeKind) → native_name k ≡ wkb_name → ⊥
+pub not_wkb : (k : NativeKind) → native_name k ≡ wkb_name → ⊥
 not_wkb Point h = apart _ _ refl h
 not_wkb LineString h = apart _ _ refl h
 not_wkb Polygon h = apart _ _ refl h
@@ -54,7 +56,7 @@ not_wkb MultiLineString h = apart _ _ refl h
 not_wkb MultiPolygon h = apart _ _ refl h
 not_wkb GeometryCollection h = apart _ _ refl h
 
-not_wkt : (k : NativeKind) → native_name k ≡ wkt_name → ⊥
+pub not_wkt : (k : NativeKind) → native_name k ≡ wkt_name → ⊥
 not_wkt Point h = apart _ _ refl h
 not_wkt LineString h = apart _ _ refl h
 not_wkt Polygon h = apart _ _ refl h
@@ -86,3 +88,20 @@ same_kind t k l same h g = absurd (apart _ _ refl same)
 
 pub one_kind : (name : Text) (t : Tree) (k l : Kind) → Accepts name t k → Accepts name t l → k ≡ l
 one_kind name t k l h g = same_kind t k l (sym h.0 ∙ g.0) h.1 g.1
+
+-- two names of one text are one
+pub one_name : (a b : ExtensionName) → name_text a ≡ name_text b → a ≡ b
+one_name (names.Native k) (names.Native l) h = ap names.Native (names_same k l h)
+one_name names.Geometry names.Geometry h = refl
+one_name names.Rect names.Rect h = refl
+one_name names.Wkb names.Wkb h = refl
+one_name names.Wkt names.Wkt h = refl
+one_name (names.Native k) names.Geometry h = absurd (not_geometry k h)
+one_name (names.Native k) names.Rect h = absurd (not_box k h)
+one_name (names.Native k) names.Wkb h = absurd (not_wkb k h)
+one_name (names.Native k) names.Wkt h = absurd (not_wkt k h)
+one_name names.Geometry (names.Native k) h = absurd (not_geometry k (sym h))
+one_name names.Rect (names.Native k) h = absurd (not_box k (sym h))
+one_name names.Wkb (names.Native k) h = absurd (not_wkb k (sym h))
+one_name names.Wkt (names.Native k) h = absurd (not_wkt k (sym h))
+one_name _ _ h = absurd (apart _ _ refl h)

@@ -1,10 +1,9 @@
 -- The faults of a layout as errors of Arrow.
-use Rattle.std.specs.Prelude.{◌≡◌, codes, string_bytes}
+use Rattle.std.specs.Prelude.{codes}
 use Rattle.arrow_values.specs.Tree.{Text}
 use Rattle.arrow_values.specs.declared.error.ArrowError.{ArrowError}
-use Rattle.arrow_values.specs.declared.error.ArrowError.TheVariants.{SchemaError, ExternalError'}
-use Rattle.arrow_values.specs.declared.error.GeoArrowError.{GeoArrowError}
-use Rattle.arrow_values.specs.declared.error.GeoArrowError.TheVariants.{InvalidGeoArrow}
+use Rattle.arrow_values.specs.declared.error.ArrowError.TheVariants.{ExternalError'}
+use Rattle.arrow_values.specs.Errors.{IsSchemaOf, IsInvalidOf}
 use Rattle.geoarrow_layout.specs.declared.fault.LayoutFault.{LayoutFault}
 use Rattle.geoarrow_layout.specs.declared.fault.LayoutFault.TheVariants.{UnexpectedType, BadInterleavedName, BadSize, BadFieldNames, BadFieldCount, MixedWidths, BadTypeId, MemberDimension, EmptyUnion, SeveralCoordTypes, SeveralDimensions}
 
@@ -22,17 +21,7 @@ fault_text EmptyUnion = codes "union has no members"
 fault_text SeveralCoordTypes = codes "several coordinate types in union"
 fault_text SeveralDimensions = codes "several dimensions in union"
 
--- a schema error of that text
-abbrev pub IsSchemaOf : Text → ArrowError → Type 0
-IsSchemaOf text (SchemaError message) = string_bytes message ≡ text
-IsSchemaOf text _ = ⊥
-
--- data that is no GeoArrow, of that text
-abbrev pub IsInvalidOf : Text → GeoArrowError → Type 0
-IsInvalidOf text (InvalidGeoArrow message) = string_bytes message ≡ text
-IsInvalidOf text _ = ⊥
-
--- the same, in a box
+-- data that is no GeoArrow, of that text, in a box
 abbrev pub BoxesInvalidOf : Text → ArrowError → Type 0
 BoxesInvalidOf text (ExternalError' p inner) = IsInvalidOf text inner
 BoxesInvalidOf text _ = ⊥

@@ -12,6 +12,8 @@ use Rattle.geoarrow_layout.specs.declared.kinds.Dimension.{Dimension}
 use Rattle.geoarrow_layout.specs.declared.kinds.Dimension.TheVariants.{XY, XYZ, XYM, XYZM}
 use Rattle.geoarrow_layout.specs.declared.encodings.NativeKind.{NativeKind}
 use Rattle.geoarrow_layout.specs.declared.encodings.NativeKind.TheVariants.{Point, LineString, Polygon, MultiPoint, MultiLineString, MultiPolygon, GeometryCollection}
+use Rattle.geoarrow_layout.specs.declared.names.ExtensionName.{ExtensionName}
+use Rattle.geoarrow_layout.specs.declared.names.ExtensionName.TheVariants as names
 use Rattle.geoarrow_layout.specs.declared.encodings.Kind.{Kind}
 use Rattle.geoarrow_layout.specs.declared.encodings.Kind.TheVariants.{Native, Geometry, Rect, Wkb, Wkt}
 
@@ -102,13 +104,24 @@ wkb_name = codes "geoarrow.wkb"
 abbrev pub wkt_name : Text
 wkt_name = codes "geoarrow.wkt"
 
--- the extension name of a kind
+abbrev pub name_text : ExtensionName → Text
+name_text (names.Native k) = native_name k
+name_text names.Geometry = geometry_name
+name_text names.Rect = box_name
+name_text names.Wkb = wkb_name
+name_text names.Wkt = wkt_name
+
+-- the extension name under which a kind is written
+abbrev pub extension_of : Kind → ExtensionName
+extension_of (Native k c d) = names.Native k
+extension_of (Geometry c) = names.Geometry
+extension_of (Rect d) = names.Rect
+extension_of (Wkb w) = names.Wkb
+extension_of (Wkt w) = names.Wkt
+
+-- its text
 abbrev pub name_of : Kind → Text
-name_of (Native k c d) = native_name k
-name_of (Geometry c) = geometry_name
-name_of (Rect d) = box_name
-name_of (Wkb w) = wkb_name
-name_of (Wkt w) = wkt_name
+name_of k = name_text (extension_of k)
 
 -- the coordinate type of a kind; a box has its ordinates in fields of their own
 abbrev pub coord_type_of : Kind → Option CoordType

@@ -1,12 +1,13 @@
 //! The data types that are written.
-ghost use Rattle.std.specs.Prelude.{◌≡◌, ◌++◌, [], false, pos, map, IfOk};
+ghost use Rattle.std.specs.Prelude.{◌≡◌, ◌++◌, [], false, pos, map, IfOk, IsOk};
 ghost use Rattle.std.specs.List.{zip};
 ghost use Rattle.arrow_values.specs.Tree.{list};
 ghost use Rattle.arrow_values.specs.View.{tree};
 ghost use Rattle.geoarrow_layout.specs.Kinds.{size_of, interleaved_name};
-ghost use Rattle.geoarrow_layout.specs.Layouts.{coordinate, coordinate_names, leaf_layout, lists_over, list_names, over_leaf_layout, type_name, dimension_suffix, member_field, members_over, mixed_members, mixed_layout, native_layout, dimension_members, geometry_layout, box_names, box_layout};
+ghost use Rattle.geoarrow_layout.specs.Layouts.{coordinate, coordinate_names, leaf_layout, lists_over, list_names, over_leaf_layout, type_name, dimension_suffix, member_field, members_over, mixed_members, mixed_layout, native_layout, dimension_members, geometry_layout, box_names, box_layout, bytes_layout, text_layout, layout};
+ghost use Rattle.geoarrow_layout.specs.Shapes.{IsStructured};
 
-use crate::encodings::NativeKind;
+use crate::encodings::{Kind, NativeKind, Width};
 use crate::ids::type_id;
 use crate::kinds::{CoordType, Dimension};
 use arrow_values::{DataType, Field, Fields, UnionFields, UnionMode};
@@ -84,6 +85,45 @@ pub fn box_data_type(alloc: Global, dimension: Dimension) -> Result<DataType, Al
     ensures { IfOk result (λ t. tree t ≡ box_layout dimension) }
 {
     Ok(DataType::Struct(Fields::from(box_fields(alloc, dimension)?)))
+}
+
+/// The data type of well-known binary (GeoArrow, "WKB"). Takes no memory.
+pub fn wkb_data_type(width: Width) -> DataType
+    ensures { tree result ≡ bytes_layout width }
+{
+    match width {
+        Width::Plain => DataType::Binary,
+        Width::Large => DataType::LargeBinary,
+        Width::View => DataType::BinaryView,
+    }
+}
+
+/// The data type of well-known text (GeoArrow, "WKT"). Takes no memory.
+pub fn wkt_data_type(width: Width) -> DataType
+    ensures { tree result ≡ text_layout width }
+{
+    match width {
+        Width::Plain => DataType::Utf8,
+        Width::Large => DataType::LargeUtf8,
+        Width::View => DataType::Utf8View,
+    }
+}
+
+/// The data type of a column of a kind, as the builder for its sort gives it. Errs for want of memory alone, and never
+/// for well-known binary and text.
+pub fn kind_data_type(alloc: Global, kind: Kind) -> Result<DataType, AllocError>
+    ensures layout { IfOk result (λ t. tree t ≡ layout kind) }
+    ensures no_memory { ¬ IsStructured kind → IsOk result }
+{
+    match kind {
+        Kind::Native(kind, coord_type, dimension) => {
+            list_data_type(alloc, kind, coord_type, dimension)
+        }
+        Kind::Geometry(coord_type) => geometry_data_type(alloc, coord_type),
+        Kind::Rect(dimension) => box_data_type(alloc, dimension),
+        Kind::Wkb(width) => Ok(wkb_data_type(width)),
+        Kind::Wkt(width) => Ok(wkt_data_type(width)),
+    }
 }
 
 /// A field of `Float64` that is never null.

@@ -1,8 +1,9 @@
 //! Which kinds of columns there are.
 ghost use Rattle.std.specs.Prelude.{◌≡◌};
-ghost use Rattle.geoarrow_layout.specs.Kinds.{native_name, name_of, coord_type_of, dimension_of};
+ghost use Rattle.geoarrow_layout.specs.Kinds.{native_name, extension_of, name_of, coord_type_of, dimension_of};
 
 use crate::kinds::{CoordType, Dimension};
+use crate::names::ExtensionName;
 
 /// The kinds of geometry that have a layout of their own (GeoArrow, "Native encoding").
 #[derive(Clone, Copy, Debug, PartialEq, Eq)]
@@ -54,12 +55,19 @@ impl Kind {
     pub fn name(&self) -> &'static str
         ensures { result.now ≡ name_of self.now }
     {
+        self.extension_name().as_text()
+    }
+
+    /// The same, as one of the names.
+    pub fn extension_name(&self) -> ExtensionName
+        ensures { result ≡ extension_of self.now }
+    {
         match self {
-            Kind::Native(kind, _, _) => native_name(*kind),
-            Kind::Geometry(_) => "geoarrow.geometry",
-            Kind::Rect(_) => "geoarrow.box",
-            Kind::Wkb(_) => "geoarrow.wkb",
-            Kind::Wkt(_) => "geoarrow.wkt",
+            Kind::Native(kind, _, _) => ExtensionName::Native(*kind),
+            Kind::Geometry(_) => ExtensionName::Geometry,
+            Kind::Rect(_) => ExtensionName::Rect,
+            Kind::Wkb(_) => ExtensionName::Wkb,
+            Kind::Wkt(_) => ExtensionName::Wkt,
         }
     }
 
@@ -86,7 +94,7 @@ impl Kind {
 }
 
 /// The extension name of a native kind.
-fn native_name(kind: NativeKind) -> &'static str
+pub(crate) fn native_name(kind: NativeKind) -> &'static str
     ensures { result.now ≡ native_name kind }
 {
     match kind {

@@ -52,20 +52,7 @@ pub(crate) fn parts_of_id(id: i8) -> Option<(NativeKind, Dimension)>
 pub(crate) fn type_id(kind: NativeKind, dimension: Dimension) -> i8
     ensures { result ≡ pos (type_id_of kind dimension) }
 {
-    (order_of(dimension) * 10 + offset_of(kind)) as i8
-}
-
-/// The place of a dimension, by which type ids go.
-pub(crate) fn order_of(dimension: Dimension) -> u8
-    ensures order { result ≡ order_of dimension }
-    ensures small { result ≤ 3 }
-{
-    match dimension {
-        Dimension::XY => 0,
-        Dimension::XYZ => 1,
-        Dimension::XYM => 2,
-        Dimension::XYZM => 3,
-    }
+    (dimension.order() * 10 + offset_of(kind)) as i8
 }
 
 /// The type id of a native kind in two dimensions.

@@ -1,5 +1,5 @@
 //! What a layout has: a coordinate type and a dimension.
-ghost use Rattle.std.specs.Prelude.{◌≡◌, ◌↔◌, ◌⊎◌, IfErr, Some, Ok};
+ghost use Rattle.std.specs.Prelude.{◌≡◌, ◌≤◌, ◌↔◌, ◌⊎◌, IfErr, Some, Ok};
 
 use arrow_values::{Dimensions, GeoArrowError, GeoArrowResult};
 use std::alloc::Global;
@@ -39,7 +39,7 @@ pub enum Dimension {
 }
 
 impl Dimension {
-    ghost use Rattle.geoarrow_layout.specs.Kinds.{size_of, dimension_name, IsDimension, RefusesDimensions};
+    ghost use Rattle.geoarrow_layout.specs.Kinds.{size_of, order_of, dimension_name, IsDimension, RefusesDimensions};
     ghost use Rattle.arrow_values.specs.Errors.{IsGeoMemory};
 
     /// How many numbers a coordinate has: 2, 3, 3, 4.
@@ -51,6 +51,19 @@ impl Dimension {
             Dimension::XYZ => 3,
             Dimension::XYM => 3,
             Dimension::XYZM => 4,
+        }
+    }
+
+    /// The place among the four, from 0, by which type ids go (GeoArrow, "Geometry": the table of type ids).
+    pub fn order(&self) -> u8
+        ensures order { result ≡ order_of self.now }
+        ensures small { result ≤ 3 }
+    {
+        match self {
+            Dimension::XY => 0,
+            Dimension::XYZ => 1,
+            Dimension::XYM => 2,
+            Dimension::XYZM => 3,
         }
     }
 

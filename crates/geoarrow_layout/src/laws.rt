@@ -3,7 +3,8 @@ ghost use Rattle.std.specs.Prelude.{◌≡◌, ◌↔◌, Contains};
 ghost use Rattle.arrow_values.specs.Tree.{Text, Tree};
 ghost use Rattle.arrow_values.specs.View.{member_trees};
 ghost use Rattle.arrow_values.specs.Union.{HasTypeIds};
-ghost use Rattle.geoarrow_layout.specs.Kinds.{name_of};
+ghost use Rattle.geoarrow_layout.specs.Kinds.{name_text, name_of};
+ghost use Rattle.geoarrow_layout.specs.declared.names.ExtensionName.{ExtensionName};
 ghost use Rattle.geoarrow_layout.specs.Shapes.{Leaf, AllMembers, Accepts, IsStructured};
 ghost use Rattle.geoarrow_layout.specs.Summary.{Summarizes};
 ghost use Rattle.geoarrow_layout.specs.Inferred.{Inferred};
@@ -30,6 +31,12 @@ pub fn layout_reads_back(kind: Kind)
 #[tactic(auto, using(crate::proofs::Listed::listed))]
 pub fn kind_is_listed(kind: Kind)
     ensures { Contains Kind.ALL kind }
+{}
+
+/// A law: the extension names are texts of their own. There is nothing to run.
+#[tactic(auto, using(crate::proofs::OneKind::one_name))]
+pub fn names_are_distinct()
+    ensures { (a b : ExtensionName) → name_text a ≡ name_text b → a ≡ b }
 {}
 
 /// A law: under one extension name a data type is of one kind at most. There is nothing to run.

@@ -2,12 +2,14 @@
 //! metadata and the data types of coordinate fields, at the names of list items and members, at a union's mode or at
 //! the order of its members. None takes memory.
 ghost use Rattle.arrow_values.specs.View.{tree};
-ghost use Rattle.geoarrow_layout.specs.Shapes.{Answers, AnswersOne, Leaf, Native, Mixed, Collection, Geometry, BoxShape};
+ghost use Rattle.geoarrow_layout.specs.Shapes.{Answers, AnswersOne, Leaf, Native, Mixed, Collection, Geometry, BoxShape, IsBytes, IsText, Accepts};
+ghost use Rattle.geoarrow_layout.specs.Kinds.{name_text};
 
-use crate::encodings::NativeKind;
+use crate::encodings::{Kind, NativeKind, Width};
 use crate::fault::LayoutFault;
 use crate::kinds::{CoordType, Dimension};
-use crate::readers::{boxed, collection, geometry, mixed, native};
+use crate::names::ExtensionName;
+use crate::readers::{any_native, boxed, collection, geometry, mixed, native};
 use crate::walk::summarize;
 use arrow_values::DataType;
 
@@ -86,6 +88,69 @@ pub fn parse_geometry(data_type: &DataType) -> Result<CoordType, LayoutFault>
     ensures { AnswersOne result (Geometry (tree data_type.now)) }
 {
     geometry(&summarize(data_type))
+}
+
+/// Reads a native kind, as its own reader does. Errs on any data type that is not of that kind. Takes no memory.
+pub fn parse_native(
+    kind: NativeKind,
+    data_type: &DataType,
+) -> Result<(CoordType, Dimension), LayoutFault>
+    ensures { Answers result (Native (tree data_type.now) kind) }
+{
+    any_native(kind, &summarize(data_type))
+}
+
+/// Reads well-known binary (GeoArrow, "WKB"): bytes, of any width. Errs on any other data type. Takes no memory.
+pub fn parse_wkb(data_type: &DataType) -> Result<Width, LayoutFault>
+    ensures { AnswersOne result (λ width. IsBytes width (tree data_type.now)) }
+{
+    match data_type {
+        DataType::Binary => Ok(Width::Plain),
+        DataType::LargeBinary => Ok(Width::Large),
+        DataType::BinaryView => Ok(Width::View),
+        _ => Err(LayoutFault::UnexpectedType),
+    }
+}
+
+/// Reads well-known text (GeoArrow, "WKT"): text, of any width. Errs on any other data type. Takes no memory.
+pub fn parse_wkt(data_type: &DataType) -> Result<Width, LayoutFault>
+    ensures { AnswersOne result (λ width. IsText width (tree data_type.now)) }
+{
+    match data_type {
+        DataType::Utf8 => Ok(Width::Plain),
+        DataType::LargeUtf8 => Ok(Width::Large),
+        DataType::Utf8View => Ok(Width::View),
+        _ => Err(LayoutFault::UnexpectedType),
+    }
+}
+
+/// Reads a column of an extension name: the kind of that name that the data type is. Errs on any data type that is of no
+/// kind of that name. Takes no memory.
+pub fn parse_kind(name: ExtensionName, data_type: &DataType) -> Result<Kind, LayoutFault>
+    ensures { AnswersOne result (Accepts (name_text name) (tree data_type.now)) }
+{
+    match name {
+        ExtensionName::Native(kind) => match parse_native(kind, data_type) {
+            Ok(pair) => Ok(Kind::Native(kind, pair.0, pair.1)),
+            Err(fault) => Err(fault),
+        },
+        ExtensionName::Geometry => match parse_geometry(data_type) {
+            Ok(coord_type) => Ok(Kind::Geometry(coord_type)),
+            Err(fault) => Err(fault),
+        },
+        ExtensionName::Rect => match parse_box(data_type) {
+            Ok(dimension) => Ok(Kind::Rect(dimension)),
+            Err(fault) => Err(fault),
+        },
+        ExtensionName::Wkb => match parse_wkb(data_type) {
+            Ok(width) => Ok(Kind::Wkb(width)),
+            Err(fault) => Err(fault),
+        },
+        ExtensionName::Wkt => match parse_wkt(data_type) {
+            Ok(width) => Ok(Kind::Wkt(width)),
+            Err(fault) => Err(fault),
+        },
+    }
 }
 
 /// Reads a box (GeoArrow, "Box"): a struct of four fields or of eight, or of six among which `mmin` and `mmax` or else

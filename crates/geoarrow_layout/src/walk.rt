@@ -6,7 +6,6 @@ ghost use Rattle.geoarrow_layout.specs.Steps.{AddsBits, CoordOf, DimensionOf, So
 
 use crate::bits::{with_bit_u8, with_bit_u64};
 use crate::fault::LayoutFault;
-use crate::ids::order_of;
 use crate::kinds::{CoordType, Dimension};
 use crate::readers::{geometry_part, member};
 use crate::summary::{Bottom, Summary, below_lists, leaf_bottom};
@@ -51,7 +50,7 @@ fn with_dimension(bits: u8, part: &Result<(CoordType, Dimension), LayoutFault>) 
     ensures { AddsBits bits (DimensionOf part.now) result }
 {
     match part {
-        Ok(pair) => with_bit_u8(bits, order_of(pair.1)),
+        Ok(pair) => with_bit_u8(bits, pair.1.order()),
         Err(_) => bits,
     }
 }

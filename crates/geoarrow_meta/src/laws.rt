@@ -3,6 +3,7 @@ ghost use Rattle.std.specs.Prelude.{◌≡◌, ◌↔◌, true, IsTrue, IfSome};
 ghost use Rattle.arrow_values.specs.Texts.{text_of};
 ghost use Rattle.serde_json.specs.View.{view};
 ghost use Rattle.geoarrow_meta.specs.declared.metadata.Metadata.{Metadata};
+ghost use Rattle.geoarrow_meta.specs.contracts.metadata.MetadataPartialEq.TheImpl as metadatas;
 ghost use Rattle.geoarrow_meta.specs.Parts.{crs_value, metadata_crs};
 ghost use Rattle.geoarrow_meta.specs.Written.{meta_value, printed, normal, IsReadBack, NestsWithin};
 ghost use Rattle.geoarrow_meta.specs.Whole.{is_whole};
@@ -78,6 +79,12 @@ pub fn equality_is_exact(one: &Metadata, other: &Metadata) -> bool
 {
     *one == *other
 }
+
+/// A law: the test behind `==`, which types that share their metadata go by, answers true for two metadata exactly
+/// where their parts are equal. There is nothing to run.
+pub fn equality_test_is_exact()
+    ensures { (m n : Metadata) → IsTrue ((metadatas.eq-value).it m n) ↔ (m ≡ n) }
+{}
 
 /// A law: `==` answers true for two CRS exactly where JSON value and type are equal.
 pub fn crs_equality_is_exact(one: &Crs, other: &Crs) -> bool

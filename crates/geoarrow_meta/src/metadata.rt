@@ -1,5 +1,6 @@
 //! The metadata of an extension type.
 ghost use Rattle.std.specs.Prelude.{◌≡◌, ◌⊎◌, ◌↔◌, IsTrue, Option, Some, None, IfOk, IfErr, IfSome, IsSome, IsOk, MatchResult, OnOk, option_map, string_bytes, false};
+ghost use Rattle.std.specs.Arc.{arc_value};
 ghost use Rattle.arrow_values.specs.Errors.{IsMemory};
 ghost use Rattle.arrow_values.specs.Texts.{text_of, extension_metadata};
 ghost use Rattle.serde_json.specs.Read.{max_depth};
@@ -22,6 +23,7 @@ use arrow_values::{ArrowError, Field, GeoArrowResult};
 use read::{present_at, read_crs_type, read_edges};
 use serde_json::Value;
 use std::alloc::{AllocError, Global};
+use std::sync::Arc;
 use write::written_value;
 
 /// The metadata of an extension type (GeoArrow, "Extension types", "Extension metadata"): a CRS, and how edges run. The
@@ -158,6 +160,20 @@ impl Metadata {
             Ok(read) => Ok(read),
             Err(e) => Err(boxed(alloc, e)),
         }
+    }
+
+    /// What `deserialize` answers, to be shared: extension types hold their metadata so. Errs as `deserialize` does.
+    pub fn deserialize_shared(
+        alloc: Global,
+        metadata: Option<&str>,
+    ) -> Result<Arc<Metadata>, ArrowError>
+        ensures exact { MatchResult result (λ m. TextStandsFor (text_of metadata.entry) (arc_value m))
+            (λ e. IsMemory e
+            ⊎ ((m : Metadata) → TextStandsFor (text_of metadata.entry) m → ⊥)) }
+        ensures refusal { IfErr result (λ e. IsMemory e ⊎ TextRefusedAs (text_of metadata.entry) e) }
+    {
+        let read = Metadata::deserialize(alloc, metadata)?;
+        Ok(Arc::new(alloc, read)?)
     }
 
     /// The metadata that a field's metadata text, or its absence, stands for, whatever the name of its extension type is.

@@ -1,0 +1,59 @@
+//! The extension names.
+ghost use Rattle.std.specs.Prelude.{◌≡◌, ◌↔◌, Some};
+ghost use Rattle.geoarrow_layout.specs.declared.names.ExtensionName.{ExtensionName};
+ghost use Rattle.geoarrow_layout.specs.Kinds.{name_text};
+
+use crate::encodings::{NativeKind, native_name};
+
+/// The names that a column of geometries can have at a field's `ARROW:extension:name` (GeoArrow, "Extension types").
+#[derive(Clone, Copy, Debug, PartialEq, Eq)]
+pub enum ExtensionName {
+    /// That of a native kind: `geoarrow.point`, `geoarrow.linestring`, `geoarrow.polygon`, `geoarrow.multipoint`,
+    /// `geoarrow.multilinestring`, `geoarrow.multipolygon` or `geoarrow.geometrycollection`.
+    Native(NativeKind),
+    /// `geoarrow.geometry`.
+    Geometry,
+    /// `geoarrow.box`.
+    Rect,
+    /// `geoarrow.wkb`.
+    Wkb,
+    /// `geoarrow.wkt`.
+    Wkt,
+}
+
+impl ExtensionName {
+    /// The text of the name.
+    pub fn as_text(self) -> &'static str
+        ensures { result.now ≡ name_text self }
+    {
+        match self {
+            ExtensionName::Native(kind) => native_name(kind),
+            ExtensionName::Geometry => "geoarrow.geometry",
+            ExtensionName::Rect => "geoarrow.box",
+            ExtensionName::Wkb => "geoarrow.wkb",
+            ExtensionName::Wkt => "geoarrow.wkt",
+        }
+    }
+
+    /// The name of that text, compared byte for byte; none for any other text.
+    pub fn from_text(text: &str) -> Option<ExtensionName>
+        ensures { (name : ExtensionName) → (result ≡ Some name) ↔ (text.now ≡ name_text name) }
+    {
+        match text {
+            "geoarrow.point" => Some(ExtensionName::Native(NativeKind::Point)),
+            "geoarrow.linestring" => Some(ExtensionName::Native(NativeKind::LineString)),
+            "geoarrow.polygon" => Some(ExtensionName::Native(NativeKind::Polygon)),
+            "geoarrow.multipoint" => Some(ExtensionName::Native(NativeKind::MultiPoint)),
+            "geoarrow.multilinestring" => Some(ExtensionName::Native(NativeKind::MultiLineString)),
+            "geoarrow.multipolygon" => Some(ExtensionName::Native(NativeKind::MultiPolygon)),
+            "geoarrow.geometrycollection" => {
+                Some(ExtensionName::Native(NativeKind::GeometryCollection))
+            }
+            "geoarrow.geometry" => Some(ExtensionName::Geometry),
+            "geoarrow.box" => Some(ExtensionName::Rect),
+            "geoarrow.wkb" => Some(ExtensionName::Wkb),
+            "geoarrow.wkt" => Some(ExtensionName::Wkt),
+            _ => None,
+        }
+    }
+}

@@ -1,0 +1,39 @@
+-- What is written reads back.
+use Rattle.std.proofs.Common.{◌≡◌, ◌∙◌, refl, sym, subst, Option, Some, None, Bool}
+use Rattle.arrow_values.specs.Tree.{Text, Tree, FieldTree}
+use Rattle.arrow_values.specs.Texts.{set_extension}
+use Rattle.geoarrow_layout.specs.declared.encodings.Kind.{Kind}
+use Rattle.geoarrow_layout.specs.Kinds.{name_of}
+use Rattle.geoarrow_layout.specs.Shapes.{Accepts}
+use Rattle.geoarrow_layout.specs.Layouts.{layout}
+use Rattle.geoarrow_meta.specs.declared.metadata.Metadata.{Metadata}
+use Rattle.geoarrow_meta.specs.Written.{printed, normal}
+use Rattle.geoarrow_meta.specs.Read.{TextStandsFor}
+use Rattle.arrow_values.specs.Texts.{extension_metadata}
+use Rattle.geoarrow_native.specs.Column.{ReadsAs, written_field}
+use Rattle.std.specs.Prelude.{[]}
+use Rattle.arrow_values.specs.declared.tree.parts.TheConstants.{EXTENSION_TYPE_NAME_KEY, EXTENSION_TYPE_METADATA_KEY}
+use Rattle.arrow_values.specs.Texts.{text_at}
+
+name_set : (name : Text) (text : Option Text) → text_at EXTENSION_TYPE_NAME_KEY.now (set_extension name text []) ≡ Some name
+name_set name None = refl
+name_set name (Some text) = refl
+
+metadata_set : (name : Text) (text : Option Text) → text_at EXTENSION_TYPE_METADATA_KEY.now (set_extension name text []) ≡ text
+metadata_set name None = refl
+metadata_set name (Some text) = refl
+
+pub written_reads : (n : Text) (b : Bool) (k : Kind) (m : Metadata) → Accepts (name_of k) (layout k) k → TextStandsFor (printed m) (normal m) → ReadsAs (written_field n b k m) k (normal m)
+unfolding ReadsAs
+written_reads n b k m column stands =
+    (name_set (name_of k) (printed m), column.1, subst (λ t. TextStandsFor t (normal m)) (sym (metadata_set (name_of k) (printed m))) stands)
+
+some_same : (x y : Text) → Some x ≡ Some y → x ≡ y
+some_same x y h = cc
+
+pub read_once : (f : FieldTree) → ((n : Text) (t : Tree) (j k : Kind) → Accepts n t j → Accepts n t k → j ≡ k)
+    → ((m n : Metadata) → TextStandsFor (extension_metadata f) m → TextStandsFor (extension_metadata f) n → m ≡ n)
+    → (j k : Kind) (m n : Metadata) → ReadsAs f j m → ReadsAs f k n → (j ≡ k) × (m ≡ n)
+unfolding ReadsAs
+read_once f one_kind one_metadata j k m n h g =
+    (one_kind (name_of j) f.tree j k (refl, h.1) (some_same (name_of j) (name_of k) (sym h.0 ∙ g.0), g.1), one_metadata m n h.2 g.2)

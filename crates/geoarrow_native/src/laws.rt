@@ -1,0 +1,32 @@
+//! Laws of columns, for the crates above: functions with nothing to run, whose contract is the law.
+ghost use Rattle.std.specs.Prelude.{◌≡◌, Bool};
+ghost use Rattle.geoarrow_layout.specs.declared.encodings.Kind.{Kind};
+ghost use Rattle.geoarrow_meta.specs.declared.metadata.Metadata.{Metadata};
+ghost use Rattle.arrow_values.specs.Tree.{Text};
+ghost use Rattle.geoarrow_meta.specs.Written.{meta_value, normal, IsReadBack};
+ghost use Rattle.geoarrow_native.specs.Column.{ReadsAs, written_field};
+
+use arrow_values::Field;
+use geoarrow_layout::{Kind, layout_reads_back, one_kind};
+use geoarrow_meta::Metadata;
+use geoarrow_meta::laws::{printed_reads_back, text_stands_for_one};
+
+/// A law: a field reads as one kind and one metadata alone. There is nothing to run.
+pub fn reads_as_one_column(field: &Field)
+    ensures { (j k : Kind) (m n : Metadata) → ReadsAs field.now j m → ReadsAs field.now k n
+        → (j ≡ k) × (m ≡ n) }
+{
+    one_kind();
+    text_stands_for_one(field.extension_type_metadata());
+}
+
+/// A law: the field that is written for a kind and a metadata reads as that kind and the normal form of the metadata,
+/// where `serde_json` reads what it printed as the value that it printed. There is nothing to run.
+#[tactic(auto, using(crate::proofs::Writing::written_reads))]
+pub fn written_field_reads_back(kind: Kind, metadata: &Metadata)
+    ensures { (name : Text) (nullable : Bool) → IsReadBack (meta_value metadata.now)
+        → ReadsAs (written_field name nullable kind metadata.now) kind (normal metadata.now) }
+{
+    layout_reads_back(kind);
+    printed_reads_back(metadata);
+}

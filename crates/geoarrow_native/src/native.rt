@@ -1,0 +1,238 @@
+//! The native types, written once for all shapes.
+ghost use Rattle.std.specs.Prelude.{◌≡◌, ◌⊎◌, ◌↔◌, IfOk, IfErr};
+ghost use Rattle.std.specs.Arc.{arc_value};
+ghost use Rattle.arrow_values.specs.View.{tree};
+ghost use Rattle.arrow_values.specs.Errors.{IsMemory};
+ghost use Rattle.geoarrow_layout.specs.declared.kinds.CoordType.TheVariants.{Separated};
+ghost use Rattle.geoarrow_layout.specs.declared.encodings.Kind.TheVariants.{Native as OfNative};
+ghost use Rattle.geoarrow_layout.specs.Layouts.{native_layout};
+ghost use Rattle.geoarrow_meta.specs.Written.{meta_value, normal, IsReadBack};
+ghost use Rattle.geoarrow_native.specs.Column.{ReadsAs, written_field};
+
+use crate::write::column_field;
+use crate::parts::{one_shape, read_parts, supports_parts};
+use crate::shape::NativeShape;
+use arrow_values::{ArrowError, DataType, ExtensionType, Field};
+use geoarrow_layout::{CoordType, Dimension, Kind, list_data_type};
+use geoarrow_meta::Metadata;
+use geoarrow_meta::laws::text_stands_for_one;
+use std::alloc::{AllocError, Global};
+use std::fmt;
+use std::marker::PhantomData;
+use std::sync::Arc;
+
+/// A native type of a shape (GeoArrow, "Native encoding"): columns of geometries of one kind, in one coordinate type and
+/// one dimension, with metadata. `PointType`, `LineStringType` and the other five are this type at their shapes. Two
+/// are equal, and then hash equally, where all three parts are, the metadata by its value.
+#[derive(Drop)]
+#[derive_where(PartialEq, Eq, Hash)]
+pub struct NativeType<S> {
+    pub(crate) coord_type: CoordType,
+    pub(crate) dimension: Dimension,
+    pub(crate) metadata: Arc<Metadata>,
+    #[derive_where(skip)]
+    pub(crate) shape: PhantomData<S>,
+}
+
+impl<S: NativeShape> NativeType<S> {
+    ghost use Rattle.geoarrow_native.specs.Parts.{native_coord_type, native_dimension, native_metadata, native_meta};
+
+    /// The type of that dimension and metadata, with separated coordinates.
+    pub fn new(dimension: Dimension, metadata: Arc<Metadata>) -> NativeType<S>
+        ensures coord_type { native_coord_type result ≡ Separated }
+        ensures dimension { native_dimension result ≡ dimension }
+        ensures metadata { native_metadata result ≡ metadata }
+    {
+        NativeType {
+            coord_type: CoordType::Separated,
+            dimension,
+            metadata,
+            shape: PhantomData,
+        }
+    }
+
+    /// The type with that coordinate type, and otherwise as it was.
+    pub fn with_coord_type(self, coord_type: CoordType) -> NativeType<S>
+        ensures coord_type { native_coord_type result ≡ coord_type }
+        ensures dimension { native_dimension result ≡ native_dimension self }
+        ensures metadata { native_metadata result ≡ native_metadata self }
+    {
+        NativeType { coord_type, ..self }
+    }
+
+    /// The type with that dimension, and otherwise as it was.
+    pub fn with_dimension(self, dimension: Dimension) -> NativeType<S>
+        ensures coord_type { native_coord_type result ≡ native_coord_type self }
+        ensures dimension { native_dimension result ≡ dimension }
+        ensures metadata { native_metadata result ≡ native_metadata self }
+    {
+        NativeType { dimension, ..self }
+    }
+
+    /// The type with that metadata, and otherwise as it was.
+    pub fn with_metadata(self, metadata: Arc<Metadata>) -> NativeType<S>
+        ensures coord_type { native_coord_type result ≡ native_coord_type self }
+        ensures dimension { native_dimension result ≡ native_dimension self }
+        ensures metadata { native_metadata result ≡ metadata }
+    {
+        NativeType { metadata, ..self }
+    }
+
+    /// How the coordinates are stored.
+    pub fn coord_type(&self) -> CoordType
+        ensures { result ≡ native_coord_type self.now }
+    {
+        self.coord_type
+    }
+
+    /// The dimension of the coordinates.
+    pub fn dimension(&self) -> Dimension
+        ensures { result ≡ native_dimension self.now }
+    {
+        self.dimension
+    }
+
+    /// The metadata: the very one that was given.
+    pub fn metadata(&self) -> &Arc<Metadata>
+        ensures { result.now ≡ native_metadata self.now }
+    {
+        &self.metadata
+    }
+
+    /// The three parts.
+    pub fn into_inner(self) -> (CoordType, Dimension, Arc<Metadata>)
+        ensures { result ≡ (native_coord_type self, native_dimension self, native_metadata self) }
+    {
+        (self.coord_type, self.dimension, self.metadata)
+    }
+
+    /// An equal type, which shares the metadata. Errs for want of memory alone, which sharing never meets.
+    pub fn try_clone(&self, _alloc: Global) -> Result<NativeType<S>, AllocError>
+        ensures coord_type { IfOk result (λ e. native_coord_type e ≡ native_coord_type self.now) }
+        ensures dimension { IfOk result (λ e. native_dimension e ≡ native_dimension self.now) }
+        ensures metadata { IfOk result (λ e. native_meta e ≡ native_meta self.now) }
+    {
+        Ok(NativeType {
+            coord_type: self.coord_type,
+            dimension: self.dimension,
+            metadata: Arc::try_clone(&self.metadata)?,
+            shape: PhantomData,
+        })
+    }
+
+    /// The data type of a column of this type (GeoArrow, "Native encoding"). Errs for want of memory alone.
+    pub fn data_type(&self, alloc: Global) -> Result<DataType, AllocError>
+        ensures { IfOk result (λ t. tree t ≡ native_layout S.KIND (native_coord_type self.now) (native_dimension self.now)) }
+    {
+        list_data_type(alloc, S::KIND, self.coord_type, self.dimension)
+    }
+
+    /// The field of a column of this type: that name and nullability, the data type of `data_type`, and as its metadata
+    /// the extension name and the metadata's text, where there is one (GeoArrow, "Extension types"). It reads back to
+    /// the type with its metadata in normal form, where `serde_json` reads what it printed. Errs for want of memory
+    /// alone.
+    pub fn to_field(&self, alloc: Global, name: &str, nullable: bool) -> Result<Field, ArrowError>
+        ensures written { IfOk result (λ f. f ≡ written_field name.now nullable
+            (OfNative S.KIND (native_coord_type self.now) (native_dimension self.now)) (native_meta self.now)) }
+        ensures reads_back { IfOk result (λ f. IsReadBack (meta_value (native_meta self.now)) → ReadsAs f
+            (OfNative S.KIND (native_coord_type self.now) (native_dimension self.now)) (normal (native_meta self.now))) }
+        ensures refused { IfErr result IsMemory }
+    {
+        let kind = Kind::Native(S::KIND, self.coord_type, self.dimension);
+        column_field(alloc, name, nullable, kind, &self.metadata, self)
+    }
+}
+
+impl<S: NativeShape> fmt::Debug for NativeType<S> {
+    fn fmt<W: fmt::Write>(&self, f: &mut fmt::Formatter<W>) -> fmt::Result {
+        f.debug_struct(S::TYPE)
+            .field("coord_type", &self.coord_type)
+            .field("dimension", &self.dimension)
+            .field("metadata", &self.metadata)
+            .finish()
+    }
+}
+
+impl<S: NativeShape> ExtensionType for NativeType<S> {
+    ghost use Rattle.std.proofs.Common.{refl};
+    ghost use Rattle.geoarrow_layout.specs.Kinds.{native_name};
+    ghost use Rattle.geoarrow_layout.specs.Shapes.{Native as IsOfKind};
+    ghost use Rattle.geoarrow_meta.specs.Written.{printed as printed_text};
+    ghost use Rattle.geoarrow_meta.specs.Read.{TextStandsFor, TextRefusedAs};
+    ghost use Rattle.geoarrow_native.specs.Agree.{native_along};
+    ghost use Rattle.geoarrow_native.specs.Column.{IsLayoutRefusal, RefusesNativeUse};
+    ghost use Rattle.geoarrow_native.specs.Parts.{native_coord_type, native_dimension, native_metadata};
+
+    const NAME: &'static str = S::NAME;
+
+    type Metadata = Arc<Metadata>;
+
+    ghost name_text = { native_name S.KIND };
+
+    ghost metadata_of = { native_metadata };
+
+    ghost printed = { λ m. printed_text (arc_value m) };
+
+    ghost StandsFor = { λ t m. TextStandsFor t (arc_value m) };
+
+    ghost SameMetadata = { λ m n. arc_value m ≡ arc_value n };
+
+    ghost Accepts = { λ t e. IsOfKind t S.KIND (native_coord_type e) (native_dimension e) };
+
+    ghost Agrees = { λ a b. (native_coord_type a ≡ native_coord_type b) × (native_dimension a ≡ native_dimension b) };
+
+    ghost RefusesText = { TextRefusedAs };
+
+    ghost RefusesTree = { λ _ r. IsLayoutRefusal r };
+
+    ghost RefusesUse = { λ _ t r. RefusesNativeUse t S.KIND r };
+
+    ghost accepts_by_shape = { λ t a e h k. native_along t S.KIND (native_coord_type a) (native_coord_type e) (native_dimension a) (native_dimension e) k h };
+
+    ghost agrees_with_itself = { λ e. (refl, refl) };
+
+    fn extension_name() -> &'static str {
+        S::shape_name()
+    }
+
+    fn metadata(&self) -> &Arc<Metadata> {
+        &self.metadata
+    }
+
+    fn serialize_metadata(&self, alloc: Global) -> Result<Option<String>, ArrowError> {
+        self.metadata.serialize(alloc)
+    }
+
+    fn deserialize_metadata(
+        alloc: Global,
+        metadata: Option<&str>,
+    ) -> Result<Arc<Metadata>, ArrowError> {
+        Metadata::deserialize_shared(alloc, metadata)
+    }
+
+    fn supports_data_type(&self, alloc: Global, data_type: &DataType) -> Result<(), ArrowError> {
+        supports_parts(alloc, S::KIND, self.coord_type, self.dimension, data_type)
+    }
+
+    fn try_new(
+        alloc: Global,
+        data_type: &DataType,
+        metadata: Arc<Metadata>,
+    ) -> Result<NativeType<S>, ArrowError> {
+        let (coord_type, dimension) = read_parts(alloc, S::KIND, data_type)?;
+        Ok(NativeType {
+            coord_type,
+            dimension,
+            metadata,
+            shape: PhantomData,
+        })
+    }
+
+    fn accepts_one_shape(data_type: &DataType) {
+        one_shape(S::KIND, data_type);
+    }
+
+    fn stands_for_one_metadata(metadata: Option<&str>) {
+        text_stands_for_one(metadata);
+    }
+}

@@ -1,0 +1,111 @@
+//! What tells one native type from another.
+
+use geoarrow_layout::NativeKind;
+
+/// The shape of a native type: what `NativeType` is a type of. Each shape is an empty struct; it stands for a kind of
+/// geometry, and no geometry is made of it.
+pub trait NativeShape {
+    ghost use Rattle.std.specs.Prelude.{◌≡◌, ℤ, pos};
+    ghost use Rattle.geoarrow_layout.specs.declared.encodings.NativeKind.{NativeKind};
+    ghost use Rattle.geoarrow_layout.specs.Kinds.{native_name, offset_of};
+
+    /// The extension name.
+    const NAME: &'static str;
+
+    /// The name of the type, as `Debug` prints it.
+    const TYPE: &'static str;
+
+    /// The kind of geometry.
+    const KIND: NativeKind;
+
+    /// The type id in two dimensions (GeoArrow, "Geometry": the table of type ids).
+    const OFFSET: i8;
+
+    ghost KIND: { NativeKind };
+
+    ghost OFFSET: { ℤ };
+
+    /// `NAME`.
+    fn shape_name() -> &'static str
+        ensures { result.now ≡ native_name KIND };
+
+    ghost offset_is: { OFFSET ≡ pos (offset_of KIND) };
+}
+
+/// The shape of points.
+pub struct Point;
+
+impl NativeShape for Point {
+    ghost use Rattle.std.specs.Prelude.{refl, pos};
+    ghost use Rattle.geoarrow_layout.specs.declared.encodings.NativeKind.TheVariants as kinds;
+
+    const NAME: &'static str = "geoarrow.point";
+
+    const TYPE: &'static str = "PointType";
+
+    const KIND: NativeKind = NativeKind::Point;
+
+    const OFFSET: i8 = 1;
+
+    ghost KIND = { kinds.Point };
+
+    ghost OFFSET = { pos 1 };
+
+    ghost offset_is = { refl };
+
+    fn shape_name() -> &'static str {
+        Self::NAME
+    }
+}
+
+/// The shape of line strings.
+pub struct LineString;
+
+impl NativeShape for LineString {
+    ghost use Rattle.std.specs.Prelude.{refl, pos};
+    ghost use Rattle.geoarrow_layout.specs.declared.encodings.NativeKind.TheVariants as kinds;
+
+    const NAME: &'static str = "geoarrow.linestring";
+
+    const TYPE: &'static str = "LineStringType";
+
+    const KIND: NativeKind = NativeKind::LineString;
+
+    const OFFSET: i8 = 2;
+
+    ghost KIND = { kinds.LineString };
+
+    ghost OFFSET = { pos 2 };
+
+    ghost offset_is = { refl };
+
+    fn shape_name() -> &'static str {
+        Self::NAME
+    }
+}
+
+/// The shape of polygons.
+pub struct Polygon;
+
+impl NativeShape for Polygon {
+    ghost use Rattle.std.specs.Prelude.{refl, pos};
+    ghost use Rattle.geoarrow_layout.specs.declared.encodings.NativeKind.TheVariants as kinds;
+
+    const NAME: &'static str = "geoarrow.polygon";
+
+    const TYPE: &'static str = "PolygonType";
+
+    const KIND: NativeKind = NativeKind::Polygon;
+
+    const OFFSET: i8 = 3;
+
+    ghost KIND = { kinds.Polygon };
+
+    ghost OFFSET = { pos 3 };
+
+    ghost offset_is = { refl };
+
+    fn shape_name() -> &'static str {
+        Self::NAME
+    }
+}

@@ -1,0 +1,197 @@
+//! Boxes.
+ghost use Rattle.std.specs.Prelude.{◌≡◌, ◌⊎◌, ◌↔◌, IfOk, IfErr};
+ghost use Rattle.std.specs.Arc.{arc_value};
+ghost use Rattle.arrow_values.specs.View.{tree};
+ghost use Rattle.arrow_values.specs.Errors.{IsMemory};
+ghost use Rattle.geoarrow_layout.specs.declared.encodings.Kind.TheVariants.{Rect as OfRect};
+ghost use Rattle.geoarrow_layout.specs.Layouts.{box_layout};
+ghost use Rattle.geoarrow_meta.specs.Written.{meta_value, normal, IsReadBack};
+ghost use Rattle.geoarrow_native.specs.Column.{ReadsAs, written_field};
+
+use arrow_values::{ArrowError, DataType, ExtensionType, Field};
+use geoarrow_layout::{Dimension, Kind, box_data_type, parse_box};
+use geoarrow_meta::Metadata;
+use geoarrow_meta::laws::text_stands_for_one;
+use geoarrow_native::column_field;
+use std::alloc::{AllocError, Global};
+use std::sync::Arc;
+
+/// Boxes (GeoArrow, "Box"): each value is the least and the greatest value of each dimension. Two types are equal, and
+/// then hash equally, where dimension and metadata are, the metadata by its value.
+#[derive(Debug, PartialEq, Eq, Hash, Drop)]
+pub struct BoxType {
+    pub(crate) dimension: Dimension,
+    pub(crate) metadata: Arc<Metadata>,
+}
+
+/// The name of `BoxType` after the variant `GeoArrowType::Rect`.
+pub type RectType = BoxType;
+
+impl BoxType {
+    ghost use Rattle.geoarrow_schema.specs.Parts.{box_dimension, box_metadata, box_meta};
+
+    /// The type of that dimension and metadata.
+    pub fn new(dimension: Dimension, metadata: Arc<Metadata>) -> BoxType
+        ensures dimension { box_dimension result ≡ dimension }
+        ensures metadata { box_metadata result ≡ metadata }
+    {
+        BoxType {
+            dimension,
+            metadata,
+        }
+    }
+
+    /// The type with that dimension, and otherwise as it was.
+    pub fn with_dimension(self, dimension: Dimension) -> BoxType
+        ensures dimension { box_dimension result ≡ dimension }
+        ensures metadata { box_metadata result ≡ box_metadata self }
+    {
+        BoxType { dimension, ..self }
+    }
+
+    /// The type with that metadata, and otherwise as it was.
+    pub fn with_metadata(self, metadata: Arc<Metadata>) -> BoxType
+        ensures dimension { box_dimension result ≡ box_dimension self }
+        ensures metadata { box_metadata result ≡ metadata }
+    {
+        BoxType { metadata, ..self }
+    }
+
+    /// The dimension of the boxes.
+    pub fn dimension(&self) -> Dimension
+        ensures { result ≡ box_dimension self.now }
+    {
+        self.dimension
+    }
+
+    /// The metadata: the very one that was given.
+    pub fn metadata(&self) -> &Arc<Metadata>
+        ensures { result.now ≡ box_metadata self.now }
+    {
+        &self.metadata
+    }
+
+    /// An equal type, which shares the metadata. Errs for want of memory alone, which sharing never meets.
+    pub fn try_clone(&self, _alloc: Global) -> Result<BoxType, AllocError>
+        ensures dimension { IfOk result (λ e. box_dimension e ≡ box_dimension self.now) }
+        ensures metadata { IfOk result (λ e. box_meta e ≡ box_meta self.now) }
+    {
+        Ok(BoxType {
+            dimension: self.dimension,
+            metadata: Arc::try_clone(&self.metadata)?,
+        })
+    }
+
+    /// The data type of a column of this type: a struct of the least and the greatest value of each dimension
+    /// (GeoArrow, "Box"). Errs for want of memory alone.
+    pub fn data_type(&self, alloc: Global) -> Result<DataType, AllocError>
+        ensures { IfOk result (λ t. tree t ≡ box_layout (box_dimension self.now)) }
+    {
+        box_data_type(alloc, self.dimension)
+    }
+
+    /// The field of a column of this type, as that of a native type. Errs for want of memory alone.
+    pub fn to_field(&self, alloc: Global, name: &str, nullable: bool) -> Result<Field, ArrowError>
+        ensures written { IfOk result (λ f. f ≡ written_field name.now nullable
+            (OfRect (box_dimension self.now)) (box_meta self.now)) }
+        ensures reads_back { IfOk result (λ f. IsReadBack (meta_value (box_meta self.now)) → ReadsAs f
+            (OfRect (box_dimension self.now)) (normal (box_meta self.now))) }
+        ensures refused { IfErr result IsMemory }
+    {
+        let kind = Kind::Rect(self.dimension);
+        column_field(alloc, name, nullable, kind, &self.metadata, self)
+    }
+}
+
+impl ExtensionType for BoxType {
+    ghost use Rattle.std.proofs.Common.{refl, sym, subst};
+    ghost use Rattle.geoarrow_layout.specs.declared.kinds.Dimension.{Dimension};
+    ghost use Rattle.geoarrow_layout.specs.Kinds.{box_name};
+    ghost use Rattle.geoarrow_layout.specs.Shapes.{BoxShape};
+    ghost use Rattle.geoarrow_meta.specs.Written.{printed as printed_text};
+    ghost use Rattle.geoarrow_meta.specs.Read.{TextStandsFor, TextRefusedAs};
+    ghost use Rattle.geoarrow_native.specs.Column.{IsLayoutRefusal, RefusesUse as IsUseRefusal};
+    ghost use Rattle.geoarrow_schema.specs.Parts.{box_dimension, box_metadata};
+
+    const NAME: &'static str = "geoarrow.box";
+
+    type Metadata = Arc<Metadata>;
+
+    ghost name_text = { box_name };
+
+    ghost metadata_of = { box_metadata };
+
+    ghost printed = { λ m. printed_text (arc_value m) };
+
+    ghost StandsFor = { λ t m. TextStandsFor t (arc_value m) };
+
+    ghost SameMetadata = { λ m n. arc_value m ≡ arc_value n };
+
+    ghost Accepts = { λ t e. BoxShape t (box_dimension e) };
+
+    ghost Agrees = { λ a b. box_dimension a ≡ box_dimension b };
+
+    ghost RefusesText = { TextRefusedAs };
+
+    ghost RefusesTree = { λ _ r. IsLayoutRefusal r };
+
+    ghost RefusesUse = { λ _ t r. IsUseRefusal ((d : Dimension) × BoxShape t d) r };
+
+    ghost accepts_by_shape = { λ t a e h k. subst (λ d. BoxShape t d) (sym k) h };
+
+    ghost agrees_with_itself = { λ e. refl };
+
+    fn extension_name() -> &'static str {
+        Self::NAME
+    }
+
+    fn metadata(&self) -> &Arc<Metadata> {
+        &self.metadata
+    }
+
+    fn serialize_metadata(&self, alloc: Global) -> Result<Option<String>, ArrowError> {
+        self.metadata.serialize(alloc)
+    }
+
+    fn deserialize_metadata(
+        alloc: Global,
+        metadata: Option<&str>,
+    ) -> Result<Arc<Metadata>, ArrowError> {
+        Metadata::deserialize_shared(alloc, metadata)
+    }
+
+    fn supports_data_type(&self, alloc: Global, data_type: &DataType) -> Result<(), ArrowError> {
+        match parse_box(data_type) {
+            Ok(found) => {
+                if found == self.dimension {
+                    Ok(())
+                } else {
+                    Err(ArrowError::schema_error(alloc, "unexpected dimension"))
+                }
+            }
+            Err(fault) => Err(fault.into_arrow_error(alloc)),
+        }
+    }
+
+    fn try_new(
+        alloc: Global,
+        data_type: &DataType,
+        metadata: Arc<Metadata>,
+    ) -> Result<BoxType, ArrowError> {
+        match parse_box(data_type) {
+            Ok(dimension) => Ok(BoxType {
+                dimension,
+                metadata,
+            }),
+            Err(fault) => Err(fault.into_arrow_error(alloc)),
+        }
+    }
+
+    fn accepts_one_shape(data_type: &DataType) {
+        parse_box(data_type).is_ok();
+    }
+
+    fn stands_for_one_metadata(metadata: Option<&str>) {
+        text_stands_for_one(metadata);
+    }
+}

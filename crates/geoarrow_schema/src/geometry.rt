@@ -1,0 +1,204 @@
+//! Geometries of any kind and dimension.
+ghost use Rattle.std.specs.Prelude.{◌≡◌, ◌⊎◌, ◌↔◌, IfOk, IfErr};
+ghost use Rattle.std.specs.Arc.{arc_value};
+ghost use Rattle.arrow_values.specs.View.{tree};
+ghost use Rattle.arrow_values.specs.Errors.{IsMemory};
+ghost use Rattle.geoarrow_layout.specs.declared.kinds.CoordType.TheVariants.{Separated};
+ghost use Rattle.geoarrow_layout.specs.declared.encodings.Kind.TheVariants.{Geometry as OfGeometry};
+ghost use Rattle.geoarrow_layout.specs.Layouts.{geometry_layout};
+ghost use Rattle.geoarrow_meta.specs.Written.{empty, meta_value, normal, IsReadBack};
+ghost use Rattle.geoarrow_native.specs.Column.{ReadsAs, written_field};
+
+use arrow_values::{ArrowError, DataType, ExtensionType, Field};
+use geoarrow_layout::{CoordType, Kind, geometry_data_type, parse_geometry};
+use geoarrow_meta::Metadata;
+use geoarrow_meta::laws::text_stands_for_one;
+use geoarrow_native::column_field;
+use std::alloc::{AllocError, Global};
+use std::sync::Arc;
+
+/// Geometries of any kind and dimension (GeoArrow, "Geometry"): each value is a member of a union, and all are of one
+/// coordinate type. Two types are equal, and then hash equally, where coordinate type and metadata are, the metadata by
+/// its value.
+#[derive(Debug, PartialEq, Eq, Hash, Drop)]
+pub struct GeometryType {
+    pub(crate) coord_type: CoordType,
+    pub(crate) metadata: Arc<Metadata>,
+}
+
+impl GeometryType {
+    ghost use Rattle.geoarrow_schema.specs.Parts.{geometry_coord_type, geometry_metadata, geometry_meta};
+
+    /// The type of that metadata, with separated coordinates.
+    pub fn new(metadata: Arc<Metadata>) -> GeometryType
+        ensures coord_type { geometry_coord_type result ≡ Separated }
+        ensures metadata { geometry_metadata result ≡ metadata }
+    {
+        GeometryType {
+            coord_type: CoordType::Separated,
+            metadata,
+        }
+    }
+
+    /// `new` of the default metadata. Errs for want of memory alone.
+    pub fn try_default(alloc: Global) -> Result<GeometryType, AllocError>
+        ensures coord_type { IfOk result (λ e. geometry_coord_type e ≡ Separated) }
+        ensures metadata { IfOk result (λ e. geometry_meta e ≡ empty) }
+    {
+        Ok(GeometryType::new(Arc::new(alloc, Metadata::default())?))
+    }
+
+    /// The type with that coordinate type, and otherwise as it was.
+    pub fn with_coord_type(self, coord_type: CoordType) -> GeometryType
+        ensures coord_type { geometry_coord_type result ≡ coord_type }
+        ensures metadata { geometry_metadata result ≡ geometry_metadata self }
+    {
+        GeometryType { coord_type, ..self }
+    }
+
+    /// The type with that metadata, and otherwise as it was.
+    pub fn with_metadata(self, metadata: Arc<Metadata>) -> GeometryType
+        ensures coord_type { geometry_coord_type result ≡ geometry_coord_type self }
+        ensures metadata { geometry_metadata result ≡ metadata }
+    {
+        GeometryType { metadata, ..self }
+    }
+
+    /// How the coordinates are stored.
+    pub fn coord_type(&self) -> CoordType
+        ensures { result ≡ geometry_coord_type self.now }
+    {
+        self.coord_type
+    }
+
+    /// The metadata: the very one that was given.
+    pub fn metadata(&self) -> &Arc<Metadata>
+        ensures { result.now ≡ geometry_metadata self.now }
+    {
+        &self.metadata
+    }
+
+    /// An equal type, which shares the metadata. Errs for want of memory alone, which sharing never meets.
+    pub fn try_clone(&self, _alloc: Global) -> Result<GeometryType, AllocError>
+        ensures coord_type { IfOk result (λ e. geometry_coord_type e ≡ geometry_coord_type self.now) }
+        ensures metadata { IfOk result (λ e. geometry_meta e ≡ geometry_meta self.now) }
+    {
+        Ok(GeometryType {
+            coord_type: self.coord_type,
+            metadata: Arc::try_clone(&self.metadata)?,
+        })
+    }
+
+    /// The data type of a column of this type: a union with a member for each native kind in each dimension (GeoArrow,
+    /// "Geometry"). Errs for want of memory alone.
+    pub fn data_type(&self, alloc: Global) -> Result<DataType, AllocError>
+        ensures { IfOk result (λ t. tree t ≡ geometry_layout (geometry_coord_type self.now)) }
+    {
+        geometry_data_type(alloc, self.coord_type)
+    }
+
+    /// The field of a column of this type, as that of a native type. Errs for want of memory alone.
+    pub fn to_field(&self, alloc: Global, name: &str, nullable: bool) -> Result<Field, ArrowError>
+        ensures written { IfOk result (λ f. f ≡ written_field name.now nullable
+            (OfGeometry (geometry_coord_type self.now)) (geometry_meta self.now)) }
+        ensures reads_back { IfOk result (λ f. IsReadBack (meta_value (geometry_meta self.now)) → ReadsAs f
+            (OfGeometry (geometry_coord_type self.now)) (normal (geometry_meta self.now))) }
+        ensures refused { IfErr result IsMemory }
+    {
+        let kind = Kind::Geometry(self.coord_type);
+        column_field(alloc, name, nullable, kind, &self.metadata, self)
+    }
+}
+
+impl ExtensionType for GeometryType {
+    ghost use Rattle.std.proofs.Common.{refl, sym, subst};
+    ghost use Rattle.geoarrow_layout.specs.declared.kinds.CoordType.{CoordType};
+    ghost use Rattle.geoarrow_layout.specs.Kinds.{geometry_name};
+    ghost use Rattle.geoarrow_layout.specs.Shapes.{Geometry};
+    ghost use Rattle.geoarrow_meta.specs.Written.{printed as printed_text};
+    ghost use Rattle.geoarrow_meta.specs.Read.{TextStandsFor, TextRefusedAs};
+    ghost use Rattle.geoarrow_native.specs.Column.{IsLayoutRefusal, RefusesUse as IsUseRefusal};
+    ghost use Rattle.geoarrow_schema.specs.Parts.{geometry_coord_type, geometry_metadata};
+
+    const NAME: &'static str = "geoarrow.geometry";
+
+    type Metadata = Arc<Metadata>;
+
+    ghost name_text = { geometry_name };
+
+    ghost metadata_of = { geometry_metadata };
+
+    ghost printed = { λ m. printed_text (arc_value m) };
+
+    ghost StandsFor = { λ t m. TextStandsFor t (arc_value m) };
+
+    ghost SameMetadata = { λ m n. arc_value m ≡ arc_value n };
+
+    ghost Accepts = { λ t e. Geometry t (geometry_coord_type e) };
+
+    ghost Agrees = { λ a b. geometry_coord_type a ≡ geometry_coord_type b };
+
+    ghost RefusesText = { TextRefusedAs };
+
+    ghost RefusesTree = { λ _ r. IsLayoutRefusal r };
+
+    ghost RefusesUse = { λ _ t r. IsUseRefusal ((c : CoordType) × Geometry t c) r };
+
+    ghost accepts_by_shape = { λ t a e h k. subst (λ c. Geometry t c) (sym k) h };
+
+    ghost agrees_with_itself = { λ e. refl };
+
+    fn extension_name() -> &'static str {
+        Self::NAME
+    }
+
+    fn metadata(&self) -> &Arc<Metadata> {
+        &self.metadata
+    }
+
+    fn serialize_metadata(&self, alloc: Global) -> Result<Option<String>, ArrowError> {
+        self.metadata.serialize(alloc)
+    }
+
+    fn deserialize_metadata(
+        alloc: Global,
+        metadata: Option<&str>,
+    ) -> Result<Arc<Metadata>, ArrowError> {
+        Metadata::deserialize_shared(alloc, metadata)
+    }
+
+    fn supports_data_type(&self, alloc: Global, data_type: &DataType) -> Result<(), ArrowError> {
+        match parse_geometry(data_type) {
+            Ok(found) => {
+                if found == self.coord_type {
+                    Ok(())
+                } else {
+                    Err(ArrowError::schema_error(alloc, "unexpected coordinate type"))
+                }
+            }
+            Err(fault) => Err(fault.into_arrow_error(alloc)),
+        }
+    }
+
+    fn try_new(
+        alloc: Global,
+        data_type: &DataType,
+        metadata: Arc<Metadata>,
+    ) -> Result<GeometryType, ArrowError> {
+        match parse_geometry(data_type) {
+            Ok(coord_type) => Ok(GeometryType {
+                coord_type,
+                metadata,
+            }),
+            Err(fault) => Err(fault.into_arrow_error(alloc)),
+        }
+    }
+
+    fn accepts_one_shape(data_type: &DataType) {
+        parse_geometry(data_type).is_ok();
+    }
+
+    fn stands_for_one_metadata(metadata: Option<&str>) {
+        text_stands_for_one(metadata);
+    }
+}

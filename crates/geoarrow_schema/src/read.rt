@@ -1,0 +1,133 @@
+//! Which type a field is read as.
+ghost use Rattle.std.specs.Prelude.{◌≡◌, ◌⊎◌, ◌↔◌, Ok, None, Some, IfOk, IfErr, IfSome, OnErr};
+ghost use Rattle.arrow_values.specs.Errors.{IsGeoMemory};
+ghost use Rattle.geoarrow_layout.specs.declared.names.ExtensionName.{ExtensionName};
+ghost use Rattle.geoarrow_layout.specs.declared.encodings.Kind.{Kind};
+ghost use Rattle.geoarrow_layout.specs.Kinds.{name_text};
+ghost use Rattle.geoarrow_layout.specs.Shapes.{Accepts};
+ghost use Rattle.geoarrow_schema.specs.Reads.{HasName, HasGeoArrowName, IsColumn, Reads, ReadsAsNone, ReadsAlone, RefusedAs, IsInvalid};
+
+use crate::types::GeoArrowType;
+use arrow_values::{ArrowError, Field, GeoArrowError, GeoArrowResult};
+use geoarrow_layout::{ExtensionName, Kind, LayoutFault, names_are_distinct, parse_kind};
+use geoarrow_meta::Metadata;
+use geoarrow_native::laws::reads_as_one_column;
+use std::alloc::Global;
+use std::sync::Arc;
+
+impl GeoArrowType {
+    /// The type that a field is read as (GeoArrow, "Extension types"): the one whose extension name stands on the field,
+    /// as whose kind the field's data type is accepted, and for whose metadata the field's metadata text, or its absence,
+    /// stands. A field has one such type at most. None, without memory, where the field has no extension name or none of
+    /// GeoArrow's, compared byte for byte.
+    ///
+    /// Errs where a GeoArrow name stands on the field and no type is read: as `InvalidGeoArrow` exactly where the name is
+    /// `geoarrow.wkb` and the data type is none of `Binary`, `LargeBinary` and `BinaryView`, or the name is `geoarrow.wkt`
+    /// and the data type is none of `Utf8`, `LargeUtf8` and `Utf8View`, whatever the metadata text is; else as `Arrow`, with
+    /// the error of the metadata before that of the data type. Errs for want of memory too, as `Arrow` of `OutOfMemory`.
+    pub fn from_extension_field(
+        alloc: Global,
+        field: &Field,
+    ) -> GeoArrowResult<Option<GeoArrowType>>
+        ensures ok { IfOk result (λ found. IfSome found (Reads field.now)) }
+        ensures only { IfOk result (λ found. IfSome found (ReadsAlone field.now)) }
+        ensures none { (result ≡ Ok None) ↔ ¬ HasGeoArrowName field.now }
+        ensures named { OnErr result (HasGeoArrowName field.now) }
+        ensures err { IfErr result (λ e. IsGeoMemory e ⊎ ReadsAsNone field.now) }
+        ensures variant { IfErr result (λ e. IsGeoMemory e ⊎ RefusedAs field.now e) }
+    {
+        match name_of(field) {
+            None => Ok(None),
+            Some(name) => Ok(Some(read_named(alloc, field, name)?)),
+        }
+    }
+
+    /// The type that a field is read as. Errs as `from_extension_field` does, and as `InvalidGeoArrow` where that answers
+    /// none.
+    pub fn try_from_field(alloc: Global, field: &Field) -> GeoArrowResult<GeoArrowType>
+        ensures ok { IfOk result (Reads field.now) }
+        ensures only { IfOk result (ReadsAlone field.now) }
+        ensures err { IfErr result (λ e. IsGeoMemory e ⊎ ReadsAsNone field.now) }
+        ensures named { IfErr result (λ e. IsGeoMemory e ⊎ (HasGeoArrowName field.now → RefusedAs field.now e)) }
+        ensures unnamed { IfErr result (λ e. IsGeoMemory e ⊎ (¬ HasGeoArrowName field.now → IsInvalid e)) }
+    {
+        match GeoArrowType::from_extension_field(alloc, field)? {
+            Some(found) => Ok(found),
+            None => Err(GeoArrowError::invalid_geoarrow(
+                alloc,
+                "no GeoArrow extension name",
+            )),
+        }
+    }
+}
+
+/// The GeoArrow name that stands on a field.
+fn name_of(field: &Field) -> Option<ExtensionName>
+    ensures { (name : ExtensionName) → (result ≡ Some name) ↔ HasName field.now name }
+{
+    match field.extension_type_name() {
+        None => None,
+        Some(text) => ExtensionName::from_text(text),
+    }
+}
+
+/// The type that a field of that name is read as.
+fn read_named(alloc: Global, field: &Field, name: ExtensionName) -> GeoArrowResult<GeoArrowType>
+    requires { HasName field.now name }
+    ensures ok { IfOk result (Reads field.now) }
+    ensures only { IfOk result (ReadsAlone field.now) }
+    ensures err { IfErr result (λ e. IsGeoMemory e ⊎ ReadsAsNone field.now) }
+    ensures variant { IfErr result (λ e. IsGeoMemory e ⊎ RefusedAs field.now e) }
+{
+    match parse_kind(name, field.data_type()) {
+        Ok(kind) => read_kind(alloc, field, kind),
+        Err(fault) => Err(refusal(alloc, field, name, fault)),
+    }
+}
+
+/// The type that a field is read as whose name and data type are those of a kind.
+#[tactic(auto, using(crate::proofs::Reading::none_of_text, crate::proofs::Reading::column_reads, crate::proofs::Reading::type_reads, crate::proofs::Reading::reads_alone, crate::proofs::Reading::column_not_foreign))]
+fn read_kind(alloc: Global, field: &Field, kind: Kind) -> GeoArrowResult<GeoArrowType>
+    requires { IsColumn field.now kind }
+    ensures ok { IfOk result (Reads field.now) }
+    ensures only { IfOk result (ReadsAlone field.now) }
+    ensures err { IfErr result (λ e. IsGeoMemory e ⊎ ReadsAsNone field.now) }
+    ensures variant { IfErr result (λ e. IsGeoMemory e ⊎ RefusedAs field.now e) }
+{
+    let metadata = Arc::new(alloc, Metadata::try_from_field(alloc, field)?)?;
+    reads_as_one_column(field);
+    Ok(GeoArrowType::from_kind(kind, metadata))
+}
+
+/// The refusal of a field of that name whose data type is of no kind of it.
+fn refusal(
+    alloc: Global,
+    field: &Field,
+    name: ExtensionName,
+    fault: LayoutFault,
+) -> GeoArrowError
+    requires named { HasName field.now name }
+    requires no_kind { (k : Kind) → ¬ Accepts (name_text name) field.now.tree k }
+    ensures { IsGeoMemory result ⊎ RefusedAs field.now result }
+{
+    match name {
+        ExtensionName::Wkb => {
+            GeoArrowError::invalid_geoarrow(alloc, "geoarrow.wkb needs a binary type")
+        }
+        ExtensionName::Wkt => {
+            GeoArrowError::invalid_geoarrow(alloc, "geoarrow.wkt needs a text type")
+        }
+        ExtensionName::Native(_) | ExtensionName::Geometry | ExtensionName::Rect => {
+            names_are_distinct();
+            GeoArrowError::Arrow(structured_refusal(alloc, field, fault))
+        }
+    }
+}
+
+/// The refusal of a field whose data type has that fault: that of its metadata, if it is refused, goes before.
+fn structured_refusal(alloc: Global, field: &Field, fault: LayoutFault) -> ArrowError {
+    match Metadata::try_from_field(alloc, field) {
+        Ok(_) => fault.into_arrow_error(alloc),
+        Err(error) => error,
+    }
+}

@@ -1,0 +1,214 @@
+//! The GeoArrow types as one.
+ghost use Rattle.std.specs.Prelude.{◌≡◌, ◌⊎◌, IfOk, IfErr, IsOk};
+ghost use Rattle.geoarrow_schema.specs.Types.{kind_of, metadata_of, meta_of};
+ghost use Rattle.geoarrow_schema.specs.Changes.{with_coord_type, with_dimension};
+ghost use Rattle.geoarrow_layout.specs.declared.encodings.Kind.TheVariants.{Native as OfNative};
+ghost use Rattle.geoarrow_layout.specs.Kinds.{coord_type_of, dimension_of};
+
+use crate::boxes::BoxType;
+use crate::geometry::GeometryType;
+use crate::serialized::{WkbType, WktType};
+use geoarrow_layout::{CoordType, Dimension, Kind, NativeKind, Width};
+use geoarrow_meta::Metadata;
+use geoarrow_multi::{
+    GeometryCollectionType, MultiLineStringType, MultiPointType, MultiPolygonType,
+};
+use geoarrow_native::{LineStringType, PointType, PolygonType};
+use std::alloc::{AllocError, Global};
+use std::sync::Arc;
+
+/// The type of a column of geometries (GeoArrow, "Extension types"). Two are equal, and then hash equally, where their
+/// kinds and their metadata are.
+#[derive(Debug, PartialEq, Eq, Hash, Drop)]
+pub enum GeoArrowType {
+    /// Points (GeoArrow, "Point").
+    Point(PointType),
+    /// Line strings (GeoArrow, "LineString").
+    LineString(LineStringType),
+    /// Polygons (GeoArrow, "Polygon").
+    Polygon(PolygonType),
+    /// Multipoints (GeoArrow, "MultiPoint").
+    MultiPoint(MultiPointType),
+    /// Multilinestrings (GeoArrow, "MultiLineString").
+    MultiLineString(MultiLineStringType),
+    /// Multipolygons (GeoArrow, "MultiPolygon").
+    MultiPolygon(MultiPolygonType),
+    /// Collections (GeoArrow, "GeometryCollection").
+    GeometryCollection(GeometryCollectionType),
+    /// Boxes (GeoArrow, "Box").
+    Rect(BoxType),
+    /// Geometries of any kind and dimension (GeoArrow, "Geometry").
+    Geometry(GeometryType),
+    /// Well-known binary with 32-bit offsets (GeoArrow, "WKB").
+    Wkb(WkbType),
+    /// Well-known binary with 64-bit offsets (GeoArrow, "WKB").
+    LargeWkb(WkbType),
+    /// Well-known binary as views (GeoArrow, "WKB").
+    WkbView(WkbType),
+    /// Well-known text with 32-bit offsets (GeoArrow, "WKT").
+    Wkt(WktType),
+    /// Well-known text with 64-bit offsets (GeoArrow, "WKT").
+    LargeWkt(WktType),
+    /// Well-known text as views (GeoArrow, "WKT").
+    WktView(WktType),
+}
+
+impl GeoArrowType {
+    /// The type of that kind and metadata.
+    pub fn from_kind(kind: Kind, metadata: Arc<Metadata>) -> GeoArrowType
+        ensures kind { kind_of result ≡ kind }
+        ensures metadata { metadata_of result ≡ metadata }
+    {
+        match kind {
+            Kind::Native(kind, coord_type, dimension) => {
+                native_type(kind, coord_type, dimension, metadata)
+            }
+            Kind::Geometry(coord_type) => {
+                GeoArrowType::Geometry(GeometryType::new(metadata).with_coord_type(coord_type))
+            }
+            Kind::Rect(dimension) => GeoArrowType::Rect(BoxType::new(dimension, metadata)),
+            Kind::Wkb(Width::Plain) => GeoArrowType::Wkb(WkbType::new(metadata)),
+            Kind::Wkb(Width::Large) => GeoArrowType::LargeWkb(WkbType::new(metadata)),
+            Kind::Wkb(Width::View) => GeoArrowType::WkbView(WkbType::new(metadata)),
+            Kind::Wkt(Width::Plain) => GeoArrowType::Wkt(WktType::new(metadata)),
+            Kind::Wkt(Width::Large) => GeoArrowType::LargeWkt(WktType::new(metadata)),
+            Kind::Wkt(Width::View) => GeoArrowType::WktView(WktType::new(metadata)),
+        }
+    }
+
+    /// The kind: the type without its metadata.
+    pub fn kind(&self) -> Kind
+        ensures { result ≡ kind_of self.now }
+    {
+        match self {
+            GeoArrowType::Point(t) => Kind::Native(NativeKind::Point, t.coord_type(), t.dimension()),
+            GeoArrowType::LineString(t) => Kind::Native(NativeKind::LineString, t.coord_type(), t.dimension()),
+            GeoArrowType::Polygon(t) => Kind::Native(NativeKind::Polygon, t.coord_type(), t.dimension()),
+            GeoArrowType::MultiPoint(t) => Kind::Native(NativeKind::MultiPoint, t.coord_type(), t.dimension()),
+            GeoArrowType::MultiLineString(t) => Kind::Native(NativeKind::MultiLineString, t.coord_type(), t.dimension()),
+            GeoArrowType::MultiPolygon(t) => Kind::Native(NativeKind::MultiPolygon, t.coord_type(), t.dimension()),
+            GeoArrowType::GeometryCollection(t) => Kind::Native(NativeKind::GeometryCollection, t.coord_type(), t.dimension()),
+            GeoArrowType::Rect(t) => Kind::Rect(t.dimension()),
+            GeoArrowType::Geometry(t) => Kind::Geometry(t.coord_type()),
+            GeoArrowType::Wkb(_) => Kind::Wkb(Width::Plain),
+            GeoArrowType::LargeWkb(_) => Kind::Wkb(Width::Large),
+            GeoArrowType::WkbView(_) => Kind::Wkb(Width::View),
+            GeoArrowType::Wkt(_) => Kind::Wkt(Width::Plain),
+            GeoArrowType::LargeWkt(_) => Kind::Wkt(Width::Large),
+            GeoArrowType::WktView(_) => Kind::Wkt(Width::View),
+        }
+    }
+
+    /// The metadata: the very one that was given.
+    pub fn metadata(&self) -> &Arc<Metadata>
+        ensures { result.now ≡ metadata_of self.now }
+    {
+        match self {
+            GeoArrowType::Point(t) => t.metadata(),
+            GeoArrowType::LineString(t) => t.metadata(),
+            GeoArrowType::Polygon(t) => t.metadata(),
+            GeoArrowType::MultiPoint(t) => t.metadata(),
+            GeoArrowType::MultiLineString(t) => t.metadata(),
+            GeoArrowType::MultiPolygon(t) => t.metadata(),
+            GeoArrowType::GeometryCollection(t) => t.metadata(),
+            GeoArrowType::Rect(t) => t.metadata(),
+            GeoArrowType::Geometry(t) => t.metadata(),
+            GeoArrowType::Wkb(t) | GeoArrowType::LargeWkb(t) | GeoArrowType::WkbView(t) => {
+                t.metadata()
+            }
+            GeoArrowType::Wkt(t) | GeoArrowType::LargeWkt(t) | GeoArrowType::WktView(t) => {
+                t.metadata()
+            }
+        }
+    }
+
+    /// How the coordinates are stored: `Separated` for boxes, and none for well-known binary and text.
+    pub fn coord_type(&self) -> Option<CoordType>
+        ensures { result ≡ coord_type_of (kind_of self.now) }
+    {
+        self.kind().coord_type()
+    }
+
+    /// The dimension; none for geometries of any kind and for well-known binary and text.
+    pub fn dimension(&self) -> Option<Dimension>
+        ensures { result ≡ dimension_of (kind_of self.now) }
+    {
+        self.kind().dimension()
+    }
+
+    /// An equal type, which shares the metadata. Errs for want of memory alone, which sharing never meets.
+    pub fn try_clone(&self, _alloc: Global) -> Result<GeoArrowType, AllocError>
+        ensures kind { IfOk result (λ g. kind_of g ≡ kind_of self.now) }
+        ensures metadata { IfOk result (λ g. meta_of g ≡ meta_of self.now) }
+    {
+        let metadata = Arc::try_clone(self.metadata())?;
+        Ok(GeoArrowType::from_kind(self.kind(), metadata))
+    }
+
+    /// The type with that coordinate type, and otherwise as it was; boxes and well-known binary and text are as they
+    /// were.
+    pub fn with_coord_type(self, coord_type: CoordType) -> GeoArrowType
+        ensures kind { kind_of result ≡ with_coord_type coord_type (kind_of self) }
+        ensures metadata { metadata_of result ≡ metadata_of self }
+    {
+        match self {
+            GeoArrowType::Point(t) => GeoArrowType::Point(t.with_coord_type(coord_type)),
+            GeoArrowType::LineString(t) => GeoArrowType::LineString(t.with_coord_type(coord_type)),
+            GeoArrowType::Polygon(t) => GeoArrowType::Polygon(t.with_coord_type(coord_type)),
+            GeoArrowType::MultiPoint(t) => GeoArrowType::MultiPoint(t.with_coord_type(coord_type)),
+            GeoArrowType::MultiLineString(t) => GeoArrowType::MultiLineString(t.with_coord_type(coord_type)),
+            GeoArrowType::MultiPolygon(t) => GeoArrowType::MultiPolygon(t.with_coord_type(coord_type)),
+            GeoArrowType::GeometryCollection(t) => GeoArrowType::GeometryCollection(t.with_coord_type(coord_type)),
+            GeoArrowType::Geometry(t) => GeoArrowType::Geometry(t.with_coord_type(coord_type)),
+            other => other,
+        }
+    }
+
+    /// The type with that dimension, and otherwise as it was; geometries of any kind and well-known binary and text are
+    /// as they were.
+    pub fn with_dimension(self, dimension: Dimension) -> GeoArrowType
+        ensures kind { kind_of result ≡ with_dimension dimension (kind_of self) }
+        ensures metadata { metadata_of result ≡ metadata_of self }
+    {
+        match self {
+            GeoArrowType::Point(t) => GeoArrowType::Point(t.with_dimension(dimension)),
+            GeoArrowType::LineString(t) => GeoArrowType::LineString(t.with_dimension(dimension)),
+            GeoArrowType::Polygon(t) => GeoArrowType::Polygon(t.with_dimension(dimension)),
+            GeoArrowType::MultiPoint(t) => GeoArrowType::MultiPoint(t.with_dimension(dimension)),
+            GeoArrowType::MultiLineString(t) => GeoArrowType::MultiLineString(t.with_dimension(dimension)),
+            GeoArrowType::MultiPolygon(t) => GeoArrowType::MultiPolygon(t.with_dimension(dimension)),
+            GeoArrowType::GeometryCollection(t) => GeoArrowType::GeometryCollection(t.with_dimension(dimension)),
+            GeoArrowType::Rect(t) => GeoArrowType::Rect(t.with_dimension(dimension)),
+            other => other,
+        }
+    }
+
+    /// The type with that metadata, and otherwise as it was.
+    pub fn with_metadata(self, metadata: Arc<Metadata>) -> GeoArrowType
+        ensures kind { kind_of result ≡ kind_of self }
+        ensures metadata { metadata_of result ≡ metadata }
+    {
+        GeoArrowType::from_kind(self.kind(), metadata)
+    }
+}
+
+/// The type of that native kind, with these parts.
+fn native_type(
+    kind: NativeKind,
+    coord_type: CoordType,
+    dimension: Dimension,
+    metadata: Arc<Metadata>,
+) -> GeoArrowType
+    ensures kind { kind_of result ≡ OfNative kind coord_type dimension }
+    ensures metadata { metadata_of result ≡ metadata }
+{
+    match kind {
+        NativeKind::Point => GeoArrowType::Point(PointType::new(dimension, metadata).with_coord_type(coord_type)),
+        NativeKind::LineString => GeoArrowType::LineString(LineStringType::new(dimension, metadata).with_coord_type(coord_type)),
+        NativeKind::Polygon => GeoArrowType::Polygon(PolygonType::new(dimension, metadata).with_coord_type(coord_type)),
+        NativeKind::MultiPoint => GeoArrowType::MultiPoint(MultiPointType::new(dimension, metadata).with_coord_type(coord_type)),
+        NativeKind::MultiLineString => GeoArrowType::MultiLineString(MultiLineStringType::new(dimension, metadata).with_coord_type(coord_type)),
+        NativeKind::MultiPolygon => GeoArrowType::MultiPolygon(MultiPolygonType::new(dimension, metadata).with_coord_type(coord_type)),
+        NativeKind::GeometryCollection => GeoArrowType::GeometryCollection(GeometryCollectionType::new(dimension, metadata).with_coord_type(coord_type)),
+    }
+}
