@@ -3,9 +3,8 @@
 
 mod shape;
 
-pub use shape::{GeometryCollection, MultiLineString, MultiPoint, MultiPolygon};
-
 use geoarrow_native::NativeType;
+pub use shape::{GeometryCollection, MultiLineString, MultiPoint, MultiPolygon};
 
 /// Multipoints (GeoArrow, "MultiPoint"): each value is a list of points.
 pub type MultiPointType = NativeType<MultiPoint>;

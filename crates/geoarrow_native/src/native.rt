@@ -9,9 +9,9 @@ ghost use Rattle.geoarrow_layout.specs.Layouts.{native_layout};
 ghost use Rattle.geoarrow_meta.specs.Written.{meta_value, normal, IsReadBack};
 ghost use Rattle.geoarrow_native.specs.Column.{ReadsAs, written_field};
 
-use crate::write::column_field;
 use crate::parts::{one_shape, read_parts, supports_parts};
 use crate::shape::NativeShape;
+use crate::write::column_field;
 use arrow_values::{ArrowError, DataType, ExtensionType, Field};
 use geoarrow_layout::{CoordType, Dimension, Kind, list_data_type};
 use geoarrow_meta::Metadata;

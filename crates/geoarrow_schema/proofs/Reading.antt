@@ -1,5 +1,5 @@
 -- A field's name, tree and metadata text, and what it reads as.
-use Rattle.std.proofs.Common.{◌≡◌, ◌∙◌, refl, sym, subst, Some}
+use Rattle.std.proofs.Common.{◌≡◌, ◌∙◌, sym, subst, Some}
 use Rattle.std.specs.Arc.{arc_value}
 use Rattle.arrow_values.specs.Tree.{Text, FieldTree}
 use Rattle.arrow_values.specs.Texts.{extension_metadata}

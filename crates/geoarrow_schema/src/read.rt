@@ -53,10 +53,7 @@ impl GeoArrowType {
     {
         match GeoArrowType::from_extension_field(alloc, field)? {
             Some(found) => Ok(found),
-            None => Err(GeoArrowError::invalid_geoarrow(
-                alloc,
-                "no GeoArrow extension name",
-            )),
+            None => Err(GeoArrowError::invalid_geoarrow(alloc, "no GeoArrow extension name")),
         }
     }
 }
@@ -100,12 +97,7 @@ fn read_kind(alloc: Global, field: &Field, kind: Kind) -> GeoArrowResult<GeoArro
 }
 
 /// The refusal of a field of that name whose data type is of no kind of it.
-fn refusal(
-    alloc: Global,
-    field: &Field,
-    name: ExtensionName,
-    fault: LayoutFault,
-) -> GeoArrowError
+fn refusal(alloc: Global, field: &Field, name: ExtensionName, fault: LayoutFault) -> GeoArrowError
     requires named { HasName field.now name }
     requires no_kind { (k : Kind) → ¬ Accepts (name_text name) field.now.tree k }
     ensures { IsGeoMemory result ⊎ RefusedAs field.now result }

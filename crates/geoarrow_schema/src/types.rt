@@ -81,13 +81,41 @@ impl GeoArrowType {
         ensures { result ≡ kind_of self.now }
     {
         match self {
-            GeoArrowType::Point(t) => Kind::Native(NativeKind::Point, t.coord_type(), t.dimension()),
-            GeoArrowType::LineString(t) => Kind::Native(NativeKind::LineString, t.coord_type(), t.dimension()),
-            GeoArrowType::Polygon(t) => Kind::Native(NativeKind::Polygon, t.coord_type(), t.dimension()),
-            GeoArrowType::MultiPoint(t) => Kind::Native(NativeKind::MultiPoint, t.coord_type(), t.dimension()),
-            GeoArrowType::MultiLineString(t) => Kind::Native(NativeKind::MultiLineString, t.coord_type(), t.dimension()),
-            GeoArrowType::MultiPolygon(t) => Kind::Native(NativeKind::MultiPolygon, t.coord_type(), t.dimension()),
-            GeoArrowType::GeometryCollection(t) => Kind::Native(NativeKind::GeometryCollection, t.coord_type(), t.dimension()),
+            GeoArrowType::Point(t) => Kind::Native(
+                NativeKind::Point,
+                t.coord_type(),
+                t.dimension(),
+            ),
+            GeoArrowType::LineString(t) => Kind::Native(
+                NativeKind::LineString,
+                t.coord_type(),
+                t.dimension(),
+            ),
+            GeoArrowType::Polygon(t) => Kind::Native(
+                NativeKind::Polygon,
+                t.coord_type(),
+                t.dimension(),
+            ),
+            GeoArrowType::MultiPoint(t) => Kind::Native(
+                NativeKind::MultiPoint,
+                t.coord_type(),
+                t.dimension(),
+            ),
+            GeoArrowType::MultiLineString(t) => Kind::Native(
+                NativeKind::MultiLineString,
+                t.coord_type(),
+                t.dimension(),
+            ),
+            GeoArrowType::MultiPolygon(t) => Kind::Native(
+                NativeKind::MultiPolygon,
+                t.coord_type(),
+                t.dimension(),
+            ),
+            GeoArrowType::GeometryCollection(t) => Kind::Native(
+                NativeKind::GeometryCollection,
+                t.coord_type(),
+                t.dimension(),
+            ),
             GeoArrowType::Rect(t) => Kind::Rect(t.dimension()),
             GeoArrowType::Geometry(t) => Kind::Geometry(t.coord_type()),
             GeoArrowType::Wkb(_) => Kind::Wkb(Width::Plain),
@@ -156,9 +184,15 @@ impl GeoArrowType {
             GeoArrowType::LineString(t) => GeoArrowType::LineString(t.with_coord_type(coord_type)),
             GeoArrowType::Polygon(t) => GeoArrowType::Polygon(t.with_coord_type(coord_type)),
             GeoArrowType::MultiPoint(t) => GeoArrowType::MultiPoint(t.with_coord_type(coord_type)),
-            GeoArrowType::MultiLineString(t) => GeoArrowType::MultiLineString(t.with_coord_type(coord_type)),
-            GeoArrowType::MultiPolygon(t) => GeoArrowType::MultiPolygon(t.with_coord_type(coord_type)),
-            GeoArrowType::GeometryCollection(t) => GeoArrowType::GeometryCollection(t.with_coord_type(coord_type)),
+            GeoArrowType::MultiLineString(t) => GeoArrowType::MultiLineString(t.with_coord_type(
+                coord_type,
+            )),
+            GeoArrowType::MultiPolygon(t) => GeoArrowType::MultiPolygon(t.with_coord_type(
+                coord_type,
+            )),
+            GeoArrowType::GeometryCollection(t) => GeoArrowType::GeometryCollection(
+                t.with_coord_type(coord_type),
+            ),
             GeoArrowType::Geometry(t) => GeoArrowType::Geometry(t.with_coord_type(coord_type)),
             other => other,
         }
@@ -175,9 +209,15 @@ impl GeoArrowType {
             GeoArrowType::LineString(t) => GeoArrowType::LineString(t.with_dimension(dimension)),
             GeoArrowType::Polygon(t) => GeoArrowType::Polygon(t.with_dimension(dimension)),
             GeoArrowType::MultiPoint(t) => GeoArrowType::MultiPoint(t.with_dimension(dimension)),
-            GeoArrowType::MultiLineString(t) => GeoArrowType::MultiLineString(t.with_dimension(dimension)),
-            GeoArrowType::MultiPolygon(t) => GeoArrowType::MultiPolygon(t.with_dimension(dimension)),
-            GeoArrowType::GeometryCollection(t) => GeoArrowType::GeometryCollection(t.with_dimension(dimension)),
+            GeoArrowType::MultiLineString(t) => GeoArrowType::MultiLineString(t.with_dimension(
+                dimension,
+            )),
+            GeoArrowType::MultiPolygon(t) => GeoArrowType::MultiPolygon(t.with_dimension(
+                dimension,
+            )),
+            GeoArrowType::GeometryCollection(t) => GeoArrowType::GeometryCollection(
+                t.with_dimension(dimension),
+            ),
             GeoArrowType::Rect(t) => GeoArrowType::Rect(t.with_dimension(dimension)),
             other => other,
         }
@@ -203,12 +243,26 @@ fn native_type(
     ensures metadata { metadata_of result ≡ metadata }
 {
     match kind {
-        NativeKind::Point => GeoArrowType::Point(PointType::new(dimension, metadata).with_coord_type(coord_type)),
-        NativeKind::LineString => GeoArrowType::LineString(LineStringType::new(dimension, metadata).with_coord_type(coord_type)),
-        NativeKind::Polygon => GeoArrowType::Polygon(PolygonType::new(dimension, metadata).with_coord_type(coord_type)),
-        NativeKind::MultiPoint => GeoArrowType::MultiPoint(MultiPointType::new(dimension, metadata).with_coord_type(coord_type)),
-        NativeKind::MultiLineString => GeoArrowType::MultiLineString(MultiLineStringType::new(dimension, metadata).with_coord_type(coord_type)),
-        NativeKind::MultiPolygon => GeoArrowType::MultiPolygon(MultiPolygonType::new(dimension, metadata).with_coord_type(coord_type)),
-        NativeKind::GeometryCollection => GeoArrowType::GeometryCollection(GeometryCollectionType::new(dimension, metadata).with_coord_type(coord_type)),
+        NativeKind::Point => GeoArrowType::Point(PointType::new(
+            dimension, metadata,
+        ).with_coord_type(coord_type)),
+        NativeKind::LineString => GeoArrowType::LineString(LineStringType::new(
+            dimension, metadata,
+        ).with_coord_type(coord_type)),
+        NativeKind::Polygon => GeoArrowType::Polygon(PolygonType::new(
+            dimension, metadata,
+        ).with_coord_type(coord_type)),
+        NativeKind::MultiPoint => GeoArrowType::MultiPoint(MultiPointType::new(
+            dimension, metadata,
+        ).with_coord_type(coord_type)),
+        NativeKind::MultiLineString => GeoArrowType::MultiLineString(MultiLineStringType::new(
+            dimension, metadata,
+        ).with_coord_type(coord_type)),
+        NativeKind::MultiPolygon => GeoArrowType::MultiPolygon(MultiPolygonType::new(
+            dimension, metadata,
+        ).with_coord_type(coord_type)),
+        NativeKind::GeometryCollection => GeoArrowType::GeometryCollection(
+            GeometryCollectionType::new(dimension, metadata).with_coord_type(coord_type),
+        ),
     }
 }

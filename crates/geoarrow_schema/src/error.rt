@@ -1,0 +1,3 @@
+//! The errors of GeoArrow.
+
+pub use arrow_values::{GeoArrowError, GeoArrowResult};

@@ -1,0 +1,3 @@
+//! The ids of types among the members of a union.
+
+pub use geoarrow_native::GeometryTypeId;
