@@ -9,7 +9,7 @@ ghost use Rattle.serde_json.specs.Written.{has_float, compact_text};
 ghost use Rattle.geoarrow_meta.specs.declared.metadata.Metadata.{Metadata};
 ghost use Rattle.geoarrow_meta.specs.CrsValue.{IsCrsValue};
 ghost use Rattle.geoarrow_meta.specs.Parts.{crs_value, metadata_crs, metadata_edges};
-ghost use Rattle.geoarrow_meta.specs.Written.{meta_value, printed, normal, is_bare, IsReadBack, NestsWithin};
+ghost use Rattle.geoarrow_meta.specs.Written.{empty, meta_value, printed, normal, is_bare, IsReadBack, NestsWithin};
 ghost use Rattle.geoarrow_meta.specs.Read.{StandsFor, TextStandsFor, RefusedAs, TextRefusedAs};
 
 mod read;
@@ -197,6 +197,14 @@ impl Metadata {
             return false;
         }
         self.is_bare() || self.crs.crs_type() == other.crs.crs_type()
+    }
+
+    /// Whether the metadata is in normal form. Where it is not, the normal form is the default metadata. Takes no memory.
+    pub fn is_normal(&self) -> bool
+        ensures exact { IsTrue result ↔ (normal self.now ≡ self.now) }
+        ensures else_default { IsTrue result ⊎ (normal self.now ≡ empty) }
+    {
+        !self.is_bare() || self.crs.crs_type().is_none()
     }
 
     // Whether neither CRS value nor edges stand.

@@ -52,3 +52,8 @@ none_unnamed f unnamed g r = unnamed (extension_of (kind_of g), r.0)
 pub column_not_foreign : (f : FieldTree) (k : Kind) → IsColumn f k → ¬ IsForeign f
 column_not_foreign f k column (n, serialized, named, none) =
     none k (some_same (name_text n) (name_of k) (sym named ∙ column.0), column.1)
+
+-- a field that is read has a GeoArrow name
+pub read_has_name : (f : FieldTree) (g : GeoArrowType) → Reads f g → HasGeoArrowName f
+unfolding ReadsAs
+read_has_name f g r = (extension_of (kind_of g), r.0)

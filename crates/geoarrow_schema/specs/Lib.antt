@@ -3,3 +3,5 @@ pub mod Stored
 pub mod Types
 pub mod Changes
 pub mod Reads
+pub mod Normal
+pub mod Infers

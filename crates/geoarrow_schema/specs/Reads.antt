@@ -1,7 +1,7 @@
 -- What a field reads as, and what is written.
 use Rattle.std.specs.Prelude.{◌≡◌, Bool, Option, Some, ⊤}
 use Rattle.arrow_values.specs.Tree.{Text, Tree, FieldTree}
-use Rattle.arrow_values.specs.Texts.{extension_name}
+use Rattle.arrow_values.specs.Texts.{extension_name, set_extension}
 use Rattle.arrow_values.specs.declared.error.GeoArrowError.{GeoArrowError}
 use Rattle.arrow_values.specs.declared.error.GeoArrowError.TheVariants.{Arrow, InvalidGeoArrow}
 use Rattle.geoarrow_layout.specs.declared.names.ExtensionName.{ExtensionName}
@@ -10,7 +10,8 @@ use Rattle.geoarrow_layout.specs.declared.encodings.Kind.{Kind}
 use Rattle.geoarrow_layout.specs.Kinds.{name_text, name_of}
 use Rattle.geoarrow_layout.specs.Shapes.{Accepted, Accepts}
 use Rattle.geoarrow_layout.specs.Layouts.{layout}
-use Rattle.geoarrow_meta.specs.Written.{meta_value}
+use Rattle.geoarrow_meta.specs.declared.metadata.Metadata.{Metadata}
+use Rattle.geoarrow_meta.specs.Written.{meta_value, printed}
 use Rattle.serde_json.specs.Data.{Data}
 use Rattle.geoarrow_native.specs.Column.{ReadsAs, written_field}
 use Rattle.geoarrow_schema.specs.declared.types.GeoArrowType.{GeoArrowType}
@@ -67,6 +68,10 @@ Written = Text × Tree × Option Data
 
 abbrev pub writes : GeoArrowType → Written
 writes g = (name_of (kind_of g), layout (kind_of g), meta_value (meta_of g))
+
+-- the field with the extension name of a kind and the metadata text of a metadata, and otherwise as it was
+abbrev pub dressed : FieldTree → Kind → Metadata → FieldTree
+dressed f k m = record f { metadata = set_extension (name_of k) (printed m) f.metadata }
 
 -- the field of that name and nullability that is written for a type
 abbrev pub field_of : Text → Bool → GeoArrowType → FieldTree

@@ -2,20 +2,18 @@
 ghost use Rattle.std.specs.Prelude.{◌≡◌, IfOk, IfErr, IsOk};
 ghost use Rattle.arrow_values.specs.View.{tree};
 ghost use Rattle.arrow_values.specs.Errors.{IsMemory};
-ghost use Rattle.geoarrow_layout.specs.Shapes.{IsStructured};
+ghost use Rattle.arrow_values.specs.Texts.{SetsExtension};
+ghost use Rattle.geoarrow_layout.specs.Kinds.{name_of};
+ghost use Rattle.geoarrow_layout.specs.Shapes.{Accepted, IsStructured};
 ghost use Rattle.geoarrow_layout.specs.Layouts.{layout};
-ghost use Rattle.geoarrow_layout.specs.declared.encodings.Kind.TheVariants.{Wkb as OfWkb, Wkt as OfWkt};
-ghost use Rattle.geoarrow_meta.specs.Written.{meta_value, normal, IsReadBack};
-ghost use Rattle.geoarrow_native.specs.Column.{ReadsAs, written_field};
+ghost use Rattle.geoarrow_meta.specs.Written.{meta_value, printed, normal, IsReadBack};
+ghost use Rattle.geoarrow_native.specs.Column.{ReadsAs};
 ghost use Rattle.geoarrow_schema.specs.Types.{kind_of, meta_of};
-ghost use Rattle.geoarrow_schema.specs.Reads.{field_of};
-ghost use Rattle.geoarrow_schema.specs.Parts.{serialized_meta};
+ghost use Rattle.geoarrow_schema.specs.Reads.{dressed, field_of};
 
-use crate::serialized::{WkbType, WktType};
 use crate::types::GeoArrowType;
 use arrow_values::{ArrowError, DataType, Field};
-use geoarrow_layout::{Kind, Width, kind_data_type};
-use geoarrow_native::column_field;
+use geoarrow_layout::{kind_data_type, layout_reads_back};
 use geoarrow_native::laws::written_field_reads_back;
 use std::alloc::{AllocError, Global};
 
@@ -47,60 +45,37 @@ impl GeoArrowType {
             → ReadsAs f (kind_of self.now) (normal (meta_of self.now))) }
         ensures refused { IfErr result IsMemory }
     {
-        let field = self.written_field(alloc, name, nullable)?;
+        let data_type = self.to_data_type(alloc)?;
+        let bare = Field::new(alloc, name, data_type, nullable)?;
+        layout_reads_back(self.kind());
         written_field_reads_back(self.kind(), self.metadata());
-        Ok(field)
+        self.dress(alloc, bare)
     }
 
-    /// The field, as the type in the variant writes it.
-    fn written_field(&self, alloc: Global, name: &str, nullable: bool) -> Result<Field, ArrowError>
-        ensures written { IfOk result (λ f. f ≡ field_of name.now nullable self.now) }
+    /// The field with the extension name and the metadata text of this type, as whose kind its data type is accepted.
+    pub(crate) fn dress(&self, alloc: Global, bare: Field) -> Result<Field, ArrowError>
+        requires { Accepted (kind_of self.now) bare.tree }
+        ensures written { IfOk result (λ f. f ≡ dressed bare (kind_of self.now) (meta_of self.now)) }
+        ensures keys { IfOk result (λ f. SetsExtension (name_of (kind_of self.now)) (printed (meta_of self.now))
+            bare.metadata f.metadata) }
         ensures refused { IfErr result IsMemory }
     {
         match self {
-            GeoArrowType::Point(t) => t.to_field(alloc, name, nullable),
-            GeoArrowType::LineString(t) => t.to_field(alloc, name, nullable),
-            GeoArrowType::Polygon(t) => t.to_field(alloc, name, nullable),
-            GeoArrowType::MultiPoint(t) => t.to_field(alloc, name, nullable),
-            GeoArrowType::MultiLineString(t) => t.to_field(alloc, name, nullable),
-            GeoArrowType::MultiPolygon(t) => t.to_field(alloc, name, nullable),
-            GeoArrowType::GeometryCollection(t) => t.to_field(alloc, name, nullable),
-            GeoArrowType::Rect(t) => t.to_field(alloc, name, nullable),
-            GeoArrowType::Geometry(t) => t.to_field(alloc, name, nullable),
-            GeoArrowType::Wkb(t) => wkb_field(alloc, name, nullable, Width::Plain, t),
-            GeoArrowType::LargeWkb(t) => wkb_field(alloc, name, nullable, Width::Large, t),
-            GeoArrowType::WkbView(t) => wkb_field(alloc, name, nullable, Width::View, t),
-            GeoArrowType::Wkt(t) => wkt_field(alloc, name, nullable, Width::Plain, t),
-            GeoArrowType::LargeWkt(t) => wkt_field(alloc, name, nullable, Width::Large, t),
-            GeoArrowType::WktView(t) => wkt_field(alloc, name, nullable, Width::View, t),
+            GeoArrowType::Point(t) => bare.with_extension_type(alloc, t),
+            GeoArrowType::LineString(t) => bare.with_extension_type(alloc, t),
+            GeoArrowType::Polygon(t) => bare.with_extension_type(alloc, t),
+            GeoArrowType::MultiPoint(t) => bare.with_extension_type(alloc, t),
+            GeoArrowType::MultiLineString(t) => bare.with_extension_type(alloc, t),
+            GeoArrowType::MultiPolygon(t) => bare.with_extension_type(alloc, t),
+            GeoArrowType::GeometryCollection(t) => bare.with_extension_type(alloc, t),
+            GeoArrowType::Rect(t) => bare.with_extension_type(alloc, t),
+            GeoArrowType::Geometry(t) => bare.with_extension_type(alloc, t),
+            GeoArrowType::Wkb(t) | GeoArrowType::LargeWkb(t) | GeoArrowType::WkbView(t) => {
+                bare.with_extension_type(alloc, t)
+            }
+            GeoArrowType::Wkt(t) | GeoArrowType::LargeWkt(t) | GeoArrowType::WktView(t) => {
+                bare.with_extension_type(alloc, t)
+            }
         }
     }
-}
-
-/// The field of a column of well-known binary of that width.
-fn wkb_field(
-    alloc: Global,
-    name: &str,
-    nullable: bool,
-    width: Width,
-    wkb: &WkbType,
-) -> Result<Field, ArrowError>
-    ensures written { IfOk result (λ f. f ≡ written_field name.now nullable (OfWkb width) (serialized_meta wkb.now)) }
-    ensures refused { IfErr result IsMemory }
-{
-    column_field(alloc, name, nullable, Kind::Wkb(width), wkb.metadata(), wkb)
-}
-
-/// The field of a column of well-known text of that width.
-fn wkt_field(
-    alloc: Global,
-    name: &str,
-    nullable: bool,
-    width: Width,
-    wkt: &WktType,
-) -> Result<Field, ArrowError>
-    ensures written { IfOk result (λ f. f ≡ written_field name.now nullable (OfWkt width) (serialized_meta wkt.now)) }
-    ensures refused { IfErr result IsMemory }
-{
-    column_field(alloc, name, nullable, Kind::Wkt(width), wkt.metadata(), wkt)
 }

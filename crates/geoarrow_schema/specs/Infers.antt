@@ -1,0 +1,55 @@
+-- What a field without a GeoArrow name is taken for.
+use Rattle.std.specs.Prelude.{◌≡◌, ◌↔◌, Option, Some}
+use Rattle.arrow_values.specs.Tree.{Tree, FieldTree}
+use Rattle.arrow_values.specs.Texts.{extension_metadata}
+use Rattle.arrow_values.specs.declared.error.GeoArrowError.{GeoArrowError}
+use Rattle.arrow_values.specs.declared.error.GeoArrowError.TheVariants.{Arrow, InvalidGeoArrow}
+use Rattle.geoarrow_layout.specs.declared.encodings.NativeKind.TheVariants.{Point}
+use Rattle.geoarrow_layout.specs.declared.encodings.Kind.{Kind}
+use Rattle.geoarrow_layout.specs.declared.encodings.Kind.TheVariants.{Native, Wkb, Wkt}
+use Rattle.geoarrow_layout.specs.Shapes.{IsBytes, IsText}
+use Rattle.geoarrow_layout.specs.Inferred.{Inferred}
+use Rattle.geoarrow_meta.specs.declared.metadata.Metadata.{Metadata}
+use Rattle.geoarrow_meta.specs.Read.{TextStandsFor}
+use Rattle.geoarrow_schema.specs.declared.types.GeoArrowType.{GeoArrowType}
+use Rattle.geoarrow_schema.specs.Types.{kind_of, meta_of, SameType}
+use Rattle.geoarrow_schema.specs.Reads.{HasGeoArrowName}
+
+-- the tree is taken for that of a kind: a point, well-known binary or well-known text
+abbrev pub InferredAs : Tree → Kind → Type 0
+InferredAs t (Native Point c d) = Inferred t c d
+InferredAs t (Wkb w) = IsBytes w t
+InferredAs t (Wkt w) = IsText w t
+InferredAs t _ = ⊥
+
+-- no GeoArrow name stands on the field, its metadata text stands for the metadata of the type, and its tree is taken for its kind
+unfoldable pub Infers : FieldTree → GeoArrowType → Type 0
+Infers f g = ¬ HasGeoArrowName f × TextStandsFor (extension_metadata f) (meta_of g) × InferredAs f.tree (kind_of g)
+
+-- no type has it
+abbrev pub InfersNone : FieldTree → Type 0
+InfersNone f = (g : GeoArrowType) → ¬ Infers f g
+
+-- no other type has it
+abbrev pub InfersAlone : FieldTree → GeoArrowType → Type 0
+InfersAlone f g = (h : GeoArrowType) → Infers f h → SameType h g
+
+-- the variant by which a field without a GeoArrow name is refused: `Arrow` for its metadata text, and `InvalidGeoArrow` for its tree
+abbrev pub RefusedForWant : FieldTree → GeoArrowError → Type 0
+RefusedForWant f (InvalidGeoArrow s) = (m : Metadata) × TextStandsFor (extension_metadata f) m
+RefusedForWant f (Arrow a) = (m : Metadata) → ¬ TextStandsFor (extension_metadata f) m
+RefusedForWant f _ = ⊥
+
+-- the answer is the one kind that the tree is taken for, and none where it is taken for none
+abbrev pub AnswersInferred : Tree → Option Kind → Type 0
+AnswersInferred t r = (k : Kind) → (r ≡ Some k) ↔ InferredAs t k
+
+-- the tree is well-known binary or text, in some width
+abbrev pub IsStored : Tree → Kind → Type 0
+IsStored t (Wkb w) = IsBytes w t
+IsStored t (Wkt w) = IsText w t
+IsStored t _ = ⊥
+
+-- the answer is the one kind of well-known binary or text that the tree is of, and none where there is none
+abbrev pub SerializedAs : Tree → Option Kind → Type 0
+SerializedAs t r = (k : Kind) → (r ≡ Some k) ↔ IsStored t k

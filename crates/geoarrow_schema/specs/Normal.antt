@@ -1,0 +1,27 @@
+-- The normal form of a type, and the field in it.
+use Rattle.arrow_values.specs.Tree.{FieldTree}
+use Rattle.geoarrow_layout.specs.declared.encodings.Kind.{Kind}
+use Rattle.geoarrow_layout.specs.Layouts.{layout}
+use Rattle.geoarrow_meta.specs.declared.metadata.Metadata.{Metadata}
+use Rattle.geoarrow_meta.specs.Written.{meta_value, normal, IsReadBack}
+use Rattle.geoarrow_native.specs.Column.{ReadsAs}
+use Rattle.geoarrow_schema.specs.declared.types.GeoArrowType.{GeoArrowType}
+use Rattle.geoarrow_schema.specs.Types.{kind_of, meta_of}
+use Rattle.geoarrow_schema.specs.Reads.{Reads, dressed}
+use Rattle.std.specs.Prelude.{◌≡◌}
+
+-- the normal form: the kind, and the metadata in normal form
+abbrev pub normal_of : GeoArrowType → Kind × Metadata
+normal_of g = (kind_of g, normal (meta_of g))
+
+-- the field with the layout of a kind and its extension keys, and otherwise as it was
+abbrev pub rewritten : FieldTree → Kind → Metadata → FieldTree
+rewritten f k m = dressed (record f { tree = layout k }) k m
+
+-- n reads as a kind and the normal form of a metadata, where `serde_json` reads what it printed of that
+abbrev pub ReadsNormally : FieldTree → Kind → Metadata → Type 0
+ReadsNormally n k m = IsReadBack (meta_value (normal m)) → ReadsAs n k (normal m)
+
+-- n is the field as the normal form of the type that it reads as is written, and reads as that
+abbrev pub IsCanonical : FieldTree → FieldTree → Type 0
+IsCanonical f n = (g : GeoArrowType) × Reads f g × (n ≡ rewritten f (kind_of g) (normal (meta_of g))) × ReadsNormally n (kind_of g) (meta_of g)

@@ -1,0 +1,95 @@
+//! Which type a field without a GeoArrow name is taken for.
+ghost use Rattle.std.specs.Prelude.{◌≡◌, ◌⊎◌, ◌↔◌, Some, IfOk, IfErr};
+ghost use Rattle.arrow_values.specs.View.{tree};
+ghost use Rattle.arrow_values.specs.Errors.{IsGeoMemory};
+ghost use Rattle.geoarrow_schema.specs.Reads.{HasGeoArrowName, Reads, ReadsAsNone, RefusedAs};
+ghost use Rattle.geoarrow_schema.specs.Infers.{Infers, InfersNone, RefusedForWant, AnswersInferred, SerializedAs};
+
+use crate::types::GeoArrowType;
+use arrow_values::{DataType, Field, GeoArrowError, GeoArrowResult};
+use geoarrow_layout::{Bottom, Kind, NativeKind, infer_point, parse_wkb, parse_wkt, summarize};
+use geoarrow_meta::Metadata;
+use std::alloc::Global;
+use std::sync::Arc;
+
+impl GeoArrowType {
+    /// The type that a field is read as, as `from_extension_field` reads it; and where that answers none, the type that the
+    /// field's data type is taken for, with the metadata for which its metadata text, or its absence, stands: a separated
+    /// point where it is a struct of 2, 3 or 4 `Float64` fields, an interleaved point where it is a fixed size list of 2, 3
+    /// or 4 of them (three are x, y and m where they are named so, else x, y and z), well-known binary where it is
+    /// `Binary`, `LargeBinary` or `BinaryView`, and well-known text where it is `Utf8`, `LargeUtf8` or `Utf8View`.
+    ///
+    /// Errs as `from_extension_field` does. Where no GeoArrow name stands on the field it errs as `Arrow` exactly where the
+    /// metadata text stands for no metadata, and as `InvalidGeoArrow` where it does and the data type is taken for none;
+    /// else for want of memory alone.
+    pub fn from_arrow_field(alloc: Global, field: &Field) -> GeoArrowResult<GeoArrowType>
+        ensures ok { IfOk result (λ g. Reads field.now g ⊎ Infers field.now g) }
+        ensures reads_none { IfErr result (λ e. IsGeoMemory e ⊎ ReadsAsNone field.now) }
+        ensures infers_none { IfErr result (λ e. IsGeoMemory e ⊎ InfersNone field.now) }
+        ensures named { IfErr result (λ e. IsGeoMemory e ⊎ (HasGeoArrowName field.now → RefusedAs field.now e)) }
+        ensures unnamed { IfErr result (λ e. IsGeoMemory e ⊎ (¬ HasGeoArrowName field.now → RefusedForWant field.now e)) }
+    {
+        match GeoArrowType::from_extension_field(alloc, field)? {
+            Some(found) => Ok(found),
+            None => infer(alloc, field),
+        }
+    }
+}
+
+/// The type that a field without a GeoArrow name is taken for.
+#[tactic(auto, using(crate::proofs::Inferring::type_inferred, crate::proofs::Inferring::none_for_text, crate::proofs::Inferring::none_for_tree))]
+fn infer(alloc: Global, field: &Field) -> GeoArrowResult<GeoArrowType>
+    requires { ¬ HasGeoArrowName field.now }
+    ensures ok { IfOk result (Infers field.now) }
+    ensures err { IfErr result (λ e. IsGeoMemory e ⊎ InfersNone field.now) }
+    ensures variant { IfErr result (λ e. IsGeoMemory e ⊎ RefusedForWant field.now e) }
+{
+    let metadata = Arc::new(alloc, Metadata::try_from_field(alloc, field)?)?;
+    match infer_kind(field.data_type()) {
+        Some(kind) => Ok(GeoArrowType::from_kind(kind, metadata)),
+        None => Err(GeoArrowError::invalid_geoarrow(
+            alloc,
+            fault_text(field.data_type()),
+        )),
+    }
+}
+
+/// The kind that a data type is taken for.
+fn infer_kind(data_type: &DataType) -> Option<Kind>
+    ensures { AnswersInferred (tree data_type.now) result }
+{
+    match infer_point(data_type) {
+        Some(pair) => Some(Kind::Native(NativeKind::Point, pair.0, pair.1)),
+        None => infer_serialized(data_type),
+    }
+}
+
+/// The kind of well-known binary or text that a data type is taken for.
+fn infer_serialized(data_type: &DataType) -> Option<Kind>
+    ensures { SerializedAs (tree data_type.now) result }
+{
+    match parse_wkb(data_type) {
+        Ok(width) => Some(Kind::Wkb(width)),
+        Err(_) => match parse_wkt(data_type) {
+            Ok(width) => Some(Kind::Wkt(width)),
+            Err(_) => None,
+        },
+    }
+}
+
+/// Why a data type is taken for none.
+fn fault_text(data_type: &DataType) -> &'static str {
+    let summary = summarize(data_type);
+    if 0 < summary.levels {
+        return "cannot infer: data type";
+    }
+    match summary.bottom {
+        Bottom::Struct {
+            all_float64: false, ..
+        } => "cannot infer: fields are not all Float64",
+        Bottom::Struct { .. } => "cannot infer: field count",
+        Bottom::FixedSizeList { float64: false, .. } => "cannot infer: inner field is not Float64",
+        Bottom::FixedSizeList { .. } => "cannot infer: list size",
+        _ => "cannot infer: data type",
+    }
+}

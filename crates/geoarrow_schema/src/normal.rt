@@ -1,0 +1,75 @@
+//! The normal form of a type, and of a field that holds one.
+ghost use Rattle.std.specs.Prelude.{◌≡◌, ◌⊎◌, ◌↔◌, Ok, None, IsOk, IfOk, IfErr, IfSome, OnErr};
+ghost use Rattle.arrow_values.specs.Errors.{IsMemory, IsGeoMemory};
+ghost use Rattle.geoarrow_meta.specs.Written.{meta_value, normal, IsReadBack};
+ghost use Rattle.geoarrow_native.specs.Column.{ReadsAs};
+ghost use Rattle.geoarrow_schema.specs.Types.{kind_of, meta_of};
+ghost use Rattle.geoarrow_schema.specs.Reads.{HasGeoArrowName, ReadsAsNone, RefusedAs};
+ghost use Rattle.geoarrow_schema.specs.Normal.{rewritten, ReadsNormally, IsCanonical};
+
+use crate::types::GeoArrowType;
+use arrow_values::{ArrowError, Field, GeoArrowResult};
+use geoarrow_layout::layout_reads_back;
+use geoarrow_meta::Metadata;
+use geoarrow_meta::laws::printed_reads_back;
+use std::alloc::{AllocError, Global};
+use std::sync::Arc;
+
+impl GeoArrowType {
+    /// The normal form: the CRS type is dropped where neither CRS value nor edges stand, since nothing writes it then.
+    /// Errs for want of memory alone, and only where a CRS type is dropped.
+    pub fn normalized(self, alloc: Global) -> Result<GeoArrowType, AllocError>
+        ensures kind { IfOk result (λ g. kind_of g ≡ kind_of self) }
+        ensures metadata { IfOk result (λ g. meta_of g ≡ normal (meta_of self)) }
+        ensures again { IfOk result (λ g. normal (meta_of g) ≡ meta_of g) }
+        ensures no_memory { normal (meta_of self) ≡ meta_of self → IsOk result }
+    {
+        if self.metadata().is_normal() {
+            return Ok(self);
+        }
+        let metadata = Arc::new(alloc, Metadata::default())?;
+        Ok(self.with_metadata(metadata))
+    }
+
+    /// The field as the normal form of the type that it is read as is written: with the data type and the two extension
+    /// keys of `to_field`, and otherwise as it was, its name, its nullability and its other metadata. It reads as that
+    /// normal form, where `serde_json` reads what it printed. None, without memory, where `from_extension_field` answers
+    /// none. Errs as that does, and for want of memory.
+    #[tactic(auto, using(crate::proofs::Reading::read_has_name))]
+    pub fn canonical_field(alloc: Global, field: &Field) -> GeoArrowResult<Option<Field>>
+        ensures ok { IfOk result (λ found. IfSome found (IsCanonical field.now)) }
+        ensures none { (result ≡ Ok None) ↔ ¬ HasGeoArrowName field.now }
+        ensures named { OnErr result (HasGeoArrowName field.now) }
+        ensures err { IfErr result (λ e. IsGeoMemory e ⊎ ReadsAsNone field.now) }
+        ensures variant { IfErr result (λ e. IsGeoMemory e ⊎ RefusedAs field.now e) }
+    {
+        match GeoArrowType::from_extension_field(alloc, field)? {
+            None => Ok(None),
+            Some(found) => Ok(Some(canonical(alloc, field, found)?)),
+        }
+    }
+
+    /// The field with the data type and the extension keys of this type.
+    fn rewrite(&self, alloc: Global, field: &Field) -> Result<Field, ArrowError>
+        ensures written { IfOk result (λ f. f ≡ rewritten field.now (kind_of self.now) (meta_of self.now)) }
+        ensures reads_back { IfOk result (λ f. IsReadBack (meta_value (meta_of self.now))
+            → ReadsAs f (kind_of self.now) (normal (meta_of self.now))) }
+        ensures refused { IfErr result IsMemory }
+    {
+        let data_type = self.to_data_type(alloc)?;
+        let bare = field.try_clone(alloc)?.with_data_type(data_type);
+        layout_reads_back(self.kind());
+        printed_reads_back(self.metadata());
+        self.dress(alloc, bare)
+    }
+}
+
+/// The field as the normal form of a type is written.
+fn canonical(alloc: Global, field: &Field, found: GeoArrowType) -> Result<Field, ArrowError>
+    ensures written { IfOk result (λ f. f ≡ rewritten field.now (kind_of found) (normal (meta_of found))) }
+    ensures reads_back { IfOk result (λ f. ReadsNormally f (kind_of found) (meta_of found)) }
+    ensures refused { IfErr result IsMemory }
+{
+    let normal = found.normalized(alloc)?;
+    normal.rewrite(alloc, field)
+}
