@@ -17,3 +17,11 @@ pub mod KindReads
 pub mod SameSummary
 pub mod Listed
 pub mod Inferences
+pub mod AlikeLaws
+pub mod AlikeDecides
+pub mod Depths
+pub mod AlikeKinds
+pub mod UnionChanges
+pub mod NamesSteps
+pub mod Distinct
+pub mod TableSteps

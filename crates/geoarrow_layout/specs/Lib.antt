@@ -5,3 +5,8 @@ pub mod Summary
 pub mod Inferred
 pub mod Steps
 pub mod Faults
+pub mod Alike
+pub mod AlikeTest
+pub mod Changes
+pub mod Candidates
+pub mod Bare

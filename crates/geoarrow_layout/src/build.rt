@@ -3,13 +3,14 @@ ghost use Rattle.std.specs.Prelude.{◌≡◌, ◌++◌, [], false, pos, map, If
 ghost use Rattle.std.specs.List.{zip};
 ghost use Rattle.arrow_values.specs.Tree.{list};
 ghost use Rattle.arrow_values.specs.View.{tree};
-ghost use Rattle.geoarrow_layout.specs.Kinds.{size_of, interleaved_name};
-ghost use Rattle.geoarrow_layout.specs.Layouts.{coordinate, coordinate_names, leaf_layout, lists_over, list_names, over_leaf_layout, type_name, dimension_suffix, member_field, members_over, mixed_members, mixed_layout, native_layout, dimension_members, geometry_layout, box_names, box_layout, bytes_layout, text_layout, layout};
+ghost use Rattle.geoarrow_layout.specs.Kinds.{size_of};
+ghost use Rattle.geoarrow_layout.specs.Layouts.{coordinate, coordinate_names, leaf_layout, lists_over, over_leaf_layout, member_field, members_over, mixed_members, mixed_layout, native_layout, dimension_members, geometry_layout, box_names, box_layout, bytes_layout, text_layout, layout};
 ghost use Rattle.geoarrow_layout.specs.Shapes.{IsStructured};
 
 use crate::encodings::{Kind, NativeKind, Width};
 use crate::ids::type_id;
 use crate::kinds::{CoordType, Dimension};
+use crate::tables::{box_names, coordinate_names, interleaved_name, list_names, member_name};
 use arrow_values::{DataType, Field, Fields, UnionFields, UnionMode};
 use std::alloc::{AllocError, Global};
 use std::collections::BTreeMap;
@@ -135,7 +136,7 @@ fn coordinate(alloc: Global, name: &str) -> Result<Field, AllocError>
 
 /// Such a field of each name.
 fn coordinate_fields(alloc: Global, names: &[&str]) -> Result<Vec<Field>, AllocError>
-    ensures { IfOk result (λ v. v.items ≡ map (λ name. coordinate name.now) names.now) }
+    ensures { IfOk result (λ v. v.items ≡ map coordinate (map (λ name. name.now) names.now)) }
 {
     let mut fields = Vec::new(alloc);
     for name in names {
@@ -148,33 +149,14 @@ fn coordinate_fields(alloc: Global, names: &[&str]) -> Result<Vec<Field>, AllocE
 fn coordinates(alloc: Global, dimension: Dimension) -> Result<Vec<Field>, AllocError>
     ensures { IfOk result (λ v. v.items ≡ map coordinate (coordinate_names dimension)) }
 {
-    match dimension {
-        Dimension::XY => coordinate_fields(alloc, &["x", "y"]),
-        Dimension::XYZ => coordinate_fields(alloc, &["x", "y", "z"]),
-        Dimension::XYM => coordinate_fields(alloc, &["x", "y", "m"]),
-        Dimension::XYZM => coordinate_fields(alloc, &["x", "y", "z", "m"]),
-    }
+    coordinate_fields(alloc, coordinate_names(dimension))
 }
 
 /// The fields of a box.
 fn box_fields(alloc: Global, dimension: Dimension) -> Result<Vec<Field>, AllocError>
     ensures { IfOk result (λ v. v.items ≡ map coordinate (box_names dimension)) }
 {
-    match dimension {
-        Dimension::XY => coordinate_fields(alloc, &["xmin", "ymin", "xmax", "ymax"]),
-        Dimension::XYZ => {
-            coordinate_fields(alloc, &["xmin", "ymin", "zmin", "xmax", "ymax", "zmax"])
-        }
-        Dimension::XYM => {
-            coordinate_fields(alloc, &["xmin", "ymin", "mmin", "xmax", "ymax", "mmax"])
-        }
-        Dimension::XYZM => {
-            let names = [
-                "xmin", "ymin", "zmin", "mmin", "xmax", "ymax", "zmax", "mmax",
-            ];
-            coordinate_fields(alloc, &names)
-        }
-    }
+    coordinate_fields(alloc, box_names(dimension))
 }
 
 /// A list of items of that name that are never null.
@@ -195,21 +177,6 @@ fn lists_over(alloc: Global, names: &[&str], inner: DataType) -> Result<DataType
             list_over(alloc, name, lower)
         }
         None => Ok(inner),
-    }
-}
-
-/// The names of the list items of a kind, from the outermost list.
-fn list_names(kind: NativeKind) -> &'static [&'static str]
-    ensures { map (λ name. name.now) result.now ≡ list_names kind }
-{
-    match kind {
-        NativeKind::Point => &[],
-        NativeKind::LineString => &["vertices"],
-        NativeKind::Polygon => &["rings", "vertices"],
-        NativeKind::MultiPoint => &["points"],
-        NativeKind::MultiLineString => &["linestrings", "vertices"],
-        NativeKind::MultiPolygon => &["polygons", "rings", "vertices"],
-        NativeKind::GeometryCollection => &["geometries"],
     }
 }
 
@@ -235,8 +202,7 @@ fn member_field(
 ) -> Result<Field, AllocError>
     ensures { IfOk result (λ f. f ≡ member_field kind dimension (tree data_type)) }
 {
-    let mut name = String::from_str(alloc, type_name(kind))?;
-    name.push_str(dimension_suffix(dimension))?;
+    let name = String::from_str(alloc, member_name(kind, dimension))?;
     Ok(Field::from_parts(name, data_type, true, BTreeMap::new(alloc)))
 }
 
@@ -311,45 +277,6 @@ fn joined(mut members: UnionFields, last: UnionFields) -> Result<UnionFields, Al
     match members.append(last) {
         Ok(()) => Ok(members),
         Err(_) => Err(AllocError),
-    }
-}
-
-/// How a kind is called in the name of a member.
-fn type_name(kind: NativeKind) -> &'static str
-    ensures { result.now ≡ type_name kind }
-{
-    match kind {
-        NativeKind::Point => "Point",
-        NativeKind::LineString => "LineString",
-        NativeKind::Polygon => "Polygon",
-        NativeKind::MultiPoint => "MultiPoint",
-        NativeKind::MultiLineString => "MultiLineString",
-        NativeKind::MultiPolygon => "MultiPolygon",
-        NativeKind::GeometryCollection => "GeometryCollection",
-    }
-}
-
-/// What follows it in a dimension.
-fn dimension_suffix(dimension: Dimension) -> &'static str
-    ensures { result.now ≡ dimension_suffix dimension }
-{
-    match dimension {
-        Dimension::XY => "",
-        Dimension::XYZ => " Z",
-        Dimension::XYM => " M",
-        Dimension::XYZM => " ZM",
-    }
-}
-
-/// The name of the inner field of an interleaved coordinate.
-fn interleaved_name(dimension: Dimension) -> &'static str
-    ensures { result.now ≡ interleaved_name dimension }
-{
-    match dimension {
-        Dimension::XY => "xy",
-        Dimension::XYZ => "xyz",
-        Dimension::XYM => "xym",
-        Dimension::XYZM => "xyzm",
     }
 }
 

@@ -5,22 +5,31 @@ mod accept;
 mod all_kinds;
 mod bits;
 mod build;
+mod candidate_names;
+mod changes;
 mod encodings;
 mod fault;
 mod ids;
 mod infer;
 mod kinds;
 mod laws;
+mod likeness;
 mod names;
+mod naming;
 mod parse;
 mod readers;
 mod summary;
+mod tables;
+mod tree_laws;
 mod walk;
+mod written_kinds;
 
 pub use build::{
     box_data_type, coord_data_type, geometry_data_type, kind_data_type, list_data_type, mixed_data_type,
     wkb_data_type, wkt_data_type,
 };
+pub use candidate_names::Candidates;
+pub use changes::{append_members, keep_members};
 pub use encodings::{Kind, NativeKind, Width};
 pub use fault::LayoutFault;
 pub use infer::infer_point;
@@ -29,11 +38,18 @@ pub use laws::{
     geometry_ids, inferred_as_read, kind_is_listed, layout_reads_back, leaf_reads_back, mixed_ids,
     names_are_distinct, one_kind, read_alike,
 };
+pub use likeness::alike;
 pub use names::ExtensionName;
+pub use naming::candidates;
 pub use parse::{
     parse_box, parse_geometry, parse_geometry_collection, parse_kind, parse_linestring, parse_mixed,
     parse_multilinestring, parse_multipoint, parse_multipolygon, parse_native, parse_point,
     parse_polygon, parse_wkb, parse_wkt,
 };
 pub use summary::{Bottom, ListWidth, Summary};
+pub use tree_laws::{
+    alike_are_one_kind, alike_both_ways, alike_in_turn, alike_to_itself, layouts_are_distinct,
+    parts_are_alike,
+};
 pub use walk::summarize;
+pub use written_kinds::written_kind;

@@ -9,6 +9,7 @@ use crate::encodings::{Kind, NativeKind, Width};
 use crate::fault::LayoutFault;
 use crate::kinds::{CoordType, Dimension};
 use crate::names::ExtensionName;
+use crate::naming::{bytes_width, text_width};
 use crate::readers::{any_native, boxed, collection, geometry, mixed, native};
 use crate::walk::summarize;
 use arrow_values::DataType;
@@ -104,24 +105,14 @@ pub fn parse_native(
 pub fn parse_wkb(data_type: &DataType) -> Result<Width, LayoutFault>
     ensures { AnswersOne result (λ width. IsBytes width (tree data_type.now)) }
 {
-    match data_type {
-        DataType::Binary => Ok(Width::Plain),
-        DataType::LargeBinary => Ok(Width::Large),
-        DataType::BinaryView => Ok(Width::View),
-        _ => Err(LayoutFault::UnexpectedType),
-    }
+    bytes_width(data_type).ok_or(LayoutFault::UnexpectedType)
 }
 
 /// Reads well-known text (GeoArrow, "WKT"): text, of any width. Errs on any other data type. Takes no memory.
 pub fn parse_wkt(data_type: &DataType) -> Result<Width, LayoutFault>
     ensures { AnswersOne result (λ width. IsText width (tree data_type.now)) }
 {
-    match data_type {
-        DataType::Utf8 => Ok(Width::Plain),
-        DataType::LargeUtf8 => Ok(Width::Large),
-        DataType::Utf8View => Ok(Width::View),
-        _ => Err(LayoutFault::UnexpectedType),
-    }
+    text_width(data_type).ok_or(LayoutFault::UnexpectedType)
 }
 
 /// Reads a column of an extension name: the kind of that name that the data type is. Errs on any data type that is of no

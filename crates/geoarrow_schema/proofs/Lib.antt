@@ -1,3 +1,4 @@
 pub mod Reading
 pub mod Inferring
 pub mod Rewriting
+pub mod SameWritten

@@ -22,8 +22,10 @@ impl GeoArrowType {
     /// Errs as `from_extension_field` does. Where no GeoArrow name stands on the field it errs as `Arrow` exactly where the
     /// metadata text stands for no metadata, and as `InvalidGeoArrow` where it does and the data type is taken for none;
     /// else for want of memory alone.
+    #[tactic(auto, using(crate::proofs::Reading::read_has_name))]
     pub fn from_arrow_field(alloc: Global, field: &Field) -> GeoArrowResult<GeoArrowType>
         ensures ok { IfOk result (λ g. Reads field.now g ⊎ Infers field.now g) }
+        ensures inferred { IfOk result (λ g. ¬ HasGeoArrowName field.now → Infers field.now g) }
         ensures reads_none { IfErr result (λ e. IsGeoMemory e ⊎ ReadsAsNone field.now) }
         ensures infers_none { IfErr result (λ e. IsGeoMemory e ⊎ InfersNone field.now) }
         ensures named { IfErr result (λ e. IsGeoMemory e ⊎ (HasGeoArrowName field.now → RefusedAs field.now e)) }

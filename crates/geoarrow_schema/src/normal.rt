@@ -1,15 +1,15 @@
 //! The normal form of a type, and of a field that holds one.
-ghost use Rattle.std.specs.Prelude.{◌≡◌, ◌⊎◌, ◌↔◌, Ok, None, IsOk, IfOk, IfErr, IfSome, OnErr};
+ghost use Rattle.std.specs.Prelude.{◌≡◌, ◌⊎◌, ◌↔◌, Ok, None, IsOk, IfOk, IfErr, IfSome, OnErr, IsTrue};
 ghost use Rattle.arrow_values.specs.Errors.{IsMemory, IsGeoMemory};
 ghost use Rattle.geoarrow_meta.specs.Written.{meta_value, normal, IsReadBack};
 ghost use Rattle.geoarrow_native.specs.Column.{ReadsAs};
 ghost use Rattle.geoarrow_schema.specs.Types.{kind_of, meta_of};
-ghost use Rattle.geoarrow_schema.specs.Reads.{HasGeoArrowName, ReadsAsNone, RefusedAs};
-ghost use Rattle.geoarrow_schema.specs.Normal.{rewritten, ReadsNormally, IsCanonical};
+ghost use Rattle.geoarrow_schema.specs.Reads.{HasGeoArrowName, ReadsAsNone, RefusedAs, writes};
+ghost use Rattle.geoarrow_schema.specs.Normal.{normal_of, rewritten, ReadsNormally, IsCanonical};
 
 use crate::types::GeoArrowType;
 use arrow_values::{ArrowError, Field, GeoArrowResult};
-use geoarrow_layout::layout_reads_back;
+use geoarrow_layout::{Kind, layout_reads_back, layouts_are_distinct};
 use geoarrow_meta::Metadata;
 use geoarrow_meta::laws::printed_reads_back;
 use std::alloc::{AllocError, Global};
@@ -29,6 +29,16 @@ impl GeoArrowType {
         }
         let metadata = Arc::new(alloc, Metadata::default())?;
         Ok(self.with_metadata(metadata))
+    }
+
+    /// Whether both are written as the same extension name, data type and metadata value, which is so exactly where their
+    /// normal forms are equal. Takes no memory.
+    pub fn same_written(&self, other: &GeoArrowType) -> bool
+        ensures written { IsTrue result ↔ (writes self.now ≡ writes other.now) }
+        ensures normal { IsTrue result ↔ (normal_of self.now ≡ normal_of other.now) }
+    {
+        layouts_are_distinct();
+        same_kind(self.kind(), other.kind()) && self.metadata().same_written(other.metadata())
     }
 
     /// The field as the normal form of the type that it is read as is written: with the data type and the two extension
@@ -61,6 +71,20 @@ impl GeoArrowType {
         layout_reads_back(self.kind());
         printed_reads_back(self.metadata());
         self.dress(alloc, bare)
+    }
+}
+
+/// Whether both are one kind.
+fn same_kind(one: Kind, other: Kind) -> bool
+    ensures { IsTrue result ↔ (one ≡ other) }
+{
+    match (one, other) {
+        (Kind::Native(k, c, d), Kind::Native(l, b, e)) => k == l && c == b && d == e,
+        (Kind::Geometry(c), Kind::Geometry(b)) => c == b,
+        (Kind::Rect(d), Kind::Rect(e)) => d == e,
+        (Kind::Wkb(w), Kind::Wkb(v)) => w == v,
+        (Kind::Wkt(w), Kind::Wkt(v)) => w == v,
+        _ => false,
     }
 }
 

@@ -3,4 +3,4 @@ use Rattle.geoarrow_layout.specs.Layouts.{coordinate}
 use Rattle.geoarrow_layout.proofs.build.coordinate_fields.Given as goal
 
 abbrev pub invariant-loop-name : goal.invariant-loop-name
-invariant-loop-name l = l.fields.items ≡ map (λ name. coordinate name.now) (take l.name-index l.names)
+invariant-loop-name l = l.fields.items ≡ map coordinate (map (λ name. name.now) (take l.name-index l.names))

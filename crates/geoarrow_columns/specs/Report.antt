@@ -1,0 +1,45 @@
+-- What is said of a column.
+use Rattle.std.specs.Prelude.{◌≡◌, ◌⊎◌, List, [], ◌∷◌, ⊤}
+use Rattle.arrow_values.specs.Tree.{FieldTree}
+use Rattle.arrow_values.specs.Texts.{extension_metadata}
+use Rattle.arrow_values.specs.declared.error.GeoArrowError.{GeoArrowError}
+use Rattle.arrow_values.specs.declared.error.GeoArrowError.TheVariants.{InvalidGeoArrow as Invalid}
+use Rattle.geoarrow_meta.specs.declared.metadata.Metadata.{Metadata}
+use Rattle.geoarrow_meta.specs.Read.{TextStandsFor}
+use Rattle.geoarrow_schema.specs.Reads.{HasGeoArrowName, Reads, ReadsAsNone, IsForeign}
+use Rattle.geoarrow_schema.specs.Infers.{Infers, InfersNone}
+use Rattle.geoarrow_columns.specs.declared.check.ColumnFault.{ColumnFault}
+use Rattle.geoarrow_columns.specs.declared.check.ColumnFault.TheVariants.{Arrow, InvalidGeoArrow}
+use Rattle.geoarrow_columns.specs.declared.check.Column.{Column}
+use Rattle.geoarrow_columns.specs.declared.check.Column.TheVariants.{Geometry, Inferred, Other, Faulty}
+
+-- a GeoArrow name stands on the field, and it is read as no type
+abbrev pub IsRefused : FieldTree → Type 0
+IsRefused f = HasGeoArrowName f × ReadsAsNone f
+
+-- no GeoArrow name stands on the field, and its metadata text stands for no metadata
+abbrev pub IsUnread : FieldTree → Type 0
+IsUnread f = ¬ HasGeoArrowName f × ((m : Metadata) → ¬ TextStandsFor (extension_metadata f) m)
+
+-- no GeoArrow name stands on the field, its metadata text stands for a metadata, and its tree is taken for no type
+abbrev pub IsOther : FieldTree → Type 0
+IsOther f = ¬ HasGeoArrowName f × InfersNone f × ((m : Metadata) × TextStandsFor (extension_metadata f) m)
+
+-- that is said of the field
+abbrev pub IsColumnOf : FieldTree → Column → Type 0
+IsColumnOf f (Geometry g) = Reads f g
+IsColumnOf f (Inferred g) = Infers f g
+IsColumnOf f Other = IsOther f
+IsColumnOf f (Faulty InvalidGeoArrow) = IsRefused f × IsForeign f
+IsColumnOf f (Faulty Arrow) = (IsRefused f × ¬ IsForeign f) ⊎ IsUnread f
+
+-- that is said of each field, in order
+abbrev pub IsReport : List FieldTree → List Column → Type 0
+IsReport [] [] = ⊤
+IsReport (f ∷ fs) (c ∷ cs) = IsColumnOf f c × IsReport fs cs
+IsReport _ _ = ⊥
+
+-- the fault is the variant of the error
+abbrev pub IsFaultOf : GeoArrowError → ColumnFault → Type 0
+IsFaultOf (Invalid s) fault = fault ≡ InvalidGeoArrow
+IsFaultOf _ fault = fault ≡ Arrow

@@ -1,0 +1,6 @@
+//! A report over the columns of a schema: what each holds.
+#![tactic(auto)]
+
+mod check;
+
+pub use check::{Column, ColumnFault, check_columns};

@@ -1,0 +1,133 @@
+-- Members that go or come, and what they leave of a union.
+use Rattle.std.proofs.Common.{◌≡◌, ◌≢◌, ◌↔◌, ◌⊎◌, inl, inr, zero, suc, ℤ, Bool, true, false, cond, List, [], ◌∷◌, ◌++◌, refl, sym, ap, subst, arith, ◌∙◌}
+use Rattle.std.specs.List.{filter, Contains}
+use Rattle.std.proofs.lemmas.List.Elements.{Contains-append_left, Contains-append_right, Contains-append_cases}
+use Rattle.arrow_values.specs.Tree.{Tree, FieldTree, Members}
+use Rattle.arrow_values.specs.View.{member_trees}
+use Rattle.arrow_values.specs.Union.{retained, has}
+use Rattle.arrow_values.specs.declared.tree.UnionMode.{UnionMode}
+use Rattle.arrow_values.specs.declared.tree.UnionMode.TheVariants.{Dense}
+use Rattle.geoarrow_layout.specs.declared.kinds.CoordType.{CoordType}
+use Rattle.geoarrow_layout.specs.declared.kinds.Dimension.{Dimension}
+use Rattle.geoarrow_layout.specs.Shapes.{AllMembers, HasMembers, GeometryMember, Member}
+use Rattle.geoarrow_layout.specs.Changes.{GeometryUnion, MixedUnion, AlikeUnions, EachOf, AreJust}
+use Rattle.geoarrow_layout.proofs.AlikeLaws.{Holds, each_refl, back_refl, members_refl}
+
+-- members, at least one, that all have P
+abbrev Filled : (ℤ → Tree → Type 0) → Members → Type 0
+Filled P ms = (mode : UnionMode) → HasMembers (member_trees ms) × AllMembers P (member_trees ms)
+
+some_members : (ms : Members) → ms ≢ [] → HasMembers (member_trees ms)
+some_members [] h = absurd (h refl)
+some_members (m ∷ ms) h = tt
+
+any_members : (ms : Members) → HasMembers (member_trees ms) → ms ≢ []
+any_members [] h = absurd h
+any_members (m ∷ ms) h = λ e. cc
+
+-- some of them are left
+all_kept : (P : ℤ → Tree → Type 0) (p : ℤ × FieldTree → Bool) (ms : Members) → AllMembers P (member_trees ms) → AllMembers P (member_trees (filter p ms))
+all_kept P p [] h = tt
+all_kept P p (m ∷ ms) h = by (p m) (all_kept P p ms h.1)
+  where
+    by : (b : Bool) → AllMembers P (member_trees (filter p ms)) → AllMembers P (member_trees (cond b (m ∷ filter p ms) (filter p ms)))
+    by true rest = (h.0, rest)
+    by false rest = rest
+
+filled_kept : (P : ℤ → Tree → Type 0) (is : List ℤ) (ms ns : Members) → ns ≡ retained is ms → ns ≢ [] → Filled P ms → Filled P ns
+filled_kept P is ms ns is_kept some h = λ mode. (some_members ns some, subst (λ x. AllMembers P (member_trees x)) (sym is_kept) (all_kept P (λ m. has m.0 is) ms (h mode).1))
+
+pub geometry_kept : (is : List ℤ) (ms ns : Members) → ns ≡ retained is ms → ns ≢ [] → (c : CoordType) → GeometryUnion c ms → GeometryUnion c ns
+geometry_kept is ms ns kept some c h = filled_kept (GeometryMember c) is ms ns kept some h
+
+pub mixed_kept : (is : List ℤ) (ms ns : Members) → ns ≡ retained is ms → ns ≢ [] → (c : CoordType) (d : Dimension) → MixedUnion c d ms → MixedUnion c d ns
+mixed_kept is ms ns kept some c d h = filled_kept (λ i t. Member i t c d) is ms ns kept some h
+
+-- both are joined
+all_joined : (P : ℤ → Tree → Type 0) (ms ns : Members) → AllMembers P (member_trees ms) → AllMembers P (member_trees ns) → AllMembers P (member_trees (ms ++ ns))
+all_joined P [] ns h k = k
+all_joined P (m ∷ ms) ns h k = (h.0, all_joined P ms ns h.1 k)
+
+all_first : (P : ℤ → Tree → Type 0) (ms ns : Members) → AllMembers P (member_trees (ms ++ ns)) → AllMembers P (member_trees ms)
+all_first P [] ns h = tt
+all_first P (m ∷ ms) ns h = (h.0, all_first P ms ns h.1)
+
+all_second : (P : ℤ → Tree → Type 0) (ms ns : Members) → AllMembers P (member_trees (ms ++ ns)) → AllMembers P (member_trees ns)
+all_second P [] ns h = h
+all_second P (m ∷ ms) ns h = all_second P ms ns h.1
+
+all_of : (P : ℤ → Tree → Type 0) (ms : Members) → (ms ≢ [] → Filled P ms) → AllMembers P (member_trees ms)
+all_of P [] h = tt
+all_of P (m ∷ ms) h = (h (λ e. cc) Dense).1
+
+filled_joined : (P : ℤ → Tree → Type 0) (ms ns all : Members) → all ≡ ms ++ ns → Filled P all ↔ EachOf (Filled P) ms ns all
+filled_joined P ms ns all joined = (
+  (λ h. let each : AllMembers P (member_trees (ms ++ ns)) = subst (λ x. AllMembers P (member_trees x)) joined (h Dense).1 in
+      (any_members all (h Dense).0, (λ some mode. (some_members ms some, all_first P ms ns each)), (λ some mode. (some_members ns some, all_second P ms ns each)))),
+  (λ h mode. (some_members all h.0, subst (λ x. AllMembers P (member_trees x)) (sym joined) (all_joined P ms ns (all_of P ms h.1) (all_of P ns h.2)))),
+)
+
+pub geometry_joined : (ms ns all : Members) → all ≡ ms ++ ns → (c : CoordType) → GeometryUnion c all ↔ EachOf (GeometryUnion c) ms ns all
+geometry_joined ms ns all joined c = filled_joined (GeometryMember c) ms ns all joined
+
+pub mixed_joined : (ms ns all : Members) → all ≡ ms ++ ns → (c : CoordType) (d : Dimension) → MixedUnion c d all ↔ EachOf (MixedUnion c d) ms ns all
+mixed_joined ms ns all joined c d = filled_joined (λ i t. Member i t c d) ms ns all joined
+
+-- members by their ids and trees
+held_by : (ms : Members) (m : ℤ × FieldTree) → Contains ms m → Holds (member_trees ms) m.0 m.1.tree
+held_by [] m h = absurd (omega (arith, h.1))
+held_by (x ∷ xs) m (zero, lt, is) = inl (ap (λ y. y.0) (sym is), ap (λ y. y.1.tree) (sym is))
+held_by (x ∷ xs) m (suc n, lt, is) = inr (held_by xs m (n, omega (arith, lt), is))
+
+held_from : (X : Type 0) (ms : Members) (i : ℤ) (t : Tree) → ((m : ℤ × FieldTree) → Contains ms m → i ≡ m.0 → t ≡ m.1.tree → X) → Holds (member_trees ms) i t → X
+held_from X [] i t f h = absurd h
+held_from X (m ∷ ms) i t f (inl e) = f m (0, omega arith, refl) e.0 e.1
+held_from X (m ∷ ms) i t f (inr h) = held_from X ms i t (λ n c. f n (suc c.0, omega (arith, c.1), c.2)) h
+
+moved : (ms ns : Members) → ((m : ℤ × FieldTree) → Contains ms m → Contains ns m) → (i : ℤ) (t : Tree) → Holds (member_trees ms) i t → Holds (member_trees ns) i t
+moved ms ns f i t h =
+    held_from (Holds (member_trees ns) i t) ms i t
+    (λ m c same_id same_tree. subst (λ x. Holds (member_trees ns) x t) (sym same_id) (subst (λ x. Holds (member_trees ns) m.0 x) (sym same_tree) (held_by ns m (f m c)))) h
+
+-- unions of the same members are alike
+pub same_members_alike : (ms ns : Members) → ((m : ℤ × FieldTree) → Contains ms m → Contains ns m) → ((m : ℤ × FieldTree) → Contains ns m → Contains ms m) → AlikeUnions ms ns
+same_members_alike ms ns to from = λ x y. (
+  each_refl (member_trees ms) (member_trees ns) (members_refl (member_trees ms)) (moved ms ns to),
+  back_refl (member_trees ms) (member_trees ns) (members_refl (member_trees ns)) (moved ns ms from),
+)
+
+pub joined_alike : (ms ns all : Members) → all ≡ ms ++ ns → (others : Members) → AreJust ms ns others → AlikeUnions all others
+joined_alike ms ns all joined others just = same_members_alike all others
+    (λ m h. (just m).1 (Contains-append_cases ms ns m (subst (λ x. Contains x m) joined h)))
+    (λ m h. subst (λ x. Contains x m) (sym joined) (elim ((just m).0 h) [ inl e ↦ Contains-append_left ms ns m e | inr e ↦ Contains-append_right ms ns m e ]))
+
+-- parts of a union that together have all its members
+kept_all : (p : ℤ × FieldTree → Bool) (ms : Members) (m : ℤ × FieldTree) → Contains (filter p ms) m → Contains ms m
+kept_all p [] m h = h
+kept_all p (x ∷ xs) m h = by (p x) h (kept_all p xs m)
+  where
+    later : Contains xs m → Contains (x ∷ xs) m
+    later c = (suc c.0, omega (arith, c.1), c.2)
+
+    by : (b : Bool) → Contains (cond b (x ∷ filter p xs) (filter p xs)) m → (Contains (filter p xs) m → Contains xs m) → Contains (x ∷ xs) m
+    by true (zero, lt, is) deeper = (0, omega arith, is)
+    by true (suc n, lt, is) deeper = later (deeper (n, omega (arith, lt), is))
+    by false c deeper = later (deeper c)
+
+all_kept_of : (p : ℤ × FieldTree → Bool) (ms : Members) (m : ℤ × FieldTree) → p m ≡ true → Contains ms m → Contains (filter p ms) m
+all_kept_of p [] m passes h = h
+all_kept_of p (x ∷ xs) m passes (zero, lt, is) = subst (λ b. Contains (cond b (x ∷ filter p xs) (filter p xs)) m) (sym passes ∙ ap p (sym is)) (0, omega arith, is)
+all_kept_of p (x ∷ xs) m passes (suc n, lt, is) = by (p x) (all_kept_of p xs m passes (n, omega (arith, lt), is))
+  where
+    by : (b : Bool) → Contains (filter p xs) m → Contains (cond b (x ∷ filter p xs) (filter p xs)) m
+    by true c = (suc c.0, omega (arith, c.1), c.2)
+    by false c = c
+
+pub parts_are_just : (ms : Members) (is js : List ℤ) → ((m : ℤ × FieldTree) → Contains ms m → (has m.0 is ≡ true) ⊎ (has m.0 js ≡ true)) → AreJust (retained is ms) (retained js ms) ms
+parts_are_just ms is js all m = (
+  (λ h. elim (all m h) [ inl e ↦ inl (all_kept_of (λ x. has x.0 is) ms m e h) | inr e ↦ inr (all_kept_of (λ x. has x.0 js) ms m e h) ]),
+  (λ h. elim h [ inl e ↦ kept_all (λ x. has x.0 is) ms m e | inr e ↦ kept_all (λ x. has x.0 js) ms m e ]),
+)
+
+pub split_and_joined : (ms : Members) (is js : List ℤ) → ((m : ℤ × FieldTree) → Contains ms m → (has m.0 is ≡ true) ⊎ (has m.0 js ≡ true)) → AlikeUnions (retained is ms ++ retained js ms) ms
+split_and_joined ms is js all = joined_alike (retained is ms) (retained js ms) (retained is ms ++ retained js ms) refl ms (parts_are_just ms is js all)

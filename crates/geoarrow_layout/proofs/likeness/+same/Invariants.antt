@@ -1,0 +1,39 @@
+use Rattle.std.proofs.Common.{◌≡◌, ◌&&◌, ◌+◌, ◌*◌, drop}
+use Rattle.std.specs.Ordering.{int_eq}
+use Rattle.arrow_values.specs.View.{tree, member_trees, members_size}
+use Rattle.arrow_values.specs.Tree.{depth}
+use Rattle.geoarrow_layout.specs.AlikeTest.{alike_of, each_has_alike, all_members, some_member, has_alike, is_met}
+use Rattle.geoarrow_layout.proofs.likeness.+same.Given as goal
+
+abbrev pub invariant-all_are_met-loop-other : goal.invariant-all_are_met-loop-other
+invariant-all_are_met-loop-other l =
+    all_members (is_met (member_trees l.members) (member_trees l.others)) (member_trees (drop l.other-index l.other-items)) ≡ all_members (is_met (member_trees l.members) (member_trees l.others)) (member_trees l.others)
+
+abbrev pub invariant-any_same-loop-id : goal.invariant-any_same-loop-id
+invariant-any_same-loop-id l =
+    some_member (λ j u. int_eq l.member.0 j && alike_of l.member.1.tree u) (member_trees (drop l.id-index l.id-items)) ≡ some_member (λ j u. int_eq l.member.0 j && alike_of l.member.1.tree u) (member_trees l.others)
+
+abbrev pub invariant-each_has_same-loop-member : goal.invariant-each_has_same-loop-member
+invariant-each_has_same-loop-member l = each_has_alike (member_trees (drop l.member-index l.member-items)) (member_trees l.others) ≡ each_has_alike (member_trees l.members) (member_trees l.others)
+
+abbrev pub invariant-has_same-loop-id : goal.invariant-has_same-loop-id
+invariant-has_same-loop-id l = has_alike (member_trees (drop l.id-index l.id-items)) l.other.0 l.other.1.tree ≡ has_alike (member_trees l.members) l.other.0 l.other.1.tree
+
+-- a call goes down the first tree, and a function that calls another on the same one stands above it
+abbrev pub decreases-same : goal.decreases-same
+decreases-same l = 3 * depth (tree l.a.now)
+
+abbrev pub decreases-each_has_same : goal.decreases-each_has_same
+decreases-each_has_same l = 3 * members_size l.members.now
+
+abbrev pub decreases-any_same : goal.decreases-any_same
+decreases-any_same l = 3 * depth l.member.now.1.tree + 1
+
+abbrev pub decreases-all_are_met : goal.decreases-all_are_met
+decreases-all_are_met l = 3 * members_size l.members.now + 2
+
+abbrev pub decreases-is_met : goal.decreases-is_met
+decreases-is_met l = 3 * members_size l.members.now + 1
+
+abbrev pub decreases-has_same : goal.decreases-has_same
+decreases-has_same l = 3 * members_size l.members.now

@@ -1,0 +1,7 @@
+use Rattle.std.proofs.Common.{◌≡◌, drop}
+use Rattle.arrow_values.specs.View.{member_trees}
+use Rattle.geoarrow_layout.specs.AlikeTest.{has_member}
+use Rattle.geoarrow_layout.proofs.likeness.has_member.Given as goal
+
+abbrev pub invariant-loop-member : goal.invariant-loop-member
+invariant-loop-member l = has_member l.other.0 (member_trees (drop l.member-index l.member-items)) ≡ has_member l.other.0 (member_trees l.members)

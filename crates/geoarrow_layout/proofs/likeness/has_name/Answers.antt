@@ -1,0 +1,6 @@
+use Rattle.std.proofs.Common.{◌∙◌}
+use Rattle.geoarrow_layout.proofs.Leaves.{has_name-fields}
+use Rattle.geoarrow_layout.proofs.likeness.has_name.Goals as goal
+
+pub returns : goal.returns
+returns c = c.any_named.ensures ∙ has_name-fields c.args.name.now c.args.fields.now

@@ -1,0 +1,9 @@
+use Rattle.std.proofs.Common.{◌≡◌, cond, drop}
+use Rattle.arrow_values.specs.View.{member_trees}
+use Rattle.geoarrow_layout.specs.AlikeTest.{has_member, is_repeated}
+use Rattle.geoarrow_layout.proofs.likeness.is_repeated.Given as goal
+
+abbrev pub invariant-loop-member : goal.invariant-loop-member
+invariant-loop-member l =
+    cond l.is_found (has_member l.other.0 (member_trees (drop l.member-index l.member-items))) (is_repeated l.other.0 (member_trees (drop l.member-index l.member-items)))
+    ≡ is_repeated l.other.0 (member_trees l.members)

@@ -1,0 +1,38 @@
+-- Which extension names an answer holds.
+use Rattle.std.specs.Prelude.{◌≡◌, ◌⊎◌}
+use Rattle.arrow_values.specs.Tree.{Text, Tree}
+use Rattle.geoarrow_layout.specs.declared.encodings.NativeKind.{NativeKind}
+use Rattle.geoarrow_layout.specs.declared.encodings.NativeKind.TheVariants.{Point, LineString, Polygon, MultiPoint, MultiLineString}
+use Rattle.geoarrow_layout.specs.declared.encodings.Kind.{Kind}
+use Rattle.geoarrow_layout.specs.declared.kinds.CoordType.{CoordType}
+use Rattle.geoarrow_layout.specs.declared.kinds.Dimension.{Dimension}
+use Rattle.geoarrow_layout.specs.declared.candidate_names.Candidates.{Candidates}
+use Rattle.geoarrow_layout.specs.declared.candidate_names.Candidates.TheVariants.{None, One, LineStringOrMultiPoint, PolygonOrMultiLineString, PointOrBox}
+use Rattle.geoarrow_layout.specs.Kinds.{native_name, box_name}
+use Rattle.geoarrow_layout.specs.Shapes.{Native, Geometry, BoxShape, Accepts, IsStructured}
+
+-- the answer holds the name
+abbrev pub Holds : Candidates → Text → Type 0
+Holds None n = ⊥
+Holds (One name) n = n ≡ name.now
+Holds LineStringOrMultiPoint n = (n ≡ native_name LineString) ⊎ (n ≡ native_name MultiPoint)
+Holds PolygonOrMultiLineString n = (n ≡ native_name Polygon) ⊎ (n ≡ native_name MultiLineString)
+Holds PointOrBox n = (n ≡ native_name Point) ⊎ (n ≡ box_name)
+
+-- under that extension name the tree is of some kind
+abbrev pub IsAccepted : Text → Tree → Type 0
+IsAccepted n t = (k : Kind) × Accepts n t k
+
+-- of some kind that has a structure
+abbrev pub IsAcceptedStructure : Text → Tree → Type 0
+IsAcceptedStructure n t = (k : Kind) × Accepts n t k × IsStructured k
+
+-- the tree is of that native kind, of geometries, a box, in whatever coordinate type and dimension
+abbrev pub IsNative : NativeKind → Tree → Type 0
+IsNative k t = (c : CoordType) × (d : Dimension) × Native t k c d
+
+abbrev pub IsGeometry : Tree → Type 0
+IsGeometry t = (c : CoordType) × Geometry t c
+
+abbrev pub IsBox : Tree → Type 0
+IsBox t = (d : Dimension) × BoxShape t d

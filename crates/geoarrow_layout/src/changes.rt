@@ -1,0 +1,44 @@
+//! Unions whose members go or come, and how they are read then.
+ghost use Rattle.std.specs.Prelude.{◌≡◌, ◌≢◌, ◌++◌, ◌↔◌, [], None, IsOk, IfErr, OnOk, OnErr};
+ghost use Rattle.arrow_values.specs.Tree.{Members};
+ghost use Rattle.arrow_values.specs.Union.{HasTypeIds, retained, shared_id};
+ghost use Rattle.arrow_values.specs.Errors.{fault_id};
+ghost use Rattle.geoarrow_layout.specs.Changes.{GeometryUnion, MixedUnion, AlikeUnions, EachOf, AreJust};
+
+use crate::kinds::{CoordType, Dimension};
+use arrow_values::{AppendFault, UnionFields};
+
+/// Keeps the members whose type id is in the slice, in their order. Where at least one is left, geometries of any kind
+/// are still geometries of the same coordinate type (GeoArrow, "Geometry"), and the union in a collection is still one,
+/// of the same coordinate type and dimension (GeoArrow, "GeometryCollection"). Takes no memory.
+pub fn keep_members(members: &mut UnionFields, ids: &[i8])
+    ensures members { members.new ≡ retained ids.now members.old }
+    ensures ids { HasTypeIds members.old → HasTypeIds members.new }
+    ensures geometry { members.new ≢ [] → (c : CoordType) → GeometryUnion c members.old → GeometryUnion c members.new }
+    ensures mixed { members.new ≢ [] → (c : CoordType) (d : Dimension) → MixedUnion c d members.old → MixedUnion c d members.new }
+{
+    members.retain_ids(ids);
+}
+
+/// Puts the members of `other` last. The union then is of geometries of any kind where it has a member and each of the
+/// two that had members was of geometries, of that one coordinate type (GeoArrow, "Geometry"); and the same for unions
+/// in a collection (GeoArrow, "GeometryCollection"). It is alike to every union of just these members, in whatever
+/// order. Errs as `RepeatedId` with the first id of `other` that is here already, where there is one, and else for want
+/// of memory alone; `other` is then handed back, and both unions are as they were.
+pub fn append_members(
+    members: &mut UnionFields,
+    other: UnionFields,
+) -> Result<(), (UnionFields, AppendFault)>
+    ensures joined { OnOk result (members.new ≡ members.old ++ other) }
+    ensures ids { HasTypeIds members.old → HasTypeIds other → HasTypeIds members.new }
+    ensures none_shared { OnOk result (shared_id members.old other ≡ None) }
+    ensures fault { IfErr result (λ e. shared_id members.old other ≡ fault_id e.1) }
+    ensures unchanged { OnErr result (members.new ≡ members.old) }
+    ensures given_back { IfErr result (λ e. e.0 ≡ other) }
+    ensures no_memory { other ≡ [] → IsOk result }
+    ensures geometry { OnOk result ((c : CoordType) → GeometryUnion c members.new ↔ EachOf (GeometryUnion c) members.old other members.new) }
+    ensures mixed { OnOk result ((c : CoordType) (d : Dimension) → MixedUnion c d members.new ↔ EachOf (MixedUnion c d) members.old other members.new) }
+    ensures alike { OnOk result ((all : Members) → AreJust members.old other all → AlikeUnions members.new all) }
+{
+    members.append(other)
+}

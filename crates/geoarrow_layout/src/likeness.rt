@@ -1,0 +1,172 @@
+//! Data types that no reader tells apart.
+ghost use Rattle.std.specs.Prelude.{◌≡◌, ◌&&◌, ◌↔◌, IsTrue};
+ghost use Rattle.std.specs.List.{list_any, list_all};
+ghost use Rattle.std.specs.Ordering.{int_eq};
+ghost use Rattle.std.specs.Str.{bytes_eq};
+ghost use Rattle.arrow_values.specs.View.{tree, field_trees, member_trees};
+ghost use Rattle.geoarrow_layout.specs.Shapes.{names_of, has_name};
+ghost use Rattle.geoarrow_layout.specs.Alike.{Alike};
+ghost use Rattle.geoarrow_layout.specs.AlikeTest.{some_member, all_members, has_member, is_repeated, alike_names, alike_of, each_has_alike, has_alike, is_met};
+
+use arrow_values::{DataType, Field, UnionFields};
+
+/// Whether two data types are alike, so that they are of the same kinds under every extension name: the same plain type,
+/// or lists of one width over alike items (GeoArrow, "Native encoding"), or fixed size lists of one size and one inner
+/// name (GeoArrow, "Coordinate"), or structs of as many fields, and at three and at six of the same set of names, or
+/// unions in which each member of either has an alike member of the same type id in the other (GeoArrow, "Geometry").
+/// Nullability, metadata, other names, the order of fields and members, the mode of a union and the data types of
+/// coordinates play no part. Takes no memory.
+#[tactic(auto, using(crate::proofs::AlikeDecides::alike_decides))]
+pub fn alike(a: &DataType, b: &DataType) -> bool
+    ensures { IsTrue result ↔ Alike (tree a.now) (tree b.now) }
+{
+    same(a, b)
+}
+
+/// The test that `alike` makes.
+#[cycle(same)]
+fn same(a: &DataType, b: &DataType) -> bool
+    ensures { result ≡ alike_of (tree a.now) (tree b.now) }
+{
+    match (a, b) {
+        (DataType::List(f), DataType::List(g)) => same(f.data_type(), g.data_type()),
+        (DataType::LargeList(f), DataType::LargeList(g)) => same(f.data_type(), g.data_type()),
+        (DataType::FixedSizeList(f, size), DataType::FixedSizeList(g, other_size)) => {
+            f.name() == g.name() && size == other_size
+        }
+        (DataType::Struct(fields), DataType::Struct(others)) => {
+            same_struct(fields.as_slice(), others.as_slice())
+        }
+        (DataType::Union(members, _), DataType::Union(others, _)) => {
+            each_has_same(members, others) && all_are_met(members, others)
+        }
+        _ => a == b,
+    }
+}
+
+/// Whether each member has an alike one of the same id among the others.
+#[cycle(same)]
+fn each_has_same(members: &UnionFields, others: &UnionFields) -> bool
+    ensures { result ≡ each_has_alike (member_trees members.now) (member_trees others.now) }
+{
+    for member in members.as_slice() {
+        if !any_same(member, others) {
+            return false;
+        }
+    }
+    true
+}
+
+/// Whether some of the others has the member's id and is alike.
+#[cycle(same)]
+fn any_same(member: &(i8, Field), others: &UnionFields) -> bool
+    ensures { result ≡ some_member (λ j u. int_eq member.now.0 j && alike_of member.now.1.tree u) (member_trees others.now) }
+{
+    for (id, field) in others.as_slice() {
+        if member.0 == *id && same(member.1.data_type(), field.data_type()) {
+            return true;
+        }
+    }
+    false
+}
+
+/// Whether each of the others has an alike member of the same id, where each member is known to have one among them.
+#[cycle(same)]
+fn all_are_met(members: &UnionFields, others: &UnionFields) -> bool
+    ensures { result ≡ all_members (is_met (member_trees members.now) (member_trees others.now)) (member_trees others.now) }
+{
+    for other in others.as_slice() {
+        if !is_met(members, others, other) {
+            return false;
+        }
+    }
+    true
+}
+
+/// The same for one of the others. It goes down again only where its id stands twice among the others.
+#[cycle(same)]
+fn is_met(members: &UnionFields, others: &UnionFields, other: &(i8, Field)) -> bool
+    ensures { result ≡ is_met (member_trees members.now) (member_trees others.now) other.now.0 other.now.1.tree }
+{
+    if is_repeated(other, others) {
+        has_same(members, other)
+    } else {
+        has_member(other, members)
+    }
+}
+
+/// Whether some member has the other's id and is alike.
+#[cycle(same)]
+fn has_same(members: &UnionFields, other: &(i8, Field)) -> bool
+    ensures { result ≡ has_alike (member_trees members.now) other.now.0 other.now.1.tree }
+{
+    for (id, field) in members.as_slice() {
+        if *id == other.0 && same(field.data_type(), other.1.data_type()) {
+            return true;
+        }
+    }
+    false
+}
+
+/// Whether some member has the other's id.
+fn has_member(other: &(i8, Field), members: &UnionFields) -> bool
+    ensures { result ≡ has_member other.now.0 (member_trees members.now) }
+{
+    for member in members.as_slice() {
+        if member.0 == other.0 {
+            return true;
+        }
+    }
+    false
+}
+
+/// Whether two members have the other's id.
+fn is_repeated(other: &(i8, Field), members: &UnionFields) -> bool
+    ensures { result ≡ is_repeated other.now.0 (member_trees members.now) }
+{
+    let mut is_found = false;
+    for member in members.as_slice() {
+        if member.0 == other.0 {
+            if is_found {
+                return true;
+            }
+            is_found = true;
+        }
+    }
+    false
+}
+
+/// Whether structs of these fields are alike.
+fn same_struct(fields: &[Field], others: &[Field]) -> bool
+    ensures { result ≡ alike_names (names_of (field_trees fields.now)) (names_of (field_trees others.now)) }
+{
+    if fields.len() != others.len() {
+        return false;
+    }
+    if fields.len() == 3 || fields.len() == 6 {
+        are_all_named(fields, others) && are_all_named(others, fields)
+    } else {
+        true
+    }
+}
+
+/// Whether each field's name is among those of the others.
+fn are_all_named(fields: &[Field], others: &[Field]) -> bool
+    ensures { result ≡ list_all (λ f. has_name f.name (names_of (field_trees others.now))) fields.now }
+{
+    fields.iter().all(|field| has_name(others, field.name()))
+}
+
+/// Whether the name is among those of the fields.
+fn has_name(fields: &[Field], name: &str) -> bool
+    ensures { result ≡ has_name name.now (names_of (field_trees fields.now)) }
+{
+    any_named(fields, name)
+}
+
+/// The same, field by field.
+fn any_named(fields: &[Field], name: &str) -> bool
+    ensures { result ≡ list_any (λ f. bytes_eq f.name name.now) fields.now }
+{
+    fields.iter().any(|field| field.name() == name)
+}

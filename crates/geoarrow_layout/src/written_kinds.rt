@@ -1,0 +1,331 @@
+//! The kind that a data type was written for.
+ghost use Rattle.std.specs.Prelude.{◌≡◌, ◌↔◌, IsTrue, Some, Contains, map, false, [], codes};
+ghost use Rattle.arrow_values.specs.Tree.{plain, float64, list, struct};
+ghost use Rattle.arrow_values.specs.View.{tree, field_trees};
+ghost use Rattle.geoarrow_layout.specs.Layouts.{coordinate, leaf_layout, lists_over, member_layout, members_over, mixed_members, mixed_layout, native_layout, dimension_members, geometry_members, geometry_layout, box_layout, bytes_layout, text_layout, layout};
+ghost use Rattle.geoarrow_layout.specs.Bare.{IsBare, members_in};
+
+use crate::build::list_size;
+use crate::encodings::{Kind, NativeKind, Width};
+use crate::ids::type_id;
+use crate::kinds::{CoordType, Dimension};
+use crate::tables::{box_names, coordinate_names, interleaved_name, list_names, member_name};
+use arrow_values::{DataType, Field, UnionMode};
+
+/// The kind whose written data type this is, to the last name, nullability and mode (GeoArrow, "Native encoding",
+/// "Geometry", "Box"): none where it is written for no kind, though some reader may take it. Takes no memory.
+pub fn written_kind(data_type: &DataType) -> Option<Kind>
+    ensures { (k : Kind) → (result ≡ Some k) ↔ (tree data_type.now ≡ layout k) }
+{
+    first_written(data_type, &Kind::ALL)
+}
+
+/// The first of the kinds whose written data type this is.
+fn first_written(data_type: &DataType, kinds: &[Kind]) -> Option<Kind>
+    ensures { (k : Kind) → Contains kinds.now k → (result ≡ Some k) ↔ (tree data_type.now ≡ layout k) }
+{
+    for kind in kinds {
+        if is_layout(data_type, kind) {
+            return Some(*kind);
+        }
+    }
+    None
+}
+
+/// Whether the data type is the one that is written for the kind.
+fn is_layout(data_type: &DataType, kind: &Kind) -> bool
+    ensures { IsTrue result ↔ (tree data_type.now ≡ layout kind.now) }
+{
+    match kind {
+        Kind::Native(kind, coord_type, dimension) => {
+            is_native(data_type, *kind, *coord_type, *dimension)
+        }
+        Kind::Geometry(coord_type) => is_geometry(data_type, *coord_type),
+        Kind::Rect(dimension) => is_box(data_type, *dimension),
+        Kind::Wkb(width) => is_bytes(data_type, *width),
+        Kind::Wkt(width) => is_text(data_type, *width),
+    }
+}
+
+/// Whether the data type is the one that is written for well-known binary of that width.
+fn is_bytes(data_type: &DataType, width: Width) -> bool
+    ensures { IsTrue result ↔ (tree data_type.now ≡ bytes_layout width) }
+{
+    match width {
+        Width::Plain => matches!(data_type, DataType::Binary),
+        Width::Large => matches!(data_type, DataType::LargeBinary),
+        Width::View => matches!(data_type, DataType::BinaryView),
+    }
+}
+
+/// Whether the data type is the one that is written for well-known text of that width.
+fn is_text(data_type: &DataType, width: Width) -> bool
+    ensures { IsTrue result ↔ (tree data_type.now ≡ text_layout width) }
+{
+    match width {
+        Width::Plain => matches!(data_type, DataType::Utf8),
+        Width::Large => matches!(data_type, DataType::LargeUtf8),
+        Width::View => matches!(data_type, DataType::Utf8View),
+    }
+}
+
+/// Whether the data type is the one that is written for the native kind.
+fn is_native(
+    data_type: &DataType,
+    kind: NativeKind,
+    coord_type: CoordType,
+    dimension: Dimension,
+) -> bool
+    ensures { IsTrue result ↔ (tree data_type.now ≡ native_layout kind coord_type dimension) }
+{
+    match kind {
+        NativeKind::GeometryCollection => is_collection(data_type, coord_type, dimension),
+        _ => is_over_leaf(data_type, list_names(kind), coord_type, dimension),
+    }
+}
+
+/// Whether the field has that name, that nullability and no metadata.
+fn is_bare(field: &Field, name: &str, nullable: bool) -> bool
+    ensures { IsTrue result ↔ IsBare name.now nullable field.now }
+{
+    if field.name() != name {
+        return false;
+    }
+    if field.is_nullable() != nullable {
+        return false;
+    }
+    field.metadata().is_empty()
+}
+
+/// Whether the data type is `Float64`.
+fn is_float64(data_type: &DataType) -> bool
+    ensures { IsTrue result ↔ (tree data_type.now ≡ plain float64) }
+{
+    matches!(data_type, DataType::Float64)
+}
+
+/// Whether the field is a coordinate of that name.
+fn is_coordinate(field: &Field, name: &str) -> bool
+    ensures { IsTrue result ↔ (field.now ≡ coordinate name.now) }
+{
+    if !is_bare(field, name, false) {
+        return false;
+    }
+    is_float64(field.data_type())
+}
+
+/// Whether the fields are coordinates of these names.
+fn are_coordinates(fields: &[Field], names: &[&str]) -> bool
+    ensures { IsTrue result ↔ (fields.now ≡ map coordinate (map (λ name. name.now) names.now)) }
+{
+    let Some((field, rest)) = fields.split_first() else {
+        return names.is_empty();
+    };
+    let Some((name, others)) = names.split_first() else {
+        return false;
+    };
+    if !is_coordinate(field, name) {
+        return false;
+    }
+    are_coordinates(rest, others)
+}
+
+/// Whether the data type is the one that is written for a coordinate.
+fn is_leaf(data_type: &DataType, coord_type: CoordType, dimension: Dimension) -> bool
+    ensures { IsTrue result ↔ (tree data_type.now ≡ leaf_layout coord_type dimension) }
+{
+    match coord_type {
+        CoordType::Interleaved => is_interleaved(data_type, dimension),
+        CoordType::Separated => is_struct(data_type, coordinate_names(dimension)),
+    }
+}
+
+/// Whether it is the one for an interleaved coordinate.
+fn is_interleaved(data_type: &DataType, dimension: Dimension) -> bool
+    ensures { IsTrue result ↔ (tree data_type.now ≡ leaf_layout CoordType.Interleaved dimension) }
+{
+    let DataType::FixedSizeList(field, size) = data_type else {
+        return false;
+    };
+    if *size != list_size(dimension) {
+        return false;
+    }
+    is_coordinate(field, interleaved_name(dimension))
+}
+
+/// Whether it is a struct of coordinates of these names.
+fn is_struct(data_type: &DataType, names: &[&str]) -> bool
+    ensures { IsTrue result ↔ (tree data_type.now ≡ struct (field_trees (map coordinate (map (λ name. name.now) names.now)))) }
+{
+    let DataType::Struct(fields) = data_type else {
+        return false;
+    };
+    are_coordinates(fields.as_slice(), names)
+}
+
+/// Whether it is the one that is written for a box.
+fn is_box(data_type: &DataType, dimension: Dimension) -> bool
+    ensures { IsTrue result ↔ (tree data_type.now ≡ box_layout dimension) }
+{
+    is_struct(data_type, box_names(dimension))
+}
+
+/// Whether the data type is lists of items of these names over a coordinate.
+fn is_over_leaf(
+    data_type: &DataType,
+    names: &[&str],
+    coord_type: CoordType,
+    dimension: Dimension,
+) -> bool
+    ensures { IsTrue result ↔ (tree data_type.now ≡ lists_over (map (λ name. name.now) names.now) (leaf_layout coord_type dimension)) }
+{
+    let Some((name, others)) = names.split_first() else {
+        return is_leaf(data_type, coord_type, dimension);
+    };
+    let DataType::List(field) = data_type else {
+        return false;
+    };
+    if !is_bare(field, name, false) {
+        return false;
+    }
+    is_over_leaf(field.data_type(), others, coord_type, dimension)
+}
+
+/// Whether the data type is the one that is written for a collection.
+fn is_collection(data_type: &DataType, coord_type: CoordType, dimension: Dimension) -> bool
+    ensures { IsTrue result ↔ (tree data_type.now ≡ list (codes "geometries") (mixed_layout coord_type dimension) false []) }
+{
+    let DataType::List(field) = data_type else {
+        return false;
+    };
+    if !is_bare(field, "geometries", false) {
+        return false;
+    }
+    is_mixed(field.data_type(), coord_type, dimension)
+}
+
+/// Whether the data type is the union in a collection.
+fn is_mixed(data_type: &DataType, coord_type: CoordType, dimension: Dimension) -> bool
+    ensures { IsTrue result ↔ (tree data_type.now ≡ mixed_layout coord_type dimension) }
+{
+    let DataType::Union(members, mode) = data_type else {
+        return false;
+    };
+    if *mode != UnionMode::Dense {
+        return false;
+    }
+    are_mixed(members.as_slice(), coord_type, dimension)
+}
+
+/// Whether the data type is the one that is written for geometries of any kind.
+fn is_geometry(data_type: &DataType, coord_type: CoordType) -> bool
+    ensures { IsTrue result ↔ (tree data_type.now ≡ geometry_layout coord_type) }
+{
+    let DataType::Union(members, mode) = data_type else {
+        return false;
+    };
+    if *mode != UnionMode::Dense {
+        return false;
+    }
+    are_geometries(members.as_slice(), coord_type)
+}
+
+/// Whether the members are those that are written for geometries of any kind.
+fn are_geometries(members: &[(i8, Field)], coord_type: CoordType) -> bool
+    ensures { IsTrue result ↔ (members.now ≡ geometry_members coord_type) }
+{
+    let dimensions = [
+        Dimension::XY,
+        Dimension::XYZ,
+        Dimension::XYM,
+        Dimension::XYZM,
+    ];
+    are_in(members, &dimensions, coord_type)
+}
+
+/// Whether the members are those that are written for geometries of these dimensions.
+fn are_in(members: &[(i8, Field)], dimensions: &[Dimension], coord_type: CoordType) -> bool
+    ensures { IsTrue result ↔ (members.now ≡ members_in dimensions.now coord_type) }
+{
+    let Some((dimension, others)) = dimensions.split_first() else {
+        return members.is_empty();
+    };
+    if members.len() < 7 {
+        return false;
+    }
+    let (first, rest) = members.split_at(7);
+    if !are_of_dimension(first, coord_type, *dimension) {
+        return false;
+    }
+    are_in(rest, others, coord_type)
+}
+
+/// Whether the members are those that are written for geometries of one dimension.
+fn are_of_dimension(members: &[(i8, Field)], coord_type: CoordType, dimension: Dimension) -> bool
+    ensures { IsTrue result ↔ (members.now ≡ dimension_members coord_type dimension) }
+{
+    let Some((last, rest)) = members.split_last() else {
+        return false;
+    };
+    if !is_member(last, NativeKind::GeometryCollection, dimension) {
+        return false;
+    }
+    if !is_collection(last.1.data_type(), coord_type, dimension) {
+        return false;
+    }
+    are_mixed(rest, coord_type, dimension)
+}
+
+/// Whether the members are those of the union in a collection.
+fn are_mixed(members: &[(i8, Field)], coord_type: CoordType, dimension: Dimension) -> bool
+    ensures { IsTrue result ↔ (members.now ≡ mixed_members coord_type dimension) }
+{
+    let kinds = [
+        NativeKind::Point,
+        NativeKind::LineString,
+        NativeKind::Polygon,
+        NativeKind::MultiPoint,
+        NativeKind::MultiLineString,
+        NativeKind::MultiPolygon,
+    ];
+    are_members_over(members, &kinds, coord_type, dimension)
+}
+
+/// Whether the members are those of these kinds, each over a coordinate.
+fn are_members_over(
+    members: &[(i8, Field)],
+    kinds: &[NativeKind],
+    coord_type: CoordType,
+    dimension: Dimension,
+) -> bool
+    ensures { IsTrue result ↔ (members.now ≡ members_over kinds.now coord_type dimension) }
+{
+    let Some((kind, others)) = kinds.split_first() else {
+        return members.is_empty();
+    };
+    let Some((member, rest)) = members.split_first() else {
+        return false;
+    };
+    if !is_member(member, *kind, dimension) {
+        return false;
+    }
+    if !is_over_leaf(
+        member.1.data_type(),
+        list_names(*kind),
+        coord_type,
+        dimension,
+    ) {
+        return false;
+    }
+    are_members_over(rest, others, coord_type, dimension)
+}
+
+/// Whether the member is the one for the kind in the dimension, but for its data type.
+fn is_member(member: &(i8, Field), kind: NativeKind, dimension: Dimension) -> bool
+    ensures { IsTrue result ↔ (member.now ≡ member_layout kind dimension member.now.1.tree) }
+{
+    if member.0 != type_id(kind, dimension) {
+        return false;
+    }
+    is_bare(&member.1, member_name(kind, dimension), true)
+}
