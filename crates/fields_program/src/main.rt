@@ -10,7 +10,7 @@ use std::io::{BufWriter, ErrorKind, Write};
 use std::process::ExitCode;
 
 /// What is written where the arguments are not one word that names a command.
-const USAGE: &[u8] = b"usage: geoarrow_fields read|canon\n";
+const USAGE: &[u8] = b"usage: geoarrow_fields read|infer|canon|columns\n";
 
 /// So many bytes of answers are written at once.
 const BUFFER_BYTES: usize = 65_536;
@@ -18,11 +18,15 @@ const BUFFER_BYTES: usize = 65_536;
 /// The command that a word names, or none.
 fn command_named(word: &str) -> Option<Command>
     ensures read { (result ≡ Some Command.Read) ↔ (word.now ≡ codes "read") }
+    ensures infer { (result ≡ Some Command.Infer) ↔ (word.now ≡ codes "infer") }
     ensures canon { (result ≡ Some Command.Canon) ↔ (word.now ≡ codes "canon") }
+    ensures columns { (result ≡ Some Command.Columns) ↔ (word.now ≡ codes "columns") }
 {
     match word {
         "read" => Some(Command::Read),
+        "infer" => Some(Command::Infer),
         "canon" => Some(Command::Canon),
+        "columns" => Some(Command::Columns),
         _ => None,
     }
 }

@@ -1,5 +1,5 @@
 //! What the columns of a schema hold.
-ghost use Rattle.std.specs.Prelude.{IfOk};
+ghost use Rattle.std.specs.Prelude.{IfOk, IfErr};
 ghost use Rattle.arrow_values.specs.Errors.{IsGeoMemory};
 ghost use Rattle.geoarrow_schema.specs.Reads.{HasGeoArrowName};
 ghost use Rattle.geoarrow_columns.specs.Report.{IsColumnOf, IsReport, IsFaultOf};
@@ -43,15 +43,15 @@ pub fn check_columns(alloc: Global, fields: &[Field]) -> Result<Vec<Column>, All
     Ok(columns)
 }
 
-/// What a column holds.
+/// What one column holds, as `check_columns` says it. Errs for want of memory alone.
 #[tactic(auto, using(crate::proofs::Reports::refused))]
-fn check_column(alloc: Global, field: &Field) -> Result<Column, AllocError>
+pub fn check_column(alloc: Global, field: &Field) -> Result<Column, AllocError>
     ensures { IfOk result (IsColumnOf field.now) }
 {
     match GeoArrowType::from_extension_field(alloc, field) {
         Ok(Some(found)) => Ok(Column::Geometry(found)),
         Ok(None) => infer_column(alloc, field),
-        Err(error) => Ok(Column::Faulty(fault_of(error)?)),
+        Err(error) => Ok(Column::Faulty(ColumnFault::of_error(&error)?)),
     }
 }
 
@@ -63,21 +63,25 @@ fn infer_column(alloc: Global, field: &Field) -> Result<Column, AllocError>
 {
     match GeoArrowType::from_arrow_field(alloc, field) {
         Ok(found) => Ok(Column::Inferred(found)),
-        Err(error) => match fault_of(error)? {
+        Err(error) => match ColumnFault::of_error(&error)? {
             ColumnFault::InvalidGeoArrow => Ok(Column::Other),
             ColumnFault::Arrow => Ok(Column::Faulty(ColumnFault::Arrow)),
         },
     }
 }
 
-/// The variant of an error. Errs where the error is want of memory.
-fn fault_of(error: GeoArrowError) -> Result<ColumnFault, AllocError>
-    ensures memory { IfOk result (λ _. ¬ IsGeoMemory error) }
-    ensures variant { IfOk result (λ fault. IsFaultOf error fault) }
-{
-    match error {
-        GeoArrowError::Arrow(ArrowError::OutOfMemory) => Err(AllocError),
-        GeoArrowError::InvalidGeoArrow(_) => Ok(ColumnFault::InvalidGeoArrow),
-        _ => Ok(ColumnFault::Arrow),
+impl ColumnFault {
+    /// The fault of a field that is refused by an error: `InvalidGeoArrow` for that variant, and `Arrow` for any other.
+    /// Errs where the error is want of memory.
+    pub fn of_error(error: &GeoArrowError) -> Result<ColumnFault, AllocError>
+        ensures memory { IfOk result (λ _. ¬ IsGeoMemory error.now) }
+        ensures variant { IfOk result (λ fault. IsFaultOf error.now fault) }
+        ensures refused { IfErr result (λ _. IsGeoMemory error.now) }
+    {
+        match error {
+            GeoArrowError::Arrow(ArrowError::OutOfMemory) => Err(AllocError),
+            GeoArrowError::InvalidGeoArrow(_) => Ok(ColumnFault::InvalidGeoArrow),
+            _ => Ok(ColumnFault::Arrow),
+        }
     }
 }

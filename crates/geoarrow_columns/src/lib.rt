@@ -3,4 +3,4 @@
 
 mod check;
 
-pub use check::{Column, ColumnFault, check_columns};
+pub use check::{Column, ColumnFault, check_column, check_columns};

@@ -1,76 +1,47 @@
 -- What is answered to a line.
-use Rattle.std.specs.Prelude.{◌≡◌, ◌⊎◌, List, [], ◌∷◌, ◌++◌, Bool, false, IsTrue, IsFalse, Some, None, MatchOption, codes}
-use Rattle.std.specs.List.{list_any}
-use Rattle.std.specs.Option.{option_map_or}
-use Rattle.std.specs.Str.{bytes_eq}
+use Rattle.std.specs.Prelude.{◌≡◌, ◌⊎◌, MatchOption, codes}
 use Rattle.arrow_values.specs.Tree.{FieldTree}
-use Rattle.arrow_values.specs.Texts.{extension_name, extension_metadata}
-use Rattle.geoarrow_layout.specs.declared.kinds.CoordType.{CoordType}
-use Rattle.geoarrow_layout.specs.declared.kinds.CoordType.TheVariants.{Interleaved, Separated}
-use Rattle.geoarrow_layout.specs.declared.kinds.Dimension.{Dimension}
-use Rattle.geoarrow_layout.specs.declared.encodings.NativeKind.TheVariants.{Point, LineString, Polygon, MultiPoint, MultiLineString, MultiPolygon, GeometryCollection}
-use Rattle.geoarrow_layout.specs.Kinds.{dimension_name, native_name, box_name, geometry_name, wkb_name, wkt_name}
-use Rattle.geoarrow_layout.specs.Shapes.{Leaf}
-use Rattle.geoarrow_layout.specs.Layouts.{leaf_layout}
+use Rattle.geoarrow_schema.specs.declared.types.GeoArrowType.{GeoArrowType}
+use Rattle.geoarrow_schema.specs.Reads.{HasGeoArrowName, Reads, IsForeign}
+use Rattle.geoarrow_schema.specs.Normal.{IsCanonical}
+use Rattle.geoarrow_columns.specs.declared.check.ColumnFault.{ColumnFault}
+use Rattle.geoarrow_columns.specs.declared.check.ColumnFault.TheVariants.{Arrow, InvalidGeoArrow}
+use Rattle.geoarrow_columns.specs.declared.check.Column.{Column}
+use Rattle.geoarrow_columns.specs.Report.{IsRefused, IsColumnOf}
 use Rattle.field_lines.specs.Line.{field_of_line, line_of_field}
 use Rattle.geoarrow_fields.specs.declared.Command.{Command}
-use Rattle.geoarrow_fields.specs.declared.Command.TheVariants.{Read, Canon}
+use Rattle.geoarrow_fields.specs.declared.Command.TheVariants.{Read, Infer, Canon, Columns}
 use Rattle.geoarrow_fields.specs.Lines.{Bytes}
-
--- the extension names of GeoArrow
-abbrev pub geoarrow_names : List Bytes
-geoarrow_names =
-    native_name Point ∷ native_name LineString ∷ native_name Polygon ∷ native_name MultiPoint ∷ native_name MultiLineString ∷ native_name MultiPolygon
-    ∷ native_name GeometryCollection ∷ box_name ∷ geometry_name ∷ wkb_name ∷ wkt_name ∷ []
-
-abbrev pub is_geoarrow_name : Bytes → Bool
-is_geoarrow_name name = list_any (bytes_eq name) geoarrow_names
-
--- the field has a name of GeoArrow
-abbrev pub has_geoarrow_name : FieldTree → Bool
-has_geoarrow_name f = option_map_or is_geoarrow_name (extension_name f) false
-
--- the field has the name of a point, and no metadata text
-abbrev pub IsPlainPoint : FieldTree → Type 0
-IsPlainPoint f = (extension_name f ≡ Some (native_name Point)) × (extension_metadata f ≡ None)
-
--- the word of a coordinate type
-abbrev pub coord_type_name : CoordType → Bytes
-coord_type_name Interleaved = codes "interleaved"
-coord_type_name Separated = codes "separated"
-
--- what a point is: kind, coordinate type, dimension and metadata
-abbrev pub point_text : CoordType → Dimension → Bytes
-point_text c d = codes "point " ++ coord_type_name c ++ codes " " ++ dimension_name d ++ codes " -"
-
--- the line of a point with the data type as written
-abbrev pub point_line : FieldTree → CoordType → Dimension → Bytes
-point_line f c d = line_of_field (record f { tree = leaf_layout c d })
-
-abbrev pub point_answer : Command → FieldTree → CoordType → Dimension → Bytes
-point_answer Read f c d = point_text c d
-point_answer Canon f c d = point_line f c d
+use Rattle.geoarrow_fields.specs.Words.{type_text, error_text, column_text, inferred_text}
 
 -- no name of GeoArrow
 abbrev pub AnswersNone : FieldTree → Bytes → Type 0
-AnswersNone f answer = IsFalse (has_geoarrow_name f) × (answer ≡ codes "none")
+AnswersNone f answer = ¬ HasGeoArrowName f × (answer ≡ codes "none")
 
--- a point whose data type is a coordinate
-abbrev pub AnswersPoint : Command → FieldTree → Bytes → Type 0
-AnswersPoint command f answer = IsPlainPoint f × ((c : CoordType) × (d : Dimension) × Leaf f.tree c d × (answer ≡ point_answer command f c d))
+-- a field is refused for that: `InvalidGeoArrow` where it is foreign, and `Arrow` else
+abbrev pub IsRefusedFor : FieldTree → ColumnFault → Type 0
+IsRefusedFor f InvalidGeoArrow = IsRefused f × IsForeign f
+IsRefusedFor f Arrow = IsRefused f × ¬ IsForeign f
 
--- a point whose data type is none
-abbrev pub AnswersFault : FieldTree → Bytes → Type 0
-AnswersFault f answer = IsPlainPoint f × ((c : CoordType) (d : Dimension) → ¬ Leaf f.tree c d) × (answer ≡ codes "error arrow")
+-- a name of GeoArrow, and no type
+abbrev pub AnswersRefused : FieldTree → Bytes → Type 0
+AnswersRefused f answer = (fault : ColumnFault) × IsRefusedFor f fault × (answer ≡ error_text fault)
 
--- what is not read yet
-abbrev pub AnswersLater : FieldTree → Bytes → Type 0
-AnswersLater f answer = IsTrue (has_geoarrow_name f) × ¬ IsPlainPoint f × (answer ≡ codes "error later")
+-- the type that the field is read as
+abbrev pub AnswersType : FieldTree → Bytes → Type 0
+AnswersType f answer = (g : GeoArrowType) × Reads f g × (answer ≡ type_text g)
 
--- the text is an answer to the field under the command
+-- the line of the field in normal form
+abbrev pub AnswersLine : FieldTree → Bytes → Type 0
+AnswersLine f answer = (n : FieldTree) × IsCanonical f n × (answer ≡ line_of_field n)
+
+-- the text is the answer to the field under the command
 abbrev pub AnswersField : Command → FieldTree → Bytes → Type 0
-AnswersField command f answer = AnswersNone f answer ⊎ (AnswersPoint command f answer ⊎ (AnswersFault f answer ⊎ AnswersLater f answer))
+AnswersField Read f answer = AnswersType f answer ⊎ (AnswersNone f answer ⊎ AnswersRefused f answer)
+AnswersField Infer f answer = (c : Column) × IsColumnOf f c × (answer ≡ inferred_text c)
+AnswersField Canon f answer = AnswersLine f answer ⊎ (AnswersNone f answer ⊎ AnswersRefused f answer)
+AnswersField Columns f answer = (c : Column) × IsColumnOf f c × (answer ≡ column_text c)
 
--- the text is an answer to the line under the command
+-- the text is the answer to the line under the command
 unfoldable pub Answers : Command → Bytes → Bytes → Type 0
 Answers command line answer = MatchOption (field_of_line line) (answer ≡ codes "error field") (λ f. AnswersField command f answer)

@@ -1,4 +1,5 @@
 pub mod Lines
+pub mod Words
 pub mod Answer
 pub mod Output
 pub mod Progress

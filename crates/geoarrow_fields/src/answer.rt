@@ -1,108 +1,91 @@
 //! The answer to one line.
-ghost use Rattle.std.specs.Prelude.{◌≡◌, IfOk, string_bytes};
-ghost use Rattle.geoarrow_fields.specs.Answer.{Answers, AnswersField, IsPlainPoint, coord_type_name, is_geoarrow_name, point_text, point_line};
+ghost use Rattle.std.specs.Prelude.{◌≡◌, ◌⊎◌, IfOk, string_bytes};
+ghost use Rattle.arrow_values.specs.Errors.{IsGeoMemory};
+ghost use Rattle.geoarrow_schema.specs.Reads.{HasGeoArrowName, ReadsAsNone, RefusedAs};
+ghost use Rattle.geoarrow_fields.specs.Answer.{Answers, AnswersField, AnswersRefused};
 
 use crate::Command;
-use arrow_values::Field;
+use crate::words::{column_text, error_text, inferred_text, type_text};
+use arrow_values::{Field, GeoArrowError};
 use field_lines::{field_line, parse_line};
-use geoarrow_layout::{CoordType, Dimension, coord_data_type, parse_point};
+use geoarrow_columns::{ColumnFault, check_column};
+use geoarrow_schema::GeoArrowType;
 use std::alloc::{AllocError, Global};
 
-/// The answer to one line under a command, without a line feed. Errs where memory is wanting alone.
+/// The answer to one line under a command, without a line feed: what the command says of the field that the line stands
+/// for, or `error field` where it stands for none. Errs where memory is wanting alone.
 #[tactic(auto, unfolding(crate::specs::Answer::Answers))]
 pub fn answer_line(alloc: Global, command: Command, line: &[u8]) -> Result<String, AllocError>
     ensures { IfOk result (λ answer. Answers command line.now (string_bytes answer)) }
 {
     match parse_line(alloc, line)? {
-        Some(field) => answer_field(alloc, command, field),
+        Some(field) => answer_field(alloc, command, &field),
         None => String::from_str(alloc, "error field"),
     }
 }
 
 /// The answer to a field.
-fn answer_field(alloc: Global, command: Command, field: Field) -> Result<String, AllocError>
-    ensures { IfOk result (λ answer. AnswersField command field (string_bytes answer)) }
+fn answer_field(alloc: Global, command: Command, field: &Field) -> Result<String, AllocError>
+    ensures { IfOk result (λ answer. AnswersField command field.now (string_bytes answer)) }
 {
-    match field.extension_type_name() {
-        None => String::from_str(alloc, "none"),
-        Some("geoarrow.point") => match field.extension_type_metadata() {
-            None => answer_point(alloc, command, field),
-            Some(_) => String::from_str(alloc, "error later"),
-        },
-        Some(name) => {
-            if is_geoarrow_name(name) {
-                String::from_str(alloc, "error later")
-            } else {
-                String::from_str(alloc, "none")
-            }
-        }
+    match command {
+        Command::Read => answer_read(alloc, field),
+        Command::Infer => answer_infer(alloc, field),
+        Command::Canon => answer_canon(alloc, field),
+        Command::Columns => answer_columns(alloc, field),
     }
 }
 
-/// The answer to a point without metadata text.
-fn answer_point(alloc: Global, command: Command, field: Field) -> Result<String, AllocError>
-    requires { IsPlainPoint field }
-    ensures { IfOk result (λ answer. AnswersField command field (string_bytes answer)) }
+/// The type that the field is read as.
+fn answer_read(alloc: Global, field: &Field) -> Result<String, AllocError>
+    ensures { IfOk result (λ answer. AnswersField Command.Read field.now (string_bytes answer)) }
 {
-    match parse_point(field.data_type()) {
-        Ok((coord_type, dimension)) => match command {
-            Command::Read => read_point(alloc, coord_type, dimension),
-            Command::Canon => canon_point(alloc, field, coord_type, dimension),
-        },
-        Err(_) => String::from_str(alloc, "error arrow"),
+    match GeoArrowType::from_extension_field(alloc, field) {
+        Ok(Some(found)) => type_text(alloc, &found),
+        Ok(None) => String::from_str(alloc, "none"),
+        Err(error) => answer_refused(alloc, field, &error),
     }
 }
 
-/// Whether a name is one of GeoArrow's.
-fn is_geoarrow_name(name: &str) -> bool
-    ensures { result ≡ is_geoarrow_name name.now }
+/// The type that the field is read as or taken for.
+fn answer_infer(alloc: Global, field: &Field) -> Result<String, AllocError>
+    ensures { IfOk result (λ answer. AnswersField Command.Infer field.now (string_bytes answer)) }
 {
-    matches!(
-        name,
-        "geoarrow.point"
-            | "geoarrow.linestring"
-            | "geoarrow.polygon"
-            | "geoarrow.multipoint"
-            | "geoarrow.multilinestring"
-            | "geoarrow.multipolygon"
-            | "geoarrow.geometrycollection"
-            | "geoarrow.box"
-            | "geoarrow.geometry"
-            | "geoarrow.wkb"
-            | "geoarrow.wkt"
-    )
+    let column = check_column(alloc, field)?;
+    inferred_text(alloc, &column)
 }
 
-/// The answer to `read` of a point.
-fn read_point(
+/// The line of the field in normal form.
+fn answer_canon(alloc: Global, field: &Field) -> Result<String, AllocError>
+    ensures { IfOk result (λ answer. AnswersField Command.Canon field.now (string_bytes answer)) }
+{
+    match GeoArrowType::canonical_field(alloc, field) {
+        Ok(Some(canonical)) => field_line(alloc, &canonical),
+        Ok(None) => String::from_str(alloc, "none"),
+        Err(error) => answer_refused(alloc, field, &error),
+    }
+}
+
+/// What the column holds.
+fn answer_columns(alloc: Global, field: &Field) -> Result<String, AllocError>
+    ensures { IfOk result (λ answer. AnswersField Command.Columns field.now (string_bytes answer)) }
+{
+    let column = check_column(alloc, field)?;
+    column_text(alloc, &column)
+}
+
+/// The answer to a field that is refused by that error, or want of memory.
+#[tactic(auto, using(crate::proofs::Refusals::refused_for))]
+fn answer_refused(
     alloc: Global,
-    coord_type: CoordType,
-    dimension: Dimension,
+    field: &Field,
+    error: &GeoArrowError,
 ) -> Result<String, AllocError>
-    ensures { IfOk result (λ answer. string_bytes answer ≡ point_text coord_type dimension) }
+    requires named { HasGeoArrowName field.now }
+    requires none { IsGeoMemory error.now ⊎ ReadsAsNone field.now }
+    requires variant { IsGeoMemory error.now ⊎ RefusedAs field.now error.now }
+    ensures { IfOk result (λ answer. AnswersRefused field.now (string_bytes answer)) }
 {
-    format!(in alloc; "point {} {dimension} -", coord_type_name(coord_type))
-}
-
-/// The answer to `canon` of a point: the line of the field with the data type as written.
-fn canon_point(
-    alloc: Global,
-    field: Field,
-    coord_type: CoordType,
-    dimension: Dimension,
-) -> Result<String, AllocError>
-    ensures { IfOk result (λ answer. string_bytes answer ≡ point_line field coord_type dimension) }
-{
-    let data_type = coord_data_type(alloc, coord_type, dimension)?;
-    field_line(alloc, &field.with_data_type(data_type))
-}
-
-/// The word of a coordinate type.
-fn coord_type_name(coord_type: CoordType) -> &'static str
-    ensures { result.now ≡ coord_type_name coord_type }
-{
-    match coord_type {
-        CoordType::Interleaved => "interleaved",
-        CoordType::Separated => "separated",
-    }
+    let fault = ColumnFault::of_error(error)?;
+    String::from_str(alloc, error_text(fault))
 }

@@ -5,6 +5,7 @@ mod answer;
 mod lines;
 mod output;
 mod reading;
+mod words;
 
 pub use answer::answer_line;
 pub use lines::{keeps_limits_or_passes_one, splits_at_line_feeds};
@@ -15,8 +16,12 @@ pub use reading::run;
 pub enum Command {
     /// Which GeoArrow type the field is read as.
     Read,
-    /// The field as GeoArrow writes it.
+    /// Which type it is read as, or taken for where no GeoArrow name stands on it.
+    Infer,
+    /// The field in normal form, as GeoArrow writes it.
     Canon,
+    /// What a column of the field holds.
+    Columns,
 }
 
 /// How a run ended.

@@ -1,0 +1,126 @@
+//! The words of the answers.
+ghost use Rattle.std.specs.Prelude.{◌≡◌, IfOk, string_bytes};
+ghost use Rattle.geoarrow_meta.specs.Written.{printed};
+ghost use Rattle.geoarrow_fields.specs.Words.{native_word, kind_word, coord_type_word, dimension_word, metadata_word, type_text, error_text, column_text, inferred_text};
+
+use geoarrow_columns::{Column, ColumnFault};
+use geoarrow_schema::{CoordType, Dimension, GeoArrowType, Kind, Metadata, NativeKind, Width};
+use std::alloc::{AllocError, Global};
+
+/// A type: kind, coordinate type, dimension and metadata.
+pub(crate) fn type_text(alloc: Global, found: &GeoArrowType) -> Result<String, AllocError>
+    ensures { IfOk result (λ text. string_bytes text ≡ type_text found.now) }
+{
+    let kind = kind_word(found.kind());
+    let coord_type = coord_type_word(found.coord_type());
+    let dimension = dimension_word(found.dimension());
+    let metadata = metadata_word(alloc, found.metadata())?;
+    format!(in alloc; "{kind} {coord_type} {dimension} {metadata}")
+}
+
+/// What a column holds, as `columns` says it.
+pub(crate) fn column_text(alloc: Global, column: &Column) -> Result<String, AllocError>
+    ensures { IfOk result (λ text. string_bytes text ≡ column_text column.now) }
+{
+    match column {
+        Column::Geometry(found) => {
+            let found = type_text(alloc, found)?;
+            format!(in alloc; "geometry {found}")
+        }
+        Column::Inferred(found) => {
+            let found = type_text(alloc, found)?;
+            format!(in alloc; "inferred {found}")
+        }
+        Column::Other => String::from_str(alloc, "other"),
+        Column::Faulty(ColumnFault::Arrow) => String::from_str(alloc, "faulty arrow"),
+        Column::Faulty(ColumnFault::InvalidGeoArrow) => String::from_str(alloc, "faulty invalid"),
+    }
+}
+
+/// What a column holds, as `infer` says it.
+pub(crate) fn inferred_text(alloc: Global, column: &Column) -> Result<String, AllocError>
+    ensures { IfOk result (λ text. string_bytes text ≡ inferred_text column.now) }
+{
+    match column {
+        Column::Geometry(found) | Column::Inferred(found) => type_text(alloc, found),
+        Column::Other => String::from_str(alloc, "error invalid"),
+        Column::Faulty(fault) => String::from_str(alloc, error_text(*fault)),
+    }
+}
+
+/// Why a field is refused.
+pub(crate) fn error_text(fault: ColumnFault) -> &'static str
+    ensures { result.now ≡ error_text fault }
+{
+    match fault {
+        ColumnFault::Arrow => "error arrow",
+        ColumnFault::InvalidGeoArrow => "error invalid",
+    }
+}
+
+/// The text of a metadata, or a dash.
+fn metadata_word(alloc: Global, metadata: &Metadata) -> Result<String, AllocError>
+    ensures { IfOk result (λ text. string_bytes text ≡ metadata_word (printed metadata.now)) }
+{
+    match metadata.serialize(alloc) {
+        Ok(Some(text)) => Ok(text),
+        Ok(None) => String::from_str(alloc, "-"),
+        Err(_) => Err(AllocError),
+    }
+}
+
+/// The word of a kind.
+fn kind_word(kind: Kind) -> &'static str
+    ensures { result.now ≡ kind_word kind }
+{
+    match kind {
+        Kind::Native(kind, _, _) => native_word(kind),
+        Kind::Geometry(_) => "geometry",
+        Kind::Rect(_) => "box",
+        Kind::Wkb(Width::Plain) => "wkb",
+        Kind::Wkb(Width::Large) => "large_wkb",
+        Kind::Wkb(Width::View) => "wkb_view",
+        Kind::Wkt(Width::Plain) => "wkt",
+        Kind::Wkt(Width::Large) => "large_wkt",
+        Kind::Wkt(Width::View) => "wkt_view",
+    }
+}
+
+/// The word of a native kind.
+fn native_word(kind: NativeKind) -> &'static str
+    ensures { result.now ≡ native_word kind }
+{
+    match kind {
+        NativeKind::Point => "point",
+        NativeKind::LineString => "linestring",
+        NativeKind::Polygon => "polygon",
+        NativeKind::MultiPoint => "multipoint",
+        NativeKind::MultiLineString => "multilinestring",
+        NativeKind::MultiPolygon => "multipolygon",
+        NativeKind::GeometryCollection => "geometrycollection",
+    }
+}
+
+/// The word of a coordinate type, or a dash.
+fn coord_type_word(coord_type: Option<CoordType>) -> &'static str
+    ensures { result.now ≡ coord_type_word coord_type }
+{
+    match coord_type {
+        Some(CoordType::Interleaved) => "interleaved",
+        Some(CoordType::Separated) => "separated",
+        None => "-",
+    }
+}
+
+/// The word of a dimension, or a dash.
+fn dimension_word(dimension: Option<Dimension>) -> &'static str
+    ensures { result.now ≡ dimension_word dimension }
+{
+    match dimension {
+        Some(Dimension::XY) => "XY",
+        Some(Dimension::XYZ) => "XYZ",
+        Some(Dimension::XYM) => "XYM",
+        Some(Dimension::XYZM) => "XYZM",
+        None => "-",
+    }
+}
