@@ -1,15 +1,18 @@
 //! Laws of columns, for the crates above: functions with nothing to run, whose contract is the law.
-ghost use Rattle.std.specs.Prelude.{◌≡◌, Bool};
+ghost use Rattle.std.specs.Prelude.{◌≡◌, ◌↔◌, Bool, IsTrue};
 ghost use Rattle.geoarrow_layout.specs.declared.encodings.Kind.{Kind};
 ghost use Rattle.geoarrow_meta.specs.declared.metadata.Metadata.{Metadata};
 ghost use Rattle.arrow_values.specs.Tree.{Text};
 ghost use Rattle.geoarrow_meta.specs.Written.{meta_value, normal, IsReadBack};
 ghost use Rattle.geoarrow_native.specs.Column.{ReadsAs, written_field};
+ghost use Rattle.geoarrow_native.specs.Parts.{native_coord_type, native_dimension, native_meta};
 
+use crate::native::NativeType;
+use crate::shape::NativeShape;
 use arrow_values::Field;
 use geoarrow_layout::{Kind, layout_reads_back, one_kind};
 use geoarrow_meta::Metadata;
-use geoarrow_meta::laws::{printed_reads_back, text_stands_for_one};
+use geoarrow_meta::laws::{equality_test_is_exact, printed_reads_back, text_stands_for_one};
 
 /// A law: a field reads as one kind and one metadata alone. There is nothing to run.
 pub fn reads_as_one_column(field: &Field)
@@ -29,4 +32,14 @@ pub fn written_field_reads_back(kind: Kind, metadata: &Metadata)
 {
     layout_reads_back(kind);
     printed_reads_back(metadata);
+}
+
+/// A law: `==` answers true for two native types exactly where coordinate type, dimension and metadata are equal.
+pub fn native_equality_is_exact<S: NativeShape>(one: &NativeType<S>, other: &NativeType<S>) -> bool
+    ensures { IsTrue result ↔ ((native_coord_type one.now ≡ native_coord_type other.now)
+        × (native_dimension one.now ≡ native_dimension other.now)
+        × (native_meta one.now ≡ native_meta other.now)) }
+{
+    equality_test_is_exact();
+    one == other
 }

@@ -1,7 +1,4 @@
 //! Laws of the types, for the crates above: functions with nothing to run, whose contract is the law.
-ghost use Rattle.std.specs.Prelude.{◌≡◌, ◌↔◌, IsTrue};
-ghost use Rattle.geoarrow_meta.specs.Written.{meta_value, normal, IsReadBack};
-ghost use Rattle.geoarrow_native.specs.Column.{ReadsAs};
 ghost use Rattle.geoarrow_schema.specs.declared.types.GeoArrowType.{GeoArrowType};
 ghost use Rattle.geoarrow_schema.specs.Types.{SameType};
 ghost use Rattle.geoarrow_schema.specs.Reads.{Reads};

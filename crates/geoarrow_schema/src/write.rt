@@ -32,7 +32,7 @@ impl GeoArrowType {
         ensures layout { IfOk result (λ t. tree t ≡ layout (kind_of self)) }
         ensures no_memory { ¬ IsStructured (kind_of self) → IsOk result }
     {
-        kind_data_type(alloc, self.kind())
+        self.to_data_type(alloc)
     }
 
     /// The field of a column of this type: that name and nullability, the data type of `to_data_type`, and as its metadata
