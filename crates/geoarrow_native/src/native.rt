@@ -106,7 +106,7 @@ impl<S: NativeShape> NativeType<S> {
         (self.coord_type, self.dimension, self.metadata)
     }
 
-    /// An equal type, which shares the metadata. Errs for want of memory alone, which sharing never meets.
+    /// An equal type, which shares the metadata. Errs where the metadata has as many owners as can be counted.
     pub fn try_clone(&self, _alloc: Global) -> Result<NativeType<S>, AllocError>
         ensures coord_type { IfOk result (λ e. native_coord_type e ≡ native_coord_type self.now) }
         ensures dimension { IfOk result (λ e. native_dimension e ≡ native_dimension self.now) }

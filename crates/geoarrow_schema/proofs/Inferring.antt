@@ -98,6 +98,7 @@ serialized_inferred t r s is a stored = λ k. (λ e. there k ((stored k).0 e), �
     there (Native k c d) h = absurd h
     there (Geometry c) h = absurd h
     there (Rect d) h = absurd h
+
     back : (k : Kind) → InferredAs t k → s ≡ Some k
     back (Native Point b e) h = let bad : r ≡ some_pair (b, e) = (a b e).1 h in absurd cc
     back (Native LineString b e) h = absurd h

@@ -1,4 +1,5 @@
 pub mod Reading
 pub mod Inferring
+pub mod Inferable
 pub mod Rewriting
 pub mod SameWritten

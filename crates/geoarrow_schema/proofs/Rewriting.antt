@@ -16,10 +16,11 @@ use Rattle.geoarrow_schema.specs.Normal.{rewritten, ReadsNormally}
 pub rewritten_reads : (f n : FieldTree) (k : Kind) (m : Metadata) → n ≡ rewritten f k m → SetsExtension (name_of k) (printed m) f.metadata n.metadata
     → Accepts (name_of k) (layout k) k → TextStandsFor (printed m) (normal m) → ReadsAs n k (normal m)
 unfolding ReadsAs
-rewritten_reads f n k m is sets column stands =
-    (sets EXTENSION_TYPE_NAME_KEY.now,
-     subst (Accepted k) (sym (ap (λ x. x.tree) is)) column.1,
-     subst (λ t. TextStandsFor t (normal m)) (sym (sets EXTENSION_TYPE_METADATA_KEY.now)) stands)
+rewritten_reads f n k m is sets column stands = (
+  sets EXTENSION_TYPE_NAME_KEY.now,
+  subst (Accepted k) (sym (ap (λ x. x.tree) is)) column.1,
+  subst (λ t. TextStandsFor t (normal m)) (sym (sets EXTENSION_TYPE_METADATA_KEY.now)) stands,
+)
 
 -- the normal form of a type, in place of the type
 pub normally : (n : FieldTree) (j k : Kind) (a m : Metadata) → j ≡ k → a ≡ normal m → (IsReadBack (meta_value a) → ReadsAs n j (normal a)) → normal a ≡ a → ReadsNormally n k m

@@ -1,7 +1,7 @@
 -- What a field without a GeoArrow name is taken for.
-use Rattle.std.specs.Prelude.{◌≡◌, ◌↔◌, Option, Some}
+use Rattle.std.specs.Prelude.{◌≡◌, ◌↔◌, Option, Some, None, ⊤}
 use Rattle.arrow_values.specs.Tree.{Tree, FieldTree}
-use Rattle.arrow_values.specs.Texts.{extension_metadata}
+use Rattle.arrow_values.specs.Texts.{extension_name, extension_metadata}
 use Rattle.arrow_values.specs.declared.error.GeoArrowError.{GeoArrowError}
 use Rattle.arrow_values.specs.declared.error.GeoArrowError.TheVariants.{Arrow, InvalidGeoArrow}
 use Rattle.geoarrow_layout.specs.declared.encodings.NativeKind.TheVariants.{Point}
@@ -9,6 +9,7 @@ use Rattle.geoarrow_layout.specs.declared.encodings.Kind.{Kind}
 use Rattle.geoarrow_layout.specs.declared.encodings.Kind.TheVariants.{Native, Wkb, Wkt}
 use Rattle.geoarrow_layout.specs.Shapes.{IsBytes, IsText}
 use Rattle.geoarrow_layout.specs.Inferred.{Inferred}
+use Rattle.geoarrow_layout.specs.Layouts.{layout}
 use Rattle.geoarrow_meta.specs.declared.metadata.Metadata.{Metadata}
 use Rattle.geoarrow_meta.specs.Read.{TextStandsFor}
 use Rattle.geoarrow_schema.specs.declared.types.GeoArrowType.{GeoArrowType}
@@ -53,3 +54,14 @@ IsStored t _ = ⊥
 -- the answer is the one kind of well-known binary or text that the tree is of, and none where there is none
 abbrev pub SerializedAs : Tree → Option Kind → Type 0
 SerializedAs t r = (k : Kind) → (r ≡ Some k) ↔ IsStored t k
+
+-- a kind whose data type says it without a name: points, well-known binary and text
+abbrev pub IsInferable : Kind → Type 0
+IsInferable (Native Point c d) = ⊤
+IsInferable (Wkb w) = ⊤
+IsInferable (Wkt w) = ⊤
+IsInferable _ = ⊥
+
+-- the field has neither of the two extension keys, and the tree that is written for the kind
+abbrev pub IsBareColumn : FieldTree → Kind → Type 0
+IsBareColumn f k = (extension_name f ≡ None) × (extension_metadata f ≡ None) × (f.tree ≡ layout k)

@@ -71,7 +71,7 @@ impl BoxType {
         &self.metadata
     }
 
-    /// An equal type, which shares the metadata. Errs for want of memory alone, which sharing never meets.
+    /// An equal type, which shares the metadata. Errs where the metadata has as many owners as can be counted.
     pub fn try_clone(&self, _alloc: Global) -> Result<BoxType, AllocError>
         ensures dimension { IfOk result (λ e. box_dimension e ≡ box_dimension self.now) }
         ensures metadata { IfOk result (λ e. box_meta e ≡ box_meta self.now) }

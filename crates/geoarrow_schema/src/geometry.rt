@@ -78,7 +78,7 @@ impl GeometryType {
         &self.metadata
     }
 
-    /// An equal type, which shares the metadata. Errs for want of memory alone, which sharing never meets.
+    /// An equal type, which shares the metadata. Errs where the metadata has as many owners as can be counted.
     pub fn try_clone(&self, _alloc: Global) -> Result<GeometryType, AllocError>
         ensures coord_type { IfOk result (λ e. geometry_coord_type e ≡ geometry_coord_type self.now) }
         ensures metadata { IfOk result (λ e. geometry_meta e ≡ geometry_meta self.now) }

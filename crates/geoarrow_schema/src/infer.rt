@@ -49,10 +49,7 @@ fn infer(alloc: Global, field: &Field) -> GeoArrowResult<GeoArrowType>
     let metadata = Arc::new(alloc, Metadata::try_from_field(alloc, field)?)?;
     match infer_kind(field.data_type()) {
         Some(kind) => Ok(GeoArrowType::from_kind(kind, metadata)),
-        None => Err(GeoArrowError::invalid_geoarrow(
-            alloc,
-            fault_text(field.data_type()),
-        )),
+        None => Err(GeoArrowError::invalid_geoarrow(alloc, fault_text(field.data_type()))),
     }
 }
 
@@ -87,7 +84,8 @@ fn fault_text(data_type: &DataType) -> &'static str {
     }
     match summary.bottom {
         Bottom::Struct {
-            all_float64: false, ..
+            all_float64: false,
+            ..
         } => "cannot infer: fields are not all Float64",
         Bottom::Struct { .. } => "cannot infer: field count",
         Bottom::FixedSizeList { float64: false, .. } => "cannot infer: inner field is not Float64",

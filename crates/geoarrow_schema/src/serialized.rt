@@ -141,7 +141,7 @@ impl<E: Encoding> SerializedType<E> {
         &self.metadata
     }
 
-    /// An equal type, which shares the metadata. Errs for want of memory alone, which sharing never meets.
+    /// An equal type, which shares the metadata. Errs where the metadata has as many owners as can be counted.
     pub fn try_clone(&self, _alloc: Global) -> Result<SerializedType<E>, AllocError>
         ensures { IfOk result (λ e. serialized_meta e ≡ serialized_meta self.now) }
     {

@@ -164,7 +164,7 @@ impl GeoArrowType {
         self.kind().dimension()
     }
 
-    /// An equal type, which shares the metadata. Errs for want of memory alone, which sharing never meets.
+    /// An equal type, which shares the metadata. Errs where the metadata has as many owners as can be counted.
     pub fn try_clone(&self, _alloc: Global) -> Result<GeoArrowType, AllocError>
         ensures kind { IfOk result (λ g. kind_of g ≡ kind_of self.now) }
         ensures metadata { IfOk result (λ g. meta_of g ≡ meta_of self.now) }

@@ -1,0 +1,62 @@
+-- What is written of points, well-known binary and text is taken for that.
+use Rattle.std.proofs.Common.{◌≡◌, ◌∙◌, refl, sym, subst, Bool, true, false, List, Some, None}
+use Rattle.std.specs.Prelude.{ℕ, codes}
+use Rattle.std.specs.Str.{bytes_eq}
+use Rattle.std.proofs.lemmas.Slice.Eq.{bytes_eq-Decides}
+use Rattle.arrow_values.specs.Tree.{FieldTree}
+use Rattle.arrow_values.specs.Texts.{extension_metadata}
+use Rattle.geoarrow_layout.specs.declared.kinds.CoordType.{CoordType}
+use Rattle.geoarrow_layout.specs.declared.kinds.CoordType.TheVariants.{Interleaved, Separated}
+use Rattle.geoarrow_layout.specs.declared.kinds.Dimension.{Dimension}
+use Rattle.geoarrow_layout.specs.declared.kinds.Dimension.TheVariants.{XY, XYZ, XYM, XYZM}
+use Rattle.geoarrow_layout.specs.declared.encodings.NativeKind.TheVariants.{Point, LineString, Polygon, MultiPoint, MultiLineString, MultiPolygon, GeometryCollection}
+use Rattle.geoarrow_layout.specs.declared.encodings.Width.TheVariants.{Plain, Large, View}
+use Rattle.geoarrow_layout.specs.declared.encodings.Kind.{Kind}
+use Rattle.geoarrow_layout.specs.declared.encodings.Kind.TheVariants.{Native, Geometry, Rect, Wkb, Wkt}
+use Rattle.geoarrow_layout.specs.Shapes.{SameNames}
+use Rattle.geoarrow_layout.specs.Inferred.{Inferred}
+use Rattle.geoarrow_layout.specs.Layouts.{layout, leaf_layout}
+use Rattle.geoarrow_meta.specs.Read.{TextStandsFor}
+use Rattle.geoarrow_meta.specs.Written.{empty}
+use Rattle.geoarrow_schema.specs.declared.types.GeoArrowType.{GeoArrowType}
+use Rattle.geoarrow_schema.specs.Types.{kind_of, meta_of}
+use Rattle.geoarrow_schema.specs.Infers.{Infers, InferredAs, IsInferable, IsBareColumn}
+
+apart : (x y : List ℕ) → bytes_eq x y ≡ false → x ≡ y → ⊥
+apart x y e h = let f : bytes_eq x y ≡ true = (bytes_eq-Decides x y).1 h in cc
+
+leaf_inferred : (c : CoordType) (d : Dimension) → Inferred (leaf_layout c d) c d
+unfolding SameNames
+leaf_inferred Interleaved XY = (refl, refl)
+leaf_inferred Interleaved XYZ = (refl, (refl, λ h. apart _ _ refl h))
+leaf_inferred Interleaved XYM = (refl, (refl, refl))
+leaf_inferred Interleaved XYZM = (refl, refl)
+leaf_inferred Separated XY = (refl, refl)
+leaf_inferred Separated XYZ = (refl, (refl, λ same. let e : true ≡ false = same (codes "z") in absurd cc))
+leaf_inferred Separated XYM = (refl, (refl, λ n. refl))
+leaf_inferred Separated XYZM = (refl, refl)
+
+layout_inferred : (k : Kind) → IsInferable k → InferredAs (layout k) k
+layout_inferred (Native Point c d) h = leaf_inferred c d
+layout_inferred (Wkb Plain) h = refl
+layout_inferred (Wkb Large) h = refl
+layout_inferred (Wkb View) h = refl
+layout_inferred (Wkt Plain) h = refl
+layout_inferred (Wkt Large) h = refl
+layout_inferred (Wkt View) h = refl
+layout_inferred (Native LineString c d) h = absurd h
+layout_inferred (Native Polygon c d) h = absurd h
+layout_inferred (Native MultiPoint c d) h = absurd h
+layout_inferred (Native MultiLineString c d) h = absurd h
+layout_inferred (Native MultiPolygon c d) h = absurd h
+layout_inferred (Native GeometryCollection c d) h = absurd h
+layout_inferred (Geometry c) h = absurd h
+layout_inferred (Rect d) h = absurd h
+
+pub bare_inferred : (f : FieldTree) (g : GeoArrowType) → IsInferable (kind_of g) → IsBareColumn f (kind_of g) → meta_of g ≡ empty → Infers f g
+unfolding Infers
+bare_inferred f g inferable bare default = (
+  (λ named. let e = sym bare.0 ∙ named.1 in absurd cc),
+  subst (λ t. TextStandsFor t (meta_of g)) (sym bare.1) default,
+  subst (λ t. InferredAs t (kind_of g)) (sym bare.2) (layout_inferred (kind_of g) inferable),
+)
