@@ -1,18 +1,14 @@
 -- The kind of a column, told by the reader of its extension name.
-use Rattle.std.proofs.Common.{◌≡◌, ◌↔◌, refl, sym, ap, subst, ◌∙◌, Result, Ok, Err}
+use Rattle.std.proofs.Common.{◌≡◌, sym, ap, subst, Result, Ok, Err}
 use Rattle.arrow_values.specs.Tree.{Text, Tree}
-use Rattle.geoarrow_layout.specs.declared.kinds.CoordType.{CoordType}
-use Rattle.geoarrow_layout.specs.declared.kinds.Dimension.{Dimension}
 use Rattle.geoarrow_layout.specs.declared.fault.LayoutFault.{LayoutFault}
 use Rattle.geoarrow_layout.specs.declared.encodings.NativeKind.{NativeKind}
-use Rattle.geoarrow_layout.specs.declared.encodings.Width.{Width}
 use Rattle.geoarrow_layout.specs.declared.names.ExtensionName.{ExtensionName}
 use Rattle.geoarrow_layout.specs.declared.encodings.Kind.{Kind}
 use Rattle.geoarrow_layout.specs.declared.encodings.Kind.TheVariants.{Native as OfNative, Geometry as OfGeometry, Rect as OfRect, Wkb as OfWkb, Wkt as OfWkt}
-use Rattle.geoarrow_layout.specs.Kinds.{name_text, native_name, geometry_name, box_name, wkb_name, wkt_name, name_of}
-use Rattle.geoarrow_layout.specs.Shapes.{Native, Geometry, BoxShape, IsBytes, IsText, Accepted, Accepts, Answers, AnswersOne}
+use Rattle.geoarrow_layout.specs.Kinds.{name_text, native_name, name_of}
+use Rattle.geoarrow_layout.specs.Shapes.{Native, Accepted, Accepts, Answers, AnswersOne}
 use Rattle.geoarrow_layout.proofs.Readings.{Answer}
-use Rattle.geoarrow_layout.proofs.Leaves.{apart}
 use Rattle.geoarrow_layout.proofs.KindSteps.{names_same, not_geometry, not_box}
 use Rattle.geoarrow_layout.proofs.OneKind.{one_kind, not_wkb, not_wkt}
 

@@ -25,8 +25,8 @@ mod walk;
 mod written_kinds;
 
 pub use build::{
-    box_data_type, coord_data_type, geometry_data_type, kind_data_type, list_data_type, mixed_data_type,
-    wkb_data_type, wkt_data_type,
+    box_data_type, coord_data_type, geometry_data_type, kind_data_type, list_data_type,
+    mixed_data_type, wkb_data_type, wkt_data_type,
 };
 pub use candidate_names::Candidates;
 pub use changes::{append_members, keep_members};
@@ -42,9 +42,9 @@ pub use likeness::alike;
 pub use names::ExtensionName;
 pub use naming::candidates;
 pub use parse::{
-    parse_box, parse_geometry, parse_geometry_collection, parse_kind, parse_linestring, parse_mixed,
-    parse_multilinestring, parse_multipoint, parse_multipolygon, parse_native, parse_point,
-    parse_polygon, parse_wkb, parse_wkt,
+    parse_box, parse_geometry, parse_geometry_collection, parse_kind, parse_linestring,
+    parse_mixed, parse_multilinestring, parse_multipoint, parse_multipolygon, parse_native,
+    parse_point, parse_polygon, parse_wkb, parse_wkt,
 };
 pub use summary::{Bottom, ListWidth, Summary};
 pub use tree_laws::{

@@ -1,5 +1,5 @@
 -- What a tree is taken for.
-use Rattle.std.proofs.Common.{◌≡◌, ◌∙◌, refl, sym, ap, subst, Option, Some, None, Result, Ok, Err}
+use Rattle.std.proofs.Common.{◌≡◌, ◌∙◌, sym, ap, subst, Option, Some, None, Result, Ok}
 use Rattle.std.specs.Arc.{arc_value}
 use Rattle.arrow_values.specs.Tree.{Tree, FieldTree}
 use Rattle.arrow_values.specs.Texts.{extension_metadata}

@@ -1,6 +1,7 @@
 //! The answers to lines, each a row of command, line and answer.
-use geoarrow_fields::Command::{Canon, Read};
+use geoarrow_fields::Command::{Canon, Columns, Infer, Read};
 use geoarrow_fields::{Command, RunEnd, answer_line, run};
+use std::alloc::{AllocError, Global};
 use std::test::Fail;
 
 /// A point of two numbers, as it is written.
@@ -101,6 +102,66 @@ fn go_by_name_and_type(rt: HostRuntime) -> Result<(), Fail> {
             r#"{"metadata":{"ARROW:extension:name":"geoarrow.point"},"name":"p","nullable":true,"type":{"struct":[{"name":"x","nullable":false,"type":"float64"}]}}"#,
             "error arrow",
         ),
+        (
+            r#"{"metadata":{"ARROW:extension:name":"geoarrow.point"},"name":"g","nullable":true,"type":{"struct":[{"name":"x","nullable":false,"type":"float64"},{"name":"x","nullable":false,"type":"float64"},{"name":"y","nullable":false,"type":"float64"}]}}"#,
+            "error arrow",
+        ),
+        (
+            r#"{"metadata":{"ARROW:extension:name":"geoarrow.point"},"name":"g","nullable":true,"type":{"fixed_size_list":{"name":"xyz","nullable":false,"type":"float64"},"size":2}}"#,
+            "error arrow",
+        ),
+        (
+            r#"{"metadata":{"ARROW:extension:name":"geoarrow.point"},"name":"g","nullable":true,"type":{"fixed_size_list":{"name":"banana","nullable":false,"type":"float64"},"size":2}}"#,
+            "error arrow",
+        ),
+        (
+            r#"{"metadata":{"ARROW:extension:name":"geoarrow.polygon"},"name":"g","nullable":true,"type":{"list":{"name":"v","nullable":false,"type":{"large_list":{"name":"v","nullable":false,"type":{"struct":[{"name":"x","nullable":false,"type":"float64"},{"name":"y","nullable":false,"type":"float64"}]}}}}}}"#,
+            "error arrow",
+        ),
+        (
+            r#"{"metadata":{"ARROW:extension:name":"geoarrow.geometry"},"name":"g","nullable":true,"type":{"mode":"dense","union":[]}}"#,
+            "error arrow",
+        ),
+        (
+            r#"{"metadata":{"ARROW:extension:name":"geoarrow.geometry"},"name":"g","nullable":true,"type":{"mode":"dense","union":[[11,{"name":"u","nullable":true,"type":{"struct":[{"name":"a","nullable":false,"type":"float64"},{"name":"b","nullable":false,"type":"float64"}]}}]]}}"#,
+            "error arrow",
+        ),
+        (
+            r#"{"metadata":{"ARROW:extension:name":"geoarrow.geometrycollection"},"name":"g","nullable":true,"type":{"list":{"name":"v","nullable":false,"type":{"mode":"dense","union":[[7,{"name":"u","nullable":true,"type":"null"}]]}}}}"#,
+            "error arrow",
+        ),
+        (
+            r#"{"metadata":{"ARROW:extension:name":"geoarrow.geometry"},"name":"g","nullable":true,"type":{"mode":"dense","union":[[1,{"name":"u","nullable":true,"type":{"struct":[{"name":"x","nullable":false,"type":"float64"},{"name":"y","nullable":false,"type":"float64"}]}}],[6,{"name":"u","nullable":true,"type":{"list":{"name":"v","nullable":false,"type":{"list":{"name":"v","nullable":false,"type":{"list":{"name":"v","nullable":false,"type":{"fixed_size_list":{"name":"xy","nullable":false,"type":"float64"},"size":2}}}}}}}}]]}}"#,
+            "error arrow",
+        ),
+        (
+            r#"{"metadata":{"ARROW:extension:name":"geoarrow.wkb"},"name":"g","nullable":true,"type":"utf8"}"#,
+            "error invalid",
+        ),
+        (
+            r#"{"metadata":{"ARROW:extension:metadata":"not valid json","ARROW:extension:name":"geoarrow.wkb"},"name":"g","nullable":true,"type":"utf8"}"#,
+            "error invalid",
+        ),
+        (
+            r#"{"metadata":{"ARROW:extension:name":"geoarrow.wkt"},"name":"g","nullable":true,"type":"binary"}"#,
+            "error invalid",
+        ),
+        (
+            r#"{"metadata":{"ARROW:extension:metadata":"not valid json","ARROW:extension:name":"geoarrow.wkb"},"name":"g","nullable":true,"type":"binary"}"#,
+            "error arrow",
+        ),
+        (
+            r#"{"metadata":{"ARROW:extension:metadata":"","ARROW:extension:name":"geoarrow.wkb"},"name":"g","nullable":true,"type":"binary"}"#,
+            "error arrow",
+        ),
+        (
+            r#"{"metadata":{"ARROW:extension:metadata":"{\"crs\":{\"f\":298.5},\"crs_type\":\"projjson\"}","ARROW:extension:name":"geoarrow.wkb"},"name":"g","nullable":true,"type":"binary"}"#,
+            "error arrow",
+        ),
+        (
+            r#"{"metadata":{"ARROW:extension:metadata":"[]","ARROW:extension:name":"geoarrow.point"},"name":"g","nullable":true,"type":{"struct":[{"name":"x","nullable":false,"type":"float64"},{"name":"y","nullable":false,"type":"float64"}]}}"#,
+            "error arrow",
+        ),
     ];
     for (line, answer) in rows {
         for command in [Read, Canon] {
@@ -111,34 +172,334 @@ fn go_by_name_and_type(rt: HostRuntime) -> Result<(), Fail> {
     Ok(())
 }
 
+/// A line of a name and a type.
+fn named(alloc: Global, name: &str, data_type: &str) -> Result<String, AllocError> {
+    format!(in alloc;
+        r#"{{"metadata":{{"ARROW:extension:name":"geoarrow.{name}"}},"name":"g","nullable":true,"type":{data_type}}}"#
+    )
+}
+
 #[test]
-fn to_what_is_not_read_yet(rt: HostRuntime) -> Result<(), Fail> {
+fn have_a_word_for_each_kind(rt: HostRuntime) -> Result<(), Fail> {
     let alloc = rt.alloc();
-    let names = [
-        "linestring",
-        "polygon",
-        "multipoint",
-        "multilinestring",
-        "multipolygon",
-        "geometrycollection",
-        "box",
-        "geometry",
-        "wkb",
-        "wkt",
+    let rows = [
+        (
+            "point",
+            r#"{"struct":[{"name":"x","nullable":false,"type":"float64"},{"name":"y","nullable":false,"type":"float64"}]}"#,
+            "point separated XY -",
+        ),
+        (
+            "point",
+            r#"{"struct":[{"name":"x","nullable":false,"type":"float64"},{"name":"y","nullable":false,"type":"float64"},{"name":"z","nullable":false,"type":"float64"},{"name":"m","nullable":false,"type":"float64"}]}"#,
+            "point separated XYZM -",
+        ),
+        (
+            "point",
+            r#"{"struct":[{"name":"m","nullable":false,"type":"float64"},{"name":"x","nullable":false,"type":"float64"},{"name":"y","nullable":false,"type":"float64"}]}"#,
+            "point separated XYM -",
+        ),
+        (
+            "linestring",
+            r#"{"list":{"name":"v","nullable":false,"type":{"struct":[{"name":"x","nullable":false,"type":"float64"},{"name":"y","nullable":false,"type":"float64"}]}}}"#,
+            "linestring separated XY -",
+        ),
+        (
+            "polygon",
+            r#"{"large_list":{"name":"v","nullable":false,"type":{"large_list":{"name":"v","nullable":false,"type":{"struct":[{"name":"x","nullable":false,"type":"float64"},{"name":"y","nullable":false,"type":"float64"}]}}}}}"#,
+            "polygon separated XY -",
+        ),
+        (
+            "multipoint",
+            r#"{"list":{"name":"v","nullable":false,"type":{"fixed_size_list":{"name":"xyz","nullable":false,"type":"float64"},"size":3}}}"#,
+            "multipoint interleaved XYZ -",
+        ),
+        (
+            "multilinestring",
+            r#"{"list":{"name":"v","nullable":false,"type":{"list":{"name":"v","nullable":false,"type":{"fixed_size_list":{"name":"xyzm","nullable":false,"type":"float64"},"size":4}}}}}"#,
+            "multilinestring interleaved XYZM -",
+        ),
+        (
+            "multipolygon",
+            r#"{"list":{"name":"v","nullable":false,"type":{"list":{"name":"v","nullable":false,"type":{"list":{"name":"v","nullable":false,"type":{"struct":[{"name":"x","nullable":false,"type":"float64"},{"name":"y","nullable":false,"type":"float64"},{"name":"m","nullable":false,"type":"float64"}]}}}}}}}"#,
+            "multipolygon separated XYM -",
+        ),
+        (
+            "geometrycollection",
+            r#"{"list":{"name":"v","nullable":false,"type":{"mode":"dense","union":[[1,{"name":"u","nullable":true,"type":{"struct":[{"name":"x","nullable":false,"type":"float64"},{"name":"y","nullable":false,"type":"float64"}]}}],[2,{"name":"u","nullable":true,"type":{"list":{"name":"v","nullable":false,"type":{"struct":[{"name":"x","nullable":false,"type":"float64"},{"name":"y","nullable":false,"type":"float64"}]}}}}]]}}}"#,
+            "geometrycollection separated XY -",
+        ),
+        (
+            "box",
+            r#"{"struct":[{"name":"a","nullable":false,"type":"float64"},{"name":"b","nullable":false,"type":"float64"},{"name":"c","nullable":false,"type":"float64"},{"name":"d","nullable":false,"type":"float64"}]}"#,
+            "box separated XY -",
+        ),
+        (
+            "box",
+            r#"{"struct":[{"name":"x","nullable":false,"type":"float64"},{"name":"y","nullable":false,"type":"float64"},{"name":"z","nullable":false,"type":"float64"},{"name":"m","nullable":false,"type":"float64"}]}"#,
+            "box separated XY -",
+        ),
+        (
+            "box",
+            r#"{"struct":[{"name":"mmin","nullable":false,"type":"float64"},{"name":"mmax","nullable":false,"type":"float64"},{"name":"zmin","nullable":false,"type":"float64"},{"name":"zmax","nullable":false,"type":"float64"},{"name":"a","nullable":false,"type":"float64"},{"name":"b","nullable":false,"type":"float64"}]}"#,
+            "box separated XYM -",
+        ),
+        (
+            "geometry",
+            r#"{"mode":"dense","union":[[1,{"name":"u","nullable":true,"type":{"struct":[{"name":"a","nullable":false,"type":"float64"},{"name":"b","nullable":false,"type":"float64"}]}}]]}"#,
+            "geometry separated - -",
+        ),
+        (
+            "geometry",
+            r#"{"mode":"dense","union":[[6,{"name":"u","nullable":true,"type":{"list":{"name":"v","nullable":false,"type":{"list":{"name":"v","nullable":false,"type":{"list":{"name":"v","nullable":false,"type":{"fixed_size_list":{"name":"xy","nullable":false,"type":"float64"},"size":2}}}}}}}}]]}"#,
+            "geometry interleaved - -",
+        ),
+        (
+            "geometry",
+            r#"{"mode":"dense","union":[[37,{"name":"u","nullable":true,"type":{"large_list":{"name":"v","nullable":false,"type":{"mode":"dense","union":[[31,{"name":"u","nullable":true,"type":{"struct":[{"name":"a","nullable":false,"type":"float64"},{"name":"b","nullable":false,"type":"float64"},{"name":"c","nullable":false,"type":"float64"},{"name":"d","nullable":false,"type":"float64"}]}}]]}}}}]]}"#,
+            "geometry separated - -",
+        ),
+        ("wkb", r#""binary""#, "wkb - - -"),
+        ("wkb", r#""large_binary""#, "large_wkb - - -"),
+        ("wkb", r#""binary_view""#, "wkb_view - - -"),
+        ("wkt", r#""utf8""#, "wkt - - -"),
+        ("wkt", r#""large_utf8""#, "large_wkt - - -"),
+        ("wkt", r#""utf8_view""#, "wkt_view - - -"),
     ];
-    for name in names {
-        let line = format!(in alloc;
-            r#"{{"metadata":{{"ARROW:extension:name":"geoarrow.{name}"}},"name":"p","nullable":true,"type":"binary"}}"#
-        )?;
+    for (name, data_type, answer) in rows {
+        let line = named(alloc, name, data_type)?;
         let answered = answer_line(alloc, Read, line.as_bytes())?;
-        assert_eq!(rt; answered.as_str(), "error later", "{name}");
+        assert_eq!(rt; answered.as_str(), answer, "{line}");
     }
-    let line =
-        r#"{"metadata":{"ARROW:extension:metadata":"{}","ARROW:extension:name":"geoarrow.point"},"name":"p","nullable":true,"type":"utf8"}"#;
-    assert_eq!(rt;
-        answer_line(alloc, Read, line.as_bytes())?.as_str(),
-        "error later"
-    );
+    Ok(())
+}
+
+/// A line of a name, and of so many lists in one another over a point.
+fn nested(alloc: Global, name: &str, lists: usize) -> Result<String, AllocError> {
+    let mut data_type = String::new(alloc);
+    for _ in 0..lists {
+        data_type.push_str(r#"{"list":{"name":"v","nullable":false,"type":"#)?;
+    }
+    data_type.push_str(
+        r#"{"struct":[{"name":"x","nullable":false,"type":"float64"},{"name":"y","nullable":false,"type":"float64"}]}"#,
+    )?;
+    for _ in 0..lists {
+        data_type.push_str("}}")?;
+    }
+    named(alloc, name, data_type.as_str())
+}
+
+/// Lists that are too many for a type, and past 126 objects and arrays in one another too many for a line.
+#[test]
+fn refuse_deep_lists(rt: HostRuntime) -> Result<(), Fail> {
+    let alloc = rt.alloc();
+    let rows = [
+        ("point", "error arrow"),
+        ("linestring", "error arrow"),
+        ("polygon", "error arrow"),
+        ("multipoint", "error arrow"),
+        ("multilinestring", "error arrow"),
+        ("multipolygon", "error arrow"),
+        ("geometrycollection", "error arrow"),
+        ("box", "error arrow"),
+        ("geometry", "error arrow"),
+        ("wkb", "error invalid"),
+        ("wkt", "error invalid"),
+    ];
+    for (name, refused) in rows {
+        for (lists, answer) in [(20, refused), (61, refused), (62, "error field")] {
+            let line = nested(alloc, name, lists)?;
+            let answered = answer_line(alloc, Read, line.as_bytes())?;
+            assert_eq!(rt; answered.as_str(), answer, "{name} under {lists} lists");
+        }
+    }
+    Ok(())
+}
+
+#[test]
+fn infer_by_the_type_alone(rt: HostRuntime) -> Result<(), Fail> {
+    let alloc = rt.alloc();
+    let rows = [
+        (
+            r#"{"struct":[{"name":"x","nullable":false,"type":"float64"},{"name":"y","nullable":false,"type":"float64"},{"name":"m","nullable":false,"type":"float64"}]}"#,
+            "point separated XYM -",
+        ),
+        (
+            r#"{"struct":[{"name":"m","nullable":false,"type":"float64"},{"name":"y","nullable":false,"type":"float64"},{"name":"x","nullable":false,"type":"float64"}]}"#,
+            "point separated XYM -",
+        ),
+        (
+            r#"{"struct":[{"name":"a","nullable":false,"type":"float64"},{"name":"b","nullable":false,"type":"float64"},{"name":"c","nullable":false,"type":"float64"}]}"#,
+            "point separated XYZ -",
+        ),
+        (
+            r#"{"struct":[{"name":"x","nullable":false,"type":"float64"},{"name":"x","nullable":false,"type":"float64"},{"name":"m","nullable":false,"type":"float64"}]}"#,
+            "point separated XYZ -",
+        ),
+        (
+            r#"{"struct":[{"name":"a","nullable":false,"type":"float64"},{"name":"b","nullable":false,"type":"float64"}]}"#,
+            "point separated XY -",
+        ),
+        (
+            r#"{"struct":[{"name":"x","nullable":false,"type":"float64"},{"name":"y","nullable":false,"type":"float64"},{"name":"z","nullable":false,"type":"float64"},{"name":"m","nullable":false,"type":"float64"}]}"#,
+            "point separated XYZM -",
+        ),
+        (
+            r#"{"fixed_size_list":{"name":"xym","nullable":false,"type":"float64"},"size":3}"#,
+            "point interleaved XYM -",
+        ),
+        (
+            r#"{"fixed_size_list":{"name":"item","nullable":false,"type":"float64"},"size":3}"#,
+            "point interleaved XYZ -",
+        ),
+        (
+            r#"{"fixed_size_list":{"name":"xym","nullable":false,"type":"float64"},"size":2}"#,
+            "point interleaved XY -",
+        ),
+        (
+            r#"{"fixed_size_list":{"name":"xym","nullable":false,"type":"float64"},"size":4}"#,
+            "point interleaved XYZM -",
+        ),
+        (r#""binary""#, "wkb - - -"),
+        (r#""large_binary""#, "large_wkb - - -"),
+        (r#""binary_view""#, "wkb_view - - -"),
+        (r#""utf8""#, "wkt - - -"),
+        (r#""large_utf8""#, "large_wkt - - -"),
+        (r#""utf8_view""#, "wkt_view - - -"),
+        (
+            r#"{"struct":[{"name":"x","nullable":false,"type":"float64"},{"name":"y","nullable":false,"type":"float64"},{"name":"m","nullable":false,"type":"utf8"}]}"#,
+            "error invalid",
+        ),
+        (
+            r#"{"fixed_size_list":{"name":"xym","nullable":false,"type":"float64"},"size":5}"#,
+            "error invalid",
+        ),
+        (
+            r#"{"fixed_size_list":{"name":"xy","nullable":false,"type":"float32"},"size":2}"#,
+            "error invalid",
+        ),
+        (
+            r#"{"struct":[{"name":"x","nullable":false,"type":"float64"}]}"#,
+            "error invalid",
+        ),
+        (
+            r#"{"list":{"name":"v","nullable":false,"type":{"struct":[{"name":"x","nullable":false,"type":"float64"},{"name":"y","nullable":false,"type":"float64"}]}}}"#,
+            "error invalid",
+        ),
+        (r#""int32""#, "error invalid"),
+    ];
+    for (data_type, answer) in rows {
+        let line = format!(in alloc; r#"{{"name":"p","nullable":true,"type":{data_type}}}"#)?;
+        let answered = answer_line(alloc, Infer, line.as_bytes())?;
+        assert_eq!(rt; answered.as_str(), answer, "{line}");
+    }
+    Ok(())
+}
+
+#[test]
+fn carry_the_metadata(rt: HostRuntime) -> Result<(), Fail> {
+    let alloc = rt.alloc();
+    let rows = [
+        (
+            r#"{"metadata":{"ARROW:extension:metadata":"{\"crs\":\"EPSG:4326\",\"crs_type\":\"authority_code\",\"edges\":\"spherical\"}","ARROW:extension:name":"geoarrow.point"},"name":"p","nullable":true,"type":{"fixed_size_list":{"name":"xy","nullable":false,"type":"float64"},"size":2}}"#,
+            Read,
+            r#"point interleaved XY {"crs":"EPSG:4326","crs_type":"authority_code","edges":"spherical"}"#,
+        ),
+        (
+            r#"{"metadata":{"ARROW:extension:metadata":"{\"crs\":\"EPSG:4326\",\"crs_type\":\"authority_code\",\"edges\":\"spherical\"}","ARROW:extension:name":"geoarrow.point"},"name":"p","nullable":true,"type":{"fixed_size_list":{"name":"xy","nullable":false,"type":"float64"},"size":2}}"#,
+            Infer,
+            r#"point interleaved XY {"crs":"EPSG:4326","crs_type":"authority_code","edges":"spherical"}"#,
+        ),
+        (
+            r#"{"metadata":{"ARROW:extension:metadata":"{\"crs_type\":\"srid\"}","ARROW:extension:name":"geoarrow.wkb","k":"v"},"name":"g","nullable":false,"type":"binary"}"#,
+            Read,
+            "wkb - - -",
+        ),
+        (
+            r#"{"metadata":{"ARROW:extension:metadata":"{\"crs\":\"X\",\"epoch\":2020.5}","ARROW:extension:name":"geoarrow.wkb"},"name":"g","nullable":true,"type":"binary"}"#,
+            Read,
+            r#"wkb - - {"crs":"X"}"#,
+        ),
+        (
+            r#"{"metadata":{"ARROW:extension:metadata":"{\"edges\":\"karney\"}","ARROW:extension:name":"example.other"},"name":"g","nullable":true,"type":"binary"}"#,
+            Infer,
+            r#"wkb - - {"crs":null,"edges":"karney"}"#,
+        ),
+        (
+            r#"{"metadata":{"ARROW:extension:metadata":"not valid json","ARROW:extension:name":"example.other"},"name":"g","nullable":true,"type":"binary"}"#,
+            Infer,
+            "error arrow",
+        ),
+        (
+            r#"{"metadata":{"ARROW:extension:name":"geoarrow.geometry"},"name":"g","nullable":true,"type":{"mode":"dense","union":[]}}"#,
+            Infer,
+            "error arrow",
+        ),
+        (
+            r#"{"metadata":{"ARROW:extension:name":"geoarrow.wkb"},"name":"g","nullable":true,"type":"utf8"}"#,
+            Infer,
+            "error invalid",
+        ),
+    ];
+    for (line, command, answer) in rows {
+        let answered = answer_line(alloc, command, line.as_bytes())?;
+        assert_eq!(rt; answered.as_str(), answer, "{line}");
+    }
+    Ok(())
+}
+
+#[test]
+fn are_fields_in_normal_form(rt: HostRuntime) -> Result<(), Fail> {
+    let alloc = rt.alloc();
+    let rows = [
+        (POINT, POINT),
+        (
+            r#"{"metadata":{"ARROW:extension:metadata":"{\"crs\":\"EPSG:4326\",\"crs_type\":\"authority_code\",\"edges\":\"spherical\"}","ARROW:extension:name":"geoarrow.point"},"name":"p","nullable":true,"type":{"fixed_size_list":{"name":"xy","nullable":false,"type":"float64"},"size":2}}"#,
+            r#"{"metadata":{"ARROW:extension:metadata":"{\"crs\":\"EPSG:4326\",\"crs_type\":\"authority_code\",\"edges\":\"spherical\"}","ARROW:extension:name":"geoarrow.point"},"name":"p","nullable":true,"type":{"fixed_size_list":{"name":"xy","nullable":false,"type":"float64"},"size":2}}"#,
+        ),
+        (
+            r#"{"metadata":{"ARROW:extension:metadata":"{\"crs_type\":\"srid\"}","ARROW:extension:name":"geoarrow.wkb","k":"v"},"name":"g","nullable":false,"type":"binary"}"#,
+            r#"{"metadata":{"ARROW:extension:name":"geoarrow.wkb","k":"v"},"name":"g","nullable":false,"type":"binary"}"#,
+        ),
+        (
+            r#"{"metadata":{"ARROW:extension:name":"geoarrow.linestring"},"name":"l","nullable":true,"type":{"large_list":{"name":"item","nullable":true,"type":{"struct":[{"name":"a","nullable":true,"type":"utf8"},{"name":"b","nullable":true,"type":"utf8"}]}}}}"#,
+            r#"{"metadata":{"ARROW:extension:name":"geoarrow.linestring"},"name":"l","nullable":true,"type":{"list":{"name":"vertices","nullable":false,"type":{"struct":[{"name":"x","nullable":false,"type":"float64"},{"name":"y","nullable":false,"type":"float64"}]}}}}"#,
+        ),
+    ];
+    for (line, answer) in rows {
+        let answered = answer_line(alloc, Canon, line.as_bytes())?;
+        assert_eq!(rt; answered.as_str(), answer, "{line}");
+    }
+    Ok(())
+}
+
+#[test]
+fn say_what_columns_hold(rt: HostRuntime) -> Result<(), Fail> {
+    let alloc = rt.alloc();
+    let rows = [
+        (POINT, "geometry point separated XY -"),
+        (
+            r#"{"name":"p","nullable":true,"type":{"struct":[{"name":"x","nullable":false,"type":"float64"},{"name":"y","nullable":false,"type":"float64"},{"name":"m","nullable":false,"type":"float64"}]}}"#,
+            "inferred point separated XYM -",
+        ),
+        (r#"{"name":"n","nullable":true,"type":"int32"}"#, "other"),
+        (
+            r#"{"metadata":{"ARROW:extension:name":"geoarrow.wkb"},"name":"g","nullable":true,"type":"utf8"}"#,
+            "faulty invalid",
+        ),
+        (
+            r#"{"metadata":{"ARROW:extension:name":"geoarrow.geometry"},"name":"g","nullable":true,"type":{"mode":"dense","union":[]}}"#,
+            "faulty arrow",
+        ),
+        (
+            r#"{"metadata":{"ARROW:extension:metadata":"not valid json"},"name":"n","nullable":true,"type":"binary"}"#,
+            "faulty arrow",
+        ),
+        ("", "error field"),
+    ];
+    for (line, answer) in rows {
+        let answered = answer_line(alloc, Columns, line.as_bytes())?;
+        assert_eq!(rt; answered.as_str(), answer, "{line}");
+    }
     Ok(())
 }
 
@@ -155,7 +516,7 @@ fn to_what_is_no_field(rt: HostRuntime) -> Result<(), Fail> {
         br#"{"name":"f","nullable":true,"type":{"list":{"name":"x","nullable":true,"type":"null"},"zz":1}}"#,
     ];
     for line in rows {
-        for command in [Read, Canon] {
+        for command in [Read, Infer, Canon, Columns] {
             let answered = answer_line(alloc, command, line)?;
             assert_eq!(rt; answered.as_str(), "error field");
         }
@@ -164,35 +525,52 @@ fn to_what_is_no_field(rt: HostRuntime) -> Result<(), Fail> {
 }
 
 /// What a run writes for an input, and how it ends.
-fn run_on(rt: &HostRuntime, command: Command, input: &[u8]) -> Result<(Vec<u8>, RunEnd), Fail> {
+fn run_on(rt: &HostRuntime, command: Command, input: &[u8]) -> (Vec<u8>, RunEnd) {
     let mut reader = input;
     let mut output = Vec::new(rt.alloc());
     let end = run(rt.alloc(), command, &mut reader, &mut output);
-    Ok((output, end))
+    (output, end)
 }
 
 #[test]
 fn to_the_lines_of_an_input(rt: HostRuntime) -> Result<(), Fail> {
-    let alloc = rt.alloc();
-    let mut input = String::from_str(alloc, POINT)?;
-    input.push_str("\n")?;
-    let (output, end) = run_on(&rt, Read, input.as_bytes())?;
-    assert_eq!(rt; output.as_slice(), b"point separated XY -\n".as_slice());
-    assert_eq!(rt; end, RunEnd::Done);
-    let (output, end) = run_on(&rt, Canon, input.as_bytes())?;
-    assert_eq!(rt; output.as_slice(), input.as_bytes());
-    assert_eq!(rt; end, RunEnd::Done);
-    let (output, end) = run_on(&rt, Read, b"")?;
-    assert!(rt; output.is_empty());
-    assert_eq!(rt; end, RunEnd::Done);
+    let mut one = String::from_str(rt.alloc(), POINT)?;
+    one.push_str("\n")?;
+    let mut long = String::from_str(rt.alloc(), one.as_str())?;
     for _ in 0..1_048_577 {
-        input.push_str("a")?;
+        long.push_str("a")?;
     }
-    let (output, end) = run_on(&rt, Read, input.as_bytes())?;
-    assert_eq!(rt;
-        output.as_slice(),
-        b"point separated XY -\nerror input\n".as_slice()
-    );
-    assert_eq!(rt; end, RunEnd::InputFault);
+    let three = r#"[]
+
+{"metadata":{"ARROW:extension:name":"geoarrow.wkb"},"name":"g","nullable":true,"type":"utf8"}"#;
+    let rows = [
+        (Read, one.as_str(), "point separated XY -\n", RunEnd::Done),
+        (Canon, one.as_str(), one.as_str(), RunEnd::Done),
+        (Infer, POINT, "point separated XY -\n", RunEnd::Done),
+        (
+            Columns,
+            POINT,
+            "geometry point separated XY -\n",
+            RunEnd::Done,
+        ),
+        (
+            Read,
+            three,
+            "error field\nerror field\nerror invalid\n",
+            RunEnd::Done,
+        ),
+        (Read, "", "", RunEnd::Done),
+        (
+            Read,
+            long.as_str(),
+            "point separated XY -\nerror input\n",
+            RunEnd::InputFault,
+        ),
+    ];
+    for (command, input, answers, ended) in rows {
+        let (output, end) = run_on(&rt, command, input.as_bytes());
+        assert_eq!(rt; output.as_slice(), answers.as_bytes());
+        assert_eq!(rt; end, ended);
+    }
     Ok(())
 }

@@ -9,7 +9,7 @@ loop-field-preserved c =
     let field = c.field-item.result in
     let column = c.in_ok-check_column.field-0 in
     let taken : take (c.loop-field.field-index + 1) c.args.fields.now ≡ take c.loop-field.field-index c.args.fields.now ++ field ∷ [] =
-            take_more c.args.fields.now c.loop-field.field-index _ c.loop-field-test.true ∙ ap (λ f. take c.loop-field.field-index c.args.fields.now ++ f ∷ []) (sym c.field-item.is) in
+    take_more c.args.fields.now c.loop-field.field-index _ c.loop-field-test.true ∙ ap (λ f. take c.loop-field.field-index c.args.fields.now ++ f ∷ []) (sym c.field-item.is) in
     let pushed : c.push.new.self.items ≡ c.loop-field.columns.items ++ column ∷ [] = search rules in
     let here : IsColumnOf field column = search rules in
     report_next c.args.fields.now c.loop-field.field-index c.loop-field.columns.items c.push.new.self.items field column taken pushed c.loop-field.invariant here

@@ -1,7 +1,5 @@
-use Rattle.std.proofs.Common.{◌≡◌, rules, subst}
-use Rattle.std.specs.Prelude.{Option}
-use Rattle.arrow_values.specs.Tree.{Text}
-use Rattle.arrow_values.specs.Texts.{extension_metadata, text_of}
+use Rattle.std.proofs.Common.{◌≡◌, subst}
+use Rattle.arrow_values.specs.Texts.{extension_metadata}
 use Rattle.geoarrow_meta.specs.declared.metadata.Metadata.{Metadata}
 use Rattle.geoarrow_meta.specs.Read.{TextStandsFor}
 use Rattle.geoarrow_native.proofs.Writing.{read_once}

@@ -1,6 +1,6 @@
 use Rattle.std.proofs.Common.{rules, inr}
 use Rattle.std.proofs.lemmas.Result.{IfErr-weaker}
-use Rattle.geoarrow_schema.specs.Reads.{HasGeoArrowName, ReadsAsNone}
+use Rattle.geoarrow_schema.specs.Reads.{HasGeoArrowName}
 use Rattle.geoarrow_schema.specs.Infers.{InfersNone}
 use Rattle.geoarrow_schema.proofs.Reading.{none_unnamed}
 use Rattle.geoarrow_schema.proofs.Inferring.{none_where_named}
