@@ -88,12 +88,12 @@ fn same_kind(one: Kind, other: Kind) -> bool
     }
 }
 
-/// The field as the normal form of a type is written.
+/// The field as the normal form of a type is written: as the type itself is, since nothing writes what the normal form
+/// drops.
 fn canonical(alloc: Global, field: &Field, found: GeoArrowType) -> Result<Field, ArrowError>
     ensures written { IfOk result (λ f. f ≡ rewritten field.now (kind_of found) (normal (meta_of found))) }
     ensures reads_back { IfOk result (λ f. ReadsNormally f (kind_of found) (meta_of found)) }
     ensures refused { IfErr result IsMemory }
 {
-    let normal = found.normalized(alloc)?;
-    normal.rewrite(alloc, field)
+    found.rewrite(alloc, field)
 }

@@ -288,7 +288,7 @@ fn nested(alloc: Global, name: &str, lists: usize) -> Result<String, AllocError>
     named(alloc, name, data_type.as_str())
 }
 
-/// Lists that are too many for a type, and past 126 objects and arrays in one another too many for a line.
+/// Lists that are too many for a type, and past 127 objects and arrays in one another too many for a line.
 #[test]
 fn refuse_deep_lists(rt: HostRuntime) -> Result<(), Fail> {
     let alloc = rt.alloc();

@@ -19,6 +19,8 @@ mod metadata;
 #[cfg(test)]
 mod names;
 #[cfg(test)]
+mod normal;
+#[cfg(test)]
 mod reading;
 #[cfg(test)]
 mod types;
