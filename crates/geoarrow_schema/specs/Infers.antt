@@ -13,7 +13,7 @@ use Rattle.geoarrow_layout.specs.Layouts.{layout}
 use Rattle.geoarrow_meta.specs.declared.metadata.Metadata.{Metadata}
 use Rattle.geoarrow_meta.specs.Read.{TextStandsFor}
 use Rattle.geoarrow_schema.specs.declared.types.GeoArrowType.{GeoArrowType}
-use Rattle.geoarrow_schema.specs.Types.{kind_of, meta_of, SameType}
+use Rattle.geoarrow_schema.specs.Types.{kind_of, meta_of}
 use Rattle.geoarrow_schema.specs.Reads.{HasGeoArrowName}
 
 -- the tree is taken for that of a kind: a point, well-known binary or well-known text
@@ -30,10 +30,6 @@ Infers f g = ¬ HasGeoArrowName f × TextStandsFor (extension_metadata f) (meta_
 -- no type has it
 abbrev pub InfersNone : FieldTree → Type 0
 InfersNone f = (g : GeoArrowType) → ¬ Infers f g
-
--- no other type has it
-abbrev pub InfersAlone : FieldTree → GeoArrowType → Type 0
-InfersAlone f g = (h : GeoArrowType) → Infers f h → SameType h g
 
 -- the variant by which a field without a GeoArrow name is refused: `Arrow` for its metadata text, and `InvalidGeoArrow` for its tree
 abbrev pub RefusedForWant : FieldTree → GeoArrowError → Type 0
