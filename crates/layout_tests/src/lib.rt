@@ -6,8 +6,6 @@ mod boxes;
 #[cfg(test)]
 mod dimensions;
 #[cfg(test)]
-mod famine;
-#[cfg(test)]
 mod faults;
 #[cfg(test)]
 mod inference;

@@ -3,7 +3,10 @@
 use std::alloc::{AllocError, Global};
 
 /// Below the size from which a C heap asks the system for each block on its own.
-const RESERVE: usize = 65536;
+const RESERVE: usize = 114_688;
+
+/// More blocks than a famine takes in all its turns.
+const BLOCKS: usize = 500_000;
 
 /// All memory but what is left to be had.
 #[derive(Drop)]
@@ -39,7 +42,7 @@ fn take_small(alloc: Global, blocks: &mut Vec<Vec<u8>>) {
 impl Famine {
     /// Takes all memory but `rounds` reserves.
     pub fn new(alloc: Global, rounds: usize) -> Result<Famine, AllocError> {
-        let mut blocks = Vec::with_capacity(alloc, 60_000)?;
+        let mut blocks = Vec::with_capacity(alloc, BLOCKS)?;
         let mut reserves = Vec::with_capacity(alloc, rounds)?;
         for _ in 0..rounds {
             reserves.push(Vec::with_capacity(alloc, RESERVE)?)?;
