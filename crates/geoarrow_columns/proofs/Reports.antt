@@ -4,13 +4,13 @@ use Rattle.arrow_values.specs.Tree.{FieldTree}
 use Rattle.arrow_values.specs.Errors.{IsGeoMemory}
 use Rattle.arrow_values.specs.declared.error.GeoArrowError.{GeoArrowError}
 use Rattle.arrow_values.specs.declared.error.GeoArrowError.TheVariants.{Arrow as OfArrow, InvalidGeoArrow as Invalid}
-use Rattle.geoarrow_schema.specs.Reads.{HasGeoArrowName, ReadsAsNone, RefusedAs}
+use Rattle.geoarrow_schema.specs.Reads.{HasGeoArrowName}
 use Rattle.geoarrow_schema.specs.Infers.{InfersNone, RefusedForWant}
 use Rattle.geoarrow_columns.specs.declared.check.ColumnFault.{ColumnFault}
 use Rattle.geoarrow_columns.specs.declared.check.ColumnFault.TheVariants.{Arrow, InvalidGeoArrow}
 use Rattle.geoarrow_columns.specs.declared.check.Column.{Column}
 use Rattle.geoarrow_columns.specs.declared.check.Column.TheVariants.{Faulty}
-use Rattle.geoarrow_columns.specs.Report.{IsColumnOf, IsReport, IsFaultOf, IsOther, IsUnread}
+use Rattle.geoarrow_columns.specs.Report.{IsRefusedBy, IsRefusedFor, IsColumnOf, IsReport, IsFaultOf, IsOther, IsUnread}
 
 report_more : (fs : List FieldTree) (cs : List Column) (f : FieldTree) (c : Column) → IsReport fs cs → IsColumnOf f c → IsReport (fs ++ f ∷ []) (cs ++ c ∷ [])
 report_more [] [] f c h g = (g, tt)
@@ -29,10 +29,16 @@ without : {P : Type 0} (e : GeoArrowError) → ¬ IsGeoMemory e → IsGeoMemory 
 without e rich (inl m) = absurd (rich m)
 without e rich (inr p) = p
 
-pub refused : (f : FieldTree) (e : GeoArrowError) (fault : ColumnFault) → ¬ IsGeoMemory e → IsGeoMemory e ⊎ RefusedAs f e → IsGeoMemory e ⊎ ReadsAsNone f → HasGeoArrowName f → IsFaultOf e fault → IsColumnOf f (Faulty fault)
-refused f (Invalid s) fault rich how none named is = subst (λ x. IsColumnOf f (Faulty x)) (sym is) ((named, without (Invalid s) rich none), without (Invalid s) rich how)
-refused f (OfArrow a) fault rich how none named is = subst (λ x. IsColumnOf f (Faulty x)) (sym is) (inl ((named, without (OfArrow a) rich none), without (OfArrow a) rich how))
-refused f e fault rich how none named is = absurd (without e rich how)
+-- a refusal is for the variant of its error
+pub refused_for : (f : FieldTree) (e : GeoArrowError) (fault : ColumnFault) → ¬ IsGeoMemory e → IsFaultOf e fault → IsRefusedBy f e → IsRefusedFor f fault
+refused_for f (Invalid s) fault rich is (named, none, how) = subst (IsRefusedFor f) (sym is) ((named, without (Invalid s) rich none), without (Invalid s) rich how)
+refused_for f (OfArrow a) fault rich is (named, none, how) = subst (IsRefusedFor f) (sym is) ((named, without (OfArrow a) rich none), without (OfArrow a) rich how)
+refused_for f e fault rich is by = absurd (without e rich by.2)
+
+-- and a column of that
+pub faulty : (f : FieldTree) (fault : ColumnFault) → IsRefusedFor f fault → IsColumnOf f (Faulty fault)
+faulty f InvalidGeoArrow h = h
+faulty f Arrow h = inl h
 
 pub other : (f : FieldTree) (e : GeoArrowError) → ¬ IsGeoMemory e → ¬ HasGeoArrowName f → IsGeoMemory e ⊎ InfersNone f → IsGeoMemory e ⊎ (¬ HasGeoArrowName f → RefusedForWant f e) → IsFaultOf e InvalidGeoArrow → IsOther f
 other f (Invalid s) rich unnamed none how is = (unnamed, without (Invalid s) rich none, without (Invalid s) rich how unnamed)

@@ -2,11 +2,12 @@
 use Rattle.std.specs.Prelude.{◌≡◌, ◌⊎◌, List, [], ◌∷◌, ⊤}
 use Rattle.arrow_values.specs.Tree.{FieldTree}
 use Rattle.arrow_values.specs.Texts.{extension_metadata}
+use Rattle.arrow_values.specs.Errors.{IsGeoMemory}
 use Rattle.arrow_values.specs.declared.error.GeoArrowError.{GeoArrowError}
 use Rattle.arrow_values.specs.declared.error.GeoArrowError.TheVariants.{InvalidGeoArrow as Invalid}
 use Rattle.geoarrow_meta.specs.declared.metadata.Metadata.{Metadata}
 use Rattle.geoarrow_meta.specs.Read.{TextStandsFor}
-use Rattle.geoarrow_schema.specs.Reads.{HasGeoArrowName, Reads, ReadsAsNone, IsForeign}
+use Rattle.geoarrow_schema.specs.Reads.{HasGeoArrowName, Reads, ReadsAsNone, RefusedAs, IsForeign}
 use Rattle.geoarrow_schema.specs.Infers.{Infers, InfersNone}
 use Rattle.geoarrow_columns.specs.declared.check.ColumnFault.{ColumnFault}
 use Rattle.geoarrow_columns.specs.declared.check.ColumnFault.TheVariants.{Arrow, InvalidGeoArrow}
@@ -16,6 +17,15 @@ use Rattle.geoarrow_columns.specs.declared.check.Column.TheVariants.{Geometry, I
 -- a GeoArrow name stands on the field, and it is read as no type
 abbrev pub IsRefused : FieldTree → Type 0
 IsRefused f = HasGeoArrowName f × ReadsAsNone f
+
+-- a field is refused for that: `InvalidGeoArrow` where it is foreign, and `Arrow` else
+abbrev pub IsRefusedFor : FieldTree → ColumnFault → Type 0
+IsRefusedFor f InvalidGeoArrow = IsRefused f × IsForeign f
+IsRefusedFor f Arrow = IsRefused f × ¬ IsForeign f
+
+-- a GeoArrow name stands on the field, and it is refused by the error, unless that is want of memory
+abbrev pub IsRefusedBy : FieldTree → GeoArrowError → Type 0
+IsRefusedBy f e = HasGeoArrowName f × (IsGeoMemory e ⊎ ReadsAsNone f) × (IsGeoMemory e ⊎ RefusedAs f e)
 
 -- no GeoArrow name stands on the field, and its metadata text stands for no metadata
 abbrev pub IsUnread : FieldTree → Type 0
@@ -30,8 +40,8 @@ abbrev pub IsColumnOf : FieldTree → Column → Type 0
 IsColumnOf f (Geometry g) = Reads f g
 IsColumnOf f (Inferred g) = Infers f g
 IsColumnOf f Other = IsOther f
-IsColumnOf f (Faulty InvalidGeoArrow) = IsRefused f × IsForeign f
-IsColumnOf f (Faulty Arrow) = (IsRefused f × ¬ IsForeign f) ⊎ IsUnread f
+IsColumnOf f (Faulty InvalidGeoArrow) = IsRefusedFor f InvalidGeoArrow
+IsColumnOf f (Faulty Arrow) = IsRefusedFor f Arrow ⊎ IsUnread f
 
 -- that is said of each field, in order
 abbrev pub IsReport : List FieldTree → List Column → Type 0

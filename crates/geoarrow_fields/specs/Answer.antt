@@ -2,12 +2,11 @@
 use Rattle.std.specs.Prelude.{◌≡◌, ◌⊎◌, MatchOption, codes}
 use Rattle.arrow_values.specs.Tree.{FieldTree}
 use Rattle.geoarrow_schema.specs.declared.types.GeoArrowType.{GeoArrowType}
-use Rattle.geoarrow_schema.specs.Reads.{HasGeoArrowName, Reads, IsForeign}
+use Rattle.geoarrow_schema.specs.Reads.{HasGeoArrowName, Reads}
 use Rattle.geoarrow_schema.specs.Normal.{IsCanonical}
 use Rattle.geoarrow_columns.specs.declared.check.ColumnFault.{ColumnFault}
-use Rattle.geoarrow_columns.specs.declared.check.ColumnFault.TheVariants.{Arrow, InvalidGeoArrow}
 use Rattle.geoarrow_columns.specs.declared.check.Column.{Column}
-use Rattle.geoarrow_columns.specs.Report.{IsRefused, IsColumnOf}
+use Rattle.geoarrow_columns.specs.Report.{IsRefusedFor, IsColumnOf}
 use Rattle.field_lines.specs.Line.{field_of_line, line_of_field}
 use Rattle.geoarrow_fields.specs.declared.Command.{Command}
 use Rattle.geoarrow_fields.specs.declared.Command.TheVariants.{Read, Infer, Canon, Columns}
@@ -17,11 +16,6 @@ use Rattle.geoarrow_fields.specs.Words.{type_text, error_text, column_text, infe
 -- no name of GeoArrow
 abbrev pub AnswersNone : FieldTree → Bytes → Type 0
 AnswersNone f answer = ¬ HasGeoArrowName f × (answer ≡ codes "none")
-
--- a field is refused for that: `InvalidGeoArrow` where it is foreign, and `Arrow` else
-abbrev pub IsRefusedFor : FieldTree → ColumnFault → Type 0
-IsRefusedFor f InvalidGeoArrow = IsRefused f × IsForeign f
-IsRefusedFor f Arrow = IsRefused f × ¬ IsForeign f
 
 -- a name of GeoArrow, and no type
 abbrev pub AnswersRefused : FieldTree → Bytes → Type 0

@@ -75,7 +75,6 @@ fn answer_columns(alloc: Global, field: &Field) -> Result<String, AllocError>
 }
 
 /// The answer to a field that is refused by that error, or want of memory.
-#[tactic(auto, using(crate::proofs::Refusals::refused_for))]
 fn answer_refused(alloc: Global, field: &Field, error: &GeoArrowError) -> Result<String, AllocError>
     requires named { HasGeoArrowName field.now }
     requires none { IsGeoMemory error.now ⊎ ReadsAsNone field.now }

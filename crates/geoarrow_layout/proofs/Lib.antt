@@ -25,3 +25,4 @@ pub mod UnionChanges
 pub mod NamesSteps
 pub mod Distinct
 pub mod TableSteps
+pub mod Widths

@@ -1,9 +1,10 @@
 //! The data types that are written.
-ghost use Rattle.std.specs.Prelude.{◌≡◌, ◌++◌, [], false, pos, map, IfOk, IsOk};
+ghost use Rattle.std.specs.Prelude.{◌≡◌, ◌++◌, [], false, pos, map, None, IfOk, IsOk, IsTrue};
 ghost use Rattle.std.specs.List.{zip};
 ghost use Rattle.arrow_values.specs.Tree.{list};
 ghost use Rattle.arrow_values.specs.View.{tree};
-ghost use Rattle.geoarrow_layout.specs.Kinds.{size_of};
+ghost use Rattle.arrow_values.specs.Union.{AreUnionParts, are_type_ids, shared_id};
+ghost use Rattle.geoarrow_layout.specs.Kinds.{size_of, type_id_of};
 ghost use Rattle.geoarrow_layout.specs.Layouts.{coordinate, coordinate_names, leaf_layout, lists_over, over_leaf_layout, member_field, members_over, mixed_members, mixed_layout, native_layout, dimension_members, geometry_layout, box_names, box_layout, bytes_layout, text_layout, layout};
 ghost use Rattle.geoarrow_layout.specs.Shapes.{IsStructured};
 
@@ -11,7 +12,7 @@ use crate::encodings::{Kind, NativeKind, Width};
 use crate::ids::type_id;
 use crate::kinds::{CoordType, Dimension};
 use crate::tables::{box_names, coordinate_names, interleaved_name, list_names, member_name};
-use arrow_values::{DataType, Field, Fields, UnionFields, UnionMode};
+use arrow_values::{AppendFault, ArrowError, DataType, Field, Fields, UnionFields, UnionMode};
 use std::alloc::{AllocError, Global};
 use std::collections::BTreeMap;
 
@@ -206,13 +207,14 @@ fn member_field(
     Ok(Field::from_parts(name, data_type, true, BTreeMap::new(alloc)))
 }
 
-/// A union of these kinds, each over a coordinate, in one dimension.
+/// A union of these kinds, no two the same, each over a coordinate, in one dimension.
 fn members_over(
     alloc: Global,
     kinds: &[NativeKind],
     coord_type: CoordType,
     dimension: Dimension,
 ) -> Result<UnionFields, AllocError>
+    requires { IsTrue (are_type_ids (map (λ k. pos (type_id_of k dimension)) kinds.now)) }
     ensures { IfOk result (λ ms. ms ≡ members_over kinds.now coord_type dimension) }
 {
     let mut ids = Vec::new(alloc);
@@ -263,20 +265,27 @@ fn dimension_members(
     joined(members, last)
 }
 
-/// The union of these members, whose ids are known to be distinct, so that only memory can be wanting.
+/// The union of these members, whose ids are those of a union, so that only memory can be wanting.
 fn union_of(alloc: Global, ids: Vec<i8>, fields: Vec<Field>) -> Result<UnionFields, AllocError>
+    requires { AreUnionParts ids.items fields.items }
     ensures { IfOk result (λ ms. ms ≡ zip ids.items fields.items) }
 {
-    UnionFields::try_new(alloc, ids, fields).map_err(|_| AllocError)
+    match UnionFields::try_new(alloc, ids, fields) {
+        Ok(members) => Ok(members),
+        Err(ArrowError::OutOfMemory) => Err(AllocError),
+        Err(_) => unreachable!(),
+    }
 }
 
-/// The members of both unions, whose ids are known to be distinct, so that only memory can be wanting.
+/// The members of both unions, which share no id, so that only memory can be wanting.
 fn joined(mut members: UnionFields, last: UnionFields) -> Result<UnionFields, AllocError>
+    requires { shared_id members last ≡ None }
     ensures { IfOk result (λ ms. ms ≡ members ++ last) }
 {
     match members.append(last) {
         Ok(()) => Ok(members),
-        Err(_) => Err(AllocError),
+        Err((_, AppendFault::OutOfMemory)) => Err(AllocError),
+        Err((_, AppendFault::RepeatedId(_))) => unreachable!(),
     }
 }
 

@@ -1,7 +1,7 @@
 //! What one walk over a data type finds.
-ghost use Rattle.std.specs.Prelude.{◌≡◌, ◌≢◌, ◌<◌, ◌≤◌, ◌↔◌, Some, ℕ, MatchOption, ⊤};
+ghost use Rattle.std.specs.Prelude.{◌≡◌, ◌≢◌, ◌<◌, ◌≤◌, ◌↔◌, IsTrue, Some, ℕ, MatchOption, ⊤};
 ghost use Rattle.arrow_values.specs.View.{tree, field_trees};
-ghost use Rattle.arrow_values.specs.Tree.{Tree};
+ghost use Rattle.arrow_values.specs.Tree.{Tree, plain, float64};
 ghost use Rattle.geoarrow_layout.specs.Kinds.{interleaved_name};
 ghost use Rattle.geoarrow_layout.specs.Shapes.{ListsOver};
 ghost use Rattle.geoarrow_layout.specs.Summary.{place_in, known_names, is_float64, IsStruct, IsBottom, AreLevels};
@@ -102,8 +102,9 @@ fn name_place(name: &str) -> u8
 }
 
 /// Whether the data type is `Float64`.
-fn is_float64(data_type: &DataType) -> bool
-    ensures { result ≡ is_float64 (tree data_type.now) }
+pub(crate) fn is_float64(data_type: &DataType) -> bool
+    ensures value { result ≡ is_float64 (tree data_type.now) }
+    ensures same { IsTrue result ↔ (tree data_type.now ≡ plain float64) }
 {
     match data_type {
         DataType::Float64 => true,

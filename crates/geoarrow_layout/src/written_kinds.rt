@@ -1,6 +1,6 @@
 //! The kind that a data type was written for.
 ghost use Rattle.std.specs.Prelude.{◌≡◌, ◌↔◌, IsTrue, Some, Contains, map, false, [], codes};
-ghost use Rattle.arrow_values.specs.Tree.{plain, float64, list, struct};
+ghost use Rattle.arrow_values.specs.Tree.{list, struct};
 ghost use Rattle.arrow_values.specs.View.{tree, field_trees};
 ghost use Rattle.geoarrow_layout.specs.Layouts.{coordinate, leaf_layout, lists_over, member_layout, members_over, mixed_members, mixed_layout, native_layout, dimension_members, geometry_members, geometry_layout, box_layout, bytes_layout, text_layout, layout};
 ghost use Rattle.geoarrow_layout.specs.Bare.{IsBare, members_in};
@@ -9,6 +9,8 @@ use crate::build::list_size;
 use crate::encodings::{Kind, NativeKind, Width};
 use crate::ids::type_id;
 use crate::kinds::{CoordType, Dimension};
+use crate::naming::{bytes_width, text_width};
+use crate::summary::is_float64;
 use crate::tables::{box_names, coordinate_names, interleaved_name, list_names, member_name};
 use arrow_values::{DataType, Field, UnionMode};
 
@@ -51,22 +53,14 @@ fn is_layout(data_type: &DataType, kind: &Kind) -> bool
 fn is_bytes(data_type: &DataType, width: Width) -> bool
     ensures { IsTrue result ↔ (tree data_type.now ≡ bytes_layout width) }
 {
-    match width {
-        Width::Plain => matches!(data_type, DataType::Binary),
-        Width::Large => matches!(data_type, DataType::LargeBinary),
-        Width::View => matches!(data_type, DataType::BinaryView),
-    }
+    bytes_width(data_type) == Some(width)
 }
 
 /// Whether the data type is the one that is written for well-known text of that width.
 fn is_text(data_type: &DataType, width: Width) -> bool
     ensures { IsTrue result ↔ (tree data_type.now ≡ text_layout width) }
 {
-    match width {
-        Width::Plain => matches!(data_type, DataType::Utf8),
-        Width::Large => matches!(data_type, DataType::LargeUtf8),
-        Width::View => matches!(data_type, DataType::Utf8View),
-    }
+    text_width(data_type) == Some(width)
 }
 
 /// Whether the data type is the one that is written for the native kind.
@@ -95,13 +89,6 @@ fn is_bare(field: &Field, name: &str, nullable: bool) -> bool
         return false;
     }
     field.metadata().is_empty()
-}
-
-/// Whether the data type is `Float64`.
-fn is_float64(data_type: &DataType) -> bool
-    ensures { IsTrue result ↔ (tree data_type.now ≡ plain float64) }
-{
-    matches!(data_type, DataType::Float64)
 }
 
 /// Whether the field is a coordinate of that name.

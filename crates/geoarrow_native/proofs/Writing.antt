@@ -1,5 +1,6 @@
 -- What is written reads back.
 use Rattle.std.proofs.Common.{◌≡◌, ◌∙◌, refl, sym, subst, Option, Some, None, Bool}
+use Rattle.std.proofs.lemmas.Option.{same_Some}
 use Rattle.arrow_values.specs.Tree.{Text, Tree, FieldTree}
 use Rattle.arrow_values.specs.Texts.{set_extension}
 use Rattle.geoarrow_layout.specs.declared.encodings.Kind.{Kind}
@@ -26,14 +27,11 @@ metadata_set name (Some text) = refl
 pub written_reads : (n : Text) (b : Bool) (k : Kind) (m : Metadata) → Accepts (name_of k) (layout k) k → TextStandsFor (printed m) (normal m) → ReadsAs (written_field n b k m) k (normal m)
 unfolding ReadsAs
 written_reads n b k m column stands =
-    (name_set (name_of k) (printed m), column.1, subst (λ t. TextStandsFor t (normal m)) (sym (metadata_set (name_of k) (printed m))) stands)
-
-some_same : (x y : Text) → Some x ≡ Some y → x ≡ y
-some_same x y h = cc
+    ((name_set (name_of k) (printed m), column.1), subst (λ t. TextStandsFor t (normal m)) (sym (metadata_set (name_of k) (printed m))) stands)
 
 pub read_once : (f : FieldTree) → ((n : Text) (t : Tree) (j k : Kind) → Accepts n t j → Accepts n t k → j ≡ k)
     → ((m n : Metadata) → TextStandsFor (extension_metadata f) m → TextStandsFor (extension_metadata f) n → m ≡ n)
     → (j k : Kind) (m n : Metadata) → ReadsAs f j m → ReadsAs f k n → (j ≡ k) × (m ≡ n)
 unfolding ReadsAs
 read_once f one_kind one_metadata j k m n h g =
-    (one_kind (name_of j) f.tree j k (refl, h.1) (some_same (name_of j) (name_of k) (sym h.0 ∙ g.0), g.1), one_metadata m n h.2 g.2)
+    (one_kind (name_of j) f.tree j k (refl, h.0.1) (same_Some (name_of j) (name_of k) (sym h.0.0 ∙ g.0.0), g.0.1), one_metadata m n h.1 g.1)

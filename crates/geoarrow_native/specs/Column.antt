@@ -17,9 +17,13 @@ use Rattle.geoarrow_meta.specs.declared.metadata.Metadata.{Metadata}
 use Rattle.geoarrow_meta.specs.Written.{printed}
 use Rattle.geoarrow_meta.specs.Read.{TextStandsFor}
 
--- the field's extension name is that of the kind, its tree is of the kind, and its metadata text, or the absence of one, stands for the metadata
+-- the field's extension name is that of the kind, and its tree is of the kind
+abbrev pub IsColumn : FieldTree → Kind → Type 0
+IsColumn f k = (extension_name f ≡ Some (name_of k)) × Accepted k f.tree
+
+-- the field is a column of the kind, and its metadata text, or the absence of one, stands for the metadata
 unfoldable pub ReadsAs : FieldTree → Kind → Metadata → Type 0
-ReadsAs f k m = (extension_name f ≡ Some (name_of k)) × Accepted k f.tree × TextStandsFor (extension_metadata f) m
+ReadsAs f k m = IsColumn f k × TextStandsFor (extension_metadata f) m
 
 -- the field that is written for a kind and a metadata: that name and nullability, the kind's layout, and no metadata but the two extension keys
 abbrev pub written_field : Text → Bool → Kind → Metadata → FieldTree

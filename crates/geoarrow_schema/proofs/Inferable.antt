@@ -1,7 +1,7 @@
 -- What is written of points, well-known binary and text is taken for that.
-use Rattle.std.proofs.Common.{◌≡◌, ◌∙◌, refl, sym, subst, true, false, List}
-use Rattle.std.specs.Prelude.{ℕ, codes}
-use Rattle.std.specs.Str.{bytes_eq}
+use Rattle.std.proofs.Common.{◌≡◌, ◌∙◌, refl, sym, subst, true, false}
+use Rattle.std.specs.Prelude.{codes}
+use Rattle.std.proofs.lemmas.Bool.{false≢true}
 use Rattle.std.proofs.lemmas.Slice.Eq.{bytes_eq-Decides}
 use Rattle.arrow_values.specs.Tree.{FieldTree}
 use Rattle.geoarrow_layout.specs.declared.kinds.CoordType.{CoordType}
@@ -21,13 +21,10 @@ use Rattle.geoarrow_schema.specs.declared.types.GeoArrowType.{GeoArrowType}
 use Rattle.geoarrow_schema.specs.Types.{kind_of, meta_of}
 use Rattle.geoarrow_schema.specs.Infers.{Infers, InferredAs, IsInferable, IsBareColumn}
 
-apart : (x y : List ℕ) → bytes_eq x y ≡ false → x ≡ y → ⊥
-apart x y e h = let f : bytes_eq x y ≡ true = (bytes_eq-Decides x y).1 h in cc
-
 leaf_inferred : (c : CoordType) (d : Dimension) → Inferred (leaf_layout c d) c d
 unfolding SameNames
 leaf_inferred Interleaved XY = (refl, refl)
-leaf_inferred Interleaved XYZ = (refl, (refl, λ h. apart _ _ refl h))
+leaf_inferred Interleaved XYZ = (refl, (refl, λ same. false≢true ((bytes_eq-Decides _ _).1 same)))
 leaf_inferred Interleaved XYM = (refl, (refl, refl))
 leaf_inferred Interleaved XYZM = (refl, refl)
 leaf_inferred Separated XY = (refl, refl)

@@ -1,5 +1,6 @@
 -- What a tree is taken for.
-use Rattle.std.proofs.Common.{◌≡◌, ◌∙◌, sym, ap, subst, Option, Some, None, Result, Ok}
+use Rattle.std.proofs.Common.{◌≡◌, inl, inr, ◌∙◌, sym, ap, subst, Option, Some, None, Result, Ok}
+use Rattle.std.proofs.lemmas.Option.{same_Some}
 use Rattle.std.specs.Arc.{arc_value}
 use Rattle.arrow_values.specs.Tree.{Tree, FieldTree}
 use Rattle.arrow_values.specs.Texts.{extension_metadata}
@@ -17,9 +18,10 @@ use Rattle.geoarrow_meta.specs.declared.metadata.Metadata.{Metadata}
 use Rattle.geoarrow_meta.specs.Read.{TextStandsFor}
 use Rattle.geoarrow_native.specs.Parts.{Shared}
 use Rattle.geoarrow_schema.specs.declared.types.GeoArrowType.{GeoArrowType}
-use Rattle.geoarrow_schema.specs.Types.{kind_of, metadata_of, meta_of}
-use Rattle.geoarrow_schema.specs.Reads.{HasGeoArrowName}
-use Rattle.geoarrow_schema.specs.Infers.{InferredAs, Infers, InfersNone, AnswersInferred, IsStored, SerializedAs}
+use Rattle.geoarrow_schema.specs.Types.{kind_of, metadata_of, meta_of, SameType}
+use Rattle.geoarrow_schema.specs.Reads.{HasGeoArrowName, Reads}
+use Rattle.geoarrow_schema.specs.Infers.{InferredAs, Infers, ReadsOrInfers, InfersNone, AnswersInferred, IsStored, SerializedAs}
+use Rattle.geoarrow_schema.proofs.Reading.{read_has_name}
 
 -- no tree is both bytes and text
 apart : (w v : Width) (t : Tree) → IsBytes w t → IsText v t → ⊥
@@ -33,9 +35,6 @@ apart View Plain t h g = absurd cc
 apart View Large t h g = absurd cc
 apart View View t h g = absurd cc
 
-some_kind : (k l : Kind) → Some k ≡ Some l → k ≡ l
-some_kind k l h = cc
-
 abbrev ok_width : Width → Result Width LayoutFault
 ok_width w = Ok w
 
@@ -43,7 +42,7 @@ ok_same : (w v : Width) → ok_width w ≡ ok_width v → w ≡ v
 ok_same w v h = cc
 
 pub stored_as_bytes : (t : Tree) (w : Width) (r : Result Width LayoutFault) → r ≡ Ok w → AnswersOne r (λ v. IsBytes v t) → SerializedAs t (Some (Wkb w))
-stored_as_bytes t w r is a = λ k. (λ e. subst (IsStored t) (some_kind (Wkb w) k e) ((a w).0 is), λ h. back k h)
+stored_as_bytes t w r is a = λ k. (λ e. subst (IsStored t) (same_Some (Wkb w) k e) ((a w).0 is), λ h. back k h)
   where
     back : (k : Kind) → IsStored t k → Some (Wkb w) ≡ Some k
     back (Wkb v) h = ap (λ x. Some (Wkb x)) (ok_same w v (sym is ∙ (a v).1 h))
@@ -70,14 +69,11 @@ Pair = CoordType × Dimension
 abbrev some_pair : Pair → Option Pair
 some_pair p = Some p
 
-pair_same : (p q : Pair) → some_pair p ≡ some_pair q → p ≡ q
-pair_same p q h = cc
-
 pub point_inferred : (t : Tree) (p : Pair) (r : Option Pair) → r ≡ Some p → AnswersSome r (Inferred t) → AnswersInferred t (Some (Native Point p.0 p.1))
-point_inferred t p r is a = λ k. (λ e. subst (InferredAs t) (some_kind (Native Point p.0 p.1) k e) ((a p.0 p.1).0 is), λ h. back k h)
+point_inferred t p r is a = λ k. (λ e. subst (InferredAs t) (same_Some (Native Point p.0 p.1) k e) ((a p.0 p.1).0 is), λ h. back k h)
   where
     back : (k : Kind) → InferredAs t k → Some (Native Point p.0 p.1) ≡ Some k
-    back (Native Point b e) h = let q : p ≡ (b, e) = pair_same p (b, e) (sym is ∙ (a b e).1 h) in ap (λ x. Some (Native Point x.0 x.1)) q
+    back (Native Point b e) h = let q : p ≡ (b, e) = same_Some p (b, e) (sym is ∙ (a b e).1 h) in ap (λ x. Some (Native Point x.0 x.1)) q
     back (Native LineString b e) h = absurd h
     back (Native Polygon b e) h = absurd h
     back (Native MultiPoint b e) h = absurd h
@@ -129,3 +125,22 @@ none_for_tree f none g h = none (kind_of g) h.2
 pub none_where_named : (f : FieldTree) → HasGeoArrowName f → InfersNone f
 unfolding Infers
 none_where_named f named g h = h.0 named
+
+-- a field is taken for one type
+pub infers_once : (f : FieldTree) (r : Option Kind) → AnswersInferred f.tree r → ((m n : Metadata) → TextStandsFor (extension_metadata f) m → TextStandsFor (extension_metadata f) n → m ≡ n)
+    → (g h : GeoArrowType) → Infers f g → Infers f h → SameType g h
+unfolding Infers
+infers_once f r is once g h here there =
+    (same_Some (kind_of g) (kind_of h) (sym ((is (kind_of g)).1 here.2) ∙ (is (kind_of h)).1 there.2), once (meta_of g) (meta_of h) here.1 there.1)
+
+not_both : (f : FieldTree) (g h : GeoArrowType) → Reads f g → Infers f h → ⊥
+unfolding Infers
+not_both f g h read inferred = inferred.0 (read_has_name f g read)
+
+-- and read as it or taken for it
+pub taken_once : (f : FieldTree) → ((g h : GeoArrowType) → Reads f g → Reads f h → SameType g h) → ((g h : GeoArrowType) → Infers f g → Infers f h → SameType g h)
+    → (g h : GeoArrowType) → ReadsOrInfers f g → ReadsOrInfers f h → SameType g h
+taken_once f read inferred g h (inl p) (inl q) = read g h p q
+taken_once f read inferred g h (inr p) (inr q) = inferred g h p q
+taken_once f read inferred g h (inl p) (inr q) = absurd (not_both f g h p q)
+taken_once f read inferred g h (inr p) (inl q) = absurd (not_both f h g q p)

@@ -17,8 +17,7 @@ pub rewritten_reads : (f n : FieldTree) (k : Kind) (m : Metadata) → n ≡ rewr
     → Accepts (name_of k) (layout k) k → TextStandsFor (printed m) (normal m) → ReadsAs n k (normal m)
 unfolding ReadsAs
 rewritten_reads f n k m is sets column stands = (
-  sets EXTENSION_TYPE_NAME_KEY.now,
-  subst (Accepted k) (sym (ap (λ x. x.tree) is)) column.1,
+  (sets EXTENSION_TYPE_NAME_KEY.now, subst (Accepted k) (sym (ap (λ x. x.tree) is)) column.1),
   subst (λ t. TextStandsFor t (normal m)) (sym (sets EXTENSION_TYPE_METADATA_KEY.now)) stands,
 )
 

@@ -1,5 +1,5 @@
 -- What a field without a GeoArrow name is taken for.
-use Rattle.std.specs.Prelude.{◌≡◌, ◌↔◌, Option, Some, None, ⊤}
+use Rattle.std.specs.Prelude.{◌≡◌, ◌⊎◌, ◌↔◌, Option, Some, None, ⊤}
 use Rattle.arrow_values.specs.Tree.{Tree, FieldTree}
 use Rattle.arrow_values.specs.Texts.{extension_name, extension_metadata}
 use Rattle.arrow_values.specs.declared.error.GeoArrowError.{GeoArrowError}
@@ -14,7 +14,7 @@ use Rattle.geoarrow_meta.specs.declared.metadata.Metadata.{Metadata}
 use Rattle.geoarrow_meta.specs.Read.{TextStandsFor}
 use Rattle.geoarrow_schema.specs.declared.types.GeoArrowType.{GeoArrowType}
 use Rattle.geoarrow_schema.specs.Types.{kind_of, meta_of}
-use Rattle.geoarrow_schema.specs.Reads.{HasGeoArrowName}
+use Rattle.geoarrow_schema.specs.Reads.{HasGeoArrowName, Reads}
 
 -- the tree is taken for that of a kind: a point, well-known binary or well-known text
 abbrev pub InferredAs : Tree → Kind → Type 0
@@ -26,6 +26,10 @@ InferredAs t _ = ⊥
 -- no GeoArrow name stands on the field, its metadata text stands for the metadata of the type, and its tree is taken for its kind
 unfoldable pub Infers : FieldTree → GeoArrowType → Type 0
 Infers f g = ¬ HasGeoArrowName f × TextStandsFor (extension_metadata f) (meta_of g) × InferredAs f.tree (kind_of g)
+
+-- the field is read as the type or taken for it
+abbrev pub ReadsOrInfers : FieldTree → GeoArrowType → Type 0
+ReadsOrInfers f g = Reads f g ⊎ Infers f g
 
 -- no type has it
 abbrev pub InfersNone : FieldTree → Type 0

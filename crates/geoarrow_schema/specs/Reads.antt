@@ -8,7 +8,7 @@ use Rattle.geoarrow_layout.specs.declared.names.ExtensionName.{ExtensionName}
 use Rattle.geoarrow_layout.specs.declared.names.ExtensionName.TheVariants.{Wkb, Wkt}
 use Rattle.geoarrow_layout.specs.declared.encodings.Kind.{Kind}
 use Rattle.geoarrow_layout.specs.Kinds.{name_text, name_of}
-use Rattle.geoarrow_layout.specs.Shapes.{Accepted, Accepts}
+use Rattle.geoarrow_layout.specs.Shapes.{Accepts}
 use Rattle.geoarrow_layout.specs.Layouts.{layout}
 use Rattle.geoarrow_meta.specs.declared.metadata.Metadata.{Metadata}
 use Rattle.geoarrow_meta.specs.Written.{meta_value, printed}
@@ -24,10 +24,6 @@ HasName f n = extension_name f ≡ Some (name_text n)
 -- one of GeoArrow's names stands on the field
 abbrev pub HasGeoArrowName : FieldTree → Type 0
 HasGeoArrowName f = (n : ExtensionName) × HasName f n
-
--- the field's name and tree are those of a kind
-abbrev pub IsColumn : FieldTree → Kind → Type 0
-IsColumn f k = (extension_name f ≡ Some (name_of k)) × Accepted k f.tree
 
 -- the field's name, tree and metadata text stand for the type
 abbrev pub Reads : FieldTree → GeoArrowType → Type 0

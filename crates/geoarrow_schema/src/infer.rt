@@ -2,8 +2,8 @@
 ghost use Rattle.std.specs.Prelude.{◌≡◌, ◌⊎◌, ◌↔◌, Some, IfOk, IfErr};
 ghost use Rattle.arrow_values.specs.View.{tree};
 ghost use Rattle.arrow_values.specs.Errors.{IsGeoMemory};
-ghost use Rattle.geoarrow_schema.specs.Reads.{HasGeoArrowName, Reads, ReadsAsNone, RefusedAs};
-ghost use Rattle.geoarrow_schema.specs.Infers.{Infers, InfersNone, RefusedForWant, AnswersInferred, SerializedAs};
+ghost use Rattle.geoarrow_schema.specs.Reads.{HasGeoArrowName, ReadsAsNone, RefusedAs};
+ghost use Rattle.geoarrow_schema.specs.Infers.{Infers, ReadsOrInfers, InfersNone, RefusedForWant, AnswersInferred, SerializedAs};
 
 use crate::types::GeoArrowType;
 use arrow_values::{DataType, Field, GeoArrowError, GeoArrowResult};
@@ -24,7 +24,7 @@ impl GeoArrowType {
     /// else for want of memory alone.
     #[tactic(auto, using(crate::proofs::Reading::read_has_name))]
     pub fn from_arrow_field(alloc: Global, field: &Field) -> GeoArrowResult<GeoArrowType>
-        ensures ok { IfOk result (λ g. Reads field.now g ⊎ Infers field.now g) }
+        ensures ok { IfOk result (ReadsOrInfers field.now) }
         ensures inferred { IfOk result (λ g. ¬ HasGeoArrowName field.now → Infers field.now g) }
         ensures reads_none { IfErr result (λ e. IsGeoMemory e ⊎ ReadsAsNone field.now) }
         ensures infers_none { IfErr result (λ e. IsGeoMemory e ⊎ InfersNone field.now) }
@@ -54,7 +54,7 @@ fn infer(alloc: Global, field: &Field) -> GeoArrowResult<GeoArrowType>
 }
 
 /// The kind that a data type is taken for.
-fn infer_kind(data_type: &DataType) -> Option<Kind>
+pub(crate) fn infer_kind(data_type: &DataType) -> Option<Kind>
     ensures { AnswersInferred (tree data_type.now) result }
 {
     match infer_point(data_type) {

@@ -1,13 +1,20 @@
-//! Laws of the types, for the crates above: functions with nothing to run, whose contract is the law.
+//! Laws of the types, for the crates above: functions whose contract is the law.
 ghost use Rattle.geoarrow_schema.specs.declared.types.GeoArrowType.{GeoArrowType};
-ghost use Rattle.std.specs.Prelude.{◌≡◌};
+ghost use Rattle.std.specs.Prelude.{◌≡◌, ◌↔◌, IsTrue};
 ghost use Rattle.arrow_values.specs.Tree.{FieldTree};
 ghost use Rattle.geoarrow_meta.specs.Written.{empty};
+ghost use Rattle.geoarrow_schema.specs.Parts.{geometry_coord_type, geometry_meta, box_dimension, box_meta, serialized_meta};
 ghost use Rattle.geoarrow_schema.specs.Types.{kind_of, meta_of, SameType};
 ghost use Rattle.geoarrow_schema.specs.Reads.{Reads};
-ghost use Rattle.geoarrow_schema.specs.Infers.{Infers, IsInferable, IsBareColumn};
+ghost use Rattle.geoarrow_schema.specs.Infers.{Infers, ReadsOrInfers, IsInferable, IsBareColumn};
 
+use crate::boxes::BoxType;
+use crate::geometry::GeometryType;
+use crate::infer::infer_kind;
+use crate::serialized::{Encoding, SerializedType};
+use crate::types::GeoArrowType;
 use arrow_values::Field;
+use geoarrow_meta::laws::{equality_test_is_exact, text_stands_for_one};
 use geoarrow_native::laws::reads_as_one_column;
 
 /// A law: a field is read as one type alone. There is nothing to run.
@@ -17,6 +24,22 @@ pub fn reads_as_one(field: &Field)
     reads_as_one_column(field);
 }
 
+/// A law: a field without a GeoArrow name is taken for one type alone.
+pub fn infers_as_one(field: &Field)
+    ensures { (g h : GeoArrowType) → Infers field.now g → Infers field.now h → SameType g h }
+{
+    text_stands_for_one(field.extension_type_metadata());
+    infer_kind(field.data_type());
+}
+
+/// A law: a field is read as, or else taken for, one type alone.
+pub fn reads_or_infers_as_one(field: &Field)
+    ensures { (g h : GeoArrowType) → ReadsOrInfers field.now g → ReadsOrInfers field.now h → SameType g h }
+{
+    reads_as_one(field);
+    infers_as_one(field);
+}
+
 /// A law: a field with the data type that is written for points, or for well-known binary or text, and without the two
 /// extension keys, is taken for that kind with the default metadata. There is nothing to run.
 #[tactic(auto, using(crate::proofs::Inferable::bare_inferred))]
@@ -24,3 +47,41 @@ pub fn written_is_inferred()
     ensures { (f : FieldTree) (g : GeoArrowType) → IsInferable (kind_of g) → IsBareColumn f (kind_of g)
         → meta_of g ≡ empty → Infers f g }
 {}
+
+/// A law: `==` answers true for two types of geometries of any kind exactly where coordinate type and metadata are
+/// equal.
+pub fn geometry_equality_is_exact(one: &GeometryType, other: &GeometryType) -> bool
+    ensures { IsTrue result ↔ ((geometry_coord_type one.now ≡ geometry_coord_type other.now)
+        × (geometry_meta one.now ≡ geometry_meta other.now)) }
+{
+    equality_test_is_exact();
+    one == other
+}
+
+/// A law: `==` answers true for two types of boxes exactly where dimension and metadata are equal.
+pub fn box_equality_is_exact(one: &BoxType, other: &BoxType) -> bool
+    ensures { IsTrue result ↔ ((box_dimension one.now ≡ box_dimension other.now)
+        × (box_meta one.now ≡ box_meta other.now)) }
+{
+    equality_test_is_exact();
+    one == other
+}
+
+/// A law: `==` answers true for two types of well-known binary, or of text, exactly where their metadata are equal.
+pub fn serialized_equality_is_exact<E: Encoding>(
+    one: &SerializedType<E>,
+    other: &SerializedType<E>,
+) -> bool
+    ensures { IsTrue result ↔ (serialized_meta one.now ≡ serialized_meta other.now) }
+{
+    equality_test_is_exact();
+    one == other
+}
+
+/// A law: `==` answers true for two types exactly where their kinds and their metadata are equal.
+pub fn equality_is_exact(one: &GeoArrowType, other: &GeoArrowType) -> bool
+    ensures { IsTrue result ↔ SameType one.now other.now }
+{
+    equality_test_is_exact();
+    one == other
+}

@@ -5,7 +5,8 @@ ghost use Rattle.geoarrow_layout.specs.declared.names.ExtensionName.{ExtensionNa
 ghost use Rattle.geoarrow_layout.specs.declared.encodings.Kind.{Kind};
 ghost use Rattle.geoarrow_layout.specs.Kinds.{name_text};
 ghost use Rattle.geoarrow_layout.specs.Shapes.{Accepts};
-ghost use Rattle.geoarrow_schema.specs.Reads.{HasName, HasGeoArrowName, IsColumn, Reads, ReadsAsNone, ReadsAlone, RefusedAs, IsInvalid};
+ghost use Rattle.geoarrow_native.specs.Column.{IsColumn};
+ghost use Rattle.geoarrow_schema.specs.Reads.{HasName, HasGeoArrowName, Reads, ReadsAsNone, ReadsAlone, RefusedAs, IsInvalid};
 
 use crate::types::GeoArrowType;
 use arrow_values::{ArrowError, Field, GeoArrowError, GeoArrowResult};

@@ -4,6 +4,7 @@ ghost use Rattle.geoarrow_schema.specs.Types.{kind_of, metadata_of, meta_of};
 ghost use Rattle.geoarrow_schema.specs.Changes.{with_coord_type, with_dimension};
 ghost use Rattle.geoarrow_layout.specs.declared.encodings.Kind.TheVariants.{Native as OfNative};
 ghost use Rattle.geoarrow_layout.specs.Kinds.{coord_type_of, dimension_of};
+ghost use Rattle.geoarrow_native.specs.Parts.{native_coord_type, native_dimension};
 
 use crate::boxes::BoxType;
 use crate::geometry::GeometryType;
@@ -13,7 +14,7 @@ use geoarrow_meta::Metadata;
 use geoarrow_multi::{
     GeometryCollectionType, MultiLineStringType, MultiPointType, MultiPolygonType,
 };
-use geoarrow_native::{LineStringType, PointType, PolygonType};
+use geoarrow_native::{LineStringType, NativeShape, NativeType, PointType, PolygonType};
 use std::alloc::{AllocError, Global};
 use std::sync::Arc;
 
@@ -81,41 +82,13 @@ impl GeoArrowType {
         ensures { result ≡ kind_of self.now }
     {
         match self {
-            GeoArrowType::Point(t) => Kind::Native(
-                NativeKind::Point,
-                t.coord_type(),
-                t.dimension(),
-            ),
-            GeoArrowType::LineString(t) => Kind::Native(
-                NativeKind::LineString,
-                t.coord_type(),
-                t.dimension(),
-            ),
-            GeoArrowType::Polygon(t) => Kind::Native(
-                NativeKind::Polygon,
-                t.coord_type(),
-                t.dimension(),
-            ),
-            GeoArrowType::MultiPoint(t) => Kind::Native(
-                NativeKind::MultiPoint,
-                t.coord_type(),
-                t.dimension(),
-            ),
-            GeoArrowType::MultiLineString(t) => Kind::Native(
-                NativeKind::MultiLineString,
-                t.coord_type(),
-                t.dimension(),
-            ),
-            GeoArrowType::MultiPolygon(t) => Kind::Native(
-                NativeKind::MultiPolygon,
-                t.coord_type(),
-                t.dimension(),
-            ),
-            GeoArrowType::GeometryCollection(t) => Kind::Native(
-                NativeKind::GeometryCollection,
-                t.coord_type(),
-                t.dimension(),
-            ),
+            GeoArrowType::Point(t) => native_kind(t),
+            GeoArrowType::LineString(t) => native_kind(t),
+            GeoArrowType::Polygon(t) => native_kind(t),
+            GeoArrowType::MultiPoint(t) => native_kind(t),
+            GeoArrowType::MultiLineString(t) => native_kind(t),
+            GeoArrowType::MultiPolygon(t) => native_kind(t),
+            GeoArrowType::GeometryCollection(t) => native_kind(t),
             GeoArrowType::Rect(t) => Kind::Rect(t.dimension()),
             GeoArrowType::Geometry(t) => Kind::Geometry(t.coord_type()),
             GeoArrowType::Wkb(_) => Kind::Wkb(Width::Plain),
@@ -230,6 +203,13 @@ impl GeoArrowType {
     {
         GeoArrowType::from_kind(self.kind(), metadata)
     }
+}
+
+/// The kind of a native type.
+fn native_kind<S: NativeShape>(native: &NativeType<S>) -> Kind
+    ensures { result ≡ OfNative S.KIND (native_coord_type native.now) (native_dimension native.now) }
+{
+    Kind::Native(S::KIND, native.coord_type(), native.dimension())
 }
 
 /// The type of that native kind, with these parts.

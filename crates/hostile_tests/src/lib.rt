@@ -1,11 +1,19 @@
-//! Tests across crates of what strangers may send and of what may fail: trees, texts and lines that are refused, memory
-//! that runs out, readers and writers that fail.
+//! Tests across crates of what strangers may send and of what may fail: trees, texts and lines that are refused, data
+//! types that nest deep, memory that runs out.
 #![tactic(auto)]
 
+#[cfg(test)]
+mod depth;
 #[cfg(test)]
 mod fields;
 #[cfg(test)]
 mod judging;
+#[cfg(test)]
+mod lines;
+#[cfg(test)]
+mod nesting;
+#[cfg(test)]
+mod refusals;
 #[cfg(test)]
 mod starved_lines;
 #[cfg(test)]
@@ -16,5 +24,9 @@ mod starved_reading;
 mod starved_unions;
 #[cfg(test)]
 mod starved_writing;
+#[cfg(test)]
+mod texts;
+#[cfg(test)]
+mod trees;
 #[cfg(test)]
 mod unaided;

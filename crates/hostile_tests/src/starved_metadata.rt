@@ -2,6 +2,7 @@
 use crate::fields::Meaning::{Spherical, X};
 use crate::fields::{Meaning, metadata};
 use crate::judging::judge;
+use crate::refusals::Sort;
 use arrow_values::GeoArrowError;
 use geoarrow_meta::{Crs, CrsTransform, DefaultCrsTransform, Metadata};
 use scarce_memory::{Answer, starve};
@@ -120,7 +121,7 @@ fn errors_become_errors_of_arrow(rt: HostRuntime) -> Result<(), Fail> {
     for _ in 0..64 {
         errors.push(GeoArrowError::Crs(String::from_str(alloc, "no such CRS")?))?;
     }
-    let wanted: Result<bool, &str> = Err("Ext(Crs)");
+    let wanted: Result<bool, Sort> = Err(Sort::BoxedCrs);
     let course = starve(alloc, || match errors.pop() {
         None => Answer::Wrong,
         Some(error) => match error.into_arrow_error(alloc) {

@@ -2,6 +2,7 @@
 use crate::fields::Meaning::{Nothing, Spherical, X};
 use crate::fields::{Meaning, PAIR, SPHERICAL, TWO, column, described, geoarrow_type};
 use crate::judging::judge;
+use crate::refusals::Sort;
 use arrow_values::Field;
 use geoarrow_columns::{Column, ColumnFault, check_columns};
 use geoarrow_schema::CoordType::{Interleaved, Separated};
@@ -17,7 +18,7 @@ type Row = (
     Option<&'static str>,
     Option<&'static str>,
     &'static str,
-    Result<(Kind, Meaning), &'static str>,
+    Result<(Kind, Meaning), Sort>,
 );
 
 /// Points as they are written, with numbers before each other.
@@ -53,13 +54,13 @@ const NAMED: [Row; 9] = [
         Some("geoarrow.geometrycollection"),
         None,
         FOREIGN,
-        Err("Schema"),
+        Err(Sort::Schema),
     ),
     (
         Some("geoarrow.wkb"),
         Some(r#"{\"crs\":{\"f\":298.5},\"crs_type\":\"projjson\"}"#),
         r#""binary""#,
-        Err("Ext(Crs)"),
+        Err(Sort::BoxedCrs),
     ),
     (
         Some("geoarrow.wkb"),
@@ -71,19 +72,19 @@ const NAMED: [Row; 9] = [
         Some("geoarrow.wkb"),
         Some("not valid json"),
         r#""utf8""#,
-        Err("InvalidGeoArrow"),
+        Err(Sort::Invalid),
     ),
     (
         Some("geoarrow.wkb"),
         Some("not valid json"),
         r#""binary""#,
-        Err("Ext(External)"),
+        Err(Sort::BoxedExternal),
     ),
     (
         Some("geoarrow.wkb"),
         Some(""),
         r#""binary""#,
-        Err("Ext(External)"),
+        Err(Sort::BoxedExternal),
     ),
     (
         Some("geoarrow.wkt"),
@@ -105,9 +106,9 @@ const UNNAMED: [Row; 3] = [
         Some("example.other"),
         Some("not valid json"),
         r#""binary""#,
-        Err("Ext(External)"),
+        Err(Sort::BoxedExternal),
     ),
-    (None, None, r#""int32""#, Err("InvalidGeoArrow")),
+    (None, None, r#""int32""#, Err(Sort::Invalid)),
 ];
 
 /// The field of a row.
@@ -120,10 +121,10 @@ fn field_of(alloc: Global, row: Row) -> Result<Field, AllocError> {
 }
 
 /// The answer of a row.
-fn answer_of(alloc: Global, row: Row) -> Result<Result<GeoArrowType, &'static str>, AllocError> {
+fn answer_of(alloc: Global, row: Row) -> Result<Result<GeoArrowType, Sort>, AllocError> {
     match row.3 {
         Ok((kind, meaning)) => Ok(Ok(geoarrow_type(alloc, kind, meaning)?)),
-        Err(word) => Ok(Err(word)),
+        Err(sort) => Ok(Err(sort)),
     }
 }
 

@@ -2,6 +2,7 @@
 use crate::fields::Meaning::{Nothing, Spherical};
 use crate::fields::{Meaning, PAIR, POINT, TWO, column, field, geoarrow_type, metadata};
 use crate::judging::{judge, judge_change};
+use crate::refusals::Sort;
 use arrow_values::GeoArrowError;
 use geoarrow_schema::CoordType::{Interleaved, Separated};
 use geoarrow_schema::Dimension::XY;
@@ -38,8 +39,8 @@ fn fields_of_points(rt: HostRuntime) -> Result<(), Fail> {
 }
 
 /// The texts and the data type of a field, the coordinate type and the metadata of a point type that is put on it, and
-/// the texts that it has then, or the word for the error.
-const PUT: [(&str, &str, CoordType, Meaning, Result<&str, &str>); 3] = [
+/// the texts that it has then, or the sort of the error.
+const PUT: [(&str, &str, CoordType, Meaning, Result<&str, Sort>); 3] = [
     (
         r#""ARROW:extension:metadata":"stale","k":"v""#,
         PAIR,
@@ -52,7 +53,7 @@ const PUT: [(&str, &str, CoordType, Meaning, Result<&str, &str>); 3] = [
         PAIR,
         Interleaved,
         Nothing,
-        Err("Schema"),
+        Err(Sort::Schema),
     ),
     (
         "",
@@ -73,7 +74,7 @@ fn types_put_on_fields(rt: HostRuntime) -> Result<(), Fail> {
         let before = field.try_clone(alloc)?;
         let after = match wanted {
             Ok(texts) => Ok(column(alloc, texts, data_type)?),
-            Err(word) => Err(word),
+            Err(sort) => Err(sort),
         };
         let point = PointType::new(XY, metadata(alloc, meaning)?).with_coord_type(coord_type);
         let course = starve(alloc, || {

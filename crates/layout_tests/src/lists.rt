@@ -40,48 +40,42 @@ fn listed(alloc: Global, widths: &[ListWidth], leaf: DataType) -> Result<DataTyp
     Ok(tree)
 }
 
+/// Kinds, the widths of lists over a coordinate, and how they are read as that kind.
+const WIDTHS: [(
+    NativeKind,
+    &[ListWidth],
+    Result<(CoordType, Dimension), LayoutFault>,
+); 10] = [
+    (LineString, &[LargeList], Ok((Separated, XY))),
+    (Polygon, &[LargeList, LargeList], Ok((Separated, XY))),
+    (MultiPolygon, &[List, List, List], Ok((Separated, XY))),
+    (LineString, &[], Err(LayoutFault::UnexpectedType)),
+    (Point, &[List], Err(LayoutFault::UnexpectedType)),
+    (
+        MultiPoint,
+        &[List, LargeList],
+        Err(LayoutFault::UnexpectedType),
+    ),
+    (Polygon, &[List, LargeList], Err(LayoutFault::MixedWidths)),
+    (Polygon, &[List], Err(LayoutFault::UnexpectedType)),
+    (
+        MultiLineString,
+        &[List, List, List],
+        Err(LayoutFault::UnexpectedType),
+    ),
+    (
+        MultiPolygon,
+        &[List, List, LargeList],
+        Err(LayoutFault::MixedWidths),
+    ),
+];
+
 #[test]
 fn are_of_one_width(rt: HostRuntime) -> Result<(), Fail> {
     let alloc = rt.alloc();
-    let rows = [
-        (LineString, [LargeList].as_slice(), Ok((Separated, XY))),
-        (
-            Polygon,
-            [LargeList, LargeList].as_slice(),
-            Ok((Separated, XY)),
-        ),
-        (
-            MultiPolygon,
-            [List, List, List].as_slice(),
-            Ok((Separated, XY)),
-        ),
-        (LineString, [].as_slice(), Err(LayoutFault::UnexpectedType)),
-        (Point, [List].as_slice(), Err(LayoutFault::UnexpectedType)),
-        (
-            MultiPoint,
-            [List, LargeList].as_slice(),
-            Err(LayoutFault::UnexpectedType),
-        ),
-        (
-            Polygon,
-            [List, LargeList].as_slice(),
-            Err(LayoutFault::MixedWidths),
-        ),
-        (Polygon, [List].as_slice(), Err(LayoutFault::UnexpectedType)),
-        (
-            MultiLineString,
-            [List, List, List].as_slice(),
-            Err(LayoutFault::UnexpectedType),
-        ),
-        (
-            MultiPolygon,
-            [List, List, LargeList].as_slice(),
-            Err(LayoutFault::MixedWidths),
-        ),
-    ];
-    for (kind, widths, answer) in rows {
+    for (kind, widths, answer) in WIDTHS {
         let tree = listed(alloc, widths, floats(alloc, &["a", "b"])?)?;
-        assert_eq!(rt; read(kind, &tree), answer, "{kind:?}");
+        assert_eq!(rt; read(kind, &tree), answer, "{kind:?} {widths:?}");
     }
     Ok(())
 }

@@ -70,7 +70,7 @@ fn that_are_written_read_back(rt: HostRuntime) -> Result<(), Fail> {
     let fields = fields_of(alloc, &WRITTEN)?;
     assert_eq!(rt; fields.len(), WRITTEN.len());
     for (i, field) in fields.iter().enumerate() {
-        assert_eq!(rt; field_line(alloc, field)?.as_str(), WRITTEN[i]);
+        assert_eq!(rt; field_line(alloc, field)?.as_str(), WRITTEN[i], "field {i}");
     }
     Ok(())
 }
@@ -90,79 +90,83 @@ fn of_different_fields_are_told_apart(rt: HostRuntime) -> Result<(), Fail> {
     Ok(())
 }
 
+/// Lines in other forms, and the lines that are written of their fields.
+const SAME: [(&str, &str); 4] = [
+    (
+        r#" { "type" : "null" , "nullable" : true , "name" : "f" } "#,
+        r#"{"name":"f","nullable":true,"type":"null"}"#,
+    ),
+    (
+        r#"{"metadata":{},"name":"f","nullable":true,"type":"null","zz":[1.5e3,{}]}"#,
+        r#"{"name":"f","nullable":true,"type":"null"}"#,
+    ),
+    (
+        r#"{"name":"e","name":"\u0066","nullable":true,"type":"utf8","type":"null"}"#,
+        r#"{"name":"f","nullable":true,"type":"null"}"#,
+    ),
+    (
+        r#"{"name":"f","nullable":true,"type":{"size":2,"fixed_size_list":{"name":"x","nullable":false,"type":"null"}}}"#,
+        r#"{"name":"f","nullable":true,"type":{"fixed_size_list":{"name":"x","nullable":false,"type":"null"},"size":2}}"#,
+    ),
+];
+
 #[test]
 fn that_say_the_same_read_the_same(rt: HostRuntime) -> Result<(), Fail> {
     let alloc = rt.alloc();
-    let rows = [
-        (
-            r#" { "type" : "null" , "nullable" : true , "name" : "f" } "#,
-            r#"{"name":"f","nullable":true,"type":"null"}"#,
-        ),
-        (
-            r#"{"metadata":{},"name":"f","nullable":true,"type":"null","zz":[1.5e3,{}]}"#,
-            r#"{"name":"f","nullable":true,"type":"null"}"#,
-        ),
-        (
-            r#"{"name":"e","name":"\u0066","nullable":true,"type":"utf8","type":"null"}"#,
-            r#"{"name":"f","nullable":true,"type":"null"}"#,
-        ),
-        (
-            r#"{"name":"f","nullable":true,"type":{"size":2,"fixed_size_list":{"name":"x","nullable":false,"type":"null"}}}"#,
-            r#"{"name":"f","nullable":true,"type":{"fixed_size_list":{"name":"x","nullable":false,"type":"null"},"size":2}}"#,
-        ),
-    ];
-    for (line, written) in rows {
+    for (line, written) in SAME {
         match parse_line(alloc, line.as_bytes())? {
-            Some(field) => assert_eq!(rt; field_line(alloc, &field)?.as_str(), written),
+            Some(field) => assert_eq!(rt; field_line(alloc, &field)?.as_str(), written, "{line}"),
             None => assert!(rt; false, "{line}"),
         }
     }
     Ok(())
 }
 
+/// Lines that stand for no field.
+const NO_FIELDS: [&str; 37] = [
+    "",
+    " ",
+    "[]",
+    "null",
+    "{}",
+    r#""name""#,
+    r#"{"name":"f","nullable":true}"#,
+    r#"{"name":"f","type":"null"}"#,
+    r#"{"nullable":true,"type":"null"}"#,
+    r#"{"name":7,"nullable":true,"type":"null"}"#,
+    r#"{"name":"f","nullable":"true","type":"null"}"#,
+    r#"{"name":"f","nullable":true,"type":"Null"}"#,
+    r#"{"name":"f","nullable":true,"type":"struct"}"#,
+    r#"{"name":"f","nullable":true,"type":7}"#,
+    r#"{"name":"f","nullable":true,"type":{}}"#,
+    r#"{"name":"f","nullable":true,"type":"null","metadata":null}"#,
+    r#"{"name":"f","nullable":true,"type":"null","metadata":{"k":7}}"#,
+    r#"{"name":"f","nullable":true,"type":"null"} {}"#,
+    r#"{"name":"f","nullable":true,"type":{"list":"null"}}"#,
+    r#"{"name":"f","nullable":true,"type":{"list":{"name":"x","nullable":true,"type":"null"},"zz":1}}"#,
+    r#"{"name":"f","nullable":true,"type":{"fixed_size_list":{"name":"x","nullable":true,"type":"null"}}}"#,
+    r#"{"name":"f","nullable":true,"type":{"fixed_size_list":{"name":"x","nullable":true,"type":"null"},"size":2147483648}}"#,
+    r#"{"name":"f","nullable":true,"type":{"fixed_size_list":{"name":"x","nullable":true,"type":"null"},"size":-2147483649}}"#,
+    r#"{"name":"f","nullable":true,"type":{"fixed_size_list":{"name":"x","nullable":true,"type":"null"},"size":2.0}}"#,
+    r#"{"name":"f","nullable":true,"type":{"fixed_size_list":{"name":"x","nullable":true,"type":"null"},"size":2e0}}"#,
+    r#"{"name":"f","nullable":true,"type":{"fixed_size_list":{"name":"x","nullable":true,"type":"null"},"size":-0}}"#,
+    r#"{"name":"f","nullable":true,"type":{"fixed_size_list":{"name":"x","nullable":true,"type":"null"},"size":2,"zz":1}}"#,
+    r#"{"name":"f","nullable":true,"type":{"struct":{}}}"#,
+    r#"{"name":"f","nullable":true,"type":{"struct":[7]}}"#,
+    r#"{"name":"f","nullable":true,"type":{"union":[]}}"#,
+    r#"{"name":"f","nullable":true,"type":{"mode":"Dense","union":[]}}"#,
+    r#"{"name":"f","nullable":true,"type":{"mode":"dense","union":[[128,{"name":"x","nullable":true,"type":"null"}]]}}"#,
+    r#"{"name":"f","nullable":true,"type":{"mode":"dense","union":[[-1,{"name":"x","nullable":true,"type":"null"}]]}}"#,
+    r#"{"name":"f","nullable":true,"type":{"mode":"dense","union":[[1,{"name":"x","nullable":true,"type":"null"}],[1,{"name":"x","nullable":true,"type":"null"}]]}}"#,
+    r#"{"name":"f","nullable":true,"type":{"mode":"dense","union":[[1,{"name":"x","nullable":true,"type":"null"},2]]}}"#,
+    r#"{"name":"f","nullable":true,"type":{"mode":"dense","union":[{"name":"x","nullable":true,"type":"null"}]}}"#,
+    r#"{"name":"f","nullable":true,"type":{"mode":"dense","union":[],"zz":1}}"#,
+];
+
 #[test]
 fn that_stand_for_no_field_are_refused(rt: HostRuntime) -> Result<(), Fail> {
     let alloc = rt.alloc();
-    let rows = [
-        "",
-        " ",
-        "[]",
-        "null",
-        "{}",
-        r#""name""#,
-        r#"{"name":"f","nullable":true}"#,
-        r#"{"name":"f","type":"null"}"#,
-        r#"{"nullable":true,"type":"null"}"#,
-        r#"{"name":7,"nullable":true,"type":"null"}"#,
-        r#"{"name":"f","nullable":"true","type":"null"}"#,
-        r#"{"name":"f","nullable":true,"type":"Null"}"#,
-        r#"{"name":"f","nullable":true,"type":"struct"}"#,
-        r#"{"name":"f","nullable":true,"type":7}"#,
-        r#"{"name":"f","nullable":true,"type":{}}"#,
-        r#"{"name":"f","nullable":true,"type":"null","metadata":null}"#,
-        r#"{"name":"f","nullable":true,"type":"null","metadata":{"k":7}}"#,
-        r#"{"name":"f","nullable":true,"type":"null"} {}"#,
-        r#"{"name":"f","nullable":true,"type":{"list":"null"}}"#,
-        r#"{"name":"f","nullable":true,"type":{"list":{"name":"x","nullable":true,"type":"null"},"zz":1}}"#,
-        r#"{"name":"f","nullable":true,"type":{"fixed_size_list":{"name":"x","nullable":true,"type":"null"}}}"#,
-        r#"{"name":"f","nullable":true,"type":{"fixed_size_list":{"name":"x","nullable":true,"type":"null"},"size":2147483648}}"#,
-        r#"{"name":"f","nullable":true,"type":{"fixed_size_list":{"name":"x","nullable":true,"type":"null"},"size":-2147483649}}"#,
-        r#"{"name":"f","nullable":true,"type":{"fixed_size_list":{"name":"x","nullable":true,"type":"null"},"size":2.0}}"#,
-        r#"{"name":"f","nullable":true,"type":{"fixed_size_list":{"name":"x","nullable":true,"type":"null"},"size":2e0}}"#,
-        r#"{"name":"f","nullable":true,"type":{"fixed_size_list":{"name":"x","nullable":true,"type":"null"},"size":-0}}"#,
-        r#"{"name":"f","nullable":true,"type":{"fixed_size_list":{"name":"x","nullable":true,"type":"null"},"size":2,"zz":1}}"#,
-        r#"{"name":"f","nullable":true,"type":{"struct":{}}}"#,
-        r#"{"name":"f","nullable":true,"type":{"struct":[7]}}"#,
-        r#"{"name":"f","nullable":true,"type":{"union":[]}}"#,
-        r#"{"name":"f","nullable":true,"type":{"mode":"Dense","union":[]}}"#,
-        r#"{"name":"f","nullable":true,"type":{"mode":"dense","union":[[128,{"name":"x","nullable":true,"type":"null"}]]}}"#,
-        r#"{"name":"f","nullable":true,"type":{"mode":"dense","union":[[-1,{"name":"x","nullable":true,"type":"null"}]]}}"#,
-        r#"{"name":"f","nullable":true,"type":{"mode":"dense","union":[[1,{"name":"x","nullable":true,"type":"null"}],[1,{"name":"x","nullable":true,"type":"null"}]]}}"#,
-        r#"{"name":"f","nullable":true,"type":{"mode":"dense","union":[[1,{"name":"x","nullable":true,"type":"null"},2]]}}"#,
-        r#"{"name":"f","nullable":true,"type":{"mode":"dense","union":[{"name":"x","nullable":true,"type":"null"}]}}"#,
-        r#"{"name":"f","nullable":true,"type":{"mode":"dense","union":[],"zz":1}}"#,
-    ];
-    for line in rows {
+    for line in NO_FIELDS {
         assert!(rt; parse_line(alloc, line.as_bytes())?.is_none(), "{line}");
     }
     assert!(rt; parse_line(alloc, &[255])?.is_none());

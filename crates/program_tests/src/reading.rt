@@ -241,6 +241,10 @@ fn lines_up_to_the_limit_of_bytes(rt: HostRuntime) -> Result<(), Fail> {
         assert!(rt; out.as_slice() == want.as_slice(), "at {left}");
     }
     let mut out = Vec::new(rt.alloc());
+    let end = run(rt.alloc(), Command::Read, &mut Endless(b'a'), &mut out);
+    assert_eq!(rt; end, RunEnd::InputFault);
+    assert!(rt; out.as_slice() == b"error input\n".as_slice());
+    let mut out = Vec::new(rt.alloc());
     let mut reader = Read::chain(b"{\n".as_slice(), Endless(b'a'));
     let end = run(rt.alloc(), Command::Read, &mut reader, &mut out);
     assert_eq!(rt; end, RunEnd::InputFault);

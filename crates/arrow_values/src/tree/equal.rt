@@ -85,52 +85,38 @@ impl Eq for UnionFields {
 fn same_type(a: &DataType, b: &DataType) -> bool
     ensures { result ≡ tree_eq (tree a.now) (tree b.now) }
 {
-    match a {
-        DataType::Null => matches!(b, DataType::Null),
-        DataType::Boolean => matches!(b, DataType::Boolean),
-        DataType::Int8 => matches!(b, DataType::Int8),
-        DataType::Int16 => matches!(b, DataType::Int16),
-        DataType::Int32 => matches!(b, DataType::Int32),
-        DataType::Int64 => matches!(b, DataType::Int64),
-        DataType::UInt8 => matches!(b, DataType::UInt8),
-        DataType::UInt16 => matches!(b, DataType::UInt16),
-        DataType::UInt32 => matches!(b, DataType::UInt32),
-        DataType::UInt64 => matches!(b, DataType::UInt64),
-        DataType::Float16 => matches!(b, DataType::Float16),
-        DataType::Float32 => matches!(b, DataType::Float32),
-        DataType::Float64 => matches!(b, DataType::Float64),
-        DataType::Date32 => matches!(b, DataType::Date32),
-        DataType::Date64 => matches!(b, DataType::Date64),
-        DataType::Binary => matches!(b, DataType::Binary),
-        DataType::LargeBinary => matches!(b, DataType::LargeBinary),
-        DataType::BinaryView => matches!(b, DataType::BinaryView),
-        DataType::Utf8 => matches!(b, DataType::Utf8),
-        DataType::LargeUtf8 => matches!(b, DataType::LargeUtf8),
-        DataType::Utf8View => matches!(b, DataType::Utf8View),
-        DataType::List(inner) => match b {
-            DataType::List(other) => same_field(inner, other),
-            _ => false,
-        },
-        DataType::LargeList(inner) => match b {
-            DataType::LargeList(other) => same_field(inner, other),
-            _ => false,
-        },
-        DataType::FixedSizeList(inner, size) => match b {
-            DataType::FixedSizeList(other, other_size) => {
-                same_field(inner, other) && *size == *other_size
-            }
-            _ => false,
-        },
-        DataType::Struct(fields) => match b {
-            DataType::Struct(others) => same_fields(fields, others),
-            _ => false,
-        },
-        DataType::Union(members, mode) => match b {
-            DataType::Union(others, other_mode) => {
-                same_members(members, others) && *mode == *other_mode
-            }
-            _ => false,
-        },
+    match (a, b) {
+        (DataType::Null, DataType::Null) => true,
+        (DataType::Boolean, DataType::Boolean) => true,
+        (DataType::Int8, DataType::Int8) => true,
+        (DataType::Int16, DataType::Int16) => true,
+        (DataType::Int32, DataType::Int32) => true,
+        (DataType::Int64, DataType::Int64) => true,
+        (DataType::UInt8, DataType::UInt8) => true,
+        (DataType::UInt16, DataType::UInt16) => true,
+        (DataType::UInt32, DataType::UInt32) => true,
+        (DataType::UInt64, DataType::UInt64) => true,
+        (DataType::Float16, DataType::Float16) => true,
+        (DataType::Float32, DataType::Float32) => true,
+        (DataType::Float64, DataType::Float64) => true,
+        (DataType::Date32, DataType::Date32) => true,
+        (DataType::Date64, DataType::Date64) => true,
+        (DataType::Binary, DataType::Binary) => true,
+        (DataType::LargeBinary, DataType::LargeBinary) => true,
+        (DataType::BinaryView, DataType::BinaryView) => true,
+        (DataType::Utf8, DataType::Utf8) => true,
+        (DataType::LargeUtf8, DataType::LargeUtf8) => true,
+        (DataType::Utf8View, DataType::Utf8View) => true,
+        (DataType::List(inner), DataType::List(other)) => same_field(inner, other),
+        (DataType::LargeList(inner), DataType::LargeList(other)) => same_field(inner, other),
+        (DataType::FixedSizeList(inner, size), DataType::FixedSizeList(other, other_size)) => {
+            same_field(inner, other) && *size == *other_size
+        }
+        (DataType::Struct(fields), DataType::Struct(others)) => same_fields(fields, others),
+        (DataType::Union(members, mode), DataType::Union(others, other_mode)) => {
+            same_members(members, others) && *mode == *other_mode
+        }
+        _ => false,
     }
 }
 

@@ -12,7 +12,7 @@ loop-field-preserved c =
     fields_seen_more _ _ _ _ _ _ c.loop-field.field-index c.field-item.result c.loop-field-test.true c.field-item.is
     (c.name_place.ensures.place ∙ ap (λ n. place_in n known_names) c.name.ensures)
     c.with_bit_u16-names.ensures
-    (ap (λ b. c.loop-field.all_float64 && b) (c.is_float64-all_float64.ensures ∙ ap is_float64 c.data_type.ensures))
+    (ap (λ b. c.loop-field.all_float64 && b) (c.is_float64-all_float64.ensures.value ∙ ap is_float64 c.data_type.ensures))
     c.loop-field.invariant
 
 pub returns : goal.returns

@@ -3,16 +3,16 @@ use Rattle.arrow_values.specs.Equal.{field_eq, member_eq}
 use Rattle.arrow_values.proofs.Equal.{mode_same, fields_same, members_same, nullable_differs, metadata_differs, pointwise_fails}
 use Rattle.arrow_values.proofs.tree.equal.+equal.Goals as goal
 
-pub same_type-returns-in-Struct-b : goal.same_type-returns-in-Struct-b
-same_type-returns-in-Struct-b t c = rw (c.in-Struct.is, c.in-Struct-b.is) (c.same_fields.ensures ∙ fields_same c.in-Struct.fields c.in-Struct-b.others)
+pub same_type-returns-in-Struct-Struct : goal.same_type-returns-in-Struct-Struct
+same_type-returns-in-Struct-Struct t c = rw (c.in-Struct-Struct.is-0, c.in-Struct-Struct.is-1) (c.same_fields.ensures ∙ fields_same c.in-Struct-Struct.fields c.in-Struct-Struct.others)
 
 pub same_type-returns-then-same_members : goal.same_type-returns-then-same_members
 same_type-returns-then-same_members t c =
-    rw (c.in-Union.is, c.in-Union-b.is, ← members_same c.in-Union.members c.in-Union-b.others, ← c.if-same_members.ensures) (c.eq.ensures ∙ mode_same c.in-Union.mode c.in-Union-b.other_mode)
+    rw (c.in-Union-Union.is-0, c.in-Union-Union.is-1, ← members_same c.in-Union-Union.members c.in-Union-Union.others, ← c.if-same_members.ensures) (c.eq.ensures ∙ mode_same c.in-Union-Union.mode c.in-Union-Union.other_mode)
 
 pub same_type-returns-else-same_members : goal.same_type-returns-else-same_members
 same_type-returns-else-same_members t c =
-    rw (c.in-Union.is, c.in-Union-b.is, ← members_same c.in-Union.members c.in-Union-b.others, ← c.if-same_members.ensures) c.if-same_members.false
+    rw (c.in-Union-Union.is-0, c.in-Union-Union.is-1, ← members_same c.in-Union-Union.members c.in-Union-Union.others, ← c.if-same_members.ensures) c.if-same_members.false
 
 pub same_field-returns-then-a-b : goal.same_field-returns-then-a-b
 same_field-returns-then-a-b t c = nullable_differs c.args.a.now c.args.b.now (rw (← c.a.view_is, ← c.b.view_is) c.if-a-b.true)
