@@ -2,12 +2,14 @@
 #![tactic(auto)]
 
 mod answer;
+mod arguments;
 mod lines;
 mod output;
 mod reading;
 mod words;
 
 pub use answer::answer_line;
+pub use arguments::{command_of, serve, status_of};
 pub use lines::{keeps_limits_or_passes_one, splits_at_line_feeds};
 pub use reading::run;
 

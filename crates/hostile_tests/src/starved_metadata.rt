@@ -48,23 +48,15 @@ fn metadata_goes_through_values(rt: HostRuntime) -> Result<(), Fail> {
     for (text, meaning) in TEXTS {
         let shared = metadata(alloc, meaning)?;
         let wanted = Ok(shared.try_clone(alloc)?);
-        let Some(value) = shared.to_value(alloc)? else {
-            return Err(Fail::new(text));
-        };
+        let value = Value::from_str(alloc, text)?;
         let read = starve(
             alloc,
             || judge(Metadata::from_value(alloc, &value), &wanted),
         )?;
         assert!(rt; read.is_want_then_answer(), "{text} {read:?}");
-        let written = starve(alloc, || match shared.to_value(alloc) {
-            Err(AllocError) => Answer::Want,
-            Ok(found) => {
-                if found.is_some_and(|found| found.is_object()) {
-                    Answer::Right
-                } else {
-                    Answer::Wrong
-                }
-            }
+        let wanted = Ok(Some(value));
+        let written = starve(alloc, || {
+            judge(shared.to_value(alloc).map_err(GeoArrowError::from), &wanted)
         })?;
         assert!(rt; written.is_want_then_answer(), "{text} {written:?}");
     }

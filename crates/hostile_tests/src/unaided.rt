@@ -117,40 +117,38 @@ fn metadata_that_is_not_written(rt: HostRuntime) -> Result<(), Fail> {
 }
 
 #[test]
-fn words_and_makers_of_a_crs(rt: HostRuntime) -> Result<(), Fail> {
-    let alloc = rt.alloc();
-    let text = String::from_str(alloc, "TESTCRS[]")?;
-    let srid = Crs::from_srid(String::from_str(alloc, "1234")?);
-    let transform = DefaultCrsTransform {};
-    let (words, tests, crs, projjson, wkt) = without_memory(alloc, || {
-        let words = (
+fn words_of_metadata(rt: HostRuntime) -> Result<(), Fail> {
+    let words = without_memory(rt.alloc(), || {
+        (
             CrsType::from_text("wkt2:2019"),
             Edges::from_text("karney"),
             CrsType::Srid.as_text(),
             Edges::Vincenty.as_text(),
-        );
+        )
+    })?;
+    assert_eq!(rt;
+        (words.0, words.1),
+        (Some(CrsType::Wkt2_2019), Some(Edges::Karney))
+    );
+    assert_eq!(rt; (words.2, words.3), ("srid", "vincenty"));
+    Ok(())
+}
+
+#[test]
+fn makers_and_conversions_of_a_crs(rt: HostRuntime) -> Result<(), Fail> {
+    let alloc = rt.alloc();
+    let text = String::from_str(alloc, "TESTCRS[]")?;
+    let srid = Crs::from_srid(String::from_str(alloc, "1234")?);
+    let transform = DefaultCrsTransform {};
+    let (tests, crs, projjson, wkt) = without_memory(alloc, || {
         let tests = (
             Crs::is_authority_code("EPSG4326"),
             Crs::is_projjson(&Value::Null),
         );
         let crs = Crs::from_wkt2_2019(text);
-        (
-            words,
-            tests,
-            crs,
-            transform.extract_projjson(alloc, &srid),
-            transform.extract_wkt(alloc, &srid),
-        )
+        let projjson = transform.extract_projjson(alloc, &srid);
+        (tests, crs, projjson, transform.extract_wkt(alloc, &srid))
     })?;
-    assert_eq!(rt;
-        words,
-        (
-            Some(CrsType::Wkt2_2019),
-            Some(Edges::Karney),
-            "srid",
-            "vincenty"
-        )
-    );
     assert_eq!(rt; tests, (false, false));
     assert_eq!(rt; crs.crs_type(), Some(CrsType::Wkt2_2019));
     assert_eq!(rt; crs.crs_value().and_then(Value::as_str), Some("TESTCRS[]"));

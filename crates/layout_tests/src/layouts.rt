@@ -5,8 +5,8 @@ use arrow_values::{DataType, Field, UnionFields, UnionMode};
 use geoarrow_layout::CoordType::{Interleaved, Separated};
 use geoarrow_layout::Dimension::{XY, XYM, XYZ, XYZM};
 use geoarrow_layout::{
-    Kind, NativeKind, Width, box_data_type, geometry_data_type, list_data_type, mixed_data_type,
-    parse_box, parse_geometry, parse_mixed, summarize,
+    CoordType, Dimension, Kind, NativeKind, Width, box_data_type, geometry_data_type,
+    list_data_type, mixed_data_type, parse_box, parse_geometry, parse_mixed, summarize,
 };
 use std::alloc::{AllocError, Global};
 use std::test::Fail;
@@ -65,43 +65,35 @@ fn named(alloc: Global, names: &[&str], leaf: DataType) -> Result<DataType, Allo
     Ok(tree)
 }
 
+/// Kinds, a dimension, the names of the lists that are written, and those of the coordinates.
+const LISTS: [(NativeKind, Dimension, &[&str], &[&str]); 6] = [
+    (NativeKind::Point, XY, &[], &["x", "y"]),
+    (NativeKind::LineString, XY, &["vertices"], &["x", "y"]),
+    (
+        NativeKind::Polygon,
+        XYZ,
+        &["rings", "vertices"],
+        &["x", "y", "z"],
+    ),
+    (NativeKind::MultiPoint, XYZ, &["points"], &["x", "y", "z"]),
+    (
+        NativeKind::MultiLineString,
+        XYZ,
+        &["linestrings", "vertices"],
+        &["x", "y", "z"],
+    ),
+    (
+        NativeKind::MultiPolygon,
+        XYM,
+        &["polygons", "rings", "vertices"],
+        &["x", "y", "m"],
+    ),
+];
+
 #[test]
 fn are_lists_of_named_items(rt: HostRuntime) -> Result<(), Fail> {
     let alloc = rt.alloc();
-    let rows = [
-        (NativeKind::Point, XY, [].as_slice(), ["x", "y"].as_slice()),
-        (
-            NativeKind::LineString,
-            XY,
-            ["vertices"].as_slice(),
-            ["x", "y"].as_slice(),
-        ),
-        (
-            NativeKind::Polygon,
-            XYZ,
-            ["rings", "vertices"].as_slice(),
-            ["x", "y", "z"].as_slice(),
-        ),
-        (
-            NativeKind::MultiPoint,
-            XYZ,
-            ["points"].as_slice(),
-            ["x", "y", "z"].as_slice(),
-        ),
-        (
-            NativeKind::MultiLineString,
-            XYZ,
-            ["linestrings", "vertices"].as_slice(),
-            ["x", "y", "z"].as_slice(),
-        ),
-        (
-            NativeKind::MultiPolygon,
-            XYM,
-            ["polygons", "rings", "vertices"].as_slice(),
-            ["x", "y", "m"].as_slice(),
-        ),
-    ];
-    for (kind, dimension, names, coordinates) in rows {
+    for (kind, dimension, names, coordinates) in LISTS {
         let tree = list_data_type(alloc, kind, Separated, dimension)?;
         let wanted = named(alloc, names, floats(alloc, coordinates)?)?;
         assert!(rt; tree == wanted, "{kind:?}");
@@ -178,47 +170,48 @@ fn are_unions_of_named_members(rt: HostRuntime) -> Result<(), Fail> {
     Ok(())
 }
 
+/// Native kinds, and their names.
+const NATIVE_NAMES: [(NativeKind, &str); 7] = [
+    (NativeKind::Point, "geoarrow.point"),
+    (NativeKind::LineString, "geoarrow.linestring"),
+    (NativeKind::Polygon, "geoarrow.polygon"),
+    (NativeKind::MultiPoint, "geoarrow.multipoint"),
+    (NativeKind::MultiLineString, "geoarrow.multilinestring"),
+    (NativeKind::MultiPolygon, "geoarrow.multipolygon"),
+    (
+        NativeKind::GeometryCollection,
+        "geoarrow.geometrycollection",
+    ),
+];
+
+/// The other kinds, and their names, coordinate types and dimensions.
+const OTHERS: [(Kind, &str, Option<CoordType>, Option<Dimension>); 4] = [
+    (
+        Kind::Geometry(Interleaved),
+        "geoarrow.geometry",
+        Some(Interleaved),
+        None,
+    ),
+    (Kind::Rect(XYM), "geoarrow.box", Some(Separated), Some(XYM)),
+    (Kind::Wkb(Width::Large), "geoarrow.wkb", None, None),
+    (Kind::Wkt(Width::View), "geoarrow.wkt", None, None),
+];
+
 #[test]
 fn have_names_and_parts(rt: HostRuntime) -> Result<(), Fail> {
-    let native = |kind| Kind::Native(kind, Interleaved, XYM);
-    let rows = [
-        (native(NativeKind::Point), "geoarrow.point"),
-        (native(NativeKind::LineString), "geoarrow.linestring"),
-        (native(NativeKind::Polygon), "geoarrow.polygon"),
-        (native(NativeKind::MultiPoint), "geoarrow.multipoint"),
-        (
-            native(NativeKind::MultiLineString),
-            "geoarrow.multilinestring",
-        ),
-        (native(NativeKind::MultiPolygon), "geoarrow.multipolygon"),
-        (
-            native(NativeKind::GeometryCollection),
-            "geoarrow.geometrycollection",
-        ),
-        (Kind::Geometry(Interleaved), "geoarrow.geometry"),
-        (Kind::Rect(XYM), "geoarrow.box"),
-        (Kind::Wkb(Width::Large), "geoarrow.wkb"),
-        (Kind::Wkt(Width::View), "geoarrow.wkt"),
-    ];
-    for (kind, name) in rows {
+    for (native, name) in NATIVE_NAMES {
+        let kind = Kind::Native(native, Interleaved, XYM);
         assert_eq!(rt; kind.name(), name);
+        let parts = (kind.coord_type(), kind.dimension());
+        assert_eq!(rt; parts, (Some(Interleaved), Some(XYM)), "{name}");
     }
-    let point = native(NativeKind::Point);
-    assert_eq!(rt;
-        (point.coord_type(), point.dimension()),
-        (Some(Interleaved), Some(XYM))
-    );
-    let geometry = Kind::Geometry(Interleaved);
-    assert_eq!(rt;
-        (geometry.coord_type(), geometry.dimension()),
-        (Some(Interleaved), None)
-    );
-    let rect = Kind::Rect(XYM);
-    assert_eq!(rt;
-        (rect.coord_type(), rect.dimension()),
-        (Some(Separated), Some(XYM))
-    );
-    let text = Kind::Wkt(Width::View);
-    assert_eq!(rt; (text.coord_type(), text.dimension()), (None, None));
+    for (kind, name, coord_type, dimension) in OTHERS {
+        assert_eq!(rt; kind.name(), name);
+        assert_eq!(rt;
+            (kind.coord_type(), kind.dimension()),
+            (coord_type, dimension),
+            "{name}"
+        );
+    }
     Ok(())
 }

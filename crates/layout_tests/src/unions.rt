@@ -3,7 +3,9 @@ use crate::trees::Shape::{Floats, Large, List, Sized, Text, Union};
 use crate::trees::{Shape, build};
 use geoarrow_layout::CoordType::{Interleaved, Separated};
 use geoarrow_layout::Dimension::{XY, XYZM};
-use geoarrow_layout::{LayoutFault, parse_geometry, parse_geometry_collection, parse_mixed};
+use geoarrow_layout::{
+    CoordType, LayoutFault, parse_geometry, parse_geometry_collection, parse_mixed,
+};
 use std::test::Fail;
 
 const XY_FIELDS: Shape<'static> = Floats(&["x", "y"]);
@@ -30,43 +32,45 @@ const OF_TWO_DIMENSIONS: Shape<'static> = Union(&[(1, XY_FIELDS), (11, XYZ_FIELD
 
 const POINTS_OF_FOUR: Shape<'static> = Union(&[(31, FOUR_FIELDS)]);
 
+/// Data types, and how they are read as unions of geometries of any kind.
+const GEOMETRIES: [(Shape<'static>, Result<CoordType, LayoutFault>); 16] = [
+    (POINTS, Ok(Separated)),
+    (Union(&[(6, List(&SIZED_LISTS))]), Ok(Interleaved)),
+    (
+        Union(&[(1, XY_FIELDS), (6, List(&SIZED_LISTS))]),
+        Err(LayoutFault::SeveralCoordTypes),
+    ),
+    (OF_TWO_DIMENSIONS, Ok(Separated)),
+    (Union(&[(37, Large(&POINTS_OF_FOUR))]), Ok(Separated)),
+    (Union(&[]), Err(LayoutFault::EmptyUnion)),
+    (Union(&[(11, XY_FIELDS)]), Err(LayoutFault::MemberDimension)),
+    (
+        Union(&[(7, List(&POINTS_OF_FOUR))]),
+        Err(LayoutFault::MemberDimension),
+    ),
+    (
+        Union(&[(1, Text), (38, Text)]),
+        Err(LayoutFault::UnexpectedType),
+    ),
+    (Union(&[(38, Text), (1, Text)]), Err(LayoutFault::BadTypeId)),
+    (
+        Union(&[(11, XY_FIELDS), (2, Text)]),
+        Err(LayoutFault::MemberDimension),
+    ),
+    (
+        Union(&[(1, Sized("xy", i32::MIN))]),
+        Err(LayoutFault::BadSize),
+    ),
+    (Union(&[(7, XY_FIELDS)]), Err(LayoutFault::UnexpectedType)),
+    (Union(&[(1, POINTS)]), Err(LayoutFault::UnexpectedType)),
+    (XY_FIELDS, Err(LayoutFault::UnexpectedType)),
+    (List(&POINTS), Err(LayoutFault::UnexpectedType)),
+];
+
 #[test]
 fn of_geometries_are_judged_member_by_member(rt: HostRuntime) -> Result<(), Fail> {
     let alloc = rt.alloc();
-    let rows = [
-        (POINTS, Ok(Separated)),
-        (Union(&[(6, List(&SIZED_LISTS))]), Ok(Interleaved)),
-        (
-            Union(&[(1, XY_FIELDS), (6, List(&SIZED_LISTS))]),
-            Err(LayoutFault::SeveralCoordTypes),
-        ),
-        (OF_TWO_DIMENSIONS, Ok(Separated)),
-        (Union(&[(37, Large(&POINTS_OF_FOUR))]), Ok(Separated)),
-        (Union(&[]), Err(LayoutFault::EmptyUnion)),
-        (Union(&[(11, XY_FIELDS)]), Err(LayoutFault::MemberDimension)),
-        (
-            Union(&[(7, List(&POINTS_OF_FOUR))]),
-            Err(LayoutFault::MemberDimension),
-        ),
-        (
-            Union(&[(1, Text), (38, Text)]),
-            Err(LayoutFault::UnexpectedType),
-        ),
-        (Union(&[(38, Text), (1, Text)]), Err(LayoutFault::BadTypeId)),
-        (
-            Union(&[(11, XY_FIELDS), (2, Text)]),
-            Err(LayoutFault::MemberDimension),
-        ),
-        (
-            Union(&[(1, Sized("xy", i32::MIN))]),
-            Err(LayoutFault::BadSize),
-        ),
-        (Union(&[(7, XY_FIELDS)]), Err(LayoutFault::UnexpectedType)),
-        (Union(&[(1, POINTS)]), Err(LayoutFault::UnexpectedType)),
-        (XY_FIELDS, Err(LayoutFault::UnexpectedType)),
-        (List(&POINTS), Err(LayoutFault::UnexpectedType)),
-    ];
-    for (shape, answer) in rows {
+    for (shape, answer) in GEOMETRIES {
         assert_eq!(rt; parse_geometry(&build(alloc, &shape)?), answer);
     }
     for id in [0, 8, 10, 38, 65, 127] {

@@ -10,3 +10,5 @@ mod columns;
 mod lines;
 #[cfg(test)]
 mod reading;
+#[cfg(test)]
+mod words;

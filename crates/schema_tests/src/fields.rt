@@ -33,9 +33,16 @@ fn must_have_the_name_to_be_read(rt: HostRuntime) -> Result<(), Fail> {
     let alloc = rt.alloc();
     let unnamed = column(alloc, "", PAIR)?;
     let other = named(alloc, "geoarrow.wkb", PAIR)?;
-    for field in [unnamed, other] {
-        let read = field.try_extension_type::<PointType>(alloc);
-        assert!(rt; matches!(read, Err(ArrowError::InvalidArgumentError(_))));
+    for (field, wanted) in [
+        (unnamed, "extension name missing"),
+        (other, "extension name differs"),
+    ] {
+        let refused = field.try_extension_type::<PointType>(alloc).err();
+        let why = match &refused {
+            Some(ArrowError::InvalidArgumentError(why)) => why.as_str(),
+            _ => "another error, or none",
+        };
+        assert_eq!(rt; why, wanted);
     }
     let field = named(alloc, "geoarrow.point", PAIR)?;
     assert!(rt; field.try_extension_type::<PointType>(alloc)? == PointType::new(XY, plain(alloc)?));

@@ -1,0 +1,66 @@
+//! The words that the program is started with, and the status that it ends with.
+ghost use Rattle.std.specs.Prelude.{◌≡◌, ◌⊎◌, ◌↔◌, None, Some, IsSome, map, string_bytes};
+ghost use Rattle.geoarrow_fields.specs.declared.Command.{Command};
+ghost use Rattle.geoarrow_fields.specs.Arguments.{word_of, Name};
+ghost use Rattle.geoarrow_fields.specs.Output.{AnswersAll, ReadsAndWrites};
+
+use crate::reading::run;
+use crate::{Command, RunEnd};
+use std::alloc::Global;
+use std::io::{Read, Write};
+
+/// The command that a word names, or none.
+fn command_named(word: &str) -> Option<Command>
+    ensures { (c : Command) → (result ≡ Some c) ↔ (word.now ≡ word_of c) }
+{
+    match word {
+        "read" => Some(Command::Read),
+        "infer" => Some(Command::Infer),
+        "canon" => Some(Command::Canon),
+        "columns" => Some(Command::Columns),
+        _ => None,
+    }
+}
+
+/// The command that the words name: one word, and no more.
+pub fn command_of(words: &[String]) -> Option<Command>
+    ensures { (c : Command) → (result ≡ Some c) ↔ Name (map string_bytes words.now) c }
+{
+    match words {
+        [word] => command_named(word.as_str()),
+        _ => None,
+    }
+}
+
+/// Runs the command that the words name over a reader and a writer, and says how it ended; none, and nothing is read or
+/// written, where they name none.
+pub fn serve<R: Read, W: Write>(
+    alloc: Global,
+    words: &[String],
+    reader: &mut R,
+    writer: &mut W,
+) -> Option<RunEnd>
+    ensures usage { result ≡ None → (c : Command) → ¬ Name (map string_bytes words.now) c }
+    ensures named { IsSome result → (c : Command) × Name (map string_bytes words.now) c }
+    ensures done { result ≡ Some RunEnd.Done → (c : Command) → Name (map string_bytes words.now) c
+        → ReadsAndWrites (AnswersAll c) (R.remaining reader.old) (R.remaining reader.new)
+        (W.contents writer.old) (W.contents writer.new) }
+{
+    match command_of(words) {
+        None => None,
+        Some(command) => Some(run(alloc, command, reader, writer)),
+    }
+}
+
+/// The status that the program ends with: 0 where all is done, 2 where the words name no command, 1 at each other end.
+pub fn status_of(end: Option<RunEnd>) -> u8
+    ensures done { (result ≡ 0) ↔ (end ≡ Some RunEnd.Done) }
+    ensures usage { (result ≡ 2) ↔ (end ≡ None) }
+    ensures fault { (result ≡ 0) ⊎ (result ≡ 2) ⊎ (result ≡ 1) }
+{
+    match end {
+        None => 2,
+        Some(RunEnd::Done) => 0,
+        Some(RunEnd::InputFault | RunEnd::Memory | RunEnd::OutputFault) => 1,
+    }
+}
