@@ -4,3 +4,4 @@ pub mod Laws
 pub mod Grows
 pub mod Steps
 pub mod Ways
+pub mod Runs

@@ -1,7 +1,9 @@
 -- What a run writes for the bytes that it read, at each of its ends.
 use Rattle.std.specs.Prelude.{◌≡◌, ◌⊎◌, List, [], ◌∷◌, ◌++◌, length, codes, Option}
-use Rattle.std.specs.Io.KnownBytes.{Appends, Consumes}
+use Rattle.std.specs.Io.KnownBytes.{Appends, Consumes, IsAtEnd}
 use Rattle.geoarrow_fields.specs.declared.Command.{Command}
+use Rattle.geoarrow_fields.specs.declared.RunEnd.{RunEnd}
+use Rattle.geoarrow_fields.specs.declared.RunEnd.TheVariants.{Done, InputFault, Memory, OutputFault}
 use Rattle.geoarrow_fields.specs.Lines.{Bytes, line_feed, lines_of, IsLine, IsWithinLimits, IsPastLimit, IsSplit}
 use Rattle.geoarrow_fields.specs.Answer.{Answers}
 
@@ -86,3 +88,10 @@ pub record ReadsAndWritesPart (Output : Bytes → Bytes → Type 0) (in_old in_n
   pub input : Bytes
   pub consumed : Consumes in_old in_new input
   pub written : AppendsPartOfSome (Output input) out_old out_new
+
+-- a run of the command that ended so has read and written that
+abbrev pub RunsTo : Command → RunEnd → (in_old in_new out_old out_new : Option Bytes) → Type 0
+RunsTo command Done i j o p = ReadsAndWrites (AnswersAll command) i j o p × IsAtEnd j
+RunsTo command InputFault i j o p = ReadsAndWrites (EndsForInput command) i j o p
+RunsTo command Memory i j o p = ReadsAndWrites (EndsForMemory command) i j o p
+RunsTo command OutputFault i j o p = ReadsAndWritesPart (BreaksOff command) i j o p

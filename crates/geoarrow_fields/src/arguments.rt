@@ -1,8 +1,8 @@
 //! The words that the program is started with, and the status that it ends with.
-ghost use Rattle.std.specs.Prelude.{◌≡◌, ◌⊎◌, ◌↔◌, None, Some, IsSome, map, string_bytes};
+ghost use Rattle.std.specs.Prelude.{◌≡◌, ◌⊎◌, ◌↔◌, None, Some, IfSome, map, string_bytes};
 ghost use Rattle.geoarrow_fields.specs.declared.Command.{Command};
 ghost use Rattle.geoarrow_fields.specs.Arguments.{word_of, Name};
-ghost use Rattle.geoarrow_fields.specs.Output.{AnswersAll, ReadsAndWrites};
+ghost use Rattle.geoarrow_fields.specs.Output.{RunsTo};
 
 use crate::reading::run;
 use crate::{Command, RunEnd};
@@ -41,10 +41,10 @@ pub fn serve<R: Read, W: Write>(
     writer: &mut W,
 ) -> Option<RunEnd>
     ensures usage { result ≡ None → (c : Command) → ¬ Name (map string_bytes words.now) c }
-    ensures named { IsSome result → (c : Command) × Name (map string_bytes words.now) c }
-    ensures done { result ≡ Some RunEnd.Done → (c : Command) → Name (map string_bytes words.now) c
-        → ReadsAndWrites (AnswersAll c) (R.remaining reader.old) (R.remaining reader.new)
-        (W.contents writer.old) (W.contents writer.new) }
+    ensures untouched { result ≡ None → (reader.new ≡ reader.old) × (writer.new ≡ writer.old) }
+    ensures ran { IfSome result (λ end. (c : Command) × Name (map string_bytes words.now) c
+        × RunsTo c end (R.remaining reader.old) (R.remaining reader.new)
+        (W.contents writer.old) (W.contents writer.new)) }
 {
     match command_of(words) {
         None => None,

@@ -1,7 +1,7 @@
 //! The loop that reads an input, answers its lines and ends.
 ghost use Rattle.std.specs.Prelude.{◌≡◌, ◌<◌, ◌≤◌, length, take, IfOk, OnOk, IfErr, vec_len};
 ghost use Rattle.std.specs.Io.KnownBytes.{Consumes, IsAtEnd, Keeps};
-ghost use Rattle.geoarrow_fields.specs.Output.{AnswersAll, AnswersFirst, StopsForInput, StopsForMemory, EndsForInput, EndsForMemory, BreaksOff, ReadsAndWrites, ReadsAndWritesPart};
+ghost use Rattle.geoarrow_fields.specs.Output.{AnswersAll, AnswersFirst, StopsForInput, StopsForMemory, ReadsAndWrites, ReadsAndWritesPart, RunsTo};
 
 use crate::lines::{answer_chunk, end_line};
 use crate::output::{Fault, finish};
@@ -92,15 +92,8 @@ pub fn run<R: Read, W: Write>(
     reader: &mut R,
     writer: &mut W,
 ) -> RunEnd
-    ensures done { result ≡ RunEnd.Done → ReadsAndWrites (AnswersAll command)
-        (R.remaining reader.old) (R.remaining reader.new) (W.contents writer.old) (W.contents writer.new) }
-    ensures end { result ≡ RunEnd.Done → IsAtEnd (R.remaining reader.new) }
-    ensures input { result ≡ RunEnd.InputFault → ReadsAndWrites (EndsForInput command)
-        (R.remaining reader.old) (R.remaining reader.new) (W.contents writer.old) (W.contents writer.new) }
-    ensures memory { result ≡ RunEnd.Memory → ReadsAndWrites (EndsForMemory command)
-        (R.remaining reader.old) (R.remaining reader.new) (W.contents writer.old) (W.contents writer.new) }
-    ensures output { result ≡ RunEnd.OutputFault → ReadsAndWritesPart (BreaksOff command)
-        (R.remaining reader.old) (R.remaining reader.new) (W.contents writer.old) (W.contents writer.new) }
+    ensures { RunsTo command result (R.remaining reader.old) (R.remaining reader.new)
+        (W.contents writer.old) (W.contents writer.new) }
 {
     match answer_lines(alloc, command, reader, writer) {
         Ok(()) => finish(writer, b"", RunEnd::Done),
