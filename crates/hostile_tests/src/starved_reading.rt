@@ -1,6 +1,6 @@
 //! Fields that are read while each request for memory is refused in turn.
 use crate::fields::Meaning::{Nothing, Spherical, X};
-use crate::fields::{Meaning, PAIR, SPHERICAL, TWO, column, described, geoarrow_type};
+use crate::fields::{Meaning, SPHERICAL, TWO, column, described, geoarrow_type, named};
 use crate::judging::judge;
 use crate::refusals::Sort;
 use arrow_values::Field;
@@ -8,7 +8,7 @@ use geoarrow_columns::{Column, ColumnFault, check_columns};
 use geoarrow_schema::CoordType::{Interleaved, Separated};
 use geoarrow_schema::Dimension::{XY, XYM};
 use geoarrow_schema::{GeoArrowType, Kind, NativeKind, Width};
-use scarce_memory::{Answer, Course, starve};
+use scarce_memory::{Answer, starve};
 use std::alloc::{AllocError, Global};
 use std::test::Fail;
 
@@ -21,7 +21,7 @@ type Row = (
     Result<(Kind, Meaning), Sort>,
 );
 
-/// Points as they are written, with numbers before each other.
+/// Points of two interleaved coordinates.
 const POINT: Kind = Kind::Native(NativeKind::Point, Interleaved, XY);
 
 /// A list of a union of a member that no collection has.
@@ -115,7 +115,7 @@ const UNNAMED: [Row; 3] = [
 fn field_of(alloc: Global, row: Row) -> Result<Field, AllocError> {
     match row {
         (Some(name), Some(text), data_type, _) => described(alloc, name, text, data_type),
-        (Some(name), None, data_type, _) => crate::fields::named(alloc, name, data_type),
+        (Some(name), None, data_type, _) => named(alloc, name, data_type),
         (None, _, data_type, _) => column(alloc, "", data_type),
     }
 }

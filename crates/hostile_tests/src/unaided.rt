@@ -1,9 +1,7 @@
 //! Calls that take no memory, with every request for it refused.
 use crate::fields::Meaning::{Nothing, Spherical, X};
 use crate::fields::{PAIR, TWO, column, described, geoarrow_type, metadata, named};
-use arrow_values::{
-    AppendFault, ArrowError, DataType, ExtensionType, GeoArrowError, UnionFields, UnionMode,
-};
+use arrow_values::{AppendFault, ArrowError, DataType, ExtensionType, GeoArrowError, UnionFields};
 use geoarrow_layout::{Candidates, alike, append_members, candidates, keep_members, written_kind};
 use geoarrow_meta::{Crs, CrsTransform, CrsType, DefaultCrsTransform, Edges, Metadata};
 use geoarrow_native::GeometryTypeId;
@@ -11,7 +9,7 @@ use geoarrow_schema::CoordType::{Interleaved, Separated};
 use geoarrow_schema::Dimension::{XY, XYM, XYZM};
 use geoarrow_schema::{
     BoxType, GeoArrowType, GeometryType, Kind, MultiPolygonType, NativeKind, PointType, Width,
-    WkbType, WktType,
+    WkbType,
 };
 use scarce_memory::without_memory;
 use serde_json::Value;

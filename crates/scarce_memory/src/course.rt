@@ -42,7 +42,8 @@ impl Course {
     }
 }
 
-/// Calls with no memory left, then with 16 bytes, then with 32, until the call answers other than by want of memory.
+/// Calls with no memory left, then with 16 bytes, then with 32, until the call answers other than by want of memory, and
+/// says how it fared. Errs where memory cannot be made scarce.
 pub fn starve<F: FnMut() -> Answer>(alloc: Global, call: F) -> Result<Course, AllocError>
     requires { F.IsAlwaysCallable call }
 {

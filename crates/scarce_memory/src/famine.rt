@@ -40,7 +40,7 @@ fn take_small(alloc: Global, blocks: &mut Vec<Vec<u8>>) {
 }
 
 impl Famine {
-    /// Takes all memory but `rounds` reserves.
+    /// Takes all memory but `rounds` reserves, one for each `leave`. Errs where the reserves themselves find no memory.
     pub fn new(alloc: Global, rounds: usize) -> Result<Famine, AllocError> {
         let mut blocks = Vec::with_capacity(alloc, BLOCKS)?;
         let mut reserves = Vec::with_capacity(alloc, rounds)?;
@@ -55,7 +55,7 @@ impl Famine {
         Ok(Famine { blocks, reserves })
     }
 
-    /// Leaves about `bytes` to be had, and keeps the rest of a reserve.
+    /// Leaves about `bytes` to be had, and keeps the rest of a reserve. Leaves nothing where no reserve is left.
     pub fn leave(&mut self, alloc: Global, bytes: usize) {
         if let Some(reserve) = self.reserves.pop() {
             drop(reserve);
