@@ -1,25 +1,6 @@
-//! Tests of `geoarrow_layout`, in a crate of their own, since a crate with tests is proved twice.
+//! Tests of `geoarrow_layout` while memory is wanting. What its calls answer with ample memory is shown by the rows of
+//! `layout_rows`.
 #![tactic(auto)]
 
 #[cfg(test)]
-mod boxes;
-#[cfg(test)]
-mod dimensions;
-#[cfg(test)]
-mod faults;
-#[cfg(test)]
-mod inference;
-#[cfg(test)]
-mod layouts;
-#[cfg(test)]
-mod leaves;
-#[cfg(test)]
-mod lists;
-#[cfg(test)]
 mod memory;
-#[cfg(test)]
-mod summaries;
-#[cfg(test)]
-mod trees;
-#[cfg(test)]
-mod unions;

@@ -1,126 +1,169 @@
 //! What takes no memory works where none is to be had, and what takes some answers want of it.
-use crate::trees::Shape::{Floats, Large, List, Sized, Union};
-use crate::trees::{build, floats, sized};
-use arrow_values::{ArrowError, DataType, Dimensions};
+use arrow_values::{ArrowError, DataType, Dimensions, GeoArrowError};
 use geoarrow_layout::CoordType::{Interleaved, Separated};
 use geoarrow_layout::Dimension::{XY, XYM, XYZ, XYZM};
 use geoarrow_layout::{
-    Bottom, Dimension, Kind, LayoutFault, NativeKind, box_data_type, coord_data_type,
-    geometry_data_type, infer_point, list_data_type, mixed_data_type, parse_box, parse_geometry,
-    parse_geometry_collection, parse_linestring, parse_mixed, parse_multilinestring,
-    parse_multipoint, parse_multipolygon, parse_point, parse_polygon, summarize,
+    Candidates, CoordType, Dimension, Kind, LayoutFault, NativeKind, Summary, Width, alike,
+    box_data_type, candidates, coord_data_type, geometry_data_type, infer_point, kind_data_type,
+    list_data_type, mixed_data_type, parse_box, parse_geometry, parse_geometry_collection,
+    parse_linestring, parse_mixed, parse_multilinestring, parse_multipoint, parse_multipolygon,
+    parse_point, parse_polygon, parse_wkb, parse_wkt, summarize, written_kind,
 };
 use scarce_memory::without_memory;
+use std::alloc::{AllocError, Global};
 use std::test::Fail;
+use test_fields::notation::data_type;
 
-#[test]
-fn none_is_taken_by_readers_of_points(rt: HostRuntime) -> Result<(), Fail> {
-    let alloc = rt.alloc();
-    let interleaved = sized(alloc, "xyz", DataType::Float64, 3)?;
-    let separated = floats(alloc, &["x", "y"])?;
-    let (points, dimension) = without_memory(alloc, || {
-        let points = [parse_point(&interleaved), parse_point(&separated)];
-        let dimension = Dimension::try_from_dimensions(alloc, Dimensions::Unknown(4)).ok();
-        (points, dimension)
-    })?;
-    assert_eq!(rt; points, [Ok((Interleaved, XYZ)), Ok((Separated, XY))]);
-    assert_eq!(rt; dimension, Some(XYZM));
-    Ok(())
+/// What the calls that look at a data type answer.
+#[derive(Clone, Copy, PartialEq)]
+struct Answers {
+    readings: [Result<(CoordType, Dimension), LayoutFault>; 8],
+    geometry: Result<CoordType, LayoutFault>,
+    rect: Result<Dimension, LayoutFault>,
+    widths: [Result<Width, LayoutFault>; 2],
+    inferred: Option<(CoordType, Dimension)>,
+    names: Candidates,
+    written: Option<Kind>,
+    summary: Summary,
+    told: Option<Kind>,
+    alike: bool,
+}
+
+/// The answers about a data type, the kind told under the name of a collection.
+fn answers_about(tree: &DataType) -> Answers {
+    let summary = summarize(tree);
+    Answers {
+        readings: [
+            parse_point(tree),
+            parse_linestring(tree),
+            parse_polygon(tree),
+            parse_multipoint(tree),
+            parse_multilinestring(tree),
+            parse_multipolygon(tree),
+            parse_mixed(tree),
+            parse_geometry_collection(tree),
+        ],
+        geometry: parse_geometry(tree),
+        rect: parse_box(tree),
+        widths: [parse_wkb(tree), parse_wkt(tree)],
+        inferred: infer_point(tree),
+        names: candidates(tree),
+        written: written_kind(tree),
+        summary,
+        told: summary.kind("geoarrow.geometrycollection"),
+        alike: alike(tree, tree),
+    }
+}
+
+/// Data types of each layout and of none.
+const TREES: [&str; 16] = [
+    "FixedSizeList(xyz, 3)",
+    "FixedSizeList(xyz, 2)",
+    "Struct(x, y)",
+    "Struct(a, b, c)",
+    "List(v: Struct(x, m, y))",
+    "LargeList*2(v: Struct(x, m, y))",
+    "List*3(v: Struct(x, y))",
+    "List(v: LargeList(v: Struct(x, y)))",
+    "List(points: Struct(x, y))",
+    "Union(11: FixedSizeList(xyz, 3))",
+    "List(v: Union(11: FixedSizeList(xyz, 3)))",
+    "Union(38: Utf8, 1: Utf8)",
+    "Struct(xmin, ymin, xmax, ymax)",
+    "LargeBinary",
+    "Utf8View",
+    "List*100(v: Struct(x, y))",
+];
+
+/// The answers about a data type while every request for memory is refused.
+fn unaided(alloc: Global, tree: &DataType) -> Result<Answers, AllocError> {
+    without_memory(alloc, || answers_about(tree))
 }
 
 #[test]
-fn none_is_taken_by_readers_of_lists(rt: HostRuntime) -> Result<(), Fail> {
+fn none_is_taken_to_look_at_a_data_type(rt: HostRuntime) -> Result<(), Fail> {
     let alloc = rt.alloc();
-    let leaf = Floats(&["x", "m", "y"]);
-    let lists = [List(&leaf), Large(&leaf)];
-    let one = build(alloc, &lists[0])?;
-    let two = build(alloc, &Large(&lists[1]))?;
-    let (answers, fault) = without_memory(alloc, || {
-        let answers = [
-            parse_linestring(&one),
-            parse_multipoint(&one),
-            parse_polygon(&two),
-            parse_multilinestring(&two),
-        ];
-        (answers, parse_multipolygon(&two))
-    })?;
-    assert_eq!(rt; answers, [Ok((Separated, XYM)); 4]);
-    assert_eq!(rt; fault, Err(LayoutFault::UnexpectedType));
+    for &text in TREES.iter() {
+        let tree = data_type(alloc, text)?;
+        assert!(rt; unaided(alloc, &tree)? == answers_about(&tree), "{text}");
+    }
     Ok(())
 }
 
+/// Data types, and the points that they are taken for.
+const POINTS: [(&str, Option<(CoordType, Dimension)>); 9] = [
+    ("Struct(m, y, x)", Some((Separated, XYM))),
+    ("Struct(x, y, m)", Some((Separated, XYM))),
+    ("Struct(a, b, c)", Some((Separated, XYZ))),
+    ("Struct(x, x, m)", Some((Separated, XYZ))),
+    ("FixedSizeList(xym, 3)", Some((Interleaved, XYM))),
+    ("FixedSizeList(item, 3)", Some((Interleaved, XYZ))),
+    ("FixedSizeList(xym, 2)", Some((Interleaved, XY))),
+    ("Struct(x, y, m: Utf8)", None),
+    ("FixedSizeList(xym, 5)", None),
+];
+
 #[test]
-fn none_is_taken_by_readers_of_unions(rt: HostRuntime) -> Result<(), Fail> {
+fn none_is_taken_to_infer_a_point(rt: HostRuntime) -> Result<(), Fail> {
     let alloc = rt.alloc();
-    let members = [(11, Sized("xyz", 3))];
-    let union = Union(&members);
-    let mixed = build(alloc, &union)?;
-    let listed = build(alloc, &List(&union))?;
-    let (answers, geometry, kind) = without_memory(alloc, || {
-        let answers = [parse_mixed(&mixed), parse_geometry_collection(&listed)];
-        let kind = summarize(&listed).kind("geoarrow.geometrycollection");
-        (answers, parse_geometry(&mixed), kind)
-    })?;
-    assert_eq!(rt; answers, [Ok((Interleaved, XYZ)); 2]);
-    assert_eq!(rt; geometry, Ok(Interleaved));
-    let wanted = Kind::Native(NativeKind::GeometryCollection, Interleaved, XYZ);
-    assert_eq!(rt; kind, Some(wanted));
+    for &(text, point) in POINTS.iter() {
+        let tree = data_type(alloc, text)?;
+        assert_eq!(rt; unaided(alloc, &tree)?.inferred, point, "{text}");
+    }
     Ok(())
 }
 
-#[test]
-fn none_is_taken_by_boxes_and_inference(rt: HostRuntime) -> Result<(), Fail> {
-    let alloc = rt.alloc();
-    let four = floats(alloc, &["xmin", "ymin", "xmax", "ymax"])?;
-    let measured = floats(alloc, &["m", "y", "x"])?;
-    let named = sized(alloc, "xym", DataType::Float64, 3)?;
-    let large = sized(alloc, "xym", DataType::Float64, 5)?;
-    let (rect, bottom, inferred) = without_memory(alloc, || {
-        let inferred = [
-            infer_point(&measured),
-            infer_point(&named),
-            infer_point(&large),
-        ];
+/// Calls, and whether they are right while every request for memory is refused: those that take memory answer want of
+/// it, and the others are answered.
+fn refused(alloc: Global) -> [(&'static str, bool); 11] {
+    let four = Dimension::try_from_dimensions(alloc, Dimensions::Unknown(4));
+    let seven = Dimension::try_from_dimensions(alloc, Dimensions::Unknown(7));
+    let fault = LayoutFault::EmptyUnion.into_arrow_error(alloc);
+    [
         (
-            parse_box(&four),
-            summarize(&DataType::Utf8).bottom,
-            inferred,
-        )
-    })?;
-    assert_eq!(rt; rect, Ok(XY));
-    assert_eq!(rt; bottom, Bottom::Other);
-    assert_eq!(rt;
-        inferred,
-        [Some((Separated, XYM)), Some((Interleaved, XYM)), None]
-    );
-    Ok(())
+            "coord_data_type",
+            coord_data_type(alloc, Interleaved, XY).is_err(),
+        ),
+        (
+            "list_data_type",
+            list_data_type(alloc, NativeKind::Polygon, Separated, XY).is_err(),
+        ),
+        (
+            "mixed_data_type",
+            mixed_data_type(alloc, Separated, XY).is_err(),
+        ),
+        (
+            "geometry_data_type",
+            geometry_data_type(alloc, Separated).is_err(),
+        ),
+        ("box_data_type", box_data_type(alloc, XY).is_err()),
+        (
+            "kind_data_type, box",
+            kind_data_type(alloc, Kind::Rect(XY)).is_err(),
+        ),
+        (
+            "kind_data_type, bytes",
+            kind_data_type(alloc, Kind::Wkb(Width::Large)).is_ok(),
+        ),
+        (
+            "kind_data_type, text",
+            kind_data_type(alloc, Kind::Wkt(Width::View)).is_ok(),
+        ),
+        ("try_from_dimensions, four", matches!(four, Ok(XYZM))),
+        (
+            "try_from_dimensions, seven",
+            matches!(seven, Err(GeoArrowError::Arrow(ArrowError::OutOfMemory))),
+        ),
+        ("into_arrow_error", matches!(fault, ArrowError::OutOfMemory)),
+    ]
 }
 
 #[test]
 fn want_of_it_is_answered(rt: HostRuntime) -> Result<(), Fail> {
     let alloc = rt.alloc();
-    let (built, refusal, fault) = without_memory(alloc, || {
-        let built = [
-            coord_data_type(alloc, Interleaved, XY).is_err(),
-            list_data_type(alloc, NativeKind::Polygon, Separated, XY).is_err(),
-            mixed_data_type(alloc, Separated, XY).is_err(),
-            geometry_data_type(alloc, Separated).is_err(),
-            box_data_type(alloc, XY).is_err(),
-        ];
-        let refusal = Dimension::try_from_dimensions(alloc, Dimensions::Unknown(7));
-        (
-            built,
-            refusal,
-            LayoutFault::EmptyUnion.into_arrow_error(alloc),
-        )
-    })?;
-    assert_eq!(rt; built, [true; 5]);
-    assert!(rt;
-        matches!(
-            refusal,
-            Err(arrow_values::GeoArrowError::Arrow(ArrowError::OutOfMemory))
-        )
-    );
-    assert!(rt; matches!(fault, ArrowError::OutOfMemory));
+    let calls = without_memory(alloc, || refused(alloc))?;
+    for &(call, right) in calls.iter() {
+        assert!(rt; right, "{call}");
+    }
     Ok(())
 }

@@ -1,14 +1,14 @@
 //! The metadata of a field, and of a small extension type that stands on the calls of the metadata.
-use crate::parts::{authority, text};
+use crate::parts::{SPHERICAL, read, refusal, spherical};
 use arrow_values::{
     ArrowError, DataType, EXTENSION_TYPE_METADATA_KEY, EXTENSION_TYPE_NAME_KEY, ExtensionType,
     Field,
 };
+use geoarrow_meta::Metadata;
 use geoarrow_meta::laws::text_stands_for_one;
-use geoarrow_meta::{Crs, Edges, Metadata};
 use std::alloc::{AllocError, Global};
-use std::collections::BTreeMap;
 use std::test::Fail;
+use test_fields::notation::{column, described};
 
 /// An extension type over `Binary` alone, that is nothing but its metadata.
 #[derive(Debug, Drop)]
@@ -71,10 +71,7 @@ impl ExtensionType for Marked {
         if let DataType::Binary = data_type {
             return Ok(());
         }
-        match text(alloc, "unexpected data type") {
-            Ok(message) => Err(ArrowError::SchemaError(message)),
-            Err(_) => Err(ArrowError::OutOfMemory),
-        }
+        Err(ArrowError::schema_error(alloc, "unexpected data type"))
     }
 
     fn try_new(
@@ -94,79 +91,191 @@ impl ExtensionType for Marked {
     }
 }
 
-/// A field of that data type, with texts at the name and at the metadata key.
-fn field(
-    alloc: Global,
-    data_type: DataType,
-    name: Option<&str>,
-    metadata: Option<&str>,
-) -> Result<Field, AllocError> {
-    let mut texts = BTreeMap::new(alloc);
-    if let Some(name) = name {
-        drop(texts.insert(text(alloc, EXTENSION_TYPE_NAME_KEY)?, text(alloc, name)?)?);
-    }
-    if let Some(metadata) = metadata {
-        drop(texts.insert(
-            text(alloc, EXTENSION_TYPE_METADATA_KEY)?,
-            text(alloc, metadata)?,
-        )?);
-    }
-    Ok(Field::new(alloc, "f", data_type, true)?.with_metadata(texts))
+/// The type of the metadata of a text.
+fn type_of(alloc: Global, text: &str) -> Result<Marked, AllocError> {
+    Ok(Marked {
+        metadata: read(alloc, text)?,
+    })
 }
 
 #[test]
 fn of_a_field_is_that_of_its_text(rt: HostRuntime) -> Result<(), Fail> {
     let alloc = rt.alloc();
-    let wanted = Metadata::new(authority(alloc, "EPSG:4326")?, Some(Edges::Spherical));
-    let read = r#"{"crs":"EPSG:4326","crs_type":"authority_code","edges":"spherical"}"#;
-    let marked = field(alloc, DataType::Utf8, Some("example.other"), Some(read))?;
-    assert!(rt; Metadata::try_from_field(alloc, &marked)? == wanted);
-    let plain = field(alloc, DataType::Utf8, None, None)?;
-    assert!(rt; Metadata::try_from_field(alloc, &plain)? == Metadata::default());
-    let refused = field(alloc, DataType::Utf8, None, Some("not valid json"))?;
-    assert!(rt;
-        matches!(
-            Metadata::try_from_field(alloc, &refused),
-            Err(ArrowError::ExternalError(_))
-        )
-    );
+    let field = described(alloc, "example.other", SPHERICAL, "Utf8")?;
+    assert!(rt; Metadata::try_from_field(alloc, &field)? == spherical(alloc));
     Ok(())
+}
+
+#[test]
+fn of_a_field_without_text_is_the_default(rt: HostRuntime) -> Result<(), Fail> {
+    let alloc = rt.alloc();
+    let field = column(alloc, &[], "Utf8")?;
+    assert!(rt; Metadata::try_from_field(alloc, &field)? == Metadata::default());
+    Ok(())
+}
+
+#[test]
+fn of_a_field_is_refused_with_its_text(rt: HostRuntime) -> Result<(), Fail> {
+    let alloc = rt.alloc();
+    let texts = [(EXTENSION_TYPE_METADATA_KEY, "not valid json")];
+    let field = column(alloc, &texts, "Utf8")?;
+    let refused = refusal(alloc, Metadata::try_from_field(alloc, &field))?;
+    let wanted = "External error: External error: metadata is not JSON";
+    assert_eq!(rt; refused.as_str(), wanted);
+    Ok(())
+}
+
+/// The texts of a field before a type is written on it.
+const STALE: &[(&str, &str)] = &[
+    (EXTENSION_TYPE_METADATA_KEY, "stale"),
+    (EXTENSION_TYPE_NAME_KEY, "stale"),
+    ("kept", "too"),
+];
+
+/// Metadata texts, and the texts of that field once the type of that metadata is written on it.
+const WRITTEN: [(&str, &[(&str, &str)]); 2] = [
+    (
+        "{}",
+        &[(EXTENSION_TYPE_NAME_KEY, "tests.marked"), ("kept", "too")],
+    ),
+    (
+        r#"{"crs_type":"srid","crs":"1234"}"#,
+        &[
+            (
+                EXTENSION_TYPE_METADATA_KEY,
+                r#"{"crs":"1234","crs_type":"srid"}"#,
+            ),
+            (EXTENSION_TYPE_NAME_KEY, "tests.marked"),
+            ("kept", "too"),
+        ],
+    ),
+];
+
+/// The field of those texts with the type of a metadata written on it.
+fn written(alloc: Global, texts: &[(&str, &str)], text: &str) -> Result<Field, ArrowError> {
+    let marked = type_of(alloc, text)?;
+    let mut field = column(alloc, texts, "Binary")?;
+    field.try_with_extension_type(alloc, &marked)?;
+    Ok(field)
+}
+
+/// Whether a field is `g`, may be null, and has those texts and `Binary`.
+fn is_column(alloc: Global, field: &Field, texts: &[(&str, &str)]) -> Result<bool, AllocError> {
+    Ok(*field == column(alloc, texts, "Binary")?)
+}
+
+/// Whether the type that is read from a field has the metadata of a text.
+fn is_read(alloc: Global, field: &Field, text: &str) -> Result<bool, ArrowError> {
+    let found = field.try_extension_type::<Marked>(alloc)?;
+    Ok(found.metadata == read(alloc, text)?)
 }
 
 #[test]
 fn of_a_type_is_written_on_a_field(rt: HostRuntime) -> Result<(), Fail> {
     let alloc = rt.alloc();
-    let mut field = field(alloc, DataType::Binary, None, Some("stale"))?;
-    let bare = Marked {
-        metadata: Metadata::default(),
-    };
-    field.try_with_extension_type(alloc, &bare)?;
-    assert_eq!(rt; field.extension_type_name(), Some("tests.marked"));
-    assert_eq!(rt; field.extension_type_metadata(), None);
-    let srid = Marked {
-        metadata: Metadata::new(Crs::from_srid(text(alloc, "1234")?), None),
-    };
-    field.try_with_extension_type(alloc, &srid)?;
-    let written = r#"{"crs":"1234","crs_type":"srid"}"#;
-    assert_eq!(rt; field.extension_type_metadata(), Some(written));
-    let read = field.try_extension_type::<Marked>(alloc)?;
-    assert!(rt; read.metadata == srid.metadata);
+    for &(text, wanted) in WRITTEN.iter() {
+        let field = written(alloc, STALE, text)?;
+        assert!(rt; is_column(alloc, &field, wanted)?, "{text}");
+        assert!(rt; is_read(alloc, &field, text)?, "{text}");
+    }
+    Ok(())
+}
+
+#[test]
+fn of_a_type_takes_the_place_of_another(rt: HostRuntime) -> Result<(), Fail> {
+    let alloc = rt.alloc();
+    for &(text, wanted) in WRITTEN.iter() {
+        for &(_, texts) in WRITTEN.iter() {
+            let field = written(alloc, texts, text)?;
+            assert!(rt; is_column(alloc, &field, wanted)?, "{text} over {texts:?}");
+        }
+    }
+    Ok(())
+}
+
+/// A field that is handed over, with the type of a metadata written on it.
+fn handed_over(alloc: Global, text: &str) -> Result<Field, ArrowError> {
+    let marked = type_of(alloc, text)?;
+    let plain = Field::new(alloc, "g", DataType::Binary, true)?;
+    plain.with_extension_type(alloc, &marked)
+}
+
+#[test]
+fn of_a_type_is_written_on_a_field_that_is_handed_over(rt: HostRuntime) -> Result<(), Fail> {
+    let alloc = rt.alloc();
+    let field = handed_over(alloc, SPHERICAL)?;
+    let wanted = [
+        (
+            EXTENSION_TYPE_METADATA_KEY,
+            r#"{"crs":{},"crs_type":"projjson","edges":"spherical"}"#,
+        ),
+        (EXTENSION_TYPE_NAME_KEY, "tests.marked"),
+    ];
+    assert!(rt; is_column(alloc, &field, &wanted)?);
+    drop(field);
+    let field = handed_over(alloc, "{}")?;
+    let wanted = [(EXTENSION_TYPE_NAME_KEY, "tests.marked")];
+    assert!(rt; is_column(alloc, &field, &wanted)?);
     Ok(())
 }
 
 #[test]
 fn of_a_type_is_refused_with_the_field(rt: HostRuntime) -> Result<(), Fail> {
     let alloc = rt.alloc();
-    let unnamed = field(alloc, DataType::Binary, None, None)?;
-    let refusal = unnamed.try_extension_type::<Marked>(alloc);
-    assert!(rt; matches!(refusal, Err(ArrowError::InvalidArgumentError(_))));
-    let mut other = field(alloc, DataType::Utf8, Some("tests.marked"), Some("{}"))?;
-    let before = other.try_clone(alloc)?;
-    let bare = Marked {
-        metadata: Metadata::default(),
-    };
-    let refusal = other.try_with_extension_type(alloc, &bare);
-    assert!(rt; matches!(refusal, Err(ArrowError::SchemaError(_))));
-    assert!(rt; other == before);
+    let marked = type_of(alloc, SPHERICAL)?;
+    let mut other = described(alloc, "tests.other", "{}", "Utf8")?;
+    let refused = refusal(alloc, other.try_with_extension_type(alloc, &marked))?;
+    assert_eq!(rt; refused.as_str(), "Schema error: unexpected data type");
+    drop(refused);
+    assert!(rt; other == described(alloc, "tests.other", "{}", "Utf8")?);
+    Ok(())
+}
+
+/// How the type is refused where it is read from a field.
+fn read_refusal(
+    alloc: Global,
+    texts: &[(&str, &str)],
+    data_type: &str,
+) -> Result<String, AllocError> {
+    let field = column(alloc, texts, data_type)?;
+    refusal(alloc, field.try_extension_type::<Marked>(alloc))
+}
+
+/// What is said of another name.
+const DIFFERS: &str = "Invalid argument error: extension name differs";
+
+/// Extension names, metadata texts and data types of fields, and how the type is refused.
+const REFUSED: [(&str, &str, &str, &str); 4] = [
+    ("tests.other", "no JSON", "Utf8", DIFFERS),
+    ("tests.marke", "{}", "Binary", DIFFERS),
+    (
+        "tests.marked",
+        "no JSON",
+        "Utf8",
+        "External error: External error: metadata is not JSON",
+    ),
+    (
+        "tests.marked",
+        "{}",
+        "Utf8",
+        "Schema error: unexpected data type",
+    ),
+];
+
+#[test]
+fn of_a_type_is_not_read_from_other_fields(rt: HostRuntime) -> Result<(), Fail> {
+    let alloc = rt.alloc();
+    for &(name, text, data_type, wanted) in REFUSED.iter() {
+        let texts = [
+            (EXTENSION_TYPE_NAME_KEY, name),
+            (EXTENSION_TYPE_METADATA_KEY, text),
+        ];
+        let refused = read_refusal(alloc, &texts, data_type)?;
+        assert_eq!(rt; refused.as_str(), wanted, "{name} {text} {data_type}");
+    }
+    let texts = [(EXTENSION_TYPE_METADATA_KEY, "{}")];
+    let refused = read_refusal(alloc, &texts, "Binary")?;
+    let wanted = "Invalid argument error: extension name missing";
+    assert_eq!(rt; refused.as_str(), wanted);
     Ok(())
 }

@@ -1,4 +1,5 @@
-//! Tests of `geoarrow_meta`, in a crate of their own, since a crate with tests is proved twice.
+//! Tests of what no text can show of `geoarrow_meta`: equality, hashes, clones, values and implementations of its traits.
+//! What is read from texts and written to them stands in rows.
 #![tactic(auto)]
 
 #[cfg(test)]
@@ -6,12 +7,8 @@ mod crs;
 #[cfg(test)]
 mod extension;
 #[cfg(test)]
-mod names;
-#[cfg(test)]
 mod parts;
-#[cfg(test)]
-mod reading;
 #[cfg(test)]
 mod transforms;
 #[cfg(test)]
-mod writing;
+mod values;

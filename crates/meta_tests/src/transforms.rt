@@ -1,27 +1,10 @@
 //! What a CRS is converted to.
-use crate::parts::{empty_projjson, text};
+use crate::parts::{empty_projjson, read};
 use arrow_values::{GeoArrowError, GeoArrowResult};
-use geoarrow_meta::{Crs, CrsTransform, DefaultCrsTransform, Metadata};
+use geoarrow_meta::{Crs, CrsTransform, DefaultCrsTransform};
 use serde_json::Value;
-use std::alloc::Global;
+use std::alloc::{AllocError, Global};
 use std::test::Fail;
-
-#[test]
-fn take_what_the_crs_holds(rt: HostRuntime) -> Result<(), Fail> {
-    let alloc = rt.alloc();
-    let none = DefaultCrsTransform {};
-    let wkt = Crs::from_wkt2_2019(text(alloc, "TESTCRS[]")?);
-    let srid = Crs::from_srid(text(alloc, "1234")?);
-    let projjson = empty_projjson(alloc);
-    let found = none.extract_wkt(alloc, &wkt)?;
-    assert!(rt; found.is_some_and(|found| found.as_str() == "TESTCRS[]"));
-    assert!(rt; none.extract_wkt(alloc, &srid)?.is_none());
-    assert!(rt; none.extract_wkt(alloc, &projjson)?.is_none());
-    let found = none.extract_projjson(alloc, &projjson)?;
-    assert!(rt; found.is_some_and(|found| found.is_object()));
-    assert!(rt; none.extract_projjson(alloc, &wkt)?.is_none());
-    Ok(())
-}
 
 /// It converts each CRS to one text, and none to PROJJSON.
 #[derive(Debug, Drop)]
@@ -35,31 +18,108 @@ impl CrsTransform for OneText {
     ghost wkt_gives = { λ _ _ _. ⊤ };
 
     fn _convert_to_projjson(&self, alloc: Global, _crs: &Crs) -> GeoArrowResult<Option<Value>> {
-        Err(GeoArrowError::Crs(text(alloc, "no PROJJSON")?))
+        Err(GeoArrowError::Crs(String::from_str(alloc, "no PROJJSON")?))
     }
 
     fn _convert_to_wkt(&self, alloc: Global, _crs: &Crs) -> GeoArrowResult<Option<String>> {
-        Ok(Some(text(alloc, "ENGCRS[]")?))
+        Ok(Some(String::from_str(alloc, "ENGCRS[]")?))
     }
 }
 
-#[test]
-fn take_what_a_conversion_answers_else(rt: HostRuntime) -> Result<(), Fail> {
-    let alloc = rt.alloc();
-    let rows = [
-        (r#"{"crs":"A","crs_type":"wkt2:2019"}"#, "A"),
-        (r#"{"crs":{},"crs_type":"wkt2:2019"}"#, "ENGCRS[]"),
-        (r#"{"crs_type":"wkt2:2019"}"#, "ENGCRS[]"),
-        (r#"{"crs":"A"}"#, "ENGCRS[]"),
-    ];
-    for (read, wkt) in rows {
-        let metadata = Metadata::deserialize(alloc, Some(read))?;
-        let found = OneText {}.extract_wkt(alloc, metadata.crs())?;
-        assert!(rt; found.is_some_and(|found| found.as_str() == wkt));
-        let refused = OneText {}.extract_projjson(alloc, metadata.crs());
-        assert!(rt; matches!(refused, Err(GeoArrowError::Crs(_))));
+/// The text that is answered, `-` for none, or what the refusal prints.
+fn wkt(alloc: Global, found: GeoArrowResult<Option<String>>) -> Result<String, AllocError> {
+    match found {
+        Ok(Some(text)) => Ok(text),
+        Ok(None) => String::from_str(alloc, "-"),
+        Err(error) => error.to_string(alloc),
     }
-    let lone = Metadata::deserialize(alloc, Some(r#"{"crs_type":"projjson"}"#))?;
-    assert!(rt; OneText {}.extract_projjson(alloc, lone.crs())?.is_none());
+}
+
+/// The same of a PROJJSON value.
+fn projjson(alloc: Global, found: GeoArrowResult<Option<Value>>) -> Result<String, AllocError> {
+    match found {
+        Ok(Some(value)) => value.to_string(alloc),
+        Ok(None) => String::from_str(alloc, "-"),
+        Err(error) => error.to_string(alloc),
+    }
+}
+
+/// Texts of metadata, and what is answered for their CRS as WKT and as PROJJSON.
+const ANSWERS: [(&str, &str, &str); 8] = [
+    (r#"{"crs":"A","crs_type":"wkt2:2019"}"#, "A", REFUSED),
+    (r#"{"crs":{},"crs_type":"wkt2:2019"}"#, "ENGCRS[]", REFUSED),
+    (r#"{"crs_type":"wkt2:2019"}"#, "ENGCRS[]", REFUSED),
+    (r#"{"crs":"A"}"#, "ENGCRS[]", REFUSED),
+    (r#"{"crs":{}}"#, "ENGCRS[]", REFUSED),
+    ("{}", "ENGCRS[]", REFUSED),
+    (r#"{"crs":{},"crs_type":"projjson"}"#, "ENGCRS[]", "{}"),
+    (r#"{"crs_type":"projjson"}"#, "ENGCRS[]", "-"),
+];
+
+/// What the refusal of the conversion prints.
+const REFUSED: &str = "CRS related error: no PROJJSON";
+
+/// What `OneText` answers for the CRS of a text as WKT.
+fn extracted_wkt(alloc: Global, text: &str) -> Result<String, AllocError> {
+    let metadata = read(alloc, text)?;
+    wkt(alloc, OneText {}.extract_wkt(alloc, metadata.crs()))
+}
+
+/// The same as PROJJSON.
+fn extracted_projjson(alloc: Global, text: &str) -> Result<String, AllocError> {
+    let metadata = read(alloc, text)?;
+    projjson(alloc, OneText {}.extract_projjson(alloc, metadata.crs()))
+}
+
+#[test]
+fn is_what_it_holds_or_what_a_conversion_answers(rt: HostRuntime) -> Result<(), Fail> {
+    let alloc = rt.alloc();
+    for &(text, wanted_wkt, wanted_projjson) in ANSWERS.iter() {
+        let found = extracted_wkt(alloc, text)?;
+        assert_eq!(rt; found.as_str(), wanted_wkt, "{text}");
+        drop(found);
+        let found = extracted_projjson(alloc, text)?;
+        assert_eq!(rt; found.as_str(), wanted_projjson, "{text}");
+    }
+    Ok(())
+}
+
+#[test]
+fn is_what_the_conversion_answers_where_it_is_called(rt: HostRuntime) -> Result<(), Fail> {
+    let alloc = rt.alloc();
+    for &(text, _, _) in ANSWERS.iter() {
+        let metadata = read(alloc, text)?;
+        let found = wkt(alloc, OneText {}._convert_to_wkt(alloc, metadata.crs()))?;
+        assert_eq!(rt; found.as_str(), "ENGCRS[]", "{text}");
+        drop(found);
+        let found = projjson(
+            alloc,
+            OneText {}._convert_to_projjson(alloc, metadata.crs()),
+        )?;
+        assert_eq!(rt; found.as_str(), REFUSED, "{text}");
+    }
+    Ok(())
+}
+
+#[test]
+fn is_nothing_where_nothing_is_converted(rt: HostRuntime) -> Result<(), Fail> {
+    let alloc = rt.alloc();
+    let none = DefaultCrsTransform {};
+    for &(text, _, _) in ANSWERS.iter() {
+        let metadata = read(alloc, text)?;
+        let found = wkt(alloc, none._convert_to_wkt(alloc, metadata.crs()))?;
+        assert_eq!(rt; found.as_str(), "-", "{text}");
+        drop(found);
+        let found = projjson(alloc, none._convert_to_projjson(alloc, metadata.crs()))?;
+        assert_eq!(rt; found.as_str(), "-", "{text}");
+    }
+    Ok(())
+}
+
+#[test]
+fn is_its_own_value_where_it_is_projjson(rt: HostRuntime) -> Result<(), Fail> {
+    let alloc = rt.alloc();
+    let found = DefaultCrsTransform {}.extract_projjson(alloc, &empty_projjson(alloc))?;
+    assert!(rt; found == Some(Value::from_str(alloc, "{}")?));
     Ok(())
 }

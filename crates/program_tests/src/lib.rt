@@ -1,9 +1,7 @@
-//! Tests of the lines, their answers, reports over columns and the loop that reads lines, in a crate of their own, since
-//! a crate with tests is proved twice.
+//! Tests of what no row of a file and no run of the program can show: readers and writers that are slow or fail, equality
+//! of fields and of data types, fields as JSON values, and reports over several columns.
 #![tactic(auto)]
 
-#[cfg(test)]
-mod answers;
 #[cfg(test)]
 mod columns;
 #[cfg(test)]

@@ -1,12 +1,13 @@
-//! Lines: the fields that they stand for, and the lines of fields.
+//! Lines: whether their fields are equal, and the fields of JSON values.
 use arrow_values::{DataType, Field, UnionMode};
-use field_lines::{field_line, parse_line, read_field, write_field};
+use field_lines::{parse_line, read_field, write_field};
 use serde_json::Value;
 use std::alloc::{AllocError, Global};
 use std::test::Fail;
 
-/// Lines as they are written, no two of one field: one for each data type, and for each part that can differ.
-const WRITTEN: [&str; 44] = [
+/// Lines as they are written, no two of one field: one for each data type, and for each part that can differ. That each
+/// reads back to itself is shown by rows of a file.
+const WRITTEN: &[&str] = &[
     r#"{"name":"f","nullable":false,"type":"null"}"#,
     r#"{"name":"f","nullable":false,"type":"boolean"}"#,
     r#"{"name":"f","nullable":false,"type":"int8"}"#,
@@ -53,165 +54,65 @@ const WRITTEN: [&str; 44] = [
     r#"{"name":"f","nullable":false,"type":{"mode":"dense","union":[[2,{"name":"y","nullable":false,"type":"null"}],[1,{"name":"x","nullable":false,"type":"null"}]]}}"#,
 ];
 
-/// The fields that lines stand for, as far as they stand for one.
-fn fields_of(alloc: Global, lines: &[&str]) -> Result<Vec<Field>, AllocError> {
+/// The fields that the lines stand for.
+fn fields(alloc: Global) -> Result<Vec<Field>, AllocError> {
     let mut fields = Vec::new(alloc);
-    for line in lines {
-        if let Some(field) = parse_line(alloc, line.as_bytes())? {
-            fields.push(field)?;
-        }
+    for line in WRITTEN.iter() {
+        fields.push(parse_line(alloc, line.as_bytes())?.ok_or(AllocError)?)?;
     }
     Ok(fields)
 }
 
-#[test]
-fn that_are_written_read_back(rt: HostRuntime) -> Result<(), Fail> {
-    let alloc = rt.alloc();
-    let fields = fields_of(alloc, &WRITTEN)?;
-    assert_eq!(rt; fields.len(), WRITTEN.len());
-    for (i, field) in fields.iter().enumerate() {
-        assert_eq!(rt; field_line(alloc, field)?.as_str(), WRITTEN[i], "field {i}");
-    }
-    Ok(())
+/// The text of a written line's data type, which is the last of its parts.
+fn type_text(line: &str) -> Option<&str> {
+    line.split_once(r#""type":"#).map(|(_, text)| text)
 }
 
 #[test]
 fn of_different_fields_are_told_apart(rt: HostRuntime) -> Result<(), Fail> {
-    let alloc = rt.alloc();
-    let fields = fields_of(alloc, &WRITTEN)?;
-    for (i, a) in fields.iter().enumerate() {
-        for (j, b) in fields.iter().enumerate() {
-            assert_eq!(rt; *a == *b, i == j, "fields {i} and {j}");
+    let fields = fields(rt.alloc())?;
+    let mut alike = 0usize;
+    for (line, a) in WRITTEN.iter().zip(fields.iter()) {
+        for (other, b) in WRITTEN.iter().zip(fields.iter()) {
             let types = *a.data_type() == *b.data_type();
-            assert!(rt; i != j || types, "the type of field {i}");
-        }
-        assert!(rt; a.try_clone(alloc)? == *a);
-    }
-    Ok(())
-}
-
-/// Lines in other forms, and the lines that are written of their fields.
-const SAME: [(&str, &str); 4] = [
-    (
-        r#" { "type" : "null" , "nullable" : true , "name" : "f" } "#,
-        r#"{"name":"f","nullable":true,"type":"null"}"#,
-    ),
-    (
-        r#"{"metadata":{},"name":"f","nullable":true,"type":"null","zz":[1.5e3,{}]}"#,
-        r#"{"name":"f","nullable":true,"type":"null"}"#,
-    ),
-    (
-        r#"{"name":"e","name":"\u0066","nullable":true,"type":"utf8","type":"null"}"#,
-        r#"{"name":"f","nullable":true,"type":"null"}"#,
-    ),
-    (
-        r#"{"name":"f","nullable":true,"type":{"size":2,"fixed_size_list":{"name":"x","nullable":false,"type":"null"}}}"#,
-        r#"{"name":"f","nullable":true,"type":{"fixed_size_list":{"name":"x","nullable":false,"type":"null"},"size":2}}"#,
-    ),
-];
-
-#[test]
-fn that_say_the_same_read_the_same(rt: HostRuntime) -> Result<(), Fail> {
-    let alloc = rt.alloc();
-    for (line, written) in SAME {
-        match parse_line(alloc, line.as_bytes())? {
-            Some(field) => assert_eq!(rt; field_line(alloc, &field)?.as_str(), written, "{line}"),
-            None => assert!(rt; false, "{line}"),
+            assert_eq!(rt; *a == *b, line == other, "the fields of {line} and {other}");
+            assert_eq!(rt;
+                types,
+                type_text(line) == type_text(other),
+                "the types of {line} and {other}"
+            );
+            alike = alike.saturating_add(types as usize);
         }
     }
+    // 37 data types stand alone, and one, null, stands seven times.
+    assert_eq!(rt; alike, 37 + 7 * 7, "pairs of equal data types");
     Ok(())
-}
-
-/// Lines that stand for no field.
-const NO_FIELDS: [&str; 37] = [
-    "",
-    " ",
-    "[]",
-    "null",
-    "{}",
-    r#""name""#,
-    r#"{"name":"f","nullable":true}"#,
-    r#"{"name":"f","type":"null"}"#,
-    r#"{"nullable":true,"type":"null"}"#,
-    r#"{"name":7,"nullable":true,"type":"null"}"#,
-    r#"{"name":"f","nullable":"true","type":"null"}"#,
-    r#"{"name":"f","nullable":true,"type":"Null"}"#,
-    r#"{"name":"f","nullable":true,"type":"struct"}"#,
-    r#"{"name":"f","nullable":true,"type":7}"#,
-    r#"{"name":"f","nullable":true,"type":{}}"#,
-    r#"{"name":"f","nullable":true,"type":"null","metadata":null}"#,
-    r#"{"name":"f","nullable":true,"type":"null","metadata":{"k":7}}"#,
-    r#"{"name":"f","nullable":true,"type":"null"} {}"#,
-    r#"{"name":"f","nullable":true,"type":{"list":"null"}}"#,
-    r#"{"name":"f","nullable":true,"type":{"list":{"name":"x","nullable":true,"type":"null"},"zz":1}}"#,
-    r#"{"name":"f","nullable":true,"type":{"fixed_size_list":{"name":"x","nullable":true,"type":"null"}}}"#,
-    r#"{"name":"f","nullable":true,"type":{"fixed_size_list":{"name":"x","nullable":true,"type":"null"},"size":2147483648}}"#,
-    r#"{"name":"f","nullable":true,"type":{"fixed_size_list":{"name":"x","nullable":true,"type":"null"},"size":-2147483649}}"#,
-    r#"{"name":"f","nullable":true,"type":{"fixed_size_list":{"name":"x","nullable":true,"type":"null"},"size":2.0}}"#,
-    r#"{"name":"f","nullable":true,"type":{"fixed_size_list":{"name":"x","nullable":true,"type":"null"},"size":2e0}}"#,
-    r#"{"name":"f","nullable":true,"type":{"fixed_size_list":{"name":"x","nullable":true,"type":"null"},"size":-0}}"#,
-    r#"{"name":"f","nullable":true,"type":{"fixed_size_list":{"name":"x","nullable":true,"type":"null"},"size":2,"zz":1}}"#,
-    r#"{"name":"f","nullable":true,"type":{"struct":{}}}"#,
-    r#"{"name":"f","nullable":true,"type":{"struct":[7]}}"#,
-    r#"{"name":"f","nullable":true,"type":{"union":[]}}"#,
-    r#"{"name":"f","nullable":true,"type":{"mode":"Dense","union":[]}}"#,
-    r#"{"name":"f","nullable":true,"type":{"mode":"dense","union":[[128,{"name":"x","nullable":true,"type":"null"}]]}}"#,
-    r#"{"name":"f","nullable":true,"type":{"mode":"dense","union":[[-1,{"name":"x","nullable":true,"type":"null"}]]}}"#,
-    r#"{"name":"f","nullable":true,"type":{"mode":"dense","union":[[1,{"name":"x","nullable":true,"type":"null"}],[1,{"name":"x","nullable":true,"type":"null"}]]}}"#,
-    r#"{"name":"f","nullable":true,"type":{"mode":"dense","union":[[1,{"name":"x","nullable":true,"type":"null"},2]]}}"#,
-    r#"{"name":"f","nullable":true,"type":{"mode":"dense","union":[{"name":"x","nullable":true,"type":"null"}]}}"#,
-    r#"{"name":"f","nullable":true,"type":{"mode":"dense","union":[],"zz":1}}"#,
-];
-
-#[test]
-fn that_stand_for_no_field_are_refused(rt: HostRuntime) -> Result<(), Fail> {
-    let alloc = rt.alloc();
-    for line in NO_FIELDS {
-        assert!(rt; parse_line(alloc, line.as_bytes())?.is_none(), "{line}");
-    }
-    assert!(rt; parse_line(alloc, &[255])?.is_none());
-    Ok(())
-}
-
-/// A line of so many lists in one another.
-fn nested(alloc: Global, lists: usize) -> Result<String, AllocError> {
-    let mut line = String::from_str(alloc, r#"{"name":"f","nullable":true,"type":"#)?;
-    for _ in 0..lists {
-        line.push_str(r#"{"list":{"name":"x","nullable":true,"type":"#)?;
-    }
-    line.push_str(r#""null""#)?;
-    for _ in 0..lists {
-        line.push_str("}}")?;
-    }
-    line.push_str("}")?;
-    Ok(line)
 }
 
 #[test]
-fn may_nest_to_a_limit(rt: HostRuntime) -> Result<(), Fail> {
-    let alloc = rt.alloc();
-    let deepest = nested(alloc, 63)?;
-    match parse_line(alloc, deepest.as_bytes())? {
-        Some(field) => assert_eq!(rt; field_line(alloc, &field)?.as_str(), deepest.as_str()),
-        None => assert!(rt; false, "127 objects in one another are read"),
+fn of_clones_are_the_same(rt: HostRuntime) -> Result<(), Fail> {
+    for (line, field) in WRITTEN.iter().zip(fields(rt.alloc())?.iter()) {
+        let clone = field.try_clone(rt.alloc())?;
+        assert!(rt; clone == *field, "{line}");
     }
-    let deeper = nested(alloc, 64)?;
-    assert!(rt; parse_line(alloc, deeper.as_bytes())?.is_none());
     Ok(())
 }
+
+/// The line of a union of two members.
+const UNION: &str =
+    r#"{"name":"f","nullable":false,"type":{"mode":"dense","union":[[1,{"name":"x","nullable":false,"type":"null"}],[2,{"name":"y","nullable":false,"type":"null"}]]}}"#;
 
 #[test]
 fn and_values_stand_for_the_same_fields(rt: HostRuntime) -> Result<(), Fail> {
     let alloc = rt.alloc();
-    let union = WRITTEN[42];
-    let value = Value::from_str(alloc, union)?;
+    let value = Value::from_str(alloc, UNION)?;
     match read_field(alloc, value)? {
         Some(field) => {
             assert!(rt; matches!(field.data_type(), DataType::Union(_, UnionMode::Dense)));
             let written = write_field(alloc, &field)?;
-            assert_eq!(rt; written.to_string(alloc)?.as_str(), union);
+            assert_eq!(rt; written.to_string(alloc)?.as_str(), UNION);
         }
-        None => assert!(rt; false, "{union}"),
+        None => assert!(rt; false, "{UNION}"),
     }
     assert!(rt; read_field(alloc, Value::Null)?.is_none());
     Ok(())

@@ -3,6 +3,7 @@ use geoarrow_fields::{Command, RunEnd, run};
 use std::alloc::{AllocError, Global};
 use std::io;
 use std::io::{Error, ErrorKind, Read, Write};
+use std::process::Abort;
 use std::test::Fail;
 
 /// Gives one byte a call, and fails at the call `fails_at`, where calls count from 0.
@@ -60,17 +61,6 @@ impl Read for Repeated {
         let n = buf.len().min(self.left);
         self.left -= n;
         Ok(n)
-    }
-}
-
-/// Gives one byte for ever.
-#[derive(Drop)]
-struct Endless(u8);
-
-impl Read for Endless {
-    fn read(&mut self, buf: &mut [u8]) -> io::Result<usize> {
-        buf.fill(self.0);
-        Ok(buf.len())
     }
 }
 
@@ -132,32 +122,60 @@ fn refused(alloc: Global, times: usize, last: &[u8]) -> Result<Vec<u8>, AllocErr
     Ok(text)
 }
 
-/// Lines, one byte a call or all at once, and no line at all.
+/// A column of points.
+const POINT: &[u8] =
+    br#"{"metadata":{"ARROW:extension:name":"geoarrow.point"},"name":"geometry","nullable":true,"type":{"struct":[{"name":"x","nullable":false,"type":"float64"},{"name":"y","nullable":false,"type":"float64"}]}}"#;
+
+/// What the lines of an input are, a command, the input, and what is written.
+const INPUTS: &[(&str, Command, &[u8], &[u8])] = &[
+    ("no fields", Command::Read, LINES, ANSWERS),
+    ("no fields under canon", Command::Canon, LINES, ANSWERS),
+    (
+        "a field, a carriage return and no text",
+        Command::Read,
+        b"{\n{\"name\":\"a\",\"nullable\":true,\"type\":\"null\"}\n\r\n\xff\n",
+        b"error field\nnone\nerror field\nerror field\n",
+    ),
+    ("nothing", Command::Read, b"", b""),
+    ("a blank line", Command::Infer, b"\n", b"error field\n"),
+    ("a point", Command::Read, POINT, b"point separated XY -\n"),
+    (
+        "a point under infer",
+        Command::Infer,
+        POINT,
+        b"point separated XY -\n",
+    ),
+    (
+        "a point under columns",
+        Command::Columns,
+        POINT,
+        b"geometry point separated XY -\n",
+    ),
+];
+
+/// What a run writes, whose end must be this one.
+fn output<R: Read>(
+    rt: &(impl Abort + AllocGlobal),
+    command: Command,
+    reader: &mut R,
+    end: RunEnd,
+) -> Vec<u8> {
+    let mut out = Vec::new(rt.alloc());
+    let ended = run(rt.alloc(), command, reader, &mut out);
+    assert_eq!(rt; ended, end, "{command:?}");
+    out
+}
+
+/// Lines, one byte a call and all at once, and no line at all.
 #[test]
 fn answers_lines_in_order(rt: HostRuntime) -> Result<(), Fail> {
-    let plain = b"{\n{\"name\":\"a\",\"nullable\":true,\"type\":\"null\"}\n\r\n\xff\n";
-    let answers = b"error field\nnone\nerror field\nerror field\n";
-    let table = [
-        (LINES, ANSWERS),
-        (plain.as_slice(), answers.as_slice()),
-        (b"", b""),
-        (b"\n", b"error field\n"),
-    ];
-    for (text, want) in table {
-        let mut slow = Vec::new(rt.alloc());
-        let end = run(
-            rt.alloc(),
-            Command::Read,
-            &mut OneByte::new(text),
-            &mut slow,
-        );
-        assert_eq!(rt; end, RunEnd::Done);
-        assert!(rt; slow.as_slice() == want);
-        let mut whole = Vec::new(rt.alloc());
-        let mut reader = text;
-        let end = run(rt.alloc(), Command::Canon, &mut reader, &mut whole);
-        assert_eq!(rt; end, RunEnd::Done);
-        assert!(rt; whole.as_slice() == want);
+    for &(name, command, input, answers) in INPUTS.iter() {
+        let mut reader = OneByte::new(input);
+        let slow = output(&rt, command, &mut reader, RunEnd::Done);
+        assert!(rt; slow.as_slice() == answers, "{name}, one byte a call");
+        let mut reader = input;
+        let whole = output(&rt, command, &mut reader, RunEnd::Done);
+        assert!(rt; whole.as_slice() == answers, "{name}, all at once");
     }
     Ok(())
 }
@@ -165,18 +183,14 @@ fn answers_lines_in_order(rt: HostRuntime) -> Result<(), Fail> {
 /// A read that fails, for whatever reason: the whole lines before it are answered.
 #[test]
 fn read_fails_at_each_call(rt: HostRuntime) -> Result<(), Fail> {
-    for kind in [ErrorKind::Other, ErrorKind::Interrupted] {
-        let mut before = 0usize;
-        for call in 0..8usize {
-            if call > 0 && LINES.get(call - 1) == Some(&b'\n') {
-                before = before.saturating_add(1);
+    for &kind in [ErrorKind::Other, ErrorKind::Interrupted].iter() {
+        for &(first, next, before) in [(0usize, 3, 0), (3, 5, 1), (5, 6, 2), (6, 8, 3)].iter() {
+            for call in first..next {
+                let mut reader = OneByte::failing(LINES, call, kind);
+                let out = output(&rt, Command::Read, &mut reader, RunEnd::InputFault);
+                let want = refused(rt.alloc(), before, b"error input\n")?;
+                assert!(rt; out.as_slice() == want.as_slice(), "{kind:?} at {call}");
             }
-            let mut out = Vec::new(rt.alloc());
-            let mut reader = OneByte::failing(LINES, call, kind);
-            let end = run(rt.alloc(), Command::Read, &mut reader, &mut out);
-            let want = refused(rt.alloc(), before, b"error input\n")?;
-            assert_eq!(rt; end, RunEnd::InputFault, "at {call}");
-            assert!(rt; out.as_slice() == want.as_slice(), "at {call}");
         }
     }
     Ok(())
@@ -206,67 +220,55 @@ fn write_fails_at_each_call(rt: HostRuntime) -> Result<(), Fail> {
     Ok(())
 }
 
+/// So many bytes a call at most, the call that fails, whether the flush succeeds, and how many bytes stand at the end.
+const FAULTS: &[(usize, usize, bool, usize)] = &[
+    (0, usize::MAX, true, 0),
+    (3, 20, true, 48),
+    (3, usize::MAX, false, 60),
+];
+
 /// A writer that takes nothing, one that fails at the last line, and one that fails at the flush.
 #[test]
 fn writer_fails_at_the_end(rt: HostRuntime) -> Result<(), Fail> {
-    let table = [
-        (0, usize::MAX, true, 0),
-        (3, 20, true, 48),
-        (3, usize::MAX, false, 60),
-    ];
-    for (most, fails_at, keeps, len) in table {
+    for &(most, fails_at, keeps, len) in FAULTS.iter() {
         let mut out = Slow::new(rt.alloc(), most, fails_at, keeps);
         let mut reader = OneByte::failing(b"{\n{\n{\n{\n", 8, ErrorKind::Other);
         let end = run(rt.alloc(), Command::Read, &mut reader, &mut out);
-        assert_eq!(rt; end, RunEnd::OutputFault, "at {len}");
-        assert_eq!(rt; out.text.len(), len);
-    }
-    Ok(())
-}
-
-/// A line of as many bytes as a line may have is answered, and one with a byte more is not.
-#[test]
-fn lines_up_to_the_limit_of_bytes(rt: HostRuntime) -> Result<(), Fail> {
-    for (left, end, want) in [
-        (1_048_576, RunEnd::Done, b"error field\n"),
-        (1_048_577, RunEnd::InputFault, b"error input\n"),
-    ] {
-        let mut out = Vec::new(rt.alloc());
-        let mut reader = Repeated { byte: b'a', left };
         assert_eq!(rt;
-            run(rt.alloc(), Command::Read, &mut reader, &mut out),
-            end,
-            "at {left}"
+            (end, out.text.len()),
+            (RunEnd::OutputFault, len),
+            "where {len} bytes stand"
         );
-        assert!(rt; out.as_slice() == want.as_slice(), "at {left}");
     }
-    let mut out = Vec::new(rt.alloc());
-    let end = run(rt.alloc(), Command::Read, &mut Endless(b'a'), &mut out);
-    assert_eq!(rt; end, RunEnd::InputFault);
-    assert!(rt; out.as_slice() == b"error input\n".as_slice());
-    let mut out = Vec::new(rt.alloc());
-    let mut reader = Read::chain(b"{\n".as_slice(), Endless(b'a'));
-    let end = run(rt.alloc(), Command::Read, &mut reader, &mut out);
-    assert_eq!(rt; end, RunEnd::InputFault);
-    assert!(rt; out.as_slice() == b"error field\nerror input\n".as_slice());
     Ok(())
 }
 
-/// As many lines as an input may have are answered, and no byte may follow the last of them.
+/// A byte, how often it is read, how many lines are answered, the last line, and the end.
+const LIMITS: &[(u8, usize, usize, &[u8], RunEnd)] = &[
+    (b'a', 1_048_576, 1, b"", RunEnd::Done),
+    (b'a', 1_048_577, 0, b"error input\n", RunEnd::InputFault),
+    (b'a', usize::MAX, 0, b"error input\n", RunEnd::InputFault),
+    (b'\n', 1_000_000, 1_000_000, b"", RunEnd::Done),
+    (
+        b'\n',
+        usize::MAX,
+        1_000_000,
+        b"error input\n",
+        RunEnd::InputFault,
+    ),
+];
+
+/// As many bytes as a line may have, as many lines as an input may have, and more of each, also without an end.
 #[test]
-fn lines_up_to_the_limit_of_lines(rt: HostRuntime) -> Result<(), Fail> {
-    let mut out = Vec::new(rt.alloc());
-    let mut reader = Repeated {
-        byte: b'\n',
-        left: 1_000_000,
-    };
-    let end = run(rt.alloc(), Command::Read, &mut reader, &mut out);
-    assert_eq!(rt; end, RunEnd::Done);
-    assert_eq!(rt; out.len(), 12_000_000);
-    let mut out = Vec::new(rt.alloc());
-    let end = run(rt.alloc(), Command::Read, &mut Endless(b'\n'), &mut out);
-    let want = refused(rt.alloc(), 1_000_000, b"error input\n")?;
-    assert_eq!(rt; end, RunEnd::InputFault);
-    assert!(rt; out.as_slice() == want.as_slice());
+fn ends_past_the_limits(rt: HostRuntime) -> Result<(), Fail> {
+    for &(byte, left, answered, last, end) in LIMITS.iter() {
+        let mut reader = Repeated { byte, left };
+        let out = output(&rt, Command::Read, &mut reader, end);
+        let want = refused(rt.alloc(), answered, last)?;
+        assert!(rt;
+            out.as_slice() == want.as_slice(),
+            "the byte {byte}, {left} times"
+        );
+    }
     Ok(())
 }

@@ -1,28 +1,14 @@
-//! Tests of `geoarrow_native`, `geoarrow_multi` and `geoarrow_schema`, in a crate of their own, since a crate with
-//! tests is proved twice.
+//! Tests of `geoarrow_native`, `geoarrow_multi` and `geoarrow_schema` of what no row of `schema_rows` can show: names in
+//! Rust, equality, hashes, clones, and answers compared as values.
 #![tactic(auto)]
 
 #[cfg(test)]
-mod answers;
-#[cfg(test)]
-mod calls;
-#[cfg(test)]
-mod fields;
-#[cfg(test)]
-mod layouts;
-#[cfg(test)]
-mod lines;
-#[cfg(test)]
-mod messages;
-#[cfg(test)]
-mod metadata;
+mod kinds;
 #[cfg(test)]
 mod names;
-#[cfg(test)]
-mod normal;
-#[cfg(test)]
-mod reading;
 #[cfg(test)]
 mod types;
 #[cfg(test)]
 mod usage;
+#[cfg(test)]
+mod values;

@@ -1,18 +1,18 @@
-//! The names and the type ids.
-use crate::lines::plain;
+//! The names of the types, and the names in Rust by which they and what they stand on are reached.
+use crate::values::{plain, spherical};
 use arrow_values::ExtensionType;
-use geoarrow_schema::Dimension::{XY, XYM, XYZ, XYZM};
-use geoarrow_schema::generic::{
-    GeometryCollection, LineString, MultiLineString, MultiPoint, MultiPolygon, NativeShape,
-    NativeType, Point, Polygon,
-};
+use geoarrow_schema::Dimension::XY;
+use geoarrow_schema::crs::{CrsTransform, DefaultCrsTransform};
+use geoarrow_schema::error::{GeoArrowError, GeoArrowResult};
 use geoarrow_schema::type_id::GeometryTypeId;
 use geoarrow_schema::{
-    BoxType, GeometryCollectionType, GeometryType, LineStringType, MultiLineStringType,
-    MultiPointType, MultiPolygonType, PointType, PolygonType, RectType, WkbType, WktType,
+    BoxType, Crs, CrsType, GeoArrowType, GeometryCollectionType, GeometryType, LineStringType,
+    MultiLineStringType, MultiPointType, MultiPolygonType, PointType, PolygonType, RectType,
+    WkbType, WktType,
 };
-use std::alloc::{AllocError, Global};
+use std::alloc::Global;
 use std::test::Fail;
+use test_fields::notation::named;
 
 /// The name of a type, as its constant and as its call say it.
 fn both<E: ExtensionType>() -> (&'static str, &'static str) {
@@ -20,7 +20,7 @@ fn both<E: ExtensionType>() -> (&'static str, &'static str) {
 }
 
 #[test]
-fn are_those_of_the_format(rt: HostRuntime) -> Result<(), Fail> {
+fn are_those_of_the_format(rt: HostRuntime) {
     let rows = [
         (both::<PointType>(), "geoarrow.point"),
         (both::<LineStringType>(), "geoarrow.linestring"),
@@ -38,50 +38,35 @@ fn are_those_of_the_format(rt: HostRuntime) -> Result<(), Fail> {
         (both::<WkbType>(), "geoarrow.wkb"),
         (both::<WktType>(), "geoarrow.wkt"),
     ];
-    for (found, wanted) in rows {
-        assert_eq!(rt; found, (wanted, wanted));
+    for &(found, wanted) in rows.iter() {
+        assert_eq!(rt; found, (wanted, wanted), "{wanted}");
     }
-    assert_eq!(rt; PointType::NAME, "geoarrow.point");
-    Ok(())
 }
 
-/// The type ids of a shape in the four dimensions, after the one in two dimensions.
-fn ids<S: NativeShape>(alloc: Global) -> Result<[i8; 5], AllocError> {
-    let one = NativeType::<S>::new(XY, plain(alloc)?);
-    let xy = one.geometry_type_id();
-    let one = one.with_dimension(XYZ);
-    let xyz = one.geometry_type_id();
-    let one = one.with_dimension(XYM);
-    let xym = one.geometry_type_id();
-    let one = one.with_dimension(XYZM);
-    Ok([
-        NativeType::<S>::GEOMETRY_TYPE_OFFSET,
-        xy,
-        xyz,
-        xym,
-        one.geometry_type_id(),
-    ])
+/// The type id of a type by the trait of the module `type_id`.
+fn id_of<T: GeometryTypeId>(one: &T) -> i8 {
+    one.geometry_type_id()
+}
+
+/// The type of a box whose data type is none, with the result and the error of the module `error`.
+fn refused(alloc: Global) -> GeoArrowResult<GeoArrowType> {
+    let field = named(alloc, "geoarrow.wkb", "Null")?;
+    GeoArrowType::try_from_field(alloc, &field)
 }
 
 #[test]
-fn go_by_type_and_dimension(rt: HostRuntime) -> Result<(), Fail> {
+fn reach_what_stands_below(rt: HostRuntime) -> Result<(), Fail> {
     let alloc = rt.alloc();
-    let rows = [
-        (ids::<Point>(alloc)?, [1, 1, 11, 21, 31]),
-        (ids::<LineString>(alloc)?, [2, 2, 12, 22, 32]),
-        (ids::<Polygon>(alloc)?, [3, 3, 13, 23, 33]),
-        (ids::<MultiPoint>(alloc)?, [4, 4, 14, 24, 34]),
-        (ids::<MultiLineString>(alloc)?, [5, 5, 15, 25, 35]),
-        (ids::<MultiPolygon>(alloc)?, [6, 6, 16, 26, 36]),
-        (ids::<GeometryCollection>(alloc)?, [7, 7, 17, 27, 37]),
-    ];
-    for (found, wanted) in rows {
-        assert!(rt; found == wanted);
-    }
-    let one = MultiPolygonType::new(XYM, plain(alloc)?);
-    assert_eq!(rt;
-        (one.geometry_type_id(), GeometryTypeId::dimension(&one)),
-        (26, XYM)
+    let rect: RectType = BoxType::new(XY, spherical(alloc)?);
+    assert!(rt;
+        GeoArrowType::Rect(rect) == GeoArrowType::from(BoxType::new(XY, spherical(alloc)?))
     );
+    assert_eq!(rt; id_of(&MultiPolygonType::new(XY, plain(alloc)?)), 6);
+    assert!(rt; matches!(refused(alloc), Err(GeoArrowError::InvalidGeoArrow(_))));
+    let crs: geoarrow_schema::crs::Crs = Crs::from_srid(String::from_str(alloc, "1234")?);
+    let crs_type: Option<geoarrow_schema::crs::CrsType> = crs.crs_type();
+    assert_eq!(rt; crs_type, Some(CrsType::Srid));
+    let transform = DefaultCrsTransform::default();
+    assert!(rt; transform.extract_wkt(alloc, &crs)?.is_none());
     Ok(())
 }

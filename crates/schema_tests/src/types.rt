@@ -1,228 +1,147 @@
-//! The calls of `GeoArrowType`.
-use crate::calls::hash_of;
-use crate::lines::plain;
-use crate::metadata::spherical;
+//! The calls of the eleven types: parts, changes, clones, equality, hashes and the names that `Debug` prints.
+use crate::values::{are_same, plain, spherical};
 use geoarrow_schema::CoordType::{Interleaved, Separated};
-use geoarrow_schema::Dimension::{XY, XYM, XYZM};
-use geoarrow_schema::{
-    BoxType, CoordType, Dimension, GeoArrowType, GeometryCollectionType, GeometryType, Kind,
-    LineStringType, Metadata, MultiLineStringType, MultiPointType, MultiPolygonType, NativeKind,
-    PointType, PolygonType, Width,
+use geoarrow_schema::Dimension::{XYM, XYZ};
+use geoarrow_schema::generic::{
+    Encoding, GeometryCollection, LineString, MultiLineString, MultiPoint, MultiPolygon,
+    NativeShape, NativeType, Point, Polygon, SerializedType, Wkb, Wkt,
 };
-use std::alloc::{AllocError, Global};
+use geoarrow_schema::{BoxType, CoordType, Dimension, Edges, GeometryType};
+use std::alloc::Global;
+use std::fmt::Debug;
+use std::process::Abort;
 use std::test::Fail;
 
-/// Kinds, and those with interleaved coordinates and of four dimensions in their place.
-const CHANGED: [(Kind, Kind, Kind); 15] = [
-    (
-        Kind::Native(NativeKind::Point, Separated, XY),
-        Kind::Native(NativeKind::Point, Interleaved, XY),
-        Kind::Native(NativeKind::Point, Separated, XYZM),
-    ),
-    (
-        Kind::Native(NativeKind::LineString, Separated, XY),
-        Kind::Native(NativeKind::LineString, Interleaved, XY),
-        Kind::Native(NativeKind::LineString, Separated, XYZM),
-    ),
-    (
-        Kind::Native(NativeKind::Polygon, Separated, XY),
-        Kind::Native(NativeKind::Polygon, Interleaved, XY),
-        Kind::Native(NativeKind::Polygon, Separated, XYZM),
-    ),
-    (
-        Kind::Native(NativeKind::MultiPoint, Separated, XY),
-        Kind::Native(NativeKind::MultiPoint, Interleaved, XY),
-        Kind::Native(NativeKind::MultiPoint, Separated, XYZM),
-    ),
-    (
-        Kind::Native(NativeKind::MultiLineString, Separated, XY),
-        Kind::Native(NativeKind::MultiLineString, Interleaved, XY),
-        Kind::Native(NativeKind::MultiLineString, Separated, XYZM),
-    ),
-    (
-        Kind::Native(NativeKind::MultiPolygon, Separated, XY),
-        Kind::Native(NativeKind::MultiPolygon, Interleaved, XY),
-        Kind::Native(NativeKind::MultiPolygon, Separated, XYZM),
-    ),
-    (
-        Kind::Native(NativeKind::GeometryCollection, Separated, XY),
-        Kind::Native(NativeKind::GeometryCollection, Interleaved, XY),
-        Kind::Native(NativeKind::GeometryCollection, Separated, XYZM),
-    ),
-    (Kind::Rect(XY), Kind::Rect(XY), Kind::Rect(XYZM)),
-    (
-        Kind::Geometry(Separated),
-        Kind::Geometry(Interleaved),
-        Kind::Geometry(Separated),
-    ),
-    (
-        Kind::Wkb(Width::Plain),
-        Kind::Wkb(Width::Plain),
-        Kind::Wkb(Width::Plain),
-    ),
-    (
-        Kind::Wkb(Width::Large),
-        Kind::Wkb(Width::Large),
-        Kind::Wkb(Width::Large),
-    ),
-    (
-        Kind::Wkb(Width::View),
-        Kind::Wkb(Width::View),
-        Kind::Wkb(Width::View),
-    ),
-    (
-        Kind::Wkt(Width::Plain),
-        Kind::Wkt(Width::Plain),
-        Kind::Wkt(Width::Plain),
-    ),
-    (
-        Kind::Wkt(Width::Large),
-        Kind::Wkt(Width::Large),
-        Kind::Wkt(Width::Large),
-    ),
-    (
-        Kind::Wkt(Width::View),
-        Kind::Wkt(Width::View),
-        Kind::Wkt(Width::View),
-    ),
-];
+/// The edges of `spherical`.
+const SPHERICAL: Option<Edges> = Some(Edges::Spherical);
 
-/// Kinds, and the coordinate type and dimension that their types answer.
-const PARTS: [(Kind, Option<CoordType>, Option<Dimension>); 15] = [
-    (
-        Kind::Native(NativeKind::Point, Interleaved, XYM),
-        Some(Interleaved),
-        Some(XYM),
-    ),
-    (
-        Kind::Native(NativeKind::LineString, Interleaved, XYM),
-        Some(Interleaved),
-        Some(XYM),
-    ),
-    (
-        Kind::Native(NativeKind::Polygon, Interleaved, XYM),
-        Some(Interleaved),
-        Some(XYM),
-    ),
-    (
-        Kind::Native(NativeKind::MultiPoint, Interleaved, XYM),
-        Some(Interleaved),
-        Some(XYM),
-    ),
-    (
-        Kind::Native(NativeKind::MultiLineString, Interleaved, XYM),
-        Some(Interleaved),
-        Some(XYM),
-    ),
-    (
-        Kind::Native(NativeKind::MultiPolygon, Interleaved, XYM),
-        Some(Interleaved),
-        Some(XYM),
-    ),
-    (
-        Kind::Native(NativeKind::GeometryCollection, Interleaved, XYM),
-        Some(Interleaved),
-        Some(XYM),
-    ),
-    (Kind::Rect(XYM), Some(Separated), Some(XYM)),
-    (Kind::Geometry(Interleaved), Some(Interleaved), None),
-    (Kind::Wkb(Width::Plain), None, None),
-    (Kind::Wkb(Width::Large), None, None),
-    (Kind::Wkb(Width::View), None, None),
-    (Kind::Wkt(Width::Plain), None, None),
-    (Kind::Wkt(Width::Large), None, None),
-    (Kind::Wkt(Width::View), None, None),
-];
+/// Whether `Debug` prints that name first.
+fn prints<T: Debug>(alloc: Global, one: &T, name: &str) -> Result<bool, Fail> {
+    let text = format!(in alloc; "{one:?}")?;
+    Ok(text.as_str().starts_with(name))
+}
+
+/// The parts of a native type, of its metadata the edges.
+fn parts<S: NativeShape>(one: &NativeType<S>) -> (CoordType, Dimension, Option<Edges>) {
+    (one.coord_type(), one.dimension(), one.metadata().edges())
+}
+
+/// What holds of a native type of that name: each call changes the part that it names.
+fn shape_changes<S: NativeShape>(rt: &impl Abort, alloc: Global, name: &str) -> Result<(), Fail> {
+    let one = NativeType::<S>::new(XYM, spherical(alloc)?);
+    assert_eq!(rt; parts(&one), (Separated, XYM, SPHERICAL), "{name}");
+    let one = one.with_coord_type(Interleaved);
+    assert_eq!(rt; parts(&one), (Interleaved, XYM, SPHERICAL), "{name}");
+    let one = one.with_dimension(XYZ);
+    assert_eq!(rt; parts(&one), (Interleaved, XYZ, SPHERICAL), "{name}");
+    assert!(rt; prints(alloc, &one, name)?, "{name}");
+    let one = one.with_metadata(plain(alloc)?);
+    assert_eq!(rt; parts(&one), (Interleaved, XYZ, None), "{name}");
+    let (coord_type, dimension, metadata) = one.into_inner();
+    assert_eq!(rt; (coord_type, dimension), (Interleaved, XYZ), "{name}");
+    assert!(rt; metadata == plain(alloc)?, "{name}");
+    Ok(())
+}
+
+/// Types of a shape are equal exactly where all three parts are.
+fn shape_compares<S: NativeShape>(rt: &impl Abort, alloc: Global, name: &str) -> Result<(), Fail> {
+    let one = NativeType::<S>::new(XYM, spherical(alloc)?);
+    let other = one.try_clone(alloc)?;
+    assert!(rt; are_same(&one, &other), "{name}");
+    let other = other.with_coord_type(Interleaved);
+    assert!(rt; one != other, "{name}");
+    let other = other.with_coord_type(Separated).with_dimension(XYZ);
+    assert!(rt; one != other, "{name}");
+    let other = other.with_dimension(XYM).with_metadata(plain(alloc)?);
+    assert!(rt; one != other, "{name}");
+    let other = other.with_metadata(spherical(alloc)?);
+    assert!(rt; are_same(&one, &other), "{name}");
+    Ok(())
+}
+
+/// Both of one shape.
+fn shape<S: NativeShape>(rt: &impl Abort, alloc: Global, name: &str) -> Result<(), Fail> {
+    shape_changes::<S>(rt, alloc, name)?;
+    shape_compares::<S>(rt, alloc, name)
+}
 
 #[test]
-fn change_the_part_that_they_have(rt: HostRuntime) -> Result<(), Fail> {
+fn of_each_shape_have_three_parts(rt: HostRuntime) -> Result<(), Fail> {
     let alloc = rt.alloc();
-    for (kind, interleaved, deep) in CHANGED {
-        let one = GeoArrowType::from_kind(kind, spherical(alloc)?);
-        assert_eq!(rt; one.kind(), kind);
-        let clone = one.try_clone(alloc)?;
-        assert!(rt; clone == one, "{kind:?}");
-        let changed = clone.with_coord_type(Interleaved);
-        assert!(rt;
-            changed == GeoArrowType::from_kind(interleaved, spherical(alloc)?),
-            "{kind:?}"
-        );
-        let changed = one.try_clone(alloc)?.with_dimension(XYZM);
-        assert!(rt;
-            changed == GeoArrowType::from_kind(deep, spherical(alloc)?),
-            "{kind:?}"
-        );
-        let changed = one.with_metadata(plain(alloc)?);
-        assert!(rt;
-            changed == GeoArrowType::from_kind(kind, plain(alloc)?),
-            "{kind:?}"
-        );
-        assert!(rt; **changed.metadata() == Metadata::default(), "{kind:?}");
-    }
+    shape::<Point>(&rt, alloc, "PointType {")?;
+    shape::<LineString>(&rt, alloc, "LineStringType {")?;
+    shape::<Polygon>(&rt, alloc, "PolygonType {")?;
+    shape::<MultiPoint>(&rt, alloc, "MultiPointType {")?;
+    shape::<MultiLineString>(&rt, alloc, "MultiLineStringType {")?;
+    shape::<MultiPolygon>(&rt, alloc, "MultiPolygonType {")?;
+    shape::<GeometryCollection>(&rt, alloc, "GeometryCollectionType {")
+}
+
+#[test]
+fn of_boxes_have_two_parts(rt: HostRuntime) -> Result<(), Fail> {
+    let alloc = rt.alloc();
+    let one = BoxType::new(XYM, spherical(alloc)?);
+    assert_eq!(rt; (one.dimension(), one.metadata().edges()), (XYM, SPHERICAL));
+    assert!(rt; prints(alloc, &one, "BoxType {")?);
+    let other = one.try_clone(alloc)?;
+    assert!(rt; are_same(&one, &other));
+    let other = other.with_dimension(XYZ);
+    assert_eq!(rt;
+        (other.dimension(), other.metadata().edges()),
+        (XYZ, SPHERICAL)
+    );
+    assert!(rt; one != other);
+    let other = other.with_dimension(XYM).with_metadata(plain(alloc)?);
+    assert_eq!(rt; (other.dimension(), other.metadata().edges()), (XYM, None));
+    assert!(rt; one != other);
+    let other = other.with_metadata(spherical(alloc)?);
+    assert!(rt; are_same(&one, &other));
     Ok(())
 }
 
 #[test]
-fn answer_the_parts_that_they_have(rt: HostRuntime) -> Result<(), Fail> {
+fn of_geometries_have_two_parts(rt: HostRuntime) -> Result<(), Fail> {
     let alloc = rt.alloc();
-    for (kind, coord_type, dimension) in PARTS {
-        let one = GeoArrowType::from_kind(kind, spherical(alloc)?);
-        assert_eq!(rt;
-            (one.coord_type(), one.dimension()),
-            (coord_type, dimension)
-        );
-        assert!(rt; **one.metadata() == *spherical(alloc)?, "{kind:?}");
-    }
+    let one = GeometryType::try_default(alloc)?.with_metadata(spherical(alloc)?);
+    assert_eq!(rt;
+        (one.coord_type(), one.metadata().edges()),
+        (Separated, SPHERICAL)
+    );
+    assert!(rt; prints(alloc, &one, "GeometryType {")?);
+    let other = one.try_clone(alloc)?;
+    assert!(rt; are_same(&one, &other));
+    let other = other.with_coord_type(Interleaved);
+    assert_eq!(rt;
+        (other.coord_type(), other.metadata().edges()),
+        (Interleaved, SPHERICAL)
+    );
+    assert!(rt; one != other);
+    let other = GeometryType::new(plain(alloc)?);
+    assert!(rt; one != other);
+    assert!(rt; are_same(&other, &GeometryType::try_default(alloc)?));
+    Ok(())
+}
+
+/// What holds of the type of an encoding, which is of that name.
+fn of_encoding<E: Encoding>(rt: &impl Abort, alloc: Global, name: &str) -> Result<(), Fail> {
+    let one = SerializedType::<E>::new(spherical(alloc)?);
+    assert_eq!(rt; one.metadata().edges(), SPHERICAL, "{name}");
+    assert!(rt; prints(alloc, &one, name)?, "{name}");
+    let other = one.try_clone(alloc)?;
+    assert!(rt; are_same(&one, &other), "{name}");
+    let other = other.with_metadata(plain(alloc)?);
+    assert_eq!(rt; other.metadata().edges(), None, "{name}");
+    assert!(rt; one != other, "{name}");
+    assert!(rt;
+        are_same(&other, &SerializedType::<E>::try_default(alloc)?),
+        "{name}"
+    );
     Ok(())
 }
 
 #[test]
-fn are_equal_where_kind_and_metadata_are(rt: HostRuntime) -> Result<(), Fail> {
+fn of_bytes_and_texts_have_metadata(rt: HostRuntime) -> Result<(), Fail> {
     let alloc = rt.alloc();
-    for (i, (kind, _, _)) in CHANGED.iter().enumerate() {
-        let one = GeoArrowType::from_kind(*kind, spherical(alloc)?);
-        for (j, (other, _, _)) in CHANGED.iter().enumerate() {
-            let other = GeoArrowType::from_kind(*other, spherical(alloc)?);
-            assert_eq!(rt; one == other, i == j, "{i} and {j}");
-            assert!(rt; i != j || hash_of(&one) == hash_of(&other), "{i}");
-        }
-        assert!(rt; one != GeoArrowType::from_kind(*kind, plain(alloc)?), "{i}");
-    }
-    Ok(())
-}
-
-/// Each of the nine types as a `GeoArrowType`.
-fn nine(alloc: Global) -> Result<[GeoArrowType; 9], AllocError> {
-    Ok([
-        GeoArrowType::from(PointType::new(XYM, plain(alloc)?)),
-        GeoArrowType::from(LineStringType::new(XYM, plain(alloc)?)),
-        GeoArrowType::from(PolygonType::new(XYM, plain(alloc)?)),
-        GeoArrowType::from(MultiPointType::new(XYM, plain(alloc)?)),
-        GeoArrowType::from(MultiLineStringType::new(XYM, plain(alloc)?)),
-        GeoArrowType::from(MultiPolygonType::new(XYM, plain(alloc)?)),
-        GeoArrowType::from(GeometryCollectionType::new(XYM, plain(alloc)?)),
-        GeoArrowType::from(BoxType::new(XYM, plain(alloc)?)),
-        GeoArrowType::from(GeometryType::new(plain(alloc)?)),
-    ])
-}
-
-#[test]
-fn are_made_of_nine_types(rt: HostRuntime) -> Result<(), Fail> {
-    let alloc = rt.alloc();
-    let native = |kind| Kind::Native(kind, Separated, XYM);
-    let kinds = [
-        native(NativeKind::Point),
-        native(NativeKind::LineString),
-        native(NativeKind::Polygon),
-        native(NativeKind::MultiPoint),
-        native(NativeKind::MultiLineString),
-        native(NativeKind::MultiPolygon),
-        native(NativeKind::GeometryCollection),
-        Kind::Rect(XYM),
-        Kind::Geometry(Separated),
-    ];
-    for (one, kind) in nine(alloc)?.iter().zip(kinds) {
-        assert_eq!(rt; one.kind(), kind);
-    }
-    Ok(())
+    of_encoding::<Wkb>(&rt, alloc, "WkbType {")?;
+    of_encoding::<Wkt>(&rt, alloc, "WktType {")
 }

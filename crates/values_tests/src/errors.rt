@@ -2,102 +2,144 @@
 use arrow_values::{ArrowError, GeoArrowError};
 use std::alloc::{AllocError, Global};
 use std::io;
+use std::process::Abort;
 use std::test::Fail;
 
-/// A text.
-fn text(alloc: Global) -> Result<String, AllocError> {
-    String::from_str(alloc, "m")
+/// The variants of the error of GeoArrow that say a message `m`, and what they print.
+const MESSAGES: [(&str, &str); 9] = [
+    ("Crs", "CRS related error: m"),
+    ("External", "External error: m"),
+    ("FlatGeobuf", "FlatGeobuf error: m"),
+    ("GeoParquet", "GeoParquet error: m"),
+    (
+        "InvalidGeoArrow",
+        "Data not conforming to GeoArrow specification: m",
+    ),
+    (
+        "IncorrectGeometryType",
+        "Incorrect geometry type for operation: m",
+    ),
+    ("Wkb", "WKB error: m"),
+    ("Wkt", "WKT error: m"),
+    ("Overflow", "Overflow: data does not fit in i32 offsets."),
+];
+
+/// The error of a variant.
+fn error(alloc: Global, variant: &str) -> Result<GeoArrowError, AllocError> {
+    let message = String::from_str(alloc, "m")?;
+    match variant {
+        "Crs" => Ok(GeoArrowError::Crs(message)),
+        "External" => Ok(GeoArrowError::External(message)),
+        "FlatGeobuf" => Ok(GeoArrowError::FlatGeobuf(message)),
+        "GeoParquet" => Ok(GeoArrowError::GeoParquet(message)),
+        "InvalidGeoArrow" => Ok(GeoArrowError::InvalidGeoArrow(message)),
+        "IncorrectGeometryType" => Ok(GeoArrowError::IncorrectGeometryType(message)),
+        "Wkb" => Ok(GeoArrowError::Wkb(message)),
+        "Wkt" => Ok(GeoArrowError::Wkt(message)),
+        "Overflow" => Ok(GeoArrowError::Overflow),
+        _ => Err(AllocError),
+    }
 }
 
-/// An error of each variant that has a message, and what it prints.
-fn with_messages(alloc: Global) -> Result<[(GeoArrowError, &'static str); 8], AllocError> {
-    Ok([
-        (GeoArrowError::Crs(text(alloc)?), "CRS related error: m"),
-        (GeoArrowError::External(text(alloc)?), "External error: m"),
-        (
-            GeoArrowError::FlatGeobuf(text(alloc)?),
-            "FlatGeobuf error: m",
-        ),
-        (
-            GeoArrowError::GeoParquet(text(alloc)?),
-            "GeoParquet error: m",
-        ),
-        (
-            GeoArrowError::InvalidGeoArrow(text(alloc)?),
-            "Data not conforming to GeoArrow specification: m",
-        ),
-        (
-            GeoArrowError::IncorrectGeometryType(text(alloc)?),
-            "Incorrect geometry type for operation: m",
-        ),
-        (GeoArrowError::Wkb(text(alloc)?), "WKB error: m"),
-        (GeoArrowError::Wkt(text(alloc)?), "WKT error: m"),
-    ])
+/// Asserts what an error of GeoArrow prints.
+fn prints(
+    rt: &impl Abort,
+    alloc: Global,
+    error: GeoArrowError,
+    wanted: &str,
+) -> Result<(), AllocError> {
+    let found = error.to_string(alloc)?;
+    assert_eq!(rt; found.as_str(), wanted);
+    Ok(())
+}
+
+/// Asserts what an error of Arrow prints.
+fn arrow_prints(
+    rt: &impl Abort,
+    alloc: Global,
+    error: ArrowError,
+    wanted: &str,
+) -> Result<(), AllocError> {
+    let found = error.to_string(alloc)?;
+    assert_eq!(rt; found.as_str(), wanted);
+    Ok(())
 }
 
 #[test]
 fn of_geoarrow_print_their_sort(rt: HostRuntime) -> Result<(), Fail> {
     let alloc = rt.alloc();
-    for (error, printed) in with_messages(alloc)? {
-        assert_eq!(rt; error.to_string(alloc)?.as_str(), printed);
+    for &(variant, wanted) in MESSAGES.iter() {
+        prints(&rt, alloc, error(alloc, variant)?, wanted)?;
     }
-    let overflow = GeoArrowError::Overflow;
-    assert_eq!(rt;
-        overflow.to_string(alloc)?.as_str(),
-        "Overflow: data does not fit in i32 offsets."
-    );
-    let inner = GeoArrowError::from(ArrowError::SchemaError(text(alloc)?));
-    assert_eq!(rt; inner.to_string(alloc)?.as_str(), "Schema error: m");
-    let file = io::Error::from(io::ErrorKind::NotFound);
-    let same = file.to_string(alloc)?;
-    assert_eq!(rt;
-        GeoArrowError::from(file).to_string(alloc)?.as_str(),
-        same.as_str()
-    );
+    let message = GeoArrowError::invalid_geoarrow(alloc, "m");
+    prints(
+        &rt,
+        alloc,
+        message,
+        "Data not conforming to GeoArrow specification: m",
+    )?;
+    Ok(())
+}
+
+#[test]
+fn of_geoarrow_print_what_they_hold(rt: HostRuntime) -> Result<(), Fail> {
+    let alloc = rt.alloc();
+    let inner = GeoArrowError::from(ArrowError::schema_error(alloc, "m"));
+    prints(&rt, alloc, inner, "Schema error: m")?;
+    prints(&rt, alloc, GeoArrowError::from(AllocError), "Out of memory")?;
+    let wanted = io::Error::from(io::ErrorKind::NotFound).to_string(alloc)?;
+    assert!(rt; !wanted.is_empty());
+    let file = GeoArrowError::from(io::Error::from(io::ErrorKind::NotFound));
+    prints(&rt, alloc, file, wanted.as_str())?;
     Ok(())
 }
 
 #[test]
 fn of_arrow_print_their_sort(rt: HostRuntime) -> Result<(), Fail> {
     let alloc = rt.alloc();
-    let boxed = Box::new(alloc, GeoArrowError::Crs(text(alloc)?))?;
-    let rows = [
-        (ArrowError::SchemaError(text(alloc)?), "Schema error: m"),
-        (
-            ArrowError::InvalidArgumentError(text(alloc)?),
-            "Invalid argument error: m",
-        ),
-        (
-            ArrowError::ExternalError(boxed),
-            "External error: CRS related error: m",
-        ),
-        (ArrowError::OutOfMemory, "Out of memory"),
-        (ArrowError::from(AllocError), "Out of memory"),
-    ];
-    for (error, printed) in rows {
-        assert_eq!(rt; error.to_string(alloc)?.as_str(), printed);
+    let schema = ArrowError::schema_error(alloc, "m");
+    arrow_prints(&rt, alloc, schema, "Schema error: m")?;
+    let argument = ArrowError::InvalidArgumentError(String::from_str(alloc, "m")?);
+    arrow_prints(&rt, alloc, argument, "Invalid argument error: m")?;
+    let boxed = Box::new(alloc, error(alloc, "Crs")?)?;
+    let external = ArrowError::ExternalError(boxed);
+    arrow_prints(&rt, alloc, external, "External error: CRS related error: m")?;
+    arrow_prints(&rt, alloc, ArrowError::OutOfMemory, "Out of memory")?;
+    arrow_prints(&rt, alloc, ArrowError::from(AllocError), "Out of memory")?;
+    Ok(())
+}
+
+/// What the error of GeoArrow prints that is boxed in an error of Arrow; `-` where none is.
+fn boxed_text(alloc: Global, error: ArrowError) -> Result<String, AllocError> {
+    match error {
+        ArrowError::ExternalError(boxed) => Box::into_inner(boxed).to_string(alloc),
+        _ => String::from_str(alloc, "-"),
     }
-    let wanting = GeoArrowError::from(AllocError);
-    assert_eq!(rt; wanting.to_string(alloc)?.as_str(), "Out of memory");
+}
+
+#[test]
+fn of_geoarrow_are_held_by_those_of_arrow(rt: HostRuntime) -> Result<(), Fail> {
+    let alloc = rt.alloc();
+    for &(variant, wanted) in MESSAGES.iter() {
+        let outer = error(alloc, variant)?.into_arrow_error(alloc)?;
+        let found = boxed_text(alloc, outer)?;
+        assert_eq!(rt; found.as_str(), wanted, "{variant}");
+    }
     Ok(())
 }
 
 #[test]
-fn come_out_of_one_another(rt: HostRuntime) -> Result<(), Fail> {
+fn of_arrow_come_out_as_they_are(rt: HostRuntime) -> Result<(), Fail> {
     let alloc = rt.alloc();
-    let schema = GeoArrowError::from(ArrowError::SchemaError(text(alloc)?));
-    assert!(rt; matches!(schema.into_arrow_error(alloc)?, ArrowError::SchemaError(_)));
-    let crs = GeoArrowError::Crs(text(alloc)?).into_arrow_error(alloc)?;
-    assert_eq!(rt;
-        crs.to_string(alloc)?.as_str(),
-        "External error: CRS related error: m"
-    );
-    match GeoArrowError::Overflow.into_arrow_error(alloc)? {
-        ArrowError::ExternalError(inner) => match Box::into_inner(inner) {
-            GeoArrowError::Overflow => {}
-            _ => assert!(rt; false, "the boxed error"),
-        },
-        _ => assert!(rt; false, "the error"),
-    }
+    let schema = GeoArrowError::from(ArrowError::schema_error(alloc, "m"));
+    arrow_prints(
+        &rt,
+        alloc,
+        schema.into_arrow_error(alloc)?,
+        "Schema error: m",
+    )?;
+    let memory = GeoArrowError::from(ArrowError::OutOfMemory);
+    let found = memory.into_arrow_error(alloc)?;
+    assert!(rt; matches!(found, ArrowError::OutOfMemory));
     Ok(())
 }

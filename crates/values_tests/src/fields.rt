@@ -1,9 +1,19 @@
 //! Fields: their parts, their texts, and lists of them.
-use crate::trees::{field, floats, list, sized, texts};
 use arrow_values::{
     DataType, Dimensions, EXTENSION_TYPE_METADATA_KEY, EXTENSION_TYPE_NAME_KEY, Field, Fields,
 };
+use std::alloc::{AllocError, Global};
+use std::collections::BTreeMap;
 use std::test::Fail;
+use test_fields::notation::{column, spelled};
+
+/// A map of one text `v` at the key `k`.
+fn texts(alloc: Global) -> Result<BTreeMap<String, String>, AllocError> {
+    let mut texts = BTreeMap::new(alloc);
+    let text = String::from_str(alloc, "v")?;
+    drop(texts.insert(String::from_str(alloc, "k")?, text)?);
+    Ok(texts)
+}
 
 #[test]
 fn have_the_parts_that_were_given(rt: HostRuntime) -> Result<(), Fail> {
@@ -13,103 +23,170 @@ fn have_the_parts_that_were_given(rt: HostRuntime) -> Result<(), Fail> {
     assert!(rt; *new.data_type() == DataType::Float64);
     assert!(rt; new.is_nullable());
     assert!(rt; new.metadata().is_empty());
-    let text = String::from_str(alloc, "y")?;
-    let made = Field::from_parts(text, DataType::Utf8, false, texts(alloc, &[("k", "v")])?);
-    assert_eq!(rt; made.name(), "y");
-    assert!(rt; *made.data_type() == DataType::Utf8);
-    assert!(rt; !made.is_nullable());
-    assert_eq!(rt; made.metadata().len(), 1);
-    let list_field = Field::new_list(alloc, "l", made.try_clone(alloc)?, true)?;
-    assert_eq!(rt; list_field.name(), "l");
-    assert!(rt; list_field.is_nullable());
-    assert!(rt; *list_field.data_type() == list(alloc, made)?);
     Ok(())
 }
 
 #[test]
-fn change_one_part_at_a_time(rt: HostRuntime) -> Result<(), Fail> {
+fn have_the_parts_that_were_moved_in(rt: HostRuntime) -> Result<(), Fail> {
     let alloc = rt.alloc();
-    let plain = Field::new(alloc, "x", DataType::Float64, true)?;
-    let mut named = plain
-        .try_clone(alloc)?
-        .with_metadata(texts(alloc, &[("k", "v")])?);
-    assert_eq!(rt; named.metadata().len(), 1);
-    assert!(rt; named != plain);
-    named.set_metadata(texts(alloc, &[])?);
-    assert!(rt; named == plain);
-    let other = named.with_data_type(DataType::Utf8);
-    assert!(rt; other == Field::new(alloc, "x", DataType::Utf8, true)?);
+    let name = String::from_str(alloc, "y")?;
+    let made = Field::from_parts(name, DataType::Utf8, false, texts(alloc)?);
+    assert_eq!(rt; made.name(), "y");
+    assert!(rt; *made.data_type() == DataType::Utf8);
+    assert!(rt; !made.is_nullable());
+    assert_eq!(rt; made.metadata().len(), 1);
+    let text = made.metadata().get("k").map(String::as_str);
+    assert_eq!(rt; text, Some("v"));
     Ok(())
 }
+
+/// Whether a field is the one that a text spells.
+fn is_spelled(alloc: Global, found: Field, text: &str) -> Result<bool, AllocError> {
+    Ok(found == spelled(alloc, text)?)
+}
+
+/// Whether a field is `g`, may be null, and has those texts and that data type.
+fn is_column(
+    alloc: Global,
+    found: &Field,
+    texts: &[(&str, &str)],
+    data_type: &str,
+) -> Result<bool, AllocError> {
+    Ok(*found == column(alloc, texts, data_type)?)
+}
+
+#[test]
+fn of_a_list_are_over_the_field(rt: HostRuntime) -> Result<(), Fail> {
+    let alloc = rt.alloc();
+    let list = Field::new_list(alloc, "l", spelled(alloc, "y?: Utf8")?, true)?;
+    assert!(rt; is_spelled(alloc, list, "l?: List(y?: Utf8)")?);
+    let list = Field::new_list(alloc, "l", spelled(alloc, "y")?, false)?;
+    assert!(rt; is_spelled(alloc, list, "l: List(y)")?);
+    Ok(())
+}
+
+#[test]
+fn of_a_list_keep_their_texts(rt: HostRuntime) -> Result<(), Fail> {
+    let alloc = rt.alloc();
+    let list = Field::new_list(alloc, "l", column(alloc, &[("k", "v")], "Utf8")?, true)?;
+    assert!(rt; list.metadata().is_empty());
+    match list.data_type() {
+        DataType::List(inner) => assert!(rt; is_column(alloc, inner, &[("k", "v")], "Utf8")?),
+        _ => assert!(rt; false, "a list"),
+    }
+    Ok(())
+}
+
+#[test]
+fn change_their_texts_alone(rt: HostRuntime) -> Result<(), Fail> {
+    let alloc = rt.alloc();
+    let plain = column(alloc, &[("k", "w"), ("l", "w")], "Float64")?;
+    let mut changed = plain.with_metadata(texts(alloc)?);
+    assert!(rt; is_column(alloc, &changed, &[("k", "v")], "Float64")?);
+    changed.set_metadata(BTreeMap::new(alloc));
+    assert!(rt; is_column(alloc, &changed, &[], "Float64")?);
+    Ok(())
+}
+
+#[test]
+fn change_their_data_type_alone(rt: HostRuntime) -> Result<(), Fail> {
+    let alloc = rt.alloc();
+    let plain = column(alloc, &[("k", "v")], "Float64")?;
+    let changed = plain.with_data_type(DataType::Utf8);
+    assert!(rt; is_column(alloc, &changed, &[("k", "v")], "Utf8")?);
+    Ok(())
+}
+
+/// Texts on a field, and its extension name and metadata.
+const EXTENSIONS: [(&[(&str, &str)], Option<&str>, Option<&str>); 3] = [
+    (&[("ARROW:extension", "k"), ("name", "n")], None, None),
+    (
+        &[
+            ("ARROW:extension:name", "n"),
+            ("ARROW:extension:metadata", "m"),
+            ("ARROW:extension", "k"),
+        ],
+        Some("n"),
+        Some("m"),
+    ),
+    (&[("ARROW:extension:metadata", "")], None, Some("")),
+];
 
 #[test]
 fn have_extension_texts_at_two_keys(rt: HostRuntime) -> Result<(), Fail> {
     let alloc = rt.alloc();
     assert_eq!(rt; EXTENSION_TYPE_NAME_KEY, "ARROW:extension:name");
     assert_eq!(rt; EXTENSION_TYPE_METADATA_KEY, "ARROW:extension:metadata");
-    let plain = field(alloc, "x", DataType::Null)?;
-    assert_eq!(rt; plain.extension_type_name(), None);
-    assert_eq!(rt; plain.extension_type_metadata(), None);
-    let both = [
-        (EXTENSION_TYPE_NAME_KEY, "n"),
-        (EXTENSION_TYPE_METADATA_KEY, "m"),
-        ("ARROW:extension", "k"),
-    ];
-    let written = plain.with_metadata(texts(alloc, &both)?);
-    assert_eq!(rt; written.extension_type_name(), Some("n"));
-    assert_eq!(rt; written.extension_type_metadata(), Some("m"));
+    for &(texts, name, metadata) in EXTENSIONS.iter() {
+        let field = column(alloc, texts, "Null")?;
+        assert_eq!(rt; field.extension_type_name(), name, "{texts:?}");
+        assert_eq!(rt; field.extension_type_metadata(), metadata, "{texts:?}");
+    }
     Ok(())
+}
+
+/// The names of the fields of a struct.
+const NAMES: [&str; 3] = ["x", "y", "x"];
+
+/// Fields of those names.
+fn named_fields(alloc: Global) -> Result<Fields, AllocError> {
+    let mut fields = Vec::new(alloc);
+    for &name in NAMES.iter() {
+        fields.push(spelled(alloc, name)?)?;
+    }
+    Ok(Fields::from(fields))
 }
 
 #[test]
 fn of_a_struct_stand_in_order(rt: HostRuntime) -> Result<(), Fail> {
     let alloc = rt.alloc();
-    let DataType::Struct(three) = floats(alloc, &["x", "y", "x"])? else {
-        return Ok(());
-    };
-    let none = Fields::from(Vec::new(alloc));
+    let three = named_fields(alloc)?;
     assert_eq!(rt; (three.len(), three.is_empty()), (3, false));
-    assert_eq!(rt; (none.len(), none.is_empty()), (0, true));
-    for (i, name) in ["x", "y", "x"].iter().enumerate() {
-        assert_eq!(rt; three.get(i).map(Field::name), Some(*name));
-        assert_eq!(rt; three.as_slice()[i].name(), *name);
+    for (i, &name) in NAMES.iter().enumerate() {
+        assert_eq!(rt; three.get(i).map(Field::name), Some(name), "{i}");
     }
-    assert_eq!(rt; three.iter().count(), 3);
     assert!(rt; three.get(3).is_none());
+    Ok(())
+}
+
+#[test]
+fn of_a_struct_are_iterated_in_order(rt: HostRuntime) -> Result<(), Fail> {
+    let alloc = rt.alloc();
+    let three = named_fields(alloc)?;
+    assert_eq!(rt; (three.iter().count(), three.as_slice().len()), (3, 3));
+    for (i, &name) in NAMES.iter().enumerate() {
+        let found = three.as_slice().get(i).map(Field::name);
+        assert_eq!(rt; found, Some(name), "{i}");
+        let found = three.iter().nth(i).map(Field::name);
+        assert_eq!(rt; found, Some(name), "{i}");
+    }
+    Ok(())
+}
+
+#[test]
+fn may_be_none(rt: HostRuntime) -> Result<(), Fail> {
+    let alloc = rt.alloc();
+    let none = Fields::from(Vec::new(alloc));
+    assert_eq!(rt; (none.len(), none.is_empty()), (0, true));
+    assert_eq!(rt; (none.iter().count(), none.as_slice().len()), (0, 0));
     assert!(rt; none.get(0).is_none());
     Ok(())
 }
 
-#[test]
-fn of_a_clone_are_equal(rt: HostRuntime) -> Result<(), Fail> {
-    let alloc = rt.alloc();
-    let inner = floats(alloc, &["x", "y"])?;
-    let trees = [
-        DataType::Null,
-        DataType::Utf8View,
-        list(alloc, field(alloc, "l", inner.try_clone(alloc)?)?)?,
-        DataType::LargeList(Box::new(alloc, field(alloc, "l", inner.try_clone(alloc)?)?)?),
-        sized(alloc, field(alloc, "s", DataType::LargeBinary)?, i32::MIN)?,
-        inner,
-    ];
-    for tree in &trees {
-        assert!(rt; tree.try_clone(alloc)? == *tree);
-    }
-    Ok(())
-}
+/// How many numbers a coordinate of those dimensions has.
+const SIZES: [(Dimensions, usize); 6] = [
+    (Dimensions::Xy, 2),
+    (Dimensions::Xyz, 3),
+    (Dimensions::Xym, 3),
+    (Dimensions::Xyzm, 4),
+    (Dimensions::Unknown(0), 0),
+    (Dimensions::Unknown(usize::MAX), usize::MAX),
+];
 
 #[test]
 fn of_coordinates_are_so_many(rt: HostRuntime) -> Result<(), Fail> {
-    let rows = [
-        (Dimensions::Xy, 2),
-        (Dimensions::Xyz, 3),
-        (Dimensions::Xym, 3),
-        (Dimensions::Xyzm, 4),
-        (Dimensions::Unknown(0), 0),
-        (Dimensions::Unknown(usize::MAX), usize::MAX),
-    ];
-    for (dimensions, size) in rows {
-        assert_eq!(rt; dimensions.size(), size);
+    for &(dimensions, size) in SIZES.iter() {
+        assert_eq!(rt; dimensions.size(), size, "{dimensions:?}");
     }
     Ok(())
 }

@@ -8,6 +8,6 @@ mod errors;
 #[cfg(test)]
 mod fields;
 #[cfg(test)]
-mod trees;
+mod notation;
 #[cfg(test)]
 mod unions;

@@ -1,0 +1,135 @@
+//! Metadata: read from texts, compared and written.
+use crate::words::{arrow_refusal, metadata_words, printed, refusal, truth, word};
+use geoarrow_meta::Metadata;
+use serde_json::Value;
+use std::alloc::{AllocError, Global};
+
+/// The answer to a text under a command; none where no such command stands here.
+pub fn answer(alloc: Global, command: &str, text: &str) -> Result<Option<String>, AllocError> {
+    let answer = match command {
+        "deserialize" => deserialize(alloc, text),
+        "serialize" => serialize(alloc, text),
+        "from_value" => from_value(alloc, text),
+        "normalized" => normalized(alloc, text),
+        "is_normal" => is_normal(alloc, text),
+        "equal" => equal(alloc, text),
+        "same_written" => same_written(alloc, text),
+        "nested" => nested(alloc, text),
+        "opened" => opened(alloc, text),
+        _ => return Ok(None),
+    };
+    Ok(Some(answer?))
+}
+
+/// The metadata of a text, or what its refusal prints.
+fn read(alloc: Global, text: &str) -> Result<Result<Metadata, String>, AllocError> {
+    match Metadata::deserialize(alloc, Some(text)) {
+        Ok(metadata) => Ok(Ok(metadata)),
+        Err(error) => Ok(Err(arrow_refusal(alloc, error)?)),
+    }
+}
+
+/// The parts of the metadata of a text.
+fn deserialize(alloc: Global, text: &str) -> Result<String, AllocError> {
+    match read(alloc, text)? {
+        Ok(metadata) => metadata_words(alloc, &metadata),
+        Err(refusal) => Ok(refusal),
+    }
+}
+
+/// What the metadata of a text prints.
+fn serialize(alloc: Global, text: &str) -> Result<String, AllocError> {
+    match read(alloc, text)? {
+        Ok(metadata) => printed(alloc, &metadata),
+        Err(refusal) => Ok(refusal),
+    }
+}
+
+/// The parts of the metadata of the JSON value of a text.
+fn from_value(alloc: Global, text: &str) -> Result<String, AllocError> {
+    let Ok(value) = Value::from_str(alloc, text) else {
+        return word(alloc, "no JSON");
+    };
+    match Metadata::from_value(alloc, &value) {
+        Ok(metadata) => metadata_words(alloc, &metadata),
+        Err(error) => refusal(alloc, error),
+    }
+}
+
+/// The parts of the normal form of the metadata of a text.
+fn normalized(alloc: Global, text: &str) -> Result<String, AllocError> {
+    match read(alloc, text)? {
+        Ok(metadata) => metadata_words(alloc, &metadata.normalized()),
+        Err(refusal) => Ok(refusal),
+    }
+}
+
+/// Whether the metadata of a text is in normal form.
+fn is_normal(alloc: Global, text: &str) -> Result<String, AllocError> {
+    match read(alloc, text)? {
+        Ok(metadata) => truth(alloc, metadata.is_normal()),
+        Err(refusal) => Ok(refusal),
+    }
+}
+
+/// The metadata of the two texts before and after ` | `; none where one stands for none.
+fn both(alloc: Global, text: &str) -> Result<Option<(Metadata, Metadata)>, AllocError> {
+    let Some((one, other)) = text.split_once(" | ") else {
+        return Ok(None);
+    };
+    let Ok(one) = read(alloc, one)? else {
+        return Ok(None);
+    };
+    match read(alloc, other)? {
+        Ok(other) => Ok(Some((one, other))),
+        Err(_) => Ok(None),
+    }
+}
+
+/// Whether the metadata of two texts are equal.
+fn equal(alloc: Global, text: &str) -> Result<String, AllocError> {
+    match both(alloc, text)? {
+        Some((one, other)) => truth(alloc, one == other),
+        None => word(alloc, "no metadata"),
+    }
+}
+
+/// Whether the metadata of two texts are written alike.
+fn same_written(alloc: Global, text: &str) -> Result<String, AllocError> {
+    match both(alloc, text)? {
+        Some((one, other)) => truth(alloc, one.same_written(&other)),
+        None => word(alloc, "no metadata"),
+    }
+}
+
+/// What the metadata of a text whose CRS is so many lists in one another prints, `the text itself` where it is that.
+fn nested(alloc: Global, text: &str) -> Result<String, AllocError> {
+    let Ok(lists) = text.parse::<usize>() else {
+        return word(alloc, "no number");
+    };
+    let mut text = String::from_str(alloc, r#"{"crs":"#)?;
+    for _ in 0..lists {
+        text.push('[')?;
+    }
+    for _ in 0..lists {
+        text.push(']')?;
+    }
+    text.push('}')?;
+    let written = serialize(alloc, text.as_str())?;
+    if written == text {
+        return word(alloc, "the text itself");
+    }
+    Ok(written)
+}
+
+/// The parts of the metadata of so many brackets that are opened and not closed.
+fn opened(alloc: Global, text: &str) -> Result<String, AllocError> {
+    let Ok(brackets) = text.parse::<usize>() else {
+        return word(alloc, "no number");
+    };
+    let mut text = String::new(alloc);
+    for _ in 0..brackets {
+        text.push('[')?;
+    }
+    deserialize(alloc, text.as_str())
+}

@@ -1,0 +1,83 @@
+//! What the answers say, in words.
+use arrow_values::GeoArrowError;
+use geoarrow_schema::{
+    CoordType, CrsType, Dimension, GeoArrowType, Kind, Metadata, NativeKind, Width,
+};
+use std::alloc::{AllocError, Global};
+
+/// A type: its kind, coordinate type, dimension and metadata. It says all that there is of it.
+pub fn type_words(alloc: Global, found: &GeoArrowType) -> Result<String, AllocError> {
+    let kind = kind_word(found.kind());
+    let coord_type = coord_type_word(found.coord_type());
+    let dimension = dimension_word(found.dimension());
+    let metadata = metadata_words(alloc, found.metadata())?;
+    format!(in alloc; "{kind} {coord_type} {dimension} {metadata}")
+}
+
+/// A metadata: its text; or a dash where it has none, and the CRS type that is there nevertheless.
+fn metadata_words(alloc: Global, metadata: &Metadata) -> Result<String, AllocError> {
+    match (metadata.serialize(alloc), metadata.crs().crs_type()) {
+        (Ok(Some(text)), _) => Ok(text),
+        (Ok(None), None) => String::from_str(alloc, "-"),
+        (Ok(None), Some(lone)) => format!(in alloc; "- {}", lone.as_text()),
+        (Err(_), _) => Err(AllocError),
+    }
+}
+
+/// An error: its variant, and all that it prints.
+pub fn error_words(alloc: Global, error: &GeoArrowError) -> Result<String, AllocError> {
+    let variant = match error {
+        GeoArrowError::Arrow(_) => "Arrow",
+        GeoArrowError::InvalidGeoArrow(_) => "InvalidGeoArrow",
+        _ => "another variant",
+    };
+    format!(in alloc; "{variant}: {error}")
+}
+
+/// The word of a kind.
+pub fn kind_word(kind: Kind) -> &'static str {
+    match kind {
+        Kind::Native(kind, _, _) => native_word(kind),
+        Kind::Geometry(_) => "geometry",
+        Kind::Rect(_) => "box",
+        Kind::Wkb(Width::Plain) => "wkb",
+        Kind::Wkb(Width::Large) => "large_wkb",
+        Kind::Wkb(Width::View) => "wkb_view",
+        Kind::Wkt(Width::Plain) => "wkt",
+        Kind::Wkt(Width::Large) => "large_wkt",
+        Kind::Wkt(Width::View) => "wkt_view",
+    }
+}
+
+/// The word of a native kind.
+fn native_word(kind: NativeKind) -> &'static str {
+    match kind {
+        NativeKind::Point => "point",
+        NativeKind::LineString => "linestring",
+        NativeKind::Polygon => "polygon",
+        NativeKind::MultiPoint => "multipoint",
+        NativeKind::MultiLineString => "multilinestring",
+        NativeKind::MultiPolygon => "multipolygon",
+        NativeKind::GeometryCollection => "geometrycollection",
+    }
+}
+
+/// The word of a coordinate type, or a dash.
+pub fn coord_type_word(coord_type: Option<CoordType>) -> &'static str {
+    match coord_type {
+        Some(CoordType::Interleaved) => "interleaved",
+        Some(CoordType::Separated) => "separated",
+        None => "-",
+    }
+}
+
+/// The word of a dimension, or a dash.
+pub fn dimension_word(dimension: Option<Dimension>) -> &'static str {
+    match dimension {
+        Some(Dimension::XY) => "XY",
+        Some(Dimension::XYZ) => "XYZ",
+        Some(Dimension::XYM) => "XYM",
+        Some(Dimension::XYZM) => "XYZM",
+        None => "-",
+    }
+}

@@ -1,0 +1,90 @@
+//! `GeoArrowType` of each kind: equality, hashes and clones, and the nine types that it is made of.
+use crate::values::{are_same, plain, spherical};
+use geoarrow_schema::CoordType::Separated;
+use geoarrow_schema::Dimension::{XY, XYM};
+use geoarrow_schema::generic::{
+    GeometryCollection, LineString, MultiLineString, MultiPoint, MultiPolygon, NativeShape,
+    NativeType, Point, Polygon,
+};
+use geoarrow_schema::{BoxType, GeoArrowType, GeometryType, Kind, NativeKind, Width};
+use std::alloc::Global;
+use std::test::Fail;
+
+/// A kind for each variant.
+const KINDS: [Kind; 15] = [
+    Kind::Native(NativeKind::Point, Separated, XY),
+    Kind::Native(NativeKind::LineString, Separated, XY),
+    Kind::Native(NativeKind::Polygon, Separated, XY),
+    Kind::Native(NativeKind::MultiPoint, Separated, XY),
+    Kind::Native(NativeKind::MultiLineString, Separated, XY),
+    Kind::Native(NativeKind::MultiPolygon, Separated, XY),
+    Kind::Native(NativeKind::GeometryCollection, Separated, XY),
+    Kind::Rect(XY),
+    Kind::Geometry(Separated),
+    Kind::Wkb(Width::Plain),
+    Kind::Wkb(Width::Large),
+    Kind::Wkb(Width::View),
+    Kind::Wkt(Width::Plain),
+    Kind::Wkt(Width::Large),
+    Kind::Wkt(Width::View),
+];
+
+#[test]
+fn are_equal_where_kind_and_metadata_are(rt: HostRuntime) -> Result<(), Fail> {
+    let alloc = rt.alloc();
+    for &kind in KINDS.iter() {
+        let one = GeoArrowType::from_kind(kind, spherical(alloc)?);
+        for &other in KINDS.iter() {
+            let found = GeoArrowType::from_kind(other, spherical(alloc)?);
+            assert_eq!(rt; one == found, kind == other, "{kind:?} and {other:?}");
+        }
+        let other = GeoArrowType::from_kind(kind, plain(alloc)?);
+        assert!(rt; one != other, "{kind:?}");
+    }
+    Ok(())
+}
+
+#[test]
+fn are_cloned(rt: HostRuntime) -> Result<(), Fail> {
+    let alloc = rt.alloc();
+    for &kind in KINDS.iter() {
+        let one = GeoArrowType::from_kind(kind, spherical(alloc)?);
+        let other = one.try_clone(alloc)?;
+        assert!(rt; are_same(&one, &other), "{kind:?}");
+        let other = GeoArrowType::from_kind(kind, spherical(alloc)?);
+        assert!(rt; are_same(&one, &other), "{kind:?}");
+    }
+    Ok(())
+}
+
+/// Whether a type with the metadata of `spherical` becomes the `GeoArrowType` of that kind and that metadata.
+fn becomes<T: Into<GeoArrowType> + Drop>(alloc: Global, one: T, kind: Kind) -> Result<bool, Fail> {
+    let wanted = GeoArrowType::from_kind(kind, spherical(alloc)?);
+    Ok(one.into() == wanted)
+}
+
+/// Whether the native type of a shape becomes the `GeoArrowType` of that native kind.
+fn shape_becomes<S: NativeShape>(alloc: Global, kind: NativeKind) -> Result<bool, Fail>
+where
+    NativeType<S>: Into<GeoArrowType>,
+{
+    let one = NativeType::<S>::new(XYM, spherical(alloc)?);
+    becomes(alloc, one, Kind::Native(kind, Separated, XYM))
+}
+
+#[test]
+fn are_made_of_nine_types(rt: HostRuntime) -> Result<(), Fail> {
+    let alloc = rt.alloc();
+    assert!(rt; shape_becomes::<Point>(alloc, NativeKind::Point)?);
+    assert!(rt; shape_becomes::<LineString>(alloc, NativeKind::LineString)?);
+    assert!(rt; shape_becomes::<Polygon>(alloc, NativeKind::Polygon)?);
+    assert!(rt; shape_becomes::<MultiPoint>(alloc, NativeKind::MultiPoint)?);
+    assert!(rt; shape_becomes::<MultiLineString>(alloc, NativeKind::MultiLineString)?);
+    assert!(rt; shape_becomes::<MultiPolygon>(alloc, NativeKind::MultiPolygon)?);
+    assert!(rt; shape_becomes::<GeometryCollection>(alloc, NativeKind::GeometryCollection)?);
+    let bounds = BoxType::new(XYM, spherical(alloc)?);
+    assert!(rt; becomes(alloc, bounds, Kind::Rect(XYM))?);
+    let geometry = GeometryType::new(spherical(alloc)?);
+    assert!(rt; becomes(alloc, geometry, Kind::Geometry(Separated))?);
+    Ok(())
+}
