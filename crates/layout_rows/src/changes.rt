@@ -8,8 +8,10 @@ use std::alloc::{AllocError, Global};
 /// The answer to a text under a command; none where there is no such command here.
 pub fn answer(alloc: Global, command: &str, text: &str) -> Result<Option<String>, AllocError> {
     match command {
-        "keep_members" => Ok(Some(kept(alloc, text)?)),
-        "append_members" => Ok(Some(joined(alloc, text)?)),
+        "keep_members" => Ok(Some(kept(alloc, true, text)?)),
+        "retain_ids" => Ok(Some(kept(alloc, false, text)?)),
+        "append_members" => Ok(Some(joined(alloc, true, text)?)),
+        "append" => Ok(Some(joined(alloc, false, text)?)),
         "part_and_join" => Ok(Some(parted(alloc, text)?)),
         _ => Ok(None),
     }
@@ -61,23 +63,34 @@ fn said(
     Ok(said)
 }
 
-/// Keeps the members of these ids.
-fn kept(alloc: Global, text: &str) -> Result<String, AllocError> {
+/// Keeps the members of these ids, by the call that speaks of layouts or by the other.
+fn kept(alloc: Global, of_layouts: bool, text: &str) -> Result<String, AllocError> {
     let (wanted, text) = parts(text)?;
+    let wanted = ids(alloc, wanted)?;
     let whole = members(alloc, text)?;
     let mut union = whole.try_clone(alloc)?;
-    keep_members(&mut union, ids(alloc, wanted)?.as_slice());
+    if of_layouts {
+        keep_members(&mut union, wanted.as_slice());
+    } else {
+        union.retain_ids(wanted.as_slice());
+    }
     said(alloc, union, &whole, &whole)
 }
 
-/// Puts the members of the second union after those of the first. A fault is said otherwise where one of the two is not
-/// as it was.
-fn joined(alloc: Global, text: &str) -> Result<String, AllocError> {
+/// Puts the members of the second union after those of the first, by the call that speaks of layouts or by the other. A
+/// fault is said otherwise where one of the two is not as it was.
+fn joined(alloc: Global, of_layouts: bool, text: &str) -> Result<String, AllocError> {
     let (text, other_text) = parts(text)?;
     let first = members(alloc, text)?;
     let second = members(alloc, other_text)?;
     let mut union = first.try_clone(alloc)?;
-    match append_members(&mut union, second.try_clone(alloc)?) {
+    let other = second.try_clone(alloc)?;
+    let joined = if of_layouts {
+        append_members(&mut union, other)
+    } else {
+        union.append(other)
+    };
+    match joined {
         Ok(()) => said(alloc, union, &first, &second),
         Err((other, fault)) => refused(alloc, fault, union == first && other == second),
     }

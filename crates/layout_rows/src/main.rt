@@ -1,5 +1,5 @@
-//! Compares rows of data types, their layouts and their kinds with what `geoarrow_layout` answers. A row's text says its
-//! data types in the notation of `test_fields`; `texts` says what else a text may hold.
+//! Compares rows of data types, their layouts and their kinds with what `arrow_values` and `geoarrow_layout` answer. A row's
+//! text says its data types in the notation of `test_fields`; `texts` says what else a text may hold.
 #![tactic(auto)]
 
 mod built;
@@ -8,6 +8,7 @@ mod read;
 mod summaries;
 mod tables;
 mod texts;
+mod values;
 mod words;
 
 use row_files::{Commands, compare_files};
@@ -15,7 +16,7 @@ use std::alloc::{AllocError, Global};
 use std::io;
 use std::process::ExitCode;
 
-/// The calls of `geoarrow_layout`, each a command.
+/// The calls of `arrow_values` and of `geoarrow_layout`, each a command.
 struct Layouts;
 
 impl Commands for Layouts {
@@ -39,6 +40,9 @@ fn answer_of(alloc: Global, command: &str, text: &[u8]) -> Result<Option<String>
         return Ok(Some(answer));
     }
     if let Some(answer) = changes::answer(alloc, command, text)? {
+        return Ok(Some(answer));
+    }
+    if let Some(answer) = values::answer(alloc, command, text)? {
         return Ok(Some(answer));
     }
     read::answer(alloc, command, text)

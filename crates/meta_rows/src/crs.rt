@@ -1,6 +1,6 @@
-//! CRS: their tests, constructors and conversions, and the texts of their types and of edges.
-use crate::words::{crs_words, printed, refusal, truth, word};
-use geoarrow_meta::{Crs, CrsTransform, CrsType, DefaultCrsTransform, Edges, Metadata};
+//! CRS: their tests and constructors, and the texts of their types and of edges.
+use crate::words::{crs_words, printed, truth, word};
+use geoarrow_meta::{Crs, CrsType, Edges, Metadata};
 use serde_json::Value;
 use std::alloc::{AllocError, Global};
 
@@ -9,8 +9,6 @@ pub fn answer(alloc: Global, command: &str, text: &str) -> Result<Option<String>
     let answer = match command {
         "is_projjson" => is_projjson(alloc, text),
         "is_authority_code" => truth(alloc, Crs::is_authority_code(text)),
-        "extract_projjson" => extract_projjson(alloc, text),
-        "extract_wkt" => extract_wkt(alloc, text),
         "edges" => edges(alloc, text),
         "crs_type" => crs_type(alloc, text),
         _ => match made(alloc, command, text)? {
@@ -81,30 +79,6 @@ fn is_projjson(alloc: Global, text: &str) -> Result<String, AllocError> {
     match Value::from_str(alloc, text) {
         Ok(value) => truth(alloc, Crs::is_projjson(&value)),
         Err(_) => word(alloc, "no JSON"),
-    }
-}
-
-/// What the transform that converts nothing answers as PROJJSON for the CRS of a metadata text, `-` for none.
-fn extract_projjson(alloc: Global, text: &str) -> Result<String, AllocError> {
-    let Ok(metadata) = Metadata::deserialize(alloc, Some(text)) else {
-        return word(alloc, "no metadata");
-    };
-    match (DefaultCrsTransform {}).extract_projjson(alloc, metadata.crs()) {
-        Ok(Some(value)) => value.to_string(alloc),
-        Ok(None) => word(alloc, "-"),
-        Err(error) => refusal(alloc, error),
-    }
-}
-
-/// The same as a text of WKT2:2019.
-fn extract_wkt(alloc: Global, text: &str) -> Result<String, AllocError> {
-    let Ok(metadata) = Metadata::deserialize(alloc, Some(text)) else {
-        return word(alloc, "no metadata");
-    };
-    match (DefaultCrsTransform {}).extract_wkt(alloc, metadata.crs()) {
-        Ok(Some(text)) => Ok(text),
-        Ok(None) => word(alloc, "-"),
-        Err(error) => refusal(alloc, error),
     }
 }
 

@@ -3,6 +3,7 @@
 
 mod crs;
 mod metadata;
+mod transforms;
 mod words;
 
 use row_files::{Commands, compare_files};
@@ -18,10 +19,13 @@ impl Commands for Texts {
         let Ok(text) = str::from_utf8(text) else {
             return Ok(None);
         };
-        match metadata::answer(alloc, command, text)? {
-            Some(answer) => Ok(Some(answer)),
-            None => crs::answer(alloc, command, text),
+        if let Some(answer) = metadata::answer(alloc, command, text)? {
+            return Ok(Some(answer));
         }
+        if let Some(answer) = transforms::answer(alloc, command, text)? {
+            return Ok(Some(answer));
+        }
+        crs::answer(alloc, command, text)
     }
 }
 

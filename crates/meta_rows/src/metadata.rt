@@ -3,6 +3,7 @@ use crate::words::{arrow_refusal, metadata_words, printed, refusal, truth, word}
 use geoarrow_meta::Metadata;
 use serde_json::Value;
 use std::alloc::{AllocError, Global};
+use std::hash::{DefaultHasher, Hash, Hasher};
 
 /// The answer to a text under a command; none where no such command stands here.
 pub fn answer(alloc: Global, command: &str, text: &str) -> Result<Option<String>, AllocError> {
@@ -10,9 +11,11 @@ pub fn answer(alloc: Global, command: &str, text: &str) -> Result<Option<String>
         "deserialize" => deserialize(alloc, text),
         "serialize" => serialize(alloc, text),
         "from_value" => from_value(alloc, text),
+        "to_value" => to_value(alloc, text),
         "normalized" => normalized(alloc, text),
         "is_normal" => is_normal(alloc, text),
         "equal" => equal(alloc, text),
+        "distinct" => distinct(alloc, text),
         "same_written" => same_written(alloc, text),
         "nested" => nested(alloc, text),
         "opened" => opened(alloc, text),
@@ -56,6 +59,18 @@ fn from_value(alloc: Global, text: &str) -> Result<String, AllocError> {
     }
 }
 
+/// The JSON value that the metadata of a text is written as, `-` for none.
+fn to_value(alloc: Global, text: &str) -> Result<String, AllocError> {
+    let metadata = match read(alloc, text)? {
+        Ok(metadata) => metadata,
+        Err(refusal) => return Ok(refusal),
+    };
+    match metadata.to_value(alloc)? {
+        Some(value) => value.to_string(alloc),
+        None => word(alloc, "-"),
+    }
+}
+
 /// The parts of the normal form of the metadata of a text.
 fn normalized(alloc: Global, text: &str) -> Result<String, AllocError> {
     match read(alloc, text)? {
@@ -86,12 +101,48 @@ fn both(alloc: Global, text: &str) -> Result<Option<(Metadata, Metadata)>, Alloc
     }
 }
 
+/// A hash.
+fn hash_of<T: Hash>(hashed: &T) -> u64 {
+    let mut state = DefaultHasher::new();
+    hashed.hash(&mut state);
+    state.finish()
+}
+
+/// Whether a clone of the first metadata is equal to the second, and then so are the two CRS, and the hashes of both.
+fn are_equal(alloc: Global, one: &Metadata, other: &Metadata) -> Result<&'static str, AllocError> {
+    let clone = one.try_clone(alloc)?;
+    if clone != *other {
+        return Ok("false");
+    }
+    let crs = one.crs().try_clone(alloc)?;
+    let hashed = hash_of(&clone) == hash_of(other) && hash_of(&crs) == hash_of(other.crs());
+    Ok(if hashed && crs == *other.crs() {
+        "true"
+    } else {
+        "true, but not of their CRS or hashes"
+    })
+}
+
 /// Whether the metadata of two texts are equal.
 fn equal(alloc: Global, text: &str) -> Result<String, AllocError> {
     match both(alloc, text)? {
-        Some((one, other)) => truth(alloc, one == other),
+        Some((one, other)) => word(alloc, are_equal(alloc, &one, &other)?),
         None => word(alloc, "no metadata"),
     }
+}
+
+/// Says whether each of the metadata of the texts with ` ; ` between them is equal to itself, and to none of the others.
+fn distinct(alloc: Global, text: &str) -> Result<String, AllocError> {
+    for (at, one) in text.split(" ; ").enumerate() {
+        for (other_at, other) in text.split(" ; ").enumerate() {
+            let pair = format!(in alloc; "{one} | {other}")?;
+            let answer = equal(alloc, pair.as_str())?;
+            if answer.as_str() != (if at == other_at { "true" } else { "false" }) {
+                return format!(in alloc; "{pair}: {answer}");
+            }
+        }
+    }
+    word(alloc, "each is equal to itself alone")
 }
 
 /// Whether the metadata of two texts are written alike.

@@ -3,12 +3,8 @@
 #![tactic(auto)]
 
 #[cfg(test)]
-mod crs;
-#[cfg(test)]
 mod extension;
 #[cfg(test)]
 mod parts;
-#[cfg(test)]
-mod transforms;
 #[cfg(test)]
 mod values;

@@ -1,5 +1,6 @@
-//! Metadata as values: their parts, and the JSON values that they come from and become.
-use crate::parts::{SPHERICAL, empty_projjson, read, spherical};
+//! Metadata as values: their parts, and the JSON values that they come from and become. How metadata are read, compared,
+//! written and converted are rows of `meta_rows`.
+use crate::parts::{SPHERICAL, empty_projjson, spherical};
 use geoarrow_meta::{Crs, Edges, Metadata};
 use serde_json::Value;
 use std::alloc::Global;
@@ -43,44 +44,11 @@ fn are_the_default_without_text(rt: HostRuntime) -> Result<(), Fail> {
     Ok(())
 }
 
-/// Texts of metadata, and the JSON value that they are written as.
-const VALUES: [(&str, &str); 5] = [
-    (
-        r#"{"edges":"karney","crs_type":"srid"}"#,
-        r#"{"crs":null,"crs_type":"srid","edges":"karney"}"#,
-    ),
-    (r#"{"crs":"X","epoch":2020.5}"#, r#"{"crs":"X"}"#),
-    (r#"{"crs":[5,-1,null]}"#, r#"{"crs":[5,-1,null]}"#),
-    (
-        r#"{"crs":"1","crs_type":"srid"}"#,
-        r#"{"crs":"1","crs_type":"srid"}"#,
-    ),
-    (
-        r#"{"crs":"1","edges":"thomas"}"#,
-        r#"{"crs":"1","edges":"thomas"}"#,
-    ),
-];
-
-/// Whether the metadata of a text are written as that JSON value.
-fn is_written_as(alloc: Global, text: &str, wanted: &str) -> Result<bool, Fail> {
-    let value = read(alloc, text)?.to_value(alloc)?;
-    Ok(value == Some(Value::from_str(alloc, wanted)?))
-}
-
 #[test]
-fn become_json_values(rt: HostRuntime) -> Result<(), Fail> {
+fn have_the_json_value_of_their_crs(rt: HostRuntime) -> Result<(), Fail> {
     let alloc = rt.alloc();
-    for &(text, wanted) in VALUES.iter() {
-        assert!(rt; is_written_as(alloc, text, wanted)?, "{text}");
-    }
-    Ok(())
-}
-
-#[test]
-fn become_nothing_without_parts_that_are_written(rt: HostRuntime) -> Result<(), Fail> {
-    let alloc = rt.alloc();
-    let lone = read(alloc, r#"{"crs_type":"srid"}"#)?;
-    assert!(rt; lone.to_value(alloc)?.is_none());
-    assert!(rt; Metadata::default().to_value(alloc)?.is_none());
+    assert!(rt; Crs::default().crs_value().is_none());
+    let object = Value::from_str(alloc, "{}")?;
+    assert!(rt; empty_projjson(alloc).crs_value() == Some(&object));
     Ok(())
 }

@@ -58,14 +58,17 @@ fn answer_of<C: Commands>(alloc: Global, row: &[u8]) -> Result<Option<String>, A
     C::answer(alloc, command, parts.next().unwrap_or(b""))
 }
 
-/// Whether a row is answered as is wanted. Says it on standard error where it is not.
+/// Whether a row is answered as is wanted. Says it on standard error where it is not, or where memory ran out.
 fn is_right<C: Commands>(
     rt: &HostRuntime,
     place: Place<'_>,
     row: &[u8],
     wanted: Option<&[u8]>,
 ) -> io::Result<bool> {
-    let answer = answer_of::<C>(rt.alloc(), row)?;
+    let Ok(answer) = answer_of::<C>(rt.alloc(), row) else {
+        report(rt, place, row, Some(b"nothing: out of memory"), wanted)?;
+        return Ok(false);
+    };
     let answer = answer.as_ref().map(|answer| answer.as_bytes());
     if answer.is_some() && answer == wanted {
         return Ok(true);

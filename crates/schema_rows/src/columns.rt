@@ -114,17 +114,17 @@ pub fn data_type(alloc: Global, text: &str) -> Result<String, AllocError> {
 
 /// Whether the type in a variant has that data type by itself; a dash where it has no such call.
 fn has_own(alloc: Global, one: &GeoArrowType, tree: &DataType) -> Result<&'static str, AllocError> {
-    let same = match one {
-        GeoArrowType::Point(own) => own.data_type(alloc)? == *tree,
-        GeoArrowType::LineString(own) => own.data_type(alloc)? == *tree,
-        GeoArrowType::Polygon(own) => own.data_type(alloc)? == *tree,
-        GeoArrowType::MultiPoint(own) => own.data_type(alloc)? == *tree,
-        GeoArrowType::MultiLineString(own) => own.data_type(alloc)? == *tree,
-        GeoArrowType::MultiPolygon(own) => own.data_type(alloc)? == *tree,
-        GeoArrowType::GeometryCollection(own) => own.data_type(alloc)? == *tree,
-        GeoArrowType::Rect(own) => own.data_type(alloc)? == *tree,
-        GeoArrowType::Geometry(own) => own.data_type(alloc)? == *tree,
+    let built = match one {
+        GeoArrowType::Point(own) => own.data_type(alloc),
+        GeoArrowType::LineString(own) => own.data_type(alloc),
+        GeoArrowType::Polygon(own) => own.data_type(alloc),
+        GeoArrowType::MultiPoint(own) => own.data_type(alloc),
+        GeoArrowType::MultiLineString(own) => own.data_type(alloc),
+        GeoArrowType::MultiPolygon(own) => own.data_type(alloc),
+        GeoArrowType::GeometryCollection(own) => own.data_type(alloc),
+        GeoArrowType::Rect(own) => own.data_type(alloc),
+        GeoArrowType::Geometry(own) => own.data_type(alloc),
         _ => return Ok("-"),
     };
-    Ok(if same { "true" } else { "false" })
+    Ok(if built? == *tree { "true" } else { "false" })
 }

@@ -32,25 +32,26 @@ impl Commands for Schema {
 
 /// The answer to a text under a command; none where there is no such command. Errs also where the text spells nothing.
 fn answer_to(alloc: Global, command: &str, text: &str) -> Result<Option<String>, AllocError> {
-    match command {
-        "read" => columns::read(alloc, text).map(Some),
-        "canonical_field" => columns::canonical_field(alloc, text).map(Some),
-        "to_field" => columns::to_field(alloc, text).map(Some),
-        "data_type" => columns::data_type(alloc, text).map(Some),
-        "try_new" => make(alloc, Call::TryNew, text).map(Some),
-        "try_extension_type" => make(alloc, Call::TryExtensionType, text).map(Some),
-        "supports_data_type" => used(alloc, Use::Supports, text).map(Some),
-        "try_with_extension_type" => used(alloc, Use::Writes, text).map(Some),
-        "serialize_metadata" => used(alloc, Use::Serializes, text).map(Some),
-        "geometry_type_id" => geometry_type_id(alloc, text).map(Some),
-        "from_kind" => changed(alloc, Change::FromKind, text).map(Some),
-        "with_coord_type" => changed(alloc, Change::WithCoordType, text).map(Some),
-        "with_dimension" => changed(alloc, Change::WithDimension, text).map(Some),
-        "with_metadata" => changed(alloc, Change::WithMetadata, text).map(Some),
-        "normalized" => changed(alloc, Change::Normalized, text).map(Some),
-        "same_written" => same_written(alloc, text).map(Some),
-        _ => Ok(None),
-    }
+    let answer = match command {
+        "read" => columns::read(alloc, text)?,
+        "canonical_field" => columns::canonical_field(alloc, text)?,
+        "to_field" => columns::to_field(alloc, text)?,
+        "data_type" => columns::data_type(alloc, text)?,
+        "try_new" => make(alloc, Call::TryNew, text)?,
+        "try_extension_type" => make(alloc, Call::TryExtensionType, text)?,
+        "supports_data_type" => used(alloc, Use::Supports, text)?,
+        "try_with_extension_type" => used(alloc, Use::Writes, text)?,
+        "serialize_metadata" => used(alloc, Use::Serializes, text)?,
+        "geometry_type_id" => geometry_type_id(alloc, text)?,
+        "from_kind" => changed(alloc, Change::FromKind, text)?,
+        "with_coord_type" => changed(alloc, Change::WithCoordType, text)?,
+        "with_dimension" => changed(alloc, Change::WithDimension, text)?,
+        "with_metadata" => changed(alloc, Change::WithMetadata, text)?,
+        "normalized" => changed(alloc, Change::Normalized, text)?,
+        "same_written" => same_written(alloc, text)?,
+        _ => return Ok(None),
+    };
+    Ok(Some(answer))
 }
 
 fn main(rt: HostRuntime) -> io::Result<ExitCode> {
