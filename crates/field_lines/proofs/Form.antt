@@ -10,8 +10,9 @@ use Rattle.arrow_values.specs.Tree.{Text, Metadata, Tree, plain, struct, union, 
 use Rattle.arrow_values.specs.Union.{is_type_id, are_distinct}
 use Rattle.field_lines.specs.Names.{plain_named}
 use Rattle.field_lines.specs.FieldOfValue.{is_size, integer_of, size_of_value, id_of_value, mode_of_value, field_from, field_before, member_before, list_of, large_list_of, fixed_size_list_of, tree_ids, union_of, are_keys, field_of_value, type_in, type_of_value, fields_of_value, fields_in, members_of_value, members_in}
+use Rattle.field_lines.specs.Line.{value_of_line, field_of_line}
 use Rattle.field_lines.specs.LineForm.{HasLineForm, FieldsHaveLineForm, MembersHaveLineForm}
-use Rattle.field_lines.proofs.TypeRead.{kept_has}
+use Rattle.field_lines.proofs.UnionMade.{kept_has}
 use Rattle.field_lines.proofs.FieldRead.{name_at, nullable_at, metadata_at}
 
 map_some : {A B P : Type 0} (f : A → B) (o : Option A) (y : B) → option_map f o ≡ Some y → ((x : A) → o ≡ Some x → f x ≡ y → P) → P
@@ -91,7 +92,7 @@ at_key true o rest h hs = h
 at_key false o rest h hs = hs
 
 mutual
-  pub field_form : (d : Data) → Formed (field_of_value d)
+  field_form : (d : Data) → Formed (field_of_value d)
   field_form (object ms) f is = type_in_form ms f.tree (tree_of_from (name_at ms) (nullable_at ms) (type_in ms) (metadata_at ms) f is)
   field_form null f is = cc
   field_form (boolean b) f is = cc
@@ -128,6 +129,10 @@ mutual
   members_in_form (item (array (item i (item d no_items))) ds) ms is = member_front i (field_of_value d) (members_in ds) (field_form d) (members_in_form ds) ms is
   members_in_form (item _ ds) ms is = cc
 
-pub read_form : (d : Data) (o : Option FieldTree) → o ≡ field_of_value d → IfSome o (λ f. HasLineForm f.tree)
-read_form d None is = tt
-read_form d (Some f) is = field_form d f (sym is)
+read_form : (v : Option Data) (o : Option FieldTree) → o ≡ option_and_then field_of_value v → IfSome o (λ f. HasLineForm f.tree)
+read_form v None is = tt
+read_form None (Some f) is = cc
+read_form (Some d) (Some f) is = field_form d f (sym is)
+
+pub line_form : (line : Text) (o : Option FieldTree) → o ≡ field_of_line line → IfSome o (λ f. HasLineForm f.tree)
+line_form line o is = read_form (value_of_line line) o is

@@ -1,11 +1,13 @@
-pub mod LastEntry
-pub mod TextsRead
-pub mod PartsRead
-pub mod Depths
-pub mod FieldRead
-pub mod TypeRead
-pub mod LoopsRead
-pub mod Writes
-pub mod Round
-pub mod Form
-pub mod Texts
+mod LastEntry
+mod FieldRead
+mod UnionMade
+mod Writes
+mod Prints
+mod Round
+mod Form
+mod Texts
+mod TokenTexts
+mod TokenSlots
+mod TokenParts
+mod TokenKeys
+mod TokenItems

@@ -1,10 +1,9 @@
--- The value of a field stands for that field, and holds no float.
+-- The value of a field stands for that field.
 use Rattle.std.proofs.Common.{◌≡◌, ℤ, pos, negsuc, [], ◌∷◌, Bool, true, false, cond, IsTrue, ◌&&◌, Some, None, option_map, option_and_then, refl, ap, ◌∙◌}
 use Rattle.std.proofs.lemmas.Bool.{false≢true}
 use Rattle.std.specs.List.{list_all}
 use Rattle.serde_json.specs.Data.{Data, number, string}
 use Rattle.serde_json.specs.Find.{of_integer, as_integer, as_str}
-use Rattle.serde_json.specs.Written.{has_float, items_have_float, members_have_float}
 use Rattle.arrow_values.specs.declared.tree.UnionMode.{UnionMode}
 use Rattle.arrow_values.specs.declared.tree.UnionMode.TheVariants.{Sparse, Dense}
 use Rattle.arrow_values.specs.Tree.{Text, Metadata, Plain, null, boolean, int8, int16, int32, int64, uint8, uint16, uint32, uint64, float16, float32, float64, date32, date64, binary, large_binary, binary_view, utf8, large_utf8, utf8_view, Tree, plain, list, large_list, fixed_size_list, struct, union, FieldTrees, no_fields, field, MemberTrees, no_members, member, FieldTree, field_tree}
@@ -13,39 +12,6 @@ use Rattle.field_lines.specs.Names.{plain_name, plain_named, mode_name, mode_nam
 use Rattle.field_lines.specs.FieldOfValue.{kept, is_size, size_of_value, texts_in, field_from, field_before, member_before, list_of, large_list_of, fixed_size_list_of, tree_ids, union_of, field_of_value, type_of_value, fields_in, members_in}
 use Rattle.field_lines.specs.ValueOfField.{texts_value, parts_value, type_value, fields_value, members_value, value_of_field}
 use Rattle.field_lines.specs.LineForm.{HasLineForm, FieldsHaveLineForm, MembersHaveLineForm}
-
--- no float
-no_float-texts : (m : Metadata) → members_have_float (texts_value m) ≡ false
-no_float-texts [] = refl
-no_float-texts (e ∷ es) = no_float-texts es
-
-no_float-parts : (n : Text) (d : Data) (b : Bool) (m : Metadata) → has_float d ≡ false → has_float (parts_value n d b m) ≡ false
-no_float-parts n d b [] h = rw h refl
-no_float-parts n d b (e ∷ es) h = rw (no_float-texts es, h) refl
-
-no_float-integer : (z : ℤ) → has_float (number (of_integer z)) ≡ false
-no_float-integer (pos n) = refl
-no_float-integer (negsuc n) = refl
-
-mutual
-  no_float-type : (t : Tree) → has_float (type_value t) ≡ false
-  no_float-type (plain p) = refl
-  no_float-type (list n t b m) = rw (no_float-parts n (type_value t) b m (no_float-type t)) refl
-  no_float-type (large_list n t b m) = rw (no_float-parts n (type_value t) b m (no_float-type t)) refl
-  no_float-type (fixed_size_list n t b m s) = rw (no_float-parts n (type_value t) b m (no_float-type t), no_float-integer s) refl
-  no_float-type (struct fs) = rw (no_float-fields fs) refl
-  no_float-type (union ms mode) = rw (no_float-members ms) refl
-
-  no_float-fields : (fs : FieldTrees) → items_have_float (fields_value fs) ≡ false
-  no_float-fields no_fields = refl
-  no_float-fields (field n t b m fs) = rw (no_float-parts n (type_value t) b m (no_float-type t), no_float-fields fs) refl
-
-  no_float-members : (ms : MemberTrees) → items_have_float (members_value ms) ≡ false
-  no_float-members no_members = refl
-  no_float-members (member i n t b m ms) = rw (no_float-integer i, no_float-parts n (type_value t) b m (no_float-type t), no_float-members ms) refl
-
-pub no_float-field : (f : FieldTree) → has_float (value_of_field f) ≡ false
-no_float-field f = no_float-parts f.name (type_value f.tree) f.nullable f.metadata (no_float-type f.tree)
 
 -- the words
 named_plain : (p : Plain) → plain_named (plain_name p) ≡ Some p

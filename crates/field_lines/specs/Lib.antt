@@ -4,3 +4,6 @@ pub mod ValueOfField
 pub mod LineForm
 pub mod Line
 pub mod Steps
+pub mod Keys
+pub mod Slots
+pub mod Prints

@@ -1,18 +1,20 @@
 //! The line format: a field of Arrow as one line of JSON, and back.
 //!
-//! - [`parse_line`] reads the field that a line stands for, and [`field_line`] writes the line of a field.
-//! - [`read_field`] and [`write_field`] are the same for a JSON value that is there already.
+//! [`parse_line`] reads the field that a line stands for, and [`field_line`] writes the line of a field.
+//! [`parse_line_with_scratch`] reads many lines at less cost each.
 //!
-//! The format is this library's own; docs/FORMAT.md has its rules and a table of its words. What a value
-//! stands for is `specs/FieldOfValue`, and the value of a field is `specs/ValueOfField`.
+//! The format is this library's own; docs/FORMAT.md has its rules and a table of its words. What a line
+//! stands for is `specs/Line`, by the field that a JSON value stands for, `specs/FieldOfValue`, and the
+//! value of a field, `specs/ValueOfField`. No JSON value is made: a line is read by its tokens, and its
+//! tokens are written one after another.
 #![tactic(auto)]
 
 mod line;
+mod metadata;
 mod names;
-mod parts;
-mod read;
-mod write;
+mod printer;
+mod scalars;
+mod tokens;
+mod unions;
 
-pub use line::{field_line, parse_line};
-pub use read::read_field;
-pub use write::write_field;
+pub use line::{field_line, parse_line, parse_line_with_scratch};

@@ -1,29 +1,21 @@
 //! A line of text, and the field that it stands for.
-ghost use Rattle.std.specs.Prelude.{◌≡◌, ◌≤◌, Some, IfOk, IfSome, option_map, string_bytes};
+ghost use Rattle.std.specs.Prelude.{◌≡◌, ◌≤◌, Some, None, Err, option_and_then, IfOk, IfSome, string_bytes};
 ghost use Rattle.serde_json.specs.Data.{depth};
-ghost use Rattle.serde_json.specs.Read.{max_depth};
-ghost use Rattle.serde_json.specs.View.{view};
-ghost use Rattle.field_lines.specs.Line.{value_of_line, field_of_line, line_of_field};
+ghost use Rattle.serde_json.specs.Read.{read, max_depth};
+ghost use Rattle.field_lines.specs.Line.{field_of_line, line_of_field};
 ghost use Rattle.field_lines.specs.LineForm.{HasLineForm};
+ghost use Rattle.field_lines.specs.FieldOfValue.{field_of_value};
 ghost use Rattle.field_lines.specs.ValueOfField.{value_of_field};
 
-use crate::read::read_field;
-use crate::write::write_field;
+use crate::printer::print_field;
+use crate::tokens::take_field;
 use arrow_values::Field;
-use serde_json::Value;
+use json::{Reader, Scratch, Writer};
 use std::alloc::{AllocError, Global};
+use value_tokens::Refusal;
 
-/// The JSON value that a line is, or none.
-#[tactic(auto, using(crate::proofs::Texts::line_values))]
-fn parse_value(alloc: Global, line: &[u8]) -> Result<Option<Value>, AllocError>
-    ensures { IfOk result (λ o. option_map view o ≡ value_of_line line.now) }
-{
-    match Value::from_slice(alloc, line) {
-        Ok(value) => Ok(Some(value)),
-        Err(e) if e.is_memory() => Err(AllocError),
-        Err(_) => Ok(None),
-    }
-}
+/// How deep the arrays and objects of a line may nest.
+const MAX_DEPTH: usize = 127;
 
 /// The field that a line stands for, and none where it stands for no field. A line is the bytes before
 /// a line feed: it is UTF-8 and holds one JSON value, of arrays and objects nested at most 127 deep.
@@ -32,10 +24,41 @@ pub fn parse_line(alloc: Global, line: &[u8]) -> Result<Option<Field>, AllocErro
     ensures field { IfOk result (λ o. o ≡ field_of_line line.now) }
     ensures form { IfOk result (λ o. IfSome o (λ f. HasLineForm f.tree)) }
 {
-    match parse_value(alloc, line)? {
-        Some(value) => read_field(alloc, value),
-        None => Ok(None),
+    let mut scratch = Scratch::new(alloc);
+    parse_line_with_scratch(alloc, line, &mut scratch)
+}
+
+/// The same as [`parse_line`], in a scratch that the caller keeps: many lines that are read with one scratch cost less than
+/// with a scratch each. Nothing of a line stays in it that another line could see.
+pub fn parse_line_with_scratch(
+    alloc: Global,
+    line: &[u8],
+    scratch: &mut Scratch,
+) -> Result<Option<Field>, AllocError>
+    ensures field { IfOk result (λ o. o ≡ field_of_line line.now) }
+    ensures form { IfOk result (λ o. IfSome o (λ f. HasLineForm f.tree)) }
+{
+    let Ok(text) = simdutf8::compat::from_utf8(line) else {
+        return Ok(None);
+    };
+    match parse_text(alloc, text, scratch) {
+        Ok(field) => Ok(field),
+        Err(Refusal::Text) => Ok(None),
+        Err(Refusal::Memory) => Err(AllocError),
     }
+}
+
+/// The field that a text stands for.
+fn parse_text(alloc: Global, text: &str, scratch: &mut Scratch) -> Result<Option<Field>, Refusal>
+    ensures ok { IfOk result (λ o. o ≡ option_and_then field_of_value (read text.now)) }
+    ensures text { result ≡ Err Refusal.Text → None ≡ option_and_then field_of_value (read text.now) }
+{
+    let mut reader = Reader::new(text, scratch)?;
+    let field = take_field(alloc, &mut reader, MAX_DEPTH)?;
+    if reader.next().is_some() {
+        return Err(Refusal::Text);
+    }
+    Ok(field)
 }
 
 /// The line of a field, without a line feed: compact JSON with its keys in the order of their bytes,
@@ -44,5 +67,7 @@ pub fn field_line(alloc: Global, field: &Field) -> Result<String, AllocError>
     ensures text { IfOk result (λ s. string_bytes s ≡ line_of_field field.now) }
     ensures reads_back { IfOk result (λ s. HasLineForm field.now.tree → depth (value_of_field field.now) ≤ max_depth → field_of_line (string_bytes s) ≡ Some field.now) }
 {
-    write_field(alloc, field)?.to_string(alloc)
+    let mut out = Writer::new(Vec::with_capacity(alloc, 256)?);
+    print_field(field, &mut out)?;
+    Ok(unsafe { String::from_utf8_unchecked(out.into_inner()) })
 }

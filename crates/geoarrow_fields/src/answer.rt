@@ -7,18 +7,32 @@ ghost use Rattle.geoarrow_fields.specs.Answer.{Answers, AnswersField, AnswersRef
 use crate::Command;
 use crate::words::{column_text, error_text, inferred_text, type_text};
 use arrow_values::{Field, GeoArrowError};
-use field_lines::{field_line, parse_line};
+use field_lines::{field_line, parse_line_with_scratch};
 use geoarrow_columns::{ColumnFault, check_column};
 use geoarrow_schema::GeoArrowType;
+use json::Scratch;
 use std::alloc::{AllocError, Global};
 
 /// The answer to one line under a command, without a line feed: what the command says of the field that the line stands
 /// for, or `error field` where it stands for none. Errs where memory is wanting alone.
-#[tactic(auto, unfolding(crate::specs::Answer::Answers))]
 pub fn answer_line(alloc: Global, command: Command, line: &[u8]) -> Result<String, AllocError>
     ensures { IfOk result (λ answer. Answers command line.now (string_bytes answer)) }
 {
-    match parse_line(alloc, line)? {
+    let mut scratch = Scratch::new(alloc);
+    answer_line_with_scratch(alloc, command, line, &mut scratch)
+}
+
+/// The same as [`answer_line`], in a scratch that is kept from line to line.
+#[tactic(auto, unfolding(crate::specs::Answer::Answers))]
+pub(crate) fn answer_line_with_scratch(
+    alloc: Global,
+    command: Command,
+    line: &[u8],
+    scratch: &mut Scratch,
+) -> Result<String, AllocError>
+    ensures { IfOk result (λ answer. Answers command line.now (string_bytes answer)) }
+{
+    match parse_line_with_scratch(alloc, line, scratch)? {
         Some(field) => answer_field(alloc, command, &field),
         None => String::from_str(alloc, "error field"),
     }

@@ -7,6 +7,7 @@ ghost use Rattle.geoarrow_fields.specs.Progress.{IsBegun, AnswersNext, AnswersSo
 
 use crate::Command;
 use crate::output::{Fault, write_answer};
+use json::Scratch;
 use memchr::memchr;
 use std::alloc::Global;
 use std::io::Write;
@@ -49,6 +50,7 @@ pub(crate) fn end_line<W: Write>(
     command: Command,
     begun: &mut Vec<u8>,
     end: &[u8],
+    scratch: &mut Scratch,
     writer: &mut W,
 ) -> Result<(), Fault>
     ensures ok { OnOk result (AppendsSome (Answered command ((begun.old.items ++ end.now) ∷ []))
@@ -62,10 +64,10 @@ pub(crate) fn end_line<W: Write>(
         (W.contents writer.old) (W.contents writer.new)) }
 {
     if begun.is_empty() {
-        return write_answer(alloc, command, end, writer);
+        return write_answer(alloc, command, end, scratch, writer);
     }
     begun.extend_from_slice(end)?;
-    write_answer(alloc, command, begun.as_slice(), writer)?;
+    write_answer(alloc, command, begun.as_slice(), scratch, writer)?;
     begun.clear();
     Ok(())
 }
@@ -78,6 +80,7 @@ pub(crate) fn answer_chunk<W: Write>(
     chunk: &[u8],
     begun: &mut Vec<u8>,
     count: usize,
+    scratch: &mut Scratch,
     writer: &mut W,
 ) -> Result<usize, Fault>
     requires { IsBegun count begun.old.items }
@@ -101,7 +104,7 @@ pub(crate) fn answer_chunk<W: Write>(
         if is_past_limit(count, begun.len(), at) {
             return Err(Fault::Input);
         }
-        end_line(alloc, command, begun, &rest[..at], writer)?;
+        end_line(alloc, command, begun, &rest[..at], scratch, writer)?;
         count += 1;
         rest = &rest[at + 1..];
     }

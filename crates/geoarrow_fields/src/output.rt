@@ -3,8 +3,9 @@ ghost use Rattle.std.specs.Prelude.{◌≡◌, ◌≢◌, [], ◌∷◌, ◌++�
 ghost use Rattle.std.specs.Io.KnownBytes.{Appends, Keeps};
 ghost use Rattle.geoarrow_fields.specs.Output.{Answered, AppendsPart, AppendsSome, AppendsPartOfSome};
 
-use crate::answer::answer_line;
+use crate::answer::answer_line_with_scratch;
 use crate::{Command, RunEnd};
+use json::Scratch;
 use std::alloc::{AllocError, Global};
 use std::io::Write;
 
@@ -51,6 +52,7 @@ pub(crate) fn write_answer<W: Write>(
     alloc: Global,
     command: Command,
     line: &[u8],
+    scratch: &mut Scratch,
     writer: &mut W,
 ) -> Result<(), Fault>
     ensures ok { OnOk result (AppendsSome (Answered command (line.now ∷ []))
@@ -61,7 +63,7 @@ pub(crate) fn write_answer<W: Write>(
     ensures output { IfErr result (λ fault. fault ≡ Fault.Output
         → AppendsPartOfSome (Answered command (line.now ∷ [])) (W.contents writer.old) (W.contents writer.new)) }
 {
-    let answer = answer_line(alloc, command, line)?;
+    let answer = answer_line_with_scratch(alloc, command, line, scratch)?;
     write_whole(writer, answer.as_bytes())?;
     write_whole(writer, b"\n")
 }

@@ -6,6 +6,7 @@ ghost use Rattle.geoarrow_fields.specs.Output.{AnswersAll, AnswersFirst, StopsFo
 use crate::lines::{answer_chunk, end_line};
 use crate::output::{Fault, finish};
 use crate::{Command, RunEnd};
+use json::Scratch;
 use std::alloc::{AllocError, Global};
 use std::io::{Read, Write};
 
@@ -65,6 +66,7 @@ fn answer_lines<R: Read, W: Write>(
         (R.remaining reader.old) (R.remaining reader.new) (W.contents writer.old) (W.contents writer.new)) }
 {
     let mut chunk = zeros(alloc, CHUNK_BYTES)?;
+    let mut scratch = Scratch::new(alloc);
     let mut begun = Vec::new(alloc);
     let mut count = 0;
     loop {
@@ -73,9 +75,17 @@ fn answer_lines<R: Read, W: Write>(
             if begun.is_empty() {
                 return Ok(());
             }
-            return end_line(alloc, command, &mut begun, &[], writer);
+            return end_line(alloc, command, &mut begun, &[], &mut scratch, writer);
         }
-        count = answer_chunk(alloc, command, &chunk[..n], &mut begun, count, writer)?;
+        count = answer_chunk(
+            alloc,
+            command,
+            &chunk[..n],
+            &mut begun,
+            count,
+            &mut scratch,
+            writer,
+        )?;
     }
 }
 

@@ -174,3 +174,9 @@ nests (Some d) (Some t) (Some e) h = omega arith
 -- the value of a metadata with a CRS value nested at most 100 levels is nested no deeper than texts are read
 pub nests_within : (m : Metadata) → NestsWithin 100 m.crs.value → NestsWithin max_depth (meta_value m)
 nests_within m h = nests m.crs.value m.crs.crs_type m.edges h
+
+-- unless it is bare, a metadata is written as the object of its parts
+pub meta_written : (v : Option Data) (t : Option CrsType) (e : Option Edges) → is_bare v e ≡ false → meta_value (of_parts v t e) ≡ Some (written v t e)
+meta_written None t None h = absurd (true≢false h)
+meta_written None t (Some e) h = refl
+meta_written (Some d) t e h = refl

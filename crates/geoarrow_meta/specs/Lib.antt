@@ -7,3 +7,4 @@ pub mod Written
 pub mod Read
 pub mod Transform
 pub mod Whole
+pub mod Prints

@@ -12,6 +12,7 @@ ghost use Rattle.geoarrow_meta.specs.Parts.{crs_value, metadata_crs, metadata_ed
 ghost use Rattle.geoarrow_meta.specs.Written.{empty, meta_value, printed, normal, is_bare, IsReadBack, NestsWithin};
 ghost use Rattle.geoarrow_meta.specs.Read.{StandsFor, TextStandsFor, RefusedAs, TextRefusedAs};
 
+mod print;
 mod read;
 mod write;
 
@@ -20,6 +21,8 @@ use crate::edges::Edges;
 use crate::error::{boxed, crs_fault, external_fault, unread};
 use crate::walks::holds_whole_numbers;
 use arrow_values::{ArrowError, Field, GeoArrowResult};
+use json::Writer;
+use print::print_parts;
 use read::{present_at, read_crs_type, read_edges};
 use serde_json::Value;
 use std::alloc::{AllocError, Global};
@@ -133,10 +136,24 @@ impl Metadata {
         ensures nested { IfOk result (λ text. NestsWithin 100 (crs_value (metadata_crs self.now))
             → TextStandsFor (option_map string_bytes text) (normal self.now)) }
     {
-        match self.to_value(alloc)? {
-            None => Ok(None),
-            Some(value) => Ok(Some(value.to_string(alloc)?)),
+        Ok(self.print(alloc)?)
+    }
+
+    // The text of `serialize`.
+    fn print(&self, alloc: Global) -> Result<Option<String>, AllocError>
+        ensures text { MatchResult result (λ text. option_map string_bytes text ≡ printed self.now)
+            (λ _. IsSome (printed self.now)) }
+        ensures read_back { OnOk result (NestsWithin max_depth (meta_value self.now)
+            → IsReadBack (meta_value self.now)) }
+        ensures valid { IfSome (crs_value (metadata_crs self.now)) IsCrsValue }
+    {
+        let value = self.crs.crs_value();
+        if self.is_bare() {
+            return Ok(None);
         }
+        let mut out = Writer::new(Vec::with_capacity(alloc, 128)?);
+        print_parts(value, self.crs.crs_type(), self.edges, &mut out)?;
+        Ok(Some(unsafe { String::from_utf8_unchecked(out.into_inner()) }))
     }
 
     /// The metadata that a text at a field's `ARROW:extension:metadata`, or its absence, stands for. No text gives the

@@ -1,7 +1,6 @@
-//! Lines: whether their fields are equal, and the fields of JSON values.
-use arrow_values::{DataType, Field, UnionMode};
-use field_lines::{parse_line, read_field, write_field};
-use serde_json::Value;
+//! Lines: whether their fields are equal.
+use arrow_values::Field;
+use field_lines::parse_line;
 use std::alloc::{AllocError, Global};
 use std::test::Fail;
 
@@ -95,25 +94,5 @@ fn of_clones_are_the_same(rt: HostRuntime) -> Result<(), Fail> {
         let clone = field.try_clone(rt.alloc())?;
         assert!(rt; clone == *field, "{line}");
     }
-    Ok(())
-}
-
-/// The line of a union of two members.
-const UNION: &str =
-    r#"{"name":"f","nullable":false,"type":{"mode":"dense","union":[[1,{"name":"x","nullable":false,"type":"null"}],[2,{"name":"y","nullable":false,"type":"null"}]]}}"#;
-
-#[test]
-fn and_values_stand_for_the_same_fields(rt: HostRuntime) -> Result<(), Fail> {
-    let alloc = rt.alloc();
-    let value = Value::from_str(alloc, UNION)?;
-    match read_field(alloc, value)? {
-        Some(field) => {
-            assert!(rt; matches!(field.data_type(), DataType::Union(_, UnionMode::Dense)));
-            let written = write_field(alloc, &field)?;
-            assert_eq!(rt; written.to_string(alloc)?.as_str(), UNION);
-        }
-        None => assert!(rt; false, "{UNION}"),
-    }
-    assert!(rt; read_field(alloc, Value::Null)?.is_none());
     Ok(())
 }

@@ -1,0 +1,97 @@
+-- From the tokens that were added one after another to those of a value.
+use Rattle.std.proofs.Common.{◌≡◌, ℤ, List, [], ◌∷◌, ◌++◌, Bool, Result, Ok, Err, Some, OnOk, codes, negsuc, pos, arith, SFits, w64, string_cmp, option_map, option_and_then, refl, sym, ap, ◌∙◌, subst, append_assoc, append-nil}
+use Rattle.std.specs.Fmt.{signed_decimal}
+use Rattle.std.specs.List.Sorted.{IsStrictlySortedBy}
+use Rattle.std.specs.Map.{keys_of}
+use Rattle.json.specs.Token.{Token, key, number as number_token, string as string_token, boolean as boolean_token, begin_object, end_object, begin_array, end_array}
+use Rattle.json.specs.Tree.{json_tokens, members_tokens}
+use Rattle.json.specs.Written.{Written, Writes}
+use Rattle.serde_json.specs.Data.{Data, boolean, number, string, object, array, Items, no_items, item, no_members, member, put}
+use Rattle.serde_json.specs.Find.{of_integer}
+use Rattle.serde_json.specs.Read.{of_json, of_items, of_members}
+use Rattle.serde_json.specs.Written.{number_text, outline, items_outline, members_outline}
+use Rattle.serde_json.proofs.Numbers.{number_of-decimal, number_of-negative}
+use Rattle.arrow_values.specs.Tree.{Text, Metadata}
+use Rattle.arrow_values.specs.View.{texts_of}
+use Rattle.value_tokens.specs.Adds.{Adds, Prints, then}
+use Rattle.field_lines.specs.Prints.{PrintsMetadata, metadata_tokens}
+use Rattle.field_lines.specs.ValueOfField.{texts_value, one_key, two_keys, parts_value}
+use Rattle.field_lines.proofs.Writes.{Texts, put_last}
+
+-- ---- texts in the order of their keys are read back
+
+read_texts : (done left : Texts) → IsStrictlySortedBy string_cmp (keys_of (done ++ left)) → of_members (members_outline (texts_value (texts_of left))) (texts_value (texts_of done)) ≡ Some (texts_value (texts_of (done ++ left)))
+read_texts done [] h = ap (λ l. Some (texts_value (texts_of l))) (sym (append-nil done))
+read_texts done (e ∷ left) h =
+    let all : done ++ (e ∷ left) ≡ (done ++ e ∷ []) ++ left = sym (append_assoc done (e ∷ []) left) in
+    ap (of_members (members_outline (texts_value (texts_of left)))) (put_last done e.0 e.1 left h)
+    ∙ read_texts (done ++ e ∷ []) left (subst (λ l. IsStrictlySortedBy string_cmp (keys_of l)) all h)
+    ∙ ap (λ l. Some (texts_value (texts_of l))) (sym all)
+
+pub texts_read_back : (texts : Texts) → IsStrictlySortedBy string_cmp (keys_of texts) → of_json (outline (object (texts_value (texts_of texts)))) ≡ Some (object (texts_value (texts_of texts)))
+texts_read_back texts h = ap (option_map object) (read_texts [] texts h)
+
+-- the tokens of texts after the bracket that opens them
+abbrev pub texts_tokens : Texts → List Token
+texts_tokens texts = members_tokens (members_outline (texts_value (texts_of texts)))
+
+-- ---- a value's parts
+
+pub prints_text : {s : Text} {old new : Written} → Adds (string_token s ∷ []) old new → Prints (string s) old new
+prints_text a = record { adds = a; reads_back = refl }
+
+integer_token : (z : ℤ) → number_text (of_integer z) ≡ signed_decimal z
+integer_token (pos n) = refl
+integer_token (negsuc n) = refl
+
+integer_read_back : (z : ℤ) → SFits w64 z → of_json (outline (number (of_integer z))) ≡ Some (number (of_integer z))
+integer_read_back (pos n) fits = ap (option_map number) (number_of-decimal n (grind arith))
+integer_read_back (negsuc n) fits = ap (option_map number) (number_of-negative n (grind arith))
+
+pub prints_integer : (z : ℤ) {old new : Written} → SFits w64 z → Adds (number_token (signed_decimal z) ∷ []) old new → Prints (number (of_integer z)) old new
+prints_integer z {old} {new} fits a = record { adds = subst (λ s. Adds (number_token s ∷ []) old new) (sym (integer_token z)) a; reads_back = integer_read_back z fits }
+
+pub prints_one_key : (k : Text) {d : Data} {w0 w1 w2 w3 w4 : Written} → Adds (begin_object ∷ []) w0 w1 → Adds (key k ∷ []) w1 w2 → Prints d w2 w3 → Adds (end_object ∷ []) w3 w4 → Prints (one_key k d) w0 w4
+prints_one_key k begin named value finish = record {
+  adds = then begin (then named (then value.adds finish));
+  reads_back = ap (λ o. option_map object (option_and_then (λ d. Some (member k d no_members)) o)) value.reads_back;
+}
+
+-- two keys in order
+pub prints_two_keys : (k : Text) {d : Data} (l : Text) {e : Data} {w0 w1 w2 w3 w4 w5 w6 : Written} → ((x y : Data) → put l y (member k x no_members) ≡ member k x (member l y no_members))
+    → Adds (begin_object ∷ []) w0 w1 → Adds (key k ∷ []) w1 w2 → Prints d w2 w3 → Adds (key l ∷ []) w3 w4 → Prints e w4 w5 → Adds (end_object ∷ []) w5 w6 → Prints (two_keys k d l e) w0 w6
+prints_two_keys k {d} l {e} order begin first one second two finish = record {
+  adds = then begin (then first (then one.adds (then second (then two.adds finish))));
+  reads_back =
+      ap (λ o. option_map object (option_and_then (λ x. option_and_then (λ y. Some (put l y (member k x no_members))) (of_json (outline e))) o)) one.reads_back
+      ∙ ap (λ o. option_map object (option_and_then (λ y. Some (put l y (member k d no_members))) o)) two.reads_back
+      ∙ ap (λ ms. Some (object ms)) (order d e);
+}
+
+parts_read_back : (n : Text) (d : Data) (b : Bool) (m : Metadata) → of_json (outline (object (texts_value m))) ≡ Some (object (texts_value m)) → of_json (outline d) ≡ Some d
+    → of_json (outline (parts_value n d b m)) ≡ Some (parts_value n d b m)
+parts_read_back n d b [] texts type =
+    ap (λ o. option_map object (option_and_then (λ t. Some (member (codes "name") (string n) (member (codes "nullable") (boolean b) (member (codes "type") t no_members)))) o)) type
+parts_read_back n d b (e ∷ es) texts type =
+    ap (λ o. option_map object (option_and_then (λ v. option_and_then (λ t. Some (put (codes "type") t (put (codes "nullable") (boolean b) (put (codes "name") (string n) (put (codes "metadata") v no_members))))) (of_json (outline d))) o)) texts
+    ∙ ap (λ o. option_map object (option_and_then (λ t. Some (member (codes "metadata") (object (texts_value (e ∷ es))) (member (codes "name") (string n) (member (codes "nullable") (boolean b) (member (codes "type") t no_members))))) o)) type
+
+-- the tokens of a field after those of its metadata
+abbrev pub tail_tokens : Text → Data → Bool → List Token
+tail_tokens n d b = key (codes "name") ∷ string_token n ∷ key (codes "nullable") ∷ boolean_token b ∷ key (codes "type") ∷ (json_tokens (outline d) ++ end_object ∷ [])
+
+parts_tokens : (n : Text) (d : Data) (b : Bool) (m : Metadata) → begin_object ∷ (metadata_tokens m ++ tail_tokens n d b) ≡ json_tokens (outline (parts_value n d b m))
+parts_tokens n d b [] = refl
+parts_tokens n d b (e ∷ es) = refl
+
+pub prints_parts : (n : Text) (d : Data) (b : Bool) (m : Metadata) {w0 w1 w2 w3 w4 w5 w6 w7 w8 w9 : Written} → Adds (begin_object ∷ []) w0 w1 → PrintsMetadata m w1 w2
+    → Adds (key (codes "name") ∷ []) w2 w3 → Adds (string_token n ∷ []) w3 w4 → Adds (key (codes "nullable") ∷ []) w4 w5 → Adds (boolean_token b ∷ []) w5 w6
+    → Adds (key (codes "type") ∷ []) w6 w7 → Prints d w7 w8 → Adds (end_object ∷ []) w8 w9 → Prints (parts_value n d b m) w0 w9
+prints_parts n d b m {w0} {w9 = w9} begin metadata name_key name nullable_key nullable type_key type finish = record {
+  adds = subst (λ ts. Adds ts w0 w9) (parts_tokens n d b m) (then begin (then metadata.adds (then name_key (then name (then nullable_key (then nullable (then type_key (then type.adds finish))))))));
+  reads_back = parts_read_back n d b m metadata.reads_back type.reads_back;
+}
+
+pub prints_metadata : (texts : Texts) {a b c : Written} → (texts ≡ [] → ⊥) → Adds (key (codes "metadata") ∷ []) a b → Prints (object (texts_value (texts_of texts))) b c → PrintsMetadata (texts_of texts) a c
+prints_metadata [] some named value = absurd (some refl)
+prints_metadata (e ∷ es) some named value = record { adds = then named value.adds; reads_back = value.reads_back }

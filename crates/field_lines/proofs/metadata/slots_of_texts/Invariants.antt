@@ -1,0 +1,5 @@
+use Rattle.field_lines.proofs.TokenSlots.{AreTextsTurned}
+use Rattle.field_lines.proofs.metadata.slots_of_texts.Given as goal
+
+abbrev pub invariant-loop-key : goal.invariant-loop-key
+invariant-loop-key l = AreTextsTurned l.fn.texts.entries l.slots.entries l.key-iterator

@@ -1,0 +1,98 @@
+use Rattle.std.proofs.Common.{IfSome, ◌+◌, ◌*◌, length, codes, string_bytes, option_map}
+use Rattle.std.specs.List.{zip}
+use Rattle.field_lines.specs.Steps.{AreMemberParts}
+use Rattle.arrow_values.specs.View.{tree, texts_of, field_trees, member_trees}
+use Rattle.field_lines.specs.FieldOfValue.{field_of_value, fields_of_value, size_of_value, mode_of_value, members_of_value}
+use Rattle.field_lines.proofs.TokenParts.{ArePartsUnderWay}
+use Rattle.field_lines.proofs.TokenKeys.{IsOnlyUnderWay, AreTwoUnderWay}
+use Rattle.field_lines.proofs.TokenItems.{AreFieldsTaken, ArePairsTaken}
+use Rattle.field_lines.proofs.tokens.+take.Given as goal
+
+abbrev pub decreases-take_field : goal.decreases-take_field
+decreases-take_field l = 8 * l.depth
+
+abbrev pub decreases-take_parts : goal.decreases-take_parts
+decreases-take_parts l = 8 * l.depth + 7
+
+abbrev pub decreases-take_type : goal.decreases-take_type
+decreases-take_type l = 8 * l.depth + 6
+
+abbrev pub decreases-take_keys : goal.decreases-take_keys
+decreases-take_keys l = 8 * l.depth + 6
+
+abbrev pub decreases-take_only_field : goal.decreases-take_only_field
+decreases-take_only_field l = 8 * l.depth + 5
+
+abbrev pub decreases-take_only_fields : goal.decreases-take_only_fields
+decreases-take_only_fields l = 8 * l.depth + 5
+
+abbrev pub decreases-take_fixed_size_list : goal.decreases-take_fixed_size_list
+decreases-take_fixed_size_list l = 8 * l.depth + 5
+
+abbrev pub decreases-take_union : goal.decreases-take_union
+decreases-take_union l = 8 * l.depth + 5
+
+abbrev pub decreases-take_fields : goal.decreases-take_fields
+decreases-take_fields l = 8 * l.depth + 4
+
+abbrev pub decreases-take_items : goal.decreases-take_items
+decreases-take_items l = 8 * l.depth + 3
+
+abbrev pub decreases-take_members : goal.decreases-take_members
+decreases-take_members l = 8 * l.depth + 4
+
+abbrev pub decreases-take_pairs : goal.decreases-take_pairs
+decreases-take_pairs l = 8 * l.depth + 3
+
+abbrev pub decreases-take_pair : goal.decreases-take_pair
+decreases-take_pair l = 8 * l.depth + 2
+
+abbrev pub decreases-take_two : goal.decreases-take_two
+decreases-take_two l = 8 * l.depth + 1
+
+abbrev pub invariant-take_parts-parts : goal.invariant-take_parts-parts
+invariant-take_parts-parts l =
+    ArePartsUnderWay l.depth l.initial.reader l.reader (option_map string_bytes l.name) l.nullable (option_map tree l.data_type) (option_map (λ m. texts_of m.entries) l.metadata)
+
+abbrev pub decreases-take_parts-parts : goal.decreases-take_parts-parts
+decreases-take_parts-parts l = length l.reader
+
+abbrev pub invariant-take_only_field-only : goal.invariant-take_only_field-only
+invariant-take_only_field-only l = IsOnlyUnderWay field_of_value l.depth l.only l.fn.reader l.reader l.field
+
+abbrev pub decreases-take_only_field-only : goal.decreases-take_only_field-only
+decreases-take_only_field-only l = length l.reader
+
+abbrev pub invariant-take_only_fields-only : goal.invariant-take_only_fields-only
+invariant-take_only_fields-only l = IsOnlyUnderWay fields_of_value l.depth (codes "struct") l.fn.reader l.reader (option_map (λ v. field_trees v.items) l.fields)
+
+abbrev pub decreases-take_only_fields-only : goal.decreases-take_only_fields-only
+decreases-take_only_fields-only l = length l.reader
+
+abbrev pub invariant-take_items-items : goal.invariant-take_items-items
+invariant-take_items-items l = AreFieldsTaken l.depth l.initial.reader l.reader l.fields.items
+
+abbrev pub decreases-take_items-items : goal.decreases-take_items-items
+decreases-take_items-items l = length l.reader
+
+abbrev pub invariant-take_fixed_size_list-keys : goal.invariant-take_fixed_size_list-keys
+invariant-take_fixed_size_list-keys l =
+    AreTwoUnderWay field_of_value size_of_value (codes "fixed_size_list") (codes "size") l.depth l.first l.fn.reader l.reader (option_map (λ s. s.now) l.next) l.field l.size
+
+abbrev pub decreases-take_fixed_size_list-keys : goal.decreases-take_fixed_size_list-keys
+decreases-take_fixed_size_list-keys l = length l.reader
+
+abbrev pub invariant-take_union-keys : goal.invariant-take_union-keys
+invariant-take_union-keys l =
+    AreTwoUnderWay mode_of_value members_of_value (codes "mode") (codes "union") l.depth l.first l.fn.reader l.reader (option_map (λ s. s.now) l.next) l.mode
+    (option_map (λ p. member_trees (zip p.0.items p.1.items)) l.members)
+    × IfSome l.members (λ p. AreMemberParts p.0.items p.1.items)
+
+abbrev pub decreases-take_union-keys : goal.decreases-take_union-keys
+decreases-take_union-keys l = length l.reader
+
+abbrev pub invariant-take_pairs-pairs : goal.invariant-take_pairs-pairs
+invariant-take_pairs-pairs l = ArePairsTaken l.depth l.initial.reader l.reader l.ids.items l.fields.items
+
+abbrev pub decreases-take_pairs-pairs : goal.decreases-take_pairs-pairs
+decreases-take_pairs-pairs l = length l.reader

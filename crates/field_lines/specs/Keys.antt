@@ -1,0 +1,23 @@
+-- What stands at the keys of a type's object. For private clauses.
+use Rattle.std.specs.Prelude.{ℤ, Option, None, option_and_then, option_map, if◌then◌else◌, codes, bytes_eq}
+use Rattle.serde_json.specs.Data.{Data, array, no_items, item, Members, no_members, member}
+use Rattle.arrow_values.specs.Tree.{Text, Tree, FieldTree}
+use Rattle.field_lines.specs.FieldOfValue.{id_of_value, size_of_value, mode_of_value, fixed_size_list_of, union_of, are_keys, field_of_value, members_of_value}
+
+-- what f says of the value at the one key
+abbrev pub only_at : {A : Type 0} → (Data → Option A) → Text → Members → Option A
+only_at f k (member l d no_members) = if bytes_eq l k then f d else None
+only_at f k _ = None
+
+abbrev pub fixed_size_list_at : Members → Option Tree
+fixed_size_list_at (member k d (member l e no_members)) = if are_keys k l (codes "fixed_size_list") (codes "size") then option_and_then (λ f. option_map (fixed_size_list_of f) (size_of_value e)) (field_of_value d) else None
+fixed_size_list_at _ = None
+
+abbrev pub union_at : Members → Option Tree
+union_at (member k d (member l e no_members)) = if are_keys k l (codes "mode") (codes "union") then option_and_then (λ mode. option_and_then (union_of mode) (members_of_value e)) (mode_of_value d) else None
+union_at _ = None
+
+-- a type id and a field
+abbrev pub pair_read : Data → Option (ℤ × FieldTree)
+pair_read (array (item i (item d no_items))) = option_and_then (λ id. option_map (λ f. (id, f)) (field_of_value d)) (id_of_value i)
+pair_read _ = None

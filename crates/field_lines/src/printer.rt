@@ -1,0 +1,166 @@
+//! From a field to the tokens of its line, with no JSON value between.
+ghost use Rattle.std.specs.Prelude.{OnOk, codes};
+ghost use Rattle.serde_json.specs.Data.{string, number, object, array};
+ghost use Rattle.serde_json.specs.Find.{of_integer};
+ghost use Rattle.arrow_values.specs.View.{tree, texts_of, field_trees, member_trees};
+ghost use Rattle.field_lines.specs.Names.{mode_name};
+ghost use Rattle.field_lines.specs.Prints.{PrintsMetadata};
+ghost use Rattle.field_lines.specs.ValueOfField.{texts_value, one_key, two_keys, pair, type_value, fields_value, members_value, value_of_field};
+ghost use Rattle.value_tokens.specs.Adds.{Prints, PrintsItems};
+
+use crate::names::{mode_name, plain_name};
+use arrow_values::{DataType, Field, Fields, UnionFields, UnionMode};
+use json::Writer;
+use std::alloc::AllocError;
+use std::collections::BTreeMap;
+
+/// Writes an object of texts.
+fn print_texts(texts: &BTreeMap<String, String>, out: &mut Writer) -> Result<(), AllocError>
+    ensures { OnOk result (Prints (object (texts_value (texts_of texts.now.entries))) out.old out.new) }
+{
+    out.begin_object()?;
+    for (key, text) in texts.iter() {
+        out.key(key.as_str())?;
+        out.string(text.as_str())?;
+    }
+    out.end_object()
+}
+
+/// Writes the metadata's key and its texts, unless it is empty.
+fn print_metadata(metadata: &BTreeMap<String, String>, out: &mut Writer) -> Result<(), AllocError>
+    ensures { OnOk result (PrintsMetadata (texts_of metadata.now.entries) out.old out.new) }
+{
+    if metadata.is_empty() {
+        return Ok(());
+    }
+    out.key("metadata")?;
+    print_texts(metadata, out)
+}
+
+/// Writes an integer.
+fn print_integer(n: i64, out: &mut Writer) -> Result<(), AllocError>
+    ensures { OnOk result (Prints (number (of_integer n)) out.old out.new) }
+{
+    out.i64(n)
+}
+
+/// Writes a text.
+fn print_text(text: &str, out: &mut Writer) -> Result<(), AllocError>
+    ensures { OnOk result (Prints (string text.now) out.old out.new) }
+{
+    out.string(text)
+}
+
+/// Writes a field.
+#[cycle(print)]
+pub(crate) fn print_field(field: &Field, out: &mut Writer) -> Result<(), AllocError>
+    ensures { OnOk result (Prints (value_of_field field.now) out.old out.new) }
+{
+    out.begin_object()?;
+    print_metadata(field.metadata(), out)?;
+    out.key("name")?;
+    out.string(field.name())?;
+    out.key("nullable")?;
+    out.boolean(field.is_nullable())?;
+    out.key("type")?;
+    print_type(field.data_type(), out)?;
+    out.end_object()
+}
+
+/// Writes a type.
+#[cycle(print)]
+fn print_type(data_type: &DataType, out: &mut Writer) -> Result<(), AllocError>
+    ensures { OnOk result (Prints (type_value (tree data_type.now)) out.old out.new) }
+{
+    match data_type {
+        DataType::List(field) => print_list("list", field, out),
+        DataType::LargeList(field) => print_list("large_list", field, out),
+        DataType::FixedSizeList(field, size) => print_fixed_size_list(field, *size, out),
+        DataType::Struct(fields) => print_struct(fields, out),
+        DataType::Union(members, mode) => print_union(members, *mode, out),
+        plain => print_text(plain_name(plain), out),
+    }
+}
+
+/// Writes a list under its key.
+#[cycle(print)]
+fn print_list(key: &str, field: &Field, out: &mut Writer) -> Result<(), AllocError>
+    ensures { OnOk result (Prints (one_key key.now (value_of_field field.now)) out.old out.new) }
+{
+    out.begin_object()?;
+    out.key(key)?;
+    print_field(field, out)?;
+    out.end_object()
+}
+
+/// Writes a list of fixed size.
+#[cycle(print)]
+fn print_fixed_size_list(field: &Field, size: i32, out: &mut Writer) -> Result<(), AllocError>
+    ensures { OnOk result (Prints (two_keys (codes "fixed_size_list") (value_of_field field.now) (codes "size") (number (of_integer size))) out.old out.new) }
+{
+    out.begin_object()?;
+    out.key("fixed_size_list")?;
+    print_field(field, out)?;
+    out.key("size")?;
+    print_integer(size as i64, out)?;
+    out.end_object()
+}
+
+/// Writes a struct.
+#[cycle(print)]
+fn print_struct(fields: &Fields, out: &mut Writer) -> Result<(), AllocError>
+    ensures { OnOk result (Prints (one_key (codes "struct") (array (fields_value (field_trees fields.now)))) out.old out.new) }
+{
+    out.begin_object()?;
+    out.key("struct")?;
+    out.begin_array()?;
+    print_fields(fields, out)?;
+    out.end_object()
+}
+
+/// Writes the fields of a struct, and the bracket after them.
+#[cycle(print)]
+fn print_fields(fields: &Fields, out: &mut Writer) -> Result<(), AllocError>
+    ensures { OnOk result (PrintsItems (fields_value (field_trees fields.now)) out.old out.new) }
+{
+    for field in fields.as_slice() {
+        print_field(field, out)?;
+    }
+    out.end_array()
+}
+
+/// Writes a union.
+#[cycle(print)]
+fn print_union(members: &UnionFields, mode: UnionMode, out: &mut Writer) -> Result<(), AllocError>
+    ensures { OnOk result (Prints (two_keys (codes "mode") (string (mode_name mode)) (codes "union") (array (members_value (member_trees members.now)))) out.old out.new) }
+{
+    out.begin_object()?;
+    out.key("mode")?;
+    out.string(mode_name(mode))?;
+    out.key("union")?;
+    out.begin_array()?;
+    print_members(members, out)?;
+    out.end_object()
+}
+
+/// Writes the members of a union, and the bracket after them.
+#[cycle(print)]
+fn print_members(members: &UnionFields, out: &mut Writer) -> Result<(), AllocError>
+    ensures { OnOk result (PrintsItems (members_value (member_trees members.now)) out.old out.new) }
+{
+    for member in members.as_slice() {
+        print_member(member.0, &member.1, out)?;
+    }
+    out.end_array()
+}
+
+/// Writes a member of a union.
+#[cycle(print)]
+fn print_member(id: i8, field: &Field, out: &mut Writer) -> Result<(), AllocError>
+    ensures { OnOk result (Prints (pair (number (of_integer id)) (value_of_field field.now)) out.old out.new) }
+{
+    out.begin_array()?;
+    print_integer(id as i64, out)?;
+    print_field(field, out)?;
+    out.end_array()
+}

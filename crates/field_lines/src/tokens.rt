@@ -1,0 +1,419 @@
+//! From the tokens of a text to the field that they stand for, with no JSON value between.
+//!
+//! Each reader takes one value whole. It answers none where the value is JSON and stands for nothing, so that a later
+//! member of the same key may still count.
+ghost use Rattle.std.specs.Prelude.{◌≡◌, ◌<◌, length, None, Err, IfOk, IfSome, IsTrue, OnOk, codes, string_bytes};
+ghost use Rattle.std.specs.Option.{option_map, option_and_then};
+ghost use Rattle.std.specs.List.{zip};
+ghost use Rattle.serde_json.specs.Data.{no_members, object, array};
+ghost use Rattle.arrow_values.specs.View.{tree, texts_of, field_trees, member_trees};
+ghost use Rattle.arrow_values.specs.Union.{is_type_id};
+ghost use Rattle.field_lines.specs.FieldOfValue.{field_from, field_of_value, type_of_value, fields_of_value, fields_in, members_of_value, members_in};
+ghost use Rattle.field_lines.specs.Steps.{AreMemberParts};
+ghost use Rattle.field_lines.specs.Keys.{only_at, fixed_size_list_at, union_at, pair_read};
+ghost use Rattle.value_tokens.specs.Next.{next_value, next_items, next_members, next_after, Reads, ReadsItems, ReadsMembers, ReadsAfter};
+
+use crate::metadata::take_texts;
+use crate::names::plain_named;
+use crate::scalars::{take_id, take_mode, take_size};
+use crate::unions::make_union;
+use arrow_values::{DataType, Field, Fields};
+use json::{Reader, Token};
+use std::alloc::Global;
+use std::collections::BTreeMap;
+use value_tokens::{
+    Refusal, open_array, open_object, read_bool, read_text, skip_items, skip_members, skip_rest,
+    skip_value,
+};
+
+/// The field that comes next.
+#[cycle(take)]
+#[inline]
+pub(crate) fn take_field(
+    alloc: Global,
+    reader: &mut Reader<'_>,
+    depth: usize,
+) -> Result<Option<Field>, Refusal>
+    ensures ok { IfOk result (λ o. Reads field_of_value depth reader.old o reader.new) }
+    ensures shorter { OnOk result (length reader.new < length reader.old) }
+    ensures text { result ≡ Err Refusal.Text → next_value depth reader.old ≡ None }
+{
+    match open_object(reader, depth)? {
+        Some(below) => take_parts(alloc, reader, below),
+        None => Ok(None),
+    }
+}
+
+/// The field of the members that are left of an object.
+#[cycle(take)]
+#[inline(never)]
+fn take_parts(
+    alloc: Global,
+    reader: &mut Reader<'_>,
+    depth: usize,
+) -> Result<Option<Field>, Refusal>
+    ensures ok { IfOk result (λ o. ReadsMembers (λ ms. field_of_value (object ms)) depth no_members reader.old o reader.new) }
+    ensures shorter { OnOk result (length reader.new < length reader.old) }
+    ensures text { result ≡ Err Refusal.Text → next_members depth no_members reader.old ≡ None }
+{
+    let mut name = None;
+    let mut nullable = None;
+    let mut data_type = None;
+    let mut metadata = Some(BTreeMap::new(alloc));
+    'parts: while let Some(key) = reader.next_key()? {
+        match key {
+            "name" => name = read_text(alloc, reader, depth)?,
+            "nullable" => nullable = read_bool(reader, depth)?,
+            "type" => data_type = take_type(alloc, reader, depth)?,
+            "metadata" => metadata = take_texts(alloc, reader, depth)?,
+            _ => skip_value(reader, depth)?,
+        }
+    }
+    Ok(field_of(name, nullable, data_type, metadata))
+}
+
+/// The field of these parts, where each is there.
+#[inline(always)]
+fn field_of(
+    name: Option<String>,
+    nullable: Option<bool>,
+    data_type: Option<DataType>,
+    metadata: Option<BTreeMap<String, String>>,
+) -> Option<Field>
+    ensures { result ≡ field_from (option_map string_bytes name) nullable (option_map tree data_type) (option_map (λ m. texts_of m.entries) metadata) }
+{
+    Some(Field::from_parts(name?, data_type?, nullable?, metadata?))
+}
+
+/// The type that comes next.
+#[cycle(take)]
+#[inline]
+fn take_type(
+    alloc: Global,
+    reader: &mut Reader<'_>,
+    depth: usize,
+) -> Result<Option<DataType>, Refusal>
+    ensures ok { IfOk result (λ o. Reads type_of_value depth reader.old (option_map tree o) reader.new) }
+    ensures shorter { OnOk result (length reader.new < length reader.old) }
+    ensures text { result ≡ Err Refusal.Text → next_value depth reader.old ≡ None }
+{
+    let token = reader.next().ok_or(Refusal::Text)?;
+    match token {
+        Token::String(word) => Ok(plain_named(word)),
+        Token::BeginObject => {
+            if depth == 0 {
+                return Err(Refusal::Text);
+            }
+            take_keys(alloc, reader, depth - 1)
+        }
+        other => {
+            skip_rest(other, reader, depth)?;
+            Ok(None)
+        }
+    }
+}
+
+/// The type of the members of an object, all of which are left. The first key says which.
+#[cycle(take)]
+fn take_keys(
+    alloc: Global,
+    reader: &mut Reader<'_>,
+    depth: usize,
+) -> Result<Option<DataType>, Refusal>
+    ensures ok { IfOk result (λ o. ReadsMembers (λ ms. type_of_value (object ms)) depth no_members reader.old (option_map tree o) reader.new) }
+    ensures shorter { OnOk result (length reader.new < length reader.old) }
+    ensures text { result ≡ Err Refusal.Text → next_members depth no_members reader.old ≡ None }
+{
+    let Some(key) = reader.next_key()? else {
+        return Ok(None);
+    };
+    match key {
+        "list" => match take_only_field(alloc, reader, depth, "list")? {
+            Some(field) => Ok(Some(DataType::List(Box::new(alloc, field)?))),
+            None => Ok(None),
+        },
+        "large_list" => match take_only_field(alloc, reader, depth, "large_list")? {
+            Some(field) => Ok(Some(DataType::LargeList(Box::new(alloc, field)?))),
+            None => Ok(None),
+        },
+        "struct" => match take_only_fields(alloc, reader, depth)? {
+            Some(fields) => Ok(Some(DataType::Struct(Fields::from(fields)))),
+            None => Ok(None),
+        },
+        "fixed_size_list" | "size" => take_fixed_size_list(alloc, reader, depth, key),
+        "mode" | "union" => take_union(alloc, reader, depth, key),
+        _ => {
+            skip_value(reader, depth)?;
+            skip_members(reader, depth)?;
+            Ok(None)
+        }
+    }
+}
+
+/// The field at the one key of an object, which is taken.
+#[cycle(take)]
+fn take_only_field(
+    alloc: Global,
+    reader: &mut Reader<'_>,
+    depth: usize,
+    only: &str,
+) -> Result<Option<Field>, Refusal>
+    ensures ok { IfOk result (λ o. ReadsAfter (only_at field_of_value only.now) depth no_members only.now reader.old o reader.new) }
+    ensures shorter { OnOk result (length reader.new < length reader.old) }
+    ensures text { result ≡ Err Refusal.Text → next_after depth no_members only.now reader.old ≡ None }
+{
+    let mut field = take_field(alloc, reader, depth)?;
+    'only: while let Some(key) = reader.next_key()? {
+        if key != only {
+            skip_value(reader, depth)?;
+            skip_members(reader, depth)?;
+            return Ok(None);
+        }
+        field = take_field(alloc, reader, depth)?;
+    }
+    Ok(field)
+}
+
+/// The fields at the one key of an object, which is taken.
+#[cycle(take)]
+fn take_only_fields(
+    alloc: Global,
+    reader: &mut Reader<'_>,
+    depth: usize,
+) -> Result<Option<Vec<Field>>, Refusal>
+    ensures ok { IfOk result (λ o. ReadsAfter (only_at fields_of_value (codes "struct")) depth no_members (codes "struct") reader.old (option_map (λ v. field_trees v.items) o) reader.new) }
+    ensures shorter { OnOk result (length reader.new < length reader.old) }
+    ensures text { result ≡ Err Refusal.Text → next_after depth no_members (codes "struct") reader.old ≡ None }
+{
+    let mut fields = take_fields(alloc, reader, depth)?;
+    'only: while let Some(key) = reader.next_key()? {
+        if key != "struct" {
+            skip_value(reader, depth)?;
+            skip_members(reader, depth)?;
+            return Ok(None);
+        }
+        fields = take_fields(alloc, reader, depth)?;
+    }
+    Ok(fields)
+}
+
+/// The fixed size list of an object, whose first key is taken.
+#[cycle(take)]
+fn take_fixed_size_list<'a>(
+    alloc: Global,
+    reader: &mut Reader<'a>,
+    depth: usize,
+    first: &'a str,
+) -> Result<Option<DataType>, Refusal>
+    ensures ok { IfOk result (λ o. ReadsAfter fixed_size_list_at depth no_members first.now reader.old (option_map tree o) reader.new) }
+    ensures shorter { OnOk result (length reader.new < length reader.old) }
+    ensures text { result ≡ Err Refusal.Text → next_after depth no_members first.now reader.old ≡ None }
+{
+    let mut field = None;
+    let mut size = None;
+    let mut next = Some(first);
+    'keys: while let Some(key) = next {
+        match key {
+            "fixed_size_list" => {
+                field = take_field(alloc, reader, depth)?;
+                next = reader.next_key()?;
+            }
+            "size" => {
+                size = take_size(reader, depth)?;
+                next = reader.next_key()?;
+            }
+            _ => {
+                skip_value(reader, depth)?;
+                skip_members(reader, depth)?;
+                return Ok(None);
+            }
+        }
+    }
+    match (field, size) {
+        (Some(field), Some(size)) => {
+            Ok(Some(DataType::FixedSizeList(Box::new(alloc, field)?, size)))
+        }
+        _ => Ok(None),
+    }
+}
+
+/// The union of an object, whose first key is taken.
+#[cycle(take)]
+fn take_union<'a>(
+    alloc: Global,
+    reader: &mut Reader<'a>,
+    depth: usize,
+    first: &'a str,
+) -> Result<Option<DataType>, Refusal>
+    ensures ok { IfOk result (λ o. ReadsAfter union_at depth no_members first.now reader.old (option_map tree o) reader.new) }
+    ensures shorter { OnOk result (length reader.new < length reader.old) }
+    ensures text { result ≡ Err Refusal.Text → next_after depth no_members first.now reader.old ≡ None }
+{
+    let mut mode = None;
+    let mut members = None;
+    let mut next = Some(first);
+    'keys: while let Some(key) = next {
+        match key {
+            "mode" => {
+                mode = take_mode(reader, depth)?;
+                next = reader.next_key()?;
+            }
+            "union" => {
+                members = take_members(alloc, reader, depth)?;
+                next = reader.next_key()?;
+            }
+            _ => {
+                skip_value(reader, depth)?;
+                skip_members(reader, depth)?;
+                return Ok(None);
+            }
+        }
+    }
+    match (mode, members) {
+        (Some(mode), Some((ids, fields))) => Ok(make_union(alloc, mode, ids, fields)?),
+        _ => Ok(None),
+    }
+}
+
+/// The list of fields that comes next.
+#[cycle(take)]
+fn take_fields(
+    alloc: Global,
+    reader: &mut Reader<'_>,
+    depth: usize,
+) -> Result<Option<Vec<Field>>, Refusal>
+    ensures ok { IfOk result (λ o. Reads fields_of_value depth reader.old (option_map (λ v. field_trees v.items) o) reader.new) }
+    ensures shorter { OnOk result (length reader.new < length reader.old) }
+    ensures text { result ≡ Err Refusal.Text → next_value depth reader.old ≡ None }
+{
+    match open_array(reader, depth)? {
+        Some(below) => take_items(alloc, reader, below),
+        None => Ok(None),
+    }
+}
+
+/// The fields of the items that are left of a list.
+#[cycle(take)]
+fn take_items(
+    alloc: Global,
+    reader: &mut Reader<'_>,
+    depth: usize,
+) -> Result<Option<Vec<Field>>, Refusal>
+    ensures ok { IfOk result (λ o. ReadsItems fields_in depth reader.old (option_map (λ v. field_trees v.items) o) reader.new) }
+    ensures shorter { OnOk result (length reader.new < length reader.old) }
+    ensures text { result ≡ Err Refusal.Text → next_items depth reader.old ≡ None }
+{
+    let mut fields = Vec::new(alloc);
+    'items: while !reader.take_end_array() {
+        match take_field(alloc, reader, depth)? {
+            Some(field) => fields.push(field)?,
+            None => {
+                skip_items(reader, depth)?;
+                return Ok(None);
+            }
+        }
+    }
+    Ok(Some(fields))
+}
+
+/// The list of pairs of id and field that comes next.
+#[cycle(take)]
+fn take_members(
+    alloc: Global,
+    reader: &mut Reader<'_>,
+    depth: usize,
+) -> Result<Option<(Vec<i8>, Vec<Field>)>, Refusal>
+    ensures ok { IfOk result (λ o. Reads members_of_value depth reader.old (option_map (λ p. member_trees (zip p.0.items p.1.items)) o) reader.new) }
+    ensures parts { IfOk result (λ o. IfSome o (λ p. AreMemberParts p.0.items p.1.items)) }
+    ensures shorter { OnOk result (length reader.new < length reader.old) }
+    ensures text { result ≡ Err Refusal.Text → next_value depth reader.old ≡ None }
+{
+    match open_array(reader, depth)? {
+        Some(below) => take_pairs(alloc, reader, below),
+        None => Ok(None),
+    }
+}
+
+/// The ids and the fields of the pairs that are left of a list.
+#[cycle(take)]
+fn take_pairs(
+    alloc: Global,
+    reader: &mut Reader<'_>,
+    depth: usize,
+) -> Result<Option<(Vec<i8>, Vec<Field>)>, Refusal>
+    ensures ok { IfOk result (λ o. ReadsItems members_in depth reader.old (option_map (λ p. member_trees (zip p.0.items p.1.items)) o) reader.new) }
+    ensures parts { IfOk result (λ o. IfSome o (λ p. AreMemberParts p.0.items p.1.items)) }
+    ensures shorter { OnOk result (length reader.new < length reader.old) }
+    ensures text { result ≡ Err Refusal.Text → next_items depth reader.old ≡ None }
+{
+    let mut ids = Vec::new(alloc);
+    let mut fields = Vec::new(alloc);
+    'pairs: while !reader.take_end_array() {
+        match take_pair(alloc, reader, depth)? {
+            Some((id, field)) => {
+                ids.push(id)?;
+                fields.push(field)?;
+            }
+            None => {
+                skip_items(reader, depth)?;
+                return Ok(None);
+            }
+        }
+    }
+    Ok(Some((ids, fields)))
+}
+
+/// The pair of id and field that comes next.
+#[cycle(take)]
+fn take_pair(
+    alloc: Global,
+    reader: &mut Reader<'_>,
+    depth: usize,
+) -> Result<Option<(i8, Field)>, Refusal>
+    ensures ok { IfOk result (λ o. Reads pair_read depth reader.old o reader.new) }
+    ensures id { IfOk result (λ o. IfSome o (λ p. IsTrue (is_type_id p.0))) }
+    ensures shorter { OnOk result (length reader.new < length reader.old) }
+    ensures text { result ≡ Err Refusal.Text → next_value depth reader.old ≡ None }
+{
+    match open_array(reader, depth)? {
+        Some(below) => take_two(alloc, reader, below),
+        None => Ok(None),
+    }
+}
+
+/// The id and the field that are all the items of a list.
+#[cycle(take)]
+fn take_two(
+    alloc: Global,
+    reader: &mut Reader<'_>,
+    depth: usize,
+) -> Result<Option<(i8, Field)>, Refusal>
+    ensures ok { IfOk result (λ o. ReadsItems (λ ds. pair_read (array ds)) depth reader.old o reader.new) }
+    ensures id { IfOk result (λ o. IfSome o (λ p. IsTrue (is_type_id p.0))) }
+    ensures shorter { OnOk result (length reader.new < length reader.old) }
+    ensures text { result ≡ Err Refusal.Text → next_items depth reader.old ≡ None }
+{
+    if reader.take_end_array() {
+        return Ok(None);
+    }
+    let id = take_id(reader, depth)?;
+    if reader.take_end_array() {
+        return Ok(None);
+    }
+    let field = take_field(alloc, reader, depth)?;
+    if !reader.take_end_array() {
+        skip_value(reader, depth)?;
+        skip_items(reader, depth)?;
+        return Ok(None);
+    }
+    Ok(pair_of(id, field))
+}
+
+/// The pair of these, where both are there.
+#[inline(always)]
+fn pair_of(id: Option<i8>, field: Option<Field>) -> Option<(i8, Field)>
+    ensures pair { result ≡ option_and_then (λ i. option_map (λ f. (i, f)) field) id }
+    ensures id { IfSome result (λ p. id ≡ Some p.0) }
+{
+    Some((id?, field?))
+}

@@ -1,0 +1,39 @@
+//! The union of ids and fields.
+ghost use Rattle.std.specs.Prelude.{◌≡◌, IfOk, IsTrue, ◌↔◌};
+ghost use Rattle.std.specs.Option.{option_map};
+ghost use Rattle.std.specs.List.{zip};
+ghost use Rattle.arrow_values.specs.Errors.{IsMemory};
+ghost use Rattle.arrow_values.specs.View.{tree, member_trees};
+ghost use Rattle.field_lines.specs.FieldOfValue.{union_of};
+ghost use Rattle.field_lines.specs.Steps.{AreMemberParts};
+
+use arrow_values::{ArrowError, DataType, Field, UnionFields, UnionMode};
+use std::alloc::{AllocError, Global};
+
+/// The union of these members, and none where an id stands twice.
+pub(crate) fn make_union(
+    alloc: Global,
+    mode: UnionMode,
+    ids: Vec<i8>,
+    fields: Vec<Field>,
+) -> Result<Option<DataType>, AllocError>
+    requires { AreMemberParts ids.items fields.items }
+    ensures { IfOk result (λ o. option_map tree o ≡ union_of mode (member_trees (zip ids.items fields.items))) }
+{
+    match UnionFields::try_new(alloc, ids, fields) {
+        Ok(members) => Ok(Some(DataType::Union(members, mode))),
+        Err(error) => {
+            if is_memory(&error) {
+                return Err(AllocError);
+            }
+            Ok(None)
+        }
+    }
+}
+
+/// Whether an error is want of memory.
+fn is_memory(error: &ArrowError) -> bool
+    ensures { IsTrue result ↔ IsMemory error.now }
+{
+    matches!(error, ArrowError::OutOfMemory)
+}

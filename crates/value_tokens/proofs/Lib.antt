@@ -1,0 +1,2 @@
+mod Skips
+mod PrintedNumbers

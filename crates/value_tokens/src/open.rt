@@ -1,0 +1,53 @@
+//! Objects and arrays, as they open.
+ghost use Rattle.std.specs.Prelude.{◌≡◌, ◌<◌, length, Some, None, Err, IfOk, OnOk};
+ghost use Rattle.serde_json.specs.Find.{as_object, as_array};
+ghost use Rattle.value_tokens.specs.Next.{next_value, OpensObject, OpensArray};
+
+use crate::refusal::Refusal;
+use crate::skip::skip_rest;
+use json::{Reader, Token};
+
+/// Takes the brace that opens an object, where one comes next, and answers how deep its members may nest; passes over
+/// any other value, and answers none.
+#[inline]
+pub fn open_object(reader: &mut Reader<'_>, depth: usize) -> Result<Option<usize>, Refusal>
+    ensures ok { IfOk result (λ o. OpensObject depth reader.old o reader.new) }
+    ensures shorter { OnOk result (length reader.new < length reader.old) }
+    ensures text { result ≡ Err Refusal.Text → next_value depth reader.old ≡ None }
+{
+    let token = reader.next().ok_or(Refusal::Text)?;
+    match token {
+        Token::BeginObject => {
+            if depth == 0 {
+                return Err(Refusal::Text);
+            }
+            Ok(Some(depth - 1))
+        }
+        other => {
+            skip_rest(other, reader, depth)?;
+            Ok(None)
+        }
+    }
+}
+
+/// The same of the bracket that opens an array.
+#[inline]
+pub fn open_array(reader: &mut Reader<'_>, depth: usize) -> Result<Option<usize>, Refusal>
+    ensures ok { IfOk result (λ o. OpensArray depth reader.old o reader.new) }
+    ensures shorter { OnOk result (length reader.new < length reader.old) }
+    ensures text { result ≡ Err Refusal.Text → next_value depth reader.old ≡ None }
+{
+    let token = reader.next().ok_or(Refusal::Text)?;
+    match token {
+        Token::BeginArray => {
+            if depth == 0 {
+                return Err(Refusal::Text);
+            }
+            Ok(Some(depth - 1))
+        }
+        other => {
+            skip_rest(other, reader, depth)?;
+            Ok(None)
+        }
+    }
+}

@@ -1,0 +1,46 @@
+//! Why a text gives no value.
+
+use json::Invalid;
+use std::alloc::{AllocError, AllocFailed};
+
+/// Why no value is read.
+#[derive(Debug, Clone, Copy, PartialEq, Eq)]
+pub enum Refusal {
+    /// The text is no JSON value.
+    Text,
+    /// Memory was wanting.
+    Memory,
+}
+
+impl From<AllocError> for Refusal {
+    ghost use Rattle.std.specs.Prelude.{◌≡◌};
+    ghost use Rattle.value_tokens.specs.declared.refusal.Refusal.TheVariants.{Memory};
+
+    ghost from_gives = { λ _ refusal. refusal ≡ Memory };
+
+    fn from(_refused: AllocError) -> Refusal {
+        Refusal::Memory
+    }
+}
+
+impl<T: Drop> From<AllocFailed<T>> for Refusal {
+    ghost use Rattle.std.specs.Prelude.{◌≡◌};
+    ghost use Rattle.value_tokens.specs.declared.refusal.Refusal.TheVariants.{Memory};
+
+    ghost from_gives = { λ _ refusal. refusal ≡ Memory };
+
+    fn from(_refused: AllocFailed<T>) -> Refusal {
+        Refusal::Memory
+    }
+}
+
+impl From<Invalid> for Refusal {
+    ghost use Rattle.std.specs.Prelude.{◌≡◌};
+    ghost use Rattle.value_tokens.specs.declared.refusal.Refusal.TheVariants.{Text};
+
+    ghost from_gives = { λ _ refusal. refusal ≡ Text };
+
+    fn from(_invalid: Invalid) -> Refusal {
+        Refusal::Text
+    }
+}
