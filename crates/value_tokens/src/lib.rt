@@ -1,11 +1,14 @@
 //! Values of JSON by their tokens, with no tree between: taken one after another, and printed one after another.
 //!
-//! - What comes next in a reader is what `serde_json` would read there: `next_value` of `specs/Next`. So a number that is
-//!   out of its range is refused here too, also in a value that is passed over.
-//! - What is printed is said by `Adds` of `specs/Adds`: the tokens that a call added, and that it kept what stood before
-//!   them. The tokens of a value are those of its `outline`, whose text is `serde_json`'s `compact_text`.
+//! A call that takes takes one value whole, or what is left of one. What comes next in a reader is what `serde_json` would
+//! read there: `next_value` of `specs/Next`. So a number that is out of its range is refused here too, also in a value that
+//! is passed over. `depth` is how deep the arrays and objects of the value may nest. A call errs with [`Refusal::Text`] only
+//! where no value comes next, or where it nests deeper, and with [`Refusal::Memory`] for want of memory.
 //!
-//! `specs/` has also the facts about these words that a reader of objects or a printer of values needs.
+//! What is printed is said by `Adds` of `specs/Adds`: the tokens that a call added, and that it kept what stood before them.
+//! The tokens of a value are those of its `outline`, whose text is `serde_json`'s `compact_text` (`specs/Printed`).
+//!
+//! `specs/` has also the laws of these words that a reader of objects or a printer of values needs.
 #![tactic(auto)]
 
 mod numbers;
@@ -15,7 +18,6 @@ mod refusal;
 mod scalars;
 mod skip;
 
-pub use numbers::number_of;
 pub use open::{open_array, open_object};
 pub use print::print_value;
 pub use refusal::Refusal;

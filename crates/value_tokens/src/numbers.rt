@@ -6,9 +6,9 @@ ghost use Rattle.serde_json.specs.View.{number_view};
 use fast_float::Numeral;
 use serde_json::Number;
 
-/// The number that a text writes, where it is in range.
+/// The number that a token's text writes, and none where it is out of its range.
 #[inline]
-pub fn number_of(text: &str) -> Option<Number>
+pub(crate) fn number_of(text: &str) -> Option<Number>
     ensures { option_map number_view result ≡ number_of text.now }
 {
     let bytes = text.as_bytes();

@@ -1,4 +1,4 @@
-//! Objects and arrays, as they open.
+//! Objects and arrays, as they open. No call takes memory.
 ghost use Rattle.std.specs.Prelude.{◌≡◌, ◌<◌, length, Some, None, Err, IfOk, OnOk};
 ghost use Rattle.serde_json.specs.Find.{as_object, as_array};
 ghost use Rattle.value_tokens.specs.Next.{next_value, OpensObject, OpensArray};
@@ -7,8 +7,8 @@ use crate::refusal::Refusal;
 use crate::skip::skip_rest;
 use json::{Reader, Token};
 
-/// Takes the brace that opens an object, where one comes next, and answers how deep its members may nest; passes over
-/// any other value, and answers none.
+/// Takes the brace that opens an object, where one comes next, and answers how deep its members may nest. Passes over
+/// any other value whole, and answers none.
 #[inline]
 pub fn open_object(reader: &mut Reader<'_>, depth: usize) -> Result<Option<usize>, Refusal>
     ensures ok { IfOk result (λ o. OpensObject depth reader.old o reader.new) }
@@ -30,7 +30,8 @@ pub fn open_object(reader: &mut Reader<'_>, depth: usize) -> Result<Option<usize
     }
 }
 
-/// The same of the bracket that opens an array.
+/// Takes the bracket that opens an array, where one comes next, and answers how deep its items may nest. Passes over any
+/// other value whole, and answers none.
 #[inline]
 pub fn open_array(reader: &mut Reader<'_>, depth: usize) -> Result<Option<usize>, Refusal>
     ensures ok { IfOk result (λ o. OpensArray depth reader.old o reader.new) }

@@ -1,4 +1,4 @@
-//! A JSON value with no float, printed.
+//! A JSON value, printed. It holds no float: the text of one is the writer's to choose, and no token that is known.
 ghost use Rattle.std.specs.Prelude.{◌≡◌, false, OnOk};
 ghost use Rattle.serde_json.specs.Data.{number as number_data};
 ghost use Rattle.serde_json.specs.Find.{is_float};
@@ -10,7 +10,7 @@ use json::Writer;
 use serde_json::{Map, Number, Value};
 use std::alloc::AllocError;
 
-/// Prints a value. Errs for want of memory alone.
+/// Prints a value that holds no float. Errs for want of memory alone, and then a front part may be printed.
 #[cycle(print)]
 pub fn print_value(value: &Value, out: &mut Writer) -> Result<(), AllocError>
     requires { has_float (view value.now) ≡ false }

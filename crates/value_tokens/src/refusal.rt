@@ -1,12 +1,12 @@
-//! Why a text gives no value.
+//! Why no value is taken.
 
 use json::Invalid;
 use std::alloc::{AllocError, AllocFailed};
 
-/// Why no value is read.
+/// Why no value is taken.
 #[derive(Debug, Clone, Copy, PartialEq, Eq)]
 pub enum Refusal {
-    /// The text is no JSON value.
+    /// The text is no JSON there, or nests deeper than it may.
     Text,
     /// Memory was wanting.
     Memory,

@@ -1,4 +1,4 @@
-//! Passing over a value.
+//! Passing over a value, which is judged as if it were read. No call takes memory.
 ghost use Rattle.std.specs.Prelude.{◌≡◌, ◌<◌, ◌≤◌, ◌∷◌, length, Some, None, Err, OnOk};
 ghost use Rattle.json.specs.Reads.{token_of};
 ghost use Rattle.serde_json.specs.Data.{Members};
@@ -8,7 +8,7 @@ use crate::numbers::number_of;
 use crate::refusal::Refusal;
 use json::{Reader, Token};
 
-/// Passes over the value that comes next.
+/// Passes over a value.
 #[inline]
 pub fn skip_value(reader: &mut Reader<'_>, depth: usize) -> Result<(), Refusal>
     ensures ok { OnOk result (after (next_value depth reader.old) ≡ Some reader.new) }
@@ -20,7 +20,7 @@ pub fn skip_value(reader: &mut Reader<'_>, depth: usize) -> Result<(), Refusal>
     skip_rest(token, reader, depth)
 }
 
-/// Passes over what is left of the value that begins with a token.
+/// Passes over what is left of a value whose first token was taken.
 #[cycle(skip)]
 pub fn skip_rest(token: Token<'_>, reader: &mut Reader<'_>, depth: usize) -> Result<(), Refusal>
     ensures ok { OnOk result (after (next_value depth (token_of token.entry ∷ reader.old)) ≡ Some reader.new) }
