@@ -20,7 +20,7 @@ use Rattle.field_lines.specs.ValueOfField.{texts_value}
 use Rattle.field_lines.proofs.LastEntry.{insert_last}
 use Rattle.field_lines.proofs.Writes.{Texts}
 use Rattle.field_lines.proofs.TokenTexts.{AreTextsUnderWay}
-use Rattle.value_tokens.specs.Next.{next_value, next_members, Reads, ReadsMembers}
+use Rattle.value_tokens.specs.Next.{next_members, Reads, ReadsMembers}
 use Rattle.value_tokens.specs.Turns.{member_read, members_over, value_takes}
 
 abbrev pub SlotEntries : Type 0

@@ -56,10 +56,7 @@ pub(crate) fn take_id(reader: &mut Reader<'_>, depth: usize) -> Result<Option<i8
 }
 
 /// The union mode that comes next.
-pub(crate) fn take_mode(
-    reader: &mut Reader<'_>,
-    depth: usize,
-) -> Result<Option<UnionMode>, Refusal>
+pub(crate) fn take_mode(reader: &mut Reader<'_>, depth: usize) -> Result<Option<UnionMode>, Refusal>
     ensures ok { IfOk result (λ o. Reads mode_of_value depth reader.old o reader.new) }
     ensures shorter { OnOk result (length reader.new < length reader.old) }
     ensures text { result ≡ Err Refusal.Text → next_value depth reader.old ≡ None }

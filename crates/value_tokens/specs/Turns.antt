@@ -3,7 +3,7 @@ use Rattle.std.proofs.Common.{◌≡◌, ℕ, zero, suc, ◌-◌, ◌<◌, ◌�
 use Rattle.json.specs.Token.{Token}
 use Rattle.json.specs.Json as json
 use Rattle.json.specs.Json.{Parse, parse_map, after_end_array, read_key, items_step, members_step, items, members, value, value_with}
-use Rattle.json.proofs.Grammar.{left, left_some, Takes, skip_value-shorter, read_key-shorter, left_none, value-begin_array, value-begin_object, value_is, items_end, items_more, members_end, members_no_key, members_more}
+use Rattle.json.proofs.Grammar.{left, left_some, Takes, skip_value-shorter, read_key-shorter, value-begin_array, value-begin_object, value_is, items_end, items_more, members_end, members_no_key, members_more}
 use Rattle.serde_json.specs.Data.{Data, array, object, no_items, item, Members, no_members, put}
 use Rattle.serde_json.specs.Read.{of_json, of_items, of_members, converted}
 use Rattle.value_tokens.specs.Next.{next_value, next_items, next_members, next_after, after}
