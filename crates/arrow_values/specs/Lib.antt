@@ -1,4 +1,5 @@
 pub mod Tree
+pub mod Name
 pub mod Code
 pub mod View
 pub mod Falls

@@ -12,6 +12,6 @@ pub use coordinates::Dimensions;
 pub use error::{AppendFault, ArrowError, GeoArrowError, GeoArrowResult};
 pub use extension::ExtensionType;
 pub use tree::{
-    DataType, EXTENSION_TYPE_METADATA_KEY, EXTENSION_TYPE_NAME_KEY, Field, Fields, UnionFields,
-    UnionIter, UnionMode,
+    DataType, EXTENSION_TYPE_METADATA_KEY, EXTENSION_TYPE_NAME_KEY, Field, Fields, FixedName,
+    UnionFields, UnionIter, UnionMode,
 };

@@ -11,7 +11,19 @@ use std::alloc::{AllocError, Global};
 use std::collections::BTreeMap;
 
 /// The text at a key.
+#[inline(always)]
 pub(crate) fn text_at<'a>(texts: &'a BTreeMap<String, String>, key: &str) -> Option<&'a str>
+    ensures { text_of result ≡ text_at key.now (texts_of texts.now.entries) }
+{
+    if texts.is_empty() {
+        return None;
+    }
+    text_found(texts, key)
+}
+
+/// The text at a key, of a map that has some.
+#[inline(never)]
+fn text_found<'a>(texts: &'a BTreeMap<String, String>, key: &str) -> Option<&'a str>
     ensures { text_of result ≡ text_at key.now (texts_of texts.now.entries) }
 {
     match texts.get(key) {
@@ -72,7 +84,9 @@ pub(crate) fn with_extension(
             Ok(made)
         }
         None => {
-            remove_text(&mut made, EXTENSION_TYPE_METADATA_KEY);
+            if !texts.is_empty() {
+                remove_text(&mut made, EXTENSION_TYPE_METADATA_KEY);
+            }
             Ok(made)
         }
     }

@@ -5,11 +5,15 @@
 //! map plays a part in it.
 mod clone;
 mod equal;
+mod fixed_name;
+mod name;
 mod parts;
 mod struct_fields;
 mod union_changes;
 mod union_fields;
 
+pub use fixed_name::FixedName;
+pub(crate) use name::Name;
 pub use parts::{EXTENSION_TYPE_METADATA_KEY, EXTENSION_TYPE_NAME_KEY};
 use std::collections::BTreeMap;
 use std::marker::Model;
@@ -86,7 +90,7 @@ pub enum DataType {
 #[cycle(tree)]
 #[derive(Debug, Drop)]
 pub struct Field {
-    name: String,
+    name: Name,
     data_type: DataType,
     nullable: bool,
     metadata: BTreeMap<String, String>,
@@ -99,8 +103,8 @@ pub struct Fields {
     members: Vec<Field>,
 }
 
-/// The members of a union, in order: pairs of type id and field. Ids of a union that `try_new` made are 0 to 127, each
-/// once, and `retain_ids` and `append` keep them so.
+/// The members of a union, in order: pairs of type id and field. Ids of a union that `try_new` or `from_members` made are
+/// 0 to 127, each once, and `retain_ids` and `append` keep them so.
 #[cycle(tree)]
 #[derive(Debug, Drop)]
 pub struct UnionFields {
@@ -115,11 +119,11 @@ impl Model for Field {
 
     ghost coded = { field_code };
 
-    ghost use Rattle.std.specs.Prelude.{string_bytes};
+    ghost use Rattle.arrow_values.specs.Name.{name_bytes};
     ghost use Rattle.arrow_values.specs.View.{tree, texts_of, field_size};
 
     ghost view = { λ f. record {
-      name = string_bytes f.name;
+      name = name_bytes f.name;
       tree = tree f.data_type;
       nullable = f.nullable;
       metadata = texts_of f.metadata.entries;

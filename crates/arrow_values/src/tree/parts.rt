@@ -3,9 +3,10 @@ ghost use Rattle.std.specs.Prelude.{◌≡◌, [], IfOk, string_bytes};
 ghost use Rattle.arrow_values.specs.Tree.{list, field_tree};
 ghost use Rattle.arrow_values.specs.View.{tree, texts_of};
 ghost use Rattle.arrow_values.specs.Texts.{text_of, extension_name, extension_metadata};
+ghost use Rattle.arrow_values.specs.Name.{fixed_text, name_bytes};
 
 use crate::texts::text_at;
-use crate::tree::{DataType, Field};
+use crate::tree::{DataType, Field, FixedName, Name};
 use std::alloc::{AllocError, Global};
 use std::collections::BTreeMap;
 
@@ -25,8 +26,15 @@ impl Field {
     ) -> Result<Field, AllocError>
         ensures { IfOk result (λ f. f ≡ field_tree name.now (tree data_type) nullable []) }
     {
-        let name = String::from_str(alloc, name)?;
-        Ok(Field::from_parts(name, data_type, nullable, BTreeMap::new(alloc)))
+        let name = Name::copied(alloc, name)?;
+        Ok(Field::of_parts(name, data_type, nullable, BTreeMap::new(alloc)))
+    }
+
+    /// A field of a name that layouts have, of that data type and nullability, without metadata. Takes no memory.
+    pub fn fixed(alloc: Global, name: FixedName, data_type: DataType, nullable: bool) -> Field
+        ensures { result ≡ field_tree (fixed_text name) (tree data_type) nullable [] }
+    {
+        Field::of_parts(Name::Fixed(name), data_type, nullable, BTreeMap::new(alloc))
     }
 
     /// A field of type `List(value)`, without metadata of its own. Errs for want of memory alone.
@@ -50,6 +58,18 @@ impl Field {
         metadata: BTreeMap<String, String>,
     ) -> Field
         ensures { result ≡ field_tree (string_bytes name) (tree data_type) nullable (texts_of metadata.entries) }
+    {
+        Field::of_parts(Name::Owned(name), data_type, nullable, metadata)
+    }
+
+    #[inline(always)]
+    fn of_parts(
+        name: Name,
+        data_type: DataType,
+        nullable: bool,
+        metadata: BTreeMap<String, String>,
+    ) -> Field
+        ensures { result ≡ field_tree (name_bytes name) (tree data_type) nullable (texts_of metadata.entries) }
     {
         Field {
             name,
@@ -91,7 +111,7 @@ impl Field {
     pub fn with_metadata(self, metadata: BTreeMap<String, String>) -> Field
         ensures { result ≡ record self { metadata = texts_of metadata.entries } }
     {
-        Field::from_parts(self.name, self.data_type, self.nullable, metadata)
+        Field::of_parts(self.name, self.data_type, self.nullable, metadata)
     }
 
     /// Puts that map in place of the field's own.
@@ -105,10 +125,11 @@ impl Field {
     pub fn with_data_type(self, data_type: DataType) -> Field
         ensures { result ≡ record self { tree = tree data_type } }
     {
-        Field::from_parts(self.name, data_type, self.nullable, self.metadata)
+        Field::of_parts(self.name, data_type, self.nullable, self.metadata)
     }
 
     /// The text at `EXTENSION_TYPE_NAME_KEY`, if one stands there.
+    #[inline(always)]
     pub fn extension_type_name(&self) -> Option<&str>
         ensures { text_of result ≡ extension_name self.now }
     {
@@ -116,6 +137,7 @@ impl Field {
     }
 
     /// The text at `EXTENSION_TYPE_METADATA_KEY`, if one stands there.
+    #[inline(always)]
     pub fn extension_type_metadata(&self) -> Option<&str>
         ensures { text_of result ≡ extension_metadata self.now }
     {

@@ -37,6 +37,14 @@ impl UnionFields {
         Ok(UnionFields { members })
     }
 
+    /// The union of these members, moved in. Their ids must be 0 to 127, each once. Takes no memory.
+    pub fn from_members(members: Vec<(i8, Field)>) -> UnionFields
+        requires { HasTypeIds members.items }
+        ensures { result ≡ members.items }
+    {
+        UnionFields { members }
+    }
+
     /// Keeps the members whose id is in the slice, in their order.
     pub fn retain_ids(&mut self, ids: &[i8])
         ensures members { self.new ≡ retained ids.now self.old }

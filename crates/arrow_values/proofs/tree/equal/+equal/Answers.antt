@@ -31,3 +31,6 @@ same_members-returns-then-not-same_member t c =
     (rw (← c.a.view_is) (omega (arith, c.loop-i-test.true, c.len-i-end.ensures)))
     (rw (← c.b.view_is) (omega (arith, c.loop-i-test.true, c.len-i-end.ensures, c.if-len.false, c.len.ensures, c.len-2.ensures))) h
     ∙ sym c.loop-i.invariant
+
+pub same_inner-returns-in-Struct-Struct : goal.same_inner-returns-in-Struct-Struct
+same_inner-returns-in-Struct-Struct t c = rw (c.in-Struct-Struct.is-0, c.in-Struct-Struct.is-1) (c.same_fields.ensures ∙ fields_same c.in-Struct-Struct.fields c.in-Struct-Struct.others)

@@ -1,0 +1,72 @@
+//! The name of a field.
+ghost use Rattle.std.specs.Prelude.{◌≡◌, IfOk};
+ghost use Rattle.arrow_values.specs.Equal.{text_eq};
+ghost use Rattle.arrow_values.specs.Name.{name_bytes};
+
+use crate::tree::fixed_name::FixedName;
+use std::alloc::{AllocError, Global};
+use std::fmt;
+
+/// The name of a field: one that layouts have, which takes no memory, or a text of its own. Contracts see the text
+/// alone.
+#[derive(Drop)]
+pub(crate) enum Name {
+    Fixed(FixedName),
+    Owned(String),
+}
+
+impl Name {
+    /// A name of that text, which is copied.
+    pub(crate) fn copied(alloc: Global, text: &str) -> Result<Name, AllocError>
+        ensures { IfOk result (λ n. name_bytes n ≡ text.now) }
+    {
+        Ok(Name::Owned(String::from_str(alloc, text)?))
+    }
+
+    /// The text.
+    #[inline(always)]
+    pub(crate) fn as_str(&self) -> &str
+        ensures { result.now ≡ name_bytes self.now }
+    {
+        match self {
+            Name::Fixed(name) => name.as_text(),
+            Name::Owned(text) => text.as_str(),
+        }
+    }
+
+    /// An equal name. Errs for want of memory alone, and never for a name that layouts have.
+    pub(crate) fn try_clone(&self, alloc: Global) -> Result<Name, AllocError>
+        ensures { IfOk result (λ n. name_bytes n ≡ name_bytes self.now) }
+    {
+        match self {
+            Name::Fixed(name) => Ok(Name::Fixed(*name)),
+            Name::Owned(text) => Name::copied(alloc, text.as_str()),
+        }
+    }
+}
+
+/// Whether both are the same text.
+#[inline(always)]
+pub(crate) fn same_name(a: &Name, b: &Name) -> bool
+    ensures { result ≡ text_eq (name_bytes a.now) (name_bytes b.now) }
+{
+    if let (Name::Fixed(x), Name::Fixed(y)) = (a, b) {
+        if *x == *y {
+            return true;
+        }
+    }
+    same_text(a.as_str(), b.as_str())
+}
+
+#[inline(never)]
+fn same_text(a: &str, b: &str) -> bool
+    ensures { result ≡ text_eq a.now b.now }
+{
+    *a == *b
+}
+
+impl fmt::Debug for Name {
+    fn fmt<W: fmt::Write>(&self, f: &mut fmt::Formatter<W>) -> fmt::Result {
+        fmt::Debug::fmt(self.as_str(), f)
+    }
+}
