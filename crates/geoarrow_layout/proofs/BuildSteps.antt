@@ -1,20 +1,14 @@
--- Ids and fields that were put side by side are members.
-use Rattle.std.proofs.Common.{◌≡◌, ◌≤◌, ℕ, ℤ, pos, List, [], ◌∷◌, map, take, length, refl, ap}
-use Rattle.std.specs.List.{zip}
-use Rattle.std.proofs.lemmas.List.{take_all}
-use Rattle.arrow_values.specs.Tree.{FieldTree}
+-- Members that are put last, one after another.
+use Rattle.std.proofs.Common.{◌≡◌, [], ◌∷◌, ◌++◌, ap, ◌∙◌}
+use Rattle.std.proofs.lemmas.List.{append_assoc}
+use Rattle.arrow_values.specs.Tree.{Members}
 use Rattle.geoarrow_layout.specs.declared.kinds.CoordType.{CoordType}
 use Rattle.geoarrow_layout.specs.declared.kinds.Dimension.{Dimension}
-use Rattle.geoarrow_layout.specs.declared.encodings.NativeKind.{NativeKind}
-use Rattle.geoarrow_layout.specs.Kinds.{type_id_of}
-use Rattle.geoarrow_layout.specs.Layouts.{member_field, over_leaf_layout, members_over}
+use Rattle.geoarrow_layout.specs.declared.encodings.NativeKind.TheVariants.{GeometryCollection}
+use Rattle.geoarrow_layout.specs.Layouts.{member_layout, mixed_members, native_layout, dimension_members}
 
-zipped : (f : NativeKind → ℤ) (g : NativeKind → FieldTree) (ks : List NativeKind) → zip (map f ks) (map g ks) ≡ map (λ k. (f k, g k)) ks
-zipped f g [] = refl
-zipped f g (k ∷ ks) = ap (λ ms. (f k, g k) ∷ ms) (zipped f g ks)
-
-pub members_zipped : (ks : List NativeKind) (k : ℕ) (c : CoordType) (d : Dimension) (ids : List ℤ) (fields : List FieldTree) → length ks ≤ k
-    → ids ≡ map (λ j. pos (type_id_of j d)) (take k ks) → fields ≡ map (λ j. member_field j d (over_leaf_layout j c d)) (take k ks)
-    → zip ids fields ≡ members_over ks c d
-members_zipped ks k c d ids fields end one two =
-    rw (one, two, take_all k ks end) (zipped (λ j. pos (type_id_of j d)) (λ j. member_field j d (over_leaf_layout j c d)) ks)
+-- those of a dimension: those of a collection, and the collection's own
+pub dimension_pushed : (c : CoordType) (d : Dimension) (old middle new : Members) → middle ≡ old ++ mixed_members c d
+    → new ≡ middle ++ (member_layout GeometryCollection d (native_layout GeometryCollection c d) ∷ []) → new ≡ old ++ dimension_members c d
+dimension_pushed c d old middle new one two =
+    two ∙ ap (λ ms. ms ++ (member_layout GeometryCollection d (native_layout GeometryCollection c d) ∷ [])) one ∙ append_assoc old (mixed_members c d) _

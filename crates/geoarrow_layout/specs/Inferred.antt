@@ -1,5 +1,5 @@
 -- Which trees are taken for points where no extension name says what they are.
-use Rattle.std.specs.Prelude.{ℤ, pos, ◌≡◌, ◌↔◌, List, [], ◌∷◌, length, codes, true, Option, Some}
+use Rattle.std.specs.Prelude.{ℤ, pos, ◌≡◌, ◌↔◌, List, [], ◌∷◌, length, codes, true, Option, Some, ⊤}
 use Rattle.arrow_values.specs.Tree.{Text, Tree, fixed_size_list, struct}
 use Rattle.geoarrow_layout.specs.declared.kinds.CoordType.{CoordType}
 use Rattle.geoarrow_layout.specs.declared.kinds.CoordType.TheVariants.{Interleaved, Separated}
@@ -35,3 +35,9 @@ abbrev pub Inferred : Tree → CoordType → Dimension → Type 0
 Inferred (struct fs) Separated d = (are_float64 fs ≡ true) × IsInferredAs d (names_of fs)
 Inferred (fixed_size_list name t b m size) Interleaved d = (is_float64 t ≡ true) × IsInferredSize d name size
 Inferred _ c d = ⊥
+
+-- a struct or a fixed size list
+abbrev pub IsFlat : Tree → Type 0
+IsFlat (struct fs) = ⊤
+IsFlat (fixed_size_list n t b m size) = ⊤
+IsFlat _ = ⊥

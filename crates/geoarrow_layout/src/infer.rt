@@ -4,14 +4,13 @@ ghost use Rattle.arrow_values.specs.Tree.{Tree};
 ghost use Rattle.arrow_values.specs.View.{tree};
 ghost use Rattle.geoarrow_layout.specs.Shapes.{Leaf};
 ghost use Rattle.geoarrow_layout.specs.Summary.{Summarizes};
-ghost use Rattle.geoarrow_layout.specs.Inferred.{AnswersSome, Inferred};
+ghost use Rattle.geoarrow_layout.specs.Inferred.{AnswersSome, Inferred, IsFlat};
 ghost use Rattle.geoarrow_layout.specs.Steps.{is_measured, NamesSay, SizeSays};
 
 use crate::bits::has_bit;
 use crate::kinds::{CoordType, Dimension};
 use crate::readers::has_both;
-use crate::summary::{Bottom, Summary};
-use crate::walk::summarize;
+use crate::summary::{Below, Bottom, Summary, leaf_bottom};
 use arrow_values::DataType;
 
 /// The point that a data type is taken for where no extension name says what it is: two, three or four fields or a
@@ -22,7 +21,28 @@ pub fn infer_point(data_type: &DataType) -> Option<(CoordType, Dimension)>
     ensures exact { AnswersSome result (Inferred (tree data_type.now)) }
     ensures agrees { (c b : CoordType) (d e : Dimension) → result ≡ Some (c, d) → Leaf (tree data_type.now) b e → (c ≡ b) × (d ≡ e) }
 {
-    inferred(&summarize(data_type))
+    match data_type {
+        DataType::Struct(_) | DataType::FixedSizeList(_, _) => inferred(&flat_summary(data_type)),
+        _ => None,
+    }
+}
+
+/// The summary of a struct or a fixed size list, which has no list levels.
+#[inline(always)]
+fn flat_summary(data_type: &DataType) -> Summary
+    requires { IsFlat (tree data_type.now) }
+    ensures { Summarizes result (tree data_type.now) }
+{
+    let below = Below {
+        levels: 0,
+        width: None,
+        rest: data_type,
+    };
+    Summary {
+        levels: 0,
+        width: None,
+        bottom: leaf_bottom(&below),
+    }
 }
 
 /// The same, from the summary.

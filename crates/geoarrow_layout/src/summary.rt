@@ -1,5 +1,5 @@
 //! What one walk over a data type finds.
-ghost use Rattle.std.specs.Prelude.{◌≡◌, ◌≢◌, ◌<◌, ◌≤◌, ◌↔◌, IsTrue, Some, ℕ, MatchOption, ⊤};
+ghost use Rattle.std.specs.Prelude.{◌≡◌, ◌≢◌, ◌<◌, ◌≤◌, ◌↔◌, ◌∷◌, [], IsTrue, Some, ℕ, MatchOption, ⊤};
 ghost use Rattle.arrow_values.specs.View.{tree, field_trees};
 ghost use Rattle.arrow_values.specs.Tree.{Tree, plain, float64};
 ghost use Rattle.geoarrow_layout.specs.Kinds.{interleaved_name};
@@ -85,6 +85,34 @@ fn named_dimension(name: &str) -> Option<Dimension>
 
 /// The place of a name among those that a layout goes by; 8 for any other.
 fn name_place(name: &str) -> u8
+    ensures place { result ≡ place_in name.now known_names }
+    ensures small { result ≤ 8 }
+{
+    let bytes = name.as_bytes();
+    if bytes.len() == 1 {
+        return letter_place(bytes[0]);
+    }
+    long_place(name)
+}
+
+/// The same, of a name of one byte.
+#[inline(always)]
+fn letter_place(letter: u8) -> u8
+    ensures place { result ≡ place_in (letter ∷ []) known_names }
+    ensures small { result ≤ 8 }
+{
+    match letter {
+        b'x' => 0,
+        b'y' => 1,
+        b'z' => 2,
+        b'm' => 3,
+        _ => 8,
+    }
+}
+
+/// The same, by a comparison with each.
+#[inline(never)]
+fn long_place(name: &str) -> u8
     ensures place { result ≡ place_in name.now known_names }
     ensures small { result ≤ 8 }
 {

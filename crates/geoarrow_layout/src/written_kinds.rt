@@ -1,5 +1,6 @@
 //! The kind that a data type was written for.
 ghost use Rattle.std.specs.Prelude.{◌≡◌, ◌↔◌, IsTrue, Some, Contains, map, false, [], codes};
+ghost use Rattle.arrow_values.specs.Name.{fixed_text};
 ghost use Rattle.arrow_values.specs.Tree.{list, struct};
 ghost use Rattle.arrow_values.specs.View.{tree, field_trees};
 ghost use Rattle.geoarrow_layout.specs.Layouts.{coordinate, leaf_layout, lists_over, member_layout, members_over, mixed_members, mixed_layout, native_layout, dimension_members, geometry_members, geometry_layout, box_layout, bytes_layout, text_layout, layout};
@@ -12,7 +13,7 @@ use crate::kinds::{CoordType, Dimension};
 use crate::naming::{bytes_width, text_width};
 use crate::summary::is_float64;
 use crate::tables::{box_names, coordinate_names, interleaved_name, list_names, member_name};
-use arrow_values::{DataType, Field, UnionMode};
+use arrow_values::{DataType, Field, FixedName, UnionMode};
 
 /// The kind whose written data type this is, to the last name, nullability and mode (GeoArrow, "Native encoding",
 /// "Geometry", "Box"): none where it is written for no kind, though some reader may take it. Takes no memory.
@@ -79,10 +80,10 @@ fn is_native(
 }
 
 /// Whether the field has that name, that nullability and no metadata.
-fn is_bare(field: &Field, name: &str, nullable: bool) -> bool
-    ensures { IsTrue result ↔ IsBare name.now nullable field.now }
+fn is_bare(field: &Field, name: FixedName, nullable: bool) -> bool
+    ensures { IsTrue result ↔ IsBare (fixed_text name) nullable field.now }
 {
-    if field.name() != name {
+    if field.name() != name.as_text() {
         return false;
     }
     if field.is_nullable() != nullable {
@@ -92,8 +93,8 @@ fn is_bare(field: &Field, name: &str, nullable: bool) -> bool
 }
 
 /// Whether the field is a coordinate of that name.
-fn is_coordinate(field: &Field, name: &str) -> bool
-    ensures { IsTrue result ↔ (field.now ≡ coordinate name.now) }
+fn is_coordinate(field: &Field, name: FixedName) -> bool
+    ensures { IsTrue result ↔ (field.now ≡ coordinate (fixed_text name)) }
 {
     if !is_bare(field, name, false) {
         return false;
@@ -102,8 +103,8 @@ fn is_coordinate(field: &Field, name: &str) -> bool
 }
 
 /// Whether the fields are coordinates of these names.
-fn are_coordinates(fields: &[Field], names: &[&str]) -> bool
-    ensures { IsTrue result ↔ (fields.now ≡ map coordinate (map (λ name. name.now) names.now)) }
+fn are_coordinates(fields: &[Field], names: &[FixedName]) -> bool
+    ensures { IsTrue result ↔ (fields.now ≡ map coordinate (map fixed_text names.now)) }
 {
     let Some((field, rest)) = fields.split_first() else {
         return names.is_empty();
@@ -111,7 +112,7 @@ fn are_coordinates(fields: &[Field], names: &[&str]) -> bool
     let Some((name, others)) = names.split_first() else {
         return false;
     };
-    if !is_coordinate(field, name) {
+    if !is_coordinate(field, *name) {
         return false;
     }
     are_coordinates(rest, others)
@@ -141,8 +142,8 @@ fn is_interleaved(data_type: &DataType, dimension: Dimension) -> bool
 }
 
 /// Whether it is a struct of coordinates of these names.
-fn is_struct(data_type: &DataType, names: &[&str]) -> bool
-    ensures { IsTrue result ↔ (tree data_type.now ≡ struct (field_trees (map coordinate (map (λ name. name.now) names.now)))) }
+fn is_struct(data_type: &DataType, names: &[FixedName]) -> bool
+    ensures { IsTrue result ↔ (tree data_type.now ≡ struct (field_trees (map coordinate (map fixed_text names.now)))) }
 {
     let DataType::Struct(fields) = data_type else {
         return false;
@@ -160,11 +161,11 @@ fn is_box(data_type: &DataType, dimension: Dimension) -> bool
 /// Whether the data type is lists of items of these names over a coordinate.
 fn is_over_leaf(
     data_type: &DataType,
-    names: &[&str],
+    names: &[FixedName],
     coord_type: CoordType,
     dimension: Dimension,
 ) -> bool
-    ensures { IsTrue result ↔ (tree data_type.now ≡ lists_over (map (λ name. name.now) names.now) (leaf_layout coord_type dimension)) }
+    ensures { IsTrue result ↔ (tree data_type.now ≡ lists_over (map fixed_text names.now) (leaf_layout coord_type dimension)) }
 {
     let Some((name, others)) = names.split_first() else {
         return is_leaf(data_type, coord_type, dimension);
@@ -172,7 +173,7 @@ fn is_over_leaf(
     let DataType::List(field) = data_type else {
         return false;
     };
-    if !is_bare(field, name, false) {
+    if !is_bare(field, *name, false) {
         return false;
     }
     is_over_leaf(field.data_type(), others, coord_type, dimension)
@@ -185,7 +186,7 @@ fn is_collection(data_type: &DataType, coord_type: CoordType, dimension: Dimensi
     let DataType::List(field) = data_type else {
         return false;
     };
-    if !is_bare(field, "geometries", false) {
+    if !is_bare(field, FixedName::Geometries, false) {
         return false;
     }
     is_mixed(field.data_type(), coord_type, dimension)
