@@ -129,7 +129,7 @@ fn same_boxed(a: &Field, b: &Field) -> bool
     same_field(a, b)
 }
 
-/// The same. Most fields inside a layout are of the three types that are asked for first.
+/// As `same_type`, with the three types first that most fields inside a layout have.
 #[cycle(equal)]
 #[inline(always)]
 fn same_inner(a: &DataType, b: &DataType) -> bool

@@ -80,6 +80,7 @@ impl Field {
     }
 
     /// The name.
+    #[inline(always)]
     pub fn name(&self) -> &str
         ensures { result.now ≡ self.now.name }
     {
