@@ -1,16 +1,15 @@
 //! How the answers of calls are judged, and the types and metadata that they are judged by.
 use crate::trial::Answer;
-use arrow_values::{ArrowError, GeoArrowError};
+use arrow_values::{ArrowError, Field, GeoArrowError};
 use geoarrow_schema::{Crs, CrsType, Edges, GeoArrowType, Kind, Metadata};
 use serde_json::Value;
 use std::alloc::{AllocError, Global};
 use std::sync::Arc;
+use test_fields::field;
+use test_fields::notation::column;
 
 /// The error that a refusal comes down to, and what it stands in.
-#[derive(Clone, Copy, Debug, PartialEq, Eq)]
 pub enum Sort {
-    /// `OutOfMemory` in `Arrow`.
-    Memory,
     /// `InvalidGeoArrow`.
     Invalid,
     /// `SchemaError` in `Arrow`.
@@ -19,23 +18,22 @@ pub enum Sort {
     BoxedCrs,
     /// `External` in `ExternalError` in `Arrow`.
     BoxedExternal,
-    /// Another error.
-    Other,
 }
 
 impl Sort {
-    /// The sort of an error.
-    fn of(error: &GeoArrowError) -> Sort {
-        match error {
-            GeoArrowError::InvalidGeoArrow(_) => Sort::Invalid,
-            GeoArrowError::Arrow(ArrowError::OutOfMemory) => Sort::Memory,
-            GeoArrowError::Arrow(ArrowError::SchemaError(_)) => Sort::Schema,
-            GeoArrowError::Arrow(ArrowError::ExternalError(inner)) => match &**inner {
-                GeoArrowError::Crs(_) => Sort::BoxedCrs,
-                GeoArrowError::External(_) => Sort::BoxedExternal,
-                _ => Sort::Other,
-            },
-            _ => Sort::Other,
+    /// Whether an error is of the sort.
+    fn is_of(&self, error: &GeoArrowError) -> bool {
+        match (self, error) {
+            (Sort::Invalid, GeoArrowError::InvalidGeoArrow(_)) => true,
+            (Sort::Schema, GeoArrowError::Arrow(ArrowError::SchemaError(_))) => true,
+            (sort, GeoArrowError::Arrow(ArrowError::ExternalError(inner))) => {
+                match (sort, &**inner) {
+                    (Sort::BoxedCrs, GeoArrowError::Crs(_)) => true,
+                    (Sort::BoxedExternal, GeoArrowError::External(_)) => true,
+                    _ => false,
+                }
+            }
+            _ => false,
         }
     }
 }
@@ -45,21 +43,44 @@ pub fn right_if(holds: bool) -> Answer {
     if holds { Answer::Right } else { Answer::Wrong }
 }
 
+/// Right where a text is the wanted one.
+pub fn of_text(found: &str, wanted: &str) -> Answer {
+    right_if(found == wanted)
+}
+
 /// Want where memory is wanting, and right where the error is of the wanted sort.
-pub fn of_error(error: &GeoArrowError, wanted: Option<Sort>) -> Answer {
-    match Sort::of(error) {
-        Sort::Memory => Answer::Want,
-        sort => right_if(wanted == Some(sort)),
+pub fn of_error(error: &GeoArrowError, wanted: Option<&Sort>) -> Answer {
+    if let GeoArrowError::Arrow(ArrowError::OutOfMemory) = error {
+        return Answer::Want;
+    }
+    match wanted {
+        Some(sort) => right_if(sort.is_of(error)),
+        None => Answer::Wrong,
     }
 }
 
 /// The same of an error of Arrow.
-pub fn of_arrow_error(error: ArrowError, wanted: Option<Sort>) -> Answer {
+pub fn of_arrow_error(error: ArrowError, wanted: Option<&Sort>) -> Answer {
     of_error(&GeoArrowError::Arrow(error), wanted)
 }
 
+/// Whether a field is that of a line.
+pub fn is_field(alloc: Global, found: &Field, line: &str) -> bool {
+    match field(alloc, line) {
+        Ok(wanted) => *found == wanted,
+        Err(AllocError) => false,
+    }
+}
+
+/// Whether a field is that of texts and a data type.
+pub fn is_column(alloc: Global, found: &Field, texts: &[(&str, &str)], data_type: &str) -> bool {
+    match column(alloc, texts, data_type) {
+        Ok(wanted) => *found == wanted,
+        Err(AllocError) => false,
+    }
+}
+
 /// What a metadata text stands for.
-#[derive(Debug, Clone, Copy, PartialEq, Eq)]
 pub enum Meaning {
     /// Neither CRS nor edges.
     Nothing,
@@ -70,7 +91,7 @@ pub enum Meaning {
 }
 
 /// The metadata of that meaning.
-pub fn metadata(alloc: Global, meaning: Meaning) -> Result<Metadata, AllocError> {
+pub fn metadata(alloc: Global, meaning: &Meaning) -> Result<Metadata, AllocError> {
     match meaning {
         Meaning::Nothing => Ok(Metadata::default()),
         Meaning::X => {
@@ -92,32 +113,32 @@ pub fn metadata(alloc: Global, meaning: Meaning) -> Result<Metadata, AllocError>
 pub fn geoarrow_type(
     alloc: Global,
     kind: Kind,
-    meaning: Meaning,
+    meaning: &Meaning,
 ) -> Result<GeoArrowType, AllocError> {
     let shared = Arc::new(alloc, metadata(alloc, meaning)?)?;
     Ok(GeoArrowType::from_kind(kind, shared))
 }
 
 /// Whether a metadata has that meaning.
-pub fn means(metadata: &Metadata, meaning: Meaning) -> bool {
+pub fn means(metadata: &Metadata, meaning: &Meaning) -> bool {
+    let (text, crs_type, edges) = match meaning {
+        Meaning::Nothing => (None, None, None),
+        Meaning::X => (Some("X"), None, None),
+        Meaning::Spherical => (
+            Some("EPSG:4326"),
+            Some(CrsType::AuthorityCode),
+            Some(Edges::Spherical),
+        ),
+    };
     let crs = metadata.crs();
-    let text = crs.crs_value().and_then(Value::as_str);
-    let parts = (text, crs.crs_type(), metadata.edges());
-    match meaning {
-        Meaning::Nothing => parts == (None, None, None) && crs.crs_value().is_none(),
-        Meaning::X => parts == (Some("X"), None, None),
-        Meaning::Spherical => {
-            parts
-                == (
-                    Some("EPSG:4326"),
-                    Some(CrsType::AuthorityCode),
-                    Some(Edges::Spherical),
-                )
-        }
-    }
+    let is_text = match crs.crs_value() {
+        Some(value) => text.is_some() && value.as_str() == text,
+        None => text.is_none(),
+    };
+    is_text && crs.crs_type() == crs_type && metadata.edges() == edges
 }
 
 /// Whether a type is of that kind and of that meaning.
-pub fn is_type(found: &GeoArrowType, kind: Kind, meaning: Meaning) -> bool {
+pub fn is_type(found: &GeoArrowType, kind: Kind, meaning: &Meaning) -> bool {
     found.kind() == kind && means(found.metadata(), meaning)
 }

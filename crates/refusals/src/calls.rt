@@ -4,13 +4,12 @@ use crate::reading::{FIELDS, NAMED};
 use crate::trial::{Answer, Trial};
 use crate::unions::JOINED;
 use crate::values::{PROJJSON, TEXTS};
-use crate::writing::{Build, CANONICAL, COORD_TYPES, PUT};
+use crate::writing::{Build, CANONICAL, CARRIED, COORD_TYPES, PUT};
 use crate::{lines, reading, unions, values, writing};
 use std::alloc::{AllocError, Global};
 
 /// A call, over rows.
-#[derive(Debug, Clone, Copy, PartialEq, Eq)]
-pub enum Call {
+enum Call {
     FromExtensionField,
     FromArrowField,
     CheckColumns,
@@ -38,73 +37,46 @@ pub enum Call {
     Serve,
 }
 
-/// The calls and their names.
-const CALLS: [(Call, &str); 25] = [
-    (Call::FromExtensionField, "from_extension_field"),
-    (Call::FromArrowField, "from_arrow_field"),
-    (Call::CheckColumns, "check_columns"),
-    (Call::ToField, "to_field"),
-    (Call::TryWithExtensionType, "try_with_extension_type"),
-    (Call::WithExtensionType, "with_extension_type"),
-    (Call::CanonicalField, "canonical_field"),
-    (Call::Normalized, "normalized"),
-    (Call::DataType, "data_type"),
-    (Call::ToDataType, "to_data_type"),
-    (Call::TryClone, "try_clone"),
-    (Call::Append, "append"),
-    (Call::AppendMembers, "append_members"),
-    (Call::Deserialize, "deserialize"),
-    (Call::FromValue, "from_value"),
-    (Call::Serialize, "serialize"),
-    (Call::ToValue, "to_value"),
-    (Call::ExtractWkt, "extract_wkt"),
-    (Call::ExtractProjjson, "extract_projjson"),
-    (Call::IntoArrowError, "into_arrow_error"),
-    (Call::AnswerLine, "answer_line"),
-    (Call::ParseLine, "parse_line"),
-    (Call::FieldLine, "field_line"),
-    (Call::Run, "run"),
-    (Call::Serve, "serve"),
+/// The calls, their names, and how many rows each has.
+const CALLS: [(Call, &str, usize); 25] = [
+    (Call::FromExtensionField, "from_extension_field", NAMED),
+    (Call::FromArrowField, "from_arrow_field", FIELDS.len()),
+    (Call::CheckColumns, "check_columns", 1),
+    (Call::ToField, "to_field", writing::WRITTEN.len()),
+    (
+        Call::TryWithExtensionType,
+        "try_with_extension_type",
+        PUT.len(),
+    ),
+    (Call::WithExtensionType, "with_extension_type", CARRIED),
+    (Call::CanonicalField, "canonical_field", CANONICAL.len()),
+    (Call::Normalized, "normalized", 1),
+    (Call::DataType, "data_type", COORD_TYPES.len()),
+    (Call::ToDataType, "to_data_type", COORD_TYPES.len()),
+    (Call::TryClone, "try_clone", COORD_TYPES.len()),
+    (Call::Append, "append", JOINED.len()),
+    (Call::AppendMembers, "append_members", JOINED.len()),
+    (Call::Deserialize, "deserialize", TEXTS.len()),
+    (Call::FromValue, "from_value", TEXTS.len()),
+    (Call::Serialize, "serialize", TEXTS.len()),
+    (Call::ToValue, "to_value", TEXTS.len()),
+    (Call::ExtractWkt, "extract_wkt", 1),
+    (Call::ExtractProjjson, "extract_projjson", PROJJSON.len()),
+    (Call::IntoArrowError, "into_arrow_error", 1),
+    (Call::AnswerLine, "answer_line", ANSWERS.len()),
+    (Call::ParseLine, "parse_line", WRITTEN.len()),
+    (Call::FieldLine, "field_line", WRITTEN.len()),
+    (Call::Run, "run", RUNS.len()),
+    (Call::Serve, "serve", RUNS.len()),
 ];
 
-/// More rows than any call has.
-const ROWS: usize = 100;
-
-/// The name of a call's row; none where it has no such row.
-fn row_name(call: Call, row: usize) -> Option<&'static str> {
-    match call {
-        Call::FromExtensionField if row >= NAMED => None,
-        Call::FromExtensionField | Call::FromArrowField => FIELDS.get(row).map(|row| row.name),
-        Call::CheckColumns => single(row, "six fields"),
-        Call::ToField => writing::WRITTEN.get(row).map(|row| row.name),
-        Call::TryWithExtensionType => PUT.get(row).map(|row| row.name),
-        Call::WithExtensionType if row >= writing::CARRIED => None,
-        Call::WithExtensionType => PUT.get(row).map(|row| row.name),
-        Call::CanonicalField => CANONICAL.get(row).map(|row| row.name),
-        Call::Normalized => single(row, "a CRS type alone"),
-        Call::DataType | Call::ToDataType | Call::TryClone => {
-            COORD_TYPES.get(row).map(|row| row.0)
-        }
-        Call::Append | Call::AppendMembers => JOINED.get(row).map(|row| row.name),
-        Call::Deserialize | Call::FromValue | Call::Serialize | Call::ToValue => {
-            TEXTS.get(row).map(|row| row.0)
-        }
-        Call::ExtractWkt => single(row, "a text"),
-        Call::ExtractProjjson => PROJJSON.get(row).map(|row| row.0),
-        Call::IntoArrowError => single(row, "the error of a CRS"),
-        Call::AnswerLine => ANSWERS.get(row).map(|row| row.0),
-        Call::ParseLine | Call::FieldLine => WRITTEN.get(row).map(|row| row.0),
-        Call::Run | Call::Serve => RUNS.get(row).map(|row| row.name),
-    }
-}
-
-/// The name of a call's one row.
-fn single(row: usize, name: &'static str) -> Option<&'static str> {
-    if row == 0 { Some(name) } else { None }
-}
-
 /// Tries a call on one of its rows. Errs where memory was refused before the call.
-fn attempt(alloc: Global, call: Call, row: usize, trial: &mut Trial) -> Result<Answer, AllocError> {
+fn attempt(
+    alloc: Global,
+    call: &Call,
+    row: usize,
+    trial: &mut Trial,
+) -> Result<Answer, AllocError> {
     match call {
         Call::FromExtensionField => reading::read(alloc, row, false, trial),
         Call::FromArrowField => reading::read(alloc, row, true, trial),
@@ -114,9 +86,9 @@ fn attempt(alloc: Global, call: Call, row: usize, trial: &mut Trial) -> Result<A
         Call::WithExtensionType => writing::with(alloc, row, trial),
         Call::CanonicalField => writing::canonical_field(alloc, row, trial),
         Call::Normalized => writing::normalized(alloc, trial),
-        Call::DataType => writing::build_data_type(alloc, row, Build::DataType, trial),
-        Call::ToDataType => writing::build_data_type(alloc, row, Build::ToDataType, trial),
-        Call::TryClone => writing::build_data_type(alloc, row, Build::TryClone, trial),
+        Call::DataType => writing::build_data_type(alloc, row, &Build::DataType, trial),
+        Call::ToDataType => writing::build_data_type(alloc, row, &Build::ToDataType, trial),
+        Call::TryClone => writing::build_data_type(alloc, row, &Build::TryClone, trial),
         Call::Append => unions::join(alloc, row, false, trial),
         Call::AppendMembers => unions::join(alloc, row, true, trial),
         Call::Deserialize => values::deserialize(alloc, row, trial),
@@ -134,31 +106,18 @@ fn attempt(alloc: Global, call: Call, row: usize, trial: &mut Trial) -> Result<A
     }
 }
 
-/// How a call fared: its name, that of its row, and what it answered; an error where memory was refused before it.
-#[derive(Debug, Clone, Copy, PartialEq, Eq)]
-pub struct Tried {
-    pub call: &'static str,
-    pub row: &'static str,
-    pub answer: Result<Answer, AllocError>,
-}
-
-/// Tries the call of that number, counted from 0 over all rows of all calls; none where there is no such.
-pub fn try_call(alloc: Global, number: usize, trial: &mut Trial) -> Option<Tried> {
-    let mut passed = 0usize;
-    for &(call, name) in CALLS.iter() {
-        for at in 0..ROWS {
-            let Some(row) = row_name(call, at) else {
-                break;
-            };
-            if passed == number {
-                let answer = attempt(alloc, call, at, trial);
-                return Some(Tried {
-                    call: name,
-                    row,
-                    answer,
-                });
-            }
-            passed = passed.saturating_add(1);
+/// Tries the call of that number, counted from 0 over all rows of all calls. Says its name, and what it answered, or an
+/// error where memory was refused before it; none where there is no such call.
+pub fn try_call(
+    alloc: Global,
+    number: usize,
+    trial: &mut Trial,
+) -> Option<(&'static str, Result<Answer, AllocError>)> {
+    let mut row = number;
+    for (call, name, rows) in CALLS.iter() {
+        match row.checked_sub(*rows) {
+            Some(rest) => row = rest,
+            None => return Some((name, attempt(alloc, call, row, trial))),
         }
     }
     None

@@ -1,5 +1,5 @@
 //! Lines that are read, written and answered.
-use crate::answers::right_if;
+use crate::answers::{is_field, of_text, right_if};
 use crate::texts::{LINES, POINTS, WRITTEN_LINES};
 use crate::trial::{Answer, Trial};
 use field_lines::{field_line, parse_line};
@@ -23,7 +23,7 @@ const LINES_READ: &str = "linestring separated XY -";
 const LINES_HELD: &str = "geometry linestring separated XY -";
 
 /// Commands, lines and their answers.
-pub const ANSWERS: [(&str, Command, &str, &str); 8] = [
+pub const ANSWERS: &[(&str, Command, &str, &str)] = &[
     ("points under read", Read, POINTS, POINTS_READ),
     ("points under infer", Infer, POINTS, POINTS_READ),
     ("points under canon", Canon, POINTS, POINTS),
@@ -36,16 +36,15 @@ pub const ANSWERS: [(&str, Command, &str, &str); 8] = [
 
 /// Answers a line.
 pub fn answer(alloc: Global, row: usize, trial: &mut Trial) -> Result<Answer, AllocError> {
-    let Some((_, command, line, wanted)) = ANSWERS.get(row) else {
-        return Ok(Answer::Wrong);
-    };
-    trial.begin(alloc)?;
+    let (name, command, line, wanted) = ANSWERS.get(row).ok_or(AllocError)?;
+    trial.row = name;
+    trial.begin(alloc);
     let found = answer_line(alloc, *command, line.as_bytes());
     trial.end(alloc);
-    match found {
-        Ok(found) => Ok(right_if(found.as_str() == *wanted)),
-        Err(AllocError) => Ok(Answer::Want),
-    }
+    Ok(match found {
+        Ok(found) => of_text(found.as_str(), wanted),
+        Err(AllocError) => Answer::Want,
+    })
 }
 
 /// Lines of fields, as they are written.
@@ -53,44 +52,42 @@ pub const WRITTEN: [(&str, &str); 2] = [("points", POINTS), ("lines", WRITTEN_LI
 
 /// Reads a line as a field.
 pub fn parse(alloc: Global, row: usize, trial: &mut Trial) -> Result<Answer, AllocError> {
-    let Some((_, line)) = WRITTEN.get(row) else {
-        return Ok(Answer::Wrong);
-    };
-    trial.begin(alloc)?;
+    let (name, line) = WRITTEN.get(row).ok_or(AllocError)?;
+    trial.row = name;
+    trial.begin(alloc);
     let found = parse_line(alloc, line.as_bytes());
     trial.end(alloc);
-    match found {
-        Ok(Some(found)) => Ok(right_if(found == field(alloc, line)?)),
-        Ok(None) => Ok(Answer::Wrong),
-        Err(AllocError) => Ok(Answer::Want),
-    }
+    Ok(match found {
+        Ok(Some(found)) => right_if(is_field(alloc, &found, line)),
+        Ok(None) => Answer::Wrong,
+        Err(AllocError) => Answer::Want,
+    })
 }
 
 /// Writes a field as a line.
 pub fn write(alloc: Global, row: usize, trial: &mut Trial) -> Result<Answer, AllocError> {
-    let Some((_, line)) = WRITTEN.get(row) else {
-        return Ok(Answer::Wrong);
-    };
+    let (name, line) = WRITTEN.get(row).ok_or(AllocError)?;
+    trial.row = name;
     let given = field(alloc, line)?;
-    trial.begin(alloc)?;
+    trial.begin(alloc);
     let found = field_line(alloc, &given);
     trial.end(alloc);
-    match found {
-        Ok(found) => Ok(right_if(found.as_str() == *line)),
-        Err(AllocError) => Ok(Answer::Want),
-    }
+    Ok(match found {
+        Ok(found) => of_text(found.as_str(), line),
+        Err(AllocError) => Answer::Want,
+    })
 }
 
 /// A command, its word, and the answers to the lines of the input.
 pub struct Run {
-    pub name: &'static str,
+    name: &'static str,
     word: &'static str,
     command: Command,
     answers: [&'static str; 4],
 }
 
 /// The commands.
-pub const RUNS: [Run; 4] = [
+pub const RUNS: &[Run] = &[
     Run {
         name: "four lines under read",
         word: "read",
@@ -117,26 +114,44 @@ pub const RUNS: [Run; 4] = [
     },
 ];
 
-/// Want where the run ended for memory after the answers to the lines before, and right where it answered them all.
-fn judge(end: Option<RunEnd>, written: &[u8], answers: &[&str]) -> Answer {
+/// What a run writes where memory is wanting.
+const WANT: &[u8] = b"error memory\n";
+
+/// What stands behind the answers to the lines, as many as there are before want of memory; none where another answer
+/// stands there.
+fn behind_answers<'a>(written: &'a [u8], answers: &[&str]) -> Option<&'a [u8]> {
     let mut rest = written;
     for answer in answers {
-        if rest == b"error memory\n".as_slice() {
+        if rest == WANT {
             break;
         }
-        let after = rest
-            .strip_prefix(answer.as_bytes())
-            .and_then(|rest| rest.strip_prefix(b"\n"));
-        match after {
-            Some(after) => rest = after,
-            None => return Answer::Wrong,
+        match rest.strip_prefix(answer.as_bytes()) {
+            Some([b'\n', after @ ..]) => rest = after,
+            _ => return None,
         }
     }
-    match end {
-        Some(RunEnd::Memory) if rest == b"error memory\n".as_slice() => Answer::Want,
-        Some(RunEnd::Done) => right_if(rest.is_empty()),
+    Some(rest)
+}
+
+/// Want where the run ended for memory after the answers to the lines before, and right where it answered them all.
+fn judge(end: Option<RunEnd>, written: &[u8], answers: &[&str]) -> Answer {
+    match (end, behind_answers(written, answers)) {
+        (Some(RunEnd::Memory), Some(rest)) if rest == WANT => Answer::Want,
+        (Some(RunEnd::Done), Some([])) => Answer::Right,
         _ => Answer::Wrong,
     }
+}
+
+/// The lines that are run over.
+fn input(alloc: Global) -> Result<String, AllocError> {
+    format!(in alloc; "[]\n{POINTS}\n{LINES}\n{POINTS}")
+}
+
+/// The words of a command.
+fn words(alloc: Global, word: &str) -> Result<Vec<String>, AllocError> {
+    let mut words = Vec::new(alloc);
+    words.push(String::from_str(alloc, word)?)?;
+    Ok(words)
 }
 
 /// Runs a command over an input, by its word or by itself.
@@ -146,14 +161,12 @@ pub fn run_over(
     by_word: bool,
     trial: &mut Trial,
 ) -> Result<Answer, AllocError> {
-    let Some(row) = RUNS.get(row) else {
-        return Ok(Answer::Wrong);
-    };
-    let mut words = Vec::new(alloc);
-    words.push(String::from_str(alloc, row.word)?)?;
-    let input = format!(in alloc; "[]\n{POINTS}\n{LINES}\n{POINTS}")?;
+    let row = RUNS.get(row).ok_or(AllocError)?;
+    trial.row = row.name;
+    let words = words(alloc, row.word)?;
+    let input = input(alloc)?;
     let mut written: Vec<u8> = Vec::with_capacity(alloc, 4096)?;
-    trial.begin(alloc)?;
+    trial.begin(alloc);
     let end = if by_word {
         serve(alloc, words.as_slice(), &mut input.as_bytes(), &mut written)
     } else {

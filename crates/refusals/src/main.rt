@@ -18,7 +18,7 @@ mod unions;
 mod values;
 mod writing;
 
-use calls::{Tried, try_call};
+use calls::try_call;
 use std::alloc::AllocError;
 use std::io;
 use std::io::Read;
@@ -42,11 +42,12 @@ fn word(answer: Result<Answer, AllocError>) -> &'static str {
 fn try_all(rt: &HostRuntime) -> io::Result<bool> {
     let mut are_right = true;
     for number in 0..CALLS {
-        let Some(tried) = try_call(rt.alloc(), number, &mut Trial::ample()) else {
+        let mut trial = Trial::new(0);
+        let Some((call, answer)) = try_call(rt.alloc(), number, &mut trial) else {
             break;
         };
-        let found = word(tried.answer);
-        println!(rt; "{} of {} is {found}", tried.call, tried.row)?;
+        let found = word(answer);
+        println!(rt; "{call} of {} is {found}", trial.row)?;
         are_right &= found == "right";
     }
     Ok(are_right)
@@ -54,16 +55,17 @@ fn try_all(rt: &HostRuntime) -> io::Result<bool> {
 
 /// Tries a call while one request is refused. Says whether there is such a call.
 fn try_one(rt: &HostRuntime, fill: usize, number: usize) -> io::Result<bool> {
-    let mut trial = Trial::refused(fill);
-    let Some(Tried { call, row, answer }) = try_call(rt.alloc(), number, &mut trial) else {
+    let mut trial = Trial::new(fill);
+    let Some((call, answer)) = try_call(rt.alloc(), number, &mut trial) else {
         return Ok(false);
     };
     let found = word(answer);
-    match trial.place() {
-        Place::Unknown => println!(rt; "{call} of {row}: unknown {found}")?,
-        Place::Before(met) => println!(rt; "{call} of {row}: before {met}")?,
-        Place::Within => println!(rt; "{call} of {row}: within {found}")?,
-        Place::After(met) => println!(rt; "{call} of {row}: after {met} {found}")?,
+    print!(rt; "{call} of {}: ", trial.row)?;
+    match trial.place {
+        Place::Unknown => println!(rt; "unknown {found}")?,
+        Place::Before(met) => println!(rt; "before {met}")?,
+        Place::Within => println!(rt; "within {found}")?,
+        Place::After(met) => println!(rt; "after {met} {found}")?,
     }
     Ok(true)
 }

@@ -1,6 +1,6 @@
 //! Fields that are read and reported.
 use crate::answers::Meaning::{Nothing, Spherical, X};
-use crate::answers::{Meaning, Sort, is_type, of_error, right_if};
+use crate::answers::{Meaning, Sort, is_column, is_type, of_error, right_if};
 use crate::texts::{NAME, SPHERICAL, TEXT};
 use crate::trial::{Answer, Trial};
 use arrow_values::{Field, GeoArrowResult};
@@ -13,7 +13,7 @@ use test_fields::notation::column;
 
 /// A field, and the type that is read from it, or the sort of the refusal.
 pub struct Row {
-    pub name: &'static str,
+    name: &'static str,
     texts: &'static [(&'static str, &'static str)],
     data_type: &'static str,
     read: Result<(Kind, Meaning), Sort>,
@@ -23,7 +23,7 @@ pub struct Row {
 pub const NAMED: usize = 9;
 
 /// The fields.
-pub const FIELDS: [Row; 12] = [
+pub const FIELDS: &[Row] = &[
     Row {
         name: "a point with metadata",
         texts: &[(TEXT, SPHERICAL), (NAME, "geoarrow.point")],
@@ -106,13 +106,11 @@ pub const FIELDS: [Row; 12] = [
 
 /// Whether a type that is read, or a refusal, is that of the row.
 fn judge(found: GeoArrowResult<Option<GeoArrowType>>, row: &Row) -> Answer {
-    match found {
-        Ok(None) => Answer::Wrong,
-        Ok(Some(found)) => match row.read {
-            Ok((kind, meaning)) => right_if(is_type(&found, kind, meaning)),
-            Err(_) => Answer::Wrong,
-        },
-        Err(error) => of_error(&error, row.read.err()),
+    match (found, &row.read) {
+        (Ok(Some(found)), Ok((kind, meaning))) => right_if(is_type(&found, *kind, meaning)),
+        (Ok(_), _) => Answer::Wrong,
+        (Err(error), Ok(_)) => of_error(&error, None),
+        (Err(error), Err(sort)) => of_error(&error, Some(sort)),
     }
 }
 
@@ -123,11 +121,10 @@ pub fn read(
     infers: bool,
     trial: &mut Trial,
 ) -> Result<Answer, AllocError> {
-    let Some(row) = FIELDS.get(row) else {
-        return Ok(Answer::Wrong);
-    };
+    let row = FIELDS.get(row).ok_or(AllocError)?;
+    trial.row = row.name;
     let field = column(alloc, row.texts, row.data_type)?;
-    trial.begin(alloc)?;
+    trial.begin(alloc);
     let found = if infers {
         GeoArrowType::from_arrow_field(alloc, &field).map(Some)
     } else {
@@ -135,12 +132,25 @@ pub fn read(
     };
     trial.end(alloc);
     let answer = judge(found, row);
-    let stays = field == column(alloc, row.texts, row.data_type)?;
-    Ok(if stays { answer } else { Answer::Wrong })
+    Ok(if is_column(alloc, &field, row.texts, row.data_type) {
+        answer
+    } else {
+        Answer::Wrong
+    })
 }
 
 /// The fields of the schema that is reported, by their numbers above.
 const SCHEMA: [usize; 6] = [0, 9, 11, 5, 2, 10];
+
+/// The fields of the schema.
+fn schema(alloc: Global) -> Result<Vec<Field>, AllocError> {
+    let mut fields = Vec::new(alloc);
+    for &number in SCHEMA.iter() {
+        let row = FIELDS.get(number).ok_or(AllocError)?;
+        fields.push(column(alloc, row.texts, row.data_type)?)?;
+    }
+    Ok(fields)
+}
 
 /// Whether a report is that of the schema.
 fn is_report(columns: &[Column]) -> bool {
@@ -155,7 +165,7 @@ fn is_report(columns: &[Column]) -> bool {
         ] => {
             let interleaved = Kind::Native(NativeKind::Point, Interleaved, XY);
             let separated = Kind::Native(NativeKind::Point, Separated, XYM);
-            is_type(points, interleaved, Spherical) && is_type(measured, separated, Nothing)
+            is_type(points, interleaved, &Spherical) && is_type(measured, separated, &Nothing)
         }
         _ => false,
     }
@@ -163,17 +173,13 @@ fn is_report(columns: &[Column]) -> bool {
 
 /// Reports the columns of the schema.
 pub fn report(alloc: Global, trial: &mut Trial) -> Result<Answer, AllocError> {
-    let mut fields: Vec<Field> = Vec::new(alloc);
-    for at in SCHEMA.iter() {
-        if let Some(row) = FIELDS.get(*at) {
-            fields.push(column(alloc, row.texts, row.data_type)?)?;
-        }
-    }
-    trial.begin(alloc)?;
+    trial.row = "six fields";
+    let fields = schema(alloc)?;
+    trial.begin(alloc);
     let columns = check_columns(alloc, fields.as_slice());
     trial.end(alloc);
-    match columns {
-        Err(AllocError) => Ok(Answer::Want),
-        Ok(columns) => Ok(right_if(is_report(columns.as_slice()))),
-    }
+    Ok(match columns {
+        Ok(columns) => right_if(is_report(columns.as_slice())),
+        Err(AllocError) => Answer::Want,
+    })
 }

@@ -5,7 +5,7 @@ use std::alloc::{AllocError, Global};
 const REQUESTS: usize = 2_000;
 
 /// What a call answered.
-#[derive(Debug, Clone, Copy, PartialEq, Eq)]
+#[derive(Clone, Copy)]
 pub enum Answer {
     /// What it answers with ample memory, and everything is as it has to be then.
     Right,
@@ -16,72 +16,61 @@ pub enum Answer {
 }
 
 /// Where the request that was refused fell.
-#[derive(Debug, Clone, Copy, PartialEq, Eq)]
+#[derive(Clone, Copy)]
 pub enum Place {
-    /// Nowhere, as far as is known: no request was refused, or it was one of the fixtures.
+    /// Nowhere, as far as is known: the call has not been made.
     Unknown,
     /// Before the call, after so many requests for nothing.
     Before(usize),
-    /// In the call.
+    /// In the call, or nowhere.
     Within,
     /// After the call, and so many requests for nothing.
     After(usize),
 }
 
-/// How a call is tried.
-#[derive(Debug, Clone, Copy, PartialEq, Eq)]
+/// How a call is tried: on which row, and where the refused request fell.
+#[derive(Clone, Copy)]
 pub struct Trial {
     fill: usize,
-    looks: bool,
-    place: Place,
+    pub row: &'static str,
+    pub place: Place,
+}
+
+/// Makes so many requests for nothing. Says after how many one was refused; none where none was.
+fn refused(alloc: Global, requests: usize) -> Option<usize> {
+    for met in 0..requests {
+        if Box::new(alloc, 0u8).is_err() {
+            return Some(met);
+        }
+    }
+    None
 }
 
 impl Trial {
-    /// A trial with ample memory.
-    pub fn ample() -> Trial {
-        Trial {
-            fill: 0,
-            looks: false,
-            place: Place::Unknown,
-        }
-    }
-
-    /// A trial in which one request is refused, with so many requests made for nothing before the call.
-    pub fn refused(fill: usize) -> Trial {
+    /// A trial with so many requests made for nothing before the call.
+    pub fn new(fill: usize) -> Trial {
         Trial {
             fill,
-            looks: true,
+            row: "",
             place: Place::Unknown,
         }
     }
 
-    /// Stands right before the call, behind its fixtures. Errs where the refused request was met here.
-    pub fn begin(&mut self, alloc: Global) -> Result<(), AllocError> {
-        for met in 0..self.fill {
-            if Box::new(alloc, 0u8).is_err() {
-                self.place = Place::Before(met);
-                return Err(AllocError);
-            }
+    /// Stands right before the call, behind its fixtures.
+    pub fn begin(&mut self, alloc: Global) {
+        if let Some(met) = refused(alloc, self.fill) {
+            self.place = Place::Before(met);
         }
-        Ok(())
     }
 
     /// Stands right behind the call. No request is refused from here on.
     pub fn end(&mut self, alloc: Global) {
-        if !self.looks {
+        if let Place::Before(_) = self.place {
             return;
         }
-        self.place = Place::Within;
-        for met in 0..REQUESTS {
-            if Box::new(alloc, 0u8).is_err() {
-                self.place = Place::After(met);
-                return;
-            }
-        }
-    }
-
-    /// Where the refused request fell.
-    pub fn place(&self) -> Place {
-        self.place
+        self.place = match refused(alloc, REQUESTS) {
+            Some(met) => Place::After(met),
+            None => Place::Within,
+        };
     }
 }

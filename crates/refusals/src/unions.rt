@@ -8,7 +8,7 @@ use test_fields::notation::members;
 
 /// The members that are joined to one member 1, a struct of two; and the members that there are then.
 pub struct Joined {
-    pub name: &'static str,
+    name: &'static str,
     other: &'static str,
     all: &'static str,
 }
@@ -17,7 +17,7 @@ pub struct Joined {
 const HERE: &str = "1: Struct(x, y)";
 
 /// The unions.
-pub const JOINED: [Joined; 3] = [
+pub const JOINED: &[Joined] = &[
     Joined {
         name: "two members",
         other: "2: Struct(x, y), 3: Struct(x, y)",
@@ -36,8 +36,11 @@ pub const JOINED: [Joined; 3] = [
 ];
 
 /// Whether the members are those of a text.
-fn are(alloc: Global, found: &UnionFields, text: &str) -> Result<bool, AllocError> {
-    Ok(*found == members(alloc, text)?)
+fn are(alloc: Global, found: &UnionFields, text: &str) -> bool {
+    match members(alloc, text) {
+        Ok(wanted) => *found == wanted,
+        Err(AllocError) => false,
+    }
 }
 
 /// Joins two unions, by the call that speaks of layouts or by the other, and sees that both are as they were where it is
@@ -48,24 +51,26 @@ pub fn join(
     speaks_of_layouts: bool,
     trial: &mut Trial,
 ) -> Result<Answer, AllocError> {
-    let Some(row) = JOINED.get(row) else {
-        return Ok(Answer::Wrong);
-    };
+    let row = JOINED.get(row).ok_or(AllocError)?;
+    trial.row = row.name;
     let mut here = members(alloc, HERE)?;
     let other = members(alloc, row.other)?;
-    trial.begin(alloc)?;
+    trial.begin(alloc);
     let joined = if speaks_of_layouts {
         append_members(&mut here, other)
     } else {
         here.append(other)
     };
     trial.end(alloc);
-    match joined {
-        Ok(()) => Ok(right_if(are(alloc, &here, row.all)?)),
+    Ok(match joined {
+        Ok(()) => right_if(are(alloc, &here, row.all)),
         Err((other, AppendFault::OutOfMemory)) => {
-            let stays = are(alloc, &here, HERE)? && are(alloc, &other, row.other)?;
-            Ok(if stays { Answer::Want } else { Answer::Wrong })
+            if are(alloc, &here, HERE) && are(alloc, &other, row.other) {
+                Answer::Want
+            } else {
+                Answer::Wrong
+            }
         }
-        Err(_) => Ok(Answer::Wrong),
-    }
+        Err(_) => Answer::Wrong,
+    })
 }
