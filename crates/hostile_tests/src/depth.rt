@@ -38,7 +38,6 @@ const NAMES: [(&str, Refusal); 11] = [
 ];
 
 /// How a data type is refused.
-#[derive(Clone, Copy, Debug, PartialEq, Eq)]
 enum Refusal {
     /// By `SchemaError` in `Arrow`, as an unexpected data type.
     Schema,
@@ -48,23 +47,23 @@ enum Refusal {
 
 impl Refusal {
     /// Whether an error is that.
-    fn is(self, error: &GeoArrowError) -> bool {
+    fn is(&self, error: &GeoArrowError) -> bool {
         match (self, error) {
             (Refusal::Schema, GeoArrowError::Arrow(ArrowError::SchemaError(message))) => {
                 message.as_str() == "unexpected data type"
             }
             (Refusal::Invalid(wanted), GeoArrowError::InvalidGeoArrow(message)) => {
-                message.as_str() == wanted
+                message.as_str() == *wanted
             }
             _ => false,
         }
     }
 
-    /// The fault that a report names.
-    fn fault(self) -> ColumnFault {
+    /// Whether a report names it as the fault of a column.
+    fn is_fault(&self, fault: ColumnFault) -> bool {
         match self {
-            Refusal::Schema => ColumnFault::Arrow,
-            Refusal::Invalid(_) => ColumnFault::InvalidGeoArrow,
+            Refusal::Schema => fault == ColumnFault::Arrow,
+            Refusal::Invalid(_) => fault == ColumnFault::InvalidGeoArrow,
         }
     }
 }
@@ -73,6 +72,11 @@ impl Refusal {
 fn lists(alloc: Global, count: usize) -> Result<DataType, AllocError> {
     let text = format!(in alloc; "List*{count}(v: Struct(x, y))")?;
     data_type(alloc, text.as_str())
+}
+
+/// A field of so many lists.
+fn field_of(alloc: Global, count: usize) -> Result<Field, AllocError> {
+    Field::new(alloc, "g", lists(alloc, count)?, true)
 }
 
 /// So many lists are read. A data type of as many is not dropped, since no stack of 8 MiB holds that.
@@ -102,77 +106,125 @@ fn faults(tree: &DataType) -> [Option<LayoutFault>; 12] {
     ]
 }
 
-#[test]
-fn are_no_layout(rt: HostRuntime) -> Result<(), Fail> {
-    let alloc = rt.alloc();
-    let tree = lists(alloc, READ)?;
-    for (i, fault) in faults(&tree).into_iter().enumerate() {
-        assert_eq!(rt; fault, Some(LayoutFault::UnexpectedType), "reader {i}");
+/// The number of the first reader that names another fault than an unexpected data type.
+fn other_fault(tree: &DataType) -> Option<usize> {
+    for (number, fault) in faults(tree).iter().enumerate() {
+        if *fault != Some(LayoutFault::UnexpectedType) {
+            return Some(number);
+        }
     }
+    None
+}
+
+/// Whether each of the calls that take any data type finds no layout in one.
+fn find_no_layout(tree: &DataType) -> [bool; 4] {
     let summary = Summary {
         levels: 3,
         width: Some(ListWidth::List),
         bottom: Bottom::Deep,
     };
-    assert_eq!(rt; summarize(&tree), summary);
-    assert_eq!(rt; candidates(&tree), Candidates::None);
-    assert_eq!(rt; written_kind(&tree), None);
-    assert_eq!(rt; infer_point(&tree), None);
+    [
+        summarize(tree) == summary,
+        candidates(tree) == Candidates::None,
+        written_kind(tree).is_none(),
+        infer_point(tree).is_none(),
+    ]
+}
+
+#[test]
+fn are_no_layout(rt: HostRuntime) -> Result<(), Fail> {
+    let tree = lists(rt.alloc(), READ)?;
+    let other = other_fault(&tree);
+    let found = find_no_layout(&tree);
     std::mem::forget(tree);
+    assert_eq!(rt; other, None, "the reader of that number");
+    assert_eq!(rt; found, [true; 4]);
     Ok(())
 }
 
-/// Whether reading, inferring and writing anew refuse a field so.
-fn is_refused(alloc: Global, field: &Field, refusal: Refusal) -> [bool; 3] {
+/// Whether reading, inferring and writing anew refuse a field so, and a report names the fault.
+fn is_refused(alloc: Global, field: &Field, refusal: &Refusal) -> [bool; 4] {
     [
-        GeoArrowType::from_extension_field(alloc, field).is_err_and(|error| refusal.is(&error)),
-        GeoArrowType::from_arrow_field(alloc, field).is_err_and(|error| refusal.is(&error)),
-        GeoArrowType::canonical_field(alloc, field).is_err_and(|error| refusal.is(&error)),
+        match GeoArrowType::from_extension_field(alloc, field) {
+            Ok(_) => false,
+            Err(error) => refusal.is(&error),
+        },
+        match GeoArrowType::from_arrow_field(alloc, field) {
+            Ok(_) => false,
+            Err(error) => refusal.is(&error),
+        },
+        match GeoArrowType::canonical_field(alloc, field) {
+            Ok(_) => false,
+            Err(error) => refusal.is(&error),
+        },
+        match check_column(alloc, field) {
+            Ok(Column::Faulty(fault)) => refusal.is_fault(fault),
+            _ => false,
+        },
     ]
+}
+
+/// Whether a field of that extension name and of so many lists is refused so.
+fn are_refused(alloc: Global, name: &str, refusal: &Refusal) -> Result<[bool; 4], AllocError> {
+    let text = format!(in alloc; "List*{READ}(v: Struct(x, y))")?;
+    let field = named(alloc, name, text.as_str())?;
+    let refused = is_refused(alloc, &field, refusal);
+    std::mem::forget(field);
+    Ok(refused)
+}
+
+/// Whether a report finds no geometries in a column of so many lists without an extension name.
+fn are_other(alloc: Global) -> Result<bool, AllocError> {
+    let field = field_of(alloc, READ)?;
+    let is_other = matches!(check_column(alloc, &field), Ok(Column::Other));
+    std::mem::forget(field);
+    Ok(is_other)
 }
 
 #[test]
 fn are_no_type(rt: HostRuntime) -> Result<(), Fail> {
     let alloc = rt.alloc();
-    let text = format!(in alloc; "List*{READ}(v: Struct(x, y))")?;
-    for &(name, refusal) in NAMES.iter() {
-        let field = named(alloc, name, text.as_str())?;
-        let refused = is_refused(alloc, &field, refusal);
-        assert_eq!(rt; refused, [true; 3], "{name}");
-        let column = check_column(alloc, &field)?;
-        assert_eq!(rt; column, Column::Faulty(refusal.fault()), "{name}");
-        std::mem::forget(field);
+    for (name, refusal) in NAMES.iter() {
+        let refused = are_refused(alloc, name, refusal)?;
+        assert_eq!(rt; refused, [true; 4], "{name}");
     }
-    let field = Field::new(alloc, "g", lists(alloc, READ)?, true)?;
-    assert_eq!(rt; check_column(alloc, &field)?, Column::Other);
-    std::mem::forget(field);
+    assert!(rt; are_other(alloc)?);
     Ok(())
+}
+
+/// Whether a data type equals one of so many lists, and whether it is like it.
+fn compare(alloc: Global, tree: &DataType, count: usize) -> Result<[bool; 2], AllocError> {
+    let other = lists(alloc, count)?;
+    let same = [*tree == other, alike(tree, &other)];
+    std::mem::forget(other);
+    Ok(same)
 }
 
 #[test]
 fn are_compared_to_the_bottom(rt: HostRuntime) -> Result<(), Fail> {
     let alloc = rt.alloc();
     let tree = lists(alloc, COMPARED)?;
-    for &(count, same) in [(COMPARED, true), (COMPARED + 1, false)].iter() {
-        let other = lists(alloc, count)?;
-        assert_eq!(rt; tree == other, same, "{count} lists");
-        assert_eq!(rt; alike(&tree, &other), same, "{count} lists");
-        std::mem::forget(other);
-    }
+    let same = compare(alloc, &tree, COMPARED)?;
+    let other = compare(alloc, &tree, COMPARED + 1)?;
     std::mem::forget(tree);
+    assert_eq!(rt; (same, other), ([true; 2], [false; 2]));
     Ok(())
+}
+
+/// Whether the clone of a field's data type is equal to that, and the clone of the field to the field.
+fn are_cloned(alloc: Global, field: &Field) -> Result<[bool; 2], AllocError> {
+    let tree = field.data_type().try_clone(alloc)?;
+    let is_cloned = tree == *field.data_type();
+    drop(tree);
+    Ok([is_cloned, field.try_clone(alloc)? == *field])
 }
 
 #[test]
 fn are_cloned_and_dropped(rt: HostRuntime) -> Result<(), Fail> {
     let alloc = rt.alloc();
     drop(lists(alloc, COMPARED)?);
-    let tree = lists(alloc, CLONED)?;
-    let other = tree.try_clone(alloc)?;
-    assert!(rt; other == tree);
-    let field = Field::new(alloc, "g", tree, true)?;
-    assert!(rt; field.try_clone(alloc)? == field);
-    assert!(rt; *field.data_type() == other);
+    let field = field_of(alloc, CLONED)?;
+    assert_eq!(rt; are_cloned(alloc, &field)?, [true; 2]);
     Ok(())
 }
 
@@ -195,10 +247,15 @@ fn nested(
     Ok(text)
 }
 
+/// The lists as they are printed.
+fn printed(alloc: Global) -> Result<String, AllocError> {
+    let tree = lists(alloc, CLONED)?;
+    format!(in alloc; "{tree:?}")
+}
+
 #[test]
 fn are_printed(rt: HostRuntime) -> Result<(), Fail> {
     let alloc = rt.alloc();
-    let tree = lists(alloc, CLONED)?;
     let wanted = nested(
         alloc,
         CLONED,
@@ -206,14 +263,19 @@ fn are_printed(rt: HostRuntime) -> Result<(), Fail> {
         r#"Struct(Fields { members: [Field { name: "x", data_type: Float64, nullable: false, metadata: {} }, Field { name: "y", data_type: Float64, nullable: false, metadata: {} }] })"#,
         ", nullable: false, metadata: {} })",
     )?;
-    assert!(rt; format!(in alloc; "{tree:?}")? == wanted);
+    assert!(rt; printed(alloc)? == wanted);
     Ok(())
+}
+
+/// The line of a field of the lists.
+fn line(alloc: Global) -> Result<String, AllocError> {
+    let field = field_of(alloc, CLONED)?;
+    field_line(alloc, &field)
 }
 
 #[test]
 fn are_written_as_lines(rt: HostRuntime) -> Result<(), Fail> {
     let alloc = rt.alloc();
-    let field = Field::new(alloc, "g", lists(alloc, CLONED)?, true)?;
     let written = nested(
         alloc,
         CLONED,
@@ -222,7 +284,7 @@ fn are_written_as_lines(rt: HostRuntime) -> Result<(), Fail> {
         "}}",
     )?;
     let wanted = format!(in alloc; r#"{{"name":"g","nullable":true,"type":{written}}}"#)?;
-    assert!(rt; field_line(alloc, &field)? == wanted);
+    assert!(rt; line(alloc)? == wanted);
     Ok(())
 }
 
@@ -235,18 +297,24 @@ const TEXTS: [(usize, bool, bool); 4] = [
     (1_000_000, false, false),
 ];
 
+/// What the line of a field is answered.
+fn answer(alloc: Global, field: &Field) -> Result<String, AllocError> {
+    let line = field_line(alloc, field)?;
+    answer_line(alloc, Command::Read, line.as_bytes())
+}
+
 /// Whether a metadata text is taken, or refused as no JSON, from a field of well-known binary and from the line of that.
 fn is_due(alloc: Global, text: &str, taken: bool) -> Result<[bool; 2], AllocError> {
     let field = described(alloc, "geoarrow.wkb", text, "Binary")?;
-    let answer = answer_line(alloc, Command::Read, field_line(alloc, &field)?.as_bytes())?;
+    let is_read = match GeoArrowType::from_extension_field(alloc, &field) {
+        Ok(found) => taken && found.is_some(),
+        Err(error) => !taken && is_no_json(&error),
+    };
+    let answer = answer(alloc, &field)?;
     let is_answer = if taken {
         answer.as_str().strip_prefix("wkb - - ") == Some(text)
     } else {
         answer.as_str() == "error arrow"
-    };
-    let is_read = match GeoArrowType::from_extension_field(alloc, &field) {
-        Ok(found) => taken && found.is_some(),
-        Err(error) => !taken && is_no_json(&error),
     };
     Ok([is_read, is_answer])
 }
@@ -262,15 +330,20 @@ fn is_no_json(error: &GeoArrowError) -> bool {
     }
 }
 
+/// A metadata text whose CRS opens so many brackets.
+fn brackets(alloc: Global, count: usize, closes: bool) -> Result<String, AllocError> {
+    let close = if closes { "]" } else { "" };
+    let crs = nested(alloc, count, "[", "", close)?;
+    format!(in alloc; r#"{{"crs":{crs}}}"#)
+}
+
 #[test]
 fn texts_nest_to_a_limit(rt: HostRuntime) -> Result<(), Fail> {
     let alloc = rt.alloc();
-    for &(brackets, closes, taken) in TEXTS.iter() {
-        let close = if closes { "]" } else { "" };
-        let crs = nested(alloc, brackets, "[", "", close)?;
-        let text = format!(in alloc; r#"{{"crs":{crs}}}"#)?;
+    for &(count, closes, taken) in TEXTS.iter() {
+        let text = brackets(alloc, count, closes)?;
         let due = is_due(alloc, text.as_str(), taken)?;
-        assert_eq!(rt; due, [true; 2], "{brackets} brackets");
+        assert_eq!(rt; due, [true; 2], "{count} brackets");
     }
     Ok(())
 }

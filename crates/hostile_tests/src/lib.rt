@@ -5,6 +5,6 @@
 #[cfg(test)]
 mod depth;
 #[cfg(test)]
-mod fields;
+mod right;
 #[cfg(test)]
 mod unaided;

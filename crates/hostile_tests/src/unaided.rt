@@ -1,487 +1,274 @@
 //! Calls that take no memory, with every request for it refused.
-use crate::fields::{nothing, plain, spherical};
-use arrow_values::{
-    AppendFault, ArrowError, DataType, Dimensions, ExtensionType, Field, GeoArrowError,
-};
-use geoarrow_layout::{
-    Candidates, alike, append_members, candidates, infer_point, keep_members, parse_box,
-    parse_geometry, parse_geometry_collection, parse_linestring, parse_mixed,
-    parse_multilinestring, parse_multipoint, parse_multipolygon, parse_point, parse_polygon,
-    parse_wkb, parse_wkt, summarize, written_kind,
-};
-use geoarrow_meta::{Crs, CrsTransform, CrsType, DefaultCrsTransform, Edges, Metadata};
-use geoarrow_native::GeometryTypeId;
-use geoarrow_schema::CoordType::{Interleaved, Separated};
-use geoarrow_schema::Dimension::{XY, XYM, XYZM};
-use geoarrow_schema::{
-    BoxType, Dimension, GeoArrowType, GeometryCollectionType, GeometryType, Kind, LineStringType,
-    MultiLineStringType, MultiPointType, MultiPolygonType, NativeKind, PointType, PolygonType,
-    Width, WkbType,
-};
+//!
+//! A row is a call and what it is made over. That is made first; then all memory is taken away, the call is made, and what
+//! it answers and leaves is compared.
+use crate::right::{Given, is_right};
+use Over::{Column, Error, Json, Nothing, Shared, Single, Text, Trees, Typed, Words};
+use arrow_values::{ArrowError, DataType};
+use geoarrow_schema::CoordType::Separated;
+use geoarrow_schema::Dimension::XY;
+use geoarrow_schema::Kind::{Native, Wkb, Wkt};
+use geoarrow_schema::{CrsType, Kind, Metadata, NativeKind, Width};
 use scarce_memory::without_memory;
 use serde_json::Value;
-use std::alloc::Global;
+use std::alloc::{AllocError, Global};
 use std::sync::Arc;
 use std::test::Fail;
-use test_fields::notation::{column, data_type, members};
+use test_fields::notation::{column, data_type};
 
-/// Calls over a data type, and one that each accepts.
-const READ: [(&str, &str); 16] = [
-    ("parse_point", "Struct(x, y)"),
-    ("parse_linestring", "List(v: Struct(x, y))"),
-    ("parse_polygon", "List*2(v: Struct(x, y))"),
-    ("parse_multipoint", "LargeList(v: Struct(x, y))"),
-    ("parse_multilinestring", "LargeList*2(v: Struct(x, y))"),
-    ("parse_multipolygon", "List*3(v: Struct(x, y))"),
-    ("parse_mixed", "Union(1: Struct(x, y))"),
+/// What a call is made over, as it is spelled.
+enum Over {
+    /// Nothing that takes memory.
+    Nothing,
+    /// Data types.
+    Trees(&'static [&'static str]),
+    /// A text, and the type of the CRS that is made of it.
+    Text(&'static str, Option<CrsType>),
+    /// A JSON value.
+    Json(&'static str),
+    /// A field, by its texts and its data type.
+    Column(&'static [(&'static str, &'static str)], &'static str),
+    /// The metadata of a metadata text, and that of `EPSG:4326` and of edges on a sphere.
+    Words(&'static str),
+    /// Metadata that says nothing, and that of `EPSG:4326` and of edges on a sphere, both shared.
+    Shared,
+    /// Shared metadata that says nothing, and the kind that is wanted.
+    Single(Kind),
+    /// A data type, shared metadata that says nothing, and the kind that belongs to the data type.
+    Typed(&'static str, Kind),
+    /// An error.
+    Error,
+}
+
+/// The metadata text of `EPSG:4326` and of edges on a sphere.
+const SPHERICAL: &str = r#"{"crs":"EPSG:4326","crs_type":"authority_code","edges":"spherical"}"#;
+
+/// A metadata text that says nothing that is written.
+const UNWRITTEN: &str = r#"{"crs_type":"srid"}"#;
+
+/// A union.
+const HERE: &str = "Union(1: Struct(x, y))";
+
+/// Another, which shares a type id with it.
+const OTHER: &str = "Union(2: Utf8, 1: Null)";
+
+/// The calls over data types, and the calls over metadata and what is in it.
+const CALLS: &[(&str, Over)] = &[
+    ("parse_point", Trees(&["Struct(x, y)"])),
+    ("parse_linestring", Trees(&["List(v: Struct(x, y))"])),
+    ("parse_polygon", Trees(&["List*2(v: Struct(x, y))"])),
+    ("parse_multipoint", Trees(&["LargeList(v: Struct(x, y))"])),
+    (
+        "parse_multilinestring",
+        Trees(&["LargeList*2(v: Struct(x, y))"]),
+    ),
+    ("parse_multipolygon", Trees(&["List*3(v: Struct(x, y))"])),
+    ("parse_mixed", Trees(&["Union(1: Struct(x, y))"])),
     (
         "parse_geometry_collection",
-        "List(g: Union(1: Struct(x, y)))",
+        Trees(&["List(g: Union(1: Struct(x, y)))"]),
     ),
-    ("parse_geometry", "Union(1: Struct(x, y))"),
-    ("parse_box", "Struct(a, b, c, d)"),
-    ("parse_wkb", "LargeBinary"),
-    ("parse_wkt", "Utf8View"),
-    ("infer_point", "Struct(a, b)"),
-    ("kind", "List*3(v: Struct(x, y))"),
-    ("written_kind", "List(points: Struct(x, y))"),
-    ("candidates", "List(points: Struct(x, y))"),
-];
-
-/// Whether the call of that name answers of the data type what it has to.
-fn reads(call: &str, tree: &DataType) -> bool {
-    let leaf = (Separated, XY);
-    match call {
-        "parse_point" => parse_point(tree) == Ok(leaf),
-        "parse_linestring" => parse_linestring(tree) == Ok(leaf),
-        "parse_polygon" => parse_polygon(tree) == Ok(leaf),
-        "parse_multipoint" => parse_multipoint(tree) == Ok(leaf),
-        "parse_multilinestring" => parse_multilinestring(tree) == Ok(leaf),
-        "parse_multipolygon" => parse_multipolygon(tree) == Ok(leaf),
-        "parse_mixed" => parse_mixed(tree) == Ok(leaf),
-        "parse_geometry_collection" => parse_geometry_collection(tree) == Ok(leaf),
-        "parse_geometry" => parse_geometry(tree) == Ok(Separated),
-        "parse_box" => parse_box(tree) == Ok(XY),
-        "parse_wkb" => parse_wkb(tree) == Ok(Width::Large),
-        "parse_wkt" => parse_wkt(tree) == Ok(Width::View),
-        "infer_point" => infer_point(tree) == Some(leaf),
-        "kind" => {
-            let kind = Kind::Native(NativeKind::MultiPolygon, Separated, XY);
-            summarize(tree).kind("geoarrow.multipolygon") == Some(kind)
-        }
-        "written_kind" => {
-            let kind = Kind::Native(NativeKind::MultiPoint, Separated, XY);
-            written_kind(tree) == Some(kind)
-        }
-        "candidates" => candidates(tree) == Candidates::LineStringOrMultiPoint,
-        _ => false,
-    }
-}
-
-#[test]
-fn data_types_are_read(rt: HostRuntime) -> Result<(), Fail> {
-    let alloc = rt.alloc();
-    for &(call, text) in READ.iter() {
-        let tree = data_type(alloc, text)?;
-        let right = without_memory(alloc, || reads(call, &tree))?;
-        assert!(rt; right, "{call} of {text}");
-    }
-    Ok(())
-}
-
-#[test]
-fn data_types_are_compared(rt: HostRuntime) -> Result<(), Fail> {
-    let alloc = rt.alloc();
-    let pair = data_type(alloc, "Struct(x, y)")?;
-    let two = data_type(alloc, "FixedSizeList(xy, 2)")?;
-    let answers = without_memory(alloc, || (alike(&pair, &pair), alike(&pair, &two)))?;
-    assert_eq!(rt; answers, (true, false));
-    Ok(())
-}
-
-#[test]
-fn unions_lose_members(rt: HostRuntime) -> Result<(), Fail> {
-    let alloc = rt.alloc();
-    let mut kept = members(alloc, "1: Struct(x, y), 2: Utf8, 3: Null")?;
-    without_memory(alloc, || keep_members(&mut kept, &[3, 1]))?;
-    assert!(rt; kept == members(alloc, "1: Struct(x, y), 3: Null")?);
-    without_memory(alloc, || kept.retain_ids(&[3]))?;
-    assert!(rt; kept == members(alloc, "3: Null")?);
-    Ok(())
-}
-
-#[test]
-fn unions_that_share_an_id_stay(rt: HostRuntime) -> Result<(), Fail> {
-    let alloc = rt.alloc();
-    for speaks_of_layouts in [false, true].iter() {
-        let mut here = members(alloc, "1: Struct(x, y)")?;
-        let other = members(alloc, "2: Utf8, 1: Null")?;
-        let joined = without_memory(alloc, || {
-            if *speaks_of_layouts {
-                append_members(&mut here, other)
-            } else {
-                here.append(other)
-            }
-        })?;
-        let Err((other, fault)) = joined else {
-            return Err(Fail::new("1 is repeated"));
-        };
-        assert_eq!(rt; fault, AppendFault::RepeatedId(1));
-        assert!(rt; here == members(alloc, "1: Struct(x, y)")?);
-        assert!(rt; other == members(alloc, "2: Utf8, 1: Null")?);
-    }
-    Ok(())
-}
-
-#[test]
-fn metadata_is_not_written(rt: HostRuntime) -> Result<(), Fail> {
-    let alloc = rt.alloc();
-    let given = Metadata::deserialize(alloc, Some(r#"{"crs_type":"srid"}"#))?;
-    let other = spherical(alloc)?;
-    let right = without_memory(alloc, || {
-        let plain = Metadata::default();
-        [
-            Metadata::deserialize(alloc, None).is_ok_and(|read| read == Metadata::default()),
-            given.serialize(alloc).is_ok_and(|text| text.is_none()),
-            given.to_value(alloc).is_ok_and(|value| value.is_none()),
-            given.same_written(&plain),
-            !given.same_written(&other),
-            given.normalized() == plain,
-        ]
-    })?;
-    assert_eq!(rt; right, [true; 6]);
-    Ok(())
-}
-
-#[test]
-fn words_of_metadata(rt: HostRuntime) -> Result<(), Fail> {
-    let words = without_memory(rt.alloc(), || {
-        (
-            CrsType::from_text("wkt2:2019"),
-            Edges::from_text("karney"),
-            CrsType::Srid.as_text(),
-            Edges::Vincenty.as_text(),
-        )
-    })?;
-    assert_eq!(rt;
-        (words.0, words.1),
-        (Some(CrsType::Wkt2_2019), Some(Edges::Karney))
-    );
-    assert_eq!(rt; (words.2, words.3), ("srid", "vincenty"));
-    Ok(())
-}
-
-/// Texts of a CRS, and what each is written as.
-const TEXTS: [(&str, Option<CrsType>); 4] = [
-    ("TESTCRS[]", Some(CrsType::Wkt2_2019)),
-    ("EPSG:4326", Some(CrsType::AuthorityCode)),
-    ("1234", Some(CrsType::Srid)),
-    ("X", None),
-];
-
-/// Makes the CRS of a text that is written so; none where it is no such text.
-fn made(text: String, crs_type: Option<CrsType>) -> Option<Crs> {
-    match crs_type {
-        Some(CrsType::Wkt2_2019) => Some(Crs::from_wkt2_2019(text)),
-        Some(CrsType::AuthorityCode) => {
-            if Crs::is_authority_code(text.as_str()) {
-                Some(Crs::from_authority_code(text))
-            } else {
-                None
-            }
-        }
-        Some(CrsType::Srid) => Some(Crs::from_srid(text)),
-        Some(CrsType::Projjson) => None,
-        None => Some(Crs::from_unknown_crs_type(text)),
-    }
-}
-
-#[test]
-fn a_crs_is_made_of_a_text(rt: HostRuntime) -> Result<(), Fail> {
-    let alloc = rt.alloc();
-    for &(text, crs_type) in TEXTS.iter() {
-        let given = String::from_str(alloc, text)?;
-        let right = without_memory(alloc, || match made(given, crs_type) {
-            Some(crs) => {
-                crs.crs_type() == crs_type && crs.crs_value().and_then(Value::as_str) == Some(text)
-            }
-            None => false,
-        })?;
-        assert!(rt; right, "{text}");
-    }
-    Ok(())
-}
-
-#[test]
-fn a_crs_is_made_of_projjson(rt: HostRuntime) -> Result<(), Fail> {
-    let alloc = rt.alloc();
-    let given = Value::from_str(alloc, "{}")?;
-    let broken = Value::from_str(alloc, r#"{"a":1.5}"#)?;
-    let right = without_memory(alloc, || {
-        let tests = [
-            Crs::is_authority_code("EPSG:4326"),
-            !Crs::is_authority_code("EPSG4326"),
-            !Crs::is_projjson(&Value::Null),
-            !Crs::is_projjson(&broken),
-        ];
-        if !Crs::is_projjson(&given) {
-            return false;
-        }
-        let crs = Crs::from_projjson(given);
-        tests == [true; 4]
-            && crs.crs_type() == Some(CrsType::Projjson)
-            && crs.crs_value().is_some_and(Value::is_object)
-    })?;
-    assert!(rt; right);
-    Ok(())
-}
-
-#[test]
-fn nothing_is_converted(rt: HostRuntime) -> Result<(), Fail> {
-    let alloc = rt.alloc();
-    let srid = Crs::from_srid(String::from_str(alloc, "1234")?);
-    let none = DefaultCrsTransform {};
-    let right = without_memory(alloc, || {
-        [
-            matches!(none._convert_to_projjson(alloc, &srid), Ok(None)),
-            matches!(none._convert_to_wkt(alloc, &srid), Ok(None)),
-            matches!(none.extract_projjson(alloc, &srid), Ok(None)),
-            matches!(none.extract_wkt(alloc, &srid), Ok(None)),
-        ]
-    })?;
-    assert_eq!(rt; right, [true; 4]);
-    Ok(())
-}
-
-#[test]
-fn types_on_data_types_that_agree(rt: HostRuntime) -> Result<(), Fail> {
-    let alloc = rt.alloc();
-    let pair = data_type(alloc, "Struct(x, y)")?;
-    let shared = nothing(alloc)?;
-    let bytes = WkbType::new(shared.clone()?);
-    let right = without_memory(alloc, || {
-        let Ok(point) = PointType::try_new(alloc, &pair, shared) else {
-            return [false; 5];
-        };
-        [
-            (point.coord_type(), point.dimension()) == (Separated, XY),
-            **point.metadata() == Metadata::default(),
-            point.supports_data_type(alloc, &pair).is_ok(),
-            bytes
-                .supports_data_type(alloc, &DataType::BinaryView)
-                .is_ok(),
-            matches!(bytes.serialize_metadata(alloc), Ok(None)),
-        ]
-    })?;
-    assert_eq!(rt; right, [true; 5]);
-    Ok(())
-}
-
-/// Whether neither reading nor writing anew finds a GeoArrow name on a field.
-fn is_unnamed(alloc: Global, field: &Field) -> bool {
-    matches!(GeoArrowType::from_extension_field(alloc, field), Ok(None))
-        && matches!(GeoArrowType::canonical_field(alloc, field), Ok(None))
-}
-
-/// Extension names, metadata texts and data types of fields without a GeoArrow name.
-const UNNAMED: [(&str, &[(&str, &str)], &str); 3] = [
-    ("no name", &[], "Struct(x, y)"),
+    ("parse_geometry", Trees(&["Union(1: Struct(x, y))"])),
+    ("parse_box", Trees(&["Struct(a, b, c, d)"])),
+    ("parse_wkb", Trees(&["LargeBinary"])),
+    ("parse_wkt", Trees(&["Utf8View"])),
+    ("infer_point", Trees(&["Struct(a, b)"])),
+    ("kind", Trees(&["List*3(v: Struct(x, y))"])),
+    ("written_kind", Trees(&["List(points: Struct(x, y))"])),
+    ("candidates", Trees(&["List(points: Struct(x, y))"])),
+    ("alike", Trees(&["Struct(x, y)", "FixedSizeList(xy, 2)"])),
+    (
+        "keep_members",
+        Trees(&[
+            "Union(1: Struct(x, y), 2: Utf8, 3: Null)",
+            "Union(1: Struct(x, y), 3: Null)",
+        ]),
+    ),
+    (
+        "retain_ids",
+        Trees(&["Union(1: Struct(x, y), 3: Null)", "Union(3: Null)"]),
+    ),
+    ("append", Trees(&[HERE, OTHER, HERE, OTHER])),
+    ("append_members", Trees(&[HERE, OTHER, HERE, OTHER])),
+    ("deserialize", Nothing),
+    ("serialize", Words(UNWRITTEN)),
+    ("to_value", Words(UNWRITTEN)),
+    ("same_written", Words(UNWRITTEN)),
+    ("normalized", Words(UNWRITTEN)),
+    ("CrsType::from_text", Nothing),
+    ("CrsType::as_text", Nothing),
+    ("Edges::from_text", Nothing),
+    ("Edges::as_text", Nothing),
+    ("is_authority_code", Nothing),
+    ("is_projjson", Json("null")),
+    ("is_projjson", Json(r#"{"a":1.5}"#)),
+    ("from_projjson", Json("{}")),
+    (
+        "crs_type and crs_value",
+        Text("TESTCRS[]", Some(CrsType::Wkt2_2019)),
+    ),
+    (
+        "crs_type and crs_value",
+        Text("EPSG:4326", Some(CrsType::AuthorityCode)),
+    ),
+    ("crs_type and crs_value", Text("1234", Some(CrsType::Srid))),
+    ("crs_type and crs_value", Text("X", None)),
+    ("_convert_to_projjson", Text("1234", Some(CrsType::Srid))),
+    ("_convert_to_wkt", Text("1234", Some(CrsType::Srid))),
+    ("extract_projjson", Text("1234", Some(CrsType::Srid))),
+    ("extract_wkt", Text("1234", Some(CrsType::Srid))),
+    ("try_from_dimensions", Nothing),
+    ("no name", Column(&[], "Struct(x, y)")),
     (
         "another case",
-        &[("ARROW:extension:name", "geoarrow.Point")],
-        "Struct(x, y)",
+        Column(
+            &[("ARROW:extension:name", "geoarrow.Point")],
+            "Struct(x, y)",
+        ),
     ),
     (
         "another name",
-        &[
-            ("ARROW:extension:metadata", "not valid json"),
-            ("ARROW:extension:name", "example.other"),
-        ],
-        "Binary",
+        Column(
+            &[
+                ("ARROW:extension:metadata", "not valid json"),
+                ("ARROW:extension:name", "example.other"),
+            ],
+            "Binary",
+        ),
     ),
+    ("parts of PointType", Shared),
+    ("parts of BoxType", Shared),
+    ("parts of GeometryType", Shared),
+    ("parts of WkbType", Shared),
+    ("parts of GeoArrowType", Shared),
+    ("same_written of GeoArrowType", Shared),
+    ("normalized of GeoArrowType", Shared),
+    ("supports_data_type of WkbType", Shared),
+    ("serialize_metadata of WkbType", Shared),
+    ("geometry_type_id of MultiPolygonType", Shared),
+    (
+        "try_new of PointType",
+        Typed("Struct(x, y)", Native(NativeKind::Point, Separated, XY)),
+    ),
+    (
+        "data types of GeoArrowType",
+        Typed("Binary", Wkb(Width::Plain)),
+    ),
+    (
+        "data types of GeoArrowType",
+        Typed("LargeBinary", Wkb(Width::Large)),
+    ),
+    (
+        "data types of GeoArrowType",
+        Typed("BinaryView", Wkb(Width::View)),
+    ),
+    (
+        "data types of GeoArrowType",
+        Typed("Utf8", Wkt(Width::Plain)),
+    ),
+    (
+        "data types of GeoArrowType",
+        Typed("LargeUtf8", Wkt(Width::Large)),
+    ),
+    (
+        "data types of GeoArrowType",
+        Typed("Utf8View", Wkt(Width::View)),
+    ),
+    (
+        "From<PointType>",
+        Single(Native(NativeKind::Point, Separated, XY)),
+    ),
+    (
+        "From<LineStringType>",
+        Single(Native(NativeKind::LineString, Separated, XY)),
+    ),
+    (
+        "From<PolygonType>",
+        Single(Native(NativeKind::Polygon, Separated, XY)),
+    ),
+    (
+        "From<MultiPointType>",
+        Single(Native(NativeKind::MultiPoint, Separated, XY)),
+    ),
+    (
+        "From<MultiLineStringType>",
+        Single(Native(NativeKind::MultiLineString, Separated, XY)),
+    ),
+    (
+        "From<MultiPolygonType>",
+        Single(Native(NativeKind::MultiPolygon, Separated, XY)),
+    ),
+    (
+        "From<GeometryCollectionType>",
+        Single(Native(NativeKind::GeometryCollection, Separated, XY)),
+    ),
+    ("From<BoxType>", Single(Kind::Rect(XY))),
+    ("From<GeometryType>", Single(Kind::Geometry(Separated))),
+    ("into_arrow_error", Error),
 ];
 
-#[test]
-fn fields_without_a_geoarrow_name(rt: HostRuntime) -> Result<(), Fail> {
-    let alloc = rt.alloc();
-    for &(name, texts, data_type) in UNNAMED.iter() {
-        let field = column(alloc, texts, data_type)?;
-        let right = without_memory(alloc, || is_unnamed(alloc, &field))?;
-        assert!(rt; right, "{name}");
+/// The data types of texts.
+fn trees(alloc: Global, texts: &[&str]) -> Result<Vec<DataType>, AllocError> {
+    let mut trees = Vec::new(alloc);
+    for text in texts {
+        trees.push(data_type(alloc, text)?)?;
     }
-    Ok(())
+    Ok(trees)
 }
 
-/// Whether a metadata is that of `EPSG:4326` and of edges on a sphere.
-fn is_spherical(metadata: &Metadata) -> bool {
-    let text = metadata.crs().crs_value().and_then(Value::as_str);
-    text == Some("EPSG:4326") && metadata.edges() == Some(Edges::Spherical)
+/// The metadata of a text.
+fn metadata(alloc: Global, text: &str) -> Result<Metadata, AllocError> {
+    match Metadata::deserialize(alloc, Some(text)) {
+        Ok(metadata) => Ok(metadata),
+        Err(_) => Err(AllocError),
+    }
 }
 
-/// Whether each `with_` call of a single type puts in its part, from one metadata to another.
-fn takes_parts(single: &str, given: Arc<Metadata>, wanted: Arc<Metadata>) -> bool {
-    match single {
-        "PointType" => {
-            let (coord_type, dimension, metadata) = PointType::new(XY, given)
-                .with_coord_type(Interleaved)
-                .with_dimension(XYZM)
-                .with_metadata(wanted)
-                .into_inner();
-            (coord_type, dimension) == (Interleaved, XYZM) && is_spherical(&metadata)
+/// The same, shared.
+fn shared(alloc: Global, text: &str) -> Result<Arc<Metadata>, AllocError> {
+    Ok(Arc::new(alloc, metadata(alloc, text)?)?)
+}
+
+/// Makes what a call is made over.
+fn make(alloc: Global, over: &Over) -> Result<Given, AllocError> {
+    match over {
+        Over::Nothing => Ok(Given::Nothing),
+        Over::Trees(texts) => Ok(Given::Trees(trees(alloc, texts)?)),
+        Over::Text(text, crs_type) => {
+            Ok(Given::Text(String::from_str(alloc, text)?, text, *crs_type))
         }
-        "BoxType" => {
-            let rect = BoxType::new(XY, given)
-                .with_dimension(XYM)
-                .with_metadata(wanted);
-            rect.dimension() == XYM && is_spherical(rect.metadata())
+        Over::Json(text) => match Value::from_str(alloc, text) {
+            Ok(value) => Ok(Given::Json(value)),
+            Err(_) => Err(AllocError),
+        },
+        Over::Column(texts, tree) => Ok(Given::Field(column(alloc, texts, tree)?)),
+        Over::Words(text) => {
+            let given = metadata(alloc, text)?;
+            Ok(Given::Metadata(given, metadata(alloc, SPHERICAL)?))
         }
-        "GeometryType" => {
-            let geometry = GeometryType::new(given)
-                .with_coord_type(Interleaved)
-                .with_metadata(wanted);
-            geometry.coord_type() == Interleaved && is_spherical(geometry.metadata())
+        Over::Shared => {
+            let plain = shared(alloc, "{}")?;
+            Ok(Given::Shared(plain, shared(alloc, SPHERICAL)?))
         }
-        "WkbType" => is_spherical(WkbType::new(given).with_metadata(wanted).metadata()),
-        _ => false,
-    }
-}
-
-#[test]
-fn parts_of_single_types(rt: HostRuntime) -> Result<(), Fail> {
-    let alloc = rt.alloc();
-    for single in ["PointType", "BoxType", "GeometryType", "WkbType"].iter() {
-        let given = nothing(alloc)?;
-        let wanted = spherical(alloc)?;
-        let right = without_memory(alloc, || takes_parts(single, given, wanted))?;
-        assert!(rt; right, "{single}");
-    }
-    Ok(())
-}
-
-#[test]
-fn parts_of_any_type(rt: HostRuntime) -> Result<(), Fail> {
-    let alloc = rt.alloc();
-    let given = plain(alloc, Kind::Native(NativeKind::LineString, Separated, XY))?;
-    let wanted = spherical(alloc)?;
-    let right = without_memory(alloc, || {
-        let Ok(shared) = wanted.clone() else {
-            return [false; 6];
-        };
-        let changed = given
-            .with_coord_type(Interleaved)
-            .with_dimension(XYZM)
-            .with_metadata(shared);
-        let kind = Kind::Native(NativeKind::LineString, Interleaved, XYZM);
-        let rect = BoxType::new(XY, wanted);
-        [
-            changed.kind() == kind,
-            changed.coord_type() == Some(Interleaved),
-            changed.dimension() == Some(XYZM),
-            changed.same_written(&changed),
-            !changed.same_written(&GeoArrowType::from(rect)),
-            changed.normalized(alloc).is_ok_and(|normal| normal.kind() == kind
-                && normal.metadata().edges() == Some(Edges::Spherical)),
-        ]
-    })?;
-    assert_eq!(rt; right, [true; 6]);
-    Ok(())
-}
-
-#[test]
-fn numbers_of_types_and_dimensions(rt: HostRuntime) -> Result<(), Fail> {
-    let alloc = rt.alloc();
-    let polygons = MultiPolygonType::new(XYM, nothing(alloc)?);
-    let (id, dimension) = without_memory(alloc, || {
-        let dimension = Dimension::try_from_dimensions(alloc, Dimensions::Xym);
-        (polygons.geometry_type_id(), dimension.ok())
-    })?;
-    assert_eq!(rt; (id, dimension), (26, Some(XYM)));
-    Ok(())
-}
-
-/// The data types of well-known binary and text.
-const SERIALIZED: [(Kind, &str); 6] = [
-    (Kind::Wkb(Width::Plain), "Binary"),
-    (Kind::Wkb(Width::Large), "LargeBinary"),
-    (Kind::Wkb(Width::View), "BinaryView"),
-    (Kind::Wkt(Width::Plain), "Utf8"),
-    (Kind::Wkt(Width::Large), "LargeUtf8"),
-    (Kind::Wkt(Width::View), "Utf8View"),
-];
-
-/// Whether both calls give the data type.
-fn gives(alloc: Global, given: GeoArrowType, wanted: &DataType) -> bool {
-    let is_given = given
-        .to_data_type(alloc)
-        .is_ok_and(|found| found == *wanted);
-    is_given
-        && given
-            .into_data_type(alloc)
-            .is_ok_and(|found| found == *wanted)
-}
-
-#[test]
-fn data_types_of_serialized_types(rt: HostRuntime) -> Result<(), Fail> {
-    let alloc = rt.alloc();
-    for &(kind, text) in SERIALIZED.iter() {
-        let given = plain(alloc, kind)?;
-        let wanted = data_type(alloc, text)?;
-        let right = without_memory(alloc, || gives(alloc, given, &wanted))?;
-        assert!(rt; right, "{text}");
-    }
-    Ok(())
-}
-
-/// The kinds of the types that `From` takes, in order.
-const TAKEN: [Kind; 9] = [
-    Kind::Native(NativeKind::Point, Separated, XY),
-    Kind::Native(NativeKind::LineString, Separated, XY),
-    Kind::Native(NativeKind::Polygon, Separated, XY),
-    Kind::Native(NativeKind::MultiPoint, Separated, XY),
-    Kind::Native(NativeKind::MultiLineString, Separated, XY),
-    Kind::Native(NativeKind::MultiPolygon, Separated, XY),
-    Kind::Native(NativeKind::GeometryCollection, Separated, XY),
-    Kind::Rect(XY),
-    Kind::Geometry(Separated),
-];
-
-/// What `From` makes of the single type of that number.
-fn taken(number: usize, shared: Arc<Metadata>) -> GeoArrowType {
-    match number {
-        0 => GeoArrowType::from(PointType::new(XY, shared)),
-        1 => GeoArrowType::from(LineStringType::new(XY, shared)),
-        2 => GeoArrowType::from(PolygonType::new(XY, shared)),
-        3 => GeoArrowType::from(MultiPointType::new(XY, shared)),
-        4 => GeoArrowType::from(MultiLineStringType::new(XY, shared)),
-        5 => GeoArrowType::from(MultiPolygonType::new(XY, shared)),
-        6 => GeoArrowType::from(GeometryCollectionType::new(XY, shared)),
-        7 => GeoArrowType::from(BoxType::new(XY, shared)),
-        _ => GeoArrowType::from(GeometryType::new(shared)),
-    }
-}
-
-#[test]
-fn types_of_single_types(rt: HostRuntime) -> Result<(), Fail> {
-    let alloc = rt.alloc();
-    for (number, kind) in TAKEN.iter().enumerate() {
-        let shared = nothing(alloc)?;
-        let found = without_memory(alloc, || taken(number, shared).kind())?;
-        assert_eq!(rt; found, *kind, "From {number}");
-    }
-    Ok(())
-}
-
-#[test]
-fn errors_of_arrow(rt: HostRuntime) -> Result<(), Fail> {
-    let alloc = rt.alloc();
-    let text = String::from_str(alloc, "no struct")?;
-    let right = without_memory(alloc, || {
-        let error = GeoArrowError::from(ArrowError::SchemaError(text));
-        match error.into_arrow_error(alloc) {
-            Ok(ArrowError::SchemaError(text)) => text.as_str() == "no struct",
-            _ => false,
+        Over::Single(kind) => Ok(Given::Single(shared(alloc, "{}")?, *kind)),
+        Over::Typed(tree, kind) => {
+            let tree = data_type(alloc, tree)?;
+            Ok(Given::Typed(tree, shared(alloc, "{}")?, *kind))
         }
-    })?;
-    assert!(rt; right);
+        Over::Error => {
+            let text = String::from_str(alloc, "no struct")?;
+            Ok(Given::Error(ArrowError::SchemaError(text)))
+        }
+    }
+}
+
+#[test]
+fn calls_take_no_memory(rt: HostRuntime) -> Result<(), Fail> {
+    let alloc = rt.alloc();
+    for (number, (call, over)) in CALLS.iter().enumerate() {
+        let given = make(alloc, over)?;
+        let right = without_memory(alloc, || is_right(alloc, call, given))?;
+        assert!(rt; right, "{call}, in row {number}");
+    }
     Ok(())
 }
