@@ -159,24 +159,24 @@ fn over_metadata(alloc: Global, call: &str, given: Metadata, other: &Metadata) -
     }
 }
 
-/// Makes the CRS of a text that is written so; none where it is no such text.
-fn crs_of(text: String, crs_type: Option<CrsType>) -> Option<Crs> {
-    match crs_type {
-        Some(CrsType::Wkt2_2019) => Some(Crs::from_wkt2_2019(text)),
-        Some(CrsType::AuthorityCode) => {
+/// The CRS that the call of that name makes of a text, and `from_srid` for a call over a CRS; none where it takes no such
+/// text.
+fn crs_of(call: &str, text: String) -> Option<Crs> {
+    match call {
+        "from_wkt2_2019" => Some(Crs::from_wkt2_2019(text)),
+        "from_authority_code" => {
             if Crs::is_authority_code(text.as_str()) {
                 Some(Crs::from_authority_code(text))
             } else {
                 None
             }
         }
-        Some(CrsType::Srid) => Some(Crs::from_srid(text)),
-        Some(CrsType::Projjson) => None,
-        None => Some(Crs::from_unknown_crs_type(text)),
+        "from_unknown_crs_type" => Some(Crs::from_unknown_crs_type(text)),
+        _ => Some(Crs::from_srid(text)),
     }
 }
 
-/// Whether a call over a CRS is right that nothing is made of, or that has parts.
+/// Whether a CRS has its parts, and the call of that name makes nothing of it where it is one that converts.
 fn over_crs(
     alloc: Global,
     call: &str,
@@ -184,16 +184,15 @@ fn over_crs(
     (text, crs_type): (&str, Option<CrsType>),
 ) -> bool {
     let none = DefaultCrsTransform {};
-    match call {
-        "crs_type and crs_value" => {
-            crs.crs_type() == crs_type && crs.crs_value().and_then(Value::as_str) == Some(text)
-        }
+    let makes_nothing = match call {
         "_convert_to_projjson" => matches!(none._convert_to_projjson(alloc, crs), Ok(None)),
         "_convert_to_wkt" => matches!(none._convert_to_wkt(alloc, crs), Ok(None)),
         "extract_projjson" => matches!(none.extract_projjson(alloc, crs), Ok(None)),
         "extract_wkt" => matches!(none.extract_wkt(alloc, crs), Ok(None)),
-        _ => false,
-    }
+        _ => true,
+    };
+    let found = crs.crs_value().and_then(Value::as_str);
+    makes_nothing && crs.crs_type() == crs_type && found == Some(text)
 }
 
 /// Whether an error of Arrow stays what it is.
@@ -211,7 +210,7 @@ fn over_text(
     given: String,
     (text, crs_type): (&str, Option<CrsType>),
 ) -> bool {
-    match crs_of(given, crs_type) {
+    match crs_of(call, given) {
         Some(crs) => over_crs(alloc, call, &crs, (text, crs_type)),
         None => false,
     }

@@ -22,7 +22,7 @@ enum Over {
     Nothing,
     /// Data types.
     Trees(&'static [&'static str]),
-    /// A text, and the type of the CRS that is made of it.
+    /// A text, and the type of the CRS that is made of it, as it has to be.
     Text(&'static str, Option<CrsType>),
     /// A JSON value.
     Json(&'static str),
@@ -104,15 +104,15 @@ const CALLS: &[(&str, Over)] = &[
     ("is_projjson", Json(r#"{"a":1.5}"#)),
     ("from_projjson", Json("{}")),
     (
-        "crs_type and crs_value",
+        "from_wkt2_2019",
         Text("TESTCRS[]", Some(CrsType::Wkt2_2019)),
     ),
     (
-        "crs_type and crs_value",
+        "from_authority_code",
         Text("EPSG:4326", Some(CrsType::AuthorityCode)),
     ),
-    ("crs_type and crs_value", Text("1234", Some(CrsType::Srid))),
-    ("crs_type and crs_value", Text("X", None)),
+    ("from_srid", Text("1234", Some(CrsType::Srid))),
+    ("from_unknown_crs_type", Text("X", None)),
     ("_convert_to_projjson", Text("1234", Some(CrsType::Srid))),
     ("_convert_to_wkt", Text("1234", Some(CrsType::Srid))),
     ("extract_projjson", Text("1234", Some(CrsType::Srid))),
