@@ -14,6 +14,7 @@ pub fn open_object(reader: &mut Reader<'_>, depth: usize) -> Result<Option<usize
     ensures ok { IfOk result (λ o. OpensObject depth reader.old o reader.new) }
     ensures shorter { OnOk result (length reader.new < length reader.old) }
     ensures text { result ≡ Err Refusal.Text → next_value depth reader.old ≡ None }
+    ensures never_memory { result ≡ Err Refusal.Memory → ⊥ }
 {
     let token = reader.next().ok_or(Refusal::Text)?;
     match token {
@@ -37,6 +38,7 @@ pub fn open_array(reader: &mut Reader<'_>, depth: usize) -> Result<Option<usize>
     ensures ok { IfOk result (λ o. OpensArray depth reader.old o reader.new) }
     ensures shorter { OnOk result (length reader.new < length reader.old) }
     ensures text { result ≡ Err Refusal.Text → next_value depth reader.old ≡ None }
+    ensures never_memory { result ≡ Err Refusal.Memory → ⊥ }
 {
     let token = reader.next().ok_or(Refusal::Text)?;
     match token {

@@ -17,6 +17,7 @@ pub fn read_str<'a>(reader: &mut Reader<'a>, depth: usize) -> Result<Option<&'a 
     ensures ok { IfOk result (λ o. Reads as_str depth reader.old (option_map (λ s. s.now) o) reader.new) }
     ensures shorter { OnOk result (length reader.new < length reader.old) }
     ensures text { result ≡ Err Refusal.Text → next_value depth reader.old ≡ None }
+    ensures never_memory { result ≡ Err Refusal.Memory → ⊥ }
 {
     let token = reader.next().ok_or(Refusal::Text)?;
     match token {
@@ -51,6 +52,7 @@ pub fn read_bool(reader: &mut Reader<'_>, depth: usize) -> Result<Option<bool>, 
     ensures ok { IfOk result (λ o. Reads as_bool depth reader.old o reader.new) }
     ensures shorter { OnOk result (length reader.new < length reader.old) }
     ensures text { result ≡ Err Refusal.Text → next_value depth reader.old ≡ None }
+    ensures never_memory { result ≡ Err Refusal.Memory → ⊥ }
 {
     let token = reader.next().ok_or(Refusal::Text)?;
     match token {
@@ -68,6 +70,7 @@ pub fn read_number(reader: &mut Reader<'_>, depth: usize) -> Result<Option<Numbe
     ensures ok { IfOk result (λ o. Reads as_number depth reader.old (option_map number_view o) reader.new) }
     ensures shorter { OnOk result (length reader.new < length reader.old) }
     ensures text { result ≡ Err Refusal.Text → next_value depth reader.old ≡ None }
+    ensures never_memory { result ≡ Err Refusal.Memory → ⊥ }
 {
     let token = reader.next().ok_or(Refusal::Text)?;
     match token {

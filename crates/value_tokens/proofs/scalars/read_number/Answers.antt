@@ -31,4 +31,4 @@ returns-in_ok-skip_rest-in_default c =
     let less = c.in_ok-skip_rest-in_default.ensures.shorter in
     let far : length c.args.reader.now ≡ length (token_of c.in_ok-token.token ∷ c.next.new.self) = ap length first in
     let d = passed c.args.depth c.in_ok-token.token c.args.reader.now c.next.new.self c.skip_rest.new.reader first c.in_ok-skip_rest-in_default.ensures.ok in
-    record { ok = (d.0, d.1, sym (no_numeral c.in_ok-token.token d.0 d.2 c.in_default.not-Number)); shorter = omega arith; text = λ never. cc }
+    record { ok = (d.0, d.1, sym (no_numeral c.in_ok-token.token d.0 d.2 c.in_default.not-Number)); shorter = omega arith; text = λ never. cc; never_memory = λ is. cc }
