@@ -29,17 +29,36 @@ const KINDS: [Kind; 15] = [
     Kind::Wkt(Width::View),
 ];
 
+/// Whether the types of two kinds, both of the metadata of `spherical`, are equal.
+fn are_equal(alloc: Global, one: Kind, other: Kind) -> Result<bool, Fail> {
+    let one = GeoArrowType::from_kind(one, spherical(alloc)?);
+    Ok(one == GeoArrowType::from_kind(other, spherical(alloc)?))
+}
+
+/// Whether a type of a kind is equal to that of other metadata.
+fn ignores_metadata(alloc: Global, kind: Kind) -> Result<bool, Fail> {
+    let one = GeoArrowType::from_kind(kind, spherical(alloc)?);
+    Ok(one == GeoArrowType::from_kind(kind, plain(alloc)?))
+}
+
+/// Whether a type of a kind, its clone and another of the same parts are equal and hash equally.
+fn is_cloned(alloc: Global, kind: Kind) -> Result<bool, Fail> {
+    let one = GeoArrowType::from_kind(kind, spherical(alloc)?);
+    Ok(
+        are_same(&one, &one.try_clone(alloc)?)
+            && are_same(&one, &GeoArrowType::from_kind(kind, spherical(alloc)?)),
+    )
+}
+
 #[test]
 fn are_equal_where_kind_and_metadata_are(rt: HostRuntime) -> Result<(), Fail> {
     let alloc = rt.alloc();
     for &kind in KINDS.iter() {
-        let one = GeoArrowType::from_kind(kind, spherical(alloc)?);
         for &other in KINDS.iter() {
-            let found = GeoArrowType::from_kind(other, spherical(alloc)?);
-            assert_eq!(rt; one == found, kind == other, "{kind:?} and {other:?}");
+            let found = are_equal(alloc, kind, other)?;
+            assert_eq!(rt; found, kind == other, "{kind:?} and {other:?}");
         }
-        let other = GeoArrowType::from_kind(kind, plain(alloc)?);
-        assert!(rt; one != other, "{kind:?}");
+        assert!(rt; !ignores_metadata(alloc, kind)?, "{kind:?}");
     }
     Ok(())
 }
@@ -48,11 +67,7 @@ fn are_equal_where_kind_and_metadata_are(rt: HostRuntime) -> Result<(), Fail> {
 fn are_cloned(rt: HostRuntime) -> Result<(), Fail> {
     let alloc = rt.alloc();
     for &kind in KINDS.iter() {
-        let one = GeoArrowType::from_kind(kind, spherical(alloc)?);
-        let other = one.try_clone(alloc)?;
-        assert!(rt; are_same(&one, &other), "{kind:?}");
-        let other = GeoArrowType::from_kind(kind, spherical(alloc)?);
-        assert!(rt; are_same(&one, &other), "{kind:?}");
+        assert!(rt; is_cloned(alloc, kind)?, "{kind:?}");
     }
     Ok(())
 }

@@ -55,14 +55,25 @@ fn refused(alloc: Global) -> GeoArrowResult<GeoArrowType> {
 }
 
 #[test]
-fn reach_what_stands_below(rt: HostRuntime) -> Result<(), Fail> {
+fn reach_boxes(rt: HostRuntime) -> Result<(), Fail> {
     let alloc = rt.alloc();
     let rect: RectType = BoxType::new(XY, spherical(alloc)?);
-    assert!(rt;
-        GeoArrowType::Rect(rect) == GeoArrowType::from(BoxType::new(XY, spherical(alloc)?))
-    );
+    let other = GeoArrowType::from(BoxType::new(XY, spherical(alloc)?));
+    assert!(rt; GeoArrowType::Rect(rect) == other);
+    Ok(())
+}
+
+#[test]
+fn reach_ids_and_errors(rt: HostRuntime) -> Result<(), Fail> {
+    let alloc = rt.alloc();
     assert_eq!(rt; id_of(&MultiPolygonType::new(XY, plain(alloc)?)), 6);
     assert!(rt; matches!(refused(alloc), Err(GeoArrowError::InvalidGeoArrow(_))));
+    Ok(())
+}
+
+#[test]
+fn reach_coordinate_reference_systems(rt: HostRuntime) -> Result<(), Fail> {
+    let alloc = rt.alloc();
     let crs: geoarrow_schema::crs::Crs = Crs::from_srid(String::from_str(alloc, "1234")?);
     let crs_type: Option<geoarrow_schema::crs::CrsType> = crs.crs_type();
     assert_eq!(rt; crs_type, Some(CrsType::Srid));

@@ -35,11 +35,22 @@ fn shape_changes<S: NativeShape>(rt: &impl Abort, alloc: Global, name: &str) -> 
     let one = one.with_dimension(XYZ);
     assert_eq!(rt; parts(&one), (Interleaved, XYZ, SPHERICAL), "{name}");
     assert!(rt; prints(alloc, &one, name)?, "{name}");
-    let one = one.with_metadata(plain(alloc)?);
-    assert_eq!(rt; parts(&one), (Interleaved, XYZ, None), "{name}");
-    let (coord_type, dimension, metadata) = one.into_inner();
-    assert_eq!(rt; (coord_type, dimension), (Interleaved, XYZ), "{name}");
-    assert!(rt; metadata == plain(alloc)?, "{name}");
+    Ok(())
+}
+
+/// The parts of a native type to which other metadata was given, as one call hands all three out.
+fn shape_comes_apart<S: NativeShape>(
+    rt: &impl Abort,
+    alloc: Global,
+    name: &str,
+) -> Result<(), Fail> {
+    let one = NativeType::<S>::new(XYM, spherical(alloc)?);
+    let (coord_type, dimension, metadata) = one.with_metadata(plain(alloc)?).into_inner();
+    assert_eq!(rt;
+        (coord_type, dimension, metadata.edges()),
+        (Separated, XYM, None),
+        "{name}"
+    );
     Ok(())
 }
 
@@ -59,9 +70,10 @@ fn shape_compares<S: NativeShape>(rt: &impl Abort, alloc: Global, name: &str) ->
     Ok(())
 }
 
-/// Both of one shape.
+/// All three of one shape.
 fn shape<S: NativeShape>(rt: &impl Abort, alloc: Global, name: &str) -> Result<(), Fail> {
     shape_changes::<S>(rt, alloc, name)?;
+    shape_comes_apart::<S>(rt, alloc, name)?;
     shape_compares::<S>(rt, alloc, name)
 }
 

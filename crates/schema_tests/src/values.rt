@@ -1,17 +1,14 @@
-//! Answers compared as values, and the metadata and hashes of the other tests.
+//! Metadata texts read by each type, and the metadata and hashes of the other tests.
 use arrow_values::ExtensionType;
-use geoarrow_schema::Dimension::{XY, XYM};
-use geoarrow_schema::laws::reads_as_one;
 use geoarrow_schema::{
-    BoxType, Crs, CrsType, Edges, GeoArrowType, GeometryCollectionType, GeometryType, Kind,
-    LineStringType, Metadata, MultiLineStringType, MultiPointType, MultiPolygonType, PointType,
-    PolygonType, Width, WkbType, WktType,
+    BoxType, Crs, Edges, GeometryCollectionType, GeometryType, LineStringType, Metadata,
+    MultiLineStringType, MultiPointType, MultiPolygonType, PointType, PolygonType, WkbType,
+    WktType,
 };
 use std::alloc::{AllocError, Global};
 use std::hash::{DefaultHasher, Hash, Hasher};
 use std::sync::Arc;
 use std::test::Fail;
-use test_fields::notation::described;
 
 /// The text of `spherical`.
 const SPHERICAL: &str = r#"{"crs":"EPSG:4326","crs_type":"authority_code","edges":"spherical"}"#;
@@ -64,32 +61,5 @@ fn of_metadata_texts(rt: HostRuntime) -> Result<(), Fail> {
     assert!(rt; reads_metadata::<BoxType>(alloc)?);
     assert!(rt; reads_metadata::<WkbType>(alloc)?);
     assert!(rt; reads_metadata::<WktType>(alloc)?);
-    Ok(())
-}
-
-#[test]
-fn of_inference(rt: HostRuntime) -> Result<(), Fail> {
-    let alloc = rt.alloc();
-    let field = described(alloc, "example.other", SPHERICAL, "Struct(x, y, m)")?;
-    let found = GeoArrowType::from_arrow_field(alloc, &field)?;
-    assert!(rt; found == GeoArrowType::Point(PointType::new(XYM, spherical(alloc)?)));
-    let field = described(alloc, "geoarrow.box", SPHERICAL, "Struct(x, y, z, m)")?;
-    let found = GeoArrowType::from_arrow_field(alloc, &field)?;
-    assert!(rt; found == GeoArrowType::Rect(BoxType::new(XY, spherical(alloc)?)));
-    Ok(())
-}
-
-#[test]
-fn of_a_lone_crs_type(rt: HostRuntime) -> Result<(), Fail> {
-    let alloc = rt.alloc();
-    let field = described(alloc, "geoarrow.wkb", r#"{"crs_type":"srid"}"#, "Binary")?;
-    reads_as_one(&field);
-    let read = GeoArrowType::try_from_field(alloc, &field)?;
-    assert_eq!(rt; read.metadata().crs().crs_type(), Some(CrsType::Srid));
-    assert!(rt; read.metadata().crs().crs_value().is_none());
-    let written = read.to_field(alloc, "g", true)?;
-    let again = GeoArrowType::try_from_field(alloc, &written)?;
-    assert!(rt; again == GeoArrowType::from_kind(Kind::Wkb(Width::Plain), plain(alloc)?));
-    assert!(rt; again != read);
     Ok(())
 }
