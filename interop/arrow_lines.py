@@ -84,8 +84,11 @@ def _parsed(line: str, at: int) -> Any:
     def refused(text: str) -> NoReturn:
         raise SchemaError(f"column {at}: {c_schema.shown(text)} is no JSON")
 
+    def number(text: str) -> Union[int, float]:
+        return float(text) if text == "-0" else int(text)  # -0 is not whole
+
     try:
-        return json.loads(line, parse_constant=refused, parse_int=lambda text: float(text) if text == "-0" else int(text))
+        return json.loads(line, parse_constant=refused, parse_int=number)
     except SchemaError:
         raise
     except (ValueError, RecursionError):
@@ -116,11 +119,11 @@ def _schema_by_pyarrow(path: str) -> Any:
         if path.lower().endswith(".parquet"):
             return parquet.read_schema(path)
         try:
-            with ipc.open_file(path) as file:
-                return file.schema
+            with open(path, "rb") as file:
+                return ipc.open_file(file).schema
         except pyarrow.ArrowInvalid:
-            with open(path, "rb") as stream, ipc.open_stream(stream) as reader:
-                return reader.schema
+            with open(path, "rb") as file:
+                return ipc.open_stream(file).schema
     except (pyarrow.ArrowException, OSError) as error:
         raise FileError(c_schema.shown(str(error).split("\n")[0], 200)) from None
 
@@ -130,9 +133,9 @@ def _words() -> argparse.Namespace:
         description="Prints the schema of a file as the program's lines, a line a column, or checks it.")
     parser.add_argument("file", metavar="FILE", help="a .parquet, .arrow or .feather file, or one that GDAL opens")
     parser.add_argument("--layer", metavar="NAME", help="the layer, where the file has several; else the first")
-    parser.add_argument("--check", action="store_true", help="print what each column holds; status 1 where one is faulty")
+    parser.add_argument("--check", action="store_true", help="print what each column holds")
     parser.add_argument("--json", action="store_true", help="with --check: print it as JSON")
-    parser.add_argument("--program", metavar="PATH", default=str(PROGRAM), help="with --check: the program that is asked")
+    parser.add_argument("--program", metavar="PATH", default=str(PROGRAM), help="with --check: the program to ask")
     words = parser.parse_args()
     if words.json and not words.check:
         parser.error("--json goes with --check")

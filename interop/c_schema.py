@@ -1,13 +1,13 @@
 """Arrow's C data interface: fields out of `ArrowSchema` structures, and structures out of fields.
 
-A field is here what one line of the program holds, as Python's `json` reads it: a dict of `name`, `nullable`, `type` and,
-where there is some, `metadata` (docs/FORMAT.md, 2.1). `columns_of` takes the columns of a schema that somebody else
-made, and `export` makes a structure of ours in a capsule. Nothing but Python's own library is used.
+A field is here what one line of the program holds, as Python's `json` reads it: a dict of `name`, `nullable`, `type`
+and, where there is some, `metadata` (docs/FORMAT.md, 2.1). `columns_of` takes the columns of a schema that somebody
+else made, and `export` makes a structure of ours in a capsule. Nothing but Python's own library is used.
 
 Releasing. What is taken from others is moved into a structure of ours first, which marks theirs as released, and is
-released from there, once, however the reading ends. Of ours each structure of a tree holds what it points at by itself,
-until its release callback is called, so that a consumer may move a child out of its parent. The capsule's destructor
-releases what nobody took.
+released from there, once, however the reading ends. Of ours each structure of a tree holds what it points at by
+itself, until its release callback is called, so that a consumer may move a child out of its parent. The capsule's
+destructor releases what nobody took.
 """
 import ctypes
 import itertools
@@ -92,6 +92,7 @@ _capsule_is_valid = ctypes.PYFUNCTYPE(ctypes.c_int, ctypes.py_object, ctypes.c_v
 # The same for a capsule at its end, of which no Python object may be made.
 _ending_capsule_address = ctypes.PYFUNCTYPE(ctypes.c_void_p, ctypes.c_void_p, ctypes.c_void_p)(
     ("PyCapsule_GetPointer", _api))
+_error_occurred = ctypes.PYFUNCTYPE(ctypes.c_void_p)(("PyErr_Occurred", _api))
 
 
 def shown(text: str, most: int = 60) -> str:
@@ -398,12 +399,12 @@ def _metadata_bytes(metadata: Any, where: str) -> Optional[bytes]:
 
 
 def _under_way() -> Optional[BaseException]:
-    """The exception under which a callback was called, which no longer stands then. A call of C code tells it: it fails
-    where one stands. Python code that C code calls cannot leave one standing, so it is lost to the caller."""
+    """The exception under which a callback was called, which is then no longer set. ctypes raises it behind the first
+    call of Python's C interface. A callback in Python cannot leave it set, so the C code that called loses it."""
     try:
-        abs(0)
-    except SystemError as told:
-        return told.__cause__
+        _error_occurred()
+    except BaseException as told:
+        return told
     return None
 
 

@@ -21,8 +21,8 @@ Column = Dict[str, Any]
 
 KEYS = ("name", "state", "kind", "coordinates", "dimension", "crs", "edges", "reason")
 NAMES = {"geoarrow." + kind for kind in (
-    "point", "linestring", "polygon", "multipoint", "multilinestring", "multipolygon", "geometrycollection", "geometry",
-    "box", "wkb", "wkt")}
+    "point", "linestring", "polygon", "multipoint", "multilinestring", "multipolygon", "geometrycollection",
+    "geometry", "box", "wkb", "wkt")}
 
 
 OF_A_TYPE = re.compile(r"(geometry|inferred) ([a-z_]+) (interleaved|separated|-) ([XYZM]+|-) (\{.*\}|-)")
@@ -43,7 +43,8 @@ def checked(lines: List[str], program: str) -> List[Column]:
     answers = ran.stdout.decode("utf-8", "replace").split("\n")[:-1]
     if ran.returncode != 0 or len(answers) != len(lines):
         last = shown(answers[-1]) if answers else "nothing"
-        raise ProgramError(f"{program}: status {ran.returncode}, {len(answers)} answers to {len(lines)} lines, last {last}")
+        counts = f"{len(answers)} answers to {len(lines)} lines"
+        raise ProgramError(f"{program}: status {ran.returncode}, {counts}, last {last}")
     return [_column(json.loads(line), answer) for line, answer in zip(lines, answers)]
 
 
@@ -54,7 +55,7 @@ def _column(field: Any, answer: str) -> Column:
     of_a_type = OF_A_TYPE.fullmatch(answer)
     if of_a_type:
         state, kind, coordinates, dimension, metadata = (part if part != "-" else None for part in of_a_type.groups())
-        said = json.loads(metadata) if metadata is not None else {}
+        said = _json(metadata) if metadata is not None else {}
         column.update(state=state, kind=kind, coordinates=coordinates, dimension=dimension)
         column.update(crs=crs_in_short(said.get("crs"), said.get("crs_type")), edges=said.get("edges", "planar"))
     elif answer == "other":
@@ -65,8 +66,19 @@ def _column(field: Any, answer: str) -> Column:
     elif answer in ("faulty arrow", "faulty invalid"):
         column.update(state="faulty", reason=_why_faulty(answer, extension))
     else:
-        raise ProgramError(f"the program answers {shown(answer)}, which no column is answered")
+        raise _no_answer(answer)
     return column
+
+
+def _json(text: str) -> Any:
+    try:
+        return json.loads(text)
+    except ValueError:
+        raise _no_answer(text) from None
+
+
+def _no_answer(text: str) -> ProgramError:
+    return ProgramError(f"the program answers {shown(text)}, which no column is answered")
 
 
 def _no_line(kind: Any, extension: Optional[str]) -> str:
@@ -113,11 +125,10 @@ def as_json(columns: List[Column], layer: Optional[str]) -> str:
 def as_table(columns: List[Column]) -> str:
     """A row a column, below a head. What a stranger chose does not leave its place: it is escaped and cut."""
     head = ("column", "holds", "CRS", "edges")
-    rows = [(shown(column["name"]),) + _cells(column) for column in columns]
-    first = max(len(row[0]) for row in [head] + rows)
-    widths = [max(len(row[at]) for row in [head] + rows if len(row) == len(head)) for at in (1, 2, 3)]
-    return "".join(
-        "  ".join(cell.ljust(width) for cell, width in zip(row, [first] + widths)).rstrip() + "\n" for row in [head] + rows)
+    rows = [head] + [(shown(column["name"]),) + _cells(column) for column in columns]
+    # What no other cell follows takes the room that it needs.
+    widths = [max(len(row[at]) for row in rows if at == 0 or len(row) == len(head)) for at in range(len(head))]
+    return "".join("  ".join(map(str.ljust, row, widths)).rstrip() + "\n" for row in rows)
 
 
 def _cells(column: Column) -> Tuple[str, ...]:

@@ -1,0 +1,567 @@
+#!/usr/bin/env python3
+"""Tests of `lines` and `Schema`: both ways round, who releases what and how often, and what is refused.
+
+The structures that are read here come from a producer of these tests, which counts its release callbacks, and the
+structures that `Schema` makes are looked at byte by byte. Run by interop/test, or alone as it stands.
+"""
+import ctypes
+import pathlib
+import struct
+import subprocess
+import sys
+import threading
+import unittest
+
+HERE = pathlib.Path(__file__).resolve().parent
+TOP = HERE.parent
+sys.path.insert(0, str(HERE))
+
+import arrow_lines  # noqa: E402
+import c_schema  # noqa: E402
+from c_schema import ArrowArrayStream, ArrowSchema, SchemaError  # noqa: E402
+
+# From the format's page "The Arrow C data interface", "Data type description".
+PLAIN = {
+    "n": "null", "b": "boolean", "c": "int8", "C": "uint8", "s": "int16", "S": "uint16", "i": "int32", "I": "uint32",
+    "l": "int64", "L": "uint64", "e": "float16", "f": "float32", "g": "float64", "z": "binary", "Z": "large_binary",
+    "vz": "binary_view", "u": "utf8", "U": "large_utf8", "vu": "utf8_view", "tdD": "date32", "tdm": "date64",
+}
+OTHER = [
+    "w:42", "d:19,10", "d:19,10,256", "d:5,-2", "tts", "ttm", "ttu", "ttn", "tss:", "tsm:UTC", "tsu:Europe/Zürich",
+    "tsn:+01:00", "tDs", "tDm", "tDu", "tDn", "tiM", "tiD", "tin",
+]
+FLOAT = '{"name":"xy","nullable":false,"type":"float64"}'
+
+
+def pairs(*texts):
+    """Metadata as the C data interface has it, of keys and values in turn."""
+    parts = [struct.pack("=i", len(texts) // 2)]
+    for text in texts:
+        one = text if isinstance(text, bytes) else text.encode()
+        parts += [struct.pack("=i", len(one)), one]
+    return b"".join(parts)
+
+
+class Producer:
+    """Makes structures, and counts the calls of the release callback of each root, and of each child."""
+
+    def __init__(self):
+        self.kept, self.roots, self.children = [], 0, 0
+        self.on_root = c_schema.RELEASE(self.release_root)
+        self.on_child = c_schema.RELEASE(self.release_child)
+
+    def release_root(self, address):
+        self.roots += 1
+        ArrowSchema.from_address(address).release = None
+
+    def release_child(self, address):
+        self.children += 1
+        ArrowSchema.from_address(address).release = None
+
+    def keep(self, given):
+        self.kept.append(given)
+        return given
+
+    def child(self, text, name="f", flags=2, metadata=None, children=(), **other):
+        made = self.keep(ArrowSchema())
+        made.format = text if text is None or isinstance(text, bytes) else text.encode()
+        made.name = name if name is None or isinstance(name, bytes) else name.encode()
+        made.metadata = None if metadata is None else ctypes.addressof(
+            self.keep(ctypes.create_string_buffer(metadata, max(len(metadata), 1))))
+        made.flags = flags
+        made.n_children = len(children)
+        addresses = [one if one is None or isinstance(one, int) else ctypes.addressof(one) for one in children]
+        made.children = self.keep((ctypes.c_void_p * len(addresses))(*addresses)) if addresses else None
+        made.release = ctypes.cast(self.on_child, ctypes.c_void_p).value
+        for key, value in other.items():
+            setattr(made, key, value)
+        return made
+
+    def root(self, *children, text="+s", **other):
+        made = self.child(text, name="", flags=0, children=children, **other)
+        made.release = ctypes.cast(self.on_root, ctypes.c_void_p).value
+        return made
+
+    def lines(self, *children, **other):
+        return arrow_lines.lines(ctypes.addressof(self.root(*children, **other)))
+
+
+def of_type(text, name="f", nullable="true"):
+    return '{"name":"%s","nullable":%s,"type":%s}' % (name, nullable, text)
+
+
+class OutOfStructures(unittest.TestCase):
+    def setUp(self):
+        self.of = Producer()
+
+    def test_layout_of_structures(self):
+        word = ctypes.sizeof(ctypes.c_void_p)
+        if word != 8:
+            self.skipTest("the places below are those of addresses of 64 bits")
+        places = [getattr(ArrowSchema, name).offset for name, _ in ArrowSchema._fields_]
+        self.assertEqual((places, ctypes.sizeof(ArrowSchema)), ([0, 8, 16, 24, 32, 40, 48, 56, 64], 72))
+        self.assertEqual(ctypes.sizeof(ArrowArrayStream), 40)
+
+    def test_each_plain_type(self):
+        self.assertEqual(len(PLAIN), 21)
+        found = self.of.lines(*(self.of.child(text) for text in PLAIN))
+        self.assertEqual(found, [of_type(f'"{word}"') for word in PLAIN.values()])
+
+    def test_each_nested_type(self):
+        number = self.of.child("g", "xy", 0)
+        two = [self.of.child("n", "a"), self.of.child("b", "b", 0)]
+        a, b = of_type('"null"', "a"), of_type('"boolean"', "b", "false")
+        wanted = [
+            ("+l", (number,), '{"list":%s}' % FLOAT),
+            ("+L", (number,), '{"large_list":%s}' % FLOAT),
+            ("+w:2", (number,), '{"fixed_size_list":%s,"size":2}' % FLOAT),
+            ("+w:2147483647", (number,), '{"fixed_size_list":%s,"size":2147483647}' % FLOAT),
+            ("+s", (), '{"struct":[]}'),
+            ("+s", tuple(two), '{"struct":[%s,%s]}' % (a, b)),
+            ("+s", tuple(two[::-1]), '{"struct":[%s,%s]}' % (b, a)),
+            ("+ud:", (), '{"mode":"dense","union":[]}'),
+            ("+us:127,0", tuple(two), '{"mode":"sparse","union":[[127,%s],[0,%s]]}' % (a, b)),
+            ("+ud:1,2", tuple(two), '{"mode":"dense","union":[[1,%s],[2,%s]]}' % (a, b)),
+        ]
+        for text, children, line in wanted:
+            with self.subTest(text):
+                self.assertEqual(self.of.lines(self.of.child(text, children=children)), [of_type(line)])
+
+    def test_types_that_lines_do_not_have(self):
+        for text in OTHER:
+            with self.subTest(text):
+                self.assertEqual(self.of.lines(self.of.child(text)), [of_type(f'"{text}"')])
+        entries = self.of.child("+s", "entries", 0, children=[self.of.child("u", "k", 0), self.of.child("u", "v")])
+        for text, children in {"+m": [entries], "+vl": [entries], "+vL": [entries], "+r": [entries, entries]}.items():
+            with self.subTest(text):
+                self.assertEqual(self.of.lines(self.of.child(text, children=children)), [of_type(f'"{text}"')])
+        values = self.of.child("u", "")
+        self.assertEqual(self.of.lines(self.of.child("i", dictionary=ctypes.addressof(values))), [of_type('"i"')])
+
+    def test_names_and_flags(self):
+        names = {
+            "": "", None: "", "gé": "gé", "日本\U0001f5fe": "日本\U0001f5fe",
+            'a"\\\n\x01\x7f': 'a\\"\\\\\\n\\u0001\x7f',
+        }
+        found = self.of.lines(*(self.of.child("n", name) for name in names))
+        self.assertEqual(found, [of_type('"null"', name) for name in names.values()])
+        found = self.of.lines(*(self.of.child("n", flags=flags) for flags in (0, 1, 2, 3, 4, 7)))
+        wanted = ("false", "false", "true", "true", "false", "true")
+        self.assertEqual(found, [of_type('"null"', "f", nullable) for nullable in wanted])
+
+    def test_metadata(self):
+        long = "é" * 200_000
+        wanted = [
+            (None, ""), (pairs(), ""), (pairs("k", "v"), '"k":"v"'), (pairs("", ""), '"":""'),
+            (pairs("b", "2", "a", "1", "é", "\0\n"), '"a":"1","b":"2","é":"\\u0000\\n"'),
+            (pairs("k", "1", "j", "2", "k", "3"), '"j":"2","k":"3"'), (pairs("k", long), f'"k":"{long}"'),
+        ]
+        found = self.of.lines(*(self.of.child("n", metadata=given) for given, _ in wanted))
+        ends = ['{"metadata":{%s},' % texts if texts else "{" for _, texts in wanted]
+        self.assertEqual(found, [start + of_type('"null"')[1:] for start in ends])
+        inner = self.of.child("n", "x", metadata=pairs("k", "v"))
+        self.assertEqual(
+            self.of.lines(self.of.child("+l", children=[inner])),
+            [of_type('{"list":{"metadata":{"k":"v"},"name":"x","nullable":true,"type":"null"}}')])
+
+    def test_metadata_of_the_schema_itself_is_passed_by(self):
+        self.assertEqual(self.of.lines(metadata=pairs("geo", "{}")), [])
+
+    def test_released_once_by_the_root_alone(self):
+        root = self.of.root(self.of.child("+l", children=[self.of.child("g")]))
+        arrow_lines.lines(ctypes.addressof(root))
+        self.assertEqual((self.of.roots, self.of.children, root.release), (1, 0, None))
+        with self.assertRaisesRegex(SchemaError, "released before"):
+            arrow_lines.lines(ctypes.addressof(root))
+        self.assertEqual(self.of.roots, 1)
+
+    def test_older_export_of_pyarrow(self):
+        of, fault = self.of, None
+
+        class Exporter:
+            def _export_to_c(self, address):
+                if fault is not AttributeError:
+                    ctypes.memmove(address, ctypes.addressof(of.root(of.child("g"))), ctypes.sizeof(ArrowSchema))
+                if fault:
+                    raise fault("half way")
+
+        self.assertEqual(arrow_lines.lines(Exporter()), [of_type('"float64"')])
+        self.assertEqual(of.roots, 1)
+        fault = KeyError
+        with self.assertRaises(KeyError):
+            arrow_lines.lines(Exporter())
+        self.assertEqual(of.roots, 2)
+        fault = AttributeError
+        with self.assertRaises(AttributeError):
+            arrow_lines.lines(Exporter())
+        self.assertEqual(of.roots, 2)
+
+
+class OutOfCapsules(unittest.TestCase):
+    def test_released_once_between_us_and_the_destructor(self):
+        of, ended = Producer(), []
+
+        def end(capsule):
+            address = c_schema._ending_capsule_address(capsule, ctypes.addressof(c_schema.SCHEMA_CAPSULE))
+            ended.append(ArrowSchema.from_address(address).release)
+
+        destructor = c_schema.RELEASE(end)
+        callback = c_schema.RELEASE(lambda address: ended.append("released"))  # and does not say so, as it should
+
+        class Exporter:
+            def __arrow_c_schema__(self):
+                address = ctypes.addressof(root)
+                return c_schema._capsule_new(address, ctypes.addressof(c_schema.SCHEMA_CAPSULE), destructor)
+
+        for column, message in ((of.child("g"), None), (of.child("nonsense"), "unknown format")):
+            root = of.root(column, release=None)
+            root.release = ctypes.cast(callback, ctypes.c_void_p).value
+            del ended[:]
+            if message is None:
+                self.assertEqual(arrow_lines.lines(Exporter()), [of_type('"float64"')])
+            else:
+                with self.assertRaisesRegex(SchemaError, message):
+                    arrow_lines.lines(Exporter())
+            self.assertEqual(ended, ["released", None])
+
+
+class Stream:
+    """An object with `__arrow_c_stream__`, over a producer's schema; counts what is asked and released."""
+
+    def __init__(self, of, status=0, said=b"no rows"):
+        self.of, self.status, self.said, self.asked, self.released = of, status, said, 0, 0
+        self.callbacks = (
+            c_schema.GET_SCHEMA(self.get_schema), ctypes.CFUNCTYPE(ctypes.c_void_p, ctypes.c_void_p)(self.last_error),
+            c_schema.RELEASE(self.release))
+        asked, error, release = (ctypes.cast(one, ctypes.c_void_p) for one in self.callbacks)
+        self.stream = ArrowArrayStream(asked, None, error if said is not None else None, release, None)
+
+    def get_schema(self, stream, address):
+        self.asked += 1
+        if not self.status:
+            ctypes.memmove(address, ctypes.addressof(self.of.root(self.of.child("g"))), ctypes.sizeof(ArrowSchema))
+        return self.status
+
+    def last_error(self, stream):
+        return ctypes.cast(ctypes.c_char_p(self.said), ctypes.c_void_p).value
+
+    def release(self, stream):
+        self.released += 1
+        ArrowArrayStream.from_address(stream).release = None
+
+    def __arrow_c_stream__(self, requested_schema=None):
+        return c_schema._capsule_new(ctypes.addressof(self.stream), ctypes.addressof(c_schema.STREAM_CAPSULE), None)
+
+
+class OutOfStreams(unittest.TestCase):
+    def test_schema_of_a_stream(self):
+        stream = Stream(Producer())
+        self.assertEqual(arrow_lines.lines(stream), [of_type('"float64"')])
+        self.assertEqual((stream.asked, stream.released, stream.of.roots), (1, 1, 1))
+        with self.assertRaisesRegex(SchemaError, "released before"):
+            arrow_lines.lines(stream)
+        self.assertEqual((stream.asked, stream.released, stream.of.roots), (1, 1, 1))
+
+    def test_streams_without_a_schema(self):
+        for said, message in ((b"no rows", "no rows"), (None, "error 5")):
+            stream = Stream(Producer(), 5, said)
+            with self.assertRaisesRegex(SchemaError, f"gives no schema: {message}"):
+                arrow_lines.lines(stream)
+            self.assertEqual((stream.asked, stream.released), (1, 1))
+
+
+class Hostile(unittest.TestCase):
+    def setUp(self):
+        self.of = Producer()
+
+    def refused(self, message, *children, **other):
+        """A schema that is refused, with the message, and released once."""
+        before = self.of.roots
+        with self.assertRaisesRegex(SchemaError, message):
+            self.of.lines(*children, **other)
+        self.assertEqual(self.of.roots, before + 1)
+
+    def test_formats(self):
+        formats = [
+            "", "x", "float64", "utf8", "null", "w:", "w:-1", "w:x", "d:", "d:1", "d:1,", "t", "td", "ts", "tss", "tsx:",
+            "+", "+w", "+w:", "+w:-1", "+w: 2", "+w:2 ", "+w:٢", "+w:12345678901", "+u", "+ud", "+ux:0", "+ud:,",
+            "+ud:0,", "+ud:0,x", "+ud:-1", "+ud:0;1", "+sx", "gg", "g\n",
+        ]
+        for text in formats:
+            with self.subTest(text):
+                self.refused("column 1: unknown format", self.of.child("n"), self.of.child(text))
+        self.refused("column 0: no format string", self.of.child(None))
+        self.refused("column 0: a format string that is not UTF-8", self.of.child(b"tss:\xff"))
+        long = self.of.child("+w:4294967298", children=[self.of.child("g")])
+        self.refused("column 0: a list of the size 4294967298", long)
+
+    def test_names(self):
+        self.refused("column 0: a name that is not UTF-8", self.of.child("n", b"\xff"))
+
+    def test_children(self):
+        one = self.of.child("g")
+        for text in ("+l", "+L", "+w:2"):
+            self.refused("column 0: a list with 0 children", self.of.child(text))
+            self.refused("column 0: a list with 2 children", self.of.child(text, children=[one, one]))
+        for text in ("g", "z", "tss:"):
+            self.refused("column 0: format .* with children", self.of.child(text, children=[one]))
+        for count in (-1, -2**63, 2**63 - 1, 2**31):
+            self.refused(f"column 0: {count} children", self.of.child("+s", n_children=count))
+            self.refused(f"the schema: {count} children", n_children=count)
+        self.refused("column 0: 3 children, and no address", self.of.child("+s", n_children=3))
+        self.refused("the schema: 3 children, and no address", n_children=3)
+        self.refused("column 0: a child without an address", self.of.child("+s", children=[one, None]))
+        self.refused("the schema: a child without an address", one, None)
+        gone = self.of.child("g", release=None)
+        self.refused("column 0: a field was released before", self.of.child("+l", children=[gone]))
+        self.refused("column 0: a field was released before", gone)
+
+    def test_unions(self):
+        one = self.of.child("g")
+        for text, count in (("+ud:0", 0), ("+ud:", 1), ("+ud:0,1", 1), ("+us:1,1", 2), ("+ud:128", 1), ("+us:999", 1)):
+            with self.subTest(text):
+                self.refused("column 0: a union of", self.of.child(text, children=[one] * count))
+
+    def test_metadata(self):
+        number = struct.Struct("=i").pack
+        faults = {
+            number(-1): "count -1", number(-2**31): "count -2147483648", number(2**31 - 1): "count 2147483647",
+            number(1) + number(-1): "length -1", number(1) + number(2**31 - 1): "length 2147483647",
+            number(1) + number(1) + b"k" + number(-5): "length -5",
+            number(1) + number(1) + b"k" + number(1_048_577): "length 1048577",
+        }
+        for given, message in faults.items():
+            with self.subTest(message):
+                self.refused(f"column 0: metadata with the {message}", self.of.child("n", metadata=given))
+        self.refused("the schema: metadata with the count -1", metadata=number(-1))
+        for given in (pairs("k", b"\xff"), pairs(b"\xff", "v")):
+            self.refused("column 0: a text in the metadata that is not UTF-8", self.of.child("n", metadata=given))
+
+    def test_what_is_no_schema_of_columns(self):
+        for text in ("g", "+l", "+m", ""):
+            self.refused("no struct of columns", self.of.child("g"), text=text)
+        self.refused("no struct of columns", dictionary=ctypes.addressof(self.of.child("u")))
+        named = pairs("ARROW:extension:name", "geoarrow.point")
+        self.refused("itself a column", self.of.child("g", "x"), self.of.child("g", "y"), metadata=named)
+
+    def test_what_gives_no_schema(self):
+        for given in (None, "schema", 1.5, object()):
+            with self.assertRaisesRegex(SchemaError, "gives no Arrow schema"):
+                arrow_lines.lines(given)
+        with self.assertRaisesRegex(SchemaError, "no address"):
+            arrow_lines.lines(0)
+        stream = Stream(self.of)
+
+        class Mistaken:
+            def __arrow_c_schema__(self):
+                return stream.__arrow_c_stream__()
+
+        with self.assertRaisesRegex(SchemaError, "no capsule of the name arrow_schema"):
+            arrow_lines.lines(Mistaken())
+        Mistaken.__arrow_c_schema__ = lambda self: None
+        with self.assertRaisesRegex(SchemaError, "no capsule of the name arrow_schema"):
+            arrow_lines.lines(Mistaken())
+
+    def test_lists_in_one_another(self):
+        column = self.of.child("g")
+        for level in range(2, 65):
+            column = self.of.child("+l", children=[column])
+        (line,) = self.of.lines(column)
+        self.assertEqual((line.count("{"), line.count('"float64"'), line.count("+l")), (127, 1, 0))
+        for _ in range(20_000):
+            column = self.of.child("+l", children=[column])
+        (line,) = self.of.lines(column)
+        self.assertEqual((line.count("{"), line.count('"float64"'), line.count('"type":"+l"')), (127, 0, 1))
+
+    def test_more_fields_than_a_line_has_room_for(self):
+        column = self.of.child("g")
+        for _ in range(40):
+            column = self.of.child("+s", children=[column, column])
+        self.refused("column 0: more fields than a line has room for", column)
+        self.refused("column 0: its line has 1800062 bytes", self.of.child("n", metadata=pairs("k", "\1" * 300_000)))
+
+
+class IntoStructures(unittest.TestCase):
+    def setUp(self):
+        self.before = c_schema.held_count()
+
+    def tearDown(self):
+        self.assertEqual(c_schema.held_count(), self.before)
+
+    def there_and_back(self, lines):
+        self.assertEqual(arrow_lines.lines(arrow_lines.Schema(lines)), lines)
+        self.assertEqual(c_schema.held_count(), self.before)
+
+    def test_each_kind_of_column_as_written(self):
+        rows = (TOP / "crates/line_rows/data/written.rows").read_text(encoding="utf-8").split("\n")
+        lines = [answer for asked, answer in zip(rows, rows[1:]) if asked.startswith("canon ")]
+        self.assertEqual(len(lines), 68)
+        self.there_and_back(lines)
+        for line in lines:
+            self.there_and_back([line])
+
+    def test_lines_as_they_are_written(self):
+        rows = (TOP / "crates/line_rows/data/fields.rows").read_text(encoding="utf-8").split("\n")
+        lines = [answer for asked, answer in zip(rows, rows[1:]) if asked.startswith("field ")]
+        fits = [line for line in lines if '"size":-' not in line]
+        self.assertEqual((len(lines), len(fits)), (45, 44))
+        self.there_and_back(fits)
+        self.there_and_back((TOP / "examples/schema.jsonl").read_text().split("\n")[:-1])
+
+    def test_types_that_lines_do_not_have(self):
+        self.there_and_back([of_type(f'"{text}"') for text in OTHER])
+
+    def test_metadata_and_names(self):
+        metadata = '{"":"","k":"%s","é":"\\u0000"}' % ("é" * 300_000)
+        line = '{"metadata":%s,"name":"日本\\n","nullable":true,"type":"utf8"}' % metadata
+        self.there_and_back([line, of_type('"null"', "")])
+        self.there_and_back([])
+
+    def test_forms_of_lines(self):
+        wanted = [of_type('"int8"'), of_type('"utf8"', "g")]
+        text = "\n".join(wanted)
+        for given in (text, text + "\n", wanted, iter(wanted)):
+            self.assertEqual(arrow_lines.lines(arrow_lines.Schema(given)), wanted)
+        self.assertEqual(arrow_lines.lines(arrow_lines.Schema("")), [])
+        spaced = ' { "type" : "int8", "other": 1.5, "nullable":false, "nullable":true, "metadata":{}, "name":"f" } \r'
+        self.assertEqual(arrow_lines.lines(arrow_lines.Schema([spaced])), wanted[:1])
+
+    def test_structures_as_a_consumer_sees_them(self):
+        line = '{"metadata":{"a":"é","k":""},"name":"gé","nullable":true,"type":{"fixed_size_list":%s,"size":2}}' % FLOAT
+        given = arrow_lines.Schema([line, of_type('"null"', "", "false")]).__arrow_c_schema__()
+        root = ArrowSchema.from_address(c_schema._address_in(given, c_schema.SCHEMA_CAPSULE))
+        self.assertEqual((root.format, root.name, root.flags, root.n_children), (b"+s", b"", 0, 2))
+        self.assertEqual((root.metadata, root.dictionary), (None, None))
+        first, second = (ArrowSchema.from_address(root.children[at]) for at in range(2))
+        self.assertEqual((first.format, first.name, first.flags, first.n_children), (b"+w:2", "gé".encode(), 2, 1))
+        metadata = pairs("a", "é", "k", "")
+        self.assertEqual(ctypes.string_at(first.metadata, len(metadata)), metadata)
+        self.assertEqual((second.format, second.name, second.flags, second.metadata), (b"n", b"", 0, None))
+        self.assertEqual((second.n_children, bool(second.children)), (0, False))
+        inner = ArrowSchema.from_address(first.children[0])
+        self.assertEqual((inner.format, inner.name, inner.flags), (b"g", b"xy", 0))
+        self.assertTrue(all(one.release for one in (root, first, second, inner)))
+
+    def test_child_moved_out_of_its_parent(self):
+        given = arrow_lines.Schema([of_type('{"list":%s}' % FLOAT), of_type('"null"')]).__arrow_c_schema__()
+        root = ArrowSchema.from_address(c_schema._address_in(given, c_schema.SCHEMA_CAPSULE))
+        child = c_schema.moved(ArrowSchema, root.children[0])
+        c_schema.release(root)
+        self.assertEqual((root.release, c_schema.held_count()), (None, self.before + 2))
+        del given
+        self.assertEqual((child.format, child.name), (b"+l", b"f"))
+        self.assertEqual(ArrowSchema.from_address(child.children[0]).name, b"xy")
+        c_schema.release(child)
+        self.assertIsNone(child.release)
+
+    def test_capsule_that_nobody_consumes(self):
+        schema = arrow_lines.Schema([of_type('{"list":%s}' % FLOAT)])
+        capsule = schema.__arrow_c_schema__()
+        self.assertEqual(c_schema.held_count(), self.before + 3)
+        del schema
+        self.assertEqual(c_schema.held_count(), self.before + 3)
+        del capsule
+        self.assertEqual(c_schema.held_count(), self.before)
+        schema = arrow_lines.Schema([of_type('"null"')])
+        schema.__arrow_c_schema__()
+        schema.__arrow_c_schema__()
+        self.assertEqual(c_schema.held_count(), self.before + 4)
+
+    def test_capsule_is_consumed_once(self):
+        schema = arrow_lines.Schema([of_type('"null"')])
+        capsule = schema.__arrow_c_schema__()
+
+        class Again:
+            def __arrow_c_schema__(self):
+                return capsule
+
+        self.assertEqual(len(arrow_lines.lines(Again())), 1)
+        with self.assertRaisesRegex(SchemaError, "released before"):
+            arrow_lines.lines(Again())
+        self.assertEqual((len(arrow_lines.lines(schema)), len(arrow_lines.lines(schema))), (1, 1))
+
+    def test_moved_schema_outlives_its_capsule(self):
+        schema = arrow_lines.Schema([of_type('"null"', "gé")])
+        ours = c_schema.moved(ArrowSchema, c_schema._address_in(schema.__arrow_c_schema__(), c_schema.SCHEMA_CAPSULE))
+        del schema
+        self.assertEqual(c_schema.held_count(), self.before + 2)
+        self.assertEqual(ArrowSchema.from_address(ours.children[0]).name, "gé".encode())
+        c_schema.release(ours)
+
+    def test_consumer_that_fails(self):
+        with self.assertRaises(TypeError):
+            schema = arrow_lines.Schema([of_type('"null"')])
+            int(schema.__arrow_c_schema__())
+        del schema
+        self.assertEqual(c_schema.held_count(), self.before)
+        told = []
+        sys.unraisablehook, hook = lambda one: told.append(one.exc_type), sys.unraisablehook
+        try:
+            for _ in range(50):  # by then Python has specialized the code
+                with self.assertRaises(SystemError):
+                    int(arrow_lines.Schema([of_type('"null"')]).__arrow_c_schema__())
+        finally:
+            sys.unraisablehook = hook
+        self.assertEqual(told, [TypeError] * 50)
+
+    def test_lines_that_are_refused(self):
+        deep = FLOAT
+        for _ in range(64):
+            deep = of_type('{"list":%s}' % deep)
+        refused = {
+            "none": "no JSON", "error field": "no JSON", "": "no JSON", "[" * 100_000: "no JSON",
+            '{"name":NaN}': "no JSON", "1": "no field", "[]": "no field", '{"name":"f","nullable":true}': "no field", deep: "nested deeper",
+            '{"name":1,"nullable":true,"type":"null"}': "a name that is no text",
+            '{"name":"f","nullable":1,"type":"null"}': "nullable that is neither",
+            '{"name":"a\\u0000","nullable":true,"type":"null"}': "a character 0",
+            '{"name":"\\ud800","nullable":true,"type":"null"}': "UTF-8 cannot hold",
+            '{"metadata":null,"name":"f","nullable":true,"type":"null"}': "no object of texts",
+            '{"metadata":{"k":1},"name":"f","nullable":true,"type":"null"}': "no object of texts",
+        }
+        types = {
+            '"Null"': "stands for none", '"g"': "stands for none", '"i"': "stands for none", '"+l"': "stands for none",
+            '"+m"': "stands for none", '"tss:\\u0000"': "a character 0", "null": "no type", "{}": "no type",
+            '{"list":1}': "no field", '{"list":%s,"size":1}' % FLOAT: "no type", '{"struct":{}}': "no type",
+            '{"struct":[%s,1]}' % FLOAT: "no field", '{"mode":"other","union":[]}': "no type",
+            '{"mode":[],"union":[]}': "no type",
+            '{"mode":"dense","union":{}}': "no pairs", '{"mode":"dense","union":[[1]]}': "no pairs",
+        }
+        for size in ("-1", "2147483648", "1.0", "-0", "true", '"2"', "9" * 5000):
+            types['{"fixed_size_list":%s,"size":%s}' % (FLOAT, size)] = "the size|no JSON"
+        for ids in ("-1", "128", "1.0", "-0", "true", "1,1"):
+            members = ",".join("[%s,%s]" % (one, FLOAT) for one in ids.split(","))
+            types['{"mode":"dense","union":[%s]}' % members] = "the type ids"
+        refused.update((of_type(text), message) for text, message in types.items())
+        for line, message in refused.items():
+            with self.subTest(line[:100]):
+                with self.assertRaisesRegex(SchemaError, f"column 1: .*({message})"):
+                    arrow_lines.Schema([of_type('{"list":%s}' % FLOAT), line])
+                self.assertEqual(c_schema.held_count(), self.before)
+
+    def test_several_threads(self):
+        lines, wrong = [of_type('{"list":%s}' % FLOAT)] * 5, []
+
+        def work():
+            for _ in range(100):
+                if arrow_lines.lines(arrow_lines.Schema(lines)) != lines:
+                    wrong.append(1)
+
+        threads = [threading.Thread(target=work) for _ in range(8)]
+        for one in threads:
+            one.start()
+        for one in threads:
+            one.join()
+        self.assertEqual(wrong, [])
+
+    def test_what_is_held_at_the_end_of_a_process(self):
+        script = (
+            "import sys; sys.path.insert(0, sys.argv[1]); import arrow_lines\n"
+            "schema = arrow_lines.Schema([sys.argv[2]]); capsule = schema.__arrow_c_schema__()\n"
+            "sys.held = arrow_lines.Schema([sys.argv[2]]).__arrow_c_schema__()\n")
+        command = [sys.executable, "-c", script, str(HERE), of_type('"null"')]
+        ran = subprocess.run(command, stdout=subprocess.PIPE, stderr=subprocess.PIPE)
+        self.assertEqual((ran.returncode, ran.stdout, ran.stderr), (0, b"", b""))
+
+
+if __name__ == "__main__":
+    unittest.main()
