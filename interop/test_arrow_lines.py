@@ -283,8 +283,8 @@ class Hostile(unittest.TestCase):
 
     def test_formats(self):
         formats = [
-            "", "x", "float64", "utf8", "null", "w:", "w:-1", "w:x", "d:", "d:1", "d:1,", "t", "td", "ts", "tss", "tsx:",
-            "+", "+w", "+w:", "+w:-1", "+w: 2", "+w:2 ", "+w:٢", "+w:12345678901", "+u", "+ud", "+ux:0", "+ud:,",
+            "", "x", "float64", "utf8", "null", "w:", "w:-1", "w:x", "d:", "d:1", "d:1,", "t", "td", "ts", "tss",
+            "tsx:", "+", "+w", "+w:", "+w:-1", "+w: 2", "+w:2 ", "+w:٢", "+w:12345678901", "+u", "+ud", "+ux:0", "+ud:,",
             "+ud:0,", "+ud:0,x", "+ud:-1", "+ud:0;1", "+sx", "gg", "g\n",
         ]
         for text in formats:
@@ -427,7 +427,8 @@ class IntoStructures(unittest.TestCase):
         self.assertEqual(arrow_lines.lines(arrow_lines.Schema([spaced])), wanted[:1])
 
     def test_structures_as_a_consumer_sees_them(self):
-        line = '{"metadata":{"a":"é","k":""},"name":"gé","nullable":true,"type":{"fixed_size_list":%s,"size":2}}' % FLOAT
+        kind = '{"fixed_size_list":%s,"size":2}' % FLOAT
+        line = '{"metadata":{"a":"é","k":""},"name":"gé","nullable":true,"type":%s}' % kind
         given = arrow_lines.Schema([line, of_type('"null"', "", "false")]).__arrow_c_schema__()
         root = ArrowSchema.from_address(c_schema._address_in(given, c_schema.SCHEMA_CAPSULE))
         self.assertEqual((root.format, root.name, root.flags, root.n_children), (b"+s", b"", 0, 2))
@@ -510,7 +511,8 @@ class IntoStructures(unittest.TestCase):
             deep = of_type('{"list":%s}' % deep)
         refused = {
             "none": "no JSON", "error field": "no JSON", "": "no JSON", "[" * 100_000: "no JSON",
-            '{"name":NaN}': "no JSON", "1": "no field", "[]": "no field", '{"name":"f","nullable":true}': "no field", deep: "nested deeper",
+            '{"name":NaN}': "no JSON", "1": "no field", "[]": "no field", '{"name":"f","nullable":true}': "no field",
+            deep: "nested deeper",
             '{"name":1,"nullable":true,"type":"null"}': "a name that is no text",
             '{"name":"f","nullable":1,"type":"null"}': "nullable that is neither",
             '{"name":"a\\u0000","nullable":true,"type":"null"}': "a character 0",

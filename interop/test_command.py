@@ -206,7 +206,8 @@ class Check(InAFolder):
     def test_faulty_columns(self):
         lines = [
             line("utf8", "a", name="geoarrow.wkb"), line("utf8", "b", name="geoarrow.point"),
-            line("utf8", "c", metadata="["), line("tsm:", "d", name="geoarrow.point"), line("tts", "e", name="other.point"),
+            line("utf8", "c", metadata="["), line("tsm:", "d", name="geoarrow.point"),
+            line("tts", "e", name="other.point"),
         ]
         reasons = [
             "the data type is none of the three of geoarrow.wkb",
@@ -276,7 +277,8 @@ class Check(InAFolder):
             "footprint  wkb                            none given  planar\n"
             "label      FAULTY: the data type is none of the three of geoarrow.wkb\n"
             "track      taken for point separated XYM  none given  planar\n"
-            "broken     FAULTY: the data type is none of geoarrow.geometry, or the metadata text stands for nothing\n"), ""))
+            "broken     FAULTY: the data type is none of geoarrow.geometry, or the metadata text stands for nothing\n"
+        ), ""))
         others = ["w:4", "d:9,2", "tts", "tsm:UTC", "tDn", "tin"]
         named = line("binary", "g", name="geoarrow.wkb", metadata=json.dumps({"crs": PROJJSON}))
         file = self.file("f.parquet", *map(line, others), line({"struct": []}), named)
@@ -307,7 +309,8 @@ class ByGdal(InAFolder):
             "import sys; sys.path.insert(0, sys.argv.pop(1)); import gdal_layers, arrow_lines; "
             "gdal_layers.places = lambda: [PLACES]; sys.exit(arrow_lines.main())")
         needed = "arrow_lines: a.gpkg: GDAL's library, 3.6 or later, is needed for such a file: "
-        for places, why in (("", "there is none"), ("'/no/such.so'", ".*/no/such.so.*"), ("None", ".*GDALAllRegister.*")):
+        faults = {"": "there is none", "'/no/such.so'": ".*/no/such.so.*", "None": ".*GDALAllRegister.*"}
+        for places, why in faults.items():
             status, text, told = self.ran(HERE, self.file("a.gpkg"), start=("-c", start.replace("PLACES", places)))
             self.assertEqual((status, text), (2, ""))
             self.assertRegex(told, f"\\A{needed}{why}\\n\\Z")
