@@ -19,7 +19,7 @@ As a module:
                                   address of an `ArrowSchema`, which is then released
     arrow_lines.Schema(lines)     an object with `__arrow_c_schema__`, of such lines
 
-Whatever is no schema, or no line, is a `SchemaError`, which is a `ValueError`.
+Whatever is no schema, or no line, is a `SchemaError`, which is a `ValueError`; it counts columns from 0.
 """
 import argparse
 import json
@@ -50,7 +50,8 @@ def _printed(columns: List[c_schema.Field]) -> List[str]:
     for at, line in enumerate(found):
         length = len(line.encode("utf-8"))
         if length > c_schema.LINE_BYTES:
-            raise SchemaError(f"column {at}: its line has {length} bytes, and a line at most {c_schema.LINE_BYTES}")
+            name = c_schema.shown(columns[at]["name"])
+            raise SchemaError(f"column {at} ({name}): a line of {length} bytes, of {c_schema.LINE_BYTES} at most")
     return found
 
 

@@ -156,7 +156,7 @@ def columns_of(schema: Any) -> List[Field]:
     if hasattr(schema, "__arrow_c_stream__"):
         capsule = schema.__arrow_c_stream__()
         return columns_of_stream_at(_address_in(capsule, STREAM_CAPSULE))
-    if isinstance(schema, int):
+    if isinstance(schema, int) and not isinstance(schema, bool):
         return columns_at(schema)
     raise SchemaError(f"{shown(type(schema).__name__)} gives no Arrow schema")
 
@@ -204,6 +204,8 @@ class _Column:
         if self.left < 0:
             raise SchemaError(f"{self.where}: more fields than a line has room for")
         name = _text(schema.name, "name", self.where) if schema.name is not None else ""
+        if level == 1:
+            self.where += f" ({shown(name)})"
         found = {"name": name, "nullable": bool(schema.flags & NULLABLE), "type": self.type(schema, level)}
         metadata = _metadata(schema.metadata, self.where)
         if metadata:

@@ -83,13 +83,12 @@ def _no_answer(text: str) -> ProgramError:
 
 def _no_line(kind: Any, extension: Optional[str]) -> str:
     """Why the program cannot read a line that the bridge has made: it has a type that a line cannot hold."""
+    why = "a type within it is none that a line can hold, or nests too deep"
     if isinstance(kind, str):
-        what = f"Arrow's type {shown(kind)}"
-        if not (OTHER_PLAIN.fullmatch(kind) or kind in OTHER_NESTED):
-            what = f"a dictionary with indices of the type {shown(kind)}"
-    else:
-        what = "a type within it"
-    return f"{what} is none that a line can hold" + (f", so it is no {extension}" if extension in NAMES else "")
+        known = OTHER_PLAIN.fullmatch(kind) or kind in OTHER_NESTED
+        what = f"Arrow's type {kind}" if known else f"a dictionary with indices of the type {kind}"
+        why = f"{what} is none that a line can hold"
+    return why + (f", so it is no {extension}" if extension in NAMES else "")
 
 
 def _why_faulty(answer: str, extension: Optional[str]) -> str:

@@ -281,6 +281,10 @@ class Hostile(unittest.TestCase):
             self.of.lines(*children, **other)
         self.assertEqual(self.of.roots, before + 1)
 
+    def column_refused(self, message, *children):
+        """The same of a schema whose last column is at fault, and named in the message."""
+        self.refused(r"column [01] \(f\): " + message, *children)
+
     def test_formats(self):
         formats = [
             "", "x", "float64", "utf8", "null", "w:", "w:-1", "w:x", "d:", "d:1", "d:1,", "t", "td", "ts", "tss",
@@ -289,11 +293,11 @@ class Hostile(unittest.TestCase):
         ]
         for text in formats:
             with self.subTest(text):
-                self.refused("column 1: unknown format", self.of.child("n"), self.of.child(text))
-        self.refused("column 0: no format string", self.of.child(None))
-        self.refused("column 0: a format string that is not UTF-8", self.of.child(b"tss:\xff"))
+                self.column_refused("unknown format", self.of.child("n"), self.of.child(text))
+        self.column_refused("no format string", self.of.child(None))
+        self.column_refused("a format string that is not UTF-8", self.of.child(b"tss:\xff"))
         long = self.of.child("+w:4294967298", children=[self.of.child("g")])
-        self.refused("column 0: a list of the size 4294967298", long)
+        self.column_refused("a list of the size 4294967298", long)
 
     def test_names(self):
         self.refused("column 0: a name that is not UTF-8", self.of.child("n", b"\xff"))
@@ -301,26 +305,26 @@ class Hostile(unittest.TestCase):
     def test_children(self):
         one = self.of.child("g")
         for text in ("+l", "+L", "+w:2"):
-            self.refused("column 0: a list with 0 children", self.of.child(text))
-            self.refused("column 0: a list with 2 children", self.of.child(text, children=[one, one]))
+            self.column_refused("a list with 0 children", self.of.child(text))
+            self.column_refused("a list with 2 children", self.of.child(text, children=[one, one]))
         for text in ("g", "z", "tss:"):
-            self.refused("column 0: format .* with children", self.of.child(text, children=[one]))
+            self.column_refused("format .* with children", self.of.child(text, children=[one]))
         for count in (-1, -2**63, 2**63 - 1, 2**31):
-            self.refused(f"column 0: {count} children", self.of.child("+s", n_children=count))
+            self.column_refused(f"{count} children", self.of.child("+s", n_children=count))
             self.refused(f"the schema: {count} children", n_children=count)
-        self.refused("column 0: 3 children, and no address", self.of.child("+s", n_children=3))
+        self.column_refused("3 children, and no address", self.of.child("+s", n_children=3))
         self.refused("the schema: 3 children, and no address", n_children=3)
-        self.refused("column 0: a child without an address", self.of.child("+s", children=[one, None]))
+        self.column_refused("a child without an address", self.of.child("+s", children=[one, None]))
         self.refused("the schema: a child without an address", one, None)
         gone = self.of.child("g", release=None)
-        self.refused("column 0: a field was released before", self.of.child("+l", children=[gone]))
+        self.column_refused("a field was released before", self.of.child("+l", children=[gone]))
         self.refused("column 0: a field was released before", gone)
 
     def test_unions(self):
         one = self.of.child("g")
         for text, count in (("+ud:0", 0), ("+ud:", 1), ("+ud:0,1", 1), ("+us:1,1", 2), ("+ud:128", 1), ("+us:999", 1)):
             with self.subTest(text):
-                self.refused("column 0: a union of", self.of.child(text, children=[one] * count))
+                self.column_refused("a union of", self.of.child(text, children=[one] * count))
 
     def test_metadata(self):
         number = struct.Struct("=i").pack
@@ -332,10 +336,10 @@ class Hostile(unittest.TestCase):
         }
         for given, message in faults.items():
             with self.subTest(message):
-                self.refused(f"column 0: metadata with the {message}", self.of.child("n", metadata=given))
+                self.column_refused(f"metadata with the {message}", self.of.child("n", metadata=given))
         self.refused("the schema: metadata with the count -1", metadata=number(-1))
         for given in (pairs("k", b"\xff"), pairs(b"\xff", "v")):
-            self.refused("column 0: a text in the metadata that is not UTF-8", self.of.child("n", metadata=given))
+            self.column_refused("a text in the metadata that is not UTF-8", self.of.child("n", metadata=given))
 
     def test_what_is_no_schema_of_columns(self):
         for text in ("g", "+l", "+m", ""):
@@ -345,7 +349,7 @@ class Hostile(unittest.TestCase):
         self.refused("itself a column", self.of.child("g", "x"), self.of.child("g", "y"), metadata=named)
 
     def test_what_gives_no_schema(self):
-        for given in (None, "schema", 1.5, object()):
+        for given in (None, "schema", 1.5, True, object()):
             with self.assertRaisesRegex(SchemaError, "gives no Arrow schema"):
                 arrow_lines.lines(given)
         with self.assertRaisesRegex(SchemaError, "no address"):
@@ -377,8 +381,8 @@ class Hostile(unittest.TestCase):
         column = self.of.child("g")
         for _ in range(40):
             column = self.of.child("+s", children=[column, column])
-        self.refused("column 0: more fields than a line has room for", column)
-        self.refused("column 0: its line has 1800062 bytes", self.of.child("n", metadata=pairs("k", "\1" * 300_000)))
+        self.column_refused("more fields than a line has room for", column)
+        self.column_refused("a line of 1800062 bytes", self.of.child("n", metadata=pairs("k", "\1" * 300_000)))
 
 
 class IntoStructures(unittest.TestCase):

@@ -17,6 +17,7 @@ HERE = pathlib.Path(__file__).resolve().parent
 TOP = HERE.parent
 sys.path.insert(0, str(HERE))
 
+import arrow_lines  # noqa: E402
 import c_schema  # noqa: E402
 import column_check  # noqa: E402
 import gdal_layers  # noqa: E402
@@ -90,7 +91,7 @@ def line(kind, column="f", **extension):
     return json.dumps(field, ensure_ascii=False, sort_keys=True, separators=(",", ":"))
 
 
-def gdal_is_there():
+def why_no_gdal():
     try:
         gdal_layers.library()
     except gdal_layers.FileError as error:
@@ -170,6 +171,7 @@ class ByPyarrow(InAFolder):
             self.assertEqual(self.ran(self.file(name)), (2, "", told))
 
     def test_words(self):
+        self.assertTrue(arrow_lines.PROGRAM.samefile(TOP / "bin/geoarrow_fields"))
         for words in ((), ("--json", "a"), ("a", "b"), ("--other", "a")):
             status, text, told = self.ran(*words)
             self.assertEqual((status, text, told.startswith("usage: ")), (2, "", True))
@@ -191,7 +193,7 @@ class Check(InAFolder):
             "a\\nb    taken for wkb        none given  planar\n"
             "text    taken for wkt        none given  planar\n"
             "seen    no geometry: Arrow's type tsm: is none that a line can hold\n"
-            "row     no geometry: a type within it is none that a line can hold\n"
+            "row     no geometry: a type within it is none that a line can hold, or nests too deep\n"
             "g       point separated XYZ  EPSG:4326   spherical\n"), ""))
         self.assertEqual(self.checked([], []), (0, "column  holds  CRS  edges\n", ""))
 
@@ -316,7 +318,7 @@ class ByGdal(InAFolder):
             self.assertRegex(told, f"\\A{needed}{why}\\n\\Z")
 
 
-@unittest.skipIf(gdal_is_there(), gdal_is_there())
+@unittest.skipIf(why_no_gdal(), why_no_gdal())
 class ByRealGdal(InAFolder):
     def setUp(self):
         super().setUp()
