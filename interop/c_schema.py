@@ -37,6 +37,7 @@ WORDS = {text: word for word, text in FORMATS.items()}
 LISTS = {"list": "+l", "large_list": "+L"}
 LIST_WORDS = {text: word for word, text in LISTS.items()}
 MODES = {"dense": "+ud:", "sparse": "+us:"}
+MODE_WORDS = {"d": "dense", "s": "sparse"}
 SIZED_LIST = re.compile(r"\+w:([0-9]{1,10})")
 UNION = re.compile(r"\+u([ds]):((?:[0-9]{1,3}(?:,[0-9]{1,3})*)?)")
 # Arrow's types that a line cannot hold: decimals, times, binary of a fixed size, which their format strings say whole,
@@ -247,9 +248,6 @@ class _Column:
         return {"mode": mode, "union": [[one, field] for one, field in zip(ids, below)]}
 
 
-MODE_WORDS = {"d": "dense", "s": "sparse"}
-
-
 def _text(given: Optional[bytes], what: str, where: str) -> str:
     if given is None:
         raise SchemaError(f"{where}: no {what}")
@@ -346,7 +344,7 @@ def _hold(schema: ArrowSchema, held: _Held, flags: int) -> None:
 def _format(kind: Any, where: str) -> Tuple[str, List[Any]]:
     """The format string of a type and the fields in it."""
     if isinstance(kind, str):
-        if kind in FORMATS or (kind not in WORDS and OTHER_PLAIN.fullmatch(kind)):
+        if kind in FORMATS or OTHER_PLAIN.fullmatch(kind):
             return FORMATS.get(kind, kind), []
         raise SchemaError(f"{where}: the type {shown(kind)} stands for none")
     keys = frozenset(kind) if isinstance(kind, dict) else frozenset()

@@ -310,8 +310,9 @@ class Hostile(unittest.TestCase):
         for text in ("g", "z", "tss:"):
             self.column_refused("format .* with children", self.of.child(text, children=[one]))
         for count in (-1, -2**63, 2**63 - 1, 2**31):
-            self.column_refused(f"{count} children", self.of.child("+s", n_children=count))
-            self.refused(f"the schema: {count} children", n_children=count)
+            self.column_refused(f"{count} children$", self.of.child("+s", n_children=count))
+            self.column_refused(f"{count} children$", self.of.child("+s", children=[one], n_children=count))
+            self.refused(f"the schema: {count} children$", n_children=count)
         self.column_refused("3 children, and no address", self.of.child("+s", n_children=3))
         self.refused("the schema: 3 children, and no address", n_children=3)
         self.column_refused("a child without an address", self.of.child("+s", children=[one, None]))
@@ -494,10 +495,12 @@ class IntoStructures(unittest.TestCase):
         c_schema.release(ours)
 
     def test_consumer_that_fails(self):
+        schemas = [arrow_lines.Schema([of_type('"null"')])]
         with self.assertRaises(TypeError):
-            schema = arrow_lines.Schema([of_type('"null"')])
-            int(schema.__arrow_c_schema__())
-        del schema
+            int(schemas[0].__arrow_c_schema__())
+        self.assertEqual(c_schema.held_count(), self.before + 2)
+        with self.assertRaises(TypeError):
+            int(schemas.pop())  # which ends with the exception under way
         self.assertEqual(c_schema.held_count(), self.before)
         told = []
         sys.unraisablehook, hook = lambda one: told.append(one.exc_type), sys.unraisablehook
