@@ -5,7 +5,7 @@ A column is a dict with the keys of `KEYS`, always all of them. `state` is one o
     geometry   the column is read as a type
     inferred   it has no GeoArrow name, and is taken for one
     other      it is neither, and nothing is wrong with it
-    faulty     it is refused; `reason` says what the program says of it
+    faulty     it is refused, or has a GeoArrow name and a type that a line cannot hold; `reason` says which
 
 `kind`, `coordinates` and `dimension` are the program's words (docs/FORMAT.md, 2.2), `crs` is the CRS in short, `edges`
 how edges run; null stands where there is none of it.
@@ -23,8 +23,6 @@ KEYS = ("name", "state", "kind", "coordinates", "dimension", "crs", "edges", "re
 NAMES = {"geoarrow." + kind for kind in (
     "point", "linestring", "polygon", "multipoint", "multilinestring", "multipolygon", "geometrycollection",
     "geometry", "box", "wkb", "wkt")}
-
-
 OF_A_TYPE = re.compile(r"(geometry|inferred) ([a-z_]+) (interleaved|separated|-) ([XYZM]+|-) (\{.*\}|-)")
 WKT_NAME = re.compile(r'[A-Z0-9_]+\["([^"]*)"')
 
@@ -83,12 +81,11 @@ def _no_answer(text: str) -> ProgramError:
 
 def _no_line(kind: Any, extension: Optional[str]) -> str:
     """Why the program cannot read a line that the bridge has made: it has a type that a line cannot hold."""
-    why = "a type within it is none that a line can hold, or nests too deep"
-    if isinstance(kind, str):
-        known = OTHER_PLAIN.fullmatch(kind) or kind in OTHER_NESTED
-        what = f"Arrow's type {kind}" if known else f"a dictionary with indices of the type {kind}"
-        why = f"{what} is none that a line can hold"
-    return why + (f", so it is no {extension}" if extension in NAMES else "")
+    if not isinstance(kind, str):
+        return "a type within it is none that a line can hold, or nests too deep"
+    known = OTHER_PLAIN.fullmatch(kind) or kind in OTHER_NESTED
+    what = f"Arrow's type {shown(kind)}" if known else f"a dictionary with indices of the type {kind}"
+    return f"{what} is none that a line can hold" + (f", so it is no {extension}" if extension in NAMES else "")
 
 
 def _why_faulty(answer: str, extension: Optional[str]) -> str:

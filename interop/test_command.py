@@ -198,12 +198,14 @@ class Check(InAFolder):
         self.assertEqual(self.checked([], []), (0, "column  holds  CRS  edges\n", ""))
 
     def test_types_that_lines_do_not_have(self):
-        lines = [line("+m"), line("i"), line("i", name="geoarrow.wkb")]
-        columns = column_check.checked(lines, str(self.program(["error field"] * 3)))
+        row = {"struct": [json.loads(line("tsm:"))]}
+        lines = [line("+m"), line("i"), line("i", name="geoarrow.wkb"), line(row, name="geoarrow.point")]
+        columns = column_check.checked(lines, str(self.program(["error field"] * 4)))
         indices = "a dictionary with indices of the type i is none that a line can hold"
         wanted = ["Arrow's type +m is none that a line can hold", indices, f"{indices}, so it is no geoarrow.wkb"]
+        wanted.append("a type within it is none that a line can hold, or nests too deep")
         self.assertEqual([column["reason"] for column in columns], wanted)
-        self.assertEqual([column["state"] for column in columns], ["other", "other", "faulty"])
+        self.assertEqual([column["state"] for column in columns], ["other", "other", "faulty", "faulty"])
 
     def test_faulty_columns(self):
         lines = [
@@ -254,6 +256,7 @@ class Check(InAFolder):
     def test_programs_that_fail(self):
         for answers, status, message in (
                 (["error input"], 1, "status 1, 1 answers to 2 lines, last error input"),
+                (["other"] * 2, 1, "status 1, 2 answers to 2 lines, last other"),
                 ([], 0, "status 0, 0 answers to 2 lines, last nothing"),
                 (["other"] * 3, 0, "status 0, 3 answers to 2 lines"),
                 (["other", "geometry wkb"], 0, "the program answers geometry wkb, which no column is answered"),
