@@ -288,8 +288,8 @@ class Hostile(unittest.TestCase):
     def test_formats(self):
         formats = [
             "", "x", "float64", "utf8", "null", "w:", "w:-1", "w:x", "d:", "d:1", "d:1,", "t", "td", "ts", "tss",
-            "tsx:", "+", "+w", "+w:", "+w:-1", "+w: 2", "+w:2 ", "+w:٢", "+w:12345678901", "+u", "+ud", "+ux:0", "+ud:,",
-            "+ud:0,", "+ud:0,x", "+ud:-1", "+ud:0;1", "+sx", "gg", "g\n",
+            "tsx:", "+", "+w", "+w:", "+w:-1", "+w: 2", "+w:2 ", "+w:٢", "+w:12345678901", "+u", "+ud", "+ux:0",
+            "+ud:,", "+ud:0,", "+ud:0,x", "+ud:-1", "+ud:0;1", "+sx", "gg", "g\n",
         ]
         for text in formats:
             with self.subTest(text):
