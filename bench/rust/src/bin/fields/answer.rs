@@ -4,6 +4,7 @@ use crate::write::Line;
 use arrow_schema::{DataType, Field};
 use geoarrow_schema::error::GeoArrowError;
 use geoarrow_schema::{CoordType, Dimension, GeoArrowType};
+use serde_json::Value;
 use std::io::{self, Write};
 
 #[derive(Clone, Copy)]
@@ -26,9 +27,14 @@ impl Command {
     }
 }
 
+/// The JSON value of a line. That the line is UTF-8 is seen once, and not text by text.
+fn value_of(line: &[u8]) -> Option<Value> {
+    serde_json::from_str(std::str::from_utf8(line).ok()?).ok()
+}
+
 /// Writes the answer to a line, and a line feed.
 pub fn write_answer(command: Command, line: &[u8], out: &mut impl Write) -> io::Result<()> {
-    match serde_json::from_slice(line).ok().and_then(field_of) {
+    match value_of(line).and_then(field_of) {
         None => out.write_all(b"error field")?,
         Some(field) => match command {
             Command::Read => write_read(&field, out)?,
