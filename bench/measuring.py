@@ -42,11 +42,11 @@ def processor_seconds(command, path):
     return after.ru_utime + after.ru_stime - before.ru_utime - before.ru_stime
 
 
-def least_seconds(commands, runs, path=os.devnull):
-    """The least processor time of each command, by its label, of several runs in turn over the lines of a file."""
-    seconds = {label: [] for label in commands}
+def least_seconds(measured, runs):
+    """The least processor time of each command over the lines of its file, by its label, of several rounds over all of them."""
+    seconds = {label: [] for label in measured}
     for _ in range(runs):
-        for label, command in commands.items():
+        for label, (command, path) in measured.items():
             seconds[label].append(processor_seconds(command, path))
     return {label: min(some) for label, some in seconds.items()}
 
