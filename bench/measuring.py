@@ -53,8 +53,9 @@ def least_seconds(measured, runs):
 
 def said(tool, command, path, pattern, environment=None):
     """The number that a tool says of one run over the lines of a file, on standard error."""
+    outputs = {"stdout": subprocess.DEVNULL, "stderr": subprocess.PIPE, "text": True}
     with open(path, "rb") as text:
-        run = subprocess.run(tool + command, stdin=text, stdout=subprocess.DEVNULL, stderr=subprocess.PIPE, text=True, check=True, env=environment)
+        run = subprocess.run(tool + command, stdin=text, check=True, env=environment, **outputs)
     return int(re.search(pattern, run.stderr)[1].replace(",", ""))
 
 
