@@ -1,30 +1,23 @@
 -- What a line says can be said by a line.
-use Rattle.std.proofs.Common.{◌≡◌, IfSome, Bool, true, false, cond, ◌&&◌, IsTrue, Option, Some, None, option_map, option_and_then, codes, refl, sym, ap, subst}
+use Rattle.std.proofs.Common.{◌≡◌, IfSome, Bool, true, false, cond, ◌&&◌, IsTrue, Option, Some, None, option_map, option_and_then, codes, refl, sym, subst}
 use Rattle.std.proofs.lemmas.Bool.{false≢true}
 use Rattle.std.proofs.lemmas.Option.{option_and_then_some}
 use Rattle.std.specs.List.{list_all}
 use Rattle.std.specs.Str.{bytes_eq}
 use Rattle.serde_json.specs.Data.{Data, null, boolean, number, string, array, object, Items, no_items, item, Members, no_members, member}
 use Rattle.arrow_values.specs.declared.tree.UnionMode.{UnionMode}
-use Rattle.arrow_values.specs.Tree.{Text, Metadata, Tree, plain, struct, union, FieldTrees, no_fields, MemberTrees, no_members as no_union_members, FieldTree}
+use Rattle.arrow_values.specs.Tree.{Text, Tree, plain, struct, union, FieldTrees, no_fields, MemberTrees, no_members as no_union_members, FieldTree}
 use Rattle.arrow_values.specs.Union.{is_type_id, are_distinct}
 use Rattle.field_lines.specs.Names.{plain_named}
-use Rattle.field_lines.specs.FieldOfValue.{is_size, integer_of, size_of_value, id_of_value, mode_of_value, field_from, field_before, member_before, list_of, large_list_of, fixed_size_list_of, tree_ids, union_of, are_keys, field_of_value, type_in, type_of_value, fields_of_value, fields_in, members_of_value, members_in}
+use Rattle.field_lines.specs.FieldOfValue.{is_size, integer_of, size_of_value, id_of_value, mode_of_value, field_before, member_before, list_of, large_list_of, fixed_size_list_of, tree_ids, union_of, are_keys, field_of_value, type_in, type_of_value, fields_of_value, fields_in, members_of_value, members_in}
 use Rattle.field_lines.specs.Line.{value_of_line, field_of_line}
 use Rattle.field_lines.specs.LineForm.{HasLineForm, FieldsHaveLineForm, MembersHaveLineForm}
 use Rattle.field_lines.proofs.UnionMade.{kept_has}
-use Rattle.field_lines.proofs.FieldRead.{name_at, nullable_at, metadata_at}
+use Rattle.field_lines.proofs.FieldRead.{name_at, nullable_at, metadata_at, parts_of_from}
 
-map_some : {A B P : Type 0} (f : A → B) (o : Option A) (y : B) → option_map f o ≡ Some y → ((x : A) → o ≡ Some x → f x ≡ y → P) → P
+pub map_some : {A B P : Type 0} (f : A → B) (o : Option A) (y : B) → option_map f o ≡ Some y → ((x : A) → o ≡ Some x → f x ≡ y → P) → P
 map_some f None y is go = cc
 map_some f (Some x) y is go = go x refl cc
-
-tree_of_from : (n : Option Text) (b : Option Bool) (t : Option Tree) (m : Option Metadata) (f : FieldTree) → field_from n b t m ≡ Some f → t ≡ Some f.tree
-tree_of_from None b t m f is = cc
-tree_of_from (Some n) None t m f is = cc
-tree_of_from (Some n) (Some b) None m f is = cc
-tree_of_from (Some n) (Some b) (Some t) None f is = cc
-tree_of_from (Some n) (Some b) (Some t) (Some m) f is = ap (option_map (λ f. f.tree)) is
 
 -- a field that is read has a form
 abbrev Formed : Option FieldTree → Type 0
@@ -93,7 +86,7 @@ at_key false o rest h hs = hs
 
 mutual
   field_form : (d : Data) → Formed (field_of_value d)
-  field_form (object ms) f is = type_in_form ms f.tree (tree_of_from (name_at ms) (nullable_at ms) (type_in ms) (metadata_at ms) f is)
+  field_form (object ms) f is = type_in_form ms f.tree (parts_of_from (name_at ms) (nullable_at ms) (type_in ms) (metadata_at ms) f is).2
   field_form null f is = cc
   field_form (boolean b) f is = cc
   field_form (number n) f is = cc

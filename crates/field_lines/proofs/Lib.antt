@@ -5,6 +5,7 @@ mod Writes
 mod Prints
 mod Round
 mod Form
+mod Lean
 mod Texts
 mod TokenTexts
 mod TokenSlots

@@ -59,7 +59,7 @@ parts_read n d t b [] is = ap (λ o. field_from (Some n) (Some b) o (Some [])) i
 parts_read n d t b (e ∷ es) is =
     ap (λ o. field_from (Some n) (Some b) o (texts_in (texts_value (e ∷ es)))) is ∙ ap (λ o. field_from (Some n) (Some b) (Some t) o) (texts_in-value (e ∷ es))
 
-both : (a b : Bool) → IsTrue (a && b) → IsTrue a × IsTrue b
+pub both : (a b : Bool) → IsTrue (a && b) → IsTrue a × IsTrue b
 both true b h = (refl, h)
 both false b h = absurd (false≢true h)
 

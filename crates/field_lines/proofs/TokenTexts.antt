@@ -15,7 +15,7 @@ use Rattle.field_lines.proofs.Writes.{Texts}
 use Rattle.value_tokens.specs.Next.{next_members, Reads, ReadsMembers}
 use Rattle.value_tokens.specs.Turns.{member_read, members_over, value_takes}
 
-text_is : (d : Data) (t : Text) → Some t ≡ as_str d → d ≡ string t
+pub text_is : (d : Data) (t : Text) → Some t ≡ as_str d → d ≡ string t
 text_is null t e = cc
 text_is (boolean b) t e = cc
 text_is (number n) t e = cc

@@ -1,4 +1,5 @@
--- The JSON value of a field, with no ignored key and no empty metadata, and its keys in the order of their bytes.
+-- The JSON value of a field, with no ignored key and no empty metadata, and its keys in the order of their bytes. It is
+-- lean (`Lean`), and no other lean value stands for the field (`laws`).
 use Rattle.std.specs.Prelude.{[], ◌∷◌, Bool, codes}
 use Rattle.serde_json.specs.Data.{Data, boolean, number, string, array, object, Items, no_items, item, Members, no_members, member}
 use Rattle.serde_json.specs.Find.{of_integer}

@@ -5,10 +5,12 @@
 //!
 //! The format is this library's own; docs/FORMAT.md has its rules and a table of its words. What a line
 //! stands for is `specs/Line`, by the field that a JSON value stands for, `specs/FieldOfValue`, and the
-//! value of a field, `specs/ValueOfField`. No JSON value is made: a line is read by its tokens, and its
-//! tokens are written one after another.
+//! value of a field, `specs/ValueOfField`. By [`laws`] the latter is the one value that stands for the
+//! field and is lean, `specs/Lean`. No JSON value is made: a line is read by its tokens, and its tokens are
+//! written one after another.
 #![tactic(auto)]
 
+pub mod laws;
 mod line;
 mod metadata;
 mod names;

@@ -62,7 +62,8 @@ fn parse_text(alloc: Global, text: &str, scratch: &mut Scratch) -> Result<Option
 }
 
 /// The line of a field, without a line feed: compact JSON with its keys in the order of their bytes,
-/// no ignored key and no empty metadata. Errs for want of memory alone.
+/// no ignored key and no empty metadata. Where a line can say the field, its value is the one lean
+/// value that stands for the field ([`laws`](crate::laws)). Errs for want of memory alone.
 pub fn field_line(alloc: Global, field: &Field) -> Result<String, AllocError>
     ensures text { IfOk result (λ s. string_bytes s ≡ line_of_field field.now) }
     ensures reads_back { IfOk result (λ s. HasLineForm field.now.tree → depth (value_of_field field.now) ≤ max_depth → field_of_line (string_bytes s) ≡ Some field.now) }

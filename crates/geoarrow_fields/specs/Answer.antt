@@ -25,7 +25,8 @@ AnswersRefused f answer = (fault : ColumnFault) × IsRefusedFor f fault × (answ
 abbrev pub AnswersType : FieldTree → Bytes → Type 0
 AnswersType f answer = (g : GeoArrowType) × Reads f g × (answer ≡ type_text g)
 
--- the line of the field in normal form
+-- the canonical line: that of the field in normal form. Its value is the one lean value that stands for this field, by
+-- the laws of `field_lines`
 abbrev pub AnswersLine : FieldTree → Bytes → Type 0
 AnswersLine f answer = (n : FieldTree) × IsCanonical f n × (answer ≡ line_of_field n)
 
