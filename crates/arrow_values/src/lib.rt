@@ -3,12 +3,17 @@
 #![tactic(auto)]
 
 mod coordinates;
+mod equality_laws;
 mod error;
 mod extension;
 mod texts;
 mod tree;
 
 pub use coordinates::Dimensions;
+pub use equality_laws::{
+    append_fault_equality_is_exact, dimensions_equality_is_exact, fixed_name_equality_is_exact,
+    union_mode_equality_is_exact,
+};
 pub use error::{AppendFault, ArrowError, GeoArrowError, GeoArrowResult};
 pub use extension::ExtensionType;
 pub use tree::{

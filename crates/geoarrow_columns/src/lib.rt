@@ -2,5 +2,6 @@
 #![tactic(auto)]
 
 mod check;
+pub mod laws;
 
 pub use check::{Column, ColumnFault, check_column, check_columns};

@@ -3,6 +3,7 @@
 
 mod answer;
 mod arguments;
+pub mod equality_laws;
 mod lines;
 mod output;
 mod reading;

@@ -26,3 +26,4 @@ pub mod NamesSteps
 pub mod Distinct
 pub mod TableSteps
 pub mod Widths
+mod Equality

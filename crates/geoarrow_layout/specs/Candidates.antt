@@ -19,6 +19,15 @@ Holds LineStringOrMultiPoint n = (n ≡ native_name LineString) ⊎ (n ≡ nativ
 Holds PolygonOrMultiLineString n = (n ≡ native_name Polygon) ⊎ (n ≡ native_name MultiLineString)
 Holds PointOrBox n = (n ≡ native_name Point) ⊎ (n ≡ box_name)
 
+-- the same variant, and the same text where it is one name
+abbrev pub SameCandidates : Candidates → Candidates → Type 0
+SameCandidates None None = Unit {0}
+SameCandidates (One name) (One other) = name.now ≡ other.now
+SameCandidates LineStringOrMultiPoint LineStringOrMultiPoint = Unit {0}
+SameCandidates PolygonOrMultiLineString PolygonOrMultiLineString = Unit {0}
+SameCandidates PointOrBox PointOrBox = Unit {0}
+SameCandidates _ _ = ⊥
+
 -- under that extension name the tree is of some kind
 abbrev pub IsAccepted : Text → Tree → Type 0
 IsAccepted n t = (k : Kind) × Accepts n t k

@@ -8,6 +8,7 @@ mod build;
 mod candidate_names;
 mod changes;
 mod encodings;
+mod equality_laws;
 mod fault;
 mod ids;
 mod infer;
@@ -31,6 +32,12 @@ pub use build::{
 pub use candidate_names::Candidates;
 pub use changes::{append_members, keep_members};
 pub use encodings::{Kind, NativeKind, Width};
+pub use equality_laws::{
+    bottom_equality_is_exact, candidates_equality_is_exact, coord_type_equality_is_exact,
+    dimension_equality_is_exact, fault_equality_is_exact, kind_equality_is_exact,
+    list_width_equality_is_exact, name_equality_is_exact, native_kind_equality_is_exact,
+    summary_equality_is_exact, width_equality_is_exact,
+};
 pub use fault::LayoutFault;
 pub use infer::infer_point;
 pub use kinds::{CoordType, Dimension};

@@ -11,6 +11,7 @@
 //! `specs/` has also the laws of these words that a reader of objects or a printer of values needs.
 #![tactic(auto)]
 
+pub mod laws;
 mod numbers;
 mod open;
 mod print;
