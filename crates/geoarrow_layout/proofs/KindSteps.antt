@@ -1,5 +1,5 @@
 -- The kind that a reader's answer says.
-use Rattle.std.proofs.Common.{◌≡◌, refl, sym, ap, subst, ◌∙◌, Option, Some, None, Result, Ok, Err}
+use Rattle.std.proofs.Common.{◌≡◌, IfSome, refl, sym, ap, subst, ◌∙◌, Option, Some, None, Result, Ok, Err}
 use Rattle.arrow_values.specs.Tree.{Text, Tree}
 use Rattle.geoarrow_layout.specs.declared.kinds.CoordType.{CoordType}
 use Rattle.geoarrow_layout.specs.declared.kinds.Dimension.{Dimension}
@@ -150,3 +150,7 @@ box_none t f r is a = λ l. (λ e. cc, λ h. absurd (back l h.0.0 h.0.1 h.1))
 
 pub named : (n m : Text) (s : Summary) (r : Option Kind) → n ≡ m → ((t : Tree) → Summarizes s t → AnswersKind m t r) → (t : Tree) → Summarizes s t → AnswersKind n t r
 named n m s r is h t shown = subst (λ x. AnswersKind x t r) (sym is) (h t shown)
+
+pub of_name : (n m : Text) (r : Option Kind) → n ≡ m → IfSome r (λ k. (m ≡ name_of k) × IsStructured k) → IfSome r (λ k. (n ≡ name_of k) × IsStructured k)
+of_name n m None is h = tt
+of_name n m (Some k) is h = (is ∙ h.0, h.1)

@@ -1,8 +1,8 @@
 //! The kind of a column, told from its extension name and a summary of its data type.
-ghost use Rattle.std.specs.Prelude.{◌≡◌};
+ghost use Rattle.std.specs.Prelude.{◌≡◌, IfSome};
 ghost use Rattle.arrow_values.specs.Tree.{Tree};
-ghost use Rattle.geoarrow_layout.specs.Kinds.{native_name, geometry_name, box_name};
-ghost use Rattle.geoarrow_layout.specs.Shapes.{AnswersKind};
+ghost use Rattle.geoarrow_layout.specs.Kinds.{native_name, geometry_name, box_name, name_of};
+ghost use Rattle.geoarrow_layout.specs.Shapes.{AnswersKind, IsStructured};
 ghost use Rattle.geoarrow_layout.specs.Summary.{Summarizes};
 
 use crate::encodings::{Kind, NativeKind};
@@ -11,10 +11,12 @@ use crate::summary::Summary;
 
 impl Summary {
     /// The kind of a column of that extension name, whatever data type the summary is of: none where no kind of that
-    /// name has such a data type, and none for well-known binary and text, of which a summary says nothing. Takes no
-    /// memory.
+    /// name has such a data type, and none for well-known binary and text, of which a summary says nothing. Where the
+    /// summary is of no data type at all, a kind that is answered is one of that name too. Takes no memory.
+    #[tactic(auto, using(crate::proofs::KindSteps::of_name))]
     pub fn kind(&self, name: &str) -> Option<Kind>
-        ensures { (t : Tree) → Summarizes self.now t → AnswersKind name.now t result }
+        ensures exact { (t : Tree) → Summarizes self.now t → AnswersKind name.now t result }
+        ensures named { IfSome result (λ k. (name.now ≡ name_of k) × IsStructured k) }
     {
         match name {
             "geoarrow.point" => native_kind(NativeKind::Point, self),
@@ -33,7 +35,8 @@ impl Summary {
 
 /// The kind under the name of a native kind.
 fn native_kind(kind: NativeKind, summary: &Summary) -> Option<Kind>
-    ensures { (t : Tree) → Summarizes summary.now t → AnswersKind (native_name kind) t result }
+    ensures exact { (t : Tree) → Summarizes summary.now t → AnswersKind (native_name kind) t result }
+    ensures named { IfSome result (λ k. (native_name kind ≡ name_of k) × IsStructured k) }
 {
     match any_native(kind, summary) {
         Ok(pair) => Some(Kind::Native(kind, pair.0, pair.1)),
@@ -43,7 +46,8 @@ fn native_kind(kind: NativeKind, summary: &Summary) -> Option<Kind>
 
 /// The kind under the name of unions of geometries.
 fn geometry_kind(summary: &Summary) -> Option<Kind>
-    ensures { (t : Tree) → Summarizes summary.now t → AnswersKind geometry_name t result }
+    ensures exact { (t : Tree) → Summarizes summary.now t → AnswersKind geometry_name t result }
+    ensures named { IfSome result (λ k. (geometry_name ≡ name_of k) × IsStructured k) }
 {
     match geometry(summary) {
         Ok(coord_type) => Some(Kind::Geometry(coord_type)),
@@ -53,7 +57,8 @@ fn geometry_kind(summary: &Summary) -> Option<Kind>
 
 /// The kind under the name of boxes.
 fn box_kind(summary: &Summary) -> Option<Kind>
-    ensures { (t : Tree) → Summarizes summary.now t → AnswersKind box_name t result }
+    ensures exact { (t : Tree) → Summarizes summary.now t → AnswersKind box_name t result }
+    ensures named { IfSome result (λ k. (box_name ≡ name_of k) × IsStructured k) }
 {
     match boxed(summary) {
         Ok(dimension) => Some(Kind::Rect(dimension)),
