@@ -1,5 +1,5 @@
 //! What a layout has: a coordinate type and a dimension.
-ghost use Rattle.std.specs.Prelude.{◌≡◌, ◌≤◌, ◌↔◌, ◌⊎◌, IfErr, Some, Ok};
+ghost use Rattle.std.specs.Prelude.{◌≡◌, ◌≤◌, ◌↔◌, ◌⊎◌, IfOk, IfErr, Some, Ok};
 
 use arrow_values::{Dimensions, GeoArrowError, GeoArrowResult};
 use std::alloc::Global;
@@ -39,6 +39,7 @@ pub enum Dimension {
 }
 
 impl Dimension {
+    ghost use Rattle.arrow_values.specs.Coordinates.{dimensions_size};
     ghost use Rattle.geoarrow_layout.specs.Kinds.{size_of, order_of, dimension_name, IsDimension, RefusesDimensions};
     ghost use Rattle.arrow_values.specs.Errors.{IsGeoMemory};
 
@@ -72,6 +73,7 @@ impl Dimension {
     /// meaning.
     pub fn try_from_dimensions(alloc: Global, dimensions: Dimensions) -> GeoArrowResult<Dimension>
         ensures exact { (d : Dimension) → (result ≡ Ok d) ↔ IsDimension dimensions d }
+        ensures size { IfOk result (λ d. size_of d ≡ dimensions_size dimensions) }
         ensures refusal { IfErr result (λ e. IsGeoMemory e ⊎ RefusesDimensions dimensions e) }
     {
         match dimensions {

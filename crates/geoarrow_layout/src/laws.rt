@@ -3,7 +3,8 @@ ghost use Rattle.std.specs.Prelude.{◌≡◌, ◌↔◌, Contains};
 ghost use Rattle.arrow_values.specs.Tree.{Text, Tree};
 ghost use Rattle.arrow_values.specs.View.{member_trees};
 ghost use Rattle.arrow_values.specs.Union.{HasTypeIds};
-ghost use Rattle.geoarrow_layout.specs.Kinds.{name_text, name_of};
+ghost use Rattle.arrow_values.specs.Coordinates.{dimensions_size};
+ghost use Rattle.geoarrow_layout.specs.Kinds.{size_of, dimensions_of, IsDimension, name_text, name_of};
 ghost use Rattle.geoarrow_layout.specs.declared.names.ExtensionName.{ExtensionName};
 ghost use Rattle.geoarrow_layout.specs.Shapes.{Leaf, AllMembers, Accepts, IsStructured};
 ghost use Rattle.geoarrow_layout.specs.Summary.{Summarizes};
@@ -61,6 +62,13 @@ pub fn mixed_ids(coord_type: CoordType, dimension: Dimension)
 pub fn geometry_ids(coord_type: CoordType)
     ensures distinct { HasTypeIds (geometry_members coord_type) }
     ensures own { AllMembers (IsWrittenSome coord_type) (member_trees (geometry_members coord_type)) }
+{}
+
+/// A law: a dimension that is made dimensions is that dimension again and no other, and of the same size. There is
+/// nothing to run.
+pub fn dimension_reads_back(dimension: Dimension)
+    ensures same { (d : Dimension) → IsDimension (dimensions_of dimension) d ↔ (d ≡ dimension) }
+    ensures size { dimensions_size (dimensions_of dimension) ≡ size_of dimension }
 {}
 
 /// A law: where a data type is taken for a point and is read as one, it is the same point. There is nothing to run.

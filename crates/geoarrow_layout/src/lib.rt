@@ -42,8 +42,8 @@ pub use fault::LayoutFault;
 pub use infer::infer_point;
 pub use kinds::{CoordType, Dimension};
 pub use laws::{
-    geometry_ids, inferred_as_read, kind_is_listed, layout_reads_back, leaf_reads_back, mixed_ids,
-    names_are_distinct, one_kind, read_alike,
+    dimension_reads_back, geometry_ids, inferred_as_read, kind_is_listed, layout_reads_back,
+    leaf_reads_back, mixed_ids, names_are_distinct, one_kind, read_alike,
 };
 pub use likeness::alike;
 pub use names::ExtensionName;

@@ -1,6 +1,7 @@
 //! Laws of columns, for the crates above: functions with nothing to run, whose contract is the law.
-ghost use Rattle.std.specs.Prelude.{◌≡◌, ◌↔◌, Bool, IsTrue};
+ghost use Rattle.std.specs.Prelude.{◌≡◌, ◌↔◌, Bool, IsTrue, pos};
 ghost use Rattle.geoarrow_layout.specs.declared.encodings.Kind.{Kind};
+ghost use Rattle.geoarrow_layout.specs.Kinds.{type_id_of};
 ghost use Rattle.geoarrow_meta.specs.declared.metadata.Metadata.{Metadata};
 ghost use Rattle.arrow_values.specs.Tree.{Text};
 ghost use Rattle.geoarrow_meta.specs.Written.{meta_value, normal, IsReadBack};
@@ -9,6 +10,7 @@ ghost use Rattle.geoarrow_native.specs.Parts.{native_coord_type, native_dimensio
 
 use crate::native::NativeType;
 use crate::shape::NativeShape;
+use crate::type_id::GeometryTypeId;
 use arrow_values::Field;
 use geoarrow_layout::{Kind, layout_reads_back, one_kind};
 use geoarrow_meta::Metadata;
@@ -42,4 +44,11 @@ pub fn native_equality_is_exact<S: NativeShape>(one: &NativeType<S>, other: &Nat
 {
     equality_test_is_exact();
     one == other
+}
+
+/// A law: the type id of a native type is that of its own kind and dimension, by the table of type ids.
+pub fn type_id_is_its_own<S: NativeShape>(native_type: &NativeType<S>) -> i8
+    ensures { result ≡ pos (type_id_of S.KIND (native_dimension native_type.now)) }
+{
+    native_type.geometry_type_id()
 }
