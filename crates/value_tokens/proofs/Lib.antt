@@ -1,2 +1,3 @@
 mod Skips
 mod PrintedNumbers
+mod Grown

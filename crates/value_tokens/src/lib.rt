@@ -8,6 +8,8 @@
 //! What is printed is said by `Adds` of `specs/Adds`: the tokens that a call added, and that it kept what stood before them.
 //! The tokens of a value are those of its `outline`, whose text is `serde_json`'s `compact_text` (`specs/Printed`).
 //!
+//! [`read_value`] alone makes a tree: it answers the value itself, for what is kept as JSON.
+//!
 //! `specs/` has also the laws of these words that a reader of objects or a printer of values needs.
 #![tactic(auto)]
 
@@ -18,9 +20,11 @@ mod print;
 mod refusal;
 mod scalars;
 mod skip;
+mod values;
 
 pub use open::{open_array, open_object};
 pub use print::print_value;
 pub use refusal::Refusal;
 pub use scalars::{read_bool, read_number, read_str, read_text};
 pub use skip::{skip_items, skip_members, skip_rest, skip_value};
+pub use values::read_value;

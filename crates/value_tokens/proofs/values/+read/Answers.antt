@@ -1,0 +1,172 @@
+use Rattle.std.proofs.Common.{◌≡◌, ◌<◌, [], ◌∷◌, length, Some, None, option_map, string_bytes, sym, ap, ap₂, ◌∙◌, arith, rules}
+use Rattle.json.specs.Token.{Token}
+use Rattle.json.specs.Json.{parse_map, after_end_array, read_key}
+use Rattle.json.specs.Reads.{token_of}
+use Rattle.json.proofs.Grammar.{read_key-shorter}
+use Rattle.serde_json.specs.Data.{null, boolean, number, string, array, object, put}
+use Rattle.serde_json.specs.View.{view, number_view, members_view}
+use Rattle.serde_json.specs.declared.value.Value.{String, Number, Bool, Null, the_lemmas}
+use Rattle.serde_json.proofs.Views.{view-Array, view-Object, members_view-insert_entry}
+use Rattle.value_tokens.proofs.Grown.{items_before, items_before-no_items, one_more_item, none_before}
+use Rattle.value_tokens.specs.Next.{next_value, next_items, next_members}
+use Rattle.value_tokens.specs.Beginnings.{next_string, next_boolean, next_null, next_number}
+use Rattle.value_tokens.specs.Turns.{no_value, plain, array_too_deep, object_too_deep, value-array, value-object, item_read, item_refused, items_over, member_read, member_refused, key_refused, members_over}
+use Rattle.value_tokens.proofs.values.+read.Goals as goal
+
+pub read_value-returns-in_err-token-clause-text : goal.read_value-returns-in_err-token-clause-text
+read_value-returns-in_err-token-clause-text t c refused =
+    let empty : c.args.reader.now ≡ [] = grind arith in
+    no_value c.args.depth c.args.reader.now empty
+
+pub read_value-returns-then-depth-eq0-clause-text : goal.read_value-returns-then-depth-eq0-clause-text
+read_value-returns-then-depth-eq0-clause-text t c refused =
+    let first : c.args.reader.now ≡ token_of c.in_ok-token.token ∷ c.next.new.self = grind arith in
+    let none : c.args.depth ≡ 0 = omega arith in
+    ap₂ next_value none (first ∙ ap (λ k. token_of k ∷ c.next.new.self) c.in-BeginArray.is) ∙ array_too_deep c.next.new.self
+
+pub read_value-returns-then-depth-eq0-2-clause-text : goal.read_value-returns-then-depth-eq0-2-clause-text
+read_value-returns-then-depth-eq0-2-clause-text t c refused =
+    let first : c.args.reader.now ≡ token_of c.in_ok-token.token ∷ c.next.new.self = grind arith in
+    let none : c.args.depth ≡ 0 = omega arith in
+    ap₂ next_value none (first ∙ ap (λ k. token_of k ∷ c.next.new.self) c.in-BeginObject.is) ∙ object_too_deep c.next.new.self
+
+pub read_value-returns-in_err-read_items-in-BeginArray-clause-text : goal.read_value-returns-in_err-read_items-in-BeginArray-clause-text
+read_value-returns-in_err-read_items-in-BeginArray-clause-text t c refused =
+    let first : c.args.reader.now ≡ token_of c.in_ok-token.token ∷ c.next.new.self = grind arith in
+    let opened = ap (next_value c.args.depth) (first ∙ ap (λ k. token_of k ∷ c.next.new.self) c.in-BeginArray.is) ∙ value-array c.args.depth c.next.new.self (omega arith) in
+    opened ∙ ap (parse_map array) (c.read_items.ensures.text (grind arith))
+
+pub read_value-returns-in_err-read_members-in-BeginObject-clause-text : goal.read_value-returns-in_err-read_members-in-BeginObject-clause-text
+read_value-returns-in_err-read_members-in-BeginObject-clause-text t c refused =
+    let first : c.args.reader.now ≡ token_of c.in_ok-token.token ∷ c.next.new.self = grind arith in
+    let opened = ap (next_value c.args.depth) (first ∙ ap (λ k. token_of k ∷ c.next.new.self) c.in-BeginObject.is) ∙ value-object c.args.depth c.next.new.self (omega arith) in
+    opened ∙ ap (parse_map object) (c.read_members.ensures.text (grind arith))
+
+pub read_value-returns-in_ok-from_str-in-String-clause-ok : goal.read_value-returns-in_ok-from_str-in-String-clause-ok
+read_value-returns-in_ok-from_str-in-String-clause-ok t c =
+    let first : c.args.reader.now ≡ token_of c.in_ok-token.token ∷ c.next.new.self = grind arith in
+    let is : c.args.reader.now ≡ Token.string c.in-String.text.now ∷ c.next.new.self = grind (arith, first) in
+    let seen : view (String c.in_ok-from_str-in-String.field-0) ≡ string c.in-String.text.now = search (rules, the_lemmas) in
+    ap (next_value c.args.depth) is ∙ next_string c.args.depth c.in-String.text.now c.next.new.self ∙ ap (λ d. Some (d, c.next.new.self)) (sym seen)
+
+pub read_value-returns-in-Bool-clause-ok : goal.read_value-returns-in-Bool-clause-ok
+read_value-returns-in-Bool-clause-ok t c =
+    let first : c.args.reader.now ≡ token_of c.in_ok-token.token ∷ c.next.new.self = grind arith in
+    let is : c.args.reader.now ≡ Token.boolean c.in-Bool.truth ∷ c.next.new.self = grind (arith, first) in
+    let seen : view (Bool c.in-Bool.truth) ≡ boolean c.in-Bool.truth = search (rules, the_lemmas) in
+    ap (next_value c.args.depth) is ∙ next_boolean c.args.depth c.in-Bool.truth c.next.new.self ∙ ap (λ d. Some (d, c.next.new.self)) (sym seen)
+
+pub read_value-returns-in-Null-clause-ok : goal.read_value-returns-in-Null-clause-ok
+read_value-returns-in-Null-clause-ok t c =
+    let first : c.args.reader.now ≡ token_of c.in_ok-token.token ∷ c.next.new.self = grind arith in
+    let is : c.args.reader.now ≡ Token.null ∷ c.next.new.self = grind (arith, first) in
+    let seen : view (Null) ≡ null = search (rules, the_lemmas) in
+    ap (next_value c.args.depth) is ∙ next_null c.args.depth c.next.new.self ∙ ap (λ d. Some (d, c.next.new.self)) (sym seen)
+
+pub read_value-returns-in-Some-clause-ok : goal.read_value-returns-in-Some-clause-ok
+read_value-returns-in-Some-clause-ok t c =
+    let first : c.args.reader.now ≡ token_of c.in_ok-token.token ∷ c.next.new.self = grind arith in
+    let is : c.args.reader.now ≡ Token.number c.in-Number.text.now ∷ c.next.new.self = grind (arith, first) in
+    let seen : view (Number c.in-Some.number) ≡ number (number_view c.in-Some.number) = search (rules, the_lemmas) in
+    ap (next_value c.args.depth) is ∙ next_number c.args.depth c.in-Number.text.now c.next.new.self
+    ∙ ap (option_map (λ n. (number n, c.next.new.self))) (sym c.in-Some.ensures) ∙ ap (λ d. Some (d, c.next.new.self)) (sym seen)
+
+pub read_value-returns-in-None-clause-text : goal.read_value-returns-in-None-clause-text
+read_value-returns-in-None-clause-text t c refused =
+    let first : c.args.reader.now ≡ token_of c.in_ok-token.token ∷ c.next.new.self = grind arith in
+    let is : c.args.reader.now ≡ Token.number c.in-Number.text.now ∷ c.next.new.self = grind (arith, first) in
+    ap (next_value c.args.depth) is ∙ next_number c.args.depth c.in-Number.text.now c.next.new.self ∙ ap (option_map (λ n. (number n, c.next.new.self))) (sym c.in-None.ensures)
+
+pub read_value-returns-in-EndObject-clause-text : goal.read_value-returns-in-EndObject-clause-text
+read_value-returns-in-EndObject-clause-text t c refused =
+    let first : c.args.reader.now ≡ token_of c.in_ok-token.token ∷ c.next.new.self = grind arith in
+    let none : next_value c.args.depth (token_of c.in_ok-token.token ∷ c.next.new.self) ≡ None = rw (plain c.args.depth (token_of c.in_ok-token.token) c.next.new.self) (grind arith) in
+    ap (next_value c.args.depth) first ∙ none
+
+pub read_value-returns-in_ok-read_items-in-BeginArray-clause-ok : goal.read_value-returns-in_ok-read_items-in-BeginArray-clause-ok
+read_value-returns-in_ok-read_items-in-BeginArray-clause-ok t c =
+    let first : c.args.reader.now ≡ token_of c.in_ok-token.token ∷ c.next.new.self = grind arith in
+    let opened = ap (next_value c.args.depth) (first ∙ ap (λ k. token_of k ∷ c.next.new.self) c.in-BeginArray.is) ∙ value-array c.args.depth c.next.new.self (omega arith) in
+    let found = c.in_ok-read_items-in-BeginArray in
+    opened ∙ ap (parse_map array) found.ensures.ok ∙ ap (λ d. Some (d, c.read_items.new.reader)) (sym (view-Array found.field-0))
+
+pub read_value-returns-in_ok-read_members-in-BeginObject-clause-ok : goal.read_value-returns-in_ok-read_members-in-BeginObject-clause-ok
+read_value-returns-in_ok-read_members-in-BeginObject-clause-ok t c =
+    let first : c.args.reader.now ≡ token_of c.in_ok-token.token ∷ c.next.new.self = grind arith in
+    let opened = ap (next_value c.args.depth) (first ∙ ap (λ k. token_of k ∷ c.next.new.self) c.in-BeginObject.is) ∙ value-object c.args.depth c.next.new.self (omega arith) in
+    let found = c.in_ok-read_members-in-BeginObject in
+    opened ∙ ap (parse_map object) found.ensures.ok ∙ ap (λ d. Some (d, c.read_members.new.reader)) (sym (view-Object found.field-0))
+
+pub read_items-items-init : goal.read_items-items-init
+read_items-items-init t c =
+    let all = next_items c.args.depth c.args.reader.now in
+    record { decides = none_before all ∙ ap (λ vs. parse_map (items_before vs) all) (sym c.new-found.ensures.items); fewer = omega arith }
+
+pub read_items-returns-in_err-item-clause-text : goal.read_items-returns-in_err-item-clause-text
+read_items-returns-in_err-item-clause-text t c refused =
+    let l = c.items in
+    let going : (after_end_array l.reader ≡ None) × (c.take_end_array.new.self ≡ l.reader) = grind arith in
+    l.invariant.decides ∙ ap (parse_map (items_before l.found.items)) (item_refused c.args.depth l.reader going.0 (rw (← going.1) (c.read_value.ensures.text (grind arith))))
+
+pub read_items-items-preserved : goal.read_items-items-preserved
+read_items-items-preserved t c =
+    let l = c.items in
+    let going : (after_end_array l.reader ≡ None) × (c.take_end_array.new.self ≡ l.reader) = grind arith in
+    let done = c.in_ok-item.ensures in
+    let v = c.in_ok-item.item in
+    let r = c.read_value.new.reader in
+    let less : length r < length l.reader = rw (← going.1) done.shorter in
+    let turn = item_read c.args.depth l.reader r (view v) going.0 (rw (← going.1) done.ok) in
+    record {
+      decides =
+          l.invariant.decides ∙ ap (parse_map (items_before l.found.items)) turn ∙ one_more_item l.found.items v _
+          ∙ ap (λ vs. parse_map (items_before vs) (next_items c.args.depth r)) (sym c.in_ok-push.ensures.items);
+      fewer = omega (arith, l.invariant.fewer);
+    }
+
+pub read_items-returns-clause-ok : goal.read_items-returns-clause-ok
+read_items-returns-clause-ok t c =
+    let l = c.items in
+    let r = c.take_end_array.new.self in
+    l.invariant.decides ∙ ap (parse_map (items_before l.found.items)) (items_over c.args.depth l.reader r (grind arith)) ∙ ap (λ ds. Some (ds, r)) (items_before-no_items l.found.items)
+
+pub read_members-members-init : goal.read_members-members-init
+read_members-members-init t c = record { decides = ap (λ es. next_members c.args.depth (members_view es) c.args.reader.now) (sym c.new-found.ensures.empty); fewer = omega arith }
+
+pub read_members-returns-in_err-name-clause-text : goal.read_members-returns-in_err-name-clause-text
+read_members-returns-in_err-name-clause-text t c refused =
+    let l = c.members in
+    l.invariant.decides ∙ key_refused c.args.depth (members_view l.found.entries) l.reader c.in_err-name.ensures.value
+
+pub read_members-returns-in_err-member-clause-text : goal.read_members-returns-in_err-member-clause-text
+read_members-returns-in_err-member-clause-text t c refused =
+    let l = c.members in
+    let k = c.in-Some.name.now in
+    let s = c.next_key.new.self in
+    let named : read_key l.reader ≡ Some (Some k, s) = grind arith in
+    l.invariant.decides ∙ member_refused c.args.depth (members_view l.found.entries) k l.reader s named (c.read_value.ensures.text (grind arith))
+
+pub read_members-members-preserved : goal.read_members-members-preserved
+read_members-members-preserved t c =
+    let l = c.members in
+    let old = members_view l.found.entries in
+    let k = c.in-Some.name.now in
+    let s = c.next_key.new.self in
+    let named : read_key l.reader ≡ Some (Some k, s) = grind arith in
+    let done = c.in_ok-member.ensures in
+    let v = c.in_ok-member.member in
+    let r = c.read_value.new.reader in
+    let less = read_key-shorter l.reader (Some k) s named in
+    let lesser = done.shorter in
+    let copied : string_bytes c.in_ok-key.key ≡ k = search rules in
+    let inserted : members_view c.insert.new.self.entries ≡ put k (view v) old =
+    ap members_view c.in_ok-insert.ensures.entries ∙ members_view-insert_entry l.found.entries c.in_ok-key.key v ∙ ap (λ name. put name (view v) old) copied in
+    record {
+      decides = l.invariant.decides ∙ member_read c.args.depth old k l.reader s r (view v) named done.ok ∙ ap (λ found. next_members c.args.depth found r) (sym inserted);
+      fewer = omega (arith, l.invariant.fewer);
+    }
+
+pub read_members-returns-clause-ok : goal.read_members-returns-clause-ok
+read_members-returns-clause-ok t c =
+    let l = c.members in
+    l.invariant.decides ∙ members_over c.args.depth (members_view l.found.entries) l.reader c.next_key.new.self (grind arith)

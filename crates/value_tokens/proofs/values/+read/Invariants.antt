@@ -1,0 +1,36 @@
+use Rattle.std.proofs.Common.{◌≡◌, ◌+◌, ◌*◌, ◌≤◌, length}
+use Rattle.json.specs.Json.{parse_map}
+use Rattle.serde_json.specs.Data.{no_members}
+use Rattle.serde_json.specs.View.{members_view}
+use Rattle.value_tokens.proofs.Grown.{items_before}
+use Rattle.value_tokens.specs.Next.{next_items, next_members}
+use Rattle.value_tokens.proofs.values.+read.Given as goal
+
+abbrev pub decreases-read_value : goal.decreases-read_value
+decreases-read_value l = 2 * l.depth
+
+abbrev pub decreases-read_items : goal.decreases-read_items
+decreases-read_items l = 2 * l.depth + 1
+
+abbrev pub decreases-read_members : goal.decreases-read_members
+decreases-read_members l = 2 * l.depth + 1
+
+-- what is left goes behind the items so far
+abbrev pub invariant-read_items-items : goal.invariant-read_items-items
+invariant-read_items-items l = record {
+  decides : next_items l.depth l.initial.reader ≡ parse_map (items_before l.found.items) (next_items l.depth l.reader);
+  fewer : length l.reader ≤ length l.initial.reader;
+}
+
+abbrev pub decreases-read_items-items : goal.decreases-read_items-items
+decreases-read_items-items l = length l.reader
+
+-- what is left is put into the members so far
+abbrev pub invariant-read_members-members : goal.invariant-read_members-members
+invariant-read_members-members l = record {
+  decides : next_members l.depth no_members l.initial.reader ≡ next_members l.depth (members_view l.found.entries) l.reader;
+  fewer : length l.reader ≤ length l.initial.reader;
+}
+
+abbrev pub decreases-read_members-members : goal.decreases-read_members-members
+decreases-read_members-members l = length l.reader
