@@ -5,6 +5,7 @@ pub mod CrsValue
 pub mod Parts
 pub mod Written
 pub mod Read
+pub mod Slots
 pub mod Transform
 pub mod Whole
 pub mod Prints

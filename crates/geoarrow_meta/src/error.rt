@@ -1,12 +1,11 @@
 //! The errors with which a metadata is refused.
 ghost use Rattle.std.specs.Prelude.{◌≡◌, ◌⊎◌};
 ghost use Rattle.arrow_values.specs.Errors.{IsMemory as IsArrowMemory, IsArrowFormOf};
-ghost use Rattle.serde_json.specs.Errors.{IsMemory};
 ghost use Rattle.geoarrow_meta.specs.Read.{IsCrsOrMemory, IsExternalOrMemory, MeansUnread};
 
 use arrow_values::{ArrowError, GeoArrowError};
-use serde_json::{Category, Error};
 use std::alloc::Global;
+use value_tokens::Refusal;
 
 // A `Crs` error of that text; want of memory where there is none for the text.
 pub(crate) fn crs_fault(alloc: Global, text: &str) -> GeoArrowError
@@ -39,11 +38,11 @@ pub(crate) fn boxed(alloc: Global, error: GeoArrowError) -> ArrowError
 }
 
 // What is answered for a text that was not read.
-pub(crate) fn unread(alloc: Global, error: &Error) -> ArrowError
-    ensures { MeansUnread (IsMemory error.now) result }
+pub(crate) fn unread(alloc: Global, refusal: Refusal) -> ArrowError
+    ensures { MeansUnread (refusal ≡ Refusal.Memory) result }
 {
-    if let Category::Memory = error.classify() {
-        return ArrowError::OutOfMemory;
+    match refusal {
+        Refusal::Memory => ArrowError::OutOfMemory,
+        Refusal::Text => boxed(alloc, external_fault(alloc, "metadata is not JSON")),
     }
-    boxed(alloc, external_fault(alloc, "metadata is not JSON"))
 }

@@ -3,6 +3,8 @@ ghost use Rattle.std.specs.Prelude.{◌≡◌, ◌⊎◌, ◌↔◌, IsTrue, Opt
 ghost use Rattle.std.specs.Arc.{arc_value};
 ghost use Rattle.arrow_values.specs.Errors.{IsMemory};
 ghost use Rattle.arrow_values.specs.Texts.{text_of, extension_metadata};
+ghost use Rattle.serde_json.specs.Data.{Data};
+ghost use Rattle.serde_json.specs.Find.{as_object};
 ghost use Rattle.serde_json.specs.Read.{max_depth};
 ghost use Rattle.serde_json.specs.View.{view};
 ghost use Rattle.serde_json.specs.Written.{has_float, compact_text};
@@ -11,9 +13,11 @@ ghost use Rattle.geoarrow_meta.specs.CrsValue.{IsCrsValue};
 ghost use Rattle.geoarrow_meta.specs.Parts.{crs_value, metadata_crs, metadata_edges};
 ghost use Rattle.geoarrow_meta.specs.Written.{empty, meta_value, printed, normal, is_bare, IsReadBack, NestsWithin};
 ghost use Rattle.geoarrow_meta.specs.Read.{StandsFor, TextStandsFor, RefusedAs, TextRefusedAs};
+ghost use Rattle.geoarrow_meta.specs.Slots.{AreSlotsOf};
 
 mod print;
 mod read;
+mod tokens;
 mod write;
 
 use crate::crs::{Crs, CrsValue};
@@ -21,12 +25,13 @@ use crate::edges::Edges;
 use crate::error::{boxed, crs_fault, external_fault, unread};
 use crate::walks::holds_whole_numbers;
 use arrow_values::{ArrowError, Field, GeoArrowResult};
-use json::Writer;
+use json::{Scratch, Writer};
 use print::print_parts;
-use read::{present_at, read_crs_type, read_edges};
+use read::{Slots, slots_of};
 use serde_json::Value;
 use std::alloc::{AllocError, Global};
 use std::sync::Arc;
+use tokens::read_slots;
 use write::written_value;
 
 /// The metadata of an extension type (GeoArrow, "Extension types", "Extension metadata"): a CRS, and how edges run. The
@@ -100,20 +105,35 @@ impl Metadata {
         if !value.is_object() {
             return Err(external_fault(alloc, "metadata is not an object"));
         }
-        let crs = present_at(value, "crs");
-        if let Some(found) = crs {
+        Metadata::of_slots(alloc, slots_of(alloc, value)?)
+    }
+
+    // The metadata of what stands at the three keys of an object.
+    fn of_slots(alloc: Global, slots: Slots) -> GeoArrowResult<Metadata>
+        requires { (d : Data) × AreSlotsOf d (option_map view slots.crs) slots.crs_type slots.edges }
+        ensures ok { IfOk result (λ m. (d : Data) → IsSome (as_object d)
+            → AreSlotsOf d (option_map view slots.crs) slots.crs_type slots.edges → StandsFor d m) }
+        ensures err { IfErr result (λ e. (d : Data) → IsSome (as_object d)
+            → AreSlotsOf d (option_map view slots.crs) slots.crs_type slots.edges → RefusedAs d e) }
+    {
+        let Slots {
+            crs,
+            crs_type,
+            edges,
+        } = slots;
+        if let Some(found) = &crs {
             if !holds_whole_numbers(found) {
                 return Err(crs_fault(alloc, "CRS holds a number that is not whole"));
             }
         }
-        let Some(crs_type) = read_crs_type(present_at(value, "crs_type")) else {
+        let Some(crs_type) = crs_type else {
             return Err(external_fault(alloc, "unknown crs_type"));
         };
-        let Some(edges) = read_edges(present_at(value, "edges")) else {
+        let Some(edges) = edges else {
             return Err(external_fault(alloc, "unknown edges"));
         };
         let kept = match crs {
-            Some(found) => Some(CrsValue::new(found.clone()?)),
+            Some(found) => Some(CrsValue::new(found)),
             None => None,
         };
         Ok(Metadata {
@@ -169,12 +189,43 @@ impl Metadata {
         let Some(text) = metadata else {
             return Ok(Metadata::default());
         };
-        let value = match Value::from_str(alloc, text) {
-            Ok(value) => value,
-            Err(e) => return Err(unread(alloc, &e)),
+        let mut scratch = Scratch::new(alloc);
+        Metadata::of_text(alloc, text, &mut scratch)
+    }
+
+    /// The same as `deserialize`, in a scratch that the caller keeps: many texts that are read with one scratch cost less
+    /// than with a scratch each. Nothing of a text stays in it that another text could see.
+    pub fn deserialize_with_scratch(
+        alloc: Global,
+        metadata: Option<&str>,
+        scratch: &mut Scratch,
+    ) -> Result<Metadata, ArrowError>
+        ensures exact { MatchResult result (TextStandsFor (text_of metadata.entry))
+            (λ e. IsMemory e
+            ⊎ ((m : Metadata) → TextStandsFor (text_of metadata.entry) m → ⊥)) }
+        ensures refusal { IfErr result (TextRefusedAs (text_of metadata.entry)) }
+        ensures no_memory { text_of metadata.entry ≡ None → IsOk result }
+    {
+        match metadata {
+            Some(text) => Metadata::of_text(alloc, text, scratch),
+            None => Ok(Metadata::default()),
+        }
+    }
+
+    // The metadata that a text stands for.
+    fn of_text(alloc: Global, text: &str, scratch: &mut Scratch) -> Result<Metadata, ArrowError>
+        ensures exact { MatchResult result (TextStandsFor (Some text.now))
+            (λ e. IsMemory e
+            ⊎ ((m : Metadata) → TextStandsFor (Some text.now) m → ⊥)) }
+        ensures refusal { IfErr result (TextRefusedAs (Some text.now)) }
+    {
+        let read = match read_slots(alloc, text, scratch) {
+            Ok(Some(slots)) => Metadata::of_slots(alloc, slots),
+            Ok(None) => Err(external_fault(alloc, "metadata is not an object")),
+            Err(refusal) => return Err(unread(alloc, refusal)),
         };
-        match Metadata::from_value(alloc, &value) {
-            Ok(read) => Ok(read),
+        match read {
+            Ok(metadata) => Ok(metadata),
             Err(e) => Err(boxed(alloc, e)),
         }
     }
@@ -203,6 +254,21 @@ impl Metadata {
         ensures no_memory { extension_metadata field.now ≡ None → IsOk result }
     {
         Metadata::deserialize(alloc, field.extension_type_metadata())
+    }
+
+    /// The same as `try_from_field`, in a scratch that the caller keeps.
+    pub fn try_from_field_with_scratch(
+        alloc: Global,
+        field: &Field,
+        scratch: &mut Scratch,
+    ) -> Result<Metadata, ArrowError>
+        ensures exact { MatchResult result (TextStandsFor (extension_metadata field.now))
+            (λ e. IsMemory e
+            ⊎ ((m : Metadata) → TextStandsFor (extension_metadata field.now) m → ⊥)) }
+        ensures refusal { IfErr result (TextRefusedAs (extension_metadata field.now)) }
+        ensures no_memory { extension_metadata field.now ≡ None → IsOk result }
+    {
+        Metadata::deserialize_with_scratch(alloc, field.extension_type_metadata(), scratch)
     }
 
     /// Whether both are written as the same JSON value: their normal forms are equal. Takes no memory.

@@ -6,7 +6,7 @@ use Rattle.json.specs.Reads.{token_of}
 use Rattle.json.specs.declared.token.Token.{Token}
 use Rattle.json.specs.declared.token.Token.TheVariants.{BeginObject, EndObject, BeginArray, EndArray, Key, String, Number, Bool as Boolean, Null, Bad}
 use Rattle.serde_json.specs.Data.{Num, Data, null, boolean, number, string, array, object, Items, Members, no_members}
-use Rattle.serde_json.specs.Find.{as_str, as_bool, as_number, as_object, as_array}
+use Rattle.serde_json.specs.Find.{as_null, as_str, as_bool, as_number, as_object, as_array}
 use Rattle.serde_json.specs.Read.{number_of}
 use Rattle.value_tokens.specs.Next.{next_value, next_items, next_members, after, Reads, ReadsItems, ReadsMembers}
 use Rattle.value_tokens.specs.Turns.{value-array, value-object, array_too_deep, object_too_deep, after_some}
@@ -116,6 +116,18 @@ no_text (Number s) d b other = ap as_str b.1
 no_text (Boolean v) d b other = ap as_str b
 no_text Null d b other = ap as_str b
 no_text Bad d b other = absurd b
+
+pub no_null : (t : Token) (d : Data) → Begins t d → (t ≡ Null → ⊥) → as_null d ≡ None
+no_null BeginObject d b other = ap as_null b.1
+no_null EndObject d b other = absurd b
+no_null BeginArray d b other = ap as_null b.1
+no_null EndArray d b other = absurd b
+no_null (Key s) d b other = absurd b
+no_null (String s) d b other = ap as_null b
+no_null (Number s) d b other = ap as_null b.1
+no_null (Boolean v) d b other = ap as_null b
+no_null Null d b other = absurd (other refl)
+no_null Bad d b other = absurd b
 
 pub no_truth : (t : Token) (d : Data) → Begins t d → ((v : Bool) → t ≡ Boolean v → ⊥) → as_bool d ≡ None
 no_truth BeginObject d b other = ap as_bool b.1

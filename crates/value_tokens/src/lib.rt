@@ -28,3 +28,6 @@ pub use refusal::Refusal;
 pub use scalars::{read_bool, read_number, read_str, read_text};
 pub use skip::{skip_items, skip_members, skip_rest, skip_value};
 pub use values::read_value;
+
+/// How deep the arrays and objects of a text may nest where `serde_json` reads it.
+pub const MAX_DEPTH: usize = 127;

@@ -1,18 +1,50 @@
-//! What stands at the keys of a metadata's JSON object.
-ghost use Rattle.std.specs.Prelude.{◌≡◌, ◌≢◌, false, Option, IfSome, IsNone, is_some, option_map};
-ghost use Rattle.serde_json.specs.View.{view};
+//! What stands at the three keys of a metadata's JSON object.
+ghost use Rattle.std.specs.Prelude.{◌≡◌, Option, IfOk, IfSome, false, is_some, option_map};
+ghost use Rattle.serde_json.specs.Data.{Data};
 ghost use Rattle.serde_json.specs.Find.{as_null};
-ghost use Rattle.geoarrow_meta.specs.declared.crs.crs_type.CrsType.{CrsType};
-ghost use Rattle.geoarrow_meta.specs.declared.edges.Edges.{Edges};
+ghost use Rattle.serde_json.specs.View.{view};
 ghost use Rattle.geoarrow_meta.specs.Written.{crs_type_data, edges_data};
-ghost use Rattle.geoarrow_meta.specs.Read.{at_key};
+ghost use Rattle.geoarrow_meta.specs.Read.{at_key, present};
+ghost use Rattle.geoarrow_meta.specs.Slots.{IsWord, IsNamed, AreSlotsOf};
 
 use crate::crs::CrsType;
 use crate::edges::Edges;
 use serde_json::Value;
+use std::alloc::{AllocError, Global};
 
-// What stands at the key, null as absent.
-pub(crate) fn present_at<'v>(value: &'v Value, key: &str) -> Option<&'v Value>
+// What stands at the three keys, null as absent. Of a CRS type and of edges it is what the word there stands for, or the
+// absence of one; none where there is no such word.
+#[derive(Drop)]
+pub(crate) struct Slots {
+    pub(crate) crs: Option<Value>,
+    pub(crate) crs_type: Option<Option<CrsType>>,
+    pub(crate) edges: Option<Option<Edges>>,
+}
+
+// What stands where a word should, null as absent.
+#[derive(Clone, Copy, Drop)]
+pub(crate) enum Word<'a> {
+    Absent,
+    Text(&'a str),
+    Other,
+}
+
+// What stands at the three keys of a value. Errs for want of memory alone.
+pub(crate) fn slots_of(alloc: Global, value: &Value) -> Result<Slots, AllocError>
+    ensures { IfOk result (λ s. AreSlotsOf (view value.now) (option_map view s.crs) s.crs_type s.edges) }
+{
+    let crs = match present_at(value, "crs") {
+        Some(found) => Some(found.clone()?),
+        None => None,
+    };
+    Ok(Slots {
+        crs,
+        crs_type: crs_type_of(word_at(value, "crs_type")),
+        edges: edges_of(word_at(value, "edges")),
+    })
+}
+
+fn present_at<'v>(value: &'v Value, key: &str) -> Option<&'v Value>
     ensures value { option_map (λ v. view v.now) result ≡ at_key key.now (view value.now) }
     ensures some { IfSome result (λ v. is_some (as_null (view v.now)) ≡ false) }
 {
@@ -22,40 +54,42 @@ pub(crate) fn present_at<'v>(value: &'v Value, key: &str) -> Option<&'v Value>
     }
 }
 
-// The CRS type, or its absence, that is written so; none where none is.
-pub(crate) fn read_crs_type(found: Option<&Value>) -> Option<Option<CrsType>>
-    ensures ok { IfSome result (λ t. option_map crs_type_data t
-        ≡ option_map (λ v. view v.now) found.entry) }
-    ensures none { IsNone result → (t : Option CrsType)
-        → option_map crs_type_data t ≢ option_map (λ v. view v.now) found.entry }
+fn word_at<'v>(value: &'v Value, key: &str) -> Word<'v>
+    ensures { IsWord result (at_key key.now (view value.now)) }
 {
-    match found {
-        None => Some(None),
-        Some(value) => match value.as_str() {
-            None => None,
-            Some(text) => match CrsType::from_text(text) {
-                None => None,
-                Some(crs_type) => Some(Some(crs_type)),
-            },
+    match present_at(value, key) {
+        None => Word::Absent,
+        Some(found) => match found.as_str() {
+            Some(text) => Word::Text(text),
+            None => Word::Other,
         },
     }
 }
 
-// The edges, or their absence, that are written so; none where none are.
-pub(crate) fn read_edges(found: Option<&Value>) -> Option<Option<Edges>>
-    ensures ok { IfSome result (λ e. option_map edges_data e
-        ≡ option_map (λ v. view v.now) found.entry) }
-    ensures none { IsNone result → (e : Option Edges)
-        → option_map edges_data e ≢ option_map (λ v. view v.now) found.entry }
+// The CRS type, or its absence, that is written so; none where none is.
+pub(crate) fn crs_type_of(word: Word<'_>) -> Option<Option<CrsType>>
+    ensures { (found : Option Data) → IsWord word.entry found → IsNamed crs_type_data result found }
 {
-    match found {
-        None => Some(None),
-        Some(value) => match value.as_str() {
+    match word {
+        Word::Absent => Some(None),
+        Word::Text(text) => match CrsType::from_text(text) {
+            Some(crs_type) => Some(Some(crs_type)),
             None => None,
-            Some(text) => match Edges::from_text(text) {
-                None => None,
-                Some(edges) => Some(Some(edges)),
-            },
         },
+        Word::Other => None,
+    }
+}
+
+// The edges, or their absence, that are written so; none where none are.
+pub(crate) fn edges_of(word: Word<'_>) -> Option<Option<Edges>>
+    ensures { (found : Option Data) → IsWord word.entry found → IsNamed edges_data result found }
+{
+    match word {
+        Word::Absent => Some(None),
+        Word::Text(text) => match Edges::from_text(text) {
+            Some(edges) => Some(Some(edges)),
+            None => None,
+        },
+        Word::Other => None,
     }
 }

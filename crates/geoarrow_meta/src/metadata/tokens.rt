@@ -1,0 +1,99 @@
+//! What stands at the three keys of the JSON object that a text is, from its tokens. The last value of a key counts.
+ghost use Rattle.std.specs.Prelude.{◌≡◌, ◌<◌, length, Some, None, Err, IfOk, OnOk, option_map};
+ghost use Rattle.serde_json.specs.Data.{Data, Members, no_members, object};
+ghost use Rattle.serde_json.specs.Read.{read};
+ghost use Rattle.serde_json.specs.View.{view};
+ghost use Rattle.value_tokens.specs.Next.{next_value, next_members, Reads};
+ghost use Rattle.geoarrow_meta.specs.Read.{present};
+ghost use Rattle.geoarrow_meta.specs.Slots.{IsWord, AreSlotsOf, Finds};
+
+use crate::metadata::read::{Slots, Word, crs_type_of, edges_of};
+use json::{Reader, Scratch, Token};
+use serde_json::Value;
+use std::alloc::Global;
+use value_tokens::{MAX_DEPTH, Refusal, open_object, read_value, skip_rest, skip_value};
+
+// What stands at the three keys of the object that the text is, and none where it is none.
+pub(crate) fn read_slots(
+    alloc: Global,
+    text: &str,
+    scratch: &mut Scratch,
+) -> Result<Option<Slots>, Refusal>
+    ensures ok { IfOk result (λ o. (d : Data) × (read text.now ≡ Some d) × Finds o d) }
+    ensures text { result ≡ Err Refusal.Text → read text.now ≡ None }
+{
+    let mut reader = Reader::new(text, scratch)?;
+    let found = take_slots(alloc, &mut reader, MAX_DEPTH)?;
+    if reader.next().is_some() {
+        return Err(Refusal::Text);
+    }
+    Ok(found)
+}
+
+fn take_slots(
+    alloc: Global,
+    reader: &mut Reader<'_>,
+    depth: usize,
+) -> Result<Option<Slots>, Refusal>
+    ensures ok { IfOk result (λ o. (d : Data) × (next_value depth reader.old ≡ Some (d, reader.new)) × Finds o d) }
+    ensures text { result ≡ Err Refusal.Text → next_value depth reader.old ≡ None }
+{
+    match open_object(reader, depth)? {
+        Some(below) => Ok(Some(take_members(alloc, reader, below)?)),
+        None => Ok(None),
+    }
+}
+
+// The members that are left of an object.
+fn take_members(alloc: Global, reader: &mut Reader<'_>, depth: usize) -> Result<Slots, Refusal>
+    ensures ok { IfOk result (λ s. (ms : Members) × (next_members depth no_members reader.old ≡ Some (ms, reader.new))
+        × AreSlotsOf (object ms) (option_map view s.crs) s.crs_type s.edges) }
+    ensures text { result ≡ Err Refusal.Text → next_members depth no_members reader.old ≡ None }
+{
+    let mut crs = None;
+    let mut crs_type = Some(None);
+    let mut edges = Some(None);
+    'slots: while let Some(key) = reader.next_key()? {
+        match key {
+            "crs" => crs = take_crs(alloc, reader, depth)?,
+            "crs_type" => crs_type = crs_type_of(take_word(reader, depth)?),
+            "edges" => edges = edges_of(take_word(reader, depth)?),
+            _ => skip_value(reader, depth)?,
+        }
+    }
+    Ok(Slots {
+        crs,
+        crs_type,
+        edges,
+    })
+}
+
+// The value that comes next, null as absent.
+fn take_crs(alloc: Global, reader: &mut Reader<'_>, depth: usize) -> Result<Option<Value>, Refusal>
+    ensures ok { IfOk result (λ o. Reads (λ d. present (Some d)) depth reader.old (option_map view o) reader.new) }
+    ensures shorter { OnOk result (length reader.new < length reader.old) }
+    ensures text { result ≡ Err Refusal.Text → next_value depth reader.old ≡ None }
+{
+    let value = read_value(alloc, reader, depth)?;
+    if value.is_null() {
+        return Ok(None);
+    }
+    Ok(Some(value))
+}
+
+// The word that comes next. Takes no memory.
+fn take_word<'a>(reader: &mut Reader<'a>, depth: usize) -> Result<Word<'a>, Refusal>
+    ensures ok { IfOk result (λ w. (d : Data) × (next_value depth reader.old ≡ Some (d, reader.new)) × IsWord w (present (Some d))) }
+    ensures shorter { OnOk result (length reader.new < length reader.old) }
+    ensures text { result ≡ Err Refusal.Text → next_value depth reader.old ≡ None }
+{
+    let token = reader.next().ok_or(Refusal::Text)?;
+    match token {
+        Token::String(text) => Ok(Word::Text(text)),
+        Token::Null => Ok(Word::Absent),
+        other => {
+            skip_rest(other, reader, depth)?;
+            Ok(Word::Other)
+        }
+    }
+}
