@@ -6,6 +6,7 @@ use arrow_values::{
 };
 use geoarrow_meta::Metadata;
 use geoarrow_meta::laws::text_stands_for_one;
+use json::Scratch;
 use std::alloc::{AllocError, Global};
 use std::test::Fail;
 use test_fields::notation::{column, described};
@@ -103,6 +104,9 @@ fn of_a_field_is_that_of_its_text(rt: HostRuntime) -> Result<(), Fail> {
     let alloc = rt.alloc();
     let field = described(alloc, "example.other", SPHERICAL, "Utf8")?;
     assert!(rt; Metadata::try_from_field(alloc, &field)? == spherical(alloc));
+    let mut scratch = Scratch::new(alloc);
+    let read = Metadata::try_from_field_with_scratch(alloc, &field, &mut scratch)?;
+    assert!(rt; read == spherical(alloc));
     Ok(())
 }
 

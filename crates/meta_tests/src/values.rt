@@ -2,6 +2,7 @@
 //! written and converted are rows of `meta_rows`.
 use crate::parts::{SPHERICAL, empty_projjson, spherical};
 use geoarrow_meta::{Crs, Edges, Metadata};
+use json::Scratch;
 use serde_json::Value;
 use std::alloc::Global;
 use std::test::Fail;
@@ -24,6 +25,20 @@ fn are_those_of_their_text(rt: HostRuntime) -> Result<(), Fail> {
     let wanted = spherical(alloc);
     assert!(rt; Metadata::deserialize(alloc, Some(SPHERICAL))? == wanted);
     assert!(rt; *Metadata::deserialize_shared(alloc, Some(SPHERICAL))? == wanted);
+    Ok(())
+}
+
+#[test]
+fn are_those_of_texts_read_in_one_scratch(rt: HostRuntime) -> Result<(), Fail> {
+    let alloc = rt.alloc();
+    let mut scratch = Scratch::new(alloc);
+    let escaped = r#"{"crs":"\u0061:\n","crs":null,"edges":"kar\u006eey"}"#;
+    let karney = Metadata::new(Crs::default(), Some(Edges::Karney));
+    assert!(rt; Metadata::deserialize_with_scratch(alloc, Some(escaped), &mut scratch)? == karney);
+    let read = Metadata::deserialize_with_scratch(alloc, Some(SPHERICAL), &mut scratch)?;
+    assert!(rt; read == spherical(alloc));
+    let default = Metadata::deserialize_with_scratch(alloc, None, &mut scratch)?;
+    assert!(rt; default == Metadata::default());
     Ok(())
 }
 
