@@ -1,10 +1,9 @@
 //! What stands at the three keys of a metadata's JSON object.
-ghost use Rattle.std.specs.Prelude.{◌≡◌, Option, IfOk, IfSome, false, is_some, option_map};
+ghost use Rattle.std.specs.Prelude.{◌≡◌, Option, IfOk, option_map};
 ghost use Rattle.serde_json.specs.Data.{Data};
-ghost use Rattle.serde_json.specs.Find.{as_null};
 ghost use Rattle.serde_json.specs.View.{view};
 ghost use Rattle.geoarrow_meta.specs.Written.{crs_type_data, edges_data};
-ghost use Rattle.geoarrow_meta.specs.Read.{at_key, present};
+ghost use Rattle.geoarrow_meta.specs.Read.{at_key};
 ghost use Rattle.geoarrow_meta.specs.Slots.{IsWord, IsNamed, AreSlotsOf};
 
 use crate::crs::CrsType;
@@ -45,8 +44,7 @@ pub(crate) fn slots_of(alloc: Global, value: &Value) -> Result<Slots, AllocError
 }
 
 fn present_at<'v>(value: &'v Value, key: &str) -> Option<&'v Value>
-    ensures value { option_map (λ v. view v.now) result ≡ at_key key.now (view value.now) }
-    ensures some { IfSome result (λ v. is_some (as_null (view v.now)) ≡ false) }
+    ensures { option_map (λ v. view v.now) result ≡ at_key key.now (view value.now) }
 {
     match value.get(key) {
         Some(found) if !found.is_null() => Some(found),
