@@ -7,7 +7,7 @@ ghost use Rattle.serde_json.specs.Data.{Data};
 ghost use Rattle.serde_json.specs.Find.{as_object};
 ghost use Rattle.serde_json.specs.Read.{max_depth};
 ghost use Rattle.serde_json.specs.View.{view};
-ghost use Rattle.serde_json.specs.Written.{has_float, compact_text};
+ghost use Rattle.serde_json.specs.Written.{has_float};
 ghost use Rattle.geoarrow_meta.specs.declared.metadata.Metadata.{Metadata};
 ghost use Rattle.geoarrow_meta.specs.CrsValue.{IsCrsValue};
 ghost use Rattle.geoarrow_meta.specs.Parts.{crs_value, metadata_crs, metadata_edges};

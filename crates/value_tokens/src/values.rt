@@ -73,9 +73,8 @@ fn read_members(
 {
     let mut found = Map::new(alloc);
     'members: while let Some(name) = reader.next_key()? {
-        let key = String::from_str(alloc, name)?;
         let member = read_value(alloc, reader, depth)?;
-        drop(found.insert(key, member)?);
+        serde_json::put(&mut found, alloc, name, member)?;
     }
     Ok(found)
 }

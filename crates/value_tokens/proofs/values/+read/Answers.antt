@@ -1,4 +1,4 @@
-use Rattle.std.proofs.Common.{◌≡◌, ◌<◌, [], ◌∷◌, length, Some, None, option_map, string_bytes, sym, ap, ap₂, ◌∙◌, arith, rules}
+use Rattle.std.proofs.Common.{◌≡◌, ◌<◌, [], ◌∷◌, length, Some, None, option_map, sym, ap, ap₂, ◌∙◌, arith, rules}
 use Rattle.json.specs.Token.{Token}
 use Rattle.json.specs.Json.{parse_map, after_end_array, read_key}
 use Rattle.json.specs.Reads.{token_of}
@@ -6,7 +6,7 @@ use Rattle.json.proofs.Grammar.{read_key-shorter}
 use Rattle.serde_json.specs.Data.{null, boolean, number, string, array, object, put}
 use Rattle.serde_json.specs.View.{view, number_view, members_view}
 use Rattle.serde_json.specs.declared.value.Value.{String, Number, Bool, Null, the_lemmas}
-use Rattle.serde_json.proofs.Views.{view-Array, view-Object, members_view-insert_entry}
+use Rattle.serde_json.proofs.Views.{view-Array, view-Object}
 use Rattle.value_tokens.proofs.Grown.{items_before, items_before-no_items, one_more_item, none_before}
 use Rattle.value_tokens.specs.Next.{next_value, next_items, next_members}
 use Rattle.value_tokens.specs.Beginnings.{next_string, next_boolean, next_null, next_number}
@@ -158,9 +158,7 @@ read_members-members-preserved t c =
     let r = c.read_value.new.reader in
     let less = read_key-shorter l.reader (Some k) s named in
     let lesser = done.shorter in
-    let copied : string_bytes c.in_ok-key.key ≡ k = search rules in
-    let inserted : members_view c.insert.new.self.entries ≡ put k (view v) old =
-    ap members_view c.in_ok-insert.ensures.entries ∙ members_view-insert_entry l.found.entries c.in_ok-key.key v ∙ ap (λ name. put name (view v) old) copied in
+    let inserted : members_view c.put.new.map.entries ≡ put k (view v) old = c.in_ok-put.ensures.ok in
     record {
       decides = l.invariant.decides ∙ member_read c.args.depth old k l.reader s r (view v) named done.ok ∙ ap (λ found. next_members c.args.depth found r) (sym inserted);
       fewer = omega (arith, l.invariant.fewer);
