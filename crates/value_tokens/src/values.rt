@@ -1,6 +1,6 @@
 //! A value taken whole, in memory of its own.
 ghost use Rattle.std.specs.Prelude.{◌≡◌, ◌<◌, length, Some, None, Err, IfOk, OnOk};
-ghost use Rattle.serde_json.specs.Data.{no_members};
+ghost use Rattle.serde_json.specs.Data.{no_members, put};
 ghost use Rattle.serde_json.specs.View.{view, items_view, members_view};
 ghost use Rattle.value_tokens.specs.Next.{next_value, next_items, next_members};
 
@@ -8,7 +8,7 @@ use crate::numbers::number_of;
 use crate::refusal::Refusal;
 use json::{Reader, Token};
 use serde_json::{Map, Value};
-use std::alloc::Global;
+use std::alloc::{AllocError, Global};
 
 /// Takes a value, and answers it.
 #[cycle(read)]
@@ -74,7 +74,21 @@ fn read_members(
     let mut found = Map::new(alloc);
     'members: while let Some(name) = reader.next_key()? {
         let member = read_value(alloc, reader, depth)?;
-        serde_json::put(&mut found, alloc, name, member)?;
+        put(&mut found, alloc, name, member)?;
     }
     Ok(found)
+}
+
+/// Puts a member into those that were found. Out of line, since an object may nest deep and this would take room on the
+/// stack at each level.
+#[inline(never)]
+fn put(
+    found: &mut Map<String, Value>,
+    alloc: Global,
+    name: &str,
+    member: Value,
+) -> Result<(), AllocError>
+    ensures { OnOk result (members_view found.new.entries ≡ put name.now (view member) (members_view found.old.entries)) }
+{
+    serde_json::put(found, alloc, name, member)
 }

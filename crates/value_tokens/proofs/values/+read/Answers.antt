@@ -158,7 +158,7 @@ read_members-members-preserved t c =
     let r = c.read_value.new.reader in
     let less = read_key-shorter l.reader (Some k) s named in
     let lesser = done.shorter in
-    let inserted : members_view c.put.new.map.entries ≡ put k (view v) old = c.in_ok-put.ensures.ok in
+    let inserted : members_view c.put.new.found.entries ≡ put k (view v) old = c.in_ok-put.ensures in
     record {
       decides = l.invariant.decides ∙ member_read c.args.depth old k l.reader s r (view v) named done.ok ∙ ap (λ found. next_members c.args.depth found r) (sym inserted);
       fewer = omega (arith, l.invariant.fewer);
