@@ -13,8 +13,7 @@ use Rattle.std.proofs.lemmas.Slice.Eq.{bytes_eq-Decides}
 use Rattle.std.proofs.lemmas.Bool.Decides.{Decides-like, same_from_decides}
 use Rattle.arrow_values.specs.Tree.{Text, Metadata}
 use Rattle.arrow_values.specs.View.{texts_of}
-use Rattle.arrow_values.specs.Texts.{text_at, put_text, remove_text, set_extension, SetsExtension}
-use Rattle.arrow_values.specs.declared.tree.parts.TheConstants.{EXTENSION_TYPE_NAME_KEY, EXTENSION_TYPE_METADATA_KEY}
+use Rattle.arrow_values.specs.Texts.{name_key, metadata_key, text_at, put_text, remove_text, set_extension, SetsExtension}
 
 abbrev Entry : Type 0
 Entry = String Global × String Global
@@ -83,11 +82,11 @@ text_at-remove k q (e ∷ m) = remove_step (bytes_eq k e.0) k q e m refl (text_a
 
 pub sets_extension : (name : Text) (text : Option Text) (m : Metadata) → SetsExtension name text m (set_extension name text m)
 sets_extension name None m =
-    λ q. text_at-remove EXTENSION_TYPE_METADATA_KEY.now q (put_text EXTENSION_TYPE_NAME_KEY.now name m)
-    ∙ ap (λ o. cond (bytes_eq EXTENSION_TYPE_METADATA_KEY.now q) None o) (text_at-put EXTENSION_TYPE_NAME_KEY.now name q m)
+    λ q. text_at-remove metadata_key q (put_text name_key name m)
+    ∙ ap (λ o. cond (bytes_eq metadata_key q) None o) (text_at-put name_key name q m)
 sets_extension name (Some text) m =
-    λ q. text_at-put EXTENSION_TYPE_METADATA_KEY.now text q (put_text EXTENSION_TYPE_NAME_KEY.now name m)
-    ∙ ap (λ o. cond (bytes_eq EXTENSION_TYPE_METADATA_KEY.now q) (Some text) o) (text_at-put EXTENSION_TYPE_NAME_KEY.now name q m)
+    λ q. text_at-put metadata_key text q (put_text name_key name m)
+    ∙ ap (λ o. cond (bytes_eq metadata_key q) (Some text) o) (text_at-put name_key name q m)
 
 -- the entries of a map: what an insert leaves
 moved : (r : Ordering) (a b c : List Entry) → texts_of (match_ordering r a b c) ≡ match_ordering r (texts_of a) (texts_of b) (texts_of c)
@@ -127,8 +126,13 @@ pub sets_extension_at : (name : Text) (text : Option Text) (m n : Metadata) → 
 sets_extension_at name text m n is = λ q. ap (text_at q) is ∙ sets_extension name text m q
 
 -- what a field has at the two keys after they were set
-pub name_set : (name : Text) (text : Option Text) (m : Metadata) → text_at EXTENSION_TYPE_NAME_KEY.now (set_extension name text m) ≡ Some name
-name_set name text m = sets_extension name text m EXTENSION_TYPE_NAME_KEY.now
+pub name_set : (name : Text) (text : Option Text) (m : Metadata) → text_at name_key (set_extension name text m) ≡ Some name
+name_set name text m = sets_extension name text m name_key
 
-pub metadata_set : (name : Text) (text : Option Text) (m : Metadata) → text_at EXTENSION_TYPE_METADATA_KEY.now (set_extension name text m) ≡ text
-metadata_set name text m = sets_extension name text m EXTENSION_TYPE_METADATA_KEY.now
+pub metadata_set : (name : Text) (text : Option Text) (m : Metadata) → text_at metadata_key (set_extension name text m) ≡ text
+metadata_set name text m = sets_extension name text m metadata_key
+
+-- a name alone leaves nothing to remove at the metadata key
+pub nothing_removed : (name : Text) (m : Metadata) → m ≡ [] → put_text name_key name m ≡ remove_text metadata_key (put_text name_key name m)
+nothing_removed name [] e = refl
+nothing_removed name (x ∷ m) e = absurd (cc)

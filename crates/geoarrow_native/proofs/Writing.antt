@@ -13,14 +13,13 @@ use Rattle.geoarrow_meta.specs.Read.{TextStandsFor}
 use Rattle.arrow_values.specs.Texts.{extension_metadata}
 use Rattle.geoarrow_native.specs.Column.{ReadsAs, written_field}
 use Rattle.std.specs.Prelude.{[]}
-use Rattle.arrow_values.specs.declared.tree.parts.TheConstants.{EXTENSION_TYPE_NAME_KEY, EXTENSION_TYPE_METADATA_KEY}
-use Rattle.arrow_values.specs.Texts.{text_at}
+use Rattle.arrow_values.specs.Texts.{text_at, name_key, metadata_key}
 
-name_set : (name : Text) (text : Option Text) → text_at EXTENSION_TYPE_NAME_KEY.now (set_extension name text []) ≡ Some name
+name_set : (name : Text) (text : Option Text) → text_at name_key (set_extension name text []) ≡ Some name
 name_set name None = refl
 name_set name (Some text) = refl
 
-metadata_set : (name : Text) (text : Option Text) → text_at EXTENSION_TYPE_METADATA_KEY.now (set_extension name text []) ≡ text
+metadata_set : (name : Text) (text : Option Text) → text_at metadata_key (set_extension name text []) ≡ text
 metadata_set name None = refl
 metadata_set name (Some text) = refl
 

@@ -1,8 +1,7 @@
 -- A field in normal form reads as that.
 use Rattle.std.proofs.Common.{◌≡◌, sym, ap, subst, Result, Ok, Err, IfOk}
 use Rattle.arrow_values.specs.Tree.{FieldTree}
-use Rattle.arrow_values.specs.Texts.{SetsExtension}
-use Rattle.arrow_values.specs.declared.tree.parts.TheConstants.{EXTENSION_TYPE_NAME_KEY, EXTENSION_TYPE_METADATA_KEY}
+use Rattle.arrow_values.specs.Texts.{SetsExtension, name_key, metadata_key}
 use Rattle.geoarrow_layout.specs.declared.encodings.Kind.{Kind}
 use Rattle.geoarrow_layout.specs.Kinds.{name_of}
 use Rattle.geoarrow_layout.specs.Shapes.{Accepted, Accepts}
@@ -17,8 +16,8 @@ pub rewritten_reads : (f n : FieldTree) (k : Kind) (m : Metadata) → n ≡ rewr
     → Accepts (name_of k) (layout k) k → TextStandsFor (printed m) (normal m) → ReadsAs n k (normal m)
 unfolding ReadsAs
 rewritten_reads f n k m is sets column stands = (
-  (sets EXTENSION_TYPE_NAME_KEY.now, subst (Accepted k) (sym (ap (λ x. x.tree) is)) column.1),
-  subst (λ t. TextStandsFor t (normal m)) (sym (sets EXTENSION_TYPE_METADATA_KEY.now)) stands,
+  (sets name_key, subst (Accepted k) (sym (ap (λ x. x.tree) is)) column.1),
+  subst (λ t. TextStandsFor t (normal m)) (sym (sets metadata_key)) stands,
 )
 
 -- the normal form of a type, in place of the type
