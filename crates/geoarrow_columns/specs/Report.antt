@@ -1,13 +1,14 @@
 -- What is said of a column.
 use Rattle.std.specs.Prelude.{◌≡◌, ◌⊎◌, List, [], ◌∷◌, ⊤}
+use Rattle.std.proofs.Common.{inl, inr, sym, subst}
 use Rattle.arrow_values.specs.Tree.{FieldTree}
 use Rattle.arrow_values.specs.Texts.{extension_metadata}
 use Rattle.arrow_values.specs.Errors.{IsGeoMemory}
 use Rattle.arrow_values.specs.declared.error.GeoArrowError.{GeoArrowError}
-use Rattle.arrow_values.specs.declared.error.GeoArrowError.TheVariants.{InvalidGeoArrow as Invalid}
+use Rattle.arrow_values.specs.declared.error.GeoArrowError.TheVariants.{Arrow as OfArrow, InvalidGeoArrow as Invalid}
 use Rattle.geoarrow_meta.specs.declared.metadata.Metadata.{Metadata}
 use Rattle.geoarrow_meta.specs.Read.{TextStandsFor}
-use Rattle.geoarrow_schema.specs.Reads.{HasGeoArrowName, Reads, ReadsAsNone, RefusedAs, IsForeign}
+use Rattle.geoarrow_schema.specs.Reads.{HasGeoArrowName, Reads, ReadsAsNone, IsUnstored, IsRefusedBy}
 use Rattle.geoarrow_schema.specs.Infers.{Infers, InfersNone}
 use Rattle.geoarrow_columns.specs.declared.check.ColumnFault.{ColumnFault}
 use Rattle.geoarrow_columns.specs.declared.check.ColumnFault.TheVariants.{Arrow, InvalidGeoArrow}
@@ -18,14 +19,10 @@ use Rattle.geoarrow_columns.specs.declared.check.Column.TheVariants.{Geometry, I
 abbrev pub IsRefused : FieldTree → Type 0
 IsRefused f = HasGeoArrowName f × ReadsAsNone f
 
--- a field is refused for that: `InvalidGeoArrow` where it is foreign, and `Arrow` else
+-- a field is refused for that: `InvalidGeoArrow` where it is unstored, and `Arrow` else
 abbrev pub IsRefusedFor : FieldTree → ColumnFault → Type 0
-IsRefusedFor f InvalidGeoArrow = IsRefused f × IsForeign f
-IsRefusedFor f Arrow = IsRefused f × ¬ IsForeign f
-
--- a GeoArrow name stands on the field, and it is refused by the error, unless that is want of memory
-abbrev pub IsRefusedBy : FieldTree → GeoArrowError → Type 0
-IsRefusedBy f e = HasGeoArrowName f × (IsGeoMemory e ⊎ ReadsAsNone f) × (IsGeoMemory e ⊎ RefusedAs f e)
+IsRefusedFor f InvalidGeoArrow = IsRefused f × IsUnstored f
+IsRefusedFor f Arrow = IsRefused f × ¬ IsUnstored f
 
 -- no GeoArrow name stands on the field, and its metadata text stands for no metadata
 abbrev pub IsUnread : FieldTree → Type 0
@@ -53,3 +50,10 @@ IsReport _ _ = ⊥
 abbrev pub IsFaultOf : GeoArrowError → ColumnFault → Type 0
 IsFaultOf (Invalid s) fault = fault ≡ InvalidGeoArrow
 IsFaultOf _ fault = fault ≡ Arrow
+
+-- a refusal, but for want of memory, is for the fault of its error
+pub refused_for : (f : FieldTree) (e : GeoArrowError) (fault : ColumnFault) → ¬ IsGeoMemory e → IsFaultOf e fault → IsRefusedBy f e → IsRefusedFor f fault
+refused_for f e fault rich is (named, inl memory) = absurd (rich memory)
+refused_for f (Invalid s) fault rich is (named, inr (none, refused)) = subst (IsRefusedFor f) (sym is) ((named, none), refused)
+refused_for f (OfArrow a) fault rich is (named, inr (none, refused)) = subst (IsRefusedFor f) (sym is) ((named, none), refused.0)
+refused_for f e fault rich is (named, inr (none, refused)) = absurd refused

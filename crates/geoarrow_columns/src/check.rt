@@ -1,9 +1,8 @@
 //! What the columns of a schema hold.
 ghost use Rattle.std.specs.Prelude.{IfOk, IfErr};
-ghost use Rattle.arrow_values.specs.Tree.{FieldTree};
 ghost use Rattle.arrow_values.specs.Errors.{IsGeoMemory};
 ghost use Rattle.geoarrow_schema.specs.Reads.{HasGeoArrowName};
-ghost use Rattle.geoarrow_columns.specs.Report.{IsRefusedBy, IsRefusedFor, IsColumnOf, IsReport, IsFaultOf};
+ghost use Rattle.geoarrow_columns.specs.Report.{IsColumnOf, IsReport, IsFaultOf};
 
 use arrow_values::{ArrowError, Field, GeoArrowError};
 use geoarrow_schema::GeoArrowType;
@@ -56,7 +55,7 @@ pub fn check_column(alloc: Global, field: &Field) -> Result<Column, AllocError>
 }
 
 /// What a column without a GeoArrow name holds.
-#[tactic(auto, using(crate::proofs::Reports::other, crate::proofs::Reports::unread))]
+#[tactic(auto, using(crate::proofs::Reports::taken_for, crate::proofs::Reports::other))]
 fn infer_column(alloc: Global, field: &Field) -> Result<Column, AllocError>
     requires { ¬ HasGeoArrowName field.now }
     ensures { IfOk result (IsColumnOf field.now) }
@@ -72,13 +71,10 @@ fn infer_column(alloc: Global, field: &Field) -> Result<Column, AllocError>
 
 impl ColumnFault {
     /// The fault of a field that is refused by an error: `InvalidGeoArrow` for that variant, and `Arrow` for any other.
-    /// So a field with a GeoArrow name that `from_extension_field` refuses by the error is refused for that fault. Errs
-    /// where the error is want of memory.
-    #[tactic(auto, using(crate::proofs::Reports::refused_for))]
+    /// Errs where the error is want of memory.
     pub fn of_error(error: &GeoArrowError) -> Result<ColumnFault, AllocError>
         ensures memory { IfOk result (λ _. ¬ IsGeoMemory error.now) }
         ensures variant { IfOk result (λ fault. IsFaultOf error.now fault) }
-        ensures reason { IfOk result (λ fault. (f : FieldTree) → IsRefusedBy f error.now → IsRefusedFor f fault) }
         ensures refused { IfErr result (λ _. IsGeoMemory error.now) }
     {
         match error {

@@ -1,7 +1,6 @@
 //! The answer to one line.
-ghost use Rattle.std.specs.Prelude.{◌≡◌, ◌⊎◌, IfOk, string_bytes};
-ghost use Rattle.arrow_values.specs.Errors.{IsGeoMemory};
-ghost use Rattle.geoarrow_schema.specs.Reads.{HasGeoArrowName, ReadsAsNone, RefusedAs};
+ghost use Rattle.std.specs.Prelude.{◌≡◌, IfOk, string_bytes};
+ghost use Rattle.geoarrow_schema.specs.Reads.{IsRefusedBy};
 ghost use Rattle.geoarrow_fields.specs.Answer.{Answers, AnswersField, AnswersRefused};
 
 use crate::Command;
@@ -89,10 +88,9 @@ fn answer_columns(alloc: Global, field: &Field) -> Result<String, AllocError>
 }
 
 /// The answer to a field that is refused by that error, or want of memory.
+#[tactic(auto, using(geoarrow_columns::specs::Report::refused_for))]
 fn answer_refused(alloc: Global, field: &Field, error: &GeoArrowError) -> Result<String, AllocError>
-    requires named { HasGeoArrowName field.now }
-    requires none { IsGeoMemory error.now ⊎ ReadsAsNone field.now }
-    requires variant { IsGeoMemory error.now ⊎ RefusedAs field.now error.now }
+    requires { IsRefusedBy field.now error.now }
     ensures { IfOk result (λ answer. AnswersRefused field.now (string_bytes answer)) }
 {
     let fault = ColumnFault::of_error(error)?;

@@ -1,21 +1,16 @@
--- What was written stands for the normal form, a value stands for one metadata at most, and two metadata are written
--- alike exactly where their normal forms are equal.
-use Rattle.std.proofs.Common.{◌≡◌, ◌↔◌, ℕ, List, false, Option, Some, None, IfSome, option_map, refl, sym, ap, ◌∙◌, subst, true≢false, arith}
-use Rattle.std.proofs.lemmas.Slice.Eq.{bytes_eq-Decides}
-use Rattle.std.specs.Str.{bytes_eq}
-use Rattle.arrow_values.specs.Tree.{Text}
+-- What was written stands for the normal form, and two metadata are written alike exactly where their normal forms are
+-- equal.
+use Rattle.std.proofs.Common.{◌≡◌, ◌↔◌, false, Option, Some, None, IfSome, option_map, refl, sym, ap, ◌∙◌, subst, true≢false, arith}
 use Rattle.serde_json.specs.Data.{Data, null, boolean, number, string, array, object}
 use Rattle.serde_json.specs.Read.{max_depth}
 use Rattle.serde_json.specs.Written.{compact_text}
 use Rattle.geoarrow_meta.specs.declared.edges.Edges.{Edges}
-use Rattle.geoarrow_meta.specs.declared.edges.Edges.TheVariants.{Andoyer, Karney, Spherical, Thomas, Vincenty}
 use Rattle.geoarrow_meta.specs.declared.crs.crs_type.CrsType.{CrsType}
-use Rattle.geoarrow_meta.specs.declared.crs.crs_type.CrsType.TheVariants.{Projjson, Wkt2_2019, AuthorityCode, Srid}
 use Rattle.geoarrow_meta.specs.declared.metadata.Metadata.{Metadata}
 use Rattle.geoarrow_meta.specs.CrsValue.{IsCrsValue}
-use Rattle.geoarrow_meta.specs.Names.{edges_text, crs_type_text}
-use Rattle.geoarrow_meta.specs.Written.{empty, of_parts, meta_value, normal, type_unless, is_bare, written, crs_type_data, edges_data, IsReadBack, NestsWithin}
+use Rattle.geoarrow_meta.specs.Written.{empty, of_parts, meta_value, normal, type_unless, is_bare, written, IsReadBack, NestsWithin}
 use Rattle.geoarrow_meta.specs.Read.{present, some_has_float, StandsFor, TextStandsFor}
+use Rattle.geoarrow_meta.specs.Laws.{stands_for_one}
 
 -- a value that may stand as a CRS value is found where it stands
 there : (d : Data) → IsCrsValue d → Some d ≡ present (Some d)
@@ -48,54 +43,6 @@ by_parts (Some d) t e h r = (written (Some d) t e, r, with_value d h t e)
 -- where `serde_json` reads what it printed, the text stands for the normal form
 pub stands_for_normal : (m : Metadata) → IfSome m.crs.value IsCrsValue → IsReadBack (meta_value m) → TextStandsFor (option_map compact_text (meta_value m)) (normal m)
 stands_for_normal m h r = by_parts m.crs.value m.crs.crs_type m.edges h r
-
-some-inj : {c d : Data} → Some c ≡ Some d → c ≡ d
-some-inj e = cc
-
--- ---- a value stands for one metadata at most
-
-differ : (s t : List ℕ) → bytes_eq s t ≡ false → s ≡ t → ⊥
-differ s t other e = true≢false (sym ((bytes_eq-Decides s t).1 e) ∙ other)
-
-crs_type_text-inj : (a b : CrsType) → crs_type_text a ≡ crs_type_text b → a ≡ b
-crs_type_text-inj Projjson Projjson e = refl
-crs_type_text-inj Wkt2_2019 Wkt2_2019 e = refl
-crs_type_text-inj AuthorityCode AuthorityCode e = refl
-crs_type_text-inj Srid Srid e = refl
-crs_type_text-inj _ _ e = absurd (differ _ _ refl e)
-
-edges_text-inj : (a b : Edges) → edges_text a ≡ edges_text b → a ≡ b
-edges_text-inj Andoyer Andoyer e = refl
-edges_text-inj Karney Karney e = refl
-edges_text-inj Spherical Spherical e = refl
-edges_text-inj Thomas Thomas e = refl
-edges_text-inj Vincenty Vincenty e = refl
-edges_text-inj _ _ e = absurd (differ _ _ refl e)
-
-crs_types_same : (a b : Option CrsType) → option_map crs_type_data a ≡ option_map crs_type_data b → a ≡ b
-crs_types_same None None e = refl
-crs_types_same (Some a) (Some b) e = let f : crs_type_text a ≡ crs_type_text b = cc in ap Some (crs_type_text-inj a b f)
-crs_types_same _ _ e = absurd (cc)
-
-edges_same : (a b : Option Edges) → option_map edges_data a ≡ option_map edges_data b → a ≡ b
-edges_same None None e = refl
-edges_same (Some a) (Some b) e = let f : edges_text a ≡ edges_text b = cc in ap Some (edges_text-inj a b f)
-edges_same _ _ e = absurd (cc)
-
-pub stands_for_one : (d : Data) (m n : Metadata) → StandsFor d m → StandsFor d n → m ≡ n
-stands_for_one d m n a b = λ i. record {
-  crs = record {
-    value = (a.crs ∙ sym b.crs) i;
-    crs_type = crs_types_same m.crs.crs_type n.crs.crs_type (a.crs_type ∙ sym b.crs_type) i;
-  };
-  edges = edges_same m.edges n.edges (a.edges ∙ sym b.edges) i;
-}
-
-pub text_stands_for_one : (t : Option Text) (m n : Metadata) → TextStandsFor t m → TextStandsFor t n → m ≡ n
-text_stands_for_one None m n a b = a ∙ sym b
-text_stands_for_one (Some s) m n a b =
-    let f : a.0 ≡ b.0 = some-inj (sym a.1 ∙ b.1) in
-    stands_for_one b.0 m n (subst (λ d. StandsFor d m) f a.2) b.2
 
 -- ---- two metadata are written alike exactly where their normal forms are equal
 

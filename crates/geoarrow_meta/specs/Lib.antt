@@ -9,3 +9,4 @@ pub mod Slots
 pub mod Transform
 pub mod Whole
 pub mod Prints
+pub mod Laws

@@ -19,7 +19,7 @@ use Rattle.geoarrow_meta.specs.Read.{TextStandsFor}
 use Rattle.geoarrow_meta.specs.Written.{empty}
 use Rattle.geoarrow_schema.specs.declared.types.GeoArrowType.{GeoArrowType}
 use Rattle.geoarrow_schema.specs.Types.{kind_of, meta_of}
-use Rattle.geoarrow_schema.specs.Infers.{Infers, InferredAs, IsInferable, IsBareColumn}
+use Rattle.geoarrow_schema.specs.Infers.{InfersAs, Infers, InferredAs, IsInferable, IsBareColumn}
 
 leaf_inferred : (c : CoordType) (d : Dimension) → Inferred (leaf_layout c d) c d
 unfolding SameNames
@@ -50,7 +50,7 @@ layout_inferred (Geometry c) h = absurd h
 layout_inferred (Rect d) h = absurd h
 
 pub bare_inferred : (f : FieldTree) (g : GeoArrowType) → IsInferable (kind_of g) → IsBareColumn f (kind_of g) → meta_of g ≡ empty → Infers f g
-unfolding Infers
+unfolding InfersAs
 bare_inferred f g inferable bare default = (
   (λ named. let e = sym bare.0 ∙ named.1 in absurd cc),
   subst (λ t. TextStandsFor t (meta_of g)) (sym bare.1) default,

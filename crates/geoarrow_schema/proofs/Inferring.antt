@@ -1,9 +1,13 @@
 -- What a tree is taken for.
-use Rattle.std.proofs.Common.{◌≡◌, inl, inr, ◌∙◌, sym, ap, subst, Option, Some, None, Result, Ok}
+use Rattle.std.proofs.Common.{◌≡◌, ◌⊎◌, inl, inr, ◌∙◌, sym, ap, subst, Option, Some, None, Result, Ok}
 use Rattle.std.proofs.lemmas.Option.{same_Some}
 use Rattle.std.specs.Arc.{arc_value}
-use Rattle.arrow_values.specs.Tree.{Tree, FieldTree}
+use Rattle.arrow_values.specs.Tree.{Text, Tree, FieldTree}
 use Rattle.arrow_values.specs.Texts.{extension_metadata}
+use Rattle.arrow_values.specs.Errors.{IsMemory, IsGeoMemory, IsInvalidOf}
+use Rattle.arrow_values.specs.declared.error.ArrowError.{ArrowError}
+use Rattle.arrow_values.specs.declared.error.GeoArrowError.{GeoArrowError}
+use Rattle.arrow_values.specs.declared.error.GeoArrowError.TheVariants.{Arrow, InvalidGeoArrow}
 use Rattle.geoarrow_layout.specs.declared.kinds.CoordType.{CoordType}
 use Rattle.geoarrow_layout.specs.declared.kinds.Dimension.{Dimension}
 use Rattle.geoarrow_layout.specs.declared.fault.LayoutFault.{LayoutFault}
@@ -15,13 +19,14 @@ use Rattle.geoarrow_layout.specs.declared.encodings.Kind.TheVariants.{Native, Ge
 use Rattle.geoarrow_layout.specs.Shapes.{AnswersOne, IsBytes, IsText}
 use Rattle.geoarrow_layout.specs.Inferred.{AnswersSome, Inferred}
 use Rattle.geoarrow_meta.specs.declared.metadata.Metadata.{Metadata}
-use Rattle.geoarrow_meta.specs.Read.{TextStandsFor}
+use Rattle.geoarrow_meta.specs.Read.{TextStandsFor, TextRefusedAs}
+use Rattle.geoarrow_meta.specs.Laws.{text_stands_for_one}
 use Rattle.geoarrow_native.specs.Parts.{Shared}
 use Rattle.geoarrow_schema.specs.declared.types.GeoArrowType.{GeoArrowType}
 use Rattle.geoarrow_schema.specs.Types.{kind_of, metadata_of, meta_of, SameType}
-use Rattle.geoarrow_schema.specs.Reads.{HasGeoArrowName, Reads}
-use Rattle.geoarrow_schema.specs.Infers.{InferredAs, Infers, ReadsOrInfers, InfersNone, AnswersInferred, IsStored, SerializedAs}
-use Rattle.geoarrow_schema.proofs.Reading.{read_has_name}
+use Rattle.geoarrow_schema.specs.Reads.{HasGeoArrowName, Reads, ReadsAlone, IsRefusedBy}
+use Rattle.geoarrow_schema.specs.Infers.{InferredAs, InfersAs, Infers, ReadsOrInfers, InfersAlone, ReadsOrInfersAlone, InfersNone, UninferredAs, IsInferenceRefusal, AnswersInferred, IsStored, SerializedAs}
+use Rattle.geoarrow_schema.proofs.Reading.{read_has_name, none_unnamed}
 
 -- no tree is both bytes and text
 apart : (w v : Width) (t : Tree) → IsBytes w t → IsText v t → ⊥
@@ -110,31 +115,76 @@ serialized_inferred t r s is a stored = λ k. (λ e. there k ((stored k).0 e), �
 
 -- what is inferred of a tree and a metadata
 pub type_inferred : (f : FieldTree) (k : Kind) (m : Shared) (g : GeoArrowType) → kind_of g ≡ k → metadata_of g ≡ m → ¬ HasGeoArrowName f → TextStandsFor (extension_metadata f) (arc_value m) → InferredAs f.tree k → Infers f g
-unfolding Infers
+unfolding InfersAs
 type_inferred f k m g kind meta unnamed stands column =
     (unnamed, subst (λ x. TextStandsFor (extension_metadata f) (arc_value x)) (sym meta) stands, subst (InferredAs f.tree) (sym kind) column)
 
 pub none_for_text : (f : FieldTree) → ((m : Metadata) → ¬ TextStandsFor (extension_metadata f) m) → InfersNone f
-unfolding Infers
-none_for_text f none g h = none (meta_of g) h.1
+unfolding InfersAs
+none_for_text f none k m h = none m h.1
 
 pub none_for_tree : (f : FieldTree) → ((k : Kind) → ¬ InferredAs f.tree k) → InfersNone f
-unfolding Infers
-none_for_tree f none g h = none (kind_of g) h.2
+unfolding InfersAs
+none_for_tree f none k m h = none k h.2
 
-pub none_where_named : (f : FieldTree) → HasGeoArrowName f → InfersNone f
-unfolding Infers
-none_where_named f named g h = h.0 named
+-- as for one alone
+pub infers_alone : (f : FieldTree) (r : Option Kind) (g : GeoArrowType) → AnswersInferred f.tree r → Infers f g → InfersAlone f g
+unfolding InfersAs
+infers_alone f r g is here k m there =
+    (same_Some k (kind_of g) (sym ((is k).1 there.2) ∙ (is (kind_of g)).1 here.2), text_stands_for_one (extension_metadata f) m (meta_of g) there.1 here.1)
+
+-- how a field is refused that is taken for nothing
+abbrev IsUninferred : FieldTree → GeoArrowError → Type 0
+IsUninferred f e = IsGeoMemory e ⊎ (InfersNone f × UninferredAs f e)
+
+pub uninferred_text : (f : FieldTree) (a : ArrowError) → IsMemory a ⊎ ((m : Metadata) → ¬ TextStandsFor (extension_metadata f) m) → TextRefusedAs (extension_metadata f) a → IsUninferred f (Arrow a)
+uninferred_text f a (inl memory) refused = inl (ap Arrow memory)
+uninferred_text f a (inr none) refused = inr (none_for_text f none, (none, refused))
+
+pub uninferred_tree : (f : FieldTree) (text : Text) (e : GeoArrowError) (m : Metadata) → TextStandsFor (extension_metadata f) m → InfersNone f → IsGeoMemory e ⊎ IsInvalidOf text e → IsUninferred f e
+uninferred_tree f text e m stands none (inl memory) = inl memory
+uninferred_tree f text (InvalidGeoArrow s) m stands none (inr is) = inr (none, (m, stands))
+uninferred_tree f text e m stands none (inr is) = absurd is
+
+none_where_named : (f : FieldTree) → HasGeoArrowName f → InfersNone f
+unfolding InfersAs
+none_where_named f named k m h = h.0 named
+
+-- and how one that is read as nothing beside
+pub read_refused : (f : FieldTree) (e : GeoArrowError) → IsRefusedBy f e → IsInferenceRefusal f e
+read_refused f e (named, inl memory) = inl memory
+read_refused f e (named, inr (none, refused)) = inr (none, none_where_named f named, inl (named, refused))
+
+pub inference_refused : (f : FieldTree) (e : GeoArrowError) → ¬ HasGeoArrowName f → IsUninferred f e → IsInferenceRefusal f e
+inference_refused f e unnamed (inl memory) = inl memory
+inference_refused f e unnamed (inr (none, refused)) = inr (none_unnamed f unnamed, none, inr (unnamed, refused))
 
 -- a field is taken for one type
 pub infers_once : (f : FieldTree) (r : Option Kind) → AnswersInferred f.tree r → ((m n : Metadata) → TextStandsFor (extension_metadata f) m → TextStandsFor (extension_metadata f) n → m ≡ n)
     → (g h : GeoArrowType) → Infers f g → Infers f h → SameType g h
-unfolding Infers
+unfolding InfersAs
 infers_once f r is once g h here there =
     (same_Some (kind_of g) (kind_of h) (sym ((is (kind_of g)).1 here.2) ∙ (is (kind_of h)).1 there.2), once (meta_of g) (meta_of h) here.1 there.1)
 
+-- a field with a GeoArrow name is taken for none
+named_infers_alone : (f : FieldTree) (g : GeoArrowType) → HasGeoArrowName f → InfersAlone f g
+unfolding InfersAs
+named_infers_alone f g named k m there = absurd (there.0 named)
+
+-- and one without is read as none
+unnamed_reads_alone : (f : FieldTree) (g : GeoArrowType) → ¬ HasGeoArrowName f → ReadsAlone f g
+unnamed_reads_alone f g unnamed k m here = absurd (none_unnamed f unnamed k m here)
+
+-- so a field that is read is taken for none beside
+pub read_alone : (f : FieldTree) (g : GeoArrowType) → Reads f g → ReadsAlone f g → ReadsOrInfersAlone f g
+read_alone f g reads alone = (alone, named_infers_alone f g (read_has_name f g reads))
+
+-- and one that is taken for a type is read as none beside
+pub inferred_alone : (f : FieldTree) (g : GeoArrowType) → ¬ HasGeoArrowName f → InfersAlone f g → ReadsOrInfersAlone f g
+inferred_alone f g unnamed alone = (unnamed_reads_alone f g unnamed, alone)
+
 not_both : (f : FieldTree) (g h : GeoArrowType) → Reads f g → Infers f h → ⊥
-unfolding Infers
+unfolding InfersAs
 not_both f g h read inferred = inferred.0 (read_has_name f g read)
 
 -- and read as it or taken for it

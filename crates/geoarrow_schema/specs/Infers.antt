@@ -1,7 +1,8 @@
 -- What a field without a GeoArrow name is taken for.
-use Rattle.std.specs.Prelude.{◌≡◌, ◌⊎◌, ◌↔◌, Option, Some, None, ⊤}
+use Rattle.std.specs.Prelude.{◌≡◌, ◌⊎◌, ◌↔◌, Option, Some, None, Result, Ok, Err, ⊤}
 use Rattle.arrow_values.specs.Tree.{Tree, FieldTree}
 use Rattle.arrow_values.specs.Texts.{extension_name, extension_metadata}
+use Rattle.arrow_values.specs.Errors.{IsGeoMemory}
 use Rattle.arrow_values.specs.declared.error.GeoArrowError.{GeoArrowError}
 use Rattle.arrow_values.specs.declared.error.GeoArrowError.TheVariants.{Arrow, InvalidGeoArrow}
 use Rattle.geoarrow_layout.specs.declared.encodings.NativeKind.TheVariants.{Point}
@@ -11,10 +12,10 @@ use Rattle.geoarrow_layout.specs.Shapes.{IsBytes, IsText}
 use Rattle.geoarrow_layout.specs.Inferred.{Inferred}
 use Rattle.geoarrow_layout.specs.Layouts.{layout}
 use Rattle.geoarrow_meta.specs.declared.metadata.Metadata.{Metadata}
-use Rattle.geoarrow_meta.specs.Read.{TextStandsFor}
+use Rattle.geoarrow_meta.specs.Read.{TextStandsFor, TextRefusedAs}
 use Rattle.geoarrow_schema.specs.declared.types.GeoArrowType.{GeoArrowType}
 use Rattle.geoarrow_schema.specs.Types.{kind_of, meta_of}
-use Rattle.geoarrow_schema.specs.Reads.{HasGeoArrowName, Reads}
+use Rattle.geoarrow_schema.specs.Reads.{HasGeoArrowName, Reads, ReadsAlone, ReadsAsNone, RefusedAs}
 
 -- the tree is taken for that of a kind: a point, well-known binary or well-known text
 abbrev pub InferredAs : Tree → Kind → Type 0
@@ -23,23 +24,44 @@ InferredAs t (Wkb w) = IsBytes w t
 InferredAs t (Wkt w) = IsText w t
 InferredAs t _ = ⊥
 
--- no GeoArrow name stands on the field, its metadata text stands for the metadata of the type, and its tree is taken for its kind
-unfoldable pub Infers : FieldTree → GeoArrowType → Type 0
-Infers f g = ¬ HasGeoArrowName f × TextStandsFor (extension_metadata f) (meta_of g) × InferredAs f.tree (kind_of g)
+-- no GeoArrow name stands on the field, its metadata text stands for the metadata, and its tree is taken for the kind
+unfoldable pub InfersAs : FieldTree → Kind → Metadata → Type 0
+InfersAs f k m = ¬ HasGeoArrowName f × TextStandsFor (extension_metadata f) m × InferredAs f.tree k
+
+-- the field is taken for the type
+abbrev pub Infers : FieldTree → GeoArrowType → Type 0
+Infers f g = InfersAs f (kind_of g) (meta_of g)
+
+-- it is taken for nothing
+abbrev pub InfersNone : FieldTree → Type 0
+InfersNone f = (k : Kind) (m : Metadata) → ¬ InfersAs f k m
+
+-- and for no other
+abbrev pub InfersAlone : FieldTree → GeoArrowType → Type 0
+InfersAlone f g = (k : Kind) (m : Metadata) → InfersAs f k m → (k ≡ kind_of g) × (m ≡ meta_of g)
 
 -- the field is read as the type or taken for it
 abbrev pub ReadsOrInfers : FieldTree → GeoArrowType → Type 0
 ReadsOrInfers f g = Reads f g ⊎ Infers f g
 
--- no type has it
-abbrev pub InfersNone : FieldTree → Type 0
-InfersNone f = (g : GeoArrowType) → ¬ Infers f g
+-- and as or for no other
+abbrev pub ReadsOrInfersAlone : FieldTree → GeoArrowType → Type 0
+ReadsOrInfersAlone f g = ReadsAlone f g × InfersAlone f g
 
--- the variant by which a field without a GeoArrow name is refused: `Arrow` for its metadata text, and `InvalidGeoArrow` for its tree
-abbrev pub RefusedForWant : FieldTree → GeoArrowError → Type 0
-RefusedForWant f (InvalidGeoArrow s) = (m : Metadata) × TextStandsFor (extension_metadata f) m
-RefusedForWant f (Arrow a) = (m : Metadata) → ¬ TextStandsFor (extension_metadata f) m
-RefusedForWant f _ = ⊥
+-- the error by which a field without a GeoArrow name is refused: as its metadata text is, where that stands for none; and as `InvalidGeoArrow` for its tree
+abbrev pub UninferredAs : FieldTree → GeoArrowError → Type 0
+UninferredAs f (InvalidGeoArrow s) = (m : Metadata) × TextStandsFor (extension_metadata f) m
+UninferredAs f (Arrow a) = ((m : Metadata) → ¬ TextStandsFor (extension_metadata f) m) × TextRefusedAs (extension_metadata f) a
+UninferredAs f _ = ⊥
+
+-- want of memory; or the field is read as nothing and taken for nothing, and that is how it is refused
+abbrev pub IsInferenceRefusal : FieldTree → GeoArrowError → Type 0
+IsInferenceRefusal f e = IsGeoMemory e ⊎ (ReadsAsNone f × InfersNone f × ((HasGeoArrowName f × RefusedAs f e) ⊎ (¬ HasGeoArrowName f × UninferredAs f e)))
+
+-- what a field is read as or, without a GeoArrow name, taken for
+abbrev pub IsInference : FieldTree → Result GeoArrowType GeoArrowError → Type 0
+IsInference f (Ok g) = ReadsOrInfers f g
+IsInference f (Err e) = IsInferenceRefusal f e
 
 -- the answer is the one kind that the tree is taken for, and none where it is taken for none
 abbrev pub AnswersInferred : Tree → Option Kind → Type 0

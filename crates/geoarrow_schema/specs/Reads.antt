@@ -1,21 +1,25 @@
 -- What a field reads as, and what is written.
-use Rattle.std.specs.Prelude.{◌≡◌, Bool, Option, Some, ⊤}
+use Rattle.std.specs.Prelude.{◌≡◌, ◌⊎◌, Bool, Option, Some, None, Result, Ok, Err, ⊤}
 use Rattle.arrow_values.specs.Tree.{Text, Tree, FieldTree}
-use Rattle.arrow_values.specs.Texts.{extension_name, set_extension}
+use Rattle.arrow_values.specs.Texts.{extension_name, extension_metadata, set_extension}
+use Rattle.arrow_values.specs.Errors.{IsGeoMemory}
+use Rattle.arrow_values.specs.declared.error.ArrowError.{ArrowError}
 use Rattle.arrow_values.specs.declared.error.GeoArrowError.{GeoArrowError}
 use Rattle.arrow_values.specs.declared.error.GeoArrowError.TheVariants.{Arrow, InvalidGeoArrow}
 use Rattle.geoarrow_layout.specs.declared.names.ExtensionName.{ExtensionName}
 use Rattle.geoarrow_layout.specs.declared.names.ExtensionName.TheVariants.{Wkb, Wkt}
+use Rattle.geoarrow_layout.specs.declared.encodings.Width.{Width}
 use Rattle.geoarrow_layout.specs.declared.encodings.Kind.{Kind}
 use Rattle.geoarrow_layout.specs.Kinds.{name_text, name_of}
-use Rattle.geoarrow_layout.specs.Shapes.{Accepts}
+use Rattle.geoarrow_layout.specs.Shapes.{IsBytes, IsText}
 use Rattle.geoarrow_layout.specs.Layouts.{layout}
 use Rattle.geoarrow_meta.specs.declared.metadata.Metadata.{Metadata}
 use Rattle.geoarrow_meta.specs.Written.{meta_value, printed}
+use Rattle.geoarrow_meta.specs.Read.{TextStandsFor, TextRefusedAs}
 use Rattle.serde_json.specs.Data.{Data}
-use Rattle.geoarrow_native.specs.Column.{ReadsAs, written_field}
+use Rattle.geoarrow_native.specs.Column.{ReadsAs, IsLayoutRefusal, written_field}
 use Rattle.geoarrow_schema.specs.declared.types.GeoArrowType.{GeoArrowType}
-use Rattle.geoarrow_schema.specs.Types.{kind_of, meta_of, SameType}
+use Rattle.geoarrow_schema.specs.Types.{kind_of, meta_of}
 
 -- that name stands on the field
 abbrev pub HasName : FieldTree → ExtensionName → Type 0
@@ -29,34 +33,55 @@ HasGeoArrowName f = (n : ExtensionName) × HasName f n
 abbrev pub Reads : FieldTree → GeoArrowType → Type 0
 Reads f g = ReadsAs f (kind_of g) (meta_of g)
 
--- no type has it
+-- they stand for no kind and metadata
 abbrev pub ReadsAsNone : FieldTree → Type 0
-ReadsAsNone f = (g : GeoArrowType) → ¬ Reads f g
+ReadsAsNone f = (k : Kind) (m : Metadata) → ¬ ReadsAs f k m
 
--- no other type has it
+-- they stand for no other kind and metadata
 abbrev pub ReadsAlone : FieldTree → GeoArrowType → Type 0
-ReadsAlone f g = (h : GeoArrowType) → Reads f h → SameType h g
+ReadsAlone f g = (k : Kind) (m : Metadata) → ReadsAs f k m → (k ≡ kind_of g) × (m ≡ meta_of g)
 
--- the name of well-known binary or text
-abbrev pub IsSerialized : ExtensionName → Type 0
-IsSerialized Wkb = ⊤
-IsSerialized Wkt = ⊤
-IsSerialized _ = ⊥
+-- the name of well-known binary stands on the field, and its tree is no bytes; or that of well-known text, and its tree is no text
+abbrev pub IsUnstored : FieldTree → Type 0
+IsUnstored f = (HasName f Wkb × ((w : Width) → ¬ IsBytes w f.tree)) ⊎ (HasName f Wkt × ((w : Width) → ¬ IsText w f.tree))
 
--- the name of well-known binary or text stands on the field, and the tree is of no kind of that name
-abbrev pub IsForeign : FieldTree → Type 0
-IsForeign f = (n : ExtensionName) × IsSerialized n × HasName f n × ((k : Kind) → ¬ Accepts (name_text n) f.tree k)
+-- the refusal of the field's metadata text; or, where that stands for a metadata, that of a layout
+abbrev pub IsColumnRefusal : FieldTree → ArrowError → Type 0
+IsColumnRefusal f a = TextRefusedAs (extension_metadata f) a ⊎ (((m : Metadata) × TextStandsFor (extension_metadata f) m) × IsLayoutRefusal a)
 
--- the variant by which a field with a GeoArrow name is refused
+-- the error by which a field with a GeoArrow name is refused
 abbrev pub RefusedAs : FieldTree → GeoArrowError → Type 0
-RefusedAs f (InvalidGeoArrow s) = IsForeign f
-RefusedAs f (Arrow a) = ¬ IsForeign f
+RefusedAs f (InvalidGeoArrow s) = IsUnstored f
+RefusedAs f (Arrow a) = ¬ IsUnstored f × IsColumnRefusal f a
 RefusedAs f _ = ⊥
+
+-- want of memory; or the field is read as nothing, and that is how it is refused
+abbrev pub IsRefusal : FieldTree → GeoArrowError → Type 0
+IsRefusal f e = IsGeoMemory e ⊎ (ReadsAsNone f × RefusedAs f e)
+
+-- a GeoArrow name stands on the field, which is refused so
+abbrev pub IsRefusedBy : FieldTree → GeoArrowError → Type 0
+IsRefusedBy f e = HasGeoArrowName f × IsRefusal f e
+
+-- what a field is read as: the type that it stands for; none, where no GeoArrow name stands on it; or, where one does, how it is refused
+abbrev pub IsReading : FieldTree → Result (Option GeoArrowType) GeoArrowError → Type 0
+IsReading f (Ok (Some g)) = Reads f g
+IsReading f (Ok None) = ¬ HasGeoArrowName f
+IsReading f (Err e) = IsRefusedBy f e
 
 -- an `InvalidGeoArrow`
 abbrev pub IsInvalid : GeoArrowError → Type 0
 IsInvalid (InvalidGeoArrow s) = ⊤
 IsInvalid _ = ⊥
+
+-- want of memory; or the field is read as nothing, and that is how it is refused: where no GeoArrow name stands on it, as an `InvalidGeoArrow`
+abbrev pub IsTypeRefusal : FieldTree → GeoArrowError → Type 0
+IsTypeRefusal f e = IsGeoMemory e ⊎ (ReadsAsNone f × ((HasGeoArrowName f × RefusedAs f e) ⊎ (¬ HasGeoArrowName f × IsInvalid e)))
+
+-- what a field is read as where a type is wanted
+abbrev pub IsTypeReading : FieldTree → Result GeoArrowType GeoArrowError → Type 0
+IsTypeReading f (Ok g) = Reads f g
+IsTypeReading f (Err e) = IsTypeRefusal f e
 
 -- what is written of a type: name, tree and metadata value
 abbrev pub Written : Type 0

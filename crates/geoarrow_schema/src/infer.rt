@@ -1,9 +1,9 @@
 //! Which type a field without a GeoArrow name is taken for.
-ghost use Rattle.std.specs.Prelude.{◌≡◌, ◌⊎◌, ◌↔◌, Some, IfOk, IfErr};
+ghost use Rattle.std.specs.Prelude.{◌⊎◌, IfOk, IfErr};
 ghost use Rattle.arrow_values.specs.View.{tree};
 ghost use Rattle.arrow_values.specs.Errors.{IsGeoMemory};
-ghost use Rattle.geoarrow_schema.specs.Reads.{HasGeoArrowName, ReadsAsNone, RefusedAs};
-ghost use Rattle.geoarrow_schema.specs.Infers.{Infers, ReadsOrInfers, InfersNone, RefusedForWant, AnswersInferred, SerializedAs};
+ghost use Rattle.geoarrow_schema.specs.Reads.{HasGeoArrowName};
+ghost use Rattle.geoarrow_schema.specs.Infers.{Infers, InfersAlone, ReadsOrInfersAlone, InfersNone, UninferredAs, IsInference, AnswersInferred, SerializedAs};
 
 use crate::types::GeoArrowType;
 use arrow_values::{DataType, Field, GeoArrowError, GeoArrowResult};
@@ -17,19 +17,16 @@ impl GeoArrowType {
     /// field's data type is taken for, with the metadata for which its metadata text, or its absence, stands: a separated
     /// point where it is a struct of 2, 3 or 4 `Float64` fields, an interleaved point where it is a fixed size list of 2, 3
     /// or 4 of them (three are x, y and m where they are named so, else x, y and z), well-known binary where it is
-    /// `Binary`, `LargeBinary` or `BinaryView`, and well-known text where it is `Utf8`, `LargeUtf8` or `Utf8View`.
+    /// `Binary`, `LargeBinary` or `BinaryView`, and well-known text where it is `Utf8`, `LargeUtf8` or `Utf8View`. A field
+    /// has one such type at most.
     ///
     /// Errs as `from_extension_field` does. Where no GeoArrow name stands on the field it errs as `Arrow` exactly where the
     /// metadata text stands for no metadata, and as `InvalidGeoArrow` where it does and the data type is taken for none;
     /// else for want of memory alone.
-    #[tactic(auto, using(crate::proofs::Reading::read_has_name))]
+    #[tactic(auto, using(crate::proofs::Reading::read_has_name, crate::proofs::Inferring::read_refused, crate::proofs::Inferring::inference_refused))]
     pub fn from_arrow_field(alloc: Global, field: &Field) -> GeoArrowResult<GeoArrowType>
-        ensures ok { IfOk result (ReadsOrInfers field.now) }
-        ensures inferred { IfOk result (λ g. ¬ HasGeoArrowName field.now → Infers field.now g) }
-        ensures reads_none { IfErr result (λ e. IsGeoMemory e ⊎ ReadsAsNone field.now) }
-        ensures infers_none { IfErr result (λ e. IsGeoMemory e ⊎ InfersNone field.now) }
-        ensures named { IfErr result (λ e. IsGeoMemory e ⊎ (HasGeoArrowName field.now → RefusedAs field.now e)) }
-        ensures unnamed { IfErr result (λ e. IsGeoMemory e ⊎ (¬ HasGeoArrowName field.now → RefusedForWant field.now e)) }
+        ensures inference { IsInference field.now result }
+        ensures only { IfOk result (ReadsOrInfersAlone field.now) }
     {
         match GeoArrowType::from_extension_field(alloc, field)? {
             Some(found) => Ok(found),
@@ -39,12 +36,12 @@ impl GeoArrowType {
 }
 
 /// The type that a field without a GeoArrow name is taken for.
-#[tactic(auto, using(crate::proofs::Inferring::type_inferred, crate::proofs::Inferring::none_for_text, crate::proofs::Inferring::none_for_tree))]
+#[tactic(auto, using(crate::proofs::Inferring::type_inferred, crate::proofs::Inferring::none_for_tree, crate::proofs::Inferring::uninferred_text, crate::proofs::Inferring::uninferred_tree))]
 fn infer(alloc: Global, field: &Field) -> GeoArrowResult<GeoArrowType>
     requires { ¬ HasGeoArrowName field.now }
     ensures ok { IfOk result (Infers field.now) }
-    ensures err { IfErr result (λ e. IsGeoMemory e ⊎ InfersNone field.now) }
-    ensures variant { IfErr result (λ e. IsGeoMemory e ⊎ RefusedForWant field.now e) }
+    ensures only { IfOk result (InfersAlone field.now) }
+    ensures refused { IfErr result (λ e. IsGeoMemory e ⊎ (InfersNone field.now × UninferredAs field.now e)) }
 {
     let metadata = Arc::new(alloc, Metadata::try_from_field(alloc, field)?)?;
     match infer_kind(field.data_type()) {

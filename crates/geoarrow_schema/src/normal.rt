@@ -1,10 +1,10 @@
 //! The normal form of a type, and of a field that holds one.
-ghost use Rattle.std.specs.Prelude.{◌≡◌, ◌⊎◌, ◌↔◌, Ok, None, IsOk, IfOk, IfErr, IfSome, OnErr, IsTrue};
-ghost use Rattle.arrow_values.specs.Errors.{IsMemory, IsGeoMemory};
+ghost use Rattle.std.specs.Prelude.{◌≡◌, ◌↔◌, Ok, None, IsOk, IfOk, IfErr, IfSome, IsTrue};
+ghost use Rattle.arrow_values.specs.Errors.{IsMemory};
 ghost use Rattle.geoarrow_meta.specs.Written.{meta_value, normal, IsReadBack};
 ghost use Rattle.geoarrow_native.specs.Column.{ReadsAs};
 ghost use Rattle.geoarrow_schema.specs.Types.{kind_of, meta_of};
-ghost use Rattle.geoarrow_schema.specs.Reads.{HasGeoArrowName, ReadsAsNone, RefusedAs, writes};
+ghost use Rattle.geoarrow_schema.specs.Reads.{HasGeoArrowName, IsRefusedBy, writes};
 ghost use Rattle.geoarrow_schema.specs.Normal.{normal_of, rewritten, ReadsNormally, IsCanonical};
 
 use crate::types::GeoArrowType;
@@ -49,9 +49,7 @@ impl GeoArrowType {
     pub fn canonical_field(alloc: Global, field: &Field) -> GeoArrowResult<Option<Field>>
         ensures ok { IfOk result (λ found. IfSome found (IsCanonical field.now)) }
         ensures none { (result ≡ Ok None) ↔ ¬ HasGeoArrowName field.now }
-        ensures named { OnErr result (HasGeoArrowName field.now) }
-        ensures err { IfErr result (λ e. IsGeoMemory e ⊎ ReadsAsNone field.now) }
-        ensures variant { IfErr result (λ e. IsGeoMemory e ⊎ RefusedAs field.now e) }
+        ensures refused { IfErr result (IsRefusedBy field.now) }
     {
         match GeoArrowType::from_extension_field(alloc, field)? {
             None => Ok(None),

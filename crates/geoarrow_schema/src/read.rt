@@ -1,12 +1,12 @@
 //! Which type a field is read as.
-ghost use Rattle.std.specs.Prelude.{◌≡◌, ◌⊎◌, ◌↔◌, Ok, None, Some, IfOk, IfErr, IfSome, OnErr};
-ghost use Rattle.arrow_values.specs.Errors.{IsGeoMemory};
+ghost use Rattle.std.specs.Prelude.{◌≡◌, ◌⊎◌, ◌↔◌, Some, IfOk, IfErr, IfSome};
+ghost use Rattle.arrow_values.specs.Errors.{IsMemory};
 ghost use Rattle.geoarrow_layout.specs.declared.names.ExtensionName.{ExtensionName};
 ghost use Rattle.geoarrow_layout.specs.declared.encodings.Kind.{Kind};
 ghost use Rattle.geoarrow_layout.specs.Kinds.{name_text};
 ghost use Rattle.geoarrow_layout.specs.Shapes.{Accepts};
 ghost use Rattle.geoarrow_native.specs.Column.{IsColumn};
-ghost use Rattle.geoarrow_schema.specs.Reads.{HasName, HasGeoArrowName, Reads, ReadsAsNone, ReadsAlone, RefusedAs, IsInvalid};
+ghost use Rattle.geoarrow_schema.specs.Reads.{HasName, Reads, ReadsAlone, IsColumnRefusal, IsRefusal, IsReading, IsTypeReading};
 
 use crate::types::GeoArrowType;
 use arrow_values::{ArrowError, Field, GeoArrowError, GeoArrowResult};
@@ -30,12 +30,8 @@ impl GeoArrowType {
         alloc: Global,
         field: &Field,
     ) -> GeoArrowResult<Option<GeoArrowType>>
-        ensures ok { IfOk result (λ found. IfSome found (Reads field.now)) }
+        ensures reading { IsReading field.now result }
         ensures only { IfOk result (λ found. IfSome found (ReadsAlone field.now)) }
-        ensures none { (result ≡ Ok None) ↔ ¬ HasGeoArrowName field.now }
-        ensures named { OnErr result (HasGeoArrowName field.now) }
-        ensures err { IfErr result (λ e. IsGeoMemory e ⊎ ReadsAsNone field.now) }
-        ensures variant { IfErr result (λ e. IsGeoMemory e ⊎ RefusedAs field.now e) }
     {
         match name_of(field) {
             None => Ok(None),
@@ -45,12 +41,10 @@ impl GeoArrowType {
 
     /// The type that a field is read as. Errs as `from_extension_field` does, and as `InvalidGeoArrow` where that answers
     /// none.
+    #[tactic(auto, using(crate::proofs::Reading::type_refused, crate::proofs::Reading::unnamed_refused))]
     pub fn try_from_field(alloc: Global, field: &Field) -> GeoArrowResult<GeoArrowType>
-        ensures ok { IfOk result (Reads field.now) }
+        ensures reading { IsTypeReading field.now result }
         ensures only { IfOk result (ReadsAlone field.now) }
-        ensures err { IfErr result (λ e. IsGeoMemory e ⊎ ReadsAsNone field.now) }
-        ensures named { IfErr result (λ e. IsGeoMemory e ⊎ (HasGeoArrowName field.now → RefusedAs field.now e)) }
-        ensures unnamed { IfErr result (λ e. IsGeoMemory e ⊎ (¬ HasGeoArrowName field.now → IsInvalid e)) }
     {
         match GeoArrowType::from_extension_field(alloc, field)? {
             Some(found) => Ok(found),
@@ -74,8 +68,7 @@ fn read_named(alloc: Global, field: &Field, name: ExtensionName) -> GeoArrowResu
     requires { HasName field.now name }
     ensures ok { IfOk result (Reads field.now) }
     ensures only { IfOk result (ReadsAlone field.now) }
-    ensures err { IfErr result (λ e. IsGeoMemory e ⊎ ReadsAsNone field.now) }
-    ensures variant { IfErr result (λ e. IsGeoMemory e ⊎ RefusedAs field.now e) }
+    ensures refused { IfErr result (IsRefusal field.now) }
 {
     match parse_kind(name, field.data_type()) {
         Ok(kind) => read_kind(alloc, field, kind),
@@ -84,16 +77,16 @@ fn read_named(alloc: Global, field: &Field, name: ExtensionName) -> GeoArrowResu
 }
 
 /// The type that a field is read as whose name and data type are those of a kind.
-#[tactic(auto, using(crate::proofs::Reading::none_of_text, crate::proofs::Reading::column_reads, crate::proofs::Reading::type_reads, crate::proofs::Reading::reads_alone, crate::proofs::Reading::column_not_foreign))]
+#[tactic(auto, using(crate::proofs::Reading::none_of_text, crate::proofs::Reading::column_reads, crate::proofs::Reading::type_reads, crate::proofs::Reading::reads_alone, crate::proofs::Reading::column_refused))]
 fn read_kind(alloc: Global, field: &Field, kind: Kind) -> GeoArrowResult<GeoArrowType>
     requires { IsColumn field.now kind }
     ensures ok { IfOk result (Reads field.now) }
     ensures only { IfOk result (ReadsAlone field.now) }
-    ensures err { IfErr result (λ e. IsGeoMemory e ⊎ ReadsAsNone field.now) }
-    ensures variant { IfErr result (λ e. IsGeoMemory e ⊎ RefusedAs field.now e) }
+    ensures refused { IfErr result (IsRefusal field.now) }
 {
     let metadata = Arc::new(alloc, Metadata::try_from_field(alloc, field)?)?;
     reads_as_one_column(field);
+    names_are_distinct();
     Ok(GeoArrowType::from_kind(kind, metadata))
 }
 
@@ -101,7 +94,7 @@ fn read_kind(alloc: Global, field: &Field, kind: Kind) -> GeoArrowResult<GeoArro
 fn refusal(alloc: Global, field: &Field, name: ExtensionName, fault: LayoutFault) -> GeoArrowError
     requires named { HasName field.now name }
     requires no_kind { (k : Kind) → ¬ Accepts (name_text name) field.now.tree k }
-    ensures { IsGeoMemory result ⊎ RefusedAs field.now result }
+    ensures { IsRefusal field.now result }
 {
     match name {
         ExtensionName::Wkb => {
@@ -118,7 +111,9 @@ fn refusal(alloc: Global, field: &Field, name: ExtensionName, fault: LayoutFault
 }
 
 /// The refusal of a field whose data type has that fault: that of its metadata, if it is refused, goes before.
-fn structured_refusal(alloc: Global, field: &Field, fault: LayoutFault) -> ArrowError {
+fn structured_refusal(alloc: Global, field: &Field, fault: LayoutFault) -> ArrowError
+    ensures { IsMemory result ⊎ IsColumnRefusal field.now result }
+{
     match Metadata::try_from_field(alloc, field) {
         Ok(_) => fault.into_arrow_error(alloc),
         Err(error) => error,

@@ -1,18 +1,16 @@
-use Rattle.std.proofs.Common.{rules, inr}
-use Rattle.std.proofs.lemmas.Result.{IfErr-weaker}
-use Rattle.geoarrow_schema.specs.Reads.{HasGeoArrowName}
-use Rattle.geoarrow_schema.specs.Infers.{InfersNone}
-use Rattle.geoarrow_schema.proofs.Reading.{none_unnamed}
-use Rattle.geoarrow_schema.proofs.Inferring.{none_where_named}
+use Rattle.std.proofs.Common.{rules}
+use Rattle.std.proofs.lemmas.Result.{IfOk-weaker}
+use Rattle.geoarrow_schema.specs.Reads.{HasGeoArrowName, Reads, ReadsAlone}
+use Rattle.geoarrow_schema.proofs.Inferring.{read_alone, inferred_alone}
 use Rattle.geoarrow_schema.proofs.types.GeoArrowType.from_arrow_field.Goals as goal
 
-pub returns-in_err-found-clause-infers_none : goal.returns-in_err-found-clause-infers_none
-returns-in_err-found-clause-infers_none c =
-    let named : HasGeoArrowName c.args.field.now = search rules in
-    let none : InfersNone c.args.field.now = none_where_named c.args.field.now named in
-    search (rules, none)
+pub returns-in-Some-clause-only : goal.returns-in-Some-clause-only
+returns-in-Some-clause-only c =
+    let reads : Reads c.args.field.now c.in-Some.found = search rules in
+    let alone : ReadsAlone c.args.field.now c.in-Some.found = search rules in
+    read_alone c.args.field.now c.in-Some.found reads alone
 
-pub returns-in-None-clause-reads_none : goal.returns-in-None-clause-reads_none
-returns-in-None-clause-reads_none c =
+pub returns-in-None-clause-only : goal.returns-in-None-clause-only
+returns-in-None-clause-only c =
     let unnamed : ¬ HasGeoArrowName c.args.field.now = search rules in
-    IfErr-weaker c.infer.result _ _ (λ e h. inr (none_unnamed c.args.field.now unnamed)) c.infer.ensures.err
+    IfOk-weaker c.infer.result _ _ (λ g alone. inferred_alone c.args.field.now g unnamed alone) c.infer.ensures.only
