@@ -12,16 +12,16 @@ module _ {X M : Type 0} (g : Ghosts X M) where
 
   -- the field's name, metadata text and tree stand for e
   abbrev pub Reads : FieldTree → X → Type 0
-  Reads f e = IsNamed f × g.StandsFor (extension_metadata f) (g.metadata_of e) × g.Accepts f.tree e
+  Reads f e = IsNamed f × g.StandsFor (extension_metadata f) (g.value_of (g.metadata_of e)) × g.Accepts f.tree e
 
   -- n is f with the two extension keys as e has them, and otherwise unchanged
   abbrev pub Writes : FieldTree → X → FieldTree → Type 0
   Writes f e n = n ≡ record f { metadata = set_extension g.name_text (g.printed (g.metadata_of e)) f.metadata }
 
-  -- what the metadata of e prints stands for it
+  -- what the metadata of e prints stands for its value
   abbrev pub StandsForPrinted : X → Type 0
-  StandsForPrinted e = g.StandsFor (g.printed (g.metadata_of e)) (g.metadata_of e)
+  StandsForPrinted e = g.StandsFor (g.printed (g.metadata_of e)) (g.value_of (g.metadata_of e))
 
-  -- the field's metadata text is refused so; or, where it stands for a metadata, its tree is
+  -- the field's metadata text is refused so; or, where it stands for a value, its tree is
   abbrev pub Refuses : FieldTree → ArrowError → Type 0
-  Refuses f r = g.RefusesText (extension_metadata f) r ⊎ (((m : M) × g.StandsFor (extension_metadata f) m) × g.RefusesTree f.tree r)
+  Refuses f r = g.RefusesText (extension_metadata f) r ⊎ (((v : g.Value) × g.StandsFor (extension_metadata f) v) × g.RefusesTree f.tree r)

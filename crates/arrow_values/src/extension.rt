@@ -34,11 +34,14 @@ pub trait ExtensionType: Sized {
     // The text that a metadata prints, if any.
     ghost printed: { Self.Metadata → Option Text };
 
-    // A text, or none, stands for a metadata.
-    ghost StandsFor: { Option Text → Self.Metadata → Type 0 };
+    // What metadata says: two metadata of one value say the same.
+    ghost Value: { Type 0 };
 
-    // Two metadata are of one value.
-    ghost SameMetadata: { Self.Metadata → Self.Metadata → Type 0 };
+    // The value of a metadata.
+    ghost value_of: { Self.Metadata → Value };
+
+    // A text, or none, stands for a value.
+    ghost StandsFor: { Option Text → Value → Type 0 };
 
     // A tree is accepted as the shape of a type, whatever its metadata is.
     ghost Accepts: { Tree → Self → Type 0 };
@@ -69,14 +72,14 @@ pub trait ExtensionType: Sized {
         ensures { MatchResult result (λ text. option_map string_bytes text ≡ printed (metadata_of self.now))
             (λ e. IsMemory e × IsSome (printed (metadata_of self.now))) };
 
-    /// The metadata that a text, or its absence, stands for. Errs where it stands for none, else for want of memory
-    /// alone.
+    /// A metadata of the value that a text, or its absence, stands for. Errs where it stands for none, else for want of
+    /// memory alone.
     fn deserialize_metadata(
         alloc: Global,
         metadata: Option<&str>,
     ) -> Result<Self::Metadata, ArrowError>
-        ensures exact { MatchResult result (StandsFor (text_of metadata.entry))
-            (λ e. IsMemory e ⊎ ((m : Self.Metadata) → StandsFor (text_of metadata.entry) m → ⊥)) }
+        ensures exact { MatchResult result (λ m. StandsFor (text_of metadata.entry) (value_of m))
+            (λ e. IsMemory e ⊎ ((v : Value) → StandsFor (text_of metadata.entry) v → ⊥)) }
         ensures refusal { IfErr result (λ e. IsMemory e ⊎ RefusesText (text_of metadata.entry) e) };
 
     /// Whether a field of that data type can carry this type: the data type is accepted as this type's shape. Where it
@@ -96,14 +99,11 @@ pub trait ExtensionType: Sized {
             (λ _. (e : Self) → Accepts (tree data_type.now) e → ⊥) }
         ensures refusal { IfErr result (λ e. IsMemory e ⊎ RefusesTree (tree data_type.now) e) };
 
-    /// A law: a data type is accepted as one shape alone. There is nothing to run.
-    fn accepts_one_shape(data_type: &DataType)
-        ensures { (a b : Self) → Accepts (tree data_type.now) a → Accepts (tree data_type.now) b → Agrees a b };
+    // A tree is accepted as one shape alone.
+    ghost accepts_one: { (t : Tree) (a b : Self) → Accepts t a → Accepts t b → Agrees a b };
 
-    /// A law: a text, or its absence, stands for one metadata alone. There is nothing to run.
-    fn stands_for_one_metadata(metadata: Option<&str>)
-        ensures { (m n : Self.Metadata) → StandsFor (text_of metadata.entry) m → StandsFor (text_of metadata.entry) n
-            → SameMetadata m n };
+    // A text, or its absence, stands for one value alone.
+    ghost stands_for_one: { (t : Option Text) (v w : Value) → StandsFor t v → StandsFor t w → v ≡ w };
 
     // A tree that is accepted as one type's shape is accepted as that of each type that agrees with it.
     ghost accepts_by_shape: { (t : Tree) (a e : Self) → Accepts t a → Agrees e a → Accepts t e };
@@ -122,7 +122,7 @@ impl Field {
     pub fn try_extension_type<E: ExtensionType>(&self, alloc: Global) -> Result<E, ArrowError>
         ensures ok { IfOk result (Reads E.ExtensionType self.now) }
         ensures only { IfOk result (λ e. (a : E) → Reads E.ExtensionType self.now a
-            → E.Agrees e a × E.SameMetadata (E.metadata_of e) (E.metadata_of a)) }
+            → E.Agrees e a × (E.value_of (E.metadata_of e) ≡ E.value_of (E.metadata_of a))) }
         ensures err { IfErr result (λ r. IsMemory r ⊎ ((e : E) → Reads E.ExtensionType self.now e → ⊥)) }
         ensures unnamed { IfErr result (λ r. IsMemory r ⊎ IsNamed E.ExtensionType self.now
             ⊎ (is_invalid_argument r ≡ true)) }
@@ -138,8 +138,6 @@ impl Field {
             }
         }
         let metadata = E::deserialize_metadata(alloc, self.extension_type_metadata())?;
-        E::accepts_one_shape(self.data_type());
-        E::stands_for_one_metadata(self.extension_type_metadata());
         E::try_new(alloc, self.data_type(), metadata)
     }
 
@@ -186,11 +184,8 @@ impl Field {
     /// A law: a field reads as one value of an extension type alone. There is nothing to run.
     pub fn reads_as_one<E: ExtensionType>(&self, one: &E, other: &E)
         ensures { Reads E.ExtensionType self.now one.now → Reads E.ExtensionType self.now other.now
-            → E.Agrees one.now other.now × E.SameMetadata (E.metadata_of one.now) (E.metadata_of other.now) }
-    {
-        E::accepts_one_shape(self.data_type());
-        E::stands_for_one_metadata(self.extension_type_metadata());
-    }
+            → E.Agrees one.now other.now × (E.value_of (E.metadata_of one.now) ≡ E.value_of (E.metadata_of other.now)) }
+    {}
 
     /// A law: a field on which an extension type was written reads as that type, where the text that its metadata
     /// prints, or its absence, stands for that metadata. There is nothing to run.

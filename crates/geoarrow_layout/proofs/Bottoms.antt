@@ -1,5 +1,5 @@
 -- What stands below the lists.
-use Rattle.std.proofs.Common.{◌≡◌, ◌<◌, ◌≤◌, inl, inr, ℕ, zero, suc, ◌+◌, refl, sym, subst, ◌∙◌, arith, add-one, Bool, Option, Some, None, Err}
+use Rattle.std.proofs.Common.{◌≡◌, ◌<◌, ◌≤◌, inl, inr, ℕ, zero, suc, ◌+◌, refl, sym, subst, arith, add-one, Bool, Option, Some, None, Err}
 use Rattle.arrow_values.specs.Tree.{Text, Metadata, Tree, plain, list, large_list, fixed_size_list, struct, union, FieldTree, MemberTrees}
 use Rattle.geoarrow_layout.specs.declared.kinds.CoordType.{CoordType}
 use Rattle.geoarrow_layout.specs.declared.kinds.Dimension.{Dimension}
@@ -10,6 +10,7 @@ use Rattle.geoarrow_layout.specs.declared.summary.Bottom.{Bottom}
 use Rattle.geoarrow_layout.specs.declared.summary.Summary.{Summary}
 use Rattle.geoarrow_layout.specs.Shapes.{ListsOver, Levels, Leaf, LeafUnder, Answers}
 use Rattle.geoarrow_layout.specs.Summary.{IsBottom, AreLevels, SummarizesBy}
+use Rattle.geoarrow_layout.specs.OneShape.{widths_same, levels_same}
 use Rattle.geoarrow_layout.proofs.Readings.{Answer, answers_like}
 
 -- one level more
@@ -79,22 +80,6 @@ shallow_lists LargeLists v (suc n) m (fixed_size_list nm t b a z) u x lt h k no_
 shallow_lists LargeLists v (suc n) m (struct fs) u x lt h k no_list = h
 shallow_lists LargeLists v (suc n) m (union ms mode) u x lt h k no_list = h
 
-widths_same : (w v : ListWidth) (n m : ℕ) (t u x : Tree) → ListsOver w (suc n) t u → ListsOver v (suc m) t x → w ≡ v
-widths_same Lists Lists n m t u x h k = refl
-widths_same LargeLists LargeLists n m t u x h k = refl
-widths_same Lists LargeLists n m (list nm t b a) u x h k = absurd k
-widths_same Lists LargeLists n m (large_list nm t b a) u x h k = absurd h
-widths_same Lists LargeLists n m (plain p) u x h k = absurd h
-widths_same Lists LargeLists n m (fixed_size_list nm t b a z) u x h k = absurd h
-widths_same Lists LargeLists n m (struct fs) u x h k = absurd h
-widths_same Lists LargeLists n m (union ms mode) u x h k = absurd h
-widths_same LargeLists Lists n m (large_list nm t b a) u x h k = absurd k
-widths_same LargeLists Lists n m (list nm t b a) u x h k = absurd h
-widths_same LargeLists Lists n m (plain p) u x h k = absurd h
-widths_same LargeLists Lists n m (fixed_size_list nm t b a z) u x h k = absurd h
-widths_same LargeLists Lists n m (struct fs) u x h k = absurd h
-widths_same LargeLists Lists n m (union ms mode) u x h k = absurd h
-
 list_of : (v : ListWidth) (m : ℕ) (t x : Tree) → ListsOver v (suc m) t x → IsListOf v t
 list_of Lists m (list nm t b a) x h = (t, refl)
 list_of LargeLists m (large_list nm t b a) x h = (t, refl)
@@ -124,27 +109,6 @@ list_there LargeLists (suc n) (suc m) (plain p) u x lt h k = absurd h
 list_there LargeLists (suc n) (suc m) (fixed_size_list nm t b a z) u x lt h k = absurd h
 list_there LargeLists (suc n) (suc m) (struct fs) u x lt h k = absurd h
 list_there LargeLists (suc n) (suc m) (union ms mode) u x lt h k = absurd h
-
-lists_same : (v : ListWidth) (n : ℕ) (t u x : Tree) → ListsOver v n t u → ListsOver v n t x → u ≡ x
-lists_same v zero t u x h k = sym h ∙ k
-lists_same Lists (suc n) (list nm t b a) u x h k = lists_same Lists n t u x h k
-lists_same LargeLists (suc n) (large_list nm t b a) u x h k = lists_same LargeLists n t u x h k
-lists_same Lists (suc n) (large_list nm t b a) u x h k = absurd h
-lists_same Lists (suc n) (plain p) u x h k = absurd h
-lists_same Lists (suc n) (fixed_size_list nm t b a z) u x h k = absurd h
-lists_same Lists (suc n) (struct fs) u x h k = absurd h
-lists_same Lists (suc n) (union ms mode) u x h k = absurd h
-lists_same LargeLists (suc n) (list nm t b a) u x h k = absurd h
-lists_same LargeLists (suc n) (plain p) u x h k = absurd h
-lists_same LargeLists (suc n) (fixed_size_list nm t b a z) u x h k = absurd h
-lists_same LargeLists (suc n) (struct fs) u x h k = absurd h
-lists_same LargeLists (suc n) (union ms mode) u x h k = absurd h
-
-pub levels_same : (n : ℕ) (t u x : Tree) → Levels t n u → Levels t n x → u ≡ x
-levels_same zero t u x h k = sym h.1 ∙ k.1
-levels_same (suc n) t u x h k =
-    let same = widths_same h.0 k.0 n n t u x h.1 k.1 in
-    lists_same k.0 (suc n) t u x (subst (λ w. ListsOver w (suc n) t u) same h.1) k.1
 
 -- no list of the width stands below the levels, but at a fourth level
 no_list : (U : ℕ → Bottom → MemberTrees → Type 0) (w v : ListWidth) (n : ℕ) (b : Bottom) (u : Tree) → w ≡ v → n < 3 → IsBottom U (Some w) n b u → IsListOf v u → ⊥

@@ -10,6 +10,7 @@ use Rattle.geoarrow_layout.specs.declared.summary.Summary.{Summary}
 use Rattle.geoarrow_layout.specs.Shapes.{names_of, IsBoxAs, BoxShape, AnswersOne}
 use Rattle.geoarrow_layout.specs.Summary.{IsBits, SomeAt, IsBottom, IsUnion, Summarizes}
 use Rattle.geoarrow_layout.specs.Steps.{has_bit}
+use Rattle.geoarrow_layout.specs.OneShape.{box_same}
 use Rattle.geoarrow_layout.proofs.FieldSteps.{has_at}
 use Rattle.geoarrow_layout.proofs.Bottoms.{NotList}
 use Rattle.geoarrow_layout.proofs.UnionSteps.{below_root}
@@ -28,24 +29,6 @@ BoxNames count bits r = (ns : List Text) → count ≡ length ns → IsBits bits
 
 ok_same : (d e : Dimension) → ok_dimension d ≡ ok_dimension e → d ≡ e
 ok_same d e h = cc
-
-pub box_same : (ns : List Text) (d e : Dimension) → IsBoxAs d ns → IsBoxAs e ns → d ≡ e
-box_same ns XY XY h k = refl
-box_same ns XYZ XYZ h k = refl
-box_same ns XYM XYM h k = refl
-box_same ns XYZM XYZM h k = refl
-box_same ns XY XYZ h k = absurd (omega (arith, k.0))
-box_same ns XY XYM h k = absurd (omega (arith, k.0))
-box_same ns XY XYZM h k = absurd (omega arith)
-box_same ns XYZ XY h k = absurd (omega (arith, h.0))
-box_same ns XYZ XYM h k = absurd (h.1 k.1)
-box_same ns XYZ XYZM h k = absurd (omega (arith, h.0))
-box_same ns XYM XY h k = absurd (omega (arith, h.0))
-box_same ns XYM XYZ h k = absurd (k.1 h.1)
-box_same ns XYM XYZM h k = absurd (omega (arith, h.0))
-box_same ns XYZM XY h k = absurd (omega arith)
-box_same ns XYZM XYZ h k = absurd (omega (arith, k.0))
-box_same ns XYZM XYM h k = absurd (omega (arith, k.0))
 
 one_box : (ns : List Text) (d : Dimension) → IsBoxAs d ns → AnswersOne (ok_dimension d) (λ e. IsBoxAs e ns)
 one_box ns d h = λ e. (λ k. subst (λ x. IsBoxAs x ns) (ok_same d e k) h, λ k. ap ok_dimension (box_same ns d e h k))

@@ -13,7 +13,8 @@ use Rattle.geoarrow_layout.specs.Shapes.{names_of, SameNames, IsSeparatedAs, Lea
 use Rattle.geoarrow_layout.specs.Summary.{IsBits, SomeAt, IsBottom, IsUnion, Summarizes}
 use Rattle.geoarrow_layout.specs.Inferred.{AnswersSome, Inferred, IsInferredAs, IsInferredSize, measured_names}
 use Rattle.geoarrow_layout.specs.Steps.{has_bit, is_measured, NamesSay, SizeSays}
-use Rattle.geoarrow_layout.proofs.Leaves.{apart, separated_same, xym_names}
+use Rattle.geoarrow_layout.specs.OneShape.{apart, separated_same}
+use Rattle.geoarrow_layout.proofs.Leaves.{xym_names}
 use Rattle.geoarrow_layout.proofs.FieldSteps.{has_at}
 use Rattle.geoarrow_layout.proofs.Bottoms.{NotList}
 use Rattle.geoarrow_layout.proofs.UnionSteps.{below_root}

@@ -12,8 +12,8 @@ use Rattle.geoarrow_layout.specs.declared.summary.Summary.{Summary}
 use Rattle.geoarrow_layout.specs.Summary.{Summarizes}
 use Rattle.geoarrow_layout.specs.Kinds.{native_name, geometry_name, box_name, name_of}
 use Rattle.geoarrow_layout.specs.Shapes.{Accepted, Native, Geometry, BoxShape, Accepts, IsStructured, AnswersKind, Answers, AnswersOne}
+use Rattle.geoarrow_layout.specs.OneShape.{apart}
 use Rattle.geoarrow_layout.proofs.Readings.{Answer}
-use Rattle.geoarrow_layout.proofs.Leaves.{apart}
 
 pub names_same : (k l : NativeKind) → native_name k ≡ native_name l → k ≡ l
 names_same Point Point h = refl

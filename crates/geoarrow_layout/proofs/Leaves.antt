@@ -3,14 +3,12 @@ use Rattle.std.proofs.Common.{◌≡◌, ◌≢◌, suc, Bool, true, false, ◌|
 use Rattle.std.specs.List.{list_any}
 use Rattle.std.specs.Str.{bytes_eq}
 use Rattle.std.proofs.lemmas.Slice.Eq.{bytes_eq-Decides}
-use Rattle.arrow_values.specs.Tree.{Text, Tree, plain, list, large_list, fixed_size_list, struct, union, FieldTree}
+use Rattle.arrow_values.specs.Tree.{Text, FieldTree}
 use Rattle.arrow_values.specs.View.{field_trees}
-use Rattle.geoarrow_layout.specs.declared.kinds.CoordType.{CoordType}
-use Rattle.geoarrow_layout.specs.declared.kinds.CoordType.TheVariants.{Interleaved, Separated}
 use Rattle.geoarrow_layout.specs.declared.kinds.Dimension.{Dimension}
 use Rattle.geoarrow_layout.specs.declared.kinds.Dimension.TheVariants.{XY, XYZ, XYM, XYZM}
-use Rattle.geoarrow_layout.specs.Kinds.{interleaved_name}
-use Rattle.geoarrow_layout.specs.Shapes.{has_name, SameNames, IsSeparatedAs, Leaf, names_of}
+use Rattle.geoarrow_layout.specs.Shapes.{has_name, SameNames, IsSeparatedAs, names_of}
+use Rattle.geoarrow_layout.specs.OneShape.{separated_same, interleaved_same, leaf_same}
 
 pub length-names : (fs : List FieldTree) → length (names_of (field_trees fs)) ≡ length fs
 length-names [] = refl
@@ -101,49 +99,5 @@ no_z_m names count no_z no_m XYM h = let e = h.1 (109 ∷ []) in cc
 no_z_m names count no_z no_m XYZM h = omega arith
 
 pub ruleset leaf_steps = (length-names, xyz_names, xym_names, no_count, no_x, no_y, no_z_m)
-
--- names are the separated coordinates of one dimension at most
-pub separated_same : (names : List Text) (d e : Dimension) → IsSeparatedAs d names → IsSeparatedAs e names → d ≡ e
-unfolding SameNames
-separated_same names XY XY h k = refl
-separated_same names XYZ XYZ h k = refl
-separated_same names XYM XYM h k = refl
-separated_same names XYZM XYZM h k = refl
-separated_same names XY XYZ h k = absurd (omega (arith, k.0))
-separated_same names XY XYM h k = absurd (omega (arith, k.0))
-separated_same names XY XYZM h k = absurd (omega arith)
-separated_same names XYZ XY h k = absurd (omega (arith, h.0))
-separated_same names XYZ XYM h k = let e = h.1 (122 ∷ []) in let f = k.1 (122 ∷ []) in cc
-separated_same names XYZ XYZM h k = absurd (omega (arith, h.0))
-separated_same names XYM XY h k = absurd (omega (arith, h.0))
-separated_same names XYM XYZ h k = let e = h.1 (122 ∷ []) in let f = k.1 (122 ∷ []) in cc
-separated_same names XYM XYZM h k = absurd (omega (arith, h.0))
-separated_same names XYZM XY h k = absurd (omega arith)
-separated_same names XYZM XYZ h k = absurd (omega (arith, k.0))
-separated_same names XYZM XYM h k = absurd (omega (arith, k.0))
-
--- texts that differ by a test that computes
-pub apart : (x y : Text) → bytes_eq x y ≡ false → x ≡ y → ⊥
-apart x y e h = let f : bytes_eq x y ≡ true = (bytes_eq-Decides x y).1 h in cc
-
-pub interleaved_same : (d e : Dimension) → interleaved_name d ≡ interleaved_name e → d ≡ e
-interleaved_same XY XY h = refl
-interleaved_same XYZ XYZ h = refl
-interleaved_same XYM XYM h = refl
-interleaved_same XYZM XYZM h = refl
-interleaved_same d e h = absurd (apart _ _ refl h)
-
--- a leaf has one coordinate type and one dimension
-pub leaf_same : (t : Tree) (c b : CoordType) (d e : Dimension) → Leaf t c d → Leaf t b e → (c ≡ b) × (d ≡ e)
-leaf_same (fixed_size_list n t b m z) Interleaved Interleaved d e h k = (refl, interleaved_same d e (sym h.0 ∙ k.0))
-leaf_same (struct fs) Separated Separated d e h k = (refl, separated_same (names_of fs) d e h k)
-leaf_same (fixed_size_list n t b m z) Separated _ d e h k = absurd h
-leaf_same (fixed_size_list n t b m z) Interleaved Separated d e h k = absurd k
-leaf_same (struct fs) Interleaved _ d e h k = absurd h
-leaf_same (struct fs) Separated Interleaved d e h k = absurd k
-leaf_same (plain p) c _ d e h k = absurd h
-leaf_same (list n t b m) c _ d e h k = absurd h
-leaf_same (large_list n t b m) c _ d e h k = absurd h
-leaf_same (union ms mode) c _ d e h k = absurd h
 
 pub ruleset point_steps = (separated_same, interleaved_same, leaf_same)

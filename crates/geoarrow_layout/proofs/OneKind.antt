@@ -1,6 +1,6 @@
 -- A name and a tree have one kind at most.
 use Rattle.std.proofs.Common.{◌≡◌, refl, sym, ap, subst, ◌∙◌}
-use Rattle.arrow_values.specs.Tree.{Text, Tree, plain, list, large_list, fixed_size_list, struct, union, no_members, member}
+use Rattle.arrow_values.specs.Tree.{Text, Tree}
 use Rattle.geoarrow_layout.specs.declared.kinds.CoordType.{CoordType}
 use Rattle.geoarrow_layout.specs.declared.kinds.Dimension.{Dimension}
 use Rattle.geoarrow_layout.specs.declared.encodings.NativeKind.{NativeKind}
@@ -12,28 +12,9 @@ use Rattle.geoarrow_layout.specs.declared.encodings.Kind.TheVariants.{Native as 
 use Rattle.geoarrow_layout.specs.declared.names.ExtensionName.{ExtensionName}
 use Rattle.geoarrow_layout.specs.declared.names.ExtensionName.TheVariants as names
 use Rattle.geoarrow_layout.specs.Kinds.{name_text, native_name, wkb_name, wkt_name, name_of}
-use Rattle.geoarrow_layout.specs.Shapes.{names_of, Native, Geometry, BoxShape, IsBytes, IsText, Accepted, Accepts}
-use Rattle.geoarrow_layout.proofs.Leaves.{apart}
-use Rattle.geoarrow_layout.proofs.Parts.{any_native_same, geometry_part_same}
-use Rattle.geoarrow_layout.proofs.Boxes.{box_same}
+use Rattle.geoarrow_layout.specs.Shapes.{Native, IsBytes, IsText, Accepted, Accepts}
+use Rattle.geoarrow_layout.specs.OneShape.{apart, any_native_same, geometry_same, box_shape_same}
 use Rattle.geoarrow_layout.proofs.KindSteps.{names_same, not_geometry, not_box}
-
-geometry_same : (t : Tree) (c b : CoordType) → Geometry t c → Geometry t b → c ≡ b
-geometry_same (union no_members mode) c b h g = absurd h.0
-geometry_same (union (member i n t x m ms) mode) c b h g = (geometry_part_same i t c b h.1.0.0 g.1.0.0 h.1.0.1 g.1.0.1).0
-geometry_same (plain p) c b h g = absurd h
-geometry_same (list n t x m) c b h g = absurd h
-geometry_same (large_list n t x m) c b h g = absurd h
-geometry_same (fixed_size_list n t x m z) c b h g = absurd h
-geometry_same (struct fs) c b h g = absurd h
-
-box_shape_same : (t : Tree) (d e : Dimension) → BoxShape t d → BoxShape t e → d ≡ e
-box_shape_same (struct fs) d e h g = box_same (names_of fs) d e h g
-box_shape_same (plain p) d e h g = absurd h
-box_shape_same (list n t x m) d e h g = absurd h
-box_shape_same (large_list n t x m) d e h g = absurd h
-box_shape_same (fixed_size_list n t x m z) d e h g = absurd h
-box_shape_same (union ms mode) d e h g = absurd h
 
 bytes_same : (w v : Width) (t : Tree) → IsBytes w t → IsBytes v t → w ≡ v
 bytes_same Plain Plain t h g = refl

@@ -16,10 +16,11 @@ use Rattle.geoarrow_layout.specs.declared.summary.Summary.{Summary}
 use Rattle.geoarrow_layout.specs.Shapes.{names_of, has_name, SameNames, IsSeparatedAs, Leaf, Levels, LeafUnder, Member, Mixed, Native, GeometryPart, Geometry, IsBoxAs, BoxShape, Accepted, Accepts, IsStructured}
 use Rattle.geoarrow_layout.specs.Summary.{IsBits, SomeAt, IsStruct, IsBottom, IsUnion, SummarizesBy, Summarizes}
 use Rattle.geoarrow_layout.specs.Steps.{IsNoLeaf, IsNested}
+use Rattle.geoarrow_layout.specs.OneShape.{levels_same, member_same, geometry_part_same}
 use Rattle.geoarrow_layout.proofs.Leaves.{xyz_names, xym_names}
 use Rattle.geoarrow_layout.proofs.FieldSteps.{has_at}
-use Rattle.geoarrow_layout.proofs.Bottoms.{AtNoList, Under, not_less, not_more, are_levels, levels_same, leaf_apart}
-use Rattle.geoarrow_layout.proofs.Parts.{member_same, geometry_part_same, mixed_apart}
+use Rattle.geoarrow_layout.proofs.Bottoms.{AtNoList, Under, not_less, not_more, are_levels, leaf_apart}
+use Rattle.geoarrow_layout.proofs.Parts.{mixed_apart}
 use Rattle.geoarrow_layout.proofs.Boxes.{box_apart}
 use Rattle.geoarrow_layout.proofs.UnionSteps.{mixed_says, one_says, shows_of, inner_of, at_root, below_root, geometry_apart}
 

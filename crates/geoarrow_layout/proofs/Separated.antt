@@ -12,7 +12,8 @@ use Rattle.geoarrow_layout.specs.declared.summary.Bottom.TheVariants.{Struct, Ot
 use Rattle.geoarrow_layout.specs.Shapes.{names_of, IsSeparatedAs, AnswersOne, Answers, Leaf}
 use Rattle.geoarrow_layout.specs.Summary.{IsBits, SomeAt, IsBottom}
 use Rattle.geoarrow_layout.specs.Steps.{has_bit, IsNoLeaf}
-use Rattle.geoarrow_layout.proofs.Leaves.{xyz_names, xym_names, no_x, no_y, no_z_m, separated_same}
+use Rattle.geoarrow_layout.specs.OneShape.{separated_same}
+use Rattle.geoarrow_layout.proofs.Leaves.{xyz_names, xym_names, no_x, no_y, no_z_m}
 use Rattle.geoarrow_layout.proofs.FieldSteps.{has_at}
 use Rattle.geoarrow_layout.proofs.Readings.{Answer}
 

@@ -19,10 +19,11 @@ use Rattle.geoarrow_layout.specs.Kinds.{order_of}
 use Rattle.geoarrow_layout.specs.Shapes.{Mixed, Geometry, Member, GeometryPart, AllMembers, SomeMember, HasMembers, MixedMembers, Answers, AnswersOne}
 use Rattle.geoarrow_layout.specs.Summary.{IsBits, IsFaultOf, Seen, place_of, AreLevels, IsBottom, IsInnerUnion, IsUnion, SummarizesBy, Summarizes}
 use Rattle.geoarrow_layout.specs.Steps.{AddsBits, CoordOf, DimensionOf, SomeAnswer, UnionSays, UnionSaysOne, IsNested, IsNoLeaf, Shows, ShowsInner}
+use Rattle.geoarrow_layout.specs.OneShape.{member_same, geometry_part_same}
 use Rattle.geoarrow_layout.proofs.Readings.{Answer}
 use Rattle.geoarrow_layout.proofs.Readings.{ok_pair, refused, pairs_same}
 use Rattle.geoarrow_layout.proofs.MemberLists.{all_more, all_less, all_last, take_end}
-use Rattle.geoarrow_layout.proofs.Parts.{member_same, geometry_part_same, mixed_apart}
+use Rattle.geoarrow_layout.proofs.Parts.{mixed_apart}
 use Rattle.geoarrow_layout.proofs.Bottoms.{NotList, not_less}
 use Rattle.geoarrow_layout.proofs.BitSteps.{bits_like, no_bits, bit_is, same_or_not}
 

@@ -10,3 +10,4 @@ pub mod AlikeTest
 pub mod Changes
 pub mod Candidates
 pub mod Bare
+pub mod OneShape

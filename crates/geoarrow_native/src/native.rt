@@ -9,13 +9,12 @@ ghost use Rattle.geoarrow_layout.specs.Layouts.{native_layout};
 ghost use Rattle.geoarrow_meta.specs.Written.{meta_value, normal, IsReadBack};
 ghost use Rattle.geoarrow_native.specs.Column.{ReadsAs, written_field};
 
-use crate::parts::{one_shape, read_parts, supports_parts};
+use crate::parts::{read_parts, supports_parts};
 use crate::shape::NativeShape;
 use crate::write::column_field;
 use arrow_values::{ArrowError, DataType, ExtensionType, Field};
 use geoarrow_layout::{CoordType, Dimension, Kind, list_data_type};
 use geoarrow_meta::Metadata;
-use geoarrow_meta::laws::text_stands_for_one;
 use std::alloc::{AllocError, Global};
 use std::fmt;
 use std::marker::PhantomData;
@@ -159,6 +158,9 @@ impl<S: NativeShape> ExtensionType for NativeType<S> {
     ghost use Rattle.geoarrow_layout.specs.Shapes.{Native as IsOfKind};
     ghost use Rattle.geoarrow_meta.specs.Written.{printed as printed_text};
     ghost use Rattle.geoarrow_meta.specs.Read.{TextStandsFor, TextRefusedAs};
+    ghost use Rattle.geoarrow_meta.specs.declared.metadata.Metadata.{Metadata as MetadataValue};
+    ghost use Rattle.geoarrow_meta.specs.Laws.{text_stands_for_one};
+    ghost use Rattle.geoarrow_layout.specs.OneShape.{any_native_same};
     ghost use Rattle.geoarrow_native.specs.Agree.{native_along};
     ghost use Rattle.geoarrow_native.specs.Column.{IsLayoutRefusal, RefusesNativeUse};
     ghost use Rattle.geoarrow_native.specs.Parts.{native_coord_type, native_dimension, native_metadata};
@@ -173,9 +175,11 @@ impl<S: NativeShape> ExtensionType for NativeType<S> {
 
     ghost printed = { λ m. printed_text (arc_value m) };
 
-    ghost StandsFor = { λ t m. TextStandsFor t (arc_value m) };
+    ghost Value = { MetadataValue };
 
-    ghost SameMetadata = { λ m n. arc_value m ≡ arc_value n };
+    ghost value_of = { arc_value };
+
+    ghost StandsFor = { TextStandsFor };
 
     ghost Accepts = { λ t e. IsOfKind t S.KIND (native_coord_type e) (native_dimension e) };
 
@@ -186,6 +190,10 @@ impl<S: NativeShape> ExtensionType for NativeType<S> {
     ghost RefusesTree = { λ _ r. IsLayoutRefusal r };
 
     ghost RefusesUse = { λ _ t r. RefusesNativeUse t S.KIND r };
+
+    ghost accepts_one = { λ t a b h k. any_native_same S.KIND t (native_coord_type a) (native_coord_type b) (native_dimension a) (native_dimension b) h k };
+
+    ghost stands_for_one = { text_stands_for_one };
 
     ghost accepts_by_shape = { λ t a e h k. native_along t S.KIND (native_coord_type a) (native_coord_type e) (native_dimension a) (native_dimension e) k h };
 
@@ -226,13 +234,5 @@ impl<S: NativeShape> ExtensionType for NativeType<S> {
             metadata,
             shape: PhantomData,
         })
-    }
-
-    fn accepts_one_shape(data_type: &DataType) {
-        one_shape(S::KIND, data_type);
-    }
-
-    fn stands_for_one_metadata(metadata: Option<&str>) {
-        text_stands_for_one(metadata);
     }
 }

@@ -49,11 +49,3 @@ pub(crate) fn supports_parts(
     }
     Ok(())
 }
-
-/// A law: a data type is of a native kind with one coordinate type and dimension alone.
-pub(crate) fn one_shape(kind: NativeKind, data_type: &DataType)
-    ensures { (c b : CoordType) (d e : Dimension) → Native (tree data_type.now) kind c d
-        → Native (tree data_type.now) kind b e → (c ≡ b) × (d ≡ e) }
-{
-    parse_native(kind, data_type).is_ok();
-}

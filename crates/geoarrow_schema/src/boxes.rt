@@ -11,7 +11,6 @@ ghost use Rattle.geoarrow_native.specs.Column.{ReadsAs, written_field};
 use arrow_values::{ArrowError, DataType, ExtensionType, Field};
 use geoarrow_layout::{Dimension, Kind, box_data_type, parse_box};
 use geoarrow_meta::Metadata;
-use geoarrow_meta::laws::text_stands_for_one;
 use geoarrow_native::column_field;
 use std::alloc::{AllocError, Global};
 use std::sync::Arc;
@@ -110,6 +109,9 @@ impl ExtensionType for BoxType {
     ghost use Rattle.geoarrow_layout.specs.Shapes.{BoxShape};
     ghost use Rattle.geoarrow_meta.specs.Written.{printed as printed_text};
     ghost use Rattle.geoarrow_meta.specs.Read.{TextStandsFor, TextRefusedAs};
+    ghost use Rattle.geoarrow_meta.specs.declared.metadata.Metadata.{Metadata as MetadataValue};
+    ghost use Rattle.geoarrow_meta.specs.Laws.{text_stands_for_one};
+    ghost use Rattle.geoarrow_layout.specs.OneShape.{box_shape_same};
     ghost use Rattle.geoarrow_native.specs.Column.{IsLayoutRefusal, RefusesUse as IsUseRefusal};
     ghost use Rattle.geoarrow_schema.specs.Parts.{box_dimension, box_metadata};
 
@@ -123,9 +125,11 @@ impl ExtensionType for BoxType {
 
     ghost printed = { λ m. printed_text (arc_value m) };
 
-    ghost StandsFor = { λ t m. TextStandsFor t (arc_value m) };
+    ghost Value = { MetadataValue };
 
-    ghost SameMetadata = { λ m n. arc_value m ≡ arc_value n };
+    ghost value_of = { arc_value };
+
+    ghost StandsFor = { TextStandsFor };
 
     ghost Accepts = { λ t e. BoxShape t (box_dimension e) };
 
@@ -136,6 +140,10 @@ impl ExtensionType for BoxType {
     ghost RefusesTree = { λ _ r. IsLayoutRefusal r };
 
     ghost RefusesUse = { λ _ t r. IsUseRefusal ((d : Dimension) × BoxShape t d) r };
+
+    ghost accepts_one = { λ t a b h k. box_shape_same t (box_dimension a) (box_dimension b) h k };
+
+    ghost stands_for_one = { text_stands_for_one };
 
     ghost accepts_by_shape = { λ t a e h k. subst (λ d. BoxShape t d) (sym k) h };
 
@@ -185,13 +193,5 @@ impl ExtensionType for BoxType {
             }),
             Err(fault) => Err(fault.into_arrow_error(alloc)),
         }
-    }
-
-    fn accepts_one_shape(data_type: &DataType) {
-        parse_box(data_type).is_ok();
-    }
-
-    fn stands_for_one_metadata(metadata: Option<&str>) {
-        text_stands_for_one(metadata);
     }
 }

@@ -12,7 +12,6 @@ ghost use Rattle.geoarrow_native.specs.Column.{ReadsAs, written_field};
 use arrow_values::{ArrowError, DataType, ExtensionType, Field};
 use geoarrow_layout::{CoordType, Kind, geometry_data_type, parse_geometry};
 use geoarrow_meta::Metadata;
-use geoarrow_meta::laws::text_stands_for_one;
 use geoarrow_native::column_field;
 use std::alloc::{AllocError, Global};
 use std::sync::Arc;
@@ -117,6 +116,9 @@ impl ExtensionType for GeometryType {
     ghost use Rattle.geoarrow_layout.specs.Shapes.{Geometry};
     ghost use Rattle.geoarrow_meta.specs.Written.{printed as printed_text};
     ghost use Rattle.geoarrow_meta.specs.Read.{TextStandsFor, TextRefusedAs};
+    ghost use Rattle.geoarrow_meta.specs.declared.metadata.Metadata.{Metadata as MetadataValue};
+    ghost use Rattle.geoarrow_meta.specs.Laws.{text_stands_for_one};
+    ghost use Rattle.geoarrow_layout.specs.OneShape.{geometry_same};
     ghost use Rattle.geoarrow_native.specs.Column.{IsLayoutRefusal, RefusesUse as IsUseRefusal};
     ghost use Rattle.geoarrow_schema.specs.Parts.{geometry_coord_type, geometry_metadata};
 
@@ -130,9 +132,11 @@ impl ExtensionType for GeometryType {
 
     ghost printed = { λ m. printed_text (arc_value m) };
 
-    ghost StandsFor = { λ t m. TextStandsFor t (arc_value m) };
+    ghost Value = { MetadataValue };
 
-    ghost SameMetadata = { λ m n. arc_value m ≡ arc_value n };
+    ghost value_of = { arc_value };
+
+    ghost StandsFor = { TextStandsFor };
 
     ghost Accepts = { λ t e. Geometry t (geometry_coord_type e) };
 
@@ -143,6 +147,10 @@ impl ExtensionType for GeometryType {
     ghost RefusesTree = { λ _ r. IsLayoutRefusal r };
 
     ghost RefusesUse = { λ _ t r. IsUseRefusal ((c : CoordType) × Geometry t c) r };
+
+    ghost accepts_one = { λ t a b h k. geometry_same t (geometry_coord_type a) (geometry_coord_type b) h k };
+
+    ghost stands_for_one = { text_stands_for_one };
 
     ghost accepts_by_shape = { λ t a e h k. subst (λ c. Geometry t c) (sym k) h };
 
@@ -192,13 +200,5 @@ impl ExtensionType for GeometryType {
             }),
             Err(fault) => Err(fault.into_arrow_error(alloc)),
         }
-    }
-
-    fn accepts_one_shape(data_type: &DataType) {
-        parse_geometry(data_type).is_ok();
-    }
-
-    fn stands_for_one_metadata(metadata: Option<&str>) {
-        text_stands_for_one(metadata);
     }
 }

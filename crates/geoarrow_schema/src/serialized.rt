@@ -8,7 +8,6 @@ ghost use Rattle.geoarrow_meta.specs.Written.{empty};
 use arrow_values::{ArrowError, DataType, ExtensionType};
 use geoarrow_layout::{LayoutFault, Width, parse_wkb, parse_wkt};
 use geoarrow_meta::Metadata;
-use geoarrow_meta::laws::text_stands_for_one;
 use std::alloc::{AllocError, Global};
 use std::fmt;
 use std::marker::PhantomData;
@@ -167,6 +166,8 @@ impl<E: Encoding> ExtensionType for SerializedType<E> {
     ghost use Rattle.arrow_values.specs.Errors.{IsSchemaOf};
     ghost use Rattle.geoarrow_meta.specs.Written.{printed as printed_text};
     ghost use Rattle.geoarrow_meta.specs.Read.{TextStandsFor, TextRefusedAs};
+    ghost use Rattle.geoarrow_meta.specs.declared.metadata.Metadata.{Metadata as MetadataValue};
+    ghost use Rattle.geoarrow_meta.specs.Laws.{text_stands_for_one};
     ghost use Rattle.geoarrow_schema.specs.Parts.{serialized_metadata};
     ghost use Rattle.geoarrow_schema.specs.Stored.{InSomeWidth};
 
@@ -180,9 +181,11 @@ impl<E: Encoding> ExtensionType for SerializedType<E> {
 
     ghost printed = { λ m. printed_text (arc_value m) };
 
-    ghost StandsFor = { λ t m. TextStandsFor t (arc_value m) };
+    ghost Value = { MetadataValue };
 
-    ghost SameMetadata = { λ m n. arc_value m ≡ arc_value n };
+    ghost value_of = { arc_value };
+
+    ghost StandsFor = { TextStandsFor };
 
     ghost Accepts = { λ t _. InSomeWidth E.IsStored t };
 
@@ -193,6 +196,10 @@ impl<E: Encoding> ExtensionType for SerializedType<E> {
     ghost RefusesTree = { λ _ r. IsSchemaOf (fault_text UnexpectedType) r };
 
     ghost RefusesUse = { λ _ _ r. IsSchemaOf (fault_text UnexpectedType) r };
+
+    ghost accepts_one = { λ t a b h k. tt };
+
+    ghost stands_for_one = { text_stands_for_one };
 
     ghost accepts_by_shape = { λ t a e h _. h };
 
@@ -233,11 +240,5 @@ impl<E: Encoding> ExtensionType for SerializedType<E> {
             Ok(_) => Ok(SerializedType::new(metadata)),
             Err(_) => Err(ArrowError::schema_error(alloc, "unexpected data type")),
         }
-    }
-
-    fn accepts_one_shape(_data_type: &DataType) {}
-
-    fn stands_for_one_metadata(metadata: Option<&str>) {
-        text_stands_for_one(metadata);
     }
 }

@@ -5,7 +5,6 @@ use arrow_values::{
     Field,
 };
 use geoarrow_meta::Metadata;
-use geoarrow_meta::laws::text_stands_for_one;
 use json::Scratch;
 use std::alloc::{AllocError, Global};
 use std::test::Fail;
@@ -23,6 +22,8 @@ impl ExtensionType for Marked {
     ghost use Rattle.arrow_values.specs.Errors.{is_schema};
     ghost use Rattle.geoarrow_meta.specs.Written.{printed as printed_text};
     ghost use Rattle.geoarrow_meta.specs.Read.{TextStandsFor, TextRefusedAs};
+    ghost use Rattle.geoarrow_meta.specs.declared.metadata.Metadata.{Metadata as MetadataValue};
+    ghost use Rattle.geoarrow_meta.specs.Laws.{text_stands_for_one};
 
     const NAME: &'static str = "tests.marked";
 
@@ -34,9 +35,11 @@ impl ExtensionType for Marked {
 
     ghost printed = { printed_text };
 
-    ghost StandsFor = { TextStandsFor };
+    ghost Value = { MetadataValue };
 
-    ghost SameMetadata = { λ m n. m ≡ n };
+    ghost value_of = { λ m. m };
+
+    ghost StandsFor = { TextStandsFor };
 
     ghost Accepts = { λ t _. t ≡ plain binary };
 
@@ -47,6 +50,10 @@ impl ExtensionType for Marked {
     ghost RefusesTree = { λ _ r. is_schema r ≡ true };
 
     ghost RefusesUse = { λ _ _ r. is_schema r ≡ true };
+
+    ghost accepts_one = { λ t a b h k. tt };
+
+    ghost stands_for_one = { text_stands_for_one };
 
     ghost accepts_by_shape = { λ t a e h _. h };
 
@@ -83,12 +90,6 @@ impl ExtensionType for Marked {
         let marked = Marked { metadata };
         marked.supports_data_type(alloc, data_type)?;
         Ok(marked)
-    }
-
-    fn accepts_one_shape(_data_type: &DataType) {}
-
-    fn stands_for_one_metadata(metadata: Option<&str>) {
-        text_stands_for_one(metadata);
     }
 }
 

@@ -10,7 +10,7 @@ returns g c = λ accepted stands written.
     let x = c.args.extension_type.now in
     let f = c.args.self.now in
     let text : Option Text = e.printed (e.metadata_of x) in
-    let P : Option Text → Type 0 = λ t. e.StandsFor t (e.metadata_of x) in (
+    let P : Option Text → Type 0 = λ t. e.StandsFor t (e.value_of (e.metadata_of x)) in (
       ap extension_name written ∙ name_set e.name_text text f.metadata,
       subst P (sym (ap extension_metadata written ∙ metadata_set e.name_text text f.metadata)) stands,
       subst (λ (t : FieldTree). e.Accepts t.tree x) (sym written) accepted,
