@@ -1,10 +1,12 @@
 -- The ids of a union, cut and joined.
-use Rattle.std.proofs.Common.{◌≡◌, ℤ, Bool, true, false, not, cond, ◌&&◌, ◌||◌, List, [], ◌∷◌, ◌++◌, length, Option, Some, None, refl, sym, ap, ◌∙◌, true≢false, arith}
+use Rattle.std.proofs.Common.{◌≡◌, ◌⊎◌, inl, inr, ℤ, Bool, true, false, not, cond, ◌&&◌, ◌||◌, List, [], ◌∷◌, ◌++◌, length, Option, Some, None, refl, sym, ap, ◌∙◌, true≢false, arith}
 use Rattle.std.specs.Ordering.{int_eq}
 use Rattle.std.specs.List.{list_all, filter, zip}
 use Rattle.std.proofs.lemmas.List.Folds.{list_any-append, list_all-append}
 use Rattle.std.proofs.lemmas.Bool.Decides.{Decides-int_eq, same_from_decides, Decides-like}
 use Rattle.arrow_values.specs.Tree.{FieldTree, Members}
+use Rattle.arrow_values.specs.Errors.{IsMemory, IsInvalidArgument, is_invalid_argument}
+use Rattle.arrow_values.specs.declared.error.ArrowError.{ArrowError}
 use Rattle.arrow_values.specs.Union.{is_type_id, has, has_id, are_distinct, are_type_ids, ids_of, retained, shared_id, HasTypeIds, AreUnionParts}
 
 both : (a b : Bool) → (a && b) ≡ true → (a ≡ true) × (b ≡ true)
@@ -113,3 +115,8 @@ ids_of-zip (i ∷ is) (f ∷ fs) h = ap (λ js. i ∷ js) (ids_of-zip is fs (ome
 
 pub made_ids : (is : List ℤ) (fs : List FieldTree) (ms : Members) → ms ≡ zip is fs → AreUnionParts is fs → HasTypeIds ms
 made_ids is fs ms made h = ap (λ l. are_type_ids (ids_of l)) made ∙ ap are_type_ids (ids_of-zip is fs h.0) ∙ h.1
+
+-- how parts that make no union are refused
+pub unfit : {P : Type 0} (e : ArrowError) → ¬ P → IsInvalidArgument e → IsMemory e ⊎ (¬ P × (is_invalid_argument e ≡ true))
+unfit e none (inl memory) = inl memory
+unfit e none (inr argument) = inr (none, argument)

@@ -4,3 +4,4 @@ pub mod Lookup
 pub mod Join
 pub mod Ids
 pub mod TextLaws
+pub mod Refusals

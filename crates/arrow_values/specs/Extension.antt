@@ -1,7 +1,8 @@
 -- What contracts say of an extension type, at any implementation.
-use Rattle.std.specs.Prelude.{◌≡◌, ◌⊎◌, Some}
+use Rattle.std.specs.Prelude.{◌≡◌, ◌⊎◌, Some, true}
 use Rattle.arrow_values.specs.Tree.{FieldTree}
 use Rattle.arrow_values.specs.Texts.{extension_name, extension_metadata, set_extension}
+use Rattle.arrow_values.specs.Errors.{is_invalid_argument}
 use Rattle.arrow_values.specs.declared.error.ArrowError.{ArrowError}
 use Rattle.arrow_values.specs.declared.extension.ExtensionType.{Ghosts}
 
@@ -25,3 +26,7 @@ module _ {X M : Type 0} (g : Ghosts X M) where
   -- the field's metadata text is refused so; or, where it stands for a value, its tree is
   abbrev pub Refuses : FieldTree → ArrowError → Type 0
   Refuses f r = g.RefusesText (extension_metadata f) r ⊎ (((v : g.Value) × g.StandsFor (extension_metadata f) v) × g.RefusesTree f.tree r)
+
+  -- the field stands for no type: under another name or none, which is an invalid argument; or under that of the type, for which it is refused so
+  abbrev pub IsRefusedBy : FieldTree → ArrowError → Type 0
+  IsRefusedBy f r = ((e : X) → ¬ Reads f e) × ((¬ IsNamed f × (is_invalid_argument r ≡ true)) ⊎ (IsNamed f × Refuses f r))

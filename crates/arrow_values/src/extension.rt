@@ -112,22 +112,19 @@ pub trait ExtensionType: Sized {
 }
 
 impl Field {
-    ghost use Rattle.arrow_values.specs.Errors.{IsMemory, is_invalid_argument};
+    ghost use Rattle.arrow_values.specs.Errors.{IsMemory};
     ghost use Rattle.arrow_values.specs.Texts.{SetsExtension};
-    ghost use Rattle.arrow_values.specs.Extension.{IsNamed, Reads, Refuses, Writes, StandsForPrinted};
+    ghost use Rattle.arrow_values.specs.Extension.{Reads, IsRefusedBy, Writes, StandsForPrinted};
 
     /// The extension type that the field carries: its name, the metadata that its metadata text stands for, and the
     /// shape as which its data type is accepted. Errs, as `InvalidArgumentError`, where there is no extension name or
     /// another one; then as `deserialize_metadata` and as `try_new` err.
+    #[tactic(auto, using(crate::proofs::Refusals::unnamed_refused, crate::proofs::Refusals::text_refused, crate::proofs::Refusals::tree_refused))]
     pub fn try_extension_type<E: ExtensionType>(&self, alloc: Global) -> Result<E, ArrowError>
         ensures ok { IfOk result (Reads E.ExtensionType self.now) }
         ensures only { IfOk result (λ e. (a : E) → Reads E.ExtensionType self.now a
             → E.Agrees e a × (E.value_of (E.metadata_of e) ≡ E.value_of (E.metadata_of a))) }
-        ensures err { IfErr result (λ r. IsMemory r ⊎ ((e : E) → Reads E.ExtensionType self.now e → ⊥)) }
-        ensures unnamed { IfErr result (λ r. IsMemory r ⊎ IsNamed E.ExtensionType self.now
-            ⊎ (is_invalid_argument r ≡ true)) }
-        ensures handed_on { IfErr result (λ r. IsMemory r
-            ⊎ (IsNamed E.ExtensionType self.now → Refuses E.ExtensionType self.now r)) }
+        ensures refused { IfErr result (λ r. IsMemory r ⊎ IsRefusedBy E.ExtensionType self.now r) }
     {
         match self.extension_type_name() {
             None => return Err(invalid_argument(alloc, "extension name missing")),

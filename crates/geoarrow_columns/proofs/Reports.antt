@@ -1,5 +1,5 @@
 -- Reports, field by field.
-use Rattle.std.proofs.Common.{◌≡◌, ◌⊎◌, ℕ, ◌+◌, take, inl, inr, sym, subst, List, [], ◌∷◌, ◌++◌}
+use Rattle.std.proofs.Common.{◌≡◌, ℕ, ◌+◌, take, inl, inr, sym, subst, List, [], ◌∷◌, ◌++◌}
 use Rattle.arrow_values.specs.Tree.{FieldTree}
 use Rattle.arrow_values.specs.Errors.{IsGeoMemory}
 use Rattle.arrow_values.specs.declared.error.GeoArrowError.{GeoArrowError}

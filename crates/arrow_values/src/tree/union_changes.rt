@@ -1,5 +1,5 @@
 //! Unions made of ids and fields, cut and joined.
-ghost use Rattle.std.specs.Prelude.{◌≡◌, ◌++◌, ◌⊎◌, [], IsOk, IfOk, IfErr, OnOk, OnErr, IsTrue, None, true};
+ghost use Rattle.std.specs.Prelude.{◌≡◌, ◌++◌, ◌⊎◌, [], IsOk, IfOk, IfErr, OnOk, OnErr, MatchResult, IsTrue, None, true};
 ghost use Rattle.std.specs.List.{list_all, zip};
 ghost use Rattle.arrow_values.specs.Union.{AreUnionParts, HasTypeIds, are_distinct, has, has_id, is_type_id, retained, shared_id};
 ghost use Rattle.arrow_values.specs.Errors.{IsMemory, is_invalid_argument, fault_id};
@@ -12,16 +12,15 @@ impl UnionFields {
     /// The union of these members: the first id with the first field, and so on. Errs, as `InvalidArgumentError`,
     /// where there are not as many ids as fields, where an id is negative, and where one is repeated; else for want
     /// of memory alone. A union may have no members, and then takes no memory.
+    #[tactic(auto, using(crate::proofs::Ids::unfit))]
     pub fn try_new(
         alloc: Global,
         type_ids: Vec<i8>,
         fields: Vec<Field>,
     ) -> Result<UnionFields, ArrowError>
-        ensures members { IfOk result (λ ms. ms ≡ zip type_ids.items fields.items) }
+        ensures made { MatchResult result (λ ms. AreUnionParts type_ids.items fields.items × (ms ≡ zip type_ids.items fields.items))
+            (λ e. IsMemory e ⊎ (¬ AreUnionParts type_ids.items fields.items × (is_invalid_argument e ≡ true))) }
         ensures ids { IfOk result HasTypeIds }
-        ensures fits { IfOk result (λ _. AreUnionParts type_ids.items fields.items) }
-        ensures refused { IfErr result (λ e. IsMemory e ⊎ ¬ AreUnionParts type_ids.items fields.items) }
-        ensures variant { IfErr result (λ e. IsMemory e ⊎ (is_invalid_argument e ≡ true)) }
         ensures no_memory { type_ids.items ≡ [] → fields.items ≡ [] → IsOk result }
     {
         if type_ids.len() != fields.len() {

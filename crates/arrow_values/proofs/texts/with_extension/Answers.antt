@@ -14,8 +14,8 @@ returns-after-not-is_empty c =
     let set : remove_text metadata_key (put_text name_key c.args.name.now texts) ≡ set_extension c.args.name.now (option_map string_bytes c.args.text) texts =
     sym (ap (λ text. set_extension c.args.name.now (option_map string_bytes text) texts) c.in-None.is) in
     elim c.if-not-is_empty.branch [
-      then-not-is_empty w ↦ ap (λ made. texts_of made.entries) w.made-is ∙ w.remove_text.ensures ∙ ap (remove_text metadata_key) put ∙ set
-    | else-not-is_empty w ↦
-      let none : texts ≡ [] = ap texts_of (nil_from_length c.args.texts.now.entries (c.is_empty.ensures.0 w.if-not-is_empty.false)) in
-      ap (λ made. texts_of made.entries) w.made-is ∙ put ∙ nothing_removed c.args.name.now texts none ∙ set
+      | then-not-is_empty w ↦ ap (λ made. texts_of made.entries) w.made-is ∙ w.remove_text.ensures ∙ ap (remove_text metadata_key) put ∙ set
+      | else-not-is_empty w ↦
+          let none : texts ≡ [] = ap texts_of (nil_from_length c.args.texts.now.entries (c.is_empty.ensures.0 w.if-not-is_empty.false)) in
+          ap (λ made. texts_of made.entries) w.made-is ∙ put ∙ nothing_removed c.args.name.now texts none ∙ set
     ]
