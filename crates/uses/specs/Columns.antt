@@ -1,0 +1,45 @@
+-- What is said of columns.
+use Rattle.std.specs.Prelude.{◌≡◌, ◌++◌, ℤ, List, [], Option, Some, None, option_map}
+use Rattle.arrow_values.specs.Tree.{Text, Tree, plain, list, large_list, fixed_size_list, struct, union, FieldTree, Members}
+use Rattle.arrow_values.specs.View.{member_trees, member_list}
+use Rattle.arrow_values.specs.Union.{retained, shared_id}
+use Rattle.arrow_values.specs.declared.tree.UnionMode.{UnionMode}
+use Rattle.serde_json.specs.Data.{Data}
+use Rattle.serde_json.specs.Written.{compact_text}
+use Rattle.geoarrow_layout.specs.declared.kinds.CoordType.{CoordType}
+use Rattle.geoarrow_layout.specs.Changes.{GeometryUnion, EachOf}
+use Rattle.geoarrow_meta.specs.declared.metadata.Metadata.{Metadata}
+use Rattle.geoarrow_meta.specs.Parts.{metadata_crs}
+use Rattle.geoarrow_meta.specs.Transform.{own_projjson}
+use Rattle.geoarrow_schema.specs.declared.types.GeoArrowType.{GeoArrowType}
+use Rattle.geoarrow_schema.specs.Reads.{Reads, writes}
+
+-- the two are read as types of which one extension name, tree and metadata value are written
+abbrev pub AreWrittenAlike : FieldTree → FieldTree → Type 0
+AreWrittenAlike e f = (g : GeoArrowType) × (h : GeoArrowType) × Reads e g × Reads f h × (writes g ≡ writes h)
+
+-- the members of a union; none where the tree is no union
+abbrev pub members_of : Tree → Members
+members_of (plain p) = []
+members_of (list n t b m) = []
+members_of (large_list n t b m) = []
+members_of (fixed_size_list n t b m s) = []
+members_of (struct fs) = []
+members_of (union ms mode) = member_list ms
+
+-- n is the field with those of its members whose id is among ids, and otherwise unchanged
+abbrev pub IsNarrowed : List ℤ → FieldTree → FieldTree → Type 0
+IsNarrowed ids f n = (mode : UnionMode) × (n ≡ record f { tree = union (member_trees (retained ids (members_of f.tree))) mode })
+
+-- no type id is in both, and there is one coordinate type of which each part with members, and there is one, is of geometries
+abbrev pub MayBeJoined : Members → Members → Type 0
+MayBeJoined ms ns = (shared_id ms ns ≡ None) × ((c : CoordType) × EachOf (GeometryUnion c) ms ns (ms ++ ns))
+
+-- the compact text of a value that may be missing twice over
+abbrev text_of_own : Option (Option Data) → Option Text
+text_of_own None = None
+text_of_own (Some v) = option_map compact_text v
+
+-- the compact text of the CRS value, where its type is PROJJSON
+abbrev pub projjson_text_of : Metadata → Option Text
+projjson_text_of m = text_of_own (own_projjson (metadata_crs m))

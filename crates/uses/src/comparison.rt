@@ -1,0 +1,23 @@
+//! Columns compared.
+ghost use Rattle.std.specs.Prelude.{◌⊎◌, ◌↔◌, IfOk, IfErr, IsTrue};
+ghost use Rattle.arrow_values.specs.Errors.{IsGeoMemory};
+ghost use Rattle.geoarrow_schema.specs.Reads.{ReadsAsNone};
+ghost use Rattle.uses.specs.Columns.{AreWrittenAlike};
+
+use arrow_values::{Field, GeoArrowResult};
+use geoarrow_schema::GeoArrowType;
+use std::alloc::Global;
+
+/// Whether two columns hold the same type, as far as a field can say it: what is written of both types is the same
+/// extension name, data type and metadata value (GeoArrow, "Extension types"). So a column of structs in another form, or
+/// with a metadata text in another order, is no other column. Errs where one of the two is read as no type, and for want
+/// of memory.
+#[tactic(auto, using(crate::proofs::Columns::alike_where_same))]
+pub fn are_written_alike(alloc: Global, one: &Field, other: &Field) -> GeoArrowResult<bool>
+    ensures exact { IfOk result (λ alike. IsTrue alike ↔ AreWrittenAlike one.now other.now) }
+    ensures refused { IfErr result (λ e. IsGeoMemory e ⊎ ReadsAsNone one.now ⊎ ReadsAsNone other.now) }
+{
+    let one_type = GeoArrowType::try_from_field(alloc, one)?;
+    let other_type = GeoArrowType::try_from_field(alloc, other)?;
+    Ok(one_type.same_written(&other_type))
+}

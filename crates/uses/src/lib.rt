@@ -1,0 +1,17 @@
+//! Examples of how the crates are used: small callers, each with a contract that a user would want, proved over the public
+//! contracts of the crates below alone.
+#![tactic(auto)]
+
+mod checker;
+mod comparison;
+mod crs_text;
+mod joiner;
+mod planner;
+mod writer;
+
+pub use checker::{Survey, survey_columns};
+pub use comparison::are_written_alike;
+pub use crs_text::projjson_text;
+pub use joiner::join_unions;
+pub use planner::keep_wanted;
+pub use writer::write_column;
