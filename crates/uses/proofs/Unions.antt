@@ -1,9 +1,9 @@
 -- Unions whose members go or come, as columns.
-use Rattle.std.proofs.Common.{◌≡◌, ◌≢◌, ◌∙◌, ◌++◌, ◌↔◌, sym, ap, subst, true, false, ◌==◌, length, arith, [], ◌∷◌, None, Result, Ok, Err}
+use Rattle.std.proofs.Common.{◌≡◌, ◌≢◌, ◌∙◌, ◌++◌, ◌↔◌, sym, ap, subst, true, false, ◌==◌, length, arith, ℤ, List, [], ◌∷◌, None, Result, Ok, Err}
 use Rattle.std.proofs.lemmas.Bool.{eqb-true, true≢false}
 use Rattle.arrow_values.specs.Tree.{Tree, union, FieldTree, Members}
-use Rattle.arrow_values.specs.View.{member_trees, listed_members}
-use Rattle.arrow_values.specs.Union.{shared_id}
+use Rattle.arrow_values.specs.View.{member_trees, member_list, listed_members}
+use Rattle.arrow_values.specs.Union.{retained, shared_id}
 use Rattle.arrow_values.specs.declared.tree.UnionMode.{UnionMode}
 use Rattle.geoarrow_layout.specs.declared.kinds.CoordType.{CoordType}
 use Rattle.geoarrow_layout.specs.declared.encodings.Kind.TheVariants.{Geometry as OfGeometry}
@@ -11,7 +11,7 @@ use Rattle.geoarrow_layout.specs.Shapes.{Geometry}
 use Rattle.geoarrow_layout.specs.Changes.{GeometryUnion, EachOf}
 use Rattle.geoarrow_meta.specs.declared.metadata.Metadata.{Metadata}
 use Rattle.geoarrow_native.specs.Column.{ReadsAs}
-use Rattle.uses.specs.Columns.{members_of, MayBeJoined}
+use Rattle.uses.specs.Columns.{members_of, narrowed, MayBeJoined}
 
 -- the parts may be joined where the whole is of geometries
 pub joined_of_geometries : (ms ns whole : Members) (mode : UnionMode) (c : CoordType) → whole ≡ ms ++ ns → shared_id ms ns ≡ None
@@ -27,6 +27,13 @@ not_joined_of_others ms ns whole mode is law none may =
 -- the members of a union are those that it was made of
 pub members_of_union : (t : Tree) (ms : Members) (mode : UnionMode) → t ≡ union (member_trees ms) mode → members_of t ≡ ms
 members_of_union t ms mode is = ap members_of is ∙ listed_members ms
+
+-- and those that are kept of them are the union without the others
+pub narrowed_union : (ids : List ℤ) (t : Tree) (ms ns : Members) (mode : UnionMode) → t ≡ union (member_trees ms) mode → ns ≡ retained ids ms
+    → union (member_trees ns) mode ≡ narrowed ids t
+narrowed_union ids t ms ns mode is kept =
+    let listed : union (member_trees (retained ids (member_list (member_trees ms)))) mode ≡ narrowed ids t = ap (narrowed ids) (sym is) in
+    ap (λ x. union (member_trees x) mode) kept ∙ ap (λ x. union (member_trees (retained ids x)) mode) (sym (listed_members ms)) ∙ listed
 
 pub none_where_empty : (ms : Members) → (length ms == 0) ≡ true → ms ≡ []
 none_where_empty [] h = λ z. []

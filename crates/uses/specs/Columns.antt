@@ -1,9 +1,8 @@
 -- What is said of columns.
 use Rattle.std.specs.Prelude.{◌≡◌, ◌++◌, ℤ, List, [], Option, Some, None, option_map}
-use Rattle.arrow_values.specs.Tree.{Text, Tree, plain, list, large_list, fixed_size_list, struct, union, FieldTree, Members}
+use Rattle.arrow_values.specs.Tree.{Text, Tree, union, FieldTree, Members}
 use Rattle.arrow_values.specs.View.{member_trees, member_list}
 use Rattle.arrow_values.specs.Union.{retained, shared_id}
-use Rattle.arrow_values.specs.declared.tree.UnionMode.{UnionMode}
 use Rattle.serde_json.specs.Data.{Data}
 use Rattle.serde_json.specs.Written.{compact_text}
 use Rattle.geoarrow_layout.specs.declared.kinds.CoordType.{CoordType}
@@ -20,16 +19,13 @@ AreWrittenAlike e f = (g : GeoArrowType) × (h : GeoArrowType) × Reads e g × R
 
 -- the members of a union; none where the tree is no union
 abbrev pub members_of : Tree → Members
-members_of (plain p) = []
-members_of (list n t b m) = []
-members_of (large_list n t b m) = []
-members_of (fixed_size_list n t b m s) = []
-members_of (struct fs) = []
 members_of (union ms mode) = member_list ms
+members_of _ = []
 
--- n is the field with those of its members whose id is among ids, and otherwise unchanged
-abbrev pub IsNarrowed : List ℤ → FieldTree → FieldTree → Type 0
-IsNarrowed ids f n = (mode : UnionMode) × (n ≡ record f { tree = union (member_trees (retained ids (members_of f.tree))) mode })
+-- the union of those of its members whose id is among ids, in the same mode; a tree that is no union as it is
+abbrev pub narrowed : List ℤ → Tree → Tree
+narrowed ids (union ms mode) = union (member_trees (retained ids (member_list ms))) mode
+narrowed ids t = t
 
 -- no type id is in both, and there is one coordinate type of which each part with members, and there is one, is of geometries
 abbrev pub MayBeJoined : Members → Members → Type 0

@@ -5,7 +5,7 @@ ghost use Rattle.geoarrow_layout.specs.declared.kinds.CoordType.{CoordType};
 ghost use Rattle.geoarrow_layout.specs.declared.encodings.Kind.TheVariants.{Geometry as OfGeometry};
 ghost use Rattle.geoarrow_meta.specs.declared.metadata.Metadata.{Metadata};
 ghost use Rattle.geoarrow_native.specs.Column.{ReadsAs};
-ghost use Rattle.uses.specs.Columns.{members_of, IsNarrowed};
+ghost use Rattle.uses.specs.Columns.{members_of, narrowed};
 
 use arrow_values::{DataType, Field};
 use geoarrow_layout::keep_members;
@@ -17,7 +17,7 @@ use std::alloc::{AllocError, Global};
 /// the column is no union. Errs for want of memory alone.
 pub fn keep_wanted(alloc: Global, field: &Field, wanted: &[i8]) -> Result<Option<Field>, AllocError>
     ensures exact { IfOk result (λ found. IsSome found ↔ (retained wanted.now (members_of field.now.tree) ≢ [])) }
-    ensures narrowed { IfOk result (λ found. IfSome found (IsNarrowed wanted.now field.now)) }
+    ensures narrowed { IfOk result (λ found. IfSome found (λ f. f ≡ record field.now { tree = narrowed wanted.now field.now.tree })) }
     ensures geometry { IfOk result (λ found. IfSome found (λ f. (c : CoordType) (m : Metadata)
         → ReadsAs field.now (OfGeometry c) m → ReadsAs f (OfGeometry c) m)) }
 {
