@@ -65,7 +65,7 @@ impl GeoArrowType {
         ensures refused { IfErr result IsMemory }
     {
         let data_type = self.to_data_type(alloc)?;
-        let bare = field.try_clone(alloc)?.with_data_type(data_type);
+        let bare = field.try_clone_with_data_type(alloc, data_type)?;
         layout_reads_back(self.kind());
         printed_reads_back(self.metadata());
         self.dress(alloc, bare)
