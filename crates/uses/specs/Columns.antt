@@ -27,11 +27,11 @@ abbrev pub narrowed : List ℤ → Tree → Tree
 narrowed ids (union ms mode) = union (member_trees (retained ids (member_list ms))) mode
 narrowed ids t = t
 
--- no type id is in both, and there is one coordinate type of which each part with members, and there is one, is of geometries
+-- no type id is in both, there is a member, and each part that has members is of geometries, of one coordinate type
 abbrev pub MayBeJoined : Members → Members → Type 0
 MayBeJoined ms ns = (shared_id ms ns ≡ None) × ((c : CoordType) × EachOf (GeometryUnion c) ms ns (ms ++ ns))
 
--- the compact text of a value that may be missing twice over
+-- the compact text of a value, if there is one
 abbrev text_of_own : Option (Option Data) → Option Text
 text_of_own None = None
 text_of_own (Some v) = option_map compact_text v

@@ -26,7 +26,7 @@ module _ {X : Type 0} (P : X → Type 0) where
   ArePlaces n [] is = is ≡ []
   ArePlaces n (x ∷ xs) is = (P x × ((js : List ℕ) × (is ≡ n ∷ js) × ArePlaces (n + 1) xs js)) ⊎ (¬ P x × ArePlaces (n + 1) xs is)
 
--- the same, of entries of a report
+-- the entry of a report says so
 abbrev pub is_geometry : Column → Bool
 is_geometry (Geometry g) = true
 is_geometry (Inferred g) = false
@@ -39,6 +39,7 @@ is_faulty (Inferred g) = false
 is_faulty Other = false
 is_faulty (Faulty fault) = true
 
+-- the places of the faulty entries, where the first stands at place n
 abbrev pub places_of : ℕ → List Column → List ℕ
 places_of n [] = []
 places_of n (c ∷ cs) = cond (is_faulty c) (n ∷ places_of (n + 1) cs) (places_of (n + 1) cs)
