@@ -11,6 +11,4 @@ mod names;
 #[cfg(test)]
 mod types;
 #[cfg(test)]
-mod usage;
-#[cfg(test)]
 mod values;
