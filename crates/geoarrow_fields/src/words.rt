@@ -1,5 +1,5 @@
 //! The words of the answers.
-ghost use Rattle.std.specs.Prelude.{◌≡◌, IfOk, string_bytes};
+ghost use Rattle.std.specs.Prelude.{◌≡◌, ◌++◌, IfOk, string_bytes};
 ghost use Rattle.geoarrow_meta.specs.Written.{printed};
 ghost use Rattle.geoarrow_fields.specs.Words.{native_word, kind_word, coord_type_word, dimension_word, metadata_word, type_text, error_text, column_text, inferred_text};
 
@@ -7,15 +7,32 @@ use geoarrow_columns::{Column, ColumnFault};
 use geoarrow_schema::{CoordType, Dimension, GeoArrowType, Kind, Metadata, NativeKind, Width};
 use std::alloc::{AllocError, Global};
 
+/// The room for the words of a type and what stands before them, its metadata aside.
+const WORDS_ROOM: usize = 48;
+
+/// A type, behind a text: kind, coordinate type, dimension and metadata.
+fn type_behind(alloc: Global, before: &str, found: &GeoArrowType) -> Result<String, AllocError>
+    ensures { IfOk result (λ text. string_bytes text ≡ before.now ++ type_text found.now) }
+{
+    let metadata = metadata_word(alloc, found.metadata())?;
+    let room = metadata.len().saturating_add(WORDS_ROOM);
+    let mut text = String::with_capacity(alloc, room)?;
+    text.push_str(before)?;
+    text.push_str(kind_word(found.kind()))?;
+    text.push_str(" ")?;
+    text.push_str(coord_type_word(found.coord_type()))?;
+    text.push_str(" ")?;
+    text.push_str(dimension_word(found.dimension()))?;
+    text.push_str(" ")?;
+    text.push_str(metadata.as_str())?;
+    Ok(text)
+}
+
 /// A type: kind, coordinate type, dimension and metadata.
 pub(crate) fn type_text(alloc: Global, found: &GeoArrowType) -> Result<String, AllocError>
     ensures { IfOk result (λ text. string_bytes text ≡ type_text found.now) }
 {
-    let kind = kind_word(found.kind());
-    let coord_type = coord_type_word(found.coord_type());
-    let dimension = dimension_word(found.dimension());
-    let metadata = metadata_word(alloc, found.metadata())?;
-    format!(in alloc; "{kind} {coord_type} {dimension} {metadata}")
+    type_behind(alloc, "", found)
 }
 
 /// What a column holds, as `columns` says it.
@@ -23,14 +40,8 @@ pub(crate) fn column_text(alloc: Global, column: &Column) -> Result<String, Allo
     ensures { IfOk result (λ text. string_bytes text ≡ column_text column.now) }
 {
     match column {
-        Column::Geometry(found) => {
-            let found = type_text(alloc, found)?;
-            format!(in alloc; "geometry {found}")
-        }
-        Column::Inferred(found) => {
-            let found = type_text(alloc, found)?;
-            format!(in alloc; "inferred {found}")
-        }
+        Column::Geometry(found) => type_behind(alloc, "geometry ", found),
+        Column::Inferred(found) => type_behind(alloc, "inferred ", found),
         Column::Other => String::from_str(alloc, "other"),
         Column::Faulty(ColumnFault::Arrow) => String::from_str(alloc, "faulty arrow"),
         Column::Faulty(ColumnFault::InvalidGeoArrow) => String::from_str(alloc, "faulty invalid"),
