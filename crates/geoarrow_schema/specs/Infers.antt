@@ -32,11 +32,11 @@ InfersAs f k m = ¬ HasGeoArrowName f × TextStandsFor (extension_metadata f) m 
 abbrev pub Infers : FieldTree → GeoArrowType → Type 0
 Infers f g = InfersAs f (kind_of g) (meta_of g)
 
--- it is taken for nothing
+-- the field is taken for nothing
 abbrev pub InfersNone : FieldTree → Type 0
 InfersNone f = (k : Kind) (m : Metadata) → ¬ InfersAs f k m
 
--- and for no other
+-- the field is taken for no other kind and metadata
 abbrev pub InfersAlone : FieldTree → GeoArrowType → Type 0
 InfersAlone f g = (k : Kind) (m : Metadata) → InfersAs f k m → (k ≡ kind_of g) × (m ≡ meta_of g)
 
@@ -44,7 +44,7 @@ InfersAlone f g = (k : Kind) (m : Metadata) → InfersAs f k m → (k ≡ kind_o
 abbrev pub ReadsOrInfers : FieldTree → GeoArrowType → Type 0
 ReadsOrInfers f g = Reads f g ⊎ Infers f g
 
--- and as or for no other
+-- it is read as no other, and taken for no other
 abbrev pub ReadsOrInfersAlone : FieldTree → GeoArrowType → Type 0
 ReadsOrInfersAlone f g = ReadsAlone f g × InfersAlone f g
 
