@@ -11,7 +11,7 @@ use Rattle.geoarrow_native.specs.Column.{ReadsAs}
 use Rattle.geoarrow_schema.specs.declared.types.GeoArrowType.{GeoArrowType}
 use Rattle.geoarrow_schema.specs.Types.{kind_of, meta_of}
 use Rattle.geoarrow_schema.specs.Reads.{HasGeoArrowName, Reads}
-use Rattle.geoarrow_schema.specs.Infers.{Infers}
+use Rattle.geoarrow_schema.specs.Infers.{InfersAs, Infers}
 use Rattle.geoarrow_columns.specs.declared.check.Column.{Column}
 use Rattle.geoarrow_columns.specs.declared.check.Column.TheVariants.{Geometry, Inferred, Other, Faulty}
 use Rattle.geoarrow_columns.specs.declared.check.ColumnFault.TheVariants.{Arrow, InvalidGeoArrow}
@@ -26,12 +26,12 @@ named f g r = (extension_of (kind_of g), r.0.0)
 
 -- one that is taken for a type has none
 unnamed : (f : FieldTree) (g : GeoArrowType) → Infers f g → ¬ HasGeoArrowName f
-unfolding Infers
+unfolding InfersAs
 unnamed f g h = h.0
 
 -- and its metadata text stands for a metadata
 stands : (f : FieldTree) (g : GeoArrowType) → Infers f g → TextStandsFor (extension_metadata f) (meta_of g)
-unfolding Infers
+unfolding InfersAs
 stands f g h = h.1
 
 yes_geometry : (f : FieldTree) (c : Column) → IsColumnOf f c → is_geometry c ≡ true → IsGeometry f
@@ -44,8 +44,8 @@ no_geometry : (f : FieldTree) (c : Column) → IsColumnOf f c → is_geometry c 
 no_geometry f (Geometry g) h fails r = absurd cc
 no_geometry f (Inferred g) h fails r = unnamed f g h (named f r.0 r.1)
 no_geometry f Other h fails r = h.0 (named f r.0 r.1)
-no_geometry f (Faulty InvalidGeoArrow) h fails r = h.0.1 r.0 r.1
-no_geometry f (Faulty Arrow) (inl h) fails r = h.0.1 r.0 r.1
+no_geometry f (Faulty InvalidGeoArrow) h fails r = h.0.1 (kind_of r.0) (meta_of r.0) r.1
+no_geometry f (Faulty Arrow) (inl h) fails r = h.0.1 (kind_of r.0) (meta_of r.0) r.1
 no_geometry f (Faulty Arrow) (inr h) fails r = h.0 (named f r.0 r.1)
 
 yes_faulty : (f : FieldTree) (c : Column) → IsColumnOf f c → is_faulty c ≡ true → IsFaulty f
@@ -57,7 +57,7 @@ yes_faulty f (Faulty Arrow) (inl h) holds = inl h.0
 yes_faulty f (Faulty Arrow) (inr h) holds = inr h
 
 no_faulty : (f : FieldTree) (c : Column) → IsColumnOf f c → is_faulty c ≡ false → ¬ IsFaulty f
-no_faulty f (Geometry g) h fails (inl r) = r.1 g h
+no_faulty f (Geometry g) h fails (inl r) = r.1 (kind_of g) (meta_of g) h
 no_faulty f (Geometry g) h fails (inr u) = u.0 (named f g h)
 no_faulty f (Inferred g) h fails (inl r) = unnamed f g h r.0
 no_faulty f (Inferred g) h fails (inr u) = u.1 (meta_of g) (stands f g h)
