@@ -160,8 +160,11 @@ fn struct_bottom(fields: &[Field]) -> Bottom
 /// What stands below the list levels, not yet looked at.
 #[derive(Clone, Copy)]
 pub struct Below<'a> {
+    /// How many list levels were gone down, three at most.
     pub levels: u8,
+    /// The width of the lists; none where there was no list.
     pub width: Option<ListWidth>,
+    /// The data type below them.
     pub rest: &'a DataType,
 }
 
