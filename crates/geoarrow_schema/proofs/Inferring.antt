@@ -1,5 +1,6 @@
 -- What a tree is taken for.
-use Rattle.std.proofs.Common.{◌≡◌, ◌⊎◌, inl, inr, ◌∙◌, sym, ap, subst, Option, Some, None, Result, Ok}
+use Rattle.std.proofs.Common.{◌≡◌, ◌⊎◌, inl, inr, ◌∙◌, sym, ap, subst, Option, Some, None, Result, Ok, Err}
+use Rattle.std.specs.Prelude.{IfOk, IfErr}
 use Rattle.std.proofs.lemmas.Option.{same_Some}
 use Rattle.std.specs.Arc.{arc_value}
 use Rattle.arrow_values.specs.Tree.{Text, Tree, FieldTree}
@@ -24,8 +25,8 @@ use Rattle.geoarrow_meta.specs.Laws.{text_stands_for_one}
 use Rattle.geoarrow_native.specs.Parts.{Shared}
 use Rattle.geoarrow_schema.specs.declared.types.GeoArrowType.{GeoArrowType}
 use Rattle.geoarrow_schema.specs.Types.{kind_of, metadata_of, meta_of, SameType}
-use Rattle.geoarrow_schema.specs.Reads.{HasGeoArrowName, Reads, ReadsAlone, IsRefusedBy}
-use Rattle.geoarrow_schema.specs.Infers.{InferredAs, InfersAs, Infers, ReadsOrInfers, InfersAlone, ReadsOrInfersAlone, InfersNone, UninferredAs, IsInferenceRefusal, AnswersInferred, IsStored, SerializedAs}
+use Rattle.geoarrow_schema.specs.Reads.{HasGeoArrowName, Reads, ReadsAlone, IsRefusal, IsRefusedBy}
+use Rattle.geoarrow_schema.specs.Infers.{InferredAs, InfersAs, Infers, ReadsOrInfers, InfersAlone, ReadsOrInfersAlone, InfersNone, UninferredAs, IsInferenceRefusal, IsInference, AnswersInferred, IsStored, SerializedAs}
 use Rattle.geoarrow_schema.proofs.Reading.{read_has_name, none_unnamed}
 
 -- no tree is both bytes and text
@@ -151,13 +152,18 @@ unfolding InfersAs
 none_where_named f named k m h = h.0 named
 
 -- and how one that is read as nothing beside
-pub read_refused : (f : FieldTree) (e : GeoArrowError) → IsRefusedBy f e → IsInferenceRefusal f e
+read_refused : (f : FieldTree) (e : GeoArrowError) → IsRefusedBy f e → IsInferenceRefusal f e
 read_refused f e (named, inl memory) = inl memory
 read_refused f e (named, inr (none, refused)) = inr (none, none_where_named f named, inl (named, refused))
 
-pub inference_refused : (f : FieldTree) (e : GeoArrowError) → ¬ HasGeoArrowName f → IsUninferred f e → IsInferenceRefusal f e
-inference_refused f e unnamed (inl memory) = inl memory
-inference_refused f e unnamed (inr (none, refused)) = inr (none_unnamed f unnamed, none, inr (unnamed, refused))
+pub named_inference : (f : FieldTree) (r : Result GeoArrowType GeoArrowError) → HasGeoArrowName f → IfOk r (Reads f) → IfErr r (IsRefusal f) → IsInference f r
+named_inference f (Ok g) named reads refused = inl reads
+named_inference f (Err e) named reads refused = read_refused f e (named, refused)
+
+pub unnamed_inference : (f : FieldTree) (r : Result GeoArrowType GeoArrowError) → ¬ HasGeoArrowName f → IfOk r (Infers f) → IfErr r (λ e. IsGeoMemory e ⊎ (InfersNone f × UninferredAs f e)) → IsInference f r
+unnamed_inference f (Ok g) unnamed infers refused = inr infers
+unnamed_inference f (Err e) unnamed infers (inl memory) = inl memory
+unnamed_inference f (Err e) unnamed infers (inr (none, refused)) = inr (none_unnamed f unnamed, none, inr (unnamed, refused))
 
 -- a field is taken for one type
 pub infers_once : (f : FieldTree) (r : Option Kind) → AnswersInferred f.tree r → ((m n : Metadata) → TextStandsFor (extension_metadata f) m → TextStandsFor (extension_metadata f) n → m ≡ n)
@@ -178,6 +184,10 @@ unnamed_reads_alone f g unnamed k m here = absurd (none_unnamed f unnamed k m he
 -- so a field that is read is taken for none beside
 pub read_alone : (f : FieldTree) (g : GeoArrowType) → Reads f g → ReadsAlone f g → ReadsOrInfersAlone f g
 read_alone f g reads alone = (alone, named_infers_alone f g (read_has_name f g reads))
+
+pub named_alone : (f : FieldTree) (r : Result GeoArrowType GeoArrowError) → IfOk r (Reads f) → IfOk r (ReadsAlone f) → IfOk r (ReadsOrInfersAlone f)
+named_alone f (Ok g) reads alone = read_alone f g reads alone
+named_alone f (Err e) reads alone = tt
 
 -- and one that is taken for a type is read as none beside
 pub inferred_alone : (f : FieldTree) (g : GeoArrowType) → ¬ HasGeoArrowName f → InfersAlone f g → ReadsOrInfersAlone f g

@@ -5,10 +5,11 @@ ghost use Rattle.arrow_values.specs.Errors.{IsGeoMemory};
 ghost use Rattle.geoarrow_schema.specs.Reads.{HasGeoArrowName};
 ghost use Rattle.geoarrow_schema.specs.Infers.{Infers, InfersAlone, ReadsOrInfersAlone, InfersNone, UninferredAs, IsInference, AnswersInferred, SerializedAs};
 
+use crate::read::{name_of, read_metadata, read_named};
 use crate::types::GeoArrowType;
 use arrow_values::{DataType, Field, GeoArrowError, GeoArrowResult};
 use geoarrow_layout::{Bottom, Kind, NativeKind, infer_point, parse_wkb, parse_wkt, summarize};
-use geoarrow_meta::Metadata;
+use json::Scratch;
 use std::alloc::Global;
 use std::sync::Arc;
 
@@ -23,27 +24,54 @@ impl GeoArrowType {
     /// Errs as `from_extension_field` does. Where no GeoArrow name stands on the field it errs as `Arrow` exactly where the
     /// metadata text stands for no metadata, and as `InvalidGeoArrow` where it does and the data type is taken for none;
     /// else for want of memory alone.
-    #[tactic(auto, using(crate::proofs::Reading::read_has_name, crate::proofs::Inferring::read_refused, crate::proofs::Inferring::inference_refused))]
     pub fn from_arrow_field(alloc: Global, field: &Field) -> GeoArrowResult<GeoArrowType>
         ensures inference { IsInference field.now result }
         ensures only { IfOk result (ReadsOrInfersAlone field.now) }
     {
-        match GeoArrowType::from_extension_field(alloc, field)? {
-            Some(found) => Ok(found),
-            None => infer(alloc, field),
-        }
+        read_or_infer(alloc, field, None)
+    }
+
+    /// The same as `from_arrow_field`, in a scratch that the caller keeps, as `from_extension_field_with_scratch` has it.
+    pub fn from_arrow_field_with_scratch(
+        alloc: Global,
+        field: &Field,
+        scratch: &mut Scratch,
+    ) -> GeoArrowResult<GeoArrowType>
+        ensures inference { IsInference field.now result }
+        ensures only { IfOk result (ReadsOrInfersAlone field.now) }
+    {
+        read_or_infer(alloc, field, Some(scratch))
+    }
+}
+
+/// The type that a field is read as or taken for, its metadata text in the scratch, or in one of its own.
+fn read_or_infer(
+    alloc: Global,
+    field: &Field,
+    scratch: Option<&mut Scratch>,
+) -> GeoArrowResult<GeoArrowType>
+    ensures inference { IsInference field.now result }
+    ensures only { IfOk result (ReadsOrInfersAlone field.now) }
+{
+    match name_of(field) {
+        Some(name) => read_named(alloc, field, name, scratch),
+        None => infer(alloc, field, scratch),
     }
 }
 
 /// The type that a field without a GeoArrow name is taken for.
 #[tactic(auto, using(crate::proofs::Inferring::type_inferred, crate::proofs::Inferring::none_for_tree, crate::proofs::Inferring::uninferred_text, crate::proofs::Inferring::uninferred_tree))]
-fn infer(alloc: Global, field: &Field) -> GeoArrowResult<GeoArrowType>
+fn infer(
+    alloc: Global,
+    field: &Field,
+    scratch: Option<&mut Scratch>,
+) -> GeoArrowResult<GeoArrowType>
     requires { ¬ HasGeoArrowName field.now }
     ensures ok { IfOk result (Infers field.now) }
     ensures only { IfOk result (InfersAlone field.now) }
     ensures refused { IfErr result (λ e. IsGeoMemory e ⊎ (InfersNone field.now × UninferredAs field.now e)) }
 {
-    let metadata = Arc::new(alloc, Metadata::try_from_field(alloc, field)?)?;
+    let metadata = Arc::new(alloc, read_metadata(alloc, field, scratch)?)?;
     match infer_kind(field.data_type()) {
         Some(kind) => Ok(GeoArrowType::from_kind(kind, metadata)),
         None => Err(GeoArrowError::invalid_geoarrow(alloc, fault_text(field.data_type()))),

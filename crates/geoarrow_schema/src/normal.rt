@@ -7,11 +7,13 @@ ghost use Rattle.geoarrow_schema.specs.Types.{kind_of, meta_of};
 ghost use Rattle.geoarrow_schema.specs.Reads.{HasGeoArrowName, IsRefusedBy, writes};
 ghost use Rattle.geoarrow_schema.specs.Normal.{normal_of, rewritten, ReadsNormally, IsCanonical};
 
+use crate::read::read;
 use crate::types::GeoArrowType;
 use arrow_values::{ArrowError, Field, GeoArrowResult};
 use geoarrow_layout::{Kind, layout_reads_back, layouts_are_distinct};
 use geoarrow_meta::Metadata;
 use geoarrow_meta::laws::printed_reads_back;
+use json::Scratch;
 use std::alloc::{AllocError, Global};
 use std::sync::Arc;
 
@@ -45,16 +47,25 @@ impl GeoArrowType {
     /// keys of `to_field`, and otherwise as it was, its name, its nullability and its other metadata. It reads as that
     /// normal form, where `serde_json` reads what it printed. None, without memory, where `from_extension_field` answers
     /// none. Errs as that does, and for want of memory.
-    #[tactic(auto, using(crate::proofs::Reading::read_has_name))]
     pub fn canonical_field(alloc: Global, field: &Field) -> GeoArrowResult<Option<Field>>
         ensures ok { IfOk result (λ found. IfSome found (IsCanonical field.now)) }
         ensures none { (result ≡ Ok None) ↔ ¬ HasGeoArrowName field.now }
         ensures refused { IfErr result (IsRefusedBy field.now) }
     {
-        match GeoArrowType::from_extension_field(alloc, field)? {
-            None => Ok(None),
-            Some(found) => Ok(Some(canonical(alloc, field, found)?)),
-        }
+        read_canonical(alloc, field, None)
+    }
+
+    /// The same as `canonical_field`, in a scratch that the caller keeps, as `from_extension_field_with_scratch` has it.
+    pub fn canonical_field_with_scratch(
+        alloc: Global,
+        field: &Field,
+        scratch: &mut Scratch,
+    ) -> GeoArrowResult<Option<Field>>
+        ensures ok { IfOk result (λ found. IfSome found (IsCanonical field.now)) }
+        ensures none { (result ≡ Ok None) ↔ ¬ HasGeoArrowName field.now }
+        ensures refused { IfErr result (IsRefusedBy field.now) }
+    {
+        read_canonical(alloc, field, Some(scratch))
     }
 
     /// The field with the data type and the extension keys of this type.
@@ -69,6 +80,24 @@ impl GeoArrowType {
         layout_reads_back(self.kind());
         printed_reads_back(self.metadata());
         self.dress(alloc, bare)
+    }
+}
+
+/// The field as the normal form of the type that it is read as is written, its metadata text read in the scratch, or in one
+/// of its own.
+#[tactic(auto, using(crate::proofs::Reading::read_has_name))]
+fn read_canonical(
+    alloc: Global,
+    field: &Field,
+    scratch: Option<&mut Scratch>,
+) -> GeoArrowResult<Option<Field>>
+    ensures ok { IfOk result (λ found. IfSome found (IsCanonical field.now)) }
+    ensures none { (result ≡ Ok None) ↔ ¬ HasGeoArrowName field.now }
+    ensures refused { IfErr result (IsRefusedBy field.now) }
+{
+    match read(alloc, field, scratch)? {
+        None => Ok(None),
+        Some(found) => Ok(Some(canonical(alloc, field, found)?)),
     }
 }
 

@@ -1,7 +1,7 @@
 use Rattle.std.proofs.Common.{rules, ◌≡◌, Err}
 use Rattle.geoarrow_schema.specs.Reads.{HasGeoArrowName, IsRefusal}
 use Rattle.geoarrow_schema.proofs.Reading.{reading_err}
-use Rattle.geoarrow_schema.proofs.types.GeoArrowType.from_extension_field.Goals as goal
+use Rattle.geoarrow_schema.proofs.read.read.Goals as goal
 
 pub returns-in_err-read_named-in-Some-clause-reading : goal.returns-in_err-read_named-in-Some-clause-reading
 returns-in_err-read_named-in-Some-clause-reading c =

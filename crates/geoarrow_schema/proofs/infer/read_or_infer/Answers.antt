@@ -1,0 +1,23 @@
+use Rattle.std.proofs.Common.{rules}
+use Rattle.std.proofs.lemmas.Result.{IfOk-weaker}
+use Rattle.geoarrow_schema.specs.Reads.{HasGeoArrowName}
+use Rattle.geoarrow_schema.proofs.Inferring.{named_inference, named_alone, unnamed_inference, inferred_alone}
+use Rattle.geoarrow_schema.proofs.infer.read_or_infer.Goals as goal
+
+pub returns-in-Some-clause-inference : goal.returns-in-Some-clause-inference
+returns-in-Some-clause-inference c =
+    let named : HasGeoArrowName c.args.field.now = search rules in
+    named_inference c.args.field.now c.read_named.result named c.read_named.ensures.ok c.read_named.ensures.refused
+
+pub returns-in-Some-clause-only : goal.returns-in-Some-clause-only
+returns-in-Some-clause-only c = named_alone c.args.field.now c.read_named.result c.read_named.ensures.ok c.read_named.ensures.only
+
+pub returns-in-None-clause-inference : goal.returns-in-None-clause-inference
+returns-in-None-clause-inference c =
+    let unnamed : ¬ HasGeoArrowName c.args.field.now = search rules in
+    unnamed_inference c.args.field.now c.infer.result unnamed c.infer.ensures.ok c.infer.ensures.refused
+
+pub returns-in-None-clause-only : goal.returns-in-None-clause-only
+returns-in-None-clause-only c =
+    let unnamed : ¬ HasGeoArrowName c.args.field.now = search rules in
+    IfOk-weaker c.infer.result _ _ (λ g alone. inferred_alone c.args.field.now g unnamed alone) c.infer.ensures.only
