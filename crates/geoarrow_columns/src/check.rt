@@ -1,11 +1,14 @@
 //! What the columns of a schema hold.
-ghost use Rattle.std.specs.Prelude.{IfOk, IfErr};
+ghost use Rattle.std.specs.Prelude.{IfOk, IfErr, MatchBool};
 ghost use Rattle.arrow_values.specs.Errors.{IsGeoMemory};
 ghost use Rattle.geoarrow_schema.specs.Reads.{HasGeoArrowName};
+ghost use Rattle.geoarrow_schema.specs.Infers.{ReadsOrInfers, IsInference, IsInferenceRefusal};
 ghost use Rattle.geoarrow_columns.specs.Report.{IsColumnOf, IsReport, IsFaultOf};
 
-use arrow_values::{ArrowError, Field, GeoArrowError};
+use arrow_values::{ArrowError, Field, GeoArrowError, GeoArrowResult};
+use geoarrow_layout::ExtensionName;
 use geoarrow_schema::GeoArrowType;
+use json::Scratch;
 use std::alloc::{AllocError, Global};
 
 /// What a column holds.
@@ -47,25 +50,64 @@ pub fn check_columns(alloc: Global, fields: &[Field]) -> Result<Vec<Column>, All
 pub fn check_column(alloc: Global, field: &Field) -> Result<Column, AllocError>
     ensures { IfOk result (IsColumnOf field.now) }
 {
-    match GeoArrowType::from_extension_field(alloc, field) {
-        Ok(Some(found)) => Ok(Column::Geometry(found)),
-        Ok(None) => infer_column(alloc, field),
-        Err(error) => Ok(Column::Faulty(ColumnFault::of_error(&error)?)),
+    column_of(field, GeoArrowType::from_arrow_field(alloc, field))
+}
+
+/// The same as `check_column`, in a scratch that the caller keeps: many columns that are checked with one scratch cost less
+/// than with a scratch each. Nothing of a column stays in it that another column could see.
+pub fn check_column_with_scratch(
+    alloc: Global,
+    field: &Field,
+    scratch: &mut Scratch,
+) -> Result<Column, AllocError>
+    ensures { IfOk result (IsColumnOf field.now) }
+{
+    let read = GeoArrowType::from_arrow_field_with_scratch(alloc, field, scratch);
+    column_of(field, read)
+}
+
+/// What a column holds that is read as a type, taken for one, or refused.
+fn column_of(field: &Field, read: GeoArrowResult<GeoArrowType>) -> Result<Column, AllocError>
+    requires { IsInference field.now read }
+    ensures { IfOk result (IsColumnOf field.now) }
+{
+    match read {
+        Ok(found) => Ok(column_found(field, found)),
+        Err(error) => column_refused(field, &error),
     }
 }
 
-/// What a column without a GeoArrow name holds.
-#[tactic(auto, using(crate::proofs::Reports::taken_for, crate::proofs::Reports::other))]
-fn infer_column(alloc: Global, field: &Field) -> Result<Column, AllocError>
-    requires { ¬ HasGeoArrowName field.now }
+/// What a column holds that is read as a type or taken for one.
+#[tactic(auto, using(crate::proofs::Reports::read_as, crate::proofs::Reports::taken_for))]
+fn column_found(field: &Field, found: GeoArrowType) -> Column
+    requires { ReadsOrInfers field.now found }
+    ensures { IsColumnOf field.now result }
+{
+    if has_geoarrow_name(field) {
+        Column::Geometry(found)
+    } else {
+        Column::Inferred(found)
+    }
+}
+
+/// What a column holds that is refused by an error.
+fn column_refused(field: &Field, error: &GeoArrowError) -> Result<Column, AllocError>
+    requires { IsInferenceRefusal field.now error.now }
     ensures { IfOk result (IsColumnOf field.now) }
 {
-    match GeoArrowType::from_arrow_field(alloc, field) {
-        Ok(found) => Ok(Column::Inferred(found)),
-        Err(error) => match ColumnFault::of_error(&error)? {
-            ColumnFault::InvalidGeoArrow => Ok(Column::Other),
-            ColumnFault::Arrow => Ok(Column::Faulty(ColumnFault::Arrow)),
-        },
+    match ColumnFault::of_error(error)? {
+        ColumnFault::InvalidGeoArrow if !has_geoarrow_name(field) => Ok(Column::Other),
+        fault => Ok(Column::Faulty(fault)),
+    }
+}
+
+/// Whether one of GeoArrow's names stands on a field.
+fn has_geoarrow_name(field: &Field) -> bool
+    ensures { MatchBool result (HasGeoArrowName field.now) (¬ HasGeoArrowName field.now) }
+{
+    match field.extension_type_name() {
+        None => false,
+        Some(text) => matches!(ExtensionName::from_text(text), Some(_name)),
     }
 }
 
