@@ -7,7 +7,7 @@ use crate::Command;
 use crate::words::{column_text, error_text, inferred_text, type_text};
 use arrow_values::{Field, GeoArrowError};
 use field_lines::{field_line, parse_line_with_scratch};
-use geoarrow_columns::{ColumnFault, check_column};
+use geoarrow_columns::{ColumnFault, check_column_with_scratch};
 use geoarrow_schema::GeoArrowType;
 use json::Scratch;
 use std::alloc::{AllocError, Global};
@@ -32,28 +32,33 @@ pub(crate) fn answer_line_with_scratch(
     ensures { IfOk result (λ answer. Answers command line.now (string_bytes answer)) }
 {
     match parse_line_with_scratch(alloc, line, scratch)? {
-        Some(field) => answer_field(alloc, command, &field),
+        Some(field) => answer_field(alloc, command, &field, scratch),
         None => String::from_str(alloc, "error field"),
     }
 }
 
 /// The answer to a field.
-fn answer_field(alloc: Global, command: Command, field: &Field) -> Result<String, AllocError>
+fn answer_field(
+    alloc: Global,
+    command: Command,
+    field: &Field,
+    scratch: &mut Scratch,
+) -> Result<String, AllocError>
     ensures { IfOk result (λ answer. AnswersField command field.now (string_bytes answer)) }
 {
     match command {
-        Command::Read => answer_read(alloc, field),
-        Command::Infer => answer_infer(alloc, field),
-        Command::Canon => answer_canon(alloc, field),
-        Command::Columns => answer_columns(alloc, field),
+        Command::Read => answer_read(alloc, field, scratch),
+        Command::Infer => answer_infer(alloc, field, scratch),
+        Command::Canon => answer_canon(alloc, field, scratch),
+        Command::Columns => answer_columns(alloc, field, scratch),
     }
 }
 
 /// The type that the field is read as.
-fn answer_read(alloc: Global, field: &Field) -> Result<String, AllocError>
+fn answer_read(alloc: Global, field: &Field, scratch: &mut Scratch) -> Result<String, AllocError>
     ensures { IfOk result (λ answer. AnswersField Command.Read field.now (string_bytes answer)) }
 {
-    match GeoArrowType::from_extension_field(alloc, field) {
+    match GeoArrowType::from_extension_field_with_scratch(alloc, field, scratch) {
         Ok(Some(found)) => type_text(alloc, &found),
         Ok(None) => String::from_str(alloc, "none"),
         Err(error) => answer_refused(alloc, field, &error),
@@ -61,18 +66,18 @@ fn answer_read(alloc: Global, field: &Field) -> Result<String, AllocError>
 }
 
 /// The type that the field is read as or taken for.
-fn answer_infer(alloc: Global, field: &Field) -> Result<String, AllocError>
+fn answer_infer(alloc: Global, field: &Field, scratch: &mut Scratch) -> Result<String, AllocError>
     ensures { IfOk result (λ answer. AnswersField Command.Infer field.now (string_bytes answer)) }
 {
-    let column = check_column(alloc, field)?;
+    let column = check_column_with_scratch(alloc, field, scratch)?;
     inferred_text(alloc, &column)
 }
 
 /// The line of the field in normal form.
-fn answer_canon(alloc: Global, field: &Field) -> Result<String, AllocError>
+fn answer_canon(alloc: Global, field: &Field, scratch: &mut Scratch) -> Result<String, AllocError>
     ensures { IfOk result (λ answer. AnswersField Command.Canon field.now (string_bytes answer)) }
 {
-    match GeoArrowType::canonical_field(alloc, field) {
+    match GeoArrowType::canonical_field_with_scratch(alloc, field, scratch) {
         Ok(Some(canonical)) => field_line(alloc, &canonical),
         Ok(None) => String::from_str(alloc, "none"),
         Err(error) => answer_refused(alloc, field, &error),
@@ -80,10 +85,10 @@ fn answer_canon(alloc: Global, field: &Field) -> Result<String, AllocError>
 }
 
 /// What the column holds.
-fn answer_columns(alloc: Global, field: &Field) -> Result<String, AllocError>
+fn answer_columns(alloc: Global, field: &Field, scratch: &mut Scratch) -> Result<String, AllocError>
     ensures { IfOk result (λ answer. AnswersField Command.Columns field.now (string_bytes answer)) }
 {
-    let column = check_column(alloc, field)?;
+    let column = check_column_with_scratch(alloc, field, scratch)?;
     column_text(alloc, &column)
 }
 
