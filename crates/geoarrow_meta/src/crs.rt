@@ -20,6 +20,9 @@ pub use value::CrsValue;
 /// and `crs_type`): a JSON value, if there is one, and what it is written as, if that is known. A value that is there is
 /// not null, and its numbers are whole, at any depth: `serde_json` holds each as an integer of 64 bits. The default has
 /// neither value nor type. Two are equal, and then hash equally, where the JSON value and the type are.
+///
+/// Whatever order of axes a CRS names, coordinates are longitude and latitude, or easting and northing, in this order, as in
+/// GeoPackage.
 #[derive(Debug, Default, PartialEq, Eq, Hash, Drop)]
 pub struct Crs {
     value: Option<CrsValue>,

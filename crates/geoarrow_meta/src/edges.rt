@@ -5,6 +5,11 @@ ghost use Rattle.geoarrow_meta.specs.Names.{edges_text};
 
 /// How an edge runs between two vertices, where it is not a straight line of the plane (GeoArrow, "Extension types",
 /// "Extension metadata", key `edges`). A metadata without edges means planar edges.
+///
+/// Edges matter for distance, length, area, intersection and bounds, and not for a change of format, as from `geoarrow.wkb`
+/// to `geoarrow.linestring`. A reader that knows planar edges alone may take a column of other edges where its geometries
+/// have none (points and multipoints). Elsewhere an error comes in, which grows with the distance between vertices, and an
+/// edge that crosses the antimeridian becomes another one: so it asks its user first, or warns.
 #[derive(Debug, Clone, Copy, PartialEq, Eq, Hash)]
 pub enum Edges {
     /// A path by the formula of Thomas, 1965, on the ellipsoid of the CRS.

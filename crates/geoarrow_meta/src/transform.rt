@@ -13,7 +13,8 @@ use std::alloc::Global;
 use std::fmt::Debug;
 
 /// Converts a CRS to the format that a reader asks for. An implementation says, by the two ghost members, what its
-/// conversions may answer for a CRS.
+/// conversions may answer for a CRS. Callers use `extract_projjson` and `extract_wkt`, which answer a CRS that has the format
+/// already as it is, and not the two conversions, which need not.
 pub trait CrsTransform: Debug {
     // What the conversion to PROJJSON may answer for a CRS.
     ghost projjson_gives: { Self → Crs → Result (Option Value) GeoArrowError → Type 0 };
@@ -60,7 +61,8 @@ pub trait CrsTransform: Debug {
     }
 }
 
-/// The transform that converts nothing: both conversions answer none, without memory.
+/// The transform that converts nothing: both conversions answer none, without memory. So whoever writes a format that takes
+/// one form of CRS alone, and uses it, drops each CRS of another form.
 #[derive(Debug, Clone, Default, Drop)]
 pub struct DefaultCrsTransform {}
 

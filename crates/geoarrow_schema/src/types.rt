@@ -20,6 +20,10 @@ use std::sync::Arc;
 
 /// The type of a column of geometries (GeoArrow, "Extension types"). Two are equal, and then hash equally, where their
 /// kinds and their metadata are.
+///
+/// The first seven are native types: their coordinates are columns of numbers, nested by lists. A box and a geometry of any
+/// kind are put together of such columns. The last six are serialized types: each value is one geometry in well-known binary or
+/// text, which a reader parses.
 #[derive(Debug, PartialEq, Eq, Hash, Drop)]
 pub enum GeoArrowType {
     /// Points (GeoArrow, "Point").

@@ -18,8 +18,9 @@ use geoarrow_native::laws::written_field_reads_back;
 use std::alloc::{AllocError, Global};
 
 impl GeoArrowType {
-    /// The data type of a column of this type (GeoArrow, "Native encoding", "Serialized encodings"). Errs for want of
-    /// memory alone; well-known binary and text take none.
+    /// The data type of a column of this type (GeoArrow, "Native encoding", "Serialized encodings"). It has neither the
+    /// extension name nor the metadata, which stand on the field alone: `to_field` gives all three. Errs for want of memory
+    /// alone; well-known binary and text take none.
     pub fn to_data_type(&self, alloc: Global) -> Result<DataType, AllocError>
         ensures layout { IfOk result (λ t. tree t ≡ layout (kind_of self.now)) }
         ensures no_memory { ¬ IsStructured (kind_of self.now) → IsOk result }

@@ -10,9 +10,9 @@ pub enum CrsType {
     Projjson,
     /// A text of WKT2:2019 (ISO 19162).
     Wkt2_2019,
-    /// A text of the form `AUTHORITY:CODE`.
+    /// A text of the form `AUTHORITY:CODE`. For writers that have neither PROJJSON nor WKT at hand.
     AuthorityCode,
-    /// An opaque text that means something to the producer alone.
+    /// An opaque text that means something to the producer alone. For writers that have nothing else, as databases.
     Srid,
 }
 
