@@ -8,11 +8,11 @@ use Rattle.arrow_values.specs.declared.error.GeoArrowError.TheVariants.{Arrow, I
 use Rattle.arrow_values.specs.declared.error.AppendFault.{AppendFault}
 use Rattle.arrow_values.specs.declared.error.AppendFault.TheVariants.{RepeatedId, OutOfMemory as NoRoom}
 
--- want of memory
+-- out-of-memory
 abbrev pub IsMemory : ArrowError → Type 0
 IsMemory e = e ≡ OutOfMemory
 
--- want of memory, one level up
+-- out-of-memory, one level up
 abbrev pub IsGeoMemory : GeoArrowError → Type 0
 IsGeoMemory e = e ≡ Arrow OutOfMemory
 
@@ -35,7 +35,7 @@ abbrev pub IsInvalidOf : Text → GeoArrowError → Type 0
 IsInvalidOf text (InvalidGeoArrow m) = string_bytes m ≡ text
 IsInvalidOf text _ = ⊥
 
--- a refusal of an argument, want of memory aside
+-- a refusal of an argument, out-of-memory aside
 abbrev pub IsInvalidArgument : ArrowError → Type 0
 IsInvalidArgument e = IsMemory e ⊎ (is_invalid_argument e ≡ true)
 

@@ -8,7 +8,7 @@ use std::alloc::{AllocError, AllocFailed, Global};
 use std::io;
 use thiserror::Error;
 
-/// The errors of Arrow's schema crate that this library answers or hands on, and want of memory.
+/// The errors of Arrow's schema crate that this library answers or hands on, and out-of-memory.
 #[derive(Debug, Drop, Error)]
 #[cycle(errors)]
 pub enum ArrowError {
@@ -31,7 +31,7 @@ pub enum ArrowError {
 #[derive(Debug, Drop, Error)]
 #[cycle(errors)]
 pub enum GeoArrowError {
-    /// An error of Arrow; want of memory among them.
+    /// An error of Arrow; out-of-memory among them.
     #[error(transparent)]
     Arrow(ArrowError),
     /// A coordinate reference system cannot be taken.
@@ -128,7 +128,7 @@ impl From<io::Error> for GeoArrowError {
 
 impl GeoArrowError {
     /// This error as one of Arrow: what an `Arrow` holds comes out as it is, and takes no memory; every other error is
-    /// boxed as an `ExternalError`. Errs for want of memory alone.
+    /// boxed as an `ExternalError`. Errs only when out of memory.
     pub fn into_arrow_error(self, alloc: Global) -> Result<ArrowError, AllocError>
         ensures form { IfOk result (IsArrowFormOf self) }
         ensures no_memory { is_arrow self ≡ true → IsOk result }
@@ -141,7 +141,7 @@ impl GeoArrowError {
 }
 
 impl GeoArrowError {
-    /// An `InvalidGeoArrow` of that message; or want of memory where there is none for the message.
+    /// An `InvalidGeoArrow` of that message; or out-of-memory where there is none for the message.
     pub fn invalid_geoarrow(alloc: Global, message: &str) -> GeoArrowError
         ensures { IsGeoMemory result ⊎ IsInvalidOf message.now result }
     {
@@ -153,7 +153,7 @@ impl GeoArrowError {
 }
 
 impl ArrowError {
-    /// A `SchemaError` of that message; or want of memory where there is none for the message.
+    /// A `SchemaError` of that message; or out-of-memory where there is none for the message.
     pub fn schema_error(alloc: Global, message: &str) -> ArrowError
         ensures { IsMemory result ⊎ IsSchemaOf message.now result }
     {
@@ -164,7 +164,7 @@ impl ArrowError {
     }
 }
 
-/// An argument that cannot be taken, by this message; or want of memory where there is none for the message.
+/// An argument that cannot be taken, by this message; or out-of-memory where there is none for the message.
 pub(crate) fn invalid_argument(alloc: Global, message: &str) -> ArrowError
     ensures { IsInvalidArgument result }
 {

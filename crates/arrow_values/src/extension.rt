@@ -49,13 +49,13 @@ pub trait ExtensionType: Sized {
     // Two types are of one shape: they agree in coordinate type and dimension, as far as they have them.
     ghost Agrees: { Self → Self → Type 0 };
 
-    // How a text is refused, want of memory aside.
+    // How a text is refused, out-of-memory aside.
     ghost RefusesText: { Option Text → ArrowError → Type 0 };
 
-    // How a tree is refused where a type is made, want of memory aside.
+    // How a tree is refused where a type is made, out-of-memory aside.
     ghost RefusesTree: { Tree → ArrowError → Type 0 };
 
-    // How a tree is refused where a type is written, want of memory aside.
+    // How a tree is refused where a type is written, out-of-memory aside.
     ghost RefusesUse: { Self → Tree → ArrowError → Type 0 };
 
     /// `NAME`.
@@ -66,14 +66,14 @@ pub trait ExtensionType: Sized {
     fn metadata(&self) -> &Self::Metadata
         ensures { result.now ≡ metadata_of self.now };
 
-    /// The text that the metadata prints; none, without memory, where it prints none. Errs for want of memory alone,
+    /// The text that the metadata prints; none, without memory, where it prints none. Errs only when out of memory,
     /// and only where there is a text.
     fn serialize_metadata(&self, alloc: Global) -> Result<Option<String>, ArrowError>
         ensures { MatchResult result (λ text. option_map string_bytes text ≡ printed (metadata_of self.now))
             (λ e. IsMemory e × IsSome (printed (metadata_of self.now))) };
 
-    /// A metadata of the value that a text, or its absence, stands for. Errs where it stands for none, else for want of
-    /// memory alone.
+    /// A metadata of the value that a text, or its absence, stands for. Errs where it stands for none, else only when out
+    /// of memory.
     fn deserialize_metadata(
         alloc: Global,
         metadata: Option<&str>,
@@ -140,7 +140,7 @@ impl Field {
 
     /// Writes an extension type on the field: its name at the name key, and at the metadata key the text of its
     /// metadata, or nothing. Errs, as `supports_data_type` does, where the field's data type cannot carry the type,
-    /// else for want of memory alone; the field is then as it was.
+    /// else only when out of memory; the field is then as it was.
     pub fn try_with_extension_type<E: ExtensionType>(
         &mut self,
         alloc: Global,
@@ -162,7 +162,7 @@ impl Field {
     }
 
     /// The field with an extension type written on it, as `try_with_extension_type` does. The field's data type must
-    /// be able to carry the type, which `supports_data_type` tests. Errs for want of memory alone.
+    /// be able to carry the type, which `supports_data_type` tests. Errs only when out of memory.
     pub fn with_extension_type<E: ExtensionType>(
         self,
         alloc: Global,

@@ -19,7 +19,7 @@ const MAX_DEPTH: usize = 127;
 
 /// The field that a line stands for, and none where it stands for no field. A line is the bytes before
 /// a line feed: it is UTF-8 and holds one JSON value, of arrays and objects nested at most 127 deep.
-/// Errs for want of memory alone.
+/// Errs only when out of memory.
 pub fn parse_line(alloc: Global, line: &[u8]) -> Result<Option<Field>, AllocError>
     ensures field { IfOk result (λ o. o ≡ field_of_line line.now) }
     ensures form { IfOk result (λ o. IfSome o (λ f. HasLineForm f.tree)) }
@@ -63,7 +63,7 @@ fn parse_text(alloc: Global, text: &str, scratch: &mut Scratch) -> Result<Option
 
 /// The line of a field, without a line feed: compact JSON with its keys in the order of their bytes,
 /// no ignored key and no empty metadata. Where a line can say the field, its value is the one lean
-/// value that stands for the field ([`laws`](crate::laws)). Errs for want of memory alone.
+/// value that stands for the field ([`laws`](crate::laws)). Errs only when out of memory.
 pub fn field_line(alloc: Global, field: &Field) -> Result<String, AllocError>
     ensures text { IfOk result (λ s. string_bytes s ≡ line_of_field field.now) }
     ensures reads_back { IfOk result (λ s. HasLineForm field.now.tree → depth (value_of_field field.now) ≤ max_depth → field_of_line (string_bytes s) ≡ Some field.now) }

@@ -31,7 +31,7 @@ pub(crate) fn make_union(
     }
 }
 
-/// Whether an error is want of memory.
+/// Whether an error is out-of-memory.
 fn is_memory(error: &ArrowError) -> bool
     ensures { IsTrue result ↔ IsMemory error.now }
 {

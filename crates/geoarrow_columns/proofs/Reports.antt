@@ -45,7 +45,7 @@ unfolding InfersAs
 read_as f g named (inl reads) = reads
 read_as f g named (inr infers) = absurd (infers.0 named)
 
--- how a field without a GeoArrow name is refused, want of memory aside
+-- how a field without a GeoArrow name is refused, out-of-memory aside
 uninferred : (f : FieldTree) (e : GeoArrowError) → ¬ IsGeoMemory e → ¬ HasGeoArrowName f → IsInferenceRefusal f e → InfersNone f × UninferredAs f e
 uninferred f e rich unnamed (inl memory) = absurd (rich memory)
 uninferred f e rich unnamed (inr (read, none, inl refused)) = absurd (unnamed refused.0)

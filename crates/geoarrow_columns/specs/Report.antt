@@ -51,7 +51,7 @@ abbrev pub IsFaultOf : GeoArrowError → ColumnFault → Type 0
 IsFaultOf (Invalid s) fault = fault ≡ InvalidGeoArrow
 IsFaultOf _ fault = fault ≡ Arrow
 
--- a refusal, but for want of memory, is for the fault of its error
+-- a refusal, but when out of memory, is for the fault of its error
 pub refused_for : (f : FieldTree) (e : GeoArrowError) (fault : ColumnFault) → ¬ IsGeoMemory e → IsFaultOf e fault → IsRefusedBy f e → IsRefusedFor f fault
 refused_for f e fault rich is (named, inl memory) = absurd (rich memory)
 refused_for f (Invalid s) fault rich is (named, inr (none, refused)) = subst (IsRefusedFor f) (sym is) ((named, none), refused)

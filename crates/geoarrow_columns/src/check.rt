@@ -35,7 +35,7 @@ pub enum ColumnFault {
 }
 
 /// What each column of a schema holds: one entry for each field, in order, and each of its own field alone, so that a
-/// faulty column never hides the next. Errs for want of memory alone.
+/// faulty column never hides the next. Errs only when out of memory.
 pub fn check_columns(alloc: Global, fields: &[Field]) -> Result<Vec<Column>, AllocError>
     ensures { IfOk result (λ columns. IsReport fields.now columns.items) }
 {
@@ -46,7 +46,7 @@ pub fn check_columns(alloc: Global, fields: &[Field]) -> Result<Vec<Column>, All
     Ok(columns)
 }
 
-/// What one column holds, as `check_columns` says it. Errs for want of memory alone.
+/// What one column holds, as `check_columns` says it. Errs only when out of memory.
 pub fn check_column(alloc: Global, field: &Field) -> Result<Column, AllocError>
     ensures { IfOk result (IsColumnOf field.now) }
 {
@@ -113,7 +113,7 @@ fn has_geoarrow_name(field: &Field) -> bool
 
 impl ColumnFault {
     /// The fault of a field that is refused by an error: `InvalidGeoArrow` for that variant, and `Arrow` for any other.
-    /// Errs where the error is want of memory.
+    /// Errs where the error is out-of-memory.
     pub fn of_error(error: &GeoArrowError) -> Result<ColumnFault, AllocError>
         ensures memory { IfOk result (λ _. ¬ IsGeoMemory error.now) }
         ensures variant { IfOk result (λ fault. IsFaultOf error.now fault) }

@@ -54,7 +54,7 @@ Followed Output text input output = (before : Bytes) × Output input before × (
 abbrev pub EndsForInput : Command → Bytes → Bytes → Type 0
 EndsForInput command = Followed (StopsForInput command) (codes "error input\n")
 
--- what is written where memory is wanting
+-- what is written when out of memory
 abbrev pub EndsForMemory : Command → Bytes → Bytes → Type 0
 EndsForMemory command = Followed (StopsForMemory command) (codes "error memory\n")
 

@@ -13,7 +13,7 @@ use json::Scratch;
 use std::alloc::{AllocError, Global};
 
 /// The answer to one line under a command, without a line feed: what the command says of the field that the line stands
-/// for, or `error field` where it stands for none. Errs where memory is wanting alone.
+/// for, or `error field` where it stands for none. Errs only when out of memory.
 pub fn answer_line(alloc: Global, command: Command, line: &[u8]) -> Result<String, AllocError>
     ensures { IfOk result (λ answer. Answers command line.now (string_bytes answer)) }
 {
@@ -92,7 +92,7 @@ fn answer_columns(alloc: Global, field: &Field, scratch: &mut Scratch) -> Result
     column_text(alloc, &column)
 }
 
-/// The answer to a field that is refused by that error, or want of memory.
+/// The answer to a field that is refused by that error, or out-of-memory.
 #[tactic(auto, using(geoarrow_columns::specs::Report::refused_for))]
 fn answer_refused(alloc: Global, field: &Field, error: &GeoArrowError) -> Result<String, AllocError>
     requires { IsRefusedBy field.now error.now }

@@ -34,7 +34,7 @@ pub enum RunEnd {
     Done,
     /// The input is past a limit, or the reader failed. The last line of the output is `error input`.
     InputFault,
-    /// Memory was wanting. The last line of the output is `error memory`.
+    /// Out of memory. The last line of the output is `error memory`.
     Memory,
     /// The writer failed, or took nothing. Nothing more was written.
     OutputFault,

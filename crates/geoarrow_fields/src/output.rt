@@ -14,7 +14,7 @@ use std::io::Write;
 pub(crate) enum Fault {
     /// The input is past a limit, or the reader failed.
     Input,
-    /// Memory was wanting.
+    /// Out of memory.
     Memory,
     /// The writer failed, or took nothing.
     Output,

@@ -93,7 +93,7 @@ fn answer_lines<R: Read, W: Write>(
 /// it ended: `Done` at the reader's end.
 ///
 /// `InputFault` comes at a fault of the reader of any kind, at a byte after the line feed of line 1,000,000, and at more
-/// than 1,048,576 bytes before a line feed or the end; `Memory` where memory is wanting. The line that is not finished
+/// than 1,048,576 bytes before a line feed or the end; `Memory` when out of memory. The line that is not finished
 /// then has no answer: in its place stands `error input` or `error memory`, and the answers before it stay.
 /// `OutputFault` comes at a fault of the writer of any kind, or a write that takes nothing; nothing more is written.
 pub fn run<R: Read, W: Write>(

@@ -15,7 +15,7 @@ use arrow_values::{DataType, Field, Fields, FixedName, UnionFields, UnionMode};
 use std::alloc::{AllocError, Global};
 
 /// The data type of a coordinate, which is also that of a point (GeoArrow, "Coordinate", "Point"): a fixed size list of
-/// `Float64`, or a struct of `Float64` fields. Errs for want of memory alone.
+/// `Float64`, or a struct of `Float64` fields. Errs only when out of memory.
 pub fn coord_data_type(
     alloc: Global,
     coord_type: CoordType,
@@ -33,7 +33,7 @@ pub fn coord_data_type(
 }
 
 /// The data type of a native kind (GeoArrow, "Native encoding"): the lists of the kind over a coordinate, and for a
-/// collection a list over the union of `mixed_data_type`. Errs for want of memory alone.
+/// collection a list over the union of `mixed_data_type`. Errs only when out of memory.
 pub fn list_data_type(
     alloc: Global,
     kind: NativeKind,
@@ -52,7 +52,7 @@ pub fn list_data_type(
 }
 
 /// The data type of the union in a collection (GeoArrow, "GeometryCollection"): a member for each of the other native
-/// kinds. Errs for want of memory alone.
+/// kinds. Errs only when out of memory.
 #[tactic(auto, using(crate::proofs::Written::mixed_ids))]
 pub fn mixed_data_type(
     alloc: Global,
@@ -67,7 +67,7 @@ pub fn mixed_data_type(
 }
 
 /// The data type of a column of geometries of any kind (GeoArrow, "Geometry"): a union with a member for each native
-/// kind in each dimension. Errs for want of memory alone.
+/// kind in each dimension. Errs only when out of memory.
 #[tactic(auto, using(crate::proofs::Written::geometry_ids))]
 pub fn geometry_data_type(alloc: Global, coord_type: CoordType) -> Result<DataType, AllocError>
     ensures { IfOk result (λ t. tree t ≡ geometry_layout coord_type) }
@@ -80,8 +80,8 @@ pub fn geometry_data_type(alloc: Global, coord_type: CoordType) -> Result<DataTy
     Ok(DataType::Union(UnionFields::from_members(members), UnionMode::Dense))
 }
 
-/// The data type of a box (GeoArrow, "Box"): a struct of the least and the greatest value of each dimension. Errs for
-/// want of memory alone.
+/// The data type of a box (GeoArrow, "Box"): a struct of the least and the greatest value of each dimension. Errs only
+/// when out of memory.
 pub fn box_data_type(alloc: Global, dimension: Dimension) -> Result<DataType, AllocError>
     ensures { IfOk result (λ t. tree t ≡ box_layout dimension) }
 {
@@ -110,7 +110,7 @@ pub fn wkt_data_type(width: Width) -> DataType
     }
 }
 
-/// The data type of a column of a kind, as the builder for its sort gives it. Errs for want of memory alone, and never
+/// The data type of a column of a kind, as the builder for its sort gives it. Errs only when out of memory, and never
 /// for well-known binary and text.
 pub fn kind_data_type(alloc: Global, kind: Kind) -> Result<DataType, AllocError>
     ensures layout { IfOk result (λ t. tree t ≡ layout kind) }

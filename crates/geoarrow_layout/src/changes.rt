@@ -23,8 +23,8 @@ pub fn keep_members(members: &mut UnionFields, ids: &[i8])
 /// Puts the members of `other` last. The union then is of geometries of any kind where it has a member and each of the
 /// two that had members was of geometries, of that one coordinate type (GeoArrow, "Geometry"); and the same for unions
 /// in a collection (GeoArrow, "GeometryCollection"). It is alike to every union of just these members, in whatever
-/// order. Errs as `RepeatedId` with the first id of `other` that is here already, where there is one, and else for want
-/// of memory alone; `other` is then handed back, and both unions are as they were.
+/// order. Errs as `RepeatedId` with the first id of `other` that is here already, where there is one, and else only when
+/// out of memory; `other` is then handed back, and both unions are as they were.
 pub fn append_members(
     members: &mut UnionFields,
     other: UnionFields,

@@ -46,7 +46,7 @@ impl LayoutFault {
         }
     }
 
-    /// The same, or want of memory.
+    /// The same, or out-of-memory.
     fn try_arrow_error(self, alloc: Global) -> Result<ArrowError, AllocError>
         ensures { IfOk result (IsArrowFormOf self) }
     {

@@ -54,7 +54,7 @@ TextStandsFor (Some s) m = (d : Data) × (read s ≡ Some d) × StandsFor d m
 abbrev pub HasFraction : Data → Type 0
 HasFraction d = IsSome (as_object d) × (some_has_float (at_key (codes "crs") d) ≡ true)
 
--- the value is refused so: as `Crs` for a fraction alone, as `External` where it stands for no metadata else; or for want of memory
+-- the value is refused so: as `Crs` for a fraction alone, as `External` where it stands for no metadata else; or when out of memory
 abbrev pub RefusedAs : Data → GeoArrowError → Type 0
 RefusedAs d (Arrow a) = IsMemory a
 RefusedAs d (Crs s) = HasFraction d
@@ -67,7 +67,7 @@ TextRefusedBy s (Crs t) = (d : Data) × (read s ≡ Some d) × HasFraction d
 TextRefusedBy s (External t) = ((d : Data) → read s ≡ Some d → ¬ HasFraction d) × ((m : Metadata) → ¬ TextStandsFor (Some s) m)
 TextRefusedBy s _ = ⊥
 
--- the text is refused so: by such an error in a box, `External` also where it has no value; or for want of memory. No absence is
+-- the text is refused so: by such an error in a box, `External` also where it has no value; or when out of memory. No absence is
 abbrev pub TextRefusedAs : Option Text → ArrowError → Type 0
 TextRefusedAs None e = ⊥
 TextRefusedAs (Some s) OutOfMemory = ⊤
@@ -76,13 +76,13 @@ TextRefusedAs (Some s) _ = ⊥
 
 -- ---- errors by variant
 
--- a `Crs`, or want of memory
+-- a `Crs`, or out-of-memory
 abbrev pub IsCrsOrMemory : GeoArrowError → Type 0
 IsCrsOrMemory (Arrow a) = IsMemory a
 IsCrsOrMemory (Crs s) = ⊤
 IsCrsOrMemory _ = ⊥
 
--- an `External`, or want of memory
+-- an `External`, or out-of-memory
 abbrev pub IsExternalOrMemory : GeoArrowError → Type 0
 IsExternalOrMemory (Arrow a) = IsMemory a
 IsExternalOrMemory (External s) = ⊤
@@ -93,7 +93,7 @@ abbrev pub IsExternal : GeoArrowError → Type 0
 IsExternal (External s) = ⊤
 IsExternal _ = ⊥
 
--- want of memory, or, unless it was that, an `External` in a box
+-- out-of-memory, or, unless it was that, an `External` in a box
 abbrev pub MeansUnread : Type 0 → ArrowError → Type 0
 MeansUnread P OutOfMemory = ⊤
 MeansUnread P (ExternalError' p g) = ¬ P × IsExternal g

@@ -158,7 +158,7 @@ impl Crs {
         }
     }
 
-    /// An equal CRS. Errs for want of memory alone.
+    /// An equal CRS. Errs only when out of memory.
     pub fn try_clone(&self, alloc: Global) -> Result<Crs, AllocError>
         ensures { IfOk result (λ c. c ≡ self.now) }
     {

@@ -7,7 +7,7 @@ use arrow_values::{ArrowError, GeoArrowError};
 use std::alloc::Global;
 use value_tokens::Refusal;
 
-// A `Crs` error of that text; want of memory where there is none for the text.
+// A `Crs` error of that text; out-of-memory where there is none for the text.
 pub(crate) fn crs_fault(alloc: Global, text: &str) -> GeoArrowError
     ensures { IsCrsOrMemory result }
 {
@@ -17,7 +17,7 @@ pub(crate) fn crs_fault(alloc: Global, text: &str) -> GeoArrowError
     }
 }
 
-// An `External` error of that text; want of memory where there is none for the text.
+// An `External` error of that text; out-of-memory where there is none for the text.
 pub(crate) fn external_fault(alloc: Global, text: &str) -> GeoArrowError
     ensures { IsExternalOrMemory result }
 {
@@ -27,7 +27,7 @@ pub(crate) fn external_fault(alloc: Global, text: &str) -> GeoArrowError
     }
 }
 
-// The error as one of Arrow; want of memory where there is none for the box.
+// The error as one of Arrow; out-of-memory where there is none for the box.
 pub(crate) fn boxed(alloc: Global, error: GeoArrowError) -> ArrowError
     ensures { IsArrowMemory result ⊎ IsArrowFormOf error result }
 {

@@ -65,7 +65,7 @@ impl Metadata {
         self.edges
     }
 
-    /// An equal metadata. Errs for want of memory alone.
+    /// An equal metadata. Errs only when out of memory.
     pub fn try_clone(&self, alloc: Global) -> Result<Metadata, AllocError>
         ensures { IfOk result (λ m. m ≡ self.now) }
     {
@@ -77,7 +77,7 @@ impl Metadata {
 
     /// The JSON value that the metadata is written as (GeoArrow, "Extension metadata"): an object with `crs`, null where
     /// there is no CRS value, with `crs_type` where there is one, and with `edges` where there are some. Where neither CRS
-    /// value nor edges stand there is none, and that takes no memory. Errs for want of memory alone.
+    /// value nor edges stand there is none, and that takes no memory. Errs only when out of memory.
     pub fn to_value(&self, alloc: Global) -> Result<Option<Value>, AllocError>
         ensures value { IfOk result (λ o. option_map view o ≡ meta_value self.now) }
         ensures whole { IfOk result (λ o. IfSome o (λ v. has_float (view v) ≡ false)) }
@@ -96,7 +96,7 @@ impl Metadata {
     /// any depth (an integer of 64 bits: not 1.5, but not 1.0, 1e2 or -0 either), and `crs_type` and `edges` must be texts of
     /// the format. Other keys are ignored. Errs, in this order, as `External` where there is no object, as `Crs` where a
     /// number in `crs` is not whole, as `External` where `crs_type` is none of the format's, and as `External` where `edges`
-    /// are none of the format's; else for want of memory alone.
+    /// are none of the format's; else only when out of memory.
     pub fn from_value(alloc: Global, value: &Value) -> GeoArrowResult<Metadata>
         ensures ok { IfOk result (StandsFor (view value.now)) }
         ensures only { IfOk result (λ m. (n : Metadata) → StandsFor (view value.now) n → n ≡ m) }
@@ -143,7 +143,7 @@ impl Metadata {
     }
 
     /// The text that stands for the metadata at a field's `ARROW:extension:metadata`: the compact JSON text of `to_value`.
-    /// Where neither CRS value nor edges stand there is none, and that takes no memory. Errs for want of memory alone. A
+    /// Where neither CRS value nor edges stand there is none, and that takes no memory. Errs only when out of memory. A
     /// text that is answered reads back to the normal form of the metadata where `serde_json` reads it as the value that
     /// was printed, which it does where the CRS value is nested at most 100 levels.
     pub fn serialize(&self, alloc: Global) -> Result<Option<String>, ArrowError>
@@ -178,7 +178,7 @@ impl Metadata {
 
     /// The metadata that a text at a field's `ARROW:extension:metadata`, or its absence, stands for. No text gives the
     /// default, without memory. Errs as `ExternalError` of `External` where `serde_json` does not read the text, and of the
-    /// error of `from_value` where that errs for the text's value; else for want of memory alone.
+    /// error of `from_value` where that errs for the text's value; else only when out of memory.
     pub fn deserialize(alloc: Global, metadata: Option<&str>) -> Result<Metadata, ArrowError>
         ensures exact { MatchResult result (TextStandsFor (text_of metadata.entry))
             (λ e. IsMemory e

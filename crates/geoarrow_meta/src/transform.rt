@@ -30,7 +30,7 @@ pub trait CrsTransform: Debug {
     fn _convert_to_wkt(&self, alloc: Global, crs: &Crs) -> GeoArrowResult<Option<String>>
         ensures { wkt_gives self.now crs.now result };
 
-    /// The CRS as PROJJSON: where its type is `Projjson`, its own value, which errs for want of memory alone, or none, without
+    /// The CRS as PROJJSON: where its type is `Projjson`, its own value, which errs only when out of memory, or none, without
     /// memory, where there is none; else what the conversion answers.
     fn extract_projjson(&self, alloc: Global, crs: &Crs) -> GeoArrowResult<Option<Value>>
         ensures { MatchOption (own_projjson crs.now) (projjson_gives self.now crs.now result)
@@ -46,8 +46,8 @@ pub trait CrsTransform: Debug {
         }
     }
 
-    /// The CRS as a text of WKT2:2019: where its type is `Wkt2_2019` and its value a text, that text, which errs for want
-    /// of memory alone; else what the conversion answers.
+    /// The CRS as a text of WKT2:2019: where its type is `Wkt2_2019` and its value a text, that text, which errs only when
+    /// out of memory; else what the conversion answers.
     fn extract_wkt(&self, alloc: Global, crs: &Crs) -> GeoArrowResult<Option<String>>
         ensures { MatchOption (own_wkt crs.now) (wkt_gives self.now crs.now result)
             (AnswersText result) }

@@ -119,7 +119,7 @@ impl<S: NativeShape> NativeType<S> {
         })
     }
 
-    /// The data type of a column of this type (GeoArrow, "Native encoding"). Errs for want of memory alone.
+    /// The data type of a column of this type (GeoArrow, "Native encoding"). Errs only when out of memory.
     pub fn data_type(&self, alloc: Global) -> Result<DataType, AllocError>
         ensures { IfOk result (λ t. tree t ≡ native_layout S.KIND (native_coord_type self.now) (native_dimension self.now)) }
     {
@@ -128,8 +128,8 @@ impl<S: NativeShape> NativeType<S> {
 
     /// The field of a column of this type: that name and nullability, the data type of `data_type`, and as its metadata
     /// the extension name and the metadata's text, where there is one (GeoArrow, "Extension types"). It reads back to
-    /// the type with its metadata in normal form, where `serde_json` reads what it printed. Errs for want of memory
-    /// alone.
+    /// the type with its metadata in normal form, where `serde_json` reads what it printed. Errs only when out of
+    /// memory.
     pub fn to_field(&self, alloc: Global, name: &str, nullable: bool) -> Result<Field, ArrowError>
         ensures written { IfOk result (λ f. f ≡ written_field name.now nullable
             (OfNative S.KIND (native_coord_type self.now) (native_dimension self.now)) (native_meta self.now)) }

@@ -54,7 +54,7 @@ UninferredAs f (InvalidGeoArrow s) = (m : Metadata) × TextStandsFor (extension_
 UninferredAs f (Arrow a) = ((m : Metadata) → ¬ TextStandsFor (extension_metadata f) m) × TextRefusedAs (extension_metadata f) a
 UninferredAs f _ = ⊥
 
--- want of memory; or the field is read as nothing and taken for nothing, and that is how it is refused
+-- out-of-memory; or the field is read as nothing and taken for nothing, and that is how it is refused
 abbrev pub IsInferenceRefusal : FieldTree → GeoArrowError → Type 0
 IsInferenceRefusal f e = IsGeoMemory e ⊎ (ReadsAsNone f × InfersNone f × ((HasGeoArrowName f × RefusedAs f e) ⊎ (¬ HasGeoArrowName f × UninferredAs f e)))
 

@@ -55,7 +55,7 @@ RefusedAs f (InvalidGeoArrow s) = IsUnstored f
 RefusedAs f (Arrow a) = ¬ IsUnstored f × IsColumnRefusal f a
 RefusedAs f _ = ⊥
 
--- want of memory; or the field is read as nothing, and that is how it is refused
+-- out-of-memory; or the field is read as nothing, and that is how it is refused
 abbrev pub IsRefusal : FieldTree → GeoArrowError → Type 0
 IsRefusal f e = IsGeoMemory e ⊎ (ReadsAsNone f × RefusedAs f e)
 
@@ -74,7 +74,7 @@ abbrev pub IsInvalid : GeoArrowError → Type 0
 IsInvalid (InvalidGeoArrow s) = ⊤
 IsInvalid _ = ⊥
 
--- want of memory; or the field is read as nothing, and that is how it is refused: where no GeoArrow name stands on it, as an `InvalidGeoArrow`
+-- out-of-memory; or the field is read as nothing, and that is how it is refused: where no GeoArrow name stands on it, as an `InvalidGeoArrow`
 abbrev pub IsTypeRefusal : FieldTree → GeoArrowError → Type 0
 IsTypeRefusal f e = IsGeoMemory e ⊎ (ReadsAsNone f × ((HasGeoArrowName f × RefusedAs f e) ⊎ (¬ HasGeoArrowName f × IsInvalid e)))
 

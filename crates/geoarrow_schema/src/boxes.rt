@@ -82,14 +82,14 @@ impl BoxType {
     }
 
     /// The data type of a column of this type: a struct of the least and the greatest value of each dimension
-    /// (GeoArrow, "Box"). Errs for want of memory alone.
+    /// (GeoArrow, "Box"). Errs only when out of memory.
     pub fn data_type(&self, alloc: Global) -> Result<DataType, AllocError>
         ensures { IfOk result (λ t. tree t ≡ box_layout (box_dimension self.now)) }
     {
         box_data_type(alloc, self.dimension)
     }
 
-    /// The field of a column of this type, as that of a native type. Errs for want of memory alone.
+    /// The field of a column of this type, as that of a native type. Errs only when out of memory.
     pub fn to_field(&self, alloc: Global, name: &str, nullable: bool) -> Result<Field, ArrowError>
         ensures written { IfOk result (λ f. f ≡ written_field name.now nullable
             (OfRect (box_dimension self.now)) (box_meta self.now)) }

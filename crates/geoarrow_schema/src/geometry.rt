@@ -39,7 +39,7 @@ impl GeometryType {
         }
     }
 
-    /// `new` of the default metadata. Errs for want of memory alone.
+    /// `new` of the default metadata. Errs only when out of memory.
     pub fn try_default(alloc: Global) -> Result<GeometryType, AllocError>
         ensures coord_type { IfOk result (λ e. geometry_coord_type e ≡ Separated) }
         ensures metadata { IfOk result (λ e. geometry_meta e ≡ empty) }
@@ -89,14 +89,14 @@ impl GeometryType {
     }
 
     /// The data type of a column of this type: a union with a member for each native kind in each dimension (GeoArrow,
-    /// "Geometry"). Errs for want of memory alone.
+    /// "Geometry"). Errs only when out of memory.
     pub fn data_type(&self, alloc: Global) -> Result<DataType, AllocError>
         ensures { IfOk result (λ t. tree t ≡ geometry_layout (geometry_coord_type self.now)) }
     {
         geometry_data_type(alloc, self.coord_type)
     }
 
-    /// The field of a column of this type, as that of a native type. Errs for want of memory alone.
+    /// The field of a column of this type, as that of a native type. Errs only when out of memory.
     pub fn to_field(&self, alloc: Global, name: &str, nullable: bool) -> Result<Field, ArrowError>
         ensures written { IfOk result (λ f. f ≡ written_field name.now nullable
             (OfGeometry (geometry_coord_type self.now)) (geometry_meta self.now)) }

@@ -23,7 +23,7 @@ impl GeoArrowType {
     ///
     /// Errs as `from_extension_field` does. Where no GeoArrow name stands on the field it errs as `Arrow` exactly where the
     /// metadata text stands for no metadata, and as `InvalidGeoArrow` where it does and the data type is taken for none;
-    /// else for want of memory alone.
+    /// else only when out of memory.
     pub fn from_arrow_field(alloc: Global, field: &Field) -> GeoArrowResult<GeoArrowType>
         ensures inference { IsInference field.now result }
         ensures only { IfOk result (ReadsOrInfersAlone field.now) }

@@ -1,7 +1,7 @@
 //! GeoArrow's types: how a field is read as one, and how one is written as a field. This is the crate to use: it brings
 //! the names of the crates below too, but those of Arrow itself, which stand in `arrow_values`.
 //!
-//! Three calls carry what is proved above all, want of memory aside:
+//! Three calls carry what is proved above all, out-of-memory aside:
 //!
 //! 1. `GeoArrowType::from_extension_field` answers a type exactly where the field's extension name, data type and metadata
 //!    text stand for one, and they stand for no other.

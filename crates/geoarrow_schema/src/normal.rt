@@ -19,7 +19,7 @@ use std::sync::Arc;
 
 impl GeoArrowType {
     /// The normal form: the CRS type is dropped where neither CRS value nor edges stand, since nothing writes it then.
-    /// Errs for want of memory alone, and only where a CRS type is dropped.
+    /// Errs only when out of memory, and only where a CRS type is dropped.
     pub fn normalized(self, alloc: Global) -> Result<GeoArrowType, AllocError>
         ensures kind { IfOk result (λ g. kind_of g ≡ kind_of self) }
         ensures metadata { IfOk result (λ g. meta_of g ≡ normal (meta_of self)) }
@@ -46,7 +46,7 @@ impl GeoArrowType {
     /// The field as the normal form of the type that it is read as is written: with the data type and the two extension
     /// keys of `to_field`, and otherwise as it was, its name, its nullability and its other metadata. It reads as that
     /// normal form, where `serde_json` reads what it printed. None, without memory, where `from_extension_field` answers
-    /// none. Errs as that does, and for want of memory.
+    /// none. Errs as that does, and when out of memory.
     pub fn canonical_field(alloc: Global, field: &Field) -> GeoArrowResult<Option<Field>>
         ensures ok { IfOk result (λ found. IfSome found (IsCanonical field.now)) }
         ensures none { (result ≡ Ok None) ↔ ¬ HasGeoArrowName field.now }

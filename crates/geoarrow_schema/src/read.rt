@@ -29,7 +29,7 @@ impl GeoArrowType {
     /// Errs where a GeoArrow name stands on the field and no type is read: as `InvalidGeoArrow` exactly where the name is
     /// `geoarrow.wkb` and the data type is none of `Binary`, `LargeBinary` and `BinaryView`, or the name is `geoarrow.wkt`
     /// and the data type is none of `Utf8`, `LargeUtf8` and `Utf8View`, whatever the metadata text is; else as `Arrow`, with
-    /// the error of the metadata before that of the data type. Errs for want of memory too, as `Arrow` of `OutOfMemory`.
+    /// the error of the metadata before that of the data type. Errs when out of memory too, as `Arrow` of `OutOfMemory`.
     pub fn from_extension_field(
         alloc: Global,
         field: &Field,

@@ -119,7 +119,7 @@ impl<E: Encoding> SerializedType<E> {
         }
     }
 
-    /// `new` of the default metadata. Errs for want of memory alone.
+    /// `new` of the default metadata. Errs only when out of memory.
     pub fn try_default(alloc: Global) -> Result<SerializedType<E>, AllocError>
         ensures { IfOk result (λ e. serialized_meta e ≡ empty) }
     {

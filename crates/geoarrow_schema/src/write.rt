@@ -19,8 +19,8 @@ use std::alloc::{AllocError, Global};
 
 impl GeoArrowType {
     /// The data type of a column of this type (GeoArrow, "Native encoding", "Serialized encodings"). It has neither the
-    /// extension name nor the metadata, which stand on the field alone: `to_field` gives all three. Errs for want of memory
-    /// alone; well-known binary and text take none.
+    /// extension name nor the metadata, which stand on the field alone: `to_field` gives all three. Errs only when out of
+    /// memory; well-known binary and text take none.
     pub fn to_data_type(&self, alloc: Global) -> Result<DataType, AllocError>
         ensures layout { IfOk result (λ t. tree t ≡ layout (kind_of self.now)) }
         ensures no_memory { ¬ IsStructured (kind_of self.now) → IsOk result }
@@ -39,7 +39,7 @@ impl GeoArrowType {
     /// The field of a column of this type: that name and nullability, the data type of `to_data_type`, and as its metadata
     /// the extension name and the metadata's text, where there is one (GeoArrow, "Extension types"). It reads back as this
     /// type with its metadata in normal form, where `serde_json` reads what it printed; that is so where the CRS value is
-    /// nested at most 100 levels. Errs for want of memory alone.
+    /// nested at most 100 levels. Errs only when out of memory.
     pub fn to_field(&self, alloc: Global, name: &str, nullable: bool) -> Result<Field, ArrowError>
         ensures written { IfOk result (λ f. f ≡ field_of name.now nullable self.now) }
         ensures reads_back { IfOk result (λ f. IsReadBack (meta_value (meta_of self.now))

@@ -1,4 +1,4 @@
-//! Tests of `geoarrow_layout` while memory is wanting. What its calls answer with ample memory is shown by the rows of
+//! Tests of `geoarrow_layout` while there is no memory. What its calls answer with ample memory is shown by the rows of
 //! `layout_rows`.
 #![tactic(auto)]
 

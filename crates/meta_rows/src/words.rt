@@ -44,7 +44,7 @@ pub fn truth(alloc: Global, truth: bool) -> Result<String, AllocError> {
     word(alloc, if truth { "true" } else { "false" })
 }
 
-/// What an error prints; want of memory is no answer.
+/// What an error prints; out-of-memory is no answer.
 pub fn arrow_refusal(alloc: Global, error: ArrowError) -> Result<String, AllocError> {
     match error {
         ArrowError::OutOfMemory => Err(AllocError),

@@ -48,7 +48,7 @@ pub fn of_text(found: &str, wanted: &str) -> Answer {
     right_if(found == wanted)
 }
 
-/// Want where memory is wanting, and right where the error is of the wanted sort.
+/// Want when out of memory, and right where the error is of the wanted sort.
 pub fn of_error(error: &GeoArrowError, wanted: Option<&Sort>) -> Answer {
     if let GeoArrowError::Arrow(ArrowError::OutOfMemory) = error {
         return Answer::Want;

@@ -114,10 +114,10 @@ pub const RUNS: &[Run] = &[
     },
 ];
 
-/// What a run writes where memory is wanting.
+/// What a run writes when out of memory.
 const WANT: &[u8] = b"error memory\n";
 
-/// What stands behind the answers to the lines, as many as there are before want of memory; none where another answer
+/// What stands behind the answers to the lines, as many as there are before out-of-memory; none where another answer
 /// stands there.
 fn behind_answers<'a>(written: &'a [u8], answers: &[&str]) -> Option<&'a [u8]> {
     let mut rest = written;

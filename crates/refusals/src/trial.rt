@@ -9,7 +9,7 @@ const REQUESTS: usize = 2_000;
 pub enum Answer {
     /// What it answers with ample memory, and everything is as it has to be then.
     Right,
-    /// Want of memory, in its due form, and everything is as it was.
+    /// Out-of-memory, in its due form, and everything is as it was.
     Want,
     /// Anything else.
     Wrong,

@@ -16,7 +16,7 @@ pub struct Survey {
 }
 
 /// Surveys the columns of a schema, as a checker of GeoParquet files does (GeoArrow, "Extension types"): it counts those
-/// that hold geometries, and lists those that are refused. Errs for want of memory alone.
+/// that hold geometries, and lists those that are refused. Errs only when out of memory.
 #[tactic(auto, using(crate::proofs::Surveys::counted, crate::proofs::Surveys::listed))]
 pub fn survey_columns(alloc: Global, fields: &[Field]) -> Result<Survey, AllocError>
     ensures geometries { IfOk result (λ s. IsCount IsGeometry fields.now s.geometries) }

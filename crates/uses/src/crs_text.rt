@@ -12,7 +12,7 @@ use std::alloc::Global;
 
 /// The CRS of a column as a text of PROJJSON, in compact JSON (GeoArrow, "Extension metadata", keys `crs` and `crs_type`).
 /// None where the column has no CRS, and where its CRS is not said to be PROJJSON. Errs where the metadata text stands for
-/// no metadata, and for want of memory.
+/// no metadata, and when out of memory.
 pub fn projjson_text(alloc: Global, field: &Field) -> GeoArrowResult<Option<String>>
     ensures text { IfOk result (λ text. (m : Metadata) × TextStandsFor (extension_metadata field.now) m
         × (option_map string_bytes text ≡ projjson_text_of m)) }

@@ -11,7 +11,7 @@ use std::alloc::AllocError;
 /// Joins the members of two parts of a column of geometries of any kind (GeoArrow, "Geometry"), as two files of a data set
 /// have them: those of the one, and then those of the other, as a dense union. None exactly where they may not be joined,
 /// which they may where there is a member, no type id is in both, and each part that has members is of geometries, of one
-/// coordinate type. Errs for want of memory alone.
+/// coordinate type. Errs only when out of memory.
 pub fn join_unions(one: UnionFields, other: UnionFields) -> Result<Option<DataType>, AllocError>
     ensures exact { IfOk result (λ found. IsSome found ↔ MayBeJoined one other) }
     ensures joined { IfOk result (λ found. IfSome found (λ t. tree t ≡ union (member_trees (one ++ other)) UnionMode.Dense)) }

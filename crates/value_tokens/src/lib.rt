@@ -3,7 +3,7 @@
 //! A call that takes takes one value whole, or what is left of one. What comes next in a reader is what `serde_json` would
 //! read there: `next_value` of `specs/Next`. So a number that is out of its range is refused here too, also in a value that
 //! is passed over. `depth` is how deep the arrays and objects of the value may nest. A call errs with [`Refusal::Text`] only
-//! where no value comes next, or where it nests deeper, and with [`Refusal::Memory`] for want of memory.
+//! where no value comes next, or where it nests deeper, and with [`Refusal::Memory`] when out of memory.
 //!
 //! What is printed is said by `Adds` of `specs/Adds`: the tokens that a call added, and that it kept what stood before them.
 //! The tokens of a value are those of its `outline`, whose text is `serde_json`'s `compact_text` (`specs/Printed`).

@@ -10,7 +10,7 @@ use json::Writer;
 use serde_json::{Map, Number, Value};
 use std::alloc::AllocError;
 
-/// Prints a value that holds no float. Errs for want of memory alone, and then a front part may be printed.
+/// Prints a value that holds no float. Errs only when out of memory, and then a front part may be printed.
 #[cycle(print)]
 pub fn print_value(value: &Value, out: &mut Writer) -> Result<(), AllocError>
     requires { has_float (view value.now) ≡ false }

@@ -8,7 +8,7 @@ use std::alloc::{AllocError, AllocFailed};
 pub enum Refusal {
     /// The text is no JSON there, or nests deeper than it may.
     Text,
-    /// Memory was wanting.
+    /// Out of memory.
     Memory,
 }
 

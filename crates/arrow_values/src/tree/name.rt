@@ -34,7 +34,7 @@ impl Name {
         }
     }
 
-    /// An equal name. Errs for want of memory alone, and never for a name that layouts have.
+    /// An equal name. Errs only when out of memory, and never for a name that layouts have.
     pub(crate) fn try_clone(&self, alloc: Global) -> Result<Name, AllocError>
         ensures { IfOk result (λ n. name_bytes n ≡ name_bytes self.now) }
     {

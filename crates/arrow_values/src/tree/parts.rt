@@ -17,7 +17,7 @@ pub const EXTENSION_TYPE_NAME_KEY: &str = "ARROW:extension:name";
 pub const EXTENSION_TYPE_METADATA_KEY: &str = "ARROW:extension:metadata";
 
 impl Field {
-    /// A field of that name, data type and nullability, without metadata. Errs for want of memory alone.
+    /// A field of that name, data type and nullability, without metadata. Errs only when out of memory.
     pub fn new(
         alloc: Global,
         name: &str,
@@ -37,7 +37,7 @@ impl Field {
         Field::of_parts(Name::Fixed(name), data_type, nullable, BTreeMap::new(alloc))
     }
 
-    /// A field of type `List(value)`, without metadata of its own. Errs for want of memory alone.
+    /// A field of type `List(value)`, without metadata of its own. Errs only when out of memory.
     pub fn new_list(
         alloc: Global,
         name: &str,

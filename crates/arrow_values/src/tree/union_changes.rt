@@ -10,8 +10,8 @@ use std::alloc::{AllocError, Global};
 
 impl UnionFields {
     /// The union of these members: the first id with the first field, and so on. Errs, as `InvalidArgumentError`,
-    /// where there are not as many ids as fields, where an id is negative, and where one is repeated; else for want
-    /// of memory alone. A union may have no members, and then takes no memory.
+    /// where there are not as many ids as fields, where an id is negative, and where one is repeated; else only when
+    /// out of memory. A union may have no members, and then takes no memory.
     #[tactic(auto, using(crate::proofs::Ids::unfit))]
     pub fn try_new(
         alloc: Global,
@@ -53,7 +53,7 @@ impl UnionFields {
     }
 
     /// Puts the members of `other` last. Errs as `RepeatedId` with the first id of `other` that is here already, where
-    /// there is one, and else for want of memory alone; `other` is then handed back, and both unions are as they were.
+    /// there is one, and else only when out of memory; `other` is then handed back, and both unions are as they were.
     pub fn append(&mut self, other: UnionFields) -> Result<(), (UnionFields, AppendFault)>
         ensures joined { OnOk result (self.new ≡ self.old ++ other) }
         ensures ids { HasTypeIds self.old → HasTypeIds other → HasTypeIds self.new }

@@ -48,7 +48,7 @@ impl CrsValue {
         &self.value
     }
 
-    // An equal value. Errs for want of memory alone.
+    // An equal value. Errs only when out of memory.
     pub(crate) fn try_clone(&self, _alloc: Global) -> Result<CrsValue, AllocError>
         ensures { IfOk result (λ c. c ≡ self.now) }
     {

@@ -14,7 +14,7 @@ use serde_json::Value;
 use std::alloc::AllocError;
 use value_tokens::print_value;
 
-// Prints the object of those parts. Errs for want of memory alone.
+// Prints the object of those parts. Errs only when out of memory.
 pub(crate) fn print_parts(
     value: Option<&Value>,
     crs_type: Option<CrsType>,

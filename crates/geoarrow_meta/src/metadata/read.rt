@@ -28,7 +28,7 @@ pub(crate) enum Word<'a> {
     Other,
 }
 
-// What stands at the three keys of a value. Errs for want of memory alone.
+// What stands at the three keys of a value. Errs only when out of memory.
 pub(crate) fn slots_of(alloc: Global, value: &Value) -> Result<Slots, AllocError>
     ensures { IfOk result (λ s. AreSlotsOf (view value.now) (option_map view s.crs) s.crs_type s.edges) }
 {

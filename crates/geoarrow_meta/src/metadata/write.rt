@@ -8,7 +8,7 @@ use crate::edges::Edges;
 use serde_json::{Map, Value};
 use std::alloc::{AllocError, Global};
 
-// The object of those parts. Errs for want of memory alone.
+// The object of those parts. Errs only when out of memory.
 pub(crate) fn written_value(
     alloc: Global,
     value: Option<&Value>,
