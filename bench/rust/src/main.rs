@@ -11,6 +11,11 @@ use std::sync::Arc;
 
 const METADATA: &str = r#"{"crs":"EPSG:4326","crs_type":"authority_code","edges":"spherical"}"#;
 
+const SPACED: &str =
+    r#"{"crs": "EPSG:4326", "crs_type": "authority_code", "edges": "spherical"}"#;
+
+const PROJJSON: &str = r#"{"crs":{"$schema":"https://proj.org/schemas/v0.7/projjson.schema.json","coordinate_system":{"axis":[{"abbreviation":"Lat","direction":"north","name":"Geodetic latitude","unit":"degree"},{"abbreviation":"Lon","direction":"east","name":"Geodetic longitude","unit":"degree"}],"subtype":"ellipsoidal"},"datum":{"ellipsoid":{"name":"WGS 84","semi_major_axis":6378137},"name":"WGS 84"},"id":{"authority":"EPSG","code":4326},"name":"WGS 84","type":"GeographicCRS"},"crs_type":"projjson"}"#;
+
 /// A field of that data type, with that extension name and metadata text where they are given.
 fn field(name: Option<&str>, text: Option<&str>, data_type: DataType) -> Field {
     let mut metadata = HashMap::new();
@@ -52,6 +57,28 @@ fn wkb() -> GeoArrowType {
         crs,
         Some(Edges::Spherical),
     ))))
+}
+
+/// The type of a well-known binary column with that metadata text.
+fn wkb_of(text: &str) -> GeoArrowType {
+    let field = field(Some("geoarrow.wkb"), Some(text), DataType::Binary);
+    GeoArrowType::from_extension_field(&field)
+        .unwrap()
+        .unwrap()
+}
+
+/// A schema of 50 columns, of which two are geometry.
+fn schema() -> Vec<Field> {
+    let mut fields = vec![
+        field(Some("geoarrow.point"), None, pair()),
+        field(Some("geoarrow.wkb"), Some(METADATA), DataType::Binary),
+    ];
+    for _ in 0..16 {
+        fields.push(Field::new("i", DataType::Int64, true));
+        fields.push(Field::new("n", DataType::Float64, true));
+        fields.push(Field::new("t", DataType::Utf8, true));
+    }
+    fields
 }
 
 /// An equal field that shares no memory with this one.
@@ -144,6 +171,33 @@ fn equals(a: &DataType, b: &DataType, count: u64) -> u64 {
     times(count, || black_box(black_box(a) == black_box(b)))
 }
 
+/// How often a data type is cloned.
+fn clones(data_type: &DataType, count: u64) -> u64 {
+    times(count, || {
+        black_box(black_box(data_type).clone());
+        true
+    })
+}
+
+/// How often a data type is cloned so that no memory is shared.
+fn copies(data_type: &DataType, count: u64) -> u64 {
+    times(count, || {
+        black_box(copy_of(black_box(data_type)));
+        true
+    })
+}
+
+/// How often each column of a schema has an answer, kept until all have one.
+fn checks(fields: &[Field], count: u64) -> u64 {
+    times(count, || {
+        let columns: Vec<_> = black_box(fields)
+            .iter()
+            .map(|field| GeoArrowType::from_arrow_field(field))
+            .collect();
+        black_box(&columns).len() == fields.len()
+    })
+}
+
 fn count_calls(call: &str, count: u64) -> u64 {
     let named = |name: &str, data_type| field(Some(name), None, data_type);
     match call {
@@ -152,12 +206,21 @@ fn count_calls(call: &str, count: u64) -> u64 {
             let field = field(Some("geoarrow.wkb"), Some(METADATA), DataType::Binary);
             reads(&field, count)
         }
+        "spaced" => {
+            let field = field(Some("geoarrow.wkb"), Some(SPACED), DataType::Binary);
+            reads(&field, count)
+        }
+        "projjson" => {
+            let field = field(Some("geoarrow.wkb"), Some(PROJJSON), DataType::Binary);
+            reads(&field, count)
+        }
         "multipolygon" => reads(&named("geoarrow.multipolygon", multipolygon()), count),
         "geometry" => reads(&geometry().to_field("g", true), count),
         "no_name" => passes(&field(None, None, pair()), count),
         "other_name" => passes(&named("arrow.uuid", DataType::Binary), count),
         "point_field" => writes(&point(), count),
         "wkb_field" => writes(&wkb(), count),
+        "projjson_field" => writes(&wkb_of(PROJJSON), count),
         "geometry_type" => lays_out(&geometry(), count),
         "infer" => infers(&field(None, None, pair()), count),
         "refusal" => refuses(&named("geoarrow.geometry", DataType::Int32), count),
@@ -170,6 +233,9 @@ fn count_calls(call: &str, count: u64) -> u64 {
             let one = geometry().to_data_type();
             equals(&copy_of(&one), &copy_of(&one), count)
         }
+        "clone" => clones(&geometry().to_data_type(), count),
+        "clone_unshared" => copies(&geometry().to_data_type(), count),
+        "columns" => checks(&schema(), count),
         _ => 0,
     }
 }

@@ -2,24 +2,28 @@
 ghost use Rattle.std.specs.Prelude.{◌≡◌};
 ghost use Rattle.arrow_values.specs.Coordinates.{dimensions_size};
 
-/// The dimensions of a coordinate, as geometry traits name them: two of place, and a height, a measure or both; or
-/// some other number of them whose meaning is not known.
+/// The dimensions of a coordinate, as geometry traits name them: x and y, and a height, a measure or both; or
+/// a number of dimensions whose meaning is not known.
+///
+/// ```rust
+/// assert_eq!(rt; Dimensions::Xym.size(), 3);
+/// ```
 #[derive(Clone, Copy, Debug, PartialEq, Eq)]
 pub enum Dimensions {
-    /// Two of place.
+    /// x and y.
     Xy,
-    /// Two of place and a height.
+    /// x, y and a height.
     Xyz,
-    /// Two of place and a measure.
+    /// x, y and a measure.
     Xym,
-    /// Two of place, a height and a measure.
+    /// x, y, a height and a measure.
     Xyzm,
-    /// So many, of no known meaning.
+    /// That many, with no known meaning.
     Unknown(usize),
 }
 
 impl Dimensions {
-    /// How many numbers a coordinate has: 2, 3, 3, 4, and of `Unknown` what it says.
+    /// How many numbers a coordinate has: 2, 3, 3, 4, and for `Unknown` its number.
     pub fn size(&self) -> usize
         ensures { result ≡ dimensions_size self.now }
     {

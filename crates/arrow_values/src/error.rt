@@ -8,36 +8,45 @@ use std::alloc::{AllocError, AllocFailed, Global};
 use std::io;
 use thiserror::Error;
 
-/// The errors of Arrow's schema crate that this library answers or hands on, and out-of-memory.
+/// The errors of Arrow's schema crate that this library returns or passes on, and out of memory.
 #[derive(Debug, Drop, Error)]
 #[cycle(errors)]
 pub enum ArrowError {
-    /// A data type is not one that was wanted.
+    /// A data type is not one of those that are expected.
     #[error("Schema error: {0}")]
     SchemaError(String),
-    /// An argument cannot be taken.
+    /// An argument is not valid.
     #[error("Invalid argument error: {0}")]
     InvalidArgumentError(String),
-    /// An error of GeoArrow, handed through Arrow.
+    /// An error of GeoArrow, passed through Arrow.
     #[error("External error: {0}")]
     ExternalError(Box<GeoArrowError>),
-    /// No memory was left for the answer.
+    /// There was no memory for the result.
     #[error("Out of memory")]
     OutOfMemory,
 }
 
-/// The errors of GeoArrow. This library answers `Arrow`, `Crs`, `External` and `InvalidGeoArrow` alone; the other
-/// variants are for the crates that stand on it.
+/// The errors of GeoArrow. This library returns only `Arrow`, `Crs`, `External` and `InvalidGeoArrow`; the other
+/// variants are for the crates that use it.
+///
+/// ```rust
+/// let error = GeoArrowError::invalid_geoarrow(alloc, "no points");
+/// let text = format!(in alloc; "{error}")?;
+/// assert_eq!(rt;
+///     text.as_str(),
+///     "Data not conforming to GeoArrow specification: no points"
+/// );
+/// ```
 #[derive(Debug, Drop, Error)]
 #[cycle(errors)]
 pub enum GeoArrowError {
-    /// An error of Arrow; out-of-memory among them.
+    /// An error of Arrow, which may be out of memory.
     #[error(transparent)]
     Arrow(ArrowError),
-    /// A coordinate reference system cannot be taken.
+    /// A coordinate reference system is not valid.
     #[error("CRS related error: {0}")]
     Crs(String),
-    /// What came from outside cannot be read.
+    /// Input from outside cannot be read.
     #[error("External error: {0}")]
     External(String),
     /// An error of FlatGeobuf.
@@ -52,7 +61,7 @@ pub enum GeoArrowError {
     /// Data that does not conform to the GeoArrow specification.
     #[error("Data not conforming to GeoArrow specification: {0}")]
     InvalidGeoArrow(String),
-    /// A geometry of a type that the operation does not take.
+    /// A geometry of a type that the operation does not accept.
     #[error("Incorrect geometry type for operation: {0}")]
     IncorrectGeometryType(String),
     /// A container that cannot hold more.
@@ -66,15 +75,15 @@ pub enum GeoArrowError {
     Wkt(String),
 }
 
-/// What a call of GeoArrow answers.
+/// The result of a call of GeoArrow.
 pub type GeoArrowResult<T> = Result<T, GeoArrowError>;
 
 /// Why two unions could not be joined.
 #[derive(Clone, Copy, Debug, PartialEq, Eq)]
 pub enum AppendFault {
-    /// The first id of the second union that the first union has too.
+    /// The first id of the second union that the first union also has.
     RepeatedId(i8),
-    /// No memory was left for the members.
+    /// There was no memory for the members.
     OutOfMemory,
 }
 
@@ -127,8 +136,8 @@ impl From<io::Error> for GeoArrowError {
 }
 
 impl GeoArrowError {
-    /// This error as one of Arrow: what an `Arrow` holds comes out as it is, and takes no memory; every other error is
-    /// boxed as an `ExternalError`. Errs only when out of memory.
+    /// This error as one of Arrow: the error inside an `Arrow` is returned unchanged, which takes no memory; every
+    /// other error is boxed as an `ExternalError`. Errs only when out of memory.
     pub fn into_arrow_error(self, alloc: Global) -> Result<ArrowError, AllocError>
         ensures form { IfOk result (IsArrowFormOf self) }
         ensures no_memory { is_arrow self ≡ true → IsOk result }
@@ -141,7 +150,7 @@ impl GeoArrowError {
 }
 
 impl GeoArrowError {
-    /// An `InvalidGeoArrow` of that message; or out-of-memory where there is none for the message.
+    /// An `InvalidGeoArrow` with that message; or out of memory if there is none for the message.
     pub fn invalid_geoarrow(alloc: Global, message: &str) -> GeoArrowError
         ensures { IsGeoMemory result ⊎ IsInvalidOf message.now result }
     {
@@ -153,7 +162,7 @@ impl GeoArrowError {
 }
 
 impl ArrowError {
-    /// A `SchemaError` of that message; or out-of-memory where there is none for the message.
+    /// A `SchemaError` with that message; or out of memory if there is none for the message.
     pub fn schema_error(alloc: Global, message: &str) -> ArrowError
         ensures { IsMemory result ⊎ IsSchemaOf message.now result }
     {
@@ -164,7 +173,7 @@ impl ArrowError {
     }
 }
 
-/// An argument that cannot be taken, by this message; or out-of-memory where there is none for the message.
+/// An `InvalidArgumentError` with that message; or out of memory if there is none for the message.
 pub(crate) fn invalid_argument(alloc: Global, message: &str) -> ArrowError
     ensures { IsInvalidArgument result }
 {

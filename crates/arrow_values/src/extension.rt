@@ -1,17 +1,25 @@
-//! Extension types, and the calls of a field that go through them.
+//! Extension types, and the calls of a field that use them.
 ghost use Rattle.std.specs.Prelude.{◌≡◌, ◌⊎◌, ◌↔◌, true, IsOk, IsSome, IfOk, IfErr, OnOk, OnErr, MatchResult, Option, string_bytes};
 ghost use Rattle.std.specs.Option.{option_map};
 
 use crate::error::{ArrowError, invalid_argument};
-use crate::texts::with_extension;
+use crate::texts::{clone_texts, set_extension};
 use crate::tree::{DataType, Field};
 use std::alloc::Global;
 
-/// A type that is written on a field by a name and a metadata text, and that some data types can carry (Arrow,
+/// A type that is written on a field by a name and a metadata text, and that can be written over some data types (Arrow,
 /// "Extension Types").
 ///
 /// An implementation says what it means by its ghost members: which text its metadata prints, which metadata a text
-/// stands for, and which data types it accepts and as what. A field's calls are proved once, from these alone.
+/// stands for, and which data types it accepts and as what. A field's calls are proved once, only from these.
+///
+/// ```rust
+/// let mut field = Field::new(alloc, "geom", DataType::Binary, true)?;
+/// field.try_with_extension_type(alloc, &WkbType::try_default(alloc)?)?;
+/// assert_eq!(rt; field.extension_type_name(), Some("geoarrow.wkb"));
+/// assert!(rt; field.try_extension_type::<WkbType>(alloc).is_ok());
+/// assert!(rt; field.try_extension_type::<WktType>(alloc).is_err());
+/// ```
 pub trait ExtensionType: Sized {
     ghost use Rattle.arrow_values.specs.Tree.{Text, Tree};
     ghost use Rattle.arrow_values.specs.View.{tree};
@@ -66,14 +74,14 @@ pub trait ExtensionType: Sized {
     fn metadata(&self) -> &Self::Metadata
         ensures { result.now ≡ metadata_of self.now };
 
-    /// The text that the metadata prints; none, without memory, where it prints none. Errs only when out of memory,
-    /// and only where there is a text.
+    /// The text that the metadata prints, or `None` if it prints none, which takes no memory. Errs only when out of memory,
+    /// and only if there is a text.
     fn serialize_metadata(&self, alloc: Global) -> Result<Option<String>, ArrowError>
         ensures { MatchResult result (λ text. option_map string_bytes text ≡ printed (metadata_of self.now))
             (λ e. IsMemory e × IsSome (printed (metadata_of self.now))) };
 
-    /// A metadata of the value that a text, or its absence, stands for. Errs where it stands for none, else only when out
-    /// of memory.
+    /// A metadata of the value that a text, or its absence, stands for. Errs if it stands for none, and otherwise only
+    /// when out of memory.
     fn deserialize_metadata(
         alloc: Global,
         metadata: Option<&str>,
@@ -82,14 +90,14 @@ pub trait ExtensionType: Sized {
             (λ e. IsMemory e ⊎ ((v : Value) → StandsFor (text_of metadata.entry) v → ⊥)) }
         ensures refusal { IfErr result (λ e. IsMemory e ⊎ RefusesText (text_of metadata.entry) e) };
 
-    /// Whether a field of that data type can carry this type: the data type is accepted as this type's shape. Where it
-    /// can, this takes no memory; where it can not, this errs.
+    /// Whether this type can be written on a field of that data type: the data type is accepted as this type's shape. If it
+    /// is accepted, this takes no memory; if not, this errs.
     fn supports_data_type(&self, alloc: Global, data_type: &DataType) -> Result<(), ArrowError>
         ensures exact { IsOk result ↔ Accepts (tree data_type.now) self.now }
         ensures refusal { IfErr result (λ e. IsMemory e ⊎ RefusesUse self.now (tree data_type.now) e) };
 
-    /// The type of that metadata as whose shape the data type is accepted. Where it is accepted as some shape, this
-    /// takes no memory; where it is not, this errs.
+    /// The type with that metadata and with the shape that the data type is accepted as. If it is accepted as a shape, this
+    /// takes no memory; if not, this errs.
     fn try_new(
         alloc: Global,
         data_type: &DataType,
@@ -116,9 +124,9 @@ impl Field {
     ghost use Rattle.arrow_values.specs.Texts.{SetsExtension};
     ghost use Rattle.arrow_values.specs.Extension.{Reads, IsRefusedBy, Writes, StandsForPrinted};
 
-    /// The extension type that the field carries: its name, the metadata that its metadata text stands for, and the
-    /// shape as which its data type is accepted. Errs, as `InvalidArgumentError`, where there is no extension name or
-    /// another one; then as `deserialize_metadata` and as `try_new` err.
+    /// The extension type that is written on the field: its name, the metadata that its metadata text stands for, and the
+    /// shape that its data type is accepted as. Errs with `InvalidArgumentError` if there is no extension name, or
+    /// another one; then as `deserialize_metadata` and `try_new` err.
     #[tactic(auto, using(crate::proofs::Refusals::unnamed_refused, crate::proofs::Refusals::text_refused, crate::proofs::Refusals::tree_refused))]
     pub fn try_extension_type<E: ExtensionType>(&self, alloc: Global) -> Result<E, ArrowError>
         ensures ok { IfOk result (Reads E.ExtensionType self.now) }
@@ -139,8 +147,8 @@ impl Field {
     }
 
     /// Writes an extension type on the field: its name at the name key, and at the metadata key the text of its
-    /// metadata, or nothing. Errs, as `supports_data_type` does, where the field's data type cannot carry the type,
-    /// else only when out of memory; the field is then as it was.
+    /// metadata, or nothing. Errs as `supports_data_type` does if the type cannot be written over the field's data type,
+    /// and otherwise only when out of memory; the field is then unchanged.
     pub fn try_with_extension_type<E: ExtensionType>(
         &mut self,
         alloc: Global,
@@ -156,13 +164,14 @@ impl Field {
     {
         extension_type.supports_data_type(alloc, self.data_type())?;
         let text = extension_type.serialize_metadata(alloc)?;
-        let texts = with_extension(alloc, self.metadata(), E::extension_name(), text)?;
+        let mut texts = clone_texts(self.metadata())?;
+        set_extension(alloc, &mut texts, E::extension_name(), text)?;
         self.set_metadata(texts);
         Ok(())
     }
 
     /// The field with an extension type written on it, as `try_with_extension_type` does. The field's data type must
-    /// be able to carry the type, which `supports_data_type` tests. Errs only when out of memory.
+    /// be accepted by the type, which `supports_data_type` tests. Errs only when out of memory.
     pub fn with_extension_type<E: ExtensionType>(
         self,
         alloc: Global,
@@ -173,12 +182,11 @@ impl Field {
         ensures keys { IfOk result (λ f. SetsExtension E.name_text (E.printed (E.metadata_of extension_type.now))
             self.metadata f.metadata) }
     {
-        let mut field = self;
-        field.try_with_extension_type(alloc, extension_type)?;
-        Ok(field)
+        let text = extension_type.serialize_metadata(alloc)?;
+        Ok(self.with_extension_texts(alloc, E::extension_name(), text)?)
     }
 
-    /// A law: a field reads as one value of an extension type alone. There is nothing to run.
+    /// A law: a field reads as only one value of an extension type. There is nothing to run.
     pub fn reads_as_one<E: ExtensionType>(&self, one: &E, other: &E)
         ensures { Reads E.ExtensionType self.now one.now → Reads E.ExtensionType self.now other.now
             → E.Agrees one.now other.now × (E.value_of (E.metadata_of one.now) ≡ E.value_of (E.metadata_of other.now)) }

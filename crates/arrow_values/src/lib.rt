@@ -1,4 +1,4 @@
-//! The part of Arrow's schema crate that GeoArrow stands on: data types as trees, fields, the extension keys of a
+//! The part of Arrow's schema crate that GeoArrow needs: data types as trees, fields, the extension keys of a
 //! field, and the two errors.
 #![tactic(auto)]
 

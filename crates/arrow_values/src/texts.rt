@@ -1,4 +1,4 @@
-//! The map of a field's texts: look-ups, and the map with other extension texts.
+//! The map of a field's texts: look-ups, and changes of its extension texts.
 ghost use Rattle.std.specs.Prelude.{◌≡◌, IfOk, OnOk, string_bytes};
 ghost use Rattle.std.specs.Option.{option_map};
 ghost use Rattle.std.specs.String.{string_cmp};
@@ -65,29 +65,26 @@ fn remove_text(texts: &mut BTreeMap<String, String>, key: &str)
     texts.remove(key);
 }
 
-/// A map of the same texts, but that the name key has `name`, and the metadata key has `text`, or nothing.
-pub(crate) fn with_extension(
+/// Puts `name` at the name key, and at the metadata key `text`, or nothing. When out of memory some of it may be put.
+pub(crate) fn set_extension(
     alloc: Global,
-    texts: &BTreeMap<String, String>,
+    texts: &mut BTreeMap<String, String>,
     name: &str,
     text: Option<String>,
-) -> Result<BTreeMap<String, String>, AllocError>
-    ensures { IfOk result (λ made. texts_of made.entries
-        ≡ set_extension name.now (option_map string_bytes text) (texts_of texts.now.entries)) }
+) -> Result<(), AllocError>
+    ensures { OnOk result (texts_of texts.new.entries
+        ≡ set_extension name.now (option_map string_bytes text) (texts_of texts.old.entries)) }
 {
-    let mut made = clone_texts(texts)?;
+    let bare = texts.is_empty();
     let name = String::from_str(alloc, name)?;
-    put_text(alloc, &mut made, EXTENSION_TYPE_NAME_KEY, name)?;
+    put_text(alloc, texts, EXTENSION_TYPE_NAME_KEY, name)?;
     match text {
-        Some(text) => {
-            put_text(alloc, &mut made, EXTENSION_TYPE_METADATA_KEY, text)?;
-            Ok(made)
-        }
+        Some(text) => put_text(alloc, texts, EXTENSION_TYPE_METADATA_KEY, text),
         None => {
-            if !texts.is_empty() {
-                remove_text(&mut made, EXTENSION_TYPE_METADATA_KEY);
+            if !bare {
+                remove_text(texts, EXTENSION_TYPE_METADATA_KEY);
             }
-            Ok(made)
+            Ok(())
         }
     }
 }

@@ -1,8 +1,8 @@
 //! Data types, fields, the fields of a struct and the members of a union, which hold each other.
 //!
-//! A contract sees a field as its name, tree, nullability and metadata, the fields of a struct and the members of a
-//! union as lists, and a data type by `tree`. So `≡` on them is Arrow's equality: no capacity, no box and no shape of a
-//! map plays a part in it.
+//! In a contract a field is its name, tree, nullability and metadata, the fields of a struct and the members of a union
+//! are lists, and a data type is given by `tree`. So `≡` on them is Arrow's equality: capacities, boxes and the shape
+//! of a map do not matter.
 mod clone;
 mod equal;
 mod fixed_name;
@@ -19,16 +19,22 @@ use std::collections::BTreeMap;
 use std::marker::Model;
 pub use union_fields::UnionIter;
 
-/// How the members of a union lie in memory. No reading of a tree looks at it.
+/// How the members of a union are stored. Readers ignore it.
 #[derive(Clone, Copy, Debug, PartialEq, Eq)]
 pub enum UnionMode {
     /// Each member has a place for every value.
     Sparse,
-    /// Each member has places for its own values alone.
+    /// Each member has places only for its own values.
     Dense,
 }
 
-/// Arrow's data types, as far as a GeoArrow layout or its readers meet them. A data type is a finite tree.
+/// Arrow's data types, as far as GeoArrow layouts and their readers need them. A data type is a finite tree.
+///
+/// ```rust
+/// let item = Field::new(alloc, "item", DataType::Float64, false)?;
+/// let list = DataType::List(Box::new(alloc, item)?);
+/// assert!(rt; matches!(&list, DataType::List(item) if item.name() == "item"));
+/// ```
 #[cycle(tree)]
 #[derive(Debug, Drop)]
 pub enum DataType {
@@ -78,7 +84,8 @@ pub enum DataType {
     List(Box<Field>),
     /// Lists of the field's values, with 64-bit offsets.
     LargeList(Box<Field>),
-    /// Lists of so many of the field's values each. The size is whatever a schema says: a stranger's may be negative.
+    /// Lists of that many of the field's values each. The size is what a schema says: in an untrusted schema it may be
+    /// negative.
     FixedSizeList(Box<Field>, i32),
     /// Values of each of the fields.
     Struct(Fields),
@@ -87,6 +94,13 @@ pub enum DataType {
 }
 
 /// A field of a schema: a name, a data type, whether values may be null, and a map of texts.
+///
+/// ```rust
+/// let field = Field::new(alloc, "id", DataType::Int64, false)?;
+/// assert_eq!(rt; field.name(), "id");
+/// assert!(rt; *field.data_type() == DataType::Int64);
+/// assert!(rt; !field.is_nullable());
+/// ```
 #[cycle(tree)]
 #[derive(Debug, Drop)]
 pub struct Field {
@@ -97,6 +111,13 @@ pub struct Field {
 }
 
 /// The fields of a struct, in order.
+///
+/// ```rust
+/// let x = Field::fixed(alloc, FixedName::X, DataType::Float64, false);
+/// let y = Field::fixed(alloc, FixedName::Y, DataType::Float64, false);
+/// let fields = Fields::from(vec![in alloc; x, y]?);
+/// assert_eq!(rt; fields.len(), 2);
+/// ```
 #[cycle(tree)]
 #[derive(Debug, Drop)]
 pub struct Fields {
@@ -105,6 +126,15 @@ pub struct Fields {
 
 /// The members of a union, in order: pairs of type id and field. Ids of a union that `try_new` or `from_members` made are
 /// 0 to 127, each once, and `retain_ids` and `append` keep them so.
+///
+/// ```rust
+/// let number = Field::new(alloc, "number", DataType::Int64, true)?;
+/// let text = Field::new(alloc, "text", DataType::Utf8, true)?;
+/// let fields = vec![in alloc; number, text]?;
+/// let members = UnionFields::try_new(alloc, vec![in alloc; 1, 2]?, fields)?;
+/// let union = DataType::Union(members, UnionMode::Dense);
+/// assert!(rt; matches!(&union, DataType::Union(members, _) if members.len() == 2));
+/// ```
 #[cycle(tree)]
 #[derive(Debug, Drop)]
 pub struct UnionFields {

@@ -9,7 +9,7 @@ ghost use Rattle.field_lines.specs.ValueOfField.{value_of_field};
 use arrow_values::Field;
 
 /// A law: the value that is written for a field has no ignored key and no empty metadata, at any depth, and stands for
-/// the field where a line can say it. There is nothing to run.
+/// the field if a line can represent it. There is nothing to run.
 #[tactic(auto, using(crate::proofs::Round::field_read))]
 pub fn written_value_is_lean(field: &Field)
     ensures lean { IsLean (value_of_field field.now) }

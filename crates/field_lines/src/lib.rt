@@ -1,13 +1,12 @@
 //! The line format: a field of Arrow as one line of JSON, and back.
 //!
 //! [`parse_line`] reads the field that a line stands for, and [`field_line`] writes the line of a field.
-//! [`parse_line_with_scratch`] reads many lines at less cost each.
+//! [`parse_line_with_scratch`] is cheaper for many lines.
 //!
-//! The format is this library's own; docs/FORMAT.md has its rules and a table of its words. What a line
-//! stands for is `specs/Line`, by the field that a JSON value stands for, `specs/FieldOfValue`, and the
-//! value of a field, `specs/ValueOfField`. By [`laws`] the latter is the one value that stands for the
-//! field and is lean, `specs/Lean`. No JSON value is made: a line is read by its tokens, and its tokens are
-//! written one after another.
+//! The format is this library's own; docs/FORMAT.md has its rules and a table of its words. `specs/Line` defines
+//! what a line stands for: the field that its JSON value stands for (`specs/FieldOfValue`). `specs/ValueOfField`
+//! is the value that is written for a field; by [`laws`] it is the only lean value (`specs/Lean`) that stands for
+//! the field. No JSON value is made: a line is read by its tokens, and written as tokens.
 #![tactic(auto)]
 
 pub mod laws;

@@ -17,9 +17,11 @@ use value_tokens::Refusal;
 /// How deep the arrays and objects of a line may nest.
 const MAX_DEPTH: usize = 127;
 
-/// The field that a line stands for, and none where it stands for no field. A line is the bytes before
-/// a line feed: it is UTF-8 and holds one JSON value, of arrays and objects nested at most 127 deep.
-/// Errs only when out of memory.
+/// The room that a line is given at first, in bytes. Most lines take no more.
+const LINE_ROOM: usize = 1024;
+
+/// The field that a line stands for, or `None` if it stands for no field. The line is the bytes before
+/// a line feed (docs/FORMAT.md, 2.1). Errs only when out of memory.
 pub fn parse_line(alloc: Global, line: &[u8]) -> Result<Option<Field>, AllocError>
     ensures field { IfOk result (λ o. o ≡ field_of_line line.now) }
     ensures form { IfOk result (λ o. IfSome o (λ f. HasLineForm f.tree)) }
@@ -28,8 +30,8 @@ pub fn parse_line(alloc: Global, line: &[u8]) -> Result<Option<Field>, AllocErro
     parse_line_with_scratch(alloc, line, &mut scratch)
 }
 
-/// The same as [`parse_line`], in a scratch that the caller keeps: many lines that are read with one scratch cost less than
-/// with a scratch each. Nothing of a line stays in it that another line could see.
+/// The same as [`parse_line`], with a scratch buffer that the caller keeps: reading many lines with one scratch costs less
+/// than with a new one for each. What is left in it of one line has no effect on the next.
 pub fn parse_line_with_scratch(
     alloc: Global,
     line: &[u8],
@@ -62,13 +64,13 @@ fn parse_text(alloc: Global, text: &str, scratch: &mut Scratch) -> Result<Option
 }
 
 /// The line of a field, without a line feed: compact JSON with its keys in the order of their bytes,
-/// no ignored key and no empty metadata. Where a line can say the field, its value is the one lean
+/// no ignored key and no empty metadata. If a line can represent the field, its value is the only lean
 /// value that stands for the field ([`laws`](crate::laws)). Errs only when out of memory.
 pub fn field_line(alloc: Global, field: &Field) -> Result<String, AllocError>
     ensures text { IfOk result (λ s. string_bytes s ≡ line_of_field field.now) }
     ensures reads_back { IfOk result (λ s. HasLineForm field.now.tree → depth (value_of_field field.now) ≤ max_depth → field_of_line (string_bytes s) ≡ Some field.now) }
 {
-    let mut out = Writer::new(Vec::with_capacity(alloc, 256)?);
+    let mut out = Writer::new(Vec::with_capacity(alloc, LINE_ROOM)?);
     print_field(field, &mut out)?;
     Ok(unsafe { String::from_utf8_unchecked(out.into_inner()) })
 }

@@ -1,10 +1,11 @@
 //! The words of the line format.
-ghost use Rattle.std.specs.Prelude.{◌≡◌, option_map};
+ghost use Rattle.std.specs.Prelude.{◌≡◌, IfSome, option_map};
+ghost use Rattle.arrow_values.specs.Name.{fixed_text};
 ghost use Rattle.arrow_values.specs.Tree.{plain};
 ghost use Rattle.arrow_values.specs.View.{tree};
 ghost use Rattle.field_lines.specs.Names.{plain_named, mode_named, type_name, mode_name};
 
-use arrow_values::{DataType, UnionMode};
+use arrow_values::{DataType, FixedName, UnionMode};
 
 /// The plain type of a word.
 pub(crate) fn plain_named(word: &str) -> Option<DataType>
@@ -88,5 +89,37 @@ pub(crate) fn mode_name(mode: UnionMode) -> &'static str
     match mode {
         UnionMode::Sparse => "sparse",
         UnionMode::Dense => "dense",
+    }
+}
+
+/// The name of that text, if it is one that nearly every layout has: of a coordinate, of a bound of a box, or of the items of
+/// a list.
+pub(crate) fn layout_name(text: &str) -> Option<FixedName>
+    ensures { IfSome result (λ name. fixed_text name ≡ text.now) }
+{
+    match text {
+        "x" => Some(FixedName::X),
+        "y" => Some(FixedName::Y),
+        "z" => Some(FixedName::Z),
+        "m" => Some(FixedName::M),
+        "xy" => Some(FixedName::Xy),
+        "xyz" => Some(FixedName::Xyz),
+        "xym" => Some(FixedName::Xym),
+        "xyzm" => Some(FixedName::Xyzm),
+        "vertices" => Some(FixedName::Vertices),
+        "rings" => Some(FixedName::Rings),
+        "points" => Some(FixedName::Points),
+        "linestrings" => Some(FixedName::Linestrings),
+        "polygons" => Some(FixedName::Polygons),
+        "geometries" => Some(FixedName::Geometries),
+        "xmin" => Some(FixedName::Xmin),
+        "ymin" => Some(FixedName::Ymin),
+        "zmin" => Some(FixedName::Zmin),
+        "mmin" => Some(FixedName::Mmin),
+        "xmax" => Some(FixedName::Xmax),
+        "ymax" => Some(FixedName::Ymax),
+        "zmax" => Some(FixedName::Zmax),
+        "mmax" => Some(FixedName::Mmax),
+        _ => None,
     }
 }

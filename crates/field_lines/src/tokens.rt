@@ -2,10 +2,11 @@
 //!
 //! Each reader takes one value whole. It answers none where the value is JSON and stands for nothing, so that a later
 //! member of the same key may still count.
-ghost use Rattle.std.specs.Prelude.{◌≡◌, ◌<◌, length, None, Err, IfOk, IfSome, IsTrue, OnOk, codes, string_bytes};
+ghost use Rattle.std.specs.Prelude.{◌≡◌, ◌<◌, length, None, Err, IfOk, IfSome, IsTrue, OnOk, codes};
 ghost use Rattle.std.specs.Option.{option_map, option_and_then};
 ghost use Rattle.std.specs.List.{zip};
 ghost use Rattle.serde_json.specs.Data.{no_members, object, array};
+ghost use Rattle.arrow_values.specs.Tree.{field_tree};
 ghost use Rattle.arrow_values.specs.View.{tree, texts_of, field_trees, member_trees};
 ghost use Rattle.arrow_values.specs.Union.{is_type_id};
 ghost use Rattle.field_lines.specs.FieldOfValue.{field_from, field_of_value, type_of_value, fields_of_value, fields_in, members_of_value, members_in};
@@ -14,15 +15,15 @@ ghost use Rattle.field_lines.specs.Keys.{only_at, fixed_size_list_at, union_at, 
 ghost use Rattle.value_tokens.specs.Next.{next_value, next_items, next_members, next_after, Reads, ReadsItems, ReadsMembers, ReadsAfter};
 
 use crate::metadata::take_texts;
-use crate::names::plain_named;
+use crate::names::{layout_name, plain_named};
 use crate::scalars::{take_id, take_mode, take_size};
 use crate::unions::make_union;
 use arrow_values::{DataType, Field, Fields};
 use json::{Reader, Token};
-use std::alloc::Global;
+use std::alloc::{AllocError, Global};
 use std::collections::BTreeMap;
 use value_tokens::{
-    Refusal, open_array, open_object, read_bool, read_text, skip_items, skip_members, skip_rest,
+    Refusal, open_array, open_object, read_bool, read_str, skip_items, skip_members, skip_rest,
     skip_value,
 };
 
@@ -47,9 +48,9 @@ pub(crate) fn take_field(
 /// The field of the members that are left of an object.
 #[cycle(take)]
 #[inline(never)]
-fn take_parts(
+fn take_parts<'a>(
     alloc: Global,
-    reader: &mut Reader<'_>,
+    reader: &mut Reader<'a>,
     depth: usize,
 ) -> Result<Option<Field>, Refusal>
     ensures ok { IfOk result (λ o. ReadsMembers (λ ms. field_of_value (object ms)) depth no_members reader.old o reader.new) }
@@ -62,27 +63,53 @@ fn take_parts(
     let mut metadata = Some(BTreeMap::new(alloc));
     'parts: while let Some(key) = reader.next_key()? {
         match key {
-            "name" => name = read_text(alloc, reader, depth)?,
+            "name" => name = read_str(reader, depth)?,
             "nullable" => nullable = read_bool(reader, depth)?,
             "type" => data_type = take_type(alloc, reader, depth)?,
             "metadata" => metadata = take_texts(alloc, reader, depth)?,
             _ => skip_value(reader, depth)?,
         }
     }
-    Ok(field_of(name, nullable, data_type, metadata))
+    Ok(field_of(alloc, name, nullable, data_type, metadata)?)
 }
 
 /// The field of these parts, where each is there.
 #[inline(always)]
 fn field_of(
-    name: Option<String>,
+    alloc: Global,
+    name: Option<&str>,
     nullable: Option<bool>,
     data_type: Option<DataType>,
     metadata: Option<BTreeMap<String, String>>,
-) -> Option<Field>
-    ensures { result ≡ field_from (option_map string_bytes name) nullable (option_map tree data_type) (option_map (λ m. texts_of m.entries) metadata) }
+) -> Result<Option<Field>, AllocError>
+    ensures { IfOk result (λ o. o ≡ field_from (option_map (λ n. n.now) name.entry) nullable (option_map tree data_type) (option_map (λ m. texts_of m.entries) metadata)) }
 {
-    Some(Field::from_parts(name?, data_type?, nullable?, metadata?))
+    match (name, nullable, data_type, metadata) {
+        (Some(name), Some(nullable), Some(data_type), Some(metadata)) => {
+            Ok(Some(named_field(alloc, name, nullable, data_type, metadata)?))
+        }
+        _ => Ok(None),
+    }
+}
+
+/// The field of that name. A name that layouts have takes no memory.
+#[inline(always)]
+fn named_field(
+    alloc: Global,
+    name: &str,
+    nullable: bool,
+    data_type: DataType,
+    metadata: BTreeMap<String, String>,
+) -> Result<Field, AllocError>
+    ensures { IfOk result (λ f. f ≡ field_tree name.now (tree data_type) nullable (texts_of metadata.entries)) }
+{
+    match layout_name(name) {
+        Some(name) => { Ok(Field::fixed(alloc, name, data_type, nullable).with_metadata(metadata)) }
+        None => {
+            let name = String::from_str(alloc, name)?;
+            Ok(Field::from_parts(name, data_type, nullable, metadata))
+        }
+    }
 }
 
 /// The type that comes next.

@@ -7,13 +7,13 @@ use std::env;
 use std::io::{BufWriter, ErrorKind, Write};
 use std::process::ExitCode;
 
-/// What is written where the arguments are not one word that names a command.
+/// What is written if the arguments are not exactly one word that names a command.
 const USAGE: &[u8] = b"usage: geoarrow_fields read|infer|canon|columns\n";
 
-/// So many bytes of answers are written at once.
+/// The size of the write buffer, in bytes.
 const BUFFER_BYTES: usize = 65_536;
 
-/// The words after the program's name; no words where one is no text.
+/// The words after the program's name; no words if one of them is not UTF-8.
 fn words_of(rt: &HostRuntime) -> Result<Vec<String>, AllocError> {
     let mut found = Vec::new(rt.alloc());
     match env::args(rt) {
@@ -28,7 +28,7 @@ fn words_of(rt: &HostRuntime) -> Result<Vec<String>, AllocError> {
     Ok(found)
 }
 
-/// Serves the command that the arguments name, if any, on standard input and output, and says how it ended.
+/// Serves the command that the arguments name, if any, on standard input and output, and returns how it ended.
 fn end_of(rt: &HostRuntime) -> Result<Option<RunEnd>, AllocError> {
     let words = words_of(rt)?;
     let mut reader = rt.stdin();

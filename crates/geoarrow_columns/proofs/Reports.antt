@@ -8,8 +8,8 @@ use Rattle.geoarrow_layout.specs.Kinds.{extension_of}
 use Rattle.geoarrow_native.specs.Column.{ReadsAs}
 use Rattle.geoarrow_schema.specs.declared.types.GeoArrowType.{GeoArrowType}
 use Rattle.geoarrow_schema.specs.Types.{kind_of}
-use Rattle.geoarrow_schema.specs.Reads.{HasGeoArrowName, Reads, IsRefusedBy}
-use Rattle.geoarrow_schema.specs.Infers.{InfersAs, Infers, ReadsOrInfers, InfersNone, UninferredAs, IsInferenceRefusal}
+use Rattle.geoarrow_schema.specs.Reads.{HasGeoArrowName, IsRefusedBy}
+use Rattle.geoarrow_schema.specs.Infers.{Infers, ReadsOrInfers, InfersNone, UninferredAs, IsInferenceRefusal}
 use Rattle.geoarrow_columns.specs.declared.check.ColumnFault.{ColumnFault}
 use Rattle.geoarrow_columns.specs.declared.check.ColumnFault.TheVariants.{Arrow, InvalidGeoArrow}
 use Rattle.geoarrow_columns.specs.declared.check.Column.{Column}
@@ -39,12 +39,6 @@ unfolding ReadsAs
 taken_for f g unnamed (inl reads) = absurd (unnamed (extension_of (kind_of g), reads.0.0))
 taken_for f g unnamed (inr infers) = infers
 
--- and one that a field with a GeoArrow name is read as or taken for is one that it is read as
-pub read_as : (f : FieldTree) (g : GeoArrowType) → HasGeoArrowName f → ReadsOrInfers f g → Reads f g
-unfolding InfersAs
-read_as f g named (inl reads) = reads
-read_as f g named (inr infers) = absurd (infers.0 named)
-
 -- how a field without a GeoArrow name is refused, out-of-memory aside
 uninferred : (f : FieldTree) (e : GeoArrowError) → ¬ IsGeoMemory e → ¬ HasGeoArrowName f → IsInferenceRefusal f e → InfersNone f × UninferredAs f e
 uninferred f e rich unnamed (inl memory) = absurd (rich memory)
@@ -56,22 +50,11 @@ other f (Invalid s) rich unnamed how is = let refused = uninferred f (Invalid s)
 other f (OfArrow a) rich unnamed how is = absurd cc
 other f e rich unnamed how is = absurd (uninferred f e rich unnamed how).1
 
-unread : (f : FieldTree) (e : GeoArrowError) → ¬ IsGeoMemory e → ¬ HasGeoArrowName f → IsInferenceRefusal f e → IsFaultOf e Arrow → IsUnread f
+pub unread : (f : FieldTree) (e : GeoArrowError) → ¬ IsGeoMemory e → ¬ HasGeoArrowName f → IsInferenceRefusal f e → IsFaultOf e Arrow → IsUnread f
 unread f (Invalid s) rich unnamed how is = absurd cc
 unread f (OfArrow a) rich unnamed how is = (unnamed, (uninferred f (OfArrow a) rich unnamed how).1.0)
 unread f e rich unnamed how is = absurd (uninferred f e rich unnamed how).1
 
--- how a field with a GeoArrow name is refused
-named_refused : (f : FieldTree) (e : GeoArrowError) → HasGeoArrowName f → IsInferenceRefusal f e → IsRefusedBy f e
-named_refused f e named (inl memory) = (named, inl memory)
-named_refused f e named (inr (read, none, inl refused)) = (named, inr (read, refused.1))
-named_refused f e named (inr (read, none, inr refused)) = absurd (refused.0 named)
-
-pub named_faulty : (f : FieldTree) (e : GeoArrowError) (fault : ColumnFault) → ¬ IsGeoMemory e → IsFaultOf e fault → HasGeoArrowName f → IsInferenceRefusal f e → IsColumnOf f (Faulty fault)
-named_faulty f e fault rich is named how = faulty f fault (refused_for f e fault rich is (named_refused f e named how))
-
--- a field that is refused as `Arrow` has a GeoArrow name or none
-pub arrow_faulty : (f : FieldTree) (e : GeoArrowError) → ¬ IsGeoMemory e → IsFaultOf e Arrow → IsInferenceRefusal f e → IsColumnOf f (Faulty Arrow)
-arrow_faulty f e rich is (inl memory) = absurd (rich memory)
-arrow_faulty f e rich is (inr (read, none, inl refused)) = named_faulty f e Arrow rich is refused.0 (inr (read, none, inl refused))
-arrow_faulty f e rich is (inr (read, none, inr refused)) = inr (unread f e rich refused.0 (inr (read, none, inr refused)) is)
+-- a field that is refused under a GeoArrow name is a column of the fault of its error
+pub named_faulty : (f : FieldTree) (e : GeoArrowError) (fault : ColumnFault) → ¬ IsGeoMemory e → IsFaultOf e fault → IsRefusedBy f e → IsColumnOf f (Faulty fault)
+named_faulty f e fault rich is refused = faulty f fault (refused_for f e fault rich is refused)

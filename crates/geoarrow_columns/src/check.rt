@@ -1,12 +1,11 @@
 //! What the columns of a schema hold.
-ghost use Rattle.std.specs.Prelude.{IfOk, IfErr, MatchBool};
+ghost use Rattle.std.specs.Prelude.{IfOk, IfErr};
 ghost use Rattle.arrow_values.specs.Errors.{IsGeoMemory};
-ghost use Rattle.geoarrow_schema.specs.Reads.{HasGeoArrowName};
-ghost use Rattle.geoarrow_schema.specs.Infers.{ReadsOrInfers, IsInference, IsInferenceRefusal};
+ghost use Rattle.geoarrow_schema.specs.Reads.{HasGeoArrowName, IsRefusedBy};
+ghost use Rattle.geoarrow_schema.specs.Infers.{IsInference};
 ghost use Rattle.geoarrow_columns.specs.Report.{IsColumnOf, IsReport, IsFaultOf};
 
 use arrow_values::{ArrowError, Field, GeoArrowError, GeoArrowResult};
-use geoarrow_layout::ExtensionName;
 use geoarrow_schema::GeoArrowType;
 use json::Scratch;
 use std::alloc::{AllocError, Global};
@@ -16,26 +15,33 @@ use std::alloc::{AllocError, Global};
 pub enum Column {
     /// Geometries: a GeoArrow type is read from the field.
     Geometry(GeoArrowType),
-    /// No GeoArrow name stands on the field, and its data type is taken for that of this type.
+    /// The field has no GeoArrow name, and this type is inferred from its data type.
     Inferred(GeoArrowType),
-    /// No GeoArrow name stands on the field, and its data type is taken for none.
+    /// The field has no GeoArrow name, and no type is inferred from its data type.
     Other,
     /// The field is refused.
     Faulty(ColumnFault),
 }
 
-/// Why a column is refused: the variant of `GeoArrowError` that its field is refused by.
+/// Why a column is refused: the variant of `GeoArrowError` with which its field is refused.
 #[derive(Debug, Clone, Copy, PartialEq, Eq)]
 pub enum ColumnFault {
-    /// The data type or the metadata text is not one of the name that stands on the field; or there is no GeoArrow name and
+    /// The data type or the metadata text does not match the field's GeoArrow name; or the field has no GeoArrow name and
     /// the metadata text is malformed.
     Arrow,
-    /// The data type is none of those of well-known binary or text, whose name stands on the field.
+    /// The field has the name of well-known binary or text, and its data type is none of those of that name.
     InvalidGeoArrow,
 }
 
-/// What each column of a schema holds: one entry for each field, in order, and each of its own field alone, so that a
+/// What each column of a schema holds: one entry for each field, in order, which depends only on its own field, so that a
 /// faulty column never hides the next. Errs only when out of memory.
+///
+/// ```rust
+/// let id = Field::new(alloc, "id", DataType::Int64, false)?;
+/// let geometry = GeoArrowType::Wkb(WkbType::try_default(alloc)?).to_field(alloc, "geom", true)?;
+/// let columns = check_columns(alloc, &[id, geometry])?;
+/// assert!(rt; matches!(columns.as_slice(), [Column::Other, Column::Geometry(_)]));
+/// ```
 pub fn check_columns(alloc: Global, fields: &[Field]) -> Result<Vec<Column>, AllocError>
     ensures { IfOk result (λ columns. IsReport fields.now columns.items) }
 {
@@ -50,11 +56,15 @@ pub fn check_columns(alloc: Global, fields: &[Field]) -> Result<Vec<Column>, All
 pub fn check_column(alloc: Global, field: &Field) -> Result<Column, AllocError>
     ensures { IfOk result (IsColumnOf field.now) }
 {
-    column_of(field, GeoArrowType::from_arrow_field(alloc, field))
+    match GeoArrowType::from_extension_field(alloc, field) {
+        Ok(Some(found)) => Ok(Column::Geometry(found)),
+        Ok(None) => column_unnamed(field, GeoArrowType::from_arrow_field(alloc, field)),
+        Err(error) => column_refused(field, &error),
+    }
 }
 
-/// The same as `check_column`, in a scratch that the caller keeps: many columns that are checked with one scratch cost less
-/// than with a scratch each. Nothing of a column stays in it that another column could see.
+/// The same as `check_column`, with a scratch buffer that the caller keeps: checking many columns with one scratch
+/// costs less than with a new one for each. What is left in it of one column has no effect on the next.
 pub fn check_column_with_scratch(
     alloc: Global,
     field: &Field,
@@ -62,53 +72,39 @@ pub fn check_column_with_scratch(
 ) -> Result<Column, AllocError>
     ensures { IfOk result (IsColumnOf field.now) }
 {
-    let read = GeoArrowType::from_arrow_field_with_scratch(alloc, field, scratch);
-    column_of(field, read)
-}
-
-/// What a column holds that is read as a type, taken for one, or refused.
-fn column_of(field: &Field, read: GeoArrowResult<GeoArrowType>) -> Result<Column, AllocError>
-    requires { IsInference field.now read }
-    ensures { IfOk result (IsColumnOf field.now) }
-{
-    match read {
-        Ok(found) => Ok(column_found(field, found)),
+    match GeoArrowType::from_extension_field_with_scratch(alloc, field, scratch) {
+        Ok(Some(found)) => Ok(Column::Geometry(found)),
+        Ok(None) => {
+            let taken = GeoArrowType::from_arrow_field_with_scratch(alloc, field, scratch);
+            column_unnamed(field, taken)
+        }
         Err(error) => column_refused(field, &error),
     }
 }
 
-/// What a column holds that is read as a type or taken for one.
-#[tactic(auto, using(crate::proofs::Reports::read_as, crate::proofs::Reports::taken_for))]
-fn column_found(field: &Field, found: GeoArrowType) -> Column
-    requires { ReadsOrInfers field.now found }
-    ensures { IsColumnOf field.now result }
-{
-    if has_geoarrow_name(field) {
-        Column::Geometry(found)
-    } else {
-        Column::Inferred(found)
-    }
-}
-
-/// What a column holds that is refused by an error.
-fn column_refused(field: &Field, error: &GeoArrowError) -> Result<Column, AllocError>
-    requires { IsInferenceRefusal field.now error.now }
+/// What a column holds on whose field no GeoArrow name stands, and which is taken for a type or refused.
+#[tactic(auto, using(crate::proofs::Reports::taken_for, crate::proofs::Reports::other, crate::proofs::Reports::unread))]
+fn column_unnamed(field: &Field, taken: GeoArrowResult<GeoArrowType>) -> Result<Column, AllocError>
+    requires unnamed { ¬ HasGeoArrowName field.now }
+    requires inference { IsInference field.now taken }
     ensures { IfOk result (IsColumnOf field.now) }
 {
-    match ColumnFault::of_error(error)? {
-        ColumnFault::InvalidGeoArrow if !has_geoarrow_name(field) => Ok(Column::Other),
-        fault => Ok(Column::Faulty(fault)),
+    match taken {
+        Ok(found) => Ok(Column::Inferred(found)),
+        Err(error) => match ColumnFault::of_error(&error)? {
+            ColumnFault::InvalidGeoArrow => Ok(Column::Other),
+            ColumnFault::Arrow => Ok(Column::Faulty(ColumnFault::Arrow)),
+        },
     }
 }
 
-/// Whether one of GeoArrow's names stands on a field.
-fn has_geoarrow_name(field: &Field) -> bool
-    ensures { MatchBool result (HasGeoArrowName field.now) (¬ HasGeoArrowName field.now) }
+/// What a column holds that is refused by an error under the GeoArrow name that stands on its field.
+#[tactic(auto, using(crate::proofs::Reports::named_faulty))]
+fn column_refused(field: &Field, error: &GeoArrowError) -> Result<Column, AllocError>
+    requires { IsRefusedBy field.now error.now }
+    ensures { IfOk result (IsColumnOf field.now) }
 {
-    match field.extension_type_name() {
-        None => false,
-        Some(text) => matches!(ExtensionName::from_text(text), Some(_name)),
-    }
+    Ok(Column::Faulty(ColumnFault::of_error(error)?))
 }
 
 impl ColumnFault {

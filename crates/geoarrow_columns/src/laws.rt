@@ -1,11 +1,11 @@
-//! Laws of `==`: it answers true for two values exactly where they are the same.
+//! Laws of `==`: it returns true for two values exactly if they are the same.
 ghost use Rattle.std.specs.Prelude.{◌≡◌, ◌↔◌, IsTrue};
 ghost use Rattle.geoarrow_columns.specs.Same.{SameColumn};
 
 use crate::check::{Column, ColumnFault};
 use geoarrow_meta::laws::equality_test_is_exact;
 
-/// A law: `==` answers true for two columns exactly where the variant is the same, and its type, by kind and metadata,
+/// A law: `==` returns true for two columns exactly if the variant is the same, and its type, by kind and metadata,
 /// or its fault.
 pub fn equality_is_exact(one: &Column, other: &Column) -> bool
     ensures { IsTrue result ↔ SameColumn one.now other.now }
@@ -14,7 +14,7 @@ pub fn equality_is_exact(one: &Column, other: &Column) -> bool
     *one == *other
 }
 
-/// A law: `==` answers true for two faults of a column exactly where they are the same.
+/// A law: `==` returns true for two faults of a column exactly if they are the same.
 pub fn fault_equality_is_exact(one: ColumnFault, other: ColumnFault) -> bool
     ensures { IsTrue result ↔ (one ≡ other) }
 {

@@ -5,3 +5,5 @@ pub mod Grows
 pub mod Steps
 pub mod Ways
 pub mod Runs
+mod Texts
+mod NormalForm

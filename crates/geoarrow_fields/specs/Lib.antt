@@ -4,3 +4,4 @@ pub mod Answer
 pub mod Output
 pub mod Progress
 pub mod Arguments
+pub mod Rewritten

@@ -4,6 +4,7 @@ ghost use Rattle.geoarrow_schema.specs.Reads.{IsRefusedBy};
 ghost use Rattle.geoarrow_fields.specs.Answer.{Answers, AnswersField, AnswersRefused};
 
 use crate::Command;
+use crate::canonical::canonical_field;
 use crate::words::{column_text, error_text, inferred_text, type_text};
 use arrow_values::{Field, GeoArrowError};
 use field_lines::{field_line, parse_line_with_scratch};
@@ -12,8 +13,8 @@ use geoarrow_schema::GeoArrowType;
 use json::Scratch;
 use std::alloc::{AllocError, Global};
 
-/// The answer to one line under a command, without a line feed: what the command says of the field that the line stands
-/// for, or `error field` where it stands for none. Errs only when out of memory.
+/// The answer to one line under a command, without a line feed: what the command says about the field that the line
+/// stands for, or `error field` if it stands for none (docs/FORMAT.md, 2.2). Errs only when out of memory.
 pub fn answer_line(alloc: Global, command: Command, line: &[u8]) -> Result<String, AllocError>
     ensures { IfOk result (λ answer. Answers command line.now (string_bytes answer)) }
 {
@@ -21,7 +22,7 @@ pub fn answer_line(alloc: Global, command: Command, line: &[u8]) -> Result<Strin
     answer_line_with_scratch(alloc, command, line, &mut scratch)
 }
 
-/// The same as [`answer_line`], in a scratch that is kept from line to line.
+/// The same as [`answer_line`], with a scratch buffer that is kept from line to line.
 #[tactic(auto, unfolding(crate::specs::Answer::Answers))]
 pub(crate) fn answer_line_with_scratch(
     alloc: Global,
@@ -32,7 +33,7 @@ pub(crate) fn answer_line_with_scratch(
     ensures { IfOk result (λ answer. Answers command line.now (string_bytes answer)) }
 {
     match parse_line_with_scratch(alloc, line, scratch)? {
-        Some(field) => answer_field(alloc, command, &field, scratch),
+        Some(field) => answer_field(alloc, command, field, scratch),
         None => String::from_str(alloc, "error field"),
     }
 }
@@ -41,16 +42,16 @@ pub(crate) fn answer_line_with_scratch(
 fn answer_field(
     alloc: Global,
     command: Command,
-    field: &Field,
+    field: Field,
     scratch: &mut Scratch,
 ) -> Result<String, AllocError>
-    ensures { IfOk result (λ answer. AnswersField command field.now (string_bytes answer)) }
+    ensures { IfOk result (λ answer. AnswersField command field (string_bytes answer)) }
 {
     match command {
-        Command::Read => answer_read(alloc, field, scratch),
-        Command::Infer => answer_infer(alloc, field, scratch),
+        Command::Read => answer_read(alloc, &field, scratch),
+        Command::Infer => answer_infer(alloc, &field, scratch),
         Command::Canon => answer_canon(alloc, field, scratch),
-        Command::Columns => answer_columns(alloc, field, scratch),
+        Command::Columns => answer_columns(alloc, &field, scratch),
     }
 }
 
@@ -65,7 +66,7 @@ fn answer_read(alloc: Global, field: &Field, scratch: &mut Scratch) -> Result<St
     }
 }
 
-/// The type that the field is read as or taken for.
+/// The type that the field is read as, or that is inferred.
 fn answer_infer(alloc: Global, field: &Field, scratch: &mut Scratch) -> Result<String, AllocError>
     ensures { IfOk result (λ answer. AnswersField Command.Infer field.now (string_bytes answer)) }
 {
@@ -74,13 +75,16 @@ fn answer_infer(alloc: Global, field: &Field, scratch: &mut Scratch) -> Result<S
 }
 
 /// The line of the field in normal form.
-fn answer_canon(alloc: Global, field: &Field, scratch: &mut Scratch) -> Result<String, AllocError>
-    ensures { IfOk result (λ answer. AnswersField Command.Canon field.now (string_bytes answer)) }
+fn answer_canon(alloc: Global, field: Field, scratch: &mut Scratch) -> Result<String, AllocError>
+    ensures { IfOk result (λ answer. AnswersField Command.Canon field (string_bytes answer)) }
 {
-    match GeoArrowType::canonical_field_with_scratch(alloc, field, scratch) {
-        Ok(Some(canonical)) => field_line(alloc, &canonical),
+    match GeoArrowType::from_extension_field_with_scratch(alloc, &field, scratch) {
+        Ok(Some(found)) => {
+            let canonical = canonical_field(alloc, field, &found)?;
+            field_line(alloc, &canonical)
+        }
         Ok(None) => String::from_str(alloc, "none"),
-        Err(error) => answer_refused(alloc, field, &error),
+        Err(error) => answer_refused(alloc, &field, &error),
     }
 }
 

@@ -9,7 +9,7 @@ use crate::{Command, RunEnd};
 use std::alloc::Global;
 use std::io::{Read, Write};
 
-/// The command that a word names, or none.
+/// The command that a word names, or `None`.
 fn command_named(word: &str) -> Option<Command>
     ensures { (c : Command) → (result ≡ Some c) ↔ (word.now ≡ word_of c) }
 {
@@ -22,7 +22,7 @@ fn command_named(word: &str) -> Option<Command>
     }
 }
 
-/// The command that the words name: one word, and no more.
+/// The command that the words name: there must be exactly one word.
 pub fn command_of(words: &[String]) -> Option<Command>
     ensures { (c : Command) → (result ≡ Some c) ↔ Name (map string_bytes words.now) c }
 {
@@ -32,8 +32,8 @@ pub fn command_of(words: &[String]) -> Option<Command>
     }
 }
 
-/// Runs the command that the words name over a reader and a writer, and says how it ended; none, and nothing is read or
-/// written, where they name none.
+/// Runs the command that the words name over a reader and a writer, and returns how it ended. Returns `None`, and reads and
+/// writes nothing, if they name none.
 pub fn serve<R: Read, W: Write>(
     alloc: Global,
     words: &[String],
@@ -52,7 +52,7 @@ pub fn serve<R: Read, W: Write>(
     }
 }
 
-/// The status that the program ends with: 0 where all is done, 2 where the words name no command, 1 at each other end.
+/// The exit status of the program: 0 if all is done, 2 if the words name no command, 1 for any other end.
 pub fn status_of(end: Option<RunEnd>) -> u8
     ensures done { (result ≡ 0) ↔ (end ≡ Some RunEnd.Done) }
     ensures usage { (result ≡ 2) ↔ (end ≡ None) }

@@ -3,6 +3,7 @@
 
 mod answer;
 mod arguments;
+mod canonical;
 pub mod equality_laws;
 mod lines;
 mod output;
@@ -19,7 +20,7 @@ pub use reading::run;
 pub enum Command {
     /// Which GeoArrow type the field is read as.
     Read,
-    /// Which type it is read as, or taken for where no GeoArrow name stands on it.
+    /// Which type it is read as, or which is inferred if it has no GeoArrow name.
     Infer,
     /// The field in normal form, as GeoArrow writes it.
     Canon,
@@ -30,12 +31,12 @@ pub enum Command {
 /// How a run ended.
 #[derive(Debug, Clone, Copy, PartialEq, Eq)]
 pub enum RunEnd {
-    /// The input came to its end, and each of its lines is answered.
+    /// The end of the input was reached, and each line is answered.
     Done,
-    /// The input is past a limit, or the reader failed. The last line of the output is `error input`.
+    /// The input exceeds a limit, or the reader failed. The last line of the output is `error input`.
     InputFault,
     /// Out of memory. The last line of the output is `error memory`.
     Memory,
-    /// The writer failed, or took nothing. Nothing more was written.
+    /// The writer failed, or accepted no bytes. Nothing more was written.
     OutputFault,
 }

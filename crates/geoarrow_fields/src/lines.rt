@@ -12,14 +12,14 @@ use memchr::memchr;
 use std::alloc::Global;
 use std::io::Write;
 
-/// At most so many lines are answered.
+/// The greatest number of lines that are answered.
 const MAX_LINES: usize = 1_000_000;
 
-/// At most so many bytes stand in a line, its line feed not among them.
+/// The greatest number of bytes in a line, not counting its line feed.
 const MAX_LINE_BYTES: usize = 1_048_576;
 
-/// A law: lines that are put together, each with its line feed, and a rest with none after them are an input of just
-/// these lines and the rest, unless that is empty; and every input is put together so. There is nothing to run.
+/// A law: lines that are joined, each with its line feed, and followed by a rest without one, are an input of exactly
+/// these lines and, unless it is empty, the rest; every input has this form. There is nothing to run.
 pub fn splits_at_line_feeds()
     ensures ended { (lines : List Bytes) → All IsLine lines → lines_of (ended_lines lines) ≡ lines }
     ensures last { (lines : List Bytes) (rest : Bytes) → All IsLine lines → IsLine rest → 0 < length rest
@@ -27,14 +27,14 @@ pub fn splits_at_line_feeds()
     ensures every { (input : Bytes) → (lines : List Bytes) × (rest : Bytes) × IsSplit input lines rest × IsLine rest }
 {}
 
-/// A law: the lines of an input are within the limits, or some first of them are and what comes after those is past a
-/// limit, and not both. There is nothing to run.
+/// A law: either all lines of an input are within the limits, or the first ones are and what comes after them exceeds a
+/// limit; never both. There is nothing to run.
 pub fn keeps_limits_or_passes_one()
     ensures either { (input : Bytes) → IsWithinLimits (lines_of input) ⊎ PassesLimit input }
     ensures never_both { (input : Bytes) → IsWithinLimits (lines_of input) → ¬ PassesLimit input }
 {}
 
-/// Whether a line of `begun` and `more` bytes is past a limit, after `count` lines.
+/// Whether a line of `begun` and `more` bytes exceeds a limit, after `count` lines.
 fn is_past_limit(count: usize, begun: usize, more: usize) -> bool
     requires few { count ≤ max_lines }
     requires short { begun ≤ max_line_bytes }
@@ -44,7 +44,7 @@ fn is_past_limit(count: usize, begun: usize, more: usize) -> bool
     count == MAX_LINES || more > MAX_LINE_BYTES - begun
 }
 
-/// Answers the line that `begun` and `end` are together, and clears `begun`.
+/// Answers the line that consists of `begun` and `end`, and clears `begun`.
 pub(crate) fn end_line<W: Write>(
     alloc: Global,
     command: Command,
@@ -72,8 +72,8 @@ pub(crate) fn end_line<W: Write>(
     Ok(())
 }
 
-/// Answers the lines that end in `chunk`, the first of which goes on from `begun`, and leaves in `begun` what comes
-/// after them. Returns how many lines are answered, counted on from `count`.
+/// Answers the lines that end in `chunk`, where the first one continues `begun`, and leaves in `begun` what comes
+/// after them. Returns how many lines have been answered, `count` included.
 pub(crate) fn answer_chunk<W: Write>(
     alloc: Global,
     command: Command,

@@ -12,11 +12,11 @@ use std::io::Write;
 /// Why a run ends before the end of its input.
 #[derive(Debug, Clone, Copy, PartialEq, Eq)]
 pub(crate) enum Fault {
-    /// The input is past a limit, or the reader failed.
+    /// The input exceeds a limit, or the reader failed.
     Input,
     /// Out of memory.
     Memory,
-    /// The writer failed, or took nothing.
+    /// The writer failed, or accepted no bytes.
     Output,
 }
 
@@ -30,7 +30,7 @@ impl From<AllocError> for Fault {
     }
 }
 
-/// Writes all of a text, or ends as a fault of the output.
+/// Writes all of a text, or returns a fault of the output.
 fn write_whole<W: Write>(writer: &mut W, text: &[u8]) -> Result<(), Fault>
     ensures ok { OnOk result (Appends (W.contents writer.old) (W.contents writer.new) text.now) }
     ensures err { IfErr result (λ fault. fault ≡ Fault.Output) }
@@ -68,7 +68,7 @@ pub(crate) fn write_answer<W: Write>(
     write_whole(writer, b"\n")
 }
 
-/// Writes the last line of an end, and ends so unless the writer fails.
+/// Writes the last line of an end, and returns that end unless the writer fails.
 pub(crate) fn finish<W: Write>(writer: &mut W, last: &[u8], end: RunEnd) -> RunEnd
     ensures end { result ≢ RunEnd.OutputFault → result ≡ end }
     ensures written { result ≢ RunEnd.OutputFault

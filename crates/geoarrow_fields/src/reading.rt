@@ -10,17 +10,17 @@ use json::Scratch;
 use std::alloc::{AllocError, Global};
 use std::io::{Read, Write};
 
-/// So many bytes are asked of the reader at once.
+/// The size of the read buffer, in bytes.
 const CHUNK_BYTES: usize = 65_536;
 
-/// A chunk of so many bytes.
+/// A chunk of that many bytes.
 fn zeros(alloc: Global, len: usize) -> Result<Vec<u8>, AllocError>
     ensures { IfOk result (λ chunk. vec_len chunk ≡ len) }
 {
     vec![in alloc; 0u8; len]
 }
 
-/// Reads once into the front of a slice, or ends as a fault of the input.
+/// Reads once into the front of a slice, or returns a fault of the input.
 fn read_front<R: Read>(reader: &mut R, chunk: &mut [u8]) -> Result<usize, Fault>
     requires { 0 < length chunk.old }
     ensures bound { IfOk result (λ n. n ≤ length chunk.new) }
@@ -35,7 +35,7 @@ fn read_front<R: Read>(reader: &mut R, chunk: &mut [u8]) -> Result<usize, Fault>
     }
 }
 
-/// Reads once into the front of a chunk, which keeps its length, or ends as a fault of the input.
+/// Reads once into the front of a chunk, which keeps its length, or returns a fault of the input.
 fn read_chunk<R: Read>(reader: &mut R, chunk: &mut Vec<u8>) -> Result<usize, Fault>
     requires { 0 < vec_len chunk.old }
     ensures len { vec_len chunk.new ≡ vec_len chunk.old }
@@ -48,7 +48,7 @@ fn read_chunk<R: Read>(reader: &mut R, chunk: &mut Vec<u8>) -> Result<usize, Fau
     read_front(reader, chunk.as_mut_slice())
 }
 
-/// Answers the lines that the reader gives, up to its end.
+/// Answers the lines of the reader, up to its end.
 fn answer_lines<R: Read, W: Write>(
     alloc: Global,
     command: Command,
@@ -89,13 +89,13 @@ fn answer_lines<R: Read, W: Write>(
     }
 }
 
-/// Reads lines, each up to a line feed or the end, and writes the answer to each with a line feed after it. Answers how
-/// it ended: `Done` at the reader's end.
+/// Reads lines, each up to a line feed or the end, and writes the answer to each with a line feed after it. Returns how
+/// the run ended: `Done` at the reader's end.
 ///
-/// `InputFault` comes at a fault of the reader of any kind, at a byte after the line feed of line 1,000,000, and at more
-/// than 1,048,576 bytes before a line feed or the end; `Memory` when out of memory. The line that is not finished
-/// then has no answer: in its place stands `error input` or `error memory`, and the answers before it stay.
-/// `OutputFault` comes at a fault of the writer of any kind, or a write that takes nothing; nothing more is written.
+/// `InputFault` is returned for any error of the reader, and for an input that exceeds a limit (docs/FORMAT.md, 2.3);
+/// `Memory` when out of memory. The line that is not finished then has no answer: `error input` or `error memory` is
+/// written instead, and the answers before it stay. `OutputFault` is returned for any error of the writer, or if it
+/// accepts no bytes; nothing more is written.
 pub fn run<R: Read, W: Write>(
     alloc: Global,
     command: Command,

@@ -7,10 +7,10 @@ use geoarrow_columns::{Column, ColumnFault};
 use geoarrow_schema::{CoordType, Dimension, GeoArrowType, Kind, Metadata, NativeKind, Width};
 use std::alloc::{AllocError, Global};
 
-/// The room for the words of a type and what stands before them, its metadata aside.
+/// The capacity for the words of a type and what comes before them, without its metadata.
 const WORDS_ROOM: usize = 48;
 
-/// A type, behind a text: kind, coordinate type, dimension and metadata.
+/// A type, after a text: kind, coordinate type, dimension and metadata.
 fn type_behind(alloc: Global, before: &str, found: &GeoArrowType) -> Result<String, AllocError>
     ensures { IfOk result (λ text. string_bytes text ≡ before.now ++ type_text found.now) }
 {

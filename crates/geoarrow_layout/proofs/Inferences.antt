@@ -1,6 +1,7 @@
 -- Points that trees are taken for.
-use Rattle.std.proofs.Common.{◌≡◌, ◌≢◌, ◌↔◌, ◌<◌, ◌⊎◌, inl, inr, ℕ, ℤ, pos, refl, sym, ◌∙◌, arith, Bool, true, false, ◌&&◌, Option, Some, None, List, [], ◌∷◌, length}
-use Rattle.arrow_values.specs.Tree.{Text, Tree, plain, list, large_list, fixed_size_list, struct, union}
+use Rattle.std.proofs.Common.{◌≡◌, ◌≢◌, ◌↔◌, ◌<◌, ◌⊎◌, inl, inr, ℕ, ℤ, pos, refl, sym, ap, ◌∙◌, arith, Bool, true, false, ◌&&◌, Option, Some, None, List, [], ◌∷◌, length}
+use Rattle.std.proofs.lemmas.Option.{same_Some}
+use Rattle.arrow_values.specs.Tree.{Text, Tree, plain, list, large_list, fixed_size_list, struct, union, FieldTrees}
 use Rattle.geoarrow_layout.specs.declared.kinds.CoordType.{CoordType}
 use Rattle.geoarrow_layout.specs.declared.kinds.CoordType.TheVariants.{Interleaved, Separated}
 use Rattle.geoarrow_layout.specs.declared.kinds.Dimension.{Dimension}
@@ -10,7 +11,7 @@ use Rattle.geoarrow_layout.specs.declared.summary.Bottom.TheVariants.{FixedSizeL
 use Rattle.geoarrow_layout.specs.declared.summary.Summary.{Summary}
 use Rattle.geoarrow_layout.specs.Kinds.{size_of, interleaved_name}
 use Rattle.geoarrow_layout.specs.Shapes.{names_of, SameNames, IsSeparatedAs, Leaf}
-use Rattle.geoarrow_layout.specs.Summary.{IsBits, SomeAt, IsBottom, IsUnion, Summarizes}
+use Rattle.geoarrow_layout.specs.Summary.{IsBits, SomeAt, are_float64, IsBottom, IsUnion, Summarizes}
 use Rattle.geoarrow_layout.specs.Inferred.{AnswersSome, Inferred, IsInferredAs, IsInferredSize, measured_names}
 use Rattle.geoarrow_layout.specs.Steps.{has_bit, is_measured, NamesSay, SizeSays}
 use Rattle.geoarrow_layout.specs.OneShape.{apart, separated_same}
@@ -136,6 +137,33 @@ names_inferred w count names floats o r (large_list nm t b m) k all says pairs =
 names_inferred w count names floats o r (fixed_size_list nm t b m z) k all says pairs = absurd k
 names_inferred w count names floats o r (union ms mode) k all says pairs = absurd k
 
+-- two fields, whatever their names are
+abbrev pair : CoordType → Dimension → CoordType × Dimension
+pair c d = (c, d)
+
+none_apart : (r : PairOption) (c : CoordType) (d : Dimension) → r ≡ no_pair → r ≡ some_pair c d → ⊥
+none_apart r c d is e = let bad : no_pair ≡ some_pair c d = sym is ∙ e in cc
+
+pub no_floats_inferred : (r : PairOption) (fs : FieldTrees) → are_float64 fs ≡ false → r ≡ no_pair → AnswersSome r (Inferred (struct fs))
+no_floats_inferred r fs floatless is = λ c d. at_type c d
+  where
+    at_type : (c : CoordType) (d : Dimension) → (r ≡ some_pair c d) ↔ Inferred (struct fs) c d
+    at_type Separated d = (λ e. absurd (none_apart r Separated d is e), λ h. let bad : false ≡ true = sym floatless ∙ h.0 in cc)
+    at_type Interleaved d = (λ e. absurd (none_apart r Interleaved d is e), λ h. absurd h)
+
+pub pair_inferred : (r : PairOption) (fs : FieldTrees) → are_float64 fs ≡ true → length (names_of fs) ≡ 2 → r ≡ some_pair Separated XY → AnswersSome r (Inferred (struct fs))
+pair_inferred r fs all two is = λ c d. at_type c d
+  where
+    one_pair : (c : CoordType) (d : Dimension) → r ≡ some_pair c d → pair Separated XY ≡ pair c d
+    one_pair c d e = same_Some (Separated, XY) (c, d) (sym is ∙ e)
+
+    at_type : (c : CoordType) (d : Dimension) → (r ≡ some_pair c d) ↔ Inferred (struct fs) c d
+    at_type Separated XY = (λ e. (all, two), λ h. is)
+    at_type Separated XYZ = (λ e. let bad : XY ≡ XYZ = ap (λ p. p.1) (one_pair Separated XYZ e) in cc, λ h. absurd (omega (arith, h.1.0, two)))
+    at_type Separated XYM = (λ e. let bad : XY ≡ XYM = ap (λ p. p.1) (one_pair Separated XYM e) in cc, λ h. absurd (omega (arith, h.1.0, two)))
+    at_type Separated XYZM = (λ e. let bad : XY ≡ XYZM = ap (λ p. p.1) (one_pair Separated XYZM e) in cc, λ h. absurd (omega (arith, h.1, two)))
+    at_type Interleaved d = (λ e. let bad : Separated ≡ Interleaved = ap (λ p. p.0) (one_pair Interleaved d e) in cc, λ h. absurd h)
+
 -- a coordinate is taken for what it is read as
 names_agree : (ns : List Text) (d e : Dimension) → IsInferredAs d ns → IsSeparatedAs e ns → d ≡ e
 names_agree ns XY e h k = separated_same ns XY e h k
@@ -181,3 +209,6 @@ inferred_as_read (plain p) c b d e h k = absurd h
 inferred_as_read (list n t x m) c b d e h k = absurd h
 inferred_as_read (large_list n t x m) c b d e h k = absurd h
 inferred_as_read (union ms mode) c b d e h k = absurd h
+
+pub answers_as_read : (t : Tree) (r : PairOption) → AnswersSome r (Inferred t) → (c b : CoordType) (d e : Dimension) → r ≡ some_pair c d → Leaf t b e → (c ≡ b) × (d ≡ e)
+answers_as_read t r exact c b d e is leaf = inferred_as_read t c b d e ((exact c d).0 is) leaf

@@ -1,4 +1,4 @@
-//! The kind of a column, told from its extension name and a summary of its data type.
+//! The kind of a column, from its extension name and a summary of its data type.
 ghost use Rattle.std.specs.Prelude.{◌≡◌, IfSome};
 ghost use Rattle.arrow_values.specs.Tree.{Tree};
 ghost use Rattle.geoarrow_layout.specs.Kinds.{native_name, geometry_name, box_name, name_of};

@@ -34,6 +34,7 @@ pub fn coord_data_type(
 
 /// The data type of a native kind (GeoArrow, "Native encoding"): the lists of the kind over a coordinate, and for a
 /// collection a list over the union of `mixed_data_type`. Errs only when out of memory.
+#[inline(always)]
 pub fn list_data_type(
     alloc: Global,
     kind: NativeKind,
@@ -43,6 +44,7 @@ pub fn list_data_type(
     ensures { IfOk result (λ t. tree t ≡ native_layout kind coord_type dimension) }
 {
     match kind {
+        NativeKind::Point => coord_data_type(alloc, coord_type, dimension),
         NativeKind::GeometryCollection => {
             let members = mixed_data_type(alloc, coord_type, dimension)?;
             lists_over(alloc, list_names(kind), members)
@@ -110,7 +112,7 @@ pub fn wkt_data_type(width: Width) -> DataType
     }
 }
 
-/// The data type of a column of a kind, as the builder for its sort gives it. Errs only when out of memory, and never
+/// The data type of a column of a kind, as written. Errs only when out of memory, and never
 /// for well-known binary and text.
 pub fn kind_data_type(alloc: Global, kind: Kind) -> Result<DataType, AllocError>
     ensures layout { IfOk result (λ t. tree t ≡ layout kind) }

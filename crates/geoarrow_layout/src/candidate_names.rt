@@ -1,11 +1,11 @@
-//! Which extension names a data type may stand under.
+//! The extension names under which a data type can be read.
 
-/// The extension names under which a data type is some kind of column: two at most (GeoArrow, "Extension types").
+/// The extension names under which a data type can be read: at most two (GeoArrow, "Extension types").
 #[derive(Debug, Clone, Copy, PartialEq, Eq)]
 pub enum Candidates {
     /// No name.
     None,
-    /// This name alone.
+    /// Only this name.
     One(&'static str),
     /// `geoarrow.linestring` and `geoarrow.multipoint`: one list over coordinates.
     LineStringOrMultiPoint,

@@ -1,4 +1,4 @@
-//! Unions whose members go or come, and how they are read then.
+//! Unions that lose or gain members, and how they are read then.
 ghost use Rattle.std.specs.Prelude.{◌≡◌, ◌≢◌, ◌++◌, ◌↔◌, [], None, IsOk, IfErr, OnOk, OnErr};
 ghost use Rattle.arrow_values.specs.Tree.{Members};
 ghost use Rattle.arrow_values.specs.Union.{HasTypeIds, retained, shared_id};
@@ -8,9 +8,16 @@ ghost use Rattle.geoarrow_layout.specs.Changes.{GeometryUnion, MixedUnion, Alike
 use crate::kinds::{CoordType, Dimension};
 use arrow_values::{AppendFault, UnionFields};
 
-/// Keeps the members whose type id is in the slice, in their order. Where at least one is left, geometries of any kind
-/// are still geometries of the same coordinate type (GeoArrow, "Geometry"), and the union in a collection is still one,
+/// Keeps the members whose type id is in the slice, in their order. If at least one is left, a union of geometries of any
+/// kind is still one, of the same coordinate type (GeoArrow, "Geometry"), and the union in a collection is still one,
 /// of the same coordinate type and dimension (GeoArrow, "GeometryCollection"). Takes no memory.
+///
+/// ```rust
+/// keep_members(&mut members, wanted);
+/// if members.is_empty() {
+///     return Ok(None);
+/// }
+/// ```
 pub fn keep_members(members: &mut UnionFields, ids: &[i8])
     ensures members { members.new ≡ retained ids.now members.old }
     ensures ids { HasTypeIds members.old → HasTypeIds members.new }
@@ -20,11 +27,20 @@ pub fn keep_members(members: &mut UnionFields, ids: &[i8])
     members.retain_ids(ids);
 }
 
-/// Puts the members of `other` last. The union then is of geometries of any kind where it has a member and each of the
-/// two that had members was of geometries, of that one coordinate type (GeoArrow, "Geometry"); and the same for unions
-/// in a collection (GeoArrow, "GeometryCollection"). It is alike to every union of just these members, in whatever
-/// order. Errs as `RepeatedId` with the first id of `other` that is here already, where there is one, and else only when
-/// out of memory; `other` is then handed back, and both unions are as they were.
+/// Appends the members of `other`. The result is a union of geometries of any kind exactly if it has a member and each
+/// of the two unions that had members was one, both of the same coordinate type (GeoArrow, "Geometry"); the same holds
+/// for unions in a collection (GeoArrow, "GeometryCollection"). It is alike to every union of exactly these members, in
+/// any order. Errs with `RepeatedId` of the first id of `other` that `members` has too, if there is one, and otherwise
+/// only when out of memory; `other` is then returned, and both unions are unchanged.
+///
+/// ```rust
+/// let mut members = one;
+/// match append_members(&mut members, other) {
+///     Ok(()) => {}
+///     Err((_, AppendFault::RepeatedId(_))) => return Ok(None),
+///     Err((_, AppendFault::OutOfMemory)) => return Err(AllocError),
+/// }
+/// ```
 pub fn append_members(
     members: &mut UnionFields,
     other: UnionFields,

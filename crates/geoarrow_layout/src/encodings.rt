@@ -1,11 +1,11 @@
-//! Which kinds of columns there are.
+//! The kinds of columns.
 ghost use Rattle.std.specs.Prelude.{◌≡◌};
 ghost use Rattle.geoarrow_layout.specs.Kinds.{native_name, extension_of, name_of, coord_type_of, dimension_of};
 
 use crate::kinds::{CoordType, Dimension};
 use crate::names::ExtensionName;
 
-/// The kinds of geometry that have a layout of their own (GeoArrow, "Native encoding").
+/// The kinds of geometry that have their own layout (GeoArrow, "Native encoding").
 #[derive(Clone, Copy, Debug, PartialEq, Eq)]
 pub enum NativeKind {
     /// A coordinate.
@@ -36,6 +36,13 @@ pub enum Width {
 }
 
 /// A kind of column: what its extension name and its data type say together.
+///
+/// ```rust
+/// let kind = Kind::Native(NativeKind::Polygon, CoordType::Separated, Dimension::XYZ);
+/// assert_eq!(rt; kind.name(), "geoarrow.polygon");
+/// assert_eq!(rt; kind.dimension(), Some(Dimension::XYZ));
+/// assert_eq!(rt; Kind::Wkb(Width::Large).dimension(), None);
+/// ```
 #[derive(Clone, Copy, Debug, PartialEq, Eq)]
 pub enum Kind {
     /// Geometries of one kind, coordinate type and dimension.
@@ -58,7 +65,7 @@ impl Kind {
         self.extension_name().as_text()
     }
 
-    /// The same, as one of the names.
+    /// The extension name, as an `ExtensionName`.
     pub fn extension_name(&self) -> ExtensionName
         ensures { result ≡ extension_of self.now }
     {
@@ -71,7 +78,7 @@ impl Kind {
         }
     }
 
-    /// How the coordinates are stored: `Separated` for boxes, and none for well-known binary and text.
+    /// How the coordinates are stored: `Separated` for boxes, and `None` for well-known binary and text.
     pub fn coord_type(&self) -> Option<CoordType>
         ensures { result ≡ coord_type_of self.now }
     {
@@ -82,7 +89,7 @@ impl Kind {
         }
     }
 
-    /// The dimension; none for geometries of any kind and for well-known binary and text.
+    /// The dimension; `None` for geometries of any kind and for well-known binary and text.
     pub fn dimension(&self) -> Option<Dimension>
         ensures { result ≡ dimension_of self.now }
     {

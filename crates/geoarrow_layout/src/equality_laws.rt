@@ -1,4 +1,4 @@
-//! Laws of `==`: it answers true for two values exactly where they are the same.
+//! Laws of `==`: it returns true for two values exactly if they are the same.
 ghost use Rattle.std.specs.Prelude.{◌≡◌, ◌↔◌, IsTrue};
 ghost use Rattle.geoarrow_layout.specs.Candidates.{SameCandidates};
 
@@ -9,35 +9,35 @@ use crate::kinds::{CoordType, Dimension};
 use crate::names::ExtensionName;
 use crate::summary::{Bottom, ListWidth, Summary};
 
-/// A law: `==` answers true for two coordinate types exactly where they are the same.
+/// A law: `==` returns true for two coordinate types exactly if they are the same.
 pub fn coord_type_equality_is_exact(one: CoordType, other: CoordType) -> bool
     ensures { IsTrue result ↔ (one ≡ other) }
 {
     one == other
 }
 
-/// A law: `==` answers true for two dimensions exactly where they are the same.
+/// A law: `==` returns true for two dimensions exactly if they are the same.
 pub fn dimension_equality_is_exact(one: Dimension, other: Dimension) -> bool
     ensures { IsTrue result ↔ (one ≡ other) }
 {
     one == other
 }
 
-/// A law: `==` answers true for two native kinds exactly where they are the same.
+/// A law: `==` returns true for two native kinds exactly if they are the same.
 pub fn native_kind_equality_is_exact(one: NativeKind, other: NativeKind) -> bool
     ensures { IsTrue result ↔ (one ≡ other) }
 {
     one == other
 }
 
-/// A law: `==` answers true for two widths exactly where they are the same.
+/// A law: `==` returns true for two widths exactly if they are the same.
 pub fn width_equality_is_exact(one: Width, other: Width) -> bool
     ensures { IsTrue result ↔ (one ≡ other) }
 {
     one == other
 }
 
-/// A law: `==` answers true for two kinds exactly where variant and parts are the same.
+/// A law: `==` returns true for two kinds exactly if variant and parts are the same.
 #[tactic(auto, using(crate::proofs::Equality::kind_decides))]
 pub fn kind_equality_is_exact(one: Kind, other: Kind) -> bool
     ensures { IsTrue result ↔ (one ≡ other) }
@@ -45,28 +45,28 @@ pub fn kind_equality_is_exact(one: Kind, other: Kind) -> bool
     one == other
 }
 
-/// A law: `==` answers true for two extension names exactly where they are the same.
+/// A law: `==` returns true for two extension names exactly if they are the same.
 pub fn name_equality_is_exact(one: ExtensionName, other: ExtensionName) -> bool
     ensures { IsTrue result ↔ (one ≡ other) }
 {
     one == other
 }
 
-/// A law: `==` answers true for two faults exactly where they are the same.
+/// A law: `==` returns true for two faults exactly if they are the same.
 pub fn fault_equality_is_exact(one: LayoutFault, other: LayoutFault) -> bool
     ensures { IsTrue result ↔ (one ≡ other) }
 {
     one == other
 }
 
-/// A law: `==` answers true for two widths of lists exactly where they are the same.
+/// A law: `==` returns true for two widths of lists exactly if they are the same.
 pub fn list_width_equality_is_exact(one: ListWidth, other: ListWidth) -> bool
     ensures { IsTrue result ↔ (one ≡ other) }
 {
     one == other
 }
 
-/// A law: `==` answers true for two bottoms exactly where variant and parts are the same.
+/// A law: `==` returns true for two bottoms exactly if variant and parts are the same.
 #[tactic(auto, using(crate::proofs::Equality::bottom_decides))]
 pub fn bottom_equality_is_exact(one: Bottom, other: Bottom) -> bool
     ensures { IsTrue result ↔ (one ≡ other) }
@@ -74,7 +74,7 @@ pub fn bottom_equality_is_exact(one: Bottom, other: Bottom) -> bool
     one == other
 }
 
-/// A law: `==` answers true for two summaries exactly where their parts are the same.
+/// A law: `==` returns true for two summaries exactly if their parts are the same.
 #[tactic(auto, using(crate::proofs::Equality::summary_decides))]
 pub fn summary_equality_is_exact(one: Summary, other: Summary) -> bool
     ensures { IsTrue result ↔ (one ≡ other) }
@@ -82,7 +82,7 @@ pub fn summary_equality_is_exact(one: Summary, other: Summary) -> bool
     one == other
 }
 
-/// A law: `==` answers true for two candidates exactly where the variant and, of one name, its text are the same.
+/// A law: `==` returns true for two candidates exactly if the variant and, of one name, its text are the same.
 pub fn candidates_equality_is_exact(one: Candidates, other: Candidates) -> bool
     ensures { IsTrue result ↔ SameCandidates one other }
 {

@@ -1,34 +1,34 @@
-//! Why a data type is not a layout.
+//! Why a data type is refused by a reader.
 ghost use Rattle.std.specs.Prelude.{◌≡◌, ◌⊎◌, IfOk};
 ghost use Rattle.arrow_values.specs.Errors.{IsMemory};
 
 use arrow_values::{ArrowError, GeoArrowError};
 use std::alloc::{AllocError, Global};
 
-/// Why a data type is not of the layout that a reader looks for.
+/// Why a data type does not have the layout that a reader expects.
 #[derive(Clone, Copy, Debug, PartialEq, Eq)]
 pub enum LayoutFault {
-    /// A data type of another sort stands there.
+    /// The data type, or one inside it, is of another sort.
     UnexpectedType,
-    /// The inner field of a fixed size list is none of `xy`, `xyz`, `xym` and `xyzm`.
+    /// The inner field of a fixed size list is not named `xy`, `xyz`, `xym` or `xyzm`.
     BadInterleavedName,
-    /// The size of a fixed size list is not that of the dimension that its inner field names.
+    /// The size of a fixed size list does not match the dimension that its inner field names.
     BadSize,
     /// The names of a struct's fields are those of no dimension.
     BadFieldNames,
-    /// A struct has as many fields as no dimension has.
+    /// The number of a struct's fields is that of no dimension.
     BadFieldCount,
-    /// A list holds a list of the other width.
+    /// A list contains a list of the other width.
     MixedWidths,
-    /// A union's member has a type id that no geometry has there.
+    /// The type id of a union's member is not allowed there.
     BadTypeId,
-    /// A union's member has a dimension other than its type id says.
+    /// The dimension of a union's member is not that of its type id.
     MemberDimension,
     /// A union has no members.
     EmptyUnion,
-    /// The members of a union have several coordinate types.
+    /// The members of a union have different coordinate types.
     SeveralCoordTypes,
-    /// The members of a collection's union have several dimensions.
+    /// The members of a collection's union have different dimensions.
     SeveralDimensions,
 }
 

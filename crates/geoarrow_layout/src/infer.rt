@@ -1,7 +1,7 @@
 //! The point that a data type is taken for where no extension name says what it is.
-ghost use Rattle.std.specs.Prelude.{◌≡◌, ◌≢◌, ◌↔◌, Some, true, IsTrue};
-ghost use Rattle.arrow_values.specs.Tree.{Tree};
-ghost use Rattle.arrow_values.specs.View.{tree};
+ghost use Rattle.std.specs.Prelude.{◌≡◌, ◌≢◌, ◌↔◌, ◌∷◌, [], Some, true, IsTrue};
+ghost use Rattle.arrow_values.specs.Tree.{Tree, struct};
+ghost use Rattle.arrow_values.specs.View.{tree, field_trees};
 ghost use Rattle.geoarrow_layout.specs.Shapes.{Leaf};
 ghost use Rattle.geoarrow_layout.specs.Summary.{Summarizes};
 ghost use Rattle.geoarrow_layout.specs.Inferred.{AnswersSome, Inferred, IsFlat};
@@ -10,20 +10,53 @@ ghost use Rattle.geoarrow_layout.specs.Steps.{is_measured, NamesSay, SizeSays};
 use crate::bits::has_bit;
 use crate::kinds::{CoordType, Dimension};
 use crate::readers::has_both;
-use crate::summary::{Below, Bottom, Summary, leaf_bottom};
-use arrow_values::DataType;
+use crate::summary::{Below, Bottom, Summary, is_float64, leaf_bottom};
+use arrow_values::{DataType, Field};
 
-/// The point that a data type is taken for where no extension name says what it is: two, three or four fields or a
-/// fixed size list of two, three or four numbers, all of them `Float64`. Three are x, y and m where the fields have
-/// these names, in any order, or the inner field is named `xym`; else they are x, y and z. None for any other data type.
-/// Where `parse_point` reads the data type too, it is that point. Takes no memory.
+/// The point that is inferred from a data type without an extension name: a struct of two, three or four fields, or a
+/// fixed size list of two, three or four numbers, all of them `Float64`. Three are x, y and m if the fields have these
+/// names, in any order, or if the inner field is named `xym`; otherwise they are x, y and z. `None` for any other data
+/// type. If `parse_point` reads the data type too, it returns the same point. Takes no memory.
+///
+/// ```rust
+/// let xym = Field::new(alloc, "xym", DataType::Float64, true)?;
+/// let data_type = DataType::FixedSizeList(Box::new(alloc, xym)?, 3);
+/// let wanted = (CoordType::Interleaved, Dimension::XYM);
+/// assert_eq!(rt; parse_point(&data_type), Ok(wanted));
+/// assert_eq!(rt; infer_point(&data_type), Some(wanted));
+/// ```
 pub fn infer_point(data_type: &DataType) -> Option<(CoordType, Dimension)>
     ensures exact { AnswersSome result (Inferred (tree data_type.now)) }
     ensures agrees { (c b : CoordType) (d e : Dimension) → result ≡ Some (c, d) → Leaf (tree data_type.now) b e → (c ≡ b) × (d ≡ e) }
 {
+    taken_for(data_type)
+}
+
+/// The same.
+#[inline(always)]
+fn taken_for(data_type: &DataType) -> Option<(CoordType, Dimension)>
+    ensures { AnswersSome result (Inferred (tree data_type.now)) }
+{
     match data_type {
-        DataType::Struct(_) | DataType::FixedSizeList(_, _) => inferred(&flat_summary(data_type)),
+        DataType::Struct(fields) => match fields.as_slice() {
+            [first, second] => pair(first, second),
+            _ => inferred(&flat_summary(data_type)),
+        },
+        DataType::FixedSizeList(_, _) => inferred(&flat_summary(data_type)),
         _ => None,
+    }
+}
+
+/// The point that a struct of two fields is taken for, whatever their names are.
+#[inline(always)]
+#[tactic(auto, using(crate::proofs::Inferences::pair_inferred, crate::proofs::Inferences::no_floats_inferred))]
+fn pair(first: &Field, second: &Field) -> Option<(CoordType, Dimension)>
+    ensures { AnswersSome result (Inferred (struct (field_trees (first.now ∷ second.now ∷ [])))) }
+{
+    if is_float64(first.data_type()) && is_float64(second.data_type()) {
+        Some((CoordType::Separated, Dimension::XY))
+    } else {
+        None
     }
 }
 

@@ -8,9 +8,22 @@ use std::fmt;
 /// How the numbers of a coordinate are stored (GeoArrow, "Coordinate").
 #[derive(Clone, Copy, Debug, PartialEq, Eq, Hash)]
 pub enum CoordType {
-    /// All numbers of a coordinate lie side by side, in a fixed size list.
+    /// The numbers of a coordinate are stored side by side, in a fixed size list.
+    ///
+    /// ```rust
+    /// let xy = Field::new(alloc, "xy", DataType::Float64, false)?;
+    /// let wanted = DataType::FixedSizeList(Box::new(alloc, xy)?, 2);
+    /// assert!(rt; coord_data_type(alloc, CoordType::Interleaved, Dimension::XY)? == wanted);
+    /// ```
     Interleaved,
-    /// Each dimension has an array of its own, as a field of a struct.
+    /// Each dimension is stored in an array of its own, as a field of a struct.
+    ///
+    /// ```rust
+    /// let x = Field::new(alloc, "x", DataType::Float64, false)?;
+    /// let y = Field::new(alloc, "y", DataType::Float64, false)?;
+    /// let wanted = DataType::Struct(Fields::from(vec![in alloc; x, y]?));
+    /// assert!(rt; coord_data_type(alloc, CoordType::Separated, Dimension::XY)? == wanted);
+    /// ```
     Separated,
 }
 
@@ -28,13 +41,13 @@ impl Default for CoordType {
 /// Which dimensions a coordinate has (GeoArrow, "Coordinate").
 #[derive(Clone, Copy, Debug, PartialEq, Eq, Hash)]
 pub enum Dimension {
-    /// Two of place.
+    /// x and y.
     XY,
-    /// Two of place and a height.
+    /// x, y and a height.
     XYZ,
-    /// Two of place and a measure.
+    /// x, y and a measure.
     XYM,
-    /// Two of place, a height and a measure.
+    /// x, y, a height and a measure.
     XYZM,
 }
 
@@ -55,7 +68,7 @@ impl Dimension {
         }
     }
 
-    /// The place among the four, from 0, by which type ids go (GeoArrow, "Geometry": the table of type ids).
+    /// Its number among the four, from 0, as type ids count them (GeoArrow, "Geometry": the table of type ids).
     pub fn order(&self) -> u8
         ensures order { result ≡ order_of self.now }
         ensures small { result ≤ 3 }
@@ -68,9 +81,15 @@ impl Dimension {
         }
     }
 
-    /// The dimension that those dimensions are: the one of that name, and for 2, 3 and 4 of no known meaning XY, XYZ
-    /// and XYZM; takes no memory then. Errs, as `InvalidGeoArrow`, where they are some other number of no known
-    /// meaning.
+    /// The dimension with the name of those dimensions; for 2, 3 and 4 dimensions with no known meaning it is XY, XYZ
+    /// and XYZM. Errs with `InvalidGeoArrow` for any other number of dimensions with no known meaning; takes no memory
+    /// otherwise.
+    ///
+    /// ```rust
+    /// let dimension = Dimension::try_from_dimensions(alloc, Dimensions::Unknown(3))?;
+    /// assert_eq!(rt; dimension, Dimension::XYZ);
+    /// assert_eq!(rt; Dimensions::from(dimension), Dimensions::Xyz);
+    /// ```
     pub fn try_from_dimensions(alloc: Global, dimensions: Dimensions) -> GeoArrowResult<Dimension>
         ensures exact { (d : Dimension) → (result ≡ Ok d) ↔ IsDimension dimensions d }
         ensures size { IfOk result (λ d. size_of d ≡ dimensions_size dimensions) }

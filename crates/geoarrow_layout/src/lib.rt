@@ -1,4 +1,4 @@
-//! GeoArrow's layouts: which Arrow data types stand for which geometries, read and written.
+//! GeoArrow's layouts: which Arrow data types represent which geometries, read and written.
 #![tactic(auto)]
 
 mod accept;

@@ -1,4 +1,4 @@
-//! Data types that no reader tells apart.
+//! Data types that no reader distinguishes.
 ghost use Rattle.std.specs.Prelude.{◌≡◌, ◌&&◌, ◌↔◌, IsTrue};
 ghost use Rattle.std.specs.List.{list_any, list_all};
 ghost use Rattle.std.specs.Ordering.{int_eq};
@@ -10,12 +10,19 @@ ghost use Rattle.geoarrow_layout.specs.AlikeTest.{some_member, all_members, has_
 
 use arrow_values::{DataType, Field, UnionFields};
 
-/// Whether two data types are alike, so that they are of the same kinds under every extension name: the same plain type,
-/// or lists of one width over alike items (GeoArrow, "Native encoding"), or fixed size lists of one size and one inner
-/// name (GeoArrow, "Coordinate"), or structs of as many fields, and at three and at six of the same set of names, or
-/// unions in which each member of either has an alike member of the same type id in the other (GeoArrow, "Geometry").
-/// Nullability, metadata, other names, the order of fields and members, the mode of a union and the data types of
-/// coordinates play no part. Takes no memory.
+/// Whether two data types are alike, so that they have the same kinds under every extension name: the same plain type,
+/// or lists of the same width over alike items (GeoArrow, "Native encoding"), or fixed size lists of the same size and
+/// inner name (GeoArrow, "Coordinate"), or structs with the same number of fields and, if that is three or six, the
+/// same set of names, or unions in which each member of either has an alike member of the same type id in the other
+/// (GeoArrow, "Geometry"). Nullability, metadata, other names, the order of fields and members, the mode of a union and
+/// the data types of coordinates do not matter. Takes no memory.
+///
+/// ```rust
+/// let (separated, xy) = (CoordType::Separated, Dimension::XY);
+/// let lines = list_data_type(alloc, NativeKind::LineString, separated, xy)?;
+/// let points = list_data_type(alloc, NativeKind::MultiPoint, separated, xy)?;
+/// assert!(rt; lines != points && alike(&lines, &points));
+/// ```
 #[tactic(auto, using(crate::proofs::AlikeDecides::alike_decides))]
 pub fn alike(a: &DataType, b: &DataType) -> bool
     ensures { IsTrue result ↔ Alike (tree a.now) (tree b.now) }

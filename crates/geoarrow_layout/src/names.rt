@@ -5,7 +5,15 @@ ghost use Rattle.geoarrow_layout.specs.Kinds.{name_text};
 
 use crate::encodings::{NativeKind, native_name};
 
-/// The names that a column of geometries can have at a field's `ARROW:extension:name` (GeoArrow, "Extension types").
+/// The extension names of columns of geometries, at a field's `ARROW:extension:name` (GeoArrow, "Extension types").
+///
+/// ```rust
+/// assert_eq!(rt;
+///     ExtensionName::from_text("geoarrow.box"),
+///     Some(ExtensionName::Rect)
+/// );
+/// assert_eq!(rt; ExtensionName::from_text("geoarrow.rect"), None);
+/// ```
 #[derive(Clone, Copy, Debug, PartialEq, Eq)]
 pub enum ExtensionName {
     /// That of a native kind: `geoarrow.point`, `geoarrow.linestring`, `geoarrow.polygon`, `geoarrow.multipoint`,
@@ -35,7 +43,8 @@ impl ExtensionName {
         }
     }
 
-    /// The name of that text, compared byte for byte; none for any other text.
+    /// The name with that text, compared byte for byte; `None` for any other text.
+    #[inline(always)]
     pub fn from_text(text: &str) -> Option<ExtensionName>
         ensures { (name : ExtensionName) → (result ≡ Some name) ↔ (text.now ≡ name_text name) }
     {

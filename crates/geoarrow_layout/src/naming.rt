@@ -1,4 +1,4 @@
-//! The extension names that a data type may stand under, found.
+//! Finds the extension names under which a data type can be read.
 ghost use Rattle.std.specs.Prelude.{◌≡◌, ◌↔◌, IsTrue, Some};
 ghost use Rattle.arrow_values.specs.Tree.{Text, Tree};
 ghost use Rattle.arrow_values.specs.View.{tree};
@@ -13,9 +13,13 @@ use crate::summary::Summary;
 use crate::walk::summarize;
 use arrow_values::DataType;
 
-/// The extension names under which the data type is some kind of column, all of the eleven that there are (GeoArrow,
-/// "Extension types"). It looks at a summary of the data type, and at the data type itself for well-known binary and
-/// text. Takes no memory.
+/// All extension names, of the eleven that there are, under which the data type can be read (GeoArrow,
+/// "Extension types"). Takes no memory.
+///
+/// ```rust
+/// let point = coord_data_type(alloc, CoordType::Separated, Dimension::XYZM)?;
+/// assert_eq!(rt; candidates(&point), Candidates::PointOrBox);
+/// ```
 pub fn candidates(data_type: &DataType) -> Candidates
     ensures { (n : Text) → Holds result n ↔ IsAccepted n (tree data_type.now) }
 {

@@ -1,6 +1,6 @@
-//! The readers: which layout a data type is. They look at its summary alone, and so never at the nullability, the
-//! metadata and the data types of coordinate fields, at the names of list items and members, at a union's mode or at
-//! the order of its members. None takes memory.
+//! The readers: which layout a data type has. They use only its summary, so they ignore the nullability, the
+//! metadata and the data types of coordinate fields, the names of list items and members, and the mode of a union and
+//! the order of its members. None of them takes memory.
 ghost use Rattle.arrow_values.specs.View.{tree};
 ghost use Rattle.geoarrow_layout.specs.Shapes.{Answers, AnswersOne, Leaf, Native, Mixed, Collection, Geometry, BoxShape, IsBytes, IsText, Accepts};
 ghost use Rattle.geoarrow_layout.specs.Kinds.{name_text};
@@ -14,9 +14,16 @@ use crate::readers::{any_native, boxed, collection, geometry, mixed, native};
 use crate::walk::summarize;
 use arrow_values::DataType;
 
-/// Reads a point (GeoArrow, "Coordinate", "Point"): a fixed size list whose inner field's name says the dimension and
-/// whose size is that dimension's, or a struct of two fields, of four, or of three named x, y and z or x, y and m in
+/// Reads a point (GeoArrow, "Coordinate", "Point"): a fixed size list whose inner field's name gives the dimension and
+/// whose size matches it, or a struct of two fields, of four, or of three named x, y and z or x, y and m in
 /// any order. Errs on any other data type. Takes no memory.
+///
+/// ```rust
+/// let xym = Field::new(alloc, "xym", DataType::Float64, true)?;
+/// let data_type = DataType::FixedSizeList(Box::new(alloc, xym)?, 3);
+/// let wanted = (CoordType::Interleaved, Dimension::XYM);
+/// assert_eq!(rt; parse_point(&data_type), Ok(wanted));
+/// ```
 pub fn parse_point(data_type: &DataType) -> Result<(CoordType, Dimension), LayoutFault>
     ensures { Answers result (Leaf (tree data_type.now)) }
 {
@@ -115,8 +122,20 @@ pub fn parse_wkt(data_type: &DataType) -> Result<Width, LayoutFault>
     text_width(data_type).ok_or(LayoutFault::UnexpectedType)
 }
 
-/// Reads a column of an extension name: the kind of that name that the data type is. Errs on any data type that is of no
-/// kind of that name. Takes no memory.
+/// Reads the data type of a column with that extension name: returns its kind. Errs on any data type that has no
+/// kind under that name. Takes no memory.
+///
+/// ```rust
+/// let name = ExtensionName::Wkb;
+/// assert_eq!(rt;
+///     parse_kind(name, &DataType::LargeBinary),
+///     Ok(Kind::Wkb(Width::Large))
+/// );
+/// assert_eq!(rt;
+///     parse_kind(name, &DataType::Utf8),
+///     Err(LayoutFault::UnexpectedType)
+/// );
+/// ```
 pub fn parse_kind(name: ExtensionName, data_type: &DataType) -> Result<Kind, LayoutFault>
     ensures { AnswersOne result (Accepts (name_text name) (tree data_type.now)) }
 {
@@ -144,8 +163,8 @@ pub fn parse_kind(name: ExtensionName, data_type: &DataType) -> Result<Kind, Lay
     }
 }
 
-/// Reads a box (GeoArrow, "Box"): a struct of four fields or of eight, or of six among which `mmin` and `mmax` or else
-/// `zmin` and `zmax` are. Errs on any other data type. Takes no memory.
+/// Reads a box (GeoArrow, "Box"): a struct of four fields or of eight, or of six fields that include `mmin` and `mmax` or,
+/// failing that, `zmin` and `zmax`. Errs on any other data type. Takes no memory.
 pub fn parse_box(data_type: &DataType) -> Result<Dimension, LayoutFault>
     ensures { AnswersOne result (BoxShape (tree data_type.now)) }
 {

@@ -1,4 +1,4 @@
-//! Layouts told from a summary, in the order of faults that each reader keeps.
+//! Layouts read from a summary, with the faults in the order that each reader defines.
 ghost use Rattle.std.specs.Prelude.{◌≡◌, ◌≤◌, ◌<◌, ◌↔◌, ◌^◌, Some, ℕ, List, Option, length, ◌&&◌};
 ghost use Rattle.arrow_values.specs.Tree.{Tree, Text};
 ghost use Rattle.geoarrow_layout.specs.declared.summary.ListWidth.{ListWidth};

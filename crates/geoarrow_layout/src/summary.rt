@@ -21,10 +21,10 @@ pub enum ListWidth {
     LargeList,
 }
 
-/// What stands below the list levels of a data type.
+/// What is below the list levels of a data type.
 #[derive(Clone, Copy, Debug, PartialEq, Eq)]
 pub enum Bottom {
-    /// A fixed size list: the dimension that the inner field's name says, the size, and whether the inner type is
+    /// A fixed size list: the dimension that the inner field names, the size, and whether the inner type is
     /// `Float64`.
     FixedSizeList {
         named: Option<Dimension>,
@@ -38,10 +38,10 @@ pub enum Bottom {
         names: u16,
         all_float64: bool,
     },
-    /// A union: whether it has no members, the type ids from 0 to 63 that are there, as bits, the coordinate types and
-    /// the dimensions of the members without a fault, as bits in the order of the variants, and the first member's
-    /// fault for a union in a collection and for a union of geometries. The members without a fault are those of a
-    /// geometry where the union is the whole data type, and those of a collection elsewhere.
+    /// A union: whether it has no members, its type ids from 0 to 63, as bits, the coordinate types and the dimensions
+    /// of the members without a fault, as bits in the order of the variants, and the first fault of a member as one of
+    /// a union in a collection and as one of a union of geometries. A member is without a fault as one of a geometry if
+    /// the union is the whole data type, and as one of a collection otherwise.
     Union {
         no_members: bool,
         ids: u64,
@@ -58,15 +58,15 @@ pub enum Bottom {
     Other,
 }
 
-/// What one walk over a data type finds, of a fixed size however large the data type is. It is all that a reader looks
-/// at.
+/// What one walk over a data type finds; its size is fixed, however large the data type is. Readers use only the
+/// summary.
 #[derive(Clone, Copy, Debug, PartialEq, Eq)]
 pub struct Summary {
     /// The list levels of the outermost list's width, 0 to 3.
     pub levels: u8,
-    /// That width; none where there are no levels.
+    /// That width; `None` if there are no levels.
     pub width: Option<ListWidth>,
-    /// What stands below these levels.
+    /// What is below these levels.
     pub bottom: Bottom,
 }
 
@@ -157,12 +157,12 @@ fn struct_bottom(fields: &[Field]) -> Bottom
     }
 }
 
-/// What stands below the list levels, not yet looked at.
+/// What is below the list levels, not yet examined.
 #[derive(Clone, Copy)]
 pub struct Below<'a> {
-    /// How many list levels were gone down, three at most.
+    /// How many list levels are above it, at most three.
     pub levels: u8,
-    /// The width of the lists; none where there was no list.
+    /// The width of the lists; `None` if there is no list.
     pub width: Option<ListWidth>,
     /// The data type below them.
     pub rest: &'a DataType,

@@ -16,13 +16,20 @@ use serde_json::Value;
 use std::alloc::{AllocError, Global};
 pub use value::CrsValue;
 
-/// A coordinate reference system as a metadata holds it (GeoArrow, "Extension types", "Extension metadata", keys `crs`
-/// and `crs_type`): a JSON value, if there is one, and what it is written as, if that is known. A value that is there is
-/// not null, and its numbers are whole, at any depth: `serde_json` holds each as an integer of 64 bits. The default has
-/// neither value nor type. Two are equal, and then hash equally, where the JSON value and the type are.
+/// A coordinate reference system in a metadata (GeoArrow, "Extension types", "Extension metadata", keys `crs`
+/// and `crs_type`): a JSON value, if there is one, and the format of that value, if it is known. The value is
+/// never null, and its numbers are whole, at any depth (see [`Crs::is_projjson`]). The default has
+/// neither value nor type. Two are equal, and then hash equally, if the JSON value and the type are equal.
 ///
-/// Whatever order of axes a CRS names, coordinates are longitude and latitude, or easting and northing, in this order, as in
+/// Whatever axis order a CRS defines, coordinates are in the order longitude, latitude or easting, northing, as in
 /// GeoPackage.
+///
+/// ```rust
+/// let code = String::from_str(alloc, "EPSG:4326")?;
+/// assert!(rt; Crs::is_authority_code(code.as_str()));
+/// let crs = Crs::from_authority_code(code);
+/// assert_eq!(rt; crs.crs_type(), Some(CrsType::AuthorityCode));
+/// ```
 #[derive(Debug, Default, PartialEq, Eq, Hash, Drop)]
 pub struct Crs {
     value: Option<CrsValue>,
@@ -30,8 +37,9 @@ pub struct Crs {
 }
 
 impl Crs {
-    /// Whether `from_projjson` takes the value: it is an object, and each number in it, at any depth, is whole: an
-    /// integer of 64 bits, as `serde_json` reads it, so neither 1.5 nor 1.0, 1e2 or -0. Takes no memory.
+    /// Whether `from_projjson` accepts the value: it is an object, and each number in it, at any depth, is whole:
+    /// `serde_json` holds it as a 64-bit integer, so 1.5 is not whole, and neither are 1.0, 1e2 and -0. Takes no
+    /// memory.
     pub fn is_projjson(value: &Value) -> bool
         ensures { IsTrue result ↔ (IsSome (as_object (view value.now))
             × (has_float (view value.now) ≡ false)) }
@@ -39,7 +47,7 @@ impl Crs {
         value.is_object() && holds_whole_numbers(value)
     }
 
-    /// Whether `from_authority_code` takes the text: there is a colon in it. Takes no memory.
+    /// Whether `from_authority_code` accepts the text: it contains a colon. Takes no memory.
     pub fn is_authority_code(code: &str) -> bool
         ensures { IsTrue result ↔ Contains code.now 58 }
     {
@@ -48,6 +56,13 @@ impl Crs {
 
     /// The CRS of a PROJJSON object (PROJ, "PROJJSON"), of type `Projjson`. The value must be an object whose numbers
     /// are whole, which `is_projjson` tests.
+    ///
+    /// ```rust
+    /// let value = Value::from_str(alloc, r#"{"type":"GeographicCRS"}"#)?;
+    /// assert!(rt; Crs::is_projjson(&value));
+    /// let crs = Crs::from_projjson(value);
+    /// assert_eq!(rt; crs.crs_type(), Some(CrsType::Projjson));
+    /// ```
     pub fn from_projjson(value: Value) -> Crs
         requires object { IsSome (as_object (view value)) }
         requires whole { has_float (view value) ≡ false }
@@ -60,7 +75,7 @@ impl Crs {
         }
     }
 
-    /// The CRS of a text of WKT2:2019 (ISO 19162), of type `Wkt2_2019`; the text is taken as it is.
+    /// The CRS of a text of WKT2:2019 (ISO 19162), of type `Wkt2_2019`; the text is not checked.
     pub fn from_wkt2_2019(text: String) -> Crs
         ensures value { crs_value result ≡ Some (string (string_bytes text)) }
         ensures crs_type { crs_type result ≡ Some CrsType.Wkt2_2019 }
@@ -71,7 +86,7 @@ impl Crs {
         }
     }
 
-    /// The CRS of a text `AUTHORITY:CODE`, of type `AuthorityCode`. There must be a colon in the text, which
+    /// The CRS of a text `AUTHORITY:CODE`, of type `AuthorityCode`. The text must contain a colon, which
     /// `is_authority_code` tests.
     pub fn from_authority_code(code: String) -> Crs
         requires { Contains (string_bytes code) 58 }
@@ -84,7 +99,7 @@ impl Crs {
         }
     }
 
-    /// The CRS of an opaque text that its producer knows, of type `Srid`.
+    /// The CRS of an opaque text that only its producer understands, of type `Srid`.
     pub fn from_srid(srid: String) -> Crs
         ensures value { crs_value result ≡ Some (string (string_bytes srid)) }
         ensures crs_type { crs_type result ≡ Some CrsType.Srid }
@@ -95,7 +110,7 @@ impl Crs {
         }
     }
 
-    /// The CRS of a text of which it is not known what it is written as: no type.
+    /// The CRS of a text whose format is not known: it has no type.
     pub fn from_unknown_crs_type(crs: String) -> Crs
         ensures value { crs_value result ≡ Some (string (string_bytes crs)) }
         ensures crs_type { crs_type result ≡ None }
@@ -125,7 +140,7 @@ impl Crs {
         }
     }
 
-    /// What the value is written as, if that is known.
+    /// The format of the value, if it is known.
     pub fn crs_type(&self) -> Option<CrsType>
         ensures { result ≡ crs_type self.now }
     {

@@ -7,9 +7,14 @@ ghost use Rattle.geoarrow_meta.specs.Names.{edges_text};
 /// "Extension metadata", key `edges`). A metadata without edges means planar edges.
 ///
 /// Edges matter for distance, length, area, intersection and bounds, and not for a change of format, as from `geoarrow.wkb`
-/// to `geoarrow.linestring`. A reader that knows planar edges alone may take a column of other edges where its geometries
-/// have none (points and multipoints). Elsewhere an error comes in, which grows with the distance between vertices, and an
-/// edge that crosses the antimeridian becomes another one: so it asks its user first, or warns.
+/// to `geoarrow.linestring`. A reader that knows only planar edges may read a column with other edges if its geometries
+/// have none (points and multipoints). Otherwise ignoring the edges causes an error that grows with the distance between
+/// vertices, and changes every edge that crosses the antimeridian, so the reader should ask its user first, or warn.
+///
+/// ```rust
+/// assert_eq!(rt; Edges::from_text("spherical"), Some(Edges::Spherical));
+/// assert_eq!(rt; Edges::from_text("planar"), None);
+/// ```
 #[derive(Debug, Clone, Copy, PartialEq, Eq, Hash)]
 pub enum Edges {
     /// A path by the formula of Thomas, 1965, on the ellipsoid of the CRS.
@@ -38,7 +43,7 @@ impl Edges {
         }
     }
 
-    /// The edges that a text stands for; none for any other text.
+    /// The edges that a text stands for; `None` for any other text.
     pub fn from_text(text: &str) -> Option<Edges>
         ensures { (e : Edges) → (result ≡ Some e) ↔ (text.now ≡ edges_text e) }
     {

@@ -73,34 +73,34 @@ pub fn text_stands_for_one(text: Option<&str>)
         → TextStandsFor (text_of text.entry) n → m ≡ n }
 {}
 
-/// A law: `==` answers true for two metadata exactly where their parts are equal.
+/// A law: `==` returns true for two metadata exactly if their parts are equal.
 pub fn equality_is_exact(one: &Metadata, other: &Metadata) -> bool
     ensures { IsTrue result ↔ (one.now ≡ other.now) }
 {
     *one == *other
 }
 
-/// A law: the test behind `==`, which types that share their metadata go by, answers true for two metadata exactly
+/// A law: the test behind `==`, which types that share their metadata go by, returns true for two metadata exactly
 /// where their parts are equal. There is nothing to run.
 pub fn equality_test_is_exact()
     ensures { (m n : Metadata) → IsTrue ((metadatas.eq-value).it m n) ↔ (m ≡ n) }
 {}
 
-/// A law: `==` answers true for two CRS exactly where JSON value and type are equal.
+/// A law: `==` returns true for two CRS exactly if JSON value and type are equal.
 pub fn crs_equality_is_exact(one: &Crs, other: &Crs) -> bool
     ensures { IsTrue result ↔ (one.now ≡ other.now) }
 {
     *one == *other
 }
 
-/// A law: `==` answers true for two edges exactly where they are the same.
+/// A law: `==` returns true for two edges exactly if they are the same.
 pub fn edges_equality_is_exact(one: Edges, other: Edges) -> bool
     ensures { IsTrue result ↔ (one ≡ other) }
 {
     one == other
 }
 
-/// A law: `==` answers true for two CRS types exactly where they are the same.
+/// A law: `==` returns true for two CRS types exactly if they are the same.
 pub fn crs_type_equality_is_exact(one: CrsType, other: CrsType) -> bool
     ensures { IsTrue result ↔ (one ≡ other) }
 {

@@ -1,5 +1,5 @@
 //! The metadata of a GeoArrow extension type: edges, coordinate reference systems and their transforms, and the JSON text
-//! that stands at a field's `ARROW:extension:metadata` (GeoArrow, "Extension types", "Extension metadata").
+//! at a field's `ARROW:extension:metadata` (GeoArrow, "Extension types", "Extension metadata").
 #![tactic(auto)]
 
 pub mod crs;

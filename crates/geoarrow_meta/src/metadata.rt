@@ -35,7 +35,14 @@ use tokens::read_slots;
 use write::written_value;
 
 /// The metadata of an extension type (GeoArrow, "Extension types", "Extension metadata"): a CRS, and how edges run. The
-/// default has the default CRS and no edges. Two are equal, and then hash equally, where both parts are.
+/// default has the default CRS and no edges. Two are equal, and then hash equally, if both parts are equal.
+///
+/// ```rust
+/// let crs = Crs::from_srid(String::from_str(alloc, "1234")?);
+/// let text = Metadata::new(crs, Some(Edges::Spherical)).serialize(alloc)?;
+/// let wanted = r#"{"crs":"1234","crs_type":"srid","edges":"spherical"}"#;
+/// assert!(rt; text.is_some_and(|text| text.as_str() == wanted));
+/// ```
 #[derive(Debug, Default, PartialEq, Eq, Hash, Drop)]
 pub struct Metadata {
     crs: Crs,
@@ -43,7 +50,7 @@ pub struct Metadata {
 }
 
 impl Metadata {
-    /// The metadata of a CRS and of edges, which may be missing.
+    /// The metadata with that CRS and those edges, which may be missing.
     pub fn new(crs: Crs, edges: Option<Edges>) -> Metadata
         ensures crs { metadata_crs result ≡ crs }
         ensures edges { metadata_edges result ≡ edges }
@@ -58,7 +65,7 @@ impl Metadata {
         &self.crs
     }
 
-    /// How edges run; none means planar edges.
+    /// How edges run; `None` means planar edges.
     pub fn edges(&self) -> Option<Edges>
         ensures { result ≡ metadata_edges self.now }
     {
@@ -75,9 +82,9 @@ impl Metadata {
         })
     }
 
-    /// The JSON value that the metadata is written as (GeoArrow, "Extension metadata"): an object with `crs`, null where
-    /// there is no CRS value, with `crs_type` where there is one, and with `edges` where there are some. Where neither CRS
-    /// value nor edges stand there is none, and that takes no memory. Errs only when out of memory.
+    /// The JSON value that the metadata is written as (GeoArrow, "Extension metadata"): an object with `crs`, which is
+    /// null if there is no CRS value, with `crs_type` if there is one, and with `edges` if there are any. `None`, which
+    /// takes no memory, if there is neither a CRS value nor edges. Errs only when out of memory.
     pub fn to_value(&self, alloc: Global) -> Result<Option<Value>, AllocError>
         ensures value { IfOk result (λ o. option_map view o ≡ meta_value self.now) }
         ensures whole { IfOk result (λ o. IfSome o (λ v. has_float (view v) ≡ false)) }
@@ -91,12 +98,12 @@ impl Metadata {
         Ok(Some(written_value(alloc, value, self.crs.crs_type(), self.edges)?))
     }
 
-    /// The metadata that a JSON value stands for (GeoArrow, "Extension metadata"). The value must be an object. A `crs`,
-    /// `crs_type` or `edges` that is null or missing is absent; `crs` may be any other value whose numbers are whole, at
-    /// any depth (an integer of 64 bits: not 1.5, but not 1.0, 1e2 or -0 either), and `crs_type` and `edges` must be texts of
-    /// the format. Other keys are ignored. Errs, in this order, as `External` where there is no object, as `Crs` where a
-    /// number in `crs` is not whole, as `External` where `crs_type` is none of the format's, and as `External` where `edges`
-    /// are none of the format's; else only when out of memory.
+    /// The metadata that a JSON value stands for (GeoArrow, "Extension metadata"). The value must be an object. A
+    /// `crs`, `crs_type` or `edges` that is null or missing is absent; `crs` may be any other value whose numbers are
+    /// whole, at any depth (see [`Crs::is_projjson`]), and `crs_type` and `edges` must be texts of the format. Other
+    /// keys are ignored. Errs, in this order, with `External` if the value is not an object, with `Crs` if a number in
+    /// `crs` is not whole, with `External` if `crs_type` is not one of the format's, and with `External` if `edges` is
+    /// not one of the format's; otherwise only when out of memory.
     pub fn from_value(alloc: Global, value: &Value) -> GeoArrowResult<Metadata>
         ensures ok { IfOk result (StandsFor (view value.now)) }
         ensures only { IfOk result (λ m. (n : Metadata) → StandsFor (view value.now) n → n ≡ m) }
@@ -179,6 +186,13 @@ impl Metadata {
     /// The metadata that a text at a field's `ARROW:extension:metadata`, or its absence, stands for. No text gives the
     /// default, without memory. Errs as `ExternalError` of `External` where `serde_json` does not read the text, and of the
     /// error of `from_value` where that errs for the text's value; else only when out of memory.
+    ///
+    /// ```rust
+    /// let text = r#"{"crs":"EPSG:4326","edges":"spherical"}"#;
+    /// let metadata = Metadata::deserialize(alloc, Some(text))?;
+    /// assert_eq!(rt; metadata.edges(), Some(Edges::Spherical));
+    /// assert_eq!(rt; metadata.crs().crs_type(), None);
+    /// ```
     pub fn deserialize(alloc: Global, metadata: Option<&str>) -> Result<Metadata, ArrowError>
         ensures exact { MatchResult result (TextStandsFor (text_of metadata.entry))
             (λ e. IsMemory e
@@ -230,7 +244,7 @@ impl Metadata {
         }
     }
 
-    /// What `deserialize` answers, to be shared: extension types hold their metadata so. Errs as `deserialize` does.
+    /// The same as `deserialize`, in an `Arc`, as extension types hold their metadata. Errs as `deserialize` does.
     pub fn deserialize_shared(
         alloc: Global,
         metadata: Option<&str>,
@@ -244,7 +258,7 @@ impl Metadata {
         Ok(Arc::new(alloc, read)?)
     }
 
-    /// The metadata that a field's metadata text, or its absence, stands for, whatever the name of its extension type is.
+    /// The metadata that a field's metadata text, or its absence, stands for, whatever the name of its extension type.
     /// Errs as `deserialize` does.
     pub fn try_from_field(alloc: Global, field: &Field) -> Result<Metadata, ArrowError>
         ensures exact { MatchResult result (TextStandsFor (extension_metadata field.now))
@@ -271,7 +285,7 @@ impl Metadata {
         Metadata::deserialize_with_scratch(alloc, field.extension_type_metadata(), scratch)
     }
 
-    /// Whether both are written as the same JSON value: their normal forms are equal. Takes no memory.
+    /// Whether both are written as the same JSON value, that is, whether their normal forms are equal. Takes no memory.
     pub fn same_written(&self, other: &Metadata) -> bool
         ensures value { IsTrue result ↔ (meta_value self.now ≡ meta_value other.now) }
         ensures normal { IsTrue result ↔ (normal self.now ≡ normal other.now) }
@@ -282,7 +296,7 @@ impl Metadata {
         self.is_bare() || self.crs.crs_type() == other.crs.crs_type()
     }
 
-    /// Whether the metadata is in normal form. Where it is not, the normal form is the default metadata. Takes no memory.
+    /// Whether the metadata is in normal form. If it is not, its normal form is the default metadata. Takes no memory.
     pub fn is_normal(&self) -> bool
         ensures exact { IsTrue result ↔ (normal self.now ≡ self.now) }
         ensures else_default { IsTrue result ⊎ (normal self.now ≡ empty) }
@@ -297,7 +311,7 @@ impl Metadata {
         self.crs.crs_value().is_none() && self.edges.is_none()
     }
 
-    /// The normal form: the CRS type is dropped where neither CRS value nor edges stand, since nothing writes it then.
+    /// The normal form: the CRS type is dropped if there is neither a CRS value nor edges, since it is not written then.
     /// Takes no memory.
     pub fn normalized(self) -> Metadata
         ensures value { result ≡ normal self }

@@ -12,9 +12,16 @@ use serde_json::Value;
 use std::alloc::Global;
 use std::fmt::Debug;
 
-/// Converts a CRS to the format that a reader asks for. An implementation says, by the two ghost members, what its
-/// conversions may answer for a CRS. Callers use `extract_projjson` and `extract_wkt`, which answer a CRS that has the format
-/// already as it is, and not the two conversions, which need not.
+/// Converts a CRS to the format that a reader needs. The two ghost members of an implementation say what its
+/// conversions may return for a CRS. Call `extract_projjson` and `extract_wkt`, which return a CRS that is in the format
+/// already unchanged; do not call the two conversions, which need not do so.
+///
+/// ```rust
+/// match DefaultCrsTransform::default().extract_projjson(alloc, metadata.crs())? {
+///     Some(value) => Ok(Some(value.to_string(alloc)?)),
+///     None => Ok(None),
+/// }
+/// ```
 pub trait CrsTransform: Debug {
     // What the conversion to PROJJSON may answer for a CRS.
     ghost projjson_gives: { Self → Crs → Result (Option Value) GeoArrowError → Type 0 };
@@ -22,16 +29,16 @@ pub trait CrsTransform: Debug {
     // What the conversion to WKT may answer for a CRS.
     ghost wkt_gives: { Self → Crs → Result (Option (String Global)) GeoArrowError → Type 0 };
 
-    /// The CRS as PROJJSON, if it can be converted. It need not look at a CRS that is PROJJSON already.
+    /// The CRS as PROJJSON, if it can be converted. It need not handle a CRS that is PROJJSON already.
     fn _convert_to_projjson(&self, alloc: Global, crs: &Crs) -> GeoArrowResult<Option<Value>>
         ensures { projjson_gives self.now crs.now result };
 
-    /// The CRS as a text of WKT2:2019, if it can be converted. It need not look at a CRS that is such a text already.
+    /// The CRS as a text of WKT2:2019, if it can be converted. It need not handle a CRS that is such a text already.
     fn _convert_to_wkt(&self, alloc: Global, crs: &Crs) -> GeoArrowResult<Option<String>>
         ensures { wkt_gives self.now crs.now result };
 
-    /// The CRS as PROJJSON: where its type is `Projjson`, its own value, which errs only when out of memory, or none, without
-    /// memory, where there is none; else what the conversion answers.
+    /// The CRS as PROJJSON: if its type is `Projjson`, a copy of its value (this errs only when out of memory), or
+    /// `None` if it has no value; otherwise what the conversion returns.
     fn extract_projjson(&self, alloc: Global, crs: &Crs) -> GeoArrowResult<Option<Value>>
         ensures { MatchOption (own_projjson crs.now) (projjson_gives self.now crs.now result)
             (AnswersValue result) }
@@ -46,8 +53,8 @@ pub trait CrsTransform: Debug {
         }
     }
 
-    /// The CRS as a text of WKT2:2019: where its type is `Wkt2_2019` and its value a text, that text, which errs only when
-    /// out of memory; else what the conversion answers.
+    /// The CRS as a text of WKT2:2019: if its type is `Wkt2_2019` and its value a text, a copy of that text (this errs
+    /// only when out of memory); otherwise what the conversion returns.
     fn extract_wkt(&self, alloc: Global, crs: &Crs) -> GeoArrowResult<Option<String>>
         ensures { MatchOption (own_wkt crs.now) (wkt_gives self.now crs.now result)
             (AnswersText result) }
@@ -61,8 +68,15 @@ pub trait CrsTransform: Debug {
     }
 }
 
-/// The transform that converts nothing: both conversions answer none, without memory. So whoever writes a format that takes
-/// one form of CRS alone, and uses it, drops each CRS of another form.
+/// The transform that converts nothing: both conversions return `None`, which takes no memory. So a writer of a format that
+/// allows only one form of CRS loses each CRS of another form if it uses this transform.
+///
+/// ```rust
+/// let crs = Crs::from_wkt2_2019(String::from_str(alloc, r#"GEOGCRS["WGS 84"]"#)?);
+/// let transform = DefaultCrsTransform::default();
+/// assert!(rt; transform.extract_wkt(alloc, &crs)?.is_some());
+/// assert!(rt; transform.extract_projjson(alloc, &crs)?.is_none());
+/// ```
 #[derive(Debug, Clone, Default, Drop)]
 pub struct DefaultCrsTransform {}
 

@@ -36,7 +36,7 @@ pub fn written_field_reads_back(kind: Kind, metadata: &Metadata)
     printed_reads_back(metadata);
 }
 
-/// A law: `==` answers true for two native types exactly where coordinate type, dimension and metadata are equal.
+/// A law: `==` returns true for two native types exactly if coordinate type, dimension and metadata are equal.
 pub fn native_equality_is_exact<S: NativeShape>(one: &NativeType<S>, other: &NativeType<S>) -> bool
     ensures { IsTrue result ↔ ((native_coord_type one.now ≡ native_coord_type other.now)
         × (native_dimension one.now ≡ native_dimension other.now)

@@ -1,5 +1,5 @@
-//! GeoArrow's native types: one generic type, whose parameter says the shape. Points, line strings and polygons stand
-//! here; the shapes of many parts stand in the crate above.
+//! GeoArrow's native types: one generic type, whose parameter is the shape. The shapes of points, line strings and polygons
+//! are here; those of multipoints, multilinestrings, multipolygons and collections are in `geoarrow_multi`.
 #![tactic(auto)]
 
 pub mod laws;
@@ -15,10 +15,34 @@ pub use type_id::GeometryTypeId;
 pub use write::column_field;
 
 /// Points (GeoArrow, "Point"): each value is one coordinate.
+///
+/// ```rust
+/// let metadata = Arc::new(alloc, Metadata::default())?;
+/// let points = PointType::new(Dimension::XYM, metadata);
+/// let coordinate = coord_data_type(alloc, CoordType::Separated, Dimension::XYM)?;
+/// assert!(rt; points.data_type(alloc)? == coordinate);
+/// ```
 pub type PointType = NativeType<Point>;
 
 /// Line strings (GeoArrow, "LineString"): each value is a list of coordinates.
+///
+/// ```rust
+/// let metadata = Arc::new(alloc, Metadata::default())?;
+/// let lines = LineStringType::new(Dimension::XYZ, metadata);
+/// let coordinate = coord_data_type(alloc, CoordType::Separated, Dimension::XYZ)?;
+/// let vertices = Field::new(alloc, "vertices", coordinate, false)?;
+/// assert!(rt; lines.data_type(alloc)? == DataType::List(Box::new(alloc, vertices)?));
+/// ```
 pub type LineStringType = NativeType<LineString>;
 
 /// Polygons (GeoArrow, "Polygon"): each value is a list of rings, the outer one first.
+///
+/// ```rust
+/// let metadata = Arc::new(alloc, Metadata::default())?;
+/// let polygons = PolygonType::new(Dimension::XY, metadata);
+/// let coordinate = coord_data_type(alloc, CoordType::Separated, Dimension::XY)?;
+/// let vertices = Field::new(alloc, "vertices", coordinate, false)?;
+/// let rings = Field::new_list(alloc, "rings", vertices, false)?;
+/// assert!(rt; polygons.data_type(alloc)? == DataType::List(Box::new(alloc, rings)?));
+/// ```
 pub type PolygonType = NativeType<Polygon>;

@@ -20,9 +20,15 @@ use std::fmt;
 use std::marker::PhantomData;
 use std::sync::Arc;
 
-/// A native type of a shape (GeoArrow, "Native encoding"): columns of geometries of one kind, in one coordinate type and
-/// one dimension, with metadata. `PointType`, `LineStringType` and the other five are this type at their shapes. Two
-/// are equal, and then hash equally, where all three parts are, the metadata by its value.
+/// A native type of a shape (GeoArrow, "Native encoding"): columns of geometries of one kind, with one coordinate type and
+/// one dimension, and with metadata. `PointType`, `LineStringType` and the other five are this type at their shapes. Two
+/// are equal, and then hash equally, if all three parts are equal; metadata is compared by value.
+///
+/// ```rust
+/// let metadata = Arc::new(alloc, Metadata::default())?;
+/// let polygons = PolygonType::new(Dimension::XYZ, metadata);
+/// assert_eq!(rt; polygons.coord_type(), CoordType::Separated);
+/// ```
 #[derive(Drop)]
 #[derive_where(PartialEq, Eq, Hash)]
 pub struct NativeType<S> {
@@ -50,7 +56,7 @@ impl<S: NativeShape> NativeType<S> {
         }
     }
 
-    /// The type with that coordinate type, and otherwise as it was.
+    /// The type with that coordinate type, otherwise unchanged.
     pub fn with_coord_type(self, coord_type: CoordType) -> NativeType<S>
         ensures coord_type { native_coord_type result ≡ coord_type }
         ensures dimension { native_dimension result ≡ native_dimension self }
@@ -59,7 +65,7 @@ impl<S: NativeShape> NativeType<S> {
         NativeType { coord_type, ..self }
     }
 
-    /// The type with that dimension, and otherwise as it was.
+    /// The type with that dimension, otherwise unchanged.
     pub fn with_dimension(self, dimension: Dimension) -> NativeType<S>
         ensures coord_type { native_coord_type result ≡ native_coord_type self }
         ensures dimension { native_dimension result ≡ dimension }
@@ -68,7 +74,7 @@ impl<S: NativeShape> NativeType<S> {
         NativeType { dimension, ..self }
     }
 
-    /// The type with that metadata, and otherwise as it was.
+    /// The type with that metadata, otherwise unchanged.
     pub fn with_metadata(self, metadata: Arc<Metadata>) -> NativeType<S>
         ensures coord_type { native_coord_type result ≡ native_coord_type self }
         ensures dimension { native_dimension result ≡ native_dimension self }
@@ -91,7 +97,7 @@ impl<S: NativeShape> NativeType<S> {
         self.dimension
     }
 
-    /// The metadata: the very one that was given.
+    /// The metadata, in the `Arc` that was given.
     pub fn metadata(&self) -> &Arc<Metadata>
         ensures { result.now ≡ native_metadata self.now }
     {
@@ -105,7 +111,7 @@ impl<S: NativeShape> NativeType<S> {
         (self.coord_type, self.dimension, self.metadata)
     }
 
-    /// An equal type, which shares the metadata. Errs where the metadata has as many owners as can be counted.
+    /// An equal type, which shares the metadata. Errs if the metadata has as many owners as can be counted.
     pub fn try_clone(&self, _alloc: Global) -> Result<NativeType<S>, AllocError>
         ensures coord_type { IfOk result (λ e. native_coord_type e ≡ native_coord_type self.now) }
         ensures dimension { IfOk result (λ e. native_dimension e ≡ native_dimension self.now) }
@@ -120,6 +126,14 @@ impl<S: NativeShape> NativeType<S> {
     }
 
     /// The data type of a column of this type (GeoArrow, "Native encoding"). Errs only when out of memory.
+    ///
+    /// ```rust
+    /// let metadata = Arc::new(alloc, Metadata::default())?;
+    /// let points = PointType::new(Dimension::XY, metadata).with_coord_type(CoordType::Interleaved);
+    /// let xy = Field::new(alloc, "xy", DataType::Float64, false)?;
+    /// let wanted = DataType::FixedSizeList(Box::new(alloc, xy)?, 2);
+    /// assert!(rt; points.data_type(alloc)? == wanted);
+    /// ```
     pub fn data_type(&self, alloc: Global) -> Result<DataType, AllocError>
         ensures { IfOk result (λ t. tree t ≡ native_layout S.KIND (native_coord_type self.now) (native_dimension self.now)) }
     {
@@ -127,8 +141,8 @@ impl<S: NativeShape> NativeType<S> {
     }
 
     /// The field of a column of this type: that name and nullability, the data type of `data_type`, and as its metadata
-    /// the extension name and the metadata's text, where there is one (GeoArrow, "Extension types"). It reads back to
-    /// the type with its metadata in normal form, where `serde_json` reads what it printed. Errs only when out of
+    /// the extension name and the metadata's text, if there is one (GeoArrow, "Extension types"). It reads back as
+    /// the type with its metadata in normal form, if `serde_json` reads what it printed. Errs only when out of
     /// memory.
     pub fn to_field(&self, alloc: Global, name: &str, nullable: bool) -> Result<Field, ArrowError>
         ensures written { IfOk result (λ f. f ≡ written_field name.now nullable

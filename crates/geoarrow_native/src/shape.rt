@@ -1,9 +1,9 @@
-//! What tells one native type from another.
+//! What differs between the native types.
 
 use geoarrow_layout::NativeKind;
 
-/// The shape of a native type: what `NativeType` is a type of. Each shape is an empty struct; it stands for a kind of
-/// geometry, and no geometry is made of it.
+/// The shape of a native type: the parameter of `NativeType`. Each shape is an empty struct, which represents a kind of
+/// geometry; it holds no geometry.
 pub trait NativeShape {
     ghost use Rattle.std.specs.Prelude.{◌≡◌, ℤ, pos};
     ghost use Rattle.geoarrow_layout.specs.declared.encodings.NativeKind.{NativeKind};

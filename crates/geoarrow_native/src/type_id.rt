@@ -5,6 +5,13 @@ use crate::shape::NativeShape;
 use geoarrow_layout::Dimension;
 
 /// A type that has a type id in each dimension (GeoArrow, "Geometry": the table of type ids).
+///
+/// ```rust
+/// let metadata = Arc::new(alloc, Metadata::default())?;
+/// let polygons = PolygonType::new(Dimension::XYZ, metadata);
+/// assert_eq!(rt; polygons.coord_type(), CoordType::Separated);
+/// assert_eq!(rt; polygons.geometry_type_id(), 13);
+/// ```
 pub trait GeometryTypeId {
     ghost use Rattle.std.specs.Prelude.{◌≡◌, ℤ, pos, ◌≤ℤ◌, ◌+ℤ◌, ◌*◌};
     ghost use Rattle.geoarrow_layout.specs.declared.kinds.Dimension.{Dimension};
@@ -21,7 +28,7 @@ pub trait GeometryTypeId {
     fn dimension(&self) -> Dimension
         ensures { result ≡ dimension_of self.now };
 
-    /// The type id: ten times the dimension's place, and the offset. So it is 1 to 37.
+    /// The type id: ten times the number of the dimension, plus the offset. So it is from 1 to 37.
     fn geometry_type_id(&self) -> i8
         ensures { result ≡ pos (10 * order_of (dimension_of self.now)) +ℤ GEOMETRY_TYPE_OFFSET }
     {

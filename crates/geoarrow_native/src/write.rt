@@ -14,8 +14,8 @@ use geoarrow_meta::Metadata;
 use std::alloc::Global;
 
 /// The field of a column of a kind: that name and nullability, the kind's data type, and as its metadata the extension
-/// name and the metadata's text, where there is one (GeoArrow, "Extension types"). The extension type must be one of that
-/// kind and metadata. The field reads back as the kind and the normal form of the metadata, where `serde_json` reads what
+/// name and the metadata's text, if there is one (GeoArrow, "Extension types"). The extension type must be one of that
+/// kind and metadata. The field reads back as the kind and the normal form of the metadata, if `serde_json` reads what
 /// it printed. Errs only when out of memory.
 pub fn column_field<E: ExtensionType>(
     alloc: Global,

@@ -3,3 +3,4 @@ pub mod Inferring
 pub mod Inferable
 pub mod Rewriting
 pub mod SameWritten
+pub mod Texts

@@ -1,4 +1,4 @@
--- What a field without a GeoArrow name is taken for.
+-- What is inferred for a field without a GeoArrow name.
 use Rattle.std.specs.Prelude.{◌≡◌, ◌⊎◌, ◌↔◌, Option, Some, None, Result, Ok, Err, ⊤}
 use Rattle.arrow_values.specs.Tree.{Tree, FieldTree}
 use Rattle.arrow_values.specs.Texts.{extension_name, extension_metadata}
@@ -17,53 +17,53 @@ use Rattle.geoarrow_schema.specs.declared.types.GeoArrowType.{GeoArrowType}
 use Rattle.geoarrow_schema.specs.Types.{kind_of, meta_of}
 use Rattle.geoarrow_schema.specs.Reads.{HasGeoArrowName, Reads, ReadsAlone, ReadsAsNone, RefusedAs}
 
--- the tree is taken for that of a kind: a point, well-known binary or well-known text
+-- the kind is inferred from the tree: a point, well-known binary or well-known text
 abbrev pub InferredAs : Tree → Kind → Type 0
 InferredAs t (Native Point c d) = Inferred t c d
 InferredAs t (Wkb w) = IsBytes w t
 InferredAs t (Wkt w) = IsText w t
 InferredAs t _ = ⊥
 
--- no GeoArrow name stands on the field, its metadata text stands for the metadata, and its tree is taken for the kind
+-- the field has no GeoArrow name, its metadata text stands for the metadata, and the kind is inferred from its tree
 unfoldable pub InfersAs : FieldTree → Kind → Metadata → Type 0
 InfersAs f k m = ¬ HasGeoArrowName f × TextStandsFor (extension_metadata f) m × InferredAs f.tree k
 
--- the field is taken for the type
+-- the type is inferred for the field
 abbrev pub Infers : FieldTree → GeoArrowType → Type 0
 Infers f g = InfersAs f (kind_of g) (meta_of g)
 
--- the field is taken for nothing
+-- nothing is inferred for the field
 abbrev pub InfersNone : FieldTree → Type 0
 InfersNone f = (k : Kind) (m : Metadata) → ¬ InfersAs f k m
 
--- the field is taken for no other kind and metadata
+-- no other kind and metadata are inferred for the field
 abbrev pub InfersAlone : FieldTree → GeoArrowType → Type 0
 InfersAlone f g = (k : Kind) (m : Metadata) → InfersAs f k m → (k ≡ kind_of g) × (m ≡ meta_of g)
 
--- the field is read as the type or taken for it
+-- the field is read as the type, or the type is inferred for it
 abbrev pub ReadsOrInfers : FieldTree → GeoArrowType → Type 0
 ReadsOrInfers f g = Reads f g ⊎ Infers f g
 
--- it is read as no other, and taken for no other
+-- it is read as no other, and no other is inferred
 abbrev pub ReadsOrInfersAlone : FieldTree → GeoArrowType → Type 0
 ReadsOrInfersAlone f g = ReadsAlone f g × InfersAlone f g
 
--- the error by which a field without a GeoArrow name is refused: as its metadata text is, where that stands for none; and as `InvalidGeoArrow` for its tree
+-- the error with which a field without a GeoArrow name is refused: that of its metadata text, if that stands for none; `InvalidGeoArrow` for its tree
 abbrev pub UninferredAs : FieldTree → GeoArrowError → Type 0
 UninferredAs f (InvalidGeoArrow s) = (m : Metadata) × TextStandsFor (extension_metadata f) m
 UninferredAs f (Arrow a) = ((m : Metadata) → ¬ TextStandsFor (extension_metadata f) m) × TextRefusedAs (extension_metadata f) a
 UninferredAs f _ = ⊥
 
--- out-of-memory; or the field is read as nothing and taken for nothing, and that is how it is refused
+-- out of memory; or the field is read as nothing, nothing is inferred, and this is its error
 abbrev pub IsInferenceRefusal : FieldTree → GeoArrowError → Type 0
 IsInferenceRefusal f e = IsGeoMemory e ⊎ (ReadsAsNone f × InfersNone f × ((HasGeoArrowName f × RefusedAs f e) ⊎ (¬ HasGeoArrowName f × UninferredAs f e)))
 
--- what a field is read as or, without a GeoArrow name, taken for
+-- what a field is read as or, without a GeoArrow name, what is inferred for it
 abbrev pub IsInference : FieldTree → Result GeoArrowType GeoArrowError → Type 0
 IsInference f (Ok g) = ReadsOrInfers f g
 IsInference f (Err e) = IsInferenceRefusal f e
 
--- the answer is the one kind that the tree is taken for, and none where it is taken for none
+-- the result is the one kind that is inferred from the tree, or `None` if there is none
 abbrev pub AnswersInferred : Tree → Option Kind → Type 0
 AnswersInferred t r = (k : Kind) → (r ≡ Some k) ↔ InferredAs t k
 
@@ -73,11 +73,11 @@ IsStored t (Wkb w) = IsBytes w t
 IsStored t (Wkt w) = IsText w t
 IsStored t _ = ⊥
 
--- the answer is the one kind of well-known binary or text that the tree is of, and none where there is none
+-- the result is the one kind of well-known binary or text of the tree, or `None` if there is none
 abbrev pub SerializedAs : Tree → Option Kind → Type 0
 SerializedAs t r = (k : Kind) → (r ≡ Some k) ↔ IsStored t k
 
--- a kind whose data type says it without a name: points, well-known binary and text
+-- a kind that can be inferred from its data type: points, well-known binary and text
 abbrev pub IsInferable : Kind → Type 0
 IsInferable (Native Point c d) = ⊤
 IsInferable (Wkb w) = ⊤

@@ -1,4 +1,4 @@
--- The normal form of a type, and the field in it.
+-- The normal form of a type, and of a field.
 use Rattle.arrow_values.specs.Tree.{FieldTree}
 use Rattle.geoarrow_layout.specs.declared.encodings.Kind.{Kind}
 use Rattle.geoarrow_layout.specs.Layouts.{layout}
@@ -14,14 +14,14 @@ use Rattle.std.specs.Prelude.{◌≡◌}
 abbrev pub normal_of : GeoArrowType → Kind × Metadata
 normal_of g = (kind_of g, normal (meta_of g))
 
--- the field with the layout of a kind and its extension keys, and otherwise as it was
+-- the field with the layout of a kind and its extension keys, otherwise unchanged
 abbrev pub rewritten : FieldTree → Kind → Metadata → FieldTree
 rewritten f k m = dressed (record f { tree = layout k }) k m
 
--- n reads as a kind and the normal form of a metadata, where `serde_json` reads what it printed of that
+-- n reads as a kind and the normal form of a metadata, if `serde_json` reads what it printed of it
 abbrev pub ReadsNormally : FieldTree → Kind → Metadata → Type 0
 ReadsNormally n k m = IsReadBack (meta_value (normal m)) → ReadsAs n k (normal m)
 
--- n is the field as the normal form of the type that it reads as is written, and reads as that
+-- n is the field with what is written for the normal form of the type that it reads as, and n reads as that normal form
 abbrev pub IsCanonical : FieldTree → FieldTree → Type 0
 IsCanonical f n = (g : GeoArrowType) × Reads f g × (n ≡ rewritten f (kind_of g) (normal (meta_of g))) × ReadsNormally n (kind_of g) (meta_of g)

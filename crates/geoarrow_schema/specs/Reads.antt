@@ -21,11 +21,11 @@ use Rattle.geoarrow_native.specs.Column.{ReadsAs, IsLayoutRefusal, written_field
 use Rattle.geoarrow_schema.specs.declared.types.GeoArrowType.{GeoArrowType}
 use Rattle.geoarrow_schema.specs.Types.{kind_of, meta_of}
 
--- that name stands on the field
+-- the field has that extension name
 abbrev pub HasName : FieldTree → ExtensionName → Type 0
 HasName f n = extension_name f ≡ Some (name_text n)
 
--- one of GeoArrow's names stands on the field
+-- the field has one of GeoArrow's extension names
 abbrev pub HasGeoArrowName : FieldTree → Type 0
 HasGeoArrowName f = (n : ExtensionName) × HasName f n
 
@@ -41,15 +41,15 @@ ReadsAsNone f = (k : Kind) (m : Metadata) → ¬ ReadsAs f k m
 abbrev pub ReadsAlone : FieldTree → GeoArrowType → Type 0
 ReadsAlone f g = (k : Kind) (m : Metadata) → ReadsAs f k m → (k ≡ kind_of g) × (m ≡ meta_of g)
 
--- the name of well-known binary stands on the field, and its tree is no bytes; or that of well-known text, and its tree is no text
+-- the field has the name of well-known binary and its tree is not bytes, or that of well-known text and its tree is not text
 abbrev pub IsUnstored : FieldTree → Type 0
 IsUnstored f = (HasName f Wkb × ((w : Width) → ¬ IsBytes w f.tree)) ⊎ (HasName f Wkt × ((w : Width) → ¬ IsText w f.tree))
 
--- the refusal of the field's metadata text; or, where that stands for a metadata, that of a layout
+-- the error of the field's metadata text or, if that stands for a metadata, that of a layout
 abbrev pub IsColumnRefusal : FieldTree → ArrowError → Type 0
 IsColumnRefusal f a = TextRefusedAs (extension_metadata f) a ⊎ (((m : Metadata) × TextStandsFor (extension_metadata f) m) × IsLayoutRefusal a)
 
--- the error by which a field with a GeoArrow name is refused
+-- the error with which a field with a GeoArrow name is refused
 abbrev pub RefusedAs : FieldTree → GeoArrowError → Type 0
 RefusedAs f (InvalidGeoArrow s) = IsUnstored f
 RefusedAs f (Arrow a) = ¬ IsUnstored f × IsColumnRefusal f a
@@ -59,11 +59,11 @@ RefusedAs f _ = ⊥
 abbrev pub IsRefusal : FieldTree → GeoArrowError → Type 0
 IsRefusal f e = IsGeoMemory e ⊎ (ReadsAsNone f × RefusedAs f e)
 
--- a GeoArrow name stands on the field, which is refused so
+-- the field has a GeoArrow name and is refused with this error
 abbrev pub IsRefusedBy : FieldTree → GeoArrowError → Type 0
 IsRefusedBy f e = HasGeoArrowName f × IsRefusal f e
 
--- what a field is read as: the type that it stands for; none, where no GeoArrow name stands on it; or, where one does, how it is refused
+-- what a field is read as: the type that it stands for; `None` if it has no GeoArrow name; or, if it has one, how it is refused
 abbrev pub IsReading : FieldTree → Result (Option GeoArrowType) GeoArrowError → Type 0
 IsReading f (Ok (Some g)) = Reads f g
 IsReading f (Ok None) = ¬ HasGeoArrowName f
@@ -74,11 +74,11 @@ abbrev pub IsInvalid : GeoArrowError → Type 0
 IsInvalid (InvalidGeoArrow s) = ⊤
 IsInvalid _ = ⊥
 
--- out-of-memory; or the field is read as nothing, and that is how it is refused: where no GeoArrow name stands on it, as an `InvalidGeoArrow`
+-- out of memory; or the field is read as nothing, and this is its error: without a GeoArrow name an `InvalidGeoArrow`
 abbrev pub IsTypeRefusal : FieldTree → GeoArrowError → Type 0
 IsTypeRefusal f e = IsGeoMemory e ⊎ (ReadsAsNone f × ((HasGeoArrowName f × RefusedAs f e) ⊎ (¬ HasGeoArrowName f × IsInvalid e)))
 
--- what a field is read as where a type is wanted
+-- what a field is read as by a call that must return a type
 abbrev pub IsTypeReading : FieldTree → Result GeoArrowType GeoArrowError → Type 0
 IsTypeReading f (Ok g) = Reads f g
 IsTypeReading f (Err e) = IsTypeRefusal f e
@@ -90,7 +90,7 @@ Written = Text × Tree × Option Data
 abbrev pub writes : GeoArrowType → Written
 writes g = (name_of (kind_of g), layout (kind_of g), meta_value (meta_of g))
 
--- the field with the extension name of a kind and the metadata text of a metadata, and otherwise as it was
+-- the field with the extension name of a kind and the metadata text of a metadata, otherwise unchanged
 abbrev pub dressed : FieldTree → Kind → Metadata → FieldTree
 dressed f k m = record f { metadata = set_extension (name_of k) (printed m) f.metadata }
 

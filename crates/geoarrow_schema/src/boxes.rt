@@ -16,7 +16,23 @@ use std::alloc::{AllocError, Global};
 use std::sync::Arc;
 
 /// Boxes (GeoArrow, "Box"): each value is the least and the greatest value of each dimension. Two types are equal, and
-/// then hash equally, where dimension and metadata are, the metadata by its value.
+/// then hash equally, if dimension and metadata are equal; metadata is compared by value.
+///
+/// ```rust
+/// let mut fields = Vec::new(alloc);
+/// for &name in [
+///     FixedName::Xmin,
+///     FixedName::Ymin,
+///     FixedName::Xmax,
+///     FixedName::Ymax,
+/// ]
+/// .iter()
+/// {
+///     fields.push(Field::fixed(alloc, name, DataType::Float64, false))?;
+/// }
+/// let boxes = BoxType::new(Dimension::XY, Arc::new(alloc, Metadata::default())?);
+/// assert!(rt; boxes.data_type(alloc)? == DataType::Struct(Fields::from(fields)));
+/// ```
 #[derive(Debug, PartialEq, Eq, Hash, Drop)]
 pub struct BoxType {
     pub(crate) dimension: Dimension,
@@ -40,7 +56,7 @@ impl BoxType {
         }
     }
 
-    /// The type with that dimension, and otherwise as it was.
+    /// The type with that dimension, otherwise unchanged.
     pub fn with_dimension(self, dimension: Dimension) -> BoxType
         ensures dimension { box_dimension result ≡ dimension }
         ensures metadata { box_metadata result ≡ box_metadata self }
@@ -48,7 +64,7 @@ impl BoxType {
         BoxType { dimension, ..self }
     }
 
-    /// The type with that metadata, and otherwise as it was.
+    /// The type with that metadata, otherwise unchanged.
     pub fn with_metadata(self, metadata: Arc<Metadata>) -> BoxType
         ensures dimension { box_dimension result ≡ box_dimension self }
         ensures metadata { box_metadata result ≡ metadata }
@@ -63,14 +79,14 @@ impl BoxType {
         self.dimension
     }
 
-    /// The metadata: the very one that was given.
+    /// The metadata, in the `Arc` that was given.
     pub fn metadata(&self) -> &Arc<Metadata>
         ensures { result.now ≡ box_metadata self.now }
     {
         &self.metadata
     }
 
-    /// An equal type, which shares the metadata. Errs where the metadata has as many owners as can be counted.
+    /// An equal type, which shares the metadata. Errs if the metadata has as many owners as can be counted.
     pub fn try_clone(&self, _alloc: Global) -> Result<BoxType, AllocError>
         ensures dimension { IfOk result (λ e. box_dimension e ≡ box_dimension self.now) }
         ensures metadata { IfOk result (λ e. box_meta e ≡ box_meta self.now) }

@@ -1,4 +1,4 @@
-//! The two generic types of which the native and the serialized types are, and what they are generic over.
+//! The generic types behind the native and the serialized types, and their parameters.
 
 pub use crate::serialized::{Encoding, SerializedType, Wkb, Wkt};
 pub use geoarrow_multi::{GeometryCollection, MultiLineString, MultiPoint, MultiPolygon};

@@ -16,9 +16,15 @@ use geoarrow_native::column_field;
 use std::alloc::{AllocError, Global};
 use std::sync::Arc;
 
-/// Geometries of any kind and dimension (GeoArrow, "Geometry"): each value is a member of a union, and all are of one
-/// coordinate type. Two types are equal, and then hash equally, where coordinate type and metadata are, the metadata by
-/// its value.
+/// Geometries of any kind and dimension (GeoArrow, "Geometry"): each value is a member of a union, and all have the same
+/// coordinate type. Two types are equal, and then hash equally, if coordinate type and metadata are equal; metadata is
+/// compared by value.
+///
+/// ```rust
+/// let geometries = GeometryType::try_default(alloc)?.with_coord_type(CoordType::Interleaved);
+/// let data_type = geometries.data_type(alloc)?;
+/// assert!(rt; matches!(data_type, DataType::Union(_, UnionMode::Dense)));
+/// ```
 #[derive(Debug, PartialEq, Eq, Hash, Drop)]
 pub struct GeometryType {
     pub(crate) coord_type: CoordType,
@@ -47,7 +53,7 @@ impl GeometryType {
         Ok(GeometryType::new(Arc::new(alloc, Metadata::default())?))
     }
 
-    /// The type with that coordinate type, and otherwise as it was.
+    /// The type with that coordinate type, otherwise unchanged.
     pub fn with_coord_type(self, coord_type: CoordType) -> GeometryType
         ensures coord_type { geometry_coord_type result ≡ coord_type }
         ensures metadata { geometry_metadata result ≡ geometry_metadata self }
@@ -55,7 +61,7 @@ impl GeometryType {
         GeometryType { coord_type, ..self }
     }
 
-    /// The type with that metadata, and otherwise as it was.
+    /// The type with that metadata, otherwise unchanged.
     pub fn with_metadata(self, metadata: Arc<Metadata>) -> GeometryType
         ensures coord_type { geometry_coord_type result ≡ geometry_coord_type self }
         ensures metadata { geometry_metadata result ≡ metadata }
@@ -70,14 +76,14 @@ impl GeometryType {
         self.coord_type
     }
 
-    /// The metadata: the very one that was given.
+    /// The metadata, in the `Arc` that was given.
     pub fn metadata(&self) -> &Arc<Metadata>
         ensures { result.now ≡ geometry_metadata self.now }
     {
         &self.metadata
     }
 
-    /// An equal type, which shares the metadata. Errs where the metadata has as many owners as can be counted.
+    /// An equal type, which shares the metadata. Errs if the metadata has as many owners as can be counted.
     pub fn try_clone(&self, _alloc: Global) -> Result<GeometryType, AllocError>
         ensures coord_type { IfOk result (λ e. geometry_coord_type e ≡ geometry_coord_type self.now) }
         ensures metadata { IfOk result (λ e. geometry_meta e ≡ geometry_meta self.now) }

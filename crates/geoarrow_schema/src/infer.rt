@@ -1,9 +1,10 @@
-//! Which type a field without a GeoArrow name is taken for.
+//! Which type is inferred for a field without a GeoArrow name.
 ghost use Rattle.std.specs.Prelude.{◌⊎◌, IfOk, IfErr};
 ghost use Rattle.arrow_values.specs.View.{tree};
 ghost use Rattle.arrow_values.specs.Errors.{IsGeoMemory};
+ghost use Rattle.geoarrow_layout.specs.declared.encodings.Kind.{Kind};
 ghost use Rattle.geoarrow_schema.specs.Reads.{HasGeoArrowName};
-ghost use Rattle.geoarrow_schema.specs.Infers.{Infers, InfersAlone, ReadsOrInfersAlone, InfersNone, UninferredAs, IsInference, AnswersInferred, SerializedAs};
+ghost use Rattle.geoarrow_schema.specs.Infers.{InferredAs, Infers, InfersAlone, ReadsOrInfersAlone, InfersNone, UninferredAs, IsInference, AnswersInferred, SerializedAs};
 
 use crate::read::{name_of, read_metadata, read_named};
 use crate::types::GeoArrowType;
@@ -14,16 +15,23 @@ use std::alloc::Global;
 use std::sync::Arc;
 
 impl GeoArrowType {
-    /// The type that a field is read as, as `from_extension_field` reads it; and where that answers none, the type that the
-    /// field's data type is taken for, with the metadata for which its metadata text, or its absence, stands: a separated
-    /// point where it is a struct of 2, 3 or 4 `Float64` fields, an interleaved point where it is a fixed size list of 2, 3
-    /// or 4 of them (three are x, y and m where they are named so, else x, y and z), well-known binary where it is
-    /// `Binary`, `LargeBinary` or `BinaryView`, and well-known text where it is `Utf8`, `LargeUtf8` or `Utf8View`. A field
-    /// has one such type at most.
+    /// The type that a field is read as by `from_extension_field`. If that returns `None`, the type that is inferred
+    /// from the field's data type, with the metadata that the metadata text, or its absence, stands for: a separated
+    /// point for a struct of 2, 3 or 4 `Float64` fields, an interleaved point for a fixed size list of 2, 3 or 4 of
+    /// them (three are x, y and m if they are named so, otherwise x, y and z), well-known binary for `Binary`,
+    /// `LargeBinary` and `BinaryView`, and well-known text for `Utf8`, `LargeUtf8` and `Utf8View`. A field has at most
+    /// one such type.
     ///
-    /// Errs as `from_extension_field` does. Where no GeoArrow name stands on the field it errs as `Arrow` exactly where the
-    /// metadata text stands for no metadata, and as `InvalidGeoArrow` where it does and the data type is taken for none;
-    /// else only when out of memory.
+    /// Errs as `from_extension_field` does. If the field has no GeoArrow name, it errs with `Arrow` exactly if the
+    /// metadata text stands for no metadata, and with `InvalidGeoArrow` if it does and no type is inferred from the
+    /// data type; otherwise only when out of memory.
+    ///
+    /// ```rust
+    /// let unnamed = Field::new(alloc, "geom", DataType::Binary, true)?;
+    /// assert!(rt; GeoArrowType::from_extension_field(alloc, &unnamed)?.is_none());
+    /// let inferred = GeoArrowType::from_arrow_field(alloc, &unnamed)?;
+    /// assert!(rt; matches!(inferred, GeoArrowType::Wkb(_)));
+    /// ```
     pub fn from_arrow_field(alloc: Global, field: &Field) -> GeoArrowResult<GeoArrowType>
         ensures inference { IsInference field.now result }
         ensures only { IfOk result (ReadsOrInfersAlone field.now) }
@@ -60,7 +68,7 @@ fn read_or_infer(
 }
 
 /// The type that a field without a GeoArrow name is taken for.
-#[tactic(auto, using(crate::proofs::Inferring::type_inferred, crate::proofs::Inferring::none_for_tree, crate::proofs::Inferring::uninferred_text, crate::proofs::Inferring::uninferred_tree))]
+#[tactic(auto, using(crate::proofs::Inferring::type_inferred, crate::proofs::Inferring::uninferred_text))]
 fn infer(
     alloc: Global,
     field: &Field,
@@ -71,10 +79,22 @@ fn infer(
     ensures only { IfOk result (InfersAlone field.now) }
     ensures refused { IfErr result (λ e. IsGeoMemory e ⊎ (InfersNone field.now × UninferredAs field.now e)) }
 {
+    let Some(kind) = infer_kind(field.data_type()) else {
+        return Err(uninferred(alloc, field, scratch));
+    };
     let metadata = Arc::new(alloc, read_metadata(alloc, field, scratch)?)?;
-    match infer_kind(field.data_type()) {
-        Some(kind) => Ok(GeoArrowType::from_kind(kind, metadata)),
-        None => Err(GeoArrowError::invalid_geoarrow(alloc, fault_text(field.data_type()))),
+    Ok(GeoArrowType::from_kind(kind, metadata))
+}
+
+/// The refusal of a field whose data type is taken for none: that of its metadata, if it is refused, goes before.
+#[tactic(auto, using(crate::proofs::Inferring::none_for_tree, crate::proofs::Inferring::uninferred_text, crate::proofs::Inferring::uninferred_tree))]
+fn uninferred(alloc: Global, field: &Field, scratch: Option<&mut Scratch>) -> GeoArrowError
+    requires { (k : Kind) → ¬ InferredAs field.now.tree k }
+    ensures { IsGeoMemory result ⊎ (InfersNone field.now × UninferredAs field.now result) }
+{
+    match read_metadata(alloc, field, scratch) {
+        Ok(_) => GeoArrowError::invalid_geoarrow(alloc, fault_text(field.data_type())),
+        Err(error) => GeoArrowError::Arrow(error),
     }
 }
 

@@ -48,7 +48,7 @@ pub fn written_is_inferred()
         → meta_of g ≡ empty → Infers f g }
 {}
 
-/// A law: `==` answers true for two types of geometries of any kind exactly where coordinate type and metadata are
+/// A law: `==` returns true for two types of geometries of any kind exactly if coordinate type and metadata are
 /// equal.
 pub fn geometry_equality_is_exact(one: &GeometryType, other: &GeometryType) -> bool
     ensures { IsTrue result ↔ ((geometry_coord_type one.now ≡ geometry_coord_type other.now)
@@ -58,7 +58,7 @@ pub fn geometry_equality_is_exact(one: &GeometryType, other: &GeometryType) -> b
     one == other
 }
 
-/// A law: `==` answers true for two types of boxes exactly where dimension and metadata are equal.
+/// A law: `==` returns true for two types of boxes exactly if dimension and metadata are equal.
 pub fn box_equality_is_exact(one: &BoxType, other: &BoxType) -> bool
     ensures { IsTrue result ↔ ((box_dimension one.now ≡ box_dimension other.now)
         × (box_meta one.now ≡ box_meta other.now)) }
@@ -67,7 +67,7 @@ pub fn box_equality_is_exact(one: &BoxType, other: &BoxType) -> bool
     one == other
 }
 
-/// A law: `==` answers true for two types of well-known binary, or of text, exactly where their metadata are equal.
+/// A law: `==` returns true for two types of well-known binary, or of text, exactly if their metadata are equal.
 pub fn serialized_equality_is_exact<E: Encoding>(
     one: &SerializedType<E>,
     other: &SerializedType<E>,
@@ -78,7 +78,7 @@ pub fn serialized_equality_is_exact<E: Encoding>(
     one == other
 }
 
-/// A law: `==` answers true for two types exactly where their kinds and their metadata are equal.
+/// A law: `==` returns true for two types exactly if their kinds and their metadata are equal.
 pub fn equality_is_exact(one: &GeoArrowType, other: &GeoArrowType) -> bool
     ensures { IsTrue result ↔ SameType one.now other.now }
 {

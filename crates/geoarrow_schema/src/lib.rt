@@ -1,16 +1,21 @@
-//! GeoArrow's types: how a field is read as one, and how one is written as a field. This is the crate to use: it brings
-//! the names of the crates below too, but those of Arrow itself, which stand in `arrow_values`.
+//! GeoArrow's types: how a field is read as one, and how one is written as a field. This is the crate to use: it also
+//! re-exports the names of the crates below, except those of Arrow itself, which are in `arrow_values`.
 //!
-//! Three calls carry what is proved above all, out-of-memory aside:
+//! The main theorems are about three calls. Apart from running out of memory:
 //!
-//! 1. `GeoArrowType::from_extension_field` answers a type exactly where the field's extension name, data type and metadata
-//!    text stand for one, and they stand for no other.
-//! 2. It answers none exactly where no GeoArrow name stands on the field.
-//! 3. Otherwise it errs: as `InvalidGeoArrow` exactly where the name is that of well-known binary or text and the data type
-//!    none of its three, and else as `Arrow` of the refusal of the metadata text or, where that is not refused, of the layout.
-//! 4. `GeoArrowType::same_written` answers true exactly where two types are written as the same name, data type and
-//!    metadata value, which is exactly where their normal forms are equal.
-//! 5. What `GeoArrowType::to_field` writes reads back as the normal form of the type, where `serde_json` reads what it printed.
+//! 1. `GeoArrowType::from_extension_field` returns a type exactly if the field's extension name, data type and metadata
+//!    text stand for one; they stand for no other.
+//! 2. It returns `None` exactly if the field has no GeoArrow name.
+//! 3. Otherwise it errs: with `InvalidGeoArrow` exactly if the name is that of well-known binary or text and the data
+//!    type is none of its three, and otherwise with `Arrow` of the error of the metadata text or, if that is valid, of
+//!    the layout.
+//! 4. `GeoArrowType::same_written` returns true exactly if two types are written as the same name, data type and
+//!    metadata value, which is so exactly if their normal forms are equal.
+//! 5. What `GeoArrowType::to_field` writes reads back as the normal form of the type, if `serde_json` reads what it
+//!    printed.
+//!
+//! In the examples of the docs `alloc` is the allocator and `rt` the runtime that a test is given; each example is part
+//! of a test or of the crate `uses`.
 #![tactic(auto)]
 
 mod boxes;

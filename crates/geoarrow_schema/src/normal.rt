@@ -18,8 +18,8 @@ use std::alloc::{AllocError, Global};
 use std::sync::Arc;
 
 impl GeoArrowType {
-    /// The normal form: the CRS type is dropped where neither CRS value nor edges stand, since nothing writes it then.
-    /// Errs only when out of memory, and only where a CRS type is dropped.
+    /// The normal form: the CRS type is dropped if there is neither a CRS value nor edges, since it is not written then.
+    /// Errs only when out of memory, and only if a CRS type is dropped.
     pub fn normalized(self, alloc: Global) -> Result<GeoArrowType, AllocError>
         ensures kind { IfOk result (λ g. kind_of g ≡ kind_of self) }
         ensures metadata { IfOk result (λ g. meta_of g ≡ normal (meta_of self)) }
@@ -33,8 +33,14 @@ impl GeoArrowType {
         Ok(self.with_metadata(metadata))
     }
 
-    /// Whether both are written as the same extension name, data type and metadata value, which is so exactly where their
+    /// Whether both are written as the same extension name, data type and metadata value, which is so exactly if their
     /// normal forms are equal. Takes no memory.
+    ///
+    /// ```rust
+    /// let one_type = GeoArrowType::try_from_field(alloc, one)?;
+    /// let other_type = GeoArrowType::try_from_field(alloc, other)?;
+    /// Ok(one_type.same_written(&other_type))
+    /// ```
     pub fn same_written(&self, other: &GeoArrowType) -> bool
         ensures written { IsTrue result ↔ (writes self.now ≡ writes other.now) }
         ensures normal { IsTrue result ↔ (normal_of self.now ≡ normal_of other.now) }
@@ -43,10 +49,19 @@ impl GeoArrowType {
         same_kind(self.kind(), other.kind()) && self.metadata().same_written(other.metadata())
     }
 
-    /// The field as the normal form of the type that it is read as is written: with the data type and the two extension
-    /// keys of `to_field`, and otherwise as it was, its name, its nullability and its other metadata. It reads as that
-    /// normal form, where `serde_json` reads what it printed. None, without memory, where `from_extension_field` answers
-    /// none. Errs as that does, and when out of memory.
+    /// The field rewritten in canonical form: it gets the data type and the two extension keys that `to_field` writes
+    /// for the normal form of the type that the field is read as; its name, nullability and other metadata do not
+    /// change. It reads as that normal form, if `serde_json` reads what it printed. `None`, without taking memory, if
+    /// `from_extension_field` returns `None`. Errs as that does, and when out of memory.
+    ///
+    /// ```rust
+    /// let metadata = Arc::new(alloc, Metadata::default())?;
+    /// let written = LineStringType::new(Dimension::XY, metadata).to_field(alloc, "road", true)?;
+    /// let coordinate = coord_data_type(alloc, CoordType::Separated, Dimension::XY)?;
+    /// let item = Box::new(alloc, Field::new(alloc, "item", coordinate, true)?)?;
+    /// let other = written.try_clone_with_data_type(alloc, DataType::LargeList(item))?;
+    /// assert!(rt; GeoArrowType::canonical_field(alloc, &other)? == Some(written));
+    /// ```
     pub fn canonical_field(alloc: Global, field: &Field) -> GeoArrowResult<Option<Field>>
         ensures ok { IfOk result (λ found. IfSome found (IsCanonical field.now)) }
         ensures none { (result ≡ Ok None) ↔ ¬ HasGeoArrowName field.now }

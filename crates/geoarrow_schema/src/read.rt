@@ -1,6 +1,7 @@
 //! Which type a field is read as.
-ghost use Rattle.std.specs.Prelude.{◌≡◌, ◌⊎◌, ◌↔◌, Some, None, IsOk, IfOk, IfErr, IfSome, MatchResult};
-ghost use Rattle.arrow_values.specs.Texts.{extension_metadata};
+ghost use Rattle.std.specs.Prelude.{◌≡◌, ◌⊎◌, ◌↔◌, Some, IfOk, IfErr, IfSome, MatchResult};
+ghost use Rattle.arrow_values.specs.Tree.{Text};
+ghost use Rattle.arrow_values.specs.Texts.{text_of, extension_name, extension_metadata};
 ghost use Rattle.arrow_values.specs.Errors.{IsMemory};
 ghost use Rattle.geoarrow_layout.specs.declared.names.ExtensionName.{ExtensionName};
 ghost use Rattle.geoarrow_layout.specs.declared.encodings.Kind.{Kind};
@@ -21,15 +22,24 @@ use std::alloc::Global;
 use std::sync::Arc;
 
 impl GeoArrowType {
-    /// The type that a field is read as (GeoArrow, "Extension types"): the one whose extension name stands on the field,
-    /// as whose kind the field's data type is accepted, and for whose metadata the field's metadata text, or its absence,
-    /// stands. A field has one such type at most. None, without memory, where the field has no extension name or none of
-    /// GeoArrow's, compared byte for byte.
+    /// The type that a field is read as (GeoArrow, "Extension types"): the field has the extension name of the type,
+    /// its data type is accepted as the type's kind, and its metadata text, or the absence of one, stands for the
+    /// type's metadata. A field has at most one such type. Returns `None`, without taking memory, if the field has no
+    /// extension name or one that is not GeoArrow's, compared byte for byte.
     ///
-    /// Errs where a GeoArrow name stands on the field and no type is read: as `InvalidGeoArrow` exactly where the name is
-    /// `geoarrow.wkb` and the data type is none of `Binary`, `LargeBinary` and `BinaryView`, or the name is `geoarrow.wkt`
-    /// and the data type is none of `Utf8`, `LargeUtf8` and `Utf8View`, whatever the metadata text is; else as `Arrow`, with
-    /// the error of the metadata before that of the data type. Errs when out of memory too, as `Arrow` of `OutOfMemory`.
+    /// Errs if the field has a GeoArrow name and no type is read: with `InvalidGeoArrow` exactly if the name is
+    /// `geoarrow.wkb` and the data type is none of `Binary`, `LargeBinary` and `BinaryView`, or the name is
+    /// `geoarrow.wkt` and the data type is none of `Utf8`, `LargeUtf8` and `Utf8View`, whatever the metadata text is;
+    /// otherwise with `Arrow`, where an error of the metadata comes before one of the data type. Also errs when out of
+    /// memory, with `Arrow` of `OutOfMemory`.
+    ///
+    /// ```rust
+    /// let boxes = BoxType::new(Dimension::XY, Arc::new(alloc, Metadata::default())?);
+    /// let field = boxes.to_field(alloc, "bounds", true)?;
+    /// let found = GeoArrowType::from_extension_field(alloc, &field)?;
+    /// assert!(rt; matches!(found, Some(GeoArrowType::Rect(_))));
+    /// ```
+    #[inline(always)]
     pub fn from_extension_field(
         alloc: Global,
         field: &Field,
@@ -40,8 +50,9 @@ impl GeoArrowType {
         read(alloc, field, None)
     }
 
-    /// The same as `from_extension_field`, in a scratch that the caller keeps: many metadata texts that are read with one
-    /// scratch cost less than with a scratch each. Nothing of a text stays in it that another text could see.
+    /// The same as `from_extension_field`, with a scratch buffer that the caller keeps: reading many metadata texts
+    /// with one scratch costs less than with a new one for each. What is left in it of one text has no effect on the
+    /// next.
     pub fn from_extension_field_with_scratch(
         alloc: Global,
         field: &Field,
@@ -53,8 +64,15 @@ impl GeoArrowType {
         read(alloc, field, Some(scratch))
     }
 
-    /// The type that a field is read as. Errs as `from_extension_field` does, and as `InvalidGeoArrow` where that answers
-    /// none.
+    /// The type that a field is read as. Errs as `from_extension_field` does, and with `InvalidGeoArrow` if that returns
+    /// `None`.
+    ///
+    /// ```rust
+    /// let written = GeoArrowType::Wkb(WkbType::try_default(alloc)?).to_field(alloc, "geom", true)?;
+    /// let faulty = written.with_data_type(DataType::Utf8);
+    /// let refused = GeoArrowType::try_from_field(alloc, &faulty);
+    /// assert!(rt; matches!(refused, Err(GeoArrowError::InvalidGeoArrow(_))));
+    /// ```
     #[tactic(auto, using(crate::proofs::Reading::type_refused, crate::proofs::Reading::unnamed_refused))]
     pub fn try_from_field(alloc: Global, field: &Field) -> GeoArrowResult<GeoArrowType>
         ensures reading { IsTypeReading field.now result }
@@ -68,6 +86,7 @@ impl GeoArrowType {
 }
 
 /// The type that a field is read as, its metadata text in the scratch, or in one of its own.
+#[inline(always)]
 pub(crate) fn read(
     alloc: Global,
     field: &Field,
@@ -76,13 +95,41 @@ pub(crate) fn read(
     ensures reading { IsReading field.now result }
     ensures only { IfOk result (λ found. IfSome found (ReadsAlone field.now)) }
 {
-    match name_of(field) {
+    match field.extension_type_name() {
         None => Ok(None),
-        Some(name) => Ok(Some(read_named(alloc, field, name, scratch)?)),
+        Some(text) => read_under(alloc, field, text, scratch),
     }
 }
 
+/// The same, of a field with that extension name.
+#[inline(never)]
+fn read_under(
+    alloc: Global,
+    field: &Field,
+    text: &str,
+    scratch: Option<&mut Scratch>,
+) -> GeoArrowResult<Option<GeoArrowType>>
+    requires { extension_name field.now ≡ Some text.now }
+    ensures reading { IsReading field.now result }
+    ensures only { IfOk result (λ found. IfSome found (ReadsAlone field.now)) }
+{
+    let Some(name) = name_under(field, text) else {
+        return Ok(None);
+    };
+    Ok(Some(read_named(alloc, field, name, scratch)?))
+}
+
+/// The GeoArrow name that the extension name of a field is.
+#[inline(always)]
+fn name_under(_field: &Field, text: &str) -> Option<ExtensionName>
+    requires { extension_name _field.now ≡ Some text.now }
+    ensures { (name : ExtensionName) → (result ≡ Some name) ↔ HasName _field.now name }
+{
+    ExtensionName::from_text(text)
+}
+
 /// The GeoArrow name that stands on a field.
+#[inline(always)]
 pub(crate) fn name_of(field: &Field) -> Option<ExtensionName>
     ensures { (name : ExtensionName) → (result ≡ Some name) ↔ HasName field.now name }
 {
@@ -123,7 +170,7 @@ fn read_kind(
     ensures only { IfOk result (ReadsAlone field.now) }
     ensures refused { IfErr result (IsRefusal field.now) }
 {
-    let metadata = Arc::new(alloc, read_metadata(alloc, field, scratch)?)?;
+    let metadata = Arc::new(alloc, read_metadata_of_named(alloc, field, scratch)?)?;
     reads_as_one_column(field);
     names_are_distinct();
     Ok(GeoArrowType::from_kind(kind, metadata))
@@ -172,6 +219,7 @@ fn structured_refusal(
 
 /// The metadata that a field's metadata text, or its absence, stands for: read in the scratch, or in one of its own, which
 /// is made only for a text.
+#[inline(always)]
 pub(crate) fn read_metadata(
     alloc: Global,
     field: &Field,
@@ -181,10 +229,56 @@ pub(crate) fn read_metadata(
         (λ e. IsMemory e
         ⊎ ((m : Metadata) → TextStandsFor (extension_metadata field.now) m → ⊥)) }
     ensures refusal { IfErr result (TextRefusedAs (extension_metadata field.now)) }
-    ensures no_memory { extension_metadata field.now ≡ None → IsOk result }
 {
+    read_text(alloc, field.extension_type_metadata(), scratch)
+}
+
+/// The same, of a field with an extension name.
+#[inline(always)]
+fn read_metadata_of_named(
+    alloc: Global,
+    field: &Field,
+    scratch: Option<&mut Scratch>,
+) -> Result<Metadata, ArrowError>
+    requires { (name : Text) × (extension_name field.now ≡ Some name) }
+    ensures exact { MatchResult result (TextStandsFor (extension_metadata field.now))
+        (λ e. IsMemory e
+        ⊎ ((m : Metadata) → TextStandsFor (extension_metadata field.now) m → ⊥)) }
+    ensures refusal { IfErr result (TextRefusedAs (extension_metadata field.now)) }
+{
+    read_text(alloc, text_beside_name(field), scratch)
+}
+
+/// The metadata text of a field with an extension name, which is not looked for where the name is the only text.
+#[inline(always)]
+#[tactic(auto, using(crate::proofs::Texts::alone))]
+fn text_beside_name(field: &Field) -> Option<&str>
+    requires { (name : Text) × (extension_name field.now ≡ Some name) }
+    ensures { text_of result ≡ extension_metadata field.now }
+{
+    if field.metadata().len() == 1 {
+        return None;
+    }
+    field.extension_type_metadata()
+}
+
+/// The metadata that a metadata text, or its absence, stands for.
+#[inline(always)]
+fn read_text(
+    alloc: Global,
+    text: Option<&str>,
+    scratch: Option<&mut Scratch>,
+) -> Result<Metadata, ArrowError>
+    ensures exact { MatchResult result (TextStandsFor (text_of text.entry))
+        (λ e. IsMemory e
+        ⊎ ((m : Metadata) → TextStandsFor (text_of text.entry) m → ⊥)) }
+    ensures refusal { IfErr result (TextRefusedAs (text_of text.entry)) }
+{
+    if text.is_none() {
+        return Ok(Metadata::default());
+    }
     match scratch {
-        Some(scratch) => Metadata::try_from_field_with_scratch(alloc, field, scratch),
-        None => Metadata::try_from_field(alloc, field),
+        Some(scratch) => Metadata::deserialize_with_scratch(alloc, text, scratch),
+        None => Metadata::deserialize(alloc, text),
     }
 }

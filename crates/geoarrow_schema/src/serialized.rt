@@ -13,7 +13,7 @@ use std::fmt;
 use std::marker::PhantomData;
 use std::sync::Arc;
 
-/// How geometries are serialized: what `SerializedType` is a type of. Each encoding is an empty struct.
+/// How geometries are serialized: the parameter of `SerializedType`. Each encoding is an empty struct.
 pub trait Encoding {
     ghost use Rattle.std.specs.Prelude.{◌≡◌};
     ghost use Rattle.arrow_values.specs.Tree.{Text, Tree};
@@ -90,8 +90,8 @@ impl Encoding for Wkt {
     }
 }
 
-/// Geometries in an encoding, whatever their kind and dimension, with metadata. `WkbType` and `WktType` are this type.
-/// Two are equal, and then hash equally, where their metadata are, by value.
+/// Geometries in an encoding, whatever their kind and dimension, with metadata. `WkbType` and `WktType` are this type
+/// at their encodings. Two are equal, and then hash equally, if their metadata are equal by value.
 #[derive(Drop)]
 #[derive_where(PartialEq, Eq, Hash)]
 pub struct SerializedType<E> {
@@ -101,9 +101,20 @@ pub struct SerializedType<E> {
 }
 
 /// Well-known binary (GeoArrow, "WKB"): each value is the bytes of one geometry.
+///
+/// ```rust
+/// let geometries = GeoArrowType::LargeWkb(WkbType::try_default(alloc)?);
+/// assert!(rt; geometries.to_data_type(alloc)? == DataType::LargeBinary);
+/// ```
 pub type WkbType = SerializedType<Wkb>;
 
 /// Well-known text (GeoArrow, "WKT"): each value is the text of one geometry.
+///
+/// ```rust
+/// let texts = WktType::try_default(alloc)?;
+/// assert!(rt; texts.supports_data_type(alloc, &DataType::Utf8View).is_ok());
+/// assert!(rt; texts.supports_data_type(alloc, &DataType::Binary).is_err());
+/// ```
 pub type WktType = SerializedType<Wkt>;
 
 impl<E: Encoding> SerializedType<E> {
@@ -133,14 +144,14 @@ impl<E: Encoding> SerializedType<E> {
         SerializedType { metadata, ..self }
     }
 
-    /// The metadata: the very one that was given.
+    /// The metadata, in the `Arc` that was given.
     pub fn metadata(&self) -> &Arc<Metadata>
         ensures { result.now ≡ serialized_metadata self.now }
     {
         &self.metadata
     }
 
-    /// An equal type, which shares the metadata. Errs where the metadata has as many owners as can be counted.
+    /// An equal type, which shares the metadata. Errs if the metadata has as many owners as can be counted.
     pub fn try_clone(&self, _alloc: Global) -> Result<SerializedType<E>, AllocError>
         ensures { IfOk result (λ e. serialized_meta e ≡ serialized_meta self.now) }
     {

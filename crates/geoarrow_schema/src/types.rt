@@ -18,12 +18,21 @@ use geoarrow_native::{LineStringType, NativeShape, NativeType, PointType, Polygo
 use std::alloc::{AllocError, Global};
 use std::sync::Arc;
 
-/// The type of a column of geometries (GeoArrow, "Extension types"). Two are equal, and then hash equally, where their
-/// kinds and their metadata are.
+/// The type of a column of geometries (GeoArrow, "Extension types"). Two are equal, and then hash equally, if their
+/// kinds and their metadata are equal.
 ///
-/// The first seven are native types: their coordinates are columns of numbers, nested by lists. A box and a geometry of any
-/// kind are put together of such columns. The last six are serialized types: each value is one geometry in well-known binary or
-/// text, which a reader parses.
+/// The first seven are native types: their coordinates are columns of numbers, nested in lists. Boxes and geometries of any
+/// kind are built from such columns. The last six are serialized types: each value is one geometry in well-known binary or
+/// text, which a reader has to parse.
+///
+/// ```rust
+/// let metadata = Arc::new(alloc, Metadata::default())?;
+/// let field = PolygonType::new(Dimension::XYZ, metadata).to_field(alloc, "area", true)?;
+/// match GeoArrowType::try_from_field(alloc, &field)? {
+///     GeoArrowType::Polygon(polygons) => assert_eq!(rt; polygons.dimension(), Dimension::XYZ),
+///     _ => assert!(rt; false),
+/// }
+/// ```
 #[derive(Debug, PartialEq, Eq, Hash, Drop)]
 pub enum GeoArrowType {
     /// Points (GeoArrow, "Point").
@@ -59,7 +68,7 @@ pub enum GeoArrowType {
 }
 
 impl GeoArrowType {
-    /// The type of that kind and metadata.
+    /// The type with that kind and metadata.
     pub fn from_kind(kind: Kind, metadata: Arc<Metadata>) -> GeoArrowType
         ensures kind { kind_of result ≡ kind }
         ensures metadata { metadata_of result ≡ metadata }
@@ -104,7 +113,7 @@ impl GeoArrowType {
         }
     }
 
-    /// The metadata: the very one that was given.
+    /// The metadata, in the `Arc` that was given.
     pub fn metadata(&self) -> &Arc<Metadata>
         ensures { result.now ≡ metadata_of self.now }
     {
@@ -127,21 +136,21 @@ impl GeoArrowType {
         }
     }
 
-    /// How the coordinates are stored: `Separated` for boxes, and none for well-known binary and text.
+    /// How the coordinates are stored: `Separated` for boxes, and `None` for well-known binary and text.
     pub fn coord_type(&self) -> Option<CoordType>
         ensures { result ≡ coord_type_of (kind_of self.now) }
     {
         self.kind().coord_type()
     }
 
-    /// The dimension; none for geometries of any kind and for well-known binary and text.
+    /// The dimension; `None` for geometries of any kind and for well-known binary and text.
     pub fn dimension(&self) -> Option<Dimension>
         ensures { result ≡ dimension_of (kind_of self.now) }
     {
         self.kind().dimension()
     }
 
-    /// An equal type, which shares the metadata. Errs where the metadata has as many owners as can be counted.
+    /// An equal type, which shares the metadata. Errs if the metadata has as many owners as can be counted.
     pub fn try_clone(&self, _alloc: Global) -> Result<GeoArrowType, AllocError>
         ensures kind { IfOk result (λ g. kind_of g ≡ kind_of self.now) }
         ensures metadata { IfOk result (λ g. meta_of g ≡ meta_of self.now) }
@@ -150,8 +159,15 @@ impl GeoArrowType {
         Ok(GeoArrowType::from_kind(self.kind(), metadata))
     }
 
-    /// The type with that coordinate type, and otherwise as it was; boxes and well-known binary and text are as they
-    /// were.
+    /// The type with that coordinate type, otherwise unchanged. Boxes and well-known binary and text have no such part, and
+    /// are returned unchanged.
+    ///
+    /// ```rust
+    /// let metadata = Arc::new(alloc, Metadata::default())?;
+    /// let points = GeoArrowType::Point(PointType::new(Dimension::XY, metadata));
+    /// let points = points.with_coord_type(CoordType::Interleaved);
+    /// assert_eq!(rt; points.coord_type(), Some(CoordType::Interleaved));
+    /// ```
     pub fn with_coord_type(self, coord_type: CoordType) -> GeoArrowType
         ensures kind { kind_of result ≡ with_coord_type coord_type (kind_of self) }
         ensures metadata { metadata_of result ≡ metadata_of self }
@@ -175,8 +191,15 @@ impl GeoArrowType {
         }
     }
 
-    /// The type with that dimension, and otherwise as it was; geometries of any kind and well-known binary and text are
-    /// as they were.
+    /// The type with that dimension, otherwise unchanged. Geometries of any kind and well-known binary and text have no
+    /// such part, and are returned unchanged.
+    ///
+    /// ```rust
+    /// let metadata = Arc::new(alloc, Metadata::default())?;
+    /// let points = GeoArrowType::Point(PointType::new(Dimension::XY, metadata));
+    /// let points = points.with_dimension(Dimension::XYZ);
+    /// assert_eq!(rt; points.dimension(), Some(Dimension::XYZ));
+    /// ```
     pub fn with_dimension(self, dimension: Dimension) -> GeoArrowType
         ensures kind { kind_of result ≡ with_dimension dimension (kind_of self) }
         ensures metadata { metadata_of result ≡ metadata_of self }
@@ -200,7 +223,7 @@ impl GeoArrowType {
         }
     }
 
-    /// The type with that metadata, and otherwise as it was.
+    /// The type with that metadata, otherwise unchanged.
     pub fn with_metadata(self, metadata: Arc<Metadata>) -> GeoArrowType
         ensures kind { kind_of result ≡ kind_of self }
         ensures metadata { metadata_of result ≡ metadata }

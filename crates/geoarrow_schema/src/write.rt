@@ -4,7 +4,7 @@ ghost use Rattle.arrow_values.specs.View.{tree};
 ghost use Rattle.arrow_values.specs.Errors.{IsMemory};
 ghost use Rattle.arrow_values.specs.Texts.{SetsExtension};
 ghost use Rattle.geoarrow_layout.specs.Kinds.{name_of};
-ghost use Rattle.geoarrow_layout.specs.Shapes.{Accepted, IsStructured};
+ghost use Rattle.geoarrow_layout.specs.Shapes.{IsStructured};
 ghost use Rattle.geoarrow_layout.specs.Layouts.{layout};
 ghost use Rattle.geoarrow_meta.specs.Written.{meta_value, printed, normal, IsReadBack};
 ghost use Rattle.geoarrow_native.specs.Column.{ReadsAs};
@@ -18,9 +18,16 @@ use geoarrow_native::laws::written_field_reads_back;
 use std::alloc::{AllocError, Global};
 
 impl GeoArrowType {
-    /// The data type of a column of this type (GeoArrow, "Native encoding", "Serialized encodings"). It has neither the
-    /// extension name nor the metadata, which stand on the field alone: `to_field` gives all three. Errs only when out of
-    /// memory; well-known binary and text take none.
+    /// The data type of a column of this type (GeoArrow, "Native encoding", "Serialized encodings"). A data type has
+    /// neither the extension name nor the metadata, which only a field has; `to_field` writes all three. Errs only when
+    /// out of memory; well-known binary and text take none.
+    ///
+    /// ```rust
+    /// let metadata = Arc::new(alloc, Metadata::default())?;
+    /// let points = GeoArrowType::Point(PointType::new(Dimension::XY, metadata));
+    /// assert!(rt; matches!(points.to_data_type(alloc)?, DataType::Struct(_)));
+    /// ```
+    #[inline(always)]
     pub fn to_data_type(&self, alloc: Global) -> Result<DataType, AllocError>
         ensures layout { IfOk result (λ t. tree t ≡ layout (kind_of self.now)) }
         ensures no_memory { ¬ IsStructured (kind_of self.now) → IsOk result }
@@ -28,7 +35,7 @@ impl GeoArrowType {
         kind_data_type(alloc, self.kind())
     }
 
-    /// The same, of a type that is not kept.
+    /// The same, for a type that is not needed any more.
     pub fn into_data_type(self, alloc: Global) -> Result<DataType, AllocError>
         ensures layout { IfOk result (λ t. tree t ≡ layout (kind_of self)) }
         ensures no_memory { ¬ IsStructured (kind_of self) → IsOk result }
@@ -37,9 +44,18 @@ impl GeoArrowType {
     }
 
     /// The field of a column of this type: that name and nullability, the data type of `to_data_type`, and as its metadata
-    /// the extension name and the metadata's text, where there is one (GeoArrow, "Extension types"). It reads back as this
-    /// type with its metadata in normal form, where `serde_json` reads what it printed; that is so where the CRS value is
+    /// the extension name and the metadata's text, if there is one (GeoArrow, "Extension types"). It reads back as this
+    /// type with its metadata in normal form, if `serde_json` reads what it printed, which it does if the CRS value is
     /// nested at most 100 levels. Errs only when out of memory.
+    ///
+    /// ```rust
+    /// let metadata = Arc::new(alloc, Metadata::default())?;
+    /// let points = GeoArrowType::Point(PointType::new(Dimension::XY, metadata));
+    /// let field = points.to_field(alloc, "geometry", true)?;
+    /// assert_eq!(rt; field.name(), "geometry");
+    /// assert!(rt; field.is_nullable());
+    /// assert_eq!(rt; field.extension_type_name(), Some("geoarrow.point"));
+    /// ```
     pub fn to_field(&self, alloc: Global, name: &str, nullable: bool) -> Result<Field, ArrowError>
         ensures written { IfOk result (λ f. f ≡ field_of name.now nullable self.now) }
         ensures reads_back { IfOk result (λ f. IsReadBack (meta_value (meta_of self.now))
@@ -53,30 +69,14 @@ impl GeoArrowType {
         self.dress(alloc, bare)
     }
 
-    /// The field with the extension name and the metadata text of this type, as whose kind its data type is accepted.
+    /// The field with the extension name and the metadata text of this type.
     pub(crate) fn dress(&self, alloc: Global, bare: Field) -> Result<Field, ArrowError>
-        requires { Accepted (kind_of self.now) bare.tree }
         ensures written { IfOk result (λ f. f ≡ dressed bare (kind_of self.now) (meta_of self.now)) }
         ensures keys { IfOk result (λ f. SetsExtension (name_of (kind_of self.now)) (printed (meta_of self.now))
             bare.metadata f.metadata) }
         ensures refused { IfErr result IsMemory }
     {
-        match self {
-            GeoArrowType::Point(t) => bare.with_extension_type(alloc, t),
-            GeoArrowType::LineString(t) => bare.with_extension_type(alloc, t),
-            GeoArrowType::Polygon(t) => bare.with_extension_type(alloc, t),
-            GeoArrowType::MultiPoint(t) => bare.with_extension_type(alloc, t),
-            GeoArrowType::MultiLineString(t) => bare.with_extension_type(alloc, t),
-            GeoArrowType::MultiPolygon(t) => bare.with_extension_type(alloc, t),
-            GeoArrowType::GeometryCollection(t) => bare.with_extension_type(alloc, t),
-            GeoArrowType::Rect(t) => bare.with_extension_type(alloc, t),
-            GeoArrowType::Geometry(t) => bare.with_extension_type(alloc, t),
-            GeoArrowType::Wkb(t) | GeoArrowType::LargeWkb(t) | GeoArrowType::WkbView(t) => {
-                bare.with_extension_type(alloc, t)
-            }
-            GeoArrowType::Wkt(t) | GeoArrowType::LargeWkt(t) | GeoArrowType::WktView(t) => {
-                bare.with_extension_type(alloc, t)
-            }
-        }
+        let text = self.metadata().serialize(alloc)?;
+        Ok(bare.with_extension_texts(alloc, self.kind().name(), text)?)
     }
 }

@@ -13,21 +13,21 @@ use Rattle.geoarrow_meta.specs.Transform.{own_projjson}
 use Rattle.geoarrow_schema.specs.declared.types.GeoArrowType.{GeoArrowType}
 use Rattle.geoarrow_schema.specs.Reads.{Reads, writes}
 
--- the two are read as types of which one extension name, tree and metadata value are written
+-- the two are read as types that are written as the same extension name, tree and metadata value
 abbrev pub AreWrittenAlike : FieldTree → FieldTree → Type 0
 AreWrittenAlike e f = (g : GeoArrowType) × (h : GeoArrowType) × Reads e g × Reads f h × (writes g ≡ writes h)
 
--- the members of a union; none where the tree is no union
+-- the members of a union; empty if the tree is not a union
 abbrev pub members_of : Tree → Members
 members_of (union ms mode) = member_list ms
 members_of _ = []
 
--- the union of those of its members whose id is among ids, in the same mode; a tree that is no union as it is
+-- the union of its members whose id is among ids, in the same mode; any other tree unchanged
 abbrev pub narrowed : List ℤ → Tree → Tree
 narrowed ids (union ms mode) = union (member_trees (retained ids (member_list ms))) mode
 narrowed ids t = t
 
--- no type id is in both, there is a member, and each part that has members is of geometries, of one coordinate type
+-- no type id is in both, there is a member, and each part with members is a union of geometries, all of one coordinate type
 abbrev pub MayBeJoined : Members → Members → Type 0
 MayBeJoined ms ns = (shared_id ms ns ≡ None) × ((c : CoordType) × EachOf (GeometryUnion c) ms ns (ms ++ ns))
 

@@ -8,10 +8,10 @@ use arrow_values::{Field, GeoArrowResult};
 use geoarrow_schema::GeoArrowType;
 use std::alloc::Global;
 
-/// Whether two columns hold the same type, as far as a field can say it: what is written of both types is the same
-/// extension name, data type and metadata value (GeoArrow, "Extension types"). So neither another form of the data type
-/// that is read as the same kind, nor another order of the keys in the metadata text, makes a difference. Errs where one of
-/// the two is read as no type, and when out of memory.
+/// Whether two columns hold the same type, as far as a field can say it: both types are written as the same
+/// extension name, data type and metadata value (GeoArrow, "Extension types"). So another form of the data type
+/// that is read as the same kind makes no difference, and neither does another order of the keys in the metadata text. Errs
+/// if one of the two is read as no type, and when out of memory.
 #[tactic(auto, using(crate::proofs::Columns::alike_where_same))]
 pub fn are_written_alike(alloc: Global, one: &Field, other: &Field) -> GeoArrowResult<bool>
     ensures exact { IfOk result (λ alike. IsTrue alike ↔ AreWrittenAlike one.now other.now) }

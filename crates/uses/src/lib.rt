@@ -1,5 +1,5 @@
-//! Examples of how the crates are used: small callers, each with a contract that a user would want, proved over the public
-//! contracts of the crates below alone.
+//! Examples of how to use the crates: small callers, each with a contract that a user would want, proved only from the
+//! public contracts of the crates below.
 #![tactic(auto)]
 
 mod checker;

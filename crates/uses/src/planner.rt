@@ -11,10 +11,10 @@ use arrow_values::{DataType, Field};
 use geoarrow_layout::keep_members;
 use std::alloc::{AllocError, Global};
 
-/// The column without the members of its union whose type id is not wanted, so that a query never looks at them: the
-/// field with the wanted members, in their order, and otherwise as it was. Where it was read as geometries of any kind, it
-/// still is, with the same coordinate type and metadata (GeoArrow, "Geometry"). None where no member is wanted, and where
-/// the column is no union. Errs only when out of memory.
+/// The column without the members of its union whose type id is not wanted, so that a query never reads them: the
+/// field with the wanted members, in their order, and otherwise unchanged. If it was read as geometries of any kind, it
+/// still is, with the same coordinate type and metadata (GeoArrow, "Geometry"). `None` if no member is wanted, or if
+/// the column is not a union. Errs only when out of memory.
 pub fn keep_wanted(alloc: Global, field: &Field, wanted: &[i8]) -> Result<Option<Field>, AllocError>
     ensures exact { IfOk result (λ found. IsSome found ↔ (retained wanted.now (members_of field.now.tree) ≢ [])) }
     ensures narrowed { IfOk result (λ found. IfSome found (λ f. f ≡ record field.now { tree = narrowed wanted.now field.now.tree })) }

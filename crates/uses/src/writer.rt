@@ -13,7 +13,7 @@ use geoarrow_schema::GeoArrowType;
 use std::alloc::Global;
 
 /// The column of a type, in normal form (GeoArrow, "Extension types"): a field of that name and nullability, with the
-/// extension name and the data type of the type's kind, and the text of its metadata in normal form. Where the CRS value is
+/// extension name and the data type of the type's kind, and the text of its metadata in normal form. If the CRS value is
 /// nested at most 100 levels, the field is read as that normal form, and is its own canonical field. Errs only when out
 /// of memory.
 pub fn write_column(

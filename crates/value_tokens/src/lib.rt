@@ -1,16 +1,17 @@
-//! Values of JSON by their tokens, with no tree between: taken one after another, and printed one after another.
+//! JSON values by their tokens, without a tree: they are read one after another, and printed one after another.
 //!
-//! A call that takes takes one value whole, or what is left of one. What comes next in a reader is what `serde_json` would
-//! read there: `next_value` of `specs/Next`. So a number that is out of its range is refused here too, also in a value that
-//! is passed over. `depth` is how deep the arrays and objects of the value may nest. A call errs with [`Refusal::Text`] only
-//! where no value comes next, or where it nests deeper, and with [`Refusal::Memory`] when out of memory.
+//! A call that reads consumes one whole value, or what is left of one. The value that comes next in a reader is the one
+//! that `serde_json` would read there: `next_value` of `specs/Next`. So a number that is out of range is refused here
+//! too, even in a value that is skipped. `depth` is how deep the arrays and objects of the value may be nested. A call
+//! errs with [`Refusal::Text`] only if no value comes next or it is nested deeper, and with [`Refusal::Memory`] when
+//! out of memory.
 //!
-//! What is printed is said by `Adds` of `specs/Adds`: the tokens that a call added, and that it kept what stood before them.
+//! `Adds` of `specs/Adds` says what is printed: the tokens that a call added after the earlier ones, which it kept.
 //! The tokens of a value are those of its `outline`, whose text is `serde_json`'s `compact_text` (`specs/Printed`).
 //!
-//! [`read_value`] alone makes a tree: it answers the value itself, for what is kept as JSON.
+//! Only [`read_value`] makes a tree: it returns the value itself, for what is kept as JSON.
 //!
-//! `specs/` has also the laws of these words that a reader of objects or a printer of values needs.
+//! `specs/` also has the laws of these definitions that a reader of objects or a printer of values needs.
 #![tactic(auto)]
 
 pub mod laws;
@@ -29,5 +30,5 @@ pub use scalars::{read_bool, read_number, read_str, read_text};
 pub use skip::{skip_items, skip_members, skip_rest, skip_value};
 pub use values::read_value;
 
-/// How deep the arrays and objects of a text may nest where `serde_json` reads it.
+/// How deep the arrays and objects of a text may be nested for `serde_json` to read it.
 pub const MAX_DEPTH: usize = 127;

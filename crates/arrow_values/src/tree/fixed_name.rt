@@ -1,4 +1,4 @@
-//! The names that layouts have.
+//! The names that layouts use.
 ghost use Rattle.std.specs.Prelude.{◌≡◌};
 ghost use Rattle.arrow_values.specs.Name.{fixed_text};
 

@@ -1,19 +1,20 @@
 //! A field, made and read, and its extension texts.
 ghost use Rattle.std.specs.Prelude.{◌≡◌, [], IfOk, string_bytes};
+ghost use Rattle.std.specs.Option.{option_map};
 ghost use Rattle.arrow_values.specs.Tree.{list, field_tree};
 ghost use Rattle.arrow_values.specs.View.{tree, texts_of};
-ghost use Rattle.arrow_values.specs.Texts.{text_of, extension_name, extension_metadata};
+ghost use Rattle.arrow_values.specs.Texts.{text_of, extension_name, extension_metadata, set_extension, SetsExtension};
 ghost use Rattle.arrow_values.specs.Name.{fixed_text, name_bytes};
 
-use crate::texts::text_at;
+use crate::texts::{set_extension, text_at};
 use crate::tree::{DataType, Field, FixedName, Name};
 use std::alloc::{AllocError, Global};
 use std::collections::BTreeMap;
 
-/// The metadata key under which the name of a field's extension type stands (Arrow, "Extension Types").
+/// The metadata key for the name of a field's extension type (Arrow, "Extension Types").
 pub const EXTENSION_TYPE_NAME_KEY: &str = "ARROW:extension:name";
 
-/// The metadata key under which the metadata of a field's extension type stands (Arrow, "Extension Types").
+/// The metadata key for the metadata of a field's extension type (Arrow, "Extension Types").
 pub const EXTENSION_TYPE_METADATA_KEY: &str = "ARROW:extension:metadata";
 
 impl Field {
@@ -30,7 +31,7 @@ impl Field {
         Ok(Field::of_parts(name, data_type, nullable, BTreeMap::new(alloc)))
     }
 
-    /// A field of a name that layouts have, of that data type and nullability, without metadata. Takes no memory.
+    /// A field with a name that layouts use, that data type and nullability, without metadata. Takes no memory.
     pub fn fixed(alloc: Global, name: FixedName, data_type: DataType, nullable: bool) -> Field
         ensures { result ≡ field_tree (fixed_text name) (tree data_type) nullable [] }
     {
@@ -50,7 +51,7 @@ impl Field {
         Field::new(alloc, name, DataType::List(value), nullable)
     }
 
-    /// The field of these parts, which are moved in and take no further memory.
+    /// The field with these parts, which are moved in and take no further memory.
     pub fn from_parts(
         name: String,
         data_type: DataType,
@@ -94,42 +95,59 @@ impl Field {
         &self.data_type
     }
 
-    /// Whether values may be null.
+    /// Whether its values may be null.
     pub fn is_nullable(&self) -> bool
         ensures { result ≡ self.now.nullable }
     {
         self.nullable
     }
 
-    /// The map of texts.
+    /// The metadata: a map of texts.
     pub fn metadata(&self) -> &BTreeMap<String, String>
         ensures { texts_of result.now.entries ≡ self.now.metadata }
     {
         &self.metadata
     }
 
-    /// The same field with that map in place of its own.
+    /// The field with that map as its metadata.
     pub fn with_metadata(self, metadata: BTreeMap<String, String>) -> Field
         ensures { result ≡ record self { metadata = texts_of metadata.entries } }
     {
         Field::of_parts(self.name, self.data_type, self.nullable, metadata)
     }
 
-    /// Puts that map in place of the field's own.
+    /// Replaces the field's metadata with that map.
     pub fn set_metadata(&mut self, metadata: BTreeMap<String, String>)
         ensures { self.new ≡ record self.old { metadata = texts_of metadata.entries } }
     {
         self.metadata = metadata;
     }
 
-    /// The same field with that data type in place of its own.
+    /// The field with that data type.
     pub fn with_data_type(self, data_type: DataType) -> Field
         ensures { result ≡ record self { tree = tree data_type } }
     {
         Field::of_parts(self.name, data_type, self.nullable, self.metadata)
     }
 
-    /// The text at `EXTENSION_TYPE_NAME_KEY`, if one stands there.
+    /// The same field with that extension name and that text of its metadata (Arrow, "Extension Types"): the name at
+    /// `EXTENSION_TYPE_NAME_KEY`, and at `EXTENSION_TYPE_METADATA_KEY` the text, or nothing. Whether the data type can carry
+    /// an extension type of that name is not tested. Errs only when out of memory.
+    pub fn with_extension_texts(
+        self,
+        alloc: Global,
+        name: &str,
+        text: Option<String>,
+    ) -> Result<Field, AllocError>
+        ensures written { IfOk result (λ f. f ≡ record self { metadata = set_extension name.now (option_map string_bytes text) self.metadata }) }
+        ensures keys { IfOk result (λ f. SetsExtension name.now (option_map string_bytes text) self.metadata f.metadata) }
+    {
+        let mut field = self;
+        set_extension(alloc, &mut field.metadata, name, text)?;
+        Ok(field)
+    }
+
+    /// The text at `EXTENSION_TYPE_NAME_KEY`, if there is one.
     #[inline(always)]
     pub fn extension_type_name(&self) -> Option<&str>
         ensures { text_of result ≡ extension_name self.now }
@@ -137,7 +155,7 @@ impl Field {
         text_at(&self.metadata, EXTENSION_TYPE_NAME_KEY)
     }
 
-    /// The text at `EXTENSION_TYPE_METADATA_KEY`, if one stands there.
+    /// The text at `EXTENSION_TYPE_METADATA_KEY`, if there is one.
     #[inline(always)]
     pub fn extension_type_metadata(&self) -> Option<&str>
         ensures { text_of result ≡ extension_metadata self.now }

@@ -21,7 +21,7 @@ impl Fields {
         self.members.len()
     }
 
-    /// Whether there is none.
+    /// Whether there are none.
     pub fn is_empty(&self) -> bool
         ensures { result ≡ (length self.now == 0) }
     {
@@ -35,7 +35,7 @@ impl Fields {
         self.members.iter()
     }
 
-    /// The field at a place, from 0 on; none past the last.
+    /// The field at an index, from 0; `None` past the last.
     pub fn get(&self, index: usize) -> Option<&Field>
         ensures { option_map (λ f. f.now) result ≡ slice_get self.now index }
     {

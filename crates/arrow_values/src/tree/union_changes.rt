@@ -9,9 +9,9 @@ use crate::tree::{Field, UnionFields};
 use std::alloc::{AllocError, Global};
 
 impl UnionFields {
-    /// The union of these members: the first id with the first field, and so on. Errs, as `InvalidArgumentError`,
-    /// where there are not as many ids as fields, where an id is negative, and where one is repeated; else only when
-    /// out of memory. A union may have no members, and then takes no memory.
+    /// The union of these members: the first id with the first field, and so on. Errs with `InvalidArgumentError`
+    /// if there are not as many ids as fields, if an id is negative, or if one is repeated; otherwise only when
+    /// out of memory. A union may have no members; it then takes no memory.
     #[tactic(auto, using(crate::proofs::Ids::unfit))]
     pub fn try_new(
         alloc: Global,
@@ -52,8 +52,8 @@ impl UnionFields {
         self.members.retain(|member| ids.contains(&member.0));
     }
 
-    /// Puts the members of `other` last. Errs as `RepeatedId` with the first id of `other` that is here already, where
-    /// there is one, and else only when out of memory; `other` is then handed back, and both unions are as they were.
+    /// Appends the members of `other`. Errs with `RepeatedId` of the first id of `other` that this union has too, if
+    /// there is one, and otherwise only when out of memory; `other` is then returned, and both unions are unchanged.
     pub fn append(&mut self, other: UnionFields) -> Result<(), (UnionFields, AppendFault)>
         ensures joined { OnOk result (self.new ≡ self.old ++ other) }
         ensures ids { HasTypeIds self.old → HasTypeIds other → HasTypeIds self.new }
@@ -105,7 +105,7 @@ fn none_negative(ids: &[i8]) -> bool
     true
 }
 
-/// Whether each id stands once.
+/// Whether each id occurs once.
 fn all_distinct(ids: &[i8]) -> bool
     ensures { result ≡ are_distinct ids.now }
 {

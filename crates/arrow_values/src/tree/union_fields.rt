@@ -34,7 +34,7 @@ impl UnionFields {
         self.members.len()
     }
 
-    /// Whether there is none.
+    /// Whether there are none.
     pub fn is_empty(&self) -> bool
         ensures { result ≡ (length self.now == 0) }
     {
@@ -50,7 +50,7 @@ impl UnionFields {
         }
     }
 
-    /// The member at a place, from 0 on; none past the last.
+    /// The member at an index, from 0; `None` past the last.
     pub fn get(&self, index: usize) -> Option<(i8, &Field)>
         ensures { option_map member_of_ref result ≡ slice_get self.now index }
     {

@@ -1,18 +1,23 @@
-//! What a CRS value is written as.
+//! The format of a CRS value.
 ghost use Rattle.std.specs.Prelude.{◌≡◌, ◌↔◌, Some};
 ghost use Rattle.geoarrow_meta.specs.declared.crs.crs_type.CrsType.{CrsType};
 ghost use Rattle.geoarrow_meta.specs.Names.{crs_type_text};
 
-/// What a CRS value is written as (GeoArrow, "Extension types", "Extension metadata", key `crs_type`).
+/// The format of a CRS value (GeoArrow, "Extension types", "Extension metadata", key `crs_type`).
+///
+/// ```rust
+/// assert_eq!(rt; CrsType::from_text("wkt2:2019"), Some(CrsType::Wkt2_2019));
+/// assert_eq!(rt; CrsType::AuthorityCode.as_text(), "authority_code");
+/// ```
 #[derive(Debug, Clone, Copy, PartialEq, Eq, Hash)]
 pub enum CrsType {
     /// A PROJJSON object.
     Projjson,
     /// A text of WKT2:2019 (ISO 19162).
     Wkt2_2019,
-    /// A text of the form `AUTHORITY:CODE`. For writers that have neither PROJJSON nor WKT at hand.
+    /// A text of the form `AUTHORITY:CODE`. For writers that have neither PROJJSON nor WKT.
     AuthorityCode,
-    /// An opaque text that means something to the producer alone. For writers that have nothing else, as databases.
+    /// An opaque text that only its producer understands. For writers that have nothing else, for example databases.
     Srid,
 }
 
@@ -29,7 +34,7 @@ impl CrsType {
         }
     }
 
-    /// The type that a text stands for; none for any other text.
+    /// The type that a text stands for; `None` for any other text.
     pub fn from_text(text: &str) -> Option<CrsType>
         ensures { (t : CrsType) → (result ≡ Some t) ↔ (text.now ≡ crs_type_text t) }
     {

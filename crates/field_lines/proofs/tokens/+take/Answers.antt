@@ -439,7 +439,7 @@ take_parts-parts-preserved-then-str_eq t c =
     let s = c.next_key.new.self in
     let named : read_key l.reader ≡ Some (Some k, s) = grind arith in
     let read = c.in_ok-name-in-name.ensures.ok in
-    parts_go_on c.args.depth c.args.reader.now l.reader s c.read_text.new.reader k read.0 _ _ _ _ _ _ _ _ l.invariant named read.1
+    parts_go_on c.args.depth c.args.reader.now l.reader s c.read_str.new.reader k read.0 _ _ _ _ _ _ _ _ l.invariant named read.1
     (part_here (codes "name") k _ _ _ c.in-name.is read.2)
     (part_apart (codes "nullable") k (codes "name") _ _ c.in-name.is refl)
     (part_apart (codes "type") k (codes "name") _ _ c.in-name.is refl)
@@ -487,7 +487,7 @@ take_parts-parts-preserved-then-str_eq-4 t c =
 pub take_parts-returns-clause-ok : goal.take_parts-returns-clause-ok
 take_parts-returns-clause-ok t c =
     let l = c.parts in
-    parts_end c.args.depth c.args.reader.now l.reader c.next_key.new.self _ _ _ _ c.field_of.result l.invariant (grind arith) c.field_of.ensures
+    parts_end c.args.depth c.args.reader.now l.reader c.next_key.new.self _ _ _ _ _ l.invariant (grind arith) c.in_ok-field_of.ensures
 
 pub take_parts-returns-in_err-data_type-in-type-clause-text : goal.take_parts-returns-in_err-data_type-in-type-clause-text
 take_parts-returns-in_err-data_type-in-type-clause-text t c refused =
@@ -516,7 +516,7 @@ take_parts-returns-in_err-name-in-name-clause-text t c refused =
     let k = c.in-Some.key.now in
     let s = c.next_key.new.self in
     let named : read_key l.reader ≡ Some (Some k, s) = grind arith in
-    l.invariant.decides ∙ member_refused c.args.depth l.invariant.found k l.reader s named (c.read_text.ensures.text (grind arith))
+    l.invariant.decides ∙ member_refused c.args.depth l.invariant.found k l.reader s named (c.read_str.ensures.text (grind arith))
 
 pub take_parts-returns-in_err-nullable-in-nullable-clause-text : goal.take_parts-returns-in_err-nullable-in-nullable-clause-text
 take_parts-returns-in_err-nullable-in-nullable-clause-text t c refused =

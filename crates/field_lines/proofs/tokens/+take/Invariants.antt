@@ -1,4 +1,4 @@
-use Rattle.std.proofs.Common.{IfSome, ◌+◌, ◌*◌, length, codes, string_bytes, option_map}
+use Rattle.std.proofs.Common.{IfSome, ◌+◌, ◌*◌, length, codes, option_map}
 use Rattle.std.specs.List.{zip}
 use Rattle.field_lines.specs.Steps.{AreMemberParts}
 use Rattle.arrow_values.specs.View.{tree, texts_of, field_trees, member_trees}
@@ -52,7 +52,7 @@ decreases-take_two l = 8 * l.depth + 1
 
 abbrev pub invariant-take_parts-parts : goal.invariant-take_parts-parts
 invariant-take_parts-parts l =
-    ArePartsUnderWay l.depth l.initial.reader l.reader (option_map string_bytes l.name) l.nullable (option_map tree l.data_type) (option_map (λ m. texts_of m.entries) l.metadata)
+    ArePartsUnderWay l.depth l.initial.reader l.reader (option_map (λ n. n.now) l.name) l.nullable (option_map tree l.data_type) (option_map (λ m. texts_of m.entries) l.metadata)
 
 abbrev pub decreases-take_parts-parts : goal.decreases-take_parts-parts
 decreases-take_parts-parts l = length l.reader

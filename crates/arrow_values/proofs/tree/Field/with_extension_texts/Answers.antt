@@ -1,0 +1,11 @@
+use Rattle.std.proofs.Common.{ap, ◌∙◌, string_bytes}
+use Rattle.std.specs.Option.{option_map}
+use Rattle.arrow_values.specs.Texts.{set_extension}
+use Rattle.arrow_values.proofs.TextLaws.{sets_extension_at}
+use Rattle.arrow_values.proofs.tree.Field.with_extension_texts.Goals as goal
+
+pub returns-clause-keys : goal.returns-clause-keys
+returns-clause-keys c =
+    let text = option_map string_bytes c.args.text in
+    sets_extension_at c.args.name.now text c.args.self.metadata _
+    (c.in_ok-set_extension.ensures ∙ ap (λ f. set_extension c.args.name.now text f.metadata) c.field.view_is)

@@ -1,0 +1,17 @@
+//! The function that the README has for another crate to begin with.
+ghost use Rattle.std.specs.Prelude.{◌≡◌, IfOk};
+ghost use Rattle.geoarrow_schema.specs.declared.types.GeoArrowType.{GeoArrowType};
+ghost use Rattle.geoarrow_schema.specs.Reads.{Reads};
+ghost use Rattle.geoarrow_schema.specs.Types.{kind_of};
+
+use arrow_values::Field;
+use geoarrow_schema::error::GeoArrowResult;
+use geoarrow_schema::{GeoArrowType, Kind};
+use std::alloc::Global;
+
+/// The kind of the type that a column is read as.
+pub fn column_kind(alloc: Global, field: &Field) -> GeoArrowResult<Kind>
+    ensures { IfOk result (λ kind. (g : GeoArrowType) × Reads field.now g × (kind_of g ≡ kind)) }
+{
+    Ok(GeoArrowType::try_from_field(alloc, field)?.kind())
+}

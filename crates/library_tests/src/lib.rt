@@ -1,0 +1,14 @@
+//! Tests of the libraries for what no row of `library_rows` can show, with a folder for each library: equality, hashes, clones, names
+//! in Rust, implementations of their traits, values that are compared, and calls with no memory; and the examples of the docs.
+#![tactic(auto)]
+
+#[cfg(test)]
+mod examples;
+#[cfg(test)]
+mod layouts;
+#[cfg(test)]
+mod metadata;
+#[cfg(test)]
+mod schema;
+#[cfg(test)]
+mod values;

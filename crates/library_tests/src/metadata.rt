@@ -1,0 +1,4 @@
+//! Tests of `geoarrow_meta`.
+mod extension;
+mod parts;
+mod values;

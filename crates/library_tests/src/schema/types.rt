@@ -1,0 +1,159 @@
+//! The calls of the eleven types: parts, changes, clones, equality, hashes and the names that `Debug` prints.
+use crate::schema::values::{are_same, plain, spherical};
+use geoarrow_schema::CoordType::{Interleaved, Separated};
+use geoarrow_schema::Dimension::{XYM, XYZ};
+use geoarrow_schema::generic::{
+    Encoding, GeometryCollection, LineString, MultiLineString, MultiPoint, MultiPolygon,
+    NativeShape, NativeType, Point, Polygon, SerializedType, Wkb, Wkt,
+};
+use geoarrow_schema::{BoxType, CoordType, Dimension, Edges, GeometryType};
+use std::alloc::Global;
+use std::fmt::Debug;
+use std::process::Abort;
+use std::test::Fail;
+
+/// The edges of `spherical`.
+const SPHERICAL: Option<Edges> = Some(Edges::Spherical);
+
+/// Whether `Debug` prints that name first.
+fn prints<T: Debug>(alloc: Global, one: &T, name: &str) -> Result<bool, Fail> {
+    let text = format!(in alloc; "{one:?}")?;
+    Ok(text.as_str().starts_with(name))
+}
+
+/// The parts of a native type, of its metadata the edges.
+fn parts<S: NativeShape>(one: &NativeType<S>) -> (CoordType, Dimension, Option<Edges>) {
+    (one.coord_type(), one.dimension(), one.metadata().edges())
+}
+
+/// What holds of a native type of that name: each call changes the part that it names.
+fn shape_changes<S: NativeShape>(rt: &impl Abort, alloc: Global, name: &str) -> Result<(), Fail> {
+    let one = NativeType::<S>::new(XYM, spherical(alloc)?);
+    assert_eq!(rt; parts(&one), (Separated, XYM, SPHERICAL), "{name}");
+    let one = one.with_coord_type(Interleaved);
+    assert_eq!(rt; parts(&one), (Interleaved, XYM, SPHERICAL), "{name}");
+    let one = one.with_dimension(XYZ);
+    assert_eq!(rt; parts(&one), (Interleaved, XYZ, SPHERICAL), "{name}");
+    assert!(rt; prints(alloc, &one, name)?, "{name}");
+    Ok(())
+}
+
+/// The parts of a native type to which other metadata was given, as one call hands all three out.
+fn shape_comes_apart<S: NativeShape>(
+    rt: &impl Abort,
+    alloc: Global,
+    name: &str,
+) -> Result<(), Fail> {
+    let one = NativeType::<S>::new(XYM, spherical(alloc)?);
+    let (coord_type, dimension, metadata) = one.with_metadata(plain(alloc)?).into_inner();
+    assert_eq!(rt;
+        (coord_type, dimension, metadata.edges()),
+        (Separated, XYM, None),
+        "{name}"
+    );
+    Ok(())
+}
+
+/// Types of a shape are equal exactly where all three parts are.
+fn shape_compares<S: NativeShape>(rt: &impl Abort, alloc: Global, name: &str) -> Result<(), Fail> {
+    let one = NativeType::<S>::new(XYM, spherical(alloc)?);
+    let other = one.try_clone(alloc)?;
+    assert!(rt; are_same(&one, &other), "{name}");
+    let other = other.with_coord_type(Interleaved);
+    assert!(rt; one != other, "{name}");
+    let other = other.with_coord_type(Separated).with_dimension(XYZ);
+    assert!(rt; one != other, "{name}");
+    let other = other.with_dimension(XYM).with_metadata(plain(alloc)?);
+    assert!(rt; one != other, "{name}");
+    let other = other.with_metadata(spherical(alloc)?);
+    assert!(rt; are_same(&one, &other), "{name}");
+    Ok(())
+}
+
+/// All three of one shape.
+fn shape<S: NativeShape>(rt: &impl Abort, alloc: Global, name: &str) -> Result<(), Fail> {
+    shape_changes::<S>(rt, alloc, name)?;
+    shape_comes_apart::<S>(rt, alloc, name)?;
+    shape_compares::<S>(rt, alloc, name)
+}
+
+#[test]
+fn of_each_shape_have_three_parts(rt: HostRuntime) -> Result<(), Fail> {
+    let alloc = rt.alloc();
+    shape::<Point>(&rt, alloc, "PointType {")?;
+    shape::<LineString>(&rt, alloc, "LineStringType {")?;
+    shape::<Polygon>(&rt, alloc, "PolygonType {")?;
+    shape::<MultiPoint>(&rt, alloc, "MultiPointType {")?;
+    shape::<MultiLineString>(&rt, alloc, "MultiLineStringType {")?;
+    shape::<MultiPolygon>(&rt, alloc, "MultiPolygonType {")?;
+    shape::<GeometryCollection>(&rt, alloc, "GeometryCollectionType {")
+}
+
+#[test]
+fn of_boxes_have_two_parts(rt: HostRuntime) -> Result<(), Fail> {
+    let alloc = rt.alloc();
+    let one = BoxType::new(XYM, spherical(alloc)?);
+    assert_eq!(rt; (one.dimension(), one.metadata().edges()), (XYM, SPHERICAL));
+    assert!(rt; prints(alloc, &one, "BoxType {")?);
+    let other = one.try_clone(alloc)?;
+    assert!(rt; are_same(&one, &other));
+    let other = other.with_dimension(XYZ);
+    assert_eq!(rt;
+        (other.dimension(), other.metadata().edges()),
+        (XYZ, SPHERICAL)
+    );
+    assert!(rt; one != other);
+    let other = other.with_dimension(XYM).with_metadata(plain(alloc)?);
+    assert_eq!(rt; (other.dimension(), other.metadata().edges()), (XYM, None));
+    assert!(rt; one != other);
+    let other = other.with_metadata(spherical(alloc)?);
+    assert!(rt; are_same(&one, &other));
+    Ok(())
+}
+
+#[test]
+fn of_geometries_have_two_parts(rt: HostRuntime) -> Result<(), Fail> {
+    let alloc = rt.alloc();
+    let one = GeometryType::try_default(alloc)?.with_metadata(spherical(alloc)?);
+    assert_eq!(rt;
+        (one.coord_type(), one.metadata().edges()),
+        (Separated, SPHERICAL)
+    );
+    assert!(rt; prints(alloc, &one, "GeometryType {")?);
+    let other = one.try_clone(alloc)?;
+    assert!(rt; are_same(&one, &other));
+    let other = other.with_coord_type(Interleaved);
+    assert_eq!(rt;
+        (other.coord_type(), other.metadata().edges()),
+        (Interleaved, SPHERICAL)
+    );
+    assert!(rt; one != other);
+    let other = GeometryType::new(plain(alloc)?);
+    assert!(rt; one != other);
+    assert!(rt; are_same(&other, &GeometryType::try_default(alloc)?));
+    Ok(())
+}
+
+/// What holds of the type of an encoding, which is of that name.
+fn of_encoding<E: Encoding>(rt: &impl Abort, alloc: Global, name: &str) -> Result<(), Fail> {
+    let one = SerializedType::<E>::new(spherical(alloc)?);
+    assert_eq!(rt; one.metadata().edges(), SPHERICAL, "{name}");
+    assert!(rt; prints(alloc, &one, name)?, "{name}");
+    let other = one.try_clone(alloc)?;
+    assert!(rt; are_same(&one, &other), "{name}");
+    let other = other.with_metadata(plain(alloc)?);
+    assert_eq!(rt; other.metadata().edges(), None, "{name}");
+    assert!(rt; one != other, "{name}");
+    assert!(rt;
+        are_same(&other, &SerializedType::<E>::try_default(alloc)?),
+        "{name}"
+    );
+    Ok(())
+}
+
+#[test]
+fn of_bytes_and_texts_have_metadata(rt: HostRuntime) -> Result<(), Fail> {
+    let alloc = rt.alloc();
+    of_encoding::<Wkb>(&rt, alloc, "WkbType {")?;
+    of_encoding::<Wkt>(&rt, alloc, "WktType {")
+}

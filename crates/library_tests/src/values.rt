@@ -1,0 +1,6 @@
+//! Tests of `arrow_values`, and of the notation in which the other tests spell data types.
+mod equality;
+mod errors;
+mod fields;
+mod notation;
+mod unions;
