@@ -1,4 +1,4 @@
--- What is said of a column.
+-- What a report says of a column.
 use Rattle.std.specs.Prelude.{◌≡◌, ◌⊎◌, List, [], ◌∷◌, ⊤}
 use Rattle.std.proofs.Common.{inl, inr, sym, subst}
 use Rattle.arrow_values.specs.Tree.{FieldTree}
@@ -15,24 +15,25 @@ use Rattle.geoarrow_columns.specs.declared.check.ColumnFault.TheVariants.{Arrow,
 use Rattle.geoarrow_columns.specs.declared.check.Column.{Column}
 use Rattle.geoarrow_columns.specs.declared.check.Column.TheVariants.{Geometry, Inferred, Other, Faulty}
 
--- a GeoArrow name stands on the field, and it is read as no type
+-- the field has a GeoArrow name, and is read as no type
 abbrev pub IsRefused : FieldTree → Type 0
 IsRefused f = HasGeoArrowName f × ReadsAsNone f
 
--- a field is refused for that: `InvalidGeoArrow` where it is unstored, and `Arrow` else
+-- the field is refused for that fault: `InvalidGeoArrow` if it has the name of well-known binary or text without a data type
+-- of that name, otherwise `Arrow`
 abbrev pub IsRefusedFor : FieldTree → ColumnFault → Type 0
 IsRefusedFor f InvalidGeoArrow = IsRefused f × IsUnstored f
 IsRefusedFor f Arrow = IsRefused f × ¬ IsUnstored f
 
--- no GeoArrow name stands on the field, and its metadata text stands for no metadata
+-- the field has no GeoArrow name, and its metadata text denotes no metadata
 abbrev pub IsUnread : FieldTree → Type 0
 IsUnread f = ¬ HasGeoArrowName f × ((m : Metadata) → ¬ TextStandsFor (extension_metadata f) m)
 
--- no GeoArrow name stands on the field, its metadata text stands for a metadata, and its tree is taken for no type
+-- the field has no GeoArrow name, its metadata text denotes a metadata, and no type is inferred from its data type
 abbrev pub IsOther : FieldTree → Type 0
 IsOther f = ¬ HasGeoArrowName f × InfersNone f × ((m : Metadata) × TextStandsFor (extension_metadata f) m)
 
--- that is said of the field
+-- the entry says what the field holds
 abbrev pub IsColumnOf : FieldTree → Column → Type 0
 IsColumnOf f (Geometry g) = Reads f g
 IsColumnOf f (Inferred g) = Infers f g
@@ -40,7 +41,7 @@ IsColumnOf f Other = IsOther f
 IsColumnOf f (Faulty InvalidGeoArrow) = IsRefusedFor f InvalidGeoArrow
 IsColumnOf f (Faulty Arrow) = IsRefusedFor f Arrow ⊎ IsUnread f
 
--- that is said of each field, in order
+-- there is one entry for each field, in order
 abbrev pub IsReport : List FieldTree → List Column → Type 0
 IsReport [] [] = ⊤
 IsReport (f ∷ fs) (c ∷ cs) = IsColumnOf f c × IsReport fs cs
@@ -51,7 +52,7 @@ abbrev pub IsFaultOf : GeoArrowError → ColumnFault → Type 0
 IsFaultOf (Invalid s) fault = fault ≡ InvalidGeoArrow
 IsFaultOf _ fault = fault ≡ Arrow
 
--- a refusal, but when out of memory, is for the fault of its error
+-- a field that is refused, but not because memory ran out, is refused for the fault of that error
 pub refused_for : (f : FieldTree) (e : GeoArrowError) (fault : ColumnFault) → ¬ IsGeoMemory e → IsFaultOf e fault → IsRefusedBy f e → IsRefusedFor f fault
 refused_for f e fault rich is (named, inl memory) = absurd (rich memory)
 refused_for f (Invalid s) fault rich is (named, inr (none, refused)) = subst (IsRefusedFor f) (sym is) ((named, none), refused)

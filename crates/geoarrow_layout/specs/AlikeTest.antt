@@ -1,4 +1,4 @@
--- The test that `alike` makes.
+-- `Alike` as the test that `alike` makes.
 use Rattle.std.specs.Prelude.{ℤ, nat_eq, cond, Bool, true, false, ◌&&◌, ◌||◌, not, List, length}
 use Rattle.std.specs.List.{list_all}
 use Rattle.std.specs.Ordering.{int_eq}
@@ -12,30 +12,30 @@ abbrev pub some_member : (ℤ → Tree → Bool) → MemberTrees → Bool
 some_member p no_members = false
 some_member p (member i n t b m ms) = p i t || some_member p ms
 
--- whether every member does
+-- whether every member passes the test
 abbrev pub all_members : (ℤ → Tree → Bool) → MemberTrees → Bool
 all_members p no_members = true
 all_members p (member i n t b m ms) = p i t && all_members p ms
 
--- whether a member has the id
+-- whether a member has the type id j
 abbrev pub has_member : ℤ → MemberTrees → Bool
 has_member j ms = some_member (λ i t. int_eq i j) ms
 
--- whether two members have it
+-- whether two members have the type id j
 abbrev pub is_repeated : ℤ → MemberTrees → Bool
 is_repeated j no_members = false
 is_repeated j (member i n t b m ms) = cond (int_eq i j) (has_member j ms) (is_repeated j ms)
 
--- whether the two are one set of names
+-- whether both lists have the same names
 unfoldable pub same_names : List Text → List Text → Bool
 same_names xs ys = list_all (λ n. has_name n ys) xs && list_all (λ n. has_name n xs) ys
 
--- whether structs of fields of these names are alike
+-- whether structs with these field names are alike
 abbrev pub alike_names : List Text → List Text → Bool
 alike_names xs ys = nat_eq (length xs) (length ys) && (not (nat_eq (length xs) 3 || nat_eq (length xs) 6) || same_names xs ys)
 
 abbrev mutual
-  -- whether the two trees are alike
+  -- whether the two data types are alike
   pub alike_of : Tree → Tree → Bool
   alike_of (plain p) (plain q) = nat_eq (plain_code p) (plain_code q)
   alike_of (list n t b m) (list o u c k) = alike_of t u
@@ -45,17 +45,17 @@ abbrev mutual
   alike_of (union ms mode) (union ns mode') = each_has_alike ms ns && all_members (λ j u. cond (is_repeated j ns) (has_alike ms j u) (has_member j ms)) ns
   alike_of _ _ = false
 
-  -- whether each member of ms has an alike one of the same id in ns
+  -- whether each member of ms has an alike member with the same type id in ns
   pub each_has_alike : MemberTrees → MemberTrees → Bool
   each_has_alike no_members ns = true
   each_has_alike (member i n t b m ms) ns = some_member (λ j u. int_eq i j && alike_of t u) ns && each_has_alike ms ns
 
-  -- whether some member of ms has the id j and a tree that is alike to u
+  -- whether some member of ms has the type id j and a data type that is alike to u
   pub has_alike : MemberTrees → ℤ → Tree → Bool
   has_alike no_members j u = false
   has_alike (member i n t b m ms) j u = (int_eq i j && alike_of t u) || has_alike ms j u
 
--- whether a member of ns has an alike one in ms, where each member of ms has one in ns: a member whose id stands once in
--- ns is the one that each member of ms with this id is alike to
+-- whether a member of ns has an alike member in ms, if each member of ms has one in ns. If its id occurs only once in
+-- ns, each member of ms with this id is alike to it, so it is enough that there is one
 abbrev pub is_met : MemberTrees → MemberTrees → ℤ → Tree → Bool
 is_met ms ns j u = cond (is_repeated j ns) (has_alike ms j u) (has_member j ms)

@@ -1,15 +1,15 @@
--- What is compared of a data type that may have been written.
+-- What `written_kind` compares of a data type.
 use Rattle.std.specs.Prelude.{◌≡◌, Bool, List, [], ◌∷◌, ◌++◌}
 use Rattle.arrow_values.specs.Tree.{Text, FieldTree, Members}
 use Rattle.geoarrow_layout.specs.declared.kinds.CoordType.{CoordType}
 use Rattle.geoarrow_layout.specs.declared.kinds.Dimension.{Dimension}
 use Rattle.geoarrow_layout.specs.Layouts.{dimension_members}
 
--- the field has that name, that nullability and no metadata
+-- the field has this name and nullability, and no metadata
 abbrev pub IsBare : Text → Bool → FieldTree → Type 0
 IsBare name nullable f = (f.name ≡ name) × (f.nullable ≡ nullable) × (f.metadata ≡ [])
 
--- the members that are written for geometries of these dimensions
+-- the members of a geometry's union, as written, that are of these dimensions
 abbrev pub members_in : List Dimension → CoordType → Members
 members_in [] c = []
 members_in (d ∷ ds) c = dimension_members c d ++ members_in ds c

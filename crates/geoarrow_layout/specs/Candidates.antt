@@ -1,4 +1,4 @@
--- Which extension names an answer holds.
+-- The extension names under which a data type can be read.
 use Rattle.std.specs.Prelude.{◌≡◌, ◌⊎◌}
 use Rattle.arrow_values.specs.Tree.{Text, Tree}
 use Rattle.geoarrow_layout.specs.declared.encodings.NativeKind.{NativeKind}
@@ -11,7 +11,7 @@ use Rattle.geoarrow_layout.specs.declared.candidate_names.Candidates.TheVariants
 use Rattle.geoarrow_layout.specs.Kinds.{native_name, box_name}
 use Rattle.geoarrow_layout.specs.Shapes.{Native, Geometry, BoxShape, Accepts, IsStructured}
 
--- the answer holds the name
+-- the name is one of the candidates
 abbrev pub Holds : Candidates → Text → Type 0
 Holds None n = ⊥
 Holds (One name) n = n ≡ name.now
@@ -19,7 +19,7 @@ Holds LineStringOrMultiPoint n = (n ≡ native_name LineString) ⊎ (n ≡ nativ
 Holds PolygonOrMultiLineString n = (n ≡ native_name Polygon) ⊎ (n ≡ native_name MultiLineString)
 Holds PointOrBox n = (n ≡ native_name Point) ⊎ (n ≡ box_name)
 
--- the same variant, and the same text where it is one name
+-- the same variant, and for `One` the same name
 abbrev pub SameCandidates : Candidates → Candidates → Type 0
 SameCandidates None None = Unit {0}
 SameCandidates (One name) (One other) = name.now ≡ other.now
@@ -28,20 +28,22 @@ SameCandidates PolygonOrMultiLineString PolygonOrMultiLineString = Unit {0}
 SameCandidates PointOrBox PointOrBox = Unit {0}
 SameCandidates _ _ = ⊥
 
--- under that extension name the tree is of some kind
+-- under that extension name some kind accepts the data type
 abbrev pub IsAccepted : Text → Tree → Type 0
 IsAccepted n t = (k : Kind) × Accepts n t k
 
--- of some kind that has a structure
+-- the same, for a kind other than well-known binary and text
 abbrev pub IsAcceptedStructure : Text → Tree → Type 0
 IsAcceptedStructure n t = (k : Kind) × Accepts n t k × IsStructured k
 
--- the tree is of that native kind, of geometries, a box, in whatever coordinate type and dimension
+-- the data type is of that native kind, in some coordinate type and dimension
 abbrev pub IsNative : NativeKind → Tree → Type 0
 IsNative k t = (c : CoordType) × (d : Dimension) × Native t k c d
 
+-- the data type is a geometry, in some coordinate type
 abbrev pub IsGeometry : Tree → Type 0
 IsGeometry t = (c : CoordType) × Geometry t c
 
+-- the data type is a box, in some dimension
 abbrev pub IsBox : Tree → Type 0
 IsBox t = (d : Dimension) × BoxShape t d

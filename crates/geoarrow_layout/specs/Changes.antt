@@ -1,4 +1,4 @@
--- Unions of given members, in either mode, and what stays of their kinds where members go or come.
+-- What a union is read as when members are dropped or joined; the mode never matters.
 use Rattle.std.specs.Prelude.{◌≢◌, ◌↔◌, ◌⊎◌, [], ℤ, Contains}
 use Rattle.arrow_values.specs.Tree.{union, FieldTree, Members}
 use Rattle.arrow_values.specs.View.{member_trees}
@@ -8,22 +8,22 @@ use Rattle.geoarrow_layout.specs.declared.kinds.Dimension.{Dimension}
 use Rattle.geoarrow_layout.specs.Shapes.{Geometry, Mixed}
 use Rattle.geoarrow_layout.specs.Alike.{Alike}
 
--- the union of these members is of geometries, in either mode
+-- a union of these members is a geometry, in either mode
 abbrev pub GeometryUnion : CoordType → Members → Type 0
 GeometryUnion c ms = (mode : UnionMode) → Geometry (union (member_trees ms) mode) c
 
--- the union of these members is that in a collection, in either mode
+-- a union of these members is the union in a collection, in either mode
 abbrev pub MixedUnion : CoordType → Dimension → Members → Type 0
 MixedUnion c d ms = (mode : UnionMode) → Mixed (union (member_trees ms) mode) c d
 
--- the unions of these members are alike, in either mode
+-- unions of ms and of ns are alike, in either mode
 abbrev pub AlikeUnions : Members → Members → Type 0
 AlikeUnions ms ns = (m n : UnionMode) → Alike (union (member_trees ms) m) (union (member_trees ns) n)
 
--- there is a member, and each of the two that has members has P
+-- there is a joined member, and P holds for each of the two parts that has members
 abbrev pub EachOf : (Members → Type 0) → Members → Members → Members → Type 0
 EachOf P ms ns joined = (joined ≢ []) × (ms ≢ [] → P ms) × (ns ≢ [] → P ns)
 
--- the members are just those of the two, in whatever order
+-- the members are exactly those of the two parts, in any order
 abbrev pub AreJust : Members → Members → Members → Type 0
 AreJust ms ns all = (m : ℤ × FieldTree) → Contains all m ↔ (Contains ms m ⊎ Contains ns m)

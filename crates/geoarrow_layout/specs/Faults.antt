@@ -1,4 +1,4 @@
--- The faults of a layout as errors of Arrow.
+-- The faults of data types, as errors of Arrow.
 use Rattle.std.specs.Prelude.{codes}
 use Rattle.arrow_values.specs.Tree.{Text}
 use Rattle.arrow_values.specs.declared.error.ArrowError.{ArrowError}
@@ -21,12 +21,12 @@ fault_text EmptyUnion = codes "union has no members"
 fault_text SeveralCoordTypes = codes "several coordinate types in union"
 fault_text SeveralDimensions = codes "several dimensions in union"
 
--- data that is no GeoArrow, of that text, in a box
+-- the error is an `ExternalError` of `InvalidGeoArrow` with that text
 abbrev pub BoxesInvalidOf : Text → ArrowError → Type 0
 BoxesInvalidOf text (ExternalError' p inner) = IsInvalidOf text inner
 BoxesInvalidOf text _ = ⊥
 
--- the error of a fault
+-- the error of a fault: for `BadSize` that one, for any other a `SchemaError`, each with the fault's message
 abbrev pub IsArrowFormOf : LayoutFault → ArrowError → Type 0
 IsArrowFormOf BadSize e = BoxesInvalidOf (fault_text BadSize) e
 IsArrowFormOf fault e = IsSchemaOf (fault_text fault) e

@@ -1,4 +1,4 @@
--- What a layout has: the tables of coordinate types, dimensions and kinds.
+-- Tables of dimensions and kinds: sizes, names and type ids.
 use Rattle.std.specs.Prelude.{◌≡◌, ℕ, ◌+◌, ◌*◌, ◌++◌, Option, Some, None, codes, string_bytes}
 use Rattle.std.specs.Fmt.{decimal}
 use Rattle.arrow_values.specs.Tree.{Text}
@@ -24,7 +24,7 @@ size_of XYZ = 3
 size_of XYM = 3
 size_of XYZM = 4
 
--- what a dimension prints as
+-- the text that a dimension prints
 abbrev pub dimension_name : Dimension → Text
 dimension_name XY = codes "XY"
 dimension_name XYZ = codes "XYZ"
@@ -38,14 +38,14 @@ interleaved_name XYZ = codes "xyz"
 interleaved_name XYM = codes "xym"
 interleaved_name XYZM = codes "xyzm"
 
--- a dimension as dimensions
+-- the same dimension, as geometry traits name it
 abbrev pub dimensions_of : Dimension → Dimensions
 dimensions_of XY = Xy
 dimensions_of XYZ = Xyz
 dimensions_of XYM = Xym
 dimensions_of XYZM = Xyzm
 
--- dimensions are that dimension: by name, or as so many of no known meaning
+-- these dimensions convert to that dimension: they have its name, or are 2, 3 or 4 of no known meaning
 abbrev pub IsDimension : Dimensions → Dimension → Type 0
 IsDimension Xy d = d ≡ XY
 IsDimension Xyz d = d ≡ XYZ
@@ -56,19 +56,19 @@ IsDimension (Unknown n) XYZ = n ≡ 3
 IsDimension (Unknown n) XYM = ⊥
 IsDimension (Unknown n) XYZM = n ≡ 4
 
--- the refusal of dimensions that are none: how many they are
+-- the error for dimensions that convert to none: an `InvalidGeoArrow` with their number
 abbrev pub RefusesDimensions : Dimensions → GeoArrowError → Type 0
 RefusesDimensions (Unknown n) (InvalidGeoArrow message) = string_bytes message ≡ codes "Unsupported dimension Unknown(" ++ decimal n ++ codes ")"
 RefusesDimensions _ _ = ⊥
 
--- the dimension's place among the four, by which type ids go
+-- the number of a dimension in type ids
 abbrev pub order_of : Dimension → ℕ
 order_of XY = 0
 order_of XYZ = 1
 order_of XYM = 2
 order_of XYZM = 3
 
--- the type id of a native kind in two dimensions
+-- the number of a native kind in type ids
 abbrev pub offset_of : NativeKind → ℕ
 offset_of Point = 1
 offset_of LineString = 2
@@ -78,11 +78,11 @@ offset_of MultiLineString = 5
 offset_of MultiPolygon = 6
 offset_of GeometryCollection = 7
 
--- the type id of a native kind
+-- the type id of a union's member: ten times the number of its dimension, plus that of its kind
 abbrev pub type_id_of : NativeKind → Dimension → ℕ
 type_id_of k d = 10 * order_of d + offset_of k
 
--- the extension names
+-- the extension name of a native kind
 abbrev pub native_name : NativeKind → Text
 native_name Point = codes "geoarrow.point"
 native_name LineString = codes "geoarrow.linestring"
@@ -104,6 +104,7 @@ wkb_name = codes "geoarrow.wkb"
 abbrev pub wkt_name : Text
 wkt_name = codes "geoarrow.wkt"
 
+-- the text of an extension name
 abbrev pub name_text : ExtensionName → Text
 name_text (names.Native k) = native_name k
 name_text names.Geometry = geometry_name
@@ -119,11 +120,11 @@ extension_of (Rect d) = names.Rect
 extension_of (Wkb w) = names.Wkb
 extension_of (Wkt w) = names.Wkt
 
--- its text
+-- the text of that name
 abbrev pub name_of : Kind → Text
 name_of k = name_text (extension_of k)
 
--- the coordinate type of a kind; a box has its ordinates in fields of their own
+-- the coordinate type of a kind; a box has a field for each bound, so it is separated
 abbrev pub coord_type_of : Kind → Option CoordType
 coord_type_of (Native k c d) = Some c
 coord_type_of (Geometry c) = Some c
@@ -131,7 +132,7 @@ coord_type_of (Rect d) = Some Separated
 coord_type_of (Wkb w) = None
 coord_type_of (Wkt w) = None
 
--- the dimension of a kind, where its columns have one
+-- the dimension of a kind, if all its values have the same one
 abbrev pub dimension_of : Kind → Option Dimension
 dimension_of (Native k c d) = Some d
 dimension_of (Geometry c) = None

@@ -1,4 +1,4 @@
--- The trees that are written: a table of names, list levels and type ids.
+-- The data types as written: names, list levels, type ids and nullability.
 use Rattle.std.specs.Prelude.{◌≡◌, ℤ, pos, true, false, List, [], ◌∷◌, ◌++◌, map, codes}
 use Rattle.arrow_values.specs.Tree.{Text, Tree, plain, float64, binary, large_binary, binary_view, utf8, large_utf8, utf8_view, list, fixed_size_list, struct, union, FieldTree, field_tree, Members}
 use Rattle.arrow_values.specs.View.{field_trees, member_trees}
@@ -16,23 +16,23 @@ use Rattle.geoarrow_layout.specs.declared.encodings.Kind.TheVariants.{Native, Ge
 use Rattle.geoarrow_layout.specs.Kinds.{size_of, interleaved_name, type_id_of}
 use Rattle.geoarrow_layout.specs.Shapes.{Id}
 
--- a field of 64-bit floats that is never null
+-- a field of a coordinate or a box: `Float64`, not nullable, without metadata
 abbrev pub coordinate : Text → FieldTree
 coordinate name = field_tree name (plain float64) false []
 
--- the names of the coordinates
+-- the field names of a separated coordinate, in order
 abbrev pub coordinate_names : Dimension → List Text
 coordinate_names XY = codes "x" ∷ codes "y" ∷ []
 coordinate_names XYZ = codes "x" ∷ codes "y" ∷ codes "z" ∷ []
 coordinate_names XYM = codes "x" ∷ codes "y" ∷ codes "m" ∷ []
 coordinate_names XYZM = codes "x" ∷ codes "y" ∷ codes "z" ∷ codes "m" ∷ []
 
--- a coordinate
+-- the data type of a coordinate
 abbrev pub leaf_layout : CoordType → Dimension → Tree
 leaf_layout Interleaved d = fixed_size_list (interleaved_name d) (plain float64) false [] (pos (size_of d))
 leaf_layout Separated d = struct (field_trees (map coordinate (coordinate_names d)))
 
--- the names of the list items, from the outermost list
+-- the names of the list fields of a kind, from the outermost
 abbrev pub list_names : NativeKind → List Text
 list_names Point = []
 list_names LineString = codes "vertices" ∷ []
@@ -42,7 +42,7 @@ list_names MultiLineString = codes "linestrings" ∷ codes "vertices" ∷ []
 list_names MultiPolygon = codes "polygons" ∷ codes "rings" ∷ codes "vertices" ∷ []
 list_names GeometryCollection = codes "geometries" ∷ []
 
--- lists of items of these names, never null
+-- lists over u, one for each name; no item is nullable
 abbrev pub lists_over : List Text → Tree → Tree
 lists_over [] u = u
 lists_over (name ∷ names) u = list name (lists_over names u) false []
@@ -51,7 +51,7 @@ lists_over (name ∷ names) u = list name (lists_over names u) false []
 abbrev pub over_leaf_layout : NativeKind → CoordType → Dimension → Tree
 over_leaf_layout k c d = lists_over (list_names k) (leaf_layout c d)
 
--- how a kind is called in the name of a member
+-- the name of a kind in the name of a union's member
 abbrev pub type_name : NativeKind → Text
 type_name Point = codes "Point"
 type_name LineString = codes "LineString"
@@ -61,25 +61,26 @@ type_name MultiLineString = codes "MultiLineString"
 type_name MultiPolygon = codes "MultiPolygon"
 type_name GeometryCollection = codes "GeometryCollection"
 
--- what follows it
+-- what follows it in that name, by the dimension
 abbrev pub dimension_suffix : Dimension → Text
 dimension_suffix XY = []
 dimension_suffix XYZ = codes " Z"
 dimension_suffix XYM = codes " M"
 dimension_suffix XYZM = codes " ZM"
 
--- a member that holds that tree: its values may be null
+-- the field of a union's member: named by kind and dimension, nullable
 abbrev pub member_field : NativeKind → Dimension → Tree → FieldTree
 member_field k d t = field_tree (type_name k ++ dimension_suffix d) t true []
 
+-- that member, with its type id
 abbrev pub member_layout : NativeKind → Dimension → Tree → ℤ × FieldTree
 member_layout k d t = (pos (type_id_of k d), member_field k d t)
 
--- the kinds that a collection holds
+-- the kinds in a collection, in the order of their type ids
 abbrev pub collected_kinds : List NativeKind
 collected_kinds = Point ∷ LineString ∷ Polygon ∷ MultiPoint ∷ MultiLineString ∷ MultiPolygon ∷ []
 
--- members of these kinds
+-- a member for each of these kinds, all of one coordinate type and dimension
 abbrev pub members_over : List NativeKind → CoordType → Dimension → Members
 members_over ks c d = map (λ k. member_layout k d (over_leaf_layout k c d)) ks
 
@@ -87,50 +88,51 @@ members_over ks c d = map (λ k. member_layout k d (over_leaf_layout k c d)) ks
 abbrev pub mixed_members : CoordType → Dimension → Members
 mixed_members c d = members_over collected_kinds c d
 
--- the union in a collection
+-- the data type of that union, which is dense
 abbrev pub mixed_layout : CoordType → Dimension → Tree
 mixed_layout c d = union (member_trees (mixed_members c d)) Dense
 
--- a native kind
+-- the data type of a native kind
 abbrev pub native_layout : NativeKind → CoordType → Dimension → Tree
 native_layout GeometryCollection c d = lists_over (list_names GeometryCollection) (mixed_layout c d)
 native_layout k c d = over_leaf_layout k c d
 
--- the members of a union of geometries that are of one dimension
+-- the members of a geometry's union that are of one dimension, the collection last
 abbrev pub dimension_members : CoordType → Dimension → Members
 dimension_members c d = mixed_members c d ++ (member_layout GeometryCollection d (native_layout GeometryCollection c d) ∷ [])
 
--- all its members
+-- all 28 members of a geometry's union
 abbrev pub geometry_members : CoordType → Members
 geometry_members c = dimension_members c XY ++ dimension_members c XYZ ++ dimension_members c XYM ++ dimension_members c XYZM
 
--- a union of geometries
+-- the data type of a geometry, a dense union
 abbrev pub geometry_layout : CoordType → Tree
 geometry_layout c = union (member_trees (geometry_members c)) Dense
 
--- the names of a box's fields
+-- the field names of a box: the lower bounds, then the upper ones
 abbrev pub box_names : Dimension → List Text
 box_names XY = codes "xmin" ∷ codes "ymin" ∷ codes "xmax" ∷ codes "ymax" ∷ []
 box_names XYZ = codes "xmin" ∷ codes "ymin" ∷ codes "zmin" ∷ codes "xmax" ∷ codes "ymax" ∷ codes "zmax" ∷ []
 box_names XYM = codes "xmin" ∷ codes "ymin" ∷ codes "mmin" ∷ codes "xmax" ∷ codes "ymax" ∷ codes "mmax" ∷ []
 box_names XYZM = codes "xmin" ∷ codes "ymin" ∷ codes "zmin" ∷ codes "mmin" ∷ codes "xmax" ∷ codes "ymax" ∷ codes "zmax" ∷ codes "mmax" ∷ []
 
--- a box
+-- the data type of a box
 abbrev pub box_layout : Dimension → Tree
 box_layout d = struct (field_trees (map coordinate (box_names d)))
 
--- well-known binary and text
+-- the data type of well-known binary
 abbrev pub bytes_layout : Width → Tree
 bytes_layout Plain = plain binary
 bytes_layout Large = plain large_binary
 bytes_layout View = plain binary_view
 
+-- the data type of well-known text
 abbrev pub text_layout : Width → Tree
 text_layout Plain = plain utf8
 text_layout Large = plain large_utf8
 text_layout View = plain utf8_view
 
--- the tree that is written for a kind
+-- the data type as written of a kind
 abbrev pub layout : Kind → Tree
 layout (Native k c d) = native_layout k c d
 layout (Geometry c) = geometry_layout c
@@ -138,10 +140,10 @@ layout (Rect d) = box_layout d
 layout (Wkb w) = bytes_layout w
 layout (Wkt w) = text_layout w
 
--- a member of that coordinate type and dimension is written: its type id is that of its kind, and so is its tree
+-- a union's member as written: its type id and its data type are those of one kind, in this coordinate type and dimension
 abbrev pub IsWritten : CoordType → Dimension → ℤ → Tree → Type 0
 IsWritten c d i t = (k : NativeKind) × Id i k d × (t ≡ native_layout k c d)
 
--- the same, in whatever dimension
+-- the same, in some dimension
 abbrev pub IsWrittenSome : CoordType → ℤ → Tree → Type 0
 IsWrittenSome c i t = (d : Dimension) × IsWritten c d i t

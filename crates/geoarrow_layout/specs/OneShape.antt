@@ -1,4 +1,4 @@
--- Laws of the shapes: each has one coordinate type and one dimension.
+-- Laws of `Shapes`: a data type of a kind has one coordinate type and one dimension.
 use Rattle.std.proofs.Common.{◌≡◌, ◌≤◌, ◌+◌, ◌*◌, inl, inr, ℕ, zero, suc, ℤ, pos, true, false, List, [], ◌∷◌, refl, sym, subst, ◌∙◌, arith}
 use Rattle.std.specs.Str.{bytes_eq}
 use Rattle.std.proofs.lemmas.Slice.Eq.{bytes_eq-Decides}
@@ -14,7 +14,7 @@ use Rattle.geoarrow_layout.specs.declared.summary.ListWidth.TheVariants.{List as
 use Rattle.geoarrow_layout.specs.Kinds.{interleaved_name, order_of, offset_of}
 use Rattle.geoarrow_layout.specs.Shapes.{SameNames, IsSeparatedAs, Leaf, ListsOver, Levels, LeafUnder, OverLeaf, Id, Member, Mixed, Collection, Native, GeometryPart, Geometry, names_of, IsBoxAs, BoxShape}
 
--- names are the separated coordinates of one dimension at most
+-- field names are those of at most one dimension
 pub separated_same : (names : List Text) (d e : Dimension) → IsSeparatedAs d names → IsSeparatedAs e names → d ≡ e
 unfolding SameNames
 separated_same names XY XY h k = refl
@@ -34,7 +34,7 @@ separated_same names XYZM XY h k = absurd (omega arith)
 separated_same names XYZM XYZ h k = absurd (omega (arith, k.0))
 separated_same names XYZM XYM h k = absurd (omega (arith, k.0))
 
--- texts that differ by a test that computes
+-- texts are different if the test says so
 pub apart : (x y : Text) → bytes_eq x y ≡ false → x ≡ y → ⊥
 apart x y e h = let f : bytes_eq x y ≡ true = (bytes_eq-Decides x y).1 h in cc
 
@@ -45,7 +45,7 @@ interleaved_same XYM XYM h = refl
 interleaved_same XYZM XYZM h = refl
 interleaved_same d e h = absurd (apart _ _ refl h)
 
--- a leaf has one coordinate type and one dimension
+-- a coordinate has one coordinate type and one dimension
 pub leaf_same : (t : Tree) (c b : CoordType) (d e : Dimension) → Leaf t c d → Leaf t b e → (c ≡ b) × (d ≡ e)
 leaf_same (fixed_size_list n t b m z) Interleaved Interleaved d e h k = (refl, interleaved_same d e (sym h.0 ∙ k.0))
 leaf_same (struct fs) Separated Separated d e h k = (refl, separated_same (names_of fs) d e h k)
@@ -95,7 +95,7 @@ levels_same (suc n) t u x h k =
     let same = widths_same h.0 k.0 n n t u x h.1 k.1 in
     lists_same k.0 (suc n) t u x (subst (λ w. ListsOver w (suc n) t u) same h.1) k.1
 
--- an id has one kind and one dimension
+-- ---- a type id has one kind and one dimension
 order_same : (d e : Dimension) → order_of d ≡ order_of e → d ≡ e
 order_same XY XY h = refl
 order_same XYZ XYZ h = refl
@@ -170,7 +170,7 @@ any_native MultiPoint t c d h = h
 any_native MultiLineString t c d h = h
 any_native MultiPolygon t c d h = h
 
--- a tree of a native kind has one coordinate type and one dimension
+-- a data type of a native kind has one coordinate type and one dimension
 pub any_native_same : (k : NativeKind) (t : Tree) (c b : CoordType) (d e : Dimension) → Native t k c d → Native t k b e → (c ≡ b) × (d ≡ e)
 any_native_same GeometryCollection t c b d e h g = collection_same t c b d e h g
 any_native_same Point t c b d e h g = leaf_under_same 0 t c b d e h g
@@ -209,7 +209,7 @@ box_same ns XYZM XY h k = absurd (omega arith)
 box_same ns XYZM XYZ h k = absurd (omega (arith, k.0))
 box_same ns XYZM XYM h k = absurd (omega (arith, k.0))
 
--- geometries of any kind are of one coordinate type
+-- a geometry has one coordinate type
 pub geometry_same : (t : Tree) (c b : CoordType) → Geometry t c → Geometry t b → c ≡ b
 geometry_same (union no_members mode) c b h g = absurd h.0
 geometry_same (union (member i n t x m ms) mode) c b h g = (geometry_part_same i t c b h.1.0.0 g.1.0.0 h.1.0.1 g.1.0.1).0

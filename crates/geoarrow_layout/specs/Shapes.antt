@@ -1,4 +1,4 @@
--- Which trees are which layouts.
+-- The data types as read: which data type is of which kind.
 use Rattle.std.specs.Prelude.{ℕ, zero, suc, ℤ, pos, ◌≡◌, ◌↔◌, ◌⊎◌, List, [], ◌∷◌, length, codes, Bool, true, Option, Some, Result, Ok}
 use Rattle.std.specs.List.{list_any}
 use Rattle.std.specs.Str.{bytes_eq}
@@ -18,11 +18,11 @@ use Rattle.geoarrow_layout.specs.declared.summary.ListWidth.TheVariants.{List as
 use Rattle.geoarrow_layout.specs.declared.fault.LayoutFault.{LayoutFault}
 use Rattle.geoarrow_layout.specs.Kinds.{size_of, interleaved_name, type_id_of, name_of}
 
--- the answer is the coordinate type and dimension that have R, and an error where none have it
+-- the result is the coordinate type and dimension for which R holds, or an error if it holds for none
 abbrev pub Answers : Result (CoordType × Dimension) LayoutFault → (CoordType → Dimension → Type 0) → Type 0
 Answers r R = (c : CoordType) (d : Dimension) → (r ≡ Ok (c, d)) ↔ R c d
 
--- the answer is the one value that has R, and an error where none has it
+-- the result is the value for which R holds, or an error if it holds for none
 abbrev pub AnswersOne : {X : Type 0} → Result X LayoutFault → (X → Type 0) → Type 0
 AnswersOne {X} r R = (x : X) → (r ≡ Ok x) ↔ R x
 
@@ -35,35 +35,35 @@ names_of (field n t b m fs) = n ∷ names_of fs
 abbrev pub has_name : Text → List Text → Bool
 has_name n names = list_any (λ m. bytes_eq m n) names
 
--- the two are one set of names, whatever their order and how often each stands
+-- both lists have the same names, in any order and any number of times
 unfoldable pub SameNames : List Text → List Text → Type 0
 SameNames xs ys = (n : Text) → has_name n xs ≡ has_name n ys
 
--- fields of these names are the separated coordinates of a dimension
+-- fields with these names are a separated coordinate: their number gives the dimension, and if there are three, their names
 abbrev pub IsSeparatedAs : Dimension → List Text → Type 0
 IsSeparatedAs XY names = length names ≡ 2
 IsSeparatedAs XYZ names = (length names ≡ 3) × SameNames names (codes "x" ∷ codes "y" ∷ codes "z" ∷ [])
 IsSeparatedAs XYM names = (length names ≡ 3) × SameNames names (codes "x" ∷ codes "y" ∷ codes "m" ∷ [])
 IsSeparatedAs XYZM names = length names ≡ 4
 
--- the tree is a coordinate
+-- the data type is a coordinate of that type and dimension
 abbrev pub Leaf : Tree → CoordType → Dimension → Type 0
 Leaf (fixed_size_list name t b m size) Interleaved d = (name ≡ interleaved_name d) × (size ≡ pos (size_of d))
 Leaf (struct fields) Separated d = IsSeparatedAs d (names_of fields)
 Leaf _ _ _ = ⊥
 
--- the tree is n lists, all of one width, over u
+-- the data type t is n lists of width w over u
 abbrev pub ListsOver : ListWidth → ℕ → Tree → Tree → Type 0
 ListsOver w zero t u = t ≡ u
 ListsOver Lists (suc n) (list name t b m) u = ListsOver Lists n t u
 ListsOver LargeLists (suc n) (large_list name t b m) u = ListsOver LargeLists n t u
 ListsOver w (suc n) _ u = ⊥
 
--- the tree is n lists over u, of either width
+-- the data type t is n lists over u, all of one width
 abbrev pub Levels : Tree → ℕ → Tree → Type 0
 Levels t n u = (w : ListWidth) × ListsOver w n t u
 
--- the tree is n lists over a coordinate
+-- the data type t is n lists over a coordinate, all of one width
 abbrev pub LeafUnder : ℕ → Tree → CoordType → Dimension → Type 0
 LeafUnder n t c d = (u : Tree) × Levels t n u × Leaf u c d
 
@@ -77,94 +77,94 @@ levels_of MultiLineString = 2
 levels_of MultiPolygon = 3
 levels_of GeometryCollection = 1
 
--- the tree is the lists of a native kind over a coordinate; a collection has a union there
+-- the data type t is the lists of a native kind over a coordinate; a collection is not, since it has a union there
 abbrev pub OverLeaf : Tree → NativeKind → CoordType → Dimension → Type 0
 OverLeaf t GeometryCollection c d = ⊥
 OverLeaf t k c d = LeafUnder (levels_of k) t c d
 
--- the type id is that of a native kind in a dimension
+-- the type id is that of this kind and dimension
 abbrev pub Id : ℤ → NativeKind → Dimension → Type 0
 Id i k d = i ≡ pos (type_id_of k d)
 
--- a member of a collection: its type id says its kind and its dimension
+-- a member of a collection: its data type has the kind and the dimension of its type id
 abbrev pub Member : ℤ → Tree → CoordType → Dimension → Type 0
 Member i t c d = (k : NativeKind) × Id i k d × OverLeaf t k c d
 
--- every member has P
+-- P holds for the type id and the data type of every member
 abbrev pub AllMembers : (ℤ → Tree → Type 0) → MemberTrees → Type 0
 AllMembers P no_members = Unit {0}
 AllMembers P (member i n t b m ms) = P i t × AllMembers P ms
 
--- some member has P
+-- P holds for the type id and the data type of some member
 abbrev pub SomeMember : (ℤ → Tree → Type 0) → MemberTrees → Type 0
 SomeMember P no_members = ⊥
 SomeMember P (member i n t b m ms) = P i t ⊎ SomeMember P ms
 
--- there is a member
+-- there is at least one member
 abbrev pub HasMembers : MemberTrees → Type 0
 HasMembers no_members = ⊥
 HasMembers (member i n t b m ms) = Unit {0}
 
--- members of one coordinate type and one dimension
+-- at least one member, and all of one coordinate type and one dimension
 abbrev pub MixedMembers : MemberTrees → CoordType → Dimension → Type 0
 MixedMembers ms c d = HasMembers ms × AllMembers (λ i t. Member i t c d) ms
 
--- the tree is a union of such members
+-- the data type is the union in a collection
 abbrev pub Mixed : Tree → CoordType → Dimension → Type 0
 Mixed (union ms mode) c d = MixedMembers ms c d
 Mixed _ c d = ⊥
 
--- the tree is a list over such a union
+-- the data type is a collection: a list over that union
 abbrev pub Collection : Tree → CoordType → Dimension → Type 0
 Collection t c d = (u : Tree) × Levels t 1 u × Mixed u c d
 
--- the tree is of a native kind
+-- the data type is of this native kind, coordinate type and dimension
 abbrev pub Native : Tree → NativeKind → CoordType → Dimension → Type 0
 Native t GeometryCollection c d = Collection t c d
 Native t k c d = OverLeaf t k c d
 
--- a member of a geometry: one of a collection, or a collection itself
+-- a member of a geometry: a member of a collection, or a collection
 abbrev pub GeometryPart : ℤ → Tree → CoordType → Dimension → Type 0
 GeometryPart i t c d = Member i t c d ⊎ (Id i GeometryCollection d × Collection t c d)
 
--- the same, in whatever dimension
+-- the same, in some dimension
 abbrev pub GeometryMember : CoordType → ℤ → Tree → Type 0
 GeometryMember c i t = (d : Dimension) × GeometryPart i t c d
 
--- the tree is a union of members of one coordinate type, each in its own dimension
+-- the data type is a geometry: a union of at least one member, all of one coordinate type
 abbrev pub Geometry : Tree → CoordType → Type 0
 Geometry (union ms mode) c = HasMembers ms × AllMembers (GeometryMember c) ms
 Geometry _ c = ⊥
 
--- both names stand among the names
+-- both names are among the names
 abbrev pub HaveBoth : Text → Text → List Text → Type 0
 HaveBoth m n names = (has_name m names ≡ true) × (has_name n names ≡ true)
 
--- fields of these names are those of a box: the count says the dimension, and among six fields some names
+-- fields with these names are a box: their number gives the dimension, and if there are six, their names
 abbrev pub IsBoxAs : Dimension → List Text → Type 0
 IsBoxAs XY names = length names ≡ 4
 IsBoxAs XYZ names = (length names ≡ 6) × ¬ HaveBoth (codes "mmin") (codes "mmax") names × HaveBoth (codes "zmin") (codes "zmax") names
 IsBoxAs XYM names = (length names ≡ 6) × HaveBoth (codes "mmin") (codes "mmax") names
 IsBoxAs XYZM names = length names ≡ 8
 
--- the tree is a box
+-- the data type is a box of that dimension
 abbrev pub BoxShape : Tree → Dimension → Type 0
 BoxShape (struct fs) d = IsBoxAs d (names_of fs)
 BoxShape _ d = ⊥
 
--- the tree is bytes, as well-known binary is stored
+-- the data type is that of well-known binary in this width
 abbrev pub IsBytes : Width → Tree → Type 0
 IsBytes Plain t = t ≡ plain binary
 IsBytes Large t = t ≡ plain large_binary
 IsBytes View t = t ≡ plain binary_view
 
--- the tree is text, as well-known text is stored
+-- the data type is that of well-known text in this width
 abbrev pub IsText : Width → Tree → Type 0
 IsText Plain t = t ≡ plain utf8
 IsText Large t = t ≡ plain large_utf8
 IsText View t = t ≡ plain utf8_view
 
--- the tree is of that kind
+-- the kind accepts the data type
 abbrev pub Accepted : Kind → Tree → Type 0
 Accepted (OfNative k c d) t = Native t k c d
 Accepted (OfGeometry c) t = Geometry t c
@@ -172,16 +172,16 @@ Accepted (OfRect d) t = BoxShape t d
 Accepted (OfWkb w) t = IsBytes w t
 Accepted (OfWkt w) t = IsText w t
 
--- under that extension name the tree is of that kind
+-- a column with that extension name and data type is of that kind
 abbrev pub Accepts : Text → Tree → Kind → Type 0
 Accepts name t k = (name ≡ name_of k) × Accepted k t
 
--- a kind whose columns have a structure; well-known binary and text have none
+-- the kind is neither well-known binary nor well-known text
 abbrev pub IsStructured : Kind → Type 0
 IsStructured (OfWkb w) = ⊥
 IsStructured (OfWkt w) = ⊥
 IsStructured k = Unit {0}
 
--- the answer is the structured kind of the tree under that name, and none where there is none
+-- the result is the kind of a column with that name and data type; none if there is none, and for well-known binary and text
 abbrev pub AnswersKind : Text → Tree → Option Kind → Type 0
 AnswersKind name t r = (k : Kind) → (r ≡ Some k) ↔ (Accepts name t k × IsStructured k)

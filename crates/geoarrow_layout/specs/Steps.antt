@@ -1,4 +1,4 @@
--- What the steps of the walk and of the readers over a summary do.
+-- What the steps of the walk and of the readers do.
 use Rattle.std.specs.Prelude.{ℕ, zero, suc, nat_eq, ℤ, pos, ◌≡◌, ◌↔◌, ◌⊎◌, ◌^◌, Bool, true, false, ◌&&◌, Option, Some, None, Result, Ok}
 use Rattle.std.specs.Int.{bit_at}
 use Rattle.arrow_values.specs.Tree.{Tree, list, large_list, MemberTrees}
@@ -14,29 +14,29 @@ use Rattle.geoarrow_layout.specs.declared.summary.Summary.{Summary}
 use Rattle.geoarrow_layout.specs.Kinds.{order_of}
 use Rattle.geoarrow_layout.specs.Summary.{place_of, IsInnerUnion, SummarizesBy}
 
--- whether the number has that bit
+-- whether bit i of the number is set
 abbrev pub has_bit : ℕ → ℕ → Bool
 has_bit bits i = nat_eq (bit_at bits i) 1
 
--- the one bit was added
+-- `more` has the bits of `bits`, and bit i
 unfoldable pub AddsBit : ℕ → ℕ → ℕ → Type 0
 AddsBit bits i more = (k : ℕ) → (bit_at more k ≡ 1) ↔ ((bit_at bits k ≡ 1) ⊎ (k ≡ i))
 
--- the bits that have P were added
+-- `more` has the bits of `bits`, and those for which P holds
 unfoldable pub AddsBits : ℕ → (ℕ → Type 0) → ℕ → Type 0
 AddsBits bits P more = (i : ℕ) → (bit_at more i ≡ 1) ↔ ((bit_at bits i ≡ 1) ⊎ P i)
 
--- a union stands there, of which only this is said, that it is no coordinate
+-- of a union the bottom says only that it is not a coordinate
 abbrev pub IsNoLeaf : ℕ → Bottom → MemberTrees → Type 0
 IsNoLeaf levels (FixedSizeList named size all_floats) ms = ⊥
 IsNoLeaf levels (Struct count names all_floats) ms = ⊥
 IsNoLeaf levels _ ms = Unit {0}
 
--- the summary is that of the tree, but for what it says of a union
+-- the summary is that of the data type, except for what it says of a union
 abbrev pub Shows : Summary → Tree → Type 0
 Shows s t = SummarizesBy IsNoLeaf s t
 
--- the levels end there: a further one would be a fourth
+-- the levels end at this data type: it is not a list of their width, or would be the fourth level
 abbrev pub Ended : Option ListWidth → ℕ → Tree → Type 0
 Ended None levels (list n t b m) = ⊥
 Ended None levels (large_list n t b m) = ⊥
@@ -44,47 +44,47 @@ Ended (Some Lists) levels (list n t b m) = levels ≡ 3
 Ended (Some LargeLists) levels (large_list n t b m) = levels ≡ 3
 Ended w levels t = Unit {0}
 
--- a union below lists is told, one at the root is not
+-- the bottom describes a union below lists; of a union that is the whole data type it says only that it is not a coordinate
 abbrev pub IsNested : ℕ → Bottom → MemberTrees → Type 0
 IsNested zero b ms = IsNoLeaf 0 b ms
 IsNested (suc levels) b ms = IsInnerUnion b ms
 
--- the summary is that of the tree, but for what it says of a union at the root
+-- the summary is that of the data type, except for what it says of a union that is the whole data type
 abbrev pub ShowsInner : Summary → Tree → Type 0
 ShowsInner s t = SummarizesBy IsNested s t
 
--- what was seen of a union's members says their one coordinate type
+-- the result is the one coordinate type of a union's members, by what the walk found; otherwise an error
 abbrev pub UnionSaysOne : Bool → Option LayoutFault → ℕ → Result CoordType LayoutFault → Type 0
 UnionSaysOne empty fault coord_types r = (c : CoordType) → (r ≡ Ok c) ↔ ((empty ≡ false) × (fault ≡ None) × (coord_types ≡ 2 ^ place_of c))
 
--- and their one dimension
+-- the same, with their one dimension
 abbrev pub UnionSays : Bool → Option LayoutFault → ℕ → ℕ → Result (CoordType × Dimension) LayoutFault → Type 0
 UnionSays empty fault coord_types dimensions r = (c : CoordType) (d : Dimension) → (r ≡ Ok (c, d)) ↔ ((empty ≡ false) × (fault ≡ None) × (coord_types ≡ 2 ^ place_of c) × (dimensions ≡ 2 ^ order_of d))
 
--- i is the place of the coordinate type that was read
+-- i is the number of the coordinate type that was read
 abbrev pub CoordOf : Result (CoordType × Dimension) LayoutFault → ℕ → Type 0
 CoordOf r i = (c : CoordType) × (i ≡ place_of c) × (d : Dimension) × (r ≡ Ok (c, d))
 
--- i is the place of the dimension that was read
+-- i is the number of the dimension that was read
 abbrev pub DimensionOf : Result (CoordType × Dimension) LayoutFault → ℕ → Type 0
 DimensionOf r i = (d : Dimension) × (i ≡ order_of d) × (c : CoordType) × (r ≡ Ok (c, d))
 
--- something was read
+-- the result is not an error
 abbrev pub SomeAnswer : Result (CoordType × Dimension) LayoutFault → Type 0
 SomeAnswer r = (c : CoordType) × (d : Dimension) × (r ≡ Ok (c, d))
 
--- the bits of x, y and m are set
+-- whether the bits of x, y and m are set
 abbrev pub is_measured : ℕ → Bool
 is_measured names = (has_bit names 0 && has_bit names 1) && has_bit names 3
 
--- so many fields, of which the bits say the names, are taken for coordinates of a dimension
+-- a struct with that many fields, whose names the bits say, is inferred as a point of that dimension
 abbrev pub NamesSay : Dimension → ℕ → ℕ → Type 0
 NamesSay XY count names = count ≡ 2
 NamesSay XYZ count names = (count ≡ 3) × (is_measured names ≡ false)
 NamesSay XYM count names = (count ≡ 3) × (is_measured names ≡ true)
 NamesSay XYZM count names = count ≡ 4
 
--- so many numbers, of which the inner name says that dimension or none, are
+-- so is a fixed size list of that size, whose inner name is that of `named`, or of no dimension
 abbrev pub SizeSays : Dimension → Option Dimension → ℤ → Type 0
 SizeSays XY named size = size ≡ pos 2
 SizeSays XYZ named size = (size ≡ pos 3) × ¬ (named ≡ Some XYM)

@@ -1,4 +1,4 @@
--- A JSON value as the logic stores it: a tree of numbers that gives the value back.
+-- JSON values have codes: trees of numbers, each of which gives its value back.
 use Rattle.std.specs.Prelude.{◌≡◌, ℕ, zero, suc, ℤ, pos, negsuc, List, [], ◌∷◌, Bool, true, false, Float, refl}
 use Rattle.std.specs.Coded.{Coded}
 use Rattle.std.proofs.Common.{sym, ap, ap₂, ◌∙◌}
@@ -6,7 +6,7 @@ use base.Stored.{Gv, gnil, gnum, gcons, num}
 use lib.Ieee.{nan, inf, fin}
 use Rattle.serde_json.specs.Data.{Num, unsigned, negative, float, Data, null, boolean, number, string, array, object, Items, no_items, item, Members, no_members, member}
 
--- a truth value as such a tree, and back
+-- the code of a truth value, and back
 abbrev bit_code : Bool → Gv
 bit_code true = gnum 1
 bit_code false = gnum 0
@@ -17,7 +17,7 @@ bit_back (gnum zero) = false
 bit_back (gnum (suc n)) = true
 bit_back (gcons a b) = false
 
--- an integer
+-- the code of an integer, and back
 abbrev int_code : ℤ → Gv
 int_code (pos n) = gcons gnil (gnum n)
 int_code (negsuc n) = gcons (gnum 0) (gnum n)
@@ -29,7 +29,7 @@ int_back (gcons gnil g) = pos (num g)
 int_back (gcons (gnum n) g) = negsuc (num g)
 int_back (gcons (gcons a b) g) = pos 0
 
--- a text
+-- the code of a text, and back
 abbrev text_code : List ℕ → Gv
 text_code [] = gnil
 text_code (x ∷ xs) = gcons (gnum x) (text_code xs)
@@ -39,7 +39,7 @@ text_back gnil = []
 text_back (gnum n) = []
 text_back (gcons a b) = num a ∷ text_back b
 
--- a float
+-- the code of a float, and back
 abbrev float_code : Float → Gv
 float_code nan = gnil
 float_code (inf s) = gcons gnil (bit_code s)
@@ -52,7 +52,7 @@ float_back (gcons gnil g) = inf (bit_back g)
 float_back (gcons (gnum n) g) = nan
 float_back (gcons (gcons a b) g) = fin (bit_back a) (num b) (int_back g)
 
--- a JSON number
+-- the code of a JSON number, and back
 abbrev num_code : Num → Gv
 num_code (unsigned n) = gnum n
 num_code (negative z) = gcons gnil (int_code z)
@@ -65,7 +65,7 @@ num_back (gcons gnil g) = negative (int_back g)
 num_back (gcons (gnum n) g) = float (float_back g)
 num_back (gcons (gcons a b) g) = unsigned 0
 
--- a JSON value
+-- the code of a JSON value
 abbrev mutual
   pub data_to : Data → Gv
   data_to null = gnil
@@ -83,7 +83,7 @@ abbrev mutual
   members_to no_members = gnil
   members_to (member k d ms) = gcons (gcons (text_code k) (data_to d)) (members_to ms)
 
--- the JSON value of such a tree
+-- the JSON value of a code
 abbrev mutual
   pub data_from : Gv → Data
   data_from gnil = null
@@ -106,7 +106,7 @@ abbrev mutual
   members_from (gcons (gnum n) b) = no_members
   members_from (gcons (gcons k d) b) = member (text_back k) (data_from d) (members_from b)
 
--- ---- each comes back
+-- ---- each code gives its value back
 
 bit_there : (b : Bool) → bit_back (bit_code b) ≡ b
 bit_there true = refl
@@ -148,6 +148,6 @@ mutual
   members_there no_members = refl
   members_there (member k d ms) = λ i. member (text_there k i) (data_there d i) (members_there ms i)
 
--- the code of JSON values
+-- so different JSON values have different codes
 abbrev pub data_code : Coded Data
 data_code = record { code = data_to; inj = λ x y p. sym (data_there x) ∙ ap data_from p ∙ data_there y }

@@ -1,4 +1,4 @@
--- What may stand as a CRS value, and what its hash is fed.
+-- Which JSON values a CRS can have, and what they write to a hasher.
 use Rattle.std.specs.Prelude.{◌≡◌, ◌++◌, true, false, is_some}
 use Rattle.std.specs.Hash.{HashWrites, u8, str}
 use Rattle.std.proofs.Common.{ap}
@@ -8,11 +8,11 @@ use Rattle.serde_json.specs.Find.{as_null}
 use Rattle.serde_json.specs.Written.{has_float}
 use Rattle.geoarrow_meta.specs.Same.{same, same-Decides}
 
--- what may stand as a CRS value: it is not null, and each number in it, at any depth, is whole
+-- a CRS can have the value: it is not null, and its numbers are whole at any depth
 abbrev pub IsCrsValue : Data → Type 0
 IsCrsValue d = (is_some (as_null d) ≡ false) × (has_float d ≡ false)
 
--- what the hash of a CRS value is fed: the sort of the value, and a text's bytes
+-- what the value writes to a hasher: its sort, and for a text its bytes
 abbrev pub value_fed : Data → HashWrites
 value_fed null = u8 0
 value_fed (boolean b) = u8 1
@@ -21,7 +21,7 @@ value_fed (string s) = u8 3 ++ str s
 value_fed (array ds) = u8 4
 value_fed (object ms) = u8 5
 
--- the same values feed the same
+-- equal values write the same to a hasher
 pub value_fed-same : (d e : Data) → same d e ≡ true → value_fed d ≡ value_fed e
 value_fed-same d e h = ap value_fed ((same-Decides d e).0 h)
 
@@ -29,6 +29,6 @@ value_fed-same d e h = ap value_fed ((same-Decides d e).0 h)
 pub same-equiv : IsEquivalence same
 same-equiv = decided same same-Decides
 
--- and so a partial one
+-- so it is a partial equivalence too
 pub same-per : IsPartialEquivalence same
 same-per = partial_equiv_from_equiv same-equiv

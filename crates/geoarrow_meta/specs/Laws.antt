@@ -1,4 +1,4 @@
--- Laws of these words, for the crates above.
+-- Laws of metadata, for the crates above.
 use Rattle.std.proofs.Common.{◌≡◌, List, ℕ, false, Option, Some, None, option_map, refl, sym, ap, ◌∙◌, subst, true≢false}
 use Rattle.std.proofs.lemmas.Slice.Eq.{bytes_eq-Decides}
 use Rattle.std.specs.Str.{bytes_eq}
@@ -44,7 +44,7 @@ edges_same None None e = refl
 edges_same (Some a) (Some b) e = let f : edges_text a ≡ edges_text b = cc in ap Some (edges_text-inj a b f)
 edges_same _ _ e = absurd (cc)
 
--- a value stands for one metadata at most
+-- a JSON value denotes at most one metadata
 pub stands_for_one : (d : Data) (m n : Metadata) → StandsFor d m → StandsFor d n → m ≡ n
 stands_for_one d m n a b = λ i. record {
   crs = record {

@@ -6,7 +6,7 @@ use Rattle.geoarrow_meta.specs.declared.edges.Edges.TheVariants.{Andoyer, Karney
 use Rattle.geoarrow_meta.specs.declared.crs.crs_type.CrsType.{CrsType}
 use Rattle.geoarrow_meta.specs.declared.crs.crs_type.CrsType.TheVariants.{Projjson, Wkt2_2019, AuthorityCode, Srid}
 
--- what stands for edges in a metadata
+-- the text that denotes edges, at `edges`
 abbrev pub edges_text : Edges → Text
 edges_text Andoyer = codes "andoyer"
 edges_text Karney = codes "karney"
@@ -14,7 +14,7 @@ edges_text Spherical = codes "spherical"
 edges_text Thomas = codes "thomas"
 edges_text Vincenty = codes "vincenty"
 
--- what stands for a CRS type in a metadata
+-- the text that denotes a CRS type, at `crs_type`
 abbrev pub crs_type_text : CrsType → Text
 crs_type_text Projjson = codes "projjson"
 crs_type_text Wkt2_2019 = codes "wkt2:2019"

@@ -10,14 +10,12 @@ use Rattle.geoarrow_meta.specs.declared.metadata.Metadata.{Metadata}
 abbrev pub crs_value : Crs → Option Data
 crs_value c = c.value
 
--- what that value is written as
+-- the format of that value
 abbrev pub crs_type : Crs → Option CrsType
 crs_type c = c.crs_type
 
--- the CRS of a metadata
 abbrev pub metadata_crs : Metadata → Crs
 metadata_crs m = m.crs
 
--- the edges of a metadata
 abbrev pub metadata_edges : Metadata → Option Edges
 metadata_edges m = m.edges

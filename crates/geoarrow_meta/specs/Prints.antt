@@ -6,7 +6,7 @@ use Rattle.serde_json.specs.Data.{Data}
 use Rattle.serde_json.specs.Written.{outline}
 use Rattle.arrow_values.specs.Tree.{Text}
 
--- the tokens of a member, if there is one
+-- the tokens of a key and its value, if there is a value
 abbrev pub some_tokens : Text → Option Data → List Token
 some_tokens k None = []
 some_tokens k (Some d) = key k ∷ json_tokens (outline d)

@@ -1,5 +1,5 @@
--- Which metadata a JSON value or a text stands for (GeoArrow, "Extension metadata"), and how one that stands for none is
--- refused.
+-- Which metadata a JSON value or a text denotes (GeoArrow, "Extension metadata"), and with which error one that denotes none
+-- is refused.
 use Rattle.std.specs.Prelude.{◌≡◌, codes, Bool, true, false, Option, None, Some, IsSome, option_map, ⊤}
 use Rattle.arrow_values.specs.Tree.{Text}
 use Rattle.arrow_values.specs.Errors.{IsMemory}
@@ -23,21 +23,21 @@ unless_null (string s) = Some (string s)
 unless_null (array ds) = Some (array ds)
 unless_null (object ms) = Some (object ms)
 
--- null as absent
+-- the value, if it is there and not null
 abbrev pub present : Option Data → Option Data
 present None = None
 present (Some d) = unless_null d
 
--- what stands at a key, null as absent
+-- the value at a key, if it is there and not null
 abbrev pub at_key : Text → Data → Option Data
 at_key k d = present (get k d)
 
--- a value that is there holds a number, at any depth, that is not whole
+-- whether there is a value, and it holds a number that is not whole, at any depth
 abbrev pub some_has_float : Option Data → Bool
 some_has_float None = false
 some_has_float (Some d) = has_float d
 
--- the value stands for the metadata: it is an object with whole numbers in `crs`, and the parts are what stands at the three keys
+-- the JSON value denotes the metadata: it is an object with whole numbers in `crs`, and the parts are those at the three keys
 pub record StandsFor (d : Data) (m : Metadata) : Type 0 where
   pub is_object : IsSome (as_object d)
   pub whole : some_has_float (at_key (codes "crs") d) ≡ false
@@ -45,29 +45,30 @@ pub record StandsFor (d : Data) (m : Metadata) : Type 0 where
   pub crs_type : option_map crs_type_data m.crs.crs_type ≡ at_key (codes "crs_type") d
   pub edges : option_map edges_data m.edges ≡ at_key (codes "edges") d
 
--- the text, or its absence, stands for the metadata
+-- the metadata text denotes the metadata; a missing text denotes the empty one
 abbrev pub TextStandsFor : Option Text → Metadata → Type 0
 TextStandsFor None m = m ≡ empty
 TextStandsFor (Some s) m = (d : Data) × (read s ≡ Some d) × StandsFor d m
 
--- an object with a number in `crs` that is not whole
+-- the value is an object with a number in `crs` that is not whole
 abbrev pub HasFraction : Data → Type 0
 HasFraction d = IsSome (as_object d) × (some_has_float (at_key (codes "crs") d) ≡ true)
 
--- the value is refused so: as `Crs` for a fraction alone, as `External` where it stands for no metadata else; or when out of memory
+-- the value is refused with that error: `Crs` if a number in `crs` is not whole, otherwise `External` if it denotes no
+-- metadata; or out of memory
 abbrev pub RefusedAs : Data → GeoArrowError → Type 0
 RefusedAs d (Arrow a) = IsMemory a
 RefusedAs d (Crs s) = HasFraction d
 RefusedAs d (External s) = ¬ HasFraction d × ((m : Metadata) → ¬ StandsFor d m)
 RefusedAs d _ = ⊥
 
--- the text is refused by that error: `Crs` where its value has a fraction in `crs`, `External` where it has none and stands for no metadata
+-- the text is refused for that error: `Crs` if a number in `crs` is not whole, otherwise `External` if it denotes no metadata
 abbrev pub TextRefusedBy : Text → GeoArrowError → Type 0
 TextRefusedBy s (Crs t) = (d : Data) × (read s ≡ Some d) × HasFraction d
 TextRefusedBy s (External t) = ((d : Data) → read s ≡ Some d → ¬ HasFraction d) × ((m : Metadata) → ¬ TextStandsFor (Some s) m)
 TextRefusedBy s _ = ⊥
 
--- the text is refused so: by such an error in a box, `External` also where it has no value; or when out of memory. No absence is
+-- the text is refused with that error: an `ExternalError` of the one before, or out of memory; a missing text is not refused
 abbrev pub TextRefusedAs : Option Text → ArrowError → Type 0
 TextRefusedAs None e = ⊥
 TextRefusedAs (Some s) OutOfMemory = ⊤
@@ -76,24 +77,24 @@ TextRefusedAs (Some s) _ = ⊥
 
 -- ---- errors by variant
 
--- a `Crs`, or out-of-memory
+-- the error is a `Crs`, or out of memory
 abbrev pub IsCrsOrMemory : GeoArrowError → Type 0
 IsCrsOrMemory (Arrow a) = IsMemory a
 IsCrsOrMemory (Crs s) = ⊤
 IsCrsOrMemory _ = ⊥
 
--- an `External`, or out-of-memory
+-- the error is an `External`, or out of memory
 abbrev pub IsExternalOrMemory : GeoArrowError → Type 0
 IsExternalOrMemory (Arrow a) = IsMemory a
 IsExternalOrMemory (External s) = ⊤
 IsExternalOrMemory _ = ⊥
 
--- an `External`
+-- the error is an `External`
 abbrev pub IsExternal : GeoArrowError → Type 0
 IsExternal (External s) = ⊤
 IsExternal _ = ⊥
 
--- out-of-memory, or, unless it was that, an `External` in a box
+-- the error is out of memory; or, if P does not hold, an `ExternalError` of an `External`
 abbrev pub MeansUnread : Type 0 → ArrowError → Type 0
 MeansUnread P OutOfMemory = ⊤
 MeansUnread P (ExternalError' p g) = ¬ P × IsExternal g

@@ -1,4 +1,4 @@
--- When two JSON values are the same.
+-- Equality of JSON values, as a test.
 use Rattle.std.specs.Prelude.{◌≡◌, ◌==◌, ◌&&◌, Bool, true, false, Float, refl}
 use Rattle.std.specs.Bool.{beq, Decides}
 use Rattle.std.specs.Cmp.{booleans_Decides, unsigned_Decides, signed_Decides, first_so, second_so}
@@ -9,21 +9,21 @@ use Rattle.std.proofs.lemmas.Slice.Eq.{bytes_eq-Decides}
 use lib.Ieee.{nan, inf, fin}
 use Rattle.serde_json.specs.Data.{Num, unsigned, negative, float, Data, null, boolean, number, string, array, object, Items, no_items, item, Members, no_members, member}
 
--- the same float, and not-a-number is the same as itself
+-- whether both are the same float; not-a-number is the same as itself
 abbrev pub same_float : Float → Float → Bool
 same_float nan nan = true
 same_float (inf s) (inf t) = beq s t
 same_float (fin s m e) (fin t n f) = beq s t && ((m == n) && int_eq e f)
 same_float _ _ = false
 
--- the same JSON number
+-- whether both are the same JSON number
 abbrev pub same_num : Num → Num → Bool
 same_num (unsigned m) (unsigned n) = m == n
 same_num (negative y) (negative z) = int_eq y z
 same_num (float x) (float y) = same_float x y
 same_num _ _ = false
 
--- the same JSON value
+-- whether both are the same JSON value
 abbrev mutual
   pub same : Data → Data → Bool
   same null null = true
@@ -44,17 +44,17 @@ abbrev mutual
   same_members (member k d ms) (member l e ns) = bytes_eq k l && (same d e && same_members ms ns)
   same_members _ _ = false
 
--- ---- `same` answers true exactly at equal values
+-- ---- `same` is true exactly for equal values
 
--- two tests decide two facts
+-- two tests together decide two facts
 pub both : {P Q : Type 0} (r s : Bool) → Decides r P → Decides s Q → Decides (r && s) (P × Q)
 both r s p q = (λ h. (p.0 (first_so r s h), q.0 (second_so r s h)), λ h. ap₂ (λ a b. a && b) (p.1 h.0) (q.1 h.1))
 
--- a test decides a fact that is as good
+-- a test that decides a fact decides any equivalent one
 pub along : {P Q : Type 0} (r : Bool) → Decides r P → (P → Q) → (Q → P) → Decides r Q
 along r d to from = (λ h. to (d.0 h), λ q. d.1 (from q))
 
--- no decides what is never so
+-- false decides what never holds
 pub apart : {P : Type 0} → (P → ⊥) → Decides false P
 apart never = (λ h. absurd (true≢false (sym h)), λ p. absurd (never p))
 

@@ -1,4 +1,4 @@
--- What stands at the three keys of a metadata's object, as it is held while it is read. For private clauses.
+-- What is found at the three keys of a metadata's object, while it is read. Only private contracts cite it.
 use Rattle.std.specs.Prelude.{◌≡◌, codes, Option, None, Some, IsSome, option_map}
 use Rattle.serde_json.specs.Data.{Data, string}
 use Rattle.serde_json.specs.Find.{as_object}
@@ -12,24 +12,24 @@ use Rattle.geoarrow_meta.specs.declared.metadata.read.Word.TheVariants.{Absent, 
 use Rattle.geoarrow_meta.specs.Written.{crs_type_data, edges_data}
 use Rattle.geoarrow_meta.specs.Read.{at_key}
 
--- what stands somewhere is so as a word: nothing, a text, or a value that is none
+-- the word says what was found: nothing, a text, or another value
 abbrev pub IsWord : Word → Option Data → Type 0
 IsWord Absent found = found ≡ None
 IsWord (Said s) found = found ≡ Some (string s.now)
 IsWord Other found = (o : Option Text) → ¬ (option_map string o ≡ found)
 
--- what is written so stands there, or its absence; or none that is written so does
+-- `Some` says what was found: a value that is written so, or nothing; `None` says that it was something else
 abbrev pub IsNamed : {A : Type 0} → (A → Data) → Option (Option A) → Option Data → Type 0
 IsNamed written (Some a) found = option_map written a ≡ found
 IsNamed {A} written None found = (a : Option A) → ¬ (option_map written a ≡ found)
 
--- these stand at the three keys of the value
+-- these were found at the three keys of the value
 pub record AreSlotsOf (d : Data) (crs : Option Data) (crs_type : Option (Option CrsType)) (edges : Option (Option Edges)) : Type 0 where
   pub at_crs : crs ≡ at_key (codes "crs") d
   pub at_crs_type : IsNamed crs_type_data crs_type (at_key (codes "crs_type") d)
   pub at_edges : IsNamed edges_data edges (at_key (codes "edges") d)
 
--- what was found of a value: what stands at the three keys of an object, and none where it is no object
+-- what was found at the three keys of an object; none if the value is not an object
 abbrev pub Finds : Option Slots → Data → Type 0
 Finds None d = ¬ IsSome (as_object d)
 Finds (Some s) d = IsSome (as_object d) × AreSlotsOf d (option_map view s.crs) s.crs_type s.edges

@@ -1,4 +1,4 @@
--- What a CRS holds already in the format that is asked for.
+-- What a CRS has already in the format that is asked for.
 use Rattle.std.specs.Prelude.{◌≡◌, Option, Some, None, IsSome, Result, String, string_bytes, option_map, option_and_then, MatchResult}
 use Rattle.std.specs.declared.alloc.Global.{Global}
 use Rattle.serde_json.specs.Data.{Data}
@@ -12,7 +12,7 @@ use Rattle.arrow_values.specs.declared.error.GeoArrowError.{GeoArrowError}
 use Rattle.arrow_values.specs.Errors.{IsGeoMemory}
 use Rattle.arrow_values.specs.Tree.{Text}
 
--- the value, or none, where the type is `Projjson`
+-- if the type is `Projjson`, the value, which may be missing
 abbrev if_projjson : Option CrsType → Option Data → Option (Option Data)
 if_projjson None v = None
 if_projjson (Some Projjson) v = Some v
@@ -20,7 +20,7 @@ if_projjson (Some Wkt2_2019) v = None
 if_projjson (Some AuthorityCode) v = None
 if_projjson (Some Srid) v = None
 
--- the text where the type is `Wkt2_2019` and the value a text
+-- if the type is `Wkt2_2019` and the value is a text, that text
 abbrev if_wkt : Option CrsType → Option Data → Option Text
 if_wkt None v = None
 if_wkt (Some Projjson) v = None
@@ -28,18 +28,18 @@ if_wkt (Some Wkt2_2019) v = option_and_then as_str v
 if_wkt (Some AuthorityCode) v = None
 if_wkt (Some Srid) v = None
 
--- the value, or none, of a CRS whose type is `Projjson`
+-- the PROJJSON that a CRS has already
 abbrev pub own_projjson : Crs → Option (Option Data)
 own_projjson c = if_projjson c.crs_type c.value
 
--- the text of a CRS whose type is `Wkt2_2019`
+-- the WKT that a CRS has already
 abbrev pub own_wkt : Crs → Option Text
 own_wkt c = if_wkt c.crs_type c.value
 
--- that value, unless memory runs out for one that is there
+-- the result is that value; out of memory only if there is one
 abbrev pub AnswersValue : Result (Option Value) GeoArrowError → Option Data → Type 0
 AnswersValue r v = MatchResult r (λ o. option_map view o ≡ v) (λ e. IsGeoMemory e × IsSome v)
 
--- that text, unless memory runs out
+-- the result is that text, or out of memory
 abbrev pub AnswersText : Result (Option (String Global)) GeoArrowError → Text → Type 0
 AnswersText r s = MatchResult r (λ o. option_map string_bytes o ≡ Some s) IsGeoMemory

@@ -1,23 +1,23 @@
--- JSON values as `serde_json` holds those whose numbers are whole.
+-- JSON values with whole numbers, as `serde_json` holds them.
 use Rattle.std.specs.Prelude.{◌^◌, ◌&&◌, pos, negsuc, Bool, true, false, nat_lt}
 use Rattle.std.specs.Ordering.{nat_cmp, is_lt}
 use Rattle.std.specs.Cmp.Lexicographic.{slice_cmp}
 use Rattle.arrow_values.specs.Tree.{Text}
 use Rattle.serde_json.specs.Data.{Num, unsigned, negative, float, Data, null, boolean, number, string, array, object, Items, no_items, item, Members, no_members, member}
 
--- the number is an integer of 64 bits, as `serde_json` holds one: with no sign, or below zero
+-- whether `serde_json` holds the number as a 64-bit integer, unsigned or negative
 abbrev pub is_integer : Num → Bool
 is_integer (unsigned n) = nat_lt n (2 ^ 64)
 is_integer (negative (pos n)) = false
 is_integer (negative (negsuc n)) = nat_lt n (2 ^ 63)
 is_integer (float x) = false
 
--- the key comes before those of the members
+-- whether the key comes before that of the first member
 abbrev pub is_before : Text → Members → Bool
 is_before k no_members = true
 is_before k (member l d ms) = is_lt (slice_cmp nat_cmp k l)
 
--- each number, at any depth, is an integer, and each object has a key once, in order
+-- whether each number, at any depth, is such an integer, and the keys of each object ascend
 abbrev mutual
   pub is_whole : Data → Bool
   is_whole null = true

@@ -14,67 +14,68 @@ use Rattle.geoarrow_meta.specs.Names.{edges_text, crs_type_text}
 abbrev pub no_crs : Crs
 no_crs = record { value = None; crs_type = None }
 
--- the metadata with nothing in it
+-- the metadata without a CRS and edges
 abbrev pub empty : Metadata
 empty = record { crs = no_crs; edges = None }
 
--- the metadata of three parts
+-- the metadata with these three parts
 abbrev pub of_parts : Option Data → Option CrsType → Option Edges → Metadata
 of_parts v t e = record { crs = record { value = v; crs_type = t }; edges = e }
 
--- the JSON text that stands at `crs_type`
+-- the JSON value that is written at `crs_type`
 abbrev pub crs_type_data : CrsType → Data
 crs_type_data t = string (crs_type_text t)
 
--- the JSON text that stands at `edges`
+-- the JSON value that is written at `edges`
 abbrev pub edges_data : Edges → Data
 edges_data e = string (edges_text e)
 
--- a member before others, if there is one
+-- the members, after a new one if there is a value for it
 abbrev pub with_some : Text → Option Data → Members → Members
 with_some k None ms = ms
 with_some k (Some d) ms = member k d ms
 
--- the members after `put` of one, if there is one
+-- the members, with a new one put among them if there is a value for it
 abbrev pub put_some : Text → Option Data → Members → Members
 put_some k None ms = ms
 put_some k (Some d) ms = put k d ms
 
--- the object with `crs`, null where there is none, with `crs_type` where there is one, and with `edges` where there are some
+-- the object with `crs`, which is null if there is none, with `crs_type` if there is one, and with `edges` if there are any
 abbrev pub written : Option Data → Option CrsType → Option Edges → Data
 written v t e = object (member (codes "crs") (unwrap_or v null) (with_some (codes "crs_type") (option_map crs_type_data t) (with_some (codes "edges") (option_map edges_data e) no_members)))
 
--- neither CRS value nor edges stand
+-- whether there is neither a CRS value nor edges
 abbrev pub is_bare : Option Data → Option Edges → Bool
 is_bare None None = true
 is_bare None (Some e) = false
 is_bare (Some d) e = false
 
--- the object of the parts, unless neither CRS value nor edges stand
+-- that object, but nothing if there is neither a CRS value nor edges
 abbrev written_unless : Option Data → Option CrsType → Option Edges → Option Data
 written_unless None t None = None
 written_unless None t (Some e) = Some (written None t (Some e))
 written_unless (Some v) t e = Some (written (Some v) t e)
 
--- nothing, where neither CRS value nor edges stand; else the object of the parts
+-- the JSON value that the metadata is written as, if any
 abbrev pub meta_value : Metadata → Option Data
 meta_value m = written_unless m.crs.value m.crs.crs_type m.edges
 
--- the compact text of that value
+-- the text that the metadata is written as: the compact text of that value
 abbrev pub printed : Metadata → Option Text
 printed m = option_map compact_text (meta_value m)
 
--- the CRS type, unless neither CRS value nor edges stand
+-- the CRS type, but none if there is neither a CRS value nor edges
 abbrev pub type_unless : Option Data → Option CrsType → Option Edges → Option CrsType
 type_unless None t None = None
 type_unless None t (Some e) = t
 type_unless (Some v) t e = t
 
--- the metadata without the CRS type, where neither CRS value nor edges stand; else the metadata itself
+-- the normal form: the metadata without its CRS type if there is neither a CRS value nor edges, otherwise the metadata
+-- itself
 abbrev pub normal : Metadata → Metadata
 normal m = record { crs = record { value = m.crs.value; crs_type = type_unless m.crs.value m.crs.crs_type m.edges }; edges = m.edges }
 
--- `serde_json` reads what it printed
+-- `serde_json` reads the printed value back as that value
 abbrev pub IsReadBack : Option Data → Type 0
 IsReadBack None = ⊤
 IsReadBack (Some d) = read (compact_text d) ≡ Some d

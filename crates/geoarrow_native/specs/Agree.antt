@@ -1,4 +1,4 @@
--- Native types of equal parts.
+-- Laws of native types: equal parts, and the numbers of kinds in type ids.
 use Rattle.std.specs.Prelude.{◌≡◌, ℤ, pos, ◌≤ℤ◌}
 use Rattle.std.proofs.Common.{sym, subst, arith}
 use Rattle.arrow_values.specs.Tree.{Tree}
@@ -9,18 +9,18 @@ use Rattle.geoarrow_layout.specs.declared.encodings.NativeKind.TheVariants.{Poin
 use Rattle.geoarrow_layout.specs.Kinds.{offset_of}
 use Rattle.geoarrow_layout.specs.Shapes.{Native}
 
--- a tree of a kind, at equal coordinate types and dimensions
+-- if a data type is of a kind, it is so with any equal coordinate type and dimension
 pub native_along : (t : Tree) (k : NativeKind) (c b : CoordType) (d e : Dimension) → (b ≡ c) × (e ≡ d) → Native t k c d → Native t k b e
 native_along t k c b d e same h =
     let P : CoordType → Type 0 = λ x. Native t k x d in
     let Q : Dimension → Type 0 = λ x. Native t k b x in
     subst Q (sym same.1) (subst P (sym same.0) h)
 
--- 1 to 7
+-- the number is 1 to 7
 abbrev pub IsWithin : ℤ → Type 0
 IsWithin i = (pos 1 ≤ℤ i) × (i ≤ℤ pos 7)
 
--- the offset of a kind is
+-- so is the number of each kind
 offset_within : (k : NativeKind) → IsWithin (pos (offset_of k))
 offset_within Point = (omega arith, omega arith)
 offset_within LineString = (omega arith, omega arith)

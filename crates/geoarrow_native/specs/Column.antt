@@ -1,4 +1,4 @@
--- Fields, as columns of a kind with a metadata.
+-- Which kind and metadata a field is read as, and which field is written for them.
 use Rattle.std.specs.Prelude.{◌≡◌, ◌⊎◌, [], Bool, true, Some}
 use Rattle.arrow_values.specs.Tree.{Text, Tree, FieldTree, field_tree}
 use Rattle.arrow_values.specs.Texts.{extension_name, extension_metadata, set_extension}
@@ -17,30 +17,31 @@ use Rattle.geoarrow_meta.specs.declared.metadata.Metadata.{Metadata}
 use Rattle.geoarrow_meta.specs.Written.{printed}
 use Rattle.geoarrow_meta.specs.Read.{TextStandsFor}
 
--- the field's extension name is that of the kind, and its tree is of the kind
+-- the field has the extension name of the kind, and the kind accepts its data type
 abbrev pub IsColumn : FieldTree → Kind → Type 0
 IsColumn f k = (extension_name f ≡ Some (name_of k)) × Accepted k f.tree
 
--- the field is a column of the kind, and its metadata text, or the absence of one, stands for the metadata
+-- the field is read as that kind and metadata: it is a column of the kind, and its metadata text denotes the metadata
 unfoldable pub ReadsAs : FieldTree → Kind → Metadata → Type 0
 ReadsAs f k m = IsColumn f k × TextStandsFor (extension_metadata f) m
 
--- the field that is written for a kind and a metadata: that name and nullability, the kind's layout, and no metadata but the two extension keys
+-- the field as written: that name and nullability, the data type of the kind, and only the texts of the kind and the metadata
+-- at the two extension keys
 abbrev pub written_field : Text → Bool → Kind → Metadata → FieldTree
 written_field name nullable k m = field_tree name (layout k) nullable (set_extension (name_of k) (printed m) [])
 
--- a tree is refused for a fault of its layout
+-- the error is that of some fault of a data type
 abbrev pub IsLayoutRefusal : ArrowError → Type 0
 IsLayoutRefusal e = (fault : LayoutFault) × IsArrowFormOf fault e
 
--- a tree is refused for its layout; or it is of that kind, and refused by a `SchemaError`
+-- the error with which a type refuses a data type: that of a fault if it is not of the type's kind, otherwise a `SchemaError`
 abbrev pub RefusesUse : Type 0 → ArrowError → Type 0
 RefusesUse IsOfKind e = (¬ IsOfKind × IsLayoutRefusal e) ⊎ (IsOfKind × (is_schema e ≡ true))
 
--- the tree is of that native kind
+-- the data type is of that native kind, in some coordinate type and dimension
 abbrev pub IsNative : Tree → NativeKind → Type 0
 IsNative t k = (c : CoordType) × (d : Dimension) × Native t k c d
 
--- so is a tree refused for a native kind
+-- a type of that native kind refuses the data type so
 unfoldable pub RefusesNativeUse : Tree → NativeKind → ArrowError → Type 0
 RefusesNativeUse t k e = RefusesUse (IsNative t k) e

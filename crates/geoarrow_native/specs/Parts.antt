@@ -7,20 +7,18 @@ use Rattle.geoarrow_layout.specs.declared.kinds.Dimension.{Dimension}
 use Rattle.geoarrow_meta.specs.declared.metadata.Metadata.{Metadata}
 use Rattle.geoarrow_native.specs.declared.native.NativeType.{NativeType}
 
--- a metadata that several hold
+-- a metadata that several types share
 abbrev pub Shared : Type 0
 Shared = Arc Metadata Global
 
 module _ {S : Type 0} where
-  -- the coordinate type
   abbrev pub native_coord_type : NativeType S → CoordType
   native_coord_type e = e.coord_type
 
-  -- the dimension
   abbrev pub native_dimension : NativeType S → Dimension
   native_dimension e = e.dimension
 
-  -- the metadata, shared
+  -- the metadata, as it is shared
   abbrev pub native_metadata : NativeType S → Shared
   native_metadata e = e.metadata
 

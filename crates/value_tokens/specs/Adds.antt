@@ -1,4 +1,4 @@
--- What was given to a JSON writer, and how it adds up.
+-- Which tokens a JSON writer was given.
 use Rattle.std.specs.Prelude.{◌≡◌, List, [], ◌∷◌, ◌++◌, Result, Ok, Err, OnOk, Some, option_map, option_and_then, refl}
 use Rattle.std.proofs.Common.{ap, ◌∙◌, append_assoc}
 use Rattle.json.specs.Token.{Token, begin_object, begin_array, end_array}
@@ -8,7 +8,7 @@ use Rattle.serde_json.specs.Data.{Data, object, array, Items, no_items, item, Me
 use Rattle.serde_json.specs.Read.{of_json, of_items, of_members}
 use Rattle.serde_json.specs.Written.{outline, items_outline, members_outline}
 
--- these tokens were added, and what stood before the writer's first token is as it was
+-- these tokens were added, and the bytes before the writer's first token are as they were
 pub record Adds (ts : List Token) (old new : Written) : Type 0 where
   pub tokens : new.tokens ≡ old.tokens ++ ts
   pub before : new.before ≡ old.before
@@ -18,35 +18,35 @@ pub record Prints (d : Data) (old new : Written) : Type 0 where
   pub adds : Adds (json_tokens (outline d)) old new
   pub reads_back : of_json (outline d) ≡ Some d
 
--- the same of the items of an array, and of its closing bracket
+-- the same for the items of an array and its closing bracket
 pub record PrintsItems (ds : Items) (old new : Written) : Type 0 where
   pub adds : Adds (items_tokens (items_outline ds)) old new
   pub reads_back : of_items (items_outline ds) ≡ Some ds
 
--- the same of the members of an object, and of its closing bracket
+-- the same for the members of an object and its closing bracket
 pub record PrintsMembers (ms : Members) (old new : Written) : Type 0 where
   pub adds : Adds (members_tokens (members_outline ms)) old new
   pub reads_back : of_members (members_outline ms) no_members ≡ Some ms
 
--- ---- one after another
+-- ---- tokens that are added one after another
 
--- a call of the writer's adds one token
+-- a call of the writer adds one token
 pub added : {E : Type 0} (r : Result (Unit {0}) E) (old new : Written) (t : Token) → Writes r old new t → OnOk r (Adds (t ∷ []) old new)
 added (Ok u) old new t w = record { tokens = w.ok; before = w.room.0 }
 added (Err e) old new t w = tt
 
--- the same, where the call succeeded
+-- the same, for a call that succeeded
 pub sent : {E : Type 0} {u : Unit {0}} {old new : Written} {t : Token} → Writes {E = E} (Ok u) old new t → Adds (t ∷ []) old new
 sent w = record { tokens = w.ok; before = w.room.0 }
 
--- tokens that were added after others
+-- tokens are added, and then others: both together are added
 pub then : {ts us : List Token} {a b c : Written} → Adds ts a b → Adds us b c → Adds (ts ++ us) a c
 then {ts} {us} {a} p q = record {
   tokens = q.tokens ∙ ap (λ l. l ++ us) p.tokens ∙ append_assoc a.tokens ts us;
   before = q.before ∙ p.before;
 }
 
--- an array, an item at a time
+-- an array, item by item
 pub prints_end : {a b : Written} → Adds (end_array ∷ []) a b → PrintsItems no_items a b
 prints_end finish = record { adds = finish; reads_back = refl }
 
@@ -59,6 +59,6 @@ prints_item {d} {ds} one more = record {
 pub prints_array : {ds : Items} {a b c : Written} → Adds (begin_array ∷ []) a b → PrintsItems ds b c → Prints (array ds) a c
 prints_array begin items = record { adds = then begin items.adds; reads_back = ap (option_map array) items.reads_back }
 
--- an object of its members
+-- an object, from its members
 pub prints_object : {ms : Members} {a b c : Written} → Adds (begin_object ∷ []) a b → PrintsMembers ms b c → Prints (object ms) a c
 prints_object begin members = record { adds = then begin members.adds; reads_back = ap (option_map object) members.reads_back }

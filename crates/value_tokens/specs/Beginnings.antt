@@ -61,7 +61,7 @@ unfolding value
 no_bad zero ts = refl
 no_bad (suc d) ts = refl
 
--- the kind of value that the token begins
+-- the token can begin the value
 abbrev pub Begins : Token → Data → Type 0
 Begins BeginObject d = (ms : Members) × (d ≡ object ms)
 Begins EndObject d = ⊥
@@ -100,11 +100,11 @@ value_begins depth (Boolean b) ts r d e = ap (pick d) (sym e ∙ next_boolean de
 value_begins depth Null ts r d e = ap (pick d) (sym e ∙ next_null depth ts)
 value_begins depth Bad ts r d e = let n = sym (no_bad depth ts) ∙ e in cc
 
--- a value that is passed over
+-- a value that is skipped begins with its first token
 pub passed : (depth : ℕ) (t : Token) (ts s r : List spec.Token) → ts ≡ token_of t ∷ s → after (next_value depth (token_of t ∷ s)) ≡ Some r → (d : Data) × (next_value depth ts ≡ Some (d, r)) × Begins t d
 passed depth t ts s r first e = let d = after_some (next_value depth (token_of t ∷ s)) r e in (d.0, ap (next_value depth) first ∙ d.1, value_begins depth t s r d.0 d.1)
 
--- a value of another kind
+-- ---- a value that begins with another token is of another kind
 pub no_text : (t : Token) (d : Data) → Begins t d → ((s : _) → t ≡ String s → ⊥) → as_str d ≡ None
 no_text BeginObject d b other = ap as_str b.1
 no_text EndObject d b other = absurd b
@@ -177,7 +177,7 @@ no_array (Boolean v) d b other = ap as_array b
 no_array Null d b other = ap as_array b
 no_array Bad d b other = absurd b
 
--- an object or an array that is read, and one that is refused
+-- ---- an object or an array that is read, and one that is refused
 
 readied : {A B : Type 0} (f : A → B) (o : Option (A × List spec.Token)) (a : A) (r : List spec.Token) → o ≡ Some (a, r) → parse_map f o ≡ Some (f a, r)
 readied f o a r e = ap (parse_map f) e

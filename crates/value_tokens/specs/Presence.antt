@@ -1,4 +1,4 @@
--- What stands at a key, as members are put in one after another.
+-- Which keys an object has, as members are put into it one after another.
 use Rattle.std.proofs.Common.{◌≡◌, ℕ, List, length, Bool, true, false, cond, bytes_eq, Option, Some, None, option_map, option_and_then, refl, sym, ap, ◌∙◌, true≢false}
 use Rattle.std.proofs.lemmas.Slice.Eq.{bytes_eq-Decides}
 use Rattle.json.specs.Token.{Token}
@@ -14,11 +14,11 @@ put_where : (b : Bool) (q k : List ℕ) (d : Data) (found : Members) → bytes_e
 put_where true q k d found same = let is = (bytes_eq-Decides q k).0 same in ap (λ n. get_member n (put k d found)) is ∙ get_member-put k d found
 put_where false q k d found other = get_member-put_other q k d found (λ is. true≢false (sym ((bytes_eq-Decides q k).1 is) ∙ other))
 
--- a value that is put stands at its key, and the others stay
+-- a value that is put is at its key, and the other keys are as they were
 pub get_member-put_at : (q k : List ℕ) (d : Data) (found : Members) → get_member q (put k d found) ≡ cond (bytes_eq q k) (Some d) (get_member q found)
 get_member-put_at q k d found = put_where (bytes_eq q k) q k d found refl
 
--- something stands at the key
+-- the object has the key
 abbrev pub Has : List ℕ → Members → Type 0
 Has q ms = (d : Data) × (get_member q ms ≡ Some d)
 
@@ -53,11 +53,11 @@ kept_on : (o : Option (json.Members × List Token)) (q : List ℕ) (found ms : M
 kept_on None q found ms r e h = absurd (cc)
 kept_on (Some p) q found ms r e h = kept_in p.0 q found ms (found_with p.1 r (of_members p.0 found) ms e) h
 
--- a key that is there stays there
+-- a key that was there is still there when all members are read
 pub kept : (depth : ℕ) (q : List ℕ) (found ms : Members) (ts r : List Token) → next_members depth found ts ≡ Some (ms, r) → Has q found → Has q ms
 kept depth q found ms ts r e h = kept_on (members (value depth) (length ts) ts) q found ms r e h
 
--- a key that is taken is there
+-- a key that was read is there then
 taken_at : (depth : ℕ) (k : List ℕ) (found ms : Members) (r : List Token) (o : Option (Data × List Token)) → option_and_then (λ p. next_members depth (put k p.0 found) p.1) o ≡ Some (ms, r) → Has k ms
 taken_at depth k found ms r None e = absurd (cc)
 taken_at depth k found ms r (Some p) e = kept depth k (put k p.0 found) ms p.1 r e (has_new k p.0 found)

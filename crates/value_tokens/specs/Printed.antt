@@ -30,16 +30,16 @@ mutual
   members_outline_depth no_members = refl
   members_outline_depth (member k d ms) = ap₂ max (outline_depth d) (members_outline_depth ms)
 
--- from a new writer, the tokens are the value's
+-- a new writer then has exactly the tokens of the value
 all_tokens : (d : Data) {start end : Written} → start.tokens ≡ [] → Prints d start end → end.tokens ≡ tree.json_tokens (outline d)
 all_tokens d none p = p.adds.tokens ∙ ap (λ l. l ++ tree.json_tokens (outline d)) none
 
--- the text is what stood before, and the value's compact text
+-- the text is the bytes that were there before, and then the compact text of the value
 pub printed : (d : Data) {start end : Written} {bytes text : List ℕ} → start.before ≡ bytes → start.tokens ≡ [] → Prints d start end → text ≡ end.before ++ print end.tokens → text ≡ bytes ++ compact_text d
 printed d {start} {end} {bytes} before none p text =
     text ∙ ap (λ b. b ++ print end.tokens) (p.adds.before ∙ before) ∙ ap (λ ts. bytes ++ print ts) (all_tokens d none p) ∙ ap (λ s. bytes ++ s) (print-outline d)
 
--- the compact text reads back as the value, where it nests no deeper than texts are read
+-- the compact text reads back as the value, if that nests no deeper than a text may
 pub reads_back : (d : Data) {start end : Written} → start.tokens ≡ [] → Prints d start end → tokens (print end.tokens) ≡ end.tokens → depth d ≤ max_depth → read (compact_text d) ≡ Some d
 reads_back d {start} {end} none p same shallow =
     let all = all_tokens d none p in

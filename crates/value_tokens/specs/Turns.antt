@@ -1,4 +1,4 @@
--- The grammar's loops a turn at a time, with no count of turns, under the conversion to data.
+-- JSON's grammar, one item or member at a time, and converted to `serde_json`'s values.
 use Rattle.std.proofs.Common.{◌≡◌, ℕ, zero, suc, ◌-◌, ◌<◌, ◌≤◌, List, [], ◌∷◌, length, Option, Some, None, option_map, option_and_then, refl, sym, ap, ◌∙◌, arith}
 use Rattle.json.specs.Token.{Token}
 use Rattle.json.specs.Json as json
@@ -8,7 +8,7 @@ use Rattle.serde_json.specs.Data.{Data, array, object, no_items, item, Members, 
 use Rattle.serde_json.specs.Read.{of_json, of_items, of_members, converted}
 use Rattle.value_tokens.specs.Next.{next_value, next_items, next_members, next_after, after}
 
--- ---- more turns than tokens change nothing
+-- ---- the grammar's bound on turns changes nothing if it is at least the number of tokens
 
 module _ (p : Parse json.Json) (takes : Takes p) where
   abbrev SameItems : ℕ → ℕ → Type 0
@@ -63,7 +63,7 @@ module _ (p : Parse json.Json) (takes : Takes p) where
   items_enough (suc n) zero (t ∷ ts) le le2 = absurd (omega arith)
   items_enough (suc n) (suc m) ts le le2 = items_turn n m ts (after_end_array ts) (items_enough n m) le le2
 
--- ---- a turn, under the conversion
+-- ---- one turn, converted
 
 abbrev pick : {A : Type 0} → A → Option A → A
 pick d None = d
@@ -154,7 +154,7 @@ module _ (depth : ℕ) where
   pub key_refused : (old : Members) (ts : List Token) → read_key ts ≡ None → next_members depth old ts ≡ None
   key_refused old ts e = ap (converted (λ ms. of_members ms old)) (members_no_key (value depth) (length ts) ts e)
 
-  -- a value that is refused ends all
+  -- ---- if a value is refused, all is refused
 
   item_after : (more : Parse json.Items) (o : Option (json.Json × List Token)) → converted of_json o ≡ None → converted of_items (option_and_then (λ q. parse_map (json.item q.0) (more q.1)) o) ≡ None
   item_after more None e = refl
@@ -181,7 +181,7 @@ module _ (depth : ℕ) where
   pub member_refused : (old : Members) (k : List ℕ) (ts s : List Token) → read_key ts ≡ Some (Some k, s) → next_value depth s ≡ None → next_members depth old ts ≡ None
   member_refused old k ts s key e = member_refused_in old (length ts) k ts s key e
 
--- ---- where a key is taken
+-- ---- after a key was read
 
 named_at : (depth : ℕ) (found : Members) (k : List ℕ) (ts s : List Token) (o : Option (Data × List Token)) → next_value depth s ≡ o → read_key ts ≡ Some (Some k, s)
     → next_members depth found ts ≡ option_and_then (λ p. next_members depth (put k p.0 found) p.1) o
@@ -197,7 +197,7 @@ taken depth found k ts r d e = ap (option_and_then (λ p. next_members depth (pu
 pub none_taken : (depth : ℕ) (found : Members) (k : List ℕ) (ts : List Token) → next_value depth ts ≡ None → next_after depth found k ts ≡ None
 none_taken depth found k ts e = ap (option_and_then (λ p. next_members depth (put k p.0 found) p.1)) e
 
--- ---- of what is left alone
+-- ---- only the tokens that are left
 
 pub after-parse_map : {A B : Type 0} (f : A → B) (o : Option (A × List Token)) → after (parse_map f o) ≡ after o
 after-parse_map f None = refl
@@ -206,7 +206,7 @@ after-parse_map f (Some p) = refl
 pub after_some : {A : Type 0} (o : Option (A × List Token)) (r : List Token) → after o ≡ Some r → (a : A) × (o ≡ Some (a, r))
 after_some o r e = left_some o r e
 
--- no value begins where nothing is left, or at a token that ends one
+-- no value is next if no token is left
 pub no_value : (depth : ℕ) (ts : List Token) → ts ≡ [] → next_value depth ts ≡ None
 no_value depth ts none = ap (next_value depth) none ∙ ap (converted of_json) (value_is depth [])
 
@@ -218,6 +218,6 @@ abbrev nested_members : ℕ → Parse json.Members
 nested_members zero ts = None
 nested_members (suc d) ts = members (value d) (length ts) ts
 
--- at a token that opens nothing the depth plays no part
+-- the depth counts only for what is nested in the value
 pub plain : (depth : ℕ) (t : Token) (ts : List Token) → next_value depth (t ∷ ts) ≡ converted of_json (value_with (nested_items depth) (nested_members depth) (t ∷ ts))
 plain depth t ts = ap (converted of_json) (value_is depth (t ∷ ts))
