@@ -96,6 +96,7 @@ levels_same (suc n) t u x h k =
     lists_same k.0 (suc n) t u x (subst (λ w. ListsOver w (suc n) t u) same h.1) k.1
 
 -- ---- a type id has one kind and one dimension
+
 order_same : (d e : Dimension) → order_of d ≡ order_of e → d ≡ e
 order_same XY XY h = refl
 order_same XYZ XYZ h = refl

@@ -105,6 +105,7 @@ pub passed : (depth : ℕ) (t : Token) (ts s r : List spec.Token) → ts ≡ tok
 passed depth t ts s r first e = let d = after_some (next_value depth (token_of t ∷ s)) r e in (d.0, ap (next_value depth) first ∙ d.1, value_begins depth t s r d.0 d.1)
 
 -- ---- a value that begins with another token is of another kind
+
 pub no_text : (t : Token) (d : Data) → Begins t d → ((s : _) → t ≡ String s → ⊥) → as_str d ≡ None
 no_text BeginObject d b other = ap as_str b.1
 no_text EndObject d b other = absurd b
