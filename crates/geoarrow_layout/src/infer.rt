@@ -1,4 +1,4 @@
-//! The point that a data type is taken for where no extension name says what it is.
+//! The point that is inferred from a data type, where no extension name says what it is.
 ghost use Rattle.std.specs.Prelude.{◌≡◌, ◌≢◌, ◌↔◌, ◌∷◌, [], Some, true, IsTrue};
 ghost use Rattle.arrow_values.specs.Tree.{Tree, struct};
 ghost use Rattle.arrow_values.specs.View.{tree, field_trees};
@@ -47,7 +47,7 @@ fn taken_for(data_type: &DataType) -> Option<(CoordType, Dimension)>
     }
 }
 
-/// The point that a struct of two fields is taken for, whatever their names are.
+/// The point that is inferred from a struct of two fields, whatever their names are.
 #[inline(always)]
 #[tactic(auto, using(crate::proofs::Inferences::pair_inferred, crate::proofs::Inferences::no_floats_inferred))]
 fn pair(first: &Field, second: &Field) -> Option<(CoordType, Dimension)>

@@ -45,7 +45,8 @@ pub fn one_kind()
     ensures { (name : Text) (t : Tree) (k l : Kind) → Accepts name t k → Accepts name t l → k ≡ l }
 {}
 
-/// A law: data types of equal summary are of the same kinds, however large they are. There is nothing to run.
+/// A law: data types of equal summary, other than well-known binary and text, are of the same kinds, however large they
+/// are. There is nothing to run.
 pub fn read_alike(summary: &Summary)
     ensures { (t u : Tree) → Summarizes summary.now t → Summarizes summary.now u → (name : Text) (k : Kind) → IsStructured k → Accepts name t k ↔ Accepts name u k }
 {}
@@ -71,7 +72,7 @@ pub fn dimension_reads_back(dimension: Dimension)
     ensures size { dimensions_size (dimensions_of dimension) ≡ size_of dimension }
 {}
 
-/// A law: where a data type is taken for a point and is read as one, it is the same point. There is nothing to run.
+/// A law: where a point is inferred from a data type that is also read as one, it is the same point. There is nothing to run.
 pub fn inferred_as_read()
     ensures { (t : Tree) (c b : CoordType) (d e : Dimension) → Inferred t c d → Leaf t b e → (c ≡ b) × (d ≡ e) }
 {}

@@ -1,5 +1,5 @@
-//! The readers: which layout a data type has. They use only its summary, so they ignore the nullability, the
-//! metadata and the data types of coordinate fields, the names of list items and members, and the mode of a union and
+//! The readers: which layout a data type has. Those of geometries and boxes use only its summary, so they
+//! ignore the nullability, the metadata and the data types of coordinate fields, the names of list items and members, and the mode of a union and
 //! the order of its members. None of them takes memory.
 ghost use Rattle.arrow_values.specs.View.{tree};
 ghost use Rattle.geoarrow_layout.specs.Shapes.{Answers, AnswersOne, Leaf, Native, Mixed, Collection, Geometry, BoxShape, IsBytes, IsText, Accepts};

@@ -58,8 +58,8 @@ pub enum Bottom {
     Other,
 }
 
-/// What one walk over a data type finds; its size is fixed, however large the data type is. Readers use only the
-/// summary.
+/// What one walk over a data type finds; its size is fixed, however large the data type is. Readers of
+/// geometries and boxes use only the summary.
 #[derive(Clone, Copy, Debug, PartialEq, Eq)]
 pub struct Summary {
     /// The list levels of the outermost list's width, 0 to 3.

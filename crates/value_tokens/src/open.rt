@@ -7,8 +7,8 @@ use crate::refusal::Refusal;
 use crate::skip::skip_rest;
 use json::{Reader, Token};
 
-/// Takes the brace that opens an object, where one comes next, and answers how deep its members may nest. Passes over
-/// any other value whole, and answers none.
+/// Takes the brace that opens an object, where one comes next, and returns how deep its members may nest. Passes over
+/// any other value whole, and returns `None`.
 #[inline]
 pub fn open_object(reader: &mut Reader<'_>, depth: usize) -> Result<Option<usize>, Refusal>
     ensures ok { IfOk result (λ o. OpensObject depth reader.old o reader.new) }
@@ -31,8 +31,8 @@ pub fn open_object(reader: &mut Reader<'_>, depth: usize) -> Result<Option<usize
     }
 }
 
-/// Takes the bracket that opens an array, where one comes next, and answers how deep its items may nest. Passes over any
-/// other value whole, and answers none.
+/// Takes the bracket that opens an array, where one comes next, and returns how deep its items may nest. Passes over any
+/// other value whole, and returns `None`.
 #[inline]
 pub fn open_array(reader: &mut Reader<'_>, depth: usize) -> Result<Option<usize>, Refusal>
     ensures ok { IfOk result (λ o. OpensArray depth reader.old o reader.new) }

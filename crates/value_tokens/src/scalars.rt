@@ -1,4 +1,4 @@
-//! Texts, truth values and numbers. Each call takes one value whole, and answers none where it is of another kind.
+//! Texts, truth values and numbers. Each call takes one value whole, and returns `None` where it is of another kind.
 ghost use Rattle.std.specs.Prelude.{◌≡◌, ◌<◌, length, None, Err, IfOk, OnOk, option_map, string_bytes};
 ghost use Rattle.serde_json.specs.Find.{as_str, as_bool, as_number};
 ghost use Rattle.serde_json.specs.View.{number_view};
@@ -11,7 +11,7 @@ use json::{Reader, Token};
 use serde_json::Number;
 use std::alloc::Global;
 
-/// Takes a value, and answers the text that it is, as the reader lends it. Takes no memory.
+/// Takes a value, and returns the text that it is, as the reader lends it. Takes no memory.
 #[inline]
 pub fn read_str<'a>(reader: &mut Reader<'a>, depth: usize) -> Result<Option<&'a str>, Refusal>
     ensures ok { IfOk result (λ o. Reads as_str depth reader.old (option_map (λ s. s.now) o) reader.new) }
@@ -29,7 +29,7 @@ pub fn read_str<'a>(reader: &mut Reader<'a>, depth: usize) -> Result<Option<&'a 
     }
 }
 
-/// Takes a value, and answers the text that it is, in memory of its own.
+/// Takes a value, and returns the text that it is, in memory of its own.
 #[inline]
 pub fn read_text(
     alloc: Global,
@@ -46,7 +46,7 @@ pub fn read_text(
     }
 }
 
-/// Takes a value, and answers the truth value that it is. Takes no memory.
+/// Takes a value, and returns the truth value that it is. Takes no memory.
 #[inline]
 pub fn read_bool(reader: &mut Reader<'_>, depth: usize) -> Result<Option<bool>, Refusal>
     ensures ok { IfOk result (λ o. Reads as_bool depth reader.old o reader.new) }
@@ -64,7 +64,7 @@ pub fn read_bool(reader: &mut Reader<'_>, depth: usize) -> Result<Option<bool>, 
     }
 }
 
-/// Takes a value, and answers the number that it is. Takes no memory.
+/// Takes a value, and returns the number that it is. Takes no memory.
 #[inline]
 pub fn read_number(reader: &mut Reader<'_>, depth: usize) -> Result<Option<Number>, Refusal>
     ensures ok { IfOk result (λ o. Reads as_number depth reader.old (option_map number_view o) reader.new) }

@@ -10,7 +10,7 @@ use json::{Reader, Token};
 use serde_json::{Map, Value};
 use std::alloc::{AllocError, Global};
 
-/// Takes a value, and answers it.
+/// Takes a value, and returns it.
 #[cycle(read)]
 #[inline]
 pub fn read_value(alloc: Global, reader: &mut Reader<'_>, depth: usize) -> Result<Value, Refusal>
