@@ -4,4 +4,5 @@ pub mod Lookup
 pub mod Join
 pub mod Ids
 pub mod TextLaws
+pub mod SameTexts
 pub mod Refusals

@@ -15,10 +15,10 @@ use Rattle.arrow_values.specs.Tree.{Text, Metadata}
 use Rattle.arrow_values.specs.View.{texts_of}
 use Rattle.arrow_values.specs.Texts.{name_key, metadata_key, text_at, put_text, remove_text, set_extension, SetsExtension}
 
-abbrev Entry : Type 0
+abbrev pub Entry : Type 0
 Entry = String Global × String Global
 
-abbrev Pair : Type 0
+abbrev pub Pair : Type 0
 Pair = Text × Text
 
 bytes_comm : (x y : Text) → bytes_eq x y ≡ bytes_eq y x

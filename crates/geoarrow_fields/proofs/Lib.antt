@@ -5,5 +5,3 @@ pub mod Grows
 pub mod Steps
 pub mod Ways
 pub mod Runs
-mod Texts
-mod NormalForm

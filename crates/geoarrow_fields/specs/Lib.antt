@@ -4,4 +4,3 @@ pub mod Answer
 pub mod Output
 pub mod Progress
 pub mod Arguments
-pub mod Rewritten

@@ -4,7 +4,6 @@ ghost use Rattle.geoarrow_schema.specs.Reads.{IsRefusedBy};
 ghost use Rattle.geoarrow_fields.specs.Answer.{Answers, AnswersField, AnswersRefused};
 
 use crate::Command;
-use crate::canonical::canonical_field;
 use crate::words::{column_text, error_text, inferred_text, type_text};
 use arrow_values::{Field, GeoArrowError};
 use field_lines::{field_line, parse_line_with_scratch};
@@ -79,10 +78,10 @@ fn answer_canon(alloc: Global, field: Field, scratch: &mut Scratch) -> Result<St
     ensures { IfOk result (λ answer. AnswersField Command.Canon field (string_bytes answer)) }
 {
     match GeoArrowType::from_extension_field_with_scratch(alloc, &field, scratch) {
-        Ok(Some(found)) => {
-            let canonical = canonical_field(alloc, field, &found)?;
-            field_line(alloc, &canonical)
-        }
+        Ok(Some(found)) => match found.rewrite_field(alloc, field) {
+            Ok(canonical) => field_line(alloc, &canonical),
+            Err(_) => Err(AllocError),
+        },
         Ok(None) => String::from_str(alloc, "none"),
         Err(error) => answer_refused(alloc, &field, &error),
     }

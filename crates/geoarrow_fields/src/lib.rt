@@ -3,7 +3,6 @@
 
 mod answer;
 mod arguments;
-mod canonical;
 pub mod equality_laws;
 mod lines;
 mod output;

@@ -1,10 +1,10 @@
 //! The normal form of a type, and of a field that holds one.
 ghost use Rattle.std.specs.Prelude.{◌≡◌, ◌↔◌, Ok, None, IsOk, IfOk, IfErr, IfSome, IsTrue};
 ghost use Rattle.arrow_values.specs.Errors.{IsMemory};
-ghost use Rattle.geoarrow_meta.specs.Written.{meta_value, normal, IsReadBack};
-ghost use Rattle.geoarrow_native.specs.Column.{ReadsAs};
+ghost use Rattle.geoarrow_layout.specs.Layouts.{layout};
+ghost use Rattle.geoarrow_meta.specs.Written.{normal};
 ghost use Rattle.geoarrow_schema.specs.Types.{kind_of, meta_of};
-ghost use Rattle.geoarrow_schema.specs.Reads.{HasGeoArrowName, IsRefusedBy, writes};
+ghost use Rattle.geoarrow_schema.specs.Reads.{HasGeoArrowName, IsRefusedBy, writes, dressed};
 ghost use Rattle.geoarrow_schema.specs.Normal.{normal_of, rewritten, ReadsNormally, IsCanonical};
 
 use crate::read::read;
@@ -83,18 +83,30 @@ impl GeoArrowType {
         read_canonical(alloc, field, Some(scratch))
     }
 
-    /// The field with the data type and the extension keys of this type.
-    fn rewrite(&self, alloc: Global, field: &Field) -> Result<Field, ArrowError>
-        ensures written { IfOk result (λ f. f ≡ rewritten field.now (kind_of self.now) (meta_of self.now)) }
-        ensures reads_back { IfOk result (λ f. IsReadBack (meta_value (meta_of self.now))
-            → ReadsAs f (kind_of self.now) (normal (meta_of self.now))) }
+    /// The field with the data type and the two extension keys that `to_field` writes for the normal form of this type; its
+    /// name, nullability and other metadata do not change. It reads as that normal form, if `serde_json` reads what it
+    /// printed. So a field that is read as this type becomes its canonical form, as `canonical_field` makes it of a field
+    /// that is kept. Errs only when out of memory.
+    pub fn rewrite_field(&self, alloc: Global, field: Field) -> Result<Field, ArrowError>
+        ensures written { IfOk result (λ f. f ≡ rewritten field (kind_of self.now) (normal (meta_of self.now))) }
+        ensures reads_back { IfOk result (λ f. ReadsNormally f (kind_of self.now) (meta_of self.now)) }
         ensures refused { IfErr result IsMemory }
     {
         let data_type = self.to_data_type(alloc)?;
-        let bare = field.try_clone_with_data_type(alloc, data_type)?;
+        self.dress_normally(alloc, field.with_data_type(data_type))
+    }
+
+    /// The field of this type's data type with the extension keys of its normal form: those of the type itself, since
+    /// nothing writes what the normal form drops.
+    fn dress_normally(&self, alloc: Global, column: Field) -> Result<Field, ArrowError>
+        requires { column.tree ≡ layout (kind_of self.now) }
+        ensures written { IfOk result (λ f. f ≡ dressed column (kind_of self.now) (normal (meta_of self.now))) }
+        ensures reads_back { IfOk result (λ f. ReadsNormally f (kind_of self.now) (meta_of self.now)) }
+        ensures refused { IfErr result IsMemory }
+    {
         layout_reads_back(self.kind());
         printed_reads_back(self.metadata());
-        self.dress(alloc, bare)
+        self.dress(alloc, column)
     }
 }
 
@@ -112,7 +124,7 @@ fn read_canonical(
 {
     match read(alloc, field, scratch)? {
         None => Ok(None),
-        Some(found) => Ok(Some(canonical(alloc, field, found)?)),
+        Some(found) => Ok(Some(canonical(alloc, field, &found)?)),
     }
 }
 
@@ -130,12 +142,13 @@ fn same_kind(one: Kind, other: Kind) -> bool
     }
 }
 
-/// The field as the normal form of a type is written: as the type itself is, since nothing writes what the normal form
-/// drops.
-fn canonical(alloc: Global, field: &Field, found: GeoArrowType) -> Result<Field, ArrowError>
-    ensures written { IfOk result (λ f. f ≡ rewritten field.now (kind_of found) (normal (meta_of found))) }
-    ensures reads_back { IfOk result (λ f. ReadsNormally f (kind_of found) (meta_of found)) }
+/// The same as `rewrite_field`, of a field that is kept.
+fn canonical(alloc: Global, field: &Field, found: &GeoArrowType) -> Result<Field, ArrowError>
+    ensures written { IfOk result (λ f. f ≡ rewritten field.now (kind_of found.now) (normal (meta_of found.now))) }
+    ensures reads_back { IfOk result (λ f. ReadsNormally f (kind_of found.now) (meta_of found.now)) }
     ensures refused { IfErr result IsMemory }
 {
-    found.rewrite(alloc, field)
+    let data_type = found.to_data_type(alloc)?;
+    let bare = field.try_clone_with_data_type(alloc, data_type)?;
+    found.dress_normally(alloc, bare)
 }

@@ -1,12 +1,12 @@
 //! A field, made and read, and its extension texts.
-ghost use Rattle.std.specs.Prelude.{◌≡◌, [], IfOk, string_bytes};
+ghost use Rattle.std.specs.Prelude.{◌≡◌, [], Some, IsOk, IfOk, string_bytes};
 ghost use Rattle.std.specs.Option.{option_map};
 ghost use Rattle.arrow_values.specs.Tree.{list, field_tree};
 ghost use Rattle.arrow_values.specs.View.{tree, texts_of};
 ghost use Rattle.arrow_values.specs.Texts.{text_of, extension_name, extension_metadata, set_extension, SetsExtension};
 ghost use Rattle.arrow_values.specs.Name.{fixed_text, name_bytes};
 
-use crate::texts::{set_extension, text_at};
+use crate::texts::{has_extension, set_extension, text_at};
 use crate::tree::{DataType, Field, FixedName, Name};
 use std::alloc::{AllocError, Global};
 use std::collections::BTreeMap;
@@ -132,7 +132,8 @@ impl Field {
 
     /// The same field with that extension name and that text of its metadata (Arrow, "Extension Types"): the name at
     /// `EXTENSION_TYPE_NAME_KEY`, and at `EXTENSION_TYPE_METADATA_KEY` the text, or nothing. Whether the data type can carry
-    /// an extension type of that name is not tested. Errs only when out of memory.
+    /// an extension type of that name is not tested. Errs only when out of memory. A field that has them so already stays
+    /// as it is, which takes no memory.
     pub fn with_extension_texts(
         self,
         alloc: Global,
@@ -141,7 +142,11 @@ impl Field {
     ) -> Result<Field, AllocError>
         ensures written { IfOk result (λ f. f ≡ record self { metadata = set_extension name.now (option_map string_bytes text) self.metadata }) }
         ensures keys { IfOk result (λ f. SetsExtension name.now (option_map string_bytes text) self.metadata f.metadata) }
+        ensures no_memory { extension_name self ≡ Some name.now → extension_metadata self ≡ option_map string_bytes text → IsOk result }
     {
+        if has_extension(&self.metadata, name, &text) {
+            return Ok(self);
+        }
         let mut field = self;
         set_extension(alloc, &mut field.metadata, name, text)?;
         Ok(field)
