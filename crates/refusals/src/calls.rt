@@ -17,6 +17,7 @@ enum Call {
     TryWithExtensionType,
     WithExtensionType,
     CanonicalField,
+    RewriteField,
     Normalized,
     DataType,
     ToDataType,
@@ -38,7 +39,7 @@ enum Call {
 }
 
 /// The calls, their names, and how many rows each has.
-const CALLS: [(Call, &str, usize); 25] = [
+const CALLS: [(Call, &str, usize); 26] = [
     (Call::FromExtensionField, "from_extension_field", NAMED),
     (Call::FromArrowField, "from_arrow_field", FIELDS.len()),
     (Call::CheckColumns, "check_columns", 1),
@@ -50,6 +51,7 @@ const CALLS: [(Call, &str, usize); 25] = [
     ),
     (Call::WithExtensionType, "with_extension_type", CARRIED),
     (Call::CanonicalField, "canonical_field", CANONICAL.len()),
+    (Call::RewriteField, "rewrite_field", CANONICAL.len()),
     (Call::Normalized, "normalized", 1),
     (Call::DataType, "data_type", COORD_TYPES.len()),
     (Call::ToDataType, "to_data_type", COORD_TYPES.len()),
@@ -85,6 +87,7 @@ fn attempt(
         Call::TryWithExtensionType => writing::try_with(alloc, row, trial),
         Call::WithExtensionType => writing::with(alloc, row, trial),
         Call::CanonicalField => writing::canonical_field(alloc, row, trial),
+        Call::RewriteField => writing::rewrite_field(alloc, row, trial),
         Call::Normalized => writing::normalized(alloc, trial),
         Call::DataType => writing::build_data_type(alloc, row, &Build::DataType, trial),
         Call::ToDataType => writing::build_data_type(alloc, row, &Build::ToDataType, trial),

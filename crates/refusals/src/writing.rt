@@ -192,6 +192,21 @@ pub fn canonical_field(alloc: Global, row: usize, trial: &mut Trial) -> Result<A
     })
 }
 
+/// Turns a field into its normal form.
+pub fn rewrite_field(alloc: Global, row: usize, trial: &mut Trial) -> Result<Answer, AllocError> {
+    let row = CANONICAL.get(row).ok_or(AllocError)?;
+    trial.row = row.name;
+    let found = type_of(alloc, row.line)?;
+    let given = field(alloc, row.line)?;
+    trial.begin(alloc);
+    let written = found.rewrite_field(alloc, given);
+    trial.end(alloc);
+    Ok(match written {
+        Ok(written) => right_if(is_field(alloc, &written, row.canonical)),
+        Err(error) => of_arrow_error(error, None),
+    })
+}
+
 /// The type of a line. Errs also where it has none.
 fn type_of(alloc: Global, line: &str) -> Result<GeoArrowType, AllocError> {
     match GeoArrowType::try_from_field(alloc, &field(alloc, line)?) {
