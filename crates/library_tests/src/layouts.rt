@@ -3,56 +3,66 @@ use arrow_values::{ArrowError, DataType, Dimensions, GeoArrowError};
 use geoarrow_layout::CoordType::{Interleaved, Separated};
 use geoarrow_layout::Dimension::{XY, XYM, XYZ, XYZM};
 use geoarrow_layout::{
-    Candidates, CoordType, Dimension, Kind, LayoutFault, NativeKind, Summary, Width, alike,
-    box_data_type, candidates, coord_data_type, geometry_data_type, infer_point, kind_data_type,
-    list_data_type, mixed_data_type, parse_box, parse_geometry, parse_geometry_collection,
-    parse_linestring, parse_mixed, parse_multilinestring, parse_multipoint, parse_multipolygon,
-    parse_point, parse_polygon, parse_wkb, parse_wkt, summarize, written_kind,
+    Candidates, CoordType, Dimension, Kind, LayoutFault, NativeKind, Width, alike, box_data_type,
+    candidates, coord_data_type, geometry_data_type, infer_point, kind_data_type, list_data_type,
+    mixed_data_type, parse_box, parse_geometry, parse_geometry_collection, parse_linestring,
+    parse_mixed, parse_multilinestring, parse_multipoint, parse_multipolygon, parse_point,
+    parse_polygon, parse_wkb, parse_wkt, summarize, written_kind,
 };
 use scarce_memory::without_memory;
 use std::alloc::{AllocError, Global};
 use std::test::Fail;
 use test_fields::notation::data_type;
 
-/// What the calls that look at a data type answer.
-#[derive(Clone, Copy, PartialEq)]
-struct Answers {
-    readings: [Result<(CoordType, Dimension), LayoutFault>; 8],
-    geometry: Result<CoordType, LayoutFault>,
-    rect: Result<Dimension, LayoutFault>,
-    widths: [Result<Width, LayoutFault>; 2],
-    inferred: Option<(CoordType, Dimension)>,
-    names: Candidates,
-    written: Option<Kind>,
-    summary: Summary,
-    told: Option<Kind>,
-    alike: bool,
+/// What the readers of a coordinate type and a dimension answer.
+type Readings = [Result<(CoordType, Dimension), LayoutFault>; 8];
+
+/// The readings of a data type.
+fn readings(tree: &DataType) -> Readings {
+    [
+        parse_point(tree),
+        parse_linestring(tree),
+        parse_polygon(tree),
+        parse_multipoint(tree),
+        parse_multilinestring(tree),
+        parse_multipolygon(tree),
+        parse_mixed(tree),
+        parse_geometry_collection(tree),
+    ]
 }
 
-/// The answers about a data type, the kind told under the name of a collection.
-fn answers_about(tree: &DataType) -> Answers {
-    let summary = summarize(tree);
-    Answers {
-        readings: [
-            parse_point(tree),
-            parse_linestring(tree),
-            parse_polygon(tree),
-            parse_multipoint(tree),
-            parse_multilinestring(tree),
-            parse_multipolygon(tree),
-            parse_mixed(tree),
-            parse_geometry_collection(tree),
-        ],
-        geometry: parse_geometry(tree),
-        rect: parse_box(tree),
-        widths: [parse_wkb(tree), parse_wkt(tree)],
-        inferred: infer_point(tree),
-        names: candidates(tree),
-        written: written_kind(tree),
-        summary,
-        told: summary.kind("geoarrow.geometrycollection"),
-        alike: alike(tree, tree),
-    }
+/// What the readers of geometries, of boxes, and of bytes and texts answer.
+type Parts = (
+    Result<CoordType, LayoutFault>,
+    Result<Dimension, LayoutFault>,
+    [Result<Width, LayoutFault>; 2],
+);
+
+/// The parts of a data type.
+fn parts(tree: &DataType) -> Parts {
+    let widths = [parse_wkb(tree), parse_wkt(tree)];
+    (parse_geometry(tree), parse_box(tree), widths)
+}
+
+/// What is told of a data type without a name: the point that is inferred, the names it may stand under, the kind that is
+/// written so, and whether it is like itself; and its kind under the name of a collection.
+type Signs = (
+    Option<(CoordType, Dimension)>,
+    Candidates,
+    [Option<Kind>; 2],
+    bool,
+);
+
+/// The signs of a data type.
+fn signs(tree: &DataType) -> Signs {
+    let told = summarize(tree).kind("geoarrow.geometrycollection");
+    let kinds = [written_kind(tree), told];
+    (
+        infer_point(tree),
+        candidates(tree),
+        kinds,
+        alike(tree, tree),
+    )
 }
 
 /// Data types of each layout and of none.
@@ -75,9 +85,22 @@ const TREES: [&str; 16] = [
     "List*100(v: Struct(x, y))",
 ];
 
-/// The answers about a data type while every request for memory is refused.
-fn unaided(alloc: Global, tree: &DataType) -> Result<Answers, AllocError> {
-    without_memory(alloc, || answers_about(tree))
+/// Whether the readings, the parts, the signs and the summary of a data type are the same while every request for memory is
+/// refused.
+fn unaided(alloc: Global, tree: &DataType) -> Result<[bool; 4], AllocError> {
+    let read = readings(tree);
+    let parted = parts(tree);
+    let told = signs(tree);
+    let summary = summarize(tree);
+    without_memory(
+        alloc,
+        || [
+            readings(tree) == read,
+            parts(tree) == parted,
+            signs(tree) == told,
+            summarize(tree) == summary,
+        ],
+    )
 }
 
 #[test]
@@ -85,7 +108,7 @@ fn none_is_taken_to_look_at_a_data_type(rt: HostRuntime) -> Result<(), Fail> {
     let alloc = rt.alloc();
     for &text in TREES.iter() {
         let tree = data_type(alloc, text)?;
-        assert!(rt; unaided(alloc, &tree)? == answers_about(&tree), "{text}");
+        assert_eq!(rt; unaided(alloc, &tree)?, [true; 4], "{text}");
     }
     Ok(())
 }
@@ -108,7 +131,8 @@ fn none_is_taken_to_infer_a_point(rt: HostRuntime) -> Result<(), Fail> {
     let alloc = rt.alloc();
     for &(text, point) in POINTS.iter() {
         let tree = data_type(alloc, text)?;
-        assert_eq!(rt; unaided(alloc, &tree)?.inferred, point, "{text}");
+        let found = without_memory(alloc, || infer_point(&tree))?;
+        assert_eq!(rt; found, point, "{text}");
     }
     Ok(())
 }

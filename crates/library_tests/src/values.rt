@@ -1,7 +1,6 @@
-//! Tests of `arrow_values`, and of the notation in which the other tests spell data types.
+//! Tests of `arrow_values`.
 mod equality;
 mod errors;
 mod extension_texts;
 mod fields;
-mod notation;
 mod unions;

@@ -186,18 +186,6 @@ fn of_a_type_is_written_on_a_field(rt: HostRuntime) -> Result<(), Fail> {
     Ok(())
 }
 
-#[test]
-fn of_a_type_takes_the_place_of_another(rt: HostRuntime) -> Result<(), Fail> {
-    let alloc = rt.alloc();
-    for &(text, wanted) in WRITTEN.iter() {
-        for &(_, texts) in WRITTEN.iter() {
-            let field = written(alloc, texts, text)?;
-            assert!(rt; is_column(alloc, &field, wanted)?, "{text} over {texts:?}");
-        }
-    }
-    Ok(())
-}
-
 /// A field that is handed over, with the type of a metadata written on it.
 fn handed_over(alloc: Global, text: &str) -> Result<Field, ArrowError> {
     let marked = type_of(alloc, text)?;

@@ -8,7 +8,7 @@ use std::alloc::{AllocError, Global};
 pub const SPHERICAL: &str = r#"{"crs": {}, "crs_type": "projjson", "edges": "spherical"}"#;
 
 /// The PROJJSON object without members.
-pub fn empty_projjson(alloc: Global) -> Crs {
+fn empty_projjson(alloc: Global) -> Crs {
     Crs::from_projjson(Value::Object(Map::new(alloc)))
 }
 

@@ -7,7 +7,7 @@ use geoarrow_schema::generic::{
     NativeType, Point, Polygon,
 };
 use geoarrow_schema::{BoxType, GeoArrowType, GeometryType, Kind, NativeKind, Width};
-use std::alloc::Global;
+use std::alloc::{AllocError, Global};
 use std::test::Fail;
 
 /// A kind for each variant.
@@ -42,7 +42,7 @@ fn ignores_metadata(alloc: Global, kind: Kind) -> Result<bool, Fail> {
 }
 
 /// Whether a type of a kind, its clone and another of the same parts are equal and hash equally.
-fn is_cloned(alloc: Global, kind: Kind) -> Result<bool, Fail> {
+fn is_cloned(alloc: Global, kind: Kind) -> Result<bool, AllocError> {
     let one = GeoArrowType::from_kind(kind, spherical(alloc)?);
     Ok(
         are_same(&one, &one.try_clone(alloc)?)

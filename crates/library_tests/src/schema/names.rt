@@ -1,5 +1,5 @@
 //! The names of the types, and the names in Rust by which they and what they stand on are reached.
-use crate::schema::values::{plain, spherical};
+use crate::schema::values::plain;
 use arrow_values::ExtensionType;
 use geoarrow_schema::Dimension::XY;
 use geoarrow_schema::crs::{CrsTransform, DefaultCrsTransform};
@@ -52,15 +52,6 @@ fn id_of<T: GeometryTypeId>(one: &T) -> i8 {
 fn refused(alloc: Global) -> GeoArrowResult<GeoArrowType> {
     let field = named(alloc, "geoarrow.wkb", "Null")?;
     GeoArrowType::try_from_field(alloc, &field)
-}
-
-#[test]
-fn reach_boxes(rt: HostRuntime) -> Result<(), Fail> {
-    let alloc = rt.alloc();
-    let rect: RectType = BoxType::new(XY, spherical(alloc)?);
-    let other = GeoArrowType::from(BoxType::new(XY, spherical(alloc)?));
-    assert!(rt; GeoArrowType::Rect(rect) == other);
-    Ok(())
 }
 
 #[test]

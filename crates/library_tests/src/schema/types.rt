@@ -7,7 +7,7 @@ use geoarrow_schema::generic::{
     NativeShape, NativeType, Point, Polygon, SerializedType, Wkb, Wkt,
 };
 use geoarrow_schema::{BoxType, CoordType, Dimension, Edges, GeometryType};
-use std::alloc::Global;
+use std::alloc::{AllocError, Global};
 use std::fmt::Debug;
 use std::process::Abort;
 use std::test::Fail;
@@ -89,48 +89,64 @@ fn of_each_shape_have_three_parts(rt: HostRuntime) -> Result<(), Fail> {
     shape::<GeometryCollection>(&rt, alloc, "GeometryCollectionType {")
 }
 
+/// The parts of a box type as it is made, and after each change of one.
+fn box_parts(alloc: Global) -> Result<[(Dimension, Option<Edges>); 3], AllocError> {
+    let one = BoxType::new(XYM, spherical(alloc)?);
+    let made = (one.dimension(), one.metadata().edges());
+    let one = one.with_dimension(XYZ);
+    let turned = (one.dimension(), one.metadata().edges());
+    let one = one.with_metadata(plain(alloc)?);
+    Ok([made, turned, (one.dimension(), one.metadata().edges())])
+}
+
+/// Whether a box type is the same as its clone and as another of its parts, and differs from those of another dimension or of
+/// other metadata.
+fn boxes_compare(alloc: Global) -> Result<[bool; 4], AllocError> {
+    let one = BoxType::new(XYM, spherical(alloc)?);
+    let is_cloned = are_same(&one, &one.try_clone(alloc)?);
+    let is_same = are_same(&one, &BoxType::new(XYM, spherical(alloc)?));
+    let turns = one != BoxType::new(XYZ, spherical(alloc)?);
+    let other = BoxType::new(XYM, plain(alloc)?);
+    Ok([is_cloned, is_same, turns, one != other])
+}
+
 #[test]
 fn of_boxes_have_two_parts(rt: HostRuntime) -> Result<(), Fail> {
     let alloc = rt.alloc();
+    let wanted = [(XYM, SPHERICAL), (XYZ, SPHERICAL), (XYZ, None)];
+    assert_eq!(rt; box_parts(alloc)?, wanted);
+    assert_eq!(rt; boxes_compare(alloc)?, [true; 4]);
     let one = BoxType::new(XYM, spherical(alloc)?);
-    assert_eq!(rt; (one.dimension(), one.metadata().edges()), (XYM, SPHERICAL));
     assert!(rt; prints(alloc, &one, "BoxType {")?);
-    let other = one.try_clone(alloc)?;
-    assert!(rt; are_same(&one, &other));
-    let other = other.with_dimension(XYZ);
-    assert_eq!(rt;
-        (other.dimension(), other.metadata().edges()),
-        (XYZ, SPHERICAL)
-    );
-    assert!(rt; one != other);
-    let other = other.with_dimension(XYM).with_metadata(plain(alloc)?);
-    assert_eq!(rt; (other.dimension(), other.metadata().edges()), (XYM, None));
-    assert!(rt; one != other);
-    let other = other.with_metadata(spherical(alloc)?);
-    assert!(rt; are_same(&one, &other));
     Ok(())
+}
+
+/// The parts of a geometry type as it is made, and after its coordinate type is changed.
+fn geometry_parts(alloc: Global) -> Result<[(CoordType, Option<Edges>); 2], AllocError> {
+    let one = GeometryType::try_default(alloc)?.with_metadata(spherical(alloc)?);
+    let made = (one.coord_type(), one.metadata().edges());
+    let one = one.with_coord_type(Interleaved);
+    Ok([made, (one.coord_type(), one.metadata().edges())])
+}
+
+/// Whether a geometry type is the same as its clone, and differs from those of another coordinate type or of other metadata.
+fn geometries_compare(alloc: Global) -> Result<[bool; 3], AllocError> {
+    let one = GeometryType::new(spherical(alloc)?);
+    let is_cloned = are_same(&one, &one.try_clone(alloc)?);
+    let turns = one != one.try_clone(alloc)?.with_coord_type(Interleaved);
+    let other = GeometryType::new(plain(alloc)?);
+    Ok([is_cloned, turns, one != other])
 }
 
 #[test]
 fn of_geometries_have_two_parts(rt: HostRuntime) -> Result<(), Fail> {
     let alloc = rt.alloc();
-    let one = GeometryType::try_default(alloc)?.with_metadata(spherical(alloc)?);
-    assert_eq!(rt;
-        (one.coord_type(), one.metadata().edges()),
-        (Separated, SPHERICAL)
-    );
+    let wanted = [(Separated, SPHERICAL), (Interleaved, SPHERICAL)];
+    assert_eq!(rt; geometry_parts(alloc)?, wanted);
+    assert_eq!(rt; geometries_compare(alloc)?, [true; 3]);
+    let one = GeometryType::new(plain(alloc)?);
     assert!(rt; prints(alloc, &one, "GeometryType {")?);
-    let other = one.try_clone(alloc)?;
-    assert!(rt; are_same(&one, &other));
-    let other = other.with_coord_type(Interleaved);
-    assert_eq!(rt;
-        (other.coord_type(), other.metadata().edges()),
-        (Interleaved, SPHERICAL)
-    );
-    assert!(rt; one != other);
-    let other = GeometryType::new(plain(alloc)?);
-    assert!(rt; one != other);
-    assert!(rt; are_same(&other, &GeometryType::try_default(alloc)?));
+    assert!(rt; are_same(&one, &GeometryType::try_default(alloc)?));
     Ok(())
 }
 

@@ -1,6 +1,5 @@
-//! Equality of fields and of data types goes by the texts on fields too. That of each other part, and clones, are rows of
-//! `library_rows`.
-use arrow_values::DataType;
+//! Equality of fields goes by their texts too. That of each other part, and clones, are rows of `library_rows`, and that of lists
+//! over such fields is a test of `program_tests`.
 use std::alloc::{AllocError, Global};
 use std::test::Fail;
 use test_fields::notation::column;
@@ -25,30 +24,12 @@ fn fields_equal(
     Ok(one == column(alloc, others, "Utf8")?)
 }
 
-/// A list over a field with those texts.
-fn list(alloc: Global, texts: &[(&str, &str)]) -> Result<DataType, AllocError> {
-    let field = column(alloc, texts, "Utf8")?;
-    Ok(DataType::List(Box::new(alloc, field)?))
-}
-
-/// Whether lists over such fields are equal, the first one cloned.
-fn lists_equal(
-    alloc: Global,
-    texts: &[(&str, &str)],
-    others: &[(&str, &str)],
-) -> Result<bool, AllocError> {
-    let one = list(alloc, texts)?.try_clone(alloc)?;
-    Ok(one == list(alloc, others)?)
-}
-
 #[test]
 fn of_fields_goes_by_their_texts_too(rt: HostRuntime) -> Result<(), Fail> {
     let alloc = rt.alloc();
     for &(texts, wanted, others) in TEXTS.iter() {
         let equal = fields_equal(alloc, texts, others)?;
         assert_eq!(rt; equal, wanted, "{texts:?} and {others:?}");
-        let equal = lists_equal(alloc, texts, others)?;
-        assert_eq!(rt; equal, wanted, "lists over {texts:?} and {others:?}");
     }
     Ok(())
 }

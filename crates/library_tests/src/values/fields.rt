@@ -16,17 +16,6 @@ fn texts(alloc: Global) -> Result<BTreeMap<String, String>, AllocError> {
 }
 
 #[test]
-fn have_the_parts_that_were_given(rt: HostRuntime) -> Result<(), Fail> {
-    let alloc = rt.alloc();
-    let new = Field::new(alloc, "x", DataType::Float64, true)?;
-    assert_eq!(rt; new.name(), "x");
-    assert!(rt; *new.data_type() == DataType::Float64);
-    assert!(rt; new.is_nullable());
-    assert!(rt; new.metadata().is_empty());
-    Ok(())
-}
-
-#[test]
 fn have_the_parts_that_were_moved_in(rt: HostRuntime) -> Result<(), Fail> {
     let alloc = rt.alloc();
     let name = String::from_str(alloc, "y")?;
