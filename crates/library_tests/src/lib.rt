@@ -1,9 +1,7 @@
 //! Tests of the libraries for what no row of `library_rows` can show, with a folder for each library: equality, hashes, clones, names
-//! in Rust, implementations of their traits, values that are compared, and calls with no memory; and the examples of the docs.
+//! in Rust, implementations of their traits, values that are compared, and calls with no memory.
 #![tactic(auto)]
 
-#[cfg(test)]
-mod examples;
 #[cfg(test)]
 mod layouts;
 #[cfg(test)]

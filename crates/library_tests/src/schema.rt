@@ -1,5 +1,4 @@
-//! Tests of `geoarrow_native`, `geoarrow_multi` and `geoarrow_schema`, and of the callers in `uses`.
-mod callers;
+//! Tests of `geoarrow_native`, `geoarrow_multi` and `geoarrow_schema`.
 mod kinds;
 mod names;
 mod types;

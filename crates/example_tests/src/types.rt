@@ -1,5 +1,5 @@
 //! Examples of the GeoArrow types: their data types, and how fields are read and written.
-use super::column_kind::column_kind;
+use crate::column_kind::column_kind;
 use arrow_values::{DataType, ExtensionType, Field, Fields, FixedName, GeoArrowError, UnionMode};
 use geoarrow_columns::{Column, check_columns};
 use geoarrow_layout::{coord_data_type, mixed_data_type};
