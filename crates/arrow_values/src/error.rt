@@ -9,6 +9,12 @@ use std::io;
 use thiserror::Error;
 
 /// The errors of Arrow's schema crate that this library returns or passes on, and out of memory.
+///
+/// ```rust
+/// let unnamed = Field::new(alloc, "geom", DataType::Binary, true)?;
+/// let refused = unnamed.try_extension_type::<WkbType>(alloc);
+/// assert!(rt; matches!(refused, Err(ArrowError::InvalidArgumentError(_))));
+/// ```
 #[derive(Debug, Drop, Error)]
 #[cycle(errors)]
 pub enum ArrowError {
@@ -79,6 +85,14 @@ pub enum GeoArrowError {
 pub type GeoArrowResult<T> = Result<T, GeoArrowError>;
 
 /// Why two unions could not be joined.
+///
+/// ```rust
+/// match append_members(&mut members, other) {
+///     Ok(()) => {}
+///     Err((_, AppendFault::RepeatedId(_))) => return Ok(None),
+///     Err((_, AppendFault::OutOfMemory)) => return Err(AllocError),
+/// }
+/// ```
 #[derive(Clone, Copy, Debug, PartialEq, Eq)]
 pub enum AppendFault {
     /// The first id of the second union that the first union also has.

@@ -20,6 +20,11 @@ use std::marker::Model;
 pub use union_fields::UnionIter;
 
 /// How the members of a union are stored. Readers ignore it.
+///
+/// ```rust
+/// let union = DataType::Union(members, UnionMode::Dense);
+/// assert!(rt; matches!(&union, DataType::Union(members, _) if members.len() == 2));
+/// ```
 #[derive(Clone, Copy, Debug, PartialEq, Eq)]
 pub enum UnionMode {
     /// Each member has a place for every value.

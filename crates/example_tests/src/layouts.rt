@@ -1,8 +1,8 @@
 //! Examples of kinds of columns, their names and their data types.
 use arrow_values::{DataType, Field, Fields};
 use geoarrow_layout::{
-    Candidates, ExtensionName, LayoutFault, alike, candidates, coord_data_type, infer_point,
-    list_data_type, parse_kind, parse_point,
+    Bottom, Candidates, ExtensionName, LayoutFault, ListWidth, alike, candidates, coord_data_type,
+    infer_point, list_data_type, parse_kind, parse_point, summarize,
 };
 use geoarrow_schema::{CoordType, Dimension, Kind, NativeKind, Width};
 use std::test::Fail;
@@ -78,5 +78,16 @@ fn of_names(rt: HostRuntime) -> Result<(), Fail> {
     let alloc = rt.alloc();
     let point = coord_data_type(alloc, CoordType::Separated, Dimension::XYZM)?;
     assert_eq!(rt; candidates(&point), Candidates::PointOrBox);
+    Ok(())
+}
+
+#[test]
+fn of_summaries(rt: HostRuntime) -> Result<(), Fail> {
+    let alloc = rt.alloc();
+    let (separated, xy) = (CoordType::Separated, Dimension::XY);
+    let rings = list_data_type(alloc, NativeKind::Polygon, separated, xy)?;
+    let found = summarize(&rings);
+    assert!(rt; found.levels == 2 && found.width == Some(ListWidth::List));
+    assert!(rt; matches!(found.bottom, Bottom::Struct { count: 2, .. }));
     Ok(())
 }

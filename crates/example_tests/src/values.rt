@@ -1,6 +1,7 @@
 //! Examples of data types, fields, unions, extension types and errors.
 use arrow_values::{
-    DataType, Dimensions, Field, Fields, FixedName, GeoArrowError, UnionFields, UnionMode,
+    ArrowError, DataType, Dimensions, Field, Fields, FixedName, GeoArrowError, UnionFields,
+    UnionMode,
 };
 use geoarrow_schema::{Dimension, WkbType, WktType};
 use std::test::Fail;
@@ -76,5 +77,14 @@ fn of_errors(rt: HostRuntime) -> Result<(), Fail> {
         text.as_str(),
         "Data not conforming to GeoArrow specification: no points"
     );
+    Ok(())
+}
+
+#[test]
+fn of_unnamed_fields(rt: HostRuntime) -> Result<(), Fail> {
+    let alloc = rt.alloc();
+    let unnamed = Field::new(alloc, "geom", DataType::Binary, true)?;
+    let refused = unnamed.try_extension_type::<WkbType>(alloc);
+    assert!(rt; matches!(refused, Err(ArrowError::InvalidArgumentError(_))));
     Ok(())
 }

@@ -11,6 +11,11 @@ use json::Scratch;
 use std::alloc::{AllocError, Global};
 
 /// What a column holds.
+///
+/// ```rust
+/// let columns = check_columns(alloc, &[id, geometry])?;
+/// assert!(rt; matches!(columns.as_slice(), [Column::Other, Column::Geometry(_)]));
+/// ```
 #[derive(Debug, PartialEq, Eq, Drop)]
 pub enum Column {
     /// Geometries: a GeoArrow type is read from the field.
@@ -24,6 +29,12 @@ pub enum Column {
 }
 
 /// Why a column is refused: the variant of `GeoArrowError` with which its field is refused.
+///
+/// ```rust
+/// let named = GeoArrowType::Wkb(WkbType::try_default(alloc)?).to_field(alloc, "geom", true)?;
+/// let found = check_column(alloc, &named.with_data_type(DataType::Utf8))?;
+/// assert!(rt; matches!(found, Column::Faulty(ColumnFault::InvalidGeoArrow)));
+/// ```
 #[derive(Debug, Clone, Copy, PartialEq, Eq)]
 pub enum ColumnFault {
     /// The data type or the metadata text does not match the field's GeoArrow name; or the field has no GeoArrow name and

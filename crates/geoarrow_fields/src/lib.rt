@@ -15,6 +15,11 @@ pub use lines::{keeps_limits_or_passes_one, splits_at_line_feeds};
 pub use reading::run;
 
 /// What is asked about the field of each line.
+///
+/// ```rust
+/// let words = vec![in alloc; String::from_str(alloc, "canon")?]?;
+/// assert!(rt; command_of(words.as_slice()) == Some(Command::Canon));
+/// ```
 #[derive(Debug, Clone, Copy, PartialEq, Eq)]
 pub enum Command {
     /// Which GeoArrow type the field is read as.
@@ -28,6 +33,20 @@ pub enum Command {
 }
 
 /// How a run ended.
+///
+/// ```rust
+/// for &(end, status) in [
+///     (Some(RunEnd::Done), 0),
+///     (Some(RunEnd::InputFault), 1),
+///     (Some(RunEnd::Memory), 1),
+///     (Some(RunEnd::OutputFault), 1),
+///     (None, 2),
+/// ]
+/// .iter()
+/// {
+///     assert!(rt; status_of(end) == status, "{end:?}");
+/// }
+/// ```
 #[derive(Debug, Clone, Copy, PartialEq, Eq)]
 pub enum RunEnd {
     /// The end of the input was reached, and each line is answered.

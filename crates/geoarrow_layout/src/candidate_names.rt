@@ -1,6 +1,11 @@
 //! The extension names under which a data type can be read.
 
 /// The extension names under which a data type can be read: at most two (GeoArrow, "Extension types").
+///
+/// ```rust
+/// let point = coord_data_type(alloc, CoordType::Separated, Dimension::XYZM)?;
+/// assert_eq!(rt; candidates(&point), Candidates::PointOrBox);
+/// ```
 #[derive(Debug, Clone, Copy, PartialEq, Eq)]
 pub enum Candidates {
     /// No name.

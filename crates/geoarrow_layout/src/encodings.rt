@@ -6,6 +6,11 @@ use crate::kinds::{CoordType, Dimension};
 use crate::names::ExtensionName;
 
 /// The kinds of geometry that have their own layout (GeoArrow, "Native encoding").
+///
+/// ```rust
+/// let kind = Kind::Native(NativeKind::Polygon, CoordType::Separated, Dimension::XYZ);
+/// assert_eq!(rt; kind.name(), "geoarrow.polygon");
+/// ```
 #[derive(Clone, Copy, Debug, PartialEq, Eq)]
 pub enum NativeKind {
     /// A coordinate.
@@ -25,6 +30,14 @@ pub enum NativeKind {
 }
 
 /// How bytes and texts are stored (Arrow, "Variable-size Binary Layout", "Variable-size Binary View Layout").
+///
+/// ```rust
+/// let name = ExtensionName::Wkb;
+/// assert_eq!(rt;
+///     parse_kind(name, &DataType::LargeBinary),
+///     Ok(Kind::Wkb(Width::Large))
+/// );
+/// ```
 #[derive(Clone, Copy, Debug, PartialEq, Eq)]
 pub enum Width {
     /// With 32-bit offsets.

@@ -13,6 +13,7 @@ use crate::kinds::Dimension;
 use arrow_values::{DataType, Field};
 
 /// The two widths of lists.
+/// [`Summary`] has an example.
 #[derive(Clone, Copy, Debug, PartialEq, Eq)]
 pub enum ListWidth {
     /// With 32-bit offsets.
@@ -22,6 +23,7 @@ pub enum ListWidth {
 }
 
 /// What is below the list levels of a data type.
+/// [`Summary`] has an example.
 #[derive(Clone, Copy, Debug, PartialEq, Eq)]
 pub enum Bottom {
     /// A fixed size list: the dimension that the inner field names, the size, and whether the inner type is
@@ -60,6 +62,13 @@ pub enum Bottom {
 
 /// What one walk over a data type finds; its size is fixed, however large the data type is. Readers of
 /// geometries and boxes use only the summary.
+///
+/// ```rust
+/// let rings = list_data_type(alloc, NativeKind::Polygon, separated, xy)?;
+/// let found = summarize(&rings);
+/// assert!(rt; found.levels == 2 && found.width == Some(ListWidth::List));
+/// assert!(rt; matches!(found.bottom, Bottom::Struct { count: 2, .. }));
+/// ```
 #[derive(Clone, Copy, Debug, PartialEq, Eq)]
 pub struct Summary {
     /// The list levels of the outermost list's width, 0 to 3.

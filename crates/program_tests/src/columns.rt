@@ -41,13 +41,9 @@ fn have_each_field_in_its_place(rt: HostRuntime) -> Result<(), Fail> {
             Column::Faulty(ColumnFault::Arrow),
         ] => {
             let point = NativeKind::Point;
-            assert_eq!(rt;
-                read.kind(),
-                Kind::Native(point, CoordType::Separated, Dimension::XY)
-            );
-            assert_eq!(rt;
-                inferred.kind(),
-                Kind::Native(point, CoordType::Separated, Dimension::XYM)
+            assert!(rt; read.kind() == Kind::Native(point, CoordType::Separated, Dimension::XY));
+            assert!(rt;
+                inferred.kind() == Kind::Native(point, CoordType::Separated, Dimension::XYM)
             );
         }
         columns => assert!(rt; false, "{columns:?}"),

@@ -162,7 +162,7 @@ fn output<R: Read>(
 ) -> Vec<u8> {
     let mut out = Vec::new(rt.alloc());
     let ended = run(rt.alloc(), command, reader, &mut out);
-    assert_eq!(rt; ended, end, "{command:?}");
+    assert!(rt; ended == end, "{command:?}");
     out
 }
 
@@ -208,12 +208,11 @@ fn write_fails_at_each_call(rt: HostRuntime) -> Result<(), Fail> {
         } else {
             RunEnd::Done
         };
-        assert_eq!(rt; end, want, "at {call}");
-        assert_eq!(rt; out.call, call, "at {call}");
+        assert!(rt; end == want, "at {call}");
+        assert!(rt; out.call == call, "at {call}");
         assert!(rt; ANSWERS.starts_with(out.text.as_slice()), "at {call}");
-        assert_eq!(rt;
-            out.text.len(),
-            call / 5 * 12 + (call % 5 * 3).min(11),
+        assert!(rt;
+            out.text.len() == call / 5 * 12 + (call % 5 * 3).min(11),
             "at {call}"
         );
     }
@@ -234,9 +233,8 @@ fn writer_fails_at_the_end(rt: HostRuntime) -> Result<(), Fail> {
         let mut out = Slow::new(rt.alloc(), most, fails_at, keeps);
         let mut reader = OneByte::failing(b"{\n{\n{\n{\n", 8, ErrorKind::Other);
         let end = run(rt.alloc(), Command::Read, &mut reader, &mut out);
-        assert_eq!(rt;
-            (end, out.text.len()),
-            (RunEnd::OutputFault, len),
+        assert!(rt;
+            end == RunEnd::OutputFault && out.text.len() == len,
             "where {len} bytes stand"
         );
     }

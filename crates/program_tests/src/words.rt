@@ -1,5 +1,5 @@
 //! The words that the program is started with.
-use geoarrow_fields::{RunEnd, serve, status_of};
+use geoarrow_fields::{Command, RunEnd, command_of, serve, status_of};
 use std::test::Fail;
 
 /// A point of two numbers, as it is written.
@@ -29,11 +29,10 @@ fn name_one_command(rt: HostRuntime) -> Result<(), Fail> {
         }
         let mut out = Vec::new(alloc);
         let end = serve(alloc, words.as_slice(), &mut POINT.as_bytes(), &mut out);
-        assert_eq!(rt; status_of(end), status, "{names:?}");
-        assert_eq!(rt; out.is_empty(), answer.is_none(), "{names:?}");
-        assert_eq!(rt;
-            out.as_slice().strip_suffix(b"\n"),
-            answer.map(str::as_bytes),
+        assert!(rt; status_of(end) == status, "{names:?}");
+        assert!(rt; out.is_empty() == answer.is_none(), "{names:?}");
+        assert!(rt;
+            out.as_slice().strip_suffix(b"\n") == answer.map(str::as_bytes),
             "{names:?}"
         );
     }
@@ -51,6 +50,14 @@ fn and_ends_have_statuses(rt: HostRuntime) {
     ]
     .iter()
     {
-        assert_eq!(rt; status_of(end), status, "{end:?}");
+        assert!(rt; status_of(end) == status, "{end:?}");
     }
+}
+
+#[test]
+fn of_one_command_are_taken(rt: HostRuntime) -> Result<(), Fail> {
+    let alloc = rt.alloc();
+    let words = vec![in alloc; String::from_str(alloc, "canon")?]?;
+    assert!(rt; command_of(words.as_slice()) == Some(Command::Canon));
+    Ok(())
 }

@@ -163,12 +163,13 @@ fn write_on<E: ExtensionType>(
     match field.try_with_extension_type(alloc, own) {
         Ok(()) => field_line(alloc, field),
         Err(error) => {
-            let kept = if *field == before {
-                "as it was"
+            let mut text = error.to_string(alloc)?;
+            text.push_str(if *field == before {
+                ", as it was"
             } else {
-                "changed"
-            };
-            format!(in alloc; "{error}, {kept}")
+                ", changed"
+            })?;
+            Ok(text)
         }
     }
 }

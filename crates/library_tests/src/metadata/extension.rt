@@ -126,7 +126,7 @@ fn of_a_field_is_refused_with_its_text(rt: HostRuntime) -> Result<(), Fail> {
     let field = column(alloc, &texts, "Utf8")?;
     let refused = refusal(alloc, Metadata::try_from_field(alloc, &field))?;
     let wanted = "External error: External error: metadata is not JSON";
-    assert_eq!(rt; refused.as_str(), wanted);
+    assert!(rt; refused.as_str() == wanted);
     Ok(())
 }
 
@@ -218,7 +218,7 @@ fn of_a_type_is_refused_with_the_field(rt: HostRuntime) -> Result<(), Fail> {
     let marked = type_of(alloc, SPHERICAL)?;
     let mut other = described(alloc, "tests.other", "{}", "Utf8")?;
     let refused = refusal(alloc, other.try_with_extension_type(alloc, &marked))?;
-    assert_eq!(rt; refused.as_str(), "Schema error: unexpected data type");
+    assert!(rt; refused.as_str() == "Schema error: unexpected data type");
     drop(refused);
     assert!(rt; other == described(alloc, "tests.other", "{}", "Utf8")?);
     Ok(())
@@ -264,11 +264,11 @@ fn of_a_type_is_not_read_from_other_fields(rt: HostRuntime) -> Result<(), Fail> 
             (EXTENSION_TYPE_METADATA_KEY, text),
         ];
         let refused = read_refusal(alloc, &texts, data_type)?;
-        assert_eq!(rt; refused.as_str(), wanted, "{name} {text} {data_type}");
+        assert!(rt; refused.as_str() == wanted, "{name} {text} {data_type}");
     }
     let texts = [(EXTENSION_TYPE_METADATA_KEY, "{}")];
     let refused = read_refusal(alloc, &texts, "Binary")?;
     let wanted = "Invalid argument error: extension name missing";
-    assert_eq!(rt; refused.as_str(), wanted);
+    assert!(rt; refused.as_str() == wanted);
     Ok(())
 }

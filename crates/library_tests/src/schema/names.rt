@@ -39,7 +39,7 @@ fn are_those_of_the_format(rt: HostRuntime) {
         (both::<WktType>(), "geoarrow.wkt"),
     ];
     for &(found, wanted) in rows.iter() {
-        assert_eq!(rt; found, (wanted, wanted), "{wanted}");
+        assert!(rt; found == (wanted, wanted), "{wanted}");
     }
 }
 
@@ -57,7 +57,7 @@ fn refused(alloc: Global) -> GeoArrowResult<GeoArrowType> {
 #[test]
 fn reach_ids_and_errors(rt: HostRuntime) -> Result<(), Fail> {
     let alloc = rt.alloc();
-    assert_eq!(rt; id_of(&MultiPolygonType::new(XY, plain(alloc)?)), 6);
+    assert!(rt; id_of(&MultiPolygonType::new(XY, plain(alloc)?)) == 6);
     assert!(rt; matches!(refused(alloc), Err(GeoArrowError::InvalidGeoArrow(_))));
     Ok(())
 }
@@ -67,7 +67,7 @@ fn reach_coordinate_reference_systems(rt: HostRuntime) -> Result<(), Fail> {
     let alloc = rt.alloc();
     let crs: geoarrow_schema::crs::Crs = Crs::from_srid(String::from_str(alloc, "1234")?);
     let crs_type: Option<geoarrow_schema::crs::CrsType> = crs.crs_type();
-    assert_eq!(rt; crs_type, Some(CrsType::Srid));
+    assert!(rt; crs_type == Some(CrsType::Srid));
     let transform = DefaultCrsTransform::default();
     assert!(rt; transform.extract_wkt(alloc, &crs)?.is_none());
     Ok(())

@@ -29,11 +29,11 @@ fn parts<S: NativeShape>(one: &NativeType<S>) -> (CoordType, Dimension, Option<E
 /// What holds of a native type of that name: each call changes the part that it names.
 fn shape_changes<S: NativeShape>(rt: &impl Abort, alloc: Global, name: &str) -> Result<(), Fail> {
     let one = NativeType::<S>::new(XYM, spherical(alloc)?);
-    assert_eq!(rt; parts(&one), (Separated, XYM, SPHERICAL), "{name}");
+    assert!(rt; parts(&one) == (Separated, XYM, SPHERICAL), "{name}");
     let one = one.with_coord_type(Interleaved);
-    assert_eq!(rt; parts(&one), (Interleaved, XYM, SPHERICAL), "{name}");
+    assert!(rt; parts(&one) == (Interleaved, XYM, SPHERICAL), "{name}");
     let one = one.with_dimension(XYZ);
-    assert_eq!(rt; parts(&one), (Interleaved, XYZ, SPHERICAL), "{name}");
+    assert!(rt; parts(&one) == (Interleaved, XYZ, SPHERICAL), "{name}");
     assert!(rt; prints(alloc, &one, name)?, "{name}");
     Ok(())
 }
@@ -46,9 +46,8 @@ fn shape_comes_apart<S: NativeShape>(
 ) -> Result<(), Fail> {
     let one = NativeType::<S>::new(XYM, spherical(alloc)?);
     let (coord_type, dimension, metadata) = one.with_metadata(plain(alloc)?).into_inner();
-    assert_eq!(rt;
-        (coord_type, dimension, metadata.edges()),
-        (Separated, XYM, None),
+    assert!(rt;
+        (coord_type, dimension, metadata.edges()) == (Separated, XYM, None),
         "{name}"
     );
     Ok(())
@@ -114,8 +113,8 @@ fn boxes_compare(alloc: Global) -> Result<[bool; 4], AllocError> {
 fn of_boxes_have_two_parts(rt: HostRuntime) -> Result<(), Fail> {
     let alloc = rt.alloc();
     let wanted = [(XYM, SPHERICAL), (XYZ, SPHERICAL), (XYZ, None)];
-    assert_eq!(rt; box_parts(alloc)?, wanted);
-    assert_eq!(rt; boxes_compare(alloc)?, [true; 4]);
+    assert!(rt; box_parts(alloc)? == wanted);
+    assert!(rt; boxes_compare(alloc)? == [true; 4]);
     let one = BoxType::new(XYM, spherical(alloc)?);
     assert!(rt; prints(alloc, &one, "BoxType {")?);
     Ok(())
@@ -142,8 +141,8 @@ fn geometries_compare(alloc: Global) -> Result<[bool; 3], AllocError> {
 fn of_geometries_have_two_parts(rt: HostRuntime) -> Result<(), Fail> {
     let alloc = rt.alloc();
     let wanted = [(Separated, SPHERICAL), (Interleaved, SPHERICAL)];
-    assert_eq!(rt; geometry_parts(alloc)?, wanted);
-    assert_eq!(rt; geometries_compare(alloc)?, [true; 3]);
+    assert!(rt; geometry_parts(alloc)? == wanted);
+    assert!(rt; geometries_compare(alloc)? == [true; 3]);
     let one = GeometryType::new(plain(alloc)?);
     assert!(rt; prints(alloc, &one, "GeometryType {")?);
     assert!(rt; are_same(&one, &GeometryType::try_default(alloc)?));
@@ -153,12 +152,12 @@ fn of_geometries_have_two_parts(rt: HostRuntime) -> Result<(), Fail> {
 /// What holds of the type of an encoding, which is of that name.
 fn of_encoding<E: Encoding>(rt: &impl Abort, alloc: Global, name: &str) -> Result<(), Fail> {
     let one = SerializedType::<E>::new(spherical(alloc)?);
-    assert_eq!(rt; one.metadata().edges(), SPHERICAL, "{name}");
+    assert!(rt; one.metadata().edges() == SPHERICAL, "{name}");
     assert!(rt; prints(alloc, &one, name)?, "{name}");
     let other = one.try_clone(alloc)?;
     assert!(rt; are_same(&one, &other), "{name}");
     let other = other.with_metadata(plain(alloc)?);
-    assert_eq!(rt; other.metadata().edges(), None, "{name}");
+    assert!(rt; other.metadata().edges().is_none(), "{name}");
     assert!(rt; one != other, "{name}");
     assert!(rt;
         are_same(&other, &SerializedType::<E>::try_default(alloc)?),

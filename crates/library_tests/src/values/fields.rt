@@ -20,12 +20,12 @@ fn have_the_parts_that_were_moved_in(rt: HostRuntime) -> Result<(), Fail> {
     let alloc = rt.alloc();
     let name = String::from_str(alloc, "y")?;
     let made = Field::from_parts(name, DataType::Utf8, false, texts(alloc)?);
-    assert_eq!(rt; made.name(), "y");
+    assert!(rt; made.name() == "y");
     assert!(rt; *made.data_type() == DataType::Utf8);
     assert!(rt; !made.is_nullable());
-    assert_eq!(rt; made.metadata().len(), 1);
+    assert!(rt; made.metadata().len() == 1);
     let text = made.metadata().get("k").map(String::as_str);
-    assert_eq!(rt; text, Some("v"));
+    assert!(rt; text == Some("v"));
     Ok(())
 }
 
@@ -104,12 +104,12 @@ const EXTENSIONS: [(&[(&str, &str)], Option<&str>, Option<&str>); 3] = [
 #[test]
 fn have_extension_texts_at_two_keys(rt: HostRuntime) -> Result<(), Fail> {
     let alloc = rt.alloc();
-    assert_eq!(rt; EXTENSION_TYPE_NAME_KEY, "ARROW:extension:name");
-    assert_eq!(rt; EXTENSION_TYPE_METADATA_KEY, "ARROW:extension:metadata");
+    assert!(rt; EXTENSION_TYPE_NAME_KEY == "ARROW:extension:name");
+    assert!(rt; EXTENSION_TYPE_METADATA_KEY == "ARROW:extension:metadata");
     for &(texts, name, metadata) in EXTENSIONS.iter() {
         let field = column(alloc, texts, "Null")?;
-        assert_eq!(rt; field.extension_type_name(), name, "{texts:?}");
-        assert_eq!(rt; field.extension_type_metadata(), metadata, "{texts:?}");
+        assert!(rt; field.extension_type_name() == name, "{texts:?}");
+        assert!(rt; field.extension_type_metadata() == metadata, "{texts:?}");
     }
     Ok(())
 }
@@ -130,9 +130,9 @@ fn named_fields(alloc: Global) -> Result<Fields, AllocError> {
 fn of_a_struct_stand_in_order(rt: HostRuntime) -> Result<(), Fail> {
     let alloc = rt.alloc();
     let three = named_fields(alloc)?;
-    assert_eq!(rt; (three.len(), three.is_empty()), (3, false));
+    assert!(rt; three.len() == 3 && !three.is_empty());
     for (i, &name) in NAMES.iter().enumerate() {
-        assert_eq!(rt; three.get(i).map(Field::name), Some(name), "{i}");
+        assert!(rt; three.get(i).map(Field::name) == Some(name), "{i}");
     }
     assert!(rt; three.get(3).is_none());
     Ok(())
@@ -142,12 +142,12 @@ fn of_a_struct_stand_in_order(rt: HostRuntime) -> Result<(), Fail> {
 fn of_a_struct_are_iterated_in_order(rt: HostRuntime) -> Result<(), Fail> {
     let alloc = rt.alloc();
     let three = named_fields(alloc)?;
-    assert_eq!(rt; (three.iter().count(), three.as_slice().len()), (3, 3));
+    assert!(rt; three.iter().count() == 3 && three.as_slice().len() == 3);
     for (i, &name) in NAMES.iter().enumerate() {
         let found = three.as_slice().get(i).map(Field::name);
-        assert_eq!(rt; found, Some(name), "{i}");
+        assert!(rt; found == Some(name), "{i}");
         let found = three.iter().nth(i).map(Field::name);
-        assert_eq!(rt; found, Some(name), "{i}");
+        assert!(rt; found == Some(name), "{i}");
     }
     Ok(())
 }
@@ -156,8 +156,8 @@ fn of_a_struct_are_iterated_in_order(rt: HostRuntime) -> Result<(), Fail> {
 fn may_be_none(rt: HostRuntime) -> Result<(), Fail> {
     let alloc = rt.alloc();
     let none = Fields::from(Vec::new(alloc));
-    assert_eq!(rt; (none.len(), none.is_empty()), (0, true));
-    assert_eq!(rt; (none.iter().count(), none.as_slice().len()), (0, 0));
+    assert!(rt; none.len() == 0 && none.is_empty());
+    assert!(rt; none.iter().count() == 0 && none.as_slice().len() == 0);
     assert!(rt; none.get(0).is_none());
     Ok(())
 }
@@ -175,7 +175,7 @@ const SIZES: [(Dimensions, usize); 6] = [
 #[test]
 fn of_coordinates_are_so_many(rt: HostRuntime) -> Result<(), Fail> {
     for &(dimensions, size) in SIZES.iter() {
-        assert_eq!(rt; dimensions.size(), size, "{dimensions:?}");
+        assert!(rt; dimensions.size() == size, "{dimensions:?}");
     }
     Ok(())
 }

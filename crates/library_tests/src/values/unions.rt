@@ -30,13 +30,13 @@ fn is_member(found: Option<(i8, &Field)>, id: i8, name: &str) -> bool {
 fn keep_the_order_of_their_members(rt: HostRuntime) -> Result<(), Fail> {
     let alloc = rt.alloc();
     let union = ordered(alloc)?;
-    assert_eq!(rt; (union.len(), union.is_empty()), (3, false));
+    assert!(rt; union.len() == 3 && !union.is_empty());
     for (i, &(id, name)) in ORDERED.iter().enumerate() {
         assert!(rt; is_member(union.get(i), id, name), "{name}");
         assert!(rt; is_member(union.iter().nth(i), id, name), "{name}");
     }
     assert!(rt; union.get(3).is_none());
-    assert_eq!(rt; union.iter().count(), 3);
+    assert!(rt; union.iter().count() == 3);
     Ok(())
 }
 
@@ -45,7 +45,7 @@ fn are_a_slice_of_their_members(rt: HostRuntime) -> Result<(), Fail> {
     let alloc = rt.alloc();
     let union = ordered(alloc)?;
     let slice = union.as_slice();
-    assert_eq!(rt; slice.len(), 3);
+    assert!(rt; slice.len() == 3);
     for (i, &(id, name)) in ORDERED.iter().enumerate() {
         let right = match slice.get(i) {
             Some(member) => member.0 == id && member.1.name() == name,
@@ -60,8 +60,8 @@ fn are_a_slice_of_their_members(rt: HostRuntime) -> Result<(), Fail> {
 fn may_have_no_members(rt: HostRuntime) -> Result<(), Fail> {
     let alloc = rt.alloc();
     let union = members(alloc, "")?;
-    assert_eq!(rt; (union.len(), union.is_empty()), (0, true));
-    assert_eq!(rt; (union.iter().count(), union.as_slice().len()), (0, 0));
+    assert!(rt; union.len() == 0 && union.is_empty());
+    assert!(rt; union.iter().count() == 0 && union.as_slice().len() == 0);
     assert!(rt; union.get(0).is_none());
     Ok(())
 }
