@@ -57,6 +57,8 @@ fn take_members_of_texts(
 /// The texts of the members so far and of those that are left of an object, and none where a member is no text. A slot
 /// of the members so far holds the text of its key, or none where the value is no text; a later value of the key is put
 /// in its place.
+#[cold]
+#[inline(never)]
 fn take_slots(
     alloc: Global,
     reader: &mut Reader<'_>,
@@ -79,6 +81,8 @@ fn take_slots(
 }
 
 /// A slot for each text.
+#[cold]
+#[inline(never)]
 fn slots_of_texts(
     alloc: Global,
     texts: BTreeMap<String, String>,
@@ -93,6 +97,8 @@ fn slots_of_texts(
 }
 
 /// The texts of the slots, where each holds one.
+#[cold]
+#[inline(never)]
 fn texts_of_slots(
     alloc: Global,
     slots: BTreeMap<String, Option<String>>,

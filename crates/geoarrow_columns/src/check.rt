@@ -10,7 +10,7 @@ use geoarrow_schema::GeoArrowType;
 use json::Scratch;
 use std::alloc::{AllocError, Global};
 
-/// What a column holds.
+/// What a column holds (docs/FORMAT.md, 1.7).
 ///
 /// ```rust
 /// let columns = check_columns(alloc, &[id, geometry])?;

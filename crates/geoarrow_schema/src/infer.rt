@@ -16,11 +16,11 @@ use std::sync::Arc;
 
 impl GeoArrowType {
     /// The type that a field is read as by `from_extension_field`. If that returns `None`, the type that is inferred
-    /// from the field's data type, with the metadata that the metadata text, or its absence, stands for: a separated
-    /// point for a struct of 2, 3 or 4 `Float64` fields, an interleaved point for a fixed size list of 2, 3 or 4 of
-    /// them (three are x, y and m if they are named so, otherwise x, y and z), well-known binary for `Binary`,
-    /// `LargeBinary` and `BinaryView`, and well-known text for `Utf8`, `LargeUtf8` and `Utf8View`. A field has at most
-    /// one such type.
+    /// from the field's data type, with the metadata that the metadata text, or its absence, stands for
+    /// (docs/FORMAT.md, 1.4 and 1.7): a separated point for a struct of 2, 3 or 4 `Float64` fields, an interleaved point
+    /// for a fixed size list of 2, 3 or 4 of them (three are x, y and m if they are named so, otherwise x, y and z),
+    /// well-known binary for `Binary`, `LargeBinary` and `BinaryView`, and well-known text for `Utf8`, `LargeUtf8` and
+    /// `Utf8View`. A field has at most one such type.
     ///
     /// Errs as `from_extension_field` does. If the field has no GeoArrow name, it errs with `Arrow` exactly if the
     /// metadata text stands for no metadata, and with `InvalidGeoArrow` if it does and no type is inferred from the

@@ -18,8 +18,8 @@ use std::alloc::{AllocError, Global};
 use std::sync::Arc;
 
 impl GeoArrowType {
-    /// The normal form: the CRS type is dropped if there is neither a CRS value nor edges, since it is not written then.
-    /// Errs only when out of memory, and only if a CRS type is dropped.
+    /// The normal form (docs/FORMAT.md, 1.6): the CRS type is dropped if there is neither a CRS value nor edges, since it
+    /// is not written then. Errs only when out of memory, and only if a CRS type is dropped.
     pub fn normalized(self, alloc: Global) -> Result<GeoArrowType, AllocError>
         ensures kind { IfOk result (λ g. kind_of g ≡ kind_of self) }
         ensures metadata { IfOk result (λ g. meta_of g ≡ normal (meta_of self)) }
@@ -49,10 +49,10 @@ impl GeoArrowType {
         same_kind(self.kind(), other.kind()) && self.metadata().same_written(other.metadata())
     }
 
-    /// The field rewritten in canonical form: it gets the data type and the two extension keys that `to_field` writes
-    /// for the normal form of the type that the field is read as; its name, nullability and other metadata do not
-    /// change. It reads as that normal form, if `serde_json` reads what it printed. `None`, without taking memory, if
-    /// `from_extension_field` returns `None`. Errs as that does, and when out of memory.
+    /// The canonical field of a field (docs/FORMAT.md, 1.7): it gets the data type and the two extension keys that
+    /// `to_field` writes for the normal form of the type that the field is read as; its name, nullability and other
+    /// metadata do not change. It reads as that normal form, if `serde_json` reads what it printed. `None`, without
+    /// taking memory, if `from_extension_field` returns `None`. Errs as that does, and when out of memory.
     ///
     /// ```rust
     /// let metadata = Arc::new(alloc, Metadata::default())?;

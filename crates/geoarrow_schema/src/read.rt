@@ -177,6 +177,8 @@ fn read_kind(
 }
 
 /// The refusal of a field of that name whose data type is of no kind of it.
+#[cold]
+#[inline(never)]
 fn refusal(
     alloc: Global,
     field: &Field,
@@ -203,6 +205,8 @@ fn refusal(
 }
 
 /// The refusal of a field whose data type has that fault: that of its metadata, if it is refused, goes before.
+#[cold]
+#[inline(never)]
 fn structured_refusal(
     alloc: Global,
     field: &Field,

@@ -3,7 +3,7 @@ ghost use Rattle.std.specs.Prelude.{◌≡◌, ◌↔◌, IsTrue};
 
 use crate::refusal::Refusal;
 
-/// A law: `==` is true for two refusals exactly where they are the same.
+/// A law: `==` returns true for two refusals exactly if they are the same.
 pub fn refusal_equality_is_exact(one: Refusal, other: Refusal) -> bool
     ensures { IsTrue result ↔ (one ≡ other) }
 {

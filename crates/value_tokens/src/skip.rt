@@ -9,7 +9,8 @@ use crate::refusal::Refusal;
 use json::{Reader, Token};
 
 /// Passes over a value.
-#[inline]
+#[cold]
+#[inline(never)]
 pub fn skip_value(reader: &mut Reader<'_>, depth: usize) -> Result<(), Refusal>
     ensures ok { OnOk result (after (next_value depth reader.old) ≡ Some reader.new) }
     ensures shorter { OnOk result (length reader.new < length reader.old) }
@@ -22,6 +23,8 @@ pub fn skip_value(reader: &mut Reader<'_>, depth: usize) -> Result<(), Refusal>
 
 /// Passes over what is left of a value whose first token was taken.
 #[cycle(skip)]
+#[cold]
+#[inline(never)]
 pub fn skip_rest(token: Token<'_>, reader: &mut Reader<'_>, depth: usize) -> Result<(), Refusal>
     ensures ok { OnOk result (after (next_value depth (token_of token.entry ∷ reader.old)) ≡ Some reader.new) }
     ensures shorter { OnOk result (length reader.new ≤ length reader.old) }
@@ -52,6 +55,7 @@ pub fn skip_rest(token: Token<'_>, reader: &mut Reader<'_>, depth: usize) -> Res
 
 /// Passes over the items that are left of an array.
 #[cycle(skip)]
+#[cold]
 #[inline(never)]
 pub fn skip_items(reader: &mut Reader<'_>, depth: usize) -> Result<(), Refusal>
     ensures ok { OnOk result (after (next_items depth reader.old) ≡ Some reader.new) }
@@ -68,6 +72,7 @@ pub fn skip_items(reader: &mut Reader<'_>, depth: usize) -> Result<(), Refusal>
 
 /// Passes over the members that are left of an object.
 #[cycle(skip)]
+#[cold]
 #[inline(never)]
 pub fn skip_members(reader: &mut Reader<'_>, depth: usize) -> Result<(), Refusal>
     ensures ok { OnOk result ((found : Members) → after (next_members depth found reader.old) ≡ Some reader.new) }
