@@ -45,6 +45,25 @@ pub(crate) fn take_field(
     }
 }
 
+/// The field that comes next, in a box. Out of line, since a result that holds a field takes much room on the stack, which is
+/// cleared at each call of the function that receives it.
+#[cycle(take)]
+#[inline(never)]
+fn take_boxed(
+    alloc: Global,
+    reader: &mut Reader<'_>,
+    depth: usize,
+) -> Result<Option<Box<Field>>, Refusal>
+    ensures ok { IfOk result (λ o. Reads field_of_value depth reader.old (option_map (λ b. b.value) o) reader.new) }
+    ensures shorter { OnOk result (length reader.new < length reader.old) }
+    ensures text { result ≡ Err Refusal.Text → next_value depth reader.old ≡ None }
+{
+    match take_field(alloc, reader, depth)? {
+        Some(field) => Ok(Some(Box::new(alloc, field)?)),
+        None => Ok(None),
+    }
+}
+
 /// The field of the members that are left of an object.
 #[cycle(take)]
 #[inline(never)]
@@ -156,11 +175,11 @@ fn take_keys(
     };
     match key {
         "list" => match take_only_field(alloc, reader, depth, "list")? {
-            Some(field) => Ok(Some(DataType::List(Box::new(alloc, field)?))),
+            Some(field) => Ok(Some(DataType::List(field))),
             None => Ok(None),
         },
         "large_list" => match take_only_field(alloc, reader, depth, "large_list")? {
-            Some(field) => Ok(Some(DataType::LargeList(Box::new(alloc, field)?))),
+            Some(field) => Ok(Some(DataType::LargeList(field))),
             None => Ok(None),
         },
         "struct" => match take_only_fields(alloc, reader, depth)? {
@@ -184,19 +203,19 @@ fn take_only_field(
     reader: &mut Reader<'_>,
     depth: usize,
     only: &str,
-) -> Result<Option<Field>, Refusal>
-    ensures ok { IfOk result (λ o. ReadsAfter (only_at field_of_value only.now) depth no_members only.now reader.old o reader.new) }
+) -> Result<Option<Box<Field>>, Refusal>
+    ensures ok { IfOk result (λ o. ReadsAfter (only_at field_of_value only.now) depth no_members only.now reader.old (option_map (λ b. b.value) o) reader.new) }
     ensures shorter { OnOk result (length reader.new < length reader.old) }
     ensures text { result ≡ Err Refusal.Text → next_after depth no_members only.now reader.old ≡ None }
 {
-    let mut field = take_field(alloc, reader, depth)?;
+    let mut field = take_boxed(alloc, reader, depth)?;
     'only: while let Some(key) = reader.next_key()? {
         if key != only {
             skip_value(reader, depth)?;
             skip_members(reader, depth)?;
             return Ok(None);
         }
-        field = take_field(alloc, reader, depth)?;
+        field = take_boxed(alloc, reader, depth)?;
     }
     Ok(field)
 }
@@ -242,7 +261,7 @@ fn take_fixed_size_list<'a>(
     'keys: while let Some(key) = next {
         match key {
             "fixed_size_list" => {
-                field = take_field(alloc, reader, depth)?;
+                field = take_boxed(alloc, reader, depth)?;
                 next = reader.next_key()?;
             }
             "size" => {
@@ -257,9 +276,7 @@ fn take_fixed_size_list<'a>(
         }
     }
     match (field, size) {
-        (Some(field), Some(size)) => {
-            Ok(Some(DataType::FixedSizeList(Box::new(alloc, field)?, size)))
-        }
+        (Some(field), Some(size)) => Ok(Some(DataType::FixedSizeList(field, size))),
         _ => Ok(None),
     }
 }

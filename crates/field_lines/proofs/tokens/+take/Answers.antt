@@ -24,22 +24,22 @@ pub take_fixed_size_list-keys-preserved : goal.take_fixed_size_list-keys-preserv
 take_fixed_size_list-keys-preserved t c =
     let l = c.keys in
     let came : option_map (λ s. s.now) l.next ≡ Some (codes "size") = ap (option_map (λ s. s.now)) c.in-Some.is ∙ ap Some c.in-size.is in
-    let way = subst (λ n. AreTwoUnderWay field_of_value size_of_value (codes "fixed_size_list") (codes "size") c.args.depth c.args.first.now c.args.reader.now l.reader n l.field l.size) came l.invariant in
-    second_read field_of_value size_of_value (codes "fixed_size_list") (codes "size") (refl, refl) c.args.depth c.args.first.now c.args.reader.now l.reader l.field l.size c.take_size.new.reader c.next_key-in-size.new.self _ _ way c.in_ok-size-in-size.ensures.ok c.in_ok-next-in-size.ensures.value
+    let way = subst (λ n. AreTwoUnderWay field_of_value size_of_value (codes "fixed_size_list") (codes "size") c.args.depth c.args.first.now c.args.reader.now l.reader n (option_map (λ b. b.value) l.field) l.size) came l.invariant in
+    second_read field_of_value size_of_value (codes "fixed_size_list") (codes "size") (refl, refl) c.args.depth c.args.first.now c.args.reader.now l.reader (option_map (λ b. b.value) l.field) l.size c.take_size.new.reader c.next_key-in-size.new.self _ _ way c.in_ok-size-in-size.ensures.ok c.in_ok-next-in-size.ensures.value
 
 pub take_fixed_size_list-keys-preserved-then-str_eq : goal.take_fixed_size_list-keys-preserved-then-str_eq
 take_fixed_size_list-keys-preserved-then-str_eq t c =
     let l = c.keys in
     let came : option_map (λ s. s.now) l.next ≡ Some (codes "fixed_size_list") = ap (option_map (λ s. s.now)) c.in-Some.is ∙ ap Some c.in-fixed_size_list.is in
-    let way = subst (λ n. AreTwoUnderWay field_of_value size_of_value (codes "fixed_size_list") (codes "size") c.args.depth c.args.first.now c.args.reader.now l.reader n l.field l.size) came l.invariant in
-    first_read field_of_value size_of_value (codes "fixed_size_list") (codes "size") (refl, refl) c.args.depth c.args.first.now c.args.reader.now l.reader l.field l.size c.take_field.new.reader c.next_key.new.self _ _ way c.in_ok-field-in-fixed_size_list.ensures.ok c.in_ok-next-in-fixed_size_list.ensures.value
+    let way = subst (λ n. AreTwoUnderWay field_of_value size_of_value (codes "fixed_size_list") (codes "size") c.args.depth c.args.first.now c.args.reader.now l.reader n (option_map (λ b. b.value) l.field) l.size) came l.invariant in
+    first_read field_of_value size_of_value (codes "fixed_size_list") (codes "size") (refl, refl) c.args.depth c.args.first.now c.args.reader.now l.reader (option_map (λ b. b.value) l.field) l.size c.take_boxed.new.reader c.next_key.new.self _ _ way c.in_ok-field-in-fixed_size_list.ensures.ok c.in_ok-next-in-fixed_size_list.ensures.value
 
 pub take_fixed_size_list-returns-in_default-key-clause-ok : goal.take_fixed_size_list-returns-in_default-key-clause-ok
 take_fixed_size_list-returns-in_default-key-clause-ok t c =
     let l = c.keys in
     let u = c.in-Some.key.now in
     let came : option_map (λ s. s.now) l.next ≡ Some u = ap (option_map (λ s. s.now)) c.in-Some.is in
-    let way = subst (λ n. AreTwoUnderWay field_of_value size_of_value (codes "fixed_size_list") (codes "size") c.args.depth c.args.first.now c.args.reader.now l.reader n l.field l.size) came l.invariant in
+    let way = subst (λ n. AreTwoUnderWay field_of_value size_of_value (codes "fixed_size_list") (codes "size") c.args.depth c.args.first.now c.args.reader.now l.reader n (option_map (λ b. b.value) l.field) l.size) came l.invariant in
     let found = two (codes "fixed_size_list") (codes "size") way.at_first way.at_second in
     let d = after_some (next_value c.args.depth l.reader) c.skip_value.new.reader c.in_ok-skip_value-in_default-key.ensures.ok in
     let ms = after_some (next_members c.args.depth (put u d.0 found) c.skip_value.new.reader) c.skip_members.new.reader (c.in_ok-skip_members-in_default-key.ensures.ok (put u d.0 found)) in (
@@ -52,16 +52,16 @@ pub take_fixed_size_list-returns-in_err-next-in-fixed_size_list-clause-text : go
 take_fixed_size_list-returns-in_err-next-in-fixed_size_list-clause-text t c refused =
     let l = c.keys in
     let came : option_map (λ s. s.now) l.next ≡ Some (codes "fixed_size_list") = ap (option_map (λ s. s.now)) c.in-Some.is ∙ ap Some c.in-fixed_size_list.is in
-    let way = subst (λ n. AreTwoUnderWay field_of_value size_of_value (codes "fixed_size_list") (codes "size") c.args.depth c.args.first.now c.args.reader.now l.reader n l.field l.size) came l.invariant in
+    let way = subst (λ n. AreTwoUnderWay field_of_value size_of_value (codes "fixed_size_list") (codes "size") c.args.depth c.args.first.now c.args.reader.now l.reader n (option_map (λ b. b.value) l.field) l.size) came l.invariant in
     let read = c.in_ok-field-in-fixed_size_list.ensures.ok in
     let found = two (codes "fixed_size_list") (codes "size") way.at_first way.at_second in
-    way.decides ∙ taken c.args.depth found (codes "fixed_size_list") l.reader c.take_field.new.reader read.0 read.1 ∙ key_refused c.args.depth (put (codes "fixed_size_list") read.0 found) c.take_field.new.reader c.in_err-next-in-fixed_size_list.ensures.value
+    way.decides ∙ taken c.args.depth found (codes "fixed_size_list") l.reader c.take_boxed.new.reader read.0 read.1 ∙ key_refused c.args.depth (put (codes "fixed_size_list") read.0 found) c.take_boxed.new.reader c.in_err-next-in-fixed_size_list.ensures.value
 
 pub take_fixed_size_list-returns-in_err-next-in-size-clause-text : goal.take_fixed_size_list-returns-in_err-next-in-size-clause-text
 take_fixed_size_list-returns-in_err-next-in-size-clause-text t c refused =
     let l = c.keys in
     let came : option_map (λ s. s.now) l.next ≡ Some (codes "size") = ap (option_map (λ s. s.now)) c.in-Some.is ∙ ap Some c.in-size.is in
-    let way = subst (λ n. AreTwoUnderWay field_of_value size_of_value (codes "fixed_size_list") (codes "size") c.args.depth c.args.first.now c.args.reader.now l.reader n l.field l.size) came l.invariant in
+    let way = subst (λ n. AreTwoUnderWay field_of_value size_of_value (codes "fixed_size_list") (codes "size") c.args.depth c.args.first.now c.args.reader.now l.reader n (option_map (λ b. b.value) l.field) l.size) came l.invariant in
     let read = c.in_ok-size-in-size.ensures.ok in
     let found = two (codes "fixed_size_list") (codes "size") way.at_first way.at_second in
     way.decides ∙ taken c.args.depth found (codes "size") l.reader c.take_size.new.reader read.0 read.1 ∙ key_refused c.args.depth (put (codes "size") read.0 found) c.take_size.new.reader c.in_err-next-in-size.ensures.value
@@ -225,25 +225,25 @@ take_keys-returns-in_err-skip_value-in_default-key-clause-text t c refused =
     let all = named c.args.depth no_members k c.args.reader.now s came in
     all ∙ none_taken c.args.depth no_members k s (c.skip_value.ensures.text (grind arith))
 
-pub take_keys-returns-in_ok-new-in-Some-2-clause-ok : goal.take_keys-returns-in_ok-new-in-Some-2-clause-ok
-take_keys-returns-in_ok-new-in-Some-2-clause-ok t c =
+pub take_keys-returns-in-Some-2-clause-ok : goal.take_keys-returns-in-Some-2-clause-ok
+take_keys-returns-in-Some-2-clause-ok t c =
     let k = c.in-Some.key.now in
     let s = c.next_key.new.self in
     let came : read_key c.args.reader.now ≡ Some (Some k, s) = grind arith in
     let all = named c.args.depth no_members k c.args.reader.now s came in
-    let read : ReadsAfter (only_at field_of_value (codes "list")) c.args.depth no_members (codes "list") s (Some c.in-Some-2.field) c.take_only_field.new.reader = rw c.in-Some-2.is at c.in_ok-field-in-list.ensures.ok in
+    let read : ReadsAfter (only_at field_of_value (codes "list")) c.args.depth no_members (codes "list") s (Some c.in-Some-2.field.value) c.take_only_field.new.reader = rw c.in-Some-2.is at c.in_ok-field-in-list.ensures.ok in
     let there = has_taken c.args.depth (codes "list") no_members read.0 s c.take_only_field.new.reader read.1 in
-    (read.0, all ∙ ap (λ n. next_after c.args.depth no_members n s) c.in-list.is ∙ read.1, ap (λ f. Some (list_of f)) c.in_ok-new-in-Some-2.ensures.ok ∙ ap (option_map list_of) read.2 ∙ as_list read.0 there)
+    (read.0, all ∙ ap (λ n. next_after c.args.depth no_members n s) c.in-list.is ∙ read.1, ap (option_map list_of) read.2 ∙ as_list read.0 there)
 
-pub take_keys-returns-in_ok-new-in-Some-3-clause-ok : goal.take_keys-returns-in_ok-new-in-Some-3-clause-ok
-take_keys-returns-in_ok-new-in-Some-3-clause-ok t c =
+pub take_keys-returns-in-Some-3-clause-ok : goal.take_keys-returns-in-Some-3-clause-ok
+take_keys-returns-in-Some-3-clause-ok t c =
     let k = c.in-Some.key.now in
     let s = c.next_key.new.self in
     let came : read_key c.args.reader.now ≡ Some (Some k, s) = grind arith in
     let all = named c.args.depth no_members k c.args.reader.now s came in
-    let read : ReadsAfter (only_at field_of_value (codes "large_list")) c.args.depth no_members (codes "large_list") s (Some c.in-Some-3.field) c.take_only_field-in-large_list.new.reader = rw c.in-Some-3.is at c.in_ok-field-in-large_list.ensures.ok in
+    let read : ReadsAfter (only_at field_of_value (codes "large_list")) c.args.depth no_members (codes "large_list") s (Some c.in-Some-3.field.value) c.take_only_field-in-large_list.new.reader = rw c.in-Some-3.is at c.in_ok-field-in-large_list.ensures.ok in
     let there = has_taken c.args.depth (codes "large_list") no_members read.0 s c.take_only_field-in-large_list.new.reader read.1 in
-    (read.0, all ∙ ap (λ n. next_after c.args.depth no_members n s) c.in-large_list.is ∙ read.1, ap (λ f. Some (large_list_of f)) c.in_ok-new-in-Some-3.ensures.ok ∙ ap (option_map large_list_of) read.2 ∙ as_large_list read.0 there)
+    (read.0, all ∙ ap (λ n. next_after c.args.depth no_members n s) c.in-large_list.is ∙ read.1, ap (option_map large_list_of) read.2 ∙ as_large_list read.0 there)
 
 pub take_keys-returns-in_ok-skip_members-in_default-key-clause-ok : goal.take_keys-returns-in_ok-skip_members-in_default-key-clause-ok
 take_keys-returns-in_ok-skip_members-in_default-key-clause-ok t c =
@@ -271,7 +271,7 @@ take_only_field-only-preserved t c =
     let named : read_key l.reader ≡ Some (Some k, s) = grind arith in
     let found = member c.args.only.now l.invariant.value no_members in
     let same : k ≡ c.args.only.now = agrees k c.args.only.now c.ne.result c.ne.ensures c.if-ne.false in
-    only_go_on field_of_value c.args.depth c.args.only.now c.args.reader.now l.reader s _ l.invariant c.take_field-in-Some.new.reader _ (named ∙ ap (λ n. Some (Some n, s)) same) c.in_ok-field-2.ensures.ok
+    only_go_on field_of_value c.args.depth c.args.only.now c.args.reader.now l.reader s _ l.invariant c.take_boxed-in-Some.new.reader _ (named ∙ ap (λ n. Some (Some n, s)) same) c.in_ok-field-2.ensures.ok
 
 pub take_only_field-returns-clause-ok : goal.take_only_field-returns-clause-ok
 take_only_field-returns-clause-ok t c =
@@ -285,7 +285,7 @@ take_only_field-returns-in_err-field-2-clause-text t c refused =
     let s = c.next_key.new.self in
     let named : read_key l.reader ≡ Some (Some k, s) = grind arith in
     let found = member c.args.only.now l.invariant.value no_members in
-    l.invariant.decides ∙ member_refused c.args.depth found k l.reader s named (c.take_field-in-Some.ensures.text (grind arith))
+    l.invariant.decides ∙ member_refused c.args.depth found k l.reader s named (c.take_boxed-in-Some.ensures.text (grind arith))
 
 pub take_only_field-returns-in_err-key-clause-text : goal.take_only_field-returns-in_err-key-clause-text
 take_only_field-returns-in_err-key-clause-text t c refused =

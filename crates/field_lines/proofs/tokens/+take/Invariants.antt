@@ -11,6 +11,9 @@ use Rattle.field_lines.proofs.tokens.+take.Given as goal
 abbrev pub decreases-take_field : goal.decreases-take_field
 decreases-take_field l = 8 * l.depth
 
+abbrev pub decreases-take_boxed : goal.decreases-take_boxed
+decreases-take_boxed l = 8 * l.depth + 1
+
 abbrev pub decreases-take_parts : goal.decreases-take_parts
 decreases-take_parts l = 8 * l.depth + 7
 
@@ -58,7 +61,7 @@ abbrev pub decreases-take_parts-parts : goal.decreases-take_parts-parts
 decreases-take_parts-parts l = length l.reader
 
 abbrev pub invariant-take_only_field-only : goal.invariant-take_only_field-only
-invariant-take_only_field-only l = IsOnlyUnderWay field_of_value l.depth l.only l.fn.reader l.reader l.field
+invariant-take_only_field-only l = IsOnlyUnderWay field_of_value l.depth l.only l.fn.reader l.reader (option_map (λ b. b.value) l.field)
 
 abbrev pub decreases-take_only_field-only : goal.decreases-take_only_field-only
 decreases-take_only_field-only l = length l.reader
@@ -77,7 +80,7 @@ decreases-take_items-items l = length l.reader
 
 abbrev pub invariant-take_fixed_size_list-keys : goal.invariant-take_fixed_size_list-keys
 invariant-take_fixed_size_list-keys l =
-    AreTwoUnderWay field_of_value size_of_value (codes "fixed_size_list") (codes "size") l.depth l.first l.fn.reader l.reader (option_map (λ s. s.now) l.next) l.field l.size
+    AreTwoUnderWay field_of_value size_of_value (codes "fixed_size_list") (codes "size") l.depth l.first l.fn.reader l.reader (option_map (λ s. s.now) l.next) (option_map (λ b. b.value) l.field) l.size
 
 abbrev pub decreases-take_fixed_size_list-keys : goal.decreases-take_fixed_size_list-keys
 decreases-take_fixed_size_list-keys l = length l.reader
