@@ -1,5 +1,5 @@
 //! The words of the answers.
-ghost use Rattle.std.specs.Prelude.{◌≡◌, ◌++◌, IfOk, string_bytes};
+ghost use Rattle.std.specs.Prelude.{◌≡◌, ◌++◌, IfOk, option_map, string_bytes};
 ghost use Rattle.geoarrow_meta.specs.Written.{printed};
 ghost use Rattle.geoarrow_fields.specs.Words.{native_word, kind_word, coord_type_word, dimension_word, metadata_word, type_text, error_text, column_text, inferred_text};
 
@@ -14,7 +14,8 @@ const WORDS_ROOM: usize = 48;
 fn type_behind(alloc: Global, before: &str, found: &GeoArrowType) -> Result<String, AllocError>
     ensures { IfOk result (λ text. string_bytes text ≡ before.now ++ type_text found.now) }
 {
-    let metadata = metadata_word(alloc, found.metadata())?;
+    let written = metadata_text(alloc, found.metadata())?;
+    let metadata = metadata_word(&written);
     let room = metadata.len().saturating_add(WORDS_ROOM);
     let mut text = String::with_capacity(alloc, room)?;
     text.push_str(before)?;
@@ -24,7 +25,7 @@ fn type_behind(alloc: Global, before: &str, found: &GeoArrowType) -> Result<Stri
     text.push_str(" ")?;
     text.push_str(dimension_word(found.dimension()))?;
     text.push_str(" ")?;
-    text.push_str(metadata.as_str())?;
+    text.push_str(metadata)?;
     Ok(text)
 }
 
@@ -69,14 +70,23 @@ pub(crate) fn error_text(fault: ColumnFault) -> &'static str
     }
 }
 
-/// The text of a metadata, or a dash.
-fn metadata_word(alloc: Global, metadata: &Metadata) -> Result<String, AllocError>
-    ensures { IfOk result (λ text. string_bytes text ≡ metadata_word (printed metadata.now)) }
+/// The text of a metadata, if it has one.
+fn metadata_text(alloc: Global, metadata: &Metadata) -> Result<Option<String>, AllocError>
+    ensures { IfOk result (λ text. option_map string_bytes text ≡ printed metadata.now) }
 {
     match metadata.serialize(alloc) {
-        Ok(Some(text)) => Ok(text),
-        Ok(None) => String::from_str(alloc, "-"),
+        Ok(text) => Ok(text),
         Err(_) => Err(AllocError),
+    }
+}
+
+/// The text of a metadata, or a dash.
+fn metadata_word(text: &Option<String>) -> &str
+    ensures { result.now ≡ metadata_word (option_map string_bytes text.now) }
+{
+    match text {
+        Some(text) => text.as_str(),
+        None => "-",
     }
 }
 
