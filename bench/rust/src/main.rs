@@ -198,19 +198,20 @@ fn checks(fields: &[Field], count: u64) -> u64 {
     })
 }
 
+/// The Rust crate has no call with a scratch: `_kept` is the call without one.
 fn count_calls(call: &str, count: u64) -> u64 {
     let named = |name: &str, data_type| field(Some(name), None, data_type);
     match call {
         "point" => reads(&named("geoarrow.point", pair()), count),
-        "wkb" => {
+        "wkb" | "wkb_kept" => {
             let field = field(Some("geoarrow.wkb"), Some(METADATA), DataType::Binary);
             reads(&field, count)
         }
-        "spaced" => {
+        "spaced" | "spaced_kept" => {
             let field = field(Some("geoarrow.wkb"), Some(SPACED), DataType::Binary);
             reads(&field, count)
         }
-        "projjson" => {
+        "projjson" | "projjson_kept" => {
             let field = field(Some("geoarrow.wkb"), Some(PROJJSON), DataType::Binary);
             reads(&field, count)
         }
