@@ -1,6 +1,6 @@
-//! Commands that build data types. Each answers the line of a field `g`, which may be null, of the data type.
+//! Commands that build data types. Each says the line of a field `g`, which may be null, of the data type.
 use crate::layouts::texts::{coord_type, dimension, kind, words};
-use crate::layouts::words::word;
+use crate::words::text as say;
 use arrow_values::{DataType, Field};
 use field_lines::field_line;
 use geoarrow_layout::{
@@ -9,27 +9,32 @@ use geoarrow_layout::{
 };
 use std::alloc::{AllocError, Global};
 
-/// The answer to a text under a command; none where there is no such command here.
-pub fn answer(alloc: Global, command: &str, text: &str) -> Result<Option<String>, AllocError> {
-    match command {
-        "layout" => Ok(Some(layout(alloc, kind(alloc, text)?)?)),
-        "coord_data_type" => {
-            let (first, second) = words(text)?;
-            let data_type = coord_data_type(alloc, coord_type(first)?, dimension(second)?)?;
-            Ok(Some(line(alloc, data_type)?))
-        }
-        "mixed_data_type" => {
-            let (first, second) = words(text)?;
-            let data_type = mixed_data_type(alloc, coord_type(first)?, dimension(second)?)?;
-            Ok(Some(line(alloc, data_type)?))
-        }
-        _ => Ok(None),
-    }
+/// Says the line of a field of the data type.
+fn line(alloc: Global, said: &mut String, data_type: DataType) -> Result<(), AllocError> {
+    say(
+        said,
+        field_line(alloc, &Field::new(alloc, "g", data_type, true)?),
+    )
 }
 
-/// The line of a field of the data type.
-fn line(alloc: Global, data_type: DataType) -> Result<String, AllocError> {
-    field_line(alloc, &Field::new(alloc, "g", data_type, true)?)
+/// Builds coordinates.
+pub fn coords(alloc: Global, said: &mut String, text: &str) -> Result<(), AllocError> {
+    let (first, second) = words(text)?;
+    line(
+        alloc,
+        said,
+        coord_data_type(alloc, coord_type(first)?, dimension(second)?)?,
+    )
+}
+
+/// Builds the union in a collection.
+pub fn mixed(alloc: Global, said: &mut String, text: &str) -> Result<(), AllocError> {
+    let (first, second) = words(text)?;
+    line(
+        alloc,
+        said,
+        mixed_data_type(alloc, coord_type(first)?, dimension(second)?)?,
+    )
 }
 
 /// The data type of a kind, by the builder for its sort.
@@ -45,12 +50,13 @@ fn of_sort(alloc: Global, kind: Kind) -> Result<DataType, AllocError> {
     }
 }
 
-/// The line of that data type; said otherwise where `kind_data_type` builds another.
-fn layout(alloc: Global, kind: Kind) -> Result<String, AllocError> {
+/// Builds the layout of a kind by the builder for its sort; says otherwise where `kind_data_type` builds another.
+pub fn layout(alloc: Global, said: &mut String, text: &str) -> Result<(), AllocError> {
+    let kind = kind(alloc, text)?;
     let data_type = of_sort(alloc, kind)?;
     if kind_data_type(alloc, kind)? == data_type {
-        line(alloc, data_type)
+        line(alloc, said, data_type)
     } else {
-        word(alloc, "kind_data_type builds another")
+        said.push_str("kind_data_type builds another")
     }
 }

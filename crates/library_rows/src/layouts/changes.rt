@@ -1,21 +1,10 @@
 //! Commands that leave out members of unions and join unions.
 use crate::layouts::texts::{data_type, ids, members, parts};
-use crate::layouts::words::{one, word};
+use crate::layouts::words::one;
+use crate::words::name;
 use arrow_values::{AppendFault, DataType, Field, UnionFields, UnionMode};
 use geoarrow_layout::{alike, append_members, keep_members, parse_geometry};
 use std::alloc::{AllocError, Global};
-
-/// The answer to a text under a command; none where there is no such command here.
-pub fn answer(alloc: Global, command: &str, text: &str) -> Result<Option<String>, AllocError> {
-    match command {
-        "keep_members" => Ok(Some(kept(alloc, true, text)?)),
-        "retain_ids" => Ok(Some(kept(alloc, false, text)?)),
-        "append_members" => Ok(Some(joined(alloc, true, text)?)),
-        "append" => Ok(Some(joined(alloc, false, text)?)),
-        "part_and_join" => Ok(Some(parted(alloc, text)?)),
-        _ => Ok(None),
-    }
-}
 
 /// The field of the member of that id.
 fn member(members: &UnionFields, id: i8) -> Option<&Field> {
@@ -37,89 +26,109 @@ fn are_among(members: &UnionFields, first: &UnionFields, second: &UnionFields) -
     true
 }
 
-/// The type ids of members, in order.
-fn said_ids(alloc: Global, members: &UnionFields) -> Result<String, AllocError> {
-    let mut said = String::new(alloc);
+/// Says the type ids of members, in order.
+fn say_ids(said: &mut String, members: &UnionFields) -> Result<(), AllocError> {
     for (id, _) in members.iter() {
-        said.push_str(format!(in alloc; "{id} ")?.as_str())?;
+        write!(said, "{id} ")?;
     }
-    Ok(said)
+    Ok(())
 }
 
-/// The ids of a changed union, and how it is read as one of geometries; said otherwise where a member is none of the two
-/// unions that it came from.
-fn said(
-    alloc: Global,
+/// Says the ids of a changed union, and how it is read as one of geometries; says otherwise where a member is none of the
+/// two unions that it came from.
+fn say(
+    said: &mut String,
     members: UnionFields,
     first: &UnionFields,
     second: &UnionFields,
-) -> Result<String, AllocError> {
+) -> Result<(), AllocError> {
     if !are_among(&members, first, second) {
-        return word(alloc, "another member");
+        return said.push_str("another member");
     }
-    let mut said = said_ids(alloc, &members)?;
-    let union = DataType::Union(members, UnionMode::Dense);
-    said.push_str(one(alloc, parse_geometry(&union))?.as_str())?;
-    Ok(said)
+    say_ids(said, &members)?;
+    one(
+        said,
+        parse_geometry(&DataType::Union(members, UnionMode::Dense)),
+    )
 }
 
 /// Keeps the members of these ids, by the call that speaks of layouts or by the other.
-fn kept(alloc: Global, of_layouts: bool, text: &str) -> Result<String, AllocError> {
+pub fn kept(alloc: Global, said: &mut String, command: &str, text: &str) -> Result<(), AllocError> {
     let (wanted, text) = parts(text)?;
-    let wanted = ids(alloc, wanted)?;
     let whole = members(alloc, text)?;
     let mut union = whole.try_clone(alloc)?;
-    if of_layouts {
+    let wanted = ids(alloc, wanted)?;
+    if command == "keep_members" {
         keep_members(&mut union, wanted.as_slice());
     } else {
         union.retain_ids(wanted.as_slice());
     }
-    said(alloc, union, &whole, &whole)
+    say(said, union, &whole, &whole)
 }
 
 /// Puts the members of the second union after those of the first, by the call that speaks of layouts or by the other. A
 /// fault is said otherwise where one of the two is not as it was.
-fn joined(alloc: Global, of_layouts: bool, text: &str) -> Result<String, AllocError> {
+pub fn joined(
+    alloc: Global,
+    said: &mut String,
+    command: &str,
+    text: &str,
+) -> Result<(), AllocError> {
     let (text, other_text) = parts(text)?;
     let first = members(alloc, text)?;
-    let second = members(alloc, other_text)?;
+    join(alloc, said, command, &first, &members(alloc, other_text)?)
+}
+
+/// Joins clones of two unions.
+fn join(
+    alloc: Global,
+    said: &mut String,
+    command: &str,
+    first: &UnionFields,
+    second: &UnionFields,
+) -> Result<(), AllocError> {
     let mut union = first.try_clone(alloc)?;
     let other = second.try_clone(alloc)?;
-    let joined = if of_layouts {
+    let joined = if command == "append_members" {
         append_members(&mut union, other)
     } else {
         union.append(other)
     };
     match joined {
-        Ok(()) => said(alloc, union, &first, &second),
-        Err((other, fault)) => refused(alloc, fault, union == first && other == second),
+        Ok(()) => say(said, union, first, second),
+        Err((other, fault)) => refused(said, fault, union == *first && other == *second),
     }
 }
 
-/// A refusal to join, and whether both unions are as they were.
-fn refused(alloc: Global, fault: AppendFault, unchanged: bool) -> Result<String, AllocError> {
-    if unchanged {
-        format!(in alloc; "{fault:?}")
+/// Says a refusal to join, and whether both unions are as they were.
+fn refused(said: &mut String, fault: AppendFault, unchanged: bool) -> Result<(), AllocError> {
+    name(said, &fault)?;
+    said.push_str(if unchanged {
+        ""
     } else {
-        format!(in alloc; "{fault:?}, and a union is changed")
-    }
+        ", and a union is changed"
+    })
+}
+
+/// A union with the members of these ids alone.
+fn part(alloc: Global, wanted: &str, mut union: UnionFields) -> Result<UnionFields, AllocError> {
+    keep_members(&mut union, ids(alloc, wanted)?.as_slice());
+    Ok(union)
 }
 
 /// Keeps the members of the first ids in a union and those of the second in a clone, joins the two, and says whether that
 /// is alike to the union as it was.
-fn parted(alloc: Global, text: &str) -> Result<String, AllocError> {
+pub fn parted(alloc: Global, said: &mut String, text: &str) -> Result<(), AllocError> {
     let (wanted, rest) = parts(text)?;
     let (others, text) = parts(rest)?;
-    let mut union = members(alloc, text)?;
-    let mut other = union.try_clone(alloc)?;
-    keep_members(&mut union, ids(alloc, wanted)?.as_slice());
-    keep_members(&mut other, ids(alloc, others)?.as_slice());
+    let union = members(alloc, text)?;
+    let other = part(alloc, others, union.try_clone(alloc)?)?;
+    let mut union = part(alloc, wanted, union)?;
     if append_members(&mut union, other).is_err() {
-        return word(alloc, "refused");
+        return said.push_str("refused");
     }
-    let mut said = said_ids(alloc, &union)?;
+    say_ids(said, &union)?;
     let union = DataType::Union(union, UnionMode::Dense);
     let is_alike = alike(&union, &data_type(alloc, text)?);
-    said.push_str(if is_alike { "alike" } else { "not alike" })?;
-    Ok(said)
+    said.push_str(if is_alike { "alike" } else { "not alike" })
 }

@@ -1,88 +1,85 @@
 //! Commands that read data types.
 use crate::layouts::summaries::summary;
 use crate::layouts::texts::{data_type, name, parts, words};
-use crate::layouts::words::{kind, one, pair, point, word};
+use crate::layouts::words::{one, pair, point};
+use crate::words::{name_or_none, no_command};
 use arrow_values::DataType;
 use geoarrow_layout::{
-    CoordType, Dimension, ExtensionName, LayoutFault, alike, candidates, infer_point, parse_box,
-    parse_geometry, parse_geometry_collection, parse_kind, parse_linestring, parse_mixed,
-    parse_multilinestring, parse_multipoint, parse_multipolygon, parse_native, parse_point,
-    parse_polygon, parse_wkb, parse_wkt, summarize, written_kind,
+    ExtensionName, alike, candidates, infer_point, parse_box, parse_geometry,
+    parse_geometry_collection, parse_kind, parse_linestring, parse_mixed, parse_multilinestring,
+    parse_multipoint, parse_multipolygon, parse_native, parse_point, parse_polygon, parse_wkb,
+    parse_wkt, summarize, written_kind,
 };
 use std::alloc::{AllocError, Global};
 
-/// The answer to a text under a command; none where there is no such command here.
-pub fn answer(alloc: Global, command: &str, text: &str) -> Result<Option<String>, AllocError> {
-    match command {
-        "parse_kind" | "parse_native" | "kind" => Ok(Some(under_name(alloc, command, text)?)),
-        "alike" => Ok(Some(likeness(alloc, text)?)),
-        _ => of_data_type(alloc, command, &data_type(alloc, text)?),
-    }
-}
-
-/// What the reader of that command answers; none where there is no such reader.
-fn reading(
+/// Says what a reader of a coordinate type and a dimension answers about a data type.
+pub fn pair_of_parts(
+    said: &mut String,
     command: &str,
     data_type: &DataType,
-) -> Option<Result<(CoordType, Dimension), LayoutFault>> {
+) -> Result<(), AllocError> {
     match command {
-        "parse_point" => Some(parse_point(data_type)),
-        "parse_linestring" => Some(parse_linestring(data_type)),
-        "parse_polygon" => Some(parse_polygon(data_type)),
-        "parse_multipoint" => Some(parse_multipoint(data_type)),
-        "parse_multilinestring" => Some(parse_multilinestring(data_type)),
-        "parse_multipolygon" => Some(parse_multipolygon(data_type)),
-        "parse_mixed" => Some(parse_mixed(data_type)),
-        "parse_geometry_collection" => Some(parse_geometry_collection(data_type)),
-        _ => None,
+        "parse_point" => pair(said, parse_point(data_type)),
+        "parse_linestring" => pair(said, parse_linestring(data_type)),
+        "parse_polygon" => pair(said, parse_polygon(data_type)),
+        "parse_multipoint" => pair(said, parse_multipoint(data_type)),
+        "parse_multilinestring" => pair(said, parse_multilinestring(data_type)),
+        "parse_multipolygon" => pair(said, parse_multipolygon(data_type)),
+        "parse_mixed" => pair(said, parse_mixed(data_type)),
+        "parse_geometry_collection" => pair(said, parse_geometry_collection(data_type)),
+        _ => no_command(said),
     }
 }
 
-/// The answer about a data type.
-fn of_data_type(
-    alloc: Global,
-    command: &str,
-    data_type: &DataType,
-) -> Result<Option<String>, AllocError> {
-    if let Some(answer) = reading(command, data_type) {
-        return Ok(Some(pair(alloc, answer)?));
+/// Says what a reader of one part answers about a data type, or what another call does.
+pub fn one_part(said: &mut String, command: &str, data_type: &DataType) -> Result<(), AllocError> {
+    match command {
+        "parse_geometry" => one(said, parse_geometry(data_type)),
+        "parse_box" => one(said, parse_box(data_type)),
+        "parse_wkb" => one(said, parse_wkb(data_type)),
+        "parse_wkt" => one(said, parse_wkt(data_type)),
+        "infer_point" => point(said, infer_point(data_type)),
+        "summarize" => summary(said, summarize(data_type)),
+        "candidates" => write!(said, "{:?}", candidates(data_type)),
+        "written_kind" => name_or_none(said, written_kind(data_type)),
+        _ => pair_of_parts(said, command, data_type),
     }
-    let answer = match command {
-        "parse_geometry" => one(alloc, parse_geometry(data_type)),
-        "parse_box" => one(alloc, parse_box(data_type)),
-        "parse_wkb" => one(alloc, parse_wkb(data_type)),
-        "parse_wkt" => one(alloc, parse_wkt(data_type)),
-        "infer_point" => point(alloc, infer_point(data_type)),
-        "summarize" => summary(alloc, summarize(data_type)),
-        "candidates" => format!(in alloc; "{:?}", candidates(data_type)),
-        "written_kind" => kind(alloc, written_kind(data_type)),
-        _ => return Ok(None),
-    };
-    Ok(Some(answer?))
 }
 
-/// The answer about a name, a space and a data type.
-fn under_name(alloc: Global, command: &str, text: &str) -> Result<String, AllocError> {
+/// Says the kind that the summary of a data type has under a name, which stands before it.
+pub fn kind(alloc: Global, said: &mut String, text: &str) -> Result<(), AllocError> {
     let (named, rest) = words(text)?;
-    let data_type = data_type(alloc, rest)?;
-    match command {
-        "kind" => kind(alloc, summarize(&data_type).kind(named)),
-        "parse_kind" => one(alloc, parse_kind(name(named)?, &data_type)),
-        _ => match name(named)? {
-            ExtensionName::Native(native) => pair(alloc, parse_native(native, &data_type)),
-            _ => Err(AllocError),
-        },
+    name_or_none(said, summarize(&data_type(alloc, rest)?).kind(named))
+}
+
+/// Says the kind that a data type is read as under a name, which stands before it.
+pub fn parsed_kind(alloc: Global, said: &mut String, text: &str) -> Result<(), AllocError> {
+    let (named, rest) = words(text)?;
+    one(said, parse_kind(name(named)?, &data_type(alloc, rest)?))
+}
+
+/// Says what the reader of a native type, whose name stands before the data type, answers.
+pub fn parsed_native(alloc: Global, said: &mut String, text: &str) -> Result<(), AllocError> {
+    let (named, rest) = words(text)?;
+    match name(named)? {
+        ExtensionName::Native(native) => pair(said, parse_native(native, &data_type(alloc, rest)?)),
+        _ => Err(AllocError),
     }
 }
 
-/// Whether two data types are alike, asked both ways round.
-fn likeness(alloc: Global, text: &str) -> Result<String, AllocError> {
+/// Says whether two data types are alike, asked both ways round.
+pub fn likeness(alloc: Global, said: &mut String, text: &str) -> Result<(), AllocError> {
     let (first, second) = parts(text)?;
     let first = data_type(alloc, first)?;
     let second = data_type(alloc, second)?;
-    match (alike(&first, &second), alike(&second, &first)) {
-        (true, true) => word(alloc, "alike"),
-        (false, false) => word(alloc, "not alike"),
-        _ => word(alloc, "alike one way round alone"),
+    said.push_str(likeness_of(&first, &second))
+}
+
+/// Whether two data types are alike, in words.
+fn likeness_of(first: &DataType, second: &DataType) -> &'static str {
+    match (alike(first, second), alike(second, first)) {
+        (true, true) => "alike",
+        (false, false) => "not alike",
+        _ => "alike one way round alone",
     }
 }

@@ -1,7 +1,7 @@
 //! Summaries in words, as `2 LargeList Struct 2 all Float64 x y`.
-use crate::layouts::words::word;
-use geoarrow_layout::{Bottom, LayoutFault, Summary};
-use std::alloc::{AllocError, Global};
+use crate::words::name_or_none;
+use geoarrow_layout::{Bottom, Summary};
+use std::alloc::AllocError;
 
 /// The names that a layout goes by, each with its bit, and what stands for any other.
 const NAMES: [(u64, &str); 9] = [
@@ -22,55 +22,48 @@ const COORD_TYPES: [(u64, &str); 2] = [(1, "Interleaved"), (2, "Separated")];
 /// The dimensions, each with its bit.
 const DIMENSIONS: [(u64, &str); 4] = [(1, "XY"), (2, "XYZ"), (4, "XYM"), (8, "XYZM")];
 
-/// The words of the bits that are set, each after a space.
-fn set(alloc: Global, bits: u64, words: &[(u64, &str)]) -> Result<String, AllocError> {
-    let mut said = String::new(alloc);
+/// Says the words of the bits that are set, each after a space.
+fn set(said: &mut String, bits: u64, words: &[(u64, &str)]) -> Result<(), AllocError> {
     for &(bit, word) in words {
         if bits & bit != 0 {
             said.push(' ')?;
             said.push_str(word)?;
         }
     }
-    Ok(said)
+    Ok(())
 }
 
-/// The numbers of the bits that are set, each after a space.
-fn numbers(alloc: Global, bits: u64) -> Result<String, AllocError> {
-    let mut said = String::new(alloc);
+/// Says the numbers of the bits that are set, each after a space.
+fn numbers(said: &mut String, bits: u64) -> Result<(), AllocError> {
     for number in 0..64u32 {
         if bits >> number & 1 != 0 {
-            said.push_str(format!(in alloc; " {number}")?.as_str())?;
+            write!(said, " {number}")?;
         }
     }
-    Ok(said)
+    Ok(())
 }
 
-/// A fault that may be none.
-fn fault(alloc: Global, fault: Option<LayoutFault>) -> Result<String, AllocError> {
-    match fault {
-        Some(fault) => format!(in alloc; "{fault:?}"),
-        None => word(alloc, "none"),
-    }
-}
-
-/// What stands below the lists.
-fn bottom(alloc: Global, bottom: Bottom) -> Result<String, AllocError> {
+/// Says what stands below the lists.
+fn bottom(said: &mut String, bottom: Bottom) -> Result<(), AllocError> {
     match bottom {
         Bottom::FixedSizeList {
             named,
             size,
             float64,
-        } => match named {
-            Some(named) => format!(in alloc; "FixedSizeList {named} {size} {float64}"),
-            None => format!(in alloc; "FixedSizeList - {size} {float64}"),
-        },
+        } => {
+            match named {
+                Some(named) => write!(said, "FixedSizeList {named}")?,
+                None => said.push_str("FixedSizeList -")?,
+            }
+            write!(said, " {size} {float64}")
+        }
         Bottom::Struct {
             count,
             names,
             all_float64,
         } => {
-            let names = set(alloc, u64::from(names), &NAMES)?;
-            format!(in alloc; "Struct {count} {all_float64}{names}")
+            write!(said, "Struct {count} {all_float64}")?;
+            set(said, u64::from(names), &NAMES)
         }
         Bottom::Union {
             no_members,
@@ -80,27 +73,26 @@ fn bottom(alloc: Global, bottom: Bottom) -> Result<String, AllocError> {
             mixed_fault,
             geometry_fault,
         } => {
-            let mut said = format!(in alloc; "Union {no_members}")?;
-            said.push_str(numbers(alloc, ids)?.as_str())?;
-            said.push_str(set(alloc, u64::from(coord_types), &COORD_TYPES)?.as_str())?;
-            said.push_str(set(alloc, u64::from(dimensions), &DIMENSIONS)?.as_str())?;
+            write!(said, "Union {no_members}")?;
+            numbers(said, ids)?;
+            set(said, u64::from(coord_types), &COORD_TYPES)?;
+            set(said, u64::from(dimensions), &DIMENSIONS)?;
             said.push_str(", mixed ")?;
-            said.push_str(fault(alloc, mixed_fault)?.as_str())?;
+            name_or_none(said, mixed_fault)?;
             said.push_str(", geometry ")?;
-            said.push_str(fault(alloc, geometry_fault)?.as_str())?;
-            Ok(said)
+            name_or_none(said, geometry_fault)
         }
-        Bottom::OtherWidth => word(alloc, "OtherWidth"),
-        Bottom::Deep => word(alloc, "Deep"),
-        Bottom::Other => word(alloc, "Other"),
+        Bottom::OtherWidth => said.push_str("OtherWidth"),
+        Bottom::Deep => said.push_str("Deep"),
+        Bottom::Other => said.push_str("Other"),
     }
 }
 
-/// The levels of a summary, their width, and what stands below them.
-pub fn summary(alloc: Global, summary: Summary) -> Result<String, AllocError> {
-    let below = bottom(alloc, summary.bottom)?;
+/// Says the levels of a summary, their width, and what stands below them.
+pub fn summary(said: &mut String, summary: Summary) -> Result<(), AllocError> {
     match summary.width {
-        Some(width) => format!(in alloc; "{} {width:?} {below}", summary.levels),
-        None => format!(in alloc; "{} - {below}", summary.levels),
+        Some(width) => write!(said, "{} {width:?} ", summary.levels)?,
+        None => write!(said, "{} - ", summary.levels)?,
     }
+    bottom(said, summary.bottom)
 }

@@ -1,59 +1,46 @@
 //! Commands about kinds, names, dimensions and faults, which are tables.
-use crate::layouts::texts::{dimension, kind};
-use crate::layouts::words::{one, word};
+use crate::layouts::texts;
+use crate::words;
 use arrow_values::Dimensions;
 use geoarrow_layout::{CoordType, Dimension, ExtensionName, LayoutFault};
 use std::alloc::{AllocError, Global};
 
-/// The answer to a text under a command; none where there is no such command here.
-pub fn answer(alloc: Global, command: &str, text: &str) -> Result<Option<String>, AllocError> {
-    match command {
-        "parts" => Ok(Some(parts(alloc, text)?)),
-        "default" => Ok(Some(default(alloc, text)?)),
-        "name" => Ok(Some(name(alloc, text)?)),
-        "dimensions" => Ok(Some(dimensions(alloc, text)?)),
-        "dimension" => Ok(Some(dimension_of(alloc, text)?)),
-        "error" => Ok(Some(error(alloc, text)?)),
-        _ => Ok(None),
-    }
-}
-
-/// The extension name, the coordinate type and the dimension of a kind.
-fn parts(alloc: Global, text: &str) -> Result<String, AllocError> {
-    let kind = kind(alloc, text)?;
-    let mut said = word(alloc, kind.name())?;
+/// Says the extension name, the coordinate type and the dimension of a kind.
+pub fn parts(alloc: Global, said: &mut String, text: &str) -> Result<(), AllocError> {
+    let kind = texts::kind(alloc, text)?;
+    said.push_str(kind.name())?;
     match kind.coord_type() {
-        Some(coord_type) => said.push_str(format!(in alloc; " {coord_type:?}")?.as_str())?,
+        Some(coord_type) => write!(said, " {coord_type:?}")?,
         None => said.push_str(" -")?,
     }
     match kind.dimension() {
-        Some(dimension) => said.push_str(format!(in alloc; " {dimension}")?.as_str())?,
-        None => said.push_str(" -")?,
+        Some(dimension) => write!(said, " {dimension}"),
+        None => said.push_str(" -"),
     }
-    Ok(said)
 }
 
-/// The coordinate type where none is said.
-fn default(alloc: Global, text: &str) -> Result<String, AllocError> {
+/// Says the coordinate type where none is said.
+pub fn default(said: &mut String, text: &str) -> Result<(), AllocError> {
     match text {
-        "CoordType" => format!(in alloc; "{:?}", CoordType::default()),
+        "CoordType" => words::name(said, &CoordType::default()),
         _ => Err(AllocError),
     }
 }
 
-/// The extension name of a text, and its text.
-fn name(alloc: Global, text: &str) -> Result<String, AllocError> {
+/// Says the extension name of a text, and its text.
+pub fn name(said: &mut String, text: &str) -> Result<(), AllocError> {
     match ExtensionName::from_text(text) {
-        Some(name) => format!(in alloc; "{name:?} {}", name.as_text()),
-        None => word(alloc, "none"),
+        Some(name) => write!(said, "{name:?} {}", name.as_text()),
+        None => said.push_str("none"),
     }
 }
 
-/// The size and the place of a dimension, and geometry traits' dimensions of it, with theirs.
-fn dimensions(alloc: Global, text: &str) -> Result<String, AllocError> {
-    let dimension = dimension(text)?;
+/// Says the size and the place of a dimension, and geometry traits' dimensions of it, with theirs.
+pub fn dimensions(said: &mut String, text: &str) -> Result<(), AllocError> {
+    let dimension = texts::dimension(text)?;
     let dimensions = Dimensions::from(dimension);
-    format!(in alloc;
+    write!(
+        said,
         "{dimension} {} {} {dimensions:?} {}",
         dimension.size(),
         dimension.order(),
@@ -75,11 +62,11 @@ fn dimensions_of(text: &str) -> Result<Dimensions, AllocError> {
     }
 }
 
-/// The dimension that they are, or the error's text.
-fn dimension_of(alloc: Global, text: &str) -> Result<String, AllocError> {
+/// Says the dimension that they are, or the error's text.
+pub fn dimension_of(alloc: Global, said: &mut String, text: &str) -> Result<(), AllocError> {
     match Dimension::try_from_dimensions(alloc, dimensions_of(text)?) {
-        Ok(dimension) => dimension.to_string(alloc),
-        Err(error) => error.to_string(alloc),
+        Ok(dimension) => words::text(said, dimension.to_string(alloc)),
+        Err(error) => words::text(said, error.to_string(alloc)),
     }
 }
 
@@ -98,11 +85,11 @@ const FAULTS: [LayoutFault; 11] = [
     LayoutFault::SeveralDimensions,
 ];
 
-/// A fault as an error of Arrow, by its text.
-fn error(alloc: Global, text: &str) -> Result<String, AllocError> {
+/// Says a fault as an error of Arrow, by its text.
+pub fn error(alloc: Global, said: &mut String, text: &str) -> Result<(), AllocError> {
     for fault in FAULTS.iter() {
         if format!(in alloc; "{fault:?}")?.as_str() == text {
-            return fault.into_arrow_error(alloc).to_string(alloc);
+            return words::text(said, fault.into_arrow_error(alloc).to_string(alloc));
         }
     }
     Err(AllocError)

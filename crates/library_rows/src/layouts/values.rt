@@ -1,29 +1,18 @@
 //! Commands that spell, compare and make values of `arrow_values`.
 use crate::layouts::texts::{ids, parts};
-use crate::layouts::words::word;
+use crate::words;
 use arrow_values::{DataType, Field, Fields, UnionFields};
 use field_lines::field_line;
 use std::alloc::{AllocError, Global};
 use test_fields::notation;
 
-/// The answer to a text under a command; none where there is no such command here.
-pub fn answer(alloc: Global, command: &str, text: &str) -> Result<Option<String>, AllocError> {
-    match command {
-        "spelled" => {
-            let field = notation::spelled(alloc, text)?;
-            Ok(Some(field_line(alloc, &field)?))
-        }
-        "distinct_types" => Ok(Some(distinct::<DataType>(alloc, text)?)),
-        "distinct_fields" => Ok(Some(distinct::<Field>(alloc, text)?)),
-        "distinct_lists" => Ok(Some(distinct::<Fields>(alloc, text)?)),
-        "distinct_members" => Ok(Some(distinct::<UnionFields>(alloc, text)?)),
-        "UnionFields::try_new" => Ok(Some(made(alloc, text)?)),
-        _ => Ok(None),
-    }
+/// Says the line of the field that a text spells.
+pub fn spelled(alloc: Global, said: &mut String, text: &str) -> Result<(), AllocError> {
+    words::text(said, field_line(alloc, &notation::spelled(alloc, text)?))
 }
 
 /// What is compared and cloned.
-trait Compared: PartialEq + Drop {
+pub trait Compared: PartialEq + Drop {
     /// The value that a text spells. Errs also where it spells none.
     fn spelled(alloc: Global, text: &str) -> Result<Self, AllocError>;
 
@@ -53,7 +42,7 @@ impl Compared for Field {
 
 impl Compared for Fields {
     fn spelled(alloc: Global, text: &str) -> Result<Fields, AllocError> {
-        let text = format!(in alloc; "Struct({text})")?;
+        let text = ["Struct(", text, ")"].concat(alloc)?;
         match notation::data_type(alloc, text.as_str())? {
             DataType::Struct(fields) => Ok(fields),
             _ => Err(AllocError),
@@ -81,28 +70,53 @@ fn are_equal<T: Compared>(alloc: Global, text: &str, other: &str) -> Result<bool
     Ok(clone == T::spelled(alloc, other)?)
 }
 
-/// Says whether each of the values with ` ; ` between them is equal to a clone of itself, and to none of the others.
-fn distinct<T: Compared>(alloc: Global, text: &str) -> Result<String, AllocError> {
-    for (at, one) in text.split(" ; ").enumerate() {
-        for (other_at, other) in text.split(" ; ").enumerate() {
-            if are_equal::<T>(alloc, one, other)? != (at == other_at) {
-                return format!(in alloc; "not so: {one} and {other}");
-            }
+/// Whether of the values with ` ; ` between them the one at a place alone is equal to a clone of this one. Says which is not
+/// as it should be.
+fn is_itself_alone<T: Compared>(
+    alloc: Global,
+    said: &mut String,
+    text: &str,
+    at: usize,
+    one: &str,
+) -> Result<bool, AllocError> {
+    for (other_at, other) in text.split(" ; ").enumerate() {
+        if are_equal::<T>(alloc, one, other)? != (at == other_at) {
+            write!(said, "not so: {one} and {other}")?;
+            return Ok(false);
         }
     }
-    word(alloc, "each is equal to itself alone")
+    Ok(true)
 }
 
-/// Makes a union of these ids and of so many fields, and says so, or what the refusal prints.
-fn made(alloc: Global, text: &str) -> Result<String, AllocError> {
-    let (wanted, count) = parts(text)?;
-    let type_ids = ids(alloc, wanted)?;
+/// Says whether each of the values with ` ; ` between them is equal to a clone of itself, and to none of the others.
+pub fn distinct<T: Compared>(
+    alloc: Global,
+    said: &mut String,
+    text: &str,
+) -> Result<(), AllocError> {
+    for (at, one) in text.split(" ; ").enumerate() {
+        if !is_itself_alone::<T>(alloc, said, text, at, one)? {
+            return Ok(());
+        }
+    }
+    said.push_str("each is equal to itself alone")
+}
+
+/// So many fields.
+fn fields(alloc: Global, count: &str) -> Result<Vec<Field>, AllocError> {
     let mut fields = Vec::new(alloc);
     for _ in 0..count.parse::<usize>().map_err(|_| AllocError)? {
         fields.push(notation::spelled(alloc, "m")?)?;
     }
-    match UnionFields::try_new(alloc, type_ids, fields) {
-        Ok(_) => word(alloc, "made"),
-        Err(error) => error.to_string(alloc),
+    Ok(fields)
+}
+
+/// Makes a union of these ids and of so many fields, and says so, or what the refusal prints.
+pub fn made(alloc: Global, said: &mut String, text: &str) -> Result<(), AllocError> {
+    let (wanted, count) = parts(text)?;
+    let type_ids = ids(alloc, wanted)?;
+    match UnionFields::try_new(alloc, type_ids, fields(alloc, count)?) {
+        Ok(_) => said.push_str("made"),
+        Err(error) => words::text(said, error.to_string(alloc)),
     }
 }

@@ -1,47 +1,43 @@
-//! Answers in words: each part by its name, and a fault by its own.
-use geoarrow_layout::{CoordType, Dimension, Kind, LayoutFault};
-use std::alloc::{AllocError, Global};
+//! Answers of readers in words: each part by its name, and a fault by its own.
+use crate::words::name;
+use geoarrow_layout::{CoordType, Dimension, LayoutFault};
+use std::alloc::AllocError;
 use std::fmt::Debug;
 
-/// A text of its own.
-pub fn word(alloc: Global, text: &str) -> Result<String, AllocError> {
-    String::from_str(alloc, text)
-}
-
-/// What a reader of one part answers.
+/// Says what a reader of one part answers.
 pub fn one<T: Debug + Drop>(
-    alloc: Global,
+    said: &mut String,
     answer: Result<T, LayoutFault>,
-) -> Result<String, AllocError> {
+) -> Result<(), AllocError> {
     match answer {
-        Ok(part) => format!(in alloc; "{part:?}"),
-        Err(fault) => format!(in alloc; "{fault:?}"),
+        Ok(part) => name(said, &part),
+        Err(fault) => name(said, &fault),
     }
 }
 
-/// What a reader of a coordinate type and a dimension answers.
+/// Says a coordinate type and a dimension.
+pub fn both(
+    said: &mut String,
+    (coord_type, dimension): (CoordType, Dimension),
+) -> Result<(), AllocError> {
+    write!(said, "{coord_type:?} {dimension:?}")
+}
+
+/// Says what a reader of a coordinate type and a dimension answers.
 pub fn pair(
-    alloc: Global,
+    said: &mut String,
     answer: Result<(CoordType, Dimension), LayoutFault>,
-) -> Result<String, AllocError> {
+) -> Result<(), AllocError> {
     match answer {
-        Ok((coord_type, dimension)) => format!(in alloc; "{coord_type:?} {dimension:?}"),
-        Err(fault) => format!(in alloc; "{fault:?}"),
+        Ok(parts) => both(said, parts),
+        Err(fault) => name(said, &fault),
     }
 }
 
-/// A coordinate type and a dimension that may be none.
-pub fn point(alloc: Global, answer: Option<(CoordType, Dimension)>) -> Result<String, AllocError> {
+/// Says a coordinate type and a dimension that may be none.
+pub fn point(said: &mut String, answer: Option<(CoordType, Dimension)>) -> Result<(), AllocError> {
     match answer {
-        Some((coord_type, dimension)) => format!(in alloc; "{coord_type:?} {dimension:?}"),
-        None => word(alloc, "none"),
-    }
-}
-
-/// A kind that may be none.
-pub fn kind(alloc: Global, answer: Option<Kind>) -> Result<String, AllocError> {
-    match answer {
-        Some(kind) => format!(in alloc; "{kind:?}"),
-        None => word(alloc, "none"),
+        Some(parts) => both(said, parts),
+        None => said.push_str("none"),
     }
 }

@@ -1,91 +1,119 @@
 //! Fields that are read, and types that are written.
 use crate::schema::spelled::{field_of, first_word, halves, tree_of, type_of};
 use crate::schema::words::{error_words, type_words};
+use crate::words;
 use arrow_values::{ArrowError, DataType, Field};
 use field_lines::field_line;
 use geoarrow_schema::GeoArrowType;
 use geoarrow_schema::error::GeoArrowResult;
 use std::alloc::{AllocError, Global};
 
-/// The answers of `from_extension_field`, `try_from_field` and `from_arrow_field` to a field: once where all three are
-/// the same.
-pub fn read(alloc: Global, text: &str) -> Result<String, AllocError> {
+/// Says the answers of `from_extension_field`, `try_from_field` and `from_arrow_field` to a field.
+pub fn read(alloc: Global, said: &mut String, text: &str) -> Result<(), AllocError> {
     let field = field_of(alloc, text)?;
-    let first = read_as(alloc, GeoArrowType::from_extension_field(alloc, &field))?;
-    let rest = read_otherwise(alloc, &field, first.as_str())?;
-    if rest.is_empty() {
-        return Ok(first);
-    }
-    format!(in alloc; "{first}{rest}")
+    read_as(
+        alloc,
+        said,
+        GeoArrowType::from_extension_field(alloc, &field),
+    )?;
+    read_otherwise(alloc, said, &field)
 }
 
-/// The answers of `try_from_field` and `from_arrow_field`, with ` / ` before each; nothing where both are the first one.
-fn read_otherwise(alloc: Global, field: &Field, first: &str) -> Result<String, AllocError> {
-    let second = read_as(alloc, GeoArrowType::try_from_field(alloc, field).map(Some))?;
-    let third = read_as(
+/// Says the answers of `try_from_field` and `from_arrow_field`, with ` / ` before each; nothing where both are what is said.
+fn read_otherwise(alloc: Global, said: &mut String, field: &Field) -> Result<(), AllocError> {
+    let mut second = String::new(alloc);
+    read_as(
         alloc,
+        &mut second,
+        GeoArrowType::try_from_field(alloc, field).map(Some),
+    )?;
+    let mut third = String::new(alloc);
+    read_as(
+        alloc,
+        &mut third,
         GeoArrowType::from_arrow_field(alloc, field).map(Some),
     )?;
-    if second.as_str() == first && third.as_str() == first {
-        return Ok(String::new(alloc));
+    if second == *said && third == *said {
+        return Ok(());
     }
-    format!(in alloc; " / {second} / {third}")
+    write!(said, " / {second} / {third}")
 }
 
-/// What a reading answers.
+/// Says what a reading answers.
 fn read_as(
     alloc: Global,
+    said: &mut String,
     found: GeoArrowResult<Option<GeoArrowType>>,
-) -> Result<String, AllocError> {
+) -> Result<(), AllocError> {
     match found {
-        Ok(Some(found)) => type_words(alloc, &found),
-        Ok(None) => String::from_str(alloc, "none"),
-        Err(error) => error_words(alloc, &error),
+        Ok(Some(found)) => type_words(alloc, said, &found),
+        Ok(None) => said.push_str("none"),
+        Err(error) => error_words(said, &error),
     }
 }
 
-/// The line of a field's canonical field.
-pub fn canonical_field(alloc: Global, text: &str) -> Result<String, AllocError> {
-    let field = field_of(alloc, text)?;
-    match GeoArrowType::canonical_field(alloc, &field) {
-        Ok(Some(canonical)) => field_line(alloc, &canonical),
-        Ok(None) => String::from_str(alloc, "none"),
-        Err(error) => error_words(alloc, &error),
+/// Says the line of a field's canonical field.
+pub fn canonical_field(alloc: Global, said: &mut String, text: &str) -> Result<(), AllocError> {
+    canonical(alloc, said, &field_of(alloc, text)?)
+}
+
+/// Says the line of the canonical field of a field itself.
+fn canonical(alloc: Global, said: &mut String, field: &Field) -> Result<(), AllocError> {
+    match GeoArrowType::canonical_field(alloc, field) {
+        Ok(Some(canonical)) => words::text(said, field_line(alloc, &canonical)),
+        Ok(None) => said.push_str("none"),
+        Err(error) => error_words(said, &error),
     }
 }
 
-/// The line of the field of a type, which has the name that stands before the type and may be null where `?` stands after
+/// Says the line of the field of a type, which has the name that stands before the type and may be null where `?` stands after
 /// that; and of what the type's own call writes, if that is another.
-pub fn to_field(alloc: Global, text: &str) -> Result<String, AllocError> {
+pub fn to_field(alloc: Global, said: &mut String, text: &str) -> Result<(), AllocError> {
     let (name, text) = first_word(text)?;
     let (name, nullable) = match name.strip_suffix('?') {
         Some(name) => (name, true),
         None => (name, false),
     };
-    let one = type_of(alloc, text)?;
-    let written = line_of(alloc, one.to_field(alloc, name, nullable))?;
-    let own = own_field(alloc, &one, name, nullable)?;
-    if own.is_empty() || own == written {
-        return Ok(written);
-    }
-    format!(in alloc; "{written} / {own}")
+    written(alloc, said, &type_of(alloc, text)?, name, nullable)
 }
 
-/// The line of a field that is written.
-fn line_of(alloc: Global, written: Result<Field, ArrowError>) -> Result<String, AllocError> {
+/// Says the line of the field that a type is written as, and of what the type's own call writes, if that is another.
+fn written(
+    alloc: Global,
+    said: &mut String,
+    one: &GeoArrowType,
+    name: &str,
+    nullable: bool,
+) -> Result<(), AllocError> {
+    line_of(alloc, said, one.to_field(alloc, name, nullable))?;
+    let mut own = String::new(alloc);
+    own_field(alloc, &mut own, one, name, nullable)?;
+    if own.is_empty() || own == *said {
+        return Ok(());
+    }
+    write!(said, " / {own}")
+}
+
+/// Says the line of a field that is written.
+fn line_of(
+    alloc: Global,
+    said: &mut String,
+    written: Result<Field, ArrowError>,
+) -> Result<(), AllocError> {
     match written {
-        Ok(field) => field_line(alloc, &field),
+        Ok(field) => words::text(said, field_line(alloc, &field)),
         Err(_) => Err(AllocError),
     }
 }
 
-/// The line of the field that the type in a variant writes by itself; nothing where it has no such call.
+/// Says the line of the field that the type in a variant writes by itself; nothing where it has no such call.
 fn own_field(
     alloc: Global,
+    said: &mut String,
     one: &GeoArrowType,
     name: &str,
     nullable: bool,
-) -> Result<String, AllocError> {
+) -> Result<(), AllocError> {
     let written = match one {
         GeoArrowType::Point(own) => own.to_field(alloc, name, nullable),
         GeoArrowType::LineString(own) => own.to_field(alloc, name, nullable),
@@ -96,24 +124,48 @@ fn own_field(
         GeoArrowType::GeometryCollection(own) => own.to_field(alloc, name, nullable),
         GeoArrowType::Rect(own) => own.to_field(alloc, name, nullable),
         GeoArrowType::Geometry(own) => own.to_field(alloc, name, nullable),
-        _ => return Ok(String::new(alloc)),
+        _ => return Ok(()),
     };
-    line_of(alloc, written)
+    line_of(alloc, said, written)
 }
 
-/// Whether a data type is the one of a type by its own call, if it has one, by `to_data_type` and by `into_data_type`.
-pub fn data_type(alloc: Global, text: &str) -> Result<String, AllocError> {
+/// Says whether a data type is the one of a type by its own call, if it has one, by `to_data_type` and by `into_data_type`.
+pub fn data_type(alloc: Global, said: &mut String, text: &str) -> Result<(), AllocError> {
     let (spelled, tree) = halves(text)?;
-    let tree = tree_of(alloc, tree)?;
     let one = type_of(alloc, spelled)?;
-    let own = has_own(alloc, &one, &tree)?;
-    let lent = one.to_data_type(alloc)? == tree;
-    let given = one.into_data_type(alloc)? == tree;
-    format!(in alloc; "{own} {lent} {given}")
+    built(alloc, said, one, &tree_of(alloc, tree)?)
 }
 
-/// Whether the type in a variant has that data type by itself; a dash where it has no such call.
-fn has_own(alloc: Global, one: &GeoArrowType, tree: &DataType) -> Result<&'static str, AllocError> {
+/// Says the same of the type and the data type themselves.
+fn built(
+    alloc: Global,
+    said: &mut String,
+    one: GeoArrowType,
+    tree: &DataType,
+) -> Result<(), AllocError> {
+    own_data_type(alloc, said, &one, tree)?;
+    said.push(' ')?;
+    is_tree(said, one.to_data_type(alloc), tree)?;
+    said.push(' ')?;
+    is_tree(said, one.into_data_type(alloc), tree)
+}
+
+/// Says whether a data type that is built is the one.
+fn is_tree(
+    said: &mut String,
+    built: Result<DataType, AllocError>,
+    tree: &DataType,
+) -> Result<(), AllocError> {
+    words::truth(said, built? == *tree)
+}
+
+/// Says whether the type in a variant has that data type by itself; a dash where it has no such call.
+fn own_data_type(
+    alloc: Global,
+    said: &mut String,
+    one: &GeoArrowType,
+    tree: &DataType,
+) -> Result<(), AllocError> {
     let built = match one {
         GeoArrowType::Point(own) => own.data_type(alloc),
         GeoArrowType::LineString(own) => own.data_type(alloc),
@@ -124,7 +176,7 @@ fn has_own(alloc: Global, one: &GeoArrowType, tree: &DataType) -> Result<&'stati
         GeoArrowType::GeometryCollection(own) => own.data_type(alloc),
         GeoArrowType::Rect(own) => own.data_type(alloc),
         GeoArrowType::Geometry(own) => own.data_type(alloc),
-        _ => return Ok("-"),
+        _ => return said.push_str("-"),
     };
-    Ok(if built? == *tree { "true" } else { "false" })
+    is_tree(said, built, tree)
 }

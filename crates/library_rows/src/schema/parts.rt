@@ -3,6 +3,8 @@ use crate::schema::spelled::{
     coord_type_of, dimension_of, first_word, halves, metadata_of, type_of,
 };
 use crate::schema::words::type_words;
+use crate::words::truth;
+use geoarrow_schema::GeoArrowType;
 use std::alloc::{AllocError, Global};
 
 /// What becomes of a type.
@@ -20,30 +22,59 @@ pub enum Change {
     Normalized,
 }
 
-/// A type that is changed.
-pub fn changed(alloc: Global, change: Change, text: &str) -> Result<String, AllocError> {
+/// Says a type that is changed.
+pub fn changed(
+    alloc: Global,
+    said: &mut String,
+    change: Change,
+    text: &str,
+) -> Result<(), AllocError> {
     let (word, spelled) = match change {
         Change::FromKind | Change::Normalized => ("", text),
         Change::WithCoordType | Change::WithDimension => first_word(text)?,
         Change::WithMetadata => halves(text)?,
     };
-    let one = type_of(alloc, spelled)?;
-    let found = match change {
-        Change::FromKind => one,
-        Change::WithCoordType => one.with_coord_type(coord_type_of(word)?),
-        Change::WithDimension => one.with_dimension(dimension_of(word)?),
-        Change::WithMetadata => one.with_metadata(metadata_of(alloc, word)?),
-        Change::Normalized => one.normalized(alloc)?,
-    };
-    type_words(alloc, &found)
+    let changed = change_of(alloc, change, word, type_of(alloc, spelled)?)?;
+    type_words(alloc, said, &changed)
 }
 
-/// Whether two types are written alike, and whether their normal forms are equal.
-pub fn same_written(alloc: Global, text: &str) -> Result<String, AllocError> {
+/// What a type is changed to, with what a word spells.
+fn change_of(
+    alloc: Global,
+    change: Change,
+    word: &str,
+    one: GeoArrowType,
+) -> Result<GeoArrowType, AllocError> {
+    match change {
+        Change::FromKind => Ok(one),
+        Change::WithCoordType => Ok(one.with_coord_type(coord_type_of(word)?)),
+        Change::WithDimension => Ok(one.with_dimension(dimension_of(word)?)),
+        Change::WithMetadata => Ok(one.with_metadata(metadata_of(alloc, word)?)),
+        Change::Normalized => one.normalized(alloc),
+    }
+}
+
+/// Says whether two types are written alike, and whether their normal forms are equal.
+pub fn same_written(alloc: Global, said: &mut String, text: &str) -> Result<(), AllocError> {
     let (one, other) = halves(text)?;
+    truth(said, are_written_alike(alloc, one, other)?)?;
+    said.push(' ')?;
+    truth(said, are_normally_equal(alloc, one, other)?)
+}
+
+/// Whether two types are written alike.
+fn are_written_alike(alloc: Global, one: &str, other: &str) -> Result<bool, AllocError> {
     let one = type_of(alloc, one)?;
-    let other = type_of(alloc, other)?;
-    let same = one.same_written(&other);
-    let equal = one.normalized(alloc)? == other.normalized(alloc)?;
-    format!(in alloc; "{same} {equal}")
+    Ok(one.same_written(&type_of(alloc, other)?))
+}
+
+/// The normal form of a type.
+fn normal(alloc: Global, text: &str) -> Result<GeoArrowType, AllocError> {
+    type_of(alloc, text)?.normalized(alloc)
+}
+
+/// Whether the normal forms of two types are equal.
+fn are_normally_equal(alloc: Global, one: &str, other: &str) -> Result<bool, AllocError> {
+    let one = normal(alloc, one)?;
+    Ok(one == normal(alloc, other)?)
 }

@@ -5,33 +5,37 @@ use geoarrow_schema::{
 };
 use std::alloc::{AllocError, Global};
 
-/// A type: its kind, coordinate type, dimension and metadata. It says all that there is of it.
-pub fn type_words(alloc: Global, found: &GeoArrowType) -> Result<String, AllocError> {
+/// Says a type: its kind, coordinate type, dimension and metadata. It says all that there is of it.
+pub fn type_words(
+    alloc: Global,
+    said: &mut String,
+    found: &GeoArrowType,
+) -> Result<(), AllocError> {
     let kind = kind_word(found.kind());
     let coord_type = coord_type_word(found.coord_type());
     let dimension = dimension_word(found.dimension());
-    let metadata = metadata_words(alloc, found.metadata())?;
-    format!(in alloc; "{kind} {coord_type} {dimension} {metadata}")
+    write!(said, "{kind} {coord_type} {dimension} ")?;
+    metadata_words(alloc, said, found.metadata())
 }
 
-/// A metadata: its text; or a dash where it has none, and the CRS type that is there nevertheless.
-fn metadata_words(alloc: Global, metadata: &Metadata) -> Result<String, AllocError> {
+/// Says a metadata: its text; or a dash where it has none, and the CRS type that is there nevertheless.
+fn metadata_words(alloc: Global, said: &mut String, metadata: &Metadata) -> Result<(), AllocError> {
     match (metadata.serialize(alloc), metadata.crs().crs_type()) {
-        (Ok(Some(text)), _) => Ok(text),
-        (Ok(None), None) => String::from_str(alloc, "-"),
-        (Ok(None), Some(lone)) => format!(in alloc; "- {}", lone.as_text()),
+        (Ok(Some(text)), _) => said.push_str(text.as_str()),
+        (Ok(None), None) => said.push_str("-"),
+        (Ok(None), Some(lone)) => write!(said, "- {}", lone.as_text()),
         (Err(_), _) => Err(AllocError),
     }
 }
 
-/// An error: its variant, and all that it prints.
-pub fn error_words(alloc: Global, error: &GeoArrowError) -> Result<String, AllocError> {
+/// Says an error: its variant, and all that it prints.
+pub fn error_words(said: &mut String, error: &GeoArrowError) -> Result<(), AllocError> {
     let variant = match error {
         GeoArrowError::Arrow(_) => "Arrow",
         GeoArrowError::InvalidGeoArrow(_) => "InvalidGeoArrow",
         _ => "another variant",
     };
-    format!(in alloc; "{variant}: {error}")
+    write!(said, "{variant}: {error}")
 }
 
 /// The word of a kind.
