@@ -15,8 +15,8 @@
 //! command where a row is due counts as a wrong row, and so does a row without an answer. Standard input names the files, one
 //! a line.
 //!
-//! A command says its answer at the end of the text that it is passed. So nothing has to be dropped where it fails, and its
-//! proof costs half of that of a command that returns a text.
+//! A command says its answer at the end of a text that it is passed. So there is no text to drop where it fails, and less to
+//! prove.
 #![tactic(auto)]
 
 mod files;

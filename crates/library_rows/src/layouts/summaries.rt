@@ -1,6 +1,6 @@
 //! Summaries in words, as `2 LargeList Struct 2 all Float64 x y`.
 use crate::words::name_or_none;
-use geoarrow_layout::{Bottom, Summary};
+use geoarrow_layout::{Bottom, Dimension, Summary};
 use std::alloc::AllocError;
 
 /// The names that a layout goes by, each with its bit, and what stands for any other.
@@ -43,6 +43,14 @@ fn numbers(said: &mut String, bits: u64) -> Result<(), AllocError> {
     Ok(())
 }
 
+/// Says a fixed size list, and the dimension that its inner field names.
+fn sized(said: &mut String, named: Option<Dimension>) -> Result<(), AllocError> {
+    match named {
+        Some(named) => write!(said, "FixedSizeList {named}"),
+        None => said.push_str("FixedSizeList -"),
+    }
+}
+
 /// Says what stands below the lists.
 fn bottom(said: &mut String, bottom: Bottom) -> Result<(), AllocError> {
     match bottom {
@@ -51,10 +59,7 @@ fn bottom(said: &mut String, bottom: Bottom) -> Result<(), AllocError> {
             size,
             float64,
         } => {
-            match named {
-                Some(named) => write!(said, "FixedSizeList {named}")?,
-                None => said.push_str("FixedSizeList -")?,
-            }
+            sized(said, named)?;
             write!(said, " {size} {float64}")
         }
         Bottom::Struct {
