@@ -1,6 +1,6 @@
 -- What stands below the lists.
-use Rattle.std.proofs.Common.{◌≡◌, ◌<◌, ◌≤◌, inl, inr, ℕ, zero, suc, ◌+◌, refl, sym, subst, arith, add-one, Bool, Option, Some, None, Err}
-use Rattle.arrow_values.specs.Tree.{Text, Metadata, Tree, plain, list, large_list, fixed_size_list, struct, union, FieldTree, MemberTrees}
+use Rattle.std.proofs.Common.{◌≡◌, ◌<◌, ◌≤◌, ◌⊎◌, inl, inr, ℕ, zero, suc, ◌+◌, refl, sym, ap, subst, ◌∙◌, arith, add-one, Bool, Option, Some, None, Err}
+use Rattle.arrow_values.specs.Tree.{Text, Metadata, Tree, list, large_list, FieldTree, MemberTrees}
 use Rattle.geoarrow_layout.specs.declared.kinds.CoordType.{CoordType}
 use Rattle.geoarrow_layout.specs.declared.kinds.Dimension.{Dimension}
 use Rattle.geoarrow_layout.specs.declared.fault.LayoutFault.{LayoutFault}
@@ -9,48 +9,26 @@ use Rattle.geoarrow_layout.specs.declared.summary.ListWidth.TheVariants.{List as
 use Rattle.geoarrow_layout.specs.declared.summary.Bottom.{Bottom}
 use Rattle.geoarrow_layout.specs.declared.summary.Summary.{Summary}
 use Rattle.geoarrow_layout.specs.Shapes.{ListsOver, Levels, Leaf, LeafUnder, Answers}
-use Rattle.geoarrow_layout.specs.Summary.{IsBottom, AreLevels, SummarizesBy}
+use Rattle.geoarrow_layout.specs.Summary.{IsList, IsBottom, AreLevels, SummarizesBy}
 use Rattle.geoarrow_layout.specs.OneShape.{widths_same, levels_same}
 use Rattle.geoarrow_layout.proofs.Readings.{Answer, answers_like}
 
 -- one level more
-pub lists_more : (n : ℕ) (t u : Tree) (nm : Text) (b : Bool) (m : Metadata) → ListsOver Lists n t (list nm u b m) → ListsOver Lists (suc n) t u
-lists_more zero (list n t b m) u nm c k h = cc
-lists_more zero (plain p) u nm c k h = cc
-lists_more zero (large_list n t b m) u nm c k h = cc
-lists_more zero (fixed_size_list n t b m z) u nm c k h = cc
-lists_more zero (struct fs) u nm c k h = cc
-lists_more zero (union ms mode) u nm c k h = cc
-lists_more (suc n) (list x t b m) u nm c k h = lists_more n t u nm c k h
-lists_more (suc n) (plain p) u nm c k h = absurd h
-lists_more (suc n) (large_list x t b m) u nm c k h = absurd h
-lists_more (suc n) (fixed_size_list x t b m z) u nm c k h = absurd h
-lists_more (suc n) (struct fs) u nm c k h = absurd h
-lists_more (suc n) (union ms mode) u nm c k h = absurd h
+abbrev pub list_in : ListWidth → Text → Tree → Bool → Metadata → Tree
+list_in Lists = list
+list_in LargeLists = large_list
 
-pub large_lists_more : (n : ℕ) (t u : Tree) (nm : Text) (b : Bool) (m : Metadata) → ListsOver LargeLists n t (large_list nm u b m) → ListsOver LargeLists (suc n) t u
-large_lists_more zero (large_list n t b m) u nm c k h = cc
-large_lists_more zero (plain p) u nm c k h = cc
-large_lists_more zero (list n t b m) u nm c k h = cc
-large_lists_more zero (fixed_size_list n t b m z) u nm c k h = cc
-large_lists_more zero (struct fs) u nm c k h = cc
-large_lists_more zero (union ms mode) u nm c k h = cc
-large_lists_more (suc n) (large_list x t b m) u nm c k h = large_lists_more n t u nm c k h
-large_lists_more (suc n) (plain p) u nm c k h = absurd h
-large_lists_more (suc n) (list x t b m) u nm c k h = absurd h
-large_lists_more (suc n) (fixed_size_list x t b m z) u nm c k h = absurd h
-large_lists_more (suc n) (struct fs) u nm c k h = absurd h
-large_lists_more (suc n) (union ms mode) u nm c k h = absurd h
+lists_more : (v : ListWidth) (n : ℕ) (t u : Tree) (nm : Text) (b : Bool) (m : Metadata) → ListsOver v n t (list_in v nm u b m) → ListsOver v (suc n) t u
+lists_more Lists zero t u nm b m h = subst (λ x. ListsOver Lists 1 x u) (sym h) refl
+lists_more LargeLists zero t u nm b m h = subst (λ x. ListsOver LargeLists 1 x u) (sym h) refl
+lists_more Lists (suc n) (list x t c k) u nm b m h = lists_more Lists n t u nm b m h
+lists_more LargeLists (suc n) (large_list x t c k) u nm b m h = lists_more LargeLists n t u nm b m h
+lists_more _ (suc n) _ u nm b m h = absurd h
 
-pub more_below : (w : ListWidth) (n : ℕ) (root t u : Tree) (f : FieldTree) → w ≡ Lists → t ≡ list f.name f.tree f.nullable f.metadata → u ≡ f.tree → ListsOver w n root t → ListsOver w (n + 1) root u
-more_below w n root t u f width is inner h =
-    let there : ListsOver Lists n root (list f.name f.tree f.nullable f.metadata) = subst (λ v. ListsOver v n root (list f.name f.tree f.nullable f.metadata)) width (subst (λ x. ListsOver w n root x) is h) in
-    rw (width, inner, add-one) (lists_more n root f.tree f.name f.nullable f.metadata there)
-
-pub more_below_large : (w : ListWidth) (n : ℕ) (root t u : Tree) (f : FieldTree) → w ≡ LargeLists → t ≡ large_list f.name f.tree f.nullable f.metadata → u ≡ f.tree → ListsOver w n root t → ListsOver w (n + 1) root u
-more_below_large w n root t u f width is inner h =
-    let there : ListsOver LargeLists n root (large_list f.name f.tree f.nullable f.metadata) = subst (λ v. ListsOver v n root (large_list f.name f.tree f.nullable f.metadata)) width (subst (λ x. ListsOver w n root x) is h) in
-    rw (width, inner, add-one) (large_lists_more n root f.tree f.name f.nullable f.metadata there)
+pub more_below : (w v : ListWidth) (n : ℕ) (root t u : Tree) (f : FieldTree) → w ≡ v → t ≡ list_in v f.name f.tree f.nullable f.metadata → u ≡ f.tree → ListsOver w n root t → ListsOver w (n + 1) root u
+more_below w v n root t u f width is inner h =
+    let there : ListsOver v n root (list_in v f.name f.tree f.nullable f.metadata) = subst (λ z. ListsOver z n root (list_in v f.name f.tree f.nullable f.metadata)) width (subst (ListsOver w n root) is h) in
+    rw (width, inner, add-one) (lists_more v n root f.tree f.name f.nullable f.metadata there)
 
 -- the trees that are no list
 abbrev pub NotList : Tree → Type 0
@@ -58,88 +36,35 @@ NotList (list n t b m) = ⊥
 NotList (large_list n t b m) = ⊥
 NotList _ = Unit {0}
 
-abbrev IsListOf : ListWidth → Tree → Type 0
-IsListOf v u = (y : Tree) × ListsOver v 1 u y
+-- how many lists of the width a tree begins with
+abbrev top : ListWidth → Tree → ℕ
+top Lists (list n t b m) = suc (top Lists t)
+top LargeLists (large_list n t b m) = suc (top LargeLists t)
+top _ _ = 0
 
-shallow_lists : (w v : ListWidth) (n m : ℕ) (t u x : Tree) → m < n → ListsOver w n t u → ListsOver v m t x → NotList x → ⊥
-shallow_lists w v zero m t u x lt h k no_list = omega arith
-shallow_lists Lists v (suc n) zero (list nm t b a) u x lt h k no_list = let z = subst NotList (sym k) no_list in z
-shallow_lists LargeLists v (suc n) zero (large_list nm t b a) u x lt h k no_list = let z = subst NotList (sym k) no_list in z
-shallow_lists Lists Lists (suc n) (suc m) (list nm t b a) u x lt h k no_list = shallow_lists Lists Lists n m t u x (omega arith) h k no_list
-shallow_lists LargeLists LargeLists (suc n) (suc m) (large_list nm t b a) u x lt h k no_list = shallow_lists LargeLists LargeLists n m t u x (omega arith) h k no_list
-shallow_lists Lists LargeLists (suc n) (suc m) (list nm t b a) u x lt h k no_list = k
-shallow_lists LargeLists Lists (suc n) (suc m) (large_list nm t b a) u x lt h k no_list = k
-shallow_lists Lists v (suc n) m (plain p) u x lt h k no_list = h
-shallow_lists Lists v (suc n) m (large_list nm t b a) u x lt h k no_list = h
-shallow_lists Lists v (suc n) m (fixed_size_list nm t b a z) u x lt h k no_list = h
-shallow_lists Lists v (suc n) m (struct fs) u x lt h k no_list = h
-shallow_lists Lists v (suc n) m (union ms mode) u x lt h k no_list = h
-shallow_lists LargeLists v (suc n) m (plain p) u x lt h k no_list = h
-shallow_lists LargeLists v (suc n) m (list nm t b a) u x lt h k no_list = h
-shallow_lists LargeLists v (suc n) m (fixed_size_list nm t b a z) u x lt h k no_list = h
-shallow_lists LargeLists v (suc n) m (struct fs) u x lt h k no_list = h
-shallow_lists LargeLists v (suc n) m (union ms mode) u x lt h k no_list = h
+over : (w : ListWidth) (n : ℕ) (t u : Tree) → ListsOver w n t u → top w t ≡ n + top w u
+over w zero t u h = let e : top w t ≡ top w u = ap (top w) h in omega arith
+over Lists (suc n) (list nm t b m) u h = let e = over Lists n t u h in omega arith
+over LargeLists (suc n) (large_list nm t b m) u h = let e = over LargeLists n t u h in omega arith
+over _ (suc n) _ u h = absurd h
 
-list_of : (v : ListWidth) (m : ℕ) (t x : Tree) → ListsOver v (suc m) t x → IsListOf v t
-list_of Lists m (list nm t b a) x h = (t, refl)
-list_of LargeLists m (large_list nm t b a) x h = (t, refl)
-list_of Lists m (large_list nm t b a) x h = absurd h
-list_of Lists m (plain p) x h = absurd h
-list_of Lists m (fixed_size_list nm t b a z) x h = absurd h
-list_of Lists m (struct fs) x h = absurd h
-list_of Lists m (union ms mode) x h = absurd h
-list_of LargeLists m (list nm t b a) x h = absurd h
-list_of LargeLists m (plain p) x h = absurd h
-list_of LargeLists m (fixed_size_list nm t b a z) x h = absurd h
-list_of LargeLists m (struct fs) x h = absurd h
-list_of LargeLists m (union ms mode) x h = absurd h
-
-list_there : (v : ListWidth) (n m : ℕ) (t u x : Tree) → n < m → ListsOver v n t u → ListsOver v m t x → IsListOf v u
-list_there v n zero t u x lt h k = absurd (omega arith)
-list_there v zero (suc m) t u x lt h k = subst (IsListOf v) h (list_of v m t x k)
-list_there Lists (suc n) (suc m) (list nm t b a) u x lt h k = list_there Lists n m t u x (omega arith) h k
-list_there LargeLists (suc n) (suc m) (large_list nm t b a) u x lt h k = list_there LargeLists n m t u x (omega arith) h k
-list_there Lists (suc n) (suc m) (large_list nm t b a) u x lt h k = absurd h
-list_there Lists (suc n) (suc m) (plain p) u x lt h k = absurd h
-list_there Lists (suc n) (suc m) (fixed_size_list nm t b a z) u x lt h k = absurd h
-list_there Lists (suc n) (suc m) (struct fs) u x lt h k = absurd h
-list_there Lists (suc n) (suc m) (union ms mode) u x lt h k = absurd h
-list_there LargeLists (suc n) (suc m) (list nm t b a) u x lt h k = absurd h
-list_there LargeLists (suc n) (suc m) (plain p) u x lt h k = absurd h
-list_there LargeLists (suc n) (suc m) (fixed_size_list nm t b a z) u x lt h k = absurd h
-list_there LargeLists (suc n) (suc m) (struct fs) u x lt h k = absurd h
-list_there LargeLists (suc n) (suc m) (union ms mode) u x lt h k = absurd h
+no_top : (w : ListWidth) (t : Tree) → NotList t → top w t ≡ 0
+no_top Lists (list n t b m) h = absurd h
+no_top LargeLists (large_list n t b m) h = absurd h
+no_top _ _ h = refl
 
 -- no list of the width stands below the levels, but at a fourth level
-no_list : (U : ℕ → Bottom → MemberTrees → Type 0) (w v : ListWidth) (n : ℕ) (b : Bottom) (u : Tree) → w ≡ v → n < 3 → IsBottom U (Some w) n b u → IsListOf v u → ⊥
-no_list U Lists Lists n b (list nm t c m) same lt h l = elim h [ inl e ↦ let bad = e.0 in cc | inr e ↦ omega (arith, e.1) ]
-no_list U LargeLists LargeLists n b (large_list nm t c m) same lt h l = elim h [ inl e ↦ let bad = e.0 in cc | inr e ↦ omega (arith, e.1) ]
-no_list U Lists LargeLists n b u same lt h l = cc
-no_list U LargeLists Lists n b u same lt h l = cc
-no_list U Lists Lists n b (large_list nm t c m) same lt h l = l.1
-no_list U Lists Lists n b (plain p) same lt h l = l.1
-no_list U Lists Lists n b (fixed_size_list nm t c m z) same lt h l = l.1
-no_list U Lists Lists n b (struct fs) same lt h l = l.1
-no_list U Lists Lists n b (union ms mode) same lt h l = l.1
-no_list U LargeLists LargeLists n b (list nm t c m) same lt h l = l.1
-no_list U LargeLists LargeLists n b (plain p) same lt h l = l.1
-no_list U LargeLists LargeLists n b (fixed_size_list nm t c m z) same lt h l = l.1
-no_list U LargeLists LargeLists n b (struct fs) same lt h l = l.1
-no_list U LargeLists LargeLists n b (union ms mode) same lt h l = l.1
+no_level : (o : Option ListWidth) (w : ListWidth) (n : ℕ) (b : Bottom) → (o ≡ None) ⊎ ((o ≡ Some w) × (n < 3)) → IsList w o n b → ⊥
+no_level o w n b (inl none) (inl e) = let bad = sym none ∙ e.0 in cc
+no_level o w n b (inl none) (inr e) = let bad = sym none ∙ e.0 in cc
+no_level o Lists n b (inr some) (inl e) = let bad = sym some.0 ∙ e.0 in cc
+no_level o LargeLists n b (inr some) (inl e) = let bad = sym some.0 ∙ e.0 in cc
+no_level o w n b (inr some) (inr e) = omega (arith, some.1, e.1)
 
-no_list_at_root : (U : ℕ → Bottom → MemberTrees → Type 0) (v : ListWidth) (n : ℕ) (b : Bottom) (u : Tree) → IsBottom U None n b u → IsListOf v u → ⊥
-no_list_at_root U Lists n b (list nm t c m) h l = elim h [ inl e ↦ let bad = e.0 in cc | inr e ↦ let bad = e.0 in cc ]
-no_list_at_root U LargeLists n b (large_list nm t c m) h l = elim h [ inl e ↦ let bad = e.0 in cc | inr e ↦ let bad = e.0 in cc ]
-no_list_at_root U Lists n b (large_list nm t c m) h l = l.1
-no_list_at_root U Lists n b (plain p) h l = l.1
-no_list_at_root U Lists n b (fixed_size_list nm t c m z) h l = l.1
-no_list_at_root U Lists n b (struct fs) h l = l.1
-no_list_at_root U Lists n b (union ms mode) h l = l.1
-no_list_at_root U LargeLists n b (list nm t c m) h l = l.1
-no_list_at_root U LargeLists n b (plain p) h l = l.1
-no_list_at_root U LargeLists n b (fixed_size_list nm t c m z) h l = l.1
-no_list_at_root U LargeLists n b (struct fs) h l = l.1
-no_list_at_root U LargeLists n b (union ms mode) h l = l.1
+few_top : (U : ℕ → Bottom → MemberTrees → Type 0) (o : Option ListWidth) (w : ListWidth) (n : ℕ) (b : Bottom) (u : Tree) → (o ≡ None) ⊎ ((o ≡ Some w) × (n < 3)) → IsBottom U o n b u → top w u ≡ 0
+few_top U o Lists n b (list nm t c m) here h = absurd (no_level o Lists n b here h)
+few_top U o LargeLists n b (large_list nm t c m) here h = absurd (no_level o LargeLists n b here h)
+few_top U o _ n b _ here h = refl
 
 -- P holds of what stands below m levels
 abbrev pub Under : (Tree → CoordType → Dimension → Type 0) → ℕ → Tree → CoordType → Dimension → Type 0
@@ -150,15 +75,29 @@ AtNoList P = (u : Tree) (c : CoordType) (d : Dimension) → P u c d → NotList 
 
 pub not_less : (w : Option ListWidth) (n m : ℕ) (t u x : Tree) → AreLevels w n t u → m < n → Levels t m x → NotList x → ⊥
 not_less None n m t u x h lt l apart = omega (arith, h.0)
-not_less (Some w) n m t u x h lt l apart = shallow_lists w l.0 n m t u x lt h.2 l.1 apart
+not_less (Some w) n zero t u x h lt l apart = let none : top w t ≡ 0 = no_top w t (subst NotList (sym l.1) apart) in let all = over w n t u h.2 in omega arith
+not_less (Some w) zero (suc m) t u x h lt l apart = omega arith
+not_less (Some w) (suc n) (suc m) t u x h lt l apart =
+    let same = widths_same w l.0 n m t u x h.2 l.1 in
+    let all = over w (suc n) t u h.2 in
+    let less = over w (suc m) t x (subst (λ v. ListsOver v (suc m) t x) (sym same) l.1) in
+    let none = no_top w x apart in
+    omega arith
 
 pub not_more : (U : ℕ → Bottom → MemberTrees → Type 0) (w : Option ListWidth) (n m : ℕ) (b : Bottom) (t u x : Tree) → AreLevels w n t u → IsBottom U w n b u → n < m → m ≤ 3 → Levels t m x → ⊥
 not_more U w n zero b t u x h bottom lt few l = omega arith
-not_more U None n (suc m) b t u x h bottom lt few l = no_list_at_root U l.0 n b t (subst (λ y. IsBottom U None n b y) (sym h.1) bottom) (list_of l.0 m t x l.1)
+not_more U None n (suc m) b t u x h bottom lt few l =
+    let some = over l.0 (suc m) t x l.1 in
+    let none = few_top U None l.0 n b u (inl refl) bottom in
+    let same : top l.0 t ≡ top l.0 u = ap (top l.0) h.1 in
+    omega arith
 not_more U (Some w) zero (suc m) b t u x h bottom lt few l = omega (arith, h.0)
 not_more U (Some w) (suc n) (suc m) b t u x h bottom lt few l =
     let same = widths_same w l.0 n m t u x h.2 l.1 in
-    no_list U w l.0 (suc n) b u same (omega arith) bottom (list_there l.0 (suc n) (suc m) t u x lt (subst (λ v. ListsOver v (suc n) t u) same h.2) l.1)
+    let some = over w (suc n) t u h.2 in
+    let more = over w (suc m) t x (subst (λ v. ListsOver v (suc m) t x) (sym same) l.1) in
+    let none = few_top U (Some w) w (suc n) b u (inr (refl, omega arith)) bottom in
+    omega arith
 
 pub are_levels : (w : Option ListWidth) (n : ℕ) (t u : Tree) → AreLevels w n t u → Levels t n u
 are_levels None n t u h = (Lists, rw h.0 h.1)
@@ -182,10 +121,7 @@ under_same U P s m r t same h a =
 pub leaf_apart : AtNoList Leaf
 leaf_apart (list n t b m) c d h = h
 leaf_apart (large_list n t b m) c d h = h
-leaf_apart (plain p) c d h = tt
-leaf_apart (fixed_size_list n t b m z) c d h = tt
-leaf_apart (struct fs) c d h = tt
-leaf_apart (union ms mode) c d h = tt
+leaf_apart _ c d h = tt
 
 -- a coordinate below no lists is a coordinate
 pub leaf_alone : (r : Answer) (t : Tree) → Answers r (LeafUnder 0 t) → Answers r (Leaf t)
