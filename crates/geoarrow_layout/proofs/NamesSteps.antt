@@ -1,5 +1,5 @@
--- The kinds that have a structure exclude one another, but for point and box and for kinds of the same lists.
-use Rattle.std.proofs.Common.{◌≡◌, ◌↔◌, inl, inr, ℕ, zero, suc, Bool, true, false, true≢false, Option, Some, None, Result, Ok, Err, IsTrue, refl, sym, ap, subst, ◌∙◌, arith}
+-- The kinds exclude one another, but for point and box and for kinds of the same lists.
+use Rattle.std.proofs.Common.{◌≡◌, ◌↔◌, ◌⊎◌, ◌+◌, inl, inr, ℕ, zero, suc, Bool, true, false, true≢false, Option, Some, None, Result, Ok, Err, IsTrue, refl, sym, ap, ◌∙◌, arith}
 use Rattle.std.specs.Result.{is_ok}
 use Rattle.std.specs.Option.{is_some}
 use Rattle.arrow_values.specs.Tree.{Text, Plain as PlainType, binary, large_binary, binary_view, utf8, large_utf8, utf8_view, Tree, plain, list, large_list, fixed_size_list, struct, union}
@@ -8,250 +8,163 @@ use Rattle.geoarrow_layout.specs.declared.kinds.Dimension.{Dimension}
 use Rattle.geoarrow_layout.specs.declared.fault.LayoutFault.{LayoutFault}
 use Rattle.geoarrow_layout.specs.declared.summary.ListWidth.{ListWidth}
 use Rattle.geoarrow_layout.specs.declared.summary.ListWidth.TheVariants.{List as Lists, LargeList as LargeLists}
+use Rattle.geoarrow_layout.specs.declared.encodings.NativeKind.{NativeKind}
 use Rattle.geoarrow_layout.specs.declared.encodings.NativeKind.TheVariants.{Point, LineString, Polygon, MultiPoint, MultiLineString, MultiPolygon, GeometryCollection}
 use Rattle.geoarrow_layout.specs.declared.encodings.Width.{Width}
-use Rattle.geoarrow_layout.specs.declared.encodings.Width.TheVariants.{Plain, Large, View}
+use Rattle.geoarrow_layout.specs.declared.encodings.Width.TheVariants.{Plain}
 use Rattle.geoarrow_layout.specs.declared.encodings.Kind.{Kind}
 use Rattle.geoarrow_layout.specs.declared.encodings.Kind.TheVariants.{Native as OfNative, Geometry as OfGeometry, Rect as OfRect, Wkb as OfWkb, Wkt as OfWkt}
 use Rattle.geoarrow_layout.specs.declared.candidate_names.Candidates.{Candidates}
 use Rattle.geoarrow_layout.specs.declared.candidate_names.Candidates.TheVariants.{None as NoName, LineStringOrMultiPoint, PolygonOrMultiLineString, PointOrBox}
 use Rattle.geoarrow_layout.specs.Kinds.{native_name, geometry_name, box_name, wkb_name, wkt_name, name_of}
-use Rattle.geoarrow_layout.specs.Shapes.{ListsOver, LeafUnder, Leaf, Mixed, Native, Geometry, BoxShape, Accepted, Accepts, IsStructured, IsBytes, IsText, Answers, AnswersOne}
+use Rattle.geoarrow_layout.specs.Shapes.{ListsOver, levels_of, Leaf, Mixed, Native, Geometry, BoxShape, Accepted, Accepts, IsStructured, IsBytes, IsText, Answers, AnswersOne}
 use Rattle.geoarrow_layout.specs.Candidates.{Holds, IsAccepted, IsAcceptedStructure, IsNative, IsGeometry, IsBox}
 use Rattle.geoarrow_layout.proofs.Readings.{Answer}
 
--- how many lists a tree has
-abbrev lists_of : Tree → ℕ
-lists_of (list n t b m) = suc (lists_of t)
-lists_of (large_list n t b m) = suc (lists_of t)
-lists_of _ = 0
+-- what a tree is at its end: how many lists it has, 4 more above a union, and above numbers of their own for bytes and texts
+abbrev plain_sort : PlainType → ℕ
+plain_sort binary = 6
+plain_sort large_binary = 6
+plain_sort binary_view = 6
+plain_sort utf8 = 7
+plain_sort large_utf8 = 7
+plain_sort utf8_view = 7
+plain_sort _ = 8
 
--- whether a union stands below them
-abbrev has_union : Tree → Bool
-has_union (list n t b m) = has_union t
-has_union (large_list n t b m) = has_union t
-has_union (union ms mode) = true
-has_union _ = false
+abbrev sort_of : Tree → ℕ
+sort_of (list n t b m) = suc (sort_of t)
+sort_of (large_list n t b m) = suc (sort_of t)
+sort_of (union ms mode) = 4
+sort_of (plain p) = plain_sort p
+sort_of _ = 0
 
--- what a kind says of them
-abbrev lists_in : Kind → ℕ
-lists_in (OfNative Point c d) = 0
-lists_in (OfNative LineString c d) = 1
-lists_in (OfNative Polygon c d) = 2
-lists_in (OfNative MultiPoint c d) = 1
-lists_in (OfNative MultiLineString c d) = 2
-lists_in (OfNative MultiPolygon c d) = 3
-lists_in (OfNative GeometryCollection c d) = 1
-lists_in _ = 0
+-- what a kind says of it
+abbrev sort_in : Kind → ℕ
+sort_in (OfNative GeometryCollection c d) = 5
+sort_in (OfNative k c d) = levels_of k
+sort_in (OfGeometry c) = 4
+sort_in (OfRect d) = 0
+sort_in (OfWkb w) = 6
+sort_in (OfWkt w) = 7
 
-abbrev union_in : Kind → Bool
-union_in (OfNative GeometryCollection c d) = true
-union_in (OfGeometry c) = true
-union_in _ = false
+below : (w : ListWidth) (n m : ℕ) (t u : Tree) → ListsOver w n t u → sort_of u ≡ m → sort_of t ≡ n + m
+below w zero m t u h is = let e : sort_of t ≡ sort_of u = ap sort_of h in omega arith
+below Lists (suc n) m (list nm t x a) u h is = let e = below Lists n m t u h is in omega arith
+below LargeLists (suc n) m (large_list nm t x a) u h is = let e = below LargeLists n m t u h is in omega arith
+below _ (suc n) m _ u h is = absurd h
 
-abbrev Sorted : ℕ → Bool → Tree → Type 0
-Sorted n b t = (lists_of t ≡ n) × (has_union t ≡ b)
+leaf_sort : (t : Tree) (c : CoordType) (d : Dimension) → Leaf t c d → sort_of t ≡ 0
+leaf_sort (fixed_size_list n t b m z) c d h = refl
+leaf_sort (struct fs) c d h = refl
+leaf_sort _ c d h = absurd h
 
-below : (w : ListWidth) (n : ℕ) (t u : Tree) (b : Bool) → ListsOver w n t u → Sorted 0 b u → Sorted n b t
-below w zero t u b h s = subst (λ x. Sorted 0 b x) (sym h) s
-below Lists (suc n) (list nm t x m) u b h s = let p = below Lists n t u b h s in (ap (λ k. suc k) p.0, p.1)
-below LargeLists (suc n) (large_list nm t x m) u b h s = let p = below LargeLists n t u b h s in (ap (λ k. suc k) p.0, p.1)
-below _ (suc n) _ u b h s = absurd h
+mixed_sort : (t : Tree) (c : CoordType) (d : Dimension) → Mixed t c d → sort_of t ≡ 4
+mixed_sort (union ms mode) c d h = refl
+mixed_sort _ c d h = absurd h
 
-leaf_sorted : (t : Tree) (c : CoordType) (d : Dimension) → Leaf t c d → Sorted 0 false t
-leaf_sorted (fixed_size_list n t b m z) c d h = (refl, refl)
-leaf_sorted (struct fs) c d h = (refl, refl)
-leaf_sorted (plain p) c d h = absurd h
-leaf_sorted (list n t b m) c d h = absurd h
-leaf_sorted (large_list n t b m) c d h = absurd h
-leaf_sorted (union ms mode) c d h = absurd h
+geometry_sort : (t : Tree) (c : CoordType) → Geometry t c → sort_of t ≡ 4
+geometry_sort (union ms mode) c h = refl
+geometry_sort _ c h = absurd h
 
-mixed_sorted : (t : Tree) (c : CoordType) (d : Dimension) → Mixed t c d → Sorted 0 true t
-mixed_sorted (union ms mode) c d h = (refl, refl)
-mixed_sorted (plain p) c d h = absurd h
-mixed_sorted (list n t b m) c d h = absurd h
-mixed_sorted (large_list n t b m) c d h = absurd h
-mixed_sorted (fixed_size_list n t b m z) c d h = absurd h
-mixed_sorted (struct fs) c d h = absurd h
+box_sort : (t : Tree) (d : Dimension) → BoxShape t d → sort_of t ≡ 0
+box_sort (struct fs) d h = refl
+box_sort _ d h = absurd h
 
-geometry_sorted : (t : Tree) (c : CoordType) → Geometry t c → Sorted 0 true t
-geometry_sorted (union ms mode) c h = (refl, refl)
-geometry_sorted (plain p) c h = absurd h
-geometry_sorted (list n t b m) c h = absurd h
-geometry_sorted (large_list n t b m) c h = absurd h
-geometry_sorted (fixed_size_list n t b m z) c h = absurd h
-geometry_sorted (struct fs) c h = absurd h
+native_sort : (k : NativeKind) (t : Tree) (c : CoordType) (d : Dimension) → Native t k c d → sort_of t ≡ sort_in (OfNative k c d)
+native_sort GeometryCollection t c d h = let e = below h.1.0 1 4 t h.0 h.1.1 (mixed_sort h.0 c d h.2) in omega arith
+native_sort k t c d h = let e = below h.1.0 (levels_of k) 0 t h.0 h.1.1 (leaf_sort h.0 c d h.2) in omega arith
 
-box_sorted : (t : Tree) (d : Dimension) → BoxShape t d → Sorted 0 false t
-box_sorted (struct fs) d h = (refl, refl)
-box_sorted (plain p) d h = absurd h
-box_sorted (list n t b m) d h = absurd h
-box_sorted (large_list n t b m) d h = absurd h
-box_sorted (fixed_size_list n t b m z) d h = absurd h
-box_sorted (union ms mode) d h = absurd h
+sorted : (k : Kind) (t : Tree) → Accepted k t → sort_of t ≡ sort_in k
+sorted (OfNative k c d) t h = native_sort k t c d h
+sorted (OfGeometry c) t h = geometry_sort t c h
+sorted (OfRect d) t h = box_sort t d h
+sorted (OfWkb Plain) t h = ap sort_of h
+sorted (OfWkb _) t h = ap sort_of h
+sorted (OfWkt Plain) t h = ap sort_of h
+sorted (OfWkt _) t h = ap sort_of h
 
-under_sorted : (n : ℕ) (t : Tree) (c : CoordType) (d : Dimension) → LeafUnder n t c d → Sorted n false t
-under_sorted n t c d h = below h.1.0 n t h.0 false h.1.1 (leaf_sorted h.0 c d h.2)
+same_sort : (k l : Kind) (t : Tree) → Accepted k t → Accepted l t → sort_in k ≡ sort_in l
+same_sort k l t h g = sym (sorted k t h) ∙ sorted l t g
 
-sorted : (k : Kind) (t : Tree) → IsStructured k → Accepted k t → Sorted (lists_in k) (union_in k) t
-sorted (OfNative Point c d) t s h = under_sorted 0 t c d h
-sorted (OfNative LineString c d) t s h = under_sorted 1 t c d h
-sorted (OfNative Polygon c d) t s h = under_sorted 2 t c d h
-sorted (OfNative MultiPoint c d) t s h = under_sorted 1 t c d h
-sorted (OfNative MultiLineString c d) t s h = under_sorted 2 t c d h
-sorted (OfNative MultiPolygon c d) t s h = under_sorted 3 t c d h
-sorted (OfNative GeometryCollection c d) t s h = below h.1.0 1 t h.0 true h.1.1 (mixed_sorted h.0 c d h.2)
-sorted (OfGeometry c) t s h = geometry_sorted t c h
-sorted (OfRect d) t s h = box_sorted t d h
-sorted (OfWkb w) t s h = absurd s
-sorted (OfWkt w) t s h = absurd s
+abbrev Names : (Text → Type 0) → Tree → Type 0
+Names H t = (n : Text) → H n ↔ IsAcceptedStructure n t
 
--- kinds of one tree have as many lists, and a union below them or not
-abbrev SameSort : Kind → Kind → Type 0
-SameSort k l = (lists_in k ≡ lists_in l) × (union_in k ≡ union_in l)
+-- the names of a tree that is of two kinds, and of one that is of one kind
+abbrev Either : Kind → Kind → Text → Type 0
+Either j k n = (n ≡ name_of j) ⊎ (n ≡ name_of k)
 
-same_sort : (k l : Kind) (t : Tree) → IsStructured k → Accepted k t → IsStructured l → Accepted l t → SameSort k l
-same_sort k l t s h r g = let p = sorted k t s h in let q = sorted l t r g in (sym p.0 ∙ q.0, sym p.1 ∙ q.1)
-
-abbrev Names : Candidates → Tree → Type 0
-Names r t = (n : Text) → Holds r n ↔ IsAcceptedStructure n t
-
--- the names where the first kind is known
-pub linestring_names : (t : Tree) → IsNative LineString t → Names LineStringOrMultiPoint t
-linestring_names t h n = (
-  (λ e. elim e [ inl x ↦ (OfNative LineString h.0 h.1, (x, h.2), tt) | inr x ↦ (OfNative MultiPoint h.0 h.1, (x, h.2), tt) ]),
-  (λ a. from a.0 a.1.0 (same_sort (OfNative LineString h.0 h.1) a.0 t tt h.2 a.2 a.1.1)),
+two_names : (j k : Kind) (t : Tree) → IsStructured j → Accepted j t → IsStructured k → Accepted k t → ((l : Kind) → sort_in j ≡ sort_in l → Either j k (name_of l)) → Names (Either j k) t
+two_names j k t s h r g only n = (
+  (λ e. elim e [ inl x ↦ (j, (x, h), s) | inr x ↦ (k, (x, g), r) ]),
+  (λ a. elim (only a.0 (same_sort j a.0 t h a.1.1)) [ inl e ↦ inl (a.1.0 ∙ e) | inr e ↦ inr (a.1.0 ∙ e) ]),
 )
+
+alone : (k : Kind) (t : Tree) → IsStructured k → Accepted k t → ((l : Kind) → Accepted l t → sort_in k ≡ sort_in l → name_of l ≡ name_of k) → Names (λ n. n ≡ name_of k) t
+alone k t s h only n = ((λ e. (k, (e, h), s)), (λ a. a.1.0 ∙ only a.0 a.1.1 (same_sort k a.0 t h a.1.1)))
+
+pub linestring_names : (t : Tree) → IsNative LineString t → Names (Holds LineStringOrMultiPoint) t
+linestring_names t h = two_names (OfNative LineString h.0 h.1) (OfNative MultiPoint h.0 h.1) t tt h.2 tt h.2 only
   where
-    from : (k : Kind) → n ≡ name_of k → SameSort (OfNative LineString h.0 h.1) k → Holds LineStringOrMultiPoint n
-    from (OfNative LineString c d) e s = inl e
-    from (OfNative MultiPoint c d) e s = inr e
-    from (OfNative Point c d) e s = absurd (omega (arith, s.0))
-    from (OfNative Polygon c d) e s = absurd (omega (arith, s.0))
-    from (OfNative MultiLineString c d) e s = absurd (omega (arith, s.0))
-    from (OfNative MultiPolygon c d) e s = absurd (omega (arith, s.0))
-    from (OfNative GeometryCollection c d) e s = absurd (true≢false (sym s.1))
-    from (OfGeometry c) e s = absurd (omega (arith, s.0))
-    from (OfRect d) e s = absurd (omega (arith, s.0))
-    from (OfWkb w) e s = absurd (omega (arith, s.0))
-    from (OfWkt w) e s = absurd (omega (arith, s.0))
+    only : (l : Kind) → 1 ≡ sort_in l → Holds LineStringOrMultiPoint (name_of l)
+    only (OfNative LineString c d) s = inl refl
+    only (OfNative MultiPoint c d) s = inr refl
+    only l s = absurd (omega arith)
 
-pub polygon_names : (t : Tree) → IsNative Polygon t → Names PolygonOrMultiLineString t
-polygon_names t h n = (
-  (λ e. elim e [ inl x ↦ (OfNative Polygon h.0 h.1, (x, h.2), tt) | inr x ↦ (OfNative MultiLineString h.0 h.1, (x, h.2), tt) ]),
-  (λ a. from a.0 a.1.0 (same_sort (OfNative Polygon h.0 h.1) a.0 t tt h.2 a.2 a.1.1)),
-)
+pub polygon_names : (t : Tree) → IsNative Polygon t → Names (Holds PolygonOrMultiLineString) t
+polygon_names t h = two_names (OfNative Polygon h.0 h.1) (OfNative MultiLineString h.0 h.1) t tt h.2 tt h.2 only
   where
-    from : (k : Kind) → n ≡ name_of k → SameSort (OfNative Polygon h.0 h.1) k → Holds PolygonOrMultiLineString n
-    from (OfNative Polygon c d) e s = inl e
-    from (OfNative MultiLineString c d) e s = inr e
-    from (OfNative Point c d) e s = absurd (omega (arith, s.0))
-    from (OfNative LineString c d) e s = absurd (omega (arith, s.0))
-    from (OfNative MultiPoint c d) e s = absurd (omega (arith, s.0))
-    from (OfNative MultiPolygon c d) e s = absurd (omega (arith, s.0))
-    from (OfNative GeometryCollection c d) e s = absurd (omega (arith, s.0))
-    from (OfGeometry c) e s = absurd (omega (arith, s.0))
-    from (OfRect d) e s = absurd (omega (arith, s.0))
-    from (OfWkb w) e s = absurd (omega (arith, s.0))
-    from (OfWkt w) e s = absurd (omega (arith, s.0))
+    only : (l : Kind) → 2 ≡ sort_in l → Holds PolygonOrMultiLineString (name_of l)
+    only (OfNative Polygon c d) s = inl refl
+    only (OfNative MultiLineString c d) s = inr refl
+    only l s = absurd (omega arith)
 
--- one name alone
-abbrev Alone : Text → Tree → Type 0
-Alone m t = (n : Text) → (n ≡ m) ↔ IsAcceptedStructure n t
-
-pub multipolygon_alone : (t : Tree) → IsNative MultiPolygon t → Alone (native_name MultiPolygon) t
-multipolygon_alone t h n = (
-  (λ e. (OfNative MultiPolygon h.0 h.1, (e, h.2), tt)),
-  (λ a. from a.0 a.1.0 (same_sort (OfNative MultiPolygon h.0 h.1) a.0 t tt h.2 a.2 a.1.1)),
-)
+pub point_and_box : (t : Tree) → IsNative Point t → IsBox t → Names (Holds PointOrBox) t
+point_and_box t p b = two_names (OfNative Point p.0 p.1) (OfRect b.0) t tt p.2 tt b.1 only
   where
-    from : (k : Kind) → n ≡ name_of k → SameSort (OfNative MultiPolygon h.0 h.1) k → n ≡ native_name MultiPolygon
-    from (OfNative MultiPolygon c d) e s = e
-    from (OfNative Point c d) e s = absurd (omega (arith, s.0))
-    from (OfNative LineString c d) e s = absurd (omega (arith, s.0))
-    from (OfNative Polygon c d) e s = absurd (omega (arith, s.0))
-    from (OfNative MultiPoint c d) e s = absurd (omega (arith, s.0))
-    from (OfNative MultiLineString c d) e s = absurd (omega (arith, s.0))
-    from (OfNative GeometryCollection c d) e s = absurd (omega (arith, s.0))
-    from (OfGeometry c) e s = absurd (omega (arith, s.0))
-    from (OfRect d) e s = absurd (omega (arith, s.0))
-    from (OfWkb w) e s = absurd (omega (arith, s.0))
-    from (OfWkt w) e s = absurd (omega (arith, s.0))
+    only : (l : Kind) → 0 ≡ sort_in l → Holds PointOrBox (name_of l)
+    only (OfNative Point c d) s = inl refl
+    only (OfRect d) s = inr refl
+    only l s = absurd (omega arith)
 
-pub collection_alone : (t : Tree) → IsNative GeometryCollection t → Alone (native_name GeometryCollection) t
-collection_alone t h n = (
-  (λ e. (OfNative GeometryCollection h.0 h.1, (e, h.2), tt)),
-  (λ a. from a.0 a.1.0 (same_sort (OfNative GeometryCollection h.0 h.1) a.0 t tt h.2 a.2 a.1.1)),
-)
+pub box_alone : (t : Tree) → ¬ IsNative Point t → IsBox t → Names (λ n. n ≡ box_name) t
+box_alone t p b = alone (OfRect b.0) t tt b.1 only
   where
-    from : (k : Kind) → n ≡ name_of k → SameSort (OfNative GeometryCollection h.0 h.1) k → n ≡ native_name GeometryCollection
-    from (OfNative GeometryCollection c d) e s = e
-    from (OfNative Point c d) e s = absurd (omega (arith, s.0))
-    from (OfNative LineString c d) e s = absurd (true≢false s.1)
-    from (OfNative Polygon c d) e s = absurd (omega (arith, s.0))
-    from (OfNative MultiPoint c d) e s = absurd (true≢false s.1)
-    from (OfNative MultiLineString c d) e s = absurd (omega (arith, s.0))
-    from (OfNative MultiPolygon c d) e s = absurd (omega (arith, s.0))
-    from (OfGeometry c) e s = absurd (omega (arith, s.0))
-    from (OfRect d) e s = absurd (omega (arith, s.0))
-    from (OfWkb w) e s = absurd (omega (arith, s.0))
-    from (OfWkt w) e s = absurd (omega (arith, s.0))
+    only : (l : Kind) → Accepted l t → 0 ≡ sort_in l → name_of l ≡ box_name
+    only (OfNative Point c d) h s = absurd (p (c, d, h))
+    only (OfRect d) h s = refl
+    only l h s = absurd (omega arith)
 
-pub geometry_alone : (t : Tree) → IsGeometry t → Alone geometry_name t
-geometry_alone t h n = (
-  (λ e. (OfGeometry h.0, (e, h.1), tt)),
-  (λ a. from a.0 a.1.0 (same_sort (OfGeometry h.0) a.0 t tt h.1 a.2 a.1.1)),
-)
+pub point_alone : (t : Tree) → IsNative Point t → ¬ IsBox t → Names (λ n. n ≡ native_name Point) t
+point_alone t p b = alone (OfNative Point p.0 p.1) t tt p.2 only
   where
-    from : (k : Kind) → n ≡ name_of k → SameSort (OfGeometry h.0) k → n ≡ geometry_name
-    from (OfGeometry c) e s = e
-    from (OfNative Point c d) e s = absurd (true≢false s.1)
-    from (OfNative LineString c d) e s = absurd (omega (arith, s.0))
-    from (OfNative Polygon c d) e s = absurd (omega (arith, s.0))
-    from (OfNative MultiPoint c d) e s = absurd (omega (arith, s.0))
-    from (OfNative MultiLineString c d) e s = absurd (omega (arith, s.0))
-    from (OfNative MultiPolygon c d) e s = absurd (omega (arith, s.0))
-    from (OfNative GeometryCollection c d) e s = absurd (omega (arith, s.0))
-    from (OfRect d) e s = absurd (true≢false s.1)
-    from (OfWkb w) e s = absurd (true≢false s.1)
-    from (OfWkt w) e s = absurd (true≢false s.1)
+    only : (l : Kind) → Accepted l t → 0 ≡ sort_in l → name_of l ≡ native_name Point
+    only (OfNative Point c d) h s = refl
+    only (OfRect d) h s = absurd (b (d, h))
+    only l h s = absurd (omega arith)
 
--- at a tree of no lists and no union a kind with a structure is a point or a box
-root_kinds : (n : Text) (t : Tree) (X : Type 0) → ((c : CoordType) (d : Dimension) → n ≡ native_name Point → Native t Point c d → X) → ((d : Dimension) → n ≡ box_name → BoxShape t d → X) → Sorted 0 false t → IsAcceptedStructure n t → X
-root_kinds n t X point box s a = from a.0 a.1.0 a.1.1 a.2 (sorted a.0 t a.2 a.1.1)
+pub multipolygon_alone : (t : Tree) → IsNative MultiPolygon t → Names (λ n. n ≡ native_name MultiPolygon) t
+multipolygon_alone t h = alone (OfNative MultiPolygon h.0 h.1) t tt h.2 (λ l a. only l)
   where
-    from : (k : Kind) → n ≡ name_of k → Accepted k t → IsStructured k → Sorted (lists_in k) (union_in k) t → X
-    from (OfNative Point c d) e h x r = point c d e h
-    from (OfRect d) e h x r = box d e h
-    from (OfNative LineString c d) e h x r = absurd (omega (arith, s.0, r.0))
-    from (OfNative Polygon c d) e h x r = absurd (omega (arith, s.0, r.0))
-    from (OfNative MultiPoint c d) e h x r = absurd (omega (arith, s.0, r.0))
-    from (OfNative MultiLineString c d) e h x r = absurd (omega (arith, s.0, r.0))
-    from (OfNative MultiPolygon c d) e h x r = absurd (omega (arith, s.0, r.0))
-    from (OfNative GeometryCollection c d) e h x r = absurd (omega (arith, s.0, r.0))
-    from (OfGeometry c) e h x r = absurd (true≢false (sym r.1 ∙ s.1))
-    from (OfWkb w) e h x r = absurd x
-    from (OfWkt w) e h x r = absurd x
+    only : (l : Kind) → 3 ≡ sort_in l → name_of l ≡ native_name MultiPolygon
+    only (OfNative MultiPolygon c d) s = refl
+    only l s = absurd (omega arith)
 
-pub point_and_box : (t : Tree) → IsNative Point t → IsBox t → Names PointOrBox t
-point_and_box t p b n = (
-  (λ e. elim e [ inl x ↦ (OfNative Point p.0 p.1, (x, p.2), tt) | inr x ↦ (OfRect b.0, (x, b.1), tt) ]),
-  (λ a. root_kinds n t (Holds PointOrBox n) (λ c d e h. inl e) (λ d e h. inr e) (box_sorted t b.0 b.1) a),
-)
+pub collection_alone : (t : Tree) → IsNative GeometryCollection t → Names (λ n. n ≡ native_name GeometryCollection) t
+collection_alone t h = alone (OfNative GeometryCollection h.0 h.1) t tt h.2 (λ l a. only l)
+  where
+    only : (l : Kind) → 5 ≡ sort_in l → name_of l ≡ native_name GeometryCollection
+    only (OfNative GeometryCollection c d) s = refl
+    only l s = absurd (omega arith)
 
-pub box_alone : (t : Tree) → ¬ IsNative Point t → IsBox t → Alone box_name t
-box_alone t p b n = (
-  (λ e. (OfRect b.0, (e, b.1), tt)),
-  (λ a. root_kinds n t (n ≡ box_name) (λ c d e h. absurd (p (c, d, h))) (λ d e h. e) (box_sorted t b.0 b.1) a),
-)
+pub geometry_alone : (t : Tree) → IsGeometry t → Names (λ n. n ≡ geometry_name) t
+geometry_alone t h = alone (OfGeometry h.0) t tt h.1 (λ l a. only l)
+  where
+    only : (l : Kind) → 4 ≡ sort_in l → name_of l ≡ geometry_name
+    only (OfGeometry c) s = refl
+    only (OfNative Point c d) s = absurd (omega arith)
+    only l s = absurd (omega arith)
 
-pub point_alone : (t : Tree) → IsNative Point t → ¬ IsBox t → Alone (native_name Point) t
-point_alone t p b n = (
-  (λ e. (OfNative Point p.0 p.1, (e, p.2), tt)),
-  (λ a. root_kinds n t (n ≡ native_name Point) (λ c d e h. e) (λ d e h. absurd (b (d, h))) (under_sorted 0 t p.0 p.1 p.2) a),
-)
-
-pub no_names : (t : Tree) → ¬ IsBox t → ¬ IsNative Point t → ¬ IsNative LineString t → ¬ IsNative Polygon t → ¬ IsNative MultiPolygon t → ¬ IsNative GeometryCollection t → ¬ IsGeometry t → Names NoName t
+pub no_names : (t : Tree) → ¬ IsBox t → ¬ IsNative Point t → ¬ IsNative LineString t → ¬ IsNative Polygon t → ¬ IsNative MultiPolygon t → ¬ IsNative GeometryCollection t → ¬ IsGeometry t → Names (Holds NoName) t
 no_names t box point linestring polygon multipolygon collection geometry n = (λ e. absurd e, λ a. from a.0 a.1.1 a.2)
   where
     from : (k : Kind) → Accepted k t → IsStructured k → ⊥
@@ -264,8 +177,7 @@ no_names t box point linestring polygon multipolygon collection geometry n = (λ
     from (OfNative GeometryCollection c d) h s = collection (c, d, h)
     from (OfGeometry c) h s = geometry (c, h)
     from (OfRect d) h s = box (d, h)
-    from (OfWkb w) h s = s
-    from (OfWkt w) h s = s
+    from _ h s = s
 
 -- a test that decides X and fails refutes it
 pub refuted : (r : Bool) (X : Type 0) → IsTrue r ↔ X → r ≡ false → ¬ X
@@ -295,81 +207,32 @@ no_width : (P : Width → Tree → Type 0) (t : Tree) (r : Option Width) (b : Bo
 no_width P t (Some w) b says is h v p = true≢false (sym is ∙ h)
 no_width P t None b says is h v p = let bad = (says v).1 p in cc
 
--- what is stored as bytes or text is stored so alone
-plain_alone : (t : Tree) → lists_of t ≡ 0 → ((c : CoordType) (d : Dimension) → Leaf t c d → ⊥) → ((c : CoordType) → Geometry t c → ⊥) → ((d : Dimension) → BoxShape t d → ⊥) → (k : Kind) → Accepted k t → IsStructured k → ⊥
-plain_alone t none leaf geometry box k h s = from k h s (sorted k t s h)
-  where
-    from : (k : Kind) → Accepted k t → IsStructured k → Sorted (lists_in k) (union_in k) t → ⊥
-    from (OfNative Point c d) h s r = leaf c d (subst (λ x. Leaf x c d) (sym h.1.1) h.2)
-    from (OfNative LineString c d) h s r = omega (arith, r.0, none)
-    from (OfNative Polygon c d) h s r = omega (arith, r.0, none)
-    from (OfNative MultiPoint c d) h s r = omega (arith, r.0, none)
-    from (OfNative MultiLineString c d) h s r = omega (arith, r.0, none)
-    from (OfNative MultiPolygon c d) h s r = omega (arith, r.0, none)
-    from (OfNative GeometryCollection c d) h s r = omega (arith, r.0, none)
-    from (OfGeometry c) h s r = geometry c h
-    from (OfRect d) h s r = box d h
-    from (OfWkb w) h s r = s
-    from (OfWkt w) h s r = s
-
-not_structured : (p : PlainType) (t : Tree) → t ≡ plain p → (k : Kind) → Accepted k t → IsStructured k → ⊥
-not_structured p t is k h s = plain_alone (plain p) refl (λ c d l. l) (λ c g. g) (λ d x. x) k (subst (λ x. Accepted k x) is h) s
-
-bytes_plain : (w : Width) (t : Tree) → IsBytes w t → (p : PlainType) × (t ≡ plain p)
-bytes_plain Plain t h = (binary, h)
-bytes_plain Large t h = (large_binary, h)
-bytes_plain View t h = (binary_view, h)
-
-text_plain : (w : Width) (t : Tree) → IsText w t → (p : PlainType) × (t ≡ plain p)
-text_plain Plain t h = (utf8, h)
-text_plain Large t h = (large_utf8, h)
-text_plain View t h = (utf8_view, h)
-
-bytes_no_text : (w v : Width) (t : Tree) → IsBytes w t → IsText v t → ⊥
-bytes_no_text Plain Plain t h g = cc
-bytes_no_text Plain Large t h g = cc
-bytes_no_text Plain View t h g = cc
-bytes_no_text Large Plain t h g = cc
-bytes_no_text Large Large t h g = cc
-bytes_no_text Large View t h g = cc
-bytes_no_text View Plain t h g = cc
-bytes_no_text View Large t h g = cc
-bytes_no_text View View t h g = cc
+-- what is stored as bytes or as text is stored so alone
+stored_alone : (k : Kind) (t : Tree) → Accepted k t → ((l : Kind) → sort_in k ≡ sort_in l → name_of l ≡ name_of k) → (n : Text) → (n ≡ name_of k) ↔ IsAccepted n t
+stored_alone k t h only n = (λ e. (k, (e, h)), λ a. a.1.0 ∙ only a.0 (same_sort k a.0 t h a.1.1))
 
 pub bytes_alone : (t : Tree) (r : Option Width) (b : Bool) → WidthOf IsBytes r t → b ≡ is_some r → b ≡ true → (n : Text) → (n ≡ wkb_name) ↔ IsAccepted n t
-bytes_alone t r b says is h n =
-    let w = a_width IsBytes t r b says is h in
-    let p = bytes_plain w.0 t w.1 in
-    (λ e. (OfWkb w.0, (e, w.1)), λ a. from w.0 w.1 (not_structured p.0 t p.1) a.0 a.1.0 a.1.1)
+bytes_alone t r b says is h = let w = a_width IsBytes t r b says is h in stored_alone (OfWkb w.0) t w.1 only
   where
-    from : (w : Width) → IsBytes w t → ((k : Kind) → Accepted k t → IsStructured k → ⊥) → (k : Kind) → n ≡ name_of k → Accepted k t → n ≡ wkb_name
-    from w x alone (OfWkb v) e g = e
-    from w x alone (OfWkt v) e g = absurd (bytes_no_text w v t x g)
-    from w x alone (OfNative k c d) e g = absurd (alone (OfNative k c d) g tt)
-    from w x alone (OfGeometry c) e g = absurd (alone (OfGeometry c) g tt)
-    from w x alone (OfRect d) e g = absurd (alone (OfRect d) g tt)
+    only : (l : Kind) → 6 ≡ sort_in l → name_of l ≡ wkb_name
+    only (OfWkb w) s = refl
+    only (OfNative Point c d) s = absurd (omega arith)
+    only l s = absurd (omega arith)
 
 pub text_alone : (t : Tree) (r : Option Width) (b : Bool) → WidthOf IsText r t → b ≡ is_some r → b ≡ true → (n : Text) → (n ≡ wkt_name) ↔ IsAccepted n t
-text_alone t r b says is h n =
-    let w = a_width IsText t r b says is h in
-    let p = text_plain w.0 t w.1 in
-    (λ e. (OfWkt w.0, (e, w.1)), λ a. from w.0 w.1 (not_structured p.0 t p.1) a.0 a.1.0 a.1.1)
+text_alone t r b says is h = let w = a_width IsText t r b says is h in stored_alone (OfWkt w.0) t w.1 only
   where
-    from : (w : Width) → IsText w t → ((k : Kind) → Accepted k t → IsStructured k → ⊥) → (k : Kind) → n ≡ name_of k → Accepted k t → n ≡ wkt_name
-    from w x alone (OfWkt v) e g = e
-    from w x alone (OfWkb v) e g = absurd (bytes_no_text v w t g x)
-    from w x alone (OfNative k c d) e g = absurd (alone (OfNative k c d) g tt)
-    from w x alone (OfGeometry c) e g = absurd (alone (OfGeometry c) g tt)
-    from w x alone (OfRect d) e g = absurd (alone (OfRect d) g tt)
+    only : (l : Kind) → 7 ≡ sort_in l → name_of l ≡ wkt_name
+    only (OfWkt w) s = refl
+    only (OfNative Point c d) s = absurd (omega arith)
+    only l s = absurd (omega arith)
 
 -- what is neither has the names of its structure alone
-pub structures_alone : (t : Tree) (result : Candidates) (r s : Option Width) (b e : Bool) → WidthOf IsBytes r t → b ≡ is_some r → b ≡ false → WidthOf IsText s t → e ≡ is_some s → e ≡ false → Names result t → (n : Text) → Holds result n ↔ IsAccepted n t
+pub structures_alone : (t : Tree) (result : Candidates) (r s : Option Width) (b e : Bool) → WidthOf IsBytes r t → b ≡ is_some r → b ≡ false → WidthOf IsText s t → e ≡ is_some s → e ≡ false → Names (Holds result) t → (n : Text) → Holds result n ↔ IsAccepted n t
 structures_alone t result r s b e says is h says' is' h' names n =
     (λ x. let a = (names n).0 x in (a.0, a.1), λ a. (names n).1 (from a.0 a.1 (no_width IsBytes t r b says is h) (no_width IsText t s e says' is' h')))
   where
     from : (k : Kind) → Accepts n t k → ((w : Width) → IsBytes w t → ⊥) → ((w : Width) → IsText w t → ⊥) → IsAcceptedStructure n t
-    from (OfNative k c d) a bytes text = (OfNative k c d, a, tt)
-    from (OfGeometry c) a bytes text = (OfGeometry c, a, tt)
-    from (OfRect d) a bytes text = (OfRect d, a, tt)
     from (OfWkb w) a bytes text = absurd (bytes w a.1)
     from (OfWkt w) a bytes text = absurd (text w a.1)
+    from k a bytes text = (k, a, tt)
