@@ -10,11 +10,9 @@ pub mod UnionSteps
 pub mod Adds
 pub mod BuildSteps
 pub mod Boxes
-pub mod KindSteps
 pub mod Written
 pub mod OneKind
-pub mod KindReads
-pub mod SameSummary
+pub mod KindSteps
 pub mod Listed
 pub mod Inferences
 pub mod AlikeLaws

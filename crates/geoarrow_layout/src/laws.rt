@@ -46,10 +46,20 @@ pub fn one_kind()
 {}
 
 /// A law: data types of equal summary, other than well-known binary and text, are of the same kinds, however large they
-/// are. There is nothing to run.
+/// are. The summary alone says the kind under each name, so there is no need to run this.
 pub fn read_alike(summary: &Summary)
     ensures { (t u : Tree) → Summarizes summary.now t → Summarizes summary.now u → (name : Text) (k : Kind) → IsStructured k → Accepts name t k ↔ Accepts name u k }
-{}
+{
+    summary.kind("geoarrow.point");
+    summary.kind("geoarrow.linestring");
+    summary.kind("geoarrow.polygon");
+    summary.kind("geoarrow.multipoint");
+    summary.kind("geoarrow.multilinestring");
+    summary.kind("geoarrow.multipolygon");
+    summary.kind("geoarrow.geometrycollection");
+    summary.kind("geoarrow.geometry");
+    summary.kind("geoarrow.box");
+}
 
 /// A law: the members that are written for a collection have type ids of their own, from 0 to 127 and all distinct,
 /// each that of its kind and dimension, and each member's data type is what is written for these. There is nothing to

@@ -1,6 +1,6 @@
 use Rattle.std.proofs.Common.{refl}
 use Rattle.geoarrow_layout.specs.declared.encodings.Kind.TheVariants.{Native}
-use Rattle.geoarrow_layout.proofs.KindReads.{under, kind_found, native_refused}
+use Rattle.geoarrow_layout.proofs.KindSteps.{under, kind_found, native_refused}
 use Rattle.geoarrow_layout.proofs.parse.parse_kind.Goals as goal
 
 pub returns-in-Ok : goal.returns-in-Ok
