@@ -1,19 +1,19 @@
 -- Alike trees are of the same kinds.
 use Rattle.std.proofs.Common.{◌≡◌, ◌↔◌, inl, inr, ℕ, zero, suc, ℤ, List, codes, refl, sym, ap, ◌∙◌, subst}
-use Rattle.arrow_values.specs.Tree.{Text, Tree, plain, list, large_list, fixed_size_list, struct, union, MemberTrees, no_members, member}
+use Rattle.arrow_values.specs.Tree.{Text, Plain, binary, large_binary, binary_view, utf8, large_utf8, utf8_view, Tree, plain, list, large_list, fixed_size_list, struct, union, MemberTrees, no_members, member}
 use Rattle.geoarrow_layout.specs.declared.kinds.CoordType.{CoordType}
 use Rattle.geoarrow_layout.specs.declared.kinds.CoordType.TheVariants.{Interleaved, Separated}
 use Rattle.geoarrow_layout.specs.declared.kinds.Dimension.{Dimension}
 use Rattle.geoarrow_layout.specs.declared.kinds.Dimension.TheVariants.{XY, XYZ, XYM, XYZM}
 use Rattle.geoarrow_layout.specs.declared.encodings.NativeKind.{NativeKind}
-use Rattle.geoarrow_layout.specs.declared.encodings.NativeKind.TheVariants.{Point, LineString, Polygon, MultiPoint, MultiLineString, MultiPolygon, GeometryCollection}
+use Rattle.geoarrow_layout.specs.declared.encodings.NativeKind.TheVariants.{GeometryCollection}
 use Rattle.geoarrow_layout.specs.declared.encodings.Width.{Width}
-use Rattle.geoarrow_layout.specs.declared.encodings.Width.TheVariants.{Plain, Large, View}
+use Rattle.geoarrow_layout.specs.declared.encodings.Width.TheVariants.{Plain as Narrow, Large, View}
 use Rattle.geoarrow_layout.specs.declared.encodings.Kind.{Kind}
 use Rattle.geoarrow_layout.specs.declared.encodings.Kind.TheVariants.{Native as OfNative, Geometry as OfGeometry, Rect as OfRect, Wkb as OfWkb, Wkt as OfWkt}
 use Rattle.geoarrow_layout.specs.declared.summary.ListWidth.{ListWidth}
 use Rattle.geoarrow_layout.specs.declared.summary.ListWidth.TheVariants.{List as Lists, LargeList as LargeLists}
-use Rattle.geoarrow_layout.specs.Shapes.{names_of, SameNames, AllMembers, Leaf, IsSeparatedAs, ListsOver, Levels, OverLeaf, Member, Mixed, HasMembers, Collection, Native, GeometryMember, Geometry, HaveBoth, IsBoxAs, BoxShape, IsBytes, IsText, Accepted, Accepts}
+use Rattle.geoarrow_layout.specs.Shapes.{names_of, SameNames, AllMembers, Leaf, IsSeparatedAs, ListsOver, Levels, levels_of, OverLeaf, Member, Mixed, HasMembers, Collection, Native, GeometryMember, Geometry, HaveBoth, IsBoxAs, BoxShape, IsBytes, IsText, Accepted, Accepts}
 use Rattle.geoarrow_layout.specs.Alike.{AlikeNames, Alike, EachHasAlike, HasAlike}
 use Rattle.geoarrow_layout.proofs.UnionSteps.{all_map}
 use Rattle.geoarrow_layout.proofs.AlikeLaws.{alike_sym, has_any, any_all, any_out}
@@ -47,12 +47,10 @@ alike_leaf : (t u : Tree) (c : CoordType) (d : Dimension) → Alike t u → Leaf
 alike_leaf (fixed_size_list n t b m s) (fixed_size_list o u e k r) Interleaved d h l = (sym h.0 ∙ l.0, sym h.1 ∙ l.1)
 alike_leaf (struct fs) (struct gs) Separated d h l = alike_separated (names_of fs) (names_of gs) d h l
 alike_leaf (fixed_size_list n t b m s) _ Separated d h l = absurd l
+alike_leaf (fixed_size_list n t b m s) _ Interleaved d h l = absurd h
 alike_leaf (struct fs) _ Interleaved d h l = absurd l
-alike_leaf (plain p) _ c d h l = absurd l
-alike_leaf (list n t b m) _ c d h l = absurd l
-alike_leaf (large_list n t b m) _ c d h l = absurd l
-alike_leaf (union ms mode) _ c d h l = absurd l
-alike_leaf _ _ c d h l = absurd h
+alike_leaf (struct fs) _ Separated d h l = absurd h
+alike_leaf _ _ c d h l = absurd l
 
 -- lists: what is below them is alike too
 alike_lists : (w : ListWidth) (n : ℕ) (t u x : Tree) → Alike t u → ListsOver w n t x → (y : Tree) × ListsOver w n u y × Alike x y
@@ -73,13 +71,8 @@ alike_below P moves n t u c d h l =
     (y.0, (l.1.0, y.1), moves l.0 y.0 c d y.2 l.2)
 
 alike_over : (k : NativeKind) (t u : Tree) (c : CoordType) (d : Dimension) → Alike t u → OverLeaf t k c d → OverLeaf u k c d
-alike_over Point t u c d h l = alike_below Leaf alike_leaf 0 t u c d h l
-alike_over LineString t u c d h l = alike_below Leaf alike_leaf 1 t u c d h l
-alike_over Polygon t u c d h l = alike_below Leaf alike_leaf 2 t u c d h l
-alike_over MultiPoint t u c d h l = alike_below Leaf alike_leaf 1 t u c d h l
-alike_over MultiLineString t u c d h l = alike_below Leaf alike_leaf 2 t u c d h l
-alike_over MultiPolygon t u c d h l = alike_below Leaf alike_leaf 3 t u c d h l
 alike_over GeometryCollection t u c d h l = absurd l
+alike_over k t u c d h l = alike_below Leaf alike_leaf (levels_of k) t u c d h l
 
 -- unions: a word that alike trees share, said of each member
 abbrev Shared : (ℤ → Tree → Type 0) → Type 0
@@ -102,11 +95,7 @@ member_shared c d i t u h m = (m.0, m.1, alike_over m.0 t u c d h m.2)
 alike_mixed : (t u : Tree) (c : CoordType) (d : Dimension) → Alike t u → Mixed t c d → Mixed u c d
 alike_mixed (union ms mode) (union ns mode') c d h l = (alike_some ms ns h.0 l.0, alike_all (λ i t. Member i t c d) (member_shared c d) ms ns h.1 l.1)
 alike_mixed (union ms mode) _ c d h l = absurd h
-alike_mixed (plain p) _ c d h l = absurd l
-alike_mixed (list n t b m) _ c d h l = absurd l
-alike_mixed (large_list n t b m) _ c d h l = absurd l
-alike_mixed (fixed_size_list n t b m z) _ c d h l = absurd l
-alike_mixed (struct fs) _ c d h l = absurd l
+alike_mixed _ _ c d h l = absurd l
 
 alike_collection : (t u : Tree) (c : CoordType) (d : Dimension) → Alike t u → Collection t c d → Collection u c d
 alike_collection = alike_below Mixed alike_mixed 1
@@ -118,51 +107,28 @@ geometry_shared c i t u h m =
 alike_geometry : (t u : Tree) (c : CoordType) → Alike t u → Geometry t c → Geometry u c
 alike_geometry (union ms mode) (union ns mode') c h l = (alike_some ms ns h.0 l.0, alike_all (GeometryMember c) (geometry_shared c) ms ns h.1 l.1)
 alike_geometry (union ms mode) _ c h l = absurd h
-alike_geometry (plain p) _ c h l = absurd l
-alike_geometry (list n t b m) _ c h l = absurd l
-alike_geometry (large_list n t b m) _ c h l = absurd l
-alike_geometry (fixed_size_list n t b m z) _ c h l = absurd l
-alike_geometry (struct fs) _ c h l = absurd l
+alike_geometry _ _ c h l = absurd l
 
 -- kinds
 alike_native : (k : NativeKind) (t u : Tree) (c : CoordType) (d : Dimension) → Alike t u → Native t k c d → Native u k c d
-alike_native Point t u c d h l = alike_over Point t u c d h l
-alike_native LineString t u c d h l = alike_over LineString t u c d h l
-alike_native Polygon t u c d h l = alike_over Polygon t u c d h l
-alike_native MultiPoint t u c d h l = alike_over MultiPoint t u c d h l
-alike_native MultiLineString t u c d h l = alike_over MultiLineString t u c d h l
-alike_native MultiPolygon t u c d h l = alike_over MultiPolygon t u c d h l
 alike_native GeometryCollection t u c d h l = alike_collection t u c d h l
+alike_native k t u c d h l = alike_over k t u c d h l
 
 alike_boxes : (t u : Tree) (d : Dimension) → Alike t u → BoxShape t d → BoxShape u d
 alike_boxes (struct fs) (struct gs) d h l = alike_box (names_of fs) (names_of gs) d h l
 alike_boxes (struct fs) _ d h l = absurd h
-alike_boxes (plain p) _ d h l = absurd l
-alike_boxes (list n t b m) _ d h l = absurd l
-alike_boxes (large_list n t b m) _ d h l = absurd l
-alike_boxes (fixed_size_list n t b m z) _ d h l = absurd l
-alike_boxes (union ms mode) _ d h l = absurd l
+alike_boxes _ _ d h l = absurd l
+
+-- only a plain data type is that of well-known binary or text, and it is alike to itself alone
+plain_same : (p : Plain) (t u : Tree) → t ≡ plain p → Alike t u → u ≡ plain p
+plain_same p (plain q) (plain r) e h = ap (λ x. plain x) (sym h) ∙ e
+plain_same p (plain q) _ e h = absurd h
+plain_same p _ u e h = cc
 
 plain_only : (t u : Tree) → Alike t u → (w : Width) → (IsBytes w t → IsBytes w u) × (IsText w t → IsText w u)
-plain_only (plain p) (plain q) h Plain = (λ e. ap (λ x. plain x) (sym h) ∙ e, λ e. ap (λ x. plain x) (sym h) ∙ e)
-plain_only (plain p) (plain q) h Large = (λ e. ap (λ x. plain x) (sym h) ∙ e, λ e. ap (λ x. plain x) (sym h) ∙ e)
-plain_only (plain p) (plain q) h View = (λ e. ap (λ x. plain x) (sym h) ∙ e, λ e. ap (λ x. plain x) (sym h) ∙ e)
-plain_only (plain p) _ h w = absurd h
-plain_only (list n t b m) u h Plain = (λ e. cc, λ e. cc)
-plain_only (list n t b m) u h Large = (λ e. cc, λ e. cc)
-plain_only (list n t b m) u h View = (λ e. cc, λ e. cc)
-plain_only (large_list n t b m) u h Plain = (λ e. cc, λ e. cc)
-plain_only (large_list n t b m) u h Large = (λ e. cc, λ e. cc)
-plain_only (large_list n t b m) u h View = (λ e. cc, λ e. cc)
-plain_only (fixed_size_list n t b m z) u h Plain = (λ e. cc, λ e. cc)
-plain_only (fixed_size_list n t b m z) u h Large = (λ e. cc, λ e. cc)
-plain_only (fixed_size_list n t b m z) u h View = (λ e. cc, λ e. cc)
-plain_only (struct fs) u h Plain = (λ e. cc, λ e. cc)
-plain_only (struct fs) u h Large = (λ e. cc, λ e. cc)
-plain_only (struct fs) u h View = (λ e. cc, λ e. cc)
-plain_only (union ms mode) u h Plain = (λ e. cc, λ e. cc)
-plain_only (union ms mode) u h Large = (λ e. cc, λ e. cc)
-plain_only (union ms mode) u h View = (λ e. cc, λ e. cc)
+plain_only t u h Narrow = (λ e. plain_same binary t u e h, λ e. plain_same utf8 t u e h)
+plain_only t u h Large = (λ e. plain_same large_binary t u e h, λ e. plain_same large_utf8 t u e h)
+plain_only t u h View = (λ e. plain_same binary_view t u e h, λ e. plain_same utf8_view t u e h)
 
 alike_accepted : (k : Kind) (t u : Tree) → Alike t u → Accepted k t → Accepted k u
 alike_accepted (OfNative k c d) t u h a = alike_native k t u c d h a

@@ -67,12 +67,9 @@ without count bits f six no_m no_z = λ ns same is d. (λ e. let bad : no_dimens
     none ns XYZ count6 is h = not_both (has_bit bits 4) (has_bit bits 5) no_z (has_at _ 4 bits ns (omega arith) refl refl is ∙ h.2.0, has_at _ 5 bits ns (omega arith) refl refl is ∙ h.2.1)
 
 pub box_apart : (t : Tree) (d : Dimension) → BoxShape t d → NotList t
-box_apart (struct fs) d h = tt
-box_apart (union ms mode) d h = tt
 box_apart (list n t b m) d h = h
 box_apart (large_list n t b m) d h = h
-box_apart (plain p) d h = tt
-box_apart (fixed_size_list n t b m z) d h = tt
+box_apart _ d h = tt
 
 pub box_below : (s : Summary) (f : LayoutFault) (t : Tree) → 0 < s.levels → Summarizes s t → AnswersOne (Err f) (BoxShape t)
 box_below s f t some h = λ d. (λ e. let bad : no_dimension f ≡ ok_dimension d = e in cc, λ g. absurd (below_root s t some h (box_apart t d g)))

@@ -71,40 +71,19 @@ kind_of (union ms mode) = Geometry (first_coords ms).0
 
 leaf_coords : (c : CoordType) (d : Dimension) → coords (leaf_layout c d) ≡ (c, d)
 leaf_coords Interleaved XY = refl
-leaf_coords Interleaved XYZ = refl
-leaf_coords Interleaved XYM = refl
-leaf_coords Interleaved XYZM = refl
 leaf_coords Separated XY = refl
-leaf_coords Separated XYZ = refl
-leaf_coords Separated XYM = refl
-leaf_coords Separated XYZM = refl
+leaf_coords c d = refl
 
 kind_back : (k : Kind) → kind_of (layout k) ≡ k
 kind_back (Native Point Interleaved XY) = refl
-kind_back (Native Point Interleaved XYZ) = refl
-kind_back (Native Point Interleaved XYM) = refl
-kind_back (Native Point Interleaved XYZM) = refl
 kind_back (Native Point Separated XY) = refl
-kind_back (Native Point Separated XYZ) = refl
-kind_back (Native Point Separated XYM) = refl
-kind_back (Native Point Separated XYZM) = refl
-kind_back (Native LineString c d) = ap (native_of LineString) (leaf_coords c d)
-kind_back (Native Polygon c d) = ap (native_of Polygon) (leaf_coords c d)
-kind_back (Native MultiPoint c d) = ap (native_of MultiPoint) (leaf_coords c d)
-kind_back (Native MultiLineString c d) = ap (native_of MultiLineString) (leaf_coords c d)
-kind_back (Native MultiPolygon c d) = ap (native_of MultiPolygon) (leaf_coords c d)
-kind_back (Native GeometryCollection c d) = ap (native_of GeometryCollection) (leaf_coords c d)
+kind_back (Native Point c d) = refl
+kind_back (Native k c d) = ap (native_of k) (leaf_coords c d)
 kind_back (Geometry c) = ap (λ p. Geometry p.0) (leaf_coords c XY)
 kind_back (Rect XY) = refl
-kind_back (Rect XYZ) = refl
-kind_back (Rect XYM) = refl
-kind_back (Rect XYZM) = refl
 kind_back (Wkb Plain) = refl
-kind_back (Wkb Large) = refl
-kind_back (Wkb View) = refl
 kind_back (Wkt Plain) = refl
-kind_back (Wkt Large) = refl
-kind_back (Wkt View) = refl
+kind_back _ = refl
 
 pub layouts_are_distinct : (j k : Kind) → layout j ≡ layout k → j ≡ k
 layouts_are_distinct j k h = sym (kind_back j) ∙ ap kind_of h ∙ kind_back k

@@ -33,10 +33,7 @@ no_pair = None
 inferred_apart : (t : Tree) (c : CoordType) (d : Dimension) → Inferred t c d → NotList t
 inferred_apart (list n t b m) c d h = h
 inferred_apart (large_list n t b m) c d h = h
-inferred_apart (plain p) c d h = tt
-inferred_apart (fixed_size_list n t b m z) c d h = tt
-inferred_apart (struct fs) c d h = tt
-inferred_apart (union ms mode) c d h = tt
+inferred_apart _ c d h = tt
 
 pub inferred_below : (s : Summary) (t : Tree) → 0 < s.levels → Summarizes s t → AnswersSome None (Inferred t)
 inferred_below s t some h = λ c d. (λ e. let bad : no_pair ≡ some_pair c d = e in cc, λ g. absurd (below_root s t some h (inferred_apart t c d g)))

@@ -1,77 +1,40 @@
 -- Every kind is listed.
-use Rattle.std.proofs.Common.{refl, lit<}
+use Rattle.std.proofs.Common.{ℕ, ◌+◌, ◌*◌, ◌-◌, refl, lit<}
 use Rattle.std.specs.List.{Contains}
+use Rattle.geoarrow_layout.specs.declared.kinds.CoordType.{CoordType}
 use Rattle.geoarrow_layout.specs.declared.kinds.CoordType.TheVariants.{Interleaved, Separated}
+use Rattle.geoarrow_layout.specs.declared.kinds.Dimension.{Dimension}
 use Rattle.geoarrow_layout.specs.declared.kinds.Dimension.TheVariants.{XY, XYZ, XYM, XYZM}
-use Rattle.geoarrow_layout.specs.declared.encodings.NativeKind.TheVariants.{Point, LineString, Polygon, MultiPoint, MultiLineString, MultiPolygon, GeometryCollection}
+use Rattle.geoarrow_layout.specs.declared.encodings.NativeKind.{NativeKind}
+use Rattle.geoarrow_layout.specs.declared.encodings.NativeKind.TheVariants.{Point}
 use Rattle.geoarrow_layout.specs.declared.encodings.Width.TheVariants.{Plain, Large, View}
 use Rattle.geoarrow_layout.specs.declared.encodings.Kind.{Kind}
 use Rattle.geoarrow_layout.specs.declared.encodings.Kind.TheVariants.{Native, Geometry, Rect, Wkb, Wkt}
 use Rattle.geoarrow_layout.specs.declared.encodings.TheConstants.Kind.{ALL}
+use Rattle.geoarrow_layout.specs.Kinds.{order_of, offset_of}
+use Rattle.geoarrow_layout.specs.Summary.{place_of}
+
+-- where a native kind stands
+abbrev place : NativeKind → CoordType → Dimension → ℕ
+place k c d = 8 * (offset_of k - 1) + (4 * place_of c + order_of d)
+
+natives : (d : Dimension) (c : CoordType) (k : NativeKind) → Contains ALL (Native k c d)
+natives XY Interleaved Point = (0, lit< tt, refl)
+natives XY Separated Point = (4, lit< tt, refl)
+natives XYZ Interleaved Point = (1, lit< tt, refl)
+natives XYZ Separated Point = (5, lit< tt, refl)
+natives XYM Interleaved Point = (2, lit< tt, refl)
+natives XYM Separated Point = (6, lit< tt, refl)
+natives XYZM Interleaved Point = (3, lit< tt, refl)
+natives XYZM Separated Point = (7, lit< tt, refl)
+natives d c k = (place k c d, lit< tt, refl)
 
 pub listed : (k : Kind) → Contains ALL k
-listed (Native Point Interleaved XY) = (0, lit< tt, refl)
-listed (Native Point Interleaved XYZ) = (1, lit< tt, refl)
-listed (Native Point Interleaved XYM) = (2, lit< tt, refl)
-listed (Native Point Interleaved XYZM) = (3, lit< tt, refl)
-listed (Native Point Separated XY) = (4, lit< tt, refl)
-listed (Native Point Separated XYZ) = (5, lit< tt, refl)
-listed (Native Point Separated XYM) = (6, lit< tt, refl)
-listed (Native Point Separated XYZM) = (7, lit< tt, refl)
-listed (Native LineString Interleaved XY) = (8, lit< tt, refl)
-listed (Native LineString Interleaved XYZ) = (9, lit< tt, refl)
-listed (Native LineString Interleaved XYM) = (10, lit< tt, refl)
-listed (Native LineString Interleaved XYZM) = (11, lit< tt, refl)
-listed (Native LineString Separated XY) = (12, lit< tt, refl)
-listed (Native LineString Separated XYZ) = (13, lit< tt, refl)
-listed (Native LineString Separated XYM) = (14, lit< tt, refl)
-listed (Native LineString Separated XYZM) = (15, lit< tt, refl)
-listed (Native Polygon Interleaved XY) = (16, lit< tt, refl)
-listed (Native Polygon Interleaved XYZ) = (17, lit< tt, refl)
-listed (Native Polygon Interleaved XYM) = (18, lit< tt, refl)
-listed (Native Polygon Interleaved XYZM) = (19, lit< tt, refl)
-listed (Native Polygon Separated XY) = (20, lit< tt, refl)
-listed (Native Polygon Separated XYZ) = (21, lit< tt, refl)
-listed (Native Polygon Separated XYM) = (22, lit< tt, refl)
-listed (Native Polygon Separated XYZM) = (23, lit< tt, refl)
-listed (Native MultiPoint Interleaved XY) = (24, lit< tt, refl)
-listed (Native MultiPoint Interleaved XYZ) = (25, lit< tt, refl)
-listed (Native MultiPoint Interleaved XYM) = (26, lit< tt, refl)
-listed (Native MultiPoint Interleaved XYZM) = (27, lit< tt, refl)
-listed (Native MultiPoint Separated XY) = (28, lit< tt, refl)
-listed (Native MultiPoint Separated XYZ) = (29, lit< tt, refl)
-listed (Native MultiPoint Separated XYM) = (30, lit< tt, refl)
-listed (Native MultiPoint Separated XYZM) = (31, lit< tt, refl)
-listed (Native MultiLineString Interleaved XY) = (32, lit< tt, refl)
-listed (Native MultiLineString Interleaved XYZ) = (33, lit< tt, refl)
-listed (Native MultiLineString Interleaved XYM) = (34, lit< tt, refl)
-listed (Native MultiLineString Interleaved XYZM) = (35, lit< tt, refl)
-listed (Native MultiLineString Separated XY) = (36, lit< tt, refl)
-listed (Native MultiLineString Separated XYZ) = (37, lit< tt, refl)
-listed (Native MultiLineString Separated XYM) = (38, lit< tt, refl)
-listed (Native MultiLineString Separated XYZM) = (39, lit< tt, refl)
-listed (Native MultiPolygon Interleaved XY) = (40, lit< tt, refl)
-listed (Native MultiPolygon Interleaved XYZ) = (41, lit< tt, refl)
-listed (Native MultiPolygon Interleaved XYM) = (42, lit< tt, refl)
-listed (Native MultiPolygon Interleaved XYZM) = (43, lit< tt, refl)
-listed (Native MultiPolygon Separated XY) = (44, lit< tt, refl)
-listed (Native MultiPolygon Separated XYZ) = (45, lit< tt, refl)
-listed (Native MultiPolygon Separated XYM) = (46, lit< tt, refl)
-listed (Native MultiPolygon Separated XYZM) = (47, lit< tt, refl)
-listed (Native GeometryCollection Interleaved XY) = (48, lit< tt, refl)
-listed (Native GeometryCollection Interleaved XYZ) = (49, lit< tt, refl)
-listed (Native GeometryCollection Interleaved XYM) = (50, lit< tt, refl)
-listed (Native GeometryCollection Interleaved XYZM) = (51, lit< tt, refl)
-listed (Native GeometryCollection Separated XY) = (52, lit< tt, refl)
-listed (Native GeometryCollection Separated XYZ) = (53, lit< tt, refl)
-listed (Native GeometryCollection Separated XYM) = (54, lit< tt, refl)
-listed (Native GeometryCollection Separated XYZM) = (55, lit< tt, refl)
+listed (Native k c d) = natives d c k
 listed (Geometry Interleaved) = (56, lit< tt, refl)
 listed (Geometry Separated) = (57, lit< tt, refl)
 listed (Rect XY) = (58, lit< tt, refl)
-listed (Rect XYZ) = (59, lit< tt, refl)
-listed (Rect XYM) = (60, lit< tt, refl)
-listed (Rect XYZM) = (61, lit< tt, refl)
+listed (Rect d) = (58 + order_of d, lit< tt, refl)
 listed (Wkb Plain) = (62, lit< tt, refl)
 listed (Wkb Large) = (63, lit< tt, refl)
 listed (Wkb View) = (64, lit< tt, refl)

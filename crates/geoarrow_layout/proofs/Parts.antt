@@ -1,13 +1,11 @@
 -- Ids and members: each is read in one way.
-use Rattle.std.proofs.Common.{◌≡◌, ◌≢◌, ◌≤◌, inl, inr, ℤ, Option, None, refl, sym, ap, subst, ◌∙◌, arith}
-use Rattle.arrow_values.specs.Tree.{Tree, plain, list, large_list, fixed_size_list, struct, union}
+use Rattle.std.proofs.Common.{◌≡◌, ◌≢◌, inl, inr, ℤ, Option, None, refl, sym, ap, subst, ◌∙◌}
+use Rattle.arrow_values.specs.Tree.{Tree, list, large_list}
 use Rattle.geoarrow_layout.specs.declared.kinds.CoordType.{CoordType}
 use Rattle.geoarrow_layout.specs.declared.kinds.Dimension.{Dimension}
-use Rattle.geoarrow_layout.specs.declared.kinds.Dimension.TheVariants.{XY, XYZ, XYM, XYZM}
 use Rattle.geoarrow_layout.specs.declared.fault.LayoutFault.{LayoutFault}
 use Rattle.geoarrow_layout.specs.declared.encodings.NativeKind.{NativeKind}
-use Rattle.geoarrow_layout.specs.declared.encodings.NativeKind.TheVariants.{Point, LineString, Polygon, MultiPoint, MultiLineString, MultiPolygon, GeometryCollection}
-use Rattle.geoarrow_layout.specs.Kinds.{order_of}
+use Rattle.geoarrow_layout.specs.declared.encodings.NativeKind.TheVariants.{GeometryCollection}
 use Rattle.geoarrow_layout.specs.Shapes.{Id, OverLeaf, GeometryPart, Mixed, Answers, Native}
 use Rattle.geoarrow_layout.specs.OneShape.{any_part}
 use Rattle.geoarrow_layout.proofs.Readings.{Answer, answers_like}
@@ -51,29 +49,15 @@ part_unknown N e i t none = λ b g. (λ h. let bad : refused e ≡ ok_pair b g =
 -- a member of a geometry
 to_part : (k : NativeKind) (i : ℤ) (t : Tree) (c : CoordType) (d : Dimension) → Id i k d → Native t k c d → GeometryPart i t c d
 to_part GeometryCollection i t c d id h = inr (id, h)
-to_part Point i t c d id h = inl (Point, id, h)
-to_part LineString i t c d id h = inl (LineString, id, h)
-to_part Polygon i t c d id h = inl (Polygon, id, h)
-to_part MultiPoint i t c d id h = inl (MultiPoint, id, h)
-to_part MultiLineString i t c d id h = inl (MultiLineString, id, h)
-to_part MultiPolygon i t c d id h = inl (MultiPolygon, id, h)
+to_part k i t c d id h = inl (k, id, h)
 
 pub geometry_answer : (r : Answer) (i : ℤ) (t : Tree) → Answers r (Part Native i t) → Answers r (GeometryPart i t)
 geometry_answer r i t h = answers_like r (Part Native i t) (GeometryPart i t) (λ c d p. to_part p.0 i t c d p.1 p.2) (λ c d p. any_part i t c d p) h
 
-order_small : (d : Dimension) → order_of d ≤ 3
-order_small XY = omega arith
-order_small XYZ = omega arith
-order_small XYM = omega arith
-order_small XYZM = omega arith
-
 pub mixed_apart : AtNoList Mixed
 mixed_apart (list n t b m) c d h = h
 mixed_apart (large_list n t b m) c d h = h
-mixed_apart (plain p) c d h = tt
-mixed_apart (fixed_size_list n t b m z) c d h = tt
-mixed_apart (struct fs) c d h = tt
-mixed_apart (union ms mode) c d h = tt
+mixed_apart _ c d h = tt
 
 -- no parts
 abbrev pub no_parts : Option (NativeKind × Dimension)
@@ -84,9 +68,4 @@ none_known i parts k d id = let bad : no_parts ≡ some_parts k d = (parts k d).
 
 pub native_any : (k : NativeKind) (t : Tree) (r : Answer) → (k ≢ GeometryCollection) → Answers r (OverLeaf t k) → Answers r (Native t k)
 native_any GeometryCollection t r h a = absurd (h refl)
-native_any Point t r h a = a
-native_any LineString t r h a = a
-native_any Polygon t r h a = a
-native_any MultiPoint t r h a = a
-native_any MultiLineString t r h a = a
-native_any MultiPolygon t r h a = a
+native_any k t r h a = a

@@ -363,12 +363,9 @@ pub mixed_below : (s : Summary) (f : LayoutFault) (t : Tree) → 0 < s.levels �
 mixed_below s f t some h = refuse (Mixed t) (refused f) (λ c d e. let bad : refused f ≡ ok_pair c d = e in cc) (λ c d m. below_root s t some h (mixed_apart t c d m))
 
 pub geometry_apart : (t : Tree) (c : CoordType) → Geometry t c → NotList t
-geometry_apart (union ms mode) c h = tt
 geometry_apart (list n t b m) c h = h
 geometry_apart (large_list n t b m) c h = h
-geometry_apart (plain p) c h = tt
-geometry_apart (fixed_size_list n t b m z) c h = tt
-geometry_apart (struct fs) c h = tt
+geometry_apart _ c h = tt
 
 abbrev no_coord : LayoutFault → Result CoordType LayoutFault
 no_coord f = Err f

@@ -8,13 +8,14 @@ use Rattle.geoarrow_layout.specs.declared.kinds.CoordType.TheVariants.{Interleav
 use Rattle.geoarrow_layout.specs.declared.kinds.Dimension.{Dimension}
 use Rattle.geoarrow_layout.specs.declared.kinds.Dimension.TheVariants.{XY, XYZ, XYM, XYZM}
 use Rattle.geoarrow_layout.specs.declared.summary.ListWidth.TheVariants.{List as Lists}
+use Rattle.geoarrow_layout.specs.declared.encodings.NativeKind.{NativeKind}
 use Rattle.geoarrow_layout.specs.declared.encodings.NativeKind.TheVariants.{Point, LineString, Polygon, MultiPoint, MultiLineString, MultiPolygon, GeometryCollection}
-use Rattle.geoarrow_layout.specs.declared.encodings.Width.TheVariants.{Plain, Large, View}
+use Rattle.geoarrow_layout.specs.declared.encodings.Width.TheVariants.{Plain}
 use Rattle.geoarrow_layout.specs.declared.encodings.Kind.{Kind}
 use Rattle.geoarrow_layout.specs.declared.encodings.Kind.TheVariants.{Native as OfNative, Geometry as OfGeometry, Rect as OfRect, Wkb as OfWkb, Wkt as OfWkt}
 use Rattle.geoarrow_layout.specs.Kinds.{name_of}
-use Rattle.geoarrow_layout.specs.Shapes.{Leaf, SameNames, Member, AllMembers, Collection, GeometryMember, Geometry, BoxShape, Accepted, Accepts}
-use Rattle.geoarrow_layout.specs.Layouts.{leaf_layout, member_layout, mixed_members, mixed_layout, native_layout, dimension_members, geometry_members, geometry_layout, box_layout, layout, IsWritten, IsWrittenSome}
+use Rattle.geoarrow_layout.specs.Shapes.{Leaf, LeafUnder, levels_of, SameNames, Member, AllMembers, Collection, GeometryMember, Geometry, BoxShape, Accepted, Accepts}
+use Rattle.geoarrow_layout.specs.Layouts.{leaf_layout, over_leaf_layout, member_layout, mixed_members, mixed_layout, native_layout, dimension_members, geometry_members, geometry_layout, box_layout, layout, IsWritten, IsWrittenSome}
 use Rattle.geoarrow_layout.proofs.UnionSteps.{all_map}
 
 pub written_leaf : (c : CoordType) (d : Dimension) → Leaf (leaf_layout c d) c d
@@ -26,26 +27,14 @@ written_leaf Separated XYM = (refl, λ n. refl)
 written_leaf Separated XYZM = refl
 
 -- the members in a collection
+written_under : (k : NativeKind) (c : CoordType) (d : Dimension) → LeafUnder (levels_of k) (over_leaf_layout k c d) c d
+written_under Point c d = (leaf_layout c d, (Lists, refl), written_leaf c d)
+written_under k c d = (leaf_layout c d, (Lists, refl), written_leaf c d)
+
 written_mixed : (c : CoordType) (d : Dimension) → AllMembers (λ i t. Member i t c d) (member_trees (mixed_members c d))
-written_mixed c d = (
-  (Point, refl, (leaf_layout c d, (Lists, refl), written_leaf c d)),
-  (
-    (LineString, refl, (leaf_layout c d, (Lists, refl), written_leaf c d)),
-    (
-      (Polygon, refl, (leaf_layout c d, (Lists, refl), written_leaf c d)),
-      (
-        (MultiPoint, refl, (leaf_layout c d, (Lists, refl), written_leaf c d)),
-        (
-          (MultiLineString, refl, (leaf_layout c d, (Lists, refl), written_leaf c d)),
-          (
-            (MultiPolygon, refl, (leaf_layout c d, (Lists, refl), written_leaf c d)),
-            tt,
-          ),
-        ),
-      ),
-    ),
-  ),
-)
+written_mixed c d =
+    let at = λ (k : NativeKind). written_under k c d in
+    ((Point, refl, at Point), ((LineString, refl, at LineString), ((Polygon, refl, at Polygon), ((MultiPoint, refl, at MultiPoint), ((MultiLineString, refl, at MultiLineString), ((MultiPolygon, refl, at MultiPolygon), tt))))))
 
 written_collection : (c : CoordType) (d : Dimension) → Collection (native_layout GeometryCollection c d) c d
 written_collection c d = (mixed_layout c d, (Lists, refl), (tt, written_mixed c d))
@@ -78,21 +67,13 @@ written_box XYM = (refl, (refl, refl))
 written_box XYZM = refl
 
 written : (k : Kind) → Accepted k (layout k)
-written (OfNative Point c d) = (leaf_layout c d, (Lists, refl), written_leaf c d)
-written (OfNative LineString c d) = (leaf_layout c d, (Lists, refl), written_leaf c d)
-written (OfNative Polygon c d) = (leaf_layout c d, (Lists, refl), written_leaf c d)
-written (OfNative MultiPoint c d) = (leaf_layout c d, (Lists, refl), written_leaf c d)
-written (OfNative MultiLineString c d) = (leaf_layout c d, (Lists, refl), written_leaf c d)
-written (OfNative MultiPolygon c d) = (leaf_layout c d, (Lists, refl), written_leaf c d)
 written (OfNative GeometryCollection c d) = written_collection c d
+written (OfNative k c d) = written_under k c d
 written (OfGeometry c) = written_geometry c
 written (OfRect d) = written_box d
 written (OfWkb Plain) = refl
-written (OfWkb Large) = refl
-written (OfWkb View) = refl
 written (OfWkt Plain) = refl
-written (OfWkt Large) = refl
-written (OfWkt View) = refl
+written _ = refl
 
 pub written_accepted : (k : Kind) → Accepts (name_of k) (layout k) k
 written_accepted k = (refl, written k)
@@ -100,9 +81,7 @@ written_accepted k = (refl, written k)
 -- the ids of written members
 pub mixed_ids : (c : CoordType) (d : Dimension) → HasTypeIds (mixed_members c d)
 mixed_ids c XY = refl
-mixed_ids c XYZ = refl
-mixed_ids c XYM = refl
-mixed_ids c XYZM = refl
+mixed_ids c _ = refl
 
 pub geometry_ids : (c : CoordType) → HasTypeIds (geometry_members c)
 geometry_ids c = refl
