@@ -1,17 +1,19 @@
 -- What stands below the lists.
-use Rattle.std.proofs.Common.{◌≡◌, ◌<◌, ◌≤◌, ◌⊎◌, inl, inr, ℕ, zero, suc, ◌+◌, refl, sym, ap, subst, ◌∙◌, arith, add-one, Bool, Option, Some, None, Err}
-use Rattle.arrow_values.specs.Tree.{Text, Metadata, Tree, list, large_list, FieldTree, MemberTrees}
+use Rattle.std.proofs.Common.{◌≡◌, ◌<◌, ◌≤◌, ◌⊎◌, inl, inr, ℕ, zero, suc, ℤ, ◌+◌, refl, sym, ap, subst, ◌∙◌, arith, add-one, Bool, Option, Some, None, Err}
+use Rattle.arrow_values.specs.Tree.{Text, Metadata, Tree, plain, list, large_list, fixed_size_list, struct, union, FieldTree, FieldTrees, MemberTrees}
+use Rattle.arrow_values.specs.declared.tree.UnionMode.{UnionMode}
 use Rattle.geoarrow_layout.specs.declared.kinds.CoordType.{CoordType}
 use Rattle.geoarrow_layout.specs.declared.kinds.Dimension.{Dimension}
 use Rattle.geoarrow_layout.specs.declared.fault.LayoutFault.{LayoutFault}
 use Rattle.geoarrow_layout.specs.declared.summary.ListWidth.{ListWidth}
 use Rattle.geoarrow_layout.specs.declared.summary.ListWidth.TheVariants.{List as Lists, LargeList as LargeLists}
 use Rattle.geoarrow_layout.specs.declared.summary.Bottom.{Bottom}
+use Rattle.geoarrow_layout.specs.declared.summary.Bottom.TheVariants.{OtherWidth, Deep, Other}
 use Rattle.geoarrow_layout.specs.declared.summary.Summary.{Summary}
 use Rattle.geoarrow_layout.specs.Shapes.{ListsOver, Levels, Leaf, LeafUnder, Answers}
-use Rattle.geoarrow_layout.specs.Summary.{IsList, IsBottom, AreLevels, SummarizesBy}
+use Rattle.geoarrow_layout.specs.Summary.{IsFixedSize, IsStruct, IsList, IsBottom, AreLevels, SummarizesBy}
 use Rattle.geoarrow_layout.specs.OneShape.{widths_same, levels_same}
-use Rattle.geoarrow_layout.proofs.Readings.{Answer, answers_like}
+use Rattle.geoarrow_layout.proofs.Readings.{Answer, answers_like, refuses}
 
 -- one level more
 abbrev pub list_in : ListWidth → Text → Tree → Bool → Metadata → Tree
@@ -66,6 +68,21 @@ few_top U o Lists n b (list nm t c m) here h = absurd (no_level o Lists n b here
 few_top U o LargeLists n b (large_list nm t c m) here h = absurd (no_level o LargeLists n b here h)
 few_top U o _ n b _ here h = refl
 
+-- a bottom that is entered, that of a fixed size list, a struct or a union, stands at such a tree alone
+abbrev IsEntered : Bottom → Type 0
+IsEntered OtherWidth = ⊥
+IsEntered Deep = ⊥
+IsEntered Other = ⊥
+IsEntered _ = Unit {0}
+
+pub at_bottom : (U : ℕ → Bottom → MemberTrees → Type 0) (Q : Tree → Type 0) (w : Option ListWidth) (n : ℕ) (b : Bottom) → IsEntered b → ((x : Text) (t : Tree) (k : Bool) (m : Metadata) (z : ℤ) → IsFixedSize b x t z → Q (fixed_size_list x t k m z))
+    → ((fs : FieldTrees) → IsStruct b fs → Q (struct fs)) → ((ms : MemberTrees) (mode : UnionMode) → U n b ms → Q (union ms mode)) → (u : Tree) → IsBottom U w n b u → Q u
+at_bottom U Q w n b entered sizes structs unions (fixed_size_list x t k m z) h = sizes x t k m z h
+at_bottom U Q w n b entered sizes structs unions (struct fs) h = structs fs h
+at_bottom U Q w n b entered sizes structs unions (union ms mode) h = unions ms mode h
+at_bottom U Q w n b entered sizes structs unions (plain p) h = absurd (subst IsEntered h entered)
+at_bottom U Q w n b entered sizes structs unions _ h = absurd (elim h [ inl e ↦ subst IsEntered e.1 entered | inr e ↦ subst IsEntered e.2 entered ])
+
 -- P holds of what stands below m levels
 abbrev pub Under : (Tree → CoordType → Dimension → Type 0) → ℕ → Tree → CoordType → Dimension → Type 0
 Under P m t c d = (u : Tree) × Levels t m u × P u c d
@@ -102,9 +119,6 @@ not_more U (Some w) (suc n) (suc m) b t u x h bottom lt few l =
 pub are_levels : (w : Option ListWidth) (n : ℕ) (t u : Tree) → AreLevels w n t u → Levels t n u
 are_levels None n t u h = (Lists, rw h.0 h.1)
 are_levels (Some w) n t u h = (w, h.2)
-
-refuses : (f : LayoutFault) (R : CoordType → Dimension → Type 0) → ((c : CoordType) (d : Dimension) → R c d → ⊥) → Answers (Err f) R
-refuses f R none = λ c d. (λ e. cc, λ h. absurd (none c d h))
 
 pub under_less : (U : ℕ → Bottom → MemberTrees → Type 0) (P : Tree → CoordType → Dimension → Type 0) → AtNoList P → (s : Summary) (m : ℕ) (f : LayoutFault) (t : Tree) → m < s.levels → SummarizesBy U s t → Answers (Err f) (Under P m t)
 under_less U P apart s m f t lt h = refuses f (Under P m t) (λ c d p. not_less s.width s.levels m t h.0 p.0 h.1 lt p.1 (apart p.0 c d p.2))

@@ -1,14 +1,13 @@
 -- When fields are the coordinates of a point.
-use Rattle.std.proofs.Common.{◌≡◌, ◌≢◌, suc, Bool, true, false, ◌||◌, List, [], ◌∷◌, length, refl, sym, ap, ◌∙◌, arith}
+use Rattle.std.proofs.Common.{◌≡◌, ◌⊎◌, inl, inr, suc, Bool, true, false, ◌||◌, List, [], ◌∷◌, length, refl, sym, ap, ◌∙◌, arith}
 use Rattle.std.specs.List.{list_any}
 use Rattle.std.specs.Str.{bytes_eq}
 use Rattle.std.proofs.lemmas.Slice.Eq.{bytes_eq-Decides}
 use Rattle.arrow_values.specs.Tree.{Text, FieldTree}
 use Rattle.arrow_values.specs.View.{field_trees}
 use Rattle.geoarrow_layout.specs.declared.kinds.Dimension.{Dimension}
-use Rattle.geoarrow_layout.specs.declared.kinds.Dimension.TheVariants.{XY, XYZ, XYM, XYZM}
+use Rattle.geoarrow_layout.specs.declared.kinds.Dimension.TheVariants.{XYZ, XYM}
 use Rattle.geoarrow_layout.specs.Shapes.{has_name, SameNames, IsSeparatedAs, names_of}
-use Rattle.geoarrow_layout.specs.OneShape.{separated_same, interleaved_same, leaf_same}
 
 pub length-names : (fs : List FieldTree) → length (names_of (field_trees fs)) ≡ length fs
 length-names [] = refl
@@ -69,35 +68,9 @@ xyz_names names count hx hy hz = (count, same_three _ _ _ names refl refl refl c
 pub xym_names : (names : List Text) → length names ≡ 3 → has_name (120 ∷ []) names ≡ true → has_name (121 ∷ []) names ≡ true → has_name (109 ∷ []) names ≡ true → IsSeparatedAs XYM names
 xym_names names count hx hy hz = (count, same_three _ _ _ names refl refl refl count hx hy hz)
 
--- no dimension has names of another count
-pub no_count : (names : List Text) → length names ≢ 2 → length names ≢ 3 → length names ≢ 4 → (d : Dimension) → IsSeparatedAs d names → ⊥
-no_count names two three four XY h = two h
-no_count names two three four XYZ h = three h.0
-no_count names two three four XYM h = three h.0
-no_count names two three four XYZM h = four h
-
--- nor three names among which `x` or `y`, or both `z` and `m`, lack
-pub no_x : (names : List Text) → length names ≡ 3 → has_name (120 ∷ []) names ≡ false → (d : Dimension) → IsSeparatedAs d names → ⊥
+-- three names of a coordinate have `x` and `y`, and `z` or `m`
+pub three_have : (names : List Text) (d : Dimension) → length names ≡ 3 → IsSeparatedAs d names → (has_name (120 ∷ []) names ≡ true) × (has_name (121 ∷ []) names ≡ true) × ((has_name (122 ∷ []) names ≡ true) ⊎ (has_name (109 ∷ []) names ≡ true))
 unfolding SameNames
-no_x names count lacks XY h = omega arith
-no_x names count lacks XYZ h = let e = h.1 (120 ∷ []) in cc
-no_x names count lacks XYM h = let e = h.1 (120 ∷ []) in cc
-no_x names count lacks XYZM h = omega arith
-
-pub no_y : (names : List Text) → length names ≡ 3 → has_name (121 ∷ []) names ≡ false → (d : Dimension) → IsSeparatedAs d names → ⊥
-unfolding SameNames
-no_y names count lacks XY h = omega arith
-no_y names count lacks XYZ h = let e = h.1 (121 ∷ []) in cc
-no_y names count lacks XYM h = let e = h.1 (121 ∷ []) in cc
-no_y names count lacks XYZM h = omega arith
-
-pub no_z_m : (names : List Text) → length names ≡ 3 → has_name (122 ∷ []) names ≡ false → has_name (109 ∷ []) names ≡ false → (d : Dimension) → IsSeparatedAs d names → ⊥
-unfolding SameNames
-no_z_m names count no_z no_m XY h = omega arith
-no_z_m names count no_z no_m XYZ h = let e = h.1 (122 ∷ []) in cc
-no_z_m names count no_z no_m XYM h = let e = h.1 (109 ∷ []) in cc
-no_z_m names count no_z no_m XYZM h = omega arith
-
-pub ruleset leaf_steps = (length-names, xyz_names, xym_names, no_count, no_x, no_y, no_z_m)
-
-pub ruleset point_steps = (separated_same, interleaved_same, leaf_same)
+three_have names XYZ count h = (h.1 (120 ∷ []), h.1 (121 ∷ []), inl (h.1 (122 ∷ [])))
+three_have names XYM count h = (h.1 (120 ∷ []), h.1 (121 ∷ []), inr (h.1 (109 ∷ [])))
+three_have names _ count h = absurd (omega arith)

@@ -3,7 +3,7 @@ use Rattle.std.proofs.Common.{◌≡◌, ◌≢◌, ◌↔◌, ◌<◌, ◌≤�
 use Rattle.std.specs.Int.{bit_at}
 use Rattle.std.proofs.Math.Dec.{eqb-suc-zero}
 use Rattle.std.proofs.lemmas.Nat.Bits.{same_from_bits, bit_at-pow_same, bit_at-pow_other, bit_at-lt}
-use Rattle.arrow_values.specs.Tree.{Tree, plain, list, large_list, fixed_size_list, struct, union, FieldTree, MemberTrees, no_members, member}
+use Rattle.arrow_values.specs.Tree.{Tree, list, large_list, union, FieldTree, MemberTrees, no_members, member}
 use Rattle.arrow_values.specs.View.{member_trees}
 use Rattle.geoarrow_layout.specs.declared.kinds.CoordType.{CoordType}
 use Rattle.geoarrow_layout.specs.declared.kinds.CoordType.TheVariants.{Interleaved, Separated}
@@ -13,7 +13,7 @@ use Rattle.geoarrow_layout.specs.declared.fault.LayoutFault.{LayoutFault}
 use Rattle.geoarrow_layout.specs.declared.summary.ListWidth.{ListWidth}
 use Rattle.geoarrow_layout.specs.declared.summary.ListWidth.TheVariants.{List as Lists}
 use Rattle.geoarrow_layout.specs.declared.summary.Bottom.{Bottom}
-use Rattle.geoarrow_layout.specs.declared.summary.Bottom.TheVariants.{FixedSizeList, Struct, Union, OtherWidth, Deep, Other}
+use Rattle.geoarrow_layout.specs.declared.summary.Bottom.TheVariants.{Union}
 use Rattle.geoarrow_layout.specs.declared.summary.Summary.{Summary}
 use Rattle.geoarrow_layout.specs.Kinds.{order_of}
 use Rattle.geoarrow_layout.specs.Shapes.{Mixed, Geometry, Member, GeometryPart, AllMembers, SomeMember, HasMembers, MixedMembers, Answers, AnswersOne}
@@ -21,10 +21,10 @@ use Rattle.geoarrow_layout.specs.Summary.{IsBits, IsFaultOf, Seen, place_of, Are
 use Rattle.geoarrow_layout.specs.Steps.{AddsBits, CoordOf, DimensionOf, SomeAnswer, UnionSays, UnionSaysOne, IsNested, IsNoLeaf, Shows, ShowsInner}
 use Rattle.geoarrow_layout.specs.OneShape.{member_same, geometry_part_same}
 use Rattle.geoarrow_layout.proofs.Readings.{Answer}
-use Rattle.geoarrow_layout.proofs.Readings.{ok_pair, refused, pairs_same}
+use Rattle.geoarrow_layout.proofs.Readings.{ok, ok_same, ok_pair, pairs_same, refuses, refuses_one}
 use Rattle.geoarrow_layout.proofs.MemberLists.{all_more, all_less, all_last, take_end}
 use Rattle.geoarrow_layout.proofs.Parts.{mixed_apart}
-use Rattle.geoarrow_layout.proofs.Bottoms.{NotList, not_less}
+use Rattle.geoarrow_layout.proofs.Bottoms.{NotList, not_less, at_bottom}
 use Rattle.geoarrow_layout.proofs.BitSteps.{bits_like, no_bits, bit_is, same_or_not}
 
 abbrev pub Reads : Type 1
@@ -174,12 +174,6 @@ one_from R one empty fault coords r ms says some coord_bits faultless = λ c.
     let is = one_says R one empty fault coords ms c some coord_bits faultless in
     (λ e. is.0 ((says c).0 e), λ m. (says c).1 (is.1 m))
 
-abbrev ok_coord : CoordType → Result CoordType LayoutFault
-ok_coord c = Ok c
-
-coord_same : (c b : CoordType) → ok_coord c ≡ ok_coord b → c ≡ b
-coord_same c b h = cc
-
 some_dimension_same : (d e : Dimension) → Some d ≡ Some e → d ≡ e
 some_dimension_same d e h = cc
 
@@ -187,28 +181,20 @@ some_dimension_same d e h = cc
 pub both_say : (empty : Bool) (fault : Option LayoutFault) (coords dims : ℕ) (c : CoordType) (d : Dimension) (o : Option Dimension) → UnionSaysOne empty fault coords (Ok c) → o ≡ Some d → ((e : Dimension) → (o ≡ Some e) ↔ (dims ≡ 2 ^ order_of e)) → UnionSays empty fault coords dims (ok_pair c d)
 both_say empty fault coords dims c d o one is dimension = λ b e. (
   (λ h. let p = pairs_same c b d e h in
-      let k = (one b).0 (ap ok_coord p.0) in
+      let k = (one b).0 (ap ok p.0) in
       (k.0, k.1, k.2, (dimension e).0 (is ∙ ap (λ x. Some x) p.1))),
-  (λ h. let p = coord_same c b ((one b).1 (h.0, h.1, h.2)) in
+  (λ h. let p = ok_same c b ((one b).1 (h.0, h.1, h.2)) in
       let q = some_dimension_same d e (sym is ∙ (dimension e).1 h.3) in
       ap (λ x. ok_pair x d) p ∙ ap (λ x. ok_pair b x) q),
 )
 
-refuse : (R : CoordType → Dimension → Type 0) (r : Answer) → ((c : CoordType) (d : Dimension) → r ≡ ok_pair c d → ⊥) → ((c : CoordType) (d : Dimension) → R c d → ⊥) → Answers r R
-refuse R r not_ok none = λ c d. (λ e. absurd (not_ok c d e), λ h. absurd (none c d h))
-
 -- a union that stands below one list
 pub nested_union : (w : Option ListWidth) (levels : ℕ) (empty : Bool) (ids coords dims : ℕ) (fault geometry : Option LayoutFault) (u : Tree) (r : Answer) → levels ≡ 1
     → IsBottom IsNested w levels (Union empty ids coords dims fault geometry) u → UnionSays empty fault coords dims r → Answers r (Mixed u)
-nested_union w levels empty ids coords dims fault geometry u r one h says = at_tree u (subst (λ n. IsBottom IsNested w n (Union empty ids coords dims fault geometry) u) one h)
-  where
-    at_tree : (x : Tree) → IsBottom IsNested w 1 (Union empty ids coords dims fault geometry) x → Answers r (Mixed x)
-    at_tree (union ms mode) k = mixed_from Member member_same (λ i t c d m. m) empty fault coords dims r ms says k.0 k.1.coord_bits k.1.dimension_bits k.1.faultless
-    at_tree (plain p) k = let bad : Union empty ids coords dims fault geometry ≡ Other = k in cc
-    at_tree (list nm t b m) k = elim k [ inl e ↦ let bad : Union empty ids coords dims fault geometry ≡ OtherWidth = e.1 in cc | inr e ↦ let bad : Union empty ids coords dims fault geometry ≡ Deep = e.2 in cc ]
-    at_tree (large_list nm t b m) k = elim k [ inl e ↦ let bad : Union empty ids coords dims fault geometry ≡ OtherWidth = e.1 in cc | inr e ↦ let bad : Union empty ids coords dims fault geometry ≡ Deep = e.2 in cc ]
-    at_tree (fixed_size_list nm t b m z) k = absurd k
-    at_tree (struct fs) k = absurd k
+nested_union w levels empty ids coords dims fault geometry u r one h says =
+    at_bottom IsNested (λ x. Answers r (Mixed x)) w 1 (Union empty ids coords dims fault geometry) tt (λ x t b m z k. absurd k) (λ fs k. absurd k)
+    (λ ms mode k. mixed_from Member member_same (λ i t c d m. m) empty fault coords dims r ms says k.0 k.1.coord_bits k.1.dimension_bits k.1.faultless)
+    u (subst (λ n. IsBottom IsNested w n (Union empty ids coords dims fault geometry) u) one h)
 
 -- a summary says less of unions
 pub weaken : (U V : ℕ → Bottom → MemberTrees → Type 0) → ((n : ℕ) (b : Bottom) (ms : MemberTrees) → U n b ms → V n b ms) → (s : Summary) (t : Tree) → SummarizesBy U s t → SummarizesBy V s t
@@ -216,19 +202,11 @@ weaken U V f s t h = (h.0, h.1, at_tree h.0 h.2)
   where
     at_tree : (u : Tree) → IsBottom U s.width s.levels s.bottom u → IsBottom V s.width s.levels s.bottom u
     at_tree (union ms mode) k = f s.levels s.bottom ms k
-    at_tree (plain p) k = k
-    at_tree (list nm t b m) k = k
-    at_tree (large_list nm t b m) k = k
-    at_tree (fixed_size_list nm t b m z) k = k
-    at_tree (struct fs) k = k
+    at_tree _ k = k
 
 inner_no_leaf : (n m : ℕ) (b : Bottom) (ms : MemberTrees) → IsInnerUnion b ms → IsNoLeaf n b ms
 inner_no_leaf n m (Union empty ids coords dims fault geometry) ms h = tt
-inner_no_leaf n m (FixedSizeList a b c) ms h = absurd h
-inner_no_leaf n m (Struct a b c) ms h = absurd h
-inner_no_leaf n m OtherWidth ms h = absurd h
-inner_no_leaf n m Deep ms h = absurd h
-inner_no_leaf n m Other ms h = absurd h
+inner_no_leaf n m _ ms h = absurd h
 
 nested_no_leaf : (n : ℕ) (b : Bottom) (ms : MemberTrees) → IsNested n b ms → IsNoLeaf n b ms
 nested_no_leaf zero b ms h = h
@@ -240,11 +218,7 @@ shows_of_inner s t h = weaken IsNested IsNoLeaf nested_no_leaf s t h
 union_nested : (n : ℕ) (b : Bottom) (ms : MemberTrees) → IsUnion n b ms → IsNested n b ms
 union_nested (suc n) b ms h = h
 union_nested zero (Union empty ids coords dims fault geometry) ms h = tt
-union_nested zero (FixedSizeList a b c) ms h = absurd h
-union_nested zero (Struct a b c) ms h = absurd h
-union_nested zero OtherWidth ms h = absurd h
-union_nested zero Deep ms h = absurd h
-union_nested zero Other ms h = absurd h
+union_nested zero _ ms h = absurd h
 
 pub inner_of : (s : Summary) (t : Tree) → Summarizes s t → ShowsInner s t
 inner_of s t h = weaken IsUnion IsNested union_nested s t h
@@ -312,9 +286,6 @@ seen_more R ids ids2 coords coords2 dims dims2 fault fault2 part xs k x lt at re
       faultless = fault_more R fault fault2 part xs k x lt read next before.faultless;
     }
 
-no_some : (P : ℤ → Tree → Type 0) → SomeMember P no_members → ⊥
-no_some P h = h
-
 pub seen_none : (R : Reads) → Seen R 0 0 0 None no_members
 seen_none R = record {
   id_bits = no_bits (λ i. (i < 64) × SomeMember (λ j t. j ≡ pos i) no_members) (λ i h. h.1);
@@ -360,33 +331,24 @@ pub below_root : (s : Summary) (t : Tree) → 0 < s.levels → Summarizes s t �
 below_root s t some h apart = not_less s.width s.levels 0 t h.0 t h.1 some (Lists, refl) apart
 
 pub mixed_below : (s : Summary) (f : LayoutFault) (t : Tree) → 0 < s.levels → Summarizes s t → Answers (Err f) (Mixed t)
-mixed_below s f t some h = refuse (Mixed t) (refused f) (λ c d e. let bad : refused f ≡ ok_pair c d = e in cc) (λ c d m. below_root s t some h (mixed_apart t c d m))
+mixed_below s f t some h = refuses f (Mixed t) (λ c d m. below_root s t some h (mixed_apart t c d m))
 
 pub geometry_apart : (t : Tree) (c : CoordType) → Geometry t c → NotList t
 geometry_apart (list n t b m) c h = h
 geometry_apart (large_list n t b m) c h = h
 geometry_apart _ c h = tt
 
-abbrev no_coord : LayoutFault → Result CoordType LayoutFault
-no_coord f = Err f
-
 pub geometry_below : (s : Summary) (f : LayoutFault) (t : Tree) → 0 < s.levels → Summarizes s t → AnswersOne (Err f) (Geometry t)
-geometry_below s f t some h = λ c. (λ e. let bad : no_coord f ≡ ok_coord c = e in cc, λ g. absurd (below_root s t some h (geometry_apart t c g)))
+geometry_below s f t some h = refuses_one f (Geometry t) (λ c g. below_root s t some h (geometry_apart t c g))
 
 pub root_mixed : (w : Option ListWidth) (empty : Bool) (ids coords dims : ℕ) (fault geometry : Option LayoutFault) (u : Tree) (r : Answer)
     → IsBottom IsUnion w 0 (Union empty ids coords dims fault geometry) u → UnionSays empty fault coords dims r → Answers r (Mixed u)
-root_mixed w empty ids coords dims fault geometry (union ms mode) r k says = mixed_from GeometryPart geometry_part_same (λ i t c d m. inl m) empty fault coords dims r ms says k.0 k.1.coord_bits k.1.dimension_bits k.2
-root_mixed w empty ids coords dims fault geometry (plain p) r k says = let bad : Union empty ids coords dims fault geometry ≡ Other = k in cc
-root_mixed w empty ids coords dims fault geometry (list nm t b m) r k says = elim k [ inl e ↦ let bad : Union empty ids coords dims fault geometry ≡ OtherWidth = e.1 in cc | inr e ↦ let bad : Union empty ids coords dims fault geometry ≡ Deep = e.2 in cc ]
-root_mixed w empty ids coords dims fault geometry (large_list nm t b m) r k says = elim k [ inl e ↦ let bad : Union empty ids coords dims fault geometry ≡ OtherWidth = e.1 in cc | inr e ↦ let bad : Union empty ids coords dims fault geometry ≡ Deep = e.2 in cc ]
-root_mixed w empty ids coords dims fault geometry (fixed_size_list nm t b m z) r k says = absurd k
-root_mixed w empty ids coords dims fault geometry (struct fs) r k says = absurd k
+root_mixed w empty ids coords dims fault geometry u r k says =
+    at_bottom IsUnion (λ x. Answers r (Mixed x)) w 0 (Union empty ids coords dims fault geometry) tt (λ x t b m z h. absurd h) (λ fs h. absurd h)
+    (λ ms mode h. mixed_from GeometryPart geometry_part_same (λ i t c d m. inl m) empty fault coords dims r ms says h.0 h.1.coord_bits h.1.dimension_bits h.2) u k
 
 pub root_geometry : (w : Option ListWidth) (empty : Bool) (ids coords dims : ℕ) (fault geometry : Option LayoutFault) (u : Tree) (r : Result CoordType LayoutFault)
     → IsBottom IsUnion w 0 (Union empty ids coords dims fault geometry) u → UnionSaysOne empty geometry coords r → AnswersOne r (Geometry u)
-root_geometry w empty ids coords dims fault geometry (union ms mode) r k says = one_from GeometryPart geometry_part_same empty geometry coords r ms says k.0 k.1.coord_bits k.1.faultless
-root_geometry w empty ids coords dims fault geometry (plain p) r k says = let bad : Union empty ids coords dims fault geometry ≡ Other = k in cc
-root_geometry w empty ids coords dims fault geometry (list nm t b m) r k says = elim k [ inl e ↦ let bad : Union empty ids coords dims fault geometry ≡ OtherWidth = e.1 in cc | inr e ↦ let bad : Union empty ids coords dims fault geometry ≡ Deep = e.2 in cc ]
-root_geometry w empty ids coords dims fault geometry (large_list nm t b m) r k says = elim k [ inl e ↦ let bad : Union empty ids coords dims fault geometry ≡ OtherWidth = e.1 in cc | inr e ↦ let bad : Union empty ids coords dims fault geometry ≡ Deep = e.2 in cc ]
-root_geometry w empty ids coords dims fault geometry (fixed_size_list nm t b m z) r k says = absurd k
-root_geometry w empty ids coords dims fault geometry (struct fs) r k says = absurd k
+root_geometry w empty ids coords dims fault geometry u r k says =
+    at_bottom IsUnion (λ x. AnswersOne r (Geometry x)) w 0 (Union empty ids coords dims fault geometry) tt (λ x t b m z h. absurd h) (λ fs h. absurd h)
+    (λ ms mode h. one_from GeometryPart geometry_part_same empty geometry coords r ms says h.0 h.1.coord_bits h.1.faultless) u k
