@@ -23,7 +23,6 @@ pub fn leaf_reads_back(coord_type: CoordType, dimension: Dimension)
 
 /// A law: the data type that is written for a kind is, under the kind's extension name, of that kind. There is nothing
 /// to run.
-#[tactic(auto, using(crate::proofs::Written::written_accepted))]
 pub fn layout_reads_back(kind: Kind)
     ensures { Accepts (name_of kind) (layout kind) kind }
 {}
@@ -83,6 +82,7 @@ pub fn dimension_reads_back(dimension: Dimension)
 {}
 
 /// A law: where a point is inferred from a data type that is also read as one, it is the same point. There is nothing to run.
+#[tactic(auto, using(crate::proofs::Inferences::inferred_as_read))]
 pub fn inferred_as_read()
     ensures { (t : Tree) (c b : CoordType) (d e : Dimension) → Inferred t c d → Leaf t b e → (c ≡ b) × (d ≡ e) }
 {}

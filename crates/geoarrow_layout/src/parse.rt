@@ -10,7 +10,7 @@ use crate::fault::LayoutFault;
 use crate::kinds::{CoordType, Dimension};
 use crate::names::ExtensionName;
 use crate::naming::{bytes_width, text_width};
-use crate::readers::{any_native, boxed, collection, geometry, mixed, native};
+use crate::readers::{any_native, boxed, geometry, mixed, native};
 use crate::walk::summarize;
 use arrow_values::DataType;
 
@@ -35,7 +35,7 @@ pub fn parse_point(data_type: &DataType) -> Result<(CoordType, Dimension), Layou
 pub fn parse_linestring(data_type: &DataType) -> Result<(CoordType, Dimension), LayoutFault>
     ensures { Answers result (Native (tree data_type.now) NativeKind.LineString) }
 {
-    native(NativeKind::LineString, &summarize(data_type))
+    parse_native(NativeKind::LineString, data_type)
 }
 
 /// Reads a polygon (GeoArrow, "Polygon"): two lists over a coordinate, both of one width. Errs on any other data type.
@@ -43,7 +43,7 @@ pub fn parse_linestring(data_type: &DataType) -> Result<(CoordType, Dimension), 
 pub fn parse_polygon(data_type: &DataType) -> Result<(CoordType, Dimension), LayoutFault>
     ensures { Answers result (Native (tree data_type.now) NativeKind.Polygon) }
 {
-    native(NativeKind::Polygon, &summarize(data_type))
+    parse_native(NativeKind::Polygon, data_type)
 }
 
 /// Reads a multipoint (GeoArrow, "MultiPoint"): one list over a coordinate, of either width. Errs on any other data
@@ -51,7 +51,7 @@ pub fn parse_polygon(data_type: &DataType) -> Result<(CoordType, Dimension), Lay
 pub fn parse_multipoint(data_type: &DataType) -> Result<(CoordType, Dimension), LayoutFault>
     ensures { Answers result (Native (tree data_type.now) NativeKind.MultiPoint) }
 {
-    native(NativeKind::MultiPoint, &summarize(data_type))
+    parse_native(NativeKind::MultiPoint, data_type)
 }
 
 /// Reads a multilinestring (GeoArrow, "MultiLineString"): two lists over a coordinate, both of one width. Errs on any
@@ -59,7 +59,7 @@ pub fn parse_multipoint(data_type: &DataType) -> Result<(CoordType, Dimension), 
 pub fn parse_multilinestring(data_type: &DataType) -> Result<(CoordType, Dimension), LayoutFault>
     ensures { Answers result (Native (tree data_type.now) NativeKind.MultiLineString) }
 {
-    native(NativeKind::MultiLineString, &summarize(data_type))
+    parse_native(NativeKind::MultiLineString, data_type)
 }
 
 /// Reads a multipolygon (GeoArrow, "MultiPolygon"): three lists over a coordinate, all of one width. Errs on any other
@@ -67,7 +67,7 @@ pub fn parse_multilinestring(data_type: &DataType) -> Result<(CoordType, Dimensi
 pub fn parse_multipolygon(data_type: &DataType) -> Result<(CoordType, Dimension), LayoutFault>
     ensures { Answers result (Native (tree data_type.now) NativeKind.MultiPolygon) }
 {
-    native(NativeKind::MultiPolygon, &summarize(data_type))
+    parse_native(NativeKind::MultiPolygon, data_type)
 }
 
 /// Reads the union in a collection (GeoArrow, "GeometryCollection"): a union of at least one member, where each member
@@ -86,7 +86,7 @@ pub fn parse_geometry_collection(
 ) -> Result<(CoordType, Dimension), LayoutFault>
     ensures { Answers result (Collection (tree data_type.now)) }
 {
-    collection(&summarize(data_type))
+    parse_native(NativeKind::GeometryCollection, data_type)
 }
 
 /// Reads geometries of any kind (GeoArrow, "Geometry"): a union of at least one member, where each member is of the
@@ -99,6 +99,7 @@ pub fn parse_geometry(data_type: &DataType) -> Result<CoordType, LayoutFault>
 }
 
 /// Reads a native kind, as its own reader does. Errs on any data type that is not of that kind. Takes no memory.
+#[tactic(auto, using(crate::proofs::UnionSteps::inner_of))]
 pub fn parse_native(
     kind: NativeKind,
     data_type: &DataType,

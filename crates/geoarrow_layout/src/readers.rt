@@ -188,7 +188,7 @@ fn both_of_union(
 }
 
 /// A list over a union of members of one coordinate type and dimension.
-pub(crate) fn collection(summary: &Summary) -> Result<(CoordType, Dimension), LayoutFault>
+fn collection(summary: &Summary) -> Result<(CoordType, Dimension), LayoutFault>
     ensures { (t : Tree) → ShowsInner summary.now t → Answers result (Collection t) }
 {
     if summary.levels < 1 {

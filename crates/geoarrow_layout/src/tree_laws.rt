@@ -15,16 +15,19 @@ pub fn layouts_are_distinct()
 {}
 
 /// A law: a data type is alike to itself. There is nothing to run.
+#[tactic(auto, using(crate::proofs::AlikeLaws::alike_refl))]
 pub fn alike_to_itself()
     ensures { (t : Tree) → Alike t t }
 {}
 
 /// A law: of two alike data types each is alike to the other. There is nothing to run.
+#[tactic(auto, using(crate::proofs::AlikeLaws::alike_sym))]
 pub fn alike_both_ways()
     ensures { (t u : Tree) → Alike t u → Alike u t }
 {}
 
 /// A law: what is alike to an alike data type is alike. There is nothing to run.
+#[tactic(auto, using(crate::proofs::AlikeLaws::alike_trans))]
 pub fn alike_in_turn()
     ensures { (t u v : Tree) → Alike t u → Alike u v → Alike t v }
 {}
