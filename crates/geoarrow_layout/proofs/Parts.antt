@@ -1,5 +1,5 @@
 -- Ids and members: each is read in one way.
-use Rattle.std.proofs.Common.{◌≡◌, ◌≢◌, inl, inr, ℤ, Option, None, refl, sym, ap, subst, ◌∙◌}
+use Rattle.std.proofs.Common.{◌≡◌, ◌↔◌, ◌≢◌, inl, inr, ℤ, Option, None, refl, sym, ap, subst}
 use Rattle.arrow_values.specs.Tree.{Tree, list, large_list}
 use Rattle.geoarrow_layout.specs.declared.kinds.CoordType.{CoordType}
 use Rattle.geoarrow_layout.specs.declared.kinds.Dimension.{Dimension}
@@ -8,9 +8,9 @@ use Rattle.geoarrow_layout.specs.declared.encodings.NativeKind.{NativeKind}
 use Rattle.geoarrow_layout.specs.declared.encodings.NativeKind.TheVariants.{GeometryCollection}
 use Rattle.geoarrow_layout.specs.Shapes.{Id, OverLeaf, GeometryPart, Mixed, Answers, Native}
 use Rattle.geoarrow_layout.specs.OneShape.{any_part}
-use Rattle.geoarrow_layout.proofs.Readings.{Answer, answers_like}
+use Rattle.geoarrow_layout.proofs.Readings.{Answer, answers_like, refuses}
 use Rattle.geoarrow_layout.proofs.Bottoms.{AtNoList}
-use Rattle.geoarrow_layout.proofs.Readings.{IsPartsOf, some_parts, kinds_same, pairs_same, pairs_from, ok_pair, refused}
+use Rattle.geoarrow_layout.proofs.Readings.{IsPartsOf, some_parts, kinds_same, ok_pair, refused}
 
 abbrev pub Reading : Type 1
 Reading = Tree → NativeKind → CoordType → Dimension → Type 0
@@ -18,33 +18,15 @@ Reading = Tree → NativeKind → CoordType → Dimension → Type 0
 abbrev pub Part : Reading → ℤ → Tree → CoordType → Dimension → Type 0
 Part N i t c d = (k : NativeKind) × Id i k d × N t k c d
 
-pub part_answer : (N : Reading) (i : ℤ) (t : Tree) (k : NativeKind) (d e : Dimension) (c : CoordType) → IsPartsOf i (some_parts k d) → Answers (ok_pair c e) (N t k) → e ≡ d → Answers (ok_pair c d) (Part N i t)
-part_answer N i t k d e c parts native same = λ b f. (
-  (λ h. let p = pairs_same c b d f h in
-      let id : Id i k f = (parts k f).0 (ap (some_parts k) p.1) in
-      (k, id, (native b f).0 (pairs_from c b e f p.0 (same ∙ p.1)))),
-  (λ m. let p = kinds_same k m.0 d f ((parts m.0 f).1 m.1) in
-      let q = pairs_same c b e f ((native b f).1 (subst (λ x. N t x b f) (sym p.0) m.2)) in
-      pairs_from c b d f q.0 p.1),
-)
-
-pub part_refused : (N : Reading) (e : LayoutFault) (i : ℤ) (t : Tree) (k : NativeKind) (d f : Dimension) (c : CoordType) → IsPartsOf i (some_parts k d) → Answers (ok_pair c f) (N t k) → (f ≡ d → ⊥) → Answers (refused e) (Part N i t)
-part_refused N e i t k d f c parts native differ = λ b g. (
-  (λ h. let bad : refused e ≡ ok_pair b g = h in cc),
-  (λ m. let p = kinds_same k m.0 d g ((parts m.0 g).1 m.1) in
-      let q = pairs_same c b f g ((native b g).1 (subst (λ x. N t x b g) (sym p.0) m.2)) in
-      absurd (differ (q.1 ∙ sym p.1))),
-)
-
-pub part_fault : (N : Reading) (e : LayoutFault) (i : ℤ) (t : Tree) (k : NativeKind) (d : Dimension) → IsPartsOf i (some_parts k d) → Answers (refused e) (N t k) → Answers (refused e) (Part N i t)
-part_fault N e i t k d parts native = λ b g. (
-  (λ h. let bad : refused e ≡ ok_pair b g = h in cc),
-  (λ m. let p = kinds_same k m.0 d g ((parts m.0 g).1 m.1) in
-      absurd (let bad : refused e ≡ ok_pair b g = (native b g).1 (subst (λ x. N t x b g) (sym p.0) m.2) in cc)),
+pub part_answer : (N : Reading) (i : ℤ) (t : Tree) (k : NativeKind) (d : Dimension) (read r : Answer) → IsPartsOf i (some_parts k d) → ((c : CoordType) (e : Dimension) → (r ≡ ok_pair c e) ↔ ((read ≡ ok_pair c e) × (e ≡ d)))
+    → Answers read (N t k) → Answers r (Part N i t)
+part_answer N i t k d read r parts kept native = λ c e. (
+  (λ h. let p = (kept c e).0 h in (k, (parts k e).0 (ap (some_parts k) (sym p.1)), (native c e).0 p.0)),
+  (λ m. let p = kinds_same k m.0 d e ((parts m.0 e).1 m.1) in (kept c e).1 ((native c e).1 (subst (λ x. N t x c e) (sym p.0) m.2), sym p.1)),
 )
 
 pub part_unknown : (N : Reading) (e : LayoutFault) (i : ℤ) (t : Tree) → ((k : NativeKind) (d : Dimension) → Id i k d → ⊥) → Answers (refused e) (Part N i t)
-part_unknown N e i t none = λ b g. (λ h. let bad : refused e ≡ ok_pair b g = h in cc, λ m. absurd (none m.0 g m.1))
+part_unknown N e i t none = refuses e (Part N i t) (λ c d m. none m.0 d m.1)
 
 -- a member of a geometry
 to_part : (k : NativeKind) (i : ℤ) (t : Tree) (c : CoordType) (d : Dimension) → Id i k d → Native t k c d → GeometryPart i t c d

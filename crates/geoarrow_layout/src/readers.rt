@@ -1,5 +1,5 @@
 //! Layouts read from a summary, with the faults in the order that each reader defines.
-ghost use Rattle.std.specs.Prelude.{◌≡◌, ◌≤◌, ◌<◌, ◌↔◌, ◌^◌, Some, ℕ, List, Option, length, ◌&&◌};
+ghost use Rattle.std.specs.Prelude.{◌≡◌, ◌≤◌, ◌<◌, ◌↔◌, ◌^◌, Some, Ok, ℕ, List, Option, length, ◌&&◌};
 ghost use Rattle.arrow_values.specs.Tree.{Tree, Text};
 ghost use Rattle.geoarrow_layout.specs.declared.summary.ListWidth.{ListWidth};
 ghost use Rattle.geoarrow_layout.specs.Kinds.{order_of};
@@ -112,6 +112,21 @@ pub(crate) fn native(
     }
 }
 
+/// What was read of a member, if it has the dimension that the type id says.
+#[inline(always)]
+fn of_dimension(
+    dimension: Dimension,
+    read: Result<(CoordType, Dimension), LayoutFault>,
+) -> Result<(CoordType, Dimension), LayoutFault>
+    ensures { (c : CoordType) (d : Dimension) → (result ≡ Ok (c, d)) ↔ ((read ≡ Ok (c, d)) × (d ≡ dimension)) }
+{
+    match read {
+        Ok(pair) if pair.1 == dimension => Ok(pair),
+        Ok(_) => Err(LayoutFault::MemberDimension),
+        Err(fault) => Err(fault),
+    }
+}
+
 /// A member of a union in a collection.
 pub(crate) fn member(id: i8, summary: &Summary) -> Result<(CoordType, Dimension), LayoutFault>
     ensures { (t : Tree) → Shows summary.now t → Answers result (Member id t) }
@@ -119,12 +134,7 @@ pub(crate) fn member(id: i8, summary: &Summary) -> Result<(CoordType, Dimension)
     let Some((kind, dimension)) = parts_of_id(id) else {
         return Err(LayoutFault::BadTypeId);
     };
-    let (coord_type, found) = native(kind, summary)?;
-    if found == dimension {
-        Ok((coord_type, dimension))
-    } else {
-        Err(LayoutFault::MemberDimension)
-    }
+    of_dimension(dimension, native(kind, summary))
 }
 
 /// The one coordinate type of a set.
@@ -233,12 +243,7 @@ pub(crate) fn geometry_part(
     let Some((kind, dimension)) = parts_of_id(id) else {
         return Err(LayoutFault::BadTypeId);
     };
-    let (coord_type, found) = any_native(kind, summary)?;
-    if found == dimension {
-        Ok((coord_type, dimension))
-    } else {
-        Err(LayoutFault::MemberDimension)
-    }
+    of_dimension(dimension, any_native(kind, summary))
 }
 
 /// A union of members of one coordinate type and dimension.

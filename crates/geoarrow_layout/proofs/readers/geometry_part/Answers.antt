@@ -1,31 +1,15 @@
 use Rattle.std.proofs.Common.{◌≡◌, subst, rules, w8, to_z, of_z}
-use Rattle.std.proofs.lemmas.Result.{err_from_is_err_and}
 use Rattle.std.proofs.lemmas.Int.{to_z-of_z}
 use Rattle.geoarrow_layout.specs.Shapes.{Native}
 use Rattle.geoarrow_layout.proofs.Readings.{IsPartsOf, some_parts}
-use Rattle.geoarrow_layout.proofs.Parts.{part_answer, part_refused, part_fault, part_unknown, geometry_answer, no_parts, none_known}
+use Rattle.geoarrow_layout.proofs.Parts.{part_answer, part_unknown, geometry_answer, no_parts, none_known}
 use Rattle.geoarrow_layout.proofs.readers.geometry_part.Goals as goal
 
-pub returns-then-eq : goal.returns-then-eq
-returns-then-eq c =
-    let same : c.in_ok-coord_type.found ≡ c.in-Some.dimension = search rules in
+pub returns : goal.returns
+returns c =
     let id_is : to_z w8 (of_z w8 c.args.id) ≡ c.args.id = search (rules, to_z-of_z) in
     let parts = subst (λ i. IsPartsOf i (some_parts c.in-Some.kind c.in-Some.dimension)) id_is c.in-Some.ensures in
-    λ t h. geometry_answer _ _ t (part_answer Native _ t _ _ _ _ parts (c.in_ok-coord_type.ensures t h) same)
-
-pub returns-else-eq : goal.returns-else-eq
-returns-else-eq c =
-    let differ : c.in_ok-coord_type.found ≡ c.in-Some.dimension → ⊥ = search rules in
-    let id_is : to_z w8 (of_z w8 c.args.id) ≡ c.args.id = search (rules, to_z-of_z) in
-    let parts = subst (λ i. IsPartsOf i (some_parts c.in-Some.kind c.in-Some.dimension)) id_is c.in-Some.ensures in
-    λ t h. geometry_answer _ _ t (part_refused Native _ _ t _ _ _ _ parts (c.in_ok-coord_type.ensures t h) differ)
-
-pub returns-in_err-coord_type : goal.returns-in_err-coord_type
-returns-in_err-coord_type c =
-    let p = err_from_is_err_and c.from_residual.result c.from_residual.ensures.1 in
-    let id_is : to_z w8 (of_z w8 c.args.id) ≡ c.args.id = search (rules, to_z-of_z) in
-    let parts = subst (λ i. IsPartsOf i (some_parts c.in-Some.kind c.in-Some.dimension)) id_is c.in-Some.ensures in
-    rw (p.1, p.2) (λ t h. geometry_answer _ _ t (part_fault Native _ _ t _ _ parts (c.in_err-coord_type.ensures t h)))
+    λ t h. geometry_answer _ _ t (part_answer Native _ t _ _ _ _ parts c.of_dimension.ensures (c.any_native.ensures t h))
 
 pub returns-in_default : goal.returns-in_default
 returns-in_default c =
