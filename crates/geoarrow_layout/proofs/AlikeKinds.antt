@@ -15,7 +15,7 @@ use Rattle.geoarrow_layout.specs.declared.summary.ListWidth.{ListWidth}
 use Rattle.geoarrow_layout.specs.declared.summary.ListWidth.TheVariants.{List as Lists, LargeList as LargeLists}
 use Rattle.geoarrow_layout.specs.Shapes.{names_of, SameNames, AllMembers, Leaf, IsSeparatedAs, ListsOver, Levels, levels_of, OverLeaf, Member, Mixed, HasMembers, Collection, Native, GeometryMember, Geometry, HaveBoth, IsBoxAs, BoxShape, IsBytes, IsText, Accepted, Accepts}
 use Rattle.geoarrow_layout.specs.Alike.{AlikeNames, Alike, EachHasAlike, HasAlike}
-use Rattle.geoarrow_layout.proofs.UnionSteps.{all_map}
+use Rattle.geoarrow_layout.proofs.MemberLists.{all_map}
 use Rattle.geoarrow_layout.proofs.AlikeLaws.{alike_sym, has_any, any_all, any_out}
 
 -- names

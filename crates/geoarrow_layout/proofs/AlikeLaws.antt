@@ -2,7 +2,7 @@
 use Rattle.std.proofs.Common.{◌≡◌, inl, inr, ℤ, List, refl, sym, ◌∙◌, subst}
 use Rattle.arrow_values.specs.Tree.{Text, Tree, plain, list, large_list, fixed_size_list, struct, union, MemberTrees, no_members, member}
 use Rattle.geoarrow_layout.specs.Shapes.{names_of, SameNames, AllMembers, SomeMember}
-use Rattle.geoarrow_layout.proofs.UnionSteps.{all_map}
+use Rattle.geoarrow_layout.proofs.MemberLists.{all_map}
 use Rattle.geoarrow_layout.specs.Alike.{AlikeNames, Alike, EachHasAlike, HasAlike}
 
 names_refl : (xs : List Text) → AlikeNames xs xs

@@ -1,30 +1,60 @@
--- The members of a union, one at a time.
-use Rattle.std.proofs.Common.{◌≡◌, ◌<◌, ◌≤◌, ℕ, zero, suc, ℤ, List, [], ◌∷◌, take, length, get_or, refl, ap, arith}
-use Rattle.arrow_values.specs.Tree.{Tree, FieldTree}
+-- The members of a union: what holds of all of them, or of some.
+use Rattle.std.proofs.Common.{◌≡◌, ◌<◌, ◌+◌, ◌⊎◌, inl, inr, ℕ, ℤ, List, [], ◌∷◌, ◌++◌, take, length, get_or, sym, ap, ◌∙◌, add-one}
+use Rattle.std.proofs.Math.Seq.{take-suc}
+use Rattle.arrow_values.specs.Tree.{Tree, FieldTree, MemberTrees, no_members, member}
 use Rattle.arrow_values.specs.View.{member_trees}
-use Rattle.geoarrow_layout.specs.Shapes.{AllMembers}
+use Rattle.geoarrow_layout.specs.Shapes.{AllMembers, SomeMember, HasMembers}
 
 abbrev pub Items : Type 0
 Items = List (ℤ × FieldTree)
 
-pub all_more : (P : ℤ → Tree → Type 0) (xs : Items) (k : ℕ) (x : ℤ × FieldTree) → k < length xs → AllMembers P (member_trees (take k xs)) → P (get_or xs k x).0 (get_or xs k x).1.tree → AllMembers P (member_trees (take (suc k) xs))
-all_more P [] k x lt h p = absurd (omega arith)
-all_more P (y ∷ xs) zero x lt h p = (p, tt)
-all_more P (y ∷ xs) (suc k) x lt h p = (h.0, all_more P xs k x (omega arith) h.1 p)
+pub all_map : (P Q : ℤ → Tree → Type 0) → ((i : ℤ) (t : Tree) → P i t → Q i t) → (ms : MemberTrees) → AllMembers P ms → AllMembers Q ms
+all_map P Q f no_members h = tt
+all_map P Q f (member i n t b m ms) h = (f i t h.0, all_map P Q f ms h.1)
 
-pub all_less : (P : ℤ → Tree → Type 0) (xs : Items) (k : ℕ) → AllMembers P (member_trees (take (suc k) xs)) → AllMembers P (member_trees (take k xs))
-all_less P [] zero h = tt
-all_less P [] (suc k) h = tt
-all_less P (y ∷ xs) zero h = tt
-all_less P (y ∷ xs) (suc k) h = (h.0, all_less P xs k h.1)
+-- the same where a member with W is some member with W
+pub all_inside : (P Q : ℤ → Tree → Type 0) (ms : MemberTrees) → ((i : ℤ) (t : Tree) → P i t → ((W : ℤ → Tree → Type 0) → W i t → SomeMember W ms) → Q i t) → AllMembers P ms → AllMembers Q ms
+all_inside P Q no_members f h = tt
+all_inside P Q (member i n t b m ms) f h = (f i t h.0 (λ W w. inl w), all_inside P Q ms (λ j u p inside. f j u p (λ W w. inr (inside W w))) h.1)
 
-pub all_last : (P : ℤ → Tree → Type 0) (xs : Items) (k : ℕ) (x : ℤ × FieldTree) → k < length xs → AllMembers P (member_trees (take (suc k) xs)) → P (get_or xs k x).0 (get_or xs k x).1.tree
-all_last P [] k x lt h = absurd (omega arith)
-all_last P (y ∷ xs) zero x lt h = h.0
-all_last P (y ∷ xs) (suc k) x lt h = all_last P xs k x (omega arith) h.1
+pub all_some : (P Q : ℤ → Tree → Type 0) (X : Type 0) → ((i : ℤ) (t : Tree) → P i t → Q i t → X) → (ms : MemberTrees) → AllMembers P ms → SomeMember Q ms → X
+all_some P Q X f no_members h k = absurd k
+all_some P Q X f (member i n t b m ms) h (inl q) = f i t h.0 q
+all_some P Q X f (member i n t b m ms) h (inr k) = all_some P Q X f ms h.1 k
 
-pub take_end : (xs : Items) (k : ℕ) → length xs ≤ k → take k xs ≡ xs
-take_end [] zero h = refl
-take_end [] (suc k) h = refl
-take_end (x ∷ xs) zero h = absurd (omega arith)
-take_end (x ∷ xs) (suc k) h = ap (λ r. x ∷ r) (take_end xs k (omega arith))
+pub first_some : (P : ℤ → Tree → Type 0) (ms : MemberTrees) → HasMembers ms → AllMembers P ms → SomeMember P ms
+first_some P no_members some h = absurd some
+first_some P (member i n t b m ms) some h = inl h.0
+
+-- of two parts
+pub all_both : (P : ℤ → Tree → Type 0) (xs ys : Items) → AllMembers P (member_trees xs) → AllMembers P (member_trees ys) → AllMembers P (member_trees (xs ++ ys))
+all_both P [] ys h k = k
+all_both P (x ∷ xs) ys h k = (h.0, all_both P xs ys h.1 k)
+
+pub all_first : (P : ℤ → Tree → Type 0) (xs ys : Items) → AllMembers P (member_trees (xs ++ ys)) → AllMembers P (member_trees xs)
+all_first P [] ys h = tt
+all_first P (x ∷ xs) ys h = (h.0, all_first P xs ys h.1)
+
+pub all_second : (P : ℤ → Tree → Type 0) (xs ys : Items) → AllMembers P (member_trees (xs ++ ys)) → AllMembers P (member_trees ys)
+all_second P [] ys h = h
+all_second P (x ∷ xs) ys h = all_second P xs ys h.1
+
+-- with one more at the end
+pub some_before : (P : ℤ → Tree → Type 0) (xs : Items) (x : ℤ × FieldTree) → SomeMember P (member_trees xs) → SomeMember P (member_trees (xs ++ (x ∷ [])))
+some_before P [] x h = absurd h
+some_before P (y ∷ xs) x (inl p) = inl p
+some_before P (y ∷ xs) x (inr h) = inr (some_before P xs x h)
+
+pub some_last : (P : ℤ → Tree → Type 0) (xs : Items) (x : ℤ × FieldTree) → P x.0 x.1.tree → SomeMember P (member_trees (xs ++ (x ∷ [])))
+some_last P [] x p = inl p
+some_last P (y ∷ xs) x p = inr (some_last P xs x p)
+
+pub some_either : (P : ℤ → Tree → Type 0) (xs : Items) (x : ℤ × FieldTree) → SomeMember P (member_trees (xs ++ (x ∷ []))) → SomeMember P (member_trees xs) ⊎ P x.0 x.1.tree
+some_either P [] x (inl p) = inr p
+some_either P [] x (inr h) = absurd h
+some_either P (y ∷ xs) x (inl p) = inl (inl p)
+some_either P (y ∷ xs) x (inr h) = elim (some_either P xs x h) [ inl s ↦ inl (inr s) | inr p ↦ inr p ]
+
+-- the element that a loop is at is one more
+pub one_more : {X : Type 0} (xs : List X) (k : ℕ) (x : X) → k < length xs → x ≡ get_or xs k x → take (k + 1) xs ≡ take k xs ++ (x ∷ [])
+one_more xs k x lt at = rw add-one (take-suc xs k x lt ∙ ap (λ y. take k xs ++ (y ∷ [])) (sym at))

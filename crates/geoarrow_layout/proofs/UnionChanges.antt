@@ -11,6 +11,7 @@ use Rattle.geoarrow_layout.specs.declared.kinds.CoordType.{CoordType}
 use Rattle.geoarrow_layout.specs.declared.kinds.Dimension.{Dimension}
 use Rattle.geoarrow_layout.specs.Shapes.{AllMembers, HasMembers, GeometryMember, Member}
 use Rattle.geoarrow_layout.specs.Changes.{GeometryUnion, MixedUnion, AlikeUnions, EachOf, AreJust}
+use Rattle.geoarrow_layout.proofs.MemberLists.{all_both, all_first, all_second}
 use Rattle.geoarrow_layout.proofs.AlikeLaws.{Holds, each_refl, back_refl, members_refl}
 
 -- members, at least one, that all have P
@@ -44,18 +45,6 @@ pub mixed_kept : (is : List ℤ) (ms ns : Members) → ns ≡ retained is ms →
 mixed_kept is ms ns kept some c d h = filled_kept (λ i t. Member i t c d) is ms ns kept some h
 
 -- both are joined
-all_joined : (P : ℤ → Tree → Type 0) (ms ns : Members) → AllMembers P (member_trees ms) → AllMembers P (member_trees ns) → AllMembers P (member_trees (ms ++ ns))
-all_joined P [] ns h k = k
-all_joined P (m ∷ ms) ns h k = (h.0, all_joined P ms ns h.1 k)
-
-all_first : (P : ℤ → Tree → Type 0) (ms ns : Members) → AllMembers P (member_trees (ms ++ ns)) → AllMembers P (member_trees ms)
-all_first P [] ns h = tt
-all_first P (m ∷ ms) ns h = (h.0, all_first P ms ns h.1)
-
-all_second : (P : ℤ → Tree → Type 0) (ms ns : Members) → AllMembers P (member_trees (ms ++ ns)) → AllMembers P (member_trees ns)
-all_second P [] ns h = h
-all_second P (m ∷ ms) ns h = all_second P ms ns h.1
-
 all_of : (P : ℤ → Tree → Type 0) (ms : Members) → (ms ≢ [] → Filled P ms) → AllMembers P (member_trees ms)
 all_of P [] h = tt
 all_of P (m ∷ ms) h = (h (λ e. cc) Dense).1
@@ -64,7 +53,7 @@ filled_joined : (P : ℤ → Tree → Type 0) (ms ns all : Members) → all ≡ 
 filled_joined P ms ns all joined = (
   (λ h. let each : AllMembers P (member_trees (ms ++ ns)) = subst (λ x. AllMembers P (member_trees x)) joined (h Dense).1 in
       (any_members all (h Dense).0, (λ some mode. (some_members ms some, all_first P ms ns each)), (λ some mode. (some_members ns some, all_second P ms ns each)))),
-  (λ h mode. (some_members all h.0, subst (λ x. AllMembers P (member_trees x)) (sym joined) (all_joined P ms ns (all_of P ms h.1) (all_of P ns h.2)))),
+  (λ h mode. (some_members all h.0, subst (λ x. AllMembers P (member_trees x)) (sym joined) (all_both P ms ns (all_of P ms h.1) (all_of P ns h.2)))),
 )
 
 pub geometry_joined : (ms ns all : Members) → all ≡ ms ++ ns → (c : CoordType) → GeometryUnion c all ↔ EachOf (GeometryUnion c) ms ns all

@@ -1,6 +1,6 @@
 -- What is written is read as what it was written for.
 use Rattle.std.proofs.Common.{◌≡◌, ℤ, [], ◌∷◌, ◌++◌, true, false, inl, inr, refl}
-use Rattle.arrow_values.specs.Tree.{Tree, Members}
+use Rattle.arrow_values.specs.Tree.{Tree}
 use Rattle.arrow_values.specs.View.{member_trees}
 use Rattle.arrow_values.specs.Union.{HasTypeIds}
 use Rattle.geoarrow_layout.specs.declared.kinds.CoordType.{CoordType}
@@ -16,7 +16,7 @@ use Rattle.geoarrow_layout.specs.declared.encodings.Kind.TheVariants.{Native as 
 use Rattle.geoarrow_layout.specs.Kinds.{name_of}
 use Rattle.geoarrow_layout.specs.Shapes.{Leaf, LeafUnder, levels_of, SameNames, Member, AllMembers, Collection, GeometryMember, Geometry, BoxShape, Accepted, Accepts}
 use Rattle.geoarrow_layout.specs.Layouts.{leaf_layout, over_leaf_layout, member_layout, mixed_members, mixed_layout, native_layout, dimension_members, geometry_members, geometry_layout, box_layout, layout, IsWritten, IsWrittenSome}
-use Rattle.geoarrow_layout.proofs.UnionSteps.{all_map}
+use Rattle.geoarrow_layout.proofs.MemberLists.{all_map, all_both}
 
 pub written_leaf : (c : CoordType) (d : Dimension) → Leaf (leaf_layout c d) c d
 unfolding SameNames
@@ -40,20 +40,16 @@ written_collection : (c : CoordType) (d : Dimension) → Collection (native_layo
 written_collection c d = (mixed_layout c d, (Lists, refl), (tt, written_mixed c d))
 
 -- the members of a union of geometries
-all_append : (P : ℤ → Tree → Type 0) (xs ys : Members) → AllMembers P (member_trees xs) → AllMembers P (member_trees ys) → AllMembers P (member_trees (xs ++ ys))
-all_append P [] ys h k = k
-all_append P (x ∷ xs) ys h k = (h.0, all_append P xs ys h.1 k)
-
 -- what holds of the members of each dimension
 all_dimensions : (P : ℤ → Tree → Type 0) (c : CoordType) → ((d : Dimension) → AllMembers P (member_trees (dimension_members c d))) → AllMembers P (member_trees (geometry_members c))
 all_dimensions P c h =
-    all_append P (dimension_members c XY ++ dimension_members c XYZ ++ dimension_members c XYM) (dimension_members c XYZM)
-    (all_append P (dimension_members c XY ++ dimension_members c XYZ) (dimension_members c XYM)
-    (all_append P (dimension_members c XY) (dimension_members c XYZ) (h XY) (h XYZ)) (h XYM)) (h XYZM)
+    all_both P (dimension_members c XY ++ dimension_members c XYZ ++ dimension_members c XYM) (dimension_members c XYZM)
+    (all_both P (dimension_members c XY ++ dimension_members c XYZ) (dimension_members c XYM)
+    (all_both P (dimension_members c XY) (dimension_members c XYZ) (h XY) (h XYZ)) (h XYM)) (h XYZM)
 
 written_dimension : (c : CoordType) (d : Dimension) → AllMembers (GeometryMember c) (member_trees (dimension_members c d))
 written_dimension c d =
-    all_append (GeometryMember c) (mixed_members c d) (member_layout GeometryCollection d (native_layout GeometryCollection c d) ∷ [])
+    all_both (GeometryMember c) (mixed_members c d) (member_layout GeometryCollection d (native_layout GeometryCollection c d) ∷ [])
     (all_map (λ i t. Member i t c d) (GeometryMember c) (λ i t m. (d, inl m)) (member_trees (mixed_members c d)) (written_mixed c d))
     ((d, inr (refl, written_collection c d)), tt)
 
@@ -91,7 +87,7 @@ mixed_written c d = ((Point, refl, refl), ((LineString, refl, refl), ((Polygon, 
 
 dimension_written : (c : CoordType) (d : Dimension) → AllMembers (IsWrittenSome c) (member_trees (dimension_members c d))
 dimension_written c d =
-    all_append (IsWrittenSome c) (mixed_members c d) (member_layout GeometryCollection d (native_layout GeometryCollection c d) ∷ [])
+    all_both (IsWrittenSome c) (mixed_members c d) (member_layout GeometryCollection d (native_layout GeometryCollection c d) ∷ [])
     (all_map (IsWritten c d) (IsWrittenSome c) (λ i t m. (d, m)) (member_trees (mixed_members c d)) (mixed_written c d))
     ((d, (GeometryCollection, refl, refl)), tt)
 
