@@ -1,21 +1,16 @@
 -- Sets of bits.
-use Rattle.std.proofs.Common.{◌≡◌, ◌≢◌, ◌↔◌, ◌<◌, ◌⊎◌, ◌*◌, ◌%◌, ◌^◌, inl, inr, ℕ, zero, suc, refl, sym, ap, subst, ◌∙◌, arith}
+use Rattle.std.proofs.Common.{◌≡◌, ◌↔◌, ◌<◌, ◌⊎◌, ◌*◌, ◌%◌, ◌^◌, inl, inr, ℕ, sym, ap, subst, ◌∙◌}
 use Rattle.std.specs.Int.{bit_at, Width}
 use Rattle.std.specs.Int.RustNames.{bit_or}
 use Rattle.std.proofs.lemmas.Nat.Bits.{bit_at_set_same, bit_at_set_other, bit_at-zero}
+use Rattle.std.proofs.lemmas.Bool.{cases_eq}
 use mir.Val.{bits}
 use Rattle.geoarrow_layout.specs.Summary.{IsBits}
 use Rattle.geoarrow_layout.specs.Steps.{AddsBit}
 
-pub same_or_not : (i k : ℕ) → (k ≡ i) ⊎ (k ≢ i)
-same_or_not zero zero = inl refl
-same_or_not zero (suc k) = inr (λ h. cc)
-same_or_not (suc i) zero = inr (λ h. cc)
-same_or_not (suc i) (suc k) = elim (same_or_not i k) [ inl e ↦ inl (ap suc e) | inr e ↦ inr (λ h. e (omega arith)) ]
-
 pub adds_bit : (w : Width) (n i : ℕ) → i < bits w → AddsBit n i (bit_or n (1 * 2 ^ i % 2 ^ bits w))
 unfolding AddsBit
-adds_bit w n i within = λ k. elim (same_or_not i k) [
+adds_bit w n i within = λ k. elim (cases_eq k i) [
   | inl e ↦ (λ h. inr e, λ h. ap (bit_at (bit_or n (1 * 2 ^ i % 2 ^ bits w))) e ∙ bit_at_set_same w n i within)
   | inr e ↦ let other = bit_at_set_other w n i within k e in
       (λ h. inl (sym other ∙ h), λ h. elim h [ inl was ↦ other ∙ was | inr is ↦ absurd (e is) ])

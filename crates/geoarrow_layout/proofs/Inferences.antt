@@ -1,6 +1,6 @@
 -- Points that trees are taken for.
-use Rattle.std.proofs.Common.{◌≡◌, ◌↔◌, ◌<◌, ◌⊎◌, inl, inr, ℕ, ℤ, pos, refl, sym, ap, subst, ◌∙◌, arith, Bool, true, false, ◌&&◌, Option, Some, None, List, [], ◌∷◌, length}
-use Rattle.std.proofs.lemmas.Bool.{and_parts}
+use Rattle.std.proofs.Common.{◌≡◌, ◌↔◌, ◌<◌, inl, inr, ℕ, ℤ, pos, refl, sym, ap, subst, ◌∙◌, arith, Bool, true, false, ◌&&◌, Option, Some, None, List, [], ◌∷◌, length}
+use Rattle.std.proofs.lemmas.Bool.{and_parts, cases_Bool}
 use Rattle.std.proofs.lemmas.Option.{same_Some}
 use Rattle.arrow_values.specs.Tree.{Text, Metadata, Tree, list, large_list, fixed_size_list, struct, FieldTrees}
 use Rattle.geoarrow_layout.specs.declared.kinds.CoordType.{CoordType}
@@ -75,10 +75,6 @@ size_inferred w named size floats o r u k all says pairs =
     (λ fs h. absurd h) (λ ms mode h. absurd h) u k
 
 -- structs
-true_or_not : (b : Bool) → (b ≡ true) ⊎ (b ≡ false)
-true_or_not true = inl refl
-true_or_not false = inr refl
-
 abbrev Bits : ℕ → List Text → Type 0
 Bits bits ns = IsBits bits (λ i. SomeAt i ns)
 
@@ -99,11 +95,11 @@ measured_from bits ns is h same =
 names_are : (d : Dimension) (count bits : ℕ) (ns : List Text) → count ≡ length ns → Bits bits ns → NamesSay d count bits ↔ IsInferredAs d ns
 names_are XYZ count bits ns same is = (
   (λ h. (sym same ∙ h.0, measured_from bits ns is h.1)),
-  (λ h. (same ∙ h.0, elim (true_or_not (is_measured bits)) [ inl e ↦ absurd (h.1 (measured_to bits ns is h.0 e)) | inr e ↦ e ])),
+  (λ h. (same ∙ h.0, elim (cases_Bool (is_measured bits)) [ inl e ↦ absurd (h.1 (measured_to bits ns is h.0 e)) | inr e ↦ e ])),
 )
 names_are XYM count bits ns same is = (
   (λ h. (sym same ∙ h.0, measured_to bits ns is (sym same ∙ h.0) h.1)),
-  (λ h. (same ∙ h.0, elim (true_or_not (is_measured bits)) [ inl e ↦ e | inr e ↦ absurd (measured_from bits ns is e h.1) ])),
+  (λ h. (same ∙ h.0, elim (cases_Bool (is_measured bits)) [ inl e ↦ e | inr e ↦ absurd (measured_from bits ns is e h.1) ])),
 )
 names_are _ count bits ns same is = (λ h. sym same ∙ h, λ h. same ∙ h)
 

@@ -179,10 +179,6 @@ no_names t box point linestring polygon multipolygon collection geometry n = (λ
     from (OfRect d) h s = box (d, h)
     from _ h s = s
 
--- a test that decides X and fails refutes it
-pub refuted : (r : Bool) (X : Type 0) → IsTrue r ↔ X → r ≡ false → ¬ X
-refuted r X says fails = λ x. true≢false (sym (says.1 x) ∙ fails)
-
 -- a reader answers where something is read
 abbrev ok_of : CoordType × Dimension → Answer
 ok_of p = Ok p

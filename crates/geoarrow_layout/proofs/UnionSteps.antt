@@ -2,6 +2,7 @@
 use Rattle.std.proofs.Common.{◌≡◌, ◌≢◌, ◌↔◌, ◌<◌, ◌≤◌, ◌+◌, ◌^◌, ◌⊎◌, inl, inr, ℕ, zero, suc, ℤ, pos, Result, Ok, Err, Option, Some, None, Bool, true, false, [], ◌∷◌, ◌++◌, take, length, get_or, refl, sym, ap, subst, ◌∙◌, arith, nat_eq}
 use Rattle.std.specs.Int.{bit_at}
 use Rattle.std.proofs.Math.Dec.{eqb-suc-zero}
+use Rattle.std.proofs.lemmas.Bool.{cases_eq}
 use Rattle.std.proofs.lemmas.List.{take_all}
 use Rattle.std.proofs.lemmas.Nat.Bits.{same_from_bits, bit_at-pow_same, bit_at-pow_other, bit_at-lt}
 use Rattle.arrow_values.specs.Tree.{Tree, list, large_list, union, FieldTree, MemberTrees, no_members}
@@ -26,7 +27,7 @@ use Rattle.geoarrow_layout.proofs.Readings.{ok, ok_same, ok_pair, pairs_same, re
 use Rattle.geoarrow_layout.proofs.MemberLists.{Items, all_map, all_inside, all_some, first_some, all_both, all_first, all_second, some_before, some_last, some_either, one_more}
 use Rattle.geoarrow_layout.proofs.Parts.{mixed_apart}
 use Rattle.geoarrow_layout.proofs.Bottoms.{NotList, not_less, at_bottom}
-use Rattle.geoarrow_layout.proofs.BitSteps.{bits_like, no_bits, bit_is, same_or_not}
+use Rattle.geoarrow_layout.proofs.BitSteps.{bits_like, no_bits, bit_is}
 
 abbrev pub Reads : Type 1
 Reads = ℤ → Tree → CoordType → Dimension → Type 0
@@ -36,7 +37,7 @@ OneReading R = (i : ℤ) (t : Tree) (c b : CoordType) (d e : Dimension) → R i 
 
 -- one bit alone
 is_pow : (n j : ℕ) → IsBits n (λ i. i ≡ j) → n ≡ 2 ^ j
-is_pow n j h = same_from_bits n (2 ^ j) (λ i. at_bit i (same_or_not j i))
+is_pow n j h = same_from_bits n (2 ^ j) (λ i. at_bit i (cases_eq i j))
   where
     at_bit : (i : ℕ) → (i ≡ j) ⊎ (i ≢ j) → bit_at n i ≡ bit_at (2 ^ j) i
     at_bit i (inl e) = let one : bit_at (2 ^ j) i ≡ 1 = ap (bit_at (2 ^ j)) e ∙ bit_at-pow_same j in (bit_is n (λ k. k ≡ j) i h).1 e ∙ sym one
@@ -47,7 +48,7 @@ is_pow n j h = same_from_bits n (2 ^ j) (λ i. at_bit i (same_or_not j i))
         omega arith
 
 pow_bit : (n j i : ℕ) → n ≡ 2 ^ j → bit_at n i ≡ 1 → i ≡ j
-pow_bit n j i is one = elim (same_or_not j i) [ inl e ↦ e | inr e ↦ let z : bit_at n i ≡ 0 = ap (λ m. bit_at m i) is ∙ bit_at-pow_other j i e in absurd (omega arith) ]
+pow_bit n j i is one = elim (cases_eq i j) [ inl e ↦ e | inr e ↦ let z : bit_at n i ≡ 0 = ap (λ m. bit_at m i) is ∙ bit_at-pow_other j i e in absurd (omega arith) ]
 
 place_same : (c b : CoordType) → place_of c ≡ place_of b → c ≡ b
 place_same Interleaved Interleaved h = refl
