@@ -9,7 +9,7 @@ use Rattle.geoarrow_layout.specs.declared.fault.LayoutFault.{LayoutFault}
 use Rattle.geoarrow_layout.specs.Kinds.{order_of}
 use Rattle.geoarrow_layout.specs.Summary.{place_of}
 use Rattle.geoarrow_layout.specs.Steps.{AddsBit, AddsBits, CoordOf, DimensionOf, SomeAnswer}
-use Rattle.geoarrow_layout.proofs.Readings.{Answer}
+use Rattle.geoarrow_layout.proofs.Readings.{Answer, ok_same}
 
 adds_none : (n : ℕ) (P : ℕ → Type 0) → ((i : ℕ) → P i → ⊥) → AddsBits n P n
 unfolding AddsBits
@@ -22,19 +22,13 @@ adds_one n j more P there only adds = λ i. (
   (λ h. elim h [ inl e ↦ (adds i).1 (inl e) | inr p ↦ (adds i).1 (inr (only i p)) ]),
 )
 
-abbrev ok_of : CoordType × Dimension → Answer
-ok_of p = Ok p
-
-ok_of_same : (p q : CoordType × Dimension) → ok_of p ≡ ok_of q → p ≡ q
-ok_of_same p q h = cc
-
 pos_same : (m n : ℕ) → pos m ≡ pos n → m ≡ n
 pos_same m n h = cc
 
 pub coord_added : (n j more : ℕ) (part : Answer) (p : CoordType × Dimension) → part ≡ Ok p → j ≡ place_of p.0 → AddsBit n j more → AddsBits n (CoordOf part) more
 coord_added n j more part p is place adds =
     adds_one n j more (CoordOf part) (p.0, place, p.1, is)
-    (λ i h. h.1 ∙ ap place_of (ap (λ x. x.0) (ok_of_same (h.0, h.2) p (sym h.3 ∙ is))) ∙ sym place) adds
+    (λ i h. h.1 ∙ ap place_of (ap (λ x. x.0) (ok_same (h.0, h.2) p (sym h.3 ∙ is))) ∙ sym place) adds
 
 pub coord_kept : (n : ℕ) (part : Answer) (f : LayoutFault) → part ≡ Err f → AddsBits n (CoordOf part) n
 coord_kept n part f is = adds_none n (CoordOf part) (λ i h. let bad = sym h.3 ∙ is in cc)
@@ -42,7 +36,7 @@ coord_kept n part f is = adds_none n (CoordOf part) (λ i h. let bad = sym h.3 �
 pub dimension_added : (n j more : ℕ) (part : Answer) (p : CoordType × Dimension) → part ≡ Ok p → j ≡ order_of p.1 → AddsBit n j more → AddsBits n (DimensionOf part) more
 dimension_added n j more part p is place adds =
     adds_one n j more (DimensionOf part) (p.1, place, p.0, is)
-    (λ i h. h.1 ∙ ap order_of (ap (λ x. x.1) (ok_of_same (h.2, h.0) p (sym h.3 ∙ is))) ∙ sym place) adds
+    (λ i h. h.1 ∙ ap order_of (ap (λ x. x.1) (ok_same (h.2, h.0) p (sym h.3 ∙ is))) ∙ sym place) adds
 
 pub dimension_kept : (n : ℕ) (part : Answer) (f : LayoutFault) → part ≡ Err f → AddsBits n (DimensionOf part) n
 dimension_kept n part f is = adds_none n (DimensionOf part) (λ i h. let bad = sym h.3 ∙ is in cc)

@@ -13,10 +13,11 @@ use Rattle.geoarrow_layout.specs.declared.encodings.Kind.{Kind}
 use Rattle.geoarrow_layout.specs.declared.encodings.Kind.TheVariants.{Native as OfNative, Geometry as OfGeometry, Rect as OfRect, Wkb as OfWkb, Wkt as OfWkt}
 use Rattle.geoarrow_layout.specs.declared.summary.ListWidth.{ListWidth}
 use Rattle.geoarrow_layout.specs.declared.summary.ListWidth.TheVariants.{List as Lists, LargeList as LargeLists}
-use Rattle.geoarrow_layout.specs.Shapes.{names_of, SameNames, AllMembers, Leaf, IsSeparatedAs, ListsOver, Levels, levels_of, OverLeaf, Member, Mixed, HasMembers, Collection, Native, GeometryMember, Geometry, HaveBoth, IsBoxAs, BoxShape, IsBytes, IsText, Accepted, Accepts}
+use Rattle.geoarrow_layout.specs.Shapes.{names_of, SameNames, AllMembers, Leaf, IsSeparatedAs, ListsOver, levels_of, OverLeaf, Member, Mixed, HasMembers, Collection, Native, GeometryMember, Geometry, HaveBoth, IsBoxAs, BoxShape, IsBytes, IsText, Accepted, Accepts}
 use Rattle.geoarrow_layout.specs.Alike.{AlikeNames, Alike, EachHasAlike, HasAlike}
-use Rattle.geoarrow_layout.proofs.MemberLists.{all_map}
-use Rattle.geoarrow_layout.proofs.AlikeLaws.{alike_sym, has_any, any_all, any_out}
+use Rattle.geoarrow_layout.proofs.MemberLists.{all_map, all_some}
+use Rattle.geoarrow_layout.proofs.Bottoms.{Under}
+use Rattle.geoarrow_layout.proofs.AlikeLaws.{alike_sym, has_any}
 
 -- names
 alike_separated : (xs ys : List Text) (d : Dimension) → AlikeNames xs ys → IsSeparatedAs d xs → IsSeparatedAs d ys
@@ -61,11 +62,7 @@ alike_lists Lists (suc n) (list nm t b m) _ x h l = absurd h
 alike_lists LargeLists (suc n) (large_list nm t b m) _ x h l = absurd h
 alike_lists _ (suc n) _ _ x h l = absurd l
 
--- what stands under so many levels
-abbrev Below : (Tree → CoordType → Dimension → Type 0) → ℕ → Tree → CoordType → Dimension → Type 0
-Below P n t c d = (u : Tree) × Levels t n u × P u c d
-
-alike_below : (P : Tree → CoordType → Dimension → Type 0) → ((t u : Tree) (c : CoordType) (d : Dimension) → Alike t u → P t c d → P u c d) → (n : ℕ) (t u : Tree) (c : CoordType) (d : Dimension) → Alike t u → Below P n t c d → Below P n u c d
+alike_below : (P : Tree → CoordType → Dimension → Type 0) → ((t u : Tree) (c : CoordType) (d : Dimension) → Alike t u → P t c d → P u c d) → (n : ℕ) (t u : Tree) (c : CoordType) (d : Dimension) → Alike t u → Under P n t c d → Under P n u c d
 alike_below P moves n t u c d h l =
     let y = alike_lists l.1.0 n t u l.0 h l.1.1 in
     (y.0, (l.1.0, y.1), moves l.0 y.0 c d y.2 l.2)
@@ -81,7 +78,7 @@ Shared P = (i : ℤ) (t u : Tree) → Alike t u → P i t → P i u
 pub alike_all : (P : ℤ → Tree → Type 0) → Shared P → (ms ns : MemberTrees) → AllMembers (HasAlike ms) ns → AllMembers P ms → AllMembers P ns
 alike_all P shared ms ns h all =
     all_map (HasAlike ms) P
-    (λ j u one. any_out (λ i t. ((i ≡ j) × Alike t u) × P i t) (P j u) ms (λ i t x. subst (λ k. P k u) x.0.0 (shared i t u x.0.1 x.1)) (any_all (λ i t. (i ≡ j) × Alike t u) P ms (has_any ms j u one) all))
+    (λ j u one. all_some P (λ i t. (i ≡ j) × Alike t u) (P j u) (λ i t p x. subst (λ k. P k u) x.0 (shared i t u x.1 p)) ms all (has_any ms j u one))
     ns h
 
 alike_some : (ms ns : MemberTrees) → EachHasAlike ms ns → HasMembers ms → HasMembers ns

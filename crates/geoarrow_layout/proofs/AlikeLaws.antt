@@ -2,7 +2,7 @@
 use Rattle.std.proofs.Common.{◌≡◌, inl, inr, ℤ, List, refl, sym, ◌∙◌, subst}
 use Rattle.arrow_values.specs.Tree.{Text, Tree, plain, list, large_list, fixed_size_list, struct, union, MemberTrees, no_members, member}
 use Rattle.geoarrow_layout.specs.Shapes.{names_of, SameNames, AllMembers, SomeMember}
-use Rattle.geoarrow_layout.proofs.MemberLists.{all_map}
+use Rattle.geoarrow_layout.proofs.MemberLists.{all_map, all_some}
 use Rattle.geoarrow_layout.specs.Alike.{AlikeNames, Alike, EachHasAlike, HasAlike}
 
 names_refl : (xs : List Text) → AlikeNames xs xs
@@ -97,16 +97,6 @@ mutual
     each_sym ms ns h.1,
   )
 
-pub any_all : (P Q : ℤ → Tree → Type 0) (ms : MemberTrees) → SomeMember P ms → AllMembers Q ms → SomeMember (λ i t. P i t × Q i t) ms
-any_all P Q no_members h all = h
-any_all P Q (member i n t b m ms) (inl p) all = inl (p, all.0)
-any_all P Q (member i n t b m ms) (inr h) all = inr (any_all P Q ms h all.1)
-
-pub any_out : (P : ℤ → Tree → Type 0) (X : Type 0) (ms : MemberTrees) → ((i : ℤ) (t : Tree) → P i t → X) → SomeMember P ms → X
-any_out P X no_members f h = absurd h
-any_out P X (member i n t b m ms) f (inl p) = f i t p
-any_out P X (member i n t b m ms) f (inr h) = any_out P X ms f h
-
 mutual
   pub alike_trans : (t u v : Tree) → Alike t u → Alike u v → Alike t v
   alike_trans (plain p) (plain q) (plain r) h k = h ∙ k
@@ -116,7 +106,7 @@ mutual
   alike_trans (struct fs) (struct gs) (struct hs) h e = names_trans (names_of fs) (names_of gs) (names_of hs) h e
   alike_trans (union ms mode) (union ns mode') (union ps mode'') h e = (
     each_trans ms ns ps h.0 (each_all ns ps e.0),
-    all_map (HasAlike ns) (HasAlike ms) (λ k v one. any_out (λ j u. ((j ≡ k) × Alike u v) × HasAlike ms j u) (HasAlike ms k v) ns (λ j u x. has_trans ms j u k v x.1 x.0.0 x.0.1) (any_all (λ j u. (j ≡ k) × Alike u v) (HasAlike ms) ns (has_any ns k v one) h.1)) ps e.1,
+    all_map (HasAlike ns) (HasAlike ms) (λ k v one. all_some (HasAlike ms) (λ j u. (j ≡ k) × Alike u v) (HasAlike ms k v) (λ j u h x. has_trans ms j u k v h x.0 x.1) ns h.1 (has_any ns k v one)) ps e.1,
   )
   alike_trans (plain p) (plain q) _ h e = absurd e
   alike_trans (list n t b m) (list o u c k) _ h e = absurd e
@@ -129,9 +119,8 @@ mutual
   each_trans : (ms ns ps : MemberTrees) → EachHasAlike ms ns → AllMembers (λ j u. SomeMember (λ k v. (j ≡ k) × Alike u v) ps) ns → EachHasAlike ms ps
   each_trans no_members ns ps h e = tt
   each_trans (member i n t b m ms) ns ps h e = (
-    any_out (λ j u. ((i ≡ j) × Alike t u) × SomeMember (λ k v. (j ≡ k) × Alike u v) ps) (SomeMember (λ k v. (i ≡ k) × Alike t v) ps) ns
-        (λ j u x. any_map (λ k v. (j ≡ k) × Alike u v) (λ k v. (i ≡ k) × Alike t v) (λ k v y. (x.0.0 ∙ y.0, alike_trans t u v x.0.1 y.1)) ps x.1)
-        (any_all (λ j u. (i ≡ j) × Alike t u) (λ j u. SomeMember (λ k v. (j ≡ k) × Alike u v) ps) ns h.0 e),
+    all_some (λ j u. SomeMember (λ k v. (j ≡ k) × Alike u v) ps) (λ j u. (i ≡ j) × Alike t u) (SomeMember (λ k v. (i ≡ k) × Alike t v) ps)
+        (λ j u some x. any_map (λ k v. (j ≡ k) × Alike u v) (λ k v. (i ≡ k) × Alike t v) (λ k v y. (x.0 ∙ y.0, alike_trans t u v x.1 y.1)) ps some) ns e h.0,
     each_trans ms ns ps h.1 e,
   )
 

@@ -24,10 +24,10 @@ use Rattle.geoarrow_layout.specs.contracts.summary.BottomPartialEq.TheImpl as bo
 use Rattle.geoarrow_layout.specs.contracts.summary.SummaryPartialEq.TheImpl as summaries
 
 -- of an enum with no fields
-bare_decides : (D : Declared) → Bare D.parts → (a b : D.D) → Decides (sameb D a b) (a ≡ b)
+pub bare_decides : (D : Declared) → Bare D.parts → (a b : D.D) → Decides (sameb D a b) (a ≡ b)
 bare_decides D bare a b = (same_true D bare a b, true_same D a b)
 
-option_decides : {A : Type 0} (E : A → A → Bool) → ((x y : A) → Decides (E x y) (x ≡ y)) → (o p : Option A) → Decides (option_eq E o p) (o ≡ p)
+pub option_decides : {A : Type 0} (E : A → A → Bool) → ((x y : A) → Decides (E x y) (x ≡ y)) → (o p : Option A) → Decides (option_eq E o p) (o ≡ p)
 option_decides E d None None = (λ h. refl, λ p. refl)
 option_decides E d (Some x) (Some y) = Decides-like _ (λ p. ap Some p) (λ p. cc) (d x y)
 option_decides E d _ _ = (λ h. absurd (true≢false (sym h)), λ p. cc)

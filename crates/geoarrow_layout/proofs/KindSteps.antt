@@ -13,7 +13,7 @@ use Rattle.geoarrow_layout.specs.declared.summary.Summary.{Summary}
 use Rattle.geoarrow_layout.specs.Summary.{Summarizes}
 use Rattle.geoarrow_layout.specs.Kinds.{name_text, native_name, geometry_name, box_name, name_of}
 use Rattle.geoarrow_layout.specs.Shapes.{Native, Geometry, BoxShape, Accepts, IsStructured, AnswersKind, Answers, AnswersOne}
-use Rattle.geoarrow_layout.proofs.Readings.{Answer}
+use Rattle.geoarrow_layout.proofs.Readings.{Answer, ok, answers_one, refuses_one}
 use Rattle.geoarrow_layout.proofs.OneKind.{one_kind, only_native, only_geometry, only_box}
 
 some_same : (k l : Kind) → Some k ≡ Some l → k ≡ l
@@ -53,42 +53,30 @@ of_name n m None is h = tt
 of_name n m (Some k) is h = (is ∙ h.0, h.1)
 
 -- the kind of a column, told by the reader of its extension name
-abbrev KindAnswer : Type 0
-KindAnswer = Result Kind LayoutFault
+pub kind_found : (n : Text) (t : Tree) (k : Kind) → Accepts n t k → AnswersOne (ok k) (Accepts n t)
+kind_found n t k here = answers_one k (Accepts n t) (one_kind n t) here
 
-abbrev found : Kind → KindAnswer
-found k = Ok k
-
-found_same : (k l : Kind) → found k ≡ found l → k ≡ l
-found_same k l h = cc
-
-pub kind_found : (n : Text) (t : Tree) (k : Kind) → Accepts n t k → AnswersOne (found k) (Accepts n t)
-kind_found n t k here = λ l. (λ e. subst (λ x. Accepts n t x) (found_same k l e) here, λ h. ap (λ x. found x) (one_kind n t k l here h))
-
-pub under : (n m : ExtensionName) (t : Tree) (r : KindAnswer) → n ≡ m → AnswersOne r (Accepts (name_text m) t) → AnswersOne r (Accepts (name_text n) t)
+pub under : (n m : ExtensionName) (t : Tree) (r : Result Kind LayoutFault) → n ≡ m → AnswersOne r (Accepts (name_text m) t) → AnswersOne r (Accepts (name_text n) t)
 under n m t r is a = subst (λ x. AnswersOne r (Accepts (name_text x) t)) (sym is) a
 
 pub native_refused : (k : NativeKind) (t : Tree) (f : LayoutFault) (r : Answer) → r ≡ Err f → Answers r (Native t k) → AnswersOne {X = Kind} (Err f) (Accepts (native_name k) t)
-native_refused k t f r is a = λ l. (λ e. cc, λ h. absurd (no_native k t f r is a l h))
+native_refused k t f r is a = refuses_one f (Accepts (native_name k) t) (no_native k t f r is a)
 
 -- what a summary says under each name, it says of all its trees
 abbrev pub Told : Summary → Text → Type 0
 Told s n = (r : Option Kind) × ((t : Tree) → Summarizes s t → AnswersKind n t r)
 
 pub by_name : (P : Text → Type 0) → P (native_name Point) → P (native_name LineString) → P (native_name Polygon) → P (native_name MultiPoint) → P (native_name MultiLineString) → P (native_name MultiPolygon) → P (native_name GeometryCollection) → P geometry_name → P box_name → (k : Kind) → IsStructured k → P (name_of k)
-by_name P point linestring polygon multipoint multilinestring multipolygon collection geometry box k s = by k s
-  where
-    by : (k : Kind) → IsStructured k → P (name_of k)
-    by (OfNative Point c d) s = point
-    by (OfNative LineString c d) s = linestring
-    by (OfNative Polygon c d) s = polygon
-    by (OfNative MultiPoint c d) s = multipoint
-    by (OfNative MultiLineString c d) s = multilinestring
-    by (OfNative MultiPolygon c d) s = multipolygon
-    by (OfNative GeometryCollection c d) s = collection
-    by (OfGeometry c) s = geometry
-    by (OfRect d) s = box
-    by _ s = absurd s
+by_name P a b c d e f g h i (OfNative Point x y) s = a
+by_name P a b c d e f g h i (OfNative LineString x y) s = b
+by_name P a b c d e f g h i (OfNative Polygon x y) s = c
+by_name P a b c d e f g h i (OfNative MultiPoint x y) s = d
+by_name P a b c d e f g h i (OfNative MultiLineString x y) s = e
+by_name P a b c d e f g h i (OfNative MultiPolygon x y) s = f
+by_name P a b c d e f g h i (OfNative GeometryCollection x y) s = g
+by_name P a b c d e f g h i (OfGeometry x) s = h
+by_name P a b c d e f g h i (OfRect x) s = i
+by_name P a b c d e f g h i _ s = absurd s
 
 moves : (s : Summary) (n : Text) → Told s n → (t u : Tree) → Summarizes s t → Summarizes s u → (k : Kind) → IsStructured k → Accepts n t k → Accepts n u k
 moves s n told t u h g k x a = ((told.1 u g k).0 ((told.1 t h k).1 (a, x))).0

@@ -24,4 +24,4 @@ pub mod NamesSteps
 pub mod Distinct
 pub mod TableSteps
 pub mod Widths
-mod Equality
+pub mod Equality

@@ -1,7 +1,7 @@
 -- Steps of the comparison with the table of written data types.
-use Rattle.std.proofs.Common.{◌≡◌, ◌↔◌, ◌<◌, ◌+◌, ℕ, zero, suc, ℤ, Bool, true, false, true≢false, IsTrue, Some, List, [], ◌∷◌, ◌++◌, drop, length, get_or, refl, sym, ap, subst, ◌∙◌, arith}
+use Rattle.std.proofs.Common.{◌≡◌, ◌↔◌, ◌<◌, ◌+◌, ℕ, zero, suc, ℤ, Bool, true, false, true≢false, IsTrue, Some, List, [], ◌∷◌, ◌++◌, drop, length, get_or, sym, ap, subst, ◌∙◌, arith}
 use Rattle.std.specs.List.{Contains}
-use Rattle.std.proofs.lemmas.List.{drop_more}
+use Rattle.std.proofs.lemmas.List.{drop_more, same_from_push}
 use Rattle.arrow_values.specs.Tree.{Tree, struct, union, FieldTree, Members}
 use Rattle.arrow_values.specs.View.{field_trees, member_trees, field_list, member_list, listed_fields, listed_members}
 use Rattle.arrow_values.specs.declared.tree.UnionMode.{UnionMode}
@@ -32,33 +32,16 @@ union_same t xs ys m n b is mode says = (
   (λ e. says.1 (sym (listed_members xs) ∙ ap members_of (sym is ∙ e) ∙ listed_members ys)),
 )
 
--- lists with a last member
-cons_same : (x y : ℤ × FieldTree) (xs ys : Members) → x ∷ xs ≡ y ∷ ys → (x ≡ y) × (xs ≡ ys)
-cons_same x y xs ys h = (cc, cc)
-
-no_last : (xs : Members) (x : ℤ × FieldTree) → [] ≡ xs ++ (x ∷ []) → ⊥
-no_last [] x h = cc
-no_last (y ∷ ys) x h = cc
-
-last_same : (xs ys : Members) (x y : ℤ × FieldTree) → xs ++ (x ∷ []) ≡ ys ++ (y ∷ []) → (xs ≡ ys) × (x ≡ y)
-last_same [] [] x y h = (refl, (cons_same x y [] [] h).0)
-last_same [] (b ∷ ys) x y h = absurd (no_last ys y (cons_same x b [] (ys ++ (y ∷ [])) h).1)
-last_same (a ∷ xs) [] x y h = absurd (no_last xs x (sym (cons_same a y (xs ++ (x ∷ [])) [] h).1))
-last_same (a ∷ xs) (b ∷ ys) x y h =
-    let p = cons_same a b (xs ++ (x ∷ [])) (ys ++ (y ∷ [])) h in
-    let q = last_same xs ys x y p.1 in
-    (ap (λ z. z ∷ xs) p.0 ∙ ap (λ z. b ∷ z) q.0, q.1)
-
 pub not_last : (ms rest M : Members) (x : ℤ × FieldTree) (k : NativeKind) (d : Dimension) (t U : Tree) (b : Bool) → ms ≡ rest ++ (x ∷ []) → t ≡ x.1.tree → IsTrue b ↔ (t ≡ U) → b ≡ false → IsTrue false ↔ (ms ≡ M ++ (member_layout k d U ∷ []))
 not_last ms rest M x k d t U b is here says fails = (
   (λ h. absurd (true≢false (sym h))),
-  (λ e. let p = last_same rest M x (member_layout k d U) (sym is ∙ e) in absurd (true≢false (sym (says.1 (here ∙ ap (λ m. m.1.tree) p.1)) ∙ fails))),
+  (λ e. let p = same_from_push rest M x (member_layout k d U) (sym is ∙ e) in absurd (true≢false (sym (says.1 (here ∙ ap (λ m. m.1.tree) p.1)) ∙ fails))),
 )
 
 pub all_of_dimension : (ms rest M : Members) (x : ℤ × FieldTree) (k : NativeKind) (d : Dimension) (t U : Tree) (a b r : Bool) → ms ≡ rest ++ (x ∷ []) → t ≡ x.1.tree → IsTrue a ↔ (x ≡ member_layout k d x.1.tree) → a ≡ true → IsTrue b ↔ (t ≡ U) → b ≡ true → IsTrue r ↔ (rest ≡ M) → IsTrue r ↔ (ms ≡ M ++ (member_layout k d U ∷ []))
 all_of_dimension ms rest M x k d t U a b r is here one one_holds two two_holds says = (
   (λ h. is ∙ ap (λ z. z ++ (x ∷ [])) (says.0 h) ∙ ap (λ z. M ++ (z ∷ [])) (one.0 one_holds ∙ ap (member_layout k d) (sym here ∙ two.0 two_holds))),
-  (λ e. says.1 (last_same rest M x (member_layout k d U) (sym is ∙ e)).0),
+  (λ e. says.1 (same_from_push rest M x (member_layout k d U) (sym is ∙ e)).0),
 )
 
 -- one kind after the other

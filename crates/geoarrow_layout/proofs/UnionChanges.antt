@@ -1,16 +1,15 @@
 -- Members that go or come, and what they leave of a union.
 use Rattle.std.proofs.Common.{◌≡◌, ◌≢◌, ◌↔◌, ◌⊎◌, inl, inr, zero, suc, ℤ, Bool, true, false, cond, List, [], ◌∷◌, ◌++◌, refl, sym, ap, subst, arith, ◌∙◌}
 use Rattle.std.specs.List.{filter, Contains}
+use Rattle.std.proofs.lemmas.Bool.{cond_both}
 use Rattle.std.proofs.lemmas.List.Elements.{Contains-append_left, Contains-append_right, Contains-append_cases}
 use Rattle.arrow_values.specs.Tree.{Tree, FieldTree, Members}
 use Rattle.arrow_values.specs.View.{member_trees}
 use Rattle.arrow_values.specs.Union.{retained, has}
 use Rattle.arrow_values.specs.declared.tree.UnionMode.{UnionMode}
 use Rattle.arrow_values.specs.declared.tree.UnionMode.TheVariants.{Dense}
-use Rattle.geoarrow_layout.specs.declared.kinds.CoordType.{CoordType}
-use Rattle.geoarrow_layout.specs.declared.kinds.Dimension.{Dimension}
-use Rattle.geoarrow_layout.specs.Shapes.{AllMembers, HasMembers, GeometryMember, Member}
-use Rattle.geoarrow_layout.specs.Changes.{GeometryUnion, MixedUnion, AlikeUnions, EachOf, AreJust}
+use Rattle.geoarrow_layout.specs.Shapes.{AllMembers, HasMembers}
+use Rattle.geoarrow_layout.specs.Changes.{AlikeUnions, EachOf, AreJust}
 use Rattle.geoarrow_layout.proofs.MemberLists.{all_both, all_first, all_second}
 use Rattle.geoarrow_layout.proofs.AlikeLaws.{Holds, each_refl, back_refl, members_refl}
 
@@ -29,38 +28,24 @@ any_members (m ∷ ms) h = λ e. cc
 -- some of them are left
 all_kept : (P : ℤ → Tree → Type 0) (p : ℤ × FieldTree → Bool) (ms : Members) → AllMembers P (member_trees ms) → AllMembers P (member_trees (filter p ms))
 all_kept P p [] h = tt
-all_kept P p (m ∷ ms) h = by (p m) (all_kept P p ms h.1)
-  where
-    by : (b : Bool) → AllMembers P (member_trees (filter p ms)) → AllMembers P (member_trees (cond b (m ∷ filter p ms) (filter p ms)))
-    by true rest = (h.0, rest)
-    by false rest = rest
+all_kept P p (m ∷ ms) h =
+    let rest = all_kept P p ms h.1 in
+    cond_both (p m) (m ∷ filter p ms) (filter p ms) (λ xs. AllMembers P (member_trees xs)) (λ e. (h.0, rest)) (λ e. rest)
 
-filled_kept : (P : ℤ → Tree → Type 0) (is : List ℤ) (ms ns : Members) → ns ≡ retained is ms → ns ≢ [] → Filled P ms → Filled P ns
+pub filled_kept : (P : ℤ → Tree → Type 0) (is : List ℤ) (ms ns : Members) → ns ≡ retained is ms → ns ≢ [] → Filled P ms → Filled P ns
 filled_kept P is ms ns is_kept some h = λ mode. (some_members ns some, subst (λ x. AllMembers P (member_trees x)) (sym is_kept) (all_kept P (λ m. has m.0 is) ms (h mode).1))
-
-pub geometry_kept : (is : List ℤ) (ms ns : Members) → ns ≡ retained is ms → ns ≢ [] → (c : CoordType) → GeometryUnion c ms → GeometryUnion c ns
-geometry_kept is ms ns kept some c h = filled_kept (GeometryMember c) is ms ns kept some h
-
-pub mixed_kept : (is : List ℤ) (ms ns : Members) → ns ≡ retained is ms → ns ≢ [] → (c : CoordType) (d : Dimension) → MixedUnion c d ms → MixedUnion c d ns
-mixed_kept is ms ns kept some c d h = filled_kept (λ i t. Member i t c d) is ms ns kept some h
 
 -- both are joined
 all_of : (P : ℤ → Tree → Type 0) (ms : Members) → (ms ≢ [] → Filled P ms) → AllMembers P (member_trees ms)
 all_of P [] h = tt
 all_of P (m ∷ ms) h = (h (λ e. cc) Dense).1
 
-filled_joined : (P : ℤ → Tree → Type 0) (ms ns all : Members) → all ≡ ms ++ ns → Filled P all ↔ EachOf (Filled P) ms ns all
+pub filled_joined : (P : ℤ → Tree → Type 0) (ms ns all : Members) → all ≡ ms ++ ns → Filled P all ↔ EachOf (Filled P) ms ns all
 filled_joined P ms ns all joined = (
   (λ h. let each : AllMembers P (member_trees (ms ++ ns)) = subst (λ x. AllMembers P (member_trees x)) joined (h Dense).1 in
       (any_members all (h Dense).0, (λ some mode. (some_members ms some, all_first P ms ns each)), (λ some mode. (some_members ns some, all_second P ms ns each)))),
   (λ h mode. (some_members all h.0, subst (λ x. AllMembers P (member_trees x)) (sym joined) (all_both P ms ns (all_of P ms h.1) (all_of P ns h.2)))),
 )
-
-pub geometry_joined : (ms ns all : Members) → all ≡ ms ++ ns → (c : CoordType) → GeometryUnion c all ↔ EachOf (GeometryUnion c) ms ns all
-geometry_joined ms ns all joined c = filled_joined (GeometryMember c) ms ns all joined
-
-pub mixed_joined : (ms ns all : Members) → all ≡ ms ++ ns → (c : CoordType) (d : Dimension) → MixedUnion c d all ↔ EachOf (MixedUnion c d) ms ns all
-mixed_joined ms ns all joined c d = filled_joined (λ i t. Member i t c d) ms ns all joined
 
 -- members by their ids and trees
 held_by : (ms : Members) (m : ℤ × FieldTree) → Contains ms m → Holds (member_trees ms) m.0 m.1.tree
@@ -106,11 +91,9 @@ kept_all p (x ∷ xs) m h = by (p x) h (kept_all p xs m)
 all_kept_of : (p : ℤ × FieldTree → Bool) (ms : Members) (m : ℤ × FieldTree) → p m ≡ true → Contains ms m → Contains (filter p ms) m
 all_kept_of p [] m passes h = h
 all_kept_of p (x ∷ xs) m passes (zero, lt, is) = subst (λ b. Contains (cond b (x ∷ filter p xs) (filter p xs)) m) (sym passes ∙ ap p (sym is)) (0, omega arith, is)
-all_kept_of p (x ∷ xs) m passes (suc n, lt, is) = by (p x) (all_kept_of p xs m passes (n, omega (arith, lt), is))
-  where
-    by : (b : Bool) → Contains (filter p xs) m → Contains (cond b (x ∷ filter p xs) (filter p xs)) m
-    by true c = (suc c.0, omega (arith, c.1), c.2)
-    by false c = c
+all_kept_of p (x ∷ xs) m passes (suc n, lt, is) =
+    let rest = all_kept_of p xs m passes (n, omega (arith, lt), is) in
+    cond_both (p x) (x ∷ filter p xs) (filter p xs) (λ ys. Contains ys m) (λ e. (suc rest.0, omega (arith, rest.1), rest.2)) (λ e. rest)
 
 pub parts_are_just : (ms : Members) (is js : List ℤ) → ((m : ℤ × FieldTree) → Contains ms m → (has m.0 is ≡ true) ⊎ (has m.0 js ≡ true)) → AreJust (retained is ms) (retained js ms) ms
 parts_are_just ms is js all m = (
