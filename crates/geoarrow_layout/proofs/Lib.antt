@@ -4,14 +4,11 @@ pub mod MemberLists
 pub mod BitSteps
 pub mod FieldSteps
 pub mod Bottoms
-pub mod Separated
 pub mod Parts
 pub mod UnionSteps
+pub mod Structs
 pub mod Adds
-pub mod BuildSteps
-pub mod Boxes
 pub mod Written
-pub mod OneKind
 pub mod KindSteps
 pub mod Listed
 pub mod Inferences

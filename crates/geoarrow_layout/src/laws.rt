@@ -34,7 +34,7 @@ pub fn kind_is_listed(kind: Kind)
 {}
 
 /// A law: the extension names are texts of their own. There is nothing to run.
-#[tactic(auto, using(crate::proofs::OneKind::one_name))]
+#[tactic(auto, using(crate::proofs::KindSteps::one_name))]
 pub fn names_are_distinct()
     ensures { (a b : ExtensionName) → name_text a ≡ name_text b → a ≡ b }
 {}
@@ -63,12 +63,14 @@ pub fn read_alike(summary: &Summary)
 /// A law: the members that are written for a collection have type ids of their own, from 0 to 127 and all distinct,
 /// each that of its kind and dimension, and each member's data type is what is written for these. There is nothing to
 /// run.
+#[tactic(auto, using(crate::proofs::Written::mixed_ids))]
 pub fn mixed_ids(coord_type: CoordType, dimension: Dimension)
     ensures distinct { HasTypeIds (mixed_members coord_type dimension) }
     ensures own { AllMembers (IsWritten coord_type dimension) (member_trees (mixed_members coord_type dimension)) }
 {}
 
 /// A law: the same for the members that are written for geometries of any kind. There is nothing to run.
+#[tactic(auto, using(crate::proofs::Written::geometry_ids))]
 pub fn geometry_ids(coord_type: CoordType)
     ensures distinct { HasTypeIds (geometry_members coord_type) }
     ensures own { AllMembers (IsWrittenSome coord_type) (member_trees (geometry_members coord_type)) }

@@ -1,8 +1,5 @@
 use Rattle.geoarrow_layout.proofs.Written as law
 use Rattle.geoarrow_layout.proofs.laws.geometry_ids.Goals as goal
 
-pub returns-clause-distinct : goal.returns-clause-distinct
-returns-clause-distinct c = law.geometry_ids c.args.coord_type
-
 pub returns-clause-own : goal.returns-clause-own
 returns-clause-own c = law.geometry_written c.args.coord_type

@@ -1,8 +1,5 @@
 use Rattle.geoarrow_layout.proofs.Written as law
 use Rattle.geoarrow_layout.proofs.laws.mixed_ids.Goals as goal
 
-pub returns-clause-distinct : goal.returns-clause-distinct
-returns-clause-distinct c = law.mixed_ids c.args.coord_type c.args.dimension
-
 pub returns-clause-own : goal.returns-clause-own
 returns-clause-own c = law.mixed_written c.args.coord_type c.args.dimension

@@ -1,4 +1,4 @@
-use Rattle.geoarrow_layout.proofs.OneKind as law
+use Rattle.geoarrow_layout.proofs.KindSteps as law
 use Rattle.geoarrow_layout.proofs.laws.one_kind.Goals as goal
 
 pub returns : goal.returns

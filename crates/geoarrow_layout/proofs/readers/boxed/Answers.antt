@@ -1,7 +1,7 @@
 use Rattle.std.proofs.Common.{◌≡◌, subst, arith}
 use Rattle.geoarrow_layout.specs.Summary.{IsUnion, IsBottom}
 use Rattle.geoarrow_layout.proofs.UnionSteps.{at_root}
-use Rattle.geoarrow_layout.proofs.Boxes.{box_below, root_box}
+use Rattle.geoarrow_layout.proofs.Structs.{box_below, root_box}
 use Rattle.geoarrow_layout.proofs.readers.boxed.Goals as goal
 
 pub returns-then-summary-gt0 : goal.returns-then-summary-gt0
