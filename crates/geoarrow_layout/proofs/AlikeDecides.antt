@@ -10,7 +10,7 @@ use Rattle.std.proofs.lemmas.Bool.{and_parts, and_from, or_cases, or_left, or_ri
 use Rattle.arrow_values.specs.Code.{plain_code, plain_from, plain_from-code}
 use Rattle.arrow_values.specs.Tree.{Text, FieldTree, Plain, Tree, plain, list, large_list, fixed_size_list, struct, union, MemberTrees, no_members, member}
 use Rattle.arrow_values.specs.View.{field_trees}
-use Rattle.geoarrow_layout.proofs.Leaves.{length-names}
+use Rattle.geoarrow_layout.proofs.FieldSteps.{length-names}
 use Rattle.geoarrow_layout.specs.Shapes.{names_of, has_name, SameNames, AllMembers, SomeMember}
 use Rattle.geoarrow_layout.specs.Alike.{AlikeNames, Alike, EachHasAlike, HasAlike}
 use Rattle.geoarrow_layout.specs.AlikeTest.{some_member, all_members, has_member, is_repeated, is_met, same_names, alike_names, alike_of, each_has_alike, has_alike}

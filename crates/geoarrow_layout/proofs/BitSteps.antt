@@ -1,12 +1,19 @@
--- Sets of bits.
-use Rattle.std.proofs.Common.{◌≡◌, ◌↔◌, ◌<◌, ◌⊎◌, ◌*◌, ◌%◌, ◌^◌, inl, inr, ℕ, sym, ap, subst, ◌∙◌}
+-- Sets of bits, and what one reading adds to them.
+use Rattle.std.proofs.Common.{◌≡◌, ◌↔◌, ◌<◌, ◌⊎◌, ◌*◌, ◌%◌, ◌^◌, inl, inr, ℕ, sym, ap, subst, ◌∙◌, ◌≤◌, true, false, ℤ, pos, Ok, Err, refl, arith}
 use Rattle.std.specs.Int.{bit_at, Width}
 use Rattle.std.specs.Int.RustNames.{bit_or}
 use Rattle.std.proofs.lemmas.Nat.Bits.{bit_at_set_same, bit_at_set_other, bit_at-zero}
-use Rattle.std.proofs.lemmas.Bool.{cases_eq}
+use Rattle.std.proofs.lemmas.Bool.{cases_eq, ltb-true, ltb-false}
 use mir.Val.{bits}
-use Rattle.geoarrow_layout.specs.Summary.{IsBits}
-use Rattle.geoarrow_layout.specs.Steps.{AddsBit}
+use Rattle.geoarrow_layout.specs.Summary.{IsBits, place_of}
+use Rattle.geoarrow_layout.specs.Steps.{AddsBit, AddsBits, CoordOf, DimensionOf, SomeAnswer}
+use lib.IntN.{negsuc, nat_abs}
+use lib.Signed.{lt_z}
+use Rattle.geoarrow_layout.specs.declared.kinds.CoordType.{CoordType}
+use Rattle.geoarrow_layout.specs.declared.kinds.Dimension.{Dimension}
+use Rattle.geoarrow_layout.specs.declared.fault.LayoutFault.{LayoutFault}
+use Rattle.geoarrow_layout.specs.Kinds.{order_of}
+use Rattle.geoarrow_layout.proofs.Readings.{Answer, ok_same}
 
 pub adds_bit : (w : Width) (n i : ℕ) → i < bits w → AddsBit n i (bit_or n (1 * 2 ^ i % 2 ^ bits w))
 unfolding AddsBit
@@ -35,3 +42,65 @@ bits_more n j more P Q adds to new from h = λ i. (
 pub bit_is : (n : ℕ) (P : ℕ → Type 0) (i : ℕ) → IsBits n P → (bit_at n i ≡ 1) ↔ P i
 unfolding IsBits
 bit_is n P i h = h i
+
+-- ---- one reading
+
+adds_none : (n : ℕ) (P : ℕ → Type 0) → ((i : ℕ) → P i → ⊥) → AddsBits n P n
+unfolding AddsBits
+adds_none n P none = λ i. (λ e. inl e, λ h. elim h [ inl e ↦ e | inr p ↦ absurd (none i p) ])
+
+adds_one : (n j more : ℕ) (P : ℕ → Type 0) → P j → ((i : ℕ) → P i → i ≡ j) → AddsBit n j more → AddsBits n P more
+unfolding AddsBit AddsBits
+adds_one n j more P there only adds = λ i. (
+  (λ e. elim ((adds i).0 e) [ inl was ↦ inl was | inr is ↦ inr (subst P (sym is) there) ]),
+  (λ h. elim h [ inl e ↦ (adds i).1 (inl e) | inr p ↦ (adds i).1 (inr (only i p)) ]),
+)
+
+pos_same : (m n : ℕ) → pos m ≡ pos n → m ≡ n
+pos_same m n h = cc
+
+pub coord_added : (n j more : ℕ) (part : Answer) (p : CoordType × Dimension) → part ≡ Ok p → j ≡ place_of p.0 → AddsBit n j more → AddsBits n (CoordOf part) more
+coord_added n j more part p is place adds =
+    adds_one n j more (CoordOf part) (p.0, place, p.1, is)
+    (λ i h. h.1 ∙ ap place_of (ap (λ x. x.0) (ok_same (h.0, h.2) p (sym h.3 ∙ is))) ∙ sym place) adds
+
+pub coord_kept : (n : ℕ) (part : Answer) (f : LayoutFault) → part ≡ Err f → AddsBits n (CoordOf part) n
+coord_kept n part f is = adds_none n (CoordOf part) (λ i h. let bad = sym h.3 ∙ is in cc)
+
+pub dimension_added : (n j more : ℕ) (part : Answer) (p : CoordType × Dimension) → part ≡ Ok p → j ≡ order_of p.1 → AddsBit n j more → AddsBits n (DimensionOf part) more
+dimension_added n j more part p is place adds =
+    adds_one n j more (DimensionOf part) (p.1, place, p.0, is)
+    (λ i h. h.1 ∙ ap order_of (ap (λ x. x.1) (ok_same (h.2, h.0) p (sym h.3 ∙ is))) ∙ sym place) adds
+
+pub dimension_kept : (n : ℕ) (part : Answer) (f : LayoutFault) → part ≡ Err f → AddsBits n (DimensionOf part) n
+dimension_kept n part f is = adds_none n (DimensionOf part) (λ i h. let bad = sym h.3 ∙ is in cc)
+
+pub id_kept : (n : ℕ) (id : ℤ) → ((i : ℕ) → i < 64 → id ≡ pos i → ⊥) → AddsBits n (λ i. (i < 64) × (id ≡ pos i)) n
+id_kept n id none = adds_none n (λ i. (i < 64) × (id ≡ pos i)) (λ i h. none i h.0 h.1)
+
+pub id_added : (n j more : ℕ) (id : ℤ) → id ≡ pos j → j < 64 → AddsBit n j more → AddsBits n (λ i. (i < 64) × (id ≡ pos i)) more
+id_added n j more id is small adds = adds_one n j more (λ i. (i < 64) × (id ≡ pos i)) (small, is) (λ i h. pos_same i j (sym h.1 ∙ is)) adds
+
+pub some_answer : (part : Answer) (p : CoordType × Dimension) → part ≡ Ok p → SomeAnswer part
+some_answer part p is = (p.0, p.1, is)
+
+negative : (id : ℤ) (i : ℕ) → lt_z id (pos 0) ≡ true → id ≡ pos i → ⊥
+negative (pos n) i h e = let lt : n < 0 = ltb-true n 0 h in omega arith
+negative (negsuc n) i h e = cc
+
+large : (id : ℤ) (i : ℕ) → lt_z (pos 63) id ≡ true → i < 64 → id ≡ pos i → ⊥
+large (pos n) i h small e = let lt : 63 < n = ltb-true 63 n h in let same : n ≡ i = pos_same n i e in omega arith
+large (negsuc n) i h small e = cc
+
+between : (id : ℤ) → lt_z id (pos 0) ≡ false → lt_z (pos 63) id ≡ false → (id ≡ pos (nat_abs id)) × (nat_abs id < 64)
+between (pos n) h k = let le : n ≤ 63 = ltb-false 63 n k in (refl, omega arith)
+between (negsuc n) h k = cc
+
+pub id_negative : (n : ℕ) (id z : ℤ) → z ≡ id → lt_z z (pos 0) ≡ true → AddsBits n (λ i. (i < 64) × (id ≡ pos i)) n
+id_negative n id z is h = id_kept n id (λ i small e. negative id i (subst (λ x. lt_z x (pos 0) ≡ true) is h) e)
+
+pub id_large : (n : ℕ) (id z : ℤ) → z ≡ id → lt_z (pos 63) z ≡ true → AddsBits n (λ i. (i < 64) × (id ≡ pos i)) n
+id_large n id z is h = id_kept n id (λ i small e. large id i (subst (λ x. lt_z (pos 63) x ≡ true) is h) small e)
+
+pub id_between : (n more : ℕ) (id z : ℤ) → z ≡ id → lt_z z (pos 0) ≡ false → lt_z (pos 63) z ≡ false → AddsBit n (nat_abs z) more → AddsBits n (λ i. (i < 64) × (id ≡ pos i)) more
+id_between n more id z is h k adds = let b = between z h k in id_added n (nat_abs z) more id (sym is ∙ b.0) b.1 adds

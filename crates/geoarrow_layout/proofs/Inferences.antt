@@ -16,8 +16,7 @@ use Rattle.geoarrow_layout.specs.Summary.{IsBits, SomeAt, are_float64, IsBottom,
 use Rattle.geoarrow_layout.specs.Inferred.{AnswersSome, Inferred, IsInferredAs, IsInferredSize, measured_names}
 use Rattle.geoarrow_layout.specs.Steps.{has_bit, is_measured, NamesSay, SizeSays}
 use Rattle.geoarrow_layout.specs.OneShape.{apart, separated_same}
-use Rattle.geoarrow_layout.proofs.Leaves.{xym_names}
-use Rattle.geoarrow_layout.proofs.FieldSteps.{has_at}
+use Rattle.geoarrow_layout.proofs.FieldSteps.{xym_names, has_at}
 use Rattle.geoarrow_layout.proofs.Bottoms.{NotList, at_bottom}
 use Rattle.geoarrow_layout.proofs.UnionSteps.{below_root}
 

@@ -1,4 +1,3 @@
-pub mod Leaves
 pub mod Readings
 pub mod MemberLists
 pub mod BitSteps
@@ -7,18 +6,15 @@ pub mod Bottoms
 pub mod Parts
 pub mod UnionSteps
 pub mod Structs
-pub mod Adds
 pub mod Written
 pub mod KindSteps
 pub mod Listed
 pub mod Inferences
 pub mod AlikeLaws
 pub mod AlikeDecides
-pub mod Depths
 pub mod AlikeKinds
 pub mod UnionChanges
 pub mod NamesSteps
 pub mod Distinct
 pub mod TableSteps
-pub mod Widths
 pub mod Equality

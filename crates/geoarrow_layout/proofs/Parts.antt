@@ -8,9 +8,8 @@ use Rattle.geoarrow_layout.specs.declared.encodings.NativeKind.{NativeKind}
 use Rattle.geoarrow_layout.specs.declared.encodings.NativeKind.TheVariants.{GeometryCollection}
 use Rattle.geoarrow_layout.specs.Shapes.{Id, OverLeaf, GeometryPart, Mixed, Answers, Native}
 use Rattle.geoarrow_layout.specs.OneShape.{any_part}
-use Rattle.geoarrow_layout.proofs.Readings.{Answer, answers_like, refuses}
+use Rattle.geoarrow_layout.proofs.Readings.{Answer, answers_like, refuses, IsPartsOf, some_parts, kinds_same, ok_pair, refused}
 use Rattle.geoarrow_layout.proofs.Bottoms.{AtNoList}
-use Rattle.geoarrow_layout.proofs.Readings.{IsPartsOf, some_parts, kinds_same, ok_pair, refused}
 
 abbrev pub Reading : Type 1
 Reading = Tree → NativeKind → CoordType → Dimension → Type 0

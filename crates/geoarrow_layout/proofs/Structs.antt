@@ -13,8 +13,7 @@ use Rattle.geoarrow_layout.specs.Shapes.{names_of, IsSeparatedAs, AnswersOne, An
 use Rattle.geoarrow_layout.specs.Summary.{IsBits, SomeAt, IsBottom, IsUnion, Summarizes}
 use Rattle.geoarrow_layout.specs.Steps.{has_bit, IsNoLeaf}
 use Rattle.geoarrow_layout.specs.OneShape.{separated_same, box_same}
-use Rattle.geoarrow_layout.proofs.Leaves.{xyz_names, xym_names, three_have}
-use Rattle.geoarrow_layout.proofs.FieldSteps.{has_at}
+use Rattle.geoarrow_layout.proofs.FieldSteps.{xyz_names, xym_names, three_have, has_at}
 use Rattle.geoarrow_layout.proofs.Readings.{Answer, ok, ok_same, answers_one, refuses_one, ok_pair, pairs_same, pairs_from}
 use Rattle.geoarrow_layout.proofs.Bottoms.{at_bottom, NotList}
 use Rattle.std.proofs.lemmas.Bool.{and_parts}

@@ -1,5 +1,5 @@
 -- Steps of the comparison with the table of written data types.
-use Rattle.std.proofs.Common.{◌≡◌, ◌↔◌, ◌<◌, ◌+◌, ℕ, zero, suc, ℤ, Bool, true, false, true≢false, IsTrue, Some, List, [], ◌∷◌, ◌++◌, drop, length, get_or, sym, ap, subst, ◌∙◌, arith}
+use Rattle.std.proofs.Common.{◌≡◌, ◌↔◌, ◌<◌, ◌+◌, ℕ, zero, suc, ℤ, Bool, true, false, true≢false, IsTrue, Some, List, [], ◌∷◌, ◌++◌, drop, length, get_or, sym, ap, subst, ◌∙◌, arith, Option}
 use Rattle.std.specs.List.{Contains}
 use Rattle.std.proofs.lemmas.List.{drop_more, same_from_push}
 use Rattle.arrow_values.specs.Tree.{Tree, struct, union, FieldTree, Members}
@@ -8,8 +8,15 @@ use Rattle.arrow_values.specs.declared.tree.UnionMode.{UnionMode}
 use Rattle.geoarrow_layout.specs.declared.kinds.Dimension.{Dimension}
 use Rattle.geoarrow_layout.specs.declared.encodings.NativeKind.{NativeKind}
 use Rattle.geoarrow_layout.specs.declared.encodings.Kind.{Kind}
-use Rattle.geoarrow_layout.specs.Layouts.{member_layout, layout}
+use Rattle.geoarrow_layout.specs.Layouts.{member_layout, layout, bytes_layout, text_layout}
 use Rattle.geoarrow_layout.proofs.Distinct.{layouts_are_distinct}
+use Rattle.std.specs.Option.{option_eq}
+use Rattle.geoarrow_layout.specs.declared.encodings.Width.{Width}
+use Rattle.geoarrow_layout.specs.declared.encodings.Width.TheVariants.{Plain}
+use Rattle.geoarrow_layout.specs.contracts.encodings.Width as width
+use Rattle.geoarrow_layout.proofs.Equality.{option_decides, bare_decides}
+use Rattle.geoarrow_layout.specs.contracts.encodings.WidthPartialEq.TheImpl as widths
+use Rattle.geoarrow_layout.specs.Shapes.{IsBytes, IsText}
 
 -- a struct of these fields, a union of these members
 abbrev fields_in : Tree → List FieldTree
@@ -60,3 +67,19 @@ not_kind t j k b says fails h same = true≢false (sym (says.1 (h ∙ ap layout 
 
 pub found_kind : (t : Tree) (j : Kind) → t ≡ layout j → (k : Kind) → (Some j ≡ Some k) ↔ (t ≡ layout k)
 found_kind t j is k = ((λ h. is ∙ ap layout (some_same j k h)), (λ h. ap (λ x. Some x) (layouts_are_distinct j k (sym is ∙ h))))
+
+-- ---- whether a width that is told of a tree is the one that is asked for
+
+told : (P : Width → Tree → Type 0) (t : Tree) (r : Option Width) (w : Width) (b : Bool) → ((v : Width) → (r ≡ Some v) ↔ P v t)
+    → b ≡ option_eq (widths.eq-value).it r (Some w) → IsTrue b ↔ P w t
+told P t r w b says is = (λ h. (says w).0 ((option_decides _ (bare_decides width.the_type tt) r (Some w)).0 (sym is ∙ h)), λ p. is ∙ (option_decides _ (bare_decides width.the_type tt) r (Some w)).1 ((says w).1 p))
+
+pub bytes_told : (t : Tree) (r : Option Width) (w : Width) (b : Bool) → ((v : Width) → (r ≡ Some v) ↔ IsBytes v t)
+    → b ≡ option_eq (widths.eq-value).it r (Some w) → IsTrue b ↔ (t ≡ bytes_layout w)
+bytes_told t r Plain b says is = told IsBytes t r Plain b says is
+bytes_told t r w b says is = told IsBytes t r w b says is
+
+pub text_told : (t : Tree) (r : Option Width) (w : Width) (b : Bool) → ((v : Width) → (r ≡ Some v) ↔ IsText v t)
+    → b ≡ option_eq (widths.eq-value).it r (Some w) → IsTrue b ↔ (t ≡ text_layout w)
+text_told t r Plain b says is = told IsText t r Plain b says is
+text_told t r w b says is = told IsText t r w b says is

@@ -22,8 +22,7 @@ use Rattle.geoarrow_layout.specs.Shapes.{Mixed, Geometry, Member, GeometryPart, 
 use Rattle.geoarrow_layout.specs.Summary.{IsBits, IsFaultOf, Seen, place_of, AreLevels, IsBottom, IsInnerUnion, IsUnion, SummarizesBy, Summarizes}
 use Rattle.geoarrow_layout.specs.Steps.{AddsBits, CoordOf, DimensionOf, SomeAnswer, UnionSays, UnionSaysOne, IsNested, IsNoLeaf, Shows, ShowsInner}
 use Rattle.geoarrow_layout.specs.OneShape.{member_same, geometry_part_same}
-use Rattle.geoarrow_layout.proofs.Readings.{Answer}
-use Rattle.geoarrow_layout.proofs.Readings.{ok, ok_same, ok_pair, pairs_same, refuses, refuses_one}
+use Rattle.geoarrow_layout.proofs.Readings.{Answer, ok, ok_same, ok_pair, pairs_same, refuses, refuses_one}
 use Rattle.geoarrow_layout.proofs.MemberLists.{Items, all_map, all_inside, all_some, first_some, all_both, all_first, all_second, some_before, some_last, some_either, one_more}
 use Rattle.geoarrow_layout.proofs.Parts.{mixed_apart}
 use Rattle.geoarrow_layout.proofs.Bottoms.{NotList, not_less, at_bottom}

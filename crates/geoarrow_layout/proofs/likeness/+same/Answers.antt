@@ -1,8 +1,31 @@
-use Rattle.std.proofs.Common.{◌≡◌, ◌*◌, ap, arith}
-use Rattle.arrow_values.specs.Tree.{depth}
-use Rattle.arrow_values.specs.View.{members_size}
-use Rattle.geoarrow_layout.proofs.Depths.{element_depth, each_next}
+use Rattle.std.proofs.Common.{◌≡◌, ℕ, zero, suc, ◌<◌, ◌+◌, ℤ, Bool, true, ◌&&◌, List, [], ◌∷◌, length, get_or, drop, sym, ap, ◌∙◌, subst, arith, ◌*◌}
+use Rattle.std.proofs.lemmas.List.{drop_more}
+use Rattle.arrow_values.specs.Tree.{FieldTree, MemberTrees, depth}
+use Rattle.arrow_values.specs.View.{member_trees, members_size}
+use Rattle.geoarrow_layout.specs.AlikeTest.{each_has_alike, some_member, alike_of}
+use Rattle.std.specs.Ordering.{int_eq}
 use Rattle.geoarrow_layout.proofs.likeness.+same.Goals as goal
+
+-- a member lies less deep than its union
+member_depth : (xs : List (ℤ × FieldTree)) (k : ℕ) (x : ℤ × FieldTree) → k < length xs → depth (get_or xs k x).1.tree < members_size xs
+member_depth [] k x lt = absurd (omega arith)
+member_depth (y ∷ xs) zero x lt = omega arith
+member_depth (y ∷ xs) (suc k) x lt = let h : depth (get_or xs k x).1.tree < members_size xs = member_depth xs k x (omega arith) in omega (arith, h)
+
+-- the same of an element that a loop is at
+element_depth : (ms xs : List (ℤ × FieldTree)) (k : ℕ) (x : ℤ × FieldTree) → xs ≡ ms → k < length xs → x ≡ get_or xs k x → depth x.1.tree < members_size ms
+element_depth ms xs k x same lt at =
+    subst (λ zs. depth x.1.tree < members_size zs) same (subst (λ y. depth y.1.tree < members_size xs) (sym at) (member_depth xs k x lt))
+
+-- the first of what is left
+each_drop : (xs : List (ℤ × FieldTree)) (ns : MemberTrees) (k : ℕ) (x : ℤ × FieldTree) → k < length xs → x ≡ get_or xs k x → each_has_alike (member_trees (drop k xs)) ns ≡ (some_member (λ j u. int_eq x.0 j && alike_of x.1.tree u) ns && each_has_alike (member_trees (drop (k + 1) xs)) ns)
+each_drop xs ns k x lt at =
+    ap (λ ys. each_has_alike (member_trees ys) ns) (drop_more xs k x lt)
+    ∙ ap (λ y. some_member (λ j u. int_eq y.0 j && alike_of y.1.tree u) ns && each_has_alike (member_trees (drop (k + 1) xs)) ns) (sym at)
+
+each_next : (xs : List (ℤ × FieldTree)) (ms ns : MemberTrees) (k : ℕ) (x : ℤ × FieldTree) (r : Bool) → k < length xs → x ≡ get_or xs k x → r ≡ some_member (λ j u. int_eq x.0 j && alike_of x.1.tree u) ns → r ≡ true → each_has_alike (member_trees (drop k xs)) ns ≡ each_has_alike ms ns → each_has_alike (member_trees (drop (k + 1) xs)) ns ≡ each_has_alike ms ns
+each_next xs ms ns k x r lt at is found before =
+    ap (λ b. b && each_has_alike (member_trees (drop (k + 1) xs)) ns) (sym found ∙ is) ∙ sym (each_drop xs ns k x lt at) ∙ before
 
 pub each_has_same-loop-member-preserved : goal.each_has_same-loop-member-preserved
 each_has_same-loop-member-preserved t c =

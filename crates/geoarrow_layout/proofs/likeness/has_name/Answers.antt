@@ -1,5 +1,5 @@
 use Rattle.std.proofs.Common.{◌∙◌}
-use Rattle.geoarrow_layout.proofs.Leaves.{has_name-fields}
+use Rattle.geoarrow_layout.proofs.FieldSteps.{has_name-fields}
 use Rattle.geoarrow_layout.proofs.likeness.has_name.Goals as goal
 
 pub returns : goal.returns

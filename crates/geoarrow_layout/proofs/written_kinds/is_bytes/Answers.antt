@@ -1,4 +1,4 @@
-use Rattle.geoarrow_layout.proofs.Widths.{bytes_told}
+use Rattle.geoarrow_layout.proofs.TableSteps.{bytes_told}
 use Rattle.geoarrow_layout.proofs.written_kinds.is_bytes.Goals as goal
 
 pub returns : goal.returns

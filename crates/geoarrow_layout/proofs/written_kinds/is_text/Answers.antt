@@ -1,4 +1,4 @@
-use Rattle.geoarrow_layout.proofs.Widths.{text_told}
+use Rattle.geoarrow_layout.proofs.TableSteps.{text_told}
 use Rattle.geoarrow_layout.proofs.written_kinds.is_text.Goals as goal
 
 pub returns : goal.returns
