@@ -28,9 +28,7 @@ has_name-fields n (f ∷ fs) = rw (has_name-fields n fs)
 
 or_swap : (p q r : Bool) → (p || (q || r)) ≡ (q || (p || r))
 or_swap true true r = refl
-or_swap true false r = refl
-or_swap false true r = refl
-or_swap false false r = refl
+or_swap _ _ r = refl
 
 -- names without one of them
 record Without (x : Text) (names : List Text) : Type 0 where

@@ -165,6 +165,3 @@ inferred_as_read (struct fs) Separated Separated d e h k = (refl, names_agree (n
 inferred_as_read (fixed_size_list n t x m z) Interleaved Separated d e h k = absurd k
 inferred_as_read (struct fs) Separated Interleaved d e h k = absurd k
 inferred_as_read _ _ _ d e h k = absurd h
-
-pub answers_as_read : (t : Tree) (r : PairOption) → AnswersSome r (Inferred t) → (c b : CoordType) (d e : Dimension) → r ≡ some_pair c d → Leaf t b e → (c ≡ b) × (d ≡ e)
-answers_as_read t r exact c b d e is leaf = inferred_as_read t c b d e ((exact c d).0 is) leaf

@@ -12,7 +12,6 @@ pub mod Listed
 pub mod Inferences
 pub mod AlikeLaws
 pub mod AlikeDecides
-pub mod AlikeKinds
 pub mod UnionChanges
 pub mod NamesSteps
 pub mod Distinct

@@ -26,35 +26,26 @@ DimensionAnswer = Result Dimension LayoutFault
 abbrev pub NamesAnswer : ℕ → ℕ → DimensionAnswer → Type 0
 NamesAnswer count bits r = (ns : List Text) → count ≡ length ns → IsBits bits (λ i. SomeAt i ns) → AnswersOne r (λ d. IsSeparatedAs d ns)
 
-one_dimension : (ns : List Text) (d : Dimension) → IsSeparatedAs d ns → AnswersOne (ok d) (λ e. IsSeparatedAs e ns)
-one_dimension ns d h = answers_one d (λ e. IsSeparatedAs e ns) (separated_same ns) h
-
-none_dimension : (ns : List Text) (f : LayoutFault) → ((d : Dimension) → IsSeparatedAs d ns → ⊥) → AnswersOne (Err f) (λ e. IsSeparatedAs e ns)
-none_dimension ns f none = refuses_one f (λ e. IsSeparatedAs e ns) none
-
-at_three : (count bits : ℕ) (ns : List Text) → count ≡ 3 → count ≡ length ns → length ns ≡ 3
-at_three count bits ns three same = sym same ∙ three
-
 pub without_x : (count bits : ℕ) (f : LayoutFault) → count ≡ 3 → has_bit bits 0 ≡ false → NamesAnswer count bits (Err f)
-without_x count bits f three lacks = λ ns same is. none_dimension ns f
+without_x count bits f three lacks = λ ns same is. refuses_one f (λ e. IsSeparatedAs e ns)
     (λ d h. let no_x = sym (has_at (120 ∷ []) 0 bits ns (omega arith) refl refl is) ∙ lacks in let has_x = (three_have ns d (sym same ∙ three) h).0 in cc)
 
 pub without_y : (count bits : ℕ) (f : LayoutFault) → count ≡ 3 → has_bit bits 1 ≡ false → NamesAnswer count bits (Err f)
-without_y count bits f three lacks = λ ns same is. none_dimension ns f
+without_y count bits f three lacks = λ ns same is. refuses_one f (λ e. IsSeparatedAs e ns)
     (λ d h. let no_y = sym (has_at (121 ∷ []) 1 bits ns (omega arith) refl refl is) ∙ lacks in let has_y = (three_have ns d (sym same ∙ three) h).1 in cc)
 
 pub without_z_m : (count bits : ℕ) (f : LayoutFault) → count ≡ 3 → has_bit bits 2 ≡ false → has_bit bits 3 ≡ false → NamesAnswer count bits (Err f)
-without_z_m count bits f three lacks_z lacks_m = λ ns same is. none_dimension ns f
+without_z_m count bits f three lacks_z lacks_m = λ ns same is. refuses_one f (λ e. IsSeparatedAs e ns)
     (λ d h. let no_z = sym (has_at (122 ∷ []) 2 bits ns (omega arith) refl refl is) ∙ lacks_z in let no_m = sym (has_at (109 ∷ []) 3 bits ns (omega arith) refl refl is) ∙ lacks_m in
     elim (three_have ns d (sym same ∙ three) h).2 [ inl e ↦ let bad = sym no_z ∙ e in cc | inr e ↦ let bad = sym no_m ∙ e in cc ])
 
 pub with_z : (count bits : ℕ) → count ≡ 3 → has_bit bits 0 ≡ true → has_bit bits 1 ≡ true → has_bit bits 2 ≡ true → NamesAnswer count bits (Ok XYZ)
-with_z count bits three x y z = λ ns same is. one_dimension ns XYZ
-    (xyz_names ns (at_three count bits ns three same) (sym (has_at _ 0 bits ns (omega arith) refl refl is) ∙ x) (sym (has_at _ 1 bits ns (omega arith) refl refl is) ∙ y) (sym (has_at _ 2 bits ns (omega arith) refl refl is) ∙ z))
+with_z count bits three x y z = λ ns same is. answers_one XYZ (λ e. IsSeparatedAs e ns) (separated_same ns)
+    (xyz_names ns (sym same ∙ three) (sym (has_at _ 0 bits ns (omega arith) refl refl is) ∙ x) (sym (has_at _ 1 bits ns (omega arith) refl refl is) ∙ y) (sym (has_at _ 2 bits ns (omega arith) refl refl is) ∙ z))
 
 pub with_m : (count bits : ℕ) → count ≡ 3 → has_bit bits 0 ≡ true → has_bit bits 1 ≡ true → has_bit bits 3 ≡ true → NamesAnswer count bits (Ok XYM)
-with_m count bits three x y m = λ ns same is. one_dimension ns XYM
-    (xym_names ns (at_three count bits ns three same) (sym (has_at _ 0 bits ns (omega arith) refl refl is) ∙ x) (sym (has_at _ 1 bits ns (omega arith) refl refl is) ∙ y) (sym (has_at _ 3 bits ns (omega arith) refl refl is) ∙ m))
+with_m count bits three x y m = λ ns same is. answers_one XYM (λ e. IsSeparatedAs e ns) (separated_same ns)
+    (xym_names ns (sym same ∙ three) (sym (has_at _ 0 bits ns (omega arith) refl refl is) ∙ x) (sym (has_at _ 1 bits ns (omega arith) refl refl is) ∙ y) (sym (has_at _ 3 bits ns (omega arith) refl refl is) ∙ m))
 
 -- the leaf that a struct is
 abbrev pub LeafAnswer : Bottom → Answer → Type 0
@@ -82,21 +73,18 @@ struct_no_leaf count names floats f h = leaf_of_struct count names floats (Err f
 abbrev pub BoxNames : ℕ → ℕ → DimensionAnswer → Type 0
 BoxNames count bits r = (ns : List Text) → count ≡ length ns → IsBits bits (λ i. SomeAt i ns) → AnswersOne r (λ d. IsBoxAs d ns)
 
-one_box : (ns : List Text) (d : Dimension) → IsBoxAs d ns → AnswersOne (ok d) (λ e. IsBoxAs e ns)
-one_box ns d h = answers_one d (λ e. IsBoxAs e ns) (box_same ns) h
-
 not_both : (a b : Bool) → (a && b) ≡ false → (a ≡ true) × (b ≡ true) → ⊥
 not_both a b h p = let both : (a && b) ≡ true = rw (p.0, p.1) refl in cc
 
 pub box_with_m : (count bits : ℕ) → count ≡ 6 → (has_bit bits 6 && has_bit bits 7) ≡ true → BoxNames count bits (Ok XYM)
 box_with_m count bits six m = λ ns same is.
     let p = and_parts (has_bit bits 6) (has_bit bits 7) m in
-    one_box ns XYM (sym same ∙ six, (sym (has_at _ 6 bits ns (omega arith) refl refl is) ∙ p.0, sym (has_at _ 7 bits ns (omega arith) refl refl is) ∙ p.1))
+    answers_one XYM (λ e. IsBoxAs e ns) (box_same ns) (sym same ∙ six, (sym (has_at _ 6 bits ns (omega arith) refl refl is) ∙ p.0, sym (has_at _ 7 bits ns (omega arith) refl refl is) ∙ p.1))
 
 pub box_with_z : (count bits : ℕ) → count ≡ 6 → (has_bit bits 6 && has_bit bits 7) ≡ false → (has_bit bits 4 && has_bit bits 5) ≡ true → BoxNames count bits (Ok XYZ)
 box_with_z count bits six no_m z = λ ns same is.
     let p = and_parts (has_bit bits 4) (has_bit bits 5) z in
-    one_box ns XYZ (
+    answers_one XYZ (λ e. IsBoxAs e ns) (box_same ns) (
       sym same ∙ six,
       (λ q. not_both (has_bit bits 6) (has_bit bits 7) no_m (has_at _ 6 bits ns (omega arith) refl refl is ∙ q.0, has_at _ 7 bits ns (omega arith) refl refl is ∙ q.1)),
       (sym (has_at _ 4 bits ns (omega arith) refl refl is) ∙ p.0, sym (has_at _ 5 bits ns (omega arith) refl refl is) ∙ p.1),

@@ -1,6 +1,5 @@
-use Rattle.arrow_values.specs.View.{tree}
-use Rattle.geoarrow_layout.proofs.Inferences.{answers_as_read}
+use Rattle.geoarrow_layout.proofs.Inferences.{inferred_as_read}
 use Rattle.geoarrow_layout.proofs.infer.infer_point.Goals as goal
 
 pub returns-clause-agrees : goal.returns-clause-agrees
-returns-clause-agrees c = answers_as_read (tree c.args.data_type.now) c.taken_for.result c.taken_for.ensures
+returns-clause-agrees c = λ b e d f is leaf. inferred_as_read _ b e d f ((c.taken_for.ensures b d).0 is) leaf

@@ -1,4 +1,4 @@
-use Rattle.geoarrow_layout.proofs.AlikeKinds as law
+use Rattle.geoarrow_layout.proofs.AlikeLaws as law
 use Rattle.geoarrow_layout.proofs.tree_laws.alike_are_one_kind.Goals as goal
 
 pub returns : goal.returns
