@@ -21,7 +21,8 @@ use Rattle.geoarrow_layout.specs.Shapes.{ListsOver, levels_of, Leaf, Mixed, Nati
 use Rattle.geoarrow_layout.specs.Candidates.{Holds, IsAccepted, IsAcceptedStructure, IsNative, IsGeometry, IsBox}
 use Rattle.geoarrow_layout.proofs.Readings.{Answer}
 
--- what a tree is at its end: how many lists it has, 4 more above a union, and above numbers of their own for bytes and texts
+-- a number that tells trees of different kinds apart: one more for each list; below the lists 4 for a union, 6 for bytes, 7 for texts,
+-- 8 for another plain type, and 0 for anything else
 abbrev plain_sort : PlainType → ℕ
 plain_sort binary = 6
 plain_sort large_binary = 6
@@ -38,7 +39,7 @@ sort_of (union ms mode) = 4
 sort_of (plain p) = plain_sort p
 sort_of _ = 0
 
--- what a kind says of it
+-- the number of the trees of a kind
 abbrev sort_in : Kind → ℕ
 sort_in (OfNative GeometryCollection c d) = 5
 sort_in (OfNative k c d) = levels_of k
