@@ -21,8 +21,7 @@ use Rattle.geoarrow_layout.specs.Shapes.{ListsOver, levels_of, Leaf, Mixed, Nati
 use Rattle.geoarrow_layout.specs.Candidates.{Holds, IsAccepted, IsAcceptedStructure, IsNative, IsGeometry, IsBox}
 use Rattle.geoarrow_layout.proofs.Readings.{Answer}
 
--- a number that tells trees of different kinds apart: one more for each list; below the lists 4 for a union, 6 for bytes, 7 for texts,
--- 8 for another plain type, and 0 for anything else
+-- a number that tells trees of different kinds apart: one more a list, and below the lists 4 for a union, 6 to 8 for plain types, or 0
 abbrev plain_sort : PlainType → ℕ
 plain_sort binary = 6
 plain_sort large_binary = 6

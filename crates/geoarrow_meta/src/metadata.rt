@@ -193,6 +193,8 @@ impl Metadata {
     /// assert_eq!(rt; metadata.edges(), Some(Edges::Spherical));
     /// assert_eq!(rt; metadata.crs().crs_type(), None);
     /// ```
+    // Not inlined, so that a caller has no room for a scratch on its stack if there is no text.
+    #[inline(never)]
     pub fn deserialize(alloc: Global, metadata: Option<&str>) -> Result<Metadata, ArrowError>
         ensures exact { MatchResult result (TextStandsFor (text_of metadata.entry))
             (λ e. IsMemory e

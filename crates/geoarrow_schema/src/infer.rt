@@ -32,6 +32,7 @@ impl GeoArrowType {
     /// let inferred = GeoArrowType::from_arrow_field(alloc, &unnamed)?;
     /// assert!(rt; matches!(inferred, GeoArrowType::Wkb(_)));
     /// ```
+    #[inline(always)]
     pub fn from_arrow_field(alloc: Global, field: &Field) -> GeoArrowResult<GeoArrowType>
         ensures inference { IsInference field.now result }
         ensures only { IfOk result (ReadsOrInfersAlone field.now) }
@@ -40,6 +41,7 @@ impl GeoArrowType {
     }
 
     /// The same as `from_arrow_field`, in a scratch that the caller keeps, as `from_extension_field_with_scratch` has it.
+    #[inline(always)]
     pub fn from_arrow_field_with_scratch(
         alloc: Global,
         field: &Field,
@@ -53,6 +55,7 @@ impl GeoArrowType {
 }
 
 /// The type that a field is read as or taken for, its metadata text in the scratch, or in one of its own.
+#[inline(never)]
 fn read_or_infer(
     alloc: Global,
     field: &Field,
@@ -87,6 +90,8 @@ fn infer(
 }
 
 /// The refusal of a field whose data type is taken for none: that of its metadata, if it is refused, goes before.
+#[cold]
+#[inline(never)]
 #[tactic(auto, using(crate::proofs::Inferring::none_for_tree, crate::proofs::Inferring::uninferred_text, crate::proofs::Inferring::uninferred_tree))]
 fn uninferred(alloc: Global, field: &Field, scratch: Option<&mut Scratch>) -> GeoArrowError
     requires { (k : Kind) → ¬ InferredAs field.now.tree k }

@@ -16,6 +16,7 @@ use arrow_values::{ArrowError, DataType, Field};
 use geoarrow_layout::{kind_data_type, layout_reads_back};
 use geoarrow_native::laws::written_field_reads_back;
 use std::alloc::{AllocError, Global};
+use std::collections::BTreeMap;
 
 impl GeoArrowType {
     /// The data type of a column of this type (GeoArrow, "Native encoding", "Serialized encodings"). A data type has
@@ -63,7 +64,8 @@ impl GeoArrowType {
         ensures refused { IfErr result IsMemory }
     {
         let data_type = self.to_data_type(alloc)?;
-        let bare = Field::new(alloc, name, data_type, nullable)?;
+        let name = String::from_str(alloc, name)?;
+        let bare = Field::from_parts(name, data_type, nullable, BTreeMap::new(alloc));
         layout_reads_back(self.kind());
         written_field_reads_back(self.kind(), self.metadata());
         self.dress(alloc, bare)
