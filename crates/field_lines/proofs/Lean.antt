@@ -2,7 +2,8 @@
 use Rattle.std.proofs.Common.{◌≡◌, ℤ, pos, negsuc, List, [], ◌∷◌, Bool, true, false, cond, Option, Some, None, option_map, option_and_then, inl, inr, codes, bytes_eq, Ordering, Less, Equal, Greater, nat_cmp, refl, sym, ap, subst, ◌∙◌}
 use Rattle.std.proofs.lemmas.Cmp.{nat_list_cmp_total, tied_itself}
 use Rattle.std.proofs.lemmas.Map.Text.{is_eq-slice_cmp}
-use Rattle.std.proofs.lemmas.Option.{option_and_then_some}
+use Rattle.std.proofs.lemmas.Bool.{and_parts}
+use Rattle.std.proofs.lemmas.Option.{cond_some, option_and_then_some}
 use Rattle.std.proofs.lemmas.Slice.Eq.{bytes_eq-Decides}
 use Rattle.std.specs.Cmp.Lexicographic.{slice_cmp}
 use Rattle.std.specs.List.{find}
@@ -14,13 +15,14 @@ use Rattle.arrow_values.specs.declared.tree.UnionMode.TheVariants.{Sparse, Dense
 use Rattle.arrow_values.specs.Tree.{Text, Metadata, Plain, Tree, plain, list, large_list, fixed_size_list, struct, union, FieldTrees, no_fields, field, MemberTrees, no_members as no_union_members, member as union_member, FieldTree}
 use Rattle.arrow_values.specs.Union.{is_type_id, are_distinct}
 use Rattle.field_lines.specs.Names.{plain_name, plain_named, plain_types, mode_name}
-use Rattle.field_lines.specs.FieldOfValue.{integer_of, kept, is_size, size_of_value, id_of_value, mode_of_value, texts_in, metadata_of_value, field_before, member_before, list_of, large_list_of, fixed_size_list_of, tree_ids, union_of, are_keys, field_of_value, type_in, type_of_value, fields_of_value, fields_in, members_of_value, members_in}
+use Rattle.field_lines.specs.FieldOfValue.{under, field_from, integer_of, kept, is_size, size_of_value, id_of_value, mode_of_value, texts_in, metadata_of_value, field_before, member_before, list_of, large_list_of, fixed_size_list_of, tree_ids, union_of, are_keys, field_of_value, type_in, type_of_value, fields_of_value, fields_in, members_of_value, members_in}
 use Rattle.field_lines.specs.ValueOfField.{texts_value, with_metadata, parts_value, one_key, two_keys, pair, type_value, fields_value, members_value, value_of_field}
 use Rattle.field_lines.specs.Lean.{field_keys, HaveKeysOf, IsLean, AreLean, HasLeanType, IsLeanType}
-use Rattle.field_lines.proofs.FieldRead.{name_at, nullable_at, metadata_at, parts_of_from}
-use Rattle.field_lines.proofs.Form.{map_some}
-use Rattle.field_lines.proofs.Round.{both}
 use Rattle.field_lines.proofs.TokenTexts.{text_is}
+
+map_some : {A B P : Type 0} (f : A → B) (o : Option A) (y : B) → option_map f o ≡ Some y → ((x : A) → o ≡ Some x → f x ≡ y → P) → P
+map_some f None y is go = cc
+map_some f (Some x) y is go = go x refl cc
 
 -- ---- the value of a field is lean
 
@@ -100,6 +102,15 @@ field_keys_ordered = ((refl, refl, (refl, refl, (refl, refl, tt))), ((refl, refl
 
 -- ---- what stands at a key, by what is read there
 
+-- the parts of a field that is there are its own
+parts_of_from : (n : Option Text) (b : Option Bool) (t : Option Tree) (m : Option Metadata) (f : FieldTree) → field_from n b t m ≡ Some f → (n ≡ Some f.name) × (b ≡ Some f.nullable) × (t ≡ Some f.tree) × (m ≡ Some f.metadata)
+parts_of_from (Some n) (Some b) (Some t) (Some m) f is = (ap (option_map (λ f. f.name)) is, ap (option_map (λ f. f.nullable)) is, ap (option_map (λ f. f.tree)) is, ap (option_map (λ f. f.metadata)) is)
+parts_of_from _ _ _ _ f is = cc
+
+parts_of : (ms : Members) (f : FieldTree) → field_of_value (object ms) ≡ Some f
+    → (under as_str (codes "name") ms ≡ Some f.name) × (under as_bool (codes "nullable") ms ≡ Some f.nullable) × (type_in ms ≡ Some f.tree) × (metadata_of_value (get_member (codes "metadata") ms) ≡ Some f.metadata)
+parts_of ms f is = parts_of_from (under as_str (codes "name") ms) (under as_bool (codes "nullable") ms) (type_in ms) (metadata_of_value (get_member (codes "metadata") ms)) f is
+
 there : {A : Type 0} (f : Data → Option A) (g : A → Data) → ((d : Data) (x : A) → f d ≡ Some x → d ≡ g x) → (o : Option Data) (x : A) → option_and_then f o ≡ Some x → o ≡ Some (g x)
 there f g h None x is = cc
 there f g h (Some d) x is = ap Some (h d x is)
@@ -125,7 +136,7 @@ metadata_is (Some _) m rest is full = cc
 parts_are : (ms : Members) (f : FieldTree) → IsLean (object ms) → field_of_value (object ms) ≡ Some f → get_member (codes "type") ms ≡ Some (type_value f.tree) → object ms ≡ value_of_field f
 parts_are ms f lean is type =
     let m = get_member (codes "metadata") ms in
-    let parts = parts_of_from (name_at ms) (nullable_at ms) (type_in ms) (metadata_at ms) f is in
+    let parts = parts_of ms f is in
     ap object (are_found field_keys ms field_keys_ordered lean.0
     ∙ ap (λ o. at_key (codes "metadata") m (at_key (codes "name") o (at_key (codes "nullable") (get_member (codes "nullable") ms) (at_key (codes "type") (get_member (codes "type") ms) no_members))))
     (there as_str string (λ d n h. text_is d n (sym h)) (get_member (codes "name") ms) f.name parts.0)
@@ -151,13 +162,9 @@ mode_is : (d : Data) (mode : UnionMode) → mode_of_value d ≡ Some mode → d 
 mode_is (string word) mode is = ap string ((bytes_eq-Decides word (mode_name mode)).0 (found_holds (λ u. bytes_eq word (mode_name u)) (Sparse ∷ Dense ∷ []) mode is))
 mode_is _ mode is = cc
 
-kept_same : {A : Type 0} (b : Bool) (x y : A) → cond b (Some x) None ≡ Some y → x ≡ y
-kept_same true x y is = cc
-kept_same false x y is = cc
-
 integer_is : (d : Data) (p : ℤ → Bool) (z : ℤ) → IsLean d → option_and_then (kept p) (integer_of d) ≡ Some z → d ≡ number (of_integer z)
-integer_is (number (unsigned n)) p z lean is = ap (λ x. number (of_integer x)) (kept_same (p (pos n)) (pos n) z is)
-integer_is (number (negative (negsuc n))) p z lean is = ap (λ x. number (of_integer x)) (kept_same (p (negsuc n)) (negsuc n) z is)
+integer_is (number (unsigned n)) p z lean is = ap (λ x. number (of_integer x)) (cond_some (p (pos n)) (pos n) z is).1
+integer_is (number (negative (negsuc n))) p z lean is = ap (λ x. number (of_integer x)) (cond_some (p (negsuc n)) (negsuc n) z is).1
 integer_is (number (negative (pos n))) p z lean is = absurd lean
 integer_is _ p z lean is = cc
 
@@ -174,7 +181,7 @@ keyed k l d f g o rest t own written next is = first (bytes_eq k l) refl is
 
 keys_are : (k l p q : Text) (d e : Data) → are_keys k l p q ≡ true → two_keys k d l e ≡ two_keys p d q e
 keys_are k l p q d e h =
-    let keys = both (bytes_eq k p) (bytes_eq l q) h in
+    let keys = and_parts (bytes_eq k p) (bytes_eq l q) h in
     ap (λ x. two_keys x d l e) ((bytes_eq-Decides k p).0 keys.0) ∙ ap (λ x. two_keys p d x e) ((bytes_eq-Decides l q).0 keys.1)
 
 two_keyed : (k l : Text) (d e : Data) (t : Tree) → IsLean e → ((f : FieldTree) → field_of_value d ≡ Some f → d ≡ value_of_field f) → ((ms : MemberTrees) → members_of_value e ≡ Some ms → e ≡ array (members_value ms))
@@ -196,7 +203,7 @@ two_keyed k l d e t lean own all is = which (are_keys k l (codes "fixed_size_lis
     which false true h g at =
         option_and_then_some united (mode_of_value d) t at (λ mode there made. option_and_then_some (union_of mode) (members_of_value e) t made
         (λ ms members last. keys_are k l (codes "mode") (codes "union") d e g ∙ ap (λ x. two_keys (codes "mode") x (codes "union") e) (mode_is d mode there)
-        ∙ ap (two_keys (codes "mode") (string (mode_name mode)) (codes "union")) (all ms members) ∙ ap type_value (kept_same (are_distinct (tree_ids ms)) (union ms mode) t last)))
+        ∙ ap (two_keys (codes "mode") (string (mode_name mode)) (codes "union")) (all ms members) ∙ ap type_value (cond_some (are_distinct (tree_ids ms)) (union ms mode) t last).1))
     which false false h g at = cc
 
 -- ---- a lean value that stands for a field is the value of that field
@@ -204,13 +211,12 @@ two_keyed k l d e t lean own all is = which (are_keys k l (codes "fixed_size_lis
 -- the type at its key, where that member or those after it are the value of a type
 type_there : (r : Ordering) (d : Data) (o : Option Data) (rest : Option Tree) (t : Tree) → (is_eq r ≡ true → type_of_value d ≡ Some t → d ≡ type_value t) → (rest ≡ Some t → o ≡ Some (type_value t))
     → cond (is_eq r) (type_of_value d) rest ≡ Some t → match_ordering r o (Some d) o ≡ Some (type_value t)
-type_there Less d o rest t here later is = later is
 type_there Equal d o rest t here later is = ap Some (here refl is)
-type_there Greater d o rest t here later is = later is
+type_there _ d o rest t here later is = later is
 
 mutual
   pub lean_value_is : (f : FieldTree) (d : Data) → IsLean d → field_of_value d ≡ Some f → d ≡ value_of_field f
-  lean_value_is f (object ms) lean is = parts_are ms f lean is (lean_type_in ms f.tree lean.1 (parts_of_from (name_at ms) (nullable_at ms) (type_in ms) (metadata_at ms) f is).2)
+  lean_value_is f (object ms) lean is = parts_are ms f lean is (lean_type_in ms f.tree lean.1 (parts_of ms f is).2)
   lean_value_is f _ lean is = cc
 
   lean_type_in : (ms : Members) (t : Tree) → HasLeanType ms → type_in ms ≡ Some t → get_member (codes "type") ms ≡ Some (type_value t)

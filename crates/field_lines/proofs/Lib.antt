@@ -1,12 +1,10 @@
 mod LastEntry
-mod FieldRead
 mod UnionMade
 mod Writes
 mod Prints
 mod Round
 mod Form
 mod Lean
-mod Texts
 mod TokenTexts
 mod TokenSlots
 mod TokenParts

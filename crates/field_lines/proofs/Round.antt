@@ -1,12 +1,12 @@
 -- The value of a field stands for that field.
 use Rattle.std.proofs.Common.{◌≡◌, ℤ, pos, negsuc, [], ◌∷◌, Bool, true, false, cond, IsTrue, ◌&&◌, Some, None, option_map, option_and_then, refl, ap, ◌∙◌}
-use Rattle.std.proofs.lemmas.Bool.{false≢true}
+use Rattle.std.proofs.lemmas.Bool.{and_parts}
 use Rattle.std.specs.List.{list_all}
 use Rattle.serde_json.specs.Data.{Data, number, string}
 use Rattle.serde_json.specs.Find.{of_integer, as_integer, as_str}
 use Rattle.arrow_values.specs.declared.tree.UnionMode.{UnionMode}
 use Rattle.arrow_values.specs.declared.tree.UnionMode.TheVariants.{Sparse, Dense}
-use Rattle.arrow_values.specs.Tree.{Text, Metadata, Plain, null, boolean, int8, int16, int32, int64, uint8, uint16, uint32, uint64, float16, float32, float64, date32, date64, binary, large_binary, binary_view, utf8, large_utf8, utf8_view, Tree, plain, list, large_list, fixed_size_list, struct, union, FieldTrees, no_fields, field, MemberTrees, no_members, member, FieldTree, field_tree}
+use Rattle.arrow_values.specs.Tree.{Text, Metadata, Plain, null, Tree, plain, list, large_list, fixed_size_list, struct, union, FieldTrees, no_fields, field, MemberTrees, no_members, member, FieldTree, field_tree}
 use Rattle.arrow_values.specs.Union.{is_type_id, are_distinct}
 use Rattle.field_lines.specs.Names.{plain_name, plain_named, mode_name, mode_named}
 use Rattle.field_lines.specs.FieldOfValue.{kept, is_size, size_of_value, texts_in, field_from, field_before, member_before, list_of, large_list_of, fixed_size_list_of, tree_ids, union_of, field_of_value, type_of_value, fields_in, members_in}
@@ -16,26 +16,7 @@ use Rattle.field_lines.specs.LineForm.{HasLineForm, FieldsHaveLineForm, MembersH
 -- the words
 named_plain : (p : Plain) → plain_named (plain_name p) ≡ Some p
 named_plain null = refl
-named_plain boolean = refl
-named_plain int8 = refl
-named_plain int16 = refl
-named_plain int32 = refl
-named_plain int64 = refl
-named_plain uint8 = refl
-named_plain uint16 = refl
-named_plain uint32 = refl
-named_plain uint64 = refl
-named_plain float16 = refl
-named_plain float32 = refl
-named_plain float64 = refl
-named_plain date32 = refl
-named_plain date64 = refl
-named_plain binary = refl
-named_plain large_binary = refl
-named_plain binary_view = refl
-named_plain utf8 = refl
-named_plain large_utf8 = refl
-named_plain utf8_view = refl
+named_plain _ = refl
 
 named_mode : (mode : UnionMode) → mode_named (mode_name mode) ≡ Some mode
 named_mode Sparse = refl
@@ -59,10 +40,6 @@ parts_read n d t b [] is = ap (λ o. field_from (Some n) (Some b) o (Some [])) i
 parts_read n d t b (e ∷ es) is =
     ap (λ o. field_from (Some n) (Some b) o (texts_in (texts_value (e ∷ es)))) is ∙ ap (λ o. field_from (Some n) (Some b) (Some t) o) (texts_in-value (e ∷ es))
 
-pub both : (a b : Bool) → IsTrue (a && b) → IsTrue a × IsTrue b
-both true b h = (refl, h)
-both false b h = absurd (false≢true h)
-
 mutual
   type_read : (t : Tree) → HasLineForm t → type_of_value (type_value t) ≡ Some t
   type_read (plain p) h = ap (option_map plain) (named_plain p)
@@ -72,7 +49,7 @@ mutual
       ap (option_and_then (λ f. option_map (fixed_size_list_of f) (size_of_value (number (of_integer s))))) (parts_read n (type_value t) t b m (type_read t h.0)) ∙ ap (option_map (fixed_size_list n t b m)) (kept-integer is_size s h.1)
   type_read (struct fs) h = ap (option_map struct) (fields_read fs h)
   type_read (union ms mode) h =
-      let parts = both (list_all is_type_id (tree_ids ms)) (are_distinct (tree_ids ms)) h.1 in
+      let parts = and_parts (list_all is_type_id (tree_ids ms)) (are_distinct (tree_ids ms)) h.1 in
       ap (option_and_then (λ mode. option_and_then (union_of mode) (members_in (members_value ms)))) (named_mode mode) ∙ ap (option_and_then (union_of mode)) (members_read ms h.0 parts.0) ∙ ap (λ b. cond b (Some (union ms mode)) None) parts.1
 
   fields_read : (fs : FieldTrees) → FieldsHaveLineForm fs → fields_in (fields_value fs) ≡ Some fs
@@ -83,7 +60,7 @@ mutual
   members_read : (ms : MemberTrees) → MembersHaveLineForm ms → IsTrue (list_all is_type_id (tree_ids ms)) → members_in (members_value ms) ≡ Some ms
   members_read no_members h ids = refl
   members_read (member i n t b m ms) h ids =
-      let parts = both (is_type_id i) (list_all is_type_id (tree_ids ms)) ids in
+      let parts = and_parts (is_type_id i) (list_all is_type_id (tree_ids ms)) ids in
       ap (option_and_then (λ id. option_and_then (λ f. option_map (member_before id f) (members_in (members_value ms))) (field_of_value (parts_value n (type_value t) b m)))) (kept-integer is_type_id i parts.0)
       ∙ ap (option_and_then (λ f. option_map (member_before i f) (members_in (members_value ms)))) (parts_read n (type_value t) t b m (type_read t h.0))
       ∙ ap (option_map (member i n t b m)) (members_read ms h.1 parts.1)

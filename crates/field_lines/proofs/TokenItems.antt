@@ -1,192 +1,133 @@
 -- The items of a list from tokens: what is left decides.
-use Rattle.std.proofs.Common.{◌≡◌, ◌≤◌, suc, ℤ, Bool, true, false, ◌&&◌, List, [], ◌∷◌, ◌++◌, length, IsTrue, Option, Some, None, option_map, option_and_then, refl, sym, ap, ◌∙◌, arith}
+use Rattle.std.proofs.Common.{◌≡◌, ℕ, ◌≤◌, ℤ, List, [], ◌∷◌, ◌++◌, ◌+◌, length, length-append, IsTrue, Option, Some, None, option_map, option_and_then, subst, refl, sym, ap, ◌∙◌, arith}
+use Rattle.std.proofs.lemmas.Bool.{and_from}
+use Rattle.std.proofs.lemmas.List.Folds.{list_all-append}
+use Rattle.std.proofs.lemmas.Iterator.Adapters.{option_map_id}
 use Rattle.std.specs.List.{zip, list_all}
 use Rattle.json.specs.Token.{Token}
 use Rattle.json.specs.Json.{parse_map, after_end_array}
-use Rattle.serde_json.specs.Data.{Data, null, boolean, number, string, array, object, Items, no_items, item}
-use Rattle.std.proofs.lemmas.List.Folds.{list_all-append}
-use Rattle.std.proofs.lemmas.Bool.{false≢true}
-use Rattle.arrow_values.specs.Tree.{FieldTree, FieldTrees, no_fields, MemberTrees, no_members as no_union_members, Members}
-use Rattle.arrow_values.specs.View.{field_trees, member_trees}
+use Rattle.serde_json.specs.Data.{Data, array, Items, no_items, item}
+use Rattle.arrow_values.specs.Tree.{FieldTree, MemberTrees}
 use Rattle.arrow_values.specs.Union.{is_type_id}
-use Rattle.field_lines.specs.FieldOfValue.{field_before, member_before, field_of_value, id_of_value, fields_in, members_in}
+use Rattle.field_lines.specs.FieldOfValue.{member_before, field_of_value, id_of_value, members_in}
 use Rattle.field_lines.specs.Keys.{pair_read}
 use Rattle.field_lines.specs.Steps.{AreMemberParts}
-use Rattle.value_tokens.specs.Next.{next_items, after, Reads, ReadsItems}
-use Rattle.value_tokens.specs.Turns.{item_read, items_over, value_takes, after_some}
+use Rattle.value_tokens.specs.Next.{next_value, next_items, after, Reads, ReadsItems}
+use Rattle.value_tokens.specs.Turns.{item_read, item_refused, items_over, value_takes, after_some}
 
-nested : (front : Items → Items) (d : Data) (o : Option (Items × List Token)) → parse_map front (parse_map (item d) o) ≡ parse_map (λ ds. front (item d ds)) o
-nested front d None = refl
-nested front d (Some p) = refl
+-- an item where no bracket closes the list
+abbrev pub GoesOn : List Token → List Token → Type 0
+GoesOn ts s = (after_end_array ts ≡ None) × (s ≡ ts)
+
+pub item_taken : {A : Type 0} {f : Data → A} (depth : ℕ) (ts : List Token) {s r : List Token} {o : A} → Reads f depth s o r → GoesOn ts s
+    → (d : Data) × (next_items depth ts ≡ parse_map (item d) (next_items depth r)) × (o ≡ f d) × (next_value depth ts ≡ Some (d, r))
+item_taken depth ts {s} {r} read going =
+    let value = ap (next_value depth) (sym going.1) ∙ read.1 in
+    (read.0, item_read depth ts r read.0 going.0 value, read.2, value)
+
+pub item_not_taken : (depth : ℕ) (ts : List Token) {s : List Token} → next_value depth s ≡ None → GoesOn ts s → next_items depth ts ≡ None
+item_not_taken depth ts none going = item_refused depth ts going.0 (ap (next_value depth) (sym going.1) ∙ none)
+
+-- ---- what the items so far made stands before what those that are left make
+
+abbrev pub before : {X T : Type 0} → (X → T → T) → List X → T → T
+before step [] rest = rest
+before step (x ∷ xs) rest = step x (before step xs rest)
+
+pub record AreItemsTaken {X T : Type 0} (step : X → T → T) (whole : Items → Option T) (depth : _) (all left : List Token) (made : List X) : Type 0 where
+  pub front : Items → Items
+  pub decides : next_items depth all ≡ parse_map front (next_items depth left)
+  pub items : (ds : Items) → whole (front ds) ≡ option_map (before step made) (whole ds)
+  pub fewer : length left ≤ length all
 
 untouched : (o : Option (Items × List Token)) → o ≡ parse_map (λ ds. ds) o
 untouched None = refl
 untouched (Some p) = refl
 
--- the fields before those that are left
-abbrev pub fields_before : List FieldTree → FieldTrees → FieldTrees
-fields_before [] rest = rest
-fields_before (f ∷ fs) rest = field_before f (fields_before fs rest)
+nested : (front : Items → Items) (d : Data) (o : Option (Items × List Token)) → parse_map front (parse_map (item d) o) ≡ parse_map (λ ds. front (item d ds)) o
+nested front d None = refl
+nested front d (Some p) = refl
 
--- the members before those that are left
-abbrev pub members_before : Members → MemberTrees → MemberTrees
-members_before [] rest = rest
-members_before (m ∷ ms) rest = member_before m.0 m.1 (members_before ms rest)
-
--- the fields so far stand before those that are left
-pub record AreFieldsTaken (depth : _) (all left : List Token) (made : List FieldTree) : Type 0 where
-  pub front : Items → Items
-  pub decides : next_items depth all ≡ parse_map front (next_items depth left)
-  pub fields : (ds : Items) → fields_in (front ds) ≡ option_map (fields_before made) (fields_in ds)
-  pub fewer : length left ≤ length all
-
-as_they_are : (o : Option FieldTrees) → o ≡ option_map (fields_before []) o
-as_they_are None = refl
-as_they_are (Some fs) = refl
-
-pub taken_start : (depth : _) (all : List Token) (made : List FieldTree) → made ≡ [] → AreFieldsTaken depth all all made
-taken_start depth all made none = record {
+pub taken_start : {X T : Type 0} {step : X → T → T} {whole : Items → Option T} {depth : ℕ} {all : List Token} {made : List X} → made ≡ [] → AreItemsTaken step whole depth all all made
+taken_start {step = step} {whole} {depth} {all} none = record {
   front = λ ds. ds;
   decides = untouched (next_items depth all);
-  fields = λ ds. as_they_are (fields_in ds) ∙ ap (λ l. option_map (fields_before l) (fields_in ds)) (sym none);
+  items = λ ds. sym (ap (λ l. option_map (before step l) (whole ds)) none ∙ option_map_id (whole ds));
   fewer = omega arith;
 }
 
-before_push : (fs : List FieldTree) (f : FieldTree) (rest : FieldTrees) → fields_before (fs ++ (f ∷ [])) rest ≡ fields_before fs (field_before f rest)
-before_push [] f rest = refl
-before_push (g ∷ fs) f rest = ap (field_before g) (before_push fs f rest)
+module _ {X T : Type 0} (step : X → T → T) where
+  before_push : (xs : List X) (x : X) (rest : T) → before step (xs ++ (x ∷ [])) rest ≡ before step xs (step x rest)
+  before_push [] x rest = refl
+  before_push (y ∷ xs) x rest = ap (step y) (before_push xs x rest)
 
-before_nil : (fs : List FieldTree) → fields_before fs no_fields ≡ field_trees fs
-before_nil [] = refl
-before_nil (f ∷ fs) = ap (field_before f) (before_nil fs)
+  one_more : (made : List X) (x : X) (o : Option T) → option_map (before step made) (option_map (step x) o) ≡ option_map (before step (made ++ (x ∷ []))) o
+  one_more made x None = refl
+  one_more made x (Some rest) = ap Some (sym (before_push made x rest))
 
-one_more : (made : List FieldTree) (f : FieldTree) (o : Option FieldTrees) → option_map (fields_before made) (option_map (field_before f) o) ≡ option_map (fields_before (made ++ (f ∷ []))) o
-one_more made f None = refl
-one_more made f (Some fs) = ap Some (sym (before_push made f fs))
+  before_all : (trees : List X → T) → ((x : X) (xs : List X) → trees (x ∷ xs) ≡ step x (trees xs)) → (xs : List X) → before step xs (trees []) ≡ trees xs
+  before_all trees more [] = refl
+  before_all trees more (x ∷ xs) = ap (step x) (before_all trees more xs) ∙ sym (more x xs)
 
-module _ (depth : _) (all left : List Token) (made : List FieldTree) (way : AreFieldsTaken depth all left made) where
-  pub taken_go_on : (r : List Token) (f : FieldTree) (new : List FieldTree) → after_end_array left ≡ None → Reads field_of_value depth left (Some f) r → new ≡ made ++ (f ∷ []) → AreFieldsTaken depth all r new
-  taken_go_on r f new going read is =
-      let less = value_takes depth left r read.0 read.1 in
-      record {
-        front = λ ds. way.front (item read.0 ds);
-        decides = way.decides ∙ ap (parse_map way.front) (item_read depth left r read.0 going read.1) ∙ nested way.front read.0 (next_items depth r);
-        fields = λ ds. way.fields (item read.0 ds)
-            ∙ ap (λ o. option_map (fields_before made) (option_and_then (λ g. option_map (field_before g) (fields_in ds)) o)) (sym read.2)
-            ∙ one_more made f (fields_in ds) ∙ ap (λ l. option_map (fields_before l) (fields_in ds)) (sym is);
-        fewer = omega (arith, way.fewer);
-      }
+module _ {X T : Type 0} {step : X → T → T} {whole : Items → Option T} {depth : ℕ} {all left : List Token} {made : List X} (way : AreItemsTaken step whole depth all left made) where
+  pub taken_end : {r : List Token} (trees : List X → T) → whole no_items ≡ Some (trees []) → ((x : X) (xs : List X) → trees (x ∷ xs) ≡ step x (trees xs)) → after_end_array left ≡ Some r
+      → ReadsItems whole depth all (Some (trees made)) r
+  taken_end {r} trees none more over = (
+    way.front no_items,
+    way.decides ∙ ap (parse_map way.front) (items_over depth left r over),
+    sym (way.items no_items ∙ ap (option_map (before step made)) none ∙ ap Some (before_all step trees more made)),
+  )
 
-  pub taken_end : (r : List Token) → after_end_array left ≡ Some r → ReadsItems fields_in depth all (Some (field_trees made)) r
-  taken_end r over = (way.front no_items, way.decides ∙ ap (parse_map way.front) (items_over depth left r over), sym (way.fields no_items ∙ ap Some (before_nil made)))
+  pub taken_refused : {s : List Token} → next_value depth s ≡ None → GoesOn left s → next_items depth all ≡ None
+  taken_refused none going = way.decides ∙ ap (parse_map way.front) (item_not_taken depth left none going)
 
-  pub taken_spoiled : (s r : List Token) → after_end_array left ≡ None → Reads field_of_value depth left None s → after (next_items depth s) ≡ Some r → ReadsItems fields_in depth all None r
-  taken_spoiled s r going read rest =
-      let ds = after_some (next_items depth s) r rest in (
-        way.front (item read.0 ds.0),
-        way.decides ∙ ap (parse_map way.front) (item_read depth left s read.0 going read.1 ∙ ap (parse_map (item read.0)) ds.1),
-        sym (way.fields (item read.0 ds.0) ∙ ap (λ o. option_map (fields_before made) (option_and_then (λ g. option_map (field_before g) (fields_in ds.0)) o)) (sym read.2)),
-      )
+  pub taken_cut : {A : Type 0} {f : Data → A} {s r : List Token} {o : A} → Reads f depth s o r → next_items depth r ≡ None → GoesOn left s → next_items depth all ≡ None
+  taken_cut read none going = let one = item_taken depth left read going in way.decides ∙ ap (parse_map way.front) (one.1 ∙ ap (parse_map (item one.0)) none)
+
+  -- with how an item is read before the others
+  module _ (item_of : Data → Option X) (law : (d : Data) (ds : Items) → whole (item d ds) ≡ option_and_then (λ x. option_map (step x) (whole ds)) (item_of d)) where
+    pub taken_go_on : {s r : List Token} {x : X} {new : List X} → Reads item_of depth s (Some x) r → new ≡ made ++ (x ∷ []) → GoesOn left s → AreItemsTaken step whole depth all r new
+    taken_go_on {s} {r} {x} {new} read is going =
+        let one = item_taken depth left read going in
+        let less = value_takes depth left r one.0 one.3 in
+        record {
+          front = λ ds. way.front (item one.0 ds);
+          decides = way.decides ∙ ap (parse_map way.front) one.1 ∙ nested way.front one.0 (next_items depth r);
+          items = λ ds. way.items (item one.0 ds) ∙ ap (option_map (before step made)) (law one.0 ds ∙ ap (option_and_then (λ x. option_map (step x) (whole ds))) (sym one.2))
+              ∙ one_more step made x (whole ds) ∙ ap (λ l. option_map (before step l) (whole ds)) (sym is);
+          fewer = omega (arith, way.fewer);
+        }
+
+    pub taken_spoiled : {s u r : List Token} → Reads item_of depth s None u → after (next_items depth u) ≡ Some r → GoesOn left s → ReadsItems whole depth all None r
+    taken_spoiled {s} {u} {r} read rest going =
+        let one = item_taken depth left read going in
+        let ds = after_some (next_items depth u) r rest in (
+          way.front (item one.0 ds.0),
+          way.decides ∙ ap (parse_map way.front) (one.1 ∙ ap (parse_map (item one.0)) ds.1),
+          sym (way.items (item one.0 ds.0) ∙ ap (option_map (before step made)) (law one.0 ds.0 ∙ ap (option_and_then (λ x. option_map (step x) (whole ds.0))) (sym one.2))),
+        )
 
 -- ---- the pairs of a union
 
+abbrev pub pair_before : ℤ × FieldTree → MemberTrees → MemberTrees
+pair_before q rest = member_before q.0 q.1 rest
+
 paired : (ids : Option ℤ) (fields : Option FieldTree) (rest : Option MemberTrees)
-    → option_and_then (λ id. option_and_then (λ f. option_map (member_before id f) rest) fields) ids ≡ option_and_then {U = _} (λ q. option_map (member_before q.0 q.1) rest) (option_and_then {U = ℤ × FieldTree} (λ id. option_map (λ f. (id, f)) fields) ids)
-paired None fields rest = refl
-paired (Some id) None rest = refl
+    → option_and_then (λ id. option_and_then (λ f. option_map (member_before id f) rest) fields) ids ≡ option_and_then {U = _} (λ q. option_map (pair_before q) rest) (option_and_then {U = ℤ × FieldTree} (λ id. option_map (λ f. (id, f)) fields) ids)
 paired (Some id) (Some f) rest = refl
+paired _ _ rest = refl
 
-members_in-pair : (p : Data) (ds : Items) → members_in (item p ds) ≡ option_and_then (λ q. option_map (member_before q.0 q.1) (members_in ds)) (pair_read p)
-members_in-pair null ds = refl
-members_in-pair (boolean b) ds = refl
-members_in-pair (number n) ds = refl
-members_in-pair (string s) ds = refl
-members_in-pair (object ms) ds = refl
-members_in-pair (array no_items) ds = refl
-members_in-pair (array (item a no_items)) ds = refl
+pub members_in-pair : (p : Data) (ds : Items) → members_in (item p ds) ≡ option_and_then (λ q. option_map (pair_before q) (members_in ds)) (pair_read p)
 members_in-pair (array (item i (item d no_items))) ds = paired (id_of_value i) (field_of_value d) (members_in ds)
-members_in-pair (array (item a (item b (item e es)))) ds = refl
+members_in-pair _ ds = refl
 
-pub record ArePairsTaken (depth : _) (all left : List Token) (ids : List ℤ) (made : List FieldTree) : Type 0 where
-  pub front : Items → Items
-  pub decides : next_items depth all ≡ parse_map front (next_items depth left)
-  pub members : (ds : Items) → members_in (front ds) ≡ option_map (members_before (zip ids made)) (members_in ds)
-  pub parts : AreMemberParts ids made
-  pub fewer : length left ≤ length all
-
-members_as_they_are : (o : Option MemberTrees) → o ≡ option_map (members_before []) o
-members_as_they_are None = refl
-members_as_they_are (Some ms) = refl
-
-pub pairs_start : (depth : _) (all : List Token) (ids : List ℤ) (made : List FieldTree) → ids ≡ [] → made ≡ [] → ArePairsTaken depth all all ids made
-pairs_start depth all ids made no_ids none = record {
-  front = λ ds. ds;
-  decides = untouched (next_items depth all);
-  members = λ ds. members_as_they_are (members_in ds) ∙ ap (λ l. option_map (members_before (zip l made)) (members_in ds)) (sym no_ids);
-  parts = (ap length no_ids ∙ ap length (sym none), ap (list_all is_type_id) no_ids);
-  fewer = omega arith;
-}
-
-pairs_push : (ms : Members) (q : ℤ × FieldTree) (rest : MemberTrees) → members_before (ms ++ (q ∷ [])) rest ≡ members_before ms (member_before q.0 q.1 rest)
-pairs_push [] q rest = refl
-pairs_push (m ∷ ms) q rest = ap (member_before m.0 m.1) (pairs_push ms q rest)
-
-pairs_nil : (ms : Members) → members_before ms no_union_members ≡ member_trees ms
-pairs_nil [] = refl
-pairs_nil (m ∷ ms) = ap (member_before m.0 m.1) (pairs_nil ms)
-
-one_pair_more : (made : Members) (q : ℤ × FieldTree) (o : Option MemberTrees) → option_map (members_before made) (option_map (member_before q.0 q.1) o) ≡ option_map (members_before (made ++ (q ∷ []))) o
-one_pair_more made q None = refl
-one_pair_more made q (Some ms) = ap Some (sym (pairs_push made q ms))
-
-zip_push : (ids : List ℤ) (fs : List FieldTree) (i : ℤ) (f : FieldTree) → length ids ≡ length fs → zip (ids ++ (i ∷ [])) (fs ++ (f ∷ [])) ≡ zip ids fs ++ ((i, f) ∷ [])
+pub zip_push : (ids : List ℤ) (fs : List FieldTree) (i : ℤ) (f : FieldTree) → length ids ≡ length fs → zip (ids ++ (i ∷ [])) (fs ++ (f ∷ [])) ≡ zip ids fs ++ ((i, f) ∷ [])
 zip_push [] [] i f h = refl
-zip_push [] (g ∷ gs) i f h = absurd (omega arith)
-zip_push (j ∷ js) [] i f h = absurd (omega arith)
 zip_push (j ∷ js) (g ∷ gs) i f h = ap (λ l. (j, g) ∷ l) (zip_push js gs i f (omega arith))
+zip_push _ _ i f h = absurd (omega arith)
 
-long_push : {X : Type 0} (xs : List X) (x : X) → length (xs ++ (x ∷ [])) ≡ suc (length xs)
-long_push [] x = refl
-long_push (y ∷ xs) x = ap suc (long_push xs x)
+pub parts_push : (ids : List ℤ) (fs : List FieldTree) (i : ℤ) (f : FieldTree) → AreMemberParts ids fs → IsTrue (is_type_id i) → AreMemberParts (ids ++ (i ∷ [])) (fs ++ (f ∷ []))
+parts_push ids fs i f parts good = (simp length-append (ap (λ n. n + 1) parts.0), list_all-append is_type_id ids (i ∷ []) ∙ and_from _ _ parts.1 (and_from _ _ good refl))
 
-both_true : (a b : Bool) → IsTrue a → IsTrue b → IsTrue (a && b)
-both_true true b h k = k
-both_true false b h k = absurd (false≢true h)
-
-all_push : (ids : List ℤ) (i : ℤ) → IsTrue (list_all is_type_id ids) → IsTrue (is_type_id i) → IsTrue (list_all is_type_id (ids ++ (i ∷ [])))
-all_push ids i h k = list_all-append is_type_id ids (i ∷ []) ∙ both_true (list_all is_type_id ids) (list_all is_type_id (i ∷ [])) h (both_true (is_type_id i) true k refl)
-
-module _ (depth : _) (all left : List Token) (ids : List ℤ) (made : List FieldTree) (way : ArePairsTaken depth all left ids made) where
-  pub pairs_go_on : (r : List Token) (i : ℤ) (f : FieldTree) (new_ids : List ℤ) (new : List FieldTree) → after_end_array left ≡ None → Reads pair_read depth left (Some (i, f)) r → IsTrue (is_type_id i)
-      → new_ids ≡ ids ++ (i ∷ []) → new ≡ made ++ (f ∷ []) → ArePairsTaken depth all r new_ids new
-  pairs_go_on r i f new_ids new going read good ids_is is =
-      let less = value_takes depth left r read.0 read.1 in
-      let zipped : zip new_ids new ≡ zip ids made ++ ((i, f) ∷ []) = ap (λ l. zip l new) ids_is ∙ ap (zip (ids ++ (i ∷ []))) is ∙ zip_push ids made i f way.parts.0 in
-      record {
-        front = λ ds. way.front (item read.0 ds);
-        decides = way.decides ∙ ap (parse_map way.front) (item_read depth left r read.0 going read.1) ∙ nested way.front read.0 (next_items depth r);
-        members = λ ds. way.members (item read.0 ds)
-            ∙ ap (option_map (members_before (zip ids made))) (members_in-pair read.0 ds)
-            ∙ ap (λ o. option_map (members_before (zip ids made)) (option_and_then (λ q. option_map (member_before q.0 q.1) (members_in ds)) o)) (sym read.2)
-            ∙ one_pair_more (zip ids made) (i, f) (members_in ds) ∙ ap (λ l. option_map (members_before l) (members_in ds)) (sym zipped);
-        parts = (
-          ap length ids_is ∙ long_push ids i ∙ ap suc way.parts.0 ∙ sym (long_push made f) ∙ sym (ap length is),
-          ap (list_all is_type_id) ids_is ∙ all_push ids i way.parts.1 good,
-        );
-        fewer = omega (arith, way.fewer);
-      }
-
-  pub pairs_end : (r : List Token) → after_end_array left ≡ Some r → ReadsItems members_in depth all (Some (member_trees (zip ids made))) r
-  pairs_end r over = (way.front no_items, way.decides ∙ ap (parse_map way.front) (items_over depth left r over), sym (way.members no_items ∙ ap Some (pairs_nil (zip ids made))))
-
-  pub pairs_spoiled : (s r : List Token) → after_end_array left ≡ None → Reads pair_read depth left None s → after (next_items depth s) ≡ Some r → ReadsItems members_in depth all None r
-  pairs_spoiled s r going read rest =
-      let ds = after_some (next_items depth s) r rest in (
-        way.front (item read.0 ds.0),
-        way.decides ∙ ap (parse_map way.front) (item_read depth left s read.0 going read.1 ∙ ap (parse_map (item read.0)) ds.1),
-        sym (way.members (item read.0 ds.0) ∙ ap (option_map (members_before (zip ids made))) (members_in-pair read.0 ds.0)
-            ∙ ap (λ o. option_map (members_before (zip ids made)) (option_and_then (λ q. option_map (member_before q.0 q.1) (members_in ds.0)) o)) (sym read.2)),
-      )
-
-pub pair_is : (i : Option ℤ) (f : Option FieldTree) (d e : Data) → i ≡ id_of_value d → f ≡ field_of_value e → option_and_then (λ id. option_map (λ g. (id, g)) f) i ≡ pair_read (array (item d (item e no_items)))
-pair_is i f d e at_id at_field = ap (λ g. option_and_then (λ id. option_map (λ h. (id, h)) g) i) at_field ∙ ap (λ j. option_and_then (λ id. option_map (λ h. (id, h)) (field_of_value e)) j) at_id
+pub pair_is : {i : Option ℤ} {f : Option FieldTree} (d e : Data) → i ≡ id_of_value d → f ≡ field_of_value e → option_and_then (λ id. option_map (λ g. (id, g)) f) i ≡ pair_read (array (item d (item e no_items)))
+pair_is d e at_id at_field = rw (at_id, at_field)

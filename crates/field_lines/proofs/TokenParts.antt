@@ -1,18 +1,32 @@
 -- The members of a field from tokens: the last value at each key counts.
-use Rattle.std.proofs.Common.{◌≡◌, ◌≤◌, List, [], length, Bool, true, false, cond, bytes_eq, Option, Some, None, option_and_then, codes, refl, sym, ap, ◌∙◌, arith}
+use Rattle.std.proofs.Common.{◌≡◌, ℕ, ◌≤◌, List, [], length, Bool, true, false, cond, bytes_eq, nat_cmp, Ordering, Equal, Option, Some, None, option_and_then, codes, refl, sym, ap, ◌∙◌, arith}
+use Rattle.std.proofs.lemmas.Bool.{cond-false, false_from_ne_true}
+use Rattle.std.proofs.lemmas.Map.Text.{is_eq-slice_cmp}
+use Rattle.std.specs.Cmp.Lexicographic.{slice_cmp}
+use Rattle.std.specs.Ordering.{is_eq, match_ordering}
 use Rattle.std.proofs.lemmas.Slice.Eq.{bytes_eq-Decides}
 use Rattle.json.specs.Token.{Token}
 use Rattle.json.specs.Json.{read_key}
 use Rattle.json.proofs.Grammar.{read_key-shorter}
-use Rattle.serde_json.specs.Data.{Data, null, boolean, number, string, array, object, Members, no_members, put}
+use Rattle.serde_json.specs.Data.{Data, string, array, object, Members, no_members, member, put}
 use Rattle.serde_json.specs.Find.{get_member, as_str, as_bool, as_object, as_array}
 use Rattle.arrow_values.specs.Tree.{Text, Metadata, Tree, FieldTree}
 use Rattle.field_lines.specs.FieldOfValue.{under, metadata_of_value, field_from, field_of_value, type_in, type_of_value, fields_of_value, members_of_value}
 use Rattle.field_lines.specs.Keys.{pair_read}
-use Rattle.field_lines.proofs.FieldRead.{type_in-get}
 use Rattle.value_tokens.specs.Next.{next_value, next_members, ReadsMembers}
 use Rattle.value_tokens.specs.Turns.{member_read, members_over, value_takes}
 use Rattle.value_tokens.specs.Presence.{get_member-put_at}
+
+picked : (r : Ordering) (d : Data) (a : Option Data) → option_and_then type_of_value (match_ordering r a (Some d) a) ≡ cond (is_eq r) (type_of_value d) (option_and_then type_of_value a)
+picked Equal d a = refl
+picked _ d a = refl
+
+-- the type is what stands at its key
+type_in-get : (ms : Members) → type_in ms ≡ under type_of_value (codes "type") ms
+type_in-get no_members = refl
+type_in-get (member k d ms) =
+    ap (cond (bytes_eq (codes "type") k) (type_of_value d)) (type_in-get ms) ∙ ap (λ b. cond b (type_of_value d) (under type_of_value (codes "type") ms)) (sym (is_eq-slice_cmp (codes "type") k))
+    ∙ sym (picked (slice_cmp nat_cmp (codes "type") k) d (get_member (codes "type") ms))
 
 chosen : {A B : Type 0} (f : Option A → B) (b : Bool) (x y : Option A) → f (cond b x y) ≡ cond b (f x) (f y)
 chosen f true x y = refl
@@ -35,7 +49,7 @@ pub record ArePartsUnderWay (depth : _) (all left : List Token) (name : Option T
 abbrev pub Part : {A : Type 0} → Text → Text → Option A → Option A → Option A → Type 0
 Part q k new here old = new ≡ cond (bytes_eq q k) here old
 
-module _ (depth : _) (all left s r : List Token) (k : Text) (d : Data) (name new_name : Option Text) (nullable new_nullable : Option Bool) (tree new_tree : Option Tree) (metadata new_metadata : Option Metadata) where
+module _ {depth : ℕ} {all left s r : List Token} {k : Text} {d : Data} {name new_name : Option Text} {nullable new_nullable : Option Bool} {tree new_tree : Option Tree} {metadata new_metadata : Option Metadata} where
   pub parts_go_on : ArePartsUnderWay depth all left name nullable tree metadata → read_key left ≡ Some (Some k, s) → next_value depth s ≡ Some (d, r)
       → Part (codes "name") k new_name (as_str d) name → Part (codes "nullable") k new_nullable (as_bool d) nullable → Part (codes "type") k new_tree (type_of_value d) tree
       → Part (codes "metadata") k new_metadata (metadata_of_value (Some d)) metadata → ArePartsUnderWay depth all r new_name new_nullable new_tree new_metadata
@@ -52,10 +66,10 @@ module _ (depth : _) (all left s r : List Token) (k : Text) (d : Data) (name new
         fewer = omega (arith, way.fewer);
       }
 
-pub parts_end : (depth : _) (all left r : List Token) (name : Option Text) (nullable : Option Bool) (tree : Option Tree) (metadata : Option Metadata) (o : Option FieldTree)
-    → ArePartsUnderWay depth all left name nullable tree metadata → read_key left ≡ Some (None, r) → o ≡ field_from name nullable tree metadata
+pub parts_end : {depth : ℕ} {all left r : List Token} {name : Option Text} {nullable : Option Bool} {tree : Option Tree} {metadata : Option Metadata} {o : Option FieldTree}
+    → ArePartsUnderWay depth all left name nullable tree metadata → o ≡ field_from name nullable tree metadata → read_key left ≡ Some (None, r)
     → ReadsMembers (λ ms. field_of_value (object ms)) depth no_members all o r
-parts_end depth all left r name nullable tree metadata o way over is =
+parts_end {depth} {all} {left} {r} {name} {nullable} {tree} {metadata} way is over =
     let ms = way.found in (
       ms,
       way.decides ∙ members_over depth ms left r over,
@@ -66,58 +80,29 @@ parts_end depth all left r name nullable tree metadata o way over is =
 
 -- what is no object stands for no field, and what is no list for no fields and no members
 pub no_field : (d : Data) → as_object d ≡ None → None ≡ field_of_value d
-no_field null e = refl
-no_field (boolean b) e = refl
-no_field (number n) e = refl
-no_field (string s) e = refl
-no_field (array ds) e = refl
 no_field (object ms) e = cc
+no_field _ e = refl
 
 pub no_type : (d : Data) → as_object d ≡ None → as_str d ≡ None → None ≡ type_of_value d
-no_type null e f = refl
-no_type (boolean b) e f = refl
-no_type (number n) e f = refl
 no_type (string s) e f = cc
-no_type (array ds) e f = refl
 no_type (object ms) e f = cc
+no_type _ e f = refl
 
 pub no_fields_list : (d : Data) → as_array d ≡ None → None ≡ fields_of_value d
-no_fields_list null e = refl
-no_fields_list (boolean b) e = refl
-no_fields_list (number n) e = refl
-no_fields_list (string s) e = refl
 no_fields_list (array ds) e = cc
-no_fields_list (object ms) e = refl
+no_fields_list _ e = refl
 
 pub no_members_list : (d : Data) → as_array d ≡ None → None ≡ members_of_value d
-no_members_list null e = refl
-no_members_list (boolean b) e = refl
-no_members_list (number n) e = refl
-no_members_list (string s) e = refl
 no_members_list (array ds) e = cc
-no_members_list (object ms) e = refl
+no_members_list _ e = refl
 
 pub no_pair : (d : Data) → as_array d ≡ None → None ≡ pair_read d
-no_pair null e = refl
-no_pair (boolean b) e = refl
-no_pair (number n) e = refl
-no_pair (string s) e = refl
 no_pair (array ds) e = cc
-no_pair (object ms) e = refl
+no_pair _ e = refl
 
--- a part at its own key, at another that is known, and at another
-pub part_here : {A : Type 0} (q k : Text) (new here old : Option A) → k ≡ q → new ≡ here → Part q k new here old
-part_here q k new here old is e = e ∙ ap (λ b. cond b here old) (sym ((bytes_eq-Decides q k).1 (sym is)))
-
-pub part_apart : {A : Type 0} (q k l : Text) (here old : Option A) → k ≡ l → bytes_eq q l ≡ false → Part q k old here old
-part_apart q k l here old is e = ap (λ b. cond b here old) (sym (ap (bytes_eq q) is ∙ e))
-
-elsewhere : {A : Type 0} (b : Bool) (q k : Text) (here old : Option A) → bytes_eq q k ≡ b → (k ≡ q → ⊥) → old ≡ cond b here old
-elsewhere true q k here old same other = absurd (other (sym ((bytes_eq-Decides q k).0 same)))
-elsewhere false q k here old same other = refl
-
-pub part_other : {A : Type 0} (q k : Text) (here old : Option A) → (k ≡ q → ⊥) → Part q k old here old
-part_other q k here old other = elsewhere (bytes_eq q k) q k here old refl other
+-- a part at another key
+pub part_other : {A : Type 0} {q k : Text} (here : Option A) {old : Option A} → (k ≡ q → ⊥) → Part q k old here old
+part_other {q = q} {k} here {old} other = sym (cond-false (bytes_eq q k) here old (false_from_ne_true (bytes_eq q k) (λ e. other (sym ((bytes_eq-Decides q k).0 e)))))
 
 pub parts_start : (depth : _) (all : List Token) (metadata : Option Metadata) → metadata ≡ Some [] → ArePartsUnderWay depth all all None None None metadata
 parts_start depth all metadata empty = record { found = no_members; decides = refl; at_name = refl; at_nullable = refl; at_type = refl; at_metadata = empty; fewer = omega arith }

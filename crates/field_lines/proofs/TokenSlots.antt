@@ -1,7 +1,6 @@
 -- Metadata with a member that is no text: slots, in which the newest value of a key stands.
-use Rattle.std.proofs.Common.{◌≡◌, ◌≤◌, List, [], ◌∷◌, ◌++◌, length, nat_cmp, Ordering, Less, Equal, Greater, Option, Some, None, Result, Ok, Err, IfOk, option_map, option_and_then, String, Global, string_bytes, string_cmp, refl, sym, ap, ◌∙◌, subst, arith, append_assoc, append-nil}
+use Rattle.std.proofs.Common.{◌≡◌, ◌≤◌, List, [], ◌∷◌, ◌++◌, length, nat_cmp, Option, Some, None, Result, Ok, Err, IfOk, option_map, option_and_then, String, Global, string_bytes, string_cmp, refl, sym, ap, ◌∙◌, subst, arith, append_assoc, append-nil}
 use Rattle.std.proofs.lemmas.List.{map-append}
-use Rattle.std.specs.Ordering.{match_ordering}
 use Rattle.std.specs.Cmp.Lexicographic.{slice_cmp}
 use Rattle.std.specs.List.Sorted.{IsStrictlySortedBy}
 use Rattle.std.specs.Map.{keys_of}
@@ -19,7 +18,7 @@ use Rattle.field_lines.specs.Slots.{Slots, slots_in, slots_of, texts_kept}
 use Rattle.field_lines.specs.ValueOfField.{texts_value}
 use Rattle.field_lines.proofs.LastEntry.{insert_last}
 use Rattle.field_lines.proofs.Writes.{Texts}
-use Rattle.field_lines.proofs.TokenTexts.{AreTextsUnderWay}
+use Rattle.field_lines.proofs.TokenTexts.{ordered, AreTextsUnderWay}
 use Rattle.value_tokens.specs.Next.{next_members, Reads, ReadsMembers}
 use Rattle.value_tokens.specs.Turns.{member_read, members_over, value_takes}
 
@@ -28,23 +27,13 @@ SlotEntries = List (String Global × Option (String Global))
 
 -- ---- members and their slots
 
-slots_ordered : (o : Ordering) (a b c : Members) → slots_in (match_ordering o a b c) ≡ match_ordering o (slots_in a) (slots_in b) (slots_in c)
-slots_ordered Less a b c = refl
-slots_ordered Equal a b c = refl
-slots_ordered Greater a b c = refl
-
 slots_put : (k : Text) (d : Data) (ms : Members) → slots_in (put k d ms) ≡ insert_entry (slice_cmp nat_cmp) (slots_in ms) k (as_str d)
 slots_put k d no_members = refl
-slots_put k d (member l e ms) = slots_ordered (slice_cmp nat_cmp k l) _ _ _ ∙ rw (slots_put k d ms)
-
-entries_ordered : (o : Ordering) (a b c : SlotEntries) → slots_of (match_ordering o a b c) ≡ match_ordering o (slots_of a) (slots_of b) (slots_of c)
-entries_ordered Less a b c = refl
-entries_ordered Equal a b c = refl
-entries_ordered Greater a b c = refl
+slots_put k d (member l e ms) = ordered slots_in (slice_cmp nat_cmp k l) _ _ _ ∙ rw (slots_put k d ms)
 
 slots_insert : (es : SlotEntries) (k : String Global) (t : Option (String Global)) → slots_of (insert_entry string_cmp es k t) ≡ insert_entry (slice_cmp nat_cmp) (slots_of es) (string_bytes k) (option_map string_bytes t)
 slots_insert [] k t = refl
-slots_insert (e ∷ es) k t = entries_ordered (string_cmp k e.0) _ _ _ ∙ rw (slots_insert es k t)
+slots_insert (e ∷ es) k t = ordered slots_of (string_cmp k e.0) _ _ _ ∙ rw (slots_insert es k t)
 
 -- a slot is put in as the member is
 slot_put : (found : Members) (made new : SlotEntries) (k : Text) (d : Data) (key : String Global) (t : Option (String Global)) → slots_in found ≡ slots_of made → string_bytes key ≡ k → option_map string_bytes t ≡ as_str d

@@ -1,11 +1,11 @@
 -- An object of texts from tokens: the texts so far are the members so far.
-use Rattle.std.proofs.Common.{◌≡◌, ◌≤◌, List, [], ◌∷◌, length, Option, Some, None, option_map, option_and_then, Ordering, Less, Equal, Greater, String, Global, string_bytes, string_cmp, refl, sym, ap, ◌∙◌, arith}
+use Rattle.std.proofs.Common.{◌≡◌, ◌≤◌, List, [], ◌∷◌, length, Option, Some, None, option_map, option_and_then, Ordering, Less, String, Global, string_bytes, string_cmp, refl, sym, ap, ◌∙◌, arith}
 use Rattle.std.specs.Ordering.{match_ordering}
 use Rattle.std.specs.BTreeMap.{insert_entry}
 use Rattle.json.specs.Token.{Token}
 use Rattle.json.specs.Json.{read_key}
 use Rattle.json.proofs.Grammar.{read_key-shorter}
-use Rattle.serde_json.specs.Data.{Data, null, boolean, number, string, array, object, Members, no_members, put}
+use Rattle.serde_json.specs.Data.{Data, string, object, Members, no_members, put}
 use Rattle.serde_json.specs.Find.{as_str, as_object}
 use Rattle.arrow_values.specs.Tree.{Text, Metadata}
 use Rattle.arrow_values.specs.View.{texts_of}
@@ -16,21 +16,16 @@ use Rattle.value_tokens.specs.Next.{next_members, Reads, ReadsMembers}
 use Rattle.value_tokens.specs.Turns.{member_read, members_over, value_takes}
 
 pub text_is : (d : Data) (t : Text) → Some t ≡ as_str d → d ≡ string t
-text_is null t e = cc
-text_is (boolean b) t e = cc
-text_is (number n) t e = cc
 text_is (string s) t e = let same : t ≡ s = cc in ap string (sym same)
-text_is (array ds) t e = cc
-text_is (object ms) t e = cc
+text_is _ t e = cc
 
-texts_of_ordered : (o : Ordering) (a b c : Texts) → texts_value (texts_of (match_ordering o a b c)) ≡ match_ordering o (texts_value (texts_of a)) (texts_value (texts_of b)) (texts_value (texts_of c))
-texts_of_ordered Less a b c = refl
-texts_of_ordered Equal a b c = refl
-texts_of_ordered Greater a b c = refl
+pub ordered : {A B : Type 0} (f : A → B) (o : Ordering) (a b c : A) → f (match_ordering o a b c) ≡ match_ordering o (f a) (f b) (f c)
+ordered f Less a b c = refl
+ordered f _ a b c = refl
 
 texts_put : (es : Texts) (k t : String Global) → texts_value (texts_of (insert_entry string_cmp es k t)) ≡ put (string_bytes k) (string (string_bytes t)) (texts_value (texts_of es))
 texts_put [] k t = refl
-texts_put (e ∷ es) k t = texts_of_ordered (string_cmp k e.0) _ _ _ ∙ rw (texts_put es k t)
+texts_put (e ∷ es) k t = ordered (λ es. texts_value (texts_of es)) (string_cmp k e.0) _ _ _ ∙ rw (texts_put es k t)
 
 texts_back : (m : Metadata) → Some m ≡ texts_in (texts_value m)
 texts_back [] = refl

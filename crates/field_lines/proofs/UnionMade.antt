@@ -1,5 +1,7 @@
 -- The union of ids and fields, and the numbers that a line keeps.
-use Rattle.std.proofs.Common.{◌≡◌, ℤ, Bool, true, false, cond, ◌&&◌, List, [], ◌∷◌, length, Option, Some, None, option_and_then, IsTrue, refl, sym, ap, ◌∙◌, true≢false, arith}
+use Rattle.std.proofs.Common.{◌≡◌, ℤ, Bool, true, false, cond, ◌&&◌, List, [], ◌∷◌, length, Option, Some, None, option_and_then, IsTrue, refl, sym, ap, ◌∙◌, arith}
+use Rattle.std.proofs.lemmas.Bool.{and_from, and_parts, false_from_ne_true}
+use Rattle.std.proofs.lemmas.Option.{cond_some}
 use Rattle.std.specs.List.{zip, list_all}
 use Rattle.arrow_values.specs.declared.tree.UnionMode.{UnionMode}
 use Rattle.arrow_values.specs.Tree.{FieldTree, Members as UnionMembers, union}
@@ -13,28 +15,16 @@ tree_ids-zip [] fs h = refl
 tree_ids-zip (i ∷ is) [] h = absurd (omega arith)
 tree_ids-zip (i ∷ is) (f ∷ fs) h = ap (λ js. i ∷ js) (tree_ids-zip is fs (omega arith))
 
-second : (a b : Bool) → (a && b) ≡ true → b ≡ true
-second true b h = h
-second false b h = absurd (true≢false (sym h))
-
 pub union_made : (mode : UnionMode) (is : List ℤ) (fs : List FieldTree) (ms : UnionMembers) → AreUnionParts is fs → ms ≡ zip is fs → Some (union (member_trees ms) mode) ≡ union_of mode (member_trees (zip is fs))
 union_made mode is fs ms h made =
     ap (λ l. Some (union (member_trees l) mode)) made
-    ∙ ap (λ b. cond b (Some (union (member_trees (zip is fs)) mode)) None) (sym (ap are_distinct (tree_ids-zip is fs h.0) ∙ second (list_all is_type_id is) (are_distinct is) h.1))
-
-repeated : (b : Bool) (mode : UnionMode) (is : List ℤ) (fs : List FieldTree) → are_distinct is ≡ b → AreMemberParts is fs → (AreUnionParts is fs → ⊥) → b ≡ false
-repeated true mode is fs e h refused = absurd (refused (h.0, ap (λ b. b && are_distinct is) h.1 ∙ e))
-repeated false mode is fs e h refused = refl
+    ∙ ap (λ b. cond b (Some (union (member_trees (zip is fs)) mode)) None) (sym (ap are_distinct (tree_ids-zip is fs h.0) ∙ (and_parts (list_all is_type_id is) (are_distinct is) h.1).1))
 
 pub union_refused : (mode : UnionMode) (is : List ℤ) (fs : List FieldTree) → AreMemberParts is fs → (AreUnionParts is fs → ⊥) → None ≡ union_of mode (member_trees (zip is fs))
 union_refused mode is fs h refused =
-    ap (λ b. cond b (Some (union (member_trees (zip is fs)) mode)) None) (sym (ap are_distinct (tree_ids-zip is fs h.0) ∙ repeated (are_distinct is) mode is fs refl h refused))
+    ap (λ b. cond b (Some (union (member_trees (zip is fs)) mode)) None) (sym (ap are_distinct (tree_ids-zip is fs h.0) ∙ false_from_ne_true (are_distinct is) (λ e. refused (h.0, and_from (list_all is_type_id is) (are_distinct is) h.1 e))))
 
 -- a number that is kept has the property
-kept_is : (p : ℤ → Bool) (b : Bool) (i z : ℤ) → p z ≡ b → Some i ≡ cond b (Some z) None → p i ≡ true
-kept_is p true i z e is = let same : i ≡ z = cc in ap p same ∙ e
-kept_is p false i z e is = cc
-
 pub kept_has : (p : ℤ → Bool) (i : ℤ) (o : Option ℤ) → Some i ≡ option_and_then (kept p) o → IsTrue (p i)
 kept_has p i None is = cc
-kept_has p i (Some z) is = kept_is p (p z) i z refl is
+kept_has p i (Some z) is = let w = cond_some (p z) z i (sym is) in ap p (sym w.1) ∙ w.0

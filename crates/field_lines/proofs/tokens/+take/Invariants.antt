@@ -2,10 +2,10 @@ use Rattle.std.proofs.Common.{IfSome, ◌+◌, ◌*◌, length, codes, option_ma
 use Rattle.std.specs.List.{zip}
 use Rattle.field_lines.specs.Steps.{AreMemberParts}
 use Rattle.arrow_values.specs.View.{tree, texts_of, field_trees, member_trees}
-use Rattle.field_lines.specs.FieldOfValue.{field_of_value, fields_of_value, size_of_value, mode_of_value, members_of_value}
+use Rattle.field_lines.specs.FieldOfValue.{field_before, fields_in, members_in, field_of_value, fields_of_value, size_of_value, mode_of_value, members_of_value}
 use Rattle.field_lines.proofs.TokenParts.{ArePartsUnderWay}
 use Rattle.field_lines.proofs.TokenKeys.{IsOnlyUnderWay, AreTwoUnderWay}
-use Rattle.field_lines.proofs.TokenItems.{AreFieldsTaken, ArePairsTaken}
+use Rattle.field_lines.proofs.TokenItems.{AreItemsTaken, pair_before}
 use Rattle.field_lines.proofs.tokens.+take.Given as goal
 
 abbrev pub decreases-take_field : goal.decreases-take_field
@@ -73,7 +73,7 @@ abbrev pub decreases-take_only_fields-only : goal.decreases-take_only_fields-onl
 decreases-take_only_fields-only l = length l.reader
 
 abbrev pub invariant-take_items-items : goal.invariant-take_items-items
-invariant-take_items-items l = AreFieldsTaken l.depth l.initial.reader l.reader l.fields.items
+invariant-take_items-items l = AreItemsTaken field_before fields_in l.depth l.initial.reader l.reader l.fields.items
 
 abbrev pub decreases-take_items-items : goal.decreases-take_items-items
 decreases-take_items-items l = length l.reader
@@ -95,7 +95,7 @@ abbrev pub decreases-take_union-keys : goal.decreases-take_union-keys
 decreases-take_union-keys l = length l.reader
 
 abbrev pub invariant-take_pairs-pairs : goal.invariant-take_pairs-pairs
-invariant-take_pairs-pairs l = ArePairsTaken l.depth l.initial.reader l.reader l.ids.items l.fields.items
+invariant-take_pairs-pairs l = AreItemsTaken pair_before members_in l.depth l.initial.reader l.reader (zip l.ids.items l.fields.items) × AreMemberParts l.ids.items l.fields.items
 
 abbrev pub decreases-take_pairs-pairs : goal.decreases-take_pairs-pairs
 decreases-take_pairs-pairs l = length l.reader
