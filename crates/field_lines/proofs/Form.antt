@@ -1,6 +1,7 @@
 -- What a line says can be said by a line, and when a line is a JSON value.
-use Rattle.std.proofs.Common.{◌≡◌, IfSome, IsUtf8, Bool, true, false, cond, IsTrue, Option, Some, None, option_map, option_and_then, codes, bytes_eq, refl, sym, subst, ap, ◌∙◌}
+use Rattle.std.proofs.Common.{◌≡◌, ℤ, IfSome, IsUtf8, Bool, true, false, cond, IsTrue, Option, Some, None, option_map, option_and_then, codes, bytes_eq, refl, sym, subst, ap, ◌∙◌}
 use Rattle.std.proofs.lemmas.Bool.{and_from, cond_both, false_from_ne_true}
+use Rattle.std.proofs.lemmas.Option.{cond_some}
 use Rattle.std.proofs.lemmas.Str.{IsUtf8-from_is_utf8, is_utf8-from_IsUtf8}
 use Rattle.std.specs.List.{list_all}
 use Rattle.std.specs.Str.{is_utf8}
@@ -11,10 +12,9 @@ use Rattle.arrow_values.specs.declared.tree.UnionMode.{UnionMode}
 use Rattle.arrow_values.specs.Tree.{Text, Metadata, Tree, plain, struct, union, FieldTrees, MemberTrees, FieldTree}
 use Rattle.arrow_values.specs.Union.{is_type_id, are_distinct}
 use Rattle.field_lines.specs.Names.{plain_named}
-use Rattle.field_lines.specs.FieldOfValue.{is_size, integer_of, size_of_value, id_of_value, under, metadata_of_value, mode_of_value, list_of, large_list_of, are_keys, field_from, field_before, member_before, fixed_size_list_of, tree_ids, union_of, field_of_value, type_in, type_of_value, fields_of_value, fields_in, members_of_value, members_in}
+use Rattle.field_lines.specs.FieldOfValue.{kept, is_size, integer_of, size_of_value, id_of_value, under, metadata_of_value, mode_of_value, list_of, large_list_of, are_keys, field_from, field_before, member_before, fixed_size_list_of, tree_ids, union_of, field_of_value, type_in, type_of_value, fields_of_value, fields_in, members_of_value, members_in}
 use Rattle.field_lines.specs.Line.{value_of_line, field_of_line}
 use Rattle.field_lines.specs.LineForm.{HasLineForm, FieldsHaveLineForm, MembersHaveLineForm}
-use Rattle.field_lines.proofs.UnionMade.{kept_has}
 
 -- what holds of an answer, by what holds of its parts
 mapped : {A B : Type 0} {P : A → Type 0} (Q : B → Type 0) (f : A → B) (o : Option A) → IfSome o P → ((x : A) → P x → Q (f x)) → IfSome (option_map f o) Q
@@ -39,6 +39,11 @@ of_type _ _ _ _ h = tt
 of_kept : {A : Type 0} {P : A → Type 0} (o : Option A) → ((x : A) → Some x ≡ o → P x) → IfSome o P
 of_kept None h = tt
 of_kept (Some x) h = h x refl
+
+-- a number that is kept has the property
+kept_has : (p : ℤ → Bool) (i : ℤ) (o : Option ℤ) → Some i ≡ option_and_then (kept p) o → IsTrue (p i)
+kept_has p i None is = cc
+kept_has p i (Some z) is = let w = cond_some (p z) z i (sym is) in ap p (sym w.1) ∙ w.0
 
 size_kept : (d : Data) → IfSome (size_of_value d) (λ s. IsTrue (is_size s))
 size_kept d = of_kept (size_of_value d) (λ s. kept_has is_size s (integer_of d))

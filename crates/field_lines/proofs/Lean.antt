@@ -2,7 +2,7 @@
 use Rattle.std.proofs.Common.{◌≡◌, ℤ, pos, negsuc, List, [], ◌∷◌, Bool, true, false, cond, Option, Some, None, option_map, option_and_then, inl, inr, codes, bytes_eq, Ordering, Less, Equal, Greater, nat_cmp, refl, sym, ap, subst, ◌∙◌}
 use Rattle.std.proofs.lemmas.Cmp.{nat_list_cmp_total, tied_itself}
 use Rattle.std.proofs.lemmas.Map.Text.{is_eq-slice_cmp}
-use Rattle.std.proofs.lemmas.Bool.{and_parts}
+use Rattle.std.proofs.lemmas.Bool.{and_parts, cond_both}
 use Rattle.std.proofs.lemmas.Option.{cond_some, option_and_then_some}
 use Rattle.std.proofs.lemmas.Slice.Eq.{bytes_eq-Decides}
 use Rattle.std.specs.Cmp.Lexicographic.{slice_cmp}
@@ -147,13 +147,10 @@ parts_are ms f lean is type =
 
 -- ---- words and numbers
 
-found_first : {A : Type 0} (p : A → Bool) (b : Bool) (y x : A) (rest : Option A) → p y ≡ b → (rest ≡ Some x → p x ≡ true) → cond b (Some y) rest ≡ Some x → p x ≡ true
-found_first p true y x rest e later is = let same : y ≡ x = cc in subst (λ z. p z ≡ true) same e
-found_first p false y x rest e later is = later is
-
 found_holds : {A : Type 0} (p : A → Bool) (xs : List A) (x : A) → find p xs ≡ Some x → p x ≡ true
 found_holds p [] x is = cc
-found_holds p (y ∷ ys) x is = found_first p (p y) y x (find p ys) refl (found_holds p ys x) is
+found_holds p (y ∷ ys) x is =
+    cond_both (p y) (Some y) (find p ys) (λ o. o ≡ Some x → p x ≡ true) (λ e here. let same : y ≡ x = cc in subst (λ z. p z ≡ true) same e) (λ _. found_holds p ys x) is
 
 plain_is : (word : Text) (p : Plain) → plain_named word ≡ Some p → word ≡ plain_name p
 plain_is word p is = (bytes_eq-Decides word (plain_name p)).0 (found_holds (λ q. bytes_eq word (plain_name q)) plain_types p is)
@@ -173,11 +170,9 @@ integer_is _ p z lean is = cc
 -- the value at one key, which g writes, or else what comes after
 keyed : {A : Type 0} (k l : Text) (d : Data) (f : A → Tree) (g : A → Data) (o : Option A) (rest : Option Tree) (t : Tree) → ((x : A) → o ≡ Some x → d ≡ g x) → ((x : A) → one_key l (g x) ≡ type_value (f x))
     → (rest ≡ Some t → one_key k d ≡ type_value t) → cond (bytes_eq k l) (option_map f o) rest ≡ Some t → one_key k d ≡ type_value t
-keyed k l d f g o rest t own written next is = first (bytes_eq k l) refl is
-  where
-    first : (b : Bool) → bytes_eq k l ≡ b → cond b (option_map f o) rest ≡ Some t → one_key k d ≡ type_value t
-    first true e at = map_some f o t at (λ x there same. ap (λ q. one_key q d) ((bytes_eq-Decides k l).0 e) ∙ ap (one_key l) (own x there) ∙ written x ∙ ap type_value same)
-    first false e at = next at
+keyed k l d f g o rest t own written next =
+    cond_both (bytes_eq k l) (option_map f o) rest (λ x. x ≡ Some t → one_key k d ≡ type_value t)
+    (λ e at. map_some f o t at (λ x there same. ap (λ q. one_key q d) ((bytes_eq-Decides k l).0 e) ∙ ap (one_key l) (own x there) ∙ written x ∙ ap type_value same)) (λ _. next)
 
 keys_are : (k l p q : Text) (d e : Data) → are_keys k l p q ≡ true → two_keys k d l e ≡ two_keys p d q e
 keys_are k l p q d e h =

@@ -1,12 +1,9 @@
-mod LastEntry
-mod UnionMade
 mod Writes
 mod Prints
 mod Round
 mod Form
 mod Lean
 mod TokenTexts
-mod TokenSlots
 mod TokenParts
 mod TokenKeys
 mod TokenItems

@@ -70,13 +70,8 @@ pub parts_end : {depth : ℕ} {all left r : List Token} {name : Option Text} {nu
     → ArePartsUnderWay depth all left name nullable tree metadata → o ≡ field_from name nullable tree metadata → read_key left ≡ Some (None, r)
     → ReadsMembers (λ ms. field_of_value (object ms)) depth no_members all o r
 parts_end {depth} {all} {left} {r} {name} {nullable} {tree} {metadata} way is over =
-    let ms = way.found in (
-      ms,
-      way.decides ∙ members_over depth ms left r over,
-      is ∙ ap (λ n. field_from n nullable tree metadata) way.at_name ∙ ap (λ b. field_from (under as_str (codes "name") ms) b tree metadata) way.at_nullable
-          ∙ ap (λ t. field_from (under as_str (codes "name") ms) (under as_bool (codes "nullable") ms) t metadata) (way.at_type ∙ sym (type_in-get ms))
-          ∙ ap (λ m. field_from (under as_str (codes "name") ms) (under as_bool (codes "nullable") ms) (type_in ms) m) way.at_metadata,
-    )
+    let ms = way.found in
+    (ms, way.decides ∙ members_over depth ms left r over, rw (is, way.at_name, way.at_nullable, way.at_type, way.at_metadata, type_in-get ms))
 
 -- what is no object stands for no field, and what is no list for no fields and no members
 pub no_field : (d : Data) → as_object d ≡ None → None ≡ field_of_value d

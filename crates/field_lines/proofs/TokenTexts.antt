@@ -1,31 +1,29 @@
--- An object of texts from tokens: the texts so far are the members so far.
-use Rattle.std.proofs.Common.{◌≡◌, ◌≤◌, List, [], ◌∷◌, length, Option, Some, None, option_map, option_and_then, Ordering, Less, String, Global, string_bytes, string_cmp, refl, sym, ap, ◌∙◌, arith}
-use Rattle.std.specs.Ordering.{match_ordering}
+-- An object of texts from tokens: the texts so far are the members so far, until a member is no text; then slots, in which the newest value of a key stands.
+use Rattle.std.proofs.Common.{◌≡◌, ◌≤◌, ℕ, List, [], ◌∷◌, ◌++◌, length, nat_cmp, Option, Some, None, option_map, option_and_then, String, Global, string_bytes, string_cmp, refl, sym, ap, ◌∙◌, subst, arith, append_assoc, append-nil}
+use Rattle.std.proofs.lemmas.Iterator.Adapters.{option_map_id}
+use Rattle.std.proofs.lemmas.List.{map-append}
+use Rattle.std.specs.Cmp.Lexicographic.{slice_cmp}
+use Rattle.std.specs.List.Sorted.{IsStrictlySortedBy}
+use Rattle.std.specs.Map.{keys_of}
 use Rattle.std.specs.BTreeMap.{insert_entry}
+use Rattle.std.specs.String.{string_cmp_total}
 use Rattle.json.specs.Token.{Token}
 use Rattle.json.specs.Json.{read_key}
 use Rattle.json.proofs.Grammar.{read_key-shorter}
-use Rattle.serde_json.specs.Data.{Data, string, object, Members, no_members, put}
+use Rattle.serde_json.specs.Data.{Data, string, object, Members, no_members, member, put}
 use Rattle.serde_json.specs.Find.{as_str, as_object}
 use Rattle.arrow_values.specs.Tree.{Text, Metadata}
 use Rattle.arrow_values.specs.View.{texts_of}
 use Rattle.field_lines.specs.FieldOfValue.{texts_in, metadata_of_value}
+use Rattle.field_lines.specs.Slots.{Slots, slots_in, slots_of, texts_kept}
 use Rattle.field_lines.specs.ValueOfField.{texts_value}
-use Rattle.field_lines.proofs.Writes.{Texts}
+use Rattle.field_lines.proofs.Writes.{Texts, insert_last, ordered, texts_put}
 use Rattle.value_tokens.specs.Next.{next_members, Reads, ReadsMembers}
 use Rattle.value_tokens.specs.Turns.{member_read, members_over, value_takes}
 
 pub text_is : (d : Data) (t : Text) → Some t ≡ as_str d → d ≡ string t
 text_is (string s) t e = let same : t ≡ s = cc in ap string (sym same)
 text_is _ t e = cc
-
-pub ordered : {A B : Type 0} (f : A → B) (o : Ordering) (a b c : A) → f (match_ordering o a b c) ≡ match_ordering o (f a) (f b) (f c)
-ordered f Less a b c = refl
-ordered f _ a b c = refl
-
-texts_put : (es : Texts) (k t : String Global) → texts_value (texts_of (insert_entry string_cmp es k t)) ≡ put (string_bytes k) (string (string_bytes t)) (texts_value (texts_of es))
-texts_put [] k t = refl
-texts_put (e ∷ es) k t = ordered (λ es. texts_value (texts_of es)) (string_cmp k e.0) _ _ _ ∙ rw (texts_put es k t)
 
 texts_back : (m : Metadata) → Some m ≡ texts_in (texts_value m)
 texts_back [] = refl
@@ -38,9 +36,9 @@ pub record AreTextsUnderWay (depth : _) (all left : List Token) (made : Texts) :
 pub texts_start : (depth : _) (all : List Token) (made : Texts) → made ≡ [] → AreTextsUnderWay depth all all made
 texts_start depth all made none = record { decides = ap (λ es. next_members depth (texts_value (texts_of es)) all) (sym none); fewer = omega arith }
 
-pub texts_go_on : (depth : _) (all left s r : List Token) (made new : Texts) (k : Text) (key text : String Global) → AreTextsUnderWay depth all left made → read_key left ≡ Some (Some k, s)
+pub texts_go_on : {depth : ℕ} {all left s r : List Token} {made new : Texts} {k : Text} (key text : String Global) → AreTextsUnderWay depth all left made → read_key left ≡ Some (Some k, s)
     → Reads as_str depth s (Some (string_bytes text)) r → string_bytes key ≡ k → new ≡ insert_entry string_cmp made key text → AreTextsUnderWay depth all r new
-texts_go_on depth all left s r made new k key text way named read copied is =
+texts_go_on {depth} {all} {left} {s} {r} {made} {new} {k} key text way named read copied is =
     let d = read.0 in
     let less = value_takes depth s r d read.1 in
     let first = read_key-shorter left (Some k) s named in
@@ -52,11 +50,156 @@ texts_go_on depth all left s r made new k key text way named read copied is =
       fewer = omega (arith, way.fewer);
     }
 
-pub texts_end : (depth : _) (all left r : List Token) (made : Texts) → AreTextsUnderWay depth all left made → read_key left ≡ Some (None, r) → ReadsMembers texts_in depth no_members all (Some (texts_of made)) r
-texts_end depth all left r made way over = (texts_value (texts_of made), way.decides ∙ members_over depth (texts_value (texts_of made)) left r over, texts_back (texts_of made))
+pub texts_end : {depth : ℕ} {all left r : List Token} {made : Texts} → AreTextsUnderWay depth all left made → read_key left ≡ Some (None, r) → ReadsMembers texts_in depth no_members all (Some (texts_of made)) r
+texts_end {depth} {all} {left} {r} {made} way over = (texts_value (texts_of made), way.decides ∙ members_over depth (texts_value (texts_of made)) left r over, texts_back (texts_of made))
 
 pub no_texts : (d : Data) → as_object d ≡ None → None ≡ metadata_of_value (Some d)
 no_texts d none = sym (ap (option_and_then texts_in) none)
 
 pub texts_read : (d : Data) (ms : Members) (o : Option Metadata) → d ≡ object ms → o ≡ texts_in ms → o ≡ metadata_of_value (Some d)
 texts_read d ms o is read = read ∙ sym (ap (λ e. metadata_of_value (Some e)) is)
+
+abbrev pub SlotEntries : Type 0
+SlotEntries = List (String Global × Option (String Global))
+
+-- ---- members and their slots
+
+slots_put : (k : Text) (d : Data) (ms : Members) → slots_in (put k d ms) ≡ insert_entry (slice_cmp nat_cmp) (slots_in ms) k (as_str d)
+slots_put k d no_members = refl
+slots_put k d (member l e ms) = ordered slots_in (slice_cmp nat_cmp k l) _ _ _ ∙ rw (slots_put k d ms)
+
+slots_insert : (es : SlotEntries) (k : String Global) (t : Option (String Global)) → slots_of (insert_entry string_cmp es k t) ≡ insert_entry (slice_cmp nat_cmp) (slots_of es) (string_bytes k) (option_map string_bytes t)
+slots_insert [] k t = refl
+slots_insert (e ∷ es) k t = ordered slots_of (string_cmp k e.0) _ _ _ ∙ rw (slots_insert es k t)
+
+-- a slot is put in as the member is
+slot_put : (found : Members) (made new : SlotEntries) (k : Text) (d : Data) (key : String Global) (t : Option (String Global)) → slots_in found ≡ slots_of made → string_bytes key ≡ k → option_map string_bytes t ≡ as_str d
+    → new ≡ insert_entry string_cmp made key t → slots_in (put k d found) ≡ slots_of new
+slot_put found made new k d key t same copied text is =
+    slots_put k d found ∙ ap (λ l. insert_entry (slice_cmp nat_cmp) l k (as_str d)) same ∙ ap (λ n. insert_entry (slice_cmp nat_cmp) (slots_of made) n (as_str d)) (sym copied)
+    ∙ ap (insert_entry (slice_cmp nat_cmp) (slots_of made) (string_bytes key)) (sym text) ∙ sym (ap slots_of is ∙ slots_insert made key t)
+
+texts_by_slots : (ms : Members) → texts_in ms ≡ texts_kept (slots_in ms)
+texts_by_slots no_members = refl
+texts_by_slots (member k d ms) = ap (λ o. option_and_then (λ text. option_map (λ texts. (k, text) ∷ texts) o) (as_str d)) (texts_by_slots ms)
+
+-- ---- the members that are left go into the slots
+
+pub record AreSlotsUnderWay (depth : _) (all left : List Token) (start made : SlotEntries) : Type 0 where
+  pub goes_on : (found : Members) → slots_in found ≡ slots_of start → (more : Members) × (next_members depth found all ≡ next_members depth more left) × (slots_in more ≡ slots_of made)
+  pub fewer : length left ≤ length all
+
+pub slots_start : (depth : _) (all : List Token) (start : SlotEntries) → AreSlotsUnderWay depth all all start start
+slots_start depth all start = record { goes_on = λ found same. (found, refl, same); fewer = omega arith }
+
+module _ {depth : ℕ} {all left : List Token} {start made : SlotEntries} (way : AreSlotsUnderWay depth all left start made) where
+  pub slots_go_on : {s r : List Token} {new : SlotEntries} {k : Text} (key : String Global) (t : Option (String Global)) → read_key left ≡ Some (Some k, s) → Reads as_str depth s (option_map string_bytes t) r
+      → string_bytes key ≡ k → new ≡ insert_entry string_cmp made key t → AreSlotsUnderWay depth all r start new
+  slots_go_on {s} {r} {new} {k} key t named read copied is =
+      let d = read.0 in
+      let less = value_takes depth s r d read.1 in
+      let first = read_key-shorter left (Some k) s named in
+      record {
+        goes_on = λ found same.
+            let more = way.goes_on found same in
+            (put k d more.0, more.1 ∙ member_read depth more.0 k left s r d named read.1, slot_put more.0 made new k d key t more.2 copied read.2 is);
+        fewer = omega (arith, way.fewer);
+      }
+
+  pub slots_refused : ((more : Members) → next_members depth more left ≡ None) → (found : Members) → slots_in found ≡ slots_of start → next_members depth found all ≡ None
+  slots_refused refused found same = let more = way.goes_on found same in more.1 ∙ refused more.0
+
+  pub slots_end : {r : List Token} {o : Option Metadata} → read_key left ≡ Some (None, r) → o ≡ texts_kept (slots_of made) → (found : Members) → slots_in found ≡ slots_of start → ReadsMembers texts_in depth found all o r
+  slots_end {r} {o} over is found same =
+      let more = way.goes_on found same in
+      (more.0, more.1 ∙ members_over depth more.0 left r over, is ∙ ap texts_kept (sym more.2) ∙ sym (texts_by_slots more.0))
+
+-- at the first member that is no text the slots take over
+pub record AreSlotsInstead (depth : _) (all left : List Token) (slots : SlotEntries) : Type 0 where
+  pub found : Members
+  pub decides : next_members depth no_members all ≡ next_members depth found left
+  pub same : slots_in found ≡ slots_of slots
+
+pub slots_instead : {depth : ℕ} {all left s r : List Token} {made : Texts} {new : SlotEntries} {k : Text} (slots : SlotEntries) (key : String Global) → AreTextsUnderWay depth all left made
+    → read_key left ≡ Some (Some k, s) → Reads as_str depth s None r → string_bytes key ≡ k → slots_of slots ≡ slots_in (texts_value (texts_of made)) → new ≡ insert_entry string_cmp slots key None
+    → AreSlotsInstead depth all r new
+slots_instead {depth} {all} {left} {s} {r} {made} {new} {k} slots key way named read copied turned is = record {
+  found = put k read.0 (texts_value (texts_of made));
+  decides = way.decides ∙ member_read depth (texts_value (texts_of made)) k left s r read.0 named read.1;
+  same = slot_put (texts_value (texts_of made)) slots new k read.0 key None (sym turned) copied read.2 is;
+}
+
+pub instead_read : {depth : ℕ} {all left r : List Token} {slots : SlotEntries} {o : Option Metadata} → AreSlotsInstead depth all left slots
+    → ((found : Members) → slots_in found ≡ slots_of slots → ReadsMembers texts_in depth found left o r) → ReadsMembers texts_in depth no_members all o r
+instead_read instead read = let ms = read instead.found instead.same in (ms.0, instead.decides ∙ ms.1, ms.2)
+
+-- ---- a slot for each text: the slots so far stand before the texts that are left, and all keys ascend
+
+pub record AreTextsTurned (all : Texts) (made : SlotEntries) (left : Texts) : Type 0 where
+  pub ascending : IsStrictlySortedBy string_cmp (keys_of made ++ keys_of left)
+  pub same : slots_in (texts_value (texts_of all)) ≡ slots_of made ++ slots_in (texts_value (texts_of left))
+
+pub turned_starts : (all left : Texts) (made : SlotEntries) → left ≡ all → made ≡ [] → IsStrictlySortedBy string_cmp (keys_of all) → AreTextsTurned all made left
+turned_starts all left made is none sorted = rw (is, none) (record { ascending = sorted; same = refl })
+
+-- one entry goes last
+last_keys : {X Y : Type 0} (made new : List (String Global × X)) (rest : List (String Global × Y)) (k : String Global) (v : X) → new ≡ made ++ ((k, v) ∷ []) → keys_of new ++ keys_of rest ≡ keys_of made ++ k ∷ keys_of rest
+last_keys {X} made new rest k v last =
+    ap (λ l. keys_of l ++ keys_of rest) last ∙ ap (λ l. l ++ keys_of rest) (map-append (λ (e : String Global × X). e.0) made ((k, v) ∷ [])) ∙ append_assoc (keys_of made) (k ∷ []) (keys_of rest)
+
+pub turned_go_on : (all : Texts) (made new : SlotEntries) (left rest : Texts) (k t : String Global) → AreTextsTurned all made left → left ≡ (k, t) ∷ rest → new ≡ insert_entry string_cmp made k (Some t)
+    → AreTextsTurned all new rest
+turned_go_on all made new left rest k t way split is =
+    let sorted : IsStrictlySortedBy string_cmp (keys_of made ++ k ∷ keys_of rest) = subst (λ (l : Texts). IsStrictlySortedBy string_cmp (keys_of made ++ keys_of l)) split way.ascending in
+    let last : new ≡ made ++ ((k, Some t) ∷ []) = is ∙ insert_last string_cmp_total made k (Some t) (keys_of rest) sorted in
+    let slots : slots_of new ≡ slots_of made ++ ((string_bytes k, Some (string_bytes t)) ∷ []) =
+    ap slots_of last ∙ map-append (λ (e : String Global × Option (String Global)). (string_bytes e.0, option_map string_bytes e.1)) made ((k, Some t) ∷ []) in
+    let after = slots_in (texts_value (texts_of rest)) in
+    record {
+      ascending = subst (IsStrictlySortedBy string_cmp) (sym (last_keys made new rest k (Some t) last)) sorted;
+      same = way.same ∙ ap (λ l. slots_of made ++ slots_in (texts_value (texts_of l))) split ∙ sym (append_assoc (slots_of made) ((string_bytes k, Some (string_bytes t)) ∷ []) after)
+          ∙ ap (λ l. l ++ after) (sym slots);
+    }
+
+pub turned_end : (all : Texts) (made : SlotEntries) (left : Texts) → AreTextsTurned all made left → left ≡ [] → slots_of made ≡ slots_in (texts_value (texts_of all))
+turned_end all made left way none = sym (way.same ∙ ap (λ l. slots_of made ++ slots_in (texts_value (texts_of l))) none ∙ append-nil (slots_of made))
+
+-- ---- the texts of the slots: those so far stand before those of the slots that are left, and all keys ascend
+
+pub record AreTextsKept (all : Slots) (made : Texts) (left : SlotEntries) : Type 0 where
+  pub ascending : IsStrictlySortedBy string_cmp (keys_of made ++ keys_of left)
+  pub decides : texts_kept all ≡ option_map (λ rest. texts_of made ++ rest) (texts_kept (slots_of left))
+
+pub kept_starts : (all left : SlotEntries) (made : Texts) → left ≡ all → made ≡ [] → IsStrictlySortedBy string_cmp (keys_of all) → AreTextsKept (slots_of all) made left
+kept_starts all left made is none sorted = rw (is, none) (record { ascending = sorted; decides = sym (option_map_id (texts_kept (slots_of all))) })
+
+one_more : (front : Metadata) (k t : Text) (o : Option Metadata) → option_map (λ rest. front ++ rest) (option_map (λ texts. (k, t) ∷ texts) o) ≡ option_map (λ rest. (front ++ ((k, t) ∷ [])) ++ rest) o
+one_more front k t None = refl
+one_more front k t (Some m) = ap Some (sym (append_assoc front ((k, t) ∷ []) m))
+
+module _ (all : Slots) (made : Texts) (left rest : SlotEntries) (k : String Global) (v : Option (String Global)) (way : AreTextsKept all made left) (split : left ≡ (k, v) ∷ rest) where
+  kept_next : (o : Option Text) → option_map string_bytes v ≡ o
+      → texts_kept all ≡ option_map (λ rest. texts_of made ++ rest) (option_and_then (λ u. option_map (λ us. (string_bytes k, u) ∷ us) (texts_kept (slots_of rest))) o)
+  kept_next o is =
+      way.decides ∙ ap (λ l. option_map (λ rest. texts_of made ++ rest) (texts_kept (slots_of l))) split
+      ∙ ap (λ o. option_map (λ rest. texts_of made ++ rest) (option_and_then (λ u. option_map (λ us. (string_bytes k, u) ∷ us) (texts_kept (slots_of rest))) o)) is
+
+  pub kept_go_on : (new : Texts) (t : String Global) → v ≡ Some t → new ≡ insert_entry string_cmp made k t → AreTextsKept all new rest
+  kept_go_on new t text is =
+      let sorted : IsStrictlySortedBy string_cmp (keys_of made ++ k ∷ keys_of rest) = subst (λ (l : SlotEntries). IsStrictlySortedBy string_cmp (keys_of made ++ keys_of l)) split way.ascending in
+      let last : new ≡ made ++ ((k, t) ∷ []) = is ∙ insert_last string_cmp_total made k t (keys_of rest) sorted in
+      let texts : texts_of new ≡ texts_of made ++ ((string_bytes k, string_bytes t) ∷ []) =
+      ap texts_of last ∙ map-append (λ (e : String Global × String Global). (string_bytes e.0, string_bytes e.1)) made ((k, t) ∷ []) in
+      record {
+        ascending = subst (IsStrictlySortedBy string_cmp) (sym (last_keys made new rest k t last)) sorted;
+        decides =
+            kept_next (Some (string_bytes t)) (ap (option_map string_bytes) text)
+            ∙ one_more (texts_of made) (string_bytes k) (string_bytes t) (texts_kept (slots_of rest)) ∙ ap (λ m. option_map (λ rest. m ++ rest) (texts_kept (slots_of rest))) (sym texts);
+      }
+
+  pub kept_ends_at : v ≡ None → None ≡ texts_kept all
+  kept_ends_at none = sym (kept_next None (ap (option_map string_bytes) none))
+
+pub kept_end : (all : Slots) (made : Texts) (left : SlotEntries) → AreTextsKept all made left → left ≡ [] → Some (texts_of made) ≡ texts_kept all
+kept_end all made left way none =
+    sym (way.decides ∙ ap (λ l. option_map (λ rest. texts_of made ++ rest) (texts_kept (slots_of l))) none ∙ ap Some (append-nil (texts_of made)))

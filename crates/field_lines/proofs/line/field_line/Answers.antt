@@ -19,7 +19,6 @@ returns-clause-reads_back c form shallow =
     let f = c.args.field.now in
     let v = value_of_field f in
     let s = c.from_utf8_unchecked.result in
-    let text : string_bytes s ≡ compact_text v =
-    ap (λ b. b.items) c.from_utf8_unchecked.ensures.value ∙ printed v (c.new-out.ensures.before ∙ c.in_ok-with_capacity.ensures.items) c.new-out.ensures.tokens c.in_ok-print_field.ensures c.into_inner.ensures.items in
+    let text : string_bytes s ≡ compact_text v = returns-clause-text c in
     let back : read (string_bytes s) ≡ Some v = ap read text ∙ reads_back v c.new-out.ensures.tokens c.in_ok-print_field.ensures c.into_inner.ensures.reads_back shallow in
     ap (option_and_then field_of_value) (line_value (string_bytes s) v (IsUtf8-string_bytes s, back)) ∙ field_read f form

@@ -1,4 +1,4 @@
-use Rattle.field_lines.proofs.TokenSlots.{turned_starts, turned_go_on, turned_end}
+use Rattle.field_lines.proofs.TokenTexts.{turned_starts, turned_go_on, turned_end}
 use Rattle.field_lines.proofs.metadata.slots_of_texts.Goals as goal
 
 pub loop-key-init : goal.loop-key-init

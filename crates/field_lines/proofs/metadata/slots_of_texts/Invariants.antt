@@ -1,4 +1,4 @@
-use Rattle.field_lines.proofs.TokenSlots.{AreTextsTurned}
+use Rattle.field_lines.proofs.TokenTexts.{AreTextsTurned}
 use Rattle.field_lines.proofs.metadata.slots_of_texts.Given as goal
 
 abbrev pub invariant-loop-key : goal.invariant-loop-key

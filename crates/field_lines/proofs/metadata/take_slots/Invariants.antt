@@ -1,5 +1,5 @@
 use Rattle.std.proofs.Common.{length}
-use Rattle.field_lines.proofs.TokenSlots.{AreSlotsUnderWay}
+use Rattle.field_lines.proofs.TokenTexts.{AreSlotsUnderWay}
 use Rattle.field_lines.proofs.metadata.take_slots.Given as goal
 
 abbrev pub invariant-slots : goal.invariant-slots

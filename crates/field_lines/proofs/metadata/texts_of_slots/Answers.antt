@@ -1,4 +1,4 @@
-use Rattle.field_lines.proofs.TokenSlots.{kept_starts, kept_go_on, kept_ends_at, kept_end}
+use Rattle.field_lines.proofs.TokenTexts.{kept_starts, kept_go_on, kept_ends_at, kept_end}
 use Rattle.field_lines.proofs.metadata.texts_of_slots.Goals as goal
 
 pub loop-key-init : goal.loop-key-init

@@ -1,5 +1,5 @@
 use Rattle.field_lines.specs.Slots.{slots_of}
-use Rattle.field_lines.proofs.TokenSlots.{AreTextsKept}
+use Rattle.field_lines.proofs.TokenTexts.{AreTextsKept}
 use Rattle.field_lines.proofs.metadata.texts_of_slots.Given as goal
 
 abbrev pub invariant-loop-key : goal.invariant-loop-key

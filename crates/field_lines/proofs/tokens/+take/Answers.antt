@@ -354,9 +354,7 @@ take_type-returns-in-String-clause-ok t c =
     (string c.in-String.word.now, ap (next_value c.args.depth) is ∙ next_string c.args.depth c.in-String.word.now c.next.new.self, c.plain_named.ensures)
 
 pub take_type-returns-in_err-token-clause-text : goal.take_type-returns-in_err-token-clause-text
-take_type-returns-in_err-token-clause-text t c refused =
-    let empty : c.args.reader.now ≡ [] = grind arith in
-    no_value c.args.depth c.args.reader.now empty
+take_type-returns-in_err-token-clause-text t c refused = no_value c.args.depth c.args.reader.now (grind arith)
 
 pub take_type-returns-in_ok-skip_rest-in_default : goal.take_type-returns-in_ok-skip_rest-in_default
 take_type-returns-in_ok-skip_rest-in_default t c =
