@@ -181,25 +181,19 @@ keys_are k l p q d e h =
 
 two_keyed : (k l : Text) (d e : Data) (t : Tree) → IsLean e → ((f : FieldTree) → field_of_value d ≡ Some f → d ≡ value_of_field f) → ((ms : MemberTrees) → members_of_value e ≡ Some ms → e ≡ array (members_value ms))
     → type_of_value (two_keys k d l e) ≡ Some t → two_keys k d l e ≡ type_value t
-two_keyed k l d e t lean own all is = which (are_keys k l (codes "fixed_size_list") (codes "size")) (are_keys k l (codes "mode") (codes "union")) refl refl is
-  where
-    sized : FieldTree → Option Tree
-    sized f = option_map (fixed_size_list_of f) (size_of_value e)
-
-    united : UnionMode → Option Tree
-    united mode = option_and_then (union_of mode) (members_of_value e)
-
-    which : (a b : Bool) → are_keys k l (codes "fixed_size_list") (codes "size") ≡ a → are_keys k l (codes "mode") (codes "union") ≡ b
-        → cond a (option_and_then sized (field_of_value d)) (cond b (option_and_then united (mode_of_value d)) None) ≡ Some t → two_keys k d l e ≡ type_value t
-    which true b h g at =
-        option_and_then_some sized (field_of_value d) t at (λ f there made. map_some (fixed_size_list_of f) (size_of_value e) t made
-        (λ s size same. keys_are k l (codes "fixed_size_list") (codes "size") d e h ∙ ap (λ x. two_keys (codes "fixed_size_list") x (codes "size") e) (own f there)
-        ∙ ap (two_keys (codes "fixed_size_list") (value_of_field f) (codes "size")) (integer_is e is_size s lean size) ∙ ap type_value same))
-    which false true h g at =
-        option_and_then_some united (mode_of_value d) t at (λ mode there made. option_and_then_some (union_of mode) (members_of_value e) t made
-        (λ ms members last. keys_are k l (codes "mode") (codes "union") d e g ∙ ap (λ x. two_keys (codes "mode") x (codes "union") e) (mode_is d mode there)
-        ∙ ap (two_keys (codes "mode") (string (mode_name mode)) (codes "union")) (all ms members) ∙ ap type_value (cond_some (are_distinct (tree_ids ms)) (union ms mode) t last).1))
-    which false false h g at = cc
+two_keyed k l d e t lean own all is =
+    let sized = λ (f : FieldTree). option_map (fixed_size_list_of f) (size_of_value e) in
+    let united = λ (mode : UnionMode). option_and_then (union_of mode) (members_of_value e) in
+    cond_both (are_keys k l (codes "fixed_size_list") (codes "size")) (option_and_then sized (field_of_value d)) (cond (are_keys k l (codes "mode") (codes "union")) (option_and_then united (mode_of_value d)) None)
+    (λ x. x ≡ Some t → two_keys k d l e ≡ type_value t)
+    (λ h at. option_and_then_some sized (field_of_value d) t at (λ f there made. map_some (fixed_size_list_of f) (size_of_value e) t made
+    (λ s size same. keys_are k l (codes "fixed_size_list") (codes "size") d e h ∙ ap (λ x. two_keys (codes "fixed_size_list") x (codes "size") e) (own f there)
+    ∙ ap (two_keys (codes "fixed_size_list") (value_of_field f) (codes "size")) (integer_is e is_size s lean size) ∙ ap type_value same)))
+    (λ _. cond_both (are_keys k l (codes "mode") (codes "union")) (option_and_then united (mode_of_value d)) None (λ x. x ≡ Some t → two_keys k d l e ≡ type_value t)
+    (λ g at. option_and_then_some united (mode_of_value d) t at (λ mode there made. option_and_then_some (union_of mode) (members_of_value e) t made
+    (λ ms members last. keys_are k l (codes "mode") (codes "union") d e g ∙ ap (λ x. two_keys (codes "mode") x (codes "union") e) (mode_is d mode there)
+    ∙ ap (two_keys (codes "mode") (string (mode_name mode)) (codes "union")) (all ms members) ∙ ap type_value (cond_some (are_distinct (tree_ids ms)) (union ms mode) t last).1)))
+    (λ _ none. cc)) is
 
 -- ---- a lean value that stands for a field is the value of that field
 

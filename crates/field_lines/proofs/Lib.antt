@@ -1,9 +1,7 @@
-mod Writes
 mod Prints
 mod Round
 mod Form
 mod Lean
 mod TokenTexts
-mod TokenParts
-mod TokenKeys
+mod TokenMembers
 mod TokenItems

@@ -10,8 +10,7 @@ use mir.Val.{to_z, of_z}
 use Rattle.value_tokens.specs.Adds.{Adds, Prints, PrintsItems, added, sent, prints_array, prints_item, prints_end}
 use Rattle.field_lines.specs.Prints.{PrintsMetadata}
 use Rattle.field_lines.specs.ValueOfField.{pair, value_of_field, type_value, fields_value, members_value}
-use Rattle.field_lines.proofs.Writes.{falls_field, falls_union_member}
-use Rattle.field_lines.proofs.Prints.{prints_one_key, prints_two_keys, prints_parts, prints_text}
+use Rattle.field_lines.proofs.Prints.{falls_field, falls_union_member, prints_one_key, prints_two_keys, prints_parts, prints_text}
 use Rattle.field_lines.proofs.printer.+print.Goals as goal
 
 pub print_field-returns : goal.print_field-returns

@@ -12,8 +12,7 @@ use Rattle.arrow_values.specs.View.{tree, texts_of, field_trees, member_trees}
 use Rattle.field_lines.specs.FieldOfValue.{field_of_value, type_of_value, list_of, large_list_of}
 use Rattle.field_lines.specs.Keys.{pair_read}
 use Rattle.field_lines.specs.Steps.{AreMemberParts}
-use Rattle.field_lines.proofs.TokenParts.{part_other, parts_start, parts_go_on, parts_end, no_type}
-use Rattle.field_lines.proofs.TokenKeys.{members_cut, only_go_on, only_end, only_spoiled, first_read, second_read, two_refused, two_spoiled, no_fixed_size_list, no_union, as_fixed_size_list, as_union, taken_as, only_taken, none_taken_as}
+use Rattle.field_lines.proofs.TokenMembers.{part_other, parts_start, parts_go_on, parts_end, no_type, members_cut, only_go_on, only_end, only_spoiled, first_read, second_read, two_refused, two_spoiled, no_fixed_size_list, no_union, as_fixed_size_list, as_union, taken_as, only_taken, none_taken_as}
 use Rattle.field_lines.proofs.TokenItems.{item_taken, item_not_taken, taken_start, taken_go_on, taken_end, taken_refused, taken_cut, taken_spoiled, members_in-pair, zip_push, parts_push, pair_is}
 use Rattle.value_tokens.specs.Next.{next_value}
 use Rattle.value_tokens.specs.Turns.{no_value, object_too_deep, value-object, key_refused, member_refused, items_over, members_over, after_some, named}

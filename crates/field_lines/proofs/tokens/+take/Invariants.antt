@@ -3,8 +3,7 @@ use Rattle.std.specs.List.{zip}
 use Rattle.field_lines.specs.Steps.{AreMemberParts}
 use Rattle.arrow_values.specs.View.{tree, texts_of, field_trees, member_trees}
 use Rattle.field_lines.specs.FieldOfValue.{field_before, fields_in, members_in, field_of_value, fields_of_value, size_of_value, mode_of_value, members_of_value}
-use Rattle.field_lines.proofs.TokenParts.{ArePartsUnderWay}
-use Rattle.field_lines.proofs.TokenKeys.{IsOnlyUnderWay, AreTwoUnderWay}
+use Rattle.field_lines.proofs.TokenMembers.{ArePartsUnderWay, IsOnlyUnderWay, AreTwoUnderWay}
 use Rattle.field_lines.proofs.TokenItems.{AreItemsTaken, pair_before}
 use Rattle.field_lines.proofs.tokens.+take.Given as goal
 

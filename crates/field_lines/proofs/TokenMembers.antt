@@ -1,27 +1,116 @@
--- The object of a type from tokens: one key or two, and no others.
-use Rattle.std.proofs.Common.{◌≡◌, ℕ, ◌<◌, ◌≤◌, List, length, Bool, true, false, bytes_eq, nat_cmp, Ordering, Less, Equal, Greater, Option, Some, None, IfSome, option_map, option_and_then, codes, not, ◌⊎◌, inl, inr, ⊎_elim, subst, refl, sym, ap, ◌∙◌, arith}
-use Rattle.std.proofs.lemmas.Bool.{and_left, and_right, both_ways, false_from_ne_true, not-true, not-false}
-use Rattle.std.proofs.lemmas.Option.{cond_some}
-use Rattle.std.proofs.lemmas.Slice.Eq.{bytes_eq-Decides}
+-- The members of an object from tokens: those of a field, of which the last value at each key counts, and those of a type, with one key or two and no others.
+use Rattle.std.proofs.Common.{◌≡◌, ℕ, ◌≤◌, List, [], length, Bool, true, false, cond, bytes_eq, nat_cmp, Ordering, Equal, Option, Some, None, option_and_then, codes, refl, sym, ap, ◌∙◌, arith, ◌<◌, Less, Greater, IfSome, option_map, not, ◌⊎◌, inl, inr, ⊎_elim, subst}
+use Rattle.std.proofs.lemmas.Bool.{cond-false, false_from_ne_true, and_left, and_right, both_ways, not-true, not-false}
 use Rattle.std.proofs.lemmas.Map.Text.{is_eq-slice_cmp}
-use Rattle.std.proofs.lemmas.Cmp.{nat_list_cmp_total, tied_itself}
 use Rattle.std.specs.Cmp.Lexicographic.{slice_cmp}
 use Rattle.std.specs.Ordering.{is_eq, match_ordering}
+use Rattle.std.proofs.lemmas.Slice.Eq.{bytes_eq-Decides}
+use Rattle.std.proofs.lemmas.Option.{cond_some}
+use Rattle.std.proofs.lemmas.Cmp.{nat_list_cmp_total, tied_itself}
 use Rattle.json.specs.Token.{Token}
 use Rattle.json.specs.Json.{read_key}
 use Rattle.json.proofs.Grammar.{read_key-shorter}
-use Rattle.serde_json.specs.Data.{Data, object, Members, no_members, member, put}
-use Rattle.serde_json.specs.Find.{get_member}
-use Rattle.arrow_values.specs.Tree.{Text, Tree}
-use Rattle.field_lines.specs.FieldOfValue.{are_keys, type_of_value}
-use Rattle.field_lines.specs.Keys.{only_at, fixed_size_list_at, union_at}
-use Rattle.value_tokens.specs.Next.{next_value, next_members, next_after, after, Reads, ReadsMembers, ReadsAfter}
-use Rattle.value_tokens.specs.Turns.{key_refused, member_read, members_over, value_takes, after_some, taken, named}
-use Rattle.value_tokens.specs.Presence.{Has, get_member-put_at, kept, has_new, has_taken}
+use Rattle.serde_json.specs.Data.{Data, string, array, object, Members, no_members, member, put}
+use Rattle.serde_json.specs.Find.{get_member, as_str, as_bool, as_object, as_array}
+use Rattle.arrow_values.specs.Tree.{Text, Metadata, Tree, FieldTree}
+use Rattle.field_lines.specs.FieldOfValue.{under, metadata_of_value, field_from, field_of_value, type_in, type_of_value, fields_of_value, members_of_value, are_keys}
+use Rattle.field_lines.specs.Keys.{pair_read, only_at, fixed_size_list_at, union_at}
+use Rattle.value_tokens.specs.Next.{next_value, next_members, ReadsMembers, next_after, after, Reads, ReadsAfter}
+use Rattle.value_tokens.specs.Turns.{member_read, members_over, value_takes, key_refused, after_some, taken, named}
+use Rattle.value_tokens.specs.Presence.{get_member-put_at, Has, kept, has_new, has_taken}
 
 -- a text that is another is told apart
 apart : (k l : Text) → (k ≡ l → ⊥) → bytes_eq k l ≡ false
 apart k l other = false_from_ne_true (bytes_eq k l) (λ e. other ((bytes_eq-Decides k l).0 e))
+
+-- ---- the parts of a field
+
+picked : (r : Ordering) (d : Data) (a : Option Data) → option_and_then type_of_value (match_ordering r a (Some d) a) ≡ cond (is_eq r) (type_of_value d) (option_and_then type_of_value a)
+picked Equal d a = refl
+picked _ d a = refl
+
+-- the type is what stands at its key
+type_in-get : (ms : Members) → type_in ms ≡ under type_of_value (codes "type") ms
+type_in-get no_members = refl
+type_in-get (member k d ms) =
+    ap (cond (bytes_eq (codes "type") k) (type_of_value d)) (type_in-get ms) ∙ ap (λ b. cond b (type_of_value d) (under type_of_value (codes "type") ms)) (sym (is_eq-slice_cmp (codes "type") k))
+    ∙ sym (picked (slice_cmp nat_cmp (codes "type") k) d (get_member (codes "type") ms))
+
+chosen : {A B : Type 0} (f : Option A → B) (b : Bool) (x y : Option A) → f (cond b x y) ≡ cond b (f x) (f y)
+chosen f true x y = refl
+chosen f false x y = refl
+
+-- what f says of what stands at the key q, after d is put at k
+put_at : {A : Type 0} (f : Option Data → A) (q k : Text) (d : Data) (found : Members) → f (get_member q (put k d found)) ≡ cond (bytes_eq q k) (f (Some d)) (f (get_member q found))
+put_at f q k d found = ap f (get_member-put_at q k d found) ∙ chosen f (bytes_eq q k) (Some d) (get_member q found)
+
+pub record ArePartsUnderWay (depth : _) (all left : List Token) (name : Option Text) (nullable : Option Bool) (tree : Option Tree) (metadata : Option Metadata) : Type 0 where
+  pub found : Members
+  pub decides : next_members depth no_members all ≡ next_members depth found left
+  pub at_name : name ≡ under as_str (codes "name") found
+  pub at_nullable : nullable ≡ under as_bool (codes "nullable") found
+  pub at_type : tree ≡ under type_of_value (codes "type") found
+  pub at_metadata : metadata ≡ metadata_of_value (get_member (codes "metadata") found)
+  pub fewer : length left ≤ length all
+
+-- a part after a value at the key k
+abbrev pub Part : {A : Type 0} → Text → Text → Option A → Option A → Option A → Type 0
+Part q k new here old = new ≡ cond (bytes_eq q k) here old
+
+module _ {depth : ℕ} {all left s r : List Token} {k : Text} {d : Data} {name new_name : Option Text} {nullable new_nullable : Option Bool} {tree new_tree : Option Tree} {metadata new_metadata : Option Metadata} where
+  pub parts_go_on : ArePartsUnderWay depth all left name nullable tree metadata → read_key left ≡ Some (Some k, s) → next_value depth s ≡ Some (d, r)
+      → Part (codes "name") k new_name (as_str d) name → Part (codes "nullable") k new_nullable (as_bool d) nullable → Part (codes "type") k new_tree (type_of_value d) tree
+      → Part (codes "metadata") k new_metadata (metadata_of_value (Some d)) metadata → ArePartsUnderWay depth all r new_name new_nullable new_tree new_metadata
+  parts_go_on way named read n b t m =
+      let less = value_takes depth s r d read in
+      let first = read_key-shorter left (Some k) s named in
+      record {
+        found = put k d way.found;
+        decides = way.decides ∙ member_read depth way.found k left s r d named read;
+        at_name = n ∙ ap (λ o. cond (bytes_eq (codes "name") k) (as_str d) o) way.at_name ∙ sym (put_at (option_and_then as_str) (codes "name") k d way.found);
+        at_nullable = b ∙ ap (λ o. cond (bytes_eq (codes "nullable") k) (as_bool d) o) way.at_nullable ∙ sym (put_at (option_and_then as_bool) (codes "nullable") k d way.found);
+        at_type = t ∙ ap (λ o. cond (bytes_eq (codes "type") k) (type_of_value d) o) way.at_type ∙ sym (put_at (option_and_then type_of_value) (codes "type") k d way.found);
+        at_metadata = m ∙ ap (λ o. cond (bytes_eq (codes "metadata") k) (metadata_of_value (Some d)) o) way.at_metadata ∙ sym (put_at metadata_of_value (codes "metadata") k d way.found);
+        fewer = omega (arith, way.fewer);
+      }
+
+pub parts_end : {depth : ℕ} {all left r : List Token} {name : Option Text} {nullable : Option Bool} {tree : Option Tree} {metadata : Option Metadata} {o : Option FieldTree}
+    → ArePartsUnderWay depth all left name nullable tree metadata → o ≡ field_from name nullable tree metadata → read_key left ≡ Some (None, r)
+    → ReadsMembers (λ ms. field_of_value (object ms)) depth no_members all o r
+parts_end {depth} {all} {left} {r} {name} {nullable} {tree} {metadata} way is over =
+    let ms = way.found in
+    (ms, way.decides ∙ members_over depth ms left r over, rw (is, way.at_name, way.at_nullable, way.at_type, way.at_metadata, type_in-get ms))
+
+-- what is no object stands for no field, and what is no list for no fields and no members
+pub no_field : (d : Data) → as_object d ≡ None → None ≡ field_of_value d
+no_field (object ms) e = cc
+no_field _ e = refl
+
+pub no_type : (d : Data) → as_object d ≡ None → as_str d ≡ None → None ≡ type_of_value d
+no_type (string s) e f = cc
+no_type (object ms) e f = cc
+no_type _ e f = refl
+
+pub no_fields_list : (d : Data) → as_array d ≡ None → None ≡ fields_of_value d
+no_fields_list (array ds) e = cc
+no_fields_list _ e = refl
+
+pub no_members_list : (d : Data) → as_array d ≡ None → None ≡ members_of_value d
+no_members_list (array ds) e = cc
+no_members_list _ e = refl
+
+pub no_pair : (d : Data) → as_array d ≡ None → None ≡ pair_read d
+no_pair (array ds) e = cc
+no_pair _ e = refl
+
+-- a part at another key
+pub part_other : {A : Type 0} {q k : Text} (here : Option A) {old : Option A} → (k ≡ q → ⊥) → Part q k old here old
+part_other {q = q} {k} here {old} other = sym (cond-false (bytes_eq q k) here old (apart q k (λ e. other (sym e))))
+
+pub parts_start : (depth : _) (all : List Token) (metadata : Option Metadata) → metadata ≡ Some [] → ArePartsUnderWay depth all all None None None metadata
+parts_start depth all metadata empty = record { found = no_members; decides = refl; at_name = refl; at_nullable = refl; at_type = refl; at_metadata = empty; fewer = omega arith }
+
+-- ---- the keys of a type
 
 -- what stands at a key of one member is at that member's key, and of two members one has the key
 only_key : (q k : Text) (d : Data) → Has q (member k d no_members) → q ≡ k
@@ -183,16 +272,16 @@ module _ {A B : Type 0} {f : Data → Option A} {g : Data → Option B} {k l : T
   }
 
 -- one of two keys is neither of two others
-no_pair : (q k l m n : Text) → bytes_eq q m ≡ false → bytes_eq q n ≡ false → (q ≡ k) ⊎ (q ≡ l) → are_keys k l m n ≡ false
-no_pair q k l m n e f (inl is) = and_left (bytes_eq k m) (bytes_eq l n) (rw (← is) e)
-no_pair q k l m n e f (inr is) = and_right (bytes_eq k m) (bytes_eq l n) (rw (← is) f)
+is_no_pair : (q k l m n : Text) → bytes_eq q m ≡ false → bytes_eq q n ≡ false → (q ≡ k) ⊎ (q ≡ l) → are_keys k l m n ≡ false
+is_no_pair q k l m n e f (inl is) = and_left (bytes_eq k m) (bytes_eq l n) (rw (← is) e)
+is_no_pair q k l m n e f (inr is) = and_right (bytes_eq k m) (bytes_eq l n) (rw (← is) f)
 
 pub no_fixed_size_list : (u : Text) (ms : Members) → (u ≡ codes "fixed_size_list" → ⊥) → (u ≡ codes "size" → ⊥) → Has u ms → None ≡ fixed_size_list_at ms
-no_fixed_size_list u (member k d (member l e no_members)) a b h = rw (no_pair u k l (codes "fixed_size_list") (codes "size") (apart u _ a) (apart u _ b) (either_key u k l d e h))
+no_fixed_size_list u (member k d (member l e no_members)) a b h = rw (is_no_pair u k l (codes "fixed_size_list") (codes "size") (apart u _ a) (apart u _ b) (either_key u k l d e h))
 no_fixed_size_list u _ a b h = refl
 
 pub no_union : (u : Text) (ms : Members) → (u ≡ codes "mode" → ⊥) → (u ≡ codes "union" → ⊥) → Has u ms → None ≡ union_at ms
-no_union u (member k d (member l e no_members)) a b h = rw (no_pair u k l (codes "mode") (codes "union") (apart u _ a) (apart u _ b) (either_key u k l d e h))
+no_union u (member k d (member l e no_members)) a b h = rw (is_no_pair u k l (codes "mode") (codes "union") (apart u _ a) (apart u _ b) (either_key u k l d e h))
 no_union u _ a b h = refl
 
 -- ---- the key that comes first says which type it is
@@ -215,7 +304,7 @@ nothing_at_one q k d none h = rw (← only_key q k d h, none.0, none.1, none.2)
 nothing_at_two : (q k l : Text) (d e : Data) → IsNoSize q → IsNoMode q → Has q (member k d (member l e no_members)) → None ≡ type_of_value (object (member k d (member l e no_members)))
 nothing_at_two q k l d e size mode h =
     let one = either_key q k l d e h in
-    rw (no_pair q k l (codes "fixed_size_list") (codes "size") size.0 size.1 one, no_pair q k l (codes "mode") (codes "union") mode.0 mode.1 one)
+    rw (is_no_pair q k l (codes "fixed_size_list") (codes "size") size.0 size.1 one, is_no_pair q k l (codes "mode") (codes "union") mode.0 mode.1 one)
 
 as_one : {A : Type 0} (f : Data → Option A) (w : A → Tree) (q : Text) → IsNoSize q → IsNoMode q → ((d : Data) → option_map w (only_at f q (member q d no_members)) ≡ type_of_value (object (member q d no_members)))
     → (ms : Members) → Has q ms → option_map w (only_at f q ms) ≡ type_of_value (object ms)
@@ -228,14 +317,14 @@ pub as_fixed_size_list : (q : Text) (ms : Members) → (q ≡ codes "fixed_size_
 as_fixed_size_list q (member k d no_members) one h = nothing_at_one q k d (either_is IsNoOne one (refl, refl, refl) (refl, refl, refl)) h
 as_fixed_size_list q (member k d (member l e no_members)) one h =
     let other = either_is IsNoMode one (refl, refl) (refl, refl) in
-    rw (no_pair q k l (codes "mode") (codes "union") other.0 other.1 (either_key q k l d e h))
+    rw (is_no_pair q k l (codes "mode") (codes "union") other.0 other.1 (either_key q k l d e h))
 as_fixed_size_list q _ one h = refl
 
 pub as_union : (q : Text) (ms : Members) → (q ≡ codes "mode") ⊎ (q ≡ codes "union") → Has q ms → union_at ms ≡ type_of_value (object ms)
 as_union q (member k d no_members) one h = nothing_at_one q k d (either_is IsNoOne one (refl, refl, refl) (refl, refl, refl)) h
 as_union q (member k d (member l e no_members)) one h =
     let other = either_is IsNoSize one (refl, refl) (refl, refl) in
-    rw (no_pair q k l (codes "fixed_size_list") (codes "size") other.0 other.1 (either_key q k l d e h))
+    rw (is_no_pair q k l (codes "fixed_size_list") (codes "size") other.0 other.1 (either_key q k l d e h))
 as_union q _ one h = refl
 
 as_nothing : (q : Text) (ms : Members) → IsNoOne q → IsNoSize q → IsNoMode q → Has q ms → None ≡ type_of_value (object ms)
