@@ -1,7 +1,6 @@
 -- What a line says can be said by a line, and when a line is a JSON value.
 use Rattle.std.proofs.Common.{◌≡◌, ℤ, IfSome, IsUtf8, Bool, true, false, cond, IsTrue, Option, Some, None, option_map, option_and_then, codes, bytes_eq, refl, sym, subst, ap, ◌∙◌}
 use Rattle.std.proofs.lemmas.Bool.{and_from, cond_both, false_from_ne_true}
-use Rattle.std.proofs.lemmas.Option.{cond_some}
 use Rattle.std.proofs.lemmas.Str.{IsUtf8-from_is_utf8, is_utf8-from_IsUtf8}
 use Rattle.std.specs.List.{list_all}
 use Rattle.std.specs.Str.{is_utf8}
@@ -29,27 +28,14 @@ anything : {A : Type 0} (o : Option A) → IfSome o (λ _. Unit {0})
 anything None = tt
 anything (Some x) = tt
 
-either : (b : Bool) (o rest : Option Tree) → IfSome o HasLineForm → IfSome rest HasLineForm → IfSome (cond b o rest) HasLineForm
-either b o rest h hs = cond_both b o rest (λ x. IfSome x HasLineForm) (λ _. h) (λ _. hs)
-
 of_type : (n : Option Text) (b : Option Bool) (t : Option Tree) (m : Option Metadata) → IfSome t HasLineForm → IfSome (field_from n b t m) (λ f. HasLineForm f.tree)
 of_type (Some n) (Some b) (Some t) (Some m) h = h
 of_type _ _ _ _ h = tt
 
-of_kept : {A : Type 0} {P : A → Type 0} (o : Option A) → ((x : A) → Some x ≡ o → P x) → IfSome o P
-of_kept None h = tt
-of_kept (Some x) h = h x refl
-
 -- a number that is kept has the property
-kept_has : (p : ℤ → Bool) (i : ℤ) (o : Option ℤ) → Some i ≡ option_and_then (kept p) o → IsTrue (p i)
-kept_has p i None is = cc
-kept_has p i (Some z) is = let w = cond_some (p z) z i (sym is) in ap p (sym w.1) ∙ w.0
-
-size_kept : (d : Data) → IfSome (size_of_value d) (λ s. IsTrue (is_size s))
-size_kept d = of_kept (size_of_value d) (λ s. kept_has is_size s (integer_of d))
-
-id_kept : (d : Data) → IfSome (id_of_value d) (λ i. IsTrue (is_type_id i))
-id_kept d = of_kept (id_of_value d) (λ i. kept_has is_type_id i (integer_of d))
+kept_has : (p : ℤ → Bool) (o : Option ℤ) → IfSome (option_and_then (kept p) o) (λ z. IsTrue (p z))
+kept_has p None = tt
+kept_has p (Some z) = cond_both (p z) (Some z) None (λ x. IfSome x (λ y. IsTrue (p y))) (λ e. e) (λ _. tt)
 
 abbrev AreMembersFormed : MemberTrees → Type 0
 AreMembersFormed ms = MembersHaveLineForm ms × IsTrue (list_all is_type_id (tree_ids ms))
@@ -67,7 +53,7 @@ one_key false false false o os h hs = tt
 two_keys : (l u : Bool) (o : Option FieldTree) (e : Data) (modes : Option UnionMode) (os : Option MemberTrees) → IfSome o (λ f. HasLineForm f.tree) → IfSome os AreMembersFormed
     → IfSome (cond l (option_and_then (λ f. option_map (fixed_size_list_of f) (size_of_value e)) o) (cond u (option_and_then (λ mode. option_and_then (union_of mode) os) modes) None)) HasLineForm
 two_keys true u o e modes os h hs =
-    chained HasLineForm (λ f. option_map (fixed_size_list_of f) (size_of_value e)) o h (λ f x. mapped HasLineForm (fixed_size_list_of f) (size_of_value e) (size_kept e) (λ s k. (x, k)))
+    chained HasLineForm (λ f. option_map (fixed_size_list_of f) (size_of_value e)) o h (λ f x. mapped HasLineForm (fixed_size_list_of f) (size_of_value e) (kept_has is_size (integer_of e)) (λ s k. (x, k)))
 two_keys false true o e modes os h hs =
     chained HasLineForm (λ mode. option_and_then (union_of mode) os) modes (anything modes) (λ mode _. chained HasLineForm (union_of mode) os hs (united mode))
 two_keys false false o e modes os h hs = tt
@@ -79,7 +65,7 @@ mutual
 
   type_in_form : (ms : Members) → IfSome (type_in ms) HasLineForm
   type_in_form no_members = tt
-  type_in_form (member k d ms) = either (bytes_eq (codes "type") k) (type_of_value d) (type_in ms) (type_form d) (type_in_form ms)
+  type_in_form (member k d ms) = cond_both (bytes_eq (codes "type") k) (type_of_value d) (type_in ms) (λ x. IfSome x HasLineForm) (λ _. type_form d) (λ _. type_in_form ms)
 
   type_form : (d : Data) → IfSome (type_of_value d) HasLineForm
   type_form (string word) = mapped HasLineForm plain (plain_named word) (anything (plain_named word)) (λ p _. tt)
@@ -104,7 +90,7 @@ mutual
   members_in_form : (ds : Items) → IfSome (members_in ds) AreMembersFormed
   members_in_form no_items = (tt, refl)
   members_in_form (item (array (item i (item d no_items))) ds) =
-      chained AreMembersFormed (λ id. option_and_then (λ f. option_map (member_before id f) (members_in ds)) (field_of_value d)) (id_of_value i) (id_kept i)
+      chained AreMembersFormed (λ id. option_and_then (λ f. option_map (member_before id f) (members_in ds)) (field_of_value d)) (id_of_value i) (kept_has is_type_id (integer_of i))
       (λ id k. chained AreMembersFormed (λ f. option_map (member_before id f) (members_in ds)) (field_of_value d) (field_form d)
       (λ f h. mapped AreMembersFormed (member_before id f) (members_in ds) (members_in_form ds) (λ ms hs. ((h, hs.0), and_from (is_type_id id) _ k hs.1))))
   members_in_form (item _ ds) = tt
