@@ -3,7 +3,7 @@ use Rattle.std.proofs.Common.{◌≡◌, ℕ, ◌≤◌, ℤ, List, [], ◌∷�
 use Rattle.std.proofs.lemmas.Bool.{and_from}
 use Rattle.std.proofs.lemmas.List.Folds.{list_all-append}
 use Rattle.std.proofs.lemmas.Iterator.Adapters.{option_map_id}
-use Rattle.std.specs.List.{zip, list_all}
+use Rattle.std.specs.List.{zip}
 use Rattle.json.specs.Token.{Token}
 use Rattle.json.specs.Json.{parse_map, after_end_array}
 use Rattle.serde_json.specs.Data.{Data, array, Items, no_items, item}
