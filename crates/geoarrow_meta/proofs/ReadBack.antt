@@ -1,22 +1,21 @@
 -- A value whose numbers are whole is read back from its text, as deep as texts are read.
-use Rattle.std.proofs.Common.{◌≡◌, ◌≤◌, pos, negsuc, [], ◌++◌, true, Option, None, Some, IfSome, option_map, Ordering, Less, Equal, Greater, nat_cmp, refl, sym, ap, ◌∙◌, arith, append-nil, ltb-true, true≢false}
+use Rattle.std.proofs.Common.{◌≡◌, ◌≤◌, negsuc, [], true, Option, None, Some, IfSome, option_map, Ordering, Less, nat_cmp, refl, sym, ap, ◌∙◌, ltb-true, true≢false}
 use Rattle.std.proofs.lemmas.Bool.{and_parts}
 use Rattle.std.proofs.lemmas.Cmp.{nat_list_cmp_total}
-use Rattle.std.specs.Prelude.{⊤}
 use Rattle.std.specs.Cmp.Lexicographic.{slice_cmp}
 use Rattle.std.specs.Ordering.{is_lt, ordering_reverse}
-use Rattle.json.specs.Lex.{tokens}
 use Rattle.json.specs.Json as json
 use Rattle.json.specs.Tree as tree
 use Rattle.json.proofs.Printed.Decimals.{IsNumber-decimal, IsNumber-signed_decimal}
 use Rattle.json.proofs.Printed.Tokens.{tokens-print}
-use Rattle.json.proofs.Printed.Trees.{value-json_tokens, ArePrintable-json_tokens}
+use Rattle.json.proofs.Printed.Trees.{ArePrintable-json_tokens}
 use Rattle.arrow_values.specs.Tree.{Text}
-use Rattle.serde_json.specs.Data.{Num, unsigned, negative, float, Data, null, boolean, number, string, array, object, Items, no_items, item, Members, no_members, member, put, depth, items_depth, members_depth}
+use Rattle.serde_json.specs.Data.{Num, unsigned, negative, Data, number, array, object, Items, no_items, item, Members, no_members, member, depth}
 use Rattle.serde_json.specs.Read.{number_of, of_json, of_items, of_members, max_depth, read}
 use Rattle.serde_json.specs.Written.{number_text, outline, items_outline, members_outline, compact_text}
 use Rattle.serde_json.proofs.Numbers.{number_of-decimal, number_of-negative}
-use Rattle.serde_json.proofs.Texts.{print-outline}
+use Rattle.value_tokens.specs.Adds.{Prints}
+use Rattle.value_tokens.specs.Printed.{reads_back}
 use Rattle.geoarrow_meta.specs.declared.edges.Edges.{Edges}
 use Rattle.geoarrow_meta.specs.declared.crs.crs_type.CrsType.{CrsType}
 use Rattle.geoarrow_meta.specs.declared.metadata.Metadata.{Metadata}
@@ -24,137 +23,64 @@ use Rattle.geoarrow_meta.specs.Written.{of_parts, meta_value, IsReadBack, NestsW
 use Rattle.geoarrow_meta.proofs.Stands.{nests_within}
 use Rattle.geoarrow_meta.specs.Whole.{is_integer, is_before, is_whole, items_are_whole, members_are_whole}
 
--- ---- members that go in one after another, in order
-
-abbrev joined : Members → Members → Members
-joined no_members ms = ms
-joined (member k d fs) ms = member k d (joined fs ms)
-
-joined-none : (fs : Members) → joined fs no_members ≡ fs
-joined-none no_members = refl
-joined-none (member k d fs) = ap (member k d) (joined-none fs)
-
-joined-joined : (fs : Members) (k : Text) (d : Data) (ms : Members) → joined (joined fs (member k d no_members)) ms ≡ joined fs (member k d ms)
-joined-joined no_members k d ms = refl
-joined-joined (member l e fs) k d ms = ap (member l e) (joined-joined fs k d ms)
-
--- each key of the members is below k
-abbrev AreBelow : Members → Text → Type 0
-AreBelow no_members k = ⊤
-AreBelow (member l e fs) k = (slice_cmp nat_cmp l k ≡ Less) × AreBelow fs k
-
-put_last : (fs : Members) (k : Text) (d : Data) → AreBelow fs k → put k d fs ≡ joined fs (member k d no_members)
-put_last no_members k d h = refl
-put_last (member l e fs) k d h =
-    let above : slice_cmp nat_cmp k l ≡ Greater = nat_list_cmp_total.antisymm k l ∙ ap ordering_reverse h.0 in
-    rw above (ap (member l e) (put_last fs k d h.1))
-
-below_joined : (fs : Members) (k : Text) (d : Data) (l : Text) → AreBelow fs k → slice_cmp nat_cmp k l ≡ Less → AreBelow (joined fs (member k d no_members)) l
-below_joined no_members k d l h first = (first, tt)
-below_joined (member m e fs) k d l h first = (nat_list_cmp_total.trans m k l h.0 first, below_joined fs k d l h.1 first)
-
 less : (o : Ordering) → is_lt o ≡ true → o ≡ Less
 less Less h = refl
-less Equal h = absurd (true≢false (sym h))
-less Greater h = absurd (true≢false (sym h))
+less _ h = absurd (true≢false (sym h))
 
--- the members found are below the first of those that are left
-abbrev AreBelowFirst : Members → Members → Type 0
-AreBelowFirst fs no_members = ⊤
-AreBelowFirst fs (member k d ms) = AreBelow fs k
+before_rest : (k l : Text) (ms : Members) → slice_cmp nat_cmp k l ≡ Less → is_before l ms ≡ true → is_before k ms ≡ true
+before_rest k l no_members first h = refl
+before_rest k l (member m e ms) first h = ap is_lt (nat_list_cmp_total.trans k l m first (less _ h))
 
-below_next : (fs : Members) (k : Text) (d : Data) (ms : Members) → AreBelow fs k → is_before k ms ≡ true → AreBelowFirst (joined fs (member k d no_members)) ms
-below_next fs k d no_members h b = tt
-below_next fs k d (member l e ms) h b = below_joined fs k d l h (less _ b)
+-- ---- the outline of a whole value has the texts of numbers, and is read as the value
 
--- ---- the printed value is read
-
-number_of-number_text : (n : Num) → is_integer n ≡ true → number_of (number_text n) ≡ Some n
-number_of-number_text (unsigned n) h = number_of-decimal n (ltb-true _ _ h)
-number_of-number_text (negative (pos n)) h = absurd (true≢false (sym h))
-number_of-number_text (negative (negsuc n)) h = number_of-negative n (ltb-true _ _ h)
-number_of-number_text (float x) h = absurd (true≢false (sym h))
+whole_number : (n : Num) → is_integer n ≡ true → (option_map number (number_of (number_text n)) ≡ Some (number n)) × tree.HasNumbers (json.number (number_text n))
+whole_number (unsigned n) h = (ap (option_map number) (number_of-decimal n (ltb-true _ _ h)), IsNumber-decimal n (ltb-true _ _ h))
+whole_number (negative (negsuc n)) h = (ap (option_map number) (number_of-negative n (ltb-true _ _ h)), IsNumber-signed_decimal (negsuc n) (ltb-true _ _ h))
+whole_number _ h = absurd (true≢false (sym h))
 
 mutual
-  of_json-outline : (d : Data) → is_whole d ≡ true → of_json (outline d) ≡ Some d
-  of_json-outline null h = refl
-  of_json-outline (boolean b) h = refl
-  of_json-outline (number n) h = ap (option_map number) (number_of-number_text n h)
-  of_json-outline (string s) h = refl
-  of_json-outline (array ds) h = ap (option_map array) (of_items-outline ds h)
-  of_json-outline (object ms) h = ap (option_map object) (of_members-outline no_members ms (none_below ms) h)
+  whole_outline : (d : Data) → is_whole d ≡ true → (of_json (outline d) ≡ Some d) × tree.HasNumbers (outline d)
+  whole_outline (number n) h = whole_number n h
+  whole_outline (array ds) h = let w = whole_items ds h in (ap (option_map array) w.0, w.1)
+  whole_outline (object ms) h = let w = whole_members ms h in (ap (option_map object) w.0, w.1)
+  whole_outline _ h = (refl, tt)
 
-  of_items-outline : (ds : Items) → items_are_whole ds ≡ true → of_items (items_outline ds) ≡ Some ds
-  of_items-outline no_items h = refl
-  of_items-outline (item d ds) h =
+  whole_items : (ds : Items) → items_are_whole ds ≡ true → (of_items (items_outline ds) ≡ Some ds) × tree.ItemsHaveNumbers (items_outline ds)
+  whole_items no_items h = (refl, tt)
+  whole_items (item d ds) h =
       let p = and_parts (is_whole d) _ h in
-      rw (of_json-outline d p.0, of_items-outline ds p.1)
+      let first = whole_outline d p.0 in
+      let rest = whole_items ds p.1 in
+      (rw (first.0, rest.0), (first.1, rest.1))
 
-  none_below : (ms : Members) → AreBelowFirst no_members ms
-  none_below no_members = tt
-  none_below (member k d ms) = tt
-
-  of_members-outline : (fs ms : Members) → AreBelowFirst fs ms → members_are_whole ms ≡ true → of_members (members_outline ms) fs ≡ Some (joined fs ms)
-  of_members-outline fs no_members below h = ap Some (sym (joined-none fs))
-  of_members-outline fs (member k d ms) below h =
+  whole_members : (ms : Members) → members_are_whole ms ≡ true → (of_members (members_outline ms) no_members ≡ Some ms) × tree.MembersHaveNumbers (members_outline ms)
+  whole_members no_members h = (refl, tt)
+  whole_members (member k d ms) h =
       let p = and_parts (is_before k ms) _ h in
       let q = and_parts (is_whole d) _ p.1 in
-      rw (of_json-outline d q.0, put_last fs k d below)
-      (of_members-outline (joined fs (member k d no_members)) ms (below_next fs k d ms below p.0) q.1 ∙ ap Some (joined-joined fs k d ms))
+      let first = whole_outline d q.0 in
+      let rest = whole_members ms q.1 in
+      (rw first.0 (after_first k d no_members ms p.0 q.1 ∙ ap (option_map (member k d)) rest.0), (first.1, rest.1))
 
-number_texts : (n : Num) → is_integer n ≡ true → tree.HasNumbers (json.number (number_text n))
-number_texts (unsigned n) h = IsNumber-decimal n (ltb-true _ _ h)
-number_texts (negative (pos n)) h = absurd (true≢false (sym h))
-number_texts (negative (negsuc n)) h = IsNumber-signed_decimal (negsuc n) (ltb-true _ _ h)
-number_texts (float x) h = absurd (true≢false (sym h))
-
-mutual
-  HasNumbers-outline : (d : Data) → is_whole d ≡ true → tree.HasNumbers (outline d)
-  HasNumbers-outline null h = tt
-  HasNumbers-outline (boolean b) h = tt
-  HasNumbers-outline (number n) h = number_texts n h
-  HasNumbers-outline (string s) h = tt
-  HasNumbers-outline (array ds) h = ItemsHaveNumbers-outline ds h
-  HasNumbers-outline (object ms) h = MembersHaveNumbers-outline ms h
-
-  ItemsHaveNumbers-outline : (ds : Items) → items_are_whole ds ≡ true → tree.ItemsHaveNumbers (items_outline ds)
-  ItemsHaveNumbers-outline no_items h = tt
-  ItemsHaveNumbers-outline (item d ds) h =
-      let p = and_parts (is_whole d) _ h in
-      (HasNumbers-outline d p.0, ItemsHaveNumbers-outline ds p.1)
-
-  MembersHaveNumbers-outline : (ms : Members) → members_are_whole ms ≡ true → tree.MembersHaveNumbers (members_outline ms)
-  MembersHaveNumbers-outline no_members h = tt
-  MembersHaveNumbers-outline (member k d ms) h =
-      let p = and_parts (is_whole d) _ (and_parts (is_before k ms) _ h).1 in
-      (HasNumbers-outline d p.0, MembersHaveNumbers-outline ms p.1)
-
-mutual
-  depth-outline : (d : Data) → tree.depth (outline d) ≤ depth d
-  depth-outline null = omega arith
-  depth-outline (boolean b) = omega arith
-  depth-outline (number n) = omega arith
-  depth-outline (string s) = omega arith
-  depth-outline (array ds) = omega (arith, items_depth-outline ds)
-  depth-outline (object ms) = omega (arith, members_depth-outline ms)
-
-  items_depth-outline : (ds : Items) → tree.items_depth (items_outline ds) ≤ items_depth ds
-  items_depth-outline no_items = omega arith
-  items_depth-outline (item d ds) = omega (arith, depth-outline d, items_depth-outline ds)
-
-  members_depth-outline : (ms : Members) → tree.members_depth (members_outline ms) ≤ members_depth ms
-  members_depth-outline no_members = omega arith
-  members_depth-outline (member k d ms) = omega (arith, depth-outline d, members_depth-outline ms)
+  -- a member before all that come stays the first
+  after_first : (k : Text) (d : Data) (fs ms : Members) → is_before k ms ≡ true → members_are_whole ms ≡ true
+      → of_members (members_outline ms) (member k d fs) ≡ option_map (member k d) (of_members (members_outline ms) fs)
+  after_first k d fs no_members before h = refl
+  after_first k d fs (member l e ms) before h =
+      let p = and_parts (is_before l ms) _ h in
+      let q = and_parts (is_whole e) _ p.1 in
+      let first = less _ before in
+      let above = nat_list_cmp_total.antisymm l k ∙ ap ordering_reverse first in
+      rw ((whole_outline e q.0).0, above) (after_first k d _ ms (before_rest k l ms first p.0) q.1)
 
 -- the text of a whole value is read as that value
 pub read-compact_text : (d : Data) → is_whole d ≡ true → depth d ≤ max_depth → read (compact_text d) ≡ Some d
 read-compact_text d whole shallow =
-    let j = outline d in
-    let text : tokens (compact_text d) ≡ tree.json_tokens j ++ [] =
-    ap tokens (sym (print-outline d)) ∙ tokens-print (tree.json_tokens j) (ArePrintable-json_tokens j (HasNumbers-outline d whole)) ∙ sym (append-nil _) in
-    let value : json.value max_depth (tokens (compact_text d)) ≡ Some (j, []) =
-    ap (json.value max_depth) text ∙ value-json_tokens j max_depth [] (omega (arith, depth-outline d)) in
-    rw value (of_json-outline d whole)
+    let w = whole_outline d whole in
+    let ts = tree.json_tokens (outline d) in
+    let prints : Prints d (record { before = []; tokens = []; spare = 0 }) (record { before = []; tokens = ts; spare = 0 }) =
+    record { adds = record { tokens = refl; before = refl }; reads_back = w.0 } in
+    reads_back d refl prints (tokens-print ts (ArePrintable-json_tokens (outline d) w.1)) shallow
 
 -- ---- the value of a metadata is read
 
