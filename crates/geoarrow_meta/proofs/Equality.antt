@@ -1,14 +1,15 @@
 -- The derived `==` of CRS and of metadata answers true exactly at equal values.
 use Rattle.std.proofs.Common.{◌≡◌, Bool, ◌&&◌, Option, None, Some, refl, ap}
+use denote.Enum.Bare.{same_true, true_same}
 use Rattle.std.specs.Bool.{Decides}
 use Rattle.std.specs.Option.{option_eq}
 use Rattle.geoarrow_meta.specs.Same.{same, same-Decides, both, along, apart}
 use Rattle.geoarrow_meta.specs.declared.edges.Edges.{Edges}
-use Rattle.geoarrow_meta.specs.declared.edges.Edges.TheVariants.{Andoyer, Karney, Spherical, Thomas, Vincenty}
 use Rattle.geoarrow_meta.specs.declared.crs.crs_type.CrsType.{CrsType}
-use Rattle.geoarrow_meta.specs.declared.crs.crs_type.CrsType.TheVariants.{Projjson, Wkt2_2019, AuthorityCode, Srid}
 use Rattle.geoarrow_meta.specs.declared.crs.Crs.{Crs}
 use Rattle.geoarrow_meta.specs.declared.metadata.Metadata.{Metadata}
+use Rattle.geoarrow_meta.specs.contracts.crs.crs_type.CrsType.{the_type as type_of_crs_type}
+use Rattle.geoarrow_meta.specs.contracts.edges.Edges.{the_type as type_of_edges}
 use Rattle.geoarrow_meta.specs.contracts.crs.crs_type.CrsTypePartialEq.TheImpl as crs_types
 use Rattle.geoarrow_meta.specs.contracts.edges.EdgesPartialEq.TheImpl as edges
 
@@ -18,19 +19,10 @@ option-Decides E d (Some x) (Some y) = along _ (d x y) (λ e. ap Some e) (λ p. 
 option-Decides E d _ _ = apart (λ p. cc)
 
 crs_type-Decides : (a b : CrsType) → Decides ((crs_types.eq-value).it a b) (a ≡ b)
-crs_type-Decides Projjson Projjson = (λ h. refl, λ p. refl)
-crs_type-Decides Wkt2_2019 Wkt2_2019 = (λ h. refl, λ p. refl)
-crs_type-Decides AuthorityCode AuthorityCode = (λ h. refl, λ p. refl)
-crs_type-Decides Srid Srid = (λ h. refl, λ p. refl)
-crs_type-Decides _ _ = apart (λ p. cc)
+crs_type-Decides a b = (same_true type_of_crs_type tt a b, true_same type_of_crs_type a b)
 
 edges-Decides : (a b : Edges) → Decides ((edges.eq-value).it a b) (a ≡ b)
-edges-Decides Andoyer Andoyer = (λ h. refl, λ p. refl)
-edges-Decides Karney Karney = (λ h. refl, λ p. refl)
-edges-Decides Spherical Spherical = (λ h. refl, λ p. refl)
-edges-Decides Thomas Thomas = (λ h. refl, λ p. refl)
-edges-Decides Vincenty Vincenty = (λ h. refl, λ p. refl)
-edges-Decides _ _ = apart (λ p. cc)
+edges-Decides a b = (same_true type_of_edges tt a b, true_same type_of_edges a b)
 
 -- the test of the derived `==` of CRS
 abbrev pub same_crs : Crs → Crs → Bool

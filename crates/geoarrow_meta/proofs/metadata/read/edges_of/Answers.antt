@@ -1,10 +1,6 @@
-use Rattle.std.proofs.Common.{option_map, ◌∙◌, subst}
 use Rattle.geoarrow_meta.specs.Names.{edges_text}
-use Rattle.geoarrow_meta.specs.Slots.{IsWord}
-use Rattle.geoarrow_meta.proofs.Slots.{texts_written}
+use Rattle.geoarrow_meta.proofs.Slots.{no_name}
 use Rattle.geoarrow_meta.proofs.metadata.read.edges_of.Goals as goal
 
 pub returns-in-Other : goal.returns-in-Other
-returns-in-Other c found word =
-    let other = subst (λ w. IsWord w found) c.in-Other.is word in
-    λ o e. other (option_map edges_text o) (texts_written edges_text o ∙ e)
+returns-in-Other c found word = no_name edges_text found (rw c.in-Other.is at word)

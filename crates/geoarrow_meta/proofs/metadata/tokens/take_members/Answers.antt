@@ -1,9 +1,8 @@
-use Rattle.std.proofs.Common.{◌≡◌, Some, arith, ◌∙◌}
-use Rattle.json.specs.Json.{read_key}
+use Rattle.std.proofs.Common.{Some, arith, ◌∙◌}
 use Rattle.value_tokens.specs.Next.{next_value}
-use Rattle.value_tokens.specs.Turns.{after_some, key_refused, member_refused, members_over}
+use Rattle.value_tokens.specs.Turns.{after_some, key_refused, members_over}
 use Rattle.geoarrow_meta.specs.Read.{present}
-use Rattle.geoarrow_meta.proofs.Slots.{slots_start, slots_go_on, crs_put, crs_type_put, edges_put, other_put}
+use Rattle.geoarrow_meta.proofs.Slots.{slots_start, slots_refused, slots_go_on, crs_put, crs_type_put, edges_put, other_put}
 use Rattle.geoarrow_meta.proofs.metadata.tokens.take_members.Goals as goal
 
 pub slots-init : goal.slots-init
@@ -16,75 +15,42 @@ returns-in_err-key-clause-text c refused =
 
 pub returns-in_err-crs-in-crs-clause-text : goal.returns-in_err-crs-in-crs-clause-text
 returns-in_err-crs-in-crs-clause-text c refused =
-    let l = c.slots in
-    let k = c.in-Some.key.now in
-    let s = c.next_key.new.self in
-    let named : read_key l.reader ≡ Some (Some k, s) = grind arith in
-    l.invariant.decides ∙ member_refused c.args.depth l.invariant.found k l.reader s named (c.take_crs.ensures.text (grind arith))
+    slots_refused c.slots.invariant c.in-Some.key.now c.next_key.new.self (grind arith) (c.take_crs.ensures.text (grind arith))
 
 pub slots-preserved-then-str_eq : goal.slots-preserved-then-str_eq
 slots-preserved-then-str_eq c =
-    let l = c.slots in
-    let k = c.in-Some.key.now in
-    let s = c.next_key.new.self in
-    let named : read_key l.reader ≡ Some (Some k, s) = grind arith in
     let read = c.in_ok-crs-in-crs.ensures.ok in
-    slots_go_on c.args.depth c.args.reader.now l.reader s c.take_crs.new.reader k read.0 _ _ _ _ _ _ l.invariant named read.1
-    (crs_put k read.0 l.invariant.found _ _ _ l.invariant.slots _ c.in-crs.is read.2)
+    slots_go_on c.slots.invariant c.in-Some.key.now c.next_key.new.self (grind arith) read.1 (crs_put _ _ c.slots.invariant.slots c.in-crs.is read.2)
 
 pub returns-in_err-take_word-in-crs_type-clause-text : goal.returns-in_err-take_word-in-crs_type-clause-text
 returns-in_err-take_word-in-crs_type-clause-text c refused =
-    let l = c.slots in
-    let k = c.in-Some.key.now in
-    let s = c.next_key.new.self in
-    let named : read_key l.reader ≡ Some (Some k, s) = grind arith in
-    l.invariant.decides ∙ member_refused c.args.depth l.invariant.found k l.reader s named (c.take_word.ensures.text (grind arith))
+    slots_refused c.slots.invariant c.in-Some.key.now c.next_key.new.self (grind arith) (c.take_word.ensures.text (grind arith))
 
 pub slots-preserved-then-str_eq-2 : goal.slots-preserved-then-str_eq-2
 slots-preserved-then-str_eq-2 c =
-    let l = c.slots in
-    let k = c.in-Some.key.now in
-    let s = c.next_key.new.self in
-    let named : read_key l.reader ≡ Some (Some k, s) = grind arith in
     let read = c.in_ok-take_word-in-crs_type.ensures.ok in
-    slots_go_on c.args.depth c.args.reader.now l.reader s c.take_word.new.reader k read.0 _ _ _ _ _ _ l.invariant named read.1
-    (crs_type_put k read.0 l.invariant.found _ _ _ l.invariant.slots _ c.in-crs_type.is (c.crs_type_of-crs_type.ensures (present (Some read.0)) read.2))
+    slots_go_on c.slots.invariant c.in-Some.key.now c.next_key.new.self (grind arith) read.1
+    (crs_type_put _ _ c.slots.invariant.slots c.in-crs_type.is (c.crs_type_of-crs_type.ensures (present (Some read.0)) read.2))
 
 pub returns-in_err-take_word-in-edges-clause-text : goal.returns-in_err-take_word-in-edges-clause-text
 returns-in_err-take_word-in-edges-clause-text c refused =
-    let l = c.slots in
-    let k = c.in-Some.key.now in
-    let s = c.next_key.new.self in
-    let named : read_key l.reader ≡ Some (Some k, s) = grind arith in
-    l.invariant.decides ∙ member_refused c.args.depth l.invariant.found k l.reader s named (c.take_word-in-edges.ensures.text (grind arith))
+    slots_refused c.slots.invariant c.in-Some.key.now c.next_key.new.self (grind arith) (c.take_word-in-edges.ensures.text (grind arith))
 
 pub slots-preserved-then-str_eq-3 : goal.slots-preserved-then-str_eq-3
 slots-preserved-then-str_eq-3 c =
-    let l = c.slots in
-    let k = c.in-Some.key.now in
-    let s = c.next_key.new.self in
-    let named : read_key l.reader ≡ Some (Some k, s) = grind arith in
     let read = c.in_ok-take_word-in-edges.ensures.ok in
-    slots_go_on c.args.depth c.args.reader.now l.reader s c.take_word-in-edges.new.reader k read.0 _ _ _ _ _ _ l.invariant named read.1
-    (edges_put k read.0 l.invariant.found _ _ _ l.invariant.slots _ c.in-edges.is (c.edges_of-edges.ensures (present (Some read.0)) read.2))
+    slots_go_on c.slots.invariant c.in-Some.key.now c.next_key.new.self (grind arith) read.1
+    (edges_put _ _ c.slots.invariant.slots c.in-edges.is (c.edges_of-edges.ensures (present (Some read.0)) read.2))
 
 pub slots-preserved : goal.slots-preserved
 slots-preserved c =
-    let l = c.slots in
-    let k = c.in-Some.key.now in
-    let s = c.next_key.new.self in
-    let named : read_key l.reader ≡ Some (Some k, s) = grind arith in
-    let d = after_some (next_value c.args.depth s) c.skip_value.new.reader c.in_ok-skip_value-in_default-key.ensures.ok in
-    slots_go_on c.args.depth c.args.reader.now l.reader s c.skip_value.new.reader k d.0 _ _ _ _ _ _ l.invariant named d.1
-    (other_put k d.0 l.invariant.found _ _ _ l.invariant.slots c.in_default-key.not-crs c.in_default-key.not-crs_type c.in_default-key.not-edges)
+    let d = after_some (next_value c.args.depth c.next_key.new.self) c.skip_value.new.reader c.in_ok-skip_value-in_default-key.ensures.ok in
+    slots_go_on c.slots.invariant c.in-Some.key.now c.next_key.new.self (grind arith) d.1
+    (other_put _ _ c.slots.invariant.slots c.in_default-key.not-crs c.in_default-key.not-crs_type c.in_default-key.not-edges)
 
 pub returns-in_err-skip_value-in_default-key-clause-text : goal.returns-in_err-skip_value-in_default-key-clause-text
 returns-in_err-skip_value-in_default-key-clause-text c refused =
-    let l = c.slots in
-    let k = c.in-Some.key.now in
-    let s = c.next_key.new.self in
-    let named : read_key l.reader ≡ Some (Some k, s) = grind arith in
-    l.invariant.decides ∙ member_refused c.args.depth l.invariant.found k l.reader s named (c.skip_value.ensures.text (grind arith))
+    slots_refused c.slots.invariant c.in-Some.key.now c.next_key.new.self (grind arith) (c.skip_value.ensures.text (grind arith))
 
 pub returns-clause-ok : goal.returns-clause-ok
 returns-clause-ok c =
