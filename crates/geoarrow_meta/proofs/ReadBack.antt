@@ -87,12 +87,11 @@ read-compact_text d whole shallow =
 -- the value of a metadata whose CRS value is whole is whole
 meta_value-whole : (v : Option Data) (t : Option CrsType) (e : Option Edges) → IfSome v (λ d. is_whole d ≡ true) → IfSome (meta_value (of_parts v t e)) (λ d. is_whole d ≡ true)
 meta_value-whole None t None h = tt
-meta_value-whole None None (Some e) h = refl
-meta_value-whole None (Some t) (Some e) h = refl
+meta_value-whole None None _ h = refl
+meta_value-whole None _ _ h = refl
 meta_value-whole (Some d) None None h = rw h refl
-meta_value-whole (Some d) None (Some e) h = rw h refl
 meta_value-whole (Some d) (Some t) None h = rw h refl
-meta_value-whole (Some d) (Some t) (Some e) h = rw h refl
+meta_value-whole _ _ _ h = rw h refl
 
 read_back : (o : Option Data) → IfSome o (λ d. is_whole d ≡ true) → NestsWithin max_depth o → IsReadBack o
 read_back None h k = tt

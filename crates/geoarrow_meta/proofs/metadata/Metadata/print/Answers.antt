@@ -7,20 +7,16 @@ use Rattle.serde_json.specs.Read.{max_depth}
 use Rattle.geoarrow_meta.proofs.Stands.{meta_written}
 use Rattle.geoarrow_meta.proofs.metadata.Metadata.print.Goals as goal
 
-pub returns-clause-text : goal.returns-clause-text
-returns-clause-text c =
+pub returns : goal.returns
+returns c =
     let m = c.args.self.now in
     let d = written m.crs.value m.crs.crs_type m.edges in
     let bare : is_bare m.crs.value m.edges ≡ false = search rules in
+    let is = sym (meta_written m.crs.value m.crs.crs_type m.edges bare) in
     let prints : Prints d c.new-out.result c.print_parts.new.out = rw (← c.crs_value-value.ensures.value, ← c.crs_type.ensures) c.in_ok-print_parts.ensures in
     let text = printed d (c.new-out.ensures.before ∙ c.in_ok-with_capacity.ensures.items) c.new-out.ensures.tokens prints c.into_inner.ensures.items in
-    ap Some (ap (λ b. b.items) c.from_utf8_unchecked.ensures.value ∙ text) ∙ sym (ap (option_map compact_text) (meta_written m.crs.value m.crs.crs_type m.edges bare))
-
-pub returns-clause-read_back : goal.returns-clause-read_back
-returns-clause-read_back c =
-    let m = c.args.self.now in
-    let d = written m.crs.value m.crs.crs_type m.edges in
-    let bare : is_bare m.crs.value m.edges ≡ false = search rules in
-    let prints : Prints d c.new-out.result c.print_parts.new.out = rw (← c.crs_value-value.ensures.value, ← c.crs_type.ensures) c.in_ok-print_parts.ensures in
-    subst (λ o. NestsWithin max_depth o → IsReadBack o) (sym (meta_written m.crs.value m.crs.crs_type m.edges bare))
-    (λ shallow. reads_back d c.new-out.ensures.tokens prints c.into_inner.ensures.reads_back shallow)
+    record {
+      text = ap Some (ap (λ b. b.items) c.from_utf8_unchecked.ensures.value ∙ text) ∙ ap (option_map compact_text) is;
+      read_back = subst (λ o. NestsWithin max_depth o → IsReadBack o) is (reads_back d c.new-out.ensures.tokens prints c.into_inner.ensures.reads_back);
+      valid = search rules;
+    }

@@ -9,19 +9,16 @@ use Rattle.geoarrow_meta.proofs.metadata.tokens.take_word.Goals as goal
 
 pub returns-in_err-token-clause-text : goal.returns-in_err-token-clause-text
 returns-in_err-token-clause-text c refused =
-    let empty : c.args.reader.now ≡ [] = grind arith in
-    no_value c.args.depth c.args.reader.now empty
+    no_value c.args.depth c.args.reader.now (grind arith)
 
 pub returns-in-String-clause-ok : goal.returns-in-String-clause-ok
 returns-in-String-clause-ok c =
-    let first : c.args.reader.now ≡ token_of c.in_ok-token.token ∷ c.next.new.self = grind arith in
-    let is : c.args.reader.now ≡ Token.string c.in-String.text.now ∷ c.next.new.self = grind (arith, first) in
+    let is : c.args.reader.now ≡ Token.string c.in-String.text.now ∷ c.next.new.self = grind arith in
     (_, ap (next_value c.args.depth) is ∙ next_string c.args.depth c.in-String.text.now c.next.new.self, refl)
 
 pub returns-in-Null-clause-ok : goal.returns-in-Null-clause-ok
 returns-in-Null-clause-ok c =
-    let first : c.args.reader.now ≡ token_of c.in_ok-token.token ∷ c.next.new.self = grind arith in
-    let is : c.args.reader.now ≡ Token.null ∷ c.next.new.self = grind (arith, first) in
+    let is : c.args.reader.now ≡ Token.null ∷ c.next.new.self = grind arith in
     (_, ap (next_value c.args.depth) is ∙ next_null c.args.depth c.next.new.self, refl)
 
 pub returns-in_ok-skip_rest-in_default : goal.returns-in_ok-skip_rest-in_default
