@@ -1,4 +1,4 @@
-use Rattle.std.proofs.Common.{arith, ◌≡◌, ◌∷◌, [], length, ap, ap₂, ◌∙◌}
+use Rattle.std.proofs.Common.{arith, ◌≡◌, ◌∷◌, length, ap, ap₂, ◌∙◌}
 use Rattle.json.specs.Reads.{token_of}
 use Rattle.value_tokens.specs.Next.{next_value}
 use Rattle.value_tokens.specs.Turns.{no_value, value-object, object_too_deep}
@@ -6,9 +6,7 @@ use Rattle.value_tokens.specs.Beginnings.{passed, no_object}
 use Rattle.value_tokens.proofs.open.open_object.Goals as goal
 
 pub returns-in_err-token-clause-text : goal.returns-in_err-token-clause-text
-returns-in_err-token-clause-text c refused =
-    let empty : c.args.reader.now ≡ [] = grind arith in
-    no_value c.args.depth c.args.reader.now empty
+returns-in_err-token-clause-text c refused = no_value c.args.depth c.args.reader.now (grind arith)
 
 pub returns-then-depth-eq0-clause-text : goal.returns-then-depth-eq0-clause-text
 returns-then-depth-eq0-clause-text c refused =
@@ -24,7 +22,6 @@ returns-else-depth-eq0-clause-ok c =
 pub returns-in_ok-skip_rest-in_default : goal.returns-in_ok-skip_rest-in_default
 returns-in_ok-skip_rest-in_default c =
     let first : c.args.reader.now ≡ token_of c.in_ok-token.token ∷ c.next.new.self = grind arith in
-    let less = c.in_ok-skip_rest-in_default.ensures.shorter in
     let far : length c.args.reader.now ≡ length (token_of c.in_ok-token.token ∷ c.next.new.self) = ap length first in
     let d = passed c.args.depth c.in_ok-token.token c.args.reader.now c.next.new.self c.skip_rest.new.reader first c.in_ok-skip_rest-in_default.ensures.ok in
-    record { ok = (d.0, d.1, no_object c.in_ok-token.token d.0 d.2 c.in_default.not-BeginObject); shorter = omega arith; text = λ never. cc; never_memory = λ is. cc }
+    record { ok = (d.0, d.1, no_object c.in_ok-token.token d.0 d.2 c.in_default.not-BeginObject); shorter = omega (arith, c.in_ok-skip_rest-in_default.ensures.shorter); text = λ never. cc; never_memory = λ is. cc }

@@ -1,4 +1,4 @@
-use Rattle.std.proofs.Common.{arith, ◌≡◌, ◌∷◌, [], length, refl, sym, ap, ◌∙◌}
+use Rattle.std.proofs.Common.{arith, ◌≡◌, ◌∷◌, length, refl, sym, ap, ◌∙◌}
 use Rattle.json.specs.Token.{Token}
 use Rattle.json.specs.Reads.{token_of}
 use Rattle.value_tokens.specs.Next.{next_value}
@@ -7,20 +7,16 @@ use Rattle.value_tokens.specs.Beginnings.{passed, next_boolean, no_truth}
 use Rattle.value_tokens.proofs.scalars.read_bool.Goals as goal
 
 pub returns-in_err-token-clause-text : goal.returns-in_err-token-clause-text
-returns-in_err-token-clause-text c refused =
-    let empty : c.args.reader.now ≡ [] = grind arith in
-    no_value c.args.depth c.args.reader.now empty
+returns-in_err-token-clause-text c refused = no_value c.args.depth c.args.reader.now (grind arith)
 
 pub returns-in-Bool-clause-ok : goal.returns-in-Bool-clause-ok
 returns-in-Bool-clause-ok c =
-    let first : c.args.reader.now ≡ token_of c.in_ok-token.token ∷ c.next.new.self = grind arith in
-    let is : c.args.reader.now ≡ Token.boolean c.in-Bool.truth ∷ c.next.new.self = grind (arith, first) in
+    let is : c.args.reader.now ≡ Token.boolean c.in-Bool.truth ∷ c.next.new.self = grind arith in
     (_, ap (next_value c.args.depth) is ∙ next_boolean c.args.depth c.in-Bool.truth c.next.new.self, refl)
 
 pub returns-in_ok-skip_rest-in_default : goal.returns-in_ok-skip_rest-in_default
 returns-in_ok-skip_rest-in_default c =
     let first : c.args.reader.now ≡ token_of c.in_ok-token.token ∷ c.next.new.self = grind arith in
-    let less = c.in_ok-skip_rest-in_default.ensures.shorter in
     let far : length c.args.reader.now ≡ length (token_of c.in_ok-token.token ∷ c.next.new.self) = ap length first in
     let d = passed c.args.depth c.in_ok-token.token c.args.reader.now c.next.new.self c.skip_rest.new.reader first c.in_ok-skip_rest-in_default.ensures.ok in
-    record { ok = (d.0, d.1, sym (no_truth c.in_ok-token.token d.0 d.2 c.in_default.not-Bool)); shorter = omega arith; text = λ never. cc; never_memory = λ is. cc }
+    record { ok = (d.0, d.1, sym (no_truth c.in_ok-token.token d.0 d.2 c.in_default.not-Bool)); shorter = omega (arith, c.in_ok-skip_rest-in_default.ensures.shorter); text = λ never. cc; never_memory = λ is. cc }

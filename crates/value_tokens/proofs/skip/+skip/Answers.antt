@@ -1,7 +1,7 @@
-use Rattle.std.proofs.Common.{arith, ◌≡◌, ◌-◌, ◌∷◌, [], Some, None, ap, ap₂, ◌∙◌}
+use Rattle.std.proofs.Common.{arith, ◌≡◌, ◌-◌, ◌∷◌, ap, ap₂, ◌∙◌}
 use Rattle.std.proofs.lemmas.Result.{on_ok_weaker}
 use Rattle.json.specs.Token.{Token}
-use Rattle.json.specs.Json.{parse_map, after_end_array, read_key}
+use Rattle.json.specs.Json.{parse_map}
 use Rattle.json.specs.Reads.{token_of}
 use Rattle.serde_json.specs.Data.{array, object, no_members}
 use Rattle.value_tokens.specs.Next.{next_value, next_items, next_members, after}
@@ -12,23 +12,19 @@ use Rattle.value_tokens.proofs.skip.+skip.Goals as goal
 pub skip_items-returns-in_err-token-clause-text : goal.skip_items-returns-in_err-token-clause-text
 skip_items-returns-in_err-token-clause-text t c refused =
     let l = c.items in
-    let going : (after_end_array l.reader ≡ None) × (c.take_end_array.new.self ≡ l.reader) = grind arith in
-    let empty : l.reader ≡ [] = grind arith in
-    items_stop c.args.depth c.args.reader.now l.reader l.invariant (item_refused c.args.depth l.reader going.0 (no_value c.args.depth l.reader empty))
+    items_stop c.args.depth c.args.reader.now l.reader l.invariant (item_refused c.args.depth l.reader (grind arith) (no_value c.args.depth l.reader (grind arith)))
 
 pub skip_items-items-preserved : goal.skip_items-items-preserved
 skip_items-items-preserved t c =
     let l = c.items in
-    let going : (after_end_array l.reader ≡ None) × (c.take_end_array.new.self ≡ l.reader) = grind arith in
     let first : l.reader ≡ token_of c.in_ok-token.token ∷ c.next.new.self = grind arith in
-    items_go_on c.args.depth c.args.reader.now l.reader c.skip_rest.new.reader l.invariant going.0 (rw first c.in_ok-skip_rest.ensures.ok)
+    items_go_on c.args.depth c.args.reader.now l.reader c.skip_rest.new.reader l.invariant (grind arith) (rw first c.in_ok-skip_rest.ensures.ok)
 
 pub skip_items-returns-in_err-skip_rest-clause-text : goal.skip_items-returns-in_err-skip_rest-clause-text
 skip_items-returns-in_err-skip_rest-clause-text t c refused =
     let l = c.items in
-    let going : (after_end_array l.reader ≡ None) × (c.take_end_array.new.self ≡ l.reader) = grind arith in
     let first : l.reader ≡ token_of c.in_ok-token.token ∷ c.next.new.self = grind arith in
-    items_stop c.args.depth c.args.reader.now l.reader l.invariant (item_refused c.args.depth l.reader going.0 (rw first (c.skip_rest.ensures.text (grind arith))))
+    items_stop c.args.depth c.args.reader.now l.reader l.invariant (item_refused c.args.depth l.reader (grind arith) (rw first (c.skip_rest.ensures.text (grind arith))))
 
 pub skip_items-returns-clause-ok : goal.skip_items-returns-clause-ok
 skip_items-returns-clause-ok t c =
@@ -46,25 +42,21 @@ skip_members-returns-in_err-next_key-clause-text t c refused =
 pub skip_members-returns-in_err-token-clause-text : goal.skip_members-returns-in_err-token-clause-text
 skip_members-returns-in_err-token-clause-text t c refused =
     let l = c.members in
-    let named : read_key l.reader ≡ Some (Some c.in-Some.field-0.now, c.next_key.new.self) = grind arith in
-    let empty : c.next_key.new.self ≡ [] = grind arith in
     members_stop c.args.depth c.args.reader.now l.reader l.invariant
-    (λ more. member_refused c.args.depth more c.in-Some.field-0.now l.reader c.next_key.new.self named (no_value c.args.depth c.next_key.new.self empty))
+    (λ more. member_refused c.args.depth more c.in-Some.field-0.now l.reader c.next_key.new.self (grind arith) (no_value c.args.depth c.next_key.new.self (grind arith)))
 
 pub skip_members-members-preserved : goal.skip_members-members-preserved
 skip_members-members-preserved t c =
     let l = c.members in
-    let named : read_key l.reader ≡ Some (Some c.in-Some.field-0.now, c.next_key.new.self) = grind arith in
     let first : c.next_key.new.self ≡ token_of c.in_ok-token.token ∷ c.next.new.self = grind arith in
-    members_go_on c.args.depth c.args.reader.now l.reader c.next_key.new.self c.skip_rest.new.reader c.in-Some.field-0.now l.invariant named (rw first c.in_ok-skip_rest.ensures.ok)
+    members_go_on c.args.depth c.args.reader.now l.reader c.next_key.new.self c.skip_rest.new.reader c.in-Some.field-0.now l.invariant (grind arith) (rw first c.in_ok-skip_rest.ensures.ok)
 
 pub skip_members-returns-in_err-skip_rest-clause-text : goal.skip_members-returns-in_err-skip_rest-clause-text
 skip_members-returns-in_err-skip_rest-clause-text t c refused =
     let l = c.members in
-    let named : read_key l.reader ≡ Some (Some c.in-Some.field-0.now, c.next_key.new.self) = grind arith in
     let first : c.next_key.new.self ≡ token_of c.in_ok-token.token ∷ c.next.new.self = grind arith in
     members_stop c.args.depth c.args.reader.now l.reader l.invariant
-    (λ more. member_refused c.args.depth more c.in-Some.field-0.now l.reader c.next_key.new.self named (rw first (c.skip_rest.ensures.text (grind arith))))
+    (λ more. member_refused c.args.depth more c.in-Some.field-0.now l.reader c.next_key.new.self (grind arith) (rw first (c.skip_rest.ensures.text (grind arith))))
 
 pub skip_members-returns-clause-ok : goal.skip_members-returns-clause-ok
 skip_members-returns-clause-ok t c =

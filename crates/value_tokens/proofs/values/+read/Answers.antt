@@ -1,4 +1,4 @@
-use Rattle.std.proofs.Common.{◌≡◌, ◌<◌, [], ◌∷◌, length, Some, None, option_map, sym, ap, ap₂, ◌∙◌, arith, rules}
+use Rattle.std.proofs.Common.{◌≡◌, ◌<◌, ◌∷◌, length, Some, None, option_map, sym, ap, ap₂, ◌∙◌, arith, rules}
 use Rattle.json.specs.Token.{Token}
 use Rattle.json.specs.Json.{parse_map, after_end_array, read_key}
 use Rattle.json.specs.Reads.{token_of}
@@ -14,9 +14,7 @@ use Rattle.value_tokens.specs.Turns.{no_value, plain, array_too_deep, object_too
 use Rattle.value_tokens.proofs.values.+read.Goals as goal
 
 pub read_value-returns-in_err-token-clause-text : goal.read_value-returns-in_err-token-clause-text
-read_value-returns-in_err-token-clause-text t c refused =
-    let empty : c.args.reader.now ≡ [] = grind arith in
-    no_value c.args.depth c.args.reader.now empty
+read_value-returns-in_err-token-clause-text t c refused = no_value c.args.depth c.args.reader.now (grind arith)
 
 pub read_value-returns-then-depth-eq0-clause-text : goal.read_value-returns-then-depth-eq0-clause-text
 read_value-returns-then-depth-eq0-clause-text t c refused =
@@ -44,44 +42,38 @@ read_value-returns-in_err-read_members-in-BeginObject-clause-text t c refused =
 
 pub read_value-returns-in_ok-from_str-in-String-clause-ok : goal.read_value-returns-in_ok-from_str-in-String-clause-ok
 read_value-returns-in_ok-from_str-in-String-clause-ok t c =
-    let first : c.args.reader.now ≡ token_of c.in_ok-token.token ∷ c.next.new.self = grind arith in
-    let is : c.args.reader.now ≡ Token.string c.in-String.text.now ∷ c.next.new.self = grind (arith, first) in
+    let is : c.args.reader.now ≡ Token.string c.in-String.text.now ∷ c.next.new.self = grind arith in
     let seen : view (String c.in_ok-from_str-in-String.field-0) ≡ string c.in-String.text.now = search (rules, the_lemmas) in
     ap (next_value c.args.depth) is ∙ next_string c.args.depth c.in-String.text.now c.next.new.self ∙ ap (λ d. Some (d, c.next.new.self)) (sym seen)
 
 pub read_value-returns-in-Bool-clause-ok : goal.read_value-returns-in-Bool-clause-ok
 read_value-returns-in-Bool-clause-ok t c =
-    let first : c.args.reader.now ≡ token_of c.in_ok-token.token ∷ c.next.new.self = grind arith in
-    let is : c.args.reader.now ≡ Token.boolean c.in-Bool.truth ∷ c.next.new.self = grind (arith, first) in
+    let is : c.args.reader.now ≡ Token.boolean c.in-Bool.truth ∷ c.next.new.self = grind arith in
     let seen : view (Bool c.in-Bool.truth) ≡ boolean c.in-Bool.truth = search (rules, the_lemmas) in
     ap (next_value c.args.depth) is ∙ next_boolean c.args.depth c.in-Bool.truth c.next.new.self ∙ ap (λ d. Some (d, c.next.new.self)) (sym seen)
 
 pub read_value-returns-in-Null-clause-ok : goal.read_value-returns-in-Null-clause-ok
 read_value-returns-in-Null-clause-ok t c =
-    let first : c.args.reader.now ≡ token_of c.in_ok-token.token ∷ c.next.new.self = grind arith in
-    let is : c.args.reader.now ≡ Token.null ∷ c.next.new.self = grind (arith, first) in
+    let is : c.args.reader.now ≡ Token.null ∷ c.next.new.self = grind arith in
     let seen : view (Null) ≡ null = search (rules, the_lemmas) in
     ap (next_value c.args.depth) is ∙ next_null c.args.depth c.next.new.self ∙ ap (λ d. Some (d, c.next.new.self)) (sym seen)
 
 pub read_value-returns-in-Some-clause-ok : goal.read_value-returns-in-Some-clause-ok
 read_value-returns-in-Some-clause-ok t c =
-    let first : c.args.reader.now ≡ token_of c.in_ok-token.token ∷ c.next.new.self = grind arith in
-    let is : c.args.reader.now ≡ Token.number c.in-Number.text.now ∷ c.next.new.self = grind (arith, first) in
+    let is : c.args.reader.now ≡ Token.number c.in-Number.text.now ∷ c.next.new.self = grind arith in
     let seen : view (Number c.in-Some.number) ≡ number (number_view c.in-Some.number) = search (rules, the_lemmas) in
     ap (next_value c.args.depth) is ∙ next_number c.args.depth c.in-Number.text.now c.next.new.self
     ∙ ap (option_map (λ n. (number n, c.next.new.self))) (sym c.in-Some.ensures) ∙ ap (λ d. Some (d, c.next.new.self)) (sym seen)
 
 pub read_value-returns-in-None-clause-text : goal.read_value-returns-in-None-clause-text
 read_value-returns-in-None-clause-text t c refused =
-    let first : c.args.reader.now ≡ token_of c.in_ok-token.token ∷ c.next.new.self = grind arith in
-    let is : c.args.reader.now ≡ Token.number c.in-Number.text.now ∷ c.next.new.self = grind (arith, first) in
+    let is : c.args.reader.now ≡ Token.number c.in-Number.text.now ∷ c.next.new.self = grind arith in
     ap (next_value c.args.depth) is ∙ next_number c.args.depth c.in-Number.text.now c.next.new.self ∙ ap (option_map (λ n. (number n, c.next.new.self))) (sym c.in-None.ensures)
 
 pub read_value-returns-in-EndObject-clause-text : goal.read_value-returns-in-EndObject-clause-text
 read_value-returns-in-EndObject-clause-text t c refused =
     let first : c.args.reader.now ≡ token_of c.in_ok-token.token ∷ c.next.new.self = grind arith in
-    let none : next_value c.args.depth (token_of c.in_ok-token.token ∷ c.next.new.self) ≡ None = rw (plain c.args.depth (token_of c.in_ok-token.token) c.next.new.self) (grind arith) in
-    ap (next_value c.args.depth) first ∙ none
+    rw (first, plain c.args.depth (token_of c.in_ok-token.token) c.next.new.self) (grind arith)
 
 pub read_value-returns-in_ok-read_items-in-BeginArray-clause-ok : goal.read_value-returns-in_ok-read_items-in-BeginArray-clause-ok
 read_value-returns-in_ok-read_items-in-BeginArray-clause-ok t c =
@@ -141,10 +133,8 @@ read_members-returns-in_err-name-clause-text t c refused =
 pub read_members-returns-in_err-member-clause-text : goal.read_members-returns-in_err-member-clause-text
 read_members-returns-in_err-member-clause-text t c refused =
     let l = c.members in
-    let k = c.in-Some.name.now in
-    let s = c.next_key.new.self in
-    let named : read_key l.reader ≡ Some (Some k, s) = grind arith in
-    l.invariant.decides ∙ member_refused c.args.depth (members_view l.found.entries) k l.reader s named (c.read_value.ensures.text (grind arith))
+    l.invariant.decides
+    ∙ member_refused c.args.depth (members_view l.found.entries) c.in-Some.name.now l.reader c.next_key.new.self (grind arith) (c.read_value.ensures.text (grind arith))
 
 pub read_members-members-preserved : goal.read_members-members-preserved
 read_members-members-preserved t c =
