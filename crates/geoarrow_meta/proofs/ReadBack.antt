@@ -1,5 +1,5 @@
 -- A value whose numbers are whole is read back from its text, as deep as texts are read.
-use Rattle.std.proofs.Common.{◌≡◌, ◌≤◌, negsuc, [], true, Option, None, Some, IfSome, option_map, Ordering, Less, nat_cmp, refl, sym, ap, ◌∙◌, ltb-true, true≢false}
+use Rattle.std.proofs.Common.{◌≡◌, negsuc, [], true, Option, None, Some, IfSome, option_map, Ordering, Less, nat_cmp, refl, sym, ap, ◌∙◌, ltb-true, true≢false}
 use Rattle.std.proofs.lemmas.Bool.{and_parts}
 use Rattle.std.proofs.lemmas.Cmp.{nat_list_cmp_total}
 use Rattle.std.specs.Cmp.Lexicographic.{slice_cmp}
@@ -10,9 +10,9 @@ use Rattle.json.proofs.Printed.Decimals.{IsNumber-decimal, IsNumber-signed_decim
 use Rattle.json.proofs.Printed.Tokens.{tokens-print}
 use Rattle.json.proofs.Printed.Trees.{ArePrintable-json_tokens}
 use Rattle.arrow_values.specs.Tree.{Text}
-use Rattle.serde_json.specs.Data.{Num, unsigned, negative, Data, number, array, object, Items, no_items, item, Members, no_members, member, depth}
+use Rattle.serde_json.specs.Data.{Num, unsigned, negative, Data, number, array, object, Items, no_items, item, Members, no_members, member}
 use Rattle.serde_json.specs.Read.{number_of, of_json, of_items, of_members, max_depth, read}
-use Rattle.serde_json.specs.Written.{number_text, outline, items_outline, members_outline, compact_text}
+use Rattle.serde_json.specs.Written.{number_text, outline, items_outline, members_outline}
 use Rattle.serde_json.proofs.Numbers.{number_of-decimal, number_of-negative}
 use Rattle.value_tokens.specs.Adds.{Prints}
 use Rattle.value_tokens.specs.Printed.{reads_back}
@@ -74,8 +74,9 @@ mutual
       rw ((whole_outline e q.0).0, above) (after_first k d _ ms (before_rest k l ms first p.0) q.1)
 
 -- the text of a whole value is read as that value
-pub read-compact_text : (d : Data) → is_whole d ≡ true → depth d ≤ max_depth → read (compact_text d) ≡ Some d
-read-compact_text d whole shallow =
+read_back : (o : Option Data) → IfSome o (λ d. is_whole d ≡ true) → NestsWithin max_depth o → IsReadBack o
+read_back None whole shallow = tt
+read_back (Some d) whole shallow =
     let w = whole_outline d whole in
     let ts = tree.json_tokens (outline d) in
     let prints : Prints d (record { before = []; tokens = []; spare = 0 }) (record { before = []; tokens = ts; spare = 0 }) =
@@ -92,10 +93,6 @@ meta_value-whole None _ _ h = refl
 meta_value-whole (Some d) None None h = rw h refl
 meta_value-whole (Some d) (Some t) None h = rw h refl
 meta_value-whole _ _ _ h = rw h refl
-
-read_back : (o : Option Data) → IfSome o (λ d. is_whole d ≡ true) → NestsWithin max_depth o → IsReadBack o
-read_back None h k = tt
-read_back (Some d) h k = read-compact_text d h k
 
 -- a metadata with a whole CRS value nested at most 100 levels is written as a value that is read back
 pub nested_read_back : (m : Metadata) → IfSome m.crs.value (λ d. is_whole d ≡ true) → NestsWithin 100 m.crs.value → IsReadBack (meta_value m)

@@ -1,5 +1,5 @@
 -- What stands at the three keys, as members are put in one after another.
-use Rattle.std.proofs.Common.{◌≡◌, ◌≤◌, List, length, false, bytes_eq, Option, None, Some, option_map, codes, refl, sym, ap, ◌∙◌, arith}
+use Rattle.std.proofs.Common.{◌≡◌, ◌≤◌, List, length, false, bytes_eq, Option, None, Some, option_map, codes, sym, ap, ◌∙◌, arith}
 use Rattle.std.proofs.lemmas.Slice.Eq.{bytes_eq-Decides}
 use Rattle.json.specs.Token.{Token}
 use Rattle.json.specs.Json.{read_key}
@@ -19,13 +19,10 @@ use Rattle.geoarrow_meta.specs.Slots.{IsWord, IsNamed, AreSlotsOf}
 
 -- ---- words
 
-texts_written : {A : Type 0} (text : A → Text) (o : Option A) → option_map string (option_map text o) ≡ option_map (λ a. string (text a)) o
-texts_written text None = refl
-texts_written text (Some a) = refl
-
 -- where no text stands, none of the words does
 pub no_name : {A : Type 0} (text : A → Text) (found : Option Data) → IsWord Other found → IsNamed (λ a. string (text a)) None found
-no_name text found other o e = other (option_map text o) (texts_written text o ∙ e)
+no_name text found other None e = other None e
+no_name text found other (Some a) e = other (Some (text a)) e
 
 -- a value that is neither null nor a text
 pub no_word : (d : Data) → as_null d ≡ None → as_str d ≡ None → (o : Option Text) → ¬ (option_map string o ≡ present (Some d))
@@ -91,9 +88,6 @@ pub record AreSlotsUnderWay (depth : _) (all left : List Token) (crs : Option Da
   pub decides : next_members depth no_members all ≡ next_members depth found left
   pub slots : AreSlotsOf (object found) crs crs_type edges
   pub fewer : length left ≤ length all
-
-pub slots_start : (depth : _) (all : List Token) → AreSlotsUnderWay depth all all None (Some None) (Some None)
-slots_start depth all = record { found = no_members; decides = refl; slots = record { at_crs = refl; at_crs_type = refl; at_edges = refl }; fewer = omega arith }
 
 module _ {depth : _} {all left : List Token} {crs : Option Data} {crs_type : Option (Option CrsType)} {edges : Option (Option Edges)}
     (way : AreSlotsUnderWay depth all left crs crs_type edges) (k : Text) (s : List Token) (named : read_key left ≡ Some (Some k, s)) where

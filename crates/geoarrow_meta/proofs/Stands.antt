@@ -13,20 +13,16 @@ use Rattle.geoarrow_meta.specs.Read.{present, some_has_float, StandsFor, TextSta
 use Rattle.geoarrow_meta.specs.Laws.{stands_for_one}
 
 -- a value that may stand as a CRS value is found where it stands
-there : (v : Option Data) → IfSome v IsCrsValue → v ≡ present (Some (unwrap_or v null))
-there None h = refl
+there : (v : Option Data) → IfSome v IsCrsValue → (v ≡ present (Some (unwrap_or v null))) × (some_has_float (present (Some (unwrap_or v null))) ≡ false)
+there None h = (refl, refl)
 there (Some null) h = absurd (true≢false h.0)
-there _ h = refl
-
-whole : (v : Option Data) → IfSome v IsCrsValue → some_has_float v ≡ false
-whole None h = refl
-whole (Some d) h = h.1
+there (Some _) h = (refl, h.1)
 
 of_written : (v : Option Data) (t : Option CrsType) (e : Option Edges) → IfSome v IsCrsValue → StandsFor (written v t e) (of_parts v t e)
-of_written v None None h = record { is_object = refl; whole = ap some_has_float (sym (there v h)) ∙ whole v h; crs = there v h; crs_type = refl; edges = refl }
-of_written v None (Some e) h = record { is_object = refl; whole = ap some_has_float (sym (there v h)) ∙ whole v h; crs = there v h; crs_type = refl; edges = refl }
-of_written v (Some t) None h = record { is_object = refl; whole = ap some_has_float (sym (there v h)) ∙ whole v h; crs = there v h; crs_type = refl; edges = refl }
-of_written v _ _ h = record { is_object = refl; whole = ap some_has_float (sym (there v h)) ∙ whole v h; crs = there v h; crs_type = refl; edges = refl }
+of_written v None None h = record { is_object = refl; whole = (there v h).1; crs = (there v h).0; crs_type = refl; edges = refl }
+of_written v None (Some e) h = record { is_object = refl; whole = (there v h).1; crs = (there v h).0; crs_type = refl; edges = refl }
+of_written v (Some t) None h = record { is_object = refl; whole = (there v h).1; crs = (there v h).0; crs_type = refl; edges = refl }
+of_written v _ _ h = record { is_object = refl; whole = (there v h).1; crs = (there v h).0; crs_type = refl; edges = refl }
 
 abbrev StandsAs : Option Data → Metadata → Type 0
 StandsAs None m = m ≡ empty

@@ -1,12 +1,13 @@
-use Rattle.std.proofs.Common.{Some, arith, ◌∙◌}
+use Rattle.std.proofs.Common.{Some, refl, arith, ◌∙◌}
+use Rattle.serde_json.specs.Data.{no_members}
 use Rattle.value_tokens.specs.Next.{next_value}
 use Rattle.value_tokens.specs.Turns.{after_some, key_refused, members_over}
 use Rattle.geoarrow_meta.specs.Read.{present}
-use Rattle.geoarrow_meta.proofs.Slots.{slots_start, slots_refused, slots_go_on, crs_put, crs_type_put, edges_put, other_put}
+use Rattle.geoarrow_meta.proofs.Slots.{slots_refused, slots_go_on, crs_put, crs_type_put, edges_put, other_put}
 use Rattle.geoarrow_meta.proofs.metadata.tokens.take_members.Goals as goal
 
 pub slots-init : goal.slots-init
-slots-init c = slots_start c.args.depth c.args.reader.now
+slots-init c = record { found = no_members; decides = refl; slots = record { at_crs = refl; at_crs_type = refl; at_edges = refl }; fewer = omega arith }
 
 pub returns-in_err-key-clause-text : goal.returns-in_err-key-clause-text
 returns-in_err-key-clause-text c refused =

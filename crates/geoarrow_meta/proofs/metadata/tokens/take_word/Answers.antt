@@ -1,4 +1,4 @@
-use Rattle.std.proofs.Common.{arith, ◌≡◌, ◌∷◌, [], length, refl, ap, ◌∙◌}
+use Rattle.std.proofs.Common.{arith, ◌≡◌, ◌∷◌, length, refl, ap, ◌∙◌}
 use Rattle.json.specs.Token.{Token}
 use Rattle.json.specs.Reads.{token_of}
 use Rattle.value_tokens.specs.Next.{next_value}
@@ -8,8 +8,7 @@ use Rattle.geoarrow_meta.proofs.Slots.{no_word}
 use Rattle.geoarrow_meta.proofs.metadata.tokens.take_word.Goals as goal
 
 pub returns-in_err-token-clause-text : goal.returns-in_err-token-clause-text
-returns-in_err-token-clause-text c refused =
-    no_value c.args.depth c.args.reader.now (grind arith)
+returns-in_err-token-clause-text c refused = no_value c.args.depth c.args.reader.now (grind arith)
 
 pub returns-in-String-clause-ok : goal.returns-in-String-clause-ok
 returns-in-String-clause-ok c =
@@ -24,8 +23,7 @@ returns-in-Null-clause-ok c =
 pub returns-in_ok-skip_rest-in_default : goal.returns-in_ok-skip_rest-in_default
 returns-in_ok-skip_rest-in_default c =
     let first : c.args.reader.now ≡ token_of c.in_ok-token.token ∷ c.next.new.self = grind arith in
-    let less = c.in_ok-skip_rest-in_default.ensures.shorter in
     let far : length c.args.reader.now ≡ length (token_of c.in_ok-token.token ∷ c.next.new.self) = ap length first in
     let d = passed c.args.depth c.in_ok-token.token c.args.reader.now c.next.new.self c.skip_rest.new.reader first c.in_ok-skip_rest-in_default.ensures.ok in
     let other = no_word d.0 (no_null c.in_ok-token.token d.0 d.2 c.in_default.not-Null) (no_text c.in_ok-token.token d.0 d.2 c.in_default.not-String) in
-    record { ok = (d.0, d.1, other); shorter = omega arith; text = λ never. cc }
+    record { ok = (d.0, d.1, other); shorter = omega (arith, c.in_ok-skip_rest-in_default.ensures.shorter); text = λ never. cc }
