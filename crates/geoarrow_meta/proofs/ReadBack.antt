@@ -11,7 +11,7 @@ use Rattle.json.proofs.Printed.Tokens.{tokens-print}
 use Rattle.json.proofs.Printed.Trees.{ArePrintable-json_tokens}
 use Rattle.arrow_values.specs.Tree.{Text}
 use Rattle.serde_json.specs.Data.{Num, unsigned, negative, Data, number, array, object, Items, no_items, item, Members, no_members, member}
-use Rattle.serde_json.specs.Read.{number_of, of_json, of_items, of_members, max_depth, read}
+use Rattle.serde_json.specs.Read.{number_of, of_json, of_items, of_members, max_depth}
 use Rattle.serde_json.specs.Written.{number_text, outline, items_outline, members_outline}
 use Rattle.serde_json.proofs.Numbers.{number_of-decimal, number_of-negative}
 use Rattle.value_tokens.specs.Adds.{Prints}
@@ -70,8 +70,7 @@ mutual
       let p = and_parts (is_before l ms) _ h in
       let q = and_parts (is_whole e) _ p.1 in
       let first = less _ before in
-      let above = nat_list_cmp_total.antisymm l k ∙ ap ordering_reverse first in
-      rw ((whole_outline e q.0).0, above) (after_first k d _ ms (before_rest k l ms first p.0) q.1)
+      rw ((whole_outline e q.0).0, nat_list_cmp_total.antisymm l k ∙ ap ordering_reverse first) (after_first k d _ ms (before_rest k l ms first p.0) q.1)
 
 -- the text of a whole value is read as that value
 read_back : (o : Option Data) → IfSome o (λ d. is_whole d ≡ true) → NestsWithin max_depth o → IsReadBack o

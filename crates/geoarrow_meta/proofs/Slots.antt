@@ -44,41 +44,32 @@ differs : (q k : Text) → (k ≡ q → ⊥) → bytes_eq q k ≡ false
 differs q k other = grind (arith, bytes_eq-Decides q k)
 
 module _ (k : Text) (d : Data) {found : Members} {crs : Option Data} {crs_type : Option (Option CrsType)} {edges : Option (Option Edges)} (slots : AreSlotsOf (object found) crs crs_type edges) where
-  crs_stays : bytes_eq (codes "crs") k ≡ false → crs ≡ at_key (codes "crs") (object (put k d found))
-  crs_stays other = at_other k d found (λ x. crs ≡ x) (codes "crs") other slots.at_crs
-
-  crs_type_stays : bytes_eq (codes "crs_type") k ≡ false → IsNamed crs_type_data crs_type (at_key (codes "crs_type") (object (put k d found)))
-  crs_type_stays other = at_other k d found (IsNamed crs_type_data crs_type) (codes "crs_type") other slots.at_crs_type
-
-  edges_stay : bytes_eq (codes "edges") k ≡ false → IsNamed edges_data edges (at_key (codes "edges") (object (put k d found)))
-  edges_stay other = at_other k d found (IsNamed edges_data edges) (codes "edges") other slots.at_edges
-
   pub crs_put : {new : Option Data} → k ≡ codes "crs" → new ≡ present (Some d) → AreSlotsOf (object (put k d found)) new crs_type edges
   crs_put {new} is here = record {
     at_crs = at_own k d found (λ x. new ≡ x) (codes "crs") is here;
-    at_crs_type = crs_type_stays (ap (bytes_eq (codes "crs_type")) is);
-    at_edges = edges_stay (ap (bytes_eq (codes "edges")) is);
+    at_crs_type = at_other k d found (IsNamed crs_type_data crs_type) (codes "crs_type") (ap (bytes_eq (codes "crs_type")) is) slots.at_crs_type;
+    at_edges = at_other k d found (IsNamed edges_data edges) (codes "edges") (ap (bytes_eq (codes "edges")) is) slots.at_edges;
   }
 
   pub crs_type_put : {new : Option (Option CrsType)} → k ≡ codes "crs_type" → IsNamed crs_type_data new (present (Some d)) → AreSlotsOf (object (put k d found)) crs new edges
   crs_type_put {new} is here = record {
-    at_crs = crs_stays (ap (bytes_eq (codes "crs")) is);
+    at_crs = at_other k d found (λ x. crs ≡ x) (codes "crs") (ap (bytes_eq (codes "crs")) is) slots.at_crs;
     at_crs_type = at_own k d found (IsNamed crs_type_data new) (codes "crs_type") is here;
-    at_edges = edges_stay (ap (bytes_eq (codes "edges")) is);
+    at_edges = at_other k d found (IsNamed edges_data edges) (codes "edges") (ap (bytes_eq (codes "edges")) is) slots.at_edges;
   }
 
   pub edges_put : {new : Option (Option Edges)} → k ≡ codes "edges" → IsNamed edges_data new (present (Some d)) → AreSlotsOf (object (put k d found)) crs crs_type new
   edges_put {new} is here = record {
-    at_crs = crs_stays (ap (bytes_eq (codes "crs")) is);
-    at_crs_type = crs_type_stays (ap (bytes_eq (codes "crs_type")) is);
+    at_crs = at_other k d found (λ x. crs ≡ x) (codes "crs") (ap (bytes_eq (codes "crs")) is) slots.at_crs;
+    at_crs_type = at_other k d found (IsNamed crs_type_data crs_type) (codes "crs_type") (ap (bytes_eq (codes "crs_type")) is) slots.at_crs_type;
     at_edges = at_own k d found (IsNamed edges_data new) (codes "edges") is here;
   }
 
   pub other_put : (k ≡ codes "crs" → ⊥) → (k ≡ codes "crs_type" → ⊥) → (k ≡ codes "edges" → ⊥) → AreSlotsOf (object (put k d found)) crs crs_type edges
   other_put no_crs no_type no_edges = record {
-    at_crs = crs_stays (differs (codes "crs") k no_crs);
-    at_crs_type = crs_type_stays (differs (codes "crs_type") k no_type);
-    at_edges = edges_stay (differs (codes "edges") k no_edges);
+    at_crs = at_other k d found (λ x. crs ≡ x) (codes "crs") (differs (codes "crs") k no_crs) slots.at_crs;
+    at_crs_type = at_other k d found (IsNamed crs_type_data crs_type) (codes "crs_type") (differs (codes "crs_type") k no_type) slots.at_crs_type;
+    at_edges = at_other k d found (IsNamed edges_data edges) (codes "edges") (differs (codes "edges") k no_edges) slots.at_edges;
   }
 
 -- ---- the members that are taken so far

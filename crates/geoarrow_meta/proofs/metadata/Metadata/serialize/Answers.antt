@@ -7,5 +7,7 @@ use Rattle.geoarrow_meta.proofs.metadata.Metadata.serialize.Goals as goal
 pub returns : goal.returns
 returns c =
     let m = c.args.self.now in
-    let stands = λ (back : IsReadBack (meta_value m)). subst (λ o. TextStandsFor o (normal m)) (sym c.in_ok-print.ensures.text) (stands_for_normal m c.print.ensures.valid back) in
-    record { text = search rules; read_back = search rules; reads_as = stands; nested = λ shallow. stands (c.in_ok-print.ensures.read_back (nests_within m shallow)) }
+    let printed = c.in_ok-print.ensures in
+    let stands = λ (back : IsReadBack (meta_value m)).
+    subst (λ o. TextStandsFor o (normal m)) (sym printed.text) (stands_for_normal m c.print.ensures.valid back) in
+    record { text = search rules; read_back = search rules; reads_as = stands; nested = λ shallow. stands (printed.read_back (nests_within m shallow)) }
