@@ -11,57 +11,48 @@ use Rattle.value_tokens.proofs.skip.+skip.Goals as goal
 
 pub skip_items-returns-in_err-token-clause-text : goal.skip_items-returns-in_err-token-clause-text
 skip_items-returns-in_err-token-clause-text t c refused =
-    let l = c.items in
-    items_stop c.args.depth c.args.reader.now l.reader l.invariant (item_refused c.args.depth l.reader (grind arith) (no_value c.args.depth l.reader (grind arith)))
+    items_stop c.items.invariant (item_refused c.args.depth c.items.reader (grind arith) (no_value c.args.depth c.items.reader (grind arith)))
 
 pub skip_items-items-preserved : goal.skip_items-items-preserved
 skip_items-items-preserved t c =
-    let l = c.items in
-    let first : l.reader ≡ token_of c.in_ok-token.token ∷ c.next.new.self = grind arith in
-    items_go_on c.args.depth c.args.reader.now l.reader c.skip_rest.new.reader l.invariant (grind arith) (rw first c.in_ok-skip_rest.ensures.ok)
+    let first : c.items.reader ≡ token_of c.in_ok-token.token ∷ c.next.new.self = grind arith in
+    items_go_on c.items.invariant c.skip_rest.new.reader (grind arith) (rw first c.in_ok-skip_rest.ensures.ok)
 
 pub skip_items-returns-in_err-skip_rest-clause-text : goal.skip_items-returns-in_err-skip_rest-clause-text
 skip_items-returns-in_err-skip_rest-clause-text t c refused =
-    let l = c.items in
-    let first : l.reader ≡ token_of c.in_ok-token.token ∷ c.next.new.self = grind arith in
-    items_stop c.args.depth c.args.reader.now l.reader l.invariant (item_refused c.args.depth l.reader (grind arith) (rw first (c.skip_rest.ensures.text (grind arith))))
+    let first : c.items.reader ≡ token_of c.in_ok-token.token ∷ c.next.new.self = grind arith in
+    items_stop c.items.invariant (item_refused c.args.depth c.items.reader (grind arith) (rw first (c.skip_rest.ensures.text (grind arith))))
 
 pub skip_items-returns-clause-ok : goal.skip_items-returns-clause-ok
 skip_items-returns-clause-ok t c =
-    let l = c.items in
-    items_done c.args.depth c.args.reader.now l.reader c.take_end_array.new.self l.invariant (grind arith)
+    items_done c.items.invariant c.take_end_array.new.self (grind arith)
 
 pub skip_members-members-init : goal.skip_members-members-init
 skip_members-members-init t c = members_start c.args.depth c.args.reader.now
 
 pub skip_members-returns-in_err-next_key-clause-text : goal.skip_members-returns-in_err-next_key-clause-text
 skip_members-returns-in_err-next_key-clause-text t c refused =
-    let l = c.members in
-    members_stop c.args.depth c.args.reader.now l.reader l.invariant (λ more. key_refused c.args.depth more l.reader c.in_err-next_key.ensures.value)
+    members_stop c.members.invariant (λ more. key_refused c.args.depth more c.members.reader c.in_err-next_key.ensures.value)
 
 pub skip_members-returns-in_err-token-clause-text : goal.skip_members-returns-in_err-token-clause-text
 skip_members-returns-in_err-token-clause-text t c refused =
-    let l = c.members in
-    members_stop c.args.depth c.args.reader.now l.reader l.invariant
-    (λ more. member_refused c.args.depth more c.in-Some.field-0.now l.reader c.next_key.new.self (grind arith) (no_value c.args.depth c.next_key.new.self (grind arith)))
+    members_stop c.members.invariant
+    (λ more. member_refused c.args.depth more c.in-Some.field-0.now c.members.reader c.next_key.new.self (grind arith) (no_value c.args.depth c.next_key.new.self (grind arith)))
 
 pub skip_members-members-preserved : goal.skip_members-members-preserved
 skip_members-members-preserved t c =
-    let l = c.members in
     let first : c.next_key.new.self ≡ token_of c.in_ok-token.token ∷ c.next.new.self = grind arith in
-    members_go_on c.args.depth c.args.reader.now l.reader c.next_key.new.self c.skip_rest.new.reader c.in-Some.field-0.now l.invariant (grind arith) (rw first c.in_ok-skip_rest.ensures.ok)
+    members_go_on c.members.invariant c.next_key.new.self c.skip_rest.new.reader c.in-Some.field-0.now (grind arith) (rw first c.in_ok-skip_rest.ensures.ok)
 
 pub skip_members-returns-in_err-skip_rest-clause-text : goal.skip_members-returns-in_err-skip_rest-clause-text
 skip_members-returns-in_err-skip_rest-clause-text t c refused =
-    let l = c.members in
     let first : c.next_key.new.self ≡ token_of c.in_ok-token.token ∷ c.next.new.self = grind arith in
-    members_stop c.args.depth c.args.reader.now l.reader l.invariant
-    (λ more. member_refused c.args.depth more c.in-Some.field-0.now l.reader c.next_key.new.self (grind arith) (rw first (c.skip_rest.ensures.text (grind arith))))
+    members_stop c.members.invariant
+    (λ more. member_refused c.args.depth more c.in-Some.field-0.now c.members.reader c.next_key.new.self (grind arith) (rw first (c.skip_rest.ensures.text (grind arith))))
 
 pub skip_members-returns-clause-ok : goal.skip_members-returns-clause-ok
 skip_members-returns-clause-ok t c =
-    let l = c.members in
-    members_done c.args.depth c.args.reader.now l.reader c.next_key.new.self l.invariant (grind arith)
+    members_done c.members.invariant c.next_key.new.self (grind arith)
 
 pub skip_rest-returns-then-depth-eq0-clause-text : goal.skip_rest-returns-then-depth-eq0-clause-text
 skip_rest-returns-then-depth-eq0-clause-text t c refused =

@@ -127,8 +127,7 @@ read_members-members-init t c = record { decides = ap (λ es. next_members c.arg
 
 pub read_members-returns-in_err-name-clause-text : goal.read_members-returns-in_err-name-clause-text
 read_members-returns-in_err-name-clause-text t c refused =
-    let l = c.members in
-    l.invariant.decides ∙ key_refused c.args.depth (members_view l.found.entries) l.reader c.in_err-name.ensures.value
+    c.members.invariant.decides ∙ key_refused c.args.depth (members_view c.members.found.entries) c.members.reader c.in_err-name.ensures.value
 
 pub read_members-returns-in_err-member-clause-text : goal.read_members-returns-in_err-member-clause-text
 read_members-returns-in_err-member-clause-text t c refused =
@@ -156,5 +155,4 @@ read_members-members-preserved t c =
 
 pub read_members-returns-clause-ok : goal.read_members-returns-clause-ok
 read_members-returns-clause-ok t c =
-    let l = c.members in
-    l.invariant.decides ∙ members_over c.args.depth (members_view l.found.entries) l.reader c.next_key.new.self (grind arith)
+    c.members.invariant.decides ∙ members_over c.args.depth (members_view c.members.found.entries) c.members.reader c.next_key.new.self (grind arith)
