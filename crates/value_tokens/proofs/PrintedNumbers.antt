@@ -3,7 +3,7 @@ use Rattle.std.proofs.Common.{◌≡◌, ℕ, ◌^◌, ◌<◌, ℤ, pos, negsuc
 use Rattle.std.specs.Fmt.{signed_decimal}
 use Rattle.json.specs.Token.{number as number_token}
 use Rattle.json.specs.Written.{Written}
-use Rattle.serde_json.specs.Data.{Num, unsigned, negative, float, number}
+use Rattle.serde_json.specs.Data.{Num, unsigned, negative, number}
 use Rattle.serde_json.specs.Find.{as_u64, as_i64}
 use Rattle.serde_json.specs.Number.{num_of, is_valid}
 use Rattle.serde_json.specs.Read.{number_of}
@@ -14,8 +14,7 @@ use Rattle.value_tokens.specs.Adds.{Adds, Prints}
 
 unsigned_seen : (x : Num) (n : ℕ) → as_u64 x ≡ Some n → unsigned n ≡ x
 unsigned_seen (unsigned k) n is = cc
-unsigned_seen (negative z) n is = absurd (cc)
-unsigned_seen (float x) n is = absurd (cc)
+unsigned_seen _ n is = absurd (cc)
 
 pub prints_unsigned : (x : Num) (n : ℕ) {old new : Written} → n < 2 ^ 64 → as_u64 x ≡ Some n → Adds (number_token (decimal n) ∷ []) old new → Prints (number x) old new
 prints_unsigned x n {old} {new} fits is a = subst (λ x. Prints (number x) old new) (unsigned_seen x n is) (record { adds = a; reads_back = ap (option_map number) (number_of-decimal n fits) })

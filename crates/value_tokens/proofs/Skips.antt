@@ -1,5 +1,5 @@
 -- Passing over the items of an array and the members of an object: what is left, whatever was found.
-use Rattle.std.proofs.Common.{◌≡◌, ℕ, ◌≤◌, List, length, Some, None, refl, ap, ◌∙◌, arith}
+use Rattle.std.proofs.Common.{◌≡◌, ℕ, ◌≤◌, List, length, Some, None, ap, ◌∙◌, arith}
 use Rattle.json.specs.Token.{Token}
 use Rattle.json.specs.Json.{after_end_array, read_key}
 use Rattle.json.proofs.Grammar.{left_none, read_key-shorter}
@@ -28,9 +28,6 @@ items_go_on {depth} {all} {left} i r going e =
 pub record IsSkippingMembers (depth : ℕ) (all left : List Token) : Type 0 where
   pub same : (found : Members) → (more : Members) × (after (next_members depth found all) ≡ after (next_members depth more left))
   pub fewer : length left ≤ length all
-
-pub members_start : (depth : ℕ) (all : List Token) → IsSkippingMembers depth all all
-members_start depth all = record { same = λ found. (found, refl); fewer = omega arith }
 
 pub members_stop : {depth : ℕ} {all left : List Token} → IsSkippingMembers depth all left → ((more : Members) → next_members depth more left ≡ None) → (found : Members) → next_members depth found all ≡ None
 members_stop {depth} {all} {left} i e found = let more = i.same found in left_none (next_members depth found all) (more.1 ∙ ap after (e more.0))

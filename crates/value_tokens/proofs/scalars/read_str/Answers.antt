@@ -17,6 +17,6 @@ returns-in-String-clause-ok c =
 pub returns-in_ok-skip_rest-in_default : goal.returns-in_ok-skip_rest-in_default
 returns-in_ok-skip_rest-in_default c =
     let first : c.args.reader.now ≡ token_of c.in_ok-token.token ∷ c.next.new.self = grind arith in
-    let far : length c.args.reader.now ≡ length (token_of c.in_ok-token.token ∷ c.next.new.self) = ap length first in
-    let d = passed c.args.depth c.in_ok-token.token c.args.reader.now c.next.new.self c.skip_rest.new.reader first c.in_ok-skip_rest-in_default.ensures.ok in
-    record { ok = (d.0, d.1, sym (no_text c.in_ok-token.token d.0 d.2 c.in_default.not-String)); shorter = omega (arith, c.in_ok-skip_rest-in_default.ensures.shorter); text = λ never. cc; never_memory = λ is. cc }
+    let skipped = c.in_ok-skip_rest-in_default.ensures in
+    let d = passed c.args.depth c.in_ok-token.token c.args.reader.now c.next.new.self c.skip_rest.new.reader first skipped.ok in
+    record { ok = (d.0, d.1, sym (no_text c.in_ok-token.token d.0 d.2 c.in_default.not-String)); shorter = omega (arith, ap length first); text = λ never. cc; never_memory = λ is. cc }

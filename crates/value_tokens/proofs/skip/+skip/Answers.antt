@@ -1,4 +1,4 @@
-use Rattle.std.proofs.Common.{arith, ◌≡◌, ◌-◌, ◌∷◌, ap, ap₂, ◌∙◌}
+use Rattle.std.proofs.Common.{arith, refl, ◌≡◌, ◌-◌, ◌∷◌, ap, ap₂, ◌∙◌}
 use Rattle.std.proofs.lemmas.Result.{on_ok_weaker}
 use Rattle.json.specs.Token.{Token}
 use Rattle.json.specs.Json.{parse_map}
@@ -6,7 +6,7 @@ use Rattle.json.specs.Reads.{token_of}
 use Rattle.serde_json.specs.Data.{array, object, no_members}
 use Rattle.value_tokens.specs.Next.{next_value, next_items, next_members, after}
 use Rattle.value_tokens.specs.Turns.{no_value, plain, array_too_deep, object_too_deep, value-array, value-object, after-parse_map, item_refused, key_refused, member_refused}
-use Rattle.value_tokens.proofs.Skips.{items_stop, items_done, items_go_on, members_start, members_stop, members_done, members_go_on}
+use Rattle.value_tokens.proofs.Skips.{items_stop, items_done, items_go_on, members_stop, members_done, members_go_on}
 use Rattle.value_tokens.proofs.skip.+skip.Goals as goal
 
 pub skip_items-returns-in_err-token-clause-text : goal.skip_items-returns-in_err-token-clause-text
@@ -24,11 +24,10 @@ skip_items-returns-in_err-skip_rest-clause-text t c refused =
     items_stop c.items.invariant (item_refused c.args.depth c.items.reader (grind arith) (rw first (c.skip_rest.ensures.text (grind arith))))
 
 pub skip_items-returns-clause-ok : goal.skip_items-returns-clause-ok
-skip_items-returns-clause-ok t c =
-    items_done c.items.invariant c.take_end_array.new.self (grind arith)
+skip_items-returns-clause-ok t c = items_done c.items.invariant c.take_end_array.new.self (grind arith)
 
 pub skip_members-members-init : goal.skip_members-members-init
-skip_members-members-init t c = members_start c.args.depth c.args.reader.now
+skip_members-members-init t c = record { same = λ found. (found, refl); fewer = omega arith }
 
 pub skip_members-returns-in_err-next_key-clause-text : goal.skip_members-returns-in_err-next_key-clause-text
 skip_members-returns-in_err-next_key-clause-text t c refused =
@@ -51,8 +50,7 @@ skip_members-returns-in_err-skip_rest-clause-text t c refused =
     (λ more. member_refused c.args.depth more c.in-Some.field-0.now c.members.reader c.next_key.new.self (grind arith) (rw first (c.skip_rest.ensures.text (grind arith))))
 
 pub skip_members-returns-clause-ok : goal.skip_members-returns-clause-ok
-skip_members-returns-clause-ok t c =
-    members_done c.members.invariant c.next_key.new.self (grind arith)
+skip_members-returns-clause-ok t c = members_done c.members.invariant c.next_key.new.self (grind arith)
 
 pub skip_rest-returns-then-depth-eq0-clause-text : goal.skip_rest-returns-then-depth-eq0-clause-text
 skip_rest-returns-then-depth-eq0-clause-text t c refused =
