@@ -1,6 +1,7 @@
-use Rattle.std.proofs.Common.{arith, sym, ◌∙◌, ◌≡◌, ◌&&◌, false, get_or, int_eq}
-use Rattle.arrow_values.specs.Equal.{field_eq, member_eq}
-use Rattle.arrow_values.proofs.Equal.{mode_same, fields_same, members_same, nullable_differs, metadata_differs, pointwise_fails}
+use Rattle.std.proofs.Common.{arith, sym, ◌∙◌, ◌≡◌, false, get_or}
+use Rattle.std.proofs.lemmas.Bool.{and_left, and_right, not-true}
+use Rattle.arrow_values.specs.Equal.{member_eq}
+use Rattle.arrow_values.proofs.Equal.{mode_same, fields_same, members_same, pointwise_fails}
 use Rattle.arrow_values.proofs.tree.equal.+equal.Goals as goal
 
 pub same_type-returns-in-Struct-Struct : goal.same_type-returns-in-Struct-Struct
@@ -15,22 +16,20 @@ same_type-returns-else-same_members t c =
     rw (c.in-Union-Union.is-0, c.in-Union-Union.is-1, ← members_same c.in-Union-Union.members c.in-Union-Union.others, ← c.if-same_members.ensures) c.if-same_members.false
 
 pub same_field-returns-then-a-b : goal.same_field-returns-then-a-b
-same_field-returns-then-a-b t c = nullable_differs c.args.a.now c.args.b.now (rw (← c.a.view_is, ← c.b.view_is) c.if-a-b.true)
+same_field-returns-then-a-b t c = rw (← c.a.view_is, ← c.b.view_is) (sym (and_left _ _ (and_right _ _ (not-true _ c.if-a-b.true))))
 
 pub same_field-returns-then-not-same_metadata : goal.same_field-returns-then-not-same_metadata
-same_field-returns-then-not-same_metadata t c = metadata_differs c.args.a.now c.args.b.now (rw (← c.a.view_is, ← c.b.view_is) c.if-not-same_metadata.ensures)
+same_field-returns-then-not-same_metadata t c = rw (← c.a.view_is, ← c.b.view_is) (sym (and_right _ _ (sym c.if-not-same_metadata.ensures)))
 
 pub same_members-returns-then-not-same_member : goal.same_members-returns-then-not-same_member
 same_members-returns-then-not-same_member t c =
     let m = c.index.result.now in
     let n = c.index-in-loop-i.result.now in
-    let e : false ≡ (int_eq m.0 n.0 && field_eq m.1 n.1) = c.if-not-same_member.ensures in
-    let h : false ≡ member_eq (get_or c.args.a.now c.loop-i.i m) (get_or c.args.b.now c.loop-i.i n) =
-    rw (← c.a.view_is, ← c.b.view_is, ← c.index.ensures, ← c.index-in-loop-i.ensures) e in
-    pointwise_fails member_eq c.args.a.now c.args.b.now c.loop-i.i m n
+    let h : member_eq (get_or c.args.a.now c.loop-i.i m) (get_or c.args.b.now c.loop-i.i n) ≡ false =
+    rw (← c.a.view_is, ← c.b.view_is, ← c.index.ensures, ← c.index-in-loop-i.ensures) (sym c.if-not-same_member.ensures) in
+    sym (c.loop-i.invariant ∙ pointwise_fails member_eq c.args.a.now c.args.b.now c.loop-i.i m n
     (rw (← c.a.view_is) (omega (arith, c.loop-i-test.true, c.len-i-end.ensures)))
-    (rw (← c.b.view_is) (omega (arith, c.loop-i-test.true, c.len-i-end.ensures, c.if-len.false, c.len.ensures, c.len-2.ensures))) h
-    ∙ sym c.loop-i.invariant
+    (rw (← c.b.view_is) (omega (arith, c.loop-i-test.true, c.len-i-end.ensures, c.if-len.false, c.len.ensures, c.len-2.ensures))) h)
 
 pub same_inner-returns-in-Struct-Struct : goal.same_inner-returns-in-Struct-Struct
 same_inner-returns-in-Struct-Struct t c = rw (c.in-Struct-Struct.is-0, c.in-Struct-Struct.is-1) (c.same_fields.ensures ∙ fields_same c.in-Struct-Struct.fields c.in-Struct-Struct.others)
