@@ -1,7 +1,6 @@
 -- What the tests of the code compute is what the specs say.
-use Rattle.std.proofs.Common.{◌≡◌, ◌<◌, List, [], ◌∷◌, Bool, true, false, not, true≢false, ◌&&◌, map, refl, sym, ap, ℤ, ℕ, zero, suc, length, get_or, drop, arith}
+use Rattle.std.proofs.Common.{◌≡◌, ◌<◌, List, [], ◌∷◌, Bool, false, ◌&&◌, map, refl, ap, ℤ, ℕ, zero, suc, length, get_or, drop, arith}
 use Rattle.std.specs.Cmp.Lexicographic.{pointwise}
-use Rattle.std.specs.Ordering.{int_eq}
 use Rattle.std.proofs.lemmas.Bool.{and_left}
 use denote.Enum.Bare.{sameb}
 use Rattle.arrow_values.specs.contracts.tree.UnionMode.{the_type}

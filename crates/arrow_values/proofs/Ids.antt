@@ -1,5 +1,5 @@
 -- The ids of a union, cut and joined.
-use Rattle.std.proofs.Common.{◌≡◌, ◌⊎◌, inl, inr, ℤ, Bool, true, false, not, cond, ◌&&◌, ◌||◌, List, [], ◌∷◌, ◌++◌, length, Option, Some, None, refl, sym, ap, ◌∙◌, true≢false, arith}
+use Rattle.std.proofs.Common.{◌≡◌, ◌⊎◌, inl, inr, ℤ, Bool, true, false, not, cond, List, [], ◌∷◌, ◌++◌, None, refl, sym, ap, ◌∙◌}
 use Rattle.std.specs.Ordering.{int_eq}
 use Rattle.std.specs.List.{list_all, filter, zip}
 use Rattle.std.proofs.lemmas.Bool.{and_parts, and_from, or_parts, or_from, not-true, cond_both, false_from_ne_true}
@@ -10,7 +10,7 @@ use Rattle.std.proofs.lemmas.Bool.Decides.{Decides-int_eq, same_from_decides, De
 use Rattle.arrow_values.specs.Tree.{FieldTree, Members}
 use Rattle.arrow_values.specs.Errors.{IsMemory, IsInvalidArgument, is_invalid_argument}
 use Rattle.arrow_values.specs.declared.error.ArrowError.{ArrowError}
-use Rattle.arrow_values.specs.Union.{is_type_id, has, has_id, are_distinct, are_type_ids, ids_of, retained, shared_id, HasTypeIds, AreUnionParts}
+use Rattle.arrow_values.specs.Union.{is_type_id, has, has_id, are_distinct, ids_of, retained, shared_id, HasTypeIds, AreUnionParts}
 
 -- what a cut keeps was there
 module _ (p : ℤ × FieldTree → Bool) where

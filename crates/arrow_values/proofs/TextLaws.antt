@@ -1,6 +1,6 @@
 -- Texts by key: after a change, and as the entries of a map.
-use Rattle.std.proofs.Common.{◌≡◌, List, [], ◌∷◌, Bool, true, false, not, cond, Option, Some, None, String, Global, Ordering, Less, Equal, Greater, string_bytes, nat_cmp, refl, sym, ap, ◌∙◌, true≢false}
-use Rattle.std.specs.Map.{remove_entry, keys_of}
+use Rattle.std.proofs.Common.{◌≡◌, List, [], ◌∷◌, Bool, true, false, not, cond, Option, Some, None, option_map, String, Global, Ordering, Less, Equal, Greater, string_bytes, nat_cmp, refl, sym, ap, ◌∙◌, true≢false}
+use Rattle.std.specs.Map.{lookup, remove_entry, keys_of}
 use Rattle.std.specs.BTreeMap.{is_at, insert_entry}
 use Rattle.std.specs.String.{string_cmp}
 use Rattle.std.specs.Str.{bytes_eq}
@@ -9,6 +9,9 @@ use Rattle.std.specs.List.Sorted.{IsStrictlySortedBy}
 use Rattle.std.specs.Ordering.{is_eq, match_ordering}
 use Rattle.std.specs.Cmp.Lexicographic.{slice_cmp}
 use Rattle.std.proofs.lemmas.Map.Entries.{lookup-filter-keys}
+use Rattle.std.proofs.lemmas.Bool.{false_from_ne_true}
+use Rattle.std.proofs.lemmas.Cmp.{nat_list_cmp_total}
+use Rattle.std.proofs.lemmas.Option.{same_Some}
 use Rattle.std.proofs.lemmas.Map.Text.{is_eq-slice_cmp}
 use Rattle.std.proofs.lemmas.Slice.Eq.{bytes_eq-Decides}
 use Rattle.std.proofs.lemmas.Bool.Decides.{Decides-like, same_from_decides}
@@ -16,10 +19,10 @@ use Rattle.arrow_values.specs.Tree.{Text, Metadata}
 use Rattle.arrow_values.specs.View.{texts_of}
 use Rattle.arrow_values.specs.Texts.{name_key, metadata_key, text_at, put_text, remove_text, set_extension, SetsExtension}
 
-abbrev pub Entry : Type 0
+abbrev Entry : Type 0
 Entry = String Global × String Global
 
-abbrev pub Pair : Type 0
+abbrev Pair : Type 0
 Pair = Text × Text
 
 bytes_comm : (x y : Text) → bytes_eq x y ≡ bytes_eq y x
@@ -44,12 +47,12 @@ put_step Greater k t q e m later is h = ap (cond (bytes_eq q e.0) (Some e.1)) h 
     apart true false t u o h = refl
     apart false b t u o h = refl
 
-pub text_at-put : (k t q : Text) (m : Metadata) → text_at q (put_text k t m) ≡ cond (bytes_eq k q) (Some t) (text_at q m)
+text_at-put : (k t q : Text) (m : Metadata) → text_at q (put_text k t m) ≡ cond (bytes_eq k q) (Some t) (text_at q m)
 text_at-put k t q [] = rw (bytes_comm q k)
 text_at-put k t q (e ∷ m) = put_step (slice_cmp nat_cmp k e.0) k t q e m (put_text k t m) (is_eq-slice_cmp k e.0) (text_at-put k t q m)
 
 -- a text is removed
-pub text_at-remove : (k q : Text) (m : Metadata) → text_at q (remove_text k m) ≡ cond (bytes_eq k q) None (text_at q m)
+text_at-remove : (k q : Text) (m : Metadata) → text_at q (remove_text k m) ≡ cond (bytes_eq k q) None (text_at q m)
 text_at-remove k q m = lookup-filter-keys (bytes_eq q) (λ x. not (bytes_eq k x)) (not (bytes_eq k q)) (λ x e. ap (λ y. not (bytes_eq k y)) (sym ((bytes_eq-Decides q x).0 e))) m
     ∙ turned (bytes_eq k q) (text_at q m)
   where
@@ -95,3 +98,52 @@ texts_of-remove q (e ∷ es) h = rw (is_eq-slice_cmp q (string_bytes e.0)) (remo
 
 pub sets_extension_at : (name : Text) (text : Option Text) (m n : Metadata) → n ≡ set_extension name text m → SetsExtension name text m n
 sets_extension_at name text m n is = λ q. ap (text_at q) is ∙ sets_extension name text m q
+
+-- ---- texts that are there already: putting them changes nothing
+before : (k : String Global) (es : List Entry) → AllByRecursion (λ y. string_cmp k y ≡ Less) (keys_of es) → AllByRecursion (λ y. slice_cmp nat_cmp (string_bytes k) y ≡ Less) (keys_of (texts_of es))
+before k [] h = tt
+before k (e ∷ es) h = (h.0, before k es h.1)
+
+ascending : (es : List Entry) → IsStrictlySortedBy string_cmp (keys_of es) → IsStrictlySortedBy (slice_cmp nat_cmp) (keys_of (texts_of es))
+unfolding IsStrictlySortedBy
+ascending [] h = tt
+ascending (e ∷ es) h = (before e.0 es h.0, ascending es h.1)
+
+-- a key below all is at none
+at_none : (k x : Text) (m : Metadata) → slice_cmp nat_cmp k x ≡ Less → AllByRecursion (λ y. slice_cmp nat_cmp x y ≡ Less) (keys_of m) → text_at k m ≡ None
+at_none k x [] less h = refl
+at_none k x (e ∷ m) less h = rw (← is_eq-slice_cmp k e.0, nat_list_cmp_total.trans k x e.0 less h.0) (at_none k x m less h.1)
+
+-- a text that stands at a key is put there with no change
+same_step : (r : Ordering) (k t : Text) (e : Pair) (m later : Metadata) → slice_cmp nat_cmp k e.0 ≡ r → AllByRecursion (λ y. slice_cmp nat_cmp e.0 y ≡ Less) (keys_of m)
+    → cond (is_eq r) (Some e.1) (text_at k m) ≡ Some t → (text_at k m ≡ Some t → later ≡ m) → match_ordering r ((k, t) ∷ e ∷ m) ((e.0, t) ∷ m) (e ∷ later) ≡ e ∷ m
+same_step Less k t e m later is above here rest = let none = at_none k e.0 m is above in absurd cc
+same_step Equal k t e m later is above here rest = ap (λ u. (e.0, u) ∷ m) (sym (same_Some e.1 t here))
+same_step Greater k t e m later is above here rest = ap (λ l. e ∷ l) (rest here)
+
+same_put : (k t : Text) (m : Metadata) → IsStrictlySortedBy (slice_cmp nat_cmp) (keys_of m) → text_at k m ≡ Some t → put_text k t m ≡ m
+unfolding IsStrictlySortedBy
+same_put k t [] a here = absurd cc
+same_put k t (e ∷ m) a here = same_step (slice_cmp nat_cmp k e.0) k t e m (put_text k t m) refl a.0 (rw (← is_eq-slice_cmp k e.0) at here) (same_put k t m a.1)
+
+-- and where none stands there is none to remove
+absent_removed : (k : Text) (m : Metadata) → text_at k m ≡ None → remove_text k m ≡ m
+absent_removed k [] here = refl
+absent_removed k (e ∷ m) here =
+    let other : bytes_eq k e.0 ≡ false = false_from_ne_true _ (λ same. let some = rw same at here in absurd cc) in
+    rw other (ap (λ l. e ∷ l) (absent_removed k m (rw other at here)))
+
+-- the texts of a map that has a name, and a text or nothing, at the two keys
+pub kept : (name : Text) (text : Option Text) (es : List Entry) → IsStrictlySortedBy string_cmp (keys_of es) → text_at name_key (texts_of es) ≡ Some name → text_at metadata_key (texts_of es) ≡ text
+    → set_extension name text (texts_of es) ≡ texts_of es
+kept name None es sorted named here = rw (same_put name_key name (texts_of es) (ascending es sorted) named) (absent_removed metadata_key (texts_of es) here)
+kept name (Some t) es sorted named here = rw (same_put name_key name (texts_of es) (ascending es sorted) named) (same_put metadata_key t (texts_of es) (ascending es sorted) here)
+
+-- ---- the text at a key, of the map and of what it stands for
+pub text_at-lookup : (key : Text) (es : List Entry) → option_map (λ t. string_bytes t) (lookup (at_text key) es) ≡ text_at key (texts_of es)
+text_at-lookup key [] = refl
+text_at-lookup key (e ∷ es) = shown (is_eq (slice_cmp nat_cmp key (string_bytes e.0))) e.1 (lookup (at_text key) es) ∙ rw (is_eq-slice_cmp key (string_bytes e.0), text_at-lookup key es) refl
+  where
+    shown : (b : Bool) (s : String Global) (o : Option (String Global)) → option_map (λ t. string_bytes t) (cond b (Some s) o) ≡ cond b (Some (string_bytes s)) (option_map (λ t. string_bytes t) o)
+    shown true s o = refl
+    shown false s o = refl

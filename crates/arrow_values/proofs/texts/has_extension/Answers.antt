@@ -1,7 +1,7 @@
 use Rattle.std.proofs.Common.{rules, ◌≡◌, Some, ◌∙◌, sym, option_map, string_bytes}
 use Rattle.arrow_values.specs.View.{texts_of}
 use Rattle.arrow_values.specs.Texts.{name_key, metadata_key, text_at}
-use Rattle.arrow_values.proofs.SameTexts.{kept}
+use Rattle.arrow_values.proofs.TextLaws.{kept}
 use Rattle.arrow_values.proofs.texts.has_extension.Goals as goal
 
 pub returns-in-Some-clause-stays : goal.returns-in-Some-clause-stays
