@@ -7,11 +7,11 @@ use Rattle.arrow_values.specs.Tree.{FieldTree}
 use Rattle.geoarrow_layout.specs.declared.kinds.CoordType.{CoordType}
 use Rattle.geoarrow_layout.specs.declared.kinds.CoordType.TheVariants.{Interleaved, Separated}
 use Rattle.geoarrow_layout.specs.declared.kinds.Dimension.{Dimension}
-use Rattle.geoarrow_layout.specs.declared.kinds.Dimension.TheVariants.{XY, XYZ, XYM, XYZM}
-use Rattle.geoarrow_layout.specs.declared.encodings.NativeKind.TheVariants.{Point, LineString, Polygon, MultiPoint, MultiLineString, MultiPolygon, GeometryCollection}
-use Rattle.geoarrow_layout.specs.declared.encodings.Width.TheVariants.{Plain, Large, View}
+use Rattle.geoarrow_layout.specs.declared.kinds.Dimension.TheVariants.{XYZ, XYM}
+use Rattle.geoarrow_layout.specs.declared.encodings.NativeKind.TheVariants.{Point}
+use Rattle.geoarrow_layout.specs.declared.encodings.Width.TheVariants.{Plain}
 use Rattle.geoarrow_layout.specs.declared.encodings.Kind.{Kind}
-use Rattle.geoarrow_layout.specs.declared.encodings.Kind.TheVariants.{Native, Geometry, Rect, Wkb, Wkt}
+use Rattle.geoarrow_layout.specs.declared.encodings.Kind.TheVariants.{Native, Wkb, Wkt}
 use Rattle.geoarrow_layout.specs.Shapes.{SameNames}
 use Rattle.geoarrow_layout.specs.Inferred.{Inferred}
 use Rattle.geoarrow_layout.specs.Layouts.{layout, leaf_layout}
@@ -23,31 +23,19 @@ use Rattle.geoarrow_schema.specs.Infers.{InfersAs, Infers, InferredAs, IsInferab
 
 leaf_inferred : (c : CoordType) (d : Dimension) → Inferred (leaf_layout c d) c d
 unfolding SameNames
-leaf_inferred Interleaved XY = (refl, refl)
 leaf_inferred Interleaved XYZ = (refl, (refl, λ same. false≢true ((bytes_eq-Decides _ _).1 same)))
 leaf_inferred Interleaved XYM = (refl, (refl, refl))
-leaf_inferred Interleaved XYZM = (refl, refl)
-leaf_inferred Separated XY = (refl, refl)
 leaf_inferred Separated XYZ = (refl, (refl, λ same. let e : true ≡ false = same (codes "z") in absurd cc))
 leaf_inferred Separated XYM = (refl, (refl, λ n. refl))
-leaf_inferred Separated XYZM = (refl, refl)
+leaf_inferred _ _ = (refl, refl)
 
 layout_inferred : (k : Kind) → IsInferable k → InferredAs (layout k) k
 layout_inferred (Native Point c d) h = leaf_inferred c d
 layout_inferred (Wkb Plain) h = refl
-layout_inferred (Wkb Large) h = refl
-layout_inferred (Wkb View) h = refl
+layout_inferred (Wkb w) h = refl
 layout_inferred (Wkt Plain) h = refl
-layout_inferred (Wkt Large) h = refl
-layout_inferred (Wkt View) h = refl
-layout_inferred (Native LineString c d) h = absurd h
-layout_inferred (Native Polygon c d) h = absurd h
-layout_inferred (Native MultiPoint c d) h = absurd h
-layout_inferred (Native MultiLineString c d) h = absurd h
-layout_inferred (Native MultiPolygon c d) h = absurd h
-layout_inferred (Native GeometryCollection c d) h = absurd h
-layout_inferred (Geometry c) h = absurd h
-layout_inferred (Rect d) h = absurd h
+layout_inferred (Wkt w) h = refl
+layout_inferred _ h = absurd h
 
 pub bare_inferred : (f : FieldTree) (g : GeoArrowType) → IsInferable (kind_of g) → IsBareColumn f (kind_of g) → meta_of g ≡ empty → Infers f g
 unfolding InfersAs

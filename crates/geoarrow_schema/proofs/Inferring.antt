@@ -12,11 +12,11 @@ use Rattle.arrow_values.specs.declared.error.GeoArrowError.TheVariants.{Arrow, I
 use Rattle.geoarrow_layout.specs.declared.kinds.CoordType.{CoordType}
 use Rattle.geoarrow_layout.specs.declared.kinds.Dimension.{Dimension}
 use Rattle.geoarrow_layout.specs.declared.fault.LayoutFault.{LayoutFault}
-use Rattle.geoarrow_layout.specs.declared.encodings.NativeKind.TheVariants.{Point, LineString, Polygon, MultiPoint, MultiLineString, MultiPolygon, GeometryCollection}
+use Rattle.geoarrow_layout.specs.declared.encodings.NativeKind.TheVariants.{Point}
 use Rattle.geoarrow_layout.specs.declared.encodings.Width.{Width}
 use Rattle.geoarrow_layout.specs.declared.encodings.Width.TheVariants.{Plain, Large, View}
 use Rattle.geoarrow_layout.specs.declared.encodings.Kind.{Kind}
-use Rattle.geoarrow_layout.specs.declared.encodings.Kind.TheVariants.{Native, Geometry, Rect, Wkb, Wkt}
+use Rattle.geoarrow_layout.specs.declared.encodings.Kind.TheVariants.{Native, Wkb, Wkt}
 use Rattle.geoarrow_layout.specs.Shapes.{AnswersOne, IsBytes, IsText}
 use Rattle.geoarrow_layout.specs.Inferred.{AnswersSome, Inferred}
 use Rattle.geoarrow_meta.specs.declared.metadata.Metadata.{Metadata}
@@ -25,49 +25,32 @@ use Rattle.geoarrow_meta.specs.Laws.{text_stands_for_one}
 use Rattle.geoarrow_native.specs.Parts.{Shared}
 use Rattle.geoarrow_schema.specs.declared.types.GeoArrowType.{GeoArrowType}
 use Rattle.geoarrow_schema.specs.Types.{kind_of, metadata_of, meta_of, SameType}
-use Rattle.geoarrow_schema.specs.Reads.{HasGeoArrowName, Reads, ReadsAlone, IsRefusal, IsRefusedBy}
-use Rattle.geoarrow_schema.specs.Infers.{InferredAs, InfersAs, Infers, ReadsOrInfers, InfersAlone, ReadsOrInfersAlone, InfersNone, UninferredAs, IsInferenceRefusal, IsInference, AnswersInferred, IsStored, SerializedAs}
+use Rattle.geoarrow_schema.specs.Reads.{HasGeoArrowName, Reads, ReadsAlone, IsRefusal}
+use Rattle.geoarrow_schema.specs.Infers.{InferredAs, InfersAs, Infers, ReadsOrInfers, InfersAlone, ReadsOrInfersAlone, InfersNone, UninferredAs, IsInference, AnswersInferred, IsStored, SerializedAs}
 use Rattle.geoarrow_schema.proofs.Reading.{read_has_name, none_unnamed}
 
 -- no tree is both bytes and text
 apart : (w v : Width) (t : Tree) → IsBytes w t → IsText v t → ⊥
 apart Plain Plain t h g = absurd cc
-apart Plain Large t h g = absurd cc
-apart Plain View t h g = absurd cc
-apart Large Plain t h g = absurd cc
 apart Large Large t h g = absurd cc
-apart Large View t h g = absurd cc
-apart View Plain t h g = absurd cc
-apart View Large t h g = absurd cc
 apart View View t h g = absurd cc
-
-abbrev ok_width : Width → Result Width LayoutFault
-ok_width w = Ok w
-
-ok_same : (w v : Width) → ok_width w ≡ ok_width v → w ≡ v
-ok_same w v h = cc
+apart _ _ t h g = absurd cc
 
 pub stored_as_bytes : (t : Tree) (w : Width) (r : Result Width LayoutFault) → r ≡ Ok w → AnswersOne r (λ v. IsBytes v t) → SerializedAs t (Some (Wkb w))
 stored_as_bytes t w r is a = λ k. (λ e. subst (IsStored t) (same_Some (Wkb w) k e) ((a w).0 is), λ h. back k h)
   where
     back : (k : Kind) → IsStored t k → Some (Wkb w) ≡ Some k
-    back (Wkb v) h = ap (λ x. Some (Wkb x)) (ok_same w v (sym is ∙ (a v).1 h))
+    back (Wkb v) h = cc ((a v).1 h)
     back (Wkt v) h = absurd (apart w v t ((a w).0 is) h)
-    back (Native k c d) h = absurd h
-    back (Geometry c) h = absurd h
-    back (Rect d) h = absurd h
+    back _ h = absurd h
 
 -- a tree that is taken for a point is neither bytes nor text
 not_stored : (t : Tree) (c : CoordType) (d : Dimension) (k : Kind) → Inferred t c d → IsStored t k → ⊥
 not_stored t c d (Wkb Plain) p h = subst (λ x. Inferred x c d) h p
-not_stored t c d (Wkb Large) p h = subst (λ x. Inferred x c d) h p
-not_stored t c d (Wkb View) p h = subst (λ x. Inferred x c d) h p
+not_stored t c d (Wkb w) p h = subst (λ x. Inferred x c d) h p
 not_stored t c d (Wkt Plain) p h = subst (λ x. Inferred x c d) h p
-not_stored t c d (Wkt Large) p h = subst (λ x. Inferred x c d) h p
-not_stored t c d (Wkt View) p h = subst (λ x. Inferred x c d) h p
-not_stored t c d (Native k b e) p h = h
-not_stored t c d (Geometry b) p h = h
-not_stored t c d (Rect e) p h = h
+not_stored t c d (Wkt w) p h = subst (λ x. Inferred x c d) h p
+not_stored t c d _ p h = h
 
 abbrev Pair : Type 0
 Pair = CoordType × Dimension
@@ -80,16 +63,9 @@ point_inferred t p r is a = λ k. (λ e. subst (InferredAs t) (same_Some (Native
   where
     back : (k : Kind) → InferredAs t k → Some (Native Point p.0 p.1) ≡ Some k
     back (Native Point b e) h = let q : p ≡ (b, e) = same_Some p (b, e) (sym is ∙ (a b e).1 h) in ap (λ x. Some (Native Point x.0 x.1)) q
-    back (Native LineString b e) h = absurd h
-    back (Native Polygon b e) h = absurd h
-    back (Native MultiPoint b e) h = absurd h
-    back (Native MultiLineString b e) h = absurd h
-    back (Native MultiPolygon b e) h = absurd h
-    back (Native GeometryCollection b e) h = absurd h
-    back (Geometry c) h = absurd h
-    back (Rect d) h = absurd h
     back (Wkb w) h = absurd (not_stored t p.0 p.1 (Wkb w) ((a p.0 p.1).0 is) h)
     back (Wkt w) h = absurd (not_stored t p.0 p.1 (Wkt w) ((a p.0 p.1).0 is) h)
+    back _ h = absurd h
 
 pub serialized_inferred : (t : Tree) (r : Option Pair) (s : Option Kind) → r ≡ None → AnswersSome r (Inferred t) → SerializedAs t s → AnswersInferred t s
 serialized_inferred t r s is a stored = λ k. (λ e. there k ((stored k).0 e), λ h. back k h)
@@ -97,32 +73,18 @@ serialized_inferred t r s is a stored = λ k. (λ e. there k ((stored k).0 e), �
     there : (k : Kind) → IsStored t k → InferredAs t k
     there (Wkb w) h = h
     there (Wkt w) h = h
-    there (Native k c d) h = absurd h
-    there (Geometry c) h = absurd h
-    there (Rect d) h = absurd h
+    there _ h = absurd h
 
     back : (k : Kind) → InferredAs t k → s ≡ Some k
     back (Native Point b e) h = let bad : r ≡ some_pair (b, e) = (a b e).1 h in absurd cc
-    back (Native LineString b e) h = absurd h
-    back (Native Polygon b e) h = absurd h
-    back (Native MultiPoint b e) h = absurd h
-    back (Native MultiLineString b e) h = absurd h
-    back (Native MultiPolygon b e) h = absurd h
-    back (Native GeometryCollection b e) h = absurd h
-    back (Geometry c) h = absurd h
-    back (Rect d) h = absurd h
     back (Wkb w) h = (stored (Wkb w)).1 h
     back (Wkt w) h = (stored (Wkt w)).1 h
+    back _ h = absurd h
 
 -- what is inferred of a tree and a metadata
 pub type_inferred : (f : FieldTree) (k : Kind) (m : Shared) (g : GeoArrowType) → kind_of g ≡ k → metadata_of g ≡ m → ¬ HasGeoArrowName f → TextStandsFor (extension_metadata f) (arc_value m) → InferredAs f.tree k → Infers f g
 unfolding InfersAs
-type_inferred f k m g kind meta unnamed stands column =
-    (unnamed, subst (λ x. TextStandsFor (extension_metadata f) (arc_value x)) (sym meta) stands, subst (InferredAs f.tree) (sym kind) column)
-
-pub none_for_text : (f : FieldTree) → ((m : Metadata) → ¬ TextStandsFor (extension_metadata f) m) → InfersNone f
-unfolding InfersAs
-none_for_text f none k m h = none m h.1
+type_inferred f k m g kind meta unnamed stands column = (unnamed, rw meta stands, rw kind column)
 
 pub none_for_tree : (f : FieldTree) → ((k : Kind) → ¬ InferredAs f.tree k) → InfersNone f
 unfolding InfersAs
@@ -139,68 +101,42 @@ abbrev IsUninferred : FieldTree → GeoArrowError → Type 0
 IsUninferred f e = IsGeoMemory e ⊎ (InfersNone f × UninferredAs f e)
 
 pub uninferred_text : (f : FieldTree) (a : ArrowError) → IsMemory a ⊎ ((m : Metadata) → ¬ TextStandsFor (extension_metadata f) m) → TextRefusedAs (extension_metadata f) a → IsUninferred f (Arrow a)
+unfolding InfersAs
 uninferred_text f a (inl memory) refused = inl (ap Arrow memory)
-uninferred_text f a (inr none) refused = inr (none_for_text f none, (none, refused))
+uninferred_text f a (inr none) refused = inr ((λ k m h. none m h.1), (none, refused))
 
 pub uninferred_tree : (f : FieldTree) (text : Text) (e : GeoArrowError) (m : Metadata) → TextStandsFor (extension_metadata f) m → InfersNone f → IsGeoMemory e ⊎ IsInvalidOf text e → IsUninferred f e
 uninferred_tree f text e m stands none (inl memory) = inl memory
 uninferred_tree f text (InvalidGeoArrow s) m stands none (inr is) = inr (none, (m, stands))
 uninferred_tree f text e m stands none (inr is) = absurd is
 
-none_where_named : (f : FieldTree) → HasGeoArrowName f → InfersNone f
-unfolding InfersAs
-none_where_named f named k m h = h.0 named
-
 -- and how one that is read as nothing beside
-read_refused : (f : FieldTree) (e : GeoArrowError) → IsRefusedBy f e → IsInferenceRefusal f e
-read_refused f e (named, inl memory) = inl memory
-read_refused f e (named, inr (none, refused)) = inr (none, none_where_named f named, inl (named, refused))
-
 pub named_inference : (f : FieldTree) (r : Result GeoArrowType GeoArrowError) → HasGeoArrowName f → IfOk r (Reads f) → IfErr r (IsRefusal f) → IsInference f r
+unfolding InfersAs
 named_inference f (Ok g) named reads refused = inl reads
-named_inference f (Err e) named reads refused = read_refused f e (named, refused)
+named_inference f (Err e) named reads (inl memory) = inl memory
+named_inference f (Err e) named reads (inr (none, refused)) = inr (none, (λ k m h. h.0 named), inl (named, refused))
 
 pub unnamed_inference : (f : FieldTree) (r : Result GeoArrowType GeoArrowError) → ¬ HasGeoArrowName f → IfOk r (Infers f) → IfErr r (λ e. IsGeoMemory e ⊎ (InfersNone f × UninferredAs f e)) → IsInference f r
 unnamed_inference f (Ok g) unnamed infers refused = inr infers
 unnamed_inference f (Err e) unnamed infers (inl memory) = inl memory
 unnamed_inference f (Err e) unnamed infers (inr (none, refused)) = inr (none_unnamed f unnamed, none, inr (unnamed, refused))
 
--- a field is taken for one type
-pub infers_once : (f : FieldTree) (r : Option Kind) → AnswersInferred f.tree r → ((m n : Metadata) → TextStandsFor (extension_metadata f) m → TextStandsFor (extension_metadata f) n → m ≡ n)
-    → (g h : GeoArrowType) → Infers f g → Infers f h → SameType g h
-unfolding InfersAs
-infers_once f r is once g h here there =
-    (same_Some (kind_of g) (kind_of h) (sym ((is (kind_of g)).1 here.2) ∙ (is (kind_of h)).1 there.2), once (meta_of g) (meta_of h) here.1 there.1)
-
--- a field with a GeoArrow name is taken for none
-named_infers_alone : (f : FieldTree) (g : GeoArrowType) → HasGeoArrowName f → InfersAlone f g
-unfolding InfersAs
-named_infers_alone f g named k m there = absurd (there.0 named)
-
--- and one without is read as none
-unnamed_reads_alone : (f : FieldTree) (g : GeoArrowType) → ¬ HasGeoArrowName f → ReadsAlone f g
-unnamed_reads_alone f g unnamed k m here = absurd (none_unnamed f unnamed k m here)
-
--- so a field that is read is taken for none beside
-pub read_alone : (f : FieldTree) (g : GeoArrowType) → Reads f g → ReadsAlone f g → ReadsOrInfersAlone f g
-read_alone f g reads alone = (alone, named_infers_alone f g (read_has_name f g reads))
-
+-- a field that is read is taken for none beside
 pub named_alone : (f : FieldTree) (r : Result GeoArrowType GeoArrowError) → IfOk r (Reads f) → IfOk r (ReadsAlone f) → IfOk r (ReadsOrInfersAlone f)
-named_alone f (Ok g) reads alone = read_alone f g reads alone
+unfolding InfersAs
+named_alone f (Ok g) reads alone = (alone, λ k m there. absurd (there.0 (read_has_name f g reads)))
 named_alone f (Err e) reads alone = tt
 
 -- and one that is taken for a type is read as none beside
 pub inferred_alone : (f : FieldTree) (g : GeoArrowType) → ¬ HasGeoArrowName f → InfersAlone f g → ReadsOrInfersAlone f g
-inferred_alone f g unnamed alone = (unnamed_reads_alone f g unnamed, alone)
-
-not_both : (f : FieldTree) (g h : GeoArrowType) → Reads f g → Infers f h → ⊥
-unfolding InfersAs
-not_both f g h read inferred = inferred.0 (read_has_name f g read)
+inferred_alone f g unnamed alone = ((λ k m here. absurd (none_unnamed f unnamed k m here)), alone)
 
 -- and read as it or taken for it
 pub taken_once : (f : FieldTree) → ((g h : GeoArrowType) → Reads f g → Reads f h → SameType g h) → ((g h : GeoArrowType) → Infers f g → Infers f h → SameType g h)
     → (g h : GeoArrowType) → ReadsOrInfers f g → ReadsOrInfers f h → SameType g h
+unfolding InfersAs
 taken_once f read inferred g h (inl p) (inl q) = read g h p q
 taken_once f read inferred g h (inr p) (inr q) = inferred g h p q
-taken_once f read inferred g h (inl p) (inr q) = absurd (not_both f g h p q)
-taken_once f read inferred g h (inr p) (inl q) = absurd (not_both f h g q p)
+taken_once f read inferred g h (inl p) (inr q) = absurd (q.0 (read_has_name f g p))
+taken_once f read inferred g h (inr p) (inl q) = absurd (p.0 (read_has_name f h q))

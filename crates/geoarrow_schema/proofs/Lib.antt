@@ -2,5 +2,4 @@ pub mod Reading
 pub mod Inferring
 pub mod Inferable
 pub mod Rewriting
-pub mod SameWritten
 pub mod Texts

@@ -1,5 +1,5 @@
 -- A field's name, tree and metadata text, and what it reads as.
-use Rattle.std.proofs.Common.{◌≡◌, ◌⊎◌, ◌∙◌, Option, Result, Err, inl, inr, refl, ap, sym, subst}
+use Rattle.std.proofs.Common.{◌≡◌, ◌⊎◌, ◌∙◌, inl, inr, refl, ap, sym}
 use Rattle.std.proofs.lemmas.Option.{same_Some}
 use Rattle.std.specs.Arc.{arc_value}
 use Rattle.arrow_values.specs.Tree.{Text, Tree, FieldTree}
@@ -23,7 +23,7 @@ use Rattle.geoarrow_native.specs.Parts.{Shared}
 use Rattle.geoarrow_native.specs.Column.{IsColumn, ReadsAs}
 use Rattle.geoarrow_schema.specs.declared.types.GeoArrowType.{GeoArrowType}
 use Rattle.geoarrow_schema.specs.Types.{kind_of, metadata_of, meta_of}
-use Rattle.geoarrow_schema.specs.Reads.{HasName, HasGeoArrowName, Reads, ReadsAsNone, ReadsAlone, IsUnstored, IsColumnRefusal, IsRefusal, IsRefusedBy, IsReading, IsTypeRefusal}
+use Rattle.geoarrow_schema.specs.Reads.{HasName, HasGeoArrowName, Reads, ReadsAsNone, ReadsAlone, IsUnstored, IsColumnRefusal, IsRefusal, IsRefusedBy, IsTypeRefusal}
 
 -- a column with a metadata
 pub column_reads : (f : FieldTree) (k : Kind) (m : Metadata) → IsColumn f k → TextStandsFor (extension_metadata f) m → ReadsAs f k m
@@ -32,9 +32,7 @@ column_reads f k m column stands = (column, stands)
 
 -- is read as the type of them
 pub type_reads : (f : FieldTree) (k : Kind) (m : Shared) (g : GeoArrowType) → kind_of g ≡ k → metadata_of g ≡ m → ReadsAs f k (arc_value m) → Reads f g
-type_reads f k m g kind meta base =
-    let with_meta : ReadsAs f k (meta_of g) = subst (λ x. ReadsAs f k (arc_value x)) (sym meta) base in
-    subst (λ x. ReadsAs f x (meta_of g)) (sym kind) with_meta
+type_reads f k m g kind meta base = rw (kind, meta) base
 
 -- and as no other
 pub reads_alone : (f : FieldTree) (g : GeoArrowType) → ((j k : Kind) (m n : Metadata) → ReadsAs f j m → ReadsAs f k n → (j ≡ k) × (m ≡ n)) → Reads f g → ReadsAlone f g
@@ -64,17 +62,11 @@ one_name distinct f a b here there = distinct a b (same_Some (name_text a) (name
 
 is_bytes : (k : Kind) (t : Tree) → extension_of k ≡ Wkb → Accepted k t → (w : Width) × IsBytes w t
 is_bytes (kinds.Wkb w) t e h = (w, h)
-is_bytes (kinds.Wkt w) t e h = absurd (cc)
-is_bytes (kinds.Native k c d) t e h = absurd (cc)
-is_bytes (kinds.Geometry c) t e h = absurd (cc)
-is_bytes (kinds.Rect d) t e h = absurd (cc)
+is_bytes _ t e h = absurd (cc)
 
 is_text : (k : Kind) (t : Tree) → extension_of k ≡ Wkt → Accepted k t → (w : Width) × IsText w t
 is_text (kinds.Wkt w) t e h = (w, h)
-is_text (kinds.Wkb w) t e h = absurd (cc)
-is_text (kinds.Native k c d) t e h = absurd (cc)
-is_text (kinds.Geometry c) t e h = absurd (cc)
-is_text (kinds.Rect d) t e h = absurd (cc)
+is_text _ t e h = absurd (cc)
 
 -- a column of a kind is stored as that
 pub column_stored : NamesAreDistinct → (f : FieldTree) (k : Kind) → IsColumn f k → ¬ IsUnstored f
@@ -89,20 +81,15 @@ column_stored distinct f k column (inr (named, none)) =
 abbrev pub IsOtherName : ExtensionName → Type 0
 IsOtherName n = ((k : NativeKind) × (n ≡ names.Native k)) ⊎ ((n ≡ names.Geometry) ⊎ (n ≡ names.Rect))
 
-no_wkb : (n : ExtensionName) → IsOtherName n → ¬ (n ≡ Wkb)
-no_wkb n (inl (k, is)) e = let bad : names.Native k ≡ Wkb = sym is ∙ e in absurd (cc)
-no_wkb n (inr (inl is)) e = let bad : names.Geometry ≡ Wkb = sym is ∙ e in absurd (cc)
-no_wkb n (inr (inr is)) e = let bad : names.Rect ≡ Wkb = sym is ∙ e in absurd (cc)
-
-no_wkt : (n : ExtensionName) → IsOtherName n → ¬ (n ≡ Wkt)
-no_wkt n (inl (k, is)) e = let bad : names.Native k ≡ Wkt = sym is ∙ e in absurd (cc)
-no_wkt n (inr (inl is)) e = let bad : names.Geometry ≡ Wkt = sym is ∙ e in absurd (cc)
-no_wkt n (inr (inr is)) e = let bad : names.Rect ≡ Wkt = sym is ∙ e in absurd (cc)
+no_storage : (n : ExtensionName) → IsOtherName n → ¬ (n ≡ Wkb) × ¬ (n ≡ Wkt)
+no_storage n (inl (k, is)) = (λ e. cc, λ e. cc)
+no_storage n (inr (inl is)) = (λ e. cc, λ e. cc)
+no_storage n (inr (inr is)) = (λ e. cc, λ e. cc)
 
 -- under one of them nothing is unstored
 pub other_stored : NamesAreDistinct → (f : FieldTree) (n : ExtensionName) → HasName f n → IsOtherName n → ¬ IsUnstored f
-other_stored distinct f n has other (inl (named, none)) = no_wkb n other (one_name distinct f n Wkb has named)
-other_stored distinct f n has other (inr (named, none)) = no_wkt n other (one_name distinct f n Wkt has named)
+other_stored distinct f n has other (inl (named, none)) = (no_storage n other).0 (one_name distinct f n Wkb has named)
+other_stored distinct f n has other (inr (named, none)) = (no_storage n other).1 (one_name distinct f n Wkt has named)
 
 -- a tree of no kind of the name of well-known binary is no bytes
 pub binary_unstored : (f : FieldTree) → HasName f Wkb → ((k : Kind) → ¬ Accepts (name_text Wkb) f.tree k) → IsUnstored f
@@ -135,11 +122,7 @@ pub structured_refused : (f : FieldTree) (a : ArrowError) → ReadsAsNone f → 
 structured_refused f a none stored (inl memory) = inl (ap Arrow memory)
 structured_refused f a none stored (inr refused) = inr (none, (stored, refused))
 
--- an error is an answer of reading
-pub reading_err : (f : FieldTree) (r : Result (Option GeoArrowType) GeoArrowError) (e : GeoArrowError) → r ≡ Err e → HasGeoArrowName f → IsRefusal f e → IsReading f r
-reading_err f r e is named refused = subst (IsReading f) (sym is) (named, refused)
-
--- and one where a type is wanted
+-- that where a type is wanted
 pub type_refused : (f : FieldTree) (e : GeoArrowError) → IsRefusedBy f e → IsTypeRefusal f e
 type_refused f e (named, inl memory) = inl memory
 type_refused f e (named, inr (none, refused)) = inr (none, inl (named, refused))

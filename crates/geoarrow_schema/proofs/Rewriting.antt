@@ -1,5 +1,5 @@
 -- A field in normal form reads as that.
-use Rattle.std.proofs.Common.{◌≡◌, ◌∙◌, Option, Some, None, refl, sym, ap, subst, option_map, Result, Ok, Err, IfOk}
+use Rattle.std.proofs.Common.{◌≡◌, ◌∙◌, Option, None, refl, sym, ap, subst, option_map, Result, Ok, Err, IfOk}
 use Rattle.serde_json.specs.Data.{Data}
 use Rattle.serde_json.specs.Written.{compact_text}
 use Rattle.arrow_values.specs.Tree.{Text, FieldTree}
@@ -21,8 +21,7 @@ use Rattle.geoarrow_schema.specs.Normal.{ReadsNormally}
 same_value : (v : Option Data) (t : Option CrsType) (e : Option Edges)
     → meta_value (record { crs = record { value = v; crs_type = type_unless v t e }; edges = e }) ≡ meta_value (record { crs = record { value = v; crs_type = t }; edges = e })
 same_value None t None = refl
-same_value None t (Some e) = refl
-same_value (Some v) t e = refl
+same_value _ t e = refl
 
 normal_value : (m : Metadata) → meta_value (normal m) ≡ meta_value m
 normal_value m = same_value m.crs.value m.crs.crs_type m.edges

@@ -1,6 +1,5 @@
 use Rattle.std.proofs.Common.{rules, ◌≡◌, Err}
 use Rattle.geoarrow_schema.specs.Reads.{HasGeoArrowName, IsRefusal}
-use Rattle.geoarrow_schema.proofs.Reading.{reading_err}
 use Rattle.geoarrow_schema.proofs.read.read_under.Goals as goal
 
 pub returns-in_err-read_named-clause-reading : goal.returns-in_err-read_named-clause-reading
@@ -9,4 +8,4 @@ returns-in_err-read_named-clause-reading c =
     let named : HasGeoArrowName c.args.field.now = search rules in
     let is : c.from_residual.result ≡ Err error = search rules in
     let refused : IsRefusal c.args.field.now error = search rules in
-    reading_err c.args.field.now c.from_residual.result error is named refused
+    rw is (named, refused)
