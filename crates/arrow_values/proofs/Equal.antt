@@ -9,6 +9,7 @@ use Rattle.arrow_values.specs.declared.tree.UnionMode.TheVariants.{Sparse, Dense
 use Rattle.arrow_values.specs.Tree.{FieldTree}
 use Rattle.arrow_values.specs.View.{field_trees, member_trees}
 use Rattle.arrow_values.specs.Equal.{mode_eq, fields_eq, members_eq, field_lists_eq, member_lists_eq, field_eq, member_eq}
+
 pub mode_same : (u v : UnionMode) → sameb the_type u v ≡ mode_eq u v
 mode_same Sparse Sparse = refl
 mode_same Dense Dense = refl

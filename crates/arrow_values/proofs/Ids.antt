@@ -6,7 +6,7 @@ use Rattle.std.proofs.lemmas.Bool.{and_parts, and_from, or_parts, or_from, not-t
 use Rattle.std.proofs.lemmas.List.{map-append}
 use Rattle.std.proofs.lemmas.Map.Made.{keys_of-zip}
 use Rattle.std.proofs.lemmas.List.Folds.{list_any-append, list_all-append}
-use Rattle.std.proofs.lemmas.Bool.Decides.{Decides-int_eq, same_from_decides, Decides-like}
+use Rattle.std.proofs.lemmas.Cmp.{int_eq_equiv}
 use Rattle.arrow_values.specs.Tree.{FieldTree, Members}
 use Rattle.arrow_values.specs.Errors.{IsMemory, IsInvalidArgument, is_invalid_argument}
 use Rattle.arrow_values.specs.declared.error.ArrowError.{ArrowError}
@@ -40,18 +40,14 @@ retained_ids is ms h =
     let h = and_parts (list_all is_type_id (ids_of ms)) _ h in
     and_from _ _ (all_filter (λ m. has m.0 is) ms h.0) (distinct_filter (λ m. has m.0 is) ms h.1)
 
--- joined where none is shared
-int_eq_comm : (i j : ℤ) → int_eq i j ≡ int_eq j i
-int_eq_comm i j = same_from_decides (int_eq i j) (int_eq j i) (Decides-int_eq i j) (Decides-like _ sym sym (Decides-int_eq j i))
-
--- the first member's id is none of the other's, and none of the later ones' is
+-- joined where none is shared: the first member's id is none of the other's, and none of the later ones' is
 shared_parts : (m : ℤ × FieldTree) (ms ns : Members) → shared_id (m ∷ ms) ns ≡ None → (has m.0 (ids_of ns) ≡ false) × (shared_id ms ns ≡ None)
 shared_parts m ms [] h = (refl, refl)
 shared_parts m ms (n ∷ ns) h =
     let none : has_id n.0 (m ∷ ms) ≡ false = false_from_ne_true _ (λ e. let some = rw e at h in absurd cc) in
     let k = or_parts (int_eq m.0 n.0) _ none in
     let later = shared_parts m ms ns (rw none at h) in
-    (or_from _ _ (int_eq_comm n.0 m.0 ∙ k.0) later.0, rw k.1 later.1)
+    (or_from _ _ (int_eq_equiv.symm n.0 m.0 ∙ k.0) later.0, rw k.1 later.1)
 
 distinct_joined : (ms ns : Members) → are_distinct (ids_of ms) ≡ true → are_distinct (ids_of ns) ≡ true → shared_id ms ns ≡ None → are_distinct (ids_of ms ++ ids_of ns) ≡ true
 distinct_joined [] ns h k none = k

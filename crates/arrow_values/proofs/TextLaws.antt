@@ -14,27 +14,21 @@ use Rattle.std.proofs.lemmas.Cmp.{nat_list_cmp_total}
 use Rattle.std.proofs.lemmas.Option.{same_Some}
 use Rattle.std.proofs.lemmas.Map.Text.{is_eq-slice_cmp}
 use Rattle.std.proofs.lemmas.Slice.Eq.{bytes_eq-Decides}
-use Rattle.std.proofs.lemmas.Bool.Decides.{Decides-like, same_from_decides}
 use Rattle.arrow_values.specs.Tree.{Text, Metadata}
+use Rattle.arrow_values.specs.Equal.{equivalence_of}
 use Rattle.arrow_values.specs.View.{texts_of}
 use Rattle.arrow_values.specs.Texts.{name_key, metadata_key, text_at, put_text, remove_text, set_extension, SetsExtension}
 
 abbrev Entry : Type 0
 Entry = String Global × String Global
 
-abbrev Pair : Type 0
-Pair = Text × Text
-
-bytes_comm : (x y : Text) → bytes_eq x y ≡ bytes_eq y x
-bytes_comm x y = same_from_decides (bytes_eq x y) (bytes_eq y x) (bytes_eq-Decides x y) (Decides-like _ sym sym (bytes_eq-Decides y x))
-
 -- a text is put at a key
-put_step : (r : Ordering) (k t q : Text) (e : Pair) (m later : Metadata) → is_eq r ≡ bytes_eq k e.0 → text_at q later ≡ cond (bytes_eq k q) (Some t) (text_at q m)
+put_step : (r : Ordering) (k t q : Text) (e : Text × Text) (m later : Metadata) → is_eq r ≡ bytes_eq k e.0 → text_at q later ≡ cond (bytes_eq k q) (Some t) (text_at q m)
     → text_at q (match_ordering r ((k, t) ∷ e ∷ m) ((e.0, t) ∷ m) (e ∷ later)) ≡ cond (bytes_eq k q) (Some t) (text_at q (e ∷ m))
-put_step Less k t q e m later is h = rw (bytes_comm q k)
+put_step Less k t q e m later is h = rw ((equivalence_of bytes_eq bytes_eq-Decides).symm q k)
 put_step Equal k t q e m later is h =
     let same : k ≡ e.0 = (bytes_eq-Decides k e.0).0 (sym is) in
-    rw (← same, bytes_comm q k) (twice (bytes_eq k q) (Some t) (Some e.1) (text_at q m))
+    rw (← same, (equivalence_of bytes_eq bytes_eq-Decides).symm q k) (twice (bytes_eq k q) (Some t) (Some e.1) (text_at q m))
   where
     twice : (b : Bool) (t u o : Option Text) → cond b t o ≡ cond b t (cond b u o)
     twice true t u o = refl
@@ -48,7 +42,7 @@ put_step Greater k t q e m later is h = ap (cond (bytes_eq q e.0) (Some e.1)) h 
     apart false b t u o h = refl
 
 text_at-put : (k t q : Text) (m : Metadata) → text_at q (put_text k t m) ≡ cond (bytes_eq k q) (Some t) (text_at q m)
-text_at-put k t q [] = rw (bytes_comm q k)
+text_at-put k t q [] = rw ((equivalence_of bytes_eq bytes_eq-Decides).symm q k)
 text_at-put k t q (e ∷ m) = put_step (slice_cmp nat_cmp k e.0) k t q e m (put_text k t m) (is_eq-slice_cmp k e.0) (text_at-put k t q m)
 
 -- a text is removed
@@ -61,12 +55,8 @@ text_at-remove k q m = lookup-filter-keys (bytes_eq q) (λ x. not (bytes_eq k x)
     turned false o = refl
 
 pub sets_extension : (name : Text) (text : Option Text) (m : Metadata) → SetsExtension name text m (set_extension name text m)
-sets_extension name None m =
-    λ q. text_at-remove metadata_key q (put_text name_key name m)
-    ∙ ap (λ o. cond (bytes_eq metadata_key q) None o) (text_at-put name_key name q m)
-sets_extension name (Some text) m =
-    λ q. text_at-put metadata_key text q (put_text name_key name m)
-    ∙ ap (λ o. cond (bytes_eq metadata_key q) (Some text) o) (text_at-put name_key name q m)
+sets_extension name None m = λ q. rw (text_at-remove metadata_key q (put_text name_key name m), text_at-put name_key name q m)
+sets_extension name (Some text) m = λ q. rw (text_at-put metadata_key text q (put_text name_key name m), text_at-put name_key name q m)
 
 -- the entries of a map: what an insert leaves
 pub texts_of-insert : (es : List Entry) (k v : String Global) → texts_of (insert_entry string_cmp es k v) ≡ put_text (string_bytes k) (string_bytes v) (texts_of es)
@@ -115,7 +105,7 @@ at_none k x [] less h = refl
 at_none k x (e ∷ m) less h = rw (← is_eq-slice_cmp k e.0, nat_list_cmp_total.trans k x e.0 less h.0) (at_none k x m less h.1)
 
 -- a text that stands at a key is put there with no change
-same_step : (r : Ordering) (k t : Text) (e : Pair) (m later : Metadata) → slice_cmp nat_cmp k e.0 ≡ r → AllByRecursion (λ y. slice_cmp nat_cmp e.0 y ≡ Less) (keys_of m)
+same_step : (r : Ordering) (k t : Text) (e : Text × Text) (m later : Metadata) → slice_cmp nat_cmp k e.0 ≡ r → AllByRecursion (λ y. slice_cmp nat_cmp e.0 y ≡ Less) (keys_of m)
     → cond (is_eq r) (Some e.1) (text_at k m) ≡ Some t → (text_at k m ≡ Some t → later ≡ m) → match_ordering r ((k, t) ∷ e ∷ m) ((e.0, t) ∷ m) (e ∷ later) ≡ e ∷ m
 same_step Less k t e m later is above here rest = let none = at_none k e.0 m is above in absurd cc
 same_step Equal k t e m later is above here rest = ap (λ u. (e.0, u) ∷ m) (sym (same_Some e.1 t here))
