@@ -33,14 +33,12 @@ normally_dressed f n k m is =
     is ∙ ap (λ v. of_text (option_map compact_text v)) (sym (normal_value m))
 
 -- the field of the kind's data type and extension keys reads as the normal form
-pub reads_normally : (f n : FieldTree) (k : Kind) (m : Metadata) → f.tree ≡ layout k → n ≡ dressed f k m → SetsExtension (name_of k) (printed m) f.metadata n.metadata
-    → Accepts (name_of k) (layout k) k → (IsReadBack (meta_value m) → TextStandsFor (printed m) (normal m)) → ReadsNormally n k m
+pub reads_normally : {E : Type 0} (r : Result FieldTree E) (f : FieldTree) (k : Kind) (m : Metadata) → f.tree ≡ layout k → Accepts (name_of k) (layout k) k
+    → (IsReadBack (meta_value m) → TextStandsFor (printed m) (normal m)) → IfOk r (λ n. n ≡ dressed f k m) → IfOk r (λ n. SetsExtension (name_of k) (printed m) f.metadata n.metadata)
+    → IfOk r (λ n. ReadsNormally n k m)
 unfolding ReadsAs
-reads_normally f n k m typed is sets column stands = λ read_back. (
+reads_normally (Err e) f k m typed column stands is sets = tt
+reads_normally (Ok n) f k m typed column stands is sets = λ read_back. (
   (sets name_key, subst (Accepted k) (sym (ap (λ x. x.tree) is ∙ typed)) column.1),
   subst (λ t. TextStandsFor t (normal m)) (sym (sets metadata_key)) (stands (subst IsReadBack (normal_value m) read_back)),
 )
-
-pub both_ok : {X Y : Type 0} (r : Result X Y) (P Q R : X → Type 0) → ((x : X) → P x → Q x → R x) → IfOk r P → IfOk r Q → IfOk r R
-both_ok (Ok x) P Q R f p q = f x p q
-both_ok (Err e) P Q R f p q = tt

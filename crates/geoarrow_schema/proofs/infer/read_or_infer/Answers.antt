@@ -5,17 +5,13 @@ use Rattle.geoarrow_schema.proofs.Inferring.{named_inference, named_alone, unnam
 use Rattle.geoarrow_schema.proofs.infer.read_or_infer.Goals as goal
 
 pub returns-in-Some-clause-inference : goal.returns-in-Some-clause-inference
-returns-in-Some-clause-inference c =
-    let named : HasGeoArrowName c.args.field.now = search rules in
-    named_inference c.args.field.now c.read_named.result named c.read_named.ensures.ok c.read_named.ensures.refused
+returns-in-Some-clause-inference c = named_inference c.args.field.now c.read_named.result (search rules) c.read_named.ensures.ok c.read_named.ensures.refused
 
 pub returns-in-Some-clause-only : goal.returns-in-Some-clause-only
 returns-in-Some-clause-only c = named_alone c.args.field.now c.read_named.result c.read_named.ensures.ok c.read_named.ensures.only
 
 pub returns-in-None-clause-inference : goal.returns-in-None-clause-inference
-returns-in-None-clause-inference c =
-    let unnamed : ¬ HasGeoArrowName c.args.field.now = search rules in
-    unnamed_inference c.args.field.now c.infer.result unnamed c.infer.ensures.ok c.infer.ensures.refused
+returns-in-None-clause-inference c = unnamed_inference c.args.field.now c.infer.result (search rules) c.infer.ensures.ok c.infer.ensures.refused
 
 pub returns-in-None-clause-only : goal.returns-in-None-clause-only
 returns-in-None-clause-only c =

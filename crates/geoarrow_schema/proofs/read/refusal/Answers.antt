@@ -1,22 +1,19 @@
 use Rattle.std.proofs.Common.{rules}
-use Rattle.geoarrow_schema.specs.Reads.{ReadsAsNone, IsUnstored}
 use Rattle.geoarrow_schema.proofs.Reading.{none_of_name, other_stored, binary_unstored, text_unstored, unstored_refused, structured_refused}
 use Rattle.geoarrow_schema.proofs.read.refusal.Goals as goal
 
 pub returns-in-Wkb : goal.returns-in-Wkb
 returns-in-Wkb c =
-    let none : ReadsAsNone c.args.field.now = none_of_name c.args.field.now c.args.name c.requires.named c.requires.no_kind in
-    let unstored : IsUnstored c.args.field.now = search (rules, binary_unstored) in
-    unstored_refused c.args.field.now _ _ none unstored c.invalid_geoarrow.ensures
+    let none = none_of_name c.args.field.now c.args.name c.requires.named c.requires.no_kind in
+    unstored_refused c.args.field.now _ _ none (search (rules, binary_unstored)) c.invalid_geoarrow.ensures
 
 pub returns-in-Wkt : goal.returns-in-Wkt
 returns-in-Wkt c =
-    let none : ReadsAsNone c.args.field.now = none_of_name c.args.field.now c.args.name c.requires.named c.requires.no_kind in
-    let unstored : IsUnstored c.args.field.now = search (rules, text_unstored) in
-    unstored_refused c.args.field.now _ _ none unstored c.invalid_geoarrow-in-Wkt.ensures
+    let none = none_of_name c.args.field.now c.args.name c.requires.named c.requires.no_kind in
+    unstored_refused c.args.field.now _ _ none (search (rules, text_unstored)) c.invalid_geoarrow-in-Wkt.ensures
 
 pub returns-in-Native : goal.returns-in-Native
 returns-in-Native c =
-    let none : ReadsAsNone c.args.field.now = none_of_name c.args.field.now c.args.name c.requires.named c.requires.no_kind in
-    let stored : ¬ IsUnstored c.args.field.now = other_stored c.names_are_distinct.ensures c.args.field.now c.args.name c.requires.named c.in-Native.is in
+    let none = none_of_name c.args.field.now c.args.name c.requires.named c.requires.no_kind in
+    let stored = other_stored c.names_are_distinct.ensures c.args.field.now c.args.name c.requires.named c.in-Native.is in
     structured_refused c.args.field.now _ none stored c.structured_refusal.ensures
