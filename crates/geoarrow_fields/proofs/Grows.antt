@@ -1,5 +1,5 @@
 -- What a writer holds grows, over plain variables.
-use Rattle.std.proofs.Common.{◌≡◌, ℕ, List, [], ◌∷◌, ◌++◌, ◌-◌, length, take, drop, take-append-drop, Option, refl, sym, ap, ◌∙◌, subst, append_assoc, append-nil}
+use Rattle.std.proofs.Common.{◌≡◌, ℕ, List, [], ◌∷◌, ◌++◌, ◌-◌, length, take, drop, take-append-drop, Option, refl, sym, ap, ◌∙◌, subst, append_assoc}
 use Rattle.std.proofs.lemmas.List.{take_rest}
 use Rattle.std.proofs.KnownBytes.{Appends-trans}
 use Rattle.std.specs.Io.KnownBytes.{Appends}
@@ -25,10 +25,6 @@ part_of_longer a b old new part = record {
   joined = ap (λ l. l ++ b) part.joined ∙ append_assoc part.front part.back b;
   appended = part.appended;
 }
-
--- the whole of output is a part of it
-pub part_whole : (a : Bytes) (old new : Option Bytes) → Appends old new a → AppendsPart old new a
-part_whole a old new whole = record { front = a; back = []; joined = sym (append-nil a); appended = whole }
 
 -- an answer to a line, with its line feed, answers that line
 module _ (command : Command) (line text answer : Bytes) (same : text ≡ answer) (is : Answers command line answer) where

@@ -4,4 +4,3 @@ pub mod Laws
 pub mod Grows
 pub mod Steps
 pub mod Ways
-pub mod Runs

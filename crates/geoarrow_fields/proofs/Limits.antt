@@ -1,9 +1,9 @@
 -- Lines in bytes that hold a line feed or none, and when what comes is past a limit.
-use Rattle.std.proofs.Common.{◌≡◌, ◌≢◌, ◌⊎◌, inl, inr, ℕ, zero, suc, ◌+◌, ◌-◌, ◌<◌, ◌≤◌, true, eqb, [], ◌∷◌, ◌++◌, length, take, drop, get_or, refl, sym, ap, ◌∙◌, append_assoc, length-append, length-take, add-one, arith}
+use Rattle.std.proofs.Common.{◌≡◌, ◌≢◌, ◌⊎◌, inl, inr, ℕ, zero, suc, ◌+◌, ◌-◌, ◌<◌, ◌≤◌, true, eqb, [], ◌∷◌, ◌++◌, length, take, drop, take_all, subst, get_or, refl, sym, ap, ◌∙◌, append_assoc, length-append, length-take, add-one, arith}
 use Rattle.std.proofs.lemmas.Bool.{eq-eqb, eqb-true}
 use Rattle.std.proofs.lemmas.List.{take_rest, get_or_append_left, get_or_at}
 use Rattle.std.proofs.lemmas.List.Elements.{All-nil, All-cons}
-use Rattle.geoarrow_fields.specs.Lines.{Bytes, line_feed, max_lines, max_line_bytes, IsLine, BeginsTooLong, IsPastLimit}
+use Rattle.geoarrow_fields.specs.Lines.{Bytes, line_feed, max_lines, max_line_bytes, IsLine, IsPastLimit}
 
 -- the byte at a place is no line feed
 abbrev pub IsOther : Bytes → ℕ → Type 0
@@ -21,9 +21,7 @@ line_before (byte ∷ rest) (suc at) within h =
 
 -- bytes with no line feed are of one line
 pub line_whole : (rest : Bytes) → ((k : ℕ) → k < length rest → IsOther rest k) → IsLine rest
-line_whole [] h = All-nil (λ b. b ≢ line_feed)
-line_whole (byte ∷ rest) h =
-    All-cons (λ b. b ≢ line_feed) byte rest (other_byte byte (h 0 (omega arith))) (line_whole rest (λ k lt. h (suc k) (omega arith)))
+line_whole rest h = subst IsLine (take_all (length rest) rest (omega arith)) (line_before rest (length rest) (omega arith) h)
 
 -- the line feed at a place parts the bytes
 parted : (rest : Bytes) (at : ℕ) → at < length rest → eqb (get_or rest at 0) line_feed ≡ true → rest ≡ take at rest ++ (line_feed ∷ drop (suc at) rest)
@@ -35,14 +33,11 @@ parted (byte ∷ rest) (suc at) within feed = ap (λ l. byte ∷ l) (parted rest
 abbrev pub after : Bytes → ℕ → Bytes
 after rest at = take (length rest - (at + 1)) (drop (at + 1) rest)
 
-after_is : (rest : Bytes) (at : ℕ) → drop (suc at) rest ≡ after rest at
-after_is rest at = ap (λ k. drop k rest) (sym (add-one at)) ∙ sym (take_rest rest (at + 1))
-
 -- the begun line ends at the line feed
 pub line_parted : (begun rest : Bytes) (at : ℕ) → at < length rest → eqb (get_or rest at 0) line_feed ≡ true
     → begun ++ rest ≡ (begun ++ take at rest) ++ (line_feed ∷ after rest at)
 line_parted begun rest at within feed =
-    ap (λ l. begun ++ l) (parted rest at within feed ∙ ap (λ l. take at rest ++ (line_feed ∷ l)) (after_is rest at))
+    ap (λ l. begun ++ l) (parted rest at within feed ∙ ap (λ l. take at rest ++ (line_feed ∷ l)) (rw (take_rest, add-one)))
     ∙ sym (append_assoc begun (take at rest) (line_feed ∷ after rest at))
 
 pub length_line : (begun rest : Bytes) (at : ℕ) → at ≤ length rest → length (begun ++ take at rest) ≡ length begun + at
@@ -54,21 +49,15 @@ pub limit_passed : (total : ℕ) (later line tail : Bytes) → later ≡ line ++
 limit_passed total later line tail joined is some (inl many) = inl (many, some)
 limit_passed total later line tail joined is some (inr long) = inr (record { begun = line; rest = tail; joined = joined; line = is; long = long })
 
--- a line that a line feed ends within its limit is not too long
-ended_inside : (later line tail : Bytes) → later ≡ line ++ (line_feed ∷ tail) → length line ≤ max_line_bytes → ¬ BeginsTooLong later
-ended_inside later line tail joined short long =
+-- a line that a line feed ends within its limit is past none
+pub line_inside : (total : ℕ) (later line tail : Bytes) → later ≡ line ++ (line_feed ∷ tail) → total < max_lines → length line ≤ max_line_bytes → ¬ IsPastLimit total later
+line_inside total later line tail joined few short (inl (many, some)) = omega arith
+line_inside total later line tail joined few short (inr long) =
     let at : length line < length long.begun = omega (arith, long.long) in
     long.line (length line) 0 at
     (sym (get_or_append_left long.begun long.rest 0 (length line) at) ∙ ap (λ l. get_or l (length line) 0) (sym long.joined ∙ joined) ∙ get_or_at line line_feed tail 0 (length line) refl)
 
-pub line_inside : (total : ℕ) (later line tail : Bytes) → later ≡ line ++ (line_feed ∷ tail) → total < max_lines → length line ≤ max_line_bytes → ¬ IsPastLimit total later
-line_inside total later line tail joined few short (inl (many, some)) = omega arith
-line_inside total later line tail joined few short (inr long) = ended_inside later line tail joined short long
-
--- what has come of a line within its limit is not too long
-begun_short : (later : Bytes) → length later ≤ max_line_bytes → ¬ BeginsTooLong later
-begun_short later short long = omega (arith, long.long, ap length long.joined, length-append long.begun long.rest)
-
+-- nor is what has come of one
 pub begun_inside : (total : ℕ) (later : Bytes) → (0 < length later → total < max_lines) → length later ≤ max_line_bytes → ¬ IsPastLimit total later
 begun_inside total later room short (inl (many, some)) = let few : total < max_lines = room some in omega arith
-begun_inside total later room short (inr long) = begun_short later short long
+begun_inside total later room short (inr long) = omega (arith, long.long, ap length long.joined, length-append long.begun long.rest)

@@ -59,16 +59,13 @@ split_after input a middle b later first second = record {
   each = All-append IsLine a b first.each second.each;
 }
 
-feed_before : (byte : ℕ) → eqb byte line_feed ≡ true → (bytes split : Bytes) → bytes ≡ split → byte ∷ bytes ≡ line_feed ∷ split
-feed_before byte e bytes split same = let is = eqb-true byte line_feed e in cc
-
 -- a byte before an input that is split
 put_before : (byte : ℕ) (b : Bool) → eqb byte line_feed ≡ b → (bytes : Bytes) (lines : List Bytes) (rest : Bytes) → IsSplit bytes lines rest → IsLine rest
     → (made : List Bytes) × (left : Bytes) × IsSplit (byte ∷ bytes) made left × IsLine left
 put_before byte true e bytes lines rest split line = (
   [] ∷ lines,
   rest,
-  record { joined = feed_before byte e bytes (ended_lines lines ++ rest) split.joined; each = All-cons IsLine [] lines (All-nil (λ b. b ≢ line_feed)) split.each },
+  record { joined = cc (eqb-true byte line_feed e); each = All-cons IsLine [] lines (All-nil (λ b. b ≢ line_feed)) split.each },
   line,
 )
 put_before byte false e bytes [] rest split line = (

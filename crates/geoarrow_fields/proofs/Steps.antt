@@ -116,6 +116,6 @@ module _ (command : Command) (count total : ℕ) (input begun rest : Bytes) (old
     }
 
 -- nothing has come of the next line
-pub cleared_begun : (total : ℕ) (cleared : Bytes) → cleared ≡ [] → total < max_lines → IsBegun (total + 1) cleared
+pub cleared_begun : (total : ℕ) (cleared : Bytes) → cleared ≡ [] → total ≤ max_lines → IsBegun total cleared
 cleared_begun total cleared clear few =
-    subst (IsBegun (total + 1)) (sym clear) (record { line = All-nil (λ b. b ≢ line_feed); short = omega arith; few = omega arith; room = λ some. absurd (omega arith) })
+    subst (IsBegun total) (sym clear) (record { line = All-nil (λ b. b ≢ line_feed); short = omega arith; few = omega arith; room = λ some. absurd (omega arith) })

@@ -1,16 +1,16 @@
 -- A run under way, and its ends, over plain variables.
-use Rattle.std.proofs.Common.{◌≡◌, ◌≢◌, codes, inl, inr, ℕ, ◌+◌, List, ◌*◌, ◌-◌, ◌<◌, [], ◌∷◌, ◌++◌, length, Option, refl, sym, ap, ◌∙◌, subst, append-nil, length-append, arith}
+use Rattle.std.proofs.Common.{◌≡◌, inl, inr, ℕ, ◌+◌, List, ◌*◌, ◌-◌, ◌<◌, [], ◌∷◌, ◌++◌, length, Option, refl, sym, ap, ◌∙◌, subst, append-nil, length-append, arith}
 use Rattle.std.proofs.KnownBytes.{Appends-trans, Appends-nil, Appends-kept, Consumes-nil, Consumes-trans, Consumes-kept}
 use Rattle.std.proofs.lemmas.List.Elements.{All-nil, All-cons, All-append}
 use Rattle.std.specs.Io.KnownBytes.{Appends, Consumes, Keeps}
 use Rattle.geoarrow_fields.specs.declared.Command.{Command}
-use Rattle.geoarrow_fields.specs.Lines.{Bytes, line_feed, lines_of, max_lines, max_line_bytes, IsSplit, IsLine, IsShort, IsWithinLimits, IsPastLimit}
+use Rattle.geoarrow_fields.specs.Lines.{Bytes, lines_of, max_lines, max_line_bytes, IsSplit, IsLine, IsShort, IsWithinLimits, IsPastLimit}
 use Rattle.geoarrow_fields.specs.Output.{Answered, AnswersAll, AnswersUpTo, AnswersFirst, StopsForInput, StopsForMemory, Followed, BreaksOff, AppendsPart, AppendsSome, AppendsPartOfSome, ReadsAndWrites, ReadsAndWritesPart}
 use Rattle.geoarrow_fields.specs.Progress.{IsBegun, AnswersNext, AnswersSome, AnswersToLimit, AnswersInside}
 use Rattle.geoarrow_fields.proofs.Splits.{lines_of-split, lines_of-last}
 use Rattle.geoarrow_fields.proofs.Limits.{begun_inside}
 use Rattle.geoarrow_fields.proofs.Grows.{answered_after, part_after}
-use Rattle.geoarrow_fields.proofs.Steps.{next_none, next_after}
+use Rattle.geoarrow_fields.proofs.Steps.{next_none, next_after, cleared_begun}
 
 -- ---- what the lines from the first on say of the input
 
@@ -69,13 +69,10 @@ pub record IsUnderWay (command : Command) (count : ℕ) (begun : Bytes) (in_old 
   pub next : IsBegun count begun
 
 -- nothing is read yet
-none_begun : IsBegun 0 []
-none_begun = record { line = All-nil (λ b. b ≢ line_feed); short = omega arith; few = omega arith; room = λ some. absurd (omega arith) }
-
 pub way_starts : (command : Command) (begun : Bytes) (in_now out_now : Option Bytes) → begun ≡ [] → IsUnderWay command 0 begun in_now in_now out_now out_now
 way_starts command begun in_now out_now none =
     let way : IsUnderWay command 0 [] in_now in_now out_now out_now =
-    record { input = []; consumed = Consumes-nil in_now; written = ([], next_none command 0 [] (omega arith), Appends-nil out_now); next = none_begun } in
+    record { input = []; consumed = Consumes-nil in_now; written = ([], next_none command 0 [] (omega arith), Appends-nil out_now); next = cleared_begun 0 [] refl (omega arith) } in
     subst (λ l. IsUnderWay command 0 l in_now in_now out_now out_now) (sym none) way
 
 pub lacks_memory_at_start : (command : Command) (in_now out_now : Option Bytes) → ReadsAndWrites (StopsForMemory command) in_now in_now out_now out_now
@@ -106,27 +103,22 @@ module _ (command : Command) (count : ℕ) (begun : Bytes) (in_old in_mid out_ol
         let (more, others, grown) = chunk in
         record { input = way.input ++ piece; consumed = consumed; written = (output ++ more, join total later output more next others, Appends-trans out_old out_mid out_new output more written grown); next = is }
 
-    pub way_past_limit : AppendsSome (AnswersToLimit command count (begun ++ piece)) out_mid out_new → ReadsAndWrites (StopsForInput command) in_old in_new out_old out_new
-    way_past_limit chunk =
+    -- what is written of it ends the run
+    chunk_ends : (Part : Bytes → Type 0) (Output : Bytes → Bytes → Type 0)
+        → ((output more : Bytes) → AnswersNext command 0 way.input count begun output → Part more → Output (way.input ++ piece) (output ++ more))
+        → AppendsSome Part out_mid out_new → ReadsAndWrites Output in_old in_new out_old out_new
+    chunk_ends Part Output ends chunk =
         let (output, next, written) = way.written in
-        let (more, stop, grown) = chunk in
-        let (total, later, others, past) = stop in
-        record {
-          input = way.input ++ piece;
-          consumed = consumed;
-          written = (output ++ more, stops_past_limit command (way.input ++ piece) total later (output ++ more) (join total later output more next others) past, Appends-trans out_old out_mid out_new output more written grown);
-        }
+        let (more, part, grown) = chunk in
+        record { input = way.input ++ piece; consumed = consumed; written = (output ++ more, ends output more next part, Appends-trans out_old out_mid out_new output more written grown) }
+
+    pub way_past_limit : AppendsSome (AnswersToLimit command count (begun ++ piece)) out_mid out_new → ReadsAndWrites (StopsForInput command) in_old in_new out_old out_new
+    way_past_limit = chunk_ends (AnswersToLimit command count (begun ++ piece)) (StopsForInput command)
+        (λ output more next part. stops_past_limit command (way.input ++ piece) part.0 part.1 (output ++ more) (join part.0 part.1 output more next part.2) part.3)
 
     pub way_lacks_memory : AppendsSome (AnswersInside command count (begun ++ piece)) out_mid out_new → ReadsAndWrites (StopsForMemory command) in_old in_new out_old out_new
-    way_lacks_memory chunk =
-        let (output, next, written) = way.written in
-        let (more, stop, grown) = chunk in
-        let (total, later, others, inside) = stop in
-        record {
-          input = way.input ++ piece;
-          consumed = consumed;
-          written = (output ++ more, stops_inside command (way.input ++ piece) total later (output ++ more) (join total later output more next others) inside, Appends-trans out_old out_mid out_new output more written grown);
-        }
+    way_lacks_memory = chunk_ends (AnswersInside command count (begun ++ piece)) (StopsForMemory command)
+        (λ output more next part. stops_inside command (way.input ++ piece) part.0 part.1 (output ++ more) (join part.0 part.1 output more next part.2) part.3)
 
     pub way_breaks_off : AppendsPartOfSome (AnswersSome command count (begun ++ piece)) out_mid out_new → ReadsAndWritesPart (AnswersFirst command) in_old in_new out_old out_new
     way_breaks_off chunk =
@@ -217,15 +209,5 @@ module _ (Output : Bytes → Bytes → Type 0) (in_old in_new out_old out_mid ou
       }
 
 -- all is answered, and nothing follows
-unfollowed : (command : Command) (input output : Bytes) → Followed (AnswersAll command) [] input output → BreaksOff command input output
+pub unfollowed : (command : Command) (input output : Bytes) → Followed (AnswersAll command) [] input output → BreaksOff command input output
 unfollowed command input output (before, all, joined) = inl (first_of_all command input output (subst (AnswersAll command input) (sym (joined ∙ append-nil before)) all))
-
-module _ (command : Command) (in_old in_new out_old out_mid out_new : Option Bytes) where
-  pub done_breaks_off : ReadsAndWrites (AnswersAll command) in_old in_new out_old out_mid → AppendsPart out_mid out_new [] → ReadsAndWritesPart (BreaksOff command) in_old in_new out_old out_new
-  done_breaks_off run = end_breaks_off (AnswersAll command) in_old in_new out_old out_mid out_new [] run (BreaksOff command) (unfollowed command)
-
-  pub input_breaks_off : ReadsAndWrites (StopsForInput command) in_old in_new out_old out_mid → AppendsPart out_mid out_new (codes "error input\n") → ReadsAndWritesPart (BreaksOff command) in_old in_new out_old out_new
-  input_breaks_off run = end_breaks_off (StopsForInput command) in_old in_new out_old out_mid out_new (codes "error input\n") run (BreaksOff command) (λ input output is. inr (inl is))
-
-  pub memory_breaks_off : ReadsAndWrites (StopsForMemory command) in_old in_new out_old out_mid → AppendsPart out_mid out_new (codes "error memory\n") → ReadsAndWritesPart (BreaksOff command) in_old in_new out_old out_new
-  memory_breaks_off run = end_breaks_off (StopsForMemory command) in_old in_new out_old out_mid out_new (codes "error memory\n") run (BreaksOff command) (λ input output is. inr (inr is))

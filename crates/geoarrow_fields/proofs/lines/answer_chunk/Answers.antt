@@ -38,7 +38,7 @@ loop-at-preserved g c =
     let short : length c.loop-at.begun.items + c.in-Some.at ≤ 1048576 = omega (arith, c.if-is_past_limit.ensures, c.len.ensures, c.loop-at.begun.ok.0) in
     let clear = c.in_ok-end_line.ensures.clear in (
       line_answered c.args.command _ _ _ c.loop-at.begun.items c.loop-at.rest.now _ _ c.loop-at.invariant.0 c.loop-at.invariant.1 c.in-Some.at before.high (λ k lt. before.before k (omega arith) lt) feed few short _ _ clear c.in_ok-end_line.ensures.ok,
-      cleared_begun _ _ clear few,
+      cleared_begun _ _ clear (omega (arith, few)),
     )
 
 pub returns-then-is_past_limit-2-clause-input : goal.returns-then-is_past_limit-2-clause-input
