@@ -93,10 +93,6 @@ fits_later : (count : ℕ) (line rest : Bytes) → IsLine line → IsShort line 
 fits_later count line rest is short fits =
     subst (FitsAfter count) (sym (lines_of-line line rest is)) (record { few = omega (arith, fits.few); short = All-cons IsShort line (lines_of rest) short fits.short })
 
-fits_last : (count : ℕ) (rest : Bytes) → IsLine rest → IsShort rest → 0 < length rest → count < max_lines → FitsAfter count (lines_of rest)
-fits_last count rest is short some few =
-    subst (FitsAfter count) (sym (lines_of-last rest is some)) (record { few = omega arith; short = All-cons IsShort rest [] short (All-nil IsShort) })
-
 -- a line that comes fits, or is past a limit
 comes : (count : ℕ) (later line tail : Bytes) → count ≤ max_lines → later ≡ line ++ tail → IsLine line → 0 < length later → PassesAfter count later ⊎ ((count < max_lines) × IsShort line)
 comes count later line tail few joined is some = room (cases_lt count max_lines)
@@ -115,7 +111,7 @@ last_either count [] few is = inl (record { few = omega arith; short = All-nil I
 last_either count (byte ∷ bytes) few is =
     elim (comes count (byte ∷ bytes) (byte ∷ bytes) [] few (sym (append-nil (byte ∷ bytes))) is (omega arith)) [
       | inl passes ↦ inr passes
-      | inr fits ↦ inl (fits_last count (byte ∷ bytes) is fits.1 (omega arith) fits.0)
+      | inr fits ↦ inl (subst (FitsAfter count) (sym (lines_of-last (byte ∷ bytes) is (omega arith))) (record { few = omega (arith, fits.0); short = All-cons IsShort (byte ∷ bytes) [] fits.1 (All-nil IsShort) }))
     ]
 
 -- lines and a rest fit, or pass a limit

@@ -1,5 +1,5 @@
 -- Lines in bytes that hold a line feed or none, and when what comes is past a limit.
-use Rattle.std.proofs.Common.{◌≡◌, ◌≢◌, ◌⊎◌, inl, inr, ℕ, zero, suc, ◌+◌, ◌-◌, ◌<◌, ◌≤◌, true, eqb, [], ◌∷◌, ◌++◌, length, take, drop, take_all, subst, get_or, refl, sym, ap, ◌∙◌, append_assoc, length-append, length-take, add-one, arith}
+use Rattle.std.proofs.Common.{◌≡◌, ◌≢◌, ◌⊎◌, inl, inr, ℕ, zero, suc, ◌+◌, ◌-◌, ◌<◌, ◌≤◌, true, eqb, [], ◌∷◌, ◌++◌, length, take, drop, take_all, subst, get_or, refl, sym, ap, ◌∙◌, append_assoc, length-append, add-one, arith}
 use Rattle.std.proofs.lemmas.Bool.{eq-eqb, eqb-true}
 use Rattle.std.proofs.lemmas.List.{take_rest, get_or_append_left, get_or_at}
 use Rattle.std.proofs.lemmas.List.Elements.{All-nil, All-cons}
@@ -9,15 +9,12 @@ use Rattle.geoarrow_fields.specs.Lines.{Bytes, line_feed, max_lines, max_line_by
 abbrev pub IsOther : Bytes → ℕ → Type 0
 IsOther bytes k = eqb (get_or bytes k 0) line_feed ≢ true
 
-other_byte : (byte : ℕ) → eqb byte line_feed ≢ true → byte ≢ line_feed
-other_byte byte h is = h (eq-eqb byte line_feed is)
-
 -- what stands before a place up to which no line feed stands is of one line
 pub line_before : (rest : Bytes) (at : ℕ) → at ≤ length rest → ((k : ℕ) → k < at → IsOther rest k) → IsLine (take at rest)
 line_before rest zero within h = All-nil (λ b. b ≢ line_feed)
 line_before [] (suc at) within h = absurd (omega arith)
 line_before (byte ∷ rest) (suc at) within h =
-    All-cons (λ b. b ≢ line_feed) byte (take at rest) (other_byte byte (h 0 (omega arith))) (line_before rest at (omega arith) (λ k lt. h (suc k) (omega arith)))
+    All-cons (λ b. b ≢ line_feed) byte (take at rest) (λ is. h 0 (omega arith) (eq-eqb byte line_feed is)) (line_before rest at (omega arith) (λ k lt. h (suc k) (omega arith)))
 
 -- bytes with no line feed are of one line
 pub line_whole : (rest : Bytes) → ((k : ℕ) → k < length rest → IsOther rest k) → IsLine rest
@@ -39,9 +36,6 @@ pub line_parted : (begun rest : Bytes) (at : ℕ) → at < length rest → eqb (
 line_parted begun rest at within feed =
     ap (λ l. begun ++ l) (parted rest at within feed ∙ ap (λ l. take at rest ++ (line_feed ∷ l)) (rw (take_rest, add-one)))
     ∙ sym (append_assoc begun (take at rest) (line_feed ∷ after rest at))
-
-pub length_line : (begun rest : Bytes) (at : ℕ) → at ≤ length rest → length (begun ++ take at rest) ≡ length begun + at
-length_line begun rest at within = length-append begun (take at rest) ∙ ap (λ n. length begun + n) (omega (arith, length-take at rest))
 
 -- a line that comes is past a limit
 pub limit_passed : (total : ℕ) (later line tail : Bytes) → later ≡ line ++ tail → IsLine line → 0 < length later

@@ -1,5 +1,5 @@
 -- The lines of a chunk, one after the other, over plain variables.
-use Rattle.std.proofs.Common.{◌≡◌, ◌≢◌, ◌⊎◌, ℕ, ◌+◌, ◌<◌, ◌≤◌, true, eqb, [], ◌∷◌, ◌++◌, length, take, get_or, Option, sym, ap, subst, append-nil, length-append, arith}
+use Rattle.std.proofs.Common.{◌≡◌, ◌≢◌, ◌⊎◌, ℕ, ◌+◌, ◌<◌, ◌≤◌, true, eqb, [], ◌∷◌, ◌++◌, length, take, get_or, Option, sym, ap, subst, append-nil, length-append, length-take, arith}
 use Rattle.std.proofs.KnownBytes.{Appends-trans, Appends-kept}
 use Rattle.std.proofs.lemmas.List.Elements.{All-nil, All-cons, All-append}
 use Rattle.std.specs.Io.KnownBytes.{Keeps}
@@ -8,7 +8,7 @@ use Rattle.geoarrow_fields.specs.Lines.{Bytes, line_feed, max_lines, max_line_by
 use Rattle.geoarrow_fields.specs.Output.{Answered, AppendsSome, AppendsPartOfSome}
 use Rattle.geoarrow_fields.specs.Progress.{IsBegun, AnswersNext, AnswersSome, AnswersToLimit, AnswersInside}
 use Rattle.geoarrow_fields.proofs.Splits.{split_none, split_line, split_on, split_after}
-use Rattle.geoarrow_fields.proofs.Limits.{IsOther, line_before, line_whole, after, line_parted, length_line, limit_passed, line_inside, begun_inside}
+use Rattle.geoarrow_fields.proofs.Limits.{IsOther, line_before, line_whole, after, line_parted, limit_passed, line_inside, begun_inside}
 use Rattle.geoarrow_fields.proofs.Grows.{answered_none, answered_after, part_after}
 
 pub next_none : (command : Command) (count : ℕ) (input : Bytes) → count ≤ max_lines → AnswersNext command count input count input []
@@ -57,7 +57,7 @@ module _ (command : Command) (count total : ℕ) (input begun rest : Bytes) (old
     line_is = All-append (λ b. b ≢ line_feed) begun (take at rest) is.line (line_before rest at (omega arith) before)
 
     line_length : length (begun ++ take at rest) ≡ length begun + at
-    line_length = length_line begun rest at (omega arith)
+    line_length = omega (arith, length-append begun (take at rest), length-take at rest)
 
     pub line_past_limit : (total ≡ max_lines) ⊎ (max_line_bytes < length begun + at) → AppendsSome (AnswersToLimit command count input) old mid
     line_past_limit past =
