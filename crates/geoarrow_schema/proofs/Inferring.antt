@@ -55,9 +55,6 @@ not_stored t c d _ p h = h
 abbrev Pair : Type 0
 Pair = CoordType × Dimension
 
-abbrev some_pair : Pair → Option Pair
-some_pair p = Some p
-
 pub point_inferred : (t : Tree) (p : Pair) (r : Option Pair) → r ≡ Some p → AnswersSome r (Inferred t) → AnswersInferred t (Some (Native Point p.0 p.1))
 point_inferred t p r is a = λ k. (λ e. subst (InferredAs t) (same_Some (Native Point p.0 p.1) k e) ((a p.0 p.1).0 is), λ h. back k h)
   where
@@ -76,7 +73,7 @@ serialized_inferred t r s is a stored = λ k. (λ e. there k ((stored k).0 e), �
     there _ h = absurd h
 
     back : (k : Kind) → InferredAs t k → s ≡ Some k
-    back (Native Point b e) h = let bad : r ≡ some_pair (b, e) = (a b e).1 h in absurd cc
+    back (Native Point b e) h = absurd (cc ((a b e).1 h))
     back (Wkb w) h = (stored (Wkb w)).1 h
     back (Wkt w) h = (stored (Wkt w)).1 h
     back _ h = absurd h
@@ -128,11 +125,7 @@ unfolding InfersAs
 named_alone f (Ok g) reads alone = (alone, λ k m there. absurd (there.0 (read_has_name f g reads)))
 named_alone f (Err e) reads alone = tt
 
--- and one that is taken for a type is read as none beside
-pub inferred_alone : (f : FieldTree) (g : GeoArrowType) → ¬ HasGeoArrowName f → InfersAlone f g → ReadsOrInfersAlone f g
-inferred_alone f g unnamed alone = ((λ k m here. absurd (none_unnamed f unnamed k m here)), alone)
-
--- and read as it or taken for it
+-- a field is read as one type or taken for one
 pub taken_once : (f : FieldTree) → ((g h : GeoArrowType) → Reads f g → Reads f h → SameType g h) → ((g h : GeoArrowType) → Infers f g → Infers f h → SameType g h)
     → (g h : GeoArrowType) → ReadsOrInfers f g → ReadsOrInfers f h → SameType g h
 unfolding InfersAs

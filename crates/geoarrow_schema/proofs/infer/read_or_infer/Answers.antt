@@ -1,7 +1,8 @@
 use Rattle.std.proofs.Common.{rules}
 use Rattle.std.proofs.lemmas.Result.{IfOk-weaker}
 use Rattle.geoarrow_schema.specs.Reads.{HasGeoArrowName}
-use Rattle.geoarrow_schema.proofs.Inferring.{named_inference, named_alone, unnamed_inference, inferred_alone}
+use Rattle.geoarrow_schema.proofs.Inferring.{named_inference, named_alone, unnamed_inference}
+use Rattle.geoarrow_schema.proofs.Reading.{none_unnamed}
 use Rattle.geoarrow_schema.proofs.infer.read_or_infer.Goals as goal
 
 pub returns-in-Some-clause-inference : goal.returns-in-Some-clause-inference
@@ -16,4 +17,4 @@ returns-in-None-clause-inference c = unnamed_inference c.args.field.now c.infer.
 pub returns-in-None-clause-only : goal.returns-in-None-clause-only
 returns-in-None-clause-only c =
     let unnamed : ¬ HasGeoArrowName c.args.field.now = search rules in
-    IfOk-weaker c.infer.result _ _ (λ g alone. inferred_alone c.args.field.now g unnamed alone) c.infer.ensures.only
+    IfOk-weaker c.infer.result _ _ (λ g alone. ((λ k m here. absurd (none_unnamed c.args.field.now unnamed k m here)), alone)) c.infer.ensures.only
