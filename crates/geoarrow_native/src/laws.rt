@@ -1,4 +1,5 @@
 //! Laws of columns, for the crates above: functions with nothing to run, whose contract is the law.
+ghost use Rattle.std.specs.Arc.{arc_value};
 ghost use Rattle.std.specs.Prelude.{◌≡◌, ◌↔◌, Bool, IsTrue, pos};
 ghost use Rattle.geoarrow_layout.specs.declared.encodings.Kind.{Kind};
 ghost use Rattle.geoarrow_layout.specs.Kinds.{type_id_of};
@@ -6,7 +7,6 @@ ghost use Rattle.geoarrow_meta.specs.declared.metadata.Metadata.{Metadata};
 ghost use Rattle.arrow_values.specs.Tree.{Text};
 ghost use Rattle.geoarrow_meta.specs.Written.{meta_value, normal, IsReadBack};
 ghost use Rattle.geoarrow_native.specs.Column.{ReadsAs, written_field};
-ghost use Rattle.geoarrow_native.specs.Parts.{native_coord_type, native_dimension, native_meta};
 
 use crate::native::NativeType;
 use crate::shape::NativeShape;
@@ -38,9 +38,9 @@ pub fn written_field_reads_back(kind: Kind, metadata: &Metadata)
 
 /// A law: `==` returns true for two native types exactly if coordinate type, dimension and metadata are equal.
 pub fn native_equality_is_exact<S: NativeShape>(one: &NativeType<S>, other: &NativeType<S>) -> bool
-    ensures { IsTrue result ↔ ((native_coord_type one.now ≡ native_coord_type other.now)
-        × (native_dimension one.now ≡ native_dimension other.now)
-        × (native_meta one.now ≡ native_meta other.now)) }
+    ensures { IsTrue result ↔ ((one.now.coord_type ≡ other.now.coord_type)
+        × (one.now.dimension ≡ other.now.dimension)
+        × (arc_value one.now.metadata ≡ arc_value other.now.metadata)) }
 {
     equality_test_is_exact();
     one == other
@@ -48,7 +48,7 @@ pub fn native_equality_is_exact<S: NativeShape>(one: &NativeType<S>, other: &Nat
 
 /// A law: the type id of a native type is that of its own kind and dimension, by the table of type ids.
 pub fn type_id_is_its_own<S: NativeShape>(native_type: &NativeType<S>) -> i8
-    ensures { result ≡ pos (type_id_of S.KIND (native_dimension native_type.now)) }
+    ensures { result ≡ pos (type_id_of S.KIND native_type.now.dimension) }
 {
     native_type.geometry_type_id()
 }

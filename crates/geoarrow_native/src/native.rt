@@ -40,13 +40,11 @@ pub struct NativeType<S> {
 }
 
 impl<S: NativeShape> NativeType<S> {
-    ghost use Rattle.geoarrow_native.specs.Parts.{native_coord_type, native_dimension, native_metadata, native_meta};
-
     /// The type of that dimension and metadata, with separated coordinates.
     pub fn new(dimension: Dimension, metadata: Arc<Metadata>) -> NativeType<S>
-        ensures coord_type { native_coord_type result ≡ Separated }
-        ensures dimension { native_dimension result ≡ dimension }
-        ensures metadata { native_metadata result ≡ metadata }
+        ensures coord_type { result.coord_type ≡ Separated }
+        ensures dimension { result.dimension ≡ dimension }
+        ensures metadata { result.metadata ≡ metadata }
     {
         NativeType {
             coord_type: CoordType::Separated,
@@ -58,64 +56,64 @@ impl<S: NativeShape> NativeType<S> {
 
     /// The type with that coordinate type, otherwise unchanged.
     pub fn with_coord_type(self, coord_type: CoordType) -> NativeType<S>
-        ensures coord_type { native_coord_type result ≡ coord_type }
-        ensures dimension { native_dimension result ≡ native_dimension self }
-        ensures metadata { native_metadata result ≡ native_metadata self }
+        ensures coord_type { result.coord_type ≡ coord_type }
+        ensures dimension { result.dimension ≡ self.dimension }
+        ensures metadata { result.metadata ≡ self.metadata }
     {
         NativeType { coord_type, ..self }
     }
 
     /// The type with that dimension, otherwise unchanged.
     pub fn with_dimension(self, dimension: Dimension) -> NativeType<S>
-        ensures coord_type { native_coord_type result ≡ native_coord_type self }
-        ensures dimension { native_dimension result ≡ dimension }
-        ensures metadata { native_metadata result ≡ native_metadata self }
+        ensures coord_type { result.coord_type ≡ self.coord_type }
+        ensures dimension { result.dimension ≡ dimension }
+        ensures metadata { result.metadata ≡ self.metadata }
     {
         NativeType { dimension, ..self }
     }
 
     /// The type with that metadata, otherwise unchanged.
     pub fn with_metadata(self, metadata: Arc<Metadata>) -> NativeType<S>
-        ensures coord_type { native_coord_type result ≡ native_coord_type self }
-        ensures dimension { native_dimension result ≡ native_dimension self }
-        ensures metadata { native_metadata result ≡ metadata }
+        ensures coord_type { result.coord_type ≡ self.coord_type }
+        ensures dimension { result.dimension ≡ self.dimension }
+        ensures metadata { result.metadata ≡ metadata }
     {
         NativeType { metadata, ..self }
     }
 
     /// How the coordinates are stored.
     pub fn coord_type(&self) -> CoordType
-        ensures { result ≡ native_coord_type self.now }
+        ensures { result ≡ self.now.coord_type }
     {
         self.coord_type
     }
 
     /// The dimension of the coordinates.
     pub fn dimension(&self) -> Dimension
-        ensures { result ≡ native_dimension self.now }
+        ensures { result ≡ self.now.dimension }
     {
         self.dimension
     }
 
     /// The metadata, in the `Arc` that was given.
     pub fn metadata(&self) -> &Arc<Metadata>
-        ensures { result.now ≡ native_metadata self.now }
+        ensures { result.now ≡ self.now.metadata }
     {
         &self.metadata
     }
 
     /// The three parts.
     pub fn into_inner(self) -> (CoordType, Dimension, Arc<Metadata>)
-        ensures { result ≡ (native_coord_type self, native_dimension self, native_metadata self) }
+        ensures { result ≡ (self.coord_type, self.dimension, self.metadata) }
     {
         (self.coord_type, self.dimension, self.metadata)
     }
 
     /// An equal type, which shares the metadata. Errs if the metadata has as many owners as can be counted.
     pub fn try_clone(&self, _alloc: Global) -> Result<NativeType<S>, AllocError>
-        ensures coord_type { IfOk result (λ e. native_coord_type e ≡ native_coord_type self.now) }
-        ensures dimension { IfOk result (λ e. native_dimension e ≡ native_dimension self.now) }
-        ensures metadata { IfOk result (λ e. native_meta e ≡ native_meta self.now) }
+        ensures coord_type { IfOk result (λ e. e.coord_type ≡ self.now.coord_type) }
+        ensures dimension { IfOk result (λ e. e.dimension ≡ self.now.dimension) }
+        ensures metadata { IfOk result (λ e. arc_value e.metadata ≡ arc_value self.now.metadata) }
     {
         Ok(NativeType {
             coord_type: self.coord_type,
@@ -135,7 +133,7 @@ impl<S: NativeShape> NativeType<S> {
     /// assert!(rt; points.data_type(alloc)? == wanted);
     /// ```
     pub fn data_type(&self, alloc: Global) -> Result<DataType, AllocError>
-        ensures { IfOk result (λ t. tree t ≡ native_layout S.KIND (native_coord_type self.now) (native_dimension self.now)) }
+        ensures { IfOk result (λ t. tree t ≡ native_layout S.KIND self.now.coord_type self.now.dimension) }
     {
         list_data_type(alloc, S::KIND, self.coord_type, self.dimension)
     }
@@ -146,9 +144,9 @@ impl<S: NativeShape> NativeType<S> {
     /// memory.
     pub fn to_field(&self, alloc: Global, name: &str, nullable: bool) -> Result<Field, ArrowError>
         ensures written { IfOk result (λ f. f ≡ written_field name.now nullable
-            (OfNative S.KIND (native_coord_type self.now) (native_dimension self.now)) (native_meta self.now)) }
-        ensures reads_back { IfOk result (λ f. IsReadBack (meta_value (native_meta self.now)) → ReadsAs f
-            (OfNative S.KIND (native_coord_type self.now) (native_dimension self.now)) (normal (native_meta self.now))) }
+            (OfNative S.KIND self.now.coord_type self.now.dimension) (arc_value self.now.metadata)) }
+        ensures reads_back { IfOk result (λ f. IsReadBack (meta_value (arc_value self.now.metadata)) → ReadsAs f
+            (OfNative S.KIND self.now.coord_type self.now.dimension) (normal (arc_value self.now.metadata))) }
         ensures refused { IfErr result IsMemory }
     {
         let kind = Kind::Native(S::KIND, self.coord_type, self.dimension);
@@ -177,7 +175,6 @@ impl<S: NativeShape> ExtensionType for NativeType<S> {
     ghost use Rattle.geoarrow_layout.specs.OneShape.{any_native_same};
     ghost use Rattle.geoarrow_native.specs.Agree.{native_along};
     ghost use Rattle.geoarrow_native.specs.Column.{IsLayoutRefusal, RefusesNativeUse};
-    ghost use Rattle.geoarrow_native.specs.Parts.{native_coord_type, native_dimension, native_metadata};
 
     const NAME: &'static str = S::NAME;
 
@@ -185,7 +182,7 @@ impl<S: NativeShape> ExtensionType for NativeType<S> {
 
     ghost name_text = { native_name S.KIND };
 
-    ghost metadata_of = { native_metadata };
+    ghost metadata_of = { λ e. e.metadata };
 
     ghost printed = { λ m. printed_text (arc_value m) };
 
@@ -195,9 +192,9 @@ impl<S: NativeShape> ExtensionType for NativeType<S> {
 
     ghost StandsFor = { TextStandsFor };
 
-    ghost Accepts = { λ t e. IsOfKind t S.KIND (native_coord_type e) (native_dimension e) };
+    ghost Accepts = { λ t e. IsOfKind t S.KIND e.coord_type e.dimension };
 
-    ghost Agrees = { λ a b. (native_coord_type a ≡ native_coord_type b) × (native_dimension a ≡ native_dimension b) };
+    ghost Agrees = { λ a b. (a.coord_type ≡ b.coord_type) × (a.dimension ≡ b.dimension) };
 
     ghost RefusesText = { TextRefusedAs };
 
@@ -205,11 +202,11 @@ impl<S: NativeShape> ExtensionType for NativeType<S> {
 
     ghost RefusesUse = { λ _ t r. RefusesNativeUse t S.KIND r };
 
-    ghost accepts_one = { λ t a b h k. any_native_same S.KIND t (native_coord_type a) (native_coord_type b) (native_dimension a) (native_dimension b) h k };
+    ghost accepts_one = { λ t a b h k. any_native_same S.KIND t a.coord_type b.coord_type a.dimension b.dimension h k };
 
     ghost stands_for_one = { text_stands_for_one };
 
-    ghost accepts_by_shape = { λ t a e h k. native_along t S.KIND (native_coord_type a) (native_coord_type e) (native_dimension a) (native_dimension e) k h };
+    ghost accepts_by_shape = { λ t a e h k. native_along t S.KIND a.coord_type e.coord_type a.dimension e.dimension k h };
 
     ghost agrees_with_itself = { λ e. (refl, refl) };
 

@@ -40,13 +40,12 @@ pub trait GeometryTypeId {
 
 impl<S: NativeShape> GeometryTypeId for NativeType<S> {
     ghost use Rattle.geoarrow_native.specs.Agree.{within_at};
-    ghost use Rattle.geoarrow_native.specs.Parts.{native_dimension};
 
     const GEOMETRY_TYPE_OFFSET: i8 = S::OFFSET;
 
     ghost GEOMETRY_TYPE_OFFSET = { S.OFFSET };
 
-    ghost dimension_of = { native_dimension };
+    ghost dimension_of = { λ e. e.dimension };
 
     fn dimension(&self) -> Dimension {
         self.dimension

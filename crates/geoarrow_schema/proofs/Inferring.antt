@@ -22,7 +22,8 @@ use Rattle.geoarrow_layout.specs.Inferred.{AnswersSome, Inferred}
 use Rattle.geoarrow_meta.specs.declared.metadata.Metadata.{Metadata}
 use Rattle.geoarrow_meta.specs.Read.{TextStandsFor, TextRefusedAs}
 use Rattle.geoarrow_meta.specs.Laws.{text_stands_for_one}
-use Rattle.geoarrow_native.specs.Parts.{Shared}
+use Rattle.std.specs.declared.sync.Arc.{Arc}
+use Rattle.std.specs.declared.alloc.Global.{Global}
 use Rattle.geoarrow_schema.specs.declared.types.GeoArrowType.{GeoArrowType}
 use Rattle.geoarrow_schema.specs.Types.{kind_of, metadata_of, meta_of, SameType}
 use Rattle.geoarrow_schema.specs.Reads.{HasGeoArrowName, Reads, ReadsAlone, IsRefusal}
@@ -79,7 +80,7 @@ serialized_inferred t r s is a stored = λ k. (λ e. there k ((stored k).0 e), �
     back _ h = absurd h
 
 -- what is inferred of a tree and a metadata
-pub type_inferred : (f : FieldTree) (k : Kind) (m : Shared) (g : GeoArrowType) → kind_of g ≡ k → metadata_of g ≡ m → ¬ HasGeoArrowName f → TextStandsFor (extension_metadata f) (arc_value m) → InferredAs f.tree k → Infers f g
+pub type_inferred : (f : FieldTree) (k : Kind) (m : Arc Metadata Global) (g : GeoArrowType) → kind_of g ≡ k → metadata_of g ≡ m → ¬ HasGeoArrowName f → TextStandsFor (extension_metadata f) (arc_value m) → InferredAs f.tree k → Infers f g
 unfolding InfersAs
 type_inferred f k m g kind meta unnamed stands column = (unnamed, rw meta stands, rw kind column)
 

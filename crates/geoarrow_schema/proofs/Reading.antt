@@ -19,7 +19,8 @@ use Rattle.geoarrow_layout.specs.Kinds.{name_text, extension_of, name_of}
 use Rattle.geoarrow_layout.specs.Shapes.{Accepts, Accepted, IsBytes, IsText}
 use Rattle.geoarrow_meta.specs.declared.metadata.Metadata.{Metadata}
 use Rattle.geoarrow_meta.specs.Read.{TextStandsFor, TextRefusedAs}
-use Rattle.geoarrow_native.specs.Parts.{Shared}
+use Rattle.std.specs.declared.sync.Arc.{Arc}
+use Rattle.std.specs.declared.alloc.Global.{Global}
 use Rattle.geoarrow_native.specs.Column.{IsColumn, ReadsAs}
 use Rattle.geoarrow_schema.specs.declared.types.GeoArrowType.{GeoArrowType}
 use Rattle.geoarrow_schema.specs.Types.{kind_of, metadata_of, meta_of}
@@ -31,7 +32,7 @@ unfolding ReadsAs
 column_reads f k m column stands = (column, stands)
 
 -- is read as the type of them
-pub type_reads : (f : FieldTree) (k : Kind) (m : Shared) (g : GeoArrowType) → kind_of g ≡ k → metadata_of g ≡ m → ReadsAs f k (arc_value m) → Reads f g
+pub type_reads : (f : FieldTree) (k : Kind) (m : Arc Metadata Global) (g : GeoArrowType) → kind_of g ≡ k → metadata_of g ≡ m → ReadsAs f k (arc_value m) → Reads f g
 type_reads f k m g kind meta base = rw (kind, meta) base
 
 -- and as no other

@@ -43,12 +43,10 @@ pub struct BoxType {
 pub type RectType = BoxType;
 
 impl BoxType {
-    ghost use Rattle.geoarrow_schema.specs.Parts.{box_dimension, box_metadata, box_meta};
-
     /// The type of that dimension and metadata.
     pub fn new(dimension: Dimension, metadata: Arc<Metadata>) -> BoxType
-        ensures dimension { box_dimension result ≡ dimension }
-        ensures metadata { box_metadata result ≡ metadata }
+        ensures dimension { result.dimension ≡ dimension }
+        ensures metadata { result.metadata ≡ metadata }
     {
         BoxType {
             dimension,
@@ -58,38 +56,38 @@ impl BoxType {
 
     /// The type with that dimension, otherwise unchanged.
     pub fn with_dimension(self, dimension: Dimension) -> BoxType
-        ensures dimension { box_dimension result ≡ dimension }
-        ensures metadata { box_metadata result ≡ box_metadata self }
+        ensures dimension { result.dimension ≡ dimension }
+        ensures metadata { result.metadata ≡ self.metadata }
     {
         BoxType { dimension, ..self }
     }
 
     /// The type with that metadata, otherwise unchanged.
     pub fn with_metadata(self, metadata: Arc<Metadata>) -> BoxType
-        ensures dimension { box_dimension result ≡ box_dimension self }
-        ensures metadata { box_metadata result ≡ metadata }
+        ensures dimension { result.dimension ≡ self.dimension }
+        ensures metadata { result.metadata ≡ metadata }
     {
         BoxType { metadata, ..self }
     }
 
     /// The dimension of the boxes.
     pub fn dimension(&self) -> Dimension
-        ensures { result ≡ box_dimension self.now }
+        ensures { result ≡ self.now.dimension }
     {
         self.dimension
     }
 
     /// The metadata, in the `Arc` that was given.
     pub fn metadata(&self) -> &Arc<Metadata>
-        ensures { result.now ≡ box_metadata self.now }
+        ensures { result.now ≡ self.now.metadata }
     {
         &self.metadata
     }
 
     /// An equal type, which shares the metadata. Errs if the metadata has as many owners as can be counted.
     pub fn try_clone(&self, _alloc: Global) -> Result<BoxType, AllocError>
-        ensures dimension { IfOk result (λ e. box_dimension e ≡ box_dimension self.now) }
-        ensures metadata { IfOk result (λ e. box_meta e ≡ box_meta self.now) }
+        ensures dimension { IfOk result (λ e. e.dimension ≡ self.now.dimension) }
+        ensures metadata { IfOk result (λ e. arc_value e.metadata ≡ arc_value self.now.metadata) }
     {
         Ok(BoxType {
             dimension: self.dimension,
@@ -100,7 +98,7 @@ impl BoxType {
     /// The data type of a column of this type: a struct of the least and the greatest value of each dimension
     /// (GeoArrow, "Box"). Errs only when out of memory.
     pub fn data_type(&self, alloc: Global) -> Result<DataType, AllocError>
-        ensures { IfOk result (λ t. tree t ≡ box_layout (box_dimension self.now)) }
+        ensures { IfOk result (λ t. tree t ≡ box_layout self.now.dimension) }
     {
         box_data_type(alloc, self.dimension)
     }
@@ -108,9 +106,9 @@ impl BoxType {
     /// The field of a column of this type, as that of a native type. Errs only when out of memory.
     pub fn to_field(&self, alloc: Global, name: &str, nullable: bool) -> Result<Field, ArrowError>
         ensures written { IfOk result (λ f. f ≡ written_field name.now nullable
-            (OfRect (box_dimension self.now)) (box_meta self.now)) }
-        ensures reads_back { IfOk result (λ f. IsReadBack (meta_value (box_meta self.now)) → ReadsAs f
-            (OfRect (box_dimension self.now)) (normal (box_meta self.now))) }
+            (OfRect self.now.dimension) (arc_value self.now.metadata)) }
+        ensures reads_back { IfOk result (λ f. IsReadBack (meta_value (arc_value self.now.metadata)) → ReadsAs f
+            (OfRect self.now.dimension) (normal (arc_value self.now.metadata))) }
         ensures refused { IfErr result IsMemory }
     {
         let kind = Kind::Rect(self.dimension);
@@ -129,7 +127,6 @@ impl ExtensionType for BoxType {
     ghost use Rattle.geoarrow_meta.specs.Laws.{text_stands_for_one};
     ghost use Rattle.geoarrow_layout.specs.OneShape.{box_shape_same};
     ghost use Rattle.geoarrow_native.specs.Column.{IsLayoutRefusal, RefusesUse as IsUseRefusal};
-    ghost use Rattle.geoarrow_schema.specs.Parts.{box_dimension, box_metadata};
 
     const NAME: &'static str = "geoarrow.box";
 
@@ -137,7 +134,7 @@ impl ExtensionType for BoxType {
 
     ghost name_text = { box_name };
 
-    ghost metadata_of = { box_metadata };
+    ghost metadata_of = { λ e. e.metadata };
 
     ghost printed = { λ m. printed_text (arc_value m) };
 
@@ -147,9 +144,9 @@ impl ExtensionType for BoxType {
 
     ghost StandsFor = { TextStandsFor };
 
-    ghost Accepts = { λ t e. BoxShape t (box_dimension e) };
+    ghost Accepts = { λ t e. BoxShape t e.dimension };
 
-    ghost Agrees = { λ a b. box_dimension a ≡ box_dimension b };
+    ghost Agrees = { λ a b. a.dimension ≡ b.dimension };
 
     ghost RefusesText = { TextRefusedAs };
 
@@ -157,7 +154,7 @@ impl ExtensionType for BoxType {
 
     ghost RefusesUse = { λ _ t r. IsUseRefusal ((d : Dimension) × BoxShape t d) r };
 
-    ghost accepts_one = { λ t a b h k. box_shape_same t (box_dimension a) (box_dimension b) h k };
+    ghost accepts_one = { λ t a b h k. box_shape_same t a.dimension b.dimension h k };
 
     ghost stands_for_one = { text_stands_for_one };
 

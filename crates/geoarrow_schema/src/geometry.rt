@@ -32,12 +32,10 @@ pub struct GeometryType {
 }
 
 impl GeometryType {
-    ghost use Rattle.geoarrow_schema.specs.Parts.{geometry_coord_type, geometry_metadata, geometry_meta};
-
     /// The type of that metadata, with separated coordinates.
     pub fn new(metadata: Arc<Metadata>) -> GeometryType
-        ensures coord_type { geometry_coord_type result ≡ Separated }
-        ensures metadata { geometry_metadata result ≡ metadata }
+        ensures coord_type { result.coord_type ≡ Separated }
+        ensures metadata { result.metadata ≡ metadata }
     {
         GeometryType {
             coord_type: CoordType::Separated,
@@ -47,46 +45,46 @@ impl GeometryType {
 
     /// `new` of the default metadata. Errs only when out of memory.
     pub fn try_default(alloc: Global) -> Result<GeometryType, AllocError>
-        ensures coord_type { IfOk result (λ e. geometry_coord_type e ≡ Separated) }
-        ensures metadata { IfOk result (λ e. geometry_meta e ≡ empty) }
+        ensures coord_type { IfOk result (λ e. e.coord_type ≡ Separated) }
+        ensures metadata { IfOk result (λ e. arc_value e.metadata ≡ empty) }
     {
         Ok(GeometryType::new(Arc::new(alloc, Metadata::default())?))
     }
 
     /// The type with that coordinate type, otherwise unchanged.
     pub fn with_coord_type(self, coord_type: CoordType) -> GeometryType
-        ensures coord_type { geometry_coord_type result ≡ coord_type }
-        ensures metadata { geometry_metadata result ≡ geometry_metadata self }
+        ensures coord_type { result.coord_type ≡ coord_type }
+        ensures metadata { result.metadata ≡ self.metadata }
     {
         GeometryType { coord_type, ..self }
     }
 
     /// The type with that metadata, otherwise unchanged.
     pub fn with_metadata(self, metadata: Arc<Metadata>) -> GeometryType
-        ensures coord_type { geometry_coord_type result ≡ geometry_coord_type self }
-        ensures metadata { geometry_metadata result ≡ metadata }
+        ensures coord_type { result.coord_type ≡ self.coord_type }
+        ensures metadata { result.metadata ≡ metadata }
     {
         GeometryType { metadata, ..self }
     }
 
     /// How the coordinates are stored.
     pub fn coord_type(&self) -> CoordType
-        ensures { result ≡ geometry_coord_type self.now }
+        ensures { result ≡ self.now.coord_type }
     {
         self.coord_type
     }
 
     /// The metadata, in the `Arc` that was given.
     pub fn metadata(&self) -> &Arc<Metadata>
-        ensures { result.now ≡ geometry_metadata self.now }
+        ensures { result.now ≡ self.now.metadata }
     {
         &self.metadata
     }
 
     /// An equal type, which shares the metadata. Errs if the metadata has as many owners as can be counted.
     pub fn try_clone(&self, _alloc: Global) -> Result<GeometryType, AllocError>
-        ensures coord_type { IfOk result (λ e. geometry_coord_type e ≡ geometry_coord_type self.now) }
-        ensures metadata { IfOk result (λ e. geometry_meta e ≡ geometry_meta self.now) }
+        ensures coord_type { IfOk result (λ e. e.coord_type ≡ self.now.coord_type) }
+        ensures metadata { IfOk result (λ e. arc_value e.metadata ≡ arc_value self.now.metadata) }
     {
         Ok(GeometryType {
             coord_type: self.coord_type,
@@ -97,7 +95,7 @@ impl GeometryType {
     /// The data type of a column of this type: a union with a member for each native kind in each dimension (GeoArrow,
     /// "Geometry"). Errs only when out of memory.
     pub fn data_type(&self, alloc: Global) -> Result<DataType, AllocError>
-        ensures { IfOk result (λ t. tree t ≡ geometry_layout (geometry_coord_type self.now)) }
+        ensures { IfOk result (λ t. tree t ≡ geometry_layout self.now.coord_type) }
     {
         geometry_data_type(alloc, self.coord_type)
     }
@@ -105,9 +103,9 @@ impl GeometryType {
     /// The field of a column of this type, as that of a native type. Errs only when out of memory.
     pub fn to_field(&self, alloc: Global, name: &str, nullable: bool) -> Result<Field, ArrowError>
         ensures written { IfOk result (λ f. f ≡ written_field name.now nullable
-            (OfGeometry (geometry_coord_type self.now)) (geometry_meta self.now)) }
-        ensures reads_back { IfOk result (λ f. IsReadBack (meta_value (geometry_meta self.now)) → ReadsAs f
-            (OfGeometry (geometry_coord_type self.now)) (normal (geometry_meta self.now))) }
+            (OfGeometry self.now.coord_type) (arc_value self.now.metadata)) }
+        ensures reads_back { IfOk result (λ f. IsReadBack (meta_value (arc_value self.now.metadata)) → ReadsAs f
+            (OfGeometry self.now.coord_type) (normal (arc_value self.now.metadata))) }
         ensures refused { IfErr result IsMemory }
     {
         let kind = Kind::Geometry(self.coord_type);
@@ -126,7 +124,6 @@ impl ExtensionType for GeometryType {
     ghost use Rattle.geoarrow_meta.specs.Laws.{text_stands_for_one};
     ghost use Rattle.geoarrow_layout.specs.OneShape.{geometry_same};
     ghost use Rattle.geoarrow_native.specs.Column.{IsLayoutRefusal, RefusesUse as IsUseRefusal};
-    ghost use Rattle.geoarrow_schema.specs.Parts.{geometry_coord_type, geometry_metadata};
 
     const NAME: &'static str = "geoarrow.geometry";
 
@@ -134,7 +131,7 @@ impl ExtensionType for GeometryType {
 
     ghost name_text = { geometry_name };
 
-    ghost metadata_of = { geometry_metadata };
+    ghost metadata_of = { λ e. e.metadata };
 
     ghost printed = { λ m. printed_text (arc_value m) };
 
@@ -144,9 +141,9 @@ impl ExtensionType for GeometryType {
 
     ghost StandsFor = { TextStandsFor };
 
-    ghost Accepts = { λ t e. Geometry t (geometry_coord_type e) };
+    ghost Accepts = { λ t e. Geometry t e.coord_type };
 
-    ghost Agrees = { λ a b. geometry_coord_type a ≡ geometry_coord_type b };
+    ghost Agrees = { λ a b. a.coord_type ≡ b.coord_type };
 
     ghost RefusesText = { TextRefusedAs };
 
@@ -154,7 +151,7 @@ impl ExtensionType for GeometryType {
 
     ghost RefusesUse = { λ _ t r. IsUseRefusal ((c : CoordType) × Geometry t c) r };
 
-    ghost accepts_one = { λ t a b h k. geometry_same t (geometry_coord_type a) (geometry_coord_type b) h k };
+    ghost accepts_one = { λ t a b h k. geometry_same t a.coord_type b.coord_type h k };
 
     ghost stands_for_one = { text_stands_for_one };
 

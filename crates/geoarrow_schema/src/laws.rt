@@ -1,9 +1,9 @@
 //! Laws of the types, for the crates above: functions whose contract is the law.
 ghost use Rattle.geoarrow_schema.specs.declared.types.GeoArrowType.{GeoArrowType};
+ghost use Rattle.std.specs.Arc.{arc_value};
 ghost use Rattle.std.specs.Prelude.{◌≡◌, ◌↔◌, IsTrue};
 ghost use Rattle.arrow_values.specs.Tree.{FieldTree};
 ghost use Rattle.geoarrow_meta.specs.Written.{empty};
-ghost use Rattle.geoarrow_schema.specs.Parts.{geometry_coord_type, geometry_meta, box_dimension, box_meta, serialized_meta};
 ghost use Rattle.geoarrow_schema.specs.Types.{kind_of, meta_of, SameType};
 ghost use Rattle.geoarrow_schema.specs.Reads.{Reads};
 ghost use Rattle.geoarrow_schema.specs.Infers.{Infers, ReadsOrInfers, IsInferable, IsBareColumn};
@@ -51,8 +51,8 @@ pub fn written_is_inferred()
 /// A law: `==` returns true for two types of geometries of any kind exactly if coordinate type and metadata are
 /// equal.
 pub fn geometry_equality_is_exact(one: &GeometryType, other: &GeometryType) -> bool
-    ensures { IsTrue result ↔ ((geometry_coord_type one.now ≡ geometry_coord_type other.now)
-        × (geometry_meta one.now ≡ geometry_meta other.now)) }
+    ensures { IsTrue result ↔ ((one.now.coord_type ≡ other.now.coord_type)
+        × (arc_value one.now.metadata ≡ arc_value other.now.metadata)) }
 {
     equality_test_is_exact();
     one == other
@@ -60,8 +60,8 @@ pub fn geometry_equality_is_exact(one: &GeometryType, other: &GeometryType) -> b
 
 /// A law: `==` returns true for two types of boxes exactly if dimension and metadata are equal.
 pub fn box_equality_is_exact(one: &BoxType, other: &BoxType) -> bool
-    ensures { IsTrue result ↔ ((box_dimension one.now ≡ box_dimension other.now)
-        × (box_meta one.now ≡ box_meta other.now)) }
+    ensures { IsTrue result ↔ ((one.now.dimension ≡ other.now.dimension)
+        × (arc_value one.now.metadata ≡ arc_value other.now.metadata)) }
 {
     equality_test_is_exact();
     one == other
@@ -72,7 +72,7 @@ pub fn serialized_equality_is_exact<E: Encoding>(
     one: &SerializedType<E>,
     other: &SerializedType<E>,
 ) -> bool
-    ensures { IsTrue result ↔ (serialized_meta one.now ≡ serialized_meta other.now) }
+    ensures { IsTrue result ↔ (arc_value one.now.metadata ≡ arc_value other.now.metadata) }
 {
     equality_test_is_exact();
     one == other

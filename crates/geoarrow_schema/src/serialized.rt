@@ -118,11 +118,9 @@ pub type WkbType = SerializedType<Wkb>;
 pub type WktType = SerializedType<Wkt>;
 
 impl<E: Encoding> SerializedType<E> {
-    ghost use Rattle.geoarrow_schema.specs.Parts.{serialized_metadata, serialized_meta};
-
     /// The type of that metadata.
     pub fn new(metadata: Arc<Metadata>) -> SerializedType<E>
-        ensures { serialized_metadata result ≡ metadata }
+        ensures { result.metadata ≡ metadata }
     {
         SerializedType {
             metadata,
@@ -132,28 +130,28 @@ impl<E: Encoding> SerializedType<E> {
 
     /// `new` of the default metadata. Errs only when out of memory.
     pub fn try_default(alloc: Global) -> Result<SerializedType<E>, AllocError>
-        ensures { IfOk result (λ e. serialized_meta e ≡ empty) }
+        ensures { IfOk result (λ e. arc_value e.metadata ≡ empty) }
     {
         Ok(SerializedType::new(Arc::new(alloc, Metadata::default())?))
     }
 
     /// The type with that metadata.
     pub fn with_metadata(self, metadata: Arc<Metadata>) -> SerializedType<E>
-        ensures { serialized_metadata result ≡ metadata }
+        ensures { result.metadata ≡ metadata }
     {
         SerializedType { metadata, ..self }
     }
 
     /// The metadata, in the `Arc` that was given.
     pub fn metadata(&self) -> &Arc<Metadata>
-        ensures { result.now ≡ serialized_metadata self.now }
+        ensures { result.now ≡ self.now.metadata }
     {
         &self.metadata
     }
 
     /// An equal type, which shares the metadata. Errs if the metadata has as many owners as can be counted.
     pub fn try_clone(&self, _alloc: Global) -> Result<SerializedType<E>, AllocError>
-        ensures { IfOk result (λ e. serialized_meta e ≡ serialized_meta self.now) }
+        ensures { IfOk result (λ e. arc_value e.metadata ≡ arc_value self.now.metadata) }
     {
         Ok(SerializedType {
             metadata: Arc::try_clone(&self.metadata)?,
@@ -179,7 +177,6 @@ impl<E: Encoding> ExtensionType for SerializedType<E> {
     ghost use Rattle.geoarrow_meta.specs.Read.{TextStandsFor, TextRefusedAs};
     ghost use Rattle.geoarrow_meta.specs.declared.metadata.Metadata.{Metadata as MetadataValue};
     ghost use Rattle.geoarrow_meta.specs.Laws.{text_stands_for_one};
-    ghost use Rattle.geoarrow_schema.specs.Parts.{serialized_metadata};
     ghost use Rattle.geoarrow_schema.specs.Stored.{InSomeWidth};
 
     const NAME: &'static str = E::NAME;
@@ -188,7 +185,7 @@ impl<E: Encoding> ExtensionType for SerializedType<E> {
 
     ghost name_text = { E.name_text };
 
-    ghost metadata_of = { serialized_metadata };
+    ghost metadata_of = { λ e. e.metadata };
 
     ghost printed = { λ m. printed_text (arc_value m) };
 

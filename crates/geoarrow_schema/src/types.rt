@@ -4,7 +4,6 @@ ghost use Rattle.geoarrow_schema.specs.Types.{kind_of, metadata_of, meta_of};
 ghost use Rattle.geoarrow_schema.specs.Changes.{with_coord_type, with_dimension};
 ghost use Rattle.geoarrow_layout.specs.declared.encodings.Kind.TheVariants.{Native as OfNative};
 ghost use Rattle.geoarrow_layout.specs.Kinds.{coord_type_of, dimension_of};
-ghost use Rattle.geoarrow_native.specs.Parts.{native_coord_type, native_dimension};
 
 use crate::boxes::BoxType;
 use crate::geometry::GeometryType;
@@ -234,7 +233,7 @@ impl GeoArrowType {
 
 /// The kind of a native type.
 fn native_kind<S: NativeShape>(native: &NativeType<S>) -> Kind
-    ensures { result ≡ OfNative S.KIND (native_coord_type native.now) (native_dimension native.now) }
+    ensures { result ≡ OfNative S.KIND native.now.coord_type native.now.dimension }
 {
     Kind::Native(S::KIND, native.coord_type(), native.dimension())
 }
