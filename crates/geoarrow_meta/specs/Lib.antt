@@ -1,4 +1,3 @@
-pub mod Names
 pub mod Code
 pub mod Same
 pub mod CrsValue
