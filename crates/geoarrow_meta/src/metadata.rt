@@ -193,7 +193,6 @@ impl Metadata {
     /// assert_eq!(rt; metadata.edges(), Some(Edges::Spherical));
     /// assert_eq!(rt; metadata.crs().crs_type(), None);
     /// ```
-    // Not inlined, so that a caller has no room for a scratch on its stack if there is no text.
     #[inline(never)]
     pub fn deserialize(alloc: Global, metadata: Option<&str>) -> Result<Metadata, ArrowError>
         ensures exact { MatchResult result (TextStandsFor (text_of metadata.entry))
@@ -205,6 +204,7 @@ impl Metadata {
         let Some(text) = metadata else {
             return Ok(Metadata::default());
         };
+        // The call is not inlined, so that a caller has no room for a scratch on its stack if there is no text.
         let mut scratch = Scratch::new(alloc);
         Metadata::of_text(alloc, text, &mut scratch)
     }
