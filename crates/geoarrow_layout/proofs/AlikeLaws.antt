@@ -222,12 +222,12 @@ alike_mixed _ _ c d h l = absurd l
 alike_collection : (t u : Tree) (c : CoordType) (d : Dimension) → Alike t u → Collection t c d → Collection u c d
 alike_collection = alike_below Mixed alike_mixed 1
 
-pub geometry_shared : (c : CoordType) → Shared (GeometryMember c)
+pub geometry_shared : (c : CoordType) → Shared (λ i t. (d : Dimension) × GeometryMember i t c d)
 geometry_shared c i t u h m =
     (m.0, elim m.1 [ inl x ↦ inl (member_shared c m.0 i t u h x) | inr x ↦ inr (x.0, alike_collection t u c m.0 h x.1) ])
 
 alike_geometry : (t u : Tree) (c : CoordType) → Alike t u → Geometry t c → Geometry u c
-alike_geometry (union ms mode) (union ns mode') c h l = (alike_some ms ns h.0 l.0, alike_all (GeometryMember c) (geometry_shared c) ms ns h.1 l.1)
+alike_geometry (union ms mode) (union ns mode') c h l = (alike_some ms ns h.0 l.0, alike_all (λ i t. (d : Dimension) × GeometryMember i t c d) (geometry_shared c) ms ns h.1 l.1)
 alike_geometry (union ms mode) _ c h l = absurd h
 alike_geometry _ _ c h l = absurd l
 

@@ -10,9 +10,9 @@ use Rattle.geoarrow_layout.specs.declared.summary.ListWidth.TheVariants.{List as
 use Rattle.geoarrow_layout.specs.declared.summary.Bottom.{Bottom}
 use Rattle.geoarrow_layout.specs.declared.summary.Bottom.TheVariants.{OtherWidth, Deep, Other}
 use Rattle.geoarrow_layout.specs.declared.summary.Summary.{Summary}
-use Rattle.geoarrow_layout.specs.Shapes.{ListsOver, Levels, Leaf, LeafUnder, Answers}
+use Rattle.geoarrow_layout.specs.Shapes.{ListsOver, Levels, Leaf, Answers}
 use Rattle.geoarrow_layout.specs.Summary.{IsFixedSize, IsStruct, IsList, IsBottom, AreLevels, SummarizesBy}
-use Rattle.geoarrow_layout.specs.OneShape.{widths_same, levels_same}
+use Rattle.geoarrow_layout.specs.OneShape.{LeafUnder, widths_same, levels_same}
 use Rattle.geoarrow_layout.proofs.Readings.{Answer, answers_like, refuses}
 
 -- one level more

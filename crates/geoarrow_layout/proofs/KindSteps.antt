@@ -12,7 +12,7 @@ use Rattle.geoarrow_layout.specs.declared.encodings.Kind.{Kind}
 use Rattle.geoarrow_layout.specs.declared.encodings.Kind.TheVariants.{Native as OfNative, Geometry as OfGeometry, Rect as OfRect, Wkb as OfWkb, Wkt as OfWkt}
 use Rattle.geoarrow_layout.specs.declared.names.ExtensionName.{ExtensionName}
 use Rattle.geoarrow_layout.specs.declared.names.ExtensionName.TheVariants as names
-use Rattle.geoarrow_layout.specs.Kinds.{name_text, native_name, geometry_name, box_name, wkb_name, extension_of, name_of}
+use Rattle.geoarrow_layout.specs.Kinds.{name_text, extension_of, name_of}
 use Rattle.geoarrow_layout.specs.Shapes.{Native, Geometry, BoxShape, IsBytes, IsText, Accepted, Accepts, IsStructured, AnswersKind, Answers, AnswersOne}
 use Rattle.geoarrow_layout.specs.OneShape.{any_native_same, geometry_same, box_shape_same}
 use Rattle.geoarrow_layout.specs.declared.fault.LayoutFault.{LayoutFault}
@@ -21,11 +21,14 @@ use Rattle.geoarrow_layout.specs.Summary.{Summarizes}
 use Rattle.geoarrow_layout.proofs.Readings.{Answer, ok, answers_one, refuses_one}
 
 -- a text says which name it is, so two names of one text are one
+abbrev if_named : Text → ExtensionName → ExtensionName → ExtensionName
+if_named n a b = cond (bytes_eq n (name_text a)) a b
+
 abbrev named : Text → ExtensionName
 named n =
-    cond (bytes_eq n (native_name Point)) (names.Native Point) (cond (bytes_eq n (native_name LineString)) (names.Native LineString) (cond (bytes_eq n (native_name Polygon)) (names.Native Polygon)
-    (cond (bytes_eq n (native_name MultiPoint)) (names.Native MultiPoint) (cond (bytes_eq n (native_name MultiLineString)) (names.Native MultiLineString) (cond (bytes_eq n (native_name MultiPolygon)) (names.Native MultiPolygon)
-    (cond (bytes_eq n (native_name GeometryCollection)) (names.Native GeometryCollection) (cond (bytes_eq n geometry_name) names.Geometry (cond (bytes_eq n box_name) names.Rect (cond (bytes_eq n wkb_name) names.Wkb names.Wkt)))))))))
+    let or = if_named n in
+    or (names.Native Point) (or (names.Native LineString) (or (names.Native Polygon) (or (names.Native MultiPoint) (or (names.Native MultiLineString) (or (names.Native MultiPolygon)
+    (or (names.Native GeometryCollection) (or names.Geometry (or names.Rect (or names.Wkb names.Wkt)))))))))
 
 named_back : (a : ExtensionName) → named (name_text a) ≡ a
 named_back (names.Native Point) = refl
@@ -63,21 +66,21 @@ pub one_kind : (name : Text) (t : Tree) (k l : Kind) → Accepts name t k → Ac
 one_kind name t k l h g = same_kind t k l (one_name (extension_of k) (extension_of l) (sym h.0 ∙ g.0)) h.1 g.1
 
 -- under the name of a native kind, of geometries and of boxes there is no other kind
-pub only_native : (k : NativeKind) (t : Tree) → ((c : CoordType) (d : Dimension) → Native t k c d → ⊥) → (l : Kind) → Accepts (native_name k) t l → ⊥
+pub only_native : (k : NativeKind) (t : Tree) → ((c : CoordType) (d : Dimension) → Native t k c d → ⊥) → (l : Kind) → Accepts (name_text (names.Native k)) t l → ⊥
 only_native k t none l h = by l (one_name (names.Native k) (extension_of l) h.0) h.1
   where
     by : (l : Kind) → names.Native k ≡ extension_of l → Accepted l t → ⊥
     by (OfNative l c d) same a = let kinds : l ≡ k = cc in none c d (subst (λ x. Native t x c d) kinds a)
     by l same a = cc
 
-pub only_geometry : (t : Tree) → ((c : CoordType) → Geometry t c → ⊥) → (l : Kind) → Accepts geometry_name t l → ⊥
+pub only_geometry : (t : Tree) → ((c : CoordType) → Geometry t c → ⊥) → (l : Kind) → Accepts (name_text names.Geometry) t l → ⊥
 only_geometry t none l h = by l (one_name names.Geometry (extension_of l) h.0) h.1
   where
     by : (l : Kind) → names.Geometry ≡ extension_of l → Accepted l t → ⊥
     by (OfGeometry c) same a = none c a
     by l same a = cc
 
-pub only_box : (t : Tree) → ((d : Dimension) → BoxShape t d → ⊥) → (l : Kind) → Accepts box_name t l → ⊥
+pub only_box : (t : Tree) → ((d : Dimension) → BoxShape t d → ⊥) → (l : Kind) → Accepts (name_text names.Rect) t l → ⊥
 only_box t none l h = by l (one_name names.Rect (extension_of l) h.0) h.1
   where
     by : (l : Kind) → names.Rect ≡ extension_of l → Accepted l t → ⊥
@@ -99,20 +102,20 @@ kind_some n t k s here = λ l. (λ e. subst (λ x. Accepts n t x × IsStructured
 kind_none : (n : Text) (t : Tree) → ((l : Kind) → Accepts n t l → ⊥) → AnswersKind n t None
 kind_none n t none = λ l. (λ e. cc, λ h. absurd (none l h.0))
 
-pub native_some : (k : NativeKind) (t : Tree) (p : CoordType × Dimension) (r : Answer) → r ≡ Ok p → Answers r (Native t k) → AnswersKind (native_name k) t (Some (OfNative k p.0 p.1))
-native_some k t p r is a = kind_some (native_name k) t (OfNative k p.0 p.1) tt (refl, (a p.0 p.1).0 is)
+pub native_some : (k : NativeKind) (t : Tree) (p : CoordType × Dimension) (r : Answer) → r ≡ Ok p → Answers r (Native t k) → AnswersKind (name_text (names.Native k)) t (Some (OfNative k p.0 p.1))
+native_some k t p r is a = kind_some (name_text (names.Native k)) t (OfNative k p.0 p.1) tt (refl, (a p.0 p.1).0 is)
 
-no_native : (k : NativeKind) (t : Tree) (f : LayoutFault) (r : Answer) → r ≡ Err f → Answers r (Native t k) → (l : Kind) → Accepts (native_name k) t l → ⊥
+no_native : (k : NativeKind) (t : Tree) (f : LayoutFault) (r : Answer) → r ≡ Err f → Answers r (Native t k) → (l : Kind) → Accepts (name_text (names.Native k)) t l → ⊥
 no_native k t f r is a = only_native k t (λ c d h. refuses f r (c, d) is ((a c d).1 h))
 
-pub native_none : (k : NativeKind) (t : Tree) (f : LayoutFault) (r : Answer) → r ≡ Err f → Answers r (Native t k) → AnswersKind (native_name k) t None
-native_none k t f r is a = kind_none (native_name k) t (no_native k t f r is a)
+pub native_none : (k : NativeKind) (t : Tree) (f : LayoutFault) (r : Answer) → r ≡ Err f → Answers r (Native t k) → AnswersKind (name_text (names.Native k)) t None
+native_none k t f r is a = kind_none (name_text (names.Native k)) t (no_native k t f r is a)
 
-pub geometry_none : (t : Tree) (f : LayoutFault) (r : Result CoordType LayoutFault) → r ≡ Err f → AnswersOne r (Geometry t) → AnswersKind geometry_name t None
-geometry_none t f r is a = kind_none geometry_name t (only_geometry t (λ c h. refuses f r c is ((a c).1 h)))
+pub geometry_none : (t : Tree) (f : LayoutFault) (r : Result CoordType LayoutFault) → r ≡ Err f → AnswersOne r (Geometry t) → AnswersKind (name_text names.Geometry) t None
+geometry_none t f r is a = kind_none (name_text names.Geometry) t (only_geometry t (λ c h. refuses f r c is ((a c).1 h)))
 
-pub box_none : (t : Tree) (f : LayoutFault) (r : Result Dimension LayoutFault) → r ≡ Err f → AnswersOne r (BoxShape t) → AnswersKind box_name t None
-box_none t f r is a = kind_none box_name t (only_box t (λ d h. refuses f r d is ((a d).1 h)))
+pub box_none : (t : Tree) (f : LayoutFault) (r : Result Dimension LayoutFault) → r ≡ Err f → AnswersOne r (BoxShape t) → AnswersKind (name_text names.Rect) t None
+box_none t f r is a = kind_none (name_text names.Rect) t (only_box t (λ d h. refuses f r d is ((a d).1 h)))
 
 -- the same under an equal name
 pub renamed : (n m : Text) (s : Summary) (r : Option Kind) → n ≡ m → ((t : Tree) → Summarizes s t → AnswersKind m t r) → (t : Tree) → Summarizes s t → AnswersKind n t r
@@ -129,14 +132,15 @@ kind_found n t k here = answers_one k (Accepts n t) (one_kind n t) here
 pub under : (n m : ExtensionName) (t : Tree) (r : Result Kind LayoutFault) → n ≡ m → AnswersOne r (Accepts (name_text m) t) → AnswersOne r (Accepts (name_text n) t)
 under n m t r is a = subst (λ x. AnswersOne r (Accepts (name_text x) t)) (sym is) a
 
-pub native_refused : (k : NativeKind) (t : Tree) (f : LayoutFault) (r : Answer) → r ≡ Err f → Answers r (Native t k) → AnswersOne {X = Kind} (Err f) (Accepts (native_name k) t)
-native_refused k t f r is a = refuses_one f (Accepts (native_name k) t) (no_native k t f r is a)
+pub native_refused : (k : NativeKind) (t : Tree) (f : LayoutFault) (r : Answer) → r ≡ Err f → Answers r (Native t k) → AnswersOne {X = Kind} (Err f) (Accepts (name_text (names.Native k)) t)
+native_refused k t f r is a = refuses_one f (Accepts (name_text (names.Native k)) t) (no_native k t f r is a)
 
 -- what a summary says under each name, it says of all its trees
-abbrev pub Told : Summary → Text → Type 0
-Told s n = (r : Option Kind) × ((t : Tree) → Summarizes s t → AnswersKind n t r)
+abbrev pub Told : Summary → ExtensionName → Type 0
+Told s n = (r : Option Kind) × ((t : Tree) → Summarizes s t → AnswersKind (name_text n) t r)
 
-pub by_name : (P : Text → Type 0) → P (native_name Point) → P (native_name LineString) → P (native_name Polygon) → P (native_name MultiPoint) → P (native_name MultiLineString) → P (native_name MultiPolygon) → P (native_name GeometryCollection) → P geometry_name → P box_name → (k : Kind) → IsStructured k → P (name_of k)
+pub by_name : (P : ExtensionName → Type 0) → P (names.Native Point) → P (names.Native LineString) → P (names.Native Polygon) → P (names.Native MultiPoint) → P (names.Native MultiLineString)
+    → P (names.Native MultiPolygon) → P (names.Native GeometryCollection) → P names.Geometry → P names.Rect → (k : Kind) → IsStructured k → P (extension_of k)
 by_name P a b c d e f g h i (OfNative Point x y) s = a
 by_name P a b c d e f g h i (OfNative LineString x y) s = b
 by_name P a b c d e f g h i (OfNative Polygon x y) s = c
@@ -148,11 +152,11 @@ by_name P a b c d e f g h i (OfGeometry x) s = h
 by_name P a b c d e f g h i (OfRect x) s = i
 by_name P a b c d e f g h i _ s = absurd s
 
-moves : (s : Summary) (n : Text) → Told s n → (t u : Tree) → Summarizes s t → Summarizes s u → (k : Kind) → IsStructured k → Accepts n t k → Accepts n u k
+moves : (s : Summary) (n : ExtensionName) → Told s n → (t u : Tree) → Summarizes s t → Summarizes s u → (k : Kind) → IsStructured k → Accepts (name_text n) t k → Accepts (name_text n) u k
 moves s n told t u h g k x a = ((told.1 u g k).0 ((told.1 t h k).1 (a, x))).0
 
-pub read_alike : (s : Summary) → ((k : Kind) → IsStructured k → Told s (name_of k)) → (t u : Tree) → Summarizes s t → Summarizes s u → (name : Text) (k : Kind) → IsStructured k → Accepts name t k ↔ Accepts name u k
+pub read_alike : (s : Summary) → ((k : Kind) → IsStructured k → Told s (extension_of k)) → (t u : Tree) → Summarizes s t → Summarizes s u → (name : Text) (k : Kind) → IsStructured k → Accepts name t k ↔ Accepts name u k
 read_alike s told t u h g name k x = (
-  (λ a. (a.0, (moves s (name_of k) (told k x) t u h g k x (refl, a.1)).1)),
-  (λ a. (a.0, (moves s (name_of k) (told k x) u t g h k x (refl, a.1)).1)),
+  (λ a. (a.0, (moves s (extension_of k) (told k x) t u h g k x (refl, a.1)).1)),
+  (λ a. (a.0, (moves s (extension_of k) (told k x) u t g h k x (refl, a.1)).1)),
 )

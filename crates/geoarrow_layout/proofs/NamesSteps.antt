@@ -16,7 +16,8 @@ use Rattle.geoarrow_layout.specs.declared.encodings.Kind.{Kind}
 use Rattle.geoarrow_layout.specs.declared.encodings.Kind.TheVariants.{Native as OfNative, Geometry as OfGeometry, Rect as OfRect, Wkb as OfWkb, Wkt as OfWkt}
 use Rattle.geoarrow_layout.specs.declared.candidate_names.Candidates.{Candidates}
 use Rattle.geoarrow_layout.specs.declared.candidate_names.Candidates.TheVariants.{None as NoName, LineStringOrMultiPoint, PolygonOrMultiLineString, PointOrBox}
-use Rattle.geoarrow_layout.specs.Kinds.{native_name, geometry_name, box_name, wkb_name, wkt_name, name_of}
+use Rattle.geoarrow_layout.specs.declared.names.ExtensionName.TheVariants as names
+use Rattle.geoarrow_layout.specs.Kinds.{name_text, name_of}
 use Rattle.geoarrow_layout.specs.Shapes.{ListsOver, levels_of, Leaf, Mixed, Native, Geometry, BoxShape, Accepted, Accepts, IsStructured, IsBytes, IsText, Answers, AnswersOne}
 use Rattle.geoarrow_layout.specs.Candidates.{Holds, IsAccepted, IsAcceptedStructure, IsNative, IsGeometry, IsBox}
 use Rattle.geoarrow_layout.proofs.Readings.{Answer}
@@ -126,40 +127,40 @@ point_and_box t p b = two_names (OfNative Point p.0 p.1) (OfRect b.0) t tt p.2 t
     only (OfRect d) s = inr refl
     only l s = absurd (omega arith)
 
-pub box_alone : (t : Tree) → ¬ IsNative Point t → IsBox t → Names (λ n. n ≡ box_name) t
+pub box_alone : (t : Tree) → ¬ IsNative Point t → IsBox t → Names (λ n. n ≡ name_text names.Rect) t
 box_alone t p b = alone (OfRect b.0) t tt b.1 only
   where
-    only : (l : Kind) → Accepted l t → 0 ≡ sort_in l → name_of l ≡ box_name
+    only : (l : Kind) → Accepted l t → 0 ≡ sort_in l → name_of l ≡ name_text names.Rect
     only (OfNative Point c d) h s = absurd (p (c, d, h))
     only (OfRect d) h s = refl
     only l h s = absurd (omega arith)
 
-pub point_alone : (t : Tree) → IsNative Point t → ¬ IsBox t → Names (λ n. n ≡ native_name Point) t
+pub point_alone : (t : Tree) → IsNative Point t → ¬ IsBox t → Names (λ n. n ≡ name_text (names.Native Point)) t
 point_alone t p b = alone (OfNative Point p.0 p.1) t tt p.2 only
   where
-    only : (l : Kind) → Accepted l t → 0 ≡ sort_in l → name_of l ≡ native_name Point
+    only : (l : Kind) → Accepted l t → 0 ≡ sort_in l → name_of l ≡ name_text (names.Native Point)
     only (OfNative Point c d) h s = refl
     only (OfRect d) h s = absurd (b (d, h))
     only l h s = absurd (omega arith)
 
-pub multipolygon_alone : (t : Tree) → IsNative MultiPolygon t → Names (λ n. n ≡ native_name MultiPolygon) t
+pub multipolygon_alone : (t : Tree) → IsNative MultiPolygon t → Names (λ n. n ≡ name_text (names.Native MultiPolygon)) t
 multipolygon_alone t h = alone (OfNative MultiPolygon h.0 h.1) t tt h.2 (λ l a. only l)
   where
-    only : (l : Kind) → 3 ≡ sort_in l → name_of l ≡ native_name MultiPolygon
+    only : (l : Kind) → 3 ≡ sort_in l → name_of l ≡ name_text (names.Native MultiPolygon)
     only (OfNative MultiPolygon c d) s = refl
     only l s = absurd (omega arith)
 
-pub collection_alone : (t : Tree) → IsNative GeometryCollection t → Names (λ n. n ≡ native_name GeometryCollection) t
+pub collection_alone : (t : Tree) → IsNative GeometryCollection t → Names (λ n. n ≡ name_text (names.Native GeometryCollection)) t
 collection_alone t h = alone (OfNative GeometryCollection h.0 h.1) t tt h.2 (λ l a. only l)
   where
-    only : (l : Kind) → 5 ≡ sort_in l → name_of l ≡ native_name GeometryCollection
+    only : (l : Kind) → 5 ≡ sort_in l → name_of l ≡ name_text (names.Native GeometryCollection)
     only (OfNative GeometryCollection c d) s = refl
     only l s = absurd (omega arith)
 
-pub geometry_alone : (t : Tree) → IsGeometry t → Names (λ n. n ≡ geometry_name) t
+pub geometry_alone : (t : Tree) → IsGeometry t → Names (λ n. n ≡ name_text names.Geometry) t
 geometry_alone t h = alone (OfGeometry h.0) t tt h.1 (λ l a. only l)
   where
-    only : (l : Kind) → 4 ≡ sort_in l → name_of l ≡ geometry_name
+    only : (l : Kind) → 4 ≡ sort_in l → name_of l ≡ name_text names.Geometry
     only (OfGeometry c) s = refl
     only (OfNative Point c d) s = absurd (omega arith)
     only l s = absurd (omega arith)
@@ -207,18 +208,18 @@ no_width P t None b says is h v p = let bad = (says v).1 p in cc
 stored_alone : (k : Kind) (t : Tree) → Accepted k t → ((l : Kind) → sort_in k ≡ sort_in l → name_of l ≡ name_of k) → (n : Text) → (n ≡ name_of k) ↔ IsAccepted n t
 stored_alone k t h only n = (λ e. (k, (e, h)), λ a. a.1.0 ∙ only a.0 (same_sort k a.0 t h a.1.1))
 
-pub bytes_alone : (t : Tree) (r : Option Width) (b : Bool) → WidthOf IsBytes r t → b ≡ is_some r → b ≡ true → (n : Text) → (n ≡ wkb_name) ↔ IsAccepted n t
+pub bytes_alone : (t : Tree) (r : Option Width) (b : Bool) → WidthOf IsBytes r t → b ≡ is_some r → b ≡ true → (n : Text) → (n ≡ name_text names.Wkb) ↔ IsAccepted n t
 bytes_alone t r b says is h = let w = a_width IsBytes t r b says is h in stored_alone (OfWkb w.0) t w.1 only
   where
-    only : (l : Kind) → 6 ≡ sort_in l → name_of l ≡ wkb_name
+    only : (l : Kind) → 6 ≡ sort_in l → name_of l ≡ name_text names.Wkb
     only (OfWkb w) s = refl
     only (OfNative Point c d) s = absurd (omega arith)
     only l s = absurd (omega arith)
 
-pub text_alone : (t : Tree) (r : Option Width) (b : Bool) → WidthOf IsText r t → b ≡ is_some r → b ≡ true → (n : Text) → (n ≡ wkt_name) ↔ IsAccepted n t
+pub text_alone : (t : Tree) (r : Option Width) (b : Bool) → WidthOf IsText r t → b ≡ is_some r → b ≡ true → (n : Text) → (n ≡ name_text names.Wkt) ↔ IsAccepted n t
 text_alone t r b says is h = let w = a_width IsText t r b says is h in stored_alone (OfWkt w.0) t w.1 only
   where
-    only : (l : Kind) → 7 ≡ sort_in l → name_of l ≡ wkt_name
+    only : (l : Kind) → 7 ≡ sort_in l → name_of l ≡ name_text names.Wkt
     only (OfWkt w) s = refl
     only (OfNative Point c d) s = absurd (omega arith)
     only l s = absurd (omega arith)

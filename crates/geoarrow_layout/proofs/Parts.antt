@@ -1,12 +1,13 @@
 -- Ids and members: each is read in one way.
-use Rattle.std.proofs.Common.{◌≡◌, ◌↔◌, ◌≢◌, inl, inr, ℤ, Option, None, refl, sym, ap, subst}
+use Rattle.std.proofs.Common.{◌≡◌, ◌↔◌, ◌≢◌, inl, inr, ℤ, pos, Option, None, refl, sym, ap, subst}
 use Rattle.arrow_values.specs.Tree.{Tree, list, large_list}
 use Rattle.geoarrow_layout.specs.declared.kinds.CoordType.{CoordType}
 use Rattle.geoarrow_layout.specs.declared.kinds.Dimension.{Dimension}
 use Rattle.geoarrow_layout.specs.declared.fault.LayoutFault.{LayoutFault}
 use Rattle.geoarrow_layout.specs.declared.encodings.NativeKind.{NativeKind}
 use Rattle.geoarrow_layout.specs.declared.encodings.NativeKind.TheVariants.{GeometryCollection}
-use Rattle.geoarrow_layout.specs.Shapes.{Id, OverLeaf, GeometryPart, Mixed, Answers, Native}
+use Rattle.geoarrow_layout.specs.Kinds.{type_id_of}
+use Rattle.geoarrow_layout.specs.Shapes.{OverLeaf, GeometryMember, Mixed, Answers, Native}
 use Rattle.geoarrow_layout.specs.OneShape.{any_part}
 use Rattle.geoarrow_layout.proofs.Readings.{Answer, answers_like, refuses, IsPartsOf, some_parts, kinds_same, ok_pair, refused}
 use Rattle.geoarrow_layout.proofs.Bottoms.{AtNoList}
@@ -15,7 +16,7 @@ abbrev pub Reading : Type 1
 Reading = Tree → NativeKind → CoordType → Dimension → Type 0
 
 abbrev pub Part : Reading → ℤ → Tree → CoordType → Dimension → Type 0
-Part N i t c d = (k : NativeKind) × Id i k d × N t k c d
+Part N i t c d = (k : NativeKind) × (i ≡ pos (type_id_of k d)) × N t k c d
 
 pub part_answer : (N : Reading) (i : ℤ) (t : Tree) (k : NativeKind) (d : Dimension) (read r : Answer) → IsPartsOf i (some_parts k d) → ((c : CoordType) (e : Dimension) → (r ≡ ok_pair c e) ↔ ((read ≡ ok_pair c e) × (e ≡ d)))
     → Answers read (N t k) → Answers r (Part N i t)
@@ -24,16 +25,16 @@ part_answer N i t k d read r parts kept native = λ c e. (
   (λ m. let p = kinds_same k m.0 d e ((parts m.0 e).1 m.1) in (kept c e).1 ((native c e).1 (subst (λ x. N t x c e) (sym p.0) m.2), sym p.1)),
 )
 
-pub part_unknown : (N : Reading) (e : LayoutFault) (i : ℤ) (t : Tree) → ((k : NativeKind) (d : Dimension) → Id i k d → ⊥) → Answers (refused e) (Part N i t)
+pub part_unknown : (N : Reading) (e : LayoutFault) (i : ℤ) (t : Tree) → ((k : NativeKind) (d : Dimension) → i ≡ pos (type_id_of k d) → ⊥) → Answers (refused e) (Part N i t)
 part_unknown N e i t none = refuses e (Part N i t) (λ c d m. none m.0 d m.1)
 
 -- a member of a geometry
-to_part : (k : NativeKind) (i : ℤ) (t : Tree) (c : CoordType) (d : Dimension) → Id i k d → Native t k c d → GeometryPart i t c d
+to_part : (k : NativeKind) (i : ℤ) (t : Tree) (c : CoordType) (d : Dimension) → i ≡ pos (type_id_of k d) → Native t k c d → GeometryMember i t c d
 to_part GeometryCollection i t c d id h = inr (id, h)
 to_part k i t c d id h = inl (k, id, h)
 
-pub geometry_answer : (r : Answer) (i : ℤ) (t : Tree) → Answers r (Part Native i t) → Answers r (GeometryPart i t)
-geometry_answer r i t h = answers_like r (Part Native i t) (GeometryPart i t) (λ c d p. to_part p.0 i t c d p.1 p.2) (λ c d p. any_part i t c d p) h
+pub geometry_answer : (r : Answer) (i : ℤ) (t : Tree) → Answers r (Part Native i t) → Answers r (GeometryMember i t)
+geometry_answer r i t h = answers_like r (Part Native i t) (GeometryMember i t) (λ c d p. to_part p.0 i t c d p.1 p.2) (λ c d p. any_part i t c d p) h
 
 pub mixed_apart : AtNoList Mixed
 mixed_apart (list n t b m) c d h = h
@@ -44,7 +45,7 @@ mixed_apart _ c d h = tt
 abbrev pub no_parts : Option (NativeKind × Dimension)
 no_parts = None
 
-pub none_known : (i : ℤ) → IsPartsOf i no_parts → (k : NativeKind) (d : Dimension) → Id i k d → ⊥
+pub none_known : (i : ℤ) → IsPartsOf i no_parts → (k : NativeKind) (d : Dimension) → i ≡ pos (type_id_of k d) → ⊥
 none_known i parts k d id = let bad : no_parts ≡ some_parts k d = (parts k d).1 id in cc
 
 pub native_any : (k : NativeKind) (t : Tree) (r : Answer) → (k ≢ GeometryCollection) → Answers r (OverLeaf t k) → Answers r (Native t k)

@@ -1,10 +1,11 @@
 -- What a reader answers, in short words.
-use Rattle.std.proofs.Common.{◌≡◌, ◌↔◌, subst, ℤ, Result, Ok, Err, Option, Some, ap, ◌∙◌}
+use Rattle.std.proofs.Common.{◌≡◌, ◌↔◌, subst, ℤ, pos, Result, Ok, Err, Option, Some, ap, ◌∙◌}
 use Rattle.geoarrow_layout.specs.declared.kinds.CoordType.{CoordType}
 use Rattle.geoarrow_layout.specs.declared.kinds.Dimension.{Dimension}
 use Rattle.geoarrow_layout.specs.declared.fault.LayoutFault.{LayoutFault}
 use Rattle.geoarrow_layout.specs.declared.encodings.NativeKind.{NativeKind}
-use Rattle.geoarrow_layout.specs.Shapes.{Id, Answers, AnswersOne}
+use Rattle.geoarrow_layout.specs.Kinds.{type_id_of}
+use Rattle.geoarrow_layout.specs.Shapes.{Answers, AnswersOne}
 
 abbrev pub Answer : Type 0
 Answer = Result (CoordType × Dimension) LayoutFault
@@ -43,7 +44,7 @@ refused e = Err e
 
 -- the parts of an id
 abbrev pub IsPartsOf : ℤ → Parts → Type 0
-IsPartsOf i r = (k : NativeKind) (d : Dimension) → (r ≡ some_parts k d) ↔ Id i k d
+IsPartsOf i r = (k : NativeKind) (d : Dimension) → (r ≡ some_parts k d) ↔ (i ≡ pos (type_id_of k d))
 
 some_same : (p q : NativeKind × Dimension) → Some p ≡ Some q → p ≡ q
 some_same p q h = cc

@@ -18,7 +18,7 @@ use Rattle.geoarrow_layout.specs.declared.summary.Bottom.{Bottom}
 use Rattle.geoarrow_layout.specs.declared.summary.Bottom.TheVariants.{Union}
 use Rattle.geoarrow_layout.specs.declared.summary.Summary.{Summary}
 use Rattle.geoarrow_layout.specs.Kinds.{order_of}
-use Rattle.geoarrow_layout.specs.Shapes.{Mixed, Geometry, Member, GeometryPart, AllMembers, SomeMember, HasMembers, MixedMembers, Answers, AnswersOne}
+use Rattle.geoarrow_layout.specs.Shapes.{Mixed, Geometry, Member, GeometryMember, AllMembers, SomeMember, HasMembers, Answers, AnswersOne}
 use Rattle.geoarrow_layout.specs.Summary.{IsBits, IsFaultOf, Seen, place_of, AreLevels, IsBottom, IsInnerUnion, IsUnion, SummarizesBy, Summarizes}
 use Rattle.geoarrow_layout.specs.Steps.{AddsBits, CoordOf, DimensionOf, SomeAnswer, UnionSays, UnionSaysOne, IsNested, IsNoLeaf, Shows, ShowsInner}
 use Rattle.geoarrow_layout.specs.OneShape.{member_same, geometry_part_same}
@@ -96,7 +96,7 @@ coord_pow R one = keyed_pow CoordType place_of (AtCoord R) (λ i t a b p q. (one
 mixed_from : (R : Reads) → OneReading R → ((i : ℤ) (t : Tree) (c : CoordType) (d : Dimension) → Member i t c d → R i t c d)
     → (empty : Bool) (fault : Option LayoutFault) (coords dims : ℕ) (r : Answer) (ms : MemberTrees)
     → UnionSays empty fault coords dims r → ((empty ≡ false) ↔ HasMembers ms) → CoordBits R coords ms → DimensionBits R dims ms
-    → IsFaultOf Member fault ms → Answers r (MixedMembers ms)
+    → IsFaultOf Member fault ms → Answers r (λ c d. HasMembers ms × AllMembers (λ i t. Member i t c d) ms)
 mixed_from R one sub empty fault coords dims r ms says some coord_bits dimension_bits faultless = λ c d. (
   (λ e. let h = (says c d).0 e in (
     some.0 h.0,
@@ -275,10 +275,10 @@ pub root_mixed : (w : Option ListWidth) (empty : Bool) (ids coords dims : ℕ) (
     → IsBottom IsUnion w 0 (Union empty ids coords dims fault geometry) u → UnionSays empty fault coords dims r → Answers r (Mixed u)
 root_mixed w empty ids coords dims fault geometry u r k says =
     at_bottom IsUnion (λ x. Answers r (Mixed x)) w 0 (Union empty ids coords dims fault geometry) tt (λ x t b m z h. absurd h) (λ fs h. absurd h)
-    (λ ms mode h. mixed_from GeometryPart geometry_part_same (λ i t c d m. inl m) empty fault coords dims r ms says h.0 h.1.coord_bits h.1.dimension_bits h.2) u k
+    (λ ms mode h. mixed_from GeometryMember geometry_part_same (λ i t c d m. inl m) empty fault coords dims r ms says h.0 h.1.coord_bits h.1.dimension_bits h.2) u k
 
 pub root_geometry : (w : Option ListWidth) (empty : Bool) (ids coords dims : ℕ) (fault geometry : Option LayoutFault) (u : Tree) (r : Result CoordType LayoutFault)
     → IsBottom IsUnion w 0 (Union empty ids coords dims fault geometry) u → UnionSaysOne empty geometry coords r → AnswersOne r (Geometry u)
 root_geometry w empty ids coords dims fault geometry u r k says =
     at_bottom IsUnion (λ x. AnswersOne r (Geometry x)) w 0 (Union empty ids coords dims fault geometry) tt (λ x t b m z h. absurd h) (λ fs h. absurd h)
-    (λ ms mode h. one_from GeometryPart geometry_part_same empty geometry coords r ms says h.0 h.1.coord_bits h.1.faultless) u k
+    (λ ms mode h. one_from GeometryMember geometry_part_same empty geometry coords r ms says h.0 h.1.coord_bits h.1.faultless) u k

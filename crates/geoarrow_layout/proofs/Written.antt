@@ -14,7 +14,8 @@ use Rattle.geoarrow_layout.specs.declared.encodings.Width.TheVariants.{Plain}
 use Rattle.geoarrow_layout.specs.declared.encodings.Kind.{Kind}
 use Rattle.geoarrow_layout.specs.declared.encodings.Kind.TheVariants.{Native as OfNative, Geometry as OfGeometry, Rect as OfRect, Wkb as OfWkb, Wkt as OfWkt}
 use Rattle.geoarrow_layout.specs.Kinds.{name_of}
-use Rattle.geoarrow_layout.specs.Shapes.{Leaf, LeafUnder, levels_of, SameNames, Member, AllMembers, Collection, GeometryMember, Geometry, BoxShape, Accepted, Accepts}
+use Rattle.geoarrow_layout.specs.Shapes.{Leaf, levels_of, SameNames, Member, AllMembers, Collection, GeometryMember, Geometry, BoxShape, Accepted, Accepts}
+use Rattle.geoarrow_layout.specs.OneShape.{LeafUnder}
 use Rattle.geoarrow_layout.specs.Layouts.{leaf_layout, over_leaf_layout, member_layout, mixed_members, mixed_layout, native_layout, dimension_members, geometry_members, geometry_layout, box_layout, layout, IsWritten, IsWrittenSome}
 use Rattle.geoarrow_layout.proofs.MemberLists.{all_map, all_both}
 
@@ -40,6 +41,9 @@ written_collection : (c : CoordType) (d : Dimension) → Collection (native_layo
 written_collection c d = (mixed_layout c d, (Lists, refl), (tt, written_mixed c d))
 
 -- the members of a union of geometries
+abbrev InGeometry : CoordType → ℤ → Tree → Type 0
+InGeometry c i t = (d : Dimension) × GeometryMember i t c d
+
 -- what holds of the members of each dimension
 all_dimensions : (P : ℤ → Tree → Type 0) (c : CoordType) → ((d : Dimension) → AllMembers P (member_trees (dimension_members c d))) → AllMembers P (member_trees (geometry_members c))
 all_dimensions P c h =
@@ -47,14 +51,14 @@ all_dimensions P c h =
     (all_both P (dimension_members c XY ++ dimension_members c XYZ) (dimension_members c XYM)
     (all_both P (dimension_members c XY) (dimension_members c XYZ) (h XY) (h XYZ)) (h XYM)) (h XYZM)
 
-written_dimension : (c : CoordType) (d : Dimension) → AllMembers (GeometryMember c) (member_trees (dimension_members c d))
+written_dimension : (c : CoordType) (d : Dimension) → AllMembers (InGeometry c) (member_trees (dimension_members c d))
 written_dimension c d =
-    all_both (GeometryMember c) (mixed_members c d) (member_layout GeometryCollection d (native_layout GeometryCollection c d) ∷ [])
-    (all_map (λ i t. Member i t c d) (GeometryMember c) (λ i t m. (d, inl m)) (member_trees (mixed_members c d)) (written_mixed c d))
+    all_both (InGeometry c) (mixed_members c d) (member_layout GeometryCollection d (native_layout GeometryCollection c d) ∷ [])
+    (all_map (λ i t. Member i t c d) (InGeometry c) (λ i t m. (d, inl m)) (member_trees (mixed_members c d)) (written_mixed c d))
     ((d, inr (refl, written_collection c d)), tt)
 
 written_geometry : (c : CoordType) → Geometry (geometry_layout c) c
-written_geometry c = (tt, all_dimensions (GeometryMember c) c (written_dimension c))
+written_geometry c = (tt, all_dimensions (InGeometry c) c (written_dimension c))
 
 written_box : (d : Dimension) → BoxShape (box_layout d) d
 written_box XY = refl

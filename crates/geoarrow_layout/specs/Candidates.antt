@@ -8,16 +8,17 @@ use Rattle.geoarrow_layout.specs.declared.kinds.CoordType.{CoordType}
 use Rattle.geoarrow_layout.specs.declared.kinds.Dimension.{Dimension}
 use Rattle.geoarrow_layout.specs.declared.candidate_names.Candidates.{Candidates}
 use Rattle.geoarrow_layout.specs.declared.candidate_names.Candidates.TheVariants.{None, One, LineStringOrMultiPoint, PolygonOrMultiLineString, PointOrBox}
-use Rattle.geoarrow_layout.specs.Kinds.{native_name, box_name}
+use Rattle.geoarrow_layout.specs.declared.names.ExtensionName.TheVariants as names
+use Rattle.geoarrow_layout.specs.Kinds.{name_text}
 use Rattle.geoarrow_layout.specs.Shapes.{Native, Geometry, BoxShape, Accepts, IsStructured}
 
 -- the name is one of the candidates
 abbrev pub Holds : Candidates → Text → Type 0
 Holds None n = ⊥
 Holds (One name) n = n ≡ name.now
-Holds LineStringOrMultiPoint n = (n ≡ native_name LineString) ⊎ (n ≡ native_name MultiPoint)
-Holds PolygonOrMultiLineString n = (n ≡ native_name Polygon) ⊎ (n ≡ native_name MultiLineString)
-Holds PointOrBox n = (n ≡ native_name Point) ⊎ (n ≡ box_name)
+Holds LineStringOrMultiPoint n = (n ≡ name_text (names.Native LineString)) ⊎ (n ≡ name_text (names.Native MultiPoint))
+Holds PolygonOrMultiLineString n = (n ≡ name_text (names.Native Polygon)) ⊎ (n ≡ name_text (names.Native MultiLineString))
+Holds PointOrBox n = (n ≡ name_text (names.Native Point)) ⊎ (n ≡ name_text names.Rect)
 
 -- the same variant, and for `One` the same name
 abbrev pub SameCandidates : Candidates → Candidates → Type 0

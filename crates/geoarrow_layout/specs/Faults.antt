@@ -21,12 +21,8 @@ fault_text EmptyUnion = codes "union has no members"
 fault_text SeveralCoordTypes = codes "several coordinate types in union"
 fault_text SeveralDimensions = codes "several dimensions in union"
 
--- the error is an `ExternalError` of `InvalidGeoArrow` with that text
-abbrev pub BoxesInvalidOf : Text → ArrowError → Type 0
-BoxesInvalidOf text (ExternalError' p inner) = IsInvalidOf text inner
-BoxesInvalidOf text _ = ⊥
-
--- the error of a fault: for `BadSize` that one, for any other a `SchemaError`, each with the fault's message
+-- the error of a fault, with its message: for `BadSize` an `ExternalError` of `InvalidGeoArrow`, for any other a `SchemaError`
 abbrev pub IsArrowFormOf : LayoutFault → ArrowError → Type 0
-IsArrowFormOf BadSize e = BoxesInvalidOf (fault_text BadSize) e
+IsArrowFormOf BadSize (ExternalError' p inner) = IsInvalidOf (fault_text BadSize) inner
+IsArrowFormOf BadSize _ = ⊥
 IsArrowFormOf fault e = IsSchemaOf (fault_text fault) e

@@ -82,35 +82,19 @@ offset_of GeometryCollection = 7
 abbrev pub type_id_of : NativeKind → Dimension → ℕ
 type_id_of k d = 10 * order_of d + offset_of k
 
--- the extension name of a native kind
-abbrev pub native_name : NativeKind → Text
-native_name Point = codes "geoarrow.point"
-native_name LineString = codes "geoarrow.linestring"
-native_name Polygon = codes "geoarrow.polygon"
-native_name MultiPoint = codes "geoarrow.multipoint"
-native_name MultiLineString = codes "geoarrow.multilinestring"
-native_name MultiPolygon = codes "geoarrow.multipolygon"
-native_name GeometryCollection = codes "geoarrow.geometrycollection"
-
-abbrev pub geometry_name : Text
-geometry_name = codes "geoarrow.geometry"
-
-abbrev pub box_name : Text
-box_name = codes "geoarrow.box"
-
-abbrev pub wkb_name : Text
-wkb_name = codes "geoarrow.wkb"
-
-abbrev pub wkt_name : Text
-wkt_name = codes "geoarrow.wkt"
-
 -- the text of an extension name
 abbrev pub name_text : ExtensionName → Text
-name_text (names.Native k) = native_name k
-name_text names.Geometry = geometry_name
-name_text names.Rect = box_name
-name_text names.Wkb = wkb_name
-name_text names.Wkt = wkt_name
+name_text (names.Native Point) = codes "geoarrow.point"
+name_text (names.Native LineString) = codes "geoarrow.linestring"
+name_text (names.Native Polygon) = codes "geoarrow.polygon"
+name_text (names.Native MultiPoint) = codes "geoarrow.multipoint"
+name_text (names.Native MultiLineString) = codes "geoarrow.multilinestring"
+name_text (names.Native MultiPolygon) = codes "geoarrow.multipolygon"
+name_text (names.Native GeometryCollection) = codes "geoarrow.geometrycollection"
+name_text names.Geometry = codes "geoarrow.geometry"
+name_text names.Rect = codes "geoarrow.box"
+name_text names.Wkb = codes "geoarrow.wkb"
+name_text names.Wkt = codes "geoarrow.wkt"
 
 -- the extension name under which a kind is written
 abbrev pub extension_of : Kind → ExtensionName

@@ -14,7 +14,6 @@ use Rattle.geoarrow_layout.specs.declared.encodings.Width.TheVariants.{Plain, La
 use Rattle.geoarrow_layout.specs.declared.encodings.Kind.{Kind}
 use Rattle.geoarrow_layout.specs.declared.encodings.Kind.TheVariants.{Native, Geometry, Rect, Wkb, Wkt}
 use Rattle.geoarrow_layout.specs.Kinds.{size_of, interleaved_name, type_id_of}
-use Rattle.geoarrow_layout.specs.Shapes.{Id}
 
 -- a field of a coordinate or a box: `Float64`, not nullable, without metadata
 abbrev pub coordinate : Text → FieldTree
@@ -142,7 +141,7 @@ layout (Wkt w) = text_layout w
 
 -- a union's member as written: its type id and its data type are those of one kind, in this coordinate type and dimension
 abbrev pub IsWritten : CoordType → Dimension → ℤ → Tree → Type 0
-IsWritten c d i t = (k : NativeKind) × Id i k d × (t ≡ native_layout k c d)
+IsWritten c d i t = (k : NativeKind) × (i ≡ pos (type_id_of k d)) × (t ≡ native_layout k c d)
 
 -- the same, in some dimension
 abbrev pub IsWrittenSome : CoordType → ℤ → Tree → Type 0

@@ -11,8 +11,8 @@ use Rattle.geoarrow_layout.specs.declared.encodings.NativeKind.{NativeKind}
 use Rattle.geoarrow_layout.specs.declared.encodings.NativeKind.TheVariants.{Point, LineString, Polygon, MultiPoint, MultiLineString, MultiPolygon, GeometryCollection}
 use Rattle.geoarrow_layout.specs.declared.summary.ListWidth.{ListWidth}
 use Rattle.geoarrow_layout.specs.declared.summary.ListWidth.TheVariants.{List as Lists, LargeList as LargeLists}
-use Rattle.geoarrow_layout.specs.Kinds.{interleaved_name, order_of, offset_of}
-use Rattle.geoarrow_layout.specs.Shapes.{SameNames, IsSeparatedAs, Leaf, ListsOver, Levels, LeafUnder, OverLeaf, Id, Member, Mixed, Collection, Native, GeometryPart, Geometry, names_of, IsBoxAs, BoxShape}
+use Rattle.geoarrow_layout.specs.Kinds.{interleaved_name, order_of, offset_of, type_id_of}
+use Rattle.geoarrow_layout.specs.Shapes.{SameNames, IsSeparatedAs, Leaf, ListsOver, Levels, OverLeaf, Member, Mixed, Collection, Native, GeometryMember, Geometry, names_of, IsBoxAs, BoxShape}
 
 -- field names are those of at most one dimension
 pub separated_same : (names : List Text) (d e : Dimension) → IsSeparatedAs d names → IsSeparatedAs e names → d ≡ e
@@ -126,12 +126,16 @@ offset_same k l h = absurd (omega arith)
 pos_same : (m n : ℕ) → pos m ≡ pos n → m ≡ n
 pos_same m n h = cc
 
-id_same : (i : ℤ) (k l : NativeKind) (d e : Dimension) → Id i k d → Id i l e → (k ≡ l) × (d ≡ e)
+id_same : (i : ℤ) (k l : NativeKind) (d e : Dimension) → i ≡ pos (type_id_of k d) → i ≡ pos (type_id_of l e) → (k ≡ l) × (d ≡ e)
 id_same i k l d e h g =
     let n : 10 * order_of d + offset_of k ≡ 10 * order_of e + offset_of l = pos_same _ _ (sym h ∙ g) in
     let one : order_of d ≡ order_of e = omega (arith, offset_small k, offset_small l) in
     let two : offset_of k ≡ offset_of l = omega arith in
     (offset_same k l two, order_same d e one)
+
+-- the data type t is n lists over a coordinate, all of one width
+abbrev pub LeafUnder : ℕ → Tree → CoordType → Dimension → Type 0
+LeafUnder n t c d = (u : Tree) × Levels t n u × Leaf u c d
 
 leaf_under_same : (n : ℕ) (t : Tree) (c b : CoordType) (d e : Dimension) → LeafUnder n t c d → LeafUnder n t b e → (c ≡ b) × (d ≡ e)
 leaf_under_same n t c b d e h k = leaf_same k.0 c b d e (subst (λ x. Leaf x c d) (levels_same n t h.0 k.0 h.1 k.1) h.2) k.2
@@ -181,11 +185,11 @@ any_native_same MultiPoint t c b d e h g = leaf_under_same 1 t c b d e h g
 any_native_same MultiLineString t c b d e h g = leaf_under_same 2 t c b d e h g
 any_native_same MultiPolygon t c b d e h g = leaf_under_same 3 t c b d e h g
 
-pub any_part : (i : ℤ) (t : Tree) (c : CoordType) (d : Dimension) → GeometryPart i t c d → (k : NativeKind) × Id i k d × Native t k c d
+pub any_part : (i : ℤ) (t : Tree) (c : CoordType) (d : Dimension) → GeometryMember i t c d → (k : NativeKind) × (i ≡ pos (type_id_of k d)) × Native t k c d
 any_part i t c d (inl m) = (m.0, m.1, any_native m.0 t c d m.2)
 any_part i t c d (inr m) = (GeometryCollection, m.0, m.1)
 
-pub geometry_part_same : (i : ℤ) (t : Tree) (c b : CoordType) (d e : Dimension) → GeometryPart i t c d → GeometryPart i t b e → (c ≡ b) × (d ≡ e)
+pub geometry_part_same : (i : ℤ) (t : Tree) (c b : CoordType) (d e : Dimension) → GeometryMember i t c d → GeometryMember i t b e → (c ≡ b) × (d ≡ e)
 geometry_part_same i t c b d e h g =
     let x = any_part i t c d h in
     let y = any_part i t b e g in

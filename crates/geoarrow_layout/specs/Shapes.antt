@@ -63,10 +63,6 @@ ListsOver w (suc n) _ u = ⊥
 abbrev pub Levels : Tree → ℕ → Tree → Type 0
 Levels t n u = (w : ListWidth) × ListsOver w n t u
 
--- the data type t is n lists over a coordinate, all of one width
-abbrev pub LeafUnder : ℕ → Tree → CoordType → Dimension → Type 0
-LeafUnder n t c d = (u : Tree) × Levels t n u × Leaf u c d
-
 -- how many lists a native kind has
 abbrev pub levels_of : NativeKind → ℕ
 levels_of Point = 0
@@ -80,15 +76,11 @@ levels_of GeometryCollection = 1
 -- the data type t is the lists of a native kind over a coordinate; a collection is not, since it has a union there
 abbrev pub OverLeaf : Tree → NativeKind → CoordType → Dimension → Type 0
 OverLeaf t GeometryCollection c d = ⊥
-OverLeaf t k c d = LeafUnder (levels_of k) t c d
-
--- the type id is that of this kind and dimension
-abbrev pub Id : ℤ → NativeKind → Dimension → Type 0
-Id i k d = i ≡ pos (type_id_of k d)
+OverLeaf t k c d = (u : Tree) × Levels t (levels_of k) u × Leaf u c d
 
 -- a member of a collection: its data type has the kind and the dimension of its type id
 abbrev pub Member : ℤ → Tree → CoordType → Dimension → Type 0
-Member i t c d = (k : NativeKind) × Id i k d × OverLeaf t k c d
+Member i t c d = (k : NativeKind) × (i ≡ pos (type_id_of k d)) × OverLeaf t k c d
 
 -- P holds for the type id and the data type of every member
 abbrev pub AllMembers : (ℤ → Tree → Type 0) → MemberTrees → Type 0
@@ -105,13 +97,9 @@ abbrev pub HasMembers : MemberTrees → Type 0
 HasMembers no_members = ⊥
 HasMembers (member i n t b m ms) = Unit {0}
 
--- at least one member, and all of one coordinate type and one dimension
-abbrev pub MixedMembers : MemberTrees → CoordType → Dimension → Type 0
-MixedMembers ms c d = HasMembers ms × AllMembers (λ i t. Member i t c d) ms
-
--- the data type is the union in a collection
+-- the data type is the union in a collection: at least one member, and all of one coordinate type and one dimension
 abbrev pub Mixed : Tree → CoordType → Dimension → Type 0
-Mixed (union ms mode) c d = MixedMembers ms c d
+Mixed (union ms mode) c d = HasMembers ms × AllMembers (λ i t. Member i t c d) ms
 Mixed _ c d = ⊥
 
 -- the data type is a collection: a list over that union
@@ -124,16 +112,12 @@ Native t GeometryCollection c d = Collection t c d
 Native t k c d = OverLeaf t k c d
 
 -- a member of a geometry: a member of a collection, or a collection
-abbrev pub GeometryPart : ℤ → Tree → CoordType → Dimension → Type 0
-GeometryPart i t c d = Member i t c d ⊎ (Id i GeometryCollection d × Collection t c d)
-
--- the same, in some dimension
-abbrev pub GeometryMember : CoordType → ℤ → Tree → Type 0
-GeometryMember c i t = (d : Dimension) × GeometryPart i t c d
+abbrev pub GeometryMember : ℤ → Tree → CoordType → Dimension → Type 0
+GeometryMember i t c d = Member i t c d ⊎ ((i ≡ pos (type_id_of GeometryCollection d)) × Collection t c d)
 
 -- the data type is a geometry: a union of at least one member, all of one coordinate type
 abbrev pub Geometry : Tree → CoordType → Type 0
-Geometry (union ms mode) c = HasMembers ms × AllMembers (GeometryMember c) ms
+Geometry (union ms mode) c = HasMembers ms × AllMembers (λ i t. (d : Dimension) × GeometryMember i t c d) ms
 Geometry _ c = ⊥
 
 -- both names are among the names

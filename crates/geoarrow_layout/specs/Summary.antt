@@ -14,7 +14,7 @@ use Rattle.geoarrow_layout.specs.declared.summary.Bottom.{Bottom}
 use Rattle.geoarrow_layout.specs.declared.summary.Bottom.TheVariants.{FixedSizeList, Struct, Union, OtherWidth, Deep, Other}
 use Rattle.geoarrow_layout.specs.declared.summary.Summary.{Summary}
 use Rattle.geoarrow_layout.specs.Kinds.{interleaved_name, order_of}
-use Rattle.geoarrow_layout.specs.Shapes.{names_of, ListsOver, Member, GeometryPart, HasMembers, AllMembers, SomeMember}
+use Rattle.geoarrow_layout.specs.Shapes.{names_of, ListsOver, Member, GeometryMember, HasMembers, AllMembers, SomeMember}
 
 -- bit i of the number, counted from the lowest, is set exactly if P holds for i
 unfoldable pub IsBits : ℕ → (ℕ → Type 0) → Type 0
@@ -74,7 +74,7 @@ pub record Seen (R : ℤ → Tree → CoordType → Dimension → Type 0) (ids c
 -- the bottom describes a union that is the whole data type; its members are tried as those of a geometry
 abbrev pub IsRootUnion : Bottom → MemberTrees → Type 0
 IsRootUnion (Union empty ids coord_types dimensions mixed_fault geometry_fault) ms =
-    ((empty ≡ false) ↔ HasMembers ms) × Seen GeometryPart ids coord_types dimensions geometry_fault ms × IsFaultOf Member mixed_fault ms
+    ((empty ≡ false) ↔ HasMembers ms) × Seen GeometryMember ids coord_types dimensions geometry_fault ms × IsFaultOf Member mixed_fault ms
 IsRootUnion _ ms = ⊥
 
 -- the bottom describes a union below lists; its members are tried as those of a collection

@@ -1,7 +1,8 @@
 //! The kind of a column, from its extension name and a summary of its data type.
 ghost use Rattle.std.specs.Prelude.{◌≡◌, IfSome};
 ghost use Rattle.arrow_values.specs.Tree.{Tree};
-ghost use Rattle.geoarrow_layout.specs.Kinds.{native_name, geometry_name, box_name, name_of};
+ghost use Rattle.geoarrow_layout.specs.declared.names.ExtensionName.TheVariants as names;
+ghost use Rattle.geoarrow_layout.specs.Kinds.{name_text, name_of};
 ghost use Rattle.geoarrow_layout.specs.Shapes.{AnswersKind, IsStructured};
 ghost use Rattle.geoarrow_layout.specs.Summary.{Summarizes};
 
@@ -35,8 +36,8 @@ impl Summary {
 
 /// The kind under the name of a native kind.
 fn native_kind(kind: NativeKind, summary: &Summary) -> Option<Kind>
-    ensures exact { (t : Tree) → Summarizes summary.now t → AnswersKind (native_name kind) t result }
-    ensures named { IfSome result (λ k. (native_name kind ≡ name_of k) × IsStructured k) }
+    ensures exact { (t : Tree) → Summarizes summary.now t → AnswersKind (name_text (names.Native kind)) t result }
+    ensures named { IfSome result (λ k. (name_text (names.Native kind) ≡ name_of k) × IsStructured k) }
 {
     match any_native(kind, summary) {
         Ok(pair) => Some(Kind::Native(kind, pair.0, pair.1)),
@@ -46,8 +47,8 @@ fn native_kind(kind: NativeKind, summary: &Summary) -> Option<Kind>
 
 /// The kind under the name of unions of geometries.
 fn geometry_kind(summary: &Summary) -> Option<Kind>
-    ensures exact { (t : Tree) → Summarizes summary.now t → AnswersKind geometry_name t result }
-    ensures named { IfSome result (λ k. (geometry_name ≡ name_of k) × IsStructured k) }
+    ensures exact { (t : Tree) → Summarizes summary.now t → AnswersKind (name_text names.Geometry) t result }
+    ensures named { IfSome result (λ k. (name_text names.Geometry ≡ name_of k) × IsStructured k) }
 {
     match geometry(summary) {
         Ok(coord_type) => Some(Kind::Geometry(coord_type)),
@@ -57,8 +58,8 @@ fn geometry_kind(summary: &Summary) -> Option<Kind>
 
 /// The kind under the name of boxes.
 fn box_kind(summary: &Summary) -> Option<Kind>
-    ensures exact { (t : Tree) → Summarizes summary.now t → AnswersKind box_name t result }
-    ensures named { IfSome result (λ k. (box_name ≡ name_of k) × IsStructured k) }
+    ensures exact { (t : Tree) → Summarizes summary.now t → AnswersKind (name_text names.Rect) t result }
+    ensures named { IfSome result (λ k. (name_text names.Rect ≡ name_of k) × IsStructured k) }
 {
     match boxed(summary) {
         Ok(dimension) => Some(Kind::Rect(dimension)),

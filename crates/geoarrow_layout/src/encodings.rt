@@ -1,6 +1,6 @@
 //! The kinds of columns.
 ghost use Rattle.std.specs.Prelude.{◌≡◌};
-ghost use Rattle.geoarrow_layout.specs.Kinds.{native_name, extension_of, name_of, coord_type_of, dimension_of};
+ghost use Rattle.geoarrow_layout.specs.Kinds.{extension_of, name_of, coord_type_of, dimension_of};
 
 use crate::kinds::{CoordType, Dimension};
 use crate::names::ExtensionName;
@@ -110,20 +110,5 @@ impl Kind {
             Kind::Native(_, _, dimension) | Kind::Rect(dimension) => Some(*dimension),
             Kind::Geometry(_) | Kind::Wkb(_) | Kind::Wkt(_) => None,
         }
-    }
-}
-
-/// The extension name of a native kind.
-pub(crate) fn native_name(kind: NativeKind) -> &'static str
-    ensures { result.now ≡ native_name kind }
-{
-    match kind {
-        NativeKind::Point => "geoarrow.point",
-        NativeKind::LineString => "geoarrow.linestring",
-        NativeKind::Polygon => "geoarrow.polygon",
-        NativeKind::MultiPoint => "geoarrow.multipoint",
-        NativeKind::MultiLineString => "geoarrow.multilinestring",
-        NativeKind::MultiPolygon => "geoarrow.multipolygon",
-        NativeKind::GeometryCollection => "geoarrow.geometrycollection",
     }
 }

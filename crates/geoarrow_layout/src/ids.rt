@@ -1,7 +1,6 @@
 //! The type ids of members of unions.
 ghost use Rattle.std.specs.Prelude.{◌≡◌, ◌≤◌, ◌↔◌, pos};
 ghost use Rattle.geoarrow_layout.specs.Kinds.{order_of, offset_of, type_id_of};
-ghost use Rattle.geoarrow_layout.specs.Shapes.{Id};
 
 use crate::encodings::NativeKind;
 use crate::kinds::Dimension;
@@ -37,7 +36,7 @@ fn kind_at(offset: u8) -> Option<NativeKind>
 
 /// The native kind and the dimension that a type id says (GeoArrow, "Geometry": the table of type ids).
 pub(crate) fn parts_of_id(id: i8) -> Option<(NativeKind, Dimension)>
-    ensures { (k : NativeKind) (d : Dimension) → (result ≡ Some (k, d)) ↔ Id id k d }
+    ensures { (k : NativeKind) (d : Dimension) → (result ≡ Some (k, d)) ↔ (id ≡ pos (type_id_of k d)) }
 {
     if id < 0 {
         return None;

@@ -3,7 +3,7 @@ ghost use Rattle.std.specs.Prelude.{◌≡◌, ◌↔◌, Some};
 ghost use Rattle.geoarrow_layout.specs.declared.names.ExtensionName.{ExtensionName};
 ghost use Rattle.geoarrow_layout.specs.Kinds.{name_text};
 
-use crate::encodings::{NativeKind, native_name};
+use crate::encodings::NativeKind;
 
 /// The extension names of columns of geometries, at a field's `ARROW:extension:name` (GeoArrow, "Extension types").
 ///
@@ -35,7 +35,15 @@ impl ExtensionName {
         ensures { result.now ≡ name_text self }
     {
         match self {
-            ExtensionName::Native(kind) => native_name(kind),
+            ExtensionName::Native(NativeKind::Point) => "geoarrow.point",
+            ExtensionName::Native(NativeKind::LineString) => "geoarrow.linestring",
+            ExtensionName::Native(NativeKind::Polygon) => "geoarrow.polygon",
+            ExtensionName::Native(NativeKind::MultiPoint) => "geoarrow.multipoint",
+            ExtensionName::Native(NativeKind::MultiLineString) => "geoarrow.multilinestring",
+            ExtensionName::Native(NativeKind::MultiPolygon) => "geoarrow.multipolygon",
+            ExtensionName::Native(NativeKind::GeometryCollection) => {
+                "geoarrow.geometrycollection"
+            }
             ExtensionName::Geometry => "geoarrow.geometry",
             ExtensionName::Rect => "geoarrow.box",
             ExtensionName::Wkb => "geoarrow.wkb",

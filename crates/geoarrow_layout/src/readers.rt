@@ -3,7 +3,8 @@ ghost use Rattle.std.specs.Prelude.{◌≡◌, ◌≤◌, ◌<◌, ◌↔◌, �
 ghost use Rattle.arrow_values.specs.Tree.{Tree, Text};
 ghost use Rattle.geoarrow_layout.specs.declared.summary.ListWidth.{ListWidth};
 ghost use Rattle.geoarrow_layout.specs.Kinds.{order_of};
-ghost use Rattle.geoarrow_layout.specs.Shapes.{Leaf, IsSeparatedAs, Answers, AnswersOne, LeafUnder, OverLeaf, Member, GeometryPart, Collection, Mixed, Geometry, BoxShape, IsBoxAs, Native};
+ghost use Rattle.geoarrow_layout.specs.Shapes.{Leaf, IsSeparatedAs, Answers, AnswersOne, OverLeaf, Member, GeometryMember, Collection, Mixed, Geometry, BoxShape, IsBoxAs, Native};
+ghost use Rattle.geoarrow_layout.specs.OneShape.{LeafUnder};
 ghost use Rattle.geoarrow_layout.specs.Summary.{place_of, IsBits, SomeAt, IsBottom, Summarizes};
 ghost use Rattle.geoarrow_layout.specs.Steps.{IsNoLeaf, Shows, ShowsInner, UnionSays, UnionSaysOne, has_bit};
 
@@ -238,7 +239,7 @@ pub(crate) fn geometry_part(
     id: i8,
     summary: &Summary,
 ) -> Result<(CoordType, Dimension), LayoutFault>
-    ensures { (t : Tree) → ShowsInner summary.now t → Answers result (GeometryPart id t) }
+    ensures { (t : Tree) → ShowsInner summary.now t → Answers result (GeometryMember id t) }
 {
     let Some((kind, dimension)) = parts_of_id(id) else {
         return Err(LayoutFault::BadTypeId);

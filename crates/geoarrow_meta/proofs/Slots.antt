@@ -12,8 +12,7 @@ use Rattle.value_tokens.specs.Turns.{member_read, member_refused, value_takes}
 use Rattle.value_tokens.specs.Presence.{get_member-put_at}
 use Rattle.geoarrow_meta.specs.declared.edges.Edges.{Edges}
 use Rattle.geoarrow_meta.specs.declared.crs.crs_type.CrsType.{CrsType}
-use Rattle.geoarrow_meta.specs.Written.{crs_type_data, edges_data}
-use Rattle.geoarrow_meta.specs.Read.{present, at_key}
+use Rattle.geoarrow_meta.specs.Read.{crs_type_data, edges_data, present, at_key}
 use Rattle.geoarrow_meta.specs.declared.metadata.read.Word.TheVariants.{Other}
 use Rattle.geoarrow_meta.specs.Slots.{IsWord, IsNamed, AreSlotsOf}
 

@@ -8,8 +8,8 @@ use Rattle.geoarrow_meta.specs.declared.edges.Edges.{Edges}
 use Rattle.geoarrow_meta.specs.declared.crs.crs_type.CrsType.{CrsType}
 use Rattle.geoarrow_meta.specs.declared.metadata.Metadata.{Metadata}
 use Rattle.geoarrow_meta.specs.CrsValue.{IsCrsValue}
-use Rattle.geoarrow_meta.specs.Written.{empty, of_parts, meta_value, normal, is_bare, written, IsReadBack, NestsWithin}
-use Rattle.geoarrow_meta.specs.Read.{present, some_has_float, StandsFor, TextStandsFor}
+use Rattle.geoarrow_meta.specs.Written.{of_parts, meta_value, normal, is_bare, written, IsReadBack, NestsWithin}
+use Rattle.geoarrow_meta.specs.Read.{empty, present, some_has_float, StandsFor, TextStandsFor}
 use Rattle.geoarrow_meta.specs.Laws.{stands_for_one}
 
 -- a value that may stand as a CRS value is found where it stands

@@ -9,8 +9,7 @@ use Rattle.geoarrow_meta.specs.declared.edges.Edges.TheVariants.{Andoyer, Karney
 use Rattle.geoarrow_meta.specs.declared.crs.crs_type.CrsType.{CrsType}
 use Rattle.geoarrow_meta.specs.declared.crs.crs_type.CrsType.TheVariants.{Projjson, Wkt2_2019, AuthorityCode, Srid}
 use Rattle.geoarrow_meta.specs.declared.metadata.Metadata.{Metadata}
-use Rattle.geoarrow_meta.specs.Written.{edges_text, crs_type_text, crs_type_data, edges_data}
-use Rattle.geoarrow_meta.specs.Read.{StandsFor, TextStandsFor}
+use Rattle.geoarrow_meta.specs.Read.{edges_text, crs_type_text, crs_type_data, edges_data, StandsFor, TextStandsFor}
 
 some-inj : {c d : Data} → Some c ≡ Some d → c ≡ d
 some-inj e = cc

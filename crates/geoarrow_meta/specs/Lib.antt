@@ -1,9 +1,8 @@
 pub mod Code
 pub mod Same
 pub mod CrsValue
-pub mod Parts
-pub mod Written
 pub mod Read
+pub mod Written
 pub mod Slots
 pub mod Transform
 pub mod Whole

@@ -7,26 +7,48 @@ use Rattle.arrow_values.specs.declared.error.ArrowError.{ArrowError}
 use Rattle.arrow_values.specs.declared.error.ArrowError.TheVariants.{ExternalError', OutOfMemory}
 use Rattle.arrow_values.specs.declared.error.GeoArrowError.{GeoArrowError}
 use Rattle.arrow_values.specs.declared.error.GeoArrowError.TheVariants.{Arrow, Crs, External}
-use Rattle.serde_json.specs.Data.{Data, null, boolean, number, string, array, object}
+use Rattle.serde_json.specs.Data.{Data, null, string}
 use Rattle.serde_json.specs.Find.{get, as_object}
 use Rattle.serde_json.specs.Read.{read}
 use Rattle.serde_json.specs.Written.{has_float}
+use Rattle.geoarrow_meta.specs.declared.edges.Edges.{Edges}
+use Rattle.geoarrow_meta.specs.declared.edges.Edges.TheVariants.{Andoyer, Karney, Spherical, Thomas, Vincenty}
+use Rattle.geoarrow_meta.specs.declared.crs.crs_type.CrsType.{CrsType}
+use Rattle.geoarrow_meta.specs.declared.crs.crs_type.CrsType.TheVariants.{Projjson, Wkt2_2019, AuthorityCode, Srid}
 use Rattle.geoarrow_meta.specs.declared.metadata.Metadata.{Metadata}
-use Rattle.geoarrow_meta.specs.Written.{empty, crs_type_data, edges_data}
 
--- the value, unless it is null
-abbrev unless_null : Data → Option Data
-unless_null null = None
-unless_null (boolean b) = Some (boolean b)
-unless_null (number n) = Some (number n)
-unless_null (string s) = Some (string s)
-unless_null (array ds) = Some (array ds)
-unless_null (object ms) = Some (object ms)
+-- the text that denotes edges, at `edges`
+abbrev pub edges_text : Edges → Text
+edges_text Andoyer = codes "andoyer"
+edges_text Karney = codes "karney"
+edges_text Spherical = codes "spherical"
+edges_text Thomas = codes "thomas"
+edges_text Vincenty = codes "vincenty"
+
+-- the text that denotes a CRS type, at `crs_type`
+abbrev pub crs_type_text : CrsType → Text
+crs_type_text Projjson = codes "projjson"
+crs_type_text Wkt2_2019 = codes "wkt2:2019"
+crs_type_text AuthorityCode = codes "authority_code"
+crs_type_text Srid = codes "srid"
+
+-- the JSON value that is written at `crs_type`
+abbrev pub crs_type_data : CrsType → Data
+crs_type_data t = string (crs_type_text t)
+
+-- the JSON value that is written at `edges`
+abbrev pub edges_data : Edges → Data
+edges_data e = string (edges_text e)
+
+-- the metadata without a CRS and edges
+abbrev pub empty : Metadata
+empty = record { crs = record { value = None; crs_type = None }; edges = None }
 
 -- the value, if it is there and not null
 abbrev pub present : Option Data → Option Data
 present None = None
-present (Some d) = unless_null d
+present (Some null) = None
+present (Some d) = Some d
 
 -- the value at a key, if it is there and not null
 abbrev pub at_key : Text → Data → Option Data
@@ -62,17 +84,13 @@ RefusedAs d (Crs s) = HasFraction d
 RefusedAs d (External s) = ¬ HasFraction d × ((m : Metadata) → ¬ StandsFor d m)
 RefusedAs d _ = ⊥
 
--- the text is refused for that error: `Crs` if a number in `crs` is not whole, otherwise `External` if it denotes no metadata
-abbrev pub TextRefusedBy : Text → GeoArrowError → Type 0
-TextRefusedBy s (Crs t) = (d : Data) × (read s ≡ Some d) × HasFraction d
-TextRefusedBy s (External t) = ((d : Data) → read s ≡ Some d → ¬ HasFraction d) × ((m : Metadata) → ¬ TextStandsFor (Some s) m)
-TextRefusedBy s _ = ⊥
-
--- the text is refused with that error: an `ExternalError` of the one before, or out of memory; a missing text is not refused
+-- the text is refused with that error: out of memory; or boxed in an `ExternalError`, `Crs` if a number in `crs` is not whole,
+-- and `External` if it otherwise denotes no metadata; a missing text is not refused
 abbrev pub TextRefusedAs : Option Text → ArrowError → Type 0
 TextRefusedAs None e = ⊥
 TextRefusedAs (Some s) OutOfMemory = ⊤
-TextRefusedAs (Some s) (ExternalError' p g) = TextRefusedBy s g
+TextRefusedAs (Some s) (ExternalError' p (Crs t)) = (d : Data) × (read s ≡ Some d) × HasFraction d
+TextRefusedAs (Some s) (ExternalError' p (External t)) = ((d : Data) → read s ≡ Some d → ¬ HasFraction d) × ((m : Metadata) → ¬ TextStandsFor (Some s) m)
 TextRefusedAs (Some s) _ = ⊥
 
 -- ---- errors by variant

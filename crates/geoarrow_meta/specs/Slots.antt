@@ -9,8 +9,7 @@ use Rattle.geoarrow_meta.specs.declared.crs.crs_type.CrsType.{CrsType}
 use Rattle.geoarrow_meta.specs.declared.metadata.read.Slots.{Slots}
 use Rattle.geoarrow_meta.specs.declared.metadata.read.Word.{Word}
 use Rattle.geoarrow_meta.specs.declared.metadata.read.Word.TheVariants.{Absent, Text as Said, Other}
-use Rattle.geoarrow_meta.specs.Written.{crs_type_data, edges_data}
-use Rattle.geoarrow_meta.specs.Read.{at_key}
+use Rattle.geoarrow_meta.specs.Read.{crs_type_data, edges_data, at_key}
 
 -- the word says what was found: nothing, a text, or another value
 abbrev pub IsWord : Word → Option Data → Type 0

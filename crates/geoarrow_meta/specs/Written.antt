@@ -1,50 +1,17 @@
 -- Which JSON value a metadata is written as (GeoArrow, "Extension metadata"), and its normal form.
 use Rattle.std.specs.Prelude.{◌≡◌, ◌≤◌, ℕ, codes, Bool, true, false, Option, None, Some, option_map, unwrap_or, ⊤}
 use Rattle.arrow_values.specs.Tree.{Text}
-use Rattle.serde_json.specs.Data.{Data, null, string, object, Members, no_members, member, put, depth}
+use Rattle.serde_json.specs.Data.{Data, null, object, Members, no_members, member, put, depth}
 use Rattle.serde_json.specs.Read.{read}
 use Rattle.serde_json.specs.Written.{compact_text}
 use Rattle.geoarrow_meta.specs.declared.edges.Edges.{Edges}
-use Rattle.geoarrow_meta.specs.declared.edges.Edges.TheVariants.{Andoyer, Karney, Spherical, Thomas, Vincenty}
 use Rattle.geoarrow_meta.specs.declared.crs.crs_type.CrsType.{CrsType}
-use Rattle.geoarrow_meta.specs.declared.crs.crs_type.CrsType.TheVariants.{Projjson, Wkt2_2019, AuthorityCode, Srid}
-use Rattle.geoarrow_meta.specs.declared.crs.Crs.{Crs}
 use Rattle.geoarrow_meta.specs.declared.metadata.Metadata.{Metadata}
-
--- the text that denotes edges, at `edges`
-abbrev pub edges_text : Edges → Text
-edges_text Andoyer = codes "andoyer"
-edges_text Karney = codes "karney"
-edges_text Spherical = codes "spherical"
-edges_text Thomas = codes "thomas"
-edges_text Vincenty = codes "vincenty"
-
--- the text that denotes a CRS type, at `crs_type`
-abbrev pub crs_type_text : CrsType → Text
-crs_type_text Projjson = codes "projjson"
-crs_type_text Wkt2_2019 = codes "wkt2:2019"
-crs_type_text AuthorityCode = codes "authority_code"
-crs_type_text Srid = codes "srid"
-
--- the CRS with neither value nor type
-abbrev pub no_crs : Crs
-no_crs = record { value = None; crs_type = None }
-
--- the metadata without a CRS and edges
-abbrev pub empty : Metadata
-empty = record { crs = no_crs; edges = None }
+use Rattle.geoarrow_meta.specs.Read.{crs_type_data, edges_data}
 
 -- the metadata with these three parts
 abbrev pub of_parts : Option Data → Option CrsType → Option Edges → Metadata
 of_parts v t e = record { crs = record { value = v; crs_type = t }; edges = e }
-
--- the JSON value that is written at `crs_type`
-abbrev pub crs_type_data : CrsType → Data
-crs_type_data t = string (crs_type_text t)
-
--- the JSON value that is written at `edges`
-abbrev pub edges_data : Edges → Data
-edges_data e = string (edges_text e)
 
 -- the members, after a new one if there is a value for it
 abbrev pub with_some : Text → Option Data → Members → Members

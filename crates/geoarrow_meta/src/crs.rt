@@ -5,7 +5,6 @@ ghost use Rattle.serde_json.specs.Find.{as_object};
 ghost use Rattle.serde_json.specs.View.{view};
 ghost use Rattle.serde_json.specs.Written.{has_float};
 ghost use Rattle.geoarrow_meta.specs.CrsValue.{IsCrsValue};
-ghost use Rattle.geoarrow_meta.specs.Parts.{crs_value, crs_type};
 
 mod crs_type;
 mod value;
@@ -66,8 +65,8 @@ impl Crs {
     pub fn from_projjson(value: Value) -> Crs
         requires object { IsSome (as_object (view value)) }
         requires whole { has_float (view value) ≡ false }
-        ensures value { crs_value result ≡ Some (view value) }
-        ensures crs_type { crs_type result ≡ Some CrsType.Projjson }
+        ensures value { result.value ≡ Some (view value) }
+        ensures crs_type { result.crs_type ≡ Some CrsType.Projjson }
     {
         Crs {
             value: Some(CrsValue::new(value)),
@@ -77,8 +76,8 @@ impl Crs {
 
     /// The CRS of a text of WKT2:2019 (ISO 19162), of type `Wkt2_2019`; the text is not checked.
     pub fn from_wkt2_2019(text: String) -> Crs
-        ensures value { crs_value result ≡ Some (string (string_bytes text)) }
-        ensures crs_type { crs_type result ≡ Some CrsType.Wkt2_2019 }
+        ensures value { result.value ≡ Some (string (string_bytes text)) }
+        ensures crs_type { result.crs_type ≡ Some CrsType.Wkt2_2019 }
     {
         Crs {
             value: Some(CrsValue::new(Value::String(text))),
@@ -90,8 +89,8 @@ impl Crs {
     /// `is_authority_code` tests.
     pub fn from_authority_code(code: String) -> Crs
         requires { Contains (string_bytes code) 58 }
-        ensures value { crs_value result ≡ Some (string (string_bytes code)) }
-        ensures crs_type { crs_type result ≡ Some CrsType.AuthorityCode }
+        ensures value { result.value ≡ Some (string (string_bytes code)) }
+        ensures crs_type { result.crs_type ≡ Some CrsType.AuthorityCode }
     {
         Crs {
             value: Some(CrsValue::new(Value::String(code))),
@@ -101,8 +100,8 @@ impl Crs {
 
     /// The CRS of an opaque text that only its producer understands, of type `Srid`.
     pub fn from_srid(srid: String) -> Crs
-        ensures value { crs_value result ≡ Some (string (string_bytes srid)) }
-        ensures crs_type { crs_type result ≡ Some CrsType.Srid }
+        ensures value { result.value ≡ Some (string (string_bytes srid)) }
+        ensures crs_type { result.crs_type ≡ Some CrsType.Srid }
     {
         Crs {
             value: Some(CrsValue::new(Value::String(srid))),
@@ -112,8 +111,8 @@ impl Crs {
 
     /// The CRS of a text whose format is not known: it has no type.
     pub fn from_unknown_crs_type(crs: String) -> Crs
-        ensures value { crs_value result ≡ Some (string (string_bytes crs)) }
-        ensures crs_type { crs_type result ≡ None }
+        ensures value { result.value ≡ Some (string (string_bytes crs)) }
+        ensures crs_type { result.crs_type ≡ None }
     {
         Crs {
             value: Some(CrsValue::new(Value::String(crs))),
@@ -142,15 +141,15 @@ impl Crs {
 
     /// The format of the value, if it is known.
     pub fn crs_type(&self) -> Option<CrsType>
-        ensures { result ≡ crs_type self.now }
+        ensures { result ≡ self.now.crs_type }
     {
         self.crs_type
     }
 
     /// The JSON value, if there is one; it is not null, and its numbers are whole.
     pub fn crs_value(&self) -> Option<&Value>
-        ensures value { option_map (λ v. view v.now) result ≡ crs_value self.now }
-        ensures valid { IfSome (crs_value self.now) IsCrsValue }
+        ensures value { option_map (λ v. view v.now) result ≡ self.now.value }
+        ensures valid { IfSome self.now.value IsCrsValue }
     {
         match &self.value {
             Some(value) => Some(value.as_value()),
@@ -160,9 +159,9 @@ impl Crs {
 
     // Whether both hold the same value, or none.
     pub(crate) fn same_value(&self, other: &Crs) -> bool
-        ensures same { IsTrue result ↔ (crs_value self.now ≡ crs_value other.now) }
-        ensures valid { IfSome (crs_value self.now) IsCrsValue }
-        ensures other_valid { IfSome (crs_value other.now) IsCrsValue }
+        ensures same { IsTrue result ↔ (self.now.value ≡ other.now.value) }
+        ensures valid { IfSome self.now.value IsCrsValue }
+        ensures other_valid { IfSome other.now.value IsCrsValue }
     {
         let mine = self.crs_value();
         let theirs = other.crs_value();

@@ -1,7 +1,7 @@
 //! How edges run between vertices.
 ghost use Rattle.std.specs.Prelude.{◌≡◌, ◌↔◌, Some};
 ghost use Rattle.geoarrow_meta.specs.declared.edges.Edges.{Edges};
-ghost use Rattle.geoarrow_meta.specs.Written.{edges_text};
+ghost use Rattle.geoarrow_meta.specs.Read.{edges_text};
 
 /// How an edge runs between two vertices, where it is not a straight line of the plane (GeoArrow, "Extension types",
 /// "Extension metadata", key `edges`). A metadata without edges means planar edges.

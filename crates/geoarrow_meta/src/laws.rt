@@ -4,7 +4,6 @@ ghost use Rattle.arrow_values.specs.Texts.{text_of};
 ghost use Rattle.serde_json.specs.View.{view};
 ghost use Rattle.geoarrow_meta.specs.declared.metadata.Metadata.{Metadata};
 ghost use Rattle.geoarrow_meta.specs.contracts.metadata.MetadataPartialEq.TheImpl as metadatas;
-ghost use Rattle.geoarrow_meta.specs.Parts.{crs_value, metadata_crs};
 ghost use Rattle.geoarrow_meta.specs.Written.{meta_value, printed, normal, IsReadBack, NestsWithin};
 ghost use Rattle.geoarrow_meta.specs.Whole.{is_whole};
 ghost use Rattle.geoarrow_meta.specs.Read.{StandsFor, TextStandsFor};
@@ -43,7 +42,7 @@ pub fn printed_reads_back(metadata: &Metadata)
 /// prints for the metadata as the value that it printed.
 #[tactic(auto, using(crate::proofs::ReadBack::nested_read_back))]
 pub fn nested_reads_back(metadata: &Metadata)
-    ensures { NestsWithin 100 (crs_value (metadata_crs metadata.now))
+    ensures { NestsWithin 100 metadata.now.crs.value
         → IsReadBack (meta_value metadata.now) }
 {
     crs_value_is_whole(metadata.crs());
@@ -51,7 +50,7 @@ pub fn nested_reads_back(metadata: &Metadata)
 
 // A CRS value is as `serde_json` holds one whose numbers are whole.
 fn crs_value_is_whole(crs: &Crs)
-    ensures { IfSome (crs_value crs.now) (λ d. is_whole d ≡ true) }
+    ensures { IfSome crs.now.value (λ d. is_whole d ≡ true) }
 {
     match crs.crs_value() {
         Some(value) => {

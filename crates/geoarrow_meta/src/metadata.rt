@@ -10,9 +10,8 @@ ghost use Rattle.serde_json.specs.View.{view};
 ghost use Rattle.serde_json.specs.Written.{has_float};
 ghost use Rattle.geoarrow_meta.specs.declared.metadata.Metadata.{Metadata};
 ghost use Rattle.geoarrow_meta.specs.CrsValue.{IsCrsValue};
-ghost use Rattle.geoarrow_meta.specs.Parts.{crs_value, metadata_crs, metadata_edges};
-ghost use Rattle.geoarrow_meta.specs.Written.{empty, meta_value, printed, normal, is_bare, IsReadBack, NestsWithin};
-ghost use Rattle.geoarrow_meta.specs.Read.{StandsFor, TextStandsFor, RefusedAs, TextRefusedAs};
+ghost use Rattle.geoarrow_meta.specs.Written.{meta_value, printed, normal, is_bare, IsReadBack, NestsWithin};
+ghost use Rattle.geoarrow_meta.specs.Read.{empty, StandsFor, TextStandsFor, RefusedAs, TextRefusedAs};
 ghost use Rattle.geoarrow_meta.specs.Slots.{AreSlotsOf};
 
 mod print;
@@ -52,22 +51,22 @@ pub struct Metadata {
 impl Metadata {
     /// The metadata with that CRS and those edges, which may be missing.
     pub fn new(crs: Crs, edges: Option<Edges>) -> Metadata
-        ensures crs { metadata_crs result ≡ crs }
-        ensures edges { metadata_edges result ≡ edges }
+        ensures crs { result.crs ≡ crs }
+        ensures edges { result.edges ≡ edges }
     {
         Metadata { crs, edges }
     }
 
     /// The CRS.
     pub fn crs(&self) -> &Crs
-        ensures { result.now ≡ metadata_crs self.now }
+        ensures { result.now ≡ self.now.crs }
     {
         &self.crs
     }
 
     /// How edges run; `None` means planar edges.
     pub fn edges(&self) -> Option<Edges>
-        ensures { result ≡ metadata_edges self.now }
+        ensures { result ≡ self.now.edges }
     {
         self.edges
     }
@@ -89,7 +88,7 @@ impl Metadata {
         ensures value { IfOk result (λ o. option_map view o ≡ meta_value self.now) }
         ensures whole { IfOk result (λ o. IfSome o (λ v. has_float (view v) ≡ false)) }
         ensures memory { IfErr result (λ _. IsSome (meta_value self.now)) }
-        ensures valid { IfSome (crs_value (metadata_crs self.now)) IsCrsValue }
+        ensures valid { IfSome self.now.crs.value IsCrsValue }
     {
         let value = self.crs.crs_value();
         if value.is_none() && self.edges.is_none() {
@@ -160,7 +159,7 @@ impl Metadata {
             → IsReadBack (meta_value self.now)) }
         ensures reads_as { IfOk result (λ text. IsReadBack (meta_value self.now)
             → TextStandsFor (option_map string_bytes text) (normal self.now)) }
-        ensures nested { IfOk result (λ text. NestsWithin 100 (crs_value (metadata_crs self.now))
+        ensures nested { IfOk result (λ text. NestsWithin 100 self.now.crs.value
             → TextStandsFor (option_map string_bytes text) (normal self.now)) }
     {
         Ok(self.print(alloc)?)
@@ -172,7 +171,7 @@ impl Metadata {
             (λ _. IsSome (printed self.now)) }
         ensures read_back { OnOk result (NestsWithin max_depth (meta_value self.now)
             → IsReadBack (meta_value self.now)) }
-        ensures valid { IfSome (crs_value (metadata_crs self.now)) IsCrsValue }
+        ensures valid { IfSome self.now.crs.value IsCrsValue }
     {
         let value = self.crs.crs_value();
         if self.is_bare() {

@@ -166,7 +166,8 @@ impl<S: NativeShape> fmt::Debug for NativeType<S> {
 
 impl<S: NativeShape> ExtensionType for NativeType<S> {
     ghost use Rattle.std.proofs.Common.{refl};
-    ghost use Rattle.geoarrow_layout.specs.Kinds.{native_name};
+    ghost use Rattle.geoarrow_layout.specs.declared.names.ExtensionName.TheVariants as names;
+    ghost use Rattle.geoarrow_layout.specs.Kinds.{name_text as text_of};
     ghost use Rattle.geoarrow_layout.specs.Shapes.{Native as IsOfKind};
     ghost use Rattle.geoarrow_meta.specs.Written.{printed as printed_text};
     ghost use Rattle.geoarrow_meta.specs.Read.{TextStandsFor, TextRefusedAs};
@@ -180,7 +181,7 @@ impl<S: NativeShape> ExtensionType for NativeType<S> {
 
     type Metadata = Arc<Metadata>;
 
-    ghost name_text = { native_name S.KIND };
+    ghost name_text = { text_of (names.Native S.KIND) };
 
     ghost metadata_of = { λ e. e.metadata };
 

@@ -7,7 +7,8 @@ use geoarrow_layout::NativeKind;
 pub trait NativeShape {
     ghost use Rattle.std.specs.Prelude.{◌≡◌, ℤ, pos};
     ghost use Rattle.geoarrow_layout.specs.declared.encodings.NativeKind.{NativeKind};
-    ghost use Rattle.geoarrow_layout.specs.Kinds.{native_name, offset_of};
+    ghost use Rattle.geoarrow_layout.specs.declared.names.ExtensionName.TheVariants as names;
+    ghost use Rattle.geoarrow_layout.specs.Kinds.{name_text, offset_of};
 
     /// The extension name.
     const NAME: &'static str;
@@ -27,7 +28,7 @@ pub trait NativeShape {
 
     /// `NAME`.
     fn shape_name() -> &'static str
-        ensures { result.now ≡ native_name KIND };
+        ensures { result.now ≡ name_text (names.Native KIND) };
 
     ghost offset_is: { OFFSET ≡ pos (offset_of KIND) };
 }

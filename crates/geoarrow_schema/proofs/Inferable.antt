@@ -15,8 +15,7 @@ use Rattle.geoarrow_layout.specs.declared.encodings.Kind.TheVariants.{Native, Wk
 use Rattle.geoarrow_layout.specs.Shapes.{SameNames}
 use Rattle.geoarrow_layout.specs.Inferred.{Inferred}
 use Rattle.geoarrow_layout.specs.Layouts.{layout, leaf_layout}
-use Rattle.geoarrow_meta.specs.Read.{TextStandsFor}
-use Rattle.geoarrow_meta.specs.Written.{empty}
+use Rattle.geoarrow_meta.specs.Read.{TextStandsFor, empty}
 use Rattle.geoarrow_schema.specs.declared.types.GeoArrowType.{GeoArrowType}
 use Rattle.geoarrow_schema.specs.Types.{kind_of, meta_of}
 use Rattle.geoarrow_schema.specs.Infers.{InfersAs, Infers, InferredAs, IsInferable, IsBareColumn}

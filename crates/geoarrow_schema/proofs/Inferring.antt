@@ -26,7 +26,8 @@ use Rattle.std.specs.declared.sync.Arc.{Arc}
 use Rattle.std.specs.declared.alloc.Global.{Global}
 use Rattle.geoarrow_schema.specs.declared.types.GeoArrowType.{GeoArrowType}
 use Rattle.geoarrow_schema.specs.Types.{kind_of, metadata_of, meta_of, SameType}
-use Rattle.geoarrow_schema.specs.Reads.{HasGeoArrowName, Reads, ReadsAlone, IsRefusal}
+use Rattle.geoarrow_schema.specs.Reads.{HasGeoArrowName, Reads, ReadsAlone}
+use Rattle.geoarrow_schema.specs.Refusals.{IsRefusal}
 use Rattle.geoarrow_schema.specs.Infers.{InferredAs, InfersAs, Infers, ReadsOrInfers, InfersAlone, ReadsOrInfersAlone, InfersNone, UninferredAs, IsInference, AnswersInferred, IsStored, SerializedAs}
 use Rattle.geoarrow_schema.proofs.Reading.{read_has_name, none_unnamed}
 

@@ -24,7 +24,8 @@ use Rattle.std.specs.declared.alloc.Global.{Global}
 use Rattle.geoarrow_native.specs.Column.{IsColumn, ReadsAs}
 use Rattle.geoarrow_schema.specs.declared.types.GeoArrowType.{GeoArrowType}
 use Rattle.geoarrow_schema.specs.Types.{kind_of, metadata_of, meta_of}
-use Rattle.geoarrow_schema.specs.Reads.{HasName, HasGeoArrowName, Reads, ReadsAsNone, ReadsAlone, IsUnstored, IsColumnRefusal, IsRefusal, IsRefusedBy, IsTypeRefusal}
+use Rattle.geoarrow_schema.specs.Reads.{HasName, HasGeoArrowName, Reads, ReadsAsNone, ReadsAlone, IsUnstored, IsRefusedBy, IsTypeRefusal}
+use Rattle.geoarrow_schema.specs.Refusals.{IsColumnRefusal, IsRefusal}
 
 -- a column with a metadata
 pub column_reads : (f : FieldTree) (k : Kind) (m : Metadata) → IsColumn f k → TextStandsFor (extension_metadata f) m → ReadsAs f k m

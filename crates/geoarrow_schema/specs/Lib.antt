@@ -2,5 +2,6 @@ pub mod Stored
 pub mod Types
 pub mod Changes
 pub mod Reads
+pub mod Refusals
 pub mod Normal
 pub mod Infers

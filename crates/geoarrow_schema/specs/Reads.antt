@@ -45,23 +45,16 @@ ReadsAlone f g = (k : Kind) (m : Metadata) → ReadsAs f k m → (k ≡ kind_of 
 abbrev pub IsUnstored : FieldTree → Type 0
 IsUnstored f = (HasName f Wkb × ((w : Width) → ¬ IsBytes w f.tree)) ⊎ (HasName f Wkt × ((w : Width) → ¬ IsText w f.tree))
 
--- the error of the field's metadata text or, if that stands for a metadata, that of a layout
-abbrev pub IsColumnRefusal : FieldTree → ArrowError → Type 0
-IsColumnRefusal f a = TextRefusedAs (extension_metadata f) a ⊎ (((m : Metadata) × TextStandsFor (extension_metadata f) m) × IsLayoutRefusal a)
-
--- the error with which a field with a GeoArrow name is refused
+-- the error with which a field with a GeoArrow name is refused; an `Arrow` is that of its metadata text or, if that stands for
+-- a metadata, that of a layout
 abbrev pub RefusedAs : FieldTree → GeoArrowError → Type 0
 RefusedAs f (InvalidGeoArrow s) = IsUnstored f
-RefusedAs f (Arrow a) = ¬ IsUnstored f × IsColumnRefusal f a
+RefusedAs f (Arrow a) = ¬ IsUnstored f × (TextRefusedAs (extension_metadata f) a ⊎ (((m : Metadata) × TextStandsFor (extension_metadata f) m) × IsLayoutRefusal a))
 RefusedAs f _ = ⊥
 
--- out-of-memory; or the field is read as nothing, and that is how it is refused
-abbrev pub IsRefusal : FieldTree → GeoArrowError → Type 0
-IsRefusal f e = IsGeoMemory e ⊎ (ReadsAsNone f × RefusedAs f e)
-
--- the field has a GeoArrow name and is refused with this error
+-- the field has a GeoArrow name and is refused with this error: out of memory; or it is read as nothing, and that is its error
 abbrev pub IsRefusedBy : FieldTree → GeoArrowError → Type 0
-IsRefusedBy f e = HasGeoArrowName f × IsRefusal f e
+IsRefusedBy f e = HasGeoArrowName f × (IsGeoMemory e ⊎ (ReadsAsNone f × RefusedAs f e))
 
 -- what a field is read as: the type that it stands for; `None` if it has no GeoArrow name; or, if it has one, how it is refused
 abbrev pub IsReading : FieldTree → Result (Option GeoArrowType) GeoArrowError → Type 0

@@ -119,7 +119,8 @@ impl BoxType {
 impl ExtensionType for BoxType {
     ghost use Rattle.std.proofs.Common.{refl, sym, subst};
     ghost use Rattle.geoarrow_layout.specs.declared.kinds.Dimension.{Dimension};
-    ghost use Rattle.geoarrow_layout.specs.Kinds.{box_name};
+    ghost use Rattle.geoarrow_layout.specs.declared.names.ExtensionName.TheVariants as names;
+    ghost use Rattle.geoarrow_layout.specs.Kinds.{name_text as text_of};
     ghost use Rattle.geoarrow_layout.specs.Shapes.{BoxShape};
     ghost use Rattle.geoarrow_meta.specs.Written.{printed as printed_text};
     ghost use Rattle.geoarrow_meta.specs.Read.{TextStandsFor, TextRefusedAs};
@@ -132,7 +133,7 @@ impl ExtensionType for BoxType {
 
     type Metadata = Arc<Metadata>;
 
-    ghost name_text = { box_name };
+    ghost name_text = { text_of names.Rect };
 
     ghost metadata_of = { λ e. e.metadata };
 

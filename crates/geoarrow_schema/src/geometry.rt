@@ -6,7 +6,8 @@ ghost use Rattle.arrow_values.specs.Errors.{IsMemory};
 ghost use Rattle.geoarrow_layout.specs.declared.kinds.CoordType.TheVariants.{Separated};
 ghost use Rattle.geoarrow_layout.specs.declared.encodings.Kind.TheVariants.{Geometry as OfGeometry};
 ghost use Rattle.geoarrow_layout.specs.Layouts.{geometry_layout};
-ghost use Rattle.geoarrow_meta.specs.Written.{empty, meta_value, normal, IsReadBack};
+ghost use Rattle.geoarrow_meta.specs.Written.{meta_value, normal, IsReadBack};
+ghost use Rattle.geoarrow_meta.specs.Read.{empty};
 ghost use Rattle.geoarrow_native.specs.Column.{ReadsAs, written_field};
 
 use arrow_values::{ArrowError, DataType, ExtensionType, Field};
@@ -116,7 +117,8 @@ impl GeometryType {
 impl ExtensionType for GeometryType {
     ghost use Rattle.std.proofs.Common.{refl, sym, subst};
     ghost use Rattle.geoarrow_layout.specs.declared.kinds.CoordType.{CoordType};
-    ghost use Rattle.geoarrow_layout.specs.Kinds.{geometry_name};
+    ghost use Rattle.geoarrow_layout.specs.declared.names.ExtensionName.TheVariants as names;
+    ghost use Rattle.geoarrow_layout.specs.Kinds.{name_text as text_of};
     ghost use Rattle.geoarrow_layout.specs.Shapes.{Geometry};
     ghost use Rattle.geoarrow_meta.specs.Written.{printed as printed_text};
     ghost use Rattle.geoarrow_meta.specs.Read.{TextStandsFor, TextRefusedAs};
@@ -129,7 +131,7 @@ impl ExtensionType for GeometryType {
 
     type Metadata = Arc<Metadata>;
 
-    ghost name_text = { geometry_name };
+    ghost name_text = { text_of names.Geometry };
 
     ghost metadata_of = { λ e. e.metadata };
 

@@ -3,7 +3,7 @@ ghost use Rattle.geoarrow_schema.specs.declared.types.GeoArrowType.{GeoArrowType
 ghost use Rattle.std.specs.Arc.{arc_value};
 ghost use Rattle.std.specs.Prelude.{◌≡◌, ◌↔◌, IsTrue};
 ghost use Rattle.arrow_values.specs.Tree.{FieldTree};
-ghost use Rattle.geoarrow_meta.specs.Written.{empty};
+ghost use Rattle.geoarrow_meta.specs.Read.{empty};
 ghost use Rattle.geoarrow_schema.specs.Types.{kind_of, meta_of, SameType};
 ghost use Rattle.geoarrow_schema.specs.Reads.{Reads};
 ghost use Rattle.geoarrow_schema.specs.Infers.{Infers, ReadsOrInfers, IsInferable, IsBareColumn};

@@ -10,7 +10,8 @@ ghost use Rattle.geoarrow_layout.specs.Shapes.{Accepts};
 ghost use Rattle.geoarrow_meta.specs.declared.metadata.Metadata.{Metadata};
 ghost use Rattle.geoarrow_meta.specs.Read.{TextStandsFor, TextRefusedAs};
 ghost use Rattle.geoarrow_native.specs.Column.{IsColumn};
-ghost use Rattle.geoarrow_schema.specs.Reads.{HasName, Reads, ReadsAlone, IsColumnRefusal, IsRefusal, IsReading, IsTypeReading};
+ghost use Rattle.geoarrow_schema.specs.Reads.{HasName, Reads, ReadsAlone, IsReading, IsTypeReading};
+ghost use Rattle.geoarrow_schema.specs.Refusals.{IsColumnRefusal, IsRefusal};
 
 use crate::types::GeoArrowType;
 use arrow_values::{ArrowError, Field, GeoArrowError, GeoArrowResult};

@@ -3,7 +3,7 @@ ghost use Rattle.std.specs.Prelude.{◌≡◌, ◌⊎◌, ◌↔◌, IfOk, IfErr
 ghost use Rattle.std.specs.Arc.{arc_value};
 ghost use Rattle.arrow_values.specs.View.{tree};
 ghost use Rattle.arrow_values.specs.Errors.{IsMemory};
-ghost use Rattle.geoarrow_meta.specs.Written.{empty};
+ghost use Rattle.geoarrow_meta.specs.Read.{empty};
 
 use arrow_values::{ArrowError, DataType, ExtensionType};
 use geoarrow_layout::{LayoutFault, Width, parse_wkb, parse_wkt};
@@ -46,14 +46,15 @@ pub trait Encoding {
 pub struct Wkb;
 
 impl Encoding for Wkb {
-    ghost use Rattle.geoarrow_layout.specs.Kinds.{wkb_name};
+    ghost use Rattle.geoarrow_layout.specs.declared.names.ExtensionName.TheVariants as names;
+    ghost use Rattle.geoarrow_layout.specs.Kinds.{name_text as text_of};
     ghost use Rattle.geoarrow_layout.specs.Shapes.{IsBytes};
 
     const NAME: &'static str = "geoarrow.wkb";
 
     const TYPE: &'static str = "WkbType";
 
-    ghost name_text = { wkb_name };
+    ghost name_text = { text_of names.Wkb };
 
     ghost IsStored = { IsBytes };
 
@@ -70,14 +71,15 @@ impl Encoding for Wkb {
 pub struct Wkt;
 
 impl Encoding for Wkt {
-    ghost use Rattle.geoarrow_layout.specs.Kinds.{wkt_name};
+    ghost use Rattle.geoarrow_layout.specs.declared.names.ExtensionName.TheVariants as names;
+    ghost use Rattle.geoarrow_layout.specs.Kinds.{name_text as text_of};
     ghost use Rattle.geoarrow_layout.specs.Shapes.{IsText};
 
     const NAME: &'static str = "geoarrow.wkt";
 
     const TYPE: &'static str = "WktType";
 
-    ghost name_text = { wkt_name };
+    ghost name_text = { text_of names.Wkt };
 
     ghost IsStored = { IsText };
 

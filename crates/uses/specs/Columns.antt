@@ -8,7 +8,6 @@ use Rattle.serde_json.specs.Written.{compact_text}
 use Rattle.geoarrow_layout.specs.declared.kinds.CoordType.{CoordType}
 use Rattle.geoarrow_layout.specs.Changes.{GeometryUnion, EachOf}
 use Rattle.geoarrow_meta.specs.declared.metadata.Metadata.{Metadata}
-use Rattle.geoarrow_meta.specs.Parts.{metadata_crs}
 use Rattle.geoarrow_meta.specs.Transform.{own_projjson}
 use Rattle.geoarrow_schema.specs.declared.types.GeoArrowType.{GeoArrowType}
 use Rattle.geoarrow_schema.specs.Reads.{Reads, writes}
@@ -38,4 +37,4 @@ text_of_own (Some v) = option_map compact_text v
 
 -- the compact text of the CRS value, where its type is PROJJSON
 abbrev pub projjson_text_of : Metadata → Option Text
-projjson_text_of m = text_of_own (own_projjson (metadata_crs m))
+projjson_text_of m = text_of_own (own_projjson m.crs)

@@ -1,7 +1,6 @@
 //! A column written.
 ghost use Rattle.std.specs.Prelude.{◌≡◌, IfOk, IfErr};
 ghost use Rattle.arrow_values.specs.Errors.{IsMemory};
-ghost use Rattle.geoarrow_meta.specs.Parts.{crs_value, metadata_crs};
 ghost use Rattle.geoarrow_meta.specs.Written.{normal, NestsWithin};
 ghost use Rattle.geoarrow_native.specs.Column.{ReadsAs, written_field};
 ghost use Rattle.geoarrow_schema.specs.Types.{kind_of, meta_of};
@@ -23,9 +22,9 @@ pub fn write_column(
     geometry: GeoArrowType,
 ) -> Result<Field, ArrowError>
     ensures written { IfOk result (λ f. f ≡ written_field name.now nullable (kind_of geometry) (normal (meta_of geometry))) }
-    ensures reads_back { IfOk result (λ f. NestsWithin 100 (crs_value (metadata_crs (meta_of geometry)))
+    ensures reads_back { IfOk result (λ f. NestsWithin 100 (meta_of geometry).crs.value
         → ReadsAs f (kind_of geometry) (normal (meta_of geometry))) }
-    ensures canonical { IfOk result (λ f. NestsWithin 100 (crs_value (metadata_crs (meta_of geometry))) → IsCanonical f f) }
+    ensures canonical { IfOk result (λ f. NestsWithin 100 (meta_of geometry).crs.value → IsCanonical f f) }
     ensures refused { IfErr result IsMemory }
 {
     let normal = geometry.normalized(alloc)?;

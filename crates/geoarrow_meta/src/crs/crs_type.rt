@@ -1,7 +1,7 @@
 //! The format of a CRS value.
 ghost use Rattle.std.specs.Prelude.{◌≡◌, ◌↔◌, Some};
 ghost use Rattle.geoarrow_meta.specs.declared.crs.crs_type.CrsType.{CrsType};
-ghost use Rattle.geoarrow_meta.specs.Written.{crs_type_text};
+ghost use Rattle.geoarrow_meta.specs.Read.{crs_type_text};
 
 /// The format of a CRS value (GeoArrow, "Extension types", "Extension metadata", key `crs_type`).
 ///

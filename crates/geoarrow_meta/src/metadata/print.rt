@@ -5,7 +5,8 @@ ghost use Rattle.serde_json.specs.View.{view};
 ghost use Rattle.serde_json.specs.Written.{has_float};
 ghost use Rattle.value_tokens.specs.Adds.{Adds, Prints};
 ghost use Rattle.geoarrow_meta.specs.Prints.{some_tokens};
-ghost use Rattle.geoarrow_meta.specs.Written.{written, crs_type_data, edges_data};
+ghost use Rattle.geoarrow_meta.specs.Written.{written};
+ghost use Rattle.geoarrow_meta.specs.Read.{crs_type_data, edges_data};
 
 use crate::crs::CrsType;
 use crate::edges::Edges;

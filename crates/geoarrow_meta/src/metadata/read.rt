@@ -2,8 +2,7 @@
 ghost use Rattle.std.specs.Prelude.{◌≡◌, Option, IfOk, option_map};
 ghost use Rattle.serde_json.specs.Data.{Data};
 ghost use Rattle.serde_json.specs.View.{view};
-ghost use Rattle.geoarrow_meta.specs.Written.{crs_type_data, edges_data};
-ghost use Rattle.geoarrow_meta.specs.Read.{at_key};
+ghost use Rattle.geoarrow_meta.specs.Read.{crs_type_data, edges_data, at_key};
 ghost use Rattle.geoarrow_meta.specs.Slots.{IsWord, IsNamed, AreSlotsOf};
 
 use crate::crs::CrsType;

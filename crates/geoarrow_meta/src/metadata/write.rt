@@ -1,7 +1,8 @@
 //! The JSON object that a metadata is written as.
 ghost use Rattle.std.specs.Prelude.{◌≡◌, codes, IfOk, OnOk, option_map};
 ghost use Rattle.serde_json.specs.View.{view, members_view};
-ghost use Rattle.geoarrow_meta.specs.Written.{written, put_some, crs_type_data, edges_data};
+ghost use Rattle.geoarrow_meta.specs.Written.{written, put_some};
+ghost use Rattle.geoarrow_meta.specs.Read.{crs_type_data, edges_data};
 
 use crate::crs::CrsType;
 use crate::edges::Edges;

@@ -1,12 +1,12 @@
 use Rattle.std.proofs.Common.{◌≡◌, subst, rules, w8, to_z, of_z, ℤ, pos, ◌<◌}
 use Rattle.std.proofs.lemmas.Int.{to_z-of_z}
-use Rattle.geoarrow_layout.specs.Shapes.{Member, GeometryPart, Answers}
+use Rattle.geoarrow_layout.specs.Shapes.{Member, GeometryMember, Answers}
 use Rattle.geoarrow_layout.specs.Steps.{ShowsInner, AddsBits}
 use Rattle.geoarrow_layout.proofs.UnionSteps.{seen_more, seen_none, seen_end, has_members, fault_none, fault_next, fault_end, shows_of_inner}
 use Rattle.geoarrow_layout.proofs.walk.root_union.Goals as goal
 
 pub loop-item-init : goal.loop-item-init
-loop-item-init c = record { seen = rw c.no_members-seen.ensures (seen_none GeometryPart); mixed = fault_none }
+loop-item-init c = record { seen = rw c.no_members-seen.ensures (seen_none GeometryMember); mixed = fault_none }
 
 pub loop-item-preserved : goal.loop-item-preserved
 loop-item-preserved c =
@@ -14,8 +14,8 @@ loop-item-preserved c =
     let below = subst (λ t. ShowsInner c.nested_summary-below.result t) c.data_type.ensures c.nested_summary-below.ensures in
     let shown = shows_of_inner c.nested_summary-below.result c.item-item.result.1.tree below in
     record {
-      seen = seen_more GeometryPart _ _ _ _ _ _ _ _ c.geometry_part-part.result _ c.loop-item.item-index c.item-item.result c.loop-item-test.true c.item-item.is
-          (subst (λ i. Answers c.geometry_part-part.result (GeometryPart i c.item-item.result.1.tree)) id_is (c.geometry_part-part.ensures c.item-item.result.1.tree below))
+      seen = seen_more GeometryMember _ _ _ _ _ _ _ _ c.geometry_part-part.result _ c.loop-item.item-index c.item-item.result c.loop-item-test.true c.item-item.is
+          (subst (λ i. Answers c.geometry_part-part.result (GeometryMember i c.item-item.result.1.tree)) id_is (c.geometry_part-part.ensures c.item-item.result.1.tree below))
           (subst (λ (id : ℤ). AddsBits c.loop-item.seen.ids (λ i. (i < 64) × (id ≡ pos i)) c.with_member-seen.result.ids) id_is c.with_member-seen.ensures.ids)
           c.with_member-seen.ensures.coord_types c.with_member-seen.ensures.dimensions c.with_member-seen.ensures.fault c.loop-item.invariant.seen;
       mixed = fault_next Member _ _ _ _ c.loop-item.item-index c.item-item.result c.loop-item-test.true c.item-item.is
@@ -26,6 +26,6 @@ loop-item-preserved c =
 pub returns : goal.returns
 returns c = (
   has_members _ _ c.is_empty.ensures,
-  seen_end GeometryPart _ _ _ _ _ _ c.loop-item-test.false c.loop-item.invariant.seen,
+  seen_end GeometryMember _ _ _ _ _ _ c.loop-item-test.false c.loop-item.invariant.seen,
   fault_end Member _ _ _ c.loop-item-test.false c.loop-item.invariant.mixed,
 )

@@ -1,4 +1,4 @@
-use Rattle.geoarrow_meta.specs.Written.{crs_type_text}
+use Rattle.geoarrow_meta.specs.Read.{crs_type_text}
 use Rattle.geoarrow_meta.proofs.Slots.{no_name}
 use Rattle.geoarrow_meta.proofs.metadata.read.crs_type_of.Goals as goal
 

@@ -1,4 +1,4 @@
-use Rattle.geoarrow_meta.specs.Written.{edges_text}
+use Rattle.geoarrow_meta.specs.Read.{edges_text}
 use Rattle.geoarrow_meta.proofs.Slots.{no_name}
 use Rattle.geoarrow_meta.proofs.metadata.read.edges_of.Goals as goal
 
