@@ -13,7 +13,8 @@ use Rattle.std.proofs.lemmas.Bool.{eqb-true, or_cases, or_left, or_right}
 use Rattle.std.proofs.lemmas.Bool.Decides.{same_from_decides}
 use Rattle.std.proofs.lemmas.List.{take_all}
 use Rattle.std.proofs.Math.Bool.{and-true, and_assoc}
-use Rattle.geoarrow_layout.specs.Summary.{IsBits, SomeAt, place_in, known_names, is_float64, are_float64}
+use Rattle.geoarrow_layout.specs.Summary.{IsBits, SomeAt, place_in, known_names}
+use Rattle.geoarrow_layout.specs.Inferred.{is_float64, are_float64}
 use Rattle.geoarrow_layout.specs.Steps.{AddsBit, has_bit}
 use Rattle.geoarrow_layout.proofs.MemberLists.{one_more}
 use Rattle.geoarrow_layout.proofs.BitSteps.{bits_more, no_bits, bit_is}

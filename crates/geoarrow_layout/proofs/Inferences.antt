@@ -1,5 +1,5 @@
 -- Points that trees are taken for.
-use Rattle.std.proofs.Common.{◌≡◌, ◌↔◌, ◌<◌, inl, inr, ℕ, ℤ, pos, refl, sym, ap, subst, ◌∙◌, arith, Bool, true, false, ◌&&◌, Option, Some, None, List, [], ◌∷◌, length}
+use Rattle.std.proofs.Common.{◌≡◌, ◌↔◌, ◌<◌, inl, inr, ℕ, ℤ, pos, refl, sym, ap, subst, ◌∙◌, arith, Bool, true, false, ◌&&◌, Option, Some, None, List, [], ◌∷◌, length, codes}
 use Rattle.std.proofs.lemmas.Bool.{and_parts, cases_Bool}
 use Rattle.std.proofs.lemmas.Option.{same_Some}
 use Rattle.arrow_values.specs.Tree.{Text, Metadata, Tree, list, large_list, fixed_size_list, struct, FieldTrees}
@@ -12,8 +12,8 @@ use Rattle.geoarrow_layout.specs.declared.summary.Bottom.TheVariants.{FixedSizeL
 use Rattle.geoarrow_layout.specs.declared.summary.Summary.{Summary}
 use Rattle.geoarrow_layout.specs.Kinds.{size_of, interleaved_name}
 use Rattle.geoarrow_layout.specs.Shapes.{names_of, SameNames, IsSeparatedAs, Leaf}
-use Rattle.geoarrow_layout.specs.Summary.{IsBits, SomeAt, are_float64, IsBottom, IsUnion, Summarizes}
-use Rattle.geoarrow_layout.specs.Inferred.{AnswersSome, Inferred, IsInferredAs, IsInferredSize, measured_names}
+use Rattle.geoarrow_layout.specs.Summary.{IsBits, SomeAt, IsBottom, IsUnion, Summarizes}
+use Rattle.geoarrow_layout.specs.Inferred.{are_float64, AnswersSome, Inferred, IsInferredAs, IsInferredSize}
 use Rattle.geoarrow_layout.specs.Steps.{has_bit, is_measured, NamesSay, SizeSays}
 use Rattle.geoarrow_layout.specs.OneShape.{apart, separated_same}
 use Rattle.geoarrow_layout.proofs.FieldSteps.{xym_names, has_at}
@@ -77,13 +77,13 @@ size_inferred w named size floats o r u k all says pairs =
 abbrev Bits : ℕ → List Text → Type 0
 Bits bits ns = IsBits bits (λ i. SomeAt i ns)
 
-measured_to : (bits : ℕ) (ns : List Text) → Bits bits ns → length ns ≡ 3 → is_measured bits ≡ true → SameNames ns measured_names
+measured_to : (bits : ℕ) (ns : List Text) → Bits bits ns → length ns ≡ 3 → is_measured bits ≡ true → SameNames ns (codes "x" ∷ codes "y" ∷ codes "m" ∷ [])
 measured_to bits ns is three h =
     let p = and_parts (has_bit bits 0 && has_bit bits 1) (has_bit bits 3) h in
     let q = and_parts (has_bit bits 0) (has_bit bits 1) p.0 in
     (xym_names ns three (sym (has_at _ 0 bits ns (omega arith) refl refl is) ∙ q.0) (sym (has_at _ 1 bits ns (omega arith) refl refl is) ∙ q.1) (sym (has_at _ 3 bits ns (omega arith) refl refl is) ∙ p.1)).1
 
-measured_from : (bits : ℕ) (ns : List Text) → Bits bits ns → is_measured bits ≡ false → SameNames ns measured_names → ⊥
+measured_from : (bits : ℕ) (ns : List Text) → Bits bits ns → is_measured bits ≡ false → SameNames ns (codes "x" ∷ codes "y" ∷ codes "m" ∷ []) → ⊥
 unfolding SameNames
 measured_from bits ns is h same =
     let x = has_at (120 ∷ []) 0 bits ns (omega arith) refl refl is ∙ same (120 ∷ []) in

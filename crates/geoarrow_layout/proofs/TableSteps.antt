@@ -8,7 +8,8 @@ use Rattle.arrow_values.specs.declared.tree.UnionMode.{UnionMode}
 use Rattle.geoarrow_layout.specs.declared.kinds.Dimension.{Dimension}
 use Rattle.geoarrow_layout.specs.declared.encodings.NativeKind.{NativeKind}
 use Rattle.geoarrow_layout.specs.declared.encodings.Kind.{Kind}
-use Rattle.geoarrow_layout.specs.Layouts.{member_layout, layout, bytes_layout, text_layout}
+use Rattle.geoarrow_layout.specs.declared.encodings.Kind.TheVariants.{Wkb, Wkt}
+use Rattle.geoarrow_layout.specs.Layouts.{member_layout, layout}
 use Rattle.geoarrow_layout.proofs.Distinct.{layouts_are_distinct}
 use Rattle.std.specs.Option.{option_eq}
 use Rattle.geoarrow_layout.specs.declared.encodings.Width.{Width}
@@ -75,11 +76,11 @@ told : (P : Width → Tree → Type 0) (t : Tree) (r : Option Width) (w : Width)
 told P t r w b says is = (λ h. (says w).0 ((option_decides _ (bare_decides width.the_type tt) r (Some w)).0 (sym is ∙ h)), λ p. is ∙ (option_decides _ (bare_decides width.the_type tt) r (Some w)).1 ((says w).1 p))
 
 pub bytes_told : (t : Tree) (r : Option Width) (w : Width) (b : Bool) → ((v : Width) → (r ≡ Some v) ↔ IsBytes v t)
-    → b ≡ option_eq (widths.eq-value).it r (Some w) → IsTrue b ↔ (t ≡ bytes_layout w)
+    → b ≡ option_eq (widths.eq-value).it r (Some w) → IsTrue b ↔ (t ≡ layout (Wkb w))
 bytes_told t r Plain b says is = told IsBytes t r Plain b says is
 bytes_told t r w b says is = told IsBytes t r w b says is
 
 pub text_told : (t : Tree) (r : Option Width) (w : Width) (b : Bool) → ((v : Width) → (r ≡ Some v) ↔ IsText v t)
-    → b ≡ option_eq (widths.eq-value).it r (Some w) → IsTrue b ↔ (t ≡ text_layout w)
+    → b ≡ option_eq (widths.eq-value).it r (Some w) → IsTrue b ↔ (t ≡ layout (Wkt w))
 text_told t r Plain b says is = told IsText t r Plain b says is
 text_told t r w b says is = told IsText t r w b says is

@@ -16,7 +16,7 @@ use Rattle.geoarrow_layout.specs.declared.encodings.Kind.TheVariants.{Native as 
 use Rattle.geoarrow_layout.specs.Kinds.{name_of}
 use Rattle.geoarrow_layout.specs.Shapes.{Leaf, levels_of, SameNames, Member, AllMembers, Collection, GeometryMember, Geometry, BoxShape, Accepted, Accepts}
 use Rattle.geoarrow_layout.specs.OneShape.{LeafUnder}
-use Rattle.geoarrow_layout.specs.Layouts.{leaf_layout, over_leaf_layout, member_layout, mixed_members, mixed_layout, native_layout, dimension_members, geometry_members, geometry_layout, box_layout, layout, IsWritten, IsWrittenSome}
+use Rattle.geoarrow_layout.specs.Layouts.{leaf_layout, over_leaf_layout, member_layout, mixed_members, mixed_layout, native_layout, dimension_members, geometry_members, layout, IsWritten, IsWrittenSome}
 use Rattle.geoarrow_layout.proofs.MemberLists.{all_map, all_both}
 
 pub written_leaf : (c : CoordType) (d : Dimension) → Leaf (leaf_layout c d) c d
@@ -57,10 +57,10 @@ written_dimension c d =
     (all_map (λ i t. Member i t c d) (InGeometry c) (λ i t m. (d, inl m)) (member_trees (mixed_members c d)) (written_mixed c d))
     ((d, inr (refl, written_collection c d)), tt)
 
-written_geometry : (c : CoordType) → Geometry (geometry_layout c) c
+written_geometry : (c : CoordType) → Geometry (layout (OfGeometry c)) c
 written_geometry c = (tt, all_dimensions (InGeometry c) c (written_dimension c))
 
-written_box : (d : Dimension) → BoxShape (box_layout d) d
+written_box : (d : Dimension) → BoxShape (layout (OfRect d)) d
 written_box XY = refl
 written_box XYZ = (refl, λ h. let bad : false ≡ true = h.0 in cc, (refl, refl))
 written_box XYM = (refl, (refl, refl))

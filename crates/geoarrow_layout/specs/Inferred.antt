@@ -1,27 +1,30 @@
 -- Which data types are inferred as points, without an extension name.
-use Rattle.std.specs.Prelude.{ℤ, pos, ◌≡◌, ◌↔◌, List, [], ◌∷◌, length, codes, true, Option, Some, ⊤}
-use Rattle.arrow_values.specs.Tree.{Text, Tree, fixed_size_list, struct}
+use Rattle.std.specs.Prelude.{ℤ, pos, ◌≡◌, ◌↔◌, List, [], ◌∷◌, length, codes, Bool, true, false, ◌&&◌, Option, Some, ⊤}
+use Rattle.arrow_values.specs.Tree.{Text, Tree, plain, float64, fixed_size_list, struct, FieldTrees, no_fields, field}
 use Rattle.geoarrow_layout.specs.declared.kinds.CoordType.{CoordType}
 use Rattle.geoarrow_layout.specs.declared.kinds.CoordType.TheVariants.{Interleaved, Separated}
 use Rattle.geoarrow_layout.specs.declared.kinds.Dimension.{Dimension}
 use Rattle.geoarrow_layout.specs.declared.kinds.Dimension.TheVariants.{XY, XYZ, XYM, XYZM}
-use Rattle.geoarrow_layout.specs.Shapes.{SameNames, names_of}
-use Rattle.geoarrow_layout.specs.Summary.{is_float64, are_float64}
+use Rattle.geoarrow_layout.specs.Shapes.{SameNames, names_of, IsSeparatedAs}
 
 -- the result is the coordinate type and dimension for which R holds, or none if it holds for none
 abbrev pub AnswersSome : Option (CoordType × Dimension) → (CoordType → Dimension → Type 0) → Type 0
 AnswersSome r R = (c : CoordType) (d : Dimension) → (r ≡ Some (c, d)) ↔ R c d
 
--- the field names of a coordinate of x, y and m
-abbrev pub measured_names : List Text
-measured_names = codes "x" ∷ codes "y" ∷ codes "m" ∷ []
+-- whether the data type is `Float64`
+abbrev pub is_float64 : Tree → Bool
+is_float64 (plain float64) = true
+is_float64 _ = false
 
--- fields with these names are inferred as a coordinate: their number gives the dimension, and if there are three, their names
+-- whether all fields are `Float64`
+abbrev pub are_float64 : FieldTrees → Bool
+are_float64 no_fields = true
+are_float64 (field n t b m fs) = is_float64 t && are_float64 fs
+
+-- fields with these names are inferred as a coordinate: as they are read, but that any three but x, y and m are x, y and z
 abbrev pub IsInferredAs : Dimension → List Text → Type 0
-IsInferredAs XY names = length names ≡ 2
-IsInferredAs XYZ names = (length names ≡ 3) × ¬ SameNames names measured_names
-IsInferredAs XYM names = (length names ≡ 3) × SameNames names measured_names
-IsInferredAs XYZM names = length names ≡ 4
+IsInferredAs XYZ names = (length names ≡ 3) × ¬ SameNames names (codes "x" ∷ codes "y" ∷ codes "m" ∷ [])
+IsInferredAs d names = IsSeparatedAs d names
 
 -- so is a fixed size list: its size gives the dimension, and if that is three, the name of the inner field
 abbrev pub IsInferredSize : Dimension → Text → ℤ → Type 0

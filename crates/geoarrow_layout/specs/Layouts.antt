@@ -67,25 +67,17 @@ dimension_suffix XYZ = codes " Z"
 dimension_suffix XYM = codes " M"
 dimension_suffix XYZM = codes " ZM"
 
--- the field of a union's member: named by kind and dimension, nullable
-abbrev pub member_field : NativeKind → Dimension → Tree → FieldTree
-member_field k d t = field_tree (type_name k ++ dimension_suffix d) t true []
-
--- that member, with its type id
+-- a union's member: its type id, and its field, named by kind and dimension, nullable
 abbrev pub member_layout : NativeKind → Dimension → Tree → ℤ × FieldTree
-member_layout k d t = (pos (type_id_of k d), member_field k d t)
+member_layout k d t = (pos (type_id_of k d), field_tree (type_name k ++ dimension_suffix d) t true [])
 
--- the kinds in a collection, in the order of their type ids
-abbrev pub collected_kinds : List NativeKind
-collected_kinds = Point ∷ LineString ∷ Polygon ∷ MultiPoint ∷ MultiLineString ∷ MultiPolygon ∷ []
-
--- a member for each of these kinds, all of one coordinate type and dimension
+-- a member for each of some kinds, all of one coordinate type and dimension
 abbrev pub members_over : List NativeKind → CoordType → Dimension → Members
 members_over ks c d = map (λ k. member_layout k d (over_leaf_layout k c d)) ks
 
--- the members of the union in a collection
+-- the members of the union in a collection, in the order of their type ids
 abbrev pub mixed_members : CoordType → Dimension → Members
-mixed_members c d = members_over collected_kinds c d
+mixed_members c d = members_over (Point ∷ LineString ∷ Polygon ∷ MultiPoint ∷ MultiLineString ∷ MultiPolygon ∷ []) c d
 
 -- the data type of that union, which is dense
 abbrev pub mixed_layout : CoordType → Dimension → Tree
@@ -104,10 +96,6 @@ dimension_members c d = mixed_members c d ++ (member_layout GeometryCollection d
 abbrev pub geometry_members : CoordType → Members
 geometry_members c = dimension_members c XY ++ dimension_members c XYZ ++ dimension_members c XYM ++ dimension_members c XYZM
 
--- the data type of a geometry, a dense union
-abbrev pub geometry_layout : CoordType → Tree
-geometry_layout c = union (member_trees (geometry_members c)) Dense
-
 -- the field names of a box: the lower bounds, then the upper ones
 abbrev pub box_names : Dimension → List Text
 box_names XY = codes "xmin" ∷ codes "ymin" ∷ codes "xmax" ∷ codes "ymax" ∷ []
@@ -115,29 +103,17 @@ box_names XYZ = codes "xmin" ∷ codes "ymin" ∷ codes "zmin" ∷ codes "xmax" 
 box_names XYM = codes "xmin" ∷ codes "ymin" ∷ codes "mmin" ∷ codes "xmax" ∷ codes "ymax" ∷ codes "mmax" ∷ []
 box_names XYZM = codes "xmin" ∷ codes "ymin" ∷ codes "zmin" ∷ codes "mmin" ∷ codes "xmax" ∷ codes "ymax" ∷ codes "zmax" ∷ codes "mmax" ∷ []
 
--- the data type of a box
-abbrev pub box_layout : Dimension → Tree
-box_layout d = struct (field_trees (map coordinate (box_names d)))
-
--- the data type of well-known binary
-abbrev pub bytes_layout : Width → Tree
-bytes_layout Plain = plain binary
-bytes_layout Large = plain large_binary
-bytes_layout View = plain binary_view
-
--- the data type of well-known text
-abbrev pub text_layout : Width → Tree
-text_layout Plain = plain utf8
-text_layout Large = plain large_utf8
-text_layout View = plain utf8_view
-
 -- the data type as written of a kind
 abbrev pub layout : Kind → Tree
 layout (Native k c d) = native_layout k c d
-layout (Geometry c) = geometry_layout c
-layout (Rect d) = box_layout d
-layout (Wkb w) = bytes_layout w
-layout (Wkt w) = text_layout w
+layout (Geometry c) = union (member_trees (geometry_members c)) Dense
+layout (Rect d) = struct (field_trees (map coordinate (box_names d)))
+layout (Wkb Plain) = plain binary
+layout (Wkb Large) = plain large_binary
+layout (Wkb View) = plain binary_view
+layout (Wkt Plain) = plain utf8
+layout (Wkt Large) = plain large_utf8
+layout (Wkt View) = plain utf8_view
 
 -- a union's member as written: its type id and its data type are those of one kind, in this coordinate type and dimension
 abbrev pub IsWritten : CoordType → Dimension → ℤ → Tree → Type 0

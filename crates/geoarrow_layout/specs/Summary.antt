@@ -15,6 +15,7 @@ use Rattle.geoarrow_layout.specs.declared.summary.Bottom.TheVariants.{FixedSizeL
 use Rattle.geoarrow_layout.specs.declared.summary.Summary.{Summary}
 use Rattle.geoarrow_layout.specs.Kinds.{interleaved_name, order_of}
 use Rattle.geoarrow_layout.specs.Shapes.{names_of, ListsOver, Member, GeometryMember, HasMembers, AllMembers, SomeMember}
+use Rattle.geoarrow_layout.specs.Inferred.{is_float64, are_float64}
 
 -- bit i of the number, counted from the lowest, is set exactly if P holds for i
 unfoldable pub IsBits : ℕ → (ℕ → Type 0) → Type 0
@@ -33,16 +34,6 @@ known_names = codes "x" ∷ codes "y" ∷ codes "z" ∷ codes "m" ∷ codes "zmi
 abbrev pub SomeAt : ℕ → List Text → Type 0
 SomeAt i [] = ⊥
 SomeAt i (n ∷ ns) = (place_in n known_names ≡ i) ⊎ SomeAt i ns
-
--- whether the data type is `Float64`
-abbrev pub is_float64 : Tree → Bool
-is_float64 (plain float64) = true
-is_float64 _ = false
-
--- whether all fields are `Float64`
-abbrev pub are_float64 : FieldTrees → Bool
-are_float64 no_fields = true
-are_float64 (field n t b m fs) = is_float64 t && are_float64 fs
 
 -- the number of a coordinate type in a summary's bits
 abbrev pub place_of : CoordType → ℕ

@@ -4,7 +4,7 @@ ghost use Rattle.arrow_values.specs.Name.{fixed_text};
 ghost use Rattle.arrow_values.specs.Tree.{list};
 ghost use Rattle.arrow_values.specs.View.{tree};
 ghost use Rattle.geoarrow_layout.specs.Kinds.{size_of};
-ghost use Rattle.geoarrow_layout.specs.Layouts.{coordinate, coordinate_names, leaf_layout, lists_over, over_leaf_layout, member_layout, members_over, mixed_members, mixed_layout, native_layout, dimension_members, geometry_layout, box_names, box_layout, bytes_layout, text_layout, layout};
+ghost use Rattle.geoarrow_layout.specs.Layouts.{coordinate, coordinate_names, leaf_layout, lists_over, over_leaf_layout, member_layout, members_over, mixed_members, mixed_layout, native_layout, dimension_members, box_names, layout};
 ghost use Rattle.geoarrow_layout.specs.Shapes.{IsStructured};
 
 use crate::encodings::{Kind, NativeKind, Width};
@@ -41,7 +41,7 @@ pub fn list_data_type(
     coord_type: CoordType,
     dimension: Dimension,
 ) -> Result<DataType, AllocError>
-    ensures { IfOk result (λ t. tree t ≡ native_layout kind coord_type dimension) }
+    ensures { IfOk result (λ t. tree t ≡ layout (Kind.Native kind coord_type dimension)) }
 {
     match kind {
         NativeKind::Point => coord_data_type(alloc, coord_type, dimension),
@@ -72,7 +72,7 @@ pub fn mixed_data_type(
 /// kind in each dimension. Errs only when out of memory.
 #[tactic(auto, using(crate::proofs::Written::geometry_ids))]
 pub fn geometry_data_type(alloc: Global, coord_type: CoordType) -> Result<DataType, AllocError>
-    ensures { IfOk result (λ t. tree t ≡ geometry_layout coord_type) }
+    ensures { IfOk result (λ t. tree t ≡ layout (Kind.Geometry coord_type)) }
 {
     let mut members = Vec::with_capacity(alloc, 28)?;
     push_dimension(alloc, &mut members, coord_type, Dimension::XY)?;
@@ -85,14 +85,14 @@ pub fn geometry_data_type(alloc: Global, coord_type: CoordType) -> Result<DataTy
 /// The data type of a box (GeoArrow, "Box"): a struct of the least and the greatest value of each dimension. Errs only
 /// when out of memory.
 pub fn box_data_type(alloc: Global, dimension: Dimension) -> Result<DataType, AllocError>
-    ensures { IfOk result (λ t. tree t ≡ box_layout dimension) }
+    ensures { IfOk result (λ t. tree t ≡ layout (Kind.Rect dimension)) }
 {
     Ok(DataType::Struct(Fields::from(box_fields(alloc, dimension)?)))
 }
 
 /// The data type of well-known binary (GeoArrow, "WKB"). Takes no memory.
 pub fn wkb_data_type(width: Width) -> DataType
-    ensures { tree result ≡ bytes_layout width }
+    ensures { tree result ≡ layout (Kind.Wkb width) }
 {
     match width {
         Width::Plain => DataType::Binary,
@@ -103,7 +103,7 @@ pub fn wkb_data_type(width: Width) -> DataType
 
 /// The data type of well-known text (GeoArrow, "WKT"). Takes no memory.
 pub fn wkt_data_type(width: Width) -> DataType
-    ensures { tree result ≡ text_layout width }
+    ensures { tree result ≡ layout (Kind.Wkt width) }
 {
     match width {
         Width::Plain => DataType::Utf8,

@@ -4,7 +4,8 @@ ghost use Rattle.arrow_values.specs.View.{tree, field_trees};
 ghost use Rattle.arrow_values.specs.Tree.{Tree, plain, float64};
 ghost use Rattle.geoarrow_layout.specs.Kinds.{interleaved_name};
 ghost use Rattle.geoarrow_layout.specs.Shapes.{ListsOver};
-ghost use Rattle.geoarrow_layout.specs.Summary.{place_in, known_names, is_float64, IsStruct, IsBottom, AreLevels};
+ghost use Rattle.geoarrow_layout.specs.Summary.{place_in, known_names, IsStruct, IsBottom, AreLevels};
+ghost use Rattle.geoarrow_layout.specs.Inferred.{is_float64};
 ghost use Rattle.geoarrow_layout.specs.Steps.{IsNoLeaf, Ended};
 
 use crate::bits::with_bit_u16;

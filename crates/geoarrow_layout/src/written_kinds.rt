@@ -3,7 +3,7 @@ ghost use Rattle.std.specs.Prelude.{◌≡◌, ◌↔◌, IsTrue, Some, Contains
 ghost use Rattle.arrow_values.specs.Name.{fixed_text};
 ghost use Rattle.arrow_values.specs.Tree.{list, struct};
 ghost use Rattle.arrow_values.specs.View.{tree, field_trees};
-ghost use Rattle.geoarrow_layout.specs.Layouts.{coordinate, leaf_layout, lists_over, member_layout, members_over, mixed_members, mixed_layout, native_layout, dimension_members, geometry_members, geometry_layout, box_layout, bytes_layout, text_layout, layout};
+ghost use Rattle.geoarrow_layout.specs.Layouts.{coordinate, leaf_layout, lists_over, member_layout, members_over, mixed_members, mixed_layout, native_layout, dimension_members, geometry_members, layout};
 ghost use Rattle.geoarrow_layout.specs.Bare.{IsBare, members_in};
 
 use crate::build::list_size;
@@ -52,14 +52,14 @@ fn is_layout(data_type: &DataType, kind: &Kind) -> bool
 
 /// Whether the data type is the one that is written for well-known binary of that width.
 fn is_bytes(data_type: &DataType, width: Width) -> bool
-    ensures { IsTrue result ↔ (tree data_type.now ≡ bytes_layout width) }
+    ensures { IsTrue result ↔ (tree data_type.now ≡ layout (Kind.Wkb width)) }
 {
     bytes_width(data_type) == Some(width)
 }
 
 /// Whether the data type is the one that is written for well-known text of that width.
 fn is_text(data_type: &DataType, width: Width) -> bool
-    ensures { IsTrue result ↔ (tree data_type.now ≡ text_layout width) }
+    ensures { IsTrue result ↔ (tree data_type.now ≡ layout (Kind.Wkt width)) }
 {
     text_width(data_type) == Some(width)
 }
@@ -71,7 +71,7 @@ fn is_native(
     coord_type: CoordType,
     dimension: Dimension,
 ) -> bool
-    ensures { IsTrue result ↔ (tree data_type.now ≡ native_layout kind coord_type dimension) }
+    ensures { IsTrue result ↔ (tree data_type.now ≡ layout (Kind.Native kind coord_type dimension)) }
 {
     match kind {
         NativeKind::GeometryCollection => is_collection(data_type, coord_type, dimension),
@@ -153,7 +153,7 @@ fn is_struct(data_type: &DataType, names: &[FixedName]) -> bool
 
 /// Whether it is the one that is written for a box.
 fn is_box(data_type: &DataType, dimension: Dimension) -> bool
-    ensures { IsTrue result ↔ (tree data_type.now ≡ box_layout dimension) }
+    ensures { IsTrue result ↔ (tree data_type.now ≡ layout (Kind.Rect dimension)) }
 {
     is_struct(data_type, box_names(dimension))
 }
@@ -207,7 +207,7 @@ fn is_mixed(data_type: &DataType, coord_type: CoordType, dimension: Dimension) -
 
 /// Whether the data type is the one that is written for geometries of any kind.
 fn is_geometry(data_type: &DataType, coord_type: CoordType) -> bool
-    ensures { IsTrue result ↔ (tree data_type.now ≡ geometry_layout coord_type) }
+    ensures { IsTrue result ↔ (tree data_type.now ≡ layout (Kind.Geometry coord_type)) }
 {
     let DataType::Union(members, mode) = data_type else {
         return false;

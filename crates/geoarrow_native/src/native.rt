@@ -5,7 +5,7 @@ ghost use Rattle.arrow_values.specs.View.{tree};
 ghost use Rattle.arrow_values.specs.Errors.{IsMemory};
 ghost use Rattle.geoarrow_layout.specs.declared.kinds.CoordType.TheVariants.{Separated};
 ghost use Rattle.geoarrow_layout.specs.declared.encodings.Kind.TheVariants.{Native as OfNative};
-ghost use Rattle.geoarrow_layout.specs.Layouts.{native_layout};
+ghost use Rattle.geoarrow_layout.specs.Layouts.{layout};
 ghost use Rattle.geoarrow_meta.specs.Written.{meta_value, normal, IsReadBack};
 ghost use Rattle.geoarrow_native.specs.Column.{ReadsAs, written_field};
 
@@ -133,7 +133,7 @@ impl<S: NativeShape> NativeType<S> {
     /// assert!(rt; points.data_type(alloc)? == wanted);
     /// ```
     pub fn data_type(&self, alloc: Global) -> Result<DataType, AllocError>
-        ensures { IfOk result (λ t. tree t ≡ native_layout S.KIND self.now.coord_type self.now.dimension) }
+        ensures { IfOk result (λ t. tree t ≡ layout (Kind.Native S.KIND self.now.coord_type self.now.dimension)) }
     {
         list_data_type(alloc, S::KIND, self.coord_type, self.dimension)
     }

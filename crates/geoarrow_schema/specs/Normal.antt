@@ -1,13 +1,15 @@
 -- The normal form of a type, and of a field.
 use Rattle.arrow_values.specs.Tree.{FieldTree}
+use Rattle.arrow_values.specs.Texts.{set_extension}
 use Rattle.geoarrow_layout.specs.declared.encodings.Kind.{Kind}
+use Rattle.geoarrow_layout.specs.Kinds.{name_of}
 use Rattle.geoarrow_layout.specs.Layouts.{layout}
 use Rattle.geoarrow_meta.specs.declared.metadata.Metadata.{Metadata}
-use Rattle.geoarrow_meta.specs.Written.{meta_value, normal, IsReadBack}
+use Rattle.geoarrow_meta.specs.Written.{meta_value, printed, normal, IsReadBack}
 use Rattle.geoarrow_native.specs.Column.{ReadsAs}
 use Rattle.geoarrow_schema.specs.declared.types.GeoArrowType.{GeoArrowType}
 use Rattle.geoarrow_schema.specs.Types.{kind_of, meta_of}
-use Rattle.geoarrow_schema.specs.Reads.{Reads, dressed}
+use Rattle.geoarrow_schema.specs.Reads.{Reads}
 use Rattle.std.specs.Prelude.{◌≡◌}
 
 -- the normal form: the kind, and the metadata in normal form
@@ -16,7 +18,7 @@ normal_of g = (kind_of g, normal (meta_of g))
 
 -- the field with the layout of a kind and its extension keys, otherwise unchanged
 abbrev pub rewritten : FieldTree → Kind → Metadata → FieldTree
-rewritten f k m = dressed (record f { tree = layout k }) k m
+rewritten f k m = record f { tree = layout k; metadata = set_extension (name_of k) (printed m) f.metadata }
 
 -- n reads as a kind and the normal form of a metadata, if `serde_json` reads what it printed of it
 abbrev pub ReadsNormally : FieldTree → Kind → Metadata → Type 0

@@ -4,7 +4,7 @@ ghost use Rattle.std.specs.Arc.{arc_value};
 ghost use Rattle.arrow_values.specs.View.{tree};
 ghost use Rattle.arrow_values.specs.Errors.{IsMemory};
 ghost use Rattle.geoarrow_layout.specs.declared.encodings.Kind.TheVariants.{Rect as OfRect};
-ghost use Rattle.geoarrow_layout.specs.Layouts.{box_layout};
+ghost use Rattle.geoarrow_layout.specs.Layouts.{layout};
 ghost use Rattle.geoarrow_meta.specs.Written.{meta_value, normal, IsReadBack};
 ghost use Rattle.geoarrow_native.specs.Column.{ReadsAs, written_field};
 
@@ -98,7 +98,7 @@ impl BoxType {
     /// The data type of a column of this type: a struct of the least and the greatest value of each dimension
     /// (GeoArrow, "Box"). Errs only when out of memory.
     pub fn data_type(&self, alloc: Global) -> Result<DataType, AllocError>
-        ensures { IfOk result (λ t. tree t ≡ box_layout self.now.dimension) }
+        ensures { IfOk result (λ t. tree t ≡ layout (Kind.Rect self.now.dimension)) }
     {
         box_data_type(alloc, self.dimension)
     }

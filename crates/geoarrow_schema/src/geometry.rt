@@ -5,7 +5,7 @@ ghost use Rattle.arrow_values.specs.View.{tree};
 ghost use Rattle.arrow_values.specs.Errors.{IsMemory};
 ghost use Rattle.geoarrow_layout.specs.declared.kinds.CoordType.TheVariants.{Separated};
 ghost use Rattle.geoarrow_layout.specs.declared.encodings.Kind.TheVariants.{Geometry as OfGeometry};
-ghost use Rattle.geoarrow_layout.specs.Layouts.{geometry_layout};
+ghost use Rattle.geoarrow_layout.specs.Layouts.{layout};
 ghost use Rattle.geoarrow_meta.specs.Written.{meta_value, normal, IsReadBack};
 ghost use Rattle.geoarrow_meta.specs.Read.{empty};
 ghost use Rattle.geoarrow_native.specs.Column.{ReadsAs, written_field};
@@ -96,7 +96,7 @@ impl GeometryType {
     /// The data type of a column of this type: a union with a member for each native kind in each dimension (GeoArrow,
     /// "Geometry"). Errs only when out of memory.
     pub fn data_type(&self, alloc: Global) -> Result<DataType, AllocError>
-        ensures { IfOk result (λ t. tree t ≡ geometry_layout self.now.coord_type) }
+        ensures { IfOk result (λ t. tree t ≡ layout (Kind.Geometry self.now.coord_type)) }
     {
         geometry_data_type(alloc, self.coord_type)
     }

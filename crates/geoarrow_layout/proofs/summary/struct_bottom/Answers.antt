@@ -1,5 +1,6 @@
 use Rattle.std.proofs.Common.{sym, ◌∙◌, ap, ◌&&◌}
-use Rattle.geoarrow_layout.specs.Summary.{is_float64, place_in, known_names}
+use Rattle.geoarrow_layout.specs.Summary.{place_in, known_names}
+use Rattle.geoarrow_layout.specs.Inferred.{is_float64}
 use Rattle.geoarrow_layout.proofs.FieldSteps.{length-names, fields_seen_none, fields_seen_more, fields_seen_end}
 use Rattle.geoarrow_layout.proofs.summary.struct_bottom.Goals as goal
 
