@@ -1,5 +1,5 @@
 //! Sets of small numbers, as bits.
-ghost use Rattle.std.specs.Prelude.{◌≡◌, ◌≢◌, ◌<◌, ◌↔◌, ◌⊎◌, ℕ};
+ghost use Rattle.std.specs.Prelude.{◌≡◌, ◌<◌};
 ghost use Rattle.geoarrow_layout.specs.Steps.{AddsBit, has_bit};
 
 /// The set with one number more.

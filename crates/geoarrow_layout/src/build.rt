@@ -4,7 +4,7 @@ ghost use Rattle.arrow_values.specs.Name.{fixed_text};
 ghost use Rattle.arrow_values.specs.Tree.{list};
 ghost use Rattle.arrow_values.specs.View.{tree};
 ghost use Rattle.geoarrow_layout.specs.Kinds.{size_of};
-ghost use Rattle.geoarrow_layout.specs.Layouts.{coordinate, coordinate_names, leaf_layout, lists_over, over_leaf_layout, member_layout, members_over, mixed_members, mixed_layout, native_layout, dimension_members, box_names, layout};
+ghost use Rattle.geoarrow_layout.specs.Layouts.{coordinate, coordinate_names, leaf_layout, lists_over, over_leaf_layout, member_layout, members_over, mixed_members, mixed_layout, dimension_members, box_names, layout};
 ghost use Rattle.geoarrow_layout.specs.Shapes.{IsStructured};
 
 use crate::encodings::{Kind, NativeKind, Width};

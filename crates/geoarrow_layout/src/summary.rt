@@ -1,5 +1,5 @@
 //! What one walk over a data type finds.
-ghost use Rattle.std.specs.Prelude.{◌≡◌, ◌≢◌, ◌<◌, ◌≤◌, ◌↔◌, ◌∷◌, [], IsTrue, Some, ℕ, MatchOption, ⊤};
+ghost use Rattle.std.specs.Prelude.{◌≡◌, ◌≢◌, ◌<◌, ◌≤◌, ◌↔◌, ◌∷◌, [], IsTrue, Some, MatchOption, ⊤};
 ghost use Rattle.arrow_values.specs.View.{tree, field_trees};
 ghost use Rattle.arrow_values.specs.Tree.{Tree, plain, float64};
 ghost use Rattle.geoarrow_layout.specs.Kinds.{interleaved_name};

@@ -3,7 +3,7 @@ ghost use Rattle.std.specs.Prelude.{◌≡◌, ◌↔◌, IsTrue, Some, Contains
 ghost use Rattle.arrow_values.specs.Name.{fixed_text};
 ghost use Rattle.arrow_values.specs.Tree.{list, struct};
 ghost use Rattle.arrow_values.specs.View.{tree, field_trees};
-ghost use Rattle.geoarrow_layout.specs.Layouts.{coordinate, leaf_layout, lists_over, member_layout, members_over, mixed_members, mixed_layout, native_layout, dimension_members, geometry_members, layout};
+ghost use Rattle.geoarrow_layout.specs.Layouts.{coordinate, leaf_layout, lists_over, member_layout, members_over, mixed_members, mixed_layout, dimension_members, geometry_members, layout};
 ghost use Rattle.geoarrow_layout.specs.Bare.{IsBare, members_in};
 
 use crate::build::list_size;

@@ -1,8 +1,7 @@
 //! Well-known binary and text, written once for both.
-ghost use Rattle.std.specs.Prelude.{◌≡◌, ◌⊎◌, ◌↔◌, IfOk, IfErr};
+ghost use Rattle.std.specs.Prelude.{◌≡◌, IfOk};
 ghost use Rattle.std.specs.Arc.{arc_value};
 ghost use Rattle.arrow_values.specs.View.{tree};
-ghost use Rattle.arrow_values.specs.Errors.{IsMemory};
 ghost use Rattle.geoarrow_meta.specs.Read.{empty};
 
 use arrow_values::{ArrowError, DataType, ExtensionType};

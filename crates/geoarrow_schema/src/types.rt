@@ -1,5 +1,5 @@
 //! The GeoArrow types as one.
-ghost use Rattle.std.specs.Prelude.{◌≡◌, ◌⊎◌, IfOk, IfErr, IsOk};
+ghost use Rattle.std.specs.Prelude.{◌≡◌, IfOk};
 ghost use Rattle.geoarrow_schema.specs.Types.{kind_of, metadata_of, meta_of};
 ghost use Rattle.geoarrow_schema.specs.Changes.{with_coord_type, with_dimension};
 ghost use Rattle.geoarrow_layout.specs.declared.encodings.Kind.TheVariants.{Native as OfNative};
