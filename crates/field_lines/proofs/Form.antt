@@ -12,7 +12,7 @@ use Rattle.arrow_values.specs.Tree.{Text, Metadata, Tree, plain, struct, union, 
 use Rattle.arrow_values.specs.Union.{is_type_id, are_distinct}
 use Rattle.field_lines.specs.Names.{plain_named}
 use Rattle.field_lines.specs.FieldOfValue.{kept, is_size, integer_of, size_of_value, id_of_value, under, metadata_of_value, mode_of_value, list_of, large_list_of, are_keys, field_from, field_before, member_before, fixed_size_list_of, tree_ids, union_of, field_of_value, type_in, type_of_value, fields_of_value, fields_in, members_of_value, members_in}
-use Rattle.field_lines.specs.Line.{value_of_line, field_of_line}
+use Rattle.field_lines.specs.Line.{field_of_line}
 use Rattle.field_lines.specs.LineForm.{HasLineForm, FieldsHaveLineForm, MembersHaveLineForm}
 
 -- what holds of an answer, by what holds of its parts
@@ -96,12 +96,9 @@ mutual
   members_in_form (item _ ds) = tt
 
 pub line_form : (line : Text) (o : Option FieldTree) → o ≡ field_of_line line → IfSome o (λ f. HasLineForm f.tree)
-line_form line o is = subst (λ x. IfSome x (λ f. HasLineForm f.tree)) (sym is) (chained _ field_of_value (value_of_line line) (anything (value_of_line line)) (λ d _. field_form d))
+line_form line o is = subst (λ x. IfSome x (λ f. HasLineForm f.tree)) (sym is) (chained _ field_of_value (cond (is_utf8 line) (read line) None) (anything _) (λ d _. field_form d))
 
 -- ---- when a line is a JSON value
-
-pub line_value : (line : Text) (d : Data) → IsUtf8 line × (read line ≡ Some d) → value_of_line line ≡ Some d
-line_value line d h = ap (λ b. cond b (read line) None) (is_utf8-from_IsUtf8 line h.0) ∙ h.1
 
 pub line_field : (line : Text) → IsUtf8 line → field_of_line line ≡ option_and_then field_of_value (read line)
 line_field line h = ap (λ b. option_and_then field_of_value (cond b (read line) None)) (is_utf8-from_IsUtf8 line h)

@@ -1,5 +1,5 @@
 -- The value of a field is lean, and a lean value that stands for a field is the value of that field.
-use Rattle.std.proofs.Common.{◌≡◌, ℤ, pos, negsuc, List, [], ◌∷◌, Bool, true, cond, Option, Some, None, option_map, option_and_then, inl, inr, codes, bytes_eq, Ordering, Less, Equal, Greater, nat_cmp, refl, sym, ap, subst, ◌∙◌}
+use Rattle.std.proofs.Common.{◌≡◌, ℤ, pos, negsuc, List, [], ◌∷◌, Bool, true, cond, Option, Some, None, option_map, option_and_then, inl, inr, codes, bytes_eq, Ordering, Less, Equal, Greater, nat_cmp, refl, sym, ap, ap₂, subst, ◌∙◌}
 use Rattle.std.proofs.lemmas.Cmp.{nat_list_cmp_total, tied_itself}
 use Rattle.std.proofs.lemmas.Map.Text.{is_eq-slice_cmp}
 use Rattle.std.proofs.lemmas.Bool.{and_parts, cond_both}
@@ -16,7 +16,7 @@ use Rattle.arrow_values.specs.Tree.{Text, Metadata, Plain, Tree, plain, list, la
 use Rattle.arrow_values.specs.Union.{is_type_id, are_distinct}
 use Rattle.field_lines.specs.Names.{plain_name, plain_named, plain_types, mode_name}
 use Rattle.field_lines.specs.FieldOfValue.{under, field_from, integer_of, kept, is_size, size_of_value, id_of_value, mode_of_value, texts_in, metadata_of_value, field_before, member_before, list_of, large_list_of, fixed_size_list_of, tree_ids, union_of, are_keys, field_of_value, type_in, type_of_value, fields_of_value, fields_in, members_of_value, members_in}
-use Rattle.field_lines.specs.ValueOfField.{texts_value, with_metadata, parts_value, one_key, two_keys, pair, type_value, fields_value, members_value, value_of_field}
+use Rattle.field_lines.specs.Line.{texts_value, with_metadata, parts_value, one_key, two_keys, type_value, fields_value, members_value, value_of_field}
 use Rattle.field_lines.specs.Lean.{field_keys, HaveKeysOf, IsLean, AreLean, HasLeanType, IsLeanType}
 use Rattle.field_lines.proofs.TokenTexts.{text_is}
 
@@ -245,6 +245,6 @@ mutual
       option_and_then_some (λ id. option_and_then (λ f. option_map (member_before id f) (members_in ds)) (field_of_value d)) (id_of_value i) ms is
       (λ id kept made. option_and_then_some (λ f. option_map (member_before id f) (members_in ds)) (field_of_value d) ms made
       (λ f at last. map_some (member_before id f) (members_in ds) ms last
-      (λ ns rest same. ap (λ x. item (pair x d) ds) (integer_is i is_type_id id lean.0.0 kept) ∙ ap (λ x. item (pair (number (of_integer id)) x) ds) (lean_value_is f d lean.0.1.0 at)
-      ∙ ap (item (pair (number (of_integer id)) (value_of_field f))) (lean_pairs_are ds lean.1 ns rest) ∙ ap members_value same)))
+      (λ ns rest same. ap₂ (λ x y. item (array (item x (item y no_items))) ds) (integer_is i is_type_id id lean.0.0 kept) (lean_value_is f d lean.0.1.0 at)
+      ∙ ap (item (array (item (number (of_integer id)) (item (value_of_field f) no_items)))) (lean_pairs_are ds lean.1 ns rest) ∙ ap members_value same)))
   lean_pairs_are (item _ ds) lean ms is = cc

@@ -19,7 +19,7 @@ use Rattle.serde_json.specs.Written.{number_text, outline, members_outline}
 use Rattle.serde_json.proofs.Numbers.{number_of-decimal, number_of-negative}
 use Rattle.arrow_values.specs.Tree.{FieldTree, Members as UnionMembers, depth, fields_depth, members_depth, Text, Metadata}
 use Rattle.arrow_values.specs.View.{field_trees, member_trees, texts_of}
-use Rattle.field_lines.specs.ValueOfField.{texts_value, one_key, two_keys, parts_value}
+use Rattle.field_lines.specs.Line.{texts_value, one_key, two_keys, parts_value}
 use Rattle.field_lines.specs.Prints.{PrintsMetadata, metadata_tokens}
 use Rattle.value_tokens.specs.Adds.{Adds, Prints, then}
 

@@ -10,7 +10,7 @@ use Rattle.arrow_values.specs.Tree.{Text, Metadata, Plain, null, Tree, plain, li
 use Rattle.arrow_values.specs.Union.{is_type_id, are_distinct}
 use Rattle.field_lines.specs.Names.{plain_name, plain_named, mode_name, mode_named}
 use Rattle.field_lines.specs.FieldOfValue.{kept, is_size, size_of_value, texts_in, field_from, field_before, member_before, list_of, large_list_of, fixed_size_list_of, tree_ids, union_of, field_of_value, type_of_value, fields_in, members_in}
-use Rattle.field_lines.specs.ValueOfField.{texts_value, parts_value, type_value, fields_value, members_value, value_of_field}
+use Rattle.field_lines.specs.Line.{texts_value, parts_value, type_value, fields_value, members_value, value_of_field}
 use Rattle.field_lines.specs.LineForm.{HasLineForm, FieldsHaveLineForm, MembersHaveLineForm}
 
 -- the words

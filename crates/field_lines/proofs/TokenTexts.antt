@@ -16,7 +16,7 @@ use Rattle.arrow_values.specs.Tree.{Text, Metadata}
 use Rattle.arrow_values.specs.View.{texts_of}
 use Rattle.field_lines.specs.FieldOfValue.{texts_in, metadata_of_value}
 use Rattle.field_lines.specs.Slots.{Slots, slots_in, slots_of, texts_kept}
-use Rattle.field_lines.specs.ValueOfField.{texts_value}
+use Rattle.field_lines.specs.Line.{texts_value}
 use Rattle.field_lines.proofs.Prints.{Texts, insert_last, ordered, texts_put}
 use Rattle.value_tokens.specs.Next.{next_members, Reads, ReadsMembers}
 use Rattle.value_tokens.specs.Turns.{member_read, members_over, value_takes}

@@ -4,12 +4,12 @@ use Rattle.std.proofs.lemmas.Result.{on_ok_weaker}
 use Rattle.arrow_values.specs.Tree.{fields_depth, members_depth}
 use Rattle.arrow_values.specs.View.{tree, field_trees, member_trees}
 use Rattle.json.specs.Token.{string as string_token, boolean as boolean_token}
-use Rattle.serde_json.specs.Data.{string, number}
+use Rattle.serde_json.specs.Data.{string, number, array, no_items, item}
 use Rattle.serde_json.specs.Find.{of_integer}
 use mir.Val.{to_z, of_z}
 use Rattle.value_tokens.specs.Adds.{Adds, Prints, PrintsItems, added, sent, prints_array, prints_item, prints_end}
 use Rattle.field_lines.specs.Prints.{PrintsMetadata}
-use Rattle.field_lines.specs.ValueOfField.{pair, value_of_field, type_value, fields_value, members_value}
+use Rattle.field_lines.specs.Line.{value_of_field, type_value, fields_value, members_value}
 use Rattle.field_lines.proofs.Prints.{falls_field, falls_union_member, prints_one_key, prints_two_keys, prints_parts, prints_text}
 use Rattle.field_lines.proofs.printer.+print.Goals as goal
 
@@ -84,7 +84,7 @@ print_members-loop-member-preserved t c end rest =
     let x = c.member-item.result in
     let here : drop l.member-index xs ≡ x ∷ drop (l.member-index + 1) xs = drop_more xs l.member-index x (omega arith) ∙ ap (λ y. y ∷ drop (l.member-index + 1) xs) (sym c.member-item.is) in
     let same : to_z w8 (of_z w8 x.0) ≡ x.0 = search rules in
-    let this = subst (λ id. Prints (pair (number (of_integer id)) (value_of_field x.1)) l.out c.print_member.new.out) same c.in_ok-print_member.ensures in
+    let this = subst (λ id. Prints (array (item (number (of_integer id)) (item (value_of_field x.1) no_items))) l.out c.print_member.new.out) same c.in_ok-print_member.ensures in
     l.invariant end (subst (λ left. PrintsItems (members_value (member_trees left)) l.out end) (sym here) (prints_item this rest))
 
 pub print_members-returns : goal.print_members-returns

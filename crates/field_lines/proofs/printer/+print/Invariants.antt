@@ -3,7 +3,7 @@ use Rattle.json.specs.Written.{Written}
 use Rattle.arrow_values.specs.Tree.{depth, fields_depth, members_depth}
 use Rattle.arrow_values.specs.View.{tree, field_trees, member_trees}
 use Rattle.value_tokens.specs.Adds.{PrintsItems}
-use Rattle.field_lines.specs.ValueOfField.{fields_value, members_value}
+use Rattle.field_lines.specs.Line.{fields_value, members_value}
 use Rattle.field_lines.proofs.printer.+print.Given as goal
 
 abbrev pub decreases-print_field : goal.decreases-print_field

@@ -3,7 +3,7 @@ use Rattle.json.specs.Written.{Written}
 use Rattle.serde_json.specs.Written.{members_outline}
 use Rattle.arrow_values.specs.View.{texts_of}
 use Rattle.value_tokens.specs.Adds.{Adds}
-use Rattle.field_lines.specs.ValueOfField.{texts_value}
+use Rattle.field_lines.specs.Line.{texts_value}
 use Rattle.field_lines.proofs.printer.print_texts.Given as goal
 
 -- what adds the texts that are left adds all from the start
