@@ -1,5 +1,5 @@
 -- What a line says can be said by a line, and when a line is a JSON value.
-use Rattle.std.proofs.Common.{◌≡◌, ℤ, IfSome, IsUtf8, Bool, true, false, cond, IsTrue, Option, Some, None, option_map, option_and_then, codes, bytes_eq, refl, sym, subst, ap, ◌∙◌}
+use Rattle.std.proofs.Common.{◌≡◌, ℤ, IfSome, IsUtf8, Bool, true, false, cond, IsTrue, Option, Some, None, option_map, option_and_then, codes, bytes_eq, refl, sym, subst, ap}
 use Rattle.std.proofs.lemmas.Bool.{and_from, cond_both, false_from_ne_true}
 use Rattle.std.proofs.lemmas.Str.{IsUtf8-from_is_utf8, is_utf8-from_IsUtf8}
 use Rattle.std.specs.List.{list_all}

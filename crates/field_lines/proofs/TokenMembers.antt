@@ -81,27 +81,10 @@ parts_end {depth} {all} {left} {r} {name} {nullable} {tree} {metadata} way is ov
     let ms = way.found in
     (ms, way.decides ∙ members_over depth ms left r over, rw (is, way.at_name, way.at_nullable, way.at_type, way.at_metadata, type_in-get ms))
 
--- what is no object stands for no field, and what is no list for no fields and no members
-pub no_field : (d : Data) → as_object d ≡ None → None ≡ field_of_value d
-no_field (object ms) e = cc
-no_field _ e = refl
-
 pub no_type : (d : Data) → as_object d ≡ None → as_str d ≡ None → None ≡ type_of_value d
 no_type (string s) e f = cc
 no_type (object ms) e f = cc
 no_type _ e f = refl
-
-pub no_fields_list : (d : Data) → as_array d ≡ None → None ≡ fields_of_value d
-no_fields_list (array ds) e = cc
-no_fields_list _ e = refl
-
-pub no_members_list : (d : Data) → as_array d ≡ None → None ≡ members_of_value d
-no_members_list (array ds) e = cc
-no_members_list _ e = refl
-
-pub no_pair : (d : Data) → as_array d ≡ None → None ≡ pair_read d
-no_pair (array ds) e = cc
-no_pair _ e = refl
 
 -- a part at another key
 pub part_other : {A : Type 0} {q k : Text} (here : Option A) {old : Option A} → (k ≡ q → ⊥) → Part q k old here old
@@ -134,9 +117,6 @@ pub record IsOnlyUnderWay {A : Type 0} (f : Data → Option A) (depth : _) (only
   pub decides : next_after depth no_members only all ≡ next_members depth (member only value no_members) left
   pub answers : answer ≡ f value
   pub fewer : length left < length all
-
-pub only_start : {A : Type 0} (f : Data → Option A) (depth : _) (only : Text) (all left : List Token) (answer : Option A) → Reads f depth all answer left → IsOnlyUnderWay f depth only all left answer
-only_start f depth only all left answer read = record { value = read.0; decides = taken depth no_members only all left read.0 read.1; answers = read.2; fewer = value_takes depth all left read.0 read.1 }
 
 put_only : (k : Text) (d e : Data) → put k d (member k e no_members) ≡ member k d no_members
 put_only k d e = rw (tied_itself nat_list_cmp_total k)
@@ -199,10 +179,6 @@ pub record AreTwoUnderWay {A B : Type 0} (f : Data → Option A) (g : Data → O
 next_pending : (depth : _) (found : Members) (next : Option Text) (ts s : List Token) → read_key ts ≡ Some (next, s) → next_members depth found ts ≡ pending depth found next s
 next_pending depth found None ts s e = members_over depth found ts s e
 next_pending depth found (Some k) ts s e = named depth found k ts s e
-
-pub two_start : {A B : Type 0} (f : Data → Option A) (g : Data → Option B) (k l : Text) (depth : _) (first : Text) (all : List Token) (x : Option A) (y : Option B) → x ≡ None → y ≡ None
-    → AreTwoUnderWay f g k l depth first all all (Some first) x y
-two_start f g k l depth first all x y no_x no_y = record { at_first = None; at_second = None; decides = refl; answers = (no_x, no_y); fewer = (omega arith, λ never. cc) }
 
 -- keys that stand in this order
 abbrev pub AreOrdered : Text → Text → Type 0

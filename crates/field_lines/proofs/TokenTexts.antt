@@ -33,9 +33,6 @@ pub record AreTextsUnderWay (depth : _) (all left : List Token) (made : Texts) :
   pub decides : next_members depth no_members all ≡ next_members depth (texts_value (texts_of made)) left
   pub fewer : length left ≤ length all
 
-pub texts_start : (depth : _) (all : List Token) (made : Texts) → made ≡ [] → AreTextsUnderWay depth all all made
-texts_start depth all made none = record { decides = ap (λ es. next_members depth (texts_value (texts_of es)) all) (sym none); fewer = omega arith }
-
 pub texts_go_on : {depth : ℕ} {all left s r : List Token} {made new : Texts} {k : Text} (key text : String Global) → AreTextsUnderWay depth all left made → read_key left ≡ Some (Some k, s)
     → Reads as_str depth s (Some (string_bytes text)) r → string_bytes key ≡ k → new ≡ insert_entry string_cmp made key text → AreTextsUnderWay depth all r new
 texts_go_on {depth} {all} {left} {s} {r} {made} {new} {k} key text way named read copied is =
@@ -52,12 +49,6 @@ texts_go_on {depth} {all} {left} {s} {r} {made} {new} {k} key text way named rea
 
 pub texts_end : {depth : ℕ} {all left r : List Token} {made : Texts} → AreTextsUnderWay depth all left made → read_key left ≡ Some (None, r) → ReadsMembers texts_in depth no_members all (Some (texts_of made)) r
 texts_end {depth} {all} {left} {r} {made} way over = (texts_value (texts_of made), way.decides ∙ members_over depth (texts_value (texts_of made)) left r over, texts_back (texts_of made))
-
-pub no_texts : (d : Data) → as_object d ≡ None → None ≡ metadata_of_value (Some d)
-no_texts d none = sym (ap (option_and_then texts_in) none)
-
-pub texts_read : (d : Data) (ms : Members) (o : Option Metadata) → d ≡ object ms → o ≡ texts_in ms → o ≡ metadata_of_value (Some d)
-texts_read d ms o is read = read ∙ sym (ap (λ e. metadata_of_value (Some e)) is)
 
 abbrev pub SlotEntries : Type 0
 SlotEntries = List (String Global × Option (String Global))
