@@ -1,6 +1,7 @@
 -- Steps of the loops that write, and from the tokens that were added one after another to those of a value.
-use Rattle.std.proofs.Common.{◌≡◌, ℕ, ℤ, zero, suc, ◌<◌, ◌≤◌, List, [], ◌∷◌, ◌++◌, length, get_or, String, Global, Ordering, Less, Greater, string_bytes, string_cmp, subst, refl, sym, ap, ◌∙◌, arith, Bool, Some, codes, negsuc, pos, SFits, w64, option_map, option_and_then, append_assoc, append-nil}
-use Rattle.std.proofs.lemmas.List.{map-append}
+use Rattle.std.proofs.Common.{◌≡◌, ℕ, ℤ, zero, suc, ◌<◌, ◌≤◌, List, [], ◌∷◌, ◌++◌, length, get_or, String, Global, Ordering, Less, Greater, string_bytes, string_cmp, subst, refl, sym, ap, ◌∙◌, arith, Bool, Some, codes, negsuc, pos, SFits, w64, option_map, option_and_then, append_assoc, append-nil, ◌+◌, max, drop, Result, OnOk}
+use Rattle.std.proofs.lemmas.List.{map-append, at_drop_more, drop_all}
+use Rattle.std.proofs.lemmas.Result.{on_ok_weaker}
 use Rattle.std.specs.Ordering.{ordering_reverse, match_ordering}
 use Rattle.std.specs.Cmp.{IsTotalOrder}
 use Rattle.std.specs.List.{AllByRecursion}
@@ -9,29 +10,47 @@ use Rattle.std.specs.Map.{keys_of}
 use Rattle.std.specs.BTreeMap.{insert_entry}
 use Rattle.std.specs.String.{string_cmp_total}
 use Rattle.std.specs.Fmt.{signed_decimal}
-use Rattle.json.specs.Token.{Token, key, number as number_token, string as string_token, boolean as boolean_token, begin_object, end_object}
+use Rattle.json.specs.Token.{Token, key, number as number_token, string as string_token, boolean as boolean_token, begin_object, end_object, end_array}
 use Rattle.json.specs.Tree.{json_tokens, members_tokens}
-use Rattle.json.specs.Written.{Written}
-use Rattle.serde_json.specs.Data.{string, put, Data, boolean, number, object, no_members, member}
+use Rattle.json.specs.Written.{Written, Writes}
+use Rattle.serde_json.specs.Data.{string, put, Data, boolean, number, object, Items, no_items, item, no_members, member}
 use Rattle.serde_json.specs.Find.{of_integer}
 use Rattle.serde_json.specs.Read.{of_json, of_members}
 use Rattle.serde_json.specs.Written.{number_text, outline, members_outline}
 use Rattle.serde_json.proofs.Numbers.{number_of-decimal, number_of-negative}
-use Rattle.arrow_values.specs.Tree.{FieldTree, Members as UnionMembers, depth, fields_depth, members_depth, Text, Metadata}
-use Rattle.arrow_values.specs.View.{field_trees, member_trees, texts_of}
+use Rattle.arrow_values.specs.Tree.{Text, Metadata}
+use Rattle.arrow_values.specs.View.{texts_of}
 use Rattle.field_lines.specs.Line.{texts_value, one_key, two_keys, parts_value}
 use Rattle.field_lines.specs.Prints.{PrintsMetadata, metadata_tokens}
-use Rattle.value_tokens.specs.Adds.{Adds, Prints, then}
+use Rattle.value_tokens.specs.Adds.{Adds, Prints, PrintsItems, then, added, prints_item, prints_end}
 
-pub falls_field : (fs : List FieldTree) (i : ℕ) (f : FieldTree) → i < length fs → f ≡ get_or fs i f → suc (depth f.tree) ≤ fields_depth (field_trees fs)
-falls_field [] i f lt is = absurd (omega arith)
-falls_field (x ∷ fs) zero f lt is = let same : depth f.tree ≡ depth x.tree = ap (λ w. depth w.tree) is in omega arith
-falls_field (x ∷ fs) (suc i) f lt is = let low = falls_field fs i f (omega arith) is in omega arith
+-- ---- a loop over a list
 
-pub falls_union_member : (ms : UnionMembers) (i : ℕ) (m : ℤ × FieldTree) → i < length ms → m ≡ get_or ms i m → suc (depth m.1.tree) ≤ members_depth (member_trees ms)
-falls_union_member [] i m lt is = absurd (omega arith)
-falls_union_member (x ∷ ms) zero m lt is = let same : depth m.1.tree ≡ depth x.1.tree = ap (λ w. depth w.1.tree) is in omega arith
-falls_union_member (x ∷ ms) (suc i) m lt is = let low = falls_union_member ms i m (omega arith) is in omega arith
+module _ {A : Type 0} (one : A → ℕ) (all : List A → ℕ) (more : (x : A) (xs : List A) → all (x ∷ xs) ≡ max (suc (one x)) (all xs)) where
+  pub falls : (xs : List A) {ys : List A} (i : ℕ) (x : A) → xs ≡ ys → i < length xs → x ≡ get_or xs i x → suc (one x) ≤ all ys
+  falls [] i x e lt is = absurd (omega arith)
+  falls (y ∷ ys) zero x e lt is = rw (← e) (let same : one x ≡ one y = ap one is in let most = more y ys in omega arith)
+  falls (y ∷ ys) (suc i) x e lt is = rw (← e) (let low = falls ys i x refl (omega arith) is in let most = more y ys in omega arith)
+
+-- what prints the items that are left prints all from the start
+abbrev pub PrintsRest : {A : Type 0} → (List A → Items) → List A → ℕ → Written → Written → Type 0
+PrintsRest value xs i start now = (end : Written) → PrintsItems (value (drop i xs)) now end → PrintsItems (value xs) start end
+
+module _ {A : Type 0} (one : A → Data) (value : List A → Items) (xs : List A) (i : ℕ) {start now : Written}
+    (law : (x : A) (xs : List A) → value (x ∷ xs) ≡ item (one x) (value xs)) (way : PrintsRest value xs i start now) where
+  pub rest_go_on : (x : A) {new : Written} → i < length xs → x ≡ get_or xs i x → Prints (one x) now new → PrintsRest value xs (i + 1) start new
+  rest_go_on x lt is this end rest =
+      let here = at_drop_more value xs i x lt ∙ law (get_or xs i x) (drop (i + 1) xs) ∙ ap (λ y. item (one y) (value (drop (i + 1) xs))) (sym is) in
+      way end (subst (λ ds. PrintsItems ds now end) (sym here) (prints_item this rest))
+
+  pub rest_end : {all : _} {end : Written} → value [] ≡ no_items → length xs ≤ i → xs ≡ all → Adds (end_array ∷ []) now end → PrintsItems (value all) start end
+  rest_end {end = end} none le is finish =
+      let left = subst (λ ds. PrintsItems ds now end) (sym (ap value (drop_all i xs le) ∙ none)) (prints_end finish) in
+      subst (λ l. PrintsItems (value l) start end) is (way end left)
+
+-- the last token is added
+pub finished : {E P : Type 0} (r : Result (Unit {0}) E) {old new : Written} {t : Token} → (Adds (t ∷ []) old new → P) → Writes r old new t → OnOk r P
+finished r {old} {new} {t} f w = on_ok_weaker r f (added r old new t w)
 
 -- texts are put in the order of their keys, so each goes last
 abbrev pub Texts : Type 0

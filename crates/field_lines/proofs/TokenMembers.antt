@@ -10,11 +10,11 @@ use Rattle.std.proofs.lemmas.Cmp.{nat_list_cmp_total, tied_itself}
 use Rattle.json.specs.Token.{Token}
 use Rattle.json.specs.Json.{read_key}
 use Rattle.json.proofs.Grammar.{read_key-shorter}
-use Rattle.serde_json.specs.Data.{Data, string, array, object, Members, no_members, member, put}
-use Rattle.serde_json.specs.Find.{get_member, as_str, as_bool, as_object, as_array}
+use Rattle.serde_json.specs.Data.{Data, string, object, Members, no_members, member, put}
+use Rattle.serde_json.specs.Find.{get_member, as_str, as_bool, as_object}
 use Rattle.arrow_values.specs.Tree.{Text, Metadata, Tree, FieldTree}
-use Rattle.field_lines.specs.FieldOfValue.{under, metadata_of_value, field_from, field_of_value, type_in, type_of_value, fields_of_value, members_of_value, are_keys}
-use Rattle.field_lines.specs.Keys.{pair_read, only_at, fixed_size_list_at, union_at}
+use Rattle.field_lines.specs.FieldOfValue.{under, metadata_of_value, field_from, field_of_value, type_in, type_of_value, are_keys}
+use Rattle.field_lines.specs.Keys.{only_at, fixed_size_list_at, union_at}
 use Rattle.value_tokens.specs.Next.{next_value, next_members, ReadsMembers, next_after, after, Reads, ReadsAfter}
 use Rattle.value_tokens.specs.Turns.{member_read, members_over, value_takes, key_refused, after_some, taken, named}
 use Rattle.value_tokens.specs.Presence.{get_member-put_at, Has, kept, has_new, has_taken}
@@ -81,6 +81,7 @@ parts_end {depth} {all} {left} {r} {name} {nullable} {tree} {metadata} way is ov
     let ms = way.found in
     (ms, way.decides ∙ members_over depth ms left r over, rw (is, way.at_name, way.at_nullable, way.at_type, way.at_metadata, type_in-get ms))
 
+-- what is no object and no text stands for no type
 pub no_type : (d : Data) → as_object d ≡ None → as_str d ≡ None → None ≡ type_of_value d
 no_type (string s) e f = cc
 no_type (object ms) e f = cc
