@@ -5,7 +5,7 @@ use Rattle.serde_json.specs.Written.{compact_text}
 use Rattle.field_lines.specs.FieldOfValue.{field_of_value}
 use Rattle.field_lines.specs.Line.{value_of_field}
 use Rattle.field_lines.proofs.Round.{field_read}
-use Rattle.field_lines.proofs.Form.{line_field}
+use Rattle.field_lines.proofs.Lean.{line_field}
 use Rattle.value_tokens.specs.Printed.{printed, reads_back}
 use Rattle.field_lines.proofs.line.field_line.Goals as goal
 
