@@ -1,14 +1,13 @@
 -- The value of a field is lean; a value that stands for a field is that field's value, if it is lean; and a line can say the field.
-use Rattle.std.proofs.Common.{◌≡◌, ℤ, pos, negsuc, List, [], ◌∷◌, Bool, true, false, cond, Option, Some, None, IfSome, IsTrue, IsUtf8, option_map, option_and_then, inl, inr, codes, bytes_eq, Ordering, Less, Equal, Greater, nat_cmp, refl, sym, ap, ap₂, subst, ◌∙◌}
+use Rattle.std.proofs.Common.{◌≡◌, ℤ, pos, negsuc, List, [], ◌∷◌, Bool, true, false, cond, Option, Some, None, IfSome, IsTrue, IsUtf8, option_map, option_and_then, inl, inr, codes, bytes_eq, Less, Greater, nat_cmp, refl, sym, ap, ap₂, subst, ◌∙◌}
 use Rattle.std.proofs.lemmas.Cmp.{nat_list_cmp_total, tied_itself}
-use Rattle.std.proofs.lemmas.Map.Text.{is_eq-slice_cmp}
 use Rattle.std.proofs.lemmas.Bool.{and_from, and_parts, cond_both, false_from_ne_true}
 use Rattle.std.proofs.lemmas.Option.{IfSome_then}
 use Rattle.std.proofs.lemmas.Slice.Eq.{bytes_eq-Decides}
 use Rattle.std.proofs.lemmas.Str.{IsUtf8-from_is_utf8, is_utf8-from_IsUtf8}
 use Rattle.std.specs.Cmp.Lexicographic.{slice_cmp}
 use Rattle.std.specs.List.{find, list_all}
-use Rattle.std.specs.Ordering.{is_eq, match_ordering}
+use Rattle.std.specs.Ordering.{match_ordering}
 use Rattle.std.specs.Str.{is_utf8}
 use Rattle.serde_json.specs.Data.{Data, boolean, number, string, array, object, unsigned, negative, Items, no_items, item, Members, no_members, member}
 use Rattle.serde_json.specs.Find.{of_integer, get_member, as_str, as_bool}
@@ -21,6 +20,7 @@ use Rattle.field_lines.specs.Names.{plain_name, plain_named, plain_types, mode_n
 use Rattle.field_lines.specs.FieldOfValue.{under, field_from, integer_of, kept, is_size, size_of_value, id_of_value, mode_of_value, texts_in, metadata_of_value, field_before, member_before, list_of, large_list_of, fixed_size_list_of, tree_ids, union_of, are_keys, field_of_value, type_in, type_of_value, fields_of_value, fields_in, members_of_value, members_in}
 use Rattle.field_lines.specs.Line.{texts_value, with_metadata, parts_value, one_key, two_keys, type_value, fields_value, members_value, value_of_field, field_of_line}
 use Rattle.field_lines.specs.LineForm.{HasLineForm, FieldsHaveLineForm, MembersHaveLineForm}
+use Rattle.field_lines.proofs.TokenMembers.{get_member-at}
 use Rattle.field_lines.specs.Lean.{field_keys, HaveKeysOf, IsLean, AreLean, HasLeanType, IsLeanType}
 
 -- ---- the value of a field is lean
@@ -207,14 +207,7 @@ two_keyed k l d e own all =
     (λ distinct. ((x.0.0, and_from _ _ x.0.1 distinct), λ lean. keys_are k l (codes "mode") (codes "union") h is (x.1 lean.1.0))) (λ _. tt))))
     (λ _. tt))
 
--- ---- the members' first value at a key
-
-at_first : (r : Ordering) (d o : Option Data) → match_ordering r o d o ≡ cond (is_eq r) d o
-at_first Equal d o = refl
-at_first _ d o = refl
-
-get_member-at : (q k : Text) (d : Data) (ms : Members) → get_member q (member k d ms) ≡ cond (bytes_eq q k) (Some d) (get_member q ms)
-get_member-at q k d ms = at_first (slice_cmp nat_cmp q k) (Some d) (get_member q ms) ∙ ap (λ b. cond b (Some d) (get_member q ms)) (is_eq-slice_cmp q k)
+-- ---- what a value says
 
 mutual
   field_says : (d : Data) → IfSome (field_of_value d) (SaysField d)

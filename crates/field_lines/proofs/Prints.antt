@@ -16,7 +16,7 @@ use Rattle.json.specs.Written.{Written, Writes}
 use Rattle.serde_json.specs.Data.{string, put, Data, boolean, number, object, Items, no_items, item, no_members, member}
 use Rattle.serde_json.specs.Find.{of_integer}
 use Rattle.serde_json.specs.Read.{of_json, of_members}
-use Rattle.serde_json.specs.Written.{number_text, outline, members_outline}
+use Rattle.serde_json.specs.Written.{outline, members_outline}
 use Rattle.serde_json.proofs.Numbers.{number_of-decimal, number_of-negative}
 use Rattle.arrow_values.specs.Tree.{Text, Metadata}
 use Rattle.arrow_values.specs.View.{texts_of}
@@ -104,16 +104,9 @@ texts_tokens texts = members_tokens (members_outline (texts_value (texts_of text
 pub prints_text : {s : Text} {old new : Written} → Adds (string_token s ∷ []) old new → Prints (string s) old new
 prints_text a = record { adds = a; reads_back = refl }
 
-integer_token : (z : ℤ) → number_text (of_integer z) ≡ signed_decimal z
-integer_token (pos n) = refl
-integer_token (negsuc n) = refl
-
-integer_read_back : (z : ℤ) → SFits w64 z → of_json (outline (number (of_integer z))) ≡ Some (number (of_integer z))
-integer_read_back (pos n) fits = ap (option_map number) (number_of-decimal n (grind arith))
-integer_read_back (negsuc n) fits = ap (option_map number) (number_of-negative n (grind arith))
-
 pub prints_integer : (z : ℤ) {old new : Written} → SFits w64 z → Adds (number_token (signed_decimal z) ∷ []) old new → Prints (number (of_integer z)) old new
-prints_integer z {old} {new} fits a = record { adds = subst (λ s. Adds (number_token s ∷ []) old new) (sym (integer_token z)) a; reads_back = integer_read_back z fits }
+prints_integer (pos n) fits a = record { adds = a; reads_back = ap (option_map number) (number_of-decimal n (grind arith)) }
+prints_integer (negsuc n) fits a = record { adds = a; reads_back = ap (option_map number) (number_of-negative n (grind arith)) }
 
 pub prints_one_key : (k : Text) {d : Data} {w0 w1 w2 w3 w4 : Written} → Adds (begin_object ∷ []) w0 w1 → Adds (key k ∷ []) w1 w2 → Prints d w2 w3 → Adds (end_object ∷ []) w3 w4 → Prints (one_key k d) w0 w4
 prints_one_key k begin named value finish = record {
@@ -140,11 +133,9 @@ parts_read_back n d b (e ∷ es) texts type =
     ap (λ o. option_map object (option_and_then (λ v. option_and_then (λ t. Some (put (codes "type") t (put (codes "nullable") (boolean b) (put (codes "name") (string n) (put (codes "metadata") v no_members))))) (of_json (outline d))) o)) texts
     ∙ ap (λ o. option_map object (option_and_then (λ t. Some (member (codes "metadata") (object (texts_value (e ∷ es))) (member (codes "name") (string n) (member (codes "nullable") (boolean b) (member (codes "type") t no_members))))) o)) type
 
--- the tokens of a field after those of its metadata
-abbrev pub tail_tokens : Text → Data → Bool → List Token
-tail_tokens n d b = key (codes "name") ∷ string_token n ∷ key (codes "nullable") ∷ boolean_token b ∷ key (codes "type") ∷ (json_tokens (outline d) ++ end_object ∷ [])
-
-parts_tokens : (n : Text) (d : Data) (b : Bool) (m : Metadata) → begin_object ∷ (metadata_tokens m ++ tail_tokens n d b) ≡ json_tokens (outline (parts_value n d b m))
+parts_tokens : (n : Text) (d : Data) (b : Bool) (m : Metadata)
+    → begin_object ∷ (metadata_tokens m ++ key (codes "name") ∷ string_token n ∷ key (codes "nullable") ∷ boolean_token b ∷ key (codes "type") ∷ (json_tokens (outline d) ++ end_object ∷ []))
+    ≡ json_tokens (outline (parts_value n d b m))
 parts_tokens n d b [] = refl
 parts_tokens n d b (e ∷ es) = refl
 

@@ -30,7 +30,7 @@ as_integer-of (negsuc n) = refl
 kept-integer : (p : ℤ → Bool) (z : ℤ) → IsTrue (p z) → option_and_then (kept p) (as_integer (of_integer z)) ≡ Some z
 kept-integer p z is = ap (option_and_then (kept p)) (as_integer-of z) ∙ ap (λ b. cond b (Some z) None) is
 
-texts_in-value : (m : Metadata) → texts_in (texts_value m) ≡ Some m
+pub texts_in-value : (m : Metadata) → texts_in (texts_value m) ≡ Some m
 texts_in-value [] = refl
 texts_in-value (e ∷ es) = ap (λ o. option_and_then (λ text. option_map (λ texts. ((e.0, text) ∷ texts)) o) (as_str (string e.1))) (texts_in-value es)
 

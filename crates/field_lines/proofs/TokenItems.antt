@@ -40,10 +40,6 @@ pub record AreItemsTaken {X T : Type 0} (step : X → T → T) (whole : Items �
   pub items : (ds : Items) → whole (front ds) ≡ option_map (before step made) (whole ds)
   pub fewer : length left ≤ length all
 
-untouched : (o : Option (Items × List Token)) → o ≡ parse_map (λ ds. ds) o
-untouched None = refl
-untouched (Some p) = refl
-
 nested : (front : Items → Items) (d : Data) (o : Option (Items × List Token)) → parse_map front (parse_map (item d) o) ≡ parse_map (λ ds. front (item d ds)) o
 nested front d None = refl
 nested front d (Some p) = refl
@@ -51,7 +47,7 @@ nested front d (Some p) = refl
 pub taken_start : {X T : Type 0} {step : X → T → T} {whole : Items → Option T} {depth : ℕ} {all : List Token} {made : List X} → made ≡ [] → AreItemsTaken step whole depth all all made
 taken_start {step = step} {whole} {depth} {all} none = record {
   front = λ ds. ds;
-  decides = untouched (next_items depth all);
+  decides = sym (option_map_id (next_items depth all));
   items = λ ds. sym (ap (λ l. option_map (before step l) (whole ds)) none ∙ option_map_id (whole ds));
   fewer = omega arith;
 }

@@ -17,6 +17,7 @@ use Rattle.arrow_values.specs.View.{texts_of}
 use Rattle.field_lines.specs.FieldOfValue.{texts_in}
 use Rattle.field_lines.specs.Slots.{slots_in, slots_of, texts_kept}
 use Rattle.field_lines.specs.Line.{texts_value}
+use Rattle.field_lines.proofs.Round.{texts_in-value}
 use Rattle.field_lines.proofs.Prints.{Texts, insert_last, ordered, texts_put}
 use Rattle.value_tokens.specs.Next.{next_members, Reads, ReadsMembers}
 use Rattle.value_tokens.specs.Turns.{member_read, members_over, value_takes}
@@ -24,10 +25,6 @@ use Rattle.value_tokens.specs.Turns.{member_read, members_over, value_takes}
 pub text_is : (d : Data) (t : Text) → Some t ≡ as_str d → d ≡ string t
 text_is (string s) t e = let same : t ≡ s = cc in ap string (sym same)
 text_is _ t e = cc
-
-texts_back : (m : Metadata) → Some m ≡ texts_in (texts_value m)
-texts_back [] = refl
-texts_back (e ∷ es) = ap (λ o. option_map (λ texts. e ∷ texts) o) (texts_back es)
 
 pub record AreTextsUnderWay (depth : _) (all left : List Token) (made : Texts) : Type 0 where
   pub decides : next_members depth no_members all ≡ next_members depth (texts_value (texts_of made)) left
@@ -48,7 +45,7 @@ texts_go_on {depth} {all} {left} {s} {r} {made} {new} {k} key text way named rea
     }
 
 pub texts_end : {depth : ℕ} {all left r : List Token} {made : Texts} → AreTextsUnderWay depth all left made → read_key left ≡ Some (None, r) → ReadsMembers texts_in depth no_members all (Some (texts_of made)) r
-texts_end {depth} {all} {left} {r} {made} way over = (texts_value (texts_of made), way.decides ∙ members_over depth (texts_value (texts_of made)) left r over, texts_back (texts_of made))
+texts_end {depth} {all} {left} {r} {made} way over = (texts_value (texts_of made), way.decides ∙ members_over depth (texts_value (texts_of made)) left r over, sym (texts_in-value (texts_of made)))
 
 abbrev pub SlotEntries : Type 0
 SlotEntries = List (String Global × Option (String Global))
@@ -155,7 +152,7 @@ module _ {X Y Z : Type 0} {seen : X → Z} {whole : Entries Y → Option (List (
   put_all way none law = sym (put_next way none law ∙ ap Some (append-nil (seen_in seen made)))
 
   -- one entry goes last
-  pub put_one : {new : Entries X} {rest : Entries Y} {k : String Global} {v : Y} (x : X) → ArePut seen whole all made left → left ≡ (k, v) ∷ rest → new ≡ insert_entry string_cmp made k x
+  pub put_one : {new : _} {rest : _} {k : _} {v : Y} (x : X) → ArePut seen whole all made left → left ≡ (k, v) ∷ rest → new ≡ insert_entry string_cmp made k x
       → whole ((k, v) ∷ rest) ≡ option_map (λ es. (string_bytes k, seen x) ∷ es) (whole rest) → ArePut seen whole all new rest
   put_one {new} {rest} {k} {v} x way split is law =
       let sorted = subst (λ (l : Entries Y). IsStrictlySortedBy string_cmp (keys_of made ++ keys_of l)) split way.ascending in
