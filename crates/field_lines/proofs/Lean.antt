@@ -115,7 +115,8 @@ anything None = tt
 anything (Some x) = tt
 
 -- what stands at a key, by what is read there
-there : {A : Type 0} (f : Data → Option A) (g : A → Data) → ((d : Data) → IfSome (f d) (λ x. d ≡ g x)) → (o : Option Data) → IfSome (option_and_then f o) (λ x. o ≡ Some (g x))
+there : {A : Type 0} (f : Data → Option A) (g : A → Data) → ((d : Data) → IfSome (f d) (λ x. d ≡ g x)) → (o : Option Data)
+    → IfSome (option_and_then f o) (λ x. o ≡ Some (g x))
 there f g h None = tt
 there f g h (Some d) = IfSome_then (f d) (h d) (λ x is. ap Some is)
 
@@ -133,17 +134,20 @@ texts_say (member k d ms) =
     chained _ (λ text. option_map (λ texts. (k, text) ∷ texts) (texts_in ms)) (as_str d) (text_says d)
     (λ text is. mapped _ (λ texts. (k, text) ∷ texts) (texts_in ms) (texts_say ms) (λ texts same. ap₂ (member k) is same))
 
-metadata_at : (m : Metadata) (ms rest : Members) → ms ≡ texts_value m → (Some (object ms) ≡ Some (object no_members) → ⊥) → member (codes "metadata") (object ms) rest ≡ with_metadata m rest
+metadata_at : (m : Metadata) (ms rest : Members) → ms ≡ texts_value m → (Some (object ms) ≡ Some (object no_members) → ⊥)
+    → member (codes "metadata") (object ms) rest ≡ with_metadata m rest
 metadata_at [] ms rest is full = absurd (full (ap (λ x. Some (object x)) is))
 metadata_at (e ∷ es) ms rest is full = ap (λ x. member (codes "metadata") (object x) rest) is
 
-metadata_says : (o : Option Data) → IfSome (metadata_of_value o) (λ m. (rest : Members) → (o ≡ Some (object no_members) → ⊥) → at_key (codes "metadata") o rest ≡ with_metadata m rest)
+metadata_says : (o : Option Data)
+    → IfSome (metadata_of_value o) (λ m. (rest : Members) → (o ≡ Some (object no_members) → ⊥) → at_key (codes "metadata") o rest ≡ with_metadata m rest)
 metadata_says None = λ rest full. refl
 metadata_says (Some (object ms)) = IfSome_then (texts_in ms) (texts_say ms) (λ m is rest full. metadata_at m ms rest is full)
 metadata_says (Some _) = tt
 
-parts_say : {N : Text → Type 0} {B : Bool → Type 0} {T : Tree → Type 0} {M : Metadata → Type 0} (Q : FieldTree → Type 0) (n : Option Text) (b : Option Bool) (t : Option Tree) (m : Option Metadata)
-    → IfSome n N → IfSome b B → IfSome t T → IfSome m M → ((n : Text) (b : Bool) (t : Tree) (m : Metadata) → N n → B b → T t → M m → Q (field_tree n t b m)) → IfSome (field_from n b t m) Q
+parts_say : {N : Text → Type 0} {B : Bool → Type 0} {T : Tree → Type 0} {M : Metadata → Type 0} (Q : FieldTree → Type 0) (n : _) (b : _) (t : _) (m : _)
+    → IfSome n N → IfSome b B → IfSome t T → IfSome m M → ((n : _) (b : _) (t : _) (m : _) → N n → B b → T t → M m → Q (field_tree n t b m))
+    → IfSome (field_from n b t m) Q
 parts_say Q (Some n) (Some b) (Some t) (Some m) at_name at_nullable at_type at_metadata all = all n b t m at_name at_nullable at_type at_metadata
 parts_say Q _ _ _ _ at_name at_nullable at_type at_metadata all = tt
 
@@ -154,7 +158,8 @@ find_holds p [] = tt
 find_holds p (x ∷ xs) = cond_both (p x) (Some x) (find p xs) (λ o. IfSome o (λ y. p y ≡ true)) (λ e. e) (λ _. find_holds p xs)
 
 mode_says : (d : Data) → IfSome (mode_of_value d) (λ mode. d ≡ string (mode_name mode))
-mode_says (string word) = IfSome_then _ (find_holds (λ u. bytes_eq word (mode_name u)) (Sparse ∷ Dense ∷ [])) (λ mode e. ap string ((bytes_eq-Decides word (mode_name mode)).0 e))
+mode_says (string word) =
+    IfSome_then _ (find_holds (λ u. bytes_eq word (mode_name u)) (Sparse ∷ Dense ∷ [])) (λ mode e. ap string ((bytes_eq-Decides word (mode_name mode)).0 e))
 mode_says _ = tt
 
 -- a number that is kept has the property
@@ -178,12 +183,16 @@ SaysField d f = HasLineForm f.tree × (IsLean d → d ≡ value_of_field f)
 abbrev SaysType : Data → Tree → Type 0
 SaysType d t = HasLineForm t × (IsLeanType d → d ≡ type_value t)
 
+abbrev SaysTypeIn : Members → Tree → Type 0
+SaysTypeIn ms t = HasLineForm t × (HasLeanType ms → get_member (codes "type") ms ≡ Some (type_value t))
+
 abbrev SaysMembers : {A : Type 0} → Type 0 → A → A → MemberTrees → Type 0
 SaysMembers lean d e ms = (MembersHaveLineForm ms × IsTrue (list_all is_type_id (tree_ids ms))) × (lean → d ≡ e)
 
 -- the value at one key, which g writes, or else what comes after
-keyed : {A : Type 0} (k l : Text) (d : Data) (f : A → Tree) (g : A → Data) (o : Option A) (rest : Option Tree) → ((x : A) → one_key l (g x) ≡ type_value (f x)) → IfSome o (λ x. HasLineForm (f x) × (IsLean d → d ≡ g x))
-    → IfSome rest (SaysType (one_key k d)) → IfSome (cond (bytes_eq k l) (option_map f o) rest) (SaysType (one_key k d))
+keyed : {A : Type 0} (k l : Text) (d : Data) (f : A → Tree) (g : A → Data) (o : Option A) (rest : Option Tree) → ((x : A) → one_key l (g x) ≡ type_value (f x))
+    → IfSome o (λ x. HasLineForm (f x) × (IsLean d → d ≡ g x)) → IfSome rest (SaysType (one_key k d))
+    → IfSome (cond (bytes_eq k l) (option_map f o) rest) (SaysType (one_key k d))
 keyed k l d f g o rest law own next =
     cond_both (bytes_eq k l) (option_map f o) rest (λ x. IfSome x (SaysType (one_key k d)))
     (λ e. mapped _ f o own (λ x h. (h.0, λ lean. ap₂ one_key ((bytes_eq-Decides k l).0 e) (h.1 lean.0) ∙ law x))) (λ _. next)
@@ -193,7 +202,9 @@ keys_are k l p q h first second =
     let keys = and_parts (bytes_eq k p) (bytes_eq l q) h in
     rw ((bytes_eq-Decides k p).0 keys.0, (bytes_eq-Decides l q).0 keys.1, first, second)
 
-two_keyed : (k l : Text) (d e : Data) → IfSome (field_of_value d) (SaysField d) → IfSome (members_of_value e) (λ ms. SaysMembers (IsLean e) e (array (members_value ms)) ms) → IfSome (type_of_value (two_keys k d l e)) (SaysType (two_keys k d l e))
+two_keyed : (k l : Text) (d e : Data) → IfSome (field_of_value d) (SaysField d)
+    → IfSome (members_of_value e) (λ ms. SaysMembers (IsLean e) e (array (members_value ms)) ms)
+    → IfSome (type_of_value (two_keys k d l e)) (SaysType (two_keys k d l e))
 two_keyed k l d e own all =
     let sized = λ (f : FieldTree). option_map (fixed_size_list_of f) (size_of_value e) in
     let united = λ (mode : UnionMode). option_and_then (union_of mode) (members_of_value e) in
@@ -212,25 +223,30 @@ two_keyed k l d e own all =
 mutual
   field_says : (d : Data) → IfSome (field_of_value d) (SaysField d)
   field_says (object ms) =
-      parts_say (SaysField (object ms)) (under as_str (codes "name") ms) (under as_bool (codes "nullable") ms) (type_in ms) (metadata_of_value (get_member (codes "metadata") ms))
-      (there as_str string text_says (get_member (codes "name") ms)) (there as_bool boolean bool_says (get_member (codes "nullable") ms)) (type_in_says ms) (metadata_says (get_member (codes "metadata") ms))
-      (λ n b t m at_name at_nullable at_type at_metadata. (at_type.0, λ lean. ap object (are_found field_keys ms field_keys_ordered lean.0 ∙ rw (at_name, at_nullable, at_type.1 lean.1) (at_metadata _ lean.2))))
+      let names = there as_str string text_says (get_member (codes "name") ms) in
+      let nullables = there as_bool boolean bool_says (get_member (codes "nullable") ms) in
+      let metadatas = metadata_says (get_member (codes "metadata") ms) in
+      parts_say (SaysField (object ms)) _ _ (type_in ms) _ names nullables (type_in_says ms) metadatas (λ n b t m name nullable type metadata. (type.0,
+      λ lean. ap object (are_found field_keys ms field_keys_ordered lean.0 ∙ rw (name, nullable, type.1 lean.1) (metadata _ lean.2))))
   field_says _ = tt
 
-  type_in_says : (ms : Members) → IfSome (type_in ms) (λ t. HasLineForm t × (HasLeanType ms → get_member (codes "type") ms ≡ Some (type_value t)))
+  type_in_says : (ms : Members) → IfSome (type_in ms) (SaysTypeIn ms)
   type_in_says no_members = tt
   type_in_says (member k d ms) =
       let at : (b : Bool) → bytes_eq (codes "type") k ≡ b → get_member (codes "type") (member k d ms) ≡ cond b (Some d) (get_member (codes "type") ms) =
       λ b e. get_member-at (codes "type") k d ms ∙ ap (λ b. cond b (Some d) (get_member (codes "type") ms)) e in
-      cond_both (bytes_eq (codes "type") k) (type_of_value d) (type_in ms) (λ o. IfSome o (λ t. HasLineForm t × (HasLeanType (member k d ms) → get_member (codes "type") (member k d ms) ≡ Some (type_value t))))
-      (λ e. IfSome_then (type_of_value d) (type_says d) (λ t h. (h.0, λ lean. at true e ∙ ap Some (h.1 (lean.0 (sym ((bytes_eq-Decides (codes "type") k).0 e)))))))
+      cond_both (bytes_eq (codes "type") k) (type_of_value d) (type_in ms) (λ o. IfSome o (SaysTypeIn (member k d ms)))
+      (λ e. let same = sym ((bytes_eq-Decides (codes "type") k).0 e) in
+      IfSome_then (type_of_value d) (type_says d) (λ t h. (h.0, λ lean. at true e ∙ ap Some (h.1 (lean.0 same)))))
       (λ e. IfSome_then (type_in ms) (type_in_says ms) (λ t h. (h.0, λ lean. at false e ∙ h.1 lean.1)))
 
   type_says : (d : Data) → IfSome (type_of_value d) (SaysType d)
   type_says (string word) =
-      mapped _ plain (plain_named word) (find_holds (λ p. bytes_eq word (plain_name p)) plain_types) (λ p e. (tt, λ lean. ap string ((bytes_eq-Decides word (plain_name p)).0 e)))
+      let says = find_holds (λ p. bytes_eq word (plain_name p)) plain_types in
+      mapped _ plain (plain_named word) says (λ p e. (tt, λ lean. ap string ((bytes_eq-Decides word (plain_name p)).0 e)))
   type_says (object (member k d no_members)) =
-      keyed k (codes "list") d list_of value_of_field (field_of_value d) _ (λ f. refl) (field_says d) (keyed k (codes "large_list") d large_list_of value_of_field (field_of_value d) _ (λ f. refl) (field_says d)
+      keyed k (codes "list") d list_of value_of_field (field_of_value d) _ (λ f. refl) (field_says d)
+      (keyed k (codes "large_list") d large_list_of value_of_field (field_of_value d) _ (λ f. refl) (field_says d)
       (keyed k (codes "struct") d struct (λ fs. array (fields_value fs)) (fields_of_value d) None (λ fs. refl) (fields_say d) tt))
   type_says (object (member k d (member l e no_members))) = two_keyed k l d e (field_says d) (members_say e)
   type_says _ = tt
@@ -253,8 +269,9 @@ mutual
   members_in_say no_items = ((tt, refl), λ lean. refl)
   members_in_say (item (array (item i (item d no_items))) ds) =
       chained _ (λ id. option_and_then (λ f. option_map (member_before id f) (members_in ds)) (field_of_value d)) (id_of_value i) (integer_says is_type_id i)
-      (λ id x. chained _ (λ f. option_map (member_before id f) (members_in ds)) (field_of_value d) (field_says d) (λ f y. mapped _ (member_before id f) (members_in ds) (members_in_say ds)
-      (λ ms z. (((y.0, z.0.0), and_from (is_type_id id) _ x.0 z.0.1), λ lean. ap₂ item (ap₂ (λ a b. array (item a (item b no_items))) (x.1 lean.0.0) (y.1 lean.0.1.0)) (z.1 lean.1)))))
+      (λ id x. chained _ (λ f. option_map (member_before id f) (members_in ds)) (field_of_value d) (field_says d)
+      (λ f y. mapped _ (member_before id f) (members_in ds) (members_in_say ds) (λ ms z. (((y.0, z.0.0), and_from (is_type_id id) _ x.0 z.0.1),
+      λ lean. ap₂ item (ap₂ (λ a b. array (item a (item b no_items))) (x.1 lean.0.0) (y.1 lean.0.1.0)) (z.1 lean.1)))))
   members_in_say (item _ ds) = tt
 
 pub lean_value_is : (f : FieldTree) (d : Data) → IsLean d → field_of_value d ≡ Some f → d ≡ value_of_field f
@@ -264,7 +281,8 @@ lean_value_is f d lean is = let says = subst (λ o. IfSome o (SaysField d)) is (
 
 pub line_form : (line : Text) (o : Option FieldTree) → o ≡ field_of_line line → IfSome o (λ f. HasLineForm f.tree)
 line_form line o is =
-    subst (λ x. IfSome x (λ f. HasLineForm f.tree)) (sym is) (chained _ field_of_value (cond (is_utf8 line) (read line) None) (anything _) (λ d _. IfSome_then (field_of_value d) (field_says d) (λ f h. h.0)))
+    subst (λ x. IfSome x (λ f. HasLineForm f.tree)) (sym is)
+    (chained _ field_of_value (cond (is_utf8 line) (read line) None) (anything _) (λ d _. IfSome_then (field_of_value d) (field_says d) (λ f h. h.0)))
 
 pub line_field : (line : Text) → IsUtf8 line → field_of_line line ≡ option_and_then field_of_value (read line)
 line_field line h = ap (λ b. option_and_then field_of_value (cond b (read line) None)) (is_utf8-from_IsUtf8 line h)

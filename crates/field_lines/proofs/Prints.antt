@@ -134,8 +134,8 @@ parts_read_back n d b (e ∷ es) texts type =
     ∙ ap (λ o. option_map object (option_and_then (λ t. Some (member (codes "metadata") (object (texts_value (e ∷ es))) (member (codes "name") (string n) (member (codes "nullable") (boolean b) (member (codes "type") t no_members))))) o)) type
 
 parts_tokens : (n : Text) (d : Data) (b : Bool) (m : Metadata)
-    → begin_object ∷ (metadata_tokens m ++ key (codes "name") ∷ string_token n ∷ key (codes "nullable") ∷ boolean_token b ∷ key (codes "type") ∷ (json_tokens (outline d) ++ end_object ∷ []))
-    ≡ json_tokens (outline (parts_value n d b m))
+    → begin_object ∷ (metadata_tokens m ++ key (codes "name") ∷ string_token n ∷ key (codes "nullable") ∷ boolean_token b ∷ key (codes "type")
+    ∷ (json_tokens (outline d) ++ end_object ∷ [])) ≡ json_tokens (outline (parts_value n d b m))
 parts_tokens n d b [] = refl
 parts_tokens n d b (e ∷ es) = refl
 

@@ -41,7 +41,8 @@ type_in-get : (ms : Members) → type_in ms ≡ under type_of_value (codes "type
 type_in-get no_members = refl
 type_in-get (member k d ms) =
     ap (cond (bytes_eq (codes "type") k) (type_of_value d)) (type_in-get ms)
-    ∙ sym (ap (option_and_then type_of_value) (get_member-at (codes "type") k d ms) ∙ chosen (option_and_then type_of_value) (bytes_eq (codes "type") k) (Some d) (get_member (codes "type") ms))
+    ∙ sym (ap (option_and_then type_of_value) (get_member-at (codes "type") k d ms)
+    ∙ chosen (option_and_then type_of_value) (bytes_eq (codes "type") k) (Some d) (get_member (codes "type") ms))
 
 -- what f says of what stands at the key q, after d is put at k
 put_at : {A : Type 0} (f : Option Data → A) (q k : Text) (d : Data) (found : Members) → f (get_member q (put k d found)) ≡ cond (bytes_eq q k) (f (Some d)) (f (get_member q found))
@@ -109,8 +110,8 @@ either_key u k l d e h =
     (λ same _. inl ((bytes_eq-Decides u k).0 same)) (λ _ is. inr (only_key u l e (h.0, is))) (sym (get_member-at u k d (member l e no_members)) ∙ h.1)
 
 -- members that are skipped, of which one has the key that was read
-skipped : (depth : ℕ) (found : Members) (k : Text) (s : List Token) {u r : List Token} → after (next_value depth s) ≡ Some u → ((more : Members) → after (next_members depth more u) ≡ Some r)
-    → (ms : Members) × (next_after depth found k s ≡ Some (ms, r)) × Has k ms
+skipped : (depth : ℕ) (found : Members) (k : Text) (s : List Token) {u r : List Token} → after (next_value depth s) ≡ Some u
+    → ((more : Members) → after (next_members depth more u) ≡ Some r) → (ms : Members) × (next_after depth found k s ≡ Some (ms, r)) × Has k ms
 skipped depth found k s {u} {r} passed rest =
     let d = after_some (next_value depth s) u passed in
     let ms = after_some (next_members depth (put k d.0 found) u) r (rest (put k d.0 found)) in
@@ -208,7 +209,8 @@ module _ {A B : Type 0} {f : Data → Option A} {g : Data → Option B} {k l : T
   next_is : {C : Type 0} {h : Data → C} {o : C} {r : List Token} (read : Reads h depth left o r) → next_after depth no_members first all ≡ next_members depth (put q read.0 (two k l before.at_first before.at_second)) r
   next_is {r = r} read = before.decides ∙ ap (λ n. pending depth (two k l before.at_first before.at_second) n left) came ∙ taken depth (two k l before.at_first before.at_second) q left r read.0 read.1
 
-  later : {C : Type 0} {h : Data → C} {o : C} {r s : List Token} {next : Option Text} → Reads h depth left o r → read_key r ≡ Some (next, s) → (length s ≤ length all) × (next ≡ None → length s < length all)
+  later : {C : Type 0} {h : Data → C} {o : C} {r s : List Token} {next : Option Text} → Reads h depth left o r → read_key r ≡ Some (next, s)
+      → (length s ≤ length all) × (next ≡ None → length s < length all)
   later {r = r} {s} {next} read e =
       let less = value_takes depth left r read.0 read.1 in
       let shorter = read_key-shorter r next s e in

@@ -45,7 +45,8 @@ texts_go_on {depth} {all} {left} {s} {r} {made} {new} {k} key text way named rea
     }
 
 pub texts_end : {depth : ℕ} {all left r : List Token} {made : Texts} → AreTextsUnderWay depth all left made → read_key left ≡ Some (None, r) → ReadsMembers texts_in depth no_members all (Some (texts_of made)) r
-texts_end {depth} {all} {left} {r} {made} way over = (texts_value (texts_of made), way.decides ∙ members_over depth (texts_value (texts_of made)) left r over, sym (texts_in-value (texts_of made)))
+texts_end {depth} {all} {left} {r} {made} way over =
+    (texts_value (texts_of made), way.decides ∙ members_over depth (texts_value (texts_of made)) left r over, sym (texts_in-value (texts_of made)))
 
 abbrev pub SlotEntries : Type 0
 SlotEntries = List (String Global × Option (String Global))
