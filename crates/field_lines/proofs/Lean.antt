@@ -21,6 +21,7 @@ use Rattle.field_lines.specs.FieldOfValue.{under, field_from, integer_of, kept, 
 use Rattle.field_lines.specs.Line.{texts_value, with_metadata, parts_value, one_key, two_keys, type_value, fields_value, members_value, value_of_field, field_of_line}
 use Rattle.field_lines.specs.LineForm.{HasLineForm, FieldsHaveLineForm, MembersHaveLineForm}
 use Rattle.field_lines.proofs.TokenMembers.{get_member-at}
+use Rattle.field_lines.proofs.TokenTexts.{text_says}
 use Rattle.field_lines.specs.Lean.{field_keys, HaveKeysOf, IsLean, AreLean, HasLeanType, IsLeanType}
 
 -- ---- the value of a field is lean
@@ -119,10 +120,6 @@ there : {A : Type 0} (f : Data → Option A) (g : A → Data) → ((d : Data) �
     → IfSome (option_and_then f o) (λ x. o ≡ Some (g x))
 there f g h None = tt
 there f g h (Some d) = IfSome_then (f d) (h d) (λ x is. ap Some is)
-
-text_says : (d : Data) → IfSome (as_str d) (λ s. d ≡ string s)
-text_says (string s) = refl
-text_says _ = tt
 
 bool_says : (d : Data) → IfSome (as_bool d) (λ b. d ≡ boolean b)
 bool_says (boolean b) = refl

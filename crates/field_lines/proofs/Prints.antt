@@ -13,7 +13,7 @@ use Rattle.std.specs.Fmt.{signed_decimal}
 use Rattle.json.specs.Token.{Token, key, number as number_token, string as string_token, boolean as boolean_token, begin_object, end_object, end_array}
 use Rattle.json.specs.Tree.{json_tokens, members_tokens}
 use Rattle.json.specs.Written.{Written, Writes}
-use Rattle.serde_json.specs.Data.{string, put, Data, boolean, number, object, Items, no_items, item, no_members, member}
+use Rattle.serde_json.specs.Data.{string, put, Data, number, object, Items, no_items, item, no_members, member}
 use Rattle.serde_json.specs.Find.{of_integer}
 use Rattle.serde_json.specs.Read.{of_json, of_members}
 use Rattle.serde_json.specs.Written.{outline, members_outline}
@@ -119,19 +119,13 @@ pub prints_two_keys : (k : Text) {d : Data} (l : Text) {e : Data} {w0 w1 w2 w3 w
     → Adds (begin_object ∷ []) w0 w1 → Adds (key k ∷ []) w1 w2 → Prints d w2 w3 → Adds (key l ∷ []) w3 w4 → Prints e w4 w5 → Adds (end_object ∷ []) w5 w6 → Prints (two_keys k d l e) w0 w6
 prints_two_keys k {d} l {e} order begin first one second two finish = record {
   adds = then begin (then first (then one.adds (then second (then two.adds finish))));
-  reads_back =
-      ap (λ o. option_map object (option_and_then (λ x. option_and_then (λ y. Some (put l y (member k x no_members))) (of_json (outline e))) o)) one.reads_back
-      ∙ ap (λ o. option_map object (option_and_then (λ y. Some (put l y (member k d no_members))) o)) two.reads_back
-      ∙ ap (λ ms. Some (object ms)) (order d e);
+  reads_back = rw (one.reads_back, two.reads_back) (ap (λ ms. Some (object ms)) (order d e));
 }
 
 parts_read_back : (n : Text) (d : Data) (b : Bool) (m : Metadata) → of_json (outline (object (texts_value m))) ≡ Some (object (texts_value m)) → of_json (outline d) ≡ Some d
     → of_json (outline (parts_value n d b m)) ≡ Some (parts_value n d b m)
-parts_read_back n d b [] texts type =
-    ap (λ o. option_map object (option_and_then (λ t. Some (member (codes "name") (string n) (member (codes "nullable") (boolean b) (member (codes "type") t no_members)))) o)) type
-parts_read_back n d b (e ∷ es) texts type =
-    ap (λ o. option_map object (option_and_then (λ v. option_and_then (λ t. Some (put (codes "type") t (put (codes "nullable") (boolean b) (put (codes "name") (string n) (put (codes "metadata") v no_members))))) (of_json (outline d))) o)) texts
-    ∙ ap (λ o. option_map object (option_and_then (λ t. Some (member (codes "metadata") (object (texts_value (e ∷ es))) (member (codes "name") (string n) (member (codes "nullable") (boolean b) (member (codes "type") t no_members))))) o)) type
+parts_read_back n d b [] texts type = rw type
+parts_read_back n d b (e ∷ es) texts type = rw (texts, type)
 
 parts_tokens : (n : Text) (d : Data) (b : Bool) (m : Metadata)
     → begin_object ∷ (metadata_tokens m ++ key (codes "name") ∷ string_token n ∷ key (codes "nullable") ∷ boolean_token b ∷ key (codes "type")

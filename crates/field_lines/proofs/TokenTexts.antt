@@ -1,5 +1,5 @@
 -- An object of texts from tokens: the texts so far are the members so far, until a member is no text; then slots, in which the newest value of a key stands.
-use Rattle.std.proofs.Common.{◌≡◌, ◌≤◌, ℕ, List, [], ◌∷◌, ◌++◌, length, map, nat_cmp, Option, Some, None, option_map, option_and_then, String, Global, string_bytes, string_cmp, refl, sym, ap, ◌∙◌, subst, arith, append_assoc, append-nil}
+use Rattle.std.proofs.Common.{◌≡◌, ◌≤◌, ℕ, List, [], ◌∷◌, ◌++◌, length, map, nat_cmp, IfSome, Option, Some, None, option_map, option_and_then, String, Global, string_bytes, string_cmp, refl, sym, ap, ◌∙◌, subst, arith, append_assoc, append-nil}
 use Rattle.std.proofs.lemmas.Iterator.Adapters.{option_map_id}
 use Rattle.std.proofs.lemmas.List.{map-append}
 use Rattle.std.specs.Cmp.Lexicographic.{slice_cmp}
@@ -22,9 +22,9 @@ use Rattle.field_lines.proofs.Prints.{Texts, insert_last, ordered, texts_put}
 use Rattle.value_tokens.specs.Next.{next_members, Reads, ReadsMembers}
 use Rattle.value_tokens.specs.Turns.{member_read, members_over, value_takes}
 
-pub text_is : (d : Data) (t : Text) → Some t ≡ as_str d → d ≡ string t
-text_is (string s) t e = let same : t ≡ s = cc in ap string (sym same)
-text_is _ t e = cc
+pub text_says : (d : Data) → IfSome (as_str d) (λ s. d ≡ string s)
+text_says (string s) = refl
+text_says _ = tt
 
 pub record AreTextsUnderWay (depth : _) (all left : List Token) (made : Texts) : Type 0 where
   pub decides : next_members depth no_members all ≡ next_members depth (texts_value (texts_of made)) left
@@ -37,8 +37,7 @@ texts_go_on {depth} {all} {left} {s} {r} {made} {new} {k} key text way named rea
     let less = value_takes depth s r d read.1 in
     let first = read_key-shorter left (Some k) s named in
     let put_in : texts_value (texts_of new) ≡ put k d (texts_value (texts_of made)) =
-    ap (λ es. texts_value (texts_of es)) is ∙ texts_put made key text ∙ ap (λ l. put l (string (string_bytes text)) (texts_value (texts_of made))) copied
-    ∙ ap (λ e. put k e (texts_value (texts_of made))) (sym (text_is d (string_bytes text) read.2)) in
+    rw (is, texts_put made key text, copied, subst (λ o. IfSome o (λ s. d ≡ string s)) (sym read.2) (text_says d)) in
     record {
       decides = way.decides ∙ member_read depth (texts_value (texts_of made)) k left s r d named read.1 ∙ ap (λ ms. next_members depth ms r) (sym put_in);
       fewer = omega (arith, way.fewer);
@@ -65,8 +64,7 @@ slots_insert (e ∷ es) k t = ordered slots_of (string_cmp k e.0) _ _ _ ∙ rw (
 slot_put : (found : Members) (made new : SlotEntries) (k : Text) (d : Data) (key : String Global) (t : Option (String Global)) → slots_in found ≡ slots_of made → string_bytes key ≡ k → option_map string_bytes t ≡ as_str d
     → new ≡ insert_entry string_cmp made key t → slots_in (put k d found) ≡ slots_of new
 slot_put found made new k d key t same copied text is =
-    slots_put k d found ∙ ap (λ l. insert_entry (slice_cmp nat_cmp) l k (as_str d)) same ∙ ap (λ n. insert_entry (slice_cmp nat_cmp) (slots_of made) n (as_str d)) (sym copied)
-    ∙ ap (insert_entry (slice_cmp nat_cmp) (slots_of made) (string_bytes key)) (sym text) ∙ sym (ap slots_of is ∙ slots_insert made key t)
+    slots_put k d found ∙ rw (same, ← copied, ← text, is) (sym (slots_insert made key t))
 
 texts_by_slots : (ms : Members) → texts_in ms ≡ texts_kept (slots_in ms)
 texts_by_slots no_members = refl
