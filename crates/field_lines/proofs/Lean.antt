@@ -1,5 +1,5 @@
 -- The value of a field is lean; a value that stands for a field is that field's value, if it is lean; and a line can say the field.
-use Rattle.std.proofs.Common.{◌≡◌, ℤ, pos, negsuc, List, [], ◌∷◌, Bool, true, false, cond, Option, Some, None, IfSome, IsTrue, IsUtf8, option_map, option_and_then, inl, inr, codes, bytes_eq, Less, Greater, nat_cmp, refl, sym, ap, ap₂, subst, ◌∙◌}
+use Rattle.std.proofs.Common.{◌≡◌, ℤ, pos, negsuc, List, [], ◌∷◌, Bool, true, cond, Option, Some, None, IfSome, IsTrue, IsUtf8, option_map, option_and_then, inl, inr, codes, bytes_eq, Less, Greater, nat_cmp, refl, sym, ap, ap₂, subst, ◌∙◌}
 use Rattle.std.proofs.lemmas.Cmp.{nat_list_cmp_total, tied_itself}
 use Rattle.std.proofs.lemmas.Bool.{and_from, and_parts, cond_both, false_from_ne_true}
 use Rattle.std.proofs.lemmas.Option.{IfSome_then}
@@ -7,7 +7,6 @@ use Rattle.std.proofs.lemmas.Slice.Eq.{bytes_eq-Decides}
 use Rattle.std.proofs.lemmas.Str.{IsUtf8-from_is_utf8, is_utf8-from_IsUtf8}
 use Rattle.std.specs.Cmp.Lexicographic.{slice_cmp}
 use Rattle.std.specs.List.{find, list_all}
-use Rattle.std.specs.Ordering.{match_ordering}
 use Rattle.std.specs.Str.{is_utf8}
 use Rattle.serde_json.specs.Data.{Data, boolean, number, string, array, object, unsigned, negative, Items, no_items, item, Members, no_members, member}
 use Rattle.serde_json.specs.Find.{of_integer, get_member, as_str, as_bool}
@@ -76,26 +75,21 @@ AreOrdered (k ∷ ks) = IsBefore k ks × AreOrdered ks
 not_found : (q : Text) (ks : List Text) (ms : Members) → IsBefore q ks → HaveKeysOf ks ms → get_member q ms ≡ None
 not_found q ks no_members h keys = refl
 not_found q [] (member k d ms) h keys = absurd keys
-not_found q (l ∷ ks) (member k d ms) h (inl keys) =
-    ap (λ r. match_ordering r (get_member q ms) (Some d) (get_member q ms)) (ap (slice_cmp nat_cmp q) keys.0 ∙ h.0) ∙ not_found q ks ms h.2 keys.1
+not_found q (l ∷ ks) (member k d ms) h (inl keys) = rw (keys.0, h.0) (not_found q ks ms h.2 keys.1)
 not_found q (l ∷ ks) (member k d ms) h (inr keys) = not_found q ks (member k d ms) h.2 keys
 
 -- a member before the keys is not found under them
 passed : (q : Text) (ks : List Text) (d : Data) (ms : Members) → IsBefore q ks → found ks (member q d ms) ≡ found ks ms
 passed q [] d ms h = refl
-passed q (k ∷ ks) d ms h =
-    ap (λ r. at_key k (match_ordering r (get_member k ms) (Some d) (get_member k ms)) (found ks (member q d ms))) h.1 ∙ ap (at_key k (get_member k ms)) (passed q ks d ms h.2)
+passed q (k ∷ ks) d ms h = rw (h.1, passed q ks d ms h.2)
 
 are_found : (ks : List Text) (ms : Members) → AreOrdered ks → HaveKeysOf ks ms → ms ≡ found ks ms
 are_found [] no_members order keys = refl
 are_found [] (member k d ms) order keys = absurd keys
 are_found (q ∷ ks) no_members order keys = are_found ks no_members order.1 tt
 are_found (q ∷ ks) (member k d ms) order (inl keys) =
-    subst (λ x. member x d ms ≡ found (q ∷ ks) (member x d ms)) (sym keys.0)
-    (ap (member q d) (are_found ks ms order.1 keys.1 ∙ sym (passed q ks d ms order.0))
-    ∙ ap (λ r. at_key q (match_ordering r (get_member q ms) (Some d) (get_member q ms)) (found ks (member q d ms))) (sym (tied_itself nat_list_cmp_total q)))
-are_found (q ∷ ks) (member k d ms) order (inr keys) =
-    are_found ks (member k d ms) order.1 keys ∙ ap (λ o. at_key q o (found ks (member k d ms))) (sym (not_found q ks (member k d ms) order.0 keys))
+    rw (keys.0, tied_itself nat_list_cmp_total q, passed q ks d ms order.0) (ap (member q d) (are_found ks ms order.1 keys.1))
+are_found (q ∷ ks) (member k d ms) order (inr keys) = rw (not_found q ks (member k d ms) order.0 keys) (are_found ks (member k d ms) order.1 keys)
 
 field_keys_ordered : AreOrdered field_keys
 field_keys_ordered = ((refl, refl, (refl, refl, (refl, refl, tt))), ((refl, refl, (refl, refl, tt)), ((refl, refl, tt), (tt, tt))))
@@ -230,12 +224,10 @@ mutual
   type_in_says : (ms : Members) → IfSome (type_in ms) (SaysTypeIn ms)
   type_in_says no_members = tt
   type_in_says (member k d ms) =
-      let at : (b : Bool) → bytes_eq (codes "type") k ≡ b → get_member (codes "type") (member k d ms) ≡ cond b (Some d) (get_member (codes "type") ms) =
-      λ b e. get_member-at (codes "type") k d ms ∙ ap (λ b. cond b (Some d) (get_member (codes "type") ms)) e in
       cond_both (bytes_eq (codes "type") k) (type_of_value d) (type_in ms) (λ o. IfSome o (SaysTypeIn (member k d ms)))
       (λ e. let same = sym ((bytes_eq-Decides (codes "type") k).0 e) in
-      IfSome_then (type_of_value d) (type_says d) (λ t h. (h.0, λ lean. at true e ∙ ap Some (h.1 (lean.0 same)))))
-      (λ e. IfSome_then (type_in ms) (type_in_says ms) (λ t h. (h.0, λ lean. at false e ∙ h.1 lean.1)))
+      IfSome_then (type_of_value d) (type_says d) (λ t h. (h.0, λ lean. rw (get_member-at (codes "type") k d ms, e) (ap Some (h.1 (lean.0 same))))))
+      (λ e. IfSome_then (type_in ms) (type_in_says ms) (λ t h. (h.0, λ lean. rw (get_member-at (codes "type") k d ms, e) (h.1 lean.1))))
 
   type_says : (d : Data) → IfSome (type_of_value d) (SaysType d)
   type_says (string word) =

@@ -88,9 +88,7 @@ read_texts : (done left : Texts) → IsStrictlySortedBy string_cmp (keys_of (don
 read_texts done [] h = ap (λ l. Some (texts_value (texts_of l))) (sym (append-nil done))
 read_texts done (e ∷ left) h =
     let all : done ++ (e ∷ left) ≡ (done ++ e ∷ []) ++ left = sym (append_assoc done (e ∷ []) left) in
-    ap (of_members (members_outline (texts_value (texts_of left)))) (put_last done e.0 e.1 left h)
-    ∙ read_texts (done ++ e ∷ []) left (subst (λ l. IsStrictlySortedBy string_cmp (keys_of l)) all h)
-    ∙ ap (λ l. Some (texts_value (texts_of l))) (sym all)
+    rw (put_last done e.0 e.1 left h, all) (read_texts (done ++ e ∷ []) left (subst (λ l. IsStrictlySortedBy string_cmp (keys_of l)) all h))
 
 pub texts_read_back : (texts : Texts) → IsStrictlySortedBy string_cmp (keys_of texts) → of_json (outline (object (texts_value (texts_of texts)))) ≡ Some (object (texts_value (texts_of texts)))
 texts_read_back texts h = ap (option_map object) (read_texts [] texts h)

@@ -1,5 +1,5 @@
 -- The members of an object from tokens: those of a field, of which the last value at each key counts, and those of a type, with one key or two and no others.
-use Rattle.std.proofs.Common.{◌≡◌, ℕ, ◌≤◌, List, [], length, Bool, true, false, cond, bytes_eq, nat_cmp, Ordering, Equal, Option, Some, None, option_and_then, codes, refl, sym, ap, ◌∙◌, arith, ◌<◌, Less, Greater, option_map, not, ◌⊎◌, inl, inr, ⊎_elim, subst}
+use Rattle.std.proofs.Common.{◌≡◌, ℕ, ◌≤◌, List, length, Bool, true, false, cond, bytes_eq, nat_cmp, Ordering, Equal, Option, Some, None, option_and_then, codes, refl, sym, ap, ◌∙◌, arith, ◌<◌, Less, Greater, option_map, not, ◌⊎◌, inl, inr, ⊎_elim, subst}
 use Rattle.std.proofs.lemmas.Bool.{cond-false, cond_both, false_from_ne_true, and_left, and_right, both_ways, not-true, not-false}
 use Rattle.std.proofs.lemmas.Map.Text.{is_eq-slice_cmp}
 use Rattle.std.specs.Cmp.Lexicographic.{slice_cmp}
@@ -95,9 +95,6 @@ no_type _ e f = refl
 pub part_other : {A : Type 0} {q k : Text} (here : Option A) {old : Option A} → (k ≡ q → ⊥) → Part q k old here old
 part_other {q = q} {k} here {old} other = sym (cond-false (bytes_eq q k) here old (apart q k (λ e. other (sym e))))
 
-pub parts_start : (depth : _) (all : List Token) (metadata : Option Metadata) → metadata ≡ Some [] → ArePartsUnderWay depth all all None None None metadata
-parts_start depth all metadata empty = record { found = no_members; decides = refl; at_name = refl; at_nullable = refl; at_type = refl; at_metadata = empty; fewer = omega arith }
-
 -- ---- the keys of a type
 
 -- what stands at a key of one member is at that member's key, and of two members one has the key
@@ -146,7 +143,7 @@ module _ {A : Type 0} {f : Data → Option A} {depth : ℕ} {only : Text} {all l
       record {
         value = read.0;
         decides = way.decides ∙ member_read depth (member only way.value no_members) k left s r read.0 named read.1
-            ∙ ap (λ n. next_members depth (put n read.0 (member only way.value no_members)) r) is ∙ ap (λ ms. next_members depth ms r) (put_only only read.0 way.value);
+            ∙ rw (is, put_only only read.0 way.value);
         answers = read.2;
         fewer = omega (arith, way.fewer);
       }

@@ -76,9 +76,6 @@ pub record AreSlotsUnderWay (depth : _) (all left : List Token) (start made : Sl
   pub goes_on : (found : Members) → slots_in found ≡ slots_of start → (more : Members) × (next_members depth found all ≡ next_members depth more left) × (slots_in more ≡ slots_of made)
   pub fewer : length left ≤ length all
 
-pub slots_start : (depth : _) (all : List Token) (start : SlotEntries) → AreSlotsUnderWay depth all all start start
-slots_start depth all start = record { goes_on = λ found same. (found, refl, same); fewer = omega arith }
-
 module _ {depth : ℕ} {all left : List Token} {start made : SlotEntries} (way : AreSlotsUnderWay depth all left start made) where
   pub slots_go_on : {s r : List Token} {new : SlotEntries} {k : Text} (key : String Global) (t : Option (String Global)) → read_key left ≡ Some (Some k, s) → Reads as_str depth s (option_map string_bytes t) r
       → string_bytes key ≡ k → new ≡ insert_entry string_cmp made key t → AreSlotsUnderWay depth all r start new
