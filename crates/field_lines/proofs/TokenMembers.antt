@@ -40,9 +40,8 @@ chosen f false x y = refl
 type_in-get : (ms : Members) → type_in ms ≡ under type_of_value (codes "type") ms
 type_in-get no_members = refl
 type_in-get (member k d ms) =
-    ap (cond (bytes_eq (codes "type") k) (type_of_value d)) (type_in-get ms)
-    ∙ sym (ap (option_and_then type_of_value) (get_member-at (codes "type") k d ms)
-    ∙ chosen (option_and_then type_of_value) (bytes_eq (codes "type") k) (Some d) (get_member (codes "type") ms))
+    let q = codes "type" in
+    rw (get_member-at q k d ms, type_in-get ms) (sym (chosen (option_and_then type_of_value) (bytes_eq q k) (Some d) (get_member q ms)))
 
 -- what f says of what stands at the key q, after d is put at k
 put_at : {A : Type 0} (f : Option Data → A) (q k : Text) (d : Data) (found : Members) → f (get_member q (put k d found)) ≡ cond (bytes_eq q k) (f (Some d)) (f (get_member q found))
@@ -245,16 +244,17 @@ module _ {A B : Type 0} {f : Data → Option A} {g : Data → Option B} {k l : T
   }
 
 -- one of two keys is neither of two others
-is_no_pair : (q k l m n : Text) → bytes_eq q m ≡ false → bytes_eq q n ≡ false → (q ≡ k) ⊎ (q ≡ l) → are_keys k l m n ≡ false
-is_no_pair q k l m n e f (inl is) = and_left (bytes_eq k m) (bytes_eq l n) (rw (← is) e)
-is_no_pair q k l m n e f (inr is) = and_right (bytes_eq k m) (bytes_eq l n) (rw (← is) f)
+is_no_pair : (q k l m n : Text) → (bytes_eq q m ≡ false) × (bytes_eq q n ≡ false) → (q ≡ k) ⊎ (q ≡ l) → are_keys k l m n ≡ false
+is_no_pair q k l m n none (inl is) = and_left (bytes_eq k m) (bytes_eq l n) (rw (← is) none.0)
+is_no_pair q k l m n none (inr is) = and_right (bytes_eq k m) (bytes_eq l n) (rw (← is) none.1)
 
 pub no_fixed_size_list : (u : Text) (ms : Members) → (u ≡ codes "fixed_size_list" → ⊥) → (u ≡ codes "size" → ⊥) → Has u ms → None ≡ fixed_size_list_at ms
-no_fixed_size_list u (member k d (member l e no_members)) a b h = rw (is_no_pair u k l (codes "fixed_size_list") (codes "size") (apart u _ a) (apart u _ b) (either_key u k l d e h))
+no_fixed_size_list u (member k d (member l e no_members)) a b h =
+    rw (is_no_pair u k l (codes "fixed_size_list") (codes "size") (apart u _ a, apart u _ b) (either_key u k l d e h))
 no_fixed_size_list u _ a b h = refl
 
 pub no_union : (u : Text) (ms : Members) → (u ≡ codes "mode" → ⊥) → (u ≡ codes "union" → ⊥) → Has u ms → None ≡ union_at ms
-no_union u (member k d (member l e no_members)) a b h = rw (is_no_pair u k l (codes "mode") (codes "union") (apart u _ a) (apart u _ b) (either_key u k l d e h))
+no_union u (member k d (member l e no_members)) a b h = rw (is_no_pair u k l (codes "mode") (codes "union") (apart u _ a, apart u _ b) (either_key u k l d e h))
 no_union u _ a b h = refl
 
 -- ---- the key that comes first says which type it is
@@ -277,7 +277,7 @@ nothing_at_one q k d none h = rw (← only_key q k d h, none.0, none.1, none.2)
 nothing_at_two : (q k l : Text) (d e : Data) → IsNoSize q → IsNoMode q → Has q (member k d (member l e no_members)) → None ≡ type_of_value (object (member k d (member l e no_members)))
 nothing_at_two q k l d e size mode h =
     let one = either_key q k l d e h in
-    rw (is_no_pair q k l (codes "fixed_size_list") (codes "size") size.0 size.1 one, is_no_pair q k l (codes "mode") (codes "union") mode.0 mode.1 one)
+    rw (is_no_pair q k l (codes "fixed_size_list") (codes "size") size one, is_no_pair q k l (codes "mode") (codes "union") mode one)
 
 as_one : {A : Type 0} (f : Data → Option A) (w : A → Tree) (q : Text) → IsNoSize q → IsNoMode q → ((d : Data) → option_map w (only_at f q (member q d no_members)) ≡ type_of_value (object (member q d no_members)))
     → (ms : Members) → Has q ms → option_map w (only_at f q ms) ≡ type_of_value (object ms)
@@ -289,15 +289,13 @@ as_one f w q size mode own _ h = refl
 pub as_fixed_size_list : (q : Text) (ms : Members) → (q ≡ codes "fixed_size_list") ⊎ (q ≡ codes "size") → Has q ms → fixed_size_list_at ms ≡ type_of_value (object ms)
 as_fixed_size_list q (member k d no_members) one h = nothing_at_one q k d (either_is IsNoOne one (refl, refl, refl) (refl, refl, refl)) h
 as_fixed_size_list q (member k d (member l e no_members)) one h =
-    let other = either_is IsNoMode one (refl, refl) (refl, refl) in
-    rw (is_no_pair q k l (codes "mode") (codes "union") other.0 other.1 (either_key q k l d e h))
+    rw (is_no_pair q k l (codes "mode") (codes "union") (either_is IsNoMode one (refl, refl) (refl, refl)) (either_key q k l d e h))
 as_fixed_size_list q _ one h = refl
 
 pub as_union : (q : Text) (ms : Members) → (q ≡ codes "mode") ⊎ (q ≡ codes "union") → Has q ms → union_at ms ≡ type_of_value (object ms)
 as_union q (member k d no_members) one h = nothing_at_one q k d (either_is IsNoOne one (refl, refl, refl) (refl, refl, refl)) h
 as_union q (member k d (member l e no_members)) one h =
-    let other = either_is IsNoSize one (refl, refl) (refl, refl) in
-    rw (is_no_pair q k l (codes "fixed_size_list") (codes "size") other.0 other.1 (either_key q k l d e h))
+    rw (is_no_pair q k l (codes "fixed_size_list") (codes "size") (either_is IsNoSize one (refl, refl) (refl, refl)) (either_key q k l d e h))
 as_union q _ one h = refl
 
 as_nothing : (q : Text) (ms : Members) → IsNoOne q → IsNoSize q → IsNoMode q → Has q ms → None ≡ type_of_value (object ms)

@@ -1,11 +1,10 @@
-use Rattle.std.proofs.Common.{◌≡◌, ℤ, List, codes, refl, subst, w8, w32, w64, arith, rules}
-use Rattle.std.proofs.lemmas.Result.{on_ok_weaker}
+use Rattle.std.proofs.Common.{◌≡◌, ℤ, List, codes, refl, w8, w32, w64, arith, rules}
 use Rattle.arrow_values.specs.Tree.{FieldTree, depth, fields_depth, members_depth}
 use Rattle.arrow_values.specs.View.{tree, field_trees, member_trees}
 use Rattle.serde_json.specs.Data.{Data, string, number, array, Items, no_items, item}
 use Rattle.serde_json.specs.Find.{of_integer}
 use mir.Val.{to_z, of_z}
-use Rattle.value_tokens.specs.Adds.{Prints, sent, prints_array, prints_item, prints_end}
+use Rattle.value_tokens.specs.Adds.{sent, prints_array, prints_item, prints_end}
 use Rattle.field_lines.specs.Line.{value_of_field, type_value, fields_value, members_value}
 use Rattle.field_lines.proofs.Prints.{falls, rest_go_on, rest_end, finished, prints_one_key, prints_two_keys, prints_parts, prints_text}
 use Rattle.field_lines.proofs.printer.+print.Goals as goal
@@ -23,7 +22,7 @@ print_field-returns t c =
 pub print_type-returns-in_default : goal.print_type-returns-in_default
 print_type-returns-in_default t c =
     let same : string c.plain_name.result.now ≡ type_value (tree c.args.data_type.now) = search rules in
-    on_ok_weaker c.print_text.result (λ p. subst (λ d. Prints d c.args.out.now c.print_text.new.out) same p) c.print_text.ensures
+    rw same at c.print_text.ensures
 
 pub print_list-returns : goal.print_list-returns
 print_list-returns t c =

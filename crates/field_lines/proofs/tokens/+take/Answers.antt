@@ -337,17 +337,16 @@ take_two-returns-in_err-skip_value-clause-text t c refused =
     let two = item_taken c.args.depth c.take_id.new.reader c.in_ok-field.ensures.ok (grind arith) in
     one.1 ∙ ap (parse_map (item one.0)) (two.1 ∙ ap (parse_map (item two.0)) (item_not_taken c.args.depth c.take_field.new.reader (c.skip_value.ensures.text (grind arith)) (grind arith)))
 
-pub take_type-returns-else-depth-eq0-clause-ok : goal.take_type-returns-else-depth-eq0-clause-ok
-take_type-returns-else-depth-eq0-clause-ok t c =
-    let first : c.args.reader.now ≡ token_of c.in_ok-token.token ∷ c.next.new.self = grind arith in
-    let opened = ap (next_value c.args.depth) (first ∙ ap (λ k. token_of k ∷ c.next.new.self) c.in-BeginObject.is) ∙ value-object c.args.depth c.next.new.self (omega arith) in
-    IfOk-weaker _ _ _ (λ o read. object_read type_of_value c.args.depth (c.args.depth - 1) c.args.reader.now c.next.new.self c.take_keys.new.reader (option_map tree o) opened read) c.take_keys.ensures.ok
-
-pub take_type-returns-else-depth-eq0-clause-text : goal.take_type-returns-else-depth-eq0-clause-text
-take_type-returns-else-depth-eq0-clause-text t c refused =
-    let first : c.args.reader.now ≡ token_of c.in_ok-token.token ∷ c.next.new.self = grind arith in
-    let opened = ap (next_value c.args.depth) (first ∙ ap (λ k. token_of k ∷ c.next.new.self) c.in-BeginObject.is) ∙ value-object c.args.depth c.next.new.self (omega arith) in
-    object_refused c.args.depth (c.args.depth - 1) c.args.reader.now c.next.new.self opened (c.take_keys.ensures.text refused)
+pub take_type-returns-else-depth-eq0 : goal.take_type-returns-else-depth-eq0
+take_type-returns-else-depth-eq0 t c =
+    let rest = c.next.new.self in
+    let first : c.args.reader.now ≡ token_of c.in_ok-token.token ∷ rest = grind arith in
+    let opened = ap (next_value c.args.depth) (first ∙ ap (λ k. token_of k ∷ rest) c.in-BeginObject.is) ∙ value-object c.args.depth rest (omega arith) in
+    record {
+      ok = IfOk-weaker _ _ _ (λ o. object_read type_of_value _ (c.args.depth - 1) _ rest c.take_keys.new.reader (option_map tree o) opened) c.take_keys.ensures.ok;
+      shorter = search rules;
+      text = λ refused. object_refused c.args.depth (c.args.depth - 1) c.args.reader.now rest opened (c.take_keys.ensures.text refused);
+    }
 
 pub take_type-returns-in-String-clause-ok : goal.take_type-returns-in-String-clause-ok
 take_type-returns-in-String-clause-ok t c =
