@@ -343,7 +343,7 @@ take_type-returns-else-depth-eq0 t c =
     let first : c.args.reader.now ≡ token_of c.in_ok-token.token ∷ rest = grind arith in
     let opened = ap (next_value c.args.depth) (first ∙ ap (λ k. token_of k ∷ rest) c.in-BeginObject.is) ∙ value-object c.args.depth rest (omega arith) in
     record {
-      ok = IfOk-weaker _ _ _ (λ o. object_read type_of_value _ (c.args.depth - 1) _ rest c.take_keys.new.reader (option_map tree o) opened) c.take_keys.ensures.ok;
+      ok = IfOk-weaker _ _ _ (λ o. object_read type_of_value _ (c.args.depth - 1) _ rest c.take_keys.new.reader _ opened) c.take_keys.ensures.ok;
       shorter = search rules;
       text = λ refused. object_refused c.args.depth (c.args.depth - 1) c.args.reader.now rest opened (c.take_keys.ensures.text refused);
     }
