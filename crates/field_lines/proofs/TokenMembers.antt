@@ -205,10 +205,10 @@ module _ {A B : Type 0} {f : Data → Option A} {g : Data → Option B} {k l : T
   next_is : {C : Type 0} {h : Data → C} {o : C} {r : List Token} (read : Reads h depth left o r) → next_after depth no_members first all ≡ next_members depth (put q read.0 (two k l before.at_first before.at_second)) r
   next_is {r = r} read = before.decides ∙ ap (λ n. pending depth (two k l before.at_first before.at_second) n left) came ∙ taken depth (two k l before.at_first before.at_second) q left r read.0 read.1
 
-  two_read : {C : Type 0} {h : Data → C} {o : C} {r s : List Token} {next : Option Text} {new_x : _} {new_y : _} (a b : _) (read : Reads h depth left o r)
-      → read_key r ≡ Some (next, s) → put q read.0 (two k l before.at_first before.at_second) ≡ two k l a b → (new_x ≡ option_and_then f a) × (new_y ≡ option_and_then g b)
-      → AreTwoUnderWay f g k l depth first all s next new_x new_y
-  two_read {r = r} {s} {next} a b read e same answers =
+  took : {C : Type 0} {h : Data → C} {o : C} {r s : List Token} {next : Option Text} {new_x : _} {new_y : _} (a b : _) (read : Reads h depth left o r)
+      → read_key r ≡ Some (next, s) → put q read.0 (two k l before.at_first before.at_second) ≡ two k l a b
+      → (new_x ≡ option_and_then f a) × (new_y ≡ option_and_then g b) → AreTwoUnderWay f g k l depth first all s next new_x new_y
+  took {r = r} {s} {next} a b read e same answers =
       let less = value_takes depth left r read.0 read.1 in
       let shorter = read_key-shorter r next s e in
       record {
@@ -233,10 +233,10 @@ module _ {A B : Type 0} {f : Data → Option A} {g : Data → Option B} {k l : T
 module _ {A B : Type 0} {f : Data → Option A} {g : Data → Option B} {k l : Text} {depth : ℕ} {first : Text} {all left : List Token} {now : Option Text} {x : Option A} {y : Option B}
     (ordered : AreOrdered k l) (way : AreTwoUnderWay f g k l depth first all left now x y) {r s : List Token} {next : Option Text} where
   pub first_read : {new : Option A} → now ≡ Some k → Reads f depth left new r → read_key r ≡ Some (next, s) → AreTwoUnderWay f g k l depth first all s next new y
-  first_read came read e = two_read way came (Some read.0) way.at_second read e (put_first k l read.0 way.at_first way.at_second ordered) (read.2, way.answers.1)
+  first_read came read e = took way came (Some read.0) way.at_second read e (put_first k l read.0 way.at_first way.at_second ordered) (read.2, way.answers.1)
 
   pub second_read : {new : Option B} → now ≡ Some l → Reads g depth left new r → read_key r ≡ Some (next, s) → AreTwoUnderWay f g k l depth first all s next x new
-  second_read came read e = two_read way came way.at_first (Some read.0) read e (put_second k l read.0 way.at_first way.at_second ordered) (way.answers.0, read.2)
+  second_read came read e = took way came way.at_first (Some read.0) read e (put_second k l read.0 way.at_first way.at_second ordered) (way.answers.0, read.2)
 
 -- one of two keys is neither of two others
 is_no_pair : (q k l m n : Text) → (bytes_eq q m ≡ false) × (bytes_eq q n ≡ false) → (q ≡ k) ⊎ (q ≡ l) → are_keys k l m n ≡ false

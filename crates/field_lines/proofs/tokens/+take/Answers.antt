@@ -8,7 +8,7 @@ use Rattle.json.specs.Reads.{token_of}
 use Rattle.serde_json.specs.Data.{string, no_items, item, no_members}
 use Rattle.arrow_values.specs.Tree.{struct}
 use Rattle.arrow_values.specs.Union.{is_type_id}
-use Rattle.arrow_values.specs.View.{tree, texts_of, field_trees, member_trees}
+use Rattle.arrow_values.specs.View.{texts_of, field_trees, member_trees}
 use Rattle.field_lines.specs.FieldOfValue.{field_of_value, type_of_value, list_of, large_list_of}
 use Rattle.field_lines.specs.Keys.{pair_read}
 use Rattle.field_lines.specs.Steps.{AreMemberParts}
