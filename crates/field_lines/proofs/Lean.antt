@@ -1,28 +1,27 @@
--- The value of a field is lean, and a lean value that stands for a field is the value of that field.
-use Rattle.std.proofs.Common.{◌≡◌, ℤ, pos, negsuc, List, [], ◌∷◌, Bool, true, cond, Option, Some, None, option_map, option_and_then, inl, inr, codes, bytes_eq, Ordering, Less, Equal, Greater, nat_cmp, refl, sym, ap, subst, ◌∙◌}
+-- The value of a field is lean; a value that stands for a field is that field's value, if it is lean; and a line can say the field.
+use Rattle.std.proofs.Common.{◌≡◌, ℤ, pos, negsuc, List, [], ◌∷◌, Bool, true, cond, Option, Some, None, IfSome, IsTrue, IsUtf8, option_map, option_and_then, inl, inr, codes, bytes_eq, Less, Greater, nat_cmp, refl, sym, ap, ap₂, subst, ◌∙◌}
 use Rattle.std.proofs.lemmas.Cmp.{nat_list_cmp_total, tied_itself}
-use Rattle.std.proofs.lemmas.Map.Text.{is_eq-slice_cmp}
-use Rattle.std.proofs.lemmas.Bool.{and_parts, cond_both}
-use Rattle.std.proofs.lemmas.Option.{cond_some, option_and_then_some}
+use Rattle.std.proofs.lemmas.Bool.{and_from, and_parts, cond_both, false_from_ne_true}
+use Rattle.std.proofs.lemmas.Option.{IfSome_then}
 use Rattle.std.proofs.lemmas.Slice.Eq.{bytes_eq-Decides}
+use Rattle.std.proofs.lemmas.Str.{IsUtf8-from_is_utf8, is_utf8-from_IsUtf8}
 use Rattle.std.specs.Cmp.Lexicographic.{slice_cmp}
-use Rattle.std.specs.List.{find}
-use Rattle.std.specs.Ordering.{is_eq, match_ordering}
+use Rattle.std.specs.List.{find, list_all}
+use Rattle.std.specs.Str.{is_utf8}
 use Rattle.serde_json.specs.Data.{Data, boolean, number, string, array, object, unsigned, negative, Items, no_items, item, Members, no_members, member}
 use Rattle.serde_json.specs.Find.{of_integer, get_member, as_str, as_bool}
+use Rattle.serde_json.specs.Read.{read}
 use Rattle.arrow_values.specs.declared.tree.UnionMode.{UnionMode}
 use Rattle.arrow_values.specs.declared.tree.UnionMode.TheVariants.{Sparse, Dense}
-use Rattle.arrow_values.specs.Tree.{Text, Metadata, Plain, Tree, plain, list, large_list, fixed_size_list, struct, union, FieldTrees, no_fields, field, MemberTrees, no_members as no_union_members, member as union_member, FieldTree}
+use Rattle.arrow_values.specs.Tree.{Text, Metadata, Tree, plain, list, large_list, fixed_size_list, struct, union, FieldTrees, no_fields, field, MemberTrees, no_members as no_union_members, member as union_member, FieldTree, field_tree}
 use Rattle.arrow_values.specs.Union.{is_type_id, are_distinct}
 use Rattle.field_lines.specs.Names.{plain_name, plain_named, plain_types, mode_name}
-use Rattle.field_lines.specs.FieldOfValue.{under, field_from, integer_of, kept, is_size, size_of_value, id_of_value, mode_of_value, texts_in, metadata_of_value, field_before, member_before, list_of, large_list_of, fixed_size_list_of, tree_ids, union_of, are_keys, field_of_value, type_in, type_of_value, fields_of_value, fields_in, members_of_value, members_in}
-use Rattle.field_lines.specs.ValueOfField.{texts_value, with_metadata, parts_value, one_key, two_keys, pair, type_value, fields_value, members_value, value_of_field}
+use Rattle.field_lines.specs.FieldOfValue.{field_from, integer_of, kept, is_size, size_of_value, id_of_value, mode_of_value, texts_in, metadata_of_value, field_before, member_before, list_of, large_list_of, fixed_size_list_of, tree_ids, union_of, are_keys, field_of_value, type_in, type_of_value, fields_of_value, fields_in, members_of_value, members_in}
+use Rattle.field_lines.specs.Line.{texts_value, with_metadata, parts_value, one_key, two_keys, type_value, fields_value, members_value, value_of_field, field_of_line}
+use Rattle.field_lines.specs.LineForm.{HasLineForm, FieldsHaveLineForm, MembersHaveLineForm}
+use Rattle.field_lines.proofs.TokenMembers.{get_member-at}
+use Rattle.field_lines.proofs.TokenTexts.{text_says}
 use Rattle.field_lines.specs.Lean.{field_keys, HaveKeysOf, IsLean, AreLean, HasLeanType, IsLeanType}
-use Rattle.field_lines.proofs.TokenTexts.{text_is}
-
-map_some : {A B P : Type 0} (f : A → B) (o : Option A) (y : B) → option_map f o ≡ Some y → ((x : A) → o ≡ Some x → f x ≡ y → P) → P
-map_some f None y is go = cc
-map_some f (Some x) y is go = go x refl cc
 
 -- ---- the value of a field is lean
 
@@ -76,175 +75,206 @@ AreOrdered (k ∷ ks) = IsBefore k ks × AreOrdered ks
 not_found : (q : Text) (ks : List Text) (ms : Members) → IsBefore q ks → HaveKeysOf ks ms → get_member q ms ≡ None
 not_found q ks no_members h keys = refl
 not_found q [] (member k d ms) h keys = absurd keys
-not_found q (l ∷ ks) (member k d ms) h (inl keys) =
-    ap (λ r. match_ordering r (get_member q ms) (Some d) (get_member q ms)) (ap (slice_cmp nat_cmp q) keys.0 ∙ h.0) ∙ not_found q ks ms h.2 keys.1
+not_found q (l ∷ ks) (member k d ms) h (inl keys) = rw (keys.0, h.0) (not_found q ks ms h.2 keys.1)
 not_found q (l ∷ ks) (member k d ms) h (inr keys) = not_found q ks (member k d ms) h.2 keys
 
 -- a member before the keys is not found under them
 passed : (q : Text) (ks : List Text) (d : Data) (ms : Members) → IsBefore q ks → found ks (member q d ms) ≡ found ks ms
 passed q [] d ms h = refl
-passed q (k ∷ ks) d ms h =
-    ap (λ r. at_key k (match_ordering r (get_member k ms) (Some d) (get_member k ms)) (found ks (member q d ms))) h.1 ∙ ap (at_key k (get_member k ms)) (passed q ks d ms h.2)
+passed q (k ∷ ks) d ms h = rw (h.1, passed q ks d ms h.2)
 
 are_found : (ks : List Text) (ms : Members) → AreOrdered ks → HaveKeysOf ks ms → ms ≡ found ks ms
 are_found [] no_members order keys = refl
 are_found [] (member k d ms) order keys = absurd keys
 are_found (q ∷ ks) no_members order keys = are_found ks no_members order.1 tt
 are_found (q ∷ ks) (member k d ms) order (inl keys) =
-    subst (λ x. member x d ms ≡ found (q ∷ ks) (member x d ms)) (sym keys.0)
-    (ap (member q d) (are_found ks ms order.1 keys.1 ∙ sym (passed q ks d ms order.0))
-    ∙ ap (λ r. at_key q (match_ordering r (get_member q ms) (Some d) (get_member q ms)) (found ks (member q d ms))) (sym (tied_itself nat_list_cmp_total q)))
-are_found (q ∷ ks) (member k d ms) order (inr keys) =
-    are_found ks (member k d ms) order.1 keys ∙ ap (λ o. at_key q o (found ks (member k d ms))) (sym (not_found q ks (member k d ms) order.0 keys))
+    rw (keys.0, tied_itself nat_list_cmp_total q, passed q ks d ms order.0) (ap (member q d) (are_found ks ms order.1 keys.1))
+are_found (q ∷ ks) (member k d ms) order (inr keys) = rw (not_found q ks (member k d ms) order.0 keys) (are_found ks (member k d ms) order.1 keys)
 
 field_keys_ordered : AreOrdered field_keys
 field_keys_ordered = ((refl, refl, (refl, refl, (refl, refl, tt))), ((refl, refl, (refl, refl, tt)), ((refl, refl, tt), (tt, tt))))
 
--- ---- what stands at a key, by what is read there
+-- ---- what is read says two things: a line can say it, and a lean value that stands for it is its value
 
--- the parts of a field that is there are its own
-parts_of_from : (n : Option Text) (b : Option Bool) (t : Option Tree) (m : Option Metadata) (f : FieldTree) → field_from n b t m ≡ Some f → (n ≡ Some f.name) × (b ≡ Some f.nullable) × (t ≡ Some f.tree) × (m ≡ Some f.metadata)
-parts_of_from (Some n) (Some b) (Some t) (Some m) f is = (ap (option_map (λ f. f.name)) is, ap (option_map (λ f. f.nullable)) is, ap (option_map (λ f. f.tree)) is, ap (option_map (λ f. f.metadata)) is)
-parts_of_from _ _ _ _ f is = cc
+-- what holds of an answer, by what holds of its parts
+mapped : {A B : Type 0} {P : A → Type 0} (Q : B → Type 0) (f : A → B) (o : Option A) → IfSome o P → ((x : A) → P x → Q (f x)) → IfSome (option_map f o) Q
+mapped Q f None h k = tt
+mapped Q f (Some x) h k = k x h
 
-parts_of : (ms : Members) (f : FieldTree) → field_of_value (object ms) ≡ Some f
-    → (under as_str (codes "name") ms ≡ Some f.name) × (under as_bool (codes "nullable") ms ≡ Some f.nullable) × (type_in ms ≡ Some f.tree) × (metadata_of_value (get_member (codes "metadata") ms) ≡ Some f.metadata)
-parts_of ms f is = parts_of_from (under as_str (codes "name") ms) (under as_bool (codes "nullable") ms) (type_in ms) (metadata_of_value (get_member (codes "metadata") ms)) f is
+chained : {A B : Type 0} {P : A → Type 0} (Q : B → Type 0) (f : A → Option B) (o : Option A) → IfSome o P → ((x : A) → P x → IfSome (f x) Q) → IfSome (option_and_then f o) Q
+chained Q f None h k = tt
+chained Q f (Some x) h k = k x h
 
-there : {A : Type 0} (f : Data → Option A) (g : A → Data) → ((d : Data) (x : A) → f d ≡ Some x → d ≡ g x) → (o : Option Data) (x : A) → option_and_then f o ≡ Some x → o ≡ Some (g x)
-there f g h None x is = cc
-there f g h (Some d) x is = ap Some (h d x is)
+anything : {A : Type 0} (o : Option A) → IfSome o (λ _. Unit {0})
+anything None = tt
+anything (Some x) = tt
 
-bool_is : (d : Data) (b : Bool) → as_bool d ≡ Some b → d ≡ boolean b
-bool_is (boolean c) b is = let same : c ≡ b = cc in ap boolean same
-bool_is _ b is = cc
+-- what stands at a key, by what is read there
+there : {A : Type 0} (f : Data → Option A) (g : A → Data) → ((d : Data) → IfSome (f d) (λ x. d ≡ g x)) → (o : Option Data)
+    → IfSome (option_and_then f o) (λ x. o ≡ Some (g x))
+there f g h None = tt
+there f g h (Some d) = IfSome_then (f d) (h d) (λ x is. ap Some is)
 
-texts_are : (ms : Members) (m : Metadata) → texts_in ms ≡ Some m → ms ≡ texts_value m
-texts_are no_members m is = let none : [] ≡ m = cc in ap texts_value none
-texts_are (member k d ms) m is =
-    option_and_then_some (λ text. option_map (λ texts. (k, text) ∷ texts) (texts_in ms)) (as_str d) m is
-    (λ text at made. map_some (λ texts. (k, text) ∷ texts) (texts_in ms) m made
-    (λ rest at_rest same. ap (λ x. member k x ms) (text_is d text (sym at)) ∙ ap (member k (string text)) (texts_are ms rest at_rest) ∙ ap texts_value same))
+bool_says : (d : Data) → IfSome (as_bool d) (λ b. d ≡ boolean b)
+bool_says (boolean b) = refl
+bool_says _ = tt
 
-metadata_is : (o : Option Data) (m : Metadata) (rest : Members) → metadata_of_value o ≡ Some m → (o ≡ Some (object no_members) → ⊥) → at_key (codes "metadata") o rest ≡ with_metadata m rest
-metadata_is None m rest is full = let none : [] ≡ m = cc in ap (λ x. with_metadata x rest) none
-metadata_is (Some (object ms)) [] rest is full = absurd (full (ap (λ x. Some (object x)) (texts_are ms [] is)))
-metadata_is (Some (object ms)) (e ∷ es) rest is full = ap (λ x. member (codes "metadata") (object x) rest) (texts_are ms (e ∷ es) is)
-metadata_is (Some _) m rest is full = cc
+texts_say : (ms : Members) → IfSome (texts_in ms) (λ m. ms ≡ texts_value m)
+texts_say no_members = refl
+texts_say (member k d ms) =
+    chained _ (λ text. option_map (λ texts. (k, text) ∷ texts) (texts_in ms)) (as_str d) (text_says d)
+    (λ text is. mapped _ (λ texts. (k, text) ∷ texts) (texts_in ms) (texts_say ms) (λ texts same. ap₂ (member k) is same))
 
--- the parts of a field are its value, where the type is
-parts_are : (ms : Members) (f : FieldTree) → IsLean (object ms) → field_of_value (object ms) ≡ Some f → get_member (codes "type") ms ≡ Some (type_value f.tree) → object ms ≡ value_of_field f
-parts_are ms f lean is type =
-    let m = get_member (codes "metadata") ms in
-    let parts = parts_of ms f is in
-    ap object (are_found field_keys ms field_keys_ordered lean.0
-    ∙ ap (λ o. at_key (codes "metadata") m (at_key (codes "name") o (at_key (codes "nullable") (get_member (codes "nullable") ms) (at_key (codes "type") (get_member (codes "type") ms) no_members))))
-    (there as_str string (λ d n h. text_is d n (sym h)) (get_member (codes "name") ms) f.name parts.0)
-    ∙ ap (λ o. at_key (codes "metadata") m (member (codes "name") (string f.name) (at_key (codes "nullable") o (at_key (codes "type") (get_member (codes "type") ms) no_members))))
-    (there as_bool boolean bool_is (get_member (codes "nullable") ms) f.nullable parts.1)
-    ∙ ap (λ o. at_key (codes "metadata") m (member (codes "name") (string f.name) (member (codes "nullable") (boolean f.nullable) (at_key (codes "type") o no_members)))) type
-    ∙ metadata_is m f.metadata (member (codes "name") (string f.name) (member (codes "nullable") (boolean f.nullable) (member (codes "type") (type_value f.tree) no_members))) parts.3 lean.2)
+metadata_at : (m : Metadata) (ms rest : Members) → ms ≡ texts_value m → (Some (object ms) ≡ Some (object no_members) → ⊥)
+    → member (codes "metadata") (object ms) rest ≡ with_metadata m rest
+metadata_at [] ms rest is full = absurd (full (ap (λ x. Some (object x)) is))
+metadata_at (e ∷ es) ms rest is full = ap (λ x. member (codes "metadata") (object x) rest) is
+
+metadata_says : (o : Option Data)
+    → IfSome (metadata_of_value o) (λ m. (rest : Members) → (o ≡ Some (object no_members) → ⊥) → at_key (codes "metadata") o rest ≡ with_metadata m rest)
+metadata_says None = λ rest full. refl
+metadata_says (Some (object ms)) = IfSome_then (texts_in ms) (texts_say ms) (λ m is rest full. metadata_at m ms rest is full)
+metadata_says (Some _) = tt
+
+parts_say : {N : Text → Type 0} {B : Bool → Type 0} {T : Tree → Type 0} {M : Metadata → Type 0} (Q : FieldTree → Type 0) (n : _) (b : _) (t : _) (m : _)
+    → IfSome n N → IfSome b B → IfSome t T → IfSome m M → ((n : _) (b : _) (t : _) (m : _) → N n → B b → T t → M m → Q (field_tree n t b m))
+    → IfSome (field_from n b t m) Q
+parts_say Q (Some n) (Some b) (Some t) (Some m) at_name at_nullable at_type at_metadata all = all n b t m at_name at_nullable at_type at_metadata
+parts_say Q _ _ _ _ at_name at_nullable at_type at_metadata all = tt
 
 -- ---- words and numbers
 
-found_holds : {A : Type 0} (p : A → Bool) (xs : List A) (x : A) → find p xs ≡ Some x → p x ≡ true
-found_holds p [] x is = cc
-found_holds p (y ∷ ys) x is =
-    cond_both (p y) (Some y) (find p ys) (λ o. o ≡ Some x → p x ≡ true) (λ e here. let same : y ≡ x = cc in subst (λ z. p z ≡ true) same e) (λ _. found_holds p ys x) is
+find_holds : {A : Type 0} (p : A → Bool) (xs : List A) → IfSome (find p xs) (λ x. p x ≡ true)
+find_holds p [] = tt
+find_holds p (x ∷ xs) = cond_both (p x) (Some x) (find p xs) (λ o. IfSome o (λ y. p y ≡ true)) (λ e. e) (λ _. find_holds p xs)
 
-plain_is : (word : Text) (p : Plain) → plain_named word ≡ Some p → word ≡ plain_name p
-plain_is word p is = (bytes_eq-Decides word (plain_name p)).0 (found_holds (λ q. bytes_eq word (plain_name q)) plain_types p is)
+mode_says : (d : Data) → IfSome (mode_of_value d) (λ mode. d ≡ string (mode_name mode))
+mode_says (string word) =
+    IfSome_then _ (find_holds (λ u. bytes_eq word (mode_name u)) (Sparse ∷ Dense ∷ [])) (λ mode e. ap string ((bytes_eq-Decides word (mode_name mode)).0 e))
+mode_says _ = tt
 
-mode_is : (d : Data) (mode : UnionMode) → mode_of_value d ≡ Some mode → d ≡ string (mode_name mode)
-mode_is (string word) mode is = ap string ((bytes_eq-Decides word (mode_name mode)).0 (found_holds (λ u. bytes_eq word (mode_name u)) (Sparse ∷ Dense ∷ []) mode is))
-mode_is _ mode is = cc
+-- a number that is kept has the property
+abbrev SaysNumber : (ℤ → Bool) → Data → ℤ → Type 0
+SaysNumber p d z = IsTrue (p z) × (IsLean d → d ≡ number (of_integer z))
 
-integer_is : (d : Data) (p : ℤ → Bool) (z : ℤ) → IsLean d → option_and_then (kept p) (integer_of d) ≡ Some z → d ≡ number (of_integer z)
-integer_is (number (unsigned n)) p z lean is = ap (λ x. number (of_integer x)) (cond_some (p (pos n)) (pos n) z is).1
-integer_is (number (negative (negsuc n))) p z lean is = ap (λ x. number (of_integer x)) (cond_some (p (negsuc n)) (negsuc n) z is).1
-integer_is (number (negative (pos n))) p z lean is = absurd lean
-integer_is _ p z lean is = cc
+kept_says : (p : ℤ → Bool) (d : Data) (z : ℤ) → (IsLean d → d ≡ number (of_integer z)) → IfSome (kept p z) (SaysNumber p d)
+kept_says p d z is = cond_both (p z) (Some z) None (λ o. IfSome o (SaysNumber p d)) (λ e. (e, is)) (λ _. tt)
+
+integer_says : (p : ℤ → Bool) (d : Data) → IfSome (option_and_then (kept p) (integer_of d)) (SaysNumber p d)
+integer_says p (number (unsigned n)) = kept_says p (number (unsigned n)) (pos n) (λ lean. refl)
+integer_says p (number (negative (negsuc n))) = kept_says p (number (negative (negsuc n))) (negsuc n) (λ lean. refl)
+integer_says p (number (negative (pos n))) = kept_says p (number (negative (pos n))) (pos n) (λ lean. absurd lean)
+integer_says p _ = tt
 
 -- ---- objects of one key and of two
 
+abbrev SaysField : Data → FieldTree → Type 0
+SaysField d f = HasLineForm f.tree × (IsLean d → d ≡ value_of_field f)
+
+abbrev SaysType : Data → Tree → Type 0
+SaysType d t = HasLineForm t × (IsLeanType d → d ≡ type_value t)
+
+abbrev SaysTypeIn : Members → Tree → Type 0
+SaysTypeIn ms t = HasLineForm t × (HasLeanType ms → get_member (codes "type") ms ≡ Some (type_value t))
+
+abbrev SaysMembers : {A : Type 0} → Type 0 → A → A → MemberTrees → Type 0
+SaysMembers lean d e ms = (MembersHaveLineForm ms × IsTrue (list_all is_type_id (tree_ids ms))) × (lean → d ≡ e)
+
 -- the value at one key, which g writes, or else what comes after
-keyed : {A : Type 0} (k l : Text) (d : Data) (f : A → Tree) (g : A → Data) (o : Option A) (rest : Option Tree) (t : Tree) → ((x : A) → o ≡ Some x → d ≡ g x) → ((x : A) → one_key l (g x) ≡ type_value (f x))
-    → (rest ≡ Some t → one_key k d ≡ type_value t) → cond (bytes_eq k l) (option_map f o) rest ≡ Some t → one_key k d ≡ type_value t
-keyed k l d f g o rest t own written next =
-    cond_both (bytes_eq k l) (option_map f o) rest (λ x. x ≡ Some t → one_key k d ≡ type_value t)
-    (λ e at. map_some f o t at (λ x there same. ap (λ q. one_key q d) ((bytes_eq-Decides k l).0 e) ∙ ap (one_key l) (own x there) ∙ written x ∙ ap type_value same)) (λ _. next)
+keyed : {A : Type 0} (k l : Text) (d : Data) (f : A → Tree) (g : A → Data) (o : Option A) (rest : Option Tree) → ((x : A) → one_key l (g x) ≡ type_value (f x))
+    → IfSome o (λ x. HasLineForm (f x) × (IsLean d → d ≡ g x)) → IfSome rest (SaysType (one_key k d))
+    → IfSome (cond (bytes_eq k l) (option_map f o) rest) (SaysType (one_key k d))
+keyed k l d f g o rest law own next =
+    cond_both (bytes_eq k l) (option_map f o) rest (λ x. IfSome x (SaysType (one_key k d)))
+    (λ e. mapped _ f o own (λ x h. (h.0, λ lean. ap₂ one_key ((bytes_eq-Decides k l).0 e) (h.1 lean.0) ∙ law x))) (λ _. next)
 
-keys_are : (k l p q : Text) (d e : Data) → are_keys k l p q ≡ true → two_keys k d l e ≡ two_keys p d q e
-keys_are k l p q d e h =
+keys_are : (k l p q : Text) {d e x y : Data} → are_keys k l p q ≡ true → d ≡ x → e ≡ y → two_keys k d l e ≡ two_keys p x q y
+keys_are k l p q h first second =
     let keys = and_parts (bytes_eq k p) (bytes_eq l q) h in
-    ap (λ x. two_keys x d l e) ((bytes_eq-Decides k p).0 keys.0) ∙ ap (λ x. two_keys p d x e) ((bytes_eq-Decides l q).0 keys.1)
+    rw ((bytes_eq-Decides k p).0 keys.0, (bytes_eq-Decides l q).0 keys.1, first, second)
 
-two_keyed : (k l : Text) (d e : Data) (t : Tree) → IsLean e → ((f : FieldTree) → field_of_value d ≡ Some f → d ≡ value_of_field f) → ((ms : MemberTrees) → members_of_value e ≡ Some ms → e ≡ array (members_value ms))
-    → type_of_value (two_keys k d l e) ≡ Some t → two_keys k d l e ≡ type_value t
-two_keyed k l d e t lean own all is =
+two_keyed : (k l : Text) (d e : Data) → IfSome (field_of_value d) (SaysField d)
+    → IfSome (members_of_value e) (λ ms. SaysMembers (IsLean e) e (array (members_value ms)) ms)
+    → IfSome (type_of_value (two_keys k d l e)) (SaysType (two_keys k d l e))
+two_keyed k l d e own all =
     let sized = λ (f : FieldTree). option_map (fixed_size_list_of f) (size_of_value e) in
     let united = λ (mode : UnionMode). option_and_then (union_of mode) (members_of_value e) in
     cond_both (are_keys k l (codes "fixed_size_list") (codes "size")) (option_and_then sized (field_of_value d)) (cond (are_keys k l (codes "mode") (codes "union")) (option_and_then united (mode_of_value d)) None)
-    (λ x. x ≡ Some t → two_keys k d l e ≡ type_value t)
-    (λ h at. option_and_then_some sized (field_of_value d) t at (λ f there made. map_some (fixed_size_list_of f) (size_of_value e) t made
-    (λ s size same. keys_are k l (codes "fixed_size_list") (codes "size") d e h ∙ ap (λ x. two_keys (codes "fixed_size_list") x (codes "size") e) (own f there)
-    ∙ ap (two_keys (codes "fixed_size_list") (value_of_field f) (codes "size")) (integer_is e is_size s lean size) ∙ ap type_value same)))
-    (λ _. cond_both (are_keys k l (codes "mode") (codes "union")) (option_and_then united (mode_of_value d)) None (λ x. x ≡ Some t → two_keys k d l e ≡ type_value t)
-    (λ g at. option_and_then_some united (mode_of_value d) t at (λ mode there made. option_and_then_some (union_of mode) (members_of_value e) t made
-    (λ ms members last. keys_are k l (codes "mode") (codes "union") d e g ∙ ap (λ x. two_keys (codes "mode") x (codes "union") e) (mode_is d mode there)
-    ∙ ap (two_keys (codes "mode") (string (mode_name mode)) (codes "union")) (all ms members) ∙ ap type_value (cond_some (are_distinct (tree_ids ms)) (union ms mode) t last).1)))
-    (λ _ none. cc)) is
+    (λ x. IfSome x (SaysType (two_keys k d l e)))
+    (λ h. chained _ sized (field_of_value d) own (λ f x. mapped _ (fixed_size_list_of f) (size_of_value e) (integer_says is_size e)
+    (λ s y. ((x.0, y.0), λ lean. keys_are k l (codes "fixed_size_list") (codes "size") h (x.1 lean.0) (y.1 lean.1.0)))))
+    (λ _. cond_both (are_keys k l (codes "mode") (codes "union")) (option_and_then united (mode_of_value d)) None (λ x. IfSome x (SaysType (two_keys k d l e)))
+    (λ h. chained _ united (mode_of_value d) (mode_says d) (λ mode is. chained _ (union_of mode) (members_of_value e) all
+    (λ ms x. cond_both (are_distinct (tree_ids ms)) (Some (union ms mode)) None (λ o. IfSome o (SaysType (two_keys k d l e)))
+    (λ distinct. ((x.0.0, and_from _ _ x.0.1 distinct), λ lean. keys_are k l (codes "mode") (codes "union") h is (x.1 lean.1.0))) (λ _. tt))))
+    (λ _. tt))
 
--- ---- a lean value that stands for a field is the value of that field
-
--- the type at its key, where that member or those after it are the value of a type
-type_there : (r : Ordering) (d : Data) (o : Option Data) (rest : Option Tree) (t : Tree) → (is_eq r ≡ true → type_of_value d ≡ Some t → d ≡ type_value t) → (rest ≡ Some t → o ≡ Some (type_value t))
-    → cond (is_eq r) (type_of_value d) rest ≡ Some t → match_ordering r o (Some d) o ≡ Some (type_value t)
-type_there Equal d o rest t here later is = ap Some (here refl is)
-type_there _ d o rest t here later is = later is
+-- ---- what a value says
 
 mutual
-  pub lean_value_is : (f : FieldTree) (d : Data) → IsLean d → field_of_value d ≡ Some f → d ≡ value_of_field f
-  lean_value_is f (object ms) lean is = parts_are ms f lean is (lean_type_in ms f.tree lean.1 (parts_of ms f is).2)
-  lean_value_is f _ lean is = cc
+  field_says : (d : Data) → IfSome (field_of_value d) (SaysField d)
+  field_says (object ms) =
+      let names = there as_str string text_says (get_member (codes "name") ms) in
+      let nullables = there as_bool boolean bool_says (get_member (codes "nullable") ms) in
+      let metadatas = metadata_says (get_member (codes "metadata") ms) in
+      parts_say (SaysField (object ms)) _ _ (type_in ms) _ names nullables (type_in_says ms) metadatas (λ n b t m name nullable type metadata. (type.0,
+      λ lean. ap object (are_found field_keys ms field_keys_ordered lean.0 ∙ rw (name, nullable, type.1 lean.1) (metadata _ lean.2))))
+  field_says _ = tt
 
-  lean_type_in : (ms : Members) (t : Tree) → HasLeanType ms → type_in ms ≡ Some t → get_member (codes "type") ms ≡ Some (type_value t)
-  lean_type_in no_members t lean is = cc
-  lean_type_in (member k d ms) t lean is =
-      let same = is_eq-slice_cmp (codes "type") k in
-      type_there (slice_cmp nat_cmp (codes "type") k) d (get_member (codes "type") ms) (type_in ms) t (λ e. lean_type_is d t (lean.0 (sym ((bytes_eq-Decides (codes "type") k).0 (sym same ∙ e)))))
-      (lean_type_in ms t lean.1) (ap (λ b. cond b (type_of_value d) (type_in ms)) same ∙ is)
+  type_in_says : (ms : Members) → IfSome (type_in ms) (SaysTypeIn ms)
+  type_in_says no_members = tt
+  type_in_says (member k d ms) =
+      cond_both (bytes_eq (codes "type") k) (type_of_value d) (type_in ms) (λ o. IfSome o (SaysTypeIn (member k d ms)))
+      (λ e. let same = sym ((bytes_eq-Decides (codes "type") k).0 e) in
+      IfSome_then (type_of_value d) (type_says d) (λ t h. (h.0, λ lean. rw (get_member-at (codes "type") k d ms, e) (ap Some (h.1 (lean.0 same))))))
+      (λ e. IfSome_then (type_in ms) (type_in_says ms) (λ t h. (h.0, λ lean. rw (get_member-at (codes "type") k d ms, e) (h.1 lean.1))))
 
-  lean_type_is : (d : Data) (t : Tree) → IsLeanType d → type_of_value d ≡ Some t → d ≡ type_value t
-  lean_type_is (string word) t lean is = map_some plain (plain_named word) t is (λ p at same. ap string (plain_is word p at) ∙ ap type_value same)
-  lean_type_is (object (member k d no_members)) t lean is =
-      let own : (f : FieldTree) → field_of_value d ≡ Some f → d ≡ value_of_field f = λ f. lean_value_is f d lean.0 in
-      keyed k (codes "list") d list_of value_of_field (field_of_value d) _ t own (λ f. refl)
-      (keyed k (codes "large_list") d large_list_of value_of_field (field_of_value d) _ t own (λ f. refl)
-      (keyed k (codes "struct") d struct (λ fs. array (fields_value fs)) (fields_of_value d) None t (lean_fields_are d lean.0) (λ fs. refl) (λ none. cc))) is
-  lean_type_is (object (member k d (member l e no_members))) t lean is = two_keyed k l d e t lean.1.0 (λ f. lean_value_is f d lean.0) (lean_members_are e lean.1.0) is
-  lean_type_is _ t lean is = cc
+  type_says : (d : Data) → IfSome (type_of_value d) (SaysType d)
+  type_says (string word) =
+      let says = find_holds (λ p. bytes_eq word (plain_name p)) plain_types in
+      mapped _ plain (plain_named word) says (λ p e. (tt, λ lean. ap string ((bytes_eq-Decides word (plain_name p)).0 e)))
+  type_says (object (member k d no_members)) =
+      keyed k (codes "list") d list_of value_of_field (field_of_value d) _ (λ f. refl) (field_says d)
+      (keyed k (codes "large_list") d large_list_of value_of_field (field_of_value d) _ (λ f. refl) (field_says d)
+      (keyed k (codes "struct") d struct (λ fs. array (fields_value fs)) (fields_of_value d) None (λ fs. refl) (fields_say d) tt))
+  type_says (object (member k d (member l e no_members))) = two_keyed k l d e (field_says d) (members_say e)
+  type_says _ = tt
 
-  lean_fields_are : (d : Data) → IsLean d → (fs : FieldTrees) → fields_of_value d ≡ Some fs → d ≡ array (fields_value fs)
-  lean_fields_are (array ds) lean fs is = ap array (lean_items_are ds lean fs is)
-  lean_fields_are _ lean fs is = cc
+  fields_say : (d : Data) → IfSome (fields_of_value d) (λ fs. FieldsHaveLineForm fs × (IsLean d → d ≡ array (fields_value fs)))
+  fields_say (array ds) = IfSome_then (fields_in ds) (fields_in_say ds) (λ fs h. (h.0, λ lean. ap array (h.1 lean)))
+  fields_say _ = tt
 
-  lean_items_are : (ds : Items) → AreLean ds → (fs : FieldTrees) → fields_in ds ≡ Some fs → ds ≡ fields_value fs
-  lean_items_are no_items lean fs is = let none : no_fields ≡ fs = cc in ap fields_value none
-  lean_items_are (item d ds) lean fs is =
-      option_and_then_some (λ f. option_map (field_before f) (fields_in ds)) (field_of_value d) fs is (λ f at made. map_some (field_before f) (fields_in ds) fs made
-      (λ gs rest same. ap (λ x. item x ds) (lean_value_is f d lean.0 at) ∙ ap (item (value_of_field f)) (lean_items_are ds lean.1 gs rest) ∙ ap fields_value same))
+  fields_in_say : (ds : Items) → IfSome (fields_in ds) (λ fs. FieldsHaveLineForm fs × (AreLean ds → ds ≡ fields_value fs))
+  fields_in_say no_items = (tt, λ lean. refl)
+  fields_in_say (item d ds) =
+      chained _ (λ f. option_map (field_before f) (fields_in ds)) (field_of_value d) (field_says d)
+      (λ f x. mapped _ (field_before f) (fields_in ds) (fields_in_say ds) (λ fs y. ((x.0, y.0), λ lean. ap₂ item (x.1 lean.0) (y.1 lean.1))))
 
-  lean_members_are : (d : Data) → IsLean d → (ms : MemberTrees) → members_of_value d ≡ Some ms → d ≡ array (members_value ms)
-  lean_members_are (array ds) lean ms is = ap array (lean_pairs_are ds lean ms is)
-  lean_members_are _ lean ms is = cc
+  members_say : (d : Data) → IfSome (members_of_value d) (λ ms. SaysMembers (IsLean d) d (array (members_value ms)) ms)
+  members_say (array ds) = IfSome_then (members_in ds) (members_in_say ds) (λ ms h. (h.0, λ lean. ap array (h.1 lean)))
+  members_say _ = tt
 
-  lean_pairs_are : (ds : Items) → AreLean ds → (ms : MemberTrees) → members_in ds ≡ Some ms → ds ≡ members_value ms
-  lean_pairs_are no_items lean ms is = let none : no_union_members ≡ ms = cc in ap members_value none
-  lean_pairs_are (item (array (item i (item d no_items))) ds) lean ms is =
-      option_and_then_some (λ id. option_and_then (λ f. option_map (member_before id f) (members_in ds)) (field_of_value d)) (id_of_value i) ms is
-      (λ id kept made. option_and_then_some (λ f. option_map (member_before id f) (members_in ds)) (field_of_value d) ms made
-      (λ f at last. map_some (member_before id f) (members_in ds) ms last
-      (λ ns rest same. ap (λ x. item (pair x d) ds) (integer_is i is_type_id id lean.0.0 kept) ∙ ap (λ x. item (pair (number (of_integer id)) x) ds) (lean_value_is f d lean.0.1.0 at)
-      ∙ ap (item (pair (number (of_integer id)) (value_of_field f))) (lean_pairs_are ds lean.1 ns rest) ∙ ap members_value same)))
-  lean_pairs_are (item _ ds) lean ms is = cc
+  members_in_say : (ds : Items) → IfSome (members_in ds) (λ ms. SaysMembers (AreLean ds) ds (members_value ms) ms)
+  members_in_say no_items = ((tt, refl), λ lean. refl)
+  members_in_say (item (array (item i (item d no_items))) ds) =
+      chained _ (λ id. option_and_then (λ f. option_map (member_before id f) (members_in ds)) (field_of_value d)) (id_of_value i) (integer_says is_type_id i)
+      (λ id x. chained _ (λ f. option_map (member_before id f) (members_in ds)) (field_of_value d) (field_says d)
+      (λ f y. mapped _ (member_before id f) (members_in ds) (members_in_say ds) (λ ms z. (((y.0, z.0.0), and_from (is_type_id id) _ x.0 z.0.1),
+      λ lean. ap₂ item (ap₂ (λ a b. array (item a (item b no_items))) (x.1 lean.0.0) (y.1 lean.0.1.0)) (z.1 lean.1)))))
+  members_in_say (item _ ds) = tt
+
+pub lean_value_is : (f : FieldTree) (d : Data) → IsLean d → field_of_value d ≡ Some f → d ≡ value_of_field f
+lean_value_is f d lean is = let says = subst (λ o. IfSome o (SaysField d)) is (field_says d) in says.1 lean
+
+-- ---- a line
+
+pub line_form : (line : Text) (o : Option FieldTree) → o ≡ field_of_line line → IfSome o (λ f. HasLineForm f.tree)
+line_form line o is =
+    subst (λ x. IfSome x (λ f. HasLineForm f.tree)) (sym is)
+    (chained _ field_of_value (cond (is_utf8 line) (read line) None) (anything _) (λ d _. IfSome_then (field_of_value d) (field_says d) (λ f h. h.0)))
+
+pub line_field : (line : Text) → IsUtf8 line → field_of_line line ≡ option_and_then field_of_value (read line)
+line_field line h = ap (λ b. option_and_then field_of_value (cond b (read line) None)) (is_utf8-from_IsUtf8 line h)
+
+pub line_no_text : (line : Text) → (IsUtf8 line → ⊥) → None ≡ field_of_line line
+line_no_text line h = sym (ap (λ b. option_and_then field_of_value (cond b (read line) None)) (false_from_ne_true (is_utf8 line) (λ e. h (IsUtf8-from_is_utf8 line e))))

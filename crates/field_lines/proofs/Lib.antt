@@ -1,6 +1,5 @@
 mod Prints
 mod Round
-mod Form
 mod Lean
 mod TokenTexts
 mod TokenMembers

@@ -1,6 +1,7 @@
 -- Steps of the loops that write, and from the tokens that were added one after another to those of a value.
-use Rattle.std.proofs.Common.{◌≡◌, ℕ, ℤ, zero, suc, ◌<◌, ◌≤◌, List, [], ◌∷◌, ◌++◌, length, get_or, String, Global, Ordering, Less, Greater, string_bytes, string_cmp, subst, refl, sym, ap, ◌∙◌, arith, Bool, Some, codes, negsuc, pos, SFits, w64, option_map, option_and_then, append_assoc, append-nil}
-use Rattle.std.proofs.lemmas.List.{map-append}
+use Rattle.std.proofs.Common.{◌≡◌, ℕ, ℤ, zero, suc, ◌<◌, ◌≤◌, List, [], ◌∷◌, ◌++◌, length, get_or, String, Global, Ordering, Less, Greater, string_bytes, string_cmp, subst, refl, sym, ap, ◌∙◌, arith, Bool, Some, codes, negsuc, pos, SFits, w64, option_map, option_and_then, append_assoc, append-nil, ◌+◌, max, drop, Result, OnOk}
+use Rattle.std.proofs.lemmas.List.{map-append, at_drop_more, drop_all}
+use Rattle.std.proofs.lemmas.Result.{on_ok_weaker}
 use Rattle.std.specs.Ordering.{ordering_reverse, match_ordering}
 use Rattle.std.specs.Cmp.{IsTotalOrder}
 use Rattle.std.specs.List.{AllByRecursion}
@@ -9,29 +10,47 @@ use Rattle.std.specs.Map.{keys_of}
 use Rattle.std.specs.BTreeMap.{insert_entry}
 use Rattle.std.specs.String.{string_cmp_total}
 use Rattle.std.specs.Fmt.{signed_decimal}
-use Rattle.json.specs.Token.{Token, key, number as number_token, string as string_token, boolean as boolean_token, begin_object, end_object}
+use Rattle.json.specs.Token.{Token, key, number as number_token, string as string_token, boolean as boolean_token, begin_object, end_object, end_array}
 use Rattle.json.specs.Tree.{json_tokens, members_tokens}
-use Rattle.json.specs.Written.{Written}
-use Rattle.serde_json.specs.Data.{string, put, Data, boolean, number, object, no_members, member}
+use Rattle.json.specs.Written.{Written, Writes}
+use Rattle.serde_json.specs.Data.{string, put, Data, number, object, Items, no_items, item, no_members, member}
 use Rattle.serde_json.specs.Find.{of_integer}
 use Rattle.serde_json.specs.Read.{of_json, of_members}
-use Rattle.serde_json.specs.Written.{number_text, outline, members_outline}
+use Rattle.serde_json.specs.Written.{outline, members_outline}
 use Rattle.serde_json.proofs.Numbers.{number_of-decimal, number_of-negative}
-use Rattle.arrow_values.specs.Tree.{FieldTree, Members as UnionMembers, depth, fields_depth, members_depth, Text, Metadata}
-use Rattle.arrow_values.specs.View.{field_trees, member_trees, texts_of}
-use Rattle.field_lines.specs.ValueOfField.{texts_value, one_key, two_keys, parts_value}
+use Rattle.arrow_values.specs.Tree.{Text, Metadata}
+use Rattle.arrow_values.specs.View.{texts_of}
+use Rattle.field_lines.specs.Line.{texts_value, one_key, two_keys, parts_value}
 use Rattle.field_lines.specs.Prints.{PrintsMetadata, metadata_tokens}
-use Rattle.value_tokens.specs.Adds.{Adds, Prints, then}
+use Rattle.value_tokens.specs.Adds.{Adds, Prints, PrintsItems, then, added, prints_item, prints_end}
 
-pub falls_field : (fs : List FieldTree) (i : ℕ) (f : FieldTree) → i < length fs → f ≡ get_or fs i f → suc (depth f.tree) ≤ fields_depth (field_trees fs)
-falls_field [] i f lt is = absurd (omega arith)
-falls_field (x ∷ fs) zero f lt is = let same : depth f.tree ≡ depth x.tree = ap (λ w. depth w.tree) is in omega arith
-falls_field (x ∷ fs) (suc i) f lt is = let low = falls_field fs i f (omega arith) is in omega arith
+-- ---- a loop over a list
 
-pub falls_union_member : (ms : UnionMembers) (i : ℕ) (m : ℤ × FieldTree) → i < length ms → m ≡ get_or ms i m → suc (depth m.1.tree) ≤ members_depth (member_trees ms)
-falls_union_member [] i m lt is = absurd (omega arith)
-falls_union_member (x ∷ ms) zero m lt is = let same : depth m.1.tree ≡ depth x.1.tree = ap (λ w. depth w.1.tree) is in omega arith
-falls_union_member (x ∷ ms) (suc i) m lt is = let low = falls_union_member ms i m (omega arith) is in omega arith
+module _ {A : Type 0} (one : A → ℕ) (all : List A → ℕ) (more : (x : A) (xs : List A) → all (x ∷ xs) ≡ max (suc (one x)) (all xs)) where
+  pub falls : (xs : List A) {ys : List A} (i : ℕ) (x : A) → xs ≡ ys → i < length xs → x ≡ get_or xs i x → suc (one x) ≤ all ys
+  falls [] i x e lt is = absurd (omega arith)
+  falls (y ∷ ys) zero x e lt is = rw (← e) (let same : one x ≡ one y = ap one is in let most = more y ys in omega arith)
+  falls (y ∷ ys) (suc i) x e lt is = rw (← e) (let low = falls ys i x refl (omega arith) is in let most = more y ys in omega arith)
+
+-- what prints the items that are left prints all from the start
+abbrev pub PrintsRest : {A : Type 0} → (List A → Items) → List A → ℕ → Written → Written → Type 0
+PrintsRest value xs i start now = (end : Written) → PrintsItems (value (drop i xs)) now end → PrintsItems (value xs) start end
+
+module _ {A : Type 0} (one : A → Data) (value : List A → Items) (xs : List A) (i : ℕ) {start now : Written}
+    (law : (x : A) (xs : List A) → value (x ∷ xs) ≡ item (one x) (value xs)) (way : PrintsRest value xs i start now) where
+  pub rest_go_on : (x : A) {new : Written} → i < length xs → x ≡ get_or xs i x → Prints (one x) now new → PrintsRest value xs (i + 1) start new
+  rest_go_on x lt is this end rest =
+      let here = at_drop_more value xs i x lt ∙ law (get_or xs i x) (drop (i + 1) xs) ∙ ap (λ y. item (one y) (value (drop (i + 1) xs))) (sym is) in
+      way end (subst (λ ds. PrintsItems ds now end) (sym here) (prints_item this rest))
+
+  pub rest_end : {all : _} {end : Written} → value [] ≡ no_items → length xs ≤ i → xs ≡ all → Adds (end_array ∷ []) now end → PrintsItems (value all) start end
+  rest_end {end = end} none le is finish =
+      let left = subst (λ ds. PrintsItems ds now end) (sym (ap value (drop_all i xs le) ∙ none)) (prints_end finish) in
+      subst (λ l. PrintsItems (value l) start end) is (way end left)
+
+-- the last token is added
+pub finished : {E P : Type 0} (r : Result (Unit {0}) E) {old new : Written} {t : Token} → (Adds (t ∷ []) old new → P) → Writes r old new t → OnOk r P
+finished r {old} {new} {t} f w = on_ok_weaker r f (added r old new t w)
 
 -- texts are put in the order of their keys, so each goes last
 abbrev pub Texts : Type 0
@@ -69,9 +88,7 @@ read_texts : (done left : Texts) → IsStrictlySortedBy string_cmp (keys_of (don
 read_texts done [] h = ap (λ l. Some (texts_value (texts_of l))) (sym (append-nil done))
 read_texts done (e ∷ left) h =
     let all : done ++ (e ∷ left) ≡ (done ++ e ∷ []) ++ left = sym (append_assoc done (e ∷ []) left) in
-    ap (of_members (members_outline (texts_value (texts_of left)))) (put_last done e.0 e.1 left h)
-    ∙ read_texts (done ++ e ∷ []) left (subst (λ l. IsStrictlySortedBy string_cmp (keys_of l)) all h)
-    ∙ ap (λ l. Some (texts_value (texts_of l))) (sym all)
+    rw (put_last done e.0 e.1 left h, all) (read_texts (done ++ e ∷ []) left (subst (λ l. IsStrictlySortedBy string_cmp (keys_of l)) all h))
 
 pub texts_read_back : (texts : Texts) → IsStrictlySortedBy string_cmp (keys_of texts) → of_json (outline (object (texts_value (texts_of texts)))) ≡ Some (object (texts_value (texts_of texts)))
 texts_read_back texts h = ap (option_map object) (read_texts [] texts h)
@@ -85,16 +102,9 @@ texts_tokens texts = members_tokens (members_outline (texts_value (texts_of text
 pub prints_text : {s : Text} {old new : Written} → Adds (string_token s ∷ []) old new → Prints (string s) old new
 prints_text a = record { adds = a; reads_back = refl }
 
-integer_token : (z : ℤ) → number_text (of_integer z) ≡ signed_decimal z
-integer_token (pos n) = refl
-integer_token (negsuc n) = refl
-
-integer_read_back : (z : ℤ) → SFits w64 z → of_json (outline (number (of_integer z))) ≡ Some (number (of_integer z))
-integer_read_back (pos n) fits = ap (option_map number) (number_of-decimal n (grind arith))
-integer_read_back (negsuc n) fits = ap (option_map number) (number_of-negative n (grind arith))
-
 pub prints_integer : (z : ℤ) {old new : Written} → SFits w64 z → Adds (number_token (signed_decimal z) ∷ []) old new → Prints (number (of_integer z)) old new
-prints_integer z {old} {new} fits a = record { adds = subst (λ s. Adds (number_token s ∷ []) old new) (sym (integer_token z)) a; reads_back = integer_read_back z fits }
+prints_integer (pos n) fits a = record { adds = a; reads_back = ap (option_map number) (number_of-decimal n (grind arith)) }
+prints_integer (negsuc n) fits a = record { adds = a; reads_back = ap (option_map number) (number_of-negative n (grind arith)) }
 
 pub prints_one_key : (k : Text) {d : Data} {w0 w1 w2 w3 w4 : Written} → Adds (begin_object ∷ []) w0 w1 → Adds (key k ∷ []) w1 w2 → Prints d w2 w3 → Adds (end_object ∷ []) w3 w4 → Prints (one_key k d) w0 w4
 prints_one_key k begin named value finish = record {
@@ -107,25 +117,17 @@ pub prints_two_keys : (k : Text) {d : Data} (l : Text) {e : Data} {w0 w1 w2 w3 w
     → Adds (begin_object ∷ []) w0 w1 → Adds (key k ∷ []) w1 w2 → Prints d w2 w3 → Adds (key l ∷ []) w3 w4 → Prints e w4 w5 → Adds (end_object ∷ []) w5 w6 → Prints (two_keys k d l e) w0 w6
 prints_two_keys k {d} l {e} order begin first one second two finish = record {
   adds = then begin (then first (then one.adds (then second (then two.adds finish))));
-  reads_back =
-      ap (λ o. option_map object (option_and_then (λ x. option_and_then (λ y. Some (put l y (member k x no_members))) (of_json (outline e))) o)) one.reads_back
-      ∙ ap (λ o. option_map object (option_and_then (λ y. Some (put l y (member k d no_members))) o)) two.reads_back
-      ∙ ap (λ ms. Some (object ms)) (order d e);
+  reads_back = rw (one.reads_back, two.reads_back) (ap (λ ms. Some (object ms)) (order d e));
 }
 
 parts_read_back : (n : Text) (d : Data) (b : Bool) (m : Metadata) → of_json (outline (object (texts_value m))) ≡ Some (object (texts_value m)) → of_json (outline d) ≡ Some d
     → of_json (outline (parts_value n d b m)) ≡ Some (parts_value n d b m)
-parts_read_back n d b [] texts type =
-    ap (λ o. option_map object (option_and_then (λ t. Some (member (codes "name") (string n) (member (codes "nullable") (boolean b) (member (codes "type") t no_members)))) o)) type
-parts_read_back n d b (e ∷ es) texts type =
-    ap (λ o. option_map object (option_and_then (λ v. option_and_then (λ t. Some (put (codes "type") t (put (codes "nullable") (boolean b) (put (codes "name") (string n) (put (codes "metadata") v no_members))))) (of_json (outline d))) o)) texts
-    ∙ ap (λ o. option_map object (option_and_then (λ t. Some (member (codes "metadata") (object (texts_value (e ∷ es))) (member (codes "name") (string n) (member (codes "nullable") (boolean b) (member (codes "type") t no_members))))) o)) type
+parts_read_back n d b [] texts type = rw type
+parts_read_back n d b (e ∷ es) texts type = rw (texts, type)
 
--- the tokens of a field after those of its metadata
-abbrev pub tail_tokens : Text → Data → Bool → List Token
-tail_tokens n d b = key (codes "name") ∷ string_token n ∷ key (codes "nullable") ∷ boolean_token b ∷ key (codes "type") ∷ (json_tokens (outline d) ++ end_object ∷ [])
-
-parts_tokens : (n : Text) (d : Data) (b : Bool) (m : Metadata) → begin_object ∷ (metadata_tokens m ++ tail_tokens n d b) ≡ json_tokens (outline (parts_value n d b m))
+parts_tokens : (n : Text) (d : Data) (b : Bool) (m : Metadata)
+    → begin_object ∷ (metadata_tokens m ++ key (codes "name") ∷ string_token n ∷ key (codes "nullable") ∷ boolean_token b ∷ key (codes "type")
+    ∷ (json_tokens (outline d) ++ end_object ∷ [])) ≡ json_tokens (outline (parts_value n d b m))
 parts_tokens n d b [] = refl
 parts_tokens n d b (e ∷ es) = refl
 

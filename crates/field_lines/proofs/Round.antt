@@ -2,15 +2,15 @@
 use Rattle.std.proofs.Common.{◌≡◌, ℤ, pos, negsuc, [], ◌∷◌, Bool, cond, IsTrue, Some, None, option_map, option_and_then, refl, ap, ◌∙◌}
 use Rattle.std.proofs.lemmas.Bool.{and_parts}
 use Rattle.std.specs.List.{list_all}
-use Rattle.serde_json.specs.Data.{Data, number, string}
+use Rattle.serde_json.specs.Data.{Data, string}
 use Rattle.serde_json.specs.Find.{of_integer, as_integer, as_str}
 use Rattle.arrow_values.specs.declared.tree.UnionMode.{UnionMode}
 use Rattle.arrow_values.specs.declared.tree.UnionMode.TheVariants.{Sparse, Dense}
 use Rattle.arrow_values.specs.Tree.{Text, Metadata, Plain, null, Tree, plain, list, large_list, fixed_size_list, struct, union, FieldTrees, no_fields, field, MemberTrees, no_members, member, FieldTree, field_tree}
 use Rattle.arrow_values.specs.Union.{is_type_id, are_distinct}
 use Rattle.field_lines.specs.Names.{plain_name, plain_named, mode_name, mode_named}
-use Rattle.field_lines.specs.FieldOfValue.{kept, is_size, size_of_value, texts_in, field_from, field_before, member_before, list_of, large_list_of, fixed_size_list_of, tree_ids, union_of, field_of_value, type_of_value, fields_in, members_in}
-use Rattle.field_lines.specs.ValueOfField.{texts_value, parts_value, type_value, fields_value, members_value, value_of_field}
+use Rattle.field_lines.specs.FieldOfValue.{kept, is_size, texts_in, list_of, large_list_of, tree_ids, field_of_value, type_of_value, fields_in, members_in}
+use Rattle.field_lines.specs.Line.{texts_value, parts_value, type_value, fields_value, members_value, value_of_field}
 use Rattle.field_lines.specs.LineForm.{HasLineForm, FieldsHaveLineForm, MembersHaveLineForm}
 
 -- the words
@@ -30,40 +30,35 @@ as_integer-of (negsuc n) = refl
 kept-integer : (p : ℤ → Bool) (z : ℤ) → IsTrue (p z) → option_and_then (kept p) (as_integer (of_integer z)) ≡ Some z
 kept-integer p z is = ap (option_and_then (kept p)) (as_integer-of z) ∙ ap (λ b. cond b (Some z) None) is
 
-texts_in-value : (m : Metadata) → texts_in (texts_value m) ≡ Some m
+pub texts_in-value : (m : Metadata) → texts_in (texts_value m) ≡ Some m
 texts_in-value [] = refl
 texts_in-value (e ∷ es) = ap (λ o. option_and_then (λ text. option_map (λ texts. ((e.0, text) ∷ texts)) o) (as_str (string e.1))) (texts_in-value es)
 
 -- the parts are read back, where the type is
 parts_read : (n : Text) (d : Data) (t : Tree) (b : Bool) (m : Metadata) → type_of_value d ≡ Some t → field_of_value (parts_value n d b m) ≡ Some (field_tree n t b m)
-parts_read n d t b [] is = ap (λ o. field_from (Some n) (Some b) o (Some [])) is
-parts_read n d t b (e ∷ es) is =
-    ap (λ o. field_from (Some n) (Some b) o (texts_in (texts_value (e ∷ es)))) is ∙ ap (λ o. field_from (Some n) (Some b) (Some t) o) (texts_in-value (e ∷ es))
+parts_read n d t b [] is = rw is
+parts_read n d t b (e ∷ es) is = rw (is, texts_in-value (e ∷ es))
 
 mutual
   type_read : (t : Tree) → HasLineForm t → type_of_value (type_value t) ≡ Some t
   type_read (plain p) h = ap (option_map plain) (named_plain p)
   type_read (list n t b m) h = ap (option_map list_of) (parts_read n (type_value t) t b m (type_read t h))
   type_read (large_list n t b m) h = ap (option_map large_list_of) (parts_read n (type_value t) t b m (type_read t h))
-  type_read (fixed_size_list n t b m s) h =
-      ap (option_and_then (λ f. option_map (fixed_size_list_of f) (size_of_value (number (of_integer s))))) (parts_read n (type_value t) t b m (type_read t h.0)) ∙ ap (option_map (fixed_size_list n t b m)) (kept-integer is_size s h.1)
+  type_read (fixed_size_list n t b m s) h = rw (parts_read n (type_value t) t b m (type_read t h.0), kept-integer is_size s h.1)
   type_read (struct fs) h = ap (option_map struct) (fields_read fs h)
   type_read (union ms mode) h =
       let parts = and_parts (list_all is_type_id (tree_ids ms)) (are_distinct (tree_ids ms)) h.1 in
-      ap (option_and_then (λ mode. option_and_then (union_of mode) (members_in (members_value ms)))) (named_mode mode) ∙ ap (option_and_then (union_of mode)) (members_read ms h.0 parts.0) ∙ ap (λ b. cond b (Some (union ms mode)) None) parts.1
+      rw (named_mode mode, members_read ms h.0 parts.0, parts.1)
 
   fields_read : (fs : FieldTrees) → FieldsHaveLineForm fs → fields_in (fields_value fs) ≡ Some fs
   fields_read no_fields h = refl
-  fields_read (field n t b m fs) h =
-      ap (option_and_then (λ f. option_map (field_before f) (fields_in (fields_value fs)))) (parts_read n (type_value t) t b m (type_read t h.0)) ∙ ap (option_map (field n t b m)) (fields_read fs h.1)
+  fields_read (field n t b m fs) h = rw (parts_read n (type_value t) t b m (type_read t h.0), fields_read fs h.1)
 
   members_read : (ms : MemberTrees) → MembersHaveLineForm ms → IsTrue (list_all is_type_id (tree_ids ms)) → members_in (members_value ms) ≡ Some ms
   members_read no_members h ids = refl
   members_read (member i n t b m ms) h ids =
       let parts = and_parts (is_type_id i) (list_all is_type_id (tree_ids ms)) ids in
-      ap (option_and_then (λ id. option_and_then (λ f. option_map (member_before id f) (members_in (members_value ms))) (field_of_value (parts_value n (type_value t) b m)))) (kept-integer is_type_id i parts.0)
-      ∙ ap (option_and_then (λ f. option_map (member_before i f) (members_in (members_value ms)))) (parts_read n (type_value t) t b m (type_read t h.0))
-      ∙ ap (option_map (member i n t b m)) (members_read ms h.1 parts.1)
+      rw (kept-integer is_type_id i parts.0, parts_read n (type_value t) t b m (type_read t h.0), members_read ms h.1 parts.1)
 
 -- the value of a field stands for it
 pub field_read : (f : FieldTree) → HasLineForm f.tree → field_of_value (value_of_field f) ≡ Some f

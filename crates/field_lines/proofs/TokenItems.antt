@@ -40,10 +40,6 @@ pub record AreItemsTaken {X T : Type 0} (step : X → T → T) (whole : Items �
   pub items : (ds : Items) → whole (front ds) ≡ option_map (before step made) (whole ds)
   pub fewer : length left ≤ length all
 
-untouched : (o : Option (Items × List Token)) → o ≡ parse_map (λ ds. ds) o
-untouched None = refl
-untouched (Some p) = refl
-
 nested : (front : Items → Items) (d : Data) (o : Option (Items × List Token)) → parse_map front (parse_map (item d) o) ≡ parse_map (λ ds. front (item d ds)) o
 nested front d None = refl
 nested front d (Some p) = refl
@@ -51,7 +47,7 @@ nested front d (Some p) = refl
 pub taken_start : {X T : Type 0} {step : X → T → T} {whole : Items → Option T} {depth : ℕ} {all : List Token} {made : List X} → made ≡ [] → AreItemsTaken step whole depth all all made
 taken_start {step = step} {whole} {depth} {all} none = record {
   front = λ ds. ds;
-  decides = untouched (next_items depth all);
+  decides = sym (option_map_id (next_items depth all));
   items = λ ds. sym (ap (λ l. option_map (before step l) (whole ds)) none ∙ option_map_id (whole ds));
   fewer = omega arith;
 }
@@ -93,8 +89,7 @@ module _ {X T : Type 0} {step : X → T → T} {whole : Items → Option T} {dep
         record {
           front = λ ds. way.front (item one.0 ds);
           decides = way.decides ∙ ap (parse_map way.front) one.1 ∙ nested way.front one.0 (next_items depth r);
-          items = λ ds. way.items (item one.0 ds) ∙ ap (option_map (before step made)) (law one.0 ds ∙ ap (option_and_then (λ x. option_map (step x) (whole ds))) (sym one.2))
-              ∙ one_more step made x (whole ds) ∙ ap (λ l. option_map (before step l) (whole ds)) (sym is);
+          items = λ ds. rw (way.items (item one.0 ds), law one.0 ds, ← one.2, is) (one_more step made x (whole ds));
           fewer = omega (arith, way.fewer);
         }
 
@@ -128,6 +123,3 @@ zip_push _ _ i f h = absurd (omega arith)
 
 pub parts_push : (ids : List ℤ) (fs : List FieldTree) (i : ℤ) (f : FieldTree) → AreMemberParts ids fs → IsTrue (is_type_id i) → AreMemberParts (ids ++ (i ∷ [])) (fs ++ (f ∷ []))
 parts_push ids fs i f parts good = (simp length-append (ap (λ n. n + 1) parts.0), list_all-append is_type_id ids (i ∷ []) ∙ and_from _ _ parts.1 (and_from _ _ good refl))
-
-pub pair_is : {i : Option ℤ} {f : Option FieldTree} (d e : Data) → i ≡ id_of_value d → f ≡ field_of_value e → option_and_then (λ id. option_map (λ g. (id, g)) f) i ≡ pair_read (array (item d (item e no_items)))
-pair_is d e at_id at_field = rw (at_id, at_field)

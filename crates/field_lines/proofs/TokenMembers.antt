@@ -1,6 +1,6 @@
 -- The members of an object from tokens: those of a field, of which the last value at each key counts, and those of a type, with one key or two and no others.
-use Rattle.std.proofs.Common.{◌≡◌, ℕ, ◌≤◌, List, [], length, Bool, true, false, cond, bytes_eq, nat_cmp, Ordering, Equal, Option, Some, None, option_and_then, codes, refl, sym, ap, ◌∙◌, arith, ◌<◌, Less, Greater, IfSome, option_map, not, ◌⊎◌, inl, inr, ⊎_elim, subst}
-use Rattle.std.proofs.lemmas.Bool.{cond-false, false_from_ne_true, and_left, and_right, both_ways, not-true, not-false}
+use Rattle.std.proofs.Common.{◌≡◌, ℕ, ◌≤◌, List, length, Bool, true, false, cond, bytes_eq, nat_cmp, Ordering, Equal, Option, Some, None, option_and_then, codes, refl, sym, ap, ◌∙◌, arith, ◌<◌, Less, Greater, option_map, not, ◌⊎◌, inl, inr, ⊎_elim, subst}
+use Rattle.std.proofs.lemmas.Bool.{cond-false, cond_both, false_from_ne_true, and_left, and_right, both_ways, not-true, not-false}
 use Rattle.std.proofs.lemmas.Map.Text.{is_eq-slice_cmp}
 use Rattle.std.specs.Cmp.Lexicographic.{slice_cmp}
 use Rattle.std.specs.Ordering.{is_eq, match_ordering}
@@ -10,11 +10,11 @@ use Rattle.std.proofs.lemmas.Cmp.{nat_list_cmp_total, tied_itself}
 use Rattle.json.specs.Token.{Token}
 use Rattle.json.specs.Json.{read_key}
 use Rattle.json.proofs.Grammar.{read_key-shorter}
-use Rattle.serde_json.specs.Data.{Data, string, array, object, Members, no_members, member, put}
-use Rattle.serde_json.specs.Find.{get_member, as_str, as_bool, as_object, as_array}
+use Rattle.serde_json.specs.Data.{Data, string, object, Members, no_members, member, put}
+use Rattle.serde_json.specs.Find.{get_member, as_str, as_bool, as_object}
 use Rattle.arrow_values.specs.Tree.{Text, Metadata, Tree, FieldTree}
-use Rattle.field_lines.specs.FieldOfValue.{under, metadata_of_value, field_from, field_of_value, type_in, type_of_value, fields_of_value, members_of_value, are_keys}
-use Rattle.field_lines.specs.Keys.{pair_read, only_at, fixed_size_list_at, union_at}
+use Rattle.field_lines.specs.FieldOfValue.{under, metadata_of_value, field_from, field_of_value, type_in, type_of_value, are_keys}
+use Rattle.field_lines.specs.Keys.{only_at, fixed_size_list_at, union_at}
 use Rattle.value_tokens.specs.Next.{next_value, next_members, ReadsMembers, next_after, after, Reads, ReadsAfter}
 use Rattle.value_tokens.specs.Turns.{member_read, members_over, value_takes, key_refused, after_some, taken, named}
 use Rattle.value_tokens.specs.Presence.{get_member-put_at, Has, kept, has_new, has_taken}
@@ -25,20 +25,23 @@ apart k l other = false_from_ne_true (bytes_eq k l) (λ e. other ((bytes_eq-Deci
 
 -- ---- the parts of a field
 
-picked : (r : Ordering) (d : Data) (a : Option Data) → option_and_then type_of_value (match_ordering r a (Some d) a) ≡ cond (is_eq r) (type_of_value d) (option_and_then type_of_value a)
-picked Equal d a = refl
-picked _ d a = refl
+at_first : (r : Ordering) (d o : Option Data) → match_ordering r o d o ≡ cond (is_eq r) d o
+at_first Equal d o = refl
+at_first _ d o = refl
+
+pub get_member-at : (q k : Text) (d : Data) (ms : Members) → get_member q (member k d ms) ≡ cond (bytes_eq q k) (Some d) (get_member q ms)
+get_member-at q k d ms = at_first (slice_cmp nat_cmp q k) (Some d) (get_member q ms) ∙ ap (λ b. cond b (Some d) (get_member q ms)) (is_eq-slice_cmp q k)
+
+chosen : {A B : Type 0} (f : Option A → B) (b : Bool) (x y : Option A) → f (cond b x y) ≡ cond b (f x) (f y)
+chosen f true x y = refl
+chosen f false x y = refl
 
 -- the type is what stands at its key
 type_in-get : (ms : Members) → type_in ms ≡ under type_of_value (codes "type") ms
 type_in-get no_members = refl
 type_in-get (member k d ms) =
-    ap (cond (bytes_eq (codes "type") k) (type_of_value d)) (type_in-get ms) ∙ ap (λ b. cond b (type_of_value d) (under type_of_value (codes "type") ms)) (sym (is_eq-slice_cmp (codes "type") k))
-    ∙ sym (picked (slice_cmp nat_cmp (codes "type") k) d (get_member (codes "type") ms))
-
-chosen : {A B : Type 0} (f : Option A → B) (b : Bool) (x y : Option A) → f (cond b x y) ≡ cond b (f x) (f y)
-chosen f true x y = refl
-chosen f false x y = refl
+    let q = codes "type" in
+    rw (get_member-at q k d ms, type_in-get ms) (sym (chosen (option_and_then type_of_value) (bytes_eq q k) (Some d) (get_member q ms)))
 
 -- what f says of what stands at the key q, after d is put at k
 put_at : {A : Type 0} (f : Option Data → A) (q k : Text) (d : Data) (found : Members) → f (get_member q (put k d found)) ≡ cond (bytes_eq q k) (f (Some d)) (f (get_member q found))
@@ -81,47 +84,34 @@ parts_end {depth} {all} {left} {r} {name} {nullable} {tree} {metadata} way is ov
     let ms = way.found in
     (ms, way.decides ∙ members_over depth ms left r over, rw (is, way.at_name, way.at_nullable, way.at_type, way.at_metadata, type_in-get ms))
 
--- what is no object stands for no field, and what is no list for no fields and no members
-pub no_field : (d : Data) → as_object d ≡ None → None ≡ field_of_value d
-no_field (object ms) e = cc
-no_field _ e = refl
-
+-- what is no object and no text stands for no type
 pub no_type : (d : Data) → as_object d ≡ None → as_str d ≡ None → None ≡ type_of_value d
 no_type (string s) e f = cc
 no_type (object ms) e f = cc
 no_type _ e f = refl
 
-pub no_fields_list : (d : Data) → as_array d ≡ None → None ≡ fields_of_value d
-no_fields_list (array ds) e = cc
-no_fields_list _ e = refl
-
-pub no_members_list : (d : Data) → as_array d ≡ None → None ≡ members_of_value d
-no_members_list (array ds) e = cc
-no_members_list _ e = refl
-
-pub no_pair : (d : Data) → as_array d ≡ None → None ≡ pair_read d
-no_pair (array ds) e = cc
-no_pair _ e = refl
-
 -- a part at another key
 pub part_other : {A : Type 0} {q k : Text} (here : Option A) {old : Option A} → (k ≡ q → ⊥) → Part q k old here old
 part_other {q = q} {k} here {old} other = sym (cond-false (bytes_eq q k) here old (apart q k (λ e. other (sym e))))
-
-pub parts_start : (depth : _) (all : List Token) (metadata : Option Metadata) → metadata ≡ Some [] → ArePartsUnderWay depth all all None None None metadata
-parts_start depth all metadata empty = record { found = no_members; decides = refl; at_name = refl; at_nullable = refl; at_type = refl; at_metadata = empty; fewer = omega arith }
 
 -- ---- the keys of a type
 
 -- what stands at a key of one member is at that member's key, and of two members one has the key
 only_key : (q k : Text) (d : Data) → Has q (member k d no_members) → q ≡ k
-only_key q k d h = (bytes_eq-Decides q k).0 (cond_some (bytes_eq q k) d h.0 (sym (get_member-put_at q k d no_members) ∙ h.1)).0
-
-one_of : (o : Ordering) (u k l : Text) (d e : Data) → slice_cmp nat_cmp u k ≡ o → (x : Data) × (match_ordering o (get_member u (member l e no_members)) (Some d) (get_member u (member l e no_members)) ≡ Some x) → (u ≡ k) ⊎ (u ≡ l)
-one_of Equal u k l d e is h = inl ((bytes_eq-Decides u k).0 (sym (is_eq-slice_cmp u k) ∙ ap is_eq is))
-one_of _ u k l d e is h = inr (only_key u l e h)
+only_key q k d h = (bytes_eq-Decides q k).0 (cond_some (bytes_eq q k) d h.0 (sym (get_member-at q k d no_members) ∙ h.1)).0
 
 either_key : (u k l : Text) (d e : Data) → Has u (member k d (member l e no_members)) → (u ≡ k) ⊎ (u ≡ l)
-either_key u k l d e h = one_of (slice_cmp nat_cmp u k) u k l d e refl h
+either_key u k l d e h =
+    cond_both (bytes_eq u k) (Some d) (get_member u (member l e no_members)) (λ o. o ≡ Some h.0 → (u ≡ k) ⊎ (u ≡ l))
+    (λ same _. inl ((bytes_eq-Decides u k).0 same)) (λ _ is. inr (only_key u l e (h.0, is))) (sym (get_member-at u k d (member l e no_members)) ∙ h.1)
+
+-- members that are skipped, of which one has the key that was read
+skipped : (depth : ℕ) (found : Members) (k : Text) (s : List Token) {u r : List Token} → after (next_value depth s) ≡ Some u
+    → ((more : Members) → after (next_members depth more u) ≡ Some r) → (ms : Members) × (next_after depth found k s ≡ Some (ms, r)) × Has k ms
+skipped depth found k s {u} {r} passed rest =
+    let d = after_some (next_value depth s) u passed in
+    let ms = after_some (next_members depth (put k d.0 found) u) r (rest (put k d.0 found)) in
+    (ms.0, taken depth found k s u d.0 d.1 ∙ ms.1, kept depth k (put k d.0 found) ms.0 u r ms.1 (has_new k d.0 found))
 
 -- a member that is skipped, after which the rest is refused
 pub members_cut : (depth : ℕ) (found : Members) (ts : List Token) {k : Text} {s r : List Token} → read_key ts ≡ Some (Some k, s) → after (next_value depth s) ≡ Some r → ((more : Members) → next_members depth more r ≡ None) → next_members depth found ts ≡ None
@@ -134,9 +124,6 @@ pub record IsOnlyUnderWay {A : Type 0} (f : Data → Option A) (depth : _) (only
   pub decides : next_after depth no_members only all ≡ next_members depth (member only value no_members) left
   pub answers : answer ≡ f value
   pub fewer : length left < length all
-
-pub only_start : {A : Type 0} (f : Data → Option A) (depth : _) (only : Text) (all left : List Token) (answer : Option A) → Reads f depth all answer left → IsOnlyUnderWay f depth only all left answer
-only_start f depth only all left answer read = record { value = read.0; decides = taken depth no_members only all left read.0 read.1; answers = read.2; fewer = value_takes depth all left read.0 read.1 }
 
 put_only : (k : Text) (d e : Data) → put k d (member k e no_members) ≡ member k d no_members
 put_only k d e = rw (tied_itself nat_list_cmp_total k)
@@ -155,7 +142,7 @@ module _ {A : Type 0} {f : Data → Option A} {depth : ℕ} {only : Text} {all l
       record {
         value = read.0;
         decides = way.decides ∙ member_read depth (member only way.value no_members) k left s r read.0 named read.1
-            ∙ ap (λ n. next_members depth (put n read.0 (member only way.value no_members)) r) is ∙ ap (λ ms. next_members depth ms r) (put_only only read.0 way.value);
+            ∙ rw (is, put_only only read.0 way.value);
         answers = read.2;
         fewer = omega (arith, way.fewer);
       }
@@ -165,14 +152,10 @@ module _ {A : Type 0} {f : Data → Option A} {depth : ℕ} {only : Text} {all l
 
   pub only_spoiled : {k : Text} {u r : List Token} {b : Bool} → read_key left ≡ Some (Some k, s) → b ≡ not (bytes_eq k only) → b ≡ true → after (next_value depth s) ≡ Some u
       → ((found : Members) → after (next_members depth found u) ≡ Some r) → ReadsAfter (only_at f only) depth no_members only all None r
-  only_spoiled {k} {u} {r} named e differs passed rest =
-      let d = after_some (next_value depth s) u passed in
-      let found = put k d.0 (member only way.value no_members) in
-      let ms = after_some (next_members depth found u) r (rest found) in (
-        ms.0,
-        way.decides ∙ member_read depth (member only way.value no_members) k left s u d.0 named d.1 ∙ ms.1,
-        spoiled f only k ms.0 (λ is. both_ways _ (not-true _ (sym e ∙ differs)) ((bytes_eq-Decides k only).1 is)) (kept depth k found ms.0 u r ms.1 (has_new k d.0 (member only way.value no_members))),
-      )
+  only_spoiled {k} came e differs passed rest =
+      let ms = skipped depth (member only way.value no_members) k s passed rest in
+      let other = λ (is : k ≡ only). both_ways _ (not-true _ (sym e ∙ differs)) ((bytes_eq-Decides k only).1 is) in
+      (ms.0, way.decides ∙ named depth (member only way.value no_members) k left s came ∙ ms.1, spoiled f only k ms.0 other ms.2)
 
 -- ---- two keys
 
@@ -194,15 +177,11 @@ pub record AreTwoUnderWay {A B : Type 0} (f : Data → Option A) (g : Data → O
   pub at_second : Option Data
   pub decides : next_after depth no_members first all ≡ pending depth (two k l at_first at_second) next left
   pub answers : (x ≡ option_and_then f at_first) × (y ≡ option_and_then g at_second)
-  pub fewer : IfSome next (λ _. length left ≤ length all) × (next ≡ None → length left < length all)
+  pub fewer : (length left ≤ length all) × (next ≡ None → length left < length all)
 
 next_pending : (depth : _) (found : Members) (next : Option Text) (ts s : List Token) → read_key ts ≡ Some (next, s) → next_members depth found ts ≡ pending depth found next s
 next_pending depth found None ts s e = members_over depth found ts s e
 next_pending depth found (Some k) ts s e = named depth found k ts s e
-
-pub two_start : {A B : Type 0} (f : Data → Option A) (g : Data → Option B) (k l : Text) (depth : _) (first : Text) (all : List Token) (x : Option A) (y : Option B) → x ≡ None → y ≡ None
-    → AreTwoUnderWay f g k l depth first all all (Some first) x y
-two_start f g k l depth first all x y no_x no_y = record { at_first = None; at_second = None; decides = refl; answers = (no_x, no_y); fewer = (omega arith, λ never. cc) }
 
 -- keys that stand in this order
 abbrev pub AreOrdered : Text → Text → Type 0
@@ -221,23 +200,24 @@ put_second : (k l : Text) (d : Data) (a b : Option Data) → AreOrdered k l → 
 put_second k l d None b h = put_alone l d b
 put_second k l d (Some c) b h = rw h.1 (ap (member k c) (put_alone l d b))
 
-strictly : (next : Option Text) (left all : List Token) → length left < length all → IfSome next (λ _. length left ≤ length all) × (next ≡ None → length left < length all)
-strictly None left all less = (tt, λ e. less)
-strictly (Some k) left all less = (omega arith, λ e. less)
-
 module _ {A B : Type 0} {f : Data → Option A} {g : Data → Option B} {k l : Text} {depth : ℕ} {first : Text} {all left : List Token} {now : Option Text} {x : Option A} {y : Option B}
     (before : AreTwoUnderWay f g k l depth first all left now x y) {q : Text} (came : now ≡ Some q) where
-  at_key : AreTwoUnderWay f g k l depth first all left (Some q) x y
-  at_key = subst (λ n. AreTwoUnderWay f g k l depth first all left n x y) came before
-
   next_is : {C : Type 0} {h : Data → C} {o : C} {r : List Token} (read : Reads h depth left o r) → next_after depth no_members first all ≡ next_members depth (put q read.0 (two k l before.at_first before.at_second)) r
   next_is {r = r} read = before.decides ∙ ap (λ n. pending depth (two k l before.at_first before.at_second) n left) came ∙ taken depth (two k l before.at_first before.at_second) q left r read.0 read.1
 
-  later : {C : Type 0} {h : Data → C} {o : C} {r s : List Token} {next : Option Text} → Reads h depth left o r → read_key r ≡ Some (next, s) → IfSome next (λ _. length s ≤ length all) × (next ≡ None → length s < length all)
-  later {r = r} {s} {next} read e =
+  took : {C : Type 0} {h : Data → C} {o : C} {r s : List Token} {next : Option Text} {new_x : _} {new_y : _} (a b : _) (read : Reads h depth left o r)
+      → read_key r ≡ Some (next, s) → put q read.0 (two k l before.at_first before.at_second) ≡ two k l a b
+      → (new_x ≡ option_and_then f a) × (new_y ≡ option_and_then g b) → AreTwoUnderWay f g k l depth first all s next new_x new_y
+  took {r = r} {s} {next} a b read e same answers =
       let less = value_takes depth left r read.0 read.1 in
       let shorter = read_key-shorter r next s e in
-      strictly next s all (omega (arith, at_key.fewer.0))
+      record {
+        at_first = a;
+        at_second = b;
+        decides = next_is read ∙ ap (λ ms. next_members depth ms r) same ∙ next_pending depth _ next r s e;
+        answers = answers;
+        fewer = (omega (arith, before.fewer.0), λ _. omega (arith, before.fewer.0));
+      }
 
   pub two_refused : {C : Type 0} {h : Data → C} {o : C} {r : List Token} → Reads h depth left o r → read_key r ≡ None → next_after depth no_members first all ≡ None
   two_refused read none = next_is read ∙ key_refused _ _ _ none
@@ -245,43 +225,31 @@ module _ {A B : Type 0} {f : Data → Option A} {g : Data → Option B} {k l : T
   -- a third key beside the two
   pub two_spoiled : {u r : List Token} {at : Members → Option Tree} → after (next_value depth left) ≡ Some u → ((found : Members) → after (next_members depth found u) ≡ Some r)
       → ((ms : Members) → Has q ms → None ≡ at ms) → ReadsAfter at depth no_members first all None r
-  two_spoiled {u} {r} passed rest none =
-      let d = after_some (next_value depth left) u passed in
+  two_spoiled passed rest none =
       let found = two k l before.at_first before.at_second in
-      let ms = after_some (next_members depth (put q d.0 found) u) r (rest (put q d.0 found)) in
-      (ms.0, next_is {h = λ e. e} (d.0, d.1, refl) ∙ ms.1, none ms.0 (kept depth q (put q d.0 found) ms.0 u r ms.1 (has_new q d.0 found)))
+      let ms = skipped depth found q left passed rest in
+      (ms.0, before.decides ∙ ap (λ n. pending depth found n left) came ∙ ms.1, none ms.0 ms.2)
 
 module _ {A B : Type 0} {f : Data → Option A} {g : Data → Option B} {k l : Text} {depth : ℕ} {first : Text} {all left : List Token} {now : Option Text} {x : Option A} {y : Option B}
     (ordered : AreOrdered k l) (way : AreTwoUnderWay f g k l depth first all left now x y) {r s : List Token} {next : Option Text} where
   pub first_read : {new : Option A} → now ≡ Some k → Reads f depth left new r → read_key r ≡ Some (next, s) → AreTwoUnderWay f g k l depth first all s next new y
-  first_read came read e = record {
-    at_first = Some read.0;
-    at_second = way.at_second;
-    decides = next_is way came read ∙ ap (λ ms. next_members depth ms r) (put_first k l read.0 way.at_first way.at_second ordered) ∙ next_pending depth _ next r s e;
-    answers = (read.2, way.answers.1);
-    fewer = later way came read e;
-  }
+  first_read came read e = took way came (Some read.0) way.at_second read e (put_first k l read.0 way.at_first way.at_second ordered) (read.2, way.answers.1)
 
   pub second_read : {new : Option B} → now ≡ Some l → Reads g depth left new r → read_key r ≡ Some (next, s) → AreTwoUnderWay f g k l depth first all s next x new
-  second_read came read e = record {
-    at_first = way.at_first;
-    at_second = Some read.0;
-    decides = next_is way came read ∙ ap (λ ms. next_members depth ms r) (put_second k l read.0 way.at_first way.at_second ordered) ∙ next_pending depth _ next r s e;
-    answers = (way.answers.0, read.2);
-    fewer = later way came read e;
-  }
+  second_read came read e = took way came way.at_first (Some read.0) read e (put_second k l read.0 way.at_first way.at_second ordered) (way.answers.0, read.2)
 
 -- one of two keys is neither of two others
-is_no_pair : (q k l m n : Text) → bytes_eq q m ≡ false → bytes_eq q n ≡ false → (q ≡ k) ⊎ (q ≡ l) → are_keys k l m n ≡ false
-is_no_pair q k l m n e f (inl is) = and_left (bytes_eq k m) (bytes_eq l n) (rw (← is) e)
-is_no_pair q k l m n e f (inr is) = and_right (bytes_eq k m) (bytes_eq l n) (rw (← is) f)
+is_no_pair : (q k l m n : Text) → (bytes_eq q m ≡ false) × (bytes_eq q n ≡ false) → (q ≡ k) ⊎ (q ≡ l) → are_keys k l m n ≡ false
+is_no_pair q k l m n none (inl is) = and_left (bytes_eq k m) (bytes_eq l n) (rw (← is) none.0)
+is_no_pair q k l m n none (inr is) = and_right (bytes_eq k m) (bytes_eq l n) (rw (← is) none.1)
 
 pub no_fixed_size_list : (u : Text) (ms : Members) → (u ≡ codes "fixed_size_list" → ⊥) → (u ≡ codes "size" → ⊥) → Has u ms → None ≡ fixed_size_list_at ms
-no_fixed_size_list u (member k d (member l e no_members)) a b h = rw (is_no_pair u k l (codes "fixed_size_list") (codes "size") (apart u _ a) (apart u _ b) (either_key u k l d e h))
+no_fixed_size_list u (member k d (member l e no_members)) a b h =
+    rw (is_no_pair u k l (codes "fixed_size_list") (codes "size") (apart u _ a, apart u _ b) (either_key u k l d e h))
 no_fixed_size_list u _ a b h = refl
 
 pub no_union : (u : Text) (ms : Members) → (u ≡ codes "mode" → ⊥) → (u ≡ codes "union" → ⊥) → Has u ms → None ≡ union_at ms
-no_union u (member k d (member l e no_members)) a b h = rw (is_no_pair u k l (codes "mode") (codes "union") (apart u _ a) (apart u _ b) (either_key u k l d e h))
+no_union u (member k d (member l e no_members)) a b h = rw (is_no_pair u k l (codes "mode") (codes "union") (apart u _ a, apart u _ b) (either_key u k l d e h))
 no_union u _ a b h = refl
 
 -- ---- the key that comes first says which type it is
@@ -304,7 +272,7 @@ nothing_at_one q k d none h = rw (← only_key q k d h, none.0, none.1, none.2)
 nothing_at_two : (q k l : Text) (d e : Data) → IsNoSize q → IsNoMode q → Has q (member k d (member l e no_members)) → None ≡ type_of_value (object (member k d (member l e no_members)))
 nothing_at_two q k l d e size mode h =
     let one = either_key q k l d e h in
-    rw (is_no_pair q k l (codes "fixed_size_list") (codes "size") size.0 size.1 one, is_no_pair q k l (codes "mode") (codes "union") mode.0 mode.1 one)
+    rw (is_no_pair q k l (codes "fixed_size_list") (codes "size") size one, is_no_pair q k l (codes "mode") (codes "union") mode one)
 
 as_one : {A : Type 0} (f : Data → Option A) (w : A → Tree) (q : Text) → IsNoSize q → IsNoMode q → ((d : Data) → option_map w (only_at f q (member q d no_members)) ≡ type_of_value (object (member q d no_members)))
     → (ms : Members) → Has q ms → option_map w (only_at f q ms) ≡ type_of_value (object ms)
@@ -316,15 +284,13 @@ as_one f w q size mode own _ h = refl
 pub as_fixed_size_list : (q : Text) (ms : Members) → (q ≡ codes "fixed_size_list") ⊎ (q ≡ codes "size") → Has q ms → fixed_size_list_at ms ≡ type_of_value (object ms)
 as_fixed_size_list q (member k d no_members) one h = nothing_at_one q k d (either_is IsNoOne one (refl, refl, refl) (refl, refl, refl)) h
 as_fixed_size_list q (member k d (member l e no_members)) one h =
-    let other = either_is IsNoMode one (refl, refl) (refl, refl) in
-    rw (is_no_pair q k l (codes "mode") (codes "union") other.0 other.1 (either_key q k l d e h))
+    rw (is_no_pair q k l (codes "mode") (codes "union") (either_is IsNoMode one (refl, refl) (refl, refl)) (either_key q k l d e h))
 as_fixed_size_list q _ one h = refl
 
 pub as_union : (q : Text) (ms : Members) → (q ≡ codes "mode") ⊎ (q ≡ codes "union") → Has q ms → union_at ms ≡ type_of_value (object ms)
 as_union q (member k d no_members) one h = nothing_at_one q k d (either_is IsNoOne one (refl, refl, refl) (refl, refl, refl)) h
 as_union q (member k d (member l e no_members)) one h =
-    let other = either_is IsNoSize one (refl, refl) (refl, refl) in
-    rw (is_no_pair q k l (codes "fixed_size_list") (codes "size") other.0 other.1 (either_key q k l d e h))
+    rw (is_no_pair q k l (codes "fixed_size_list") (codes "size") (either_is IsNoSize one (refl, refl) (refl, refl)) (either_key q k l d e h))
 as_union q _ one h = refl
 
 as_nothing : (q : Text) (ms : Members) → IsNoOne q → IsNoSize q → IsNoMode q → Has q ms → None ≡ type_of_value (object ms)
@@ -340,16 +306,12 @@ taken_as depth ts {k} {s} {r} came same read = (read.0, named depth no_members k
 pub only_taken : {A : Type 0} {f : Data → Option A} (w : A → Tree) (o : Option A) (depth : ℕ) (ts : List Token) {k : Text} {s r : List Token} → read_key ts ≡ Some (Some k, s) → IsNoSize k → IsNoMode k
     → ((d : Data) → option_map w (only_at f k (member k d no_members)) ≡ type_of_value (object (member k d no_members))) → ReadsAfter (only_at f k) depth no_members k s o r
     → ReadsMembers (λ ms. type_of_value (object ms)) depth no_members ts (option_map w o) r
-only_taken {f = f} w o depth ts {k} {s} {r} came size mode own read =
-    (read.0, named depth no_members k ts s came ∙ read.1, ap (option_map w) read.2 ∙ as_one f w k size mode own read.0 (has_taken depth k no_members read.0 s r read.1))
+only_taken {f = f} w o depth ts {k} came size mode own read = taken_as depth ts came (as_one f w k size mode own) (read.0, read.1, ap (option_map w) read.2)
 
 pub none_taken_as : (depth : ℕ) (ts : List Token) {k : Text} {s u r : List Token} → read_key ts ≡ Some (Some k, s) → (k ≡ codes "list" → ⊥) → (k ≡ codes "large_list" → ⊥) → (k ≡ codes "struct" → ⊥) → (k ≡ codes "fixed_size_list" → ⊥)
     → (k ≡ codes "size" → ⊥) → (k ≡ codes "mode" → ⊥) → (k ≡ codes "union" → ⊥) → after (next_value depth s) ≡ Some u → ((found : Members) → after (next_members depth found u) ≡ Some r)
     → ReadsMembers (λ ms. type_of_value (object ms)) depth no_members ts None r
-none_taken_as depth ts {k} {s} {u} {r} came list large struct fixed size mode union passed rest =
-    let d = after_some (next_value depth s) u passed in
-    let ms = after_some (next_members depth (put k d.0 no_members) u) r (rest (put k d.0 no_members)) in (
-      ms.0,
-      member_read depth no_members k ts s u d.0 came d.1 ∙ ms.1,
-      as_nothing k ms.0 (apart k _ list, apart k _ large, apart k _ struct) (apart k _ fixed, apart k _ size) (apart k _ mode, apart k _ union) (kept depth k (put k d.0 no_members) ms.0 u r ms.1 (has_new k d.0 no_members)),
-    )
+none_taken_as depth ts {k} {s} came list large struct fixed size mode union passed rest =
+    let ms = skipped depth no_members k s passed rest in
+    let none = as_nothing k ms.0 (apart k _ list, apart k _ large, apart k _ struct) (apart k _ fixed, apart k _ size) (apart k _ mode, apart k _ union) ms.2 in
+    (ms.0, named depth no_members k ts s came ∙ ms.1, none)

@@ -1,5 +1,5 @@
 -- An object of texts from tokens: the texts so far are the members so far, until a member is no text; then slots, in which the newest value of a key stands.
-use Rattle.std.proofs.Common.{◌≡◌, ◌≤◌, ℕ, List, [], ◌∷◌, ◌++◌, length, nat_cmp, Option, Some, None, option_map, option_and_then, String, Global, string_bytes, string_cmp, refl, sym, ap, ◌∙◌, subst, arith, append_assoc, append-nil}
+use Rattle.std.proofs.Common.{◌≡◌, ◌≤◌, ℕ, List, [], ◌∷◌, ◌++◌, length, map, nat_cmp, IfSome, Option, Some, None, option_map, option_and_then, String, Global, string_bytes, string_cmp, refl, sym, ap, ◌∙◌, subst, arith, append_assoc, append-nil}
 use Rattle.std.proofs.lemmas.Iterator.Adapters.{option_map_id}
 use Rattle.std.proofs.lemmas.List.{map-append}
 use Rattle.std.specs.Cmp.Lexicographic.{slice_cmp}
@@ -10,31 +10,25 @@ use Rattle.std.specs.String.{string_cmp_total}
 use Rattle.json.specs.Token.{Token}
 use Rattle.json.specs.Json.{read_key}
 use Rattle.json.proofs.Grammar.{read_key-shorter}
-use Rattle.serde_json.specs.Data.{Data, string, object, Members, no_members, member, put}
-use Rattle.serde_json.specs.Find.{as_str, as_object}
+use Rattle.serde_json.specs.Data.{Data, string, Members, no_members, member, put}
+use Rattle.serde_json.specs.Find.{as_str}
 use Rattle.arrow_values.specs.Tree.{Text, Metadata}
 use Rattle.arrow_values.specs.View.{texts_of}
-use Rattle.field_lines.specs.FieldOfValue.{texts_in, metadata_of_value}
-use Rattle.field_lines.specs.Slots.{Slots, slots_in, slots_of, texts_kept}
-use Rattle.field_lines.specs.ValueOfField.{texts_value}
+use Rattle.field_lines.specs.FieldOfValue.{texts_in}
+use Rattle.field_lines.specs.Slots.{slots_in, slots_of, texts_kept}
+use Rattle.field_lines.specs.Line.{texts_value}
+use Rattle.field_lines.proofs.Round.{texts_in-value}
 use Rattle.field_lines.proofs.Prints.{Texts, insert_last, ordered, texts_put}
 use Rattle.value_tokens.specs.Next.{next_members, Reads, ReadsMembers}
 use Rattle.value_tokens.specs.Turns.{member_read, members_over, value_takes}
 
-pub text_is : (d : Data) (t : Text) → Some t ≡ as_str d → d ≡ string t
-text_is (string s) t e = let same : t ≡ s = cc in ap string (sym same)
-text_is _ t e = cc
-
-texts_back : (m : Metadata) → Some m ≡ texts_in (texts_value m)
-texts_back [] = refl
-texts_back (e ∷ es) = ap (λ o. option_map (λ texts. e ∷ texts) o) (texts_back es)
+pub text_says : (d : Data) → IfSome (as_str d) (λ s. d ≡ string s)
+text_says (string s) = refl
+text_says _ = tt
 
 pub record AreTextsUnderWay (depth : _) (all left : List Token) (made : Texts) : Type 0 where
   pub decides : next_members depth no_members all ≡ next_members depth (texts_value (texts_of made)) left
   pub fewer : length left ≤ length all
-
-pub texts_start : (depth : _) (all : List Token) (made : Texts) → made ≡ [] → AreTextsUnderWay depth all all made
-texts_start depth all made none = record { decides = ap (λ es. next_members depth (texts_value (texts_of es)) all) (sym none); fewer = omega arith }
 
 pub texts_go_on : {depth : ℕ} {all left s r : List Token} {made new : Texts} {k : Text} (key text : String Global) → AreTextsUnderWay depth all left made → read_key left ≡ Some (Some k, s)
     → Reads as_str depth s (Some (string_bytes text)) r → string_bytes key ≡ k → new ≡ insert_entry string_cmp made key text → AreTextsUnderWay depth all r new
@@ -43,21 +37,15 @@ texts_go_on {depth} {all} {left} {s} {r} {made} {new} {k} key text way named rea
     let less = value_takes depth s r d read.1 in
     let first = read_key-shorter left (Some k) s named in
     let put_in : texts_value (texts_of new) ≡ put k d (texts_value (texts_of made)) =
-    ap (λ es. texts_value (texts_of es)) is ∙ texts_put made key text ∙ ap (λ l. put l (string (string_bytes text)) (texts_value (texts_of made))) copied
-    ∙ ap (λ e. put k e (texts_value (texts_of made))) (sym (text_is d (string_bytes text) read.2)) in
+    rw (is, texts_put made key text, copied, subst (λ o. IfSome o (λ s. d ≡ string s)) (sym read.2) (text_says d)) in
     record {
       decides = way.decides ∙ member_read depth (texts_value (texts_of made)) k left s r d named read.1 ∙ ap (λ ms. next_members depth ms r) (sym put_in);
       fewer = omega (arith, way.fewer);
     }
 
 pub texts_end : {depth : ℕ} {all left r : List Token} {made : Texts} → AreTextsUnderWay depth all left made → read_key left ≡ Some (None, r) → ReadsMembers texts_in depth no_members all (Some (texts_of made)) r
-texts_end {depth} {all} {left} {r} {made} way over = (texts_value (texts_of made), way.decides ∙ members_over depth (texts_value (texts_of made)) left r over, texts_back (texts_of made))
-
-pub no_texts : (d : Data) → as_object d ≡ None → None ≡ metadata_of_value (Some d)
-no_texts d none = sym (ap (option_and_then texts_in) none)
-
-pub texts_read : (d : Data) (ms : Members) (o : Option Metadata) → d ≡ object ms → o ≡ texts_in ms → o ≡ metadata_of_value (Some d)
-texts_read d ms o is read = read ∙ sym (ap (λ e. metadata_of_value (Some e)) is)
+texts_end {depth} {all} {left} {r} {made} way over =
+    (texts_value (texts_of made), way.decides ∙ members_over depth (texts_value (texts_of made)) left r over, sym (texts_in-value (texts_of made)))
 
 abbrev pub SlotEntries : Type 0
 SlotEntries = List (String Global × Option (String Global))
@@ -76,8 +64,7 @@ slots_insert (e ∷ es) k t = ordered slots_of (string_cmp k e.0) _ _ _ ∙ rw (
 slot_put : (found : Members) (made new : SlotEntries) (k : Text) (d : Data) (key : String Global) (t : Option (String Global)) → slots_in found ≡ slots_of made → string_bytes key ≡ k → option_map string_bytes t ≡ as_str d
     → new ≡ insert_entry string_cmp made key t → slots_in (put k d found) ≡ slots_of new
 slot_put found made new k d key t same copied text is =
-    slots_put k d found ∙ ap (λ l. insert_entry (slice_cmp nat_cmp) l k (as_str d)) same ∙ ap (λ n. insert_entry (slice_cmp nat_cmp) (slots_of made) n (as_str d)) (sym copied)
-    ∙ ap (insert_entry (slice_cmp nat_cmp) (slots_of made) (string_bytes key)) (sym text) ∙ sym (ap slots_of is ∙ slots_insert made key t)
+    slots_put k d found ∙ rw (same, ← copied, ← text, is) (sym (slots_insert made key t))
 
 texts_by_slots : (ms : Members) → texts_in ms ≡ texts_kept (slots_in ms)
 texts_by_slots no_members = refl
@@ -88,9 +75,6 @@ texts_by_slots (member k d ms) = ap (λ o. option_and_then (λ text. option_map 
 pub record AreSlotsUnderWay (depth : _) (all left : List Token) (start made : SlotEntries) : Type 0 where
   pub goes_on : (found : Members) → slots_in found ≡ slots_of start → (more : Members) × (next_members depth found all ≡ next_members depth more left) × (slots_in more ≡ slots_of made)
   pub fewer : length left ≤ length all
-
-pub slots_start : (depth : _) (all : List Token) (start : SlotEntries) → AreSlotsUnderWay depth all all start start
-slots_start depth all start = record { goes_on = λ found same. (found, refl, same); fewer = omega arith }
 
 module _ {depth : ℕ} {all left : List Token} {start made : SlotEntries} (way : AreSlotsUnderWay depth all left start made) where
   pub slots_go_on : {s r : List Token} {new : SlotEntries} {k : Text} (key : String Global) (t : Option (String Global)) → read_key left ≡ Some (Some k, s) → Reads as_str depth s (option_map string_bytes t) r
@@ -133,73 +117,52 @@ pub instead_read : {depth : ℕ} {all left r : List Token} {slots : SlotEntries}
     → ((found : Members) → slots_in found ≡ slots_of slots → ReadsMembers texts_in depth found left o r) → ReadsMembers texts_in depth no_members all o r
 instead_read instead read = let ms = read instead.found instead.same in (ms.0, instead.decides ∙ ms.1, ms.2)
 
--- ---- a slot for each text: the slots so far stand before the texts that are left, and all keys ascend
+-- ---- a loop that puts the entries of one map into another: those so far stand before what is left, and all keys ascend
 
-pub record AreTextsTurned (all : Texts) (made : SlotEntries) (left : Texts) : Type 0 where
+-- what stands before the rest, if there is a rest
+abbrev onto : {E : Type 0} → List E → Option (List E) → Option (List E)
+onto front o = option_map (λ rest. front ++ rest) o
+
+one_more : {E : Type 0} (front : List E) (e : E) (o : Option (List E)) → onto front (option_map (λ es. e ∷ es) o) ≡ onto (front ++ (e ∷ [])) o
+one_more front e None = refl
+one_more front e (Some es) = ap Some (sym (append_assoc front (e ∷ []) es))
+
+abbrev Entries : Type 0 → Type 0
+Entries X = List (String Global × X)
+
+abbrev seen_in : {X Z : Type 0} → (X → Z) → Entries X → List (Text × Z)
+seen_in seen es = map (λ e. (string_bytes e.0, seen e.1)) es
+
+pub record ArePut {X Y Z : Type 0} (seen : X → Z) (whole : Entries Y → Option (List (Text × Z))) (all : Entries Y) (made : Entries X) (left : _) : Type 0 where
   pub ascending : IsStrictlySortedBy string_cmp (keys_of made ++ keys_of left)
-  pub same : slots_in (texts_value (texts_of all)) ≡ slots_of made ++ slots_in (texts_value (texts_of left))
+  pub decides : whole all ≡ onto (seen_in seen made) (whole left)
 
-pub turned_starts : (all left : Texts) (made : SlotEntries) → left ≡ all → made ≡ [] → IsStrictlySortedBy string_cmp (keys_of all) → AreTextsTurned all made left
-turned_starts all left made is none sorted = rw (is, none) (record { ascending = sorted; same = refl })
+module _ {X Y Z : Type 0} {seen : X → Z} {whole : Entries Y → Option (List (Text × Z))} {all : Entries Y} {made : Entries X} {left : Entries Y} where
+  pub put_starts : left ≡ all → made ≡ [] → IsStrictlySortedBy string_cmp (keys_of all) → ArePut seen whole all made left
+  put_starts is none sorted = rw (is, none) (record { ascending = sorted; decides = sym (option_map_id (whole all)) })
 
--- one entry goes last
-last_keys : {X Y : Type 0} (made new : List (String Global × X)) (rest : List (String Global × Y)) (k : String Global) (v : X) → new ≡ made ++ ((k, v) ∷ []) → keys_of new ++ keys_of rest ≡ keys_of made ++ k ∷ keys_of rest
-last_keys {X} made new rest k v last =
-    ap (λ l. keys_of l ++ keys_of rest) last ∙ ap (λ l. l ++ keys_of rest) (map-append (λ (e : String Global × X). e.0) made ((k, v) ∷ [])) ∙ append_assoc (keys_of made) (k ∷ []) (keys_of rest)
+  pub put_next : {l : Entries Y} {o : _} → ArePut seen whole all made left → left ≡ l → whole l ≡ o → whole all ≡ onto (seen_in seen made) o
+  put_next way is law = way.decides ∙ ap (onto (seen_in seen made)) (ap whole is ∙ law)
 
-pub turned_go_on : (all : Texts) (made new : SlotEntries) (left rest : Texts) (k t : String Global) → AreTextsTurned all made left → left ≡ (k, t) ∷ rest → new ≡ insert_entry string_cmp made k (Some t)
-    → AreTextsTurned all new rest
-turned_go_on all made new left rest k t way split is =
-    let sorted : IsStrictlySortedBy string_cmp (keys_of made ++ k ∷ keys_of rest) = subst (λ (l : Texts). IsStrictlySortedBy string_cmp (keys_of made ++ keys_of l)) split way.ascending in
-    let last : new ≡ made ++ ((k, Some t) ∷ []) = is ∙ insert_last string_cmp_total made k (Some t) (keys_of rest) sorted in
-    let slots : slots_of new ≡ slots_of made ++ ((string_bytes k, Some (string_bytes t)) ∷ []) =
-    ap slots_of last ∙ map-append (λ (e : String Global × Option (String Global)). (string_bytes e.0, option_map string_bytes e.1)) made ((k, Some t) ∷ []) in
-    let after = slots_in (texts_value (texts_of rest)) in
-    record {
-      ascending = subst (IsStrictlySortedBy string_cmp) (sym (last_keys made new rest k (Some t) last)) sorted;
-      same = way.same ∙ ap (λ l. slots_of made ++ slots_in (texts_value (texts_of l))) split ∙ sym (append_assoc (slots_of made) ((string_bytes k, Some (string_bytes t)) ∷ []) after)
-          ∙ ap (λ l. l ++ after) (sym slots);
-    }
+  pub put_all : ArePut seen whole all made left → left ≡ [] → whole [] ≡ Some [] → Some (seen_in seen made) ≡ whole all
+  put_all way none law = sym (put_next way none law ∙ ap Some (append-nil (seen_in seen made)))
 
-pub turned_end : (all : Texts) (made : SlotEntries) (left : Texts) → AreTextsTurned all made left → left ≡ [] → slots_of made ≡ slots_in (texts_value (texts_of all))
-turned_end all made left way none = sym (way.same ∙ ap (λ l. slots_of made ++ slots_in (texts_value (texts_of l))) none ∙ append-nil (slots_of made))
+  -- one entry goes last
+  pub put_one : {new : _} {rest : _} {k : _} {v : Y} (x : X) → ArePut seen whole all made left → left ≡ (k, v) ∷ rest → new ≡ insert_entry string_cmp made k x
+      → whole ((k, v) ∷ rest) ≡ option_map (λ es. (string_bytes k, seen x) ∷ es) (whole rest) → ArePut seen whole all new rest
+  put_one {new} {rest} {k} {v} x way split is law =
+      let sorted = subst (λ (l : Entries Y). IsStrictlySortedBy string_cmp (keys_of made ++ keys_of l)) split way.ascending in
+      let keys = ap (λ l. l ++ keys_of rest) (map-append (λ (e : String Global × X). e.0) made ((k, x) ∷ [])) ∙ append_assoc (keys_of made) (k ∷ []) _ in
+      let entries = map-append (λ (e : String Global × X). (string_bytes e.0, seen e.1)) made ((k, x) ∷ []) in
+      rw (is ∙ insert_last string_cmp_total made k x (keys_of rest) sorted) (record {
+        ascending = subst (IsStrictlySortedBy string_cmp) (sym keys) sorted;
+        decides = put_next way split law ∙ one_more (seen_in seen made) (string_bytes k, seen x) (whole rest) ∙ ap (λ m. onto m (whole rest)) (sym entries);
+      })
 
--- ---- the texts of the slots: those so far stand before those of the slots that are left, and all keys ascend
+-- a slot for each text
+abbrev pub SlotsOfTexts : Texts → SlotEntries → Texts → Type 0
+SlotsOfTexts = ArePut (option_map string_bytes) (λ left. Some (slots_in (texts_value (texts_of left))))
 
-pub record AreTextsKept (all : Slots) (made : Texts) (left : SlotEntries) : Type 0 where
-  pub ascending : IsStrictlySortedBy string_cmp (keys_of made ++ keys_of left)
-  pub decides : texts_kept all ≡ option_map (λ rest. texts_of made ++ rest) (texts_kept (slots_of left))
-
-pub kept_starts : (all left : SlotEntries) (made : Texts) → left ≡ all → made ≡ [] → IsStrictlySortedBy string_cmp (keys_of all) → AreTextsKept (slots_of all) made left
-kept_starts all left made is none sorted = rw (is, none) (record { ascending = sorted; decides = sym (option_map_id (texts_kept (slots_of all))) })
-
-one_more : (front : Metadata) (k t : Text) (o : Option Metadata) → option_map (λ rest. front ++ rest) (option_map (λ texts. (k, t) ∷ texts) o) ≡ option_map (λ rest. (front ++ ((k, t) ∷ [])) ++ rest) o
-one_more front k t None = refl
-one_more front k t (Some m) = ap Some (sym (append_assoc front ((k, t) ∷ []) m))
-
-module _ (all : Slots) (made : Texts) (left rest : SlotEntries) (k : String Global) (v : Option (String Global)) (way : AreTextsKept all made left) (split : left ≡ (k, v) ∷ rest) where
-  kept_next : (o : Option Text) → option_map string_bytes v ≡ o
-      → texts_kept all ≡ option_map (λ rest. texts_of made ++ rest) (option_and_then (λ u. option_map (λ us. (string_bytes k, u) ∷ us) (texts_kept (slots_of rest))) o)
-  kept_next o is =
-      way.decides ∙ ap (λ l. option_map (λ rest. texts_of made ++ rest) (texts_kept (slots_of l))) split
-      ∙ ap (λ o. option_map (λ rest. texts_of made ++ rest) (option_and_then (λ u. option_map (λ us. (string_bytes k, u) ∷ us) (texts_kept (slots_of rest))) o)) is
-
-  pub kept_go_on : (new : Texts) (t : String Global) → v ≡ Some t → new ≡ insert_entry string_cmp made k t → AreTextsKept all new rest
-  kept_go_on new t text is =
-      let sorted : IsStrictlySortedBy string_cmp (keys_of made ++ k ∷ keys_of rest) = subst (λ (l : SlotEntries). IsStrictlySortedBy string_cmp (keys_of made ++ keys_of l)) split way.ascending in
-      let last : new ≡ made ++ ((k, t) ∷ []) = is ∙ insert_last string_cmp_total made k t (keys_of rest) sorted in
-      let texts : texts_of new ≡ texts_of made ++ ((string_bytes k, string_bytes t) ∷ []) =
-      ap texts_of last ∙ map-append (λ (e : String Global × String Global). (string_bytes e.0, string_bytes e.1)) made ((k, t) ∷ []) in
-      record {
-        ascending = subst (IsStrictlySortedBy string_cmp) (sym (last_keys made new rest k t last)) sorted;
-        decides =
-            kept_next (Some (string_bytes t)) (ap (option_map string_bytes) text)
-            ∙ one_more (texts_of made) (string_bytes k) (string_bytes t) (texts_kept (slots_of rest)) ∙ ap (λ m. option_map (λ rest. m ++ rest) (texts_kept (slots_of rest))) (sym texts);
-      }
-
-  pub kept_ends_at : v ≡ None → None ≡ texts_kept all
-  kept_ends_at none = sym (kept_next None (ap (option_map string_bytes) none))
-
-pub kept_end : (all : Slots) (made : Texts) (left : SlotEntries) → AreTextsKept all made left → left ≡ [] → Some (texts_of made) ≡ texts_kept all
-kept_end all made left way none =
-    sym (way.decides ∙ ap (λ l. option_map (λ rest. texts_of made ++ rest) (texts_kept (slots_of l))) none ∙ ap Some (append-nil (texts_of made)))
+-- the texts of the slots
+abbrev pub TextsOfSlots : SlotEntries → Texts → SlotEntries → Type 0
+TextsOfSlots = ArePut string_bytes (λ left. texts_kept (slots_of left))

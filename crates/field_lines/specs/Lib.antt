@@ -1,6 +1,5 @@
 pub mod Names
 pub mod FieldOfValue
-pub mod ValueOfField
 pub mod Lean
 pub mod LineForm
 pub mod Line

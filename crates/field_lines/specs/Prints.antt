@@ -7,7 +7,7 @@ use Rattle.serde_json.specs.Data.{object}
 use Rattle.serde_json.specs.Read.{of_json}
 use Rattle.serde_json.specs.Written.{outline}
 use Rattle.arrow_values.specs.Tree.{Metadata}
-use Rattle.field_lines.specs.ValueOfField.{texts_value}
+use Rattle.field_lines.specs.Line.{texts_value}
 use Rattle.value_tokens.specs.Adds.{Adds}
 
 -- the tokens of a metadata member, of which there are none where it is empty

@@ -4,7 +4,7 @@ ghost use Rattle.serde_json.specs.Data.{Data};
 ghost use Rattle.field_lines.specs.FieldOfValue.{field_of_value};
 ghost use Rattle.field_lines.specs.Lean.{IsLean};
 ghost use Rattle.field_lines.specs.LineForm.{HasLineForm};
-ghost use Rattle.field_lines.specs.ValueOfField.{value_of_field};
+ghost use Rattle.field_lines.specs.Line.{value_of_field};
 
 use arrow_values::Field;
 

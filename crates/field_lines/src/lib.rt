@@ -4,8 +4,8 @@
 //! [`parse_line_with_scratch`] is cheaper for many lines.
 //!
 //! The format is this library's own; docs/FORMAT.md has its rules and a table of its words. `specs/Line` defines
-//! what a line stands for: the field that its JSON value stands for (`specs/FieldOfValue`). `specs/ValueOfField`
-//! is the value that is written for a field; by [`laws`] it is the only lean value (`specs/Lean`) that stands for
+//! what a line stands for: the field that its JSON value stands for (`specs/FieldOfValue`). It also defines the
+//! value that is written for a field; by [`laws`] it is the only lean value (`specs/Lean`) that stands for
 //! the field. No JSON value is made: a line is read by its tokens, and written as tokens.
 #![tactic(auto)]
 

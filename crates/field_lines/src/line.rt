@@ -2,10 +2,9 @@
 ghost use Rattle.std.specs.Prelude.{◌≡◌, ◌≤◌, Some, None, Err, option_and_then, IfOk, IfSome, string_bytes};
 ghost use Rattle.serde_json.specs.Data.{depth};
 ghost use Rattle.serde_json.specs.Read.{read, max_depth};
-ghost use Rattle.field_lines.specs.Line.{field_of_line, line_of_field};
+ghost use Rattle.field_lines.specs.Line.{field_of_line, line_of_field, value_of_field};
 ghost use Rattle.field_lines.specs.LineForm.{HasLineForm};
 ghost use Rattle.field_lines.specs.FieldOfValue.{field_of_value};
-ghost use Rattle.field_lines.specs.ValueOfField.{value_of_field};
 
 use crate::printer::print_field;
 use crate::tokens::take_field;

@@ -5,7 +5,7 @@ ghost use Rattle.serde_json.specs.Data.{Members, no_members};
 ghost use Rattle.arrow_values.specs.View.{texts_of};
 ghost use Rattle.field_lines.specs.FieldOfValue.{texts_in, metadata_of_value};
 ghost use Rattle.field_lines.specs.Slots.{slots_in, slots_of, texts_kept};
-ghost use Rattle.field_lines.specs.ValueOfField.{texts_value};
+ghost use Rattle.field_lines.specs.Line.{texts_value};
 ghost use Rattle.value_tokens.specs.Next.{next_value, next_members, Reads, ReadsMembers};
 
 use json::Reader;

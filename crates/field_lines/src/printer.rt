@@ -1,11 +1,11 @@
 //! From a field to the tokens of its line, with no JSON value between.
 ghost use Rattle.std.specs.Prelude.{OnOk, codes};
-ghost use Rattle.serde_json.specs.Data.{string, number, object, array};
+ghost use Rattle.serde_json.specs.Data.{string, number, object, array, no_items, item};
 ghost use Rattle.serde_json.specs.Find.{of_integer};
 ghost use Rattle.arrow_values.specs.View.{tree, texts_of, field_trees, member_trees};
 ghost use Rattle.field_lines.specs.Names.{mode_name};
 ghost use Rattle.field_lines.specs.Prints.{PrintsMetadata};
-ghost use Rattle.field_lines.specs.ValueOfField.{texts_value, one_key, two_keys, pair, type_value, fields_value, members_value, value_of_field};
+ghost use Rattle.field_lines.specs.Line.{texts_value, one_key, two_keys, type_value, fields_value, members_value, value_of_field};
 ghost use Rattle.value_tokens.specs.Adds.{Prints, PrintsItems};
 
 use crate::names::{mode_name, plain_name};
@@ -157,7 +157,7 @@ fn print_members(members: &UnionFields, out: &mut Writer) -> Result<(), AllocErr
 /// Writes a member of a union.
 #[cycle(print)]
 fn print_member(id: i8, field: &Field, out: &mut Writer) -> Result<(), AllocError>
-    ensures { OnOk result (Prints (pair (number (of_integer id)) (value_of_field field.now)) out.old out.new) }
+    ensures { OnOk result (Prints (array (item (number (of_integer id)) (item (value_of_field field.now) no_items))) out.old out.new) }
 {
     out.begin_array()?;
     print_integer(id as i64, out)?;

@@ -1,11 +1,10 @@
-use Rattle.std.proofs.Common.{◌≡◌, Some, option_and_then, string_bytes, ap, ◌∙◌}
+use Rattle.std.proofs.Common.{option_and_then, string_bytes, ap, ◌∙◌}
 use Rattle.std.proofs.lemmas.Str.{IsUtf8-string_bytes}
 use Rattle.serde_json.specs.Read.{read}
-use Rattle.serde_json.specs.Written.{compact_text}
 use Rattle.field_lines.specs.FieldOfValue.{field_of_value}
-use Rattle.field_lines.specs.ValueOfField.{value_of_field}
+use Rattle.field_lines.specs.Line.{value_of_field}
 use Rattle.field_lines.proofs.Round.{field_read}
-use Rattle.field_lines.proofs.Form.{line_value}
+use Rattle.field_lines.proofs.Lean.{line_field}
 use Rattle.value_tokens.specs.Printed.{printed, reads_back}
 use Rattle.field_lines.proofs.line.field_line.Goals as goal
 
@@ -16,9 +15,7 @@ returns-clause-text c =
 
 pub returns-clause-reads_back : goal.returns-clause-reads_back
 returns-clause-reads_back c form shallow =
-    let f = c.args.field.now in
-    let v = value_of_field f in
+    let v = value_of_field c.args.field.now in
     let s = c.from_utf8_unchecked.result in
-    let text : string_bytes s ≡ compact_text v = returns-clause-text c in
-    let back : read (string_bytes s) ≡ Some v = ap read text ∙ reads_back v c.new-out.ensures.tokens c.in_ok-print_field.ensures c.into_inner.ensures.reads_back shallow in
-    ap (option_and_then field_of_value) (line_value (string_bytes s) v (IsUtf8-string_bytes s, back)) ∙ field_read f form
+    let back = reads_back v c.new-out.ensures.tokens c.in_ok-print_field.ensures c.into_inner.ensures.reads_back shallow in
+    line_field (string_bytes s) (IsUtf8-string_bytes s) ∙ ap (option_and_then field_of_value) (ap read (returns-clause-text c) ∙ back) ∙ field_read _ form

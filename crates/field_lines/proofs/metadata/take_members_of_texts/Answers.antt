@@ -19,16 +19,13 @@ texts-preserved c =
 pub returns-clause-ok : goal.returns-clause-ok
 returns-clause-ok c = texts_end c.texts.invariant (grind arith)
 
-pub returns-in-None-clause-ok : goal.returns-in-None-clause-ok
-returns-in-None-clause-ok c =
+pub returns-in-None : goal.returns-in-None
+returns-in-None c =
     let instead =
     slots_instead c.in_ok-slots-in-None.slots.entries c.in_ok-key.key c.texts.invariant (rw c.in-Some.is at c.in_ok-name.ensures.value) (rw c.in-None.is at c.in_ok-text.ensures.ok)
     (search rules) c.in_ok-slots-in-None.ensures c.in_ok-insert-in-None.ensures.entries in
-    IfOk-weaker _ _ _ (λ o. instead_read instead) c.take_slots.ensures.ok
-
-pub returns-in-None-clause-text : goal.returns-in-None-clause-text
-returns-in-None-clause-text c refused =
-    let instead =
-    slots_instead c.in_ok-slots-in-None.slots.entries c.in_ok-key.key c.texts.invariant (rw c.in-Some.is at c.in_ok-name.ensures.value) (rw c.in-None.is at c.in_ok-text.ensures.ok)
-    (search rules) c.in_ok-slots-in-None.ensures c.in_ok-insert-in-None.ensures.entries in
-    instead.decides ∙ c.take_slots.ensures.text refused instead.found instead.same
+    record {
+      ok = IfOk-weaker _ _ _ (λ o. instead_read instead) c.take_slots.ensures.ok;
+      shorter = search rules;
+      text = λ refused. instead.decides ∙ c.take_slots.ensures.text refused instead.found instead.same;
+    }

@@ -1,10 +1,10 @@
-use Rattle.std.proofs.Common.{arith, rules}
-use Rattle.field_lines.proofs.TokenTexts.{slots_start, slots_go_on, slots_refused, slots_end}
+use Rattle.std.proofs.Common.{arith, refl, rules}
+use Rattle.field_lines.proofs.TokenTexts.{slots_go_on, slots_refused, slots_end}
 use Rattle.value_tokens.specs.Turns.{key_refused, member_refused}
 use Rattle.field_lines.proofs.metadata.take_slots.Goals as goal
 
 pub slots-init : goal.slots-init
-slots-init c = slots_start c.args.depth c.args.reader.now c.args.slots.entries
+slots-init c = record { goes_on = λ found same. (found, refl, same); fewer = omega arith }
 
 pub returns-in_err-name-clause-text : goal.returns-in_err-name-clause-text
 returns-in_err-name-clause-text c refused = slots_refused c.slots.invariant (λ more. key_refused _ more _ c.in_err-name.ensures.value)

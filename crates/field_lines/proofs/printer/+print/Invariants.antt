@@ -1,9 +1,8 @@
-use Rattle.std.proofs.Common.{◌+◌, ◌*◌, drop}
-use Rattle.json.specs.Written.{Written}
+use Rattle.std.proofs.Common.{◌+◌, ◌*◌}
 use Rattle.arrow_values.specs.Tree.{depth, fields_depth, members_depth}
 use Rattle.arrow_values.specs.View.{tree, field_trees, member_trees}
-use Rattle.value_tokens.specs.Adds.{PrintsItems}
-use Rattle.field_lines.specs.ValueOfField.{fields_value, members_value}
+use Rattle.field_lines.specs.Line.{fields_value, members_value}
+use Rattle.field_lines.proofs.Prints.{PrintsRest}
 use Rattle.field_lines.proofs.printer.+print.Given as goal
 
 abbrev pub decreases-print_field : goal.decreases-print_field
@@ -33,11 +32,8 @@ decreases-print_members l = 4 * members_depth (member_trees l.members.now) + 1
 abbrev pub decreases-print_member : goal.decreases-print_member
 decreases-print_member l = 4 * depth l.field.now.tree + 2
 
--- what prints the fields that are left prints all from the start
 abbrev pub invariant-print_fields-loop-field : goal.invariant-print_fields-loop-field
-invariant-print_fields-loop-field l =
-    (end : Written) → PrintsItems (fields_value (field_trees (drop l.field-index l.field-items))) l.out end → PrintsItems (fields_value (field_trees l.field-items)) l.initial.out end
+invariant-print_fields-loop-field l = PrintsRest (λ fs. fields_value (field_trees fs)) l.field-items l.field-index l.initial.out l.out
 
 abbrev pub invariant-print_members-loop-member : goal.invariant-print_members-loop-member
-invariant-print_members-loop-member l =
-    (end : Written) → PrintsItems (members_value (member_trees (drop l.member-index l.member-items))) l.out end → PrintsItems (members_value (member_trees l.member-items)) l.initial.out end
+invariant-print_members-loop-member l = PrintsRest (λ ms. members_value (member_trees ms)) l.member-items l.member-index l.initial.out l.out

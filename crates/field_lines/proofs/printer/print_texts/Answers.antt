@@ -1,7 +1,6 @@
 use Rattle.std.proofs.Common.{◌≡◌, subst, sym, rules}
-use Rattle.std.proofs.lemmas.Result.{on_ok_weaker}
-use Rattle.value_tokens.specs.Adds.{Adds, added, sent, then}
-use Rattle.field_lines.proofs.Prints.{texts_tokens, texts_read_back}
+use Rattle.value_tokens.specs.Adds.{Adds, sent, then}
+use Rattle.field_lines.proofs.Prints.{finished, texts_tokens, texts_read_back}
 use Rattle.field_lines.proofs.printer.print_texts.Goals as goal
 
 pub loop-key-preserved : goal.loop-key-preserved
@@ -13,8 +12,7 @@ pub returns : goal.returns
 returns c =
     let texts = c.args.texts.now.entries in
     let all : c.into_iter-key-iterator.result ≡ texts = search rules in
-    on_ok_weaker c.end_object.result (λ e.
+    finished _ (λ e.
     let left = subst (λ left. Adds (texts_tokens left) c.loop-key.out c.end_object.new.self) (sym c.in-None.ensures.steps.0) e in
     let whole = subst (λ left. Adds (texts_tokens left) c.begin_object.new.self c.end_object.new.self) all (c.loop-key.invariant c.end_object.new.self left) in
-    record { adds = then (sent c.in_ok-begin_object.ensures) whole; reads_back = texts_read_back texts c.iter-key-items.ensures.ordered }
-    ) (added c.end_object.result _ _ _ c.end_object.ensures)
+    record { adds = then (sent c.in_ok-begin_object.ensures) whole; reads_back = texts_read_back texts c.iter-key-items.ensures.ordered }) c.end_object.ensures

@@ -1,4 +1,4 @@
-use Rattle.std.proofs.Common.{rules, arith, ◌≡◌, ◌-◌, [], ◌∷◌, ◌++◌, length, Some, None, IsTrue, option_map, subst₂, refl, sym, ap, ap₂, ◌∙◌}
+use Rattle.std.proofs.Common.{rules, arith, ◌≡◌, ◌-◌, [], ◌∷◌, ◌++◌, length, Some, None, IsTrue, option_map, option_and_then, subst₂, refl, sym, ap, ap₂, ◌∙◌}
 use Rattle.std.proofs.lemmas.Int.{to_z-of_z}
 use Rattle.std.proofs.lemmas.Result.{IfOk-weaker}
 use Rattle.std.specs.List.{zip}
@@ -8,12 +8,12 @@ use Rattle.json.specs.Reads.{token_of}
 use Rattle.serde_json.specs.Data.{string, no_items, item, no_members}
 use Rattle.arrow_values.specs.Tree.{struct}
 use Rattle.arrow_values.specs.Union.{is_type_id}
-use Rattle.arrow_values.specs.View.{tree, texts_of, field_trees, member_trees}
+use Rattle.arrow_values.specs.View.{texts_of, field_trees, member_trees}
 use Rattle.field_lines.specs.FieldOfValue.{field_of_value, type_of_value, list_of, large_list_of}
 use Rattle.field_lines.specs.Keys.{pair_read}
 use Rattle.field_lines.specs.Steps.{AreMemberParts}
-use Rattle.field_lines.proofs.TokenMembers.{part_other, parts_start, parts_go_on, parts_end, no_type, members_cut, only_go_on, only_end, only_spoiled, first_read, second_read, two_refused, two_spoiled, no_fixed_size_list, no_union, as_fixed_size_list, as_union, taken_as, only_taken, none_taken_as}
-use Rattle.field_lines.proofs.TokenItems.{item_taken, item_not_taken, taken_start, taken_go_on, taken_end, taken_refused, taken_cut, taken_spoiled, members_in-pair, zip_push, parts_push, pair_is}
+use Rattle.field_lines.proofs.TokenMembers.{part_other, parts_go_on, parts_end, no_type, members_cut, only_go_on, only_end, only_spoiled, first_read, second_read, two_refused, two_spoiled, no_fixed_size_list, no_union, as_fixed_size_list, as_union, taken_as, only_taken, none_taken_as}
+use Rattle.field_lines.proofs.TokenItems.{item_taken, item_not_taken, taken_start, taken_go_on, taken_end, taken_refused, taken_cut, taken_spoiled, members_in-pair, zip_push, parts_push}
 use Rattle.value_tokens.specs.Next.{next_value}
 use Rattle.value_tokens.specs.Turns.{no_value, object_too_deep, value-object, key_refused, member_refused, items_over, members_over, after_some, named}
 use Rattle.value_tokens.specs.Beginnings.{passed, next_string, no_object, no_text, object_read, object_refused}
@@ -234,7 +234,9 @@ take_only_fields-returns-then-ne-clause-ok t c =
     only_spoiled c.only.invariant (rw c.in-Some.is at c.in_ok-key.ensures.value) c.ne.ensures c.if-ne.true c.in_ok-skip_value.ensures.ok c.in_ok-skip_members.ensures.ok
 
 pub take_parts-parts-init : goal.take_parts-parts-init
-take_parts-parts-init t c = parts_start c.args.depth c.args.reader.now _ (ap (λ es. Some (texts_of es)) c.new.ensures.empty)
+take_parts-parts-init t c =
+    let none = ap (λ es. Some (texts_of es)) c.new.ensures.empty in
+    record { found = no_members; decides = refl; at_name = refl; at_nullable = refl; at_type = refl; at_metadata = none; fewer = omega arith }
 
 pub take_parts-parts-preserved : goal.take_parts-parts-preserved
 take_parts-parts-preserved t c =
@@ -325,8 +327,9 @@ pub take_two-returns-clause-ok : goal.take_two-returns-clause-ok
 take_two-returns-clause-ok t c =
     let one = item_taken c.args.depth c.args.reader.now c.in_ok-id.ensures.ok (grind arith) in
     let two = item_taken c.args.depth c.take_id.new.reader c.in_ok-field.ensures.ok (grind arith) in
-    let over = items_over c.args.depth c.take_field.new.reader c.take_end_array-3.new.self (grind arith) in
-    (item one.0 (item two.0 no_items), one.1 ∙ ap (parse_map (item one.0)) (two.1 ∙ ap (parse_map (item two.0)) over), c.pair_of.ensures.pair ∙ pair_is one.0 two.0 one.2 two.2)
+    let over = two.1 ∙ ap (parse_map (item two.0)) (items_over c.args.depth c.take_field.new.reader c.take_end_array-3.new.self (grind arith)) in
+    let pair = ap₂ (λ i f. option_and_then (λ id. option_map (λ g. (id, g)) f) i) one.2 two.2 in
+    (item one.0 (item two.0 no_items), one.1 ∙ ap (parse_map (item one.0)) over, c.pair_of.ensures.pair ∙ pair)
 
 pub take_two-returns-in_err-skip_value-clause-text : goal.take_two-returns-in_err-skip_value-clause-text
 take_two-returns-in_err-skip_value-clause-text t c refused =
@@ -334,17 +337,16 @@ take_two-returns-in_err-skip_value-clause-text t c refused =
     let two = item_taken c.args.depth c.take_id.new.reader c.in_ok-field.ensures.ok (grind arith) in
     one.1 ∙ ap (parse_map (item one.0)) (two.1 ∙ ap (parse_map (item two.0)) (item_not_taken c.args.depth c.take_field.new.reader (c.skip_value.ensures.text (grind arith)) (grind arith)))
 
-pub take_type-returns-else-depth-eq0-clause-ok : goal.take_type-returns-else-depth-eq0-clause-ok
-take_type-returns-else-depth-eq0-clause-ok t c =
-    let first : c.args.reader.now ≡ token_of c.in_ok-token.token ∷ c.next.new.self = grind arith in
-    let opened = ap (next_value c.args.depth) (first ∙ ap (λ k. token_of k ∷ c.next.new.self) c.in-BeginObject.is) ∙ value-object c.args.depth c.next.new.self (omega arith) in
-    IfOk-weaker _ _ _ (λ o read. object_read type_of_value c.args.depth (c.args.depth - 1) c.args.reader.now c.next.new.self c.take_keys.new.reader (option_map tree o) opened read) c.take_keys.ensures.ok
-
-pub take_type-returns-else-depth-eq0-clause-text : goal.take_type-returns-else-depth-eq0-clause-text
-take_type-returns-else-depth-eq0-clause-text t c refused =
-    let first : c.args.reader.now ≡ token_of c.in_ok-token.token ∷ c.next.new.self = grind arith in
-    let opened = ap (next_value c.args.depth) (first ∙ ap (λ k. token_of k ∷ c.next.new.self) c.in-BeginObject.is) ∙ value-object c.args.depth c.next.new.self (omega arith) in
-    object_refused c.args.depth (c.args.depth - 1) c.args.reader.now c.next.new.self opened (c.take_keys.ensures.text refused)
+pub take_type-returns-else-depth-eq0 : goal.take_type-returns-else-depth-eq0
+take_type-returns-else-depth-eq0 t c =
+    let rest = c.next.new.self in
+    let first : c.args.reader.now ≡ token_of c.in_ok-token.token ∷ rest = grind arith in
+    let opened = ap (next_value c.args.depth) (first ∙ ap (λ k. token_of k ∷ rest) c.in-BeginObject.is) ∙ value-object c.args.depth rest (omega arith) in
+    record {
+      ok = IfOk-weaker _ _ _ (λ o. object_read type_of_value _ (c.args.depth - 1) _ rest c.take_keys.new.reader _ opened) c.take_keys.ensures.ok;
+      shorter = search rules;
+      text = λ refused. object_refused c.args.depth (c.args.depth - 1) c.args.reader.now rest opened (c.take_keys.ensures.text refused);
+    }
 
 pub take_type-returns-in-String-clause-ok : goal.take_type-returns-in-String-clause-ok
 take_type-returns-in-String-clause-ok t c =
