@@ -21,9 +21,9 @@ use Rattle.geoarrow_columns.specs.declared.check.Column.{Column}
 use Rattle.geoarrow_columns.specs.declared.check.Column.TheVariants.{Geometry, Inferred, Other, Faulty}
 use Rattle.geoarrow_columns.specs.Report.{IsRefusedFor, IsColumnOf}
 use Rattle.field_lines.specs.Line.{field_of_line, line_of_field}
-use Rattle.geoarrow_fields.specs.Lines.{Bytes}
 use Rattle.geoarrow_fields.specs.declared.Command.{Command}
 use Rattle.geoarrow_fields.specs.declared.Command.TheVariants.{Read, Infer, Canon, Columns}
+use Rattle.geoarrow_fields.specs.Lines.{Bytes}
 
 -- the word of a native kind
 abbrev pub native_word : NativeKind → Bytes
@@ -87,28 +87,16 @@ inferred_text (Inferred g) = type_text g
 inferred_text Other = codes "error invalid"
 inferred_text (Faulty fault) = error_text fault
 
--- no name of GeoArrow
-abbrev pub AnswersNone : FieldTree → Bytes → Type 0
-AnswersNone f answer = ¬ HasGeoArrowName f × (answer ≡ codes "none")
+-- no type, for a field without a name of GeoArrow or one that is refused
+abbrev pub AnswersNoType : FieldTree → Bytes → Type 0
+AnswersNoType f answer = (¬ HasGeoArrowName f × (answer ≡ codes "none")) ⊎ ((fault : ColumnFault) × IsRefusedFor f fault × (answer ≡ error_text fault))
 
--- a name of GeoArrow, and no type
-abbrev pub AnswersRefused : FieldTree → Bytes → Type 0
-AnswersRefused f answer = (fault : ColumnFault) × IsRefusedFor f fault × (answer ≡ error_text fault)
-
--- the type that the field is read as
-abbrev pub AnswersType : FieldTree → Bytes → Type 0
-AnswersType f answer = (g : GeoArrowType) × Reads f g × (answer ≡ type_text g)
-
--- the canonical line: that of the field in normal form. Its value is the one lean value that stands for this field, by
--- the laws of `field_lines`
-abbrev pub AnswersLine : FieldTree → Bytes → Type 0
-AnswersLine f answer = (n : FieldTree) × IsCanonical f n × (answer ≡ line_of_field n)
-
--- the text is the answer to the field under the command
+-- the text is the answer to the field under the command. The canonical line is that of the field in normal form. Its value
+-- is the one lean value that stands for this field, by the laws of `field_lines`
 abbrev pub AnswersField : Command → FieldTree → Bytes → Type 0
-AnswersField Read f answer = AnswersType f answer ⊎ (AnswersNone f answer ⊎ AnswersRefused f answer)
+AnswersField Read f answer = ((g : GeoArrowType) × Reads f g × (answer ≡ type_text g)) ⊎ AnswersNoType f answer
 AnswersField Infer f answer = (c : Column) × IsColumnOf f c × (answer ≡ inferred_text c)
-AnswersField Canon f answer = AnswersLine f answer ⊎ (AnswersNone f answer ⊎ AnswersRefused f answer)
+AnswersField Canon f answer = ((n : FieldTree) × IsCanonical f n × (answer ≡ line_of_field n)) ⊎ AnswersNoType f answer
 AnswersField Columns f answer = (c : Column) × IsColumnOf f c × (answer ≡ column_text c)
 
 -- the text is the answer to the line under the command
