@@ -2,23 +2,26 @@
 use Rattle.std.proofs.Common.{◌≡◌, ◌≢◌, ℕ, ◌<◌, Bool, true, false, cond, eqb, List, [], ◌∷◌, ◌++◌, length, refl, sym, ap, ◌∙◌, append_assoc, append-nil, All, arith}
 use Rattle.std.proofs.lemmas.Bool.{ne_eqb, eqb-true, eqb-false}
 use Rattle.std.proofs.lemmas.List.Elements.{All-nil, All-cons, All-head, All-tail, All-append}
-use Rattle.geoarrow_fields.specs.Lines.{Bytes, put_byte, lines_of, ended_lines, line_feed, IsLine, IsSplit}
+use Rattle.geoarrow_fields.specs.Lines.{Bytes, begin_line, lines_of, ended_lines, line_feed, IsLine, IsSplit}
+
+-- another byte stands in the first line
+put_other : (byte : ℕ) (bytes : Bytes) (lines : List Bytes) → byte ≢ line_feed → lines_of bytes ≡ lines → lines_of (byte ∷ bytes) ≡ begin_line byte lines
+put_other byte bytes lines h same =
+    ap (λ l. cond (eqb byte line_feed) ([] ∷ l) (begin_line byte l)) same ∙ ap (λ t. cond t ([] ∷ lines) (begin_line byte lines)) (ne_eqb byte line_feed h)
 
 -- a line that a line feed ends is the first of the lines
 pub lines_of-line : (line rest : Bytes) → IsLine line → lines_of (line ++ (line_feed ∷ rest)) ≡ line ∷ lines_of rest
 lines_of-line [] rest h = refl
 lines_of-line (byte ∷ line) rest h =
-    ap (put_byte byte) (lines_of-line line rest (All-tail (λ b. b ≢ line_feed) byte line h))
-    ∙ ap (λ t. cond t ([] ∷ (line ∷ lines_of rest)) ((byte ∷ line) ∷ lines_of rest)) (ne_eqb byte line_feed (All-head (λ b. b ≢ line_feed) byte line h))
+    put_other byte (line ++ (line_feed ∷ rest)) (line ∷ lines_of rest) (All-head (λ b. b ≢ line_feed) byte line h) (lines_of-line line rest (All-tail (λ b. b ≢ line_feed) byte line h))
 
 -- what no line feed ends is a line of its own
 pub lines_of-last : (rest : Bytes) → IsLine rest → 0 < length rest → lines_of rest ≡ rest ∷ []
 lines_of-last [] h some = absurd (omega arith)
-lines_of-last (byte ∷ []) h some =
-    ap (λ t. cond t ([] ∷ []) ((byte ∷ []) ∷ [])) (ne_eqb byte line_feed (All-head (λ b. b ≢ line_feed) byte [] h))
+lines_of-last (byte ∷ []) h some = put_other byte [] [] (All-head (λ b. b ≢ line_feed) byte [] h) refl
 lines_of-last (byte ∷ (next ∷ rest)) h some =
-    ap (put_byte byte) (lines_of-last (next ∷ rest) (All-tail (λ b. b ≢ line_feed) byte (next ∷ rest) h) (omega arith))
-    ∙ ap (λ t. cond t ([] ∷ ((next ∷ rest) ∷ [])) ((byte ∷ (next ∷ rest)) ∷ [])) (ne_eqb byte line_feed (All-head (λ b. b ≢ line_feed) byte (next ∷ rest) h))
+    let more = lines_of-last (next ∷ rest) (All-tail (λ b. b ≢ line_feed) byte (next ∷ rest) h) (omega arith) in
+    put_other byte (next ∷ rest) ((next ∷ rest) ∷ []) (All-head (λ b. b ≢ line_feed) byte (next ∷ rest) h) more
 
 -- the lines of lines put together, and of what comes after them
 pub lines_of-ended : (lines : List Bytes) (later : Bytes) → All IsLine lines → lines_of (ended_lines lines ++ later) ≡ lines ++ lines_of later

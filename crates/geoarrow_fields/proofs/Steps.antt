@@ -4,9 +4,9 @@ use Rattle.std.proofs.KnownBytes.{Appends-trans, Appends-kept}
 use Rattle.std.proofs.lemmas.List.Elements.{All-nil, All-cons, All-append}
 use Rattle.std.specs.Io.KnownBytes.{Keeps}
 use Rattle.geoarrow_fields.specs.declared.Command.{Command}
-use Rattle.geoarrow_fields.specs.Lines.{Bytes, line_feed, max_lines, max_line_bytes, IsLine, IsShort, IsSplit}
+use Rattle.geoarrow_fields.specs.Lines.{Bytes, line_feed, max_lines, max_line_bytes, IsLine, IsSplit}
 use Rattle.geoarrow_fields.specs.Output.{Answered, AppendsSome, AppendsPartOfSome}
-use Rattle.geoarrow_fields.specs.Progress.{IsBegun, AnswersNext, AnswersSome, AnswersToLimit, AnswersInside}
+use Rattle.geoarrow_fields.specs.Progress.{IsShort, IsBegun, AnswersNext, AnswersSome, AnswersToLimit, AnswersInside}
 use Rattle.geoarrow_fields.proofs.Splits.{split_none, split_line, split_on, split_after}
 use Rattle.geoarrow_fields.proofs.Limits.{IsOther, line_before, line_whole, after, line_parted, limit_passed, line_inside, begun_inside}
 use Rattle.geoarrow_fields.proofs.Grows.{answered_none, answered_after, part_after}

@@ -4,9 +4,9 @@ use Rattle.std.proofs.KnownBytes.{Appends-trans, Appends-nil, Appends-kept, Cons
 use Rattle.std.proofs.lemmas.List.Elements.{All-nil, All-cons, All-append}
 use Rattle.std.specs.Io.KnownBytes.{Appends, Consumes, Keeps}
 use Rattle.geoarrow_fields.specs.declared.Command.{Command}
-use Rattle.geoarrow_fields.specs.Lines.{Bytes, lines_of, max_lines, max_line_bytes, IsSplit, IsLine, IsShort, IsWithinLimits, IsPastLimit}
+use Rattle.geoarrow_fields.specs.Lines.{Bytes, lines_of, max_lines, max_line_bytes, IsSplit, IsLine, IsWithinLimits, IsPastLimit}
 use Rattle.geoarrow_fields.specs.Output.{Answered, AnswersAll, AnswersUpTo, AnswersFirst, StopsForInput, StopsForMemory, Followed, BreaksOff, AppendsPart, AppendsSome, AppendsPartOfSome, ReadsAndWrites, ReadsAndWritesPart}
-use Rattle.geoarrow_fields.specs.Progress.{IsBegun, AnswersNext, AnswersSome, AnswersToLimit, AnswersInside}
+use Rattle.geoarrow_fields.specs.Progress.{IsShort, IsBegun, AnswersNext, AnswersSome, AnswersToLimit, AnswersInside}
 use Rattle.geoarrow_fields.proofs.Splits.{lines_of-split, lines_of-last}
 use Rattle.geoarrow_fields.proofs.Limits.{begun_inside}
 use Rattle.geoarrow_fields.proofs.Grows.{answered_after, part_after}

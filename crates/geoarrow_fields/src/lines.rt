@@ -1,7 +1,7 @@
 //! The lines of a chunk of the input: their limits, their answers, and the line that goes on into the next chunk.
 ghost use Rattle.std.specs.Prelude.{◌≡◌, ◌≢◌, ◌⊎◌, ◌+◌, ◌<◌, ◌≤◌, List, [], ◌∷◌, ◌++◌, length, All, IfOk, OnOk, IfErr, MatchBool};
 ghost use Rattle.std.specs.Io.KnownBytes.{Keeps};
-ghost use Rattle.geoarrow_fields.specs.Lines.{Bytes, max_lines, max_line_bytes, lines_of, ended_lines, IsLine, IsSplit, IsWithinLimits, PassesLimit};
+ghost use Rattle.geoarrow_fields.specs.Lines.{Bytes, max_lines, max_line_bytes, lines_of, ended_lines, IsLine, IsSplit, IsWithinLimits, IsPastLimit, Stops};
 ghost use Rattle.geoarrow_fields.specs.Output.{Answered, AppendsSome, AppendsPartOfSome};
 ghost use Rattle.geoarrow_fields.specs.Progress.{IsBegun, AnswersNext, AnswersSome, AnswersToLimit, AnswersInside};
 
@@ -30,8 +30,8 @@ pub fn splits_at_line_feeds()
 /// A law: either all lines of an input are within the limits, or the first ones are and what comes after them exceeds a
 /// limit; never both. There is nothing to run.
 pub fn keeps_limits_or_passes_one()
-    ensures either { (input : Bytes) → IsWithinLimits (lines_of input) ⊎ PassesLimit input }
-    ensures never_both { (input : Bytes) → IsWithinLimits (lines_of input) → ¬ PassesLimit input }
+    ensures either { (input : Bytes) → IsWithinLimits (lines_of input) ⊎ Stops IsPastLimit input }
+    ensures never_both { (input : Bytes) → IsWithinLimits (lines_of input) → ¬ Stops IsPastLimit input }
 {}
 
 /// Whether a line of `begun` and `more` bytes exceeds a limit, after `count` lines.
