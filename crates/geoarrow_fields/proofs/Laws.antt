@@ -5,15 +5,15 @@ use Rattle.std.proofs.lemmas.List.{get_or_at}
 use Rattle.std.proofs.lemmas.List.Elements.{All-nil, All-cons, All-head, All-tail, All-append}
 use Rattle.geoarrow_fields.specs.Lines.{Bytes, line_feed, max_lines, max_line_bytes, lines_of, ended_lines, IsLine, IsWithinLimits, IsPastLimit, IsSplit, Stops}
 use Rattle.geoarrow_fields.specs.Progress.{IsShort, IsBegun, NextLines}
-use Rattle.geoarrow_fields.proofs.Splits.{lines_of-last, lines_of-split, lines_of-line, split_none, split_line, split_after, split_every}
+use Rattle.geoarrow_fields.proofs.Splits.{lines_of-last, lines_of-split, lines_of-line, split_none, split_line, split_on, split_after, split_every}
 
 -- ---- lines one after the other
 
-pub lines_none : (count : ℕ) (input : Bytes) → count ≤ max_lines → NextLines count input count input
+abbrev pub lines_none : (count : ℕ) (input : Bytes) → count ≤ max_lines → NextLines count input count input
 lines_none count input few = record { lines = []; split = split_none input; short = All-nil IsShort; counted = omega arith; few = few }
 
 -- one line more
-pub lines_line : (count total : ℕ) (input later line rest : Bytes) → NextLines count input total later → later ≡ line ++ (line_feed ∷ rest) → IsLine line → IsShort line → total < max_lines
+abbrev pub lines_line : (count total : ℕ) (input later line rest : Bytes) → NextLines count input total later → later ≡ line ++ (line_feed ∷ rest) → IsLine line → IsShort line → total < max_lines
     → NextLines count input (total + 1) rest
 lines_line count total input later line rest next joined is short few = record {
   lines = next.lines ++ (line ∷ []);
@@ -21,6 +21,16 @@ lines_line count total input later line rest next joined is short few = record {
   short = All-append IsShort next.lines (line ∷ []) next.short (All-cons IsShort line [] short (All-nil IsShort));
   counted = omega (arith, next.counted, length-append next.lines (line ∷ []));
   few = omega arith;
+}
+
+-- the lines of what comes after
+abbrev pub lines_after : (count middle total : ℕ) (input more begun later : Bytes) → NextLines count input middle begun → NextLines middle (begun ++ more) total later → NextLines count (input ++ more) total later
+lines_after count middle total input more begun later first second = record {
+  lines = first.lines ++ second.lines;
+  split = split_after (input ++ more) first.lines (begun ++ more) second.lines later (split_on input more first.lines begun first.split) second.split;
+  short = All-append IsShort first.lines second.lines first.short second.short;
+  counted = omega (arith, first.counted, second.counted, length-append first.lines second.lines);
+  few = second.few;
 }
 
 -- the lines of what is begun
@@ -40,10 +50,14 @@ all_within total input later next is =
     })
 
 -- a cause to stop comes after these lines
-pub stops : (Cause : ℕ → Bytes → Type 0) (total : ℕ) (input later : Bytes) → NextLines 0 input total later → Cause total later → Stops Cause input
-stops Cause total input later next cause =
-    let same : total ≡ length next.lines = omega (arith, next.counted) in
-    record { lines = next.lines; later = later; split = next.split; within = record { few = omega (arith, same, next.few); short = next.short }; cause = subst (λ n. Cause n later) same cause }
+abbrev pub stops : (Cause : ℕ → Bytes → Type 0) (total : ℕ) (input later : Bytes) → NextLines 0 input total later → Cause total later → Stops Cause input
+stops Cause total input later next cause = record {
+  lines = next.lines;
+  later = later;
+  split = next.split;
+  within = record { few = omega (arith, next.counted, next.few); short = next.short };
+  cause = let same : total ≡ length next.lines = omega (arith, next.counted) in subst (λ n. Cause n later) same cause;
+}
 
 -- ---- an input is within the limits, or passes one
 
