@@ -5,19 +5,21 @@ use Rattle.std.proofs.lemmas.List.{get_or_at}
 use Rattle.std.proofs.lemmas.List.Elements.{All-nil, All-cons, All-head, All-tail, All-append}
 use Rattle.geoarrow_fields.specs.Lines.{Bytes, line_feed, max_lines, max_line_bytes, lines_of, ended_lines, IsLine, IsWithinLimits, IsPastLimit, IsSplit, Stops}
 use Rattle.geoarrow_fields.specs.Progress.{IsShort, IsBegun, NextLines}
-use Rattle.geoarrow_fields.proofs.Splits.{lines_of-last, lines_of-split, lines_of-line, split_none, split_line, split_on, split_after, split_every}
+use Rattle.geoarrow_fields.proofs.Splits.{lines_of-last, lines_of-split, lines_of-line, split_after, split_every}
 
 -- ---- lines one after the other
 
 abbrev pub lines_none : (count : ℕ) (input : Bytes) → count ≤ max_lines → NextLines count input count input
-lines_none count input few = record { lines = []; split = split_none input; short = All-nil IsShort; counted = omega arith; few = few }
+lines_none count input few =
+    record { lines = []; split = record { joined = refl; each = All-nil IsLine }; short = All-nil IsShort; counted = omega arith; few = few }
 
 -- one line more
 abbrev pub lines_line : (count total : ℕ) (input later line rest : Bytes) → NextLines count input total later → later ≡ line ++ (line_feed ∷ rest) → IsLine line → IsShort line → total < max_lines
     → NextLines count input (total + 1) rest
 lines_line count total input later line rest next joined is short few = record {
   lines = next.lines ++ (line ∷ []);
-  split = split_after input next.lines later (line ∷ []) rest next.split (subst (λ l. IsSplit l (line ∷ []) rest) (sym joined) (split_line line rest is));
+  split = split_after input next.lines later (line ∷ []) rest next.split
+      (record { joined = joined ∙ sym (append_assoc line (line_feed ∷ []) rest); each = All-cons IsLine line [] is (All-nil IsLine) });
   short = All-append IsShort next.lines (line ∷ []) next.short (All-cons IsShort line [] short (All-nil IsShort));
   counted = omega (arith, next.counted, length-append next.lines (line ∷ []));
   few = omega arith;
@@ -27,7 +29,8 @@ lines_line count total input later line rest next joined is short few = record {
 abbrev pub lines_after : (count middle total : ℕ) (input more begun later : Bytes) → NextLines count input middle begun → NextLines middle (begun ++ more) total later → NextLines count (input ++ more) total later
 lines_after count middle total input more begun later first second = record {
   lines = first.lines ++ second.lines;
-  split = split_after (input ++ more) first.lines (begun ++ more) second.lines later (split_on input more first.lines begun first.split) second.split;
+  split = split_after (input ++ more) first.lines (begun ++ more) second.lines later
+      (record { joined = ap (λ l. l ++ more) first.split.joined ∙ append_assoc (ended_lines first.lines) begun more; each = first.split.each }) second.split;
   short = All-append IsShort first.lines second.lines first.short second.short;
   counted = omega (arith, first.counted, second.counted, length-append first.lines second.lines);
   few = second.few;

@@ -39,9 +39,10 @@ line_parted begun rest at within feed =
 
 -- a line that comes is past a limit
 pub limit_passed : (total : ℕ) (later line tail : Bytes) → later ≡ line ++ tail → IsLine line → 0 < length later
-    → (total ≡ max_lines) ⊎ (max_line_bytes < length line) → IsPastLimit total later
-limit_passed total later line tail joined is some (inl many) = inl (many, some)
-limit_passed total later line tail joined is some (inr long) = inr (record { begun = line; rest = tail; joined = joined; line = is; long = long })
+    → (len : ℕ) → len ≡ length line → (total ≡ max_lines) ⊎ (max_line_bytes < len) → IsPastLimit total later
+limit_passed total later line tail joined is some len same (inl many) = inl (many, some)
+limit_passed total later line tail joined is some len same (inr long) =
+    inr (record { begun = line; rest = tail; joined = joined; line = is; long = omega (arith, long, same) })
 
 -- a line that a line feed ends within its limit is past none
 pub line_inside : (total : ℕ) (later line tail : Bytes) → later ≡ line ++ (line_feed ∷ tail) → total < max_lines → length line ≤ max_line_bytes → ¬ IsPastLimit total later

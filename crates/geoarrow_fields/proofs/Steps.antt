@@ -12,71 +12,93 @@ use Rattle.geoarrow_fields.proofs.Limits.{IsOther, line_before, line_whole, afte
 use Rattle.geoarrow_fields.proofs.Laws.{lines_line}
 use Rattle.geoarrow_fields.proofs.Grows.{appends_after, front_after, answered_after}
 
+-- nothing has come of the next line
+pub none_begun : (total : ℕ) → total ≤ max_lines → IsBegun total []
+none_begun total few = record { line = All-nil (λ b. b ≢ line_feed); short = omega arith; few = few; room = λ some. absurd (omega arith) }
+
 -- what is answered, and the rest of the chunk
-module _ (command : Command) (count total : ℕ) (input begun rest : Bytes) (old mid : Option Bytes) (so_far : AppendsSome (AnswersNext command count input total (begun ++ rest)) old mid) (is : IsBegun total begun) where
+module _ (command : Command) (count total : ℕ) (input begun rest : Bytes) (old mid : Option Bytes)
+    (way : AppendsSome (AnswersNext command count input total (begun ++ rest)) old mid × IsBegun total begun) (len : ℕ) (len_is : len ≡ length begun) where
+  is : IsBegun total begun
+  is = way.1
+
   -- a cause to stop comes
-  stops_here : (Cause : ℕ → Bytes → Type 0) (new : Option Bytes) → Keeps mid new → Cause total (begun ++ rest) → AppendsSome (AnswersUntil Cause command count input) old new
+  stops_here : (Cause : ℕ → Bytes → Type 0) (new : Option Bytes) → Keeps mid new → Cause total (begun ++ rest)
+      → AppendsSome (AnswersUntil Cause command count input) old new
   stops_here Cause new kept cause =
-      let (output, next, written) = so_far in (output, (total, begun ++ rest, next, cause), Appends-kept old mid new output written kept)
+      let (output, next, written) = way.0 in (output, (total, begun ++ rest, next, cause), Appends-kept old mid new output written kept)
 
   -- a line feed stands in the rest
-  module _ (at : ℕ) (within : at < length rest) (before : (k : ℕ) → k < at → IsOther rest k) (feed : eqb (get_or rest at 0) line_feed ≡ true) where
-    joined : begun ++ rest ≡ (begun ++ take at rest) ++ (line_feed ∷ after rest at)
+  module _ (at : ℕ) (within : at < length rest) (before : (k : ℕ) → 0 ≤ k → k < at → IsOther rest k) (feed : eqb (get_or rest at 0) line_feed ≡ true) where
+    abbrev line : Bytes
+    line = begun ++ take at rest
+
+    joined : begun ++ rest ≡ line ++ (line_feed ∷ after rest at)
     joined = line_parted begun rest at within feed
 
-    line_is : IsLine (begun ++ take at rest)
-    line_is = All-append (λ b. b ≢ line_feed) begun (take at rest) is.line (line_before rest at (omega arith) before)
+    line_is : IsLine line
+    line_is = All-append (λ b. b ≢ line_feed) begun (take at rest) is.line (line_before rest at (omega arith) (λ k lt. before k (omega arith) lt))
 
-    line_length : length (begun ++ take at rest) ≡ length begun + at
-    line_length = omega (arith, length-append begun (take at rest), length-take at rest)
+    line_length : len + at ≡ length line
+    line_length = omega (arith, len_is, length-append begun (take at rest), length-take at rest)
 
-    pub line_past_limit : (total ≡ max_lines) ⊎ (max_line_bytes < length begun + at) → AppendsSome (AnswersUntil IsPastLimit command count input) old mid
+    pub line_past_limit : (total ≡ max_lines) ⊎ (max_line_bytes < len + at) → AppendsSome (AnswersUntil IsPastLimit command count input) old mid
     line_past_limit past =
         let some : 0 < length (begun ++ rest) = omega (arith, length-append begun rest) in
-        let long : (total ≡ max_lines) ⊎ (max_line_bytes < length (begun ++ take at rest)) = subst (λ n. (total ≡ max_lines) ⊎ (max_line_bytes < n)) (sym line_length) past in
-        stops_here IsPastLimit mid (Keeps-refl mid) (limit_passed total (begun ++ rest) (begun ++ take at rest) (line_feed ∷ after rest at) joined line_is some long)
+        stops_here IsPastLimit mid (Keeps-refl mid) (limit_passed total (begun ++ rest) line (line_feed ∷ after rest at) joined line_is some (len + at) line_length past)
 
-    module _ (few : total < max_lines) (short : length begun + at ≤ max_line_bytes) (new : Option Bytes) where
-      next : (output more : Bytes) → AnswersNext command count input total (begun ++ rest) output → Answered command [] ((begun ++ take at rest) ∷ []) more
+    module _ (fits : (total < max_lines) × (len + at ≤ max_line_bytes)) (new : Option Bytes) where
+      short : length line ≤ max_line_bytes
+      short = omega (arith, fits.1, line_length)
+
+      next : (output more : Bytes) → AnswersNext command count input total (begun ++ rest) output → Answered command [] (line ∷ []) more
           → AnswersNext command count input (total + 1) (after rest at) (output ++ more)
       next output more (lines, answers) answered = (
-        lines_line count total input (begun ++ rest) (begun ++ take at rest) (after rest at) lines joined line_is (omega (arith, line_length)) few,
-        answered_after command [] lines.lines ((begun ++ take at rest) ∷ []) output more answers answered,
+        lines_line count total input (begun ++ rest) line (after rest at) lines joined line_is short fits.0,
+        answered_after command [] lines.lines (line ∷ []) output more answers answered,
       )
 
-      pub line_answered : (cleared : Bytes) → cleared ≡ [] → AppendsSome (Answered command [] ((begun ++ take at rest) ∷ [])) mid new
-          → AppendsSome (AnswersNext command count input (total + 1) (cleared ++ after rest at)) old new
+      pub line_answered : (cleared : Bytes) → cleared ≡ [] → AppendsSome (Answered command [] (line ∷ [])) mid new
+          → AppendsSome (AnswersNext command count input (total + 1) (cleared ++ after rest at)) old new × IsBegun (total + 1) cleared
       line_answered cleared clear answer =
-          subst (λ l. AppendsSome (AnswersNext command count input (total + 1) (l ++ after rest at)) old new) (sym clear) (appends_after _ _ _ old mid new next so_far answer)
+          subst (λ l. AppendsSome (AnswersNext command count input (total + 1) (l ++ after rest at)) old new × IsBegun (total + 1) l) (sym clear)
+          (appends_after _ _ _ old mid new next way.0 answer, none_begun (total + 1) (omega (arith, fits.0)))
 
       pub line_lacks_memory : Keeps mid new → AppendsSome (AnswersUntil (λ n l. ¬ IsPastLimit n l) command count input) old new
       line_lacks_memory kept =
-          stops_here (λ n l. ¬ IsPastLimit n l) new kept (line_inside total (begun ++ rest) (begun ++ take at rest) (after rest at) joined few (omega (arith, line_length)))
+          stops_here (λ n l. ¬ IsPastLimit n l) new kept (line_inside total (begun ++ rest) line (after rest at) joined fits.0 short)
 
-      pub line_breaks_off : AppendsSome (FrontOf (Answered command [] ((begun ++ take at rest) ∷ []))) mid new → AppendsSome (FrontOf (AnswersUntil (λ n l. ⊤) command count input)) old new
-      line_breaks_off answer =
-          appends_after _ _ (FrontOf (AnswersUntil (λ n l. ⊤) command count input)) old mid new
-          (λ a b so. front_after _ (AnswersUntil (λ n l. ⊤) command count input) a (λ more answered. (total + 1, after rest at, next a more so answered, tt)) b) so_far answer
+      pub line_breaks_off : AppendsSome (FrontOf (Answered command [] (line ∷ []))) mid new
+          → AppendsSome (FrontOf (AnswersUntil (λ n l. ⊤) command count input)) old new
+      line_breaks_off =
+          let Until = AnswersUntil (λ n l. ⊤) command count input in
+          appends_after _ _ (FrontOf Until) old mid new
+          (λ a b so. front_after _ Until a (λ more answered. (total + 1, after rest at, next a more so answered, tt)) b) way.0
 
   -- no line feed stands in the rest
-  module _ (none : (k : ℕ) → k < length rest → IsOther rest k) where
+  module _ (none : (k : ℕ) → 0 ≤ k → k < length rest → IsOther rest k) where
     rest_is : IsLine (begun ++ rest)
-    rest_is = All-append (λ b. b ≢ line_feed) begun rest is.line (line_whole rest none)
+    rest_is = All-append (λ b. b ≢ line_feed) begun rest is.line (line_whole rest (λ k lt. none k (omega arith) lt))
 
-    pub rest_past_limit : 0 < length rest → (total ≡ max_lines) ⊎ (max_line_bytes < length begun + length rest) → AppendsSome (AnswersUntil IsPastLimit command count input) old mid
+    rest_length : len + length rest ≡ length (begun ++ rest)
+    rest_length = omega (arith, len_is, length-append begun rest)
+
+    pub rest_past_limit : 0 < length rest → (total ≡ max_lines) ⊎ (max_line_bytes < len + length rest)
+        → AppendsSome (AnswersUntil IsPastLimit command count input) old mid
     rest_past_limit some past =
         let more : 0 < length (begun ++ rest) = omega (arith, length-append begun rest) in
-        let long : (total ≡ max_lines) ⊎ (max_line_bytes < length (begun ++ rest)) = subst (λ n. (total ≡ max_lines) ⊎ (max_line_bytes < n)) (sym (length-append begun rest)) past in
-        stops_here IsPastLimit mid (Keeps-refl mid) (limit_passed total (begun ++ rest) (begun ++ rest) [] (sym (append-nil (begun ++ rest))) rest_is more long)
+        stops_here IsPastLimit mid (Keeps-refl mid)
+        (limit_passed total (begun ++ rest) (begun ++ rest) [] (sym (append-nil (begun ++ rest))) rest_is more (len + length rest) rest_length past)
 
-    pub rest_lacks_memory : total < max_lines → length begun + length rest ≤ max_line_bytes → AppendsSome (AnswersUntil (λ n l. ¬ IsPastLimit n l) command count input) old mid
-    rest_lacks_memory few short =
-        stops_here (λ n l. ¬ IsPastLimit n l) mid (Keeps-refl mid) (begun_inside total (begun ++ rest) (λ _. few) (omega (arith, length-append begun rest)))
+    module _ (fits : (total < max_lines) × (len + length rest ≤ max_line_bytes)) where
+      pub rest_lacks_memory : AppendsSome (AnswersUntil (λ n l. ¬ IsPastLimit n l) command count input) old mid
+      rest_lacks_memory =
+          stops_here (λ n l. ¬ IsPastLimit n l) mid (Keeps-refl mid) (begun_inside total (begun ++ rest) (λ _. fits.0) (omega (arith, fits.1, rest_length)))
 
-    pub rest_begun : (next : Bytes) → next ≡ begun ++ rest → total < max_lines → length begun + length rest ≤ max_line_bytes → IsBegun total next
-    rest_begun next same few short = record {
-      line = subst IsLine (sym same) rest_is;
-      short = omega (arith, ap length same, length-append begun rest);
-      few = omega arith;
-      room = λ _. few;
-    }
+      pub rest_begun : (next : Bytes) → next ≡ begun ++ rest → IsBegun total next
+      rest_begun next same = record {
+        line = subst IsLine (sym same) rest_is;
+        short = omega (arith, fits.1, ap length same, rest_length);
+        few = omega (arith, fits.0);
+        room = λ _. fits.0;
+      }

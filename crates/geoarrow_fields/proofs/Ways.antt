@@ -2,16 +2,14 @@
 use Rattle.std.specs.Prelude.{⊤}
 use Rattle.std.proofs.Common.{◌≡◌, ◌≢◌, ℕ, ◌+◌, List, ◌*◌, ◌-◌, ◌<◌, ◌≤◌, [], ◌∷◌, ◌++◌, length, Option, refl, sym, ap, ◌∙◌, subst, append-nil, length-append, arith}
 use Rattle.std.proofs.KnownBytes.{Appends-trans, Appends-nil, Consumes-nil, Consumes-trans}
-use Rattle.std.proofs.lemmas.List.Elements.{All-nil}
 use Rattle.std.specs.Io.KnownBytes.{Appends, Consumes}
 use Rattle.geoarrow_fields.specs.declared.Command.{Command}
 use Rattle.geoarrow_fields.specs.declared.RunEnd.{RunEnd}
 use Rattle.geoarrow_fields.specs.declared.RunEnd.TheVariants.{Done, OutputFault}
-use Rattle.geoarrow_fields.specs.Lines.{Bytes, line_feed, lines_of, max_lines, max_line_bytes, IsSplit, IsPastLimit, Stops}
+use Rattle.geoarrow_fields.specs.Lines.{Bytes, lines_of, max_lines, max_line_bytes, IsSplit, Stops}
 use Rattle.geoarrow_fields.specs.Output.{Answered, Means, ReadsAndWrites, RunsTo}
 use Rattle.geoarrow_fields.specs.Progress.{IsBegun, AnswersNext, AnswersUntil, AppendsSome, FrontOf}
 use Rattle.geoarrow_fields.proofs.Splits.{lines_of-split}
-use Rattle.geoarrow_fields.proofs.Limits.{begun_inside}
 use Rattle.geoarrow_fields.proofs.Laws.{lines_none, lines_after, all_within, stops}
 use Rattle.geoarrow_fields.proofs.Grows.{answered_none, answered_after, answered_then, front_after}
 
@@ -42,11 +40,6 @@ pub way_starts : (command : Command) (begun : Bytes) (i o : Option Bytes) → be
 way_starts command begun i o none =
     subst (λ l. ReadsAndWrites (λ input. AnswersNext command 0 input 0 l) i i o o) (sym none)
     (record { input = []; output = []; consumed = Consumes-nil i; written = Appends-nil o; is = (lines_none 0 [] (omega arith), answered_none command []) })
-
--- nothing has come of the next line
-pub cleared_begun : (total : ℕ) (cleared : Bytes) → cleared ≡ [] → total ≤ max_lines → IsBegun total cleared
-cleared_begun total cleared clear few =
-    subst (IsBegun total) (sym clear) (record { line = All-nil (λ b. b ≢ line_feed); short = omega arith; few = omega arith; room = λ some. absurd (omega arith) })
 
 module _ (command : Command) (count : ℕ) (begun : Bytes) (i j o p : Option Bytes) (way : ReadsAndWrites (λ input. AnswersNext command 0 input count begun) i j o p) (k q : Option Bytes) where
   -- nothing more is read or written

@@ -11,7 +11,8 @@ use Rattle.geoarrow_fields.specs.Progress.{AppendsSome, FrontOf}
 use Rattle.geoarrow_fields.proofs.Grows.{answered_none}
 use Rattle.geoarrow_fields.proofs.Limits.{begun_inside}
 use Rattle.geoarrow_fields.proofs.Splits.{lines_of-last}
-use Rattle.geoarrow_fields.proofs.Ways.{way_starts, cleared_begun, way_stops, way_done, way_breaks_off_at_end, way_goes_on, way_ends, way_breaks_off, bytes_left_falls}
+use Rattle.geoarrow_fields.proofs.Steps.{none_begun}
+use Rattle.geoarrow_fields.proofs.Ways.{way_starts, way_stops, way_done, way_breaks_off_at_end, way_goes_on, way_ends, way_breaks_off, bytes_left_falls}
 use Rattle.geoarrow_fields.proofs.reading.answer_lines.Goals as goal
 
 pub returns-in_err-chunk-clause-memory : goal.returns-in_err-chunk-clause-memory
@@ -20,7 +21,8 @@ returns-in_err-chunk-clause-memory g c =
     rw p.1 (λ _. way_stops _ _ _ _ _ _ _ (way_starts c.args.command [] _ _ refl) _ _ (λ n l. ¬ IsPastLimit n l) (begun_inside 0 [] (λ some. absurd (omega arith)) (omega arith)) (Consumes-nil _) (Appends-nil _))
 
 pub loop-begun-init : goal.loop-begun-init
-loop-begun-init g c = (omega (arith, c.in_ok-chunk.ensures), cleared_begun 0 _ c.new-begun.ensures.items (omega arith), way_starts _ _ _ _ c.new-begun.ensures.items)
+loop-begun-init g c =
+    (omega (arith, c.in_ok-chunk.ensures), rw c.new-begun.ensures.items (none_begun 0 (omega arith)), way_starts _ _ _ _ c.new-begun.ensures.items)
 
 pub returns-in_err-n-clause-input : goal.returns-in_err-n-clause-input
 returns-in_err-n-clause-input g c =

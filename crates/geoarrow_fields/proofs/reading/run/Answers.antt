@@ -12,25 +12,27 @@ use Rattle.geoarrow_fields.proofs.Ways.{writes_more, stopped}
 use Rattle.geoarrow_fields.proofs.reading.run.Goals as goal
 
 -- an end is the one that was meant, or a fault of the writer
-module _ (command : Command) (i j o p q : Option Bytes) (meant : RunEnd) (Before : Bytes → Bytes → Type 0) (text : Bytes) (ran : ReadsAndWrites Before i j o p) where
-  ends_so : ((input output : Bytes) → Before input output → Means command meant input (output ++ text)) → (ReadsAndWrites (Means command meant) i j o q → RunsTo command meant i j o q)
-      → (end : RunEnd) → (end ≢ OutputFault → end ≡ meant) → (end ≢ OutputFault → Appends p q text) → AppendsSome (FrontOf (λ whole. text ≡ whole)) p q → RunsTo command end i j o q
-  ends_so follows so end is grown part = by_end end is grown
-    where
-      join : (input output more : Bytes) → Before input output → text ≡ more → Means command meant input (output ++ more)
-      join input output more before same = subst (λ l. Means command meant input (output ++ l)) same (follows input output before)
+module _ (command : Command) (i j o p q : Option Bytes) (meant : RunEnd) (Before : Bytes → Bytes → Type 0) (text : Bytes)
+    (ran : ReadsAndWrites Before i j o p) (follows : (input output : Bytes) → Before input output → Means command meant input (output ++ text))
+    (so : ReadsAndWrites (Means command meant) i j o q → RunsTo command meant i j o q) where
+  join : (input output more : Bytes) → Before input output → text ≡ more → Means command meant input (output ++ more)
+  join input output more before same = subst (λ l. Means command meant input (output ++ l)) same (follows input output before)
 
-      by_end : (end : RunEnd) → (end ≢ OutputFault → end ≡ meant) → (end ≢ OutputFault → Appends p q text) → RunsTo command end i j o q
-      by_end OutputFault is grown =
-          (meant, writes_more Before _ _ i j j o p q (λ input output more before. front_after _ (Means command meant input) output (λ whole. join input output whole before) more) ran (Consumes-nil j) part)
-      by_end end is grown =
-          let other : end ≢ OutputFault = λ fault. cc in
-          subst (λ e. RunsTo command e i j o q) (sym (is other)) (so (writes_more Before _ _ i j j o p q join ran (Consumes-nil j) (text, refl, grown other)))
+  ends_so : (end : RunEnd) → (end ≢ OutputFault → end ≡ meant) → (end ≢ OutputFault → Appends p q text) → AppendsSome (FrontOf (λ whole. text ≡ whole)) p q
+      → RunsTo command end i j o q
+  ends_so OutputFault is grown part = (
+    meant,
+    writes_more Before _ _ i j j o p q (λ input output more before. front_after _ (Means command meant input) output (λ whole. join input output whole before) more)
+    ran (Consumes-nil j) part,
+  )
+  ends_so end is grown part =
+      let other : end ≢ OutputFault = λ fault. cc in
+      subst (λ e. RunsTo command e i j o q) (sym (is other)) (so (writes_more Before _ _ i j j o p q join ran (Consumes-nil j) (text, refl, grown other)))
 
 pub returns-in-Ok : goal.returns-in-Ok
 returns-in-Ok g c =
-    ends_so c.args.command _ _ _ _ _ Done _ _ c.in-Ok.ensures.done (λ input output all. (all.0, answered_then c.args.command [] (lines_of input) output all.1)) (λ ran. (ran, c.in-Ok.ensures.end))
-    c.finish.result c.finish.ensures.end c.finish.ensures.written c.finish.ensures.part
+    ends_so c.args.command _ _ _ _ _ Done _ _ c.in-Ok.ensures.done (λ input output all. (all.0, answered_then c.args.command [] (lines_of input) output all.1))
+    (λ ran. (ran, c.in-Ok.ensures.end)) c.finish.result c.finish.ensures.end c.finish.ensures.written c.finish.ensures.part
 
 pub returns-in-Err-Input : goal.returns-in-Err-Input
 returns-in-Err-Input g c =
