@@ -30,8 +30,10 @@ module _ (command : Command) (line text answer : Bytes) (same : text ≡ answer)
         let joined = ap (λ l. l ++ (line_feed ∷ [])) whole ∙ append_assoc front back (line_feed ∷ []) in
         (front, (back ++ (line_feed ∷ []), subst (Answered command [] (line ∷ [])) joined (answered_line (line_feed ∷ []) refl)), written)
 
-    pub feed_breaks_off : Appends old mid text → AppendsSome (FrontOf (λ whole. line_feed ∷ [] ≡ whole)) mid new → AppendsSome (FrontOf (Answered command [] (line ∷ []))) old new
-    feed_breaks_off written (front, part, more) = (text ++ front, front_after _ (Answered command [] (line ∷ [])) text answered_line front part, Appends-trans old mid new text front written more)
+    pub feed_breaks_off : Appends old mid text → AppendsSome (FrontOf (λ whole. line_feed ∷ [] ≡ whole)) mid new
+        → AppendsSome (FrontOf (Answered command [] (line ∷ []))) old new
+    feed_breaks_off written (front, part, more) =
+        (text ++ front, front_after _ (Answered command [] (line ∷ [])) text answered_line front part, Appends-trans old mid new text front written more)
 
     pub answer_written : Appends old mid text → Appends mid new (line_feed ∷ []) → AppendsSome (Answered command [] (line ∷ [])) old new
     answer_written written fed = (text ++ (line_feed ∷ []), answered_line (line_feed ∷ []) refl, Appends-trans old mid new text (line_feed ∷ []) written fed)
@@ -40,7 +42,8 @@ pub answered_none : (command : Command) (last : Bytes) → Answered command last
 unfolding Answered
 answered_none command last = refl
 
-pub answered_after : (command : Command) (last : Bytes) (a b : List Bytes) (x y : Bytes) → Answered command [] a x → Answered command last b y → Answered command last (a ++ b) (x ++ y)
+pub answered_after : (command : Command) (last : Bytes) (a b : List Bytes) (x y : Bytes) → Answered command [] a x → Answered command last b y
+    → Answered command last (a ++ b) (x ++ y)
 unfolding Answered
 answered_after command last [] b x y first second = subst (λ l. Answered command last b (l ++ y)) (sym first) second
 answered_after command last (line ∷ a) b x y first second =
@@ -48,13 +51,17 @@ answered_after command last (line ∷ a) b x y first second =
     (answer, rest ++ y, is, ap (λ l. l ++ y) joined ∙ append_assoc answer (line_feed ∷ rest) y, answered_after command last a b rest y others second)
 
 -- a last text after answers
-pub answered_then : (command : Command) (last : Bytes) (lines : List Bytes) (output : Bytes) → Answered command [] lines output → Answered command last lines (output ++ last)
+pub answered_then : (command : Command) (last : Bytes) (lines : List Bytes) (output : Bytes) → Answered command [] lines output
+    → Answered command last lines (output ++ last)
 answered_then command last lines output answered =
-    subst (λ l. Answered command last l (output ++ last)) (append-nil lines) (answered_after command last lines [] output last answered (answered_none command last))
+    subst (λ l. Answered command last l (output ++ last)) (append-nil lines)
+    (answered_after command last lines [] output last answered (answered_none command last))
 
 -- a part of the text is written, and then some of its rest
 pub write_goes_on : (text rest : Bytes) (n : ℕ) (old mid new : Option Bytes) → AppendsSome (λ done. text ≡ done ++ rest) old mid → Appends mid new (take n rest)
     → AppendsSome (λ done. text ≡ done ++ take (length rest - n) (drop n rest)) old new
 write_goes_on text rest n old mid new (done, split, before) more =
-    let moved = split ∙ ap (λ l. done ++ l) (sym (take-append-drop n rest)) ∙ sym (append_assoc done (take n rest) (drop n rest)) ∙ ap (λ l. (done ++ take n rest) ++ l) (sym (take_rest rest n)) in
+    let moved =
+    split ∙ ap (λ l. done ++ l) (sym (take-append-drop n rest)) ∙ sym (append_assoc done (take n rest) (drop n rest)) ∙ ap (λ l. (done ++ take n rest) ++ l)
+    (sym (take_rest rest n)) in
     (done ++ take n rest, moved, Appends-trans old mid new done (take n rest) before more)

@@ -14,7 +14,8 @@ lines_none count input few =
     record { lines = []; split = record { joined = refl; each = All-nil IsLine }; short = All-nil IsShort; counted = omega arith; few = few }
 
 -- one line more
-abbrev pub lines_line : (count total : ℕ) (input later line rest : Bytes) → NextLines count input total later → later ≡ line ++ (line_feed ∷ rest) → IsLine line → IsShort line → total < max_lines
+abbrev pub lines_line : (count total : ℕ) (input later line rest : Bytes) → NextLines count input total later → later ≡ line ++ (line_feed ∷ rest) → IsLine line
+    → IsShort line → total < max_lines
     → NextLines count input (total + 1) rest
 lines_line count total input later line rest next joined is short few = record {
   lines = next.lines ++ (line ∷ []);
@@ -26,7 +27,8 @@ lines_line count total input later line rest next joined is short few = record {
 }
 
 -- the lines of what comes after
-abbrev pub lines_after : (count middle total : ℕ) (input more begun later : Bytes) → NextLines count input middle begun → NextLines middle (begun ++ more) total later → NextLines count (input ++ more) total later
+abbrev pub lines_after : (count middle total : ℕ) (input more begun later : Bytes) → NextLines count input middle begun
+    → NextLines middle (begun ++ more) total later → NextLines count (input ++ more) total later
 lines_after count middle total input more begun later first second = record {
   lines = first.lines ++ second.lines;
   split = split_after (input ++ more) first.lines (begun ++ more) second.lines later
@@ -41,7 +43,8 @@ begun_lines : (total : ℕ) (later : Bytes) → IsBegun total later → (total +
 begun_lines total [] is = (omega (arith, is.few), All-nil IsShort)
 begun_lines total (byte ∷ bytes) is =
     let few : total < max_lines = is.room (omega arith) in
-    subst (λ l. (total + length l ≤ max_lines) × All IsShort l) (sym (lines_of-last (byte ∷ bytes) is.line (omega arith))) (omega (arith, few), All-cons IsShort (byte ∷ bytes) [] is.short (All-nil IsShort))
+    subst (λ l. (total + length l ≤ max_lines) × All IsShort l) (sym (lines_of-last (byte ∷ bytes) is.line (omega arith)))
+    (omega (arith, few), All-cons IsShort (byte ∷ bytes) [] is.short (All-nil IsShort))
 
 -- all comes within the limits
 pub all_within : (total : ℕ) (input later : Bytes) → NextLines 0 input total later → IsBegun total later → IsWithinLimits (lines_of input)
@@ -65,17 +68,20 @@ stops Cause total input later next cause = record {
 -- ---- an input is within the limits, or passes one
 
 -- a line that comes is past a limit, or fits
-comes : (total : ℕ) (later line tail : Bytes) → total ≤ max_lines → later ≡ line ++ tail → IsLine line → IsPastLimit total later ⊎ ((0 < length later → total < max_lines) × IsShort line)
+comes : (total : ℕ) (later line tail : Bytes) → total ≤ max_lines → later ≡ line ++ tail → IsLine line
+    → IsPastLimit total later ⊎ ((0 < length later → total < max_lines) × IsShort line)
 comes total later line tail few joined is = decide (cases_lt max_line_bytes (length line)) (cases_lt total max_lines) (cases_lt 0 (length later))
   where
-    decide : (max_line_bytes < length line) ⊎ (length line ≤ max_line_bytes) → (total < max_lines) ⊎ (max_lines ≤ total) → (0 < length later) ⊎ (length later ≤ 0)
+    decide : (max_line_bytes < length line) ⊎ (length line ≤ max_line_bytes) → (total < max_lines) ⊎ (max_lines ≤ total)
+        → (0 < length later) ⊎ (length later ≤ 0)
         → IsPastLimit total later ⊎ ((0 < length later → total < max_lines) × IsShort line)
     decide (inl long) room come = inl (inr (record { begun = line; rest = tail; joined = joined; line = is; long = long }))
     decide (inr short) (inl less) come = inr (λ _. less, short)
     decide (inr short) (inr most) (inl some) = let same : total ≡ max_lines = omega arith in inl (inl (same, some))
     decide (inr short) (inr most) (inr none) = inr (λ some. absurd (omega arith), short)
 
-walks : (input : Bytes) (lines : List Bytes) (total : ℕ) (rest : Bytes) → NextLines 0 input total (ended_lines lines ++ rest) → All IsLine lines → IsLine rest → IsWithinLimits (lines_of input) ⊎ Stops IsPastLimit input
+walks : (input : Bytes) (lines : List Bytes) (total : ℕ) (rest : Bytes) → NextLines 0 input total (ended_lines lines ++ rest) → All IsLine lines → IsLine rest
+    → IsWithinLimits (lines_of input) ⊎ Stops IsPastLimit input
 walks input [] total rest next each is =
     elim (comes total rest rest [] next.few (sym (append-nil rest)) is) [
       | inl past ↦ inr (stops IsPastLimit total input rest next past)
@@ -84,10 +90,14 @@ walks input [] total rest next each is =
 walks input (line ∷ lines) total rest next each is =
     let here = All-head IsLine line lines each in
     let joined = append_assoc line (line_feed ∷ ended_lines lines) rest in
-    let some : 0 < length (ended_lines (line ∷ lines) ++ rest) = omega (arith, ap length joined, length-append line (line_feed ∷ (ended_lines lines ++ rest))) in
+    let some : 0 < length (ended_lines (line ∷ lines) ++ rest) =
+    omega (arith, ap length joined, length-append line (line_feed ∷ (ended_lines lines ++ rest))) in
     elim (comes total (ended_lines (line ∷ lines) ++ rest) line (line_feed ∷ (ended_lines lines ++ rest)) next.few joined here) [
       | inl past ↦ inr (stops IsPastLimit total input (ended_lines (line ∷ lines) ++ rest) next past)
-      | inr fits ↦ walks input lines (total + 1) rest (lines_line 0 total input (ended_lines (line ∷ lines) ++ rest) line (ended_lines lines ++ rest) next joined here fits.1 (fits.0 some)) (All-tail IsLine line lines each) is
+      | inr fits ↦
+          walks input lines (total + 1) rest
+          (lines_line 0 total input (ended_lines (line ∷ lines) ++ rest) line (ended_lines lines ++ rest) next joined here fits.1 (fits.0 some))
+          (All-tail IsLine line lines each) is
     ]
 
 pub either : (input : Bytes) → IsWithinLimits (lines_of input) ⊎ Stops IsPastLimit input
@@ -98,16 +108,21 @@ either input =
 -- ---- and not both
 
 -- the first line goes on from what is begun
-goes_on : (begun rest : Bytes) → IsLine begun → 0 < length (begun ++ rest) → (end : Bytes) × (others : List Bytes) × (lines_of (begun ++ rest) ≡ (begun ++ end) ∷ others)
+goes_on : (begun rest : Bytes) → IsLine begun → 0 < length (begun ++ rest) → (end : Bytes) × (others : List Bytes)
+    × (lines_of (begun ++ rest) ≡ (begun ++ end) ∷ others)
 goes_on begun rest is some = from (split_every rest)
   where
-    from : (lines : List Bytes) × (last : Bytes) × IsSplit rest lines last × IsLine last → (end : Bytes) × (others : List Bytes) × (lines_of (begun ++ rest) ≡ (begun ++ end) ∷ others)
+    from : (lines : List Bytes) × (last : Bytes) × IsSplit rest lines last × IsLine last → (end : Bytes) × (others : List Bytes)
+        × (lines_of (begun ++ rest) ≡ (begun ++ end) ∷ others)
     from ([], last, split, line) =
-        (last, [], ap (λ l. lines_of (begun ++ l)) split.joined ∙ lines_of-last (begun ++ last) (All-append (λ b. b ≢ line_feed) begun last is line) (subst (λ l. 0 < length (begun ++ l)) split.joined some))
+        (last, [], ap (λ l. lines_of (begun ++ l)) split.joined ∙ lines_of-last (begun ++ last) (All-append (λ b. b ≢ line_feed) begun last is line)
+        (subst (λ l. 0 < length (begun ++ l)) split.joined some))
     from (line ∷ lines, last, split, _) =
         let later = ended_lines lines ++ last in
-        let joined = ap (λ l. begun ++ l) (split.joined ∙ append_assoc line (line_feed ∷ ended_lines lines) last) ∙ sym (append_assoc begun line (line_feed ∷ later)) in
-        (line, lines_of later, ap lines_of joined ∙ lines_of-line (begun ++ line) later (All-append (λ b. b ≢ line_feed) begun line is (All-head IsLine line lines split.each)))
+        let joined =
+        ap (λ l. begun ++ l) (split.joined ∙ append_assoc line (line_feed ∷ ended_lines lines) last) ∙ sym (append_assoc begun line (line_feed ∷ later)) in
+        (line, lines_of later, ap lines_of joined ∙ lines_of-line (begun ++ line) later
+        (All-append (λ b. b ≢ line_feed) begun line is (All-head IsLine line lines split.each)))
 
 pub never_both : (input : Bytes) → IsWithinLimits (lines_of input) → ¬ Stops IsPastLimit input
 never_both input within passes = contradicts passes.cause
@@ -122,7 +137,10 @@ never_both input within passes = contradicts passes.cause
     contradicts (inr long) =
         let some : 0 < length (long.begun ++ long.rest) = omega (arith, long.long, length-append long.begun long.rest) in
         let (end, others, same) = goes_on long.begun long.rest long.line some in
-        let all : All IsShort (passes.lines ++ ((long.begun ++ end) ∷ others)) = subst (All IsShort) (split ∙ ap (λ l. passes.lines ++ l) (ap lines_of long.joined ∙ same)) within.short in
-        let at : length passes.lines < length (passes.lines ++ ((long.begun ++ end) ∷ others)) = omega (arith, length-append passes.lines ((long.begun ++ end) ∷ others)) in
-        let short : length (long.begun ++ end) ≤ max_line_bytes = subst IsShort (get_or_at passes.lines (long.begun ++ end) others [] (length passes.lines) refl) (all (length passes.lines) [] at) in
+        let all : All IsShort (passes.lines ++ ((long.begun ++ end) ∷ others)) =
+        subst (All IsShort) (split ∙ ap (λ l. passes.lines ++ l) (ap lines_of long.joined ∙ same)) within.short in
+        let at : length passes.lines < length (passes.lines ++ ((long.begun ++ end) ∷ others)) =
+        omega (arith, length-append passes.lines ((long.begun ++ end) ∷ others)) in
+        let short : length (long.begun ++ end) ≤ max_line_bytes =
+        subst IsShort (get_or_at passes.lines (long.begun ++ end) others [] (length passes.lines) refl) (all (length passes.lines) [] at) in
         omega (arith, long.long, length-append long.begun end)

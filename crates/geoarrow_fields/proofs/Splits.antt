@@ -13,7 +13,8 @@ put_other byte bytes lines h same =
 pub lines_of-line : (line rest : Bytes) → IsLine line → lines_of (line ++ (line_feed ∷ rest)) ≡ line ∷ lines_of rest
 lines_of-line [] rest h = refl
 lines_of-line (byte ∷ line) rest h =
-    put_other byte (line ++ (line_feed ∷ rest)) (line ∷ lines_of rest) (All-head (λ b. b ≢ line_feed) byte line h) (lines_of-line line rest (All-tail (λ b. b ≢ line_feed) byte line h))
+    put_other byte (line ++ (line_feed ∷ rest)) (line ∷ lines_of rest) (All-head (λ b. b ≢ line_feed) byte line h)
+    (lines_of-line line rest (All-tail (λ b. b ≢ line_feed) byte line h))
 
 -- what no line feed ends is a line of its own
 pub lines_of-last : (rest : Bytes) → IsLine rest → 0 < length rest → lines_of rest ≡ rest ∷ []

@@ -45,7 +45,8 @@ module _ (command : Command) (count total : ℕ) (input begun rest : Bytes) (old
     pub line_past_limit : (total ≡ max_lines) ⊎ (max_line_bytes < len + at) → AppendsSome (AnswersUntil IsPastLimit command count input) old mid
     line_past_limit past =
         let some : 0 < length (begun ++ rest) = omega (arith, length-append begun rest) in
-        stops_here IsPastLimit mid (Keeps-refl mid) (limit_passed total (begun ++ rest) line (line_feed ∷ after rest at) joined line_is some (len + at) line_length past)
+        stops_here IsPastLimit mid (Keeps-refl mid)
+        (limit_passed total (begun ++ rest) line (line_feed ∷ after rest at) joined line_is some (len + at) line_length past)
 
     module _ (fits : (total < max_lines) × (len + at ≤ max_line_bytes)) (new : Option Bytes) where
       short : length line ≤ max_line_bytes

@@ -31,7 +31,8 @@ pub writes_more : (Before After : Bytes → Bytes → Type 0) (More : Bytes → 
     → ((input output more : Bytes) → Before input output → More more → After input (output ++ more))
     → ReadsAndWrites Before i j o p → Consumes j k [] → AppendsSome More p q → ReadsAndWrites After i k o q
 writes_more Before After More i j k o p q join run read grown =
-    continues Before After More i j k o p q [] (λ input output more is so. subst (λ l. After l (output ++ more)) (sym (append-nil input)) (join input output more is so)) run read grown
+    continues Before After More i j k o p q []
+    (λ input output more is so. subst (λ l. After l (output ++ more)) (sym (append-nil input)) (join input output more is so)) run read grown
 
 -- ---- a run under way
 
@@ -41,19 +42,23 @@ way_starts command begun i o none =
     subst (λ l. ReadsAndWrites (λ input. AnswersNext command 0 input 0 l) i i o o) (sym none)
     (record { input = []; output = []; consumed = Consumes-nil i; written = Appends-nil o; is = (lines_none 0 [] (omega arith), answered_none command []) })
 
-module _ (command : Command) (count : ℕ) (begun : Bytes) (i j o p : Option Bytes) (way : ReadsAndWrites (λ input. AnswersNext command 0 input count begun) i j o p) (k q : Option Bytes) where
+module _ (command : Command) (count : ℕ) (begun : Bytes) (i j o p : Option Bytes)
+    (way : ReadsAndWrites (λ input. AnswersNext command 0 input count begun) i j o p) (k q : Option Bytes) where
   -- nothing more is read or written
   pub way_stops : (Cause : ℕ → Bytes → Type 0) → Cause count begun → Consumes j k [] → Appends p q [] → ReadsAndWrites (AnswersUntil Cause command 0) i k o q
   way_stops Cause cause read kept =
       writes_more _ (AnswersUntil Cause command 0) (λ more. more ≡ []) i j k o p q
-      (λ input output more next none. subst (AnswersUntil Cause command 0 input) (sym (ap (λ l. output ++ l) none ∙ append-nil output)) (count, begun, next, cause)) way read ([], refl, kept)
+      (λ input output more next none. subst (AnswersUntil Cause command 0 input) (sym (ap (λ l. output ++ l) none ∙ append-nil output))
+      (count, begun, next, cause)) way read ([], refl, kept)
 
   -- all is read, and what is begun is answered
   module _ (is : IsBegun count begun) (read : Consumes j k []) where
-    all : (input output more : Bytes) → AnswersNext command 0 input count begun output → Answered command [] (lines_of begun) more → Means command Done input (output ++ more)
+    all : (input output more : Bytes) → AnswersNext command 0 input count begun output → Answered command [] (lines_of begun) more
+        → Means command Done input (output ++ more)
     all input output more (next, answers) last = (
       all_within count input begun next is,
-      subst (λ l. Answered command [] l (output ++ more)) (sym (lines_of-split input next.lines begun next.split)) (answered_after command [] next.lines (lines_of begun) output more answers last),
+      subst (λ l. Answered command [] l (output ++ more)) (sym (lines_of-split input next.lines begun next.split))
+      (answered_after command [] next.lines (lines_of begun) output more answers last),
     )
 
     pub way_done : AppendsSome (Answered command [] (lines_of begun)) p q → ReadsAndWrites (Means command Done) i k o q
@@ -61,29 +66,36 @@ module _ (command : Command) (count : ℕ) (begun : Bytes) (i j o p : Option Byt
 
     pub way_breaks_off_at_end : AppendsSome (FrontOf (Answered command [] (lines_of begun))) p q → RunsTo command OutputFault i k o q
     way_breaks_off_at_end part =
-        (Done, writes_more _ _ _ i j k o p q (λ input output more next. front_after _ (Means command Done input) output (λ whole. all input output whole next) more) way read part)
+        (Done, writes_more _ _ _ i j k o p q
+        (λ input output more next. front_after _ (Means command Done input) output (λ whole. all input output whole next) more) way read part)
 
   -- a piece of the input comes
   module _ (piece : Bytes) (read : Consumes j k piece) where
-    after : (input output more : Bytes) (total : ℕ) (later : Bytes) → AnswersNext command 0 input count begun output → AnswersNext command count (begun ++ piece) total later more
+    after : (input output more : Bytes) (total : ℕ) (later : Bytes) → AnswersNext command 0 input count begun output
+        → AnswersNext command count (begun ++ piece) total later more
         → AnswersNext command 0 (input ++ piece) total later (output ++ more)
     after input output more total later (first, answers) (second, others) =
         (lines_after 0 count total input piece begun later first second, answered_after command [] first.lines second.lines output more answers others)
 
-    pub way_goes_on : (total : ℕ) (later : Bytes) → AppendsSome (AnswersNext command count (begun ++ piece) total later) p q → ReadsAndWrites (λ input. AnswersNext command 0 input total later) i k o q
+    pub way_goes_on : (total : ℕ) (later : Bytes) → AppendsSome (AnswersNext command count (begun ++ piece) total later) p q
+        → ReadsAndWrites (λ input. AnswersNext command 0 input total later) i k o q
     way_goes_on total later = continues _ _ _ i j k o p q piece (λ input output more. after input output more total later) way read
 
-    pub way_ends : (Cause Other : ℕ → Bytes → Type 0) → ((n : ℕ) (l : Bytes) → Cause n l → Other n l) → AppendsSome (AnswersUntil Cause command count (begun ++ piece)) p q
+    pub way_ends : (Cause Other : ℕ → Bytes → Type 0) → ((n : ℕ) (l : Bytes) → Cause n l → Other n l)
+        → AppendsSome (AnswersUntil Cause command count (begun ++ piece)) p q
         → ReadsAndWrites (AnswersUntil Other command 0) i k o q
     way_ends Cause Other turn =
-        continues _ _ _ i j k o p q piece (λ input output more first (total, later, next, cause). (total, later, after input output more total later first next, turn total later cause)) way read
+        continues _ _ _ i j k o p q piece
+        (λ input output more first (total, later, next, cause). (total, later, after input output more total later first next, turn total later cause)) way read
 
     pub way_breaks_off : AppendsSome (FrontOf (AnswersUntil (λ n l. ⊤) command count (begun ++ piece))) p q → RunsTo command OutputFault i k o q
     way_breaks_off part =
         let whole : (input output more : Bytes) → AnswersNext command 0 input count begun output → AnswersUntil (λ n l. ⊤) command count (begun ++ piece) more
             → Means command OutputFault (input ++ piece) (output ++ more) =
-            λ input output more first (total, later, next, _). let (lines, answers) = after input output more total later first next in (stops (λ n l. ⊤) total (input ++ piece) later lines tt, answers) in
-        (OutputFault, continues _ _ _ i j k o p q piece (λ input output more first. front_after _ (Means command OutputFault (input ++ piece)) output (λ b. whole input output b first) more) way read part)
+            λ input output more first (total, later, next, _). let (lines, answers) =
+                after input output more total later first next in (stops (λ n l. ⊤) total (input ++ piece) later lines tt, answers) in
+        (OutputFault, continues _ _ _ i j k o p q piece
+        (λ input output more first. front_after _ (Means command OutputFault (input ++ piece)) output (λ b. whole input output b first) more) way read part)
 
 -- ---- a run ends
 
@@ -92,7 +104,8 @@ unfoldable pub bytes_left : ℕ → Bytes → ℕ
 bytes_left count begun = (max_lines * (max_line_bytes + 1) + max_line_bytes) - (count * (max_line_bytes + 1) + length begun)
 
 -- with each piece that comes, fewer bytes may still come
-pub bytes_left_falls : (count total : ℕ) (begun piece later : Bytes) (lines : List Bytes) → IsSplit (begun ++ piece) lines later → total ≡ count + length lines → IsBegun count begun → IsBegun total later → 0 < length piece
+pub bytes_left_falls : (count total : ℕ) (begun piece later : Bytes) (lines : List Bytes) → IsSplit (begun ++ piece) lines later → total ≡ count + length lines
+    → IsBegun count begun → IsBegun total later → 0 < length piece
     → bytes_left total later < bytes_left count begun
 unfolding bytes_left
 bytes_left_falls count total begun piece later [] split counted was is some =
@@ -102,4 +115,5 @@ bytes_left_falls count total begun piece later (line ∷ lines) split counted wa
 -- the last line of a run that stopped for a cause
 pub stopped : (Cause : ℕ → Bytes → Type 0) (command : Command) (last input output : Bytes) → AnswersUntil Cause command 0 input output
     → (stop : Stops Cause input) × Answered command last stop.lines (output ++ last)
-stopped Cause command last input output (total, later, (next, answers), cause) = (stops Cause total input later next cause, answered_then command last next.lines output answers)
+stopped Cause command last input output (total, later, (next, answers), cause) =
+    (stops Cause total input later next cause, answered_then command last next.lines output answers)

@@ -19,7 +19,8 @@ abbrev pub Means : Command → RunEnd → Bytes → Bytes → Type 0
 Means command Done input output = IsWithinLimits (lines_of input) × Answered command [] (lines_of input) output
 Means command InputFault input output =
     (stop : Stops (λ count later. IsPastLimit count later ⊎ IsLine later) input) × Answered command (codes "error input\n") stop.lines output
-Means command Memory input output = (stop : Stops (λ count later. ¬ IsPastLimit count later) input) × Answered command (codes "error memory\n") stop.lines output
+Means command Memory input output =
+    (stop : Stops (λ count later. ¬ IsPastLimit count later) input) × Answered command (codes "error memory\n") stop.lines output
 Means command OutputFault input output = (stop : Stops (λ count later. ⊤) input) × Answered command [] stop.lines output
 
 -- some bytes were read, and an output of this kind for them was written

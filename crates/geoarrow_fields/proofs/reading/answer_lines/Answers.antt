@@ -18,7 +18,8 @@ use Rattle.geoarrow_fields.proofs.reading.answer_lines.Goals as goal
 pub returns-in_err-chunk-clause-memory : goal.returns-in_err-chunk-clause-memory
 returns-in_err-chunk-clause-memory g c =
     let p = err_from_is_err_and c.from_residual.result c.from_residual.ensures.1 in
-    rw p.1 (λ _. way_stops _ _ _ _ _ _ _ (way_starts c.args.command [] _ _ refl) _ _ (λ n l. ¬ IsPastLimit n l) (begun_inside 0 [] (λ some. absurd (omega arith)) (omega arith)) (Consumes-nil _) (Appends-nil _))
+    rw p.1 (λ _. way_stops _ _ _ _ _ _ _ (way_starts c.args.command [] _ _ refl) _ _ (λ n l. ¬ IsPastLimit n l)
+    (begun_inside 0 [] (λ some. absurd (omega arith)) (omega arith)) (Consumes-nil _) (Appends-nil _))
 
 pub loop-begun-init : goal.loop-begun-init
 loop-begun-init g c =
@@ -28,7 +29,8 @@ pub returns-in_err-n-clause-input : goal.returns-in_err-n-clause-input
 returns-in_err-n-clause-input g c =
     let p = err_from_is_err_and c.from_residual-in_err-n.result c.from_residual-in_err-n.ensures.1 in
     let (_, is, way) = c.loop-begun.invariant in
-    rw p.1 (λ _. way_stops _ _ _ _ _ _ _ way _ _ (λ n l. IsPastLimit n l ⊎ IsLine l) (inr is.line) (Consumes-kept _ _ _ _ (Consumes-nil _) c.in_err-n.ensures.err.1) (Appends-nil _))
+    rw p.1 (λ _. way_stops _ _ _ _ _ _ _ way _ _ (λ n l. IsPastLimit n l ⊎ IsLine l) (inr is.line)
+    (Consumes-kept _ _ _ _ (Consumes-nil _) c.in_err-n.ensures.err.1) (Appends-nil _))
 
 pub returns-then-is_empty-clause-done : goal.returns-then-is_empty-clause-done
 returns-then-is_empty-clause-done g c =
@@ -52,7 +54,8 @@ returns-then-n-eq0-clause-memory g c =
     let (_, is, way) = c.loop-begun.invariant in
     let read = rw c.if-n-eq0.true at c.in_ok-n.ensures.bytes in
     IfErr-weaker _ (λ e. e ≡ Memory → Keeps (g.W.Write.contents c.loop-begun.writer) (g.W.Write.contents c.end_line.new.writer)) _
-    (λ _ kept is_memory. way_stops _ _ _ _ _ _ _ way _ _ (λ n l. ¬ IsPastLimit n l) (begun_inside _ _ is.room is.short) read (Appends-kept _ _ _ _ (Appends-nil _) (kept is_memory))) c.end_line.ensures.memory
+    (λ _ kept is_memory. way_stops _ _ _ _ _ _ _ way _ _ (λ n l. ¬ IsPastLimit n l) (begun_inside _ _ is.room is.short) read
+    (Appends-kept _ _ _ _ (Appends-nil _) (kept is_memory))) c.end_line.ensures.memory
 
 pub returns-then-n-eq0-clause-output : goal.returns-then-n-eq0-clause-output
 returns-then-n-eq0-clause-output g c =
@@ -61,7 +64,9 @@ returns-then-n-eq0-clause-output g c =
     let begun = c.loop-begun.begun.items in
     let some : 0 < length begun = grind (arith, common_steps, c.if-is_empty.ensures, c.is_empty.ensures, c.loop-begun.begun.ok.0) in
     let last : (begun ++ []) ∷ [] ≡ lines_of begun = ap (λ l. l ∷ []) (append-nil begun) ∙ sym (lines_of-last begun is.line some) in
-    IfErr-weaker _ (λ e. e ≡ Output → AppendsSome (FrontOf (Answered c.args.command [] ((begun ++ []) ∷ []))) (g.W.Write.contents c.loop-begun.writer) (g.W.Write.contents c.end_line.new.writer)) _
+    IfErr-weaker _
+    (λ e. e ≡ Output → AppendsSome (FrontOf (Answered c.args.command [] ((begun ++ []) ∷ []))) (g.W.Write.contents c.loop-begun.writer)
+    (g.W.Write.contents c.end_line.new.writer)) _
     (λ _ part broken. way_breaks_off_at_end _ _ _ _ _ _ _ way _ _ is read (rw (← last) (part broken))) c.end_line.ensures.output
 
 pub returns-in_err-count-clause-input : goal.returns-in_err-count-clause-input
@@ -74,7 +79,8 @@ pub returns-in_err-count-clause-memory : goal.returns-in_err-count-clause-memory
 returns-in_err-count-clause-memory g c =
     let bytes = rw (← c.deref.ensures.value) at c.in_ok-n.ensures.bytes in
     let p = err_from_is_err_and c.from_residual-in_err-count.result c.from_residual-in_err-count.ensures.1 in
-    rw (p.1, p.2) (λ e. way_ends _ _ _ _ _ _ _ c.loop-begun.invariant.2 _ _ _ bytes (λ n l. ¬ IsPastLimit n l) _ (λ _ _ inside. inside) (c.in_err-count.ensures.memory e))
+    rw (p.1, p.2)
+    (λ e. way_ends _ _ _ _ _ _ _ c.loop-begun.invariant.2 _ _ _ bytes (λ n l. ¬ IsPastLimit n l) _ (λ _ _ inside. inside) (c.in_err-count.ensures.memory e))
 
 pub returns-in_err-count-clause-output : goal.returns-in_err-count-clause-output
 returns-in_err-count-clause-output g c =
@@ -85,7 +91,8 @@ returns-in_err-count-clause-output g c =
 pub loop-begun-preserved : goal.loop-begun-preserved
 loop-begun-preserved g c =
     let bytes = rw (← c.deref.ensures.value) at c.in_ok-n.ensures.bytes in
-    (omega (arith, c.read_chunk.ensures.len), c.in_ok-count.ensures.begun, way_goes_on _ _ _ _ _ _ _ c.loop-begun.invariant.2 _ _ _ bytes _ _ c.in_ok-count.ensures.ok)
+    (omega (arith, c.read_chunk.ensures.len), c.in_ok-count.ensures.begun, way_goes_on _ _ _ _ _ _ _ c.loop-begun.invariant.2 _ _ _ bytes _ _
+    c.in_ok-count.ensures.ok)
 
 pub loop-begun-smaller : goal.loop-begun-smaller
 loop-begun-smaller g c =

@@ -8,7 +8,8 @@ abbrev pub invariant-loop-begun : goal.invariant-loop-begun
 invariant-loop-begun g l =
     (0 < vec_len l.chunk)
     × IsBegun l.count l.begun.items
-    × ReadsAndWrites (λ input. AnswersNext l.command 0 input l.count l.begun.items) (g.R.Read.remaining l.initial.reader) (g.R.Read.remaining l.reader) (g.W.Write.contents l.initial.writer) (g.W.Write.contents l.writer)
+    × ReadsAndWrites (λ input. AnswersNext l.command 0 input l.count l.begun.items) (g.R.Read.remaining l.initial.reader) (g.R.Read.remaining l.reader)
+    (g.W.Write.contents l.initial.writer) (g.W.Write.contents l.writer)
 
 abbrev pub decreases-loop-begun : goal.decreases-loop-begun
 decreases-loop-begun g l = bytes_left l.count l.begun.items
