@@ -1,5 +1,5 @@
 -- The lines of a chunk, one after the other, over plain variables.
-use Rattle.std.proofs.Common.{◌≡◌, ◌≢◌, ◌⊎◌, ℕ, ◌+◌, ◌<◌, ◌≤◌, true, eqb, [], ◌∷◌, ◌++◌, length, take, get_or, Option, sym, ap, subst, append-nil, length-append, length-take, arith}
+use Rattle.std.proofs.Common.{◌≡◌, ◌≢◌, ◌⊎◌, ℕ, ◌+◌, ◌<◌, ◌≤◌, true, eqb, [], ◌∷◌, ◌++◌, length, take, take_all, get_or, Option, sym, ap, subst, append-nil, length-append, length-take, arith}
 use Rattle.std.specs.Prelude.{⊤}
 use Rattle.std.proofs.KnownBytes.{Appends-kept, Keeps-refl}
 use Rattle.std.proofs.lemmas.List.Elements.{All-nil, All-append}
@@ -8,7 +8,7 @@ use Rattle.geoarrow_fields.specs.declared.Command.{Command}
 use Rattle.geoarrow_fields.specs.Lines.{Bytes, line_feed, max_lines, max_line_bytes, IsLine, IsPastLimit}
 use Rattle.geoarrow_fields.specs.Output.{Answered}
 use Rattle.geoarrow_fields.specs.Progress.{IsBegun, AnswersNext, AnswersUntil, AppendsSome, FrontOf}
-use Rattle.geoarrow_fields.proofs.Limits.{IsOther, line_before, line_whole, after, line_parted, limit_passed, line_inside, begun_inside}
+use Rattle.geoarrow_fields.proofs.Limits.{IsOther, line_before, after, line_parted, limit_passed, line_inside}
 use Rattle.geoarrow_fields.proofs.Laws.{lines_line}
 use Rattle.geoarrow_fields.proofs.Grows.{appends_after, front_after, answered_after}
 
@@ -19,9 +19,6 @@ none_begun total few = record { line = All-nil (λ b. b ≢ line_feed); short = 
 -- what is answered, and the rest of the chunk
 module _ (command : Command) (count total : ℕ) (input begun rest : Bytes) (old mid : Option Bytes)
     (way : AppendsSome (AnswersNext command count input total (begun ++ rest)) old mid × IsBegun total begun) (len : ℕ) (len_is : len ≡ length begun) where
-  is : IsBegun total begun
-  is = way.1
-
   -- a cause to stop comes
   stops_here : (Cause : ℕ → Bytes → Type 0) (new : Option Bytes) → Keeps mid new → Cause total (begun ++ rest)
       → AppendsSome (AnswersUntil Cause command count input) old new
@@ -37,16 +34,16 @@ module _ (command : Command) (count total : ℕ) (input begun rest : Bytes) (old
     joined = line_parted begun rest at within feed
 
     line_is : IsLine line
-    line_is = All-append (λ b. b ≢ line_feed) begun (take at rest) is.line (line_before rest at (omega arith) (λ k lt. before k (omega arith) lt))
+    line_is = All-append (λ b. b ≢ line_feed) begun (take at rest) way.1.line (line_before rest at (omega arith) (λ k lt. before k (omega arith) lt))
 
     line_length : len + at ≡ length line
     line_length = omega (arith, len_is, length-append begun (take at rest), length-take at rest)
 
     pub line_past_limit : (total ≡ max_lines) ⊎ (max_line_bytes < len + at) → AppendsSome (AnswersUntil IsPastLimit command count input) old mid
     line_past_limit past =
-        let some : 0 < length (begun ++ rest) = omega (arith, length-append begun rest) in
         stops_here IsPastLimit mid (Keeps-refl mid)
-        (limit_passed total (begun ++ rest) line (line_feed ∷ after rest at) joined line_is some (len + at) line_length past)
+        (limit_passed total (begun ++ rest) line (line_feed ∷ after rest at) joined line_is (omega (arith, length-append begun rest))
+        (len + at) line_length past)
 
     module _ (fits : (total < max_lines) × (len + at ≤ max_line_bytes)) (new : Option Bytes) where
       short : length line ≤ max_line_bytes
@@ -79,7 +76,9 @@ module _ (command : Command) (count total : ℕ) (input begun rest : Bytes) (old
   -- no line feed stands in the rest
   module _ (none : (k : ℕ) → 0 ≤ k → k < length rest → IsOther rest k) where
     rest_is : IsLine (begun ++ rest)
-    rest_is = All-append (λ b. b ≢ line_feed) begun rest is.line (line_whole rest (λ k lt. none k (omega arith) lt))
+    rest_is =
+        All-append (λ b. b ≢ line_feed) begun rest way.1.line
+        (subst IsLine (take_all (length rest) rest (omega arith)) (line_before rest (length rest) (omega arith) (λ k lt. none k (omega arith) lt)))
 
     rest_length : len + length rest ≡ length (begun ++ rest)
     rest_length = omega (arith, len_is, length-append begun rest)
@@ -87,19 +86,14 @@ module _ (command : Command) (count total : ℕ) (input begun rest : Bytes) (old
     pub rest_past_limit : 0 < length rest → (total ≡ max_lines) ⊎ (max_line_bytes < len + length rest)
         → AppendsSome (AnswersUntil IsPastLimit command count input) old mid
     rest_past_limit some past =
-        let more : 0 < length (begun ++ rest) = omega (arith, length-append begun rest) in
         stops_here IsPastLimit mid (Keeps-refl mid)
-        (limit_passed total (begun ++ rest) (begun ++ rest) [] (sym (append-nil (begun ++ rest))) rest_is more (len + length rest) rest_length past)
+        (limit_passed total (begun ++ rest) (begun ++ rest) [] (sym (append-nil (begun ++ rest))) rest_is (omega (arith, rest_length))
+        (len + length rest) rest_length past)
 
-    module _ (fits : (total < max_lines) × (len + length rest ≤ max_line_bytes)) where
-      pub rest_lacks_memory : AppendsSome (AnswersUntil (λ n l. ¬ IsPastLimit n l) command count input) old mid
-      rest_lacks_memory =
-          stops_here (λ n l. ¬ IsPastLimit n l) mid (Keeps-refl mid) (begun_inside total (begun ++ rest) (λ _. fits.0) (omega (arith, fits.1, rest_length)))
-
-      pub rest_begun : (next : Bytes) → next ≡ begun ++ rest → IsBegun total next
-      rest_begun next same = record {
-        line = subst IsLine (sym same) rest_is;
-        short = omega (arith, fits.1, ap length same, rest_length);
-        few = omega (arith, fits.0);
-        room = λ _. fits.0;
-      }
+    pub rest_begun : (total < max_lines) × (len + length rest ≤ max_line_bytes) → (next : Bytes) → next ≡ begun ++ rest → IsBegun total next
+    rest_begun (few, short) next same = record {
+      line = subst IsLine (sym same) rest_is;
+      short = omega (arith, short, ap length same, rest_length);
+      few = omega arith;
+      room = λ _. few;
+    }

@@ -28,46 +28,42 @@ loop-begun-init g c =
 pub returns-in_err-n-clause-input : goal.returns-in_err-n-clause-input
 returns-in_err-n-clause-input g c =
     let p = err_from_is_err_and c.from_residual-in_err-n.result c.from_residual-in_err-n.ensures.1 in
-    let (_, is, way) = c.loop-begun.invariant in
-    rw p.1 (λ _. way_stops _ _ _ _ _ _ _ way _ _ (λ n l. IsPastLimit n l ⊎ IsLine l) (inr is.line)
+    rw p.1 (λ _. way_stops _ _ _ _ _ _ _ c.loop-begun.invariant.2 _ _ (λ n l. IsPastLimit n l ⊎ IsLine l) (inr c.loop-begun.invariant.1.line)
     (Consumes-kept _ _ _ _ (Consumes-nil _) c.in_err-n.ensures.err.1) (Appends-nil _))
 
 pub returns-then-is_empty-clause-done : goal.returns-then-is_empty-clause-done
 returns-then-is_empty-clause-done g c =
-    let (_, is, way) = c.loop-begun.invariant in
-    let read = rw c.if-n-eq0.true at c.in_ok-n.ensures.bytes in
     let empty : length c.loop-begun.begun.items ≡ 0 = grind (arith, common_steps, c.if-is_empty.ensures, c.loop-begun.begun.ok.0) in
     let none : lines_of c.loop-begun.begun.items ≡ [] = ap lines_of (nil_from_length c.loop-begun.begun.items empty) in
-    way_done _ _ _ _ _ _ _ way _ _ is read ([], subst (λ l. Answered c.args.command [] l []) (sym none) (answered_none c.args.command []), Appends-nil _)
+    way_done _ _ _ _ _ _ _ c.loop-begun.invariant.2 _ _ c.loop-begun.invariant.1 (rw c.if-n-eq0.true at c.in_ok-n.ensures.bytes)
+    ([], subst (λ l. Answered c.args.command [] l []) (sym none) (answered_none c.args.command []), Appends-nil _)
 
 pub returns-then-n-eq0-clause-done : goal.returns-then-n-eq0-clause-done
 returns-then-n-eq0-clause-done g c =
-    let (_, is, way) = c.loop-begun.invariant in
-    let read = rw c.if-n-eq0.true at c.in_ok-n.ensures.bytes in
     let begun = c.loop-begun.begun.items in
     let some : 0 < length begun = grind (arith, common_steps, c.if-is_empty.ensures, c.is_empty.ensures, c.loop-begun.begun.ok.0) in
-    let last : (begun ++ []) ∷ [] ≡ lines_of begun = ap (λ l. l ∷ []) (append-nil begun) ∙ sym (lines_of-last begun is.line some) in
-    on_ok_weaker _ (λ answered. way_done _ _ _ _ _ _ _ way _ _ is read (rw (← last) answered)) c.end_line.ensures.ok
+    let last : (begun ++ []) ∷ [] ≡ lines_of begun = ap (λ l. l ∷ []) (append-nil begun) ∙ sym (lines_of-last begun c.loop-begun.invariant.1.line some) in
+    on_ok_weaker _
+    (λ answered. way_done _ _ _ _ _ _ _ c.loop-begun.invariant.2 _ _ c.loop-begun.invariant.1 (rw c.if-n-eq0.true at c.in_ok-n.ensures.bytes)
+    (rw (← last) answered)) c.end_line.ensures.ok
 
 pub returns-then-n-eq0-clause-memory : goal.returns-then-n-eq0-clause-memory
 returns-then-n-eq0-clause-memory g c =
-    let (_, is, way) = c.loop-begun.invariant in
-    let read = rw c.if-n-eq0.true at c.in_ok-n.ensures.bytes in
     IfErr-weaker _ (λ e. e ≡ Memory → Keeps (g.W.Write.contents c.loop-begun.writer) (g.W.Write.contents c.end_line.new.writer)) _
-    (λ _ kept is_memory. way_stops _ _ _ _ _ _ _ way _ _ (λ n l. ¬ IsPastLimit n l) (begun_inside _ _ is.room is.short) read
+    (λ _ kept is_memory. way_stops _ _ _ _ _ _ _ c.loop-begun.invariant.2 _ _ (λ n l. ¬ IsPastLimit n l)
+    (begun_inside _ _ c.loop-begun.invariant.1.room c.loop-begun.invariant.1.short) (rw c.if-n-eq0.true at c.in_ok-n.ensures.bytes)
     (Appends-kept _ _ _ _ (Appends-nil _) (kept is_memory))) c.end_line.ensures.memory
 
 pub returns-then-n-eq0-clause-output : goal.returns-then-n-eq0-clause-output
 returns-then-n-eq0-clause-output g c =
-    let (_, is, way) = c.loop-begun.invariant in
-    let read = rw c.if-n-eq0.true at c.in_ok-n.ensures.bytes in
     let begun = c.loop-begun.begun.items in
     let some : 0 < length begun = grind (arith, common_steps, c.if-is_empty.ensures, c.is_empty.ensures, c.loop-begun.begun.ok.0) in
-    let last : (begun ++ []) ∷ [] ≡ lines_of begun = ap (λ l. l ∷ []) (append-nil begun) ∙ sym (lines_of-last begun is.line some) in
+    let last : (begun ++ []) ∷ [] ≡ lines_of begun = ap (λ l. l ∷ []) (append-nil begun) ∙ sym (lines_of-last begun c.loop-begun.invariant.1.line some) in
     IfErr-weaker _
     (λ e. e ≡ Output → AppendsSome (FrontOf (Answered c.args.command [] ((begun ++ []) ∷ []))) (g.W.Write.contents c.loop-begun.writer)
     (g.W.Write.contents c.end_line.new.writer)) _
-    (λ _ part broken. way_breaks_off_at_end _ _ _ _ _ _ _ way _ _ is read (rw (← last) (part broken))) c.end_line.ensures.output
+    (λ _ part broken. way_breaks_off_at_end _ _ _ _ _ _ _ c.loop-begun.invariant.2 _ _ c.loop-begun.invariant.1 (rw c.if-n-eq0.true at c.in_ok-n.ensures.bytes)
+    (rw (← last) (part broken))) c.end_line.ensures.output
 
 pub returns-in_err-count-clause-input : goal.returns-in_err-count-clause-input
 returns-in_err-count-clause-input g c =
