@@ -1,5 +1,5 @@
 -- Lines in bytes that hold a line feed or none, and when what comes is past a limit.
-use Rattle.std.proofs.Common.{◌≡◌, ◌≢◌, ◌⊎◌, inl, inr, ℕ, zero, suc, ◌+◌, ◌-◌, ◌<◌, ◌≤◌, true, eqb, [], ◌∷◌, ◌++◌, length, take, drop, take_all, subst, get_or, refl, sym, ap, ◌∙◌, append_assoc, length-append, add-one, arith}
+use Rattle.std.proofs.Common.{◌≡◌, ◌≢◌, ◌⊎◌, inl, inr, ℕ, zero, suc, ◌+◌, ◌-◌, ◌<◌, ◌≤◌, true, eqb, [], ◌∷◌, ◌++◌, length, take, drop, get_or, refl, sym, ap, ◌∙◌, append_assoc, length-append, add-one, arith}
 use Rattle.std.proofs.lemmas.Bool.{eq-eqb, eqb-true}
 use Rattle.std.proofs.lemmas.List.{take_rest, get_or_append_left, get_or_at}
 use Rattle.std.proofs.lemmas.List.Elements.{All-nil, All-cons}
@@ -15,10 +15,6 @@ line_before rest zero within h = All-nil (λ b. b ≢ line_feed)
 line_before [] (suc at) within h = absurd (omega arith)
 line_before (byte ∷ rest) (suc at) within h =
     All-cons (λ b. b ≢ line_feed) byte (take at rest) (λ is. h 0 (omega arith) (eq-eqb byte line_feed is)) (line_before rest at (omega arith) (λ k lt. h (suc k) (omega arith)))
-
--- bytes with no line feed are of one line
-pub line_whole : (rest : Bytes) → ((k : ℕ) → k < length rest → IsOther rest k) → IsLine rest
-line_whole rest h = subst IsLine (take_all (length rest) rest (omega arith)) (line_before rest (length rest) (omega arith) h)
 
 -- the line feed at a place parts the bytes
 parted : (rest : Bytes) (at : ℕ) → at < length rest → eqb (get_or rest at 0) line_feed ≡ true → rest ≡ take at rest ++ (line_feed ∷ drop (suc at) rest)
@@ -39,9 +35,10 @@ line_parted begun rest at within feed =
 
 -- a line that comes is past a limit
 pub limit_passed : (total : ℕ) (later line tail : Bytes) → later ≡ line ++ tail → IsLine line → 0 < length later
-    → (total ≡ max_lines) ⊎ (max_line_bytes < length line) → IsPastLimit total later
-limit_passed total later line tail joined is some (inl many) = inl (many, some)
-limit_passed total later line tail joined is some (inr long) = inr (record { begun = line; rest = tail; joined = joined; line = is; long = long })
+    → (len : ℕ) → len ≡ length line → (total ≡ max_lines) ⊎ (max_line_bytes < len) → IsPastLimit total later
+limit_passed total later line tail joined is some len same (inl many) = inl (many, some)
+limit_passed total later line tail joined is some len same (inr long) =
+    inr (record { begun = line; rest = tail; joined = joined; line = is; long = omega (arith, long, same) })
 
 -- a line that a line feed ends within its limit is past none
 pub line_inside : (total : ℕ) (later line tail : Bytes) → later ≡ line ++ (line_feed ∷ tail) → total < max_lines → length line ≤ max_line_bytes → ¬ IsPastLimit total later

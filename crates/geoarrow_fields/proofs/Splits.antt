@@ -1,24 +1,28 @@
 -- An input and its lines.
-use Rattle.std.proofs.Common.{◌≡◌, ◌≢◌, ℕ, ◌<◌, Bool, true, false, cond, eqb, List, [], ◌∷◌, ◌++◌, length, refl, sym, ap, ◌∙◌, append_assoc, append-nil, All, arith}
-use Rattle.std.proofs.lemmas.Bool.{ne_eqb, eqb-true, eqb-false}
+use Rattle.std.proofs.Common.{◌≡◌, ◌≢◌, ℕ, ◌<◌, inl, inr, cond, eqb, List, [], ◌∷◌, ◌++◌, length, refl, sym, subst, ap, ◌∙◌, append_assoc, append-nil, All, arith}
+use Rattle.std.proofs.lemmas.Bool.{ne_eqb, cases_eq}
 use Rattle.std.proofs.lemmas.List.Elements.{All-nil, All-cons, All-head, All-tail, All-append}
-use Rattle.geoarrow_fields.specs.Lines.{Bytes, put_byte, lines_of, ended_lines, line_feed, IsLine, IsSplit}
+use Rattle.geoarrow_fields.specs.Lines.{Bytes, begin_line, lines_of, ended_lines, line_feed, IsLine, IsSplit}
+
+-- another byte stands in the first line
+put_other : (byte : ℕ) (bytes : Bytes) (lines : List Bytes) → byte ≢ line_feed → lines_of bytes ≡ lines → lines_of (byte ∷ bytes) ≡ begin_line byte lines
+put_other byte bytes lines h same =
+    ap (λ l. cond (eqb byte line_feed) ([] ∷ l) (begin_line byte l)) same ∙ ap (λ t. cond t ([] ∷ lines) (begin_line byte lines)) (ne_eqb byte line_feed h)
 
 -- a line that a line feed ends is the first of the lines
 pub lines_of-line : (line rest : Bytes) → IsLine line → lines_of (line ++ (line_feed ∷ rest)) ≡ line ∷ lines_of rest
 lines_of-line [] rest h = refl
 lines_of-line (byte ∷ line) rest h =
-    ap (put_byte byte) (lines_of-line line rest (All-tail (λ b. b ≢ line_feed) byte line h))
-    ∙ ap (λ t. cond t ([] ∷ (line ∷ lines_of rest)) ((byte ∷ line) ∷ lines_of rest)) (ne_eqb byte line_feed (All-head (λ b. b ≢ line_feed) byte line h))
+    put_other byte (line ++ (line_feed ∷ rest)) (line ∷ lines_of rest) (All-head (λ b. b ≢ line_feed) byte line h)
+    (lines_of-line line rest (All-tail (λ b. b ≢ line_feed) byte line h))
 
 -- what no line feed ends is a line of its own
 pub lines_of-last : (rest : Bytes) → IsLine rest → 0 < length rest → lines_of rest ≡ rest ∷ []
 lines_of-last [] h some = absurd (omega arith)
-lines_of-last (byte ∷ []) h some =
-    ap (λ t. cond t ([] ∷ []) ((byte ∷ []) ∷ [])) (ne_eqb byte line_feed (All-head (λ b. b ≢ line_feed) byte [] h))
+lines_of-last (byte ∷ []) h some = put_other byte [] [] (All-head (λ b. b ≢ line_feed) byte [] h) refl
 lines_of-last (byte ∷ (next ∷ rest)) h some =
-    ap (put_byte byte) (lines_of-last (next ∷ rest) (All-tail (λ b. b ≢ line_feed) byte (next ∷ rest) h) (omega arith))
-    ∙ ap (λ t. cond t ([] ∷ ((next ∷ rest) ∷ [])) ((byte ∷ (next ∷ rest)) ∷ [])) (ne_eqb byte line_feed (All-head (λ b. b ≢ line_feed) byte (next ∷ rest) h))
+    let more = lines_of-last (next ∷ rest) (All-tail (λ b. b ≢ line_feed) byte (next ∷ rest) h) (omega arith) in
+    put_other byte (next ∷ rest) ((next ∷ rest) ∷ []) (All-head (λ b. b ≢ line_feed) byte (next ∷ rest) h) more
 
 -- the lines of lines put together, and of what comes after them
 pub lines_of-ended : (lines : List Bytes) (later : Bytes) → All IsLine lines → lines_of (ended_lines lines ++ later) ≡ lines ++ lines_of later
@@ -31,27 +35,10 @@ lines_of-ended (line ∷ lines) later h =
 pub lines_of-split : (input : Bytes) (lines : List Bytes) (later : Bytes) → IsSplit input lines later → lines_of input ≡ lines ++ lines_of later
 lines_of-split input lines later split = ap lines_of split.joined ∙ lines_of-ended lines later split.each
 
--- the two clauses of the law
-pub lines_of-whole : (lines : List Bytes) → All IsLine lines → lines_of (ended_lines lines) ≡ lines
-lines_of-whole lines h = ap lines_of (sym (append-nil (ended_lines lines))) ∙ lines_of-ended lines [] h ∙ append-nil lines
-
-pub lines_of-rest : (lines : List Bytes) (rest : Bytes) → All IsLine lines → IsLine rest → 0 < length rest → lines_of (ended_lines lines ++ rest) ≡ lines ++ (rest ∷ [])
-lines_of-rest lines rest h line some = lines_of-ended lines rest h ∙ ap (λ l. lines ++ l) (lines_of-last rest line some)
-
 ended_lines-append : (a b : List Bytes) → ended_lines (a ++ b) ≡ ended_lines a ++ ended_lines b
 ended_lines-append [] b = refl
 ended_lines-append (line ∷ a) b =
     ap (λ l. line ++ (line_feed ∷ l)) (ended_lines-append a b) ∙ sym (append_assoc line (line_feed ∷ ended_lines a) (ended_lines b))
-
-pub split_none : (input : Bytes) → IsSplit input [] input
-split_none input = record { joined = refl; each = All-nil IsLine }
-
-pub split_line : (line rest : Bytes) → IsLine line → IsSplit (line ++ (line_feed ∷ rest)) (line ∷ []) rest
-split_line line rest h = record { joined = sym (append_assoc line (line_feed ∷ []) rest); each = All-cons IsLine line [] h (All-nil IsLine) }
-
-pub split_on : (input more : Bytes) (lines : List Bytes) (later : Bytes) → IsSplit input lines later → IsSplit (input ++ more) lines (later ++ more)
-split_on input more lines later split =
-    record { joined = ap (λ l. l ++ more) split.joined ∙ append_assoc (ended_lines lines) later more; each = split.each }
 
 pub split_after : (input : Bytes) (a : List Bytes) (middle : Bytes) (b : List Bytes) (later : Bytes) → IsSplit input a middle → IsSplit middle b later → IsSplit input (a ++ b) later
 split_after input a middle b later first second = record {
@@ -59,33 +46,20 @@ split_after input a middle b later first second = record {
   each = All-append IsLine a b first.each second.each;
 }
 
--- a byte before an input that is split
-put_before : (byte : ℕ) (b : Bool) → eqb byte line_feed ≡ b → (bytes : Bytes) (lines : List Bytes) (rest : Bytes) → IsSplit bytes lines rest → IsLine rest
-    → (made : List Bytes) × (left : Bytes) × IsSplit (byte ∷ bytes) made left × IsLine left
-put_before byte true e bytes lines rest split line = (
-  [] ∷ lines,
-  rest,
-  record { joined = cc (eqb-true byte line_feed e); each = All-cons IsLine [] lines (All-nil (λ b. b ≢ line_feed)) split.each },
-  line,
-)
-put_before byte false e bytes [] rest split line = (
-  [],
-  byte ∷ rest,
-  record { joined = ap (λ l. byte ∷ l) split.joined; each = All-nil IsLine },
-  All-cons (λ b. b ≢ line_feed) byte rest (eqb-false byte line_feed e) line,
-)
-put_before byte false e bytes (first ∷ lines) rest split line = (
-  (byte ∷ first) ∷ lines,
-  rest,
-  record {
-    joined = ap (λ l. byte ∷ l) split.joined;
-    each = All-cons IsLine (byte ∷ first) lines (All-cons (λ b. b ≢ line_feed) byte first (eqb-false byte line_feed e) (All-head IsLine first lines split.each)) (All-tail IsLine first lines split.each);
-  },
-  line,
-)
+-- every input is split, after what is begun
+split_from : (begun bytes : Bytes) → IsLine begun → (lines : List Bytes) × (rest : Bytes) × IsSplit (begun ++ bytes) lines rest × IsLine rest
+split_from begun [] is = ([], begun, record { joined = append-nil begun; each = All-nil IsLine }, is)
+split_from begun (byte ∷ bytes) is =
+    elim (cases_eq byte line_feed) [
+      | inl feed ↦
+          let (lines, rest, split, line) = split_from [] bytes (All-nil (λ b. b ≢ line_feed)) in
+          let joined = ap (λ l. begun ++ (line_feed ∷ l)) split.joined ∙ sym (append_assoc begun (line_feed ∷ ended_lines lines) rest) in
+          (begun ∷ lines, rest, record { joined = ap (λ b. begun ++ (b ∷ bytes)) feed ∙ joined; each = All-cons IsLine begun lines is split.each }, line)
+      | inr other ↦
+          let one = All-cons (λ b. b ≢ line_feed) byte [] other (All-nil (λ b. b ≢ line_feed)) in
+          subst (λ l. (lines : List Bytes) × (rest : Bytes) × IsSplit l lines rest × IsLine rest) (append_assoc begun (byte ∷ []) bytes)
+          (split_from (begun ++ (byte ∷ [])) bytes (All-append (λ b. b ≢ line_feed) begun (byte ∷ []) is one))
+    ]
 
--- every input is split
 pub split_every : (input : Bytes) → (lines : List Bytes) × (rest : Bytes) × IsSplit input lines rest × IsLine rest
-split_every [] = ([], [], split_none [], All-nil (λ b. b ≢ line_feed))
-split_every (byte ∷ bytes) =
-    let (lines, rest, split, line) = split_every bytes in put_before byte (eqb byte line_feed) refl bytes lines rest split line
+split_every input = split_from [] input (All-nil (λ b. b ≢ line_feed))

@@ -1,40 +1,102 @@
--- What is answered to a line.
-use Rattle.std.specs.Prelude.{◌≡◌, ◌⊎◌, MatchOption, codes}
-use Rattle.arrow_values.specs.Tree.{FieldTree}
+-- The words of the answers, and what is answered to a line.
+use Rattle.std.specs.Prelude.{◌≡◌, ◌⊎◌, ◌++◌, Option, Some, None, MatchOption, codes}
+use Rattle.arrow_values.specs.Tree.{Text, FieldTree}
+use Rattle.geoarrow_layout.specs.declared.kinds.CoordType.{CoordType}
+use Rattle.geoarrow_layout.specs.declared.kinds.CoordType.TheVariants.{Interleaved, Separated}
+use Rattle.geoarrow_layout.specs.declared.kinds.Dimension.{Dimension}
+use Rattle.geoarrow_layout.specs.declared.encodings.NativeKind.{NativeKind}
+use Rattle.geoarrow_layout.specs.declared.encodings.NativeKind.TheVariants.{Point, LineString, Polygon, MultiPoint, MultiLineString, MultiPolygon, GeometryCollection}
+use Rattle.geoarrow_layout.specs.declared.encodings.Width.TheVariants.{Plain, Large, View}
+use Rattle.geoarrow_layout.specs.declared.encodings.Kind.{Kind}
+use Rattle.geoarrow_layout.specs.declared.encodings.Kind.TheVariants.{Native, Geometry as OfGeometry, Rect, Wkb, Wkt}
+use Rattle.geoarrow_layout.specs.Kinds.{dimension_name, coord_type_of, dimension_of}
+use Rattle.geoarrow_meta.specs.Written.{printed}
 use Rattle.geoarrow_schema.specs.declared.types.GeoArrowType.{GeoArrowType}
+use Rattle.geoarrow_schema.specs.Types.{kind_of, meta_of}
 use Rattle.geoarrow_schema.specs.Reads.{HasGeoArrowName, Reads}
 use Rattle.geoarrow_schema.specs.Normal.{IsCanonical}
 use Rattle.geoarrow_columns.specs.declared.check.ColumnFault.{ColumnFault}
+use Rattle.geoarrow_columns.specs.declared.check.ColumnFault.TheVariants.{Arrow, InvalidGeoArrow}
 use Rattle.geoarrow_columns.specs.declared.check.Column.{Column}
+use Rattle.geoarrow_columns.specs.declared.check.Column.TheVariants.{Geometry, Inferred, Other, Faulty}
 use Rattle.geoarrow_columns.specs.Report.{IsRefusedFor, IsColumnOf}
 use Rattle.field_lines.specs.Line.{field_of_line, line_of_field}
 use Rattle.geoarrow_fields.specs.declared.Command.{Command}
 use Rattle.geoarrow_fields.specs.declared.Command.TheVariants.{Read, Infer, Canon, Columns}
 use Rattle.geoarrow_fields.specs.Lines.{Bytes}
-use Rattle.geoarrow_fields.specs.Words.{type_text, error_text, column_text, inferred_text}
 
--- no name of GeoArrow
-abbrev pub AnswersNone : FieldTree → Bytes → Type 0
-AnswersNone f answer = ¬ HasGeoArrowName f × (answer ≡ codes "none")
+-- the word of a native kind
+abbrev pub native_word : NativeKind → Bytes
+native_word Point = codes "point"
+native_word LineString = codes "linestring"
+native_word Polygon = codes "polygon"
+native_word MultiPoint = codes "multipoint"
+native_word MultiLineString = codes "multilinestring"
+native_word MultiPolygon = codes "multipolygon"
+native_word GeometryCollection = codes "geometrycollection"
 
--- a name of GeoArrow, and no type
-abbrev pub AnswersRefused : FieldTree → Bytes → Type 0
-AnswersRefused f answer = (fault : ColumnFault) × IsRefusedFor f fault × (answer ≡ error_text fault)
+-- the word of a kind
+abbrev pub kind_word : Kind → Bytes
+kind_word (Native k c d) = native_word k
+kind_word (OfGeometry c) = codes "geometry"
+kind_word (Rect d) = codes "box"
+kind_word (Wkb Plain) = codes "wkb"
+kind_word (Wkb Large) = codes "large_wkb"
+kind_word (Wkb View) = codes "wkb_view"
+kind_word (Wkt Plain) = codes "wkt"
+kind_word (Wkt Large) = codes "large_wkt"
+kind_word (Wkt View) = codes "wkt_view"
 
--- the type that the field is read as
-abbrev pub AnswersType : FieldTree → Bytes → Type 0
-AnswersType f answer = (g : GeoArrowType) × Reads f g × (answer ≡ type_text g)
+-- the word of a coordinate type, if there is one
+abbrev pub coord_type_word : Option CoordType → Bytes
+coord_type_word (Some Interleaved) = codes "interleaved"
+coord_type_word (Some Separated) = codes "separated"
+coord_type_word None = codes "-"
 
--- the canonical line: that of the field in normal form. Its value is the one lean value that stands for this field, by
--- the laws of `field_lines`
-abbrev pub AnswersLine : FieldTree → Bytes → Type 0
-AnswersLine f answer = (n : FieldTree) × IsCanonical f n × (answer ≡ line_of_field n)
+-- the word of a dimension, if there is one
+abbrev pub dimension_word : Option Dimension → Bytes
+dimension_word (Some d) = dimension_name d
+dimension_word None = codes "-"
 
--- the text is the answer to the field under the command
+-- the text of a metadata, if there is one
+abbrev pub metadata_word : Option Text → Bytes
+metadata_word (Some text) = text
+metadata_word None = codes "-"
+
+-- a type: kind, coordinate type, dimension and metadata
+abbrev pub type_text : GeoArrowType → Bytes
+type_text g = kind_word (kind_of g) ++ codes " " ++ coord_type_word (coord_type_of (kind_of g)) ++ codes " " ++ dimension_word (dimension_of (kind_of g)) ++ codes " " ++ metadata_word (printed (meta_of g))
+
+-- why a field is refused
+abbrev pub error_text : ColumnFault → Bytes
+error_text Arrow = codes "error arrow"
+error_text InvalidGeoArrow = codes "error invalid"
+
+-- what a column holds, as `columns` says it
+abbrev pub column_text : Column → Bytes
+column_text (Geometry g) = codes "geometry " ++ type_text g
+column_text (Inferred g) = codes "inferred " ++ type_text g
+column_text Other = codes "other"
+column_text (Faulty Arrow) = codes "faulty arrow"
+column_text (Faulty InvalidGeoArrow) = codes "faulty invalid"
+
+-- what a column holds, as `infer` says it
+abbrev pub inferred_text : Column → Bytes
+inferred_text (Geometry g) = type_text g
+inferred_text (Inferred g) = type_text g
+inferred_text Other = codes "error invalid"
+inferred_text (Faulty fault) = error_text fault
+
+-- no type, for a field without a name of GeoArrow or one that is refused
+abbrev pub AnswersNoType : FieldTree → Bytes → Type 0
+AnswersNoType f answer = (¬ HasGeoArrowName f × (answer ≡ codes "none")) ⊎ ((fault : ColumnFault) × IsRefusedFor f fault × (answer ≡ error_text fault))
+
+-- the text is the answer to the field under the command. The canonical line is that of the field in normal form. Its value
+-- is the one lean value that stands for this field, by the laws of `field_lines`
 abbrev pub AnswersField : Command → FieldTree → Bytes → Type 0
-AnswersField Read f answer = AnswersType f answer ⊎ (AnswersNone f answer ⊎ AnswersRefused f answer)
+AnswersField Read f answer = ((g : GeoArrowType) × Reads f g × (answer ≡ type_text g)) ⊎ AnswersNoType f answer
 AnswersField Infer f answer = (c : Column) × IsColumnOf f c × (answer ≡ inferred_text c)
-AnswersField Canon f answer = AnswersLine f answer ⊎ (AnswersNone f answer ⊎ AnswersRefused f answer)
+AnswersField Canon f answer = ((n : FieldTree) × IsCanonical f n × (answer ≡ line_of_field n)) ⊎ AnswersNoType f answer
 AnswersField Columns f answer = (c : Column) × IsColumnOf f c × (answer ≡ column_text c)
 
 -- the text is the answer to the line under the command

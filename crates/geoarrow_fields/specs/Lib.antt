@@ -1,5 +1,4 @@
 pub mod Lines
-pub mod Words
 pub mod Answer
 pub mod Output
 pub mod Progress

@@ -22,14 +22,10 @@ abbrev pub begin_line : ℕ → List Bytes → List Bytes
 begin_line byte [] = (byte ∷ []) ∷ []
 begin_line byte (line ∷ lines) = (byte ∷ line) ∷ lines
 
--- a byte before these lines: a line feed ends an empty line, and another byte stands in the first line
-abbrev pub put_byte : ℕ → List Bytes → List Bytes
-put_byte byte lines = if byte == line_feed then [] ∷ lines else begin_line byte lines
-
 -- the lines of an input: a line feed ends each, and the last may lack it
 abbrev pub lines_of : Bytes → List Bytes
 lines_of [] = []
-lines_of (byte ∷ bytes) = put_byte byte (lines_of bytes)
+lines_of (byte ∷ bytes) = if byte == line_feed then [] ∷ lines_of bytes else begin_line byte (lines_of bytes)
 
 -- these lines, each with its line feed
 abbrev pub ended_lines : List Bytes → Bytes
@@ -40,14 +36,10 @@ ended_lines (line ∷ lines) = line ++ (line_feed ∷ ended_lines lines)
 abbrev pub IsLine : Bytes → Type 0
 IsLine bytes = All (λ byte. byte ≢ line_feed) bytes
 
--- it has at most as many bytes as a line may have
-abbrev pub IsShort : Bytes → Type 0
-IsShort line = length line ≤ max_line_bytes
-
 -- these are no more lines than an input may have, and none of them is too long
 pub record IsWithinLimits (lines : List Bytes) : Type 0 where
   pub few : length lines ≤ max_lines
-  pub short : All IsShort lines
+  pub short : All (λ line. length line ≤ max_line_bytes) lines
 
 -- it begins with more bytes than a line may have, and no line feed among them
 pub record BeginsTooLong (bytes : Bytes) : Type 0 where
@@ -66,10 +58,10 @@ pub record IsSplit (input : Bytes) (lines : List Bytes) (later : Bytes) : Type 0
   pub joined : input ≡ ended_lines lines ++ later
   pub each : All IsLine lines
 
--- some first lines of an input are within the limits, and what comes after them is past one
-pub record PassesLimit (input : Bytes) : Type 0 where
+-- some first lines of an input are within the limits, and their number and what comes after them are a cause to stop
+pub record Stops (Cause : ℕ → Bytes → Type 0) (input : Bytes) : Type 0 where
   pub lines : List Bytes
   pub later : Bytes
   pub split : IsSplit input lines later
   pub within : IsWithinLimits lines
-  pub past : IsPastLimit (length lines) later
+  pub cause : Cause (length lines) later

@@ -1,7 +1,9 @@
 //! The answer to one line.
 ghost use Rattle.std.specs.Prelude.{◌≡◌, IfOk, string_bytes};
 ghost use Rattle.geoarrow_schema.specs.Reads.{IsRefusedBy};
-ghost use Rattle.geoarrow_fields.specs.Answer.{Answers, AnswersField, AnswersRefused};
+ghost use Rattle.geoarrow_columns.specs.declared.check.ColumnFault.{ColumnFault};
+ghost use Rattle.geoarrow_columns.specs.Report.{IsRefusedFor};
+ghost use Rattle.geoarrow_fields.specs.Answer.{Answers, AnswersField, error_text};
 
 use crate::Command;
 use crate::words::{column_text, error_text, inferred_text, type_text};
@@ -99,7 +101,8 @@ fn answer_columns(alloc: Global, field: &Field, scratch: &mut Scratch) -> Result
 #[tactic(auto, using(geoarrow_columns::specs::Report::refused_for))]
 fn answer_refused(alloc: Global, field: &Field, error: &GeoArrowError) -> Result<String, AllocError>
     requires { IsRefusedBy field.now error.now }
-    ensures { IfOk result (λ answer. AnswersRefused field.now (string_bytes answer)) }
+    ensures { IfOk result (λ answer. (fault : ColumnFault) × IsRefusedFor field.now fault
+        × (string_bytes answer ≡ error_text fault)) }
 {
     let fault = ColumnFault::of_error(error)?;
     String::from_str(alloc, error_text(fault))

@@ -1,9 +1,9 @@
 //! The lines of a chunk of the input: their limits, their answers, and the line that goes on into the next chunk.
-ghost use Rattle.std.specs.Prelude.{◌≡◌, ◌≢◌, ◌⊎◌, ◌+◌, ◌<◌, ◌≤◌, List, [], ◌∷◌, ◌++◌, length, All, IfOk, OnOk, IfErr, MatchBool};
+ghost use Rattle.std.specs.Prelude.{◌≡◌, ◌≢◌, ◌⊎◌, ◌+◌, ◌<◌, ◌≤◌, List, [], ◌∷◌, ◌++◌, length, All, IfOk, OnOk, IfErr, MatchBool, ⊤};
 ghost use Rattle.std.specs.Io.KnownBytes.{Keeps};
-ghost use Rattle.geoarrow_fields.specs.Lines.{Bytes, max_lines, max_line_bytes, lines_of, ended_lines, IsLine, IsSplit, IsWithinLimits, PassesLimit};
-ghost use Rattle.geoarrow_fields.specs.Output.{Answered, AppendsSome, AppendsPartOfSome};
-ghost use Rattle.geoarrow_fields.specs.Progress.{IsBegun, AnswersNext, AnswersSome, AnswersToLimit, AnswersInside};
+ghost use Rattle.geoarrow_fields.specs.Lines.{Bytes, max_lines, max_line_bytes, lines_of, ended_lines, IsLine, IsSplit, IsWithinLimits, IsPastLimit, Stops};
+ghost use Rattle.geoarrow_fields.specs.Output.{Answered};
+ghost use Rattle.geoarrow_fields.specs.Progress.{IsBegun, AnswersNext, AnswersUntil, AppendsSome, FrontOf};
 
 use crate::Command;
 use crate::output::{Fault, write_answer};
@@ -30,8 +30,8 @@ pub fn splits_at_line_feeds()
 /// A law: either all lines of an input are within the limits, or the first ones are and what comes after them exceeds a
 /// limit; never both. There is nothing to run.
 pub fn keeps_limits_or_passes_one()
-    ensures either { (input : Bytes) → IsWithinLimits (lines_of input) ⊎ PassesLimit input }
-    ensures never_both { (input : Bytes) → IsWithinLimits (lines_of input) → ¬ PassesLimit input }
+    ensures either { (input : Bytes) → IsWithinLimits (lines_of input) ⊎ Stops IsPastLimit input }
+    ensures never_both { (input : Bytes) → IsWithinLimits (lines_of input) → ¬ Stops IsPastLimit input }
 {}
 
 /// Whether a line of `begun` and `more` bytes exceeds a limit, after `count` lines.
@@ -53,14 +53,14 @@ pub(crate) fn end_line<W: Write>(
     scratch: &mut Scratch,
     writer: &mut W,
 ) -> Result<(), Fault>
-    ensures ok { OnOk result (AppendsSome (Answered command ((begun.old.items ++ end.now) ∷ []))
+    ensures ok { OnOk result (AppendsSome (Answered command [] ((begun.old.items ++ end.now) ∷ []))
         (W.contents writer.old) (W.contents writer.new)) }
     ensures clear { OnOk result (begun.new.items ≡ []) }
     ensures kind { IfErr result (λ fault. fault ≢ Fault.Input) }
     ensures memory { IfErr result (λ fault. fault ≡ Fault.Memory
         → Keeps (W.contents writer.old) (W.contents writer.new)) }
     ensures output { IfErr result (λ fault. fault ≡ Fault.Output
-        → AppendsPartOfSome (Answered command ((begun.old.items ++ end.now) ∷ []))
+        → AppendsSome (FrontOf (Answered command [] ((begun.old.items ++ end.now) ∷ [])))
         (W.contents writer.old) (W.contents writer.new)) }
 {
     if begun.is_empty() {
@@ -89,13 +89,13 @@ pub(crate) fn answer_chunk<W: Write>(
         (W.contents writer.old) (W.contents writer.new)) }
     ensures begun { IfOk result (λ total. IsBegun total begun.new.items) }
     ensures input { IfErr result (λ fault. fault ≡ Fault.Input
-        → AppendsSome (AnswersToLimit command count (begun.old.items ++ chunk.now))
+        → AppendsSome (AnswersUntil IsPastLimit command count (begun.old.items ++ chunk.now))
         (W.contents writer.old) (W.contents writer.new)) }
     ensures memory { IfErr result (λ fault. fault ≡ Fault.Memory
-        → AppendsSome (AnswersInside command count (begun.old.items ++ chunk.now))
+        → AppendsSome (AnswersUntil (λ total later. ¬ IsPastLimit total later) command count (begun.old.items ++ chunk.now))
         (W.contents writer.old) (W.contents writer.new)) }
     ensures output { IfErr result (λ fault. fault ≡ Fault.Output
-        → AppendsPartOfSome (AnswersSome command count (begun.old.items ++ chunk.now))
+        → AppendsSome (FrontOf (AnswersUntil (λ total later. ⊤) command count (begun.old.items ++ chunk.now)))
         (W.contents writer.old) (W.contents writer.new)) }
 {
     let mut count = count;

@@ -1,7 +1,8 @@
 //! What is written: answers, each with its line feed, and the line of an end.
 ghost use Rattle.std.specs.Prelude.{◌≡◌, ◌≢◌, [], ◌∷◌, ◌++◌, OnOk, OnErr, IfErr};
 ghost use Rattle.std.specs.Io.KnownBytes.{Appends, Keeps};
-ghost use Rattle.geoarrow_fields.specs.Output.{Answered, AppendsPart, AppendsSome, AppendsPartOfSome};
+ghost use Rattle.geoarrow_fields.specs.Output.{Answered};
+ghost use Rattle.geoarrow_fields.specs.Progress.{AppendsSome, FrontOf};
 
 use crate::answer::answer_line_with_scratch;
 use crate::{Command, RunEnd};
@@ -34,7 +35,7 @@ impl From<AllocError> for Fault {
 fn write_whole<W: Write>(writer: &mut W, text: &[u8]) -> Result<(), Fault>
     ensures ok { OnOk result (Appends (W.contents writer.old) (W.contents writer.new) text.now) }
     ensures err { IfErr result (λ fault. fault ≡ Fault.Output) }
-    ensures part { AppendsPart (W.contents writer.old) (W.contents writer.new) text.now }
+    ensures part { AppendsSome (FrontOf (λ whole. text.now ≡ whole)) (W.contents writer.old) (W.contents writer.new) }
 {
     let mut rest = text;
     while !rest.is_empty() {
@@ -55,13 +56,14 @@ pub(crate) fn write_answer<W: Write>(
     scratch: &mut Scratch,
     writer: &mut W,
 ) -> Result<(), Fault>
-    ensures ok { OnOk result (AppendsSome (Answered command (line.now ∷ []))
+    ensures ok { OnOk result (AppendsSome (Answered command [] (line.now ∷ []))
         (W.contents writer.old) (W.contents writer.new)) }
     ensures kind { IfErr result (λ fault. fault ≢ Fault.Input) }
     ensures memory { IfErr result (λ fault. fault ≡ Fault.Memory
         → Keeps (W.contents writer.old) (W.contents writer.new)) }
     ensures output { IfErr result (λ fault. fault ≡ Fault.Output
-        → AppendsPartOfSome (Answered command (line.now ∷ [])) (W.contents writer.old) (W.contents writer.new)) }
+        → AppendsSome (FrontOf (Answered command [] (line.now ∷ [])))
+        (W.contents writer.old) (W.contents writer.new)) }
 {
     let answer = answer_line_with_scratch(alloc, command, line, scratch)?;
     write_whole(writer, answer.as_bytes())?;
@@ -73,7 +75,7 @@ pub(crate) fn finish<W: Write>(writer: &mut W, last: &[u8], end: RunEnd) -> RunE
     ensures end { result ≢ RunEnd.OutputFault → result ≡ end }
     ensures written { result ≢ RunEnd.OutputFault
         → Appends (W.contents writer.old) (W.contents writer.new) last.now }
-    ensures part { AppendsPart (W.contents writer.old) (W.contents writer.new) last.now }
+    ensures part { AppendsSome (FrontOf (λ whole. last.now ≡ whole)) (W.contents writer.old) (W.contents writer.new) }
 {
     if write_whole(writer, last).is_err() || writer.flush().is_err() {
         return RunEnd::OutputFault;

@@ -1,7 +1,7 @@
 //! The words of the answers.
 ghost use Rattle.std.specs.Prelude.{◌≡◌, ◌++◌, IfOk, option_map, string_bytes};
 ghost use Rattle.geoarrow_meta.specs.Written.{printed};
-ghost use Rattle.geoarrow_fields.specs.Words.{native_word, kind_word, coord_type_word, dimension_word, metadata_word, type_text, error_text, column_text, inferred_text};
+ghost use Rattle.geoarrow_fields.specs.Answer.{native_word, kind_word, coord_type_word, dimension_word, metadata_word, type_text, error_text, column_text, inferred_text};
 
 use geoarrow_columns::{Column, ColumnFault};
 use geoarrow_schema::{CoordType, Dimension, GeoArrowType, Kind, Metadata, NativeKind, Width};

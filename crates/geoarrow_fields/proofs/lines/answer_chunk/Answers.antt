@@ -1,55 +1,64 @@
-use Rattle.std.proofs.Common.{◌≡◌, ◌+◌, ◌<◌, ◌≤◌, [], ◌++◌, length, arith}
+use Rattle.std.proofs.Common.{◌≡◌, ◌+◌, ◌<◌, ◌≤◌, [], ◌++◌, length, append-nil, arith}
 use Rattle.std.proofs.KnownBytes.{Appends-nil}
 use Rattle.std.proofs.lemmas.Grind.{common_steps}
+use Rattle.std.proofs.lemmas.List.{nil_from_length}
 use Rattle.std.proofs.lemmas.Result.{err_from_is_err_and}
-use Rattle.geoarrow_fields.proofs.Steps.{next_none, line_past_limit, line_answered, line_lacks_memory, line_breaks_off, rest_past_limit, rest_begun, cleared_begun}
+use Rattle.geoarrow_fields.proofs.Steps.{line_past_limit, line_answered, line_lacks_memory, line_breaks_off, rest_past_limit, rest_begun}
+use Rattle.geoarrow_fields.proofs.Grows.{answered_none}
+use Rattle.geoarrow_fields.proofs.Laws.{lines_none}
 use Rattle.geoarrow_fields.proofs.lines.answer_chunk.Goals as goal
 
 pub loop-at-init : goal.loop-at-init
-loop-at-init g c = (([], next_none c.args.command c.args.count (c.args.begun.now.items ++ c.args.chunk.now) c.requires.few, Appends-nil _), c.requires)
+loop-at-init g c =
+    (([], (lines_none c.args.count (c.args.begun.now.items ++ c.args.chunk.now) c.requires.few, answered_none c.args.command []), Appends-nil _), c.requires)
 
 pub returns-then-is_past_limit-clause-input : goal.returns-then-is_past_limit-clause-input
 returns-then-is_past_limit-clause-input g c =
     let (before, feed) = c.in-Some.ensures in
-    let same : c.len.result ≡ length c.loop-at.begun.items = omega (arith, c.len.ensures, c.loop-at.begun.ok.0) in
-    let past = rw same at c.if-is_past_limit.ensures in
-    λ _. line_past_limit c.args.command _ _ _ c.loop-at.begun.items c.loop-at.rest.now _ _ c.loop-at.invariant.0 c.loop-at.invariant.1 c.in-Some.at before.high (λ k lt. before.before k (omega arith) lt) feed past
+    λ _. line_past_limit c.args.command _ _ _ c.loop-at.begun.items c.loop-at.rest.now _ _ c.loop-at.invariant
+    c.len.result (omega (arith, c.len.ensures, c.loop-at.begun.ok.0))
+    c.in-Some.at before.high before.before feed c.if-is_past_limit.ensures
 
 pub returns-in_err-end_line-clause-memory : goal.returns-in_err-end_line-clause-memory
 returns-in_err-end_line-clause-memory g c =
     let (before, feed) = c.in-Some.ensures in
-    let few : c.loop-at.count < 1000000 = omega (arith, c.if-is_past_limit.ensures) in
-    let short : length c.loop-at.begun.items + c.in-Some.at ≤ 1048576 = omega (arith, c.if-is_past_limit.ensures, c.len.ensures, c.loop-at.begun.ok.0) in
     let p = err_from_is_err_and c.from_residual.result c.from_residual.ensures.1 in
-    rw (p.1, p.2) (λ e. line_lacks_memory c.args.command _ _ _ c.loop-at.begun.items c.loop-at.rest.now _ _ c.loop-at.invariant.0 c.loop-at.invariant.1 c.in-Some.at before.high (λ k lt. before.before k (omega arith) lt) feed few short _ (c.in_err-end_line.ensures.memory e))
+    rw (p.1, p.2) (λ e. line_lacks_memory c.args.command _ _ _ c.loop-at.begun.items c.loop-at.rest.now _ _ c.loop-at.invariant
+    c.len.result (omega (arith, c.len.ensures, c.loop-at.begun.ok.0))
+    c.in-Some.at before.high before.before feed c.if-is_past_limit.ensures _ (c.in_err-end_line.ensures.memory e))
 
 pub returns-in_err-end_line-clause-output : goal.returns-in_err-end_line-clause-output
 returns-in_err-end_line-clause-output g c =
     let (before, feed) = c.in-Some.ensures in
-    let few : c.loop-at.count < 1000000 = omega (arith, c.if-is_past_limit.ensures) in
-    let short : length c.loop-at.begun.items + c.in-Some.at ≤ 1048576 = omega (arith, c.if-is_past_limit.ensures, c.len.ensures, c.loop-at.begun.ok.0) in
     let p = err_from_is_err_and c.from_residual.result c.from_residual.ensures.1 in
-    rw (p.1, p.2) (λ e. line_breaks_off c.args.command _ _ _ c.loop-at.begun.items c.loop-at.rest.now _ _ c.loop-at.invariant.0 c.loop-at.invariant.1 c.in-Some.at before.high (λ k lt. before.before k (omega arith) lt) feed few short _ (c.in_err-end_line.ensures.output e))
+    rw (p.1, p.2) (λ e. line_breaks_off c.args.command _ _ _ c.loop-at.begun.items c.loop-at.rest.now _ _ c.loop-at.invariant
+    c.len.result (omega (arith, c.len.ensures, c.loop-at.begun.ok.0))
+    c.in-Some.at before.high before.before feed c.if-is_past_limit.ensures _ (c.in_err-end_line.ensures.output e))
 
 pub loop-at-preserved : goal.loop-at-preserved
 loop-at-preserved g c =
     let (before, feed) = c.in-Some.ensures in
-    let few : c.loop-at.count < 1000000 = omega (arith, c.if-is_past_limit.ensures) in
-    let short : length c.loop-at.begun.items + c.in-Some.at ≤ 1048576 = omega (arith, c.if-is_past_limit.ensures, c.len.ensures, c.loop-at.begun.ok.0) in
-    let clear = c.in_ok-end_line.ensures.clear in (
-      line_answered c.args.command _ _ _ c.loop-at.begun.items c.loop-at.rest.now _ _ c.loop-at.invariant.0 c.loop-at.invariant.1 c.in-Some.at before.high (λ k lt. before.before k (omega arith) lt) feed few short _ _ clear c.in_ok-end_line.ensures.ok,
-      cleared_begun _ _ clear (omega (arith, few)),
-    )
+    line_answered c.args.command _ _ _ c.loop-at.begun.items c.loop-at.rest.now _ _ c.loop-at.invariant
+    c.len.result (omega (arith, c.len.ensures, c.loop-at.begun.ok.0))
+    c.in-Some.at before.high before.before feed c.if-is_past_limit.ensures _ _ c.in_ok-end_line.ensures.clear c.in_ok-end_line.ensures.ok
 
 pub returns-then-is_past_limit-2-clause-input : goal.returns-then-is_past_limit-2-clause-input
 returns-then-is_past_limit-2-clause-input g c =
-    let same : c.len-2.result ≡ length c.loop-at.begun.items = omega (arith, c.len-2.ensures, c.loop-at.begun.ok.0) in
-    let past = rw same at c.if-is_past_limit-2.ensures in
     let some : 0 < length c.loop-at.rest.now = grind (arith, common_steps) in
-    λ _. rest_past_limit c.args.command _ _ _ c.loop-at.begun.items c.loop-at.rest.now _ _ c.loop-at.invariant.0 c.loop-at.invariant.1 (λ k lt. c.in_default.ensures k (omega arith) lt) some past
+    λ _. rest_past_limit c.args.command _ _ _ c.loop-at.begun.items c.loop-at.rest.now _ _ c.loop-at.invariant
+    c.len-2.result (omega (arith, c.len-2.ensures, c.loop-at.begun.ok.0))
+    c.in_default.ensures some c.if-is_past_limit-2.ensures
 
 pub returns-clause-begun : goal.returns-clause-begun
 returns-clause-begun g c =
-    let few : c.loop-at.count < 1000000 = omega (arith, c.if-is_past_limit-2.ensures) in
-    let short : length c.loop-at.begun.items + length c.loop-at.rest.now ≤ 1048576 = omega (arith, c.if-is_past_limit-2.ensures, c.len-2.ensures, c.loop-at.begun.ok.0) in
-    rest_begun c.args.command _ _ _ c.loop-at.begun.items c.loop-at.rest.now _ _ c.loop-at.invariant.0 c.loop-at.invariant.1 (λ k lt. c.in_default.ensures k (omega arith) lt) _ c.in_ok-extend_from_slice.ensures.items few short
+    rest_begun c.args.command _ _ _ c.loop-at.begun.items c.loop-at.rest.now _ _ c.loop-at.invariant
+    c.len-2.result (omega (arith, c.len-2.ensures, c.loop-at.begun.ok.0))
+    c.in_default.ensures c.if-is_past_limit-2.ensures _ c.in_ok-extend_from_slice.ensures.items
+
+pub returns-clause-ok : goal.returns-clause-ok
+returns-clause-ok g c = rw c.in_ok-extend_from_slice.ensures.items c.loop-at.invariant.0
+
+pub returns-then-is_empty-clause-ok : goal.returns-then-is_empty-clause-ok
+returns-then-is_empty-clause-ok g c =
+    let none : length c.loop-at.rest.now ≡ 0 = grind (arith, common_steps, c.if-is_empty.ensures) in
+    rw (nil_from_length c.loop-at.rest.now none, append-nil c.loop-at.begun.items) at c.loop-at.invariant.0
