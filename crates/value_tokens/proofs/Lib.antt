@@ -1,3 +1,4 @@
 mod Skips
 mod PrintedNumbers
 mod Grown
+mod Firsts

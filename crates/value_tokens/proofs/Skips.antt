@@ -1,46 +1,26 @@
--- Passing over the items of an array and the members of an object: what is left, whatever was found.
-use Rattle.std.proofs.Common.{◌≡◌, ℕ, ◌≤◌, List, length, Some, None, ap, ◌∙◌, arith}
+-- Passing over the items of an array or the members of an object: what is left, whatever was found.
+use Rattle.std.proofs.Common.{◌≡◌, ℕ, ◌≤◌, List, length, Option, Some, None, ap, ◌∙◌, arith}
 use Rattle.json.specs.Token.{Token}
-use Rattle.json.specs.Json.{after_end_array, read_key}
-use Rattle.json.proofs.Grammar.{left_none, read_key-shorter}
-use Rattle.serde_json.specs.Data.{item, Members, put}
-use Rattle.value_tokens.specs.Next.{next_value, next_items, next_members, after}
-use Rattle.value_tokens.specs.Turns.{value_takes, after_some, after-parse_map, item_read, items_over, member_read, members_over}
+use Rattle.json.proofs.Grammar.{left_none}
+use Rattle.serde_json.specs.Data.{Data}
+use Rattle.value_tokens.specs.Next.{next_value, after}
+use Rattle.value_tokens.specs.Turns.{value_takes, after_some}
 
--- what is left of the items after those that are passed
-pub record IsSkipping (depth : ℕ) (all left : List Token) : Type 0 where
-  pub same : after (next_items depth all) ≡ after (next_items depth left)
+-- what is left of the items or members after those that are passed
+pub record IsSkipping {F A : Type 0} (next : F → List Token → Option (A × List Token)) (all left : List Token) : Type 0 where
+  pub same : (found : F) → (more : F) × (after (next found all) ≡ after (next more left))
   pub fewer : length left ≤ length all
 
-pub items_stop : {depth : ℕ} {all left : List Token} → IsSkipping depth all left → next_items depth left ≡ None → next_items depth all ≡ None
-items_stop {depth} {all} {left} i e = left_none (next_items depth all) (i.same ∙ ap after e)
+module _ {F A : Type 0} {next : F → List Token → Option (A × List Token)} {all left : List Token} (i : IsSkipping next all left) where
+  pub stop : ((more : F) → next more left ≡ None) → (found : F) → next found all ≡ None
+  stop e found = let more = i.same found in left_none (next found all) (more.1 ∙ ap after (e more.0))
 
-pub items_done : {depth : ℕ} {all left : List Token} → IsSkipping depth all left → (r : List Token) → after_end_array left ≡ Some r → after (next_items depth all) ≡ Some r
-items_done {depth} {all} {left} i r e = i.same ∙ ap after (items_over depth left r e)
+  pub done : (r : List Token) → ((more : F) → after (next more left) ≡ Some r) → (found : F) → after (next found all) ≡ Some r
+  done r e found = let more = i.same found in more.1 ∙ e more.0
 
-pub items_go_on : {depth : ℕ} {all left : List Token} → IsSkipping depth all left → (r : List Token) → after_end_array left ≡ None → after (next_value depth left) ≡ Some r → IsSkipping depth all r
-items_go_on {depth} {all} {left} i r going e =
-    let d = after_some (next_value depth left) r e in
-    let less = value_takes depth left r d.0 d.1 in
-    record { same = i.same ∙ ap after (item_read depth left r d.0 going d.1) ∙ after-parse_map (item d.0) (next_items depth r); fewer = omega (arith, i.fewer) }
-
--- the same of members
-pub record IsSkippingMembers (depth : ℕ) (all left : List Token) : Type 0 where
-  pub same : (found : Members) → (more : Members) × (after (next_members depth found all) ≡ after (next_members depth more left))
-  pub fewer : length left ≤ length all
-
-pub members_stop : {depth : ℕ} {all left : List Token} → IsSkippingMembers depth all left → ((more : Members) → next_members depth more left ≡ None) → (found : Members) → next_members depth found all ≡ None
-members_stop {depth} {all} {left} i e found = let more = i.same found in left_none (next_members depth found all) (more.1 ∙ ap after (e more.0))
-
-pub members_done : {depth : ℕ} {all left : List Token} → IsSkippingMembers depth all left → (r : List Token) → read_key left ≡ Some (None, r) → (found : Members) → after (next_members depth found all) ≡ Some r
-members_done {depth} {all} {left} i r e found = let more = i.same found in more.1 ∙ ap after (members_over depth more.0 left r e)
-
-pub members_go_on : {depth : ℕ} {all left : List Token} → IsSkippingMembers depth all left → (s r : List Token) (k : List ℕ) → read_key left ≡ Some (Some k, s) → after (next_value depth s) ≡ Some r → IsSkippingMembers depth all r
-members_go_on {depth} {all} {left} i s r k key e =
-    let d = after_some (next_value depth s) r e in
-    let less = value_takes depth s r d.0 d.1 in
-    let first = read_key-shorter left (Some k) s key in
-    record {
-      same = λ found. let more = i.same found in (put k d.0 more.0, more.1 ∙ ap after (member_read depth more.0 k left s r d.0 key d.1));
-      fewer = omega (arith, i.fewer);
-    }
+  pub go_on : (depth : ℕ) (s r : List Token) → length s ≤ length left → after (next_value depth s) ≡ Some r
+      → ((more : F) (d : Data) → next_value depth s ≡ Some (d, r) → (still : F) × (after (next more left) ≡ after (next still r))) → IsSkipping next all r
+  go_on depth s r within e step =
+      let d = after_some (next_value depth s) r e in
+      let less = value_takes depth s r d.0 d.1 in
+      record { same = λ found. let more = i.same found in let still = step more.0 d.0 d.1 in (still.0, more.1 ∙ still.1); fewer = omega (arith, i.fewer) }
