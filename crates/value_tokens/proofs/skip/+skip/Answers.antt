@@ -5,9 +5,9 @@ use Rattle.json.specs.Reads.{token_of}
 use Rattle.json.proofs.Grammar.{read_key-shorter}
 use Rattle.serde_json.specs.Data.{array, object, item, no_members, put}
 use Rattle.value_tokens.specs.Next.{next_items, next_members, after}
-use Rattle.value_tokens.specs.Turns.{no_value, plain, after-parse_map, item_read, items_over, item_refused, member_read, members_over, key_refused, member_refused}
-use Rattle.value_tokens.proofs.Firsts.{array_opens, object_opens, array_shut, object_shut, is_number}
-use Rattle.value_tokens.proofs.Skips.{stop, done, go_on}
+use Rattle.value_tokens.specs.Turns.{no_value, plain, value-array, value-object, array_too_deep, object_too_deep, after-parse_map, item_read, items_over, item_refused, member_read, members_over, key_refused, member_refused}
+use Rattle.value_tokens.proofs.Firsts.{begins, shut, is_number}
+use Rattle.value_tokens.proofs.Loops.{stop, done, go_on}
 use Rattle.value_tokens.proofs.skip.+skip.Goals as goal
 
 pub skip_items-items-init : goal.skip_items-items-init
@@ -70,10 +70,10 @@ skip_members-returns-clause-ok t c =
     done c.members.invariant c.next_key.new.self (λ more. ap after (members_over c.args.depth more c.members.reader c.next_key.new.self (grind arith)))
 
 pub skip_rest-returns-then-depth-eq0-clause-text : goal.skip_rest-returns-then-depth-eq0-clause-text
-skip_rest-returns-then-depth-eq0-clause-text t c refused = array_shut c.args.depth c.args.reader.now (grind arith) (omega arith)
+skip_rest-returns-then-depth-eq0-clause-text t c refused = shut c.args.depth c.args.reader.now array_too_deep (grind arith) (omega arith)
 
 pub skip_rest-returns-then-depth-eq0-2-clause-text : goal.skip_rest-returns-then-depth-eq0-2-clause-text
-skip_rest-returns-then-depth-eq0-2-clause-text t c refused = object_shut c.args.depth c.args.reader.now (grind arith) (omega arith)
+skip_rest-returns-then-depth-eq0-2-clause-text t c refused = shut c.args.depth c.args.reader.now object_too_deep (grind arith) (omega arith)
 
 pub skip_rest-returns-in-String-clause-ok : goal.skip_rest-returns-in-String-clause-ok
 skip_rest-returns-in-String-clause-ok t c = rw (plain c.args.depth (token_of c.args.token) c.args.reader.now) (grind arith)
@@ -90,16 +90,16 @@ skip_rest-returns-in-EndObject-clause-text t c refused = rw (plain c.args.depth 
 pub skip_rest-returns-else-depth-eq0-clause-ok : goal.skip_rest-returns-else-depth-eq0-clause-ok
 skip_rest-returns-else-depth-eq0-clause-ok t c =
     on_ok_weaker c.skip_items.result
-    (λ e. ap after (array_opens c.args.depth c.args.reader.now (grind arith) (omega arith)) ∙ after-parse_map array (next_items (c.args.depth - 1) c.args.reader.now) ∙ e) c.skip_items.ensures.ok
+    (λ e. ap after (begins c.args.depth c.args.reader.now (grind arith) (value-array _ c.args.reader.now (omega arith))) ∙ after-parse_map array (next_items (c.args.depth - 1) c.args.reader.now) ∙ e) c.skip_items.ensures.ok
 
 pub skip_rest-returns-else-depth-eq0-clause-text : goal.skip_rest-returns-else-depth-eq0-clause-text
-skip_rest-returns-else-depth-eq0-clause-text t c refused = array_opens c.args.depth c.args.reader.now (grind arith) (omega arith) ∙ ap (parse_map array) (c.skip_items.ensures.text refused)
+skip_rest-returns-else-depth-eq0-clause-text t c refused = begins c.args.depth c.args.reader.now (grind arith) (value-array _ c.args.reader.now (omega arith)) ∙ ap (parse_map array) (c.skip_items.ensures.text refused)
 
 pub skip_rest-returns-else-depth-eq0-2-clause-ok : goal.skip_rest-returns-else-depth-eq0-2-clause-ok
 skip_rest-returns-else-depth-eq0-2-clause-ok t c =
-    on_ok_weaker c.skip_members.result (λ e. ap after (object_opens c.args.depth c.args.reader.now (grind arith) (omega arith))
+    on_ok_weaker c.skip_members.result (λ e. ap after (begins c.args.depth c.args.reader.now (grind arith) (value-object _ c.args.reader.now (omega arith)))
     ∙ after-parse_map object (next_members (c.args.depth - 1) no_members c.args.reader.now) ∙ e no_members) c.skip_members.ensures.ok
 
 pub skip_rest-returns-else-depth-eq0-2-clause-text : goal.skip_rest-returns-else-depth-eq0-2-clause-text
 skip_rest-returns-else-depth-eq0-2-clause-text t c refused =
-    object_opens c.args.depth c.args.reader.now (grind arith) (omega arith) ∙ ap (parse_map object) (c.skip_members.ensures.text refused no_members)
+    begins c.args.depth c.args.reader.now (grind arith) (value-object _ c.args.reader.now (omega arith)) ∙ ap (parse_map object) (c.skip_members.ensures.text refused no_members)

@@ -1,6 +1,6 @@
 use Rattle.std.proofs.Common.{◌+◌, ◌*◌, length}
 use Rattle.value_tokens.specs.Next.{next_items, next_members}
-use Rattle.value_tokens.proofs.Skips.{IsSkipping}
+use Rattle.value_tokens.proofs.Loops.{IsSkipping}
 use Rattle.value_tokens.proofs.skip.+skip.Given as goal
 
 abbrev pub decreases-skip_rest : goal.decreases-skip_rest

@@ -1,10 +1,30 @@
--- Passing over the items of an array or the members of an object: what is left, whatever was found.
-use Rattle.std.proofs.Common.{◌≡◌, ℕ, ◌≤◌, List, length, Option, Some, None, ap, ◌∙◌, arith}
+-- What a loop over the items of an array or the members of an object has decided so far.
+use Rattle.std.proofs.Common.{◌≡◌, ℕ, ◌≤◌, List, [], ◌∷◌, ◌++◌, length, Option, Some, None, refl, ap, ◌∙◌, arith}
 use Rattle.json.specs.Token.{Token}
+use Rattle.json.specs.Json.{parse_map}
 use Rattle.json.proofs.Grammar.{left_none}
-use Rattle.serde_json.specs.Data.{Data}
+use Rattle.serde_json.specs.Data.{Data, Items, no_items, item}
+use Rattle.serde_json.specs.View.{view, items_view}
+use Rattle.serde_json.specs.declared.value.Value.{Value}
 use Rattle.value_tokens.specs.Next.{next_value, after}
 use Rattle.value_tokens.specs.Turns.{value_takes, after_some}
+
+-- the items of the list before others
+abbrev pub items_before : List Value → Items → Items
+items_before [] rest = rest
+items_before (v ∷ vs) rest = item (view v) (items_before vs rest)
+
+pub items_before-no_items : (vs : List Value) → items_before vs no_items ≡ items_view vs
+items_before-no_items [] = refl
+items_before-no_items (v ∷ vs) = ap (item (view v)) (items_before-no_items vs)
+
+items_push : (vs : List Value) (v : Value) (rest : Items) → items_before vs (item (view v) rest) ≡ items_before (vs ++ v ∷ []) rest
+items_push [] v rest = refl
+items_push (w ∷ vs) v rest = ap (item (view w)) (items_push vs v rest)
+
+pub one_more_item : (vs : List Value) (v : Value) (o : Option (Items × List Token)) → parse_map (items_before vs) (parse_map (item (view v)) o) ≡ parse_map (items_before (vs ++ v ∷ [])) o
+one_more_item vs v None = refl
+one_more_item vs v (Some p) = ap (λ ds. Some (ds, p.1)) (items_push vs v p.0)
 
 -- what is left of the items or members after those that are passed
 pub record IsSkipping {F A : Type 0} (next : F → List Token → Option (A × List Token)) (all left : List Token) : Type 0 where
