@@ -18,10 +18,10 @@ module _ (depth : ℕ) {ts : List spec.Token} (s : List spec.Token) where
   pub is_plain : {t : spec.Token} {d e : Data} → ts ≡ t ∷ s → next_value depth (t ∷ s) ≡ Some (d, s) → e ≡ d → next_value depth ts ≡ Some (e, s)
   is_plain is read same = begins is read ∙ ap (λ d. Some (d, s)) (sym same)
 
-  pub is_number : {k : List ℕ} {o : Option Num} → ts ≡ spec.number k ∷ s → o ≡ number_of k → next_value depth ts ≡ option_map (λ n. (number n, s)) o
-  is_number {k} is read = begins is (next_number depth k s ∙ ap (option_map (λ n. (number n, s))) (sym read))
+  pub is_number : (k : List ℕ) {o : Option Num} → ts ≡ spec.number k ∷ s → o ≡ number_of k → next_value depth ts ≡ option_map (λ n. (number n, s)) o
+  is_number k is read = begins is (next_number depth k s ∙ ap (option_map (λ n. (number n, s))) (sym read))
 
   -- one that is skipped is of no kind that begins with another token
-  pub skipped : {A : Type 0} (f : Data → Option A) {r : List spec.Token} (t : Token) → ts ≡ token_of t ∷ s → after (next_value depth (token_of t ∷ s)) ≡ Some r
-      → ((d : Data) → Begins t d → f d ≡ None) → Reads f depth ts None r
-  skipped f {r} t first e other = let d = passed depth t ts s r first e in (d.0, d.1, sym (other d.0 d.2))
+  pub skipped : {A Other : Type 0} (f : Data → Option A) {r : List spec.Token} (t : Token) → ts ≡ token_of t ∷ s
+      → after (next_value depth (token_of t ∷ s)) ≡ Some r → ((d : Data) → Begins t d → Other → f d ≡ None) → Other → Reads f depth ts None r
+  skipped f {r} t first e kind other = let d = passed depth t ts s r first e in (d.0, d.1, sym (kind d.0 d.2 other))

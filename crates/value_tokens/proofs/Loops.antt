@@ -35,9 +35,6 @@ module _ {F A : Type 0} {next : F → List Token → Option (A × List Token)} {
   pub stop : ((more : F) → next more left ≡ None) → (found : F) → next found all ≡ None
   stop e found = let more = i.same found in left_none (next found all) (more.1 ∙ ap after (e more.0))
 
-  pub done : (r : List Token) → ((more : F) → after (next more left) ≡ Some r) → (found : F) → after (next found all) ≡ Some r
-  done r e found = let more = i.same found in more.1 ∙ e more.0
-
   pub go_on : (depth : ℕ) (s r : List Token) → length s ≤ length left → after (next_value depth s) ≡ Some r
       → ((more : F) (d : Data) → next_value depth s ≡ Some (d, r) → (still : F) × (after (next more left) ≡ after (next still r))) → IsSkipping next all r
   go_on depth s r within e step =

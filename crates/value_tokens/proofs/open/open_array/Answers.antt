@@ -16,6 +16,5 @@ returns-else-depth-eq0-clause-ok c = (begins c.args.depth c.next.new.self (grind
 
 pub returns-in_ok-skip_rest-in_default-clause-ok : goal.returns-in_ok-skip_rest-in_default-clause-ok
 returns-in_ok-skip_rest-in_default-clause-ok c =
-    let t = c.in_ok-token.token in
-    let read = skipped c.args.depth c.next.new.self as_array t (grind arith) c.in_ok-skip_rest-in_default.ensures.ok (λ d begins. no_array t d begins c.in_default.not-BeginArray) in
-    (read.0, read.1, sym read.2)
+    let d = skipped _ c.next.new.self as_array _ (grind arith) c.in_ok-skip_rest-in_default.ensures.ok (no_array _) c.in_default.not-BeginArray in
+    (d.0, d.1, sym d.2)

@@ -9,9 +9,8 @@ pub returns-in_err-token-clause-text : goal.returns-in_err-token-clause-text
 returns-in_err-token-clause-text c refused = no_value c.args.depth c.args.reader.now (grind arith)
 
 pub returns-in-Bool-clause-ok : goal.returns-in-Bool-clause-ok
-returns-in-Bool-clause-ok c = (_, is_plain c.args.depth c.next.new.self (grind arith) (next_boolean c.args.depth c.in-Bool.truth c.next.new.self) refl, refl)
+returns-in-Bool-clause-ok c = (_, is_plain _ c.next.new.self (grind arith) (next_boolean _ c.in-Bool.truth c.next.new.self) refl, refl)
 
 pub returns-in_ok-skip_rest-in_default-clause-ok : goal.returns-in_ok-skip_rest-in_default-clause-ok
 returns-in_ok-skip_rest-in_default-clause-ok c =
-    let t = c.in_ok-token.token in
-    skipped c.args.depth c.next.new.self as_bool t (grind arith) c.in_ok-skip_rest-in_default.ensures.ok (λ d begins. no_truth t d begins c.in_default.not-Bool)
+    skipped _ c.next.new.self as_bool c.in_ok-token.token (grind arith) c.in_ok-skip_rest-in_default.ensures.ok (no_truth _) c.in_default.not-Bool

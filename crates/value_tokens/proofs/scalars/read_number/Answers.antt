@@ -11,12 +11,11 @@ pub returns-in_err-token-clause-text : goal.returns-in_err-token-clause-text
 returns-in_err-token-clause-text c refused = no_value c.args.depth c.args.reader.now (grind arith)
 
 pub returns-in-Some-clause-ok : goal.returns-in-Some-clause-ok
-returns-in-Some-clause-ok c = (number (number_view c.in-Some.number), is_number c.args.depth c.next.new.self {k = c.in-Number.text.now} (grind arith) c.in-Some.ensures, refl)
+returns-in-Some-clause-ok c = (number (number_view c.in-Some.number), is_number _ c.next.new.self c.in-Number.text.now (grind arith) c.in-Some.ensures, refl)
 
 pub returns-in-None-clause-text : goal.returns-in-None-clause-text
-returns-in-None-clause-text c refused = is_number c.args.depth c.next.new.self {k = c.in-Number.text.now} (grind arith) c.in-None.ensures
+returns-in-None-clause-text c refused = is_number _ c.next.new.self c.in-Number.text.now (grind arith) c.in-None.ensures
 
 pub returns-in_ok-skip_rest-in_default-clause-ok : goal.returns-in_ok-skip_rest-in_default-clause-ok
 returns-in_ok-skip_rest-in_default-clause-ok c =
-    let t = c.in_ok-token.token in
-    skipped c.args.depth c.next.new.self as_number t (grind arith) c.in_ok-skip_rest-in_default.ensures.ok (λ d begins. no_numeral t d begins c.in_default.not-Number)
+    skipped _ c.next.new.self as_number c.in_ok-token.token (grind arith) c.in_ok-skip_rest-in_default.ensures.ok (no_numeral _) c.in_default.not-Number

@@ -25,11 +25,11 @@ read_value-returns-then-depth-eq0-2-clause-text t c refused = shut c.args.depth 
 
 pub read_value-returns-in_err-read_items-in-BeginArray-clause-text : goal.read_value-returns-in_err-read_items-in-BeginArray-clause-text
 read_value-returns-in_err-read_items-in-BeginArray-clause-text t c refused =
-    begins c.args.depth c.next.new.self (grind arith) (value-array _ c.next.new.self (omega arith)) ∙ ap (parse_map array) (c.read_items.ensures.text (grind arith))
+    begins _ c.next.new.self (grind arith) (value-array _ c.next.new.self (omega arith)) ∙ ap (parse_map array) (c.read_items.ensures.text (grind arith))
 
 pub read_value-returns-in_err-read_members-in-BeginObject-clause-text : goal.read_value-returns-in_err-read_members-in-BeginObject-clause-text
 read_value-returns-in_err-read_members-in-BeginObject-clause-text t c refused =
-    begins c.args.depth c.next.new.self (grind arith) (value-object _ c.next.new.self (omega arith)) ∙ ap (parse_map object) (c.read_members.ensures.text (grind arith))
+    begins _ c.next.new.self (grind arith) (value-object _ c.next.new.self (omega arith)) ∙ ap (parse_map object) (c.read_members.ensures.text (grind arith))
 
 pub read_value-returns-in_ok-from_str-in-String-clause-ok : goal.read_value-returns-in_ok-from_str-in-String-clause-ok
 read_value-returns-in_ok-from_str-in-String-clause-ok t c =
@@ -40,15 +40,15 @@ read_value-returns-in-Bool-clause-ok t c =
     is_plain c.args.depth c.next.new.self (grind arith) (next_boolean c.args.depth c.in-Bool.truth c.next.new.self) (search (rules, the_lemmas))
 
 pub read_value-returns-in-Null-clause-ok : goal.read_value-returns-in-Null-clause-ok
-read_value-returns-in-Null-clause-ok t c = is_plain c.args.depth c.next.new.self (grind arith) (next_null c.args.depth c.next.new.self) (search (rules, the_lemmas))
+read_value-returns-in-Null-clause-ok t c = is_plain _ c.next.new.self (grind arith) (next_null _ c.next.new.self) (search (rules, the_lemmas))
 
 pub read_value-returns-in-Some-clause-ok : goal.read_value-returns-in-Some-clause-ok
 read_value-returns-in-Some-clause-ok t c =
-    let read = is_number c.args.depth c.next.new.self {k = c.in-Number.text.now} refl c.in-Some.ensures in
+    let read = is_number c.args.depth c.next.new.self c.in-Number.text.now refl c.in-Some.ensures in
     is_plain c.args.depth c.next.new.self (grind arith) read (search (rules, the_lemmas))
 
 pub read_value-returns-in-None-clause-text : goal.read_value-returns-in-None-clause-text
-read_value-returns-in-None-clause-text t c refused = is_number c.args.depth c.next.new.self {k = c.in-Number.text.now} (grind arith) c.in-None.ensures
+read_value-returns-in-None-clause-text t c refused = is_number _ c.next.new.self c.in-Number.text.now (grind arith) c.in-None.ensures
 
 pub read_value-returns-in-EndObject-clause-text : goal.read_value-returns-in-EndObject-clause-text
 read_value-returns-in-EndObject-clause-text t c refused =
@@ -58,12 +58,14 @@ read_value-returns-in-EndObject-clause-text t c refused =
 pub read_value-returns-in_ok-read_items-in-BeginArray-clause-ok : goal.read_value-returns-in_ok-read_items-in-BeginArray-clause-ok
 read_value-returns-in_ok-read_items-in-BeginArray-clause-ok t c =
     let found = c.in_ok-read_items-in-BeginArray in
-    begins c.args.depth c.next.new.self (grind arith) (value-array _ c.next.new.self (omega arith)) ∙ ap (parse_map array) found.ensures.ok ∙ ap (λ d. Some (d, c.read_items.new.reader)) (sym (view-Array found.field-0))
+    begins _ c.next.new.self (grind arith) (value-array _ c.next.new.self (omega arith)) ∙ ap (parse_map array) found.ensures.ok
+    ∙ ap (λ d. Some (d, c.read_items.new.reader)) (sym (view-Array found.field-0))
 
 pub read_value-returns-in_ok-read_members-in-BeginObject-clause-ok : goal.read_value-returns-in_ok-read_members-in-BeginObject-clause-ok
 read_value-returns-in_ok-read_members-in-BeginObject-clause-ok t c =
     let found = c.in_ok-read_members-in-BeginObject in
-    begins c.args.depth c.next.new.self (grind arith) (value-object _ c.next.new.self (omega arith)) ∙ ap (parse_map object) found.ensures.ok ∙ ap (λ d. Some (d, c.read_members.new.reader)) (sym (view-Object found.field-0))
+    begins _ c.next.new.self (grind arith) (value-object _ c.next.new.self (omega arith)) ∙ ap (parse_map object) found.ensures.ok
+    ∙ ap (λ d. Some (d, c.read_members.new.reader)) (sym (view-Object found.field-0))
 
 pub read_items-items-init : goal.read_items-items-init
 read_items-items-init t c =
@@ -72,8 +74,8 @@ read_items-items-init t c =
 
 pub read_items-returns-in_err-item-clause-text : goal.read_items-returns-in_err-item-clause-text
 read_items-returns-in_err-item-clause-text t c refused =
-    let text = c.read_value.ensures.text (grind arith) in
-    c.items.invariant.decides ∙ ap (parse_map (items_before c.items.found.items)) (item_refused c.args.depth c.items.reader (grind arith) (grind (arith, text)))
+    c.items.invariant.decides
+    ∙ ap (parse_map (items_before c.items.found.items)) (item_refused _ c.items.reader (grind arith) (grind (arith, c.read_value.ensures.text)))
 
 pub read_items-items-preserved : goal.read_items-items-preserved
 read_items-items-preserved t c =
@@ -104,7 +106,8 @@ read_members-returns-in_err-name-clause-text t c refused =
 
 pub read_members-returns-in_err-member-clause-text : goal.read_members-returns-in_err-member-clause-text
 read_members-returns-in_err-member-clause-text t c refused =
-    c.members.invariant.decides ∙ member_refused c.args.depth _ c.in-Some.name.now c.members.reader c.next_key.new.self (grind arith) (c.read_value.ensures.text (grind arith))
+    c.members.invariant.decides
+    ∙ member_refused _ _ c.in-Some.name.now c.members.reader c.next_key.new.self (grind arith) (c.read_value.ensures.text (grind arith))
 
 pub read_members-members-preserved : goal.read_members-members-preserved
 read_members-members-preserved t c =
