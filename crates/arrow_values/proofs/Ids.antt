@@ -1,5 +1,5 @@
 -- The ids of a union, cut and joined.
-use Rattle.std.proofs.Common.{◌≡◌, ◌⊎◌, inl, inr, ℤ, Bool, true, false, not, cond, List, [], ◌∷◌, ◌++◌, None, refl, sym, ap, ◌∙◌}
+use Rattle.std.proofs.Common.{◌≡◌, ◌⊎◌, inl, inr, ⊎_elim, ℤ, Bool, true, false, not, cond, List, [], ◌∷◌, ◌++◌, None, refl, sym, ap, ◌∙◌}
 use Rattle.std.specs.Ordering.{int_eq}
 use Rattle.std.specs.List.{list_all, filter, zip}
 use Rattle.std.proofs.lemmas.Bool.{and_parts, and_from, or_parts, or_from, not-true, cond_both, false_from_ne_true}
@@ -70,5 +70,4 @@ made_ids is fs ms made h = rw (made, keys_of-zip is fs (sym h.0)) h.1
 
 -- how parts that make no union are refused
 pub unfit : {P : Type 0} (e : ArrowError) → ¬ P → IsInvalidArgument e → IsMemory e ⊎ (¬ P × (is_invalid_argument e ≡ true))
-unfit e none (inl memory) = inl memory
-unfit e none (inr argument) = inr (none, argument)
+unfit e none = ⊎_elim inl (λ argument. inr (none, argument))

@@ -1,5 +1,5 @@
 -- Texts by key: after a change, and as the entries of a map.
-use Rattle.std.proofs.Common.{◌≡◌, List, [], ◌∷◌, Bool, true, false, not, cond, Option, Some, None, option_map, String, Global, Ordering, Less, Equal, Greater, string_bytes, nat_cmp, refl, sym, ap, ◌∙◌, true≢false}
+use Rattle.std.proofs.Common.{◌≡◌, ⊎_elim, List, [], ◌∷◌, Bool, true, false, not, cond, Option, Some, None, option_map, String, Global, Ordering, Less, Equal, Greater, string_bytes, nat_cmp, refl, sym, ap, ◌∙◌, true≢false}
 use Rattle.std.specs.Map.{lookup, remove_entry, keys_of}
 use Rattle.std.specs.BTreeMap.{is_at, insert_entry}
 use Rattle.std.specs.String.{string_cmp}
@@ -9,7 +9,7 @@ use Rattle.std.specs.List.Sorted.{IsStrictlySortedBy}
 use Rattle.std.specs.Ordering.{is_eq, match_ordering}
 use Rattle.std.specs.Cmp.Lexicographic.{slice_cmp}
 use Rattle.std.proofs.lemmas.Map.Entries.{lookup-filter-keys}
-use Rattle.std.proofs.lemmas.Bool.{false_from_ne_true}
+use Rattle.std.proofs.lemmas.Bool.{cases_Bool, false_from_ne_true}
 use Rattle.std.proofs.lemmas.Cmp.{nat_list_cmp_total}
 use Rattle.std.proofs.lemmas.Option.{same_Some}
 use Rattle.std.proofs.lemmas.Map.Text.{is_eq-slice_cmp}
@@ -28,11 +28,7 @@ put_step : (r : Ordering) (k t q : Text) (e : Text × Text) (m later : Metadata)
 put_step Less k t q e m later is h = rw ((equivalence_of bytes_eq bytes_eq-Decides).symm q k)
 put_step Equal k t q e m later is h =
     let same : k ≡ e.0 = (bytes_eq-Decides k e.0).0 (sym is) in
-    rw (← same, (equivalence_of bytes_eq bytes_eq-Decides).symm q k) (twice (bytes_eq k q) (Some t) (Some e.1) (text_at q m))
-  where
-    twice : (b : Bool) (t u o : Option Text) → cond b t o ≡ cond b t (cond b u o)
-    twice true t u o = refl
-    twice false t u o = refl
+    rw (← same, (equivalence_of bytes_eq bytes_eq-Decides).symm q k) (⊎_elim (λ b. rw b) (λ b. rw b) (cases_Bool (bytes_eq k q)))
 put_step Greater k t q e m later is h = ap (cond (bytes_eq q e.0) (Some e.1)) h ∙ apart (bytes_eq q e.0) (bytes_eq k q) (Some t) (Some e.1) (text_at q m)
     (λ a b. true≢false (sym ((bytes_eq-Decides k e.0).1 ((bytes_eq-Decides k q).0 b ∙ (bytes_eq-Decides q e.0).0 a)) ∙ sym is))
   where
@@ -48,15 +44,11 @@ text_at-put k t q (e ∷ m) = put_step (slice_cmp nat_cmp k e.0) k t q e m (put_
 -- a text is removed
 text_at-remove : (k q : Text) (m : Metadata) → text_at q (remove_text k m) ≡ cond (bytes_eq k q) None (text_at q m)
 text_at-remove k q m = lookup-filter-keys (bytes_eq q) (λ x. not (bytes_eq k x)) (not (bytes_eq k q)) (λ x e. ap (λ y. not (bytes_eq k y)) (sym ((bytes_eq-Decides q x).0 e))) m
-    ∙ turned (bytes_eq k q) (text_at q m)
-  where
-    turned : (b : Bool) (o : Option Text) → cond (not b) o None ≡ cond b None o
-    turned true o = refl
-    turned false o = refl
+    ∙ ⊎_elim (λ b. rw b) (λ b. rw b) (cases_Bool (bytes_eq k q))
 
-pub sets_extension : (name : Text) (text : Option Text) (m : Metadata) → SetsExtension name text m (set_extension name text m)
-sets_extension name None m = λ q. rw (text_at-remove metadata_key q (put_text name_key name m), text_at-put name_key name q m)
-sets_extension name (Some text) m = λ q. rw (text_at-put metadata_key text q (put_text name_key name m), text_at-put name_key name q m)
+pub sets_extension : (name : Text) (text : Option Text) (m n : Metadata) → n ≡ set_extension name text m → SetsExtension name text m n
+sets_extension name None m n is = λ q. rw (is, text_at-remove metadata_key q (put_text name_key name m), text_at-put name_key name q m)
+sets_extension name (Some text) m n is = λ q. rw (is, text_at-put metadata_key text q (put_text name_key name m), text_at-put name_key name q m)
 
 -- the entries of a map: what an insert leaves
 pub texts_of-insert : (es : List Entry) (k v : String Global) → texts_of (insert_entry string_cmp es k v) ≡ put_text (string_bytes k) (string_bytes v) (texts_of es)
@@ -85,9 +77,6 @@ texts_of-remove q (e ∷ es) h = rw (is_eq-slice_cmp q (string_bytes e.0)) (remo
         → texts_of (cond b es (e ∷ remove_entry (at_text q) es)) ≡ cond (not b) ((string_bytes e.0, string_bytes e.1) ∷ remove_text q (texts_of es)) (remove_text q (texts_of es))
     removed true is later = rw ((bytes_eq-Decides q (string_bytes e.0)).0 is) (sym (none_above e.0 es h.0))
     removed false is later = ap (λ m. (string_bytes e.0, string_bytes e.1) ∷ m) later
-
-pub sets_extension_at : (name : Text) (text : Option Text) (m n : Metadata) → n ≡ set_extension name text m → SetsExtension name text m n
-sets_extension_at name text m n is = λ q. ap (text_at q) is ∙ sets_extension name text m q
 
 -- ---- texts that are there already: putting them changes nothing
 before : (k : String Global) (es : List Entry) → AllByRecursion (λ y. string_cmp k y ≡ Less) (keys_of es) → AllByRecursion (λ y. slice_cmp nat_cmp (string_bytes k) y ≡ Less) (keys_of (texts_of es))
@@ -132,8 +121,5 @@ kept name (Some t) es sorted named here = rw (same_put name_key name (texts_of e
 -- ---- the text at a key, of the map and of what it stands for
 pub text_at-lookup : (key : Text) (es : List Entry) → option_map (λ t. string_bytes t) (lookup (at_text key) es) ≡ text_at key (texts_of es)
 text_at-lookup key [] = refl
-text_at-lookup key (e ∷ es) = shown (is_eq (slice_cmp nat_cmp key (string_bytes e.0))) e.1 (lookup (at_text key) es) ∙ rw (is_eq-slice_cmp key (string_bytes e.0), text_at-lookup key es) refl
-  where
-    shown : (b : Bool) (s : String Global) (o : Option (String Global)) → option_map (λ t. string_bytes t) (cond b (Some s) o) ≡ cond b (Some (string_bytes s)) (option_map (λ t. string_bytes t) o)
-    shown true s o = refl
-    shown false s o = refl
+text_at-lookup key (e ∷ es) =
+    rw (is_eq-slice_cmp key (string_bytes e.0)) (⊎_elim (λ b. rw b) (λ b. rw b (text_at-lookup key es)) (cases_Bool (bytes_eq key (string_bytes e.0))))

@@ -1,3 +1,2 @@
-mod Skips
-mod PrintedNumbers
-mod Grown
+mod Firsts
+mod Loops

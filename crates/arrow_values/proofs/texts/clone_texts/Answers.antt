@@ -4,10 +4,8 @@ use Rattle.std.specs.List.{AllZip}
 use Rattle.arrow_values.specs.View.{texts_of}
 use Rattle.arrow_values.proofs.texts.clone_texts.Goals as goal
 
-abbrev same : String Global → String Global → Type 0
-same s t = string_bytes t ≡ string_bytes s
-
-same_texts : (es fs : List (String Global × String Global)) → AllZip (λ p q. same p.0 q.0 × same p.1 q.1) es fs → texts_of fs ≡ texts_of es
+same_texts : (es fs : List (String Global × String Global)) → AllZip (λ p q. (string_bytes q.0 ≡ string_bytes p.0) × (string_bytes q.1 ≡ string_bytes p.1)) es fs
+    → texts_of fs ≡ texts_of es
 same_texts [] [] h = refl
 same_texts (e ∷ es) (f ∷ fs) h = λ i. (h.0.0 i, h.0.1 i) ∷ same_texts es fs h.1 i
 same_texts _ _ h = absurd h

@@ -1,74 +1,54 @@
-use Rattle.std.proofs.Common.{◌≡◌, ◌<◌, ◌∷◌, length, Some, None, option_map, sym, ap, ap₂, ◌∙◌, arith, rules}
-use Rattle.json.specs.Token.{Token}
-use Rattle.json.specs.Json.{parse_map, after_end_array, read_key}
+use Rattle.std.proofs.Common.{◌≡◌, ◌∷◌, Some, refl, sym, ap, ◌∙◌, arith, rules}
+use Rattle.std.proofs.lemmas.Iterator.Adapters.{option_map_id}
+use Rattle.json.specs.Json.{parse_map, read_key}
 use Rattle.json.specs.Reads.{token_of}
 use Rattle.json.proofs.Grammar.{read_key-shorter}
-use Rattle.serde_json.specs.Data.{null, boolean, number, string, array, object, put}
-use Rattle.serde_json.specs.View.{view, number_view, members_view}
-use Rattle.serde_json.specs.declared.value.Value.{String, Number, Bool, Null, the_lemmas}
+use Rattle.serde_json.specs.Data.{array, object}
+use Rattle.serde_json.specs.View.{view, members_view}
+use Rattle.serde_json.specs.declared.value.Value.{the_lemmas}
 use Rattle.serde_json.proofs.Views.{view-Array, view-Object}
-use Rattle.value_tokens.proofs.Grown.{items_before, items_before-no_items, one_more_item, none_before}
+use Rattle.value_tokens.proofs.Firsts.{begins, shut, is_plain, is_number}
+use Rattle.value_tokens.proofs.Loops.{items_before, items_before-no_items, one_more_item}
 use Rattle.value_tokens.specs.Next.{next_value, next_items, next_members}
-use Rattle.value_tokens.specs.Beginnings.{next_string, next_boolean, next_null, next_number}
-use Rattle.value_tokens.specs.Turns.{no_value, plain, array_too_deep, object_too_deep, value-array, value-object, item_read, item_refused, items_over, member_read, member_refused, key_refused, members_over}
+use Rattle.value_tokens.specs.Beginnings.{next_string, next_boolean, next_null}
+use Rattle.value_tokens.specs.Turns.{no_value, plain, value-array, value-object, array_too_deep, object_too_deep, value_takes, item_read, item_refused, items_over, member_read, member_refused, key_refused, members_over}
 use Rattle.value_tokens.proofs.values.+read.Goals as goal
 
 pub read_value-returns-in_err-token-clause-text : goal.read_value-returns-in_err-token-clause-text
 read_value-returns-in_err-token-clause-text t c refused = no_value c.args.depth c.args.reader.now (grind arith)
 
 pub read_value-returns-then-depth-eq0-clause-text : goal.read_value-returns-then-depth-eq0-clause-text
-read_value-returns-then-depth-eq0-clause-text t c refused =
-    let first : c.args.reader.now ≡ token_of c.in_ok-token.token ∷ c.next.new.self = grind arith in
-    let none : c.args.depth ≡ 0 = omega arith in
-    ap₂ next_value none (first ∙ ap (λ k. token_of k ∷ c.next.new.self) c.in-BeginArray.is) ∙ array_too_deep c.next.new.self
+read_value-returns-then-depth-eq0-clause-text t c refused = shut c.args.depth c.next.new.self array_too_deep (grind arith) (omega arith)
 
 pub read_value-returns-then-depth-eq0-2-clause-text : goal.read_value-returns-then-depth-eq0-2-clause-text
-read_value-returns-then-depth-eq0-2-clause-text t c refused =
-    let first : c.args.reader.now ≡ token_of c.in_ok-token.token ∷ c.next.new.self = grind arith in
-    let none : c.args.depth ≡ 0 = omega arith in
-    ap₂ next_value none (first ∙ ap (λ k. token_of k ∷ c.next.new.self) c.in-BeginObject.is) ∙ object_too_deep c.next.new.self
+read_value-returns-then-depth-eq0-2-clause-text t c refused = shut c.args.depth c.next.new.self object_too_deep (grind arith) (omega arith)
 
 pub read_value-returns-in_err-read_items-in-BeginArray-clause-text : goal.read_value-returns-in_err-read_items-in-BeginArray-clause-text
 read_value-returns-in_err-read_items-in-BeginArray-clause-text t c refused =
-    let first : c.args.reader.now ≡ token_of c.in_ok-token.token ∷ c.next.new.self = grind arith in
-    let opened = ap (next_value c.args.depth) (first ∙ ap (λ k. token_of k ∷ c.next.new.self) c.in-BeginArray.is) ∙ value-array c.args.depth c.next.new.self (omega arith) in
-    opened ∙ ap (parse_map array) (c.read_items.ensures.text (grind arith))
+    begins _ c.next.new.self (grind arith) (value-array _ c.next.new.self (omega arith)) ∙ ap (parse_map array) (c.read_items.ensures.text (grind arith))
 
 pub read_value-returns-in_err-read_members-in-BeginObject-clause-text : goal.read_value-returns-in_err-read_members-in-BeginObject-clause-text
 read_value-returns-in_err-read_members-in-BeginObject-clause-text t c refused =
-    let first : c.args.reader.now ≡ token_of c.in_ok-token.token ∷ c.next.new.self = grind arith in
-    let opened = ap (next_value c.args.depth) (first ∙ ap (λ k. token_of k ∷ c.next.new.self) c.in-BeginObject.is) ∙ value-object c.args.depth c.next.new.self (omega arith) in
-    opened ∙ ap (parse_map object) (c.read_members.ensures.text (grind arith))
+    begins _ c.next.new.self (grind arith) (value-object _ c.next.new.self (omega arith)) ∙ ap (parse_map object) (c.read_members.ensures.text (grind arith))
 
 pub read_value-returns-in_ok-from_str-in-String-clause-ok : goal.read_value-returns-in_ok-from_str-in-String-clause-ok
 read_value-returns-in_ok-from_str-in-String-clause-ok t c =
-    let is : c.args.reader.now ≡ Token.string c.in-String.text.now ∷ c.next.new.self = grind arith in
-    let seen : view (String c.in_ok-from_str-in-String.field-0) ≡ string c.in-String.text.now = search (rules, the_lemmas) in
-    ap (next_value c.args.depth) is ∙ next_string c.args.depth c.in-String.text.now c.next.new.self ∙ ap (λ d. Some (d, c.next.new.self)) (sym seen)
+    is_plain c.args.depth c.next.new.self (grind arith) (next_string c.args.depth c.in-String.text.now c.next.new.self) (search (rules, the_lemmas))
 
 pub read_value-returns-in-Bool-clause-ok : goal.read_value-returns-in-Bool-clause-ok
 read_value-returns-in-Bool-clause-ok t c =
-    let is : c.args.reader.now ≡ Token.boolean c.in-Bool.truth ∷ c.next.new.self = grind arith in
-    let seen : view (Bool c.in-Bool.truth) ≡ boolean c.in-Bool.truth = search (rules, the_lemmas) in
-    ap (next_value c.args.depth) is ∙ next_boolean c.args.depth c.in-Bool.truth c.next.new.self ∙ ap (λ d. Some (d, c.next.new.self)) (sym seen)
+    is_plain c.args.depth c.next.new.self (grind arith) (next_boolean c.args.depth c.in-Bool.truth c.next.new.self) (search (rules, the_lemmas))
 
 pub read_value-returns-in-Null-clause-ok : goal.read_value-returns-in-Null-clause-ok
-read_value-returns-in-Null-clause-ok t c =
-    let is : c.args.reader.now ≡ Token.null ∷ c.next.new.self = grind arith in
-    let seen : view (Null) ≡ null = search (rules, the_lemmas) in
-    ap (next_value c.args.depth) is ∙ next_null c.args.depth c.next.new.self ∙ ap (λ d. Some (d, c.next.new.self)) (sym seen)
+read_value-returns-in-Null-clause-ok t c = is_plain _ c.next.new.self (grind arith) (next_null _ c.next.new.self) (search (rules, the_lemmas))
 
 pub read_value-returns-in-Some-clause-ok : goal.read_value-returns-in-Some-clause-ok
 read_value-returns-in-Some-clause-ok t c =
-    let is : c.args.reader.now ≡ Token.number c.in-Number.text.now ∷ c.next.new.self = grind arith in
-    let seen : view (Number c.in-Some.number) ≡ number (number_view c.in-Some.number) = search (rules, the_lemmas) in
-    ap (next_value c.args.depth) is ∙ next_number c.args.depth c.in-Number.text.now c.next.new.self
-    ∙ ap (option_map (λ n. (number n, c.next.new.self))) (sym c.in-Some.ensures) ∙ ap (λ d. Some (d, c.next.new.self)) (sym seen)
+    let read = is_number c.args.depth c.next.new.self c.in-Number.text.now refl c.in-Some.ensures in
+    is_plain c.args.depth c.next.new.self (grind arith) read (search (rules, the_lemmas))
 
 pub read_value-returns-in-None-clause-text : goal.read_value-returns-in-None-clause-text
-read_value-returns-in-None-clause-text t c refused =
-    let is : c.args.reader.now ≡ Token.number c.in-Number.text.now ∷ c.next.new.self = grind arith in
-    ap (next_value c.args.depth) is ∙ next_number c.args.depth c.in-Number.text.now c.next.new.self ∙ ap (option_map (λ n. (number n, c.next.new.self))) (sym c.in-None.ensures)
+read_value-returns-in-None-clause-text t c refused = is_number _ c.next.new.self c.in-Number.text.now (grind arith) c.in-None.ensures
 
 pub read_value-returns-in-EndObject-clause-text : goal.read_value-returns-in-EndObject-clause-text
 read_value-returns-in-EndObject-clause-text t c refused =
@@ -77,42 +57,37 @@ read_value-returns-in-EndObject-clause-text t c refused =
 
 pub read_value-returns-in_ok-read_items-in-BeginArray-clause-ok : goal.read_value-returns-in_ok-read_items-in-BeginArray-clause-ok
 read_value-returns-in_ok-read_items-in-BeginArray-clause-ok t c =
-    let first : c.args.reader.now ≡ token_of c.in_ok-token.token ∷ c.next.new.self = grind arith in
-    let opened = ap (next_value c.args.depth) (first ∙ ap (λ k. token_of k ∷ c.next.new.self) c.in-BeginArray.is) ∙ value-array c.args.depth c.next.new.self (omega arith) in
     let found = c.in_ok-read_items-in-BeginArray in
-    opened ∙ ap (parse_map array) found.ensures.ok ∙ ap (λ d. Some (d, c.read_items.new.reader)) (sym (view-Array found.field-0))
+    begins _ c.next.new.self (grind arith) (value-array _ c.next.new.self (omega arith)) ∙ ap (parse_map array) found.ensures.ok
+    ∙ ap (λ d. Some (d, c.read_items.new.reader)) (sym (view-Array found.field-0))
 
 pub read_value-returns-in_ok-read_members-in-BeginObject-clause-ok : goal.read_value-returns-in_ok-read_members-in-BeginObject-clause-ok
 read_value-returns-in_ok-read_members-in-BeginObject-clause-ok t c =
-    let first : c.args.reader.now ≡ token_of c.in_ok-token.token ∷ c.next.new.self = grind arith in
-    let opened = ap (next_value c.args.depth) (first ∙ ap (λ k. token_of k ∷ c.next.new.self) c.in-BeginObject.is) ∙ value-object c.args.depth c.next.new.self (omega arith) in
     let found = c.in_ok-read_members-in-BeginObject in
-    opened ∙ ap (parse_map object) found.ensures.ok ∙ ap (λ d. Some (d, c.read_members.new.reader)) (sym (view-Object found.field-0))
+    begins _ c.next.new.self (grind arith) (value-object _ c.next.new.self (omega arith)) ∙ ap (parse_map object) found.ensures.ok
+    ∙ ap (λ d. Some (d, c.read_members.new.reader)) (sym (view-Object found.field-0))
 
 pub read_items-items-init : goal.read_items-items-init
 read_items-items-init t c =
     let all = next_items c.args.depth c.args.reader.now in
-    record { decides = none_before all ∙ ap (λ vs. parse_map (items_before vs) all) (sym c.new-found.ensures.items); fewer = omega arith }
+    record { decides = sym (option_map_id all) ∙ ap (λ vs. parse_map (items_before vs) all) (sym c.new-found.ensures.items); fewer = omega arith }
 
 pub read_items-returns-in_err-item-clause-text : goal.read_items-returns-in_err-item-clause-text
 read_items-returns-in_err-item-clause-text t c refused =
-    let l = c.items in
-    let going : (after_end_array l.reader ≡ None) × (c.take_end_array.new.self ≡ l.reader) = grind arith in
-    l.invariant.decides ∙ ap (parse_map (items_before l.found.items)) (item_refused c.args.depth l.reader going.0 (rw (← going.1) (c.read_value.ensures.text (grind arith))))
+    c.items.invariant.decides
+    ∙ ap (parse_map (items_before c.items.found.items)) (item_refused _ c.items.reader (grind arith) (grind (arith, c.read_value.ensures.text)))
 
 pub read_items-items-preserved : goal.read_items-items-preserved
 read_items-items-preserved t c =
     let l = c.items in
-    let going : (after_end_array l.reader ≡ None) × (c.take_end_array.new.self ≡ l.reader) = grind arith in
-    let done = c.in_ok-item.ensures in
     let v = c.in_ok-item.item in
     let r = c.read_value.new.reader in
-    let less : length r < length l.reader = rw (← going.1) done.shorter in
-    let turn = item_read c.args.depth l.reader r (view v) going.0 (rw (← going.1) done.ok) in
+    let read : next_value c.args.depth l.reader ≡ Some (view v, r) = grind (arith, c.in_ok-item.ensures.ok) in
+    let less = value_takes c.args.depth l.reader r (view v) read in
     record {
       decides =
-          l.invariant.decides ∙ ap (parse_map (items_before l.found.items)) turn ∙ one_more_item l.found.items v _
-          ∙ ap (λ vs. parse_map (items_before vs) (next_items c.args.depth r)) (sym c.in_ok-push.ensures.items);
+          l.invariant.decides ∙ ap (parse_map (items_before l.found.items)) (item_read c.args.depth l.reader r (view v) (grind arith) read)
+          ∙ one_more_item l.found.items v _ ∙ ap (λ vs. parse_map (items_before vs) (next_items c.args.depth r)) (sym c.in_ok-push.ensures.items);
       fewer = omega (arith, l.invariant.fewer);
     }
 
@@ -131,26 +106,22 @@ read_members-returns-in_err-name-clause-text t c refused =
 
 pub read_members-returns-in_err-member-clause-text : goal.read_members-returns-in_err-member-clause-text
 read_members-returns-in_err-member-clause-text t c refused =
-    let l = c.members in
-    l.invariant.decides
-    ∙ member_refused c.args.depth (members_view l.found.entries) c.in-Some.name.now l.reader c.next_key.new.self (grind arith) (c.read_value.ensures.text (grind arith))
+    c.members.invariant.decides
+    ∙ member_refused _ _ c.in-Some.name.now c.members.reader c.next_key.new.self (grind arith) (c.read_value.ensures.text (grind arith))
 
 pub read_members-members-preserved : goal.read_members-members-preserved
 read_members-members-preserved t c =
     let l = c.members in
-    let old = members_view l.found.entries in
     let k = c.in-Some.name.now in
     let s = c.next_key.new.self in
     let named : read_key l.reader ≡ Some (Some k, s) = grind arith in
     let done = c.in_ok-member.ensures in
-    let v = c.in_ok-member.member in
-    let r = c.read_value.new.reader in
     let less = read_key-shorter l.reader (Some k) s named in
-    let lesser = done.shorter in
-    let inserted : members_view c.put.new.found.entries ≡ put k (view v) old = c.in_ok-put.ensures in
     record {
-      decides = l.invariant.decides ∙ member_read c.args.depth old k l.reader s r (view v) named done.ok ∙ ap (λ found. next_members c.args.depth found r) (sym inserted);
-      fewer = omega (arith, l.invariant.fewer);
+      decides =
+          l.invariant.decides ∙ member_read c.args.depth (members_view l.found.entries) k l.reader s c.read_value.new.reader _ named done.ok
+          ∙ ap (λ found. next_members c.args.depth found c.read_value.new.reader) (sym c.in_ok-put.ensures);
+      fewer = omega (arith, l.invariant.fewer, done.shorter);
     }
 
 pub read_members-returns-clause-ok : goal.read_members-returns-clause-ok

@@ -2,7 +2,7 @@ use Rattle.std.proofs.Common.{◌≡◌, ◌+◌, ◌*◌, ◌≤◌, length}
 use Rattle.json.specs.Json.{parse_map}
 use Rattle.serde_json.specs.Data.{no_members}
 use Rattle.serde_json.specs.View.{members_view}
-use Rattle.value_tokens.proofs.Grown.{items_before}
+use Rattle.value_tokens.proofs.Loops.{items_before}
 use Rattle.value_tokens.specs.Next.{next_items, next_members}
 use Rattle.value_tokens.proofs.values.+read.Given as goal
 

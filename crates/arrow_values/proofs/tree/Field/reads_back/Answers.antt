@@ -1,6 +1,6 @@
-use Rattle.std.proofs.Common.{sym, subst, ap, ◌∙◌, Option}
+use Rattle.std.proofs.Common.{sym, subst, ap, Option}
 use Rattle.arrow_values.specs.Tree.{Text, FieldTree}
-use Rattle.arrow_values.specs.Texts.{name_key, metadata_key, extension_name, extension_metadata}
+use Rattle.arrow_values.specs.Texts.{name_key, metadata_key}
 use Rattle.arrow_values.proofs.TextLaws.{sets_extension}
 use Rattle.arrow_values.proofs.tree.Field.reads_back.Goals as goal
 
@@ -10,8 +10,9 @@ returns g c = λ accepted stands written.
     let x = c.args.extension_type.now in
     let f = c.args.self.now in
     let text : Option Text = e.printed (e.metadata_of x) in
-    let P : Option Text → Type 0 = λ t. e.StandsFor t (e.value_of (e.metadata_of x)) in (
-      ap extension_name written ∙ sets_extension e.name_text text f.metadata name_key,
-      subst P (sym (ap extension_metadata written ∙ sets_extension e.name_text text f.metadata metadata_key)) stands,
+    let P : Option Text → Type 0 = λ t. e.StandsFor t (e.value_of (e.metadata_of x)) in
+    let set = sets_extension e.name_text text f.metadata _ (ap (λ t. t.metadata) written) in (
+      set name_key,
+      subst P (sym (set metadata_key)) stands,
       subst (λ (t : FieldTree). e.Accepts t.tree x) (sym written) accepted,
     )
