@@ -217,8 +217,10 @@ mutual
       let names = there as_str string text_says (get_member (codes "name") ms) in
       let nullables = there as_bool boolean bool_says (get_member (codes "nullable") ms) in
       let metadatas = metadata_says (get_member (codes "metadata") ms) in
-      parts_say (SaysField (object ms)) _ _ (type_in ms) _ names nullables (type_in_says ms) metadatas (λ n b t m name nullable type metadata. (type.0,
-      λ lean. ap object (are_found field_keys ms field_keys_ordered lean.0 ∙ rw (name, nullable, type.1 lean.1) (metadata _ lean.2))))
+      parts_say (SaysField (object ms)) _ _ (type_in ms) _ names nullables (type_in_says ms) metadatas (λ n b t m name nullable type metadata. (
+        type.0,
+        λ lean. ap object (are_found field_keys ms field_keys_ordered lean.0 ∙ rw (name, nullable, type.1 lean.1) (metadata _ lean.2)),
+      ))
   field_says _ = tt
 
   type_in_says : (ms : Members) → IfSome (type_in ms) (SaysTypeIn ms)
@@ -259,8 +261,10 @@ mutual
   members_in_say (item (array (item i (item d no_items))) ds) =
       chained _ (λ id. option_and_then (λ f. option_map (member_before id f) (members_in ds)) (field_of_value d)) (id_of_value i) (integer_says is_type_id i)
       (λ id x. chained _ (λ f. option_map (member_before id f) (members_in ds)) (field_of_value d) (field_says d)
-      (λ f y. mapped _ (member_before id f) (members_in ds) (members_in_say ds) (λ ms z. (((y.0, z.0.0), and_from (is_type_id id) _ x.0 z.0.1),
-      λ lean. ap₂ item (ap₂ (λ a b. array (item a (item b no_items))) (x.1 lean.0.0) (y.1 lean.0.1.0)) (z.1 lean.1)))))
+      (λ f y. mapped _ (member_before id f) (members_in ds) (members_in_say ds) (λ ms z. (
+        ((y.0, z.0.0), and_from (is_type_id id) _ x.0 z.0.1),
+        λ lean. ap₂ item (ap₂ (λ a b. array (item a (item b no_items))) (x.1 lean.0.0) (y.1 lean.0.1.0)) (z.1 lean.1),
+      ))))
   members_in_say (item _ ds) = tt
 
 pub lean_value_is : (f : FieldTree) (d : Data) → IsLean d → field_of_value d ≡ Some f → d ≡ value_of_field f

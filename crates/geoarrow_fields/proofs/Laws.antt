@@ -114,15 +114,21 @@ goes_on begun rest is some = from (split_every rest)
   where
     from : (lines : List Bytes) × (last : Bytes) × IsSplit rest lines last × IsLine last → (end : Bytes) × (others : List Bytes)
         × (lines_of (begun ++ rest) ≡ (begun ++ end) ∷ others)
-    from ([], last, split, line) =
-        (last, [], ap (λ l. lines_of (begun ++ l)) split.joined ∙ lines_of-last (begun ++ last) (All-append (λ b. b ≢ line_feed) begun last is line)
-        (subst (λ l. 0 < length (begun ++ l)) split.joined some))
+    from ([], last, split, line) = (
+      last,
+      [],
+      ap (λ l. lines_of (begun ++ l)) split.joined ∙ lines_of-last (begun ++ last) (All-append (λ b. b ≢ line_feed) begun last is line)
+          (subst (λ l. 0 < length (begun ++ l)) split.joined some),
+    )
     from (line ∷ lines, last, split, _) =
         let later = ended_lines lines ++ last in
         let joined =
-        ap (λ l. begun ++ l) (split.joined ∙ append_assoc line (line_feed ∷ ended_lines lines) last) ∙ sym (append_assoc begun line (line_feed ∷ later)) in
-        (line, lines_of later, ap lines_of joined ∙ lines_of-line (begun ++ line) later
-        (All-append (λ b. b ≢ line_feed) begun line is (All-head IsLine line lines split.each)))
+        ap (λ l. begun ++ l) (split.joined ∙ append_assoc line (line_feed ∷ ended_lines lines) last) ∙ sym (append_assoc begun line (line_feed ∷ later)) in (
+          line,
+          lines_of later,
+          ap lines_of joined ∙ lines_of-line (begun ++ line) later
+              (All-append (λ b. b ≢ line_feed) begun line is (All-head IsLine line lines split.each)),
+        )
 
 pub never_both : (input : Bytes) → IsWithinLimits (lines_of input) → ¬ Stops IsPastLimit input
 never_both input within passes = contradicts passes.cause

@@ -1,10 +1,9 @@
 -- A run under way, and its ends, over plain variables.
 use Rattle.std.specs.Prelude.{⊤}
-use Rattle.std.proofs.Common.{◌≡◌, ◌≢◌, ℕ, ◌+◌, List, ◌*◌, ◌-◌, ◌<◌, ◌≤◌, [], ◌∷◌, ◌++◌, length, Option, refl, sym, ap, ◌∙◌, subst, append-nil, length-append, arith}
+use Rattle.std.proofs.Common.{◌≡◌, ℕ, ◌+◌, List, ◌*◌, ◌-◌, ◌<◌, [], ◌∷◌, ◌++◌, length, Option, refl, sym, ap, ◌∙◌, subst, append-nil, length-append, arith}
 use Rattle.std.proofs.KnownBytes.{Appends-trans, Appends-nil, Consumes-nil, Consumes-trans}
 use Rattle.std.specs.Io.KnownBytes.{Appends, Consumes}
 use Rattle.geoarrow_fields.specs.declared.Command.{Command}
-use Rattle.geoarrow_fields.specs.declared.RunEnd.{RunEnd}
 use Rattle.geoarrow_fields.specs.declared.RunEnd.TheVariants.{Done, OutputFault}
 use Rattle.geoarrow_fields.specs.Lines.{Bytes, lines_of, max_lines, max_line_bytes, IsSplit, Stops}
 use Rattle.geoarrow_fields.specs.Output.{Answered, Means, ReadsAndWrites, RunsTo}
@@ -58,16 +57,18 @@ module _ (command : Command) (count : ℕ) (begun : Bytes) (i j o p : Option Byt
     all input output more (next, answers) last = (
       all_within count input begun next is,
       subst (λ l. Answered command [] l (output ++ more)) (sym (lines_of-split input next.lines begun next.split))
-      (answered_after command [] next.lines (lines_of begun) output more answers last),
+          (answered_after command [] next.lines (lines_of begun) output more answers last),
     )
 
     pub way_done : AppendsSome (Answered command [] (lines_of begun)) p q → ReadsAndWrites (Means command Done) i k o q
     way_done = writes_more _ (Means command Done) _ i j k o p q all way read
 
     pub way_breaks_off_at_end : AppendsSome (FrontOf (Answered command [] (lines_of begun))) p q → RunsTo command OutputFault i k o q
-    way_breaks_off_at_end part =
-        (Done, writes_more _ _ _ i j k o p q
-        (λ input output more next. front_after _ (Means command Done input) output (λ whole. all input output whole next) more) way read part)
+    way_breaks_off_at_end part = (
+      Done,
+      writes_more _ _ _ i j k o p q
+          (λ input output more next. front_after _ (Means command Done input) output (λ whole. all input output whole next) more) way read part,
+    )
 
   -- a piece of the input comes
   module _ (piece : Bytes) (read : Consumes j k piece) where
@@ -91,11 +92,13 @@ module _ (command : Command) (count : ℕ) (begun : Bytes) (i j o p : Option Byt
     pub way_breaks_off : AppendsSome (FrontOf (AnswersUntil (λ n l. ⊤) command count (begun ++ piece))) p q → RunsTo command OutputFault i k o q
     way_breaks_off part =
         let whole : (input output more : Bytes) → AnswersNext command 0 input count begun output → AnswersUntil (λ n l. ⊤) command count (begun ++ piece) more
-            → Means command OutputFault (input ++ piece) (output ++ more) =
-            λ input output more first (total, later, next, _). let (lines, answers) =
-                after input output more total later first next in (stops (λ n l. ⊤) total (input ++ piece) later lines tt, answers) in
-        (OutputFault, continues _ _ _ i j k o p q piece
-        (λ input output more first. front_after _ (Means command OutputFault (input ++ piece)) output (λ b. whole input output b first) more) way read part)
+        → Means command OutputFault (input ++ piece) (output ++ more) =
+        λ input output more first (total, later, next, _). let (lines, answers) =
+        after input output more total later first next in (stops (λ n l. ⊤) total (input ++ piece) later lines tt, answers) in (
+          OutputFault,
+          continues _ _ _ i j k o p q piece
+              (λ input output more first. front_after _ (Means command OutputFault (input ++ piece)) output (λ b. whole input output b first) more) way read part,
+        )
 
 -- ---- a run ends
 

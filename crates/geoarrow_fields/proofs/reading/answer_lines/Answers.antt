@@ -86,9 +86,12 @@ returns-in_err-count-clause-output g c =
 
 pub loop-begun-preserved : goal.loop-begun-preserved
 loop-begun-preserved g c =
-    let bytes = rw (← c.deref.ensures.value) at c.in_ok-n.ensures.bytes in
-    (omega (arith, c.read_chunk.ensures.len), c.in_ok-count.ensures.begun, way_goes_on _ _ _ _ _ _ _ c.loop-begun.invariant.2 _ _ _ bytes _ _
-    c.in_ok-count.ensures.ok)
+    let bytes = rw (← c.deref.ensures.value) at c.in_ok-n.ensures.bytes in (
+      omega (arith, c.read_chunk.ensures.len),
+      c.in_ok-count.ensures.begun,
+      way_goes_on _ _ _ _ _ _ _ c.loop-begun.invariant.2 _ _ _ bytes _ _
+          c.in_ok-count.ensures.ok,
+    )
 
 pub loop-begun-smaller : goal.loop-begun-smaller
 loop-begun-smaller g c =

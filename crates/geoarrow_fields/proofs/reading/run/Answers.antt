@@ -23,8 +23,8 @@ module _ (command : Command) (i j o p q : Option Bytes) (meant : RunEnd) (Before
   ends_so OutputFault is grown part = (
     meant,
     writes_more Before _ _ i j j o p q
-    (λ input output more before. front_after _ (Means command meant input) output (λ whole. join input output whole before) more)
-    ran (Consumes-nil j) part,
+        (λ input output more before. front_after _ (Means command meant input) output (λ whole. join input output whole before) more)
+        ran (Consumes-nil j) part,
   )
   ends_so end is grown part =
       let other : end ≢ OutputFault = λ fault. cc in
