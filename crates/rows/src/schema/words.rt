@@ -1,0 +1,93 @@
+//! What the answers say, in words.
+use crate::words::refusal;
+use arrow_values::{ArrowError, GeoArrowError};
+use geoarrow_schema::{
+    CoordType, CrsType, Dimension, GeoArrowType, Kind, Metadata, NativeKind, Width,
+};
+use std::alloc::{AllocError, Global};
+
+/// Says a type: its kind, coordinate type, dimension and metadata. It says all that there is of it.
+pub fn type_words(
+    alloc: Global,
+    said: &mut String,
+    found: &GeoArrowType,
+) -> Result<(), AllocError> {
+    let kind = kind_word(found.kind());
+    let coord_type = coord_type_word(found.coord_type());
+    let dimension = dimension_word(found.dimension());
+    write!(said, "{kind} {coord_type} {dimension} ")?;
+    metadata_words(alloc, said, found.metadata())
+}
+
+/// Says a metadata: its text; or a dash where it has none, and the CRS type that is there nevertheless.
+pub fn metadata_words(
+    alloc: Global,
+    said: &mut String,
+    metadata: &Metadata,
+) -> Result<(), AllocError> {
+    match (metadata.serialize(alloc), metadata.crs().crs_type()) {
+        (Ok(Some(text)), _) => said.push_str(text.as_str()),
+        (Ok(None), None) => said.push_str("-"),
+        (Ok(None), Some(lone)) => write!(said, "- {}", lone.as_text()),
+        (Err(error), _) => refusal(alloc, said, error),
+    }
+}
+
+/// Says an error: its variant, and all that it prints; out of memory is no answer.
+pub fn error_words(said: &mut String, error: &GeoArrowError) -> Result<(), AllocError> {
+    let variant = match error {
+        GeoArrowError::Arrow(ArrowError::OutOfMemory) => return Err(AllocError),
+        GeoArrowError::Arrow(_) => "Arrow",
+        GeoArrowError::InvalidGeoArrow(_) => "InvalidGeoArrow",
+        _ => "another variant",
+    };
+    write!(said, "{variant}: {error}")
+}
+
+/// The word of a kind.
+pub fn kind_word(kind: Kind) -> &'static str {
+    match kind {
+        Kind::Native(kind, _, _) => native_word(kind),
+        Kind::Geometry(_) => "geometry",
+        Kind::Rect(_) => "box",
+        Kind::Wkb(Width::Plain) => "wkb",
+        Kind::Wkb(Width::Large) => "large_wkb",
+        Kind::Wkb(Width::View) => "wkb_view",
+        Kind::Wkt(Width::Plain) => "wkt",
+        Kind::Wkt(Width::Large) => "large_wkt",
+        Kind::Wkt(Width::View) => "wkt_view",
+    }
+}
+
+/// The word of a native kind.
+fn native_word(kind: NativeKind) -> &'static str {
+    match kind {
+        NativeKind::Point => "point",
+        NativeKind::LineString => "linestring",
+        NativeKind::Polygon => "polygon",
+        NativeKind::MultiPoint => "multipoint",
+        NativeKind::MultiLineString => "multilinestring",
+        NativeKind::MultiPolygon => "multipolygon",
+        NativeKind::GeometryCollection => "geometrycollection",
+    }
+}
+
+/// The word of a coordinate type, or a dash.
+pub fn coord_type_word(coord_type: Option<CoordType>) -> &'static str {
+    match coord_type {
+        Some(CoordType::Interleaved) => "interleaved",
+        Some(CoordType::Separated) => "separated",
+        None => "-",
+    }
+}
+
+/// The word of a dimension, or a dash.
+pub fn dimension_word(dimension: Option<Dimension>) -> &'static str {
+    match dimension {
+        Some(Dimension::XY) => "XY",
+        Some(Dimension::XYZ) => "XYZ",
+        Some(Dimension::XYM) => "XYM",
+        Some(Dimension::XYZM) => "XYZM",
+        None => "-",
+    }
+}
