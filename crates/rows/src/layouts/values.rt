@@ -18,18 +18,14 @@ const LEVELS: usize = 10_000;
 /// Says how many times a text stands between two others, and the text inside of all of them.
 fn say_inside(said: &mut String, text: &str, before: &str, after: &str) -> Result<(), AllocError> {
     let mut inside = text;
-    let mut times = 0;
-    for _ in 0..LEVELS {
-        let Some(rest) = inside.strip_prefix(before) else {
-            break;
-        };
-        let Some(rest) = rest.strip_suffix(after) else {
-            break;
+    for times in 0..LEVELS {
+        let rest = inside.strip_prefix(before);
+        let Some(rest) = rest.and_then(|rest| rest.strip_suffix(after)) else {
+            return write!(said, "{times} times {before}..{after} around {inside}");
         };
         inside = rest;
-        times += 1;
     }
-    write!(said, "{times} times {before}..{after} around {inside}")
+    Err(AllocError)
 }
 
 /// Says what a field prints, and its line, where many lists are in one another.
