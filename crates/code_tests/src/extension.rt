@@ -1,0 +1,212 @@
+//! An extension type of one's own, that stands on the calls of the metadata: how it is written on fields, and read from them.
+use arrow_values::{
+    ArrowError, DataType, EXTENSION_TYPE_METADATA_KEY, EXTENSION_TYPE_NAME_KEY, ExtensionType,
+    Field,
+};
+use geoarrow_meta::Metadata;
+use std::alloc::{AllocError, Global};
+use std::collections::BTreeMap;
+use std::test::Fail;
+
+/// An extension type over `Binary` alone, that is nothing but its metadata.
+#[derive(Debug, Drop)]
+struct Marked {
+    metadata: Metadata,
+}
+
+impl ExtensionType for Marked {
+    ghost use Rattle.std.specs.Prelude.{◌≡◌, true, codes, ⊤};
+    ghost use Rattle.arrow_values.specs.Tree.{plain, binary};
+    ghost use Rattle.arrow_values.specs.Errors.{is_schema};
+    ghost use Rattle.geoarrow_meta.specs.Written.{printed as printed_text};
+    ghost use Rattle.geoarrow_meta.specs.Read.{TextStandsFor, TextRefusedAs};
+    ghost use Rattle.geoarrow_meta.specs.declared.metadata.Metadata.{Metadata as MetadataValue};
+    ghost use Rattle.geoarrow_meta.specs.Laws.{text_stands_for_one};
+
+    const NAME: &'static str = "tests.marked";
+
+    type Metadata = Metadata;
+
+    ghost name_text = { codes "tests.marked" };
+
+    ghost metadata_of = { λ e. e.metadata };
+
+    ghost printed = { printed_text };
+
+    ghost Value = { MetadataValue };
+
+    ghost value_of = { λ m. m };
+
+    ghost StandsFor = { TextStandsFor };
+
+    ghost Accepts = { λ t _. t ≡ plain binary };
+
+    ghost Agrees = { λ _ _. ⊤ };
+
+    ghost RefusesText = { TextRefusedAs };
+
+    ghost RefusesTree = { λ _ r. is_schema r ≡ true };
+
+    ghost RefusesUse = { λ _ _ r. is_schema r ≡ true };
+
+    ghost accepts_one = { λ t a b h k. tt };
+
+    ghost stands_for_one = { text_stands_for_one };
+
+    ghost accepts_by_shape = { λ t a e h _. h };
+
+    ghost agrees_with_itself = { λ e. tt };
+
+    fn extension_name() -> &'static str {
+        Self::NAME
+    }
+
+    fn metadata(&self) -> &Metadata {
+        &self.metadata
+    }
+
+    fn serialize_metadata(&self, alloc: Global) -> Result<Option<String>, ArrowError> {
+        self.metadata.serialize(alloc)
+    }
+
+    fn deserialize_metadata(alloc: Global, metadata: Option<&str>) -> Result<Metadata, ArrowError> {
+        Metadata::deserialize(alloc, metadata)
+    }
+
+    fn supports_data_type(&self, alloc: Global, data_type: &DataType) -> Result<(), ArrowError> {
+        if let DataType::Binary = data_type {
+            return Ok(());
+        }
+        Err(ArrowError::schema_error(alloc, "unexpected data type"))
+    }
+
+    fn try_new(
+        alloc: Global,
+        data_type: &DataType,
+        metadata: Metadata,
+    ) -> Result<Marked, ArrowError> {
+        let marked = Marked { metadata };
+        marked.supports_data_type(alloc, data_type)?;
+        Ok(marked)
+    }
+}
+
+/// A field `g` of a data type, which may be null, with those keys and texts.
+fn column(
+    alloc: Global,
+    texts: &[(&str, &str)],
+    data_type: DataType,
+) -> Result<Field, AllocError> {
+    let mut map = BTreeMap::new(alloc);
+    for &(key, text) in texts {
+        let text = String::from_str(alloc, text)?;
+        drop(map.insert(String::from_str(alloc, key)?, text)?);
+    }
+    Ok(Field::new(alloc, "g", data_type, true)?.with_metadata(map))
+}
+
+/// The type of the metadata of a text.
+fn type_of(alloc: Global, text: &str) -> Result<Marked, ArrowError> {
+    Ok(Marked {
+        metadata: Metadata::deserialize(alloc, Some(text))?,
+    })
+}
+
+/// The texts of a field before a type is written on it.
+const STALE: &[(&str, &str)] = &[
+    (EXTENSION_TYPE_METADATA_KEY, "stale"),
+    (EXTENSION_TYPE_NAME_KEY, "stale"),
+    ("kept", "too"),
+];
+
+/// Metadata texts, and the texts of that field once the type of that metadata is written on it.
+const WRITTEN: [(&str, &[(&str, &str)]); 2] = [
+    (
+        "{}",
+        &[(EXTENSION_TYPE_NAME_KEY, "tests.marked"), ("kept", "too")],
+    ),
+    (
+        r#"{"crs_type":"srid","crs":"1234"}"#,
+        &[
+            (
+                EXTENSION_TYPE_METADATA_KEY,
+                r#"{"crs":"1234","crs_type":"srid"}"#,
+            ),
+            (EXTENSION_TYPE_NAME_KEY, "tests.marked"),
+            ("kept", "too"),
+        ],
+    ),
+];
+
+/// The field of the stale texts with a type written on it, where it stands and as it is handed over.
+fn written(alloc: Global, marked: &Marked) -> Result<[Field; 2], ArrowError> {
+    let mut field = column(alloc, STALE, DataType::Binary)?;
+    field.try_with_extension_type(alloc, marked)?;
+    let other = column(alloc, STALE, DataType::Binary)?;
+    Ok([field, other.with_extension_type(alloc, marked)?])
+}
+
+#[test]
+fn of_ones_own_is_written_and_read(rt: HostRuntime) -> Result<(), Fail> {
+    let alloc = rt.alloc();
+    for &(text, texts) in WRITTEN.iter() {
+        let marked = type_of(alloc, text)?;
+        let wanted = column(alloc, texts, DataType::Binary)?;
+        for field in written(alloc, &marked)?.iter() {
+            assert!(rt; *field == wanted, "{text}");
+            let found = field.try_extension_type::<Marked>(alloc)?;
+            assert!(rt; found.metadata == marked.metadata, "{text}");
+        }
+    }
+    Ok(())
+}
+
+#[test]
+fn of_ones_own_is_refused_with_the_field(rt: HostRuntime) -> Result<(), Fail> {
+    let alloc = rt.alloc();
+    let mut field = column(alloc, STALE, DataType::Utf8)?;
+    let refused = field.try_with_extension_type(alloc, &type_of(alloc, "{}")?);
+    assert!(rt; refused.is_err());
+    assert!(rt; field == column(alloc, STALE, DataType::Utf8)?);
+    Ok(())
+}
+
+/// What is said of another name.
+const DIFFERS: &str = "Invalid argument error: extension name differs";
+
+/// Extension names and metadata texts of fields of texts, and how the type is refused.
+const REFUSED: [(&str, &str, &str); 4] = [
+    ("tests.other", "no JSON", DIFFERS),
+    ("tests.marke", "{}", DIFFERS),
+    (
+        "tests.marked",
+        "no JSON",
+        "External error: External error: metadata is not JSON",
+    ),
+    ("tests.marked", "{}", "Schema error: unexpected data type"),
+];
+
+/// How the type is refused where it is read from a field of texts with those keys and texts.
+fn read_refusal(alloc: Global, texts: &[(&str, &str)]) -> Result<String, AllocError> {
+    let field = column(alloc, texts, DataType::Utf8)?;
+    match field.try_extension_type::<Marked>(alloc) {
+        Ok(_) => Err(AllocError),
+        Err(error) => error.to_string(alloc),
+    }
+}
+
+#[test]
+fn of_ones_own_is_not_read_from_other_fields(rt: HostRuntime) -> Result<(), Fail> {
+    let alloc = rt.alloc();
+    for &(name, text, wanted) in REFUSED.iter() {
+        let texts = [
+            (EXTENSION_TYPE_NAME_KEY, name),
+            (EXTENSION_TYPE_METADATA_KEY, text),
+        ];
+        let refused = read_refusal(alloc, &texts)?;
+        assert!(rt; refused.as_str() == wanted, "{name} {text}");
+    }
+    let refused = read_refusal(alloc, &[(EXTENSION_TYPE_METADATA_KEY, "{}")])?;
+    assert!(rt; refused.as_str() == "Invalid argument error: extension name missing");
+    Ok(())
+}

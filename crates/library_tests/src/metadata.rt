@@ -1,4 +1,0 @@
-//! Tests of `geoarrow_meta`.
-mod extension;
-mod parts;
-mod values;
