@@ -18,3 +18,5 @@ mod reading;
 mod types;
 #[cfg(test)]
 mod values;
+#[cfg(test)]
+mod words;
