@@ -92,11 +92,7 @@ impl ExtensionType for Marked {
 }
 
 /// A field `g` of a data type, which may be null, with those keys and texts.
-fn column(
-    alloc: Global,
-    texts: &[(&str, &str)],
-    data_type: DataType,
-) -> Result<Field, AllocError> {
+fn column(alloc: Global, texts: &[(&str, &str)], data_type: DataType) -> Result<Field, AllocError> {
     let mut map = BTreeMap::new(alloc);
     for &(key, text) in texts {
         let text = String::from_str(alloc, text)?;
