@@ -14,7 +14,7 @@ use Rattle.geoarrow_columns.specs.declared.check.ColumnFault.{ColumnFault}
 use Rattle.geoarrow_columns.specs.declared.check.ColumnFault.TheVariants.{Arrow, InvalidGeoArrow}
 use Rattle.geoarrow_columns.specs.declared.check.Column.{Column}
 use Rattle.geoarrow_columns.specs.declared.check.Column.TheVariants.{Faulty}
-use Rattle.geoarrow_columns.specs.Report.{refused_for, IsRefusedFor, IsColumnOf, IsReport, IsFaultOf, IsOther, IsUnread}
+use Rattle.geoarrow_columns.specs.Report.{refused_for, IsRefusedFor, IsColumnOf, IsReport, IsVariantOf, IsOther, IsUnread}
 
 report_more : (fs : List FieldTree) (cs : List Column) (f : FieldTree) (c : Column) → IsReport fs cs → IsColumnOf f c → IsReport (fs ++ f ∷ []) (cs ++ c ∷ [])
 report_more [] [] f c h g = (g, tt)
@@ -45,16 +45,16 @@ uninferred f e rich unnamed (inl memory) = absurd (rich memory)
 uninferred f e rich unnamed (inr (read, none, inl refused)) = absurd (unnamed refused.0)
 uninferred f e rich unnamed (inr (read, none, inr refused)) = (none, refused.1)
 
-pub other : (f : FieldTree) (e : GeoArrowError) → ¬ IsGeoMemory e → ¬ HasGeoArrowName f → IsInferenceRefusal f e → IsFaultOf e InvalidGeoArrow → IsOther f
+pub other : (f : FieldTree) (e : GeoArrowError) → ¬ IsGeoMemory e → ¬ HasGeoArrowName f → IsInferenceRefusal f e → IsVariantOf e InvalidGeoArrow → IsOther f
 other f (Invalid s) rich unnamed how is = let refused = uninferred f (Invalid s) rich unnamed how in (unnamed, refused.0, refused.1)
 other f (OfArrow a) rich unnamed how is = absurd cc
 other f e rich unnamed how is = absurd (uninferred f e rich unnamed how).1
 
-pub unread : (f : FieldTree) (e : GeoArrowError) → ¬ IsGeoMemory e → ¬ HasGeoArrowName f → IsInferenceRefusal f e → IsFaultOf e Arrow → IsUnread f
+pub unread : (f : FieldTree) (e : GeoArrowError) → ¬ IsGeoMemory e → ¬ HasGeoArrowName f → IsInferenceRefusal f e → IsVariantOf e Arrow → IsUnread f
 unread f (Invalid s) rich unnamed how is = absurd cc
 unread f (OfArrow a) rich unnamed how is = (unnamed, (uninferred f (OfArrow a) rich unnamed how).1.0)
 unread f e rich unnamed how is = absurd (uninferred f e rich unnamed how).1
 
 -- a field that is refused under a GeoArrow name is a column of the fault of its error
-pub named_faulty : (f : FieldTree) (e : GeoArrowError) (fault : ColumnFault) → ¬ IsGeoMemory e → IsFaultOf e fault → IsRefusedBy f e → IsColumnOf f (Faulty fault)
+pub named_faulty : (f : FieldTree) (e : GeoArrowError) (fault : ColumnFault) → ¬ IsGeoMemory e → IsVariantOf e fault → IsRefusedBy f e → IsColumnOf f (Faulty fault)
 named_faulty f e fault rich is refused = faulty f fault (refused_for f e fault rich is refused)

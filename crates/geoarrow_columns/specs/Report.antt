@@ -48,12 +48,12 @@ IsReport (f ∷ fs) (c ∷ cs) = IsColumnOf f c × IsReport fs cs
 IsReport _ _ = ⊥
 
 -- the fault is the variant of the error
-abbrev pub IsFaultOf : GeoArrowError → ColumnFault → Type 0
-IsFaultOf (Invalid s) fault = fault ≡ InvalidGeoArrow
-IsFaultOf _ fault = fault ≡ Arrow
+abbrev pub IsVariantOf : GeoArrowError → ColumnFault → Type 0
+IsVariantOf (Invalid s) fault = fault ≡ InvalidGeoArrow
+IsVariantOf _ fault = fault ≡ Arrow
 
 -- a field that is refused, but not because memory ran out, is refused for the fault of that error
-pub refused_for : (f : FieldTree) (e : GeoArrowError) (fault : ColumnFault) → ¬ IsGeoMemory e → IsFaultOf e fault → IsRefusedBy f e → IsRefusedFor f fault
+pub refused_for : (f : FieldTree) (e : GeoArrowError) (fault : ColumnFault) → ¬ IsGeoMemory e → IsVariantOf e fault → IsRefusedBy f e → IsRefusedFor f fault
 refused_for f e fault rich is (named, inl memory) = absurd (rich memory)
 refused_for f (Invalid s) fault rich is (named, inr (none, refused)) = subst (IsRefusedFor f) (sym is) ((named, none), refused)
 refused_for f (OfArrow a) fault rich is (named, inr (none, refused)) = subst (IsRefusedFor f) (sym is) ((named, none), refused.0)

@@ -3,7 +3,7 @@ ghost use Rattle.std.specs.Prelude.{IfOk, IfErr};
 ghost use Rattle.arrow_values.specs.Errors.{IsGeoMemory};
 ghost use Rattle.geoarrow_schema.specs.Reads.{HasGeoArrowName, IsRefusedBy};
 ghost use Rattle.geoarrow_schema.specs.Infers.{IsInference};
-ghost use Rattle.geoarrow_columns.specs.Report.{IsColumnOf, IsReport, IsFaultOf};
+ghost use Rattle.geoarrow_columns.specs.Report.{IsColumnOf, IsReport, IsVariantOf};
 
 use arrow_values::{ArrowError, Field, GeoArrowError, GeoArrowResult};
 use geoarrow_schema::GeoArrowType;
@@ -123,7 +123,7 @@ impl ColumnFault {
     /// Errs where the error is out-of-memory.
     pub fn of_error(error: &GeoArrowError) -> Result<ColumnFault, AllocError>
         ensures memory { IfOk result (λ _. ¬ IsGeoMemory error.now) }
-        ensures variant { IfOk result (λ fault. IsFaultOf error.now fault) }
+        ensures variant { IfOk result (λ fault. IsVariantOf error.now fault) }
         ensures refused { IfErr result (λ _. IsGeoMemory error.now) }
     {
         match error {

@@ -54,7 +54,8 @@ present (Some d) = Some d
 abbrev pub at_key : Text → Data → Option Data
 at_key k d = present (get k d)
 
--- whether there is a value, and it holds a number that is not whole, at any depth
+-- whether there is a value, and it holds, at any depth, a number that is read as a float: one with a fraction or an exponent, `-0`, or a
+-- whole number outside -2^63 to 2^64 - 1; numbers that are no floats are called whole below
 abbrev pub some_has_float : Option Data → Bool
 some_has_float None = false
 some_has_float (Some d) = has_float d
@@ -72,25 +73,25 @@ abbrev pub TextStandsFor : Option Text → Metadata → Type 0
 TextStandsFor None m = m ≡ empty
 TextStandsFor (Some s) m = (d : Data) × (read s ≡ Some d) × StandsFor d m
 
--- the value is an object with a number in `crs` that is not whole
-abbrev pub HasFraction : Data → Type 0
-HasFraction d = IsSome (as_object d) × (some_has_float (at_key (codes "crs") d) ≡ true)
+-- the value is an object with a number in `crs` that is read as a float
+abbrev pub HasFloat : Data → Type 0
+HasFloat d = IsSome (as_object d) × (some_has_float (at_key (codes "crs") d) ≡ true)
 
--- the value is refused with that error: `Crs` if a number in `crs` is not whole, otherwise `External` if it denotes no
+-- the value is refused with that error: `Crs` if `crs` holds a float, otherwise `External` if it denotes no
 -- metadata; or out of memory
 abbrev pub RefusedAs : Data → GeoArrowError → Type 0
 RefusedAs d (Arrow a) = IsMemory a
-RefusedAs d (Crs s) = HasFraction d
-RefusedAs d (External s) = ¬ HasFraction d × ((m : Metadata) → ¬ StandsFor d m)
+RefusedAs d (Crs s) = HasFloat d
+RefusedAs d (External s) = ¬ HasFloat d × ((m : Metadata) → ¬ StandsFor d m)
 RefusedAs d _ = ⊥
 
--- the text is refused with that error: out of memory; or boxed in an `ExternalError`, `Crs` if a number in `crs` is not whole,
+-- the text is refused with that error: out of memory; or boxed in an `ExternalError`, `Crs` if `crs` holds a float,
 -- and `External` if it otherwise denotes no metadata; a missing text is not refused
 abbrev pub TextRefusedAs : Option Text → ArrowError → Type 0
 TextRefusedAs None e = ⊥
 TextRefusedAs (Some s) OutOfMemory = ⊤
-TextRefusedAs (Some s) (ExternalError' p (Crs t)) = (d : Data) × (read s ≡ Some d) × HasFraction d
-TextRefusedAs (Some s) (ExternalError' p (External t)) = ((d : Data) → read s ≡ Some d → ¬ HasFraction d) × ((m : Metadata) → ¬ TextStandsFor (Some s) m)
+TextRefusedAs (Some s) (ExternalError' p (Crs t)) = (d : Data) × (read s ≡ Some d) × HasFloat d
+TextRefusedAs (Some s) (ExternalError' p (External t)) = ((d : Data) → read s ≡ Some d → ¬ HasFloat d) × ((m : Metadata) → ¬ TextStandsFor (Some s) m)
 TextRefusedAs (Some s) _ = ⊥
 
 -- ---- errors by variant
