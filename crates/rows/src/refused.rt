@@ -39,25 +39,44 @@ fn refused(alloc: Global, requests: usize) -> Option<usize> {
     None
 }
 
+/// Where the request that is refused fell.
+#[derive(Clone, Copy)]
+enum Place {
+    /// Before the row was answered, after so many requests for nothing.
+    Before(usize),
+    /// Within the answer.
+    Within,
+    /// After the answer and so many requests for nothing.
+    After(usize),
+}
+
+/// Prints a place, and behind it words.
+fn print(rt: &HostRuntime, place: Place, words: &str) -> io::Result<ExitCode> {
+    match place {
+        Place::Before(met) => println!(rt; "before {met}")?,
+        Place::Within => println!(rt; "within {words}")?,
+        Place::After(met) => println!(rt; "after {met} {words}")?,
+    }
+    Ok(ExitCode::SUCCESS)
+}
+
 /// Answers the row, and prints where the refused request fell and, but for `before`, the answer: `before 12`, after so many
 /// requests for nothing; `within out of memory`; `after 7 point separated XY -`, after so many requests behind the answer.
 pub fn try_row(rt: &HostRuntime, row: RefusedRow<'_>) -> io::Result<ExitCode> {
     let alloc = rt.alloc();
     if let Some(met) = refused(alloc, row.fill) {
-        println!(rt; "before {met}")?;
-        return Ok(ExitCode::SUCCESS);
+        return print(rt, Place::Before(met), "");
     }
     let mut said = String::new(alloc);
     let is_answered = answer(alloc, &mut said, row.layer, row.question.as_bytes()).is_ok();
-    let fell = refused(alloc, REQUESTS);
+    let place = match refused(alloc, REQUESTS) {
+        Some(met) => Place::After(met),
+        None => Place::Within,
+    };
     let words = if is_answered {
         said.as_str()
     } else {
         "out of memory"
     };
-    match fell {
-        Some(met) => println!(rt; "after {met} {words}")?,
-        None => println!(rt; "within {words}")?,
-    }
-    Ok(ExitCode::SUCCESS)
+    print(rt, place, words)
 }

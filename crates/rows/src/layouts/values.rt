@@ -15,15 +15,19 @@ pub fn spelled(alloc: Global, said: &mut String, text: &str) -> Result<(), Alloc
 /// More levels than a data type has that is printed.
 const LEVELS: usize = 10_000;
 
+/// What stands between two texts.
+fn between<'a>(text: &'a str, before: &str, after: &str) -> Option<&'a str> {
+    text.strip_prefix(before)?.strip_suffix(after)
+}
+
 /// Says how many times a text stands between two others, and the text inside of all of them.
 fn say_inside(said: &mut String, text: &str, before: &str, after: &str) -> Result<(), AllocError> {
     let mut inside = text;
     for times in 0..LEVELS {
-        let rest = inside.strip_prefix(before);
-        let Some(rest) = rest.and_then(|rest| rest.strip_suffix(after)) else {
-            return write!(said, "{times} times {before}..{after} around {inside}");
-        };
-        inside = rest;
+        match between(inside, before, after) {
+            Some(rest) => inside = rest,
+            None => return write!(said, "{times} times {before}..{after} around {inside}"),
+        }
     }
     Err(AllocError)
 }
