@@ -139,6 +139,7 @@ fn written(alloc: Global, marked: &Marked) -> Result<[Field; 2], ArrowError> {
     let mut field = column(alloc, STALE, DataType::Binary)?;
     field.try_with_extension_type(alloc, marked)?;
     let other = column(alloc, STALE, DataType::Binary)?;
+    marked.supports_data_type(alloc, other.data_type())?;
     Ok([field, other.with_extension_type(alloc, marked)?])
 }
 
