@@ -15,6 +15,19 @@ use Rattle.field_lines.specs.Steps.{AreMemberParts}
 use Rattle.value_tokens.specs.Next.{next_value, next_items, after, Reads, ReadsItems}
 use Rattle.value_tokens.specs.Turns.{item_read, item_refused, items_over, value_takes, after_some}
 
+-- what is next leaves of a list: its end, or an item
+abbrev pub turn : ℕ → Option (List Token) → Option (Data × List Token) → Option (Items × List Token)
+turn depth (Some r) o = Some (no_items, r)
+turn depth None o = option_and_then (λ p. parse_map (item p.0) (next_items depth p.1)) o
+
+turned : (depth : ℕ) (ts : List Token) (over : Option (List Token)) (o : Option (Data × List Token)) → after_end_array ts ≡ over → next_value depth ts ≡ o → next_items depth ts ≡ turn depth over o
+turned depth ts (Some r) o over e = items_over depth ts r over
+turned depth ts None None over e = item_refused depth ts over e
+turned depth ts None (Some p) over e = item_read depth ts p.1 p.0 over e
+
+pub next_turn : (depth : ℕ) (ts : List Token) → next_items depth ts ≡ turn depth (after_end_array ts) (next_value depth ts)
+next_turn depth ts = turned depth ts (after_end_array ts) (next_value depth ts) refl refl
+
 -- an item where no bracket closes the list
 abbrev pub GoesOn : List Token → List Token → Type 0
 GoesOn ts s = (after_end_array ts ≡ None) × (s ≡ ts)

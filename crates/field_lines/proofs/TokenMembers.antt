@@ -23,6 +23,20 @@ use Rattle.value_tokens.specs.Presence.{get_member-put_at, Has, kept, has_new, h
 apart : (k l : Text) → (k ≡ l → ⊥) → bytes_eq k l ≡ false
 apart k l other = false_from_ne_true (bytes_eq k l) (λ e. other ((bytes_eq-Decides k l).0 e))
 
+-- what the key that is next leaves
+abbrev pub turn : ℕ → Members → Option (Option Text × List Token) → Option (Members × List Token)
+turn depth found None = None
+turn depth found (Some (None, s)) = Some (found, s)
+turn depth found (Some (Some k, s)) = next_after depth found k s
+
+turned : (depth : ℕ) (found : Members) (ts : List Token) (o : Option (Option Text × List Token)) → read_key ts ≡ o → next_members depth found ts ≡ turn depth found o
+turned depth found ts None e = key_refused depth found ts e
+turned depth found ts (Some (None, s)) e = members_over depth found ts s e
+turned depth found ts (Some (Some k, s)) e = named depth found k ts s e
+
+pub next_turn : (depth : ℕ) (found : Members) (ts : List Token) → next_members depth found ts ≡ turn depth found (read_key ts)
+next_turn depth found ts = turned depth found ts (read_key ts) refl
+
 -- ---- the parts of a field
 
 at_first : (r : Ordering) (d o : Option Data) → match_ordering r o d o ≡ cond (is_eq r) d o

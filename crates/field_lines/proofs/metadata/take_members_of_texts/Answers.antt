@@ -4,13 +4,6 @@ use Rattle.field_lines.proofs.TokenTexts.{texts_go_on, texts_end, slots_instead,
 use Rattle.value_tokens.specs.Turns.{key_refused, member_refused}
 use Rattle.field_lines.proofs.metadata.take_members_of_texts.Goals as goal
 
-pub returns-in_err-name-clause-text : goal.returns-in_err-name-clause-text
-returns-in_err-name-clause-text c refused = c.texts.invariant.decides ∙ key_refused _ _ _ c.in_err-name.ensures.value
-
-pub returns-in_err-text-clause-text : goal.returns-in_err-text-clause-text
-returns-in_err-text-clause-text c refused =
-    c.texts.invariant.decides ∙ member_refused _ _ _ _ _ (rw c.in-Some.is at c.in_ok-name.ensures.value) (c.read_text.ensures.text (grind arith))
-
 pub texts-preserved : goal.texts-preserved
 texts-preserved c =
     texts_go_on c.in_ok-key.key c.in-Some-2.text c.texts.invariant (rw c.in-Some.is at c.in_ok-name.ensures.value) (rw c.in-Some-2.is at c.in_ok-text.ensures.ok)

@@ -6,13 +6,6 @@ use Rattle.field_lines.proofs.metadata.take_slots.Goals as goal
 pub slots-init : goal.slots-init
 slots-init c = record { goes_on = λ found same. (found, refl, same); fewer = omega arith }
 
-pub returns-in_err-name-clause-text : goal.returns-in_err-name-clause-text
-returns-in_err-name-clause-text c refused = slots_refused c.slots.invariant (λ more. key_refused _ more _ c.in_err-name.ensures.value)
-
-pub returns-in_err-text-clause-text : goal.returns-in_err-text-clause-text
-returns-in_err-text-clause-text c refused =
-    slots_refused c.slots.invariant (λ more. member_refused _ more _ _ _ (rw c.in-Some.is at c.in_ok-name.ensures.value) (c.read_text.ensures.text (grind arith)))
-
 pub slots-preserved : goal.slots-preserved
 slots-preserved c =
     slots_go_on c.slots.invariant c.in_ok-key.key c.in_ok-text.text (rw c.in-Some.is at c.in_ok-name.ensures.value) c.in_ok-text.ensures.ok (search rules) c.in_ok-insert.ensures.entries
