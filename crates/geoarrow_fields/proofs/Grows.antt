@@ -1,13 +1,19 @@
 -- What a writer holds grows, over plain variables.
-use Rattle.std.proofs.Common.{◌≡◌, ℕ, List, [], ◌∷◌, ◌++◌, ◌-◌, length, take, drop, take-append-drop, Option, refl, sym, ap, ◌∙◌, subst, append_assoc, append-nil}
+use Rattle.std.proofs.Common.{◌≡◌, ℕ, List, [], ◌∷◌, ◌++◌, ◌-◌, length, take, drop, take-append-drop, Option, Result, Ok, Err, IfErr, refl, sym, ap, ◌∙◌, subst, append_assoc, append-nil}
 use Rattle.std.proofs.lemmas.List.{take_rest}
 use Rattle.std.proofs.KnownBytes.{Appends-trans}
 use Rattle.std.specs.Io.KnownBytes.{Appends}
+use Rattle.std.specs.Result.{IsErrAnd}
 use Rattle.geoarrow_fields.specs.declared.Command.{Command}
 use Rattle.geoarrow_fields.specs.Lines.{Bytes, line_feed}
 use Rattle.geoarrow_fields.specs.Answer.{Answers}
 use Rattle.geoarrow_fields.specs.Output.{Answered}
 use Rattle.geoarrow_fields.specs.Progress.{AppendsSome, FrontOf}
+
+-- what follows from a fault that is handed on
+pub handed_on : {T E R : Type 0} {Q : E → Type 0} (r : Result T E) (x : E) → IsErrAnd r Q → ((e : E) → Q e → e ≡ x → R) → IfErr r (λ e. e ≡ x → R)
+handed_on (Ok _) x is f = absurd is
+handed_on (Err e) x is f = f e is
 
 -- more output after output
 pub appends_after : (First More Both : Bytes → Type 0) (old mid new : Option Bytes) → ((a b : Bytes) → First a → More b → Both (a ++ b))

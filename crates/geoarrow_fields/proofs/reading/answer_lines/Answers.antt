@@ -2,13 +2,13 @@ use Rattle.std.proofs.Common.{◌≡◌, ◌<◌, ◌⊎◌, inl, inr, length, t
 use Rattle.std.proofs.KnownBytes.{Appends-nil, Appends-kept, Consumes-nil, Consumes-kept}
 use Rattle.std.proofs.lemmas.Grind.{common_steps}
 use Rattle.std.proofs.lemmas.List.{nil_from_length}
-use Rattle.std.proofs.lemmas.Result.{err_from_is_err_and, on_ok_weaker, IfErr-weaker}
+use Rattle.std.proofs.lemmas.Result.{on_ok_weaker, IfErr-weaker}
 use Rattle.std.specs.Io.KnownBytes.{Keeps}
 use Rattle.geoarrow_fields.specs.declared.output.Fault.TheVariants.{Memory, Output}
 use Rattle.geoarrow_fields.specs.Lines.{lines_of, IsPastLimit, IsLine}
 use Rattle.geoarrow_fields.specs.Output.{Answered}
 use Rattle.geoarrow_fields.specs.Progress.{AppendsSome, FrontOf}
-use Rattle.geoarrow_fields.proofs.Grows.{answered_none}
+use Rattle.geoarrow_fields.proofs.Grows.{handed_on, answered_none}
 use Rattle.geoarrow_fields.proofs.Limits.{begun_inside}
 use Rattle.geoarrow_fields.proofs.Splits.{lines_of-last}
 use Rattle.geoarrow_fields.proofs.Steps.{none_begun}
@@ -17,8 +17,7 @@ use Rattle.geoarrow_fields.proofs.reading.answer_lines.Goals as goal
 
 pub returns-in_err-chunk-clause-memory : goal.returns-in_err-chunk-clause-memory
 returns-in_err-chunk-clause-memory g c =
-    let p = err_from_is_err_and c.from_residual.result c.from_residual.ensures.1 in
-    rw p.1 (λ _. way_stops _ _ _ _ _ _ _ (way_starts c.args.command [] _ _ refl) _ _ (λ n l. ¬ IsPastLimit n l)
+    handed_on _ _ c.from_residual.ensures.1 (λ _ _ _. way_stops _ _ _ _ _ _ _ (way_starts c.args.command [] _ _ refl) _ _ (λ n l. ¬ IsPastLimit n l)
     (begun_inside 0 [] (λ some. absurd (omega arith)) (omega arith)) (Consumes-nil _) (Appends-nil _))
 
 pub loop-begun-init : goal.loop-begun-init
@@ -27,8 +26,7 @@ loop-begun-init g c =
 
 pub returns-in_err-n-clause-input : goal.returns-in_err-n-clause-input
 returns-in_err-n-clause-input g c =
-    let p = err_from_is_err_and c.from_residual-in_err-n.result c.from_residual-in_err-n.ensures.1 in
-    rw p.1 (λ _. way_stops _ _ _ _ _ _ _ c.loop-begun.invariant.2 _ _ (λ n l. IsPastLimit n l ⊎ IsLine l) (inr c.loop-begun.invariant.1.line)
+    handed_on _ _ c.from_residual-in_err-n.ensures.1 (λ _ _ _. way_stops _ _ _ _ _ _ _ c.loop-begun.invariant.2 _ _ (λ n l. IsPastLimit n l ⊎ IsLine l) (inr c.loop-begun.invariant.1.line)
     (Consumes-kept _ _ _ _ (Consumes-nil _) c.in_err-n.ensures.err.1) (Appends-nil _))
 
 pub returns-then-is_empty-clause-done : goal.returns-then-is_empty-clause-done
@@ -68,21 +66,17 @@ returns-then-n-eq0-clause-output g c =
 pub returns-in_err-count-clause-input : goal.returns-in_err-count-clause-input
 returns-in_err-count-clause-input g c =
     let bytes = rw (← c.deref.ensures.value) at c.in_ok-n.ensures.bytes in
-    let p = err_from_is_err_and c.from_residual-in_err-count.result c.from_residual-in_err-count.ensures.1 in
-    rw (p.1, p.2) (λ e. way_ends _ _ _ _ _ _ _ c.loop-begun.invariant.2 _ _ _ bytes IsPastLimit _ (λ _ _ past. inl past) (c.in_err-count.ensures.input e))
+    handed_on _ _ c.from_residual-in_err-count.ensures.1 (λ _ is e. way_ends _ _ _ _ _ _ _ c.loop-begun.invariant.2 _ _ _ bytes IsPastLimit _ (λ _ _ past. inl past) (c.in_err-count.ensures.input (sym is ∙ e)))
 
 pub returns-in_err-count-clause-memory : goal.returns-in_err-count-clause-memory
 returns-in_err-count-clause-memory g c =
     let bytes = rw (← c.deref.ensures.value) at c.in_ok-n.ensures.bytes in
-    let p = err_from_is_err_and c.from_residual-in_err-count.result c.from_residual-in_err-count.ensures.1 in
-    rw (p.1, p.2)
-    (λ e. way_ends _ _ _ _ _ _ _ c.loop-begun.invariant.2 _ _ _ bytes (λ n l. ¬ IsPastLimit n l) _ (λ _ _ inside. inside) (c.in_err-count.ensures.memory e))
+    handed_on _ _ c.from_residual-in_err-count.ensures.1 (λ _ is e. way_ends _ _ _ _ _ _ _ c.loop-begun.invariant.2 _ _ _ bytes (λ n l. ¬ IsPastLimit n l) _ (λ _ _ inside. inside) (c.in_err-count.ensures.memory (sym is ∙ e)))
 
 pub returns-in_err-count-clause-output : goal.returns-in_err-count-clause-output
 returns-in_err-count-clause-output g c =
     let bytes = rw (← c.deref.ensures.value) at c.in_ok-n.ensures.bytes in
-    let p = err_from_is_err_and c.from_residual-in_err-count.result c.from_residual-in_err-count.ensures.1 in
-    rw (p.1, p.2) (λ e. way_breaks_off _ _ _ _ _ _ _ c.loop-begun.invariant.2 _ _ _ bytes (c.in_err-count.ensures.output e))
+    handed_on _ _ c.from_residual-in_err-count.ensures.1 (λ _ is e. way_breaks_off _ _ _ _ _ _ _ c.loop-begun.invariant.2 _ _ _ bytes (c.in_err-count.ensures.output (sym is ∙ e)))
 
 pub loop-begun-preserved : goal.loop-begun-preserved
 loop-begun-preserved g c =
