@@ -38,9 +38,6 @@ item_taken depth ts {s} {r} read going =
     let value = ap (next_value depth) (sym going.1) ∙ read.1 in
     (read.0, item_read depth ts r read.0 going.0 value, read.2, value)
 
-pub item_not_taken : (depth : ℕ) (ts : List Token) {s : List Token} → next_value depth s ≡ None → GoesOn ts s → next_items depth ts ≡ None
-item_not_taken depth ts none going = item_refused depth ts going.0 (ap (next_value depth) (sym going.1) ∙ none)
-
 -- ---- what the items so far made stands before what those that are left make
 
 abbrev pub before : {X T : Type 0} → (X → T → T) → List X → T → T
@@ -86,12 +83,6 @@ module _ {X T : Type 0} {step : X → T → T} {whole : Items → Option T} {dep
     way.decides ∙ ap (parse_map way.front) (items_over depth left r over),
     sym (way.items no_items ∙ ap (option_map (before step made)) none ∙ ap Some (before_all step trees more made)),
   )
-
-  pub taken_refused : {s : List Token} → next_value depth s ≡ None → GoesOn left s → next_items depth all ≡ None
-  taken_refused none going = way.decides ∙ ap (parse_map way.front) (item_not_taken depth left none going)
-
-  pub taken_cut : {A : Type 0} {f : Data → A} {s r : List Token} {o : A} → Reads f depth s o r → next_items depth r ≡ None → GoesOn left s → next_items depth all ≡ None
-  taken_cut read none going = let one = item_taken depth left read going in way.decides ∙ ap (parse_map way.front) (one.1 ∙ ap (parse_map (item one.0)) none)
 
   -- with how an item is read before the others
   module _ (item_of : Data → Option X) (law : (d : Data) (ds : Items) → whole (item d ds) ≡ option_and_then (λ x. option_map (step x) (whole ds)) (item_of d)) where

@@ -16,7 +16,7 @@ use Rattle.arrow_values.specs.Tree.{Text, Metadata, Tree, FieldTree}
 use Rattle.field_lines.specs.FieldOfValue.{under, metadata_of_value, field_from, field_of_value, type_in, type_of_value, are_keys}
 use Rattle.field_lines.specs.Keys.{only_at, fixed_size_list_at, union_at}
 use Rattle.value_tokens.specs.Next.{next_value, next_members, ReadsMembers, next_after, after, Reads, ReadsAfter}
-use Rattle.value_tokens.specs.Turns.{member_read, members_over, value_takes, key_refused, after_some, taken, named}
+use Rattle.value_tokens.specs.Turns.{no_value, object_too_deep, value-object, member_read, members_over, value_takes, key_refused, after_some, taken, named}
 use Rattle.value_tokens.specs.Presence.{get_member-put_at, Has, kept, has_new, has_taken}
 
 -- a text that is another is told apart
@@ -98,6 +98,9 @@ parts_end {depth} {all} {left} {r} {name} {nullable} {tree} {metadata} way is ov
     let ms = way.found in
     (ms, way.decides ∙ members_over depth ms left r over, rw (is, way.at_name, way.at_nullable, way.at_type, way.at_metadata, type_in-get ms))
 
+-- how a type begins
+pub ruleset type_begins = (no_value, object_too_deep, value-object)
+
 -- what is no object and no text stands for no type
 pub no_type : (d : Data) → as_object d ≡ None → as_str d ≡ None → None ≡ type_of_value d
 no_type (string s) e f = cc
@@ -126,10 +129,6 @@ skipped depth found k s {u} {r} passed rest =
     let d = after_some (next_value depth s) u passed in
     let ms = after_some (next_members depth (put k d.0 found) u) r (rest (put k d.0 found)) in
     (ms.0, taken depth found k s u d.0 d.1 ∙ ms.1, kept depth k (put k d.0 found) ms.0 u r ms.1 (has_new k d.0 found))
-
--- a member that is skipped, after which the rest is refused
-pub members_cut : (depth : ℕ) (found : Members) (ts : List Token) {k : Text} {s r : List Token} → read_key ts ≡ Some (Some k, s) → after (next_value depth s) ≡ Some r → ((more : Members) → next_members depth more r ≡ None) → next_members depth found ts ≡ None
-members_cut depth found ts {k} {s} {r} came passed refused = let d = after_some (next_value depth s) r passed in member_read depth found k ts s r d.0 came d.1 ∙ refused (put k d.0 found)
 
 -- ---- one key
 
@@ -178,24 +177,15 @@ abbrev pub with_key : Text → Option Data → Members → Members
 with_key k None ms = ms
 with_key k (Some d) ms = member k d ms
 
--- what is still to come: the value of a key that is taken, or nothing
-abbrev pub pending : ℕ → Members → Option Text → List Token → Option (Members × List Token)
-pending depth found (Some k) ts = next_after depth found k ts
-pending depth found None ts = Some (found, ts)
-
 abbrev pub two : Text → Text → Option Data → Option Data → Members
 two k l a b = with_key k a (with_key l b no_members)
 
 pub record AreTwoUnderWay {A B : Type 0} (f : Data → Option A) (g : Data → Option B) (k l : Text) (depth : _) (first : Text) (all left : List Token) (next : Option Text) (x : Option A) (y : Option B) : Type 0 where
   pub at_first : Option Data
   pub at_second : Option Data
-  pub decides : next_after depth no_members first all ≡ pending depth (two k l at_first at_second) next left
+  pub decides : next_after depth no_members first all ≡ turn depth (two k l at_first at_second) (Some (next, left))
   pub answers : (x ≡ option_and_then f at_first) × (y ≡ option_and_then g at_second)
   pub fewer : (length left ≤ length all) × (next ≡ None → length left < length all)
-
-next_pending : (depth : _) (found : Members) (next : Option Text) (ts s : List Token) → read_key ts ≡ Some (next, s) → next_members depth found ts ≡ pending depth found next s
-next_pending depth found None ts s e = members_over depth found ts s e
-next_pending depth found (Some k) ts s e = named depth found k ts s e
 
 -- keys that stand in this order
 abbrev pub AreOrdered : Text → Text → Type 0
@@ -217,7 +207,7 @@ put_second k l d (Some c) b h = rw h.1 (ap (member k c) (put_alone l d b))
 module _ {A B : Type 0} {f : Data → Option A} {g : Data → Option B} {k l : Text} {depth : ℕ} {first : Text} {all left : List Token} {now : Option Text} {x : Option A} {y : Option B}
     (before : AreTwoUnderWay f g k l depth first all left now x y) {q : Text} (came : now ≡ Some q) where
   next_is : {C : Type 0} {h : Data → C} {o : C} {r : List Token} (read : Reads h depth left o r) → next_after depth no_members first all ≡ next_members depth (put q read.0 (two k l before.at_first before.at_second)) r
-  next_is {r = r} read = before.decides ∙ ap (λ n. pending depth (two k l before.at_first before.at_second) n left) came ∙ taken depth (two k l before.at_first before.at_second) q left r read.0 read.1
+  next_is {r = r} read = before.decides ∙ ap (λ n. turn depth (two k l before.at_first before.at_second) (Some (n, left))) came ∙ taken depth (two k l before.at_first before.at_second) q left r read.0 read.1
 
   took : {C : Type 0} {h : Data → C} {o : C} {r s : List Token} {next : Option Text} {new_x : _} {new_y : _} (a b : _) (read : Reads h depth left o r)
       → read_key r ≡ Some (next, s) → put q read.0 (two k l before.at_first before.at_second) ≡ two k l a b
@@ -228,13 +218,10 @@ module _ {A B : Type 0} {f : Data → Option A} {g : Data → Option B} {k l : T
       record {
         at_first = a;
         at_second = b;
-        decides = next_is read ∙ ap (λ ms. next_members depth ms r) same ∙ next_pending depth _ next r s e;
+        decides = next_is read ∙ ap (λ ms. next_members depth ms r) same ∙ next_turn depth _ r ∙ ap (turn depth _) e;
         answers = answers;
         fewer = (omega (arith, before.fewer.0), λ _. omega (arith, before.fewer.0));
       }
-
-  pub two_refused : {C : Type 0} {h : Data → C} {o : C} {r : List Token} → Reads h depth left o r → read_key r ≡ None → next_after depth no_members first all ≡ None
-  two_refused read none = next_is read ∙ key_refused _ _ _ none
 
   -- a third key beside the two
   pub two_spoiled : {u r : List Token} {at : Members → Option Tree} → after (next_value depth left) ≡ Some u → ((found : Members) → after (next_members depth found u) ≡ Some r)
@@ -242,7 +229,7 @@ module _ {A B : Type 0} {f : Data → Option A} {g : Data → Option B} {k l : T
   two_spoiled passed rest none =
       let found = two k l before.at_first before.at_second in
       let ms = skipped depth found q left passed rest in
-      (ms.0, before.decides ∙ ap (λ n. pending depth found n left) came ∙ ms.1, none ms.0 ms.2)
+      (ms.0, before.decides ∙ ap (λ n. turn depth found (Some (n, left))) came ∙ ms.1, none ms.0 ms.2)
 
 module _ {A B : Type 0} {f : Data → Option A} {g : Data → Option B} {k l : Text} {depth : ℕ} {first : Text} {all left : List Token} {now : Option Text} {x : Option A} {y : Option B}
     (ordered : AreOrdered k l) (way : AreTwoUnderWay f g k l depth first all left now x y) {r s : List Token} {next : Option Text} where

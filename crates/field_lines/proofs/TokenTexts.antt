@@ -90,9 +90,6 @@ module _ {depth : ℕ} {all left : List Token} {start made : SlotEntries} (way :
         fewer = omega (arith, way.fewer);
       }
 
-  pub slots_refused : ((more : Members) → next_members depth more left ≡ None) → (found : Members) → slots_in found ≡ slots_of start → next_members depth found all ≡ None
-  slots_refused refused found same = let more = way.goes_on found same in more.1 ∙ refused more.0
-
   pub slots_end : {r : List Token} {o : Option Metadata} → read_key left ≡ Some (None, r) → o ≡ texts_kept (slots_of made) → (found : Members) → slots_in found ≡ slots_of start → ReadsMembers texts_in depth found all o r
   slots_end {r} {o} over is found same =
       let more = way.goes_on found same in

@@ -134,6 +134,7 @@ fn named_field(
 
 /// The type that comes next.
 #[cycle(take)]
+#[tactic(auto, using(crate::proofs::TokenMembers::type_begins))]
 #[inline]
 fn take_type(
     alloc: Global,

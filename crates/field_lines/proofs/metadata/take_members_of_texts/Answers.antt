@@ -1,7 +1,6 @@
 use Rattle.std.proofs.Common.{arith, rules, ◌∙◌}
 use Rattle.std.proofs.lemmas.Result.{IfOk-weaker}
 use Rattle.field_lines.proofs.TokenTexts.{texts_go_on, texts_end, slots_instead, instead_read}
-use Rattle.value_tokens.specs.Turns.{key_refused, member_refused}
 use Rattle.field_lines.proofs.metadata.take_members_of_texts.Goals as goal
 
 pub texts-preserved : goal.texts-preserved

@@ -1,6 +1,5 @@
 use Rattle.std.proofs.Common.{arith, refl, rules}
-use Rattle.field_lines.proofs.TokenTexts.{slots_go_on, slots_refused, slots_end}
-use Rattle.value_tokens.specs.Turns.{key_refused, member_refused}
+use Rattle.field_lines.proofs.TokenTexts.{slots_go_on, slots_end}
 use Rattle.field_lines.proofs.metadata.take_slots.Goals as goal
 
 pub slots-init : goal.slots-init

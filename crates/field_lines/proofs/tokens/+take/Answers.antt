@@ -1,4 +1,4 @@
-use Rattle.std.proofs.Common.{rules, arith, ◌≡◌, ◌-◌, [], ◌∷◌, ◌++◌, length, Some, None, IsTrue, option_map, option_and_then, subst₂, refl, sym, ap, ap₂, ◌∙◌}
+use Rattle.std.proofs.Common.{rules, arith, ◌≡◌, ◌-◌, [], ◌∷◌, ◌++◌, Some, None, IsTrue, option_map, option_and_then, subst₂, refl, sym, ap, ap₂, ◌∙◌}
 use Rattle.std.proofs.lemmas.Int.{to_z-of_z}
 use Rattle.std.proofs.lemmas.Result.{IfOk-weaker}
 use Rattle.std.specs.List.{zip}
@@ -12,11 +12,11 @@ use Rattle.arrow_values.specs.View.{texts_of, field_trees, member_trees}
 use Rattle.field_lines.specs.FieldOfValue.{field_of_value, type_of_value, list_of, large_list_of}
 use Rattle.field_lines.specs.Keys.{pair_read}
 use Rattle.field_lines.specs.Steps.{AreMemberParts}
-use Rattle.field_lines.proofs.TokenMembers.{part_other, parts_go_on, parts_end, no_type, members_cut, only_go_on, only_end, only_spoiled, first_read, second_read, two_refused, two_spoiled, no_fixed_size_list, no_union, as_fixed_size_list, as_union, taken_as, only_taken, none_taken_as}
-use Rattle.field_lines.proofs.TokenItems.{item_taken, item_not_taken, taken_start, taken_go_on, taken_end, taken_refused, taken_cut, taken_spoiled, members_in-pair, zip_push, parts_push}
+use Rattle.field_lines.proofs.TokenMembers.{part_other, parts_go_on, parts_end, no_type, only_go_on, only_end, only_spoiled, first_read, second_read, two_spoiled, no_fixed_size_list, no_union, as_fixed_size_list, as_union, taken_as, only_taken, none_taken_as}
+use Rattle.field_lines.proofs.TokenItems.{item_taken, taken_start, taken_go_on, taken_end, taken_spoiled, members_in-pair, zip_push, parts_push}
 use Rattle.value_tokens.specs.Next.{next_value}
-use Rattle.value_tokens.specs.Turns.{no_value, object_too_deep, value-object, key_refused, member_refused, items_over, members_over, after_some, named}
-use Rattle.value_tokens.specs.Beginnings.{passed, next_string, no_object, no_text, object_read, object_refused}
+use Rattle.value_tokens.specs.Turns.{value-object, items_over, members_over, after_some}
+use Rattle.value_tokens.specs.Beginnings.{passed, next_string, no_object, no_text, object_read}
 use Rattle.field_lines.proofs.tokens.+take.Goals as goal
 
 pub take_fixed_size_list-keys-preserved : goal.take_fixed_size_list-keys-preserved
@@ -202,40 +202,21 @@ take_two-returns-clause-ok t c =
     let pair = ap₂ (λ i f. option_and_then (λ id. option_map (λ g. (id, g)) f) i) one.2 two.2 in
     (item one.0 (item two.0 no_items), one.1 ∙ ap (parse_map (item one.0)) over, c.pair_of.ensures.pair ∙ pair)
 
-pub take_type-returns-else-depth-eq0 : goal.take_type-returns-else-depth-eq0
-take_type-returns-else-depth-eq0 t c =
-    let rest = c.next.new.self in
-    let first : c.args.reader.now ≡ token_of c.in_ok-token.token ∷ rest = grind arith in
-    let opened = ap (next_value c.args.depth) (first ∙ ap (λ k. token_of k ∷ rest) c.in-BeginObject.is) ∙ value-object c.args.depth rest (omega arith) in
-    record {
-      ok = IfOk-weaker _ _ _ (λ o. object_read type_of_value _ (c.args.depth - 1) _ rest c.take_keys.new.reader _ opened) c.take_keys.ensures.ok;
-      shorter = search rules;
-      text = λ refused. object_refused c.args.depth (c.args.depth - 1) c.args.reader.now rest opened (c.take_keys.ensures.text refused);
-    }
-
 pub take_type-returns-in-String-clause-ok : goal.take_type-returns-in-String-clause-ok
 take_type-returns-in-String-clause-ok t c =
     let first : c.args.reader.now ≡ token_of c.in_ok-token.token ∷ c.next.new.self = grind arith in
     let is : c.args.reader.now ≡ Token.string c.in-String.word.now ∷ c.next.new.self = grind (arith, first) in
     (string c.in-String.word.now, ap (next_value c.args.depth) is ∙ next_string c.args.depth c.in-String.word.now c.next.new.self, c.plain_named.ensures)
 
-pub take_type-returns-in_err-token-clause-text : goal.take_type-returns-in_err-token-clause-text
-take_type-returns-in_err-token-clause-text t c refused = no_value c.args.depth c.args.reader.now (grind arith)
+pub take_type-returns-else-depth-eq0-clause-ok : goal.take_type-returns-else-depth-eq0-clause-ok
+take_type-returns-else-depth-eq0-clause-ok t c =
+    let rest = c.next.new.self in
+    let first : c.args.reader.now ≡ token_of c.in_ok-token.token ∷ rest = grind arith in
+    let opened = ap (next_value c.args.depth) (first ∙ ap (λ k. token_of k ∷ rest) c.in-BeginObject.is) ∙ value-object c.args.depth rest (omega arith) in
+    IfOk-weaker _ _ _ (λ o. object_read type_of_value _ (c.args.depth - 1) _ rest c.take_keys.new.reader _ opened) c.take_keys.ensures.ok
 
-pub take_type-returns-in_ok-skip_rest-in_default : goal.take_type-returns-in_ok-skip_rest-in_default
-take_type-returns-in_ok-skip_rest-in_default t c =
+pub take_type-returns-in_ok-skip_rest-in_default-clause-ok : goal.take_type-returns-in_ok-skip_rest-in_default-clause-ok
+take_type-returns-in_ok-skip_rest-in_default-clause-ok t c =
     let first : c.args.reader.now ≡ token_of c.in_ok-token.token ∷ c.next.new.self = grind arith in
-    let less = c.in_ok-skip_rest-in_default.ensures.shorter in
-    let far : length c.args.reader.now ≡ length (token_of c.in_ok-token.token ∷ c.next.new.self) = ap length first in
     let d = passed c.args.depth c.in_ok-token.token c.args.reader.now c.next.new.self c.skip_rest.new.reader first c.in_ok-skip_rest-in_default.ensures.ok in
-    record {
-      ok = (d.0, d.1, no_type d.0 (no_object c.in_ok-token.token d.0 d.2 c.in_default.not-BeginObject) (no_text c.in_ok-token.token d.0 d.2 c.in_default.not-String));
-      shorter = omega arith;
-      text = λ never. cc;
-    }
-
-pub take_type-returns-then-depth-eq0-clause-text : goal.take_type-returns-then-depth-eq0-clause-text
-take_type-returns-then-depth-eq0-clause-text t c refused =
-    let first : c.args.reader.now ≡ token_of c.in_ok-token.token ∷ c.next.new.self = grind arith in
-    let none : c.args.depth ≡ 0 = omega arith in
-    ap₂ next_value none (first ∙ ap (λ k. token_of k ∷ c.next.new.self) c.in-BeginObject.is) ∙ object_too_deep c.next.new.self
+    (d.0, d.1, no_type d.0 (no_object c.in_ok-token.token d.0 d.2 c.in_default.not-BeginObject) (no_text c.in_ok-token.token d.0 d.2 c.in_default.not-String))
