@@ -15,6 +15,11 @@ pub handed_on : {T E R : Type 0} {Q : E → Type 0} (r : Result T E) (x : E) →
 handed_on (Ok _) x is f = absurd is
 handed_on (Err e) x is f = f e is
 
+-- what follows from what follows from a fault
+pub on_fault : {T E R S : Type 0} (r : Result T E) (x : E) → IfErr r (λ e. e ≡ x → R) → (R → S) → IfErr r (λ e. e ≡ x → S)
+on_fault (Ok _) x h f = tt
+on_fault (Err e) x h f = λ is. f (h is)
+
 -- more output after output
 pub appends_after : (First More Both : Bytes → Type 0) (old mid new : Option Bytes) → ((a b : Bytes) → First a → More b → Both (a ++ b))
     → AppendsSome First old mid → AppendsSome More mid new → AppendsSome Both old new
