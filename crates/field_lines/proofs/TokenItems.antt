@@ -25,8 +25,8 @@ turned depth ts (Some r) o over e = items_over depth ts r over
 turned depth ts None None over e = item_refused depth ts over e
 turned depth ts None (Some p) over e = item_read depth ts p.1 p.0 over e
 
-pub next_turn : (depth : ℕ) (ts : List Token) → next_items depth ts ≡ turn depth (after_end_array ts) (next_value depth ts)
-next_turn depth ts = turned depth ts (after_end_array ts) (next_value depth ts) refl refl
+pub item_turn : (depth : ℕ) (ts : List Token) → next_items depth ts ≡ turn depth (after_end_array ts) (next_value depth ts)
+item_turn depth ts = turned depth ts (after_end_array ts) (next_value depth ts) refl refl
 
 -- an item where no bracket closes the list
 abbrev pub GoesOn : List Token → List Token → Type 0

@@ -14,7 +14,7 @@ use Rattle.serde_json.specs.Data.{Data, string, object, Members, no_members, mem
 use Rattle.serde_json.specs.Find.{get_member, as_str, as_bool, as_object}
 use Rattle.arrow_values.specs.Tree.{Text, Metadata, Tree, FieldTree}
 use Rattle.field_lines.specs.FieldOfValue.{under, metadata_of_value, field_from, field_of_value, type_in, type_of_value, are_keys}
-use Rattle.field_lines.specs.Keys.{only_at, fixed_size_list_at, union_at}
+use Rattle.field_lines.specs.Keys.{only_at, pair_at, fixed_size_list_at, union_at}
 use Rattle.value_tokens.specs.Next.{next_value, next_members, ReadsMembers, next_after, after, Reads, ReadsAfter}
 use Rattle.value_tokens.specs.Turns.{no_value, object_too_deep, value-object, member_read, members_over, value_takes, key_refused, after_some, taken, named}
 use Rattle.value_tokens.specs.Presence.{get_member-put_at, Has, kept, has_new, has_taken}
@@ -34,8 +34,8 @@ turned depth found ts None e = key_refused depth found ts e
 turned depth found ts (Some (None, s)) e = members_over depth found ts s e
 turned depth found ts (Some (Some k, s)) e = named depth found k ts s e
 
-pub next_turn : (depth : ℕ) (found : Members) (ts : List Token) → next_members depth found ts ≡ turn depth found (read_key ts)
-next_turn depth found ts = turned depth found ts (read_key ts) refl
+pub member_turn : (depth : ℕ) (found : Members) (ts : List Token) → next_members depth found ts ≡ turn depth found (read_key ts)
+member_turn depth found ts = turned depth found ts (read_key ts) refl
 
 -- ---- the parts of a field
 
@@ -206,9 +206,6 @@ put_second k l d (Some c) b h = rw h.1 (ap (member k c) (put_alone l d b))
 
 module _ {A B : Type 0} {f : Data → Option A} {g : Data → Option B} {k l : Text} {depth : ℕ} {first : Text} {all left : List Token} {now : Option Text} {x : Option A} {y : Option B}
     (before : AreTwoUnderWay f g k l depth first all left now x y) {q : Text} (came : now ≡ Some q) where
-  next_is : {C : Type 0} {h : Data → C} {o : C} {r : List Token} (read : Reads h depth left o r) → next_after depth no_members first all ≡ next_members depth (put q read.0 (two k l before.at_first before.at_second)) r
-  next_is {r = r} read = before.decides ∙ ap (λ n. turn depth (two k l before.at_first before.at_second) (Some (n, left))) came ∙ taken depth (two k l before.at_first before.at_second) q left r read.0 read.1
-
   took : {C : Type 0} {h : Data → C} {o : C} {r s : List Token} {next : Option Text} {new_x : _} {new_y : _} (a b : _) (read : Reads h depth left o r)
       → read_key r ≡ Some (next, s) → put q read.0 (two k l before.at_first before.at_second) ≡ two k l a b
       → (new_x ≡ option_and_then f a) × (new_y ≡ option_and_then g b) → AreTwoUnderWay f g k l depth first all s next new_x new_y
@@ -218,7 +215,8 @@ module _ {A B : Type 0} {f : Data → Option A} {g : Data → Option B} {k l : T
       record {
         at_first = a;
         at_second = b;
-        decides = next_is read ∙ ap (λ ms. next_members depth ms r) same ∙ next_turn depth _ r ∙ ap (turn depth _) e;
+        decides = before.decides ∙ ap (λ n. turn depth (two k l before.at_first before.at_second) (Some (n, left))) came
+            ∙ taken depth _ q left r read.0 read.1 ∙ ap (λ ms. next_members depth ms r) same ∙ member_turn depth _ r ∙ ap (turn depth _) e;
         answers = answers;
         fewer = (omega (arith, before.fewer.0), λ _. omega (arith, before.fewer.0));
       }
@@ -244,14 +242,9 @@ is_no_pair : (q k l m n : Text) → (bytes_eq q m ≡ false) × (bytes_eq q n �
 is_no_pair q k l m n none (inl is) = and_left (bytes_eq k m) (bytes_eq l n) (rw (← is) none.0)
 is_no_pair q k l m n none (inr is) = and_right (bytes_eq k m) (bytes_eq l n) (rw (← is) none.1)
 
-pub no_fixed_size_list : (u : Text) (ms : Members) → (u ≡ codes "fixed_size_list" → ⊥) → (u ≡ codes "size" → ⊥) → Has u ms → None ≡ fixed_size_list_at ms
-no_fixed_size_list u (member k d (member l e no_members)) a b h =
-    rw (is_no_pair u k l (codes "fixed_size_list") (codes "size") (apart u _ a, apart u _ b) (either_key u k l d e h))
-no_fixed_size_list u _ a b h = refl
-
-pub no_union : (u : Text) (ms : Members) → (u ≡ codes "mode" → ⊥) → (u ≡ codes "union" → ⊥) → Has u ms → None ≡ union_at ms
-no_union u (member k d (member l e no_members)) a b h = rw (is_no_pair u k l (codes "mode") (codes "union") (apart u _ a, apart u _ b) (either_key u k l d e h))
-no_union u _ a b h = refl
+pub no_pair : {A : Type 0} (f : Data → Data → Option A) (p q u : Text) (ms : Members) → (u ≡ p → ⊥) → (u ≡ q → ⊥) → Has u ms → None ≡ pair_at f p q ms
+no_pair f p q u (member k d (member l e no_members)) a b h = rw (is_no_pair u k l p q (apart u _ a, apart u _ b) (either_key u k l d e h))
+no_pair f p q u _ a b h = refl
 
 -- ---- the key that comes first says which type it is
 

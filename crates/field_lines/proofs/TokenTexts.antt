@@ -61,7 +61,7 @@ slots_insert [] k t = refl
 slots_insert (e ∷ es) k t = ordered slots_of (string_cmp k e.0) _ _ _ ∙ rw (slots_insert es k t)
 
 -- a slot is put in as the member is
-slot_put : (found : Members) (made new : SlotEntries) (k : Text) (d : Data) (key : String Global) (t : Option (String Global)) → slots_in found ≡ slots_of made → string_bytes key ≡ k → option_map string_bytes t ≡ as_str d
+pub slot_put : (found : Members) (made new : SlotEntries) (k : Text) (d : Data) (key : String Global) (t : Option (String Global)) → slots_in found ≡ slots_of made → string_bytes key ≡ k → option_map string_bytes t ≡ as_str d
     → new ≡ insert_entry string_cmp made key t → slots_in (put k d found) ≡ slots_of new
 slot_put found made new k d key t same copied text is =
     slots_put k d found ∙ rw (same, ← copied, ← text, is) (sym (slots_insert made key t))
@@ -96,23 +96,9 @@ module _ {depth : ℕ} {all left : List Token} {start made : SlotEntries} (way :
       (more.0, more.1 ∙ members_over depth more.0 left r over, is ∙ ap texts_kept (sym more.2) ∙ sym (texts_by_slots more.0))
 
 -- at the first member that is no text the slots take over
-pub record AreSlotsInstead (depth : _) (all left : List Token) (slots : SlotEntries) : Type 0 where
-  pub found : Members
-  pub decides : next_members depth no_members all ≡ next_members depth found left
-  pub same : slots_in found ≡ slots_of slots
-
-pub slots_instead : {depth : ℕ} {all left s r : List Token} {made : Texts} {new : SlotEntries} {k : Text} (slots : SlotEntries) (key : String Global) → AreTextsUnderWay depth all left made
-    → read_key left ≡ Some (Some k, s) → Reads as_str depth s None r → string_bytes key ≡ k → slots_of slots ≡ slots_in (texts_value (texts_of made)) → new ≡ insert_entry string_cmp slots key None
-    → AreSlotsInstead depth all r new
-slots_instead {depth} {all} {left} {s} {r} {made} {new} {k} slots key way named read copied turned is = record {
-  found = put k read.0 (texts_value (texts_of made));
-  decides = way.decides ∙ member_read depth (texts_value (texts_of made)) k left s r read.0 named read.1;
-  same = slot_put (texts_value (texts_of made)) slots new k read.0 key None (sym turned) copied read.2 is;
-}
-
-pub instead_read : {depth : ℕ} {all left r : List Token} {slots : SlotEntries} {o : Option Metadata} → AreSlotsInstead depth all left slots
+pub slots_read : (depth : ℕ) (all left : List Token) (slots : SlotEntries) {r : List Token} {o : Option Metadata} (found : Members) → next_members depth no_members all ≡ next_members depth found left → slots_in found ≡ slots_of slots
     → ((found : Members) → slots_in found ≡ slots_of slots → ReadsMembers texts_in depth found left o r) → ReadsMembers texts_in depth no_members all o r
-instead_read instead read = let ms = read instead.found instead.same in (ms.0, instead.decides ∙ ms.1, ms.2)
+slots_read depth all left slots found decides same read = let ms = read found same in (ms.0, decides ∙ ms.1, ms.2)
 
 -- ---- a loop that puts the entries of one map into another: those so far stand before what is left, and all keys ascend
 

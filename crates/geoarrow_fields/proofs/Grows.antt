@@ -72,7 +72,4 @@ answered_then command last lines output answered =
 pub write_goes_on : (text rest : Bytes) (n : ℕ) (old mid new : Option Bytes) → AppendsSome (λ done. text ≡ done ++ rest) old mid → Appends mid new (take n rest)
     → AppendsSome (λ done. text ≡ done ++ take (length rest - n) (drop n rest)) old new
 write_goes_on text rest n old mid new (done, split, before) more =
-    let moved =
-    split ∙ ap (λ l. done ++ l) (sym (take-append-drop n rest)) ∙ sym (append_assoc done (take n rest) (drop n rest)) ∙ ap (λ l. (done ++ take n rest) ++ l)
-    (sym (take_rest rest n)) in
-    (done ++ take n rest, moved, Appends-trans old mid new done (take n rest) before more)
+    (done ++ take n rest, rw (append_assoc, take_rest, take-append-drop) split, Appends-trans old mid new done (take n rest) before more)

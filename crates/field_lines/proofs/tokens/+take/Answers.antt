@@ -2,9 +2,7 @@ use Rattle.std.proofs.Common.{rules, arith, ◌≡◌, ◌-◌, [], ◌∷◌, �
 use Rattle.std.proofs.lemmas.Int.{to_z-of_z}
 use Rattle.std.proofs.lemmas.Result.{IfOk-weaker}
 use Rattle.std.specs.List.{zip}
-use Rattle.json.specs.Token.{Token}
 use Rattle.json.specs.Json.{parse_map}
-use Rattle.json.specs.Reads.{token_of}
 use Rattle.serde_json.specs.Data.{string, no_items, item, no_members}
 use Rattle.arrow_values.specs.Tree.{struct}
 use Rattle.arrow_values.specs.Union.{is_type_id}
@@ -12,10 +10,9 @@ use Rattle.arrow_values.specs.View.{texts_of, field_trees, member_trees}
 use Rattle.field_lines.specs.FieldOfValue.{field_of_value, type_of_value, list_of, large_list_of}
 use Rattle.field_lines.specs.Keys.{pair_read}
 use Rattle.field_lines.specs.Steps.{AreMemberParts}
-use Rattle.field_lines.proofs.TokenMembers.{part_other, parts_go_on, parts_end, no_type, only_go_on, only_end, only_spoiled, first_read, second_read, two_spoiled, no_fixed_size_list, no_union, as_fixed_size_list, as_union, taken_as, only_taken, none_taken_as}
-use Rattle.field_lines.proofs.TokenItems.{item_taken, taken_start, taken_go_on, taken_end, taken_spoiled, members_in-pair, zip_push, parts_push}
-use Rattle.value_tokens.specs.Next.{next_value}
-use Rattle.value_tokens.specs.Turns.{value-object, items_over, members_over, after_some}
+use Rattle.field_lines.proofs.TokenMembers.{part_other, parts_go_on, parts_end, no_type, only_go_on, only_end, only_spoiled, first_read, second_read, two_spoiled, no_pair, as_fixed_size_list, as_union, taken_as, only_taken, none_taken_as}
+use Rattle.field_lines.proofs.TokenItems.{item_turn, item_taken, taken_start, taken_go_on, taken_end, taken_spoiled, members_in-pair, zip_push, parts_push}
+use Rattle.value_tokens.specs.Turns.{value-object, members_over, after_some}
 use Rattle.value_tokens.specs.Beginnings.{passed, next_string, no_object, no_text, object_read}
 use Rattle.field_lines.proofs.tokens.+take.Goals as goal
 
@@ -30,7 +27,7 @@ take_fixed_size_list-keys-preserved-then-str_eq t c =
 pub take_fixed_size_list-returns-in_default-key-clause-ok : goal.take_fixed_size_list-returns-in_default-key-clause-ok
 take_fixed_size_list-returns-in_default-key-clause-ok t c =
     two_spoiled c.keys.invariant (ap (option_map (λ s. s.now)) c.in-Some.is) c.in_ok-skip_value-in_default-key.ensures.ok c.in_ok-skip_members-in_default-key.ensures.ok
-    (λ ms. no_fixed_size_list _ ms c.in_default-key.not-fixed_size_list c.in_default-key.not-size)
+    (λ ms. no_pair _ _ _ _ ms c.in_default-key.not-fixed_size_list c.in_default-key.not-size)
 
 pub take_union-keys-preserved : goal.take_union-keys-preserved
 take_union-keys-preserved t c =
@@ -43,7 +40,7 @@ take_union-keys-preserved-then-str_eq t c =
 pub take_union-returns-in_default-key-clause-ok : goal.take_union-returns-in_default-key-clause-ok
 take_union-returns-in_default-key-clause-ok t c =
     two_spoiled c.keys.invariant.0 (ap (option_map (λ s. s.now)) c.in-Some.is) c.in_ok-skip_value-in_default-key.ensures.ok c.in_ok-skip_members-in_default-key.ensures.ok
-    (λ ms. no_union _ ms c.in_default-key.not-mode c.in_default-key.not-union)
+    (λ ms. no_pair _ _ _ _ ms c.in_default-key.not-mode c.in_default-key.not-union)
 
 pub take_items-items-init : goal.take_items-items-init
 take_items-items-init t c = taken_start c.new-fields.ensures.items
@@ -187,36 +184,26 @@ take_two-returns-then-not-take_end_array-clause-ok t c =
     (item one.0 (item two.0 (item three.0 ds.0)), one.1 ∙ ap (parse_map (item one.0)) (two.1 ∙ ap (parse_map (item two.0)) (three.1 ∙ ap (parse_map (item three.0)) ds.1)), refl)
 
 pub take_two-returns-then-take_end_array-2-clause-ok : goal.take_two-returns-then-take_end_array-2-clause-ok
-take_two-returns-then-take_end_array-2-clause-ok t c =
-    let one = item_taken c.args.depth c.args.reader.now c.in_ok-id.ensures.ok (grind arith) in
-    (item one.0 no_items, one.1 ∙ ap (parse_map (item one.0)) (items_over c.args.depth c.take_id.new.reader c.take_end_array-2.new.self (grind arith)), refl)
+take_two-returns-then-take_end_array-2-clause-ok t c = (item c.in_ok-id.ensures.ok.0 no_items, grind (arith, item_turn), refl)
 
 pub take_two-returns-then-take_end_array-clause-ok : goal.take_two-returns-then-take_end_array-clause-ok
-take_two-returns-then-take_end_array-clause-ok t c = (no_items, items_over c.args.depth c.args.reader.now c.take_end_array.new.self (grind arith), refl)
+take_two-returns-then-take_end_array-clause-ok t c = (no_items, grind (arith, item_turn), refl)
 
 pub take_two-returns-clause-ok : goal.take_two-returns-clause-ok
 take_two-returns-clause-ok t c =
-    let one = item_taken c.args.depth c.args.reader.now c.in_ok-id.ensures.ok (grind arith) in
-    let two = item_taken c.args.depth c.take_id.new.reader c.in_ok-field.ensures.ok (grind arith) in
-    let over = two.1 ∙ ap (parse_map (item two.0)) (items_over c.args.depth c.take_field.new.reader c.take_end_array-3.new.self (grind arith)) in
-    let pair = ap₂ (λ i f. option_and_then (λ id. option_map (λ g. (id, g)) f) i) one.2 two.2 in
-    (item one.0 (item two.0 no_items), one.1 ∙ ap (parse_map (item one.0)) over, c.pair_of.ensures.pair ∙ pair)
+    let id = c.in_ok-id.ensures.ok in
+    let field = c.in_ok-field.ensures.ok in
+    (item id.0 (item field.0 no_items), grind (arith, item_turn), c.pair_of.ensures.pair ∙ ap₂ (λ i f. option_and_then (λ id. option_map (λ g. (id, g)) f) i) id.2 field.2)
 
 pub take_type-returns-in-String-clause-ok : goal.take_type-returns-in-String-clause-ok
-take_type-returns-in-String-clause-ok t c =
-    let first : c.args.reader.now ≡ token_of c.in_ok-token.token ∷ c.next.new.self = grind arith in
-    let is : c.args.reader.now ≡ Token.string c.in-String.word.now ∷ c.next.new.self = grind (arith, first) in
-    (string c.in-String.word.now, ap (next_value c.args.depth) is ∙ next_string c.args.depth c.in-String.word.now c.next.new.self, c.plain_named.ensures)
+take_type-returns-in-String-clause-ok t c = (string c.in-String.word.now, grind (arith, next_string), c.plain_named.ensures)
 
 pub take_type-returns-else-depth-eq0-clause-ok : goal.take_type-returns-else-depth-eq0-clause-ok
 take_type-returns-else-depth-eq0-clause-ok t c =
-    let rest = c.next.new.self in
-    let first : c.args.reader.now ≡ token_of c.in_ok-token.token ∷ rest = grind arith in
-    let opened = ap (next_value c.args.depth) (first ∙ ap (λ k. token_of k ∷ rest) c.in-BeginObject.is) ∙ value-object c.args.depth rest (omega arith) in
-    IfOk-weaker _ _ _ (λ o. object_read type_of_value _ (c.args.depth - 1) _ rest c.take_keys.new.reader _ opened) c.take_keys.ensures.ok
+    IfOk-weaker _ _ _ (λ o. object_read type_of_value _ (c.args.depth - 1) _ c.next.new.self c.take_keys.new.reader _ (grind (arith, value-object))) c.take_keys.ensures.ok
 
 pub take_type-returns-in_ok-skip_rest-in_default-clause-ok : goal.take_type-returns-in_ok-skip_rest-in_default-clause-ok
 take_type-returns-in_ok-skip_rest-in_default-clause-ok t c =
-    let first : c.args.reader.now ≡ token_of c.in_ok-token.token ∷ c.next.new.self = grind arith in
-    let d = passed c.args.depth c.in_ok-token.token c.args.reader.now c.next.new.self c.skip_rest.new.reader first c.in_ok-skip_rest-in_default.ensures.ok in
-    (d.0, d.1, no_type d.0 (no_object c.in_ok-token.token d.0 d.2 c.in_default.not-BeginObject) (no_text c.in_ok-token.token d.0 d.2 c.in_default.not-String))
+    let token = c.in_ok-token.token in
+    let (d, is, begins) = passed c.args.depth token c.args.reader.now c.next.new.self c.skip_rest.new.reader (grind arith) c.in_ok-skip_rest-in_default.ensures.ok in
+    (d, is, no_type d (no_object token d begins c.in_default.not-BeginObject) (no_text token d begins c.in_default.not-String))
