@@ -37,6 +37,10 @@ turned depth found ts (Some (Some k, s)) e = named depth found k ts s e
 pub member_turn : (depth : ℕ) (found : Members) (ts : List Token) → next_members depth found ts ≡ turn depth found (read_key ts)
 member_turn depth found ts = turned depth found ts (read_key ts) refl
 
+-- a member takes tokens
+pub member_takes : (depth : ℕ) (ts s r : List Token) (k : Text) (d : Data) → read_key ts ≡ Some (Some k, s) → next_value depth s ≡ Some (d, r) → length r < length ts
+member_takes depth ts s r k d key e = let less = value_takes depth s r d e in let first = read_key-shorter ts (Some k) s key in omega arith
+
 -- ---- the parts of a field
 
 at_first : (r : Ordering) (d o : Option Data) → match_ordering r o d o ≡ cond (is_eq r) d o
@@ -79,8 +83,6 @@ module _ {depth : ℕ} {all left s r : List Token} {k : Text} {d : Data} {name n
       → Part (codes "name") k new_name (as_str d) name → Part (codes "nullable") k new_nullable (as_bool d) nullable → Part (codes "type") k new_tree (type_of_value d) tree
       → Part (codes "metadata") k new_metadata (metadata_of_value (Some d)) metadata → ArePartsUnderWay depth all r new_name new_nullable new_tree new_metadata
   parts_go_on way named read n b t m =
-      let less = value_takes depth s r d read in
-      let first = read_key-shorter left (Some k) s named in
       record {
         found = put k d way.found;
         decides = way.decides ∙ member_read depth way.found k left s r d named read;
@@ -88,7 +90,7 @@ module _ {depth : ℕ} {all left s r : List Token} {k : Text} {d : Data} {name n
         at_nullable = b ∙ ap (λ o. cond (bytes_eq (codes "nullable") k) (as_bool d) o) way.at_nullable ∙ sym (put_at (option_and_then as_bool) (codes "nullable") k d way.found);
         at_type = t ∙ ap (λ o. cond (bytes_eq (codes "type") k) (type_of_value d) o) way.at_type ∙ sym (put_at (option_and_then type_of_value) (codes "type") k d way.found);
         at_metadata = m ∙ ap (λ o. cond (bytes_eq (codes "metadata") k) (metadata_of_value (Some d)) o) way.at_metadata ∙ sym (put_at metadata_of_value (codes "metadata") k d way.found);
-        fewer = omega (arith, way.fewer);
+        fewer = omega (arith, way.fewer, member_takes depth left s r k d named read);
       }
 
 pub parts_end : {depth : ℕ} {all left r : List Token} {name : Option Text} {nullable : Option Bool} {tree : Option Tree} {metadata : Option Metadata} {o : Option FieldTree}
@@ -149,15 +151,13 @@ spoiled f only k _ other h = refl
 module _ {A : Type 0} {f : Data → Option A} {depth : ℕ} {only : Text} {all left s : List Token} {answer : Option A} (way : IsOnlyUnderWay f depth only all left answer) where
   pub only_go_on : {k : Text} {r : List Token} {new : Option A} {b : Bool} → read_key left ≡ Some (Some k, s) → b ≡ not (bytes_eq k only) → b ≡ false → Reads f depth s new r → IsOnlyUnderWay f depth only all r new
   only_go_on {k} {r} named e same read =
-      let less = value_takes depth s r read.0 read.1 in
-      let first = read_key-shorter left (Some k) s named in
       let is : k ≡ only = (bytes_eq-Decides k only).0 (not-false _ (sym e ∙ same)) in
       record {
         value = read.0;
         decides = way.decides ∙ member_read depth (member only way.value no_members) k left s r read.0 named read.1
             ∙ rw (is, put_only only read.0 way.value);
         answers = read.2;
-        fewer = omega (arith, way.fewer);
+        fewer = omega (arith, way.fewer, member_takes depth left s r k read.0 named read.1);
       }
 
   pub only_end : read_key left ≡ Some (None, s) → ReadsAfter (only_at f only) depth no_members only all answer s

@@ -9,7 +9,6 @@ use Rattle.std.specs.BTreeMap.{insert_entry}
 use Rattle.std.specs.String.{string_cmp_total}
 use Rattle.json.specs.Token.{Token}
 use Rattle.json.specs.Json.{read_key}
-use Rattle.json.proofs.Grammar.{read_key-shorter}
 use Rattle.serde_json.specs.Data.{Data, string, Members, no_members, member, put}
 use Rattle.serde_json.specs.Find.{as_str}
 use Rattle.arrow_values.specs.Tree.{Text, Metadata}
@@ -17,10 +16,11 @@ use Rattle.arrow_values.specs.View.{texts_of}
 use Rattle.field_lines.specs.FieldOfValue.{texts_in}
 use Rattle.field_lines.specs.Slots.{slots_in, slots_of, texts_kept}
 use Rattle.field_lines.specs.Line.{texts_value}
+use Rattle.field_lines.proofs.TokenMembers.{member_takes}
 use Rattle.field_lines.proofs.Round.{texts_in-value}
 use Rattle.field_lines.proofs.Prints.{Texts, insert_last, ordered, texts_put}
 use Rattle.value_tokens.specs.Next.{next_members, Reads, ReadsMembers}
-use Rattle.value_tokens.specs.Turns.{member_read, members_over, value_takes}
+use Rattle.value_tokens.specs.Turns.{member_read, members_over}
 
 pub text_says : (d : Data) → IfSome (as_str d) (λ s. d ≡ string s)
 text_says (string s) = refl
@@ -34,13 +34,11 @@ pub texts_go_on : {depth : ℕ} {all left s r : List Token} {made new : Texts} {
     → Reads as_str depth s (Some (string_bytes text)) r → string_bytes key ≡ k → new ≡ insert_entry string_cmp made key text → AreTextsUnderWay depth all r new
 texts_go_on {depth} {all} {left} {s} {r} {made} {new} {k} key text way named read copied is =
     let d = read.0 in
-    let less = value_takes depth s r d read.1 in
-    let first = read_key-shorter left (Some k) s named in
     let put_in : texts_value (texts_of new) ≡ put k d (texts_value (texts_of made)) =
     rw (is, texts_put made key text, copied, subst (λ o. IfSome o (λ s. d ≡ string s)) (sym read.2) (text_says d)) in
     record {
       decides = way.decides ∙ member_read depth (texts_value (texts_of made)) k left s r d named read.1 ∙ ap (λ ms. next_members depth ms r) (sym put_in);
-      fewer = omega (arith, way.fewer);
+      fewer = omega (arith, way.fewer, member_takes depth left s r k d named read.1);
     }
 
 pub texts_end : {depth : ℕ} {all left r : List Token} {made : Texts} → AreTextsUnderWay depth all left made → read_key left ≡ Some (None, r) → ReadsMembers texts_in depth no_members all (Some (texts_of made)) r
@@ -81,13 +79,11 @@ module _ {depth : ℕ} {all left : List Token} {start made : SlotEntries} (way :
       → string_bytes key ≡ k → new ≡ insert_entry string_cmp made key t → AreSlotsUnderWay depth all r start new
   slots_go_on {s} {r} {new} {k} key t named read copied is =
       let d = read.0 in
-      let less = value_takes depth s r d read.1 in
-      let first = read_key-shorter left (Some k) s named in
       record {
         goes_on = λ found same.
             let more = way.goes_on found same in
             (put k d more.0, more.1 ∙ member_read depth more.0 k left s r d named read.1, slot_put more.0 made new k d key t more.2 copied read.2 is);
-        fewer = omega (arith, way.fewer);
+        fewer = omega (arith, way.fewer, member_takes depth left s r k d named read.1);
       }
 
   pub slots_end : {r : List Token} {o : Option Metadata} → read_key left ≡ Some (None, r) → o ≡ texts_kept (slots_of made) → (found : Members) → slots_in found ≡ slots_of start → ReadsMembers texts_in depth found all o r
