@@ -1,6 +1,6 @@
 -- What a writer holds grows, over plain variables.
-use Rattle.std.proofs.Common.{◌≡◌, ℕ, List, [], ◌∷◌, ◌++◌, ◌-◌, length, take, drop, take-append-drop, Option, Result, Ok, Err, IfErr, refl, sym, ap, ◌∙◌, subst, append_assoc, append-nil}
-use Rattle.std.proofs.lemmas.List.{take_rest}
+use Rattle.std.proofs.Common.{◌≡◌, ℕ, List, [], ◌∷◌, ◌++◌, ◌-◌, length, take, drop, Option, Result, Ok, Err, IfErr, refl, sym, ap, ◌∙◌, subst, append_assoc, append-nil}
+use Rattle.std.proofs.lemmas.List.{take-append-drop, take_rest}
 use Rattle.std.proofs.KnownBytes.{Appends-trans}
 use Rattle.std.specs.Io.KnownBytes.{Appends}
 use Rattle.std.specs.Result.{IsErrAnd}
@@ -15,7 +15,7 @@ pub handed_on : {T E R : Type 0} {Q : E → Type 0} (r : Result T E) (x : E) →
 handed_on (Ok _) x is f = absurd is
 handed_on (Err e) x is f = f e is
 
--- what follows from what follows from a fault
+-- what a fault tells, and what follows from it
 pub on_fault : {T E R S : Type 0} (r : Result T E) (x : E) → IfErr r (λ e. e ≡ x → R) → (R → S) → IfErr r (λ e. e ≡ x → S)
 on_fault (Ok _) x h f = tt
 on_fault (Err e) x h f = λ is. f (h is)

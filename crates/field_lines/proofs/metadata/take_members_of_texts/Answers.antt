@@ -21,7 +21,8 @@ returns-in-None c =
     let read = rw c.in-None.is at c.in_ok-text.ensures.ok in
     let found = put c.in-Some.name.now read.0 before in
     let decides = c.texts.invariant.decides ∙ member_read c.args.depth before _ _ _ _ read.0 (rw c.in-Some.is at c.in_ok-name.ensures.value) read.1 in
-    let same = slot_put before c.in_ok-slots-in-None.slots.entries _ c.in-Some.name.now read.0 c.in_ok-key.key None (sym c.in_ok-slots-in-None.ensures) (search rules) read.2 c.in_ok-insert-in-None.ensures.entries in
+    let same = slot_put before c.in_ok-slots-in-None.slots.entries _ c.in-Some.name.now read.0 c.in_ok-key.key None (sym c.in_ok-slots-in-None.ensures)
+    (search rules) read.2 c.in_ok-insert-in-None.ensures.entries in
     record {
       ok = IfOk-weaker _ _ _ (λ o. slots_read _ _ _ _ found decides same) c.take_slots.ensures.ok;
       shorter = search rules;

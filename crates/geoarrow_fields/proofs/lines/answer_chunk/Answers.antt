@@ -29,7 +29,8 @@ returns-in_err-end_line-clause-output g c =
 pub loop-at-preserved : goal.loop-at-preserved
 loop-at-preserved g c =
     line_answered c.args.command c.loop-at.begun.items c.loop-at.rest.now _ _ c.loop-at.invariant
-    c.len.result (omega (arith, c.len.ensures, c.loop-at.begun.ok.0)) c.in-Some.at c.in-Some.ensures c.if-is_past_limit.ensures _ _ c.in_ok-end_line.ensures.clear c.in_ok-end_line.ensures.ok
+    c.len.result (omega (arith, c.len.ensures, c.loop-at.begun.ok.0)) c.in-Some.at c.in-Some.ensures c.if-is_past_limit.ensures _ _
+    c.in_ok-end_line.ensures.clear c.in_ok-end_line.ensures.ok
 
 pub returns-then-is_past_limit-2-clause-input : goal.returns-then-is_past_limit-2-clause-input
 returns-then-is_past_limit-2-clause-input g c =

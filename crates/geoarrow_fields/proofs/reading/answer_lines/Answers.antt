@@ -23,8 +23,8 @@ loop-begun-init g c =
 
 pub returns-in_err-n-clause-input : goal.returns-in_err-n-clause-input
 returns-in_err-n-clause-input g c =
-    handed_on _ _ c.from_residual-in_err-n.ensures.1 (λ _ _ _. way_stops _ c.loop-begun.invariant.2 _ _ (λ n l. IsPastLimit n l ⊎ IsLine l) (inr c.loop-begun.invariant.1.line)
-    (Consumes-kept _ _ _ _ (Consumes-nil _) c.in_err-n.ensures.err.1) (Appends-nil _))
+    handed_on _ _ c.from_residual-in_err-n.ensures.1 (λ _ _ _. way_stops _ c.loop-begun.invariant.2 _ _ (λ n l. IsPastLimit n l ⊎ IsLine l)
+    (inr c.loop-begun.invariant.1.line) (Consumes-kept _ _ _ _ (Consumes-nil _) c.in_err-n.ensures.err.1) (Appends-nil _))
 
 pub returns-then-is_empty-clause-done : goal.returns-then-is_empty-clause-done
 returns-then-is_empty-clause-done g c =
@@ -38,8 +38,8 @@ returns-then-n-eq0-clause-done g c =
     let begun = c.loop-begun.begun.items in
     let some : 0 < length begun = grind (arith, common_steps, c.if-is_empty.ensures, c.is_empty.ensures, c.loop-begun.begun.ok.0) in
     let last : (begun ++ []) ∷ [] ≡ lines_of begun = ap (λ l. l ∷ []) (append-nil begun) ∙ sym (lines_of-last begun c.loop-begun.invariant.1.line some) in
-    on_ok_weaker _ (λ answered. way_done _ c.loop-begun.invariant.2 _ _ c.loop-begun.invariant.1 (rw c.if-n-eq0.true at c.in_ok-n.ensures.bytes) (rw (← last) answered))
-    c.end_line.ensures.ok
+    on_ok_weaker _ (λ answered. way_done _ c.loop-begun.invariant.2 _ _ c.loop-begun.invariant.1 (rw c.if-n-eq0.true at c.in_ok-n.ensures.bytes)
+    (rw (← last) answered)) c.end_line.ensures.ok
 
 pub returns-then-n-eq0-clause-memory : goal.returns-then-n-eq0-clause-memory
 returns-then-n-eq0-clause-memory g c =
