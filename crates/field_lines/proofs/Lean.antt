@@ -19,7 +19,7 @@ use Rattle.field_lines.specs.Names.{plain_name, plain_named, plain_types, mode_n
 use Rattle.field_lines.specs.FieldOfValue.{field_from, integer_of, kept, is_size, size_of_value, id_of_value, mode_of_value, texts_in, metadata_of_value, field_before, member_before, list_of, large_list_of, fixed_size_list_of, tree_ids, union_of, are_keys, field_of_value, type_in, type_of_value, fields_of_value, fields_in, members_of_value, members_in}
 use Rattle.field_lines.specs.Line.{texts_value, with_metadata, parts_value, one_key, two_keys, type_value, fields_value, members_value, value_of_field, field_of_line}
 use Rattle.field_lines.specs.LineForm.{HasLineForm, FieldsHaveLineForm, MembersHaveLineForm}
-use Rattle.field_lines.proofs.TokenMembers.{get_member-at}
+use Rattle.field_lines.proofs.TokenMembers.{get_member-at, with_key}
 use Rattle.field_lines.proofs.TokenTexts.{text_says}
 use Rattle.field_lines.specs.Lean.{field_keys, HaveKeysOf, IsLean, AreLean, HasLeanType, IsLeanType}
 
@@ -55,14 +55,9 @@ value_is_lean f = lean_parts f.name (type_value f.tree) f.nullable f.metadata (l
 
 -- ---- members of a field's keys alone are what is found under these keys
 
--- the value before the members, if there is one
-abbrev at_key : Text → Option Data → Members → Members
-at_key k None ms = ms
-at_key k (Some d) ms = member k d ms
-
 abbrev found : List Text → Members → Members
 found [] ms = no_members
-found (k ∷ ks) ms = at_key k (get_member k ms) (found ks ms)
+found (k ∷ ks) ms = with_key k (get_member k ms) (found ks ms)
 
 abbrev IsBefore : Text → List Text → Type 0
 IsBefore q [] = Unit {0}
@@ -131,7 +126,7 @@ metadata_at [] ms rest is full = absurd (full (ap (λ x. Some (object x)) is))
 metadata_at (e ∷ es) ms rest is full = ap (λ x. member (codes "metadata") (object x) rest) is
 
 metadata_says : (o : Option Data)
-    → IfSome (metadata_of_value o) (λ m. (rest : Members) → (o ≡ Some (object no_members) → ⊥) → at_key (codes "metadata") o rest ≡ with_metadata m rest)
+    → IfSome (metadata_of_value o) (λ m. (rest : Members) → (o ≡ Some (object no_members) → ⊥) → with_key (codes "metadata") o rest ≡ with_metadata m rest)
 metadata_says None = λ rest full. refl
 metadata_says (Some (object ms)) = IfSome_then (texts_in ms) (texts_say ms) (λ m is rest full. metadata_at m ms rest is full)
 metadata_says (Some _) = tt

@@ -15,6 +15,19 @@ use Rattle.field_lines.specs.Steps.{AreMemberParts}
 use Rattle.value_tokens.specs.Next.{next_value, next_items, after, Reads, ReadsItems}
 use Rattle.value_tokens.specs.Turns.{item_read, item_refused, items_over, value_takes, after_some}
 
+-- what is next leaves of a list: its end, or an item
+abbrev pub turn : ℕ → Option (List Token) → Option (Data × List Token) → Option (Items × List Token)
+turn depth (Some r) o = Some (no_items, r)
+turn depth None o = option_and_then (λ p. parse_map (item p.0) (next_items depth p.1)) o
+
+turned : (depth : ℕ) (ts : List Token) (over : Option (List Token)) (o : Option (Data × List Token)) → after_end_array ts ≡ over → next_value depth ts ≡ o → next_items depth ts ≡ turn depth over o
+turned depth ts (Some r) o over e = items_over depth ts r over
+turned depth ts None None over e = item_refused depth ts over e
+turned depth ts None (Some p) over e = item_read depth ts p.1 p.0 over e
+
+pub item_turn : (depth : ℕ) (ts : List Token) → next_items depth ts ≡ turn depth (after_end_array ts) (next_value depth ts)
+item_turn depth ts = turned depth ts (after_end_array ts) (next_value depth ts) refl refl
+
 -- an item where no bracket closes the list
 abbrev pub GoesOn : List Token → List Token → Type 0
 GoesOn ts s = (after_end_array ts ≡ None) × (s ≡ ts)
@@ -24,9 +37,6 @@ pub item_taken : {A : Type 0} {f : Data → A} (depth : ℕ) (ts : List Token) {
 item_taken depth ts {s} {r} read going =
     let value = ap (next_value depth) (sym going.1) ∙ read.1 in
     (read.0, item_read depth ts r read.0 going.0 value, read.2, value)
-
-pub item_not_taken : (depth : ℕ) (ts : List Token) {s : List Token} → next_value depth s ≡ None → GoesOn ts s → next_items depth ts ≡ None
-item_not_taken depth ts none going = item_refused depth ts going.0 (ap (next_value depth) (sym going.1) ∙ none)
 
 -- ---- what the items so far made stands before what those that are left make
 
@@ -73,12 +83,6 @@ module _ {X T : Type 0} {step : X → T → T} {whole : Items → Option T} {dep
     way.decides ∙ ap (parse_map way.front) (items_over depth left r over),
     sym (way.items no_items ∙ ap (option_map (before step made)) none ∙ ap Some (before_all step trees more made)),
   )
-
-  pub taken_refused : {s : List Token} → next_value depth s ≡ None → GoesOn left s → next_items depth all ≡ None
-  taken_refused none going = way.decides ∙ ap (parse_map way.front) (item_not_taken depth left none going)
-
-  pub taken_cut : {A : Type 0} {f : Data → A} {s r : List Token} {o : A} → Reads f depth s o r → next_items depth r ≡ None → GoesOn left s → next_items depth all ≡ None
-  taken_cut read none going = let one = item_taken depth left read going in way.decides ∙ ap (parse_map way.front) (one.1 ∙ ap (parse_map (item one.0)) none)
 
   -- with how an item is read before the others
   module _ (item_of : Data → Option X) (law : (d : Data) (ds : Items) → whole (item d ds) ≡ option_and_then (λ x. option_map (step x) (whole ds)) (item_of d)) where

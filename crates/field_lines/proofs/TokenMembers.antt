@@ -14,14 +14,32 @@ use Rattle.serde_json.specs.Data.{Data, string, object, Members, no_members, mem
 use Rattle.serde_json.specs.Find.{get_member, as_str, as_bool, as_object}
 use Rattle.arrow_values.specs.Tree.{Text, Metadata, Tree, FieldTree}
 use Rattle.field_lines.specs.FieldOfValue.{under, metadata_of_value, field_from, field_of_value, type_in, type_of_value, are_keys}
-use Rattle.field_lines.specs.Keys.{only_at, fixed_size_list_at, union_at}
+use Rattle.field_lines.specs.Keys.{only_at, pair_at, fixed_size_list_at, union_at}
 use Rattle.value_tokens.specs.Next.{next_value, next_members, ReadsMembers, next_after, after, Reads, ReadsAfter}
-use Rattle.value_tokens.specs.Turns.{member_read, members_over, value_takes, key_refused, after_some, taken, named}
+use Rattle.value_tokens.specs.Turns.{no_value, object_too_deep, value-object, member_read, members_over, value_takes, key_refused, after_some, taken, named}
 use Rattle.value_tokens.specs.Presence.{get_member-put_at, Has, kept, has_new, has_taken}
 
 -- a text that is another is told apart
 apart : (k l : Text) → (k ≡ l → ⊥) → bytes_eq k l ≡ false
 apart k l other = false_from_ne_true (bytes_eq k l) (λ e. other ((bytes_eq-Decides k l).0 e))
+
+-- what the key that is next leaves
+abbrev pub turn : ℕ → Members → Option (Option Text × List Token) → Option (Members × List Token)
+turn depth found None = None
+turn depth found (Some (None, s)) = Some (found, s)
+turn depth found (Some (Some k, s)) = next_after depth found k s
+
+turned : (depth : ℕ) (found : Members) (ts : List Token) (o : Option (Option Text × List Token)) → read_key ts ≡ o → next_members depth found ts ≡ turn depth found o
+turned depth found ts None e = key_refused depth found ts e
+turned depth found ts (Some (None, s)) e = members_over depth found ts s e
+turned depth found ts (Some (Some k, s)) e = named depth found k ts s e
+
+pub member_turn : (depth : ℕ) (found : Members) (ts : List Token) → next_members depth found ts ≡ turn depth found (read_key ts)
+member_turn depth found ts = turned depth found ts (read_key ts) refl
+
+-- a member takes tokens
+pub member_takes : (depth : ℕ) (ts s r : List Token) (k : Text) (d : Data) → read_key ts ≡ Some (Some k, s) → next_value depth s ≡ Some (d, r) → length r < length ts
+member_takes depth ts s r k d key e = let less = value_takes depth s r d e in let first = read_key-shorter ts (Some k) s key in omega arith
 
 -- ---- the parts of a field
 
@@ -65,8 +83,6 @@ module _ {depth : ℕ} {all left s r : List Token} {k : Text} {d : Data} {name n
       → Part (codes "name") k new_name (as_str d) name → Part (codes "nullable") k new_nullable (as_bool d) nullable → Part (codes "type") k new_tree (type_of_value d) tree
       → Part (codes "metadata") k new_metadata (metadata_of_value (Some d)) metadata → ArePartsUnderWay depth all r new_name new_nullable new_tree new_metadata
   parts_go_on way named read n b t m =
-      let less = value_takes depth s r d read in
-      let first = read_key-shorter left (Some k) s named in
       record {
         found = put k d way.found;
         decides = way.decides ∙ member_read depth way.found k left s r d named read;
@@ -74,7 +90,7 @@ module _ {depth : ℕ} {all left s r : List Token} {k : Text} {d : Data} {name n
         at_nullable = b ∙ ap (λ o. cond (bytes_eq (codes "nullable") k) (as_bool d) o) way.at_nullable ∙ sym (put_at (option_and_then as_bool) (codes "nullable") k d way.found);
         at_type = t ∙ ap (λ o. cond (bytes_eq (codes "type") k) (type_of_value d) o) way.at_type ∙ sym (put_at (option_and_then type_of_value) (codes "type") k d way.found);
         at_metadata = m ∙ ap (λ o. cond (bytes_eq (codes "metadata") k) (metadata_of_value (Some d)) o) way.at_metadata ∙ sym (put_at metadata_of_value (codes "metadata") k d way.found);
-        fewer = omega (arith, way.fewer);
+        fewer = omega (arith, way.fewer, member_takes depth left s r k d named read);
       }
 
 pub parts_end : {depth : ℕ} {all left r : List Token} {name : Option Text} {nullable : Option Bool} {tree : Option Tree} {metadata : Option Metadata} {o : Option FieldTree}
@@ -83,6 +99,9 @@ pub parts_end : {depth : ℕ} {all left r : List Token} {name : Option Text} {nu
 parts_end {depth} {all} {left} {r} {name} {nullable} {tree} {metadata} way is over =
     let ms = way.found in
     (ms, way.decides ∙ members_over depth ms left r over, rw (is, way.at_name, way.at_nullable, way.at_type, way.at_metadata, type_in-get ms))
+
+-- how a type begins
+pub ruleset type_begins = (no_value, object_too_deep, value-object)
 
 -- what is no object and no text stands for no type
 pub no_type : (d : Data) → as_object d ≡ None → as_str d ≡ None → None ≡ type_of_value d
@@ -113,10 +132,6 @@ skipped depth found k s {u} {r} passed rest =
     let ms = after_some (next_members depth (put k d.0 found) u) r (rest (put k d.0 found)) in
     (ms.0, taken depth found k s u d.0 d.1 ∙ ms.1, kept depth k (put k d.0 found) ms.0 u r ms.1 (has_new k d.0 found))
 
--- a member that is skipped, after which the rest is refused
-pub members_cut : (depth : ℕ) (found : Members) (ts : List Token) {k : Text} {s r : List Token} → read_key ts ≡ Some (Some k, s) → after (next_value depth s) ≡ Some r → ((more : Members) → next_members depth more r ≡ None) → next_members depth found ts ≡ None
-members_cut depth found ts {k} {s} {r} came passed refused = let d = after_some (next_value depth s) r passed in member_read depth found k ts s r d.0 came d.1 ∙ refused (put k d.0 found)
-
 -- ---- one key
 
 pub record IsOnlyUnderWay {A : Type 0} (f : Data → Option A) (depth : _) (only : Text) (all left : List Token) (answer : Option A) : Type 0 where
@@ -136,15 +151,13 @@ spoiled f only k _ other h = refl
 module _ {A : Type 0} {f : Data → Option A} {depth : ℕ} {only : Text} {all left s : List Token} {answer : Option A} (way : IsOnlyUnderWay f depth only all left answer) where
   pub only_go_on : {k : Text} {r : List Token} {new : Option A} {b : Bool} → read_key left ≡ Some (Some k, s) → b ≡ not (bytes_eq k only) → b ≡ false → Reads f depth s new r → IsOnlyUnderWay f depth only all r new
   only_go_on {k} {r} named e same read =
-      let less = value_takes depth s r read.0 read.1 in
-      let first = read_key-shorter left (Some k) s named in
       let is : k ≡ only = (bytes_eq-Decides k only).0 (not-false _ (sym e ∙ same)) in
       record {
         value = read.0;
         decides = way.decides ∙ member_read depth (member only way.value no_members) k left s r read.0 named read.1
             ∙ rw (is, put_only only read.0 way.value);
         answers = read.2;
-        fewer = omega (arith, way.fewer);
+        fewer = omega (arith, way.fewer, member_takes depth left s r k read.0 named read.1);
       }
 
   pub only_end : read_key left ≡ Some (None, s) → ReadsAfter (only_at f only) depth no_members only all answer s
@@ -164,24 +177,15 @@ abbrev pub with_key : Text → Option Data → Members → Members
 with_key k None ms = ms
 with_key k (Some d) ms = member k d ms
 
--- what is still to come: the value of a key that is taken, or nothing
-abbrev pub pending : ℕ → Members → Option Text → List Token → Option (Members × List Token)
-pending depth found (Some k) ts = next_after depth found k ts
-pending depth found None ts = Some (found, ts)
-
 abbrev pub two : Text → Text → Option Data → Option Data → Members
 two k l a b = with_key k a (with_key l b no_members)
 
 pub record AreTwoUnderWay {A B : Type 0} (f : Data → Option A) (g : Data → Option B) (k l : Text) (depth : _) (first : Text) (all left : List Token) (next : Option Text) (x : Option A) (y : Option B) : Type 0 where
   pub at_first : Option Data
   pub at_second : Option Data
-  pub decides : next_after depth no_members first all ≡ pending depth (two k l at_first at_second) next left
+  pub decides : next_after depth no_members first all ≡ turn depth (two k l at_first at_second) (Some (next, left))
   pub answers : (x ≡ option_and_then f at_first) × (y ≡ option_and_then g at_second)
   pub fewer : (length left ≤ length all) × (next ≡ None → length left < length all)
-
-next_pending : (depth : _) (found : Members) (next : Option Text) (ts s : List Token) → read_key ts ≡ Some (next, s) → next_members depth found ts ≡ pending depth found next s
-next_pending depth found None ts s e = members_over depth found ts s e
-next_pending depth found (Some k) ts s e = named depth found k ts s e
 
 -- keys that stand in this order
 abbrev pub AreOrdered : Text → Text → Type 0
@@ -202,9 +206,6 @@ put_second k l d (Some c) b h = rw h.1 (ap (member k c) (put_alone l d b))
 
 module _ {A B : Type 0} {f : Data → Option A} {g : Data → Option B} {k l : Text} {depth : ℕ} {first : Text} {all left : List Token} {now : Option Text} {x : Option A} {y : Option B}
     (before : AreTwoUnderWay f g k l depth first all left now x y) {q : Text} (came : now ≡ Some q) where
-  next_is : {C : Type 0} {h : Data → C} {o : C} {r : List Token} (read : Reads h depth left o r) → next_after depth no_members first all ≡ next_members depth (put q read.0 (two k l before.at_first before.at_second)) r
-  next_is {r = r} read = before.decides ∙ ap (λ n. pending depth (two k l before.at_first before.at_second) n left) came ∙ taken depth (two k l before.at_first before.at_second) q left r read.0 read.1
-
   took : {C : Type 0} {h : Data → C} {o : C} {r s : List Token} {next : Option Text} {new_x : _} {new_y : _} (a b : _) (read : Reads h depth left o r)
       → read_key r ≡ Some (next, s) → put q read.0 (two k l before.at_first before.at_second) ≡ two k l a b
       → (new_x ≡ option_and_then f a) × (new_y ≡ option_and_then g b) → AreTwoUnderWay f g k l depth first all s next new_x new_y
@@ -214,13 +215,11 @@ module _ {A B : Type 0} {f : Data → Option A} {g : Data → Option B} {k l : T
       record {
         at_first = a;
         at_second = b;
-        decides = next_is read ∙ ap (λ ms. next_members depth ms r) same ∙ next_pending depth _ next r s e;
+        decides = before.decides ∙ ap (λ n. turn depth (two k l before.at_first before.at_second) (Some (n, left))) came
+            ∙ taken depth _ q left r read.0 read.1 ∙ ap (λ ms. next_members depth ms r) same ∙ member_turn depth _ r ∙ ap (turn depth _) e;
         answers = answers;
         fewer = (omega (arith, before.fewer.0), λ _. omega (arith, before.fewer.0));
       }
-
-  pub two_refused : {C : Type 0} {h : Data → C} {o : C} {r : List Token} → Reads h depth left o r → read_key r ≡ None → next_after depth no_members first all ≡ None
-  two_refused read none = next_is read ∙ key_refused _ _ _ none
 
   -- a third key beside the two
   pub two_spoiled : {u r : List Token} {at : Members → Option Tree} → after (next_value depth left) ≡ Some u → ((found : Members) → after (next_members depth found u) ≡ Some r)
@@ -228,7 +227,7 @@ module _ {A B : Type 0} {f : Data → Option A} {g : Data → Option B} {k l : T
   two_spoiled passed rest none =
       let found = two k l before.at_first before.at_second in
       let ms = skipped depth found q left passed rest in
-      (ms.0, before.decides ∙ ap (λ n. pending depth found n left) came ∙ ms.1, none ms.0 ms.2)
+      (ms.0, before.decides ∙ ap (λ n. turn depth found (Some (n, left))) came ∙ ms.1, none ms.0 ms.2)
 
 module _ {A B : Type 0} {f : Data → Option A} {g : Data → Option B} {k l : Text} {depth : ℕ} {first : Text} {all left : List Token} {now : Option Text} {x : Option A} {y : Option B}
     (ordered : AreOrdered k l) (way : AreTwoUnderWay f g k l depth first all left now x y) {r s : List Token} {next : Option Text} where
@@ -243,14 +242,9 @@ is_no_pair : (q k l m n : Text) → (bytes_eq q m ≡ false) × (bytes_eq q n �
 is_no_pair q k l m n none (inl is) = and_left (bytes_eq k m) (bytes_eq l n) (rw (← is) none.0)
 is_no_pair q k l m n none (inr is) = and_right (bytes_eq k m) (bytes_eq l n) (rw (← is) none.1)
 
-pub no_fixed_size_list : (u : Text) (ms : Members) → (u ≡ codes "fixed_size_list" → ⊥) → (u ≡ codes "size" → ⊥) → Has u ms → None ≡ fixed_size_list_at ms
-no_fixed_size_list u (member k d (member l e no_members)) a b h =
-    rw (is_no_pair u k l (codes "fixed_size_list") (codes "size") (apart u _ a, apart u _ b) (either_key u k l d e h))
-no_fixed_size_list u _ a b h = refl
-
-pub no_union : (u : Text) (ms : Members) → (u ≡ codes "mode" → ⊥) → (u ≡ codes "union" → ⊥) → Has u ms → None ≡ union_at ms
-no_union u (member k d (member l e no_members)) a b h = rw (is_no_pair u k l (codes "mode") (codes "union") (apart u _ a, apart u _ b) (either_key u k l d e h))
-no_union u _ a b h = refl
+pub no_pair : {A : Type 0} (f : Data → Data → Option A) (p q u : Text) (ms : Members) → (u ≡ p → ⊥) → (u ≡ q → ⊥) → Has u ms → None ≡ pair_at f p q ms
+no_pair f p q u (member k d (member l e no_members)) a b h = rw (is_no_pair u k l p q (apart u _ a, apart u _ b) (either_key u k l d e h))
+no_pair f p q u _ a b h = refl
 
 -- ---- the key that comes first says which type it is
 

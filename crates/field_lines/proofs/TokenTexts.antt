@@ -9,7 +9,6 @@ use Rattle.std.specs.BTreeMap.{insert_entry}
 use Rattle.std.specs.String.{string_cmp_total}
 use Rattle.json.specs.Token.{Token}
 use Rattle.json.specs.Json.{read_key}
-use Rattle.json.proofs.Grammar.{read_key-shorter}
 use Rattle.serde_json.specs.Data.{Data, string, Members, no_members, member, put}
 use Rattle.serde_json.specs.Find.{as_str}
 use Rattle.arrow_values.specs.Tree.{Text, Metadata}
@@ -17,10 +16,11 @@ use Rattle.arrow_values.specs.View.{texts_of}
 use Rattle.field_lines.specs.FieldOfValue.{texts_in}
 use Rattle.field_lines.specs.Slots.{slots_in, slots_of, texts_kept}
 use Rattle.field_lines.specs.Line.{texts_value}
+use Rattle.field_lines.proofs.TokenMembers.{member_takes}
 use Rattle.field_lines.proofs.Round.{texts_in-value}
 use Rattle.field_lines.proofs.Prints.{Texts, insert_last, ordered, texts_put}
 use Rattle.value_tokens.specs.Next.{next_members, Reads, ReadsMembers}
-use Rattle.value_tokens.specs.Turns.{member_read, members_over, value_takes}
+use Rattle.value_tokens.specs.Turns.{member_read, members_over}
 
 pub text_says : (d : Data) → IfSome (as_str d) (λ s. d ≡ string s)
 text_says (string s) = refl
@@ -34,13 +34,11 @@ pub texts_go_on : {depth : ℕ} {all left s r : List Token} {made new : Texts} {
     → Reads as_str depth s (Some (string_bytes text)) r → string_bytes key ≡ k → new ≡ insert_entry string_cmp made key text → AreTextsUnderWay depth all r new
 texts_go_on {depth} {all} {left} {s} {r} {made} {new} {k} key text way named read copied is =
     let d = read.0 in
-    let less = value_takes depth s r d read.1 in
-    let first = read_key-shorter left (Some k) s named in
     let put_in : texts_value (texts_of new) ≡ put k d (texts_value (texts_of made)) =
     rw (is, texts_put made key text, copied, subst (λ o. IfSome o (λ s. d ≡ string s)) (sym read.2) (text_says d)) in
     record {
       decides = way.decides ∙ member_read depth (texts_value (texts_of made)) k left s r d named read.1 ∙ ap (λ ms. next_members depth ms r) (sym put_in);
-      fewer = omega (arith, way.fewer);
+      fewer = omega (arith, way.fewer, member_takes depth left s r k d named read.1);
     }
 
 pub texts_end : {depth : ℕ} {all left r : List Token} {made : Texts} → AreTextsUnderWay depth all left made → read_key left ≡ Some (None, r) → ReadsMembers texts_in depth no_members all (Some (texts_of made)) r
@@ -61,7 +59,7 @@ slots_insert [] k t = refl
 slots_insert (e ∷ es) k t = ordered slots_of (string_cmp k e.0) _ _ _ ∙ rw (slots_insert es k t)
 
 -- a slot is put in as the member is
-slot_put : (found : Members) (made new : SlotEntries) (k : Text) (d : Data) (key : String Global) (t : Option (String Global)) → slots_in found ≡ slots_of made → string_bytes key ≡ k → option_map string_bytes t ≡ as_str d
+pub slot_put : (found : Members) (made new : SlotEntries) (k : Text) (d : Data) (key : String Global) (t : Option (String Global)) → slots_in found ≡ slots_of made → string_bytes key ≡ k → option_map string_bytes t ≡ as_str d
     → new ≡ insert_entry string_cmp made key t → slots_in (put k d found) ≡ slots_of new
 slot_put found made new k d key t same copied text is =
     slots_put k d found ∙ rw (same, ← copied, ← text, is) (sym (slots_insert made key t))
@@ -81,17 +79,12 @@ module _ {depth : ℕ} {all left : List Token} {start made : SlotEntries} (way :
       → string_bytes key ≡ k → new ≡ insert_entry string_cmp made key t → AreSlotsUnderWay depth all r start new
   slots_go_on {s} {r} {new} {k} key t named read copied is =
       let d = read.0 in
-      let less = value_takes depth s r d read.1 in
-      let first = read_key-shorter left (Some k) s named in
       record {
         goes_on = λ found same.
             let more = way.goes_on found same in
             (put k d more.0, more.1 ∙ member_read depth more.0 k left s r d named read.1, slot_put more.0 made new k d key t more.2 copied read.2 is);
-        fewer = omega (arith, way.fewer);
+        fewer = omega (arith, way.fewer, member_takes depth left s r k d named read.1);
       }
-
-  pub slots_refused : ((more : Members) → next_members depth more left ≡ None) → (found : Members) → slots_in found ≡ slots_of start → next_members depth found all ≡ None
-  slots_refused refused found same = let more = way.goes_on found same in more.1 ∙ refused more.0
 
   pub slots_end : {r : List Token} {o : Option Metadata} → read_key left ≡ Some (None, r) → o ≡ texts_kept (slots_of made) → (found : Members) → slots_in found ≡ slots_of start → ReadsMembers texts_in depth found all o r
   slots_end {r} {o} over is found same =
@@ -99,23 +92,9 @@ module _ {depth : ℕ} {all left : List Token} {start made : SlotEntries} (way :
       (more.0, more.1 ∙ members_over depth more.0 left r over, is ∙ ap texts_kept (sym more.2) ∙ sym (texts_by_slots more.0))
 
 -- at the first member that is no text the slots take over
-pub record AreSlotsInstead (depth : _) (all left : List Token) (slots : SlotEntries) : Type 0 where
-  pub found : Members
-  pub decides : next_members depth no_members all ≡ next_members depth found left
-  pub same : slots_in found ≡ slots_of slots
-
-pub slots_instead : {depth : ℕ} {all left s r : List Token} {made : Texts} {new : SlotEntries} {k : Text} (slots : SlotEntries) (key : String Global) → AreTextsUnderWay depth all left made
-    → read_key left ≡ Some (Some k, s) → Reads as_str depth s None r → string_bytes key ≡ k → slots_of slots ≡ slots_in (texts_value (texts_of made)) → new ≡ insert_entry string_cmp slots key None
-    → AreSlotsInstead depth all r new
-slots_instead {depth} {all} {left} {s} {r} {made} {new} {k} slots key way named read copied turned is = record {
-  found = put k read.0 (texts_value (texts_of made));
-  decides = way.decides ∙ member_read depth (texts_value (texts_of made)) k left s r read.0 named read.1;
-  same = slot_put (texts_value (texts_of made)) slots new k read.0 key None (sym turned) copied read.2 is;
-}
-
-pub instead_read : {depth : ℕ} {all left r : List Token} {slots : SlotEntries} {o : Option Metadata} → AreSlotsInstead depth all left slots
+pub slots_read : (depth : ℕ) (all left : List Token) (slots : SlotEntries) {r : List Token} {o : Option Metadata} (found : Members) → next_members depth no_members all ≡ next_members depth found left → slots_in found ≡ slots_of slots
     → ((found : Members) → slots_in found ≡ slots_of slots → ReadsMembers texts_in depth found left o r) → ReadsMembers texts_in depth no_members all o r
-instead_read instead read = let ms = read instead.found instead.same in (ms.0, instead.decides ∙ ms.1, ms.2)
+slots_read depth all left slots found decides same read = let ms = read found same in (ms.0, decides ∙ ms.1, ms.2)
 
 -- ---- a loop that puts the entries of one map into another: those so far stand before what is left, and all keys ascend
 

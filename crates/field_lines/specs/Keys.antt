@@ -9,13 +9,16 @@ abbrev pub only_at : {A : Type 0} → (Data → Option A) → Text → Members �
 only_at f k (member l d no_members) = if bytes_eq l k then f d else None
 only_at f k _ = None
 
+-- what f says of the values at these two keys, where there are no others
+abbrev pub pair_at : {A : Type 0} → (Data → Data → Option A) → Text → Text → Members → Option A
+pair_at f p q (member k d (member l e no_members)) = if are_keys k l p q then f d e else None
+pair_at f p q _ = None
+
 abbrev pub fixed_size_list_at : Members → Option Tree
-fixed_size_list_at (member k d (member l e no_members)) = if are_keys k l (codes "fixed_size_list") (codes "size") then option_and_then (λ f. option_map (fixed_size_list_of f) (size_of_value e)) (field_of_value d) else None
-fixed_size_list_at _ = None
+fixed_size_list_at = pair_at (λ d e. option_and_then (λ f. option_map (fixed_size_list_of f) (size_of_value e)) (field_of_value d)) (codes "fixed_size_list") (codes "size")
 
 abbrev pub union_at : Members → Option Tree
-union_at (member k d (member l e no_members)) = if are_keys k l (codes "mode") (codes "union") then option_and_then (λ mode. option_and_then (union_of mode) (members_of_value e)) (mode_of_value d) else None
-union_at _ = None
+union_at = pair_at (λ d e. option_and_then (λ mode. option_and_then (union_of mode) (members_of_value e)) (mode_of_value d)) (codes "mode") (codes "union")
 
 -- a type id and a field
 abbrev pub pair_read : Data → Option (ℤ × FieldTree)

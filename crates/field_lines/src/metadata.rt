@@ -30,6 +30,7 @@ pub(crate) fn take_texts(
 }
 
 /// The texts of the members that are left of an object, and none where a member is no text.
+#[tactic(auto, using(crate::proofs::TokenMembers::member_turn))]
 fn take_members_of_texts(
     alloc: Global,
     reader: &mut Reader<'_>,
@@ -59,6 +60,7 @@ fn take_members_of_texts(
 /// in its place.
 #[cold]
 #[inline(never)]
+#[tactic(auto, using(crate::proofs::TokenMembers::member_turn))]
 fn take_slots(
     alloc: Global,
     reader: &mut Reader<'_>,

@@ -67,6 +67,7 @@ fn take_boxed(
 /// The field of the members that are left of an object.
 #[cycle(take)]
 #[inline(never)]
+#[tactic(auto, using(crate::proofs::TokenMembers::member_turn))]
 fn take_parts<'a>(
     alloc: Global,
     reader: &mut Reader<'a>,
@@ -133,6 +134,7 @@ fn named_field(
 
 /// The type that comes next.
 #[cycle(take)]
+#[tactic(auto, using(crate::proofs::TokenMembers::type_begins))]
 #[inline]
 fn take_type(
     alloc: Global,
@@ -161,6 +163,7 @@ fn take_type(
 
 /// The type of the members of an object, all of which are left. The first key says which.
 #[cycle(take)]
+#[tactic(auto, using(crate::proofs::TokenMembers::member_turn))]
 fn take_keys(
     alloc: Global,
     reader: &mut Reader<'_>,
@@ -198,6 +201,7 @@ fn take_keys(
 
 /// The field at the one key of an object, which is taken.
 #[cycle(take)]
+#[tactic(auto, using(crate::proofs::TokenMembers::member_turn))]
 fn take_only_field(
     alloc: Global,
     reader: &mut Reader<'_>,
@@ -222,6 +226,7 @@ fn take_only_field(
 
 /// The fields at the one key of an object, which is taken.
 #[cycle(take)]
+#[tactic(auto, using(crate::proofs::TokenMembers::member_turn))]
 fn take_only_fields(
     alloc: Global,
     reader: &mut Reader<'_>,
@@ -245,6 +250,7 @@ fn take_only_fields(
 
 /// The fixed size list of an object, whose first key is taken.
 #[cycle(take)]
+#[tactic(auto, using(crate::proofs::TokenMembers::member_turn))]
 fn take_fixed_size_list<'a>(
     alloc: Global,
     reader: &mut Reader<'a>,
@@ -283,6 +289,7 @@ fn take_fixed_size_list<'a>(
 
 /// The union of an object, whose first key is taken.
 #[cycle(take)]
+#[tactic(auto, using(crate::proofs::TokenMembers::member_turn))]
 fn take_union<'a>(
     alloc: Global,
     reader: &mut Reader<'a>,
@@ -338,6 +345,7 @@ fn take_fields(
 
 /// The fields of the items that are left of a list.
 #[cycle(take)]
+#[tactic(auto, using(crate::proofs::TokenItems::item_turn))]
 fn take_items(
     alloc: Global,
     reader: &mut Reader<'_>,
@@ -380,6 +388,7 @@ fn take_members(
 
 /// The ids and the fields of the pairs that are left of a list.
 #[cycle(take)]
+#[tactic(auto, using(crate::proofs::TokenItems::item_turn))]
 fn take_pairs(
     alloc: Global,
     reader: &mut Reader<'_>,
@@ -427,6 +436,7 @@ fn take_pair(
 
 /// The id and the field that are all the items of a list.
 #[cycle(take)]
+#[tactic(auto, using(crate::proofs::TokenItems::item_turn))]
 fn take_two(
     alloc: Global,
     reader: &mut Reader<'_>,

@@ -1,13 +1,24 @@
 -- What a writer holds grows, over plain variables.
-use Rattle.std.proofs.Common.{◌≡◌, ℕ, List, [], ◌∷◌, ◌++◌, ◌-◌, length, take, drop, take-append-drop, Option, refl, sym, ap, ◌∙◌, subst, append_assoc, append-nil}
-use Rattle.std.proofs.lemmas.List.{take_rest}
+use Rattle.std.proofs.Common.{◌≡◌, ℕ, List, [], ◌∷◌, ◌++◌, ◌-◌, length, take, drop, Option, Result, Ok, Err, IfErr, refl, sym, ap, ◌∙◌, subst, append_assoc, append-nil}
+use Rattle.std.proofs.lemmas.List.{take-append-drop, take_rest}
 use Rattle.std.proofs.KnownBytes.{Appends-trans}
 use Rattle.std.specs.Io.KnownBytes.{Appends}
+use Rattle.std.specs.Result.{IsErrAnd}
 use Rattle.geoarrow_fields.specs.declared.Command.{Command}
 use Rattle.geoarrow_fields.specs.Lines.{Bytes, line_feed}
 use Rattle.geoarrow_fields.specs.Answer.{Answers}
 use Rattle.geoarrow_fields.specs.Output.{Answered}
 use Rattle.geoarrow_fields.specs.Progress.{AppendsSome, FrontOf}
+
+-- what follows from a fault that is handed on
+pub handed_on : {T E R : Type 0} {Q : E → Type 0} (r : Result T E) (x : E) → IsErrAnd r Q → ((e : E) → Q e → e ≡ x → R) → IfErr r (λ e. e ≡ x → R)
+handed_on (Ok _) x is f = absurd is
+handed_on (Err e) x is f = f e is
+
+-- what a fault tells, and what follows from it
+pub on_fault : {T E R S : Type 0} (r : Result T E) (x : E) → IfErr r (λ e. e ≡ x → R) → (R → S) → IfErr r (λ e. e ≡ x → S)
+on_fault (Ok _) x h f = tt
+on_fault (Err e) x h f = λ is. f (h is)
 
 -- more output after output
 pub appends_after : (First More Both : Bytes → Type 0) (old mid new : Option Bytes) → ((a b : Bytes) → First a → More b → Both (a ++ b))
@@ -61,7 +72,4 @@ answered_then command last lines output answered =
 pub write_goes_on : (text rest : Bytes) (n : ℕ) (old mid new : Option Bytes) → AppendsSome (λ done. text ≡ done ++ rest) old mid → Appends mid new (take n rest)
     → AppendsSome (λ done. text ≡ done ++ take (length rest - n) (drop n rest)) old new
 write_goes_on text rest n old mid new (done, split, before) more =
-    let moved =
-    split ∙ ap (λ l. done ++ l) (sym (take-append-drop n rest)) ∙ sym (append_assoc done (take n rest) (drop n rest)) ∙ ap (λ l. (done ++ take n rest) ++ l)
-    (sym (take_rest rest n)) in
-    (done ++ take n rest, moved, Appends-trans old mid new done (take n rest) before more)
+    (done ++ take n rest, rw (append_assoc, take_rest, take-append-drop) split, Appends-trans old mid new done (take n rest) before more)

@@ -2,7 +2,7 @@
 use Rattle.std.proofs.Common.{◌≡◌, ◌≢◌, ◌⊎◌, inl, inr, ℕ, ◌+◌, ◌<◌, ◌≤◌, List, [], ◌∷◌, ◌++◌, length, refl, sym, ap, ◌∙◌, subst, append_assoc, append-nil, length-append, All, arith}
 use Rattle.std.proofs.lemmas.Bool.{cases_lt}
 use Rattle.std.proofs.lemmas.List.{get_or_at}
-use Rattle.std.proofs.lemmas.List.Elements.{All-nil, All-cons, All-head, All-tail, All-append}
+use Rattle.std.proofs.lemmas.List.Elements.{All-nil, All-cons, All-head, All-tail, All-append, All-push}
 use Rattle.geoarrow_fields.specs.Lines.{Bytes, line_feed, max_lines, max_line_bytes, lines_of, ended_lines, IsLine, IsWithinLimits, IsPastLimit, IsSplit, Stops}
 use Rattle.geoarrow_fields.specs.Progress.{IsShort, IsBegun, NextLines}
 use Rattle.geoarrow_fields.proofs.Splits.{lines_of-last, lines_of-split, lines_of-line, split_after, split_every}
@@ -21,7 +21,7 @@ lines_line count total input later line rest next joined is short few = record {
   lines = next.lines ++ (line ∷ []);
   split = split_after input next.lines later (line ∷ []) rest next.split
       (record { joined = joined ∙ sym (append_assoc line (line_feed ∷ []) rest); each = All-cons IsLine line [] is (All-nil IsLine) });
-  short = All-append IsShort next.lines (line ∷ []) next.short (All-cons IsShort line [] short (All-nil IsShort));
+  short = All-push IsShort next.lines line next.short short;
   counted = omega (arith, next.counted, length-append next.lines (line ∷ []));
   few = omega arith;
 }

@@ -1,8 +1,8 @@
 -- Lines in bytes that hold a line feed or none, and when what comes is past a limit.
-use Rattle.std.proofs.Common.{◌≡◌, ◌≢◌, ◌⊎◌, inl, inr, ℕ, zero, suc, ◌+◌, ◌-◌, ◌<◌, ◌≤◌, true, eqb, [], ◌∷◌, ◌++◌, length, take, drop, get_or, refl, sym, ap, ◌∙◌, append_assoc, length-append, add-one, arith}
+use Rattle.std.proofs.Common.{◌≡◌, ◌≢◌, ◌⊎◌, inl, inr, ℕ, suc, ◌+◌, ◌-◌, ◌<◌, ◌≤◌, true, eqb, ◌∷◌, ◌++◌, length, take, drop, get_or, refl, sym, ap, ◌∙◌, append_assoc, drop-cons, add-one, arith}
 use Rattle.std.proofs.lemmas.Bool.{eq-eqb, eqb-true}
-use Rattle.std.proofs.lemmas.List.{take_rest, get_or_append_left, get_or_at}
-use Rattle.std.proofs.lemmas.List.Elements.{All-nil, All-cons}
+use Rattle.std.proofs.lemmas.List.{length-append, length-take, take-append-drop, take_rest, get_or-take, get_or_append_left, get_or_at}
+use Rattle.std.proofs.lemmas.List.Elements.{All-from_get_or}
 use Rattle.geoarrow_fields.specs.Lines.{Bytes, line_feed, max_lines, max_line_bytes, IsLine, IsPastLimit}
 
 -- the byte at a place is no line feed
@@ -11,16 +11,9 @@ IsOther bytes k = eqb (get_or bytes k 0) line_feed ≢ true
 
 -- what stands before a place up to which no line feed stands is of one line
 pub line_before : (rest : Bytes) (at : ℕ) → at ≤ length rest → ((k : ℕ) → k < at → IsOther rest k) → IsLine (take at rest)
-line_before rest zero within h = All-nil (λ b. b ≢ line_feed)
-line_before [] (suc at) within h = absurd (omega arith)
-line_before (byte ∷ rest) (suc at) within h =
-    All-cons (λ b. b ≢ line_feed) byte (take at rest) (λ is. h 0 (omega arith) (eq-eqb byte line_feed is)) (line_before rest at (omega arith) (λ k lt. h (suc k) (omega arith)))
-
--- the line feed at a place parts the bytes
-parted : (rest : Bytes) (at : ℕ) → at < length rest → eqb (get_or rest at 0) line_feed ≡ true → rest ≡ take at rest ++ (line_feed ∷ drop (suc at) rest)
-parted [] at within feed = absurd (omega arith)
-parted (byte ∷ rest) zero within feed = ap (λ b. b ∷ rest) (eqb-true byte line_feed feed)
-parted (byte ∷ rest) (suc at) within feed = ap (λ l. byte ∷ l) (parted rest at (omega arith) feed)
+line_before rest at within h =
+    All-from_get_or (λ b. b ≢ line_feed) (take at rest) 0
+    (λ k lt is. let less : k < at = omega (arith, length-take at rest) in h k less (eq-eqb _ line_feed (sym (get_or-take at rest k 0 less) ∙ is)))
 
 -- the bytes after a place, as the code has them
 abbrev pub after : Bytes → ℕ → Bytes
@@ -30,8 +23,8 @@ after rest at = take (length rest - (at + 1)) (drop (at + 1) rest)
 pub line_parted : (begun rest : Bytes) (at : ℕ) → at < length rest → eqb (get_or rest at 0) line_feed ≡ true
     → begun ++ rest ≡ (begun ++ take at rest) ++ (line_feed ∷ after rest at)
 line_parted begun rest at within feed =
-    ap (λ l. begun ++ l) (parted rest at within feed ∙ ap (λ l. take at rest ++ (line_feed ∷ l)) (rw (take_rest, add-one)))
-    ∙ sym (append_assoc begun (take at rest) (line_feed ∷ after rest at))
+    let here : drop at rest ≡ line_feed ∷ drop (suc at) rest = drop-cons rest at 0 within ∙ ap (λ b. b ∷ drop (suc at) rest) (eqb-true _ line_feed feed) in
+    rw (append_assoc, take_rest, add-one, ← here) (ap (λ l. begun ++ l) (sym (take-append-drop at rest)))
 
 -- a line that comes is past a limit
 pub limit_passed : (total : ℕ) (later line tail : Bytes) → later ≡ line ++ tail → IsLine line → 0 < length later

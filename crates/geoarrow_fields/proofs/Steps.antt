@@ -1,14 +1,15 @@
 -- The lines of a chunk, one after the other, over plain variables.
-use Rattle.std.proofs.Common.{◌≡◌, ◌≢◌, ◌⊎◌, ℕ, ◌+◌, ◌<◌, ◌≤◌, true, eqb, [], ◌∷◌, ◌++◌, length, take, take_all, get_or, Option, sym, ap, subst, append-nil, length-append, length-take, arith}
+use Rattle.std.proofs.Common.{◌≡◌, ◌≢◌, ◌⊎◌, ℕ, ◌+◌, ◌<◌, ◌≤◌, [], ◌∷◌, ◌++◌, length, take, take_all, Option, Some, None, sym, ap, subst, append-nil, length-append, length-take, arith}
 use Rattle.std.specs.Prelude.{⊤}
 use Rattle.std.proofs.KnownBytes.{Appends-kept, Keeps-refl}
 use Rattle.std.proofs.lemmas.List.Elements.{All-nil, All-append}
 use Rattle.std.specs.Io.KnownBytes.{Keeps}
+use Rattle.memchr.specs.Find.{is_byte, IsFirstByte}
 use Rattle.geoarrow_fields.specs.declared.Command.{Command}
 use Rattle.geoarrow_fields.specs.Lines.{Bytes, line_feed, max_lines, max_line_bytes, IsLine, IsPastLimit}
 use Rattle.geoarrow_fields.specs.Output.{Answered}
 use Rattle.geoarrow_fields.specs.Progress.{IsBegun, AnswersNext, AnswersUntil, AppendsSome, FrontOf}
-use Rattle.geoarrow_fields.proofs.Limits.{IsOther, line_before, after, line_parted, limit_passed, line_inside}
+use Rattle.geoarrow_fields.proofs.Limits.{line_before, after, line_parted, limit_passed, line_inside}
 use Rattle.geoarrow_fields.proofs.Laws.{lines_line}
 use Rattle.geoarrow_fields.proofs.Grows.{appends_after, front_after, answered_after}
 
@@ -17,7 +18,7 @@ pub none_begun : (total : ℕ) → total ≤ max_lines → IsBegun total []
 none_begun total few = record { line = All-nil (λ b. b ≢ line_feed); short = omega arith; few = few; room = λ some. absurd (omega arith) }
 
 -- what is answered, and the rest of the chunk
-module _ (command : Command) (count total : ℕ) (input begun rest : Bytes) (old mid : Option Bytes)
+module _ (command : Command) {count total : ℕ} {input : Bytes} (begun rest : Bytes) (old mid : Option Bytes)
     (way : AppendsSome (AnswersNext command count input total (begun ++ rest)) old mid × IsBegun total begun) (len : ℕ) (len_is : len ≡ length begun) where
   -- a cause to stop comes
   stops_here : (Cause : ℕ → Bytes → Type 0) (new : Option Bytes) → Keeps mid new → Cause total (begun ++ rest)
@@ -26,23 +27,23 @@ module _ (command : Command) (count total : ℕ) (input begun rest : Bytes) (old
       let (output, next, written) = way.0 in (output, (total, begun ++ rest, next, cause), Appends-kept old mid new output written kept)
 
   -- a line feed stands in the rest
-  module _ (at : ℕ) (within : at < length rest) (before : (k : ℕ) → 0 ≤ k → k < at → IsOther rest k) (feed : eqb (get_or rest at 0) line_feed ≡ true) where
+  module _ (at : ℕ) (found : IsFirstByte (is_byte line_feed) rest (Some at)) where
     abbrev line : Bytes
     line = begun ++ take at rest
 
     joined : begun ++ rest ≡ line ++ (line_feed ∷ after rest at)
-    joined = line_parted begun rest at within feed
+    joined = line_parted begun rest at found.0.high found.1
 
     line_is : IsLine line
-    line_is = All-append (λ b. b ≢ line_feed) begun (take at rest) way.1.line (line_before rest at (omega arith) (λ k lt. before k (omega arith) lt))
+    line_is = All-append (λ b. b ≢ line_feed) begun (take at rest) way.1.line (line_before rest at (omega (arith, found.0.high)) (λ k lt. found.0.before k (omega arith) lt))
 
     line_length : len + at ≡ length line
-    line_length = omega (arith, len_is, length-append begun (take at rest), length-take at rest)
+    line_length = omega (arith, len_is, found.0.high, length-append begun (take at rest), length-take at rest)
 
     pub line_past_limit : (total ≡ max_lines) ⊎ (max_line_bytes < len + at) → AppendsSome (AnswersUntil IsPastLimit command count input) old mid
     line_past_limit past =
         stops_here IsPastLimit mid (Keeps-refl mid)
-        (limit_passed total (begun ++ rest) line (line_feed ∷ after rest at) joined line_is (omega (arith, length-append begun rest))
+        (limit_passed total (begun ++ rest) line (line_feed ∷ after rest at) joined line_is (omega (arith, found.0.high, length-append begun rest))
         (len + at) line_length past)
 
     module _ (fits : (total < max_lines) × (len + at ≤ max_line_bytes)) (new : Option Bytes) where
@@ -74,7 +75,7 @@ module _ (command : Command) (count total : ℕ) (input begun rest : Bytes) (old
           (λ a b so. front_after _ Until a (λ more answered. (total + 1, after rest at, next a more so answered, tt)) b) way.0
 
   -- no line feed stands in the rest
-  module _ (none : (k : ℕ) → 0 ≤ k → k < length rest → IsOther rest k) where
+  module _ (none : IsFirstByte (is_byte line_feed) rest None) where
     rest_is : IsLine (begun ++ rest)
     rest_is =
         All-append (λ b. b ≢ line_feed) begun rest way.1.line
@@ -90,8 +91,8 @@ module _ (command : Command) (count total : ℕ) (input begun rest : Bytes) (old
         (limit_passed total (begun ++ rest) (begun ++ rest) [] (sym (append-nil (begun ++ rest))) rest_is (omega (arith, rest_length))
         (len + length rest) rest_length past)
 
-    pub rest_begun : (total < max_lines) × (len + length rest ≤ max_line_bytes) → (next : Bytes) → next ≡ begun ++ rest → IsBegun total next
-    rest_begun (few, short) next same = record {
+    pub rest_begun : (total < max_lines) × (len + length rest ≤ max_line_bytes) → (more : Bytes) → more ≡ begun ++ rest → IsBegun total more
+    rest_begun (few, short) more same = record {
       line = subst IsLine (sym same) rest_is;
       short = omega (arith, short, ap length same, rest_length);
       few = omega arith;

@@ -36,12 +36,12 @@ writes_more Before After More i j k o p q join run read grown =
 -- ---- a run under way
 
 -- nothing is read yet
-pub way_starts : (command : Command) (begun : Bytes) (i o : Option Bytes) → begun ≡ [] → ReadsAndWrites (λ input. AnswersNext command 0 input 0 begun) i i o o
-way_starts command begun i o none =
+pub way_starts : (command : Command) {begun : Bytes} {i o : Option Bytes} → begun ≡ [] → ReadsAndWrites (λ input. AnswersNext command 0 input 0 begun) i i o o
+way_starts command {begun} {i} {o} none =
     subst (λ l. ReadsAndWrites (λ input. AnswersNext command 0 input 0 l) i i o o) (sym none)
     (record { input = []; output = []; consumed = Consumes-nil i; written = Appends-nil o; is = (lines_none 0 [] (omega arith), answered_none command []) })
 
-module _ (command : Command) (count : ℕ) (begun : Bytes) (i j o p : Option Bytes)
+module _ (command : Command) {count : ℕ} {begun : Bytes} {i j o p : Option Bytes}
     (way : ReadsAndWrites (λ input. AnswersNext command 0 input count begun) i j o p) (k q : Option Bytes) where
   -- nothing more is read or written
   pub way_stops : (Cause : ℕ → Bytes → Type 0) → Cause count begun → Consumes j k [] → Appends p q [] → ReadsAndWrites (AnswersUntil Cause command 0) i k o q
@@ -78,14 +78,14 @@ module _ (command : Command) (count : ℕ) (begun : Bytes) (i j o p : Option Byt
     after input output more total later (first, answers) (second, others) =
         (lines_after 0 count total input piece begun later first second, answered_after command [] first.lines second.lines output more answers others)
 
-    pub way_goes_on : (total : ℕ) (later : Bytes) → AppendsSome (AnswersNext command count (begun ++ piece) total later) p q
+    pub way_goes_on : {total : ℕ} {later : Bytes} → AppendsSome (AnswersNext command count (begun ++ piece) total later) p q
         → ReadsAndWrites (λ input. AnswersNext command 0 input total later) i k o q
-    way_goes_on total later = continues _ _ _ i j k o p q piece (λ input output more. after input output more total later) way read
+    way_goes_on {total} {later} = continues _ _ _ i j k o p q piece (λ input output more. after input output more total later) way read
 
-    pub way_ends : (Cause Other : ℕ → Bytes → Type 0) → ((n : ℕ) (l : Bytes) → Cause n l → Other n l)
+    pub way_ends : (Cause : ℕ → Bytes → Type 0) {Other : ℕ → Bytes → Type 0} → ((n : ℕ) (l : Bytes) → Cause n l → Other n l)
         → AppendsSome (AnswersUntil Cause command count (begun ++ piece)) p q
         → ReadsAndWrites (AnswersUntil Other command 0) i k o q
-    way_ends Cause Other turn =
+    way_ends Cause turn =
         continues _ _ _ i j k o p q piece
         (λ input output more first (total, later, next, cause). (total, later, after input output more total later first next, turn total later cause)) way read
 

@@ -1,15 +1,11 @@
-use Rattle.std.proofs.Common.{arith, rules, ◌∙◌}
+use Rattle.std.proofs.Common.{arith, rules, None, sym, ◌∙◌}
 use Rattle.std.proofs.lemmas.Result.{IfOk-weaker}
-use Rattle.field_lines.proofs.TokenTexts.{texts_go_on, texts_end, slots_instead, instead_read}
-use Rattle.value_tokens.specs.Turns.{key_refused, member_refused}
+use Rattle.serde_json.specs.Data.{put}
+use Rattle.arrow_values.specs.View.{texts_of}
+use Rattle.field_lines.specs.Line.{texts_value}
+use Rattle.value_tokens.specs.Turns.{member_read}
+use Rattle.field_lines.proofs.TokenTexts.{texts_go_on, texts_end, slot_put, slots_read}
 use Rattle.field_lines.proofs.metadata.take_members_of_texts.Goals as goal
-
-pub returns-in_err-name-clause-text : goal.returns-in_err-name-clause-text
-returns-in_err-name-clause-text c refused = c.texts.invariant.decides ∙ key_refused _ _ _ c.in_err-name.ensures.value
-
-pub returns-in_err-text-clause-text : goal.returns-in_err-text-clause-text
-returns-in_err-text-clause-text c refused =
-    c.texts.invariant.decides ∙ member_refused _ _ _ _ _ (rw c.in-Some.is at c.in_ok-name.ensures.value) (c.read_text.ensures.text (grind arith))
 
 pub texts-preserved : goal.texts-preserved
 texts-preserved c =
@@ -21,11 +17,14 @@ returns-clause-ok c = texts_end c.texts.invariant (grind arith)
 
 pub returns-in-None : goal.returns-in-None
 returns-in-None c =
-    let instead =
-    slots_instead c.in_ok-slots-in-None.slots.entries c.in_ok-key.key c.texts.invariant (rw c.in-Some.is at c.in_ok-name.ensures.value) (rw c.in-None.is at c.in_ok-text.ensures.ok)
-    (search rules) c.in_ok-slots-in-None.ensures c.in_ok-insert-in-None.ensures.entries in
+    let before = texts_value (texts_of c.texts.texts.entries) in
+    let read = rw c.in-None.is at c.in_ok-text.ensures.ok in
+    let found = put c.in-Some.name.now read.0 before in
+    let decides = c.texts.invariant.decides ∙ member_read c.args.depth before _ _ _ _ read.0 (rw c.in-Some.is at c.in_ok-name.ensures.value) read.1 in
+    let same = slot_put before c.in_ok-slots-in-None.slots.entries _ c.in-Some.name.now read.0 c.in_ok-key.key None (sym c.in_ok-slots-in-None.ensures)
+    (search rules) read.2 c.in_ok-insert-in-None.ensures.entries in
     record {
-      ok = IfOk-weaker _ _ _ (λ o. instead_read instead) c.take_slots.ensures.ok;
+      ok = IfOk-weaker _ _ _ (λ o. slots_read _ _ _ _ found decides same) c.take_slots.ensures.ok;
       shorter = search rules;
-      text = λ refused. instead.decides ∙ c.take_slots.ensures.text refused instead.found instead.same;
+      text = λ refused. decides ∙ c.take_slots.ensures.text refused found same;
     }

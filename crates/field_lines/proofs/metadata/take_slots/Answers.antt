@@ -1,17 +1,9 @@
 use Rattle.std.proofs.Common.{arith, refl, rules}
-use Rattle.field_lines.proofs.TokenTexts.{slots_go_on, slots_refused, slots_end}
-use Rattle.value_tokens.specs.Turns.{key_refused, member_refused}
+use Rattle.field_lines.proofs.TokenTexts.{slots_go_on, slots_end}
 use Rattle.field_lines.proofs.metadata.take_slots.Goals as goal
 
 pub slots-init : goal.slots-init
 slots-init c = record { goes_on = λ found same. (found, refl, same); fewer = omega arith }
-
-pub returns-in_err-name-clause-text : goal.returns-in_err-name-clause-text
-returns-in_err-name-clause-text c refused = slots_refused c.slots.invariant (λ more. key_refused _ more _ c.in_err-name.ensures.value)
-
-pub returns-in_err-text-clause-text : goal.returns-in_err-text-clause-text
-returns-in_err-text-clause-text c refused =
-    slots_refused c.slots.invariant (λ more. member_refused _ more _ _ _ (rw c.in-Some.is at c.in_ok-name.ensures.value) (c.read_text.ensures.text (grind arith)))
 
 pub slots-preserved : goal.slots-preserved
 slots-preserved c =

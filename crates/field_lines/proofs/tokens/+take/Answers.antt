@@ -1,10 +1,8 @@
-use Rattle.std.proofs.Common.{rules, arith, ◌≡◌, ◌-◌, [], ◌∷◌, ◌++◌, length, Some, None, IsTrue, option_map, option_and_then, subst₂, refl, sym, ap, ap₂, ◌∙◌}
+use Rattle.std.proofs.Common.{rules, arith, ◌≡◌, ◌-◌, [], ◌∷◌, ◌++◌, Some, None, IsTrue, option_map, option_and_then, subst₂, refl, sym, ap, ap₂, ◌∙◌}
 use Rattle.std.proofs.lemmas.Int.{to_z-of_z}
 use Rattle.std.proofs.lemmas.Result.{IfOk-weaker}
 use Rattle.std.specs.List.{zip}
-use Rattle.json.specs.Token.{Token}
 use Rattle.json.specs.Json.{parse_map}
-use Rattle.json.specs.Reads.{token_of}
 use Rattle.serde_json.specs.Data.{string, no_items, item, no_members}
 use Rattle.arrow_values.specs.Tree.{struct}
 use Rattle.arrow_values.specs.Union.{is_type_id}
@@ -12,11 +10,10 @@ use Rattle.arrow_values.specs.View.{texts_of, field_trees, member_trees}
 use Rattle.field_lines.specs.FieldOfValue.{field_of_value, type_of_value, list_of, large_list_of}
 use Rattle.field_lines.specs.Keys.{pair_read}
 use Rattle.field_lines.specs.Steps.{AreMemberParts}
-use Rattle.field_lines.proofs.TokenMembers.{part_other, parts_go_on, parts_end, no_type, members_cut, only_go_on, only_end, only_spoiled, first_read, second_read, two_refused, two_spoiled, no_fixed_size_list, no_union, as_fixed_size_list, as_union, taken_as, only_taken, none_taken_as}
-use Rattle.field_lines.proofs.TokenItems.{item_taken, item_not_taken, taken_start, taken_go_on, taken_end, taken_refused, taken_cut, taken_spoiled, members_in-pair, zip_push, parts_push}
-use Rattle.value_tokens.specs.Next.{next_value}
-use Rattle.value_tokens.specs.Turns.{no_value, object_too_deep, value-object, key_refused, member_refused, items_over, members_over, after_some, named}
-use Rattle.value_tokens.specs.Beginnings.{passed, next_string, no_object, no_text, object_read, object_refused}
+use Rattle.field_lines.proofs.TokenMembers.{part_other, parts_go_on, parts_end, no_type, only_go_on, only_end, only_spoiled, first_read, second_read, two_spoiled, no_pair, as_fixed_size_list, as_union, taken_as, only_taken, none_taken_as}
+use Rattle.field_lines.proofs.TokenItems.{item_turn, item_taken, taken_start, taken_go_on, taken_end, taken_spoiled, members_in-pair, zip_push, parts_push}
+use Rattle.value_tokens.specs.Turns.{value-object, members_over, after_some}
+use Rattle.value_tokens.specs.Beginnings.{passed, next_string, no_object, no_text, object_read}
 use Rattle.field_lines.proofs.tokens.+take.Goals as goal
 
 pub take_fixed_size_list-keys-preserved : goal.take_fixed_size_list-keys-preserved
@@ -30,15 +27,7 @@ take_fixed_size_list-keys-preserved-then-str_eq t c =
 pub take_fixed_size_list-returns-in_default-key-clause-ok : goal.take_fixed_size_list-returns-in_default-key-clause-ok
 take_fixed_size_list-returns-in_default-key-clause-ok t c =
     two_spoiled c.keys.invariant (ap (option_map (λ s. s.now)) c.in-Some.is) c.in_ok-skip_value-in_default-key.ensures.ok c.in_ok-skip_members-in_default-key.ensures.ok
-    (λ ms. no_fixed_size_list _ ms c.in_default-key.not-fixed_size_list c.in_default-key.not-size)
-
-pub take_fixed_size_list-returns-in_err-next-in-fixed_size_list-clause-text : goal.take_fixed_size_list-returns-in_err-next-in-fixed_size_list-clause-text
-take_fixed_size_list-returns-in_err-next-in-fixed_size_list-clause-text t c refused =
-    two_refused c.keys.invariant (ap (option_map (λ s. s.now)) c.in-Some.is) c.in_ok-field-in-fixed_size_list.ensures.ok c.in_err-next-in-fixed_size_list.ensures.value
-
-pub take_fixed_size_list-returns-in_err-next-in-size-clause-text : goal.take_fixed_size_list-returns-in_err-next-in-size-clause-text
-take_fixed_size_list-returns-in_err-next-in-size-clause-text t c refused =
-    two_refused c.keys.invariant (ap (option_map (λ s. s.now)) c.in-Some.is) c.in_ok-size-in-size.ensures.ok c.in_err-next-in-size.ensures.value
+    (λ ms. no_pair _ _ _ _ ms c.in_default-key.not-fixed_size_list c.in_default-key.not-size)
 
 pub take_union-keys-preserved : goal.take_union-keys-preserved
 take_union-keys-preserved t c =
@@ -51,15 +40,7 @@ take_union-keys-preserved-then-str_eq t c =
 pub take_union-returns-in_default-key-clause-ok : goal.take_union-returns-in_default-key-clause-ok
 take_union-returns-in_default-key-clause-ok t c =
     two_spoiled c.keys.invariant.0 (ap (option_map (λ s. s.now)) c.in-Some.is) c.in_ok-skip_value-in_default-key.ensures.ok c.in_ok-skip_members-in_default-key.ensures.ok
-    (λ ms. no_union _ ms c.in_default-key.not-mode c.in_default-key.not-union)
-
-pub take_union-returns-in_err-next-in-mode-clause-text : goal.take_union-returns-in_err-next-in-mode-clause-text
-take_union-returns-in_err-next-in-mode-clause-text t c refused =
-    two_refused c.keys.invariant.0 (ap (option_map (λ s. s.now)) c.in-Some.is) c.in_ok-mode-in-mode.ensures.ok c.in_err-next-in-mode.ensures.value
-
-pub take_union-returns-in_err-next-in-union-clause-text : goal.take_union-returns-in_err-next-in-union-clause-text
-take_union-returns-in_err-next-in-union-clause-text t c refused =
-    two_refused c.keys.invariant.0 (ap (option_map (λ s. s.now)) c.in-Some.is) c.in_ok-members-in-union.ensures.ok c.in_err-next-in-union.ensures.value
+    (λ ms. no_pair _ _ _ _ ms c.in_default-key.not-mode c.in_default-key.not-union)
 
 pub take_items-items-init : goal.take_items-items-init
 take_items-items-init t c = taken_start c.new-fields.ensures.items
@@ -74,13 +55,6 @@ take_items-returns-clause-ok t c = taken_end c.items.invariant field_trees refl 
 pub take_items-returns-in-None-clause-ok : goal.take_items-returns-in-None-clause-ok
 take_items-returns-in-None-clause-ok t c =
     taken_spoiled c.items.invariant field_of_value (λ d ds. refl) (rw c.in-None.is at c.in_ok-field.ensures.ok) c.in_ok-skip_items-in-None.ensures.ok (grind arith)
-
-pub take_items-returns-in_err-field-clause-text : goal.take_items-returns-in_err-field-clause-text
-take_items-returns-in_err-field-clause-text t c refused = taken_refused c.items.invariant (c.take_field.ensures.text (grind arith)) (grind arith)
-
-pub take_items-returns-in_err-skip_items-in-None-clause-text : goal.take_items-returns-in_err-skip_items-in-None-clause-text
-take_items-returns-in_err-skip_items-in-None-clause-text t c refused =
-    taken_cut c.items.invariant c.in_ok-field.ensures.ok (c.skip_items.ensures.text (grind arith)) (grind arith)
 
 pub take_pairs-pairs-init : goal.take_pairs-pairs-init
 take_pairs-pairs-init t c =
@@ -102,13 +76,6 @@ take_pairs-returns-clause-ok t c = taken_end c.pairs.invariant.0 member_trees re
 pub take_pairs-returns-in-None-clause-ok : goal.take_pairs-returns-in-None-clause-ok
 take_pairs-returns-in-None-clause-ok t c =
     taken_spoiled c.pairs.invariant.0 pair_read members_in-pair (rw c.in-None.is at c.in_ok-id.ensures.ok) c.in_ok-skip_items-in-None.ensures.ok (grind arith)
-
-pub take_pairs-returns-in_err-id-clause-text : goal.take_pairs-returns-in_err-id-clause-text
-take_pairs-returns-in_err-id-clause-text t c refused = taken_refused c.pairs.invariant.0 (c.take_pair.ensures.text (grind arith)) (grind arith)
-
-pub take_pairs-returns-in_err-skip_items-in-None-clause-text : goal.take_pairs-returns-in_err-skip_items-in-None-clause-text
-take_pairs-returns-in_err-skip_items-in-None-clause-text t c refused =
-    taken_cut c.pairs.invariant.0 c.in_ok-id.ensures.ok (c.skip_items.ensures.text (grind arith)) (grind arith)
 
 pub take_keys-returns-in-None-2-clause-ok : goal.take_keys-returns-in-None-2-clause-ok
 take_keys-returns-in-None-2-clause-ok t c =
@@ -139,42 +106,12 @@ pub take_keys-returns-in-fixed_size_list-clause-ok : goal.take_keys-returns-in-f
 take_keys-returns-in-fixed_size_list-clause-ok t c =
     IfOk-weaker _ _ _ (λ o. taken_as _ _ (rw c.in-Some.is at c.in_ok-key.ensures.value) (λ ms. as_fixed_size_list _ ms c.in-fixed_size_list.is)) c.take_fixed_size_list.ensures.ok
 
-pub take_keys-returns-in-fixed_size_list-clause-text : goal.take_keys-returns-in-fixed_size_list-clause-text
-take_keys-returns-in-fixed_size_list-clause-text t c refused =
-    named _ _ _ _ _ (rw c.in-Some.is at c.in_ok-key.ensures.value) ∙ c.take_fixed_size_list.ensures.text refused
-
 pub take_keys-returns-in-mode-clause-ok : goal.take_keys-returns-in-mode-clause-ok
 take_keys-returns-in-mode-clause-ok t c =
     IfOk-weaker _ _ _ (λ o. taken_as _ _ (rw c.in-Some.is at c.in_ok-key.ensures.value) (λ ms. as_union _ ms c.in-mode.is)) c.take_union.ensures.ok
 
-pub take_keys-returns-in-mode-clause-text : goal.take_keys-returns-in-mode-clause-text
-take_keys-returns-in-mode-clause-text t c refused = named _ _ _ _ _ (rw c.in-Some.is at c.in_ok-key.ensures.value) ∙ c.take_union.ensures.text refused
-
 pub take_keys-returns-in_default-clause-ok : goal.take_keys-returns-in_default-clause-ok
 take_keys-returns-in_default-clause-ok t c = (no_members, members_over c.args.depth no_members c.args.reader.now c.next_key.new.self (grind arith), refl)
-
-pub take_keys-returns-in_err-field-in-large_list-clause-text : goal.take_keys-returns-in_err-field-in-large_list-clause-text
-take_keys-returns-in_err-field-in-large_list-clause-text t c refused =
-    named _ _ _ _ _ (rw (c.in-Some.is, c.in-large_list.is) at c.in_ok-key.ensures.value) ∙ c.take_only_field-in-large_list.ensures.text (grind arith)
-
-pub take_keys-returns-in_err-field-in-list-clause-text : goal.take_keys-returns-in_err-field-in-list-clause-text
-take_keys-returns-in_err-field-in-list-clause-text t c refused =
-    named _ _ _ _ _ (rw (c.in-Some.is, c.in-list.is) at c.in_ok-key.ensures.value) ∙ c.take_only_field.ensures.text (grind arith)
-
-pub take_keys-returns-in_err-fields-in-struct-clause-text : goal.take_keys-returns-in_err-fields-in-struct-clause-text
-take_keys-returns-in_err-fields-in-struct-clause-text t c refused =
-    named _ _ _ _ _ (rw (c.in-Some.is, c.in-struct.is) at c.in_ok-key.ensures.value) ∙ c.take_only_fields.ensures.text (grind arith)
-
-pub take_keys-returns-in_err-key-clause-text : goal.take_keys-returns-in_err-key-clause-text
-take_keys-returns-in_err-key-clause-text t c refused = key_refused c.args.depth no_members c.args.reader.now c.in_err-key.ensures.value
-
-pub take_keys-returns-in_err-skip_members-in_default-key-clause-text : goal.take_keys-returns-in_err-skip_members-in_default-key-clause-text
-take_keys-returns-in_err-skip_members-in_default-key-clause-text t c refused =
-    members_cut _ _ _ (rw c.in-Some.is at c.in_ok-key.ensures.value) c.in_ok-skip_value-in_default-key.ensures.ok (c.skip_members.ensures.text (grind arith))
-
-pub take_keys-returns-in_err-skip_value-in_default-key-clause-text : goal.take_keys-returns-in_err-skip_value-in_default-key-clause-text
-take_keys-returns-in_err-skip_value-in_default-key-clause-text t c refused =
-    member_refused _ _ _ _ _ (rw c.in-Some.is at c.in_ok-key.ensures.value) (c.skip_value.ensures.text (grind arith))
 
 pub take_keys-returns-in_ok-skip_members-in_default-key-clause-ok : goal.take_keys-returns-in_ok-skip_members-in_default-key-clause-ok
 take_keys-returns-in_ok-skip_members-in_default-key-clause-ok t c =
@@ -188,21 +125,6 @@ take_only_field-only-preserved t c =
 pub take_only_field-returns-clause-ok : goal.take_only_field-returns-clause-ok
 take_only_field-returns-clause-ok t c = only_end c.only.invariant (grind arith)
 
-pub take_only_field-returns-in_err-field-2-clause-text : goal.take_only_field-returns-in_err-field-2-clause-text
-take_only_field-returns-in_err-field-2-clause-text t c refused =
-    c.only.invariant.decides ∙ member_refused _ _ _ _ _ (rw c.in-Some.is at c.in_ok-key.ensures.value) (c.take_boxed-in-Some.ensures.text (grind arith))
-
-pub take_only_field-returns-in_err-key-clause-text : goal.take_only_field-returns-in_err-key-clause-text
-take_only_field-returns-in_err-key-clause-text t c refused = c.only.invariant.decides ∙ key_refused _ _ _ c.in_err-key.ensures.value
-
-pub take_only_field-returns-in_err-skip_members-clause-text : goal.take_only_field-returns-in_err-skip_members-clause-text
-take_only_field-returns-in_err-skip_members-clause-text t c refused =
-    c.only.invariant.decides ∙ members_cut _ _ _ (rw c.in-Some.is at c.in_ok-key.ensures.value) c.in_ok-skip_value.ensures.ok (c.skip_members.ensures.text (grind arith))
-
-pub take_only_field-returns-in_err-skip_value-clause-text : goal.take_only_field-returns-in_err-skip_value-clause-text
-take_only_field-returns-in_err-skip_value-clause-text t c refused =
-    c.only.invariant.decides ∙ member_refused _ _ _ _ _ (rw c.in-Some.is at c.in_ok-key.ensures.value) (c.skip_value.ensures.text (grind arith))
-
 pub take_only_field-returns-then-ne-clause-ok : goal.take_only_field-returns-then-ne-clause-ok
 take_only_field-returns-then-ne-clause-ok t c =
     only_spoiled c.only.invariant (rw c.in-Some.is at c.in_ok-key.ensures.value) c.ne.ensures c.if-ne.true c.in_ok-skip_value.ensures.ok c.in_ok-skip_members.ensures.ok
@@ -213,21 +135,6 @@ take_only_fields-only-preserved t c =
 
 pub take_only_fields-returns-clause-ok : goal.take_only_fields-returns-clause-ok
 take_only_fields-returns-clause-ok t c = only_end c.only.invariant (grind arith)
-
-pub take_only_fields-returns-in_err-fields-2-clause-text : goal.take_only_fields-returns-in_err-fields-2-clause-text
-take_only_fields-returns-in_err-fields-2-clause-text t c refused =
-    c.only.invariant.decides ∙ member_refused _ _ _ _ _ (rw c.in-Some.is at c.in_ok-key.ensures.value) (c.take_fields-in-Some.ensures.text (grind arith))
-
-pub take_only_fields-returns-in_err-key-clause-text : goal.take_only_fields-returns-in_err-key-clause-text
-take_only_fields-returns-in_err-key-clause-text t c refused = c.only.invariant.decides ∙ key_refused _ _ _ c.in_err-key.ensures.value
-
-pub take_only_fields-returns-in_err-skip_members-clause-text : goal.take_only_fields-returns-in_err-skip_members-clause-text
-take_only_fields-returns-in_err-skip_members-clause-text t c refused =
-    c.only.invariant.decides ∙ members_cut _ _ _ (rw c.in-Some.is at c.in_ok-key.ensures.value) c.in_ok-skip_value.ensures.ok (c.skip_members.ensures.text (grind arith))
-
-pub take_only_fields-returns-in_err-skip_value-clause-text : goal.take_only_fields-returns-in_err-skip_value-clause-text
-take_only_fields-returns-in_err-skip_value-clause-text t c refused =
-    c.only.invariant.decides ∙ member_refused _ _ _ _ _ (rw c.in-Some.is at c.in_ok-key.ensures.value) (c.skip_value.ensures.text (grind arith))
 
 pub take_only_fields-returns-then-ne-clause-ok : goal.take_only_fields-returns-then-ne-clause-ok
 take_only_fields-returns-then-ne-clause-ok t c =
@@ -267,45 +174,6 @@ take_parts-parts-preserved-then-str_eq-4 t c =
 pub take_parts-returns-clause-ok : goal.take_parts-returns-clause-ok
 take_parts-returns-clause-ok t c = parts_end c.parts.invariant c.in_ok-field_of.ensures (grind arith)
 
-pub take_parts-returns-in_err-key-clause-text : goal.take_parts-returns-in_err-key-clause-text
-take_parts-returns-in_err-key-clause-text t c refused = c.parts.invariant.decides ∙ key_refused _ _ _ c.in_err-key.ensures.value
-
-pub take_parts-returns-in_err-data_type-in-type-clause-text : goal.take_parts-returns-in_err-data_type-in-type-clause-text
-take_parts-returns-in_err-data_type-in-type-clause-text t c refused =
-    c.parts.invariant.decides ∙ member_refused _ _ _ _ _ (rw c.in-Some.is at c.in_ok-key.ensures.value) (c.take_type.ensures.text (grind arith))
-
-pub take_parts-returns-in_err-metadata-in-metadata-clause-text : goal.take_parts-returns-in_err-metadata-in-metadata-clause-text
-take_parts-returns-in_err-metadata-in-metadata-clause-text t c refused =
-    c.parts.invariant.decides ∙ member_refused _ _ _ _ _ (rw c.in-Some.is at c.in_ok-key.ensures.value) (c.take_texts.ensures.text (grind arith))
-
-pub take_parts-returns-in_err-name-in-name-clause-text : goal.take_parts-returns-in_err-name-in-name-clause-text
-take_parts-returns-in_err-name-in-name-clause-text t c refused =
-    c.parts.invariant.decides ∙ member_refused _ _ _ _ _ (rw c.in-Some.is at c.in_ok-key.ensures.value) (c.read_str.ensures.text (grind arith))
-
-pub take_parts-returns-in_err-nullable-in-nullable-clause-text : goal.take_parts-returns-in_err-nullable-in-nullable-clause-text
-take_parts-returns-in_err-nullable-in-nullable-clause-text t c refused =
-    c.parts.invariant.decides ∙ member_refused _ _ _ _ _ (rw c.in-Some.is at c.in_ok-key.ensures.value) (c.read_bool.ensures.text (grind arith))
-
-pub take_parts-returns-in_err-skip_value-in_default-key-clause-text : goal.take_parts-returns-in_err-skip_value-in_default-key-clause-text
-take_parts-returns-in_err-skip_value-in_default-key-clause-text t c refused =
-    c.parts.invariant.decides ∙ member_refused _ _ _ _ _ (rw c.in-Some.is at c.in_ok-key.ensures.value) (c.skip_value.ensures.text (grind arith))
-
-pub take_two-returns-in_err-field-clause-text : goal.take_two-returns-in_err-field-clause-text
-take_two-returns-in_err-field-clause-text t c refused =
-    let one = item_taken c.args.depth c.args.reader.now c.in_ok-id.ensures.ok (grind arith) in
-    one.1 ∙ ap (parse_map (item one.0)) (item_not_taken c.args.depth c.take_id.new.reader (c.take_field.ensures.text (grind arith)) (grind arith))
-
-pub take_two-returns-in_err-id-clause-text : goal.take_two-returns-in_err-id-clause-text
-take_two-returns-in_err-id-clause-text t c refused = item_not_taken c.args.depth c.args.reader.now (c.take_id.ensures.text (grind arith)) (grind arith)
-
-pub take_two-returns-in_err-skip_items-clause-text : goal.take_two-returns-in_err-skip_items-clause-text
-take_two-returns-in_err-skip_items-clause-text t c refused =
-    let one = item_taken c.args.depth c.args.reader.now c.in_ok-id.ensures.ok (grind arith) in
-    let two = item_taken c.args.depth c.take_id.new.reader c.in_ok-field.ensures.ok (grind arith) in
-    let d = after_some _ _ c.in_ok-skip_value.ensures.ok in
-    let three = item_taken {f = λ d. d} c.args.depth c.take_field.new.reader (d.0, d.1, refl) (grind arith) in
-    one.1 ∙ ap (parse_map (item one.0)) (two.1 ∙ ap (parse_map (item two.0)) (three.1 ∙ ap (parse_map (item three.0)) (c.skip_items.ensures.text (grind arith))))
-
 pub take_two-returns-then-not-take_end_array-clause-ok : goal.take_two-returns-then-not-take_end_array-clause-ok
 take_two-returns-then-not-take_end_array-clause-ok t c =
     let one = item_taken c.args.depth c.args.reader.now c.in_ok-id.ensures.ok (grind arith) in
@@ -316,61 +184,26 @@ take_two-returns-then-not-take_end_array-clause-ok t c =
     (item one.0 (item two.0 (item three.0 ds.0)), one.1 ∙ ap (parse_map (item one.0)) (two.1 ∙ ap (parse_map (item two.0)) (three.1 ∙ ap (parse_map (item three.0)) ds.1)), refl)
 
 pub take_two-returns-then-take_end_array-2-clause-ok : goal.take_two-returns-then-take_end_array-2-clause-ok
-take_two-returns-then-take_end_array-2-clause-ok t c =
-    let one = item_taken c.args.depth c.args.reader.now c.in_ok-id.ensures.ok (grind arith) in
-    (item one.0 no_items, one.1 ∙ ap (parse_map (item one.0)) (items_over c.args.depth c.take_id.new.reader c.take_end_array-2.new.self (grind arith)), refl)
+take_two-returns-then-take_end_array-2-clause-ok t c = (item c.in_ok-id.ensures.ok.0 no_items, grind (arith, item_turn), refl)
 
 pub take_two-returns-then-take_end_array-clause-ok : goal.take_two-returns-then-take_end_array-clause-ok
-take_two-returns-then-take_end_array-clause-ok t c = (no_items, items_over c.args.depth c.args.reader.now c.take_end_array.new.self (grind arith), refl)
+take_two-returns-then-take_end_array-clause-ok t c = (no_items, grind (arith, item_turn), refl)
 
 pub take_two-returns-clause-ok : goal.take_two-returns-clause-ok
 take_two-returns-clause-ok t c =
-    let one = item_taken c.args.depth c.args.reader.now c.in_ok-id.ensures.ok (grind arith) in
-    let two = item_taken c.args.depth c.take_id.new.reader c.in_ok-field.ensures.ok (grind arith) in
-    let over = two.1 ∙ ap (parse_map (item two.0)) (items_over c.args.depth c.take_field.new.reader c.take_end_array-3.new.self (grind arith)) in
-    let pair = ap₂ (λ i f. option_and_then (λ id. option_map (λ g. (id, g)) f) i) one.2 two.2 in
-    (item one.0 (item two.0 no_items), one.1 ∙ ap (parse_map (item one.0)) over, c.pair_of.ensures.pair ∙ pair)
-
-pub take_two-returns-in_err-skip_value-clause-text : goal.take_two-returns-in_err-skip_value-clause-text
-take_two-returns-in_err-skip_value-clause-text t c refused =
-    let one = item_taken c.args.depth c.args.reader.now c.in_ok-id.ensures.ok (grind arith) in
-    let two = item_taken c.args.depth c.take_id.new.reader c.in_ok-field.ensures.ok (grind arith) in
-    one.1 ∙ ap (parse_map (item one.0)) (two.1 ∙ ap (parse_map (item two.0)) (item_not_taken c.args.depth c.take_field.new.reader (c.skip_value.ensures.text (grind arith)) (grind arith)))
-
-pub take_type-returns-else-depth-eq0 : goal.take_type-returns-else-depth-eq0
-take_type-returns-else-depth-eq0 t c =
-    let rest = c.next.new.self in
-    let first : c.args.reader.now ≡ token_of c.in_ok-token.token ∷ rest = grind arith in
-    let opened = ap (next_value c.args.depth) (first ∙ ap (λ k. token_of k ∷ rest) c.in-BeginObject.is) ∙ value-object c.args.depth rest (omega arith) in
-    record {
-      ok = IfOk-weaker _ _ _ (λ o. object_read type_of_value _ (c.args.depth - 1) _ rest c.take_keys.new.reader _ opened) c.take_keys.ensures.ok;
-      shorter = search rules;
-      text = λ refused. object_refused c.args.depth (c.args.depth - 1) c.args.reader.now rest opened (c.take_keys.ensures.text refused);
-    }
+    let id = c.in_ok-id.ensures.ok in
+    let field = c.in_ok-field.ensures.ok in
+    (item id.0 (item field.0 no_items), grind (arith, item_turn), c.pair_of.ensures.pair ∙ ap₂ (λ i f. option_and_then (λ id. option_map (λ g. (id, g)) f) i) id.2 field.2)
 
 pub take_type-returns-in-String-clause-ok : goal.take_type-returns-in-String-clause-ok
-take_type-returns-in-String-clause-ok t c =
-    let first : c.args.reader.now ≡ token_of c.in_ok-token.token ∷ c.next.new.self = grind arith in
-    let is : c.args.reader.now ≡ Token.string c.in-String.word.now ∷ c.next.new.self = grind (arith, first) in
-    (string c.in-String.word.now, ap (next_value c.args.depth) is ∙ next_string c.args.depth c.in-String.word.now c.next.new.self, c.plain_named.ensures)
+take_type-returns-in-String-clause-ok t c = (string c.in-String.word.now, grind (arith, next_string), c.plain_named.ensures)
 
-pub take_type-returns-in_err-token-clause-text : goal.take_type-returns-in_err-token-clause-text
-take_type-returns-in_err-token-clause-text t c refused = no_value c.args.depth c.args.reader.now (grind arith)
+pub take_type-returns-else-depth-eq0-clause-ok : goal.take_type-returns-else-depth-eq0-clause-ok
+take_type-returns-else-depth-eq0-clause-ok t c =
+    IfOk-weaker _ _ _ (λ o. object_read type_of_value _ (c.args.depth - 1) _ c.next.new.self c.take_keys.new.reader _ (grind (arith, value-object))) c.take_keys.ensures.ok
 
-pub take_type-returns-in_ok-skip_rest-in_default : goal.take_type-returns-in_ok-skip_rest-in_default
-take_type-returns-in_ok-skip_rest-in_default t c =
-    let first : c.args.reader.now ≡ token_of c.in_ok-token.token ∷ c.next.new.self = grind arith in
-    let less = c.in_ok-skip_rest-in_default.ensures.shorter in
-    let far : length c.args.reader.now ≡ length (token_of c.in_ok-token.token ∷ c.next.new.self) = ap length first in
-    let d = passed c.args.depth c.in_ok-token.token c.args.reader.now c.next.new.self c.skip_rest.new.reader first c.in_ok-skip_rest-in_default.ensures.ok in
-    record {
-      ok = (d.0, d.1, no_type d.0 (no_object c.in_ok-token.token d.0 d.2 c.in_default.not-BeginObject) (no_text c.in_ok-token.token d.0 d.2 c.in_default.not-String));
-      shorter = omega arith;
-      text = λ never. cc;
-    }
-
-pub take_type-returns-then-depth-eq0-clause-text : goal.take_type-returns-then-depth-eq0-clause-text
-take_type-returns-then-depth-eq0-clause-text t c refused =
-    let first : c.args.reader.now ≡ token_of c.in_ok-token.token ∷ c.next.new.self = grind arith in
-    let none : c.args.depth ≡ 0 = omega arith in
-    ap₂ next_value none (first ∙ ap (λ k. token_of k ∷ c.next.new.self) c.in-BeginObject.is) ∙ object_too_deep c.next.new.self
+pub take_type-returns-in_ok-skip_rest-in_default-clause-ok : goal.take_type-returns-in_ok-skip_rest-in_default-clause-ok
+take_type-returns-in_ok-skip_rest-in_default-clause-ok t c =
+    let token = c.in_ok-token.token in
+    let (d, is, begins) = passed c.args.depth token c.args.reader.now c.next.new.self c.skip_rest.new.reader (grind arith) c.in_ok-skip_rest-in_default.ensures.ok in
+    (d, is, no_type d (no_object token d begins c.in_default.not-BeginObject) (no_text token d begins c.in_default.not-String))

@@ -1,14 +1,13 @@
 use Rattle.std.proofs.Common.{◌≡◌}
-use Rattle.std.proofs.lemmas.Result.{err_from_is_err_and, on_ok_weaker, IfErr-weaker}
+use Rattle.std.proofs.lemmas.Result.{on_ok_weaker, IfErr-weaker}
 use Rattle.geoarrow_fields.specs.declared.output.Fault.TheVariants.{Output}
-use Rattle.geoarrow_fields.proofs.Grows.{answer_breaks_off, feed_breaks_off, answer_written}
+use Rattle.geoarrow_fields.proofs.Grows.{handed_on, answer_breaks_off, feed_breaks_off, answer_written}
 use Rattle.geoarrow_fields.proofs.output.write_answer.Goals as goal
 
 pub returns-in_err-write_whole-clause-output : goal.returns-in_err-write_whole-clause-output
 returns-in_err-write_whole-clause-output g c =
-    let p = err_from_is_err_and c.from_residual-in_err-write_whole.result c.from_residual-in_err-write_whole.ensures.1 in
-    let old = g.W.Write.contents c.args.writer.now in
-    rw p.1 (λ _. answer_breaks_off _ _ _ _ c.as_bytes.ensures.value c.in_ok-answer.ensures _ old _ c.in_err-write_whole.ensures.part)
+    handed_on _ _ c.from_residual-in_err-write_whole.ensures.1
+    (λ _ _ _. answer_breaks_off _ _ _ _ c.as_bytes.ensures.value c.in_ok-answer.ensures _ (g.W.Write.contents c.args.writer.now) _ c.in_err-write_whole.ensures.part)
 
 pub returns-clause-ok : goal.returns-clause-ok
 returns-clause-ok g c =

@@ -2,13 +2,10 @@ use Rattle.std.proofs.Common.{◌≡◌, ◌<◌, ◌⊎◌, inl, inr, length, t
 use Rattle.std.proofs.KnownBytes.{Appends-nil, Appends-kept, Consumes-nil, Consumes-kept}
 use Rattle.std.proofs.lemmas.Grind.{common_steps}
 use Rattle.std.proofs.lemmas.List.{nil_from_length}
-use Rattle.std.proofs.lemmas.Result.{err_from_is_err_and, on_ok_weaker, IfErr-weaker}
-use Rattle.std.specs.Io.KnownBytes.{Keeps}
-use Rattle.geoarrow_fields.specs.declared.output.Fault.TheVariants.{Memory, Output}
+use Rattle.std.proofs.lemmas.Result.{on_ok_weaker}
 use Rattle.geoarrow_fields.specs.Lines.{lines_of, IsPastLimit, IsLine}
 use Rattle.geoarrow_fields.specs.Output.{Answered}
-use Rattle.geoarrow_fields.specs.Progress.{AppendsSome, FrontOf}
-use Rattle.geoarrow_fields.proofs.Grows.{answered_none}
+use Rattle.geoarrow_fields.proofs.Grows.{handed_on, on_fault, answered_none}
 use Rattle.geoarrow_fields.proofs.Limits.{begun_inside}
 use Rattle.geoarrow_fields.proofs.Splits.{lines_of-last}
 use Rattle.geoarrow_fields.proofs.Steps.{none_begun}
@@ -17,25 +14,23 @@ use Rattle.geoarrow_fields.proofs.reading.answer_lines.Goals as goal
 
 pub returns-in_err-chunk-clause-memory : goal.returns-in_err-chunk-clause-memory
 returns-in_err-chunk-clause-memory g c =
-    let p = err_from_is_err_and c.from_residual.result c.from_residual.ensures.1 in
-    rw p.1 (λ _. way_stops _ _ _ _ _ _ _ (way_starts c.args.command [] _ _ refl) _ _ (λ n l. ¬ IsPastLimit n l)
+    handed_on _ _ c.from_residual.ensures.1 (λ _ _ _. way_stops _ (way_starts c.args.command refl) _ _ (λ n l. ¬ IsPastLimit n l)
     (begun_inside 0 [] (λ some. absurd (omega arith)) (omega arith)) (Consumes-nil _) (Appends-nil _))
 
 pub loop-begun-init : goal.loop-begun-init
 loop-begun-init g c =
-    (omega (arith, c.in_ok-chunk.ensures), rw c.new-begun.ensures.items (none_begun 0 (omega arith)), way_starts _ _ _ _ c.new-begun.ensures.items)
+    (omega (arith, c.in_ok-chunk.ensures), rw c.new-begun.ensures.items (none_begun 0 (omega arith)), way_starts _ c.new-begun.ensures.items)
 
 pub returns-in_err-n-clause-input : goal.returns-in_err-n-clause-input
 returns-in_err-n-clause-input g c =
-    let p = err_from_is_err_and c.from_residual-in_err-n.result c.from_residual-in_err-n.ensures.1 in
-    rw p.1 (λ _. way_stops _ _ _ _ _ _ _ c.loop-begun.invariant.2 _ _ (λ n l. IsPastLimit n l ⊎ IsLine l) (inr c.loop-begun.invariant.1.line)
-    (Consumes-kept _ _ _ _ (Consumes-nil _) c.in_err-n.ensures.err.1) (Appends-nil _))
+    handed_on _ _ c.from_residual-in_err-n.ensures.1 (λ _ _ _. way_stops _ c.loop-begun.invariant.2 _ _ (λ n l. IsPastLimit n l ⊎ IsLine l)
+    (inr c.loop-begun.invariant.1.line) (Consumes-kept _ _ _ _ (Consumes-nil _) c.in_err-n.ensures.err.1) (Appends-nil _))
 
 pub returns-then-is_empty-clause-done : goal.returns-then-is_empty-clause-done
 returns-then-is_empty-clause-done g c =
     let empty : length c.loop-begun.begun.items ≡ 0 = grind (arith, common_steps, c.if-is_empty.ensures, c.loop-begun.begun.ok.0) in
     let none : lines_of c.loop-begun.begun.items ≡ [] = ap lines_of (nil_from_length c.loop-begun.begun.items empty) in
-    way_done _ _ _ _ _ _ _ c.loop-begun.invariant.2 _ _ c.loop-begun.invariant.1 (rw c.if-n-eq0.true at c.in_ok-n.ensures.bytes)
+    way_done _ c.loop-begun.invariant.2 _ _ c.loop-begun.invariant.1 (rw c.if-n-eq0.true at c.in_ok-n.ensures.bytes)
     ([], subst (λ l. Answered c.args.command [] l []) (sym none) (answered_none c.args.command []), Appends-nil _)
 
 pub returns-then-n-eq0-clause-done : goal.returns-then-n-eq0-clause-done
@@ -43,55 +38,41 @@ returns-then-n-eq0-clause-done g c =
     let begun = c.loop-begun.begun.items in
     let some : 0 < length begun = grind (arith, common_steps, c.if-is_empty.ensures, c.is_empty.ensures, c.loop-begun.begun.ok.0) in
     let last : (begun ++ []) ∷ [] ≡ lines_of begun = ap (λ l. l ∷ []) (append-nil begun) ∙ sym (lines_of-last begun c.loop-begun.invariant.1.line some) in
-    on_ok_weaker _
-    (λ answered. way_done _ _ _ _ _ _ _ c.loop-begun.invariant.2 _ _ c.loop-begun.invariant.1 (rw c.if-n-eq0.true at c.in_ok-n.ensures.bytes)
+    on_ok_weaker _ (λ answered. way_done _ c.loop-begun.invariant.2 _ _ c.loop-begun.invariant.1 (rw c.if-n-eq0.true at c.in_ok-n.ensures.bytes)
     (rw (← last) answered)) c.end_line.ensures.ok
 
 pub returns-then-n-eq0-clause-memory : goal.returns-then-n-eq0-clause-memory
 returns-then-n-eq0-clause-memory g c =
-    IfErr-weaker _ (λ e. e ≡ Memory → Keeps (g.W.Write.contents c.loop-begun.writer) (g.W.Write.contents c.end_line.new.writer)) _
-    (λ _ kept is_memory. way_stops _ _ _ _ _ _ _ c.loop-begun.invariant.2 _ _ (λ n l. ¬ IsPastLimit n l)
-    (begun_inside _ _ c.loop-begun.invariant.1.room c.loop-begun.invariant.1.short) (rw c.if-n-eq0.true at c.in_ok-n.ensures.bytes)
-    (Appends-kept _ _ _ _ (Appends-nil _) (kept is_memory))) c.end_line.ensures.memory
+    on_fault _ _ c.end_line.ensures.memory (λ kept. way_stops _ c.loop-begun.invariant.2 _ _ (λ n l. ¬ IsPastLimit n l)
+    (begun_inside _ _ c.loop-begun.invariant.1.room c.loop-begun.invariant.1.short) (rw c.if-n-eq0.true at c.in_ok-n.ensures.bytes) (Appends-kept _ _ _ _ (Appends-nil _) kept))
 
 pub returns-then-n-eq0-clause-output : goal.returns-then-n-eq0-clause-output
 returns-then-n-eq0-clause-output g c =
     let begun = c.loop-begun.begun.items in
     let some : 0 < length begun = grind (arith, common_steps, c.if-is_empty.ensures, c.is_empty.ensures, c.loop-begun.begun.ok.0) in
     let last : (begun ++ []) ∷ [] ≡ lines_of begun = ap (λ l. l ∷ []) (append-nil begun) ∙ sym (lines_of-last begun c.loop-begun.invariant.1.line some) in
-    IfErr-weaker _
-    (λ e. e ≡ Output → AppendsSome (FrontOf (Answered c.args.command [] ((begun ++ []) ∷ []))) (g.W.Write.contents c.loop-begun.writer)
-    (g.W.Write.contents c.end_line.new.writer)) _
-    (λ _ part broken. way_breaks_off_at_end _ _ _ _ _ _ _ c.loop-begun.invariant.2 _ _ c.loop-begun.invariant.1 (rw c.if-n-eq0.true at c.in_ok-n.ensures.bytes)
-    (rw (← last) (part broken))) c.end_line.ensures.output
+    on_fault _ _ c.end_line.ensures.output
+    (λ part. way_breaks_off_at_end _ c.loop-begun.invariant.2 _ _ c.loop-begun.invariant.1 (rw c.if-n-eq0.true at c.in_ok-n.ensures.bytes) (rw (← last) part))
 
 pub returns-in_err-count-clause-input : goal.returns-in_err-count-clause-input
 returns-in_err-count-clause-input g c =
-    let bytes = rw (← c.deref.ensures.value) at c.in_ok-n.ensures.bytes in
-    let p = err_from_is_err_and c.from_residual-in_err-count.result c.from_residual-in_err-count.ensures.1 in
-    rw (p.1, p.2) (λ e. way_ends _ _ _ _ _ _ _ c.loop-begun.invariant.2 _ _ _ bytes IsPastLimit _ (λ _ _ past. inl past) (c.in_err-count.ensures.input e))
+    handed_on _ _ c.from_residual-in_err-count.ensures.1 (λ _ is e. way_ends _ c.loop-begun.invariant.2 _ _ _ (rw (← c.deref.ensures.value) at c.in_ok-n.ensures.bytes) IsPastLimit
+    (λ _ _ past. inl past) (c.in_err-count.ensures.input (sym is ∙ e)))
 
 pub returns-in_err-count-clause-memory : goal.returns-in_err-count-clause-memory
 returns-in_err-count-clause-memory g c =
-    let bytes = rw (← c.deref.ensures.value) at c.in_ok-n.ensures.bytes in
-    let p = err_from_is_err_and c.from_residual-in_err-count.result c.from_residual-in_err-count.ensures.1 in
-    rw (p.1, p.2)
-    (λ e. way_ends _ _ _ _ _ _ _ c.loop-begun.invariant.2 _ _ _ bytes (λ n l. ¬ IsPastLimit n l) _ (λ _ _ inside. inside) (c.in_err-count.ensures.memory e))
+    handed_on _ _ c.from_residual-in_err-count.ensures.1 (λ _ is e. way_ends _ c.loop-begun.invariant.2 _ _ _ (rw (← c.deref.ensures.value) at c.in_ok-n.ensures.bytes)
+    (λ n l. ¬ IsPastLimit n l) (λ _ _ inside. inside) (c.in_err-count.ensures.memory (sym is ∙ e)))
 
 pub returns-in_err-count-clause-output : goal.returns-in_err-count-clause-output
 returns-in_err-count-clause-output g c =
-    let bytes = rw (← c.deref.ensures.value) at c.in_ok-n.ensures.bytes in
-    let p = err_from_is_err_and c.from_residual-in_err-count.result c.from_residual-in_err-count.ensures.1 in
-    rw (p.1, p.2) (λ e. way_breaks_off _ _ _ _ _ _ _ c.loop-begun.invariant.2 _ _ _ bytes (c.in_err-count.ensures.output e))
+    handed_on _ _ c.from_residual-in_err-count.ensures.1 (λ _ is e. way_breaks_off _ c.loop-begun.invariant.2 _ _ _ (rw (← c.deref.ensures.value) at c.in_ok-n.ensures.bytes)
+    (c.in_err-count.ensures.output (sym is ∙ e)))
 
 pub loop-begun-preserved : goal.loop-begun-preserved
 loop-begun-preserved g c =
-    let bytes = rw (← c.deref.ensures.value) at c.in_ok-n.ensures.bytes in (
-      omega (arith, c.read_chunk.ensures.len),
-      c.in_ok-count.ensures.begun,
-      way_goes_on _ _ _ _ _ _ _ c.loop-begun.invariant.2 _ _ _ bytes _ _
-          c.in_ok-count.ensures.ok,
-    )
+    let bytes = rw (← c.deref.ensures.value) at c.in_ok-n.ensures.bytes in
+    (omega (arith, c.read_chunk.ensures.len), c.in_ok-count.ensures.begun, way_goes_on _ c.loop-begun.invariant.2 _ _ _ bytes c.in_ok-count.ensures.ok)
 
 pub loop-begun-smaller : goal.loop-begun-smaller
 loop-begun-smaller g c =
