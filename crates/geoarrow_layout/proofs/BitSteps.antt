@@ -31,12 +31,12 @@ pub no_bits : (P : ℕ → Type 0) → ((i : ℕ) → P i → ⊥) → IsBits 0 
 unfolding IsBits
 no_bits P none = λ i. (λ e. let z = bit_at-zero i in cc, λ p. absurd (none i p))
 
--- one more number is in the set
-pub bits_more : (n j more : ℕ) (P Q : ℕ → Type 0) → AddsBit n j more → ((i : ℕ) → P i → Q i) → Q j → ((i : ℕ) → Q i → P i ⊎ (i ≡ j)) → IsBits n P → IsBits more Q
-unfolding IsBits AddsBit
-bits_more n j more P Q adds to new from h = λ i. (
-  (λ e. elim ((adds i).0 e) [ inl was ↦ to i ((h i).0 was) | inr is ↦ subst Q (sym is) new ]),
-  (λ q. elim (from i q) [ inl p ↦ (adds i).1 (inl ((h i).1 p)) | inr is ↦ (adds i).1 (inr is) ]),
+-- the numbers of Q are those of P and those that are added
+pub bits_added : (n more : ℕ) (A P Q : ℕ → Type 0) → AddsBits n A more → ((i : ℕ) → Q i ↔ (P i ⊎ A i)) → IsBits n P → IsBits more Q
+unfolding IsBits AddsBits
+bits_added n more A P Q adds is h = λ i. (
+  (λ e. (is i).1 (elim ((adds i).0 e) [ inl was ↦ inl ((h i).0 was) | inr a ↦ inr a ])),
+  (λ q. (adds i).1 (elim ((is i).0 q) [ inl p ↦ inl ((h i).1 p) | inr a ↦ inr a ])),
 )
 
 pub bit_is : (n : ℕ) (P : ℕ → Type 0) (i : ℕ) → IsBits n P → (bit_at n i ≡ 1) ↔ P i
@@ -49,7 +49,7 @@ adds_none : (n : ℕ) (P : ℕ → Type 0) → ((i : ℕ) → P i → ⊥) → A
 unfolding AddsBits
 adds_none n P none = λ i. (λ e. inl e, λ h. elim h [ inl e ↦ e | inr p ↦ absurd (none i p) ])
 
-adds_one : (n j more : ℕ) (P : ℕ → Type 0) → P j → ((i : ℕ) → P i → i ≡ j) → AddsBit n j more → AddsBits n P more
+pub adds_one : (n j more : ℕ) (P : ℕ → Type 0) → P j → ((i : ℕ) → P i → i ≡ j) → AddsBit n j more → AddsBits n P more
 unfolding AddsBit AddsBits
 adds_one n j more P there only adds = λ i. (
   (λ e. elim ((adds i).0 e) [ inl was ↦ inl was | inr is ↦ inr (subst P (sym is) there) ]),

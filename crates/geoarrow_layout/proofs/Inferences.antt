@@ -2,7 +2,7 @@
 use Rattle.std.proofs.Common.{◌≡◌, ◌↔◌, ◌<◌, inl, inr, ℕ, ℤ, pos, refl, sym, ap, subst, ◌∙◌, arith, Bool, true, false, ◌&&◌, Option, Some, None, List, [], ◌∷◌, length, codes}
 use Rattle.std.proofs.lemmas.Bool.{and_parts, cases_Bool}
 use Rattle.std.proofs.lemmas.Option.{same_Some}
-use Rattle.arrow_values.specs.Tree.{Text, Metadata, Tree, list, large_list, fixed_size_list, struct, FieldTrees}
+use Rattle.arrow_values.specs.Tree.{Text, Metadata, Tree, fixed_size_list, struct, FieldTrees}
 use Rattle.geoarrow_layout.specs.declared.kinds.CoordType.{CoordType}
 use Rattle.geoarrow_layout.specs.declared.kinds.CoordType.TheVariants.{Interleaved, Separated}
 use Rattle.geoarrow_layout.specs.declared.kinds.Dimension.{Dimension}
@@ -17,7 +17,7 @@ use Rattle.geoarrow_layout.specs.Inferred.{are_float64, AnswersSome, Inferred, I
 use Rattle.geoarrow_layout.specs.Steps.{has_bit, is_measured, NamesSay, SizeSays}
 use Rattle.geoarrow_layout.specs.OneShape.{apart, separated_same}
 use Rattle.geoarrow_layout.proofs.FieldSteps.{xym_names, has_at}
-use Rattle.geoarrow_layout.proofs.Bottoms.{NotList, at_bottom}
+use Rattle.geoarrow_layout.proofs.Bottoms.{not_list, at_bottom}
 use Rattle.geoarrow_layout.proofs.UnionSteps.{below_root}
 
 abbrev pub PairOption : Type 0
@@ -30,13 +30,8 @@ abbrev no_pair : PairOption
 no_pair = None
 
 -- below lists nothing is
-inferred_apart : (t : Tree) (c : CoordType) (d : Dimension) → Inferred t c d → NotList t
-inferred_apart (list n t b m) c d h = h
-inferred_apart (large_list n t b m) c d h = h
-inferred_apart _ c d h = tt
-
 pub inferred_below : (s : Summary) (t : Tree) → 0 < s.levels → Summarizes s t → AnswersSome None (Inferred t)
-inferred_below s t some h = λ c d. (λ e. let bad : no_pair ≡ some_pair c d = e in cc, λ g. absurd (below_root s t some h (inferred_apart t c d g)))
+inferred_below s t some h = λ c d. (λ e. let bad : no_pair ≡ some_pair c d = e in cc, λ g. absurd (below_root s t some h (not_list (λ x. Inferred x c d) (λ n x b m p. p) (λ n x b m p. p) t g)))
 
 -- fixed size lists
 abbrev Names : Option Dimension → Text → Type 0
@@ -151,17 +146,11 @@ pos_same : (m n : ℕ) → pos m ≡ pos n → m ≡ n
 pos_same m n h = cc
 
 size_agrees : (name : Text) (z : ℤ) (d e : Dimension) → IsInferredSize d name z → name ≡ interleaved_name e → size_of d ≡ size_of e → d ≡ e
-size_agrees name z XY XY h named size = refl
-size_agrees name z XYZ XYZ h named size = refl
-size_agrees name z XYM XYM h named size = refl
-size_agrees name z XYZM XYZM h named size = refl
 size_agrees name z XYZ XYM h named size = absurd (h.1 named)
 size_agrees name z XYM XYZ h named size = absurd (apart _ _ refl (sym h.1 ∙ named))
-size_agrees name z _ _ h named size = absurd (omega arith)
+size_agrees name z _ _ h named size = grind arith
 
 pub inferred_as_read : (t : Tree) (c b : CoordType) (d e : Dimension) → Inferred t c d → Leaf t b e → (c ≡ b) × (d ≡ e)
 inferred_as_read (fixed_size_list n t x m z) Interleaved Interleaved d e h k = (refl, size_agrees n z d e h.1 k.0 (pos_same _ _ (sym (size_inferred_as d n z h.1) ∙ k.1)))
 inferred_as_read (struct fs) Separated Separated d e h k = (refl, names_agree (names_of fs) d e h.1 k)
-inferred_as_read (fixed_size_list n t x m z) Interleaved Separated d e h k = absurd k
-inferred_as_read (struct fs) Separated Interleaved d e h k = absurd k
-inferred_as_read _ _ _ d e h k = absurd h
+inferred_as_read _ _ _ d e h k = search

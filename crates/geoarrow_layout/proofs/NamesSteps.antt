@@ -20,7 +20,11 @@ use Rattle.geoarrow_layout.specs.declared.names.ExtensionName.TheVariants as nam
 use Rattle.geoarrow_layout.specs.Kinds.{name_text, name_of}
 use Rattle.geoarrow_layout.specs.Shapes.{ListsOver, levels_of, Leaf, Mixed, Native, Geometry, BoxShape, Accepted, Accepts, IsStructured, IsBytes, IsText, Answers, AnswersOne}
 use Rattle.geoarrow_layout.specs.Candidates.{Holds, IsAccepted, IsAcceptedStructure, IsNative, IsGeometry, IsBox}
+use Rattle.geoarrow_layout.specs.declared.summary.Summary.{Summary}
+use Rattle.geoarrow_layout.specs.Summary.{Summarizes}
+use Rattle.geoarrow_layout.specs.Steps.{ShowsInner}
 use Rattle.geoarrow_layout.proofs.Readings.{Answer}
+use Rattle.geoarrow_layout.proofs.UnionSteps.{inner_of}
 
 -- a number that tells trees of different kinds apart: one more a list, and below the lists 4 for a union, 6 to 8 for plain types, or 0
 abbrev plain_sort : PlainType → ℕ
@@ -181,16 +185,14 @@ no_names t box point linestring polygon multipolygon collection geometry n = (λ
     from _ h s = s
 
 -- a reader answers where something is read
-abbrev ok_of : CoordType × Dimension → Answer
-ok_of p = Ok p
-
-pub some_pair : (r : Answer) (b : Bool) (R : CoordType → Dimension → Type 0) → b ≡ is_ok r → Answers r R → IsTrue b ↔ ((c : CoordType) × (d : Dimension) × R c d)
-some_pair (Ok p) b R is a = (λ h. (p.0, p.1, (a p.0 p.1).0 refl), λ x. is)
-some_pair (Err e) b R is a = (λ h. absurd (true≢false (sym h ∙ is)), λ x. let bad : Err e ≡ ok_of (x.0, x.1) = (a x.0 x.1).1 x.2 in cc)
-
 pub some_one : {X : Type 0} (r : Result X LayoutFault) (b : Bool) (R : X → Type 0) → b ≡ is_ok r → AnswersOne r R → IsTrue b ↔ ((x : X) × R x)
 some_one (Ok x) b R is a = (λ h. (x, (a x).0 refl), λ y. is)
 some_one (Err e) b R is a = (λ h. absurd (true≢false (sym h ∙ is)), λ y. let bad = (a y.0).1 y.1 in cc)
+
+pub native_ok : (k : NativeKind) (s : Summary) (r : Answer) (b : Bool) → b ≡ is_ok r → ((t : Tree) → ShowsInner s t → Answers r (Native t k)) → (t : Tree) → Summarizes s t → IsTrue b ↔ IsNative k t
+native_ok k s r b is a t h =
+    let one = some_one r b (λ p. Native t k p.0 p.1) is (λ p. a t (inner_of s t h) p.0 p.1) in
+    (λ e. let x = one.0 e in (x.0.0, x.0.1, x.1), λ x. one.1 ((x.0, x.1), x.2))
 
 -- well-known binary and text
 abbrev WidthOf : (Width → Tree → Type 0) → Option Width → Tree → Type 0

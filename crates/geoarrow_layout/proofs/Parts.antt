@@ -1,6 +1,6 @@
 -- Ids and members: each is read in one way.
 use Rattle.std.proofs.Common.{◌≡◌, ◌↔◌, ◌≢◌, inl, inr, ℤ, pos, Option, None, refl, sym, ap, subst}
-use Rattle.arrow_values.specs.Tree.{Tree, list, large_list}
+use Rattle.arrow_values.specs.Tree.{Tree}
 use Rattle.geoarrow_layout.specs.declared.kinds.CoordType.{CoordType}
 use Rattle.geoarrow_layout.specs.declared.kinds.Dimension.{Dimension}
 use Rattle.geoarrow_layout.specs.declared.fault.LayoutFault.{LayoutFault}
@@ -10,7 +10,7 @@ use Rattle.geoarrow_layout.specs.Kinds.{type_id_of}
 use Rattle.geoarrow_layout.specs.Shapes.{OverLeaf, GeometryMember, Mixed, Answers, Native}
 use Rattle.geoarrow_layout.specs.OneShape.{any_part}
 use Rattle.geoarrow_layout.proofs.Readings.{Answer, answers_like, refuses, IsPartsOf, some_parts, kinds_same, ok_pair, refused}
-use Rattle.geoarrow_layout.proofs.Bottoms.{AtNoList}
+use Rattle.geoarrow_layout.proofs.Bottoms.{AtNoList, not_list}
 
 abbrev pub Reading : Type 1
 Reading = Tree → NativeKind → CoordType → Dimension → Type 0
@@ -37,9 +37,7 @@ pub geometry_answer : (r : Answer) (i : ℤ) (t : Tree) → Answers r (Part Nati
 geometry_answer r i t h = answers_like r (Part Native i t) (GeometryMember i t) (λ c d p. to_part p.0 i t c d p.1 p.2) (λ c d p. any_part i t c d p) h
 
 pub mixed_apart : AtNoList Mixed
-mixed_apart (list n t b m) c d h = h
-mixed_apart (large_list n t b m) c d h = h
-mixed_apart _ c d h = tt
+mixed_apart t c d h = not_list (λ x. Mixed x c d) (λ n x b m p. p) (λ n x b m p. p) t h
 
 -- no parts
 abbrev pub no_parts : Option (NativeKind × Dimension)

@@ -1,6 +1,6 @@
 -- What the names of a struct's fields say, by their bits: the dimension of a coordinate, and that of a box.
 use Rattle.std.proofs.Common.{◌≡◌, ◌↔◌, ℕ, refl, sym, ap, ◌∙◌, arith, Bool, true, false, Result, Ok, Err, inl, inr, List, [], ◌∷◌, length, Option, ◌<◌, ◌&&◌}
-use Rattle.arrow_values.specs.Tree.{Text, Tree, struct, FieldTrees, list, large_list}
+use Rattle.arrow_values.specs.Tree.{Text, Tree, struct, FieldTrees}
 use Rattle.geoarrow_layout.specs.declared.kinds.CoordType.{CoordType}
 use Rattle.geoarrow_layout.specs.declared.kinds.CoordType.TheVariants.{Interleaved, Separated}
 use Rattle.geoarrow_layout.specs.declared.kinds.Dimension.{Dimension}
@@ -15,7 +15,7 @@ use Rattle.geoarrow_layout.specs.Steps.{has_bit, IsNoLeaf}
 use Rattle.geoarrow_layout.specs.OneShape.{separated_same, box_same}
 use Rattle.geoarrow_layout.proofs.FieldSteps.{xyz_names, xym_names, three_have, has_at}
 use Rattle.geoarrow_layout.proofs.Readings.{Answer, ok, ok_same, answers_one, refuses_one, ok_pair, pairs_same, pairs_from}
-use Rattle.geoarrow_layout.proofs.Bottoms.{at_bottom, NotList}
+use Rattle.geoarrow_layout.proofs.Bottoms.{at_bottom, not_list}
 use Rattle.std.proofs.lemmas.Bool.{and_parts}
 use Rattle.geoarrow_layout.specs.declared.summary.Summary.{Summary}
 use Rattle.geoarrow_layout.proofs.UnionSteps.{below_root}
@@ -98,13 +98,8 @@ no_box count bits f six no_m no_z = λ ns same is. refuses_one f (λ d. IsBoxAs 
     none ns XYZ count6 is h = not_both (has_bit bits 4) (has_bit bits 5) no_z (has_at _ 4 bits ns (omega arith) refl refl is ∙ h.2.0, has_at _ 5 bits ns (omega arith) refl refl is ∙ h.2.1)
     none ns _ count6 is h = omega arith
 
-pub box_apart : (t : Tree) (d : Dimension) → BoxShape t d → NotList t
-box_apart (list n t b m) d h = h
-box_apart (large_list n t b m) d h = h
-box_apart _ d h = tt
-
 pub box_below : (s : Summary) (f : LayoutFault) (t : Tree) → 0 < s.levels → Summarizes s t → AnswersOne (Err f) (BoxShape t)
-box_below s f t some h = refuses_one f (BoxShape t) (λ d g. below_root s t some h (box_apart t d g))
+box_below s f t some h = refuses_one f (BoxShape t) (λ d g. below_root s t some h (not_list (λ x. BoxShape x d) (λ n x b m p. p) (λ n x b m p. p) t g))
 
 pub root_box : (w : Option ListWidth) (count names : ℕ) (floats : Bool) (u : Tree) (r : DimensionAnswer) → IsBottom IsUnion w 0 (Struct count names floats) u → BoxNames count names r → AnswersOne r (BoxShape u)
 root_box w count names floats u r k says = at_bottom IsUnion (λ x. AnswersOne r (BoxShape x)) w 0 (Struct count names floats) tt (λ x t b m z h. absurd h) (λ fs h. says (names_of fs) h.0 h.1) (λ ms mode h. absurd h) u k

@@ -10,8 +10,8 @@ use Rattle.arrow_values.specs.declared.tree.UnionMode.{UnionMode}
 use Rattle.arrow_values.specs.declared.tree.UnionMode.TheVariants.{Dense}
 use Rattle.geoarrow_layout.specs.Shapes.{AllMembers, HasMembers}
 use Rattle.geoarrow_layout.specs.Changes.{AlikeUnions, EachOf, AreJust}
-use Rattle.geoarrow_layout.proofs.MemberLists.{all_both, all_first, all_second}
-use Rattle.geoarrow_layout.proofs.AlikeLaws.{Holds, each_refl, back_refl, members_refl}
+use Rattle.geoarrow_layout.proofs.MemberLists.{all_both}
+use Rattle.geoarrow_layout.proofs.AlikeLaws.{Holds, each_refl, each_sym, members_refl}
 
 -- members, at least one, that all have P
 abbrev Filled : (ℤ → Tree → Type 0) → Members → Type 0
@@ -42,9 +42,9 @@ all_of P (m ∷ ms) h = (h (λ e. cc) Dense).1
 
 pub filled_joined : (P : ℤ → Tree → Type 0) (ms ns all : Members) → all ≡ ms ++ ns → Filled P all ↔ EachOf (Filled P) ms ns all
 filled_joined P ms ns all joined = (
-  (λ h. let each : AllMembers P (member_trees (ms ++ ns)) = subst (λ x. AllMembers P (member_trees x)) joined (h Dense).1 in
-      (any_members all (h Dense).0, (λ some mode. (some_members ms some, all_first P ms ns each)), (λ some mode. (some_members ns some, all_second P ms ns each)))),
-  (λ h mode. (some_members all h.0, subst (λ x. AllMembers P (member_trees x)) (sym joined) (all_both P ms ns (all_of P ms h.1) (all_of P ns h.2)))),
+  (λ h. let each = (all_both P ms ns).0 (subst (λ x. AllMembers P (member_trees x)) joined (h Dense).1) in
+      (any_members all (h Dense).0, (λ some mode. (some_members ms some, each.0)), (λ some mode. (some_members ns some, each.1)))),
+  (λ h mode. (some_members all h.0, subst (λ x. AllMembers P (member_trees x)) (sym joined) ((all_both P ms ns).1 (all_of P ms h.1, all_of P ns h.2)))),
 )
 
 -- members by their ids and trees
@@ -67,7 +67,7 @@ moved ms ns f i t h =
 pub same_members_alike : (ms ns : Members) → ((m : ℤ × FieldTree) → Contains ms m → Contains ns m) → ((m : ℤ × FieldTree) → Contains ns m → Contains ms m) → AlikeUnions ms ns
 same_members_alike ms ns to from = λ x y. (
   each_refl (member_trees ms) (member_trees ns) (members_refl (member_trees ms)) (moved ms ns to),
-  back_refl (member_trees ms) (member_trees ns) (members_refl (member_trees ns)) (moved ns ms from),
+  each_sym (member_trees ns) (member_trees ms) (each_refl (member_trees ns) (member_trees ms) (members_refl (member_trees ns)) (moved ns ms from)),
 )
 
 pub joined_alike : (ms ns all : Members) → all ≡ ms ++ ns → (others : Members) → AreJust ms ns others → AlikeUnions all others

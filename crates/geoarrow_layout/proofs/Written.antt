@@ -47,15 +47,13 @@ InGeometry c i t = (d : Dimension) × GeometryMember i t c d
 -- what holds of the members of each dimension
 all_dimensions : (P : ℤ → Tree → Type 0) (c : CoordType) → ((d : Dimension) → AllMembers P (member_trees (dimension_members c d))) → AllMembers P (member_trees (geometry_members c))
 all_dimensions P c h =
-    all_both P (dimension_members c XY ++ dimension_members c XYZ ++ dimension_members c XYM) (dimension_members c XYZM)
-    (all_both P (dimension_members c XY ++ dimension_members c XYZ) (dimension_members c XYM)
-    (all_both P (dimension_members c XY) (dimension_members c XYZ) (h XY) (h XYZ)) (h XYM)) (h XYZM)
+    (all_both P (dimension_members c XY ++ dimension_members c XYZ ++ dimension_members c XYM) (dimension_members c XYZM)).1
+    ((all_both P (dimension_members c XY ++ dimension_members c XYZ) (dimension_members c XYM)).1 ((all_both P (dimension_members c XY) (dimension_members c XYZ)).1 (h XY, h XYZ), h XYM), h XYZM)
 
 written_dimension : (c : CoordType) (d : Dimension) → AllMembers (InGeometry c) (member_trees (dimension_members c d))
 written_dimension c d =
-    all_both (InGeometry c) (mixed_members c d) (member_layout GeometryCollection d (native_layout GeometryCollection c d) ∷ [])
-    (all_map (λ i t. Member i t c d) (InGeometry c) (λ i t m. (d, inl m)) (member_trees (mixed_members c d)) (written_mixed c d))
-    ((d, inr (refl, written_collection c d)), tt)
+    (all_both (InGeometry c) (mixed_members c d) (member_layout GeometryCollection d (native_layout GeometryCollection c d) ∷ [])).1
+    (all_map (λ i t. Member i t c d) (InGeometry c) (λ i t m. (d, inl m)) (member_trees (mixed_members c d)) (written_mixed c d), ((d, inr (refl, written_collection c d)), tt))
 
 written_geometry : (c : CoordType) → Geometry (layout (OfGeometry c)) c
 written_geometry c = (tt, all_dimensions (InGeometry c) c (written_dimension c))
@@ -66,7 +64,7 @@ written_box XYZ = (refl, λ h. let bad : false ≡ true = h.0 in cc, (refl, refl
 written_box XYM = (refl, (refl, refl))
 written_box XYZM = refl
 
-written : (k : Kind) → Accepted k (layout k)
+pub written : (k : Kind) → Accepted k (layout k)
 written (OfNative GeometryCollection c d) = written_collection c d
 written (OfNative k c d) = written_under k c d
 written (OfGeometry c) = written_geometry c
@@ -74,9 +72,6 @@ written (OfRect d) = written_box d
 written (OfWkb Plain) = refl
 written (OfWkt Plain) = refl
 written _ = refl
-
-pub written_accepted : (k : Kind) → Accepts (name_of k) (layout k) k
-written_accepted k = (refl, written k)
 
 -- the ids of written members
 pub mixed_ids : (c : CoordType) (d : Dimension) → HasTypeIds (mixed_members c d)
@@ -91,9 +86,8 @@ mixed_written c d = ((Point, refl, refl), ((LineString, refl, refl), ((Polygon, 
 
 dimension_written : (c : CoordType) (d : Dimension) → AllMembers (IsWrittenSome c) (member_trees (dimension_members c d))
 dimension_written c d =
-    all_both (IsWrittenSome c) (mixed_members c d) (member_layout GeometryCollection d (native_layout GeometryCollection c d) ∷ [])
-    (all_map (IsWritten c d) (IsWrittenSome c) (λ i t m. (d, m)) (member_trees (mixed_members c d)) (mixed_written c d))
-    ((d, (GeometryCollection, refl, refl)), tt)
+    (all_both (IsWrittenSome c) (mixed_members c d) (member_layout GeometryCollection d (native_layout GeometryCollection c d) ∷ [])).1
+    (all_map (IsWritten c d) (IsWrittenSome c) (λ i t m. (d, m)) (member_trees (mixed_members c d)) (mixed_written c d), ((d, (GeometryCollection, refl, refl)), tt))
 
 pub geometry_written : (c : CoordType) → AllMembers (IsWrittenSome c) (member_trees (geometry_members c))
 geometry_written c = all_dimensions (IsWrittenSome c) c (dimension_written c)
