@@ -1,7 +1,7 @@
 -- `Alike` is an equivalence, and alike trees are of the same kinds.
 use Rattle.std.proofs.Common.{◌≡◌, inl, inr, ℤ, List, refl, sym, ◌∙◌, subst, ◌↔◌, ℕ, zero, suc, codes, ap}
 use Rattle.arrow_values.specs.Tree.{Text, Tree, plain, list, large_list, fixed_size_list, struct, union, MemberTrees, no_members, member, Plain}
-use Rattle.geoarrow_layout.specs.Shapes.{names_of, SameNames, AllMembers, SomeMember, Leaf, IsSeparatedAs, ListsOver, levels_of, OverLeaf, Member, Mixed, HasMembers, Collection, Native, GeometryMember, Geometry, HaveBoth, IsBoxAs, BoxShape, Accepted, Accepts}
+use Rattle.geoarrow_layout.specs.Shapes.{names_of, SameNames, AllMembers, SomeMember, Leaf, IsSeparatedAs, ListsOver, levels_of, OverLeaf, Member, Mixed, HasMembers, Collection, Native, GeometryMember, Geometry, HaveBoth, IsBoxAs, BoxShape, Accepted}
 use Rattle.geoarrow_layout.proofs.MemberLists.{all_map, all_some}
 use Rattle.geoarrow_layout.specs.Alike.{AlikeNames, Alike, EachHasAlike, HasAlike}
 use Rattle.geoarrow_layout.specs.declared.kinds.CoordType.{CoordType}
@@ -207,13 +207,10 @@ plain_same p (plain q) (plain r) h e = ap (λ x. plain x) (sym h) ∙ e
 plain_same p (plain q) _ h e = absurd h
 plain_same p _ u h e = cc
 
-alike_accepted : (k : Kind) (t u : Tree) → Alike t u → Accepted k t → Accepted k u
+pub alike_accepted : (k : Kind) (t u : Tree) → Alike t u → Accepted k t → Accepted k u
 alike_accepted (OfNative k c d) t u h a = alike_native k t u c d h a
 alike_accepted (OfGeometry c) t u h a = alike_geometry t u c h a
 alike_accepted (OfRect d) t u h a = alike_boxes t u d h a
 alike_accepted (OfWkb Narrow) t u h a = plain_same _ t u h a
 alike_accepted (OfWkt Narrow) t u h a = plain_same _ t u h a
 alike_accepted _ t u h a = plain_same _ t u h a
-
-pub same_kinds : (t u : Tree) → Alike t u → (name : Text) (k : Kind) → Accepts name t k ↔ Accepts name u k
-same_kinds t u h name k = (λ a. (a.0, alike_accepted k t u h a.1), λ a. (a.0, alike_accepted k u t (alike_sym t u h) a.1))

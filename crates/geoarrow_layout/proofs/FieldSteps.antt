@@ -1,5 +1,5 @@
 -- The fields of a struct: which names are those of a coordinate, and which bits stand for them.
-use Rattle.std.proofs.Common.{◌≡◌, ◌↔◌, ◌⊎◌, inl, inr, suc, Bool, true, false, ◌||◌, List, [], ◌∷◌, length, refl, sym, ap, ◌∙◌, arith, ◌<◌, ◌≤◌, ℕ, zero, ◌+◌, subst, ◌&&◌, cond, ◌++◌, take, get_or, eq-eqb}
+use Rattle.std.proofs.Common.{◌≡◌, ◌↔◌, ◌⊎◌, inl, inr, suc, Bool, true, false, ◌||◌, List, [], ◌∷◌, length, refl, sym, ap, ◌∙◌, arith, ◌<◌, ℕ, zero, ◌+◌, subst, ◌&&◌, cond, ◌++◌, take, get_or, eq-eqb}
 use Rattle.std.specs.List.{list_any}
 use Rattle.std.specs.Str.{bytes_eq}
 use Rattle.std.proofs.lemmas.Slice.Eq.{bytes_eq-Decides}
@@ -69,13 +69,6 @@ same_three x y z names xy xz yz count hx hy hz =
     let none : d.rest ≡ [] = empty_from d.rest (omega arith) in
     λ n. a.same n ∙ ap (λ r. bytes_eq x n || r) (b.same n ∙ ap (λ r. bytes_eq y n || r) (d.same n ∙ ap (λ r. bytes_eq z n || has_name n r) none))
 
-pub xyz_names : (names : List Text) → length names ≡ 3 → has_name (120 ∷ []) names ≡ true → has_name (121 ∷ []) names ≡ true → has_name (122 ∷ []) names ≡ true → IsSeparatedAs XYZ names
-xyz_names names count hx hy hz = (count, same_three _ _ _ names refl refl refl count hx hy hz)
-
-pub xym_names : (names : List Text) → length names ≡ 3 → has_name (120 ∷ []) names ≡ true → has_name (121 ∷ []) names ≡ true → has_name (109 ∷ []) names ≡ true → IsSeparatedAs XYM names
-xym_names names count hx hy hz = (count, same_three _ _ _ names refl refl refl count hx hy hz)
-
--- three names of a coordinate have `x` and `y`, and `z` or `m`
 pub three_have : (names : List Text) (d : Dimension) → length names ≡ 3 → IsSeparatedAs d names → (has_name (120 ∷ []) names ≡ true) × (has_name (121 ∷ []) names ≡ true) × ((has_name (122 ∷ []) names ≡ true) ⊎ (has_name (109 ∷ []) names ≡ true))
 unfolding SameNames
 three_have names XYZ count h = (h.1 (120 ∷ []), h.1 (121 ∷ []), inl (h.1 (122 ∷ [])))

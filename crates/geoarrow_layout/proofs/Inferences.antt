@@ -6,7 +6,7 @@ use Rattle.arrow_values.specs.Tree.{Text, Metadata, Tree, fixed_size_list, struc
 use Rattle.geoarrow_layout.specs.declared.kinds.CoordType.{CoordType}
 use Rattle.geoarrow_layout.specs.declared.kinds.CoordType.TheVariants.{Interleaved, Separated}
 use Rattle.geoarrow_layout.specs.declared.kinds.Dimension.{Dimension}
-use Rattle.geoarrow_layout.specs.declared.kinds.Dimension.TheVariants.{XY, XYZ, XYM, XYZM}
+use Rattle.geoarrow_layout.specs.declared.kinds.Dimension.TheVariants.{XY, XYZ, XYM}
 use Rattle.geoarrow_layout.specs.declared.summary.ListWidth.{ListWidth}
 use Rattle.geoarrow_layout.specs.declared.summary.Bottom.TheVariants.{FixedSizeList, Struct}
 use Rattle.geoarrow_layout.specs.declared.summary.Summary.{Summary}
@@ -16,7 +16,7 @@ use Rattle.geoarrow_layout.specs.Summary.{IsBits, SomeAt, IsBottom, IsUnion, Sum
 use Rattle.geoarrow_layout.specs.Inferred.{are_float64, AnswersSome, Inferred, IsInferredAs, IsInferredSize}
 use Rattle.geoarrow_layout.specs.Steps.{has_bit, is_measured, NamesSay, SizeSays}
 use Rattle.geoarrow_layout.specs.OneShape.{apart, separated_same}
-use Rattle.geoarrow_layout.proofs.FieldSteps.{xym_names, has_at}
+use Rattle.geoarrow_layout.proofs.FieldSteps.{same_three, has_at}
 use Rattle.geoarrow_layout.proofs.Bottoms.{not_list, at_bottom}
 use Rattle.geoarrow_layout.proofs.UnionSteps.{below_root}
 
@@ -76,7 +76,7 @@ measured_to : (bits : ℕ) (ns : List Text) → Bits bits ns → length ns ≡ 3
 measured_to bits ns is three h =
     let p = and_parts (has_bit bits 0 && has_bit bits 1) (has_bit bits 3) h in
     let q = and_parts (has_bit bits 0) (has_bit bits 1) p.0 in
-    (xym_names ns three (sym (has_at _ 0 bits ns (omega arith) refl refl is) ∙ q.0) (sym (has_at _ 1 bits ns (omega arith) refl refl is) ∙ q.1) (sym (has_at _ 3 bits ns (omega arith) refl refl is) ∙ p.1)).1
+    same_three _ _ _ ns refl refl refl three (sym (has_at _ 0 bits ns (omega arith) refl refl is) ∙ q.0) (sym (has_at _ 1 bits ns (omega arith) refl refl is) ∙ q.1) (sym (has_at _ 3 bits ns (omega arith) refl refl is) ∙ p.1)
 
 measured_from : (bits : ℕ) (ns : List Text) → Bits bits ns → is_measured bits ≡ false → SameNames ns (codes "x" ∷ codes "y" ∷ codes "m" ∷ []) → ⊥
 unfolding SameNames

@@ -1,5 +1,5 @@
 -- The kinds exclude one another, but for point and box and for kinds of the same lists.
-use Rattle.std.proofs.Common.{◌≡◌, ◌↔◌, ◌⊎◌, ◌+◌, inl, inr, ℕ, zero, suc, Bool, true, false, true≢false, Option, Some, None, Result, Ok, Err, IsTrue, refl, sym, ap, ◌∙◌, arith}
+use Rattle.std.proofs.Common.{◌≡◌, ◌↔◌, ◌⊎◌, ◌+◌, inl, inr, ℕ, zero, suc, Bool, true, false, true≢false, Option, Some, None, Result, Ok, Err, IsTrue, refl, sym, ap, subst, ◌∙◌, arith}
 use Rattle.std.specs.Result.{is_ok}
 use Rattle.std.specs.Option.{is_some}
 use Rattle.arrow_values.specs.Tree.{Text, Plain as PlainType, binary, large_binary, binary_view, utf8, large_utf8, utf8_view, Tree, plain, list, large_list, fixed_size_list, struct, union}
@@ -88,6 +88,29 @@ sorted (OfWkb _) t h = ap sort_of h
 sorted (OfWkt Plain) t h = ap sort_of h
 sorted (OfWkt _) t h = ap sort_of h
 
+-- the names of the kinds of a number
+abbrev NamedAt : ℕ → Text → Type 0
+NamedAt zero n = Holds PointOrBox n
+NamedAt (suc zero) n = Holds LineStringOrMultiPoint n
+NamedAt (suc (suc zero)) n = Holds PolygonOrMultiLineString n
+NamedAt (suc (suc (suc zero))) n = n ≡ name_text (names.Native MultiPolygon)
+NamedAt (suc (suc (suc (suc zero)))) n = n ≡ name_text names.Geometry
+NamedAt (suc (suc (suc (suc (suc zero))))) n = n ≡ name_text (names.Native GeometryCollection)
+NamedAt (suc (suc (suc (suc (suc (suc zero)))))) n = n ≡ name_text names.Wkb
+NamedAt _ n = n ≡ name_text names.Wkt
+
+named_at : (l : Kind) → NamedAt (sort_in l) (name_of l)
+named_at (OfNative Point c d) = inl refl
+named_at (OfNative LineString c d) = inl refl
+named_at (OfNative Polygon c d) = inl refl
+named_at (OfNative MultiPoint c d) = inr refl
+named_at (OfNative MultiLineString c d) = inr refl
+named_at (OfRect d) = inr refl
+named_at _ = refl
+
+named_as : (k l : Kind) → sort_in k ≡ sort_in l → NamedAt (sort_in k) (name_of l)
+named_as k l same = subst (λ s. NamedAt s (name_of l)) (sym same) (named_at l)
+
 same_sort : (k l : Kind) (t : Tree) → Accepted k t → Accepted l t → sort_in k ≡ sort_in l
 same_sort k l t h g = sym (sorted k t h) ∙ sorted l t g
 
@@ -108,28 +131,13 @@ alone : (k : Kind) (t : Tree) → IsStructured k → Accepted k t → ((l : Kind
 alone k t s h only n = ((λ e. (k, (e, h), s)), (λ a. a.1.0 ∙ only a.0 a.1.1 (same_sort k a.0 t h a.1.1)))
 
 pub linestring_names : (t : Tree) → IsNative LineString t → Names (Holds LineStringOrMultiPoint) t
-linestring_names t h = two_names (OfNative LineString h.0 h.1) (OfNative MultiPoint h.0 h.1) t tt h.2 tt h.2 only
-  where
-    only : (l : Kind) → 1 ≡ sort_in l → Holds LineStringOrMultiPoint (name_of l)
-    only (OfNative LineString c d) s = inl refl
-    only (OfNative MultiPoint c d) s = inr refl
-    only l s = absurd (omega arith)
+linestring_names t h = two_names (OfNative LineString h.0 h.1) (OfNative MultiPoint h.0 h.1) t tt h.2 tt h.2 (named_as (OfNative LineString h.0 h.1))
 
 pub polygon_names : (t : Tree) → IsNative Polygon t → Names (Holds PolygonOrMultiLineString) t
-polygon_names t h = two_names (OfNative Polygon h.0 h.1) (OfNative MultiLineString h.0 h.1) t tt h.2 tt h.2 only
-  where
-    only : (l : Kind) → 2 ≡ sort_in l → Holds PolygonOrMultiLineString (name_of l)
-    only (OfNative Polygon c d) s = inl refl
-    only (OfNative MultiLineString c d) s = inr refl
-    only l s = absurd (omega arith)
+polygon_names t h = two_names (OfNative Polygon h.0 h.1) (OfNative MultiLineString h.0 h.1) t tt h.2 tt h.2 (named_as (OfNative Polygon h.0 h.1))
 
 pub point_and_box : (t : Tree) → IsNative Point t → IsBox t → Names (Holds PointOrBox) t
-point_and_box t p b = two_names (OfNative Point p.0 p.1) (OfRect b.0) t tt p.2 tt b.1 only
-  where
-    only : (l : Kind) → 0 ≡ sort_in l → Holds PointOrBox (name_of l)
-    only (OfNative Point c d) s = inl refl
-    only (OfRect d) s = inr refl
-    only l s = absurd (omega arith)
+point_and_box t p b = two_names (OfNative Point p.0 p.1) (OfRect b.0) t tt p.2 tt b.1 (named_as (OfRect b.0))
 
 pub box_alone : (t : Tree) → ¬ IsNative Point t → IsBox t → Names (λ n. n ≡ name_text names.Rect) t
 box_alone t p b = alone (OfRect b.0) t tt b.1 only
@@ -148,26 +156,13 @@ point_alone t p b = alone (OfNative Point p.0 p.1) t tt p.2 only
     only l h s = absurd (omega arith)
 
 pub multipolygon_alone : (t : Tree) → IsNative MultiPolygon t → Names (λ n. n ≡ name_text (names.Native MultiPolygon)) t
-multipolygon_alone t h = alone (OfNative MultiPolygon h.0 h.1) t tt h.2 (λ l a. only l)
-  where
-    only : (l : Kind) → 3 ≡ sort_in l → name_of l ≡ name_text (names.Native MultiPolygon)
-    only (OfNative MultiPolygon c d) s = refl
-    only l s = absurd (omega arith)
+multipolygon_alone t h = alone (OfNative MultiPolygon h.0 h.1) t tt h.2 (λ l a. named_as (OfNative MultiPolygon h.0 h.1) l)
 
 pub collection_alone : (t : Tree) → IsNative GeometryCollection t → Names (λ n. n ≡ name_text (names.Native GeometryCollection)) t
-collection_alone t h = alone (OfNative GeometryCollection h.0 h.1) t tt h.2 (λ l a. only l)
-  where
-    only : (l : Kind) → 5 ≡ sort_in l → name_of l ≡ name_text (names.Native GeometryCollection)
-    only (OfNative GeometryCollection c d) s = refl
-    only l s = absurd (omega arith)
+collection_alone t h = alone (OfNative GeometryCollection h.0 h.1) t tt h.2 (λ l a. named_as (OfNative GeometryCollection h.0 h.1) l)
 
 pub geometry_alone : (t : Tree) → IsGeometry t → Names (λ n. n ≡ name_text names.Geometry) t
-geometry_alone t h = alone (OfGeometry h.0) t tt h.1 (λ l a. only l)
-  where
-    only : (l : Kind) → 4 ≡ sort_in l → name_of l ≡ name_text names.Geometry
-    only (OfGeometry c) s = refl
-    only (OfNative Point c d) s = absurd (omega arith)
-    only l s = absurd (omega arith)
+geometry_alone t h = alone (OfGeometry h.0) t tt h.1 (λ l a. named_as (OfGeometry h.0) l)
 
 pub no_names : (t : Tree) → ¬ IsBox t → ¬ IsNative Point t → ¬ IsNative LineString t → ¬ IsNative Polygon t → ¬ IsNative MultiPolygon t → ¬ IsNative GeometryCollection t → ¬ IsGeometry t → Names (Holds NoName) t
 no_names t box point linestring polygon multipolygon collection geometry n = (λ e. absurd e, λ a. from a.0 a.1.1 a.2)
@@ -211,20 +206,10 @@ stored_alone : (k : Kind) (t : Tree) → Accepted k t → ((l : Kind) → sort_i
 stored_alone k t h only n = (λ e. (k, (e, h)), λ a. a.1.0 ∙ only a.0 (same_sort k a.0 t h a.1.1))
 
 pub bytes_alone : (t : Tree) (r : Option Width) (b : Bool) → WidthOf IsBytes r t → b ≡ is_some r → b ≡ true → (n : Text) → (n ≡ name_text names.Wkb) ↔ IsAccepted n t
-bytes_alone t r b says is h = let w = a_width IsBytes t r b says is h in stored_alone (OfWkb w.0) t w.1 only
-  where
-    only : (l : Kind) → 6 ≡ sort_in l → name_of l ≡ name_text names.Wkb
-    only (OfWkb w) s = refl
-    only (OfNative Point c d) s = absurd (omega arith)
-    only l s = absurd (omega arith)
+bytes_alone t r b says is h = let w = a_width IsBytes t r b says is h in stored_alone (OfWkb w.0) t w.1 (named_as (OfWkb w.0))
 
 pub text_alone : (t : Tree) (r : Option Width) (b : Bool) → WidthOf IsText r t → b ≡ is_some r → b ≡ true → (n : Text) → (n ≡ name_text names.Wkt) ↔ IsAccepted n t
-text_alone t r b says is h = let w = a_width IsText t r b says is h in stored_alone (OfWkt w.0) t w.1 only
-  where
-    only : (l : Kind) → 7 ≡ sort_in l → name_of l ≡ name_text names.Wkt
-    only (OfWkt w) s = refl
-    only (OfNative Point c d) s = absurd (omega arith)
-    only l s = absurd (omega arith)
+text_alone t r b says is h = let w = a_width IsText t r b says is h in stored_alone (OfWkt w.0) t w.1 (named_as (OfWkt w.0))
 
 -- what is neither has the names of its structure alone
 pub structures_alone : (t : Tree) (result : Candidates) (r s : Option Width) (b e : Bool) → WidthOf IsBytes r t → b ≡ is_some r → b ≡ false → WidthOf IsText s t → e ≡ is_some s → e ≡ false → Names (Holds result) t → (n : Text) → Holds result n ↔ IsAccepted n t

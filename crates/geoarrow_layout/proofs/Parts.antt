@@ -1,5 +1,5 @@
 -- Ids and members: each is read in one way.
-use Rattle.std.proofs.Common.{◌≡◌, ◌↔◌, ◌≢◌, inl, inr, ℤ, pos, Option, None, refl, sym, ap, subst}
+use Rattle.std.proofs.Common.{◌≡◌, ◌↔◌, ◌≢◌, inl, inr, ℤ, pos, Option, None, refl, sym, ap, subst, ◌∙◌}
 use Rattle.arrow_values.specs.Tree.{Tree}
 use Rattle.geoarrow_layout.specs.declared.kinds.CoordType.{CoordType}
 use Rattle.geoarrow_layout.specs.declared.kinds.Dimension.{Dimension}
@@ -18,11 +18,11 @@ Reading = Tree → NativeKind → CoordType → Dimension → Type 0
 abbrev pub Part : Reading → ℤ → Tree → CoordType → Dimension → Type 0
 Part N i t c d = (k : NativeKind) × (i ≡ pos (type_id_of k d)) × N t k c d
 
-pub part_answer : (N : Reading) (i : ℤ) (t : Tree) (k : NativeKind) (d : Dimension) (read r : Answer) → IsPartsOf i (some_parts k d) → ((c : CoordType) (e : Dimension) → (r ≡ ok_pair c e) ↔ ((read ≡ ok_pair c e) × (e ≡ d)))
+pub part_answer : (N : Reading) (i z : ℤ) (t : Tree) (k : NativeKind) (d : Dimension) (read r : Answer) → z ≡ i → IsPartsOf z (some_parts k d) → ((c : CoordType) (e : Dimension) → (r ≡ ok_pair c e) ↔ ((read ≡ ok_pair c e) × (e ≡ d)))
     → Answers read (N t k) → Answers r (Part N i t)
-part_answer N i t k d read r parts kept native = λ c e. (
-  (λ h. let p = (kept c e).0 h in (k, (parts k e).0 (ap (some_parts k) (sym p.1)), (native c e).0 p.0)),
-  (λ m. let p = kinds_same k m.0 d e ((parts m.0 e).1 m.1) in (kept c e).1 ((native c e).1 (subst (λ x. N t x c e) (sym p.0) m.2), sym p.1)),
+part_answer N i z t k d read r is parts kept native = λ c e. (
+  (λ h. let p = (kept c e).0 h in (k, sym is ∙ (parts k e).0 (ap (some_parts k) (sym p.1)), (native c e).0 p.0)),
+  (λ m. let p = kinds_same k m.0 d e ((parts m.0 e).1 (is ∙ m.1)) in (kept c e).1 ((native c e).1 (subst (λ x. N t x c e) (sym p.0) m.2), sym p.1)),
 )
 
 pub part_unknown : (N : Reading) (e : LayoutFault) (i : ℤ) (t : Tree) → ((k : NativeKind) (d : Dimension) → i ≡ pos (type_id_of k d) → ⊥) → Answers (refused e) (Part N i t)
@@ -43,8 +43,8 @@ mixed_apart t c d h = not_list (λ x. Mixed x c d) (λ n x b m p. p) (λ n x b m
 abbrev pub no_parts : Option (NativeKind × Dimension)
 no_parts = None
 
-pub none_known : (i : ℤ) → IsPartsOf i no_parts → (k : NativeKind) (d : Dimension) → i ≡ pos (type_id_of k d) → ⊥
-none_known i parts k d id = let bad : no_parts ≡ some_parts k d = (parts k d).1 id in cc
+pub none_known : (i z : ℤ) → z ≡ i → IsPartsOf z no_parts → (k : NativeKind) (d : Dimension) → i ≡ pos (type_id_of k d) → ⊥
+none_known i z is parts k d id = let bad : no_parts ≡ some_parts k d = (parts k d).1 (is ∙ id) in cc
 
 pub native_any : (k : NativeKind) (t : Tree) (r : Answer) → (k ≢ GeometryCollection) → Answers r (OverLeaf t k) → Answers r (Native t k)
 native_any GeometryCollection t r h a = absurd (h refl)

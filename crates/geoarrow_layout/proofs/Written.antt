@@ -13,8 +13,7 @@ use Rattle.geoarrow_layout.specs.declared.encodings.NativeKind.TheVariants.{Poin
 use Rattle.geoarrow_layout.specs.declared.encodings.Width.TheVariants.{Plain}
 use Rattle.geoarrow_layout.specs.declared.encodings.Kind.{Kind}
 use Rattle.geoarrow_layout.specs.declared.encodings.Kind.TheVariants.{Native as OfNative, Geometry as OfGeometry, Rect as OfRect, Wkb as OfWkb, Wkt as OfWkt}
-use Rattle.geoarrow_layout.specs.Kinds.{name_of}
-use Rattle.geoarrow_layout.specs.Shapes.{Leaf, levels_of, SameNames, Member, AllMembers, Collection, GeometryMember, Geometry, BoxShape, Accepted, Accepts}
+use Rattle.geoarrow_layout.specs.Shapes.{Leaf, levels_of, SameNames, Member, AllMembers, Collection, GeometryMember, Geometry, BoxShape, Accepted}
 use Rattle.geoarrow_layout.specs.OneShape.{LeafUnder}
 use Rattle.geoarrow_layout.specs.Layouts.{leaf_layout, over_leaf_layout, member_layout, mixed_members, mixed_layout, native_layout, dimension_members, geometry_members, layout, IsWritten, IsWrittenSome}
 use Rattle.geoarrow_layout.proofs.MemberLists.{all_map, all_both}
