@@ -35,7 +35,7 @@ any_map P Q f (member i n t b m ms) (inl p) = inl (f i t p)
 any_map P Q f (member i n t b m ms) (inr h) = inr (any_map P Q f ms h)
 
 -- the two recursions over the first union say the same as the quantifiers
-has_any : (ms : MemberTrees) (j : ℤ) (u : Tree) → HasAlike ms j u ↔ SomeMember (λ i t. (i ≡ j) × Alike t u) ms
+pub has_any : (ms : MemberTrees) (j : ℤ) (u : Tree) → HasAlike ms j u ↔ SomeMember (λ i t. (i ≡ j) × Alike t u) ms
 has_any no_members j u = (λ h. h, λ h. h)
 has_any (member i n t b m ms) j u = let rest = has_any ms j u in (λ h. elim h [ inl p ↦ inl p | inr e ↦ inr (rest.0 e) ], λ h. elim h [ inl p ↦ inl p | inr e ↦ inr (rest.1 e) ])
 

@@ -108,9 +108,8 @@ fields_seen_more names place more b b2 all k x lt at is adds float before =
 -- a known name is there exactly where its bit is set
 place_to_head : (n m : Text) (ms : List Text) (k : ℕ) (b : Bool) → bytes_eq n m ≡ b → ((j : ℕ) → j < length ms → place_in n ms ≡ j → bytes_eq n (get_or ms j []) ≡ true) → k < suc (length ms) → cond b 0 (suc (place_in n ms)) ≡ k → bytes_eq n (get_or (m ∷ ms) k []) ≡ true
 place_to_head n m ms zero true e rec lt h = e
-place_to_head n m ms (suc k) true e rec lt h = absurd (omega arith)
-place_to_head n m ms zero false e rec lt h = absurd (omega arith)
 place_to_head n m ms (suc k) false e rec lt h = rec k (omega arith) (omega arith)
+place_to_head n m ms _ _ e rec lt h = absurd (omega arith)
 
 place_to : (n : Text) (ms : List Text) (k : ℕ) → k < length ms → place_in n ms ≡ k → bytes_eq n (get_or ms k []) ≡ true
 place_to n [] k lt h = absurd (omega arith)

@@ -1,7 +1,7 @@
 -- Points that trees are taken for.
 use Rattle.std.proofs.Common.{◌≡◌, ◌↔◌, ◌<◌, inl, inr, ℕ, ℤ, pos, refl, sym, ap, subst, ◌∙◌, arith, Bool, true, false, ◌&&◌, Option, Some, None, List, [], ◌∷◌, length, codes}
 use Rattle.std.proofs.lemmas.Bool.{and_parts, cases_Bool}
-use Rattle.std.proofs.lemmas.Option.{same_Some}
+use Rattle.std.proofs.lemmas.Option.{some_pair_parts}
 use Rattle.arrow_values.specs.Tree.{Text, Metadata, Tree, fixed_size_list, struct, FieldTrees}
 use Rattle.geoarrow_layout.specs.declared.kinds.CoordType.{CoordType}
 use Rattle.geoarrow_layout.specs.declared.kinds.CoordType.TheVariants.{Interleaved, Separated}
@@ -18,6 +18,7 @@ use Rattle.geoarrow_layout.specs.Steps.{has_bit, is_measured, NamesSay, SizeSays
 use Rattle.geoarrow_layout.specs.OneShape.{apart, separated_same}
 use Rattle.geoarrow_layout.proofs.FieldSteps.{same_three, has_at}
 use Rattle.geoarrow_layout.proofs.Bottoms.{not_list, at_bottom}
+use Rattle.geoarrow_layout.proofs.BitSteps.{pos_same}
 use Rattle.geoarrow_layout.proofs.UnionSteps.{below_root}
 
 abbrev pub PairOption : Type 0
@@ -60,12 +61,12 @@ only_separated : (fs : FieldTrees) (c : CoordType) (d : Dimension) → Inferred 
 only_separated fs Separated d h = refl
 only_separated fs Interleaved d h = absurd h
 
-pub size_inferred : (w : Option ListWidth) (named : Option Dimension) (size : ℤ) (floats : Bool) (o : Option Dimension) (r : PairOption) (u : Tree)
-    → IsBottom IsUnion w 0 (FixedSizeList named size floats) u → floats ≡ true → ((d : Dimension) → (o ≡ Some d) ↔ SizeSays d named size) → Pairs Interleaved o r → AnswersSome r (Inferred u)
-size_inferred w named size floats o r u k all says pairs =
+pub size_inferred : (w : Option ListWidth) (named : Option Dimension) (size told : ℤ) (floats : Bool) (o : Option Dimension) (r : PairOption) (u : Tree)
+    → IsBottom IsUnion w 0 (FixedSizeList named size floats) u → floats ≡ true → told ≡ size → ((d : Dimension) → (o ≡ Some d) ↔ SizeSays d named told) → Pairs Interleaved o r → AnswersSome r (Inferred u)
+size_inferred w named size told floats o r u k all same says pairs =
     at_bottom IsUnion (λ x. AnswersSome r (Inferred x)) w 0 (FixedSizeList named size floats) tt
-    (λ n t b m z h. inferred_pair Interleaved o r (λ d. SizeSays d named size) (fixed_size_list n t b m z) (only_interleaved n t b m z)
-    (λ d. let is = size_is d named n size z h.0 h.1 in (λ s. (sym h.2 ∙ all, is.0 s), λ i. is.1 i.1)) says pairs)
+    (λ n t b m z h. inferred_pair Interleaved o r (λ d. SizeSays d named told) (fixed_size_list n t b m z) (only_interleaved n t b m z)
+    (λ d. let is = size_is d named n told z h.0 (same ∙ h.1) in (λ s. (sym h.2 ∙ all, is.0 s), λ i. is.1 i.1)) says pairs)
     (λ fs h. absurd h) (λ ms mode h. absurd h) u k
 
 -- structs
@@ -106,9 +107,6 @@ names_inferred w count names floats o r u k all says pairs =
     (λ ms mode h. absurd h) u k
 
 -- two fields, whatever their names are
-abbrev pair : CoordType → Dimension → CoordType × Dimension
-pair c d = (c, d)
-
 pub no_floats_inferred : (r : PairOption) (fs : FieldTrees) → are_float64 fs ≡ false → r ≡ no_pair → AnswersSome r (Inferred (struct fs))
 no_floats_inferred r fs floatless is = λ c d. at_type c d
   where
@@ -123,12 +121,9 @@ two_names ns _ two h = absurd (omega arith)
 pub pair_inferred : (r : PairOption) (fs : FieldTrees) → are_float64 fs ≡ true → length (names_of fs) ≡ 2 → r ≡ some_pair Separated XY → AnswersSome r (Inferred (struct fs))
 pair_inferred r fs all two is = λ c d. at_type c d
   where
-    one_pair : (c : CoordType) (d : Dimension) → r ≡ some_pair c d → pair Separated XY ≡ pair c d
-    one_pair c d e = same_Some (Separated, XY) (c, d) (sym is ∙ e)
-
     at_type : (c : CoordType) (d : Dimension) → (r ≡ some_pair c d) ↔ Inferred (struct fs) c d
-    at_type Separated d = (λ e. (all, subst (λ x. IsInferredAs x (names_of fs)) (ap (λ p. p.1) (one_pair Separated d e)) two), λ h. is ∙ ap (some_pair Separated) (two_names (names_of fs) d two h.1))
-    at_type Interleaved d = (λ e. let bad : Separated ≡ Interleaved = ap (λ p. p.0) (one_pair Interleaved d e) in cc, λ h. absurd h)
+    at_type Separated d = (λ e. (all, subst (λ x. IsInferredAs x (names_of fs)) (some_pair_parts Separated Separated XY d (sym is ∙ e)).1 two), λ h. is ∙ ap (some_pair Separated) (two_names (names_of fs) d two h.1))
+    at_type Interleaved d = (λ e. let bad = (some_pair_parts Separated Interleaved XY d (sym is ∙ e)).0 in cc, λ h. absurd h)
 
 -- a coordinate is taken for what it is read as
 names_agree : (ns : List Text) (d e : Dimension) → IsInferredAs d ns → IsSeparatedAs e ns → d ≡ e
@@ -141,9 +136,6 @@ size_inferred_as : (d : Dimension) (name : Text) (z : ℤ) → IsInferredSize d 
 size_inferred_as XYZ name z h = h.0
 size_inferred_as XYM name z h = h.0
 size_inferred_as _ name z h = h
-
-pos_same : (m n : ℕ) → pos m ≡ pos n → m ≡ n
-pos_same m n h = cc
 
 size_agrees : (name : Text) (z : ℤ) (d e : Dimension) → IsInferredSize d name z → name ≡ interleaved_name e → size_of d ≡ size_of e → d ≡ e
 size_agrees name z XYZ XYM h named size = absurd (h.1 named)

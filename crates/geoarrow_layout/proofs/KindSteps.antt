@@ -1,6 +1,7 @@
 -- The kind of a name and a tree: there is one at most, and it is what a reader's answer says.
 use Rattle.std.proofs.Common.{◌≡◌, cond, refl, sym, ap, subst, ◌∙◌, ◌↔◌, IfSome, Option, Some, None, Result, Ok, Err}
 use Rattle.std.specs.Str.{bytes_eq}
+use Rattle.std.proofs.lemmas.Option.{same_Some}
 use Rattle.arrow_values.specs.Tree.{Text, Tree}
 use Rattle.geoarrow_layout.specs.declared.kinds.CoordType.{CoordType}
 use Rattle.geoarrow_layout.specs.declared.kinds.Dimension.{Dimension}
@@ -82,15 +83,12 @@ none_accepted n t none l h = none (subst (λ m. IsRead m t) (sym (one_name n (ex
 
 -- ---- answers
 
-some_same : (k l : Kind) → Some k ≡ Some l → k ≡ l
-some_same k l h = cc
-
 refuses : {X : Type 0} (f : LayoutFault) (r : Result X LayoutFault) (x : X) → r ≡ Err f → r ≡ Ok x → ⊥
 refuses f r x bad good = cc
 
 -- a kind that accepts the tree is the one
 pub kind_some : (n : Text) (t : Tree) (k : Kind) → IsStructured k → Accepts n t k → AnswersKind n t (Some k)
-kind_some n t k s here = λ l. (λ e. subst (λ x. Accepts n t x × IsStructured x) (some_same k l e) (here, s), λ h. ap (λ x. Some x) (one_kind n t k l here h.0))
+kind_some n t k s here = λ l. (λ e. subst (λ x. Accepts n t x × IsStructured x) (same_Some k l e) (here, s), λ h. ap (λ x. Some x) (one_kind n t k l here h.0))
 
 kind_none : (n : Text) (t : Tree) → ((l : Kind) → Accepts n t l → ⊥) → AnswersKind n t None
 kind_none n t none = λ l. (λ e. cc, λ h. absurd (none l h.0))

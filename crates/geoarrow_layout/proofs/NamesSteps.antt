@@ -1,5 +1,5 @@
 -- The kinds exclude one another, but for point and box and for kinds of the same lists.
-use Rattle.std.proofs.Common.{◌≡◌, ◌↔◌, ◌⊎◌, ◌+◌, inl, inr, ℕ, zero, suc, Bool, true, false, true≢false, Option, Some, None, Result, Ok, Err, IsTrue, refl, sym, ap, subst, ◌∙◌, arith}
+use Rattle.std.proofs.Common.{◌≡◌, ◌↔◌, ◌⊎◌, ◌+◌, inl, inr, ℕ, zero, suc, Bool, true, false, true≢false, Option, Some, None, Result, Ok, Err, IsTrue, refl, sym, ap, subst, ◌∙◌, arith, rules}
 use Rattle.std.specs.Result.{is_ok}
 use Rattle.std.specs.Option.{is_some}
 use Rattle.arrow_values.specs.Tree.{Text, Plain as PlainType, binary, large_binary, binary_view, utf8, large_utf8, utf8_view, Tree, plain, list, large_list, fixed_size_list, struct, union}
@@ -101,12 +101,7 @@ NamedAt _ n = n ≡ name_text names.Wkt
 
 named_at : (l : Kind) → NamedAt (sort_in l) (name_of l)
 named_at (OfNative Point c d) = inl refl
-named_at (OfNative LineString c d) = inl refl
-named_at (OfNative Polygon c d) = inl refl
-named_at (OfNative MultiPoint c d) = inr refl
-named_at (OfNative MultiLineString c d) = inr refl
-named_at (OfRect d) = inr refl
-named_at _ = refl
+named_at _ = search rules
 
 named_as : (k l : Kind) → sort_in k ≡ sort_in l → NamedAt (sort_in k) (name_of l)
 named_as k l same = subst (λ s. NamedAt s (name_of l)) (sym same) (named_at l)

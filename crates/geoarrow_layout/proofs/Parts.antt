@@ -1,5 +1,6 @@
 -- Ids and members: each is read in one way.
 use Rattle.std.proofs.Common.{◌≡◌, ◌↔◌, ◌≢◌, inl, inr, ℤ, pos, Option, None, refl, sym, ap, subst, ◌∙◌}
+use Rattle.std.proofs.lemmas.Option.{some_pair_parts}
 use Rattle.arrow_values.specs.Tree.{Tree}
 use Rattle.geoarrow_layout.specs.declared.kinds.CoordType.{CoordType}
 use Rattle.geoarrow_layout.specs.declared.kinds.Dimension.{Dimension}
@@ -9,7 +10,7 @@ use Rattle.geoarrow_layout.specs.declared.encodings.NativeKind.TheVariants.{Geom
 use Rattle.geoarrow_layout.specs.Kinds.{type_id_of}
 use Rattle.geoarrow_layout.specs.Shapes.{OverLeaf, GeometryMember, Mixed, Answers, Native}
 use Rattle.geoarrow_layout.specs.OneShape.{any_part}
-use Rattle.geoarrow_layout.proofs.Readings.{Answer, answers_like, refuses, IsPartsOf, some_parts, kinds_same, ok_pair, refused}
+use Rattle.geoarrow_layout.proofs.Readings.{Answer, answers_like, refuses, IsPartsOf, some_parts, ok_pair, refused}
 use Rattle.geoarrow_layout.proofs.Bottoms.{AtNoList, not_list}
 
 abbrev pub Reading : Type 1
@@ -22,7 +23,7 @@ pub part_answer : (N : Reading) (i z : ℤ) (t : Tree) (k : NativeKind) (d : Dim
     → Answers read (N t k) → Answers r (Part N i t)
 part_answer N i z t k d read r is parts kept native = λ c e. (
   (λ h. let p = (kept c e).0 h in (k, sym is ∙ (parts k e).0 (ap (some_parts k) (sym p.1)), (native c e).0 p.0)),
-  (λ m. let p = kinds_same k m.0 d e ((parts m.0 e).1 (is ∙ m.1)) in (kept c e).1 ((native c e).1 (subst (λ x. N t x c e) (sym p.0) m.2), sym p.1)),
+  (λ m. let p = some_pair_parts k m.0 d e ((parts m.0 e).1 (is ∙ m.1)) in (kept c e).1 ((native c e).1 (subst (λ x. N t x c e) (sym p.0) m.2), sym p.1)),
 )
 
 pub part_unknown : (N : Reading) (e : LayoutFault) (i : ℤ) (t : Tree) → ((k : NativeKind) (d : Dimension) → i ≡ pos (type_id_of k d) → ⊥) → Answers (refused e) (Part N i t)

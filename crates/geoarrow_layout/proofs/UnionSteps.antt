@@ -3,6 +3,7 @@ use Rattle.std.proofs.Common.{◌≡◌, ◌≢◌, ◌↔◌, ◌<◌, ◌+◌,
 use Rattle.std.specs.Int.{bit_at}
 use Rattle.std.proofs.Math.Dec.{eqb-suc-zero}
 use Rattle.std.proofs.lemmas.Bool.{cases_eq}
+use Rattle.std.proofs.lemmas.Option.{same_Some}
 use Rattle.std.proofs.lemmas.Nat.Bits.{same_from_bits, bit_at-pow_same, bit_at-pow_other, bit_at-lt}
 use Rattle.arrow_values.specs.Tree.{Tree, union, FieldTree, MemberTrees, no_members}
 use Rattle.arrow_values.specs.View.{member_trees}
@@ -18,7 +19,7 @@ use Rattle.geoarrow_layout.specs.declared.summary.Bottom.TheVariants.{Union}
 use Rattle.geoarrow_layout.specs.declared.summary.Summary.{Summary}
 use Rattle.geoarrow_layout.specs.Kinds.{order_of}
 use Rattle.geoarrow_layout.specs.Shapes.{Mixed, Geometry, Member, GeometryMember, AllMembers, SomeMember, HasMembers, Answers, AnswersOne}
-use Rattle.geoarrow_layout.specs.Summary.{IsBits, IsFaultOf, Seen, place_of, AreLevels, IsBottom, IsInnerUnion, IsUnion, SummarizesBy, Summarizes}
+use Rattle.geoarrow_layout.specs.Summary.{IsBits, IsFaultOf, Seen, place_of, AreLevels, IsBottom, IsUnion, SummarizesBy, Summarizes}
 use Rattle.geoarrow_layout.specs.Steps.{AddsBits, CoordOf, DimensionOf, SomeAnswer, UnionSays, UnionSaysOne, IsNested, IsNoLeaf, Shows, ShowsInner}
 use Rattle.geoarrow_layout.specs.OneShape.{member_same, geometry_part_same}
 use Rattle.geoarrow_layout.proofs.Readings.{Answer, ok, ok_same, ok_pair, pairs_same, refuses, refuses_one}
@@ -123,9 +124,6 @@ one_from R one empty fault coords r ms says some coord_bits faultless = λ c. (
   (λ m. (says c).1 (some.1 m.0, faultless.1 (all_map (AtCoord R c) (Read R) (λ i t p. (c, p.0, p.1)) ms m.1), coord_pow R one coords ms c coord_bits m.0 m.1)),
 )
 
-some_dimension_same : (d e : Dimension) → Some d ≡ Some e → d ≡ e
-some_dimension_same d e h = cc
-
 -- the coordinate type first, then the dimension
 pub both_say : (empty : Bool) (fault : Option LayoutFault) (coords dims : ℕ) (c : CoordType) (d : Dimension) (o : Option Dimension) → UnionSaysOne empty fault coords (Ok c) → o ≡ Some d → ((e : Dimension) → (o ≡ Some e) ↔ (dims ≡ 2 ^ order_of e)) → UnionSays empty fault coords dims (ok_pair c d)
 both_say empty fault coords dims c d o one is dimension = λ b e. (
@@ -133,7 +131,7 @@ both_say empty fault coords dims c d o one is dimension = λ b e. (
       let k = (one b).0 (ap ok p.0) in
       (k.0, k.1, k.2, (dimension e).0 (is ∙ ap (λ x. Some x) p.1))),
   (λ h. let p = ok_same c b ((one b).1 (h.0, h.1, h.2)) in
-      let q = some_dimension_same d e (sym is ∙ (dimension e).1 h.3) in
+      let q = same_Some d e (sym is ∙ (dimension e).1 h.3) in
       ap (λ x. ok_pair x d) p ∙ ap (λ x. ok_pair b x) q),
 )
 
@@ -153,21 +151,16 @@ weaken U V f s t h = (h.0, h.1, at_tree h.0 h.2)
     at_tree (union ms mode) k = f s.levels s.bottom ms k
     at_tree _ k = k
 
-inner_no_leaf : (n m : ℕ) (b : Bottom) (ms : MemberTrees) → IsInnerUnion b ms → IsNoLeaf n b ms
-inner_no_leaf n m (Union empty ids coords dims fault geometry) ms h = tt
-inner_no_leaf n m _ ms h = absurd h
-
 nested_no_leaf : (n : ℕ) (b : Bottom) (ms : MemberTrees) → IsNested n b ms → IsNoLeaf n b ms
-nested_no_leaf zero b ms h = h
-nested_no_leaf (suc n) b ms h = inner_no_leaf (suc n) n b ms h
+nested_no_leaf (suc n) (Union empty ids coords dims fault geometry) ms h = tt
+nested_no_leaf _ _ ms h = search
 
 pub shows_of_inner : (s : Summary) (t : Tree) → ShowsInner s t → Shows s t
 shows_of_inner s t h = weaken IsNested IsNoLeaf nested_no_leaf s t h
 
 union_nested : (n : ℕ) (b : Bottom) (ms : MemberTrees) → IsUnion n b ms → IsNested n b ms
-union_nested (suc n) b ms h = h
 union_nested zero (Union empty ids coords dims fault geometry) ms h = tt
-union_nested zero _ ms h = absurd h
+union_nested _ _ ms h = search
 
 pub inner_of : (s : Summary) (t : Tree) → Summarizes s t → ShowsInner s t
 inner_of s t h = weaken IsUnion IsNested union_nested s t h
@@ -223,9 +216,6 @@ seen_none R = record {
 pub has_members : (xs : Items) (empty : Bool) → empty ≡ nat_eq (length xs) 0 → (empty ≡ false) ↔ HasMembers (member_trees xs)
 has_members [] empty h = (λ e. let bad : true ≡ false = sym h ∙ e in cc, λ m. absurd m)
 has_members (y ∷ ys) empty h = (λ e. tt, λ m. let z : nat_eq (suc (length ys)) 0 ≡ false = eqb-suc-zero (length ys) in h ∙ z)
-
-pub fault_none : IsFaultOf Member None no_members
-fault_none = (λ e. tt, λ e. refl)
 
 pub fault_next : (R : Reads) (fault more : Option LayoutFault) (part : Answer) (xs : Items) (k : ℕ) (x : ℤ × FieldTree) → k < length xs → x ≡ get_or xs k x
     → Answers part (R x.0 x.1.tree) → ((more ≡ None) ↔ ((fault ≡ None) × SomeAnswer part)) → IsFaultOf R fault (member_trees (take k xs)) → IsFaultOf R more (member_trees (take (k + 1) xs))

@@ -1,13 +1,13 @@
-use Rattle.std.proofs.Common.{◌≡◌, subst, rules, w8, to_z, of_z, ℤ, pos, ◌<◌}
+use Rattle.std.proofs.Common.{◌≡◌, refl, subst, rules, w8, to_z, of_z, ℤ, pos, ◌<◌}
 use Rattle.std.proofs.lemmas.Int.{to_z-of_z}
 use Rattle.std.proofs.lemmas.List.{take_all}
 use Rattle.geoarrow_layout.specs.Shapes.{Member, GeometryMember, Answers}
 use Rattle.geoarrow_layout.specs.Steps.{ShowsInner, AddsBits}
-use Rattle.geoarrow_layout.proofs.UnionSteps.{seen_more, seen_none, has_members, fault_none, fault_next, shows_of_inner}
+use Rattle.geoarrow_layout.proofs.UnionSteps.{seen_more, seen_none, has_members, fault_next, shows_of_inner}
 use Rattle.geoarrow_layout.proofs.walk.root_union.Goals as goal
 
 pub loop-item-init : goal.loop-item-init
-loop-item-init c = record { seen = rw c.no_members-seen.ensures (seen_none GeometryMember); mixed = fault_none }
+loop-item-init c = record { seen = rw c.no_members-seen.ensures (seen_none GeometryMember); mixed = (λ e. tt, λ e. refl) }
 
 pub loop-item-preserved : goal.loop-item-preserved
 loop-item-preserved c =
