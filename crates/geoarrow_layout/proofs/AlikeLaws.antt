@@ -1,7 +1,7 @@
 -- `Alike` is an equivalence, and alike trees are of the same kinds.
 use Rattle.std.proofs.Common.{◌≡◌, inl, inr, ℤ, List, refl, sym, ◌∙◌, subst, ◌↔◌, ℕ, zero, suc, codes, ap}
 use Rattle.arrow_values.specs.Tree.{Text, Tree, plain, list, large_list, fixed_size_list, struct, union, MemberTrees, no_members, member, Plain}
-use Rattle.geoarrow_layout.specs.Shapes.{names_of, SameNames, AllMembers, SomeMember, Leaf, IsSeparatedAs, ListsOver, levels_of, OverLeaf, Member, Mixed, HasMembers, Collection, Native, GeometryMember, Geometry, HaveBoth, IsBoxAs, BoxShape, Accepted}
+use Rattle.geoarrow_layout.specs.Shapes.{names_of, SameNames, AllMembers, SomeMember, Leaf, IsSeparatedAs, ListsOver, levels_of, OverLeaf, Member, Mixed, HasMembers, Collection, Native, GeometryMember, HaveBoth, IsBoxAs, Accepted}
 use Rattle.geoarrow_layout.proofs.MemberLists.{all_map, all_some}
 use Rattle.geoarrow_layout.specs.Alike.{AlikeNames, Alike, EachHasAlike, HasAlike}
 use Rattle.geoarrow_layout.specs.declared.kinds.CoordType.{CoordType}
@@ -188,18 +188,10 @@ pub geometry_shared : (c : CoordType) → Shared (λ i t. (d : Dimension) × Geo
 geometry_shared c i t u h m =
     (m.0, elim m.1 [ inl x ↦ inl (member_shared c m.0 i t u h x) | inr x ↦ inr (x.0, alike_collection t u c m.0 h x.1) ])
 
-alike_geometry : (t u : Tree) (c : CoordType) → Alike t u → Geometry t c → Geometry u c
-alike_geometry (union ms mode) (union ns mode') c h l = (alike_some ms ns h.0 l.0, alike_all (λ i t. (d : Dimension) × GeometryMember i t c d) (geometry_shared c) ms ns h.1 l.1)
-alike_geometry _ _ c h l = search
-
 -- kinds
 alike_native : (k : NativeKind) (t u : Tree) (c : CoordType) (d : Dimension) → Alike t u → Native t k c d → Native u k c d
 alike_native GeometryCollection t u c d h l = alike_collection t u c d h l
 alike_native k t u c d h l = alike_over k t u c d h l
-
-alike_boxes : (t u : Tree) (d : Dimension) → Alike t u → BoxShape t d → BoxShape u d
-alike_boxes (struct fs) (struct gs) d h l = alike_box (names_of fs) (names_of gs) d h l
-alike_boxes _ _ d h l = search
 
 -- only a plain data type is that of well-known binary or text, and it is alike to itself alone
 plain_same : (p : Plain) (t u : Tree) → Alike t u → t ≡ plain p → u ≡ plain p
@@ -209,8 +201,10 @@ plain_same p _ u h e = cc
 
 pub alike_accepted : (k : Kind) (t u : Tree) → Alike t u → Accepted k t → Accepted k u
 alike_accepted (OfNative k c d) t u h a = alike_native k t u c d h a
-alike_accepted (OfGeometry c) t u h a = alike_geometry t u c h a
-alike_accepted (OfRect d) t u h a = alike_boxes t u d h a
+alike_accepted (OfGeometry c) (union ms mode) (union ns mode') h a = (alike_some ms ns h.0 a.0, alike_all (λ i t. (d : Dimension) × GeometryMember i t c d) (geometry_shared c) ms ns h.1 a.1)
+alike_accepted (OfRect d) (struct fs) (struct gs) h a = alike_box (names_of fs) (names_of gs) d h a
+alike_accepted (OfGeometry c) _ _ h a = search
+alike_accepted (OfRect d) _ _ h a = search
 alike_accepted (OfWkb Narrow) t u h a = plain_same _ t u h a
 alike_accepted (OfWkt Narrow) t u h a = plain_same _ t u h a
 alike_accepted _ t u h a = plain_same _ t u h a

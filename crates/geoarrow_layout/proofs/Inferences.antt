@@ -57,8 +57,8 @@ only_interleaved : (n : Text) (t : Tree) (b : Bool) (m : Metadata) (z : ℤ) (c 
 only_interleaved n t b m z Interleaved d h = refl
 only_interleaved n t b m z Separated d h = absurd h
 
-only_separated : (fs : FieldTrees) (c : CoordType) (d : Dimension) → Inferred (struct fs) c d → Separated ≡ c
-only_separated fs Separated d h = refl
+only_separated : (fs : FieldTrees) (c : CoordType) (d : Dimension) → Inferred (struct fs) c d → (Separated ≡ c) × (are_float64 fs ≡ true) × IsInferredAs d (names_of fs)
+only_separated fs Separated d h = (refl, h.0, h.1)
 only_separated fs Interleaved d h = absurd h
 
 pub size_inferred : (w : Option ListWidth) (named : Option Dimension) (size told : ℤ) (floats : Bool) (o : Option Dimension) (r : PairOption) (u : Tree)
@@ -102,28 +102,26 @@ pub names_inferred : (w : Option ListWidth) (count names : ℕ) (floats : Bool) 
     → IsBottom IsUnion w 0 (Struct count names floats) u → floats ≡ true → ((d : Dimension) → (o ≡ Some d) ↔ NamesSay d count names) → Pairs Separated o r → AnswersSome r (Inferred u)
 names_inferred w count names floats o r u k all says pairs =
     at_bottom IsUnion (λ x. AnswersSome r (Inferred x)) w 0 (Struct count names floats) tt (λ n t b m z h. absurd h)
-    (λ fs h. inferred_pair Separated o r (λ d. NamesSay d count names) (struct fs) (only_separated fs)
+    (λ fs h. inferred_pair Separated o r (λ d. NamesSay d count names) (struct fs) (λ c d i. (only_separated fs c d i).0)
     (λ d. let is = names_are d count names (names_of fs) h.0 h.1 in (λ s. (sym h.2 ∙ all, is.0 s), λ i. is.1 i.1)) says pairs)
     (λ ms mode h. absurd h) u k
 
 -- two fields, whatever their names are
 pub no_floats_inferred : (r : PairOption) (fs : FieldTrees) → are_float64 fs ≡ false → r ≡ no_pair → AnswersSome r (Inferred (struct fs))
-no_floats_inferred r fs floatless is = λ c d. at_type c d
-  where
-    at_type : (c : CoordType) (d : Dimension) → (r ≡ some_pair c d) ↔ Inferred (struct fs) c d
-    at_type Separated d = (λ e. let bad : no_pair ≡ some_pair Separated d = sym is ∙ e in cc, λ h. let bad : false ≡ true = sym floatless ∙ h.0 in cc)
-    at_type Interleaved d = (λ e. let bad : no_pair ≡ some_pair Interleaved d = sym is ∙ e in cc, λ h. absurd h)
+no_floats_inferred r fs floatless is = λ c d. (
+  (λ e. let bad : no_pair ≡ some_pair c d = sym is ∙ e in cc),
+  (λ h. let bad : false ≡ true = sym floatless ∙ (only_separated fs c d h).1 in cc),
+)
 
 two_names : (ns : List Text) (d : Dimension) → length ns ≡ 2 → IsInferredAs d ns → XY ≡ d
 two_names ns XY two h = refl
 two_names ns _ two h = absurd (omega arith)
 
 pub pair_inferred : (r : PairOption) (fs : FieldTrees) → are_float64 fs ≡ true → length (names_of fs) ≡ 2 → r ≡ some_pair Separated XY → AnswersSome r (Inferred (struct fs))
-pair_inferred r fs all two is = λ c d. at_type c d
-  where
-    at_type : (c : CoordType) (d : Dimension) → (r ≡ some_pair c d) ↔ Inferred (struct fs) c d
-    at_type Separated d = (λ e. (all, subst (λ x. IsInferredAs x (names_of fs)) (some_pair_parts Separated Separated XY d (sym is ∙ e)).1 two), λ h. is ∙ ap (some_pair Separated) (two_names (names_of fs) d two h.1))
-    at_type Interleaved d = (λ e. let bad = (some_pair_parts Separated Interleaved XY d (sym is ∙ e)).0 in cc, λ h. absurd h)
+pair_inferred r fs all two is = λ c d. (
+  (λ e. let p = some_pair_parts Separated c XY d (sym is ∙ e) in subst (λ x. Inferred (struct fs) x d) p.0 (all, subst (λ x. IsInferredAs x (names_of fs)) p.1 two)),
+  (λ h. let s = only_separated fs c d h in let xy = two_names (names_of fs) d two s.2 in is ∙ ap (λ x. some_pair x XY) s.0 ∙ ap (some_pair c) xy),
+)
 
 -- a coordinate is taken for what it is read as
 names_agree : (ns : List Text) (d e : Dimension) → IsInferredAs d ns → IsSeparatedAs e ns → d ≡ e

@@ -67,26 +67,16 @@ mixed_sort : (t : Tree) (c : CoordType) (d : Dimension) → Mixed t c d → sort
 mixed_sort (union ms mode) c d h = refl
 mixed_sort _ c d h = absurd h
 
-geometry_sort : (t : Tree) (c : CoordType) → Geometry t c → sort_of t ≡ 4
-geometry_sort (union ms mode) c h = refl
-geometry_sort _ c h = absurd h
-
-box_sort : (t : Tree) (d : Dimension) → BoxShape t d → sort_of t ≡ 0
-box_sort (struct fs) d h = refl
-box_sort _ d h = absurd h
-
-native_sort : (k : NativeKind) (t : Tree) (c : CoordType) (d : Dimension) → Native t k c d → sort_of t ≡ sort_in (OfNative k c d)
-native_sort GeometryCollection t c d h = let e = below h.1.0 1 4 t h.0 h.1.1 (mixed_sort h.0 c d h.2) in omega arith
-native_sort k t c d h = let e = below h.1.0 (levels_of k) 0 t h.0 h.1.1 (leaf_sort h.0 c d h.2) in omega arith
-
 sorted : (k : Kind) (t : Tree) → Accepted k t → sort_of t ≡ sort_in k
-sorted (OfNative k c d) t h = native_sort k t c d h
-sorted (OfGeometry c) t h = geometry_sort t c h
-sorted (OfRect d) t h = box_sort t d h
+sorted (OfNative GeometryCollection c d) t h = let e = below h.1.0 1 4 t h.0 h.1.1 (mixed_sort h.0 c d h.2) in omega arith
+sorted (OfNative k c d) t h = let e = below h.1.0 (levels_of k) 0 t h.0 h.1.1 (leaf_sort h.0 c d h.2) in omega arith
+sorted (OfGeometry c) (union ms mode) h = refl
+sorted (OfGeometry c) _ h = absurd h
+sorted (OfRect d) (struct fs) h = refl
+sorted (OfRect d) _ h = absurd h
 sorted (OfWkb Plain) t h = ap sort_of h
-sorted (OfWkb _) t h = ap sort_of h
 sorted (OfWkt Plain) t h = ap sort_of h
-sorted (OfWkt _) t h = ap sort_of h
+sorted _ t h = ap sort_of h
 
 -- the names of the kinds of a number
 abbrev NamedAt : ℕ → Text → Type 0

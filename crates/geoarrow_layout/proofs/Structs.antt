@@ -1,5 +1,5 @@
 -- What the names of a struct's fields say, by their bits: the dimension of a coordinate, and that of a box.
-use Rattle.std.proofs.Common.{◌≡◌, ◌↔◌, ◌⊎◌, ℕ, refl, sym, ap, ◌∙◌, arith, Bool, true, false, Result, Ok, Err, inl, inr, List, [], ◌∷◌, length, Option, ◌<◌, ◌&&◌}
+use Rattle.std.proofs.Common.{◌≡◌, ◌↔◌, ◌⊎◌, ℕ, refl, sym, ap, ◌∙◌, arith, Bool, true, false, Result, Ok, Err, inl, inr, List, length, Option, ◌<◌, ◌&&◌}
 use Rattle.arrow_values.specs.Tree.{Text, Tree, struct, FieldTrees}
 use Rattle.geoarrow_layout.specs.declared.kinds.CoordType.{CoordType}
 use Rattle.geoarrow_layout.specs.declared.kinds.CoordType.TheVariants.{Interleaved, Separated}
