@@ -6,7 +6,7 @@ use Rattle.std.proofs.lemmas.Nat.Bits.{bit_at_set_same, bit_at_set_other, bit_at
 use Rattle.std.proofs.lemmas.Bool.{cases_eq, ltb-true, ltb-false}
 use mir.Val.{bits}
 use Rattle.geoarrow_layout.specs.Summary.{IsBits, place_of}
-use Rattle.geoarrow_layout.specs.Steps.{AddsBit, AddsBits, CoordOf, DimensionOf, SomeAnswer}
+use Rattle.geoarrow_layout.specs.Steps.{AddsBit, AddsBits, CoordOf, DimensionOf}
 use lib.IntN.{negsuc, nat_abs}
 use lib.Signed.{lt_z}
 use Rattle.geoarrow_layout.specs.declared.kinds.CoordType.{CoordType}
@@ -74,9 +74,6 @@ dimension_added n j more part p is place adds =
 
 pub dimension_kept : (n : ℕ) (part : Answer) (f : LayoutFault) → part ≡ Err f → AddsBits n (DimensionOf part) n
 dimension_kept n part f is = adds_none n (DimensionOf part) (λ i h. let bad = sym h.3 ∙ is in cc)
-
-pub some_answer : (part : Answer) (p : CoordType × Dimension) → part ≡ Ok p → SomeAnswer part
-some_answer part p is = (p.0, p.1, is)
 
 outside : (z : ℤ) (i : ℕ) → (lt_z z (pos 0) ≡ true) ⊎ (lt_z (pos 63) z ≡ true) → i < 64 → z ≡ pos i → ⊥
 outside (pos n) i (inl h) small e = let lt : n < 0 = ltb-true n 0 h in omega arith

@@ -19,6 +19,9 @@ Reading = Tree → NativeKind → CoordType → Dimension → Type 0
 abbrev pub Part : Reading → ℤ → Tree → CoordType → Dimension → Type 0
 Part N i t c d = (k : NativeKind) × (i ≡ pos (type_id_of k d)) × N t k c d
 
+abbrev no_parts : Option (NativeKind × Dimension)
+no_parts = None
+
 pub part_answer : (N : Reading) (i z : ℤ) (t : Tree) (k : NativeKind) (d : Dimension) (read r : Answer) → z ≡ i → IsPartsOf z (some_parts k d) → ((c : CoordType) (e : Dimension) → (r ≡ ok_pair c e) ↔ ((read ≡ ok_pair c e) × (e ≡ d)))
     → Answers read (N t k) → Answers r (Part N i t)
 part_answer N i z t k d read r is parts kept native = λ c e. (
@@ -26,8 +29,8 @@ part_answer N i z t k d read r is parts kept native = λ c e. (
   (λ m. let p = some_pair_parts k m.0 d e ((parts m.0 e).1 (is ∙ m.1)) in (kept c e).1 ((native c e).1 (subst (λ x. N t x c e) (sym p.0) m.2), sym p.1)),
 )
 
-pub part_unknown : (N : Reading) (e : LayoutFault) (i : ℤ) (t : Tree) → ((k : NativeKind) (d : Dimension) → i ≡ pos (type_id_of k d) → ⊥) → Answers (refused e) (Part N i t)
-part_unknown N e i t none = refuses e (Part N i t) (λ c d m. none m.0 d m.1)
+pub part_unknown : (N : Reading) (e : LayoutFault) (i z : ℤ) (t : Tree) → z ≡ i → IsPartsOf z no_parts → Answers (refused e) (Part N i t)
+part_unknown N e i z t is parts = refuses e (Part N i t) (λ c d m. let bad : no_parts ≡ some_parts m.0 d = (parts m.0 d).1 (is ∙ m.1) in cc)
 
 -- a member of a geometry
 to_part : (k : NativeKind) (i : ℤ) (t : Tree) (c : CoordType) (d : Dimension) → i ≡ pos (type_id_of k d) → Native t k c d → GeometryMember i t c d
@@ -39,13 +42,6 @@ geometry_answer r i t h = answers_like r (Part Native i t) (GeometryMember i t) 
 
 pub mixed_apart : AtNoList Mixed
 mixed_apart t c d h = not_list (λ x. Mixed x c d) (λ n x b m p. p) (λ n x b m p. p) t h
-
--- no parts
-abbrev pub no_parts : Option (NativeKind × Dimension)
-no_parts = None
-
-pub none_known : (i z : ℤ) → z ≡ i → IsPartsOf z no_parts → (k : NativeKind) (d : Dimension) → i ≡ pos (type_id_of k d) → ⊥
-none_known i z is parts k d id = let bad : no_parts ≡ some_parts k d = (parts k d).1 (is ∙ id) in cc
 
 pub native_any : (k : NativeKind) (t : Tree) (r : Answer) → (k ≢ GeometryCollection) → Answers r (OverLeaf t k) → Answers r (Native t k)
 native_any GeometryCollection t r h a = absurd (h refl)

@@ -21,10 +21,9 @@ use Rattle.geoarrow_layout.proofs.MemberLists.{all_map, all_both}
 pub written_leaf : (c : CoordType) (d : Dimension) → Leaf (leaf_layout c d) c d
 unfolding SameNames
 written_leaf Interleaved d = (refl, refl)
-written_leaf Separated XY = refl
 written_leaf Separated XYZ = (refl, λ n. refl)
 written_leaf Separated XYM = (refl, λ n. refl)
-written_leaf Separated XYZM = refl
+written_leaf Separated _ = refl
 
 -- the members in a collection
 written_under : (k : NativeKind) (c : CoordType) (d : Dimension) → LeafUnder (levels_of k) (over_leaf_layout k c d) c d
@@ -58,10 +57,9 @@ written_geometry : (c : CoordType) → Geometry (layout (OfGeometry c)) c
 written_geometry c = (tt, all_dimensions (InGeometry c) c (written_dimension c))
 
 written_box : (d : Dimension) → BoxShape (layout (OfRect d)) d
-written_box XY = refl
 written_box XYZ = (refl, λ h. let bad : false ≡ true = h.0 in cc, (refl, refl))
 written_box XYM = (refl, (refl, refl))
-written_box XYZM = refl
+written_box _ = refl
 
 pub written : (k : Kind) → Accepted k (layout k)
 written (OfNative GeometryCollection c d) = written_collection c d

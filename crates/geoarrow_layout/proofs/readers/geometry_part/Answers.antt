@@ -1,7 +1,7 @@
 use Rattle.std.proofs.Common.{rules}
 use Rattle.std.proofs.lemmas.Int.{to_z-of_z}
 use Rattle.geoarrow_layout.specs.Shapes.{Native}
-use Rattle.geoarrow_layout.proofs.Parts.{part_answer, part_unknown, geometry_answer, none_known}
+use Rattle.geoarrow_layout.proofs.Parts.{part_answer, part_unknown, geometry_answer}
 use Rattle.geoarrow_layout.proofs.readers.geometry_part.Goals as goal
 
 pub returns : goal.returns
@@ -9,4 +9,4 @@ returns c = λ t h.
     geometry_answer _ _ t (part_answer Native c.args.id _ t _ _ _ _ (search (rules, to_z-of_z)) c.in-Some.ensures c.of_dimension.ensures (c.any_native.ensures t h))
 
 pub returns-in_default : goal.returns-in_default
-returns-in_default c = λ t h. geometry_answer _ _ t (part_unknown Native _ _ t (none_known c.args.id _ (search (rules, to_z-of_z)) c.in_default.ensures))
+returns-in_default c = λ t h. geometry_answer _ _ t (part_unknown Native _ c.args.id _ t (search (rules, to_z-of_z)) c.in_default.ensures)
