@@ -100,9 +100,6 @@ met_decides ms ns j u each held down = by (is_repeated j ns) refl
       (λ h. (member_decides j ms).1 (any_map (λ i t. (i ≡ j) × Alike t u) (λ i t. i ≡ j) (λ i t p. p.0) ms ((has_any ms j u).0 h))),
     )
 
-unions_decide : (ms ns : MemberTrees) → Decides (each_has_alike ms ns) (EachHasAlike ms ns) → ((j : ℤ) (u : Tree) → Decides (has_alike ms j u) (HasAlike ms j u)) → Decides (each_has_alike ms ns && all_members (is_met ms ns) ns) (EachHasAlike ms ns × AllMembers (HasAlike ms) ns)
-unions_decide ms ns one two = and_then _ _ one (λ each. all_decides (is_met ms ns) (HasAlike ms) ns (λ j u held. met_decides ms ns j u each held (two j u)))
-
 mutual
   pub alike_decides : (t u : Tree) → Decides (alike_of t u) (Alike t u)
   alike_decides (plain p) (plain q) = plain_decides p q
@@ -110,7 +107,7 @@ mutual
   alike_decides (large_list n t b m) (large_list o u c k) = alike_decides t u
   alike_decides (fixed_size_list n t b m s) (fixed_size_list o u c k r) = Decides-and _ _ (bytes_eq-Decides n o) (Decides-int_eq s r)
   alike_decides (struct fs) (struct gs) = names_decides (names_of fs) (names_of gs)
-  alike_decides (union ms mode) (union ns mode') = unions_decide ms ns (each_decides ms ns) (has_decides ms)
+  alike_decides (union ms mode) (union ns mode') = and_then _ _ (each_decides ms ns) (λ each. all_decides (is_met ms ns) (HasAlike ms) ns (λ j u held. met_decides ms ns j u each held (has_decides ms j u)))
   alike_decides _ _ = (λ h. absurd (true≢false (sym h)), λ h. absurd h)
 
   each_decides : (ms ns : MemberTrees) → Decides (each_has_alike ms ns) (EachHasAlike ms ns)
