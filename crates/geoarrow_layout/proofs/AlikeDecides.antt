@@ -14,15 +14,11 @@ use Rattle.geoarrow_layout.proofs.FieldSteps.{length-names}
 use Rattle.geoarrow_layout.specs.Shapes.{names_of, has_name, SameNames, AllMembers, SomeMember}
 use Rattle.geoarrow_layout.specs.Alike.{AlikeNames, Alike, EachHasAlike, HasAlike}
 use Rattle.geoarrow_layout.specs.AlikeTest.{some_member, all_members, has_member, is_repeated, is_met, same_names, alike_names, alike_of, each_has_alike, has_alike}
-use Rattle.geoarrow_layout.proofs.AlikeLaws.{any_map}
+use Rattle.geoarrow_layout.proofs.AlikeLaws.{any_map, has_any, Holds}
 
 any_decides : (p : ℤ → Tree → Bool) (P : ℤ → Tree → Type 0) → ((i : ℤ) (t : Tree) → Decides (p i t) (P i t)) → (ms : MemberTrees) → Decides (some_member p ms) (SomeMember P ms)
 any_decides p P d no_members = (λ h. absurd (true≢false (sym h)), λ h. absurd h)
 any_decides p P d (member i n t b m ms) = Decides-or _ _ (d i t) (any_decides p P d ms)
-
--- a member of ns
-abbrev Holds : MemberTrees → ℤ → Tree → Type 0
-Holds ns j u = SomeMember (λ k v. (k ≡ j) × (v ≡ u)) ns
 
 all_decides : (p : ℤ → Tree → Bool) (P : ℤ → Tree → Type 0) (ns : MemberTrees) → ((j : ℤ) (u : Tree) → Holds ns j u → Decides (p j u) (P j u)) → Decides (all_members p ns) (AllMembers P ns)
 all_decides p P no_members d = (λ h. tt, λ h. refl)
@@ -74,7 +70,7 @@ member_decides : (j : ℤ) (ns : MemberTrees) → Decides (has_member j ns) (Som
 member_decides j ns = any_decides (λ i t. int_eq i j) (λ i t. i ≡ j) (λ i t. Decides-int_eq i j) ns
 
 held_member : (j : ℤ) (u : Tree) (ns : MemberTrees) → Holds ns j u → has_member j ns ≡ true
-held_member j u ns h = (member_decides j ns).1 (any_map (λ x y. (x ≡ j) × (y ≡ u)) (λ x y. x ≡ j) (λ x y q. q.0) ns h)
+held_member j u ns h = (member_decides j ns).1 (any_map (λ x y. (j ≡ x) × (u ≡ y)) (λ x y. x ≡ j) (λ x y q. sym q.0) ns h)
 
 -- an id that stands once has one member
 alone : (i j : ℤ) (u : Tree) (ns : MemberTrees) → cond (int_eq i j) (has_member j ns) (is_repeated j ns) ≡ false → Holds ns j u → int_eq i j ≡ false
@@ -82,9 +78,9 @@ alone i j u ns single h = false_from_ne_true (int_eq i j) (λ same. true≢false
 
 once : (ns : MemberTrees) (j : ℤ) (u v : Tree) → is_repeated j ns ≡ false → Holds ns j u → Holds ns j v → u ≡ v
 once no_members j u v single h k = absurd h
-once (member i n t b m ns) j u v single (inl e) (inl f) = sym e.1 ∙ f.1
-once (member i n t b m ns) j u v single (inl e) (inr f) = absurd (true≢false (sym ((Decides-int_eq i j).1 e.0) ∙ alone i j v ns single f))
-once (member i n t b m ns) j u v single (inr e) (inl f) = absurd (true≢false (sym ((Decides-int_eq i j).1 f.0) ∙ alone i j u ns single e))
+once (member i n t b m ns) j u v single (inl e) (inl f) = e.1 ∙ sym f.1
+once (member i n t b m ns) j u v single (inl e) (inr f) = absurd (true≢false (sym ((Decides-int_eq i j).1 (sym e.0)) ∙ alone i j v ns single f))
+once (member i n t b m ns) j u v single (inr e) (inl f) = absurd (true≢false (sym ((Decides-int_eq i j).1 (sym f.0)) ∙ alone i j u ns single e))
 once (member i n t b m ns) j u v single (inr e) (inr f) = once ns j u v (sym (cond-false (int_eq i j) (has_member j ns) (is_repeated j ns) (alone i j u ns single e)) ∙ single) e f
 
 -- the two recursions over the first union say the same as the words for members
@@ -94,11 +90,6 @@ met_by (member i n t b m ms) ns j each (inl e) X f =
     some_held (λ k v. (i ≡ k) × Alike t v) X ns (λ k v h p. f v (subst (λ x. Holds ns x v) (sym p.0 ∙ e) h) (inl (e, p.1))) each.0
 met_by (member i n t b m ms) ns j each (inr some) X f = met_by ms ns j each.1 some X (λ v h p. f v h (inr p))
 
-alike_member : (ms : MemberTrees) (j : ℤ) (u : Tree) → HasAlike ms j u → SomeMember (λ i t. i ≡ j) ms
-alike_member no_members j u h = h
-alike_member (member i n t b m ms) j u (inl p) = inl p.0
-alike_member (member i n t b m ms) j u (inr h) = inr (alike_member ms j u h)
-
 met_decides : (ms ns : MemberTrees) (j : ℤ) (u : Tree) → EachHasAlike ms ns → Holds ns j u → Decides (has_alike ms j u) (HasAlike ms j u) → Decides (is_met ms ns j u) (HasAlike ms j u)
 met_decides ms ns j u each held down = by (is_repeated j ns) refl
   where
@@ -106,11 +97,8 @@ met_decides ms ns j u each held down = by (is_repeated j ns) refl
     by true is = rw is down
     by false is = rw is (
       (λ h. met_by ms ns j each ((member_decides j ms).0 h) (HasAlike ms j u) (λ v k p. subst (λ x. HasAlike ms j x) (once ns j v u is k held) p)),
-      (λ h. (member_decides j ms).1 (alike_member ms j u h)),
+      (λ h. (member_decides j ms).1 (any_map (λ i t. (i ≡ j) × Alike t u) (λ i t. i ≡ j) (λ i t p. p.0) ms ((has_any ms j u).0 h))),
     )
-
-unions_decide : (ms ns : MemberTrees) → Decides (each_has_alike ms ns) (EachHasAlike ms ns) → ((j : ℤ) (u : Tree) → Decides (has_alike ms j u) (HasAlike ms j u)) → Decides (each_has_alike ms ns && all_members (is_met ms ns) ns) (EachHasAlike ms ns × AllMembers (HasAlike ms) ns)
-unions_decide ms ns one two = and_then _ _ one (λ each. all_decides (is_met ms ns) (HasAlike ms) ns (λ j u held. met_decides ms ns j u each held (two j u)))
 
 mutual
   pub alike_decides : (t u : Tree) → Decides (alike_of t u) (Alike t u)
@@ -119,7 +107,7 @@ mutual
   alike_decides (large_list n t b m) (large_list o u c k) = alike_decides t u
   alike_decides (fixed_size_list n t b m s) (fixed_size_list o u c k r) = Decides-and _ _ (bytes_eq-Decides n o) (Decides-int_eq s r)
   alike_decides (struct fs) (struct gs) = names_decides (names_of fs) (names_of gs)
-  alike_decides (union ms mode) (union ns mode') = unions_decide ms ns (each_decides ms ns) (has_decides ms)
+  alike_decides (union ms mode) (union ns mode') = and_then _ _ (each_decides ms ns) (λ each. all_decides (is_met ms ns) (HasAlike ms) ns (λ j u held. met_decides ms ns j u each held (has_decides ms j u)))
   alike_decides _ _ = (λ h. absurd (true≢false (sym h)), λ h. absurd h)
 
   each_decides : (ms ns : MemberTrees) → Decides (each_has_alike ms ns) (EachHasAlike ms ns)

@@ -1,17 +1,16 @@
 -- `Alike` is an equivalence, and alike trees are of the same kinds.
 use Rattle.std.proofs.Common.{◌≡◌, inl, inr, ℤ, List, refl, sym, ◌∙◌, subst, ◌↔◌, ℕ, zero, suc, codes, ap}
-use Rattle.arrow_values.specs.Tree.{Text, Tree, plain, list, large_list, fixed_size_list, struct, union, MemberTrees, no_members, member, Plain, binary, large_binary, binary_view, utf8, large_utf8, utf8_view}
-use Rattle.geoarrow_layout.specs.Shapes.{names_of, SameNames, AllMembers, SomeMember, Leaf, IsSeparatedAs, ListsOver, levels_of, OverLeaf, Member, Mixed, HasMembers, Collection, Native, GeometryMember, Geometry, HaveBoth, IsBoxAs, BoxShape, IsBytes, IsText, Accepted, Accepts}
+use Rattle.arrow_values.specs.Tree.{Text, Tree, plain, list, large_list, fixed_size_list, struct, union, MemberTrees, no_members, member, Plain}
+use Rattle.geoarrow_layout.specs.Shapes.{names_of, SameNames, AllMembers, SomeMember, Leaf, IsSeparatedAs, ListsOver, levels_of, OverLeaf, Member, Mixed, HasMembers, Collection, Native, GeometryMember, HaveBoth, IsBoxAs, Accepted}
 use Rattle.geoarrow_layout.proofs.MemberLists.{all_map, all_some}
 use Rattle.geoarrow_layout.specs.Alike.{AlikeNames, Alike, EachHasAlike, HasAlike}
 use Rattle.geoarrow_layout.specs.declared.kinds.CoordType.{CoordType}
 use Rattle.geoarrow_layout.specs.declared.kinds.CoordType.TheVariants.{Interleaved, Separated}
 use Rattle.geoarrow_layout.specs.declared.kinds.Dimension.{Dimension}
-use Rattle.geoarrow_layout.specs.declared.kinds.Dimension.TheVariants.{XY, XYZ, XYM, XYZM}
+use Rattle.geoarrow_layout.specs.declared.kinds.Dimension.TheVariants.{XYZ, XYM}
 use Rattle.geoarrow_layout.specs.declared.encodings.NativeKind.{NativeKind}
 use Rattle.geoarrow_layout.specs.declared.encodings.NativeKind.TheVariants.{GeometryCollection}
-use Rattle.geoarrow_layout.specs.declared.encodings.Width.{Width}
-use Rattle.geoarrow_layout.specs.declared.encodings.Width.TheVariants.{Plain as Narrow, Large, View}
+use Rattle.geoarrow_layout.specs.declared.encodings.Width.TheVariants.{Plain as Narrow}
 use Rattle.geoarrow_layout.specs.declared.encodings.Kind.{Kind}
 use Rattle.geoarrow_layout.specs.declared.encodings.Kind.TheVariants.{Native as OfNative, Geometry as OfGeometry, Rect as OfRect, Wkb as OfWkb, Wkt as OfWkt}
 use Rattle.geoarrow_layout.specs.declared.summary.ListWidth.{ListWidth}
@@ -36,23 +35,13 @@ any_map P Q f (member i n t b m ms) (inl p) = inl (f i t p)
 any_map P Q f (member i n t b m ms) (inr h) = inr (any_map P Q f ms h)
 
 -- the two recursions over the first union say the same as the quantifiers
-pub has_any : (ms : MemberTrees) (j : ℤ) (u : Tree) → HasAlike ms j u → SomeMember (λ i t. (i ≡ j) × Alike t u) ms
-has_any no_members j u h = h
-has_any (member i n t b m ms) j u (inl p) = inl p
-has_any (member i n t b m ms) j u (inr h) = inr (has_any ms j u h)
+pub has_any : (ms : MemberTrees) (j : ℤ) (u : Tree) → HasAlike ms j u ↔ SomeMember (λ i t. (i ≡ j) × Alike t u) ms
+has_any no_members j u = (λ h. h, λ h. h)
+has_any (member i n t b m ms) j u = let rest = has_any ms j u in (λ h. elim h [ inl p ↦ inl p | inr e ↦ inr (rest.0 e) ], λ h. elim h [ inl p ↦ inl p | inr e ↦ inr (rest.1 e) ])
 
-pub any_has : (ms : MemberTrees) (j : ℤ) (u : Tree) → SomeMember (λ i t. (i ≡ j) × Alike t u) ms → HasAlike ms j u
-any_has no_members j u h = h
-any_has (member i n t b m ms) j u (inl p) = inl p
-any_has (member i n t b m ms) j u (inr h) = inr (any_has ms j u h)
-
-each_all : (ms ns : MemberTrees) → EachHasAlike ms ns → AllMembers (λ i t. SomeMember (λ j u. (i ≡ j) × Alike t u) ns) ms
-each_all no_members ns h = tt
-each_all (member i n t b m ms) ns h = (h.0, each_all ms ns h.1)
-
-all_each : (ms ns : MemberTrees) → AllMembers (λ i t. SomeMember (λ j u. (i ≡ j) × Alike t u) ns) ms → EachHasAlike ms ns
-all_each no_members ns h = tt
-all_each (member i n t b m ms) ns h = (h.0, all_each ms ns h.1)
+each_all : (ms ns : MemberTrees) → EachHasAlike ms ns ↔ AllMembers (λ i t. SomeMember (λ j u. (i ≡ j) × Alike t u) ns) ms
+each_all no_members ns = (λ h. tt, λ h. tt)
+each_all (member i n t b m ms) ns = let rest = each_all ms ns in (λ h. (h.0, rest.0 h.1), λ h. (h.0, rest.1 h.1))
 
 -- a member by its id and its tree
 abbrev pub Holds : MemberTrees → ℤ → Tree → Type 0
@@ -65,26 +54,6 @@ each_refl (member i n t b m ms) ns h inside = (
   each_refl ms ns h.1 (λ j u e. inside j u (inr e)),
 )
 
-pub back_refl : (ms ns : MemberTrees) → AllMembers (λ i t. Alike t t) ns → ((i : ℤ) (t : Tree) → Holds ns i t → Holds ms i t) → AllMembers (HasAlike ms) ns
-back_refl ms no_members h inside = tt
-back_refl ms (member i n t b m ns) h inside = (
-  any_has ms i t (any_map (λ j u. (i ≡ j) × (t ≡ u)) (λ j u. (j ≡ i) × Alike u t) (λ j u e. (sym e.0, subst (λ x. Alike x t) e.1 h.0)) ms (inside i t (inl (refl, refl)))),
-  back_refl ms ns h.1 (λ j u e. inside j u (inr e)),
-)
-
-mutual
-  pub alike_refl : (t : Tree) → Alike t t
-  alike_refl (plain p) = refl
-  alike_refl (list n t b m) = alike_refl t
-  alike_refl (large_list n t b m) = alike_refl t
-  alike_refl (fixed_size_list n t b m s) = (refl, refl)
-  alike_refl (struct fs) = names_refl (names_of fs)
-  alike_refl (union ms mode) = (each_refl ms ms (members_refl ms) (λ i t h. h), back_refl ms ms (members_refl ms) (λ i t h. h))
-
-  pub members_refl : (ms : MemberTrees) → AllMembers (λ i t. Alike t t) ms
-  members_refl no_members = tt
-  members_refl (member i n t b m ms) = (alike_refl t, members_refl ms)
-
 mutual
   pub alike_sym : (t u : Tree) → Alike t u → Alike u t
   alike_sym (plain p) (plain q) h = sym h
@@ -93,7 +62,7 @@ mutual
   alike_sym (fixed_size_list n t b m s) (fixed_size_list o u c k r) h = (sym h.0, sym h.1)
   alike_sym (struct fs) (struct gs) h = names_sym (names_of fs) (names_of gs) h
   alike_sym (union ms mode) (union ns mode') h = (
-    all_each ns ms (all_map (HasAlike ms) (λ j u. SomeMember (λ i t. (j ≡ i) × Alike u t) ms) (has_sym ms) ns h.1),
+    (each_all ns ms).1 (all_map (HasAlike ms) (λ j u. SomeMember (λ i t. (j ≡ i) × Alike u t) ms) (has_sym ms) ns h.1),
     each_sym ms ns h.0,
   )
   alike_sym _ _ h = absurd h
@@ -103,12 +72,25 @@ mutual
   has_sym (member i n t b m ms) j u (inl e) = inl (sym e.0, alike_sym t u e.1)
   has_sym (member i n t b m ms) j u (inr h) = inr (has_sym ms j u h)
 
-  each_sym : (ms ns : MemberTrees) → EachHasAlike ms ns → AllMembers (HasAlike ns) ms
+  pub each_sym : (ms ns : MemberTrees) → EachHasAlike ms ns → AllMembers (HasAlike ns) ms
   each_sym no_members ns h = tt
   each_sym (member i n t b m ms) ns h = (
-    any_has ns i t (any_map (λ j u. (i ≡ j) × Alike t u) (λ j u. (j ≡ i) × Alike u t) (λ j u e. (sym e.0, alike_sym t u e.1)) ns h.0),
+    (has_any ns i t).1 (any_map (λ j u. (i ≡ j) × Alike t u) (λ j u. (j ≡ i) × Alike u t) (λ j u e. (sym e.0, alike_sym t u e.1)) ns h.0),
     each_sym ms ns h.1,
   )
+
+mutual
+  pub alike_refl : (t : Tree) → Alike t t
+  alike_refl (plain p) = refl
+  alike_refl (list n t b m) = alike_refl t
+  alike_refl (large_list n t b m) = alike_refl t
+  alike_refl (fixed_size_list n t b m s) = (refl, refl)
+  alike_refl (struct fs) = names_refl (names_of fs)
+  alike_refl (union ms mode) = let each = each_refl ms ms (members_refl ms) (λ i t h. h) in (each, each_sym ms ms each)
+
+  pub members_refl : (ms : MemberTrees) → AllMembers (λ i t. Alike t t) ms
+  members_refl no_members = tt
+  members_refl (member i n t b m ms) = (alike_refl t, members_refl ms)
 
 mutual
   pub alike_trans : (t u v : Tree) → Alike t u → Alike u v → Alike t v
@@ -118,16 +100,10 @@ mutual
   alike_trans (fixed_size_list n t b m s) (fixed_size_list o u c k r) (fixed_size_list p v d l q) h e = (h.0 ∙ e.0, h.1 ∙ e.1)
   alike_trans (struct fs) (struct gs) (struct hs) h e = names_trans (names_of fs) (names_of gs) (names_of hs) h e
   alike_trans (union ms mode) (union ns mode') (union ps mode'') h e = (
-    each_trans ms ns ps h.0 (each_all ns ps e.0),
-    all_map (HasAlike ns) (HasAlike ms) (λ k v one. all_some (HasAlike ms) (λ j u. (j ≡ k) × Alike u v) (HasAlike ms k v) (λ j u h x. has_trans ms j u k v h x.0 x.1) ns h.1 (has_any ns k v one)) ps e.1,
+    each_trans ms ns ps h.0 ((each_all ns ps).0 e.0),
+    all_map (HasAlike ns) (HasAlike ms) (λ k v one. all_some (HasAlike ms) (λ j u. (j ≡ k) × Alike u v) (HasAlike ms k v) (λ j u h x. has_trans ms j u k v h x.0 x.1) ns h.1 ((has_any ns k v).0 one)) ps e.1,
   )
-  alike_trans (plain p) (plain q) _ h e = absurd e
-  alike_trans (list n t b m) (list o u c k) _ h e = absurd e
-  alike_trans (large_list n t b m) (large_list o u c k) _ h e = absurd e
-  alike_trans (fixed_size_list n t b m s) (fixed_size_list o u c k r) _ h e = absurd e
-  alike_trans (struct fs) (struct gs) _ h e = absurd e
-  alike_trans (union ms mode) (union ns mode') _ h e = absurd e
-  alike_trans _ _ _ h e = absurd h
+  alike_trans _ _ _ h e = search
 
   each_trans : (ms ns ps : MemberTrees) → EachHasAlike ms ns → AllMembers (λ j u. SomeMember (λ k v. (j ≡ k) × Alike u v) ps) ns → EachHasAlike ms ps
   each_trans no_members ns ps h e = tt
@@ -147,45 +123,33 @@ mutual
 -- names
 alike_separated : (xs ys : List Text) (d : Dimension) → AlikeNames xs ys → IsSeparatedAs d xs → IsSeparatedAs d ys
 unfolding SameNames
-alike_separated xs ys XY h k = sym h.0 ∙ k
 alike_separated xs ys XYZ h k = (sym h.0 ∙ k.0, λ n. sym (h.1 (inl k.0) n) ∙ k.1 n)
 alike_separated xs ys XYM h k = (sym h.0 ∙ k.0, λ n. sym (h.1 (inl k.0) n) ∙ k.1 n)
-alike_separated xs ys XYZM h k = sym h.0 ∙ k
+alike_separated xs ys _ h k = sym h.0 ∙ k
 
-moves_both : (m n : Text) (xs ys : List Text) → SameNames xs ys → HaveBoth m n xs → HaveBoth m n ys
+same_both : (m n : Text) (xs ys : List Text) → SameNames xs ys → HaveBoth m n xs ↔ HaveBoth m n ys
 unfolding SameNames
-moves_both m n xs ys s h = (sym (s m) ∙ h.0, sym (s n) ∙ h.1)
-
-turned : (xs ys : List Text) → SameNames xs ys → SameNames ys xs
-unfolding SameNames
-turned xs ys s = λ n. sym (s n)
+same_both m n xs ys s = (λ h. (sym (s m) ∙ h.0, sym (s n) ∙ h.1), λ h. (s m ∙ h.0, s n ∙ h.1))
 
 alike_box : (xs ys : List Text) (d : Dimension) → AlikeNames xs ys → IsBoxAs d xs → IsBoxAs d ys
-alike_box xs ys XY h k = sym h.0 ∙ k
 alike_box xs ys XYZ h k =
-    let s = h.1 (inr k.0) in
-    (sym h.0 ∙ k.0, (λ b. k.1 (moves_both (codes "mmin") (codes "mmax") ys xs (turned xs ys s) b)), moves_both (codes "zmin") (codes "zmax") xs ys s k.2)
-alike_box xs ys XYM h k = (sym h.0 ∙ k.0, moves_both (codes "mmin") (codes "mmax") xs ys (h.1 (inr k.0)) k.1)
-alike_box xs ys XYZM h k = sym h.0 ∙ k
+    let same = λ (m n : Text). same_both m n xs ys (h.1 (inr k.0)) in
+    (sym h.0 ∙ k.0, (λ b. k.1 ((same (codes "mmin") (codes "mmax")).1 b)), (same (codes "zmin") (codes "zmax")).0 k.2)
+alike_box xs ys XYM h k = (sym h.0 ∙ k.0, (same_both (codes "mmin") (codes "mmax") xs ys (h.1 (inr k.0))).0 k.1)
+alike_box xs ys _ h k = sym h.0 ∙ k
 
 -- leaves
 alike_leaf : (t u : Tree) (c : CoordType) (d : Dimension) → Alike t u → Leaf t c d → Leaf u c d
 alike_leaf (fixed_size_list n t b m s) (fixed_size_list o u e k r) Interleaved d h l = (sym h.0 ∙ l.0, sym h.1 ∙ l.1)
 alike_leaf (struct fs) (struct gs) Separated d h l = alike_separated (names_of fs) (names_of gs) d h l
-alike_leaf (fixed_size_list n t b m s) _ Separated d h l = absurd l
-alike_leaf (fixed_size_list n t b m s) _ Interleaved d h l = absurd h
-alike_leaf (struct fs) _ Interleaved d h l = absurd l
-alike_leaf (struct fs) _ Separated d h l = absurd h
-alike_leaf _ _ c d h l = absurd l
+alike_leaf _ _ c d h l = search
 
 -- lists: what is below them is alike too
 alike_lists : (w : ListWidth) (n : ℕ) (t u x : Tree) → Alike t u → ListsOver w n t x → (y : Tree) × ListsOver w n u y × Alike x y
 alike_lists w zero t u x h l = (u, refl, subst (λ z. Alike z u) l h)
 alike_lists Lists (suc n) (list nm t b m) (list o u e k) x h l = alike_lists Lists n t u x h l
 alike_lists LargeLists (suc n) (large_list nm t b m) (large_list o u e k) x h l = alike_lists LargeLists n t u x h l
-alike_lists Lists (suc n) (list nm t b m) _ x h l = absurd h
-alike_lists LargeLists (suc n) (large_list nm t b m) _ x h l = absurd h
-alike_lists _ (suc n) _ _ x h l = absurd l
+alike_lists _ _ _ _ x h l = search
 
 alike_below : (P : Tree → CoordType → Dimension → Type 0) → ((t u : Tree) (c : CoordType) (d : Dimension) → Alike t u → P t c d → P u c d) → (n : ℕ) (t u : Tree) (c : CoordType) (d : Dimension) → Alike t u → Under P n t c d → Under P n u c d
 alike_below P moves n t u c d h l =
@@ -203,21 +167,19 @@ Shared P = (i : ℤ) (t u : Tree) → Alike t u → P i t → P i u
 pub alike_all : (P : ℤ → Tree → Type 0) → Shared P → (ms ns : MemberTrees) → AllMembers (HasAlike ms) ns → AllMembers P ms → AllMembers P ns
 alike_all P shared ms ns h all =
     all_map (HasAlike ms) P
-    (λ j u one. all_some P (λ i t. (i ≡ j) × Alike t u) (P j u) (λ i t p x. subst (λ k. P k u) x.0 (shared i t u x.1 p)) ms all (has_any ms j u one))
+    (λ j u one. all_some P (λ i t. (i ≡ j) × Alike t u) (P j u) (λ i t p x. subst (λ k. P k u) x.0 (shared i t u x.1 p)) ms all ((has_any ms j u).0 one))
     ns h
 
 alike_some : (ms ns : MemberTrees) → EachHasAlike ms ns → HasMembers ms → HasMembers ns
-alike_some no_members ns h some = absurd some
-alike_some (member i n t b m ms) no_members h some = absurd h.0
 alike_some (member i n t b m ms) (member j o u c k ns) h some = tt
+alike_some _ _ h some = search
 
 pub member_shared : (c : CoordType) (d : Dimension) → Shared (λ i t. Member i t c d)
 member_shared c d i t u h m = (m.0, m.1, alike_over m.0 t u c d h m.2)
 
 alike_mixed : (t u : Tree) (c : CoordType) (d : Dimension) → Alike t u → Mixed t c d → Mixed u c d
 alike_mixed (union ms mode) (union ns mode') c d h l = (alike_some ms ns h.0 l.0, alike_all (λ i t. Member i t c d) (member_shared c d) ms ns h.1 l.1)
-alike_mixed (union ms mode) _ c d h l = absurd h
-alike_mixed _ _ c d h l = absurd l
+alike_mixed _ _ c d h l = search
 
 alike_collection : (t u : Tree) (c : CoordType) (d : Dimension) → Alike t u → Collection t c d → Collection u c d
 alike_collection = alike_below Mixed alike_mixed 1
@@ -226,38 +188,23 @@ pub geometry_shared : (c : CoordType) → Shared (λ i t. (d : Dimension) × Geo
 geometry_shared c i t u h m =
     (m.0, elim m.1 [ inl x ↦ inl (member_shared c m.0 i t u h x) | inr x ↦ inr (x.0, alike_collection t u c m.0 h x.1) ])
 
-alike_geometry : (t u : Tree) (c : CoordType) → Alike t u → Geometry t c → Geometry u c
-alike_geometry (union ms mode) (union ns mode') c h l = (alike_some ms ns h.0 l.0, alike_all (λ i t. (d : Dimension) × GeometryMember i t c d) (geometry_shared c) ms ns h.1 l.1)
-alike_geometry (union ms mode) _ c h l = absurd h
-alike_geometry _ _ c h l = absurd l
-
 -- kinds
 alike_native : (k : NativeKind) (t u : Tree) (c : CoordType) (d : Dimension) → Alike t u → Native t k c d → Native u k c d
 alike_native GeometryCollection t u c d h l = alike_collection t u c d h l
 alike_native k t u c d h l = alike_over k t u c d h l
 
-alike_boxes : (t u : Tree) (d : Dimension) → Alike t u → BoxShape t d → BoxShape u d
-alike_boxes (struct fs) (struct gs) d h l = alike_box (names_of fs) (names_of gs) d h l
-alike_boxes (struct fs) _ d h l = absurd h
-alike_boxes _ _ d h l = absurd l
-
 -- only a plain data type is that of well-known binary or text, and it is alike to itself alone
-plain_same : (p : Plain) (t u : Tree) → t ≡ plain p → Alike t u → u ≡ plain p
-plain_same p (plain q) (plain r) e h = ap (λ x. plain x) (sym h) ∙ e
-plain_same p (plain q) _ e h = absurd h
-plain_same p _ u e h = cc
+plain_same : (p : Plain) (t u : Tree) → Alike t u → t ≡ plain p → u ≡ plain p
+plain_same p (plain q) (plain r) h e = ap (λ x. plain x) (sym h) ∙ e
+plain_same p (plain q) _ h e = absurd h
+plain_same p _ u h e = cc
 
-plain_only : (t u : Tree) → Alike t u → (w : Width) → (IsBytes w t → IsBytes w u) × (IsText w t → IsText w u)
-plain_only t u h Narrow = (λ e. plain_same binary t u e h, λ e. plain_same utf8 t u e h)
-plain_only t u h Large = (λ e. plain_same large_binary t u e h, λ e. plain_same large_utf8 t u e h)
-plain_only t u h View = (λ e. plain_same binary_view t u e h, λ e. plain_same utf8_view t u e h)
-
-alike_accepted : (k : Kind) (t u : Tree) → Alike t u → Accepted k t → Accepted k u
+pub alike_accepted : (k : Kind) (t u : Tree) → Alike t u → Accepted k t → Accepted k u
 alike_accepted (OfNative k c d) t u h a = alike_native k t u c d h a
-alike_accepted (OfGeometry c) t u h a = alike_geometry t u c h a
-alike_accepted (OfRect d) t u h a = alike_boxes t u d h a
-alike_accepted (OfWkb w) t u h a = (plain_only t u h w).0 a
-alike_accepted (OfWkt w) t u h a = (plain_only t u h w).1 a
-
-pub same_kinds : (t u : Tree) → Alike t u → (name : Text) (k : Kind) → Accepts name t k ↔ Accepts name u k
-same_kinds t u h name k = (λ a. (a.0, alike_accepted k t u h a.1), λ a. (a.0, alike_accepted k u t (alike_sym t u h) a.1))
+alike_accepted (OfGeometry c) (union ms mode) (union ns mode') h a = (alike_some ms ns h.0 a.0, alike_all (λ i t. (d : Dimension) × GeometryMember i t c d) (geometry_shared c) ms ns h.1 a.1)
+alike_accepted (OfRect d) (struct fs) (struct gs) h a = alike_box (names_of fs) (names_of gs) d h a
+alike_accepted (OfGeometry c) _ _ h a = search
+alike_accepted (OfRect d) _ _ h a = search
+alike_accepted (OfWkb Narrow) t u h a = plain_same _ t u h a
+alike_accepted (OfWkt Narrow) t u h a = plain_same _ t u h a
+alike_accepted _ t u h a = plain_same _ t u h a

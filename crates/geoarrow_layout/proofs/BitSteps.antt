@@ -6,7 +6,7 @@ use Rattle.std.proofs.lemmas.Nat.Bits.{bit_at_set_same, bit_at_set_other, bit_at
 use Rattle.std.proofs.lemmas.Bool.{cases_eq, ltb-true, ltb-false}
 use mir.Val.{bits}
 use Rattle.geoarrow_layout.specs.Summary.{IsBits, place_of}
-use Rattle.geoarrow_layout.specs.Steps.{AddsBit, AddsBits, CoordOf, DimensionOf, SomeAnswer}
+use Rattle.geoarrow_layout.specs.Steps.{AddsBit, AddsBits, CoordOf, DimensionOf}
 use lib.IntN.{negsuc, nat_abs}
 use lib.Signed.{lt_z}
 use Rattle.geoarrow_layout.specs.declared.kinds.CoordType.{CoordType}
@@ -31,12 +31,12 @@ pub no_bits : (P : ℕ → Type 0) → ((i : ℕ) → P i → ⊥) → IsBits 0 
 unfolding IsBits
 no_bits P none = λ i. (λ e. let z = bit_at-zero i in cc, λ p. absurd (none i p))
 
--- one more number is in the set
-pub bits_more : (n j more : ℕ) (P Q : ℕ → Type 0) → AddsBit n j more → ((i : ℕ) → P i → Q i) → Q j → ((i : ℕ) → Q i → P i ⊎ (i ≡ j)) → IsBits n P → IsBits more Q
-unfolding IsBits AddsBit
-bits_more n j more P Q adds to new from h = λ i. (
-  (λ e. elim ((adds i).0 e) [ inl was ↦ to i ((h i).0 was) | inr is ↦ subst Q (sym is) new ]),
-  (λ q. elim (from i q) [ inl p ↦ (adds i).1 (inl ((h i).1 p)) | inr is ↦ (adds i).1 (inr is) ]),
+-- the numbers of Q are those of P and those that are added
+pub bits_added : (n more : ℕ) (A P Q : ℕ → Type 0) → AddsBits n A more → ((i : ℕ) → Q i ↔ (P i ⊎ A i)) → IsBits n P → IsBits more Q
+unfolding IsBits AddsBits
+bits_added n more A P Q adds is h = λ i. (
+  (λ e. (is i).1 (elim ((adds i).0 e) [ inl was ↦ inl ((h i).0 was) | inr a ↦ inr a ])),
+  (λ q. (adds i).1 (elim ((is i).0 q) [ inl p ↦ inl ((h i).1 p) | inr a ↦ inr a ])),
 )
 
 pub bit_is : (n : ℕ) (P : ℕ → Type 0) (i : ℕ) → IsBits n P → (bit_at n i ≡ 1) ↔ P i
@@ -49,14 +49,14 @@ adds_none : (n : ℕ) (P : ℕ → Type 0) → ((i : ℕ) → P i → ⊥) → A
 unfolding AddsBits
 adds_none n P none = λ i. (λ e. inl e, λ h. elim h [ inl e ↦ e | inr p ↦ absurd (none i p) ])
 
-adds_one : (n j more : ℕ) (P : ℕ → Type 0) → P j → ((i : ℕ) → P i → i ≡ j) → AddsBit n j more → AddsBits n P more
+pub adds_one : (n j more : ℕ) (P : ℕ → Type 0) → P j → ((i : ℕ) → P i → i ≡ j) → AddsBit n j more → AddsBits n P more
 unfolding AddsBit AddsBits
 adds_one n j more P there only adds = λ i. (
   (λ e. elim ((adds i).0 e) [ inl was ↦ inl was | inr is ↦ inr (subst P (sym is) there) ]),
   (λ h. elim h [ inl e ↦ (adds i).1 (inl e) | inr p ↦ (adds i).1 (inr (only i p)) ]),
 )
 
-pos_same : (m n : ℕ) → pos m ≡ pos n → m ≡ n
+pub pos_same : (m n : ℕ) → pos m ≡ pos n → m ≡ n
 pos_same m n h = cc
 
 pub coord_added : (n j more : ℕ) (part : Answer) (p : CoordType × Dimension) → part ≡ Ok p → j ≡ place_of p.0 → AddsBit n j more → AddsBits n (CoordOf part) more
@@ -75,32 +75,19 @@ dimension_added n j more part p is place adds =
 pub dimension_kept : (n : ℕ) (part : Answer) (f : LayoutFault) → part ≡ Err f → AddsBits n (DimensionOf part) n
 dimension_kept n part f is = adds_none n (DimensionOf part) (λ i h. let bad = sym h.3 ∙ is in cc)
 
-pub id_kept : (n : ℕ) (id : ℤ) → ((i : ℕ) → i < 64 → id ≡ pos i → ⊥) → AddsBits n (λ i. (i < 64) × (id ≡ pos i)) n
-id_kept n id none = adds_none n (λ i. (i < 64) × (id ≡ pos i)) (λ i h. none i h.0 h.1)
-
-pub id_added : (n j more : ℕ) (id : ℤ) → id ≡ pos j → j < 64 → AddsBit n j more → AddsBits n (λ i. (i < 64) × (id ≡ pos i)) more
-id_added n j more id is small adds = adds_one n j more (λ i. (i < 64) × (id ≡ pos i)) (small, is) (λ i h. pos_same i j (sym h.1 ∙ is)) adds
-
-pub some_answer : (part : Answer) (p : CoordType × Dimension) → part ≡ Ok p → SomeAnswer part
-some_answer part p is = (p.0, p.1, is)
-
-negative : (id : ℤ) (i : ℕ) → lt_z id (pos 0) ≡ true → id ≡ pos i → ⊥
-negative (pos n) i h e = let lt : n < 0 = ltb-true n 0 h in omega arith
-negative (negsuc n) i h e = cc
-
-large : (id : ℤ) (i : ℕ) → lt_z (pos 63) id ≡ true → i < 64 → id ≡ pos i → ⊥
-large (pos n) i h small e = let lt : 63 < n = ltb-true 63 n h in let same : n ≡ i = pos_same n i e in omega arith
-large (negsuc n) i h small e = cc
+outside : (z : ℤ) (i : ℕ) → (lt_z z (pos 0) ≡ true) ⊎ (lt_z (pos 63) z ≡ true) → i < 64 → z ≡ pos i → ⊥
+outside (pos n) i (inl h) small e = let lt : n < 0 = ltb-true n 0 h in omega arith
+outside (pos n) i (inr h) small e = let lt : 63 < n = ltb-true 63 n h in let same : n ≡ i = pos_same n i e in omega arith
+outside (negsuc n) i h small e = cc
 
 between : (id : ℤ) → lt_z id (pos 0) ≡ false → lt_z (pos 63) id ≡ false → (id ≡ pos (nat_abs id)) × (nat_abs id < 64)
 between (pos n) h k = let le : n ≤ 63 = ltb-false 63 n k in (refl, omega arith)
 between (negsuc n) h k = cc
 
-pub id_negative : (n : ℕ) (id z : ℤ) → z ≡ id → lt_z z (pos 0) ≡ true → AddsBits n (λ i. (i < 64) × (id ≡ pos i)) n
-id_negative n id z is h = id_kept n id (λ i small e. negative id i (subst (λ x. lt_z x (pos 0) ≡ true) is h) e)
-
-pub id_large : (n : ℕ) (id z : ℤ) → z ≡ id → lt_z (pos 63) z ≡ true → AddsBits n (λ i. (i < 64) × (id ≡ pos i)) n
-id_large n id z is h = id_kept n id (λ i small e. large id i (subst (λ x. lt_z (pos 63) x ≡ true) is h) small e)
+pub id_outside : (n : ℕ) (id z : ℤ) → z ≡ id → (lt_z z (pos 0) ≡ true) ⊎ (lt_z (pos 63) z ≡ true) → AddsBits n (λ i. (i < 64) × (id ≡ pos i)) n
+id_outside n id z is h = adds_none n (λ i. (i < 64) × (id ≡ pos i)) (λ i p. outside z i h p.0 (is ∙ p.1))
 
 pub id_between : (n more : ℕ) (id z : ℤ) → z ≡ id → lt_z z (pos 0) ≡ false → lt_z (pos 63) z ≡ false → AddsBit n (nat_abs z) more → AddsBits n (λ i. (i < 64) × (id ≡ pos i)) more
-id_between n more id z is h k adds = let b = between z h k in id_added n (nat_abs z) more id (sym is ∙ b.0) b.1 adds
+id_between n more id z is h k adds =
+    let b = between z h k in
+    adds_one n (nat_abs z) more (λ i. (i < 64) × (id ≡ pos i)) (b.1, sym is ∙ b.0) (λ i p. pos_same i (nat_abs z) (sym p.1 ∙ sym is ∙ b.0)) adds

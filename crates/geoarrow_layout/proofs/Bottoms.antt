@@ -38,6 +38,11 @@ NotList (list n t b m) = ⊥
 NotList (large_list n t b m) = ⊥
 NotList _ = Unit {0}
 
+pub not_list : (P : Tree → Type 0) → ((n : Text) (t : Tree) (b : Bool) (m : Metadata) → P (list n t b m) → ⊥) → ((n : Text) (t : Tree) (b : Bool) (m : Metadata) → P (large_list n t b m) → ⊥) → (t : Tree) → P t → NotList t
+not_list P lists large_lists (list n t b m) h = lists n t b m h
+not_list P lists large_lists (large_list n t b m) h = large_lists n t b m h
+not_list P lists large_lists _ h = tt
+
 -- how many lists of the width a tree begins with
 abbrev top : ListWidth → Tree → ℕ
 top Lists (list n t b m) = suc (top Lists t)
@@ -133,9 +138,7 @@ under_same U P s m r t same h a =
     (λ c d p. subst (λ x. P x c d) (levels_same m t p.0 h.0 p.1 l) p.2) a
 
 pub leaf_apart : AtNoList Leaf
-leaf_apart (list n t b m) c d h = h
-leaf_apart (large_list n t b m) c d h = h
-leaf_apart _ c d h = tt
+leaf_apart t c d h = not_list (λ x. Leaf x c d) (λ n x b m p. p) (λ n x b m p. p) t h
 
 -- a coordinate below no lists is a coordinate
 pub leaf_alone : (r : Answer) (t : Tree) → Answers r (LeafUnder 0 t) → Answers r (Leaf t)

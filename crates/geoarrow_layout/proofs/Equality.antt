@@ -1,7 +1,7 @@
 -- The derived `==` of kinds and summaries answers true exactly at equal values.
 use denote.Enum.Bare.{Bare, sameb, same_true, true_same}
 use denote.Enum.Declared.{Declared}
-use Rattle.std.proofs.Common.{◌≡◌, Bool, Option, None, Some, refl, sym, ap, true≢false}
+use Rattle.std.proofs.Common.{◌≡◌, Bool, Option, None, Some, refl, ap}
 use Rattle.std.proofs.lemmas.Bool.Decides.{Decides-and, Decides-like}
 use Rattle.std.specs.Bool.{Decides}
 use Rattle.std.specs.Cmp.{booleans_Decides, unsigned_Decides, signed_Decides}
@@ -11,7 +11,7 @@ use Rattle.geoarrow_layout.specs.declared.kinds.Dimension.{Dimension}
 use Rattle.geoarrow_layout.specs.declared.encodings.Kind.{Kind}
 use Rattle.geoarrow_layout.specs.declared.encodings.Kind.TheVariants.{Native, Geometry, Rect, Wkb, Wkt}
 use Rattle.geoarrow_layout.specs.declared.summary.Bottom.{Bottom}
-use Rattle.geoarrow_layout.specs.declared.summary.Bottom.TheVariants.{FixedSizeList, Struct, Union, OtherWidth, Deep, Other}
+use Rattle.geoarrow_layout.specs.declared.summary.Bottom.TheVariants.{FixedSizeList, Struct, Union, OtherWidth}
 use Rattle.geoarrow_layout.specs.declared.summary.Summary.{Summary}
 use Rattle.geoarrow_layout.specs.contracts.encodings.KindPartialEq.TheImpl as kinds
 use Rattle.geoarrow_layout.specs.contracts.encodings.NativeKind as native_kind
@@ -30,7 +30,7 @@ bare_decides D bare a b = (same_true D bare a b, true_same D a b)
 pub option_decides : {A : Type 0} (E : A → A → Bool) → ((x y : A) → Decides (E x y) (x ≡ y)) → (o p : Option A) → Decides (option_eq E o p) (o ≡ p)
 option_decides E d None None = (λ h. refl, λ p. refl)
 option_decides E d (Some x) (Some y) = Decides-like _ (λ p. ap Some p) (λ p. cc) (d x y)
-option_decides E d _ _ = (λ h. absurd (true≢false (sym h)), λ p. cc)
+option_decides E d _ _ = (λ h. cc, λ p. cc)
 
 pub kind_decides : (a b : Kind) → Decides ((kinds.eq-value).it a b) (a ≡ b)
 kind_decides (Native k c d) (Native l b e) =
@@ -40,7 +40,7 @@ kind_decides (Geometry c) (Geometry b) = Decides-like _ (λ p. ap Geometry p) (�
 kind_decides (Rect d) (Rect e) = Decides-like _ (λ p. ap Rect p) (λ p. cc) (bare_decides dimension.the_type tt d e)
 kind_decides (Wkb v) (Wkb w) = Decides-like _ (λ p. ap Wkb p) (λ p. cc) (bare_decides width.the_type tt v w)
 kind_decides (Wkt v) (Wkt w) = Decides-like _ (λ p. ap Wkt p) (λ p. cc) (bare_decides width.the_type tt v w)
-kind_decides _ _ = (λ h. absurd (true≢false (sym h)), λ p. cc)
+kind_decides _ _ = (λ h. cc, λ p. cc)
 
 dimensions_decide : (a b : Option Dimension) → Decides (option_eq (sameb dimension.the_type) a b) (a ≡ b)
 dimensions_decide = option_decides _ (bare_decides dimension.the_type tt)
@@ -57,10 +57,8 @@ bottom_decides (Union none ids coords dims mixed geometry) (Union other_none oth
     Decides-like _ (λ p. cc) (λ p. (cc, (cc, (cc, (cc, (cc, cc))))))
     (Decides-and _ _ (booleans_Decides none other_none) (Decides-and _ _ (unsigned_Decides ids other_ids) (Decides-and _ _ (unsigned_Decides coords other_coords) (Decides-and _ _ (unsigned_Decides dims other_dims)
     (Decides-and _ _ (faults_decide mixed other_mixed) (faults_decide geometry other_geometry))))))
-bottom_decides OtherWidth OtherWidth = (λ h. refl, λ p. refl)
-bottom_decides Deep Deep = (λ h. refl, λ p. refl)
-bottom_decides Other Other = (λ h. refl, λ p. refl)
-bottom_decides _ _ = (λ h. absurd (true≢false (sym h)), λ p. cc)
+bottom_decides _ OtherWidth = (λ h. cc, λ p. cc)
+bottom_decides _ _ = (λ h. cc, λ p. cc)
 
 pub summary_decides : (a b : Summary) → Decides ((summaries.eq-value).it a b) (a ≡ b)
 summary_decides a b =

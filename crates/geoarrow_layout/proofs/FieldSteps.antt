@@ -1,5 +1,5 @@
 -- The fields of a struct: which names are those of a coordinate, and which bits stand for them.
-use Rattle.std.proofs.Common.{◌≡◌, ◌⊎◌, inl, inr, suc, Bool, true, false, ◌||◌, List, [], ◌∷◌, length, refl, sym, ap, ◌∙◌, arith, ◌<◌, ◌≤◌, ℕ, zero, ◌+◌, subst, ◌&&◌, cond, ◌++◌, take, get_or, eq-eqb}
+use Rattle.std.proofs.Common.{◌≡◌, ◌↔◌, ◌⊎◌, inl, inr, suc, Bool, true, false, ◌||◌, List, [], ◌∷◌, length, refl, sym, ap, ◌∙◌, arith, ◌<◌, ℕ, zero, ◌+◌, subst, ◌&&◌, cond, ◌++◌, take, get_or, eq-eqb}
 use Rattle.std.specs.List.{list_any}
 use Rattle.std.specs.Str.{bytes_eq}
 use Rattle.std.proofs.lemmas.Slice.Eq.{bytes_eq-Decides}
@@ -11,13 +11,12 @@ use Rattle.geoarrow_layout.specs.Shapes.{has_name, SameNames, IsSeparatedAs, nam
 use Rattle.std.specs.Int.{bit_at}
 use Rattle.std.proofs.lemmas.Bool.{eqb-true, or_cases, or_left, or_right}
 use Rattle.std.proofs.lemmas.Bool.Decides.{same_from_decides}
-use Rattle.std.proofs.lemmas.List.{take_all}
 use Rattle.std.proofs.Math.Bool.{and-true, and_assoc}
 use Rattle.geoarrow_layout.specs.Summary.{IsBits, SomeAt, place_in, known_names}
 use Rattle.geoarrow_layout.specs.Inferred.{is_float64, are_float64}
 use Rattle.geoarrow_layout.specs.Steps.{AddsBit, has_bit}
-use Rattle.geoarrow_layout.proofs.MemberLists.{one_more}
-use Rattle.geoarrow_layout.proofs.BitSteps.{bits_more, no_bits, bit_is}
+use Rattle.geoarrow_layout.proofs.MemberLists.{or_more, one_more}
+use Rattle.geoarrow_layout.proofs.BitSteps.{bits_added, adds_one, no_bits, bit_is}
 
 pub length-names : (fs : List FieldTree) → length (names_of (field_trees fs)) ≡ length fs
 length-names [] = refl
@@ -70,13 +69,6 @@ same_three x y z names xy xz yz count hx hy hz =
     let none : d.rest ≡ [] = empty_from d.rest (omega arith) in
     λ n. a.same n ∙ ap (λ r. bytes_eq x n || r) (b.same n ∙ ap (λ r. bytes_eq y n || r) (d.same n ∙ ap (λ r. bytes_eq z n || has_name n r) none))
 
-pub xyz_names : (names : List Text) → length names ≡ 3 → has_name (120 ∷ []) names ≡ true → has_name (121 ∷ []) names ≡ true → has_name (122 ∷ []) names ≡ true → IsSeparatedAs XYZ names
-xyz_names names count hx hy hz = (count, same_three _ _ _ names refl refl refl count hx hy hz)
-
-pub xym_names : (names : List Text) → length names ≡ 3 → has_name (120 ∷ []) names ≡ true → has_name (121 ∷ []) names ≡ true → has_name (109 ∷ []) names ≡ true → IsSeparatedAs XYM names
-xym_names names count hx hy hz = (count, same_three _ _ _ names refl refl refl count hx hy hz)
-
--- three names of a coordinate have `x` and `y`, and `z` or `m`
 pub three_have : (names : List Text) (d : Dimension) → length names ≡ 3 → IsSeparatedAs d names → (has_name (120 ∷ []) names ≡ true) × (has_name (121 ∷ []) names ≡ true) × ((has_name (122 ∷ []) names ≡ true) ⊎ (has_name (109 ∷ []) names ≡ true))
 unfolding SameNames
 three_have names XYZ count h = (h.1 (120 ∷ []), h.1 (121 ∷ []), inl (h.1 (122 ∷ [])))
@@ -88,20 +80,9 @@ three_have names _ count h = absurd (omega arith)
 abbrev pub FieldItems : Type 0
 FieldItems = List FieldTree
 
-some_before : (i : ℕ) (xs : FieldItems) (x : FieldTree) → SomeAt i (names_of (field_trees xs)) → SomeAt i (names_of (field_trees (xs ++ (x ∷ []))))
-some_before i [] x h = absurd h
-some_before i (y ∷ xs) x (inl e) = inl e
-some_before i (y ∷ xs) x (inr h) = inr (some_before i xs x h)
-
-some_last : (xs : FieldItems) (x : FieldTree) → SomeAt (place_in x.name known_names) (names_of (field_trees (xs ++ (x ∷ []))))
-some_last [] x = inl refl
-some_last (y ∷ xs) x = inr (some_last xs x)
-
-some_either : (i : ℕ) (xs : FieldItems) (x : FieldTree) → SomeAt i (names_of (field_trees (xs ++ (x ∷ [])))) → SomeAt i (names_of (field_trees xs)) ⊎ (i ≡ place_in x.name known_names)
-some_either i [] x (inl e) = inr (sym e)
-some_either i [] x (inr h) = absurd h
-some_either i (y ∷ xs) x (inl e) = inl (inl e)
-some_either i (y ∷ xs) x (inr h) = elim (some_either i xs x h) [ inl s ↦ inl (inr s) | inr e ↦ inr e ]
+some_more : (i : ℕ) (xs : FieldItems) (x : FieldTree) → SomeAt i (names_of (field_trees (xs ++ (x ∷ [])))) ↔ (SomeAt i (names_of (field_trees xs)) ⊎ (place_in x.name known_names ≡ i))
+some_more i [] x = (λ h. elim h [ inl p ↦ inr p | inr e ↦ inl e ], λ h. elim h [ inl e ↦ inr e | inr p ↦ inl p ])
+some_more i (y ∷ xs) x = or_more (some_more i xs x)
 
 floats_more : (xs : FieldItems) (x : FieldTree) → are_float64 (field_trees (xs ++ (x ∷ []))) ≡ (are_float64 (field_trees xs) && is_float64 x.tree)
 floats_more [] x = and-true (is_float64 x.tree)
@@ -119,21 +100,16 @@ pub fields_seen_more : (names place more : ℕ) (b b2 : Bool) (xs : FieldItems) 
 fields_seen_more names place more b b2 all k x lt at is adds float before =
     let xs = take k all in
     subst (FieldsSeen more b2) (sym (one_more all k x lt at)) record {
-      bits = bits_more names place more (λ i. SomeAt i (names_of (field_trees xs))) (λ i. SomeAt i (names_of (field_trees (xs ++ (x ∷ []))))) adds
-          (λ i h. some_before i xs x h) (subst (λ p. SomeAt p (names_of (field_trees (xs ++ (x ∷ []))))) (sym is) (some_last xs x))
-          (λ i h. elim (some_either i xs x h) [ inl s ↦ inl s | inr e ↦ inr (e ∙ sym is) ]) before.bits;
+      bits = bits_added names more (λ i. place_in x.name known_names ≡ i) (λ i. SomeAt i (names_of (field_trees xs))) (λ i. SomeAt i (names_of (field_trees (xs ++ (x ∷ [])))))
+          (adds_one names place more (λ i. place_in x.name known_names ≡ i) (sym is) (λ i e. sym e ∙ sym is) adds) (λ i. some_more i xs x) before.bits;
       floats = float ∙ ap (λ q. q && is_float64 x.tree) before.floats ∙ sym (floats_more xs x);
     }
-
-pub fields_seen_end : (names : ℕ) (b : Bool) (xs : FieldItems) (k : ℕ) → length xs ≤ k → FieldsSeen names b (take k xs) → FieldsSeen names b xs
-fields_seen_end names b xs k h a = subst (λ ys. FieldsSeen names b ys) (take_all k xs h) a
 
 -- a known name is there exactly where its bit is set
 place_to_head : (n m : Text) (ms : List Text) (k : ℕ) (b : Bool) → bytes_eq n m ≡ b → ((j : ℕ) → j < length ms → place_in n ms ≡ j → bytes_eq n (get_or ms j []) ≡ true) → k < suc (length ms) → cond b 0 (suc (place_in n ms)) ≡ k → bytes_eq n (get_or (m ∷ ms) k []) ≡ true
 place_to_head n m ms zero true e rec lt h = e
-place_to_head n m ms (suc k) true e rec lt h = absurd (omega arith)
-place_to_head n m ms zero false e rec lt h = absurd (omega arith)
 place_to_head n m ms (suc k) false e rec lt h = rec k (omega arith) (omega arith)
+place_to_head n m ms _ _ e rec lt h = absurd (omega arith)
 
 place_to : (n : Text) (ms : List Text) (k : ℕ) → k < length ms → place_in n ms ≡ k → bytes_eq n (get_or ms k []) ≡ true
 place_to n [] k lt h = absurd (omega arith)

@@ -1,12 +1,12 @@
 -- Points that trees are taken for.
 use Rattle.std.proofs.Common.{◌≡◌, ◌↔◌, ◌<◌, inl, inr, ℕ, ℤ, pos, refl, sym, ap, subst, ◌∙◌, arith, Bool, true, false, ◌&&◌, Option, Some, None, List, [], ◌∷◌, length, codes}
 use Rattle.std.proofs.lemmas.Bool.{and_parts, cases_Bool}
-use Rattle.std.proofs.lemmas.Option.{same_Some}
-use Rattle.arrow_values.specs.Tree.{Text, Metadata, Tree, list, large_list, fixed_size_list, struct, FieldTrees}
+use Rattle.std.proofs.lemmas.Option.{some_pair_parts}
+use Rattle.arrow_values.specs.Tree.{Text, Metadata, Tree, fixed_size_list, struct, FieldTrees}
 use Rattle.geoarrow_layout.specs.declared.kinds.CoordType.{CoordType}
 use Rattle.geoarrow_layout.specs.declared.kinds.CoordType.TheVariants.{Interleaved, Separated}
 use Rattle.geoarrow_layout.specs.declared.kinds.Dimension.{Dimension}
-use Rattle.geoarrow_layout.specs.declared.kinds.Dimension.TheVariants.{XY, XYZ, XYM, XYZM}
+use Rattle.geoarrow_layout.specs.declared.kinds.Dimension.TheVariants.{XY, XYZ, XYM}
 use Rattle.geoarrow_layout.specs.declared.summary.ListWidth.{ListWidth}
 use Rattle.geoarrow_layout.specs.declared.summary.Bottom.TheVariants.{FixedSizeList, Struct}
 use Rattle.geoarrow_layout.specs.declared.summary.Summary.{Summary}
@@ -16,8 +16,9 @@ use Rattle.geoarrow_layout.specs.Summary.{IsBits, SomeAt, IsBottom, IsUnion, Sum
 use Rattle.geoarrow_layout.specs.Inferred.{are_float64, AnswersSome, Inferred, IsInferredAs, IsInferredSize}
 use Rattle.geoarrow_layout.specs.Steps.{has_bit, is_measured, NamesSay, SizeSays}
 use Rattle.geoarrow_layout.specs.OneShape.{apart, separated_same}
-use Rattle.geoarrow_layout.proofs.FieldSteps.{xym_names, has_at}
-use Rattle.geoarrow_layout.proofs.Bottoms.{NotList, at_bottom}
+use Rattle.geoarrow_layout.proofs.FieldSteps.{same_three, has_at}
+use Rattle.geoarrow_layout.proofs.Bottoms.{not_list, at_bottom}
+use Rattle.geoarrow_layout.proofs.BitSteps.{pos_same}
 use Rattle.geoarrow_layout.proofs.UnionSteps.{below_root}
 
 abbrev pub PairOption : Type 0
@@ -30,13 +31,8 @@ abbrev no_pair : PairOption
 no_pair = None
 
 -- below lists nothing is
-inferred_apart : (t : Tree) (c : CoordType) (d : Dimension) → Inferred t c d → NotList t
-inferred_apart (list n t b m) c d h = h
-inferred_apart (large_list n t b m) c d h = h
-inferred_apart _ c d h = tt
-
 pub inferred_below : (s : Summary) (t : Tree) → 0 < s.levels → Summarizes s t → AnswersSome None (Inferred t)
-inferred_below s t some h = λ c d. (λ e. let bad : no_pair ≡ some_pair c d = e in cc, λ g. absurd (below_root s t some h (inferred_apart t c d g)))
+inferred_below s t some h = λ c d. (λ e. let bad : no_pair ≡ some_pair c d = e in cc, λ g. absurd (below_root s t some h (not_list (λ x. Inferred x c d) (λ n x b m p. p) (λ n x b m p. p) t g)))
 
 -- fixed size lists
 abbrev Names : Option Dimension → Text → Type 0
@@ -61,16 +57,16 @@ only_interleaved : (n : Text) (t : Tree) (b : Bool) (m : Metadata) (z : ℤ) (c 
 only_interleaved n t b m z Interleaved d h = refl
 only_interleaved n t b m z Separated d h = absurd h
 
-only_separated : (fs : FieldTrees) (c : CoordType) (d : Dimension) → Inferred (struct fs) c d → Separated ≡ c
-only_separated fs Separated d h = refl
+only_separated : (fs : FieldTrees) (c : CoordType) (d : Dimension) → Inferred (struct fs) c d → (Separated ≡ c) × (are_float64 fs ≡ true) × IsInferredAs d (names_of fs)
+only_separated fs Separated d h = (refl, h.0, h.1)
 only_separated fs Interleaved d h = absurd h
 
-pub size_inferred : (w : Option ListWidth) (named : Option Dimension) (size : ℤ) (floats : Bool) (o : Option Dimension) (r : PairOption) (u : Tree)
-    → IsBottom IsUnion w 0 (FixedSizeList named size floats) u → floats ≡ true → ((d : Dimension) → (o ≡ Some d) ↔ SizeSays d named size) → Pairs Interleaved o r → AnswersSome r (Inferred u)
-size_inferred w named size floats o r u k all says pairs =
+pub size_inferred : (w : Option ListWidth) (named : Option Dimension) (size told : ℤ) (floats : Bool) (o : Option Dimension) (r : PairOption) (u : Tree)
+    → IsBottom IsUnion w 0 (FixedSizeList named size floats) u → floats ≡ true → told ≡ size → ((d : Dimension) → (o ≡ Some d) ↔ SizeSays d named told) → Pairs Interleaved o r → AnswersSome r (Inferred u)
+size_inferred w named size told floats o r u k all same says pairs =
     at_bottom IsUnion (λ x. AnswersSome r (Inferred x)) w 0 (FixedSizeList named size floats) tt
-    (λ n t b m z h. inferred_pair Interleaved o r (λ d. SizeSays d named size) (fixed_size_list n t b m z) (only_interleaved n t b m z)
-    (λ d. let is = size_is d named n size z h.0 h.1 in (λ s. (sym h.2 ∙ all, is.0 s), λ i. is.1 i.1)) says pairs)
+    (λ n t b m z h. inferred_pair Interleaved o r (λ d. SizeSays d named told) (fixed_size_list n t b m z) (only_interleaved n t b m z)
+    (λ d. let is = size_is d named n told z h.0 (same ∙ h.1) in (λ s. (sym h.2 ∙ all, is.0 s), λ i. is.1 i.1)) says pairs)
     (λ fs h. absurd h) (λ ms mode h. absurd h) u k
 
 -- structs
@@ -81,7 +77,7 @@ measured_to : (bits : ℕ) (ns : List Text) → Bits bits ns → length ns ≡ 3
 measured_to bits ns is three h =
     let p = and_parts (has_bit bits 0 && has_bit bits 1) (has_bit bits 3) h in
     let q = and_parts (has_bit bits 0) (has_bit bits 1) p.0 in
-    (xym_names ns three (sym (has_at _ 0 bits ns (omega arith) refl refl is) ∙ q.0) (sym (has_at _ 1 bits ns (omega arith) refl refl is) ∙ q.1) (sym (has_at _ 3 bits ns (omega arith) refl refl is) ∙ p.1)).1
+    same_three _ _ _ ns refl refl refl three (sym (has_at _ 0 bits ns (omega arith) refl refl is) ∙ q.0) (sym (has_at _ 1 bits ns (omega arith) refl refl is) ∙ q.1) (sym (has_at _ 3 bits ns (omega arith) refl refl is) ∙ p.1)
 
 measured_from : (bits : ℕ) (ns : List Text) → Bits bits ns → is_measured bits ≡ false → SameNames ns (codes "x" ∷ codes "y" ∷ codes "m" ∷ []) → ⊥
 unfolding SameNames
@@ -106,34 +102,26 @@ pub names_inferred : (w : Option ListWidth) (count names : ℕ) (floats : Bool) 
     → IsBottom IsUnion w 0 (Struct count names floats) u → floats ≡ true → ((d : Dimension) → (o ≡ Some d) ↔ NamesSay d count names) → Pairs Separated o r → AnswersSome r (Inferred u)
 names_inferred w count names floats o r u k all says pairs =
     at_bottom IsUnion (λ x. AnswersSome r (Inferred x)) w 0 (Struct count names floats) tt (λ n t b m z h. absurd h)
-    (λ fs h. inferred_pair Separated o r (λ d. NamesSay d count names) (struct fs) (only_separated fs)
+    (λ fs h. inferred_pair Separated o r (λ d. NamesSay d count names) (struct fs) (λ c d i. (only_separated fs c d i).0)
     (λ d. let is = names_are d count names (names_of fs) h.0 h.1 in (λ s. (sym h.2 ∙ all, is.0 s), λ i. is.1 i.1)) says pairs)
     (λ ms mode h. absurd h) u k
 
 -- two fields, whatever their names are
-abbrev pair : CoordType → Dimension → CoordType × Dimension
-pair c d = (c, d)
-
 pub no_floats_inferred : (r : PairOption) (fs : FieldTrees) → are_float64 fs ≡ false → r ≡ no_pair → AnswersSome r (Inferred (struct fs))
-no_floats_inferred r fs floatless is = λ c d. at_type c d
-  where
-    at_type : (c : CoordType) (d : Dimension) → (r ≡ some_pair c d) ↔ Inferred (struct fs) c d
-    at_type Separated d = (λ e. let bad : no_pair ≡ some_pair Separated d = sym is ∙ e in cc, λ h. let bad : false ≡ true = sym floatless ∙ h.0 in cc)
-    at_type Interleaved d = (λ e. let bad : no_pair ≡ some_pair Interleaved d = sym is ∙ e in cc, λ h. absurd h)
+no_floats_inferred r fs floatless is = λ c d. (
+  (λ e. let bad : no_pair ≡ some_pair c d = sym is ∙ e in cc),
+  (λ h. let bad : false ≡ true = sym floatless ∙ (only_separated fs c d h).1 in cc),
+)
 
 two_names : (ns : List Text) (d : Dimension) → length ns ≡ 2 → IsInferredAs d ns → XY ≡ d
 two_names ns XY two h = refl
 two_names ns _ two h = absurd (omega arith)
 
 pub pair_inferred : (r : PairOption) (fs : FieldTrees) → are_float64 fs ≡ true → length (names_of fs) ≡ 2 → r ≡ some_pair Separated XY → AnswersSome r (Inferred (struct fs))
-pair_inferred r fs all two is = λ c d. at_type c d
-  where
-    one_pair : (c : CoordType) (d : Dimension) → r ≡ some_pair c d → pair Separated XY ≡ pair c d
-    one_pair c d e = same_Some (Separated, XY) (c, d) (sym is ∙ e)
-
-    at_type : (c : CoordType) (d : Dimension) → (r ≡ some_pair c d) ↔ Inferred (struct fs) c d
-    at_type Separated d = (λ e. (all, subst (λ x. IsInferredAs x (names_of fs)) (ap (λ p. p.1) (one_pair Separated d e)) two), λ h. is ∙ ap (some_pair Separated) (two_names (names_of fs) d two h.1))
-    at_type Interleaved d = (λ e. let bad : Separated ≡ Interleaved = ap (λ p. p.0) (one_pair Interleaved d e) in cc, λ h. absurd h)
+pair_inferred r fs all two is = λ c d. (
+  (λ e. let p = some_pair_parts Separated c XY d (sym is ∙ e) in subst (λ x. Inferred (struct fs) x d) p.0 (all, subst (λ x. IsInferredAs x (names_of fs)) p.1 two)),
+  (λ h. let s = only_separated fs c d h in let xy = two_names (names_of fs) d two s.2 in is ∙ ap (λ x. some_pair x XY) s.0 ∙ ap (some_pair c) xy),
+)
 
 -- a coordinate is taken for what it is read as
 names_agree : (ns : List Text) (d e : Dimension) → IsInferredAs d ns → IsSeparatedAs e ns → d ≡ e
@@ -147,21 +135,12 @@ size_inferred_as XYZ name z h = h.0
 size_inferred_as XYM name z h = h.0
 size_inferred_as _ name z h = h
 
-pos_same : (m n : ℕ) → pos m ≡ pos n → m ≡ n
-pos_same m n h = cc
-
 size_agrees : (name : Text) (z : ℤ) (d e : Dimension) → IsInferredSize d name z → name ≡ interleaved_name e → size_of d ≡ size_of e → d ≡ e
-size_agrees name z XY XY h named size = refl
-size_agrees name z XYZ XYZ h named size = refl
-size_agrees name z XYM XYM h named size = refl
-size_agrees name z XYZM XYZM h named size = refl
 size_agrees name z XYZ XYM h named size = absurd (h.1 named)
 size_agrees name z XYM XYZ h named size = absurd (apart _ _ refl (sym h.1 ∙ named))
-size_agrees name z _ _ h named size = absurd (omega arith)
+size_agrees name z _ _ h named size = grind arith
 
 pub inferred_as_read : (t : Tree) (c b : CoordType) (d e : Dimension) → Inferred t c d → Leaf t b e → (c ≡ b) × (d ≡ e)
 inferred_as_read (fixed_size_list n t x m z) Interleaved Interleaved d e h k = (refl, size_agrees n z d e h.1 k.0 (pos_same _ _ (sym (size_inferred_as d n z h.1) ∙ k.1)))
 inferred_as_read (struct fs) Separated Separated d e h k = (refl, names_agree (names_of fs) d e h.1 k)
-inferred_as_read (fixed_size_list n t x m z) Interleaved Separated d e h k = absurd k
-inferred_as_read (struct fs) Separated Interleaved d e h k = absurd k
-inferred_as_read _ _ _ d e h k = absurd h
+inferred_as_read _ _ _ d e h k = search

@@ -1,13 +1,14 @@
 -- The kind of a name and a tree: there is one at most, and it is what a reader's answer says.
 use Rattle.std.proofs.Common.{◌≡◌, cond, refl, sym, ap, subst, ◌∙◌, ◌↔◌, IfSome, Option, Some, None, Result, Ok, Err}
 use Rattle.std.specs.Str.{bytes_eq}
+use Rattle.std.proofs.lemmas.Option.{same_Some}
 use Rattle.arrow_values.specs.Tree.{Text, Tree}
 use Rattle.geoarrow_layout.specs.declared.kinds.CoordType.{CoordType}
 use Rattle.geoarrow_layout.specs.declared.kinds.Dimension.{Dimension}
 use Rattle.geoarrow_layout.specs.declared.encodings.NativeKind.{NativeKind}
 use Rattle.geoarrow_layout.specs.declared.encodings.NativeKind.TheVariants.{Point, LineString, Polygon, MultiPoint, MultiLineString, MultiPolygon, GeometryCollection}
 use Rattle.geoarrow_layout.specs.declared.encodings.Width.{Width}
-use Rattle.geoarrow_layout.specs.declared.encodings.Width.TheVariants.{Plain, Large, View}
+use Rattle.geoarrow_layout.specs.declared.encodings.Width.TheVariants.{Plain}
 use Rattle.geoarrow_layout.specs.declared.encodings.Kind.{Kind}
 use Rattle.geoarrow_layout.specs.declared.encodings.Kind.TheVariants.{Native as OfNative, Geometry as OfGeometry, Rect as OfRect, Wkb as OfWkb, Wkt as OfWkt}
 use Rattle.geoarrow_layout.specs.declared.names.ExtensionName.{ExtensionName}
@@ -18,6 +19,11 @@ use Rattle.geoarrow_layout.specs.OneShape.{any_native_same, geometry_same, box_s
 use Rattle.geoarrow_layout.specs.declared.fault.LayoutFault.{LayoutFault}
 use Rattle.geoarrow_layout.specs.declared.summary.Summary.{Summary}
 use Rattle.geoarrow_layout.specs.Summary.{Summarizes}
+use Rattle.geoarrow_layout.specs.Steps.{ShowsInner}
+use Rattle.geoarrow_layout.specs.Layouts.{layout}
+use Rattle.geoarrow_layout.proofs.Distinct.{layouts_are_distinct}
+use Rattle.geoarrow_layout.specs.Candidates.{IsNative, IsGeometry, IsBox}
+use Rattle.geoarrow_layout.proofs.UnionSteps.{inner_of}
 use Rattle.geoarrow_layout.proofs.Readings.{Answer, ok, answers_one, refuses_one}
 
 -- a text says which name it is, so two names of one text are one
@@ -37,17 +43,10 @@ named_back _ = refl
 pub one_name : (a b : ExtensionName) → name_text a ≡ name_text b → a ≡ b
 one_name a b h = sym (named_back a) ∙ ap named h ∙ named_back b
 
-bytes_same : (w v : Width) (t : Tree) → IsBytes w t → IsBytes v t → w ≡ v
-bytes_same Plain Plain t h g = refl
-bytes_same Large Large t h g = refl
-bytes_same View View t h g = refl
-bytes_same w v t h g = cc
-
-text_same : (w v : Width) (t : Tree) → IsText w t → IsText v t → w ≡ v
-text_same Plain Plain t h g = refl
-text_same Large Large t h g = refl
-text_same View View t h g = refl
-text_same w v t h g = cc
+-- well-known binary and text are of the one data type that is written for the width
+plain_layout : (w : Width) (t : Tree) → (IsBytes w t → t ≡ layout (OfWkb w)) × (IsText w t → t ≡ layout (OfWkt w))
+plain_layout Plain t = (λ h. h, λ h. h)
+plain_layout _ t = (λ h. h, λ h. h)
 
 native_kinds_same : (t : Tree) (k l : NativeKind) (c b : CoordType) (d e : Dimension) → k ≡ l → Native t k c d → Native t l b e → OfNative k c d ≡ OfNative l b e
 native_kinds_same t k l c b d e same h g =
@@ -58,64 +57,56 @@ same_kind : (t : Tree) (k l : Kind) → extension_of k ≡ extension_of l → Ac
 same_kind t (OfNative k c d) (OfNative l b e) same h g = let kinds : k ≡ l = cc in native_kinds_same t k l c b d e kinds h g
 same_kind t (OfGeometry c) (OfGeometry b) same h g = ap (λ x. OfGeometry x) (geometry_same t c b h g)
 same_kind t (OfRect d) (OfRect e) same h g = ap (λ x. OfRect x) (box_shape_same t d e h g)
-same_kind t (OfWkb w) (OfWkb v) same h g = ap (λ x. OfWkb x) (bytes_same w v t h g)
-same_kind t (OfWkt w) (OfWkt v) same h g = ap (λ x. OfWkt x) (text_same w v t h g)
+same_kind t (OfWkb w) (OfWkb v) same h g = layouts_are_distinct (OfWkb w) (OfWkb v) (sym ((plain_layout w t).0 h) ∙ (plain_layout v t).0 g)
+same_kind t (OfWkt w) (OfWkt v) same h g = layouts_are_distinct (OfWkt w) (OfWkt v) (sym ((plain_layout w t).1 h) ∙ (plain_layout v t).1 g)
 same_kind t k l same h g = cc
 
 pub one_kind : (name : Text) (t : Tree) (k l : Kind) → Accepts name t k → Accepts name t l → k ≡ l
 one_kind name t k l h g = same_kind t k l (one_name (extension_of k) (extension_of l) (sym h.0 ∙ g.0)) h.1 g.1
 
--- under the name of a native kind, of geometries and of boxes there is no other kind
-pub only_native : (k : NativeKind) (t : Tree) → ((c : CoordType) (d : Dimension) → Native t k c d → ⊥) → (l : Kind) → Accepts (name_text (names.Native k)) t l → ⊥
-only_native k t none l h = by l (one_name (names.Native k) (extension_of l) h.0) h.1
-  where
-    by : (l : Kind) → names.Native k ≡ extension_of l → Accepted l t → ⊥
-    by (OfNative l c d) same a = let kinds : l ≡ k = cc in none c d (subst (λ x. Native t x c d) kinds a)
-    by l same a = cc
+-- what is read of a tree of a native kind, of geometries and of boxes
+abbrev IsRead : ExtensionName → Tree → Type 0
+IsRead (names.Native k) t = IsNative k t
+IsRead names.Geometry t = IsGeometry t
+IsRead names.Rect t = IsBox t
+IsRead _ t = Unit {0}
 
-pub only_geometry : (t : Tree) → ((c : CoordType) → Geometry t c → ⊥) → (l : Kind) → Accepts (name_text names.Geometry) t l → ⊥
-only_geometry t none l h = by l (one_name names.Geometry (extension_of l) h.0) h.1
-  where
-    by : (l : Kind) → names.Geometry ≡ extension_of l → Accepted l t → ⊥
-    by (OfGeometry c) same a = none c a
-    by l same a = cc
+read : (l : Kind) (t : Tree) → Accepted l t → IsRead (extension_of l) t
+read (OfNative k c d) t h = (c, d, h)
+read (OfGeometry c) t h = (c, h)
+read (OfRect d) t h = (d, h)
+read _ t h = tt
 
-pub only_box : (t : Tree) → ((d : Dimension) → BoxShape t d → ⊥) → (l : Kind) → Accepts (name_text names.Rect) t l → ⊥
-only_box t none l h = by l (one_name names.Rect (extension_of l) h.0) h.1
-  where
-    by : (l : Kind) → names.Rect ≡ extension_of l → Accepted l t → ⊥
-    by (OfRect d) same a = none d a
-    by l same a = cc
+-- under such a name there is no other kind
+none_accepted : (n : ExtensionName) (t : Tree) → (IsRead n t → ⊥) → (l : Kind) → Accepts (name_text n) t l → ⊥
+none_accepted n t none l h = none (subst (λ m. IsRead m t) (sym (one_name n (extension_of l) h.0)) (read l t h.1))
 
 -- ---- answers
-
-some_same : (k l : Kind) → Some k ≡ Some l → k ≡ l
-some_same k l h = cc
 
 refuses : {X : Type 0} (f : LayoutFault) (r : Result X LayoutFault) (x : X) → r ≡ Err f → r ≡ Ok x → ⊥
 refuses f r x bad good = cc
 
 -- a kind that accepts the tree is the one
 pub kind_some : (n : Text) (t : Tree) (k : Kind) → IsStructured k → Accepts n t k → AnswersKind n t (Some k)
-kind_some n t k s here = λ l. (λ e. subst (λ x. Accepts n t x × IsStructured x) (some_same k l e) (here, s), λ h. ap (λ x. Some x) (one_kind n t k l here h.0))
+kind_some n t k s here = λ l. (λ e. subst (λ x. Accepts n t x × IsStructured x) (same_Some k l e) (here, s), λ h. ap (λ x. Some x) (one_kind n t k l here h.0))
 
 kind_none : (n : Text) (t : Tree) → ((l : Kind) → Accepts n t l → ⊥) → AnswersKind n t None
 kind_none n t none = λ l. (λ e. cc, λ h. absurd (none l h.0))
 
-pub native_some : (k : NativeKind) (t : Tree) (p : CoordType × Dimension) (r : Answer) → r ≡ Ok p → Answers r (Native t k) → AnswersKind (name_text (names.Native k)) t (Some (OfNative k p.0 p.1))
-native_some k t p r is a = kind_some (name_text (names.Native k)) t (OfNative k p.0 p.1) tt (refl, (a p.0 p.1).0 is)
+pub native_some : (k : NativeKind) (s : Summary) (p : CoordType × Dimension) (r : Answer) → r ≡ Ok p → ((t : Tree) → ShowsInner s t → Answers r (Native t k)) → (t : Tree) → Summarizes s t → AnswersKind (name_text (names.Native k)) t (Some (OfNative k p.0 p.1))
+native_some k s p r is a t h = kind_some (name_text (names.Native k)) t (OfNative k p.0 p.1) tt (refl, (a t (inner_of s t h) p.0 p.1).0 is)
 
 no_native : (k : NativeKind) (t : Tree) (f : LayoutFault) (r : Answer) → r ≡ Err f → Answers r (Native t k) → (l : Kind) → Accepts (name_text (names.Native k)) t l → ⊥
-no_native k t f r is a = only_native k t (λ c d h. refuses f r (c, d) is ((a c d).1 h))
+no_native k t f r is a = none_accepted (names.Native k) t (λ x. refuses f r (x.0, x.1) is ((a x.0 x.1).1 x.2))
 
-pub native_none : (k : NativeKind) (t : Tree) (f : LayoutFault) (r : Answer) → r ≡ Err f → Answers r (Native t k) → AnswersKind (name_text (names.Native k)) t None
-native_none k t f r is a = kind_none (name_text (names.Native k)) t (no_native k t f r is a)
+pub native_none : (k : NativeKind) (s : Summary) (f : LayoutFault) (r : Answer) → r ≡ Err f → ((t : Tree) → ShowsInner s t → Answers r (Native t k)) → (t : Tree) → Summarizes s t → AnswersKind (name_text (names.Native k)) t None
+native_none k s f r is a t h = kind_none (name_text (names.Native k)) t (no_native k t f r is (a t (inner_of s t h)))
 
 pub geometry_none : (t : Tree) (f : LayoutFault) (r : Result CoordType LayoutFault) → r ≡ Err f → AnswersOne r (Geometry t) → AnswersKind (name_text names.Geometry) t None
-geometry_none t f r is a = kind_none (name_text names.Geometry) t (only_geometry t (λ c h. refuses f r c is ((a c).1 h)))
+geometry_none t f r is a = kind_none (name_text names.Geometry) t (none_accepted names.Geometry t (λ x. refuses f r x.0 is ((a x.0).1 x.1)))
 
 pub box_none : (t : Tree) (f : LayoutFault) (r : Result Dimension LayoutFault) → r ≡ Err f → AnswersOne r (BoxShape t) → AnswersKind (name_text names.Rect) t None
-box_none t f r is a = kind_none (name_text names.Rect) t (only_box t (λ d h. refuses f r d is ((a d).1 h)))
+box_none t f r is a = kind_none (name_text names.Rect) t (none_accepted names.Rect t (λ x. refuses f r x.0 is ((a x.0).1 x.1)))
 
 -- the same under an equal name
 pub renamed : (n m : Text) (s : Summary) (r : Option Kind) → n ≡ m → ((t : Tree) → Summarizes s t → AnswersKind m t r) → (t : Tree) → Summarizes s t → AnswersKind n t r

@@ -4,9 +4,9 @@ use Rattle.std.specs.List.{Contains}
 use Rattle.geoarrow_layout.specs.declared.kinds.CoordType.{CoordType}
 use Rattle.geoarrow_layout.specs.declared.kinds.CoordType.TheVariants.{Interleaved, Separated}
 use Rattle.geoarrow_layout.specs.declared.kinds.Dimension.{Dimension}
-use Rattle.geoarrow_layout.specs.declared.kinds.Dimension.TheVariants.{XY, XYZ, XYM, XYZM}
+use Rattle.geoarrow_layout.specs.declared.kinds.Dimension.TheVariants.{XY}
 use Rattle.geoarrow_layout.specs.declared.encodings.NativeKind.{NativeKind}
-use Rattle.geoarrow_layout.specs.declared.encodings.NativeKind.TheVariants.{Point}
+use Rattle.geoarrow_layout.specs.declared.encodings.NativeKind.TheVariants.{Point, LineString}
 use Rattle.geoarrow_layout.specs.declared.encodings.Width.TheVariants.{Plain, Large, View}
 use Rattle.geoarrow_layout.specs.declared.encodings.Kind.{Kind}
 use Rattle.geoarrow_layout.specs.declared.encodings.Kind.TheVariants.{Native, Geometry, Rect, Wkb, Wkt}
@@ -20,13 +20,8 @@ place k c d = 8 * (offset_of k - 1) + (4 * place_of c + order_of d)
 
 natives : (d : Dimension) (c : CoordType) (k : NativeKind) → Contains ALL (Native k c d)
 natives XY Interleaved Point = (0, lit< tt, refl)
-natives XY Separated Point = (4, lit< tt, refl)
-natives XYZ Interleaved Point = (1, lit< tt, refl)
-natives XYZ Separated Point = (5, lit< tt, refl)
-natives XYM Interleaved Point = (2, lit< tt, refl)
-natives XYM Separated Point = (6, lit< tt, refl)
-natives XYZM Interleaved Point = (3, lit< tt, refl)
-natives XYZM Separated Point = (7, lit< tt, refl)
+natives d Separated Point = (place Point Separated d, lit< tt, refl)
+natives d c LineString = (place LineString c d, lit< tt, refl)
 natives d c k = (place k c d, lit< tt, refl)
 
 pub listed : (k : Kind) → Contains ALL k

@@ -1,5 +1,5 @@
 -- The members of a union: what holds of all of them, or of some.
-use Rattle.std.proofs.Common.{◌≡◌, ◌<◌, ◌+◌, ◌⊎◌, inl, inr, ℕ, ℤ, List, [], ◌∷◌, ◌++◌, take, length, get_or, sym, ap, ◌∙◌, add-one}
+use Rattle.std.proofs.Common.{◌≡◌, ◌↔◌, ◌<◌, ◌+◌, ◌⊎◌, inl, inr, ℕ, ℤ, List, [], ◌∷◌, ◌++◌, take, length, get_or, sym, ap, ◌∙◌, add-one}
 use Rattle.std.proofs.Math.Seq.{take-suc}
 use Rattle.arrow_values.specs.Tree.{Tree, FieldTree, MemberTrees, no_members, member}
 use Rattle.arrow_values.specs.View.{member_trees}
@@ -27,33 +27,20 @@ first_some P no_members some h = absurd some
 first_some P (member i n t b m ms) some h = inl h.0
 
 -- of two parts
-pub all_both : (P : ℤ → Tree → Type 0) (xs ys : Items) → AllMembers P (member_trees xs) → AllMembers P (member_trees ys) → AllMembers P (member_trees (xs ++ ys))
-all_both P [] ys h k = k
-all_both P (x ∷ xs) ys h k = (h.0, all_both P xs ys h.1 k)
+pub all_both : (P : ℤ → Tree → Type 0) (xs ys : Items) → AllMembers P (member_trees (xs ++ ys)) ↔ (AllMembers P (member_trees xs) × AllMembers P (member_trees ys))
+all_both P [] ys = (λ h. (tt, h), λ h. h.1)
+all_both P (x ∷ xs) ys = let rest = all_both P xs ys in (λ h. let r = rest.0 h.1 in ((h.0, r.0), r.1), λ h. (h.0.0, rest.1 (h.0.1, h.1)))
 
-pub all_first : (P : ℤ → Tree → Type 0) (xs ys : Items) → AllMembers P (member_trees (xs ++ ys)) → AllMembers P (member_trees xs)
-all_first P [] ys h = tt
-all_first P (x ∷ xs) ys h = (h.0, all_first P xs ys h.1)
-
-pub all_second : (P : ℤ → Tree → Type 0) (xs ys : Items) → AllMembers P (member_trees (xs ++ ys)) → AllMembers P (member_trees ys)
-all_second P [] ys h = h
-all_second P (x ∷ xs) ys h = all_second P xs ys h.1
+pub or_more : {A B C D : Type 0} → A ↔ (B ⊎ C) → (D ⊎ A) ↔ ((D ⊎ B) ⊎ C)
+or_more is = (
+  (λ h. elim h [ inl d ↦ inl (inl d) | inr a ↦ elim (is.0 a) [ inl b ↦ inl (inr b) | inr x ↦ inr x ] ]),
+  (λ h. elim h [ inl e ↦ elim e [ inl d ↦ inl d | inr b ↦ inr (is.1 (inl b)) ] | inr x ↦ inr (is.1 (inr x)) ]),
+)
 
 -- with one more at the end
-pub some_before : (P : ℤ → Tree → Type 0) (xs : Items) (x : ℤ × FieldTree) → SomeMember P (member_trees xs) → SomeMember P (member_trees (xs ++ (x ∷ [])))
-some_before P [] x h = absurd h
-some_before P (y ∷ xs) x (inl p) = inl p
-some_before P (y ∷ xs) x (inr h) = inr (some_before P xs x h)
-
-pub some_last : (P : ℤ → Tree → Type 0) (xs : Items) (x : ℤ × FieldTree) → P x.0 x.1.tree → SomeMember P (member_trees (xs ++ (x ∷ [])))
-some_last P [] x p = inl p
-some_last P (y ∷ xs) x p = inr (some_last P xs x p)
-
-pub some_either : (P : ℤ → Tree → Type 0) (xs : Items) (x : ℤ × FieldTree) → SomeMember P (member_trees (xs ++ (x ∷ []))) → SomeMember P (member_trees xs) ⊎ P x.0 x.1.tree
-some_either P [] x (inl p) = inr p
-some_either P [] x (inr h) = absurd h
-some_either P (y ∷ xs) x (inl p) = inl (inl p)
-some_either P (y ∷ xs) x (inr h) = elim (some_either P xs x h) [ inl s ↦ inl (inr s) | inr p ↦ inr p ]
+pub some_more : (P : ℤ → Tree → Type 0) (xs : Items) (x : ℤ × FieldTree) → SomeMember P (member_trees (xs ++ (x ∷ []))) ↔ (SomeMember P (member_trees xs) ⊎ P x.0 x.1.tree)
+some_more P [] x = (λ h. elim h [ inl p ↦ inr p | inr e ↦ inl e ], λ h. elim h [ inl e ↦ inr e | inr p ↦ inl p ])
+some_more P (y ∷ xs) x = or_more (some_more P xs x)
 
 -- the element that a loop is at is one more
 pub one_more : {X : Type 0} (xs : List X) (k : ℕ) (x : X) → k < length xs → x ≡ get_or xs k x → take (k + 1) xs ≡ take k xs ++ (x ∷ [])

@@ -1,5 +1,5 @@
 -- The kinds exclude one another, but for point and box and for kinds of the same lists.
-use Rattle.std.proofs.Common.{◌≡◌, ◌↔◌, ◌⊎◌, ◌+◌, inl, inr, ℕ, zero, suc, Bool, true, false, true≢false, Option, Some, None, Result, Ok, Err, IsTrue, refl, sym, ap, ◌∙◌, arith}
+use Rattle.std.proofs.Common.{◌≡◌, ◌↔◌, ◌⊎◌, ◌+◌, inl, inr, ℕ, zero, suc, Bool, true, false, true≢false, Option, Some, None, Result, Ok, Err, IsTrue, refl, sym, ap, subst, ◌∙◌, arith, rules}
 use Rattle.std.specs.Result.{is_ok}
 use Rattle.std.specs.Option.{is_some}
 use Rattle.arrow_values.specs.Tree.{Text, Plain as PlainType, binary, large_binary, binary_view, utf8, large_utf8, utf8_view, Tree, plain, list, large_list, fixed_size_list, struct, union}
@@ -18,9 +18,13 @@ use Rattle.geoarrow_layout.specs.declared.candidate_names.Candidates.{Candidates
 use Rattle.geoarrow_layout.specs.declared.candidate_names.Candidates.TheVariants.{None as NoName, LineStringOrMultiPoint, PolygonOrMultiLineString, PointOrBox}
 use Rattle.geoarrow_layout.specs.declared.names.ExtensionName.TheVariants as names
 use Rattle.geoarrow_layout.specs.Kinds.{name_text, name_of}
-use Rattle.geoarrow_layout.specs.Shapes.{ListsOver, levels_of, Leaf, Mixed, Native, Geometry, BoxShape, Accepted, Accepts, IsStructured, IsBytes, IsText, Answers, AnswersOne}
+use Rattle.geoarrow_layout.specs.Shapes.{ListsOver, levels_of, Leaf, Mixed, Native, Geometry, Accepted, Accepts, IsStructured, IsBytes, IsText, Answers, AnswersOne}
 use Rattle.geoarrow_layout.specs.Candidates.{Holds, IsAccepted, IsAcceptedStructure, IsNative, IsGeometry, IsBox}
+use Rattle.geoarrow_layout.specs.declared.summary.Summary.{Summary}
+use Rattle.geoarrow_layout.specs.Summary.{Summarizes}
+use Rattle.geoarrow_layout.specs.Steps.{ShowsInner}
 use Rattle.geoarrow_layout.proofs.Readings.{Answer}
+use Rattle.geoarrow_layout.proofs.UnionSteps.{inner_of}
 
 -- a number that tells trees of different kinds apart: one more a list, and below the lists 4 for a union, 6 to 8 for plain types, or 0
 abbrev plain_sort : PlainType → ℕ
@@ -63,26 +67,34 @@ mixed_sort : (t : Tree) (c : CoordType) (d : Dimension) → Mixed t c d → sort
 mixed_sort (union ms mode) c d h = refl
 mixed_sort _ c d h = absurd h
 
-geometry_sort : (t : Tree) (c : CoordType) → Geometry t c → sort_of t ≡ 4
-geometry_sort (union ms mode) c h = refl
-geometry_sort _ c h = absurd h
-
-box_sort : (t : Tree) (d : Dimension) → BoxShape t d → sort_of t ≡ 0
-box_sort (struct fs) d h = refl
-box_sort _ d h = absurd h
-
-native_sort : (k : NativeKind) (t : Tree) (c : CoordType) (d : Dimension) → Native t k c d → sort_of t ≡ sort_in (OfNative k c d)
-native_sort GeometryCollection t c d h = let e = below h.1.0 1 4 t h.0 h.1.1 (mixed_sort h.0 c d h.2) in omega arith
-native_sort k t c d h = let e = below h.1.0 (levels_of k) 0 t h.0 h.1.1 (leaf_sort h.0 c d h.2) in omega arith
-
 sorted : (k : Kind) (t : Tree) → Accepted k t → sort_of t ≡ sort_in k
-sorted (OfNative k c d) t h = native_sort k t c d h
-sorted (OfGeometry c) t h = geometry_sort t c h
-sorted (OfRect d) t h = box_sort t d h
+sorted (OfNative GeometryCollection c d) t h = let e = below h.1.0 1 4 t h.0 h.1.1 (mixed_sort h.0 c d h.2) in omega arith
+sorted (OfNative k c d) t h = let e = below h.1.0 (levels_of k) 0 t h.0 h.1.1 (leaf_sort h.0 c d h.2) in omega arith
+sorted (OfGeometry c) (union ms mode) h = refl
+sorted (OfGeometry c) _ h = absurd h
+sorted (OfRect d) (struct fs) h = refl
+sorted (OfRect d) _ h = absurd h
 sorted (OfWkb Plain) t h = ap sort_of h
-sorted (OfWkb _) t h = ap sort_of h
 sorted (OfWkt Plain) t h = ap sort_of h
-sorted (OfWkt _) t h = ap sort_of h
+sorted _ t h = ap sort_of h
+
+-- the names of the kinds of a number
+abbrev NamedAt : ℕ → Text → Type 0
+NamedAt zero n = Holds PointOrBox n
+NamedAt (suc zero) n = Holds LineStringOrMultiPoint n
+NamedAt (suc (suc zero)) n = Holds PolygonOrMultiLineString n
+NamedAt (suc (suc (suc zero))) n = n ≡ name_text (names.Native MultiPolygon)
+NamedAt (suc (suc (suc (suc zero)))) n = n ≡ name_text names.Geometry
+NamedAt (suc (suc (suc (suc (suc zero))))) n = n ≡ name_text (names.Native GeometryCollection)
+NamedAt (suc (suc (suc (suc (suc (suc zero)))))) n = n ≡ name_text names.Wkb
+NamedAt _ n = n ≡ name_text names.Wkt
+
+named_at : (l : Kind) → NamedAt (sort_in l) (name_of l)
+named_at (OfNative Point c d) = inl refl
+named_at _ = search rules
+
+named_as : (k l : Kind) → sort_in k ≡ sort_in l → NamedAt (sort_in k) (name_of l)
+named_as k l same = subst (λ s. NamedAt s (name_of l)) (sym same) (named_at l)
 
 same_sort : (k l : Kind) (t : Tree) → Accepted k t → Accepted l t → sort_in k ≡ sort_in l
 same_sort k l t h g = sym (sorted k t h) ∙ sorted l t g
@@ -104,28 +116,13 @@ alone : (k : Kind) (t : Tree) → IsStructured k → Accepted k t → ((l : Kind
 alone k t s h only n = ((λ e. (k, (e, h), s)), (λ a. a.1.0 ∙ only a.0 a.1.1 (same_sort k a.0 t h a.1.1)))
 
 pub linestring_names : (t : Tree) → IsNative LineString t → Names (Holds LineStringOrMultiPoint) t
-linestring_names t h = two_names (OfNative LineString h.0 h.1) (OfNative MultiPoint h.0 h.1) t tt h.2 tt h.2 only
-  where
-    only : (l : Kind) → 1 ≡ sort_in l → Holds LineStringOrMultiPoint (name_of l)
-    only (OfNative LineString c d) s = inl refl
-    only (OfNative MultiPoint c d) s = inr refl
-    only l s = absurd (omega arith)
+linestring_names t h = two_names (OfNative LineString h.0 h.1) (OfNative MultiPoint h.0 h.1) t tt h.2 tt h.2 (named_as (OfNative LineString h.0 h.1))
 
 pub polygon_names : (t : Tree) → IsNative Polygon t → Names (Holds PolygonOrMultiLineString) t
-polygon_names t h = two_names (OfNative Polygon h.0 h.1) (OfNative MultiLineString h.0 h.1) t tt h.2 tt h.2 only
-  where
-    only : (l : Kind) → 2 ≡ sort_in l → Holds PolygonOrMultiLineString (name_of l)
-    only (OfNative Polygon c d) s = inl refl
-    only (OfNative MultiLineString c d) s = inr refl
-    only l s = absurd (omega arith)
+polygon_names t h = two_names (OfNative Polygon h.0 h.1) (OfNative MultiLineString h.0 h.1) t tt h.2 tt h.2 (named_as (OfNative Polygon h.0 h.1))
 
 pub point_and_box : (t : Tree) → IsNative Point t → IsBox t → Names (Holds PointOrBox) t
-point_and_box t p b = two_names (OfNative Point p.0 p.1) (OfRect b.0) t tt p.2 tt b.1 only
-  where
-    only : (l : Kind) → 0 ≡ sort_in l → Holds PointOrBox (name_of l)
-    only (OfNative Point c d) s = inl refl
-    only (OfRect d) s = inr refl
-    only l s = absurd (omega arith)
+point_and_box t p b = two_names (OfNative Point p.0 p.1) (OfRect b.0) t tt p.2 tt b.1 (named_as (OfRect b.0))
 
 pub box_alone : (t : Tree) → ¬ IsNative Point t → IsBox t → Names (λ n. n ≡ name_text names.Rect) t
 box_alone t p b = alone (OfRect b.0) t tt b.1 only
@@ -144,26 +141,13 @@ point_alone t p b = alone (OfNative Point p.0 p.1) t tt p.2 only
     only l h s = absurd (omega arith)
 
 pub multipolygon_alone : (t : Tree) → IsNative MultiPolygon t → Names (λ n. n ≡ name_text (names.Native MultiPolygon)) t
-multipolygon_alone t h = alone (OfNative MultiPolygon h.0 h.1) t tt h.2 (λ l a. only l)
-  where
-    only : (l : Kind) → 3 ≡ sort_in l → name_of l ≡ name_text (names.Native MultiPolygon)
-    only (OfNative MultiPolygon c d) s = refl
-    only l s = absurd (omega arith)
+multipolygon_alone t h = alone (OfNative MultiPolygon h.0 h.1) t tt h.2 (λ l a. named_as (OfNative MultiPolygon h.0 h.1) l)
 
 pub collection_alone : (t : Tree) → IsNative GeometryCollection t → Names (λ n. n ≡ name_text (names.Native GeometryCollection)) t
-collection_alone t h = alone (OfNative GeometryCollection h.0 h.1) t tt h.2 (λ l a. only l)
-  where
-    only : (l : Kind) → 5 ≡ sort_in l → name_of l ≡ name_text (names.Native GeometryCollection)
-    only (OfNative GeometryCollection c d) s = refl
-    only l s = absurd (omega arith)
+collection_alone t h = alone (OfNative GeometryCollection h.0 h.1) t tt h.2 (λ l a. named_as (OfNative GeometryCollection h.0 h.1) l)
 
 pub geometry_alone : (t : Tree) → IsGeometry t → Names (λ n. n ≡ name_text names.Geometry) t
-geometry_alone t h = alone (OfGeometry h.0) t tt h.1 (λ l a. only l)
-  where
-    only : (l : Kind) → 4 ≡ sort_in l → name_of l ≡ name_text names.Geometry
-    only (OfGeometry c) s = refl
-    only (OfNative Point c d) s = absurd (omega arith)
-    only l s = absurd (omega arith)
+geometry_alone t h = alone (OfGeometry h.0) t tt h.1 (λ l a. named_as (OfGeometry h.0) l)
 
 pub no_names : (t : Tree) → ¬ IsBox t → ¬ IsNative Point t → ¬ IsNative LineString t → ¬ IsNative Polygon t → ¬ IsNative MultiPolygon t → ¬ IsNative GeometryCollection t → ¬ IsGeometry t → Names (Holds NoName) t
 no_names t box point linestring polygon multipolygon collection geometry n = (λ e. absurd e, λ a. from a.0 a.1.1 a.2)
@@ -181,16 +165,14 @@ no_names t box point linestring polygon multipolygon collection geometry n = (λ
     from _ h s = s
 
 -- a reader answers where something is read
-abbrev ok_of : CoordType × Dimension → Answer
-ok_of p = Ok p
-
-pub some_pair : (r : Answer) (b : Bool) (R : CoordType → Dimension → Type 0) → b ≡ is_ok r → Answers r R → IsTrue b ↔ ((c : CoordType) × (d : Dimension) × R c d)
-some_pair (Ok p) b R is a = (λ h. (p.0, p.1, (a p.0 p.1).0 refl), λ x. is)
-some_pair (Err e) b R is a = (λ h. absurd (true≢false (sym h ∙ is)), λ x. let bad : Err e ≡ ok_of (x.0, x.1) = (a x.0 x.1).1 x.2 in cc)
-
 pub some_one : {X : Type 0} (r : Result X LayoutFault) (b : Bool) (R : X → Type 0) → b ≡ is_ok r → AnswersOne r R → IsTrue b ↔ ((x : X) × R x)
 some_one (Ok x) b R is a = (λ h. (x, (a x).0 refl), λ y. is)
 some_one (Err e) b R is a = (λ h. absurd (true≢false (sym h ∙ is)), λ y. let bad = (a y.0).1 y.1 in cc)
+
+pub native_ok : (k : NativeKind) (s : Summary) (r : Answer) (b : Bool) → b ≡ is_ok r → ((t : Tree) → ShowsInner s t → Answers r (Native t k)) → (t : Tree) → Summarizes s t → IsTrue b ↔ IsNative k t
+native_ok k s r b is a t h =
+    let one = some_one r b (λ p. Native t k p.0 p.1) is (λ p. a t (inner_of s t h) p.0 p.1) in
+    (λ e. let x = one.0 e in (x.0.0, x.0.1, x.1), λ x. one.1 ((x.0, x.1), x.2))
 
 -- well-known binary and text
 abbrev WidthOf : (Width → Tree → Type 0) → Option Width → Tree → Type 0
@@ -209,20 +191,10 @@ stored_alone : (k : Kind) (t : Tree) → Accepted k t → ((l : Kind) → sort_i
 stored_alone k t h only n = (λ e. (k, (e, h)), λ a. a.1.0 ∙ only a.0 (same_sort k a.0 t h a.1.1))
 
 pub bytes_alone : (t : Tree) (r : Option Width) (b : Bool) → WidthOf IsBytes r t → b ≡ is_some r → b ≡ true → (n : Text) → (n ≡ name_text names.Wkb) ↔ IsAccepted n t
-bytes_alone t r b says is h = let w = a_width IsBytes t r b says is h in stored_alone (OfWkb w.0) t w.1 only
-  where
-    only : (l : Kind) → 6 ≡ sort_in l → name_of l ≡ name_text names.Wkb
-    only (OfWkb w) s = refl
-    only (OfNative Point c d) s = absurd (omega arith)
-    only l s = absurd (omega arith)
+bytes_alone t r b says is h = let w = a_width IsBytes t r b says is h in stored_alone (OfWkb w.0) t w.1 (named_as (OfWkb w.0))
 
 pub text_alone : (t : Tree) (r : Option Width) (b : Bool) → WidthOf IsText r t → b ≡ is_some r → b ≡ true → (n : Text) → (n ≡ name_text names.Wkt) ↔ IsAccepted n t
-text_alone t r b says is h = let w = a_width IsText t r b says is h in stored_alone (OfWkt w.0) t w.1 only
-  where
-    only : (l : Kind) → 7 ≡ sort_in l → name_of l ≡ name_text names.Wkt
-    only (OfWkt w) s = refl
-    only (OfNative Point c d) s = absurd (omega arith)
-    only l s = absurd (omega arith)
+text_alone t r b says is h = let w = a_width IsText t r b says is h in stored_alone (OfWkt w.0) t w.1 (named_as (OfWkt w.0))
 
 -- what is neither has the names of its structure alone
 pub structures_alone : (t : Tree) (result : Candidates) (r s : Option Width) (b e : Bool) → WidthOf IsBytes r t → b ≡ is_some r → b ≡ false → WidthOf IsText s t → e ≡ is_some s → e ≡ false → Names (Holds result) t → (n : Text) → Holds result n ↔ IsAccepted n t

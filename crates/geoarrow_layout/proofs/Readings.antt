@@ -46,12 +46,6 @@ refused e = Err e
 abbrev pub IsPartsOf : ℤ → Parts → Type 0
 IsPartsOf i r = (k : NativeKind) (d : Dimension) → (r ≡ some_parts k d) ↔ (i ≡ pos (type_id_of k d))
 
-some_same : (p q : NativeKind × Dimension) → Some p ≡ Some q → p ≡ q
-some_same p q h = cc
-
-pub kinds_same : (k l : NativeKind) (d e : Dimension) → some_parts k d ≡ some_parts l e → (k ≡ l) × (d ≡ e)
-kinds_same k l d e h = let p = some_same (k, d) (l, e) h in (ap (λ x. x.0) p, ap (λ x. x.1) p)
-
 pub pairs_same : (c b : CoordType) (d e : Dimension) → ok_pair c d ≡ ok_pair b e → (c ≡ b) × (d ≡ e)
 pairs_same c b d e h = let p = ok_same (c, d) (b, e) h in (ap (λ x. x.0) p, ap (λ x. x.1) p)
 

@@ -1,6 +1,6 @@
 -- What the names of a struct's fields say, by their bits: the dimension of a coordinate, and that of a box.
-use Rattle.std.proofs.Common.{◌≡◌, ◌↔◌, ℕ, refl, sym, ap, ◌∙◌, arith, Bool, true, false, Result, Ok, Err, inl, inr, List, [], ◌∷◌, length, Option, ◌<◌, ◌&&◌}
-use Rattle.arrow_values.specs.Tree.{Text, Tree, struct, FieldTrees, list, large_list}
+use Rattle.std.proofs.Common.{◌≡◌, ◌↔◌, ◌⊎◌, ℕ, refl, sym, ap, ◌∙◌, arith, Bool, true, false, Result, Ok, Err, inl, inr, List, length, Option, ◌<◌, ◌&&◌}
+use Rattle.arrow_values.specs.Tree.{Text, Tree, struct, FieldTrees}
 use Rattle.geoarrow_layout.specs.declared.kinds.CoordType.{CoordType}
 use Rattle.geoarrow_layout.specs.declared.kinds.CoordType.TheVariants.{Interleaved, Separated}
 use Rattle.geoarrow_layout.specs.declared.kinds.Dimension.{Dimension}
@@ -13,9 +13,9 @@ use Rattle.geoarrow_layout.specs.Shapes.{names_of, IsSeparatedAs, AnswersOne, An
 use Rattle.geoarrow_layout.specs.Summary.{IsBits, SomeAt, IsBottom, IsUnion, Summarizes}
 use Rattle.geoarrow_layout.specs.Steps.{has_bit, IsNoLeaf}
 use Rattle.geoarrow_layout.specs.OneShape.{separated_same, box_same}
-use Rattle.geoarrow_layout.proofs.FieldSteps.{xyz_names, xym_names, three_have, has_at}
+use Rattle.geoarrow_layout.proofs.FieldSteps.{same_three, three_have, has_at}
 use Rattle.geoarrow_layout.proofs.Readings.{Answer, ok, ok_same, answers_one, refuses_one, ok_pair, pairs_same, pairs_from}
-use Rattle.geoarrow_layout.proofs.Bottoms.{at_bottom, NotList}
+use Rattle.geoarrow_layout.proofs.Bottoms.{at_bottom, not_list}
 use Rattle.std.proofs.lemmas.Bool.{and_parts}
 use Rattle.geoarrow_layout.specs.declared.summary.Summary.{Summary}
 use Rattle.geoarrow_layout.proofs.UnionSteps.{below_root}
@@ -26,26 +26,19 @@ DimensionAnswer = Result Dimension LayoutFault
 abbrev pub NamesAnswer : ℕ → ℕ → DimensionAnswer → Type 0
 NamesAnswer count bits r = (ns : List Text) → count ≡ length ns → IsBits bits (λ i. SomeAt i ns) → AnswersOne r (λ d. IsSeparatedAs d ns)
 
-pub without_x : (count bits : ℕ) (f : LayoutFault) → count ≡ 3 → has_bit bits 0 ≡ false → NamesAnswer count bits (Err f)
-without_x count bits f three lacks = λ ns same is. refuses_one f (λ e. IsSeparatedAs e ns)
-    (λ d h. let no_x = sym (has_at (120 ∷ []) 0 bits ns (omega arith) refl refl is) ∙ lacks in let has_x = (three_have ns d (sym same ∙ three) h).0 in cc)
-
-pub without_y : (count bits : ℕ) (f : LayoutFault) → count ≡ 3 → has_bit bits 1 ≡ false → NamesAnswer count bits (Err f)
-without_y count bits f three lacks = λ ns same is. refuses_one f (λ e. IsSeparatedAs e ns)
-    (λ d h. let no_y = sym (has_at (121 ∷ []) 1 bits ns (omega arith) refl refl is) ∙ lacks in let has_y = (three_have ns d (sym same ∙ three) h).1 in cc)
-
-pub without_z_m : (count bits : ℕ) (f : LayoutFault) → count ≡ 3 → has_bit bits 2 ≡ false → has_bit bits 3 ≡ false → NamesAnswer count bits (Err f)
-without_z_m count bits f three lacks_z lacks_m = λ ns same is. refuses_one f (λ e. IsSeparatedAs e ns)
-    (λ d h. let no_z = sym (has_at (122 ∷ []) 2 bits ns (omega arith) refl refl is) ∙ lacks_z in let no_m = sym (has_at (109 ∷ []) 3 bits ns (omega arith) refl refl is) ∙ lacks_m in
-    elim (three_have ns d (sym same ∙ three) h).2 [ inl e ↦ let bad = sym no_z ∙ e in cc | inr e ↦ let bad = sym no_m ∙ e in cc ])
+pub no_third : (count bits : ℕ) (f : LayoutFault) → count ≡ 3 → ((has_bit bits 0 ≡ true) × (has_bit bits 1 ≡ true) × ((has_bit bits 2 ≡ true) ⊎ (has_bit bits 3 ≡ true)) → ⊥) → NamesAnswer count bits (Err f)
+no_third count bits f three lacks = λ ns same is. refuses_one f (λ e. IsSeparatedAs e ns)
+    (λ d h. let have = three_have ns d (sym same ∙ three) h in
+    let third : (has_bit bits 2 ≡ true) ⊎ (has_bit bits 3 ≡ true) = elim have.2 [ inl e ↦ inl (has_at _ 2 bits ns (omega arith) refl refl is ∙ e) | inr e ↦ inr (has_at _ 3 bits ns (omega arith) refl refl is ∙ e) ] in
+    lacks (has_at _ 0 bits ns (omega arith) refl refl is ∙ have.0, has_at _ 1 bits ns (omega arith) refl refl is ∙ have.1, third))
 
 pub with_z : (count bits : ℕ) → count ≡ 3 → has_bit bits 0 ≡ true → has_bit bits 1 ≡ true → has_bit bits 2 ≡ true → NamesAnswer count bits (Ok XYZ)
 with_z count bits three x y z = λ ns same is. answers_one XYZ (λ e. IsSeparatedAs e ns) (separated_same ns)
-    (xyz_names ns (sym same ∙ three) (sym (has_at _ 0 bits ns (omega arith) refl refl is) ∙ x) (sym (has_at _ 1 bits ns (omega arith) refl refl is) ∙ y) (sym (has_at _ 2 bits ns (omega arith) refl refl is) ∙ z))
+    (sym same ∙ three, same_three _ _ _ ns refl refl refl (sym same ∙ three) (sym (has_at _ 0 bits ns (omega arith) refl refl is) ∙ x) (sym (has_at _ 1 bits ns (omega arith) refl refl is) ∙ y) (sym (has_at _ 2 bits ns (omega arith) refl refl is) ∙ z))
 
 pub with_m : (count bits : ℕ) → count ≡ 3 → has_bit bits 0 ≡ true → has_bit bits 1 ≡ true → has_bit bits 3 ≡ true → NamesAnswer count bits (Ok XYM)
 with_m count bits three x y m = λ ns same is. answers_one XYM (λ e. IsSeparatedAs e ns) (separated_same ns)
-    (xym_names ns (sym same ∙ three) (sym (has_at _ 0 bits ns (omega arith) refl refl is) ∙ x) (sym (has_at _ 1 bits ns (omega arith) refl refl is) ∙ y) (sym (has_at _ 3 bits ns (omega arith) refl refl is) ∙ m))
+    (sym same ∙ three, same_three _ _ _ ns refl refl refl (sym same ∙ three) (sym (has_at _ 0 bits ns (omega arith) refl refl is) ∙ x) (sym (has_at _ 1 bits ns (omega arith) refl refl is) ∙ y) (sym (has_at _ 3 bits ns (omega arith) refl refl is) ∙ m))
 
 -- the leaf that a struct is
 abbrev pub LeafAnswer : Bottom → Answer → Type 0
@@ -98,13 +91,8 @@ no_box count bits f six no_m no_z = λ ns same is. refuses_one f (λ d. IsBoxAs 
     none ns XYZ count6 is h = not_both (has_bit bits 4) (has_bit bits 5) no_z (has_at _ 4 bits ns (omega arith) refl refl is ∙ h.2.0, has_at _ 5 bits ns (omega arith) refl refl is ∙ h.2.1)
     none ns _ count6 is h = omega arith
 
-pub box_apart : (t : Tree) (d : Dimension) → BoxShape t d → NotList t
-box_apart (list n t b m) d h = h
-box_apart (large_list n t b m) d h = h
-box_apart _ d h = tt
-
 pub box_below : (s : Summary) (f : LayoutFault) (t : Tree) → 0 < s.levels → Summarizes s t → AnswersOne (Err f) (BoxShape t)
-box_below s f t some h = refuses_one f (BoxShape t) (λ d g. below_root s t some h (box_apart t d g))
+box_below s f t some h = refuses_one f (BoxShape t) (λ d g. below_root s t some h (not_list (λ x. BoxShape x d) (λ n x b m p. p) (λ n x b m p. p) t g))
 
 pub root_box : (w : Option ListWidth) (count names : ℕ) (floats : Bool) (u : Tree) (r : DimensionAnswer) → IsBottom IsUnion w 0 (Struct count names floats) u → BoxNames count names r → AnswersOne r (BoxShape u)
 root_box w count names floats u r k says = at_bottom IsUnion (λ x. AnswersOne r (BoxShape x)) w 0 (Struct count names floats) tt (λ x t b m z h. absurd h) (λ fs h. says (names_of fs) h.0 h.1) (λ ms mode h. absurd h) u k

@@ -1,6 +1,7 @@
 -- Steps of the comparison with the table of written data types.
 use Rattle.std.proofs.Common.{◌≡◌, ◌↔◌, ◌<◌, ◌+◌, ℕ, zero, suc, ℤ, Bool, true, false, true≢false, IsTrue, Some, List, [], ◌∷◌, ◌++◌, drop, length, get_or, sym, ap, subst, ◌∙◌, arith, Option}
 use Rattle.std.specs.List.{Contains}
+use Rattle.std.proofs.lemmas.Option.{same_Some}
 use Rattle.std.proofs.lemmas.List.{drop_more, same_from_push}
 use Rattle.arrow_values.specs.Tree.{Tree, struct, union, FieldTree, Members}
 use Rattle.arrow_values.specs.View.{field_trees, member_trees, field_list, member_list, listed_fields, listed_members}
@@ -60,14 +61,11 @@ contained_later xs i d k lt other h = later (subst (λ z. Contains z k) (drop_mo
     later (zero, l, is) = absurd (other is)
     later (suc n, l, is) = (n, omega (arith, l), is)
 
-some_same : (j k : Kind) → Some j ≡ Some k → j ≡ k
-some_same j k h = cc
-
 pub not_kind : (t : Tree) (j k : Kind) (b : Bool) → IsTrue b ↔ (t ≡ layout j) → b ≡ false → t ≡ layout k → j ≡ k → ⊥
 not_kind t j k b says fails h same = true≢false (sym (says.1 (h ∙ ap layout (sym same))) ∙ fails)
 
 pub found_kind : (t : Tree) (j : Kind) → t ≡ layout j → (k : Kind) → (Some j ≡ Some k) ↔ (t ≡ layout k)
-found_kind t j is k = ((λ h. is ∙ ap layout (some_same j k h)), (λ h. ap (λ x. Some x) (layouts_are_distinct j k (sym is ∙ h))))
+found_kind t j is k = ((λ h. is ∙ ap layout (same_Some j k h)), (λ h. ap (λ x. Some x) (layouts_are_distinct j k (sym is ∙ h))))
 
 -- ---- whether a width that is told of a tree is the one that is asked for
 

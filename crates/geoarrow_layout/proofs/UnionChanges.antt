@@ -1,8 +1,8 @@
 -- Members that go or come, and what they leave of a union.
-use Rattle.std.proofs.Common.{◌≡◌, ◌≢◌, ◌↔◌, ◌⊎◌, inl, inr, zero, suc, ℤ, Bool, true, false, cond, List, [], ◌∷◌, ◌++◌, refl, sym, ap, subst, arith, ◌∙◌}
+use Rattle.std.proofs.Common.{◌≡◌, ◌≢◌, ◌↔◌, ◌⊎◌, inl, inr, zero, suc, ℤ, Bool, true, cond, List, [], ◌∷◌, ◌++◌, refl, sym, ap, subst, arith, ◌∙◌}
 use Rattle.std.specs.List.{filter, Contains}
 use Rattle.std.proofs.lemmas.Bool.{cond_both}
-use Rattle.std.proofs.lemmas.List.Elements.{Contains-append_left, Contains-append_right, Contains-append_cases}
+use Rattle.std.proofs.lemmas.List.Elements.{All-contains, All-contains_itself, All-filter, Contains-append_left, Contains-append_right, Contains-append_cases}
 use Rattle.arrow_values.specs.Tree.{Tree, FieldTree, Members}
 use Rattle.arrow_values.specs.View.{member_trees}
 use Rattle.arrow_values.specs.Union.{retained, has}
@@ -10,20 +10,16 @@ use Rattle.arrow_values.specs.declared.tree.UnionMode.{UnionMode}
 use Rattle.arrow_values.specs.declared.tree.UnionMode.TheVariants.{Dense}
 use Rattle.geoarrow_layout.specs.Shapes.{AllMembers, HasMembers}
 use Rattle.geoarrow_layout.specs.Changes.{AlikeUnions, EachOf, AreJust}
-use Rattle.geoarrow_layout.proofs.MemberLists.{all_both, all_first, all_second}
-use Rattle.geoarrow_layout.proofs.AlikeLaws.{Holds, each_refl, back_refl, members_refl}
+use Rattle.geoarrow_layout.proofs.MemberLists.{all_both}
+use Rattle.geoarrow_layout.proofs.AlikeLaws.{Holds, each_refl, each_sym, members_refl}
 
 -- members, at least one, that all have P
 abbrev Filled : (ℤ → Tree → Type 0) → Members → Type 0
 Filled P ms = (mode : UnionMode) → HasMembers (member_trees ms) × AllMembers P (member_trees ms)
 
-some_members : (ms : Members) → ms ≢ [] → HasMembers (member_trees ms)
-some_members [] h = absurd (h refl)
-some_members (m ∷ ms) h = tt
-
-any_members : (ms : Members) → HasMembers (member_trees ms) → ms ≢ []
-any_members [] h = absurd h
-any_members (m ∷ ms) h = λ e. cc
+some_members : (ms : Members) → ms ≢ [] ↔ HasMembers (member_trees ms)
+some_members [] = (λ h. absurd (h refl), λ h. absurd h)
+some_members (m ∷ ms) = (λ h. tt, λ h e. cc)
 
 -- some of them are left
 all_kept : (P : ℤ → Tree → Type 0) (p : ℤ × FieldTree → Bool) (ms : Members) → AllMembers P (member_trees ms) → AllMembers P (member_trees (filter p ms))
@@ -33,7 +29,7 @@ all_kept P p (m ∷ ms) h =
     cond_both (p m) (m ∷ filter p ms) (filter p ms) (λ xs. AllMembers P (member_trees xs)) (λ e. (h.0, rest)) (λ e. rest)
 
 pub filled_kept : (P : ℤ → Tree → Type 0) (is : List ℤ) (ms ns : Members) → ns ≡ retained is ms → ns ≢ [] → Filled P ms → Filled P ns
-filled_kept P is ms ns is_kept some h = λ mode. (some_members ns some, subst (λ x. AllMembers P (member_trees x)) (sym is_kept) (all_kept P (λ m. has m.0 is) ms (h mode).1))
+filled_kept P is ms ns is_kept some h = λ mode. ((some_members ns).0 some, subst (λ x. AllMembers P (member_trees x)) (sym is_kept) (all_kept P (λ m. has m.0 is) ms (h mode).1))
 
 -- both are joined
 all_of : (P : ℤ → Tree → Type 0) (ms : Members) → (ms ≢ [] → Filled P ms) → AllMembers P (member_trees ms)
@@ -42,9 +38,9 @@ all_of P (m ∷ ms) h = (h (λ e. cc) Dense).1
 
 pub filled_joined : (P : ℤ → Tree → Type 0) (ms ns all : Members) → all ≡ ms ++ ns → Filled P all ↔ EachOf (Filled P) ms ns all
 filled_joined P ms ns all joined = (
-  (λ h. let each : AllMembers P (member_trees (ms ++ ns)) = subst (λ x. AllMembers P (member_trees x)) joined (h Dense).1 in
-      (any_members all (h Dense).0, (λ some mode. (some_members ms some, all_first P ms ns each)), (λ some mode. (some_members ns some, all_second P ms ns each)))),
-  (λ h mode. (some_members all h.0, subst (λ x. AllMembers P (member_trees x)) (sym joined) (all_both P ms ns (all_of P ms h.1) (all_of P ns h.2)))),
+  (λ h. let each = (all_both P ms ns).0 (subst (λ x. AllMembers P (member_trees x)) joined (h Dense).1) in
+      ((some_members all).1 (h Dense).0, (λ some mode. ((some_members ms).0 some, each.0)), (λ some mode. ((some_members ns).0 some, each.1)))),
+  (λ h mode. ((some_members all).0 h.0, subst (λ x. AllMembers P (member_trees x)) (sym joined) ((all_both P ms ns).1 (all_of P ms h.1, all_of P ns h.2)))),
 )
 
 -- members by their ids and trees
@@ -67,7 +63,7 @@ moved ms ns f i t h =
 pub same_members_alike : (ms ns : Members) → ((m : ℤ × FieldTree) → Contains ms m → Contains ns m) → ((m : ℤ × FieldTree) → Contains ns m → Contains ms m) → AlikeUnions ms ns
 same_members_alike ms ns to from = λ x y. (
   each_refl (member_trees ms) (member_trees ns) (members_refl (member_trees ms)) (moved ms ns to),
-  back_refl (member_trees ms) (member_trees ns) (members_refl (member_trees ns)) (moved ns ms from),
+  each_sym (member_trees ns) (member_trees ms) (each_refl (member_trees ns) (member_trees ms) (members_refl (member_trees ns)) (moved ns ms from)),
 )
 
 pub joined_alike : (ms ns all : Members) → all ≡ ms ++ ns → (others : Members) → AreJust ms ns others → AlikeUnions all others
@@ -77,16 +73,7 @@ joined_alike ms ns all joined others just = same_members_alike all others
 
 -- parts of a union that together have all its members
 kept_all : (p : ℤ × FieldTree → Bool) (ms : Members) (m : ℤ × FieldTree) → Contains (filter p ms) m → Contains ms m
-kept_all p [] m h = h
-kept_all p (x ∷ xs) m h = by (p x) h (kept_all p xs m)
-  where
-    later : Contains xs m → Contains (x ∷ xs) m
-    later c = (suc c.0, omega (arith, c.1), c.2)
-
-    by : (b : Bool) → Contains (cond b (x ∷ filter p xs) (filter p xs)) m → (Contains (filter p xs) m → Contains xs m) → Contains (x ∷ xs) m
-    by true (zero, lt, is) deeper = (0, omega arith, is)
-    by true (suc n, lt, is) deeper = later (deeper (n, omega (arith, lt), is))
-    by false c deeper = later (deeper c)
+kept_all p ms m h = All-contains (Contains ms) (filter p ms) m (All-filter p (Contains ms) ms (All-contains_itself ms)) h
 
 all_kept_of : (p : ℤ × FieldTree → Bool) (ms : Members) (m : ℤ × FieldTree) → p m ≡ true → Contains ms m → Contains (filter p ms) m
 all_kept_of p [] m passes h = h

@@ -1,16 +1,16 @@
 -- What was seen of members says what the union is.
-use Rattle.std.proofs.Common.{◌≡◌, ◌≢◌, ◌↔◌, ◌<◌, ◌≤◌, ◌+◌, ◌^◌, ◌⊎◌, inl, inr, ℕ, zero, suc, ℤ, pos, Result, Ok, Err, Option, Some, None, Bool, true, false, [], ◌∷◌, ◌++◌, take, length, get_or, refl, sym, ap, subst, ◌∙◌, arith, nat_eq}
+use Rattle.std.proofs.Common.{◌≡◌, ◌≢◌, ◌↔◌, ◌<◌, ◌+◌, ◌^◌, ◌⊎◌, inl, inr, ℕ, zero, suc, ℤ, pos, Result, Ok, Err, Option, Some, None, Bool, true, false, [], ◌∷◌, ◌++◌, take, length, get_or, refl, sym, ap, subst, ◌∙◌, arith, nat_eq}
 use Rattle.std.specs.Int.{bit_at}
 use Rattle.std.proofs.Math.Dec.{eqb-suc-zero}
 use Rattle.std.proofs.lemmas.Bool.{cases_eq}
-use Rattle.std.proofs.lemmas.List.{take_all}
+use Rattle.std.proofs.lemmas.Option.{same_Some}
 use Rattle.std.proofs.lemmas.Nat.Bits.{same_from_bits, bit_at-pow_same, bit_at-pow_other, bit_at-lt}
-use Rattle.arrow_values.specs.Tree.{Tree, list, large_list, union, FieldTree, MemberTrees, no_members}
+use Rattle.arrow_values.specs.Tree.{Tree, union, FieldTree, MemberTrees, no_members}
 use Rattle.arrow_values.specs.View.{member_trees}
 use Rattle.geoarrow_layout.specs.declared.kinds.CoordType.{CoordType}
-use Rattle.geoarrow_layout.specs.declared.kinds.CoordType.TheVariants.{Interleaved, Separated}
+use Rattle.geoarrow_layout.specs.declared.kinds.CoordType.TheVariants.{Interleaved}
 use Rattle.geoarrow_layout.specs.declared.kinds.Dimension.{Dimension}
-use Rattle.geoarrow_layout.specs.declared.kinds.Dimension.TheVariants.{XY, XYZ, XYM, XYZM}
+use Rattle.geoarrow_layout.specs.declared.kinds.Dimension.TheVariants.{XY}
 use Rattle.geoarrow_layout.specs.declared.fault.LayoutFault.{LayoutFault}
 use Rattle.geoarrow_layout.specs.declared.summary.ListWidth.{ListWidth}
 use Rattle.geoarrow_layout.specs.declared.summary.ListWidth.TheVariants.{List as Lists}
@@ -19,14 +19,14 @@ use Rattle.geoarrow_layout.specs.declared.summary.Bottom.TheVariants.{Union}
 use Rattle.geoarrow_layout.specs.declared.summary.Summary.{Summary}
 use Rattle.geoarrow_layout.specs.Kinds.{order_of}
 use Rattle.geoarrow_layout.specs.Shapes.{Mixed, Geometry, Member, GeometryMember, AllMembers, SomeMember, HasMembers, Answers, AnswersOne}
-use Rattle.geoarrow_layout.specs.Summary.{IsBits, IsFaultOf, Seen, place_of, AreLevels, IsBottom, IsInnerUnion, IsUnion, SummarizesBy, Summarizes}
+use Rattle.geoarrow_layout.specs.Summary.{IsBits, IsFaultOf, Seen, place_of, AreLevels, IsBottom, IsUnion, SummarizesBy, Summarizes}
 use Rattle.geoarrow_layout.specs.Steps.{AddsBits, CoordOf, DimensionOf, SomeAnswer, UnionSays, UnionSaysOne, IsNested, IsNoLeaf, Shows, ShowsInner}
 use Rattle.geoarrow_layout.specs.OneShape.{member_same, geometry_part_same}
 use Rattle.geoarrow_layout.proofs.Readings.{Answer, ok, ok_same, ok_pair, pairs_same, refuses, refuses_one}
-use Rattle.geoarrow_layout.proofs.MemberLists.{Items, all_map, all_inside, all_some, first_some, all_both, all_first, all_second, some_before, some_last, some_either, one_more}
+use Rattle.geoarrow_layout.proofs.MemberLists.{Items, all_map, all_inside, all_some, first_some, all_both, some_more, one_more}
 use Rattle.geoarrow_layout.proofs.Parts.{mixed_apart}
-use Rattle.geoarrow_layout.proofs.Bottoms.{NotList, not_less, at_bottom}
-use Rattle.geoarrow_layout.proofs.BitSteps.{bits_like, no_bits, bit_is}
+use Rattle.geoarrow_layout.proofs.Bottoms.{NotList, not_list, not_less, at_bottom}
+use Rattle.geoarrow_layout.proofs.BitSteps.{bits_like, bits_added, no_bits, bit_is}
 
 abbrev pub Reads : Type 1
 Reads = ℤ → Tree → CoordType → Dimension → Type 0
@@ -51,15 +51,11 @@ pow_bit n j i is one = elim (cases_eq i j) [ inl e ↦ e | inr e ↦ let z : bit
 
 place_same : (c b : CoordType) → place_of c ≡ place_of b → c ≡ b
 place_same Interleaved Interleaved h = refl
-place_same Separated Separated h = refl
-place_same c b h = absurd (omega arith)
+place_same _ _ h = grind arith
 
 order_same : (d e : Dimension) → order_of d ≡ order_of e → d ≡ e
 order_same XY XY h = refl
-order_same XYZ XYZ h = refl
-order_same XYM XYM h = refl
-order_same XYZM XYZM h = refl
-order_same d e h = absurd (omega arith)
+order_same _ _ h = grind arith
 
 -- the bits of keys for which S holds of some member
 abbrev Keyed : (K : Type 0) → (K → ℕ) → (K → ℤ → Tree → Type 0) → MemberTrees → ℕ → Type 0
@@ -128,9 +124,6 @@ one_from R one empty fault coords r ms says some coord_bits faultless = λ c. (
   (λ m. (says c).1 (some.1 m.0, faultless.1 (all_map (AtCoord R c) (Read R) (λ i t p. (c, p.0, p.1)) ms m.1), coord_pow R one coords ms c coord_bits m.0 m.1)),
 )
 
-some_dimension_same : (d e : Dimension) → Some d ≡ Some e → d ≡ e
-some_dimension_same d e h = cc
-
 -- the coordinate type first, then the dimension
 pub both_say : (empty : Bool) (fault : Option LayoutFault) (coords dims : ℕ) (c : CoordType) (d : Dimension) (o : Option Dimension) → UnionSaysOne empty fault coords (Ok c) → o ≡ Some d → ((e : Dimension) → (o ≡ Some e) ↔ (dims ≡ 2 ^ order_of e)) → UnionSays empty fault coords dims (ok_pair c d)
 both_say empty fault coords dims c d o one is dimension = λ b e. (
@@ -138,7 +131,7 @@ both_say empty fault coords dims c d o one is dimension = λ b e. (
       let k = (one b).0 (ap ok p.0) in
       (k.0, k.1, k.2, (dimension e).0 (is ∙ ap (λ x. Some x) p.1))),
   (λ h. let p = ok_same c b ((one b).1 (h.0, h.1, h.2)) in
-      let q = some_dimension_same d e (sym is ∙ (dimension e).1 h.3) in
+      let q = same_Some d e (sym is ∙ (dimension e).1 h.3) in
       ap (λ x. ok_pair x d) p ∙ ap (λ x. ok_pair b x) q),
 )
 
@@ -158,21 +151,16 @@ weaken U V f s t h = (h.0, h.1, at_tree h.0 h.2)
     at_tree (union ms mode) k = f s.levels s.bottom ms k
     at_tree _ k = k
 
-inner_no_leaf : (n m : ℕ) (b : Bottom) (ms : MemberTrees) → IsInnerUnion b ms → IsNoLeaf n b ms
-inner_no_leaf n m (Union empty ids coords dims fault geometry) ms h = tt
-inner_no_leaf n m _ ms h = absurd h
-
 nested_no_leaf : (n : ℕ) (b : Bottom) (ms : MemberTrees) → IsNested n b ms → IsNoLeaf n b ms
-nested_no_leaf zero b ms h = h
-nested_no_leaf (suc n) b ms h = inner_no_leaf (suc n) n b ms h
+nested_no_leaf (suc n) (Union empty ids coords dims fault geometry) ms h = tt
+nested_no_leaf _ _ ms h = search
 
 pub shows_of_inner : (s : Summary) (t : Tree) → ShowsInner s t → Shows s t
 shows_of_inner s t h = weaken IsNested IsNoLeaf nested_no_leaf s t h
 
 union_nested : (n : ℕ) (b : Bottom) (ms : MemberTrees) → IsUnion n b ms → IsNested n b ms
-union_nested (suc n) b ms h = h
 union_nested zero (Union empty ids coords dims fault geometry) ms h = tt
-union_nested zero _ ms h = absurd h
+union_nested _ _ ms h = search
 
 pub inner_of : (s : Summary) (t : Tree) → Summarizes s t → ShowsInner s t
 inner_of s t h = weaken IsUnion IsNested union_nested s t h
@@ -182,27 +170,20 @@ shows_of s t h = shows_of_inner s t (inner_of s t h)
 
 -- ---- one more member
 
-bits_added : (n more : ℕ) (A P Q : ℕ → Type 0) → AddsBits n A more → ((i : ℕ) → P i → Q i) → ((i : ℕ) → A i → Q i) → ((i : ℕ) → Q i → P i ⊎ A i) → IsBits n P → IsBits more Q
-unfolding IsBits AddsBits
-bits_added n more A P Q adds to new from h = λ i. (
-  (λ e. elim ((adds i).0 e) [ inl was ↦ to i ((h i).0 was) | inr a ↦ new i a ]),
-  (λ q. elim (from i q) [ inl p ↦ (adds i).1 (inl ((h i).1 p)) | inr a ↦ (adds i).1 (inr a) ]),
-)
-
 fault_added : (R : Reads) (fault more : Option LayoutFault) (part : Answer) (xs : Items) (x : ℤ × FieldTree) → Answers part (R x.0 x.1.tree) → ((more ≡ None) ↔ ((fault ≡ None) × SomeAnswer part))
     → IsFaultOf R fault (member_trees xs) → IsFaultOf R more (member_trees (xs ++ (x ∷ [])))
 fault_added R fault more part xs x read next before = (
-  (λ e. let h = next.0 e in all_both (Read R) xs (x ∷ []) (before.0 h.0) ((h.1.0, h.1.1, (read h.1.0 h.1.1).0 h.1.2), tt)),
-  (λ all. let q = (all_second (Read R) xs (x ∷ []) all).0 in next.1 (before.1 (all_first (Read R) xs (x ∷ []) all), (q.0, q.1, (read q.0 q.1).1 q.2))),
+  (λ e. let h = next.0 e in (all_both (Read R) xs (x ∷ [])).1 (before.0 h.0, ((h.1.0, h.1.1, (read h.1.0 h.1.1).0 h.1.2), tt))),
+  (λ all. let h = (all_both (Read R) xs (x ∷ [])).0 all in next.1 (before.1 h.0, (h.1.0.0, h.1.0.1, (read h.1.0.0 h.1.0.1).1 h.1.0.2))),
 )
 
 keyed_added : (K : Type 0) (place : K → ℕ) (S : K → ℤ → Tree → Type 0) (n more : ℕ) (A : ℕ → Type 0) (xs : Items) (x : ℤ × FieldTree) → AddsBits n A more
     → ((i : ℕ) → A i ↔ ((k : K) × (i ≡ place k) × S k x.0 x.1.tree)) → IsBits n (Keyed K place S (member_trees xs)) → IsBits more (Keyed K place S (member_trees (xs ++ (x ∷ []))))
 keyed_added K place S n more A xs x adds is before =
-    bits_added n more A (Keyed K place S (member_trees xs)) (Keyed K place S (member_trees (xs ++ (x ∷ [])))) adds
-    (λ i h. (h.0, h.1, some_before (S h.0) xs x h.2))
-    (λ i a. let p = (is i).0 a in (p.0, p.1, some_last (S p.0) xs x p.2))
-    (λ i q. elim (some_either (S q.0) xs x q.2) [ inl s ↦ inl (q.0, q.1, s) | inr s ↦ inr ((is i).1 (q.0, q.1, s)) ]) before
+    bits_added n more A (Keyed K place S (member_trees xs)) (Keyed K place S (member_trees (xs ++ (x ∷ [])))) adds (λ i. (
+      (λ q. elim ((some_more (S q.0) xs x).0 q.2) [ inl s ↦ inl (q.0, q.1, s) | inr s ↦ inr ((is i).1 (q.0, q.1, s)) ]),
+      (λ h. elim h [ inl p ↦ (p.0, p.1, (some_more (S p.0) xs x).1 (inl p.2)) | inr a ↦ let p = (is i).0 a in (p.0, p.1, (some_more (S p.0) xs x).1 (inr p.2)) ]),
+    )) before
 
 abbrev Ids : MemberTrees → ℕ → Type 0
 Ids ms i = (i < 64) × SomeMember (λ j t. j ≡ pos i) ms
@@ -213,9 +194,10 @@ pub seen_more : (R : Reads) (ids ids2 coords coords2 dims dims2 : ℕ) (fault fa
 seen_more R ids ids2 coords coords2 dims dims2 fault fault2 part all k x lt at read add_id add_coord add_dim next before =
     let xs = take k all in
     subst (λ ys. Seen R ids2 coords2 dims2 fault2 (member_trees ys)) (sym (one_more all k x lt at)) record {
-      id_bits = bits_added ids ids2 (λ i. (i < 64) × (x.0 ≡ pos i)) (Ids (member_trees xs)) (Ids (member_trees (xs ++ (x ∷ [])))) add_id
-          (λ i h. (h.0, some_before (λ j t. j ≡ pos i) xs x h.1)) (λ i a. (a.0, some_last (λ j t. j ≡ pos i) xs x a.1))
-          (λ i q. elim (some_either (λ j t. j ≡ pos i) xs x q.1) [ inl s ↦ inl (q.0, s) | inr s ↦ inr (q.0, s) ]) before.id_bits;
+      id_bits = bits_added ids ids2 (λ i. (i < 64) × (x.0 ≡ pos i)) (Ids (member_trees xs)) (Ids (member_trees (xs ++ (x ∷ [])))) add_id (λ i. let is = some_more (λ j t. j ≡ pos i) xs x in (
+        (λ q. elim (is.0 q.1) [ inl s ↦ inl (q.0, s) | inr s ↦ inr (q.0, s) ]),
+        (λ h. elim h [ inl p ↦ (p.0, is.1 (inl p.1)) | inr a ↦ (a.0, is.1 (inr a.1)) ]),
+      )) before.id_bits;
       coord_bits = keyed_added CoordType place_of (AtCoord R) coords coords2 (CoordOf part) xs x add_coord
           (λ i. ((λ a. (a.0, a.1, (a.2, (read a.0 a.2).0 a.3))), (λ p. (p.0, p.1, p.2.0, (read p.0 p.2.0).1 p.2.1)))) before.coord_bits;
       dimension_bits = keyed_added Dimension order_of (AtDimension R) dims dims2 (DimensionOf part) xs x add_dim
@@ -231,18 +213,9 @@ seen_none R = record {
   faultless = (λ e. tt, λ e. refl);
 }
 
-pub seen_end : (R : Reads) (ids coords dims : ℕ) (fault : Option LayoutFault) (xs : Items) (k : ℕ) → length xs ≤ k → Seen R ids coords dims fault (member_trees (take k xs)) → Seen R ids coords dims fault (member_trees xs)
-seen_end R ids coords dims fault xs k h a = subst (λ ys. Seen R ids coords dims fault (member_trees ys)) (take_all k xs h) a
-
 pub has_members : (xs : Items) (empty : Bool) → empty ≡ nat_eq (length xs) 0 → (empty ≡ false) ↔ HasMembers (member_trees xs)
 has_members [] empty h = (λ e. let bad : true ≡ false = sym h ∙ e in cc, λ m. absurd m)
 has_members (y ∷ ys) empty h = (λ e. tt, λ m. let z : nat_eq (suc (length ys)) 0 ≡ false = eqb-suc-zero (length ys) in h ∙ z)
-
-pub fault_none : IsFaultOf Member None no_members
-fault_none = (λ e. tt, λ e. refl)
-
-pub fault_end : (R : Reads) (fault : Option LayoutFault) (xs : Items) (k : ℕ) → length xs ≤ k → IsFaultOf R fault (member_trees (take k xs)) → IsFaultOf R fault (member_trees xs)
-fault_end R fault xs k h a = subst (λ ys. IsFaultOf R fault (member_trees ys)) (take_all k xs h) a
 
 pub fault_next : (R : Reads) (fault more : Option LayoutFault) (part : Answer) (xs : Items) (k : ℕ) (x : ℤ × FieldTree) → k < length xs → x ≡ get_or xs k x
     → Answers part (R x.0 x.1.tree) → ((more ≡ None) ↔ ((fault ≡ None) × SomeAnswer part)) → IsFaultOf R fault (member_trees (take k xs)) → IsFaultOf R more (member_trees (take (k + 1) xs))
@@ -254,8 +227,8 @@ levels_none : (w : Option ListWidth) (n : ℕ) (t u : Tree) → AreLevels w n t 
 levels_none None n t u h z = h.1
 levels_none (Some w) n t u h z = absurd (omega (arith, h.0))
 
-pub at_root : (s : Summary) (t : Tree) → s.levels ≡ 0 → (h : Summarizes s t) → IsBottom IsUnion s.width 0 s.bottom t
-at_root s t z h = subst (λ u. IsBottom IsUnion s.width 0 s.bottom u) (sym (levels_none s.width s.levels t h.0 h.1 z)) (subst (λ n. IsBottom IsUnion s.width n s.bottom h.0) z h.2)
+pub at_root : (s : Summary) (b : Bottom) (t : Tree) → s.levels ≡ 0 → s.bottom ≡ b → Summarizes s t → IsBottom IsUnion s.width 0 b t
+at_root s b t none is h = subst (λ u. IsBottom IsUnion s.width 0 b u) (sym (levels_none s.width s.levels t h.0 h.1 none)) (rw (← none, ← is) h.2)
 
 pub below_root : (s : Summary) (t : Tree) → 0 < s.levels → Summarizes s t → NotList t → ⊥
 below_root s t some h apart = not_less s.width s.levels 0 t h.0 t h.1 some (Lists, refl) apart
@@ -263,13 +236,8 @@ below_root s t some h apart = not_less s.width s.levels 0 t h.0 t h.1 some (List
 pub mixed_below : (s : Summary) (f : LayoutFault) (t : Tree) → 0 < s.levels → Summarizes s t → Answers (Err f) (Mixed t)
 mixed_below s f t some h = refuses f (Mixed t) (λ c d m. below_root s t some h (mixed_apart t c d m))
 
-pub geometry_apart : (t : Tree) (c : CoordType) → Geometry t c → NotList t
-geometry_apart (list n t b m) c h = h
-geometry_apart (large_list n t b m) c h = h
-geometry_apart _ c h = tt
-
 pub geometry_below : (s : Summary) (f : LayoutFault) (t : Tree) → 0 < s.levels → Summarizes s t → AnswersOne (Err f) (Geometry t)
-geometry_below s f t some h = refuses_one f (Geometry t) (λ c g. below_root s t some h (geometry_apart t c g))
+geometry_below s f t some h = refuses_one f (Geometry t) (λ c g. below_root s t some h (not_list (λ x. Geometry x c) (λ n x b m p. p) (λ n x b m p. p) t g))
 
 pub root_mixed : (w : Option ListWidth) (empty : Bool) (ids coords dims : ℕ) (fault geometry : Option LayoutFault) (u : Tree) (r : Answer)
     → IsBottom IsUnion w 0 (Union empty ids coords dims fault geometry) u → UnionSays empty fault coords dims r → Answers r (Mixed u)

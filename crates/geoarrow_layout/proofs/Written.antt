@@ -13,8 +13,7 @@ use Rattle.geoarrow_layout.specs.declared.encodings.NativeKind.TheVariants.{Poin
 use Rattle.geoarrow_layout.specs.declared.encodings.Width.TheVariants.{Plain}
 use Rattle.geoarrow_layout.specs.declared.encodings.Kind.{Kind}
 use Rattle.geoarrow_layout.specs.declared.encodings.Kind.TheVariants.{Native as OfNative, Geometry as OfGeometry, Rect as OfRect, Wkb as OfWkb, Wkt as OfWkt}
-use Rattle.geoarrow_layout.specs.Kinds.{name_of}
-use Rattle.geoarrow_layout.specs.Shapes.{Leaf, levels_of, SameNames, Member, AllMembers, Collection, GeometryMember, Geometry, BoxShape, Accepted, Accepts}
+use Rattle.geoarrow_layout.specs.Shapes.{Leaf, levels_of, SameNames, Member, AllMembers, Collection, GeometryMember, Geometry, BoxShape, Accepted}
 use Rattle.geoarrow_layout.specs.OneShape.{LeafUnder}
 use Rattle.geoarrow_layout.specs.Layouts.{leaf_layout, over_leaf_layout, member_layout, mixed_members, mixed_layout, native_layout, dimension_members, geometry_members, layout, IsWritten, IsWrittenSome}
 use Rattle.geoarrow_layout.proofs.MemberLists.{all_map, all_both}
@@ -22,10 +21,9 @@ use Rattle.geoarrow_layout.proofs.MemberLists.{all_map, all_both}
 pub written_leaf : (c : CoordType) (d : Dimension) → Leaf (leaf_layout c d) c d
 unfolding SameNames
 written_leaf Interleaved d = (refl, refl)
-written_leaf Separated XY = refl
 written_leaf Separated XYZ = (refl, λ n. refl)
 written_leaf Separated XYM = (refl, λ n. refl)
-written_leaf Separated XYZM = refl
+written_leaf Separated _ = refl
 
 -- the members in a collection
 written_under : (k : NativeKind) (c : CoordType) (d : Dimension) → LeafUnder (levels_of k) (over_leaf_layout k c d) c d
@@ -47,26 +45,23 @@ InGeometry c i t = (d : Dimension) × GeometryMember i t c d
 -- what holds of the members of each dimension
 all_dimensions : (P : ℤ → Tree → Type 0) (c : CoordType) → ((d : Dimension) → AllMembers P (member_trees (dimension_members c d))) → AllMembers P (member_trees (geometry_members c))
 all_dimensions P c h =
-    all_both P (dimension_members c XY ++ dimension_members c XYZ ++ dimension_members c XYM) (dimension_members c XYZM)
-    (all_both P (dimension_members c XY ++ dimension_members c XYZ) (dimension_members c XYM)
-    (all_both P (dimension_members c XY) (dimension_members c XYZ) (h XY) (h XYZ)) (h XYM)) (h XYZM)
+    (all_both P (dimension_members c XY ++ dimension_members c XYZ ++ dimension_members c XYM) (dimension_members c XYZM)).1
+    ((all_both P (dimension_members c XY ++ dimension_members c XYZ) (dimension_members c XYM)).1 ((all_both P (dimension_members c XY) (dimension_members c XYZ)).1 (h XY, h XYZ), h XYM), h XYZM)
 
 written_dimension : (c : CoordType) (d : Dimension) → AllMembers (InGeometry c) (member_trees (dimension_members c d))
 written_dimension c d =
-    all_both (InGeometry c) (mixed_members c d) (member_layout GeometryCollection d (native_layout GeometryCollection c d) ∷ [])
-    (all_map (λ i t. Member i t c d) (InGeometry c) (λ i t m. (d, inl m)) (member_trees (mixed_members c d)) (written_mixed c d))
-    ((d, inr (refl, written_collection c d)), tt)
+    (all_both (InGeometry c) (mixed_members c d) (member_layout GeometryCollection d (native_layout GeometryCollection c d) ∷ [])).1
+    (all_map (λ i t. Member i t c d) (InGeometry c) (λ i t m. (d, inl m)) (member_trees (mixed_members c d)) (written_mixed c d), ((d, inr (refl, written_collection c d)), tt))
 
 written_geometry : (c : CoordType) → Geometry (layout (OfGeometry c)) c
 written_geometry c = (tt, all_dimensions (InGeometry c) c (written_dimension c))
 
 written_box : (d : Dimension) → BoxShape (layout (OfRect d)) d
-written_box XY = refl
 written_box XYZ = (refl, λ h. let bad : false ≡ true = h.0 in cc, (refl, refl))
 written_box XYM = (refl, (refl, refl))
-written_box XYZM = refl
+written_box _ = refl
 
-written : (k : Kind) → Accepted k (layout k)
+pub written : (k : Kind) → Accepted k (layout k)
 written (OfNative GeometryCollection c d) = written_collection c d
 written (OfNative k c d) = written_under k c d
 written (OfGeometry c) = written_geometry c
@@ -74,9 +69,6 @@ written (OfRect d) = written_box d
 written (OfWkb Plain) = refl
 written (OfWkt Plain) = refl
 written _ = refl
-
-pub written_accepted : (k : Kind) → Accepts (name_of k) (layout k) k
-written_accepted k = (refl, written k)
 
 -- the ids of written members
 pub mixed_ids : (c : CoordType) (d : Dimension) → HasTypeIds (mixed_members c d)
@@ -91,9 +83,8 @@ mixed_written c d = ((Point, refl, refl), ((LineString, refl, refl), ((Polygon, 
 
 dimension_written : (c : CoordType) (d : Dimension) → AllMembers (IsWrittenSome c) (member_trees (dimension_members c d))
 dimension_written c d =
-    all_both (IsWrittenSome c) (mixed_members c d) (member_layout GeometryCollection d (native_layout GeometryCollection c d) ∷ [])
-    (all_map (IsWritten c d) (IsWrittenSome c) (λ i t m. (d, m)) (member_trees (mixed_members c d)) (mixed_written c d))
-    ((d, (GeometryCollection, refl, refl)), tt)
+    (all_both (IsWrittenSome c) (mixed_members c d) (member_layout GeometryCollection d (native_layout GeometryCollection c d) ∷ [])).1
+    (all_map (IsWritten c d) (IsWrittenSome c) (λ i t m. (d, m)) (member_trees (mixed_members c d)) (mixed_written c d), ((d, (GeometryCollection, refl, refl)), tt))
 
 pub geometry_written : (c : CoordType) → AllMembers (IsWrittenSome c) (member_trees (geometry_members c))
 geometry_written c = all_dimensions (IsWrittenSome c) c (dimension_written c)

@@ -14,7 +14,7 @@ impl Summary {
     /// The kind of a column of that extension name, whatever data type the summary is of: none where no kind of that
     /// name has such a data type, and none for well-known binary and text, of which a summary says nothing. Where the
     /// summary is of no data type at all, a kind that is answered is one of that name too. Takes no memory.
-    #[tactic(auto, using(crate::proofs::KindSteps::of_name))]
+    #[tactic(auto, using(crate::proofs::KindSteps::of_name, crate::proofs::KindSteps::renamed))]
     pub fn kind(&self, name: &str) -> Option<Kind>
         ensures exact { (t : Tree) → Summarizes self.now t → AnswersKind name.now t result }
         ensures named { IfSome result (λ k. (name.now ≡ name_of k) × IsStructured k) }
@@ -46,6 +46,7 @@ fn native_kind(kind: NativeKind, summary: &Summary) -> Option<Kind>
 }
 
 /// The kind under the name of unions of geometries.
+#[tactic(auto, using(crate::proofs::KindSteps::kind_some, crate::proofs::KindSteps::geometry_none))]
 fn geometry_kind(summary: &Summary) -> Option<Kind>
     ensures exact { (t : Tree) → Summarizes summary.now t → AnswersKind (name_text names.Geometry) t result }
     ensures named { IfSome result (λ k. (name_text names.Geometry ≡ name_of k) × IsStructured k) }
@@ -57,6 +58,7 @@ fn geometry_kind(summary: &Summary) -> Option<Kind>
 }
 
 /// The kind under the name of boxes.
+#[tactic(auto, using(crate::proofs::KindSteps::kind_some, crate::proofs::KindSteps::box_none))]
 fn box_kind(summary: &Summary) -> Option<Kind>
     ensures exact { (t : Tree) → Summarizes summary.now t → AnswersKind (name_text names.Rect) t result }
     ensures named { IfSome result (λ k. (name_text names.Rect ≡ name_of k) × IsStructured k) }

@@ -23,6 +23,7 @@ pub fn leaf_reads_back(coord_type: CoordType, dimension: Dimension)
 
 /// A law: the data type that is written for a kind is, under the kind's extension name, of that kind. There is nothing
 /// to run.
+#[tactic(auto, using(crate::proofs::Written::written))]
 pub fn layout_reads_back(kind: Kind)
     ensures { Accepts (name_of kind) (layout kind) kind }
 {}

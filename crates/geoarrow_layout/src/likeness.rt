@@ -144,6 +144,7 @@ fn is_repeated(other: &(i8, Field), members: &UnionFields) -> bool
 }
 
 /// Whether structs of these fields are alike.
+#[tactic(auto, using(crate::proofs::AlikeDecides::struct_differ, crate::proofs::AlikeDecides::struct_other))]
 fn same_struct(fields: &[Field], others: &[Field]) -> bool
     ensures { result ≡ alike_names (names_of (field_trees fields.now)) (names_of (field_trees others.now)) }
 {

@@ -137,6 +137,7 @@ pub fn parse_wkt(data_type: &DataType) -> Result<Width, LayoutFault>
 ///     Err(LayoutFault::UnexpectedType)
 /// );
 /// ```
+#[tactic(auto, using(crate::proofs::KindSteps::under, crate::proofs::KindSteps::native_refused))]
 pub fn parse_kind(name: ExtensionName, data_type: &DataType) -> Result<Kind, LayoutFault>
     ensures { AnswersOne result (Accepts (name_text name) (tree data_type.now)) }
 {

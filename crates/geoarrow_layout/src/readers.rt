@@ -17,6 +17,7 @@ use crate::kinds::{CoordType, Dimension};
 use crate::summary::{Bottom, Summary};
 
 /// The dimension that the fields of a struct say.
+#[tactic(auto, using(crate::proofs::Structs::with_z, crate::proofs::Structs::with_m))]
 fn separated_dimension(count: usize, names: u16) -> Result<Dimension, LayoutFault>
     ensures { (ns : List Text) → count ≡ length ns → IsBits names (λ i. SomeAt i ns) → AnswersOne result (λ d. IsSeparatedAs d ns) }
 {
@@ -297,6 +298,7 @@ pub(crate) fn has_both(bits: u16, i: u8, j: u8) -> bool
 }
 
 /// The dimension that the fields of a box say.
+#[tactic(auto, using(crate::proofs::Structs::box_with_m, crate::proofs::Structs::box_with_z))]
 fn box_dimension(count: usize, names: u16) -> Result<Dimension, LayoutFault>
     ensures { (ns : List Text) → count ≡ length ns → IsBits names (λ i. SomeAt i ns) → AnswersOne result (λ d. IsBoxAs d ns) }
 {

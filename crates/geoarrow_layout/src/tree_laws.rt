@@ -33,6 +33,7 @@ pub fn alike_in_turn()
 {}
 
 /// A law: alike data types are of the same kind under every extension name. There is nothing to run.
+#[tactic(auto, using(crate::proofs::AlikeLaws::alike_accepted, crate::proofs::AlikeLaws::alike_sym))]
 pub fn alike_are_one_kind()
     ensures { (t u : Tree) → Alike t u → (name : Text) (k : Kind) → Accepts name t k ↔ Accepts name u k }
 {}

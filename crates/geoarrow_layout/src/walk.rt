@@ -36,6 +36,7 @@ fn place_of(coord_type: CoordType) -> u8
 }
 
 /// The set of coordinate types with that of a member, if it has one.
+#[tactic(auto, using(crate::proofs::BitSteps::coord_added, crate::proofs::BitSteps::coord_kept))]
 fn with_coord_type(bits: u8, part: &Result<(CoordType, Dimension), LayoutFault>) -> u8
     ensures { AddsBits bits (CoordOf part.now) result }
 {
@@ -46,6 +47,7 @@ fn with_coord_type(bits: u8, part: &Result<(CoordType, Dimension), LayoutFault>)
 }
 
 /// The set of dimensions with that of a member, if it has one.
+#[tactic(auto, using(crate::proofs::BitSteps::dimension_added, crate::proofs::BitSteps::dimension_kept))]
 fn with_dimension(bits: u8, part: &Result<(CoordType, Dimension), LayoutFault>) -> u8
     ensures { AddsBits bits (DimensionOf part.now) result }
 {

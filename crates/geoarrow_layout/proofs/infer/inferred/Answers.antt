@@ -1,8 +1,5 @@
-use Rattle.std.proofs.Common.{◌≡◌, ◌↔◌, ℤ, Some, subst, rules, arith, w32, to_z, of_z}
+use Rattle.std.proofs.Common.{rules, arith}
 use Rattle.std.proofs.lemmas.Int.{to_z-of_z}
-use Rattle.geoarrow_layout.specs.declared.kinds.Dimension.{Dimension}
-use Rattle.geoarrow_layout.specs.Steps.{SizeSays}
-use Rattle.geoarrow_layout.specs.Summary.{IsUnion, IsBottom}
 use Rattle.geoarrow_layout.proofs.UnionSteps.{at_root}
 use Rattle.geoarrow_layout.proofs.Inferences.{inferred_below, size_inferred, names_inferred}
 use Rattle.geoarrow_layout.proofs.infer.inferred.Goals as goal
@@ -12,15 +9,9 @@ returns-then-summary-gt0 c = λ t h. inferred_below c.args.summary.now t c.if-su
 
 pub returns-else-not-float64 : goal.returns-else-not-float64
 returns-else-not-float64 c = λ t h.
-    let size_is : to_z w32 (of_z w32 c.in-FixedSizeList.size) ≡ c.in-FixedSizeList.size = search (rules, to_z-of_z) in
-    let none : c.args.summary.now.levels ≡ 0 = omega arith in
-    size_inferred c.args.summary.now.width _ _ _ _ _ t (subst (λ b. IsBottom IsUnion c.args.summary.now.width 0 b t) c.in-FixedSizeList.is (at_root c.args.summary.now t none h))
-    c.if-not-float64.false
-    (subst (λ (z : ℤ). (d : Dimension) → (c.sized_dimension.result ≡ Some d) ↔ SizeSays d c.in-FixedSizeList.named z) size_is c.sized_dimension.ensures)
-    c.paired.ensures
+    size_inferred _ _ _ _ _ _ _ t (at_root c.args.summary.now _ t (omega arith) c.in-FixedSizeList.is h) c.if-not-float64.false
+    (search (rules, to_z-of_z)) c.sized_dimension.ensures c.paired.ensures
 
 pub returns-else-not-all_float64 : goal.returns-else-not-all_float64
 returns-else-not-all_float64 c = λ t h.
-    let none : c.args.summary.now.levels ≡ 0 = omega arith in
-    names_inferred c.args.summary.now.width _ _ _ _ _ t (subst (λ b. IsBottom IsUnion c.args.summary.now.width 0 b t) c.in-Struct.is (at_root c.args.summary.now t none h))
-    c.if-not-all_float64.false c.counted_dimension.ensures c.paired-in-Struct.ensures
+    names_inferred _ _ _ _ _ _ t (at_root c.args.summary.now _ t (omega arith) c.in-Struct.is h) c.if-not-all_float64.false c.counted_dimension.ensures c.paired-in-Struct.ensures

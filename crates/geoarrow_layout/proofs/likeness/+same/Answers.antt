@@ -18,14 +18,10 @@ element_depth ms xs k x same lt at =
     subst (λ zs. depth x.1.tree < members_size zs) same (subst (λ y. depth y.1.tree < members_size xs) (sym at) (member_depth xs k x lt))
 
 -- the first of what is left
-each_drop : (xs : List (ℤ × FieldTree)) (ns : MemberTrees) (k : ℕ) (x : ℤ × FieldTree) → k < length xs → x ≡ get_or xs k x → each_has_alike (member_trees (drop k xs)) ns ≡ (some_member (λ j u. int_eq x.0 j && alike_of x.1.tree u) ns && each_has_alike (member_trees (drop (k + 1) xs)) ns)
-each_drop xs ns k x lt at =
-    ap (λ ys. each_has_alike (member_trees ys) ns) (drop_more xs k x lt)
-    ∙ ap (λ y. some_member (λ j u. int_eq y.0 j && alike_of y.1.tree u) ns && each_has_alike (member_trees (drop (k + 1) xs)) ns) (sym at)
-
 each_next : (xs : List (ℤ × FieldTree)) (ms ns : MemberTrees) (k : ℕ) (x : ℤ × FieldTree) (r : Bool) → k < length xs → x ≡ get_or xs k x → r ≡ some_member (λ j u. int_eq x.0 j && alike_of x.1.tree u) ns → r ≡ true → each_has_alike (member_trees (drop k xs)) ns ≡ each_has_alike ms ns → each_has_alike (member_trees (drop (k + 1) xs)) ns ≡ each_has_alike ms ns
 each_next xs ms ns k x r lt at is found before =
-    ap (λ b. b && each_has_alike (member_trees (drop (k + 1) xs)) ns) (sym found ∙ is) ∙ sym (each_drop xs ns k x lt at) ∙ before
+    ap (λ b. b && each_has_alike (member_trees (drop (k + 1) xs)) ns) (sym found ∙ is ∙ ap (λ y. some_member (λ j u. int_eq y.0 j && alike_of y.1.tree u) ns) at)
+    ∙ ap (λ ys. each_has_alike (member_trees ys) ns) (sym (drop_more xs k x lt)) ∙ before
 
 pub each_has_same-loop-member-preserved : goal.each_has_same-loop-member-preserved
 each_has_same-loop-member-preserved t c =

@@ -1,5 +1,4 @@
-use Rattle.std.proofs.Common.{◌≡◌, subst, arith}
-use Rattle.geoarrow_layout.specs.Summary.{IsUnion, IsBottom}
+use Rattle.std.proofs.Common.{arith}
 use Rattle.geoarrow_layout.proofs.UnionSteps.{mixed_below, root_mixed, at_root}
 use Rattle.geoarrow_layout.proofs.readers.mixed.Goals as goal
 
@@ -7,6 +6,4 @@ pub returns-then-summary-gt0 : goal.returns-then-summary-gt0
 returns-then-summary-gt0 c = λ t h. mixed_below c.args.summary.now _ t c.if-summary-gt0.true h
 
 pub returns-in-Union : goal.returns-in-Union
-returns-in-Union c = λ t h.
-    let none : c.args.summary.now.levels ≡ 0 = omega arith in
-    root_mixed c.args.summary.now.width _ _ _ _ _ _ t _ (subst (λ b. IsBottom IsUnion c.args.summary.now.width 0 b t) c.in-Union.is (at_root c.args.summary.now t none h)) c.both_of_union.ensures
+returns-in-Union c = λ t h. root_mixed _ _ _ _ _ _ _ t _ (at_root c.args.summary.now _ t (omega arith) c.in-Union.is h) c.both_of_union.ensures

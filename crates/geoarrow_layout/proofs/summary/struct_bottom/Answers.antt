@@ -1,7 +1,8 @@
 use Rattle.std.proofs.Common.{sym, ◌∙◌, ap, ◌&&◌}
+use Rattle.std.proofs.lemmas.List.{take_all}
 use Rattle.geoarrow_layout.specs.Summary.{place_in, known_names}
 use Rattle.geoarrow_layout.specs.Inferred.{is_float64}
-use Rattle.geoarrow_layout.proofs.FieldSteps.{length-names, fields_seen_none, fields_seen_more, fields_seen_end}
+use Rattle.geoarrow_layout.proofs.FieldSteps.{length-names, fields_seen_none, fields_seen_more}
 use Rattle.geoarrow_layout.proofs.summary.struct_bottom.Goals as goal
 
 pub loop-field-init : goal.loop-field-init
@@ -17,5 +18,5 @@ loop-field-preserved c =
 
 pub returns : goal.returns
 returns c =
-    let seen = fields_seen_end _ _ _ _ c.loop-field-test.false c.loop-field.invariant in
+    let seen = rw (take_all _ _ c.loop-field-test.false) at c.loop-field.invariant in
     (sym (length-names c.args.fields.now), seen.bits, seen.floats)

@@ -1,8 +1,9 @@
 use Rattle.std.proofs.Common.{◌≡◌, refl, subst, rules, w8, to_z, of_z, ℤ, pos, ◌<◌}
 use Rattle.std.proofs.lemmas.Int.{to_z-of_z}
+use Rattle.std.proofs.lemmas.List.{take_all}
 use Rattle.geoarrow_layout.specs.Shapes.{Member, Answers}
 use Rattle.geoarrow_layout.specs.Steps.{Shows, AddsBits}
-use Rattle.geoarrow_layout.proofs.UnionSteps.{seen_more, seen_none, seen_end, has_members}
+use Rattle.geoarrow_layout.proofs.UnionSteps.{seen_more, seen_none, has_members}
 use Rattle.geoarrow_layout.proofs.walk.inner_union.Goals as goal
 
 pub loop-item-init : goal.loop-item-init
@@ -18,8 +19,4 @@ loop-item-preserved c =
     c.with_member-seen.ensures.coord_types c.with_member-seen.ensures.dimensions c.with_member-seen.ensures.fault c.loop-item.invariant
 
 pub returns : goal.returns
-returns c = (
-  has_members _ _ c.is_empty.ensures,
-  seen_end Member _ _ _ _ _ _ c.loop-item-test.false c.loop-item.invariant,
-  refl,
-)
+returns c = (has_members _ _ c.is_empty.ensures, rw (take_all _ _ c.loop-item-test.false) at c.loop-item.invariant, refl)

@@ -1,12 +1,13 @@
-use Rattle.std.proofs.Common.{◌≡◌, subst, rules, w8, to_z, of_z, ℤ, pos, ◌<◌}
+use Rattle.std.proofs.Common.{◌≡◌, refl, subst, rules, w8, to_z, of_z, ℤ, pos, ◌<◌}
 use Rattle.std.proofs.lemmas.Int.{to_z-of_z}
+use Rattle.std.proofs.lemmas.List.{take_all}
 use Rattle.geoarrow_layout.specs.Shapes.{Member, GeometryMember, Answers}
 use Rattle.geoarrow_layout.specs.Steps.{ShowsInner, AddsBits}
-use Rattle.geoarrow_layout.proofs.UnionSteps.{seen_more, seen_none, seen_end, has_members, fault_none, fault_next, fault_end, shows_of_inner}
+use Rattle.geoarrow_layout.proofs.UnionSteps.{seen_more, seen_none, has_members, fault_next, shows_of_inner}
 use Rattle.geoarrow_layout.proofs.walk.root_union.Goals as goal
 
 pub loop-item-init : goal.loop-item-init
-loop-item-init c = record { seen = rw c.no_members-seen.ensures (seen_none GeometryMember); mixed = fault_none }
+loop-item-init c = record { seen = rw c.no_members-seen.ensures (seen_none GeometryMember); mixed = (λ e. tt, λ e. refl) }
 
 pub loop-item-preserved : goal.loop-item-preserved
 loop-item-preserved c =
@@ -24,8 +25,6 @@ loop-item-preserved c =
     }
 
 pub returns : goal.returns
-returns c = (
-  has_members _ _ c.is_empty.ensures,
-  seen_end GeometryMember _ _ _ _ _ _ c.loop-item-test.false c.loop-item.invariant.seen,
-  fault_end Member _ _ _ c.loop-item-test.false c.loop-item.invariant.mixed,
-)
+returns c =
+    let all = rw (take_all _ _ c.loop-item-test.false) at c.loop-item.invariant in
+    (has_members _ _ c.is_empty.ensures, all.seen, all.mixed)
