@@ -91,14 +91,26 @@ impl ExtensionType for Marked {
     }
 }
 
-/// A field `g` of a data type, which may be null, with those keys and texts.
-fn column(alloc: Global, texts: &[(&str, &str)], data_type: DataType) -> Result<Field, AllocError> {
+/// A map of those keys and texts.
+pub fn texts(
+    alloc: Global,
+    texts: &[(&str, &str)],
+) -> Result<BTreeMap<String, String>, AllocError> {
     let mut map = BTreeMap::new(alloc);
     for &(key, text) in texts {
         let text = String::from_str(alloc, text)?;
         drop(map.insert(String::from_str(alloc, key)?, text)?);
     }
-    Ok(Field::new(alloc, "g", data_type, true)?.with_metadata(map))
+    Ok(map)
+}
+
+/// A field `g` of a data type, which may be null, with those keys and texts.
+pub fn column(
+    alloc: Global,
+    pairs: &[(&str, &str)],
+    data_type: DataType,
+) -> Result<Field, AllocError> {
+    Ok(Field::new(alloc, "g", data_type, true)?.with_metadata(texts(alloc, pairs)?))
 }
 
 /// The type of the metadata of a text.

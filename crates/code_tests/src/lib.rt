@@ -1,5 +1,6 @@
 //! Tests in code: the examples of the doc comments and of the README, line for line as they stand there, the callers of `uses`, and
-//! what no row of `rows` can show: an extension type of one's own, and readers and writers that are slow or fail.
+//! what no row of `rows` can show: an extension type of one's own, what a value hands out, and readers and writers that are slow or
+//! fail.
 #![tactic(auto)]
 
 #[cfg(test)]
@@ -12,6 +13,8 @@ mod extension;
 mod layouts;
 #[cfg(test)]
 mod metadata;
+#[cfg(test)]
+mod parts;
 #[cfg(test)]
 mod reading;
 #[cfg(test)]

@@ -1,6 +1,6 @@
 //! Examples of metadata, its parts and its text.
-use geoarrow_meta::{CrsTransform, DefaultCrsTransform};
-use geoarrow_schema::{Crs, CrsType, Edges, Metadata};
+use geoarrow_schema::crs::{Crs, CrsTransform, CrsType, DefaultCrsTransform};
+use geoarrow_schema::{Edges, Metadata};
 use serde_json::Value;
 use std::test::Fail;
 

@@ -1,8 +1,9 @@
 //! Examples of the GeoArrow types: their data types, and how fields are read and written.
 use crate::column_kind::column_kind;
-use arrow_values::{DataType, ExtensionType, Field, Fields, FixedName, GeoArrowError, UnionMode};
+use arrow_values::{DataType, ExtensionType, Field, Fields, FixedName, UnionMode};
 use geoarrow_columns::{Column, ColumnFault, check_column, check_columns};
 use geoarrow_layout::{coord_data_type, mixed_data_type};
+use geoarrow_schema::error::GeoArrowError;
 use geoarrow_schema::type_id::GeometryTypeId;
 use geoarrow_schema::{
     BoxType, CoordType, Dimension, GeoArrowType, GeometryCollectionType, GeometryType, Kind,
