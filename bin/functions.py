@@ -153,4 +153,5 @@ class Sources:
         for proof in sorted(self.proofs_of(place).glob("*.antt")):
             copied = proof.parent.parent / name / proof.name
             copied.parent.mkdir(exist_ok=True)
-            copied.write_text(proof.read_text().replace(f".{place.function}.", f".{name}."))
+            was, is_now = (".".join(["proofs", *self.name_of(it), ""]) for it in (place, place._replace(function=name)))
+            copied.write_text(proof.read_text().replace(was, is_now))
