@@ -23,18 +23,13 @@
 //! prove.
 #![tactic(auto)]
 
-mod compared;
-mod famine;
 mod files;
-mod layouts;
 mod lines;
-mod metadata;
-mod notation;
 mod refused;
 mod schema;
-mod words;
 
-use famine::Memory;
+use lower_rows::famine::Memory;
+use lower_rows::{layouts, metadata, words};
 use std::alloc::{AllocError, Global};
 use std::io;
 use std::io::Read;

@@ -7,12 +7,11 @@ mod report;
 mod spelled;
 mod words;
 
-use crate::compared::distinct;
-use crate::famine::Memory;
-use crate::words::no_command;
 use each::{Call, Use, geometry_type_id, make, used};
-use geoarrow_schema::GeoArrowType;
-use parts::{changed, same_written};
+use lower_rows::compared::distinct;
+use lower_rows::famine::Memory;
+use lower_rows::words::no_command;
+use parts::{Spelled, changed, same_written};
 use std::alloc::{AllocError, Global};
 
 /// Says the answer to a text under a command. Errs where the text does not spell what the command is asked about.
@@ -51,7 +50,7 @@ fn answer_with_memory(
         "to_field" => columns::to_field(alloc, said, text),
         "check_columns" => report::report(alloc, said, text),
         "metadata" => report::metadata(alloc, said, text),
-        "distinct" => distinct::<GeoArrowType>(alloc, said, text),
+        "distinct" => distinct::<Spelled>(alloc, said, text),
         "try_extension_type" => make(alloc, said, Memory::Ample, Call::TryExtensionType, text),
         "try_with_extension_type" => used(alloc, said, Memory::Ample, Use::Writes, text),
         "with_extension_type" => used(alloc, said, Memory::Ample, Use::Carries, text),

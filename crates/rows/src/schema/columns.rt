@@ -1,12 +1,12 @@
 //! Fields that are read, and types that are written.
-use crate::famine::Memory;
 use crate::schema::spelled::{field_of, first_word, halves, tree_of, type_of};
 use crate::schema::words::{error_words, type_words};
-use crate::words;
 use arrow_values::{ArrowError, DataType, Field};
 use field_lines::field_line;
 use geoarrow_schema::GeoArrowType;
 use geoarrow_schema::error::GeoArrowResult;
+use lower_rows::famine::Memory;
+use lower_rows::words;
 use std::alloc::{AllocError, Global};
 use std::mem::forget;
 

@@ -1,8 +1,6 @@
 //! The calls that each of the eleven types has by itself.
-use crate::famine::Memory;
 use crate::schema::spelled::{field_of, first_word, halves, tree_of, type_of};
 use crate::schema::words::{dimension_word, type_words};
-use crate::words;
 use arrow_values::{ArrowError, DataType, ExtensionType, Field};
 use field_lines::field_line;
 use geoarrow_schema::generic::{Encoding, NativeShape, NativeType, SerializedType, Wkb, Wkt};
@@ -11,6 +9,8 @@ use geoarrow_schema::{
     BoxType, GeoArrowType, GeometryCollectionType, GeometryType, LineStringType, Metadata,
     MultiLineStringType, MultiPointType, MultiPolygonType, PointType, PolygonType,
 };
+use lower_rows::famine::Memory;
+use lower_rows::words;
 use std::alloc::{AllocError, Global};
 use std::sync::Arc;
 

@@ -1,12 +1,12 @@
 //! The parts of a type, and what stands in their place.
-use crate::compared::{Compared, hash_of};
-use crate::famine::Memory;
 use crate::schema::spelled::{
     coord_type_of, dimension_of, first_word, halves, metadata_of, type_of,
 };
 use crate::schema::words::type_words;
-use crate::words::truth;
 use geoarrow_schema::{CoordType, Dimension, GeoArrowType, Metadata};
+use lower_rows::compared::{Compared, hash_of};
+use lower_rows::famine::Memory;
+use lower_rows::words::truth;
 use std::alloc::{AllocError, Global};
 use std::sync::Arc;
 
@@ -116,13 +116,17 @@ fn are_normally_equal(alloc: Global, one: &str, other: &str) -> Result<bool, All
     Ok(one == normal(alloc, other)?)
 }
 
-impl Compared for GeoArrowType {
-    fn spelled(alloc: Global, text: &str) -> Result<GeoArrowType, AllocError> {
-        type_of(alloc, text)
+/// A type that is cloned and compared.
+#[derive(Drop)]
+pub struct Spelled(GeoArrowType);
+
+impl Compared for Spelled {
+    fn spelled(alloc: Global, text: &str) -> Result<Spelled, AllocError> {
+        Ok(Spelled(type_of(alloc, text)?))
     }
 
-    fn is_cloned_as(&self, alloc: Global, other: &GeoArrowType) -> Result<bool, AllocError> {
-        let clone = self.try_clone(alloc)?;
-        Ok(clone == *other && hash_of(&clone) == hash_of(other))
+    fn is_cloned_as(&self, alloc: Global, other: &Spelled) -> Result<bool, AllocError> {
+        let clone = self.0.try_clone(alloc)?;
+        Ok(clone == other.0 && hash_of(&clone) == hash_of(&other.0))
     }
 }

@@ -1,7 +1,6 @@
 //! Examples of the GeoArrow types: their data types, and how fields are read and written.
 use crate::column_kind::column_kind;
 use arrow_values::{DataType, ExtensionType, Field, Fields, FixedName, UnionMode};
-use geoarrow_columns::{Column, ColumnFault, check_column, check_columns};
 use geoarrow_layout::{coord_data_type, mixed_data_type};
 use geoarrow_schema::error::GeoArrowError;
 use geoarrow_schema::type_id::GeometryTypeId;
@@ -255,29 +254,10 @@ fn of_canonical_fields(rt: HostRuntime) -> Result<(), Fail> {
 }
 
 #[test]
-fn of_schemas(rt: HostRuntime) -> Result<(), Fail> {
-    let alloc = rt.alloc();
-    let id = Field::new(alloc, "id", DataType::Int64, false)?;
-    let geometry = GeoArrowType::Wkb(WkbType::try_default(alloc)?).to_field(alloc, "geom", true)?;
-    let columns = check_columns(alloc, &[id, geometry])?;
-    assert!(rt; matches!(columns.as_slice(), [Column::Other, Column::Geometry(_)]));
-    Ok(())
-}
-
-#[test]
 fn of_kinds_of_columns(rt: HostRuntime) -> Result<(), Fail> {
     let alloc = rt.alloc();
     let boxes = BoxType::new(Dimension::XYZ, Arc::new(alloc, Metadata::default())?);
     let column = boxes.to_field(alloc, "bounds", true)?;
     assert_eq!(rt; column_kind(alloc, &column)?, Kind::Rect(Dimension::XYZ));
-    Ok(())
-}
-
-#[test]
-fn of_faulty_columns(rt: HostRuntime) -> Result<(), Fail> {
-    let alloc = rt.alloc();
-    let named = GeoArrowType::Wkb(WkbType::try_default(alloc)?).to_field(alloc, "geom", true)?;
-    let found = check_column(alloc, &named.with_data_type(DataType::Utf8))?;
-    assert!(rt; matches!(found, Column::Faulty(ColumnFault::InvalidGeoArrow)));
     Ok(())
 }
