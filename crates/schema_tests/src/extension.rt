@@ -146,13 +146,18 @@ const WRITTEN: [(&str, &[(&str, &str)]); 2] = [
     ),
 ];
 
-/// The field of the stale texts with a type written on it, where it stands and as it is handed over.
-fn written(alloc: Global, marked: &Marked) -> Result<[Field; 2], ArrowError> {
+/// The field of the stale texts with a type written on it, where it stands.
+fn written(alloc: Global, marked: &Marked) -> Result<Field, ArrowError> {
     let mut field = column(alloc, STALE, DataType::Binary)?;
     field.try_with_extension_type(alloc, marked)?;
-    let other = column(alloc, STALE, DataType::Binary)?;
-    marked.supports_data_type(alloc, other.data_type())?;
-    Ok([field, other.with_extension_type(alloc, marked)?])
+    Ok(field)
+}
+
+/// The same of the field as it is handed over.
+fn handed_over(alloc: Global, marked: &Marked) -> Result<Field, ArrowError> {
+    let field = column(alloc, STALE, DataType::Binary)?;
+    marked.supports_data_type(alloc, field.data_type())?;
+    field.with_extension_type(alloc, marked)
 }
 
 #[test]
@@ -161,7 +166,7 @@ fn of_ones_own_is_written_and_read(rt: HostRuntime) -> Result<(), Fail> {
     for &(text, texts) in WRITTEN.iter() {
         let marked = type_of(alloc, text)?;
         let wanted = column(alloc, texts, DataType::Binary)?;
-        for field in written(alloc, &marked)?.iter() {
+        for field in [written(alloc, &marked)?, handed_over(alloc, &marked)?].iter() {
             assert!(rt; *field == wanted, "{text}");
             let found = field.try_extension_type::<Marked>(alloc)?;
             assert!(rt; found.metadata == marked.metadata, "{text}");

@@ -102,22 +102,42 @@ fn of_types_are_cloned_and_handed_out(rt: HostRuntime) -> Result<(), Fail> {
     Ok(())
 }
 
+/// The field `g` of texts, with those keys and texts.
+fn of_texts(alloc: Global, pairs: &[(&str, &str)]) -> Result<Field, AllocError> {
+    column(alloc, pairs, DataType::Utf8)
+}
+
+/// Whether a new field of a list has no key, and its items keep theirs.
+fn is_list_of_field(alloc: Global) -> Result<bool, AllocError> {
+    let list = Field::new_list(alloc, "g", of_texts(alloc, &[("k", "v")])?, true)?;
+    let items = Box::new(alloc, of_texts(alloc, &[("k", "v")])?)?;
+    Ok(list == column(alloc, &[], DataType::List(items))?)
+}
+
+/// Whether a field with other keys has these alone.
+fn is_with_metadata(alloc: Global) -> Result<bool, AllocError> {
+    let pairs = [("k", "v")];
+    let field = of_texts(alloc, &[("k", "w"), ("l", "w")])?;
+    let changed = field.with_metadata(texts(alloc, &pairs)?);
+    Ok(changed == of_texts(alloc, &pairs)?)
+}
+
+/// Whether a field whose keys are taken away is the field without any.
+fn is_without_metadata(alloc: Global) -> Result<bool, AllocError> {
+    let mut changed = of_texts(alloc, &[("k", "v")])?;
+    changed.set_metadata(BTreeMap::new(alloc));
+    Ok(changed == of_texts(alloc, &[])?)
+}
+
 #[test]
 fn of_fields_are_changed_alone(rt: HostRuntime) -> Result<(), Fail> {
     let alloc = rt.alloc();
-    let list = Field::new_list(
-        alloc,
-        "g",
-        column(alloc, &[("k", "v")], DataType::Utf8)?,
-        true,
-    )?;
-    let value = Box::new(alloc, column(alloc, &[("k", "v")], DataType::Utf8)?)?;
-    assert!(rt; list == column(alloc, &[], DataType::List(value))?);
-    let plain = column(alloc, &[("k", "w"), ("l", "w")], DataType::Utf8)?;
-    let mut changed = plain.with_metadata(texts(alloc, &[("k", "v")])?);
-    assert!(rt; changed == column(alloc, &[("k", "v")], DataType::Utf8)?);
-    changed.set_metadata(BTreeMap::new(alloc));
-    assert!(rt; changed == column(alloc, &[], DataType::Utf8)?);
+    let are_right = [
+        is_list_of_field(alloc)?,
+        is_with_metadata(alloc)?,
+        is_without_metadata(alloc)?,
+    ];
+    assert!(rt; are_right == [true; 3], "{are_right:?}");
     Ok(())
 }
 
