@@ -14,7 +14,7 @@ use crate::type_id::GeometryTypeId;
 use arrow_values::Field;
 use geoarrow_layout::{Kind, layout_reads_back, one_kind};
 use geoarrow_meta::Metadata;
-use geoarrow_meta::laws::{equality_test_is_exact, printed_reads_back, text_stands_for_one};
+use geoarrow_meta::laws::{equality_test_is_exact, printed_reads_back};
 
 /// A law: a field reads as one kind and one metadata alone. There is nothing to run.
 pub fn reads_as_one_column(field: &Field)
@@ -22,7 +22,6 @@ pub fn reads_as_one_column(field: &Field)
         → (j ≡ k) × (m ≡ n) }
 {
     one_kind();
-    text_stands_for_one(field.extension_type_metadata());
 }
 
 /// A law: the field that is written for a kind and a metadata reads as that kind and the normal form of the metadata,

@@ -14,7 +14,7 @@ use crate::infer::infer_kind;
 use crate::serialized::{Encoding, SerializedType};
 use crate::types::GeoArrowType;
 use arrow_values::Field;
-use geoarrow_meta::laws::{equality_test_is_exact, text_stands_for_one};
+use geoarrow_meta::laws::equality_test_is_exact;
 use geoarrow_native::laws::reads_as_one_column;
 
 /// A law: a field is read as one type alone. There is nothing to run.
@@ -28,7 +28,6 @@ pub fn reads_as_one(field: &Field)
 pub fn infers_as_one(field: &Field)
     ensures { (g h : GeoArrowType) → Infers field.now g → Infers field.now h → SameType g h }
 {
-    text_stands_for_one(field.extension_type_metadata());
     infer_kind(field.data_type());
 }
 
