@@ -1,5 +1,6 @@
 //! Compares rows of files with what the libraries answer. The data has a folder a layer, and each layer is a module of that
-//! name, with the commands of the layer, which are named for the calls.
+//! name, with the commands of the layer, which are named for the calls: `lines` and `schema` here, and `layouts` and `metadata` in
+//! `lower_rows`.
 //!
 //! A file of rows holds a call and its answer in two lines: a command, a space and a text, and then the answer, whole.
 //!

@@ -116,7 +116,7 @@ fn are_normally_equal(alloc: Global, one: &str, other: &str) -> Result<bool, All
     Ok(one == normal(alloc, other)?)
 }
 
-/// A type that is cloned and compared.
+/// A type that is cloned and compared: neither it nor `Compared` is of this crate, so it stands in a type that is.
 #[derive(Drop)]
 pub struct Spelled(GeoArrowType);
 
