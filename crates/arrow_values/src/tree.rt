@@ -22,8 +22,9 @@ pub use union_fields::UnionIter;
 /// How the members of a union are stored. Readers ignore it.
 ///
 /// ```rust
+/// let members = UnionFields::try_new(alloc, Vec::new(alloc), Vec::new(alloc))?;
 /// let union = DataType::Union(members, UnionMode::Dense);
-/// assert!(rt; matches!(&union, DataType::Union(members, _) if members.len() == 2));
+/// assert!(rt; matches!(union, DataType::Union(_, UnionMode::Dense)));
 /// ```
 #[derive(Clone, Copy, Debug, PartialEq, Eq)]
 pub enum UnionMode {

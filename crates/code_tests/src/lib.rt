@@ -1,12 +1,8 @@
-//! Tests in code of `geoarrow_columns`, `geoarrow_fields` and `uses`: the examples of their doc comments, line for line as they stand
-//! there, the callers of `uses`, and what no row of `rows` can show: readers and writers that are slow or fail.
+//! Tests in code of `geoarrow_columns`, `geoarrow_fields` and `uses`: the callers of `uses`, and what no row of `rows` can show:
+//! readers and writers that are slow or fail.
 #![tactic(auto)]
 
 #[cfg(test)]
 mod callers;
 #[cfg(test)]
-mod columns;
-#[cfg(test)]
 mod reading;
-#[cfg(test)]
-mod words;

@@ -13,8 +13,8 @@ use std::alloc::{AllocError, Global};
 /// What a column holds (docs/FORMAT.md, 1.7).
 ///
 /// ```rust
-/// let columns = check_columns(alloc, &[id, geometry])?;
-/// assert!(rt; matches!(columns.as_slice(), [Column::Other, Column::Geometry(_)]));
+/// let id = Field::new(alloc, "id", DataType::Int64, false)?;
+/// assert!(rt; check_column(alloc, &id)? == Column::Other);
 /// ```
 #[derive(Debug, PartialEq, Eq, Drop)]
 pub enum Column {

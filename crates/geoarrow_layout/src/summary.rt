@@ -65,6 +65,7 @@ pub enum Bottom {
 /// geometries and boxes use only the summary.
 ///
 /// ```rust
+/// let (separated, xy) = (CoordType::Separated, Dimension::XY);
 /// let rings = list_data_type(alloc, NativeKind::Polygon, separated, xy)?;
 /// let found = summarize(&rings);
 /// assert!(rt; found.levels == 2 && found.width == Some(ListWidth::List));

@@ -3,3 +3,4 @@ pub mod Order
 pub mod ReadBack
 pub mod Slots
 pub mod Stands
+mod PlainTexts

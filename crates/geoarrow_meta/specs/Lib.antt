@@ -8,3 +8,4 @@ pub mod Transform
 pub mod Whole
 pub mod Prints
 pub mod Laws
+pub mod PlainTokens

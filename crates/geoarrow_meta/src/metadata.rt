@@ -14,6 +14,8 @@ ghost use Rattle.geoarrow_meta.specs.Written.{meta_value, printed, normal, is_ba
 ghost use Rattle.geoarrow_meta.specs.Read.{empty, StandsFor, TextStandsFor, RefusedAs, TextRefusedAs};
 ghost use Rattle.geoarrow_meta.specs.Slots.{AreSlotsOf};
 
+mod plain;
+mod plain_members;
 mod print;
 mod read;
 mod tokens;
@@ -192,7 +194,6 @@ impl Metadata {
     /// assert_eq!(rt; metadata.edges(), Some(Edges::Spherical));
     /// assert_eq!(rt; metadata.crs().crs_type(), None);
     /// ```
-    #[inline(never)]
     pub fn deserialize(alloc: Global, metadata: Option<&str>) -> Result<Metadata, ArrowError>
         ensures exact { MatchResult result (TextStandsFor (text_of metadata.entry))
             (λ e. IsMemory e
@@ -203,9 +204,7 @@ impl Metadata {
         let Some(text) = metadata else {
             return Ok(Metadata::default());
         };
-        // The call is not inlined, so that a caller has no room for a scratch on its stack if there is no text.
-        let mut scratch = Scratch::new(alloc);
-        Metadata::of_text(alloc, text, &mut scratch)
+        Metadata::of_text(alloc, text, None)
     }
 
     /// The same as `deserialize`, in a scratch that the caller keeps: many texts that are read with one scratch cost less
@@ -222,13 +221,17 @@ impl Metadata {
         ensures no_memory { text_of metadata.entry ≡ None → IsOk result }
     {
         match metadata {
-            Some(text) => Metadata::of_text(alloc, text, scratch),
+            Some(text) => Metadata::of_text(alloc, text, Some(scratch)),
             None => Ok(Metadata::default()),
         }
     }
 
     // The metadata that a text stands for.
-    fn of_text(alloc: Global, text: &str, scratch: &mut Scratch) -> Result<Metadata, ArrowError>
+    fn of_text(
+        alloc: Global,
+        text: &str,
+        scratch: Option<&mut Scratch>,
+    ) -> Result<Metadata, ArrowError>
         ensures exact { MatchResult result (TextStandsFor (Some text.now))
             (λ e. IsMemory e
             ⊎ ((m : Metadata) → TextStandsFor (Some text.now) m → ⊥)) }

@@ -15,3 +15,20 @@ pub fn column_kind(alloc: Global, field: &Field) -> GeoArrowResult<Kind>
 {
     Ok(GeoArrowType::try_from_field(alloc, field)?.kind())
 }
+
+#[cfg(test)]
+mod tests {
+    use super::column_kind;
+    use geoarrow_schema::{BoxType, Dimension, Kind, Metadata};
+    use std::sync::Arc;
+    use std::test::Fail;
+
+    #[test]
+    fn of_boxes(rt: HostRuntime) -> Result<(), Fail> {
+        let alloc = rt.alloc();
+        let boxes = BoxType::new(Dimension::XYZ, Arc::new(alloc, Metadata::default())?);
+        let column = boxes.to_field(alloc, "bounds", true)?;
+        assert!(rt; column_kind(alloc, &column)? == Kind::Rect(Dimension::XYZ));
+        Ok(())
+    }
+}

@@ -1,6 +1,6 @@
 //! What stands at the three keys of a metadata's JSON object.
 ghost use Rattle.std.specs.Prelude.{◌≡◌, Option, IfOk, option_map};
-ghost use Rattle.serde_json.specs.Data.{Data};
+ghost use Rattle.serde_json.specs.Data.{Data, string};
 ghost use Rattle.serde_json.specs.View.{view};
 ghost use Rattle.geoarrow_meta.specs.Read.{crs_type_data, edges_data, at_key};
 ghost use Rattle.geoarrow_meta.specs.Slots.{IsWord, IsNamed, AreSlotsOf};
@@ -25,6 +25,18 @@ pub(crate) enum Word<'a> {
     Absent,
     Text(&'a str),
     Other,
+}
+
+impl<'a> Word<'a> {
+    // The word that is that text, or absent.
+    pub(crate) fn of(text: Option<&'a str>) -> Word<'a>
+        ensures { IsWord result (option_map (λ t. string t.now) text.entry) }
+    {
+        match text {
+            Some(text) => Word::Text(text),
+            None => Word::Absent,
+        }
+    }
 }
 
 // What stands at the three keys of a value. Errs only when out of memory.

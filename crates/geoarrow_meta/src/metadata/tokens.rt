@@ -7,18 +7,45 @@ ghost use Rattle.value_tokens.specs.Next.{next_value, next_members, Reads};
 ghost use Rattle.geoarrow_meta.specs.Read.{present};
 ghost use Rattle.geoarrow_meta.specs.Slots.{IsWord, AreSlotsOf, Finds};
 
+use crate::metadata::plain::plain_slots;
 use crate::metadata::read::{Slots, Word, crs_type_of, edges_of};
 use json::{Reader, Scratch, Token};
 use serde_json::Value;
 use std::alloc::Global;
 use value_tokens::{MAX_DEPTH, Refusal, open_object, read_value, skip_rest, skip_value};
 
-// What stands at the three keys of the object that the text is, and none where it is none.
+// What stands at the three keys of the object that the text is, and none where it is none. A text that is no object of plain
+// texts is read in the scratch, or in one of its own where there is none.
 pub(crate) fn read_slots(
     alloc: Global,
     text: &str,
-    scratch: &mut Scratch,
+    scratch: Option<&mut Scratch>,
 ) -> Result<Option<Slots>, Refusal>
+    ensures ok { IfOk result (λ o. (d : Data) × (read text.now ≡ Some d) × Finds o d) }
+    ensures text { result ≡ Err Refusal.Text → read text.now ≡ None }
+{
+    if let Some(slots) = plain_slots(alloc, text)? {
+        return Ok(Some(slots));
+    }
+    match scratch {
+        Some(scratch) => read_tokens(alloc, text, scratch),
+        None => read_tokens_anew(alloc, text),
+    }
+}
+
+// The same by the tokens of the text, in a scratch of its own. It is not inlined, so that only a call that needs the scratch has
+// room for it on its stack.
+#[inline(never)]
+fn read_tokens_anew(alloc: Global, text: &str) -> Result<Option<Slots>, Refusal>
+    ensures ok { IfOk result (λ o. (d : Data) × (read text.now ≡ Some d) × Finds o d) }
+    ensures text { result ≡ Err Refusal.Text → read text.now ≡ None }
+{
+    let mut scratch = Scratch::new(alloc);
+    read_tokens(alloc, text, &mut scratch)
+}
+
+// The same by the tokens of the text.
+fn read_tokens(alloc: Global, text: &str, scratch: &mut Scratch) -> Result<Option<Slots>, Refusal>
     ensures ok { IfOk result (λ o. (d : Data) × (read text.now ≡ Some d) × Finds o d) }
     ensures text { result ≡ Err Refusal.Text → read text.now ≡ None }
 {

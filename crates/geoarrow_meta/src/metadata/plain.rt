@@ -1,0 +1,65 @@
+//! What stands at the three keys of a text that is an object of plain texts, as most metadata texts are: read from its bytes,
+//! without a scratch.
+ghost use Rattle.std.specs.Prelude.{◌≡◌, Some, IfOk, IfSome, option_map};
+ghost use Rattle.serde_json.specs.Data.{Data, Members, object, string};
+ghost use Rattle.serde_json.specs.Read.{read};
+ghost use Rattle.geoarrow_meta.specs.Slots.{AreSlotsOf, Finds};
+
+use crate::crs::CrsType;
+use crate::edges::Edges;
+use crate::metadata::plain_members::{NotPlain, PlainMembers};
+use crate::metadata::read::{Slots, Word, crs_type_of, edges_of};
+use serde_json::Value;
+use std::alloc::{AllocError, Global};
+
+// What stands at the three keys, as in `Slots`, with the text of a CRS where it is in the metadata text.
+#[derive(Clone, Copy, Drop)]
+struct PlainSlots<'a> {
+    crs: Option<&'a str>,
+    crs_type: Option<Option<CrsType>>,
+    edges: Option<Option<Edges>>,
+}
+
+// What stands at the three keys of the object of plain texts that the text is; none of another text. Takes memory only for
+// a CRS.
+#[inline]
+pub(crate) fn plain_slots(alloc: Global, text: &str) -> Result<Option<Slots>, AllocError>
+    ensures { IfOk result (λ o. IfSome o (λ s. (d : Data) × (read text.now ≡ Some d) × Finds (Some s) d)) }
+{
+    let Ok(found) = take_members(text) else {
+        return Ok(None);
+    };
+    let crs = match found.crs {
+        Some(text) => Some(Value::String(String::from_str(alloc, text)?)),
+        None => None,
+    };
+    Ok(Some(Slots {
+        crs,
+        crs_type: found.crs_type,
+        edges: found.edges,
+    }))
+}
+
+// The same, before memory is taken.
+fn take_members<'a>(text: &'a str) -> Result<PlainSlots<'a>, NotPlain>
+    ensures { IfOk result (λ s. (ms : Members) × (read text.entry.now ≡ Some (object ms))
+        × AreSlotsOf (object ms) (option_map (λ t. string t.now) s.crs) s.crs_type s.edges) }
+{
+    let mut members = PlainMembers::new(text)?;
+    let mut crs = None;
+    let mut crs_type = Some(None);
+    let mut edges = Some(None);
+    'slots: while let Some((key, word)) = members.next()? {
+        match key {
+            "crs" => crs = word,
+            "crs_type" => crs_type = crs_type_of(Word::of(word)),
+            "edges" => edges = edges_of(Word::of(word)),
+            _ => {}
+        }
+    }
+    Ok(PlainSlots {
+        crs,
+        crs_type,
+        edges,
+    })
+}

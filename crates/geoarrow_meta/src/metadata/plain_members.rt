@@ -1,0 +1,230 @@
+//! Objects of plain texts, read without a scratch and without memory.
+//!
+//! A text is plain if its JSON has no escape. [`PlainMembers`] reads an object whose values are plain texts and nulls, with any
+//! spaces and keys, straight from its bytes. So it costs less than a `json::Reader`, which first finds where the tokens of a
+//! text begin. Of any other text it says nothing but that it is another: it may be JSON, or none.
+ghost use Rattle.std.specs.Prelude.{◌≡◌, ◌≢◌, ◌≤◌, ◌+◌, [], ◌∷◌, length, drop, slice_index, true, false, ◌||◌, IfOk, MatchOption, option_map};
+ghost use Rattle.std.specs.List.{prefix_len};
+ghost use Rattle.json.specs.Lex.{Place, tokens, token, colon, begins_colon, may_begin, punctuate};
+ghost use Rattle.json.specs.Token as spec;
+ghost use Rattle.json.specs.Word as word;
+ghost use Rattle.json.specs.Run as run;
+ghost use Rattle.geoarrow_meta.specs.PlainTokens.{lexemes_at, tokens_left, Passes, word_token};
+
+use std::marker::Model;
+
+/// The text is no object of plain texts and nulls.
+#[derive(Debug, Clone, Copy, PartialEq, Eq)]
+pub(crate) struct NotPlain;
+
+/// The members that are left of an object of plain texts. A contract sees the tokens that are left of its text.
+#[derive(Drop)]
+pub(crate) struct PlainMembers<'a> {
+    text: &'a str,
+    // Behind the brace that opens the object, or before what follows the last member that was read.
+    at: usize,
+    after_member: bool,
+}
+
+impl<'a> Model for PlainMembers<'a> {
+    ghost use Rattle.std.specs.Prelude.{List};
+    ghost use Rattle.json.specs.Token.{Token, tokens_code};
+
+    ghost Value = { List Token };
+
+    ghost coded = { tokens_code };
+
+    ghost use Rattle.geoarrow_meta.specs.PlainTokens.{tokens_left, ArePlainMembers};
+
+    ghost view = { λ a. tokens_left a.after_member a.text.now a.at };
+
+    ghost invariant = { λ a. ArePlainMembers a };
+}
+
+impl<'a> PlainMembers<'a> {
+    /// The members of the object that the text is.
+    #[inline]
+    pub(crate) fn new(text: &'a str) -> Result<PlainMembers<'a>, NotPlain>
+        ensures { IfOk result (λ members. tokens text.now ≡ spec.begin_object ∷ members) }
+    {
+        let at = after_spaces(text, 0);
+        if byte_at(text, at) != b'{' {
+            return Err(NotPlain);
+        }
+        Ok(PlainMembers {
+            text,
+            at: at + 1,
+            after_member: false,
+        })
+    }
+
+    /// The next member: its key, and its text, which is `None` if it is null. Returns `None` at the end of the object, if
+    /// that is the end of the text.
+    #[inline]
+    pub(crate) fn next(&mut self) -> Result<Option<(&'a str, Option<&'a str>)>, NotPlain>
+        ensures { IfOk result (λ o. MatchOption o (self.old ≡ spec.end_object ∷ [])
+            (λ m. self.old ≡ spec.key m.0.now ∷ word_token (option_map (λ s. s.now) m.1) ∷ self.new)) }
+    {
+        let text = self.text;
+        let at = after_spaces(text, self.at);
+        if byte_at(text, at) == b'}' {
+            nothing_follows(text, at + 1)?;
+            return Ok(None);
+        }
+        let at = key_place(text, at, self.after_member)?;
+        let (key, at) = plain_key(text, at)?;
+        let (word, at) = plain_word(text, at)?;
+        self.at = at;
+        self.after_member = true;
+        Ok(Some((key, word)))
+    }
+}
+
+// Errs if anything but spaces is left from there on.
+fn nothing_follows(text: &str, at: usize) -> Result<(), NotPlain>
+    requires { at ≤ length text.now }
+    ensures { IfOk result (λ o. lexemes_at text.now at ≡ []) }
+{
+    if after_spaces(text, at) < text.len() {
+        return Err(NotPlain);
+    }
+    Ok(())
+}
+
+// Where the next key should be: behind the comma that follows a member.
+#[inline(always)]
+fn key_place(text: &str, at: usize, after_member: bool) -> Result<usize, NotPlain>
+    requires { at ≤ length text.now }
+    ensures place { IfOk result (λ next. (p : Place) × (may_begin p ≡ true) × (tokens_left after_member text.now at ≡ punctuate p (lexemes_at text.now next))) }
+    ensures within { IfOk result (λ next. next ≤ length text.now) }
+{
+    if !after_member {
+        return Ok(at);
+    }
+    if byte_at(text, at) != b',' {
+        return Err(NotPlain);
+    }
+    Ok(after_spaces(text, at + 1))
+}
+
+// The key there, and the place after its colon.
+#[inline(always)]
+fn plain_key<'a>(text: &'a str, at: usize) -> Result<(&'a str, usize), NotPlain>
+    requires { at ≤ length text.now }
+    ensures { IfOk result (λ p. Passes text.entry.now at (token (spec.string p.0.now) ∷ colon ∷ []) p.1) }
+{
+    let (key, at) = plain_text(text, at)?;
+    let at = after_spaces(text, at);
+    if byte_at(text, at) != b':' {
+        return Err(NotPlain);
+    }
+    Ok((key, at + 1))
+}
+
+// The plain text or null that comes next, and the place of the comma or the closing brace after it.
+#[inline(always)]
+fn plain_word<'a>(text: &'a str, at: usize) -> Result<(Option<&'a str>, usize), NotPlain>
+    requires { at ≤ length text.now }
+    ensures word { IfOk result (λ p. Passes text.entry.now at (token (word_token (option_map (λ s. s.now) p.0)) ∷ []) p.1) }
+    ensures no_key { IfOk result (λ p. begins_colon (lexemes_at text.entry.now p.1) ≡ false) }
+{
+    let (word, at) = text_or_null(text, after_spaces(text, at))?;
+    let at = after_spaces(text, at);
+    match byte_at(text, at) {
+        b',' | b'}' => Ok((word, at)),
+        _ => Err(NotPlain),
+    }
+}
+
+// The plain text or null there, and the place after it.
+#[inline(always)]
+fn text_or_null<'a>(text: &'a str, at: usize) -> Result<(Option<&'a str>, usize), NotPlain>
+    requires { at ≤ length text.now }
+    ensures { IfOk result (λ p. Passes text.entry.now at (token (word_token (option_map (λ s. s.now) p.0)) ∷ []) p.1) }
+{
+    if byte_at(text, at) == b'n' {
+        return Ok((None, null_end(text, at)?));
+    }
+    let (word, at) = plain_text(text, at)?;
+    Ok((Some(word), at))
+}
+
+// The plain text there, between its quotes, and the place after it.
+fn plain_text<'a>(text: &'a str, at: usize) -> Result<(&'a str, usize), NotPlain>
+    requires { at ≤ length text.now }
+    ensures { IfOk result (λ p. Passes text.entry.now at (token (spec.string p.0.now) ∷ []) p.1) }
+{
+    if byte_at(text, at) != b'"' {
+        return Err(NotPlain);
+    }
+    let stop = plain_end(text, at + 1);
+    if byte_at(text, stop) != b'"' {
+        return Err(NotPlain);
+    }
+    Ok((&text[at + 1..stop], stop + 1))
+}
+
+// The place after the null there.
+fn null_end(text: &str, at: usize) -> Result<usize, NotPlain>
+    requires { at ≤ length text.now }
+    ensures { IfOk result (λ end. Passes text.now at (token spec.null ∷ []) end) }
+{
+    if !text.as_bytes()[at..].starts_with(b"null") || !ends_word(byte_at(text, at + 4)) {
+        return Err(NotPlain);
+    }
+    Ok(at + 4)
+}
+
+// The first place from there on where a quote, a backslash or a control character is; or the end.
+#[inline(always)]
+fn plain_end(text: &str, from: usize) -> usize
+    requires { from ≤ length text.now }
+    ensures first { result ≡ from + prefix_len run.is_plain (drop from text.now) }
+    ensures within { result ≤ length text.now }
+{
+    let bytes = text.as_bytes();
+    let mut at = from;
+    while at < bytes.len() && bytes[at] != b'"' && bytes[at] != b'\\' && bytes[at] >= 0x20 {
+        at += 1;
+    }
+    at
+}
+
+// The first place from there on where no space is.
+#[inline(always)]
+fn after_spaces(text: &str, from: usize) -> usize
+    requires { from ≤ length text.now }
+    ensures same { lexemes_at text.now result ≡ lexemes_at text.now from }
+    ensures within { result ≤ length text.now }
+{
+    let bytes = text.as_bytes();
+    let mut at = from;
+    while at < bytes.len() && is_space(bytes[at]) {
+        at += 1;
+    }
+    at
+}
+
+#[inline(always)]
+fn is_space(byte: u8) -> bool
+    ensures { result ≡ word.is_space byte }
+{
+    (byte == b' ') | (byte == b'\t') | (byte == b'\n') | (byte == b'\r')
+}
+
+// A comma, a brace that closes or a space ends the word before it.
+#[inline(always)]
+fn ends_word(byte: u8) -> bool
+    ensures { result ≡ true → (byte ≢ 0) × ((word.is_operator byte || word.is_space byte) ≡ true) }
+{
+    (byte == b',') | (byte == b'}') | is_space(byte)
+}
+
+// The byte there, or 0 past the end.
+#[inline(always)]
+fn byte_at(text: &str, at: usize) -> u8
+    ensures { result ≡ slice_index text.now at }
+{
+    let bytes = text.as_bytes();
+    if at < bytes.len() { bytes[at] } else { 0 }
+}
