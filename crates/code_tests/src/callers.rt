@@ -1,12 +1,15 @@
 //! The callers of `uses`, each once where it answers.
 use arrow_values::{DataType, Field, UnionFields};
-use geoarrow_schema::{Crs, Dimension, GeoArrowType, GeometryType, Metadata, PointType};
+use geoarrow_schema::{
+    BoxType, Crs, Dimension, GeoArrowType, GeometryType, Kind, Metadata, PointType,
+};
 use serde_json::Value;
 use std::alloc::{AllocError, Global};
 use std::sync::Arc;
 use std::test::Fail;
 use uses::{
-    are_written_alike, join_unions, keep_wanted, projjson_text, survey_columns, write_column,
+    are_written_alike, column_kind, join_unions, keep_wanted, projjson_text, survey_columns,
+    write_column,
 };
 
 /// A CRS in PROJJSON.
@@ -54,6 +57,15 @@ fn are_alike(alloc: Global, one: &str, other: &str) -> Result<bool, Fail> {
 /// A column that is called points and holds texts.
 fn faulty(alloc: Global) -> Result<Field, Fail> {
     Ok(points(alloc, PROJJSON)?.with_data_type(DataType::Utf8))
+}
+
+#[test]
+fn of_a_kind(rt: HostRuntime) -> Result<(), Fail> {
+    let alloc = rt.alloc();
+    let boxes = BoxType::new(Dimension::XYZ, Arc::new(alloc, Metadata::default())?);
+    let column = boxes.to_field(alloc, "bounds", true)?;
+    assert!(rt; column_kind(alloc, &column)? == Kind::Rect(Dimension::XYZ));
+    Ok(())
 }
 
 #[test]

@@ -1,8 +1,12 @@
-//! Tests in code of `geoarrow_columns`, `geoarrow_fields` and `uses`: the callers of `uses`, and what no row of `rows` can show:
-//! readers and writers that are slow or fail.
+//! Tests in code: the callers of `uses` and its extension type, and what no row of `rows` can show: what a value hands out, and readers
+//! and writers that are slow or fail. `bin/code_tests` runs them, with the examples of the docs beside them.
 #![tactic(auto)]
 
 #[cfg(test)]
 mod callers;
+#[cfg(test)]
+mod extension;
+#[cfg(test)]
+mod parts;
 #[cfg(test)]
 mod reading;

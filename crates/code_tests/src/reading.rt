@@ -48,16 +48,15 @@ impl Read for OneByte<'_> {
     }
 }
 
-/// Gives one byte again and again: `left` times, as many as fit at each call.
+/// Gives an `a` again and again: `left` times, as many as fit at each call.
 #[derive(Drop)]
 struct Repeated {
-    byte: u8,
     left: usize,
 }
 
 impl Read for Repeated {
     fn read(&mut self, buf: &mut [u8]) -> io::Result<usize> {
-        buf.fill(self.byte);
+        buf.fill(b'a');
         let n = buf.len().min(self.left);
         self.left -= n;
         Ok(n)
@@ -241,32 +240,21 @@ fn writer_fails_at_the_end(rt: HostRuntime) -> Result<(), Fail> {
     Ok(())
 }
 
-/// A byte, how often it is read, how many lines are answered, the last line, and the end.
-const LIMITS: &[(u8, usize, usize, &[u8], RunEnd)] = &[
-    (b'a', 1_048_576, 1, b"", RunEnd::Done),
-    (b'a', 1_048_577, 0, b"error input\n", RunEnd::InputFault),
-    (b'a', usize::MAX, 0, b"error input\n", RunEnd::InputFault),
-    (b'\n', 1_000_000, 1_000_000, b"", RunEnd::Done),
-    (
-        b'\n',
-        usize::MAX,
-        1_000_000,
-        b"error input\n",
-        RunEnd::InputFault,
-    ),
+/// How many bytes there are, none of which ends the line, how many lines are answered, the last line, and the end.
+const LIMITS: &[(usize, usize, &[u8], RunEnd)] = &[
+    (1_048_576, 1, b"", RunEnd::Done),
+    (1_048_577, 0, b"error input\n", RunEnd::InputFault),
+    (usize::MAX, 0, b"error input\n", RunEnd::InputFault),
 ];
 
-/// As many bytes as a line may have, as many lines as an input may have, and more of each, also without an end.
+/// As many bytes as a line may have, one more, and a line without an end. As many lines as an input may have are tested by runs/.
 #[test]
 fn ends_past_the_limits(rt: HostRuntime) -> Result<(), Fail> {
-    for &(byte, left, answered, last, end) in LIMITS.iter() {
-        let mut reader = Repeated { byte, left };
+    for &(left, answered, last, end) in LIMITS.iter() {
+        let mut reader = Repeated { left };
         let out = output(&rt, Command::Read, &mut reader, end);
         let want = refused(rt.alloc(), answered, last)?;
-        assert!(rt;
-            out.as_slice() == want.as_slice(),
-            "the byte {byte}, {left} times"
-        );
+        assert!(rt; out.as_slice() == want.as_slice(), "{left} bytes");
     }
     Ok(())
 }

@@ -3,11 +3,11 @@
 //! runs of `runs`.
 mod runs;
 
+use crate::words::{geoarrow_refusal, no_command, text};
 use arrow_values::Field;
 use field_lines::{field_line, parse_line};
 use geoarrow_fields::{Command, answer_line};
 use geoarrow_schema::GeoArrowType;
-use lower_rows::words::{geoarrow_refusal, no_command, text};
 use std::alloc::{AllocError, Global};
 
 /// Says the answer to a line under a command.

@@ -1,8 +1,7 @@
-//! Compares rows of files with what the libraries answer. The data has a folder a layer, and each layer is a module of that
-//! name, with the commands of the layer, which are named for the calls: `lines` and `schema` here, and `layouts` and `metadata` in
-//! `lower_rows`.
+//! Answers rows, for `bin/rows`, which compares them. The data has a folder a layer, and each layer is a module of that name, with
+//! the commands of the layer, which are named for the calls.
 //!
-//! A file of rows holds a call and its answer in two lines: a command, a space and a text, and then the answer, whole.
+//! A row is a question and its answer, in two lines: a command, a space and a text; and then the answer, whole.
 //!
 //! ```text
 //! # What the rows of this file show.
@@ -11,43 +10,61 @@
 //! separated XY
 //! ```
 //!
-//! Lines that begin with `#` and blank lines are passed over between rows, and a line that begins with `=` names the rows
-//! that follow. The answer is the line after the command's, whatever it begins with. A line that begins with no known
-//! command where a row is due counts as a wrong row, and so does a row without an answer. After `unaided ` stands a command
-//! whose call takes no memory, which is made while every request for memory is refused. A row that begins with `* ` is one of those
-//! that `bin/refuse` tries with each request for memory refused, that one alone.
-//!
-//! Standard input names the files, one a line; or it holds a number of requests and a layer, and in a second line a row
-//! (module `refused`).
+//! Standard input holds a line of three words and then questions, one a line. The words are a number of requests for memory, which
+//! are made for nothing first; `ample`, `before` or `refused`, for what the call of a question may ask for (`memory`); and a layer. The
+//! answers are printed one a line. Before each stands where the request fell that `bin/rows` has refused: `before 12`, after so many
+//! of those for nothing; `within`, while the question was answered; or `after 7`, after so many that follow the answer.
 //!
 //! A command says its answer at the end of a text that it is passed. So there is no text to drop where it fails, and less to
 //! prove.
 #![tactic(auto)]
 
-mod files;
+mod compared;
+mod layouts;
 mod lines;
-mod refused;
+mod memory;
+mod metadata;
+mod notation;
 mod schema;
+mod words;
 
-use lower_rows::famine::Memory;
-use lower_rows::{layouts, metadata, words};
+use memory::{Memory, REQUESTS, refused_after};
 use std::alloc::{AllocError, Global};
 use std::io;
 use std::io::Read;
-use std::process::ExitCode;
 
-/// Says the answer to a row's question, which is a command, a space and a text. Errs when out of memory, and where the text does
+/// What is asked.
+#[derive(Clone, Copy)]
+struct Asked<'a> {
+    requests: usize,
+    memory: Memory,
+    layer: &'a str,
+    questions: &'a [u8],
+}
+
+/// What an input asks; none where it is no such input.
+fn read_input(input: &[u8]) -> Option<Asked<'_>> {
+    let mut parts = input.splitn(2, |byte| *byte == b'\n');
+    let words = str::from_utf8(parts.next()?).ok()?;
+    let (requests, words) = words.split_once(' ')?;
+    let (memory, layer) = words.split_once(' ')?;
+    let questions = parts.next()?;
+    Some(Asked {
+        requests: requests.parse().ok()?,
+        memory: Memory::of_name(memory)?,
+        layer,
+        questions: questions.strip_suffix(b"\n").unwrap_or(questions),
+    })
+}
+
+/// Says the answer to a question, which is a command, a space and a text. Errs when out of memory, and where the text does
 /// not spell what the command is asked about.
 fn answer(
     alloc: Global,
     said: &mut String,
-    layer: &str,
+    (memory, layer): (Memory, &str),
     question: &[u8],
 ) -> Result<(), AllocError> {
-    let (memory, question) = match question.strip_prefix(b"unaided ") {
-        Some(rest) => (Memory::Refused, rest),
-        None => (Memory::Ample, question),
-    };
     let mut parts = question.splitn(2, |byte| *byte == b' ');
     let Some(Ok(command)) = parts.next().map(str::from_utf8) else {
         return words::no_command(said);
@@ -67,11 +84,44 @@ fn answer(
     }
 }
 
-fn main(rt: HostRuntime) -> io::Result<ExitCode> {
-    let mut text = String::new(rt.alloc());
-    rt.stdin().read_to_string(&mut text)?;
-    match refused::asked(text.as_str()) {
-        Some(row) => refused::try_row(&rt, row),
-        None => files::compare_files(&rt, text.as_str()),
+/// Prints an answer, and before it where the refused request fell.
+fn print(
+    rt: &HostRuntime,
+    before: Option<usize>,
+    after: Option<usize>,
+    words: &str,
+) -> io::Result<()> {
+    match (before, after) {
+        (Some(met), _) => println!(rt; "before {met} {words}"),
+        (None, Some(met)) => println!(rt; "after {met} {words}"),
+        (None, None) => println!(rt; "within {words}"),
+    }
+}
+
+/// Answers the questions.
+fn answer_all(rt: &HostRuntime, asked: Asked<'_>) -> io::Result<()> {
+    let alloc = rt.alloc();
+    let before = refused_after(alloc, asked.requests);
+    let mut said = String::new(alloc);
+    for question in asked.questions.split(|byte| *byte == b'\n') {
+        said.clear();
+        let found = answer(alloc, &mut said, (asked.memory, asked.layer), question);
+        let after = refused_after(alloc, REQUESTS);
+        let words = match (found, before) {
+            (Ok(()), _) => said.as_str(),
+            (Err(_), Some(_)) => "the text spells nothing",
+            (Err(_), None) => "out of memory",
+        };
+        print(rt, before, after, words)?;
+    }
+    Ok(())
+}
+
+fn main(rt: HostRuntime) -> io::Result<()> {
+    let mut input = Vec::new(rt.alloc());
+    rt.stdin().read_to_end(&mut input)?;
+    match read_input(input.as_slice()) {
+        Some(asked) => answer_all(&rt, asked),
+        None => Ok(()),
     }
 }

@@ -7,10 +7,10 @@ mod report;
 mod spelled;
 mod words;
 
+use crate::compared::distinct;
+use crate::memory::Memory;
+use crate::words::no_command;
 use each::{Call, Use, geometry_type_id, make, used};
-use lower_rows::compared::distinct;
-use lower_rows::famine::Memory;
-use lower_rows::words::no_command;
 use parts::{Spelled, changed, same_written};
 use std::alloc::{AllocError, Global};
 
@@ -31,7 +31,7 @@ pub fn answer(
         ("try_new", _) => make(alloc, said, memory, Call::TryNew, text),
         ("supports_data_type", _) => used(alloc, said, memory, Use::Supports, text),
         ("serialize_metadata", _) => used(alloc, said, memory, Use::Serializes, text),
-        (_, Memory::Refused) => changed(alloc, said, memory, command, text),
+        (_, Memory::Before | Memory::Refused) => changed(alloc, said, memory, command, text),
         (_, Memory::Ample) => answer_with_memory(alloc, said, command, text),
     }
 }

@@ -6,12 +6,16 @@ mod checker;
 mod comparison;
 mod crs_text;
 mod joiner;
+mod own_extension_type;
 mod planner;
+mod reader;
 mod writer;
 
 pub use checker::{Survey, survey_columns};
 pub use comparison::are_written_alike;
 pub use crs_text::projjson_text;
 pub use joiner::join_unions;
+pub use own_extension_type::Marked;
 pub use planner::keep_wanted;
+pub use reader::column_kind;
 pub use writer::write_column;

@@ -1,12 +1,12 @@
 //! Fields that are read, and types that are written.
+use crate::memory::Memory;
 use crate::schema::spelled::{field_of, first_word, halves, tree_of, type_of};
 use crate::schema::words::{error_words, type_words};
+use crate::words;
 use arrow_values::{ArrowError, DataType, Field};
 use field_lines::field_line;
 use geoarrow_schema::GeoArrowType;
 use geoarrow_schema::error::GeoArrowResult;
-use lower_rows::famine::Memory;
-use lower_rows::words;
 use std::alloc::{AllocError, Global};
 use std::mem::forget;
 
@@ -70,9 +70,9 @@ pub fn from_extension_field(
     text: &str,
 ) -> Result<(), AllocError> {
     let field = field_of(alloc, text)?;
-    let famine = memory.taken_away(alloc)?;
+    memory.before_call()?;
     let found = GeoArrowType::from_extension_field(alloc, &field);
-    drop(famine);
+    memory.after_call(alloc)?;
     read_as(alloc, said, found)
 }
 
@@ -84,9 +84,9 @@ pub fn canonical_field(
     text: &str,
 ) -> Result<(), AllocError> {
     let field = field_of(alloc, text)?;
-    let famine = memory.taken_away(alloc)?;
+    memory.before_call()?;
     let found = GeoArrowType::canonical_field(alloc, &field);
-    drop(famine);
+    memory.after_call(alloc)?;
     forget(field);
     say_canonical(alloc, said, found)
 }
@@ -206,9 +206,9 @@ pub fn data_type(
     let one = type_of(alloc, spelled)?;
     let tree = tree_of(alloc, tree)?;
     own_data_type(alloc, said, &one, &tree)?;
-    let famine = memory.taken_away(alloc)?;
+    memory.before_call()?;
     let built = built(alloc, one, &tree);
-    drop(famine);
+    memory.after_call(alloc)?;
     let (to, into) = built?;
     write!(said, " {to} {into}")
 }

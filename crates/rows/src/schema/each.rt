@@ -1,6 +1,8 @@
 //! The calls that each of the eleven types has by itself.
+use crate::memory::Memory;
 use crate::schema::spelled::{field_of, first_word, halves, tree_of, type_of};
 use crate::schema::words::{dimension_word, type_words};
+use crate::words;
 use arrow_values::{ArrowError, DataType, ExtensionType, Field};
 use field_lines::field_line;
 use geoarrow_schema::generic::{Encoding, NativeShape, NativeType, SerializedType, Wkb, Wkt};
@@ -9,8 +11,6 @@ use geoarrow_schema::{
     BoxType, GeoArrowType, GeometryCollectionType, GeometryType, LineStringType, Metadata,
     MultiLineStringType, MultiPointType, MultiPolygonType, PointType, PolygonType,
 };
-use lower_rows::famine::Memory;
-use lower_rows::words;
 use std::alloc::{AllocError, Global};
 use std::sync::Arc;
 
@@ -72,9 +72,9 @@ fn make_of<E: ExtensionType<Metadata = Arc<Metadata>> + Into<T>, T: Drop>(
     match call {
         Call::TryNew => {
             let metadata = E::deserialize_metadata(alloc, field.extension_type_metadata())?;
-            let famine = memory.taken_away(alloc)?;
+            memory.before_call()?;
             let made = made_as(E::try_new(alloc, field.data_type(), metadata));
-            drop(famine);
+            memory.after_call(alloc)?;
             made
         }
         Call::TryExtensionType => made_as(field.try_extension_type::<E>(alloc)),
@@ -112,7 +112,7 @@ fn of_bytes<E: Encoding>(
     field: &Field,
 ) -> Result<(), AllocError> {
     match make_of::<SerializedType<E>, SerializedType<E>>(alloc, memory, call, field) {
-        Ok(found) => serialized(alloc, said, memory, &found),
+        Ok(found) => serialized(alloc, said, Memory::Ample, &found),
         Err(error) => words::refusal(alloc, said, error),
     }
 }
@@ -124,9 +124,9 @@ fn serialized<E: ExtensionType>(
     memory: Memory,
     one: &E,
 ) -> Result<(), AllocError> {
-    let famine = memory.taken_away(alloc)?;
+    memory.before_call()?;
     let text = one.serialize_metadata(alloc);
-    drop(famine);
+    memory.after_call(alloc)?;
     match text {
         Ok(Some(text)) => said.push_str(text.as_str()),
         Ok(None) => said.push_str("-"),
@@ -227,9 +227,9 @@ fn supports<E: ExtensionType>(
     own: &E,
     data_type: &DataType,
 ) -> Result<(), AllocError> {
-    let famine = memory.taken_away(alloc)?;
+    memory.before_call()?;
     let found = own.supports_data_type(alloc, data_type);
-    drop(famine);
+    memory.after_call(alloc)?;
     match found {
         Ok(()) => said.push_str("supported"),
         Err(error) => words::refusal(alloc, said, error),
@@ -292,9 +292,9 @@ pub fn geometry_type_id(
     text: &str,
 ) -> Result<(), AllocError> {
     let one = type_of(alloc, text)?;
-    let famine = memory.taken_away(alloc)?;
+    memory.before_call()?;
     let found = type_id_of(&one);
-    drop(famine);
+    memory.after_call(alloc)?;
     let (id, offset, dimension) = found?;
     write!(said, "{id} {offset} {dimension}")
 }

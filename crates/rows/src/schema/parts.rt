@@ -1,12 +1,12 @@
 //! The parts of a type, and what stands in their place.
+use crate::compared::{Compared, hash_of};
+use crate::memory::Memory;
 use crate::schema::spelled::{
     coord_type_of, dimension_of, first_word, halves, metadata_of, type_of,
 };
 use crate::schema::words::type_words;
+use crate::words::truth;
 use geoarrow_schema::{CoordType, Dimension, GeoArrowType, Metadata};
-use lower_rows::compared::{Compared, hash_of};
-use lower_rows::famine::Memory;
-use lower_rows::words::truth;
 use std::alloc::{AllocError, Global};
 use std::sync::Arc;
 
@@ -71,9 +71,9 @@ pub fn changed(
 ) -> Result<(), AllocError> {
     let (change, spelled) = change_of(alloc, command, text)?;
     let one = type_of(alloc, spelled)?;
-    let famine = memory.taken_away(alloc)?;
+    memory.before_call()?;
     let found = after(alloc, change, one);
-    drop(famine);
+    memory.after_call(alloc)?;
     type_words(alloc, said, &found?)
 }
 
@@ -99,9 +99,9 @@ fn are_written_alike(
 ) -> Result<bool, AllocError> {
     let one = type_of(alloc, one)?;
     let other = type_of(alloc, other)?;
-    let famine = memory.taken_away(alloc)?;
+    memory.before_call()?;
     let found = one.same_written(&other);
-    drop(famine);
+    memory.after_call(alloc)?;
     Ok(found)
 }
 

@@ -1,11 +1,11 @@
 //! Reports over columns, and the metadata of a field.
 use crate::schema::spelled::field_of;
 use crate::schema::words::{metadata_words, type_words};
+use crate::words;
 use arrow_values::Field;
 use geoarrow_columns::{Column, check_columns};
 use geoarrow_schema::Metadata;
 use json::Scratch;
-use lower_rows::words;
 use std::alloc::{AllocError, Global};
 use std::mem::forget;
 

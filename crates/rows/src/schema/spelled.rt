@@ -1,8 +1,8 @@
 //! Fields and types that a text spells. What spells none is an error, so that a row of it is wrong.
+use crate::notation::{column, data_type, described, field, named};
 use crate::schema::words::{coord_type_word, dimension_word, kind_word};
 use arrow_values::{DataType, EXTENSION_TYPE_METADATA_KEY, Field};
 use geoarrow_schema::{CoordType, Dimension, GeoArrowType, Kind, Metadata};
-use lower_rows::notation::{column, data_type, described, field, named};
 use std::alloc::{AllocError, Global};
 use std::sync::Arc;
 

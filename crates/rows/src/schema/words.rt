@@ -1,9 +1,9 @@
 //! What the answers say, in words.
+use crate::words::refusal;
 use arrow_values::{ArrowError, GeoArrowError};
 use geoarrow_schema::{
     CoordType, CrsType, Dimension, GeoArrowType, Kind, Metadata, NativeKind, Width,
 };
-use lower_rows::words::refusal;
 use std::alloc::{AllocError, Global};
 
 /// Says a type: its kind, coordinate type, dimension and metadata. It says all that there is of it.

@@ -1,5 +1,5 @@
 //! What a CRS is converted to, by the transform that converts nothing and by one of these tests.
-use crate::famine::Memory;
+use crate::memory::Memory;
 use crate::metadata::texts::metadata_of;
 use crate::words;
 use arrow_values::{GeoArrowError, GeoArrowResult};
@@ -28,6 +28,7 @@ impl CrsTransform for OneText {
 }
 
 /// What a call of a transform answers.
+#[derive(Drop)]
 enum Conversion {
     Text(GeoArrowResult<Option<String>>),
     Value(GeoArrowResult<Option<Value>>),
@@ -66,8 +67,8 @@ pub fn converted<T: CrsTransform>(
     text: &str,
 ) -> Result<(), AllocError> {
     let metadata = metadata_of(alloc, text)?;
-    let famine = memory.taken_away(alloc)?;
+    memory.before_call()?;
     let found = convert(alloc, transform, call, metadata.crs());
-    drop(famine);
+    memory.after_call(alloc)?;
     say(alloc, said, found)
 }

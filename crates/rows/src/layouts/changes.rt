@@ -1,7 +1,7 @@
 //! Commands that leave out members of unions and join unions.
-use crate::famine::Memory;
 use crate::layouts::texts::{data_type, ids, members, parts};
 use crate::layouts::words::one;
+use crate::memory::Memory;
 use crate::words::name;
 use arrow_values::{AppendFault, DataType, Field, UnionFields, UnionMode};
 use geoarrow_layout::{alike, append_members, keep_members, parse_geometry};
@@ -65,13 +65,13 @@ pub fn kept(
     let whole = members(alloc, text)?;
     let mut union = whole.try_clone(alloc)?;
     let wanted = ids(alloc, wanted)?;
-    let famine = memory.taken_away(alloc)?;
+    memory.before_call()?;
     if command == "keep_members" {
         keep_members(&mut union, wanted.as_slice());
     } else {
         union.retain_ids(wanted.as_slice());
     }
-    drop(famine);
+    memory.after_call(alloc)?;
     say(said, union, &whole, &whole)
 }
 
@@ -101,13 +101,13 @@ fn join(
 ) -> Result<(), AllocError> {
     let mut union = first.try_clone(alloc)?;
     let other = second.try_clone(alloc)?;
-    let famine = memory.taken_away(alloc)?;
+    memory.before_call()?;
     let joined = if command == "append_members" {
         append_members(&mut union, other)
     } else {
         union.append(other)
     };
-    drop(famine);
+    memory.after_call(alloc)?;
     match joined {
         Ok(()) => say(said, union, first, second),
         Err((other, fault)) => refused(said, fault, union == *first && other == *second),

@@ -11,7 +11,7 @@ mod values;
 mod words;
 
 use crate::compared::distinct;
-use crate::famine::Memory;
+use crate::memory::Memory;
 use arrow_values::{DataType, Field, Fields, UnionFields};
 use std::alloc::{AllocError, Global};
 
@@ -29,7 +29,7 @@ pub fn answer(
         ("dimension", _) => tables::dimension_of(alloc, said, memory, text),
         ("UnionFields::try_new", _) => values::made(alloc, said, memory, text),
         ("into_arrow_error", _) => errors::into_arrow(alloc, said, memory, text),
-        (_, Memory::Refused) => read::read(alloc, said, memory, command, text),
+        (_, Memory::Before | Memory::Refused) => read::read(alloc, said, memory, command, text),
         (_, Memory::Ample) => tell_or_build(alloc, said, command, text),
     }
 }

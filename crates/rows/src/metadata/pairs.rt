@@ -1,6 +1,6 @@
 //! Metadata: compared.
 use crate::compared::{Compared, hash_of};
-use crate::famine::Memory;
+use crate::memory::Memory;
 use crate::metadata::texts::metadata_of;
 use crate::words::truth;
 use geoarrow_meta::Metadata;
@@ -29,8 +29,8 @@ pub fn same_written(
     let (one, other) = text.split_once(" | ").ok_or(AllocError)?;
     let one = metadata_of(alloc, one)?;
     let other = metadata_of(alloc, other)?;
-    let famine = memory.taken_away(alloc)?;
+    memory.before_call()?;
     let found = one.same_written(&other);
-    drop(famine);
+    memory.after_call(alloc)?;
     truth(said, found)
 }

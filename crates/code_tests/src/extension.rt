@@ -1,95 +1,13 @@
-//! An extension type of one's own, that stands on the calls of the metadata: how it is written on fields, and read from them.
+//! The extension type of one's own that `uses` has: how it is written on fields, and read from them.
 use arrow_values::{
     ArrowError, DataType, EXTENSION_TYPE_METADATA_KEY, EXTENSION_TYPE_NAME_KEY, ExtensionType,
     Field,
 };
-use geoarrow_meta::Metadata;
+use geoarrow_schema::Metadata;
 use std::alloc::{AllocError, Global};
 use std::collections::BTreeMap;
 use std::test::Fail;
-
-/// An extension type over `Binary` alone, that is nothing but its metadata.
-#[derive(Debug, Drop)]
-struct Marked {
-    metadata: Metadata,
-}
-
-impl ExtensionType for Marked {
-    ghost use Rattle.std.specs.Prelude.{◌≡◌, true, codes, ⊤};
-    ghost use Rattle.arrow_values.specs.Tree.{plain, binary};
-    ghost use Rattle.arrow_values.specs.Errors.{is_schema};
-    ghost use Rattle.geoarrow_meta.specs.Written.{printed as printed_text};
-    ghost use Rattle.geoarrow_meta.specs.Read.{TextStandsFor, TextRefusedAs};
-    ghost use Rattle.geoarrow_meta.specs.declared.metadata.Metadata.{Metadata as MetadataValue};
-    ghost use Rattle.geoarrow_meta.specs.Laws.{text_stands_for_one};
-
-    const NAME: &'static str = "tests.marked";
-
-    type Metadata = Metadata;
-
-    ghost name_text = { codes "tests.marked" };
-
-    ghost metadata_of = { λ e. e.metadata };
-
-    ghost printed = { printed_text };
-
-    ghost Value = { MetadataValue };
-
-    ghost value_of = { λ m. m };
-
-    ghost StandsFor = { TextStandsFor };
-
-    ghost Accepts = { λ t _. t ≡ plain binary };
-
-    ghost Agrees = { λ _ _. ⊤ };
-
-    ghost RefusesText = { TextRefusedAs };
-
-    ghost RefusesTree = { λ _ r. is_schema r ≡ true };
-
-    ghost RefusesUse = { λ _ _ r. is_schema r ≡ true };
-
-    ghost accepts_one = { λ t a b h k. tt };
-
-    ghost stands_for_one = { text_stands_for_one };
-
-    ghost accepts_by_shape = { λ t a e h _. h };
-
-    ghost agrees_with_itself = { λ e. tt };
-
-    fn extension_name() -> &'static str {
-        Self::NAME
-    }
-
-    fn metadata(&self) -> &Metadata {
-        &self.metadata
-    }
-
-    fn serialize_metadata(&self, alloc: Global) -> Result<Option<String>, ArrowError> {
-        self.metadata.serialize(alloc)
-    }
-
-    fn deserialize_metadata(alloc: Global, metadata: Option<&str>) -> Result<Metadata, ArrowError> {
-        Metadata::deserialize(alloc, metadata)
-    }
-
-    fn supports_data_type(&self, alloc: Global, data_type: &DataType) -> Result<(), ArrowError> {
-        if let DataType::Binary = data_type {
-            return Ok(());
-        }
-        Err(ArrowError::schema_error(alloc, "unexpected data type"))
-    }
-
-    fn try_new(
-        alloc: Global,
-        data_type: &DataType,
-        metadata: Metadata,
-    ) -> Result<Marked, ArrowError> {
-        let marked = Marked { metadata };
-        marked.supports_data_type(alloc, data_type)?;
-        Ok(marked)
-    }
-}
+use uses::Marked;
 
 /// A map of those keys and texts.
 pub fn texts(
@@ -131,7 +49,7 @@ const STALE: &[(&str, &str)] = &[
 const WRITTEN: [(&str, &[(&str, &str)]); 2] = [
     (
         "{}",
-        &[(EXTENSION_TYPE_NAME_KEY, "tests.marked"), ("kept", "too")],
+        &[(EXTENSION_TYPE_NAME_KEY, "example.marked"), ("kept", "too")],
     ),
     (
         r#"{"crs_type":"srid","crs":"1234"}"#,
@@ -140,7 +58,7 @@ const WRITTEN: [(&str, &[(&str, &str)]); 2] = [
                 EXTENSION_TYPE_METADATA_KEY,
                 r#"{"crs":"1234","crs_type":"srid"}"#,
             ),
-            (EXTENSION_TYPE_NAME_KEY, "tests.marked"),
+            (EXTENSION_TYPE_NAME_KEY, "example.marked"),
             ("kept", "too"),
         ],
     ),
@@ -190,14 +108,14 @@ const DIFFERS: &str = "Invalid argument error: extension name differs";
 
 /// Extension names and metadata texts of fields of texts, and how the type is refused.
 const REFUSED: [(&str, &str, &str); 4] = [
-    ("tests.other", "no JSON", DIFFERS),
-    ("tests.marke", "{}", DIFFERS),
+    ("example.other", "no JSON", DIFFERS),
+    ("example.marke", "{}", DIFFERS),
     (
-        "tests.marked",
+        "example.marked",
         "no JSON",
         "External error: External error: metadata is not JSON",
     ),
-    ("tests.marked", "{}", "Schema error: unexpected data type"),
+    ("example.marked", "{}", "Schema error: unexpected data type"),
 ];
 
 /// How the type is refused where it is read from a field of texts with those keys and texts.

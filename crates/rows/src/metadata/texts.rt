@@ -1,5 +1,5 @@
 //! Metadata: read from texts and written.
-use crate::famine::Memory;
+use crate::memory::Memory;
 use crate::metadata::words::{metadata_words, text_or_none};
 use crate::words;
 use geoarrow_meta::Metadata;
@@ -54,9 +54,9 @@ fn serialized(
     memory: Memory,
     metadata: &Metadata,
 ) -> Result<(), AllocError> {
-    let famine = memory.taken_away(alloc)?;
+    memory.before_call()?;
     let printed = metadata.serialize(alloc);
-    drop(famine);
+    memory.after_call(alloc)?;
     text_or_none(alloc, said, printed)
 }
 
@@ -67,9 +67,9 @@ fn value(
     memory: Memory,
     metadata: &Metadata,
 ) -> Result<(), AllocError> {
-    let famine = memory.taken_away(alloc)?;
+    memory.before_call()?;
     let value = metadata.to_value(alloc);
-    drop(famine);
+    memory.after_call(alloc)?;
     match value? {
         Some(value) => words::text(said, value.to_string(alloc)),
         None => said.push_str("-"),
@@ -83,17 +83,17 @@ fn normalized(
     memory: Memory,
     metadata: Metadata,
 ) -> Result<(), AllocError> {
-    let famine = memory.taken_away(alloc)?;
+    memory.before_call()?;
     let normal = metadata.normalized();
-    drop(famine);
+    memory.after_call(alloc)?;
     metadata_words(said, &normal)
 }
 
 /// Says the parts of the metadata where there is no text.
 pub fn of_no_text(alloc: Global, said: &mut String, memory: Memory) -> Result<(), AllocError> {
-    let famine = memory.taken_away(alloc)?;
+    memory.before_call()?;
     let read = Metadata::deserialize(alloc, None);
-    drop(famine);
+    memory.after_call(alloc)?;
     match read {
         Ok(metadata) => metadata_words(said, &metadata),
         Err(error) => words::refusal(alloc, said, error),

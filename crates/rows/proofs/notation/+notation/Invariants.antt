@@ -1,5 +1,5 @@
 use Rattle.std.proofs.Common.{◌+◌, ◌*◌}
-use Rattle.lower_rows.proofs.notation.+notation.Given as goal
+use Rattle.rows.proofs.notation.+notation.Given as goal
 
 abbrev pub decreases-read_type : goal.decreases-read_type
 decreases-read_type l = 3 * l.levels

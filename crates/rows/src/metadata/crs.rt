@@ -1,5 +1,5 @@
 //! CRS: their tests and constructors, and the texts of their types and of edges.
-use crate::famine::Memory;
+use crate::memory::Memory;
 use crate::metadata::words::{crs_words, printed};
 use crate::words::{no_command, truth};
 use arrow_values::ArrowError;
@@ -20,9 +20,9 @@ pub fn made(
         "from_projjson" => of_value(alloc, memory, text)?,
         "from_authority_code" | "from_wkt2_2019" | "from_srid" | "from_unknown_crs_type" => {
             let text = String::from_str(alloc, text)?;
-            let famine = memory.taken_away(alloc)?;
+            memory.before_call()?;
             let crs = of_text(constructor, text);
-            drop(famine);
+            memory.after_call(alloc)?;
             crs?
         }
         _ => return no_command(said),
@@ -33,9 +33,9 @@ pub fn made(
 /// The CRS of a PROJJSON text.
 fn of_value(alloc: Global, memory: Memory, text: &str) -> Result<Crs, AllocError> {
     let value = value_of(alloc, text)?;
-    let famine = memory.taken_away(alloc)?;
+    memory.before_call()?;
     let crs = projjson(value);
-    drop(famine);
+    memory.after_call(alloc)?;
     crs
 }
 
@@ -100,9 +100,9 @@ pub fn is_projjson(
     text: &str,
 ) -> Result<(), AllocError> {
     let value = value_of(alloc, text)?;
-    let famine = memory.taken_away(alloc)?;
+    memory.before_call()?;
     let found = Crs::is_projjson(&value);
-    drop(famine);
+    memory.after_call(alloc)?;
     truth(said, found)
 }
 
@@ -113,9 +113,9 @@ pub fn is_authority_code(
     memory: Memory,
     text: &str,
 ) -> Result<(), AllocError> {
-    let famine = memory.taken_away(alloc)?;
+    memory.before_call()?;
     let found = Crs::is_authority_code(text);
-    drop(famine);
+    memory.after_call(alloc)?;
     truth(said, found)
 }
 
@@ -126,12 +126,12 @@ pub fn edges(
     memory: Memory,
     text: &str,
 ) -> Result<(), AllocError> {
-    let famine = memory.taken_away(alloc)?;
+    memory.before_call()?;
     let found = match Edges::from_text(text) {
         Some(edges) => Some((edges, edges.as_text())),
         None => None,
     };
-    drop(famine);
+    memory.after_call(alloc)?;
     match found {
         Some((edges, text)) => write!(said, "{edges:?} {text}"),
         None => said.push_str("-"),
@@ -145,12 +145,12 @@ pub fn crs_type(
     memory: Memory,
     text: &str,
 ) -> Result<(), AllocError> {
-    let famine = memory.taken_away(alloc)?;
+    memory.before_call()?;
     let found = match CrsType::from_text(text) {
         Some(crs_type) => Some((crs_type, crs_type.as_text())),
         None => None,
     };
-    drop(famine);
+    memory.after_call(alloc)?;
     match found {
         Some((crs_type, text)) => write!(said, "{crs_type:?} {text}"),
         None => said.push_str("-"),

@@ -1,8 +1,8 @@
 //! Commands that read data types, by calls that take no memory.
-use crate::famine::Memory;
 use crate::layouts::summaries::summary;
 use crate::layouts::texts::{data_type, name, parts, words};
 use crate::layouts::words::{one, pair, point};
+use crate::memory::Memory;
 use crate::words::{name_or_none, no_command};
 use arrow_values::DataType;
 use geoarrow_layout::{
@@ -15,6 +15,7 @@ use std::alloc::{AllocError, Global};
 use std::mem::forget;
 
 /// What a call answers about a data type.
+#[derive(Drop)]
 enum Reading {
     Pair(Result<(CoordType, Dimension), LayoutFault>),
     CoordType(Result<CoordType, LayoutFault>),
@@ -98,9 +99,9 @@ fn read_one(
     text: &str,
 ) -> Result<(), AllocError> {
     let data_type = data_type(alloc, text)?;
-    let famine = memory.taken_away(alloc)?;
+    memory.before_call()?;
     let found = Reading::of(command, &data_type);
-    drop(famine);
+    memory.after_call(alloc)?;
     forget(data_type);
     found.say(said)
 }
@@ -115,9 +116,9 @@ fn read_named(
 ) -> Result<(), AllocError> {
     let (named, rest) = words(text)?;
     let data_type = data_type(alloc, rest)?;
-    let famine = memory.taken_away(alloc)?;
+    memory.before_call()?;
     let found = Reading::named(command, named, &data_type);
-    drop(famine);
+    memory.after_call(alloc)?;
     found?.say(said)
 }
 
@@ -131,9 +132,9 @@ fn likeness(
     let (first, second) = parts(text)?;
     let first = data_type(alloc, first)?;
     let second = data_type(alloc, second)?;
-    let famine = memory.taken_away(alloc)?;
+    memory.before_call()?;
     let found = likeness_of(&first, &second);
-    drop(famine);
+    memory.after_call(alloc)?;
     said.push_str(found)
 }
 

@@ -1,5 +1,5 @@
 //! What the errors print, and how each of the two holds the other.
-use crate::famine::Memory;
+use crate::memory::Memory;
 use arrow_values::{ArrowError, GeoArrowError};
 use std::alloc::{AllocError, Global};
 use std::io;
@@ -68,9 +68,9 @@ pub fn into_arrow(
     variant: &str,
 ) -> Result<(), AllocError> {
     let error = geoarrow_error(alloc, variant)?;
-    let famine = memory.taken_away(alloc)?;
+    memory.before_call()?;
     let found = error.into_arrow_error(alloc);
-    drop(famine);
+    memory.after_call(alloc)?;
     let error = found?;
     let variant = match &error {
         ArrowError::SchemaError(_) => "SchemaError",

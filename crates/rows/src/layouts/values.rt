@@ -1,7 +1,7 @@
 //! Commands that spell, compare and make values of `arrow_values`.
 use crate::compared::Compared;
-use crate::famine::Memory;
 use crate::layouts::texts::{ids, parts};
+use crate::memory::Memory;
 use crate::{notation, words};
 use arrow_values::{DataType, Field, Fields, UnionFields};
 use field_lines::field_line;
@@ -129,9 +129,9 @@ pub fn made(
     let (wanted, count) = parts(text)?;
     let type_ids = ids(alloc, wanted)?;
     let fields = fields(alloc, count)?;
-    let famine = memory.taken_away(alloc)?;
+    memory.before_call()?;
     let found = UnionFields::try_new(alloc, type_ids, fields);
-    drop(famine);
+    memory.after_call(alloc)?;
     match found {
         Ok(_) => said.push_str("made"),
         Err(error) => words::refusal(alloc, said, error),

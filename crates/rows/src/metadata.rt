@@ -6,7 +6,7 @@ mod transforms;
 mod words;
 
 use crate::compared::{distinct, equal};
-use crate::famine::Memory;
+use crate::memory::Memory;
 use geoarrow_meta::{DefaultCrsTransform, Metadata};
 use std::alloc::{AllocError, Global};
 use transforms::{OneText, converted};
@@ -26,7 +26,9 @@ pub fn answer(
         ("edges", _) => crs::edges(alloc, said, memory, text),
         ("crs_type", _) => crs::crs_type(alloc, said, memory, text),
         ("of_no_text", _) => texts::of_no_text(alloc, said, memory),
-        (_, Memory::Refused) => write_or_convert(alloc, said, memory, command, text),
+        (_, Memory::Before | Memory::Refused) => write_or_convert(
+            alloc, said, memory, command, text,
+        ),
         (_, Memory::Ample) => read_or_compare(alloc, said, command, text),
     }
 }

@@ -1,6 +1,6 @@
 //! Commands about kinds, names, dimensions and faults, which are tables.
-use crate::famine::Memory;
 use crate::layouts::texts;
+use crate::memory::Memory;
 use crate::words;
 use arrow_values::Dimensions;
 use geoarrow_layout::{CoordType, Dimension, ExtensionName, LayoutFault};
@@ -71,9 +71,9 @@ pub fn dimension_of(
     text: &str,
 ) -> Result<(), AllocError> {
     let dimensions = dimensions_of(text)?;
-    let famine = memory.taken_away(alloc)?;
+    memory.before_call()?;
     let found = Dimension::try_from_dimensions(alloc, dimensions);
-    drop(famine);
+    memory.after_call(alloc)?;
     match found {
         Ok(dimension) => words::text(said, dimension.to_string(alloc)),
         Err(error) => words::geoarrow_refusal(alloc, said, error),
