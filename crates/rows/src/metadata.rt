@@ -25,7 +25,8 @@ pub fn answer(
         ("is_authority_code", _) => crs::is_authority_code(alloc, said, memory, text),
         ("edges", _) => crs::edges(alloc, said, memory, text),
         ("crs_type", _) => crs::crs_type(alloc, said, memory, text),
-        ("of_no_text", _) => texts::of_no_text(alloc, said, memory),
+        ("deserialize", _) => texts::deserialized(alloc, said, memory, Some(text)),
+        ("of_no_text", _) => texts::deserialized(alloc, said, memory, None),
         (_, Memory::Before | Memory::Refused) => write_or_convert(
             alloc, said, memory, command, text,
         ),
@@ -47,7 +48,7 @@ fn read_or_compare(
         "in_one_scratch" => texts::in_one_scratch(alloc, said, text),
         "equal" => equal::<Metadata>(alloc, said, text),
         "distinct" => distinct::<Metadata>(alloc, said, text),
-        "deserialize" | "is_normal" => texts::read(alloc, said, Memory::Ample, command, text),
+        "is_normal" => texts::read(alloc, said, Memory::Ample, command, text),
         _ => write_or_convert(alloc, said, Memory::Ample, command, text),
     }
 }

@@ -29,7 +29,7 @@ pub fn read(
     }
 }
 
-/// Says what a call answers about a metadata: its parts, what it prints, those of its normal form, or whether it is normal.
+/// Says what a call answers about a metadata: what it prints, the parts of its normal form, or whether it is normal.
 fn answer(
     alloc: Global,
     said: &mut String,
@@ -38,7 +38,6 @@ fn answer(
     metadata: Metadata,
 ) -> Result<(), AllocError> {
     match command {
-        "deserialize" => metadata_words(said, &metadata),
         "serialize" => serialized(alloc, said, memory, &metadata),
         "to_value" => value(alloc, said, memory, &metadata),
         "Metadata::normalized" => normalized(alloc, said, memory, metadata),
@@ -89,10 +88,15 @@ fn normalized(
     metadata_words(said, &normal)
 }
 
-/// Says the parts of the metadata where there is no text.
-pub fn of_no_text(alloc: Global, said: &mut String, memory: Memory) -> Result<(), AllocError> {
+/// Says the parts of the metadata of a text, or of no text, or what the refusal prints.
+pub fn deserialized(
+    alloc: Global,
+    said: &mut String,
+    memory: Memory,
+    text: Option<&str>,
+) -> Result<(), AllocError> {
     memory.before_call()?;
-    let read = Metadata::deserialize(alloc, None);
+    let read = Metadata::deserialize(alloc, text);
     memory.after_call(alloc)?;
     match read {
         Ok(metadata) => metadata_words(said, &metadata),
@@ -157,5 +161,5 @@ pub fn nested(alloc: Global, said: &mut String, count: &str) -> Result<(), Alloc
 pub fn opened(alloc: Global, said: &mut String, count: &str) -> Result<(), AllocError> {
     let mut text = String::new(alloc);
     brackets(&mut text, count, false)?;
-    read(alloc, said, Memory::Ample, "deserialize", text.as_str())
+    deserialized(alloc, said, Memory::Ample, Some(text.as_str()))
 }
