@@ -1,5 +1,5 @@
-//! Examples of how to use the crates: small callers, each with a contract that a user would want, proved only from the
-//! public contracts of the crates below.
+//! Examples of how to use the crates: small callers, each with a contract that a user would want, and an extension type of one's
+//! own; proved only from the public contracts of the crates below.
 #![tactic(auto)]
 
 mod checker;
