@@ -8,18 +8,18 @@ A column is a dict with the keys of `KEYS`, always all of them. `state` is one o
     faulty     it is refused, or has a GeoArrow name and a type that a line cannot hold; `reason` says which
 
 `kind`, `coordinates` and `dimension` are the program's words (docs/FORMAT.md, 2.2), `crs` is the CRS in short, `edges`
-how edges run; null stands where there is none of it.
+how edges run, `geometry_type` what GDAL knows of a column of WKB; null stands where there is none of it.
 """
 import json
 import re
 import subprocess
-from typing import Any, Dict, List, Optional, Tuple
+from typing import Any, Dict, List, Optional, Sequence, Tuple
 
-from c_schema import EXTENSION_NAME, OTHER_NESTED, OTHER_PLAIN, shown
+from .c_schema import EXTENSION_NAME, OTHER_NESTED, OTHER_PLAIN, shown
 
 Column = Dict[str, Any]
 
-KEYS = ("name", "state", "kind", "coordinates", "dimension", "crs", "edges", "reason")
+KEYS = ("name", "state", "kind", "coordinates", "dimension", "crs", "edges", "reason", "geometry_type")
 NAMES = {"geoarrow." + kind for kind in (
     "point", "linestring", "polygon", "multipoint", "multilinestring", "multipolygon", "geometrycollection",
     "geometry", "box", "wkb", "wkt")}
@@ -31,8 +31,8 @@ class ProgramError(Exception):
     """The program did not run, or did not answer each line."""
 
 
-def checked(lines: List[str], program: str) -> List[Column]:
-    """The columns of these lines, of which the program is asked."""
+def checked(lines: List[str], program: str, geometry_types: Sequence[Optional[str]] = ()) -> List[Column]:
+    """The columns of these lines, of which the program is asked, with these geometry types."""
     try:
         ran = subprocess.run(
             [program, "columns"], input="".join(line + "\n" for line in lines).encode("utf-8"), stdout=subprocess.PIPE)
@@ -43,7 +43,10 @@ def checked(lines: List[str], program: str) -> List[Column]:
         last = shown(answers[-1]) if answers else "nothing"
         counts = f"{len(answers)} answers to {len(lines)} lines"
         raise ProgramError(f"{program}: status {ran.returncode}, {counts}, last {last}")
-    return [_column(json.loads(line), answer) for line, answer in zip(lines, answers)]
+    columns = [_column(json.loads(line), answer) for line, answer in zip(lines, answers)]
+    for column, geometry_type in zip(columns, geometry_types):
+        column.update(geometry_type=geometry_type)
+    return columns
 
 
 def _column(field: Any, answer: str) -> Column:
@@ -112,10 +115,13 @@ def crs_in_short(crs: Any, kind: Optional[str]) -> Optional[str]:
     return f"SRID {crs}" if kind == "srid" else named.group(1) if named else crs
 
 
-def as_json(columns: List[Column], layer: Optional[str]) -> str:
-    """An object with the name of the layer, the number of faulty columns, and the columns."""
-    faulty = sum(column["state"] == "faulty" for column in columns)
-    return json.dumps({"layer": layer, "faulty": faulty, "columns": columns}, ensure_ascii=False, indent=2) + "\n"
+def faulty_count(columns: List[Column]) -> int:
+    return sum(column["state"] == "faulty" for column in columns)
+
+
+def as_object(columns: List[Column], layer: Optional[str]) -> Dict[str, Any]:
+    """The name of the layer, the number of faulty columns, and the columns."""
+    return {"layer": layer, "faulty": faulty_count(columns), "columns": columns}
 
 
 def as_table(columns: List[Column]) -> str:
@@ -131,6 +137,7 @@ def _cells(column: Column) -> Tuple[str, ...]:
     """What stands beside the name: three cells of a type, and one where there is none."""
     if column["state"] in ("geometry", "inferred"):
         words = " ".join(column[key] for key in ("kind", "coordinates", "dimension") if column[key])
+        words += f" ({shown(column['geometry_type'])})" if column["geometry_type"] else ""
         holds = words if column["state"] == "geometry" else f"taken for {words}"
         return holds, shown(column["crs"] or "none given"), column["edges"]
     holds = "FAULTY" if column["state"] == "faulty" else "no geometry"

@@ -1,24 +1,19 @@
-#!/usr/bin/env python3
 """Tests of `lines` and `Schema`: both ways round, who releases what and how often, and what is refused.
 
 The structures that are read here come from a producer of these tests, which counts its release callbacks, and the
-structures that `Schema` makes are looked at byte by byte. Run by interop/test, or alone as it stands.
+structures that `Schema` makes are looked at byte by byte. Run by interop/test, or alone by
+`python3 -m unittest interop.test_arrow_lines`, at the top of the repository.
 """
 import ctypes
-import pathlib
 import struct
 import subprocess
 import sys
 import threading
 import unittest
 
-HERE = pathlib.Path(__file__).resolve().parent
-TOP = HERE.parent
-sys.path.insert(0, str(HERE))
-
-import arrow_lines  # noqa: E402
-import c_schema  # noqa: E402
-from c_schema import ArrowArrayStream, ArrowSchema, SchemaError  # noqa: E402
+from . import arrow_lines, c_schema
+from .c_schema import ArrowArrayStream, ArrowSchema, SchemaError
+from .testing import HERE, TOP
 
 # From the format's page "The Arrow C data interface", "Data type description".
 PLAIN = {
@@ -570,7 +565,3 @@ class IntoStructures(unittest.TestCase):
         command = [sys.executable, "-c", script, str(HERE), of_type('"null"')]
         ran = subprocess.run(command, stdout=subprocess.PIPE, stderr=subprocess.PIPE)
         self.assertEqual((ran.returncode, ran.stdout, ran.stderr), (0, b"", b""))
-
-
-if __name__ == "__main__":
-    unittest.main()

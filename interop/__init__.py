@@ -1,0 +1,19 @@
+"""From Arrow schemas to the lines of geoarrow_fields, and back: a package that needs only Python 3.8 and its library.
+
+    lines(schema)           a line a column, of an object with `__arrow_c_schema__`, with pyarrow's older `_export_to_c`
+                            or with `__arrow_c_stream__` (whose rows are not read), or of the address of an
+                            `ArrowSchema`, which is then released
+    Schema(lines)           an object with `__arrow_c_schema__`, of such lines
+    lines_of_file(path)     the lines of a file or of a layer of it, the name of that layer, and the names of all layers
+    layers_of_file(path)    the layers of a file with their lines and geometry types, and the names of all layers
+
+Whatever is no schema, or no line, is a `SchemaError`, which is a `ValueError` and counts columns from 0; a file that
+cannot be read is a `FileError`. The same names stand in `interop.arrow_lines`, which is also the command;
+`python3 -m interop` runs it too.
+"""
+from .c_schema import SchemaError
+from .files import layers_of_file, lines_of_file
+from .gdal_layers import FileError, Layer
+from .schema_lines import Schema, lines
+
+__all__ = ["FileError", "Layer", "Schema", "SchemaError", "layers_of_file", "lines", "lines_of_file"]

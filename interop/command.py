@@ -1,0 +1,158 @@
+"""The command that prints the lines of a file, or checks them.
+
+    interop/arrow_lines.py FILE | bin/geoarrow_fields columns
+    interop/arrow_lines.py --check FILE
+    interop/arrow_lines.py --check --json FILE
+
+FILE is a `.parquet`, `.arrow` or `.feather` file, for which pyarrow is needed, or one that GDAL opens, for which its
+library is, also by a path of its virtual file systems, such as `/vsizip/FILE` and `/vsistdin/`. The first form prints a
+line a column (docs/FORMAT.md, 2.1), the second a table of what each column holds, the third the same as JSON. `--layer
+NAME` names another layer than the first; `--all-layers` takes all, in order: their lines one after another, a table for
+each behind a line `layer NAME`, or in the JSON an object for each.
+
+Status 0; 1 where `--check` finds a faulty column; 2 where the file cannot be read, the program does not run or the
+output cannot be written, which one line on standard error then says. A pipe hands no status on, and its reader would
+take no lines for a schema without columns: the first form, where it fails and prints to a pipe, writes one line there
+that is longer than a line may be, which makes the program answer `error input` and end with status 1.
+"""
+import argparse
+import json
+import os
+import pathlib
+import stat
+import sys
+from typing import List, Optional, Sequence, TextIO, Tuple
+
+from . import column_check
+from .c_schema import LINE_BYTES, SchemaError, shown
+from .files import FileError, Layer, layers_of_file
+
+PROGRAM = pathlib.Path(__file__).resolve().parent.parent / "bin/geoarrow_fields"
+FAULTY, FAILED = 1, 2
+
+
+class OutputError(Exception):
+    """Standard output cannot be written; the text says why, or nothing where its reader has gone."""
+
+
+def main(arguments: Optional[Sequence[str]] = None, name: str = "arrow_lines.py") -> int:
+    """Runs the command with these arguments, else those of the process. Its status."""
+    given = sys.argv[1:] if arguments is None else list(arguments)
+    if sys.stderr is None:
+        sys.stderr = open(os.devnull, "w")
+    try:
+        if sys.stdout is None:
+            raise OutputError("it is closed")
+        return _run(_words(name, given))
+    except SystemExit as end:  # --help, or arguments that are refused
+        if end.code and "--check" not in given:
+            _fail_the_reader("the arguments are refused")
+        return FAILED if end.code else 0
+    except OutputError as error:
+        if str(error):
+            _tell(f"standard output: {error}")
+        return FAILED
+
+
+def _words(name: str, arguments: List[str]) -> argparse.Namespace:
+    parser = argparse.ArgumentParser(
+        prog=name, description="Prints the schema of a file as the program's lines, a line a column, or checks it.")
+    parser.add_argument(
+        "file", metavar="FILE", help="a .parquet, .arrow or .feather file, or what GDAL opens, with its /vsi paths")
+    layers = parser.add_mutually_exclusive_group()
+    layers.add_argument("--layer", metavar="NAME", help="the layer, where the file has several; else the first")
+    layers.add_argument("--all-layers", action="store_true", help="all layers, in order")
+    parser.add_argument("--check", action="store_true", help="print what each column holds")
+    parser.add_argument("--json", action="store_true", help="with --check: print it as JSON")
+    parser.add_argument("--program", metavar="PATH", default=str(PROGRAM), help="with --check: the program to ask")
+    try:
+        words = parser.parse_args(arguments)
+        if words.json and not words.check:
+            parser.error("--json goes with --check")
+        return words
+    except SystemExit:
+        _write("")  # what --help has left in the buffer
+        raise
+    except OSError as error:  # from argparse, before Python 3.11
+        raise _output_error(error) from None
+
+
+def _run(words: argparse.Namespace) -> int:
+    """Answers these words."""
+    try:
+        layers, names = layers_of_file(words.file, words.layer, words.all_layers)
+        _tell_layers(layers, names, words)
+        if words.check:
+            text, status = _checked(layers, words)
+        else:
+            text, status = "".join(line + "\n" for layer in layers for line in layer.lines), 0
+    except (SchemaError, FileError, column_check.ProgramError) as error:
+        why = str(error) if isinstance(error, column_check.ProgramError) else f"{words.file}: {error}"
+        if not words.check:
+            _fail_the_reader(why)
+        _tell(why)
+        return FAILED
+    _write(text)
+    return status
+
+
+def _checked(layers: List[Layer], words: argparse.Namespace) -> Tuple[str, int]:
+    """What is printed of these layers, and the status."""
+    checked = [(layer.name, column_check.checked(layer.lines, words.program, layer.geometry_types)) for layer in layers]
+    faulty = sum(column_check.faulty_count(columns) for _, columns in checked)
+    if not words.json:
+        heads = [f"layer {shown(name)}\n" if words.all_layers and name is not None else "" for name, _ in checked]
+        text = "\n".join(head + column_check.as_table(columns) for head, (_, columns) in zip(heads, checked))
+    else:
+        objects = [column_check.as_object(columns, name) for name, columns in checked]
+        whole = {"faulty": faulty, "layers": objects} if words.all_layers else objects[0]
+        text = json.dumps(whole, ensure_ascii=False, indent=2) + "\n"
+    return text, FAULTY if faulty else 0
+
+
+def _tell_layers(layers: List[Layer], names: List[str], words: argparse.Namespace) -> None:
+    """Says which layers the lines are of, where that cannot be seen and the file has several."""
+    if len(names) < 2 or words.layer is not None:
+        return
+    if not words.all_layers:
+        listed = ", ".join(map(shown, names))
+        _tell(f"{words.file}: its first layer of {len(names)} ({listed}); --layer NAME takes another, --all-layers all")
+    elif not words.check:
+        for layer in layers:
+            _tell(f"{words.file}: {len(layer.lines)} lines of the layer {shown(layer.name or '')}")
+
+
+def _fail_the_reader(why: str) -> None:
+    """Writes to a pipe what its reader must refuse: a line that is longer than any may be, and says why."""
+    try:
+        if stat.S_ISFIFO(os.fstat(sys.stdout.fileno()).st_mode):
+            _write(f"error: {shown(why, 500)}".ljust(LINE_BYTES + 1))
+    except (OSError, OutputError):
+        pass  # nobody reads it
+
+
+def _write(text: str) -> None:
+    """Writes this text to standard output, and whatever stands in its buffer."""
+    try:
+        sys.stdout.buffer.write(text.encode("utf-8"))
+        sys.stdout.flush()
+    except OSError as error:
+        raise _output_error(error) from None
+
+
+def _output_error(error: OSError) -> OutputError:
+    _drop(sys.stdout)
+    return OutputError("" if isinstance(error, BrokenPipeError) else error.strerror or str(error))
+
+
+def _tell(text: str) -> None:
+    """Writes a line to standard error, if it can be written."""
+    try:
+        print(f"arrow_lines: {shown(text, 500)}", file=sys.stderr, flush=True)
+    except OSError:
+        _drop(sys.stderr)
+
+
+def _drop(stream: TextIO) -> None:
+    """Sends nowhere what is left in a stream's buffer, so that Python does not fail on it once more at its end."""
+    os.dup2(os.open(os.devnull, os.O_WRONLY), stream.fileno())
