@@ -33,20 +33,25 @@ class ProgramError(Exception):
 
 def checked(lines: List[str], program: str, geometry_types: Sequence[Optional[str]] = ()) -> List[Column]:
     """The columns of these lines, of which the program is asked, with these geometry types."""
-    try:
-        ran = subprocess.run(
-            [program, "columns"], input="".join(line + "\n" for line in lines).encode("utf-8"), stdout=subprocess.PIPE)
-    except OSError as error:
-        raise ProgramError(f"{program}: {error.strerror}") from None
-    answers = ran.stdout.decode("utf-8", "replace").split("\n")[:-1]
-    if ran.returncode != 0 or len(answers) != len(lines):
-        last = shown(answers[-1]) if answers else "nothing"
-        counts = f"{len(answers)} answers to {len(lines)} lines"
-        raise ProgramError(f"{program}: status {ran.returncode}, {counts}, last {last}")
-    columns = [_column(json.loads(line), answer) for line, answer in zip(lines, answers)]
+    columns = [_column(json.loads(line), answer) for line, answer in zip(lines, answers(lines, program, "columns"))]
     for column, geometry_type in zip(columns, geometry_types):
         column.update(geometry_type=geometry_type)
     return columns
+
+
+def answers(lines: List[str], program: str, command: str) -> List[str]:
+    """What the program answers to each of these lines."""
+    try:
+        ran = subprocess.run(
+            [program, command], input="".join(line + "\n" for line in lines).encode("utf-8"), stdout=subprocess.PIPE)
+    except OSError as error:
+        raise ProgramError(f"{program}: {error.strerror}") from None
+    found = ran.stdout.decode("utf-8", "replace").split("\n")[:-1]
+    if ran.returncode != 0 or len(found) != len(lines):
+        last = shown(found[-1]) if found else "nothing"
+        counts = f"{len(found)} answers to {len(lines)} lines"
+        raise ProgramError(f"{program}: status {ran.returncode}, {counts}, last {last}")
+    return found
 
 
 def _column(field: Any, answer: str) -> Column:

@@ -1,19 +1,21 @@
-"""The command that prints the lines of a file, or checks them.
+"""The command that prints the lines of a file, or what the program says of them.
 
     interop/arrow_lines.py FILE | bin/geoarrow_fields columns
+    interop/arrow_lines.py --ask columns FILE
     interop/arrow_lines.py --check FILE
     interop/arrow_lines.py --check --json FILE
 
 FILE is a `.parquet`, `.arrow` or `.feather` file, for which pyarrow is needed, or one that GDAL opens, for which its
 library is, also by a path of its virtual file systems, such as `/vsizip/FILE` and `/vsistdin/`. The first form prints a
-line a column (docs/FORMAT.md, 2.1), the second a table of what each column holds, the third the same as JSON. `--layer
-NAME` names another layer than the first; `--all-layers` takes all, in order: their lines one after another, a table for
-each behind a line `layer NAME`, or in the JSON an object for each.
+line a column (docs/FORMAT.md, 2.1), the second the program's answers to these lines, the third a table of what each
+column holds, the fourth the same as JSON. `--layer NAME` names another layer than the first; `--all-layers` takes all,
+in order: their lines or answers one after another, a table for each behind a line `layer NAME`, or in the JSON an
+object for each.
 
 Status 0; 1 where `--check` finds a faulty column; 2 where the file cannot be read, the program does not run or the
 output cannot be written, which one line on standard error then says. A pipe hands no status on, and its reader would
-take no lines for a schema without columns: the first form, where it fails and prints to a pipe, writes one line there
-that is longer than a line may be, which makes the program answer `error input` and end with status 1.
+take no lines for a schema without columns: so where the first form fails and prints to a pipe, it prints `error input`,
+as the program does where its own input fails; to that line the program answers `error field`.
 """
 import argparse
 import json
@@ -24,7 +26,7 @@ import sys
 from typing import List, Optional, Sequence, TextIO, Tuple
 
 from . import column_check
-from .c_schema import LINE_BYTES, SchemaError, shown
+from .c_schema import SchemaError, shown
 from .files import FileError, Layer, layers_of_file
 
 PROGRAM = pathlib.Path(__file__).resolve().parent.parent / "bin/geoarrow_fields"
@@ -37,16 +39,13 @@ class OutputError(Exception):
 
 def main(arguments: Optional[Sequence[str]] = None, name: str = "arrow_lines.py") -> int:
     """Runs the command with these arguments, else those of the process. Its status."""
-    given = sys.argv[1:] if arguments is None else list(arguments)
     if sys.stderr is None:
         sys.stderr = open(os.devnull, "w")
     try:
         if sys.stdout is None:
             raise OutputError("it is closed")
-        return _run(_words(name, given))
+        return _run(_words(name, arguments))
     except SystemExit as end:  # --help, or arguments that are refused
-        if end.code and "--check" not in given:
-            _fail_the_reader("the arguments are refused")
         return FAILED if end.code else 0
     except OutputError as error:
         if str(error):
@@ -54,7 +53,7 @@ def main(arguments: Optional[Sequence[str]] = None, name: str = "arrow_lines.py"
         return FAILED
 
 
-def _words(name: str, arguments: List[str]) -> argparse.Namespace:
+def _words(name: str, arguments: Optional[Sequence[str]]) -> argparse.Namespace:
     parser = argparse.ArgumentParser(
         prog=name, description="Prints the schema of a file as the program's lines, a line a column, or checks it.")
     parser.add_argument(
@@ -62,9 +61,12 @@ def _words(name: str, arguments: List[str]) -> argparse.Namespace:
     layers = parser.add_mutually_exclusive_group()
     layers.add_argument("--layer", metavar="NAME", help="the layer, where the file has several; else the first")
     layers.add_argument("--all-layers", action="store_true", help="all layers, in order")
-    parser.add_argument("--check", action="store_true", help="print what each column holds")
+    forms = parser.add_mutually_exclusive_group()
+    forms.add_argument("--ask", metavar="COMMAND", help="print what the program answers to this command and the lines")
+    forms.add_argument("--check", action="store_true", help="print what each column holds")
     parser.add_argument("--json", action="store_true", help="with --check: print it as JSON")
-    parser.add_argument("--program", metavar="PATH", default=str(PROGRAM), help="with --check: the program to ask")
+    parser.add_argument(
+        "--program", metavar="PATH", default=str(PROGRAM), help="with --ask and --check: the program to ask")
     try:
         words = parser.parse_args(arguments)
         if words.json and not words.check:
@@ -82,18 +84,24 @@ def _run(words: argparse.Namespace) -> int:
     try:
         layers, names = layers_of_file(words.file, words.layer, words.all_layers)
         _tell_layers(layers, names, words)
-        if words.check:
-            text, status = _checked(layers, words)
-        else:
-            text, status = "".join(line + "\n" for layer in layers for line in layer.lines), 0
-    except (SchemaError, FileError, column_check.ProgramError) as error:
-        why = str(error) if isinstance(error, column_check.ProgramError) else f"{words.file}: {error}"
-        if not words.check:
-            _fail_the_reader(why)
-        _tell(why)
+        text, status = _checked(layers, words) if words.check else (_lines_or_answers(layers, words), 0)
+    except (SchemaError, FileError) as error:
+        if not words.check and words.ask is None:
+            _tell_a_pipe()
+        _tell(f"{words.file}: {error}")
+        return FAILED
+    except column_check.ProgramError as error:
+        _tell(str(error))
         return FAILED
     _write(text)
     return status
+
+
+def _lines_or_answers(layers: List[Layer], words: argparse.Namespace) -> str:
+    found = [line for layer in layers for line in layer.lines]
+    if words.ask is not None:
+        found = column_check.answers(found, words.program, words.ask)
+    return "".join(line + "\n" for line in found)
 
 
 def _checked(layers: List[Layer], words: argparse.Namespace) -> Tuple[str, int]:
@@ -122,11 +130,11 @@ def _tell_layers(layers: List[Layer], names: List[str], words: argparse.Namespac
             _tell(f"{words.file}: {len(layer.lines)} lines of the layer {shown(layer.name or '')}")
 
 
-def _fail_the_reader(why: str) -> None:
-    """Writes to a pipe what its reader must refuse: a line that is longer than any may be, and says why."""
+def _tell_a_pipe() -> None:
+    """Writes to a pipe, whose reader learns of no status, what is no line of a schema."""
     try:
         if stat.S_ISFIFO(os.fstat(sys.stdout.fileno()).st_mode):
-            _write(f"error: {shown(why, 500)}".ljust(LINE_BYTES + 1))
+            _write("error input\n")
     except (OSError, OutputError):
         pass  # nobody reads it
 

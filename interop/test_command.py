@@ -41,7 +41,8 @@ class ByPyarrow(InAFolder):
 
     def test_words(self):
         self.assertTrue(command.PROGRAM.samefile(TOP / "bin/geoarrow_fields"))
-        for words in ((), ("--json", "a"), ("a", "b"), ("--other", "a"), ("a", "--layer", "b", "--all-layers")):
+        for words in ((), ("--json", "a"), ("a", "b"), ("--other", "a"), ("a", "--layer", "b", "--all-layers"),
+                      ("a", "--check", "--ask", "read")):
             status, text, told = self.ran(*words)
             self.assertEqual((status, text, told.startswith("usage: ")), (2, "", True))
 
@@ -183,6 +184,28 @@ class Check(InAFolder):
         self.assertEqual(columns[0]["reason"], "Arrow's type w:4 is none that a line can hold")
         self.assertIsNone(columns[6]["reason"])
         self.assertEqual(columns[7]["crs"], "WGS 84 (EPSG:4326)")
+
+    def test_ask(self):
+        self.with_pyarrow()
+        file, program = self.file("f.parquet", line("null", "n"), line("utf8", "t")), self.program(["other", "é"])
+        self.assertEqual(self.ran("--ask", "columns", "--program", program, file), (0, "other\né\n", ""))
+        status, text, told = self.ran("--ask", "columns", "--program", self.program(["other"]), file)
+        self.assertEqual((status, text), (2, ""))
+        self.assertIn("status 0, 1 answers to 2 lines, last other", told)
+
+    @unittest.skipUnless(BUILT.is_file(), "the program is not built")
+    def test_ask_the_real_program(self):
+        self.with_pyarrow()
+        file = self.file("f.parquet", line("binary", "g", name="geoarrow.wkb"), line("utf8", "t"))
+        answers = {
+            "read": "wkb - - -\nnone\n", "infer": "wkb - - -\nwkt - - -\n",
+            "columns": "geometry wkb - - -\ninferred wkt - - -\n",
+            "canon": line("binary", "g", name="geoarrow.wkb") + "\nnone\n",
+        }
+        for command, text in answers.items():
+            self.assertEqual(self.ran("--ask", command, "--program", BUILT, file), (0, text, ""))
+        status, text, told = self.ran("--ask", "nothing", "--program", BUILT, file)
+        self.assertEqual((status, text, "0 answers to 2 lines" in told), (2, "", True))
 
     @unittest.skipUnless(BUILT.is_file(), "the program is not built")
     def test_real_program_answers_each_cut_line(self):
