@@ -73,7 +73,8 @@ def _words(name: str, arguments: Optional[Sequence[str]]) -> argparse.Namespace:
             parser.error("--json goes with --check")
         return words
     except SystemExit:
-        _write("")  # what --help has left in the buffer
+        _write("")  # what argparse has left in the buffers
+        _write_error("")
         raise
     except OSError as error:  # from argparse, before Python 3.11
         raise _output_error(error) from None
@@ -154,9 +155,15 @@ def _output_error(error: OSError) -> OutputError:
 
 
 def _tell(text: str) -> None:
-    """Writes a line to standard error, if it can be written."""
+    """Says this in one line on standard error."""
+    _write_error(f"arrow_lines: {shown(text, 500)}\n")
+
+
+def _write_error(text: str) -> None:
+    """Writes this text to standard error, and whatever stands in its buffer, if it can be written."""
     try:
-        print(f"arrow_lines: {shown(text, 500)}", file=sys.stderr, flush=True)
+        sys.stderr.write(text)
+        sys.stderr.flush()
     except OSError:
         _drop(sys.stderr)
 

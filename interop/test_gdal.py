@@ -3,11 +3,14 @@
 What is expected of real files is what `ogrinfo` says of them. These tests are skipped where GDAL is missing. Run by
 interop/test, or alone by `python3 -m unittest interop.test_gdal`, at the top of the repository.
 """
+import ctypes
+import functools
 import json
 import re
 import shutil
 import subprocess
 import unittest
+import unittest.mock
 import zipfile
 
 from . import files, gdal_layers
@@ -50,6 +53,21 @@ def why_no_gdal():
     return "" if shutil.which("ogr2ogr") and shutil.which("ogrinfo") else "ogr2ogr and ogrinfo are not there"
 
 
+class Library:
+    """A stand-in for GDAL's library, in which the last error is of a kind; its files have no layers."""
+
+    def __init__(self, kind):
+        self.called = []
+        answers = {"GDALOpenEx": 1, "CPLGetLastErrorType": kind, "CPLGetLastErrorMsg": b"a fault\nand more"}
+        for name in gdal_layers.CALLS:
+            setattr(self, name, functools.partial(self.call, name, answers.get(name, 0)))
+        self.CPLQuietErrorHandler = ctypes.CFUNCTYPE(None)(print)
+
+    def call(self, name, answer, *_):
+        self.called.append(name)
+        return answer
+
+
 class WithoutGdal(InAFolder):
     def test_library_that_is_missing(self):
         start = (
@@ -86,6 +104,15 @@ class WithoutGdal(InAFolder):
         self.assertEqual(gdal_layers.with_geometries(without, []), (without, [None]))
         two = [Geometry(CODE, "Point")] * 2
         self.assertEqual(gdal_layers.with_geometries(without, two), (without, [None]))
+
+    def test_fault_with_which_gdal_goes_on(self):
+        for kind, refused in ((2, False), (3, True), (4, True)):
+            with self.subTest(kind):
+                gdal = Library(kind)
+                with unittest.mock.patch.object(gdal_layers, "library", lambda: gdal):
+                    with self.assertRaisesRegex(gdal_layers.FileError, "a fault" if refused else "no layers"):
+                        gdal_layers.layers_and_names("a.gml")
+                self.assertEqual(gdal.called[-2:], ["GDALClose", "CPLPopErrorHandler"])
 
     def test_only_virtual_paths_may_name_nothing_here(self):
         for name in ("missing.gpkg", "PG:host=nowhere", "./vsizip/missing.zip"):
@@ -173,6 +200,9 @@ class Files(InAFolderWithGdal):
                     status, text, told = self.ran(file, given=given)
                     self.assertEqual((status, text, told.count("\n")), (2, "", 1))
         self.assertEqual(self.columns("places.gml")["people"]["type"], "int32")
+        self.file("rows.vrt", TWO_GEOMETRIES)  # whose rows.csv is missing, which GDAL learns later
+        status, text, told = self.ran("rows.vrt")
+        self.assertEqual((status, text, told.count("\n")), (2, "", 1))
 
     def test_virtual_paths(self):
         with zipfile.ZipFile(self.folder / "z.zip", "w") as archive:
