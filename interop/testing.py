@@ -77,7 +77,8 @@ class InAFolder(unittest.TestCase):
         there = tempfile.TemporaryDirectory()
         self.addCleanup(there.cleanup)
         self.folder = pathlib.Path(there.name)
-        self.environment = dict(os.environ, PYTHONUNBUFFERED="", PYTHONPATH=str(self.folder / "modules"), PYTHONIOENCODING="utf-8")
+        self.environment = dict(
+            os.environ, PYTHONUNBUFFERED="", PYTHONIOENCODING="utf-8", PYTHONPATH=str(self.folder / "modules"))
 
     def ran(self, *words, start=(str(COMMAND),), given=None):
         """Status, output and errors of the command, which reads what is given; its output goes to a file."""
