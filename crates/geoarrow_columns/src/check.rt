@@ -2,7 +2,7 @@
 ghost use Rattle.std.specs.Prelude.{IfOk, IfErr};
 ghost use Rattle.arrow_values.specs.Errors.{IsGeoMemory};
 ghost use Rattle.geoarrow_schema.specs.Reads.{HasGeoArrowName, IsRefusedBy};
-ghost use Rattle.geoarrow_schema.specs.Infers.{IsInference};
+ghost use Rattle.geoarrow_schema.specs.Infers.{IsInference, IsInferenceRefusal};
 ghost use Rattle.geoarrow_columns.specs.Report.{IsColumnOf, IsReport, IsVariantOf};
 
 use arrow_values::{ArrowError, Field, GeoArrowError, GeoArrowResult};
@@ -94,7 +94,7 @@ pub fn check_column_with_scratch(
 }
 
 /// What a column holds on whose field no GeoArrow name stands, and which is taken for a type or refused.
-#[tactic(auto, using(crate::proofs::Reports::taken_for, crate::proofs::Reports::other, crate::proofs::Reports::unread))]
+#[tactic(auto, using(crate::proofs::Reports::taken_for))]
 fn column_unnamed(field: &Field, taken: GeoArrowResult<GeoArrowType>) -> Result<Column, AllocError>
     requires unnamed { ¬ HasGeoArrowName field.now }
     requires inference { IsInference field.now taken }
@@ -102,10 +102,20 @@ fn column_unnamed(field: &Field, taken: GeoArrowResult<GeoArrowType>) -> Result<
 {
     match taken {
         Ok(found) => Ok(Column::Inferred(found)),
-        Err(error) => match ColumnFault::of_error(&error)? {
-            ColumnFault::InvalidGeoArrow => Ok(Column::Other),
-            ColumnFault::Arrow => Ok(Column::Faulty(ColumnFault::Arrow)),
-        },
+        Err(error) => column_uninferred(field, &error),
+    }
+}
+
+/// What a column holds on whose field no GeoArrow name stands, and for which no type is inferred because of an error.
+#[tactic(auto, using(crate::proofs::Reports::other, crate::proofs::Reports::unread))]
+fn column_uninferred(field: &Field, error: &GeoArrowError) -> Result<Column, AllocError>
+    requires unnamed { ¬ HasGeoArrowName field.now }
+    requires refused { IsInferenceRefusal field.now error.now }
+    ensures { IfOk result (IsColumnOf field.now) }
+{
+    match ColumnFault::of_error(error)? {
+        ColumnFault::InvalidGeoArrow => Ok(Column::Other),
+        ColumnFault::Arrow => Ok(Column::Faulty(ColumnFault::Arrow)),
     }
 }
 
