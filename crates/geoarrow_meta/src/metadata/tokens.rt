@@ -5,7 +5,7 @@ ghost use Rattle.serde_json.specs.Read.{read};
 ghost use Rattle.serde_json.specs.View.{view};
 ghost use Rattle.value_tokens.specs.Next.{next_value, next_members, Reads};
 ghost use Rattle.geoarrow_meta.specs.Read.{present};
-ghost use Rattle.geoarrow_meta.specs.Slots.{IsWord, AreSlotsOf, Finds};
+ghost use Rattle.geoarrow_meta.specs.Slots.{IsWord, AreSlotsOf, Finds, Puts};
 
 use crate::metadata::plain::plain_slots;
 use crate::metadata::read::{Slots, Word, crs_type_of, edges_of};
@@ -77,22 +77,36 @@ fn take_members(alloc: Global, reader: &mut Reader<'_>, depth: usize) -> Result<
         × AreSlotsOf (object ms) (option_map view s.crs) s.crs_type s.edges) }
     ensures text { result ≡ Err Refusal.Text → next_members depth no_members reader.old ≡ None }
 {
-    let mut crs = None;
-    let mut crs_type = Some(None);
-    let mut edges = Some(None);
+    let mut found = Slots {
+        crs: None,
+        crs_type: Some(None),
+        edges: Some(None),
+    };
     'slots: while let Some(key) = reader.next_key()? {
-        match key {
-            "crs" => crs = take_crs(alloc, reader, depth)?,
-            "crs_type" => crs_type = crs_type_of(take_word(reader, depth)?),
-            "edges" => edges = edges_of(take_word(reader, depth)?),
-            _ => skip_value(reader, depth)?,
-        }
+        take_member(alloc, key, reader, depth, &mut found)?;
     }
-    Ok(Slots {
-        crs,
-        crs_type,
-        edges,
-    })
+    Ok(found)
+}
+
+// The value of a key, which comes next, put into what was found before.
+fn take_member(
+    alloc: Global,
+    key: &str,
+    reader: &mut Reader<'_>,
+    depth: usize,
+    found: &mut Slots,
+) -> Result<(), Refusal>
+    ensures ok { OnOk result ((d : Data) × (next_value depth reader.old ≡ Some (d, reader.new)) × Puts key.now d found.old found.new) }
+    ensures shorter { OnOk result (length reader.new < length reader.old) }
+    ensures text { result ≡ Err Refusal.Text → next_value depth reader.old ≡ None }
+{
+    match key {
+        "crs" => found.crs = take_crs(alloc, reader, depth)?,
+        "crs_type" => found.crs_type = crs_type_of(take_word(reader, depth)?),
+        "edges" => found.edges = edges_of(take_word(reader, depth)?),
+        _ => skip_value(reader, depth)?,
+    }
+    Ok(())
 }
 
 // The value that comes next, null as absent.
@@ -114,13 +128,15 @@ fn take_word<'a>(reader: &mut Reader<'a>, depth: usize) -> Result<Word<'a>, Refu
     ensures shorter { OnOk result (length reader.new < length reader.old) }
     ensures text { result ≡ Err Refusal.Text → next_value depth reader.old ≡ None }
 {
-    let token = reader.next().ok_or(Refusal::Text)?;
+    let Some(token) = reader.next() else {
+        return Err(Refusal::Text);
+    };
     match token {
         Token::String(text) => Ok(Word::Text(text)),
         Token::Null => Ok(Word::Absent),
-        other => {
-            skip_rest(other, reader, depth)?;
-            Ok(Word::Other)
-        }
+        other => match skip_rest(other, reader, depth) {
+            Ok(()) => Ok(Word::Other),
+            Err(refusal) => Err(refusal),
+        },
     }
 }
