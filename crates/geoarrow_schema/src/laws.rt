@@ -4,6 +4,7 @@ ghost use Rattle.std.specs.Arc.{arc_value};
 ghost use Rattle.std.specs.Prelude.{◌≡◌, ◌↔◌, IsTrue};
 ghost use Rattle.arrow_values.specs.Tree.{FieldTree};
 ghost use Rattle.geoarrow_meta.specs.Read.{empty};
+ghost use Rattle.geoarrow_schema.specs.contracts.types.GeoArrowTypePartialEq.TheImpl as types;
 ghost use Rattle.geoarrow_schema.specs.Types.{kind_of, meta_of, SameType};
 ghost use Rattle.geoarrow_schema.specs.Reads.{Reads};
 ghost use Rattle.geoarrow_schema.specs.Infers.{Infers, ReadsOrInfers, IsInferable, IsBareColumn};
@@ -77,10 +78,18 @@ pub fn serialized_equality_is_exact<E: Encoding>(
     one == other
 }
 
+/// A law: the test behind `==`, by which a value that holds types is compared, returns true for two types exactly if
+/// their kinds and their metadata are equal. There is nothing to run.
+pub fn type_test_is_exact()
+    ensures { (g h : GeoArrowType) → IsTrue ((types.eq-value).it g h) ↔ SameType g h }
+{
+    equality_test_is_exact();
+}
+
 /// A law: `==` returns true for two types exactly if their kinds and their metadata are equal.
 pub fn equality_is_exact(one: &GeoArrowType, other: &GeoArrowType) -> bool
     ensures { IsTrue result ↔ SameType one.now other.now }
 {
-    equality_test_is_exact();
+    type_test_is_exact();
     one == other
 }
