@@ -3,14 +3,14 @@ ghost use Rattle.std.specs.Prelude.{◌≡◌, ◌↔◌, IsTrue};
 ghost use Rattle.geoarrow_columns.specs.Same.{SameColumn};
 
 use crate::check::{Column, ColumnFault};
-use geoarrow_meta::laws::equality_test_is_exact;
+use geoarrow_schema::laws::type_test_is_exact;
 
 /// A law: `==` returns true for two columns exactly if the variant is the same, and its type, by kind and metadata,
 /// or its fault.
 pub fn equality_is_exact(one: &Column, other: &Column) -> bool
     ensures { IsTrue result ↔ SameColumn one.now other.now }
 {
-    equality_test_is_exact();
+    type_test_is_exact();
     *one == *other
 }
 
