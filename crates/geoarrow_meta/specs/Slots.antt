@@ -1,6 +1,6 @@
 -- What is found at the three keys of a metadata's object, while it is read. Only private contracts cite it.
 use Rattle.std.specs.Prelude.{◌≡◌, codes, Option, None, Some, IsSome, option_map}
-use Rattle.serde_json.specs.Data.{Data, string, object, Members, put}
+use Rattle.serde_json.specs.Data.{Data, string}
 use Rattle.serde_json.specs.Find.{as_object}
 use Rattle.serde_json.specs.View.{view}
 use Rattle.arrow_values.specs.Tree.{Text}
@@ -32,8 +32,3 @@ pub record AreSlotsOf (d : Data) (crs : Option Data) (crs_type : Option (Option 
 abbrev pub Finds : Option Slots → Data → Type 0
 Finds None d = ¬ IsSome (as_object d)
 Finds (Some s) d = IsSome (as_object d) × AreSlotsOf d (option_map view s.crs) s.crs_type s.edges
-
--- a member of that key and value was put into an object, and what is found there now was found before or is that value
-abbrev pub Puts : Text → Data → Slots → Slots → Type 0
-Puts k d old new = (ms : Members) → AreSlotsOf (object ms) (option_map view old.crs) old.crs_type old.edges
-    → AreSlotsOf (object (put k d ms)) (option_map view new.crs) new.crs_type new.edges

@@ -5,7 +5,7 @@ ghost use Rattle.serde_json.specs.Read.{read};
 ghost use Rattle.serde_json.specs.View.{view};
 ghost use Rattle.value_tokens.specs.Next.{next_value, next_members, Reads};
 ghost use Rattle.geoarrow_meta.specs.Read.{present};
-ghost use Rattle.geoarrow_meta.specs.Slots.{IsWord, AreSlotsOf, Finds, Puts};
+ghost use Rattle.geoarrow_meta.specs.Slots.{IsWord, AreSlotsOf, Finds};
 
 use crate::metadata::plain::plain_slots;
 use crate::metadata::read::{Slots, Word, crs_type_of, edges_of};
@@ -77,36 +77,22 @@ fn take_members(alloc: Global, reader: &mut Reader<'_>, depth: usize) -> Result<
         × AreSlotsOf (object ms) (option_map view s.crs) s.crs_type s.edges) }
     ensures text { result ≡ Err Refusal.Text → next_members depth no_members reader.old ≡ None }
 {
-    let mut found = Slots {
-        crs: None,
-        crs_type: Some(None),
-        edges: Some(None),
-    };
+    let mut crs = None;
+    let mut crs_type = Some(None);
+    let mut edges = Some(None);
     'slots: while let Some(key) = reader.next_key()? {
-        take_member(alloc, key, reader, depth, &mut found)?;
+        match key {
+            "crs" => crs = take_crs(alloc, reader, depth)?,
+            "crs_type" => crs_type = crs_type_of(take_word(reader, depth)?),
+            "edges" => edges = edges_of(take_word(reader, depth)?),
+            _ => skip_value(reader, depth)?,
+        }
     }
-    Ok(found)
-}
-
-// The value of a key, which comes next, put into what was found before.
-fn take_member(
-    alloc: Global,
-    key: &str,
-    reader: &mut Reader<'_>,
-    depth: usize,
-    found: &mut Slots,
-) -> Result<(), Refusal>
-    ensures ok { OnOk result ((d : Data) × (next_value depth reader.old ≡ Some (d, reader.new)) × Puts key.now d found.old found.new) }
-    ensures shorter { OnOk result (length reader.new < length reader.old) }
-    ensures text { result ≡ Err Refusal.Text → next_value depth reader.old ≡ None }
-{
-    match key {
-        "crs" => found.crs = take_crs(alloc, reader, depth)?,
-        "crs_type" => found.crs_type = crs_type_of(take_word(reader, depth)?),
-        "edges" => found.edges = edges_of(take_word(reader, depth)?),
-        _ => skip_value(reader, depth)?,
-    }
-    Ok(())
+    Ok(Slots {
+        crs,
+        crs_type,
+        edges,
+    })
 }
 
 // The value that comes next, null as absent.
@@ -128,15 +114,13 @@ fn take_word<'a>(reader: &mut Reader<'a>, depth: usize) -> Result<Word<'a>, Refu
     ensures shorter { OnOk result (length reader.new < length reader.old) }
     ensures text { result ≡ Err Refusal.Text → next_value depth reader.old ≡ None }
 {
-    let Some(token) = reader.next() else {
-        return Err(Refusal::Text);
-    };
+    let token = reader.next().ok_or(Refusal::Text)?;
     match token {
         Token::String(text) => Ok(Word::Text(text)),
         Token::Null => Ok(Word::Absent),
-        other => match skip_rest(other, reader, depth) {
-            Ok(()) => Ok(Word::Other),
-            Err(refusal) => Err(refusal),
-        },
+        other => {
+            skip_rest(other, reader, depth)?;
+            Ok(Word::Other)
+        }
     }
 }

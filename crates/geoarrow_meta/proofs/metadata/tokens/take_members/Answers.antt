@@ -1,7 +1,9 @@
-use Rattle.std.proofs.Common.{refl, arith, ◌∙◌}
+use Rattle.std.proofs.Common.{Some, refl, arith, ◌∙◌}
 use Rattle.serde_json.specs.Data.{no_members}
-use Rattle.value_tokens.specs.Turns.{key_refused, members_over}
-use Rattle.geoarrow_meta.proofs.Slots.{slots_refused, slots_go_on}
+use Rattle.value_tokens.specs.Next.{next_value}
+use Rattle.value_tokens.specs.Turns.{after_some, key_refused, members_over}
+use Rattle.geoarrow_meta.specs.Read.{present}
+use Rattle.geoarrow_meta.proofs.Slots.{slots_refused, slots_go_on, crs_put, crs_type_put, edges_put, other_put}
 use Rattle.geoarrow_meta.proofs.metadata.tokens.take_members.Goals as goal
 
 pub slots-init : goal.slots-init
@@ -12,15 +14,44 @@ returns-in_err-key-clause-text c refused =
     let way = c.slots.invariant in
     way.decides ∙ key_refused c.args.depth way.found c.slots.reader c.in_err-key.ensures.value
 
-pub returns-in_err-take_member-clause-text : goal.returns-in_err-take_member-clause-text
-returns-in_err-take_member-clause-text c refused =
-    slots_refused c.slots.invariant c.in-Some.key.now c.next_key.new.self (grind arith) (c.take_member.ensures.text (grind arith))
+pub returns-in_err-crs-in-crs-clause-text : goal.returns-in_err-crs-in-crs-clause-text
+returns-in_err-crs-in-crs-clause-text c refused =
+    slots_refused c.slots.invariant c.in-Some.key.now c.next_key.new.self (grind arith) (c.take_crs.ensures.text (grind arith))
+
+pub slots-preserved-then-str_eq : goal.slots-preserved-then-str_eq
+slots-preserved-then-str_eq c =
+    let read = c.in_ok-crs-in-crs.ensures.ok in
+    slots_go_on c.slots.invariant c.in-Some.key.now c.next_key.new.self (grind arith) read.1 (crs_put _ _ c.slots.invariant.slots c.in-crs.is read.2)
+
+pub returns-in_err-take_word-in-crs_type-clause-text : goal.returns-in_err-take_word-in-crs_type-clause-text
+returns-in_err-take_word-in-crs_type-clause-text c refused =
+    slots_refused c.slots.invariant c.in-Some.key.now c.next_key.new.self (grind arith) (c.take_word.ensures.text (grind arith))
+
+pub slots-preserved-then-str_eq-2 : goal.slots-preserved-then-str_eq-2
+slots-preserved-then-str_eq-2 c =
+    let read = c.in_ok-take_word-in-crs_type.ensures.ok in
+    slots_go_on c.slots.invariant c.in-Some.key.now c.next_key.new.self (grind arith) read.1
+    (crs_type_put _ _ c.slots.invariant.slots c.in-crs_type.is (c.crs_type_of-crs_type.ensures (present (Some read.0)) read.2))
+
+pub returns-in_err-take_word-in-edges-clause-text : goal.returns-in_err-take_word-in-edges-clause-text
+returns-in_err-take_word-in-edges-clause-text c refused =
+    slots_refused c.slots.invariant c.in-Some.key.now c.next_key.new.self (grind arith) (c.take_word-in-edges.ensures.text (grind arith))
+
+pub slots-preserved-then-str_eq-3 : goal.slots-preserved-then-str_eq-3
+slots-preserved-then-str_eq-3 c =
+    let read = c.in_ok-take_word-in-edges.ensures.ok in
+    slots_go_on c.slots.invariant c.in-Some.key.now c.next_key.new.self (grind arith) read.1
+    (edges_put _ _ c.slots.invariant.slots c.in-edges.is (c.edges_of-edges.ensures (present (Some read.0)) read.2))
 
 pub slots-preserved : goal.slots-preserved
 slots-preserved c =
-    let way = c.slots.invariant in
-    let put = c.in_ok-take_member.ensures.ok in
-    slots_go_on way c.in-Some.key.now c.next_key.new.self (grind arith) put.1 (put.2 way.found way.slots)
+    let d = after_some (next_value c.args.depth c.next_key.new.self) c.skip_value.new.reader c.in_ok-skip_value-in_default-key.ensures.ok in
+    slots_go_on c.slots.invariant c.in-Some.key.now c.next_key.new.self (grind arith) d.1
+    (other_put _ _ c.slots.invariant.slots c.in_default-key.not-crs c.in_default-key.not-crs_type c.in_default-key.not-edges)
+
+pub returns-in_err-skip_value-in_default-key-clause-text : goal.returns-in_err-skip_value-in_default-key-clause-text
+returns-in_err-skip_value-in_default-key-clause-text c refused =
+    slots_refused c.slots.invariant c.in-Some.key.now c.next_key.new.self (grind arith) (c.skip_value.ensures.text (grind arith))
 
 pub returns-clause-ok : goal.returns-clause-ok
 returns-clause-ok c =

@@ -7,8 +7,8 @@ use Rattle.value_tokens.specs.Beginnings.{passed, next_string, next_null, no_tex
 use Rattle.geoarrow_meta.proofs.Slots.{no_word}
 use Rattle.geoarrow_meta.proofs.metadata.tokens.take_word.Goals as goal
 
-pub returns-in_default-clause-text : goal.returns-in_default-clause-text
-returns-in_default-clause-text c refused = no_value c.args.depth c.args.reader.now (grind arith)
+pub returns-in_err-token-clause-text : goal.returns-in_err-token-clause-text
+returns-in_err-token-clause-text c refused = no_value c.args.depth c.args.reader.now (grind arith)
 
 pub returns-in-String-clause-ok : goal.returns-in-String-clause-ok
 returns-in-String-clause-ok c =
@@ -20,9 +20,9 @@ returns-in-Null-clause-ok c =
     let is : c.args.reader.now ≡ Token.null ∷ c.next.new.self = grind arith in
     (_, ap (next_value c.args.depth) is ∙ next_null c.args.depth c.next.new.self, refl)
 
-pub returns-in-Ok : goal.returns-in-Ok
-returns-in-Ok c =
-    let first : c.args.reader.now ≡ token_of c.in-Some.token ∷ c.next.new.self = grind arith in
-    let d = passed c.args.depth c.in-Some.token c.args.reader.now c.next.new.self c.skip_rest.new.reader first c.in-Ok.ensures.ok in
-    let other = no_word d.0 (no_null c.in-Some.token d.0 d.2 c.in_default-token.not-Null) (no_text c.in-Some.token d.0 d.2 c.in_default-token.not-String) in
-    record { ok = (d.0, d.1, other); shorter = omega (arith, ap length first, c.in-Ok.ensures.shorter); text = λ never. cc }
+pub returns-in_ok-skip_rest-in_default : goal.returns-in_ok-skip_rest-in_default
+returns-in_ok-skip_rest-in_default c =
+    let first : c.args.reader.now ≡ token_of c.in_ok-token.token ∷ c.next.new.self = grind arith in
+    let d = passed c.args.depth c.in_ok-token.token c.args.reader.now c.next.new.self c.skip_rest.new.reader first c.in_ok-skip_rest-in_default.ensures.ok in
+    let other = no_word d.0 (no_null c.in_ok-token.token d.0 d.2 c.in_default.not-Null) (no_text c.in_ok-token.token d.0 d.2 c.in_default.not-String) in
+    record { ok = (d.0, d.1, other); shorter = omega (arith, ap length first, c.in_ok-skip_rest-in_default.ensures.shorter); text = λ never. cc }
