@@ -1,5 +1,5 @@
 //! Tests in code: the callers of `uses` and its extension type, and what no row of `rows` can show: what a value hands out, and readers
-//! and writers that are slow or fail. `bin/code_tests` runs them, with the examples of the docs beside them.
+//! and writers that are slow or fail.
 #![tactic(auto)]
 
 #[cfg(test)]

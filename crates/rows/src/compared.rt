@@ -1,5 +1,7 @@
 //! Values that a text spells, cloned and compared.
-use crate::words::truth;
+use crate::asked::Asked;
+use crate::said::{Said, say};
+use crate::texts::halves;
 use std::alloc::{AllocError, Global};
 use std::hash::{DefaultHasher, Hash, Hasher};
 
@@ -26,40 +28,36 @@ fn are_equal<T: Compared>(alloc: Global, one: &str, other: &str) -> Result<bool,
     one.is_cloned_as(alloc, &other)
 }
 
-/// Whether of the values with ` ; ` between them the one at a place alone is equal to a clone of this one. Says which is not
-/// as it should be.
-fn is_itself_alone<T: Compared>(
+/// Says that a clone of one value is equal to the other, or is not, where that is not to be; nothing where something is said.
+fn say_not_so<T: Compared>(
     alloc: Global,
-    said: &mut String,
-    text: &str,
-    at: usize,
+    said: &mut Said,
     one: &str,
-) -> Result<bool, AllocError> {
-    for (other_at, other) in text.split(" ; ").enumerate() {
-        if are_equal::<T>(alloc, one, other)? != (at == other_at) {
-            write!(said, "not so: {one} and {other}")?;
-            return Ok(false);
-        }
+    other: &str,
+    are_same: bool,
+) -> Result<(), AllocError> {
+    if said.text.is_empty() && are_equal::<T>(alloc, one, other)? != are_same {
+        say!(said, "not so: {one} and {other}");
     }
-    Ok(true)
+    Ok(())
 }
 
 /// Says whether each of the values with ` ; ` between them is equal to a clone of itself, and to none of the others.
-pub fn distinct<T: Compared>(
-    alloc: Global,
-    said: &mut String,
-    text: &str,
-) -> Result<(), AllocError> {
-    for (at, one) in text.split(" ; ").enumerate() {
-        if !is_itself_alone::<T>(alloc, said, text, at, one)? {
-            return Ok(());
+pub fn distinct<T: Compared>(it: &mut Asked<'_>) -> Result<(), AllocError> {
+    for (at, one) in it.text.split(" ; ").enumerate() {
+        for (other_at, other) in it.text.split(" ; ").enumerate() {
+            say_not_so::<T>(it.alloc, &mut it.said, one, other, at == other_at)?;
         }
     }
-    said.push_str("each is equal to itself alone")
+    if it.said.text.is_empty() {
+        it.said.push("each is equal to itself alone");
+    }
+    Ok(())
 }
 
 /// Says whether the values with ` | ` between them are equal.
-pub fn equal<T: Compared>(alloc: Global, said: &mut String, text: &str) -> Result<(), AllocError> {
-    let (one, other) = text.split_once(" | ").ok_or(AllocError)?;
-    truth(said, are_equal::<T>(alloc, one, other)?)
+pub fn equal<T: Compared>(it: &mut Asked<'_>) -> Result<(), AllocError> {
+    let (one, other) = halves(it.text)?;
+    it.said.truth(are_equal::<T>(it.alloc, one, other)?);
+    Ok(())
 }

@@ -1,77 +1,46 @@
 //! Rows of data types, their layouts and their kinds: calls of `arrow_values` and of `geoarrow_layout`. A row's text says its
-//! data types in the notation of `notation`; `texts` says what else a text may hold.
+//! data types in the notation of `notation`; `trees` says what else a text may hold.
 mod built;
 mod changes;
 mod errors;
 mod read;
 mod summaries;
 mod tables;
-mod texts;
+mod trees;
 mod values;
-mod words;
 
+use crate::asked::Asked;
 use crate::compared::distinct;
-use crate::memory::Memory;
 use arrow_values::{DataType, Field, Fields, UnionFields};
-use std::alloc::{AllocError, Global};
+use std::alloc::AllocError;
 
 /// Says the answer to a text under a command. Errs where the text does not spell what the command is asked about.
-pub fn answer(
-    alloc: Global,
-    said: &mut String,
-    memory: Memory,
-    command: &str,
-    text: &str,
-) -> Result<(), AllocError> {
-    match (command, memory) {
-        ("keep_members" | "retain_ids", _) => changes::kept(alloc, said, memory, command, text),
-        ("append_members" | "append", _) => changes::joined(alloc, said, memory, command, text),
-        ("dimension", _) => tables::dimension_of(alloc, said, memory, text),
-        ("UnionFields::try_new", _) => values::made(alloc, said, memory, text),
-        ("into_arrow_error", _) => errors::into_arrow(alloc, said, memory, text),
-        (_, Memory::Before | Memory::Refused) => read::read(alloc, said, memory, command, text),
-        (_, Memory::Ample) => tell_or_build(alloc, said, command, text),
+pub fn answer(it: &mut Asked<'_>) -> Result<(), AllocError> {
+    match it.command {
+        "keep_members" | "retain_ids" => changes::kept(it),
+        "append_members" | "append" => changes::joined(it),
+        "part_and_join" => changes::parted(it),
+        "GeoArrowError" | "ArrowError" | "into_arrow_error" => errors::answer(it),
+        "layout" | "coord_data_type" | "mixed_data_type" => built::answer(it),
+        "spelled" | "printed" | "equal" | "UnionFields::try_new" => values::answer(it),
+        "kind" | "parse_kind" | "parse_native" => read::named(it),
+        "alike" => read::likeness(it),
+        _ => tables_or_read(it),
     }
 }
 
-/// The same for the commands about tables, and for those that build data types.
-fn tell_or_build(
-    alloc: Global,
-    said: &mut String,
-    command: &str,
-    text: &str,
-) -> Result<(), AllocError> {
-    match command {
-        "parts" => tables::parts(alloc, said, text),
-        "default" => tables::default(said, text),
-        "name" => tables::name(said, text),
-        "dimensions" => tables::dimensions(said, text),
-        "error" => tables::error(alloc, said, text),
-        "GeoArrowError" => errors::geoarrow(alloc, said, text),
-        "ArrowError" => errors::arrow(alloc, said, text),
-        "layout" => built::layout(alloc, said, text),
-        "coord_data_type" => built::coords(alloc, said, text),
-        "mixed_data_type" => built::mixed(alloc, said, text),
-        _ => change_or_compare(alloc, said, command, text),
-    }
-}
-
-/// The same for the commands that change unions, and for those that compare values.
-fn change_or_compare(
-    alloc: Global,
-    said: &mut String,
-    command: &str,
-    text: &str,
-) -> Result<(), AllocError> {
-    match command {
-        "part_and_join" => changes::parted(alloc, said, text),
-        "spelled" => values::spelled(alloc, said, text),
-        "nested" => values::nested(alloc, said, text),
-        "equal" => values::equal(alloc, said, text),
-        "distinct_types" => distinct::<DataType>(alloc, said, text),
-        "distinct_fields" => distinct::<Field>(alloc, said, text),
-        "distinct_lists" => distinct::<Fields>(alloc, said, text),
-        "distinct_members" => distinct::<UnionFields>(alloc, said, text),
-        _ => read::read(alloc, said, Memory::Ample, command, text),
+/// The same for the commands about tables, those that compare values, and those that read a data type.
+fn tables_or_read(it: &mut Asked<'_>) -> Result<(), AllocError> {
+    match it.command {
+        "parts" => tables::parts(it),
+        "default" | "name" => tables::name(it),
+        "dimensions" => tables::dimensions(it),
+        "dimension" => tables::dimension(it),
+        "error" => tables::error(it),
+        "distinct_types" => distinct::<DataType>(it),
+        "distinct_fields" => distinct::<Field>(it),
+        "distinct_lists" => distinct::<Fields>(it),
+        "distinct_members" => distinct::<UnionFields>(it),
+        _ => read::one(it),
     }
 }

@@ -3,53 +3,55 @@
 //! runs of `runs`.
 mod runs;
 
-use crate::words::{geoarrow_refusal, no_command, text};
+use crate::asked::Asked;
+use crate::said::Said;
 use arrow_values::Field;
-use field_lines::{field_line, parse_line};
+use field_lines::parse_line;
 use geoarrow_fields::{Command, answer_line};
 use geoarrow_schema::GeoArrowType;
 use std::alloc::{AllocError, Global};
 
+/// The command of the program that has a name.
+fn command_of(name: &str) -> Option<Command> {
+    match name {
+        "read" => Some(Command::Read),
+        "infer" => Some(Command::Infer),
+        "canon" => Some(Command::Canon),
+        "columns" => Some(Command::Columns),
+        _ => None,
+    }
+}
+
 /// Says the answer to a line under a command.
-pub fn answer(
-    alloc: Global,
-    said: &mut String,
-    command: &str,
-    line: &[u8],
-) -> Result<(), AllocError> {
-    match command {
-        "read" => text(said, answer_line(alloc, Command::Read, line)),
-        "infer" => text(said, answer_line(alloc, Command::Infer, line)),
-        "canon" => text(said, answer_line(alloc, Command::Canon, line)),
-        "columns" => text(said, answer_line(alloc, Command::Columns, line)),
-        "field" => field(alloc, said, line),
-        "refusal" => refusal(alloc, said, line),
-        "run" | "serve" => runs::answer(alloc, said, command, line),
-        _ => no_command(said),
+pub fn answer(it: &mut Asked<'_>) -> Result<(), AllocError> {
+    if let Some(command) = command_of(it.command) {
+        it.said.made(answer_line(it.alloc, command, it.bytes));
+        return Ok(());
+    }
+    match it.command {
+        "run" | "serve" => runs::answer(it),
+        _ => of_field(it),
     }
 }
 
-/// Says the line of the field that a line stands for; `none` where it stands for none.
-fn field(alloc: Global, said: &mut String, line: &[u8]) -> Result<(), AllocError> {
-    match parse_line(alloc, line)? {
-        Some(field) => text(said, field_line(alloc, &field)),
-        None => said.push_str("none"),
+/// Says what a command answers about the field that a line stands for, if it stands for one.
+fn of_field(it: &mut Asked<'_>) -> Result<(), AllocError> {
+    let field = parse_line(it.alloc, it.bytes)?;
+    match (it.command, &field) {
+        ("field", Some(field)) => it.said.line(it.alloc, field),
+        ("field", None) => it.said.push("none"),
+        ("refusal", Some(field)) => refusal(it.alloc, &mut it.said, field),
+        ("refusal", None) => it.said.push("no field"),
+        _ => it.no_command(),
     }
-}
-
-/// Says the text of the error by which the field of a line is refused; else whether there is a field, and whether it is read.
-fn refusal(alloc: Global, said: &mut String, line: &[u8]) -> Result<(), AllocError> {
-    match parse_line(alloc, line)? {
-        Some(field) => refusal_of(alloc, said, &field),
-        None => said.push_str("no field"),
-    }
+    Ok(())
 }
 
 /// Says the text of the error by which a field is refused; else whether it is read.
-fn refusal_of(alloc: Global, said: &mut String, field: &Field) -> Result<(), AllocError> {
+fn refusal(alloc: Global, said: &mut Said, field: &Field) {
     match GeoArrowType::from_extension_field(alloc, field) {
-        Ok(Some(_)) => said.push_str("read as a type"),
-        Ok(None) => said.push_str("read as none"),
-        Err(error) => geoarrow_refusal(alloc, said, error),
+        Ok(Some(_)) => said.push("read as a type"),
+        Ok(None) => said.push("read as none"),
+        Err(error) => said.geoarrow_refusal(&error),
     }
 }

@@ -1,7 +1,8 @@
-//! Answers rows, for `bin/rows`, which compares them. The data has a folder a layer, and each layer is a module of that name, with
-//! the commands of the layer, which are named for the calls.
+//! Rows: test vectors in files, which this program reads, answers and judges.
 //!
-//! A row is a question and its answer, in two lines: a command, a space and a text; and then the answer, whole.
+//! The folder that it is run in has a folder for each layer, and each layer is a module of that name, with the commands of the
+//! layer, which are named for the calls. A row is a question and its answer, in two lines: a command, a space and a text; and then
+//! the answer, whole.
 //!
 //! ```text
 //! # What the rows of this file show.
@@ -10,118 +11,109 @@
 //! separated XY
 //! ```
 //!
-//! Standard input holds a line of three words and then questions, one a line. The words are a number of requests for memory, which
-//! are made for nothing first; `ample`, `before` or `refused`, for what the call of a question may ask for (`memory`); and a layer. The
-//! answers are printed one a line. Before each stands where the request fell that `bin/rows` has refused: `before 12`, after so many
-//! of those for nothing; `within`, while the question was answered; or `after 7`, after so many that follow the answer.
+//! `rows` says which of them says more of a row: what may stand before a question, and how a long text is spelled.
 //!
-//! A command says its answer at the end of a text that it is passed. So there is no text to drop where it fails, and less to
-//! prove.
+//! Without an argument each row is answered, and the program prints for each file how many answers are right, before that each wrong
+//! row, and last `N passed, M failed`, rows counted. With the argument `faults`, and over the library that `bin/faults` makes,
+//! the rows that speak of memory are answered while requests for memory are refused (`faults`).
+//!
+//! A command says its answer to a text that remembers whether it was out of memory (`said`). So saying cannot fail, and there
+//! is less to prove.
 #![tactic(auto)]
 
+mod asked;
 mod compared;
+mod faults;
 mod layouts;
 mod lines;
 mod memory;
 mod metadata;
 mod notation;
+mod repeated;
+mod rows;
+mod said;
 mod schema;
-mod words;
+mod texts;
 
-use memory::{Memory, REQUESTS, refused_after};
-use std::alloc::{AllocError, Global};
-use std::io;
-use std::io::Read;
+use said::Said;
+use std::io::Write;
+use std::process::ExitCode;
+use std::{env, fs, io};
 
-/// What is asked.
-#[derive(Clone, Copy)]
-struct Asked<'a> {
-    requests: usize,
-    memory: Memory,
-    layer: &'a str,
-    questions: &'a [u8],
-}
+/// The layers.
+const LAYERS: [&str; 4] = ["layouts", "lines", "metadata", "schema"];
 
-/// What an input asks; none where it is no such input.
-fn read_input(input: &[u8]) -> Option<Asked<'_>> {
-    let mut parts = input.splitn(2, |byte| *byte == b'\n');
-    let words = str::from_utf8(parts.next()?).ok()?;
-    let (requests, words) = words.split_once(' ')?;
-    let (memory, layer) = words.split_once(' ')?;
-    let questions = parts.next()?;
-    Some(Asked {
-        requests: requests.parse().ok()?,
-        memory: Memory::of_name(memory)?,
-        layer,
-        questions: questions.strip_suffix(b"\n").unwrap_or(questions),
-    })
-}
-
-/// Says the answer to a question, which is a command, a space and a text. Errs when out of memory, and where the text does
-/// not spell what the command is asked about.
-fn answer(
-    alloc: Global,
-    said: &mut String,
-    (memory, layer): (Memory, &str),
-    question: &[u8],
-) -> Result<(), AllocError> {
-    let mut parts = question.splitn(2, |byte| *byte == b' ');
-    let Some(Ok(command)) = parts.next().map(str::from_utf8) else {
-        return words::no_command(said);
-    };
-    let text = parts.next().unwrap_or(b"");
-    if layer == "lines" {
-        return lines::answer(alloc, said, command, text);
+/// Whether the program's argument is `faults`.
+fn is_faults(rt: &HostRuntime) -> io::Result<bool> {
+    let mut found = false;
+    for word in env::args(rt)?.skip(1) {
+        found = word.as_str() == "faults";
     }
-    let Ok(text) = str::from_utf8(text) else {
-        return Err(AllocError);
-    };
-    match layer {
-        "layouts" => layouts::answer(alloc, said, memory, command, text),
-        "metadata" => metadata::answer(alloc, said, memory, command, text),
-        "schema" => schema::answer(alloc, said, memory, command, text),
-        _ => words::no_command(said),
-    }
+    Ok(found)
 }
 
-/// Prints an answer, and before it where the refused request fell.
-fn print(
+/// The names of the files in a folder, in order.
+fn names_in(rt: &HostRuntime, folder: &str) -> io::Result<Vec<String>> {
+    let mut names = Vec::new(rt.alloc());
+    for entry in fs::read_dir(rt, folder)? {
+        let name = String::from_str(rt.alloc(), entry?.file_name())?;
+        names.push(name)?;
+    }
+    names.sort()?;
+    Ok(names)
+}
+
+/// Judges the rows of a file, and prints what is said of them.
+fn judge_file(
     rt: &HostRuntime,
-    before: Option<usize>,
-    after: Option<usize>,
-    words: &str,
+    layer: &'static str,
+    name: &str,
+    tally: &mut rows::Tally,
 ) -> io::Result<()> {
-    match (before, after) {
-        (Some(met), _) => println!(rt; "before {met} {words}"),
-        (None, Some(met)) => println!(rt; "after {met} {words}"),
-        (None, None) => println!(rt; "within {words}"),
-    }
+    let file = [layer, "/", name].concat(rt.alloc())?;
+    let text = fs::read(rt, file.as_str()).unwrap_or(Vec::new(rt.alloc()));
+    let mut report = Said::new(rt.alloc());
+    rows::judge(
+        rt.alloc(),
+        &mut report,
+        tally,
+        (layer, file.as_str()),
+        text.as_slice(),
+    );
+    rt.stdout().write_all(report.text.as_bytes())
 }
 
-/// Answers the questions.
-fn answer_all(rt: &HostRuntime, asked: Asked<'_>) -> io::Result<()> {
-    let alloc = rt.alloc();
-    let before = refused_after(alloc, asked.requests);
-    let mut said = String::new(alloc);
-    for question in asked.questions.split(|byte| *byte == b'\n') {
-        said.clear();
-        let found = answer(alloc, &mut said, (asked.memory, asked.layer), question);
-        let after = refused_after(alloc, REQUESTS);
-        let words = match (found, before) {
-            (Ok(()), _) => said.as_str(),
-            (Err(_), Some(_)) => "the text spells nothing",
-            (Err(_), None) => "out of memory",
-        };
-        print(rt, before, after, words)?;
+/// Judges the rows of all files.
+fn judge_all(rt: &HostRuntime, tally: &mut rows::Tally) -> io::Result<()> {
+    for layer in LAYERS {
+        for name in names_in(rt, layer)? {
+            judge_file(rt, layer, name.as_str(), tally)?;
+        }
     }
     Ok(())
 }
 
-fn main(rt: HostRuntime) -> io::Result<()> {
-    let mut input = Vec::new(rt.alloc());
-    rt.stdin().read_to_end(&mut input)?;
-    match read_input(input.as_slice()) {
-        Some(asked) => answer_all(&rt, asked),
-        None => Ok(()),
+/// Judges the rows, and prints how many are right and how many are wrong. Whether all are right.
+fn run(rt: &HostRuntime) -> io::Result<bool> {
+    let is_faults = is_faults(rt)?;
+    if is_faults && !faults::are_refused(rt.alloc()) {
+        println!(rt; "no request is refused: bin/faults starts this over a library that does so")?;
+        println!(rt; "0 passed, 1 failed")?;
+        return Ok(false);
+    }
+    let mut tally = rows::Tally::new(is_faults);
+    judge_all(rt, &mut tally)?;
+    println!(rt; "{} passed, {} failed", tally.right, tally.wrong)?;
+    Ok(tally.wrong == 0 && tally.right > 0)
+}
+
+fn main(rt: HostRuntime) -> ExitCode {
+    match run(&rt) {
+        Ok(true) => ExitCode::from(0),
+        Ok(false) => ExitCode::from(1),
+        Err(error) => {
+            let _ = println!(rt; "{error}");
+            ExitCode::from(1)
+        }
     }
 }

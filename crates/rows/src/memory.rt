@@ -1,57 +1,30 @@
-//! Requests for memory: those of a run of which one is refused, and calls that are to make none.
+//! Requests for memory that are refused.
 //!
-//! `bin/rows` has one request of each run refused, always the same one, and lets the program make some for nothing first. So it
-//! decides at which place of a row that one falls.
-use std::alloc::{AllocError, Global};
+//! The library that `bin/faults` starts the program with knows two requests that no program makes otherwise. Without it both
+//! fail, as any request of that size.
+use std::alloc::Global;
+use std::hint::black_box;
 
-/// More requests than are made before the one that is refused, and than a row makes.
-pub const REQUESTS: usize = 4_000;
+/// A request of so many bytes and n has the n-th request from there on refused, that one alone. It fails.
+const REFUSE: usize = 1 << 60;
 
-/// Makes so many requests for nothing. Says after how many one was refused; none where none was.
-pub fn refused_after(alloc: Global, requests: usize) -> Option<usize> {
-    for met in 0..requests {
-        if Box::new(alloc, 0u8).is_err() {
-            return Some(met);
-        }
+/// A request of so many bytes ends that, and succeeds exactly where a request was refused.
+const END: usize = 1 << 61;
+
+/// Whether a request of so many bytes succeeds.
+fn is_granted(alloc: Global, bytes: usize) -> bool {
+    match Vec::<u8>::with_capacity(alloc, bytes) {
+        Ok(held) => black_box(held).capacity() > 0,
+        Err(_) => false,
     }
-    None
 }
 
-/// What the call that a row is about may ask for.
-#[derive(Clone, Copy)]
-pub enum Memory {
-    /// Whatever it wants.
-    Ample,
-    /// It is not made: so the requests before it are counted.
-    Before,
-    /// Nothing: the next request is refused.
-    Refused,
+/// Has the n-th request from here on refused, that one alone.
+pub fn refuse(alloc: Global, nth: usize) {
+    let _ = is_granted(alloc, REFUSE.saturating_add(nth));
 }
 
-impl Memory {
-    /// The one of a name.
-    pub fn of_name(name: &str) -> Option<Memory> {
-        match name {
-            "ample" => Some(Memory::Ample),
-            "before" => Some(Memory::Before),
-            "refused" => Some(Memory::Refused),
-            _ => None,
-        }
-    }
-
-    /// Stands before the call. Errs where it is not to be made.
-    pub fn before_call(self) -> Result<(), AllocError> {
-        match self {
-            Memory::Ample | Memory::Refused => Ok(()),
-            Memory::Before => Err(AllocError),
-        }
-    }
-
-    /// Stands behind the call. Errs where the call has made the request that is refused, and where that one is still further off.
-    pub fn after_call(self, alloc: Global) -> Result<(), AllocError> {
-        match self {
-            Memory::Ample | Memory::Before => Ok(()),
-            Memory::Refused => refused_after(alloc, 1).map(|_| ()).ok_or(AllocError),
-        }
-    }
+/// Ends that. Whether a request was refused.
+pub fn was_refused(alloc: Global) -> bool {
+    is_granted(alloc, END)
 }

@@ -14,10 +14,7 @@
 //! not be null: `1: Struct(x, y)`.
 //!
 //! What spells no data type is an error, so that a row of it is wrong.
-use arrow_values::{
-    DataType, EXTENSION_TYPE_METADATA_KEY, EXTENSION_TYPE_NAME_KEY, Field, Fields, UnionFields,
-    UnionMode,
-};
+use arrow_values::{DataType, Field, Fields, UnionFields, UnionMode};
 use field_lines::parse_line;
 use std::alloc::{AllocError, Global};
 use std::collections::BTreeMap;
@@ -35,6 +32,11 @@ pub fn data_type(alloc: Global, text: &str) -> Result<DataType, AllocError> {
     read_type(alloc, text, LEVELS)
 }
 
+/// The fields that a text spells, as they stand between the brackets of `Struct(..)`. Errs also where it spells none.
+pub fn fields(alloc: Global, text: &str) -> Result<Fields, AllocError> {
+    read_fields(alloc, text, LEVELS)
+}
+
 /// The union members that a text spells, as they stand between the brackets of `Union(..)`. Errs also where it spells
 /// none.
 pub fn members(alloc: Global, text: &str) -> Result<UnionFields, AllocError> {
@@ -46,34 +48,30 @@ pub fn spelled(alloc: Global, text: &str) -> Result<Field, AllocError> {
     read_field(alloc, text, LEVELS)
 }
 
-/// A field `g` that may be null, of that data type, with those keys and texts.
-pub fn column(alloc: Global, texts: &[(&str, &str)], data_type: &str) -> Result<Field, AllocError> {
-    let mut map = BTreeMap::new(alloc);
-    for &(key, text) in texts {
-        let text = String::from_str(alloc, text)?;
-        drop(map.insert(String::from_str(alloc, key)?, text)?);
-    }
-    let data_type = read_type(alloc, data_type, LEVELS)?;
-    Ok(Field::new(alloc, "g", data_type, true)?.with_metadata(map))
-}
-
-/// The same with an extension name alone.
-pub fn named(alloc: Global, name: &str, data_type: &str) -> Result<Field, AllocError> {
-    column(alloc, &[(EXTENSION_TYPE_NAME_KEY, name)], data_type)
-}
-
-/// The same with a metadata text too.
-pub fn described(
+/// A field `g` that may be null, of that data type, with those keys and the texts that there are.
+pub fn column(
     alloc: Global,
-    name: &str,
-    text: &str,
+    texts: &[(&str, Option<&str>)],
     data_type: &str,
 ) -> Result<Field, AllocError> {
-    let texts = [
-        (EXTENSION_TYPE_NAME_KEY, name),
-        (EXTENSION_TYPE_METADATA_KEY, text),
-    ];
-    column(alloc, &texts, data_type)
+    let data_type = read_type(alloc, data_type, LEVELS)?;
+    let field = Field::new(alloc, "g", data_type, true)?;
+    Ok(field.with_metadata(map_of(alloc, texts)?))
+}
+
+/// Those keys and the texts that there are.
+fn map_of(
+    alloc: Global,
+    texts: &[(&str, Option<&str>)],
+) -> Result<BTreeMap<String, String>, AllocError> {
+    let mut map = BTreeMap::new(alloc);
+    for &(key, text) in texts {
+        if let Some(text) = text {
+            let text = String::from_str(alloc, text)?;
+            drop(map.insert(String::from_str(alloc, key)?, text)?);
+        }
+    }
+    Ok(map)
 }
 
 /// The plain type of a name.
@@ -144,7 +142,7 @@ fn read_type(alloc: Global, text: &str, levels: u8) -> Result<DataType, AllocErr
     let inner = rest.strip_suffix(')').ok_or(AllocError)?;
     let levels = levels.checked_sub(1).ok_or(AllocError)?;
     match head {
-        "Struct" => read_struct(alloc, inner, levels),
+        "Struct" => Ok(DataType::Struct(read_fields(alloc, inner, levels)?)),
         "FixedSizeList" => read_sized(alloc, inner, levels),
         "Union" => Ok(DataType::Union(read_members(alloc, inner, levels)?, UnionMode::Dense)),
         "SparseUnion" => Ok(DataType::Union(
@@ -176,14 +174,14 @@ fn read_field(alloc: Global, text: &str, levels: u8) -> Result<Field, AllocError
     Field::new(alloc, name, data_type, nullable)
 }
 
-/// The struct of the fields that a text spells.
+/// The fields that a text spells, as they stand between the brackets of `Struct(..)`.
 #[cycle(notation)]
-fn read_struct(alloc: Global, text: &str, levels: u8) -> Result<DataType, AllocError> {
+fn read_fields(alloc: Global, text: &str, levels: u8) -> Result<Fields, AllocError> {
     let mut fields = Vec::new(alloc);
     for part in parts(alloc, text)? {
         fields.push(read_field(alloc, part, levels)?)?;
     }
-    Ok(DataType::Struct(Fields::from(fields)))
+    Ok(Fields::from(fields))
 }
 
 /// The fixed size list of a field and a size.

@@ -1,40 +1,22 @@
 //! Commands that build data types. Each says the line of a field `g`, which may be null, of the data type.
-use crate::layouts::texts::{coord_type, dimension, kind, words};
-use crate::words::text as say;
+use crate::asked::Asked;
+use crate::texts::{coord_type, dimension, first_word, kind};
 use arrow_values::{DataType, Field};
-use field_lines::field_line;
 use geoarrow_layout::{
     Kind, box_data_type, coord_data_type, geometry_data_type, kind_data_type, list_data_type,
     mixed_data_type, wkb_data_type, wkt_data_type,
 };
 use std::alloc::{AllocError, Global};
 
-/// Says the line of a field of the data type.
-fn line(alloc: Global, said: &mut String, data_type: DataType) -> Result<(), AllocError> {
-    say(
-        said,
-        field_line(alloc, &Field::new(alloc, "g", data_type, true)?),
-    )
-}
-
-/// Builds coordinates.
-pub fn coords(alloc: Global, said: &mut String, text: &str) -> Result<(), AllocError> {
-    let (first, second) = words(text)?;
-    line(
-        alloc,
-        said,
-        coord_data_type(alloc, coord_type(first)?, dimension(second)?)?,
-    )
-}
-
-/// Builds the union in a collection.
-pub fn mixed(alloc: Global, said: &mut String, text: &str) -> Result<(), AllocError> {
-    let (first, second) = words(text)?;
-    line(
-        alloc,
-        said,
-        mixed_data_type(alloc, coord_type(first)?, dimension(second)?)?,
-    )
+/// Builds coordinates, or the union in a collection.
+fn of_coords(it: &Asked<'_>) -> Result<DataType, AllocError> {
+    let (first, second) = first_word(it.text)?;
+    let (first, second) = (coord_type(first)?, dimension(second)?);
+    if it.command == "coord_data_type" {
+        coord_data_type(it.alloc, first, second)
+    } else {
+        mixed_data_type(it.alloc, first, second)
+    }
 }
 
 /// The data type of a kind, by the builder for its sort.
@@ -51,12 +33,22 @@ fn of_sort(alloc: Global, kind: Kind) -> Result<DataType, AllocError> {
 }
 
 /// Builds the layout of a kind by the builder for its sort; says otherwise where `kind_data_type` builds another.
-pub fn layout(alloc: Global, said: &mut String, text: &str) -> Result<(), AllocError> {
-    let kind = kind(alloc, text)?;
-    let data_type = of_sort(alloc, kind)?;
-    if kind_data_type(alloc, kind)? == data_type {
-        line(alloc, said, data_type)
-    } else {
-        said.push_str("kind_data_type builds another")
+fn of_kind(it: &mut Asked<'_>) -> Result<DataType, AllocError> {
+    let kind = kind(it.alloc, it.text)?;
+    let data_type = of_sort(it.alloc, kind)?;
+    if kind_data_type(it.alloc, kind)? != data_type {
+        it.said.push("kind_data_type builds another, ");
     }
+    Ok(data_type)
+}
+
+/// Says the line of a field of the data type that is built.
+pub fn answer(it: &mut Asked<'_>) -> Result<(), AllocError> {
+    let data_type = match it.command {
+        "layout" => of_kind(it)?,
+        _ => of_coords(it)?,
+    };
+    let field = Field::new(it.alloc, "g", data_type, true)?;
+    it.said.line(it.alloc, &field);
+    Ok(())
 }

@@ -1,8 +1,9 @@
 //! Commands that leave out members of unions and join unions.
-use crate::layouts::texts::{data_type, ids, members, parts};
-use crate::layouts::words::one;
-use crate::memory::Memory;
-use crate::words::name;
+use crate::asked::Asked;
+use crate::layouts::read::say_part;
+use crate::layouts::trees::{data_type, ids, members};
+use crate::said::{Said, say};
+use crate::texts::halves;
 use arrow_values::{AppendFault, DataType, Field, UnionFields, UnionMode};
 use geoarrow_layout::{alike, append_members, keep_members, parse_geometry};
 use std::alloc::{AllocError, Global};
@@ -28,98 +29,75 @@ fn are_among(members: &UnionFields, first: &UnionFields, second: &UnionFields) -
 }
 
 /// Says the type ids of members, in order.
-fn say_ids(said: &mut String, members: &UnionFields) -> Result<(), AllocError> {
+fn say_ids(said: &mut Said, members: &UnionFields) {
     for (id, _) in members.iter() {
-        write!(said, "{id} ")?;
+        say!(said, "{id} ");
     }
-    Ok(())
 }
 
 /// Says the ids of a changed union, and how it is read as one of geometries; says otherwise where a member is none of the
 /// two unions that it came from.
-fn say(
-    said: &mut String,
-    members: UnionFields,
-    first: &UnionFields,
-    second: &UnionFields,
-) -> Result<(), AllocError> {
+fn say_changed(said: &mut Said, members: UnionFields, first: &UnionFields, second: &UnionFields) {
     if !are_among(&members, first, second) {
-        return said.push_str("another member");
+        said.push("another member, ");
     }
-    say_ids(said, &members)?;
-    one(
-        said,
-        parse_geometry(&DataType::Union(members, UnionMode::Dense)),
-    )
+    say_ids(said, &members);
+    let union = DataType::Union(members, UnionMode::Dense);
+    say_part(said, &parse_geometry(&union));
 }
 
 /// Keeps the members of these ids, by the call that speaks of layouts or by the other.
-pub fn kept(
-    alloc: Global,
-    said: &mut String,
-    memory: Memory,
-    command: &str,
-    text: &str,
-) -> Result<(), AllocError> {
-    let (wanted, text) = parts(text)?;
-    let whole = members(alloc, text)?;
-    let mut union = whole.try_clone(alloc)?;
-    let wanted = ids(alloc, wanted)?;
-    memory.before_call()?;
-    if command == "keep_members" {
+pub fn kept(it: &mut Asked<'_>) -> Result<(), AllocError> {
+    let (wanted, text) = halves(it.text)?;
+    let wanted = ids(it.alloc, wanted)?;
+    let whole = members(it.alloc, text)?;
+    let mut union = whole.try_clone(it.alloc)?;
+    it.before();
+    if it.command == "keep_members" {
         keep_members(&mut union, wanted.as_slice());
     } else {
         union.retain_ids(wanted.as_slice());
     }
-    memory.after_call(alloc)?;
-    say(said, union, &whole, &whole)
+    it.after();
+    say_changed(&mut it.said, union, &whole, &whole);
+    Ok(())
 }
 
 /// Puts the members of the second union after those of the first, by the call that speaks of layouts or by the other. A
 /// fault is said otherwise where one of the two is not as it was.
-pub fn joined(
-    alloc: Global,
-    said: &mut String,
-    memory: Memory,
-    command: &str,
-    text: &str,
-) -> Result<(), AllocError> {
-    let (text, other_text) = parts(text)?;
-    let first = members(alloc, text)?;
-    let second = members(alloc, other_text)?;
-    join(alloc, said, memory, command, &first, &second)
+pub fn joined(it: &mut Asked<'_>) -> Result<(), AllocError> {
+    let (text, other_text) = halves(it.text)?;
+    let first = members(it.alloc, text)?;
+    let second = members(it.alloc, other_text)?;
+    join(it, &first, &second)
 }
 
 /// Joins clones of two unions.
-fn join(
-    alloc: Global,
-    said: &mut String,
-    memory: Memory,
-    command: &str,
-    first: &UnionFields,
-    second: &UnionFields,
-) -> Result<(), AllocError> {
-    let mut union = first.try_clone(alloc)?;
-    let other = second.try_clone(alloc)?;
-    memory.before_call()?;
-    let joined = if command == "append_members" {
+fn join(it: &mut Asked<'_>, first: &UnionFields, second: &UnionFields) -> Result<(), AllocError> {
+    let mut union = first.try_clone(it.alloc)?;
+    let other = second.try_clone(it.alloc)?;
+    it.before();
+    let joined = if it.command == "append_members" {
         append_members(&mut union, other)
     } else {
         union.append(other)
     };
-    memory.after_call(alloc)?;
+    it.after();
     match joined {
-        Ok(()) => say(said, union, first, second),
-        Err((other, fault)) => refused(said, fault, union == *first && other == *second),
+        Ok(()) => say_changed(&mut it.said, union, first, second),
+        Err((other, fault)) => {
+            say_refused(&mut it.said, fault, union == *first && other == *second);
+        }
     }
+    Ok(())
 }
 
 /// Says a refusal to join, and whether both unions are as they were. Out of memory is no answer where they are.
-fn refused(said: &mut String, fault: AppendFault, unchanged: bool) -> Result<(), AllocError> {
+fn say_refused(said: &mut Said, fault: AppendFault, unchanged: bool) {
     match (fault, unchanged) {
-        (AppendFault::OutOfMemory, true) => Err(AllocError),
-        (fault, true) => name(said, &fault),
-        (fault, false) => write!(said, "{fault:?}, and a union is changed"),
+        (AppendFault::OutOfMemory, true) => said.fail(),
+        (fault, true) => said.name(&fault),
+        (fault, false) => say!(said, "{fault:?}, and a union is changed"),
     }
 }
 
@@ -131,17 +109,22 @@ fn part(alloc: Global, wanted: &str, mut union: UnionFields) -> Result<UnionFiel
 
 /// Keeps the members of the first ids in a union and those of the second in a clone, joins the two, and says whether that
 /// is alike to the union as it was.
-pub fn parted(alloc: Global, said: &mut String, text: &str) -> Result<(), AllocError> {
-    let (wanted, rest) = parts(text)?;
-    let (others, text) = parts(rest)?;
-    let union = members(alloc, text)?;
-    let other = part(alloc, others, union.try_clone(alloc)?)?;
-    let mut union = part(alloc, wanted, union)?;
+pub fn parted(it: &mut Asked<'_>) -> Result<(), AllocError> {
+    let (wanted, rest) = halves(it.text)?;
+    let (others, text) = halves(rest)?;
+    let other = part(it.alloc, others, members(it.alloc, text)?)?;
+    let mut union = part(it.alloc, wanted, members(it.alloc, text)?)?;
+    let was = data_type(it.alloc, text)?;
     if append_members(&mut union, other).is_err() {
-        return said.push_str("refused");
+        it.said.push("refused");
+        return Ok(());
     }
-    say_ids(said, &union)?;
+    say_ids(&mut it.said, &union);
     let union = DataType::Union(union, UnionMode::Dense);
-    let is_alike = alike(&union, &data_type(alloc, text)?);
-    said.push_str(if is_alike { "alike" } else { "not alike" })
+    it.said.push(if alike(&union, &was) {
+        "alike"
+    } else {
+        "not alike"
+    });
+    Ok(())
 }

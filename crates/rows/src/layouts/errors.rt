@@ -1,5 +1,6 @@
 //! What the errors print, and how each of the two holds the other.
-use crate::memory::Memory;
+use crate::asked::Asked;
+use crate::said::say;
 use arrow_values::{ArrowError, GeoArrowError};
 use std::alloc::{AllocError, Global};
 use std::io;
@@ -34,14 +35,13 @@ fn without_message(alloc: Global, variant: &str) -> Result<GeoArrowError, AllocE
 
 /// The error of Arrow of that name, with the message `m` where it has one; or what a call or a conversion makes.
 fn arrow_error(alloc: Global, variant: &str) -> Result<ArrowError, AllocError> {
+    let message = String::from_str(alloc, "m")?;
     match variant {
-        "SchemaError" => Ok(ArrowError::SchemaError(String::from_str(alloc, "m")?)),
-        "InvalidArgumentError" => {
-            Ok(ArrowError::InvalidArgumentError(String::from_str(alloc, "m")?))
-        }
+        "SchemaError" => Ok(ArrowError::SchemaError(message)),
+        "InvalidArgumentError" => Ok(ArrowError::InvalidArgumentError(message)),
         "ExternalError" => {
-            let inner = geoarrow_error(alloc, "Crs")?;
-            Ok(ArrowError::ExternalError(Box::new(alloc, inner)?))
+            let inner = Box::new(alloc, GeoArrowError::Crs(message))?;
+            Ok(ArrowError::ExternalError(inner))
         }
         "OutOfMemory" => Ok(ArrowError::OutOfMemory),
         "From<AllocError>" => Ok(ArrowError::from(AllocError)),
@@ -50,33 +50,39 @@ fn arrow_error(alloc: Global, variant: &str) -> Result<ArrowError, AllocError> {
     }
 }
 
-/// Says what an error of GeoArrow prints.
-pub fn geoarrow(alloc: Global, said: &mut String, variant: &str) -> Result<(), AllocError> {
-    write!(said, "{}", geoarrow_error(alloc, variant)?)
-}
-
-/// Says what an error of Arrow prints.
-pub fn arrow(alloc: Global, said: &mut String, variant: &str) -> Result<(), AllocError> {
-    write!(said, "{}", arrow_error(alloc, variant)?)
-}
-
-/// Says which error of Arrow an error of GeoArrow becomes, and what that prints.
-pub fn into_arrow(
-    alloc: Global,
-    said: &mut String,
-    memory: Memory,
-    variant: &str,
-) -> Result<(), AllocError> {
-    let error = geoarrow_error(alloc, variant)?;
-    memory.before_call()?;
-    let found = error.into_arrow_error(alloc);
-    memory.after_call(alloc)?;
-    let error = found?;
-    let variant = match &error {
+/// The name of the variant of an error.
+fn variant_of(error: &ArrowError) -> &'static str {
+    match error {
         ArrowError::SchemaError(_) => "SchemaError",
         ArrowError::InvalidArgumentError(_) => "InvalidArgumentError",
         ArrowError::ExternalError(_) => "ExternalError",
         ArrowError::OutOfMemory => "OutOfMemory",
-    };
-    write!(said, "{variant}: {error}")
+    }
+}
+
+/// Says which error of Arrow an error of GeoArrow becomes, and what that prints.
+fn into_arrow(it: &mut Asked<'_>) -> Result<(), AllocError> {
+    let error = geoarrow_error(it.alloc, it.text)?;
+    it.before();
+    let found = error.into_arrow_error(it.alloc);
+    it.after();
+    let error = found?;
+    say!(it.said, "{}: {error}", variant_of(&error));
+    Ok(())
+}
+
+/// Says what an error prints.
+pub fn answer(it: &mut Asked<'_>) -> Result<(), AllocError> {
+    match it.command {
+        "GeoArrowError" => {
+            let error = geoarrow_error(it.alloc, it.text)?;
+            say!(it.said, "{error}");
+        }
+        "ArrowError" => {
+            let error = arrow_error(it.alloc, it.text)?;
+            say!(it.said, "{error}");
+        }
+        _ => return into_arrow(it),
+    }
+    Ok(())
 }

@@ -1,141 +1,115 @@
 //! Commands that read data types, by calls that take no memory.
-use crate::layouts::summaries::summary;
-use crate::layouts::texts::{data_type, name, parts, words};
-use crate::layouts::words::{one, pair, point};
-use crate::memory::Memory;
-use crate::words::{name_or_none, no_command};
+use crate::asked::Asked;
+use crate::layouts::summaries::say_summary;
+use crate::layouts::trees::data_type;
+use crate::said::{Said, say};
+use crate::texts::{first_word, halves};
 use arrow_values::DataType;
 use geoarrow_layout::{
-    Candidates, CoordType, Dimension, ExtensionName, Kind, LayoutFault, Summary, Width, alike,
-    candidates, infer_point, parse_box, parse_geometry, parse_geometry_collection, parse_kind,
-    parse_linestring, parse_mixed, parse_multilinestring, parse_multipoint, parse_multipolygon,
-    parse_native, parse_point, parse_polygon, parse_wkb, parse_wkt, summarize, written_kind,
+    CoordType, Dimension, ExtensionName, LayoutFault, alike, candidates, infer_point, parse_box,
+    parse_geometry, parse_geometry_collection, parse_kind, parse_linestring, parse_mixed,
+    parse_multilinestring, parse_multipoint, parse_multipolygon, parse_native, parse_point,
+    parse_polygon, parse_wkb, parse_wkt, summarize, written_kind,
 };
-use std::alloc::{AllocError, Global};
+use std::alloc::AllocError;
+use std::fmt::Debug;
 use std::mem::forget;
 
-/// What a call answers about a data type.
-#[derive(Drop)]
-enum Reading {
-    Pair(Result<(CoordType, Dimension), LayoutFault>),
-    CoordType(Result<CoordType, LayoutFault>),
-    Dimension(Result<Dimension, LayoutFault>),
-    Width(Result<Width, LayoutFault>),
-    Kind(Result<Kind, LayoutFault>),
-    Point(Option<(CoordType, Dimension)>),
-    Summary(Summary),
-    Candidates(Candidates),
-    KindOrNone(Option<Kind>),
-    NoCommand,
+/// Says what a reader of one part answers: the part by its name, or the fault.
+pub fn say_part<T: Debug>(said: &mut Said, answer: &Result<T, LayoutFault>) {
+    match answer {
+        Ok(part) => said.name(part),
+        Err(fault) => said.name(fault),
+    }
 }
 
-impl Reading {
-    /// What a reader of a coordinate type and a dimension answers.
-    fn of_pair(command: &str, data_type: &DataType) -> Reading {
-        match command {
-            "parse_point" => Reading::Pair(parse_point(data_type)),
-            "parse_linestring" => Reading::Pair(parse_linestring(data_type)),
-            "parse_polygon" => Reading::Pair(parse_polygon(data_type)),
-            "parse_multipoint" => Reading::Pair(parse_multipoint(data_type)),
-            "parse_multilinestring" => Reading::Pair(parse_multilinestring(data_type)),
-            "parse_multipolygon" => Reading::Pair(parse_multipolygon(data_type)),
-            "parse_mixed" => Reading::Pair(parse_mixed(data_type)),
-            "parse_geometry_collection" => Reading::Pair(parse_geometry_collection(data_type)),
-            _ => Reading::NoCommand,
-        }
-    }
+/// What a reader of a coordinate type and a dimension answers.
+type Pair = Result<(CoordType, Dimension), LayoutFault>;
 
-    /// What a call answers.
-    fn of(command: &str, data_type: &DataType) -> Reading {
-        match command {
-            "parse_geometry" => Reading::CoordType(parse_geometry(data_type)),
-            "parse_box" => Reading::Dimension(parse_box(data_type)),
-            "parse_wkb" => Reading::Width(parse_wkb(data_type)),
-            "parse_wkt" => Reading::Width(parse_wkt(data_type)),
-            "infer_point" => Reading::Point(infer_point(data_type)),
-            "summarize" => Reading::Summary(summarize(data_type)),
-            "candidates" => Reading::Candidates(candidates(data_type)),
-            "written_kind" => Reading::KindOrNone(written_kind(data_type)),
-            _ => Reading::of_pair(command, data_type),
-        }
+/// Says what it answers.
+fn say_pair(said: &mut Said, answer: Pair) {
+    match answer {
+        Ok((coord_type, dimension)) => say!(said, "{coord_type:?} {dimension:?}"),
+        Err(fault) => said.name(&fault),
     }
+}
 
-    /// What a call answers that takes a name too.
-    fn named(command: &str, named: &str, data_type: &DataType) -> Result<Reading, AllocError> {
-        match (command, name(named)) {
-            ("kind", _) => Ok(Reading::KindOrNone(summarize(data_type).kind(named))),
-            ("parse_kind", name) => Ok(Reading::Kind(parse_kind(name?, data_type))),
-            (_, Ok(ExtensionName::Native(kind))) => {
-                Ok(Reading::Pair(parse_native(kind, data_type)))
-            }
-            _ => Err(AllocError),
-        }
-    }
+/// Says what a reader of a coordinate type and a dimension answers, or another one.
+fn say_read(it: &mut Asked<'_>, tree: &DataType) {
+    let answer = match it.command {
+        "parse_point" => parse_point(tree),
+        "parse_linestring" => parse_linestring(tree),
+        "parse_polygon" => parse_polygon(tree),
+        "parse_multipoint" => parse_multipoint(tree),
+        "parse_multilinestring" => parse_multilinestring(tree),
+        "parse_multipolygon" => parse_multipolygon(tree),
+        "parse_mixed" => parse_mixed(tree),
+        "parse_geometry_collection" => parse_geometry_collection(tree),
+        _ => return say_other(it, tree),
+    };
+    say_pair(&mut it.said, answer);
+}
 
-    /// Says it.
-    fn say(self, said: &mut String) -> Result<(), AllocError> {
-        match self {
-            Reading::Pair(found) => pair(said, found),
-            Reading::CoordType(found) => one(said, found),
-            Reading::Dimension(found) => one(said, found),
-            Reading::Width(found) => one(said, found),
-            Reading::Kind(found) => one(said, found),
-            Reading::Point(found) => point(said, found),
-            Reading::Summary(found) => summary(said, found),
-            Reading::Candidates(found) => write!(said, "{found:?}"),
-            Reading::KindOrNone(found) => name_or_none(said, found),
-            Reading::NoCommand => no_command(said),
-        }
+/// Says what a call answers that is no reader of a coordinate type and a dimension.
+fn say_other(it: &mut Asked<'_>, tree: &DataType) {
+    let said = &mut it.said;
+    match it.command {
+        "parse_geometry" => say_part(said, &parse_geometry(tree)),
+        "parse_box" => say_part(said, &parse_box(tree)),
+        "parse_wkb" => say_part(said, &parse_wkb(tree)),
+        "parse_wkt" => say_part(said, &parse_wkt(tree)),
+        "infer_point" => match infer_point(tree) {
+            Some(found) => say_pair(said, Ok(found)),
+            None => said.push("none"),
+        },
+        "summarize" => say_summary(said, summarize(tree)),
+        "candidates" => said.name(&candidates(tree)),
+        "written_kind" => said.name_or_none(&written_kind(tree)),
+        _ => it.no_command(),
     }
 }
 
 /// Says what a call answers about a data type, which is not dropped, since one that nests deep would take more stack than there
 /// is.
-fn read_one(
-    alloc: Global,
-    said: &mut String,
-    memory: Memory,
-    command: &str,
-    text: &str,
-) -> Result<(), AllocError> {
-    let data_type = data_type(alloc, text)?;
-    memory.before_call()?;
-    let found = Reading::of(command, &data_type);
-    memory.after_call(alloc)?;
-    forget(data_type);
-    found.say(said)
+pub fn one(it: &mut Asked<'_>) -> Result<(), AllocError> {
+    let tree = data_type(it.alloc, it.text)?;
+    it.before();
+    say_read(it, &tree);
+    it.after();
+    forget(tree);
+    Ok(())
 }
 
 /// Says what a call answers about a data type and a name, which is before it.
-fn read_named(
-    alloc: Global,
-    said: &mut String,
-    memory: Memory,
-    command: &str,
-    text: &str,
-) -> Result<(), AllocError> {
-    let (named, rest) = words(text)?;
-    let data_type = data_type(alloc, rest)?;
-    memory.before_call()?;
-    let found = Reading::named(command, named, &data_type);
-    memory.after_call(alloc)?;
-    found?.say(said)
+pub fn named(it: &mut Asked<'_>) -> Result<(), AllocError> {
+    let (named, rest) = first_word(it.text)?;
+    let tree = data_type(it.alloc, rest)?;
+    it.before();
+    say_named(it, named, &tree);
+    it.after();
+    Ok(())
+}
+
+/// Says it; nothing where the name is none that the call takes.
+fn say_named(it: &mut Asked<'_>, named: &str, tree: &DataType) {
+    let said = &mut it.said;
+    match (it.command, ExtensionName::from_text(named)) {
+        ("kind", _) => said.name_or_none(&summarize(tree).kind(named)),
+        ("parse_kind", Some(name)) => say_part(said, &parse_kind(name, tree)),
+        (_, Some(ExtensionName::Native(kind))) => say_pair(said, parse_native(kind, tree)),
+        _ => said.fail(),
+    }
 }
 
 /// Says whether two data types are alike, asked both ways round.
-fn likeness(
-    alloc: Global,
-    said: &mut String,
-    memory: Memory,
-    text: &str,
-) -> Result<(), AllocError> {
-    let (first, second) = parts(text)?;
-    let first = data_type(alloc, first)?;
-    let second = data_type(alloc, second)?;
-    memory.before_call()?;
-    let found = likeness_of(&first, &second);
-    memory.after_call(alloc)?;
-    said.push_str(found)
+pub fn likeness(it: &mut Asked<'_>) -> Result<(), AllocError> {
+    let (first, second) = halves(it.text)?;
+    let first = data_type(it.alloc, first)?;
+    let second = data_type(it.alloc, second)?;
+    it.before();
+    it.said.push(likeness_of(&first, &second));
+    it.after();
+    Ok(())
 }
 
 /// Whether two data types are alike, in words.
@@ -144,20 +118,5 @@ fn likeness_of(first: &DataType, second: &DataType) -> &'static str {
         (true, true) => "alike",
         (false, false) => "not alike",
         _ => "alike one way round alone",
-    }
-}
-
-/// Says what a call answers that reads data types.
-pub fn read(
-    alloc: Global,
-    said: &mut String,
-    memory: Memory,
-    command: &str,
-    text: &str,
-) -> Result<(), AllocError> {
-    match command {
-        "kind" | "parse_kind" | "parse_native" => read_named(alloc, said, memory, command, text),
-        "alike" => likeness(alloc, said, memory, text),
-        _ => read_one(alloc, said, memory, command, text),
     }
 }

@@ -1,52 +1,47 @@
 //! Commands about kinds, names, dimensions and faults, which are tables.
-use crate::layouts::texts;
-use crate::memory::Memory;
-use crate::words;
+use crate::asked::Asked;
+use crate::said::{Said, say};
+use crate::texts;
 use arrow_values::Dimensions;
 use geoarrow_layout::{CoordType, Dimension, ExtensionName, LayoutFault};
 use std::alloc::{AllocError, Global};
 
 /// Says the extension name, the coordinate type and the dimension of a kind.
-pub fn parts(alloc: Global, said: &mut String, text: &str) -> Result<(), AllocError> {
-    let kind = texts::kind(alloc, text)?;
-    said.push_str(kind.name())?;
+pub fn parts(it: &mut Asked<'_>) -> Result<(), AllocError> {
+    let kind = texts::kind(it.alloc, it.text)?;
+    it.said.push(kind.name());
     match kind.coord_type() {
-        Some(coord_type) => write!(said, " {coord_type:?}")?,
-        None => said.push_str(" -")?,
+        Some(coord_type) => say!(it.said, " {coord_type:?}"),
+        None => it.said.push(" -"),
     }
     match kind.dimension() {
-        Some(dimension) => write!(said, " {dimension}"),
-        None => said.push_str(" -"),
+        Some(dimension) => say!(it.said, " {dimension}"),
+        None => it.said.push(" -"),
     }
+    Ok(())
 }
 
-/// Says the coordinate type where none is said.
-pub fn default(said: &mut String, text: &str) -> Result<(), AllocError> {
-    match text {
-        "CoordType" => words::name(said, &CoordType::default()),
-        _ => Err(AllocError),
+/// Says the extension name of a text, and its text; or the coordinate type where none is said.
+pub fn name(it: &mut Asked<'_>) -> Result<(), AllocError> {
+    match (it.command, ExtensionName::from_text(it.text)) {
+        ("name", Some(name)) => say!(it.said, "{name:?} {}", name.as_text()),
+        ("name", None) => it.said.push("none"),
+        _ if it.text == "CoordType" => it.said.name(&CoordType::default()),
+        _ => return Err(AllocError),
     }
-}
-
-/// Says the extension name of a text, and its text.
-pub fn name(said: &mut String, text: &str) -> Result<(), AllocError> {
-    match ExtensionName::from_text(text) {
-        Some(name) => write!(said, "{name:?} {}", name.as_text()),
-        None => said.push_str("none"),
-    }
+    Ok(())
 }
 
 /// Says the size and the place of a dimension, and geometry traits' dimensions of it, with theirs.
-pub fn dimensions(said: &mut String, text: &str) -> Result<(), AllocError> {
-    let dimension = texts::dimension(text)?;
+pub fn dimensions(it: &mut Asked<'_>) -> Result<(), AllocError> {
+    let dimension = texts::dimension(it.text)?;
     let dimensions = Dimensions::from(dimension);
-    write!(
-        said,
-        "{dimension} {} {} {dimensions:?} {}",
-        dimension.size(),
-        dimension.order(),
-        dimensions.size()
-    )
+    let (size, order, theirs) = (dimension.size(), dimension.order(), dimensions.size());
+    say!(
+        it.said,
+        "{dimension} {size} {order} {dimensions:?} {theirs}"
+    );
+    Ok(())
 }
 
 /// Geometry traits' dimensions of a name, or of a number of no known meaning.
@@ -64,20 +59,16 @@ fn dimensions_of(text: &str) -> Result<Dimensions, AllocError> {
 }
 
 /// Says the dimension that they are, or the error's text.
-pub fn dimension_of(
-    alloc: Global,
-    said: &mut String,
-    memory: Memory,
-    text: &str,
-) -> Result<(), AllocError> {
-    let dimensions = dimensions_of(text)?;
-    memory.before_call()?;
-    let found = Dimension::try_from_dimensions(alloc, dimensions);
-    memory.after_call(alloc)?;
+pub fn dimension(it: &mut Asked<'_>) -> Result<(), AllocError> {
+    let dimensions = dimensions_of(it.text)?;
+    it.before();
+    let found = Dimension::try_from_dimensions(it.alloc, dimensions);
+    it.after();
     match found {
-        Ok(dimension) => words::text(said, dimension.to_string(alloc)),
-        Err(error) => words::geoarrow_refusal(alloc, said, error),
+        Ok(dimension) => say!(it.said, "{dimension}"),
+        Err(error) => it.said.geoarrow_refusal(&error),
     }
+    Ok(())
 }
 
 /// All faults.
@@ -95,12 +86,22 @@ const FAULTS: [LayoutFault; 11] = [
     LayoutFault::SeveralDimensions,
 ];
 
-/// Says a fault as an error of Arrow, by its text.
-pub fn error(alloc: Global, said: &mut String, text: &str) -> Result<(), AllocError> {
+/// The fault of that name.
+fn fault_of(alloc: Global, text: &str) -> Result<LayoutFault, AllocError> {
+    let mut said = Said::new(alloc);
     for fault in FAULTS.iter() {
-        if format!(in alloc; "{fault:?}")?.as_str() == text {
-            return words::refusal(alloc, said, fault.into_arrow_error(alloc));
+        said.text.clear();
+        said.name(fault);
+        if said.text.as_str() == text {
+            return Ok(*fault);
         }
     }
     Err(AllocError)
+}
+
+/// Says a fault as an error of Arrow, by its text.
+pub fn error(it: &mut Asked<'_>) -> Result<(), AllocError> {
+    let fault = fault_of(it.alloc, it.text)?;
+    it.said.refusal(&fault.into_arrow_error(it.alloc));
+    Ok(())
 }

@@ -1,66 +1,39 @@
 //! Commands that spell, compare and make values of `arrow_values`.
+use crate::asked::Asked;
 use crate::compared::Compared;
-use crate::layouts::texts::{ids, parts};
-use crate::memory::Memory;
-use crate::{notation, words};
+use crate::layouts::trees::ids;
+use crate::notation;
+use crate::texts::halves;
 use arrow_values::{DataType, Field, Fields, UnionFields};
-use field_lines::field_line;
 use std::alloc::{AllocError, Global};
 
-/// Says the line of the field that a text spells.
-pub fn spelled(alloc: Global, said: &mut String, text: &str) -> Result<(), AllocError> {
-    words::text(said, field_line(alloc, &notation::spelled(alloc, text)?))
-}
-
-/// More levels than a data type has that is printed.
-const LEVELS: usize = 10_000;
-
-/// What stands between two texts.
-fn between<'a>(text: &'a str, before: &str, after: &str) -> Option<&'a str> {
-    text.strip_prefix(before)?.strip_suffix(after)
-}
-
-/// Says how many times a text stands between two others, and the text inside of all of them.
-fn say_inside(said: &mut String, text: &str, before: &str, after: &str) -> Result<(), AllocError> {
-    let mut inside = text;
-    for times in 0..LEVELS {
-        match between(inside, before, after) {
-            Some(rest) => inside = rest,
-            None => return write!(said, "{times} times {before}..{after} around {inside}"),
-        }
+/// Says the answer to a command about values.
+pub fn answer(it: &mut Asked<'_>) -> Result<(), AllocError> {
+    match it.command {
+        "equal" => equal(it),
+        "UnionFields::try_new" => made(it),
+        _ => spelled(it),
     }
-    Err(AllocError)
 }
 
-/// Says what a field prints, and its line, where many lists are in one another.
-pub fn nested(alloc: Global, said: &mut String, text: &str) -> Result<(), AllocError> {
-    let field = notation::spelled(alloc, text)?;
-    let tree = field.data_type();
-    let printed = format!(in alloc; "{tree:?}")?;
-    let before = r#"List(Field { name: "v", data_type: "#;
-    say_inside(
-        said,
-        printed.as_str(),
-        before,
-        ", nullable: false, metadata: {} })",
-    )?;
-    said.push_str("; ")?;
-    let line = field_line(alloc, &field)?;
-    let (_, line) = line.as_str().split_once(r#""type":"#).ok_or(AllocError)?;
-    let line = line.strip_suffix('}').ok_or(AllocError)?;
-    say_inside(
-        said,
-        line,
-        r#"{"list":{"name":"v","nullable":false,"type":"#,
-        "}}",
-    )
+/// Says the line of the field that a text spells, or how its data type is printed.
+fn spelled(it: &mut Asked<'_>) -> Result<(), AllocError> {
+    let field = notation::spelled(it.alloc, it.text)?;
+    if it.command == "printed" {
+        it.said.name(field.data_type());
+    } else {
+        it.said.line(it.alloc, &field);
+    }
+    Ok(())
 }
 
-/// Says whether two data types are equal.
-pub fn equal(alloc: Global, said: &mut String, text: &str) -> Result<(), AllocError> {
-    let (one, other) = parts(text)?;
-    let one = notation::data_type(alloc, one)?;
-    words::truth(said, one == notation::data_type(alloc, other)?)
+/// Says whether two data types are equal, which are not cloned, since that takes more stack.
+fn equal(it: &mut Asked<'_>) -> Result<(), AllocError> {
+    let (one, other) = halves(it.text)?;
+    let one = notation::data_type(it.alloc, one)?;
+    let other = notation::data_type(it.alloc, other)?;
+    it.said.truth(one == other);
+    Ok(())
 }
 
 impl Compared for DataType {
@@ -88,11 +61,7 @@ impl Compared for Field {
 
 impl Compared for Fields {
     fn spelled(alloc: Global, text: &str) -> Result<Fields, AllocError> {
-        let text = ["Struct(", text, ")"].concat(alloc)?;
-        match notation::data_type(alloc, text.as_str())? {
-            DataType::Struct(fields) => Ok(fields),
-            _ => Err(AllocError),
-        }
+        notation::fields(alloc, text)
     }
 
     fn is_cloned_as(&self, alloc: Global, other: &Fields) -> Result<bool, AllocError> {
@@ -120,20 +89,16 @@ fn fields(alloc: Global, count: &str) -> Result<Vec<Field>, AllocError> {
 }
 
 /// Makes a union of these ids and of so many fields, and says so, or what the refusal prints.
-pub fn made(
-    alloc: Global,
-    said: &mut String,
-    memory: Memory,
-    text: &str,
-) -> Result<(), AllocError> {
-    let (wanted, count) = parts(text)?;
-    let type_ids = ids(alloc, wanted)?;
-    let fields = fields(alloc, count)?;
-    memory.before_call()?;
-    let found = UnionFields::try_new(alloc, type_ids, fields);
-    memory.after_call(alloc)?;
+fn made(it: &mut Asked<'_>) -> Result<(), AllocError> {
+    let (wanted, count) = halves(it.text)?;
+    let type_ids = ids(it.alloc, wanted)?;
+    let fields = fields(it.alloc, count)?;
+    it.before();
+    let found = UnionFields::try_new(it.alloc, type_ids, fields);
+    it.after();
     match found {
-        Ok(_) => said.push_str("made"),
-        Err(error) => words::refusal(alloc, said, error),
+        Ok(_) => it.said.push("made"),
+        Err(error) => it.said.refusal(&error),
     }
+    Ok(())
 }

@@ -1,21 +1,11 @@
 //! Whole runs over lines with ` | ` between them, behind the word of a command.
+use crate::asked::Asked;
+use crate::said::say;
 use geoarrow_fields::{Command, RunEnd, command_of, run, serve};
 use std::alloc::{AllocError, Global};
 
-/// What a run writes last when out of memory.
-const OUT_OF_MEMORY: &[u8] = b"error memory\n";
-
-/// A text with line feeds in the place of ` | `.
-fn lines_of(alloc: Global, text: &str) -> Result<String, AllocError> {
-    let mut lines = String::new(alloc);
-    for (at, line) in text.split(" | ").enumerate() {
-        if at > 0 {
-            lines.push('\n')?;
-        }
-        lines.push_str(line)?;
-    }
-    Ok(lines)
-}
+/// What a run writes last when out of memory, after the answers to some first lines.
+const OUT_OF_MEMORY: &str = "error memory | ";
 
 /// What a run of a command answers, and writes; none where there is no such command.
 fn run_over(
@@ -33,44 +23,31 @@ fn run_over(
     Some(run(alloc, command, &mut input, written))
 }
 
-/// Whether a run that was out of memory has written the answers to some first lines, of all that are wanted, and then so.
-fn is_cut_off(written: &[u8], wanted: &[u8]) -> bool {
-    match written.strip_suffix(OUT_OF_MEMORY) {
-        Some(answers) => {
-            wanted.starts_with(answers) && (answers.is_empty() || answers.ends_with(b"\n"))
+/// Whether what is said of a run that was out of memory is the answers to some first lines, of all that are wanted, and then so.
+fn is_cut_off(said: &str, wanted: &str) -> bool {
+    match (said.strip_suffix(OUT_OF_MEMORY), wanted.split_once(' ')) {
+        (Some(answers), Some((_, wanted))) => {
+            wanted.starts_with(answers) && (answers.is_empty() || answers.ends_with(" | "))
         }
-        None => false,
+        _ => false,
     }
 }
 
 /// Says how a run ends and what it writes, with ` | ` in the place of line feeds. Out of memory is no answer where the run has
-/// written some first answers of those of a second run, and that it is out of memory.
-pub fn answer(alloc: Global, said: &mut String, call: &str, text: &[u8]) -> Result<(), AllocError> {
-    let text = str::from_utf8(text).map_err(|_| AllocError)?;
-    let (word, rest) = text.split_once(' ').ok_or(AllocError)?;
-    let words = vec![in alloc; String::from_str(alloc, word)?]?;
-    let input = lines_of(alloc, rest)?;
-    let mut written = Vec::with_capacity(alloc, 4096)?;
-    let end = run_over(alloc, call, words.as_slice(), input.as_str(), &mut written);
-    if let Some(RunEnd::Memory) = end {
-        let mut wanted = Vec::with_capacity(alloc, 4096)?;
-        let _end = run_over(alloc, call, words.as_slice(), input.as_str(), &mut wanted);
-        if is_cut_off(&written, &wanted) {
-            return Err(AllocError);
-        }
+/// written some first answers of those that are wanted, and that it is out of memory.
+pub fn answer(it: &mut Asked<'_>) -> Result<(), AllocError> {
+    let (word, lines) = it.text.split_once(' ').ok_or(AllocError)?;
+    let words = [String::from_str(it.alloc, word)?];
+    let input = lines.replace(it.alloc, " | ", "\n")?;
+    let mut written = Vec::with_capacity(it.alloc, 4096)?;
+    let end = run_over(it.alloc, it.command, &words, input.as_str(), &mut written);
+    let written = str::from_utf8(written.as_slice()).map_err(|_| AllocError)?;
+    let written = written.replace(it.alloc, "\n", " | ")?;
+    if let Some(RunEnd::Memory) = end
+        && is_cut_off(written.as_str(), it.wanted)
+    {
+        return Err(AllocError);
     }
-    write!(said, "{end:?} ")?;
-    say(said, &written)
-}
-
-/// Says a text that was written.
-fn say(said: &mut String, written: &[u8]) -> Result<(), AllocError> {
-    let text = str::from_utf8(written).map_err(|_| AllocError)?;
-    for (at, line) in text.split('\n').enumerate() {
-        if at > 0 {
-            said.push_str(" | ")?;
-        }
-        said.push_str(line)?;
-    }
+    say!(it.said, "{end:?} {written}");
     Ok(())
 }

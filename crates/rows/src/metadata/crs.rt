@@ -1,158 +1,105 @@
 //! CRS: their tests and constructors, and the texts of their types and of edges.
-use crate::memory::Memory;
-use crate::metadata::words::{crs_words, printed};
-use crate::words::{no_command, truth};
-use arrow_values::ArrowError;
+use crate::asked::Asked;
+use crate::metadata::texts::{say_crs, say_text};
+use crate::said::say;
 use geoarrow_meta::{Crs, CrsType, Edges, Metadata};
 use serde_json::Value;
 use std::alloc::{AllocError, Global};
 
-/// Says the parts of the CRS that a constructor makes of a text, and how it is written.
-pub fn made(
-    alloc: Global,
-    said: &mut String,
-    memory: Memory,
-    constructor: &str,
-    text: &str,
-) -> Result<(), AllocError> {
-    let crs = match constructor {
-        "Crs::default" => Crs::default(),
-        "from_projjson" => of_value(alloc, memory, text)?,
-        "from_authority_code" | "from_wkt2_2019" | "from_srid" | "from_unknown_crs_type" => {
-            let text = String::from_str(alloc, text)?;
-            memory.before_call()?;
-            let crs = of_text(constructor, text);
-            memory.after_call(alloc)?;
-            crs?
+/// Says what a test answers about a text, or what a constructor makes of it.
+pub fn answer(it: &mut Asked<'_>) -> Result<(), AllocError> {
+    match it.command {
+        "is_authority_code" => {
+            it.before();
+            let found = Crs::is_authority_code(it.text);
+            it.after();
+            it.said.truth(found);
         }
-        _ => return no_command(said),
-    };
-    written(alloc, said, crs)
-}
-
-/// The CRS of a PROJJSON text.
-fn of_value(alloc: Global, memory: Memory, text: &str) -> Result<Crs, AllocError> {
-    let value = value_of(alloc, text)?;
-    memory.before_call()?;
-    let crs = projjson(value);
-    memory.after_call(alloc)?;
-    crs
-}
-
-/// The JSON value of a text.
-fn value_of(alloc: Global, text: &str) -> Result<Value, AllocError> {
-    Value::from_str(alloc, text).map_err(|_| AllocError)
-}
-
-/// The CRS of a PROJJSON value.
-fn projjson(value: Value) -> Result<Crs, AllocError> {
-    if Crs::is_projjson(&value) {
-        Ok(Crs::from_projjson(value))
-    } else {
-        Err(AllocError)
+        "edges" => say_edges(it),
+        "crs_type" => say_crs_type(it),
+        "is_projjson" | "from_projjson" => return of_value(it),
+        "Crs::default" => say_written(it, Crs::default()),
+        _ => return of_text(it),
     }
-}
-
-/// The CRS that a constructor makes of a text.
-fn of_text(constructor: &str, text: String) -> Result<Crs, AllocError> {
-    match constructor {
-        "from_wkt2_2019" => Ok(Crs::from_wkt2_2019(text)),
-        "from_srid" => Ok(Crs::from_srid(text)),
-        "from_unknown_crs_type" => Ok(Crs::from_unknown_crs_type(text)),
-        _ if Crs::is_authority_code(text.as_str()) => Ok(Crs::from_authority_code(text)),
-        _ => Err(AllocError),
-    }
-}
-
-/// Says the parts of a CRS, and the text of the metadata that holds it alone, which is to be read back as it was.
-fn written(alloc: Global, said: &mut String, crs: Crs) -> Result<(), AllocError> {
-    written_alone(alloc, said, &Metadata::new(crs, None))
-}
-
-/// Says the same of the metadata that holds a CRS alone.
-fn written_alone(alloc: Global, said: &mut String, metadata: &Metadata) -> Result<(), AllocError> {
-    crs_words(said, metadata.crs())?;
-    said.push_str(" as ")?;
-    printed(alloc, said, metadata)?;
-    if is_read_back(alloc, metadata)? {
-        return Ok(());
-    }
-    said.push_str(", not read back")
-}
-
-/// Whether the text of a metadata, or none, is read as that metadata.
-fn is_read_back(alloc: Global, metadata: &Metadata) -> Result<bool, AllocError> {
-    let Ok(text) = metadata.serialize(alloc) else {
-        return Err(AllocError);
-    };
-    match Metadata::deserialize(alloc, text.as_deref()) {
-        Ok(read) => Ok(read == *metadata),
-        Err(ArrowError::OutOfMemory) => Err(AllocError),
-        Err(_) => Ok(false),
-    }
-}
-
-/// Says whether the JSON value of a text is taken as PROJJSON.
-pub fn is_projjson(
-    alloc: Global,
-    said: &mut String,
-    memory: Memory,
-    text: &str,
-) -> Result<(), AllocError> {
-    let value = value_of(alloc, text)?;
-    memory.before_call()?;
-    let found = Crs::is_projjson(&value);
-    memory.after_call(alloc)?;
-    truth(said, found)
-}
-
-/// Says whether a text is taken as an authority code.
-pub fn is_authority_code(
-    alloc: Global,
-    said: &mut String,
-    memory: Memory,
-    text: &str,
-) -> Result<(), AllocError> {
-    memory.before_call()?;
-    let found = Crs::is_authority_code(text);
-    memory.after_call(alloc)?;
-    truth(said, found)
+    Ok(())
 }
 
 /// Says the edges of a text by their variant, and the text of these; `-` for none.
-pub fn edges(
-    alloc: Global,
-    said: &mut String,
-    memory: Memory,
-    text: &str,
-) -> Result<(), AllocError> {
-    memory.before_call()?;
-    let found = match Edges::from_text(text) {
-        Some(edges) => Some((edges, edges.as_text())),
-        None => None,
-    };
-    memory.after_call(alloc)?;
-    match found {
-        Some((edges, text)) => write!(said, "{edges:?} {text}"),
-        None => said.push_str("-"),
+fn say_edges(it: &mut Asked<'_>) {
+    it.before();
+    match Edges::from_text(it.text) {
+        Some(edges) => say!(it.said, "{edges:?} {}", edges.as_text()),
+        None => it.said.push("-"),
     }
+    it.after();
 }
 
 /// Says the CRS type of a text by its variant, and the text of that; `-` for none.
-pub fn crs_type(
-    alloc: Global,
-    said: &mut String,
-    memory: Memory,
-    text: &str,
-) -> Result<(), AllocError> {
-    memory.before_call()?;
-    let found = match CrsType::from_text(text) {
-        Some(crs_type) => Some((crs_type, crs_type.as_text())),
-        None => None,
+fn say_crs_type(it: &mut Asked<'_>) {
+    it.before();
+    match CrsType::from_text(it.text) {
+        Some(crs_type) => say!(it.said, "{crs_type:?} {}", crs_type.as_text()),
+        None => it.said.push("-"),
+    }
+    it.after();
+}
+
+/// Says whether the JSON value of a text is taken as PROJJSON, or the parts of the CRS that is made of it.
+fn of_value(it: &mut Asked<'_>) -> Result<(), AllocError> {
+    let value = Value::from_str(it.alloc, it.text).map_err(|_| AllocError)?;
+    it.before();
+    let is_taken = Crs::is_projjson(&value);
+    if it.command == "is_projjson" {
+        it.after();
+        it.said.truth(is_taken);
+    } else if is_taken {
+        let crs = Crs::from_projjson(value);
+        it.after();
+        say_written(it, crs);
+    } else {
+        return Err(AllocError);
+    }
+    Ok(())
+}
+
+/// Says the parts of the CRS that a constructor makes of a text, and how it is written.
+fn of_text(it: &mut Asked<'_>) -> Result<(), AllocError> {
+    let text = String::from_str(it.alloc, it.text)?;
+    it.before();
+    let crs = match it.command {
+        "from_wkt2_2019" => Crs::from_wkt2_2019(text),
+        "from_srid" => Crs::from_srid(text),
+        "from_unknown_crs_type" => Crs::from_unknown_crs_type(text),
+        "from_authority_code" if Crs::is_authority_code(text.as_str()) => {
+            Crs::from_authority_code(text)
+        }
+        _ => return Err(AllocError),
     };
-    memory.after_call(alloc)?;
-    match found {
-        Some((crs_type, text)) => write!(said, "{crs_type:?} {text}"),
-        None => said.push_str("-"),
+    it.after();
+    say_written(it, crs);
+    Ok(())
+}
+
+/// Says the parts of a CRS, and the text of the metadata that holds it alone, which is to be read back as it was.
+fn say_written(it: &mut Asked<'_>, crs: Crs) {
+    let metadata = Metadata::new(crs, None);
+    say_crs(&mut it.said, metadata.crs());
+    it.said.push(" as ");
+    let printed = metadata.serialize(it.alloc);
+    say_text(&mut it.said, &printed);
+    let text = match &printed {
+        Ok(Some(text)) => Some(text.as_str()),
+        _ => None,
+    };
+    if !is_read_as(it.alloc, text, &metadata) {
+        it.said.push(", not read back");
+    }
+}
+
+/// Whether a text is read as a metadata.
+fn is_read_as(alloc: Global, text: Option<&str>, metadata: &Metadata) -> bool {
+    match Metadata::deserialize(alloc, text) {
+        Ok(read) => read == *metadata,
+        Err(_) => false,
     }
 }

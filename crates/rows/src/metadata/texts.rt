@@ -1,11 +1,52 @@
-//! Metadata: read from texts and written.
-use crate::memory::Memory;
-use crate::metadata::words::{metadata_words, text_or_none};
-use crate::words;
-use geoarrow_meta::Metadata;
+//! Metadata: read from texts, written and compared.
+use crate::asked::Asked;
+use crate::compared::{Compared, hash_of};
+use crate::said::{Said, say};
+use crate::texts::halves;
+use arrow_values::ArrowError;
+use geoarrow_meta::{Crs, Metadata};
 use json::Scratch;
 use serde_json::Value;
 use std::alloc::{AllocError, Global};
+
+/// Says the parts of a CRS: its value as JSON, and the text of its type, each `-` where there is none.
+pub fn say_crs(said: &mut Said, crs: &Crs) {
+    match crs.crs_value() {
+        Some(value) => say!(said, "crs {value} type "),
+        None => said.push("crs - type "),
+    }
+    match crs.crs_type() {
+        Some(crs_type) => said.push(crs_type.as_text()),
+        None => said.push("-"),
+    }
+}
+
+/// Says the parts of a metadata: those of its CRS, and the text of its edges, `-` where there are none.
+fn say_parts(said: &mut Said, metadata: &Metadata) {
+    say_crs(said, metadata.crs());
+    said.push(" edges ");
+    match metadata.edges() {
+        Some(edges) => said.push(edges.as_text()),
+        None => said.push("-"),
+    }
+}
+
+/// Says the text that a metadata prints, `-` where it prints none.
+pub fn say_text(said: &mut Said, printed: &Result<Option<String>, ArrowError>) {
+    match printed {
+        Ok(Some(text)) => said.push(text.as_str()),
+        Ok(None) => said.push("-"),
+        Err(error) => said.refusal(error),
+    }
+}
+
+/// Says the parts of a metadata that is read, or what the refusal prints.
+fn say_read(said: &mut Said, read: &Result<Metadata, ArrowError>) {
+    match read {
+        Ok(metadata) => say_parts(said, metadata),
+        Err(error) => said.refusal(error),
+    }
+}
 
 /// The metadata of a text. Errs also where it stands for none.
 pub fn metadata_of(alloc: Global, text: &str) -> Result<Metadata, AllocError> {
@@ -16,150 +57,99 @@ pub fn metadata_of(alloc: Global, text: &str) -> Result<Metadata, AllocError> {
 }
 
 /// Says what a call answers about the metadata of a text, or what the refusal of the text prints.
-pub fn read(
-    alloc: Global,
-    said: &mut String,
-    memory: Memory,
-    command: &str,
-    text: &str,
-) -> Result<(), AllocError> {
-    match Metadata::deserialize(alloc, Some(text)) {
-        Ok(metadata) => answer(alloc, said, memory, command, metadata),
-        Err(error) => words::refusal(alloc, said, error),
+pub fn read(it: &mut Asked<'_>) {
+    match Metadata::deserialize(it.alloc, Some(it.text)) {
+        Ok(metadata) => say_of(it, metadata),
+        Err(error) => it.said.refusal(&error),
     }
 }
 
 /// Says what a call answers about a metadata: what it prints, the parts of its normal form, or whether it is normal.
-fn answer(
-    alloc: Global,
-    said: &mut String,
-    memory: Memory,
-    command: &str,
-    metadata: Metadata,
-) -> Result<(), AllocError> {
-    match command {
-        "serialize" => serialized(alloc, said, memory, &metadata),
-        "to_value" => value(alloc, said, memory, &metadata),
-        "Metadata::normalized" => normalized(alloc, said, memory, metadata),
-        "is_normal" => words::truth(said, metadata.is_normal()),
-        _ => words::no_command(said),
+fn say_of(it: &mut Asked<'_>, metadata: Metadata) {
+    match it.command {
+        "serialize" => say_serialized(it, &metadata),
+        "to_value" => say_value(it, &metadata),
+        "is_normal" => it.said.truth(metadata.is_normal()),
+        _ => {
+            it.before();
+            let normal = metadata.normalized();
+            it.after();
+            say_parts(&mut it.said, &normal);
+        }
     }
 }
 
 /// Says what a metadata prints, `-` where it prints nothing.
-fn serialized(
-    alloc: Global,
-    said: &mut String,
-    memory: Memory,
-    metadata: &Metadata,
-) -> Result<(), AllocError> {
-    memory.before_call()?;
-    let printed = metadata.serialize(alloc);
-    memory.after_call(alloc)?;
-    text_or_none(alloc, said, printed)
+fn say_serialized(it: &mut Asked<'_>, metadata: &Metadata) {
+    it.before();
+    let printed = metadata.serialize(it.alloc);
+    it.after();
+    say_text(&mut it.said, &printed);
 }
 
 /// Says the JSON value that a metadata is written as, `-` for none.
-fn value(
-    alloc: Global,
-    said: &mut String,
-    memory: Memory,
-    metadata: &Metadata,
-) -> Result<(), AllocError> {
-    memory.before_call()?;
-    let value = metadata.to_value(alloc);
-    memory.after_call(alloc)?;
-    match value? {
-        Some(value) => words::text(said, value.to_string(alloc)),
-        None => said.push_str("-"),
+fn say_value(it: &mut Asked<'_>, metadata: &Metadata) {
+    it.before();
+    let value = metadata.to_value(it.alloc);
+    it.after();
+    match value {
+        Ok(Some(value)) => say!(it.said, "{value}"),
+        Ok(None) => it.said.push("-"),
+        Err(AllocError) => it.said.fail(),
     }
-}
-
-/// Says the parts of the normal form of a metadata.
-fn normalized(
-    alloc: Global,
-    said: &mut String,
-    memory: Memory,
-    metadata: Metadata,
-) -> Result<(), AllocError> {
-    memory.before_call()?;
-    let normal = metadata.normalized();
-    memory.after_call(alloc)?;
-    metadata_words(said, &normal)
 }
 
 /// Says the parts of the metadata of a text, or of no text, or what the refusal prints.
-pub fn deserialized(
-    alloc: Global,
-    said: &mut String,
-    memory: Memory,
-    text: Option<&str>,
-) -> Result<(), AllocError> {
-    memory.before_call()?;
-    let read = Metadata::deserialize(alloc, text);
-    memory.after_call(alloc)?;
-    match read {
-        Ok(metadata) => metadata_words(said, &metadata),
-        Err(error) => words::refusal(alloc, said, error),
-    }
+pub fn deserialized(it: &mut Asked<'_>, text: Option<&str>) {
+    it.before();
+    let read = Metadata::deserialize(it.alloc, text);
+    it.after();
+    say_read(&mut it.said, &read);
 }
 
 /// Says the parts of the metadata of the JSON value of a text.
-pub fn from_value(alloc: Global, said: &mut String, text: &str) -> Result<(), AllocError> {
-    let Ok(value) = Value::from_str(alloc, text) else {
-        return Err(AllocError);
-    };
-    match Metadata::from_value(alloc, &value) {
-        Ok(metadata) => metadata_words(said, &metadata),
-        Err(error) => words::geoarrow_refusal(alloc, said, error),
+pub fn from_value(it: &mut Asked<'_>) -> Result<(), AllocError> {
+    let value = Value::from_str(it.alloc, it.text).map_err(|_| AllocError)?;
+    match Metadata::from_value(it.alloc, &value) {
+        Ok(metadata) => say_parts(&mut it.said, &metadata),
+        Err(error) => it.said.geoarrow_refusal(&error),
     }
+    Ok(())
 }
 
 /// Says the parts of the metadata of the texts with ` ; ` between them, which are read in one scratch, or what a refusal prints.
-pub fn in_one_scratch(alloc: Global, said: &mut String, text: &str) -> Result<(), AllocError> {
-    let mut scratch = Scratch::new(alloc);
-    for (at, text) in text.split(" ; ").enumerate() {
+pub fn in_one_scratch(it: &mut Asked<'_>) {
+    let mut scratch = Scratch::new(it.alloc);
+    for (at, text) in it.text.split(" ; ").enumerate() {
         if at > 0 {
-            said.push_str(" ; ")?;
+            it.said.push(" ; ");
         }
-        match Metadata::deserialize_with_scratch(alloc, Some(text), &mut scratch) {
-            Ok(metadata) => metadata_words(said, &metadata)?,
-            Err(error) => words::refusal(alloc, said, error)?,
-        }
+        let read = Metadata::deserialize_with_scratch(it.alloc, Some(text), &mut scratch);
+        say_read(&mut it.said, &read);
     }
-    Ok(())
 }
 
-/// A number of brackets that are opened, and as many that are closed if they are to be.
-fn brackets(text: &mut String, count: &str, are_closed: bool) -> Result<(), AllocError> {
-    let Ok(count) = count.parse::<usize>() else {
-        return Err(AllocError);
-    };
-    for _ in 0..count {
-        text.push('[')?;
+impl Compared for Metadata {
+    fn spelled(alloc: Global, text: &str) -> Result<Metadata, AllocError> {
+        metadata_of(alloc, text)
     }
-    for _ in 0..(if are_closed { count } else { 0 }) {
-        text.push(']')?;
+
+    fn is_cloned_as(&self, alloc: Global, other: &Metadata) -> Result<bool, AllocError> {
+        let clone = self.try_clone(alloc)?;
+        let crs = self.crs().try_clone(alloc)?;
+        let is_same_crs = crs == *other.crs() && hash_of(&crs) == hash_of(other.crs());
+        Ok(clone == *other && hash_of(&clone) == hash_of(other) && is_same_crs)
     }
-    Ok(())
 }
 
-/// Says what the metadata of a text whose CRS is so many lists in one another prints, `the text itself` where it is that.
-pub fn nested(alloc: Global, said: &mut String, count: &str) -> Result<(), AllocError> {
-    let mut text = String::from_str(alloc, r#"{"crs":"#)?;
-    brackets(&mut text, count, true)?;
-    text.push('}')?;
-    read(alloc, said, Memory::Ample, "serialize", text.as_str())?;
-    if *said == text {
-        said.clear();
-        return said.push_str("the text itself");
-    }
+/// Says whether the metadata of two texts are written alike.
+pub fn same_written(it: &mut Asked<'_>) -> Result<(), AllocError> {
+    let (one, other) = halves(it.text)?;
+    let one = metadata_of(it.alloc, one)?;
+    let other = metadata_of(it.alloc, other)?;
+    it.before();
+    let found = one.same_written(&other);
+    it.after();
+    it.said.truth(found);
     Ok(())
-}
-
-/// Says the parts of the metadata of so many brackets that are opened and not closed.
-pub fn opened(alloc: Global, said: &mut String, count: &str) -> Result<(), AllocError> {
-    let mut text = String::new(alloc);
-    brackets(&mut text, count, false)?;
-    deserialized(alloc, said, Memory::Ample, Some(text.as_str()))
 }

@@ -1,11 +1,9 @@
 //! The parts of a type, and what stands in their place.
+use crate::asked::Asked;
 use crate::compared::{Compared, hash_of};
-use crate::memory::Memory;
-use crate::schema::spelled::{
-    coord_type_of, dimension_of, first_word, halves, metadata_of, type_of,
-};
-use crate::schema::words::type_words;
-use crate::words::truth;
+use crate::schema::spelled::{metadata_of, type_of};
+use crate::schema::words::say_type;
+use crate::texts::{coord_type, dimension, first_word, halves};
 use geoarrow_schema::{CoordType, Dimension, GeoArrowType, Metadata};
 use std::alloc::{AllocError, Global};
 use std::sync::Arc;
@@ -25,27 +23,14 @@ enum Change {
     Normalized,
 }
 
-/// What a command makes of a type, and the text of that type, behind what stands in the part's place.
-fn change_of<'a>(
-    alloc: Global,
-    command: &str,
-    text: &'a str,
-) -> Result<(Change, &'a str), AllocError> {
+/// What a command makes of a type, by what stands in the part's place.
+fn change_of(alloc: Global, command: &str, part: &str) -> Result<Change, AllocError> {
     match command {
-        "from_kind" => Ok((Change::None, text)),
-        "normalized" => Ok((Change::Normalized, text)),
-        "with_coord_type" => {
-            let (word, text) = first_word(text)?;
-            Ok((Change::CoordType(coord_type_of(word)?), text))
-        }
-        "with_dimension" => {
-            let (word, text) = first_word(text)?;
-            Ok((Change::Dimension(dimension_of(word)?), text))
-        }
-        "with_metadata" => {
-            let (word, text) = halves(text)?;
-            Ok((Change::Metadata(metadata_of(alloc, word)?), text))
-        }
+        "from_kind" => Ok(Change::None),
+        "normalized" => Ok(Change::Normalized),
+        "with_coord_type" => Ok(Change::CoordType(coord_type(part)?)),
+        "with_dimension" => Ok(Change::Dimension(dimension(part)?)),
+        "with_metadata" => Ok(Change::Metadata(metadata_of(alloc, part)?)),
         _ => Err(AllocError),
     }
 }
@@ -61,59 +46,49 @@ fn after(alloc: Global, change: Change, one: GeoArrowType) -> Result<GeoArrowTyp
     }
 }
 
+/// What stands in the part's place, and the text of the type.
+fn part_and_type<'a>(command: &str, text: &'a str) -> Result<(&'a str, &'a str), AllocError> {
+    match command {
+        "with_coord_type" | "with_dimension" => first_word(text),
+        "with_metadata" => halves(text),
+        _ => Ok(("", text)),
+    }
+}
+
 /// Says a type after a change, as its getters tell it.
-pub fn changed(
-    alloc: Global,
-    said: &mut String,
-    memory: Memory,
-    command: &str,
-    text: &str,
-) -> Result<(), AllocError> {
-    let (change, spelled) = change_of(alloc, command, text)?;
-    let one = type_of(alloc, spelled)?;
-    memory.before_call()?;
-    let found = after(alloc, change, one);
-    memory.after_call(alloc)?;
-    type_words(alloc, said, &found?)
+pub fn changed(it: &mut Asked<'_>) -> Result<(), AllocError> {
+    let (part, spelled) = part_and_type(it.command, it.text)?;
+    let change = change_of(it.alloc, it.command, part)?;
+    let one = type_of(it.alloc, spelled)?;
+    it.before();
+    let found = after(it.alloc, change, one);
+    it.after();
+    say_type(&mut it.said, it.alloc, &found?);
+    Ok(())
 }
 
 /// Says whether two types are written alike, and whether their normal forms are equal.
-pub fn same_written(
-    alloc: Global,
-    said: &mut String,
-    memory: Memory,
-    text: &str,
-) -> Result<(), AllocError> {
-    let (one, other) = halves(text)?;
-    truth(said, are_written_alike(alloc, memory, one, other)?)?;
-    said.push(' ')?;
-    truth(said, are_normally_equal(alloc, one, other)?)
-}
-
-/// Whether two types are written alike.
-fn are_written_alike(
-    alloc: Global,
-    memory: Memory,
-    one: &str,
-    other: &str,
-) -> Result<bool, AllocError> {
-    let one = type_of(alloc, one)?;
-    let other = type_of(alloc, other)?;
-    memory.before_call()?;
+pub fn same_written(it: &mut Asked<'_>) -> Result<(), AllocError> {
+    let (one, other) = halves(it.text)?;
+    let one = type_of(it.alloc, one)?;
+    let other = type_of(it.alloc, other)?;
+    it.before();
     let found = one.same_written(&other);
-    memory.after_call(alloc)?;
-    Ok(found)
-}
-
-/// The normal form of a type.
-fn normal(alloc: Global, text: &str) -> Result<GeoArrowType, AllocError> {
-    type_of(alloc, text)?.normalized(alloc)
+    it.after();
+    it.said.truth(found);
+    it.said.push(" ");
+    it.said.truth(are_normally_equal(it.alloc, one, other)?);
+    Ok(())
 }
 
 /// Whether the normal forms of two types are equal.
-fn are_normally_equal(alloc: Global, one: &str, other: &str) -> Result<bool, AllocError> {
-    let one = normal(alloc, one)?;
-    Ok(one == normal(alloc, other)?)
+fn are_normally_equal(
+    alloc: Global,
+    one: GeoArrowType,
+    other: GeoArrowType,
+) -> Result<bool, AllocError> {
+    let one = one.normalized(alloc)?;
+    Ok(one == other.normalized(alloc)?)
 }
 
 /// A type that is cloned and compared: neither it nor `Compared` is of this crate, so it stands in a type that is.

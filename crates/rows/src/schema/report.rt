@@ -1,8 +1,9 @@
 //! Reports over columns, and the metadata of a field.
+use crate::asked::Asked;
+use crate::said::{Said, say};
 use crate::schema::spelled::field_of;
-use crate::schema::words::{metadata_words, type_words};
-use crate::words;
-use arrow_values::Field;
+use crate::schema::words::{say_metadata, say_type};
+use arrow_values::{ArrowError, Field};
 use geoarrow_columns::{Column, check_columns};
 use geoarrow_schema::Metadata;
 use json::Scratch;
@@ -22,58 +23,68 @@ fn fields_of(alloc: Global, text: &str) -> Result<Vec<Field>, AllocError> {
 }
 
 /// Says what a column holds.
-fn say(alloc: Global, said: &mut String, column: &Column) -> Result<(), AllocError> {
+fn say_column(said: &mut Said, alloc: Global, column: &Column) {
     match column {
         Column::Geometry(found) => {
-            said.push_str("geometry ")?;
-            type_words(alloc, said, found)
+            said.push("; geometry ");
+            say_type(said, alloc, found);
         }
         Column::Inferred(found) => {
-            said.push_str("inferred ")?;
-            type_words(alloc, said, found)
+            said.push("; inferred ");
+            say_type(said, alloc, found);
         }
-        Column::Other => said.push_str("other"),
-        Column::Faulty(fault) => write!(said, "faulty {fault:?}"),
+        Column::Other => said.push("; other"),
+        Column::Faulty(fault) => say!(said, "; faulty {fault:?}"),
     }
 }
 
-/// Says what each of the columns with ` ; ` between them holds. The fields are not dropped, since those whose data types nest deep
-/// would take more stack than there is.
-pub fn report(alloc: Global, said: &mut String, text: &str) -> Result<(), AllocError> {
-    let fields = fields_of(alloc, text)?;
-    let columns = check_columns(alloc, fields.as_slice());
-    forget(fields);
-    let columns = columns?;
-    write!(said, "{} columns", columns.len())?;
+/// Says what each of some columns holds.
+fn say_columns(it: &mut Asked<'_>, fields: &[Field]) -> Result<(), AllocError> {
+    let columns = check_columns(it.alloc, fields)?;
+    say!(it.said, "{} columns", columns.len());
     for column in columns.iter() {
-        said.push_str("; ")?;
-        say(alloc, said, column)?;
+        say_column(&mut it.said, it.alloc, column);
     }
     Ok(())
 }
 
-/// Says the metadata of a field, whatever its name, as three calls read it: once where they are the same.
-pub fn metadata(alloc: Global, said: &mut String, text: &str) -> Result<(), AllocError> {
-    let field = field_of(alloc, text)?;
-    let read = match Metadata::try_from_field(alloc, &field) {
-        Ok(read) => read,
-        Err(error) => return words::refusal(alloc, said, error),
-    };
-    metadata_words(alloc, said, &read)?;
-    if are_same(alloc, &field, &read)? {
-        return Ok(());
-    }
-    said.push_str(", otherwise in a scratch or shared")
+/// Says what each of the columns with ` ; ` between them holds. The fields are not dropped, since those whose data types nest deep
+/// would take more stack than there is.
+pub fn report(it: &mut Asked<'_>) -> Result<(), AllocError> {
+    let fields = fields_of(it.alloc, it.text)?;
+    let done = say_columns(it, fields.as_slice());
+    forget(fields);
+    done
 }
 
-/// Whether the metadata of a field is that one, read in a scratch and to be shared.
-fn are_same(alloc: Global, field: &Field, read: &Metadata) -> Result<bool, AllocError> {
-    let mut scratch = Scratch::new(alloc);
-    let text = field.extension_type_metadata();
-    let again = Metadata::try_from_field_with_scratch(alloc, field, &mut scratch);
-    let shared = Metadata::deserialize_shared(alloc, text);
-    match (again, shared) {
-        (Ok(again), Ok(shared)) => Ok(again == *read && *shared == *read),
-        _ => Err(AllocError),
+/// Says a metadata that is read, or what the refusal prints.
+fn say_read(said: &mut Said, alloc: Global, read: &Result<Metadata, ArrowError>) {
+    match read {
+        Ok(metadata) => say_metadata(said, alloc, metadata),
+        Err(error) => said.refusal(error),
     }
+}
+
+/// Says the metadata of a field, whatever its name, as three calls read it: once where they are the same.
+pub fn metadata(it: &mut Asked<'_>) -> Result<(), AllocError> {
+    let alloc = it.alloc;
+    let field = field_of(alloc, it.text)?;
+    let mut scratch = Scratch::new(alloc);
+    let read = Metadata::try_from_field(alloc, &field);
+    say_read(&mut it.said, alloc, &read);
+    let mut other = Said::new(alloc);
+    let read = Metadata::try_from_field_with_scratch(alloc, &field, &mut scratch);
+    say_read(&mut other, alloc, &read);
+    let shared = Metadata::deserialize_shared(alloc, field.extension_type_metadata());
+    let mut third = Said::new(alloc);
+    match &shared {
+        Ok(shared) => say_metadata(&mut third, alloc, shared),
+        Err(error) => third.refusal(error),
+    }
+    if other.is_lacking || third.is_lacking {
+        it.said.fail();
+    } else if other.text != it.said.text || third.text != it.said.text {
+        it.said.push(", otherwise in a scratch or shared");
+    }
+    Ok(())
 }

@@ -1,20 +1,11 @@
 //! Fields and types that a text spells. What spells none is an error, so that a row of it is wrong.
-use crate::notation::{column, data_type, described, field, named};
+use crate::notation::{column, data_type, field};
 use crate::schema::words::{coord_type_word, dimension_word, kind_word};
-use arrow_values::{DataType, EXTENSION_TYPE_METADATA_KEY, Field};
-use geoarrow_schema::{CoordType, Dimension, GeoArrowType, Kind, Metadata};
+use crate::texts::{first_word, halves};
+use arrow_values::{DataType, EXTENSION_TYPE_METADATA_KEY, EXTENSION_TYPE_NAME_KEY, Field};
+use geoarrow_schema::{GeoArrowType, Kind, Metadata};
 use std::alloc::{AllocError, Global};
 use std::sync::Arc;
-
-/// The two parts of a text, before and after ` | `.
-pub fn halves(text: &str) -> Result<(&str, &str), AllocError> {
-    text.split_once(" | ").ok_or(AllocError)
-}
-
-/// The first word of a text, and what is left after the space.
-pub fn first_word(text: &str) -> Result<(&str, &str), AllocError> {
-    text.split_once(' ').ok_or(AllocError)
-}
 
 /// A field that may be null, spelled `NAME METADATA | TYPE`, where the name `-` stands for none, no metadata text need be
 /// there, and `(empty)` is the empty one; or spelled as a line of JSON.
@@ -23,13 +14,17 @@ pub fn field_of(alloc: Global, text: &str) -> Result<Field, AllocError> {
         return field(alloc, text);
     }
     let (texts, tree) = halves(text)?;
-    match texts.split_once(' ') {
-        None if texts == "-" => column(alloc, &[], tree),
-        None => named(alloc, texts, tree),
-        Some((name, "(empty)")) => described(alloc, name, "", tree),
-        Some(("-", metadata)) => { column(alloc, &[(EXTENSION_TYPE_METADATA_KEY, metadata)], tree) }
-        Some((name, metadata)) => described(alloc, name, metadata, tree),
-    }
+    let (name, metadata) = match texts.split_once(' ') {
+        None => (texts, None),
+        Some((name, "(empty)")) => (name, Some("")),
+        Some((name, metadata)) => (name, Some(metadata)),
+    };
+    let name = if name == "-" { None } else { Some(name) };
+    let texts = [
+        (EXTENSION_TYPE_NAME_KEY, name),
+        (EXTENSION_TYPE_METADATA_KEY, metadata),
+    ];
+    column(alloc, &texts, tree)
 }
 
 /// A data type in the notation, or that of a field that is spelled as a line of JSON.
@@ -68,25 +63,5 @@ pub fn metadata_of(alloc: Global, text: &str) -> Result<Arc<Metadata>, AllocErro
     match Metadata::deserialize(alloc, text) {
         Ok(metadata) => Ok(Arc::new(alloc, metadata)?),
         Err(_) => Err(AllocError),
-    }
-}
-
-/// The coordinate type of a word.
-pub fn coord_type_of(word: &str) -> Result<CoordType, AllocError> {
-    match word {
-        "interleaved" => Ok(CoordType::Interleaved),
-        "separated" => Ok(CoordType::Separated),
-        _ => Err(AllocError),
-    }
-}
-
-/// The dimension of a word.
-pub fn dimension_of(word: &str) -> Result<Dimension, AllocError> {
-    match word {
-        "XY" => Ok(Dimension::XY),
-        "XYZ" => Ok(Dimension::XYZ),
-        "XYM" => Ok(Dimension::XYM),
-        "XYZM" => Ok(Dimension::XYZM),
-        _ => Err(AllocError),
     }
 }

@@ -1,47 +1,39 @@
 //! What the answers say, in words.
-use crate::words::refusal;
+use crate::said::{Said, say};
 use arrow_values::{ArrowError, GeoArrowError};
-use geoarrow_schema::{
-    CoordType, CrsType, Dimension, GeoArrowType, Kind, Metadata, NativeKind, Width,
-};
-use std::alloc::{AllocError, Global};
+use geoarrow_schema::{CoordType, Dimension, GeoArrowType, Kind, Metadata, NativeKind, Width};
+use std::alloc::Global;
 
 /// Says a type: its kind, coordinate type, dimension and metadata. It says all that there is of it.
-pub fn type_words(
-    alloc: Global,
-    said: &mut String,
-    found: &GeoArrowType,
-) -> Result<(), AllocError> {
-    let kind = kind_word(found.kind());
-    let coord_type = coord_type_word(found.coord_type());
-    let dimension = dimension_word(found.dimension());
-    write!(said, "{kind} {coord_type} {dimension} ")?;
-    metadata_words(alloc, said, found.metadata())
+pub fn say_type(said: &mut Said, alloc: Global, found: &GeoArrowType) {
+    said.push(kind_word(found.kind()));
+    said.push(" ");
+    said.push(coord_type_word(found.coord_type()));
+    said.push(" ");
+    said.push(dimension_word(found.dimension()));
+    said.push(" ");
+    say_metadata(said, alloc, found.metadata());
 }
 
 /// Says a metadata: its text; or a dash where it has none, and the CRS type that is there nevertheless.
-pub fn metadata_words(
-    alloc: Global,
-    said: &mut String,
-    metadata: &Metadata,
-) -> Result<(), AllocError> {
+pub fn say_metadata(said: &mut Said, alloc: Global, metadata: &Metadata) {
     match (metadata.serialize(alloc), metadata.crs().crs_type()) {
-        (Ok(Some(text)), _) => said.push_str(text.as_str()),
-        (Ok(None), None) => said.push_str("-"),
-        (Ok(None), Some(lone)) => write!(said, "- {}", lone.as_text()),
-        (Err(error), _) => refusal(alloc, said, error),
+        (Ok(Some(text)), _) => said.push(text.as_str()),
+        (Ok(None), None) => said.push("-"),
+        (Ok(None), Some(lone)) => say!(said, "- {}", lone.as_text()),
+        (Err(error), _) => said.refusal(&error),
     }
 }
 
 /// Says an error: its variant, and all that it prints; out of memory is no answer.
-pub fn error_words(said: &mut String, error: &GeoArrowError) -> Result<(), AllocError> {
+pub fn say_error(said: &mut Said, error: &GeoArrowError) {
     let variant = match error {
-        GeoArrowError::Arrow(ArrowError::OutOfMemory) => return Err(AllocError),
+        GeoArrowError::Arrow(ArrowError::OutOfMemory) => return said.fail(),
         GeoArrowError::Arrow(_) => "Arrow",
         GeoArrowError::InvalidGeoArrow(_) => "InvalidGeoArrow",
         _ => "another variant",
     };
-    write!(said, "{variant}: {error}")
+    say!(said, "{variant}: {error}");
 }
 
 /// The word of a kind.

@@ -7,8 +7,8 @@ decreases-read_type l = 3 * l.levels
 abbrev pub decreases-read_field : goal.decreases-read_field
 decreases-read_field l = 3 * l.levels + 1
 
-abbrev pub decreases-read_struct : goal.decreases-read_struct
-decreases-read_struct l = 3 * l.levels + 2
+abbrev pub decreases-read_fields : goal.decreases-read_fields
+decreases-read_fields l = 3 * l.levels + 2
 
 abbrev pub decreases-read_sized : goal.decreases-read_sized
 decreases-read_sized l = 3 * l.levels + 2

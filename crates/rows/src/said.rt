@@ -1,0 +1,119 @@
+//! What is said, a part at a time.
+use arrow_values::{ArrowError, Field, GeoArrowError};
+use field_lines::field_line;
+use std::alloc::{AllocError, Global};
+use std::fmt::Debug;
+
+/// A text that remembers whether a part of it is lacking, since it was out of memory or had no answer. So saying cannot fail.
+#[derive(Drop)]
+pub struct Said {
+    /// What is said.
+    pub text: String,
+    /// Whether a part is lacking.
+    pub is_lacking: bool,
+}
+
+/// Says what `format!` would make.
+macro_rules! say {
+    ($said:expr, $($part:tt)*) => {{
+        let done = write!($said.text, $($part)*);
+        $said.note(done);
+    }};
+}
+
+pub(crate) use say;
+
+impl Said {
+    /// Nothing as yet.
+    pub fn new(alloc: Global) -> Said {
+        Said {
+            text: String::new(alloc),
+            is_lacking: false,
+        }
+    }
+
+    /// Has no answer.
+    pub fn fail(&mut self) {
+        self.is_lacking = true;
+    }
+
+    /// Remembers whether a part could not be said.
+    pub fn note(&mut self, done: Result<(), AllocError>) {
+        if done.is_err() {
+            self.is_lacking = true;
+        }
+    }
+
+    /// Says a text.
+    pub fn push(&mut self, text: &str) {
+        let done = self.text.push_str(text);
+        self.note(done);
+    }
+
+    /// Says a text that a call has made.
+    pub fn made(&mut self, made: Result<String, AllocError>) {
+        match made {
+            Ok(made) => self.push(made.as_str()),
+            Err(AllocError) => self.fail(),
+        }
+    }
+
+    /// Says `true` or `false`.
+    pub fn truth(&mut self, truth: bool) {
+        self.push(if truth { "true" } else { "false" });
+    }
+
+    /// Says a value by its name.
+    pub fn name<T: Debug>(&mut self, value: &T) {
+        say!(self, "{value:?}");
+    }
+
+    /// Says a value by its name, or `none`.
+    pub fn name_or_none<T: Debug>(&mut self, value: &Option<T>) {
+        match value {
+            Some(value) => self.name(value),
+            None => self.push("none"),
+        }
+    }
+
+    /// Says what an error prints; out of memory is no answer.
+    pub fn refusal(&mut self, error: &ArrowError) {
+        match error {
+            ArrowError::OutOfMemory => self.fail(),
+            error => say!(self, "{error}"),
+        }
+    }
+
+    /// The same of the error of GeoArrow.
+    pub fn geoarrow_refusal(&mut self, error: &GeoArrowError) {
+        match error {
+            GeoArrowError::Arrow(error) => self.refusal(error),
+            error => say!(self, "{error}"),
+        }
+    }
+
+    /// Says the line of a field.
+    pub fn line(&mut self, alloc: Global, field: &Field) {
+        self.made(field_line(alloc, field));
+    }
+
+    /// Says the line of a field that was made, or what the refusal prints.
+    pub fn line_or_refusal(&mut self, alloc: Global, made: &Result<Field, ArrowError>) {
+        match made {
+            Ok(field) => self.line(alloc, field),
+            Err(error) => self.refusal(error),
+        }
+    }
+
+    /// Says bytes, those that are no ASCII as escapes.
+    pub fn bytes(&mut self, bytes: &[u8]) {
+        for &byte in bytes {
+            if byte.is_ascii() {
+                let done = self.text.push(char::from(byte));
+                self.note(done);
+            } else {
+                say!(self, "\\x{byte:02x}");
+            }
+        }
+    }
+}
