@@ -19,6 +19,9 @@ pub fn kind(alloc: Global, text: &str) -> Result<Kind, AllocError> {
     for kind in Kind::ALL.iter() {
         said.text.clear();
         said.name(kind);
+        if said.is_lacking {
+            return Err(AllocError);
+        }
         if said.text.as_str() == text {
             return Ok(*kind);
         }

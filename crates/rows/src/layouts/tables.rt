@@ -92,6 +92,9 @@ fn fault_of(alloc: Global, text: &str) -> Result<LayoutFault, AllocError> {
     for fault in FAULTS.iter() {
         said.text.clear();
         said.name(fault);
+        if said.is_lacking {
+            return Err(AllocError);
+        }
         if said.text.as_str() == text {
             return Ok(*fault);
         }
