@@ -4,7 +4,7 @@ ghost use Rattle.serde_json.specs.Find.{as_object, as_array};
 ghost use Rattle.value_tokens.specs.Next.{next_value, OpensObject, OpensArray};
 
 use crate::refusal::Refusal;
-use crate::skip::other_kind;
+use crate::skip::skip_rest;
 use json::{Reader, Token};
 
 /// Takes the brace that opens an object, where one comes next, and returns how deep its members may nest. Passes over
@@ -16,9 +16,7 @@ pub fn open_object(reader: &mut Reader<'_>, depth: usize) -> Result<Option<usize
     ensures text { result ≡ Err Refusal.Text → next_value depth reader.old ≡ None }
     ensures never_memory { result ≡ Err Refusal.Memory → ⊥ }
 {
-    let Some(token) = reader.next() else {
-        return Err(Refusal::Text);
-    };
+    let token = reader.next().ok_or(Refusal::Text)?;
     match token {
         Token::BeginObject => {
             if depth == 0 {
@@ -26,7 +24,10 @@ pub fn open_object(reader: &mut Reader<'_>, depth: usize) -> Result<Option<usize
             }
             Ok(Some(depth - 1))
         }
-        other => other_kind(other, reader, depth),
+        other => {
+            skip_rest(other, reader, depth)?;
+            Ok(None)
+        }
     }
 }
 
@@ -39,9 +40,7 @@ pub fn open_array(reader: &mut Reader<'_>, depth: usize) -> Result<Option<usize>
     ensures text { result ≡ Err Refusal.Text → next_value depth reader.old ≡ None }
     ensures never_memory { result ≡ Err Refusal.Memory → ⊥ }
 {
-    let Some(token) = reader.next() else {
-        return Err(Refusal::Text);
-    };
+    let token = reader.next().ok_or(Refusal::Text)?;
     match token {
         Token::BeginArray => {
             if depth == 0 {
@@ -49,6 +48,9 @@ pub fn open_array(reader: &mut Reader<'_>, depth: usize) -> Result<Option<usize>
             }
             Ok(Some(depth - 1))
         }
-        other => other_kind(other, reader, depth),
+        other => {
+            skip_rest(other, reader, depth)?;
+            Ok(None)
+        }
     }
 }

@@ -6,7 +6,7 @@ ghost use Rattle.value_tokens.specs.Next.{next_value, Reads};
 
 use crate::numbers::number_of;
 use crate::refusal::Refusal;
-use crate::skip::other_kind;
+use crate::skip::skip_rest;
 use json::{Reader, Token};
 use serde_json::Number;
 use std::alloc::Global;
@@ -19,12 +19,13 @@ pub fn read_str<'a>(reader: &mut Reader<'a>, depth: usize) -> Result<Option<&'a 
     ensures text { result ≡ Err Refusal.Text → next_value depth reader.old ≡ None }
     ensures never_memory { result ≡ Err Refusal.Memory → ⊥ }
 {
-    let Some(token) = reader.next() else {
-        return Err(Refusal::Text);
-    };
+    let token = reader.next().ok_or(Refusal::Text)?;
     match token {
         Token::String(text) => Ok(Some(text)),
-        other => other_kind(other, reader, depth),
+        other => {
+            skip_rest(other, reader, depth)?;
+            Ok(None)
+        }
     }
 }
 
@@ -53,12 +54,13 @@ pub fn read_bool(reader: &mut Reader<'_>, depth: usize) -> Result<Option<bool>, 
     ensures text { result ≡ Err Refusal.Text → next_value depth reader.old ≡ None }
     ensures never_memory { result ≡ Err Refusal.Memory → ⊥ }
 {
-    let Some(token) = reader.next() else {
-        return Err(Refusal::Text);
-    };
+    let token = reader.next().ok_or(Refusal::Text)?;
     match token {
         Token::Bool(truth) => Ok(Some(truth)),
-        other => other_kind(other, reader, depth),
+        other => {
+            skip_rest(other, reader, depth)?;
+            Ok(None)
+        }
     }
 }
 
@@ -70,14 +72,15 @@ pub fn read_number(reader: &mut Reader<'_>, depth: usize) -> Result<Option<Numbe
     ensures text { result ≡ Err Refusal.Text → next_value depth reader.old ≡ None }
     ensures never_memory { result ≡ Err Refusal.Memory → ⊥ }
 {
-    let Some(token) = reader.next() else {
-        return Err(Refusal::Text);
-    };
+    let token = reader.next().ok_or(Refusal::Text)?;
     match token {
         Token::Number(text) => match number_of(text) {
             Some(number) => Ok(Some(number)),
             None => Err(Refusal::Text),
         },
-        other => other_kind(other, reader, depth),
+        other => {
+            skip_rest(other, reader, depth)?;
+            Ok(None)
+        }
     }
 }

@@ -1,5 +1,5 @@
 //! Passing over a value, which is judged as if it were read. No call takes memory.
-ghost use Rattle.std.specs.Prelude.{◌≡◌, ◌<◌, ◌≤◌, ◌∷◌, length, Some, None, Err, IfOk, OnOk};
+ghost use Rattle.std.specs.Prelude.{◌≡◌, ◌<◌, ◌≤◌, ◌∷◌, length, Some, None, Err, OnOk};
 ghost use Rattle.json.specs.Reads.{token_of};
 ghost use Rattle.serde_json.specs.Data.{Members};
 ghost use Rattle.value_tokens.specs.Next.{next_value, next_items, next_members, after};
@@ -9,7 +9,6 @@ use crate::refusal::Refusal;
 use json::{Reader, Token};
 
 /// Passes over a value.
-#[cycle(skip)]
 #[cold]
 #[inline(never)]
 pub fn skip_value(reader: &mut Reader<'_>, depth: usize) -> Result<(), Refusal>
@@ -18,28 +17,8 @@ pub fn skip_value(reader: &mut Reader<'_>, depth: usize) -> Result<(), Refusal>
     ensures text { result ≡ Err Refusal.Text → next_value depth reader.old ≡ None }
     ensures never_memory { result ≡ Err Refusal.Memory → ⊥ }
 {
-    match reader.next() {
-        Some(token) => skip_rest(token, reader, depth),
-        None => Err(Refusal::Text),
-    }
-}
-
-/// Passes over what is left of a value that is of another kind than the one asked for, and returns `None`.
-#[cold]
-pub(crate) fn other_kind<T>(
-    token: Token<'_>,
-    reader: &mut Reader<'_>,
-    depth: usize,
-) -> Result<Option<T>, Refusal>
-    ensures ok { IfOk result (λ o. (o ≡ None) × (after (next_value depth (token_of token.entry ∷ reader.old)) ≡ Some reader.new)) }
-    ensures shorter { OnOk result (length reader.new ≤ length reader.old) }
-    ensures text { result ≡ Err Refusal.Text → next_value depth (token_of token.entry ∷ reader.old) ≡ None }
-    ensures never_memory { result ≡ Err Refusal.Memory → ⊥ }
-{
-    match skip_rest(token, reader, depth) {
-        Ok(()) => Ok(None),
-        Err(refusal) => Err(refusal),
-    }
+    let token = reader.next().ok_or(Refusal::Text)?;
+    skip_rest(token, reader, depth)
 }
 
 /// Passes over what is left of a value whose first token was taken.
@@ -85,7 +64,8 @@ pub fn skip_items(reader: &mut Reader<'_>, depth: usize) -> Result<(), Refusal>
     ensures never_memory { result ≡ Err Refusal.Memory → ⊥ }
 {
     'items: while !reader.take_end_array() {
-        skip_value(reader, depth)?;
+        let token = reader.next().ok_or(Refusal::Text)?;
+        skip_rest(token, reader, depth)?;
     }
     Ok(())
 }
@@ -101,7 +81,8 @@ pub fn skip_members(reader: &mut Reader<'_>, depth: usize) -> Result<(), Refusal
     ensures never_memory { result ≡ Err Refusal.Memory → ⊥ }
 {
     'members: while let Some(_) = reader.next_key()? {
-        skip_value(reader, depth)?;
+        let token = reader.next().ok_or(Refusal::Text)?;
+        skip_rest(token, reader, depth)?;
     }
     Ok(())
 }

@@ -1,10 +1,7 @@
 //! A value taken whole, in memory of its own.
-ghost use Rattle.std.specs.Prelude.{◌≡◌, ◌≢◌, ◌<◌, ◌∷◌, ℕ, List, length, Some, None, Err, IfOk, OnOk};
-ghost use Rattle.json.specs.Json.{parse_map};
-ghost use Rattle.json.specs.Reads.{token_of};
-ghost use Rattle.json.specs.Token as spec;
-ghost use Rattle.serde_json.specs.Data.{array, object, no_members, put};
-ghost use Rattle.serde_json.specs.View.{view, members_view};
+ghost use Rattle.std.specs.Prelude.{◌≡◌, ◌<◌, length, Some, None, Err, IfOk, OnOk};
+ghost use Rattle.serde_json.specs.Data.{no_members, put};
+ghost use Rattle.serde_json.specs.View.{view, items_view, members_view};
 ghost use Rattle.value_tokens.specs.Next.{next_value, next_items, next_members};
 
 use crate::numbers::number_of;
@@ -21,38 +18,9 @@ pub fn read_value(alloc: Global, reader: &mut Reader<'_>, depth: usize) -> Resul
     ensures shorter { OnOk result (length reader.new < length reader.old) }
     ensures text { result ≡ Err Refusal.Text → next_value depth reader.old ≡ None }
 {
-    let Some(token) = reader.next() else {
-        return Err(Refusal::Text);
-    };
+    let token = reader.next().ok_or(Refusal::Text)?;
     match token {
-        Token::BeginArray => {
-            if depth == 0 {
-                return Err(Refusal::Text);
-            }
-            read_items(alloc, reader, depth - 1)
-        }
-        Token::BeginObject => {
-            if depth == 0 {
-                return Err(Refusal::Text);
-            }
-            read_members(alloc, reader, depth - 1)
-        }
-        other => plain_value(alloc, other),
-    }
-}
-
-/// The value that is one token.
-#[inline]
-fn plain_value(alloc: Global, token: Token<'_>) -> Result<Value, Refusal>
-    ensures ok { IfOk result (λ v. (depth : ℕ) (s : List spec.Token) → next_value depth (token_of token.entry ∷ s) ≡ Some (view v, s)) }
-    ensures text { result ≡ Err Refusal.Text → token.entry ≢ Token.BeginArray → token.entry ≢ Token.BeginObject
-        → (depth : ℕ) (s : List spec.Token) → next_value depth (token_of token.entry ∷ s) ≡ None }
-{
-    match token {
-        Token::String(text) => match String::from_str(alloc, text) {
-            Ok(text) => Ok(Value::String(text)),
-            Err(_) => Err(Refusal::Memory),
-        },
+        Token::String(text) => Ok(Value::String(String::from_str(alloc, text)?)),
         Token::Number(text) => match number_of(text) {
             Some(number) => Ok(Value::Number(number)),
             None => Err(Refusal::Text),
@@ -60,15 +28,26 @@ fn plain_value(alloc: Global, token: Token<'_>) -> Result<Value, Refusal>
         Token::Bool(truth) => Ok(Value::Bool(truth)),
         Token::Null => Ok(Value::Null),
         Token::EndObject | Token::EndArray | Token::Key(_) | Token::Bad => Err(Refusal::Text),
-        Token::BeginArray | Token::BeginObject => Err(Refusal::Text),
+        Token::BeginArray => {
+            if depth == 0 {
+                return Err(Refusal::Text);
+            }
+            Ok(Value::Array(read_items(alloc, reader, depth - 1)?))
+        }
+        Token::BeginObject => {
+            if depth == 0 {
+                return Err(Refusal::Text);
+            }
+            Ok(Value::Object(read_members(alloc, reader, depth - 1)?))
+        }
     }
 }
 
-/// The array of the items that are left of one.
+/// The items that are left of an array.
 #[cycle(read)]
 #[inline(never)]
-fn read_items(alloc: Global, reader: &mut Reader<'_>, depth: usize) -> Result<Value, Refusal>
-    ensures ok { IfOk result (λ v. parse_map array (next_items depth reader.old) ≡ Some (view v, reader.new)) }
+fn read_items(alloc: Global, reader: &mut Reader<'_>, depth: usize) -> Result<Vec<Value>, Refusal>
+    ensures ok { IfOk result (λ v. next_items depth reader.old ≡ Some (items_view v.items, reader.new)) }
     ensures shorter { OnOk result (length reader.new < length reader.old) }
     ensures text { result ≡ Err Refusal.Text → next_items depth reader.old ≡ None }
 {
@@ -77,14 +56,18 @@ fn read_items(alloc: Global, reader: &mut Reader<'_>, depth: usize) -> Result<Va
         let item = read_value(alloc, reader, depth)?;
         found.push(item)?;
     }
-    Ok(Value::Array(found))
+    Ok(found)
 }
 
-/// The object of the members that are left of one. The last value of a key counts.
+/// The members that are left of an object. The last value of a key counts.
 #[cycle(read)]
 #[inline(never)]
-fn read_members(alloc: Global, reader: &mut Reader<'_>, depth: usize) -> Result<Value, Refusal>
-    ensures ok { IfOk result (λ v. parse_map object (next_members depth no_members reader.old) ≡ Some (view v, reader.new)) }
+fn read_members(
+    alloc: Global,
+    reader: &mut Reader<'_>,
+    depth: usize,
+) -> Result<Map<String, Value>, Refusal>
+    ensures ok { IfOk result (λ m. next_members depth no_members reader.old ≡ Some (members_view m.entries, reader.new)) }
     ensures shorter { OnOk result (length reader.new < length reader.old) }
     ensures text { result ≡ Err Refusal.Text → next_members depth no_members reader.old ≡ None }
 {
@@ -93,7 +76,7 @@ fn read_members(alloc: Global, reader: &mut Reader<'_>, depth: usize) -> Result<
         let member = read_value(alloc, reader, depth)?;
         put(&mut found, alloc, name, member)?;
     }
-    Ok(Value::Object(found))
+    Ok(found)
 }
 
 /// Puts a member into those that were found. Out of line, since an object may nest deep and this would take room on the

@@ -1,4 +1,4 @@
-use Rattle.std.proofs.Common.{Bool, String, Global, refl, rules, ◌≡◌, ◌+◌, [], ◌∷◌, ◌++◌, Some, false, drop, string_bytes, string_cmp, option_and_then, sym, ap, ◌∙◌, subst, arith, append_assoc, append-nil}
+use Rattle.std.proofs.Common.{◌≡◌, ◌+◌, [], ◌∷◌, ◌++◌, Some, false, drop, string_bytes, string_cmp, option_and_then, sym, ap, ◌∙◌, subst, arith, append_assoc, append-nil}
 use Rattle.std.proofs.lemmas.Bool.{or_parts}
 use Rattle.std.proofs.lemmas.List.{drop_more, drop_all}
 use Rattle.std.proofs.lemmas.Result.{on_ok_weaker}
@@ -11,51 +11,7 @@ use Rattle.serde_json.specs.View.{view, items_view, members_view}
 use Rattle.serde_json.specs.Written.{members_outline, has_float, items_have_float, members_have_float}
 use Rattle.serde_json.proofs.Views.{Entry, put_last}
 use Rattle.value_tokens.specs.Adds.{Adds, PrintsItems, added, sent, then, prints_end, prints_item}
-use Rattle.serde_json.specs.declared.value.Value.{Value, the_lemmas}
-use Rattle.serde_json.specs.declared.value.Value.TheVariants.{Null, Bool as Truth, Number as Numeral, String as Quoted}
-use Rattle.serde_json.specs.declared.number.Number.{Number}
-use Rattle.serde_json.specs.Data.{Data, null, boolean, number, string}
-use Rattle.serde_json.specs.View.{number_view}
-use Rattle.serde_json.proofs.Views.{view-Array, view-Object}
-use Rattle.json.specs.Written.{Written}
-use Rattle.value_tokens.specs.Adds.{Prints, prints_array, prints_object}
 use Rattle.value_tokens.proofs.print.+print.Goals as goal
-
--- ---- a value, by its variant
-
-view-Null : view Null ≡ null
-view-Null = search (rules, the_lemmas)
-
-view-Truth : (b : Bool) → view (Truth b) ≡ boolean b
-view-Truth b = search (rules, the_lemmas)
-
-view-Numeral : (n : Number) → view (Numeral n) ≡ number (number_view n)
-view-Numeral n = search (rules, the_lemmas)
-
-view-Quoted : (s : String Global) → view (Quoted s) ≡ string (string_bytes s)
-view-Quoted s = search (rules, the_lemmas)
-
-shown : {v w : Value} {d : Data} {a b : Written} → v ≡ w → view w ≡ d → Prints d a b → Prints (view v) a b
-shown {a = a} {b = b} is seen p = subst (λ d. Prints d a b) (sym (ap view is ∙ seen)) p
-
-pub print_value-returns-in-Null : goal.print_value-returns-in-Null
-print_value-returns-in-Null t c =
-    on_ok_weaker c.null.result (λ a. shown c.in-Null.is view-Null (record { adds = a; reads_back = refl })) (added c.null.result _ _ _ c.null.ensures)
-
-pub print_value-returns-in-Bool : goal.print_value-returns-in-Bool
-print_value-returns-in-Bool t c =
-    on_ok_weaker c.boolean.result (λ a. shown c.in-Bool.is (view-Truth _) (record { adds = a; reads_back = refl })) (added c.boolean.result _ _ _ c.boolean.ensures)
-
-pub print_value-returns-in-Number : goal.print_value-returns-in-Number
-print_value-returns-in-Number t c = on_ok_weaker c.print_number.result (λ p. shown c.in-Number.is (view-Numeral _) p) c.print_number.ensures
-
-pub print_value-returns-in_ok-begin_array-in-Array : goal.print_value-returns-in_ok-begin_array-in-Array
-print_value-returns-in_ok-begin_array-in-Array t c =
-    on_ok_weaker c.print_items.result (λ p. shown c.in-Array.is (view-Array _) (prints_array (sent c.in_ok-begin_array-in-Array.ensures) p)) c.print_items.ensures
-
-pub print_value-returns-in_ok-begin_object-in-Object : goal.print_value-returns-in_ok-begin_object-in-Object
-print_value-returns-in_ok-begin_object-in-Object t c =
-    on_ok_weaker c.print_members.result (λ p. shown c.in-Object.is (view-Object _) (prints_object (sent c.in_ok-begin_object-in-Object.ensures) p)) c.print_members.ensures
 
 pub print_items-loop-item-preserved : goal.print_items-loop-item-preserved
 print_items-loop-item-preserved t c =

@@ -13,16 +13,20 @@ use Rattle.value_tokens.proofs.skip.+skip.Goals as goal
 pub skip_items-items-init : goal.skip_items-items-init
 skip_items-items-init t c = record { same = λ found. (found, refl); fewer = omega arith }
 
+pub skip_items-returns-in_err-token-clause-text : goal.skip_items-returns-in_err-token-clause-text
+skip_items-returns-in_err-token-clause-text t c refused =
+    stop c.items.invariant (λ _. item_refused c.args.depth c.items.reader (grind arith) (no_value c.args.depth c.items.reader (grind arith))) tt
+
 pub skip_items-items-preserved : goal.skip_items-items-preserved
 skip_items-items-preserved t c =
     let l = c.items in
-    let r = c.skip_value.new.reader in
-    go_on l.invariant c.args.depth l.reader r (omega arith) (grind (arith, c.in_ok-skip_value.ensures.ok))
+    let r = c.skip_rest.new.reader in
+    go_on l.invariant c.args.depth l.reader r (omega arith) (grind (arith, c.in_ok-skip_rest.ensures.ok))
     (λ _ d read. (tt, ap after (item_read c.args.depth l.reader r d (grind arith) read) ∙ after-parse_map (item d) (next_items c.args.depth r)))
 
-pub skip_items-returns-in_err-skip_value-clause-text : goal.skip_items-returns-in_err-skip_value-clause-text
-skip_items-returns-in_err-skip_value-clause-text t c refused =
-    stop c.items.invariant (λ _. item_refused c.args.depth c.items.reader (grind arith) (grind (arith, c.skip_value.ensures.text))) tt
+pub skip_items-returns-in_err-skip_rest-clause-text : goal.skip_items-returns-in_err-skip_rest-clause-text
+skip_items-returns-in_err-skip_rest-clause-text t c refused =
+    stop c.items.invariant (λ _. item_refused c.args.depth c.items.reader (grind arith) (grind (arith, c.skip_rest.ensures.text))) tt
 
 pub skip_items-returns-clause-ok : goal.skip_items-returns-clause-ok
 skip_items-returns-clause-ok t c =
@@ -35,21 +39,26 @@ pub skip_members-returns-in_err-next_key-clause-text : goal.skip_members-returns
 skip_members-returns-in_err-next_key-clause-text t c refused =
     stop c.members.invariant (λ more. key_refused c.args.depth more c.members.reader c.in_err-next_key.ensures.value)
 
+pub skip_members-returns-in_err-token-clause-text : goal.skip_members-returns-in_err-token-clause-text
+skip_members-returns-in_err-token-clause-text t c refused =
+    stop c.members.invariant
+    (λ more. member_refused _ more c.in-Some.field-0.now c.members.reader c.next_key.new.self (grind arith) (no_value _ c.next_key.new.self (grind arith)))
+
 pub skip_members-members-preserved : goal.skip_members-members-preserved
 skip_members-members-preserved t c =
     let l = c.members in
     let s = c.next_key.new.self in
-    let r = c.skip_value.new.reader in
+    let r = c.skip_rest.new.reader in
     let k = c.in-Some.field-0.now in
     let key : read_key l.reader ≡ Some (Some k, s) = grind arith in
     let less = read_key-shorter l.reader (Some k) s key in
-    go_on l.invariant c.args.depth s r (omega arith) (grind (arith, c.in_ok-skip_value.ensures.ok))
+    go_on l.invariant c.args.depth s r (omega arith) (grind (arith, c.in_ok-skip_rest.ensures.ok))
     (λ more d read. (put k d more, ap after (member_read c.args.depth more k l.reader s r d key read)))
 
-pub skip_members-returns-in_err-skip_value-clause-text : goal.skip_members-returns-in_err-skip_value-clause-text
-skip_members-returns-in_err-skip_value-clause-text t c refused =
+pub skip_members-returns-in_err-skip_rest-clause-text : goal.skip_members-returns-in_err-skip_rest-clause-text
+skip_members-returns-in_err-skip_rest-clause-text t c refused =
     stop c.members.invariant
-    (λ more. member_refused _ more c.in-Some.field-0.now c.members.reader c.next_key.new.self (grind arith) (grind (arith, c.skip_value.ensures.text)))
+    (λ more. member_refused _ more c.in-Some.field-0.now c.members.reader c.next_key.new.self (grind arith) (grind (arith, c.skip_rest.ensures.text)))
 
 pub skip_members-returns-clause-ok : goal.skip_members-returns-clause-ok
 skip_members-returns-clause-ok t c found =
@@ -92,6 +101,3 @@ pub skip_rest-returns-else-depth-eq0-2-clause-text : goal.skip_rest-returns-else
 skip_rest-returns-else-depth-eq0-2-clause-text t c refused =
     begins _ c.args.reader.now (grind arith) (value-object _ c.args.reader.now (omega arith))
     ∙ ap (parse_map object) (c.skip_members.ensures.text refused no_members)
-
-pub skip_value-returns-in-None-clause-text : goal.skip_value-returns-in-None-clause-text
-skip_value-returns-in-None-clause-text t c refused = no_value c.args.depth c.args.reader.now (grind arith)

@@ -4,16 +4,13 @@ use Rattle.value_tokens.proofs.Loops.{IsSkipping}
 use Rattle.value_tokens.proofs.skip.+skip.Given as goal
 
 abbrev pub decreases-skip_rest : goal.decreases-skip_rest
-decreases-skip_rest l = 3 * l.depth
-
-abbrev pub decreases-skip_value : goal.decreases-skip_value
-decreases-skip_value l = 3 * l.depth + 1
+decreases-skip_rest l = 2 * l.depth
 
 abbrev pub decreases-skip_items : goal.decreases-skip_items
-decreases-skip_items l = 3 * l.depth + 2
+decreases-skip_items l = 2 * l.depth + 1
 
 abbrev pub decreases-skip_members : goal.decreases-skip_members
-decreases-skip_members l = 3 * l.depth + 2
+decreases-skip_members l = 2 * l.depth + 1
 
 abbrev pub invariant-skip_items-items : goal.invariant-skip_items-items
 invariant-skip_items-items l = IsSkipping {F = Unit {0}} (λ _. next_items l.depth) l.initial.reader l.reader

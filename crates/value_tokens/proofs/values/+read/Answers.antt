@@ -1,20 +1,21 @@
-use Rattle.std.proofs.Common.{◌≡◌, ◌∷◌, Some, sym, ap, ◌∙◌, arith}
+use Rattle.std.proofs.Common.{◌≡◌, ◌∷◌, Some, refl, sym, ap, ◌∙◌, arith, rules}
 use Rattle.std.proofs.lemmas.Iterator.Adapters.{option_map_id}
-use Rattle.std.proofs.lemmas.Result.{IfOk-weaker}
 use Rattle.json.specs.Json.{parse_map, read_key}
 use Rattle.json.specs.Reads.{token_of}
 use Rattle.json.proofs.Grammar.{read_key-shorter}
 use Rattle.serde_json.specs.Data.{array, object}
 use Rattle.serde_json.specs.View.{view, members_view}
+use Rattle.serde_json.specs.declared.value.Value.{the_lemmas}
 use Rattle.serde_json.proofs.Views.{view-Array, view-Object}
-use Rattle.value_tokens.proofs.Firsts.{begins, shut}
+use Rattle.value_tokens.proofs.Firsts.{begins, shut, is_plain, is_number}
 use Rattle.value_tokens.proofs.Loops.{items_before, items_before-no_items, one_more_item}
 use Rattle.value_tokens.specs.Next.{next_value, next_items, next_members}
-use Rattle.value_tokens.specs.Turns.{no_value, value-array, value-object, array_too_deep, object_too_deep, value_takes, item_read, item_refused, items_over, member_read, member_refused, key_refused, members_over}
+use Rattle.value_tokens.specs.Beginnings.{next_string, next_boolean, next_null}
+use Rattle.value_tokens.specs.Turns.{no_value, plain, value-array, value-object, array_too_deep, object_too_deep, value_takes, item_read, item_refused, items_over, member_read, member_refused, key_refused, members_over}
 use Rattle.value_tokens.proofs.values.+read.Goals as goal
 
-pub read_value-returns-in_default-clause-text : goal.read_value-returns-in_default-clause-text
-read_value-returns-in_default-clause-text t c refused = no_value c.args.depth c.args.reader.now (grind arith)
+pub read_value-returns-in_err-token-clause-text : goal.read_value-returns-in_err-token-clause-text
+read_value-returns-in_err-token-clause-text t c refused = no_value c.args.depth c.args.reader.now (grind arith)
 
 pub read_value-returns-then-depth-eq0-clause-text : goal.read_value-returns-then-depth-eq0-clause-text
 read_value-returns-then-depth-eq0-clause-text t c refused = shut c.args.depth c.next.new.self array_too_deep (grind arith) (omega arith)
@@ -22,35 +23,49 @@ read_value-returns-then-depth-eq0-clause-text t c refused = shut c.args.depth c.
 pub read_value-returns-then-depth-eq0-2-clause-text : goal.read_value-returns-then-depth-eq0-2-clause-text
 read_value-returns-then-depth-eq0-2-clause-text t c refused = shut c.args.depth c.next.new.self object_too_deep (grind arith) (omega arith)
 
-pub read_value-returns-else-depth-eq0-clause-ok : goal.read_value-returns-else-depth-eq0-clause-ok
-read_value-returns-else-depth-eq0-clause-ok t c =
-    let opened = begins c.args.depth c.next.new.self (grind arith) (value-array _ c.next.new.self (omega arith)) in
-    IfOk-weaker c.read_items.result _ _ (λ v e. opened ∙ e) c.read_items.ensures.ok
+pub read_value-returns-in_err-read_items-in-BeginArray-clause-text : goal.read_value-returns-in_err-read_items-in-BeginArray-clause-text
+read_value-returns-in_err-read_items-in-BeginArray-clause-text t c refused =
+    begins _ c.next.new.self (grind arith) (value-array _ c.next.new.self (omega arith)) ∙ ap (parse_map array) (c.read_items.ensures.text (grind arith))
 
-pub read_value-returns-else-depth-eq0-clause-text : goal.read_value-returns-else-depth-eq0-clause-text
-read_value-returns-else-depth-eq0-clause-text t c refused =
-    begins _ c.next.new.self (grind arith) (value-array _ c.next.new.self (omega arith)) ∙ ap (parse_map array) (c.read_items.ensures.text refused)
+pub read_value-returns-in_err-read_members-in-BeginObject-clause-text : goal.read_value-returns-in_err-read_members-in-BeginObject-clause-text
+read_value-returns-in_err-read_members-in-BeginObject-clause-text t c refused =
+    begins _ c.next.new.self (grind arith) (value-object _ c.next.new.self (omega arith)) ∙ ap (parse_map object) (c.read_members.ensures.text (grind arith))
 
-pub read_value-returns-else-depth-eq0-2-clause-ok : goal.read_value-returns-else-depth-eq0-2-clause-ok
-read_value-returns-else-depth-eq0-2-clause-ok t c =
-    let opened = begins c.args.depth c.next.new.self (grind arith) (value-object _ c.next.new.self (omega arith)) in
-    IfOk-weaker c.read_members.result _ _ (λ v e. opened ∙ e) c.read_members.ensures.ok
+pub read_value-returns-in_ok-from_str-in-String-clause-ok : goal.read_value-returns-in_ok-from_str-in-String-clause-ok
+read_value-returns-in_ok-from_str-in-String-clause-ok t c =
+    is_plain c.args.depth c.next.new.self (grind arith) (next_string c.args.depth c.in-String.text.now c.next.new.self) (search (rules, the_lemmas))
 
-pub read_value-returns-else-depth-eq0-2-clause-text : goal.read_value-returns-else-depth-eq0-2-clause-text
-read_value-returns-else-depth-eq0-2-clause-text t c refused =
-    begins _ c.next.new.self (grind arith) (value-object _ c.next.new.self (omega arith)) ∙ ap (parse_map object) (c.read_members.ensures.text refused)
+pub read_value-returns-in-Bool-clause-ok : goal.read_value-returns-in-Bool-clause-ok
+read_value-returns-in-Bool-clause-ok t c =
+    is_plain c.args.depth c.next.new.self (grind arith) (next_boolean c.args.depth c.in-Bool.truth c.next.new.self) (search (rules, the_lemmas))
 
-pub read_value-returns-in_default-token-clause-ok : goal.read_value-returns-in_default-token-clause-ok
-read_value-returns-in_default-token-clause-ok t c =
-    let s = c.next.new.self in
-    let first : c.args.reader.now ≡ token_of c.in-Some.token ∷ s = grind arith in
-    IfOk-weaker c.plain_value.result _ _ (λ v e. ap (next_value c.args.depth) first ∙ e c.args.depth s) c.plain_value.ensures.ok
+pub read_value-returns-in-Null-clause-ok : goal.read_value-returns-in-Null-clause-ok
+read_value-returns-in-Null-clause-ok t c = is_plain _ c.next.new.self (grind arith) (next_null _ c.next.new.self) (search (rules, the_lemmas))
 
-pub read_value-returns-in_default-token-clause-text : goal.read_value-returns-in_default-token-clause-text
-read_value-returns-in_default-token-clause-text t c refused =
-    let s = c.next.new.self in
-    let first : c.args.reader.now ≡ token_of c.in-Some.token ∷ s = grind arith in
-    ap (next_value c.args.depth) first ∙ c.plain_value.ensures.text refused c.in_default-token.not-BeginArray c.in_default-token.not-BeginObject c.args.depth s
+pub read_value-returns-in-Some-clause-ok : goal.read_value-returns-in-Some-clause-ok
+read_value-returns-in-Some-clause-ok t c =
+    let read = is_number c.args.depth c.next.new.self c.in-Number.text.now refl c.in-Some.ensures in
+    is_plain c.args.depth c.next.new.self (grind arith) read (search (rules, the_lemmas))
+
+pub read_value-returns-in-None-clause-text : goal.read_value-returns-in-None-clause-text
+read_value-returns-in-None-clause-text t c refused = is_number _ c.next.new.self c.in-Number.text.now (grind arith) c.in-None.ensures
+
+pub read_value-returns-in-EndObject-clause-text : goal.read_value-returns-in-EndObject-clause-text
+read_value-returns-in-EndObject-clause-text t c refused =
+    let first : c.args.reader.now ≡ token_of c.in_ok-token.token ∷ c.next.new.self = grind arith in
+    rw (first, plain c.args.depth (token_of c.in_ok-token.token) c.next.new.self) (grind arith)
+
+pub read_value-returns-in_ok-read_items-in-BeginArray-clause-ok : goal.read_value-returns-in_ok-read_items-in-BeginArray-clause-ok
+read_value-returns-in_ok-read_items-in-BeginArray-clause-ok t c =
+    let found = c.in_ok-read_items-in-BeginArray in
+    begins _ c.next.new.self (grind arith) (value-array _ c.next.new.self (omega arith)) ∙ ap (parse_map array) found.ensures.ok
+    ∙ ap (λ d. Some (d, c.read_items.new.reader)) (sym (view-Array found.field-0))
+
+pub read_value-returns-in_ok-read_members-in-BeginObject-clause-ok : goal.read_value-returns-in_ok-read_members-in-BeginObject-clause-ok
+read_value-returns-in_ok-read_members-in-BeginObject-clause-ok t c =
+    let found = c.in_ok-read_members-in-BeginObject in
+    begins _ c.next.new.self (grind arith) (value-object _ c.next.new.self (omega arith)) ∙ ap (parse_map object) found.ensures.ok
+    ∙ ap (λ d. Some (d, c.read_members.new.reader)) (sym (view-Object found.field-0))
 
 pub read_items-items-init : goal.read_items-items-init
 read_items-items-init t c =
@@ -80,8 +95,7 @@ pub read_items-returns-clause-ok : goal.read_items-returns-clause-ok
 read_items-returns-clause-ok t c =
     let l = c.items in
     let r = c.take_end_array.new.self in
-    let all = l.invariant.decides ∙ ap (parse_map (items_before l.found.items)) (items_over c.args.depth l.reader r (grind arith)) ∙ ap (λ ds. Some (ds, r)) (items_before-no_items l.found.items) in
-    ap (parse_map array) all ∙ ap (λ d. Some (d, r)) (sym (view-Array l.found))
+    l.invariant.decides ∙ ap (parse_map (items_before l.found.items)) (items_over c.args.depth l.reader r (grind arith)) ∙ ap (λ ds. Some (ds, r)) (items_before-no_items l.found.items)
 
 pub read_members-members-init : goal.read_members-members-init
 read_members-members-init t c = record { decides = ap (λ es. next_members c.args.depth (members_view es) c.args.reader.now) (sym c.new-found.ensures.empty); fewer = omega arith }
@@ -112,7 +126,4 @@ read_members-members-preserved t c =
 
 pub read_members-returns-clause-ok : goal.read_members-returns-clause-ok
 read_members-returns-clause-ok t c =
-    let l = c.members in
-    let r = c.next_key.new.self in
-    let all = l.invariant.decides ∙ members_over c.args.depth (members_view l.found.entries) l.reader r (grind arith) in
-    ap (parse_map object) all ∙ ap (λ d. Some (d, r)) (sym (view-Object l.found))
+    c.members.invariant.decides ∙ members_over c.args.depth (members_view c.members.found.entries) c.members.reader c.next_key.new.self (grind arith)
