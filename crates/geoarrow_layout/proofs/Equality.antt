@@ -1,7 +1,7 @@
 -- The derived `==` of kinds and summaries answers true exactly at equal values.
 use denote.Enum.Bare.{Bare, sameb, same_true, true_same}
 use denote.Enum.Declared.{Declared}
-use Rattle.std.proofs.Common.{◌≡◌, Bool, true, false, Option, None, Some, refl, ap, subst}
+use Rattle.std.proofs.Common.{◌≡◌, Bool, Option, None, Some, refl, ap}
 use Rattle.std.proofs.lemmas.Bool.Decides.{Decides-and, Decides-like}
 use Rattle.std.specs.Bool.{Decides}
 use Rattle.std.specs.Cmp.{booleans_Decides, unsigned_Decides, signed_Decides}
@@ -11,7 +11,7 @@ use Rattle.geoarrow_layout.specs.declared.kinds.Dimension.{Dimension}
 use Rattle.geoarrow_layout.specs.declared.encodings.Kind.{Kind}
 use Rattle.geoarrow_layout.specs.declared.encodings.Kind.TheVariants.{Native, Geometry, Rect, Wkb, Wkt}
 use Rattle.geoarrow_layout.specs.declared.summary.Bottom.{Bottom}
-use Rattle.geoarrow_layout.specs.declared.summary.Bottom.TheVariants.{FixedSizeList, Struct, Union, OtherWidth, Deep, Other}
+use Rattle.geoarrow_layout.specs.declared.summary.Bottom.TheVariants.{FixedSizeList, Struct, Union, OtherWidth}
 use Rattle.geoarrow_layout.specs.declared.summary.Summary.{Summary}
 use Rattle.geoarrow_layout.specs.contracts.encodings.KindPartialEq.TheImpl as kinds
 use Rattle.geoarrow_layout.specs.contracts.encodings.NativeKind as native_kind
@@ -32,28 +32,7 @@ option_decides E d None None = (λ h. refl, λ p. refl)
 option_decides E d (Some x) (Some y) = Decides-like _ (λ p. ap Some p) (λ p. cc) (d x y)
 option_decides E d _ _ = (λ h. cc, λ p. cc)
 
-never : false ≡ true → ⊥
-never h = cc
-
--- both are of one variant
-SameVariant : Kind → Kind → Type 0
-SameVariant (Native k c d) (Native l b e) = Unit {0}
-SameVariant (Geometry c) (Geometry b) = Unit {0}
-SameVariant (Rect d) (Rect e) = Unit {0}
-SameVariant (Wkb v) (Wkb w) = Unit {0}
-SameVariant (Wkt v) (Wkt w) = Unit {0}
-SameVariant _ _ = ⊥
-
-same_variant : (a : Kind) → SameVariant a a
-unfolding SameVariant
-same_variant (Native k c d) = tt
-same_variant (Geometry c) = tt
-same_variant (Rect d) = tt
-same_variant (Wkb w) = tt
-same_variant (Wkt w) = tt
-
 pub kind_decides : (a b : Kind) → Decides ((kinds.eq-value).it a b) (a ≡ b)
-unfolding SameVariant
 kind_decides (Native k c d) (Native l b e) =
     Decides-like _ (λ p. cc) (λ p. (cc, (cc, cc)))
     (Decides-and _ _ (bare_decides native_kind.the_type tt k l) (Decides-and _ _ (bare_decides coord_type.the_type tt c b) (bare_decides dimension.the_type tt d e)))
@@ -61,7 +40,7 @@ kind_decides (Geometry c) (Geometry b) = Decides-like _ (λ p. ap Geometry p) (�
 kind_decides (Rect d) (Rect e) = Decides-like _ (λ p. ap Rect p) (λ p. cc) (bare_decides dimension.the_type tt d e)
 kind_decides (Wkb v) (Wkb w) = Decides-like _ (λ p. ap Wkb p) (λ p. cc) (bare_decides width.the_type tt v w)
 kind_decides (Wkt v) (Wkt w) = Decides-like _ (λ p. ap Wkt p) (λ p. cc) (bare_decides width.the_type tt v w)
-kind_decides a b = (λ h. absurd (never h), λ p. absurd (subst (λ k. SameVariant a k) p (same_variant a)))
+kind_decides _ _ = (λ h. cc, λ p. cc)
 
 dimensions_decide : (a b : Option Dimension) → Decides (option_eq (sameb dimension.the_type) a b) (a ≡ b)
 dimensions_decide = option_decides _ (bare_decides dimension.the_type tt)
@@ -69,26 +48,7 @@ dimensions_decide = option_decides _ (bare_decides dimension.the_type tt)
 faults_decide : (a b : Option LayoutFault) → Decides (option_eq (sameb fault.the_type) a b) (a ≡ b)
 faults_decide = option_decides _ (bare_decides fault.the_type tt)
 
-SameSort : Bottom → Bottom → Type 0
-SameSort (FixedSizeList a b c) (FixedSizeList d e f) = Unit {0}
-SameSort (Struct a b c) (Struct d e f) = Unit {0}
-SameSort (Union a b c d e f) (Union g h i j k l) = Unit {0}
-SameSort OtherWidth OtherWidth = Unit {0}
-SameSort Deep Deep = Unit {0}
-SameSort Other Other = Unit {0}
-SameSort _ _ = ⊥
-
-same_sort : (a : Bottom) → SameSort a a
-unfolding SameSort
-same_sort (FixedSizeList a b c) = tt
-same_sort (Struct a b c) = tt
-same_sort (Union a b c d e f) = tt
-same_sort OtherWidth = tt
-same_sort Deep = tt
-same_sort Other = tt
-
 pub bottom_decides : (a b : Bottom) → Decides ((bottoms.eq-value).it a b) (a ≡ b)
-unfolding SameSort
 bottom_decides (FixedSizeList named size float64) (FixedSizeList other_named other_size other_float64) =
     Decides-like _ (λ p. cc) (λ p. (cc, (cc, cc))) (Decides-and _ _ (dimensions_decide named other_named) (Decides-and _ _ (signed_Decides size other_size) (booleans_Decides float64 other_float64)))
 bottom_decides (Struct count names float64) (Struct other_count other_names other_float64) =
@@ -97,10 +57,8 @@ bottom_decides (Union none ids coords dims mixed geometry) (Union other_none oth
     Decides-like _ (λ p. cc) (λ p. (cc, (cc, (cc, (cc, (cc, cc))))))
     (Decides-and _ _ (booleans_Decides none other_none) (Decides-and _ _ (unsigned_Decides ids other_ids) (Decides-and _ _ (unsigned_Decides coords other_coords) (Decides-and _ _ (unsigned_Decides dims other_dims)
     (Decides-and _ _ (faults_decide mixed other_mixed) (faults_decide geometry other_geometry))))))
-bottom_decides OtherWidth OtherWidth = (λ h. refl, λ p. refl)
-bottom_decides Deep Deep = (λ h. refl, λ p. refl)
-bottom_decides Other Other = (λ h. refl, λ p. refl)
-bottom_decides a b = (λ h. absurd (never h), λ p. absurd (subst (λ k. SameSort a k) p (same_sort a)))
+bottom_decides _ OtherWidth = (λ h. cc, λ p. cc)
+bottom_decides _ _ = (λ h. cc, λ p. cc)
 
 pub summary_decides : (a b : Summary) → Decides ((summaries.eq-value).it a b) (a ≡ b)
 summary_decides a b =

@@ -13,7 +13,6 @@ pub mod Inferences
 pub mod AlikeLaws
 pub mod AlikeDecides
 pub mod UnionChanges
-pub mod NameSteps
 pub mod NamesSteps
 pub mod Distinct
 pub mod TableSteps

@@ -20,10 +20,6 @@ use Rattle.std.proofs.lemmas.Bool.{and_parts}
 use Rattle.geoarrow_layout.specs.declared.summary.Summary.{Summary}
 use Rattle.geoarrow_layout.proofs.UnionSteps.{below_root}
 
--- a test that failed tells that its value is not true
-pub not_set : (r b : Bool) → r ≡ b → r ≡ false → b ≡ true → ⊥
-not_set r b e f g = cc
-
 abbrev DimensionAnswer : Type 0
 DimensionAnswer = Result Dimension LayoutFault
 

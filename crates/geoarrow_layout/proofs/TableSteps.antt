@@ -53,9 +53,9 @@ all_of_dimension ms rest M x k d t U a b r is here one one_holds two two_holds s
   (λ e. says.1 (same_from_push rest M x (member_layout k d U) (sym is ∙ e)).0),
 )
 
--- one after the other
-pub contained_later : {A : Type 0} (xs : List A) (i : ℕ) (d k : A) → i < length xs → (get_or xs i d ≡ k → ⊥) → Contains (drop i xs) k → Contains (drop (i + 1) xs) k
-contained_later {A} xs i d k lt other h = later (subst (λ z. Contains z k) (drop_more xs i d lt) h)
+-- one kind after the other
+pub contained_later : (xs : List Kind) (i : ℕ) (d k : Kind) → i < length xs → (get_or xs i d ≡ k → ⊥) → Contains (drop i xs) k → Contains (drop (i + 1) xs) k
+contained_later xs i d k lt other h = later (subst (λ z. Contains z k) (drop_more xs i d lt) h)
   where
     later : Contains (get_or xs i d ∷ drop (i + 1) xs) k → Contains (drop (i + 1) xs) k
     later (zero, l, is) = absurd (other is)

@@ -1,5 +1,5 @@
 //! The extension names.
-ghost use Rattle.std.specs.Prelude.{◌≡◌, ◌↔◌, IsTrue, Some, Contains};
+ghost use Rattle.std.specs.Prelude.{◌≡◌, ◌↔◌, Some};
 ghost use Rattle.geoarrow_layout.specs.declared.names.ExtensionName.{ExtensionName};
 ghost use Rattle.geoarrow_layout.specs.Kinds.{name_text};
 
@@ -30,21 +30,6 @@ pub enum ExtensionName {
 }
 
 impl ExtensionName {
-    /// The eleven names, each once.
-    const ALL: [ExtensionName; 11] = [
-        ExtensionName::Native(NativeKind::Point),
-        ExtensionName::Native(NativeKind::LineString),
-        ExtensionName::Native(NativeKind::Polygon),
-        ExtensionName::Native(NativeKind::MultiPoint),
-        ExtensionName::Native(NativeKind::MultiLineString),
-        ExtensionName::Native(NativeKind::MultiPolygon),
-        ExtensionName::Native(NativeKind::GeometryCollection),
-        ExtensionName::Geometry,
-        ExtensionName::Rect,
-        ExtensionName::Wkb,
-        ExtensionName::Wkt,
-    ];
-
     /// The text of the name.
     pub fn as_text(self) -> &'static str
         ensures { result.now ≡ name_text self }
@@ -67,29 +52,25 @@ impl ExtensionName {
     }
 
     /// The name with that text, compared byte for byte; `None` for any other text.
+    #[inline(always)]
     pub fn from_text(text: &str) -> Option<ExtensionName>
         ensures { (name : ExtensionName) → (result ≡ Some name) ↔ (text.now ≡ name_text name) }
     {
-        first_named(text, &ExtensionName::ALL)
-    }
-}
-
-/// The first of the names with that text.
-fn first_named(text: &str, names: &[ExtensionName]) -> Option<ExtensionName>
-    ensures { (name : ExtensionName) → Contains names.now name → (result ≡ Some name) ↔ (text.now ≡ name_text name) }
-{
-    for name in names {
-        if is_named(name, text) {
-            return Some(*name);
+        match text {
+            "geoarrow.point" => Some(ExtensionName::Native(NativeKind::Point)),
+            "geoarrow.linestring" => Some(ExtensionName::Native(NativeKind::LineString)),
+            "geoarrow.polygon" => Some(ExtensionName::Native(NativeKind::Polygon)),
+            "geoarrow.multipoint" => Some(ExtensionName::Native(NativeKind::MultiPoint)),
+            "geoarrow.multilinestring" => Some(ExtensionName::Native(NativeKind::MultiLineString)),
+            "geoarrow.multipolygon" => Some(ExtensionName::Native(NativeKind::MultiPolygon)),
+            "geoarrow.geometrycollection" => {
+                Some(ExtensionName::Native(NativeKind::GeometryCollection))
+            }
+            "geoarrow.geometry" => Some(ExtensionName::Geometry),
+            "geoarrow.box" => Some(ExtensionName::Rect),
+            "geoarrow.wkb" => Some(ExtensionName::Wkb),
+            "geoarrow.wkt" => Some(ExtensionName::Wkt),
+            _ => None,
         }
     }
-    None
-}
-
-/// Whether that is the name's text.
-#[inline(always)]
-fn is_named(name: &ExtensionName, text: &str) -> bool
-    ensures { IsTrue result ↔ (text.now ≡ name_text name.now) }
-{
-    text == name.as_text()
 }
