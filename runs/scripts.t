@@ -47,7 +47,8 @@ Two first runs at once, through a link, in a repository whose `rt` proves nothin
   runs read
         1 geoarrow_fields: built
         1 geoarrow_fields: proved fields_program
-        2 geoarrow_fields: proving and building the program
+        1 geoarrow_fields: proving and building the program
+        1 geoarrow_fields: waiting for another run, which builds the program
 
 A second run builds nothing, and one behind a changed source builds again
 
@@ -77,5 +78,6 @@ A build that fails says so and runs nothing, also where an older program is ther
   > bin/geoarrow_fields read 2> /dev/null
   geoarrow_fields: proving and building the program
   rt: it fails
+  0 passed, 1 failed
   runs read
   [1]
