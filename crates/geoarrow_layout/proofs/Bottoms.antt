@@ -1,19 +1,21 @@
--- What stands below the lists.
-use Rattle.std.proofs.Common.{◌≡◌, ◌<◌, ◌≤◌, ◌⊎◌, inl, inr, ℕ, zero, suc, ℤ, ◌+◌, refl, sym, ap, subst, ◌∙◌, arith, add-one, Bool, Option, Some, None, Err}
+-- What stands below the lists, and which fault it is.
+use Rattle.std.proofs.Common.{◌≡◌, ◌<◌, ◌≤◌, inl, inr, ℕ, zero, suc, ℤ, ◌+◌, refl, sym, ap, subst, arith, add-one, Bool, Option, Some, None, Ok, Err, [], ◌∷◌}
 use Rattle.arrow_values.specs.Tree.{Text, Metadata, Tree, plain, list, large_list, fixed_size_list, struct, union, FieldTree, FieldTrees, MemberTrees}
 use Rattle.arrow_values.specs.declared.tree.UnionMode.{UnionMode}
 use Rattle.geoarrow_layout.specs.declared.kinds.CoordType.{CoordType}
 use Rattle.geoarrow_layout.specs.declared.kinds.Dimension.{Dimension}
 use Rattle.geoarrow_layout.specs.declared.fault.LayoutFault.{LayoutFault}
+use Rattle.geoarrow_layout.specs.declared.fault.LayoutFault.TheVariants.{UnexpectedType}
 use Rattle.geoarrow_layout.specs.declared.summary.ListWidth.{ListWidth}
 use Rattle.geoarrow_layout.specs.declared.summary.ListWidth.TheVariants.{List as Lists, LargeList as LargeLists}
 use Rattle.geoarrow_layout.specs.declared.summary.Bottom.{Bottom}
-use Rattle.geoarrow_layout.specs.declared.summary.Bottom.TheVariants.{OtherWidth, Deep, Other}
+use Rattle.geoarrow_layout.specs.declared.summary.Bottom.TheVariants.{FixedSizeList, Struct, Union, OtherWidth, Deep, Other}
 use Rattle.geoarrow_layout.specs.declared.summary.Summary.{Summary}
-use Rattle.geoarrow_layout.specs.Shapes.{ListsOver, Levels, Leaf, Answers}
-use Rattle.geoarrow_layout.specs.Summary.{IsFixedSize, IsStruct, IsList, IsBottom, AreLevels, SummarizesBy}
-use Rattle.geoarrow_layout.specs.OneShape.{LeafUnder, widths_same, levels_same}
-use Rattle.geoarrow_layout.proofs.Readings.{Answer, answers_like, refuses}
+use Rattle.geoarrow_layout.specs.Shapes.{ListsOver, Levels}
+use Rattle.geoarrow_layout.specs.FaultAt.{Faults, HasFault, CoordinateFault, BoxFault, MixedFault, GeometryFault, LevelFault, ListsFault}
+use Rattle.geoarrow_layout.specs.Summary.{IsFixedSize, IsStruct, IsInnerUnion, IsBottom, AreLevels, SummarizesBy}
+use Rattle.geoarrow_layout.specs.Steps.{TellsBoth, missing_fault}
+use Rattle.geoarrow_layout.proofs.Readings.{Answer}
 
 -- one level more
 abbrev pub list_in : ListWidth → Text → Tree → Bool → Metadata → Tree
@@ -31,47 +33,6 @@ pub more_below : (w v : ListWidth) (n : ℕ) (root t u : Tree) (f : FieldTree) �
 more_below w v n root t u f width is inner h =
     let there : ListsOver v n root (list_in v f.name f.tree f.nullable f.metadata) = subst (λ z. ListsOver z n root (list_in v f.name f.tree f.nullable f.metadata)) width (subst (ListsOver w n root) is h) in
     rw (width, inner, add-one) (lists_more v n root f.tree f.name f.nullable f.metadata there)
-
--- the trees that are no list
-abbrev pub NotList : Tree → Type 0
-NotList (list n t b m) = ⊥
-NotList (large_list n t b m) = ⊥
-NotList _ = Unit {0}
-
-pub not_list : (P : Tree → Type 0) → ((n : Text) (t : Tree) (b : Bool) (m : Metadata) → P (list n t b m) → ⊥) → ((n : Text) (t : Tree) (b : Bool) (m : Metadata) → P (large_list n t b m) → ⊥) → (t : Tree) → P t → NotList t
-not_list P lists large_lists (list n t b m) h = lists n t b m h
-not_list P lists large_lists (large_list n t b m) h = large_lists n t b m h
-not_list P lists large_lists _ h = tt
-
--- how many lists of the width a tree begins with
-abbrev top : ListWidth → Tree → ℕ
-top Lists (list n t b m) = suc (top Lists t)
-top LargeLists (large_list n t b m) = suc (top LargeLists t)
-top _ _ = 0
-
-over : (w : ListWidth) (n : ℕ) (t u : Tree) → ListsOver w n t u → top w t ≡ n + top w u
-over w zero t u h = let e : top w t ≡ top w u = ap (top w) h in omega arith
-over Lists (suc n) (list nm t b m) u h = let e = over Lists n t u h in omega arith
-over LargeLists (suc n) (large_list nm t b m) u h = let e = over LargeLists n t u h in omega arith
-over _ (suc n) _ u h = absurd h
-
-no_top : (w : ListWidth) (t : Tree) → NotList t → top w t ≡ 0
-no_top Lists (list n t b m) h = absurd h
-no_top LargeLists (large_list n t b m) h = absurd h
-no_top _ _ h = refl
-
--- no list of the width stands below the levels, but at a fourth level
-no_level : (o : Option ListWidth) (w : ListWidth) (n : ℕ) (b : Bottom) → (o ≡ None) ⊎ ((o ≡ Some w) × (n < 3)) → IsList w o n b → ⊥
-no_level o w n b (inl none) (inl e) = let bad = sym none ∙ e.0 in cc
-no_level o w n b (inl none) (inr e) = let bad = sym none ∙ e.0 in cc
-no_level o Lists n b (inr some) (inl e) = let bad = sym some.0 ∙ e.0 in cc
-no_level o LargeLists n b (inr some) (inl e) = let bad = sym some.0 ∙ e.0 in cc
-no_level o w n b (inr some) (inr e) = omega (arith, some.1, e.1)
-
-few_top : (U : ℕ → Bottom → MemberTrees → Type 0) (o : Option ListWidth) (w : ListWidth) (n : ℕ) (b : Bottom) (u : Tree) → (o ≡ None) ⊎ ((o ≡ Some w) × (n < 3)) → IsBottom U o n b u → top w u ≡ 0
-few_top U o Lists n b (list nm t c m) here h = absurd (no_level o Lists n b here h)
-few_top U o LargeLists n b (large_list nm t c m) here h = absurd (no_level o LargeLists n b here h)
-few_top U o _ n b _ here h = refl
 
 -- a bottom that is entered, that of a fixed size list, a struct or a union, stands at such a tree alone
 abbrev IsEntered : Bottom → Type 0
@@ -92,54 +53,159 @@ at_bottom U Q w n b entered sizes structs unions _ h = absurd (elim h [ inl e �
 abbrev pub Under : (Tree → CoordType → Dimension → Type 0) → ℕ → Tree → CoordType → Dimension → Type 0
 Under P m t c d = (u : Tree) × Levels t m u × P u c d
 
-abbrev pub AtNoList : (Tree → CoordType → Dimension → Type 0) → Type 0
-AtNoList P = (u : Tree) (c : CoordType) (d : Dimension) → P u c d → NotList u
+-- ---- lists of which F says the fault below
 
-pub not_less : (w : Option ListWidth) (n m : ℕ) (t u x : Tree) → AreLevels w n t u → m < n → Levels t m x → NotList x → ⊥
-not_less None n m t u x h lt l apart = omega (arith, h.0)
-not_less (Some w) n zero t u x h lt l apart = let none : top w t ≡ 0 = no_top w t (subst NotList (sym l.1) apart) in let all = over w n t u h.2 in omega arith
-not_less (Some w) zero (suc m) t u x h lt l apart = omega arith
-not_less (Some w) (suc n) (suc m) t u x h lt l apart =
-    let same = widths_same w l.0 n m t u x h.2 l.1 in
-    let all = over w (suc n) t u h.2 in
-    let less = over w (suc m) t x (subst (λ v. ListsOver v (suc m) t x) (sym same) l.1) in
-    let none = no_top w x apart in
-    omega arith
+-- a list is at fault itself, as an unexpected type
+abbrev pub IsAList : Tree → Type 0
+IsAList (list n t b m) = Unit {0}
+IsAList (large_list n t b m) = Unit {0}
+IsAList _ = ⊥
 
-pub not_more : (U : ℕ → Bottom → MemberTrees → Type 0) (w : Option ListWidth) (n m : ℕ) (b : Bottom) (t u x : Tree) → AreLevels w n t u → IsBottom U w n b u → n < m → m ≤ 3 → Levels t m x → ⊥
-not_more U w n zero b t u x h bottom lt few l = omega arith
-not_more U None n (suc m) b t u x h bottom lt few l =
-    let some = over l.0 (suc m) t x l.1 in
-    let none = few_top U None l.0 n b u (inl refl) bottom in
-    let same : top l.0 t ≡ top l.0 u = ap (top l.0) h.1 in
-    omega arith
-not_more U (Some w) zero (suc m) b t u x h bottom lt few l = omega (arith, h.0)
-not_more U (Some w) (suc n) (suc m) b t u x h bottom lt few l =
-    let same = widths_same w l.0 n m t u x h.2 l.1 in
-    let some = over w (suc n) t u h.2 in
-    let more = over w (suc m) t x (subst (λ v. ListsOver v (suc m) t x) (sym same) l.1) in
-    let none = few_top U (Some w) w (suc n) b u (inr (refl, omega arith)) bottom in
-    omega arith
+abbrev pub RefusesLists : Faults → Type 0
+RefusesLists F = (t : Tree) → IsAList t → F t [] UnexpectedType
 
-pub are_levels : (w : Option ListWidth) (n : ℕ) (t u : Tree) → AreLevels w n t u → Levels t n u
+pub coordinate_refuses : RefusesLists CoordinateFault
+coordinate_refuses (list n t b m) h = (refl, refl)
+coordinate_refuses (large_list n t b m) h = (refl, refl)
+coordinate_refuses _ h = absurd h
+
+pub mixed_refuses : RefusesLists MixedFault
+mixed_refuses (list n t b m) h = (refl, refl)
+mixed_refuses (large_list n t b m) h = (refl, refl)
+mixed_refuses _ h = absurd h
+
+pub geometry_refuses : RefusesLists GeometryFault
+geometry_refuses (list n t b m) h = (refl, refl)
+geometry_refuses (large_list n t b m) h = (refl, refl)
+geometry_refuses _ h = absurd h
+
+pub box_refuses : RefusesLists BoxFault
+box_refuses (list n t b m) h = (refl, refl)
+box_refuses (large_list n t b m) h = (refl, refl)
+box_refuses _ h = absurd h
+
+lists_listed : (w : ListWidth) (n : ℕ) (t u : Tree) → 0 < n → ListsOver w n t u → IsAList t
+lists_listed w zero t u some h = absurd (omega arith)
+lists_listed Lists (suc n) (list x t b m) u some h = tt
+lists_listed LargeLists (suc n) (large_list x t b m) u some h = tt
+lists_listed _ (suc n) _ u some h = absurd h
+
+pub listed : (w : Option ListWidth) (n : ℕ) (t u : Tree) → 0 < n → AreLevels w n t u → IsAList t
+listed None n t u some h = absurd (omega (arith, h.0))
+listed (Some w) n t u some h = lists_listed w n t u some h.2
+
+-- n levels are wanted; F is the fault below all of them
+level_below : (F : Faults) (w : ListWidth) (n : ℕ) (t u : Tree) (f : LayoutFault) → ListsOver w n t u → HasFault (F u) f → HasFault (LevelFault F w n t) f
+level_below F w zero t u f h r = subst (λ x. HasFault (F x) f) (sym h) r
+level_below F Lists (suc n) (list x t b m) u f h r = let s = level_below F Lists n t u f h r in (zero ∷ s.0, s.1)
+level_below F LargeLists (suc n) (large_list x t b m) u f h r = let s = level_below F LargeLists n t u f h r in (zero ∷ s.0, s.1)
+level_below F _ (suc n) _ u f h r = absurd h
+
+-- there are fewer
+level_missing : (F : Faults) (w : ListWidth) (k n : ℕ) (t u : Tree) (f : LayoutFault) → ListsOver w k t u → k < n → ((m : ℕ) → LevelFault F w (suc m) u [] f) → HasFault (LevelFault F w n t) f
+level_missing F w k zero t u f h lt here = absurd (omega arith)
+level_missing F w zero (suc n) t u f h lt here = ([], subst (λ x. LevelFault F w (suc n) x [] f) (sym h) (here n))
+level_missing F Lists (suc k) (suc n) (list x t b m) u f h lt here = let s = level_missing F Lists k n t u f h (omega arith) here in (zero ∷ s.0, s.1)
+level_missing F LargeLists (suc k) (suc n) (large_list x t b m) u f h lt here = let s = level_missing F LargeLists k n t u f h (omega arith) here in (zero ∷ s.0, s.1)
+level_missing F _ (suc k) (suc n) _ u f h lt here = absurd h
+
+-- there are more
+level_above : (F : Faults) → RefusesLists F → (w : ListWidth) (k n : ℕ) (t u : Tree) → ListsOver w k t u → n < k → HasFault (LevelFault F w n t) UnexpectedType
+level_above F lacks w zero n t u h lt = absurd (omega arith)
+level_above F lacks w (suc k) zero t u h lt = ([], lacks t (lists_listed w (suc k) t u (omega arith) h))
+level_above F lacks Lists (suc k) (suc n) (list x t b m) u h lt = let s = level_above F lacks Lists k n t u h (omega arith) in (zero ∷ s.0, s.1)
+level_above F lacks LargeLists (suc k) (suc n) (large_list x t b m) u h lt = let s = level_above F lacks LargeLists k n t u h (omega arith) in (zero ∷ s.0, s.1)
+level_above F lacks _ (suc k) (suc n) _ u h lt = absurd h
+
+-- the outermost list gives the width
+outermost : (F : Faults) (w : ListWidth) (k n : ℕ) (t u : Tree) (f : LayoutFault) → 0 < k → ListsOver w k t u → HasFault (LevelFault F w n t) f → HasFault (ListsFault F n t) f
+outermost F w k zero t u f some h r = r
+outermost F w zero (suc n) t u f some h r = absurd (omega arith)
+outermost F Lists (suc k) (suc n) (list x t b m) u f some h r = r
+outermost F LargeLists (suc k) (suc n) (large_list x t b m) u f some h r = r
+outermost F _ (suc k) (suc n) _ u f some h r = absurd h
+
+-- ---- the fault where a level is missing
+
+-- of a union the bottom does not say that it is a list
+abbrev pub NoListAtUnion : (ℕ → Bottom → MemberTrees → Type 0) → Type 0
+NoListAtUnion U = (n : ℕ) (b : Bottom) (ms : MemberTrees) → U n b ms → missing_fault b ≡ UnexpectedType
+
+missing_sized : (b : Bottom) (x : Text) (t : Tree) (z : ℤ) → IsFixedSize b x t z → missing_fault b ≡ UnexpectedType
+missing_sized (FixedSizeList named size floats) x t z h = refl
+missing_sized _ x t z h = absurd h
+
+missing_struct : (b : Bottom) (fs : FieldTrees) → IsStruct b fs → missing_fault b ≡ UnexpectedType
+missing_struct (Struct count names floats) fs h = refl
+missing_struct _ fs h = absurd h
+
+missing_below : (F : Faults) (U : ℕ → Bottom → MemberTrees → Type 0) → NoListAtUnion U → (w : ListWidth) (n : ℕ) (b : Bottom) (u : Tree) (m : ℕ) → n < 3 → IsBottom U (Some w) n b u → LevelFault F w (suc m) u [] (missing_fault b)
+missing_below F U lacks Lists n b (fixed_size_list x t k a z) m few h = (refl, missing_sized b x t z h)
+missing_below F U lacks Lists n b (struct fs) m few h = (refl, missing_struct b fs h)
+missing_below F U lacks Lists n b (union ms mode) m few h = (refl, lacks n b ms h)
+missing_below F U lacks Lists n b (plain p) m few h = (refl, ap missing_fault h)
+missing_below F U lacks LargeLists n b (fixed_size_list x t k a z) m few h = (refl, missing_sized b x t z h)
+missing_below F U lacks LargeLists n b (struct fs) m few h = (refl, missing_struct b fs h)
+missing_below F U lacks LargeLists n b (union ms mode) m few h = (refl, lacks n b ms h)
+missing_below F U lacks LargeLists n b (plain p) m few h = (refl, ap missing_fault h)
+missing_below F U lacks Lists n b (large_list x t k a) m few (inl e) = (refl, ap missing_fault e.1)
+missing_below F U lacks LargeLists n b (list x t k a) m few (inl e) = (refl, ap missing_fault e.1)
+missing_below F U lacks Lists n b (list x t k a) m few (inl e) = let bad = e.0 in cc
+missing_below F U lacks LargeLists n b (large_list x t k a) m few (inl e) = let bad = e.0 in cc
+missing_below F U lacks w n b _ m few (inr e) = absurd (omega (arith, few, e.1))
+
+missing_alone : (F : Faults) (U : ℕ → Bottom → MemberTrees → Type 0) → NoListAtUnion U → (n : ℕ) (b : Bottom) (u : Tree) (m : ℕ) → IsBottom U None n b u → ListsFault F (suc m) u [] (missing_fault b)
+missing_alone F U lacks n b (fixed_size_list x t k a z) m h = (refl, missing_sized b x t z h)
+missing_alone F U lacks n b (struct fs) m h = (refl, missing_struct b fs h)
+missing_alone F U lacks n b (union ms mode) m h = (refl, lacks n b ms h)
+missing_alone F U lacks n b (plain p) m h = (refl, ap missing_fault h)
+missing_alone F U lacks n b _ m (inl e) = let bad = e.0 in cc
+missing_alone F U lacks n b _ m (inr e) = let bad = e.0 in cc
+
+missing_lists : (F : Faults) (U : ℕ → Bottom → MemberTrees → Type 0) → NoListAtUnion U → (w : Option ListWidth) (k n : ℕ) (b : Bottom) (t u : Tree) → AreLevels w k t u → IsBottom U w k b u → k < n → n ≤ 3 → HasFault (ListsFault F n t) (missing_fault b)
+missing_lists F U lacks w k zero b t u h bottom lt few = absurd (omega arith)
+missing_lists F U lacks None k (suc n) b t u h bottom lt few = ([], subst (λ x. ListsFault F (suc n) x [] (missing_fault b)) (sym h.1) (missing_alone F U lacks k b u n bottom))
+missing_lists F U lacks (Some w) k (suc n) b t u h bottom lt few =
+    outermost F w k (suc n) t u (missing_fault b) h.0 h.2 (level_missing F w k (suc n) t u (missing_fault b) h.2 lt (λ m. missing_below F U lacks w k b u m (omega arith) bottom))
+
+above_lists : (F : Faults) → RefusesLists F → (w : Option ListWidth) (k n : ℕ) (t u : Tree) → AreLevels w k t u → n < k → HasFault (ListsFault F n t) UnexpectedType
+above_lists F lacks None k n t u h lt = absurd (omega (arith, h.0))
+above_lists F lacks (Some w) k n t u h lt = outermost F w k n t u UnexpectedType h.0 h.2 (level_above F lacks w k n t u h.2 lt)
+
+below_lists : (F : Faults) (w : Option ListWidth) (k : ℕ) (t u : Tree) (f : LayoutFault) → AreLevels w k t u → HasFault (F u) f → HasFault (ListsFault F k t) f
+below_lists F None k t u f h r = subst (λ n. HasFault (ListsFault F n t) f) (sym h.0) (subst (λ x. HasFault (F x) f) (sym h.1) r)
+below_lists F (Some w) k t u f h r = outermost F w k k t u f h.0 h.2 (level_below F w k t u f h.2 r)
+
+are_levels : (w : Option ListWidth) (n : ℕ) (t u : Tree) → AreLevels w n t u → Levels t n u
 are_levels None n t u h = (Lists, rw h.0 h.1)
 are_levels (Some w) n t u h = (w, h.2)
 
-pub under_less : (U : ℕ → Bottom → MemberTrees → Type 0) (P : Tree → CoordType → Dimension → Type 0) → AtNoList P → (s : Summary) (m : ℕ) (f : LayoutFault) (t : Tree) → m < s.levels → SummarizesBy U s t → Answers (Err f) (Under P m t)
-under_less U P apart s m f t lt h = refuses f (Under P m t) (λ c d p. not_less s.width s.levels m t h.0 p.0 h.1 lt p.1 (apart p.0 c d p.2))
+-- ---- what a reader of m levels answers
 
-pub under_more : (U : ℕ → Bottom → MemberTrees → Type 0) (P : Tree → CoordType → Dimension → Type 0) (s : Summary) (m : ℕ) (f : LayoutFault) (t : Tree) → s.levels < m → m ≤ 3 → SummarizesBy U s t → Answers (Err f) (Under P m t)
-under_more U P s m f t lt few h = refuses f (Under P m t) (λ c d p. not_more U s.width s.levels m s.bottom t h.0 p.0 h.1 h.2 lt few p.1)
+abbrev TellsUnder : (Tree → CoordType → Dimension → Type 0) → Faults → ℕ → Answer → Tree → Type 0
+TellsUnder P F m r t = TellsBoth r (Under P m t) (ListsFault F m t)
 
-pub under_same : (U : ℕ → Bottom → MemberTrees → Type 0) (P : Tree → CoordType → Dimension → Type 0) (s : Summary) (m : ℕ) (r : Answer) (t : Tree) → s.levels ≡ m → (h : SummarizesBy U s t) → Answers r (P h.0) → Answers r (Under P m t)
-under_same U P s m r t same h a =
-    let l : Levels t m h.0 = subst (λ n. Levels t n h.0) same (are_levels s.width s.levels t h.0 h.1) in
-    answers_like r (P h.0) (Under P m t) (λ c d p. (h.0, l, p))
-    (λ c d p. subst (λ x. P x c d) (levels_same m t p.0 h.0 p.1 l) p.2) a
+pub under_less : (U : ℕ → Bottom → MemberTrees → Type 0) (P : Tree → CoordType → Dimension → Type 0) (F : Faults) → RefusesLists F → (s : Summary) (m : ℕ) (t : Tree) → m < s.levels → SummarizesBy U s t → TellsUnder P F m (Err UnexpectedType) t
+under_less U P F lacks s m t lt h = above_lists F lacks s.width s.levels m t h.0 h.1 lt
 
-pub leaf_apart : AtNoList Leaf
-leaf_apart t c d h = not_list (λ x. Leaf x c d) (λ n x b m p. p) (λ n x b m p. p) t h
+pub under_more : (U : ℕ → Bottom → MemberTrees → Type 0) (P : Tree → CoordType → Dimension → Type 0) (F : Faults) → NoListAtUnion U → (s : Summary) (m : ℕ) (f : LayoutFault) (t : Tree) → s.levels < m → m ≤ 3 → f ≡ missing_fault s.bottom → SummarizesBy U s t → TellsUnder P F m (Err f) t
+under_more U P F lacks s m f t lt few is h = subst (HasFault (ListsFault F m t)) (sym is) (missing_lists F U lacks s.width s.levels m s.bottom t h.0 h.1 h.2 lt few)
 
--- a coordinate below no lists is a coordinate
-pub leaf_alone : (r : Answer) (t : Tree) → Answers r (LeafUnder 0 t) → Answers r (Leaf t)
-leaf_alone r t h = answers_like r (LeafUnder 0 t) (Leaf t) (λ c d l. subst (λ x. Leaf x c d) (sym l.1.1) l.2) (λ c d l. (t, (Lists, refl), l)) h
+under_here : (P : Tree → CoordType → Dimension → Type 0) (F : Faults) (w : Option ListWidth) (m : ℕ) (r : Answer) (t u : Tree) → AreLevels w m t u → TellsBoth r (P u) (F u) → TellsUnder P F m r t
+under_here P F w m (Ok x) t u h a = (u, are_levels w m t u h, a)
+under_here P F w m (Err f) t u h a = below_lists F w m t u f h a
+
+pub under_same : (U : ℕ → Bottom → MemberTrees → Type 0) (P : Tree → CoordType → Dimension → Type 0) (F : Faults) (s : Summary) (m : ℕ) (r : Answer) (t : Tree) → s.levels ≡ m → (h : SummarizesBy U s t) → TellsBoth r (P h.0) (F h.0) → TellsUnder P F m r t
+under_same U P F s m r t same h a = under_here P F s.width m r t h.0 (subst (λ n. AreLevels s.width n t h.0) same h.1) a
+
+-- where no union stands below one list, the collection is at fault there
+no_union : (U : ℕ → Bottom → MemberTrees → Type 0) (w : Option ListWidth) (n : ℕ) (b : Bottom) (u : Tree) → ((ms : MemberTrees) → U n b ms → ⊥) → IsBottom U w n b u → HasFault (MixedFault u) UnexpectedType
+no_union U w n b (union ms mode) lacks h = absurd (lacks ms h)
+no_union U w n b _ lacks h = ([], (refl, refl))
+
+pub no_inner : (b : Bottom) → ((empty : Bool) (ids coords dims : ℕ) (fault geometry : Option LayoutFault) → b ≡ Union empty ids coords dims fault geometry → ⊥) → (ms : MemberTrees) → IsInnerUnion b ms → ⊥
+no_inner (Union empty ids coords dims fault geometry) other ms h = other empty ids coords dims fault geometry refl
+no_inner _ other ms h = absurd h
+
+pub under_no_union : (U : ℕ → Bottom → MemberTrees → Type 0) (P : Tree → CoordType → Dimension → Type 0) (s : Summary) (m : ℕ) (t : Tree) → s.levels ≡ m → ((ms : MemberTrees) → U m s.bottom ms → ⊥) → SummarizesBy U s t → TellsUnder P MixedFault m (Err UnexpectedType) t
+under_no_union U P s m t same lacks h = under_same U P MixedFault s m (Err UnexpectedType) t same h (no_union U s.width m s.bottom h.0 lacks (subst (λ n. IsBottom U s.width n s.bottom h.0) same h.2))

@@ -2,7 +2,7 @@
 use Rattle.std.proofs.Common.{◌≡◌, ◌↔◌, ◌<◌, inl, inr, ℕ, ℤ, pos, refl, sym, ap, subst, ◌∙◌, arith, Bool, true, false, ◌&&◌, Option, Some, None, List, [], ◌∷◌, length, codes}
 use Rattle.std.proofs.lemmas.Bool.{and_parts, cases_Bool}
 use Rattle.std.proofs.lemmas.Option.{some_pair_parts}
-use Rattle.arrow_values.specs.Tree.{Text, Metadata, Tree, fixed_size_list, struct, FieldTrees}
+use Rattle.arrow_values.specs.Tree.{Text, Metadata, Tree, list, large_list, fixed_size_list, struct, FieldTrees}
 use Rattle.geoarrow_layout.specs.declared.kinds.CoordType.{CoordType}
 use Rattle.geoarrow_layout.specs.declared.kinds.CoordType.TheVariants.{Interleaved, Separated}
 use Rattle.geoarrow_layout.specs.declared.kinds.Dimension.{Dimension}
@@ -17,9 +17,8 @@ use Rattle.geoarrow_layout.specs.Inferred.{are_float64, AnswersSome, Inferred, I
 use Rattle.geoarrow_layout.specs.Steps.{has_bit, is_measured, NamesSay, SizeSays}
 use Rattle.geoarrow_layout.specs.OneShape.{apart, separated_same}
 use Rattle.geoarrow_layout.proofs.FieldSteps.{same_three, has_at}
-use Rattle.geoarrow_layout.proofs.Bottoms.{not_list, at_bottom}
+use Rattle.geoarrow_layout.proofs.Bottoms.{IsAList, listed, at_bottom}
 use Rattle.geoarrow_layout.proofs.BitSteps.{pos_same}
-use Rattle.geoarrow_layout.proofs.UnionSteps.{below_root}
 
 abbrev pub PairOption : Type 0
 PairOption = Option (CoordType × Dimension)
@@ -30,9 +29,15 @@ some_pair c d = Some (c, d)
 abbrev no_pair : PairOption
 no_pair = None
 
+-- a list is inferred as no point
+not_inferred : (t : Tree) (c : CoordType) (d : Dimension) → IsAList t → Inferred t c d → ⊥
+not_inferred (list n t b m) c d l h = h
+not_inferred (large_list n t b m) c d l h = h
+not_inferred _ c d l h = absurd l
+
 -- below lists nothing is
 pub inferred_below : (s : Summary) (t : Tree) → 0 < s.levels → Summarizes s t → AnswersSome None (Inferred t)
-inferred_below s t some h = λ c d. (λ e. let bad : no_pair ≡ some_pair c d = e in cc, λ g. absurd (below_root s t some h (not_list (λ x. Inferred x c d) (λ n x b m p. p) (λ n x b m p. p) t g)))
+inferred_below s t some h = λ c d. (λ e. let bad : no_pair ≡ some_pair c d = e in cc, λ g. absurd (not_inferred t c d (listed s.width s.levels t h.0 some h.1) g))
 
 -- fixed size lists
 abbrev Names : Option Dimension → Text → Type 0

@@ -1,5 +1,5 @@
 -- The kind of a name and a tree: there is one at most, and it is what a reader's answer says.
-use Rattle.std.proofs.Common.{◌≡◌, cond, refl, sym, ap, subst, ◌∙◌, ◌↔◌, IfSome, Option, Some, None, Result, Ok, Err}
+use Rattle.std.proofs.Common.{◌≡◌, ◌⊎◌, inl, inr, cond, refl, sym, ap, subst, ◌∙◌, ◌↔◌, IfSome, IfErr, Option, Some, None, Result, Ok, Err}
 use Rattle.std.specs.Str.{bytes_eq}
 use Rattle.std.proofs.lemmas.Option.{same_Some}
 use Rattle.arrow_values.specs.Tree.{Text, Tree}
@@ -14,7 +14,7 @@ use Rattle.geoarrow_layout.specs.declared.encodings.Kind.TheVariants.{Native as 
 use Rattle.geoarrow_layout.specs.declared.names.ExtensionName.{ExtensionName}
 use Rattle.geoarrow_layout.specs.declared.names.ExtensionName.TheVariants as names
 use Rattle.geoarrow_layout.specs.Kinds.{name_text, extension_of, name_of}
-use Rattle.geoarrow_layout.specs.Shapes.{Native, Geometry, BoxShape, IsBytes, IsText, Accepted, Accepts, IsStructured, AnswersKind, Answers, AnswersOne}
+use Rattle.geoarrow_layout.specs.Shapes.{Native, Geometry, BoxShape, IsBytes, IsText, Accepted, Accepts, IsStructured, AnswersKind, AnswersOne}
 use Rattle.geoarrow_layout.specs.OneShape.{any_native_same, geometry_same, box_shape_same}
 use Rattle.geoarrow_layout.specs.declared.fault.LayoutFault.{LayoutFault}
 use Rattle.geoarrow_layout.specs.declared.summary.Summary.{Summary}
@@ -22,9 +22,12 @@ use Rattle.geoarrow_layout.specs.Summary.{Summarizes}
 use Rattle.geoarrow_layout.specs.Steps.{ShowsInner}
 use Rattle.geoarrow_layout.specs.Layouts.{layout}
 use Rattle.geoarrow_layout.proofs.Distinct.{layouts_are_distinct}
-use Rattle.geoarrow_layout.specs.Candidates.{IsNative, IsGeometry, IsBox}
 use Rattle.geoarrow_layout.proofs.UnionSteps.{inner_of}
-use Rattle.geoarrow_layout.proofs.Readings.{Answer, ok, answers_one, refuses_one}
+use Rattle.geoarrow_layout.specs.Candidates.{IsAccepted}
+use Rattle.geoarrow_layout.specs.FaultAt.{Path, HasFault, BoxFault, NativeFault, GeometryFault, FaultAt}
+use Rattle.geoarrow_layout.specs.Steps.{Tells, TellsBoth}
+use Rattle.geoarrow_layout.proofs.FaultLaws.{accepted_apart}
+use Rattle.geoarrow_layout.proofs.Readings.{Answer, exactly_one}
 
 -- a text says which name it is, so two names of one text are one
 abbrev if_named : Text → ExtensionName → ExtensionName → ExtensionName
@@ -64,27 +67,14 @@ same_kind t k l same h g = cc
 pub one_kind : (name : Text) (t : Tree) (k l : Kind) → Accepts name t k → Accepts name t l → k ≡ l
 one_kind name t k l h g = same_kind t k l (one_name (extension_of k) (extension_of l) (sym h.0 ∙ g.0)) h.1 g.1
 
--- what is read of a tree of a native kind, of geometries and of boxes
-abbrev IsRead : ExtensionName → Tree → Type 0
-IsRead (names.Native k) t = IsNative k t
-IsRead names.Geometry t = IsGeometry t
-IsRead names.Rect t = IsBox t
-IsRead _ t = Unit {0}
+-- what is accepted has no fault
+pub no_fault_if_accepted : (n : ExtensionName) (t : Tree) (k : Kind) (p : Path) (f : LayoutFault) → Accepts (name_text n) t k → FaultAt n t p f → ⊥
+no_fault_if_accepted n t k p f h e = accepted_apart k t p f h.1 (subst (λ m. FaultAt m t p f) (one_name n (extension_of k) h.0) e)
 
-read : (l : Kind) (t : Tree) → Accepted l t → IsRead (extension_of l) t
-read (OfNative k c d) t h = (c, d, h)
-read (OfGeometry c) t h = (c, h)
-read (OfRect d) t h = (d, h)
-read _ t h = tt
-
--- under such a name there is no other kind
-none_accepted : (n : ExtensionName) (t : Tree) → (IsRead n t → ⊥) → (l : Kind) → Accepts (name_text n) t l → ⊥
-none_accepted n t none l h = none (subst (λ m. IsRead m t) (sym (one_name n (extension_of l) h.0)) (read l t h.1))
+none_accepted : (n : ExtensionName) (t : Tree) (f : LayoutFault) → HasFault (FaultAt n t) f → (l : Kind) → Accepts (name_text n) t l → ⊥
+none_accepted n t f h l a = no_fault_if_accepted n t l h.0 f a h.1
 
 -- ---- answers
-
-refuses : {X : Type 0} (f : LayoutFault) (r : Result X LayoutFault) (x : X) → r ≡ Err f → r ≡ Ok x → ⊥
-refuses f r x bad good = cc
 
 -- a kind that accepts the tree is the one
 pub kind_some : (n : Text) (t : Tree) (k : Kind) → IsStructured k → Accepts n t k → AnswersKind n t (Some k)
@@ -93,20 +83,23 @@ kind_some n t k s here = λ l. (λ e. subst (λ x. Accepts n t x × IsStructured
 kind_none : (n : Text) (t : Tree) → ((l : Kind) → Accepts n t l → ⊥) → AnswersKind n t None
 kind_none n t none = λ l. (λ e. cc, λ h. absurd (none l h.0))
 
-pub native_some : (k : NativeKind) (s : Summary) (p : CoordType × Dimension) (r : Answer) → r ≡ Ok p → ((t : Tree) → ShowsInner s t → Answers r (Native t k)) → (t : Tree) → Summarizes s t → AnswersKind (name_text (names.Native k)) t (Some (OfNative k p.0 p.1))
-native_some k s p r is a t h = kind_some (name_text (names.Native k)) t (OfNative k p.0 p.1) tt (refl, (a t (inner_of s t h) p.0 p.1).0 is)
+pub native_some : (k : NativeKind) (s : Summary) (p : CoordType × Dimension) (r : Answer) → r ≡ Ok p → ((t : Tree) → ShowsInner s t → TellsBoth r (Native t k) (NativeFault k t)) → (t : Tree) → Summarizes s t → AnswersKind (name_text (names.Native k)) t (Some (OfNative k p.0 p.1))
+native_some k s p r is a t h = kind_some (name_text (names.Native k)) t (OfNative k p.0 p.1) tt (refl, subst (λ z. TellsBoth z (Native t k) (NativeFault k t)) is (a t (inner_of s t h)))
 
-no_native : (k : NativeKind) (t : Tree) (f : LayoutFault) (r : Answer) → r ≡ Err f → Answers r (Native t k) → (l : Kind) → Accepts (name_text (names.Native k)) t l → ⊥
-no_native k t f r is a = none_accepted (names.Native k) t (λ x. refuses f r (x.0, x.1) is ((a x.0 x.1).1 x.2))
+no_native : (k : NativeKind) (t : Tree) (f : LayoutFault) (r : Answer) → r ≡ Err f → TellsBoth r (Native t k) (NativeFault k t) → (l : Kind) → Accepts (name_text (names.Native k)) t l → ⊥
+no_native k t f r is a = none_accepted (names.Native k) t f (subst (λ z. TellsBoth z (Native t k) (NativeFault k t)) is a)
 
-pub native_none : (k : NativeKind) (s : Summary) (f : LayoutFault) (r : Answer) → r ≡ Err f → ((t : Tree) → ShowsInner s t → Answers r (Native t k)) → (t : Tree) → Summarizes s t → AnswersKind (name_text (names.Native k)) t None
+pub native_none : (k : NativeKind) (s : Summary) (f : LayoutFault) (r : Answer) → r ≡ Err f → ((t : Tree) → ShowsInner s t → TellsBoth r (Native t k) (NativeFault k t)) → (t : Tree) → Summarizes s t → AnswersKind (name_text (names.Native k)) t None
 native_none k s f r is a t h = kind_none (name_text (names.Native k)) t (no_native k t f r is (a t (inner_of s t h)))
 
-pub geometry_none : (t : Tree) (f : LayoutFault) (r : Result CoordType LayoutFault) → r ≡ Err f → AnswersOne r (Geometry t) → AnswersKind (name_text names.Geometry) t None
-geometry_none t f r is a = kind_none (name_text names.Geometry) t (none_accepted names.Geometry t (λ x. refuses f r x.0 is ((a x.0).1 x.1)))
+pub geometry_some : (t : Tree) (c : CoordType) (r : Result CoordType LayoutFault) → r ≡ Ok c → Tells r (Geometry t) (GeometryFault t) → AnswersKind (name_text names.Geometry) t (Some (OfGeometry c))
+geometry_some t c r is h = kind_some (name_text names.Geometry) t (OfGeometry c) tt (refl, subst (λ z. Tells z (Geometry t) (GeometryFault t)) is h)
 
-pub box_none : (t : Tree) (f : LayoutFault) (r : Result Dimension LayoutFault) → r ≡ Err f → AnswersOne r (BoxShape t) → AnswersKind (name_text names.Rect) t None
-box_none t f r is a = kind_none (name_text names.Rect) t (none_accepted names.Rect t (λ x. refuses f r x.0 is ((a x.0).1 x.1)))
+pub geometry_none : (t : Tree) (f : LayoutFault) (r : Result CoordType LayoutFault) → r ≡ Err f → Tells r (Geometry t) (GeometryFault t) → AnswersKind (name_text names.Geometry) t None
+geometry_none t f r is a = kind_none (name_text names.Geometry) t (none_accepted names.Geometry t f (subst (λ z. Tells z (Geometry t) (GeometryFault t)) is a))
+
+pub box_none : (t : Tree) (f : LayoutFault) (r : Result Dimension LayoutFault) → r ≡ Err f → Tells r (BoxShape t) (BoxFault t) → AnswersKind (name_text names.Rect) t None
+box_none t f r is a = kind_none (name_text names.Rect) t (none_accepted names.Rect t f (subst (λ z. Tells z (BoxShape t) (BoxFault t)) is a))
 
 -- the same under an equal name
 pub renamed : (n m : Text) (s : Summary) (r : Option Kind) → n ≡ m → ((t : Tree) → Summarizes s t → AnswersKind m t r) → (t : Tree) → Summarizes s t → AnswersKind n t r
@@ -117,14 +110,13 @@ of_name n m None is h = tt
 of_name n m (Some k) is h = (is ∙ h.0, h.1)
 
 -- the kind of a column, told by the reader of its extension name
-pub kind_found : (n : Text) (t : Tree) (k : Kind) → Accepts n t k → AnswersOne (ok k) (Accepts n t)
-kind_found n t k here = answers_one k (Accepts n t) (one_kind n t) here
+pub kind_exact : (n : ExtensionName) (t : Tree) (r : Result Kind LayoutFault) → Tells r (Accepts (name_text n) t) (FaultAt n t) → AnswersOne r (Accepts (name_text n) t)
+kind_exact n t r h = exactly_one r (Accepts (name_text n) t) (FaultAt n t) (one_kind (name_text n) t) (no_fault_if_accepted n t) h
 
-pub under : (n m : ExtensionName) (t : Tree) (r : Result Kind LayoutFault) → n ≡ m → AnswersOne r (Accepts (name_text m) t) → AnswersOne r (Accepts (name_text n) t)
-under n m t r is a = subst (λ x. AnswersOne r (Accepts (name_text x) t)) (sym is) a
-
-pub native_refused : (k : NativeKind) (t : Tree) (f : LayoutFault) (r : Answer) → r ≡ Err f → Answers r (Native t k) → AnswersOne {X = Kind} (Err f) (Accepts (name_text (names.Native k)) t)
-native_refused k t f r is a = refuses_one f (Accepts (name_text (names.Native k)) t) (no_native k t f r is a)
+-- there is a kind, or a fault
+pub either : (r : Result Kind LayoutFault) (n : ExtensionName) (t : Tree) → AnswersOne r (Accepts (name_text n) t) → IfErr r (HasFault (FaultAt n t)) → IsAccepted (name_text n) t ⊎ ((p : Path) × (f : LayoutFault) × FaultAt n t p f)
+either (Ok k) n t a h = inl (k, (a k).0 refl)
+either (Err f) n t a h = inr (h.0, f, h.1)
 
 -- what a summary says under each name, it says of all its trees
 abbrev pub Told : Summary → ExtensionName → Type 0

@@ -1,4 +1,6 @@
 pub mod Readings
+pub mod FaultLaws
+pub mod FaultPaths
 pub mod MemberLists
 pub mod BitSteps
 pub mod FieldSteps

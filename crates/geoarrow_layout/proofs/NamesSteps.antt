@@ -1,10 +1,12 @@
 -- The kinds exclude one another, but for point and box and for kinds of the same lists.
-use Rattle.std.proofs.Common.{◌≡◌, ◌↔◌, ◌⊎◌, ◌+◌, inl, inr, ℕ, zero, suc, Bool, true, false, true≢false, Option, Some, None, Result, Ok, Err, IsTrue, refl, sym, ap, subst, ◌∙◌, arith, rules}
+use Rattle.std.proofs.Common.{◌≡◌, ◌↔◌, ◌⊎◌, ◌+◌, ◌≤◌, inl, inr, ℕ, zero, suc, Bool, true, false, true≢false, Option, Some, None, Result, Ok, Err, IsTrue, refl, sym, ap, subst, ◌∙◌, arith, rules}
 use Rattle.std.specs.Result.{is_ok}
 use Rattle.std.specs.Option.{is_some}
 use Rattle.arrow_values.specs.Tree.{Text, Plain as PlainType, binary, large_binary, binary_view, utf8, large_utf8, utf8_view, Tree, plain, list, large_list, fixed_size_list, struct, union}
 use Rattle.geoarrow_layout.specs.declared.kinds.CoordType.{CoordType}
+use Rattle.geoarrow_layout.specs.declared.kinds.CoordType.TheVariants.{Interleaved, Separated}
 use Rattle.geoarrow_layout.specs.declared.kinds.Dimension.{Dimension}
+use Rattle.geoarrow_layout.specs.declared.kinds.Dimension.TheVariants.{XY, XYZM}
 use Rattle.geoarrow_layout.specs.declared.fault.LayoutFault.{LayoutFault}
 use Rattle.geoarrow_layout.specs.declared.summary.ListWidth.{ListWidth}
 use Rattle.geoarrow_layout.specs.declared.summary.ListWidth.TheVariants.{List as Lists, LargeList as LargeLists}
@@ -17,12 +19,15 @@ use Rattle.geoarrow_layout.specs.declared.encodings.Kind.TheVariants.{Native as 
 use Rattle.geoarrow_layout.specs.declared.candidate_names.Candidates.{Candidates}
 use Rattle.geoarrow_layout.specs.declared.candidate_names.Candidates.TheVariants.{None as NoName, LineStringOrMultiPoint, PolygonOrMultiLineString, PointOrBox}
 use Rattle.geoarrow_layout.specs.declared.names.ExtensionName.TheVariants as names
-use Rattle.geoarrow_layout.specs.Kinds.{name_text, name_of}
-use Rattle.geoarrow_layout.specs.Shapes.{ListsOver, levels_of, Leaf, Mixed, Native, Geometry, Accepted, Accepts, IsStructured, IsBytes, IsText, Answers, AnswersOne}
-use Rattle.geoarrow_layout.specs.Candidates.{Holds, IsAccepted, IsAcceptedStructure, IsNative, IsGeometry, IsBox}
+use Rattle.geoarrow_layout.specs.Kinds.{size_of, name_text, extension_of, name_of}
+use Rattle.geoarrow_layout.specs.Shapes.{names_of, ListsOver, levels_of, Leaf, Mixed, Native, Geometry, BoxShape, Accepted, Accepts, IsStructured, IsBytes, IsText}
+use Rattle.geoarrow_layout.specs.FaultAt.{Path, Located, BoxFault, NativeFault, GeometryFault}
+use Rattle.geoarrow_layout.specs.Candidates.{Holds, IsAccepted, IsAcceptedStructure, IsNative, IsGeometry, IsBox, IsStructOfFour, Share}
 use Rattle.geoarrow_layout.specs.declared.summary.Summary.{Summary}
 use Rattle.geoarrow_layout.specs.Summary.{Summarizes}
-use Rattle.geoarrow_layout.specs.Steps.{ShowsInner}
+use Rattle.geoarrow_layout.specs.Steps.{ShowsInner, Tells, TellsBoth}
+use Rattle.geoarrow_layout.proofs.FaultLaws.{box_apart, native_apart, geometry_apart, separated_length, box_length}
+use Rattle.geoarrow_layout.proofs.KindSteps.{one_name}
 use Rattle.geoarrow_layout.proofs.Readings.{Answer}
 use Rattle.geoarrow_layout.proofs.UnionSteps.{inner_of}
 
@@ -92,6 +97,28 @@ NamedAt _ n = n ≡ name_text names.Wkt
 named_at : (l : Kind) → NamedAt (sort_in l) (name_of l)
 named_at (OfNative Point c d) = inl refl
 named_at _ = search rules
+
+-- two names that a data type of a number may have
+abbrev TwoNames : Text → Text → Text → Type 0
+TwoNames a b n = (n ≡ a) ⊎ (n ≡ b)
+
+pair_at : (s : ℕ) → (a : Text) × (b : Text) × ((n : Text) → NamedAt s n → TwoNames a b n)
+pair_at zero = (name_text (names.Native Point), name_text names.Rect, λ n h. h)
+pair_at (suc zero) = (name_text (names.Native LineString), name_text (names.Native MultiPoint), λ n h. h)
+pair_at (suc (suc zero)) = (name_text (names.Native Polygon), name_text (names.Native MultiLineString), λ n h. h)
+pair_at (suc (suc (suc zero))) = (name_text (names.Native MultiPolygon), name_text names.Geometry, λ n h. inl h)
+pair_at (suc (suc (suc (suc zero)))) = (name_text names.Geometry, name_text names.Rect, λ n h. inl h)
+pair_at (suc (suc (suc (suc (suc zero))))) = (name_text (names.Native GeometryCollection), name_text names.Geometry, λ n h. inl h)
+pair_at (suc (suc (suc (suc (suc (suc zero)))))) = (name_text names.Wkb, name_text names.Geometry, λ n h. inl h)
+pair_at _ = (name_text names.Wkt, name_text names.Geometry, λ n h. inl h)
+
+of_two : (x y a b c : Text) → TwoNames x y a → TwoNames x y b → TwoNames x y c → (a ≡ b) ⊎ ((a ≡ c) ⊎ (b ≡ c))
+of_two x y a b c (inl h) (inl k) e = inl (h ∙ sym k)
+of_two x y a b c (inr h) (inr k) e = inl (h ∙ sym k)
+of_two x y a b c (inl h) (inr k) (inl e) = inr (inl (h ∙ sym e))
+of_two x y a b c (inl h) (inr k) (inr e) = inr (inr (k ∙ sym e))
+of_two x y a b c (inr h) (inl k) (inl e) = inr (inr (k ∙ sym e))
+of_two x y a b c (inr h) (inl k) (inr e) = inr (inl (h ∙ sym e))
 
 named_as : (k l : Kind) → sort_in k ≡ sort_in l → NamedAt (sort_in k) (name_of l)
 named_as k l same = subst (λ s. NamedAt s (name_of l)) (sym same) (named_at l)
@@ -165,13 +192,19 @@ no_names t box point linestring polygon multipolygon collection geometry n = (λ
     from _ h s = s
 
 -- a reader answers where something is read
-pub some_one : {X : Type 0} (r : Result X LayoutFault) (b : Bool) (R : X → Type 0) → b ≡ is_ok r → AnswersOne r R → IsTrue b ↔ ((x : X) × R x)
-some_one (Ok x) b R is a = (λ h. (x, (a x).0 refl), λ y. is)
-some_one (Err e) b R is a = (λ h. absurd (true≢false (sym h ∙ is)), λ y. let bad = (a y.0).1 y.1 in cc)
+pub some_one : {X : Type 0} (r : Result X LayoutFault) (b : Bool) (R : X → Type 0) (F : Located) → b ≡ is_ok r → ((x : X) (p : Path) (f : LayoutFault) → R x → F p f → ⊥) → Tells r R F → IsTrue b ↔ ((x : X) × R x)
+some_one (Ok x) b R F is apart h = (λ e. (x, h), λ y. is)
+some_one (Err f) b R F is apart h = (λ e. absurd (true≢false (sym e ∙ is)), λ y. absurd (apart y.0 h.0 f y.1 h.1))
 
-pub native_ok : (k : NativeKind) (s : Summary) (r : Answer) (b : Bool) → b ≡ is_ok r → ((t : Tree) → ShowsInner s t → Answers r (Native t k)) → (t : Tree) → Summarizes s t → IsTrue b ↔ IsNative k t
+pub geometry_ok : (t : Tree) (r : Result CoordType LayoutFault) (b : Bool) → b ≡ is_ok r → Tells r (Geometry t) (GeometryFault t) → IsTrue b ↔ IsGeometry t
+geometry_ok t r b is h = some_one r b (Geometry t) (GeometryFault t) is (geometry_apart t) h
+
+pub box_ok : (t : Tree) (r : Result Dimension LayoutFault) (b : Bool) → b ≡ is_ok r → Tells r (BoxShape t) (BoxFault t) → IsTrue b ↔ IsBox t
+box_ok t r b is h = some_one r b (BoxShape t) (BoxFault t) is (box_apart t) h
+
+pub native_ok : (k : NativeKind) (s : Summary) (r : Answer) (b : Bool) → b ≡ is_ok r → ((t : Tree) → ShowsInner s t → TellsBoth r (Native t k) (NativeFault k t)) → (t : Tree) → Summarizes s t → IsTrue b ↔ IsNative k t
 native_ok k s r b is a t h =
-    let one = some_one r b (λ p. Native t k p.0 p.1) is (λ p. a t (inner_of s t h) p.0 p.1) in
+    let one = some_one r b (λ p. Native t k p.0 p.1) (NativeFault k t) is (λ x. native_apart k t x.0 x.1) (a t (inner_of s t h)) in
     (λ e. let x = one.0 e in (x.0.0, x.0.1, x.1), λ x. one.1 ((x.0, x.1), x.2))
 
 -- well-known binary and text
@@ -205,3 +238,87 @@ structures_alone t result r s b e says is h says' is' h' names n =
     from (OfWkb w) a bytes text = absurd (bytes w a.1)
     from (OfWkt w) a bytes text = absurd (text w a.1)
     from k a bytes text = (k, a, tt)
+
+-- ---- the names of one data type
+
+-- an accepted name is one of those of the number
+name_at : (n : Text) (t : Tree) → IsAccepted n t → NamedAt (sort_of t) n
+name_at n t a = subst (NamedAt (sort_of t)) (sym a.1.0) (subst (λ s. NamedAt s (name_of a.0)) (sym (sorted a.0 t a.1.1)) (named_at a.0))
+
+pub two_at_most : (t : Tree) (a b c : Text) → IsAccepted a t → IsAccepted b t → IsAccepted c t → (a ≡ b) ⊎ ((a ≡ c) ⊎ (b ≡ c))
+two_at_most t a b c h k l = let p = pair_at (sort_of t) in of_two p.0 p.1 a b c (p.2 a (name_at a t h)) (p.2 b (name_at b t k)) (p.2 c (name_at c t l))
+
+as_native : (l : Kind) (k : NativeKind) (t : Tree) → names.Native k ≡ extension_of l → Accepted l t → IsNative k t
+as_native (OfNative m c d) k t e h = let same : k ≡ m = cc in (c, d, subst (λ x. Native t x c d) (sym same) h)
+as_native _ k t e h = cc
+
+native_accepted : (k : NativeKind) (t : Tree) → IsAccepted (name_text (names.Native k)) t → IsNative k t
+native_accepted k t a = as_native a.0 k t (one_name (names.Native k) (extension_of a.0) a.1.0) a.1.1
+
+as_box : (l : Kind) (t : Tree) → names.Rect ≡ extension_of l → Accepted l t → IsBox t
+as_box (OfRect d) t e h = (d, h)
+as_box _ t e h = cc
+
+box_accepted : (t : Tree) → IsAccepted (name_text names.Rect) t → IsBox t
+box_accepted t a = as_box a.0 t (one_name names.Rect (extension_of a.0) a.1.0) a.1.1
+
+size_within : (d : Dimension) → (2 ≤ size_of d) × (size_of d ≤ 4)
+size_within XY = (omega arith, omega arith)
+size_within d = (omega arith, omega arith)
+
+-- what is a coordinate and a box is a struct of four fields
+four_of : (t : Tree) (c : CoordType) (d e : Dimension) → Leaf t c d → BoxShape t e → IsStructOfFour t
+four_of (struct fs) Separated d e h k = let less = size_within d in let more = size_within e in let s = separated_length (names_of fs) d h in let b = box_length (names_of fs) e k in omega (arith, less.0, less.1, more.0, more.1)
+four_of (struct fs) Interleaved d e h k = absurd h
+four_of _ c d e h k = absurd k
+
+point_and_box_four : (t : Tree) → IsAccepted (name_text (names.Native Point)) t → IsAccepted (name_text names.Rect) t → IsStructOfFour t
+point_and_box_four t h k =
+    let p = native_accepted Point t h in
+    let b = box_accepted t k in
+    four_of t p.0 p.1 b.0 (subst (λ x. Leaf x p.0 p.1) (sym p.2.1.1) p.2.2) b.1
+
+-- of three and more there is one name
+one_at : (s : ℕ) (a b : Text) → NamedAt (suc (suc (suc s))) a → NamedAt (suc (suc (suc s))) b → a ≡ b
+one_at zero a b h k = h ∙ sym k
+one_at (suc zero) a b h k = h ∙ sym k
+one_at (suc (suc zero)) a b h k = h ∙ sym k
+one_at (suc (suc (suc zero))) a b h k = h ∙ sym k
+one_at _ a b h k = h ∙ sym k
+
+shared_at : (s : ℕ) (t : Tree) (a b : Text) → NamedAt s a → NamedAt s b → IsAccepted a t → IsAccepted b t → (a ≡ b → ⊥) → Share t a b ⊎ Share t b a
+shared_at zero t a b (inl h) (inr k) x y differ = inl (inr (inr (h, k, point_and_box_four t (subst (λ n. IsAccepted n t) h x) (subst (λ n. IsAccepted n t) k y))))
+shared_at zero t a b (inr h) (inl k) x y differ = inr (inr (inr (k, h, point_and_box_four t (subst (λ n. IsAccepted n t) k y) (subst (λ n. IsAccepted n t) h x))))
+shared_at (suc zero) t a b (inl h) (inr k) x y differ = inl (inl (h, k))
+shared_at (suc zero) t a b (inr h) (inl k) x y differ = inr (inl (k, h))
+shared_at (suc (suc zero)) t a b (inl h) (inr k) x y differ = inl (inr (inl (h, k)))
+shared_at (suc (suc zero)) t a b (inr h) (inl k) x y differ = inr (inr (inl (k, h)))
+shared_at zero t a b (inl h) (inl k) x y differ = absurd (differ (h ∙ sym k))
+shared_at zero t a b (inr h) (inr k) x y differ = absurd (differ (h ∙ sym k))
+shared_at (suc zero) t a b (inl h) (inl k) x y differ = absurd (differ (h ∙ sym k))
+shared_at (suc zero) t a b (inr h) (inr k) x y differ = absurd (differ (h ∙ sym k))
+shared_at (suc (suc zero)) t a b (inl h) (inl k) x y differ = absurd (differ (h ∙ sym k))
+shared_at (suc (suc zero)) t a b (inr h) (inr k) x y differ = absurd (differ (h ∙ sym k))
+shared_at (suc (suc (suc s))) t a b h k x y differ = absurd (differ (one_at s a b h k))
+
+pub which_two : (t : Tree) (a b : Text) → IsAccepted a t → IsAccepted b t → (a ≡ b → ⊥) → Share t a b ⊎ Share t b a
+which_two t a b h k differ = shared_at (sort_of t) t a b (name_at a t h) (name_at b t k) h k differ
+
+as_other : (j k : NativeKind) (t : Tree) → ((c : CoordType) (d : Dimension) → Native t j c d → Native t k c d) → IsAccepted (name_text (names.Native j)) t → IsAccepted (name_text (names.Native k)) t
+as_other j k t f h = let x = native_accepted j t h in (OfNative k x.0 x.1, (refl, f x.0 x.1 x.2))
+
+point_of_four : (t : Tree) → IsStructOfFour t → IsAccepted (name_text (names.Native Point)) t
+point_of_four (struct fs) h = (OfNative Point Separated XYZM, (refl, (struct fs, (Lists, refl), h)))
+point_of_four _ h = absurd h
+
+box_of_four : (t : Tree) → IsStructOfFour t → IsAccepted (name_text names.Rect) t
+box_of_four (struct fs) h = (OfRect XY, (refl, h))
+box_of_four _ h = absurd h
+
+renamed_both : (t : Tree) (a b m n : Text) → a ≡ m → b ≡ n → IsAccepted m t ↔ IsAccepted n t → IsAccepted a t ↔ IsAccepted b t
+renamed_both t a b m n first second h = (λ x. subst (λ z. IsAccepted z t) (sym second) (h.0 (subst (λ z. IsAccepted z t) first x)), λ x. subst (λ z. IsAccepted z t) (sym first) (h.1 (subst (λ z. IsAccepted z t) second x)))
+
+pub both_accepted : (t : Tree) (a b : Text) → Share t a b → IsAccepted a t ↔ IsAccepted b t
+both_accepted t a b (inl h) = renamed_both t a b _ _ h.0 h.1 (as_other LineString MultiPoint t (λ c d x. x), as_other MultiPoint LineString t (λ c d x. x))
+both_accepted t a b (inr (inl h)) = renamed_both t a b _ _ h.0 h.1 (as_other Polygon MultiLineString t (λ c d x. x), as_other MultiLineString Polygon t (λ c d x. x))
+both_accepted t a b (inr (inr h)) = renamed_both t a b _ _ h.0 h.1 (λ x. box_of_four t h.2, λ x. point_of_four t h.2)

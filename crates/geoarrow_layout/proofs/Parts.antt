@@ -1,17 +1,16 @@
 -- Ids and members: each is read in one way.
-use Rattle.std.proofs.Common.{◌≡◌, ◌↔◌, ◌≢◌, inl, inr, ℤ, pos, Option, None, refl, sym, ap, subst, ◌∙◌}
-use Rattle.std.proofs.lemmas.Option.{some_pair_parts}
+use Rattle.std.proofs.Common.{◌≡◌, ◌≢◌, inl, inr, ℤ, pos, Option, None, Ok, Err, MatchResult, refl, sym, ap, subst, ◌∙◌, []}
 use Rattle.arrow_values.specs.Tree.{Tree}
 use Rattle.geoarrow_layout.specs.declared.kinds.CoordType.{CoordType}
 use Rattle.geoarrow_layout.specs.declared.kinds.Dimension.{Dimension}
-use Rattle.geoarrow_layout.specs.declared.fault.LayoutFault.{LayoutFault}
+use Rattle.geoarrow_layout.specs.declared.fault.LayoutFault.TheVariants.{BadTypeId}
 use Rattle.geoarrow_layout.specs.declared.encodings.NativeKind.{NativeKind}
 use Rattle.geoarrow_layout.specs.declared.encodings.NativeKind.TheVariants.{GeometryCollection}
 use Rattle.geoarrow_layout.specs.Kinds.{type_id_of}
-use Rattle.geoarrow_layout.specs.Shapes.{OverLeaf, GeometryMember, Mixed, Answers, Native}
-use Rattle.geoarrow_layout.specs.OneShape.{any_part}
-use Rattle.geoarrow_layout.proofs.Readings.{Answer, answers_like, refuses, IsPartsOf, some_parts, ok_pair, refused}
-use Rattle.geoarrow_layout.proofs.Bottoms.{AtNoList, not_list}
+use Rattle.geoarrow_layout.specs.Shapes.{OverLeaf, GeometryMember, Native}
+use Rattle.geoarrow_layout.specs.FaultAt.{Faults, HasFault, PartFault, OverLeafFault, NativeFault, GeometryMemberFault}
+use Rattle.geoarrow_layout.specs.Steps.{TellsBoth, IsOtherFault}
+use Rattle.geoarrow_layout.proofs.Readings.{Answer, IsPartsOf, some_parts, refused}
 
 abbrev pub Reading : Type 1
 Reading = Tree → NativeKind → CoordType → Dimension → Type 0
@@ -19,30 +18,34 @@ Reading = Tree → NativeKind → CoordType → Dimension → Type 0
 abbrev pub Part : Reading → ℤ → Tree → CoordType → Dimension → Type 0
 Part N i t c d = (k : NativeKind) × (i ≡ pos (type_id_of k d)) × N t k c d
 
-abbrev no_parts : Option (NativeKind × Dimension)
+abbrev pub no_parts : Option (NativeKind × Dimension)
 no_parts = None
 
-pub part_answer : (N : Reading) (i z : ℤ) (t : Tree) (k : NativeKind) (d : Dimension) (read r : Answer) → z ≡ i → IsPartsOf z (some_parts k d) → ((c : CoordType) (e : Dimension) → (r ≡ ok_pair c e) ↔ ((read ≡ ok_pair c e) × (e ≡ d)))
-    → Answers read (N t k) → Answers r (Part N i t)
-part_answer N i z t k d read r is parts kept native = λ c e. (
-  (λ h. let p = (kept c e).0 h in (k, sym is ∙ (parts k e).0 (ap (some_parts k) (sym p.1)), (native c e).0 p.0)),
-  (λ m. let p = some_pair_parts k m.0 d e ((parts m.0 e).1 (is ∙ m.1)) in (kept c e).1 ((native c e).1 (subst (λ x. N t x c e) (sym p.0) m.2), sym p.1)),
-)
+-- the answer of a kind, if the dimension is that of the type id
+kept : (N : Reading) (F : NativeKind → Faults) (i : ℤ) (t : Tree) (k : NativeKind) (d : Dimension) (read r : Answer) → i ≡ pos (type_id_of k d) → MatchResult r (λ x. (read ≡ Ok x) × (x.1 ≡ d)) (IsOtherFault read d)
+    → TellsBoth read (N t k) (F k t) → TellsBoth r (Part N i t) (PartFault N F i t)
+kept N F i t k d read (Ok x) id h a = let read_is : N t k x.0 x.1 = subst (λ z. TellsBoth z (N t k) (F k t)) h.0 a in (k, id ∙ ap (λ e. pos (type_id_of k e)) (sym h.1), read_is)
+kept N F i t k d read (Err f) id (inl e) a = let fault : HasFault (F k t) f = subst (λ z. TellsBoth z (N t k) (F k t)) e a in (fault.0, inr (k, d, id, inl fault.1))
+kept N F i t k d read (Err f) id (inr e) a =
+    let read_is : N t k e.1 e.2 = subst (λ z. TellsBoth z (N t k) (F k t)) e.3 a in
+    ([], inr (k, d, id, inr (e.1, e.2, read_is, e.4, (refl, e.0))))
 
-pub part_unknown : (N : Reading) (e : LayoutFault) (i z : ℤ) (t : Tree) → z ≡ i → IsPartsOf z no_parts → Answers (refused e) (Part N i t)
-part_unknown N e i z t is parts = refuses e (Part N i t) (λ c d m. let bad : no_parts ≡ some_parts m.0 d = (parts m.0 d).1 (is ∙ m.1) in cc)
+pub part_answer : (N : Reading) (F : NativeKind → Faults) (i z : ℤ) (t : Tree) (k : NativeKind) (d : Dimension) (read r : Answer) → z ≡ i → IsPartsOf z (some_parts k d) → MatchResult r (λ x. (read ≡ Ok x) × (x.1 ≡ d)) (IsOtherFault read d)
+    → TellsBoth read (N t k) (F k t) → TellsBoth r (Part N i t) (PartFault N F i t)
+part_answer N F i z t k d read r is parts h native = kept N F i t k d read r (sym is ∙ (parts k d).0 refl) h native
+
+pub part_unknown : (N : Reading) (F : NativeKind → Faults) (i z : ℤ) (t : Tree) → z ≡ i → IsPartsOf z no_parts → TellsBoth (refused BadTypeId) (Part N i t) (PartFault N F i t)
+part_unknown N F i z t is parts = ([], inl ((λ k d id. let bad : no_parts ≡ some_parts k d = (parts k d).1 (is ∙ id) in cc), (refl, refl)))
 
 -- a member of a geometry
 to_part : (k : NativeKind) (i : ℤ) (t : Tree) (c : CoordType) (d : Dimension) → i ≡ pos (type_id_of k d) → Native t k c d → GeometryMember i t c d
 to_part GeometryCollection i t c d id h = inr (id, h)
 to_part k i t c d id h = inl (k, id, h)
 
-pub geometry_answer : (r : Answer) (i : ℤ) (t : Tree) → Answers r (Part Native i t) → Answers r (GeometryMember i t)
-geometry_answer r i t h = answers_like r (Part Native i t) (GeometryMember i t) (λ c d p. to_part p.0 i t c d p.1 p.2) (λ c d p. any_part i t c d p) h
+pub geometry_answer : (r : Answer) (i : ℤ) (t : Tree) → TellsBoth r (Part Native i t) (PartFault Native NativeFault i t) → TellsBoth r (GeometryMember i t) (GeometryMemberFault i t)
+geometry_answer (Ok x) i t h = to_part h.0 i t x.0 x.1 h.1 h.2
+geometry_answer (Err f) i t h = h
 
-pub mixed_apart : AtNoList Mixed
-mixed_apart t c d h = not_list (λ x. Mixed x c d) (λ n x b m p. p) (λ n x b m p. p) t h
-
-pub native_any : (k : NativeKind) (t : Tree) (r : Answer) → (k ≢ GeometryCollection) → Answers r (OverLeaf t k) → Answers r (Native t k)
+pub native_any : (k : NativeKind) (t : Tree) (r : Answer) → (k ≢ GeometryCollection) → TellsBoth r (OverLeaf t k) (OverLeafFault k t) → TellsBoth r (Native t k) (NativeFault k t)
 native_any GeometryCollection t r h a = absurd (h refl)
 native_any k t r h a = a

@@ -1,11 +1,13 @@
 -- What a reader answers, in short words.
-use Rattle.std.proofs.Common.{◌≡◌, ◌↔◌, subst, ℤ, pos, Result, Ok, Err, Option, Some, ap, ◌∙◌}
+use Rattle.std.proofs.Common.{◌≡◌, ◌↔◌, subst, ℤ, pos, Result, Ok, Err, Option, Some, ap, ◌∙◌, IfErr}
 use Rattle.geoarrow_layout.specs.declared.kinds.CoordType.{CoordType}
 use Rattle.geoarrow_layout.specs.declared.kinds.Dimension.{Dimension}
 use Rattle.geoarrow_layout.specs.declared.fault.LayoutFault.{LayoutFault}
 use Rattle.geoarrow_layout.specs.declared.encodings.NativeKind.{NativeKind}
 use Rattle.geoarrow_layout.specs.Kinds.{type_id_of}
 use Rattle.geoarrow_layout.specs.Shapes.{Answers, AnswersOne}
+use Rattle.geoarrow_layout.specs.FaultAt.{Path, Located, HasFault}
+use Rattle.geoarrow_layout.specs.Steps.{Tells, TellsBoth}
 
 abbrev pub Answer : Type 0
 Answer = Result (CoordType × Dimension) LayoutFault
@@ -46,8 +48,17 @@ refused e = Err e
 abbrev pub IsPartsOf : ℤ → Parts → Type 0
 IsPartsOf i r = (k : NativeKind) (d : Dimension) → (r ≡ some_parts k d) ↔ (i ≡ pos (type_id_of k d))
 
-pub pairs_same : (c b : CoordType) (d e : Dimension) → ok_pair c d ≡ ok_pair b e → (c ≡ b) × (d ≡ e)
-pairs_same c b d e h = let p = ok_same (c, d) (b, e) h in (ap (λ x. x.0) p, ap (λ x. x.1) p)
+-- what holds for one value alone, and for none where there is a fault, is answered exactly
+pub exactly_one : {X : Type 0} (r : Result X LayoutFault) (R : X → Type 0) (F : Located) → ((x y : X) → R x → R y → x ≡ y) → ((x : X) (p : Path) (f : LayoutFault) → R x → F p f → ⊥) → Tells r R F → AnswersOne r R
+exactly_one (Ok x) R F one apart h = answers_one x R one h
+exactly_one (Err f) R F one apart h = refuses_one f R (λ x k. apart x h.0 f k h.1)
 
-pub pairs_from : (c b : CoordType) (d e : Dimension) → c ≡ b → d ≡ e → ok_pair c d ≡ ok_pair b e
-pairs_from c b d e h k = ap (λ x. ok_pair x d) h ∙ ap (λ x. ok_pair b x) k
+pair_same : (x y : CoordType × Dimension) → (x.0 ≡ y.0) × (x.1 ≡ y.1) → x ≡ y
+pair_same (c, d) (b, e) h = ap (λ z. (z, d)) h.0 ∙ ap (λ z. (b, z)) h.1
+
+pub exactly : (r : Answer) (R : CoordType → Dimension → Type 0) (F : Located) → ((c b : CoordType) (d e : Dimension) → R c d → R b e → (c ≡ b) × (d ≡ e)) → ((c : CoordType) (d : Dimension) (p : Path) (f : LayoutFault) → R c d → F p f → ⊥) → TellsBoth r R F → Answers r R
+exactly r R F one apart h = let all = exactly_one r (λ x. R x.0 x.1) F (λ x y h k. pair_same x y (one x.0 y.0 x.1 y.1 h k)) (λ x p f k e. apart x.0 x.1 p f k e) h in λ c d. all (c, d)
+
+pub told_fault : {X : Type 0} (r : Result X LayoutFault) (R : X → Type 0) (F : Located) → Tells r R F → IfErr r (HasFault F)
+told_fault (Ok x) R F h = tt
+told_fault (Err f) R F h = h

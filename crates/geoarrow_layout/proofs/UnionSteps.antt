@@ -1,31 +1,32 @@
 -- What was seen of members says what the union is.
-use Rattle.std.proofs.Common.{◌≡◌, ◌≢◌, ◌↔◌, ◌<◌, ◌+◌, ◌^◌, ◌⊎◌, inl, inr, ℕ, zero, suc, ℤ, pos, Result, Ok, Err, Option, Some, None, Bool, true, false, [], ◌∷◌, ◌++◌, take, length, get_or, refl, sym, ap, subst, ◌∙◌, arith, nat_eq}
+use Rattle.std.proofs.Common.{◌≡◌, ◌≢◌, ◌↔◌, ◌<◌, ◌+◌, ◌^◌, ◌⊎◌, inl, inr, ℕ, zero, suc, ℤ, pos, Result, Ok, Err, Option, Some, None, MatchOption, Bool, true, false, [], ◌∷◌, ◌++◌, take, length, get_or, refl, sym, ap, subst, ◌∙◌, arith, nat_eq}
 use Rattle.std.specs.Int.{bit_at}
 use Rattle.std.proofs.Math.Dec.{eqb-suc-zero}
 use Rattle.std.proofs.lemmas.Bool.{cases_eq}
-use Rattle.std.proofs.lemmas.Option.{same_Some}
 use Rattle.std.proofs.lemmas.Nat.Bits.{same_from_bits, bit_at-pow_same, bit_at-pow_other, bit_at-lt}
-use Rattle.arrow_values.specs.Tree.{Tree, union, FieldTree, MemberTrees, no_members}
+use Rattle.arrow_values.specs.Tree.{Tree, union, FieldTree, MemberTrees, no_members, member}
 use Rattle.arrow_values.specs.View.{member_trees}
+use Rattle.arrow_values.specs.declared.tree.UnionMode.{UnionMode}
 use Rattle.geoarrow_layout.specs.declared.kinds.CoordType.{CoordType}
 use Rattle.geoarrow_layout.specs.declared.kinds.CoordType.TheVariants.{Interleaved}
 use Rattle.geoarrow_layout.specs.declared.kinds.Dimension.{Dimension}
 use Rattle.geoarrow_layout.specs.declared.kinds.Dimension.TheVariants.{XY}
 use Rattle.geoarrow_layout.specs.declared.fault.LayoutFault.{LayoutFault}
+use Rattle.geoarrow_layout.specs.declared.fault.LayoutFault.TheVariants.{UnexpectedType}
 use Rattle.geoarrow_layout.specs.declared.summary.ListWidth.{ListWidth}
-use Rattle.geoarrow_layout.specs.declared.summary.ListWidth.TheVariants.{List as Lists}
 use Rattle.geoarrow_layout.specs.declared.summary.Bottom.{Bottom}
-use Rattle.geoarrow_layout.specs.declared.summary.Bottom.TheVariants.{Union}
+use Rattle.geoarrow_layout.specs.declared.summary.Bottom.TheVariants.{Union, Deep, Other}
 use Rattle.geoarrow_layout.specs.declared.summary.Summary.{Summary}
 use Rattle.geoarrow_layout.specs.Kinds.{order_of}
-use Rattle.geoarrow_layout.specs.Shapes.{Mixed, Geometry, Member, GeometryMember, AllMembers, SomeMember, HasMembers, Answers, AnswersOne}
+use Rattle.geoarrow_layout.specs.Shapes.{Mixed, Geometry, Member, GeometryMember, AllMembers, SomeMember, HasMembers, Answers}
+use Rattle.geoarrow_layout.specs.FaultAt.{Path, Faults, HasFault, FirstFault, UnionFault, MemberFault, DimensionsFault, MixedFault, GeometryMemberFault, GeometryFault}
 use Rattle.geoarrow_layout.specs.Summary.{IsBits, IsFaultOf, Seen, place_of, AreLevels, IsBottom, IsUnion, SummarizesBy, Summarizes}
-use Rattle.geoarrow_layout.specs.Steps.{AddsBits, CoordOf, DimensionOf, SomeAnswer, UnionSays, UnionSaysOne, IsNested, IsNoLeaf, Shows, ShowsInner}
+use Rattle.geoarrow_layout.specs.Steps.{AddsBits, CoordOf, DimensionOf, Tells, TellsBoth, first_fault, AreOf, IsCoordFault, UnionSays, UnionSaysOne, IsNested, IsNoLeaf, Shows, ShowsInner}
 use Rattle.geoarrow_layout.specs.OneShape.{member_same, geometry_part_same}
-use Rattle.geoarrow_layout.proofs.Readings.{Answer, ok, ok_same, ok_pair, pairs_same, refuses, refuses_one}
+use Rattle.geoarrow_layout.proofs.Readings.{Answer, exactly}
 use Rattle.geoarrow_layout.proofs.MemberLists.{Items, all_map, all_inside, all_some, first_some, all_both, some_more, one_more}
-use Rattle.geoarrow_layout.proofs.Parts.{mixed_apart}
-use Rattle.geoarrow_layout.proofs.Bottoms.{NotList, not_list, not_less, at_bottom}
+use Rattle.geoarrow_layout.proofs.FaultLaws.{Read, ApartMember}
+use Rattle.geoarrow_layout.proofs.Bottoms.{NoListAtUnion, RefusesLists, listed, at_bottom}
 use Rattle.geoarrow_layout.proofs.BitSteps.{bits_like, bits_added, no_bits, bit_is}
 
 abbrev pub Reads : Type 1
@@ -76,9 +77,6 @@ AtCoord R c i t = (d : Dimension) × R i t c d
 abbrev AtDimension : Reads → Dimension → ℤ → Tree → Type 0
 AtDimension R d i t = (c : CoordType) × R i t c d
 
-abbrev Read : Reads → ℤ → Tree → Type 0
-Read R i t = (c : CoordType) × (d : Dimension) × R i t c d
-
 abbrev CoordBits : Reads → ℕ → MemberTrees → Type 0
 CoordBits R n ms = IsBits n (Keyed CoordType place_of (AtCoord R) ms)
 
@@ -88,59 +86,77 @@ DimensionBits R n ms = IsBits n (Keyed Dimension order_of (AtDimension R) ms)
 coord_pow : (R : Reads) → OneReading R → (n : ℕ) (ms : MemberTrees) (c : CoordType) → CoordBits R n ms → HasMembers ms → AllMembers (AtCoord R c) ms → n ≡ 2 ^ place_of c
 coord_pow R one = keyed_pow CoordType place_of (AtCoord R) (λ i t a b p q. (one i t a b p.0 q.0 p.1 q.1).0)
 
--- members of one coordinate type and dimension
-mixed_from : (R : Reads) → OneReading R → ((i : ℤ) (t : Tree) (c : CoordType) (d : Dimension) → Member i t c d → R i t c d)
-    → (empty : Bool) (fault : Option LayoutFault) (coords dims : ℕ) (r : Answer) (ms : MemberTrees)
-    → UnionSays empty fault coords dims r → ((empty ≡ false) ↔ HasMembers ms) → CoordBits R coords ms → DimensionBits R dims ms
-    → IsFaultOf Member fault ms → Answers r (λ c d. HasMembers ms × AllMembers (λ i t. Member i t c d) ms)
-mixed_from R one sub empty fault coords dims r ms says some coord_bits dimension_bits faultless = λ c d. (
-  (λ e. let h = (says c d).0 e in (
-    some.0 h.0,
-    all_inside (Read Member) (λ i t. Member i t c d) ms (λ i t p inside.
-        let seen = sub i t p.0 p.1 p.2 in
-        let coord = keyed_only CoordType place_of (AtCoord R) place_same coords ms c coord_bits h.2 p.0 (inside (AtCoord R p.0) (p.1, seen)) in
-        let dimension = keyed_only Dimension order_of (AtDimension R) order_same dims ms d dimension_bits h.3 p.1 (inside (AtDimension R p.1) (p.0, seen)) in
-        subst (λ b. Member i t b d) coord (subst (λ x. Member i t p.0 x) dimension p.2)) (faultless.0 h.1),
-  )),
-  (λ m. (says c d).1 (
-    some.1 m.0,
-    faultless.1 (all_map (λ i t. Member i t c d) (Read Member) (λ i t p. (c, d, p)) ms m.1),
-    coord_pow R one coords ms c coord_bits m.0 (all_map (λ i t. Member i t c d) (AtCoord R c) (λ i t p. (d, sub i t c d p)) ms m.1),
-    keyed_pow Dimension order_of (AtDimension R) (λ i t a b p q. (one i t p.0 q.0 a b p.1 q.1).1) dims ms d dimension_bits m.0 (all_map (λ i t. Member i t c d) (AtDimension R d) (λ i t p. (c, sub i t c d p)) ms m.1),
-  )),
+-- members that the walk finds to be of one coordinate type
+of_one : (R S : Reads) → ((i : ℤ) (t : Tree) (c : CoordType) (d : Dimension) → R i t c d → S i t c d) → (F : ℤ → Faults) (empty : Bool) (fault : Option LayoutFault) (coords : ℕ) (ms : MemberTrees) (c : CoordType)
+    → AreOf empty fault coords c → CoordBits S coords ms → IsFaultOf R F fault ms → AllMembers (Read R) ms × ((i : ℤ) (t : Tree) (x : Read R i t) → ((W : ℤ → Tree → Type 0) → W i t → SomeMember W ms) → x.0 ≡ c)
+of_one R S sub F empty fault coords ms c h coord_bits first = (
+  subst (λ o. MatchOption o (AllMembers (Read R) ms) (HasFault (FirstFault R F ms))) h.1 first,
+  (λ i t x inside. keyed_only CoordType place_of (AtCoord S) place_same coords ms c coord_bits h.2 x.0 (inside (AtCoord S x.0) (x.1, sub i t x.0 x.1 x.2))),
 )
+
+-- the fault of a union as one of one coordinate type
+coord_fault : (R S : Reads) → ((i : ℤ) (t : Tree) (c : CoordType) (d : Dimension) → R i t c d → S i t c d) → OneReading S → (F : ℤ → Faults) (empty : Bool) (fault : Option LayoutFault) (coords : ℕ) (f : LayoutFault) (ms : MemberTrees)
+    → IsCoordFault empty fault coords f → ((empty ≡ false) ↔ HasMembers ms) → CoordBits S coords ms → IsFaultOf R F fault ms → HasFault (UnionFault R F ms) f
+coord_fault R S sub one F empty fault coords f no_members (inl e) some bits first = ([], (refl, e.1))
+coord_fault R S sub one F empty fault coords f no_members (inr (inl e)) some bits first = absurd (some.0 e.0)
+coord_fault R S sub one F empty fault coords f no_members (inr (inr e)) some bits first = absurd (some.0 e.0)
+coord_fault R S sub one F empty fault coords f (member i n t b m ms) (inl e) some bits first = let no = some.1 tt in let bad : true ≡ false = sym e.0 ∙ no in cc
+coord_fault R S sub one F empty fault coords f (member i n t b m ms) (inr (inl e)) some bits first =
+    let found : HasFault (FirstFault R F (member i n t b m ms)) f = subst (λ o. IsFaultOf R F o (member i n t b m ms)) e.1 first in
+    (found.0, inl found.1)
+coord_fault R S sub one F empty fault coords f (member i n t b m ms) (inr (inr e)) some bits first =
+    let all : AllMembers (Read R) (member i n t b m ms) = subst (λ o. IsFaultOf R F o (member i n t b m ms)) e.1 first in
+    ([], inr (all, (λ c same. e.2 c (coord_pow S one coords (member i n t b m ms) c bits tt (all_map (AtCoord R c) (AtCoord S c) (λ j u x. (x.0, sub j u c x.0 x.1)) (member i n t b m ms) same))), (refl, e.3)))
+
+-- members of one coordinate type and dimension
+mixed_from : (S : Reads) → OneReading S → ((i : ℤ) (t : Tree) (c : CoordType) (d : Dimension) → Member i t c d → S i t c d)
+    → (empty : Bool) (fault : Option LayoutFault) (coords dims : ℕ) (r : Answer) (ms : MemberTrees)
+    → UnionSays empty fault coords dims r → ((empty ≡ false) ↔ HasMembers ms) → CoordBits S coords ms → DimensionBits S dims ms
+    → IsFaultOf Member MemberFault fault ms → TellsBoth r (λ c d. HasMembers ms × AllMembers (λ i t. Member i t c d) ms) (λ p f. UnionFault Member MemberFault ms p f ⊎ DimensionsFault ms p f)
+mixed_from S one sub empty fault coords dims (Ok x) ms says some coord_bits dimension_bits first =
+    let of = of_one Member S sub MemberFault empty fault coords ms x.0 says.0 coord_bits first in (
+      some.0 says.0.0,
+      all_inside (Read Member) (λ i t. Member i t x.0 x.1) ms (λ i t p inside.
+          let dimension = keyed_only Dimension order_of (AtDimension S) order_same dims ms x.1 dimension_bits says.1 p.1 (inside (AtDimension S p.1) (p.0, sub i t p.0 p.1 p.2)) in
+          subst (λ b. Member i t b x.1) (of.1 i t p inside) (subst (λ e. Member i t p.0 e) dimension p.2)) of.0,
+    )
+mixed_from S one sub empty fault coords dims (Err f) ms (inl says) some coord_bits dimension_bits first =
+    let found = coord_fault Member S sub one MemberFault empty fault coords f ms says some coord_bits first in
+    (found.0, inl found.1)
+mixed_from S one sub empty fault coords dims (Err f) ms (inr says) some coord_bits dimension_bits first =
+    let c = says.0.0 in
+    let of = of_one Member S sub MemberFault empty fault coords ms c says.0.1 coord_bits first in (
+      [],
+      inr (
+        (c, all_inside (Read Member) (AtCoord Member c) ms (λ i t p inside. (p.1, subst (λ b. Member i t b p.1) (of.1 i t p inside) p.2)) of.0),
+        (λ b d same. says.1 d (keyed_pow Dimension order_of (AtDimension S) (λ i t e g p q. (one i t p.0 q.0 e g p.1 q.1).1) dims ms d dimension_bits (some.0 says.0.1.0) (all_map (λ i t. Member i t b d) (AtDimension S d) (λ i t p. (b, sub i t b d p)) ms same))),
+        (refl, says.2),
+      ),
+    )
 
 -- members of one coordinate type
-one_from : (R : Reads) → OneReading R → (empty : Bool) (fault : Option LayoutFault) (coords : ℕ) (r : Result CoordType LayoutFault) (ms : MemberTrees)
+one_from : (R : Reads) → OneReading R → (F : ℤ → Faults) (empty : Bool) (fault : Option LayoutFault) (coords : ℕ) (r : Result CoordType LayoutFault) (ms : MemberTrees)
     → UnionSaysOne empty fault coords r → ((empty ≡ false) ↔ HasMembers ms) → CoordBits R coords ms
-    → IsFaultOf R fault ms → AnswersOne r (λ c. HasMembers ms × AllMembers (AtCoord R c) ms)
-one_from R one empty fault coords r ms says some coord_bits faultless = λ c. (
-  (λ e. let h = (says c).0 e in (
-    some.0 h.0,
-    all_inside (Read R) (AtCoord R c) ms (λ i t p inside.
-        let coord = keyed_only CoordType place_of (AtCoord R) place_same coords ms c coord_bits h.2 p.0 (inside (AtCoord R p.0) (p.1, p.2)) in
-        (p.1, subst (λ b. R i t b p.1) coord p.2)) (faultless.0 h.1),
-  )),
-  (λ m. (says c).1 (some.1 m.0, faultless.1 (all_map (AtCoord R c) (Read R) (λ i t p. (c, p.0, p.1)) ms m.1), coord_pow R one coords ms c coord_bits m.0 m.1)),
-)
+    → IsFaultOf R F fault ms → Tells r (λ c. HasMembers ms × AllMembers (AtCoord R c) ms) (UnionFault R F ms)
+one_from R one F empty fault coords (Ok c) ms says some coord_bits first =
+    let of = of_one R R (λ i t b d x. x) F empty fault coords ms c says coord_bits first in
+    (some.0 says.0, all_inside (Read R) (AtCoord R c) ms (λ i t p inside. (p.1, subst (λ b. R i t b p.1) (of.1 i t p inside) p.2)) of.0)
+one_from R one F empty fault coords (Err f) ms says some coord_bits first = coord_fault R R (λ i t b d x. x) one F empty fault coords f ms says some coord_bits first
 
--- the coordinate type first, then the dimension
-pub both_say : (empty : Bool) (fault : Option LayoutFault) (coords dims : ℕ) (c : CoordType) (d : Dimension) (o : Option Dimension) → UnionSaysOne empty fault coords (Ok c) → o ≡ Some d → ((e : Dimension) → (o ≡ Some e) ↔ (dims ≡ 2 ^ order_of e)) → UnionSays empty fault coords dims (ok_pair c d)
-both_say empty fault coords dims c d o one is dimension = λ b e. (
-  (λ h. let p = pairs_same c b d e h in
-      let k = (one b).0 (ap ok p.0) in
-      (k.0, k.1, k.2, (dimension e).0 (is ∙ ap (λ x. Some x) p.1))),
-  (λ h. let p = ok_same c b ((one b).1 (h.0, h.1, h.2)) in
-      let q = same_Some d e (sym is ∙ (dimension e).1 h.3) in
-      ap (λ x. ok_pair x d) p ∙ ap (λ x. ok_pair b x) q),
-)
+mixed_told : (r : Answer) (ms : MemberTrees) (mode : UnionMode) → TellsBoth r (λ c d. HasMembers ms × AllMembers (λ i t. Member i t c d) ms) (λ p f. UnionFault Member MemberFault ms p f ⊎ DimensionsFault ms p f) → TellsBoth r (Mixed (union ms mode)) (MixedFault (union ms mode))
+mixed_told (Ok x) ms mode h = h
+mixed_told (Err f) ms mode h = h
+
+geometry_told : (r : Result CoordType LayoutFault) (ms : MemberTrees) (mode : UnionMode) → Tells r (λ c. HasMembers ms × AllMembers (AtCoord GeometryMember c) ms) (UnionFault GeometryMember GeometryMemberFault ms) → Tells r (Geometry (union ms mode)) (GeometryFault (union ms mode))
+geometry_told (Ok x) ms mode h = h
+geometry_told (Err f) ms mode h = h
 
 -- a union that stands below one list
 pub nested_union : (w : Option ListWidth) (levels : ℕ) (empty : Bool) (ids coords dims : ℕ) (fault geometry : Option LayoutFault) (u : Tree) (r : Answer) → levels ≡ 1
-    → IsBottom IsNested w levels (Union empty ids coords dims fault geometry) u → UnionSays empty fault coords dims r → Answers r (Mixed u)
+    → IsBottom IsNested w levels (Union empty ids coords dims fault geometry) u → UnionSays empty fault coords dims r → TellsBoth r (Mixed u) (MixedFault u)
 nested_union w levels empty ids coords dims fault geometry u r one h says =
-    at_bottom IsNested (λ x. Answers r (Mixed x)) w 1 (Union empty ids coords dims fault geometry) tt (λ x t b m z k. absurd k) (λ fs k. absurd k)
-    (λ ms mode k. mixed_from Member member_same (λ i t c d m. m) empty fault coords dims r ms says k.0 k.1.coord_bits k.1.dimension_bits k.1.faultless)
+    at_bottom IsNested (λ x. TellsBoth r (Mixed x) (MixedFault x)) w 1 (Union empty ids coords dims fault geometry) tt (λ x t b m z k. absurd k) (λ fs k. absurd k)
+    (λ ms mode k. mixed_told r ms mode (mixed_from Member member_same (λ i t c d m. m) empty fault coords dims r ms says k.0 k.1.coord_bits k.1.dimension_bits k.1.fault_found))
     u (subst (λ n. IsBottom IsNested w n (Union empty ids coords dims fault geometry) u) one h)
 
 -- a summary says less of unions
@@ -155,6 +171,13 @@ nested_no_leaf : (n : ℕ) (b : Bottom) (ms : MemberTrees) → IsNested n b ms �
 nested_no_leaf (suc n) (Union empty ids coords dims fault geometry) ms h = tt
 nested_no_leaf _ _ ms h = search
 
+-- of a union no bottom says that a list is there
+pub no_leaf_no_list : NoListAtUnion IsNoLeaf
+no_leaf_no_list n (Union empty ids coords dims fault geometry) ms h = refl
+no_leaf_no_list n Deep ms h = refl
+no_leaf_no_list n Other ms h = refl
+no_leaf_no_list n _ ms h = absurd h
+
 pub shows_of_inner : (s : Summary) (t : Tree) → ShowsInner s t → Shows s t
 shows_of_inner s t h = weaken IsNested IsNoLeaf nested_no_leaf s t h
 
@@ -165,17 +188,22 @@ union_nested _ _ ms h = search
 pub inner_of : (s : Summary) (t : Tree) → Summarizes s t → ShowsInner s t
 inner_of s t h = weaken IsUnion IsNested union_nested s t h
 
-pub shows_of : (s : Summary) (t : Tree) → Summarizes s t → Shows s t
-shows_of s t h = shows_of_inner s t (inner_of s t h)
-
 -- ---- one more member
 
-fault_added : (R : Reads) (fault more : Option LayoutFault) (part : Answer) (xs : Items) (x : ℤ × FieldTree) → Answers part (R x.0 x.1.tree) → ((more ≡ None) ↔ ((fault ≡ None) × SomeAnswer part))
-    → IsFaultOf R fault (member_trees xs) → IsFaultOf R more (member_trees (xs ++ (x ∷ [])))
-fault_added R fault more part xs x read next before = (
-  (λ e. let h = next.0 e in (all_both (Read R) xs (x ∷ [])).1 (before.0 h.0, ((h.1.0, h.1.1, (read h.1.0 h.1.1).0 h.1.2), tt))),
-  (λ all. let h = (all_both (Read R) xs (x ∷ [])).0 all in next.1 (before.1 h.0, (h.1.0.0, h.1.0.1, (read h.1.0.0 h.1.0.1).1 h.1.0.2))),
-)
+first_later : (R : Reads) (F : ℤ → Faults) (xs ys : Items) (p : Path) (f : LayoutFault) → FirstFault R F (member_trees xs) p f → FirstFault R F (member_trees (xs ++ ys)) p f
+first_later R F (x ∷ xs) ys (zero ∷ p) f h = h
+first_later R F (x ∷ xs) ys (suc j ∷ p) f h = (h.0, first_later R F xs ys (j ∷ p) f h.1)
+first_later R F _ ys _ f h = absurd h
+
+first_here : (R : Reads) (F : ℤ → Faults) (xs : Items) (x : ℤ × FieldTree) (p : Path) (f : LayoutFault) → AllMembers (Read R) (member_trees xs) → F x.0 x.1.tree p f → FirstFault R F (member_trees (xs ++ (x ∷ []))) (length xs ∷ p) f
+first_here R F [] x p f all h = h
+first_here R F (y ∷ xs) x p f all h = (all.0, first_here R F xs x p f all.1 h)
+
+fault_added : (R : Reads) (F : ℤ → Faults) (fault : Option LayoutFault) (part : Answer) (xs : Items) (x : ℤ × FieldTree) → TellsBoth part (R x.0 x.1.tree) (F x.0 x.1.tree)
+    → IsFaultOf R F fault (member_trees xs) → IsFaultOf R F (first_fault fault part) (member_trees (xs ++ (x ∷ [])))
+fault_added R F (Some g) part xs x read before = (before.0, first_later R F xs (x ∷ []) before.0 g before.1)
+fault_added R F None (Ok y) xs x read before = (all_both (Read R) xs (x ∷ [])).1 (before, ((y.0, y.1, read), tt))
+fault_added R F None (Err g) xs x read before = (length xs ∷ read.0, first_here R F xs x read.0 g before read.1)
 
 keyed_added : (K : Type 0) (place : K → ℕ) (S : K → ℤ → Tree → Type 0) (n more : ℕ) (A : ℕ → Type 0) (xs : Items) (x : ℤ × FieldTree) → AddsBits n A more
     → ((i : ℕ) → A i ↔ ((k : K) × (i ≡ place k) × S k x.0 x.1.tree)) → IsBits n (Keyed K place S (member_trees xs)) → IsBits more (Keyed K place S (member_trees (xs ++ (x ∷ []))))
@@ -188,12 +216,13 @@ keyed_added K place S n more A xs x adds is before =
 abbrev Ids : MemberTrees → ℕ → Type 0
 Ids ms i = (i < 64) × SomeMember (λ j t. j ≡ pos i) ms
 
-pub seen_more : (R : Reads) (ids ids2 coords coords2 dims dims2 : ℕ) (fault fault2 : Option LayoutFault) (part : Answer) (xs : Items) (k : ℕ) (x : ℤ × FieldTree) → k < length xs → x ≡ get_or xs k x
-    → Answers part (R x.0 x.1.tree) → AddsBits ids (λ i. (i < 64) × (x.0 ≡ pos i)) ids2 → AddsBits coords (CoordOf part) coords2 → AddsBits dims (DimensionOf part) dims2
-    → ((fault2 ≡ None) ↔ ((fault ≡ None) × SomeAnswer part)) → Seen R ids coords dims fault (member_trees (take k xs)) → Seen R ids2 coords2 dims2 fault2 (member_trees (take (k + 1) xs))
-seen_more R ids ids2 coords coords2 dims dims2 fault fault2 part all k x lt at read add_id add_coord add_dim next before =
+pub seen_more : (R : Reads) (F : ℤ → Faults) → OneReading R → ApartMember R F → (ids ids2 coords coords2 dims dims2 : ℕ) (fault fault2 : Option LayoutFault) (part : Answer) (xs : Items) (k : ℕ) (x : ℤ × FieldTree) → k < length xs → x ≡ get_or xs k x
+    → TellsBoth part (R x.0 x.1.tree) (F x.0 x.1.tree) → AddsBits ids (λ i. (i < 64) × (x.0 ≡ pos i)) ids2 → AddsBits coords (CoordOf part) coords2 → AddsBits dims (DimensionOf part) dims2
+    → fault2 ≡ first_fault fault part → Seen R F ids coords dims fault (member_trees (take k xs)) → Seen R F ids2 coords2 dims2 fault2 (member_trees (take (k + 1) xs))
+seen_more R F one apart ids ids2 coords coords2 dims dims2 fault fault2 part all k x lt at told add_id add_coord add_dim next before =
     let xs = take k all in
-    subst (λ ys. Seen R ids2 coords2 dims2 fault2 (member_trees ys)) (sym (one_more all k x lt at)) record {
+    let read : Answers part (R x.0 x.1.tree) = exactly part (R x.0 x.1.tree) (F x.0 x.1.tree) (one x.0 x.1.tree) (apart x.0 x.1.tree) told in
+    subst (λ ys. Seen R F ids2 coords2 dims2 fault2 (member_trees ys)) (sym (one_more all k x lt at)) record {
       id_bits = bits_added ids ids2 (λ i. (i < 64) × (x.0 ≡ pos i)) (Ids (member_trees xs)) (Ids (member_trees (xs ++ (x ∷ [])))) add_id (λ i. let is = some_more (λ j t. j ≡ pos i) xs x in (
         (λ q. elim (is.0 q.1) [ inl s ↦ inl (q.0, s) | inr s ↦ inr (q.0, s) ]),
         (λ h. elim h [ inl p ↦ (p.0, is.1 (inl p.1)) | inr a ↦ (a.0, is.1 (inr a.1)) ]),
@@ -202,24 +231,25 @@ seen_more R ids ids2 coords coords2 dims dims2 fault fault2 part all k x lt at r
           (λ i. ((λ a. (a.0, a.1, (a.2, (read a.0 a.2).0 a.3))), (λ p. (p.0, p.1, p.2.0, (read p.0 p.2.0).1 p.2.1)))) before.coord_bits;
       dimension_bits = keyed_added Dimension order_of (AtDimension R) dims dims2 (DimensionOf part) xs x add_dim
           (λ i. ((λ a. (a.0, a.1, (a.2, (read a.2 a.0).0 a.3))), (λ p. (p.0, p.1, p.2.0, (read p.2.0 p.0).1 p.2.1)))) before.dimension_bits;
-      faultless = fault_added R fault fault2 part xs x read next before.faultless;
+      fault_found = subst (λ o. IsFaultOf R F o (member_trees (xs ++ (x ∷ [])))) (sym next) (fault_added R F fault part xs x told before.fault_found);
     }
 
-pub seen_none : (R : Reads) → Seen R 0 0 0 None no_members
-seen_none R = record {
+pub seen_none : (R : Reads) (F : ℤ → Faults) → Seen R F 0 0 0 None no_members
+seen_none R F = record {
   id_bits = no_bits (Ids no_members) (λ i h. h.1);
   coord_bits = no_bits (Keyed CoordType place_of (AtCoord R) no_members) (λ i h. h.2);
   dimension_bits = no_bits (Keyed Dimension order_of (AtDimension R) no_members) (λ i h. h.2);
-  faultless = (λ e. tt, λ e. refl);
+  fault_found = tt;
 }
 
 pub has_members : (xs : Items) (empty : Bool) → empty ≡ nat_eq (length xs) 0 → (empty ≡ false) ↔ HasMembers (member_trees xs)
 has_members [] empty h = (λ e. let bad : true ≡ false = sym h ∙ e in cc, λ m. absurd m)
 has_members (y ∷ ys) empty h = (λ e. tt, λ m. let z : nat_eq (suc (length ys)) 0 ≡ false = eqb-suc-zero (length ys) in h ∙ z)
 
-pub fault_next : (R : Reads) (fault more : Option LayoutFault) (part : Answer) (xs : Items) (k : ℕ) (x : ℤ × FieldTree) → k < length xs → x ≡ get_or xs k x
-    → Answers part (R x.0 x.1.tree) → ((more ≡ None) ↔ ((fault ≡ None) × SomeAnswer part)) → IsFaultOf R fault (member_trees (take k xs)) → IsFaultOf R more (member_trees (take (k + 1) xs))
-fault_next R fault more part xs k x lt at read next before = subst (λ ys. IsFaultOf R more (member_trees ys)) (sym (one_more xs k x lt at)) (fault_added R fault more part (take k xs) x read next before)
+pub fault_next : (R : Reads) (F : ℤ → Faults) (fault more : Option LayoutFault) (part : Answer) (xs : Items) (k : ℕ) (x : ℤ × FieldTree) → k < length xs → x ≡ get_or xs k x
+    → TellsBoth part (R x.0 x.1.tree) (F x.0 x.1.tree) → more ≡ first_fault fault part → IsFaultOf R F fault (member_trees (take k xs)) → IsFaultOf R F more (member_trees (take (k + 1) xs))
+fault_next R F fault more part xs k x lt at read next before =
+    subst (λ ys. IsFaultOf R F more (member_trees ys)) (sym (one_more xs k x lt at)) (subst (λ o. IsFaultOf R F o (member_trees (take k xs ++ (x ∷ [])))) (sym next) (fault_added R F fault part (take k xs) x read before))
 
 -- ---- the root
 
@@ -230,23 +260,17 @@ levels_none (Some w) n t u h z = absurd (omega (arith, h.0))
 pub at_root : (s : Summary) (b : Bottom) (t : Tree) → s.levels ≡ 0 → s.bottom ≡ b → Summarizes s t → IsBottom IsUnion s.width 0 b t
 at_root s b t none is h = subst (λ u. IsBottom IsUnion s.width 0 b u) (sym (levels_none s.width s.levels t h.0 h.1 none)) (rw (← none, ← is) h.2)
 
-pub below_root : (s : Summary) (t : Tree) → 0 < s.levels → Summarizes s t → NotList t → ⊥
-below_root s t some h apart = not_less s.width s.levels 0 t h.0 t h.1 some (Lists, refl) apart
-
-pub mixed_below : (s : Summary) (f : LayoutFault) (t : Tree) → 0 < s.levels → Summarizes s t → Answers (Err f) (Mixed t)
-mixed_below s f t some h = refuses f (Mixed t) (λ c d m. below_root s t some h (mixed_apart t c d m))
-
-pub geometry_below : (s : Summary) (f : LayoutFault) (t : Tree) → 0 < s.levels → Summarizes s t → AnswersOne (Err f) (Geometry t)
-geometry_below s f t some h = refuses_one f (Geometry t) (λ c g. below_root s t some h (not_list (λ x. Geometry x c) (λ n x b m p. p) (λ n x b m p. p) t g))
+pub below_root : (F : Faults) → RefusesLists F → (s : Summary) (t : Tree) → 0 < s.levels → Summarizes s t → HasFault (F t) UnexpectedType
+below_root F refuses s t some h = ([], refuses t (listed s.width s.levels t h.0 some h.1))
 
 pub root_mixed : (w : Option ListWidth) (empty : Bool) (ids coords dims : ℕ) (fault geometry : Option LayoutFault) (u : Tree) (r : Answer)
-    → IsBottom IsUnion w 0 (Union empty ids coords dims fault geometry) u → UnionSays empty fault coords dims r → Answers r (Mixed u)
+    → IsBottom IsUnion w 0 (Union empty ids coords dims fault geometry) u → UnionSays empty fault coords dims r → TellsBoth r (Mixed u) (MixedFault u)
 root_mixed w empty ids coords dims fault geometry u r k says =
-    at_bottom IsUnion (λ x. Answers r (Mixed x)) w 0 (Union empty ids coords dims fault geometry) tt (λ x t b m z h. absurd h) (λ fs h. absurd h)
-    (λ ms mode h. mixed_from GeometryMember geometry_part_same (λ i t c d m. inl m) empty fault coords dims r ms says h.0 h.1.coord_bits h.1.dimension_bits h.2) u k
+    at_bottom IsUnion (λ x. TellsBoth r (Mixed x) (MixedFault x)) w 0 (Union empty ids coords dims fault geometry) tt (λ x t b m z h. absurd h) (λ fs h. absurd h)
+    (λ ms mode h. mixed_told r ms mode (mixed_from GeometryMember geometry_part_same (λ i t c d m. inl m) empty fault coords dims r ms says h.0 h.1.coord_bits h.1.dimension_bits h.2)) u k
 
 pub root_geometry : (w : Option ListWidth) (empty : Bool) (ids coords dims : ℕ) (fault geometry : Option LayoutFault) (u : Tree) (r : Result CoordType LayoutFault)
-    → IsBottom IsUnion w 0 (Union empty ids coords dims fault geometry) u → UnionSaysOne empty geometry coords r → AnswersOne r (Geometry u)
+    → IsBottom IsUnion w 0 (Union empty ids coords dims fault geometry) u → UnionSaysOne empty geometry coords r → Tells r (Geometry u) (GeometryFault u)
 root_geometry w empty ids coords dims fault geometry u r k says =
-    at_bottom IsUnion (λ x. AnswersOne r (Geometry x)) w 0 (Union empty ids coords dims fault geometry) tt (λ x t b m z h. absurd h) (λ fs h. absurd h)
-    (λ ms mode h. one_from GeometryMember geometry_part_same empty geometry coords r ms says h.0 h.1.coord_bits h.1.faultless) u k
+    at_bottom IsUnion (λ x. Tells r (Geometry x) (GeometryFault x)) w 0 (Union empty ids coords dims fault geometry) tt (λ x t b m z h. absurd h) (λ fs h. absurd h)
+    (λ ms mode h. geometry_told r ms mode (one_from GeometryMember geometry_part_same GeometryMemberFault empty geometry coords r ms says h.0 h.1.coord_bits h.1.fault_found)) u k

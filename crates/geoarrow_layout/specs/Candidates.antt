@@ -1,6 +1,6 @@
 -- The extension names under which a data type can be read.
-use Rattle.std.specs.Prelude.{◌≡◌, ◌⊎◌}
-use Rattle.arrow_values.specs.Tree.{Text, Tree}
+use Rattle.std.specs.Prelude.{◌≡◌, ◌⊎◌, length}
+use Rattle.arrow_values.specs.Tree.{Text, Tree, struct}
 use Rattle.geoarrow_layout.specs.declared.encodings.NativeKind.{NativeKind}
 use Rattle.geoarrow_layout.specs.declared.encodings.NativeKind.TheVariants.{Point, LineString, Polygon, MultiPoint, MultiLineString}
 use Rattle.geoarrow_layout.specs.declared.encodings.Kind.{Kind}
@@ -10,7 +10,7 @@ use Rattle.geoarrow_layout.specs.declared.candidate_names.Candidates.{Candidates
 use Rattle.geoarrow_layout.specs.declared.candidate_names.Candidates.TheVariants.{None, One, LineStringOrMultiPoint, PolygonOrMultiLineString, PointOrBox}
 use Rattle.geoarrow_layout.specs.declared.names.ExtensionName.TheVariants as names
 use Rattle.geoarrow_layout.specs.Kinds.{name_text}
-use Rattle.geoarrow_layout.specs.Shapes.{Native, Geometry, BoxShape, Accepts, IsStructured}
+use Rattle.geoarrow_layout.specs.Shapes.{names_of, Native, Geometry, BoxShape, Accepts, IsStructured}
 
 -- the name is one of the candidates
 abbrev pub Holds : Candidates → Text → Type 0
@@ -48,3 +48,15 @@ IsGeometry t = (c : CoordType) × Geometry t c
 -- the data type is a box, in some dimension
 abbrev pub IsBox : Tree → Type 0
 IsBox t = (d : Dimension) × BoxShape t d
+
+-- the data type is a struct of four fields
+abbrev pub IsStructOfFour : Tree → Type 0
+IsStructOfFour (struct fs) = length (names_of fs) ≡ 4
+IsStructOfFour _ = ⊥
+
+-- the two names that share the data type: those of line strings and multipoints, those of polygons and multilinestrings, and of a struct of four fields those of points and boxes
+abbrev pub Share : Tree → Text → Text → Type 0
+Share t a b =
+    ((a ≡ name_text (names.Native LineString)) × (b ≡ name_text (names.Native MultiPoint)))
+    ⊎ (((a ≡ name_text (names.Native Polygon)) × (b ≡ name_text (names.Native MultiLineString)))
+    ⊎ ((a ≡ name_text (names.Native Point)) × (b ≡ name_text names.Rect) × IsStructOfFour t))

@@ -11,3 +11,4 @@ pub mod Changes
 pub mod Candidates
 pub mod Bare
 pub mod OneShape
+pub mod FaultAt

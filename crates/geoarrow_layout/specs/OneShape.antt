@@ -126,7 +126,7 @@ offset_same k l h = absurd (omega arith)
 pos_same : (m n : ℕ) → pos m ≡ pos n → m ≡ n
 pos_same m n h = cc
 
-id_same : (i : ℤ) (k l : NativeKind) (d e : Dimension) → i ≡ pos (type_id_of k d) → i ≡ pos (type_id_of l e) → (k ≡ l) × (d ≡ e)
+pub id_same : (i : ℤ) (k l : NativeKind) (d e : Dimension) → i ≡ pos (type_id_of k d) → i ≡ pos (type_id_of l e) → (k ≡ l) × (d ≡ e)
 id_same i k l d e h g =
     let n : 10 * order_of d + offset_of k ≡ 10 * order_of e + offset_of l = pos_same _ _ (sym h ∙ g) in
     let one : order_of d ≡ order_of e = omega (arith, offset_small k, offset_small l) in
@@ -140,7 +140,7 @@ LeafUnder n t c d = (u : Tree) × Levels t n u × Leaf u c d
 leaf_under_same : (n : ℕ) (t : Tree) (c b : CoordType) (d e : Dimension) → LeafUnder n t c d → LeafUnder n t b e → (c ≡ b) × (d ≡ e)
 leaf_under_same n t c b d e h k = leaf_same k.0 c b d e (subst (λ x. Leaf x c d) (levels_same n t h.0 k.0 h.1 k.1) h.2) k.2
 
-native_same : (k : NativeKind) (t : Tree) (c b : CoordType) (d e : Dimension) → OverLeaf t k c d → OverLeaf t k b e → (c ≡ b) × (d ≡ e)
+pub native_same : (k : NativeKind) (t : Tree) (c b : CoordType) (d e : Dimension) → OverLeaf t k c d → OverLeaf t k b e → (c ≡ b) × (d ≡ e)
 native_same GeometryCollection t c b d e h g = absurd h
 native_same Point t c b d e h g = leaf_under_same 0 t c b d e h g
 native_same LineString t c b d e h g = leaf_under_same 1 t c b d e h g

@@ -1,5 +1,5 @@
 -- What a summary says of its data type.
-use Rattle.std.specs.Prelude.{ℕ, zero, suc, ℤ, pos, ◌≡◌, ◌↔◌, ◌<◌, ◌≤◌, ◌⊎◌, false, cond, Option, Some, None, List, [], ◌∷◌, length, codes}
+use Rattle.std.specs.Prelude.{ℕ, zero, suc, ℤ, pos, ◌≡◌, ◌↔◌, ◌<◌, ◌≤◌, ◌⊎◌, false, cond, Option, Some, None, MatchOption, List, [], ◌∷◌, length, codes}
 use Rattle.std.specs.Int.{bit_at}
 use Rattle.std.specs.Str.{bytes_eq}
 use Rattle.arrow_values.specs.Tree.{Text, Tree, plain, list, large_list, fixed_size_list, struct, union, FieldTrees, MemberTrees}
@@ -16,6 +16,7 @@ use Rattle.geoarrow_layout.specs.declared.summary.Summary.{Summary}
 use Rattle.geoarrow_layout.specs.Kinds.{interleaved_name, order_of}
 use Rattle.geoarrow_layout.specs.Shapes.{names_of, ListsOver, Member, GeometryMember, HasMembers, AllMembers, SomeMember}
 use Rattle.geoarrow_layout.specs.Inferred.{is_float64, are_float64}
+use Rattle.geoarrow_layout.specs.FaultAt.{Faults, HasFault, FirstFault, MemberFault, GeometryMemberFault}
 
 -- bit i of the number, counted from the lowest, is set exactly if P holds for i
 unfoldable pub IsBits : ℕ → (ℕ → Type 0) → Type 0
@@ -50,28 +51,28 @@ abbrev pub IsStruct : Bottom → FieldTrees → Type 0
 IsStruct (Struct count names all_floats) fs = (count ≡ length (names_of fs)) × IsBits names (λ i. SomeAt i (names_of fs)) × (all_floats ≡ are_float64 fs)
 IsStruct _ fs = ⊥
 
--- there is no fault exactly if R holds for every member, in some coordinate type and dimension
-abbrev pub IsFaultOf : (ℤ → Tree → CoordType → Dimension → Type 0) → Option LayoutFault → MemberTrees → Type 0
-IsFaultOf R fault ms = (fault ≡ None) ↔ AllMembers (λ j t. (c : CoordType) × (d : Dimension) × R j t c d) ms
+-- there is no fault where R holds for every member, in some coordinate type and dimension; otherwise it is that of the first member at fault
+abbrev pub IsFaultOf : (ℤ → Tree → CoordType → Dimension → Type 0) → (ℤ → Faults) → Option LayoutFault → MemberTrees → Type 0
+IsFaultOf R F fault ms = MatchOption fault (AllMembers (λ i t. (c : CoordType) × (d : Dimension) × R i t c d) ms) (HasFault (FirstFault R F ms))
 
--- what the walk finds of members that are tried by R: their type ids below 64, and the coordinate types and dimensions
--- of those for which R holds
-pub record Seen (R : ℤ → Tree → CoordType → Dimension → Type 0) (ids coord_types dimensions : ℕ) (fault : Option LayoutFault) (ms : MemberTrees) : Type 0 where
+-- what the walk finds of members that are tried by R: their type ids below 64, the coordinate types and dimensions of
+-- those for which R holds, and the fault of the first of the others, as F says it
+pub record Seen (R : ℤ → Tree → CoordType → Dimension → Type 0) (F : ℤ → Faults) (ids coord_types dimensions : ℕ) (fault : Option LayoutFault) (ms : MemberTrees) : Type 0 where
   pub id_bits : IsBits ids (λ i. (i < 64) × SomeMember (λ j t. j ≡ pos i) ms)
   pub coord_bits : IsBits coord_types (λ i. (c : CoordType) × (i ≡ place_of c) × SomeMember (λ j t. (d : Dimension) × R j t c d) ms)
   pub dimension_bits : IsBits dimensions (λ i. (d : Dimension) × (i ≡ order_of d) × SomeMember (λ j t. (c : CoordType) × R j t c d) ms)
-  pub faultless : IsFaultOf R fault ms
+  pub fault_found : IsFaultOf R F fault ms
 
 -- the bottom describes a union that is the whole data type; its members are tried as those of a geometry
 abbrev pub IsRootUnion : Bottom → MemberTrees → Type 0
 IsRootUnion (Union empty ids coord_types dimensions mixed_fault geometry_fault) ms =
-    ((empty ≡ false) ↔ HasMembers ms) × Seen GeometryMember ids coord_types dimensions geometry_fault ms × IsFaultOf Member mixed_fault ms
+    ((empty ≡ false) ↔ HasMembers ms) × Seen GeometryMember GeometryMemberFault ids coord_types dimensions geometry_fault ms × IsFaultOf Member MemberFault mixed_fault ms
 IsRootUnion _ ms = ⊥
 
 -- the bottom describes a union below lists; its members are tried as those of a collection
 abbrev pub IsInnerUnion : Bottom → MemberTrees → Type 0
 IsInnerUnion (Union empty ids coord_types dimensions mixed_fault geometry_fault) ms =
-    ((empty ≡ false) ↔ HasMembers ms) × Seen Member ids coord_types dimensions mixed_fault ms × (geometry_fault ≡ Some UnexpectedType)
+    ((empty ≡ false) ↔ HasMembers ms) × Seen Member MemberFault ids coord_types dimensions mixed_fault ms × (geometry_fault ≡ Some UnexpectedType)
 IsInnerUnion _ ms = ⊥
 
 -- the bottom describes a union below that many lists

@@ -46,7 +46,7 @@ fn native_kind(kind: NativeKind, summary: &Summary) -> Option<Kind>
 }
 
 /// The kind under the name of unions of geometries.
-#[tactic(auto, using(crate::proofs::KindSteps::kind_some, crate::proofs::KindSteps::geometry_none))]
+#[tactic(auto, using(crate::proofs::KindSteps::geometry_none))]
 fn geometry_kind(summary: &Summary) -> Option<Kind>
     ensures exact { (t : Tree) → Summarizes summary.now t → AnswersKind (name_text names.Geometry) t result }
     ensures named { IfSome result (λ k. (name_text names.Geometry ≡ name_of k) × IsStructured k) }

@@ -10,6 +10,7 @@ mod changes;
 mod encodings;
 mod equality_laws;
 mod fault;
+mod find;
 mod ids;
 mod infer;
 mod kinds;
@@ -39,6 +40,7 @@ pub use equality_laws::{
     summary_equality_is_exact, width_equality_is_exact,
 };
 pub use fault::LayoutFault;
+pub use find::{child_field, find_fault};
 pub use infer::infer_point;
 pub use kinds::{CoordType, Dimension};
 pub use laws::{
@@ -55,8 +57,9 @@ pub use parse::{
 };
 pub use summary::{Bottom, ListWidth, Summary};
 pub use tree_laws::{
-    alike_are_one_kind, alike_both_ways, alike_in_turn, alike_to_itself, layouts_are_distinct,
-    parts_are_alike,
+    accepted_or_at_fault, alike_are_one_kind, alike_both_ways, alike_in_turn, alike_to_itself,
+    kinds_are_listed_once, layouts_are_distinct, no_fault_if_accepted, one_fault,
+    order_does_not_matter, parts_are_alike, two_names_at_most,
 };
 pub use walk::summarize;
 pub use written_kinds::written_kind;

@@ -95,7 +95,7 @@ fn is_native(kind: NativeKind, summary: &Summary) -> bool
 }
 
 /// Whether the summary is of geometries of any kind.
-#[tactic(auto, using(crate::proofs::NamesSteps::some_one))]
+#[tactic(auto, using(crate::proofs::NamesSteps::geometry_ok))]
 fn is_geometry(summary: &Summary) -> bool
     ensures { (t : Tree) → Summarizes summary.now t → IsTrue result ↔ IsGeometry t }
 {
@@ -103,7 +103,7 @@ fn is_geometry(summary: &Summary) -> bool
 }
 
 /// Whether the summary is of a box.
-#[tactic(auto, using(crate::proofs::NamesSteps::some_one))]
+#[tactic(auto, using(crate::proofs::NamesSteps::box_ok))]
 fn is_box(summary: &Summary) -> bool
     ensures { (t : Tree) → Summarizes summary.now t → IsTrue result ↔ IsBox t }
 {

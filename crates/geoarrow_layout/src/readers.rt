@@ -1,12 +1,13 @@
 //! Layouts read from a summary, with the faults in the order that each reader defines.
-ghost use Rattle.std.specs.Prelude.{◌≡◌, ◌≤◌, ◌<◌, ◌↔◌, ◌^◌, Some, Ok, ℕ, List, Option, length, ◌&&◌};
+ghost use Rattle.std.specs.Prelude.{◌≡◌, ◌≤◌, ◌<◌, ◌↔◌, ◌^◌, Some, Ok, ℕ, List, Option, length, ◌&&◌, MatchResult};
 ghost use Rattle.arrow_values.specs.Tree.{Tree, Text};
 ghost use Rattle.geoarrow_layout.specs.declared.summary.ListWidth.{ListWidth};
 ghost use Rattle.geoarrow_layout.specs.Kinds.{order_of};
-ghost use Rattle.geoarrow_layout.specs.Shapes.{Leaf, IsSeparatedAs, Answers, AnswersOne, OverLeaf, Member, GeometryMember, Collection, Mixed, Geometry, BoxShape, IsBoxAs, Native};
+ghost use Rattle.geoarrow_layout.specs.Shapes.{Leaf, IsSeparatedAs, OverLeaf, Member, GeometryMember, Collection, Mixed, Geometry, BoxShape, IsBoxAs, Native};
 ghost use Rattle.geoarrow_layout.specs.OneShape.{LeafUnder};
 ghost use Rattle.geoarrow_layout.specs.Summary.{place_of, IsBits, SomeAt, IsBottom, Summarizes};
-ghost use Rattle.geoarrow_layout.specs.Steps.{IsNoLeaf, Shows, ShowsInner, UnionSays, UnionSaysOne, has_bit};
+ghost use Rattle.geoarrow_layout.specs.FaultAt.{SeparatedFault, CoordinateFault, BoxNamesFault, BoxFault, ListsFault, OverLeafFault, MemberFault, MixedFault, NativeFault, GeometryMemberFault, GeometryFault};
+ghost use Rattle.geoarrow_layout.specs.Steps.{IsNoLeaf, Shows, ShowsInner, Tells, TellsBoth, missing_fault, IsOtherFault, UnionSays, UnionSaysOne, has_bit};
 
 use crate::bits::has_bit;
 use crate::build::list_size;
@@ -19,7 +20,7 @@ use crate::summary::{Bottom, Summary};
 /// The dimension that the fields of a struct say.
 #[tactic(auto, using(crate::proofs::Structs::with_z, crate::proofs::Structs::with_m))]
 fn separated_dimension(count: usize, names: u16) -> Result<Dimension, LayoutFault>
-    ensures { (ns : List Text) → count ≡ length ns → IsBits names (λ i. SomeAt i ns) → AnswersOne result (λ d. IsSeparatedAs d ns) }
+    ensures { (ns : List Text) → count ≡ length ns → IsBits names (λ i. SomeAt i ns) → Tells result (λ d. IsSeparatedAs d ns) (SeparatedFault ns) }
 {
     match count {
         2 => Ok(Dimension::XY),
@@ -45,7 +46,7 @@ fn separated_dimension(count: usize, names: u16) -> Result<Dimension, LayoutFaul
 
 /// A coordinate.
 fn leaf(bottom: &Bottom) -> Result<(CoordType, Dimension), LayoutFault>
-    ensures { (w : Option ListWidth) (levels : ℕ) (u : Tree) → IsBottom IsNoLeaf w levels bottom.now u → Answers result (Leaf u) }
+    ensures { (w : Option ListWidth) (levels : ℕ) (u : Tree) → IsBottom IsNoLeaf w levels bottom.now u → TellsBoth result (Leaf u) (CoordinateFault u) }
 {
     match bottom {
         Bottom::FixedSizeList {
@@ -75,7 +76,9 @@ fn leaf(bottom: &Bottom) -> Result<(CoordType, Dimension), LayoutFault>
 }
 
 /// The fault of a data type with too few list levels.
-fn missing_level(bottom: &Bottom) -> LayoutFault {
+fn missing_level(bottom: &Bottom) -> LayoutFault
+    ensures { result ≡ missing_fault bottom.now }
+{
     match bottom {
         Bottom::OtherWidth => LayoutFault::MixedWidths,
         _ => LayoutFault::UnexpectedType,
@@ -85,7 +88,7 @@ fn missing_level(bottom: &Bottom) -> LayoutFault {
 /// So many lists over a coordinate.
 fn leaf_under(summary: &Summary, levels: u8) -> Result<(CoordType, Dimension), LayoutFault>
     requires { levels ≤ 3 }
-    ensures { (t : Tree) → Shows summary.now t → Answers result (LeafUnder levels t) }
+    ensures { (t : Tree) → Shows summary.now t → TellsBoth result (LeafUnder levels t) (ListsFault CoordinateFault levels t) }
 {
     if summary.levels < levels {
         return Err(missing_level(&summary.bottom));
@@ -101,7 +104,7 @@ pub(crate) fn native(
     kind: NativeKind,
     summary: &Summary,
 ) -> Result<(CoordType, Dimension), LayoutFault>
-    ensures { (t : Tree) → Shows summary.now t → Answers result (OverLeaf t kind) }
+    ensures { (t : Tree) → Shows summary.now t → TellsBoth result (OverLeaf t kind) (OverLeafFault kind t) }
 {
     match kind {
         NativeKind::Point => leaf_under(summary, 0),
@@ -120,7 +123,7 @@ fn of_dimension(
     dimension: Dimension,
     read: Result<(CoordType, Dimension), LayoutFault>,
 ) -> Result<(CoordType, Dimension), LayoutFault>
-    ensures { (c : CoordType) (d : Dimension) → (result ≡ Ok (c, d)) ↔ ((read ≡ Ok (c, d)) × (d ≡ dimension)) }
+    ensures { MatchResult result (λ x. (read ≡ Ok x) × (x.1 ≡ dimension)) (IsOtherFault read dimension) }
 {
     match read {
         Ok(pair) if pair.1 == dimension => Ok(pair),
@@ -131,7 +134,7 @@ fn of_dimension(
 
 /// A member of a union in a collection.
 pub(crate) fn member(id: i8, summary: &Summary) -> Result<(CoordType, Dimension), LayoutFault>
-    ensures { (t : Tree) → Shows summary.now t → Answers result (Member id t) }
+    ensures { (t : Tree) → Shows summary.now t → TellsBoth result (Member id t) (MemberFault id t) }
 {
     let Some((kind, dimension)) = parts_of_id(id) else {
         return Err(LayoutFault::BadTypeId);
@@ -201,7 +204,7 @@ fn both_of_union(
 
 /// A list over a union of members of one coordinate type and dimension.
 fn collection(summary: &Summary) -> Result<(CoordType, Dimension), LayoutFault>
-    ensures { (t : Tree) → ShowsInner summary.now t → Answers result (Collection t) }
+    ensures { (t : Tree) → ShowsInner summary.now t → TellsBoth result (Collection t) (ListsFault MixedFault 1 t) }
 {
     if summary.levels < 1 {
         return Err(missing_level(&summary.bottom));
@@ -227,7 +230,7 @@ pub(crate) fn any_native(
     kind: NativeKind,
     summary: &Summary,
 ) -> Result<(CoordType, Dimension), LayoutFault>
-    ensures { (t : Tree) → ShowsInner summary.now t → Answers result (Native t kind) }
+    ensures { (t : Tree) → ShowsInner summary.now t → TellsBoth result (Native t kind) (NativeFault kind t) }
 {
     match kind {
         NativeKind::GeometryCollection => collection(summary),
@@ -240,7 +243,7 @@ pub(crate) fn geometry_part(
     id: i8,
     summary: &Summary,
 ) -> Result<(CoordType, Dimension), LayoutFault>
-    ensures { (t : Tree) → ShowsInner summary.now t → Answers result (GeometryMember id t) }
+    ensures { (t : Tree) → ShowsInner summary.now t → TellsBoth result (GeometryMember id t) (GeometryMemberFault id t) }
 {
     let Some((kind, dimension)) = parts_of_id(id) else {
         return Err(LayoutFault::BadTypeId);
@@ -250,7 +253,7 @@ pub(crate) fn geometry_part(
 
 /// A union of members of one coordinate type and dimension.
 pub(crate) fn mixed(summary: &Summary) -> Result<(CoordType, Dimension), LayoutFault>
-    ensures { (t : Tree) → Summarizes summary.now t → Answers result (Mixed t) }
+    ensures { (t : Tree) → Summarizes summary.now t → TellsBoth result (Mixed t) (MixedFault t) }
 {
     if 0 < summary.levels {
         return Err(LayoutFault::UnexpectedType);
@@ -270,7 +273,7 @@ pub(crate) fn mixed(summary: &Summary) -> Result<(CoordType, Dimension), LayoutF
 
 /// A union of members of one coordinate type.
 pub(crate) fn geometry(summary: &Summary) -> Result<CoordType, LayoutFault>
-    ensures { (t : Tree) → Summarizes summary.now t → AnswersOne result (Geometry t) }
+    ensures { (t : Tree) → Summarizes summary.now t → Tells result (Geometry t) (GeometryFault t) }
 {
     if 0 < summary.levels {
         return Err(LayoutFault::UnexpectedType);
@@ -300,7 +303,7 @@ pub(crate) fn has_both(bits: u16, i: u8, j: u8) -> bool
 /// The dimension that the fields of a box say.
 #[tactic(auto, using(crate::proofs::Structs::box_with_m, crate::proofs::Structs::box_with_z))]
 fn box_dimension(count: usize, names: u16) -> Result<Dimension, LayoutFault>
-    ensures { (ns : List Text) → count ≡ length ns → IsBits names (λ i. SomeAt i ns) → AnswersOne result (λ d. IsBoxAs d ns) }
+    ensures { (ns : List Text) → count ≡ length ns → IsBits names (λ i. SomeAt i ns) → Tells result (λ d. IsBoxAs d ns) (BoxNamesFault ns) }
 {
     match count {
         4 => Ok(Dimension::XY),
@@ -320,7 +323,7 @@ fn box_dimension(count: usize, names: u16) -> Result<Dimension, LayoutFault>
 
 /// A box.
 pub(crate) fn boxed(summary: &Summary) -> Result<Dimension, LayoutFault>
-    ensures { (t : Tree) → Summarizes summary.now t → AnswersOne result (BoxShape t) }
+    ensures { (t : Tree) → Summarizes summary.now t → Tells result (BoxShape t) (BoxFault t) }
 {
     if 0 < summary.levels {
         return Err(LayoutFault::UnexpectedType);

@@ -1,8 +1,8 @@
 //! One walk over a data type.
-ghost use Rattle.std.specs.Prelude.{◌≡◌, ◌<◌, ◌↔◌, pos, None};
+ghost use Rattle.std.specs.Prelude.{◌≡◌, ◌<◌, pos, None};
 ghost use Rattle.arrow_values.specs.View.{tree, member_trees};
 ghost use Rattle.geoarrow_layout.specs.Summary.{place_of, IsInnerUnion, IsRootUnion, Summarizes};
-ghost use Rattle.geoarrow_layout.specs.Steps.{AddsBits, CoordOf, DimensionOf, SomeAnswer, Shows, ShowsInner};
+ghost use Rattle.geoarrow_layout.specs.Steps.{AddsBits, CoordOf, DimensionOf, first_fault, Shows, ShowsInner};
 
 use crate::bits::{with_bit_u8, with_bit_u64};
 use crate::fault::LayoutFault;
@@ -62,7 +62,7 @@ fn first_fault(
     fault: Option<LayoutFault>,
     part: &Result<(CoordType, Dimension), LayoutFault>,
 ) -> Option<LayoutFault>
-    ensures { (result ≡ None) ↔ ((fault ≡ None) × SomeAnswer part.now) }
+    ensures { result ≡ first_fault fault part.now }
 {
     match (fault, part) {
         (Some(fault), _) => Some(fault),
@@ -85,7 +85,7 @@ fn with_member(seen: Members, id: i8, part: &Result<(CoordType, Dimension), Layo
     ensures ids { AddsBits seen.ids (λ i. (i < 64) × (id ≡ pos i)) result.ids }
     ensures coord_types { AddsBits seen.coord_types (CoordOf part.now) result.coord_types }
     ensures dimensions { AddsBits seen.dimensions (DimensionOf part.now) result.dimensions }
-    ensures fault { (result.fault ≡ None) ↔ ((seen.fault ≡ None) × SomeAnswer part.now) }
+    ensures fault { result.fault ≡ first_fault seen.fault part.now }
 {
     Members {
         ids: with_id(seen.ids, id),
@@ -108,7 +108,7 @@ fn no_members() -> Members
 }
 
 /// The summary of a data type in which no union is entered.
-fn leaf_summary(data_type: &DataType) -> Summary
+pub(crate) fn leaf_summary(data_type: &DataType) -> Summary
     ensures { Shows result (tree data_type.now) }
 {
     let below = below_lists(data_type);
@@ -140,7 +140,7 @@ fn inner_union(members: &[(i8, Field)]) -> Bottom
 }
 
 /// The summary of a member: a union below a list is entered.
-fn nested_summary(data_type: &DataType) -> Summary
+pub(crate) fn nested_summary(data_type: &DataType) -> Summary
     ensures { ShowsInner result (tree data_type.now) }
 {
     let below = below_lists(data_type);

@@ -1,0 +1,273 @@
+-- A data type has one fault at most under a name, and none if it is accepted.
+use Rattle.std.proofs.Common.{◌≡◌, ◌≢◌, ◌*◌, Bool, inl, inr, ℕ, zero, suc, ℤ, pos, List, [], ◌∷◌, length, sym, ap, subst, ◌∙◌, ◌⊎◌}
+use Rattle.arrow_values.specs.Tree.{Text, Metadata, Tree, list, large_list, fixed_size_list, struct, union, MemberTrees, no_members, member}
+use Rattle.geoarrow_layout.specs.declared.kinds.CoordType.{CoordType}
+use Rattle.geoarrow_layout.specs.declared.kinds.CoordType.TheVariants.{Interleaved, Separated}
+use Rattle.geoarrow_layout.specs.declared.kinds.Dimension.{Dimension}
+use Rattle.geoarrow_layout.specs.declared.kinds.Dimension.TheVariants.{XY, XYZ, XYM, XYZM}
+use Rattle.geoarrow_layout.specs.declared.encodings.NativeKind.{NativeKind}
+use Rattle.geoarrow_layout.specs.declared.encodings.NativeKind.TheVariants.{GeometryCollection}
+use Rattle.geoarrow_layout.specs.declared.encodings.Kind.{Kind}
+use Rattle.geoarrow_layout.specs.declared.encodings.Kind.TheVariants.{Native as OfNative, Geometry as OfGeometry, Rect as OfRect, Wkb as OfWkb, Wkt as OfWkt}
+use Rattle.geoarrow_layout.specs.declared.summary.ListWidth.{ListWidth}
+use Rattle.geoarrow_layout.specs.declared.summary.ListWidth.TheVariants.{List as Lists, LargeList as LargeLists}
+use Rattle.geoarrow_layout.specs.declared.fault.LayoutFault.{LayoutFault}
+use Rattle.geoarrow_layout.specs.declared.fault.LayoutFault.TheVariants.{UnexpectedType, BadInterleavedName, BadSize, BadFieldNames, BadFieldCount, MixedWidths, BadTypeId, MemberDimension, EmptyUnion, SeveralCoordTypes, SeveralDimensions}
+use Rattle.geoarrow_layout.specs.declared.names.ExtensionName.{ExtensionName}
+use Rattle.geoarrow_layout.specs.declared.names.ExtensionName.TheVariants as names
+use Rattle.geoarrow_layout.specs.Kinds.{size_of, type_id_of, extension_of}
+use Rattle.geoarrow_layout.specs.Shapes.{names_of, IsSeparatedAs, Leaf, ListsOver, levels_of, OverLeaf, Member, AllMembers, Mixed, Native, GeometryMember, Geometry, IsBoxAs, BoxShape, Accepted}
+use Rattle.geoarrow_layout.specs.OneShape.{interleaved_same, id_same, native_same, any_native_same, any_part}
+use Rattle.geoarrow_layout.specs.FaultAt.{Path, Located, Faults, Here, InItem, InterleavedFault, SeparatedFault, CoordinateFault, BoxFault, LevelFault, ListsFault, OverLeafFault, PartFault, FirstFault, UnionFault, MemberFault, MixedFault, NativeFault, GeometryMemberFault, GeometryFault, FaultAt}
+use Rattle.geoarrow_layout.proofs.MemberLists.{all_map}
+
+abbrev Same : Path → Path → LayoutFault → LayoutFault → Type 0
+Same p q f g = (p ≡ q) × (f ≡ g)
+
+-- a tree has one fault at most
+abbrev pub One : Located → Type 0
+One F = (p q : Path) (f g : LayoutFault) → F p f → F q g → Same p q f g
+
+abbrev pub Reads : Type 1
+Reads = Tree → CoordType → Dimension → Type 0
+
+-- what is read has no fault
+abbrev pub Apart : Reads → Faults → Type 0
+Apart R F = (t : Tree) (c : CoordType) (d : Dimension) (p : Path) (f : LayoutFault) → R t c d → F t p f → ⊥
+
+here_one : (a : LayoutFault) → One (Here a)
+here_one a p q f g h k = (h.0 ∙ sym k.0, h.1 ∙ sym k.1)
+
+in_item_one : (F : Located) → One F → One (InItem F)
+in_item_one F one (zero ∷ p) (zero ∷ q) f g h k = let s = one p q f g h k in (ap (λ r. zero ∷ r) s.0, s.1)
+in_item_one F one _ _ f g h k = search
+
+pub in_item_none : (F : Located) (p : Path) (f : LayoutFault) → ((q : Path) → F q f → ⊥) → InItem F p f → ⊥
+in_item_none F (zero ∷ p) f none h = none p h
+in_item_none F _ f none h = absurd h
+
+-- ---- coordinates and boxes
+
+interleaved_one : (name : Text) (z : ℤ) → One (InterleavedFault name z)
+interleaved_one name z p q f g (inl h) (inl k) = here_one BadInterleavedName p q f g h.1 k.1
+interleaved_one name z p q f g (inl h) (inr k) = absurd (h.0 k.0 k.1)
+interleaved_one name z p q f g (inr h) (inl k) = absurd (k.0 h.0 h.1)
+interleaved_one name z p q f g (inr h) (inr k) = here_one BadSize p q f g h.3 k.3
+
+separated_one : (ns : List Text) → One (SeparatedFault ns)
+separated_one ns p q f g (inl h) (inl k) = here_one BadFieldCount p q f g h.1 k.1
+separated_one ns p q f g (inl h) (inr k) = absurd (h.0 XYZ k.0)
+separated_one ns p q f g (inr h) (inl k) = absurd (k.0 XYZ h.0)
+separated_one ns p q f g (inr h) (inr k) = here_one BadFieldNames p q f g h.2 k.2
+
+coordinate_one : (t : Tree) → One (CoordinateFault t)
+coordinate_one (fixed_size_list n t b m z) = interleaved_one n z
+coordinate_one (struct fs) = separated_one (names_of fs)
+coordinate_one _ = here_one UnexpectedType
+
+pub box_one : (t : Tree) → One (BoxFault t)
+box_one (struct fs) p q f g (inl h) (inl k) = here_one BadFieldCount p q f g h.1 k.1
+box_one (struct fs) p q f g (inl h) (inr k) = absurd (h.0 XYZ k.0)
+box_one (struct fs) p q f g (inr h) (inl k) = absurd (k.0 XYZ h.0)
+box_one (struct fs) p q f g (inr h) (inr k) = here_one BadFieldNames p q f g h.2 k.2
+box_one _ p q f g h k = here_one UnexpectedType p q f g h k
+
+pub separated_length : (ns : List Text) (d : Dimension) → IsSeparatedAs d ns → length ns ≡ size_of d
+separated_length ns XY h = h
+separated_length ns XYZ h = h.0
+separated_length ns XYM h = h.0
+separated_length ns XYZM h = h
+
+pub box_length : (ns : List Text) (d : Dimension) → IsBoxAs d ns → length ns ≡ 2 * size_of d
+box_length ns XY h = h
+box_length ns XYZ h = h.0
+box_length ns XYM h = h.0
+box_length ns XYZM h = h
+
+coordinate_apart : Apart Leaf CoordinateFault
+coordinate_apart (fixed_size_list n t b m z) Interleaved d p f h (inl k) = k.0 d h.0
+coordinate_apart (fixed_size_list n t b m z) Interleaved d p f h (inr k) = k.2 (h.1 ∙ ap (λ x. pos (size_of x)) (interleaved_same d k.0 (sym h.0 ∙ k.1)))
+coordinate_apart (struct fs) Separated d p f h (inl k) = k.0 d (separated_length (names_of fs) d h)
+coordinate_apart (struct fs) Separated d p f h (inr k) = k.1 d h
+coordinate_apart _ c d p f h k = absurd h
+
+pub box_apart : (t : Tree) (d : Dimension) (p : Path) (f : LayoutFault) → BoxShape t d → BoxFault t p f → ⊥
+box_apart (struct fs) d p f h (inl k) = k.0 d (box_length (names_of fs) d h)
+box_apart (struct fs) d p f h (inr k) = k.1 d h
+box_apart _ d p f h k = absurd h
+
+-- ---- lists
+
+level_one : (F : Faults) → ((t : Tree) → One (F t)) → (w : ListWidth) (n : ℕ) (t : Tree) → One (LevelFault F w n t)
+level_one F one w zero t = one t
+level_one F one Lists (suc n) (list x t b m) = in_item_one (LevelFault F Lists n t) (level_one F one Lists n t)
+level_one F one LargeLists (suc n) (large_list x t b m) = in_item_one (LevelFault F LargeLists n t) (level_one F one LargeLists n t)
+level_one F one Lists (suc n) (large_list x t b m) = here_one MixedWidths
+level_one F one LargeLists (suc n) (list x t b m) = here_one MixedWidths
+level_one F one w (suc n) _ = here_one UnexpectedType
+
+lists_one : (F : Faults) → ((t : Tree) → One (F t)) → (n : ℕ) (t : Tree) → One (ListsFault F n t)
+lists_one F one zero t = one t
+lists_one F one (suc n) (list x t b m) = in_item_one (LevelFault F Lists n t) (level_one F one Lists n t)
+lists_one F one (suc n) (large_list x t b m) = in_item_one (LevelFault F LargeLists n t) (level_one F one LargeLists n t)
+lists_one F one (suc n) _ = here_one UnexpectedType
+
+level_apart : (P : Reads) (F : Faults) → Apart P F → (w : ListWidth) (n : ℕ) (t u : Tree) (c : CoordType) (d : Dimension) (p : Path) (f : LayoutFault) → ListsOver w n t u → P u c d → LevelFault F w n t p f → ⊥
+level_apart P F apart w zero t u c d p f h r k = apart t c d p f (subst (λ x. P x c d) (sym h) r) k
+level_apart P F apart Lists (suc n) (list x t b m) u c d p f h r k = in_item_none (LevelFault F Lists n t) p f (λ q e. level_apart P F apart Lists n t u c d q f h r e) k
+level_apart P F apart LargeLists (suc n) (large_list x t b m) u c d p f h r k = in_item_none (LevelFault F LargeLists n t) p f (λ q e. level_apart P F apart LargeLists n t u c d q f h r e) k
+level_apart P F apart _ (suc n) _ u c d p f h r k = absurd h
+
+lists_apart : (P : Reads) (F : Faults) → Apart P F → (n : ℕ) (w : ListWidth) (t u : Tree) (c : CoordType) (d : Dimension) (p : Path) (f : LayoutFault) → ListsOver w n t u → P u c d → ListsFault F n t p f → ⊥
+lists_apart P F apart zero w t u c d p f h r k = apart t c d p f (subst (λ x. P x c d) (sym h) r) k
+lists_apart P F apart (suc n) Lists (list x t b m) u c d p f h r k = in_item_none (LevelFault F Lists n t) p f (λ q e. level_apart P F apart Lists n t u c d q f h r e) k
+lists_apart P F apart (suc n) LargeLists (large_list x t b m) u c d p f h r k = in_item_none (LevelFault F LargeLists n t) p f (λ q e. level_apart P F apart LargeLists n t u c d q f h r e) k
+lists_apart P F apart (suc n) _ _ u c d p f h r k = absurd h
+
+over_leaf_one : (k : NativeKind) (t : Tree) → One (OverLeafFault k t)
+over_leaf_one GeometryCollection t = here_one BadTypeId
+over_leaf_one k t = lists_one CoordinateFault coordinate_one (levels_of k) t
+
+pub over_leaf_apart : (k : NativeKind) → Apart (λ t. OverLeaf t k) (OverLeafFault k)
+over_leaf_apart GeometryCollection t c d p f h e = absurd h
+over_leaf_apart k t c d p f h e = lists_apart Leaf CoordinateFault coordinate_apart (levels_of k) h.1.0 t h.0 c d p f h.1.1 h.2 e
+
+-- ---- unions
+
+abbrev pub KindReads : Type 1
+KindReads = Tree → NativeKind → CoordType → Dimension → Type 0
+
+abbrev OneNative : KindReads → Type 0
+OneNative N = (k : NativeKind) (t : Tree) (c b : CoordType) (d e : Dimension) → N t k c d → N t k b e → (c ≡ b) × (d ≡ e)
+
+abbrev pub ApartNative : KindReads → (NativeKind → Faults) → Type 0
+ApartNative N F = (k : NativeKind) → Apart (λ t. N t k) (F k)
+
+-- what a member of the kind and dimension of its type id has
+abbrev pub KindFault : KindReads → (NativeKind → Faults) → NativeKind → Dimension → Faults
+KindFault N F k d t p f = F k t p f ⊎ ((c : CoordType) × (e : Dimension) × N t k c e × (e ≢ d) × Here MemberDimension p f)
+
+kind_fault_one : (N : KindReads) (F : NativeKind → Faults) → ((k : NativeKind) (t : Tree) → One (F k t)) → ApartNative N F → (k : NativeKind) (d : Dimension) (t : Tree) → One (KindFault N F k d t)
+kind_fault_one N F one apart k d t p q f g (inl h) (inl l) = one k t p q f g h l
+kind_fault_one N F one apart k d t p q f g (inl h) (inr l) = absurd (apart k t l.0 l.1 p f l.2 h)
+kind_fault_one N F one apart k d t p q f g (inr h) (inl l) = absurd (apart k t h.0 h.1 q g h.2 l)
+kind_fault_one N F one apart k d t p q f g (inr h) (inr l) = here_one MemberDimension p q f g h.4 l.4
+
+part_one : (N : KindReads) (F : NativeKind → Faults) → ((k : NativeKind) (t : Tree) → One (F k t)) → ApartNative N F → (i : ℤ) (t : Tree) → One (PartFault N F i t)
+part_one N F one apart i t p q f g (inl h) (inl l) = here_one BadTypeId p q f g h.1 l.1
+part_one N F one apart i t p q f g (inl h) (inr l) = absurd (h.0 l.0 l.1 l.2)
+part_one N F one apart i t p q f g (inr h) (inl l) = absurd (l.0 h.0 h.1 h.2)
+part_one N F one apart i t p q f g (inr h) (inr l) =
+    let same = id_same i l.0 h.0 l.1 h.1 l.2 h.2 in
+    kind_fault_one N F one apart h.0 h.1 t p q f g h.3 (subst (λ d. KindFault N F h.0 d t q g) same.1 (subst (λ k. KindFault N F k l.1 t q g) same.0 l.3))
+
+kind_fault_none : (N : KindReads) (F : NativeKind → Faults) → OneNative N → ApartNative N F → (k : NativeKind) (d : Dimension) (t : Tree) (c : CoordType) (p : Path) (f : LayoutFault) → N t k c d → KindFault N F k d t p f → ⊥
+kind_fault_none N F same apart k d t c p f h (inl e) = apart k t c d p f h e
+kind_fault_none N F same apart k d t c p f h (inr e) = e.3 (same k t e.0 c e.1 d e.2 h).1
+
+part_apart : (N : KindReads) (F : NativeKind → Faults) → OneNative N → ApartNative N F → (i : ℤ) (t : Tree) (k : NativeKind) (c : CoordType) (d : Dimension) (p : Path) (f : LayoutFault) → i ≡ pos (type_id_of k d) → N t k c d → PartFault N F i t p f → ⊥
+part_apart N F same apart i t k c d p f id h (inl e) = e.0 k d id
+part_apart N F same apart i t k c d p f id h (inr e) =
+    let is = id_same i e.0 k e.1 d e.2 id in
+    kind_fault_none N F same apart k d t c p f h (subst (λ x. KindFault N F k x t p f) is.1 (subst (λ x. KindFault N F x e.1 t p f) is.0 e.3))
+
+abbrev pub MemberReads : Type 1
+MemberReads = ℤ → Tree → CoordType → Dimension → Type 0
+
+abbrev pub ApartMember : MemberReads → (ℤ → Faults) → Type 0
+ApartMember R F = (i : ℤ) → Apart (R i) (F i)
+
+abbrev pub OneMember : (ℤ → Faults) → Type 0
+OneMember F = (i : ℤ) (t : Tree) → One (F i t)
+
+abbrev pub Read : MemberReads → ℤ → Tree → Type 0
+Read R i t = (c : CoordType) × (d : Dimension) × R i t c d
+
+-- the place of a member behind another
+abbrev pub behind : Path → Path
+behind [] = []
+behind (j ∷ p) = suc j ∷ p
+
+first_one : (R : MemberReads) (F : ℤ → Faults) → OneMember F → ApartMember R F → (ms : MemberTrees) → One (FirstFault R F ms)
+first_one R F one apart (member i n t b m ms) (zero ∷ p) (zero ∷ q) f g h k = let s = one i t p q f g h k in (ap (λ r. zero ∷ r) s.0, s.1)
+first_one R F one apart (member i n t b m ms) (zero ∷ p) (suc j ∷ q) f g h k = absurd (apart i t k.0.0 k.0.1 p f k.0.2 h)
+first_one R F one apart (member i n t b m ms) (suc j ∷ p) (zero ∷ q) f g h k = absurd (apart i t h.0.0 h.0.1 q g h.0.2 k)
+first_one R F one apart (member i n t b m ms) (suc j ∷ p) (suc l ∷ q) f g h k = let s = first_one R F one apart ms (j ∷ p) (l ∷ q) f g h.1 k.1 in (ap behind s.0, s.1)
+first_one R F one apart _ _ _ f g h k = search
+
+pub first_apart : (R : MemberReads) (F : ℤ → Faults) → ApartMember R F → (ms : MemberTrees) (p : Path) (f : LayoutFault) → AllMembers (Read R) ms → FirstFault R F ms p f → ⊥
+first_apart R F apart (member i n t b m ms) (zero ∷ p) f h k = apart i t h.0.0 h.0.1 p f h.0.2 k
+first_apart R F apart (member i n t b m ms) (suc j ∷ p) f h k = first_apart R F apart ms (j ∷ p) f h.1 k.1
+first_apart R F apart _ _ f h k = absurd k
+
+union_one : (R : MemberReads) (F : ℤ → Faults) → OneMember F → ApartMember R F → (ms : MemberTrees) → One (UnionFault R F ms)
+union_one R F one apart no_members p q f g h k = here_one EmptyUnion p q f g h k
+union_one R F one apart (member i n t b m ms) p q f g (inl h) (inl k) = first_one R F one apart (member i n t b m ms) p q f g h k
+union_one R F one apart (member i n t b m ms) p q f g (inl h) (inr k) = absurd (first_apart R F apart (member i n t b m ms) p f k.0 h)
+union_one R F one apart (member i n t b m ms) p q f g (inr h) (inl k) = absurd (first_apart R F apart (member i n t b m ms) q g h.0 k)
+union_one R F one apart (member i n t b m ms) p q f g (inr h) (inr k) = here_one SeveralCoordTypes p q f g h.2 k.2
+
+-- members of one coordinate type, at least one, are at fault as no union
+union_apart : (R : MemberReads) (F : ℤ → Faults) → ApartMember R F → (i : ℤ) (n : Text) (t : Tree) (b : Bool) (m : Metadata) (ms : MemberTrees) (c : CoordType) (p : Path) (f : LayoutFault) → AllMembers (λ j u. (d : Dimension) × R j u c d) (member i n t b m ms) → UnionFault R F (member i n t b m ms) p f → ⊥
+union_apart R F apart i n t b m ms c p f h (inl k) = first_apart R F apart (member i n t b m ms) p f (all_map (λ j u. (d : Dimension) × R j u c d) (Read R) (λ j u x. (c, x.0, x.1)) (member i n t b m ms) h) k
+union_apart R F apart i n t b m ms c p f h (inr k) = k.1 c h
+
+pub member_one : OneMember MemberFault
+member_one = part_one OverLeaf OverLeafFault over_leaf_one over_leaf_apart
+
+pub member_apart : ApartMember Member MemberFault
+member_apart i t c d p f h k = part_apart OverLeaf OverLeafFault native_same over_leaf_apart i t h.0 c d p f h.1 h.2 k
+
+mixed_one : (t : Tree) → One (MixedFault t)
+mixed_one (union ms mode) p q f g (inl h) (inl k) = union_one Member MemberFault member_one member_apart ms p q f g h k
+mixed_one (union no_members mode) p q f g (inl h) (inr k) = absurd (k.1 Interleaved XY tt)
+mixed_one (union no_members mode) p q f g (inr h) (inl k) = absurd (h.1 Interleaved XY tt)
+mixed_one (union (member i n t b m ms) mode) p q f g (inl h) (inr k) = absurd (union_apart Member MemberFault member_apart i n t b m ms k.0.0 p f k.0.1 h)
+mixed_one (union (member i n t b m ms) mode) p q f g (inr h) (inl k) = absurd (union_apart Member MemberFault member_apart i n t b m ms h.0.0 q g h.0.1 k)
+mixed_one (union ms mode) p q f g (inr h) (inr k) = here_one SeveralDimensions p q f g h.2 k.2
+mixed_one _ p q f g h k = here_one UnexpectedType p q f g h k
+
+pub mixed_none : Apart Mixed MixedFault
+mixed_none (union no_members mode) c d p f h k = absurd h.0
+mixed_none (union (member i n t b m ms) mode) c d p f h (inl k) = union_apart Member MemberFault member_apart i n t b m ms c p f (all_map (λ j u. Member j u c d) (λ j u. (e : Dimension) × Member j u c e) (λ j u x. (d, x)) (member i n t b m ms) h.1) k
+mixed_none (union (member i n t b m ms) mode) c d p f h (inr k) = k.1 c d h.1
+mixed_none _ c d p f h k = absurd h
+
+native_one : (k : NativeKind) (t : Tree) → One (NativeFault k t)
+native_one GeometryCollection t = lists_one MixedFault mixed_one 1 t
+native_one k t = over_leaf_one k t
+
+pub native_apart : (k : NativeKind) → Apart (λ t. Native t k) (NativeFault k)
+native_apart GeometryCollection t c d p f h e = lists_apart Mixed MixedFault mixed_none 1 h.1.0 t h.0 c d p f h.1.1 h.2 e
+native_apart k t c d p f h e = over_leaf_apart k t c d p f h e
+
+geometry_member_one : OneMember GeometryMemberFault
+geometry_member_one = part_one Native NativeFault native_one native_apart
+
+pub geometry_member_apart : ApartMember GeometryMember GeometryMemberFault
+geometry_member_apart i t c d p f h k = let x = any_part i t c d h in part_apart Native NativeFault any_native_same native_apart i t x.0 c d p f x.1 x.2 k
+
+geometry_one : (t : Tree) → One (GeometryFault t)
+geometry_one (union ms mode) = union_one GeometryMember GeometryMemberFault geometry_member_one geometry_member_apart ms
+geometry_one _ = here_one UnexpectedType
+
+pub geometry_apart : (t : Tree) (c : CoordType) (p : Path) (f : LayoutFault) → Geometry t c → GeometryFault t p f → ⊥
+geometry_apart (union no_members mode) c p f h k = absurd h.0
+geometry_apart (union (member i n t b m ms) mode) c p f h k = union_apart GeometryMember GeometryMemberFault geometry_member_apart i n t b m ms c p f h.1 k
+geometry_apart _ c p f h k = absurd h
+
+-- ---- by the extension name
+
+pub one_fault : (n : ExtensionName) (t : Tree) → One (FaultAt n t)
+one_fault (names.Native k) t p q f g h e = native_one k t p q f g h e
+one_fault names.Geometry t p q f g h e = geometry_one t p q f g h e
+one_fault names.Rect t p q f g h e = box_one t p q f g h e
+one_fault names.Wkb t p q f g h k = here_one UnexpectedType p q f g h.1 k.1
+one_fault names.Wkt t p q f g h k = here_one UnexpectedType p q f g h.1 k.1
+
+pub accepted_apart : (k : Kind) (t : Tree) (p : Path) (f : LayoutFault) → Accepted k t → FaultAt (extension_of k) t p f → ⊥
+accepted_apart (OfNative k c d) t p f h e = native_apart k t c d p f h e
+accepted_apart (OfGeometry c) t p f h e = geometry_apart t c p f h e
+accepted_apart (OfRect d) t p f h e = box_apart t d p f h e
+accepted_apart (OfWkb w) t p f h e = e.0 w h
+accepted_apart (OfWkt w) t p f h e = e.0 w h

@@ -1,0 +1,171 @@
+-- The path to a fault, step by step.
+use Rattle.std.proofs.Common.{◌≡◌, ◌<◌, ◌≤◌, ◌+◌, inl, inr, Bool, true, false, is_ok, is_err, None, Some, ℕ, zero, suc, ℤ, pos, List, [], ◌∷◌, ◌++◌, ◌-◌, length, take, Result, OnOk, get_or, refl, sym, ap, subst, ◌∙◌, arith, append_assoc, Ok, Err}
+use Rattle.arrow_values.specs.Tree.{Tree, union, FieldTree, MemberTrees, no_members, member}
+use Rattle.arrow_values.specs.View.{field_trees, member_trees}
+use Rattle.arrow_values.specs.declared.tree.UnionMode.{UnionMode}
+use Rattle.geoarrow_layout.specs.declared.kinds.CoordType.{CoordType}
+use Rattle.geoarrow_layout.specs.declared.kinds.Dimension.{Dimension}
+use Rattle.geoarrow_layout.specs.declared.encodings.NativeKind.{NativeKind}
+use Rattle.geoarrow_layout.specs.declared.encodings.NativeKind.TheVariants.{GeometryCollection}
+use Rattle.geoarrow_layout.specs.declared.fault.LayoutFault.{LayoutFault}
+use Rattle.geoarrow_layout.specs.declared.summary.ListWidth.{ListWidth}
+use Rattle.geoarrow_layout.specs.declared.summary.ListWidth.TheVariants.{List as Lists, LargeList as LargeLists}
+use Rattle.geoarrow_layout.specs.Kinds.{type_id_of}
+use Rattle.geoarrow_layout.specs.Shapes.{levels_of, AllMembers, Member, GeometryMember}
+use Rattle.geoarrow_layout.specs.OneShape.{id_same}
+use Rattle.geoarrow_layout.specs.FaultAt.{Path, Located, Faults, HasFault, InItem, CoordinateFault, LevelFault, ListsFault, OverLeafFault, NativeFault, PartFault, FirstFault, UnionFault, MemberFault, MixedFault, GeometryMemberFault, GeometryFault, field_at, member_at}
+use Rattle.geoarrow_layout.specs.Steps.{LeadsTo, FirstOrNone, TellsBoth}
+use Rattle.geoarrow_layout.proofs.Readings.{Answer, IsPartsOf, some_parts}
+use Rattle.geoarrow_layout.proofs.Bottoms.{list_in}
+use Rattle.geoarrow_layout.proofs.MemberLists.{Items, all_map, all_both, one_more}
+use Rattle.geoarrow_layout.proofs.FaultLaws.{ApartMember, MemberReads, Read, KindReads, ApartNative, KindFault, first_apart, behind}
+
+append_none : (p : Path) → p ≡ p ++ []
+append_none [] = refl
+append_none (i ∷ p) = ap (λ q. i ∷ q) (append_none p)
+
+-- a fault of the data type itself has the empty path
+abbrev pub StaysHere : Located → Type 0
+StaysHere F = (p : Path) (f : LayoutFault) → F p f → p ≡ []
+
+pub stays : (F : Located) (before : Path) → StaysHere F → LeadsTo F before before
+stays F before here = λ p f h. append_none before ∙ ap (λ q. before ++ q) (sym (here p f h))
+
+-- one step down
+pub step_down : (F : Located) (before after : Path) (i : ℕ) (p : Path) (f : LayoutFault) → LeadsTo F (before ++ (i ∷ [])) after → F p f → after ≡ before ++ (i ∷ p)
+step_down F before after i p f h e = h p f e ∙ append_assoc before (i ∷ []) p
+
+pub into_item : (F : Located) (before between after : Path) → between ≡ before ++ (0 ∷ []) → LeadsTo F between after → LeadsTo (InItem F) before after
+into_item F before between after is h = λ p f e. at_path p f e
+  where
+    at_path : (p : Path) (f : LayoutFault) → InItem F p f → after ≡ before ++ p
+    at_path (zero ∷ p) f e = step_down F before after 0 p f (subst (λ b. LeadsTo F b after) is h) e
+    at_path _ f e = absurd e
+
+pub on_ok : {X E P Q : Type 0} (r : Result X E) → (P → Q) → OnOk r P → OnOk r Q
+on_ok (Ok x) f h = f h
+on_ok (Err e) f h = tt
+
+-- levels are gone down
+pub level_leads : (w v : ListWidth) (levels : ℕ) (t u : Tree) (f : FieldTree) (before between after : Path) → 0 < levels → w ≡ v → t ≡ list_in v f.name f.tree f.nullable f.metadata → u ≡ f.tree → between ≡ before ++ (0 ∷ [])
+    → LeadsTo (LevelFault CoordinateFault w (levels - 1) u) between after → LeadsTo (LevelFault CoordinateFault w levels t) before after
+level_leads w v levels t u f before between after some width is inner pushed h =
+    rw (width, is) (level_down v levels (levels - 1) f before between after (omega arith) pushed (rw (← width, ← inner) h))
+  where
+    level_down : (v : ListWidth) (levels n : ℕ) (f : FieldTree) (before between after : Path) → levels ≡ suc n → between ≡ before ++ (0 ∷ []) → LeadsTo (LevelFault CoordinateFault v n f.tree) between after → LeadsTo (LevelFault CoordinateFault v levels (list_in v f.name f.tree f.nullable f.metadata)) before after
+    level_down Lists levels n f before between after same pushed h = rw same (into_item (LevelFault CoordinateFault Lists n f.tree) before between after pushed h)
+    level_down LargeLists levels n f before between after same pushed h = rw same (into_item (LevelFault CoordinateFault LargeLists n f.tree) before between after pushed h)
+
+pub lists_lead : (v : ListWidth) (levels : ℕ) (t u : Tree) (f : FieldTree) (before between after : Path) → 0 < levels → t ≡ list_in v f.name f.tree f.nullable f.metadata → u ≡ f.tree → between ≡ before ++ (0 ∷ [])
+    → LeadsTo (LevelFault CoordinateFault v (levels - 1) u) between after → LeadsTo (ListsFault CoordinateFault levels t) before after
+lists_lead v levels t u f before between after some is inner pushed h = rw is (lists_down v levels (levels - 1) f before between after (omega arith) pushed (rw (← inner) h))
+  where
+    lists_down : (v : ListWidth) (levels n : ℕ) (f : FieldTree) (before between after : Path) → levels ≡ suc n → between ≡ before ++ (0 ∷ []) → LeadsTo (LevelFault CoordinateFault v n f.tree) between after → LeadsTo (ListsFault CoordinateFault levels (list_in v f.name f.tree f.nullable f.metadata)) before after
+    lists_down Lists levels n f before between after same pushed h = rw same (into_item (LevelFault CoordinateFault Lists n f.tree) before between after pushed h)
+    lists_down LargeLists levels n f before between after same pushed h = rw same (into_item (LevelFault CoordinateFault LargeLists n f.tree) before between after pushed h)
+
+-- ---- members
+
+-- the first member at fault is the one at k, if each before it is read
+first_at : (R : MemberReads) (F : ℤ → Faults) → ApartMember R F → (xs : Items) (k : ℕ) (x : ℤ × FieldTree) (g : LayoutFault) → k < length xs → x ≡ get_or xs k x → AllMembers (Read R) (member_trees (take k xs)) → HasFault (F x.0 x.1.tree) g
+    → (p : Path) (f : LayoutFault) → FirstFault R F (member_trees xs) p f → (q : Path) × (p ≡ k ∷ q) × F x.0 x.1.tree q f
+first_at R F apart [] k x g lt at all bad p f h = absurd (omega arith)
+first_at R F apart (y ∷ xs) zero x g lt at all bad (zero ∷ p) f h = (p, refl, subst (λ z. F z.0 z.1.tree p f) (sym at) h)
+first_at R F apart (y ∷ xs) zero x g lt at all bad (suc j ∷ p) f h = absurd (apart y.0 y.1.tree h.0.0 h.0.1 bad.0 g h.0.2 (subst (λ z. F z.0 z.1.tree bad.0 g) at bad.1))
+first_at R F apart (y ∷ xs) (suc k) x g lt at all bad (zero ∷ p) f h = absurd (apart y.0 y.1.tree all.0.0 all.0.1 p f all.0.2 h)
+first_at R F apart (y ∷ xs) (suc k) x g lt at all bad (suc j ∷ p) f h = let r = first_at R F apart xs k x g (omega arith) at all.1 bad (j ∷ p) f h.1 in (r.0, ap behind r.1, r.2)
+first_at R F apart (y ∷ xs) _ x g lt at all bad [] f h = absurd h
+
+all_at : (P : ℤ → Tree → Type 0) (xs : Items) (k : ℕ) (x : ℤ × FieldTree) → k < length xs → x ≡ get_or xs k x → AllMembers P (member_trees xs) → P x.0 x.1.tree
+all_at P [] k x lt at all = absurd (omega arith)
+all_at P (y ∷ xs) zero x lt at all = subst (λ z. P z.0 z.1.tree) (sym at) all.0
+all_at P (y ∷ xs) (suc k) x lt at all = all_at P xs k x (omega arith) at all.1
+
+pub at_member : (R : MemberReads) (F : ℤ → Faults) → ApartMember R F → (xs : Items) (k : ℕ) (x : ℤ × FieldTree) (before between after : Path) → k < length xs → x ≡ get_or xs k x → AllMembers (Read R) (member_trees (take k xs)) → (g : LayoutFault) × HasFault (F x.0 x.1.tree) g
+    → between ≡ before ++ (k ∷ []) → LeadsTo (F x.0 x.1.tree) between after → LeadsTo (FirstOrNone R F (member_trees xs)) before after
+at_member R F apart xs k x before between after lt at all bad is h = λ p f e. elim e [
+  | inl first ↦ let r = first_at R F apart xs k x bad.0 lt at all bad.1 p f first in step_down (F x.0 x.1.tree) before after k r.0 f (subst (λ b. LeadsTo (F x.0 x.1.tree) b after) is h) r.2 ∙ ap (λ q. before ++ q) (sym r.1)
+  | inr none ↦ let read = all_at (Read R) xs k x lt at none.0 in absurd (apart x.0 x.1.tree read.0 read.1 bad.1.0 bad.0 read.2 bad.1.1)
+]
+
+-- what an answer that is none, or is one, says
+pub told_err : (r : Answer) (R : CoordType → Dimension → Type 0) (F : Located) (b : Bool) → b ≡ is_err r → b ≡ true → TellsBoth r R F → (g : LayoutFault) × HasFault F g
+told_err (Ok x) R F b is e h = let bad : true ≡ false = sym e ∙ is in cc
+told_err (Err f) R F b is e h = (f, h)
+
+pub told_read : (r : Answer) (R : CoordType → Dimension → Type 0) (F : Located) (b : Bool) → b ≡ is_err r → b ≡ false → TellsBoth r R F → (c : CoordType) × (d : Dimension) × R c d
+told_read (Ok x) R F b is e h = (x.0, x.1, h)
+told_read (Err f) R F b is e h = let bad : false ≡ true = sym e ∙ is in cc
+
+pub read_more : (R : MemberReads) (xs : Items) (k : ℕ) (x : ℤ × FieldTree) → k < length xs → x ≡ get_or xs k x → Read R x.0 x.1.tree → AllMembers (Read R) (member_trees (take k xs)) → AllMembers (Read R) (member_trees (take (k + 1) xs))
+read_more R xs k x lt at read before = subst (λ ys. AllMembers (Read R) (member_trees ys)) (sym (one_more xs k x lt at)) ((all_both (Read R) (take k xs) (x ∷ [])).1 (before, (read, tt)))
+
+pub at_no_member : (R : MemberReads) (F : ℤ → Faults) → ApartMember R F → (ms : MemberTrees) (before : Path) → AllMembers (Read R) ms → LeadsTo (FirstOrNone R F ms) before before
+at_no_member R F apart ms before all = stays (FirstOrNone R F ms) before (λ p f e. elim e [ inl first ↦ absurd (first_apart R F apart ms p f all first) | inr none ↦ none.1 ])
+
+union_first : (R : MemberReads) (F : ℤ → Faults) (ms : MemberTrees) (p : Path) (f : LayoutFault) → UnionFault R F ms p f → FirstOrNone R F ms p f
+union_first R F no_members p f h = inr (tt, h.0)
+union_first R F (member i n t b m ms) p f (inl h) = inl h
+union_first R F (member i n t b m ms) p f (inr h) = inr (h.0, h.2.0)
+
+pub mixed_leads : (t : Tree) (ms ns : Items) (mode : UnionMode) (before after : Path) → t ≡ union (member_trees ms) mode → ns ≡ ms → LeadsTo (FirstOrNone Member MemberFault (member_trees ns)) before after → LeadsTo (MixedFault t) before after
+mixed_leads t ms ns mode before after is same h = subst (λ u. LeadsTo (MixedFault u) before after) (sym is) (λ p f e. subst (λ xs. LeadsTo (FirstOrNone Member MemberFault (member_trees xs)) before after) same h p f (elim e [
+  | inl u ↦ union_first Member MemberFault (member_trees ms) p f u
+  | inr d ↦ inr (all_map (λ i t. (x : Dimension) × Member i t d.0.0 x) (Read Member) (λ i t y. (d.0.0, y.0, y.1)) (member_trees ms) d.0.1, d.2.0)
+]))
+
+pub geometry_leads : (t : Tree) (ms ns : Items) (mode : UnionMode) (before after : Path) → t ≡ union (member_trees ms) mode → ns ≡ ms → LeadsTo (FirstOrNone GeometryMember GeometryMemberFault (member_trees ns)) before after → LeadsTo (GeometryFault t) before after
+geometry_leads t ms ns mode before after is same h = subst (λ u. LeadsTo (GeometryFault u) before after) (sym is)
+    (λ p f e. subst (λ xs. LeadsTo (FirstOrNone GeometryMember GeometryMemberFault (member_trees xs)) before after) same h p f (union_first GeometryMember GeometryMemberFault (member_trees ms) p f e))
+
+-- ---- native kinds
+
+pub over_leaf_leads : (k : NativeKind) (n : ℕ) (t : Tree) (before after : Path) → (k ≡ GeometryCollection → ⊥) → n ≡ levels_of k → LeadsTo (ListsFault CoordinateFault n t) before after → LeadsTo (OverLeafFault k t) before after
+over_leaf_leads GeometryCollection n t before after other same h = absurd (other refl)
+over_leaf_leads k n t before after other same h = subst (λ m. LeadsTo (ListsFault CoordinateFault m t) before after) same h
+
+pub native_leads : (k : NativeKind) (t : Tree) (before after : Path) → (k ≡ GeometryCollection → ⊥) → LeadsTo (OverLeafFault k t) before after → LeadsTo (NativeFault k t) before after
+native_leads GeometryCollection t before after other h = absurd (other refl)
+native_leads k t before after other h = h
+
+-- ---- one member
+
+kind_only : (N : KindReads) (F : NativeKind → Faults) (i : ℤ) (t : Tree) (k : NativeKind) (d : Dimension) (p : Path) (f : LayoutFault) → i ≡ pos (type_id_of k d) → PartFault N F i t p f → KindFault N F k d t p f
+kind_only N F i t k d p f id (inl h) = absurd (h.0 k d id)
+kind_only N F i t k d p f id (inr h) = let same = id_same i h.0 k h.1 d h.2 id in subst (λ x. KindFault N F k x t p f) same.1 (subst (λ x. KindFault N F x h.1 t p f) same.0 h.3)
+
+read_stays : (N : KindReads) (F : NativeKind → Faults) → ApartNative N F → (i : ℤ) (t : Tree) (k : NativeKind) (d : Dimension) (x : CoordType × Dimension) → i ≡ pos (type_id_of k d) → N t k x.0 x.1 → StaysHere (PartFault N F i t)
+read_stays N F apart i t k d x id read p f h = elim (kind_only N F i t k d p f id h) [ inl e ↦ absurd (apart k t x.0 x.1 p f read e) | inr e ↦ e.4.0 ]
+
+pub part_read : (N : KindReads) (F : NativeKind → Faults) → ApartNative N F → (i z : ℤ) (t : Tree) (k : NativeKind) (d : Dimension) (r : Answer) (b : Bool) (before : Path) → z ≡ i → IsPartsOf z (some_parts k d) → b ≡ is_ok r → b ≡ true → TellsBoth r (N t k) (F k t) → LeadsTo (PartFault N F i t) before before
+part_read N F apart i z t k d (Ok x) b before same parts is e h = stays (PartFault N F i t) before (read_stays N F apart i t k d x (sym same ∙ (parts k d).0 refl) h)
+part_read N F apart i z t k d (Err f) b before same parts is e h = let bad : true ≡ false = sym e ∙ is in cc
+
+pub kind_leads : (N : KindReads) (F : NativeKind → Faults) → ApartNative N F → (i : ℤ) (t : Tree) (k : NativeKind) (d : Dimension) (g : LayoutFault) (before after : Path) → i ≡ pos (type_id_of k d) → HasFault (F k t) g → LeadsTo (F k t) before after → LeadsTo (PartFault N F i t) before after
+kind_leads N F apart i t k d g before after id bad h = λ p f e. elim (kind_only N F i t k d p f id e) [ inl x ↦ h p f x | inr x ↦ absurd (apart k t x.0 x.1 bad.0 g x.2 bad.1) ]
+
+pub part_leads : (N : KindReads) (F : NativeKind → Faults) → ApartNative N F → (i z : ℤ) (t : Tree) (k : NativeKind) (d : Dimension) (r : Answer) (b : Bool) (before after : Path) → z ≡ i → IsPartsOf z (some_parts k d) → b ≡ is_ok r → b ≡ false → TellsBoth r (N t k) (F k t) → LeadsTo (F k t) before after → LeadsTo (PartFault N F i t) before after
+part_leads N F apart i z t k d (Ok x) b before after same parts is e h leads = let bad : false ≡ true = sym e ∙ is in cc
+part_leads N F apart i z t k d (Err f) b before after same parts is e h leads = kind_leads N F apart i t k d f before after (sym same ∙ (parts k d).0 refl) h leads
+
+-- ---- the field at a place
+
+pub field_there : (fs : List FieldTree) (i : ℕ) (x : FieldTree) → i < length fs → x ≡ get_or fs i x → field_at (field_trees fs) i ≡ Some x
+field_there [] i x lt at = absurd (omega arith)
+field_there (f ∷ fs) zero x lt at = ap (λ g. Some g) (sym at)
+field_there (f ∷ fs) (suc i) x lt at = field_there fs i x (omega arith) at
+
+pub no_field_there : (fs : List FieldTree) (i : ℕ) → length fs ≤ i → field_at (field_trees fs) i ≡ None
+no_field_there [] i le = refl
+no_field_there (f ∷ fs) zero le = absurd (omega arith)
+no_field_there (f ∷ fs) (suc i) le = no_field_there fs i (omega arith)
+
+pub member_there : (ms : Items) (i : ℕ) (x : ℤ × FieldTree) → i < length ms → x ≡ get_or ms i x → member_at (member_trees ms) i ≡ Some x.1
+member_there [] i x lt at = absurd (omega arith)
+member_there (m ∷ ms) zero x lt at = ap (λ y. Some y.1) (sym at)
+member_there (m ∷ ms) (suc i) x lt at = member_there ms i x (omega arith) at
+
+pub no_member_there : (ms : Items) (i : ℕ) → length ms ≤ i → member_at (member_trees ms) i ≡ None
+no_member_there [] i le = refl
+no_member_there (m ∷ ms) zero le = absurd (omega arith)
+no_member_there (m ∷ ms) (suc i) le = no_member_there ms i (omega arith)

@@ -1,0 +1,11 @@
+use Rattle.std.proofs.Common.{◌≡◌, take}
+use Rattle.arrow_values.specs.View.{member_trees}
+use Rattle.geoarrow_layout.specs.Shapes.{AllMembers, GeometryMember}
+use Rattle.geoarrow_layout.proofs.FaultLaws.{Read}
+use Rattle.geoarrow_layout.proofs.find.push_geometries.Given as goal
+
+abbrev pub invariant-loop-place : goal.invariant-loop-place
+invariant-loop-place l = record {
+  read : AllMembers (Read GeometryMember) (member_trees (take l.place l.members));
+  same : l.path.items ≡ l.fn.path.items;
+}

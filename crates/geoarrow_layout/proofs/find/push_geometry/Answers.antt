@@ -1,0 +1,8 @@
+use Rattle.std.proofs.Common.{ap}
+use Rattle.arrow_values.specs.View.{tree}
+use Rattle.geoarrow_layout.proofs.FaultPaths.{on_ok, geometry_leads}
+use Rattle.geoarrow_layout.proofs.find.push_geometry.Goals as goal
+
+pub returns-in-Union : goal.returns-in-Union
+returns-in-Union c =
+    on_ok c.push_geometries.result (geometry_leads (tree c.args.data_type.now) c.in-Union.members c.as_slice.result.now c.in-Union.field-1 c.args.path.now.items c.push_geometries.new.path.items (ap tree c.in-Union.is) c.as_slice.ensures) c.push_geometries.ensures
