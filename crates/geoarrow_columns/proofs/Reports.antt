@@ -40,20 +40,20 @@ taken_for f g unnamed (inl reads) = absurd (unnamed (extension_of (kind_of g), r
 taken_for f g unnamed (inr infers) = infers
 
 -- how a field without a GeoArrow name is refused, out-of-memory aside
-uninferred : (f : FieldTree) (e : GeoArrowError) → ¬ IsGeoMemory e → ¬ HasGeoArrowName f → IsInferenceRefusal f e → InfersNone f × UninferredAs f e
-uninferred f e rich unnamed (inl memory) = absurd (rich memory)
-uninferred f e rich unnamed (inr (read, none, inl refused)) = absurd (unnamed refused.0)
-uninferred f e rich unnamed (inr (read, none, inr refused)) = (none, refused.1)
+inference_error : (f : FieldTree) (e : GeoArrowError) → ¬ IsGeoMemory e → ¬ HasGeoArrowName f → IsInferenceRefusal f e → InfersNone f × UninferredAs f e
+inference_error f e rich unnamed (inl memory) = absurd (rich memory)
+inference_error f e rich unnamed (inr (read, none, inl refused)) = absurd (unnamed refused.0)
+inference_error f e rich unnamed (inr (read, none, inr refused)) = (none, refused.1)
 
 pub other : (f : FieldTree) (e : GeoArrowError) → ¬ IsGeoMemory e → ¬ HasGeoArrowName f → IsInferenceRefusal f e → IsVariantOf e InvalidGeoArrow → IsOther f
-other f (Invalid s) rich unnamed how is = let refused = uninferred f (Invalid s) rich unnamed how in (unnamed, refused.0, refused.1)
+other f (Invalid s) rich unnamed how is = let refused = inference_error f (Invalid s) rich unnamed how in (unnamed, refused.0, refused.1)
 other f (OfArrow a) rich unnamed how is = absurd cc
-other f e rich unnamed how is = absurd (uninferred f e rich unnamed how).1
+other f e rich unnamed how is = absurd (inference_error f e rich unnamed how).1
 
 pub unread : (f : FieldTree) (e : GeoArrowError) → ¬ IsGeoMemory e → ¬ HasGeoArrowName f → IsInferenceRefusal f e → IsVariantOf e Arrow → IsUnread f
 unread f (Invalid s) rich unnamed how is = absurd cc
-unread f (OfArrow a) rich unnamed how is = (unnamed, (uninferred f (OfArrow a) rich unnamed how).1.0)
-unread f e rich unnamed how is = absurd (uninferred f e rich unnamed how).1
+unread f (OfArrow a) rich unnamed how is = (unnamed, (inference_error f (OfArrow a) rich unnamed how).1.0)
+unread f e rich unnamed how is = absurd (inference_error f e rich unnamed how).1
 
 -- a field that is refused under a GeoArrow name is a column of the fault of its error
 pub named_faulty : (f : FieldTree) (e : GeoArrowError) (fault : ColumnFault) → ¬ IsGeoMemory e → IsVariantOf e fault → IsRefusedBy f e → IsColumnOf f (Faulty fault)

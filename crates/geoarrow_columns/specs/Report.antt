@@ -8,7 +8,7 @@ use Rattle.arrow_values.specs.declared.error.GeoArrowError.{GeoArrowError}
 use Rattle.arrow_values.specs.declared.error.GeoArrowError.TheVariants.{Arrow as OfArrow, InvalidGeoArrow as Invalid}
 use Rattle.geoarrow_meta.specs.declared.metadata.Metadata.{Metadata}
 use Rattle.geoarrow_meta.specs.Read.{TextStandsFor}
-use Rattle.geoarrow_schema.specs.Reads.{HasGeoArrowName, Reads, ReadsAsNone, IsUnstored, IsRefusedBy}
+use Rattle.geoarrow_schema.specs.Reads.{HasGeoArrowName, Reads, ReadsAsNone, HasWrongStorage, IsRefusedBy}
 use Rattle.geoarrow_schema.specs.Infers.{Infers, InfersNone}
 use Rattle.geoarrow_columns.specs.declared.check.ColumnFault.{ColumnFault}
 use Rattle.geoarrow_columns.specs.declared.check.ColumnFault.TheVariants.{Arrow, InvalidGeoArrow}
@@ -22,8 +22,8 @@ IsRefused f = HasGeoArrowName f × ReadsAsNone f
 -- the field is refused for that fault: `InvalidGeoArrow` if it has the name of well-known binary or text without a data type
 -- of that name, otherwise `Arrow`
 abbrev pub IsRefusedFor : FieldTree → ColumnFault → Type 0
-IsRefusedFor f InvalidGeoArrow = IsRefused f × IsUnstored f
-IsRefusedFor f Arrow = IsRefused f × ¬ IsUnstored f
+IsRefusedFor f InvalidGeoArrow = IsRefused f × HasWrongStorage f
+IsRefusedFor f Arrow = IsRefused f × ¬ HasWrongStorage f
 
 -- the field has no GeoArrow name, and its metadata text denotes no metadata
 abbrev pub IsUnread : FieldTree → Type 0

@@ -7,7 +7,6 @@ ghost use Rattle.geoarrow_columns.specs.Report.{IsColumnOf, IsReport, IsVariantO
 
 use arrow_values::{ArrowError, Field, GeoArrowError, GeoArrowResult};
 use geoarrow_schema::GeoArrowType;
-use json::Scratch;
 use std::alloc::{AllocError, Global};
 
 /// What a column holds (docs/FORMAT.md, 1.7).
@@ -70,25 +69,6 @@ pub fn check_column(alloc: Global, field: &Field) -> Result<Column, AllocError>
     match GeoArrowType::from_extension_field(alloc, field) {
         Ok(Some(found)) => Ok(Column::Geometry(found)),
         Ok(None) => column_unnamed(field, GeoArrowType::from_arrow_field(alloc, field)),
-        Err(error) => column_refused(field, &error),
-    }
-}
-
-/// The same as `check_column`, with a scratch buffer that the caller keeps: checking many columns with one scratch
-/// costs less than with a new one for each. What is left in it of one column has no effect on the next.
-pub fn check_column_with_scratch(
-    alloc: Global,
-    field: &Field,
-    scratch: &mut Scratch,
-) -> Result<Column, AllocError>
-    ensures { IfOk result (IsColumnOf field.now) }
-{
-    match GeoArrowType::from_extension_field_with_scratch(alloc, field, scratch) {
-        Ok(Some(found)) => Ok(Column::Geometry(found)),
-        Ok(None) => {
-            let taken = GeoArrowType::from_arrow_field_with_scratch(alloc, field, scratch);
-            column_unnamed(field, taken)
-        }
         Err(error) => column_refused(field, &error),
     }
 }

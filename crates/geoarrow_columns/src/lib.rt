@@ -4,4 +4,4 @@
 mod check;
 pub mod laws;
 
-pub use check::{Column, ColumnFault, check_column, check_column_with_scratch, check_columns};
+pub use check::{Column, ColumnFault, check_column, check_columns};

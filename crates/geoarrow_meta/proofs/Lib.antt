@@ -1,6 +1,6 @@
 pub mod Equality
 pub mod Order
 pub mod ReadBack
-pub mod Slots
+pub mod KeyValues
 pub mod Stands
 mod PlainTexts

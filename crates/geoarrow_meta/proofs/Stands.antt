@@ -1,4 +1,4 @@
--- What was written stands for the normal form, and two metadata are written alike exactly where their normal forms are
+-- What was written denotes the normal form, and two metadata are written alike exactly where their normal forms are
 -- equal.
 use Rattle.std.proofs.Common.{◌≡◌, ◌↔◌, false, Option, Some, None, IfSome, option_map, unwrap_or, refl, sym, ap, ◌∙◌, subst, true≢false, arith}
 use Rattle.serde_json.specs.Data.{Data, null}
@@ -36,7 +36,7 @@ text_stands : (o : Option Data) (m : Metadata) → StandsAs o m → IsReadBack o
 text_stands None m h r = h
 text_stands (Some d) m h r = (d, r, h)
 
--- where `serde_json` reads what it printed, the text stands for the normal form
+-- where `serde_json` reads what it printed, the text denotes the normal form
 pub stands_for_normal : (m : Metadata) → IfSome m.crs.value IsCrsValue → IsReadBack (meta_value m) → TextStandsFor (option_map compact_text (meta_value m)) (normal m)
 stands_for_normal m h r = text_stands (meta_value m) (normal m) (parts_stand m.crs.value m.crs.crs_type m.edges h) r
 

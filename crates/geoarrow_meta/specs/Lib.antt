@@ -3,7 +3,7 @@ pub mod Same
 pub mod CrsValue
 pub mod Read
 pub mod Written
-pub mod Slots
+pub mod KeyValues
 pub mod Transform
 pub mod Whole
 pub mod Prints

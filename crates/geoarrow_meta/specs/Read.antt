@@ -1,6 +1,6 @@
 -- Which metadata a JSON value or a text denotes (GeoArrow, "Extension metadata"), and with which error one that denotes none
 -- is refused.
-use Rattle.std.specs.Prelude.{◌≡◌, codes, Bool, true, false, Option, None, Some, IsSome, option_map, ⊤}
+use Rattle.std.specs.Prelude.{◌≡◌, ◌⊎◌, codes, Bool, true, false, Option, None, Some, IsSome, Result, MatchResult, option_map, ⊤}
 use Rattle.arrow_values.specs.Tree.{Text}
 use Rattle.arrow_values.specs.Errors.{IsMemory}
 use Rattle.arrow_values.specs.declared.error.ArrowError.{ArrowError}
@@ -72,6 +72,11 @@ pub record StandsFor (d : Data) (m : Metadata) : Type 0 where
 abbrev pub TextStandsFor : Option Text → Metadata → Type 0
 TextStandsFor None m = m ≡ empty
 TextStandsFor (Some s) m = (d : Data) × (read s ≡ Some d) × StandsFor d m
+
+-- what a metadata text, or its absence, is read as: the metadata that it denotes; or an error, where it denotes none or memory
+-- runs out
+abbrev pub IsTextReading : Option Text → Result Metadata ArrowError → Type 0
+IsTextReading t r = MatchResult r (TextStandsFor t) (λ e. IsMemory e ⊎ ((m : Metadata) → TextStandsFor t m → ⊥))
 
 -- the value is an object with a number in `crs` that is read as a float
 abbrev pub HasFloat : Data → Type 0

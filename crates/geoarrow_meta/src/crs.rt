@@ -37,8 +37,8 @@ pub struct Crs {
 
 impl Crs {
     /// Whether `from_projjson` accepts the value: it is an object, and each number in it, at any depth, is whole:
-    /// `serde_json` holds it as a 64-bit integer, so 1.5 is not whole, and neither are 1.0, 1e2 and -0. Takes no
-    /// memory.
+    /// `serde_json` holds it as a 64-bit integer, so 1.5 is not whole, and neither are 1.0, 1e2 and -0. Allocates
+    /// nothing.
     pub fn is_projjson(value: &Value) -> bool
         ensures { IsTrue result ↔ (IsSome (as_object (view value.now))
             × (has_float (view value.now) ≡ false)) }
@@ -46,7 +46,7 @@ impl Crs {
         value.is_object() && holds_whole_numbers(value)
     }
 
-    /// Whether `from_authority_code` accepts the text: it contains a colon. Takes no memory.
+    /// Whether `from_authority_code` accepts the text: it contains a colon. Allocates nothing.
     pub fn is_authority_code(code: &str) -> bool
         ensures { IsTrue result ↔ Contains code.now 58 }
     {

@@ -30,7 +30,7 @@ pub enum Edges {
 }
 
 impl Edges {
-    /// The text that stands for the edges in a metadata: `andoyer`, `karney`, `spherical`, `thomas` or `vincenty`.
+    /// The text that denotes the edges in a metadata: `andoyer`, `karney`, `spherical`, `thomas` or `vincenty`.
     pub fn as_text(self) -> &'static str
         ensures { result.now ≡ edges_text self }
     {
@@ -43,7 +43,7 @@ impl Edges {
         }
     }
 
-    /// The edges that a text stands for; `None` for any other text.
+    /// The edges that a text denotes; `None` for any other text.
     pub fn from_text(text: &str) -> Option<Edges>
         ensures { (e : Edges) → (result ≡ Some e) ↔ (text.now ≡ edges_text e) }
     {

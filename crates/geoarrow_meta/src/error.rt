@@ -28,7 +28,7 @@ pub(crate) fn external_fault(alloc: Global, text: &str) -> GeoArrowError
 }
 
 // The error as one of Arrow; out-of-memory where there is none for the box.
-pub(crate) fn boxed(alloc: Global, error: GeoArrowError) -> ArrowError
+pub(crate) fn into_external(alloc: Global, error: GeoArrowError) -> ArrowError
     ensures { IsArrowMemory result ⊎ IsArrowFormOf error result }
 {
     match error.into_arrow_error(alloc) {
@@ -43,6 +43,6 @@ pub(crate) fn unread(alloc: Global, refusal: Refusal) -> ArrowError
 {
     match refusal {
         Refusal::Memory => ArrowError::OutOfMemory,
-        Refusal::Text => boxed(alloc, external_fault(alloc, "metadata is not JSON")),
+        Refusal::Text => into_external(alloc, external_fault(alloc, "metadata is not JSON")),
     }
 }

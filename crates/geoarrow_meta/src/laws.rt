@@ -29,7 +29,7 @@ pub fn written_alike(one: &Metadata, other: &Metadata)
     other.crs().crs_value();
 }
 
-/// A law: the printed text of a metadata, or its absence, stands for the normal form, where `serde_json` reads what it
+/// A law: the printed text of a metadata, or its absence, denotes the normal form, where `serde_json` reads what it
 /// printed as the value that it printed.
 pub fn printed_reads_back(metadata: &Metadata)
     ensures { IsReadBack (meta_value metadata.now)
@@ -60,13 +60,13 @@ fn crs_value_is_whole(crs: &Crs)
     }
 }
 
-/// A law: a JSON value stands for one metadata at most. There is nothing to run.
+/// A law: a JSON value denotes one metadata at most. There is nothing to run.
 pub fn value_stands_for_one(value: &Value)
     ensures { (m n : Metadata) → StandsFor (view value.now) m → StandsFor (view value.now) n
         → m ≡ n }
 {}
 
-/// A law: a text, or its absence, stands for one metadata at most. There is nothing to run.
+/// A law: a text, or its absence, denotes one metadata at most. There is nothing to run.
 pub fn text_stands_for_one(text: Option<&str>)
     ensures { (m n : Metadata) → TextStandsFor (text_of text.entry) m
         → TextStandsFor (text_of text.entry) n → m ≡ n }

@@ -11,28 +11,28 @@ ghost use Rattle.serde_json.specs.Written.{has_float};
 ghost use Rattle.geoarrow_meta.specs.declared.metadata.Metadata.{Metadata};
 ghost use Rattle.geoarrow_meta.specs.CrsValue.{IsCrsValue};
 ghost use Rattle.geoarrow_meta.specs.Written.{meta_value, printed, normal, is_bare, IsReadBack, NestsWithin};
-ghost use Rattle.geoarrow_meta.specs.Read.{empty, StandsFor, TextStandsFor, RefusedAs, TextRefusedAs};
-ghost use Rattle.geoarrow_meta.specs.Slots.{AreSlotsOf};
+ghost use Rattle.geoarrow_meta.specs.Read.{empty, StandsFor, TextStandsFor, RefusedAs, TextRefusedAs, IsTextReading};
+ghost use Rattle.geoarrow_meta.specs.KeyValues.{AreValuesOf};
 
+mod key_values;
 mod plain;
 mod plain_members;
 mod print;
-mod read;
 mod tokens;
 mod write;
 
 use crate::crs::{Crs, CrsValue};
 use crate::edges::Edges;
-use crate::error::{boxed, crs_fault, external_fault, unread};
+use crate::error::{crs_fault, external_fault, into_external, unread};
 use crate::walks::holds_whole_numbers;
 use arrow_values::{ArrowError, Field, GeoArrowResult};
-use json::{Scratch, Writer};
+use json::Writer;
+use key_values::{KeyValues, values_of};
 use print::print_parts;
-use read::{Slots, slots_of};
 use serde_json::Value;
 use std::alloc::{AllocError, Global};
 use std::sync::Arc;
-use tokens::read_slots;
+use tokens::read_values;
 use write::written_value;
 
 /// The metadata of an extension type (GeoArrow, "Extension types", "Extension metadata"): a CRS, and how edges run. The
@@ -85,7 +85,7 @@ impl Metadata {
 
     /// The JSON value that the metadata is written as (GeoArrow, "Extension metadata"): an object with `crs`, which is
     /// null if there is no CRS value, with `crs_type` if there is one, and with `edges` if there are any. `None`, which
-    /// takes no memory, if there is neither a CRS value nor edges. Errs only when out of memory.
+    /// allocates nothing, if there is neither a CRS value nor edges. Errs only when out of memory.
     pub fn to_value(&self, alloc: Global) -> Result<Option<Value>, AllocError>
         ensures value { IfOk result (λ o. option_map view o ≡ meta_value self.now) }
         ensures whole { IfOk result (λ o. IfSome o (λ v. has_float (view v) ≡ false)) }
@@ -99,7 +99,7 @@ impl Metadata {
         Ok(Some(written_value(alloc, value, self.crs.crs_type(), self.edges)?))
     }
 
-    /// The metadata that a JSON value stands for (GeoArrow, "Extension metadata"). The value must be an object. A
+    /// The metadata that a JSON value denotes (GeoArrow, "Extension metadata"). The value must be an object. A
     /// `crs`, `crs_type` or `edges` that is null or missing is absent; `crs` may be any other value whose numbers are
     /// whole, at any depth (see [`Crs::is_projjson`]), and `crs_type` and `edges` must be texts of the format. Other
     /// keys are ignored. Errs, in this order, with `External` if the value is not an object, with `Crs` if a number in
@@ -113,22 +113,22 @@ impl Metadata {
         if !value.is_object() {
             return Err(external_fault(alloc, "metadata is not an object"));
         }
-        Metadata::of_slots(alloc, slots_of(alloc, value)?)
+        Metadata::of_values(alloc, values_of(alloc, value)?)
     }
 
-    // The metadata of what stands at the three keys of an object.
-    fn of_slots(alloc: Global, slots: Slots) -> GeoArrowResult<Metadata>
-        requires { (d : Data) × AreSlotsOf d (option_map view slots.crs) slots.crs_type slots.edges }
+    // The metadata of the values of the three keys of an object.
+    fn of_values(alloc: Global, values: KeyValues<Value>) -> GeoArrowResult<Metadata>
+        requires { (d : Data) × AreValuesOf d (option_map view values.crs) values.crs_type values.edges }
         ensures ok { IfOk result (λ m. (d : Data) → IsSome (as_object d)
-            → AreSlotsOf d (option_map view slots.crs) slots.crs_type slots.edges → StandsFor d m) }
+            → AreValuesOf d (option_map view values.crs) values.crs_type values.edges → StandsFor d m) }
         ensures err { IfErr result (λ e. (d : Data) → IsSome (as_object d)
-            → AreSlotsOf d (option_map view slots.crs) slots.crs_type slots.edges → RefusedAs d e) }
+            → AreValuesOf d (option_map view values.crs) values.crs_type values.edges → RefusedAs d e) }
     {
-        let Slots {
+        let KeyValues {
             crs,
             crs_type,
             edges,
-        } = slots;
+        } = values;
         if let Some(found) = &crs {
             if !holds_whole_numbers(found) {
                 return Err(crs_fault(alloc, "CRS holds a number that is not whole"));
@@ -150,8 +150,8 @@ impl Metadata {
         })
     }
 
-    /// The text that stands for the metadata at a field's `ARROW:extension:metadata`: the compact JSON text of `to_value`.
-    /// Where neither CRS value nor edges stand there is none, and that takes no memory. Errs only when out of memory. A
+    /// The text that denotes the metadata at a field's `ARROW:extension:metadata`: the compact JSON text of `to_value`.
+    /// If there is neither a CRS value nor edges, there is none, and nothing is allocated. Errs only when out of memory. A
     /// text that is answered reads back to the normal form of the metadata where `serde_json` reads it as the value that
     /// was printed, which it does where the CRS value is nested at most 100 levels.
     pub fn serialize(&self, alloc: Global) -> Result<Option<String>, ArrowError>
@@ -184,8 +184,8 @@ impl Metadata {
         Ok(Some(unsafe { String::from_utf8_unchecked(out.into_inner()) }))
     }
 
-    /// The metadata that a text at a field's `ARROW:extension:metadata`, or its absence, stands for. No text gives the
-    /// default, without memory. Errs as `ExternalError` of `External` where `serde_json` does not read the text, and of the
+    /// The metadata that a text at a field's `ARROW:extension:metadata`, or its absence, denotes. No text gives the
+    /// default, and allocates nothing. Errs as `ExternalError` of `External` where `serde_json` does not read the text, and of the
     /// error of `from_value` where that errs for the text's value; else only when out of memory.
     ///
     /// ```rust
@@ -194,61 +194,35 @@ impl Metadata {
     /// assert_eq!(rt; metadata.edges(), Some(Edges::Spherical));
     /// assert_eq!(rt; metadata.crs().crs_type(), None);
     /// ```
+    #[inline]
     pub fn deserialize(alloc: Global, metadata: Option<&str>) -> Result<Metadata, ArrowError>
-        ensures exact { MatchResult result (TextStandsFor (text_of metadata.entry))
-            (λ e. IsMemory e
-            ⊎ ((m : Metadata) → TextStandsFor (text_of metadata.entry) m → ⊥)) }
+        ensures exact { IsTextReading (text_of metadata.entry) result }
         ensures refusal { IfErr result (TextRefusedAs (text_of metadata.entry)) }
         ensures no_memory { text_of metadata.entry ≡ None → IsOk result }
     {
         let Some(text) = metadata else {
             return Ok(Metadata::default());
         };
-        Metadata::of_text(alloc, text, None)
+        Metadata::of_text(alloc, text)
     }
 
-    /// The same as `deserialize`, in a scratch that the caller keeps: many texts that are read with one scratch cost less
-    /// than with a scratch each. Nothing of a text stays in it that another text could see.
-    pub fn deserialize_with_scratch(
-        alloc: Global,
-        metadata: Option<&str>,
-        scratch: &mut Scratch,
-    ) -> Result<Metadata, ArrowError>
-        ensures exact { MatchResult result (TextStandsFor (text_of metadata.entry))
-            (λ e. IsMemory e
-            ⊎ ((m : Metadata) → TextStandsFor (text_of metadata.entry) m → ⊥)) }
-        ensures refusal { IfErr result (TextRefusedAs (text_of metadata.entry)) }
-        ensures no_memory { text_of metadata.entry ≡ None → IsOk result }
-    {
-        match metadata {
-            Some(text) => Metadata::of_text(alloc, text, Some(scratch)),
-            None => Ok(Metadata::default()),
-        }
-    }
-
-    // The metadata that a text stands for.
-    fn of_text(
-        alloc: Global,
-        text: &str,
-        scratch: Option<&mut Scratch>,
-    ) -> Result<Metadata, ArrowError>
-        ensures exact { MatchResult result (TextStandsFor (Some text.now))
-            (λ e. IsMemory e
-            ⊎ ((m : Metadata) → TextStandsFor (Some text.now) m → ⊥)) }
+    // The metadata that a text denotes.
+    fn of_text(alloc: Global, text: &str) -> Result<Metadata, ArrowError>
+        ensures exact { IsTextReading (Some text.now) result }
         ensures refusal { IfErr result (TextRefusedAs (Some text.now)) }
     {
-        let read = match read_slots(alloc, text, scratch) {
-            Ok(Some(slots)) => Metadata::of_slots(alloc, slots),
+        let read = match read_values(alloc, text) {
+            Ok(Some(values)) => Metadata::of_values(alloc, values),
             Ok(None) => Err(external_fault(alloc, "metadata is not an object")),
             Err(refusal) => return Err(unread(alloc, refusal)),
         };
         match read {
             Ok(metadata) => Ok(metadata),
-            Err(e) => Err(boxed(alloc, e)),
+            Err(e) => Err(into_external(alloc, e)),
         }
     }
 
-    /// The same as `deserialize`, in an `Arc`, as extension types hold their metadata. Errs as `deserialize` does.
+    /// The metadata of `deserialize` in an `Arc`, as extension types hold their metadata. Errs as `deserialize` does.
     pub fn deserialize_shared(
         alloc: Global,
         metadata: Option<&str>,
@@ -264,32 +238,16 @@ impl Metadata {
 
     /// The metadata that a field's metadata text, or its absence, stands for, whatever the name of its extension type.
     /// Errs as `deserialize` does.
+    #[inline]
     pub fn try_from_field(alloc: Global, field: &Field) -> Result<Metadata, ArrowError>
-        ensures exact { MatchResult result (TextStandsFor (extension_metadata field.now))
-            (λ e. IsMemory e
-            ⊎ ((m : Metadata) → TextStandsFor (extension_metadata field.now) m → ⊥)) }
+        ensures exact { IsTextReading (extension_metadata field.now) result }
         ensures refusal { IfErr result (TextRefusedAs (extension_metadata field.now)) }
         ensures no_memory { extension_metadata field.now ≡ None → IsOk result }
     {
         Metadata::deserialize(alloc, field.extension_type_metadata())
     }
 
-    /// The same as `try_from_field`, in a scratch that the caller keeps.
-    pub fn try_from_field_with_scratch(
-        alloc: Global,
-        field: &Field,
-        scratch: &mut Scratch,
-    ) -> Result<Metadata, ArrowError>
-        ensures exact { MatchResult result (TextStandsFor (extension_metadata field.now))
-            (λ e. IsMemory e
-            ⊎ ((m : Metadata) → TextStandsFor (extension_metadata field.now) m → ⊥)) }
-        ensures refusal { IfErr result (TextRefusedAs (extension_metadata field.now)) }
-        ensures no_memory { extension_metadata field.now ≡ None → IsOk result }
-    {
-        Metadata::deserialize_with_scratch(alloc, field.extension_type_metadata(), scratch)
-    }
-
-    /// Whether both are written as the same JSON value, that is, whether their normal forms are equal. Takes no memory.
+    /// Whether both are written as the same JSON value, that is, whether their normal forms are equal. Allocates nothing.
     pub fn same_written(&self, other: &Metadata) -> bool
         ensures value { IsTrue result ↔ (meta_value self.now ≡ meta_value other.now) }
         ensures normal { IsTrue result ↔ (normal self.now ≡ normal other.now) }
@@ -300,7 +258,7 @@ impl Metadata {
         self.is_bare() || self.crs.crs_type() == other.crs.crs_type()
     }
 
-    /// Whether the metadata is in normal form. If it is not, its normal form is the default metadata. Takes no memory.
+    /// Whether the metadata is in normal form. If it is not, its normal form is the default metadata. Allocates nothing.
     pub fn is_normal(&self) -> bool
         ensures exact { IsTrue result ↔ (normal self.now ≡ self.now) }
         ensures else_default { IsTrue result ⊎ (normal self.now ≡ empty) }
@@ -308,7 +266,7 @@ impl Metadata {
         !self.is_bare() || self.crs.crs_type().is_none()
     }
 
-    // Whether neither CRS value nor edges stand.
+    // Whether there is neither a CRS value nor edges.
     fn is_bare(&self) -> bool
         ensures { result ≡ is_bare self.now.crs.value self.now.edges }
     {
@@ -316,7 +274,7 @@ impl Metadata {
     }
 
     /// The normal form: the CRS type is dropped if there is neither a CRS value nor edges, since it is not written then.
-    /// Takes no memory.
+    /// Allocates nothing.
     pub fn normalized(self) -> Metadata
         ensures value { result ≡ normal self }
         ensures again { normal result ≡ result }

@@ -68,7 +68,7 @@ pub trait CrsTransform: Debug {
     }
 }
 
-/// The transform that converts nothing: both conversions return `None`, which takes no memory. So a writer of a format that
+/// The transform that converts nothing: both conversions return `None`, which allocates nothing. So a writer of a format that
 /// allows only one form of CRS loses each CRS of another form if it uses this transform.
 ///
 /// ```rust

@@ -74,7 +74,7 @@ pub(crate) fn same_value(a: &Value, b: &Value) -> bool
     }
 }
 
-// The same, in words of the two values.
+// Whether two values whose numbers are whole are equal.
 pub(crate) fn is_same(a: &Value, b: &Value) -> bool
     requires first { has_float (view a.now) ≡ false }
     requires second { has_float (view b.now) ≡ false }

@@ -1,6 +1,7 @@
 //! GeoArrow's native types of many parts: shapes for `NativeType` of `geoarrow_native`.
 #![tactic(auto)]
 
+pub mod laws;
 mod shape;
 
 use geoarrow_native::NativeType;

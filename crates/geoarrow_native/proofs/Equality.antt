@@ -20,7 +20,7 @@ dimension_test XYZM XYZM = (λ h. refl, λ p. refl)
 dimension_test _ _ = (λ h. absurd cc, λ p. absurd cc)
 
 -- all three tests, and what each says
-pub three_tests : {P Q R : Type 0} (r a b c : Bool) → r ≡ (a && (b && c)) → IsTrue a ↔ P → IsTrue b ↔ Q → IsTrue c ↔ R → IsTrue r ↔ (P × Q × R)
+pub three_tests : {P Q R : Type 0} (r a b c : Bool) → r ≡ ((a && b) && c) → IsTrue a ↔ P → IsTrue b ↔ Q → IsTrue c ↔ R → IsTrue r ↔ (P × Q × R)
 three_tests r true true true is p q s = (λ h. (p.0 refl, q.0 refl, s.0 refl), λ h. is)
 three_tests r true true false is p q s = (λ h. absurd cc, λ h. let t : false ≡ true = s.1 h.2 in absurd cc)
 three_tests r true false c is p q s = (λ h. absurd cc, λ h. let t : false ≡ true = q.1 h.1 in absurd cc)

@@ -1,17 +1,14 @@
 -- Which kind and metadata a field is read as, and which field is written for them.
 use Rattle.std.specs.Prelude.{◌≡◌, ◌⊎◌, [], Bool, true, Some}
-use Rattle.arrow_values.specs.Tree.{Text, Tree, FieldTree, field_tree}
+use Rattle.arrow_values.specs.Tree.{Text, FieldTree, field_tree}
 use Rattle.arrow_values.specs.Texts.{extension_name, extension_metadata, set_extension}
 use Rattle.arrow_values.specs.Errors.{is_schema}
 use Rattle.arrow_values.specs.declared.error.ArrowError.{ArrowError}
-use Rattle.geoarrow_layout.specs.declared.kinds.CoordType.{CoordType}
-use Rattle.geoarrow_layout.specs.declared.kinds.Dimension.{Dimension}
-use Rattle.geoarrow_layout.specs.declared.encodings.NativeKind.{NativeKind}
 use Rattle.geoarrow_layout.specs.declared.encodings.Kind.{Kind}
 use Rattle.geoarrow_layout.specs.declared.fault.LayoutFault.{LayoutFault}
 use Rattle.geoarrow_layout.specs.Faults.{IsArrowFormOf}
 use Rattle.geoarrow_layout.specs.Kinds.{name_of}
-use Rattle.geoarrow_layout.specs.Shapes.{Native, Accepted}
+use Rattle.geoarrow_layout.specs.Shapes.{Accepted}
 use Rattle.geoarrow_layout.specs.Layouts.{layout}
 use Rattle.geoarrow_meta.specs.declared.metadata.Metadata.{Metadata}
 use Rattle.geoarrow_meta.specs.Written.{printed}
@@ -34,14 +31,7 @@ written_field name nullable k m = field_tree name (layout k) nullable (set_exten
 abbrev pub IsLayoutRefusal : ArrowError → Type 0
 IsLayoutRefusal e = (fault : LayoutFault) × IsArrowFormOf fault e
 
--- the error with which a type refuses a data type: that of a fault if it is not of the type's kind, otherwise a `SchemaError`
-abbrev pub RefusesUse : Type 0 → ArrowError → Type 0
-RefusesUse IsOfKind e = (¬ IsOfKind × IsLayoutRefusal e) ⊎ (IsOfKind × (is_schema e ≡ true))
-
--- the data type is of that native kind, in some coordinate type and dimension
-abbrev pub IsNative : Tree → NativeKind → Type 0
-IsNative t k = (c : CoordType) × (d : Dimension) × Native t k c d
-
--- a type of that native kind refuses the data type so
-unfoldable pub RefusesNativeUse : Tree → NativeKind → ArrowError → Type 0
-RefusesNativeUse t k e = RefusesUse (IsNative t k) e
+-- the error with which a type refuses a data type: how its encoding refuses one that it accepts as none; or a `SchemaError`, if
+-- it accepts it as another
+abbrev pub RefusesOther : {A : Type 0} → (A → Type 0) → (ArrowError → Type 0) → ArrowError → Type 0
+RefusesOther {A} IsAccepted IsRefused e = (((a : A) → ¬ IsAccepted a) × IsRefused e) ⊎ (((a : A) × IsAccepted a) × (is_schema e ≡ true))

@@ -2,14 +2,16 @@
 ghost use Rattle.std.specs.Arc.{arc_value};
 ghost use Rattle.std.specs.Prelude.{◌≡◌, ◌↔◌, Bool, IsTrue, pos};
 ghost use Rattle.geoarrow_layout.specs.declared.encodings.Kind.{Kind};
-ghost use Rattle.geoarrow_layout.specs.Kinds.{type_id_of};
+ghost use Rattle.geoarrow_layout.specs.declared.encodings.NativeKind.TheVariants as kinds;
+ghost use Rattle.geoarrow_layout.specs.declared.names.ExtensionName.TheVariants as names;
+ghost use Rattle.geoarrow_layout.specs.Kinds.{name_text, type_id_of};
 ghost use Rattle.geoarrow_meta.specs.declared.metadata.Metadata.{Metadata};
 ghost use Rattle.arrow_values.specs.Tree.{Text};
 ghost use Rattle.geoarrow_meta.specs.Written.{meta_value, normal, IsReadBack};
 ghost use Rattle.geoarrow_native.specs.Column.{ReadsAs, written_field};
 
 use crate::native::NativeType;
-use crate::shape::NativeShape;
+use crate::shape::{LineString, NativeShape, Point, Polygon};
 use crate::type_id::GeometryTypeId;
 use arrow_values::Field;
 use geoarrow_layout::{Kind, layout_reads_back, one_kind};
@@ -37,8 +39,8 @@ pub fn written_field_reads_back(kind: Kind, metadata: &Metadata)
 
 /// A law: `==` returns true for two native types exactly if coordinate type, dimension and metadata are equal.
 pub fn native_equality_is_exact<S: NativeShape>(one: &NativeType<S>, other: &NativeType<S>) -> bool
-    ensures { IsTrue result ↔ ((one.now.coord_type ≡ other.now.coord_type)
-        × (one.now.dimension ≡ other.now.dimension)
+    ensures { IsTrue result ↔ ((one.now.encoding.coord_type ≡ other.now.encoding.coord_type)
+        × (one.now.encoding.dimension ≡ other.now.encoding.dimension)
         × (arc_value one.now.metadata ≡ arc_value other.now.metadata)) }
 {
     equality_test_is_exact();
@@ -47,7 +49,16 @@ pub fn native_equality_is_exact<S: NativeShape>(one: &NativeType<S>, other: &Nat
 
 /// A law: the type id of a native type is that of its own kind and dimension, by the table of type ids.
 pub fn type_id_is_its_own<S: NativeShape>(native_type: &NativeType<S>) -> i8
-    ensures { result ≡ pos (type_id_of S.KIND native_type.now.dimension) }
+    ensures { result ≡ pos (type_id_of S.KIND native_type.now.encoding.dimension) }
 {
     native_type.geometry_type_id()
+}
+
+/// A law: the constants `NAME` of points, line strings and polygons are their extension names.
+pub fn names_of_shapes() -> (&'static str, &'static str, &'static str)
+    ensures points { result.0.now ≡ name_text (names.Native kinds.Point) }
+    ensures line_strings { result.1.now ≡ name_text (names.Native kinds.LineString) }
+    ensures polygons { result.2.now ≡ name_text (names.Native kinds.Polygon) }
+{
+    (Point::NAME, LineString::NAME, Polygon::NAME)
 }

@@ -1,15 +1,24 @@
-//! GeoArrow's native types: one generic type, whose parameter is the shape. The shapes of points, line strings and polygons
-//! are here; those of multipoints, multilinestrings, multipolygons and collections are in `geoarrow_multi`.
+//! The types of columns of geometries: one generic type, `ColumnType`, whose parameter is the encoding. The encodings are
+//! the native one, whose parameter is the shape, boxes, geometries of any kind, well-known binary and well-known text. The
+//! shapes of points, line strings and polygons are here; those of multipoints, multilinestrings, multipolygons and
+//! collections are in `geoarrow_multi`.
 #![tactic(auto)]
 
+mod boxes;
+mod column;
+mod geometry;
 pub mod laws;
 mod native;
-mod parts;
+mod serialized;
 mod shape;
 mod type_id;
 mod write;
 
-pub use native::NativeType;
+pub use boxes::{BoxType, Rect, RectType};
+pub use column::{ColumnEncoding, ColumnType, KindEncoding};
+pub use geometry::{Geometry, GeometryType};
+pub use native::{Native, NativeType};
+pub use serialized::{Encoding, Serialized, SerializedType, Wkb, WkbType, Wkt, WktType};
 pub use shape::{LineString, NativeShape, Point, Polygon};
 pub use type_id::GeometryTypeId;
 pub use write::column_field;

@@ -1,6 +1,7 @@
 //! The id of a type among the members of a union.
 
-use crate::native::NativeType;
+use crate::column::ColumnType;
+use crate::native::Native;
 use crate::shape::NativeShape;
 use geoarrow_layout::Dimension;
 
@@ -38,17 +39,17 @@ pub trait GeometryTypeId {
     ghost offset_within: { (pos 1 ≤ℤ GEOMETRY_TYPE_OFFSET) × (GEOMETRY_TYPE_OFFSET ≤ℤ pos 7) };
 }
 
-impl<S: NativeShape> GeometryTypeId for NativeType<S> {
+impl<S: NativeShape> GeometryTypeId for ColumnType<Native<S>> {
     ghost use Rattle.geoarrow_native.specs.Agree.{within_at};
 
     const GEOMETRY_TYPE_OFFSET: i8 = S::OFFSET;
 
     ghost GEOMETRY_TYPE_OFFSET = { S.OFFSET };
 
-    ghost dimension_of = { λ e. e.dimension };
+    ghost dimension_of = { λ e. e.encoding.dimension };
 
     fn dimension(&self) -> Dimension {
-        self.dimension
+        self.encoding.dimension
     }
 
     ghost offset_within = { within_at S.OFFSET S.KIND S.offset_is };

@@ -99,15 +99,15 @@ infers_alone f r g is here k m there =
 abbrev IsUninferred : FieldTree → GeoArrowError → Type 0
 IsUninferred f e = IsGeoMemory e ⊎ (InfersNone f × UninferredAs f e)
 
-pub uninferred_text : (f : FieldTree) (a : ArrowError) → IsMemory a ⊎ ((m : Metadata) → ¬ TextStandsFor (extension_metadata f) m) → TextRefusedAs (extension_metadata f) a → IsUninferred f (Arrow a)
+pub text_error : (f : FieldTree) (a : ArrowError) → IsMemory a ⊎ ((m : Metadata) → ¬ TextStandsFor (extension_metadata f) m) → TextRefusedAs (extension_metadata f) a → IsUninferred f (Arrow a)
 unfolding InfersAs
-uninferred_text f a (inl memory) refused = inl (ap Arrow memory)
-uninferred_text f a (inr none) refused = inr ((λ k m h. none m h.1), (none, refused))
+text_error f a (inl memory) refused = inl (ap Arrow memory)
+text_error f a (inr none) refused = inr ((λ k m h. none m h.1), (none, refused))
 
-pub uninferred_tree : (f : FieldTree) (text : Text) (e : GeoArrowError) (m : Metadata) → TextStandsFor (extension_metadata f) m → InfersNone f → IsGeoMemory e ⊎ IsInvalidOf text e → IsUninferred f e
-uninferred_tree f text e m stands none (inl memory) = inl memory
-uninferred_tree f text (InvalidGeoArrow s) m stands none (inr is) = inr (none, (m, stands))
-uninferred_tree f text e m stands none (inr is) = absurd is
+pub tree_error : (f : FieldTree) (text : Text) (e : GeoArrowError) (m : Metadata) → TextStandsFor (extension_metadata f) m → InfersNone f → IsGeoMemory e ⊎ IsInvalidOf text e → IsUninferred f e
+tree_error f text e m stands none (inl memory) = inl memory
+tree_error f text (InvalidGeoArrow s) m stands none (inr is) = inr (none, (m, stands))
+tree_error f text e m stands none (inr is) = absurd is
 
 -- and how one that is read as nothing beside
 pub named_inference : (f : FieldTree) (r : Result GeoArrowType GeoArrowError) → HasGeoArrowName f → IfOk r (Reads f) → IfErr r (IsRefusal f) → IsInference f r

@@ -24,7 +24,7 @@ use Rattle.std.specs.declared.alloc.Global.{Global}
 use Rattle.geoarrow_native.specs.Column.{IsColumn, ReadsAs}
 use Rattle.geoarrow_schema.specs.declared.types.GeoArrowType.{GeoArrowType}
 use Rattle.geoarrow_schema.specs.Types.{kind_of, metadata_of, meta_of}
-use Rattle.geoarrow_schema.specs.Reads.{HasName, HasGeoArrowName, Reads, ReadsAsNone, ReadsAlone, IsUnstored, IsRefusedBy, IsTypeRefusal}
+use Rattle.geoarrow_schema.specs.Reads.{HasName, HasGeoArrowName, Reads, ReadsAsNone, ReadsAlone, HasWrongStorage, IsRefusedBy, IsTypeRefusal}
 use Rattle.geoarrow_schema.specs.Refusals.{IsColumnRefusal, IsRefusal}
 
 -- a column with a metadata
@@ -45,7 +45,7 @@ pub none_of_name : (f : FieldTree) (n : ExtensionName) → HasName f n → ((k :
 unfolding ReadsAs
 none_of_name f n has none k m r = none k (same_Some (name_text n) (name_of k) (sym has ∙ r.0.0), r.0.1)
 
--- and so is a metadata text that stands for none
+-- and so is a metadata text that denotes none
 pub none_of_text : (f : FieldTree) → ((m : Metadata) → ¬ TextStandsFor (extension_metadata f) m) → ReadsAsNone f
 unfolding ReadsAs
 none_of_text f none k m r = none m r.1
@@ -71,7 +71,7 @@ is_text (kinds.Wkt w) t e h = (w, h)
 is_text _ t e h = absurd (cc)
 
 -- a column of a kind is stored as that
-pub column_stored : NamesAreDistinct → (f : FieldTree) (k : Kind) → IsColumn f k → ¬ IsUnstored f
+pub column_stored : NamesAreDistinct → (f : FieldTree) (k : Kind) → IsColumn f k → ¬ HasWrongStorage f
 column_stored distinct f k column (inl (named, none)) =
     let stored = is_bytes k f.tree (one_name distinct f (extension_of k) Wkb column.0 named) column.1 in
     none stored.0 stored.1
@@ -89,16 +89,16 @@ no_storage n (inr (inl is)) = (λ e. cc, λ e. cc)
 no_storage n (inr (inr is)) = (λ e. cc, λ e. cc)
 
 -- under one of them nothing is unstored
-pub other_stored : NamesAreDistinct → (f : FieldTree) (n : ExtensionName) → HasName f n → IsOtherName n → ¬ IsUnstored f
+pub other_stored : NamesAreDistinct → (f : FieldTree) (n : ExtensionName) → HasName f n → IsOtherName n → ¬ HasWrongStorage f
 other_stored distinct f n has other (inl (named, none)) = (no_storage n other).0 (one_name distinct f n Wkb has named)
 other_stored distinct f n has other (inr (named, none)) = (no_storage n other).1 (one_name distinct f n Wkt has named)
 
 -- a tree of no kind of the name of well-known binary is no bytes
-pub binary_unstored : (f : FieldTree) → HasName f Wkb → ((k : Kind) → ¬ Accepts (name_text Wkb) f.tree k) → IsUnstored f
+pub binary_unstored : (f : FieldTree) → HasName f Wkb → ((k : Kind) → ¬ Accepts (name_text Wkb) f.tree k) → HasWrongStorage f
 binary_unstored f named none = inl (named, λ w h. none (kinds.Wkb w) (refl, h))
 
 -- and one of no kind of the name of well-known text is no text
-pub text_unstored : (f : FieldTree) → HasName f Wkt → ((k : Kind) → ¬ Accepts (name_text Wkt) f.tree k) → IsUnstored f
+pub text_unstored : (f : FieldTree) → HasName f Wkt → ((k : Kind) → ¬ Accepts (name_text Wkt) f.tree k) → HasWrongStorage f
 text_unstored f named none = inr (named, λ w h. none (kinds.Wkt w) (refl, h))
 
 -- a field that is read has a GeoArrow name
@@ -114,13 +114,13 @@ column_refused distinct f k a column (inl memory) refused = inl (ap Arrow memory
 column_refused distinct f k a column (inr none) refused = inr (none_of_text f none, (column_stored distinct f k column, inl refused))
 
 -- that of a field whose name is of well-known binary or text, and whose tree is not
-pub unstored_refused : (f : FieldTree) (text : Text) (e : GeoArrowError) → ReadsAsNone f → IsUnstored f → IsGeoMemory e ⊎ IsInvalidOf text e → IsRefusal f e
+pub unstored_refused : (f : FieldTree) (text : Text) (e : GeoArrowError) → ReadsAsNone f → HasWrongStorage f → IsGeoMemory e ⊎ IsInvalidOf text e → IsRefusal f e
 unstored_refused f text e none unstored (inl memory) = inl memory
 unstored_refused f text (InvalidGeoArrow s) none unstored (inr is) = inr (none, unstored)
 unstored_refused f text e none unstored (inr is) = absurd is
 
 -- that of any other field whose tree is of no kind
-pub structured_refused : (f : FieldTree) (a : ArrowError) → ReadsAsNone f → ¬ IsUnstored f → IsMemory a ⊎ IsColumnRefusal f a → IsRefusal f (Arrow a)
+pub structured_refused : (f : FieldTree) (a : ArrowError) → ReadsAsNone f → ¬ HasWrongStorage f → IsMemory a ⊎ IsColumnRefusal f a → IsRefusal f (Arrow a)
 structured_refused f a none stored (inl memory) = inl (ap Arrow memory)
 structured_refused f a none stored (inr refused) = inr (none, (stored, refused))
 

@@ -24,7 +24,7 @@ InferredAs t (Wkb w) = IsBytes w t
 InferredAs t (Wkt w) = IsText w t
 InferredAs t _ = ⊥
 
--- the field has no GeoArrow name, its metadata text stands for the metadata, and the kind is inferred from its tree
+-- the field has no GeoArrow name, its metadata text denotes the metadata, and the kind is inferred from its tree
 unfoldable pub InfersAs : FieldTree → Kind → Metadata → Type 0
 InfersAs f k m = ¬ HasGeoArrowName f × TextStandsFor (extension_metadata f) m × InferredAs f.tree k
 
@@ -48,7 +48,7 @@ ReadsOrInfers f g = Reads f g ⊎ Infers f g
 abbrev pub ReadsOrInfersAlone : FieldTree → GeoArrowType → Type 0
 ReadsOrInfersAlone f g = ReadsAlone f g × InfersAlone f g
 
--- the error with which a field without a GeoArrow name is refused: that of its metadata text, if that stands for none; `InvalidGeoArrow` for its tree
+-- the error with which a field without a GeoArrow name is refused: that of its metadata text, if that denotes none; `InvalidGeoArrow` for its tree
 abbrev pub UninferredAs : FieldTree → GeoArrowError → Type 0
 UninferredAs f (InvalidGeoArrow s) = (m : Metadata) × TextStandsFor (extension_metadata f) m
 UninferredAs f (Arrow a) = ((m : Metadata) → ¬ TextStandsFor (extension_metadata f) m) × TextRefusedAs (extension_metadata f) a

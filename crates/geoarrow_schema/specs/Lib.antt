@@ -1,4 +1,3 @@
-pub mod Stored
 pub mod Types
 pub mod Changes
 pub mod Reads

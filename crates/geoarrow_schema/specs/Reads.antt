@@ -28,34 +28,34 @@ HasName f n = extension_name f ≡ Some (name_text n)
 abbrev pub HasGeoArrowName : FieldTree → Type 0
 HasGeoArrowName f = (n : ExtensionName) × HasName f n
 
--- the field's name, tree and metadata text stand for the type
+-- the field's name, tree and metadata text denote the type
 abbrev pub Reads : FieldTree → GeoArrowType → Type 0
 Reads f g = ReadsAs f (kind_of g) (meta_of g)
 
--- they stand for no kind and metadata
+-- they denote no kind and metadata
 abbrev pub ReadsAsNone : FieldTree → Type 0
 ReadsAsNone f = (k : Kind) (m : Metadata) → ¬ ReadsAs f k m
 
--- they stand for no other kind and metadata
+-- they denote no other kind and metadata
 abbrev pub ReadsAlone : FieldTree → GeoArrowType → Type 0
 ReadsAlone f g = (k : Kind) (m : Metadata) → ReadsAs f k m → (k ≡ kind_of g) × (m ≡ meta_of g)
 
 -- the field has the name of well-known binary and its tree is not bytes, or that of well-known text and its tree is not text
-abbrev pub IsUnstored : FieldTree → Type 0
-IsUnstored f = (HasName f Wkb × ((w : Width) → ¬ IsBytes w f.tree)) ⊎ (HasName f Wkt × ((w : Width) → ¬ IsText w f.tree))
+abbrev pub HasWrongStorage : FieldTree → Type 0
+HasWrongStorage f = (HasName f Wkb × ((w : Width) → ¬ IsBytes w f.tree)) ⊎ (HasName f Wkt × ((w : Width) → ¬ IsText w f.tree))
 
--- the error with which a field with a GeoArrow name is refused; an `Arrow` is that of its metadata text or, if that stands for
+-- the error with which a field with a GeoArrow name is refused; an `Arrow` is that of its metadata text or, if that denotes
 -- a metadata, that of a layout
 abbrev pub RefusedAs : FieldTree → GeoArrowError → Type 0
-RefusedAs f (InvalidGeoArrow s) = IsUnstored f
-RefusedAs f (Arrow a) = ¬ IsUnstored f × (TextRefusedAs (extension_metadata f) a ⊎ (((m : Metadata) × TextStandsFor (extension_metadata f) m) × IsLayoutRefusal a))
+RefusedAs f (InvalidGeoArrow s) = HasWrongStorage f
+RefusedAs f (Arrow a) = ¬ HasWrongStorage f × (TextRefusedAs (extension_metadata f) a ⊎ (((m : Metadata) × TextStandsFor (extension_metadata f) m) × IsLayoutRefusal a))
 RefusedAs f _ = ⊥
 
 -- the field has a GeoArrow name and is refused with this error: out of memory; or it is read as nothing, and that is its error
 abbrev pub IsRefusedBy : FieldTree → GeoArrowError → Type 0
 IsRefusedBy f e = HasGeoArrowName f × (IsGeoMemory e ⊎ (ReadsAsNone f × RefusedAs f e))
 
--- what a field is read as: the type that it stands for; `None` if it has no GeoArrow name; or, if it has one, how it is refused
+-- what a field is read as: the type that it denotes; `None` if it has no GeoArrow name; or, if it has one, how it is refused
 abbrev pub IsReading : FieldTree → Result (Option GeoArrowType) GeoArrowError → Type 0
 IsReading f (Ok (Some g)) = Reads f g
 IsReading f (Ok None) = ¬ HasGeoArrowName f
@@ -83,8 +83,8 @@ abbrev pub writes : GeoArrowType → Written
 writes g = (name_of (kind_of g), layout (kind_of g), meta_value (meta_of g))
 
 -- the field with the extension name of a kind and the metadata text of a metadata, otherwise unchanged
-abbrev pub dressed : FieldTree → Kind → Metadata → FieldTree
-dressed f k m = record f { metadata = set_extension (name_of k) (printed m) f.metadata }
+abbrev pub with_extension : FieldTree → Kind → Metadata → FieldTree
+with_extension f k m = record f { metadata = set_extension (name_of k) (printed m) f.metadata }
 
 -- the field of that name and nullability that is written for a type
 abbrev pub field_of : Text → Bool → GeoArrowType → FieldTree

@@ -10,7 +10,7 @@ use Rattle.geoarrow_meta.specs.Read.{TextStandsFor, TextRefusedAs}
 use Rattle.geoarrow_native.specs.Column.{IsLayoutRefusal}
 use Rattle.geoarrow_schema.specs.Reads.{ReadsAsNone, RefusedAs}
 
--- the error of the field's metadata text or, if that stands for a metadata, that of a layout
+-- the error of the field's metadata text or, if that denotes a metadata, that of a layout
 abbrev pub IsColumnRefusal : FieldTree → ArrowError → Type 0
 IsColumnRefusal f a = TextRefusedAs (extension_metadata f) a ⊎ (((m : Metadata) × TextStandsFor (extension_metadata f) m) × IsLayoutRefusal a)
 

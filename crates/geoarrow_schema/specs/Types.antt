@@ -13,15 +13,15 @@ use Rattle.geoarrow_schema.specs.declared.types.GeoArrowType.TheVariants.{Point,
 
 -- the kind of a type
 abbrev pub kind_of : GeoArrowType → Kind
-kind_of (Point t) = kinds.Native natives.Point t.coord_type t.dimension
-kind_of (LineString t) = kinds.Native natives.LineString t.coord_type t.dimension
-kind_of (Polygon t) = kinds.Native natives.Polygon t.coord_type t.dimension
-kind_of (MultiPoint t) = kinds.Native natives.MultiPoint t.coord_type t.dimension
-kind_of (MultiLineString t) = kinds.Native natives.MultiLineString t.coord_type t.dimension
-kind_of (MultiPolygon t) = kinds.Native natives.MultiPolygon t.coord_type t.dimension
-kind_of (GeometryCollection t) = kinds.Native natives.GeometryCollection t.coord_type t.dimension
-kind_of (Rect t) = kinds.Rect t.dimension
-kind_of (Geometry t) = kinds.Geometry t.coord_type
+kind_of (Point t) = kinds.Native natives.Point t.encoding.coord_type t.encoding.dimension
+kind_of (LineString t) = kinds.Native natives.LineString t.encoding.coord_type t.encoding.dimension
+kind_of (Polygon t) = kinds.Native natives.Polygon t.encoding.coord_type t.encoding.dimension
+kind_of (MultiPoint t) = kinds.Native natives.MultiPoint t.encoding.coord_type t.encoding.dimension
+kind_of (MultiLineString t) = kinds.Native natives.MultiLineString t.encoding.coord_type t.encoding.dimension
+kind_of (MultiPolygon t) = kinds.Native natives.MultiPolygon t.encoding.coord_type t.encoding.dimension
+kind_of (GeometryCollection t) = kinds.Native natives.GeometryCollection t.encoding.coord_type t.encoding.dimension
+kind_of (Rect t) = kinds.Rect t.encoding.dimension
+kind_of (Geometry t) = kinds.Geometry t.encoding.coord_type
 kind_of (Wkb t) = kinds.Wkb widths.Plain
 kind_of (LargeWkb t) = kinds.Wkb widths.Large
 kind_of (WkbView t) = kinds.Wkb widths.View

@@ -1,12 +1,10 @@
 //! Each type as a `GeoArrowType`.
 
-use crate::boxes::BoxType;
-use crate::geometry::GeometryType;
 use crate::types::GeoArrowType;
 use geoarrow_multi::{
     GeometryCollectionType, MultiLineStringType, MultiPointType, MultiPolygonType,
 };
-use geoarrow_native::{LineStringType, PointType, PolygonType};
+use geoarrow_native::{BoxType, GeometryType, LineStringType, PointType, PolygonType};
 
 impl From<PointType> for GeoArrowType {
     ghost use Rattle.std.specs.Prelude.{◌≡◌};

@@ -1,5 +1,7 @@
-//! The generic types behind the native and the serialized types, and their parameters.
+//! The generic type behind the eleven types, its encodings and their parameters.
 
-pub use crate::serialized::{Encoding, SerializedType, Wkb, Wkt};
 pub use geoarrow_multi::{GeometryCollection, MultiLineString, MultiPoint, MultiPolygon};
-pub use geoarrow_native::{LineString, NativeShape, NativeType, Point, Polygon};
+pub use geoarrow_native::{
+    ColumnEncoding, ColumnType, Encoding, Geometry, KindEncoding, LineString, Native, NativeShape,
+    NativeType, Point, Polygon, Rect, Serialized, SerializedType, Wkb, Wkt,
+};

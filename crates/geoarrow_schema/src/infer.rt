@@ -6,24 +6,24 @@ ghost use Rattle.geoarrow_layout.specs.declared.encodings.Kind.{Kind};
 ghost use Rattle.geoarrow_schema.specs.Reads.{HasGeoArrowName};
 ghost use Rattle.geoarrow_schema.specs.Infers.{InferredAs, Infers, InfersAlone, ReadsOrInfersAlone, InfersNone, UninferredAs, IsInference, AnswersInferred, SerializedAs};
 
-use crate::read::{name_of, read_metadata, read_named};
+use crate::read::{name_of, read_named};
 use crate::types::GeoArrowType;
 use arrow_values::{DataType, Field, GeoArrowError, GeoArrowResult};
 use geoarrow_layout::{Bottom, Kind, NativeKind, infer_point, parse_wkb, parse_wkt, summarize};
-use json::Scratch;
+use geoarrow_meta::Metadata;
 use std::alloc::Global;
 use std::sync::Arc;
 
 impl GeoArrowType {
     /// The type that a field is read as by `from_extension_field`. If that returns `None`, the type that is inferred
-    /// from the field's data type, with the metadata that the metadata text, or its absence, stands for
+    /// from the field's data type, with the metadata that the metadata text, or its absence, denotes
     /// (docs/FORMAT.md, 1.4 and 1.7): a separated point for a struct of 2, 3 or 4 `Float64` fields, an interleaved point
     /// for a fixed size list of 2, 3 or 4 of them (three are x, y and m if they are named so, otherwise x, y and z),
     /// well-known binary for `Binary`, `LargeBinary` and `BinaryView`, and well-known text for `Utf8`, `LargeUtf8` and
     /// `Utf8View`. A field has at most one such type.
     ///
     /// Errs as `from_extension_field` does. If the field has no GeoArrow name, it errs with `Arrow` exactly if the
-    /// metadata text stands for no metadata, and with `InvalidGeoArrow` if it does and no type is inferred from the
+    /// metadata text denotes no metadata, and with `InvalidGeoArrow` if it does and no type is inferred from the
     /// data type; otherwise only when out of memory.
     ///
     /// ```rust
@@ -32,72 +32,41 @@ impl GeoArrowType {
     /// let inferred = GeoArrowType::from_arrow_field(alloc, &unnamed)?;
     /// assert!(rt; matches!(inferred, GeoArrowType::Wkb(_)));
     /// ```
-    #[inline(always)]
     pub fn from_arrow_field(alloc: Global, field: &Field) -> GeoArrowResult<GeoArrowType>
         ensures inference { IsInference field.now result }
         ensures only { IfOk result (ReadsOrInfersAlone field.now) }
     {
-        read_or_infer(alloc, field, None)
-    }
-
-    /// The same as `from_arrow_field`, in a scratch that the caller keeps, as `from_extension_field_with_scratch` has it.
-    #[inline(always)]
-    pub fn from_arrow_field_with_scratch(
-        alloc: Global,
-        field: &Field,
-        scratch: &mut Scratch,
-    ) -> GeoArrowResult<GeoArrowType>
-        ensures inference { IsInference field.now result }
-        ensures only { IfOk result (ReadsOrInfersAlone field.now) }
-    {
-        read_or_infer(alloc, field, Some(scratch))
-    }
-}
-
-/// The type that a field is read as or taken for, its metadata text in the scratch, or in one of its own.
-#[inline(never)]
-fn read_or_infer(
-    alloc: Global,
-    field: &Field,
-    scratch: Option<&mut Scratch>,
-) -> GeoArrowResult<GeoArrowType>
-    ensures inference { IsInference field.now result }
-    ensures only { IfOk result (ReadsOrInfersAlone field.now) }
-{
-    match name_of(field) {
-        Some(name) => read_named(alloc, field, name, scratch),
-        None => infer(alloc, field, scratch),
+        match name_of(field) {
+            Some(name) => read_named(alloc, field, name),
+            None => infer(alloc, field),
+        }
     }
 }
 
 /// The type that a field without a GeoArrow name is taken for.
-#[tactic(auto, using(crate::proofs::Inferring::type_inferred, crate::proofs::Inferring::uninferred_text))]
-fn infer(
-    alloc: Global,
-    field: &Field,
-    scratch: Option<&mut Scratch>,
-) -> GeoArrowResult<GeoArrowType>
+#[tactic(auto, using(crate::proofs::Inferring::type_inferred, crate::proofs::Inferring::text_error))]
+fn infer(alloc: Global, field: &Field) -> GeoArrowResult<GeoArrowType>
     requires { ¬ HasGeoArrowName field.now }
     ensures ok { IfOk result (Infers field.now) }
     ensures only { IfOk result (InfersAlone field.now) }
     ensures refused { IfErr result (λ e. IsGeoMemory e ⊎ (InfersNone field.now × UninferredAs field.now e)) }
 {
     let Some(kind) = infer_kind(field.data_type()) else {
-        return Err(uninferred(alloc, field, scratch));
+        return Err(inference_error(alloc, field));
     };
-    let metadata = Arc::new(alloc, read_metadata(alloc, field, scratch)?)?;
+    let metadata = Arc::new(alloc, Metadata::try_from_field(alloc, field)?)?;
     Ok(GeoArrowType::from_kind(kind, metadata))
 }
 
 /// The refusal of a field whose data type is taken for none: that of its metadata, if it is refused, goes before.
 #[cold]
 #[inline(never)]
-#[tactic(auto, using(crate::proofs::Inferring::none_for_tree, crate::proofs::Inferring::uninferred_text, crate::proofs::Inferring::uninferred_tree))]
-fn uninferred(alloc: Global, field: &Field, scratch: Option<&mut Scratch>) -> GeoArrowError
+#[tactic(auto, using(crate::proofs::Inferring::none_for_tree, crate::proofs::Inferring::text_error, crate::proofs::Inferring::tree_error))]
+fn inference_error(alloc: Global, field: &Field) -> GeoArrowError
     requires { (k : Kind) → ¬ InferredAs field.now.tree k }
     ensures { IsGeoMemory result ⊎ (InfersNone field.now × UninferredAs field.now result) }
 {
-    match read_metadata(alloc, field, scratch) {
+    match Metadata::try_from_field(alloc, field) {
         Ok(_) => GeoArrowError::invalid_geoarrow(alloc, fault_text(field.data_type())),
         Err(error) => GeoArrowError::Arrow(error),
     }

@@ -3,20 +3,22 @@ ghost use Rattle.geoarrow_schema.specs.declared.types.GeoArrowType.{GeoArrowType
 ghost use Rattle.std.specs.Arc.{arc_value};
 ghost use Rattle.std.specs.Prelude.{◌≡◌, ◌↔◌, IsTrue};
 ghost use Rattle.arrow_values.specs.Tree.{FieldTree};
+ghost use Rattle.geoarrow_layout.specs.declared.names.ExtensionName.TheVariants as names;
+ghost use Rattle.geoarrow_layout.specs.Kinds.{name_text};
 ghost use Rattle.geoarrow_meta.specs.Read.{empty};
 ghost use Rattle.geoarrow_schema.specs.contracts.types.GeoArrowTypePartialEq.TheImpl as types;
 ghost use Rattle.geoarrow_schema.specs.Types.{kind_of, meta_of, SameType};
 ghost use Rattle.geoarrow_schema.specs.Reads.{Reads};
 ghost use Rattle.geoarrow_schema.specs.Infers.{Infers, ReadsOrInfers, IsInferable, IsBareColumn};
 
-use crate::boxes::BoxType;
-use crate::geometry::GeometryType;
 use crate::infer::infer_kind;
-use crate::serialized::{Encoding, SerializedType};
 use crate::types::GeoArrowType;
 use arrow_values::Field;
 use geoarrow_meta::laws::equality_test_is_exact;
 use geoarrow_native::laws::reads_as_one_column;
+use geoarrow_native::{
+    BoxType, ColumnEncoding, Encoding, Geometry, GeometryType, Rect, SerializedType, Wkb, Wkt,
+};
 
 /// A law: a field is read as one type alone. There is nothing to run.
 pub fn reads_as_one(field: &Field)
@@ -51,7 +53,7 @@ pub fn written_is_inferred()
 /// A law: `==` returns true for two types of geometries of any kind exactly if coordinate type and metadata are
 /// equal.
 pub fn geometry_equality_is_exact(one: &GeometryType, other: &GeometryType) -> bool
-    ensures { IsTrue result ↔ ((one.now.coord_type ≡ other.now.coord_type)
+    ensures { IsTrue result ↔ ((one.now.encoding.coord_type ≡ other.now.encoding.coord_type)
         × (arc_value one.now.metadata ≡ arc_value other.now.metadata)) }
 {
     equality_test_is_exact();
@@ -60,7 +62,7 @@ pub fn geometry_equality_is_exact(one: &GeometryType, other: &GeometryType) -> b
 
 /// A law: `==` returns true for two types of boxes exactly if dimension and metadata are equal.
 pub fn box_equality_is_exact(one: &BoxType, other: &BoxType) -> bool
-    ensures { IsTrue result ↔ ((one.now.dimension ≡ other.now.dimension)
+    ensures { IsTrue result ↔ ((one.now.encoding.dimension ≡ other.now.encoding.dimension)
         × (arc_value one.now.metadata ≡ arc_value other.now.metadata)) }
 {
     equality_test_is_exact();
@@ -92,4 +94,15 @@ pub fn equality_is_exact(one: &GeoArrowType, other: &GeoArrowType) -> bool
 {
     type_test_is_exact();
     one == other
+}
+
+/// A law: the constants `NAME` of boxes, geometries of any kind, well-known binary and well-known text are their extension
+/// names.
+pub fn names_of_types() -> (&'static str, &'static str, &'static str, &'static str)
+    ensures boxes { result.0.now ≡ name_text names.Rect }
+    ensures geometries { result.1.now ≡ name_text names.Geometry }
+    ensures binary { result.2.now ≡ name_text names.Wkb }
+    ensures text { result.3.now ≡ name_text names.Wkt }
+{
+    (Rect::NAME, Geometry::NAME, Wkb::NAME, Wkt::NAME)
 }

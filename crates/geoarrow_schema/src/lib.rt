@@ -4,7 +4,7 @@
 //! The main theorems are about three calls. Apart from running out of memory:
 //!
 //! 1. `GeoArrowType::from_extension_field` returns a type exactly if the field's extension name, data type and metadata
-//!    text stand for one; they stand for no other.
+//!    text denote one; they denote no other.
 //! 2. It returns `None` exactly if the field has no GeoArrow name.
 //! 3. Otherwise it errs: with `InvalidGeoArrow` exactly if the name is that of well-known binary or text and the data
 //!    type is none of its three, and otherwise with `Arrow` of the error of the metadata text or, if that is valid, of
@@ -12,34 +12,30 @@
 //! 4. `GeoArrowType::same_written` returns true exactly if two types are written as the same name, data type and
 //!    metadata value, which is so exactly if their normal forms are equal.
 //! 5. What `GeoArrowType::to_field` writes reads back as the normal form of the type, if `serde_json` reads what it
-//!    printed.
+//!    printed, which it does if the CRS value is nested at most 100 levels.
 //!
 //! In the examples of the docs `alloc` is the allocator and `rt` the runtime that a test is given; each example is part
 //! of a test or of the crate `uses`.
 #![tactic(auto)]
 
-mod boxes;
 pub mod crs;
 pub mod error;
 mod from;
 pub mod generic;
-mod geometry;
 mod infer;
 pub mod laws;
 mod normal;
 mod read;
-mod serialized;
 pub mod type_id;
 mod types;
 mod write;
 
-pub use boxes::{BoxType, RectType};
 pub use geoarrow_layout::{CoordType, Dimension, Kind, NativeKind, Width};
 pub use geoarrow_meta::{Crs, CrsType, Edges, Metadata};
 pub use geoarrow_multi::{
     GeometryCollectionType, MultiLineStringType, MultiPointType, MultiPolygonType,
 };
-pub use geoarrow_native::{LineStringType, PointType, PolygonType};
-pub use geometry::GeometryType;
-pub use serialized::{WkbType, WktType};
+pub use geoarrow_native::{
+    BoxType, GeometryType, LineStringType, PointType, PolygonType, RectType, WkbType, WktType,
+};
 pub use types::GeoArrowType;

@@ -2,18 +2,18 @@
 ghost use Rattle.std.specs.Prelude.{◌≡◌, ◌↔◌, Ok, None, IsOk, IfOk, IfErr, IfSome, IsTrue};
 ghost use Rattle.arrow_values.specs.Errors.{IsMemory};
 ghost use Rattle.geoarrow_layout.specs.Layouts.{layout};
-ghost use Rattle.geoarrow_meta.specs.Written.{normal};
+ghost use Rattle.geoarrow_meta.specs.Read.{TextStandsFor};
+ghost use Rattle.geoarrow_meta.specs.Written.{printed, normal, NestsWithin};
+ghost use Rattle.geoarrow_schema.specs.declared.types.GeoArrowType.{GeoArrowType};
 ghost use Rattle.geoarrow_schema.specs.Types.{kind_of, meta_of};
-ghost use Rattle.geoarrow_schema.specs.Reads.{HasGeoArrowName, IsRefusedBy, writes, dressed};
-ghost use Rattle.geoarrow_schema.specs.Normal.{normal_of, rewritten, ReadsNormally, IsCanonical};
+ghost use Rattle.geoarrow_schema.specs.Reads.{HasGeoArrowName, Reads, IsRefusedBy, writes, with_extension};
+ghost use Rattle.geoarrow_schema.specs.Normal.{normal_of, rewritten, HasKeysOf, ReadsNormally, ReadsShallow, IsCanonical};
 
-use crate::read::read;
 use crate::types::GeoArrowType;
 use arrow_values::{ArrowError, Field, GeoArrowResult};
 use geoarrow_layout::{Kind, layout_reads_back, layouts_are_distinct};
 use geoarrow_meta::Metadata;
 use geoarrow_meta::laws::printed_reads_back;
-use json::Scratch;
 use std::alloc::{AllocError, Global};
 use std::sync::Arc;
 
@@ -34,7 +34,7 @@ impl GeoArrowType {
     }
 
     /// Whether both are written as the same extension name, data type and metadata value, which is so exactly if their
-    /// normal forms are equal. Takes no memory.
+    /// normal forms are equal. Allocates nothing.
     ///
     /// ```rust
     /// let one_type = GeoArrowType::try_from_field(alloc, one)?;
@@ -51,8 +51,9 @@ impl GeoArrowType {
 
     /// The canonical field of a field (docs/FORMAT.md, 1.7): it gets the data type and the two extension keys that
     /// `to_field` writes for the normal form of the type that the field is read as; its name, nullability and other
-    /// metadata do not change. It reads as that normal form, if `serde_json` reads what it printed. `None`, without
-    /// taking memory, if `from_extension_field` returns `None`. Errs as that does, and when out of memory.
+    /// metadata do not change. It reads as that normal form, if `serde_json` reads what it printed, which it does if the CRS
+    /// value is nested at most 100 levels. `None`, which allocates nothing, if `from_extension_field` returns `None`. Errs as
+    /// that does, and when out of memory.
     ///
     /// ```rust
     /// let metadata = Arc::new(alloc, Metadata::default())?;
@@ -62,69 +63,60 @@ impl GeoArrowType {
     /// let other = written.try_clone_with_data_type(alloc, DataType::LargeList(item))?;
     /// assert!(rt; GeoArrowType::canonical_field(alloc, &other)? == Some(written));
     /// ```
+    #[tactic(auto, using(crate::proofs::Reading::read_has_name, crate::proofs::Rewriting::keys_along, crate::proofs::Rewriting::shallow_along))]
     pub fn canonical_field(alloc: Global, field: &Field) -> GeoArrowResult<Option<Field>>
         ensures ok { IfOk result (λ found. IfSome found (IsCanonical field.now)) }
+        ensures keys { IfOk result (λ found. IfSome found (λ n. (g : GeoArrowType) → Reads field.now g → HasKeysOf g field.now n)) }
+        ensures nested { IfOk result (λ found. IfSome found (λ n. (g : GeoArrowType) → Reads field.now g → ReadsShallow n g)) }
         ensures none { (result ≡ Ok None) ↔ ¬ HasGeoArrowName field.now }
         ensures refused { IfErr result (IsRefusedBy field.now) }
     {
-        read_canonical(alloc, field, None)
-    }
-
-    /// The same as `canonical_field`, in a scratch that the caller keeps, as `from_extension_field_with_scratch` has it.
-    pub fn canonical_field_with_scratch(
-        alloc: Global,
-        field: &Field,
-        scratch: &mut Scratch,
-    ) -> GeoArrowResult<Option<Field>>
-        ensures ok { IfOk result (λ found. IfSome found (IsCanonical field.now)) }
-        ensures none { (result ≡ Ok None) ↔ ¬ HasGeoArrowName field.now }
-        ensures refused { IfErr result (IsRefusedBy field.now) }
-    {
-        read_canonical(alloc, field, Some(scratch))
+        match GeoArrowType::from_extension_field(alloc, field)? {
+            None => Ok(None),
+            Some(found) => Ok(Some(canonical(alloc, field, &found)?)),
+        }
     }
 
     /// The field with the data type and the two extension keys that `to_field` writes for the normal form of this type; its
     /// name, nullability and other metadata do not change. It reads as that normal form, if `serde_json` reads what it
-    /// printed. So a field that is read as this type becomes its canonical form, as `canonical_field` makes it of a field
+    /// printed, which it does if the CRS value is nested at most 100 levels. So a field that is read as this type becomes its canonical form, as `canonical_field` makes it of a field
     /// that is kept. Errs only when out of memory.
     pub fn rewrite_field(&self, alloc: Global, field: Field) -> Result<Field, ArrowError>
         ensures written { IfOk result (λ f. f ≡ rewritten field (kind_of self.now) (normal (meta_of self.now))) }
+        ensures keys { IfOk result (HasKeysOf self.now field) }
         ensures reads_back { IfOk result (λ f. ReadsNormally f (kind_of self.now) (meta_of self.now)) }
+        ensures nested { IfOk result (λ f. ReadsShallow f self.now) }
         ensures refused { IfErr result IsMemory }
     {
         let data_type = self.to_data_type(alloc)?;
-        self.dress_normally(alloc, field.with_data_type(data_type))
+        self.set_normal_extension(alloc, field.with_data_type(data_type))
     }
 
     /// The field of this type's data type with the extension keys of its normal form: those of the type itself, since
     /// nothing writes what the normal form drops.
-    fn dress_normally(&self, alloc: Global, column: Field) -> Result<Field, ArrowError>
+    fn set_normal_extension(&self, alloc: Global, column: Field) -> Result<Field, ArrowError>
         requires { column.tree ≡ layout (kind_of self.now) }
-        ensures written { IfOk result (λ f. f ≡ dressed column (kind_of self.now) (normal (meta_of self.now))) }
+        ensures written { IfOk result (λ f. f ≡ with_extension column (kind_of self.now) (normal (meta_of self.now))) }
+        ensures keys { IfOk result (HasKeysOf self.now column) }
         ensures reads_back { IfOk result (λ f. ReadsNormally f (kind_of self.now) (meta_of self.now)) }
+        ensures nested { IfOk result (λ f. ReadsShallow f self.now) }
         ensures refused { IfErr result IsMemory }
     {
         layout_reads_back(self.kind());
         printed_reads_back(self.metadata());
-        self.dress(alloc, column)
+        self.set_extension(alloc, column)
     }
-}
 
-/// The field as the normal form of the type that it is read as is written, its metadata text read in the scratch, or in one
-/// of its own.
-#[tactic(auto, using(crate::proofs::Reading::read_has_name))]
-fn read_canonical(
-    alloc: Global,
-    field: &Field,
-    scratch: Option<&mut Scratch>,
-) -> GeoArrowResult<Option<Field>>
-    ensures ok { IfOk result (λ found. IfSome found (IsCanonical field.now)) }
-    ensures none { (result ≡ Ok None) ↔ ¬ HasGeoArrowName field.now }
-    ensures refused { IfErr result (IsRefusedBy field.now) }
-{
-    match read(alloc, field, scratch)? {
-        None => Ok(None),
-        Some(found) => Ok(Some(canonical(alloc, field, &found)?)),
+    /// The field with the extension name and the metadata text of this type.
+    fn set_extension(&self, alloc: Global, bare: Field) -> Result<Field, ArrowError>
+        ensures written { IfOk result (λ f. f ≡ with_extension bare (kind_of self.now) (meta_of self.now)) }
+        ensures keys { IfOk result (HasKeysOf self.now bare) }
+        ensures nested { IfOk result (λ _. NestsWithin 100 (meta_of self.now).crs.value
+            → TextStandsFor (printed (meta_of self.now)) (normal (meta_of self.now))) }
+        ensures refused { IfErr result IsMemory }
+    {
+        let text = self.metadata().serialize(alloc)?;
+        Ok(bare.with_extension_texts(alloc, self.kind().name(), text)?)
     }
 }
 
@@ -142,13 +134,15 @@ fn same_kind(one: Kind, other: Kind) -> bool
     }
 }
 
-/// The same as `rewrite_field`, of a field that is kept.
+/// The field of `rewrite_field`, of a field that is kept.
 fn canonical(alloc: Global, field: &Field, found: &GeoArrowType) -> Result<Field, ArrowError>
     ensures written { IfOk result (λ f. f ≡ rewritten field.now (kind_of found.now) (normal (meta_of found.now))) }
+    ensures keys { IfOk result (HasKeysOf found.now field.now) }
     ensures reads_back { IfOk result (λ f. ReadsNormally f (kind_of found.now) (meta_of found.now)) }
+    ensures nested { IfOk result (λ f. ReadsShallow f found.now) }
     ensures refused { IfErr result IsMemory }
 {
     let data_type = found.to_data_type(alloc)?;
     let bare = field.try_clone_with_data_type(alloc, data_type)?;
-    found.dress_normally(alloc, bare)
+    found.set_normal_extension(alloc, bare)
 }

@@ -1,5 +1,5 @@
 //! Which type a field is read as.
-ghost use Rattle.std.specs.Prelude.{◌≡◌, ◌⊎◌, ◌↔◌, Some, IfOk, IfErr, IfSome, MatchResult};
+ghost use Rattle.std.specs.Prelude.{◌≡◌, ◌⊎◌, ◌↔◌, Some, IfOk, IfErr, IfSome};
 ghost use Rattle.arrow_values.specs.Tree.{Text};
 ghost use Rattle.arrow_values.specs.Texts.{text_of, extension_name, extension_metadata};
 ghost use Rattle.arrow_values.specs.Errors.{IsMemory};
@@ -7,8 +7,7 @@ ghost use Rattle.geoarrow_layout.specs.declared.names.ExtensionName.{ExtensionNa
 ghost use Rattle.geoarrow_layout.specs.declared.encodings.Kind.{Kind};
 ghost use Rattle.geoarrow_layout.specs.Kinds.{name_text};
 ghost use Rattle.geoarrow_layout.specs.Shapes.{Accepts};
-ghost use Rattle.geoarrow_meta.specs.declared.metadata.Metadata.{Metadata};
-ghost use Rattle.geoarrow_meta.specs.Read.{TextStandsFor, TextRefusedAs};
+ghost use Rattle.geoarrow_meta.specs.Read.{TextRefusedAs, IsTextReading};
 ghost use Rattle.geoarrow_native.specs.Column.{IsColumn};
 ghost use Rattle.geoarrow_schema.specs.Reads.{HasName, Reads, ReadsAlone, IsReading, IsTypeReading};
 ghost use Rattle.geoarrow_schema.specs.Refusals.{IsColumnRefusal, IsRefusal};
@@ -18,14 +17,13 @@ use arrow_values::{ArrowError, Field, GeoArrowError, GeoArrowResult};
 use geoarrow_layout::{ExtensionName, Kind, LayoutFault, names_are_distinct, parse_kind};
 use geoarrow_meta::Metadata;
 use geoarrow_native::laws::reads_as_one_column;
-use json::Scratch;
 use std::alloc::Global;
 use std::sync::Arc;
 
 impl GeoArrowType {
     /// The type that a field is read as (GeoArrow, "Extension types"): the field has the extension name of the type,
-    /// its data type is accepted as the type's kind, and its metadata text, or the absence of one, stands for the
-    /// type's metadata. A field has at most one such type. Returns `None`, without taking memory, if the field has no
+    /// its data type is accepted as the type's kind, and its metadata text, or the absence of one, denotes the
+    /// type's metadata. A field has at most one such type. Returns `None`, which allocates nothing, if the field has no
     /// extension name or one that is not GeoArrow's, compared byte for byte.
     ///
     /// Errs if the field has a GeoArrow name and no type is read: with `InvalidGeoArrow` exactly if the name is
@@ -48,21 +46,10 @@ impl GeoArrowType {
         ensures reading { IsReading field.now result }
         ensures only { IfOk result (λ found. IfSome found (ReadsAlone field.now)) }
     {
-        read(alloc, field, None)
-    }
-
-    /// The same as `from_extension_field`, with a scratch buffer that the caller keeps: reading many metadata texts
-    /// with one scratch costs less than with a new one for each. What is left in it of one text has no effect on the
-    /// next.
-    pub fn from_extension_field_with_scratch(
-        alloc: Global,
-        field: &Field,
-        scratch: &mut Scratch,
-    ) -> GeoArrowResult<Option<GeoArrowType>>
-        ensures reading { IsReading field.now result }
-        ensures only { IfOk result (λ found. IfSome found (ReadsAlone field.now)) }
-    {
-        read(alloc, field, Some(scratch))
+        match field.extension_type_name() {
+            None => Ok(None),
+            Some(text) => read_under(alloc, field, text),
+        }
     }
 
     /// The type that a field is read as. Errs as `from_extension_field` does, and with `InvalidGeoArrow` if that returns
@@ -86,30 +73,9 @@ impl GeoArrowType {
     }
 }
 
-/// The type that a field is read as, its metadata text in the scratch, or in one of its own.
-#[inline(always)]
-pub(crate) fn read(
-    alloc: Global,
-    field: &Field,
-    scratch: Option<&mut Scratch>,
-) -> GeoArrowResult<Option<GeoArrowType>>
-    ensures reading { IsReading field.now result }
-    ensures only { IfOk result (λ found. IfSome found (ReadsAlone field.now)) }
-{
-    match field.extension_type_name() {
-        None => Ok(None),
-        Some(text) => read_under(alloc, field, text, scratch),
-    }
-}
-
-/// The same, of a field with that extension name.
+/// The type that a field with that extension name is read as.
 #[inline(never)]
-fn read_under(
-    alloc: Global,
-    field: &Field,
-    text: &str,
-    scratch: Option<&mut Scratch>,
-) -> GeoArrowResult<Option<GeoArrowType>>
+fn read_under(alloc: Global, field: &Field, text: &str) -> GeoArrowResult<Option<GeoArrowType>>
     requires { extension_name field.now ≡ Some text.now }
     ensures reading { IsReading field.now result }
     ensures only { IfOk result (λ found. IfSome found (ReadsAlone field.now)) }
@@ -117,7 +83,7 @@ fn read_under(
     let Some(name) = name_under(field, text) else {
         return Ok(None);
     };
-    Ok(Some(read_named(alloc, field, name, scratch)?))
+    Ok(Some(read_named(alloc, field, name)?))
 }
 
 /// The GeoArrow name that the extension name of a field is.
@@ -145,7 +111,6 @@ pub(crate) fn read_named(
     alloc: Global,
     field: &Field,
     name: ExtensionName,
-    scratch: Option<&mut Scratch>,
 ) -> GeoArrowResult<GeoArrowType>
     requires { HasName field.now name }
     ensures ok { IfOk result (Reads field.now) }
@@ -153,25 +118,20 @@ pub(crate) fn read_named(
     ensures refused { IfErr result (IsRefusal field.now) }
 {
     match parse_kind(name, field.data_type()) {
-        Ok(kind) => read_kind(alloc, field, kind, scratch),
-        Err(fault) => Err(refusal(alloc, field, name, fault, scratch)),
+        Ok(kind) => read_kind(alloc, field, kind),
+        Err(fault) => Err(refusal(alloc, field, name, fault)),
     }
 }
 
 /// The type that a field is read as whose name and data type are those of a kind.
 #[tactic(auto, using(crate::proofs::Reading::none_of_text, crate::proofs::Reading::column_reads, crate::proofs::Reading::type_reads, crate::proofs::Reading::reads_alone, crate::proofs::Reading::column_refused))]
-fn read_kind(
-    alloc: Global,
-    field: &Field,
-    kind: Kind,
-    scratch: Option<&mut Scratch>,
-) -> GeoArrowResult<GeoArrowType>
+fn read_kind(alloc: Global, field: &Field, kind: Kind) -> GeoArrowResult<GeoArrowType>
     requires { IsColumn field.now kind }
     ensures ok { IfOk result (Reads field.now) }
     ensures only { IfOk result (ReadsAlone field.now) }
     ensures refused { IfErr result (IsRefusal field.now) }
 {
-    let metadata = Arc::new(alloc, read_metadata_of_named(alloc, field, scratch)?)?;
+    let metadata = Arc::new(alloc, read_metadata_of_named(alloc, field)?)?;
     reads_as_one_column(field);
     names_are_distinct();
     Ok(GeoArrowType::from_kind(kind, metadata))
@@ -180,13 +140,7 @@ fn read_kind(
 /// The refusal of a field of that name whose data type is of no kind of it.
 #[cold]
 #[inline(never)]
-fn refusal(
-    alloc: Global,
-    field: &Field,
-    name: ExtensionName,
-    fault: LayoutFault,
-    scratch: Option<&mut Scratch>,
-) -> GeoArrowError
+fn refusal(alloc: Global, field: &Field, name: ExtensionName, fault: LayoutFault) -> GeoArrowError
     requires named { HasName field.now name }
     requires no_kind { (k : Kind) → ¬ Accepts (name_text name) field.now.tree k }
     ensures { IsRefusal field.now result }
@@ -200,7 +154,7 @@ fn refusal(
         }
         ExtensionName::Native(_) | ExtensionName::Geometry | ExtensionName::Rect => {
             names_are_distinct();
-            GeoArrowError::Arrow(structured_refusal(alloc, field, fault, scratch))
+            GeoArrowError::Arrow(structured_refusal(alloc, field, fault))
         }
     }
 }
@@ -208,50 +162,23 @@ fn refusal(
 /// The refusal of a field whose data type has that fault: that of its metadata, if it is refused, goes before.
 #[cold]
 #[inline(never)]
-fn structured_refusal(
-    alloc: Global,
-    field: &Field,
-    fault: LayoutFault,
-    scratch: Option<&mut Scratch>,
-) -> ArrowError
+fn structured_refusal(alloc: Global, field: &Field, fault: LayoutFault) -> ArrowError
     ensures { IsMemory result ⊎ IsColumnRefusal field.now result }
 {
-    match read_metadata(alloc, field, scratch) {
+    match Metadata::try_from_field(alloc, field) {
         Ok(_) => fault.into_arrow_error(alloc),
         Err(error) => error,
     }
 }
 
-/// The metadata that a field's metadata text, or its absence, stands for: read in the scratch, or in one of its own, which
-/// is made only for a text.
+/// The metadata of a field with an extension name.
 #[inline(always)]
-pub(crate) fn read_metadata(
-    alloc: Global,
-    field: &Field,
-    scratch: Option<&mut Scratch>,
-) -> Result<Metadata, ArrowError>
-    ensures exact { MatchResult result (TextStandsFor (extension_metadata field.now))
-        (λ e. IsMemory e
-        ⊎ ((m : Metadata) → TextStandsFor (extension_metadata field.now) m → ⊥)) }
-    ensures refusal { IfErr result (TextRefusedAs (extension_metadata field.now)) }
-{
-    read_text(alloc, field.extension_type_metadata(), scratch)
-}
-
-/// The same, of a field with an extension name.
-#[inline(always)]
-fn read_metadata_of_named(
-    alloc: Global,
-    field: &Field,
-    scratch: Option<&mut Scratch>,
-) -> Result<Metadata, ArrowError>
+fn read_metadata_of_named(alloc: Global, field: &Field) -> Result<Metadata, ArrowError>
     requires { (name : Text) × (extension_name field.now ≡ Some name) }
-    ensures exact { MatchResult result (TextStandsFor (extension_metadata field.now))
-        (λ e. IsMemory e
-        ⊎ ((m : Metadata) → TextStandsFor (extension_metadata field.now) m → ⊥)) }
+    ensures exact { IsTextReading (extension_metadata field.now) result }
     ensures refusal { IfErr result (TextRefusedAs (extension_metadata field.now)) }
 {
-    read_text(alloc, text_beside_name(field), scratch)
+    Metadata::deserialize(alloc, text_beside_name(field))
 }
 
 /// The metadata text of a field with an extension name, which is not looked for where the name is the only text.
@@ -265,25 +192,4 @@ fn text_beside_name(field: &Field) -> Option<&str>
         return None;
     }
     field.extension_type_metadata()
-}
-
-/// The metadata that a metadata text, or its absence, stands for.
-#[inline(always)]
-fn read_text(
-    alloc: Global,
-    text: Option<&str>,
-    scratch: Option<&mut Scratch>,
-) -> Result<Metadata, ArrowError>
-    ensures exact { MatchResult result (TextStandsFor (text_of text.entry))
-        (λ e. IsMemory e
-        ⊎ ((m : Metadata) → TextStandsFor (text_of text.entry) m → ⊥)) }
-    ensures refusal { IfErr result (TextRefusedAs (text_of text.entry)) }
-{
-    if text.is_none() {
-        return Ok(Metadata::default());
-    }
-    match scratch {
-        Some(scratch) => Metadata::deserialize_with_scratch(alloc, text, scratch),
-        None => Metadata::deserialize(alloc, text),
-    }
 }

@@ -5,15 +5,15 @@ ghost use Rattle.geoarrow_schema.specs.Changes.{with_coord_type, with_dimension}
 ghost use Rattle.geoarrow_layout.specs.declared.encodings.Kind.TheVariants.{Native as OfNative};
 ghost use Rattle.geoarrow_layout.specs.Kinds.{coord_type_of, dimension_of};
 
-use crate::boxes::BoxType;
-use crate::geometry::GeometryType;
-use crate::serialized::{WkbType, WktType};
 use geoarrow_layout::{CoordType, Dimension, Kind, NativeKind, Width};
 use geoarrow_meta::Metadata;
 use geoarrow_multi::{
     GeometryCollectionType, MultiLineStringType, MultiPointType, MultiPolygonType,
 };
-use geoarrow_native::{LineStringType, NativeShape, NativeType, PointType, PolygonType};
+use geoarrow_native::{
+    BoxType, GeometryType, LineStringType, NativeShape, NativeType, PointType, PolygonType,
+    WkbType, WktType,
+};
 use std::alloc::{AllocError, Global};
 use std::sync::Arc;
 
@@ -233,7 +233,7 @@ impl GeoArrowType {
 
 /// The kind of a native type.
 fn native_kind<S: NativeShape>(native: &NativeType<S>) -> Kind
-    ensures { result ≡ OfNative S.KIND native.now.coord_type native.now.dimension }
+    ensures { result ≡ OfNative S.KIND native.now.encoding.coord_type native.now.encoding.dimension }
 {
     Kind::Native(S::KIND, native.coord_type(), native.dimension())
 }

@@ -2,26 +2,23 @@
 ghost use Rattle.std.specs.Prelude.{◌≡◌, IfOk, IfErr, IsOk};
 ghost use Rattle.arrow_values.specs.View.{tree};
 ghost use Rattle.arrow_values.specs.Errors.{IsMemory};
-ghost use Rattle.arrow_values.specs.Texts.{SetsExtension};
-ghost use Rattle.geoarrow_layout.specs.Kinds.{name_of};
 ghost use Rattle.geoarrow_layout.specs.Shapes.{IsStructured};
 ghost use Rattle.geoarrow_layout.specs.Layouts.{layout};
-ghost use Rattle.geoarrow_meta.specs.Written.{meta_value, printed, normal, IsReadBack};
+ghost use Rattle.geoarrow_meta.specs.Written.{meta_value, normal, IsReadBack, NestsWithin};
 ghost use Rattle.geoarrow_native.specs.Column.{ReadsAs};
 ghost use Rattle.geoarrow_schema.specs.Types.{kind_of, meta_of};
-ghost use Rattle.geoarrow_schema.specs.Reads.{dressed, field_of};
+ghost use Rattle.geoarrow_schema.specs.Reads.{field_of};
 
 use crate::types::GeoArrowType;
 use arrow_values::{ArrowError, DataType, Field};
-use geoarrow_layout::{kind_data_type, layout_reads_back};
-use geoarrow_native::laws::written_field_reads_back;
+use geoarrow_layout::kind_data_type;
+use geoarrow_native::column_field;
 use std::alloc::{AllocError, Global};
-use std::collections::BTreeMap;
 
 impl GeoArrowType {
     /// The data type of a column of this type (GeoArrow, "Native encoding", "Serialized encodings"). A data type has
     /// neither the extension name nor the metadata, which only a field has; `to_field` writes all three. Errs only when
-    /// out of memory; well-known binary and text take none.
+    /// out of memory, and never for well-known binary and text.
     ///
     /// ```rust
     /// let metadata = Arc::new(alloc, Metadata::default())?;
@@ -36,7 +33,7 @@ impl GeoArrowType {
         kind_data_type(alloc, self.kind())
     }
 
-    /// The same, for a type that is not needed any more.
+    /// The data type of `to_data_type`, of a type that is not needed any more. Errs as that does.
     pub fn into_data_type(self, alloc: Global) -> Result<DataType, AllocError>
         ensures layout { IfOk result (λ t. tree t ≡ layout (kind_of self)) }
         ensures no_memory { ¬ IsStructured (kind_of self) → IsOk result }
@@ -61,24 +58,10 @@ impl GeoArrowType {
         ensures written { IfOk result (λ f. f ≡ field_of name.now nullable self.now) }
         ensures reads_back { IfOk result (λ f. IsReadBack (meta_value (meta_of self.now))
             → ReadsAs f (kind_of self.now) (normal (meta_of self.now))) }
+        ensures nested { IfOk result (λ f. NestsWithin 100 (meta_of self.now).crs.value
+            → ReadsAs f (kind_of self.now) (normal (meta_of self.now))) }
         ensures refused { IfErr result IsMemory }
     {
-        let data_type = self.to_data_type(alloc)?;
-        let name = String::from_str(alloc, name)?;
-        let bare = Field::from_parts(name, data_type, nullable, BTreeMap::new(alloc));
-        layout_reads_back(self.kind());
-        written_field_reads_back(self.kind(), self.metadata());
-        self.dress(alloc, bare)
-    }
-
-    /// The field with the extension name and the metadata text of this type.
-    pub(crate) fn dress(&self, alloc: Global, bare: Field) -> Result<Field, ArrowError>
-        ensures written { IfOk result (λ f. f ≡ dressed bare (kind_of self.now) (meta_of self.now)) }
-        ensures keys { IfOk result (λ f. SetsExtension (name_of (kind_of self.now)) (printed (meta_of self.now))
-            bare.metadata f.metadata) }
-        ensures refused { IfErr result IsMemory }
-    {
-        let text = self.metadata().serialize(alloc)?;
-        Ok(bare.with_extension_texts(alloc, self.kind().name(), text)?)
+        column_field(alloc, name, nullable, self.kind(), self.metadata())
     }
 }

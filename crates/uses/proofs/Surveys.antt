@@ -29,7 +29,7 @@ unnamed : (f : FieldTree) (g : GeoArrowType) → Infers f g → ¬ HasGeoArrowNa
 unfolding InfersAs
 unnamed f g h = h.0
 
--- and its metadata text stands for a metadata
+-- and its metadata text denotes a metadata
 stands : (f : FieldTree) (g : GeoArrowType) → Infers f g → TextStandsFor (extension_metadata f) (meta_of g)
 unfolding InfersAs
 stands f g h = h.1

@@ -11,7 +11,7 @@ use geoarrow_meta::{CrsTransform, DefaultCrsTransform, Metadata};
 use std::alloc::Global;
 
 /// The CRS of a column as a text of PROJJSON, in compact JSON (GeoArrow, "Extension metadata", keys `crs` and `crs_type`).
-/// `None` if the column has no CRS, or if its CRS is not declared to be PROJJSON. Errs if the metadata text stands for
+/// `None` if the column has no CRS, or if its CRS is not declared to be PROJJSON. Errs if the metadata text denotes
 /// no metadata, and when out of memory.
 pub fn projjson_text(alloc: Global, field: &Field) -> GeoArrowResult<Option<String>>
     ensures text { IfOk result (λ text. (m : Metadata) × TextStandsFor (extension_metadata field.now) m

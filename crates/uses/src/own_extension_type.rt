@@ -5,10 +5,10 @@
 //! promise in the same terms. The last four members are laws, with their proofs.
 //!
 //! - The name is `NAME`, and its bytes are `name_text`.
-//! - The metadata is of the type `Metadata`. `printed` is the text that it prints; `StandsFor` says which texts stand for which value
-//!   of it, and `RefusesText` how all others are refused. Several texts may stand for one value, but no text for two: that is the
+//! - The metadata is of the type `Metadata`. `printed` is the text that it prints; `StandsFor` says which texts denote which value
+//!   of it, and `RefusesText` how all others are refused. Several texts may denote one value, but no text two: that is the
 //!   law `stands_for_one`.
-//! - `Accepts` says over which data types the type is written. `supports_data_type` and `try_new` test it, and take no memory where
+//! - `Accepts` says over which data types the type is written. `supports_data_type` and `try_new` test it, and allocate nothing where
 //!   it holds; `RefusesUse` and `RefusesTree` say how they refuse all others.
 //! - A type that has a shape, such as a dimension, keeps it in a field of its struct. Then `Accepts` holds between a data type and
 //!   the types of its shape, and `Agrees` between types of one shape; the other three laws join the two.

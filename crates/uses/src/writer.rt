@@ -7,7 +7,6 @@ ghost use Rattle.geoarrow_schema.specs.Types.{kind_of, meta_of};
 ghost use Rattle.geoarrow_schema.specs.Normal.{IsCanonical};
 
 use arrow_values::{ArrowError, Field};
-use geoarrow_meta::laws::nested_reads_back;
 use geoarrow_schema::GeoArrowType;
 use std::alloc::Global;
 
@@ -28,6 +27,5 @@ pub fn write_column(
     ensures refused { IfErr result IsMemory }
 {
     let normal = geometry.normalized(alloc)?;
-    nested_reads_back(normal.metadata());
     normal.to_field(alloc, name, nullable)
 }

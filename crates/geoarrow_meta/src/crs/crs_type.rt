@@ -22,7 +22,7 @@ pub enum CrsType {
 }
 
 impl CrsType {
-    /// The text that stands for the type in a metadata: `projjson`, `wkt2:2019`, `authority_code` or `srid`.
+    /// The text that denotes the type in a metadata: `projjson`, `wkt2:2019`, `authority_code` or `srid`.
     pub fn as_text(self) -> &'static str
         ensures { result.now ≡ crs_type_text self }
     {
@@ -34,7 +34,7 @@ impl CrsType {
         }
     }
 
-    /// The type that a text stands for; `None` for any other text.
+    /// The type that a text denotes; `None` for any other text.
     pub fn from_text(text: &str) -> Option<CrsType>
         ensures { (t : CrsType) → (result ≡ Some t) ↔ (text.now ≡ crs_type_text t) }
     {

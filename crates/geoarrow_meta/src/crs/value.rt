@@ -9,7 +9,7 @@ use std::alloc::{AllocError, Global};
 use std::hash::{Hash, Hasher};
 use std::marker::Model;
 
-/// A JSON value that may stand for a coordinate reference system: it is not null, and its numbers are whole, at any
+/// A JSON value that may denote a coordinate reference system: it is not null, and its numbers are whole, at any
 /// depth. Two are equal, and hash equally, where they are the same JSON value.
 #[derive(Debug, Drop)]
 pub struct CrsValue {

@@ -1,29 +1,21 @@
-//! What stands at the three keys of a text that is an object of plain texts, as most metadata texts are: read from its bytes,
+//! The values of the three keys of a text that is an object of plain texts, as most metadata texts are: read from its bytes,
 //! without a scratch.
 ghost use Rattle.std.specs.Prelude.{◌≡◌, Some, IfOk, IfSome, option_map};
 ghost use Rattle.serde_json.specs.Data.{Data, Members, object, string};
 ghost use Rattle.serde_json.specs.Read.{read};
-ghost use Rattle.geoarrow_meta.specs.Slots.{AreSlotsOf, Finds};
+ghost use Rattle.geoarrow_meta.specs.KeyValues.{AreValuesOf, Finds};
 
-use crate::crs::CrsType;
-use crate::edges::Edges;
+use crate::metadata::key_values::{KeyValues, Word, crs_type_of, edges_of};
 use crate::metadata::plain_members::{NotPlain, PlainMembers};
-use crate::metadata::read::{Slots, Word, crs_type_of, edges_of};
 use serde_json::Value;
 use std::alloc::{AllocError, Global};
 
-// What stands at the three keys, as in `Slots`, with the text of a CRS where it is in the metadata text.
-#[derive(Clone, Copy, Drop)]
-struct PlainSlots<'a> {
-    crs: Option<&'a str>,
-    crs_type: Option<Option<CrsType>>,
-    edges: Option<Option<Edges>>,
-}
-
-// What stands at the three keys of the object of plain texts that the text is; none of another text. Takes memory only for
-// a CRS.
+// The values of the three keys of the object of plain texts that the text is; none of another text. Allocates only a CRS.
 #[inline]
-pub(crate) fn plain_slots(alloc: Global, text: &str) -> Result<Option<Slots>, AllocError>
+pub(crate) fn plain_values(
+    alloc: Global,
+    text: &str,
+) -> Result<Option<KeyValues<Value>>, AllocError>
     ensures { IfOk result (λ o. IfSome o (λ s. (d : Data) × (read text.now ≡ Some d) × Finds (Some s) d)) }
 {
     let Ok(found) = take_members(text) else {
@@ -33,23 +25,23 @@ pub(crate) fn plain_slots(alloc: Global, text: &str) -> Result<Option<Slots>, Al
         Some(text) => Some(Value::String(String::from_str(alloc, text)?)),
         None => None,
     };
-    Ok(Some(Slots {
+    Ok(Some(KeyValues {
         crs,
         crs_type: found.crs_type,
         edges: found.edges,
     }))
 }
 
-// The same, before memory is taken.
-fn take_members<'a>(text: &'a str) -> Result<PlainSlots<'a>, NotPlain>
+// Those values, with the text of a CRS where it is in the metadata text.
+fn take_members<'a>(text: &'a str) -> Result<KeyValues<&'a str>, NotPlain>
     ensures { IfOk result (λ s. (ms : Members) × (read text.entry.now ≡ Some (object ms))
-        × AreSlotsOf (object ms) (option_map (λ t. string t.now) s.crs) s.crs_type s.edges) }
+        × AreValuesOf (object ms) (option_map (λ t. string t.now) s.crs) s.crs_type s.edges) }
 {
     let mut members = PlainMembers::new(text)?;
     let mut crs = None;
     let mut crs_type = Some(None);
     let mut edges = Some(None);
-    'slots: while let Some((key, word)) = members.next()? {
+    'values: while let Some((key, word)) = members.next()? {
         match key {
             "crs" => crs = word,
             "crs_type" => crs_type = crs_type_of(Word::of(word)),
@@ -57,7 +49,7 @@ fn take_members<'a>(text: &'a str) -> Result<PlainSlots<'a>, NotPlain>
             _ => {}
         }
     }
-    Ok(PlainSlots {
+    Ok(KeyValues {
         crs,
         crs_type,
         edges,

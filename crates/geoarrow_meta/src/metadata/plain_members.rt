@@ -1,4 +1,4 @@
-//! Objects of plain texts, read without a scratch and without memory.
+//! Objects of plain texts, read without a scratch and without an allocation.
 //!
 //! A text is plain if its JSON has no escape. [`PlainMembers`] reads an object whose values are plain texts and nulls, with any
 //! spaces and keys, straight from its bytes. So it costs less than a `json::Reader`, which first finds where the tokens of a

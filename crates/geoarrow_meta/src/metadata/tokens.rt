@@ -1,67 +1,51 @@
-//! What stands at the three keys of the JSON object that a text is, from its tokens. The last value of a key counts.
+//! The values of the three keys of the JSON object that a text is. The last value of a key counts.
 ghost use Rattle.std.specs.Prelude.{◌≡◌, ◌<◌, length, Some, None, Err, IfOk, OnOk, option_map};
 ghost use Rattle.serde_json.specs.Data.{Data, Members, no_members, object};
 ghost use Rattle.serde_json.specs.Read.{read};
 ghost use Rattle.serde_json.specs.View.{view};
 ghost use Rattle.value_tokens.specs.Next.{next_value, next_members, Reads};
 ghost use Rattle.geoarrow_meta.specs.Read.{present};
-ghost use Rattle.geoarrow_meta.specs.Slots.{IsWord, AreSlotsOf, Finds};
+ghost use Rattle.geoarrow_meta.specs.KeyValues.{IsWord, AreValuesOf, Finds};
 
-use crate::metadata::plain::plain_slots;
-use crate::metadata::read::{Slots, Word, crs_type_of, edges_of};
+use crate::metadata::key_values::{KeyValues, Word, crs_type_of, edges_of};
+use crate::metadata::plain::plain_values;
 use json::{Reader, Scratch, Token};
 use serde_json::Value;
 use std::alloc::Global;
 use value_tokens::{MAX_DEPTH, Refusal, open_object, read_value, skip_rest, skip_value};
 
-// What stands at the three keys of the object that the text is, and none where it is none. A text that is no object of plain
-// texts is read in the scratch, or in one of its own where there is none.
-pub(crate) fn read_slots(
-    alloc: Global,
-    text: &str,
-    scratch: Option<&mut Scratch>,
-) -> Result<Option<Slots>, Refusal>
+// The values of the three keys of the object that the text is, and none where it is none.
+pub(crate) fn read_values(alloc: Global, text: &str) -> Result<Option<KeyValues<Value>>, Refusal>
     ensures ok { IfOk result (λ o. (d : Data) × (read text.now ≡ Some d) × Finds o d) }
     ensures text { result ≡ Err Refusal.Text → read text.now ≡ None }
 {
-    if let Some(slots) = plain_slots(alloc, text)? {
-        return Ok(Some(slots));
-    }
-    match scratch {
-        Some(scratch) => read_tokens(alloc, text, scratch),
-        None => read_tokens_anew(alloc, text),
+    match plain_values(alloc, text)? {
+        Some(values) => Ok(Some(values)),
+        None => read_tokens(alloc, text),
     }
 }
 
-// The same by the tokens of the text, in a scratch of its own. It is not inlined, so that only a call that needs the scratch has
-// room for it on its stack.
+// Those values by the tokens of the text. It is not inlined, so that only a call that needs the scratch has room for it on
+// its stack.
 #[inline(never)]
-fn read_tokens_anew(alloc: Global, text: &str) -> Result<Option<Slots>, Refusal>
+fn read_tokens(alloc: Global, text: &str) -> Result<Option<KeyValues<Value>>, Refusal>
     ensures ok { IfOk result (λ o. (d : Data) × (read text.now ≡ Some d) × Finds o d) }
     ensures text { result ≡ Err Refusal.Text → read text.now ≡ None }
 {
     let mut scratch = Scratch::new(alloc);
-    read_tokens(alloc, text, &mut scratch)
-}
-
-// The same by the tokens of the text.
-fn read_tokens(alloc: Global, text: &str, scratch: &mut Scratch) -> Result<Option<Slots>, Refusal>
-    ensures ok { IfOk result (λ o. (d : Data) × (read text.now ≡ Some d) × Finds o d) }
-    ensures text { result ≡ Err Refusal.Text → read text.now ≡ None }
-{
-    let mut reader = Reader::new(text, scratch)?;
-    let found = take_slots(alloc, &mut reader, MAX_DEPTH)?;
+    let mut reader = Reader::new(text, &mut scratch)?;
+    let found = take_values(alloc, &mut reader, MAX_DEPTH)?;
     if reader.next().is_some() {
         return Err(Refusal::Text);
     }
     Ok(found)
 }
 
-fn take_slots(
+fn take_values(
     alloc: Global,
     reader: &mut Reader<'_>,
     depth: usize,
-) -> Result<Option<Slots>, Refusal>
+) -> Result<Option<KeyValues<Value>>, Refusal>
     ensures ok { IfOk result (λ o. (d : Data) × (next_value depth reader.old ≡ Some (d, reader.new)) × Finds o d) }
     ensures text { result ≡ Err Refusal.Text → next_value depth reader.old ≡ None }
 {
@@ -72,15 +56,19 @@ fn take_slots(
 }
 
 // The members that are left of an object.
-fn take_members(alloc: Global, reader: &mut Reader<'_>, depth: usize) -> Result<Slots, Refusal>
+fn take_members(
+    alloc: Global,
+    reader: &mut Reader<'_>,
+    depth: usize,
+) -> Result<KeyValues<Value>, Refusal>
     ensures ok { IfOk result (λ s. (ms : Members) × (next_members depth no_members reader.old ≡ Some (ms, reader.new))
-        × AreSlotsOf (object ms) (option_map view s.crs) s.crs_type s.edges) }
+        × AreValuesOf (object ms) (option_map view s.crs) s.crs_type s.edges) }
     ensures text { result ≡ Err Refusal.Text → next_members depth no_members reader.old ≡ None }
 {
     let mut crs = None;
     let mut crs_type = Some(None);
     let mut edges = Some(None);
-    'slots: while let Some(key) = reader.next_key()? {
+    'values: while let Some(key) = reader.next_key()? {
         match key {
             "crs" => crs = take_crs(alloc, reader, depth)?,
             "crs_type" => crs_type = crs_type_of(take_word(reader, depth)?),
@@ -88,7 +76,7 @@ fn take_members(alloc: Global, reader: &mut Reader<'_>, depth: usize) -> Result<
             _ => skip_value(reader, depth)?,
         }
     }
-    Ok(Slots {
+    Ok(KeyValues {
         crs,
         crs_type,
         edges,
@@ -108,7 +96,7 @@ fn take_crs(alloc: Global, reader: &mut Reader<'_>, depth: usize) -> Result<Opti
     Ok(Some(value))
 }
 
-// The word that comes next. Takes no memory.
+// The word that comes next. Allocates nothing.
 fn take_word<'a>(reader: &mut Reader<'a>, depth: usize) -> Result<Word<'a>, Refusal>
     ensures ok { IfOk result (λ w. (d : Data) × (next_value depth reader.old ≡ Some (d, reader.new)) × IsWord w (present (Some d))) }
     ensures shorter { OnOk result (length reader.new < length reader.old) }

@@ -9,8 +9,8 @@ use Rattle.value_tokens.specs.Beginnings.{next_object}
 use Rattle.geoarrow_meta.specs.declared.edges.Edges.{Edges}
 use Rattle.geoarrow_meta.specs.declared.crs.crs_type.CrsType.{CrsType}
 use Rattle.geoarrow_meta.specs.Read.{crs_type_data, edges_data, present}
-use Rattle.geoarrow_meta.specs.Slots.{IsNamed, AreSlotsOf}
-use Rattle.geoarrow_meta.proofs.Slots.{AreSlotsUnderWay, slots_go_on, crs_put, crs_type_put, edges_put, other_put}
+use Rattle.geoarrow_meta.specs.KeyValues.{IsNamed, AreValuesOf}
+use Rattle.geoarrow_meta.proofs.KeyValues.{AreValuesSoFar, values_go_on, crs_put, crs_type_put, edges_put, other_put}
 use Rattle.geoarrow_meta.proofs.metadata.plain.take_members.Goals as goal
 use Rattle.geoarrow_meta.proofs.metadata.plain.take_members.Goals.{In-Some}
 
@@ -19,36 +19,36 @@ as_present : (w : Option (Bor Text)) → option_map (λ s. string s.now) w ≡ p
 as_present None = refl
 as_present (Some s) = refl
 
-pub slots-init : goal.slots-init
-slots-init c = record { found = no_members; decides = refl; slots = record { at_crs = refl; at_crs_type = refl; at_edges = refl }; fewer = omega arith }
+pub values-init : goal.values-init
+values-init c = record { found = no_members; decides = refl; values = record { at_crs = refl; at_crs_type = refl; at_edges = refl }; fewer = omega arith }
 
 go_on : (c : In-Some) {crs : Option Data} {crs_type : Option (Option CrsType)} {edges : Option (Option Edges)}
-    → AreSlotsOf (object (put c.in-Some.key.now (word_value (option_map (λ s. s.now) c.in-Some.word)) c.slots.invariant.found)) crs crs_type edges
-    → AreSlotsUnderWay 126 c.in_ok-members.members c.next.new.self crs crs_type edges
-go_on c slots =
+    → AreValuesOf (object (put c.in-Some.key.now (word_value (option_map (λ s. s.now) c.in-Some.word)) c.values.invariant.found)) crs crs_type edges
+    → AreValuesSoFar 126 c.in_ok-members.members c.next.new.self crs crs_type edges
+go_on c values =
     let word = option_map (λ s. s.now) c.in-Some.word in
     let left = rw c.in-Some.is at c.in_ok-key.ensures in
-    slots_go_on c.slots.invariant c.in-Some.key.now (word_token word ∷ c.next.new.self) (ap read_key left) (next_word 126 word c.next.new.self) slots
+    values_go_on c.values.invariant c.in-Some.key.now (word_token word ∷ c.next.new.self) (ap read_key left) (next_word 126 word c.next.new.self) values
 
-pub slots-preserved-then-str_eq : goal.slots-preserved-then-str_eq
-slots-preserved-then-str_eq c = go_on (goal.at.slots-preserved-then-str_eq c).In-Some (crs_put _ _ c.slots.invariant.slots c.in-crs.is (as_present c.in-Some.word))
+pub values-preserved-then-str_eq : goal.values-preserved-then-str_eq
+values-preserved-then-str_eq c = go_on (goal.at.values-preserved-then-str_eq c).In-Some (crs_put _ _ c.values.invariant.values c.in-crs.is (as_present c.in-Some.word))
 
-pub slots-preserved-then-str_eq-2 : goal.slots-preserved-then-str_eq-2
-slots-preserved-then-str_eq-2 c =
-    go_on (goal.at.slots-preserved-then-str_eq-2 c).In-Some (crs_type_put _ _ c.slots.invariant.slots c.in-crs_type.is
+pub values-preserved-then-str_eq-2 : goal.values-preserved-then-str_eq-2
+values-preserved-then-str_eq-2 c =
+    go_on (goal.at.values-preserved-then-str_eq-2 c).In-Some (crs_type_put _ _ c.values.invariant.values c.in-crs_type.is
     (subst (IsNamed crs_type_data c.crs_type_of-crs_type.result) (as_present c.in-Some.word) (c.crs_type_of-crs_type.ensures _ c.of.ensures)))
 
-pub slots-preserved-then-str_eq-3 : goal.slots-preserved-then-str_eq-3
-slots-preserved-then-str_eq-3 c =
-    go_on (goal.at.slots-preserved-then-str_eq-3 c).In-Some (edges_put _ _ c.slots.invariant.slots c.in-edges.is
+pub values-preserved-then-str_eq-3 : goal.values-preserved-then-str_eq-3
+values-preserved-then-str_eq-3 c =
+    go_on (goal.at.values-preserved-then-str_eq-3 c).In-Some (edges_put _ _ c.values.invariant.values c.in-edges.is
     (subst (IsNamed edges_data c.edges_of-edges.result) (as_present c.in-Some.word) (c.edges_of-edges.ensures _ c.of-in-edges.ensures)))
 
-pub slots-preserved : goal.slots-preserved
-slots-preserved c = go_on (goal.at.slots-preserved c).In-Some (other_put _ _ c.slots.invariant.slots (grind arith) (grind arith) (grind arith))
+pub values-preserved : goal.values-preserved
+values-preserved c = go_on (goal.at.values-preserved c).In-Some (other_put _ _ c.values.invariant.values (grind arith) (grind arith) (grind arith))
 
 pub returns : goal.returns
 returns c =
-    let way = c.slots.invariant in
-    let members = way.decides ∙ members_over 126 way.found c.slots.members [] (ap read_key (rw c.in_default.is at c.in_ok-key.ensures)) in
+    let way = c.values.invariant in
+    let members = way.decides ∙ members_over 126 way.found c.values.members [] (ap read_key (rw c.in_default.is at c.in_ok-key.ensures)) in
     let object_read = ap (next_value 127) c.in_ok-members.ensures ∙ next_object 126 c.in_ok-members.members ∙ ap (parse_map object) members in
-    (way.found, read_whole c.args.text.now (object way.found) object_read, way.slots)
+    (way.found, read_whole c.args.text.now (object way.found) object_read, way.values)

@@ -3,57 +3,57 @@ use Rattle.serde_json.specs.Data.{no_members}
 use Rattle.value_tokens.specs.Next.{next_value}
 use Rattle.value_tokens.specs.Turns.{after_some, key_refused, members_over}
 use Rattle.geoarrow_meta.specs.Read.{present}
-use Rattle.geoarrow_meta.proofs.Slots.{slots_refused, slots_go_on, crs_put, crs_type_put, edges_put, other_put}
+use Rattle.geoarrow_meta.proofs.KeyValues.{values_refused, values_go_on, crs_put, crs_type_put, edges_put, other_put}
 use Rattle.geoarrow_meta.proofs.metadata.tokens.take_members.Goals as goal
 
-pub slots-init : goal.slots-init
-slots-init c = record { found = no_members; decides = refl; slots = record { at_crs = refl; at_crs_type = refl; at_edges = refl }; fewer = omega arith }
+pub values-init : goal.values-init
+values-init c = record { found = no_members; decides = refl; values = record { at_crs = refl; at_crs_type = refl; at_edges = refl }; fewer = omega arith }
 
 pub returns-in_err-key-clause-text : goal.returns-in_err-key-clause-text
 returns-in_err-key-clause-text c refused =
-    let way = c.slots.invariant in
-    way.decides ∙ key_refused c.args.depth way.found c.slots.reader c.in_err-key.ensures.value
+    let way = c.values.invariant in
+    way.decides ∙ key_refused c.args.depth way.found c.values.reader c.in_err-key.ensures.value
 
 pub returns-in_err-crs-in-crs-clause-text : goal.returns-in_err-crs-in-crs-clause-text
 returns-in_err-crs-in-crs-clause-text c refused =
-    slots_refused c.slots.invariant c.in-Some.key.now c.next_key.new.self (grind arith) (c.take_crs.ensures.text (grind arith))
+    values_refused c.values.invariant c.in-Some.key.now c.next_key.new.self (grind arith) (c.take_crs.ensures.text (grind arith))
 
-pub slots-preserved-then-str_eq : goal.slots-preserved-then-str_eq
-slots-preserved-then-str_eq c =
+pub values-preserved-then-str_eq : goal.values-preserved-then-str_eq
+values-preserved-then-str_eq c =
     let read = c.in_ok-crs-in-crs.ensures.ok in
-    slots_go_on c.slots.invariant c.in-Some.key.now c.next_key.new.self (grind arith) read.1 (crs_put _ _ c.slots.invariant.slots c.in-crs.is read.2)
+    values_go_on c.values.invariant c.in-Some.key.now c.next_key.new.self (grind arith) read.1 (crs_put _ _ c.values.invariant.values c.in-crs.is read.2)
 
 pub returns-in_err-take_word-in-crs_type-clause-text : goal.returns-in_err-take_word-in-crs_type-clause-text
 returns-in_err-take_word-in-crs_type-clause-text c refused =
-    slots_refused c.slots.invariant c.in-Some.key.now c.next_key.new.self (grind arith) (c.take_word.ensures.text (grind arith))
+    values_refused c.values.invariant c.in-Some.key.now c.next_key.new.self (grind arith) (c.take_word.ensures.text (grind arith))
 
-pub slots-preserved-then-str_eq-2 : goal.slots-preserved-then-str_eq-2
-slots-preserved-then-str_eq-2 c =
+pub values-preserved-then-str_eq-2 : goal.values-preserved-then-str_eq-2
+values-preserved-then-str_eq-2 c =
     let read = c.in_ok-take_word-in-crs_type.ensures.ok in
-    slots_go_on c.slots.invariant c.in-Some.key.now c.next_key.new.self (grind arith) read.1
-    (crs_type_put _ _ c.slots.invariant.slots c.in-crs_type.is (c.crs_type_of-crs_type.ensures (present (Some read.0)) read.2))
+    values_go_on c.values.invariant c.in-Some.key.now c.next_key.new.self (grind arith) read.1
+    (crs_type_put _ _ c.values.invariant.values c.in-crs_type.is (c.crs_type_of-crs_type.ensures (present (Some read.0)) read.2))
 
 pub returns-in_err-take_word-in-edges-clause-text : goal.returns-in_err-take_word-in-edges-clause-text
 returns-in_err-take_word-in-edges-clause-text c refused =
-    slots_refused c.slots.invariant c.in-Some.key.now c.next_key.new.self (grind arith) (c.take_word-in-edges.ensures.text (grind arith))
+    values_refused c.values.invariant c.in-Some.key.now c.next_key.new.self (grind arith) (c.take_word-in-edges.ensures.text (grind arith))
 
-pub slots-preserved-then-str_eq-3 : goal.slots-preserved-then-str_eq-3
-slots-preserved-then-str_eq-3 c =
+pub values-preserved-then-str_eq-3 : goal.values-preserved-then-str_eq-3
+values-preserved-then-str_eq-3 c =
     let read = c.in_ok-take_word-in-edges.ensures.ok in
-    slots_go_on c.slots.invariant c.in-Some.key.now c.next_key.new.self (grind arith) read.1
-    (edges_put _ _ c.slots.invariant.slots c.in-edges.is (c.edges_of-edges.ensures (present (Some read.0)) read.2))
+    values_go_on c.values.invariant c.in-Some.key.now c.next_key.new.self (grind arith) read.1
+    (edges_put _ _ c.values.invariant.values c.in-edges.is (c.edges_of-edges.ensures (present (Some read.0)) read.2))
 
-pub slots-preserved : goal.slots-preserved
-slots-preserved c =
+pub values-preserved : goal.values-preserved
+values-preserved c =
     let d = after_some (next_value c.args.depth c.next_key.new.self) c.skip_value.new.reader c.in_ok-skip_value-in_default-key.ensures.ok in
-    slots_go_on c.slots.invariant c.in-Some.key.now c.next_key.new.self (grind arith) d.1
-    (other_put _ _ c.slots.invariant.slots c.in_default-key.not-crs c.in_default-key.not-crs_type c.in_default-key.not-edges)
+    values_go_on c.values.invariant c.in-Some.key.now c.next_key.new.self (grind arith) d.1
+    (other_put _ _ c.values.invariant.values c.in_default-key.not-crs c.in_default-key.not-crs_type c.in_default-key.not-edges)
 
 pub returns-in_err-skip_value-in_default-key-clause-text : goal.returns-in_err-skip_value-in_default-key-clause-text
 returns-in_err-skip_value-in_default-key-clause-text c refused =
-    slots_refused c.slots.invariant c.in-Some.key.now c.next_key.new.self (grind arith) (c.skip_value.ensures.text (grind arith))
+    values_refused c.values.invariant c.in-Some.key.now c.next_key.new.self (grind arith) (c.skip_value.ensures.text (grind arith))
 
 pub returns-clause-ok : goal.returns-clause-ok
 returns-clause-ok c =
-    let l = c.slots in
-    (l.invariant.found, l.invariant.decides ∙ members_over c.args.depth l.invariant.found l.reader c.next_key.new.self (grind arith), l.invariant.slots)
+    let l = c.values in
+    (l.invariant.found, l.invariant.decides ∙ members_over c.args.depth l.invariant.found l.reader c.next_key.new.self (grind arith), l.invariant.values)

@@ -1,10 +1,10 @@
 use Rattle.std.proofs.Common.{length, option_map}
 use Rattle.serde_json.specs.View.{view}
-use Rattle.geoarrow_meta.proofs.Slots.{AreSlotsUnderWay}
+use Rattle.geoarrow_meta.proofs.KeyValues.{AreValuesSoFar}
 use Rattle.geoarrow_meta.proofs.metadata.tokens.take_members.Given as goal
 
-abbrev pub invariant-slots : goal.invariant-slots
-invariant-slots l = AreSlotsUnderWay l.depth l.initial.reader l.reader (option_map view l.crs) l.crs_type l.edges
+abbrev pub invariant-values : goal.invariant-values
+invariant-values l = AreValuesSoFar l.depth l.initial.reader l.reader (option_map view l.crs) l.crs_type l.edges
 
-abbrev pub decreases-slots : goal.decreases-slots
-decreases-slots l = length l.reader
+abbrev pub decreases-values : goal.decreases-values
+decreases-values l = length l.reader

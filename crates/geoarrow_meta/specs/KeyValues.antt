@@ -1,14 +1,15 @@
--- What is found at the three keys of a metadata's object, while it is read. Only private contracts cite it.
+-- The values of the three keys of a metadata's object, while it is read. Only private contracts cite it.
 use Rattle.std.specs.Prelude.{◌≡◌, codes, Option, None, Some, IsSome, option_map}
 use Rattle.serde_json.specs.Data.{Data, string}
 use Rattle.serde_json.specs.Find.{as_object}
 use Rattle.serde_json.specs.View.{view}
+use Rattle.serde_json.specs.declared.value.Value.{Value}
 use Rattle.arrow_values.specs.Tree.{Text}
 use Rattle.geoarrow_meta.specs.declared.edges.Edges.{Edges}
 use Rattle.geoarrow_meta.specs.declared.crs.crs_type.CrsType.{CrsType}
-use Rattle.geoarrow_meta.specs.declared.metadata.read.Slots.{Slots}
-use Rattle.geoarrow_meta.specs.declared.metadata.read.Word.{Word}
-use Rattle.geoarrow_meta.specs.declared.metadata.read.Word.TheVariants.{Absent, Text as Said, Other}
+use Rattle.geoarrow_meta.specs.declared.metadata.key_values.KeyValues.{KeyValues}
+use Rattle.geoarrow_meta.specs.declared.metadata.key_values.Word.{Word}
+use Rattle.geoarrow_meta.specs.declared.metadata.key_values.Word.TheVariants.{Absent, Text as Said, Other}
 use Rattle.geoarrow_meta.specs.Read.{crs_type_data, edges_data, at_key}
 
 -- the word says what was found: nothing, a text, or another value
@@ -23,12 +24,12 @@ IsNamed written (Some a) found = option_map written a ≡ found
 IsNamed {A} written None found = (a : Option A) → ¬ (option_map written a ≡ found)
 
 -- these were found at the three keys of the value
-pub record AreSlotsOf (d : Data) (crs : Option Data) (crs_type : Option (Option CrsType)) (edges : Option (Option Edges)) : Type 0 where
+pub record AreValuesOf (d : Data) (crs : Option Data) (crs_type : Option (Option CrsType)) (edges : Option (Option Edges)) : Type 0 where
   pub at_crs : crs ≡ at_key (codes "crs") d
   pub at_crs_type : IsNamed crs_type_data crs_type (at_key (codes "crs_type") d)
   pub at_edges : IsNamed edges_data edges (at_key (codes "edges") d)
 
 -- what was found at the three keys of an object; none if the value is not an object
-abbrev pub Finds : Option Slots → Data → Type 0
+abbrev pub Finds : Option (KeyValues Value) → Data → Type 0
 Finds None d = ¬ IsSome (as_object d)
-Finds (Some s) d = IsSome (as_object d) × AreSlotsOf d (option_map view s.crs) s.crs_type s.edges
+Finds (Some s) d = IsSome (as_object d) × AreValuesOf d (option_map view s.crs) s.crs_type s.edges

@@ -3,7 +3,7 @@ use Rattle.std.proofs.lemmas.Result.{IfOk-weaker}
 use Rattle.geoarrow_schema.specs.Reads.{HasGeoArrowName}
 use Rattle.geoarrow_schema.proofs.Inferring.{named_inference, named_alone, unnamed_inference}
 use Rattle.geoarrow_schema.proofs.Reading.{none_unnamed}
-use Rattle.geoarrow_schema.proofs.infer.read_or_infer.Goals as goal
+use Rattle.geoarrow_schema.proofs.types.GeoArrowType.from_arrow_field.Goals as goal
 
 pub returns-in-Some-clause-inference : goal.returns-in-Some-clause-inference
 returns-in-Some-clause-inference c = named_inference c.args.field.now c.read_named.result (search rules) c.read_named.ensures.ok c.read_named.ensures.refused

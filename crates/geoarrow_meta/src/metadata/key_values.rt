@@ -1,25 +1,25 @@
-//! What stands at the three keys of a metadata's JSON object.
+//! The values of the three keys of a metadata's JSON object.
 ghost use Rattle.std.specs.Prelude.{◌≡◌, Option, IfOk, option_map};
 ghost use Rattle.serde_json.specs.Data.{Data, string};
 ghost use Rattle.serde_json.specs.View.{view};
 ghost use Rattle.geoarrow_meta.specs.Read.{crs_type_data, edges_data, at_key};
-ghost use Rattle.geoarrow_meta.specs.Slots.{IsWord, IsNamed, AreSlotsOf};
+ghost use Rattle.geoarrow_meta.specs.KeyValues.{IsWord, IsNamed, AreValuesOf};
 
 use crate::crs::CrsType;
 use crate::edges::Edges;
 use serde_json::Value;
 use std::alloc::{AllocError, Global};
 
-// What stands at the three keys, null as absent. Of a CRS type and of edges it is what the word there stands for, or the
-// absence of one; none where there is no such word.
+// The values of the three keys, null as absent. Those of a CRS type and of edges are what the text there denotes; none
+// where it is another value. That of a CRS is a JSON value, or a text that is not copied yet.
 #[derive(Drop)]
-pub(crate) struct Slots {
-    pub(crate) crs: Option<Value>,
+pub(crate) struct KeyValues<V> {
+    pub(crate) crs: Option<V>,
     pub(crate) crs_type: Option<Option<CrsType>>,
     pub(crate) edges: Option<Option<Edges>>,
 }
 
-// What stands where a word should, null as absent.
+// A value that should be a text, null as absent.
 #[derive(Clone, Copy, Drop)]
 pub(crate) enum Word<'a> {
     Absent,
@@ -39,15 +39,15 @@ impl<'a> Word<'a> {
     }
 }
 
-// What stands at the three keys of a value. Errs only when out of memory.
-pub(crate) fn slots_of(alloc: Global, value: &Value) -> Result<Slots, AllocError>
-    ensures { IfOk result (λ s. AreSlotsOf (view value.now) (option_map view s.crs) s.crs_type s.edges) }
+// The values of the three keys of a JSON value. Errs only when out of memory.
+pub(crate) fn values_of(alloc: Global, value: &Value) -> Result<KeyValues<Value>, AllocError>
+    ensures { IfOk result (λ s. AreValuesOf (view value.now) (option_map view s.crs) s.crs_type s.edges) }
 {
     let crs = match present_at(value, "crs") {
         Some(found) => Some(found.clone()?),
         None => None,
     };
-    Ok(Slots {
+    Ok(KeyValues {
         crs,
         crs_type: crs_type_of(word_at(value, "crs_type")),
         edges: edges_of(word_at(value, "edges")),

@@ -13,8 +13,8 @@ use Rattle.value_tokens.specs.Presence.{get_member-put_at}
 use Rattle.geoarrow_meta.specs.declared.edges.Edges.{Edges}
 use Rattle.geoarrow_meta.specs.declared.crs.crs_type.CrsType.{CrsType}
 use Rattle.geoarrow_meta.specs.Read.{crs_type_data, edges_data, present, at_key}
-use Rattle.geoarrow_meta.specs.declared.metadata.read.Word.TheVariants.{Other}
-use Rattle.geoarrow_meta.specs.Slots.{IsWord, IsNamed, AreSlotsOf}
+use Rattle.geoarrow_meta.specs.declared.metadata.key_values.Word.TheVariants.{Other}
+use Rattle.geoarrow_meta.specs.KeyValues.{IsWord, IsNamed, AreValuesOf}
 
 -- ---- words
 
@@ -42,56 +42,56 @@ module _ (k : Text) (d : Data) (found : Members) where
 differs : (q k : Text) → (k ≡ q → ⊥) → bytes_eq q k ≡ false
 differs q k other = grind (arith, bytes_eq-Decides q k)
 
-module _ (k : Text) (d : Data) {found : Members} {crs : Option Data} {crs_type : Option (Option CrsType)} {edges : Option (Option Edges)} (slots : AreSlotsOf (object found) crs crs_type edges) where
-  pub crs_put : {new : Option Data} → k ≡ codes "crs" → new ≡ present (Some d) → AreSlotsOf (object (put k d found)) new crs_type edges
+module _ (k : Text) (d : Data) {found : Members} {crs : Option Data} {crs_type : Option (Option CrsType)} {edges : Option (Option Edges)} (values : AreValuesOf (object found) crs crs_type edges) where
+  pub crs_put : {new : Option Data} → k ≡ codes "crs" → new ≡ present (Some d) → AreValuesOf (object (put k d found)) new crs_type edges
   crs_put {new} is here = record {
     at_crs = at_own k d found (λ x. new ≡ x) (codes "crs") is here;
-    at_crs_type = at_other k d found (IsNamed crs_type_data crs_type) (codes "crs_type") (ap (bytes_eq (codes "crs_type")) is) slots.at_crs_type;
-    at_edges = at_other k d found (IsNamed edges_data edges) (codes "edges") (ap (bytes_eq (codes "edges")) is) slots.at_edges;
+    at_crs_type = at_other k d found (IsNamed crs_type_data crs_type) (codes "crs_type") (ap (bytes_eq (codes "crs_type")) is) values.at_crs_type;
+    at_edges = at_other k d found (IsNamed edges_data edges) (codes "edges") (ap (bytes_eq (codes "edges")) is) values.at_edges;
   }
 
-  pub crs_type_put : {new : Option (Option CrsType)} → k ≡ codes "crs_type" → IsNamed crs_type_data new (present (Some d)) → AreSlotsOf (object (put k d found)) crs new edges
+  pub crs_type_put : {new : Option (Option CrsType)} → k ≡ codes "crs_type" → IsNamed crs_type_data new (present (Some d)) → AreValuesOf (object (put k d found)) crs new edges
   crs_type_put {new} is here = record {
-    at_crs = at_other k d found (λ x. crs ≡ x) (codes "crs") (ap (bytes_eq (codes "crs")) is) slots.at_crs;
+    at_crs = at_other k d found (λ x. crs ≡ x) (codes "crs") (ap (bytes_eq (codes "crs")) is) values.at_crs;
     at_crs_type = at_own k d found (IsNamed crs_type_data new) (codes "crs_type") is here;
-    at_edges = at_other k d found (IsNamed edges_data edges) (codes "edges") (ap (bytes_eq (codes "edges")) is) slots.at_edges;
+    at_edges = at_other k d found (IsNamed edges_data edges) (codes "edges") (ap (bytes_eq (codes "edges")) is) values.at_edges;
   }
 
-  pub edges_put : {new : Option (Option Edges)} → k ≡ codes "edges" → IsNamed edges_data new (present (Some d)) → AreSlotsOf (object (put k d found)) crs crs_type new
+  pub edges_put : {new : Option (Option Edges)} → k ≡ codes "edges" → IsNamed edges_data new (present (Some d)) → AreValuesOf (object (put k d found)) crs crs_type new
   edges_put {new} is here = record {
-    at_crs = at_other k d found (λ x. crs ≡ x) (codes "crs") (ap (bytes_eq (codes "crs")) is) slots.at_crs;
-    at_crs_type = at_other k d found (IsNamed crs_type_data crs_type) (codes "crs_type") (ap (bytes_eq (codes "crs_type")) is) slots.at_crs_type;
+    at_crs = at_other k d found (λ x. crs ≡ x) (codes "crs") (ap (bytes_eq (codes "crs")) is) values.at_crs;
+    at_crs_type = at_other k d found (IsNamed crs_type_data crs_type) (codes "crs_type") (ap (bytes_eq (codes "crs_type")) is) values.at_crs_type;
     at_edges = at_own k d found (IsNamed edges_data new) (codes "edges") is here;
   }
 
-  pub other_put : (k ≡ codes "crs" → ⊥) → (k ≡ codes "crs_type" → ⊥) → (k ≡ codes "edges" → ⊥) → AreSlotsOf (object (put k d found)) crs crs_type edges
+  pub other_put : (k ≡ codes "crs" → ⊥) → (k ≡ codes "crs_type" → ⊥) → (k ≡ codes "edges" → ⊥) → AreValuesOf (object (put k d found)) crs crs_type edges
   other_put no_crs no_type no_edges = record {
-    at_crs = at_other k d found (λ x. crs ≡ x) (codes "crs") (differs (codes "crs") k no_crs) slots.at_crs;
-    at_crs_type = at_other k d found (IsNamed crs_type_data crs_type) (codes "crs_type") (differs (codes "crs_type") k no_type) slots.at_crs_type;
-    at_edges = at_other k d found (IsNamed edges_data edges) (codes "edges") (differs (codes "edges") k no_edges) slots.at_edges;
+    at_crs = at_other k d found (λ x. crs ≡ x) (codes "crs") (differs (codes "crs") k no_crs) values.at_crs;
+    at_crs_type = at_other k d found (IsNamed crs_type_data crs_type) (codes "crs_type") (differs (codes "crs_type") k no_type) values.at_crs_type;
+    at_edges = at_other k d found (IsNamed edges_data edges) (codes "edges") (differs (codes "edges") k no_edges) values.at_edges;
   }
 
 -- ---- the members that are taken so far
 
-pub record AreSlotsUnderWay (depth : _) (all left : List Token) (crs : Option Data) (crs_type : Option (Option CrsType)) (edges : Option (Option Edges)) : Type 0 where
+pub record AreValuesSoFar (depth : _) (all left : List Token) (crs : Option Data) (crs_type : Option (Option CrsType)) (edges : Option (Option Edges)) : Type 0 where
   pub found : Members
   pub decides : next_members depth no_members all ≡ next_members depth found left
-  pub slots : AreSlotsOf (object found) crs crs_type edges
+  pub values : AreValuesOf (object found) crs crs_type edges
   pub fewer : length left ≤ length all
 
 module _ {depth : _} {all left : List Token} {crs : Option Data} {crs_type : Option (Option CrsType)} {edges : Option (Option Edges)}
-    (way : AreSlotsUnderWay depth all left crs crs_type edges) (k : Text) (s : List Token) (named : read_key left ≡ Some (Some k, s)) where
-  pub slots_refused : next_value depth s ≡ None → next_members depth no_members all ≡ None
-  slots_refused refused = way.decides ∙ member_refused depth way.found k left s named refused
+    (way : AreValuesSoFar depth all left crs crs_type edges) (k : Text) (s : List Token) (named : read_key left ≡ Some (Some k, s)) where
+  pub values_refused : next_value depth s ≡ None → next_members depth no_members all ≡ None
+  values_refused refused = way.decides ∙ member_refused depth way.found k left s named refused
 
-  pub slots_go_on : {d : Data} {r : List Token} {crs : Option Data} {crs_type : Option (Option CrsType)} {edges : Option (Option Edges)} → next_value depth s ≡ Some (d, r)
-      → AreSlotsOf (object (put k d way.found)) crs crs_type edges → AreSlotsUnderWay depth all r crs crs_type edges
-  slots_go_on {d} {r} read slots =
+  pub values_go_on : {d : Data} {r : List Token} {crs : Option Data} {crs_type : Option (Option CrsType)} {edges : Option (Option Edges)} → next_value depth s ≡ Some (d, r)
+      → AreValuesOf (object (put k d way.found)) crs crs_type edges → AreValuesSoFar depth all r crs crs_type edges
+  values_go_on {d} {r} read values =
       let less = value_takes depth s r d read in
       let first = read_key-shorter left (Some k) s named in
       record {
         found = put k d way.found;
         decides = way.decides ∙ member_read depth way.found k left s r d named read;
-        slots = slots;
+        values = values;
         fewer = omega (arith, way.fewer);
       }

@@ -1,0 +1,130 @@
+//! The encoding of boxes.
+ghost use Rattle.std.specs.Prelude.{◌≡◌};
+
+use crate::column::{ColumnEncoding, ColumnType, KindEncoding};
+use arrow_values::{ArrowError, DataType};
+use geoarrow_layout::{Dimension, Kind, parse_box};
+use geoarrow_meta::Metadata;
+use std::alloc::Global;
+use std::fmt;
+use std::sync::Arc;
+
+/// The encoding of boxes: all have the same dimension.
+#[derive(Clone, Copy, PartialEq, Eq, Hash, Drop)]
+pub struct Rect {
+    pub(crate) dimension: Dimension,
+}
+
+/// Boxes (GeoArrow, "Box"): each value is the least and the greatest value of each dimension.
+///
+/// ```rust
+/// let mut fields = Vec::new(alloc);
+/// for &name in [
+///     FixedName::Xmin,
+///     FixedName::Ymin,
+///     FixedName::Xmax,
+///     FixedName::Ymax,
+/// ]
+/// .iter()
+/// {
+///     fields.push(Field::fixed(alloc, name, DataType::Float64, false))?;
+/// }
+/// let boxes = BoxType::new(Dimension::XY, Arc::new(alloc, Metadata::default())?);
+/// assert!(rt; boxes.data_type(alloc)? == DataType::Struct(Fields::from(fields)));
+/// ```
+pub type BoxType = ColumnType<Rect>;
+
+/// The name of `BoxType` after the variant `GeoArrowType::Rect`.
+pub type RectType = BoxType;
+
+impl ColumnType<Rect> {
+    /// The type of that dimension and metadata.
+    pub fn new(dimension: Dimension, metadata: Arc<Metadata>) -> BoxType
+        ensures dimension { result.encoding.dimension ≡ dimension }
+        ensures metadata { result.metadata ≡ metadata }
+    {
+        ColumnType {
+            encoding: Rect { dimension },
+            metadata,
+        }
+    }
+
+    /// The type with that dimension, otherwise unchanged.
+    pub fn with_dimension(self, dimension: Dimension) -> BoxType
+        ensures dimension { result.encoding.dimension ≡ dimension }
+        ensures metadata { result.metadata ≡ self.metadata }
+    {
+        ColumnType {
+            encoding: Rect { dimension },
+            ..self
+        }
+    }
+
+    /// The dimension of the boxes.
+    pub fn dimension(&self) -> Dimension
+        ensures { result ≡ self.now.encoding.dimension }
+    {
+        self.encoding.dimension
+    }
+}
+
+impl fmt::Debug for ColumnType<Rect> {
+    fn fmt<W: fmt::Write>(&self, f: &mut fmt::Formatter<W>) -> fmt::Result {
+        f.debug_struct("BoxType")
+            .field("dimension", &self.encoding.dimension)
+            .field("metadata", &self.metadata)
+            .finish()
+    }
+}
+
+impl ColumnEncoding for Rect {
+    ghost use Rattle.std.proofs.Common.{refl, sym, subst};
+    ghost use Rattle.geoarrow_layout.specs.declared.names.ExtensionName.TheVariants as names;
+    ghost use Rattle.geoarrow_layout.specs.Shapes.{BoxShape};
+    ghost use Rattle.geoarrow_layout.specs.OneShape.{box_shape_same};
+    ghost use Rattle.geoarrow_native.specs.Column.{IsLayoutRefusal};
+
+    const NAME: &'static str = "geoarrow.box";
+
+    ghost name = { names.Rect };
+
+    ghost Accepts = { λ t e. BoxShape t e.dimension };
+
+    ghost Agrees = { λ a b. a.dimension ≡ b.dimension };
+
+    ghost RefusesTree = { λ _ r. IsLayoutRefusal r };
+
+    ghost accepts_one = { λ t a b h k. box_shape_same t a.dimension b.dimension h k };
+
+    ghost accepts_by_shape = { λ t a e h k. subst (λ d. BoxShape t d) (sym k) h };
+
+    ghost agrees_with_itself = { λ e. refl };
+
+    fn encoding_name() -> &'static str {
+        Self::NAME
+    }
+
+    fn read(alloc: Global, data_type: &DataType) -> Result<Rect, ArrowError> {
+        match parse_box(data_type) {
+            Ok(dimension) => Ok(Rect { dimension }),
+            Err(fault) => Err(fault.into_arrow_error(alloc)),
+        }
+    }
+
+    fn difference(&self, other: &Rect) -> Option<&'static str> {
+        if self.dimension != other.dimension {
+            return Some("unexpected dimension");
+        }
+        None
+    }
+}
+
+impl KindEncoding for Rect {
+    ghost use Rattle.geoarrow_layout.specs.declared.encodings.Kind.TheVariants as kinds;
+
+    ghost kind_of = { λ e. kinds.Rect e.dimension };
+
+    fn kind(&self) -> Kind {
+        Kind::Rect(self.dimension)
+    }
+}
