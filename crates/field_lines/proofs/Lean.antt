@@ -92,11 +92,11 @@ field_keys_ordered = ((refl, refl, (refl, refl, (refl, refl, tt))), ((refl, refl
 -- ---- what is read says two things: a line can say it, and a lean value that stands for it is its value
 
 -- what holds of an answer, by what holds of its parts
-mapped : {A B : Type 0} {P : A → Type 0} (Q : B → Type 0) (f : A → B) (o : Option A) → IfSome o P → ((x : A) → P x → Q (f x)) → IfSome (option_map f o) Q
+pub mapped : {A B : Type 0} {P : A → Type 0} (Q : B → Type 0) (f : A → B) (o : Option A) → IfSome o P → ((x : A) → P x → Q (f x)) → IfSome (option_map f o) Q
 mapped Q f None h k = tt
 mapped Q f (Some x) h k = k x h
 
-chained : {A B : Type 0} {P : A → Type 0} (Q : B → Type 0) (f : A → Option B) (o : Option A) → IfSome o P → ((x : A) → P x → IfSome (f x) Q) → IfSome (option_and_then f o) Q
+pub chained : {A B : Type 0} {P : A → Type 0} (Q : B → Type 0) (f : A → Option B) (o : Option A) → IfSome o P → ((x : A) → P x → IfSome (f x) Q) → IfSome (option_and_then f o) Q
 chained Q f None h k = tt
 chained Q f (Some x) h k = k x h
 
@@ -114,7 +114,7 @@ bool_says : (d : Data) → IfSome (as_bool d) (λ b. d ≡ boolean b)
 bool_says (boolean b) = refl
 bool_says _ = tt
 
-texts_say : (ms : Members) → IfSome (texts_in ms) (λ m. ms ≡ texts_value m)
+pub texts_say : (ms : Members) → IfSome (texts_in ms) (λ m. ms ≡ texts_value m)
 texts_say no_members = refl
 texts_say (member k d ms) =
     chained _ (λ text. option_map (λ texts. (k, text) ∷ texts) (texts_in ms)) (as_str d) (text_says d)

@@ -4,3 +4,7 @@ mod Lean
 mod TokenTexts
 mod TokenMembers
 mod TokenItems
+mod Utf8
+mod Held
+mod Compact
+mod ReadBack

@@ -1,4 +1,4 @@
--- The field that a JSON value stands for. An object has its members in the order of their keys, each key once.
+-- The field that a JSON value denotes. An object has its members in the order of their keys, each key once.
 use Rattle.std.specs.Prelude.{ℤ, pos, negsuc, ◌&&◌, List, [], ◌∷◌, Bool, if◌then◌else◌, Option, Some, None, option_and_then, option_map, codes, bytes_eq, int_le}
 use Rattle.serde_json.specs.Data.{Data, string, array, object, Items, no_items, item, Members, no_members, member}
 use Rattle.serde_json.specs.Find.{get_member, as_str, as_bool, as_number, as_integer, as_object}

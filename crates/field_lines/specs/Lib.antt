@@ -2,6 +2,7 @@ pub mod Names
 pub mod FieldOfValue
 pub mod Lean
 pub mod LineForm
+pub mod Held
 pub mod Line
 pub mod Steps
 pub mod Keys

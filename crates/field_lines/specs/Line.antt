@@ -1,7 +1,7 @@
--- The JSON value of a field, the line of a field, and the field that a line stands for.
+-- The JSON value of a field, the line of a field, and the field that a line denotes.
 --
 -- The value has no ignored key and no empty metadata, and its keys in the order of their bytes. It is lean (`Lean`), and
--- no other lean value stands for the field (`laws`).
+-- no other lean value denotes the field (`laws`).
 use Rattle.std.specs.Prelude.{[], ◌∷◌, Bool, if◌then◌else◌, Option, None, option_and_then, codes}
 use Rattle.std.specs.Str.{is_utf8}
 use Rattle.serde_json.specs.Data.{Data, boolean, number, string, array, object, Items, no_items, item, Members, no_members, member}

@@ -1,11 +1,11 @@
 //! The line format: a field of Arrow as one line of JSON, and back.
 //!
-//! [`parse_line`] reads the field that a line stands for, and [`field_line`] writes the line of a field.
+//! [`parse_line`] reads the field that a line denotes, and [`field_line`] writes the line of a field.
 //! [`parse_line_with_scratch`] is cheaper for many lines.
 //!
 //! The format is this library's own; docs/FORMAT.md has its rules and a table of its words. `specs/Line` defines
-//! what a line stands for: the field that its JSON value stands for (`specs/FieldOfValue`). It also defines the
-//! value that is written for a field; by [`laws`] it is the only lean value (`specs/Lean`) that stands for
+//! what a line denotes: the field that its JSON value denotes (`specs/FieldOfValue`). It also defines the
+//! value that is written for a field; by [`laws`] it is the only lean value (`specs/Lean`) that denotes
 //! the field. No JSON value is made: a line is read by its tokens, and written as tokens.
 #![tactic(auto)]
 

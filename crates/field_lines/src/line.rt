@@ -1,4 +1,4 @@
-//! A line of text, and the field that it stands for.
+//! A line of text, and the field that it denotes.
 ghost use Rattle.std.specs.Prelude.{◌≡◌, ◌≤◌, Some, None, Err, option_and_then, IfOk, IfSome, string_bytes};
 ghost use Rattle.serde_json.specs.Data.{depth};
 ghost use Rattle.serde_json.specs.Read.{read, max_depth};
@@ -19,7 +19,7 @@ const MAX_DEPTH: usize = 127;
 /// The room that a line is given at first, in bytes. Most lines take no more.
 const LINE_ROOM: usize = 1024;
 
-/// The field that a line stands for, or `None` if it stands for no field. The line is the bytes before
+/// The field that a line denotes, or `None` if it denotes no field. The line is the bytes before
 /// a line feed (docs/FORMAT.md, 2.1). Errs only when out of memory.
 pub fn parse_line(alloc: Global, line: &[u8]) -> Result<Option<Field>, AllocError>
     ensures field { IfOk result (λ o. o ≡ field_of_line line.now) }
@@ -29,8 +29,8 @@ pub fn parse_line(alloc: Global, line: &[u8]) -> Result<Option<Field>, AllocErro
     parse_line_with_scratch(alloc, line, &mut scratch)
 }
 
-/// The same as [`parse_line`], with a scratch buffer that the caller keeps: reading many lines with one scratch costs less
-/// than with a new one for each. What is left in it of one line has no effect on the next.
+/// The field that a line denotes, as [`parse_line`] reads it, with a scratch buffer that the caller keeps: reading many lines
+/// with one scratch costs less than with a new one for each. What is left in it of one line has no effect on the next.
 pub fn parse_line_with_scratch(
     alloc: Global,
     line: &[u8],
@@ -49,7 +49,7 @@ pub fn parse_line_with_scratch(
     }
 }
 
-/// The field that a text stands for.
+/// The field that a text denotes.
 fn parse_text(alloc: Global, text: &str, scratch: &mut Scratch) -> Result<Option<Field>, Refusal>
     ensures ok { IfOk result (λ o. o ≡ option_and_then field_of_value (read text.now)) }
     ensures text { result ≡ Err Refusal.Text → None ≡ option_and_then field_of_value (read text.now) }
@@ -64,7 +64,7 @@ fn parse_text(alloc: Global, text: &str, scratch: &mut Scratch) -> Result<Option
 
 /// The line of a field, without a line feed: compact JSON with its keys in the order of their bytes,
 /// no ignored key and no empty metadata. If a line can represent the field, its value is the only lean
-/// value that stands for the field ([`laws`](crate::laws)). Errs only when out of memory.
+/// value that denotes the field ([`laws`](crate::laws)). Errs only when out of memory.
 pub fn field_line(alloc: Global, field: &Field) -> Result<String, AllocError>
     ensures text { IfOk result (λ s. string_bytes s ≡ line_of_field field.now) }
     ensures reads_back { IfOk result (λ s. HasLineForm field.now.tree → depth (value_of_field field.now) ≤ max_depth → field_of_line (string_bytes s) ≡ Some field.now) }

@@ -1,6 +1,6 @@
-//! From the tokens of a text to the field that they stand for, with no JSON value between.
+//! From the tokens of a text to the field that they denote, with no JSON value between.
 //!
-//! Each reader takes one value whole. It answers none where the value is JSON and stands for nothing, so that a later
+//! Each reader takes one value whole. It answers none where the value is JSON and denotes nothing, so that a later
 //! member of the same key may still count.
 ghost use Rattle.std.specs.Prelude.{◌≡◌, ◌<◌, length, None, Err, IfOk, IfSome, IsTrue, OnOk, codes};
 ghost use Rattle.std.specs.Option.{option_map, option_and_then};
@@ -112,7 +112,7 @@ fn field_of(
     }
 }
 
-/// The field of that name. A name that layouts have takes no memory.
+/// The field of that name. A name that layouts have allocates nothing.
 #[inline(always)]
 fn named_field(
     alloc: Global,

@@ -10,7 +10,7 @@ use Rattle.geoarrow_fields.specs.Lines.{Bytes, line_feed, max_lines, max_line_by
 use Rattle.geoarrow_fields.specs.Output.{Answered}
 use Rattle.geoarrow_fields.specs.Progress.{IsBegun, AnswersNext, AnswersUntil, AppendsSome, FrontOf}
 use Rattle.geoarrow_fields.proofs.Limits.{line_before, after, line_parted, limit_passed, line_inside}
-use Rattle.geoarrow_fields.proofs.Laws.{lines_line}
+use Rattle.geoarrow_fields.proofs.WithinLimits.{lines_line}
 use Rattle.geoarrow_fields.proofs.Grows.{appends_after, front_after, answered_after}
 
 -- nothing has come of the next line

@@ -9,7 +9,7 @@ use Rattle.geoarrow_fields.specs.Lines.{Bytes, lines_of, max_lines, max_line_byt
 use Rattle.geoarrow_fields.specs.Output.{Answered, Means, ReadsAndWrites, RunsTo}
 use Rattle.geoarrow_fields.specs.Progress.{IsBegun, AnswersNext, AnswersUntil, AppendsSome, FrontOf}
 use Rattle.geoarrow_fields.proofs.Splits.{lines_of-split}
-use Rattle.geoarrow_fields.proofs.Laws.{lines_none, lines_after, all_within, stops}
+use Rattle.geoarrow_fields.proofs.WithinLimits.{lines_none, lines_after, all_within, stops}
 use Rattle.geoarrow_fields.proofs.Grows.{answered_none, answered_after, answered_then, front_after}
 
 -- ---- more is read and written

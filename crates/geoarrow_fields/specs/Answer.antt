@@ -91,8 +91,9 @@ inferred_text (Faulty fault) = error_text fault
 abbrev pub AnswersNoType : FieldTree → Bytes → Type 0
 AnswersNoType f answer = (¬ HasGeoArrowName f × (answer ≡ codes "none")) ⊎ ((fault : ColumnFault) × IsRefusedFor f fault × (answer ≡ error_text fault))
 
--- the text is the answer to the field under the command. The canonical line is that of the field in normal form. Its value
--- is the one lean value that stands for this field, by the laws of `field_lines`
+-- the text is the answer to the field under the command. The canonical line is that of the field in normal form. Its value is the
+-- one lean value that denotes this field, by the laws of `field_lines`, since a line can represent each data type that is written
+-- (`layouts_have_line_form`)
 abbrev pub AnswersField : Command → FieldTree → Bytes → Type 0
 AnswersField Read f answer = ((g : GeoArrowType) × Reads f g × (answer ≡ type_text g)) ⊎ AnswersNoType f answer
 AnswersField Infer f answer = (c : Column) × IsColumnOf f c × (answer ≡ inferred_text c)

@@ -3,3 +3,4 @@ pub mod Answer
 pub mod Output
 pub mod Progress
 pub mod Arguments
+pub mod Reports

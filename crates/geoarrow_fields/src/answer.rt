@@ -9,13 +9,13 @@ use crate::Command;
 use crate::words::{column_text, error_text, inferred_text, type_text};
 use arrow_values::{Field, GeoArrowError};
 use field_lines::{field_line, parse_line_with_scratch};
-use geoarrow_columns::{ColumnFault, check_column_with_scratch};
+use geoarrow_columns::{ColumnFault, check_column};
 use geoarrow_schema::GeoArrowType;
 use json::Scratch;
 use std::alloc::{AllocError, Global};
 
 /// The answer to one line under a command, without a line feed: what the command says about the field that the line
-/// stands for, or `error field` if it stands for none (docs/FORMAT.md, 2.2). Errs only when out of memory.
+/// denotes, or `error field` if it denotes none (docs/FORMAT.md, 2.2). Errs only when out of memory.
 pub fn answer_line(alloc: Global, command: Command, line: &[u8]) -> Result<String, AllocError>
     ensures { IfOk result (λ answer. Answers command line.now (string_bytes answer)) }
 {
@@ -23,7 +23,7 @@ pub fn answer_line(alloc: Global, command: Command, line: &[u8]) -> Result<Strin
     answer_line_with_scratch(alloc, command, line, &mut scratch)
 }
 
-/// The same as [`answer_line`], with a scratch buffer that is kept from line to line.
+/// The answer to one line, as [`answer_line`] gives it, with a scratch buffer that is kept from line to line.
 #[tactic(auto, unfolding(crate::specs::Answer::Answers))]
 pub(crate) fn answer_line_with_scratch(
     alloc: Global,
@@ -34,33 +34,28 @@ pub(crate) fn answer_line_with_scratch(
     ensures { IfOk result (λ answer. Answers command line.now (string_bytes answer)) }
 {
     match parse_line_with_scratch(alloc, line, scratch)? {
-        Some(field) => answer_field(alloc, command, field, scratch),
+        Some(field) => answer_field(alloc, command, field),
         None => String::from_str(alloc, "error field"),
     }
 }
 
 /// The answer to a field.
-fn answer_field(
-    alloc: Global,
-    command: Command,
-    field: Field,
-    scratch: &mut Scratch,
-) -> Result<String, AllocError>
+fn answer_field(alloc: Global, command: Command, field: Field) -> Result<String, AllocError>
     ensures { IfOk result (λ answer. AnswersField command field (string_bytes answer)) }
 {
     match command {
-        Command::Read => answer_read(alloc, &field, scratch),
-        Command::Infer => answer_infer(alloc, &field, scratch),
-        Command::Canon => answer_canon(alloc, field, scratch),
-        Command::Columns => answer_columns(alloc, &field, scratch),
+        Command::Read => answer_read(alloc, &field),
+        Command::Infer => answer_infer(alloc, &field),
+        Command::Canon => answer_canon(alloc, field),
+        Command::Columns => answer_columns(alloc, &field),
     }
 }
 
 /// The type that the field is read as.
-fn answer_read(alloc: Global, field: &Field, scratch: &mut Scratch) -> Result<String, AllocError>
+fn answer_read(alloc: Global, field: &Field) -> Result<String, AllocError>
     ensures { IfOk result (λ answer. AnswersField Command.Read field.now (string_bytes answer)) }
 {
-    match GeoArrowType::from_extension_field_with_scratch(alloc, field, scratch) {
+    match GeoArrowType::from_extension_field(alloc, field) {
         Ok(Some(found)) => type_text(alloc, &found),
         Ok(None) => String::from_str(alloc, "none"),
         Err(error) => answer_refused(alloc, field, &error),
@@ -68,18 +63,18 @@ fn answer_read(alloc: Global, field: &Field, scratch: &mut Scratch) -> Result<St
 }
 
 /// The type that the field is read as, or that is inferred.
-fn answer_infer(alloc: Global, field: &Field, scratch: &mut Scratch) -> Result<String, AllocError>
+fn answer_infer(alloc: Global, field: &Field) -> Result<String, AllocError>
     ensures { IfOk result (λ answer. AnswersField Command.Infer field.now (string_bytes answer)) }
 {
-    let column = check_column_with_scratch(alloc, field, scratch)?;
+    let column = check_column(alloc, field)?;
     inferred_text(alloc, &column)
 }
 
 /// The line of the field in normal form.
-fn answer_canon(alloc: Global, field: Field, scratch: &mut Scratch) -> Result<String, AllocError>
+fn answer_canon(alloc: Global, field: Field) -> Result<String, AllocError>
     ensures { IfOk result (λ answer. AnswersField Command.Canon field (string_bytes answer)) }
 {
-    match GeoArrowType::from_extension_field_with_scratch(alloc, &field, scratch) {
+    match GeoArrowType::from_extension_field(alloc, &field) {
         Ok(Some(found)) => match found.rewrite_field(alloc, field) {
             Ok(canonical) => field_line(alloc, &canonical),
             Err(_) => Err(AllocError),
@@ -90,10 +85,10 @@ fn answer_canon(alloc: Global, field: Field, scratch: &mut Scratch) -> Result<St
 }
 
 /// What the column holds.
-fn answer_columns(alloc: Global, field: &Field, scratch: &mut Scratch) -> Result<String, AllocError>
+fn answer_columns(alloc: Global, field: &Field) -> Result<String, AllocError>
     ensures { IfOk result (λ answer. AnswersField Command.Columns field.now (string_bytes answer)) }
 {
-    let column = check_column_with_scratch(alloc, field, scratch)?;
+    let column = check_column(alloc, field)?;
     column_text(alloc, &column)
 }
 

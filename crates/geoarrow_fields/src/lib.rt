@@ -4,6 +4,7 @@
 mod answer;
 mod arguments;
 pub mod equality_laws;
+pub mod laws;
 mod lines;
 mod output;
 mod reading;

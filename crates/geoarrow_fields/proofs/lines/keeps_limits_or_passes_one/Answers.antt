@@ -1,4 +1,4 @@
-use Rattle.geoarrow_fields.proofs.Laws.{either, never_both}
+use Rattle.geoarrow_fields.proofs.WithinLimits.{either, never_both}
 use Rattle.geoarrow_fields.proofs.lines.keeps_limits_or_passes_one.Goals as goal
 
 pub returns-clause-either : goal.returns-clause-either

@@ -1,0 +1,325 @@
+-- The texts of what UTF-8 is read as are UTF-8, and so is the compact text of what is held.
+use Rattle.std.proofs.Common.{◌≡◌, ℕ, zero, suc, ◌+◌, ◌-◌, ◌*◌, ◌<◌, ◌==◌, ◌&&◌, List, [], ◌∷◌, ◌++◌, length, take, get_or, Bool, true, false, cond, Option, Some, None, IfSome, option_and_then, IsUtf8, refl, sym, subst, arith, append_assoc, append-nil, length-append, eqb-true, ltb-true}
+use Rattle.std.specs.Prelude.{⊤, nat_lt}
+use Rattle.std.specs.Char.{is_digit, digit_value, encode_utf8, IsScalar}
+use Rattle.std.proofs.lemmas.Bool.{and_parts, cond_both}
+use Rattle.std.proofs.lemmas.Option.{IfSome_then}
+use Rattle.std.proofs.lemmas.Str.{IsUtf8-append, IsUtf8-encode, IsUtf8-take, IsUtf8-drop, IsCharBoundary-before_ascii, IsCharBoundary-after_ascii, encode_ascii}
+use lib.Seq.{take-append_seam, drop-append-add, get_or-append_seam}
+use lib.Utf8.{low_scalar}
+use Rattle.json.specs.Token.{Token}
+use Rattle.json.specs.Text.{plain, after_backslash, after_u, after_high, content, code_unit, short_escape, is_high_surrogate, is_low_surrogate, surrogate_pair, prepend}
+use Rattle.json.specs.Word.{is_operator, is_space, head, ends_word, literal, after_number, number_before, word}
+use Rattle.json.specs.Ascii.{true_text, false_text, null_text}
+use Rattle.json.specs.Lex.{Lexeme, token, comma, colon, Class, class, quote, backslash, operator, space, other, Mode, between, in_word, in_string, in_escape, string_token, operator_lexeme, lex_byte, lex, Place, fresh, after_value, after_comma, after_key, begins_colon, if_allowed, place_token, punctuate, tokens}
+use Rattle.json.specs.Json as json
+use Rattle.field_lines.proofs.Lean.{mapped, chained}
+
+-- ---- UTF-8 around an ASCII byte
+
+module _ (pre xs : List ℕ) (x : ℕ) (small : x < 128) (u : IsUtf8 (pre ++ x ∷ xs)) where
+  at_seam : get_or (pre ++ x ∷ xs) (length pre) 0 < 128
+  at_seam = subst (λ y. y < 128) (sym (get_or-append_seam pre x xs 0)) small
+
+  within : length pre < length (pre ++ x ∷ xs)
+  within = omega (arith, length-append pre (x ∷ xs))
+
+  pub utf8_before : IsUtf8 pre
+  utf8_before = subst IsUtf8 (take-append_seam pre (x ∷ xs)) (IsUtf8-take (pre ++ x ∷ xs) (length pre) u (IsCharBoundary-before_ascii _ _ within at_seam))
+
+  pub utf8_after : IsUtf8 xs
+  utf8_after = subst IsUtf8 (drop-append-add pre (x ∷ xs) 1) (IsUtf8-drop (pre ++ x ∷ xs) (length pre + 1) u (IsCharBoundary-after_ascii _ _ u within at_seam))
+
+utf8_tail : (x : ℕ) (xs : List ℕ) → x < 128 → IsUtf8 (x ∷ xs) → IsUtf8 xs
+utf8_tail x xs small u = utf8_after [] xs x small u
+
+pub ascii_then : (x : ℕ) (xs : List ℕ) → x < 128 → IsUtf8 xs → IsUtf8 (x ∷ xs)
+ascii_then x xs small u = IsUtf8-append (x ∷ []) xs (subst IsUtf8 (encode_ascii x small) (IsUtf8-encode x (low_scalar x (omega arith)))) u
+
+one_more : (pre : List ℕ) (x : ℕ) (xs : List ℕ) → IsUtf8 (pre ++ x ∷ xs) → IsUtf8 ((pre ++ x ∷ []) ++ xs)
+one_more pre x xs u = subst IsUtf8 (sym (append_assoc pre (x ∷ []) xs)) u
+
+-- ---- the content of a string
+
+equals : (x y : ℕ) → y < 128 → (x == y) ≡ true → x < 128
+equals x y small e = let same : x ≡ y = eqb-true x y e in omega arith
+
+escaped : (x : ℕ) → IfSome (short_escape x) (λ c. (c < 128) × (x < 128))
+unfolding short_escape
+escaped x = grind arith
+
+record Digits (a b c d u : ℕ) : Type 0 where
+  pub first : a < 128
+  pub second : b < 128
+  pub third : c < 128
+  pub fourth : d < 128
+  pub unit : u < 65536
+
+digit_small : (c : ℕ) → is_digit c 16 ≡ true → (c < 128) × (digit_value c < 16)
+digit_small c e = (grind arith, ltb-true _ _ e)
+
+four_digits : (a b c d : ℕ) → IfSome (code_unit a b c d) (Digits a b c d)
+unfolding code_unit
+four_digits a b c d =
+    cond_both (is_digit a 16 && is_digit b 16 && is_digit c 16 && is_digit d 16) (Some (digit_value a * 4096 + digit_value b * 256 + digit_value c * 16 + digit_value d)) None (λ o. IfSome o (Digits a b c d))
+    (λ e.
+    let p = and_parts (is_digit a 16 && is_digit b 16 && is_digit c 16) (is_digit d 16) e in
+    let q = and_parts (is_digit a 16 && is_digit b 16) (is_digit c 16) p.0 in
+    let r = and_parts (is_digit a 16) (is_digit b 16) q.0 in
+    let da = digit_small a r.0 in
+    let db = digit_small b r.1 in
+    let dc = digit_small c q.1 in
+    let dd = digit_small d p.1 in
+    record { first = da.0; second = db.0; third = dc.0; fourth = dd.0; unit = omega (arith, da.1, db.1, dc.1, dd.1) }) (λ _. tt)
+
+after_four : (a b c d u : ℕ) (xs : List ℕ) → Digits a b c d u → IsUtf8 (a ∷ b ∷ c ∷ d ∷ xs) → IsUtf8 xs
+after_four a b c d u xs h t = utf8_tail d xs h.fourth (utf8_tail c _ h.third (utf8_tail b _ h.second (utf8_tail a _ h.first t)))
+
+-- a code unit that is no surrogate, and a pair of surrogates, are the code of a character
+no_surrogate : (u : ℕ) → u < 65536 → is_high_surrogate u ≡ false → is_low_surrogate u ≡ false → IsScalar u
+no_surrogate u small high low = grind arith
+
+pair_of : (h l : ℕ) → is_high_surrogate h ≡ true → is_low_surrogate l ≡ true → IsScalar (surrogate_pair h l)
+pair_of h l high low = grind arith
+
+encoded : (c : ℕ) (o : Option (List ℕ)) → IsScalar c → IfSome o IsUtf8 → IfSome (prepend (encode_utf8 c) o) IsUtf8
+encoded c None ok h = tt
+encoded c (Some s) ok h = IsUtf8-append (encode_utf8 c) s (IsUtf8-encode c ok) h
+
+mutual
+  unfolding content
+
+  in_plain : (xs pre : List ℕ) → IsUtf8 (pre ++ xs) → IfSome (content plain xs) (λ s. IsUtf8 (pre ++ s))
+  in_plain [] pre u = tt
+  in_plain (x ∷ xs) pre u =
+      let ends = λ (o : Option (List ℕ)). IfSome o (λ s. IsUtf8 (pre ++ s)) in
+      cond_both (x == 34) (Some []) _ ends (λ e. subst IsUtf8 (sym (append-nil pre)) (utf8_before pre xs x (equals x 34 (omega arith) e) u))
+      (λ _. cond_both (x == 92) (content after_backslash xs) _ ends
+      (λ e. let small = equals x 92 (omega arith) e in
+      IfSome_then (content after_backslash xs) (in_backslash xs (utf8_after pre xs x small u)) (λ s h. IsUtf8-append pre s (utf8_before pre xs x small u) h))
+      (λ _. cond_both (nat_lt x 32) None _ ends (λ _. tt)
+      (λ _. mapped (λ s. IsUtf8 (pre ++ s)) (λ s. x ∷ s) (content plain xs) (in_plain xs (pre ++ x ∷ []) (one_more pre x xs u)) (λ s h. subst IsUtf8 (append_assoc pre (x ∷ []) s) h))))
+
+  in_backslash : (xs : List ℕ) → IsUtf8 xs → IfSome (content after_backslash xs) IsUtf8
+  in_backslash [] u = tt
+  in_backslash (x ∷ xs) u =
+      cond_both (x == 117) (content after_u xs) _ (λ o. IfSome o IsUtf8) (λ e. in_u xs (utf8_tail x xs (equals x 117 (omega arith) e) u))
+      (λ _. chained IsUtf8 (λ c. prepend (c ∷ []) (content plain xs)) (short_escape x) (escaped x)
+      (λ c h. mapped IsUtf8 (λ s. c ∷ s) (content plain xs) (in_plain xs [] (utf8_tail x xs h.1 u)) (λ s k. ascii_then c s h.0 k)))
+
+  in_u : (xs : List ℕ) → IsUtf8 xs → IfSome (content after_u xs) IsUtf8
+  in_u [] u = tt
+  in_u (a ∷ []) u = tt
+  in_u (a ∷ b ∷ []) u = tt
+  in_u (a ∷ b ∷ c ∷ []) u = tt
+  in_u (a ∷ b ∷ c ∷ d ∷ xs) u =
+      chained IsUtf8 _ (code_unit a b c d) (four_digits a b c d)
+      (λ w h. let rest = after_four a b c d w xs h u in
+      cond_both (is_high_surrogate w) (content (after_high w) xs) _ (λ o. IfSome o IsUtf8) (λ high. in_high w xs high rest)
+      (λ high. cond_both (is_low_surrogate w) None _ (λ o. IfSome o IsUtf8) (λ _. tt)
+      (λ low. encoded w (content plain xs) (no_surrogate w h.unit high low) (in_plain xs [] rest))))
+
+  in_high : (high : ℕ) (xs : List ℕ) → is_high_surrogate high ≡ true → IsUtf8 xs → IfSome (content (after_high high) xs) IsUtf8
+  in_high high [] is u = tt
+  in_high high (s ∷ []) is u = tt
+  in_high high (s ∷ t ∷ []) is u = tt
+  in_high high (s ∷ t ∷ a ∷ []) is u = tt
+  in_high high (s ∷ t ∷ a ∷ b ∷ []) is u = tt
+  in_high high (s ∷ t ∷ a ∷ b ∷ c ∷ []) is u = tt
+  in_high high (s ∷ t ∷ a ∷ b ∷ c ∷ d ∷ xs) is u =
+      cond_both ((s == 92) && (t == 117)) _ None (λ o. IfSome o IsUtf8)
+      (λ e. let p = and_parts (s == 92) (t == 117) e in
+      let begun = utf8_tail t _ (equals t 117 (omega arith) p.1) (utf8_tail s _ (equals s 92 (omega arith) p.0) u) in
+      chained IsUtf8 _ (code_unit a b c d) (four_digits a b c d)
+      (λ w h. cond_both (is_low_surrogate w) _ None (λ o. IfSome o IsUtf8)
+      (λ low. encoded (surrogate_pair high w) (content plain xs) (pair_of high w is low) (in_plain xs [] (after_four a b c d w xs h begun)))
+      (λ _. tt))) (λ _. tt)
+
+-- ---- the tokens of a text
+
+abbrev IsUtf8Token : Token → Type 0
+IsUtf8Token (Token.key s) = IsUtf8 s
+IsUtf8Token (Token.string s) = IsUtf8 s
+IsUtf8Token _ = ⊤
+
+abbrev AreUtf8 : List Token → Type 0
+AreUtf8 [] = ⊤
+AreUtf8 (t ∷ ts) = IsUtf8Token t × AreUtf8 ts
+
+abbrev IsUtf8Lexeme : Lexeme → Type 0
+IsUtf8Lexeme (token t) = IsUtf8Token t
+IsUtf8Lexeme comma = ⊤
+IsUtf8Lexeme colon = ⊤
+
+abbrev AreUtf8Lexemes : List Lexeme → Type 0
+AreUtf8Lexemes [] = ⊤
+AreUtf8Lexemes (l ∷ ls) = IsUtf8Lexeme l × AreUtf8Lexemes ls
+
+string_ok : (o : Option (List ℕ)) → IfSome o IsUtf8 → IsUtf8Token (string_token o)
+string_ok None h = tt
+string_ok (Some s) h = h
+
+operator_ok : (x : ℕ) → IsUtf8Lexeme (operator_lexeme x)
+operator_ok x = by (x == 123) (x == 125) (x == 91) (x == 93) (x == 44)
+  where
+    by : (a b c d e : Bool)
+        → IsUtf8Lexeme (cond a (token Token.begin_object) (cond b (token Token.end_object) (cond c (token Token.begin_array) (cond d (token Token.end_array) (cond e comma colon)))))
+    by true b c d e = tt
+    by false true c d e = tt
+    by false false true d e = tt
+    by false false false true e = tt
+    by false false false false true = tt
+    by false false false false false = tt
+
+literal_ok : (b : Bool) (t : Token) → IsUtf8Token t → IsUtf8Token (cond b t Token.bad)
+literal_ok true t h = h
+literal_ok false t h = tt
+
+number_ok : (t : List ℕ) (o : Option (List ℕ)) → IsUtf8Token (number_before t o)
+number_ok t None = tt
+number_ok t (Some rest) = literal_ok (ends_word rest) (Token.number (take (length t - length rest) t)) tt
+
+word_ok : (t : List ℕ) → IsUtf8Token (word t)
+unfolding word
+word_ok t =
+    by (head t == 116) (head t == 102) (head t == 110) (literal true_text (Token.boolean true) t) (literal false_text (Token.boolean false) t) (literal null_text Token.null t) (number_before t (after_number t))
+    (literal_ok _ (Token.boolean true) tt) (literal_ok _ (Token.boolean false) tt) (literal_ok _ Token.null tt) (number_ok t (after_number t))
+  where
+    by : (a b c : Bool) (x y z n : Token) → IsUtf8Token x → IsUtf8Token y → IsUtf8Token z → IsUtf8Token n → IsUtf8Token (cond a x (cond b y (cond c z n)))
+    by true b c x y z n p q r s = p
+    by false true c x y z n p q r s = q
+    by false false true x y z n p q r s = r
+    by false false false x y z n p q r s = s
+
+is_quote : (x : ℕ) → class x ≡ quote → x ≡ 34
+is_quote x = cond_both (x == 34) quote _ (λ c. c ≡ quote → x ≡ 34) (λ e _. eqb-true x 34 e)
+    (λ _. cond_both (x == 92) backslash _ (λ c. c ≡ quote → x ≡ 34) (λ _ h. absurd cc)
+    (λ _. cond_both (is_operator x) operator _ (λ c. c ≡ quote → x ≡ 34) (λ _ h. absurd cc)
+    (λ _. cond_both (is_space x) space other (λ c. c ≡ quote → x ≡ 34) (λ _ h. absurd cc) (λ _ h. absurd cc))))
+
+byte_ok : (m : Mode) (c : Class) (x : ℕ) (xs : List ℕ) (k : Mode → List Lexeme) → (c ≡ quote → IsUtf8 xs) → ((n : Mode) → AreUtf8Lexemes (k n)) → AreUtf8Lexemes (lex_byte m c x xs k)
+byte_ok between quote x xs k u h = (string_ok _ (in_plain xs [] (u refl)), h in_string)
+byte_ok between backslash x xs k u h = (tt, h in_word)
+byte_ok between operator x xs k u h = (operator_ok x, h between)
+byte_ok between space x xs k u h = h between
+byte_ok between other x xs k u h = (word_ok (x ∷ xs), h in_word)
+byte_ok in_word operator x xs k u h = (operator_ok x, h between)
+byte_ok in_word space x xs k u h = h between
+byte_ok in_word _ x xs k u h = h in_word
+byte_ok in_string quote x xs k u h = h between
+byte_ok in_string backslash x xs k u h = h in_escape
+byte_ok in_string _ x xs k u h = h in_string
+byte_ok in_escape c x xs k u h = h in_string
+
+lexed : (m : Mode) (xs pre : List ℕ) → IsUtf8 (pre ++ xs) → AreUtf8Lexemes (lex m xs)
+unfolding lex
+lexed m [] pre u = tt
+lexed m (x ∷ xs) pre u =
+    byte_ok m (class x) x xs (λ n. lex n xs) (λ q. let is = is_quote x q in utf8_after pre xs x (omega arith) u) (λ n. lexed n xs (pre ++ x ∷ []) (one_more pre x xs u))
+
+allowed : (b : Bool) (t : Token) (k : Place → List Token) (next : Place) → IsUtf8Token t → ((n : Place) → AreUtf8 (k n)) → AreUtf8 (if_allowed b t k next)
+allowed true t k next h rest = (h, rest next)
+allowed false t k next h rest = (tt, tt)
+
+placed : (p : Place) (t : Token) (before : Bool) (k : Place → List Token) → IsUtf8Token t → ((n : Place) → AreUtf8 (k n)) → AreUtf8 (place_token p t before k)
+placed p (Token.key s) before k h rest = (tt, tt)
+placed p Token.bad before k h rest = (tt, tt)
+placed p (Token.string s) true k h rest = allowed _ _ k _ h rest
+placed p (Token.string s) false k h rest = allowed _ _ k _ h rest
+placed p _ before k h rest = allowed _ _ k _ tt rest
+
+punctuated : (p : Place) (ls : List Lexeme) → AreUtf8Lexemes ls → AreUtf8 (punctuate p ls)
+unfolding punctuate
+punctuated fresh [] h = tt
+punctuated after_value [] h = tt
+punctuated _ [] h = (tt, tt)
+punctuated p (token t ∷ ls) h = placed p t (begins_colon ls) (λ n. punctuate n ls) h.0 (λ n. punctuated n ls h.1)
+punctuated after_value (comma ∷ ls) h = punctuated after_comma ls h.1
+punctuated _ (comma ∷ ls) h = (tt, tt)
+punctuated after_key (colon ∷ ls) h = punctuated fresh ls h.1
+punctuated _ (colon ∷ ls) h = (tt, tt)
+
+-- ---- the value of the tokens
+
+abbrev mutual
+  pub HasUtf8 : json.Json → Type 0
+  HasUtf8 (json.string s) = IsUtf8 s
+  HasUtf8 (json.array js) = ItemsHaveUtf8 js
+  HasUtf8 (json.object ms) = MembersHaveUtf8 ms
+  HasUtf8 _ = ⊤
+
+  pub ItemsHaveUtf8 : json.Items → Type 0
+  ItemsHaveUtf8 json.no_items = ⊤
+  ItemsHaveUtf8 (json.item j js) = HasUtf8 j × ItemsHaveUtf8 js
+
+  pub MembersHaveUtf8 : json.Members → Type 0
+  MembersHaveUtf8 json.no_members = ⊤
+  MembersHaveUtf8 (json.member k j ms) = IsUtf8 k × HasUtf8 j × MembersHaveUtf8 ms
+
+abbrev Given : {A : Type 0} → (A → Type 0) → Option (A × List Token) → Type 0
+Given P o = IfSome o (λ p. P p.0 × AreUtf8 p.1)
+
+abbrev Parses : {A : Type 0} → (A → Type 0) → json.Parse A → Type 0
+Parses P p = (ts : List Token) → AreUtf8 ts → Given P (p ts)
+
+more_given : {A B : Type 0} (P : A → Type 0) (Q : B → Type 0) (f : A → B) (o : Option (A × List Token)) → ((a : A) → P a → Q (f a)) → Given P o → Given Q (json.parse_map f o)
+more_given P Q f None k h = tt
+more_given P Q f (Some p) k h = (k p.0 h.0, h.1)
+
+after_end : (ts : List Token) → AreUtf8 ts → IfSome (json.after_end_array ts) AreUtf8
+after_end [] u = tt
+after_end (Token.end_array ∷ ts) u = u.1
+after_end (_ ∷ ts) u = tt
+
+key_given : (ts : List Token) → AreUtf8 ts → Given (λ o. IfSome o IsUtf8) (json.read_key ts)
+key_given [] u = tt
+key_given (Token.end_object ∷ ts) u = (tt, u.1)
+key_given (Token.key s ∷ ts) u = u
+key_given (_ ∷ ts) u = tt
+
+module _ (p : json.Parse json.Json) (one : Parses HasUtf8 p) where
+  item_turn : (more : json.Parse json.Items) → Parses ItemsHaveUtf8 more → (ts : List Token) → AreUtf8 ts → (o : Option (List Token)) → IfSome o AreUtf8 → Given ItemsHaveUtf8 (json.items_step p more ts o)
+  item_turn more again ts u (Some r) h = (tt, h)
+  item_turn more again ts u None h = chained _ _ (p ts) (one ts u) (λ q g. more_given ItemsHaveUtf8 ItemsHaveUtf8 (json.item q.0) (more q.1) (λ js k. (g.0, k)) (again q.1 g.1))
+
+  items_given : (n : ℕ) → Parses ItemsHaveUtf8 (json.items p n)
+  unfolding json.items
+  items_given zero ts u = tt
+  items_given (suc n) ts u = item_turn (json.items p n) (items_given n) ts u (json.after_end_array ts) (after_end ts u)
+
+  member_turn : (more : json.Parse json.Members) → Parses MembersHaveUtf8 more → (o : Option (Option (List ℕ) × List Token)) → Given (λ o. IfSome o IsUtf8) o
+      → Given MembersHaveUtf8 (option_and_then (λ q. json.members_step p more q.0 q.1) o)
+  member_turn more again None h = tt
+  member_turn more again (Some (None, ts)) h = (tt, h.1)
+  member_turn more again (Some (Some k, ts)) h =
+      chained _ _ (p ts) (one ts h.1) (λ q g. more_given MembersHaveUtf8 MembersHaveUtf8 (json.member k q.0) (more q.1) (λ ms l. (h.0, g.0, l)) (again q.1 g.1))
+
+  members_given : (n : ℕ) → Parses MembersHaveUtf8 (json.members p n)
+  unfolding json.members
+  members_given zero ts u = tt
+  members_given (suc n) ts u = member_turn (json.members p n) (members_given n) (json.read_key ts) (key_given ts u)
+
+one_level : (a : json.Parse json.Items) (o : json.Parse json.Members) → Parses ItemsHaveUtf8 a → Parses MembersHaveUtf8 o → Parses HasUtf8 (json.value_with a o)
+one_level a o p q [] u = tt
+one_level a o p q (Token.begin_object ∷ ts) u = more_given MembersHaveUtf8 HasUtf8 json.object (o ts) (λ ms h. h) (q ts u.1)
+one_level a o p q (Token.begin_array ∷ ts) u = more_given ItemsHaveUtf8 HasUtf8 json.array (a ts) (λ js h. h) (p ts u.1)
+one_level a o p q (Token.string s ∷ ts) u = u
+one_level a o p q (Token.number s ∷ ts) u = u
+one_level a o p q (Token.boolean b ∷ ts) u = u
+one_level a o p q (Token.null ∷ ts) u = u
+one_level a o p q (_ ∷ ts) u = tt
+
+value_given : (d : ℕ) → Parses HasUtf8 (json.value d)
+unfolding json.value
+value_given zero = one_level (λ ts. None) (λ ts. None) (λ ts u. tt) (λ ts u. tt)
+value_given (suc d) =
+    one_level (λ ts. json.items (json.value d) (length ts) ts) (λ ts. json.members (json.value d) (length ts) ts)
+    (λ ts u. items_given (json.value d) (value_given d) (length ts) ts u) (λ ts u. members_given (json.value d) (value_given d) (length ts) ts u)
+
+-- a value that UTF-8 is read as, before it is converted
+pub texts_utf8 : (d : ℕ) (text : List ℕ) → IsUtf8 text → IfSome (option_and_then (λ p. json.if_last p.0 p.1) (json.value d (tokens text))) HasUtf8
+texts_utf8 d text u = chained HasUtf8 _ (json.value d (tokens text)) (value_given d (tokens text) (punctuated fresh (lex between text) (lexed between text [] u))) (λ p h. last p.0 p.1 h.0)
+  where
+    last : (j : json.Json) (ts : List Token) → HasUtf8 j → IfSome (json.if_last j ts) HasUtf8
+    last j [] h = h
+    last j (t ∷ ts) h = tt
