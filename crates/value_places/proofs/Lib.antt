@@ -1,0 +1,7 @@
+pub mod Cuts
+pub mod Strings
+pub mod Words
+pub mod Bytes
+pub mod Texts
+pub mod Nested
+pub mod Ends
