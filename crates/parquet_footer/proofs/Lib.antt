@@ -1,0 +1,4 @@
+pub mod Lists
+pub mod Loops
+pub mod Notes
+pub mod Texts

@@ -1,0 +1,66 @@
+-- Logical types: a union, of which the geometry types are read, and the others known by their ids.
+use Rattle.std.specs.Prelude.{ℕ, List, Option, Some, None, option_map, Result, Ok, ◌==◌, if◌then◌else◌}
+use Rattle.parquet_footer.specs.declared.fault.Fault.{Fault}
+use Rattle.parquet_footer.specs.declared.fault.Rule.TheVariants.{WireType, Union, Name}
+use Rattle.parquet_footer.specs.declared.logical.Algorithm.{Algorithm}
+use Rattle.parquet_footer.specs.declared.logical.Algorithm.TheVariants.{Spherical, Vincenty, Thomas, Andoyer, Karney}
+use Rattle.parquet_footer.specs.declared.logical.LogicalType.{LogicalType}
+use Rattle.parquet_footer.specs.declared.logical.LogicalType.TheVariants.{Geometry, Geography, Other}
+use Rattle.parquet_footer.specs.Fault.{refused, ◌>>=◌}
+use Rattle.parquet_footer.specs.Wire.{byte_at, field_at}
+use Rattle.parquet_footer.specs.Skip.{value_past}
+use Rattle.parquet_footer.specs.Fields.{Spot, pair_at, number_in, text_in}
+
+-- a logical type, without where its texts lie
+pub data Logical : Type 0 where
+  geometry : Option (List ℕ) → Logical
+  geography : Option (List ℕ) → Option Algorithm → Logical
+  other : ℕ → Logical
+
+abbrev pub logical : LogicalType → Logical
+logical (Geometry crs) = geometry (option_map (λ s. s.now) crs)
+logical (Geography crs algorithm) = geography (option_map (λ s. s.now) crs) algorithm
+logical (Other id) = other id
+
+abbrev pub algorithm_of : Option ℕ → List ℕ → Result (Option Algorithm) Fault
+algorithm_of None bytes = Ok None
+algorithm_of (Some n) bytes =
+    if n == 0 then Ok (Some Spherical) else
+    if n == 1 then Ok (Some Vincenty) else
+    if n == 2 then Ok (Some Thomas) else
+    if n == 3 then Ok (Some Andoyer) else
+    if n == 4 then Ok (Some Karney) else refused Name bytes
+
+-- GEOMETRY: 1 crs
+unfoldable pub geometry_at : List ℕ → Result Logical Fault
+geometry_at bytes = do
+  found ← pair_at 1 1 bytes
+  crs ← text_in found.0.0
+  Ok (geometry crs)
+
+-- GEOGRAPHY: 1 crs, 2 algorithm
+unfoldable pub geography_at : List ℕ → Result Logical Fault
+geography_at bytes = do
+  found ← pair_at 1 2 bytes
+  crs ← text_in found.0.0
+  number ← number_in found.0.1
+  algorithm ← algorithm_of number bytes
+  Ok (geography crs algorithm)
+
+unfoldable pub member_at : ℕ → Spot → Result Logical Fault
+member_at id p = if p.0 == 12 then
+    (if id == 17 then geometry_at p.1 else if id == 18 then geography_at p.1 else Ok (other id))
+    else refused WireType p.1
+
+-- a union is a struct of one field
+unfoldable pub logical_at : List ℕ → Result Logical Fault
+logical_at bytes = do
+  field ← field_at 0 bytes
+  if field.1 == 0 then refused Union bytes else (do
+    rest ← value_past 64 field.1 field.2
+    end ← byte_at rest
+    if end.0 == 0 then member_at field.0 (field.1, field.2) else refused Union rest)
+
+unfoldable pub logical_in : Option Spot → Result (Option Logical) Fault
+logical_in None = Ok None
+logical_in (Some p) = if p.0 == 12 then (logical_at p.1 >>= λ x. Ok (Some x)) else refused WireType p.1

@@ -1,0 +1,159 @@
+//! An element of the schema: a leaf or a group.
+ghost use Rattle.std.specs.Prelude.{◌≡◌};
+ghost use Rattle.parquet_footer.specs.Fault.{Reads};
+ghost use Rattle.parquet_footer.specs.Element.{physical_of, repetition_of, stored, storage_at, numbers_at, element, element_at};
+
+use crate::fault::{Fault, Rule, broken};
+use crate::fields::{number_in, pair_at, text_in};
+use crate::logical::{LogicalType, logical_in};
+
+/// How the values of a leaf are stored.
+#[derive(Debug, Clone, Copy, PartialEq, Eq)]
+pub enum PhysicalType {
+    /// A truth value.
+    Boolean,
+    /// An integer of 32 bits.
+    Int32,
+    /// An integer of 64 bits.
+    Int64,
+    /// A number of 96 bits, as older files have it for points in time.
+    Int96,
+    /// A float of 32 bits.
+    Float,
+    /// A float of 64 bits.
+    Double,
+    /// Bytes of any number.
+    ByteArray,
+    /// Bytes, as many as `type_length` says.
+    FixedLenByteArray,
+}
+
+/// How many values an element has in each one of its parent.
+#[derive(Debug, Clone, Copy, PartialEq, Eq)]
+pub enum Repetition {
+    /// One.
+    Required,
+    /// One or none.
+    Optional,
+    /// Any number.
+    Repeated,
+}
+
+/// The name of an element, and how its values are stored.
+#[derive(Debug, Clone, Copy)]
+pub struct Storage<'a> {
+    /// Absent in a group.
+    pub physical_type: Option<PhysicalType>,
+    /// The bytes of a value of a fixed length.
+    pub type_length: Option<u32>,
+    /// Absent in the root.
+    pub repetition: Option<Repetition>,
+    /// The name of the element among those beside it.
+    pub name: &'a str,
+}
+
+/// An element of the schema: a leaf or a group.
+#[derive(Debug, Clone, Copy)]
+pub struct SchemaElement<'a> {
+    /// Its name, and how its values are stored.
+    pub storage: Storage<'a>,
+    /// How many elements are the children of a group.
+    pub num_children: Option<u32>,
+    /// The older form of the logical type, by its number, as 0 of UTF8.
+    pub converted_type: Option<u32>,
+    /// How many digits of a decimal number stand behind the point.
+    pub scale: Option<u32>,
+    /// How many digits a decimal number has.
+    pub precision: Option<u32>,
+    /// What its values mean.
+    pub logical_type: Option<LogicalType<'a>>,
+}
+
+/// The physical type that a number denotes.
+fn physical_of(number: Option<u32>, bytes: &[u8]) -> Result<Option<PhysicalType>, Fault>
+    ensures { result ≡ physical_of number bytes.now }
+{
+    match number {
+        None => Ok(None),
+        Some(0) => Ok(Some(PhysicalType::Boolean)),
+        Some(1) => Ok(Some(PhysicalType::Int32)),
+        Some(2) => Ok(Some(PhysicalType::Int64)),
+        Some(3) => Ok(Some(PhysicalType::Int96)),
+        Some(4) => Ok(Some(PhysicalType::Float)),
+        Some(5) => Ok(Some(PhysicalType::Double)),
+        Some(6) => Ok(Some(PhysicalType::ByteArray)),
+        Some(7) => Ok(Some(PhysicalType::FixedLenByteArray)),
+        Some(_) => Err(broken(Rule::Name, bytes)),
+    }
+}
+
+/// The repetition that a number denotes.
+fn repetition_of(number: Option<u32>, bytes: &[u8]) -> Result<Option<Repetition>, Fault>
+    ensures { result ≡ repetition_of number bytes.now }
+{
+    match number {
+        None => Ok(None),
+        Some(0) => Ok(Some(Repetition::Required)),
+        Some(1) => Ok(Some(Repetition::Optional)),
+        Some(2) => Ok(Some(Repetition::Repeated)),
+        Some(_) => Err(broken(Rule::Name, bytes)),
+    }
+}
+
+/// The fields 1 to 4 of an element.
+#[tactic(auto, unfolding(crate::specs::Element::storage_at))]
+fn storage_at(bytes: &[u8]) -> Result<Storage<'_>, Fault>
+    ensures { Reads stored result (storage_at bytes.now) }
+{
+    let types = pair_at(bytes, 1, 2)?;
+    let physical = number_in(types.first)?;
+    let physical_type = physical_of(physical, bytes)?;
+    let type_length = number_in(types.second)?;
+    let names = pair_at(bytes, 3, 4)?;
+    let repeats = number_in(names.first)?;
+    let repetition = repetition_of(repeats, bytes)?;
+    let text = text_in(names.second)?;
+    let name = text.ok_or(broken(Rule::Missing, bytes))?;
+    Ok(Storage {
+        physical_type,
+        type_length,
+        repetition,
+        name,
+    })
+}
+
+/// The fields 5 to 8 of an element: num_children, converted_type, scale and precision.
+#[tactic(auto, unfolding(crate::specs::Element::numbers_at))]
+fn numbers_at(bytes: &[u8]) -> Result<(Option<u32>, Option<u32>, Option<u32>, Option<u32>), Fault>
+    ensures { result ≡ numbers_at bytes.now }
+{
+    let one = pair_at(bytes, 5, 6)?;
+    let num_children = number_in(one.first)?;
+    let converted_type = number_in(one.second)?;
+    let two = pair_at(bytes, 7, 8)?;
+    let scale = number_in(two.first)?;
+    let precision = number_in(two.second)?;
+    Ok((num_children, converted_type, scale, precision))
+}
+
+/// An element, and the bytes behind it.
+#[tactic(auto, unfolding(crate::specs::Element::element_at))]
+pub fn element_at(bytes: &[u8]) -> Result<(SchemaElement<'_>, &[u8]), Fault>
+    ensures { Reads (λ x. (element x.0, x.1.now)) result (element_at bytes.now) }
+{
+    let storage = storage_at(bytes)?;
+    let (num_children, converted_type, scale, precision) = numbers_at(bytes)?;
+    let found = pair_at(bytes, 10, 10)?;
+    let logical_type = logical_in(found.first)?;
+    Ok((
+        SchemaElement {
+            storage,
+            num_children,
+            converted_type,
+            scale,
+            precision,
+            logical_type,
+        },
+        found.rest,
+    ))
+}

@@ -1,0 +1,113 @@
+//! A footer.
+ghost use Rattle.std.specs.Prelude.{◌≡◌, map};
+ghost use Rattle.parquet_footer.specs.Fault.{Reads, Gives, Answers};
+ghost use Rattle.parquet_footer.specs.Fields.{spots};
+ghost use Rattle.parquet_footer.specs.Element.{element, element_at};
+ghost use Rattle.parquet_footer.specs.Footer.{all_at, pairing, key_value_at, none_or, contents, footer_at};
+
+use crate::element::{SchemaElement, element_at};
+use crate::fault::{Fault, FooterError, Rule, Stop, broken};
+use crate::fields::{Place, pair_at, structs_in, text_in};
+use std::alloc::Global;
+
+/// A key of a file's metadata, and its value.
+#[derive(Debug, Clone, Copy)]
+pub struct KeyValue<'a> {
+    /// The key.
+    pub key: &'a str,
+    /// The value, which may be absent.
+    pub value: Option<&'a str>,
+}
+
+/// What is kept of a footer. Its texts are those of the bytes that it was read from.
+#[derive(Debug, Drop)]
+pub struct Footer<'a> {
+    /// The elements of the schema in the order of the file: depth first, the root first.
+    pub schema: Vec<SchemaElement<'a>>,
+    /// The keys and values in the order of the file.
+    pub key_value_metadata: Vec<KeyValue<'a>>,
+}
+
+/// A key and its value, and the bytes behind them.
+#[tactic(auto, unfolding(crate::specs::Footer::key_value_at))]
+fn key_value_at(bytes: &[u8]) -> Result<(KeyValue<'_>, &[u8]), Fault>
+    ensures { Reads (λ x. (pairing x.0, x.1.now)) result (key_value_at bytes.now) }
+{
+    let found = pair_at(bytes, 1, 2)?;
+    let text = text_in(found.first)?;
+    let key = text.ok_or(broken(Rule::Missing, bytes))?;
+    let value = text_in(found.second)?;
+    Ok((KeyValue { key, value }, found.rest))
+}
+
+/// So many elements of the schema.
+fn elements_at(alloc: Global, count: u32, bytes: &[u8]) -> Result<Vec<SchemaElement<'_>>, Stop>
+    ensures { Gives (λ v. map element v.items) result (all_at element_at count bytes.now) }
+{
+    let mut found = Vec::new(alloc);
+    let mut rest = bytes;
+    'structs: for i in 0..count {
+        let (item, behind) = element_at(rest)?;
+        found.push(item)?;
+        rest = behind;
+    }
+    Ok(found)
+}
+
+/// So many keys and values.
+fn key_values_at(alloc: Global, count: u32, bytes: &[u8]) -> Result<Vec<KeyValue<'_>>, Stop>
+    ensures { Gives (λ v. map pairing v.items) result (all_at key_value_at count bytes.now) }
+{
+    let mut found = Vec::new(alloc);
+    let mut rest = bytes;
+    'structs: for i in 0..count {
+        let (item, behind) = key_value_at(rest)?;
+        found.push(item)?;
+        rest = behind;
+    }
+    Ok(found)
+}
+
+/// The structs of a list that may be missing.
+fn none_or(place: Option<Place<'_>>) -> Result<(u32, &[u8]), Fault>
+    ensures { Reads (λ x. (x.0, x.1.now)) result (none_or (spots place.entry)) }
+{
+    match place {
+        None => Ok((0, &[])),
+        Some(place) => structs_in(place),
+    }
+}
+
+/// The contents of a footer.
+#[tactic(auto, unfolding(crate::specs::Footer::footer_at))]
+fn footer_at(alloc: Global, bytes: &[u8]) -> Result<Footer<'_>, Stop>
+    ensures { Gives contents result (footer_at bytes.now) }
+{
+    let found = pair_at(bytes, 2, 5)?;
+    let elements = found.first.ok_or(broken(Rule::Missing, bytes))?;
+    let (elements, one) = structs_in(elements)?;
+    let (pairs, other) = none_or(found.second)?;
+    let schema = elements_at(alloc, elements, one)?;
+    let key_value_metadata = key_values_at(alloc, pairs, other)?;
+    Ok(Footer {
+        schema,
+        key_value_metadata,
+    })
+}
+
+/// Reads the schema and the key-value metadata of a footer, a `FileMetaData` in Thrift's compact protocol. All other
+/// fields are passed over, and so is what stands behind the struct, as the signature of a signed footer does.
+///
+/// Errs with `Invalid` where the bytes break a rule, the first one that they break, and with `Memory`.
+pub fn read_footer(alloc: Global, bytes: &[u8]) -> Result<Footer<'_>, FooterError>
+    ensures { Answers contents bytes.now result (footer_at bytes.now) }
+{
+    match footer_at(alloc, bytes) {
+        Ok(footer) => Ok(footer),
+        Err(Stop::Fault(fault)) => Err(FooterError::Invalid(
+            fault.rule,
+            bytes.len().saturating_sub(fault.left),
+        )),
+        Err(Stop::Memory) => Err(FooterError::Memory),
+    }
+}

@@ -1,0 +1,24 @@
+//! The footer of a Parquet file: a `FileMetaData` in Thrift's compact protocol, of which the schema and the
+//! key-value metadata are read, and all else is passed over.
+#![tactic(auto)]
+
+mod element;
+mod equality_laws;
+mod fault;
+mod fields;
+mod footer;
+mod logical;
+mod skip;
+mod tail;
+mod wire;
+
+pub use element::{PhysicalType, Repetition, SchemaElement};
+pub use equality_laws::{
+    algorithm_equality_is_exact, footer_error_equality_is_exact, physical_type_equality_is_exact,
+    repetition_equality_is_exact, rule_equality_is_exact,
+};
+pub use fault::{FooterError, Rule};
+pub use footer::{Footer, KeyValue, read_footer};
+pub use logical::{Algorithm, LogicalType};
+pub use skip::LEVELS;
+pub use tail::footer_length;

@@ -1,0 +1,194 @@
+//! Values of Thrift's compact protocol at the front of the bytes, each with the bytes behind it.
+ghost use Rattle.std.specs.Prelude.{◌≡◌, length};
+ghost use Rattle.parquet_footer.specs.Fault.{Reads};
+ghost use Rattle.parquet_footer.specs.Wire.{byte_at, number_at, number_past, count_at, bytes_past, binary_at, text_at, item_type, list_at, map_at, id_at, field_at};
+
+use crate::fault::{Fault, Rule, broken};
+
+/// A byte.
+#[tactic(auto, unfolding(crate::specs::Wire::byte_at))]
+#[inline(always)]
+pub fn byte_at(bytes: &[u8]) -> Result<(u8, &[u8]), Fault>
+    ensures { Reads (λ x. (x.0, x.1.now)) result (byte_at bytes.now) }
+{
+    match bytes {
+        [] => Err(broken(Rule::End, bytes)),
+        [byte, rest @ ..] => Ok((*byte, rest)),
+    }
+}
+
+/// A number in at most so many bytes.
+#[tactic(auto, unfolding(crate::specs::Wire::number_at))]
+pub fn number_at(bytes: &[u8], most: u32) -> Result<(u32, &[u8]), Fault>
+    ensures { Reads (λ x. (x.0, x.1.now)) result (number_at most bytes.now) }
+{
+    match bytes {
+        [] => Err(broken(Rule::End, bytes)),
+        [byte, rest @ ..] => {
+            if *byte < 128 {
+                return Ok((*byte as u32, rest));
+            }
+            if most < 2 {
+                return Err(broken(Rule::Number, bytes));
+            }
+            let (high, rest) = number_at(rest, most - 1)?;
+            if high < 0x200_0000 {
+                Ok(((*byte as u32 - 128) + 128 * high, rest))
+            } else {
+                Err(broken(Rule::Number, bytes))
+            }
+        }
+    }
+}
+
+/// Passes over a number in at most so many bytes.
+#[tactic(auto, unfolding(crate::specs::Wire::number_past))]
+pub fn number_past(bytes: &[u8], most: u32) -> Result<&[u8], Fault>
+    ensures { Reads (λ x. x.now) result (number_past most bytes.now) }
+{
+    match bytes {
+        [] => Err(broken(Rule::End, bytes)),
+        [byte, rest @ ..] => {
+            if *byte < 128 {
+                return Ok(rest);
+            }
+            if most < 2 {
+                return Err(broken(Rule::Number, bytes));
+            }
+            number_past(rest, most - 1)
+        }
+    }
+}
+
+/// A number in zigzag that is not negative.
+#[tactic(auto, unfolding(crate::specs::Wire::count_at))]
+#[inline(never)]
+pub fn count_at(bytes: &[u8]) -> Result<(u32, &[u8]), Fault>
+    ensures { Reads (λ x. (x.0, x.1.now)) result (count_at bytes.now) }
+{
+    let (number, rest) = number_at(bytes, 5)?;
+    if number % 2 == 0 {
+        Ok((number / 2, rest))
+    } else {
+        Err(broken(Rule::Negative, bytes))
+    }
+}
+
+/// Passes over so many bytes.
+#[tactic(auto, unfolding(crate::specs::Wire::bytes_past))]
+#[inline(always)]
+pub fn bytes_past(bytes: &[u8], count: usize) -> Result<&[u8], Fault>
+    ensures { Reads (λ x. x.now) result (bytes_past count bytes.now) }
+{
+    if bytes.len() < count {
+        return Err(broken(Rule::End, bytes));
+    }
+    Ok(&bytes[count..])
+}
+
+/// A length, and so many bytes.
+#[tactic(auto, unfolding(crate::specs::Wire::binary_at))]
+pub fn binary_at(bytes: &[u8]) -> Result<(&[u8], &[u8]), Fault>
+    ensures { Reads (λ x. (x.0.now, x.1.now)) result (binary_at bytes.now) }
+{
+    let (count, rest) = number_at(bytes, 5)?;
+    let count = count as usize;
+    if rest.len() < count {
+        return Err(broken(Rule::Length, bytes));
+    }
+    Ok((&rest[..count], &rest[count..]))
+}
+
+/// A text.
+#[tactic(auto, using(crate::proofs::Texts::utf8_is, crate::proofs::Texts::utf8_is_not), unfolding(crate::specs::Wire::text_at))]
+pub fn text_at(bytes: &[u8]) -> Result<&str, Fault>
+    ensures { Reads (λ x. x.now) result (text_at bytes.now) }
+{
+    let (text, _rest) = binary_at(bytes)?;
+    match std::str::from_utf8(text) {
+        Ok(text) => Ok(text),
+        Err(_) => Err(broken(Rule::Utf8, bytes)),
+    }
+}
+
+/// The type of an item, by the type in the head of its list or map.
+fn item_type(kind: u8) -> u8
+    ensures { result ≡ item_type kind }
+{
+    match kind {
+        1 | 2 => 3,
+        _ => kind,
+    }
+}
+
+/// The head of a list or a set: the items' type, how many they are, and the bytes behind it.
+#[tactic(auto, unfolding(crate::specs::Wire::list_at))]
+pub fn list_at(bytes: &[u8]) -> Result<(u8, u32, &[u8]), Fault>
+    ensures { Reads (λ x. (x.0, x.1, x.2.now)) result (list_at bytes.now) }
+{
+    let (head, rest) = byte_at(bytes)?;
+    let (count, rest) = if head < 240 {
+        ((head / 16) as u32, rest)
+    } else {
+        number_at(rest, 5)?
+    };
+    if rest.len() < count as usize {
+        return Err(broken(Rule::Length, bytes));
+    }
+    Ok((item_type(head % 16), count, rest))
+}
+
+/// The head of a map: the types of its keys and values, how many pairs they are, and the bytes behind it.
+#[tactic(auto, unfolding(crate::specs::Wire::map_at))]
+pub fn map_at(bytes: &[u8]) -> Result<(u8, u8, u32, &[u8]), Fault>
+    ensures { Reads (λ x. (x.0, x.1, x.2, x.3.now)) result (map_at bytes.now) }
+{
+    let (count, rest) = number_at(bytes, 5)?;
+    if count == 0 {
+        return Ok((3, 3, 0, rest));
+    }
+    let (types, rest) = byte_at(rest)?;
+    if rest.len() < count as usize {
+        return Err(broken(Rule::Length, bytes));
+    }
+    Ok((item_type(types / 16), item_type(types % 16), count, rest))
+}
+
+/// The id of a field.
+#[tactic(auto, unfolding(crate::specs::Wire::id_at))]
+#[inline(always)]
+fn id_at(last: u16, more: u8, bytes: &[u8]) -> Result<(u16, &[u8]), Fault>
+    ensures { Reads (λ x. (x.0, x.1.now)) result (id_at last more bytes.now) }
+{
+    if more == 0 {
+        let (id, rest) = count_at(bytes)?;
+        if id < 32768 {
+            return Ok((id as u16, rest));
+        }
+        return Err(broken(Rule::FieldId, bytes));
+    }
+    let id = last as u32 + more as u32;
+    if id < 32768 {
+        Ok((id as u16, bytes))
+    } else {
+        Err(broken(Rule::FieldId, bytes))
+    }
+}
+
+/// The head of a field behind a field of that id: its id, its type, which is 0 at the end of a struct, and the
+/// bytes behind it.
+#[tactic(auto, unfolding(crate::specs::Wire::field_at))]
+#[inline(always)]
+pub fn field_at(last: u16, bytes: &[u8]) -> Result<(u16, u8, &[u8]), Fault>
+    ensures { Reads (λ x. (x.0, x.1, x.2.now)) result (field_at last bytes.now) }
+{
+    let (head, rest) = byte_at(bytes)?;
+    if head == 0 {
+        return Ok((last, 0, rest));
+    }
+    if head % 16 == 0 {
+        return Err(broken(Rule::WireType, bytes));
+    }
+    let (id, rest) = id_at(last, head / 16, rest)?;
+    Ok((id, head % 16, rest))
+}
