@@ -1,0 +1,72 @@
+//! A column, and its type.
+ghost use Rattle.std.specs.Prelude.{◌≡◌, IfOk, string_bytes};
+ghost use Rattle.arrow_columns.specs.Column.{type_tree, column_tree};
+ghost use Rattle.arrow_columns.specs.Notation.{type_text, column_text};
+
+use crate::notation::{data_type_notation, part_notation};
+use arrow_values::DataType;
+use std::alloc::{AllocError, Global};
+use std::collections::BTreeMap;
+
+/// A column of a schema: a name, a type, whether values may be null, and a map of texts.
+///
+/// ```rust
+/// let column = Column {
+///     name: String::from_str(alloc, "at")?,
+///     nullable: true,
+///     data_type: ColumnType::Other(String::from_str(alloc, "timestamp[ms]")?),
+///     metadata: BTreeMap::new(alloc),
+/// };
+/// let text = column.notation(alloc)?;
+/// assert_eq!(rt; text.as_str(), "at: timestamp[ms]");
+/// ```
+#[derive(Debug, Drop)]
+pub struct Column {
+    /// The name.
+    pub name: String,
+    /// Whether values may be null.
+    pub nullable: bool,
+    /// The type.
+    pub data_type: ColumnType,
+    /// The metadata of the field.
+    pub metadata: BTreeMap<String, String>,
+}
+
+/// The type of a column.
+///
+/// ```rust
+/// let column_type = ColumnType::Data(DataType::Float64);
+/// let text = column_type.notation(alloc)?;
+/// assert_eq!(rt; text.as_str(), "float64");
+/// ```
+#[derive(Debug, Drop)]
+pub enum ColumnType {
+    /// One of the 26 data types, with all that is nested in it.
+    Data(DataType),
+    /// Any other type of Arrow, or a nested type with one of those anywhere below: its notation.
+    Other(String),
+}
+
+impl ColumnType {
+    /// The type in Arrow's usual notation, as `list<item: float64 not null>` or `timestamp[ms, tz=UTC]`; of an `Other` its
+    /// text. Errs only when out of memory.
+    pub fn notation(&self, alloc: Global) -> Result<String, AllocError>
+        ensures { IfOk result (λ text. string_bytes text ≡ type_text (type_tree self.now)) }
+    {
+        match self {
+            ColumnType::Data(data_type) => data_type_notation(alloc, data_type),
+            ColumnType::Other(text) => String::from_str(alloc, text.as_str()),
+        }
+    }
+}
+
+impl Column {
+    /// The column as a part of a nested type is written: its name, a colon and a space, its type's notation, and
+    /// ` not null` where values may not be null. Errs only when out of memory.
+    pub fn notation(&self, alloc: Global) -> Result<String, AllocError>
+        ensures { IfOk result (λ text. string_bytes text ≡ column_text (column_tree self.now)) }
+    {
+        let data_type = self.data_type.notation(alloc)?;
+        part_notation(alloc, self.name.as_str(), data_type.as_str(), self.nullable)
+    }
+}

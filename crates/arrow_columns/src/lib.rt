@@ -1,0 +1,11 @@
+//! Columns of a schema, whose types may be ones that GeoArrow has no use for, and the usual notation of types.
+#![tactic(auto)]
+
+mod column;
+mod notation;
+
+pub use column::{Column, ColumnType};
+pub use notation::{
+    data_type_notation, member_notation, nested_notation, part_notation, plain_name,
+    sized_notation, union_word,
+};

@@ -1,0 +1,12 @@
+mod Texts
+mod Told
+mod Gathered
+mod Ids
+mod Column
+mod Inserted
+mod Finish
+mod Schemas
+mod Known
+mod Typed
+mod TypeOf
+mod Words

@@ -1,0 +1,110 @@
+-- The columns of a message, with all that is below them. What a column takes of the budget is 16 for its tables and the bytes of
+-- its texts, and 8 and its texts for each entry of its metadata.
+use Rattle.std.specs.Prelude.{ℕ, zero, suc, ◌+◌, ◌*◌, ℤ, pos, Bool, true, ◌&&◌, not, List, [], ◌∷◌, ◌++◌, length, Option, Some, None, Result, Ok, nat_lt, ◌==◌, if◌then◌else◌}
+use Rattle.arrow_values.specs.Tree.{Text, Metadata}
+use Rattle.arrow_values.specs.Texts.{put_text}
+use Rattle.arrow_values.specs.Union.{has}
+use Rattle.arrow_columns.specs.Column.{TypeTree, ColumnTree}
+use Rattle.arrow_ipc.specs.Fault.{◌>>=◌, breaks}
+use Rattle.arrow_ipc.specs.Wire.{u32_at, target_at}
+use Rattle.arrow_ipc.specs.Slots.{needed_text_in}
+use Rattle.arrow_ipc.specs.Parts.{Own, parts_at}
+use Rattle.arrow_ipc.specs.Types.{type_of, with_dictionary}
+use Rattle.arrow_ipc.specs.Tells.{gather}
+use Rattle.arrow_ipc.specs.declared.fault.Fault.{Fault}
+use Rattle.arrow_ipc.specs.declared.fault.Rule.TheVariants.{Children, TypeIds, Depth}
+use Rattle.arrow_ipc.specs.declared.kinds.Kind.{Kind}
+use Rattle.arrow_ipc.specs.declared.kinds.Kind.TheVariants.{Union}
+
+-- an entry of metadata, to which the offset at a position leads: slot 0 is its key, slot 1 its text. The last text of a key counts
+unfoldable pub entry_at : List ℕ → ℕ → Result (Text × Text) Fault
+entry_at bytes at = do
+  table ← target_at bytes at
+  key ← needed_text_in bytes table 0
+  text ← needed_text_in bytes table 1
+  Ok (key, text)
+
+abbrev pub entry_price : Text × Text → ℕ
+entry_price e = 8 + length e.0 + length e.1
+
+-- an entry that is put to those before it
+abbrev pub put_entry : List ℕ → ℕ → Metadata → Result (Metadata × ℕ) Fault
+put_entry bytes at texts = do
+  e ← entry_at bytes at
+  Ok (put_text e.0 e.1 texts, entry_price e)
+
+abbrev pub put_next : List ℕ → ℕ → Metadata → ℕ → Result (Metadata × ℕ) Fault
+put_next bytes start texts i = put_entry bytes (start + 4 * i) texts
+
+unfoldable pub texts_at : List ℕ → ℕ × ℕ → Result (Metadata × ℕ) Fault
+texts_at bytes v = gather (put_next bytes v.0) [] 0 v.1
+
+-- the type ids of a union: where they are not written 0, 1, 2 and on
+abbrev pub id_at : List ℕ → Option (ℕ × ℕ) → ℕ → Result ℕ Fault
+id_at bytes None i = Ok i
+id_at bytes (Some v) i = u32_at bytes (v.0 + 4 * i)
+
+abbrev pub is_new : ℕ → List ℤ → Bool
+is_new id ids = nat_lt id 128 && not (has (pos id) ids)
+
+unfoldable pub put_id : List ℕ → ℕ → Option (ℕ × ℕ) → List ℤ → ℕ → Result (List ℤ) Fault
+put_id bytes table written ids i = do
+  id ← id_at bytes written i
+  if is_new id ids then Ok (ids ++ pos id ∷ []) else breaks TypeIds table
+
+-- so many ids from an index on, after those before them
+unfoldable pub ids_from : List ℕ → ℕ → Option (ℕ × ℕ) → List ℤ → ℕ → ℕ → Result (List ℤ) Fault
+ids_from bytes table written ids i zero = Ok ids
+ids_from bytes table written ids i (suc n) = do
+  more ← put_id bytes table written ids i
+  ids_from bytes table written more (i + 1) n
+
+abbrev pub are_as_many : Option (ℕ × ℕ) → ℕ → Bool
+are_as_many None count = true
+are_as_many (Some v) count = v.1 == count
+
+unfoldable pub ids_at : List ℕ → ℕ → Option (ℕ × ℕ) → ℕ → Result (List ℤ) Fault
+ids_at bytes table written count = if are_as_many written count then ids_from bytes table written [] 0 count else breaks TypeIds table
+
+abbrev pub ids_of_kind : Kind → Result (List ℤ) Fault → Result (List ℤ) Fault
+ids_of_kind (Union mode) ids = ids
+ids_of_kind _ ids = Ok []
+
+abbrev pub counted : ℕ → Option TypeTree → Result TypeTree Fault
+counted table None = breaks Children table
+counted table (Some t) = Ok t
+
+-- the type of a column, given its children
+unfoldable pub typed : List ℕ → Own → List ColumnTree → Result TypeTree Fault
+typed bytes p cs = do
+  ids ← ids_of_kind p.kind (ids_at bytes p.table p.ids (length cs))
+  t ← counted p.table (type_of p.kind p.zone ids cs)
+  Ok (with_dictionary p.index t)
+
+-- a column, given its children
+unfoldable pub finished : List ℕ → Own → List ColumnTree → Result (ColumnTree × ℕ) Fault
+finished bytes p cs = do
+  t ← typed bytes p cs
+  ms ← texts_at bytes p.texts
+  Ok (record { name = p.name; data_type = t; nullable = p.nullable; metadata = ms.0 }, ms.1)
+
+abbrev pub price : Own → ℕ
+price p = 16 + length p.name + length p.zone
+
+abbrev pub put_column : (ℕ → Result (ColumnTree × ℕ) Fault) → ℕ → List ColumnTree → ℕ → Result (List ColumnTree × ℕ) Fault
+put_column read start cs i = do
+  c ← read (start + 4 * i)
+  Ok (cs ++ c.0 ∷ [], c.1)
+
+-- the columns to which the offsets of a vector lead
+unfoldable pub columns_by : (ℕ → Result (ColumnTree × ℕ) Fault) → ℕ × ℕ → Result (List ColumnTree × ℕ) Fault
+columns_by read v = gather (put_column read v.0) [] 0 v.1
+
+-- the column to which the offset at a position leads, no more than so many levels deep, and what it takes
+unfoldable pub column_at : ℕ → List ℕ → ℕ → Result (ColumnTree × ℕ) Fault
+column_at zero bytes at = breaks Depth at
+column_at (suc depth) bytes at = do
+  p ← parts_at bytes at
+  cs ← columns_by (column_at depth bytes) p.children
+  c ← finished bytes p cs.0
+  Ok (c.0, price p + cs.1 + c.1)

@@ -1,0 +1,10 @@
+pub mod Fault
+pub mod Wire
+pub mod Slots
+pub mod Longs
+pub mod Kinds
+pub mod Parts
+pub mod Types
+pub mod Tells
+pub mod Columns
+pub mod Schema

@@ -1,0 +1,78 @@
+-- What a column's table says of the column itself: its slots are 0 name, 1 nullable, 2 and 3 the type's tag and table, 4 its
+-- dictionary, 5 its children, 6 its metadata.
+use Rattle.std.specs.Prelude.{ℕ, Bool, List, [], Option, Some, None, Result, Ok, nat_le, ◌==◌, if◌then◌else◌}
+use Rattle.arrow_ipc.specs.Fault.{◌>>=◌, breaks}
+use Rattle.arrow_ipc.specs.Wire.{slot_at, target_at, vector_at}
+use Rattle.arrow_ipc.specs.Slots.{u8_in, flag_in, text_in, table_in, vector_in, led_to}
+use Rattle.arrow_ipc.specs.Longs.{u64_in}
+use Rattle.arrow_ipc.specs.Kinds.{int_at, kind_at}
+use Rattle.arrow_ipc.specs.declared.fault.Fault.{Fault}
+use Rattle.arrow_ipc.specs.declared.fault.Rule.TheVariants.{Missing, Tag}
+use Rattle.arrow_ipc.specs.declared.kinds.Kind.{Kind}
+use Rattle.arrow_ipc.specs.declared.kinds.Kind.TheVariants.{Int32}
+use Rattle.arrow_ipc.specs.declared.parts.Index.{Index}
+use Rattle.arrow_ipc.specs.declared.parts.Parts.{Parts}
+
+-- the tag of a type is 1 to 26
+unfoldable pub tag_in : List ℕ → ℕ → Result ℕ Fault
+tag_in bytes table = do
+  tag ← u8_in bytes table 2 0
+  if tag == 0 then breaks Missing table else if nat_le tag 26 then Ok tag else breaks Tag table
+
+-- the time zone, which a timestamp has in slot 1
+unfoldable pub zone_in : List ℕ → ℕ → ℕ → Result (List ℕ) Fault
+zone_in bytes tag table = if tag == 10 then text_in bytes table 1 else Ok []
+
+-- a dictionary has a number of its own in slot 0, which is not kept; its indices are 32-bit integers where nothing else is said
+unfoldable pub index_at : List ℕ → ℕ → Result Kind Fault
+index_at bytes table = slot_at bytes table 1 >>= led_to Int32 (int_at bytes) bytes
+
+abbrev pub index_of : List ℕ → ℕ → Result (Option Index) Fault
+index_of bytes table = do
+  id ← u64_in bytes table 0
+  kind ← index_at bytes table
+  ordered ← flag_in bytes table 2
+  Ok (Some (record { kind = kind; ordered = ordered }))
+
+unfoldable pub index_in : List ℕ → ℕ → Result (Option Index) Fault
+index_in bytes table = slot_at bytes table 4 >>= led_to None (index_of bytes) bytes
+
+-- the type ids, which a union has in slot 1
+abbrev pub ids_of : List ℕ → ℕ → Result (Option (ℕ × ℕ)) Fault
+ids_of bytes at = do
+  ids ← vector_at bytes at
+  Ok (Some ids)
+
+unfoldable pub ids_in : List ℕ → ℕ → ℕ → Result (Option (ℕ × ℕ)) Fault
+ids_in bytes tag table = if tag == 14 then (slot_at bytes table 1 >>= led_to None (ids_of bytes) bytes) else Ok None
+
+pub record Own : Type 0 where
+  pub table : ℕ
+  pub name : List ℕ
+  pub nullable : Bool
+  pub kind : Kind
+  pub zone : List ℕ
+  pub index : Option Index
+  pub children : ℕ × ℕ
+  pub ids : Option (ℕ × ℕ)
+  pub texts : ℕ × ℕ
+
+abbrev pub parts_of : Parts → Own
+parts_of p = record { table = p.table; name = p.name.now; nullable = p.nullable; kind = p.kind; zone = p.zone.now; index = p.index; children = p.children; ids = p.ids; texts = p.texts }
+
+-- of the column to which the offset at a position leads
+unfoldable pub parts_at : List ℕ → ℕ → Result Own Fault
+parts_at bytes at = do
+  table ← target_at bytes at
+  name ← text_in bytes table 0
+  nullable ← flag_in bytes table 1
+  tag ← tag_in bytes table
+  value ← table_in bytes table 3
+  first ← slot_at bytes value 0
+  kind ← kind_at bytes tag value
+  zone ← zone_in bytes tag value
+  ids ← ids_in bytes tag value
+  index ← index_in bytes table
+  children ← vector_in bytes table 5
+  texts ← vector_in bytes table 6
+  Ok (record { table = table; name = name; nullable = nullable; kind = kind; zone = zone; index = index; children = children; ids = ids; texts = texts })

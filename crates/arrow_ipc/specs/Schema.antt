@@ -1,0 +1,111 @@
+-- The schema of a message, and what stands around messages.
+use Rattle.std.specs.Prelude.{◌≡◌, ℕ, ◌+◌, ◌-◌, ◌*◌, ◌≤◌, Bool, ◌&&◌, not, List, [], ◌∷◌, length, take, drop, map, Result, Ok, Err, nat_lt, nat_le, ◌==◌, if◌then◌else◌, codes}
+use Rattle.std.specs.Str.{bytes_eq}
+use Rattle.std.specs.Int.{w32, from_le_bytes}
+use Rattle.arrow_values.specs.Tree.{Metadata}
+use Rattle.arrow_values.specs.View.{texts_of}
+use Rattle.arrow_columns.specs.Column.{ColumnTree, column_tree}
+use Rattle.arrow_ipc.specs.Fault.{◌>>=◌, breaks}
+use Rattle.arrow_ipc.specs.Wire.{u32_at, target_at}
+use Rattle.arrow_ipc.specs.Longs.{u64_in}
+use Rattle.arrow_ipc.specs.Slots.{u8_in, u16_in, table_in, vector_in, needed_vector_in}
+use Rattle.arrow_ipc.specs.Columns.{texts_at, columns_by, column_at}
+use Rattle.arrow_ipc.specs.Tells.{Fails}
+use Rattle.arrow_ipc.specs.declared.fault.Fault.{Fault}
+use Rattle.arrow_ipc.specs.declared.fault.IpcError.{IpcError}
+use Rattle.arrow_ipc.specs.declared.fault.IpcError.TheVariants.{Broken}
+use Rattle.arrow_ipc.specs.declared.fault.Rule.TheVariants.{Envelope, Message}
+use Rattle.arrow_ipc.specs.declared.schema.Endianness.{Endianness}
+use Rattle.arrow_ipc.specs.declared.schema.Endianness.TheVariants.{Little, Big}
+use Rattle.arrow_ipc.specs.declared.schema.Head.{Head}
+use Rattle.arrow_ipc.specs.declared.schema.Schema.{Schema}
+
+pub record SchemaTree : Type 0 where
+  pub columns : List ColumnTree
+  pub metadata : Metadata
+  pub endianness : Endianness
+
+abbrev pub schema_tree : Schema → SchemaTree
+schema_tree s = record { columns = map column_tree s.columns.items; metadata = texts_of s.metadata.entries; endianness = s.endianness }
+
+-- a schema's table: slot 0 its byte order, 1 its columns, which it must have, 2 its metadata
+unfoldable pub head_at : List ℕ → ℕ → Result Head Fault
+head_at bytes table = do
+  order ← u16_in bytes table 0 0
+  fields ← needed_vector_in bytes table 1
+  texts ← vector_in bytes table 2
+  Ok (record { endianness = if order == 0 then Little else Big; fields = fields; texts = texts })
+
+-- the schema of a table, whose columns are no more than so many levels deep, and what it takes
+unfoldable pub schema_at : ℕ → List ℕ → ℕ → Result (SchemaTree × ℕ) Fault
+schema_at levels bytes table = do
+  h ← head_at bytes table
+  cs ← columns_by (column_at levels bytes) h.fields
+  ms ← texts_at bytes h.texts
+  Ok (record { columns = cs.0; metadata = ms.0; endianness = h.endianness }, cs.1 + ms.1)
+
+-- a message's body has a length of eight bytes, in slot 3; none where it is missing
+unfoldable pub has_body : List ℕ → ℕ → Result Bool Fault
+has_body bytes table = do
+  size ← u64_in bytes table 3
+  Ok (not (size == 0))
+
+-- version 4 is written 3, version 5 is written 4
+abbrev pub is_version : ℕ → Bool
+is_version version = nat_le 3 version && nat_le version 4
+
+-- the schema's table in a message: slot 0 its version, 1 and 2 the header's tag, 1 for a schema, and table
+unfoldable pub message_at : List ℕ → Result ℕ Fault
+message_at bytes = do
+  message ← target_at bytes 0
+  version ← u16_in bytes message 0 0
+  tag ← u8_in bytes message 1 0
+  body ← has_body bytes message
+  if is_version version && (tag == 1) && not body then table_in bytes message 2 else breaks Message message
+
+-- the schema's table in a footer: slot 0 its version, 1 the schema
+unfoldable pub footer_at : List ℕ → Result ℕ Fault
+footer_at bytes = do
+  footer ← target_at bytes 0
+  version ← u16_in bytes footer 0 0
+  if is_version version then table_in bytes footer 1 else breaks Message footer
+
+-- so many bytes from a position on, which are some
+unfoldable pub cut : List ℕ → ℕ → ℕ → Result (List ℕ) Fault
+cut bytes start size = if nat_lt 0 size && nat_le (start + size) (length bytes) then Ok (take size (drop start bytes)) else breaks Envelope start
+
+-- the message of a stream: its size, which may have four bytes 255 before it, and the message
+unfoldable pub message_in : List ℕ → Result (List ℕ) Fault
+message_in bytes = do
+  first ← u32_at bytes 0
+  if first == 0xffff_ffff then (do
+    size ← u32_at bytes 4
+    cut bytes 8 size) else cut bytes 4 first
+
+-- the size at a file's end, with its magic behind it
+abbrev pub size_before_magic : ℕ → List ℕ → Result ℕ Fault
+size_before_magic end (a ∷ b ∷ c ∷ d ∷ magic) = if bytes_eq magic (codes "ARROW1") then Ok (from_le_bytes w32 (a ∷ b ∷ c ∷ d ∷ [])) else breaks Envelope end
+size_before_magic end _ = breaks Envelope end
+
+-- the footer of a file: its size and the magic come behind it
+unfoldable pub footer_in : List ℕ → Result (List ℕ) Fault
+footer_in bytes = if nat_lt (length bytes) 10 then breaks Envelope 0 else (do
+  size ← size_before_magic (length bytes - 10) (drop (length bytes - 10) bytes)
+  if nat_le size (length bytes - 10) then cut (take (length bytes - 10) bytes) (length bytes - 10 - size) size else breaks Envelope (length bytes - 10))
+
+unfoldable pub schema_of_message : ℕ → List ℕ → Result (SchemaTree × ℕ) Fault
+schema_of_message levels bytes = message_at bytes >>= schema_at levels bytes
+
+unfoldable pub schema_of_footer : ℕ → List ℕ → Result (SchemaTree × ℕ) Fault
+schema_of_footer levels bytes = footer_at bytes >>= schema_at levels bytes
+
+-- a call that reads a flatbuffer answers what it denotes, which takes no more than eight times its bytes; or says which rule is
+-- broken where, or that it takes more
+abbrev pub MeetsIn : (List ℕ → Result (SchemaTree × ℕ) Fault) → List ℕ → Result Schema IpcError → Type 0
+MeetsIn read bytes (Ok s) = (n : ℕ) × (n ≤ 8 * length bytes) × (read bytes ≡ Ok (schema_tree s, n))
+MeetsIn read bytes (Err e) = Fails (read bytes) (8 * length bytes) e
+
+-- and one that reads it where it lies in other bytes
+abbrev pub Meets : Result (List ℕ) Fault → (List ℕ → Result (SchemaTree × ℕ) Fault) → Result Schema IpcError → Type 0
+Meets (Ok bytes) read result = MeetsIn read bytes result
+Meets (Err fault) read result = result ≡ Err (Broken fault)

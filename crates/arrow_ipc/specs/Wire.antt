@@ -1,0 +1,95 @@
+-- FlatBuffers: what stands at a position of a message. Nothing stands past its end, and a number stands at a multiple of its
+-- size.
+use Rattle.std.specs.Prelude.{ℕ, ◌+◌, ◌-◌, ◌*◌, ◌^◌, ◌%◌, List, [], ◌∷◌, length, take, drop, Option, Some, None, Result, Ok, nat_lt, nat_le, ◌==◌, if◌then◌else◌, slice_get}
+use Rattle.std.specs.Int.{w16, w32, from_le_bytes}
+use Rattle.std.specs.Str.{is_utf8}
+use Rattle.arrow_ipc.specs.Fault.{◌>>=◌, breaks}
+use Rattle.arrow_ipc.specs.declared.fault.Fault.{Fault}
+use Rattle.arrow_ipc.specs.declared.fault.Rule.{Rule}
+use Rattle.arrow_ipc.specs.declared.fault.Rule.TheVariants.{Number, Offset, Vtable, Slot, Text, Utf8, Vector}
+
+abbrev pub given : ℕ → Option ℕ → Result ℕ Fault
+given at (Some x) = Ok x
+given at None = breaks Number at
+
+abbrev pub first_u16 : ℕ → List ℕ → Result ℕ Fault
+first_u16 at [] = breaks Number at
+first_u16 at (a ∷ []) = breaks Number at
+first_u16 at (a ∷ b ∷ rest) = Ok (from_le_bytes w16 (a ∷ b ∷ []))
+
+abbrev pub first_u32 : ℕ → List ℕ → Result ℕ Fault
+first_u32 at [] = breaks Number at
+first_u32 at (a ∷ []) = breaks Number at
+first_u32 at (a ∷ b ∷ []) = breaks Number at
+first_u32 at (a ∷ b ∷ c ∷ []) = breaks Number at
+first_u32 at (a ∷ b ∷ c ∷ d ∷ rest) = Ok (from_le_bytes w32 (a ∷ b ∷ c ∷ d ∷ []))
+
+-- the number whose bytes begin there, the least byte first
+unfoldable pub u8_at : List ℕ → ℕ → Result ℕ Fault
+u8_at bytes at = given at (slice_get bytes at)
+
+unfoldable pub u16_at : List ℕ → ℕ → Result ℕ Fault
+u16_at bytes at = if at % 2 == 0 then first_u16 at (drop at bytes) else breaks Number at
+
+unfoldable pub u32_at : List ℕ → ℕ → Result ℕ Fault
+u32_at bytes at = if at % 4 == 0 then first_u32 at (drop at bytes) else breaks Number at
+
+-- the position so many bytes on, which is at most the end
+unfoldable pub ahead : Rule → List ℕ → ℕ → ℕ → Result ℕ Fault
+ahead rule bytes at by = if nat_le (at + by) (length bytes) then Ok (at + by) else breaks rule at
+
+-- the position so many bytes back
+unfoldable pub behind : ℕ → ℕ → Result ℕ Fault
+behind at by = if nat_le by at then Ok (at - by) else breaks Vtable at
+
+-- where the vtable of a table is: the table begins with how far it is back, in two's complement
+unfoldable pub vtable_at : List ℕ → ℕ → Result ℕ Fault
+vtable_at bytes table = do
+  back ← u32_at bytes table
+  if nat_lt back (2 ^ 31) then behind table back else ahead Vtable bytes table (2 ^ 32 - back)
+
+-- where slot i of a table is, or None where the table does not have it: the vtable has its own size in bytes, the size of the
+-- table, and for each slot how far it is from the table's begin, 0 where it is missing; slots past the size are missing
+unfoldable pub slot_at : List ℕ → ℕ → ℕ → Result (Option ℕ) Fault
+slot_at bytes table i = do
+  vtable ← vtable_at bytes table
+  size ← u16_at bytes vtable
+  end ← ahead Vtable bytes vtable size
+  if size % 2 == 0 then (if nat_lt size (6 + 2 * i) then Ok None else (do
+    entry ← ahead Vtable bytes vtable (4 + 2 * i)
+    far ← u16_at bytes entry
+    if far == 0 then Ok None else (do
+      slot ← ahead Slot bytes table far
+      Ok (Some slot)))) else breaks Vtable vtable
+
+-- where the offset at a position leads, always on
+unfoldable pub target_at : List ℕ → ℕ → Result ℕ Fault
+target_at bytes at = do
+  far ← u32_at bytes at
+  if far == 0 then breaks Offset at else ahead Offset bytes at far
+
+abbrev pub ends_in_nul : ℕ → List ℕ → List ℕ → Result (List ℕ) Fault
+ends_in_nul at text [] = breaks Text at
+ends_in_nul at text (b ∷ rest) = if b == 0 then Ok text else breaks Text at
+
+-- the bytes of a text: their count, the bytes, and a NUL that is not counted
+unfoldable pub text_at : List ℕ → ℕ → Result (List ℕ) Fault
+text_at bytes at = do
+  count ← u32_at bytes at
+  start ← ahead Text bytes at 4
+  end ← ahead Text bytes start count
+  ends_in_nul at (take count (drop start bytes)) (drop end bytes)
+
+-- a text in UTF-8
+unfoldable pub utf8_at : List ℕ → ℕ → Result (List ℕ) Fault
+utf8_at bytes at = do
+  text ← text_at bytes at
+  if is_utf8 text then Ok text else breaks Utf8 at
+
+-- where the elements of a vector begin, of four bytes each, and how many they are
+unfoldable pub vector_at : List ℕ → ℕ → Result (ℕ × ℕ) Fault
+vector_at bytes at = do
+  count ← u32_at bytes at
+  start ← ahead Vector bytes at 4
+  end ← ahead Vector bytes start (4 * count)
+  Ok (start, count)

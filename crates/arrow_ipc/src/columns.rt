@@ -1,0 +1,265 @@
+//! Columns with all that is below them, read into memory of their own within a budget.
+ghost use Rattle.std.specs.Prelude.{◌≡◌, ◌+◌, ◌*◌, ◌≤◌, length, IfOk, IfErr, IfSome, OnOk, map, option_map, ◌++◌, ◌∷◌, [], ◌<◌};
+ghost use Rattle.arrow_values.specs.View.{texts_of};
+ghost use Rattle.arrow_columns.specs.Column.{type_tree, column_tree};
+ghost use Rattle.arrow_ipc.specs.Fault.{map_ok};
+ghost use Rattle.arrow_ipc.specs.Parts.{parts_of};
+ghost use Rattle.arrow_ipc.specs.Tells.{Tells, Says};
+ghost use Rattle.arrow_ipc.specs.Columns.{entry_at, put_entry, texts_at, id_at, is_new, put_id, are_as_many, ids_at, ids_of_kind, counted, typed, finished, columns_by, column_at};
+
+use crate::fault::{Fault, IpcError, Rule};
+use crate::kinds::Kind;
+use crate::parts::{Parts, parts_at};
+use crate::slots::needed_text_in;
+use crate::types::{type_of, with_dictionary};
+use crate::wire::{target_at, u32_at};
+use arrow_columns::{Column, ColumnType};
+use std::alloc::Global;
+use std::collections::BTreeMap;
+
+/// Takes an amount and the bytes of two texts from a budget.
+fn spend(
+    budget: &mut usize,
+    amount: usize,
+    one: &str,
+    other: &str,
+    at: usize,
+) -> Result<(), IpcError>
+    ensures ok { OnOk result (budget.new + (amount + length one.now + length other.now) ≡ budget.old) }
+    ensures err { IfErr result (λ e. (e ≡ IpcError.Budget at) × (budget.old < amount + length one.now + length other.now)) }
+{
+    let Some(left) = budget.checked_sub(amount) else {
+        return Err(IpcError::Budget(at));
+    };
+    let Some(left) = left.checked_sub(one.len()) else {
+        return Err(IpcError::Budget(at));
+    };
+    let Some(left) = left.checked_sub(other.len()) else {
+        return Err(IpcError::Budget(at));
+    };
+    *budget = left;
+    Ok(())
+}
+
+/// The entry of metadata to which the offset at a position leads: its key and its text.
+#[tactic(auto, unfolding(crate::specs::Columns::entry_at))]
+fn entry_at(bytes: &[u8], at: usize) -> Result<(&str, &str), Fault>
+    ensures { map_ok (λ e. (e.0.now, e.1.now)) result ≡ entry_at bytes.now at }
+{
+    let table = target_at(bytes, at)?;
+    let key = needed_text_in(bytes, table, 0)?;
+    let text = needed_text_in(bytes, table, 1)?;
+    Ok((key, text))
+}
+
+/// Puts an entry of metadata to those before it.
+fn put_entry(
+    alloc: Global,
+    bytes: &[u8],
+    at: usize,
+    budget: &mut usize,
+    texts: &mut BTreeMap<String, String>,
+) -> Result<(), IpcError>
+    ensures { Tells (λ _. texts_of texts.new.entries) (put_entry bytes.now at (texts_of texts.old.entries)) budget.old budget.new result }
+{
+    let entry = entry_at(bytes, at)?;
+    spend(budget, 8, entry.0, entry.1, at)?;
+    let key = String::from_str(alloc, entry.0)?;
+    let text = String::from_str(alloc, entry.1)?;
+    texts.insert(key, text)?;
+    Ok(())
+}
+
+/// The metadata to which the offsets of a vector lead.
+#[tactic(auto, using(crate::proofs::Gathered::starts_at), unfolding(crate::specs::Columns::texts_at))]
+pub(crate) fn read_texts(
+    alloc: Global,
+    bytes: &[u8],
+    entries: (usize, usize),
+    budget: &mut usize,
+) -> Result<BTreeMap<String, String>, IpcError>
+    requires { entries.0 + 4 * entries.1 ≤ length bytes.now }
+    ensures { Tells (λ m. texts_of m.entries) (texts_at bytes.now entries) budget.old budget.new result }
+{
+    let mut texts = BTreeMap::new(alloc);
+    'entries: for i in 0..entries.1 {
+        put_entry(alloc, bytes, entries.0 + 4 * i, budget, &mut texts)?;
+    }
+    Ok(texts)
+}
+
+/// The type id at an index: where they are not written, the index.
+fn id_at(bytes: &[u8], written: Option<(usize, usize)>, i: usize) -> Result<usize, Fault>
+    requires { IfSome written (λ v. v.0 + 4 * i + 4 ≤ length bytes.now) }
+    ensures { result ≡ id_at bytes.now written i }
+{
+    match written {
+        None => Ok(i),
+        Some((start, _)) => Ok(u32_at(bytes, start + 4 * i)? as usize),
+    }
+}
+
+/// Whether a type id is 0 to 127, and none of those before it.
+fn is_new(id: usize, ids: &[i8]) -> bool
+    ensures { result ≡ is_new id ids.now }
+{
+    id < 128 && !ids.contains(&(id as i8))
+}
+
+/// Puts a type id to those before it.
+#[tactic(auto, using(crate::proofs::Ids::no_id, crate::proofs::Ids::old_id, crate::proofs::Ids::new_id))]
+fn put_id(
+    bytes: &[u8],
+    table: usize,
+    written: Option<(usize, usize)>,
+    i: usize,
+    ids: &mut Vec<i8>,
+) -> Result<(), IpcError>
+    requires { IfSome written (λ v. v.0 + 4 * i + 4 ≤ length bytes.now) }
+    ensures { Says (λ _. ids.new.items) (put_id bytes.now table written ids.old.items i) result }
+{
+    let id = id_at(bytes, written, i)?;
+    if !is_new(id, ids.as_slice()) {
+        return Err(IpcError::Broken(Fault::new(Rule::TypeIds, table)));
+    }
+    ids.push(id as i8)?;
+    Ok(())
+}
+
+/// Whether as many type ids are written, if any, as there are children.
+fn are_as_many(written: Option<(usize, usize)>, count: usize) -> bool
+    ensures { result ≡ are_as_many written count }
+{
+    match written {
+        None => true,
+        Some(ids) => ids.1 == count,
+    }
+}
+
+/// The type ids of a union of so many children.
+#[tactic(auto, unfolding(crate::specs::Columns::ids_at))]
+fn read_ids(
+    alloc: Global,
+    bytes: &[u8],
+    table: usize,
+    written: Option<(usize, usize)>,
+    count: usize,
+) -> Result<Vec<i8>, IpcError>
+    requires { IfSome written (λ v. v.0 + 4 * v.1 ≤ length bytes.now) }
+    ensures { Says (λ ids. ids.items) (ids_at bytes.now table written count) result }
+{
+    if !are_as_many(written, count) {
+        return Err(IpcError::Broken(Fault::new(Rule::TypeIds, table)));
+    }
+    let mut ids = Vec::new(alloc);
+    'ids: for i in 0..count {
+        put_id(bytes, table, written, i, &mut ids)?;
+    }
+    Ok(ids)
+}
+
+/// The type ids of a column: of one that is no union, none.
+fn ids_of_kind(
+    alloc: Global,
+    bytes: &[u8],
+    parts: &Parts<'_>,
+    count: usize,
+) -> Result<Vec<i8>, IpcError>
+    requires { IfSome parts.now.ids (λ v. v.0 + 4 * v.1 ≤ length bytes.now) }
+    ensures { Says (λ ids. ids.items) (ids_of_kind parts.now.kind (ids_at bytes.now parts.now.table parts.now.ids count)) result }
+{
+    match parts.kind {
+        Kind::Union(_) => read_ids(alloc, bytes, parts.table, parts.ids, count),
+        _ => Ok(Vec::new(alloc)),
+    }
+}
+
+/// A type, or that its table has a wrong number of children.
+fn counted(table: usize, found: Option<ColumnType>) -> Result<ColumnType, Fault>
+    ensures { map_ok type_tree result ≡ counted table (option_map type_tree found) }
+{
+    match found {
+        Some(found) => Ok(found),
+        None => Err(Fault::new(Rule::Children, table)),
+    }
+}
+
+/// The type of a column, given its children.
+fn read_type(
+    alloc: Global,
+    bytes: &[u8],
+    parts: &Parts<'_>,
+    children: Vec<Column>,
+) -> Result<ColumnType, IpcError>
+    requires { IfSome parts.now.ids (λ v. v.0 + 4 * v.1 ≤ length bytes.now) }
+    ensures { Says type_tree (typed bytes.now (parts_of parts.now) (map column_tree children.items)) result }
+{
+    let ids = ids_of_kind(alloc, bytes, parts, children.len())?;
+    let found = type_of(alloc, parts.kind, parts.zone, ids, children)?;
+    let values = counted(parts.table, found)?;
+    let data_type = with_dictionary(alloc, parts.index, values)?;
+    Ok(data_type)
+}
+
+/// A column, given its children.
+fn finish(
+    alloc: Global,
+    bytes: &[u8],
+    parts: &Parts<'_>,
+    children: Vec<Column>,
+    budget: &mut usize,
+) -> Result<Column, IpcError>
+    requires ids { IfSome parts.now.ids (λ v. v.0 + 4 * v.1 ≤ length bytes.now) }
+    requires texts { parts.now.texts.0 + 4 * parts.now.texts.1 ≤ length bytes.now }
+    ensures { Tells column_tree (finished bytes.now (parts_of parts.now) (map column_tree children.items)) budget.old budget.new result }
+{
+    let data_type = read_type(alloc, bytes, parts, children)?;
+    let metadata = read_texts(alloc, bytes, parts.texts, budget)?;
+    let name = String::from_str(alloc, parts.name)?;
+    Ok(Column {
+        name,
+        nullable: parts.nullable,
+        data_type,
+        metadata,
+    })
+}
+
+/// Reads the column to which the offset at a position leads, and all that is below it.
+#[cycle(read)]
+fn read_column(
+    alloc: Global,
+    bytes: &[u8],
+    at: usize,
+    depth: usize,
+    budget: &mut usize,
+) -> Result<Column, IpcError>
+    ensures { Tells column_tree (column_at depth bytes.now at) budget.old budget.new result }
+{
+    if depth == 0 {
+        return Err(IpcError::Broken(Fault::new(Rule::Depth, at)));
+    }
+    let parts = parts_at(bytes, at)?;
+    spend(budget, 16, parts.name, parts.zone, at)?;
+    let children = read_columns(alloc, bytes, parts.children, depth - 1, budget)?;
+    finish(alloc, bytes, &parts, children, budget)
+}
+
+/// Reads the columns to which the offsets of a vector lead.
+#[cycle(read)]
+pub(crate) fn read_columns(
+    alloc: Global,
+    bytes: &[u8],
+    offsets: (usize, usize),
+    depth: usize,
+    budget: &mut usize,
+) -> Result<Vec<Column>, IpcError>
+    requires { offsets.0 + 4 * offsets.1 ≤ length bytes.now }
+    ensures { Tells (λ v. map column_tree v.items) (columns_by (column_at depth bytes.now) offsets) budget.old budget.new result }
+{
+    let mut found = Vec::new(alloc);
+    'columns: for i in 0..offsets.1 {
+        let column = read_column(alloc, bytes, offsets.0 + 4 * i, depth, budget)?;
+        found.push(column)?;
+    }
+    Ok(found)
+}

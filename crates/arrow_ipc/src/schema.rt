@@ -1,0 +1,202 @@
+//! The schema of a message or of a file's footer.
+ghost use Rattle.std.specs.Prelude.{◌≡◌, ◌+◌, ◌*◌, ◌^◌, ◌≤◌, ◌<◌, length, IfOk, map};
+ghost use Rattle.arrow_values.specs.View.{texts_of};
+ghost use Rattle.arrow_columns.specs.Column.{column_tree};
+ghost use Rattle.arrow_ipc.specs.Fault.{map_ok};
+ghost use Rattle.arrow_ipc.specs.Tells.{Tells};
+ghost use Rattle.arrow_ipc.specs.Schema.{head_at, has_body, message_at, footer_at, cut, message_in, footer_in, schema_tree, schema_at, Meets, schema_of_message, schema_of_footer};
+
+use crate::columns::{read_columns, read_texts};
+use crate::fault::{Fault, IpcError, Rule};
+use crate::longs::u64_in;
+use crate::slots::{needed_vector_in, table_in, u8_in, u16_in, vector_in};
+use crate::wire::{target_at, u32_at};
+use arrow_columns::Column;
+use std::alloc::Global;
+use std::collections::BTreeMap;
+
+/// How deep columns may be nested: a column of the schema is 1 deep, its children are 2 deep.
+pub const NESTING_LIMIT: usize = 61;
+
+/// The order of the bytes of numbers in the data that a schema describes.
+#[derive(Clone, Copy, Debug, PartialEq, Eq)]
+pub enum Endianness {
+    /// The least byte first.
+    Little,
+    /// The greatest byte first.
+    Big,
+}
+
+/// A schema: columns, texts of its own, and the byte order of the data.
+#[derive(Debug, Drop)]
+pub struct Schema {
+    /// The columns, in order.
+    pub columns: Vec<Column>,
+    /// The metadata of the schema itself.
+    pub metadata: BTreeMap<String, String>,
+    /// The byte order of the data.
+    pub endianness: Endianness,
+}
+
+/// What a schema's table says before its columns are read.
+#[derive(Clone, Copy)]
+struct Head {
+    endianness: Endianness,
+    fields: (usize, usize),
+    texts: (usize, usize),
+}
+
+/// What a schema's table says before its columns are read.
+#[tactic(auto, unfolding(crate::specs::Schema::head_at))]
+fn head_at(bytes: &[u8], table: usize) -> Result<Head, Fault>
+    ensures is { result ≡ head_at bytes.now table }
+    ensures fields { IfOk result (λ h. h.fields.0 + 4 * h.fields.1 ≤ length bytes.now) }
+    ensures texts { IfOk result (λ h. h.texts.0 + 4 * h.texts.1 ≤ length bytes.now) }
+{
+    let endianness = match u16_in(bytes, table, 0, 0)? {
+        0 => Endianness::Little,
+        _ => Endianness::Big,
+    };
+    let fields = needed_vector_in(bytes, table, 1)?;
+    let texts = vector_in(bytes, table, 2)?;
+    Ok(Head {
+        endianness,
+        fields,
+        texts,
+    })
+}
+
+/// Whether the length of a message's body, of eight bytes, is not 0.
+#[tactic(auto, unfolding(crate::specs::Schema::has_body))]
+fn has_body(bytes: &[u8], table: usize) -> Result<bool, Fault>
+    ensures { result ≡ has_body bytes.now table }
+{
+    let size = u64_in(bytes, table, 3)?;
+    Ok(size != 0)
+}
+
+/// Where the schema of a message is.
+#[tactic(auto, unfolding(crate::specs::Schema::message_at))]
+fn message_at(bytes: &[u8]) -> Result<usize, Fault>
+    ensures { result ≡ message_at bytes.now }
+{
+    let message = target_at(bytes, 0)?;
+    let version = u16_in(bytes, message, 0, 0)?;
+    let tag = u8_in(bytes, message, 1, 0)?;
+    let body = has_body(bytes, message)?;
+    if body || tag != 1 || version < 3 || version > 4 {
+        return Err(Fault::new(Rule::Message, message));
+    }
+    table_in(bytes, message, 2)
+}
+
+/// Where the schema of a file's footer is.
+#[tactic(auto, unfolding(crate::specs::Schema::footer_at))]
+fn footer_at(bytes: &[u8]) -> Result<usize, Fault>
+    ensures { result ≡ footer_at bytes.now }
+{
+    let footer = target_at(bytes, 0)?;
+    let version = u16_in(bytes, footer, 0, 0)?;
+    if version < 3 || version > 4 {
+        return Err(Fault::new(Rule::Message, footer));
+    }
+    table_in(bytes, footer, 1)
+}
+
+/// The bytes of that size from a position on, which are some.
+#[tactic(auto, unfolding(crate::specs::Schema::cut))]
+fn cut(bytes: &[u8], start: usize, size: u32) -> Result<&[u8], Fault>
+    ensures is { map_ok (λ m. m.now) result ≡ cut bytes.now start size }
+    ensures small { IfOk result (λ m. length m.now < 2 ^ 32) }
+{
+    let size = size as usize;
+    if size == 0 || bytes.len() < start || bytes.len() - start < size {
+        return Err(Fault::new(Rule::Envelope, start));
+    }
+    Ok(&bytes[start..start + size])
+}
+
+/// The message at the head of a stream.
+#[tactic(auto, unfolding(crate::specs::Schema::message_in))]
+fn message_in(bytes: &[u8]) -> Result<&[u8], Fault>
+    ensures is { map_ok (λ m. m.now) result ≡ message_in bytes.now }
+    ensures small { IfOk result (λ m. length m.now < 2 ^ 32) }
+{
+    let first = u32_at(bytes, 0)?;
+    if first != 0xffff_ffff {
+        return cut(bytes, 4, first);
+    }
+    let size = u32_at(bytes, 4)?;
+    cut(bytes, 8, size)
+}
+
+/// The footer at the end of a file.
+#[tactic(auto, unfolding(crate::specs::Schema::footer_in))]
+fn footer_in(bytes: &[u8]) -> Result<&[u8], Fault>
+    ensures is { map_ok (λ m. m.now) result ≡ footer_in bytes.now }
+    ensures small { IfOk result (λ m. length m.now < 2 ^ 32) }
+{
+    if bytes.len() < 10 {
+        return Err(Fault::new(Rule::Envelope, 0));
+    }
+    let end = bytes.len() - 10;
+    let size = match &bytes[end..] {
+        [a, b, c, d, 65, 82, 82, 79, 87, 49] => u32::from_le_bytes([*a, *b, *c, *d]),
+        _ => return Err(Fault::new(Rule::Envelope, end)),
+    };
+    if (size as usize) > end {
+        return Err(Fault::new(Rule::Envelope, end));
+    }
+    cut(&bytes[..end], end - size as usize, size)
+}
+
+/// Reads a schema's table within a budget.
+fn read_table(
+    alloc: Global,
+    bytes: &[u8],
+    table: usize,
+    budget: &mut usize,
+) -> Result<Schema, IpcError>
+    ensures { Tells schema_tree (schema_at NESTING_LIMIT bytes.now table) budget.old budget.new result }
+{
+    let head = head_at(bytes, table)?;
+    let columns = read_columns(alloc, bytes, head.fields, NESTING_LIMIT, budget)?;
+    let metadata = read_texts(alloc, bytes, head.texts, budget)?;
+    Ok(Schema {
+        columns,
+        metadata,
+        endianness: head.endianness,
+    })
+}
+
+/// The schema at the head of an Arrow stream (Arrow, "Serialization and Interprocess Communication"): with the
+/// continuation marker or, as written before version 0.15, without it; what follows the message is not looked at.
+///
+/// Errs with the rule that the message breaks, and the byte, counted from the message's first (of an `Envelope` from
+/// the stream's first); with `Budget` where the tables and texts to be read, each as often as it is reached, have more than
+/// eight times the message's bytes; and when out of memory. At most 61 levels of columns are read.
+///
+/// ```rust
+/// let refused = read_schema(alloc, &[0xff, 0xff, 0xff, 0xff, 0, 0, 0, 0]);
+/// assert!(rt; matches!(refused, Err(IpcError::Broken(fault)) if fault.rule == Rule::Envelope));
+/// ```
+pub fn read_schema(alloc: Global, stream: &[u8]) -> Result<Schema, IpcError>
+    ensures { Meets (message_in stream.now) (schema_of_message NESTING_LIMIT) result }
+{
+    let message = message_in(stream)?;
+    let table = message_at(message)?;
+    let mut budget = message.len() * 8;
+    read_table(alloc, message, table, &mut budget)
+}
+
+/// The schema of an Arrow file, from its end: the bytes of the file, or as many of its last ones as the footer, its
+/// size and the magic take. Errs as `read_schema`; the byte is counted from the footer's first (of an `Envelope` from the first
+/// that is given).
+pub fn read_file_footer(alloc: Global, end: &[u8]) -> Result<Schema, IpcError>
+    ensures { Meets (footer_in end.now) (schema_of_footer NESTING_LIMIT) result }
+{
+    let footer = footer_in(end)?;
+    let table = footer_at(footer)?;
+    let mut budget = footer.len() * 8;
+    read_table(alloc, footer, table, &mut budget)
+}

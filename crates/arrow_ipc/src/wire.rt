@@ -1,0 +1,154 @@
+//! FlatBuffers: what stands at a position of a message, and where its offsets lead.
+ghost use Rattle.std.specs.Prelude.{◌≡◌, ◌+◌, ◌*◌, ◌≤◌, length, IfOk};
+ghost use Rattle.arrow_ipc.specs.Wire.{u8_at, u16_at, u32_at, ahead, behind, vtable_at, slot_at, target_at, text_at, utf8_at, vector_at};
+ghost use Rattle.arrow_ipc.specs.Fault.{map_ok};
+
+use crate::fault::{Fault, Rule};
+
+/// The byte at a position.
+#[tactic(auto, unfolding(crate::specs::Wire::u8_at))]
+pub(crate) fn u8_at(bytes: &[u8], at: usize) -> Result<u8, Fault>
+    ensures { result ≡ u8_at bytes.now at }
+{
+    match bytes.get(at) {
+        Some(byte) => Ok(*byte),
+        None => Err(Fault::new(Rule::Number, at)),
+    }
+}
+
+/// The number of two bytes at a position.
+#[tactic(auto, unfolding(crate::specs::Wire::u16_at))]
+pub(crate) fn u16_at(bytes: &[u8], at: usize) -> Result<u16, Fault>
+    ensures { result ≡ u16_at bytes.now at }
+{
+    if at % 2 != 0 {
+        return Err(Fault::new(Rule::Number, at));
+    }
+    match bytes.get(at..) {
+        Some([a, b, ..]) => Ok(u16::from_le_bytes([*a, *b])),
+        _ => Err(Fault::new(Rule::Number, at)),
+    }
+}
+
+/// The number of four bytes at a position.
+#[tactic(auto, unfolding(crate::specs::Wire::u32_at))]
+pub(crate) fn u32_at(bytes: &[u8], at: usize) -> Result<u32, Fault>
+    ensures { result ≡ u32_at bytes.now at }
+{
+    if at % 4 != 0 {
+        return Err(Fault::new(Rule::Number, at));
+    }
+    match bytes.get(at..) {
+        Some([a, b, c, d, ..]) => Ok(u32::from_le_bytes([*a, *b, *c, *d])),
+        _ => Err(Fault::new(Rule::Number, at)),
+    }
+}
+
+/// The position so many bytes on, at most the end.
+#[tactic(auto, unfolding(crate::specs::Wire::ahead))]
+pub(crate) fn ahead(rule: Rule, bytes: &[u8], at: usize, by: usize) -> Result<usize, Fault>
+    ensures { result ≡ ahead rule bytes.now at by }
+{
+    if at <= bytes.len() && by <= bytes.len() - at {
+        Ok(at + by)
+    } else {
+        Err(Fault::new(rule, at))
+    }
+}
+
+/// The position so many bytes back.
+#[tactic(auto, unfolding(crate::specs::Wire::behind))]
+fn behind(at: usize, by: usize) -> Result<usize, Fault>
+    ensures { result ≡ behind at by }
+{
+    if by <= at {
+        Ok(at - by)
+    } else {
+        Err(Fault::new(Rule::Vtable, at))
+    }
+}
+
+/// Where the vtable of a table is.
+#[tactic(auto, unfolding(crate::specs::Wire::vtable_at))]
+fn vtable_at(bytes: &[u8], table: usize) -> Result<usize, Fault>
+    ensures { result ≡ vtable_at bytes.now table }
+{
+    let back = u32_at(bytes, table)?;
+    if back < 0x8000_0000 {
+        behind(table, back as usize)
+    } else {
+        ahead(Rule::Vtable, bytes, table, 0x1_0000_0000 - back as usize)
+    }
+}
+
+/// Where a slot of a table is; `None` where the table does not have it.
+#[tactic(auto, unfolding(crate::specs::Wire::slot_at))]
+pub(crate) fn slot_at(bytes: &[u8], table: usize, i: u16) -> Result<Option<usize>, Fault>
+    ensures { result ≡ slot_at bytes.now table i }
+{
+    let vtable = vtable_at(bytes, table)?;
+    let size = u16_at(bytes, vtable)?;
+    let _end = ahead(Rule::Vtable, bytes, vtable, size as usize)?;
+    if size % 2 != 0 {
+        return Err(Fault::new(Rule::Vtable, vtable));
+    }
+    if (size as usize) < 6 + 2 * i as usize {
+        return Ok(None);
+    }
+    let entry = ahead(Rule::Vtable, bytes, vtable, 4 + 2 * i as usize)?;
+    let far = u16_at(bytes, entry)?;
+    if far == 0 {
+        return Ok(None);
+    }
+    let slot = ahead(Rule::Slot, bytes, table, far as usize)?;
+    Ok(Some(slot))
+}
+
+/// Where the offset at a position leads.
+#[tactic(auto, unfolding(crate::specs::Wire::target_at))]
+pub(crate) fn target_at(bytes: &[u8], at: usize) -> Result<usize, Fault>
+    ensures { result ≡ target_at bytes.now at }
+{
+    let far = u32_at(bytes, at)?;
+    if far == 0 {
+        return Err(Fault::new(Rule::Offset, at));
+    }
+    ahead(Rule::Offset, bytes, at, far as usize)
+}
+
+/// The bytes of a text.
+#[tactic(auto, unfolding(crate::specs::Wire::text_at, crate::specs::Wire::ahead))]
+fn text_at(bytes: &[u8], at: usize) -> Result<&[u8], Fault>
+    ensures { map_ok (λ s. s.now) result ≡ text_at bytes.now at }
+{
+    let count = u32_at(bytes, at)?;
+    let start = ahead(Rule::Text, bytes, at, 4)?;
+    let end = ahead(Rule::Text, bytes, start, count as usize)?;
+    match bytes.get(end..) {
+        Some([0, ..]) => Ok(&bytes[start..end]),
+        _ => Err(Fault::new(Rule::Text, at)),
+    }
+}
+
+/// A text in UTF-8.
+#[tactic(auto, using(crate::proofs::Texts::utf8_is, crate::proofs::Texts::utf8_is_not), unfolding(crate::specs::Wire::utf8_at))]
+pub(crate) fn utf8_at(bytes: &[u8], at: usize) -> Result<&str, Fault>
+    ensures { map_ok (λ s. s.now) result ≡ utf8_at bytes.now at }
+{
+    match std::str::from_utf8(text_at(bytes, at)?) {
+        Ok(text) => Ok(text),
+        Err(_) => Err(Fault::new(Rule::Utf8, at)),
+    }
+}
+
+/// Where the elements of a vector begin, of four bytes each, and how many they are.
+#[tactic(auto, unfolding(crate::specs::Wire::vector_at, crate::specs::Wire::ahead))]
+pub(crate) fn vector_at(bytes: &[u8], at: usize) -> Result<(usize, usize), Fault>
+    ensures is { result ≡ vector_at bytes.now at }
+    ensures within { IfOk result (λ p. p.0 + 4 * p.1 ≤ length bytes.now) }
+{
+    let count = u32_at(bytes, at)?;
+    let start = ahead(Rule::Vector, bytes, at, 4)?;
+    let _end = ahead(Rule::Vector, bytes, start, 4 * count as usize)?;
+    Ok((start, count as usize))
+}

@@ -1,0 +1,157 @@
+//! Samples of Arrow's IPC format: read, and read again with each byte turned and at each length.
+//!
+//! A sample in `data/samples.rows` is two lines: `stream` or `file`, a space and its bytes in hexadecimal digits; and what it
+//! holds, the lines of its columns (`docs/FORMAT.md`, 2.1) with ` | ` between them, or `refused` and the rule that it breaks. A column whose
+//! type no line has stands as one of nulls, with the type's notation behind it.
+#![tactic(auto)]
+
+use arrow_columns::{Column, ColumnType};
+use arrow_ipc::{IpcError, Schema, read_file_footer, read_schema};
+use arrow_values::{DataType, Field};
+use field_lines::field_line;
+use std::alloc::{AllocError, Global};
+use std::process::ExitCode;
+use std::{fs, io};
+
+/// The schema in a sample of that form.
+fn read(alloc: Global, form: &str, bytes: &[u8]) -> Result<Schema, IpcError> {
+    match form {
+        "file" => read_file_footer(alloc, bytes),
+        _ => read_schema(alloc, bytes),
+    }
+}
+
+/// The line of a column.
+fn column_line(alloc: Global, column: Column) -> Result<String, AllocError> {
+    let Column {
+        name,
+        nullable,
+        data_type,
+        metadata,
+    } = column;
+    match data_type {
+        ColumnType::Data(data_type) => {
+            let field = Field::from_parts(name, data_type, nullable, metadata);
+            field_line(alloc, &field)
+        }
+        ColumnType::Other(text) => {
+            let field = Field::from_parts(name, DataType::Null, nullable, metadata);
+            let line = field_line(alloc, &field)?;
+            format!(in alloc; "{line} {text}")
+        }
+    }
+}
+
+/// What a sample holds.
+fn said(alloc: Global, form: &str, bytes: &[u8]) -> Result<String, AllocError> {
+    match read(alloc, form, bytes) {
+        Ok(schema) => {
+            let mut lines = Vec::new(alloc);
+            for column in schema.columns {
+                lines.push(column_line(alloc, column)?)?;
+            }
+            lines.join(alloc, " | ")
+        }
+        Err(IpcError::Broken(fault)) => {
+            let rule = fault.rule;
+            format!(in alloc; "refused {rule:?}")
+        }
+        Err(IpcError::Budget(_)) => String::from_str(alloc, "refused Budget"),
+        Err(IpcError::OutOfMemory) => Err(AllocError),
+    }
+}
+
+/// 1 where a reading ends with an answer or a named refusal.
+fn ends(alloc: Global, form: &str, bytes: &[u8]) -> u64 {
+    match read(alloc, form, bytes) {
+        Err(IpcError::OutOfMemory) => 0,
+        _ => 1,
+    }
+}
+
+/// Turns bits of a byte.
+fn turn(bytes: &mut [u8], i: usize, bits: u8) {
+    if let Some(byte) = bytes.get_mut(i) {
+        *byte ^= bits;
+    }
+}
+
+/// How many readings of the sample end with an answer or a named refusal: each byte turned in two ways, and each length.
+fn changed(alloc: Global, form: &str, bytes: &mut [u8]) -> u64 {
+    let mut ended = 0u64;
+    for i in 0..bytes.len() {
+        for bits in [0xff, 0x01] {
+            turn(bytes, i, bits);
+            ended = ended.saturating_add(ends(alloc, form, bytes));
+            turn(bytes, i, bits);
+        }
+        if let Some(cut) = bytes.get(..i) {
+            ended = ended.saturating_add(ends(alloc, form, cut));
+        }
+    }
+    ended
+}
+
+/// What came of the samples.
+#[derive(Drop)]
+struct Tally {
+    right: u64,
+    wrong: u64,
+    ended: u64,
+}
+
+/// Reads a sample and compares, and then reads it changed.
+fn judge(rt: &HostRuntime, tally: &mut Tally, sample: &str, answer: &str) -> io::Result<()> {
+    let alloc = rt.alloc();
+    let Some((form, digits)) = sample.split_once(' ') else {
+        tally.wrong = tally.wrong.saturating_add(1);
+        return Ok(());
+    };
+    let mut bytes = hex::decode(alloc, digits).unwrap_or(Vec::new(alloc));
+    let found = said(alloc, form, bytes.as_slice())?;
+    if found.as_str() == answer {
+        tally.right = tally.right.saturating_add(1);
+    } else {
+        tally.wrong = tally.wrong.saturating_add(1);
+        println!(rt; "{sample}\nwanted {answer}\nfound {found}")?;
+    }
+    let ended = changed(alloc, form, bytes.as_mut_slice());
+    tally.ended = tally.ended.saturating_add(ended);
+    Ok(())
+}
+
+fn run(rt: &HostRuntime) -> io::Result<bool> {
+    let text = fs::read_to_string(rt, "samples.rows")?;
+    let mut tally = Tally {
+        right: 0,
+        wrong: 0,
+        ended: 0,
+    };
+    let mut sample = None;
+    for line in text.as_str().lines() {
+        if line.starts_with('#') {
+            continue;
+        }
+        match sample {
+            None => sample = Some(line),
+            Some(first) => {
+                judge(rt, &mut tally, first, line)?;
+                sample = None;
+            }
+        }
+    }
+    println!(rt; "{} readings of changed samples ended", tally.ended)?;
+    println!(rt; "{} passed, {} failed", tally.right, tally.wrong)?;
+    Ok(tally.wrong == 0 && tally.right > 0)
+}
+
+fn main(rt: HostRuntime) -> ExitCode {
+    match run(&rt) {
+        Ok(true) => ExitCode::from(0),
+        Ok(false) => ExitCode::from(1),
+        Err(error) => {
+            let _ = println!(rt; "{error}");
+            ExitCode::from(1)
+        }
+    }
+}
