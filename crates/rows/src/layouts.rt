@@ -3,6 +3,7 @@
 mod built;
 mod changes;
 mod errors;
+mod found;
 mod read;
 mod summaries;
 mod tables;
@@ -24,6 +25,7 @@ pub fn answer(it: &mut Asked<'_>) -> Result<(), AllocError> {
         "layout" | "coord_data_type" | "mixed_data_type" => built::answer(it),
         "spelled" | "printed" | "equal" | "UnionFields::try_new" => values::answer(it),
         "kind" | "parse_kind" | "parse_native" => read::named(it),
+        "find_fault" => found::found(it),
         "alike" => read::likeness(it),
         _ => tables_or_read(it),
     }

@@ -24,6 +24,7 @@
 mod asked;
 mod compared;
 mod faults;
+mod footers;
 mod layouts;
 mod lines;
 mod memory;
@@ -41,7 +42,7 @@ use std::process::ExitCode;
 use std::{env, fs, io};
 
 /// The layers.
-const LAYERS: [&str; 4] = ["layouts", "lines", "metadata", "schema"];
+const LAYERS: [&str; 5] = ["footers", "layouts", "lines", "metadata", "schema"];
 
 /// Whether the program's argument is `faults`.
 fn is_faults(rt: &HostRuntime) -> io::Result<bool> {

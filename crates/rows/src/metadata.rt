@@ -30,7 +30,6 @@ fn read_or_compare(it: &mut Asked<'_>) -> Result<(), AllocError> {
         "deserialize" => texts::deserialized(it, Some(it.text)),
         "of_no_text" => texts::deserialized(it, None),
         "from_value" => return texts::from_value(it),
-        "in_one_scratch" => texts::in_one_scratch(it),
         "Metadata::same_written" => return texts::same_written(it),
         "equal" => return equal::<Metadata>(it),
         "distinct" => return distinct::<Metadata>(it),

@@ -7,7 +7,7 @@
 use crate::asked::Asked;
 use crate::repeated::expanded;
 use crate::said::{Said, say};
-use crate::{faults, layouts, lines, metadata, schema};
+use crate::{faults, footers, layouts, lines, metadata, schema};
 use std::alloc::{AllocError, Global};
 
 /// How many bytes of a text are printed of a wrong row.
@@ -95,6 +95,7 @@ fn answer(it: &mut Asked<'_>, layer: &str) -> Result<(), AllocError> {
     match layer {
         "lines" => lines::answer(it),
         _ if it.text.len() < it.bytes.len() => Err(AllocError),
+        "footers" => footers::answer(it),
         "layouts" => layouts::answer(it),
         "metadata" => metadata::answer(it),
         _ => schema::answer(it),

@@ -5,7 +5,6 @@ use crate::said::{Said, say};
 use crate::texts::halves;
 use arrow_values::ArrowError;
 use geoarrow_meta::{Crs, Metadata};
-use json::Scratch;
 use serde_json::Value;
 use std::alloc::{AllocError, Global};
 
@@ -115,18 +114,6 @@ pub fn from_value(it: &mut Asked<'_>) -> Result<(), AllocError> {
         Err(error) => it.said.geoarrow_refusal(&error),
     }
     Ok(())
-}
-
-/// Says the parts of the metadata of the texts with ` ; ` between them, which are read in one scratch, or what a refusal prints.
-pub fn in_one_scratch(it: &mut Asked<'_>) {
-    let mut scratch = Scratch::new(it.alloc);
-    for (at, text) in it.text.split(" ; ").enumerate() {
-        if at > 0 {
-            it.said.push(" ; ");
-        }
-        let read = Metadata::deserialize_with_scratch(it.alloc, Some(text), &mut scratch);
-        say_read(&mut it.said, &read);
-    }
 }
 
 impl Compared for Metadata {

@@ -6,7 +6,6 @@ use crate::schema::words::{say_metadata, say_type};
 use arrow_values::{ArrowError, Field};
 use geoarrow_columns::{Column, check_columns};
 use geoarrow_schema::Metadata;
-use json::Scratch;
 use std::alloc::{AllocError, Global};
 use std::mem::forget;
 
@@ -65,26 +64,22 @@ fn say_read(said: &mut Said, alloc: Global, read: &Result<Metadata, ArrowError>)
     }
 }
 
-/// Says the metadata of a field, whatever its name, as three calls read it: once where they are the same.
+/// Says the metadata of a field, whatever its name, as two calls read it: once where they are the same.
 pub fn metadata(it: &mut Asked<'_>) -> Result<(), AllocError> {
     let alloc = it.alloc;
     let field = field_of(alloc, it.text)?;
-    let mut scratch = Scratch::new(alloc);
     let read = Metadata::try_from_field(alloc, &field);
     say_read(&mut it.said, alloc, &read);
-    let mut other = Said::new(alloc);
-    let read = Metadata::try_from_field_with_scratch(alloc, &field, &mut scratch);
-    say_read(&mut other, alloc, &read);
     let shared = Metadata::deserialize_shared(alloc, field.extension_type_metadata());
-    let mut third = Said::new(alloc);
+    let mut other = Said::new(alloc);
     match &shared {
-        Ok(shared) => say_metadata(&mut third, alloc, shared),
-        Err(error) => third.refusal(error),
+        Ok(shared) => say_metadata(&mut other, alloc, shared),
+        Err(error) => other.refusal(error),
     }
-    if other.is_lacking || third.is_lacking {
+    if other.is_lacking {
         it.said.fail();
-    } else if other.text != it.said.text || third.text != it.said.text {
-        it.said.push(", otherwise in a scratch or shared");
+    } else if other.text != it.said.text {
+        it.said.push(", otherwise shared");
     }
     Ok(())
 }
