@@ -1,4 +1,4 @@
--- The values of the three keys of a metadata's object, while it is read. Only private contracts cite it.
+-- The values of the three keys of a metadata's object, whatever numbers its CRS holds.
 use Rattle.std.specs.Prelude.{◌≡◌, codes, Option, None, Some, IsSome, option_map}
 use Rattle.serde_json.specs.Data.{Data, string}
 use Rattle.serde_json.specs.Find.{as_object}

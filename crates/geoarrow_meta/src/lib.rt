@@ -12,5 +12,6 @@ mod walks;
 
 pub use crs::{Crs, CrsType};
 pub use edges::Edges;
-pub use metadata::Metadata;
+pub use metadata::{KeyValues, Metadata, read_values};
 pub use transform::{CrsTransform, DefaultCrsTransform};
+pub use walks::holds_whole_numbers;

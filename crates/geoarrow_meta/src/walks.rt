@@ -8,10 +8,14 @@ ghost use Rattle.geoarrow_meta.specs.Whole.{is_integer, is_whole, items_are_whol
 
 use serde_json::{Map, Number, Value};
 
-// Whether each number in the value, at any depth, is one that `serde_json` holds as whole: an integer of 64 bits,
-// written with no fraction and no exponent, other than `-0`.
+/// Whether each number in a JSON value, at any depth, is one that `serde_json` holds as whole: an integer of 64 bits,
+/// written with no fraction and no exponent, other than `-0`. A CRS must hold no other number, to be read into a `Metadata`.
+///
+/// ```rust
+/// assert!(rt; holds_whole_numbers(&Value::Null));
+/// ```
 #[cycle(whole)]
-pub(crate) fn holds_whole_numbers(value: &Value) -> bool
+pub fn holds_whole_numbers(value: &Value) -> bool
     ensures no_float { result ≡ not (has_float (view value.now)) }
     ensures integers { result ≡ is_whole (view value.now) }
 {

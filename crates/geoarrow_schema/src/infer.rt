@@ -72,8 +72,13 @@ fn inference_error(alloc: Global, field: &Field) -> GeoArrowError
     }
 }
 
-/// The kind that a data type is taken for.
-pub(crate) fn infer_kind(data_type: &DataType) -> Option<Kind>
+/// The kind that `from_arrow_field` infers from a data type (docs/FORMAT.md, 1.7), if it infers one. Allocates nothing.
+///
+/// ```rust
+/// assert_eq!(rt; infer_kind(&DataType::LargeUtf8), Some(Kind::Wkt(Width::Large)));
+/// assert_eq!(rt; infer_kind(&DataType::Boolean), None);
+/// ```
+pub fn infer_kind(data_type: &DataType) -> Option<Kind>
     ensures { AnswersInferred (tree data_type.now) result }
 {
     match infer_point(data_type) {

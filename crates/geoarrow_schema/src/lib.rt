@@ -38,4 +38,5 @@ pub use geoarrow_multi::{
 pub use geoarrow_native::{
     BoxType, GeometryType, LineStringType, PointType, PolygonType, RectType, WkbType, WktType,
 };
+pub use infer::infer_kind;
 pub use types::GeoArrowType;

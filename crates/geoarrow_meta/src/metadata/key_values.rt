@@ -10,13 +10,16 @@ use crate::edges::Edges;
 use serde_json::Value;
 use std::alloc::{AllocError, Global};
 
-// The values of the three keys, null as absent. Those of a CRS type and of edges are what the text there denotes; none
-// where it is another value. That of a CRS is a JSON value, or a text that is not copied yet.
+/// The values of the three keys of a metadata's JSON object (GeoArrow, "Extension metadata"). A value that is null or missing is
+/// `None` for a CRS, and `Some(None)` for a CRS type and for edges, which are `None` where the value is no text of the format.
 #[derive(Drop)]
-pub(crate) struct KeyValues<V> {
-    pub(crate) crs: Option<V>,
-    pub(crate) crs_type: Option<Option<CrsType>>,
-    pub(crate) edges: Option<Option<Edges>>,
+pub struct KeyValues<V> {
+    /// The value of `crs`: a JSON value, or a text that is not copied yet.
+    pub crs: Option<V>,
+    /// The value of `crs_type`.
+    pub crs_type: Option<Option<CrsType>>,
+    /// The value of `edges`.
+    pub edges: Option<Option<Edges>>,
 }
 
 // A value that should be a text, null as absent.

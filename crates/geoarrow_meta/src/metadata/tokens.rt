@@ -14,8 +14,18 @@ use serde_json::Value;
 use std::alloc::Global;
 use value_tokens::{MAX_DEPTH, Refusal, open_object, read_value, skip_rest, skip_value};
 
-// The values of the three keys of the object that the text is, and none where it is none.
-pub(crate) fn read_values(alloc: Global, text: &str) -> Result<Option<KeyValues<Value>>, Refusal>
+/// The values of the three keys of a metadata text's JSON object (GeoArrow, "Extension metadata"), whatever numbers its CRS holds;
+/// `None` where the text is JSON but no object. Errs with `Refusal::Text` exactly where the text is not JSON, as `serde_json` reads
+/// it; otherwise only when out of memory.
+///
+/// ```rust
+/// let found = read_values(alloc, r#"{"crs":{"epoch":2010.5}}"#);
+/// let Ok(Some(values)) = found else { return Ok(()); };
+/// let Some(crs) = values.crs else { return Ok(()); };
+/// assert!(rt; !holds_whole_numbers(&crs));
+/// assert_eq!(rt; values.edges, Some(None));
+/// ```
+pub fn read_values(alloc: Global, text: &str) -> Result<Option<KeyValues<Value>>, Refusal>
     ensures ok { IfOk result (λ o. (d : Data) × (read text.now ≡ Some d) × Finds o d) }
     ensures text { result ≡ Err Refusal.Text → read text.now ≡ None }
 {
