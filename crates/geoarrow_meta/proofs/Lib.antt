@@ -1,6 +1,6 @@
 pub mod Equality
 pub mod Order
 pub mod ReadBack
-pub mod KeyValues
+pub mod KeyedValues
 pub mod Stands
 mod PlainTexts

@@ -1,5 +1,5 @@
 use Rattle.geoarrow_meta.specs.Read.{crs_type_text}
-use Rattle.geoarrow_meta.proofs.KeyValues.{no_name}
+use Rattle.geoarrow_meta.proofs.KeyedValues.{no_name}
 use Rattle.geoarrow_meta.proofs.metadata.key_values.crs_type_of.Goals as goal
 
 pub returns-in-Other : goal.returns-in-Other

@@ -10,7 +10,7 @@ use Rattle.geoarrow_meta.specs.declared.edges.Edges.{Edges}
 use Rattle.geoarrow_meta.specs.declared.crs.crs_type.CrsType.{CrsType}
 use Rattle.geoarrow_meta.specs.Read.{crs_type_data, edges_data, present}
 use Rattle.geoarrow_meta.specs.KeyValues.{IsNamed, AreValuesOf}
-use Rattle.geoarrow_meta.proofs.KeyValues.{AreValuesSoFar, values_go_on, crs_put, crs_type_put, edges_put, other_put}
+use Rattle.geoarrow_meta.proofs.KeyedValues.{AreValuesSoFar, values_go_on, crs_put, crs_type_put, edges_put, other_put}
 use Rattle.geoarrow_meta.proofs.metadata.plain.take_members.Goals as goal
 use Rattle.geoarrow_meta.proofs.metadata.plain.take_members.Goals.{In-Some}
 

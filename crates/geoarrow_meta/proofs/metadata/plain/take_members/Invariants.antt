@@ -1,6 +1,6 @@
 use Rattle.std.proofs.Common.{length, option_map}
 use Rattle.serde_json.specs.Data.{string}
-use Rattle.geoarrow_meta.proofs.KeyValues.{AreValuesSoFar}
+use Rattle.geoarrow_meta.proofs.KeyedValues.{AreValuesSoFar}
 use Rattle.geoarrow_meta.proofs.metadata.plain.take_members.Given as goal
 
 abbrev pub invariant-values : goal.invariant-values

@@ -3,7 +3,7 @@ use Rattle.serde_json.specs.Data.{no_members}
 use Rattle.value_tokens.specs.Next.{next_value}
 use Rattle.value_tokens.specs.Turns.{after_some, key_refused, members_over}
 use Rattle.geoarrow_meta.specs.Read.{present}
-use Rattle.geoarrow_meta.proofs.KeyValues.{values_refused, values_go_on, crs_put, crs_type_put, edges_put, other_put}
+use Rattle.geoarrow_meta.proofs.KeyedValues.{values_refused, values_go_on, crs_put, crs_type_put, edges_put, other_put}
 use Rattle.geoarrow_meta.proofs.metadata.tokens.take_members.Goals as goal
 
 pub values-init : goal.values-init

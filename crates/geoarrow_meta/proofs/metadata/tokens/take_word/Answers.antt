@@ -4,7 +4,7 @@ use Rattle.json.specs.Reads.{token_of}
 use Rattle.value_tokens.specs.Next.{next_value}
 use Rattle.value_tokens.specs.Turns.{no_value}
 use Rattle.value_tokens.specs.Beginnings.{passed, next_string, next_null, no_text, no_null}
-use Rattle.geoarrow_meta.proofs.KeyValues.{no_word}
+use Rattle.geoarrow_meta.proofs.KeyedValues.{no_word}
 use Rattle.geoarrow_meta.proofs.metadata.tokens.take_word.Goals as goal
 
 pub returns-in_err-token-clause-text : goal.returns-in_err-token-clause-text
