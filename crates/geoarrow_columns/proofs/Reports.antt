@@ -46,7 +46,7 @@ inference_error f e rich unnamed (inr (read, none, inl refused)) = absurd (unnam
 inference_error f e rich unnamed (inr (read, none, inr refused)) = (none, refused.1)
 
 pub other : (f : FieldTree) (e : GeoArrowError) → ¬ IsGeoMemory e → ¬ HasGeoArrowName f → IsInferenceRefusal f e → IsVariantOf e InvalidGeoArrow → IsOther f
-other f (Invalid s) rich unnamed how is = let refused = inference_error f (Invalid s) rich unnamed how in (unnamed, refused.0, refused.1)
+other f (Invalid s) rich unnamed how is = let refused = inference_error f (Invalid s) rich unnamed how in (unnamed, refused.0, refused.1.0)
 other f (OfArrow a) rich unnamed how is = absurd cc
 other f e rich unnamed how is = absurd (inference_error f e rich unnamed how).1
 

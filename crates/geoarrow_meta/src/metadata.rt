@@ -27,15 +27,14 @@ use crate::error::{crs_fault, external_fault, into_external, unread};
 use crate::walks::holds_whole_numbers;
 use arrow_values::{ArrowError, Field, GeoArrowResult};
 use json::Writer;
+pub use key_values::KeyValues;
 use key_values::values_of;
 use print::print_parts;
 use serde_json::Value;
 use std::alloc::{AllocError, Global};
 use std::sync::Arc;
-use write::written_value;
-
-pub use key_values::KeyValues;
 pub use tokens::read_values;
+use write::written_value;
 
 /// The metadata of an extension type (GeoArrow, "Extension types", "Extension metadata"): a CRS, and how edges run. The
 /// default has the default CRS and no edges. Two are equal, and then hash equally, if both parts are equal.

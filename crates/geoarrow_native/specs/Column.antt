@@ -1,12 +1,14 @@
 -- Which kind and metadata a field is read as, and which field is written for them.
 use Rattle.std.specs.Prelude.{◌≡◌, ◌⊎◌, [], Bool, true, Some}
-use Rattle.arrow_values.specs.Tree.{Text, FieldTree, field_tree}
+use Rattle.arrow_values.specs.Tree.{Text, Tree, FieldTree, field_tree}
 use Rattle.arrow_values.specs.Texts.{extension_name, extension_metadata, set_extension}
 use Rattle.arrow_values.specs.Errors.{is_schema}
 use Rattle.arrow_values.specs.declared.error.ArrowError.{ArrowError}
 use Rattle.geoarrow_layout.specs.declared.encodings.Kind.{Kind}
 use Rattle.geoarrow_layout.specs.declared.fault.LayoutFault.{LayoutFault}
+use Rattle.geoarrow_layout.specs.declared.names.ExtensionName.{ExtensionName}
 use Rattle.geoarrow_layout.specs.Faults.{IsArrowFormOf}
+use Rattle.geoarrow_layout.specs.FaultAt.{HasFault, FaultAt}
 use Rattle.geoarrow_layout.specs.Kinds.{name_of}
 use Rattle.geoarrow_layout.specs.Shapes.{Accepted}
 use Rattle.geoarrow_layout.specs.Layouts.{layout}
@@ -27,9 +29,9 @@ ReadsAs f k m = IsColumn f k × TextStandsFor (extension_metadata f) m
 abbrev pub written_field : Text → Bool → Kind → Metadata → FieldTree
 written_field name nullable k m = field_tree name (layout k) nullable (set_extension (name_of k) (printed m) [])
 
--- the error is that of some fault of a data type
-abbrev pub IsLayoutRefusal : ArrowError → Type 0
-IsLayoutRefusal e = (fault : LayoutFault) × IsArrowFormOf fault e
+-- the error is that of the fault that the data type has under the extension name
+abbrev pub IsLayoutRefusal : ExtensionName → Tree → ArrowError → Type 0
+IsLayoutRefusal n t e = (fault : LayoutFault) × HasFault (FaultAt n t) fault × IsArrowFormOf fault e
 
 -- the error with which a type refuses a data type: how its encoding refuses one that it accepts as none; or a `SchemaError`, if
 -- it accepts it as another

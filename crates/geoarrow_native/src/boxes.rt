@@ -82,7 +82,6 @@ impl ColumnEncoding for Rect {
     ghost use Rattle.geoarrow_layout.specs.declared.names.ExtensionName.TheVariants as names;
     ghost use Rattle.geoarrow_layout.specs.Shapes.{BoxShape};
     ghost use Rattle.geoarrow_layout.specs.OneShape.{box_shape_same};
-    ghost use Rattle.geoarrow_native.specs.Column.{IsLayoutRefusal};
 
     const NAME: &'static str = "geoarrow.box";
 
@@ -91,8 +90,6 @@ impl ColumnEncoding for Rect {
     ghost Accepts = { λ t e. BoxShape t e.dimension };
 
     ghost Agrees = { λ a b. a.dimension ≡ b.dimension };
-
-    ghost RefusesTree = { λ _ r. IsLayoutRefusal r };
 
     ghost accepts_one = { λ t a b h k. box_shape_same t a.dimension b.dimension h k };
 

@@ -21,9 +21,9 @@ pub trait ColumnEncoding: Copy {
     ghost use Rattle.arrow_values.specs.Tree.{Tree};
     ghost use Rattle.arrow_values.specs.View.{tree};
     ghost use Rattle.arrow_values.specs.Errors.{IsMemory};
-    ghost use Rattle.arrow_values.specs.declared.error.ArrowError.{ArrowError};
     ghost use Rattle.geoarrow_layout.specs.declared.names.ExtensionName.{ExtensionName};
     ghost use Rattle.geoarrow_layout.specs.Kinds.{name_text};
+    ghost use Rattle.geoarrow_native.specs.Column.{IsLayoutRefusal};
 
     /// The extension name.
     const NAME: &'static str;
@@ -37,18 +37,16 @@ pub trait ColumnEncoding: Copy {
     // Two are of one coordinate type and one dimension, as far as they have them.
     ghost Agrees: { Self → Self → Type 0 };
 
-    // How a tree is refused that is accepted as none, out-of-memory aside.
-    ghost RefusesTree: { Tree → ArrowError → Type 0 };
-
     /// `NAME`.
     fn encoding_name() -> &'static str
         ensures { result.now ≡ name_text name };
 
-    /// The encoding as which a data type is accepted. Errs where it is accepted as none.
+    /// The encoding as which a data type is accepted. Errs where it is accepted as none, with the error of the fault that
+    /// the data type has under the extension name.
     fn read(alloc: Global, data_type: &DataType) -> Result<Self, ArrowError>
         ensures exact { MatchResult result (Accepts (tree data_type.now))
             (λ _. (e : Self) → Accepts (tree data_type.now) e → ⊥) }
-        ensures refusal { IfErr result (λ e. IsMemory e ⊎ RefusesTree (tree data_type.now) e) };
+        ensures refusal { IfErr result (λ e. IsMemory e ⊎ IsLayoutRefusal name (tree data_type.now) e) };
 
     /// What is unexpected in another; `None` if they are of one coordinate type and one dimension.
     fn difference(&self, other: &Self) -> Option<&'static str>
@@ -160,7 +158,7 @@ impl<E: ColumnEncoding> ExtensionType for ColumnType<E> {
     ghost use Rattle.geoarrow_meta.specs.Read.{TextStandsFor, TextRefusedAs};
     ghost use Rattle.geoarrow_meta.specs.declared.metadata.Metadata.{Metadata as MetadataValue};
     ghost use Rattle.geoarrow_meta.specs.Laws.{text_stands_for_one};
-    ghost use Rattle.geoarrow_native.specs.Column.{RefusesOther};
+    ghost use Rattle.geoarrow_native.specs.Column.{IsLayoutRefusal, RefusesOther};
 
     const NAME: &'static str = E::NAME;
 
@@ -184,9 +182,9 @@ impl<E: ColumnEncoding> ExtensionType for ColumnType<E> {
 
     ghost RefusesText = { TextRefusedAs };
 
-    ghost RefusesTree = { E.RefusesTree };
+    ghost RefusesTree = { IsLayoutRefusal E.name };
 
-    ghost RefusesUse = { λ _ t r. RefusesOther (E.Accepts t) (E.RefusesTree t) r };
+    ghost RefusesUse = { λ _ t r. RefusesOther (E.Accepts t) (IsLayoutRefusal E.name t) r };
 
     ghost accepts_one = { λ t a b h k. E.accepts_one t a.encoding b.encoding h k };
 

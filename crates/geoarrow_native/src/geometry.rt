@@ -82,7 +82,6 @@ impl ColumnEncoding for Geometry {
     ghost use Rattle.geoarrow_layout.specs.declared.names.ExtensionName.TheVariants as names;
     ghost use Rattle.geoarrow_layout.specs.Shapes as shapes;
     ghost use Rattle.geoarrow_layout.specs.OneShape.{geometry_same};
-    ghost use Rattle.geoarrow_native.specs.Column.{IsLayoutRefusal};
 
     const NAME: &'static str = "geoarrow.geometry";
 
@@ -91,8 +90,6 @@ impl ColumnEncoding for Geometry {
     ghost Accepts = { λ t e. shapes.Geometry t e.coord_type };
 
     ghost Agrees = { λ a b. a.coord_type ≡ b.coord_type };
-
-    ghost RefusesTree = { λ _ r. IsLayoutRefusal r };
 
     ghost accepts_one = { λ t a b h k. geometry_same t a.coord_type b.coord_type h k };
 

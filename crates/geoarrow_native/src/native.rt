@@ -105,7 +105,6 @@ impl<S: NativeShape> ColumnEncoding for Native<S> {
     ghost use Rattle.geoarrow_layout.specs.Shapes.{Native as IsOfKind};
     ghost use Rattle.geoarrow_layout.specs.OneShape.{any_native_same};
     ghost use Rattle.geoarrow_native.specs.Agree.{native_along};
-    ghost use Rattle.geoarrow_native.specs.Column.{IsLayoutRefusal};
 
     const NAME: &'static str = S::NAME;
 
@@ -114,8 +113,6 @@ impl<S: NativeShape> ColumnEncoding for Native<S> {
     ghost Accepts = { λ t e. IsOfKind t S.KIND e.coord_type e.dimension };
 
     ghost Agrees = { λ a b. (a.coord_type ≡ b.coord_type) × (a.dimension ≡ b.dimension) };
-
-    ghost RefusesTree = { λ _ r. IsLayoutRefusal r };
 
     ghost accepts_one = { λ t a b h k. any_native_same S.KIND t a.coord_type b.coord_type a.dimension b.dimension h k };
 

@@ -14,13 +14,14 @@ use std::sync::Arc;
 
 /// How geometries are serialized: the parameter of `Serialized`. Each is an empty struct.
 pub trait Encoding {
-    ghost use Rattle.std.specs.Prelude.{◌≡◌};
+    ghost use Rattle.std.specs.Prelude.{◌≡◌, IfErr};
     ghost use Rattle.arrow_values.specs.Tree.{Tree};
     ghost use Rattle.arrow_values.specs.View.{tree};
     ghost use Rattle.geoarrow_layout.specs.declared.encodings.Width.{Width};
     ghost use Rattle.geoarrow_layout.specs.declared.names.ExtensionName.{ExtensionName};
     ghost use Rattle.geoarrow_layout.specs.Kinds.{name_text};
     ghost use Rattle.geoarrow_layout.specs.Shapes.{AnswersOne};
+    ghost use Rattle.geoarrow_layout.specs.FaultAt.{HasFault, FaultAt};
 
     /// The extension name.
     const NAME: &'static str;
@@ -38,9 +39,11 @@ pub trait Encoding {
     fn encoding_name() -> &'static str
         ensures { result.now ≡ name_text name };
 
-    /// The width in which a data type holds geometries in this encoding. Errs where it holds none.
+    /// The width in which a data type holds geometries in this encoding. Errs where it holds none, with the fault that the
+    /// data type has under the extension name.
     fn parse(data_type: &DataType) -> Result<Width, LayoutFault>
-        ensures { AnswersOne result (λ w. IsStored w (tree data_type.now)) };
+        ensures exact { AnswersOne result (λ w. IsStored w (tree data_type.now)) }
+        ensures fault { IfErr result (HasFault (FaultAt name (tree data_type.now))) };
 }
 
 /// Well-known binary.
@@ -156,9 +159,6 @@ impl<E: Encoding> fmt::Debug for ColumnType<Serialized<E>> {
 
 impl<E: Encoding> ColumnEncoding for Serialized<E> {
     ghost use Rattle.std.specs.Prelude.{⊤};
-    ghost use Rattle.geoarrow_layout.specs.Faults.{fault_text};
-    ghost use Rattle.geoarrow_layout.specs.declared.fault.LayoutFault.TheVariants.{UnexpectedType};
-    ghost use Rattle.arrow_values.specs.Errors.{IsSchemaOf};
     ghost use Rattle.geoarrow_native.specs.Stored.{InSomeWidth};
 
     const NAME: &'static str = E::NAME;
@@ -168,8 +168,6 @@ impl<E: Encoding> ColumnEncoding for Serialized<E> {
     ghost Accepts = { λ t _. InSomeWidth E.IsStored t };
 
     ghost Agrees = { λ _ _. ⊤ };
-
-    ghost RefusesTree = { λ _ r. IsSchemaOf (fault_text UnexpectedType) r };
 
     ghost accepts_one = { λ t a b h k. tt };
 
@@ -186,7 +184,7 @@ impl<E: Encoding> ColumnEncoding for Serialized<E> {
             Ok(_) => Ok(Serialized {
                 encoding: PhantomData,
             }),
-            Err(_) => Err(ArrowError::schema_error(alloc, "unexpected data type")),
+            Err(fault) => Err(fault.into_arrow_error(alloc)),
         }
     }
 

@@ -28,7 +28,7 @@ use Rattle.geoarrow_schema.specs.declared.types.GeoArrowType.{GeoArrowType}
 use Rattle.geoarrow_schema.specs.Types.{kind_of, metadata_of, meta_of, SameType}
 use Rattle.geoarrow_schema.specs.Reads.{HasGeoArrowName, Reads, ReadsAlone}
 use Rattle.geoarrow_schema.specs.Refusals.{IsRefusal}
-use Rattle.geoarrow_schema.specs.Infers.{InferredAs, InfersAs, Infers, ReadsOrInfers, InfersAlone, ReadsOrInfersAlone, InfersNone, UninferredAs, IsInference, AnswersInferred, IsStored, SerializedAs}
+use Rattle.geoarrow_schema.specs.Infers.{InferredAs, InfersAs, Infers, ReadsOrInfers, InfersAlone, ReadsOrInfersAlone, InfersNone, uninferred_text, UninferredAs, IsInference, AnswersInferred, IsStored, SerializedAs}
 use Rattle.geoarrow_schema.proofs.Reading.{read_has_name, none_unnamed}
 
 -- no tree is both bytes and text
@@ -104,10 +104,10 @@ unfolding InfersAs
 text_error f a (inl memory) refused = inl (ap Arrow memory)
 text_error f a (inr none) refused = inr ((λ k m h. none m h.1), (none, refused))
 
-pub tree_error : (f : FieldTree) (text : Text) (e : GeoArrowError) (m : Metadata) → TextStandsFor (extension_metadata f) m → InfersNone f → IsGeoMemory e ⊎ IsInvalidOf text e → IsUninferred f e
-tree_error f text e m stands none (inl memory) = inl memory
-tree_error f text (InvalidGeoArrow s) m stands none (inr is) = inr (none, (m, stands))
-tree_error f text e m stands none (inr is) = absurd is
+pub tree_error : (f : FieldTree) (text : Text) (e : GeoArrowError) (m : Metadata) → TextStandsFor (extension_metadata f) m → ((k : Kind) → ¬ InferredAs f.tree k) → text ≡ uninferred_text f.tree → IsGeoMemory e ⊎ IsInvalidOf text e → IsUninferred f e
+tree_error f text e m stands none why (inl memory) = inl memory
+tree_error f text (InvalidGeoArrow s) m stands none why (inr is) = inr (none_for_tree f none, ((m, stands), (none, is ∙ why)))
+tree_error f text e m stands none why (inr is) = absurd is
 
 -- and how one that is read as nothing beside
 pub named_inference : (f : FieldTree) (r : Result GeoArrowType GeoArrowError) → HasGeoArrowName f → IfOk r (Reads f) → IfErr r (IsRefusal f) → IsInference f r

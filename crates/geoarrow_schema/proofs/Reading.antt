@@ -24,8 +24,8 @@ use Rattle.std.specs.declared.alloc.Global.{Global}
 use Rattle.geoarrow_native.specs.Column.{IsColumn, ReadsAs}
 use Rattle.geoarrow_schema.specs.declared.types.GeoArrowType.{GeoArrowType}
 use Rattle.geoarrow_schema.specs.Types.{kind_of, metadata_of, meta_of}
-use Rattle.geoarrow_schema.specs.Reads.{HasName, HasGeoArrowName, Reads, ReadsAsNone, ReadsAlone, HasWrongStorage, IsRefusedBy, IsTypeRefusal}
-use Rattle.geoarrow_schema.specs.Refusals.{IsColumnRefusal, IsRefusal}
+use Rattle.geoarrow_schema.specs.Reads.{HasName, HasGeoArrowName, Reads, ReadsAsNone, ReadsAlone, HasWrongStorage, ColumnRefusedAs, IsRefusedBy, IsTypeRefusal}
+use Rattle.geoarrow_schema.specs.Refusals.{IsRefusal}
 
 -- a column with a metadata
 pub column_reads : (f : FieldTree) (k : Kind) (m : Metadata) → IsColumn f k → TextStandsFor (extension_metadata f) m → ReadsAs f k m
@@ -120,7 +120,7 @@ unstored_refused f text (InvalidGeoArrow s) none unstored (inr is) = inr (none, 
 unstored_refused f text e none unstored (inr is) = absurd is
 
 -- that of any other field whose tree is of no kind
-pub structured_refused : (f : FieldTree) (a : ArrowError) → ReadsAsNone f → ¬ HasWrongStorage f → IsMemory a ⊎ IsColumnRefusal f a → IsRefusal f (Arrow a)
+pub structured_refused : (f : FieldTree) (a : ArrowError) → ReadsAsNone f → ¬ HasWrongStorage f → IsMemory a ⊎ ColumnRefusedAs f a → IsRefusal f (Arrow a)
 structured_refused f a none stored (inl memory) = inl (ap Arrow memory)
 structured_refused f a none stored (inr refused) = inr (none, (stored, refused))
 

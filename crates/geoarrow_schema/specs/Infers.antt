@@ -1,6 +1,6 @@
 -- What is inferred for a field without a GeoArrow name.
-use Rattle.std.specs.Prelude.{◌≡◌, ◌⊎◌, ◌↔◌, Option, Some, None, Result, Ok, Err, ⊤}
-use Rattle.arrow_values.specs.Tree.{Tree, FieldTree}
+use Rattle.std.specs.Prelude.{◌≡◌, ◌⊎◌, ◌↔◌, Option, Some, None, Result, Ok, Err, cond, codes, string_bytes, ⊤}
+use Rattle.arrow_values.specs.Tree.{Text, Tree, fixed_size_list, struct, FieldTree}
 use Rattle.arrow_values.specs.Texts.{extension_name, extension_metadata}
 use Rattle.arrow_values.specs.Errors.{IsGeoMemory}
 use Rattle.arrow_values.specs.declared.error.GeoArrowError.{GeoArrowError}
@@ -9,13 +9,13 @@ use Rattle.geoarrow_layout.specs.declared.encodings.NativeKind.TheVariants.{Poin
 use Rattle.geoarrow_layout.specs.declared.encodings.Kind.{Kind}
 use Rattle.geoarrow_layout.specs.declared.encodings.Kind.TheVariants.{Native, Wkb, Wkt}
 use Rattle.geoarrow_layout.specs.Shapes.{IsBytes, IsText}
-use Rattle.geoarrow_layout.specs.Inferred.{Inferred}
+use Rattle.geoarrow_layout.specs.Inferred.{Inferred, is_float64, are_float64}
 use Rattle.geoarrow_layout.specs.Layouts.{layout}
 use Rattle.geoarrow_meta.specs.declared.metadata.Metadata.{Metadata}
 use Rattle.geoarrow_meta.specs.Read.{TextStandsFor, TextRefusedAs}
 use Rattle.geoarrow_schema.specs.declared.types.GeoArrowType.{GeoArrowType}
 use Rattle.geoarrow_schema.specs.Types.{kind_of, meta_of}
-use Rattle.geoarrow_schema.specs.Reads.{HasGeoArrowName, Reads, ReadsAlone, ReadsAsNone, RefusedAs}
+use Rattle.geoarrow_schema.specs.Reads.{HasGeoArrowName, Reads, ReadsAlone, ReadsAsNone, FieldRefusedAs}
 
 -- the kind is inferred from the tree: a point, well-known binary or well-known text
 abbrev pub InferredAs : Tree → Kind → Type 0
@@ -48,15 +48,26 @@ ReadsOrInfers f g = Reads f g ⊎ Infers f g
 abbrev pub ReadsOrInfersAlone : FieldTree → GeoArrowType → Type 0
 ReadsOrInfersAlone f g = ReadsAlone f g × InfersAlone f g
 
--- the error with which a field without a GeoArrow name is refused: that of its metadata text, if that denotes none; `InvalidGeoArrow` for its tree
+-- why no kind is inferred from a tree
+abbrev pub uninferred_text : Tree → Text
+uninferred_text (struct fs) = cond (are_float64 fs) (codes "cannot infer: field count") (codes "cannot infer: fields are not all Float64")
+uninferred_text (fixed_size_list n t b m size) = cond (is_float64 t) (codes "cannot infer: list size") (codes "cannot infer: inner field is not Float64")
+uninferred_text _ = codes "cannot infer: data type"
+
+-- no kind is inferred from the tree, and the message says why
+abbrev pub TreeUninferredAs : Tree → Text → Type 0
+TreeUninferredAs t message = ((k : Kind) → ¬ InferredAs t k) × (message ≡ uninferred_text t)
+
+-- the error with which a field without a GeoArrow name is refused: that of its metadata text, if that denotes none; `InvalidGeoArrow` for
+-- its tree, if it denotes one
 abbrev pub UninferredAs : FieldTree → GeoArrowError → Type 0
-UninferredAs f (InvalidGeoArrow s) = (m : Metadata) × TextStandsFor (extension_metadata f) m
+UninferredAs f (InvalidGeoArrow s) = ((m : Metadata) × TextStandsFor (extension_metadata f) m) × TreeUninferredAs f.tree (string_bytes s)
 UninferredAs f (Arrow a) = ((m : Metadata) → ¬ TextStandsFor (extension_metadata f) m) × TextRefusedAs (extension_metadata f) a
 UninferredAs f _ = ⊥
 
 -- out of memory; or the field is read as nothing, nothing is inferred, and this is its error
 abbrev pub IsInferenceRefusal : FieldTree → GeoArrowError → Type 0
-IsInferenceRefusal f e = IsGeoMemory e ⊎ (ReadsAsNone f × InfersNone f × ((HasGeoArrowName f × RefusedAs f e) ⊎ (¬ HasGeoArrowName f × UninferredAs f e)))
+IsInferenceRefusal f e = IsGeoMemory e ⊎ (ReadsAsNone f × InfersNone f × ((HasGeoArrowName f × FieldRefusedAs f e) ⊎ (¬ HasGeoArrowName f × UninferredAs f e)))
 
 -- what a field is read as or, without a GeoArrow name, what is inferred for it
 abbrev pub IsInference : FieldTree → Result GeoArrowType GeoArrowError → Type 0

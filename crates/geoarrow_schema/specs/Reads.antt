@@ -3,6 +3,7 @@ use Rattle.std.specs.Prelude.{◌≡◌, ◌⊎◌, Bool, Option, Some, None, Re
 use Rattle.arrow_values.specs.Tree.{Text, Tree, FieldTree}
 use Rattle.arrow_values.specs.Texts.{extension_name, extension_metadata, set_extension}
 use Rattle.arrow_values.specs.Errors.{IsGeoMemory}
+use Rattle.arrow_values.specs.declared.error.ArrowError.{ArrowError}
 use Rattle.arrow_values.specs.declared.error.GeoArrowError.{GeoArrowError}
 use Rattle.arrow_values.specs.declared.error.GeoArrowError.TheVariants.{Arrow, InvalidGeoArrow}
 use Rattle.geoarrow_layout.specs.declared.names.ExtensionName.{ExtensionName}
@@ -44,16 +45,23 @@ ReadsAlone f g = (k : Kind) (m : Metadata) → ReadsAs f k m → (k ≡ kind_of 
 abbrev pub HasWrongStorage : FieldTree → Type 0
 HasWrongStorage f = (HasName f Wkb × ((w : Width) → ¬ IsBytes w f.tree)) ⊎ (HasName f Wkt × ((w : Width) → ¬ IsText w f.tree))
 
--- the error with which a field with a GeoArrow name is refused; an `Arrow` is that of its metadata text or, if that denotes
--- a metadata, that of a layout
-abbrev pub RefusedAs : FieldTree → GeoArrowError → Type 0
-RefusedAs f (InvalidGeoArrow s) = HasWrongStorage f
-RefusedAs f (Arrow a) = ¬ HasWrongStorage f × (TextRefusedAs (extension_metadata f) a ⊎ (((m : Metadata) × TextStandsFor (extension_metadata f) m) × IsLayoutRefusal a))
-RefusedAs f _ = ⊥
+-- the error is that of the fault that the field's tree has under its extension name
+abbrev pub TreeRefusedAs : FieldTree → ArrowError → Type 0
+TreeRefusedAs f a = (n : ExtensionName) × HasName f n × IsLayoutRefusal n f.tree a
+
+-- the error is that of the field's metadata text or, if that denotes a metadata, that of its tree
+abbrev pub ColumnRefusedAs : FieldTree → ArrowError → Type 0
+ColumnRefusedAs f a = TextRefusedAs (extension_metadata f) a ⊎ (((m : Metadata) × TextStandsFor (extension_metadata f) m) × TreeRefusedAs f a)
+
+-- the error with which a field with a GeoArrow name is refused
+abbrev pub FieldRefusedAs : FieldTree → GeoArrowError → Type 0
+FieldRefusedAs f (InvalidGeoArrow s) = HasWrongStorage f
+FieldRefusedAs f (Arrow a) = ¬ HasWrongStorage f × ColumnRefusedAs f a
+FieldRefusedAs f _ = ⊥
 
 -- the field has a GeoArrow name and is refused with this error: out of memory; or it is read as nothing, and that is its error
 abbrev pub IsRefusedBy : FieldTree → GeoArrowError → Type 0
-IsRefusedBy f e = HasGeoArrowName f × (IsGeoMemory e ⊎ (ReadsAsNone f × RefusedAs f e))
+IsRefusedBy f e = HasGeoArrowName f × (IsGeoMemory e ⊎ (ReadsAsNone f × FieldRefusedAs f e))
 
 -- what a field is read as: the type that it denotes; `None` if it has no GeoArrow name; or, if it has one, how it is refused
 abbrev pub IsReading : FieldTree → Result (Option GeoArrowType) GeoArrowError → Type 0
@@ -68,7 +76,7 @@ IsInvalid _ = ⊥
 
 -- out of memory; or the field is read as nothing, and this is its error: without a GeoArrow name an `InvalidGeoArrow`
 abbrev pub IsTypeRefusal : FieldTree → GeoArrowError → Type 0
-IsTypeRefusal f e = IsGeoMemory e ⊎ (ReadsAsNone f × ((HasGeoArrowName f × RefusedAs f e) ⊎ (¬ HasGeoArrowName f × IsInvalid e)))
+IsTypeRefusal f e = IsGeoMemory e ⊎ (ReadsAsNone f × ((HasGeoArrowName f × FieldRefusedAs f e) ⊎ (¬ HasGeoArrowName f × IsInvalid e)))
 
 -- what a field is read as by a call that must return a type
 abbrev pub IsTypeReading : FieldTree → Result GeoArrowType GeoArrowError → Type 0

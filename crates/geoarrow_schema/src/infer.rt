@@ -1,10 +1,11 @@
 //! Which type is inferred for a field without a GeoArrow name.
-ghost use Rattle.std.specs.Prelude.{◌⊎◌, IfOk, IfErr};
+ghost use Rattle.std.specs.Prelude.{◌≡◌, ◌⊎◌, IfOk, IfErr};
 ghost use Rattle.arrow_values.specs.View.{tree};
 ghost use Rattle.arrow_values.specs.Errors.{IsGeoMemory};
 ghost use Rattle.geoarrow_layout.specs.declared.encodings.Kind.{Kind};
 ghost use Rattle.geoarrow_schema.specs.Reads.{HasGeoArrowName};
-ghost use Rattle.geoarrow_schema.specs.Infers.{InferredAs, Infers, InfersAlone, ReadsOrInfersAlone, InfersNone, UninferredAs, IsInference, AnswersInferred, SerializedAs};
+ghost use Rattle.geoarrow_schema.specs.Infers.{InferredAs, Infers, InfersAlone, ReadsOrInfersAlone, InfersNone, uninferred_text, UninferredAs, IsInference, AnswersInferred, SerializedAs};
+ghost use Rattle.geoarrow_schema.specs.Refusals.{bottom_text};
 
 use crate::read::{name_of, read_named};
 use crate::types::GeoArrowType;
@@ -23,8 +24,8 @@ impl GeoArrowType {
     /// `Utf8View`. A field has at most one such type.
     ///
     /// Errs as `from_extension_field` does. If the field has no GeoArrow name, it errs with `Arrow` exactly if the
-    /// metadata text denotes no metadata, and with `InvalidGeoArrow` if it does and no type is inferred from the
-    /// data type; otherwise only when out of memory.
+    /// metadata text denotes no metadata, and with `InvalidGeoArrow` if it denotes one and no type is inferred from the
+    /// data type, with the message that docs/FORMAT.md, 1.7, has for it; otherwise only when out of memory.
     ///
     /// ```rust
     /// let unnamed = Field::new(alloc, "geom", DataType::Binary, true)?;
@@ -101,12 +102,22 @@ fn infer_serialized(data_type: &DataType) -> Option<Kind>
 }
 
 /// Why a data type is taken for none.
-fn fault_text(data_type: &DataType) -> &'static str {
+#[tactic(auto, using(crate::proofs::Uninferred::at_bottom))]
+fn fault_text(data_type: &DataType) -> &'static str
+    ensures { result.now ≡ uninferred_text (tree data_type.now) }
+{
     let summary = summarize(data_type);
     if 0 < summary.levels {
         return "cannot infer: data type";
     }
-    match summary.bottom {
+    bottom_text(&summary.bottom)
+}
+
+/// Why a data type of that bottom, below no lists, is taken for none.
+fn bottom_text(bottom: &Bottom) -> &'static str
+    ensures { result.now ≡ bottom_text bottom.now }
+{
+    match bottom {
         Bottom::Struct {
             all_float64: false,
             ..

@@ -8,7 +8,7 @@
 //! 2. It returns `None` exactly if the field has no GeoArrow name.
 //! 3. Otherwise it errs: with `InvalidGeoArrow` exactly if the name is that of well-known binary or text and the data
 //!    type is none of its three, and otherwise with `Arrow` of the error of the metadata text or, if that is valid, of
-//!    the layout.
+//!    the fault that the data type has under the name.
 //! 4. `GeoArrowType::same_written` returns true exactly if two types are written as the same name, data type and
 //!    metadata value, which is so exactly if their normal forms are equal.
 //! 5. What `GeoArrowType::to_field` writes reads back as the normal form of the type, if `serde_json` reads what it

@@ -7,10 +7,11 @@ ghost use Rattle.geoarrow_layout.specs.declared.names.ExtensionName.{ExtensionNa
 ghost use Rattle.geoarrow_layout.specs.declared.encodings.Kind.{Kind};
 ghost use Rattle.geoarrow_layout.specs.Kinds.{name_text};
 ghost use Rattle.geoarrow_layout.specs.Shapes.{Accepts};
+ghost use Rattle.geoarrow_layout.specs.FaultAt.{HasFault, FaultAt};
 ghost use Rattle.geoarrow_meta.specs.Read.{TextRefusedAs, IsTextReading};
 ghost use Rattle.geoarrow_native.specs.Column.{IsColumn};
-ghost use Rattle.geoarrow_schema.specs.Reads.{HasName, Reads, ReadsAlone, IsReading, IsTypeReading};
-ghost use Rattle.geoarrow_schema.specs.Refusals.{IsColumnRefusal, IsRefusal};
+ghost use Rattle.geoarrow_schema.specs.Reads.{HasName, Reads, ReadsAlone, ColumnRefusedAs, IsReading, IsTypeReading};
+ghost use Rattle.geoarrow_schema.specs.Refusals.{IsRefusal};
 
 use crate::types::GeoArrowType;
 use arrow_values::{ArrowError, Field, GeoArrowError, GeoArrowResult};
@@ -29,8 +30,9 @@ impl GeoArrowType {
     /// Errs if the field has a GeoArrow name and no type is read: with `InvalidGeoArrow` exactly if the name is
     /// `geoarrow.wkb` and the data type is none of `Binary`, `LargeBinary` and `BinaryView`, or the name is
     /// `geoarrow.wkt` and the data type is none of `Utf8`, `LargeUtf8` and `Utf8View`, whatever the metadata text is;
-    /// otherwise with `Arrow`, where an error of the metadata comes before one of the data type. Also errs when out of
-    /// memory, with `Arrow` of `OutOfMemory`.
+    /// otherwise with `Arrow`, which is the error of the metadata text or, if that denotes a metadata, that of the one fault
+    /// that the data type has under the name (docs/FORMAT.md, 1.5). Also errs when out of memory, with `Arrow` of
+    /// `OutOfMemory`.
     ///
     /// ```rust
     /// let boxes = BoxType::new(Dimension::XY, Arc::new(alloc, Metadata::default())?);
@@ -137,12 +139,13 @@ fn read_kind(alloc: Global, field: &Field, kind: Kind) -> GeoArrowResult<GeoArro
     Ok(GeoArrowType::from_kind(kind, metadata))
 }
 
-/// The refusal of a field of that name whose data type is of no kind of it.
+/// The refusal of a field of that name whose data type is of no kind of it and has that fault under it.
 #[cold]
 #[inline(never)]
 fn refusal(alloc: Global, field: &Field, name: ExtensionName, fault: LayoutFault) -> GeoArrowError
     requires named { HasName field.now name }
     requires no_kind { (k : Kind) → ¬ Accepts (name_text name) field.now.tree k }
+    requires at_fault { HasFault (FaultAt name field.now.tree) fault }
     ensures { IsRefusal field.now result }
 {
     match name {
@@ -154,16 +157,24 @@ fn refusal(alloc: Global, field: &Field, name: ExtensionName, fault: LayoutFault
         }
         ExtensionName::Native(_) | ExtensionName::Geometry | ExtensionName::Rect => {
             names_are_distinct();
-            GeoArrowError::Arrow(structured_refusal(alloc, field, fault))
+            GeoArrowError::Arrow(structured_refusal(alloc, field, name, fault))
         }
     }
 }
 
-/// The refusal of a field whose data type has that fault: that of its metadata, if it is refused, goes before.
+/// The refusal of a field of that name whose data type has that fault under it: that of its metadata, if it is refused,
+/// goes before.
 #[cold]
 #[inline(never)]
-fn structured_refusal(alloc: Global, field: &Field, fault: LayoutFault) -> ArrowError
-    ensures { IsMemory result ⊎ IsColumnRefusal field.now result }
+fn structured_refusal(
+    alloc: Global,
+    field: &Field,
+    _name: ExtensionName,
+    fault: LayoutFault,
+) -> ArrowError
+    requires named { HasName field.now _name }
+    requires at_fault { HasFault (FaultAt _name field.now.tree) fault }
+    ensures { IsMemory result ⊎ ColumnRefusedAs field.now result }
 {
     match Metadata::try_from_field(alloc, field) {
         Ok(_) => fault.into_arrow_error(alloc),
