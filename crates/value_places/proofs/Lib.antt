@@ -5,3 +5,4 @@ pub mod Bytes
 pub mod Texts
 pub mod Nested
 pub mod Ends
+pub mod Keys

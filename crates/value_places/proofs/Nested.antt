@@ -26,7 +26,7 @@ place_after begin_array = fresh
 place_after (key s) = after_key
 place_after _ = after_value
 
-punctuated : (p : Place) (t : Token) (ls : List Lexeme) → punctuate p (token t ∷ ls) ≡ place_token p t (begins_colon ls) (λ next. punctuate next ls)
+pub punctuated : (p : Place) (t : Token) (ls : List Lexeme) → punctuate p (token t ∷ ls) ≡ place_token p t (begins_colon ls) (λ next. punctuate next ls)
 unfolding punctuate
 punctuated fresh t ls = refl
 punctuated after_value t ls = refl

@@ -1,3 +1,4 @@
 pub mod Lexemes
 pub mod Nesting
 pub mod Values
+pub mod Members

@@ -6,6 +6,8 @@
 #![tactic(auto)]
 
 mod lexemes;
+mod members;
 mod values;
 
+pub use members::{member_value, members_start};
 pub use values::value_end;

@@ -1,0 +1,62 @@
+//! The part of a metadata text that is its CRS.
+ghost use Rattle.std.specs.Prelude.{◌≡◌, ◌≤◌, ◌∷◌, length, codes, IfSome, IfOk, option_map};
+ghost use Rattle.json.specs.Token.{begin_object};
+ghost use Rattle.json.specs.Lex.{tokens};
+ghost use Rattle.crs_text.specs.Members.{IsLastOf};
+ghost use Rattle.crs_text.specs.Crs.{crs_of, IsCrsText, IsValueAt};
+
+use crate::members::{Place, take_members};
+use json::{Reader, Scratch, Token};
+use std::alloc::{AllocError, Global};
+use value_places::members_start;
+use value_tokens::MAX_DEPTH;
+
+/// The part of a metadata text that is the value of its last key `crs`, as it is written (GeoArrow, "Extension metadata"). `None`
+/// where the text is no JSON object, as `serde_json` reads it, or has no key `crs`. A null is answered as the text `null`. Keys
+/// with escapes count as the keys that they denote. Errs only when out of memory.
+///
+/// ```rust
+/// let text = r#"{"crs": {"epoch": 2010.50}, "edges": "spherical"}"#;
+/// assert_eq!(rt; crs_text(alloc, text)?, Some(r#"{"epoch": 2010.50}"#));
+/// assert_eq!(rt; crs_text(alloc, r#"{"crs": 1, "\u0063rs" : null }"#)?, Some("null"));
+/// assert_eq!(rt; crs_text(alloc, r#"{"edges": {"crs": 1}}"#)?, None);
+/// ```
+pub fn crs_text<'a>(alloc: Global, text: &'a str) -> Result<Option<&'a str>, AllocError>
+    ensures { IfOk result (λ o. IsCrsText text.now (option_map (λ c. c.now) o)) }
+{
+    let mut scratch = Scratch::new(alloc);
+    let mut reader = Reader::new(text, &mut scratch)?;
+    match crs_place(text, &mut reader) {
+        Some(place) => Ok(Some(&text[place.from..place.to])),
+        None => Ok(None),
+    }
+}
+
+// Where that part is.
+fn crs_place(text: &str, reader: &mut Reader<'_>) -> Option<Place>
+    requires { reader.old ≡ tokens text.now }
+    ensures value { IsValueAt text.now result (crs_of text.now) }
+    ensures last { IfSome result (λ p. IsLastOf (codes "crs") text.now p.from p.to) }
+{
+    let token = reader.next()?;
+    match token {
+        Token::BeginObject => object_crs_place(text, reader),
+        _ => None,
+    }
+}
+
+// Where that part is of a text that begins with a brace, which was taken.
+fn object_crs_place(text: &str, reader: &mut Reader<'_>) -> Option<Place>
+    requires { tokens text.now ≡ begin_object ∷ reader.old }
+    ensures value { IsValueAt text.now result (crs_of text.now) }
+    ensures last { IfSome result (λ p. IsLastOf (codes "crs") text.now p.from p.to) }
+{
+    let from = members_start(text, 0)?;
+    let Ok(found) = take_members(text, from, reader, MAX_DEPTH - 1) else {
+        return None;
+    };
+    match reader.next() {
+        Some(_) => None,
+        None => found,
+    }
+}
