@@ -1,3 +1,5 @@
+pub mod Bounds
+pub mod Groups
 pub mod Lists
 pub mod Loops
 pub mod Notes

@@ -1,5 +1,5 @@
 -- What reading gives: a value, or the rule that is broken first, and how many bytes are left there.
-use Rattle.std.specs.Prelude.{◌≡◌, ℕ, ◌-◌, List, length, Option, Some, None, Result, Ok, Err}
+use Rattle.std.specs.Prelude.{◌≡◌, ℕ, ◌+◌, List, length, Option, Some, None, Result, Ok, Err}
 use Rattle.parquet_footer.specs.declared.fault.Rule.{Rule}
 use Rattle.parquet_footer.specs.declared.fault.Fault.{Fault}
 use Rattle.parquet_footer.specs.declared.fault.Stop.{Stop}
@@ -44,7 +44,7 @@ Gives view (Err e) read = Stops e read
 abbrev pub Refuses : {Y : Type 0} → List ℕ → FooterError → Result Y Fault → Type 0
 Refuses bytes errors.NotParquet read = ⊥
 Refuses bytes errors.Encrypted read = ⊥
-Refuses bytes (errors.Invalid rule offset) read = (left : ℕ) × (read ≡ Err (record { rule = rule; left = left })) × (offset ≡ length bytes - left)
+Refuses bytes (errors.Invalid rule offset) read = (left : ℕ) × (read ≡ Err (record { rule = rule; left = left })) × (offset + left ≡ length bytes)
 Refuses bytes errors.Memory read = Unit {0}
 
 -- a public call returned, seen by view, what reading these bytes gives, or is out of memory

@@ -1,11 +1,11 @@
 -- The fields of a struct that are read, by their ids.
-use Rattle.std.specs.Prelude.{ℕ, List, length, Option, Some, None, Result, Ok, ◌==◌, if◌then◌else◌}
+use Rattle.std.specs.Prelude.{ℕ, Bool, true, false, List, length, Option, Some, None, Result, Ok, ◌==◌, if◌then◌else◌}
 use Rattle.parquet_footer.specs.declared.fault.Fault.{Fault}
-use Rattle.parquet_footer.specs.declared.fault.Rule.TheVariants.{WireType, Repeated}
+use Rattle.parquet_footer.specs.declared.fault.Rule.TheVariants.{WireType, Repeated, Missing}
 use Rattle.parquet_footer.specs.declared.fields.Place.{Place}
 use Rattle.parquet_footer.specs.declared.fields.Pair.{Pair}
 use Rattle.parquet_footer.specs.Fault.{refused, ◌>>=◌}
-use Rattle.parquet_footer.specs.Wire.{count_at, text_at, list_at}
+use Rattle.parquet_footer.specs.Wire.{byte_at, count_at, text_at, list_at}
 use Rattle.parquet_footer.specs.Skip.{fields_at, value_past}
 
 -- the type of a value, and the bytes that it begins
@@ -46,6 +46,15 @@ number_in (Some p) = if p.0 == 5 then (count_at p.1 >>= λ n. Ok (Some n.0)) els
 unfoldable pub text_in : Option Spot → Result (Option (List ℕ)) Fault
 text_in None = Ok None
 text_in (Some p) = if p.0 == 8 then (text_at p.1 >>= λ text. Ok (Some text)) else refused WireType p.1
+
+-- a truth value, which is its type
+unfoldable pub flag_in : List ℕ → Option Spot → Result Bool Fault
+flag_in bytes None = refused Missing bytes
+flag_in bytes (Some p) = if p.0 == 1 then Ok true else if p.0 == 2 then Ok false else refused WireType p.1
+
+unfoldable pub byte_in : List ℕ → Option Spot → Result ℕ Fault
+byte_in bytes None = refused Missing bytes
+byte_in bytes (Some p) = if p.0 == 3 then (byte_at p.1 >>= λ b. Ok b.0) else refused WireType p.1
 
 -- how many structs a list has, and their bytes; an empty list may have items of any type
 unfoldable pub structs_in : Spot → Result (ℕ × List ℕ) Fault

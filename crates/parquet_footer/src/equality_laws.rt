@@ -3,7 +3,7 @@ ghost use Rattle.std.specs.Prelude.{◌≡◌, ◌↔◌, IsTrue};
 
 use crate::element::{PhysicalType, Repetition};
 use crate::fault::{FooterError, Rule};
-use crate::logical::Algorithm;
+use crate::logical::{Algorithm, TimeUnit};
 
 /// A law: `==` returns true for two rules exactly if they are the same.
 pub fn rule_equality_is_exact(one: Rule, other: Rule) -> bool
@@ -28,6 +28,13 @@ pub fn physical_type_equality_is_exact(one: PhysicalType, other: PhysicalType) -
 
 /// A law: `==` returns true for two repetitions exactly if they are the same.
 pub fn repetition_equality_is_exact(one: Repetition, other: Repetition) -> bool
+    ensures { IsTrue result ↔ (one ≡ other) }
+{
+    one == other
+}
+
+/// A law: `==` returns true for two units of time exactly if they are the same.
+pub fn time_unit_equality_is_exact(one: TimeUnit, other: TimeUnit) -> bool
     ensures { IsTrue result ↔ (one ≡ other) }
 {
     one == other

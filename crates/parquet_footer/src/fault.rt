@@ -37,10 +37,10 @@ pub enum Rule {
 /// A rule that is broken, and how many bytes are left there.
 #[derive(Debug, Clone, Copy)]
 pub struct Fault {
-    /// The rule.
-    pub rule: Rule,
     /// How many bytes are left where it is broken.
     pub left: usize,
+    /// The rule.
+    pub rule: Rule,
 }
 
 /// The fault of a rule that is broken at the front of the bytes.
@@ -48,8 +48,8 @@ pub fn broken(rule: Rule, bytes: &[u8]) -> Fault
     ensures { result ≡ broken rule bytes.now }
 {
     Fault {
-        rule,
         left: bytes.len(),
+        rule,
     }
 }
 
@@ -93,7 +93,7 @@ pub enum FooterError {
     NotParquet,
     /// The footer is encrypted.
     Encrypted,
-    /// The rule is broken at that offset in the footer.
+    /// The rule is broken at that offset in the footer: behind so many of its bytes.
     Invalid(Rule, usize),
     /// Out of memory.
     Memory,

@@ -1,11 +1,11 @@
 //! The fields of a struct that are read, by their ids.
 ghost use Rattle.std.specs.Prelude.{◌≡◌, option_map};
 ghost use Rattle.parquet_footer.specs.Fault.{Reads};
-ghost use Rattle.parquet_footer.specs.Fields.{spot, spots, noted, pair_at, pair, number_in, text_in, structs_in};
+ghost use Rattle.parquet_footer.specs.Fields.{spot, spots, noted, pair_at, pair, number_in, text_in, flag_in, byte_in, structs_in};
 
 use crate::fault::{Fault, Rule, broken};
 use crate::skip::{LEVELS, value_past};
-use crate::wire::{count_at, field_at, list_at, text_at};
+use crate::wire::{byte_at, count_at, field_at, list_at, text_at};
 
 /// The type of a value, and the bytes that it begins.
 #[derive(Debug, Clone, Copy)]
@@ -102,6 +102,38 @@ pub fn text_in(place: Option<Place<'_>>) -> Result<Option<&str>, Fault>
         Some(place) => {
             if place.kind == 8 {
                 Ok(Some(text_at(place.bytes)?))
+            } else {
+                Err(broken(Rule::WireType, place.bytes))
+            }
+        }
+    }
+}
+
+/// The truth value in a field of a struct, whose bytes these are.
+#[tactic(auto, unfolding(crate::specs::Fields::flag_in))]
+pub fn flag_in(bytes: &[u8], place: Option<Place<'_>>) -> Result<bool, Fault>
+    ensures { result ≡ flag_in bytes.now (spots place.entry) }
+{
+    match place {
+        None => Err(broken(Rule::Missing, bytes)),
+        Some(place) => match place.kind {
+            1 => Ok(true),
+            2 => Ok(false),
+            _ => Err(broken(Rule::WireType, place.bytes)),
+        },
+    }
+}
+
+/// The byte in a field of a struct, whose bytes these are.
+#[tactic(auto, unfolding(crate::specs::Fields::byte_in))]
+pub fn byte_in(bytes: &[u8], place: Option<Place<'_>>) -> Result<u8, Fault>
+    ensures { result ≡ byte_in bytes.now (spots place.entry) }
+{
+    match place {
+        None => Err(broken(Rule::Missing, bytes)),
+        Some(place) => {
+            if place.kind == 3 {
+                Ok(byte_at(place.bytes)?.0)
             } else {
                 Err(broken(Rule::WireType, place.bytes))
             }

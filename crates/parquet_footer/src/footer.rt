@@ -98,7 +98,8 @@ fn footer_at(alloc: Global, bytes: &[u8]) -> Result<Footer<'_>, Stop>
 /// Reads the schema and the key-value metadata of a footer, a `FileMetaData` in Thrift's compact protocol. All other
 /// fields are passed over, and so is what stands behind the struct, as the signature of a signed footer does.
 ///
-/// Errs with `Invalid` where the bytes break a rule, the first one that they break, and with `Memory`.
+/// Errs with `Invalid` where the bytes break a rule, with the first one that they break and its offset, which is at most
+/// the number of bytes; and with `Memory`.
 pub fn read_footer(alloc: Global, bytes: &[u8]) -> Result<Footer<'_>, FooterError>
     ensures { Answers contents bytes.now result (footer_at bytes.now) }
 {

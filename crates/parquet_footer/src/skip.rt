@@ -17,11 +17,11 @@ fn plain_past(kind: u8, bytes: &[u8]) -> Result<&[u8], Fault>
 {
     match kind {
         1 | 2 => Ok(bytes),
-        3 => Ok(bytes_past(bytes, 1)?),
-        4 | 5 | 6 => Ok(number_past(bytes, 10)?),
-        7 => Ok(bytes_past(bytes, 8)?),
+        3 => bytes_past(bytes, 1),
+        4 | 5 | 6 => number_past(bytes, 10),
+        7 => bytes_past(bytes, 8),
         8 => Ok(binary_at(bytes)?.1),
-        13 => Ok(bytes_past(bytes, 16)?),
+        13 => bytes_past(bytes, 16),
         _ => Err(broken(Rule::WireType, bytes)),
     }
 }

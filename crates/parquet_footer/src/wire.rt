@@ -1,5 +1,5 @@
 //! Values of Thrift's compact protocol at the front of the bytes, each with the bytes behind it.
-ghost use Rattle.std.specs.Prelude.{◌≡◌, length};
+ghost use Rattle.std.specs.Prelude.{◌≡◌, ◌<◌, length};
 ghost use Rattle.parquet_footer.specs.Fault.{Reads};
 ghost use Rattle.parquet_footer.specs.Wire.{byte_at, number_at, number_past, count_at, bytes_past, binary_at, text_at, item_type, list_at, map_at, id_at, field_at};
 
@@ -41,22 +41,25 @@ pub fn number_at(bytes: &[u8], most: u32) -> Result<(u32, &[u8]), Fault>
     }
 }
 
-/// Passes over a number in at most so many bytes.
-#[tactic(auto, unfolding(crate::specs::Wire::number_past))]
+/// Passes over a number in at most so many bytes, one at least.
+#[inline(always)]
 pub fn number_past(bytes: &[u8], most: u32) -> Result<&[u8], Fault>
+    requires { 0 < most }
     ensures { Reads (λ x. x.now) result (number_past most bytes.now) }
 {
-    match bytes {
-        [] => Err(broken(Rule::End, bytes)),
-        [byte, rest @ ..] => {
-            if *byte < 128 {
-                return Ok(rest);
-            }
-            if most < 2 {
-                return Err(broken(Rule::Number, bytes));
-            }
-            number_past(rest, most - 1)
+    let mut rest = bytes;
+    'groups: for i in 1..most {
+        let (byte, behind) = byte_at(rest)?;
+        if byte < 128 {
+            return Ok(behind);
         }
+        rest = behind;
+    }
+    let (byte, behind) = byte_at(rest)?;
+    if byte < 128 {
+        Ok(behind)
+    } else {
+        Err(broken(Rule::Number, rest))
     }
 }
 

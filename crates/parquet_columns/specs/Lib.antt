@@ -1,0 +1,4 @@
+pub mod Fault
+pub mod Meaning
+pub mod Leaf
+pub mod Columns
