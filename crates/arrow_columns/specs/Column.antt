@@ -1,7 +1,8 @@
 -- A column as contracts see it.
-use Rattle.std.specs.Prelude.{Bool, string_bytes}
-use Rattle.arrow_values.specs.Tree.{Text, Tree, Metadata}
+use Rattle.std.specs.Prelude.{Bool, Option, string_bytes}
+use Rattle.arrow_values.specs.Tree.{Text, Tree, Metadata, FieldTree}
 use Rattle.arrow_values.specs.View.{tree, texts_of}
+use Rattle.arrow_values.specs.Texts.{text_at, name_key, metadata_key}
 use Rattle.arrow_columns.specs.declared.column.Column.{Column}
 use Rattle.arrow_columns.specs.declared.column.ColumnType.{ColumnType}
 use Rattle.arrow_columns.specs.declared.column.ColumnType.TheVariants.{Data, Other}
@@ -28,3 +29,14 @@ column_tree c = record {
   nullable = c.nullable;
   metadata = texts_of c.metadata.entries;
 }
+
+-- the name of a column's extension type, and its metadata
+abbrev pub name_on : ColumnTree → Option Text
+name_on c = text_at name_key c.metadata
+
+abbrev pub metadata_on : ColumnTree → Option Text
+metadata_on c = text_at metadata_key c.metadata
+
+-- the column of a field
+abbrev pub column_of : FieldTree → ColumnTree
+column_of f = record { name = f.name; data_type = known f.tree; nullable = f.nullable; metadata = f.metadata }

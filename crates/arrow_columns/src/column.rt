@@ -1,10 +1,12 @@
 //! A column, and its type.
 ghost use Rattle.std.specs.Prelude.{◌≡◌, IfOk, string_bytes};
-ghost use Rattle.arrow_columns.specs.Column.{type_tree, column_tree};
+ghost use Rattle.arrow_values.specs.Texts.{text_of, text_at};
+ghost use Rattle.arrow_values.specs.View.{texts_of};
+ghost use Rattle.arrow_columns.specs.Column.{type_tree, column_tree, column_of, name_on, metadata_on};
 ghost use Rattle.arrow_columns.specs.Notation.{type_text, column_text};
 
 use crate::notation::{data_type_notation, part_notation};
-use arrow_values::DataType;
+use arrow_values::{DataType, EXTENSION_TYPE_METADATA_KEY, EXTENSION_TYPE_NAME_KEY, Field};
 use std::alloc::{AllocError, Global};
 use std::collections::BTreeMap;
 
@@ -61,6 +63,32 @@ impl ColumnType {
 }
 
 impl Column {
+    /// The column of a field: its name, nullability, data type and metadata. Errs only when out of memory.
+    pub fn of_field(alloc: Global, field: &Field) -> Result<Column, AllocError>
+        ensures { IfOk result (λ column. column_tree column ≡ column_of field.now) }
+    {
+        Ok(Column {
+            name: String::from_str(alloc, field.name())?,
+            nullable: field.is_nullable(),
+            data_type: ColumnType::Data(field.data_type().try_clone(alloc)?),
+            metadata: clone_texts(field.metadata())?,
+        })
+    }
+
+    /// The name of the column's extension type: its text at `ARROW:extension:name`, if it has one (Arrow, "Extension Types").
+    pub fn extension_type_name(&self) -> Option<&str>
+        ensures { text_of result ≡ name_on (column_tree self.now) }
+    {
+        text_at(&self.metadata, EXTENSION_TYPE_NAME_KEY)
+    }
+
+    /// The metadata of the column's extension type: its text at `ARROW:extension:metadata`, if it has one.
+    pub fn extension_type_metadata(&self) -> Option<&str>
+        ensures { text_of result ≡ metadata_on (column_tree self.now) }
+    {
+        text_at(&self.metadata, EXTENSION_TYPE_METADATA_KEY)
+    }
+
     /// The column as a part of a nested type is written: its name, a colon and a space, its type's notation, and
     /// ` not null` where values may not be null. Errs only when out of memory.
     pub fn notation(&self, alloc: Global) -> Result<String, AllocError>
@@ -69,4 +97,21 @@ impl Column {
         let data_type = self.data_type.notation(alloc)?;
         part_notation(alloc, self.name.as_str(), data_type.as_str(), self.nullable)
     }
+}
+
+/// The text at a key.
+fn text_at<'a>(texts: &'a BTreeMap<String, String>, key: &str) -> Option<&'a str>
+    ensures { text_of result ≡ text_at key.now (texts_of texts.now.entries) }
+{
+    match texts.get(key) {
+        Some(text) => Some(text.as_str()),
+        None => None,
+    }
+}
+
+/// A map of the same texts.
+fn clone_texts(texts: &BTreeMap<String, String>) -> Result<BTreeMap<String, String>, AllocError>
+    ensures { IfOk result (λ made. texts_of made.entries ≡ texts_of texts.now.entries) }
+{
+    texts.clone()
 }

@@ -14,6 +14,7 @@ pub use answer::answer_line;
 pub use arguments::{command_of, serve, status_of};
 pub use lines::{keeps_limits_or_passes_one, splits_at_line_feeds};
 pub use reading::run;
+pub use words::{coord_type_word, dimension_word, kind_word};
 
 /// What is asked about the field of each line.
 ///

@@ -90,8 +90,13 @@ fn metadata_word(text: &Option<String>) -> &str
     }
 }
 
-/// The word of a kind.
-fn kind_word(kind: Kind) -> &'static str
+/// The word of a kind, as answers have it (`docs/FORMAT.md`, 2.2): `point` to `geometrycollection`, `box`, `geometry`, and `wkb`,
+/// `large_wkb`, `wkb_view` and the like of `wkt`. Allocates nothing.
+///
+/// ```rust
+/// assert_eq!(rt; kind_word(Kind::Wkb(Width::Large)), "large_wkb");
+/// ```
+pub fn kind_word(kind: Kind) -> &'static str
     ensures { result.now ≡ kind_word kind }
 {
     match kind {
@@ -122,8 +127,13 @@ fn native_word(kind: NativeKind) -> &'static str
     }
 }
 
-/// The word of a coordinate type, or a dash.
-fn coord_type_word(coord_type: Option<CoordType>) -> &'static str
+/// The word of a coordinate type, as answers have it (`docs/FORMAT.md`, 2.2): `interleaved` or `separated`; where there is none, a
+/// dash. Allocates nothing.
+///
+/// ```rust
+/// assert_eq!(rt; coord_type_word(Some(CoordType::Separated)), "separated");
+/// ```
+pub fn coord_type_word(coord_type: Option<CoordType>) -> &'static str
     ensures { result.now ≡ coord_type_word coord_type }
 {
     match coord_type {
@@ -133,8 +143,13 @@ fn coord_type_word(coord_type: Option<CoordType>) -> &'static str
     }
 }
 
-/// The word of a dimension, or a dash.
-fn dimension_word(dimension: Option<Dimension>) -> &'static str
+/// The word of a dimension, as answers have it (`docs/FORMAT.md`, 2.2): `XY`, `XYZ`, `XYM` or `XYZM`; where there is none, a dash.
+/// Allocates nothing.
+///
+/// ```rust
+/// assert_eq!(rt; dimension_word(None), "-");
+/// ```
+pub fn dimension_word(dimension: Option<Dimension>) -> &'static str
     ensures { result.now ≡ dimension_word dimension }
 {
     match dimension {

@@ -1,9 +1,8 @@
-use Rattle.std.proofs.Common.{◌≡◌, ℤ, List, refl, w8, arith, rules}
-use Rattle.arrow_values.specs.Tree.{FieldTree, depth, fields_depth, members_depth}
+use Rattle.std.proofs.Common.{refl, arith}
+use Rattle.arrow_values.specs.Tree.{depth, fields_depth, members_depth}
 use Rattle.arrow_values.specs.View.{field_trees, member_trees}
-use mir.Val.{to_z, of_z}
 use Rattle.arrow_columns.specs.Notation.{field_text, member_text, field_texts, member_texts}
-use Rattle.arrow_columns.proofs.Steps.{falls, goes_on, ends}
+use Rattle.arrow_columns.proofs.Steps.{falls, ends}
 use Rattle.arrow_columns.proofs.notation.+notation.Goals as goal
 
 pub fields_notation-field_notation-requires : goal.fields_notation-field_notation-requires

@@ -1,6 +1,5 @@
-use Rattle.std.proofs.Common.{rules, arith, ◌≡◌, ◌∷◌, [], ◌++◌, map, string_bytes, codes, ap, sym, ◌∙◌}
+use Rattle.std.proofs.Common.{rules, ◌≡◌, ◌∷◌, [], map, string_bytes, ◌∙◌}
 use Rattle.std.specs.List.{join_by}
-use Rattle.std.proofs.lemmas.Grind.{common_steps}
 use Rattle.arrow_columns.proofs.Joined.{joined}
 use Rattle.arrow_columns.proofs.notation.nested_notation.Goals as goal
 

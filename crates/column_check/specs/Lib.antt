@@ -1,0 +1,4 @@
+pub mod Metadata
+pub mod Types
+pub mod Finding
+pub mod Agrees

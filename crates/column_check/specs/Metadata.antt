@@ -1,0 +1,66 @@
+-- Which values a metadata text denotes, whatever numbers its CRS holds, and why a text denotes none (GeoArrow, "Extension metadata").
+use Rattle.std.specs.Prelude.{◌≡◌, codes, Option, None, Some, IsSome, option_map, Result, Ok, Err}
+use Rattle.serde_json.specs.Data.{Data}
+use Rattle.serde_json.specs.Find.{as_object}
+use Rattle.serde_json.specs.Read.{read}
+use Rattle.serde_json.specs.View.{view}
+use Rattle.arrow_values.specs.Tree.{Text}
+use Rattle.geoarrow_meta.specs.declared.edges.Edges.{Edges}
+use Rattle.geoarrow_meta.specs.declared.crs.crs_type.CrsType.{CrsType}
+use Rattle.geoarrow_meta.specs.Read.{crs_type_data, edges_data, at_key}
+use Rattle.column_check.specs.declared.metadata.ColumnMetadata.{ColumnMetadata}
+use Rattle.column_check.specs.declared.metadata.MetadataFault.{MetadataFault}
+use Rattle.column_check.specs.declared.metadata.MetadataFault.TheVariants.{NotJson, NotObject, UnknownCrsType, UnknownEdges, UnknownCrsTypeAndEdges}
+
+-- the values at the three keys, where they are there and not null
+pub record Values : Type 0 where
+  pub crs : Option Data
+  pub crs_type : Option CrsType
+  pub edges : Option Edges
+
+abbrev pub values_of : ColumnMetadata → Values
+values_of m = record { crs = option_map view m.crs; crs_type = m.crs_type; edges = m.edges }
+
+abbrev pub no_values : Values
+no_values = record { crs = None; crs_type = None; edges = None }
+
+-- the JSON value denotes these values: it is an object, and they are those at its three keys
+pub record DataDenotes (d : Data) (v : Values) : Type 0 where
+  pub is_object : IsSome (as_object d)
+  pub crs : v.crs ≡ at_key (codes "crs") d
+  pub crs_type : option_map crs_type_data v.crs_type ≡ at_key (codes "crs_type") d
+  pub edges : option_map edges_data v.edges ≡ at_key (codes "edges") d
+
+-- the metadata text denotes these values; a missing text denotes none of the three
+abbrev pub TextDenotes : Option Text → Values → Type 0
+TextDenotes None v = v ≡ no_values
+TextDenotes (Some s) v = (d : Data) × (read s ≡ Some d) × DataDenotes d v
+
+-- the object has a CRS type of the format at its key, or none; and so for edges
+abbrev pub NamesCrsType : Data → Type 0
+NamesCrsType d = (t : Option CrsType) × (option_map crs_type_data t ≡ at_key (codes "crs_type") d)
+
+abbrev pub NamesEdges : Data → Type 0
+NamesEdges d = (e : Option Edges) × (option_map edges_data e ≡ at_key (codes "edges") d)
+
+-- the text is JSON, an object, and P holds of it
+abbrev pub IsObjectWith : Text → (Data → Type 0) → Type 0
+IsObjectWith s P = (d : Data) × (read s ≡ Some d) × IsSome (as_object d) × P d
+
+-- why the text denotes no values
+abbrev pub HasTextFault : Text → MetadataFault → Type 0
+HasTextFault s NotJson = read s ≡ None
+HasTextFault s NotObject = (d : Data) × (read s ≡ Some d) × ¬ IsSome (as_object d)
+HasTextFault s UnknownCrsType = IsObjectWith s (λ d. ¬ NamesCrsType d × NamesEdges d)
+HasTextFault s UnknownEdges = IsObjectWith s (λ d. NamesCrsType d × ¬ NamesEdges d)
+HasTextFault s UnknownCrsTypeAndEdges = IsObjectWith s (λ d. ¬ NamesCrsType d × ¬ NamesEdges d)
+
+-- why the metadata text denotes no values; a missing one is without fault
+abbrev pub HasMetadataFault : Option Text → MetadataFault → Type 0
+HasMetadataFault None f = ⊥
+HasMetadataFault (Some s) f = HasTextFault s f
+
+-- what a metadata text is read as: the values that it denotes, or why it denotes none
+abbrev pub IsMetadataRead : Option Text → Result ColumnMetadata MetadataFault → Type 0
+IsMetadataRead t (Ok m) = TextDenotes t (values_of m)
+IsMetadataRead t (Err f) = HasMetadataFault t f

@@ -1,0 +1,42 @@
+-- Of which kind a column's type is under an extension name, and why it is of none.
+use Rattle.std.specs.Prelude.{◌≡◌, ⊤, [], map, Result, Ok, Err, string_bytes}
+use Rattle.arrow_columns.specs.Column.{TypeTree, known, other}
+use Rattle.geoarrow_layout.specs.declared.names.ExtensionName.{ExtensionName}
+use Rattle.geoarrow_layout.specs.declared.names.ExtensionName.TheVariants.{Wkb, Wkt}
+use Rattle.geoarrow_layout.specs.declared.encodings.Kind.{Kind}
+use Rattle.geoarrow_layout.specs.declared.fault.LayoutFault.TheVariants.{UnexpectedType}
+use Rattle.geoarrow_layout.specs.Kinds.{name_text}
+use Rattle.geoarrow_layout.specs.Shapes.{Accepts}
+use Rattle.geoarrow_layout.specs.FaultAt.{Path, FaultAt, names_along}
+use Rattle.geoarrow_schema.specs.Infers.{InferredAs}
+use Rattle.column_check.specs.declared.data_type.TypeFault.{TypeFault}
+use Rattle.column_check.specs.declared.data_type.TypeFault.TheVariants.{UnsupportedType, WrongStorage, Layout}
+
+-- the name is that of well-known binary or of well-known text
+abbrev pub IsSerialized : ExtensionName → Type 0
+IsSerialized Wkb = ⊤
+IsSerialized Wkt = ⊤
+IsSerialized n = ⊥
+
+-- the type is of that kind under the name
+abbrev pub TypeAccepted : ExtensionName → TypeTree → Kind → Type 0
+TypeAccepted n (known t) k = Accepts (name_text n) t k
+TypeAccepted n (other s) k = ⊥
+
+-- why the type is of no kind under the name: it is none of the 26 data types; it is no bytes or no text, under the name of
+-- well-known binary or text; or it has a fault at the end of a path of child fields, of which the names are given
+abbrev pub HasTypeFault : ExtensionName → TypeTree → TypeFault → Type 0
+HasTypeFault n (other s) UnsupportedType = ⊤
+HasTypeFault n (known t) WrongStorage = IsSerialized n × FaultAt n t [] UnexpectedType
+HasTypeFault n (known t) (Layout fault names) = ¬ IsSerialized n × ((p : Path) × FaultAt n t p fault × (map string_bytes names.items ≡ names_along t p))
+HasTypeFault n t f = ⊥
+
+-- what a type is read as under a name
+abbrev pub IsTypeRead : ExtensionName → TypeTree → Result Kind TypeFault → Type 0
+IsTypeRead n t (Ok k) = TypeAccepted n t k
+IsTypeRead n t (Err f) = HasTypeFault n t f
+
+-- the kind is inferred from the type
+abbrev pub TypeInferred : TypeTree → Kind → Type 0
+TypeInferred (known t) k = InferredAs t k
+TypeInferred (other s) k = ⊥

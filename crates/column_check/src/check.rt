@@ -1,0 +1,130 @@
+//! What each column of a schema holds.
+ghost use Rattle.std.specs.Prelude.{◌≡◌, ◌≢◌, ◌↔◌, Bool, Some, None, IfOk, IsTrue, map};
+ghost use Rattle.arrow_columns.specs.Column.{ColumnTree, column_tree, name_on, metadata_on};
+ghost use Rattle.geoarrow_layout.specs.declared.names.ExtensionName.{ExtensionName};
+ghost use Rattle.geoarrow_layout.specs.Kinds.{name_text};
+ghost use Rattle.column_check.specs.Types.{IsTypeRead};
+ghost use Rattle.column_check.specs.Metadata.{IsMetadataRead};
+ghost use Rattle.column_check.specs.Finding.{HasName, HasOtherName, IsReserved, IsFinding, AreFindings};
+
+use crate::data_type::{TypeFault, kind_under};
+use crate::finding::{Finding, Geometry, Reasons};
+use crate::metadata::{ColumnMetadata, MetadataFault, read_metadata};
+use arrow_columns::{Column, ColumnType};
+use geoarrow_layout::ExtensionName;
+use geoarrow_schema::{Kind, infer_kind};
+use std::alloc::{AllocError, Global};
+
+/// What each column of a schema holds: one finding for each, in order, which depends only on its own column. Errs only when out
+/// of memory.
+pub fn check_columns(
+    alloc: Global,
+    columns: &[Column],
+    infer: bool,
+) -> Result<Vec<Finding>, AllocError>
+    ensures { IfOk result (λ findings. AreFindings infer (map column_tree columns.now) findings.items) }
+{
+    let mut findings = Vec::new(alloc);
+    for column in columns {
+        findings.push(check_column(alloc, column, infer)?)?;
+    }
+    Ok(findings)
+}
+
+/// What a column holds: geometries, where it has one of GeoArrow's extension names and its type and its metadata go with it, whatever
+/// its coordinate reference system is; or why not. With `infer`, a column without an extension name is taken for what
+/// `from_arrow_field` of `geoarrow_schema` infers from its data type. Errs only when out of memory.
+///
+/// ```rust
+/// let column = Column {
+///     name: String::from_str(alloc, "geom")?,
+///     nullable: true,
+///     data_type: ColumnType::Data(DataType::Binary),
+///     metadata: BTreeMap::new(alloc),
+/// };
+/// assert!(rt; matches!(check_column(alloc, &column, false)?, Finding::Plain));
+/// assert!(rt; matches!(check_column(alloc, &column, true)?, Finding::Inferred(_)));
+/// ```
+pub fn check_column(alloc: Global, column: &Column, infer: bool) -> Result<Finding, AllocError>
+    ensures { IfOk result (IsFinding infer (column_tree column.now)) }
+{
+    match column.extension_type_name() {
+        Some(text) => match ExtensionName::from_text(text) {
+            Some(name) => check_named(alloc, column, name),
+            None => other_name(alloc, text),
+        },
+        None => {
+            if infer {
+                check_unnamed(alloc, column)
+            } else {
+                Ok(Finding::Plain)
+            }
+        }
+    }
+}
+
+/// What a column holds that has one of GeoArrow's extension names.
+fn check_named(alloc: Global, column: &Column, name: ExtensionName) -> Result<Finding, AllocError>
+    requires { HasName (column_tree column.now) name }
+    ensures { (infer : Bool) → IfOk result (IsFinding infer (column_tree column.now)) }
+{
+    let metadata = read_metadata(alloc, column.extension_type_metadata())?;
+    let kind = kind_under(alloc, name, &column.data_type)?;
+    Ok(named_finding(kind, metadata))
+}
+
+/// What is said of a column with one of GeoArrow's extension names, by what its type and its metadata are read as.
+fn named_finding(
+    kind: Result<Kind, TypeFault>,
+    metadata: Result<ColumnMetadata, MetadataFault>,
+) -> Finding
+    ensures { (infer : Bool) (c : ColumnTree) (n : ExtensionName) → HasName c n → IsTypeRead n c.data_type kind
+        → IsMetadataRead (metadata_on c) metadata → IsFinding infer c result }
+{
+    match kind {
+        Ok(kind) => match metadata {
+            Ok(metadata) => Finding::Geometry(Geometry { kind, metadata }),
+            Err(fault) => Finding::Invalid(Reasons::Metadata(fault)),
+        },
+        Err(fault) => match metadata {
+            Ok(_) => Finding::Invalid(Reasons::DataType(fault)),
+            Err(of_text) => Finding::Invalid(Reasons::DataTypeAndMetadata(fault, of_text)),
+        },
+    }
+}
+
+/// What is said of a column with an extension name that is none of GeoArrow's.
+fn other_name(alloc: Global, name: &str) -> Result<Finding, AllocError>
+    requires { (n : ExtensionName) → name.now ≢ name_text n }
+    ensures { (infer : Bool) (c : ColumnTree) → name_on c ≡ Some name.now → IfOk result (IsFinding infer c) }
+{
+    if is_reserved(alloc, name)? {
+        return Ok(Finding::Invalid(Reasons::UnknownExtension));
+    }
+    Ok(Finding::Extension)
+}
+
+/// Whether only GeoArrow or OGC would give that extension name.
+fn is_reserved(alloc: Global, name: &str) -> Result<bool, AllocError>
+    ensures { IfOk result (λ is. IsTrue is ↔ IsReserved name.now) }
+{
+    let small = name.to_ascii_lowercase(alloc)?;
+    Ok(small.as_str().starts_with("geoarrow.") || name.starts_with("ogc."))
+}
+
+/// What a column without an extension name is taken for.
+fn check_unnamed(alloc: Global, column: &Column) -> Result<Finding, AllocError>
+    requires { name_on (column_tree column.now) ≡ None }
+    ensures { (infer : Bool) → IsTrue infer → IfOk result (IsFinding infer (column_tree column.now)) }
+{
+    let ColumnType::Data(data_type) = &column.data_type else {
+        return Ok(Finding::Plain);
+    };
+    let Some(kind) = infer_kind(data_type) else {
+        return Ok(Finding::Plain);
+    };
+    match read_metadata(alloc, column.extension_type_metadata())? {
+        Ok(metadata) => Ok(Finding::Inferred(Geometry { kind, metadata })),
+        Err(_) => Ok(Finding::Plain),
+    }
+}

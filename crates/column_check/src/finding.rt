@@ -1,0 +1,43 @@
+//! What is said of a column.
+
+use crate::data_type::TypeFault;
+use crate::metadata::{ColumnMetadata, MetadataFault};
+use geoarrow_schema::Kind;
+
+/// What is said of a column.
+#[derive(Debug, Drop)]
+pub enum Finding {
+    /// Geometries: the column has one of GeoArrow's eleven extension names, a type of a kind under it, and metadata of the format.
+    Geometry(Geometry),
+    /// The column has one of the eleven names, and its type or its metadata do not go with it; or a name that only
+    /// GeoArrow or OGC would give, and that is none of the eleven.
+    Invalid(Reasons),
+    /// Another extension type, of which nothing more is said.
+    Extension,
+    /// The column has no extension name, and this is inferred from its type.
+    Inferred(Geometry),
+    /// Anything else.
+    Plain,
+}
+
+/// A column of geometries.
+#[derive(Debug, Drop)]
+pub struct Geometry {
+    /// The kind: the geometry type, and how geometries are laid out.
+    pub kind: Kind,
+    /// The values of the extension metadata.
+    pub metadata: ColumnMetadata,
+}
+
+/// Why a column is invalid: all that holds of its extension name, its type and its metadata.
+#[derive(Debug, Drop)]
+pub enum Reasons {
+    /// The extension name begins with `geoarrow.`, in any letters, or with `ogc.`, and is none of the eleven.
+    UnknownExtension,
+    /// The type is of no kind under the extension name.
+    DataType(TypeFault),
+    /// The metadata text denotes no values of the format.
+    Metadata(MetadataFault),
+    /// Both.
+    DataTypeAndMetadata(TypeFault, MetadataFault),
+}

@@ -1,0 +1,32 @@
+//! The format of a file, by its first bytes.
+ghost use Rattle.column_files.specs.Forms.{IsForm};
+
+/// The format of a file.
+#[derive(Debug, Clone, Copy, PartialEq, Eq)]
+pub enum Form {
+    /// An Arrow file, also named Feather: it begins with `ARROW1`.
+    ArrowFile,
+    /// An Arrow stream: it begins with the continuation marker, four bytes 255.
+    ArrowStream,
+    /// A Parquet file: it begins with `PAR1`.
+    Parquet,
+    /// Anything else: lines of fields (docs/FORMAT.md, 2.1).
+    Lines,
+}
+
+/// The format that the first bytes of a file tell. Allocates nothing.
+///
+/// ```rust
+/// assert_eq!(rt; form_of(b"PAR1"), Form::Parquet);
+/// assert_eq!(rt; form_of(b"{}"), Form::Lines);
+/// ```
+pub fn form_of(bytes: &[u8]) -> Form
+    ensures { IsForm bytes.now result }
+{
+    match bytes {
+        [b'A', b'R', b'R', b'O', b'W', b'1', ..] => Form::ArrowFile,
+        [255, 255, 255, 255, ..] => Form::ArrowStream,
+        [b'P', b'A', b'R', b'1', ..] => Form::Parquet,
+        _ => Form::Lines,
+    }
+}

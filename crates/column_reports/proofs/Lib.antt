@@ -1,0 +1,4 @@
+mod Joined
+mod Members
+mod NoFeed
+mod OneLine

@@ -1,0 +1,63 @@
+-- The reasons of a column that is invalid, as JSON.
+use Rattle.std.specs.Prelude.{List, [], ◌∷◌, codes, map, string_bytes}
+use Rattle.json.specs.Print.{quoted}
+use Rattle.arrow_values.specs.Tree.{Text}
+use Rattle.geoarrow_layout.specs.declared.fault.LayoutFault.{LayoutFault}
+use Rattle.geoarrow_layout.specs.declared.fault.LayoutFault.TheVariants.{UnexpectedType, BadInterleavedName, BadSize, BadFieldNames, BadFieldCount, MixedWidths, BadTypeId, MemberDimension, EmptyUnion, SeveralCoordTypes, SeveralDimensions}
+use Rattle.geoarrow_layout.specs.Faults.{fault_text}
+use Rattle.column_check.specs.declared.data_type.TypeFault.{TypeFault}
+use Rattle.column_check.specs.declared.data_type.TypeFault.TheVariants.{UnsupportedType, WrongStorage, Layout}
+use Rattle.column_check.specs.declared.metadata.MetadataFault.{MetadataFault}
+use Rattle.column_check.specs.declared.metadata.MetadataFault.TheVariants.{NotJson, NotObject, UnknownCrsType, UnknownEdges, UnknownCrsTypeAndEdges}
+use Rattle.column_check.specs.declared.finding.Reasons.{Reasons}
+use Rattle.column_check.specs.declared.finding.Reasons.TheVariants.{UnknownExtension, DataType, Metadata, DataTypeAndMetadata}
+use Rattle.column_reports.specs.Parts.{array_text, object_text, member_text}
+
+-- a reason: a code, a message, and the names of the child fields from the column down to where it is
+abbrev pub reason_text : Text → Text → List Text → Text
+reason_text code message path = object_text (member_text (codes "code") (quoted code) ∷ member_text (codes "message") (quoted message) ∷ member_text (codes "path") (array_text (map quoted path)) ∷ [])
+
+-- a reason of the column itself
+abbrev pub own_reason : Text → Text → Text
+own_reason code message = reason_text code message []
+
+-- the code of a layout's fault
+abbrev pub fault_code : LayoutFault → Text
+fault_code UnexpectedType = codes "UnexpectedType"
+fault_code BadInterleavedName = codes "BadInterleavedName"
+fault_code BadSize = codes "BadSize"
+fault_code BadFieldNames = codes "BadFieldNames"
+fault_code BadFieldCount = codes "BadFieldCount"
+fault_code MixedWidths = codes "MixedWidths"
+fault_code BadTypeId = codes "BadTypeId"
+fault_code MemberDimension = codes "MemberDimension"
+fault_code EmptyUnion = codes "EmptyUnion"
+fault_code SeveralCoordTypes = codes "SeveralCoordTypes"
+fault_code SeveralDimensions = codes "SeveralDimensions"
+
+-- the reason of a type
+abbrev pub type_reason : TypeFault → Text
+type_reason UnsupportedType = own_reason (codes "UnsupportedType") (codes "no layout of GeoArrow has this type")
+type_reason WrongStorage = own_reason (codes "WrongStorage") (codes "well-known binary needs a binary type, and well-known text a text type")
+type_reason (Layout fault names) = reason_text (fault_code fault) (fault_text fault) (map string_bytes names.items)
+
+-- the reasons of a metadata text
+abbrev pub crs_type_reason : Text
+crs_type_reason = own_reason (codes "UnknownCrsType") (codes "unknown crs_type")
+
+abbrev pub edges_reason : Text
+edges_reason = own_reason (codes "UnknownEdges") (codes "unknown edges")
+
+abbrev pub metadata_reasons : MetadataFault → List Text
+metadata_reasons NotJson = own_reason (codes "MetadataNotJson") (codes "metadata is not JSON") ∷ []
+metadata_reasons NotObject = own_reason (codes "MetadataNotObject") (codes "metadata is not an object") ∷ []
+metadata_reasons UnknownCrsType = crs_type_reason ∷ []
+metadata_reasons UnknownEdges = edges_reason ∷ []
+metadata_reasons UnknownCrsTypeAndEdges = crs_type_reason ∷ edges_reason ∷ []
+
+-- all reasons of a column, that of its type first
+abbrev pub reasons_of : Reasons → List Text
+reasons_of UnknownExtension = own_reason (codes "UnknownExtension") (codes "GeoArrow has no extension type of this name") ∷ []
+reasons_of (DataType t) = type_reason t ∷ []
+reasons_of (Metadata m) = metadata_reasons m
+reasons_of (DataTypeAndMetadata t m) = type_reason t ∷ metadata_reasons m

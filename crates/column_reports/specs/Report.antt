@@ -1,0 +1,83 @@
+-- The report of a column: what is said of it, as a line of JSON.
+use Rattle.std.specs.Prelude.{ℕ, List, ◌++◌, codes, decimal, Option, None, Some, is_some, option_map, if◌then◌else◌}
+use Rattle.json.specs.Print.{quoted}
+use Rattle.arrow_values.specs.Tree.{Text}
+use Rattle.arrow_columns.specs.Column.{ColumnTree, name_on}
+use Rattle.arrow_columns.specs.Notation.{type_text}
+use Rattle.geoarrow_meta.specs.declared.edges.Edges.{Edges}
+use Rattle.geoarrow_meta.specs.Read.{edges_text, crs_type_text}
+use Rattle.geoarrow_layout.specs.declared.encodings.Kind.{Kind}
+use Rattle.geoarrow_layout.specs.Kinds.{coord_type_of, dimension_of}
+use Rattle.geoarrow_fields.specs.Answer.{kind_word, coord_type_word, dimension_word}
+use Rattle.column_check.specs.declared.finding.Geometry.{Geometry as GeometryColumn}
+use Rattle.column_check.specs.declared.finding.Finding.{Finding as ColumnFinding}
+use Rattle.column_check.specs.declared.finding.Finding.TheVariants.{Geometry, Invalid, Extension, Inferred, Plain}
+use Rattle.column_reports.specs.Parts.{array_text, object_text, member_if, on_one_line}
+use Rattle.column_reports.specs.Reasons.{reasons_of}
+
+abbrev pub state_word : ColumnFinding → Text
+state_word (Geometry g) = codes "geometry"
+state_word (Invalid r) = codes "invalid"
+state_word Extension = codes "extension"
+state_word (Inferred g) = codes "inferred"
+state_word Plain = codes "plain"
+
+-- the geometries that a column holds or is taken for
+abbrev pub geometry_in : ColumnFinding → Option GeometryColumn
+geometry_in (Geometry g) = Some g
+geometry_in (Inferred g) = Some g
+geometry_in f = None
+
+-- kind, coordinate type and dimension
+abbrev pub kind_text : Kind → Text
+kind_text k = kind_word k ++ codes " " ++ coord_type_word (coord_type_of k) ++ codes " " ++ dimension_word (dimension_of k)
+
+-- edges, which are planar where none are named
+abbrev pub edges_word : Option Edges → Text
+edges_word (Some e) = edges_text e
+edges_word None = codes "planar"
+
+-- the type: of geometries their kind, of another column its data type
+abbrev pub type_word : ColumnTree → Option GeometryColumn → Text
+type_word c (Some g) = kind_text g.kind
+type_word c None = type_text c.data_type
+
+-- of geometries: the text of their CRS, if they have one; the CRS type; the edges
+abbrev pub crs_of : Option GeometryColumn → Option Text → Option Text
+crs_of (Some g) crs = if is_some g.metadata.crs then crs else None
+crs_of None crs = None
+
+abbrev pub crs_type_of : Option GeometryColumn → Option Text
+crs_type_of (Some g) = option_map crs_type_text g.metadata.crs_type
+crs_type_of None = None
+
+abbrev pub edges_of : Option GeometryColumn → Option Text
+edges_of (Some g) = Some (edges_word g.metadata.edges)
+edges_of None = None
+
+-- of an invalid column: its reasons
+abbrev pub reasons_in : ColumnFinding → Option Text
+reasons_in (Invalid r) = Some (array_text (reasons_of r))
+reasons_in f = None
+
+-- a member whose value is a string, if there is one
+abbrev pub string_if : Text → Option Text → List Text
+string_if key text = member_if key (option_map quoted text)
+
+-- the members, in the order of their keys
+abbrev pub members_of : Option Text → ℕ → ColumnTree → Option Text → ColumnFinding → List Text
+members_of file index c crs f =
+    string_if (codes "column") (Some c.name)
+    ++ member_if (codes "crs") (option_map on_one_line (crs_of (geometry_in f) crs))
+    ++ string_if (codes "crs_type") (crs_type_of (geometry_in f))
+    ++ string_if (codes "edges") (edges_of (geometry_in f))
+    ++ string_if (codes "extension") (name_on c)
+    ++ string_if (codes "file") file
+    ++ member_if (codes "index") (Some (decimal index))
+    ++ member_if (codes "reasons") (reasons_in f)
+    ++ string_if (codes "state") (Some (state_word f))
+    ++ string_if (codes "type") (Some (type_word c (geometry_in f)))
+
+-- the report: the file, where it is named, the place of the column, the column, the text of its CRS, and what is said of it
+abbrev pub line_text : Option Text → ℕ → ColumnTree → Option Text → ColumnFinding → Text
+line_text file index c crs f = object_text (members_of file index c crs f)

@@ -1,0 +1,58 @@
+-- The report of a file: a line of JSON for each of its columns.
+use Rattle.std.specs.Prelude.{◌≡◌, ◌⊎◌, ◌+◌, ◌++◌, ℕ, Bool, true, false, List, [], ◌∷◌, map, Option, None, Some, Result, Ok, Err, string_bytes}
+use Rattle.std.specs.List.{list_any}
+use Rattle.std.specs.declared.vec.Vec.{Vec}
+use Rattle.std.specs.declared.alloc.Global.{Global}
+use Rattle.arrow_values.specs.Tree.{Text}
+use Rattle.arrow_columns.specs.Column.{ColumnTree, column_tree, metadata_on}
+use Rattle.arrow_columns.specs.declared.column.Column.{Column}
+use Rattle.crs_text.specs.Crs.{IsCrsText}
+use Rattle.column_check.specs.Finding.{IsFinding}
+use Rattle.column_check.specs.declared.finding.Finding.{Finding}
+use Rattle.column_check.specs.declared.finding.Finding.TheVariants.{Geometry, Invalid}
+use Rattle.column_files.specs.Forms.{IsForm}
+use Rattle.column_files.specs.Files.{IsFileRead}
+use Rattle.column_files.specs.declared.form.Form.{Form}
+use Rattle.column_files.specs.declared.columns.FileFault.{FileFault}
+use Rattle.column_files.specs.declared.columns.FileFault.TheVariants.{OutOfMemory}
+use Rattle.column_reports.specs.Report.{line_text}
+use Rattle.file_reports.specs.declared.report.Report.{Report as FileReport}
+
+abbrev pub line_feed : ℕ
+line_feed = 10
+
+abbrev pub is_invalid : Finding → Bool
+is_invalid (Invalid r) = true
+is_invalid f = false
+
+abbrev pub is_geometry : Finding → Bool
+is_geometry (Geometry g) = true
+is_geometry f = false
+
+-- the text of the CRS in a column's metadata, as it is written there
+abbrev pub IsCrsOf : Option Text → Option Text → Type 0
+IsCrsOf None crs = crs ≡ None
+IsCrsOf (Some metadata) crs = IsCrsText metadata crs
+
+-- the line of a column: its place, the column itself, the text of its CRS, and what is said of it
+abbrev pub IsLineOf : Option Text → ℕ → ColumnTree → Finding → Text → Type 0
+IsLineOf file index c f line = (crs : Option Text) × IsCrsOf (metadata_on c) crs × (line ≡ line_text file index c crs f)
+
+-- what is said of each of the columns, from a place on, and the lines of all, each with its line feed
+abbrev pub AreReported : Option Text → Bool → ℕ → List ColumnTree → List Finding → Text → Type 0
+AreReported file infer index [] [] text = text ≡ []
+AreReported file infer index (c ∷ cs) (f ∷ fs) text =
+    (line : Text) × (rest : Text) × IsFinding infer c f × IsLineOf file index c f line × (text ≡ line ++ (line_feed ∷ rest)) × AreReported file infer (index + 1) cs fs rest
+AreReported file infer index _ _ text = ⊥
+
+-- the report of columns: the lines of all, whether one is invalid, and whether one holds geometries
+pub record IsReportOf (file : Option Text) (infer : Bool) (cs : List ColumnTree) (report : FileReport) : Type 0 where
+  pub findings : List Finding
+  pub lines : AreReported file infer 0 cs findings (string_bytes report.lines)
+  pub invalid : report.has_invalid ≡ list_any is_invalid findings
+  pub geometry : report.has_geometry ≡ list_any is_geometry findings
+
+-- the report of a file: that of the columns which its bytes denote; or why they denote none, or out of memory
+abbrev pub Reports : Option Text → Bool → List ℕ → Result FileReport FileFault → Type 0
+Reports file infer bytes (Ok report) = (form : Form) × (columns : Vec Column Global) × IsForm bytes form × IsFileRead form bytes (Ok columns) × IsReportOf file infer (map column_tree columns.items) report
+Reports file infer bytes (Err fault) = (fault ≡ OutOfMemory) ⊎ ((form : Form) × IsForm bytes form × IsFileRead form bytes (Err fault))

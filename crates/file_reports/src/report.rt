@@ -1,0 +1,118 @@
+//! The report of a file.
+ghost use Rattle.std.specs.Prelude.{◌≡◌, ◌||◌, ◌++◌, [], ◌∷◌, IfOk, OnOk, map, string_bytes};
+ghost use Rattle.arrow_values.specs.Tree.{Text};
+ghost use Rattle.arrow_values.specs.Texts.{text_of};
+ghost use Rattle.arrow_columns.specs.Column.{column_tree, metadata_on};
+ghost use Rattle.column_check.specs.Finding.{IsFinding};
+ghost use Rattle.column_check.specs.declared.finding.Finding.{Finding};
+ghost use Rattle.file_reports.specs.Report.{is_invalid, is_geometry, line_feed, IsCrsOf, IsLineOf, IsReportOf, Reports};
+
+use arrow_columns::Column;
+use column_check::{Finding, check_column};
+use column_files::{FileFault, columns_in};
+use column_reports::json_line;
+use crs_text::crs_text;
+use std::alloc::{AllocError, Global};
+
+/// The report of a file.
+#[derive(Debug, Drop)]
+pub struct Report {
+    /// A line of JSON for each column (docs/FORMAT.md, 2.5), each with its line feed.
+    pub lines: String,
+    /// Whether a column is invalid.
+    pub has_invalid: bool,
+    /// Whether a column holds geometries.
+    pub has_geometry: bool,
+}
+
+/// The report of a file, from its bytes: what each of its columns holds, a line of JSON for each. `file` is the name that the lines
+/// give the file, if any. With `infer`, a column without an extension name is taken for what is inferred from its data type. Errs as
+/// `columns_in` of `column_files` does.
+///
+/// ```rust
+/// let report = report_file(alloc, None, br#"{"name":"id","nullable":true,"type":"int64"}"#, false);
+/// let Ok(report) = report else { return Ok(()); };
+/// let line = "{\"column\":\"id\",\"index\":0,\"state\":\"plain\",\"type\":\"int64\"}\n";
+/// assert_eq!(rt; report.lines.as_str(), line);
+/// assert!(rt; !report.has_invalid);
+/// ```
+pub fn report_file(
+    alloc: Global,
+    file: Option<&str>,
+    bytes: &[u8],
+    infer: bool,
+) -> Result<Report, FileFault>
+    ensures { Reports (text_of file.entry) infer bytes.now result }
+{
+    let columns = columns_in(alloc, bytes)?;
+    Ok(report_columns(alloc, file, columns.as_slice(), infer)?)
+}
+
+/// The report of columns, as that of a file. Errs only when out of memory.
+pub fn report_columns(
+    alloc: Global,
+    file: Option<&str>,
+    columns: &[Column],
+    infer: bool,
+) -> Result<Report, AllocError>
+    ensures { IfOk result (IsReportOf (text_of file.entry) infer (map column_tree columns.now)) }
+{
+    let mut report = Report {
+        lines: String::new(alloc),
+        has_invalid: false,
+        has_geometry: false,
+    };
+    for index in 0..columns.len() {
+        add_column(alloc, &mut report, file, index, &columns[index], infer)?;
+    }
+    Ok(report)
+}
+
+/// Adds the line of a column.
+fn add_column(
+    alloc: Global,
+    report: &mut Report,
+    file: Option<&str>,
+    index: usize,
+    column: &Column,
+    infer: bool,
+) -> Result<(), AllocError>
+    ensures { OnOk result ((f : Finding) × (line : Text) × IsFinding infer (column_tree column.now) f
+        × IsLineOf (text_of file.entry) index (column_tree column.now) f line
+        × (string_bytes report.new.lines ≡ string_bytes report.old.lines ++ (line ++ (line_feed ∷ [])))
+        × (report.new.has_invalid ≡ (report.old.has_invalid || is_invalid f))
+        × (report.new.has_geometry ≡ (report.old.has_geometry || is_geometry f))) }
+{
+    let finding = check_column(alloc, column, infer)?;
+    let crs = written_crs(alloc, column)?;
+    let line = json_line(alloc, file, index, column, crs, &finding)?;
+    report.lines.push_str(line.as_str())?;
+    report.lines.push_str("\n")?;
+    report.has_invalid = report.has_invalid | is_invalid(&finding);
+    report.has_geometry = report.has_geometry | is_geometry(&finding);
+    Ok(())
+}
+
+/// The text of the CRS in a column's metadata.
+fn written_crs(alloc: Global, column: &Column) -> Result<Option<&str>, AllocError>
+    ensures { IfOk result (λ crs. IsCrsOf (metadata_on (column_tree column.now)) (text_of crs)) }
+{
+    match column.extension_type_metadata() {
+        Some(metadata) => crs_text(alloc, metadata),
+        None => Ok(None),
+    }
+}
+
+/// Whether a column is invalid.
+fn is_invalid(finding: &Finding) -> bool
+    ensures { result ≡ is_invalid finding.now }
+{
+    matches!(finding, Finding::Invalid(_))
+}
+
+/// Whether a column holds geometries.
+fn is_geometry(finding: &Finding) -> bool
+    ensures { result ≡ is_geometry finding.now }
+{
+    matches!(finding, Finding::Geometry(_))
+}
