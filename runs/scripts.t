@@ -81,3 +81,18 @@ A build that fails says so and runs nothing, also where an older program is ther
   0 passed, 1 failed
   runs read
   [1]
+
+The script of the other program: its own words, what it builds, and what it runs
+
+  $ env PATH=/usr/bin:/bin "$top/bin/geoarrow_check" --help | head -n 1
+  > env PATH=/usr/bin:/bin "$top/bin/geoarrow_check" --version | head -n 1
+  > . ./stand_in.sh
+  > bin/geoarrow_check --json 'a b' c 2>&1 | sed 's/; what rt says.*//'
+  > bin/geoarrow_check --json -
+  usage: geoarrow_check --json [--infer] [--require-geometry] FILE..
+  geoarrow_fields 1.0.0, a port of geoarrow-schema 0.9.0
+  geoarrow_check: proving and building the program
+  geoarrow_check: proved geoarrow_check
+  geoarrow_check: built
+  runs --json a b c
+  runs --json -

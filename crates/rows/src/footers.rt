@@ -1,6 +1,8 @@
-//! Rows of Parquet footers: calls of `parquet_footer`. A row's text is bytes in hexadecimal digits.
+//! Rows of Parquet footers: calls of `parquet_footer` and `parquet_columns`. A row's text is bytes in hexadecimal digits.
 use crate::asked::Asked;
 use crate::said::{Said, say};
+use arrow_columns::Column;
+use parquet_columns::{ColumnsError, Fault, columns_of};
 use parquet_footer::{
     Footer, FooterError, KeyValue, LogicalType, SchemaElement, footer_length, read_footer,
 };
@@ -17,6 +19,7 @@ pub fn answer(it: &mut Asked<'_>) -> Result<(), AllocError> {
             it.after();
             say_answer(&mut it.said, &read);
         }
+        "columns_of" => answer_columns(it, bytes.as_slice()),
         "footer_length" => match bytes.as_slice().first_chunk::<8>() {
             Some(tail) => {
                 it.before();
@@ -31,6 +34,19 @@ pub fn answer(it: &mut Asked<'_>) -> Result<(), AllocError> {
         _ => it.no_command(),
     }
     Ok(())
+}
+
+/// Says the columns of the footer that some bytes are.
+fn answer_columns(it: &mut Asked<'_>, bytes: &[u8]) {
+    match read_footer(it.alloc, bytes) {
+        Ok(footer) => {
+            it.before();
+            let made = columns_of(it.alloc, &footer);
+            it.after();
+            say_columns(it.alloc, &mut it.said, &made);
+        }
+        Err(_) => it.said.fail(),
+    }
 }
 
 /// Says a length, or why there is none.
@@ -54,6 +70,9 @@ fn say_or_dash<T: Debug>(said: &mut Said, value: &Option<T>) {
 fn say_logical(said: &mut Said, logical: &Option<LogicalType<'_>>) {
     match logical {
         None => said.push(" -"),
+        Some(LogicalType::Time(utc, unit)) => say!(said, " Time({utc}, {unit:?})"),
+        Some(LogicalType::Timestamp(utc, unit)) => say!(said, " Timestamp({utc}, {unit:?})"),
+        Some(LogicalType::Integer(bits, signed)) => say!(said, " Integer({bits}, {signed})"),
         Some(LogicalType::Other(id)) => say!(said, " Other({id})"),
         Some(LogicalType::Geometry(crs)) => {
             let crs = crs.unwrap_or("-");
@@ -110,6 +129,23 @@ fn say_answer(said: &mut Said, read: &Result<Footer<'_>, FooterError>) {
         Err(FooterError::Invalid(rule, offset)) => say!(said, "Invalid {rule:?} {offset}"),
         Err(FooterError::Memory) => said.fail(),
         Err(error) => said.name(error),
+    }
+}
+
+/// Says columns in Arrow's notation, or the rule that is broken and by which element; out of memory is no answer.
+fn say_columns(alloc: Global, said: &mut Said, made: &Result<Vec<Column>, ColumnsError>) {
+    match made {
+        Ok(columns) => {
+            for (at, column) in columns.iter().enumerate() {
+                said.push(if at > 0 { "; " } else { "" });
+                said.made(column.notation(alloc));
+            }
+        }
+        Err(ColumnsError::Broken(fault)) => {
+            let Fault { rule, at } = fault;
+            say!(said, "{rule:?} {at}");
+        }
+        Err(ColumnsError::OutOfMemory) => said.fail(),
     }
 }
 

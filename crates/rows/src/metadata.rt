@@ -1,4 +1,4 @@
-//! Rows of metadata, of CRS and of their parts: calls of `geoarrow_meta`.
+//! Rows of metadata, of CRS and of their parts: calls of `geoarrow_meta` and `crs_text`.
 mod crs;
 mod texts;
 mod transforms;
@@ -29,6 +29,7 @@ fn read_or_compare(it: &mut Asked<'_>) -> Result<(), AllocError> {
     match it.command {
         "deserialize" => texts::deserialized(it, Some(it.text)),
         "of_no_text" => texts::deserialized(it, None),
+        "crs_text" => texts::crs_as_written(it),
         "from_value" => return texts::from_value(it),
         "Metadata::same_written" => return texts::same_written(it),
         "equal" => return equal::<Metadata>(it),
