@@ -10,3 +10,4 @@ mod Known
 mod Typed
 mod TypeOf
 mod Words
+mod Levels

@@ -8,3 +8,4 @@ pub mod Types
 pub mod Tells
 pub mod Columns
 pub mod Schema
+pub mod Denotes

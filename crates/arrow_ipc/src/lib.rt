@@ -5,6 +5,7 @@
 mod columns;
 mod fault;
 mod kinds;
+pub mod laws;
 mod longs;
 mod parts;
 mod schema;
