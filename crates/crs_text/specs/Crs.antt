@@ -5,6 +5,7 @@ use Rattle.json.specs.Word.{is_space}
 use Rattle.serde_json.specs.Data.{Data}
 use Rattle.serde_json.specs.Find.{get}
 use Rattle.serde_json.specs.Read.{read}
+use Rattle.value_places.specs.Lexemes.{NoSpaceBefore}
 use Rattle.crs_text.specs.Members.{IsLastOf}
 use Rattle.crs_text.specs.declared.members.Place.{Place}
 
@@ -16,7 +17,7 @@ crs_of text = option_and_then (get (codes "crs")) (read text)
 abbrev pub part : List ℕ → ℕ → ℕ → List ℕ
 part text from to = take (to - from) (drop from text)
 
--- that part of the text, which begins with no space, is the value of its last key `crs`, and is by itself a JSON text of that value
+-- that part of the text, which has no space at either end, is the value of its last key `crs`, and is by itself a JSON text of that value
 pub record IsValueOfCrs (text written : List ℕ) : Type 0 where
   pub value : Data
   pub found : crs_of text ≡ Some value
@@ -26,6 +27,7 @@ pub record IsValueOfCrs (text written : List ℕ) : Type 0 where
   pub last : IsLastOf (codes "crs") text from to
   pub between : written ≡ part text from to
   pub no_space : is_space (slice_index text from) ≡ false
+  pub solid : NoSpaceBefore text to
 
 -- what is answered for a text
 abbrev pub IsCrsText : List ℕ → Option (List ℕ) → Type 0
@@ -41,6 +43,7 @@ pub record Denotes (text : List ℕ) (p : Place) (d : Data) : Type 0 where
   pub begins : IsCharBoundary text p.from
   pub ends : IsCharBoundary text p.to
   pub no_space : is_space (slice_index text p.from) ≡ false
+  pub solid : NoSpaceBefore text p.to
   pub value : read (part text p.from p.to) ≡ Some d
 
 -- the value is written there, if there is one

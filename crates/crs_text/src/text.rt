@@ -11,9 +11,10 @@ use std::alloc::{AllocError, Global};
 use value_places::members_start;
 use value_tokens::MAX_DEPTH;
 
-/// The part of a metadata text that is the value of its last key `crs`, as it is written (GeoArrow, "Extension metadata"). `None`
-/// where the text is no JSON object, as `serde_json` reads it, or has no key `crs`. A null is answered as the text `null`. Keys
-/// with escapes count as the keys that they denote. Errs only when out of memory.
+/// The part of a metadata text that is the value of its last key `crs`, as it is written (GeoArrow, "Extension metadata"), with no
+/// space at either end. `None` where the text is no JSON object, as `serde_json` reads it, or has no key `crs`. A null is answered as
+/// the text `null`. Keys with escapes count as the keys that they denote. Errs only when out of memory. Takes time and memory that
+/// grow with the length of the text.
 ///
 /// ```rust
 /// let text = r#"{"crs": {"epoch": 2010.50}, "edges": "spherical"}"#;

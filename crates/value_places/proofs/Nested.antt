@@ -402,6 +402,12 @@ none_begins (token (boolean b)) k ls other opens = absurd (other refl)
 none_begins (token null) k ls other opens = absurd (other refl)
 none_begins (token bad) k ls other opens = absurd (other refl)
 
+pub none_bad : (k : ℕ) (d : Data) (r : List Token) (l : Lexeme) (ls : List Lexeme) → l ≡ token bad → next_value k (punctuate fresh (l ∷ ls)) ≡ Some (d, r) → ⊥
+unfolding punctuate
+none_bad k d r l ls is e =
+    let none : next_value k (punctuate fresh (l ∷ ls)) ≡ None = ap (λ l. next_value k (punctuate fresh (l ∷ ls))) is ∙ no_bad k [] in
+    let never = sym none ∙ e in cc
+
 -- the value that begins with these lexemes is theirs
 pub record Alone (l : Lexeme) (xs ls : List Lexeme) : Type 0 where
   pub rest : (k : ℕ) (d : Data) (r : List Token) → next_value k (punctuate fresh (l ∷ xs ++ ls)) ≡ Some (d, r) → r ≡ punctuate after_value ls

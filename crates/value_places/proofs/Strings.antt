@@ -1,7 +1,8 @@
 -- The content of a string is read from the bytes up to its closing quote, and from no more.
-use Rattle.std.proofs.Common.{◌≡◌, ℕ, Bool, true, false, cond, ◌&&◌, ◌==◌, List, [], ◌∷◌, ◌++◌, nat_lt, Option, Some, None, option_and_then, refl, sym, ap, ◌∙◌, append_assoc}
+use Rattle.std.proofs.Common.{◌≡◌, ℕ, ◌+◌, ◌-◌, ◌≤◌, Bool, true, false, cond, ◌&&◌, ◌==◌, List, [], ◌∷◌, ◌++◌, length, drop, get_or, nat_lt, Option, Some, None, option_and_then, refl, sym, ap, ◌∙◌, arith, append_assoc, length-append, length-drop}
 use Rattle.std.proofs.lemmas.Bool.{true≢false, eqb-true, ne_eqb, and_parts}
-use Rattle.std.proofs.lemmas.List.{append_cancel_right}
+use Rattle.std.proofs.lemmas.List.{append_cancel_right, get_or-drop}
+use Rattle.std.proofs.Math.Seq.{get_or-append_seam}
 use Rattle.std.specs.Char.{is_digit, encode_utf8}
 use Rattle.json.specs.Text.{Within, plain, after_backslash, after_u, after_high, content, prepend, code_unit, short_escape, is_high_surrogate, is_low_surrogate, surrogate_pair}
 use Rattle.json.specs.Word.{is_operator, is_space}
@@ -179,3 +180,12 @@ same_option None None f g = refl
 pub content_same : (g p q xs ys : List ℕ) → xs ≡ g ++ p → past false xs ≡ p → ys ≡ g ++ q → past false ys ≡ q → content plain xs ≡ content plain ys
 content_same g p q xs ys left over right over2 =
     same_option (content plain xs) (content plain ys) (λ s. moved g p q xs ys s left over right) (λ s. moved g q p ys xs s right over2 left)
+
+-- before the place behind a content is its closing quote
+pub closing : (text : List ℕ) (i j : ℕ) (s : List ℕ) → i ≤ length text → j ≤ length text → past false (drop i text) ≡ drop j text → content plain (drop i text) ≡ Some s → get_or text (j - 1) 0 ≡ 34
+closing text i j s low high over e =
+    let h = closes plain (drop i text) s e in
+    let split : drop i text ≡ h.front ++ 34 ∷ drop j text = h.split ∙ ap (λ r. h.front ++ 34 ∷ r) over in
+    let lengths : length text - i ≡ length h.front + length (34 ∷ drop j text) = sym (length-drop i text) ∙ ap length split ∙ length-append h.front (34 ∷ drop j text) in
+    let place : i + length h.front ≡ j - 1 = omega (arith, length-drop j text) in
+    ap (λ k. get_or text k 0) (sym place) ∙ sym (get_or-drop i text (length h.front) 0) ∙ ap (λ r. get_or r (length h.front) 0) split ∙ get_or-append_seam h.front 34 (drop j text) 0

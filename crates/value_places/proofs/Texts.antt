@@ -6,7 +6,7 @@ use Rattle.json.specs.Token.{Token, bad, boolean, null, number}
 use Rattle.json.specs.Ascii.{true_text, false_text, null_text}
 use Rattle.json.specs.Text.{content, plain}
 use Rattle.json.specs.Word.{head, is_space, ends_word, word, number_before, after_number}
-use Rattle.json.specs.Lex.{string_token}
+use Rattle.json.specs.Lex.{token, string_token}
 use Rattle.value_places.specs.declared.lexemes.Kind.TheVariants.{Other}
 use Rattle.value_places.specs.Lexemes.{cut, kind_of_token}
 use Rattle.value_places.proofs.Cuts.{cut_more, cut_over, text_over, cut_none, cut_split}
@@ -86,6 +86,11 @@ module _ (text : List ℕ) where
 pub string_kind : (o : Option (List ℕ)) → kind_of_token (string_token o) ≡ Other
 string_kind None = refl
 string_kind (Some s) = refl
+
+-- a string whose content is read
+pub string_solid : {P : Type 0} (o : Option (List ℕ)) → ((s : List ℕ) → o ≡ Some s → P) → (token (string_token o) ≡ token bad → ⊥) → P
+string_solid None f good = absurd (good refl)
+string_solid (Some s) f good = f s refl
 
 word_kinds : (a b c d e f : Bool) (n : Token) → kind_of_token n ≡ Other → kind_of_token (cond a (cond d (boolean true) bad) (cond b (cond e (boolean false) bad) (cond c (cond f null bad) n))) ≡ Other
 word_kinds true b c true e f n h = refl

@@ -13,6 +13,14 @@ use Rattle.json.specs.Word.{is_operator, is_space, head, ends_word, after_digits
 abbrev pub ends : ℕ → Bool
 ends x = is_operator x || is_space x
 
+either_false : (b c : Bool) → (b || c) ≡ false → c ≡ false
+either_false true c h = absurd (true≢false h)
+either_false false c h = h
+
+-- what ends no word is no space
+pub no_space : (x : ℕ) → ends x ≡ false → is_space x ≡ false
+no_space x h = either_false (is_operator x) (is_space x) h
+
 either : {P : Type 0} (b c : Bool) → (b ≡ true → P) → (c ≡ true → P) → (b || c) ≡ true → P
 either b c p q h = ⊎_elim p q (or_cases b c h)
 

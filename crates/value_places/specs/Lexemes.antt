@@ -1,6 +1,7 @@
 -- The lexemes of a JSON text, by the places between which they are.
-use Rattle.std.specs.Prelude.{◌≡◌, ℕ, ◌≤◌, ◌<◌, List, ◌∷◌, length, take, drop, Bool, cond}
-use Rattle.json.specs.Token.{Token, begin_object, end_object, begin_array, end_array}
+use Rattle.std.specs.Prelude.{◌≡◌, ℕ, ◌-◌, ◌≤◌, ◌<◌, List, ◌∷◌, length, take, drop, slice_index, Bool, false, cond}
+use Rattle.json.specs.Token.{Token, begin_object, end_object, begin_array, end_array, bad}
+use Rattle.json.specs.Word.{is_space}
 use Rattle.json.specs.Lex.{Lexeme, token, comma, colon, between, lex, fresh, after_value, punctuate}
 use Rattle.value_places.specs.declared.lexemes.Kind.{Kind}
 use Rattle.value_places.specs.declared.lexemes.Kind.TheVariants.{Comma, Colon, Open, Close, Other}
@@ -31,8 +32,13 @@ kind_of comma = Comma
 kind_of colon = Colon
 kind_of (token t) = kind_of_token t
 
--- the lexeme is between the two places, with nothing but spaces, wherever the text is cut behind it
+-- the text has no space right before that place
+abbrev pub NoSpaceBefore : List ℕ → ℕ → Type 0
+NoSpaceBefore text j = is_space (slice_index text (j - 1)) ≡ false
+
+-- the lexeme is between the two places, with nothing but spaces, wherever the text is cut behind it; no space is behind it, unless it is no token
 pub record Passes (text : List ℕ) (i : ℕ) (l : Lexeme) (j : ℕ) : Type 0 where
   pub forward : i < j
   pub within : j ≤ length text
   pub same : (m : ℕ) → j ≤ m → lexemes_at (take m text) i ≡ l ∷ lexemes_at (take m text) j
+  pub solid : (l ≡ token bad → ⊥) → NoSpaceBefore text j

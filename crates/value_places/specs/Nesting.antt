@@ -3,7 +3,7 @@ use Rattle.std.specs.Prelude.{◌≡◌, ℕ, zero, suc, ◌≤◌, List, [], �
 use Rattle.json.specs.Lex.{Lexeme}
 use Rattle.value_places.specs.declared.lexemes.Kind.{Kind}
 use Rattle.value_places.specs.declared.lexemes.Kind.TheVariants.{Comma, Colon, Open, Close, Other}
-use Rattle.value_places.specs.Lexemes.{kind_of, lexemes_at}
+use Rattle.value_places.specs.Lexemes.{kind_of, lexemes_at, NoSpaceBefore}
 
 -- the brackets that are open after a lexeme of that kind, where n + 1 were open before it
 abbrev pub open_after : Kind → ℕ → ℕ
@@ -27,6 +27,7 @@ pub record Closes (text : List ℕ) (i j : ℕ) : Type 0 where
   pub lexemes : List Lexeme
   pub ends : Ends true 1 lexemes
   pub same : (m : ℕ) → j ≤ m → lexemes_at (take m text) i ≡ lexemes ++ lexemes_at (take m text) j
+  pub solid : NoSpaceBefore text j
 
 -- no bracket from there on closes the one before
 abbrev pub NeverCloses : List ℕ → ℕ → Type 0

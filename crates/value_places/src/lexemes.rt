@@ -2,13 +2,13 @@
 //!
 //! A lexeme is a token, a comma or a colon, as `json` has them. What is said of a place holds wherever the text is cut behind
 //! it: so a value that is cut out of a text has the lexemes that it has there.
-ghost use Rattle.std.specs.Prelude.{◌≡◌, ℕ, ◌≤◌, ◌<◌, ◌||◌, ◌==◌, cond, [], length, drop, take, slice_index, true, false, MatchOption, IfSome};
+ghost use Rattle.std.specs.Prelude.{◌≡◌, ℕ, ◌-◌, ◌≤◌, ◌<◌, ◌||◌, ◌==◌, cond, List, [], length, drop, take, slice_index, true, false, Some, MatchOption, IfSome};
 ghost use Rattle.std.specs.Str.{IsCharBoundary};
 ghost use Rattle.json.specs.Lex as lexer;
 ghost use Rattle.json.specs.Lex.{lex, in_string, in_word};
 ghost use Rattle.json.specs.Text.{content, plain};
 ghost use Rattle.json.specs.Word as word;
-ghost use Rattle.value_places.specs.Lexemes.{cut, lexemes_at, kind_of, Passes};
+ghost use Rattle.value_places.specs.Lexemes.{cut, lexemes_at, kind_of, Passes, NoSpaceBefore};
 
 /// What a lexeme is to the nesting of values.
 #[derive(Debug, Clone, Copy, PartialEq, Eq)]
@@ -100,6 +100,7 @@ fn string_end(text: &str, from: usize) -> usize
     ensures within { (from ≤ result) × (result ≤ length text.now) }
     ensures passes { (m : ℕ) → result ≤ m → lex in_string (cut text.now m from) ≡ lexemes_at (take m text.now) result }
     ensures content { (m : ℕ) → result ≤ m → content plain (cut text.now m from) ≡ content plain (drop from text.now) }
+    ensures closed { (s : List ℕ) → content plain (drop from text.now) ≡ Some s → slice_index text.now (result - 1) ≡ 34 }
     ensures boundary { IsCharBoundary text.now result }
 {
     let bytes = text.as_bytes();
@@ -122,10 +123,12 @@ fn content_len(byte: u8) -> usize
 
 // The first place from there on where no word goes on.
 fn word_end(text: &str, from: usize) -> usize
-    requires { from ≤ length text.now }
+    requires within { from ≤ length text.now }
+    requires begun { NoSpaceBefore text.now from }
     ensures within { (from ≤ result) × (result ≤ length text.now) }
     ensures passes { (m : ℕ) → result ≤ m → lex in_word (cut text.now m from) ≡ lexemes_at (take m text.now) result }
     ensures ended { (m : ℕ) → result ≤ m → word.ends_word (cut text.now m result) ≡ true }
+    ensures solid { NoSpaceBefore text.now result }
     ensures boundary { IsCharBoundary text.now result }
 {
     let bytes = text.as_bytes();

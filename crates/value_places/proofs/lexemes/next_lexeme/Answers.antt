@@ -13,4 +13,4 @@ returns-then-at-text-clause-lexeme c =
 pub returns-clause-lexeme : goal.returns-clause-lexeme
 returns-clause-lexeme c =
     let l = c.lexeme_at.ensures.lexeme in
-    (l.0, l.1, record { forward = omega (arith, l.2.forward); within = l.2.within; same = λ m h. c.after_spaces-at.ensures.same m (omega (arith, l.2.forward)) ∙ l.2.same m h })
+    (l.0, l.1, record { forward = omega (arith, l.2.forward); within = l.2.within; same = λ m h. c.after_spaces-at.ensures.same m (omega (arith, l.2.forward)) ∙ l.2.same m h; solid = l.2.solid })

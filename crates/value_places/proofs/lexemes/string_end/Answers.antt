@@ -1,9 +1,10 @@
-use Rattle.std.proofs.Common.{◌≡◌, ◌+◌, ◌≤◌, ℕ, ◌==◌, cond, get_or, length, false, inl, inr, ⊎_elim, refl, sym, ap, ◌∙◌, arith}
+use Rattle.std.proofs.Common.{◌≡◌, ◌+◌, ◌-◌, ◌≤◌, ℕ, ◌==◌, cond, get_or, length, drop, false, inl, inr, ⊎_elim, refl, sym, ap, ◌∙◌, arith}
 use Rattle.std.proofs.lemmas.Bool.{ne_eqb}
 use Rattle.std.proofs.lemmas.Str.{IsCharBoundary-after_ascii}
 use Rattle.json.specs.Lex.{between, lex}
 use Rattle.value_places.specs.Lexemes.{cut}
-use Rattle.value_places.proofs.Strings.{past, lex_past}
+use Rattle.value_places.proofs.Cuts.{cut_none}
+use Rattle.value_places.proofs.Strings.{past, lex_past, closing}
 use Rattle.value_places.proofs.Texts.{past_quote, past_step, past_end, content_cut}
 use Rattle.value_places.proofs.lexemes.string_end.Goals as goal
 use Rattle.value_places.proofs.lexemes.string_end.Goals.{Then-bytes-at-eq34, After-loop-at}
@@ -32,6 +33,12 @@ returns-then-bytes-at-eq34-clause-passes c m h = lex_past false (cut c.args.text
 pub returns-then-bytes-at-eq34-clause-content : goal.returns-then-bytes-at-eq34-clause-content
 returns-then-bytes-at-eq34-clause-content c m h = content_cut c.args.text.now c.args.from (c.loop-at.at + 1) (omega arith) (omega arith) (closed c) m h
 
+pub returns-then-bytes-at-eq34-clause-closed : goal.returns-then-bytes-at-eq34-clause-closed
+returns-then-bytes-at-eq34-clause-closed c s e =
+    let i = c.loop-at.at in
+    let place : i + 1 - 1 ≡ i = omega arith in
+    ap (λ k. get_or c.args.text.now k 0) place ∙ ap (λ t. get_or t i 0) (sym c.as_bytes-bytes.ensures.value) ∙ c.if-bytes-at-eq34.true
+
 pub returns-then-bytes-at-eq34-clause-boundary : goal.returns-then-bytes-at-eq34-clause-boundary
 returns-then-bytes-at-eq34-clause-boundary c =
     IsCharBoundary-after_ascii c.args.text.now c.loop-at.at c.utf8.text (omega arith) (omega (arith, ap (λ t. get_or t c.loop-at.at 0) (sym c.as_bytes-bytes.ensures.value) ∙ c.if-bytes-at-eq34.true))
@@ -41,3 +48,12 @@ returns-clause-passes c m h =
     let text = c.args.text.now in
     let n : length text ≡ length c.as_bytes-bytes.result.now = omega arith in
     lex_past false (cut text m c.args.from) ∙ ap (lex between) (c.loop-at.invariant.same m (inr (omega arith)) ∙ past_end text m c.loop-at.at (omega arith)) ∙ ap (λ k. lex between (cut text m k)) n
+
+pub returns-clause-closed : goal.returns-clause-closed
+returns-clause-closed c s e =
+    let text = c.args.text.now in
+    let n = length text in
+    let is : n ≡ length c.as_bytes-bytes.result.now = omega arith in
+    let over : past false (drop c.args.from text) ≡ drop n text =
+    ap (past false) (sym (cut_none text n c.args.from (omega arith))) ∙ c.loop-at.invariant.same n (inr (omega arith)) ∙ past_end text n c.loop-at.at (omega arith) ∙ cut_none text n n (omega arith) in
+    ap (λ k. get_or text (k - 1) 0) (sym is) ∙ closing text c.args.from n s (omega arith) (omega arith) over e

@@ -2,7 +2,7 @@ use Rattle.std.proofs.Common.{[], ◌∷◌, ◌++◌, true, false, take, sym, a
 use Rattle.std.proofs.lemmas.List.{append-nil}
 use Rattle.value_places.specs.Lexemes.{lexemes_at}
 use Rattle.value_places.specs.Nesting.{Ends}
-use Rattle.value_places.proofs.Ends.{still_open, all_closed, depth_most, ends_before, uncut}
+use Rattle.value_places.proofs.Ends.{last_closes, closes_well, still_open, all_closed, depth_most, ends_before, uncut}
 use Rattle.value_places.proofs.values.close_end.Goals as goal
 
 pub returns-in-None-clause-closes : goal.returns-in-None-clause-closes
@@ -22,6 +22,7 @@ loop-depth-preserved c =
       within = passes.within;
       bound = omega (arith, passes.forward, most);
       boundary = λ h. c.in-Some.ensures.boundary;
+      solid = λ h. passes.solid (closes_well next.0 c.in-Some.lexeme.kind next.1 (last_closes l.depth c.depth_after-depth.result c.in-Some.lexeme.kind (omega arith) c.depth_after-depth.ensures h));
       lexemes = l.invariant.lexemes ++ next.0 ∷ [];
       same = λ m h. l.invariant.same m (omega (arith, passes.forward)) ∙ ap (λ ls. l.invariant.lexemes ++ ls) (passes.same m h)
           ∙ sym (append_assoc l.invariant.lexemes (next.0 ∷ []) (lexemes_at (take m c.args.text.now) c.in-Some.lexeme.end));
@@ -38,4 +39,5 @@ returns-clause-closes c =
       lexemes = l.invariant.lexemes;
       ends = subst (λ ls. Ends true 1 ls) (append-nil l.invariant.lexemes) (l.invariant.ends true [] (all_closed l.depth c.loop-depth-test.false));
       same = l.invariant.same;
+      solid = l.invariant.solid c.loop-depth-test.false;
     }

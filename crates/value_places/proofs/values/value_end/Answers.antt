@@ -4,7 +4,7 @@ use Rattle.json.specs.Lex.{fresh, punctuate}
 use Rattle.value_tokens.specs.Next.{next_value}
 use Rattle.value_tokens.specs.Turns.{no_value}
 use Rattle.value_places.specs.Lexemes.{lexemes_at}
-use Rattle.value_places.proofs.Nested.{none_begins, leaf_alone}
+use Rattle.value_places.proofs.Nested.{none_bad, none_begins, leaf_alone}
 use Rattle.value_places.proofs.Ends.{uncut, ends_value, opened_end, if_some_at}
 use Rattle.value_places.proofs.values.value_end.Goals as goal
 
@@ -16,7 +16,9 @@ pub returns-in-Other-clause-ends : goal.returns-in-Other-clause-ends
 returns-in-Other-clause-ends c =
     let l = c.in-Some.ensures.lexeme in
     let text = c.args.text.now in
-    ends_value text c.args.from c.in-Some.first.end l.0 [] l.2.forward l.2.within l.2.same (leaf_alone l.0 (lexemes_at text c.in-Some.first.end) (l.1 ∙ c.in-Other.is))
+    let end = c.in-Some.first.end in
+    ends_value text c.args.from end l.0 [] l.2.forward l.2.within l.2.same (leaf_alone l.0 (lexemes_at text end) (l.1 ∙ c.in-Other.is))
+    (λ k d r e. l.2.solid (λ wrong. none_bad k d r l.0 (lexemes_at text end) wrong (ap (λ ls. next_value k (punctuate fresh ls)) (sym (uncut text c.args.from end (l.0 ∷ []) l.2.within l.2.same)) ∙ e)))
 
 pub returns-in-Open-clause-ends : goal.returns-in-Open-clause-ends
 returns-in-Open-clause-ends c =
