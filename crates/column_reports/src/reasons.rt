@@ -1,13 +1,23 @@
 //! The reasons of a column that is invalid.
 ghost use Rattle.std.specs.Prelude.{◌≡◌, ◌∷◌, [], ◌++◌, IfOk, OnOk, map, option_map, string_bytes};
 ghost use Rattle.geoarrow_layout.specs.Faults.{fault_text};
-ghost use Rattle.column_reports.specs.Reasons.{reason_text, own_reason, fault_code, type_reason, metadata_reasons, reasons_of};
+ghost use Rattle.column_reports.specs.Reasons.{reason_text, own_reason, fault_code, type_message, type_reason, metadata_reasons, reasons_of};
 ghost use Rattle.column_reports.specs.Report.{reasons_in};
 
 use crate::parts::{add_text, add_value, array_of_texts, enclosed};
 use column_check::{Finding, MetadataFault, Reasons, TypeFault};
 use geoarrow_layout::LayoutFault;
 use std::alloc::{AllocError, Global};
+
+pub(crate) const CRS_TYPE_MESSAGE: &str = "unknown crs_type";
+
+pub(crate) const EDGES_MESSAGE: &str = "unknown edges";
+
+pub(crate) const NOT_JSON_MESSAGE: &str = "metadata is not JSON";
+
+pub(crate) const NOT_OBJECT_MESSAGE: &str = "metadata is not an object";
+
+pub(crate) const EXTENSION_MESSAGE: &str = "GeoArrow has no extension type of this name";
 
 /// The code of a layout's fault.
 fn fault_code(fault: LayoutFault) -> &'static str
@@ -47,6 +57,19 @@ fn fault_message(fault: LayoutFault) -> &'static str
     }
 }
 
+/// The message of a type's fault.
+pub(crate) fn type_message(fault: &TypeFault) -> &'static str
+    ensures { result.now ≡ type_message fault.now }
+{
+    match fault {
+        TypeFault::UnsupportedType => "no layout of GeoArrow has this type",
+        TypeFault::WrongStorage => {
+            "well-known binary needs a binary type, and well-known text a text type"
+        }
+        TypeFault::Layout(of_layout, _) => fault_message(*of_layout),
+    }
+}
+
 /// A reason.
 fn reason_text(
     alloc: Global,
@@ -76,20 +99,12 @@ fn type_reason(alloc: Global, fault: &TypeFault) -> Result<String, AllocError>
     ensures { IfOk result (λ json. string_bytes json ≡ type_reason fault.now) }
 {
     match fault {
-        TypeFault::UnsupportedType => own_reason(
+        TypeFault::UnsupportedType => { own_reason(alloc, "UnsupportedType", type_message(fault)) }
+        TypeFault::WrongStorage => own_reason(alloc, "WrongStorage", type_message(fault)),
+        TypeFault::Layout(of_layout, names) => reason_text(
             alloc,
-            "UnsupportedType",
-            "no layout of GeoArrow has this type",
-        ),
-        TypeFault::WrongStorage => own_reason(
-            alloc,
-            "WrongStorage",
-            "well-known binary needs a binary type, and well-known text a text type",
-        ),
-        TypeFault::Layout(fault, names) => reason_text(
-            alloc,
-            fault_code(*fault),
-            fault_message(*fault),
+            fault_code(*of_layout),
+            type_message(fault),
             names.as_slice(),
         ),
     }
@@ -125,22 +140,20 @@ fn add_metadata(
     ensures { OnOk result (map string_bytes reasons.new.items ≡ map string_bytes reasons.old.items ++ metadata_reasons fault) }
 {
     match fault {
-        MetadataFault::NotJson => {
-            add_own(alloc, reasons, "MetadataNotJson", "metadata is not JSON")
-        }
+        MetadataFault::NotJson => { add_own(alloc, reasons, "MetadataNotJson", NOT_JSON_MESSAGE) }
         MetadataFault::NotObject => add_own(
             alloc,
             reasons,
             "MetadataNotObject",
-            "metadata is not an object",
+            NOT_OBJECT_MESSAGE,
         ),
         MetadataFault::UnknownCrsType => {
-            add_own(alloc, reasons, "UnknownCrsType", "unknown crs_type")
+            add_own(alloc, reasons, "UnknownCrsType", CRS_TYPE_MESSAGE)
         }
-        MetadataFault::UnknownEdges => add_own(alloc, reasons, "UnknownEdges", "unknown edges"),
+        MetadataFault::UnknownEdges => add_own(alloc, reasons, "UnknownEdges", EDGES_MESSAGE),
         MetadataFault::UnknownCrsTypeAndEdges => {
-            add_own(alloc, reasons, "UnknownCrsType", "unknown crs_type")?;
-            add_own(alloc, reasons, "UnknownEdges", "unknown edges")
+            add_own(alloc, reasons, "UnknownCrsType", CRS_TYPE_MESSAGE)?;
+            add_own(alloc, reasons, "UnknownEdges", EDGES_MESSAGE)
         }
     }
 }
@@ -150,12 +163,7 @@ fn add_all(alloc: Global, reasons: &mut Vec<String>, all: &Reasons) -> Result<()
     ensures { OnOk result (map string_bytes reasons.new.items ≡ map string_bytes reasons.old.items ++ reasons_of all.now) }
 {
     match all {
-        Reasons::UnknownExtension => add_own(
-            alloc,
-            reasons,
-            "UnknownExtension",
-            "GeoArrow has no extension type of this name",
-        ),
+        Reasons::UnknownExtension => add_own(alloc, reasons, "UnknownExtension", EXTENSION_MESSAGE),
         Reasons::DataType(fault) => add_type(alloc, reasons, fault),
         Reasons::Metadata(fault) => add_metadata(alloc, reasons, *fault),
         Reasons::DataTypeAndMetadata(of_type, of_text) => {

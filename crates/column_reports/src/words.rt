@@ -24,8 +24,8 @@ pub(crate) fn state_word(finding: &Finding) -> &'static str
     }
 }
 
-/// The geometries that a column holds or is taken for.
-pub(crate) fn geometry_in(finding: &Finding) -> Option<&Geometry>
+/// The geometries that a column holds or is taken for, if any. Allocates nothing.
+pub fn geometry_in(finding: &Finding) -> Option<&Geometry>
     ensures { option_map (λ g. g.now) result ≡ geometry_in finding.now }
 {
     match finding {
@@ -56,8 +56,9 @@ fn edges_word(edges: Option<Edges>) -> &'static str
     }
 }
 
-/// The type of a column.
-pub(crate) fn type_word(
+/// The type of a column, as the report has it (`docs/FORMAT.md`, 2.5): of geometries, which `geometry_in` finds, their kind, coordinate type and
+/// dimension; of any other column its type in Arrow's usual notation. Errs only when out of memory.
+pub fn type_word(
     alloc: Global,
     column: &Column,
     geometry: Option<&Geometry>,
