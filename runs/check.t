@@ -1,4 +1,69 @@
-The first example of the README
+The first example of the README: a table
+
+  $ geoarrow_check ../examples/schema.jsonl
+  column     holds                                                                  CRS        edges
+  id         int64
+  outline    multipolygon interleaved XYZ                                           EPSG:4326  spherical
+  any        geometry separated -                                                              planar
+  footprint  wkb - -                                                                           planar
+  label      invalid geoarrow.wkb
+      well-known binary needs a binary type, and well-known text a text type
+  track      struct<x: float64 not null, y: float64 not null, m: float64 not null>
+  broken     invalid geoarrow.geometry
+      union has no members
+  [1]
+
+Several files, each under its name; a CRS by its code, its name or its text; an extension; what is inferred; places of faults; names that control terminals
+
+  $ cat > "$TMPDIR/one" << 'END'
+  > {"metadata":{"ARROW:extension:metadata":"{\"crs\":{\"name\":\"WGS 84\",\"scale\":0.5}}","ARROW:extension:name":"geoarrow.wkb"},"name":"named","nullable":true,"type":"binary"}
+  > {"metadata":{"ARROW:extension:metadata":"{\"crs\":{\"id\":{\"authority\":\"OGC\",\"code\":\"CRS84\"}}}","ARROW:extension:name":"geoarrow.wkb"},"name":"code","nullable":true,"type":"binary"}
+  > {"metadata":{"ARROW:extension:metadata":"{\"crs\":\"0123456789012345678901234567890123456789x\"}","ARROW:extension:name":"geoarrow.wkb"},"name":"long","nullable":true,"type":"binary"}
+  > {"metadata":{"ARROW:extension:metadata":"{\"crs\":4326.5}","ARROW:extension:name":"geoarrow.wkb"},"name":"number","nullable":true,"type":"binary"}
+  > {"metadata":{"ARROW:extension:name":"arrow.bool8"},"name":"flag\u001b[1m","nullable":true,"type":"int8"}
+  > {"metadata":{"ARROW:extension:metadata":"{\"edges\":1}","ARROW:extension:name":"geoarrow.linestring"},"name":"bad","nullable":true,"type":{"list":{"name":"v","nullable":true,"type":{"struct":[]}}}}
+  > END
+  > echo '{"name":"wkt","nullable":true,"type":"utf8"}' > "$TMPDIR/two"
+  > cd "$TMPDIR" && geoarrow_check --infer one two
+  one:
+  column    holds                        CRS                                       edges
+  named     wkb - -                      WGS 84                                    planar
+  code      wkb - -                      OGC:CRS84                                 planar
+  long      wkb - -                      0123456789012345678901234567890123456789  planar
+  number    wkb - -                      a CRS                                     planar
+  flag?[1m  extension arrow.bool8
+  bad       invalid geoarrow.linestring
+      unexpected number of fields at v
+      unknown edges
+  two:
+  column  holds              CRS  edges
+  wkt     taken for wkt - -       planar
+  [1]
+
+Nothing but the status
+
+  $ geoarrow_check --quiet ../examples/schema.jsonl
+  [1]
+
+  $ geoarrow_check --quiet ../crates/geoarrow_check/data/file.arrow
+
+The columns as lines, which the other program reads
+
+  $ geoarrow_check --lines ../crates/geoarrow_check/data/file.arrow
+  {"metadata":{"ARROW:extension:name":"geoarrow.linestring"},"name":"g","nullable":true,"type":{"list":{"name":"vertices","nullable":false,"type":{"fixed_size_list":{"name":"xym","nullable":false,"type":"float64"},"size":3}}}}
+
+  $ geoarrow_check --lines ../crates/geoarrow_check/data/file.arrow | geoarrow_fields read
+  linestring interleaved XYM -
+
+  $ geoarrow_check --lines ../examples/schema.jsonl | cmp - ../examples/schema.jsonl
+
+  $ geoarrow_check --lines ../crates/geoarrow_check/data/other.arrows
+  {"metadata":{"ARROW:extension:name":"geoarrow.point"},"name":"g","nullable":true,"type":{"fixed_size_list":{"name":"xy","nullable":false,"type":"float64"},"size":2}}
+  ../crates/geoarrow_check/data/other.arrows: column é: no line has the type dense_union<p: utf8=5, q: timestamp[us, tz=UTC]=1>
+  ../crates/geoarrow_check/data/other.arrows: column d: no line has the type dictionary<values=large_utf8, indices=int16, ordered=1>
+  [2]
+
+Lines of JSON
 
   $ geoarrow_check --json --infer ../examples/schema.jsonl
   {"column":"id","file":"../examples/schema.jsonl","index":0,"state":"plain","type":"int64"}
@@ -62,7 +127,10 @@ Words that are refused
   $ geoarrow_check 2>&1 | head -n 1
   geoarrow_check: no file is named
 
-  $ geoarrow_check x 2> /dev/null
+  $ geoarrow_check --json --lines x 2>&1 | head -n 1
+  geoarrow_check: --json and --lines exclude one another
+
+  $ geoarrow_check --json 2> /dev/null
   [2]
 
 Output that fails

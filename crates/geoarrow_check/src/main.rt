@@ -1,23 +1,33 @@
-//! The program: says what each column of the files that it is given holds, a line of JSON for each.
+//! The program: says what each column of the files that it is given holds, in a table or as lines of JSON.
 #![tactic(auto)]
 
+mod lines;
 mod options;
 mod problems;
+mod table;
 
+use crate::lines::write_lines;
 use crate::options::{Asked, options_of};
 use crate::problems::problem_text;
-use column_files::FileFault;
+use crate::table::Table;
+use column_check::{Finding, check_column};
+use column_files::{FileFault, columns_in};
 use file_reports::report_file;
+use std::alloc::Global;
 use std::io::{Read, Write};
 use std::process::ExitCode;
 use std::{env, fs, io};
 
 /// What `--help` prints, and what follows the reason where words are refused.
-const USAGE: &str = "usage: geoarrow_check --json [--infer] [--require-geometry] FILE..
+const USAGE: &str =
+    "usage: geoarrow_check [--json | --lines] [--infer] [--quiet] [--require-geometry] FILE..
 
-Prints a line of JSON for each column of each file: what it holds, and why it is invalid.
+Says what each column of each file holds, and why it is invalid.
 FILE: an Arrow file (Feather), an Arrow stream, or lines of fields; - is standard input
+  --json              a line of JSON for each column, in place of a table
+  --lines             the columns as lines of fields, in place of what they hold
   --infer             infer a type for columns without an extension name
+  --quiet             print nothing of the columns
   --require-geometry  status 1 where a file has no column of geometries
 Status: 0 if no column is invalid, 1 if one is, 2 if a file or the words cannot be read.
 ";
@@ -44,6 +54,45 @@ fn bytes_of(rt: &HostRuntime, file: &str) -> io::Result<Vec<u8>> {
     Ok(bytes)
 }
 
+/// What is printed of a file, and what of its columns counts for the status.
+#[derive(Drop)]
+struct Printed {
+    text: String,
+    has_invalid: bool,
+    has_geometry: bool,
+}
+
+/// The lines of JSON of a file.
+fn json_of(alloc: Global, file: &str, bytes: &[u8], infer: bool) -> Result<Printed, FileFault> {
+    let name = if file == "-" { None } else { Some(file) };
+    let report = report_file(alloc, name, bytes, infer)?;
+    Ok(Printed {
+        text: report.lines,
+        has_invalid: report.has_invalid,
+        has_geometry: report.has_geometry,
+    })
+}
+
+/// The table of a file.
+fn table_of(alloc: Global, bytes: &[u8], infer: bool) -> Result<Printed, FileFault> {
+    let columns = columns_in(alloc, bytes)?;
+    let mut table = Table::new(alloc);
+    let mut has_invalid = false;
+    let mut has_geometry = false;
+    for column in &columns {
+        let finding = check_column(alloc, column, infer)?;
+        has_invalid = has_invalid | matches!(finding, Finding::Invalid(_));
+        has_geometry = has_geometry | matches!(finding, Finding::Geometry(_));
+        table.add(alloc, column, &finding)?;
+    }
+    let text = table.text(alloc)?;
+    Ok(Printed {
+        text,
+        has_invalid,
+        has_geometry,
+    })
+}
+
 /// Reports a file on standard output; or says on standard error why it cannot be read. Returns the status.
 fn check(rt: &HostRuntime, file: &str, asked: &Asked) -> io::Result<u8> {
     let bytes = match bytes_of(rt, file) {
@@ -53,23 +102,43 @@ fn check(rt: &HostRuntime, file: &str, asked: &Asked) -> io::Result<u8> {
             return Ok(2);
         }
     };
-    let name = if file == "-" { None } else { Some(file) };
-    match report_file(rt.alloc(), name, bytes.as_slice(), asked.infer) {
-        Ok(report) => {
-            rt.stdout().write_all(report.lines.as_bytes())?;
-            let lacks = asked.require_geometry && !report.has_geometry;
-            if lacks {
-                eprintln!(rt; "{file}: no column of geometries")?;
-            }
-            Ok(u8::from(report.has_invalid || lacks))
-        }
-        Err(FileFault::OutOfMemory) => Err(io::Error::from(io::ErrorKind::OutOfMemory)),
-        Err(fault) => {
-            let problem = problem_text(rt.alloc(), &fault)?;
-            eprintln!(rt; "{file}: {problem}")?;
-            Ok(2)
-        }
+    if asked.lines {
+        return match columns_in(rt.alloc(), bytes.as_slice()) {
+            Ok(columns) => write_lines(rt, file, columns),
+            Err(fault) => refuse(rt, file, &fault),
+        };
     }
+    let printed = if asked.json {
+        json_of(rt.alloc(), file, bytes.as_slice(), asked.infer)
+    } else {
+        table_of(rt.alloc(), bytes.as_slice(), asked.infer)
+    };
+    match printed {
+        Ok(printed) => write_file(rt, file, asked, &printed),
+        Err(fault) => refuse(rt, file, &fault),
+    }
+}
+
+/// Says on standard error why a file cannot be read. Returns the status.
+fn refuse(rt: &HostRuntime, file: &str, fault: &FileFault) -> io::Result<u8> {
+    let problem = problem_text(rt.alloc(), fault)?;
+    eprintln!(rt; "{file}: {problem}")?;
+    Ok(2)
+}
+
+/// Writes what is printed of a file. Returns the status.
+fn write_file(rt: &HostRuntime, file: &str, asked: &Asked, printed: &Printed) -> io::Result<u8> {
+    if !asked.quiet {
+        if !asked.json && asked.files.len() > 1 {
+            println!(rt; "{file}:")?;
+        }
+        rt.stdout().write_all(printed.text.as_bytes())?;
+    }
+    let lacks = asked.require_geometry && !printed.has_geometry;
+    if lacks {
+        eprintln!(rt; "{file}: no column of geometries")?;
+    }
+    Ok(u8::from(printed.has_invalid || lacks))
 }
 
 /// Does what the words ask. Returns the status.

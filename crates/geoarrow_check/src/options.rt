@@ -7,7 +7,9 @@ use strsim::levenshtein;
 #[derive(Debug, Drop)]
 pub(crate) struct Asked {
     pub(crate) json: bool,
+    pub(crate) lines: bool,
     pub(crate) infer: bool,
+    pub(crate) quiet: bool,
     pub(crate) require_geometry: bool,
     pub(crate) help: bool,
     pub(crate) version: bool,
@@ -30,7 +32,9 @@ pub(crate) fn options_of(
 ) -> Result<Result<Asked, String>, AllocError> {
     let mut asked = Asked {
         json: false,
+        lines: false,
         infer: false,
+        quiet: false,
         require_geometry: false,
         help: false,
         version: false,
@@ -39,7 +43,9 @@ pub(crate) fn options_of(
     for word in words {
         match word.as_str() {
             "--json" => asked.json = true,
+            "--lines" => asked.lines = true,
             "--infer" => asked.infer = true,
+            "--quiet" => asked.quiet = true,
             "--require-geometry" => asked.require_geometry = true,
             "--help" => asked.help = true,
             "--version" => asked.version = true,
@@ -54,11 +60,11 @@ pub(crate) fn options_of(
     if asked.help || asked.version {
         return Ok(Ok(asked));
     }
+    if asked.json && asked.lines {
+        return Ok(Err(String::from_str(alloc, "--json and --lines exclude one another")?));
+    }
     if asked.files.is_empty() {
         return Ok(Err(String::from_str(alloc, "no file is named")?));
-    }
-    if !asked.json {
-        return Ok(Err(String::from_str(alloc, "--json is missing")?));
     }
     Ok(Ok(asked))
 }
