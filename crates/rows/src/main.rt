@@ -31,6 +31,7 @@ mod memory;
 mod metadata;
 mod notation;
 mod repeated;
+mod reports;
 mod rows;
 mod said;
 mod schema;
@@ -42,7 +43,9 @@ use std::process::ExitCode;
 use std::{env, fs, io};
 
 /// The layers.
-const LAYERS: [&str; 5] = ["footers", "layouts", "lines", "metadata", "schema"];
+const LAYERS: [&str; 6] = [
+    "footers", "layouts", "lines", "metadata", "reports", "schema",
+];
 
 /// Whether the program's argument is `faults`.
 fn is_faults(rt: &HostRuntime) -> io::Result<bool> {
