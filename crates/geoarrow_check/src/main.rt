@@ -73,17 +73,19 @@ fn json_of(alloc: Global, file: &str, bytes: &[u8], infer: bool) -> Result<Print
     })
 }
 
-/// The table of a file.
-fn table_of(alloc: Global, bytes: &[u8], infer: bool) -> Result<Printed, FileFault> {
+/// The table of a file; none where nothing is to be printed.
+fn table_of(alloc: Global, bytes: &[u8], asked: &Asked) -> Result<Printed, FileFault> {
     let columns = columns_in(alloc, bytes)?;
     let mut table = Table::new(alloc);
     let mut has_invalid = false;
     let mut has_geometry = false;
     for column in &columns {
-        let finding = check_column(alloc, column, infer)?;
+        let finding = check_column(alloc, column, asked.infer)?;
         has_invalid = has_invalid | matches!(finding, Finding::Invalid(_));
         has_geometry = has_geometry | matches!(finding, Finding::Geometry(_));
-        table.add(alloc, column, &finding)?;
+        if !asked.quiet {
+            table.add(alloc, column, &finding)?;
+        }
     }
     let text = table.text(alloc)?;
     Ok(Printed {
@@ -111,7 +113,7 @@ fn check(rt: &HostRuntime, file: &str, asked: &Asked) -> io::Result<u8> {
     let printed = if asked.json {
         json_of(rt.alloc(), file, bytes.as_slice(), asked.infer)
     } else {
-        table_of(rt.alloc(), bytes.as_slice(), asked.infer)
+        table_of(rt.alloc(), bytes.as_slice(), asked)
     };
     match printed {
         Ok(printed) => write_file(rt, file, asked, &printed),

@@ -26,13 +26,20 @@ struct Row {
 #[derive(Debug, Drop)]
 pub(crate) struct Table {
     rows: Vec<Row>,
+    /// How many characters the longest cell at each place has.
+    rooms: [usize; WIDTH],
 }
 
 impl Table {
     /// A table of no columns.
     pub(crate) fn new(alloc: Global) -> Table {
+        let mut rooms = [0; WIDTH];
+        for at in 0..WIDTH {
+            rooms[at] = HEAD[at].chars().count();
+        }
         Table {
             rows: Vec::new(alloc),
+            rooms,
         }
     }
 
@@ -63,6 +70,11 @@ impl Table {
             Finding::Invalid(reasons) => reason_words(alloc, reasons)?,
             _ => Vec::new(alloc),
         };
+        for at in 0..WIDTH {
+            if let Some(cell) = cells.get(at) {
+                self.rooms[at] = self.rooms[at].max(cell.as_str().chars().count());
+            }
+        }
         self.rows.push(Row { cells, notes })?;
         Ok(())
     }
@@ -102,25 +114,11 @@ impl Table {
     fn push_cell(&self, line: &mut String, at: usize, cell: &str) -> Result<(), AllocError> {
         line.push_str(cell)?;
         let taken = cell.chars().count();
-        let room = self.room(at).saturating_add(2);
+        let room = self.rooms.get(at).copied().unwrap_or(0).saturating_add(2);
         for _ in taken..room {
             line.push_str(" ")?;
         }
         Ok(())
-    }
-
-    /// How many characters the longest cell at a place has.
-    fn room(&self, at: usize) -> usize {
-        let mut room = match HEAD.get(at) {
-            Some(head) => head.chars().count(),
-            None => 0,
-        };
-        for row in &self.rows {
-            if let Some(cell) = row.cells.get(at) {
-                room = room.max(cell.as_str().chars().count());
-            }
-        }
-        room
     }
 }
 
