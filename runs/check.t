@@ -119,10 +119,30 @@ Files that cannot be read: the next one is read all the same
   -: byte 8 of the message: no whole message
   [2]
 
+Words that are answered at once
+
+  $ geoarrow_check --version
+  geoarrow_check 1.0.0 (rattle-kit-13f)
+
+  $ geoarrow_check --help | head -n 1
+  usage: geoarrow_check [--json | --lines] [--infer] [--quiet] [--require-geometry] FILE..
+
 Words that are refused
 
-  $ geoarrow_check --jsno x 2>&1 | head -n 1
+  $ for word in --jsno --line --infre --quite --require-geometri --hlep --versoin
+  > do
+  >     geoarrow_check $word x 2>&1 | head -n 1
+  > done
   geoarrow_check: --jsno is unknown; --json is near it
+  geoarrow_check: --line is unknown; --lines is near it
+  geoarrow_check: --infre is unknown; --infer is near it
+  geoarrow_check: --quite is unknown; --quiet is near it
+  geoarrow_check: --require-geometri is unknown; --require-geometry is near it
+  geoarrow_check: --hlep is unknown; --help is near it
+  geoarrow_check: --versoin is unknown; --version is near it
+
+  $ geoarrow_check --line x 2> /dev/null
+  [2]
 
   $ geoarrow_check 2>&1 | head -n 1
   geoarrow_check: no file is named

@@ -17,9 +17,11 @@ pub(crate) struct Asked {
 }
 
 /// The words that are no files.
-const KNOWN: [&str; 5] = [
+const KNOWN: [&str; 7] = [
     "--json",
+    "--lines",
     "--infer",
+    "--quiet",
     "--require-geometry",
     "--help",
     "--version",
@@ -57,16 +59,24 @@ pub(crate) fn options_of(
             }
         }
     }
+    match conflict(&asked) {
+        Some(reason) => Ok(Err(String::from_str(alloc, reason)?)),
+        None => Ok(Ok(asked)),
+    }
+}
+
+/// Why what is asked cannot be done, if it cannot.
+fn conflict(asked: &Asked) -> Option<&'static str> {
     if asked.help || asked.version {
-        return Ok(Ok(asked));
+        return None;
     }
     if asked.json && asked.lines {
-        return Ok(Err(String::from_str(alloc, "--json and --lines exclude one another")?));
+        return Some("--json and --lines exclude one another");
     }
     if asked.files.is_empty() {
-        return Ok(Err(String::from_str(alloc, "no file is named")?));
+        return Some("no file is named");
     }
-    Ok(Ok(asked))
+    None
 }
 
 /// Says that a word is unknown, and which known one is nearest.
