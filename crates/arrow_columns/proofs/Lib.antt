@@ -1,2 +1,3 @@
 mod Joined
 mod Steps
+mod Known

@@ -1,2 +1,3 @@
 pub mod Column
 pub mod Notation
+pub mod Nested

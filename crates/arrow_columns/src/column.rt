@@ -1,12 +1,13 @@
 //! A column, and its type.
 ghost use Rattle.std.specs.Prelude.{◌≡◌, IfOk, string_bytes};
-ghost use Rattle.arrow_values.specs.Texts.{text_of, text_at};
-ghost use Rattle.arrow_values.specs.View.{texts_of};
+ghost use Rattle.arrow_values.specs.Texts.{text_of};
 ghost use Rattle.arrow_columns.specs.Column.{type_tree, column_tree, column_of, name_on, metadata_on};
 ghost use Rattle.arrow_columns.specs.Notation.{type_text, column_text};
 
 use crate::notation::{data_type_notation, part_notation};
-use arrow_values::{DataType, EXTENSION_TYPE_METADATA_KEY, EXTENSION_TYPE_NAME_KEY, Field};
+use arrow_values::{
+    DataType, EXTENSION_TYPE_METADATA_KEY, EXTENSION_TYPE_NAME_KEY, Field, text_at,
+};
 use std::alloc::{AllocError, Global};
 use std::collections::BTreeMap;
 
@@ -63,16 +64,24 @@ impl ColumnType {
 }
 
 impl Column {
-    /// The column of a field: its name, nullability, data type and metadata. Errs only when out of memory.
+    /// The column of a field: its name, nullability, data type and metadata, which are moved. Errs only when out of memory.
+    pub fn from_field(alloc: Global, field: Field) -> Result<Column, AllocError>
+        ensures { IfOk result (λ column. column_tree column ≡ column_of field) }
+    {
+        let (name, data_type, nullable, metadata) = field.into_parts(alloc)?;
+        Ok(Column {
+            name,
+            nullable,
+            data_type: ColumnType::Data(data_type),
+            metadata,
+        })
+    }
+
+    /// The column of a field that stays. Errs only when out of memory.
     pub fn of_field(alloc: Global, field: &Field) -> Result<Column, AllocError>
         ensures { IfOk result (λ column. column_tree column ≡ column_of field.now) }
     {
-        Ok(Column {
-            name: String::from_str(alloc, field.name())?,
-            nullable: field.is_nullable(),
-            data_type: ColumnType::Data(field.data_type().try_clone(alloc)?),
-            metadata: clone_texts(field.metadata())?,
-        })
+        Column::from_field(alloc, field.try_clone(alloc)?)
     }
 
     /// The name of the column's extension type: its text at `ARROW:extension:name`, if it has one (Arrow, "Extension Types").
@@ -97,21 +106,4 @@ impl Column {
         let data_type = self.data_type.notation(alloc)?;
         part_notation(alloc, self.name.as_str(), data_type.as_str(), self.nullable)
     }
-}
-
-/// The text at a key.
-fn text_at<'a>(texts: &'a BTreeMap<String, String>, key: &str) -> Option<&'a str>
-    ensures { text_of result ≡ text_at key.now (texts_of texts.now.entries) }
-{
-    match texts.get(key) {
-        Some(text) => Some(text.as_str()),
-        None => None,
-    }
-}
-
-/// A map of the same texts.
-fn clone_texts(texts: &BTreeMap<String, String>) -> Result<BTreeMap<String, String>, AllocError>
-    ensures { IfOk result (λ made. texts_of made.entries ≡ texts_of texts.now.entries) }
-{
-    texts.clone()
 }

@@ -118,7 +118,7 @@ pub kept : (name : Text) (text : Option Text) (es : List Entry) → IsStrictlySo
 kept name None es sorted named here = rw (same_put name_key name (texts_of es) (ascending es sorted) named) (absent_removed metadata_key (texts_of es) here)
 kept name (Some t) es sorted named here = rw (same_put name_key name (texts_of es) (ascending es sorted) named) (same_put metadata_key t (texts_of es) (ascending es sorted) here)
 
--- ---- the text at a key, of the map and of what it stands for
+-- ---- the text at a key, of the map and of what it denotes
 pub text_at-lookup : (key : Text) (es : List Entry) → option_map (λ t. string_bytes t) (lookup (at_text key) es) ≡ text_at key (texts_of es)
 text_at-lookup key [] = refl
 text_at-lookup key (e ∷ es) =

@@ -1,4 +1,4 @@
--- The tree that a `DataType` stands for, where fields are seen already as theirs.
+-- The tree that a `DataType` denotes, where fields are seen already as theirs.
 use Rattle.std.specs.Prelude.{◌≡◌, ℕ, ℤ, List, [], ◌∷◌, map, String, string_bytes}
 use Rattle.std.proofs.Common.{refl, ap}
 use Rattle.std.specs.declared.alloc.Global.{Global}

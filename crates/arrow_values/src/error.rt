@@ -150,7 +150,7 @@ impl From<io::Error> for GeoArrowError {
 }
 
 impl GeoArrowError {
-    /// This error as one of Arrow: the error inside an `Arrow` is returned unchanged, which takes no memory; every
+    /// This error as one of Arrow: the error inside an `Arrow` is returned unchanged, which allocates nothing; every
     /// other error is boxed as an `ExternalError`. Errs only when out of memory.
     pub fn into_arrow_error(self, alloc: Global) -> Result<ArrowError, AllocError>
         ensures form { IfOk result (IsArrowFormOf self) }

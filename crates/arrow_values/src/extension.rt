@@ -11,7 +11,7 @@ use std::alloc::Global;
 /// "Extension Types").
 ///
 /// An implementation says what it means by its ghost members: which text its metadata prints, which metadata a text
-/// stands for, and which data types it accepts and as what. A field's calls are proved once, only from these.
+/// denotes, and which data types it accepts and as what. A field's calls are proved once, only from these.
 ///
 /// ```rust
 /// let mut field = Field::new(alloc, "geom", DataType::Binary, true)?;
@@ -30,7 +30,7 @@ pub trait ExtensionType: Sized {
     /// The name of the extension type.
     const NAME: &'static str;
 
-    /// What the metadata text of the extension type stands for.
+    /// What the metadata text of the extension type denotes.
     type Metadata;
 
     // The bytes of `NAME`.
@@ -48,8 +48,8 @@ pub trait ExtensionType: Sized {
     // The value of a metadata.
     ghost value_of: { Self.Metadata → Value };
 
-    // A text, or none, stands for a value.
-    ghost StandsFor: { Option Text → Value → Type 0 };
+    // A text, or none, denotes a value.
+    ghost Denotes: { Option Text → Value → Type 0 };
 
     // A tree is accepted as the shape of a type, whatever its metadata is.
     ghost Accepts: { Tree → Self → Type 0 };
@@ -74,30 +74,30 @@ pub trait ExtensionType: Sized {
     fn metadata(&self) -> &Self::Metadata
         ensures { result.now ≡ metadata_of self.now };
 
-    /// The text that the metadata prints, or `None` if it prints none, which takes no memory. Errs only when out of memory,
+    /// The text that the metadata prints, or `None` if it prints none, which allocates nothing. Errs only when out of memory,
     /// and only if there is a text.
     fn serialize_metadata(&self, alloc: Global) -> Result<Option<String>, ArrowError>
         ensures { MatchResult result (λ text. option_map string_bytes text ≡ printed (metadata_of self.now))
             (λ e. IsMemory e × IsSome (printed (metadata_of self.now))) };
 
-    /// A metadata of the value that a text, or its absence, stands for. Errs if it stands for none, and otherwise only
+    /// A metadata of the value that a text, or its absence, denotes. Errs if it denotes none, and otherwise only
     /// when out of memory.
     fn deserialize_metadata(
         alloc: Global,
         metadata: Option<&str>,
     ) -> Result<Self::Metadata, ArrowError>
-        ensures exact { MatchResult result (λ m. StandsFor (text_of metadata.entry) (value_of m))
-            (λ e. IsMemory e ⊎ ((v : Value) → StandsFor (text_of metadata.entry) v → ⊥)) }
+        ensures exact { MatchResult result (λ m. Denotes (text_of metadata.entry) (value_of m))
+            (λ e. IsMemory e ⊎ ((v : Value) → Denotes (text_of metadata.entry) v → ⊥)) }
         ensures refusal { IfErr result (λ e. IsMemory e ⊎ RefusesText (text_of metadata.entry) e) };
 
     /// Whether this type can be written on a field of that data type: the data type is accepted as this type's shape. If it
-    /// is accepted, this takes no memory; if not, this errs.
+    /// is accepted, this allocates nothing; if not, this errs.
     fn supports_data_type(&self, alloc: Global, data_type: &DataType) -> Result<(), ArrowError>
         ensures exact { IsOk result ↔ Accepts (tree data_type.now) self.now }
         ensures refusal { IfErr result (λ e. IsMemory e ⊎ RefusesUse self.now (tree data_type.now) e) };
 
     /// The type with that metadata and with the shape that the data type is accepted as. If it is accepted as a shape, this
-    /// takes no memory; if not, this errs.
+    /// allocates nothing; if not, this errs.
     fn try_new(
         alloc: Global,
         data_type: &DataType,
@@ -110,8 +110,8 @@ pub trait ExtensionType: Sized {
     // A tree is accepted as one shape alone.
     ghost accepts_one: { (t : Tree) (a b : Self) → Accepts t a → Accepts t b → Agrees a b };
 
-    // A text, or its absence, stands for one value alone.
-    ghost stands_for_one: { (t : Option Text) (v w : Value) → StandsFor t v → StandsFor t w → v ≡ w };
+    // A text, or its absence, denotes one value alone.
+    ghost denotes_one: { (t : Option Text) (v w : Value) → Denotes t v → Denotes t w → v ≡ w };
 
     // A tree that is accepted as one type's shape is accepted as that of each type that agrees with it.
     ghost accepts_by_shape: { (t : Tree) (a e : Self) → Accepts t a → Agrees e a → Accepts t e };
@@ -122,17 +122,17 @@ pub trait ExtensionType: Sized {
 impl Field {
     ghost use Rattle.arrow_values.specs.Errors.{IsMemory};
     ghost use Rattle.arrow_values.specs.Texts.{SetsExtension};
-    ghost use Rattle.arrow_values.specs.Extension.{Reads, IsRefusedBy, Writes, StandsForPrinted};
+    ghost use Rattle.arrow_values.specs.Extension.{Carries, IsRefusedAs, Writes, DenotesPrinted};
 
-    /// The extension type that is written on the field: its name, the metadata that its metadata text stands for, and the
+    /// The extension type that is written on the field: its name, the metadata that its metadata text denotes, and the
     /// shape that its data type is accepted as. Errs with `InvalidArgumentError` if there is no extension name, or
     /// another one; then as `deserialize_metadata` and `try_new` err.
     #[tactic(auto, using(crate::proofs::Refusals::unnamed_refused, crate::proofs::Refusals::text_refused, crate::proofs::Refusals::tree_refused))]
     pub fn try_extension_type<E: ExtensionType>(&self, alloc: Global) -> Result<E, ArrowError>
-        ensures ok { IfOk result (Reads E.ExtensionType self.now) }
-        ensures only { IfOk result (λ e. (a : E) → Reads E.ExtensionType self.now a
+        ensures ok { IfOk result (Carries E.ExtensionType self.now) }
+        ensures only { IfOk result (λ e. (a : E) → Carries E.ExtensionType self.now a
             → E.Agrees e a × (E.value_of (E.metadata_of e) ≡ E.value_of (E.metadata_of a))) }
-        ensures refused { IfErr result (λ r. IsMemory r ⊎ IsRefusedBy E.ExtensionType self.now r) }
+        ensures refused { IfErr result (λ r. IsMemory r ⊎ IsRefusedAs E.ExtensionType self.now r) }
     {
         match self.extension_type_name() {
             None => return Err(invalid_argument(alloc, "extension name missing")),
@@ -188,16 +188,16 @@ impl Field {
 
     /// A law: a field reads as only one value of an extension type. There is nothing to run.
     pub fn reads_as_one<E: ExtensionType>(&self, one: &E, other: &E)
-        ensures { Reads E.ExtensionType self.now one.now → Reads E.ExtensionType self.now other.now
+        ensures { Carries E.ExtensionType self.now one.now → Carries E.ExtensionType self.now other.now
             → E.Agrees one.now other.now × (E.value_of (E.metadata_of one.now) ≡ E.value_of (E.metadata_of other.now)) }
     {}
 
     /// A law: a field on which an extension type was written reads as that type, where the text that its metadata
-    /// prints, or its absence, stands for that metadata. There is nothing to run.
+    /// prints, or its absence, denotes that metadata. There is nothing to run.
     pub fn reads_back<E: ExtensionType>(&self, extension_type: &E, written: &Field)
-        ensures { E.Accepts self.now.tree extension_type.now → StandsForPrinted E.ExtensionType extension_type.now
+        ensures { E.Accepts self.now.tree extension_type.now → DenotesPrinted E.ExtensionType extension_type.now
             → Writes E.ExtensionType self.now extension_type.now written.now
-            → Reads E.ExtensionType written.now extension_type.now }
+            → Carries E.ExtensionType written.now extension_type.now }
     {}
 
     /// A law: a data type is accepted as a type's shape exactly where it is accepted as that of a type which agrees with

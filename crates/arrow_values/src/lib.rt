@@ -16,6 +16,7 @@ pub use equality_laws::{
 };
 pub use error::{AppendFault, ArrowError, GeoArrowError, GeoArrowResult};
 pub use extension::ExtensionType;
+pub use texts::text_at;
 pub use tree::{
     DataType, EXTENSION_TYPE_METADATA_KEY, EXTENSION_TYPE_NAME_KEY, Field, Fields, FixedName,
     UnionFields, UnionIter, UnionMode,

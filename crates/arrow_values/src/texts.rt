@@ -10,9 +10,9 @@ use crate::tree::{EXTENSION_TYPE_METADATA_KEY, EXTENSION_TYPE_NAME_KEY};
 use std::alloc::{AllocError, Global};
 use std::collections::BTreeMap;
 
-/// The text at a key.
+/// The text at a key of a field's metadata, if there is one. Allocates nothing.
 #[inline(always)]
-pub(crate) fn text_at<'a>(texts: &'a BTreeMap<String, String>, key: &str) -> Option<&'a str>
+pub fn text_at<'a>(texts: &'a BTreeMap<String, String>, key: &str) -> Option<&'a str>
     ensures text { text_of result ≡ text_at key.now (texts_of texts.now.entries) }
     ensures ordered { IsOrdered string_cmp texts.now }
 {

@@ -71,7 +71,7 @@ fn written(alloc: Global, marked: &Marked) -> Result<Field, ArrowError> {
     Ok(field)
 }
 
-/// The same of the field as it is handed over.
+/// The field of the stale texts, handed over with a type written on it.
 fn handed_over(alloc: Global, marked: &Marked) -> Result<Field, ArrowError> {
     let field = column(alloc, STALE, DataType::Binary)?;
     marked.supports_data_type(alloc, field.data_type())?;

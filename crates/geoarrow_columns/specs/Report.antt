@@ -7,7 +7,7 @@ use Rattle.arrow_values.specs.Errors.{IsGeoMemory}
 use Rattle.arrow_values.specs.declared.error.GeoArrowError.{GeoArrowError}
 use Rattle.arrow_values.specs.declared.error.GeoArrowError.TheVariants.{Arrow as OfArrow, InvalidGeoArrow as Invalid}
 use Rattle.geoarrow_meta.specs.declared.metadata.Metadata.{Metadata}
-use Rattle.geoarrow_meta.specs.Read.{TextStandsFor}
+use Rattle.geoarrow_meta.specs.Read.{DenotesMetadata}
 use Rattle.geoarrow_schema.specs.Reads.{HasGeoArrowName, Reads, ReadsAsNone, HasWrongStorage, IsRefusedBy}
 use Rattle.geoarrow_schema.specs.Infers.{Infers, InfersNone}
 use Rattle.geoarrow_columns.specs.declared.check.ColumnFault.{ColumnFault}
@@ -27,11 +27,11 @@ IsRefusedFor f Arrow = IsRefused f × ¬ HasWrongStorage f
 
 -- the field has no GeoArrow name, and its metadata text denotes no metadata
 abbrev pub IsUnread : FieldTree → Type 0
-IsUnread f = ¬ HasGeoArrowName f × ((m : Metadata) → ¬ TextStandsFor (extension_metadata f) m)
+IsUnread f = ¬ HasGeoArrowName f × ((m : Metadata) → ¬ DenotesMetadata (extension_metadata f) m)
 
 -- the field has no GeoArrow name, its metadata text denotes a metadata, and no type is inferred from its data type
 abbrev pub IsOther : FieldTree → Type 0
-IsOther f = ¬ HasGeoArrowName f × InfersNone f × ((m : Metadata) × TextStandsFor (extension_metadata f) m)
+IsOther f = ¬ HasGeoArrowName f × InfersNone f × ((m : Metadata) × DenotesMetadata (extension_metadata f) m)
 
 -- the entry says what the field holds
 abbrev pub IsColumnOf : FieldTree → Column → Type 0

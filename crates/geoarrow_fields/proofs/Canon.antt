@@ -1,4 +1,4 @@
--- The canonical field of a field that a line stands for: its line is read back as that field, which is its own canonical form and reads as
+-- The canonical field of a field that a line denotes: its line is read back as that field, which is its own canonical form and reads as
 -- the same type.
 use Rattle.std.proofs.Common.{◌≡◌, inl, inr, ◌≤◌, ◌∷◌, [], List, ℕ, Bool, true, false, Option, Some, None, IfSome, option_map, codes, refl, sym, ap, ap₂, ◌∙◌, subst, arith, Ordering, Less, Equal, Greater, nat_cmp}
 use Rattle.std.specs.Ordering.{match_ordering}
@@ -22,7 +22,7 @@ use Rattle.geoarrow_meta.specs.declared.edges.Edges.TheVariants.{Andoyer}
 use Rattle.geoarrow_meta.specs.declared.crs.crs_type.CrsType.{CrsType}
 use Rattle.geoarrow_meta.specs.declared.crs.crs_type.CrsType.TheVariants.{Projjson}
 use Rattle.geoarrow_meta.specs.declared.metadata.Metadata.{Metadata}
-use Rattle.geoarrow_meta.specs.Read.{edges_text, crs_type_text, crs_type_data, edges_data, present, some_has_float, TextStandsFor}
+use Rattle.geoarrow_meta.specs.Read.{edges_text, crs_type_text, crs_type_data, edges_data, present, some_has_float, DenotesMetadata}
 use Rattle.geoarrow_meta.specs.Written.{of_parts, with_some, meta_value, printed, type_unless, normal, IsReadBack, NestsWithin}
 use Rattle.geoarrow_native.specs.Column.{ReadsAs}
 use Rattle.geoarrow_schema.specs.declared.types.GeoArrowType.{GeoArrowType}
@@ -40,7 +40,7 @@ use Rattle.geoarrow_fields.proofs.OneAnswer.{IsOneKind, words_of, one_reading, n
 use Rattle.geoarrow_fields.proofs.Layouts.{ascii, layout_form, layout_held, layout_levels}
 use Rattle.geoarrow_fields.proofs.Extension.{HoldsTexts, PutIsHeld, set_held, set_again, text_held}
 
--- ---- the value of a metadata that UTF-8 stands for is held
+-- ---- the value of a metadata that UTF-8 denotes is held
 
 abbrev IsHeldIf : Option Data → Type 0
 IsHeldIf o = IfSome o (λ d. is_held d ≡ true)
@@ -117,13 +117,13 @@ get_held k _ h = tt
 abbrev pub ReadIsHeld : Type 0
 ReadIsHeld = (text : List ℕ) (d : Data) → is_utf8 text ≡ true → read text ≡ Some d → is_held d ≡ true
 
-crs_of : ReadIsHeld → (o : Option Text) (m : Metadata) → IfSome o (λ t. is_utf8 t ≡ true) → TextStandsFor o m → IsHeldIf m.crs.value × (some_has_float m.crs.value ≡ false)
+crs_of : ReadIsHeld → (o : Option Text) (m : Metadata) → IfSome o (λ t. is_utf8 t ≡ true) → DenotesMetadata o m → IsHeldIf m.crs.value × (some_has_float m.crs.value ≡ false)
 crs_of law None m utf8 is = subst (λ n. IsHeldIf n.crs.value × (some_has_float n.crs.value ≡ false)) (sym is) (tt, refl)
 crs_of law (Some s) m utf8 (d, reads, stands) =
     let held = present_held _ (get_held (codes "crs") d (law s d utf8 reads)) in
     (subst IsHeldIf (sym stands.crs) held, ap some_has_float stands.crs ∙ stands.whole)
 
--- ---- a field that a line stands for, and the type that it reads as
+-- ---- a field that a line denotes, and the type that it reads as
 
 abbrev pub IsUtf8Written : Type 0
 IsUtf8Written = (d : Data) → is_held d ≡ true → is_utf8 (compact_text d) ≡ true
@@ -203,23 +203,23 @@ same_parts _ m = (refl, refl)
 
 module _ (put_is : PutIsHeld) (read_is : ReadIsHeld) (utf8 : IsUtf8Written) (field_is : FieldIsHeld) where
   module _ (line : Text) (f : FieldTree) (is : field_of_line line ≡ Some f) where
-    crs_held : (m : Metadata) → TextStandsFor (extension_metadata f) m → IsHeldIf m.crs.value × (some_has_float m.crs.value ≡ false)
+    crs_held : (m : Metadata) → DenotesMetadata (extension_metadata f) m → IsHeldIf m.crs.value × (some_has_float m.crs.value ≡ false)
     crs_held m stands = crs_of read_is (extension_metadata f) m (text_held metadata_key f.metadata (field_is line f is).1) stands
 
-    -- the value of a metadata that the field's text stands for
-    pub metadata_held : (m : Metadata) → TextStandsFor (extension_metadata f) m → IsHeldIf (meta_value m)
+    -- the value of a metadata that the field's text denotes
+    pub metadata_held : (m : Metadata) → DenotesMetadata (extension_metadata f) m → IsHeldIf (meta_value m)
     metadata_held m stands = value_held m.crs.value m.crs.crs_type m.edges (crs_held m stands).0
 
-    normal_text : (m : Metadata) → TextStandsFor (extension_metadata f) m → IfSome (printed (normal m)) (λ t. is_utf8 t ≡ true)
+    normal_text : (m : Metadata) → DenotesMetadata (extension_metadata f) m → IfSome (printed (normal m)) (λ t. is_utf8 t ≡ true)
     normal_text m stands = text_of utf8 (meta_value (normal m)) (value_held m.crs.value (type_unless m.crs.value m.crs.crs_type m.edges) m.edges (crs_held m stands).0)
 
-    rewritten_held : (k : Kind) (m : Metadata) → TextStandsFor (extension_metadata f) m → is_held (value_of_field (rewritten f k (normal m))) ≡ true
+    rewritten_held : (k : Kind) (m : Metadata) → DenotesMetadata (extension_metadata f) m → is_held (value_of_field (rewritten f k (normal m))) ≡ true
     rewritten_held k m stands =
         let own = field_is line f is in
         parts_held f.name (type_value (layout k)) f.nullable _ own.0 (layout_held k)
         (set_held put_is (name_of k) (printed (normal m)) f.metadata (name_utf8 (extension_of k)) (normal_text m stands) own.1)
 
-    stands : (g : GeoArrowType) → Reads f g → TextStandsFor (extension_metadata f) (meta_of g)
+    stands : (g : GeoArrowType) → Reads f g → DenotesMetadata (extension_metadata f) (meta_of g)
     unfolding ReadsAs
     stands g r = r.1
 

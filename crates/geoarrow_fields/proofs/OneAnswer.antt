@@ -16,8 +16,8 @@ use Rattle.geoarrow_layout.specs.declared.encodings.Kind.TheVariants.{Native, Wk
 use Rattle.geoarrow_layout.specs.Kinds.{extension_of, name_of, coord_type_of, dimension_of}
 use Rattle.geoarrow_layout.specs.Shapes.{IsBytes, IsText, Accepts}
 use Rattle.geoarrow_layout.specs.Inferred.{IsInferredAs, IsInferredSize, Inferred}
-use Rattle.geoarrow_meta.specs.Laws.{text_stands_for_one}
-use Rattle.geoarrow_meta.specs.Read.{TextStandsFor}
+use Rattle.geoarrow_meta.specs.Laws.{text_denotes_one}
+use Rattle.geoarrow_meta.specs.Read.{DenotesMetadata}
 use Rattle.geoarrow_meta.specs.Written.{printed, normal}
 use Rattle.geoarrow_native.specs.Column.{ReadsAs}
 use Rattle.geoarrow_schema.specs.declared.types.GeoArrowType.{GeoArrowType}
@@ -167,12 +167,12 @@ module _ (one_kind : IsOneKind) where
   one_reading f g h r s =
       let same : name_of (kind_of g) ≡ name_of (kind_of h) = same_Some _ _ (sym r.0.0 ∙ s.0.0) in (
         one_kind (name_of (kind_of g)) f.tree (kind_of g) (kind_of h) (refl, r.0.1) (same, s.0.1),
-        text_stands_for_one (extension_metadata f) (meta_of g) (meta_of h) r.1 s.1,
+        text_denotes_one (extension_metadata f) (meta_of g) (meta_of h) r.1 s.1,
       )
 
   one_inference : (f : FieldTree) (g h : GeoArrowType) → Infers f g → Infers f h → SameType g h
   unfolding InfersAs
-  one_inference f g h r s = (one_inferred f.tree (kind_of g) (kind_of h) r.2 s.2, text_stands_for_one (extension_metadata f) (meta_of g) (meta_of h) r.1 s.1)
+  one_inference f g h r s = (one_inferred f.tree (kind_of g) (kind_of h) r.2 s.2, text_denotes_one (extension_metadata f) (meta_of g) (meta_of h) r.1 s.1)
 
   named : (f : FieldTree) (g : GeoArrowType) → Reads f g → HasGeoArrowName f
   unfolding ReadsAs
@@ -182,7 +182,7 @@ module _ (one_kind : IsOneKind) where
   unfolding InfersAs
   unnamed f g i = i.0
 
-  denotes : (f : FieldTree) (g : GeoArrowType) → Infers f g → TextStandsFor (extension_metadata f) (meta_of g)
+  denotes : (f : FieldTree) (g : GeoArrowType) → Infers f g → DenotesMetadata (extension_metadata f) (meta_of g)
   unfolding InfersAs
   denotes f g i = i.1
 
@@ -304,7 +304,7 @@ module _ (one_kind : IsOneKind) where
   one_output command last (line ∷ lines) x y (a, rest, is, joined, more) (b, others, so, put, later) =
       joined ∙ ap₂ (λ (s t : Bytes). s ++ (line_feed ∷ t)) (one_answer command line a b is so) (one_output command last lines rest others more later) ∙ sym put
 
--- ---- the answer to a line that stands for a field
+-- ---- the answer to a line that denotes a field
 
 pub answered : (command : Command) (line : Bytes) (f : FieldTree) (a : Bytes) → field_of_line line ≡ Some f → AnswersField command f a → Answers command line a
 unfolding Answers

@@ -22,7 +22,7 @@ fault_text SeveralCoordTypes = codes "several coordinate types in union"
 fault_text SeveralDimensions = codes "several dimensions in union"
 
 -- the error of a fault, with its message: for `BadSize` an `ExternalError` of `InvalidGeoArrow`, for any other a `SchemaError`
-abbrev pub IsArrowFormOf : LayoutFault → ArrowError → Type 0
-IsArrowFormOf BadSize (ExternalError' p inner) = IsInvalidOf (fault_text BadSize) inner
-IsArrowFormOf BadSize _ = ⊥
-IsArrowFormOf fault e = IsSchemaOf (fault_text fault) e
+abbrev pub IsErrorOfFault : LayoutFault → ArrowError → Type 0
+IsErrorOfFault BadSize (ExternalError' p inner) = IsInvalidOf (fault_text BadSize) inner
+IsErrorOfFault BadSize _ = ⊥
+IsErrorOfFault fault e = IsSchemaOf (fault_text fault) e

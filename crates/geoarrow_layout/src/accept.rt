@@ -13,7 +13,7 @@ use crate::summary::Summary;
 impl Summary {
     /// The kind of a column of that extension name, whatever data type the summary is of: none where no kind of that
     /// name has such a data type, and none for well-known binary and text, of which a summary says nothing. Where the
-    /// summary is of no data type at all, a kind that is answered is one of that name too. Takes no memory.
+    /// summary is of no data type at all, a kind that is answered is one of that name too. Allocates nothing.
     #[tactic(auto, using(crate::proofs::KindSteps::of_name, crate::proofs::KindSteps::renamed))]
     pub fn kind(&self, name: &str) -> Option<Kind>
         ensures exact { (t : Tree) → Summarizes self.now t → AnswersKind name.now t result }

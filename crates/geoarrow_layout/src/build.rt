@@ -90,7 +90,7 @@ pub fn box_data_type(alloc: Global, dimension: Dimension) -> Result<DataType, Al
     Ok(DataType::Struct(Fields::from(box_fields(alloc, dimension)?)))
 }
 
-/// The data type of well-known binary (GeoArrow, "WKB"). Takes no memory.
+/// The data type of well-known binary (GeoArrow, "WKB"). Allocates nothing.
 pub fn wkb_data_type(width: Width) -> DataType
     ensures { tree result ≡ layout (Kind.Wkb width) }
 {
@@ -101,7 +101,7 @@ pub fn wkb_data_type(width: Width) -> DataType
     }
 }
 
-/// The data type of well-known text (GeoArrow, "WKT"). Takes no memory.
+/// The data type of well-known text (GeoArrow, "WKT"). Allocates nothing.
 pub fn wkt_data_type(width: Width) -> DataType
     ensures { tree result ≡ layout (Kind.Wkt width) }
 {

@@ -10,7 +10,7 @@ use arrow_values::{AppendFault, UnionFields};
 
 /// Keeps the members whose type id is in the slice, in their order. If at least one is left, a union of geometries of any
 /// kind is still one, of the same coordinate type (GeoArrow, "Geometry"), and the union in a collection is still one,
-/// of the same coordinate type and dimension (GeoArrow, "GeometryCollection"). Takes no memory.
+/// of the same coordinate type and dimension (GeoArrow, "GeometryCollection"). Allocates nothing.
 ///
 /// ```rust
 /// keep_members(&mut members, wanted);

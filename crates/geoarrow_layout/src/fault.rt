@@ -45,12 +45,12 @@ pub enum LayoutFault {
 }
 
 impl LayoutFault {
-    ghost use Rattle.geoarrow_layout.specs.Faults.{fault_text, IsArrowFormOf};
+    ghost use Rattle.geoarrow_layout.specs.Faults.{fault_text, IsErrorOfFault};
 
     /// The fault as an error of Arrow: `BadSize` is an `InvalidGeoArrow` in an `ExternalError`, as in the Rust crate,
     /// and every other a `SchemaError`; or `OutOfMemory` where there is no memory for its text or its box.
     pub fn into_arrow_error(self, alloc: Global) -> ArrowError
-        ensures { IsMemory result ⊎ IsArrowFormOf self result }
+        ensures { IsMemory result ⊎ IsErrorOfFault self result }
     {
         match self.try_arrow_error(alloc) {
             Ok(error) => error,
@@ -58,9 +58,9 @@ impl LayoutFault {
         }
     }
 
-    /// The same, or out-of-memory.
+    /// The error of the fault. Errs only when out of memory.
     fn try_arrow_error(self, alloc: Global) -> Result<ArrowError, AllocError>
-        ensures { IfOk result (IsArrowFormOf self) }
+        ensures { IfOk result (IsErrorOfFault self) }
     {
         let text = String::from_str(alloc, self.text())?;
         match self {

@@ -16,7 +16,7 @@ use arrow_values::{DataType, Field};
 /// The point that is inferred from a data type without an extension name: a struct of two, three or four fields, or a
 /// fixed size list of two, three or four numbers, all of them `Float64`. Three are x, y and m if the fields have these
 /// names, in any order, or if the inner field is named `xym`; otherwise they are x, y and z. `None` for any other data
-/// type. If `parse_point` reads the data type too, it returns the same point. Takes no memory.
+/// type. If `parse_point` reads the data type too, it returns the same point. Allocates nothing.
 ///
 /// ```rust
 /// let xym = Field::new(alloc, "xym", DataType::Float64, true)?;
@@ -32,7 +32,7 @@ pub fn infer_point(data_type: &DataType) -> Option<(CoordType, Dimension)>
     taken_for(data_type)
 }
 
-/// The same.
+/// The coordinate type and dimension of a point that the data type is taken for.
 #[inline(always)]
 fn taken_for(data_type: &DataType) -> Option<(CoordType, Dimension)>
     ensures { AnswersSome result (Inferred (tree data_type.now)) }
@@ -78,7 +78,7 @@ fn flat_summary(data_type: &DataType) -> Summary
     }
 }
 
-/// The same, from the summary.
+/// The coordinate type and dimension of a point, from the summary of a data type.
 fn inferred(summary: &Summary) -> Option<(CoordType, Dimension)>
     ensures { (t : Tree) → Summarizes summary.now t → AnswersSome result (Inferred t) }
 {

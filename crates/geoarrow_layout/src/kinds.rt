@@ -94,7 +94,7 @@ impl Dimension {
     }
 
     /// The dimension with the name of those dimensions; for 2, 3 and 4 dimensions with no known meaning it is XY, XYZ
-    /// and XYZM. Errs with `InvalidGeoArrow` for any other number of dimensions with no known meaning; takes no memory
+    /// and XYZM. Errs with `InvalidGeoArrow` for any other number of dimensions with no known meaning; allocates nothing
     /// otherwise.
     ///
     /// ```rust

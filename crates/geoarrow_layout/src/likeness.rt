@@ -15,7 +15,7 @@ use arrow_values::{DataType, Field, UnionFields};
 /// inner name (GeoArrow, "Coordinate"), or structs with the same number of fields and, if that is three or six, the
 /// same set of names, or unions in which each member of either has an alike member of the same type id in the other
 /// (GeoArrow, "Geometry"). Nullability, metadata, other names, the order of fields and members, the mode of a union and
-/// the data types of coordinates do not matter. Takes no memory.
+/// the data types of coordinates do not matter. Allocates nothing.
 ///
 /// ```rust
 /// let (separated, xy) = (CoordType::Separated, Dimension::XY);
@@ -90,7 +90,7 @@ fn all_are_met(members: &UnionFields, others: &UnionFields) -> bool
     true
 }
 
-/// The same for one of the others. It goes down again only where its id stands twice among the others.
+/// Whether one of the others is met by a member. It goes down again only where its id stands twice among the others.
 #[cycle(same)]
 fn is_met(members: &UnionFields, others: &UnionFields, other: &(i8, Field)) -> bool
     ensures { result ≡ is_met (member_trees members.now) (member_trees others.now) other.now.0 other.now.1.tree }
@@ -172,7 +172,7 @@ fn has_name(fields: &[Field], name: &str) -> bool
     any_named(fields, name)
 }
 
-/// The same, field by field.
+/// Whether the name is that of any field.
 fn any_named(fields: &[Field], name: &str) -> bool
     ensures { result ≡ list_any (λ f. bytes_eq f.name name.now) fields.now }
 {

@@ -14,7 +14,7 @@ use crate::walk::summarize;
 use arrow_values::DataType;
 
 /// All extension names, of the eleven that there are, under which the data type can be read (GeoArrow,
-/// "Extension types"). Takes no memory.
+/// "Extension types"). Allocates nothing.
 ///
 /// ```rust
 /// let point = coord_data_type(alloc, CoordType::Separated, Dimension::XYZM)?;

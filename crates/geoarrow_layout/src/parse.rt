@@ -1,6 +1,6 @@
 //! The readers: which layout a data type has. Those of geometries and boxes use only its summary, so they
 //! ignore the nullability, the metadata and the data types of coordinate fields, the names of list items and members, and the mode of a union and
-//! the order of its members. None of them takes memory.
+//! the order of its members. None of them allocates.
 ghost use Rattle.std.specs.Prelude.{IfErr};
 ghost use Rattle.arrow_values.specs.View.{tree};
 ghost use Rattle.geoarrow_layout.specs.declared.names.ExtensionName.TheVariants as names;
@@ -20,7 +20,7 @@ use arrow_values::DataType;
 
 /// Reads a point (GeoArrow, "Coordinate", "Point"): a fixed size list whose inner field's name gives the dimension and
 /// whose size matches it, or a struct of two fields, of four, or of three named x, y and z or x, y and m in
-/// any order. Errs on any other data type. Takes no memory.
+/// any order. Errs on any other data type. Allocates nothing.
 ///
 /// ```rust
 /// let xym = Field::new(alloc, "xym", DataType::Float64, true)?;
@@ -36,7 +36,7 @@ pub fn parse_point(data_type: &DataType) -> Result<(CoordType, Dimension), Layou
 }
 
 /// Reads a line string (GeoArrow, "LineString"): one list over a coordinate, of either width. Errs on any other data
-/// type. Takes no memory.
+/// type. Allocates nothing.
 pub fn parse_linestring(data_type: &DataType) -> Result<(CoordType, Dimension), LayoutFault>
     ensures exact { Answers result (Native (tree data_type.now) NativeKind.LineString) }
     ensures fault { IfErr result (HasFault (NativeFault NativeKind.LineString (tree data_type.now))) }
@@ -45,7 +45,7 @@ pub fn parse_linestring(data_type: &DataType) -> Result<(CoordType, Dimension), 
 }
 
 /// Reads a polygon (GeoArrow, "Polygon"): two lists over a coordinate, both of one width. Errs on any other data type.
-/// Takes no memory.
+/// Allocates nothing.
 pub fn parse_polygon(data_type: &DataType) -> Result<(CoordType, Dimension), LayoutFault>
     ensures exact { Answers result (Native (tree data_type.now) NativeKind.Polygon) }
     ensures fault { IfErr result (HasFault (NativeFault NativeKind.Polygon (tree data_type.now))) }
@@ -54,7 +54,7 @@ pub fn parse_polygon(data_type: &DataType) -> Result<(CoordType, Dimension), Lay
 }
 
 /// Reads a multipoint (GeoArrow, "MultiPoint"): one list over a coordinate, of either width. Errs on any other data
-/// type. Takes no memory.
+/// type. Allocates nothing.
 pub fn parse_multipoint(data_type: &DataType) -> Result<(CoordType, Dimension), LayoutFault>
     ensures exact { Answers result (Native (tree data_type.now) NativeKind.MultiPoint) }
     ensures fault { IfErr result (HasFault (NativeFault NativeKind.MultiPoint (tree data_type.now))) }
@@ -63,7 +63,7 @@ pub fn parse_multipoint(data_type: &DataType) -> Result<(CoordType, Dimension), 
 }
 
 /// Reads a multilinestring (GeoArrow, "MultiLineString"): two lists over a coordinate, both of one width. Errs on any
-/// other data type. Takes no memory.
+/// other data type. Allocates nothing.
 pub fn parse_multilinestring(data_type: &DataType) -> Result<(CoordType, Dimension), LayoutFault>
     ensures exact { Answers result (Native (tree data_type.now) NativeKind.MultiLineString) }
     ensures fault { IfErr result (HasFault (NativeFault NativeKind.MultiLineString (tree data_type.now))) }
@@ -72,7 +72,7 @@ pub fn parse_multilinestring(data_type: &DataType) -> Result<(CoordType, Dimensi
 }
 
 /// Reads a multipolygon (GeoArrow, "MultiPolygon"): three lists over a coordinate, all of one width. Errs on any other
-/// data type. Takes no memory.
+/// data type. Allocates nothing.
 pub fn parse_multipolygon(data_type: &DataType) -> Result<(CoordType, Dimension), LayoutFault>
     ensures exact { Answers result (Native (tree data_type.now) NativeKind.MultiPolygon) }
     ensures fault { IfErr result (HasFault (NativeFault NativeKind.MultiPolygon (tree data_type.now))) }
@@ -82,7 +82,7 @@ pub fn parse_multipolygon(data_type: &DataType) -> Result<(CoordType, Dimension)
 
 /// Reads the union in a collection (GeoArrow, "GeometryCollection"): a union of at least one member, where each member
 /// is of the kind and the dimension that its type id says, no collection among them, and all are of one coordinate type
-/// and dimension. Errs on any other data type. Takes no memory.
+/// and dimension. Errs on any other data type. Allocates nothing.
 pub fn parse_mixed(data_type: &DataType) -> Result<(CoordType, Dimension), LayoutFault>
     ensures exact { Answers result (Mixed (tree data_type.now)) }
     ensures fault { IfErr result (HasFault (MixedFault (tree data_type.now))) }
@@ -91,7 +91,7 @@ pub fn parse_mixed(data_type: &DataType) -> Result<(CoordType, Dimension), Layou
 }
 
 /// Reads a collection (GeoArrow, "GeometryCollection"): one list, of either width, over a union as `parse_mixed` reads.
-/// Errs on any other data type. Takes no memory.
+/// Errs on any other data type. Allocates nothing.
 pub fn parse_geometry_collection(
     data_type: &DataType,
 ) -> Result<(CoordType, Dimension), LayoutFault>
@@ -103,7 +103,7 @@ pub fn parse_geometry_collection(
 
 /// Reads geometries of any kind (GeoArrow, "Geometry"): a union of at least one member, where each member is of the
 /// kind and the dimension that its type id says, collections among them, and all are of one coordinate type. Errs on
-/// any other data type. Takes no memory.
+/// any other data type. Allocates nothing.
 pub fn parse_geometry(data_type: &DataType) -> Result<CoordType, LayoutFault>
     ensures exact { AnswersOne result (Geometry (tree data_type.now)) }
     ensures fault { IfErr result (HasFault (GeometryFault (tree data_type.now))) }
@@ -111,7 +111,7 @@ pub fn parse_geometry(data_type: &DataType) -> Result<CoordType, LayoutFault>
     geometry(&summarize(data_type))
 }
 
-/// Reads a native kind, as its own reader does. Errs on any data type that is not of that kind. Takes no memory.
+/// Reads a native kind, as its own reader does. Errs on any data type that is not of that kind. Allocates nothing.
 pub fn parse_native(
     kind: NativeKind,
     data_type: &DataType,
@@ -122,7 +122,7 @@ pub fn parse_native(
     any_native(kind, &summarize(data_type))
 }
 
-/// Reads well-known binary (GeoArrow, "WKB"): bytes, of any width. Errs on any other data type. Takes no memory.
+/// Reads well-known binary (GeoArrow, "WKB"): bytes, of any width. Errs on any other data type. Allocates nothing.
 pub fn parse_wkb(data_type: &DataType) -> Result<Width, LayoutFault>
     ensures exact { AnswersOne result (λ width. IsBytes width (tree data_type.now)) }
     ensures fault { IfErr result (HasFault (FaultAt names.Wkb (tree data_type.now))) }
@@ -133,7 +133,7 @@ pub fn parse_wkb(data_type: &DataType) -> Result<Width, LayoutFault>
     }
 }
 
-/// Reads well-known text (GeoArrow, "WKT"): text, of any width. Errs on any other data type. Takes no memory.
+/// Reads well-known text (GeoArrow, "WKT"): text, of any width. Errs on any other data type. Allocates nothing.
 pub fn parse_wkt(data_type: &DataType) -> Result<Width, LayoutFault>
     ensures exact { AnswersOne result (λ width. IsText width (tree data_type.now)) }
     ensures fault { IfErr result (HasFault (FaultAt names.Wkt (tree data_type.now))) }
@@ -145,7 +145,7 @@ pub fn parse_wkt(data_type: &DataType) -> Result<Width, LayoutFault>
 }
 
 /// Reads the data type of a column with that extension name: returns its kind. Errs on any data type that has no
-/// kind under that name. Takes no memory.
+/// kind under that name. Allocates nothing.
 ///
 /// ```rust
 /// let name = ExtensionName::Wkb;
@@ -195,7 +195,7 @@ fn kind_read(name: ExtensionName, data_type: &DataType) -> Result<Kind, LayoutFa
 }
 
 /// Reads a box (GeoArrow, "Box"): a struct of four fields or of eight, or of six fields that include `mmin` and `mmax` or,
-/// failing that, `zmin` and `zmax`. Errs on any other data type. Takes no memory.
+/// failing that, `zmin` and `zmax`. Errs on any other data type. Allocates nothing.
 pub fn parse_box(data_type: &DataType) -> Result<Dimension, LayoutFault>
     ensures exact { AnswersOne result (BoxShape (tree data_type.now)) }
     ensures fault { IfErr result (HasFault (BoxFault (tree data_type.now))) }

@@ -106,7 +106,7 @@ fn name_place(name: &str) -> u8
     long_place(name)
 }
 
-/// The same, of a name of one byte.
+/// The place of a name of one byte.
 #[inline(always)]
 fn letter_place(letter: u8) -> u8
     ensures place { result ≡ place_in (letter ∷ []) known_names }
@@ -121,7 +121,7 @@ fn letter_place(letter: u8) -> u8
     }
 }
 
-/// The same, by a comparison with each.
+/// The place of a name, by a comparison with each.
 #[inline(never)]
 fn long_place(name: &str) -> u8
     ensures place { result ≡ place_in name.now known_names }

@@ -16,7 +16,7 @@ use crate::tables::{box_names, coordinate_names, interleaved_name, list_names, m
 use arrow_values::{DataType, Field, FixedName, UnionMode};
 
 /// The kind whose written data type this is, to the last name, nullability and mode (GeoArrow, "Native encoding",
-/// "Geometry", "Box"): none where it is written for no kind, though some reader may take it. Takes no memory.
+/// "Geometry", "Box"): none where it is written for no kind, though some reader may take it. Allocates nothing.
 pub fn written_kind(data_type: &DataType) -> Option<Kind>
     ensures { (k : Kind) → (result ≡ Some k) ↔ (tree data_type.now ≡ layout k) }
 {

@@ -9,8 +9,8 @@ use Rattle.geoarrow_meta.specs.declared.crs.crs_type.CrsType.{CrsType}
 use Rattle.geoarrow_meta.specs.declared.metadata.Metadata.{Metadata}
 use Rattle.geoarrow_meta.specs.CrsValue.{IsCrsValue}
 use Rattle.geoarrow_meta.specs.Written.{of_parts, meta_value, normal, is_bare, written, IsReadBack, NestsWithin}
-use Rattle.geoarrow_meta.specs.Read.{empty, present, some_has_float, StandsFor, TextStandsFor}
-use Rattle.geoarrow_meta.specs.Laws.{stands_for_one}
+use Rattle.geoarrow_meta.specs.Read.{empty, present, some_has_float, Denotes, DenotesMetadata}
+use Rattle.geoarrow_meta.specs.Laws.{denotes_one}
 
 -- a value that may stand as a CRS value is found where it stands
 there : (v : Option Data) → IfSome v IsCrsValue → (v ≡ present (Some (unwrap_or v null))) × (some_has_float (present (Some (unwrap_or v null))) ≡ false)
@@ -18,7 +18,7 @@ there None h = (refl, refl)
 there (Some null) h = absurd (true≢false h.0)
 there (Some _) h = (refl, h.1)
 
-of_written : (v : Option Data) (t : Option CrsType) (e : Option Edges) → IfSome v IsCrsValue → StandsFor (written v t e) (of_parts v t e)
+of_written : (v : Option Data) (t : Option CrsType) (e : Option Edges) → IfSome v IsCrsValue → Denotes (written v t e) (of_parts v t e)
 of_written v None None h = record { is_object = refl; whole = (there v h).1; crs = (there v h).0; crs_type = refl; edges = refl }
 of_written v None (Some e) h = record { is_object = refl; whole = (there v h).1; crs = (there v h).0; crs_type = refl; edges = refl }
 of_written v (Some t) None h = record { is_object = refl; whole = (there v h).1; crs = (there v h).0; crs_type = refl; edges = refl }
@@ -26,19 +26,19 @@ of_written v _ _ h = record { is_object = refl; whole = (there v h).1; crs = (th
 
 abbrev StandsAs : Option Data → Metadata → Type 0
 StandsAs None m = m ≡ empty
-StandsAs (Some d) m = StandsFor d m
+StandsAs (Some d) m = Denotes d m
 
 parts_stand : (v : Option Data) (t : Option CrsType) (e : Option Edges) → IfSome v IsCrsValue → StandsAs (meta_value (of_parts v t e)) (normal (of_parts v t e))
 parts_stand None t None h = refl
 parts_stand v t e h = of_written v t e h
 
-text_stands : (o : Option Data) (m : Metadata) → StandsAs o m → IsReadBack o → TextStandsFor (option_map compact_text o) m
+text_stands : (o : Option Data) (m : Metadata) → StandsAs o m → IsReadBack o → DenotesMetadata (option_map compact_text o) m
 text_stands None m h r = h
 text_stands (Some d) m h r = (d, r, h)
 
 -- where `serde_json` reads what it printed, the text denotes the normal form
-pub stands_for_normal : (m : Metadata) → IfSome m.crs.value IsCrsValue → IsReadBack (meta_value m) → TextStandsFor (option_map compact_text (meta_value m)) (normal m)
-stands_for_normal m h r = text_stands (meta_value m) (normal m) (parts_stand m.crs.value m.crs.crs_type m.edges h) r
+pub denotes_normal : (m : Metadata) → IfSome m.crs.value IsCrsValue → IsReadBack (meta_value m) → DenotesMetadata (option_map compact_text (meta_value m)) (normal m)
+denotes_normal m h r = text_stands (meta_value m) (normal m) (parts_stand m.crs.value m.crs.crs_type m.edges h) r
 
 -- ---- two metadata are written alike exactly where their normal forms are equal
 
@@ -46,13 +46,13 @@ meta_value-normal : (v : Option Data) (t : Option CrsType) (e : Option Edges) �
 meta_value-normal None t None = refl
 meta_value-normal _ t e = refl
 
-stands_for_both : (o : Option Data) (m n : Metadata) → StandsAs o m → StandsAs o n → m ≡ n
-stands_for_both None m n h k = h ∙ sym k
-stands_for_both (Some d) m n h k = stands_for_one d m n h k
+denotes_both : (o : Option Data) (m n : Metadata) → StandsAs o m → StandsAs o n → m ≡ n
+denotes_both None m n h k = h ∙ sym k
+denotes_both (Some d) m n h k = denotes_one d m n h k
 
 pub written_alike : (m n : Metadata) → IfSome m.crs.value IsCrsValue → IfSome n.crs.value IsCrsValue → (meta_value m ≡ meta_value n) ↔ (normal m ≡ normal n)
 written_alike m n h k = (
-  λ e. stands_for_both _ _ _ (subst (λ o. StandsAs o (normal m)) e (parts_stand m.crs.value m.crs.crs_type m.edges h)) (parts_stand n.crs.value n.crs.crs_type n.edges k),
+  λ e. denotes_both _ _ _ (subst (λ o. StandsAs o (normal m)) e (parts_stand m.crs.value m.crs.crs_type m.edges h)) (parts_stand n.crs.value n.crs.crs_type n.edges k),
   λ e. sym (meta_value-normal m.crs.value m.crs.crs_type m.edges) ∙ ap meta_value e ∙ meta_value-normal n.crs.value n.crs.crs_type n.edges,
 )
 

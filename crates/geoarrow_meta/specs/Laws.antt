@@ -9,7 +9,7 @@ use Rattle.geoarrow_meta.specs.declared.edges.Edges.TheVariants.{Andoyer, Karney
 use Rattle.geoarrow_meta.specs.declared.crs.crs_type.CrsType.{CrsType}
 use Rattle.geoarrow_meta.specs.declared.crs.crs_type.CrsType.TheVariants.{Projjson, Wkt2_2019, AuthorityCode, Srid}
 use Rattle.geoarrow_meta.specs.declared.metadata.Metadata.{Metadata}
-use Rattle.geoarrow_meta.specs.Read.{edges_text, crs_type_text, crs_type_data, edges_data, StandsFor, TextStandsFor}
+use Rattle.geoarrow_meta.specs.Read.{edges_text, crs_type_text, crs_type_data, edges_data, Denotes, DenotesMetadata}
 
 some-inj : {c d : Data} → Some c ≡ Some d → c ≡ d
 some-inj e = cc
@@ -43,8 +43,8 @@ edges_same (Some a) (Some b) e = let f : edges_text a ≡ edges_text b = cc in a
 edges_same _ _ e = absurd (cc)
 
 -- a JSON value denotes at most one metadata
-pub stands_for_one : (d : Data) (m n : Metadata) → StandsFor d m → StandsFor d n → m ≡ n
-stands_for_one d m n a b = λ i. record {
+pub denotes_one : (d : Data) (m n : Metadata) → Denotes d m → Denotes d n → m ≡ n
+denotes_one d m n a b = λ i. record {
   crs = record {
     value = (a.crs ∙ sym b.crs) i;
     crs_type = crs_types_same m.crs.crs_type n.crs.crs_type (a.crs_type ∙ sym b.crs_type) i;
@@ -53,8 +53,8 @@ stands_for_one d m n a b = λ i. record {
 }
 
 -- and so does a text, or its absence
-pub text_stands_for_one : (t : Option Text) (m n : Metadata) → TextStandsFor t m → TextStandsFor t n → m ≡ n
-text_stands_for_one None m n a b = a ∙ sym b
-text_stands_for_one (Some s) m n a b =
+pub text_denotes_one : (t : Option Text) (m n : Metadata) → DenotesMetadata t m → DenotesMetadata t n → m ≡ n
+text_denotes_one None m n a b = a ∙ sym b
+text_denotes_one (Some s) m n a b =
     let f : a.0 ≡ b.0 = some-inj (sym a.1 ∙ b.1) in
-    stands_for_one b.0 m n (subst (λ d. StandsFor d m) f a.2) b.2
+    denotes_one b.0 m n (subst (λ d. Denotes d m) f a.2) b.2

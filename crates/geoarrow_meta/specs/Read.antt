@@ -61,7 +61,7 @@ some_has_float None = false
 some_has_float (Some d) = has_float d
 
 -- the JSON value denotes the metadata: it is an object with whole numbers in `crs`, and the parts are those at the three keys
-pub record StandsFor (d : Data) (m : Metadata) : Type 0 where
+pub record Denotes (d : Data) (m : Metadata) : Type 0 where
   pub is_object : IsSome (as_object d)
   pub whole : some_has_float (at_key (codes "crs") d) ≡ false
   pub crs : m.crs.value ≡ at_key (codes "crs") d
@@ -69,14 +69,14 @@ pub record StandsFor (d : Data) (m : Metadata) : Type 0 where
   pub edges : option_map edges_data m.edges ≡ at_key (codes "edges") d
 
 -- the metadata text denotes the metadata; a missing text denotes the empty one
-abbrev pub TextStandsFor : Option Text → Metadata → Type 0
-TextStandsFor None m = m ≡ empty
-TextStandsFor (Some s) m = (d : Data) × (read s ≡ Some d) × StandsFor d m
+abbrev pub DenotesMetadata : Option Text → Metadata → Type 0
+DenotesMetadata None m = m ≡ empty
+DenotesMetadata (Some s) m = (d : Data) × (read s ≡ Some d) × Denotes d m
 
 -- what a metadata text, or its absence, is read as: the metadata that it denotes; or an error, where it denotes none or memory
 -- runs out
 abbrev pub IsTextReading : Option Text → Result Metadata ArrowError → Type 0
-IsTextReading t r = MatchResult r (TextStandsFor t) (λ e. IsMemory e ⊎ ((m : Metadata) → TextStandsFor t m → ⊥))
+IsTextReading t r = MatchResult r (DenotesMetadata t) (λ e. IsMemory e ⊎ ((m : Metadata) → DenotesMetadata t m → ⊥))
 
 -- the value is an object with a number in `crs` that is read as a float
 abbrev pub HasFloat : Data → Type 0
@@ -87,7 +87,7 @@ HasFloat d = IsSome (as_object d) × (some_has_float (at_key (codes "crs") d) �
 abbrev pub RefusedAs : Data → GeoArrowError → Type 0
 RefusedAs d (Arrow a) = IsMemory a
 RefusedAs d (Crs s) = HasFloat d
-RefusedAs d (External s) = ¬ HasFloat d × ((m : Metadata) → ¬ StandsFor d m)
+RefusedAs d (External s) = ¬ HasFloat d × ((m : Metadata) → ¬ Denotes d m)
 RefusedAs d _ = ⊥
 
 -- the text is refused with that error: out of memory; or boxed in an `ExternalError`, `Crs` if `crs` holds a float,
@@ -96,7 +96,7 @@ abbrev pub TextRefusedAs : Option Text → ArrowError → Type 0
 TextRefusedAs None e = ⊥
 TextRefusedAs (Some s) OutOfMemory = ⊤
 TextRefusedAs (Some s) (ExternalError' p (Crs t)) = (d : Data) × (read s ≡ Some d) × HasFloat d
-TextRefusedAs (Some s) (ExternalError' p (External t)) = ((d : Data) → read s ≡ Some d → ¬ HasFloat d) × ((m : Metadata) → ¬ TextStandsFor (Some s) m)
+TextRefusedAs (Some s) (ExternalError' p (External t)) = ((d : Data) → read s ≡ Some d → ¬ HasFloat d) × ((m : Metadata) → ¬ DenotesMetadata (Some s) m)
 TextRefusedAs (Some s) _ = ⊥
 
 -- ---- errors by variant

@@ -6,7 +6,7 @@ ghost use Rattle.geoarrow_meta.specs.declared.metadata.Metadata.{Metadata};
 ghost use Rattle.geoarrow_meta.specs.contracts.metadata.MetadataPartialEq.TheImpl as metadatas;
 ghost use Rattle.geoarrow_meta.specs.Written.{meta_value, printed, normal, IsReadBack, NestsWithin};
 ghost use Rattle.geoarrow_meta.specs.Whole.{is_whole};
-ghost use Rattle.geoarrow_meta.specs.Read.{StandsFor, TextStandsFor};
+ghost use Rattle.geoarrow_meta.specs.Read.{Denotes, DenotesMetadata};
 
 use crate::crs::{Crs, CrsType};
 use crate::edges::Edges;
@@ -33,7 +33,7 @@ pub fn written_alike(one: &Metadata, other: &Metadata)
 /// printed as the value that it printed.
 pub fn printed_reads_back(metadata: &Metadata)
     ensures { IsReadBack (meta_value metadata.now)
-        → TextStandsFor (printed metadata.now) (normal metadata.now) }
+        → DenotesMetadata (printed metadata.now) (normal metadata.now) }
 {
     metadata.crs().crs_value();
 }
@@ -61,15 +61,15 @@ fn crs_value_is_whole(crs: &Crs)
 }
 
 /// A law: a JSON value denotes one metadata at most. There is nothing to run.
-pub fn value_stands_for_one(value: &Value)
-    ensures { (m n : Metadata) → StandsFor (view value.now) m → StandsFor (view value.now) n
+pub fn value_denotes_one(value: &Value)
+    ensures { (m n : Metadata) → Denotes (view value.now) m → Denotes (view value.now) n
         → m ≡ n }
 {}
 
 /// A law: a text, or its absence, denotes one metadata at most. There is nothing to run.
-pub fn text_stands_for_one(text: Option<&str>)
-    ensures { (m n : Metadata) → TextStandsFor (text_of text.entry) m
-        → TextStandsFor (text_of text.entry) n → m ≡ n }
+pub fn text_denotes_one(text: Option<&str>)
+    ensures { (m n : Metadata) → DenotesMetadata (text_of text.entry) m
+        → DenotesMetadata (text_of text.entry) n → m ≡ n }
 {}
 
 /// A law: `==` returns true for two metadata exactly if their parts are equal.

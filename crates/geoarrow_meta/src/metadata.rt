@@ -11,7 +11,7 @@ ghost use Rattle.serde_json.specs.Written.{has_float};
 ghost use Rattle.geoarrow_meta.specs.declared.metadata.Metadata.{Metadata};
 ghost use Rattle.geoarrow_meta.specs.CrsValue.{IsCrsValue};
 ghost use Rattle.geoarrow_meta.specs.Written.{meta_value, printed, normal, is_bare, IsReadBack, NestsWithin};
-ghost use Rattle.geoarrow_meta.specs.Read.{empty, StandsFor, TextStandsFor, RefusedAs, TextRefusedAs, IsTextReading};
+ghost use Rattle.geoarrow_meta.specs.Read.{empty, Denotes, DenotesMetadata, RefusedAs, TextRefusedAs, IsTextReading};
 ghost use Rattle.geoarrow_meta.specs.KeyValues.{AreValuesOf};
 
 mod key_values;
@@ -107,8 +107,8 @@ impl Metadata {
     /// `crs` is not whole, with `External` if `crs_type` is not one of the format's, and with `External` if `edges` is
     /// not one of the format's; otherwise only when out of memory.
     pub fn from_value(alloc: Global, value: &Value) -> GeoArrowResult<Metadata>
-        ensures ok { IfOk result (StandsFor (view value.now)) }
-        ensures only { IfOk result (λ m. (n : Metadata) → StandsFor (view value.now) n → n ≡ m) }
+        ensures ok { IfOk result (Denotes (view value.now)) }
+        ensures only { IfOk result (λ m. (n : Metadata) → Denotes (view value.now) n → n ≡ m) }
         ensures err { IfErr result (RefusedAs (view value.now)) }
     {
         if !value.is_object() {
@@ -121,7 +121,7 @@ impl Metadata {
     fn of_values(alloc: Global, values: KeyValues<Value>) -> GeoArrowResult<Metadata>
         requires { (d : Data) × AreValuesOf d (option_map view values.crs) values.crs_type values.edges }
         ensures ok { IfOk result (λ m. (d : Data) → IsSome (as_object d)
-            → AreValuesOf d (option_map view values.crs) values.crs_type values.edges → StandsFor d m) }
+            → AreValuesOf d (option_map view values.crs) values.crs_type values.edges → Denotes d m) }
         ensures err { IfErr result (λ e. (d : Data) → IsSome (as_object d)
             → AreValuesOf d (option_map view values.crs) values.crs_type values.edges → RefusedAs d e) }
     {
@@ -161,9 +161,9 @@ impl Metadata {
         ensures read_back { OnOk result (NestsWithin max_depth (meta_value self.now)
             → IsReadBack (meta_value self.now)) }
         ensures reads_as { IfOk result (λ text. IsReadBack (meta_value self.now)
-            → TextStandsFor (option_map string_bytes text) (normal self.now)) }
+            → DenotesMetadata (option_map string_bytes text) (normal self.now)) }
         ensures nested { IfOk result (λ text. NestsWithin 100 self.now.crs.value
-            → TextStandsFor (option_map string_bytes text) (normal self.now)) }
+            → DenotesMetadata (option_map string_bytes text) (normal self.now)) }
     {
         Ok(self.print(alloc)?)
     }
@@ -228,16 +228,16 @@ impl Metadata {
         alloc: Global,
         metadata: Option<&str>,
     ) -> Result<Arc<Metadata>, ArrowError>
-        ensures exact { MatchResult result (λ m. TextStandsFor (text_of metadata.entry) (arc_value m))
+        ensures exact { MatchResult result (λ m. DenotesMetadata (text_of metadata.entry) (arc_value m))
             (λ e. IsMemory e
-            ⊎ ((m : Metadata) → TextStandsFor (text_of metadata.entry) m → ⊥)) }
+            ⊎ ((m : Metadata) → DenotesMetadata (text_of metadata.entry) m → ⊥)) }
         ensures refusal { IfErr result (λ e. IsMemory e ⊎ TextRefusedAs (text_of metadata.entry) e) }
     {
         let read = Metadata::deserialize(alloc, metadata)?;
         Ok(Arc::new(alloc, read)?)
     }
 
-    /// The metadata that a field's metadata text, or its absence, stands for, whatever the name of its extension type.
+    /// The metadata that a field's metadata text, or its absence, denotes, whatever the name of its extension type.
     /// Errs as `deserialize` does.
     #[inline]
     pub fn try_from_field(alloc: Global, field: &Field) -> Result<Metadata, ArrowError>

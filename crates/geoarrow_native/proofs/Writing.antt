@@ -9,7 +9,7 @@ use Rattle.geoarrow_layout.specs.Shapes.{Accepts}
 use Rattle.geoarrow_layout.specs.Layouts.{layout}
 use Rattle.geoarrow_meta.specs.declared.metadata.Metadata.{Metadata}
 use Rattle.geoarrow_meta.specs.Written.{printed, normal}
-use Rattle.geoarrow_meta.specs.Read.{TextStandsFor}
+use Rattle.geoarrow_meta.specs.Read.{DenotesMetadata}
 use Rattle.arrow_values.specs.Texts.{extension_metadata}
 use Rattle.geoarrow_native.specs.Column.{ReadsAs, written_field}
 use Rattle.std.specs.Prelude.{[]}
@@ -23,13 +23,13 @@ metadata_set : (name : Text) (text : Option Text) → text_at metadata_key (set_
 metadata_set name None = refl
 metadata_set name (Some text) = refl
 
-pub written_reads : (n : Text) (b : Bool) (k : Kind) (m : Metadata) → Accepts (name_of k) (layout k) k → TextStandsFor (printed m) (normal m) → ReadsAs (written_field n b k m) k (normal m)
+pub written_reads : (n : Text) (b : Bool) (k : Kind) (m : Metadata) → Accepts (name_of k) (layout k) k → DenotesMetadata (printed m) (normal m) → ReadsAs (written_field n b k m) k (normal m)
 unfolding ReadsAs
 written_reads n b k m column stands =
-    ((name_set (name_of k) (printed m), column.1), subst (λ t. TextStandsFor t (normal m)) (sym (metadata_set (name_of k) (printed m))) stands)
+    ((name_set (name_of k) (printed m), column.1), subst (λ t. DenotesMetadata t (normal m)) (sym (metadata_set (name_of k) (printed m))) stands)
 
 pub read_once : (f : FieldTree) → ((n : Text) (t : Tree) (j k : Kind) → Accepts n t j → Accepts n t k → j ≡ k)
-    → ((m n : Metadata) → TextStandsFor (extension_metadata f) m → TextStandsFor (extension_metadata f) n → m ≡ n)
+    → ((m n : Metadata) → DenotesMetadata (extension_metadata f) m → DenotesMetadata (extension_metadata f) n → m ≡ n)
     → (j k : Kind) (m n : Metadata) → ReadsAs f j m → ReadsAs f k n → (j ≡ k) × (m ≡ n)
 unfolding ReadsAs
 read_once f one_kind one_metadata j k m n h g =

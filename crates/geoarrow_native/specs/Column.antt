@@ -7,14 +7,14 @@ use Rattle.arrow_values.specs.declared.error.ArrowError.{ArrowError}
 use Rattle.geoarrow_layout.specs.declared.encodings.Kind.{Kind}
 use Rattle.geoarrow_layout.specs.declared.fault.LayoutFault.{LayoutFault}
 use Rattle.geoarrow_layout.specs.declared.names.ExtensionName.{ExtensionName}
-use Rattle.geoarrow_layout.specs.Faults.{IsArrowFormOf}
+use Rattle.geoarrow_layout.specs.Faults.{IsErrorOfFault}
 use Rattle.geoarrow_layout.specs.FaultAt.{HasFault, FaultAt}
 use Rattle.geoarrow_layout.specs.Kinds.{name_of}
 use Rattle.geoarrow_layout.specs.Shapes.{Accepted}
 use Rattle.geoarrow_layout.specs.Layouts.{layout}
 use Rattle.geoarrow_meta.specs.declared.metadata.Metadata.{Metadata}
 use Rattle.geoarrow_meta.specs.Written.{printed}
-use Rattle.geoarrow_meta.specs.Read.{TextStandsFor}
+use Rattle.geoarrow_meta.specs.Read.{DenotesMetadata}
 
 -- the field has the extension name of the kind, and the kind accepts its data type
 abbrev pub IsColumn : FieldTree → Kind → Type 0
@@ -22,7 +22,7 @@ IsColumn f k = (extension_name f ≡ Some (name_of k)) × Accepted k f.tree
 
 -- the field is read as that kind and metadata: it is a column of the kind, and its metadata text denotes the metadata
 unfoldable pub ReadsAs : FieldTree → Kind → Metadata → Type 0
-ReadsAs f k m = IsColumn f k × TextStandsFor (extension_metadata f) m
+ReadsAs f k m = IsColumn f k × DenotesMetadata (extension_metadata f) m
 
 -- the field as written: that name and nullability, the data type of the kind, and only the texts of the kind and the metadata
 -- at the two extension keys
@@ -31,7 +31,7 @@ written_field name nullable k m = field_tree name (layout k) nullable (set_exten
 
 -- the error is that of the fault that the data type has under the extension name
 abbrev pub IsLayoutRefusal : ExtensionName → Tree → ArrowError → Type 0
-IsLayoutRefusal n t e = (fault : LayoutFault) × HasFault (FaultAt n t) fault × IsArrowFormOf fault e
+IsLayoutRefusal n t e = (fault : LayoutFault) × HasFault (FaultAt n t) fault × IsErrorOfFault fault e
 
 -- the error with which a type refuses a data type: how its encoding refuses one that it accepts as none; or a `SchemaError`, if
 -- it accepts it as another

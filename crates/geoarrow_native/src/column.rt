@@ -155,9 +155,9 @@ impl<E: KindEncoding> ColumnType<E> {
 impl<E: ColumnEncoding> ExtensionType for ColumnType<E> {
     ghost use Rattle.geoarrow_layout.specs.Kinds.{name_text as text_of};
     ghost use Rattle.geoarrow_meta.specs.Written.{printed as printed_text};
-    ghost use Rattle.geoarrow_meta.specs.Read.{TextStandsFor, TextRefusedAs};
+    ghost use Rattle.geoarrow_meta.specs.Read.{DenotesMetadata, TextRefusedAs};
     ghost use Rattle.geoarrow_meta.specs.declared.metadata.Metadata.{Metadata as MetadataValue};
-    ghost use Rattle.geoarrow_meta.specs.Laws.{text_stands_for_one};
+    ghost use Rattle.geoarrow_meta.specs.Laws.{text_denotes_one};
     ghost use Rattle.geoarrow_native.specs.Column.{IsLayoutRefusal, RefusesOther};
 
     const NAME: &'static str = E::NAME;
@@ -174,7 +174,7 @@ impl<E: ColumnEncoding> ExtensionType for ColumnType<E> {
 
     ghost value_of = { arc_value };
 
-    ghost StandsFor = { TextStandsFor };
+    ghost Denotes = { DenotesMetadata };
 
     ghost Accepts = { λ t e. E.Accepts t e.encoding };
 
@@ -188,7 +188,7 @@ impl<E: ColumnEncoding> ExtensionType for ColumnType<E> {
 
     ghost accepts_one = { λ t a b h k. E.accepts_one t a.encoding b.encoding h k };
 
-    ghost stands_for_one = { text_stands_for_one };
+    ghost denotes_one = { text_denotes_one };
 
     ghost accepts_by_shape = { λ t a e h k. E.accepts_by_shape t a.encoding e.encoding h k };
 

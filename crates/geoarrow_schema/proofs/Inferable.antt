@@ -15,7 +15,7 @@ use Rattle.geoarrow_layout.specs.declared.encodings.Kind.TheVariants.{Native, Wk
 use Rattle.geoarrow_layout.specs.Shapes.{SameNames}
 use Rattle.geoarrow_layout.specs.Inferred.{Inferred}
 use Rattle.geoarrow_layout.specs.Layouts.{layout, leaf_layout}
-use Rattle.geoarrow_meta.specs.Read.{TextStandsFor, empty}
+use Rattle.geoarrow_meta.specs.Read.{DenotesMetadata, empty}
 use Rattle.geoarrow_schema.specs.declared.types.GeoArrowType.{GeoArrowType}
 use Rattle.geoarrow_schema.specs.Types.{kind_of, meta_of}
 use Rattle.geoarrow_schema.specs.Infers.{InfersAs, Infers, InferredAs, IsInferable, IsBareColumn}
@@ -40,6 +40,6 @@ pub bare_inferred : (f : FieldTree) (g : GeoArrowType) → IsInferable (kind_of 
 unfolding InfersAs
 bare_inferred f g inferable bare default = (
   (λ named. let e = sym bare.0 ∙ named.1 in absurd cc),
-  subst (λ t. TextStandsFor t (meta_of g)) (sym bare.1) default,
+  subst (λ t. DenotesMetadata t (meta_of g)) (sym bare.1) default,
   subst (λ t. InferredAs t (kind_of g)) (sym bare.2) (layout_inferred (kind_of g) inferable),
 )

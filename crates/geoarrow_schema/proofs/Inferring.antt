@@ -20,8 +20,8 @@ use Rattle.geoarrow_layout.specs.declared.encodings.Kind.TheVariants.{Native, Wk
 use Rattle.geoarrow_layout.specs.Shapes.{AnswersOne, IsBytes, IsText}
 use Rattle.geoarrow_layout.specs.Inferred.{AnswersSome, Inferred}
 use Rattle.geoarrow_meta.specs.declared.metadata.Metadata.{Metadata}
-use Rattle.geoarrow_meta.specs.Read.{TextStandsFor, TextRefusedAs}
-use Rattle.geoarrow_meta.specs.Laws.{text_stands_for_one}
+use Rattle.geoarrow_meta.specs.Read.{DenotesMetadata, TextRefusedAs}
+use Rattle.geoarrow_meta.specs.Laws.{text_denotes_one}
 use Rattle.std.specs.declared.sync.Arc.{Arc}
 use Rattle.std.specs.declared.alloc.Global.{Global}
 use Rattle.geoarrow_schema.specs.declared.types.GeoArrowType.{GeoArrowType}
@@ -81,7 +81,7 @@ serialized_inferred t r s is a stored = λ k. (λ e. there k ((stored k).0 e), �
     back _ h = absurd h
 
 -- what is inferred of a tree and a metadata
-pub type_inferred : (f : FieldTree) (k : Kind) (m : Arc Metadata Global) (g : GeoArrowType) → kind_of g ≡ k → metadata_of g ≡ m → ¬ HasGeoArrowName f → TextStandsFor (extension_metadata f) (arc_value m) → InferredAs f.tree k → Infers f g
+pub type_inferred : (f : FieldTree) (k : Kind) (m : Arc Metadata Global) (g : GeoArrowType) → kind_of g ≡ k → metadata_of g ≡ m → ¬ HasGeoArrowName f → DenotesMetadata (extension_metadata f) (arc_value m) → InferredAs f.tree k → Infers f g
 unfolding InfersAs
 type_inferred f k m g kind meta unnamed stands column = (unnamed, rw meta stands, rw kind column)
 
@@ -93,18 +93,18 @@ none_for_tree f none k m h = none k h.2
 pub infers_alone : (f : FieldTree) (r : Option Kind) (g : GeoArrowType) → AnswersInferred f.tree r → Infers f g → InfersAlone f g
 unfolding InfersAs
 infers_alone f r g is here k m there =
-    (same_Some k (kind_of g) (sym ((is k).1 there.2) ∙ (is (kind_of g)).1 here.2), text_stands_for_one (extension_metadata f) m (meta_of g) there.1 here.1)
+    (same_Some k (kind_of g) (sym ((is k).1 there.2) ∙ (is (kind_of g)).1 here.2), text_denotes_one (extension_metadata f) m (meta_of g) there.1 here.1)
 
 -- how a field is refused that is taken for nothing
 abbrev IsUninferred : FieldTree → GeoArrowError → Type 0
 IsUninferred f e = IsGeoMemory e ⊎ (InfersNone f × UninferredAs f e)
 
-pub text_error : (f : FieldTree) (a : ArrowError) → IsMemory a ⊎ ((m : Metadata) → ¬ TextStandsFor (extension_metadata f) m) → TextRefusedAs (extension_metadata f) a → IsUninferred f (Arrow a)
+pub text_error : (f : FieldTree) (a : ArrowError) → IsMemory a ⊎ ((m : Metadata) → ¬ DenotesMetadata (extension_metadata f) m) → TextRefusedAs (extension_metadata f) a → IsUninferred f (Arrow a)
 unfolding InfersAs
 text_error f a (inl memory) refused = inl (ap Arrow memory)
 text_error f a (inr none) refused = inr ((λ k m h. none m h.1), (none, refused))
 
-pub tree_error : (f : FieldTree) (text : Text) (e : GeoArrowError) (m : Metadata) → TextStandsFor (extension_metadata f) m → ((k : Kind) → ¬ InferredAs f.tree k) → text ≡ uninferred_text f.tree → IsGeoMemory e ⊎ IsInvalidOf text e → IsUninferred f e
+pub tree_error : (f : FieldTree) (text : Text) (e : GeoArrowError) (m : Metadata) → DenotesMetadata (extension_metadata f) m → ((k : Kind) → ¬ InferredAs f.tree k) → text ≡ uninferred_text f.tree → IsGeoMemory e ⊎ IsInvalidOf text e → IsUninferred f e
 tree_error f text e m stands none why (inl memory) = inl memory
 tree_error f text (InvalidGeoArrow s) m stands none why (inr is) = inr (none_for_tree f none, ((m, stands), (none, is ∙ why)))
 tree_error f text e m stands none why (inr is) = absurd is

@@ -18,7 +18,7 @@ use Rattle.geoarrow_layout.specs.declared.encodings.Kind.TheVariants as kinds
 use Rattle.geoarrow_layout.specs.Kinds.{name_text, extension_of, name_of}
 use Rattle.geoarrow_layout.specs.Shapes.{Accepts, Accepted, IsBytes, IsText}
 use Rattle.geoarrow_meta.specs.declared.metadata.Metadata.{Metadata}
-use Rattle.geoarrow_meta.specs.Read.{TextStandsFor, TextRefusedAs}
+use Rattle.geoarrow_meta.specs.Read.{DenotesMetadata, TextRefusedAs}
 use Rattle.std.specs.declared.sync.Arc.{Arc}
 use Rattle.std.specs.declared.alloc.Global.{Global}
 use Rattle.geoarrow_native.specs.Column.{IsColumn, ReadsAs}
@@ -28,7 +28,7 @@ use Rattle.geoarrow_schema.specs.Reads.{HasName, HasGeoArrowName, Reads, ReadsAs
 use Rattle.geoarrow_schema.specs.Refusals.{IsRefusal}
 
 -- a column with a metadata
-pub column_reads : (f : FieldTree) (k : Kind) (m : Metadata) → IsColumn f k → TextStandsFor (extension_metadata f) m → ReadsAs f k m
+pub column_reads : (f : FieldTree) (k : Kind) (m : Metadata) → IsColumn f k → DenotesMetadata (extension_metadata f) m → ReadsAs f k m
 unfolding ReadsAs
 column_reads f k m column stands = (column, stands)
 
@@ -46,7 +46,7 @@ unfolding ReadsAs
 none_of_name f n has none k m r = none k (same_Some (name_text n) (name_of k) (sym has ∙ r.0.0), r.0.1)
 
 -- and so is a metadata text that denotes none
-pub none_of_text : (f : FieldTree) → ((m : Metadata) → ¬ TextStandsFor (extension_metadata f) m) → ReadsAsNone f
+pub none_of_text : (f : FieldTree) → ((m : Metadata) → ¬ DenotesMetadata (extension_metadata f) m) → ReadsAsNone f
 unfolding ReadsAs
 none_of_text f none k m r = none m r.1
 
@@ -109,7 +109,7 @@ read_has_name f g r = (extension_of (kind_of g), r.0.0)
 -- ---- refusals
 
 -- that of a column whose metadata text is refused
-pub column_refused : NamesAreDistinct → (f : FieldTree) (k : Kind) (a : ArrowError) → IsColumn f k → IsMemory a ⊎ ((m : Metadata) → ¬ TextStandsFor (extension_metadata f) m) → TextRefusedAs (extension_metadata f) a → IsRefusal f (Arrow a)
+pub column_refused : NamesAreDistinct → (f : FieldTree) (k : Kind) (a : ArrowError) → IsColumn f k → IsMemory a ⊎ ((m : Metadata) → ¬ DenotesMetadata (extension_metadata f) m) → TextRefusedAs (extension_metadata f) a → IsRefusal f (Arrow a)
 column_refused distinct f k a column (inl memory) refused = inl (ap Arrow memory)
 column_refused distinct f k a column (inr none) refused = inr (none_of_text f none, (column_stored distinct f k column, inl refused))
 

@@ -12,7 +12,7 @@ use Rattle.geoarrow_meta.specs.declared.metadata.Metadata.{Metadata}
 use Rattle.geoarrow_meta.specs.declared.crs.crs_type.CrsType.{CrsType}
 use Rattle.geoarrow_meta.specs.declared.edges.Edges.{Edges}
 use Rattle.geoarrow_meta.specs.Written.{meta_value, printed, type_unless, normal, IsReadBack, NestsWithin}
-use Rattle.geoarrow_meta.specs.Read.{TextStandsFor}
+use Rattle.geoarrow_meta.specs.Read.{DenotesMetadata}
 use Rattle.geoarrow_native.specs.Column.{ReadsAs}
 use Rattle.geoarrow_schema.specs.declared.types.GeoArrowType.{GeoArrowType}
 use Rattle.geoarrow_schema.specs.Types.{kind_of, meta_of}
@@ -35,22 +35,22 @@ with_normal_extension f n k m is =
     is ∙ ap (λ v. of_text (option_map compact_text v)) (sym (normal_value m))
 
 -- the field of the kind's data type and extension keys reads as the normal form, where its text denotes that
-reads_where : {P : Type 0} (f n : FieldTree) (k : Kind) (m : Metadata) → f.tree ≡ layout k → Accepts (name_of k) (layout k) k → (P → TextStandsFor (printed m) (normal m)) → n ≡ with_extension f k m
+reads_where : {P : Type 0} (f n : FieldTree) (k : Kind) (m : Metadata) → f.tree ≡ layout k → Accepts (name_of k) (layout k) k → (P → DenotesMetadata (printed m) (normal m)) → n ≡ with_extension f k m
     → SetsExtension (name_of k) (printed m) f.metadata n.metadata → P → ReadsAs n k (normal m)
 unfolding ReadsAs
 reads_where f n k m typed column stands is sets p = (
   (sets name_key, subst (Accepted k) (sym (ap (λ x. x.tree) is ∙ typed)) column.1),
-  subst (λ t. TextStandsFor t (normal m)) (sym (sets metadata_key)) (stands p),
+  subst (λ t. DenotesMetadata t (normal m)) (sym (sets metadata_key)) (stands p),
 )
 
 pub reads_normally : {E : Type 0} (r : Result FieldTree E) (f : FieldTree) (k : Kind) (m : Metadata) → f.tree ≡ layout k → Accepts (name_of k) (layout k) k
-    → (IsReadBack (meta_value m) → TextStandsFor (printed m) (normal m)) → IfOk r (λ n. n ≡ with_extension f k m) → IfOk r (λ n. SetsExtension (name_of k) (printed m) f.metadata n.metadata)
+    → (IsReadBack (meta_value m) → DenotesMetadata (printed m) (normal m)) → IfOk r (λ n. n ≡ with_extension f k m) → IfOk r (λ n. SetsExtension (name_of k) (printed m) f.metadata n.metadata)
     → IfOk r (λ n. ReadsNormally n k m)
 reads_normally (Err e) f k m typed column stands is sets = tt
 reads_normally (Ok n) f k m typed column stands is sets = reads_where f n k m typed column (λ back. stands (subst IsReadBack (normal_value m) back)) is sets
 
 pub reads_shallow : {E : Type 0} (r : Result FieldTree E) (f : FieldTree) (g : GeoArrowType) → f.tree ≡ layout (kind_of g) → Accepts (name_of (kind_of g)) (layout (kind_of g)) (kind_of g)
-    → IfOk r (λ _. NestsWithin 100 (meta_of g).crs.value → TextStandsFor (printed (meta_of g)) (normal (meta_of g))) → IfOk r (λ n. n ≡ with_extension f (kind_of g) (meta_of g)) → IfOk r (HasKeysOf g f)
+    → IfOk r (λ _. NestsWithin 100 (meta_of g).crs.value → DenotesMetadata (printed (meta_of g)) (normal (meta_of g))) → IfOk r (λ n. n ≡ with_extension f (kind_of g) (meta_of g)) → IfOk r (HasKeysOf g f)
     → IfOk r (λ n. ReadsShallow n g)
 reads_shallow (Err e) f g typed column stands is sets = tt
 reads_shallow (Ok n) f g typed column stands is sets = reads_where f n (kind_of g) (meta_of g) typed column stands is sets

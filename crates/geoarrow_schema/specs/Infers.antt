@@ -12,7 +12,7 @@ use Rattle.geoarrow_layout.specs.Shapes.{IsBytes, IsText}
 use Rattle.geoarrow_layout.specs.Inferred.{Inferred, is_float64, are_float64}
 use Rattle.geoarrow_layout.specs.Layouts.{layout}
 use Rattle.geoarrow_meta.specs.declared.metadata.Metadata.{Metadata}
-use Rattle.geoarrow_meta.specs.Read.{TextStandsFor, TextRefusedAs}
+use Rattle.geoarrow_meta.specs.Read.{DenotesMetadata, TextRefusedAs}
 use Rattle.geoarrow_schema.specs.declared.types.GeoArrowType.{GeoArrowType}
 use Rattle.geoarrow_schema.specs.Types.{kind_of, meta_of}
 use Rattle.geoarrow_schema.specs.Reads.{HasGeoArrowName, Reads, ReadsAlone, ReadsAsNone, FieldRefusedAs}
@@ -26,7 +26,7 @@ InferredAs t _ = ⊥
 
 -- the field has no GeoArrow name, its metadata text denotes the metadata, and the kind is inferred from its tree
 unfoldable pub InfersAs : FieldTree → Kind → Metadata → Type 0
-InfersAs f k m = ¬ HasGeoArrowName f × TextStandsFor (extension_metadata f) m × InferredAs f.tree k
+InfersAs f k m = ¬ HasGeoArrowName f × DenotesMetadata (extension_metadata f) m × InferredAs f.tree k
 
 -- the type is inferred for the field
 abbrev pub Infers : FieldTree → GeoArrowType → Type 0
@@ -61,8 +61,8 @@ TreeUninferredAs t message = ((k : Kind) → ¬ InferredAs t k) × (message ≡ 
 -- the error with which a field without a GeoArrow name is refused: that of its metadata text, if that denotes none; `InvalidGeoArrow` for
 -- its tree, if it denotes one
 abbrev pub UninferredAs : FieldTree → GeoArrowError → Type 0
-UninferredAs f (InvalidGeoArrow s) = ((m : Metadata) × TextStandsFor (extension_metadata f) m) × TreeUninferredAs f.tree (string_bytes s)
-UninferredAs f (Arrow a) = ((m : Metadata) → ¬ TextStandsFor (extension_metadata f) m) × TextRefusedAs (extension_metadata f) a
+UninferredAs f (InvalidGeoArrow s) = ((m : Metadata) × DenotesMetadata (extension_metadata f) m) × TreeUninferredAs f.tree (string_bytes s)
+UninferredAs f (Arrow a) = ((m : Metadata) → ¬ DenotesMetadata (extension_metadata f) m) × TextRefusedAs (extension_metadata f) a
 UninferredAs f _ = ⊥
 
 -- out of memory; or the field is read as nothing, nothing is inferred, and this is its error

@@ -15,7 +15,7 @@ use Rattle.geoarrow_layout.specs.Shapes.{IsBytes, IsText}
 use Rattle.geoarrow_layout.specs.Layouts.{layout}
 use Rattle.geoarrow_meta.specs.declared.metadata.Metadata.{Metadata}
 use Rattle.geoarrow_meta.specs.Written.{meta_value, printed}
-use Rattle.geoarrow_meta.specs.Read.{TextStandsFor, TextRefusedAs}
+use Rattle.geoarrow_meta.specs.Read.{DenotesMetadata, TextRefusedAs}
 use Rattle.serde_json.specs.Data.{Data}
 use Rattle.geoarrow_native.specs.Column.{ReadsAs, IsLayoutRefusal, written_field}
 use Rattle.geoarrow_schema.specs.declared.types.GeoArrowType.{GeoArrowType}
@@ -51,7 +51,7 @@ TreeRefusedAs f a = (n : ExtensionName) × HasName f n × IsLayoutRefusal n f.tr
 
 -- the error is that of the field's metadata text or, if that denotes a metadata, that of its tree
 abbrev pub ColumnRefusedAs : FieldTree → ArrowError → Type 0
-ColumnRefusedAs f a = TextRefusedAs (extension_metadata f) a ⊎ (((m : Metadata) × TextStandsFor (extension_metadata f) m) × TreeRefusedAs f a)
+ColumnRefusedAs f a = TextRefusedAs (extension_metadata f) a ⊎ (((m : Metadata) × DenotesMetadata (extension_metadata f) m) × TreeRefusedAs f a)
 
 -- the error with which a field with a GeoArrow name is refused
 abbrev pub FieldRefusedAs : FieldTree → GeoArrowError → Type 0

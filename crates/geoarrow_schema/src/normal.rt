@@ -2,7 +2,7 @@
 ghost use Rattle.std.specs.Prelude.{◌≡◌, ◌↔◌, Ok, None, IsOk, IfOk, IfErr, IfSome, IsTrue};
 ghost use Rattle.arrow_values.specs.Errors.{IsMemory};
 ghost use Rattle.geoarrow_layout.specs.Layouts.{layout};
-ghost use Rattle.geoarrow_meta.specs.Read.{TextStandsFor};
+ghost use Rattle.geoarrow_meta.specs.Read.{DenotesMetadata};
 ghost use Rattle.geoarrow_meta.specs.Written.{printed, normal, NestsWithin};
 ghost use Rattle.geoarrow_schema.specs.declared.types.GeoArrowType.{GeoArrowType};
 ghost use Rattle.geoarrow_schema.specs.Types.{kind_of, meta_of};
@@ -112,7 +112,7 @@ impl GeoArrowType {
         ensures written { IfOk result (λ f. f ≡ with_extension bare (kind_of self.now) (meta_of self.now)) }
         ensures keys { IfOk result (HasKeysOf self.now bare) }
         ensures nested { IfOk result (λ _. NestsWithin 100 (meta_of self.now).crs.value
-            → TextStandsFor (printed (meta_of self.now)) (normal (meta_of self.now))) }
+            → DenotesMetadata (printed (meta_of self.now)) (normal (meta_of self.now))) }
         ensures refused { IfErr result IsMemory }
     {
         let text = self.metadata().serialize(alloc)?;

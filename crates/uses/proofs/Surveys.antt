@@ -6,7 +6,7 @@ use Rattle.std.proofs.lemmas.List.Sums.{sum_by-cons}
 use Rattle.arrow_values.specs.Tree.{FieldTree}
 use Rattle.arrow_values.specs.Texts.{extension_metadata}
 use Rattle.geoarrow_layout.specs.Kinds.{extension_of}
-use Rattle.geoarrow_meta.specs.Read.{TextStandsFor}
+use Rattle.geoarrow_meta.specs.Read.{DenotesMetadata}
 use Rattle.geoarrow_native.specs.Column.{ReadsAs}
 use Rattle.geoarrow_schema.specs.declared.types.GeoArrowType.{GeoArrowType}
 use Rattle.geoarrow_schema.specs.Types.{kind_of, meta_of}
@@ -30,7 +30,7 @@ unfolding InfersAs
 unnamed f g h = h.0
 
 -- and its metadata text denotes a metadata
-stands : (f : FieldTree) (g : GeoArrowType) → Infers f g → TextStandsFor (extension_metadata f) (meta_of g)
+stands : (f : FieldTree) (g : GeoArrowType) → Infers f g → DenotesMetadata (extension_metadata f) (meta_of g)
 unfolding InfersAs
 stands f g h = h.1
 

@@ -5,9 +5,9 @@
 //! promise in the same terms. The last four members are laws, with their proofs.
 //!
 //! - The name is `NAME`, and its bytes are `name_text`.
-//! - The metadata is of the type `Metadata`. `printed` is the text that it prints; `StandsFor` says which texts denote which value
+//! - The metadata is of the type `Metadata`. `printed` is the text that it prints; `Denotes` says which texts denote which value
 //!   of it, and `RefusesText` how all others are refused. Several texts may denote one value, but no text two: that is the
-//!   law `stands_for_one`.
+//!   law `denotes_one`.
 //! - `Accepts` says over which data types the type is written. `supports_data_type` and `try_new` test it, and allocate nothing where
 //!   it holds; `RefusesUse` and `RefusesTree` say how they refuse all others.
 //! - A type that has a shape, such as a dimension, keeps it in a field of its struct. Then `Accepts` holds between a data type and
@@ -30,9 +30,9 @@ impl ExtensionType for Marked {
     ghost use Rattle.arrow_values.specs.Tree.{plain, binary};
     ghost use Rattle.arrow_values.specs.Errors.{is_schema};
     ghost use Rattle.geoarrow_meta.specs.Written.{printed as printed_text};
-    ghost use Rattle.geoarrow_meta.specs.Read.{TextStandsFor, TextRefusedAs};
+    ghost use Rattle.geoarrow_meta.specs.Read.{DenotesMetadata, TextRefusedAs};
     ghost use Rattle.geoarrow_meta.specs.declared.metadata.Metadata.{Metadata as MetadataValue};
-    ghost use Rattle.geoarrow_meta.specs.Laws.{text_stands_for_one};
+    ghost use Rattle.geoarrow_meta.specs.Laws.{text_denotes_one};
 
     const NAME: &'static str = "example.marked";
 
@@ -49,7 +49,7 @@ impl ExtensionType for Marked {
 
     ghost value_of = { λ m. m };
 
-    ghost StandsFor = { TextStandsFor };
+    ghost Denotes = { DenotesMetadata };
 
     // Binary columns are accepted, whatever the type is.
     ghost Accepts = { λ t _. t ≡ plain binary };
@@ -65,7 +65,7 @@ impl ExtensionType for Marked {
 
     ghost accepts_one = { λ t a b h k. tt };
 
-    ghost stands_for_one = { text_stands_for_one };
+    ghost denotes_one = { text_denotes_one };
 
     ghost accepts_by_shape = { λ t a e h _. h };
 

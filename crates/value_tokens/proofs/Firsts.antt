@@ -5,7 +5,7 @@ use Rattle.json.specs.Reads.{token_of}
 use Rattle.json.specs.declared.token.Token.{Token}
 use Rattle.serde_json.specs.Data.{Data, Num, number}
 use Rattle.serde_json.specs.Read.{number_of}
-use Rattle.value_tokens.specs.Next.{next_value, after, Reads}
+use Rattle.value_tokens.specs.Next.{next_value, after, ReadsValue}
 use Rattle.value_tokens.specs.Beginnings.{Begins, passed, next_number}
 
 module _ (depth : ℕ) {ts : List spec.Token} (s : List spec.Token) where
@@ -23,5 +23,5 @@ module _ (depth : ℕ) {ts : List spec.Token} (s : List spec.Token) where
 
   -- one that is skipped is of no kind that begins with another token
   pub skipped : {A Other : Type 0} (f : Data → Option A) {r : List spec.Token} (t : Token) → ts ≡ token_of t ∷ s
-      → after (next_value depth (token_of t ∷ s)) ≡ Some r → ((d : Data) → Begins t d → Other → f d ≡ None) → Other → Reads f depth ts None r
+      → after (next_value depth (token_of t ∷ s)) ≡ Some r → ((d : Data) → Begins t d → Other → f d ≡ None) → Other → ReadsValue f depth ts None r
   skipped f {r} t first e kind other = let d = passed depth t ts s r first e in (d.0, d.1, sym (kind d.0 d.2 other))

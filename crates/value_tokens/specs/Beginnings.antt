@@ -8,7 +8,7 @@ use Rattle.json.specs.declared.token.Token.TheVariants.{BeginObject, EndObject, 
 use Rattle.serde_json.specs.Data.{Num, Data, null, boolean, number, string, array, object, Items, Members, no_members}
 use Rattle.serde_json.specs.Find.{as_null, as_str, as_bool, as_number, as_object, as_array}
 use Rattle.serde_json.specs.Read.{number_of}
-use Rattle.value_tokens.specs.Next.{next_value, next_items, next_members, after, Reads, ReadsItems, ReadsMembers}
+use Rattle.value_tokens.specs.Next.{next_value, next_items, next_members, after, ReadsValue, ReadsItems, ReadsMembers}
 use Rattle.value_tokens.specs.Turns.{value-array, value-object, array_too_deep, object_too_deep, after_some}
 
 pub next_string : (depth : ℕ) (s : List ℕ) (ts : List spec.Token) → next_value depth (spec.string s ∷ ts) ≡ Some (string s, ts)
@@ -184,14 +184,14 @@ readied : {A B : Type 0} (f : A → B) (o : Option (A × List spec.Token)) (a : 
 readied f o a r e = ap (parse_map f) e
 
 pub object_read : {A : Type 0} (f : Data → A) (depth below : ℕ) (ts s r : List spec.Token) (a : A) → next_value depth ts ≡ parse_map object (next_members below no_members s)
-    → ReadsMembers (λ ms. f (object ms)) below no_members s a r → Reads f depth ts a r
+    → ReadsMembers (λ ms. f (object ms)) below no_members s a r → ReadsValue f depth ts a r
 object_read f depth below ts s r a opened read = (object read.0, opened ∙ readied object (next_members below no_members s) read.0 r read.1, read.2)
 
 pub object_refused : (depth below : ℕ) (ts s : List spec.Token) → next_value depth ts ≡ parse_map object (next_members below no_members s) → next_members below no_members s ≡ None → next_value depth ts ≡ None
 object_refused depth below ts s opened none = opened ∙ ap (parse_map object) none
 
 pub array_read : {A : Type 0} (f : Data → A) (depth below : ℕ) (ts s r : List spec.Token) (a : A) → next_value depth ts ≡ parse_map array (next_items below s)
-    → ReadsItems (λ ds. f (array ds)) below s a r → Reads f depth ts a r
+    → ReadsItems (λ ds. f (array ds)) below s a r → ReadsValue f depth ts a r
 array_read f depth below ts s r a opened read = (array read.0, opened ∙ readied array (next_items below s) read.0 r read.1, read.2)
 
 pub array_refused : (depth below : ℕ) (ts s : List spec.Token) → next_value depth ts ≡ parse_map array (next_items below s) → next_items below s ≡ None → next_value depth ts ≡ None

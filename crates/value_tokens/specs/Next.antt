@@ -27,8 +27,8 @@ abbrev pub after : {A : Type 0} → Option (A × List Token) → Option (List To
 after next = option_map (λ p. p.1) next
 
 -- the next value was read, and the answer is f of it
-abbrev pub Reads : {A : Type 0} → (Data → A) → ℕ → List Token → A → List Token → Type 0
-Reads f depth old answer new = (d : Data) × (next_value depth old ≡ Some (d, new)) × (answer ≡ f d)
+abbrev pub ReadsValue : {A : Type 0} → (Data → A) → ℕ → List Token → A → List Token → Type 0
+ReadsValue f depth old answer new = (d : Data) × (next_value depth old ≡ Some (d, new)) × (answer ≡ f d)
 
 -- the members that are left were read, and the answer is f of them and those already found
 abbrev pub ReadsMembers : {A : Type 0} → (Members → A) → ℕ → Members → List Token → A → List Token → Type 0

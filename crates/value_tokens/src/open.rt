@@ -1,4 +1,4 @@
-//! Objects and arrays, as they open. No call takes memory.
+//! Objects and arrays, as they open. No call allocates.
 ghost use Rattle.std.specs.Prelude.{◌≡◌, ◌<◌, length, Some, None, Err, IfOk, OnOk};
 ghost use Rattle.serde_json.specs.Find.{as_object, as_array};
 ghost use Rattle.value_tokens.specs.Next.{next_value, OpensObject, OpensArray};

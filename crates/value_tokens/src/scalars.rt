@@ -2,7 +2,7 @@
 ghost use Rattle.std.specs.Prelude.{◌≡◌, ◌<◌, length, None, Err, IfOk, OnOk, option_map, string_bytes};
 ghost use Rattle.serde_json.specs.Find.{as_str, as_bool, as_number};
 ghost use Rattle.serde_json.specs.View.{number_view};
-ghost use Rattle.value_tokens.specs.Next.{next_value, Reads};
+ghost use Rattle.value_tokens.specs.Next.{next_value, ReadsValue};
 
 use crate::numbers::number_of;
 use crate::refusal::Refusal;
@@ -11,10 +11,10 @@ use json::{Reader, Token};
 use serde_json::Number;
 use std::alloc::Global;
 
-/// Takes a value, and returns the text that it is, as the reader lends it. Takes no memory.
+/// Takes a value, and returns the text that it is, as the reader lends it. Allocates nothing.
 #[inline]
 pub fn read_str<'a>(reader: &mut Reader<'a>, depth: usize) -> Result<Option<&'a str>, Refusal>
-    ensures ok { IfOk result (λ o. Reads as_str depth reader.old (option_map (λ s. s.now) o) reader.new) }
+    ensures ok { IfOk result (λ o. ReadsValue as_str depth reader.old (option_map (λ s. s.now) o) reader.new) }
     ensures shorter { OnOk result (length reader.new < length reader.old) }
     ensures text { result ≡ Err Refusal.Text → next_value depth reader.old ≡ None }
     ensures never_memory { result ≡ Err Refusal.Memory → ⊥ }
@@ -36,7 +36,7 @@ pub fn read_text(
     reader: &mut Reader<'_>,
     depth: usize,
 ) -> Result<Option<String>, Refusal>
-    ensures ok { IfOk result (λ o. Reads as_str depth reader.old (option_map string_bytes o) reader.new) }
+    ensures ok { IfOk result (λ o. ReadsValue as_str depth reader.old (option_map string_bytes o) reader.new) }
     ensures shorter { OnOk result (length reader.new < length reader.old) }
     ensures text { result ≡ Err Refusal.Text → next_value depth reader.old ≡ None }
 {
@@ -46,10 +46,10 @@ pub fn read_text(
     }
 }
 
-/// Takes a value, and returns the truth value that it is. Takes no memory.
+/// Takes a value, and returns the truth value that it is. Allocates nothing.
 #[inline]
 pub fn read_bool(reader: &mut Reader<'_>, depth: usize) -> Result<Option<bool>, Refusal>
-    ensures ok { IfOk result (λ o. Reads as_bool depth reader.old o reader.new) }
+    ensures ok { IfOk result (λ o. ReadsValue as_bool depth reader.old o reader.new) }
     ensures shorter { OnOk result (length reader.new < length reader.old) }
     ensures text { result ≡ Err Refusal.Text → next_value depth reader.old ≡ None }
     ensures never_memory { result ≡ Err Refusal.Memory → ⊥ }
@@ -64,10 +64,10 @@ pub fn read_bool(reader: &mut Reader<'_>, depth: usize) -> Result<Option<bool>, 
     }
 }
 
-/// Takes a value, and returns the number that it is. Takes no memory.
+/// Takes a value, and returns the number that it is. Allocates nothing.
 #[inline]
 pub fn read_number(reader: &mut Reader<'_>, depth: usize) -> Result<Option<Number>, Refusal>
-    ensures ok { IfOk result (λ o. Reads as_number depth reader.old (option_map number_view o) reader.new) }
+    ensures ok { IfOk result (λ o. ReadsValue as_number depth reader.old (option_map number_view o) reader.new) }
     ensures shorter { OnOk result (length reader.new < length reader.old) }
     ensures text { result ≡ Err Refusal.Text → next_value depth reader.old ≡ None }
     ensures never_memory { result ≡ Err Refusal.Memory → ⊥ }

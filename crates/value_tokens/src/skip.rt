@@ -1,4 +1,4 @@
-//! Passing over a value, which is judged as if it were read. No call takes memory.
+//! Passing over a value, which is judged as if it were read. No call allocates.
 ghost use Rattle.std.specs.Prelude.{◌≡◌, ◌<◌, ◌≤◌, ◌∷◌, length, Some, None, Err, OnOk};
 ghost use Rattle.json.specs.Reads.{token_of};
 ghost use Rattle.serde_json.specs.Data.{Members};

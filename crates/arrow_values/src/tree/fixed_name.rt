@@ -3,7 +3,7 @@ ghost use Rattle.std.specs.Prelude.{◌≡◌};
 ghost use Rattle.arrow_values.specs.Name.{fixed_text};
 
 /// A name that a GeoArrow layout has inside: of a coordinate, of a bound of a box, of the items of a list, or of the
-/// member of a union. A field of such a name takes no memory for it.
+/// member of a union. A field of such a name allocates nothing for it.
 ///
 /// ```rust
 /// let x = Field::fixed(alloc, FixedName::X, DataType::Float64, false);

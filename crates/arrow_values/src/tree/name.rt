@@ -1,5 +1,5 @@
 //! The name of a field.
-ghost use Rattle.std.specs.Prelude.{◌≡◌, IfOk};
+ghost use Rattle.std.specs.Prelude.{◌≡◌, IfOk, string_bytes};
 ghost use Rattle.arrow_values.specs.Equal.{text_eq};
 ghost use Rattle.arrow_values.specs.Name.{name_bytes};
 
@@ -7,7 +7,7 @@ use crate::tree::fixed_name::FixedName;
 use std::alloc::{AllocError, Global};
 use std::fmt;
 
-/// The name of a field: one that layouts have, which takes no memory, or a text of its own. Contracts see the text
+/// The name of a field: one that layouts have, which allocates nothing, or a text of its own. Contracts see the text
 /// alone.
 #[derive(Drop)]
 pub(crate) enum Name {
@@ -31,6 +31,16 @@ impl Name {
         match self {
             Name::Fixed(name) => name.as_text(),
             Name::Owned(text) => text.as_str(),
+        }
+    }
+
+    /// The text, which is copied where it is one that layouts have. Errs only when out of memory.
+    pub(crate) fn into_text(self, alloc: Global) -> Result<String, AllocError>
+        ensures { IfOk result (λ text. string_bytes text ≡ name_bytes self) }
+    {
+        match self {
+            Name::Fixed(name) => String::from_str(alloc, name.as_text()),
+            Name::Owned(text) => Ok(text),
         }
     }
 

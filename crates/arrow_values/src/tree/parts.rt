@@ -31,7 +31,7 @@ impl Field {
         Ok(Field::of_parts(name, data_type, nullable, BTreeMap::new(alloc)))
     }
 
-    /// A field with a name that layouts use, that data type and nullability, without metadata. Takes no memory.
+    /// A field with a name that layouts use, that data type and nullability, without metadata. Allocates nothing.
     pub fn fixed(alloc: Global, name: FixedName, data_type: DataType, nullable: bool) -> Field
         ensures { result ≡ field_tree (fixed_text name) (tree data_type) nullable [] }
     {
@@ -51,7 +51,7 @@ impl Field {
         Field::new(alloc, name, DataType::List(value), nullable)
     }
 
-    /// The field with these parts, which are moved in and take no further memory.
+    /// The field with these parts, which are moved in. Allocates nothing.
     pub fn from_parts(
         name: String,
         data_type: DataType,
@@ -109,6 +109,18 @@ impl Field {
         &self.metadata
     }
 
+    /// The parts of the field: name, data type, nullability and metadata, as `from_parts` takes them. Nothing is copied but a
+    /// name that layouts have. Errs only when out of memory.
+    pub fn into_parts(
+        self,
+        alloc: Global,
+    ) -> Result<(String, DataType, bool, BTreeMap<String, String>), AllocError>
+        ensures { IfOk result (λ parts. field_tree (string_bytes parts.0) (tree parts.1) parts.2 (texts_of parts.3.entries) ≡ self) }
+    {
+        let name = self.name.into_text(alloc)?;
+        Ok((name, self.data_type, self.nullable, self.metadata))
+    }
+
     /// The field with that map as its metadata.
     pub fn with_metadata(self, metadata: BTreeMap<String, String>) -> Field
         ensures { result ≡ record self { metadata = texts_of metadata.entries } }
@@ -130,10 +142,10 @@ impl Field {
         Field::of_parts(self.name, data_type, self.nullable, self.metadata)
     }
 
-    /// The same field with that extension name and that text of its metadata (Arrow, "Extension Types"): the name at
+    /// The field with that extension name and that text of its metadata (Arrow, "Extension Types"): the name at
     /// `EXTENSION_TYPE_NAME_KEY`, and at `EXTENSION_TYPE_METADATA_KEY` the text, or nothing. Whether the data type can carry
     /// an extension type of that name is not tested. Errs only when out of memory. A field that has them so already stays
-    /// as it is, which takes no memory.
+    /// as it is, which allocates nothing.
     pub fn with_extension_texts(
         self,
         alloc: Global,

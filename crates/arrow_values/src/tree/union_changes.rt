@@ -11,7 +11,7 @@ use std::alloc::{AllocError, Global};
 impl UnionFields {
     /// The union of these members: the first id with the first field, and so on. Errs with `InvalidArgumentError`
     /// if there are not as many ids as fields, if an id is negative, or if one is repeated; otherwise only when
-    /// out of memory. A union may have no members; it then takes no memory.
+    /// out of memory. A union may have no members; it then allocates nothing.
     #[tactic(auto, using(crate::proofs::Ids::unfit))]
     pub fn try_new(
         alloc: Global,
@@ -36,7 +36,7 @@ impl UnionFields {
         Ok(UnionFields { members })
     }
 
-    /// The union of these members, moved in. Their ids must be 0 to 127, each once. Takes no memory.
+    /// The union of these members, moved in. Their ids must be 0 to 127, each once. Allocates nothing.
     pub fn from_members(members: Vec<(i8, Field)>) -> UnionFields
         requires { HasTypeIds members.items }
         ensures { result ≡ members.items }

@@ -3,7 +3,7 @@ ghost use Rattle.std.specs.Prelude.{◌≡◌, ◌<◌, length, Some, None, Err,
 ghost use Rattle.serde_json.specs.Data.{Data, Members, no_members, object};
 ghost use Rattle.serde_json.specs.Read.{read};
 ghost use Rattle.serde_json.specs.View.{view};
-ghost use Rattle.value_tokens.specs.Next.{next_value, next_members, Reads};
+ghost use Rattle.value_tokens.specs.Next.{next_value, next_members, ReadsValue};
 ghost use Rattle.geoarrow_meta.specs.Read.{present};
 ghost use Rattle.geoarrow_meta.specs.KeyValues.{IsWord, AreValuesOf, Finds};
 
@@ -95,7 +95,7 @@ fn take_members(
 
 // The value that comes next, null as absent.
 fn take_crs(alloc: Global, reader: &mut Reader<'_>, depth: usize) -> Result<Option<Value>, Refusal>
-    ensures ok { IfOk result (λ o. Reads (λ d. present (Some d)) depth reader.old (option_map view o) reader.new) }
+    ensures ok { IfOk result (λ o. ReadsValue (λ d. present (Some d)) depth reader.old (option_map view o) reader.new) }
     ensures shorter { OnOk result (length reader.new < length reader.old) }
     ensures text { result ≡ Err Refusal.Text → next_value depth reader.old ≡ None }
 {

@@ -10,7 +10,7 @@ returns g c = λ accepted stands written.
     let x = c.args.extension_type.now in
     let f = c.args.self.now in
     let text : Option Text = e.printed (e.metadata_of x) in
-    let P : Option Text → Type 0 = λ t. e.StandsFor t (e.value_of (e.metadata_of x)) in
+    let P : Option Text → Type 0 = λ t. e.Denotes t (e.value_of (e.metadata_of x)) in
     let set = sets_extension e.name_text text f.metadata _ (ap (λ t. t.metadata) written) in (
       set name_key,
       subst P (sym (set metadata_key)) stands,

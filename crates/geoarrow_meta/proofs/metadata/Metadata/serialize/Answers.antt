@@ -1,7 +1,7 @@
 use Rattle.std.proofs.Common.{sym, subst, rules}
-use Rattle.geoarrow_meta.specs.Read.{TextStandsFor}
+use Rattle.geoarrow_meta.specs.Read.{DenotesMetadata}
 use Rattle.geoarrow_meta.specs.Written.{meta_value, normal, IsReadBack}
-use Rattle.geoarrow_meta.proofs.Stands.{stands_for_normal, nests_within}
+use Rattle.geoarrow_meta.proofs.Stands.{denotes_normal, nests_within}
 use Rattle.geoarrow_meta.proofs.metadata.Metadata.serialize.Goals as goal
 
 pub returns : goal.returns
@@ -9,5 +9,5 @@ returns c =
     let m = c.args.self.now in
     let printed = c.in_ok-print.ensures in
     let stands = λ (back : IsReadBack (meta_value m)).
-    subst (λ o. TextStandsFor o (normal m)) (sym printed.text) (stands_for_normal m c.print.ensures.valid back) in
+    subst (λ o. DenotesMetadata o (normal m)) (sym printed.text) (denotes_normal m c.print.ensures.valid back) in
     record { text = search rules; read_back = search rules; reads_as = stands; nested = λ shallow. stands (printed.read_back (nests_within m shallow)) }
