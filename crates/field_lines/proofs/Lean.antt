@@ -1,4 +1,4 @@
--- The value of a field is lean; a value that stands for a field is that field's value, if it is lean; and a line can say the field.
+-- The value of a field is lean; a value that denotes a field is that field's value, if it is lean; and a line can say the field.
 use Rattle.std.proofs.Common.{◌≡◌, ℤ, pos, negsuc, List, [], ◌∷◌, Bool, true, cond, Option, Some, None, IfSome, IsTrue, IsUtf8, option_map, option_and_then, inl, inr, codes, bytes_eq, Less, Greater, nat_cmp, refl, sym, ap, ap₂, subst, ◌∙◌}
 use Rattle.std.proofs.lemmas.Cmp.{nat_list_cmp_total, tied_itself}
 use Rattle.std.proofs.lemmas.Bool.{and_from, and_parts, cond_both, false_from_ne_true}
@@ -15,7 +15,8 @@ use Rattle.arrow_values.specs.declared.tree.UnionMode.{UnionMode}
 use Rattle.arrow_values.specs.declared.tree.UnionMode.TheVariants.{Sparse, Dense}
 use Rattle.arrow_values.specs.Tree.{Text, Metadata, Tree, plain, list, large_list, fixed_size_list, struct, union, FieldTrees, no_fields, field, MemberTrees, no_members as no_union_members, member as union_member, FieldTree, field_tree}
 use Rattle.arrow_values.specs.Union.{is_type_id, are_distinct}
-use Rattle.field_lines.specs.Names.{plain_name, plain_named, plain_types, mode_name}
+use Rattle.arrow_columns.specs.Notation.{plain_name}
+use Rattle.field_lines.specs.Names.{plain_named, plain_types, mode_name}
 use Rattle.field_lines.specs.FieldOfValue.{field_from, integer_of, kept, is_size, size_of_value, id_of_value, mode_of_value, texts_in, metadata_of_value, field_before, member_before, list_of, large_list_of, fixed_size_list_of, tree_ids, union_of, are_keys, field_of_value, type_in, type_of_value, fields_of_value, fields_in, members_of_value, members_in}
 use Rattle.field_lines.specs.Line.{texts_value, with_metadata, parts_value, one_key, two_keys, type_value, fields_value, members_value, value_of_field, field_of_line}
 use Rattle.field_lines.specs.LineForm.{HasLineForm, FieldsHaveLineForm, MembersHaveLineForm}
@@ -89,7 +90,7 @@ are_found (q ∷ ks) (member k d ms) order (inr keys) = rw (not_found q ks (memb
 field_keys_ordered : AreOrdered field_keys
 field_keys_ordered = ((refl, refl, (refl, refl, (refl, refl, tt))), ((refl, refl, (refl, refl, tt)), ((refl, refl, tt), (tt, tt))))
 
--- ---- what is read says two things: a line can say it, and a lean value that stands for it is its value
+-- ---- what is read says two things: a line can say it, and a lean value that denotes it is its value
 
 -- what holds of an answer, by what holds of its parts
 pub mapped : {A B : Type 0} {P : A → Type 0} (Q : B → Type 0) (f : A → B) (o : Option A) → IfSome o P → ((x : A) → P x → Q (f x)) → IfSome (option_map f o) Q

@@ -1,4 +1,4 @@
--- The line of a field is read back as that field, and a field that a line stands for has its texts and its metadata as a value holds them.
+-- The line of a field is read back as that field, and a field that a line denotes has its texts and its metadata as a value holds them.
 use Rattle.std.proofs.Common.{◌≡◌, ◌≤◌, List, ℕ, [], ◌∷◌, ℤ, pos, negsuc, Bool, true, false, cond, Option, Some, None, IfSome, option_and_then, codes, refl, ap, ◌∙◌, subst, Ordering, Less, Equal, Greater, nat_cmp}
 use Rattle.std.specs.Str.{is_utf8}
 use Rattle.std.specs.Ordering.{match_ordering}
@@ -63,7 +63,7 @@ line_back utf8 back f form held shallow =
     ap (λ b. option_and_then field_of_value (cond b (read (compact_text v)) None)) (utf8 v held)
     ∙ ap (option_and_then field_of_value) (back v held whole shallow) ∙ field_read f form
 
--- ---- what a line stands for is held
+-- ---- what a line denotes is held
 
 found_held : (o : Ordering) (k : Text) (e : Data) (ms : Members) → is_held e ≡ true → IfSome (get_member k ms) (λ d. is_held d ≡ true)
     → IfSome (match_ordering o (get_member k ms) (Some e) (get_member k ms)) (λ d. is_held d ≡ true)

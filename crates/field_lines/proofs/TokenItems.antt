@@ -12,7 +12,7 @@ use Rattle.arrow_values.specs.Union.{is_type_id}
 use Rattle.field_lines.specs.FieldOfValue.{member_before, field_of_value, id_of_value, members_in}
 use Rattle.field_lines.specs.Keys.{pair_read}
 use Rattle.field_lines.specs.Steps.{AreMemberParts}
-use Rattle.value_tokens.specs.Next.{next_value, next_items, after, Reads, ReadsItems}
+use Rattle.value_tokens.specs.Next.{next_value, next_items, after, ReadsValue, ReadsItems}
 use Rattle.value_tokens.specs.Turns.{item_read, item_refused, items_over, value_takes, after_some}
 
 -- what is next leaves of a list: its end, or an item
@@ -32,7 +32,7 @@ item_turn depth ts = turned depth ts (after_end_array ts) (next_value depth ts) 
 abbrev pub GoesOn : List Token → List Token → Type 0
 GoesOn ts s = (after_end_array ts ≡ None) × (s ≡ ts)
 
-pub item_taken : {A : Type 0} {f : Data → A} (depth : ℕ) (ts : List Token) {s r : List Token} {o : A} → Reads f depth s o r → GoesOn ts s
+pub item_taken : {A : Type 0} {f : Data → A} (depth : ℕ) (ts : List Token) {s r : List Token} {o : A} → ReadsValue f depth s o r → GoesOn ts s
     → (d : Data) × (next_items depth ts ≡ parse_map (item d) (next_items depth r)) × (o ≡ f d) × (next_value depth ts ≡ Some (d, r))
 item_taken depth ts {s} {r} read going =
     let value = ap (next_value depth) (sym going.1) ∙ read.1 in
@@ -86,7 +86,7 @@ module _ {X T : Type 0} {step : X → T → T} {whole : Items → Option T} {dep
 
   -- with how an item is read before the others
   module _ (item_of : Data → Option X) (law : (d : Data) (ds : Items) → whole (item d ds) ≡ option_and_then (λ x. option_map (step x) (whole ds)) (item_of d)) where
-    pub taken_go_on : {s r : List Token} {x : X} {new : List X} → Reads item_of depth s (Some x) r → new ≡ made ++ (x ∷ []) → GoesOn left s → AreItemsTaken step whole depth all r new
+    pub taken_go_on : {s r : List Token} {x : X} {new : List X} → ReadsValue item_of depth s (Some x) r → new ≡ made ++ (x ∷ []) → GoesOn left s → AreItemsTaken step whole depth all r new
     taken_go_on {s} {r} {x} {new} read is going =
         let one = item_taken depth left read going in
         let less = value_takes depth left r one.0 one.3 in
@@ -97,7 +97,7 @@ module _ {X T : Type 0} {step : X → T → T} {whole : Items → Option T} {dep
           fewer = omega (arith, way.fewer);
         }
 
-    pub taken_spoiled : {s u r : List Token} → Reads item_of depth s None u → after (next_items depth u) ≡ Some r → GoesOn left s → ReadsItems whole depth all None r
+    pub taken_spoiled : {s u r : List Token} → ReadsValue item_of depth s None u → after (next_items depth u) ≡ Some r → GoesOn left s → ReadsItems whole depth all None r
     taken_spoiled {s} {u} {r} read rest going =
         let one = item_taken depth left read going in
         let ds = after_some (next_items depth u) r rest in (

@@ -15,7 +15,7 @@ use Rattle.serde_json.specs.Find.{get_member, as_str, as_bool, as_object}
 use Rattle.arrow_values.specs.Tree.{Text, Metadata, Tree, FieldTree}
 use Rattle.field_lines.specs.FieldOfValue.{under, metadata_of_value, field_from, field_of_value, type_in, type_of_value, are_keys}
 use Rattle.field_lines.specs.Keys.{only_at, pair_at, fixed_size_list_at, union_at}
-use Rattle.value_tokens.specs.Next.{next_value, next_members, ReadsMembers, next_after, after, Reads, ReadsAfter}
+use Rattle.value_tokens.specs.Next.{next_value, next_members, ReadsMembers, next_after, after, ReadsValue, ReadsAfter}
 use Rattle.value_tokens.specs.Turns.{no_value, object_too_deep, value-object, member_read, members_over, value_takes, key_refused, after_some, taken, named}
 use Rattle.value_tokens.specs.Presence.{get_member-put_at, Has, kept, has_new, has_taken}
 
@@ -103,7 +103,7 @@ parts_end {depth} {all} {left} {r} {name} {nullable} {tree} {metadata} way is ov
 -- how a type begins
 pub ruleset type_begins = (no_value, object_too_deep, value-object)
 
--- what is no object and no text stands for no type
+-- what is no object and no text denotes no type
 pub no_type : (d : Data) → as_object d ≡ None → as_str d ≡ None → None ≡ type_of_value d
 no_type (string s) e f = cc
 no_type (object ms) e f = cc
@@ -149,7 +149,7 @@ spoiled f only k (member l d no_members) other h = rw (apart l only (λ is. othe
 spoiled f only k _ other h = refl
 
 module _ {A : Type 0} {f : Data → Option A} {depth : ℕ} {only : Text} {all left s : List Token} {answer : Option A} (way : IsOnlyUnderWay f depth only all left answer) where
-  pub only_go_on : {k : Text} {r : List Token} {new : Option A} {b : Bool} → read_key left ≡ Some (Some k, s) → b ≡ not (bytes_eq k only) → b ≡ false → Reads f depth s new r → IsOnlyUnderWay f depth only all r new
+  pub only_go_on : {k : Text} {r : List Token} {new : Option A} {b : Bool} → read_key left ≡ Some (Some k, s) → b ≡ not (bytes_eq k only) → b ≡ false → ReadsValue f depth s new r → IsOnlyUnderWay f depth only all r new
   only_go_on {k} {r} named e same read =
       let is : k ≡ only = (bytes_eq-Decides k only).0 (not-false _ (sym e ∙ same)) in
       record {
@@ -206,7 +206,7 @@ put_second k l d (Some c) b h = rw h.1 (ap (member k c) (put_alone l d b))
 
 module _ {A B : Type 0} {f : Data → Option A} {g : Data → Option B} {k l : Text} {depth : ℕ} {first : Text} {all left : List Token} {now : Option Text} {x : Option A} {y : Option B}
     (before : AreTwoUnderWay f g k l depth first all left now x y) {q : Text} (came : now ≡ Some q) where
-  took : {C : Type 0} {h : Data → C} {o : C} {r s : List Token} {next : Option Text} {new_x : _} {new_y : _} (a b : _) (read : Reads h depth left o r)
+  took : {C : Type 0} {h : Data → C} {o : C} {r s : List Token} {next : Option Text} {new_x : _} {new_y : _} (a b : _) (read : ReadsValue h depth left o r)
       → read_key r ≡ Some (next, s) → put q read.0 (two k l before.at_first before.at_second) ≡ two k l a b
       → (new_x ≡ option_and_then f a) × (new_y ≡ option_and_then g b) → AreTwoUnderWay f g k l depth first all s next new_x new_y
   took {r = r} {s} {next} a b read e same answers =
@@ -231,10 +231,10 @@ module _ {A B : Type 0} {f : Data → Option A} {g : Data → Option B} {k l : T
 
 module _ {A B : Type 0} {f : Data → Option A} {g : Data → Option B} {k l : Text} {depth : ℕ} {first : Text} {all left : List Token} {now : Option Text} {x : Option A} {y : Option B}
     (ordered : AreOrdered k l) (way : AreTwoUnderWay f g k l depth first all left now x y) {r s : List Token} {next : Option Text} where
-  pub first_read : {new : Option A} → now ≡ Some k → Reads f depth left new r → read_key r ≡ Some (next, s) → AreTwoUnderWay f g k l depth first all s next new y
+  pub first_read : {new : Option A} → now ≡ Some k → ReadsValue f depth left new r → read_key r ≡ Some (next, s) → AreTwoUnderWay f g k l depth first all s next new y
   first_read came read e = took way came (Some read.0) way.at_second read e (put_first k l read.0 way.at_first way.at_second ordered) (read.2, way.answers.1)
 
-  pub second_read : {new : Option B} → now ≡ Some l → Reads g depth left new r → read_key r ≡ Some (next, s) → AreTwoUnderWay f g k l depth first all s next x new
+  pub second_read : {new : Option B} → now ≡ Some l → ReadsValue g depth left new r → read_key r ≡ Some (next, s) → AreTwoUnderWay f g k l depth first all s next x new
   second_read came read e = took way came way.at_first (Some read.0) read e (put_second k l read.0 way.at_first way.at_second ordered) (way.answers.0, read.2)
 
 -- one of two keys is neither of two others

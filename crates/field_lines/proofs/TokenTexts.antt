@@ -19,7 +19,7 @@ use Rattle.field_lines.specs.Line.{texts_value}
 use Rattle.field_lines.proofs.TokenMembers.{member_takes}
 use Rattle.field_lines.proofs.Round.{texts_in-value}
 use Rattle.field_lines.proofs.Prints.{Texts, insert_last, ordered, texts_put}
-use Rattle.value_tokens.specs.Next.{next_members, Reads, ReadsMembers}
+use Rattle.value_tokens.specs.Next.{next_members, ReadsValue, ReadsMembers}
 use Rattle.value_tokens.specs.Turns.{member_read, members_over}
 
 pub text_says : (d : Data) → IfSome (as_str d) (λ s. d ≡ string s)
@@ -31,7 +31,7 @@ pub record AreTextsUnderWay (depth : _) (all left : List Token) (made : Texts) :
   pub fewer : length left ≤ length all
 
 pub texts_go_on : {depth : ℕ} {all left s r : List Token} {made new : Texts} {k : Text} (key text : String Global) → AreTextsUnderWay depth all left made → read_key left ≡ Some (Some k, s)
-    → Reads as_str depth s (Some (string_bytes text)) r → string_bytes key ≡ k → new ≡ insert_entry string_cmp made key text → AreTextsUnderWay depth all r new
+    → ReadsValue as_str depth s (Some (string_bytes text)) r → string_bytes key ≡ k → new ≡ insert_entry string_cmp made key text → AreTextsUnderWay depth all r new
 texts_go_on {depth} {all} {left} {s} {r} {made} {new} {k} key text way named read copied is =
     let d = read.0 in
     let put_in : texts_value (texts_of new) ≡ put k d (texts_value (texts_of made)) =
@@ -75,7 +75,7 @@ pub record AreSlotsUnderWay (depth : _) (all left : List Token) (start made : Sl
   pub fewer : length left ≤ length all
 
 module _ {depth : ℕ} {all left : List Token} {start made : SlotEntries} (way : AreSlotsUnderWay depth all left start made) where
-  pub slots_go_on : {s r : List Token} {new : SlotEntries} {k : Text} (key : String Global) (t : Option (String Global)) → read_key left ≡ Some (Some k, s) → Reads as_str depth s (option_map string_bytes t) r
+  pub slots_go_on : {s r : List Token} {new : SlotEntries} {k : Text} (key : String Global) (t : Option (String Global)) → read_key left ≡ Some (Some k, s) → ReadsValue as_str depth s (option_map string_bytes t) r
       → string_bytes key ≡ k → new ≡ insert_entry string_cmp made key t → AreSlotsUnderWay depth all r start new
   slots_go_on {s} {r} {new} {k} key t named read copied is =
       let d = read.0 in

@@ -9,7 +9,8 @@ use Rattle.serde_json.specs.Find.{of_integer}
 use Rattle.serde_json.specs.Read.{read}
 use Rattle.serde_json.specs.Written.{compact_text}
 use Rattle.arrow_values.specs.Tree.{Text, Metadata, Tree, plain, list, large_list, fixed_size_list, struct, union, FieldTrees, no_fields, field, MemberTrees, no_members as no_union_members, member as union_member, FieldTree}
-use Rattle.field_lines.specs.Names.{plain_name, mode_name}
+use Rattle.arrow_columns.specs.Notation.{plain_name}
+use Rattle.field_lines.specs.Names.{mode_name}
 use Rattle.field_lines.specs.FieldOfValue.{field_of_value}
 
 abbrev pub texts_value : Metadata → Members
@@ -51,6 +52,10 @@ abbrev mutual
 
 abbrev pub value_of_field : FieldTree → Data
 value_of_field f = parts_value f.name (type_value f.tree) f.nullable f.metadata
+
+-- a field of these parts whose type is another: an object with the single key `other`, at which its notation stands
+abbrev pub other_value : Text → Text → Bool → Metadata → Data
+other_value n notation b m = parts_value n (one_key (codes "other") (string notation)) b m
 
 -- the line of a field: its value as compact JSON
 abbrev pub line_of_field : FieldTree → Text

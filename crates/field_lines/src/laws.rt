@@ -1,10 +1,10 @@
 //! Laws of the line format: functions with nothing to run, whose contract is the law.
-ghost use Rattle.std.specs.Prelude.{◌≡◌, ◌≢◌, ◌≤◌, Some, All, true, false};
+ghost use Rattle.std.specs.Prelude.{◌≡◌, ◌≢◌, ◌≤◌, Bool, Some, All, true, false};
 ghost use Rattle.std.specs.Str.{is_utf8};
 ghost use Rattle.serde_json.specs.Data.{Data, Members, put, depth};
 ghost use Rattle.serde_json.specs.Read.{read, max_depth};
 ghost use Rattle.serde_json.specs.Written.{compact_text, has_float};
-ghost use Rattle.arrow_values.specs.Tree.{Text, FieldTree};
+ghost use Rattle.arrow_values.specs.Tree.{Text, Metadata, FieldTree, field_tree, plain, null};
 ghost use Rattle.field_lines.specs.Held.{is_held, members_are_held};
 ghost use Rattle.field_lines.specs.FieldOfValue.{field_of_value};
 ghost use Rattle.field_lines.specs.Lean.{IsLean};
@@ -19,6 +19,12 @@ use arrow_values::Field;
 pub fn written_value_is_lean(field: &Field)
     ensures lean { IsLean (value_of_field field.now) }
     ensures stands { HasLineForm field.now.tree → field_of_value (value_of_field field.now) ≡ Some field.now }
+{}
+
+/// A law: the value that is written for a field of the type null denotes that field. There is nothing to run.
+#[tactic(auto, using(crate::proofs::Round::null_read))]
+pub fn written_null_is_read()
+    ensures { (name : Text) (nullable : Bool) (m : Metadata) → field_of_value (value_of_field (field_tree name (plain null) nullable m)) ≡ Some (field_tree name (plain null) nullable m) }
 {}
 
 /// A law: a value that has no ignored key and no empty metadata, at any depth, and denotes a field is the value that

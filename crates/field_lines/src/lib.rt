@@ -18,4 +18,4 @@ mod scalars;
 mod tokens;
 mod unions;
 
-pub use line::{field_line, parse_line, parse_line_with_scratch};
+pub use line::{field_line, other_line, parse_line, parse_line_with_scratch};

@@ -2,15 +2,18 @@
 ghost use Rattle.std.specs.Prelude.{◌≡◌, ◌≤◌, Some, None, Err, option_and_then, IfOk, IfSome, string_bytes};
 ghost use Rattle.serde_json.specs.Data.{depth};
 ghost use Rattle.serde_json.specs.Read.{read, max_depth};
-ghost use Rattle.field_lines.specs.Line.{field_of_line, line_of_field, value_of_field};
+ghost use Rattle.serde_json.specs.Written.{compact_text};
+ghost use Rattle.arrow_values.specs.View.{texts_of};
+ghost use Rattle.field_lines.specs.Line.{field_of_line, line_of_field, value_of_field, other_value};
 ghost use Rattle.field_lines.specs.LineForm.{HasLineForm};
 ghost use Rattle.field_lines.specs.FieldOfValue.{field_of_value};
 
-use crate::printer::print_field;
+use crate::printer::{print_field, print_other};
 use crate::tokens::take_field;
 use arrow_values::Field;
 use json::{Reader, Scratch, Writer};
 use std::alloc::{AllocError, Global};
+use std::collections::BTreeMap;
 use value_tokens::Refusal;
 
 /// How deep the arrays and objects of a line may nest.
@@ -71,5 +74,27 @@ pub fn field_line(alloc: Global, field: &Field) -> Result<String, AllocError>
 {
     let mut out = Writer::new(Vec::with_capacity(alloc, LINE_ROOM)?);
     print_field(field, &mut out)?;
+    Ok(unsafe { String::from_utf8_unchecked(out.into_inner()) })
+}
+
+/// The line of a column whose type is another than the 26 (docs/FORMAT.md, 2.7): that of a field, with an object at its key `type` whose
+/// single key `other` has the notation of the type. It is read as that value. Errs only when out of memory.
+///
+/// ```rust
+/// let line = other_line(alloc, "at", true, &BTreeMap::new(alloc), "timestamp[ms]")?;
+/// assert_eq!(rt; line.as_str(), r#"{"name":"at","nullable":true,"type":{"other":"timestamp[ms]"}}"#);
+/// ```
+pub fn other_line(
+    alloc: Global,
+    name: &str,
+    nullable: bool,
+    metadata: &BTreeMap<String, String>,
+    notation: &str,
+) -> Result<String, AllocError>
+    ensures text { IfOk result (λ s. string_bytes s ≡ compact_text (other_value name.now notation.now nullable (texts_of metadata.now.entries))) }
+    ensures reads_back { IfOk result (λ s. read (string_bytes s) ≡ Some (other_value name.now notation.now nullable (texts_of metadata.now.entries))) }
+{
+    let mut out = Writer::new(Vec::with_capacity(alloc, LINE_ROOM)?);
+    print_other(name, nullable, metadata, notation, &mut out)?;
     Ok(unsafe { String::from_utf8_unchecked(out.into_inner()) })
 }

@@ -6,7 +6,7 @@ ghost use Rattle.arrow_values.specs.View.{texts_of};
 ghost use Rattle.field_lines.specs.FieldOfValue.{texts_in, metadata_of_value};
 ghost use Rattle.field_lines.specs.Slots.{slots_in, slots_of, texts_kept};
 ghost use Rattle.field_lines.specs.Line.{texts_value};
-ghost use Rattle.value_tokens.specs.Next.{next_value, next_members, Reads, ReadsMembers};
+ghost use Rattle.value_tokens.specs.Next.{next_value, next_members, ReadsValue, ReadsMembers};
 
 use json::Reader;
 use std::alloc::{AllocError, Global};
@@ -19,7 +19,7 @@ pub(crate) fn take_texts(
     reader: &mut Reader<'_>,
     depth: usize,
 ) -> Result<Option<BTreeMap<String, String>>, Refusal>
-    ensures ok { IfOk result (λ o. Reads (λ d. metadata_of_value (Some d)) depth reader.old (option_map (λ m. texts_of m.entries) o) reader.new) }
+    ensures ok { IfOk result (λ o. ReadsValue (λ d. metadata_of_value (Some d)) depth reader.old (option_map (λ m. texts_of m.entries) o) reader.new) }
     ensures shorter { OnOk result (length reader.new < length reader.old) }
     ensures text { result ≡ Err Refusal.Text → next_value depth reader.old ≡ None }
 {

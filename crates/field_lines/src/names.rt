@@ -3,7 +3,7 @@ ghost use Rattle.std.specs.Prelude.{◌≡◌, IfSome, option_map};
 ghost use Rattle.arrow_values.specs.Name.{fixed_text};
 ghost use Rattle.arrow_values.specs.Tree.{plain};
 ghost use Rattle.arrow_values.specs.View.{tree};
-ghost use Rattle.field_lines.specs.Names.{plain_named, mode_named, type_name, mode_name};
+ghost use Rattle.field_lines.specs.Names.{plain_named, mode_named, mode_name};
 
 use arrow_values::{DataType, FixedName, UnionMode};
 
@@ -45,40 +45,6 @@ pub(crate) fn mode_named(word: &str) -> Option<UnionMode>
         "sparse" => Some(UnionMode::Sparse),
         "dense" => Some(UnionMode::Dense),
         _ => None,
-    }
-}
-
-/// The word of a plain type, and no word of any other.
-pub(crate) fn plain_name(data_type: &DataType) -> &'static str
-    ensures { result.now ≡ type_name (tree data_type.now) }
-{
-    match data_type {
-        DataType::Null => "null",
-        DataType::Boolean => "boolean",
-        DataType::Int8 => "int8",
-        DataType::Int16 => "int16",
-        DataType::Int32 => "int32",
-        DataType::Int64 => "int64",
-        DataType::UInt8 => "uint8",
-        DataType::UInt16 => "uint16",
-        DataType::UInt32 => "uint32",
-        DataType::UInt64 => "uint64",
-        DataType::Float16 => "float16",
-        DataType::Float32 => "float32",
-        DataType::Float64 => "float64",
-        DataType::Date32 => "date32",
-        DataType::Date64 => "date64",
-        DataType::Binary => "binary",
-        DataType::LargeBinary => "large_binary",
-        DataType::BinaryView => "binary_view",
-        DataType::Utf8 => "utf8",
-        DataType::LargeUtf8 => "large_utf8",
-        DataType::Utf8View => "utf8_view",
-        DataType::List(_)
-        | DataType::LargeList(_)
-        | DataType::FixedSizeList(_, _)
-        | DataType::Struct(_)
-        | DataType::Union(_, _) => "",
     }
 }
 

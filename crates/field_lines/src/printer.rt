@@ -5,10 +5,11 @@ ghost use Rattle.serde_json.specs.Find.{of_integer};
 ghost use Rattle.arrow_values.specs.View.{tree, texts_of, field_trees, member_trees};
 ghost use Rattle.field_lines.specs.Names.{mode_name};
 ghost use Rattle.field_lines.specs.Prints.{PrintsMetadata};
-ghost use Rattle.field_lines.specs.Line.{texts_value, one_key, two_keys, type_value, fields_value, members_value, value_of_field};
+ghost use Rattle.field_lines.specs.Line.{texts_value, one_key, two_keys, type_value, fields_value, members_value, value_of_field, other_value};
 ghost use Rattle.value_tokens.specs.Adds.{Prints, PrintsItems};
 
-use crate::names::{mode_name, plain_name};
+use crate::names::mode_name;
+use arrow_columns::plain_name;
 use arrow_values::{DataType, Field, Fields, UnionFields, UnionMode};
 use json::Writer;
 use std::alloc::AllocError;
@@ -64,6 +65,37 @@ pub(crate) fn print_field(field: &Field, out: &mut Writer) -> Result<(), AllocEr
     out.boolean(field.is_nullable())?;
     out.key("type")?;
     print_type(field.data_type(), out)?;
+    out.end_object()
+}
+
+/// Writes a field of these parts, whose type is another: an object with the single key `other`, at which its notation stands.
+pub(crate) fn print_other(
+    name: &str,
+    nullable: bool,
+    metadata: &BTreeMap<String, String>,
+    notation: &str,
+    out: &mut Writer,
+) -> Result<(), AllocError>
+    ensures { OnOk result (Prints (other_value name.now notation.now nullable (texts_of metadata.now.entries)) out.old out.new) }
+{
+    out.begin_object()?;
+    print_metadata(metadata, out)?;
+    out.key("name")?;
+    out.string(name)?;
+    out.key("nullable")?;
+    out.boolean(nullable)?;
+    out.key("type")?;
+    print_other_type(notation, out)?;
+    out.end_object()
+}
+
+/// Writes another type.
+fn print_other_type(notation: &str, out: &mut Writer) -> Result<(), AllocError>
+    ensures { OnOk result (Prints (one_key (codes "other") (string notation.now)) out.old out.new) }
+{
+    out.begin_object()?;
+    out.key("other")?;
+    print_text(notation, out)?;
     out.end_object()
 }
 

@@ -5,7 +5,7 @@ ghost use Rattle.serde_json.specs.Find.{as_integer};
 ghost use Rattle.serde_json.specs.View.{number_view};
 ghost use Rattle.arrow_values.specs.Union.{is_type_id};
 ghost use Rattle.field_lines.specs.FieldOfValue.{kept, is_size, size_of_value, id_of_value, mode_of_value};
-ghost use Rattle.value_tokens.specs.Next.{next_value, Reads};
+ghost use Rattle.value_tokens.specs.Next.{next_value, ReadsValue};
 
 use crate::names::mode_named;
 use arrow_values::UnionMode;
@@ -22,7 +22,7 @@ fn size_of(number: Number) -> Option<i32>
 
 /// The size of a fixed size list that comes next.
 pub(crate) fn take_size(reader: &mut Reader<'_>, depth: usize) -> Result<Option<i32>, Refusal>
-    ensures ok { IfOk result (λ o. Reads size_of_value depth reader.old o reader.new) }
+    ensures ok { IfOk result (λ o. ReadsValue size_of_value depth reader.old o reader.new) }
     ensures shorter { OnOk result (length reader.new < length reader.old) }
     ensures text { result ≡ Err Refusal.Text → next_value depth reader.old ≡ None }
 {
@@ -45,7 +45,7 @@ fn id_of(number: Number) -> Option<i8>
 
 /// The type id that comes next.
 pub(crate) fn take_id(reader: &mut Reader<'_>, depth: usize) -> Result<Option<i8>, Refusal>
-    ensures ok { IfOk result (λ o. Reads id_of_value depth reader.old o reader.new) }
+    ensures ok { IfOk result (λ o. ReadsValue id_of_value depth reader.old o reader.new) }
     ensures shorter { OnOk result (length reader.new < length reader.old) }
     ensures text { result ≡ Err Refusal.Text → next_value depth reader.old ≡ None }
 {
@@ -57,7 +57,7 @@ pub(crate) fn take_id(reader: &mut Reader<'_>, depth: usize) -> Result<Option<i8
 
 /// The union mode that comes next.
 pub(crate) fn take_mode(reader: &mut Reader<'_>, depth: usize) -> Result<Option<UnionMode>, Refusal>
-    ensures ok { IfOk result (λ o. Reads mode_of_value depth reader.old o reader.new) }
+    ensures ok { IfOk result (λ o. ReadsValue mode_of_value depth reader.old o reader.new) }
     ensures shorter { OnOk result (length reader.new < length reader.old) }
     ensures text { result ≡ Err Refusal.Text → next_value depth reader.old ≡ None }
 {

@@ -12,7 +12,7 @@ ghost use Rattle.arrow_values.specs.Union.{is_type_id};
 ghost use Rattle.field_lines.specs.FieldOfValue.{field_from, field_of_value, type_of_value, fields_of_value, fields_in, members_of_value, members_in};
 ghost use Rattle.field_lines.specs.Steps.{AreMemberParts};
 ghost use Rattle.field_lines.specs.Keys.{only_at, fixed_size_list_at, union_at, pair_read};
-ghost use Rattle.value_tokens.specs.Next.{next_value, next_items, next_members, next_after, Reads, ReadsItems, ReadsMembers, ReadsAfter};
+ghost use Rattle.value_tokens.specs.Next.{next_value, next_items, next_members, next_after, ReadsValue, ReadsItems, ReadsMembers, ReadsAfter};
 
 use crate::metadata::take_texts;
 use crate::names::{layout_name, plain_named};
@@ -35,7 +35,7 @@ pub(crate) fn take_field(
     reader: &mut Reader<'_>,
     depth: usize,
 ) -> Result<Option<Field>, Refusal>
-    ensures ok { IfOk result (λ o. Reads field_of_value depth reader.old o reader.new) }
+    ensures ok { IfOk result (λ o. ReadsValue field_of_value depth reader.old o reader.new) }
     ensures shorter { OnOk result (length reader.new < length reader.old) }
     ensures text { result ≡ Err Refusal.Text → next_value depth reader.old ≡ None }
 {
@@ -54,7 +54,7 @@ fn take_boxed(
     reader: &mut Reader<'_>,
     depth: usize,
 ) -> Result<Option<Box<Field>>, Refusal>
-    ensures ok { IfOk result (λ o. Reads field_of_value depth reader.old (option_map (λ b. b.value) o) reader.new) }
+    ensures ok { IfOk result (λ o. ReadsValue field_of_value depth reader.old (option_map (λ b. b.value) o) reader.new) }
     ensures shorter { OnOk result (length reader.new < length reader.old) }
     ensures text { result ≡ Err Refusal.Text → next_value depth reader.old ≡ None }
 {
@@ -141,7 +141,7 @@ fn take_type(
     reader: &mut Reader<'_>,
     depth: usize,
 ) -> Result<Option<DataType>, Refusal>
-    ensures ok { IfOk result (λ o. Reads type_of_value depth reader.old (option_map tree o) reader.new) }
+    ensures ok { IfOk result (λ o. ReadsValue type_of_value depth reader.old (option_map tree o) reader.new) }
     ensures shorter { OnOk result (length reader.new < length reader.old) }
     ensures text { result ≡ Err Refusal.Text → next_value depth reader.old ≡ None }
 {
@@ -333,7 +333,7 @@ fn take_fields(
     reader: &mut Reader<'_>,
     depth: usize,
 ) -> Result<Option<Vec<Field>>, Refusal>
-    ensures ok { IfOk result (λ o. Reads fields_of_value depth reader.old (option_map (λ v. field_trees v.items) o) reader.new) }
+    ensures ok { IfOk result (λ o. ReadsValue fields_of_value depth reader.old (option_map (λ v. field_trees v.items) o) reader.new) }
     ensures shorter { OnOk result (length reader.new < length reader.old) }
     ensures text { result ≡ Err Refusal.Text → next_value depth reader.old ≡ None }
 {
@@ -375,7 +375,7 @@ fn take_members(
     reader: &mut Reader<'_>,
     depth: usize,
 ) -> Result<Option<(Vec<i8>, Vec<Field>)>, Refusal>
-    ensures ok { IfOk result (λ o. Reads members_of_value depth reader.old (option_map (λ p. member_trees (zip p.0.items p.1.items)) o) reader.new) }
+    ensures ok { IfOk result (λ o. ReadsValue members_of_value depth reader.old (option_map (λ p. member_trees (zip p.0.items p.1.items)) o) reader.new) }
     ensures parts { IfOk result (λ o. IfSome o (λ p. AreMemberParts p.0.items p.1.items)) }
     ensures shorter { OnOk result (length reader.new < length reader.old) }
     ensures text { result ≡ Err Refusal.Text → next_value depth reader.old ≡ None }
@@ -423,7 +423,7 @@ fn take_pair(
     reader: &mut Reader<'_>,
     depth: usize,
 ) -> Result<Option<(i8, Field)>, Refusal>
-    ensures ok { IfOk result (λ o. Reads pair_read depth reader.old o reader.new) }
+    ensures ok { IfOk result (λ o. ReadsValue pair_read depth reader.old o reader.new) }
     ensures id { IfOk result (λ o. IfSome o (λ p. IsTrue (is_type_id p.0))) }
     ensures shorter { OnOk result (length reader.new < length reader.old) }
     ensures text { result ≡ Err Refusal.Text → next_value depth reader.old ≡ None }

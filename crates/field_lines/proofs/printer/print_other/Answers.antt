@@ -1,0 +1,14 @@
+use Rattle.std.proofs.Common.{codes}
+use Rattle.serde_json.specs.Data.{string}
+use Rattle.arrow_values.specs.View.{texts_of}
+use Rattle.value_tokens.specs.Adds.{sent}
+use Rattle.field_lines.specs.Line.{one_key}
+use Rattle.field_lines.proofs.Prints.{finished, prints_parts}
+use Rattle.field_lines.proofs.printer.print_other.Goals as goal
+
+pub returns : goal.returns
+returns c =
+    let a = c.args in
+    finished _ (prints_parts a.name.now (one_key (codes "other") (string a.notation.now)) a.nullable (texts_of a.metadata.now.entries) (sent c.in_ok-begin_object.ensures)
+    c.in_ok-print_metadata.ensures (sent c.in_ok-key.ensures) (sent c.in_ok-string.ensures) (sent c.in_ok-key-2.ensures) (sent c.in_ok-boolean.ensures)
+    (sent c.in_ok-key-3.ensures) c.in_ok-print_other_type.ensures) c.end_object.ensures
