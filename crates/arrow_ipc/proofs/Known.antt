@@ -1,29 +1,7 @@
--- One more child.
-use Rattle.std.proofs.Common.{◌≡◌, List, [], ◌∷◌, ◌++◌, ◌<◌, length, Some, None, refl, ap, map, arith, String, Global, string_bytes}
-use Rattle.arrow_columns.specs.Column.{TypeTree, known, other, ColumnTree, type_tree, column_tree}
-use Rattle.arrow_columns.specs.declared.column.Column.{Column}
-use Rattle.arrow_values.specs.Tree.{Text, FieldTree}
-use Rattle.arrow_ipc.specs.Types.{known_field, known_fields, only}
+-- One more text.
+use Rattle.std.proofs.Common.{◌≡◌, List, [], ◌∷◌, ◌++◌, refl, ap, map, String, Global, string_bytes}
+use Rattle.arrow_values.specs.Tree.{Text}
 
-put : (c : ColumnTree) (t : TypeTree) (fs gs : List FieldTree) → known_field c t (fs ++ gs) ≡ known_field c t fs ++ gs
-put c (known t) fs gs = refl
-put c (other t) fs gs = refl
-
--- the one item of a list
-pub only_one : {A B : Type 0} (f : A → B) (xs ys : List A) (x : A) → xs ≡ ys ++ x ∷ [] → ys ≡ [] → only (map f xs) ≡ Some (f x)
-only_one f xs ys x e none = rw (e, none) refl
-
-pub only_more : {A B : Type 0} (f : A → B) (xs ys : List A) (x : A) → xs ≡ ys ++ x ∷ [] → 0 < length ys → only (map f xs) ≡ None
-only_more f xs [] x e some = absurd (omega arith)
-only_more f xs (y ∷ []) x e some = rw e refl
-only_more f xs (y ∷ z ∷ ys) x e some = rw e refl
-
--- one more text
 pub text_push : (parts : List (String Global)) (part : String Global) (rest : List Text) → map string_bytes (parts ++ part ∷ []) ++ rest ≡ map string_bytes parts ++ string_bytes part ∷ rest
 text_push [] part rest = refl
 text_push (p ∷ parts) part rest = ap (λ l. string_bytes p ∷ l) (text_push parts part rest)
-
--- one more field
-pub field_next : (xs : List Column) (c : Column) → known_fields (map column_tree (xs ++ c ∷ [])) ≡ known_fields (map column_tree xs) ++ known_fields (column_tree c ∷ [])
-field_next [] c = refl
-field_next (x ∷ xs) c = rw (field_next xs c) (put (column_tree x) (type_tree x.data_type) (known_fields (map column_tree xs)) (known_fields (column_tree c ∷ [])))

@@ -16,13 +16,16 @@ use Rattle.arrow_ipc.specs.declared.fault.Rule.TheVariants.{Children, TypeIds, D
 use Rattle.arrow_ipc.specs.declared.kinds.Kind.{Kind}
 use Rattle.arrow_ipc.specs.declared.kinds.Kind.TheVariants.{Union}
 
--- an entry of metadata, to which the offset at a position leads: slot 0 is its key, slot 1 its text. The last text of a key counts
-unfoldable pub entry_at : List ℕ → ℕ → Result (Text × Text) Fault
-entry_at bytes at = do
-  table ← target_at bytes at
+-- an entry of metadata: slot 0 of its table is its key, slot 1 its text. The last text of a key counts
+unfoldable pub entry_in : List ℕ → ℕ → Result (Text × Text) Fault
+entry_in bytes table = do
   key ← needed_text_in bytes table 0
   text ← needed_text_in bytes table 1
   Ok (key, text)
+
+-- the entry to which the offset at a position leads
+unfoldable pub entry_at : List ℕ → ℕ → Result (Text × Text) Fault
+entry_at bytes at = target_at bytes at >>= entry_in bytes
 
 abbrev pub entry_price : Text × Text → ℕ
 entry_price e = 8 + length e.0 + length e.1

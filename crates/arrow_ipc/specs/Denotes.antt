@@ -1,5 +1,5 @@
 -- What bytes denote, whatever the limits of those who read them.
-use Rattle.std.specs.Prelude.{◌≡◌, ℕ, List, Result, Ok}
+use Rattle.std.specs.Prelude.{◌≡◌, ℕ, ◌*◌, ◌≤◌, List, length, Result, Ok}
 use Rattle.arrow_ipc.specs.Schema.{SchemaTree, message_in, footer_in, schema_of_message, schema_of_footer}
 use Rattle.arrow_ipc.specs.declared.fault.Fault.{Fault}
 
@@ -14,3 +14,8 @@ StreamDenotes stream s = (message : List ℕ) × (message_in stream ≡ Ok messa
 -- a file denotes what the footer at its end denotes
 abbrev pub FileDenotes : List ℕ → SchemaTree → Type 0
 FileDenotes file s = (footer : List ℕ) × (footer_in file ≡ Ok footer) × Denotes schema_of_footer footer s
+
+-- the bytes are a stream that denotes the schema, and readers that keep to the limit of levels and of what is taken read it
+abbrev pub IsStreamOf : ℕ → List ℕ → SchemaTree → Type 0
+IsStreamOf levels stream s =
+    (message : List ℕ) × (message_in stream ≡ Ok message) × ((n : ℕ) × (n ≤ 8 * length message) × (schema_of_message levels message ≡ Ok (s, n)))

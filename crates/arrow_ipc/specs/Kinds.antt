@@ -7,7 +7,7 @@ use Rattle.arrow_ipc.specs.declared.fault.Rule.TheVariants.{Parameter, Tag}
 use Rattle.arrow_values.specs.declared.tree.UnionMode.TheVariants.{Sparse, Dense}
 use Rattle.arrow_ipc.specs.declared.kinds.Unit as units
 use Rattle.arrow_ipc.specs.declared.kinds.Unit.TheVariants.{Second, Millisecond, Microsecond, Nanosecond}
-use Rattle.arrow_ipc.specs.declared.kinds.ListForm.TheVariants.{Small, Large, Fixed}
+use Rattle.arrow_columns.specs.declared.nested.ListForm.TheVariants.{Small, Large, Fixed}
 use Rattle.arrow_ipc.specs.declared.kinds.Kind.{Kind}
 use Rattle.arrow_ipc.specs.declared.kinds.Kind.TheVariants.{Null, Boolean, Int8, Int16, Int32, Int64, UInt8, UInt16, UInt32, UInt64, Float16, Float32, Float64, Date32, Date64, Binary, LargeBinary, BinaryView, Utf8, LargeUtf8, Utf8View, Decimal, Time, Timestamp, Duration, YearMonthInterval, DayTimeInterval, MonthDayNanoInterval, FixedSizeBinary, List as ListOf, Struct, Union, Map, RunEndEncoded, ListView, LargeListView}
 

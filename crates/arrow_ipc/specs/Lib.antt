@@ -9,3 +9,7 @@ pub mod Tells
 pub mod Columns
 pub mod Schema
 pub mod Denotes
+pub mod Blocks
+pub mod Shapes
+pub mod Rooms
+pub mod Writes

@@ -60,10 +60,9 @@ pub record Own : Type 0 where
 abbrev pub parts_of : Parts → Own
 parts_of p = record { table = p.table; name = p.name.now; nullable = p.nullable; kind = p.kind; zone = p.zone.now; index = p.index; children = p.children; ids = p.ids; texts = p.texts }
 
--- of the column to which the offset at a position leads
-unfoldable pub parts_at : List ℕ → ℕ → Result Own Fault
-parts_at bytes at = do
-  table ← target_at bytes at
+-- of the column whose table that is
+unfoldable pub parts_in : List ℕ → ℕ → Result Own Fault
+parts_in bytes table = do
   name ← text_in bytes table 0
   nullable ← flag_in bytes table 1
   tag ← tag_in bytes table
@@ -76,3 +75,7 @@ parts_at bytes at = do
   children ← vector_in bytes table 5
   texts ← vector_in bytes table 6
   Ok (record { table = table; name = name; nullable = nullable; kind = kind; zone = zone; index = index; children = children; ids = ids; texts = texts })
+
+-- of the column to which the offset at a position leads
+unfoldable pub parts_at : List ℕ → ℕ → Result Own Fault
+parts_at bytes at = target_at bytes at >>= parts_in bytes

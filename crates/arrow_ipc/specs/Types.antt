@@ -1,17 +1,17 @@
 -- A column's type, from its kind and its children.
-use Rattle.std.specs.Prelude.{ℕ, ◌^◌, ◌-◌, ℤ, Bool, true, false, List, [], ◌∷◌, ◌++◌, length, map, codes, Option, Some, None, nat_lt, ◌==◌, if◌then◌else◌}
-use Rattle.std.specs.List.{list_all, zip}
+use Rattle.std.specs.Prelude.{ℕ, ◌^◌, ◌-◌, ℤ, List, [], ◌++◌, length, map, codes, Option, Some, None, nat_lt, ◌==◌, if◌then◌else◌}
+use Rattle.std.specs.List.{zip}
 use Rattle.std.specs.Fmt.{decimal}
-use Rattle.arrow_values.specs.Tree.{Text, Metadata, null, boolean, int8, int16, int32, int64, uint8, uint16, uint32, uint64, float16, float32, float64, date32, date64, binary, large_binary, binary_view, utf8, large_utf8, utf8_view, Plain, Tree, plain, list, large_list, fixed_size_list, struct, union, FieldTree, field_tree}
-use Rattle.arrow_values.specs.View.{field_trees, member_trees}
+use Rattle.arrow_values.specs.Tree.{Text, null, boolean, int8, int16, int32, int64, uint8, uint16, uint32, uint64, float16, float32, float64, date32, date64, binary, large_binary, binary_view, utf8, large_utf8, utf8_view, Plain, plain, union}
+use Rattle.arrow_values.specs.View.{member_trees}
 use Rattle.arrow_values.specs.declared.tree.UnionMode.{UnionMode}
 use Rattle.arrow_columns.specs.Column.{TypeTree, known, other, ColumnTree}
 use Rattle.arrow_columns.specs.Notation.{plain_name, nested_text, sized_text, member_text, union_word, type_text, column_text}
+use Rattle.arrow_columns.specs.Nested.{only, list_type, all_known, known_fields, struct_type}
+use Rattle.arrow_columns.specs.declared.nested.ListForm.{ListForm}
 use Rattle.arrow_ipc.specs.Kinds.{time_width}
 use Rattle.arrow_ipc.specs.declared.kinds.Unit as units
 use Rattle.arrow_ipc.specs.declared.kinds.Unit.TheVariants.{Second, Millisecond, Microsecond, Nanosecond}
-use Rattle.arrow_ipc.specs.declared.kinds.ListForm.{ListForm}
-use Rattle.arrow_ipc.specs.declared.kinds.ListForm.TheVariants.{Small, Large, Fixed}
 use Rattle.arrow_ipc.specs.declared.kinds.Kind.{Kind}
 use Rattle.arrow_ipc.specs.declared.kinds.Kind.TheVariants.{Null, Boolean, Int8, Int16, Int32, Int64, UInt8, UInt16, UInt32, UInt64, Float16, Float32, Float64, Date32, Date64, Binary, LargeBinary, BinaryView, Utf8, LargeUtf8, Utf8View, Decimal, Time, Timestamp, Duration, YearMonthInterval, DayTimeInterval, MonthDayNanoInterval, FixedSizeBinary, List as ListOf, Struct, Union, Map, RunEndEncoded, ListView, LargeListView}
 use Rattle.arrow_ipc.specs.declared.parts.Index.{Index}
@@ -90,49 +90,7 @@ abbrev pub with_dictionary : Option Index → TypeTree → TypeTree
 with_dictionary None t = t
 with_dictionary (Some index) t = other (dictionary_text index (type_text t))
 
--- the one item of a list
-abbrev pub only : {A : Type 0} → List A → Option A
-only [] = None
-only (x ∷ []) = Some x
-only (x ∷ y ∷ rest) = None
-
--- a list of a child: a data type where the child's type is one
-abbrev pub list_text : ListForm → Text → Text
-list_text Small part = nested_text (codes "list") (part ∷ [])
-list_text Large part = nested_text (codes "large_list") (part ∷ [])
-list_text (Fixed size) part = sized_text (nested_text (codes "fixed_size_list") (part ∷ [])) size
-
-abbrev pub list_tree : ListForm → Text → Tree → Bool → Metadata → Tree
-list_tree Small n t b m = list n t b m
-list_tree Large n t b m = large_list n t b m
-list_tree (Fixed size) n t b m = fixed_size_list n t b m size
-
-abbrev pub list_of : ListForm → ColumnTree → TypeTree → TypeTree
-list_of form c (known t) = known (list_tree form c.name t c.nullable c.metadata)
-list_of form c (other t) = other (list_text form (column_text c))
-
-abbrev pub list_type : ListForm → ColumnTree → TypeTree
-list_type form c = list_of form c c.data_type
-
--- children whose types are data types are fields
-abbrev pub is_known : TypeTree → Bool
-is_known (known t) = true
-is_known (other t) = false
-
-abbrev pub all_known : List ColumnTree → Bool
-all_known cs = list_all (λ c. is_known c.data_type) cs
-
-abbrev pub known_field : ColumnTree → TypeTree → List FieldTree → List FieldTree
-known_field c (known t) fs = field_tree c.name t c.nullable c.metadata ∷ fs
-known_field c (other t) fs = fs
-
-abbrev pub known_fields : List ColumnTree → List FieldTree
-known_fields [] = []
-known_fields (c ∷ cs) = known_field c c.data_type (known_fields cs)
-
-abbrev pub struct_type : List ColumnTree → TypeTree
-struct_type cs = if all_known cs then known (struct (field_trees (known_fields cs))) else other (nested_text (codes "struct") (map column_text cs))
-
+-- a union of children under their type ids
 abbrev pub member_part : ℤ × ColumnTree → Text
 member_part m = member_text (column_text m.1) m.0
 

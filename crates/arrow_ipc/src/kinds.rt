@@ -4,6 +4,7 @@ ghost use Rattle.arrow_ipc.specs.Kinds.{unit_in, int_at, float_at, fits_byte, de
 
 use crate::fault::{Fault, Rule};
 use crate::slots::{flag_in, u16_in, u32_in};
+use arrow_columns::ListForm;
 use arrow_values::UnionMode;
 
 /// A unit of time.
@@ -13,14 +14,6 @@ pub(crate) enum Unit {
     Millisecond,
     Microsecond,
     Nanosecond,
-}
-
-/// How long the lists of a type are: any length, with 32-bit or with 64-bit offsets, or one size.
-#[derive(Clone, Copy)]
-pub(crate) enum ListForm {
-    Small,
-    Large,
-    Fixed(i32),
 }
 
 /// A type with its own parts, without what is nested in it.

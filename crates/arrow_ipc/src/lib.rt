@@ -2,16 +2,22 @@
 //! bytes come.
 #![tactic(auto)]
 
+mod blocks;
 mod columns;
 mod fault;
 mod kinds;
 pub mod laws;
 mod longs;
+mod nesting;
 mod parts;
 mod schema;
+mod shapes;
 mod slots;
+mod type_tables;
 mod types;
 mod wire;
+mod write;
 
 pub use fault::{Fault, IpcError, Rule};
 pub use schema::{Endianness, NESTING_LIMIT, Schema, read_file_footer, read_schema};
+pub use write::{WriteError, write_schema};

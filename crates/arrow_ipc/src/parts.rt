@@ -110,7 +110,7 @@ fn ids_in(bytes: &[u8], tag: u8, table: usize) -> Result<Option<(usize, usize)>,
 }
 
 /// What the table of a column, to which the offset at a position leads, says of the column itself.
-#[tactic(auto, unfolding(crate::specs::Parts::parts_at))]
+#[tactic(auto, unfolding(crate::specs::Parts::parts_at, crate::specs::Parts::parts_in))]
 pub(crate) fn parts_at(bytes: &[u8], at: usize) -> Result<Parts<'_>, Fault>
     ensures is { map_ok parts_of result ≡ parts_at bytes.now at }
     ensures children { IfOk result (λ p. p.children.0 + 4 * p.children.1 ≤ length bytes.now) }

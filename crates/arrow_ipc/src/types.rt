@@ -3,16 +3,17 @@ ghost use Rattle.std.specs.Prelude.{◌≡◌, IfOk, IsTrue, map, option_map, st
 ghost use Rattle.arrow_values.specs.Tree.{plain};
 ghost use Rattle.arrow_values.specs.View.{tree};
 ghost use Rattle.arrow_columns.specs.Column.{type_tree, column_tree};
-ghost use Rattle.arrow_columns.specs.Notation.{type_text, column_text};
-ghost use Rattle.arrow_ipc.specs.Types.{plain_of, unit_word, decimal_text, time_text, timestamp_text, duration_text, other_name, index_word, dictionary_text, only, list_text, list_type, all_known, known_fields, struct_type, member_parts, union_type, others, nested_type, type_of, with_dictionary};
+ghost use Rattle.arrow_columns.specs.Notation.{type_text};
+ghost use Rattle.arrow_columns.specs.Nested.{only, list_type, all_known, known_fields, struct_type};
+ghost use Rattle.arrow_ipc.specs.Types.{plain_of, unit_word, decimal_text, time_text, timestamp_text, duration_text, other_name, index_word, dictionary_text, member_parts, union_type, others, nested_type, type_of, with_dictionary};
 
-use crate::kinds::{Kind, ListForm, Unit, time_width};
+use crate::kinds::{Kind, Unit, time_width};
 use crate::parts::Index;
 use arrow_columns::{
-    Column, ColumnType, member_notation, nested_notation, part_notation, plain_name,
-    sized_notation, union_word,
+    Column, ColumnType, all_known, fields_of, list_type, member_notation, nested_notation,
+    only_column, parts_of, plain_name, sized_notation, struct_type, union_word,
 };
-use arrow_values::{DataType, Field, Fields, UnionFields, UnionMode};
+use arrow_values::{DataType, UnionFields, UnionMode};
 use std::alloc::{AllocError, Global};
 
 /// The plain type of a kind.
@@ -141,105 +142,6 @@ fn dictionary_text(alloc: Global, index: Index, values: &ColumnType) -> Result<S
     format!(in alloc; "dictionary<values={values}, indices={indices}, ordered=0>")
 }
 
-/// The one child.
-#[tactic(auto, using(crate::proofs::Known::only_one, crate::proofs::Known::only_more, std::proofs::lemmas::Grind::common_steps))]
-fn only(children: Vec<Column>) -> Option<Column>
-    ensures { option_map column_tree result ≡ only (map column_tree children.items) }
-{
-    let mut children = children;
-    let last = children.pop()?;
-    if children.is_empty() {
-        Some(last)
-    } else {
-        None
-    }
-}
-
-/// The word of a list.
-fn list_text(alloc: Global, form: ListForm, part: String) -> Result<String, AllocError>
-    ensures { IfOk result (λ text. string_bytes text ≡ list_text form (string_bytes part)) }
-{
-    match form {
-        ListForm::Small => nested_notation(alloc, "list", &[part]),
-        ListForm::Large => nested_notation(alloc, "large_list", &[part]),
-        ListForm::Fixed(size) => {
-            let list = nested_notation(alloc, "fixed_size_list", &[part])?;
-            sized_notation(alloc, list.as_str(), size)
-        }
-    }
-}
-
-/// A list of a child.
-fn list_type(alloc: Global, form: ListForm, child: Column) -> Result<ColumnType, AllocError>
-    ensures { IfOk result (λ made. type_tree made ≡ list_type form (column_tree child)) }
-{
-    let Column {
-        name,
-        nullable,
-        data_type,
-        metadata,
-    } = child;
-    match data_type {
-        ColumnType::Data(item) => {
-            let item = Field::from_parts(name, item, nullable, metadata);
-            let item = Box::new(alloc, item)?;
-            Ok(ColumnType::Data(match form {
-                ListForm::Small => DataType::List(item),
-                ListForm::Large => DataType::LargeList(item),
-                ListForm::Fixed(size) => DataType::FixedSizeList(item, size),
-            }))
-        }
-        ColumnType::Other(text) => {
-            let part = part_notation(alloc, name.as_str(), text.as_str(), nullable)?;
-            Ok(ColumnType::Other(list_text(alloc, form, part)?))
-        }
-    }
-}
-
-/// Whether the types of all children are data types.
-fn all_known(children: &[Column]) -> bool
-    ensures { result ≡ all_known (map column_tree children.now) }
-{
-    for child in children {
-        if let ColumnType::Other(_) = child.data_type {
-            return false;
-        }
-    }
-    true
-}
-
-/// The children whose types are data types, as fields.
-#[tactic(auto, using(crate::proofs::Known::field_next, std::proofs::lemmas::Grind::common_steps))]
-fn fields_of(alloc: Global, children: Vec<Column>) -> Result<Vec<Field>, AllocError>
-    ensures { IfOk result (λ fields. fields.items ≡ known_fields (map column_tree children.items)) }
-{
-    let mut fields = Vec::with_capacity(alloc, children.len())?;
-    'children: for child in children {
-        let Column {
-            name,
-            nullable,
-            data_type,
-            metadata,
-        } = child;
-        if let ColumnType::Data(data_type) = data_type {
-            fields.push(Field::from_parts(name, data_type, nullable, metadata))?;
-        }
-    }
-    Ok(fields)
-}
-
-/// The children as parts of a notation.
-#[tactic(auto, using(crate::proofs::Known::text_push))]
-fn parts_of(alloc: Global, children: &[Column]) -> Result<Vec<String>, AllocError>
-    ensures { IfOk result (λ parts. map string_bytes parts.items ≡ map column_text (map column_tree children.now)) }
-{
-    let mut parts = Vec::new(alloc);
-    for child in children {
-        parts.push(child.notation(alloc)?)?;
-    }
-    Ok(parts)
-}
-
 /// The children as members of a notation, each with its type id.
 #[tactic(auto, using(crate::proofs::Known::text_push))]
 fn member_parts(alloc: Global, ids: &[i8], children: &[Column]) -> Result<Vec<String>, AllocError>
@@ -255,19 +157,6 @@ fn member_parts(alloc: Global, ids: &[i8], children: &[Column]) -> Result<Vec<St
         parts.push(member_notation(alloc, part.as_str(), *id)?)?;
     }
     Ok(parts)
-}
-
-/// A struct of children.
-fn struct_type(alloc: Global, children: Vec<Column>) -> Result<ColumnType, AllocError>
-    ensures { IfOk result (λ made. type_tree made ≡ struct_type (map column_tree children.items)) }
-{
-    if !all_known(children.as_slice()) {
-        let parts = parts_of(alloc, children.as_slice())?;
-        let text = nested_notation(alloc, "struct", parts.as_slice())?;
-        return Ok(ColumnType::Other(text));
-    }
-    let fields = fields_of(alloc, children)?;
-    Ok(ColumnType::Data(DataType::Struct(Fields::from(fields))))
 }
 
 /// A union of children under type ids, which are 0 to 127, each once, and as many as the children.
@@ -318,7 +207,7 @@ fn nested_type(
     ensures { IfOk result (λ o. option_map type_tree o ≡ nested_type kind ids.items (map column_tree children.items)) }
 {
     match kind {
-        Kind::List(form) => match only(children) {
+        Kind::List(form) => match only_column(children) {
             Some(child) => Ok(Some(list_type(alloc, form, child)?)),
             None => Ok(None),
         },

@@ -1,12 +1,14 @@
-//! Samples of Arrow's IPC format: read, and read again with each byte turned and at each length.
+//! Samples of Arrow's IPC format: read, and read again with each byte turned and at each length; and what they hold written, and read
+//! again.
 //!
 //! A sample in `data/samples.rows` is two lines: `stream` or `file`, a space and its bytes in hexadecimal digits; and what it
 //! holds, the lines of its columns (`docs/FORMAT.md`, 2.1) with ` | ` between them, or `refused` and the rule that it breaks. A column whose
-//! type no line has stands as one of nulls, with the type's notation behind it.
+//! type no line has stands as one of nulls, with the type's notation behind it. The form `written`, in `data/written.rows`, is a stream that
+//! stands there as this library writes it.
 #![tactic(auto)]
 
 use arrow_columns::{Column, ColumnType};
-use arrow_ipc::{IpcError, Schema, read_file_footer, read_schema};
+use arrow_ipc::{IpcError, Schema, read_file_footer, read_schema, write_schema};
 use arrow_values::{DataType, Field};
 use field_lines::field_line;
 use std::alloc::{AllocError, Global};
@@ -61,6 +63,14 @@ fn said(alloc: Global, form: &str, bytes: &[u8]) -> Result<String, AllocError> {
     }
 }
 
+/// The schema in a sample of that form, written; `None` where there is none, or none that a message can hold.
+fn written(alloc: Global, form: &str, bytes: &[u8]) -> Option<Vec<u8>> {
+    match read(alloc, form, bytes) {
+        Ok(schema) => write_schema(alloc, &schema).ok(),
+        Err(_) => None,
+    }
+}
+
 /// 1 where a reading ends with an answer or a named refusal.
 fn ends(alloc: Global, form: &str, bytes: &[u8]) -> u64 {
     match read(alloc, form, bytes) {
@@ -97,10 +107,34 @@ fn changed(alloc: Global, form: &str, bytes: &mut [u8]) -> u64 {
 struct Tally {
     right: u64,
     wrong: u64,
+    written: u64,
     ended: u64,
 }
 
-/// Reads a sample and compares, and then reads it changed.
+/// Writes what a sample holds, if a message can hold it, and compares what is read of that; of the form `written`, also the bytes.
+fn judge_written(
+    rt: &HostRuntime,
+    tally: &mut Tally,
+    form: &str,
+    bytes: &[u8],
+    answer: &str,
+) -> io::Result<()> {
+    let alloc = rt.alloc();
+    let Some(again) = written(alloc, form, bytes) else {
+        return Ok(());
+    };
+    let found = said(alloc, "stream", again.as_slice())?;
+    if found.as_str() == answer && (form != "written" || again.as_slice() == bytes) {
+        tally.written = tally.written.saturating_add(1);
+    } else {
+        let digits = hex::encode(alloc, again)?;
+        tally.wrong = tally.wrong.saturating_add(1);
+        println!(rt; "written {digits}\nwanted {answer}\nfound {found}")?;
+    }
+    Ok(())
+}
+
+/// Reads a sample and compares, writes what it holds, and then reads it changed.
 fn judge(rt: &HostRuntime, tally: &mut Tally, sample: &str, answer: &str) -> io::Result<()> {
     let alloc = rt.alloc();
     let Some((form, digits)) = sample.split_once(' ') else {
@@ -115,18 +149,15 @@ fn judge(rt: &HostRuntime, tally: &mut Tally, sample: &str, answer: &str) -> io:
         tally.wrong = tally.wrong.saturating_add(1);
         println!(rt; "{sample}\nwanted {answer}\nfound {found}")?;
     }
+    judge_written(rt, tally, form, bytes.as_slice(), answer)?;
     let ended = changed(alloc, form, bytes.as_mut_slice());
     tally.ended = tally.ended.saturating_add(ended);
     Ok(())
 }
 
-fn run(rt: &HostRuntime) -> io::Result<bool> {
-    let text = fs::read_to_string(rt, "samples.rows")?;
-    let mut tally = Tally {
-        right: 0,
-        wrong: 0,
-        ended: 0,
-    };
+/// Judges the samples of a file.
+fn judge_file(rt: &HostRuntime, tally: &mut Tally, path: &str) -> io::Result<()> {
+    let text = fs::read_to_string(rt, path)?;
     let mut sample = None;
     for line in text.as_str().lines() {
         if line.starts_with('#') {
@@ -135,12 +166,25 @@ fn run(rt: &HostRuntime) -> io::Result<bool> {
         match sample {
             None => sample = Some(line),
             Some(first) => {
-                judge(rt, &mut tally, first, line)?;
+                judge(rt, tally, first, line)?;
                 sample = None;
             }
         }
     }
+    Ok(())
+}
+
+fn run(rt: &HostRuntime) -> io::Result<bool> {
+    let mut tally = Tally {
+        right: 0,
+        wrong: 0,
+        written: 0,
+        ended: 0,
+    };
+    judge_file(rt, &mut tally, "samples.rows")?;
+    judge_file(rt, &mut tally, "written.rows")?;
     println!(rt; "{} readings of changed samples ended", tally.ended)?;
+    println!(rt; "{} written and read again", tally.written)?;
     println!(rt; "{} passed, {} failed", tally.right, tally.wrong)?;
     Ok(tally.wrong == 0 && tally.right > 0)
 }

@@ -1,0 +1,146 @@
+-- Blocks that are made one after the other, and the vectors of metadata and of columns.
+use Rattle.std.proofs.Common.{◌≡◌, ℕ, zero, suc, ◌+◌, ◌*◌, ◌^◌, ◌<◌, ◌≤◌, ◌++◌, ◌∷◌, [], List, length, String, Global, string_bytes, string_cmp, Ordering, Less, Greater, Ok, refl, sym, ap, ◌∙◌, subst, arith, append_assoc, append-nil}
+use Rattle.std.proofs.lemmas.List.{length-append, map-append}
+use Rattle.std.specs.Ordering.{ordering_reverse, match_ordering}
+use Rattle.std.specs.Cmp.{IsTotalOrder}
+use Rattle.std.specs.List.{concat, AllZip, AllByRecursion}
+use Rattle.std.specs.List.Sorted.{IsStrictlySortedBy}
+use Rattle.std.specs.Map.{keys_of}
+use Rattle.std.specs.BTreeMap.{insert_entry}
+use Rattle.std.specs.String.{string_cmp_total}
+use Rattle.arrow_values.specs.Tree.{Text, Metadata}
+use Rattle.arrow_values.specs.View.{texts_of}
+use Rattle.arrow_values.specs.Texts.{put_text}
+use Rattle.arrow_columns.specs.Column.{ColumnTree}
+use Rattle.arrow_ipc.specs.Wire.{target_at}
+use Rattle.arrow_ipc.specs.Columns.{entry_in, entry_at, entry_price, put_next, texts_at, put_column, columns_by, column_at}
+use Rattle.arrow_ipc.specs.Blocks.{Holds, rounded, padded, word, offsets, vector_block, entry_read, texts_read, columns_read, child_in}
+use Rattle.arrow_ipc.proofs.Told.{bound}
+use Rattle.arrow_ipc.proofs.Inserted.{texts_inserted}
+use Rattle.arrow_ipc.proofs.Fields.{column_by_table}
+use Rattle.arrow_ipc.proofs.Walks.{joined, vector_holds, length_padded, length_offsets}
+
+-- ---- one block after the other
+
+zip_push : {A : Type 0} (P : List ℕ → A → Type 0) (bs : List (List ℕ)) (xs : List A) (b : List ℕ) (x : A) → AllZip P bs xs → P b x → AllZip P (bs ++ b ∷ []) (xs ++ x ∷ [])
+zip_push P [] [] b x all one = (one, tt)
+zip_push P [] (y ∷ ys) b x all one = absurd all
+zip_push P (c ∷ cs) [] b x all one = absurd all
+zip_push P (c ∷ cs) (y ∷ ys) b x all one = (all.0, zip_push P cs ys b x all.1 one)
+
+pub length_concat_push : (bs : List (List ℕ)) (b : List ℕ) → length (concat (bs ++ b ∷ [])) ≡ length (concat bs) + length b
+length_concat_push [] b = let e = length-append b [] in let n : length {A = ℕ} [] ≡ 0 = refl in omega (arith, e, n)
+length_concat_push (c ∷ cs) b =
+    let rest = length_concat_push cs b in
+    let one = length-append c (concat (cs ++ b ∷ [])) in
+    let two = length-append c (concat cs) in
+    omega (arith, rest, one, two)
+
+-- the blocks of those that come before the ones left, which have room
+pub record Made {A : Type 0} (P : List ℕ → A → Type 0) (rooms : List A → ℕ) (blocks : List (List ℕ)) (left all : List A) : Type 0 where
+  pub done : List A
+  pub parts : done ++ left ≡ all
+  pub each : AllZip P blocks done
+  pub fits : length (concat blocks) + 4 * length blocks + rooms left ≤ rooms all
+
+module _ {A : Type 0} (P : List ℕ → A → Type 0) (rooms : List A → ℕ) where
+  pub made_none : (all : List A) → Made P rooms [] all all
+  made_none all = record { done = []; parts = refl; each = tt; fits = omega arith }
+
+  pub made_more : (blocks : List (List ℕ)) (b : List ℕ) (x : A) (left all : List A) → Made P rooms blocks (x ∷ left) all → P b x → 4 + length b + rooms left ≤ rooms (x ∷ left)
+      → Made P rooms (blocks ++ b ∷ []) left all
+  made_more blocks b x left all m one room =
+      let sum = length_concat_push blocks b in
+      let many : length (blocks ++ b ∷ []) ≡ length blocks + 1 = length-append blocks (b ∷ []) in
+      let before = m.fits in
+      record {
+        done = m.done ++ x ∷ [];
+        parts = append_assoc m.done (x ∷ []) left ∙ m.parts;
+        each = zip_push P blocks m.done b x m.each one;
+        fits = omega (arith, sum, many, before, room);
+      }
+
+  pub made_all : (blocks : List (List ℕ)) (all : List A) → Made P rooms blocks [] all → AllZip P blocks all
+  made_all blocks all m = subst (λ xs. AllZip P blocks xs) (sym (append-nil m.done) ∙ m.parts) m.each
+
+pub length_vector : (bs : List (List ℕ)) → length (vector_block bs) ≡ rounded (4 + 4 * length bs) + length (concat bs)
+unfolding vector_block
+length_vector bs =
+    let w = word (length bs) in
+    let o = offsets 4 (rounded (4 + 4 * length bs)) bs in
+    let one = length-append (padded (w ++ o)) (concat bs) in
+    let two = length_padded (w ++ o) in
+    let three : length (w ++ o) ≡ 4 + length o = length-append w o in
+    let four = length_offsets 4 (rounded (4 + 4 * length bs)) bs in
+    omega (arith, one, two, three, four)
+
+-- ---- metadata
+
+module _ {K : Type 0} {cmp : K → K → Ordering} (total : IsTotalOrder cmp) where
+  below_middle : (first : K) (ks : List K) (k : K) (more : List K) → AllByRecursion (λ y. cmp first y ≡ Less) (ks ++ k ∷ more) → cmp first k ≡ Less
+  below_middle first [] k more h = h.0
+  below_middle first (x ∷ ks) k more h = below_middle first ks k more h.1
+
+  insert_last : {X : Type 0} (es : List (K × X)) (k : K) (v : X) (more : List K) → IsStrictlySortedBy cmp (keys_of es ++ k ∷ more) → insert_entry cmp es k v ≡ es ++ ((k, v) ∷ [])
+  unfolding IsStrictlySortedBy
+  insert_last [] k v more h = refl
+  insert_last (e ∷ es) k v more h =
+      let above : cmp k e.0 ≡ Greater = total.antisymm k e.0 ∙ ap ordering_reverse (below_middle e.0 (keys_of es) k more h.0) in
+      ap (λ r. match_ordering r ((k, v) ∷ e ∷ es) ((e.0, v) ∷ es) (e ∷ insert_entry cmp es k v)) above ∙ ap (λ l. e ∷ l) (insert_last es k v more h.1)
+
+abbrev pub Texts : Type 0
+Texts = List (String Global × String Global)
+
+abbrev put : Metadata → Text × Text → Metadata
+put m e = put_text e.0 e.1 m
+
+put_last : (done : Texts) (k t : String Global) (left : Texts) → IsStrictlySortedBy string_cmp (keys_of (done ++ (k, t) ∷ left))
+    → put_text (string_bytes k) (string_bytes t) (texts_of done) ≡ texts_of (done ++ (k, t) ∷ [])
+put_last done k t left h =
+    let sorted = subst (IsStrictlySortedBy string_cmp) (map-append (λ (e : String Global × String Global). e.0) done ((k, t) ∷ left)) h in
+    sym (texts_inserted done k t) ∙ ap texts_of (insert_last string_cmp_total done k t (keys_of left) sorted)
+
+joined_texts : (done left : Texts) → IsStrictlySortedBy string_cmp (keys_of (done ++ left)) → joined put (texts_of done) (texts_of left) ≡ texts_of (done ++ left)
+joined_texts done [] h = ap texts_of (sym (append-nil done))
+joined_texts done (e ∷ left) h =
+    let all : done ++ (e ∷ left) ≡ (done ++ e ∷ []) ++ left = sym (append_assoc done (e ∷ []) left) in
+    ap (λ (m : Metadata). joined put m (texts_of left)) (put_last done e.0 e.1 left h) ∙ joined_texts (done ++ e ∷ []) left (subst (λ (l : Texts). IsStrictlySortedBy string_cmp (keys_of l)) all h) ∙ ap texts_of (sym all)
+
+entry_step : (bytes : List ℕ) (start : ℕ) (s : Metadata) (i t : ℕ) (v : (Text × Text) × ℕ) → target_at bytes (start + 4 * i) ≡ Ok t → entry_read bytes t ≡ Ok v
+    → put_next bytes start s i ≡ Ok (put s v.0, v.1)
+unfolding entry_at
+entry_step bytes start s i t v led is =
+    let e = bound (entry_in bytes t) (λ e. Ok (e, entry_price e)) v is in
+    let pair : ◌≡◌ {A = (Text × Text) × ℕ} (e.0, entry_price e.0) v = cc (e.2) in
+    rw (led, e.1) (ap (λ (w : (Text × Text) × ℕ). Ok (put_text w.0.0 w.0.1 s, w.1)) pair)
+
+pub texts_hold : (es : Texts) → IsStrictlySortedBy string_cmp (keys_of es) → (bs : List (List ℕ)) → AllZip (Holds entry_read) bs (texts_of es) → length (vector_block bs) < 2 ^ 32
+    → Holds texts_read (vector_block bs) (texts_of es)
+unfolding texts_at
+texts_hold es sorted bs all small =
+    let h = vector_holds entry_read put put_next [] entry_step bs (texts_of es) all small in
+    subst (λ (m : Metadata). Holds texts_read (vector_block bs) m) (joined_texts [] es sorted) h
+
+-- ---- columns
+
+abbrev push : List ColumnTree → ColumnTree → List ColumnTree
+push cs c = cs ++ c ∷ []
+
+joined_columns : (done left : List ColumnTree) → joined push done left ≡ done ++ left
+joined_columns done [] = sym (append-nil done)
+joined_columns done (c ∷ left) = joined_columns (done ++ c ∷ []) left ∙ append_assoc done (c ∷ []) left
+
+child_at : (levels : ℕ) (bytes : List ℕ) (at table : ℕ) (v : ColumnTree × ℕ) → target_at bytes at ≡ Ok table → child_in levels bytes table ≡ Ok v → column_at levels bytes at ≡ Ok v
+child_at zero bytes at table v led is = absurd (cc)
+child_at (suc levels) bytes at table v led is = column_by_table levels bytes at table v led is
+
+column_step : (levels : ℕ) (bytes : List ℕ) (start : ℕ) (s : List ColumnTree) (i t : ℕ) (v : ColumnTree × ℕ) → target_at bytes (start + 4 * i) ≡ Ok t → child_in levels bytes t ≡ Ok v
+    → put_column (column_at levels bytes) start s i ≡ Ok (push s v.0, v.1)
+column_step levels bytes start s i t v led is = rw (child_at levels bytes (start + 4 * i) t v led is) refl
+
+pub columns_hold : (levels : ℕ) (bs : List (List ℕ)) (cs : List ColumnTree) → AllZip (Holds (child_in levels)) bs cs → length (vector_block bs) < 2 ^ 32
+    → Holds (columns_read levels) (vector_block bs) cs
+unfolding columns_by
+columns_hold levels bs cs all small =
+    let h = vector_holds (child_in levels) push (λ bytes. put_column (column_at levels bytes)) [] (column_step levels) bs cs all small in
+    subst (λ (l : List ColumnTree). Holds (columns_read levels) (vector_block bs) l) (joined_columns [] cs) h

@@ -1,0 +1,53 @@
+-- Steps of the loops that write a vector of tables.
+use Rattle.std.proofs.Common.{◌≡◌, ℕ, ◌+◌, ◌*◌, ◌-◌, ◌<◌, ◌≤◌, ◌++◌, ◌∷◌, [], List, length, drop, get_or, map, Vec, Global, refl, sym, ap, ◌∙◌, append_assoc, append-nil}
+use Rattle.std.proofs.lemmas.List.{length-append, length-map, drop_more, drop_all}
+use Rattle.std.specs.List.{concat}
+use Rattle.arrow_ipc.specs.Blocks.{word, rounded, padded, offsets, vector_block}
+
+abbrev pub items : Vec ℕ Global → List ℕ
+items v = v.items
+
+abbrev pub left : List (Vec ℕ Global) → ℕ → List (List ℕ)
+left blocks i = map items (drop i blocks)
+
+module _ (blocks : List (Vec ℕ Global)) (i : ℕ) (x : Vec ℕ Global) (lt : i < length blocks) (is : x ≡ get_or blocks i x) where
+  next : left blocks i ≡ x.items ∷ left blocks (i + 1)
+  next = ap (map items) (drop_more blocks i x lt) ∙ ap (λ (v : Vec ℕ Global). v.items ∷ left blocks (i + 1)) (sym is)
+
+  pub offsets_more : (done new : List ℕ) (table size : ℕ) (whole : List ℕ) → size ≡ length x.items → new ≡ done ++ word (table - length done) → done ++ offsets (length done) table (left blocks i) ≡ whole
+      → new ++ offsets (length new) (table + size) (left blocks (i + 1)) ≡ whole
+  unfolding offsets
+  offsets_more done new table size whole sized made so_far =
+      let long : length new ≡ length done + 4 = ap length made ∙ length-append done (word (table - length done)) in
+      let here : done ++ offsets (length done) table (left blocks i) ≡ done ++ (word (table - length done) ++ offsets (length done + 4) (table + length x.items) (left blocks (i + 1))) = ap (λ bs. done ++ offsets (length done) table bs) next in
+      ap (λ k. new ++ offsets (length new) (table + k) (left blocks (i + 1))) sized ∙ ap (λ n. new ++ offsets n (table + length x.items) (left blocks (i + 1))) long
+      ∙ ap (λ l. l ++ offsets (length done + 4) (table + length x.items) (left blocks (i + 1))) made
+      ∙ append_assoc done (word (table - length done)) (offsets (length done + 4) (table + length x.items) (left blocks (i + 1))) ∙ sym here ∙ so_far
+
+  pub lengths_more : length (concat (left blocks i)) ≡ length x.items + length (concat (left blocks (i + 1)))
+  lengths_more = ap (λ bs. length (concat bs)) next ∙ length-append x.items (concat (left blocks (i + 1)))
+
+  pub blocks_more : (done new whole : List ℕ) → new ≡ done ++ x.items → done ++ concat (left blocks i) ≡ whole → new ++ concat (left blocks (i + 1)) ≡ whole
+  blocks_more done new whole made so_far =
+      ap (λ l. l ++ concat (left blocks (i + 1))) made ∙ append_assoc done x.items (concat (left blocks (i + 1))) ∙ sym (ap (λ bs. done ++ concat bs) next) ∙ so_far
+
+module _ (blocks : List (Vec ℕ Global)) (i : ℕ) (le : length blocks ≤ i) where
+  none_left : left blocks i ≡ []
+  none_left = ap (map items) (drop_all i blocks le)
+
+  pub offsets_done : (done : List ℕ) (table : ℕ) (whole : List ℕ) → done ++ offsets (length done) table (left blocks i) ≡ whole → done ≡ whole
+  unfolding offsets
+  offsets_done done table whole so_far = sym (append-nil done) ∙ sym (ap (λ bs. done ++ offsets (length done) table bs) none_left) ∙ so_far
+
+  pub lengths_done : length (concat (left blocks i)) ≡ 0
+  lengths_done = ap (λ bs. length (concat bs)) none_left
+
+  pub blocks_done : (done whole : List ℕ) → done ++ concat (left blocks i) ≡ whole → done ≡ whole
+  blocks_done done whole so_far = sym (append-nil done) ∙ sym (ap (λ bs. done ++ concat bs) none_left) ∙ so_far
+
+-- the count and the offsets, padded, before the blocks
+pub vector_begins : (blocks : List (Vec ℕ Global)) (done new : List ℕ) → done ≡ word (length blocks) ++ offsets 4 (rounded (4 + 4 * length blocks)) (left blocks 0) → new ≡ padded done → new ++ concat (left blocks 0) ≡ vector_block (left blocks 0)
+unfolding vector_block
+vector_begins blocks done new is made =
+    let many : length (left blocks 0) ≡ length blocks = length-map blocks items in
+    rw (made, is, many) refl

@@ -1,0 +1,133 @@
+-- Which types a message can hold, and how many bytes a schema takes at most.
+use Rattle.std.specs.Prelude.{◌≡◌, ℕ, ◌+◌, ◌*◌, ◌^◌, ◌<◌, ◌≤◌, ◌⊎◌, ℤ, pos, negsuc, Bool, true, false, ◌&&◌, not, List, [], ◌∷◌, ◌++◌, length, nat_lt}
+use Rattle.std.specs.List.{concat, AllZip}
+use Rattle.arrow_values.specs.Tree.{Text, Metadata, Tree, plain, list, large_list, fixed_size_list, struct, union, FieldTrees, no_fields, field, MemberTrees, no_members, member, FieldTree, depth}
+use Rattle.arrow_values.specs.Union.{has}
+use Rattle.arrow_columns.specs.Column.{TypeTree, known, other, ColumnTree}
+use Rattle.arrow_ipc.specs.Schema.{SchemaTree}
+use Rattle.arrow_ipc.specs.Blocks.{Holds, column_in, child_in}
+use Rattle.arrow_ipc.specs.Shapes.{member_ids, nested_columns}
+use Rattle.arrow_ipc.specs.declared.blocks.Refusal.{Refusal}
+use Rattle.arrow_ipc.specs.declared.blocks.Refusal.TheVariants.{Unfit, TooLarge, OutOfMemory}
+
+abbrev pub is_size : ℤ → Bool
+is_size (pos n) = nat_lt n (2 ^ 31)
+is_size (negsuc n) = false
+
+-- a type id is 0 to 127
+abbrev pub is_id : ℤ → Bool
+is_id (pos n) = nat_lt n 128
+is_id (negsuc n) = false
+
+-- the type ids of a union, each of which is none of those before
+abbrev pub are_ids : List ℤ → List ℤ → Bool
+are_ids before [] = true
+are_ids before (i ∷ is) = is_id i && not (has i before) && are_ids (before ++ i ∷ []) is
+
+-- the sizes of lists are not negative, and the type ids of unions are ones that the format has
+abbrev mutual
+  pub is_sound : Tree → Bool
+  is_sound (plain p) = true
+  is_sound (list n t b m) = is_sound t
+  is_sound (large_list n t b m) = is_sound t
+  is_sound (fixed_size_list n t b m s) = is_size s && is_sound t
+  is_sound (struct fs) = are_sound fs
+  is_sound (union ms mode) = are_ids [] (member_ids ms) && members_sound ms
+
+  pub are_sound : FieldTrees → Bool
+  are_sound no_fields = true
+  are_sound (field n t b m fs) = is_sound t && are_sound fs
+
+  pub members_sound : MemberTrees → Bool
+  members_sound no_members = true
+  members_sound (member i n t b m ms) = is_sound t && members_sound ms
+
+-- entries of metadata, each with its offset
+abbrev pub entry_room : Text × Text → ℕ
+entry_room e = 48 + length e.0 + length e.1
+
+abbrev pub texts_room : Metadata → ℕ
+texts_room [] = 12
+texts_room (e ∷ es) = 4 + entry_room e + texts_room es
+
+abbrev pub member_count : MemberTrees → ℕ
+member_count no_members = 0
+member_count (member i n t b m ms) = 1 + member_count ms
+
+-- a type's table
+abbrev pub table_room : Tree → ℕ
+table_room (union ms mode) = 36 + 4 * member_count ms
+table_room _ = 24
+
+-- the columns that a type nests, each with its offset
+abbrev mutual
+  pub nested_room : Tree → ℕ
+  nested_room (plain p) = 12
+  nested_room (list n t b m) = 76 + length n + (table_room t + nested_room t) + texts_room m
+  nested_room (large_list n t b m) = 76 + length n + (table_room t + nested_room t) + texts_room m
+  nested_room (fixed_size_list n t b m s) = 76 + length n + (table_room t + nested_room t) + texts_room m
+  nested_room (struct fs) = fields_room fs
+  nested_room (union ms mode) = members_room ms
+
+  pub fields_room : FieldTrees → ℕ
+  fields_room no_fields = 12
+  fields_room (field n t b m fs) = 64 + length n + (table_room t + nested_room t) + texts_room m + fields_room fs
+
+  pub members_room : MemberTrees → ℕ
+  members_room no_members = 12
+  members_room (member i n t b m ms) = 64 + length n + (table_room t + nested_room t) + texts_room m + members_room ms
+
+-- a column
+abbrev pub column_room : Text → Tree → Metadata → ℕ
+column_room n t m = 60 + length n + (table_room t + nested_room t) + texts_room m
+
+abbrev pub field_room : FieldTree → ℕ
+field_room f = column_room f.name f.tree f.metadata
+
+-- a column of any type, with so many bytes of texts
+abbrev pub room_of_type : TypeTree → ℕ → ℕ
+room_of_type (known t) texts = 60 + (table_room t + nested_room t) + texts
+room_of_type (other t) texts = 60 + texts
+
+-- a schema in a stream
+abbrev pub room_of : ColumnTree → ℕ
+room_of c = room_of_type c.data_type (length c.name + texts_room c.metadata)
+
+abbrev pub columns_room : List ColumnTree → ℕ
+columns_room [] = 12
+columns_room (c ∷ cs) = 4 + room_of c + columns_room cs
+
+abbrev pub schema_room : SchemaTree → ℕ
+schema_room s = 72 + columns_room s.columns + texts_room s.metadata
+
+-- why a block is not written
+abbrev pub Refuses : Refusal → Type 0 → ℕ → Type 0
+Refuses Unfit unfit room = unfit
+Refuses TooLarge unfit room = 2 ^ 31 ≤ room
+Refuses OutOfMemory unfit room = Unit {0}
+
+-- a type that no message can hold where so many levels are left for what nests it, and for what it nests
+abbrev pub IsUnfit : ℕ → Tree → Type 0
+IsUnfit levels t = (is_sound t ≡ false) ⊎ (levels ≤ depth t)
+
+abbrev pub NestsUnfit : ℕ → Tree → Type 0
+NestsUnfit levels t = (is_sound t ≡ false) ⊎ (levels < depth t)
+
+-- columns of which one is unfit
+abbrev pub IsUnfitType : ℕ → TypeTree → Type 0
+IsUnfitType levels (known t) = IsUnfit levels t
+IsUnfitType levels (other text) = Unit {0}
+
+abbrev pub AreUnfit : ℕ → List ColumnTree → Type 0
+AreUnfit levels [] = ⊥
+AreUnfit levels (c ∷ cs) = IsUnfitType levels c.data_type ⊎ AreUnfit levels cs
+
+-- the blocks of columns that have no more than so many levels, and take so much as a vector
+pub record HoldsEach (levels : ℕ) (blocks : List (List ℕ)) (cs : List ColumnTree) (room : ℕ) : Type 0 where
+  pub each : AllZip (Holds (child_in levels)) blocks cs
+  pub most : length (concat blocks) + 4 * length blocks + 12 ≤ room
+
+-- a column's block, where those of the columns that its type nests are given
+unfoldable pub IsNesting : List (List ℕ) → Tree → Text → Bool → Metadata → List ℕ → Type 0
+IsNesting blocks t name nullable texts block =
+    (levels : ℕ) → AllZip (Holds (child_in levels)) blocks (nested_columns t) → Holds (column_in levels) block (record { name = name; data_type = known t; nullable = nullable; metadata = texts })

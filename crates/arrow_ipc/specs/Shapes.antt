@@ -1,0 +1,103 @@
+-- The tags of types, and the number and the truth value that the table of a type has.
+use Rattle.std.specs.Prelude.{ℕ, ℤ, pos, negsuc, Bool, true, false, List, [], ◌∷◌, Option, Some, None, ◌^◌, nat_lt, if◌then◌else◌}
+use Rattle.arrow_values.specs.Tree.{null, boolean, int8, int16, int32, int64, uint8, uint16, uint32, uint64, float16, float32, float64, date32, date64, binary, large_binary, binary_view, utf8, large_utf8, utf8_view, Plain, Tree, plain, list, large_list, fixed_size_list, struct, union, FieldTrees, no_fields, field, MemberTrees, no_members, member, FieldTree}
+use Rattle.arrow_columns.specs.Column.{known, ColumnTree}
+use Rattle.arrow_ipc.specs.declared.shapes.Shape.{Shape}
+use Rattle.arrow_ipc.specs.declared.shapes.Shape.TheVariants.{Table, Members}
+
+abbrev pub tag_of : Plain → ℕ
+tag_of null = 1
+tag_of boolean = 6
+tag_of int8 = 2
+tag_of int16 = 2
+tag_of int32 = 2
+tag_of int64 = 2
+tag_of uint8 = 2
+tag_of uint16 = 2
+tag_of uint32 = 2
+tag_of uint64 = 2
+tag_of float16 = 3
+tag_of float32 = 3
+tag_of float64 = 3
+tag_of date32 = 8
+tag_of date64 = 8
+tag_of binary = 4
+tag_of large_binary = 19
+tag_of binary_view = 23
+tag_of utf8 = 5
+tag_of large_utf8 = 20
+tag_of utf8_view = 24
+
+abbrev pub number_of : Plain → Option ℕ
+number_of int8 = Some 8
+number_of int16 = Some 16
+number_of int32 = Some 32
+number_of int64 = Some 64
+number_of uint8 = Some 8
+number_of uint16 = Some 16
+number_of uint32 = Some 32
+number_of uint64 = Some 64
+number_of float16 = Some 0
+number_of float32 = Some 1
+number_of float64 = Some 2
+number_of date32 = Some 0
+number_of date64 = Some 1
+number_of _ = None
+
+abbrev pub truth_of : Plain → Option Bool
+truth_of int8 = Some true
+truth_of int16 = Some true
+truth_of int32 = Some true
+truth_of int64 = Some true
+truth_of uint8 = Some false
+truth_of uint16 = Some false
+truth_of uint32 = Some false
+truth_of uint64 = Some false
+truth_of _ = None
+
+-- a field is a column whose type is a data type
+abbrev pub column_of : FieldTree → ColumnTree
+column_of f = record { name = f.name; data_type = known f.tree; nullable = f.nullable; metadata = f.metadata }
+
+abbrev pub column_of_member : ℤ × FieldTree → ColumnTree
+column_of_member m = column_of m.1
+
+-- a list of a size that is not negative
+abbrev pub sized_shape : ℤ → Option Shape
+sized_shape (pos n) = if nat_lt n (2 ^ 31) then Some (Table 16 (Some n) None) else None
+sized_shape (negsuc n) = None
+
+-- of any type; none where it is one that no message can hold
+abbrev pub shape_of : Tree → Option Shape
+shape_of (plain p) = Some (Table (tag_of p) (number_of p) (truth_of p))
+shape_of (list n t b m) = Some (Table 12 None None)
+shape_of (large_list n t b m) = Some (Table 21 None None)
+shape_of (fixed_size_list n t b m s) = sized_shape s
+shape_of (struct fs) = Some (Table 13 None None)
+shape_of (union ms mode) = Some (Members mode)
+
+-- the columns that a type nests
+abbrev pub columns_of_fields : FieldTrees → List ColumnTree
+columns_of_fields no_fields = []
+columns_of_fields (field n t b m fs) = record { name = n; data_type = known t; nullable = b; metadata = m } ∷ columns_of_fields fs
+
+abbrev pub columns_of_members : MemberTrees → List ColumnTree
+columns_of_members no_members = []
+columns_of_members (member i n t b m ms) = record { name = n; data_type = known t; nullable = b; metadata = m } ∷ columns_of_members ms
+
+abbrev pub nested_columns : Tree → List ColumnTree
+nested_columns (plain p) = []
+nested_columns (list n t b m) = record { name = n; data_type = known t; nullable = b; metadata = m } ∷ []
+nested_columns (large_list n t b m) = record { name = n; data_type = known t; nullable = b; metadata = m } ∷ []
+nested_columns (fixed_size_list n t b m s) = record { name = n; data_type = known t; nullable = b; metadata = m } ∷ []
+nested_columns (struct fs) = columns_of_fields fs
+nested_columns (union ms mode) = columns_of_members ms
+
+abbrev pub member_ids : MemberTrees → List ℤ
+member_ids no_members = []
+member_ids (member i n t b m ms) = i ∷ member_ids ms
+
+-- the type ids of a union; of another type none
+abbrev pub ids_of : Tree → List ℤ
+ids_of (union ms mode) = member_ids ms
+ids_of _ = []

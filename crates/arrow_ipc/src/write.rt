@@ -1,0 +1,183 @@
+//! A schema as the message at the head of a stream.
+ghost use Rattle.std.specs.Prelude.{◌≡◌, ◌+◌, ◌^◌, ◌<◌, ◌≤◌, [], length, map, IfOk, IfErr};
+ghost use Rattle.arrow_values.specs.View.{texts_of};
+ghost use Rattle.arrow_columns.specs.Column.{type_tree, column_tree};
+ghost use Rattle.arrow_ipc.specs.Schema.{schema_tree};
+ghost use Rattle.arrow_ipc.specs.Denotes.{IsStreamOf};
+ghost use Rattle.arrow_ipc.specs.Blocks.{Holds, child_in, columns_read, texts_read, message_block, schema_block, stream_block};
+ghost use Rattle.arrow_ipc.specs.Rooms.{Refuses, IsUnfitType, HoldsEach, room_of, columns_room, texts_room, schema_room};
+ghost use Rattle.arrow_ipc.specs.Writes.{refused, RefusesColumns};
+
+use crate::blocks::{Refusal, put_word, texts_block, vector_block};
+use crate::nesting::data_block;
+use crate::schema::{Endianness, NESTING_LIMIT, Schema};
+use arrow_columns::{Column, ColumnType};
+use std::alloc::{AllocError, AllocFailed, Global};
+use std::collections::BTreeMap;
+use thiserror::Error;
+
+/// Why a schema is not written.
+#[derive(Clone, Copy, Debug, PartialEq, Eq, Error)]
+pub enum WriteError {
+    /// No message can hold the type of a column, with the column's index: it is known by its notation alone, is nested deeper than
+    /// `NESTING_LIMIT`, has a list of negative size, or a union whose type ids are not 0 to 127, each once.
+    #[error("column {0} has a type that no message can hold")]
+    Column(usize),
+    /// The message would take 2^31 bytes or more.
+    #[error("the schema takes 2^31 bytes or more")]
+    TooLarge,
+    /// Out of memory.
+    #[error("out of memory")]
+    OutOfMemory,
+}
+
+impl From<AllocError> for WriteError {
+    ghost use Rattle.arrow_ipc.specs.declared.write.WriteError.TheVariants.{OutOfMemory};
+
+    ghost from_gives = { λ _ e. e ≡ OutOfMemory };
+
+    fn from(_refused: AllocError) -> WriteError {
+        WriteError::OutOfMemory
+    }
+}
+
+impl<T: Drop> From<AllocFailed<T>> for WriteError {
+    ghost use Rattle.arrow_ipc.specs.declared.write.WriteError.TheVariants.{OutOfMemory};
+
+    ghost from_gives = { λ _ e. e ≡ OutOfMemory };
+
+    fn from(_refused: AllocFailed<T>) -> WriteError {
+        WriteError::OutOfMemory
+    }
+}
+
+/// The error of a column's block, of the column with that index.
+fn refused(refusal: Refusal, index: usize) -> WriteError
+    ensures { result ≡ refused refusal index }
+{
+    match refusal {
+        Refusal::Unfit => WriteError::Column(index),
+        Refusal::TooLarge => WriteError::TooLarge,
+        Refusal::OutOfMemory => WriteError::OutOfMemory,
+    }
+}
+
+/// A column of any type.
+fn any_column(alloc: Global, column: &Column) -> Result<Vec<u8>, Refusal>
+    ensures holds { IfOk result (λ b. Holds (child_in NESTING_LIMIT) b.items (column_tree column.now)) }
+    ensures most { IfOk result (λ b. length b.items ≤ room_of (column_tree column.now)) }
+    ensures err { IfErr result (λ e. Refuses e (IsUnfitType NESTING_LIMIT (type_tree column.now.data_type)) (room_of (column_tree column.now))) }
+{
+    match &column.data_type {
+        ColumnType::Data(data_type) => data_block(
+            alloc,
+            column.name.as_str(),
+            column.nullable,
+            data_type,
+            &column.metadata,
+            NESTING_LIMIT,
+        ),
+        ColumnType::Other(_) => Err(Refusal::Unfit),
+    }
+}
+
+/// The columns of a schema.
+fn column_blocks(alloc: Global, columns: &[Column]) -> Result<Vec<Vec<u8>>, WriteError>
+    ensures each { IfOk result (λ bs. HoldsEach NESTING_LIMIT (map (λ v. v.items) bs.items) (map column_tree columns.now) (columns_room (map column_tree columns.now))) }
+    ensures err { IfErr result (λ e. RefusesColumns NESTING_LIMIT e (map column_tree columns.now) (columns_room (map column_tree columns.now))) }
+{
+    let mut blocks = Vec::new(alloc);
+    'columns: for i in 0..columns.len() {
+        match any_column(alloc, &columns[i]) {
+            Ok(block) => blocks.push(block)?,
+            Err(refusal) => return Err(refused(refusal, i)),
+        }
+    }
+    Ok(blocks)
+}
+
+/// The vector of a schema's columns.
+fn columns_block(alloc: Global, columns: &[Column]) -> Result<Vec<u8>, WriteError>
+    ensures holds { IfOk result (λ b. Holds (columns_read NESTING_LIMIT) b.items (map column_tree columns.now)) }
+    ensures most { IfOk result (λ b. length b.items ≤ columns_room (map column_tree columns.now)) }
+    ensures small { IfOk result (λ b. length b.items < 2 ^ 31) }
+    ensures err { IfErr result (λ e. RefusesColumns NESTING_LIMIT e (map column_tree columns.now) (columns_room (map column_tree columns.now))) }
+{
+    let blocks = column_blocks(alloc, columns)?;
+    match vector_block(alloc, blocks.as_slice()) {
+        Ok(block) => Ok(block),
+        Err(refusal) => Err(refused(refusal, 0)),
+    }
+}
+
+/// The metadata of a schema.
+fn metadata_block(alloc: Global, texts: &BTreeMap<String, String>) -> Result<Vec<u8>, WriteError>
+    ensures holds { IfOk result (λ b. Holds texts_read b.items (texts_of texts.now.entries)) }
+    ensures most { IfOk result (λ b. length b.items ≤ texts_room (texts_of texts.now.entries)) }
+    ensures small { IfOk result (λ b. length b.items < 2 ^ 31) }
+    ensures err { IfErr result (λ e. RefusesColumns NESTING_LIMIT e [] (texts_room (texts_of texts.now.entries))) }
+{
+    match texts_block(alloc, texts) {
+        Ok(block) => Ok(block),
+        Err(refusal) => Err(refused(refusal, 0)),
+    }
+}
+
+/// The stream of a schema, given the blocks of its columns and of its metadata.
+fn stream_bytes(
+    alloc: Global,
+    columns: &[u8],
+    texts: &[u8],
+    order: Endianness,
+) -> Result<Vec<u8>, AllocError>
+    requires { length columns.now + length texts.now < 0x7fff_ffc0 }
+    ensures { IfOk result (λ b. b.items ≡ stream_block (message_block (schema_block columns.now texts.now order))) }
+{
+    let order = match order {
+        Endianness::Little => 0,
+        Endianness::Big => 1,
+    };
+    let mut stream = Vec::new(alloc);
+    put_word(&mut stream, 0xffff_ffff)?;
+    put_word(&mut stream, (64 + columns.len() + texts.len()) as u32)?;
+    stream.extend_from_slice(&[8, 0, 0, 0, 0, 0, 0, 0, 244, 255, 255, 255, 20, 0, 0, 0])?;
+    stream.extend_from_slice(&[4, 0, 1, 0, 10, 0, 12, 0, 8, 0, 10, 0, 4, 0, 0, 0])?;
+    stream.extend_from_slice(&[240, 255, 255, 255, 28, 0, 0, 0])?;
+    put_word(&mut stream, (24 + columns.len()) as u32)?;
+    stream.extend_from_slice(&[
+        order, 0, 0, 0, 10, 0, 16, 0, 12, 0, 4, 0, 8, 0, 0, 0, 0, 0, 0, 0,
+    ])?;
+    stream.extend_from_slice(columns)?;
+    stream.extend_from_slice(texts)?;
+    Ok(stream)
+}
+
+/// The schema as an Arrow stream of its message alone (Arrow, "Serialization and Interprocess Communication"), of version 5, with
+/// the continuation marker (`docs/FORMAT.md`, 3.6): bytes that denote the schema, and which `read_schema` reads.
+///
+/// Errs at a column whose type no message can hold, where the message would take 2^31 bytes or more, and when out of memory.
+///
+/// ```rust
+/// let number = Column { name: String::from_str(alloc, "n")?, nullable: false, data_type: ColumnType::Data(DataType::Int32), metadata: BTreeMap::new(alloc) };
+/// let schema = Schema { columns: vec![in alloc; number]?, metadata: BTreeMap::new(alloc), endianness: Endianness::Little };
+/// let stream = write_schema(alloc, &schema)?;
+/// let again = read_schema(alloc, stream.as_slice());
+/// assert!(rt; matches!(again, Ok(schema) if schema.columns.len() == 1));
+/// ```
+pub fn write_schema(alloc: Global, schema: &Schema) -> Result<Vec<u8>, WriteError>
+    ensures is { IfOk result (λ b. IsStreamOf NESTING_LIMIT b.items (schema_tree schema.now)) }
+    ensures err { IfErr result (λ e. RefusesColumns NESTING_LIMIT e (map column_tree schema.now.columns.items) (schema_room (schema_tree schema.now))) }
+{
+    let columns = columns_block(alloc, schema.columns.as_slice())?;
+    let texts = metadata_block(alloc, &schema.metadata)?;
+    if columns.len() + texts.len() >= 0x7fff_ffc0 {
+        return Err(WriteError::TooLarge);
+    }
+    let stream = stream_bytes(
+        alloc,
+        columns.as_slice(),
+        texts.as_slice(),
+        schema.endianness,
+    )?;
+    Ok(stream)
+}
