@@ -1,41 +1,40 @@
 -- What is said of a column, and what its field is read as.
-use Rattle.std.proofs.Common.{◌≡◌, codes, Bool, false, [], Option, None, Some, option_map, refl, sym, ap, ◌∙◌, subst}
-use Rattle.std.specs.Prelude.{IsSome}
-use Rattle.serde_json.specs.Find.{as_object}
+use Rattle.std.proofs.Common.{◌≡◌, Bool, false, Option, None, Some, option_map, refl, sym, ap, ◌∙◌}
 use Rattle.arrow_values.specs.Tree.{Text, Tree, FieldTree}
 use Rattle.arrow_values.specs.Texts.{extension_name, extension_metadata}
 use Rattle.arrow_columns.specs.Column.{column_of, known}
 use Rattle.geoarrow_layout.specs.declared.names.ExtensionName.{ExtensionName}
 use Rattle.geoarrow_layout.specs.declared.encodings.Kind.{Kind}
 use Rattle.geoarrow_layout.specs.declared.fault.LayoutFault.{LayoutFault}
-use Rattle.geoarrow_layout.specs.declared.fault.LayoutFault.TheVariants.{UnexpectedType}
 use Rattle.geoarrow_layout.specs.Kinds.{name_text, name_of, extension_of}
 use Rattle.geoarrow_layout.specs.Candidates.{IsAccepted}
 use Rattle.geoarrow_layout.specs.FaultAt.{Path, FaultAt}
 use Rattle.geoarrow_meta.specs.declared.metadata.Metadata.{Metadata}
-use Rattle.geoarrow_meta.specs.Read.{crs_type_data, edges_data, at_key, some_has_float, TextStandsFor}
+use Rattle.geoarrow_meta.specs.Read.{crs_type_data, edges_data, some_has_float, DenotesMetadata}
 use Rattle.geoarrow_native.specs.Column.{ReadsAs}
 use Rattle.geoarrow_schema.specs.Types.{kind_of, meta_of}
 use Rattle.geoarrow_schema.specs.Reads.{HasGeoArrowName}
+use Rattle.geoarrow_schema.specs.Infers.{InferredAs, InfersAs}
 use Rattle.column_check.specs.Metadata.{Values, values_of, TextDenotes, HasMetadataFault}
 use Rattle.column_check.specs.Types.{HasTypeFault}
-use Rattle.column_check.specs.Finding.{HasName, IsOfKind, IsInvalidFor}
-use Rattle.column_check.specs.Agrees.{values_in, AgreesWithType, IsReadWhereWhole, RefusesWithReading}
+use Rattle.column_check.specs.Finding.{HasName, IsOfKind, IsTakenFor, IsInvalidFor}
+use Rattle.column_check.specs.Agrees.{values_in, AgreesWithType, IsReadWhereWhole, RefusesWithReading, AgreesWithInference, IsInferredWhereWhole}
 use Rattle.column_check.specs.declared.data_type.TypeFault.{TypeFault}
-use Rattle.column_check.specs.declared.data_type.TypeFault.TheVariants.{UnsupportedType, WrongStorage, Layout}
 use Rattle.column_check.specs.declared.metadata.MetadataFault.{MetadataFault}
-use Rattle.column_check.specs.declared.metadata.MetadataFault.TheVariants.{NotJson, NotObject, UnknownCrsType, UnknownEdges, UnknownCrsTypeAndEdges}
 use Rattle.column_check.specs.declared.finding.Reasons.{Reasons}
 use Rattle.column_check.specs.declared.finding.Reasons.TheVariants.{UnknownExtension, DataType, Metadata as OfMetadata, DataTypeAndMetadata}
 use Rattle.column_check.specs.declared.finding.Finding.{Finding}
 use Rattle.column_check.specs.declared.finding.Finding.TheVariants.{Geometry, Invalid, Extension, Inferred, Plain}
+use Rattle.column_check.proofs.Texts.{one_values, text_apart}
+use Rattle.column_check.proofs.Faults.{type_apart}
+use Rattle.column_check.proofs.Unicity.{name_there}
 
 -- the metadata of these values
 abbrev metadata_with : Values → Metadata
 metadata_with v = record { crs = record { value = v.crs; crs_type = v.crs_type }; edges = v.edges }
 
 -- a text that denotes values with whole numbers in the CRS denotes each metadata of these values
-stands : (t : Option Text) (v : Values) (m : Metadata) → TextDenotes t v → some_has_float v.crs ≡ false → values_in m ≡ v → TextStandsFor t m
+stands : (t : Option Text) (v : Values) (m : Metadata) → TextDenotes t v → some_has_float v.crs ≡ false → values_in m ≡ v → DenotesMetadata t m
 stands None v m is whole same = ap metadata_with (same ∙ is)
 stands (Some s) v m (d, reads, is) whole same = (
   d,
@@ -49,51 +48,39 @@ stands (Some s) v m (d, reads, is) whole same = (
   },
 )
 
--- the CRS of a text that denotes a metadata has whole numbers
-whole_where_read : (t : Option Text) (v : Values) (m : Metadata) → TextDenotes t v → TextStandsFor t m → some_has_float v.crs ≡ false
-whole_where_read None v m is here = ap (λ w. some_has_float w.crs) is
-whole_where_read (Some s) v m (d, reads, is) (e, others, here) =
-    let same : d ≡ e = cc (reads, others) in
-    ap some_has_float is.crs ∙ (ap (λ x. some_has_float (at_key (codes "crs") x)) same ∙ here.whole)
+-- the CRS of a metadata that a text denotes has whole numbers
+is_whole : (t : Option Text) (m : Metadata) → DenotesMetadata t m → some_has_float m.crs.value ≡ false
+is_whole None m h = ap (λ n. some_has_float n.crs.value) h
+is_whole (Some s) m (d, reads, is) = ap some_has_float is.crs ∙ is.whole
 
--- a text with a fault denotes no metadata
-text_refuted : (t : Option Text) (fault : MetadataFault) (m : Metadata) → HasMetadataFault t fault → TextStandsFor t m → ⊥
-text_refuted None fault m h here = absurd h
-text_refuted (Some s) NotJson m h (d, reads, is) = absurd cc
-text_refuted (Some s) NotObject m (e, others, not_object) (d, reads, is) =
-    let same : d ≡ e = cc (reads, others) in not_object (subst (λ x. IsSome (as_object x)) same is.is_object)
-text_refuted (Some s) UnknownCrsType m h (d, reads, is) =
-    let same : d ≡ h.0 = cc (reads, h.1) in h.3.0 (m.crs.crs_type, is.crs_type ∙ ap (at_key (codes "crs_type")) same)
-text_refuted (Some s) UnknownEdges m h (d, reads, is) =
-    let same : d ≡ h.0 = cc (reads, h.1) in h.3.1 (m.edges, is.edges ∙ ap (at_key (codes "edges")) same)
-text_refuted (Some s) UnknownCrsTypeAndEdges m h (d, reads, is) =
-    let same : d ≡ h.0 = cc (reads, h.1) in h.3.0 (m.crs.crs_type, is.crs_type ∙ ap (at_key (codes "crs_type")) same)
+-- a text that denotes a metadata denotes its values
+denotes : (t : Option Text) (m : Metadata) → DenotesMetadata t m → TextDenotes t (values_in m)
+denotes None m h = ap values_in h
+denotes (Some s) m (d, reads, is) = (d, reads, record { is_object = is.is_object; crs = is.crs; crs_type = is.crs_type; edges = is.edges })
 
-module _ (no_fault : (n : ExtensionName) (t : Tree) (p : Path) (fault : LayoutFault) → IsAccepted (name_text n) t → ¬ FaultAt n t p fault) (f : FieldTree) where
-  -- a type with a fault is read as none
-  type_refuted : (n : ExtensionName) (t : TypeFault) (k : Kind) (m : Metadata) → HasName (column_of f) n → HasTypeFault n (known f.tree) t → ReadsAs f k m → ⊥
-  unfolding ReadsAs
-  type_refuted n t k m named h reads = refuted t h
-    where
-      accepted : IsAccepted (name_text n) f.tree
-      accepted = let same : name_text n ≡ name_of k = cc (named, reads.0.0) in (k, (same, reads.0.1))
-
-      refuted : (t : TypeFault) → HasTypeFault n (known f.tree) t → ⊥
-      refuted UnsupportedType h = absurd h
-      refuted WrongStorage h = no_fault n f.tree [] UnexpectedType accepted h.1
-      refuted (Layout fault names) h = no_fault n f.tree h.1.0 fault accepted h.1.1
-
+module _ (f : FieldTree) where
   other_refuted : (s : Text) → extension_name f ≡ Some s → ((n : ExtensionName) → s ≡ name_text n → ⊥) → ¬ HasGeoArrowName f
   other_refuted s named others (n, is) = let same : s ≡ name_text n = cc (named, is) in others n same
 
   unnamed_refuted : extension_name f ≡ None → ¬ HasGeoArrowName f
   unnamed_refuted none (n, is) = absurd cc
 
+module _ (no_fault : (n : ExtensionName) (t : Tree) (p : Path) (fault : LayoutFault) → IsAccepted (name_text n) t → ¬ FaultAt n t p fault) (f : FieldTree) where
+  -- a type with a fault is read as none
+  type_refuted : (n : ExtensionName) (t : TypeFault) (k : Kind) (m : Metadata) → HasName (column_of f) n → HasTypeFault n (known f.tree) t → ReadsAs f k m → ⊥
+  unfolding ReadsAs
+  type_refuted n t k m named h reads = let same : name_text n ≡ name_of k = cc (named, reads.0.0) in type_apart no_fault n (known f.tree) k t (same, reads.0.1) h
+
+  -- a metadata text with a fault is read as none
+  text_refuted : (fault : MetadataFault) (k : Kind) (m : Metadata) → HasMetadataFault (extension_metadata f) fault → ReadsAs f k m → ⊥
+  unfolding ReadsAs
+  text_refuted fault k m h reads = text_apart (extension_metadata f) fault (values_in m) h (denotes (extension_metadata f) m reads.1)
+
   read_named : (k : Kind) (m : Metadata) → ReadsAs f k m → HasGeoArrowName f
   unfolding ReadsAs
   read_named k m reads = (extension_of k, reads.0.0)
 
-  read_text : (k : Kind) (m : Metadata) → ReadsAs f k m → TextStandsFor (extension_metadata f) m
+  read_text : (k : Kind) (m : Metadata) → ReadsAs f k m → DenotesMetadata (extension_metadata f) m
   unfolding ReadsAs
   read_text k m reads = reads.1
 
@@ -103,22 +90,23 @@ module _ (no_fault : (n : ExtensionName) (t : Tree) (p : Path) (fault : LayoutFa
 
   -- an invalid column under one of GeoArrow's names
   reasons_refute : (r : Reasons) (k : Kind) (m : Metadata) → IsInvalidFor (column_of f) r → ReadsAs f k m → ⊥
-  reasons_refute UnknownExtension k m (s, (named, others), reserved) reads = other_refuted s named others (read_named k m reads)
+  reasons_refute UnknownExtension k m (s, (named, others), reserved) reads = other_refuted f s named others (read_named k m reads)
   reasons_refute (DataType t) k m h reads = type_refuted h.0 t k m h.1 h.2 reads
-  reasons_refute (OfMetadata x) k m h reads = text_refuted (extension_metadata f) x m h.3 (read_text k m reads)
+  reasons_refute (OfMetadata x) k m h reads = text_refuted x k m h.3 reads
   reasons_refute (DataTypeAndMetadata t x) k m h reads = type_refuted h.0 t k m h.1 h.2 reads
 
   module _ (infer : Bool) where
     pub agrees : (one : (j k : Kind) (m n : Metadata) → ReadsAs f j m → ReadsAs f k n → (j ≡ k) × (m ≡ n)) (r : Finding) → AgreesWithType infer r f
     agrees one (Geometry g) is t reads =
-        let v = values_of g.metadata in
-        let text = whole_where_read (extension_metadata f) v (meta_of t) is.3 (read_text (kind_of t) (meta_of t) reads) in
-        let same = one g.kind (kind_of t) (metadata_with v) (meta_of t) (reads_whole g.kind v (metadata_with v) is text refl) reads in
-        (same.0, ap values_in same.1)
+        let m = meta_of t in
+        let text = read_text (kind_of t) m reads in
+        let values = one_values (extension_metadata f) (values_of g.metadata) (values_in m) is.3 (denotes (extension_metadata f) m text) in
+        let whole = ap (λ v. some_has_float v.crs) values ∙ is_whole (extension_metadata f) m text in
+        ((one g.kind (kind_of t) m m (reads_whole g.kind (values_of g.metadata) m is whole (sym values)) reads).0, values)
     agrees one (Invalid r) is t reads = absurd (reasons_refute r (kind_of t) (meta_of t) is reads)
-    agrees one Extension (s, (named, others), free) t reads = absurd (other_refuted s named others (read_named (kind_of t) (meta_of t) reads))
-    agrees one (Inferred g) is t reads = absurd (unnamed_refuted is.1.0 (read_named (kind_of t) (meta_of t) reads))
-    agrees one Plain is t reads = absurd (unnamed_refuted is.0 (read_named (kind_of t) (meta_of t) reads))
+    agrees one Extension (s, (named, others), free) t reads = absurd (other_refuted f s named others (read_named (kind_of t) (meta_of t) reads))
+    agrees one (Inferred g) is t reads = absurd (unnamed_refuted f is.1.0 (read_named (kind_of t) (meta_of t) reads))
+    agrees one Plain is t reads = absurd (unnamed_refuted f is.0 (read_named (kind_of t) (meta_of t) reads))
 
     pub whole_read : (r : Finding) → IsReadWhereWhole infer r f
     whole_read (Geometry g) = λ is whole m same. reads_whole g.kind (values_of g.metadata) m is whole same
@@ -126,10 +114,35 @@ module _ (no_fault : (n : ExtensionName) (t : Tree) (p : Path) (fault : LayoutFa
 
     pub refuses : (r : Finding) → RefusesWithReading infer r f
     refuses (Geometry g) = λ is. (is.0, is.1)
-    refuses (Invalid UnknownExtension) = λ is. other_refuted is.0 is.1.0 is.1.1
+    refuses (Invalid UnknownExtension) = λ is. other_refuted f is.0 is.1.0 is.1.1
     refuses (Invalid (DataType t)) = λ is. ((is.0, is.1), λ k m. reasons_refute (DataType t) k m is)
     refuses (Invalid (OfMetadata x)) = λ is. ((is.0, is.1), λ k m. reasons_refute (OfMetadata x) k m is)
     refuses (Invalid (DataTypeAndMetadata t x)) = λ is. ((is.0, is.1), λ k m. reasons_refute (DataTypeAndMetadata t x) k m is)
-    refuses Extension = λ is. other_refuted is.0 is.1.0 is.1.1
-    refuses (Inferred g) = λ is. unnamed_refuted is.1.0
-    refuses Plain = λ is. unnamed_refuted is.0
+    refuses Extension = λ is. other_refuted f is.0 is.1.0 is.1.1
+    refuses (Inferred g) = λ is. unnamed_refuted f is.1.0
+    refuses Plain = λ is. unnamed_refuted f is.0
+
+-- ---- what is inferred
+
+module _ (f : FieldTree) where
+  infers_whole : (k : Kind) (v : Values) (m : Metadata) → IsTakenFor (column_of f) k v → some_has_float v.crs ≡ false → values_in m ≡ v → InfersAs f k m
+  unfolding InfersAs
+  infers_whole k v m (none, inferred, text) whole same = (unnamed_refuted f none, stands (extension_metadata f) v m text whole same, inferred)
+
+  takes : (k : Kind) (m : Metadata) → extension_name f ≡ None → InfersAs f k m → IsTakenFor (column_of f) k (values_in m)
+  unfolding InfersAs
+  takes k m none (unnamed, text, inferred) = (none, inferred, denotes (extension_metadata f) m text)
+
+  -- with inference, the finding of a field without an extension name is what is inferred for it
+  pub agrees_with_inference : ((j k : Kind) → InferredAs f.tree j → InferredAs f.tree k → j ≡ k) → (r : Finding) → AgreesWithInference r f
+  agrees_with_inference one (Geometry g) is none t infers = absurd (unnamed_refuted f none (is.0, is.1))
+  agrees_with_inference one (Invalid r) is none t infers = absurd (name_there (column_of f) r is none)
+  agrees_with_inference one Extension is none t infers = absurd (cc (is.1.0, none))
+  agrees_with_inference one (Inferred g) is none t infers =
+      let taken = takes (kind_of t) (meta_of t) none infers in
+      (one g.kind (kind_of t) is.1.1 taken.1, one_values (extension_metadata f) (values_of g.metadata) (values_in (meta_of t)) is.1.2 taken.2)
+  agrees_with_inference one Plain is none t infers = absurd (is.1 refl (kind_of t) (values_in (meta_of t)) (takes (kind_of t) (meta_of t) none infers))
+
+  pub whole_inferred : (infer : Bool) (r : Finding) → IsInferredWhereWhole infer r f
+  whole_inferred infer (Inferred g) = λ is whole m same. infers_whole g.kind (values_of g.metadata) m is.1 whole same
+  whole_inferred infer r = tt

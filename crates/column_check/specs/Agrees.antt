@@ -1,6 +1,7 @@
--- How what is said of a column goes together with what its field is read as.
-use Rattle.std.specs.Prelude.{◌≡◌, Bool, false}
+-- How what is said of a column goes together with what its field is read as, or taken for.
+use Rattle.std.specs.Prelude.{◌≡◌, Bool, true, false, None}
 use Rattle.arrow_values.specs.Tree.{FieldTree}
+use Rattle.arrow_values.specs.Texts.{extension_name}
 use Rattle.arrow_columns.specs.Column.{column_of}
 use Rattle.geoarrow_layout.specs.declared.encodings.Kind.{Kind}
 use Rattle.geoarrow_meta.specs.declared.metadata.Metadata.{Metadata}
@@ -9,10 +10,11 @@ use Rattle.geoarrow_native.specs.Column.{ReadsAs}
 use Rattle.geoarrow_schema.specs.declared.types.GeoArrowType.{GeoArrowType}
 use Rattle.geoarrow_schema.specs.Types.{kind_of, meta_of}
 use Rattle.geoarrow_schema.specs.Reads.{HasGeoArrowName, Reads, ReadsAsNone}
+use Rattle.geoarrow_schema.specs.Infers.{InfersAs, Infers}
 use Rattle.column_check.specs.Metadata.{Values, values_of}
 use Rattle.column_check.specs.Finding.{IsFinding}
 use Rattle.column_check.specs.declared.finding.Finding.{Finding as ColumnFinding}
-use Rattle.column_check.specs.declared.finding.Finding.TheVariants.{Geometry, Invalid}
+use Rattle.column_check.specs.declared.finding.Finding.TheVariants.{Geometry, Invalid, Inferred}
 use Rattle.column_check.specs.declared.finding.Reasons.TheVariants.{UnknownExtension}
 
 -- the values of a metadata
@@ -40,3 +42,18 @@ RefusesWithReading infer (Geometry g) f = IsFinding infer (column_of f) (Geometr
 RefusesWithReading infer (Invalid UnknownExtension) f = IsFinding infer (column_of f) (Invalid UnknownExtension) → ¬ HasGeoArrowName f
 RefusesWithReading infer (Invalid r) f = IsFinding infer (column_of f) (Invalid r) → HasGeoArrowName f × ReadsAsNone f
 RefusesWithReading infer r f = IsFinding infer (column_of f) r → ¬ HasGeoArrowName f
+
+-- the finding is that this kind and these values are inferred
+abbrev pub SaysInferred : ColumnFinding → Kind → Values → Type 0
+SaysInferred (Inferred g) k v = (g.kind ≡ k) × (values_of g.metadata ≡ v)
+SaysInferred r k v = ⊥
+
+-- where a type is inferred for a field without an extension name, the finding, with inference, is that type
+abbrev pub AgreesWithInference : ColumnFinding → FieldTree → Type 0
+AgreesWithInference r f = IsFinding true (column_of f) r → extension_name f ≡ None → (g : GeoArrowType) → Infers f g → SaysInferred r (kind_of g) (values_in (meta_of g))
+
+-- where the finding is inferred with whole numbers in the CRS, that kind and each metadata of these values are inferred for the field
+abbrev pub IsInferredWhereWhole : Bool → ColumnFinding → FieldTree → Type 0
+IsInferredWhereWhole infer (Inferred g) f = IsFinding infer (column_of f) (Inferred g) → some_has_float (values_of g.metadata).crs ≡ false
+    → (m : Metadata) → values_in m ≡ values_of g.metadata → InfersAs f g.kind m
+IsInferredWhereWhole infer r f = Unit {0}

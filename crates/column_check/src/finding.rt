@@ -1,4 +1,6 @@
 //! What is said of a column.
+ghost use Rattle.std.specs.Prelude.{◌≡◌, option_map};
+ghost use Rattle.column_check.specs.States.{is_invalid, is_geometry, geometry_in};
 
 use crate::data_type::TypeFault;
 use crate::metadata::{ColumnMetadata, MetadataFault};
@@ -20,6 +22,32 @@ pub enum Finding {
     Plain,
 }
 
+impl Finding {
+    /// Whether the column is invalid.
+    pub fn is_invalid(&self) -> bool
+        ensures { result ≡ is_invalid self.now }
+    {
+        matches!(self, Finding::Invalid(_))
+    }
+
+    /// Whether the column has geometries by its extension name.
+    pub fn is_geometry(&self) -> bool
+        ensures { result ≡ is_geometry self.now }
+    {
+        matches!(self, Finding::Geometry(_))
+    }
+
+    /// The geometries that the column holds or is taken for, if any. Allocates nothing.
+    pub fn geometry(&self) -> Option<&Geometry>
+        ensures { option_map (λ g. g.now) result ≡ geometry_in self.now }
+    {
+        match self {
+            Finding::Geometry(geometry) | Finding::Inferred(geometry) => Some(geometry),
+            Finding::Invalid(_) | Finding::Extension | Finding::Plain => None,
+        }
+    }
+}
+
 /// A column of geometries.
 #[derive(Debug, Drop)]
 pub struct Geometry {
@@ -38,6 +66,6 @@ pub enum Reasons {
     DataType(TypeFault),
     /// The metadata text denotes no values of the format.
     Metadata(MetadataFault),
-    /// Both.
+    /// The type is of no kind under the extension name, and the metadata text denotes no values of the format.
     DataTypeAndMetadata(TypeFault, MetadataFault),
 }

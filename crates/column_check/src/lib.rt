@@ -2,15 +2,21 @@
 //!
 //! `geoarrow_columns` reports what `from_extension_field` answers; this report keeps every CRS, says what is wrong and where, and
 //! has no error but out of memory. The contract of [`check_column`] is the relation `IsFinding` between the column and what is said of it.
+//! [`warnings`] says what is doubtful of a column that is not invalid for it.
 #![tactic(auto)]
 
 mod check;
+mod coordinates;
 mod data_type;
 mod finding;
 pub mod laws;
 mod metadata;
+mod nested;
+mod warning;
+mod way;
 
 pub use check::{check_column, check_columns};
 pub use data_type::{TypeFault, kind_under, names_along};
 pub use finding::{Finding, Geometry, Reasons};
 pub use metadata::{ColumnMetadata, MetadataFault, read_metadata};
+pub use warning::{Warning, WarningCode, warnings};

@@ -1,4 +1,4 @@
-mod Joined
-mod Members
+mod Adding
 mod NoFeed
 mod OneLine
+mod Places

@@ -17,10 +17,13 @@ use Rattle.column_check.specs.declared.finding.Reasons.{Reasons}
 use Rattle.column_check.specs.declared.finding.Reasons.TheVariants.{UnknownExtension, DataType, Metadata, DataTypeAndMetadata}
 use Rattle.column_check.specs.declared.finding.Finding.{Finding as ColumnFinding}
 use Rattle.column_check.specs.declared.finding.Finding.TheVariants.{Geometry, Invalid, Extension, Inferred, Plain}
+use Rattle.column_check.specs.States.{geometry_in}
+use Rattle.column_check.specs.declared.warning.Warning.{Warning}
 use Rattle.geoarrow_layout.specs.Faults.{fault_text}
 use Rattle.column_reports.specs.Parts.{enclosed, array_text, object_text, member_text, member_if, on_one_line}
 use Rattle.column_reports.specs.Reasons.{reason_text, fault_code, type_reason, metadata_reasons, crs_type_reason, edges_reason, reasons_of}
-use Rattle.column_reports.specs.Report.{string_if, crs_of, crs_type_of, edges_of, type_word, reasons_in, state_word, geometry_in, line_text}
+use Rattle.column_reports.specs.Report.{string_if, crs_of, crs_type_of, edges_of, type_word, reasons_in, state_word, line_text}
+use Rattle.column_reports.specs.Warnings.{code_text, warning_message, warning_text, warnings_in}
 
 abbrev IsOther : ℕ → Type 0
 IsOther b = b ≢ 10
@@ -163,13 +166,21 @@ found_lines key Extension = none
 found_lines key (Inferred g) = none
 found_lines key Plain = none
 
+warning_lines : (ws : List Warning) → Lines (map warning_text ws)
+warning_lines [] = none
+warning_lines (w ∷ ws) = more (reason_line (code_text w.code) (warning_message w.code) (map string_bytes w.path.items)) (warning_lines ws)
+
+warned_lines : (key : Text) (ws : List Warning) → Lines (member_if key (warnings_in ws))
+warned_lines key [] = none
+warned_lines key (w ∷ ws) = more (member_line key (array_line (warning_lines (w ∷ ws)))) none
+
 -- ---- the report
 
-pub report_line : (file : Option Text) (index : ℕ) (c : ColumnTree) (crs : Option Text) (f : ColumnFinding) → index < 2 ^ 64 → All (λ b. b ≢ 10) (line_text file index c crs f)
-report_line file index c crs f small =
+pub report_line : (file : Option Text) (index : ℕ) (c : ColumnTree) (crs : Option Text) (f : ColumnFinding) (ws : List Warning) → index < 2 ^ 64 → All (λ b. b ≢ 10) (line_text file index c crs f ws)
+report_line file index c crs f ws small =
     let g = geometry_in f in
-    let line : Line (line_text file index c crs f) =
-    object_line (also (also (also (also (also (also (also (also (also (string_lines (codes "column") (Some c.name)) (crs_lines (codes "crs") (crs_of g crs))) (string_lines (codes "crs_type") (crs_type_of g)))
+    let line : Line (line_text file index c crs f ws) =
+    object_line (also (also (also (also (also (also (also (also (also (also (string_lines (codes "column") (Some c.name)) (crs_lines (codes "crs") (crs_of g crs))) (string_lines (codes "crs_type") (crs_type_of g)))
     (string_lines (codes "edges") (edges_of g))) (string_lines (codes "extension") (name_on c))) (string_lines (codes "file") file)) (more (member_line (codes "index") (digits_line index small)) none))
-    (found_lines (codes "reasons") f)) (string_lines (codes "state") (Some (state_word f)))) (string_lines (codes "type") (Some (type_word c g)))) in
+    (found_lines (codes "reasons") f)) (string_lines (codes "state") (Some (state_word f)))) (string_lines (codes "type") (Some (type_word c g)))) (warned_lines (codes "warnings") ws)) in
     line.all

@@ -1,5 +1,5 @@
 -- A text on one line, part by part.
-use Rattle.std.proofs.Common.{◌≡◌, ◌≢◌, ℕ, suc, ◌<◌, [], ◌∷◌, ◌++◌, length, get_or, refl, sym, ap, ◌∙◌, arith, append_assoc, ne_eqb}
+use Rattle.std.proofs.Common.{◌≡◌, ◌≢◌, ℕ, suc, ◌<◌, [], ◌∷◌, ◌++◌, length, get_or, Result, Ok, Err, is_ok, if◌then◌else◌, OnOk, refl, sym, ap, ◌∙◌, arith, append_assoc, ne_eqb}
 use Rattle.arrow_values.specs.Tree.{Text}
 use Rattle.column_reports.specs.Parts.{on_one_line}
 
@@ -23,5 +23,7 @@ goes_on line part more one two cut h way =
     ∙ ap (λ l. line ++ l) (sym (ap on_one_line cut ∙ turns part more h)) ∙ way
 
 -- what is left is written, where no line feed is in it
-pub ends : (line rest : Text) {next all : Text} → next ≡ line ++ rest → Lacks rest → line ++ on_one_line rest ≡ all → next ≡ all
-ends line rest last h way = last ∙ ap (λ l. line ++ l) (sym (stays rest h)) ∙ way
+pub ends : {E : Type 0} (r : Result (Unit {0}) E) (line rest : Text) {next all : Text} → next ≡ (if is_ok r then line ++ rest else line) → Lacks rest → line ++ on_one_line rest ≡ all
+    → OnOk r (next ≡ all)
+ends (Ok u) line rest last h way = last ∙ ap (λ l. line ++ l) (sym (stays rest h)) ∙ way
+ends (Err e) line rest last h way = tt

@@ -12,8 +12,11 @@ use Rattle.geoarrow_fields.specs.Answer.{kind_word, coord_type_word, dimension_w
 use Rattle.column_check.specs.declared.finding.Geometry.{Geometry as GeometryColumn}
 use Rattle.column_check.specs.declared.finding.Finding.{Finding as ColumnFinding}
 use Rattle.column_check.specs.declared.finding.Finding.TheVariants.{Geometry, Invalid, Extension, Inferred, Plain}
+use Rattle.column_check.specs.States.{geometry_in}
+use Rattle.column_check.specs.declared.warning.Warning.{Warning}
 use Rattle.column_reports.specs.Parts.{array_text, object_text, member_if, on_one_line}
 use Rattle.column_reports.specs.Reasons.{reasons_of}
+use Rattle.column_reports.specs.Warnings.{warnings_in}
 
 abbrev pub state_word : ColumnFinding → Text
 state_word (Geometry g) = codes "geometry"
@@ -21,12 +24,6 @@ state_word (Invalid r) = codes "invalid"
 state_word Extension = codes "extension"
 state_word (Inferred g) = codes "inferred"
 state_word Plain = codes "plain"
-
--- the geometries that a column holds or is taken for
-abbrev pub geometry_in : ColumnFinding → Option GeometryColumn
-geometry_in (Geometry g) = Some g
-geometry_in (Inferred g) = Some g
-geometry_in f = None
 
 -- kind, coordinate type and dimension
 abbrev pub kind_text : Kind → Text
@@ -65,8 +62,8 @@ abbrev pub string_if : Text → Option Text → List Text
 string_if key text = member_if key (option_map quoted text)
 
 -- the members, in the order of their keys
-abbrev pub members_of : Option Text → ℕ → ColumnTree → Option Text → ColumnFinding → List Text
-members_of file index c crs f =
+abbrev pub members_of : Option Text → ℕ → ColumnTree → Option Text → ColumnFinding → List Warning → List Text
+members_of file index c crs f ws =
     string_if (codes "column") (Some c.name)
     ++ member_if (codes "crs") (option_map on_one_line (crs_of (geometry_in f) crs))
     ++ string_if (codes "crs_type") (crs_type_of (geometry_in f))
@@ -77,7 +74,8 @@ members_of file index c crs f =
     ++ member_if (codes "reasons") (reasons_in f)
     ++ string_if (codes "state") (Some (state_word f))
     ++ string_if (codes "type") (Some (type_word c (geometry_in f)))
+    ++ member_if (codes "warnings") (warnings_in ws)
 
--- the report: the file, where it is named, the place of the column, the column, the text of its CRS, and what is said of it
-abbrev pub line_text : Option Text → ℕ → ColumnTree → Option Text → ColumnFinding → Text
-line_text file index c crs f = object_text (members_of file index c crs f)
+-- the report: the file, where it is named, the place of the column, the column, the text of its CRS, what is said of it, and its warnings
+abbrev pub line_text : Option Text → ℕ → ColumnTree → Option Text → ColumnFinding → List Warning → Text
+line_text file index c crs f ws = object_text (members_of file index c crs f ws)

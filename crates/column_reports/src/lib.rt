@@ -2,13 +2,15 @@
 //! in words for people.
 #![tactic(auto)]
 
+mod crs;
 pub mod laws;
 mod line;
-mod parts;
 mod plain;
+mod put;
 mod reasons;
+mod warnings;
 mod words;
 
 pub use line::json_line;
-pub use plain::reason_words;
-pub use words::{geometry_in, type_word};
+pub use plain::{reason_words, warning_words};
+pub use words::type_word;

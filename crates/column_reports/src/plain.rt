@@ -1,12 +1,14 @@
-//! The reasons of a column that is invalid, in words.
+//! The reasons of a column that is invalid and the warnings of any, in words.
 ghost use Rattle.std.specs.Prelude.{◌≡◌, ◌∷◌, [], ◌++◌, IfOk, OnOk, map, string_bytes};
 ghost use Rattle.column_reports.specs.Reasons.{place_words, type_words, metadata_words, words_of};
+ghost use Rattle.column_reports.specs.Warnings.{warning_words};
 
 use crate::reasons::{
     CRS_TYPE_MESSAGE, EDGES_MESSAGE, EXTENSION_MESSAGE, NOT_JSON_MESSAGE, NOT_OBJECT_MESSAGE,
     type_message,
 };
-use column_check::{MetadataFault, Reasons, TypeFault};
+use crate::warnings::warning_message;
+use column_check::{MetadataFault, Reasons, TypeFault, Warning};
 use std::alloc::{AllocError, Global};
 
 /// All reasons of an invalid column in words, one text for each, in the order in which the report has them (`docs/FORMAT.md`, 2.5):
@@ -33,6 +35,38 @@ pub fn reason_words(alloc: Global, reasons: &Reasons) -> Result<Vec<String>, All
     Ok(words)
 }
 
+/// The warnings of a column in words, one text for each, in their order (`docs/FORMAT.md`, 2.5): its message and, where a child field is meant,
+/// ` at ` and the names of the fields on the way, with dots between them. Errs only when out of memory.
+///
+/// ```rust
+/// let path = vec![in alloc; String::from_str(alloc, "rings")?, String::from_str(alloc, "vertices")?]?;
+/// let words = warning_words(alloc, &[Warning { code: WarningCode::AxisNames, path }])?;
+/// let text = "fields are not named after the axes, in their order at rings.vertices";
+/// assert_eq!(rt; words[0].as_str(), text);
+/// ```
+pub fn warning_words(alloc: Global, warnings: &[Warning]) -> Result<Vec<String>, AllocError>
+    ensures { IfOk result (λ words. map string_bytes words.items ≡ map warning_words warnings.now) }
+{
+    let mut words = Vec::new(alloc);
+    for warning in warnings {
+        words.push(words_at(
+            alloc,
+            warning_message(warning.code),
+            warning.path.as_slice(),
+        )?)?;
+    }
+    Ok(words)
+}
+
+/// A message, and where in a column.
+fn words_at(alloc: Global, message: &str, path: &[String]) -> Result<String, AllocError>
+    ensures { IfOk result (λ text. string_bytes text ≡ message.now ++ place_words (map string_bytes path.now)) }
+{
+    let mut text = String::from_str(alloc, message)?;
+    push_place(&mut text, path)?;
+    Ok(text)
+}
+
 /// Adds a message.
 fn add(alloc: Global, words: &mut Vec<String>, message: &str) -> Result<(), AllocError>
     ensures { OnOk result (map string_bytes words.new.items ≡ map string_bytes words.old.items ++ message.now ∷ []) }
@@ -45,25 +79,23 @@ fn add(alloc: Global, words: &mut Vec<String>, message: &str) -> Result<(), Allo
 fn type_words(alloc: Global, fault: &TypeFault) -> Result<String, AllocError>
     ensures { IfOk result (λ text. string_bytes text ≡ type_words fault.now) }
 {
-    let mut text = String::from_str(alloc, type_message(fault))?;
-    if let TypeFault::Layout(_, names) = fault {
-        let place = place_words(alloc, names.as_slice())?;
-        text.push_str(place.as_str())?;
+    match fault {
+        TypeFault::Layout(_, names) => words_at(alloc, type_message(fault), names.as_slice()),
+        _ => String::from_str(alloc, type_message(fault)),
     }
-    Ok(text)
 }
 
-/// Where in a column.
-fn place_words(alloc: Global, names: &[String]) -> Result<String, AllocError>
-    ensures { IfOk result (λ text. string_bytes text ≡ place_words (map string_bytes names.now)) }
+/// Adds where in a column.
+fn push_place(text: &mut String, names: &[String]) -> Result<(), AllocError>
+    ensures { OnOk result (string_bytes text.new ≡ string_bytes text.old ++ place_words (map string_bytes names.now)) }
 {
-    if names.is_empty() {
-        return Ok(String::new(alloc));
+    let mut before = " at ";
+    for name in names {
+        text.push_str(before)?;
+        text.push_str(name.as_str())?;
+        before = ".";
     }
-    let joined = names.join(alloc, ".")?;
-    let mut text = String::from_str(alloc, " at ")?;
-    text.push_str(joined.as_str())?;
-    Ok(text)
+    Ok(())
 }
 
 /// Adds the reasons of a metadata text.

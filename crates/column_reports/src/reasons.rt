@@ -1,13 +1,16 @@
 //! The reasons of a column that is invalid.
-ghost use Rattle.std.specs.Prelude.{◌≡◌, ◌∷◌, [], ◌++◌, IfOk, OnOk, map, option_map, string_bytes};
+ghost use Rattle.std.specs.Prelude.{◌≡◌, ◌∷◌, [], OnOk, codes, map, string_bytes};
 ghost use Rattle.geoarrow_layout.specs.Faults.{fault_text};
+ghost use Rattle.column_reports.specs.Parts.{member_if};
 ghost use Rattle.column_reports.specs.Reasons.{reason_text, own_reason, fault_code, type_message, type_reason, metadata_reasons, reasons_of};
 ghost use Rattle.column_reports.specs.Report.{reasons_in};
+ghost use Rattle.column_reports.specs.Appended.{AddsParts};
 
-use crate::parts::{add_text, add_value, array_of_texts, enclosed};
+use crate::put::{put_text, put_texts};
 use column_check::{Finding, MetadataFault, Reasons, TypeFault};
 use geoarrow_layout::LayoutFault;
-use std::alloc::{AllocError, Global};
+use json::Writer;
+use std::alloc::AllocError;
 
 pub(crate) const CRS_TYPE_MESSAGE: &str = "unknown crs_type";
 
@@ -70,118 +73,83 @@ pub(crate) fn type_message(fault: &TypeFault) -> &'static str
     }
 }
 
-/// A reason.
-fn reason_text(
-    alloc: Global,
+/// Writes a reason.
+pub(crate) fn put_reason(
+    out: &mut Writer,
     code: &str,
     message: &str,
     path: &[String],
-) -> Result<String, AllocError>
-    ensures { IfOk result (λ json. string_bytes json ≡ reason_text code.now message.now (map string_bytes path.now)) }
+) -> Result<(), AllocError>
+    ensures { OnOk result (AddsParts (reason_text code.now message.now (map string_bytes path.now) ∷ []) out.old out.new) }
 {
-    let path = array_of_texts(alloc, path)?;
-    let mut members = Vec::new(alloc);
-    add_text(alloc, &mut members, "code", Some(code))?;
-    add_text(alloc, &mut members, "message", Some(message))?;
-    add_value(alloc, &mut members, "path", Some(path.as_str()))?;
-    enclosed(alloc, "{", members.as_slice(), "}")
+    out.begin_object()?;
+    put_text(out, "code", code)?;
+    put_text(out, "message", message)?;
+    put_texts(out, "path", path)?;
+    out.end_object()
 }
 
-/// A reason of the column itself.
-fn own_reason(alloc: Global, code: &str, message: &str) -> Result<String, AllocError>
-    ensures { IfOk result (λ json. string_bytes json ≡ own_reason code.now message.now) }
+/// Writes a reason of the column itself.
+fn put_own(out: &mut Writer, code: &str, message: &str) -> Result<(), AllocError>
+    ensures { OnOk result (AddsParts (own_reason code.now message.now ∷ []) out.old out.new) }
 {
-    reason_text(alloc, code, message, &[])
+    put_reason(out, code, message, &[])
 }
 
-/// The reason of a type.
-fn type_reason(alloc: Global, fault: &TypeFault) -> Result<String, AllocError>
-    ensures { IfOk result (λ json. string_bytes json ≡ type_reason fault.now) }
+/// Writes the reason of a type.
+fn put_type(out: &mut Writer, fault: &TypeFault) -> Result<(), AllocError>
+    ensures { OnOk result (AddsParts (type_reason fault.now ∷ []) out.old out.new) }
 {
+    let message = type_message(fault);
     match fault {
-        TypeFault::UnsupportedType => { own_reason(alloc, "UnsupportedType", type_message(fault)) }
-        TypeFault::WrongStorage => own_reason(alloc, "WrongStorage", type_message(fault)),
-        TypeFault::Layout(of_layout, names) => reason_text(
-            alloc,
-            fault_code(*of_layout),
-            type_message(fault),
-            names.as_slice(),
-        ),
+        TypeFault::UnsupportedType => put_own(out, "UnsupportedType", message),
+        TypeFault::WrongStorage => put_own(out, "WrongStorage", message),
+        TypeFault::Layout(of_layout, names) => {
+            put_reason(out, fault_code(*of_layout), message, names.as_slice())
+        }
     }
 }
 
-/// Adds a reason of the column itself.
-fn add_own(
-    alloc: Global,
-    reasons: &mut Vec<String>,
-    code: &str,
-    message: &str,
-) -> Result<(), AllocError>
-    ensures { OnOk result (map string_bytes reasons.new.items ≡ map string_bytes reasons.old.items ++ own_reason code.now message.now ∷ []) }
-{
-    reasons.push(own_reason(alloc, code, message)?)?;
-    Ok(())
-}
-
-/// Adds the reason of a type.
-fn add_type(alloc: Global, reasons: &mut Vec<String>, fault: &TypeFault) -> Result<(), AllocError>
-    ensures { OnOk result (map string_bytes reasons.new.items ≡ map string_bytes reasons.old.items ++ type_reason fault.now ∷ []) }
-{
-    reasons.push(type_reason(alloc, fault)?)?;
-    Ok(())
-}
-
-/// Adds the reasons of a metadata text.
-fn add_metadata(
-    alloc: Global,
-    reasons: &mut Vec<String>,
-    fault: MetadataFault,
-) -> Result<(), AllocError>
-    ensures { OnOk result (map string_bytes reasons.new.items ≡ map string_bytes reasons.old.items ++ metadata_reasons fault) }
+/// Writes the reasons of a metadata text.
+fn put_metadata(out: &mut Writer, fault: MetadataFault) -> Result<(), AllocError>
+    ensures { OnOk result (AddsParts (metadata_reasons fault) out.old out.new) }
 {
     match fault {
-        MetadataFault::NotJson => { add_own(alloc, reasons, "MetadataNotJson", NOT_JSON_MESSAGE) }
-        MetadataFault::NotObject => add_own(
-            alloc,
-            reasons,
-            "MetadataNotObject",
-            NOT_OBJECT_MESSAGE,
-        ),
-        MetadataFault::UnknownCrsType => {
-            add_own(alloc, reasons, "UnknownCrsType", CRS_TYPE_MESSAGE)
-        }
-        MetadataFault::UnknownEdges => add_own(alloc, reasons, "UnknownEdges", EDGES_MESSAGE),
+        MetadataFault::NotJson => put_own(out, "MetadataNotJson", NOT_JSON_MESSAGE),
+        MetadataFault::NotObject => put_own(out, "MetadataNotObject", NOT_OBJECT_MESSAGE),
+        MetadataFault::UnknownCrsType => put_own(out, "UnknownCrsType", CRS_TYPE_MESSAGE),
+        MetadataFault::UnknownEdges => put_own(out, "UnknownEdges", EDGES_MESSAGE),
         MetadataFault::UnknownCrsTypeAndEdges => {
-            add_own(alloc, reasons, "UnknownCrsType", CRS_TYPE_MESSAGE)?;
-            add_own(alloc, reasons, "UnknownEdges", EDGES_MESSAGE)
+            put_own(out, "UnknownCrsType", CRS_TYPE_MESSAGE)?;
+            put_own(out, "UnknownEdges", EDGES_MESSAGE)
         }
     }
 }
 
-/// Adds all reasons of a column.
-fn add_all(alloc: Global, reasons: &mut Vec<String>, all: &Reasons) -> Result<(), AllocError>
-    ensures { OnOk result (map string_bytes reasons.new.items ≡ map string_bytes reasons.old.items ++ reasons_of all.now) }
+/// Writes all reasons of a column.
+fn put_all(out: &mut Writer, reasons: &Reasons) -> Result<(), AllocError>
+    ensures { OnOk result (AddsParts (reasons_of reasons.now) out.old out.new) }
 {
-    match all {
-        Reasons::UnknownExtension => add_own(alloc, reasons, "UnknownExtension", EXTENSION_MESSAGE),
-        Reasons::DataType(fault) => add_type(alloc, reasons, fault),
-        Reasons::Metadata(fault) => add_metadata(alloc, reasons, *fault),
+    match reasons {
+        Reasons::UnknownExtension => put_own(out, "UnknownExtension", EXTENSION_MESSAGE),
+        Reasons::DataType(fault) => put_type(out, fault),
+        Reasons::Metadata(fault) => put_metadata(out, *fault),
         Reasons::DataTypeAndMetadata(of_type, of_text) => {
-            add_type(alloc, reasons, of_type)?;
-            add_metadata(alloc, reasons, *of_text)
+            put_type(out, of_type)?;
+            put_metadata(out, *of_text)
         }
     }
 }
 
-/// The reasons of an invalid column, as an array.
-pub(crate) fn reasons_in(alloc: Global, finding: &Finding) -> Result<Option<String>, AllocError>
-    ensures { IfOk result (λ json. option_map string_bytes json ≡ reasons_in finding.now) }
+/// Writes the member of the reasons, if the column is invalid.
+pub(crate) fn put_reasons(out: &mut Writer, finding: &Finding) -> Result<(), AllocError>
+    ensures { OnOk result (AddsParts (member_if (codes "reasons") (reasons_in finding.now)) out.old out.new) }
 {
-    let Finding::Invalid(all) = finding else {
-        return Ok(None);
+    let Finding::Invalid(reasons) = finding else {
+        return Ok(());
     };
-    let mut reasons = Vec::new(alloc);
-    add_all(alloc, &mut reasons, all)?;
-    let json = enclosed(alloc, "[", reasons.as_slice(), "]")?;
-    Ok(Some(json))
+    out.key("reasons")?;
+    out.begin_array()?;
+    put_all(out, reasons)?;
+    out.end_array()
 }

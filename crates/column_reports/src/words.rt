@@ -2,7 +2,7 @@
 ghost use Rattle.std.specs.Prelude.{◌≡◌, IfOk, option_map, string_bytes};
 ghost use Rattle.arrow_values.specs.Texts.{text_of};
 ghost use Rattle.arrow_columns.specs.Column.{column_tree};
-ghost use Rattle.column_reports.specs.Report.{state_word, geometry_in, kind_text, edges_word, type_word, crs_of, crs_type_of, edges_of};
+ghost use Rattle.column_reports.specs.Report.{state_word, kind_text, edges_word, type_word, crs_of, crs_type_of, edges_of};
 
 use arrow_columns::Column;
 use column_check::{Finding, Geometry};
@@ -21,16 +21,6 @@ pub(crate) fn state_word(finding: &Finding) -> &'static str
         Finding::Extension => "extension",
         Finding::Inferred(_) => "inferred",
         Finding::Plain => "plain",
-    }
-}
-
-/// The geometries that a column holds or is taken for, if any. Allocates nothing.
-pub fn geometry_in(finding: &Finding) -> Option<&Geometry>
-    ensures { option_map (λ g. g.now) result ≡ geometry_in finding.now }
-{
-    match finding {
-        Finding::Geometry(geometry) | Finding::Inferred(geometry) => Some(geometry),
-        Finding::Invalid(_) | Finding::Extension | Finding::Plain => None,
     }
 }
 
@@ -56,7 +46,7 @@ fn edges_word(edges: Option<Edges>) -> &'static str
     }
 }
 
-/// The type of a column, as the report has it (`docs/FORMAT.md`, 2.5): of geometries, which `geometry_in` finds, their kind, coordinate type and
+/// The type of a column, as the report has it (`docs/FORMAT.md`, 2.5): of geometries, which `Finding::geometry` finds, their kind, coordinate type and
 /// dimension; of any other column its type in Arrow's usual notation. Errs only when out of memory.
 pub fn type_word(
     alloc: Global,

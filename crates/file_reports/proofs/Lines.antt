@@ -7,8 +7,9 @@ use Rattle.arrow_values.specs.Tree.{Text}
 use Rattle.arrow_columns.specs.Column.{ColumnTree, column_tree}
 use Rattle.arrow_columns.specs.declared.column.Column.{Column}
 use Rattle.column_check.specs.Finding.{IsFinding}
+use Rattle.column_check.specs.States.{is_invalid, is_geometry}
 use Rattle.column_check.specs.declared.finding.Finding.{Finding}
-use Rattle.file_reports.specs.Report.{line_feed, is_invalid, is_geometry, IsLineOf, AreReported, IsReportOf}
+use Rattle.file_reports.specs.Report.{line_feed, IsLineOf, AreReported, IsReportOf}
 use Rattle.file_reports.specs.declared.report.Report.{Report}
 
 -- whether one of the findings, or one more, passes a test

@@ -1,5 +1,5 @@
 -- The report of a file: a line of JSON for each of its columns.
-use Rattle.std.specs.Prelude.{◌≡◌, ◌⊎◌, ◌+◌, ◌++◌, ℕ, Bool, true, false, List, [], ◌∷◌, map, Option, None, Some, Result, Ok, Err, string_bytes}
+use Rattle.std.specs.Prelude.{◌≡◌, ◌⊎◌, ◌+◌, ◌++◌, ℕ, Bool, List, [], ◌∷◌, map, Option, None, Some, Result, Ok, Err, string_bytes}
 use Rattle.std.specs.List.{list_any}
 use Rattle.std.specs.declared.vec.Vec.{Vec}
 use Rattle.std.specs.declared.alloc.Global.{Global}
@@ -9,7 +9,9 @@ use Rattle.arrow_columns.specs.declared.column.Column.{Column}
 use Rattle.crs_text.specs.Crs.{IsCrsText}
 use Rattle.column_check.specs.Finding.{IsFinding}
 use Rattle.column_check.specs.declared.finding.Finding.{Finding}
-use Rattle.column_check.specs.declared.finding.Finding.TheVariants.{Geometry, Invalid}
+use Rattle.column_check.specs.States.{is_invalid, is_geometry}
+use Rattle.column_check.specs.Warnings.{AreWarnings}
+use Rattle.column_check.specs.declared.warning.Warning.{Warning}
 use Rattle.column_files.specs.Forms.{IsForm}
 use Rattle.column_files.specs.Files.{IsFileRead}
 use Rattle.column_files.specs.declared.form.Form.{Form}
@@ -21,22 +23,14 @@ use Rattle.file_reports.specs.declared.report.Report.{Report as FileReport}
 abbrev pub line_feed : ℕ
 line_feed = 10
 
-abbrev pub is_invalid : Finding → Bool
-is_invalid (Invalid r) = true
-is_invalid f = false
-
-abbrev pub is_geometry : Finding → Bool
-is_geometry (Geometry g) = true
-is_geometry f = false
-
 -- the text of the CRS in a column's metadata, as it is written there
 abbrev pub IsCrsOf : Option Text → Option Text → Type 0
 IsCrsOf None crs = crs ≡ None
 IsCrsOf (Some metadata) crs = IsCrsText metadata crs
 
--- the line of a column: its place, the column itself, the text of its CRS, and what is said of it
+-- the line of a column: its place, the column itself, the text of its CRS, what is said of it, and its warnings
 abbrev pub IsLineOf : Option Text → ℕ → ColumnTree → Finding → Text → Type 0
-IsLineOf file index c f line = (crs : Option Text) × IsCrsOf (metadata_on c) crs × (line ≡ line_text file index c crs f)
+IsLineOf file index c f line = (crs : Option Text) × (ws : List Warning) × IsCrsOf (metadata_on c) crs × AreWarnings c f ws × (line ≡ line_text file index c crs f ws)
 
 -- what is said of each of the columns, from a place on, and the lines of all, each with its line feed
 abbrev pub AreReported : Option Text → Bool → ℕ → List ColumnTree → List Finding → Text → Type 0

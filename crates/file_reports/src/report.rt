@@ -4,11 +4,12 @@ ghost use Rattle.arrow_values.specs.Tree.{Text};
 ghost use Rattle.arrow_values.specs.Texts.{text_of};
 ghost use Rattle.arrow_columns.specs.Column.{column_tree, metadata_on};
 ghost use Rattle.column_check.specs.Finding.{IsFinding};
+ghost use Rattle.column_check.specs.States.{is_invalid, is_geometry};
 ghost use Rattle.column_check.specs.declared.finding.Finding.{Finding};
-ghost use Rattle.file_reports.specs.Report.{is_invalid, is_geometry, line_feed, IsCrsOf, IsLineOf, IsReportOf, Reports};
+ghost use Rattle.file_reports.specs.Report.{line_feed, IsCrsOf, IsLineOf, IsReportOf, Reports};
 
 use arrow_columns::Column;
-use column_check::{Finding, check_column};
+use column_check::{check_column, warnings};
 use column_files::{FileFault, columns_in};
 use column_reports::json_line;
 use crs_text::crs_text;
@@ -25,7 +26,7 @@ pub struct Report {
     pub has_geometry: bool,
 }
 
-/// The report of a file, from its bytes: what each of its columns holds, a line of JSON for each. `file` is the name that the lines
+/// The report of a file, from its bytes: what each of its columns holds and what is doubtful of it, a line of JSON for each. `file` is the name that the lines
 /// give the file, if any. With `infer`, a column without an extension name is taken for what is inferred from its data type. Errs as
 /// `columns_in` of `column_files` does.
 ///
@@ -84,12 +85,21 @@ fn add_column(
         × (report.new.has_geometry ≡ (report.old.has_geometry || is_geometry f))) }
 {
     let finding = check_column(alloc, column, infer)?;
+    let warnings = warnings(alloc, column, &finding)?;
     let crs = written_crs(alloc, column)?;
-    let line = json_line(alloc, file, index, column, crs, &finding)?;
+    let line = json_line(
+        alloc,
+        file,
+        index,
+        column,
+        crs,
+        &finding,
+        warnings.as_slice(),
+    )?;
     report.lines.push_str(line.as_str())?;
     report.lines.push_str("\n")?;
-    report.has_invalid = report.has_invalid | is_invalid(&finding);
-    report.has_geometry = report.has_geometry | is_geometry(&finding);
+    report.has_invalid = report.has_invalid | finding.is_invalid();
+    report.has_geometry = report.has_geometry | finding.is_geometry();
     Ok(())
 }
 
@@ -101,18 +111,4 @@ fn written_crs(alloc: Global, column: &Column) -> Result<Option<&str>, AllocErro
         Some(metadata) => crs_text(alloc, metadata),
         None => Ok(None),
     }
-}
-
-/// Whether a column is invalid.
-fn is_invalid(finding: &Finding) -> bool
-    ensures { result ≡ is_invalid finding.now }
-{
-    matches!(finding, Finding::Invalid(_))
-}
-
-/// Whether a column holds geometries.
-fn is_geometry(finding: &Finding) -> bool
-    ensures { result ≡ is_geometry finding.now }
-{
-    matches!(finding, Finding::Geometry(_))
 }

@@ -1,0 +1,36 @@
+-- When two findings say the same.
+use Rattle.std.specs.Prelude.{◌≡◌, map, string_bytes, ⊤}
+use Rattle.column_check.specs.Metadata.{values_of}
+use Rattle.column_check.specs.declared.data_type.TypeFault.{TypeFault}
+use Rattle.column_check.specs.declared.data_type.TypeFault.TheVariants.{UnsupportedType, WrongStorage, Layout}
+use Rattle.column_check.specs.declared.finding.Reasons.{Reasons}
+use Rattle.column_check.specs.declared.finding.Reasons.TheVariants.{UnknownExtension, DataType, Metadata, DataTypeAndMetadata}
+use Rattle.column_check.specs.declared.finding.Geometry.{Geometry as GeometryColumn}
+use Rattle.column_check.specs.declared.finding.Finding.{Finding as ColumnFinding}
+use Rattle.column_check.specs.declared.finding.Finding.TheVariants.{Geometry, Invalid, Extension, Inferred, Plain}
+
+-- the same kind and the same values
+abbrev pub SameGeometry : GeometryColumn → GeometryColumn → Type 0
+SameGeometry g h = (g.kind ≡ h.kind) × (values_of g.metadata ≡ values_of h.metadata)
+
+-- the same fault, on the way of the same names
+abbrev pub SameTypeFault : TypeFault → TypeFault → Type 0
+SameTypeFault UnsupportedType UnsupportedType = ⊤
+SameTypeFault WrongStorage WrongStorage = ⊤
+SameTypeFault (Layout f names) (Layout g others) = (f ≡ g) × (map string_bytes names.items ≡ map string_bytes others.items)
+SameTypeFault _ _ = ⊥
+
+abbrev pub SameReasons : Reasons → Reasons → Type 0
+SameReasons UnknownExtension UnknownExtension = ⊤
+SameReasons (DataType t) (DataType u) = SameTypeFault t u
+SameReasons (Metadata m) (Metadata n) = m ≡ n
+SameReasons (DataTypeAndMetadata t m) (DataTypeAndMetadata u n) = SameTypeFault t u × (m ≡ n)
+SameReasons _ _ = ⊥
+
+abbrev pub SameFinding : ColumnFinding → ColumnFinding → Type 0
+SameFinding (Geometry g) (Geometry h) = SameGeometry g h
+SameFinding (Invalid r) (Invalid s) = SameReasons r s
+SameFinding Extension Extension = ⊤
+SameFinding (Inferred g) (Inferred h) = SameGeometry g h
+SameFinding Plain Plain = ⊤
+SameFinding _ _ = ⊥

@@ -1,0 +1,138 @@
+//! What is doubtful of a column that is not invalid for it.
+ghost use Rattle.std.specs.Prelude.{◌≡◌, ◌++◌, map, option_map, IfOk, OnOk};
+ghost use Rattle.serde_json.specs.View.{view};
+ghost use Rattle.geoarrow_meta.specs.Read.{some_has_float};
+ghost use Rattle.arrow_columns.specs.Column.{column_tree, type_tree};
+ghost use Rattle.column_check.specs.Metadata.{values_of};
+ghost use Rattle.column_check.specs.Warnings.{said, of_column, is_odd_crs, lacks_type, crs_warnings, geometry_warnings, nested_warnings, AreWarnings};
+
+use crate::coordinates::push_coordinates;
+use crate::finding::{Finding, Geometry};
+use crate::metadata::ColumnMetadata;
+use crate::nested::push_nested;
+use arrow_columns::{Column, ColumnType};
+use geoarrow_meta::holds_whole_numbers;
+use serde_json::Value;
+use std::alloc::{AllocError, Global};
+
+/// What a warning says.
+#[derive(Debug, Clone, Copy, PartialEq, Eq)]
+pub enum WarningCode {
+    /// A number in the CRS is not whole: for that alone `from_extension_field` and `from_arrow_field` of `geoarrow_schema` refuse the
+    /// column.
+    CrsNotWhole,
+    /// There is a CRS, and no CRS type.
+    CrsWithoutType,
+    /// The CRS is neither an object nor a text.
+    CrsNumber,
+    /// A number of a coordinate or a box is not `Float64` (GeoArrow, "Coordinate").
+    CoordinatesNotDouble,
+    /// The fields of a separated coordinate are not x, y, z and m, or those of a box not their bounds, in this order.
+    AxisNames,
+    /// A field below the column has one of GeoArrow's eleven extension names.
+    NestedGeometry,
+}
+
+/// A warning: what is doubtful of a column, and where.
+#[derive(Debug, Drop)]
+pub struct Warning {
+    /// What it says.
+    pub code: WarningCode,
+    /// The names of the child fields from the column down to where it is; none where it is of the column itself.
+    pub path: Vec<String>,
+}
+
+/// What is doubtful of a column of which that is said, and leaves the finding as it is: in the order of `WarningCode`, and under one
+/// code from left to right, a field before those below it. Of a CRS and of coordinates it speaks where the finding is of geometries;
+/// of fields below the column always. Errs only when out of memory.
+///
+/// ```rust
+/// let finding = check_column(alloc, &column, false)?;
+/// for warning in warnings(alloc, &column, &finding)?.iter() {
+///     println!(rt; "{:?}", warning.code)?;
+/// }
+/// ```
+pub fn warnings(
+    alloc: Global,
+    column: &Column,
+    finding: &Finding,
+) -> Result<Vec<Warning>, AllocError>
+    ensures { IfOk result (λ them. AreWarnings (column_tree column.now) finding.now them.items) }
+{
+    let mut warnings = Vec::new(alloc);
+    if let Some(geometry) = finding.geometry() {
+        push_geometry(alloc, &mut warnings, column, geometry)?;
+    }
+    if let ColumnType::Data(data_type) = &column.data_type {
+        push_nested(alloc, &mut warnings, &mut Vec::new(alloc), data_type)?;
+    }
+    Ok(warnings)
+}
+
+/// Adds what is doubtful of geometries.
+fn push_geometry(
+    alloc: Global,
+    warnings: &mut Vec<Warning>,
+    column: &Column,
+    geometry: &Geometry,
+) -> Result<(), AllocError>
+    ensures { OnOk result (map said warnings.new.items ≡ map said warnings.old.items ++ geometry_warnings (column_tree column.now) (Some geometry.now)) }
+{
+    push_crs(alloc, warnings, &geometry.metadata)?;
+    let ColumnType::Data(data_type) = &column.data_type else {
+        return Ok(());
+    };
+    let mut way = Vec::new(alloc);
+    let (doubles, axes) = (WarningCode::CoordinatesNotDouble, WarningCode::AxisNames);
+    push_coordinates(alloc, warnings, &mut way, doubles, geometry.kind, data_type)?;
+    push_coordinates(alloc, warnings, &mut way, axes, geometry.kind, data_type)
+}
+
+/// Adds what is doubtful of a CRS.
+fn push_crs(
+    alloc: Global,
+    warnings: &mut Vec<Warning>,
+    metadata: &ColumnMetadata,
+) -> Result<(), AllocError>
+    ensures { OnOk result (map said warnings.new.items ≡ map said warnings.old.items ++ crs_warnings (values_of metadata.now)) }
+{
+    let Some(crs) = &metadata.crs else {
+        return Ok(());
+    };
+    push_if(
+        alloc,
+        warnings,
+        WarningCode::CrsNotWhole,
+        !holds_whole_numbers(crs),
+    )?;
+    push_if(
+        alloc,
+        warnings,
+        WarningCode::CrsWithoutType,
+        metadata.crs_type.is_none(),
+    )?;
+    push_if(alloc, warnings, WarningCode::CrsNumber, is_odd_crs(crs))
+}
+
+/// Whether a CRS is neither an object nor a text.
+fn is_odd_crs(crs: &Value) -> bool
+    ensures { result ≡ is_odd_crs (Some (view crs.now)) }
+{
+    !matches!(crs, Value::Object(_) | Value::String(_))
+}
+
+/// Adds a warning of the column itself, if the test holds.
+fn push_if(
+    alloc: Global,
+    warnings: &mut Vec<Warning>,
+    code: WarningCode,
+    holds: bool,
+) -> Result<(), AllocError>
+    ensures { OnOk result (map said warnings.new.items ≡ map said warnings.old.items ++ of_column code holds) }
+{
+    if holds {
+        let path = Vec::new(alloc);
+        warnings.push(Warning { code, path })?;
+    }
+    Ok(())
+}

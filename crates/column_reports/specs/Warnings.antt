@@ -1,0 +1,40 @@
+-- The warnings of a column, as JSON and in words.
+use Rattle.std.specs.Prelude.{List, [], ◌∷◌, ◌++◌, codes, map, Option, None, Some, string_bytes}
+use Rattle.arrow_values.specs.Tree.{Text}
+use Rattle.column_check.specs.declared.warning.WarningCode.{WarningCode}
+use Rattle.column_check.specs.declared.warning.WarningCode.TheVariants.{CrsNotWhole, CrsWithoutType, CrsNumber, CoordinatesNotDouble, AxisNames, NestedGeometry}
+use Rattle.column_check.specs.declared.warning.Warning.{Warning}
+use Rattle.column_reports.specs.Parts.{array_text}
+use Rattle.column_reports.specs.Reasons.{reason_text, place_words}
+
+-- the code of a warning
+abbrev pub code_text : WarningCode → Text
+code_text CrsNotWhole = codes "CrsNotWhole"
+code_text CrsWithoutType = codes "CrsWithoutType"
+code_text CrsNumber = codes "CrsNumber"
+code_text CoordinatesNotDouble = codes "CoordinatesNotDouble"
+code_text AxisNames = codes "AxisNames"
+code_text NestedGeometry = codes "NestedGeometry"
+
+-- the message of a warning
+abbrev pub warning_message : WarningCode → Text
+warning_message CrsNotWhole = codes "CRS has a number that is not whole"
+warning_message CrsWithoutType = codes "CRS without crs_type"
+warning_message CrsNumber = codes "CRS is neither an object nor a text"
+warning_message CoordinatesNotDouble = codes "coordinates are not float64"
+warning_message AxisNames = codes "fields are not named after the axes, in their order"
+warning_message NestedGeometry = codes "child field has a GeoArrow extension name"
+
+-- a warning, as a reason is written
+abbrev pub warning_text : Warning → Text
+warning_text w = reason_text (code_text w.code) (warning_message w.code) (map string_bytes w.path.items)
+
+-- of a column with warnings: all of them
+abbrev pub warnings_in : List Warning → Option Text
+warnings_in [] = None
+warnings_in (w ∷ ws) = Some (array_text (map warning_text (w ∷ ws)))
+
+-- ---- in words
+
+abbrev pub warning_words : Warning → Text
+warning_words w = warning_message w.code ++ place_words (map string_bytes w.path.items)

@@ -1,0 +1,48 @@
+//! The parts of a line of JSON, written one after another.
+ghost use Rattle.std.specs.Prelude.{◌≡◌, ◌∷◌, [], OnOk, codes, decimal, map, option_map, string_bytes};
+ghost use Rattle.json.specs.Print.{quoted};
+ghost use Rattle.arrow_values.specs.Texts.{text_of};
+ghost use Rattle.column_reports.specs.Parts.{array_text, member_text, member_if};
+ghost use Rattle.column_reports.specs.Report.{string_if};
+ghost use Rattle.column_reports.specs.Appended.{AddsParts};
+
+use json::Writer;
+use std::alloc::AllocError;
+
+/// Writes a member whose value is a string.
+pub(crate) fn put_text(out: &mut Writer, key: &str, text: &str) -> Result<(), AllocError>
+    ensures { OnOk result (AddsParts (member_text key.now (quoted text.now) ∷ []) out.old out.new) }
+{
+    out.key(key)?;
+    out.string(text)
+}
+
+/// Writes a member whose value is a string, if there is one.
+pub(crate) fn put_text_if(out: &mut Writer, key: &str, text: Option<&str>) -> Result<(), AllocError>
+    ensures { OnOk result (AddsParts (string_if key.now (text_of text.entry)) out.old out.new) }
+{
+    match text {
+        Some(text) => put_text(out, key, text),
+        None => Ok(()),
+    }
+}
+
+/// Writes a member whose value is a number.
+pub(crate) fn put_number(out: &mut Writer, key: &str, number: usize) -> Result<(), AllocError>
+    ensures { OnOk result (AddsParts (member_text key.now (decimal number) ∷ []) out.old out.new) }
+{
+    out.key(key)?;
+    out.u64(number as u64)
+}
+
+/// Writes a member whose value is an array of strings.
+pub(crate) fn put_texts(out: &mut Writer, key: &str, texts: &[String]) -> Result<(), AllocError>
+    ensures { OnOk result (AddsParts (member_text key.now (array_text (map quoted (map string_bytes texts.now))) ∷ []) out.old out.new) }
+{
+    out.key(key)?;
+    out.begin_array()?;
+    for text in texts {
+        out.string(text.as_str())?;
+    }
+    out.end_array()
+}

@@ -1,0 +1,66 @@
+//! The warnings of a column.
+ghost use Rattle.std.specs.Prelude.{◌≡◌, ◌∷◌, [], OnOk, codes};
+ghost use Rattle.column_reports.specs.Parts.{member_if};
+ghost use Rattle.column_reports.specs.Warnings.{code_text, warning_message, warning_text, warnings_in};
+ghost use Rattle.column_reports.specs.Appended.{AddsParts};
+
+use crate::reasons::put_reason;
+use column_check::{Warning, WarningCode};
+use json::Writer;
+use std::alloc::AllocError;
+
+/// The code of a warning.
+fn code_text(code: WarningCode) -> &'static str
+    ensures { result.now ≡ code_text code }
+{
+    match code {
+        WarningCode::CrsNotWhole => "CrsNotWhole",
+        WarningCode::CrsWithoutType => "CrsWithoutType",
+        WarningCode::CrsNumber => "CrsNumber",
+        WarningCode::CoordinatesNotDouble => "CoordinatesNotDouble",
+        WarningCode::AxisNames => "AxisNames",
+        WarningCode::NestedGeometry => "NestedGeometry",
+    }
+}
+
+/// The message of a warning.
+pub(crate) fn warning_message(code: WarningCode) -> &'static str
+    ensures { result.now ≡ warning_message code }
+{
+    match code {
+        WarningCode::CrsNotWhole => "CRS has a number that is not whole",
+        WarningCode::CrsWithoutType => "CRS without crs_type",
+        WarningCode::CrsNumber => "CRS is neither an object nor a text",
+        WarningCode::CoordinatesNotDouble => "coordinates are not float64",
+        WarningCode::AxisNames => "fields are not named after the axes, in their order",
+        WarningCode::NestedGeometry => "child field has a GeoArrow extension name",
+    }
+}
+
+/// Writes the member of the warnings, if there are any.
+pub(crate) fn put_warnings(out: &mut Writer, warnings: &[Warning]) -> Result<(), AllocError>
+    ensures { OnOk result (AddsParts (member_if (codes "warnings") (warnings_in warnings.now)) out.old out.new) }
+{
+    if warnings.is_empty() {
+        return Ok(());
+    }
+    out.key("warnings")?;
+    out.begin_array()?;
+    for warning in warnings {
+        put_warning(out, warning)?;
+    }
+    out.end_array()
+}
+
+/// Writes a warning.
+fn put_warning(out: &mut Writer, warning: &Warning) -> Result<(), AllocError>
+    ensures { OnOk result (AddsParts (warning_text warning.now ∷ []) out.old out.new) }
+{
+    let code = code_text(warning.code);
+    put_reason(
+        out,
+        code,
+        warning_message(warning.code),
+        warning.path.as_slice(),
+    )
+}
