@@ -1,1 +1,2 @@
-pub mod Gathered
+mod Shapes
+mod Walks

@@ -1,77 +1,117 @@
--- The columns of a schema: the root, and the leaves below it.
-use Rattle.std.specs.Prelude.{ℕ, zero, suc, ◌+◌, Bool, true, false, List, [], ◌∷◌, Option, Some, None, Result, Ok, nat_lt, if◌then◌else◌}
-use Rattle.arrow_values.specs.Tree.{Text, list}
-use Rattle.arrow_columns.specs.Column.{TypeTree, known, other, ColumnTree}
-use Rattle.arrow_columns.specs.Notation.{part_text, nested_text}
-use Rattle.std.specs.Prelude.{codes}
+-- The columns of a schema, whose elements stand depth first, the root first.
+use Rattle.std.specs.Prelude.{ℕ, zero, suc, ◌+◌, Bool, false, List, [], ◌∷◌, length, map, Option, Some, None, Result, Ok, nat_lt, ◌==◌, if◌then◌else◌}
+use Rattle.std.specs.List.{slice_get}
+use Rattle.arrow_values.specs.Tree.{Text}
+use Rattle.arrow_columns.specs.Column.{ColumnTree}
 use Rattle.parquet_footer.specs.declared.element.PhysicalType.{PhysicalType}
 use Rattle.parquet_footer.specs.declared.element.Repetition.{Repetition}
-use Rattle.parquet_footer.specs.declared.element.Repetition.TheVariants.{Required, Optional, Repeated}
-use Rattle.parquet_footer.specs.Element.{Element}
+use Rattle.parquet_footer.specs.Element.{Element, element}
+use Rattle.parquet_columns.specs.declared.annotation.Annotation.{Annotation}
+use Rattle.parquet_columns.specs.declared.annotation.Annotation.TheVariants.{Plain, List as ListGroup, Map as MapGroup}
+use Rattle.parquet_columns.specs.declared.columns.Kind.{Kind}
+use Rattle.parquet_columns.specs.declared.columns.Kind.TheVariants.{Leaf, Group}
+use Rattle.parquet_columns.specs.declared.columns.Head.{Head}
 use Rattle.parquet_columns.specs.declared.fault.Fault.{Fault}
-use Rattle.parquet_columns.specs.declared.fault.Rule.TheVariants.{Root, Children, Repetition as NoRepetition, Nested}
+use Rattle.parquet_columns.specs.declared.fault.Rule.TheVariants.{Root, Children, Element as NoElement, Repetition as NoRepetition, Depth}
 use Rattle.parquet_columns.specs.Fault.{breaks, ◌>>=◌}
 use Rattle.parquet_columns.specs.Meaning.{meaning_of}
 use Rattle.parquet_columns.specs.Leaf.{leaf_type}
+use Rattle.parquet_columns.specs.Annotation.{annotation_of}
+use Rattle.parquet_columns.specs.Nodes.{ShapeTree, typed, NodeTree, group_shape, list_shape, map_shape, column_of}
 
--- an element without children is a leaf, by how its values are stored; any other is a group
+-- an element is a leaf, which says how its values are stored, or a group, which has children
 abbrev pub has_children : Option ℕ → Bool
 has_children None = false
 has_children (Some n) = nat_lt 0 n
 
-abbrev pub stored_at : ℕ → Option PhysicalType → Result PhysicalType Fault
-stored_at at None = breaks Nested at
-stored_at at (Some physical) = Ok physical
+abbrev pub group_at : ℕ → Option ℕ → Result Kind Fault
+group_at at None = breaks NoElement at
+group_at at (Some n) = if n == 0 then breaks NoElement at else Ok (Group n)
 
-abbrev pub leaf_at : ℕ → Element → Result PhysicalType Fault
-leaf_at at e = if has_children e.num_children then breaks Nested at else stored_at at e.storage.physical_type
+abbrev pub kind_at : ℕ → Option PhysicalType → Option ℕ → Result Kind Fault
+kind_at at (Some physical) count = if has_children count then breaks NoElement at else Ok (Leaf physical)
+kind_at at None count = group_at at count
 
 abbrev pub repetition_at : ℕ → Option Repetition → Result Repetition Fault
 repetition_at at None = breaks NoRepetition at
 repetition_at at (Some repetition) = Ok repetition
 
--- a list of values that are not null, under the name of the element
-abbrev pub list_type : Text → TypeTree → TypeTree
-list_type name (known t) = known (list name t false [])
-list_type name (other t) = other (nested_text (codes "list") (part_text name t false ∷ []))
+abbrev pub children_of : Kind → ℕ
+children_of (Leaf physical) = 0
+children_of (Group n) = n
 
-abbrev pub repeated_type : Text → Repetition → TypeTree → TypeTree
-repeated_type name Required t = t
-repeated_type name Optional t = t
-repeated_type name Repeated t = list_type name t
+-- the element with that index, which is there, and what it says
+abbrev pub element_at : ℕ → Option Element → Result Element Fault
+element_at at None = breaks Children at
+element_at at (Some e) = Ok e
 
-abbrev pub is_optional : Repetition → Bool
-is_optional Optional = true
-is_optional _ = false
+pub record HeadTree : Type 0 where
+  pub element : Element
+  pub kind : Kind
+  pub repetition : Repetition
 
-abbrev pub column_by : Text → Repetition → TypeTree → ColumnTree
-column_by name repetition t = record { name = name; data_type = repeated_type name repetition t; nullable = is_optional repetition; metadata = [] }
+abbrev pub head_tree : Head → HeadTree
+head_tree h = record { element = element h.element; kind = h.kind; repetition = h.repetition }
 
--- the column of the element with that index
-unfoldable pub column_at : ℕ → Element → Result ColumnTree Fault
-column_at at e = do
-  physical ← leaf_at at e
+unfoldable pub head_at : List Element → ℕ → Result HeadTree Fault
+head_at es at = do
+  e ← element_at at (slice_get es at)
+  kind ← kind_at at e.storage.physical_type e.num_children
   repetition ← repetition_at at e.storage.repetition
-  t ← leaf_type at physical (meaning_of e) e.storage.type_length e.precision e.scale
-  Ok (column_by e.storage.name repetition t)
+  Ok (record { element = e; kind = kind; repetition = repetition })
 
--- so many columns, of the elements from an index on, which they use up
-unfoldable pub columns_from : ℕ → ℕ → List Element → Result (List ColumnTree) Fault
-columns_from at zero [] = Ok []
-columns_from at zero (e ∷ es) = breaks Children at
-columns_from at (suc n) [] = breaks Children at
-columns_from at (suc n) (e ∷ es) = do
-  c ← column_at at e
-  cs ← columns_from (at + 1) n es
-  Ok (c ∷ cs)
+-- what an element stands for, by the elements below it
+unfoldable pub leaf_shape : ℕ → PhysicalType → Element → Result ShapeTree Fault
+leaf_shape at physical e = do
+  t ← leaf_type at physical (meaning_of e) e.storage.type_length e.precision e.scale
+  Ok (typed t)
+
+abbrev pub group_by : Annotation → ℕ → Text → List NodeTree → Result ShapeTree Fault
+group_by Plain at name ns = Ok (group_shape ns)
+group_by ListGroup at name ns = list_shape at name ns
+group_by MapGroup at name ns = map_shape at ns
+
+abbrev pub shape_by : Kind → ℕ → Element → List NodeTree → Result ShapeTree Fault
+shape_by (Leaf physical) at e ns = leaf_shape at physical e
+shape_by (Group n) at e ns = group_by (annotation_of e) at e.storage.name ns
+
+abbrev pub shape_at : ℕ → HeadTree → List NodeTree → Result ShapeTree Fault
+shape_at at h ns = shape_by h.kind at h.element ns
+
+unfoldable pub finished : ℕ → HeadTree → List NodeTree → Result NodeTree Fault
+finished at h ns = do
+  shape ← shape_at at h ns
+  Ok (record { name = h.element.storage.name; repetition = h.repetition; shape = shape })
+
+-- so many elements, each with all that is below it, from an index on; and the index behind them
+unfoldable pub nodes_by : (ℕ → Result (NodeTree × ℕ) Fault) → ℕ → ℕ → Result (List NodeTree × ℕ) Fault
+nodes_by read at zero = Ok ([], at)
+nodes_by read at (suc n) = do
+  first ← read at
+  others ← nodes_by read first.1 n
+  Ok (first.0 ∷ others.0, others.1)
+
+-- the element with that index and all that is below it, no more than so many levels deep; and the index behind it
+unfoldable pub node_at : ℕ → List Element → ℕ → Result (NodeTree × ℕ) Fault
+node_at zero es at = breaks Depth at
+node_at (suc levels) es at = do
+  h ← head_at es at
+  below ← nodes_by (node_at levels es) (at + 1) (children_of h.kind)
+  n ← finished at h below.0
+  Ok (n, below.1)
 
 abbrev pub root_count : Option ℕ → Result ℕ Fault
 root_count None = breaks Root 0
 root_count (Some n) = Ok n
+
+-- the columns, which use up the elements
+abbrev pub used_up : List Element → List NodeTree × ℕ → Result (List ColumnTree) Fault
+used_up es below = if below.1 == length es then Ok (map column_of below.0) else breaks Children below.1
 
 -- the first element is the root, which says how many columns there are
 unfoldable pub columns_of : List Element → Result (List ColumnTree) Fault
 columns_of [] = breaks Root 0
 columns_of (root ∷ es) = do
   n ← root_count root.num_children
-  columns_from 1 n es
+  below ← nodes_by (node_at 64 (root ∷ es)) 1 n
+  used_up (root ∷ es) below

@@ -10,6 +10,10 @@ abbrev pub ◌>>=◌ : {A B : Type 0} → Result A Fault → (A → Result B Fau
 (Ok x) >>= f = f x
 (Err e) >>= f = Err e
 
+abbrev pub map_ok : {A B : Type 0} → (A → B) → Result A Fault → Result B Fault
+map_ok f (Ok x) = Ok (f x)
+map_ok f (Err e) = Err e
+
 abbrev pub breaks : {A : Type 0} → Rule → ℕ → Result A Fault
 breaks rule at = Err (record { rule = rule; at = at })
 

@@ -1,4 +1,6 @@
 pub mod Fault
 pub mod Meaning
 pub mod Leaf
+pub mod Annotation
+pub mod Nodes
 pub mod Columns

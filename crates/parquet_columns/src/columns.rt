@@ -1,18 +1,39 @@
 //! The columns of a schema.
-ghost use Rattle.std.specs.Prelude.{◌≡◌, IfOk, map};
-ghost use Rattle.arrow_columns.specs.Column.{type_tree, column_tree};
+ghost use Rattle.std.specs.Prelude.{◌≡◌, ◌<◌, length, IfOk, map};
+ghost use Rattle.arrow_columns.specs.Column.{column_tree};
 ghost use Rattle.parquet_footer.specs.Element.{element};
-ghost use Rattle.parquet_columns.specs.Fault.{Says};
-ghost use Rattle.parquet_columns.specs.Columns.{has_children, leaf_at, repetition_at, list_type, repeated_type, is_optional, column_by, column_at, columns_from, root_count, columns_of};
+ghost use Rattle.parquet_columns.specs.Fault.{Says, map_ok};
+ghost use Rattle.parquet_columns.specs.Nodes.{shape_tree, node_tree};
+ghost use Rattle.parquet_columns.specs.Columns.{has_children, kind_at, repetition_at, head_tree, head_at, children_of, leaf_shape, shape_at, finished, nodes_by, node_at, root_count, columns_of};
 
+use crate::annotation::{Annotation, annotation_of};
 use crate::fault::{ColumnsError, Fault, Rule};
 use crate::leaf::leaf_type;
 use crate::meaning::meaning_of;
-use arrow_columns::{Column, ColumnType, nested_notation, part_notation};
-use arrow_values::{DataType, Field};
+use crate::nodes::{Node, Shape, columns_of_nodes, group_shape, list_shape, map_shape};
+use arrow_columns::Column;
 use parquet_footer::{Footer, PhysicalType, Repetition, SchemaElement};
-use std::alloc::{AllocError, Global};
-use std::collections::BTreeMap;
+use std::alloc::Global;
+
+/// How deep the elements of a schema may be nested below its root: a child of the root is 1 deep, its children are 2 deep.
+pub const NESTING_LIMIT: usize = 64;
+
+/// How an element's values are stored, or how many children it has.
+#[derive(Clone, Copy)]
+enum Kind {
+    /// A leaf.
+    Leaf(PhysicalType),
+    /// A group.
+    Group(u32),
+}
+
+/// What an element says itself.
+#[derive(Clone, Copy)]
+struct Head<'a> {
+    element: SchemaElement<'a>,
+    kind: Kind,
+    repetition: Repetition,
+}
 
 /// Whether an element has children.
 fn has_children(count: Option<u32>) -> bool
@@ -24,16 +45,24 @@ fn has_children(count: Option<u32>) -> bool
     }
 }
 
-/// How the values of a leaf are stored.
-fn leaf_at(at: usize, leaf: &SchemaElement<'_>) -> Result<PhysicalType, Fault>
-    ensures { result ≡ leaf_at at (element leaf.now) }
+/// Whether an element is a leaf or a group.
+fn kind_at(at: usize, physical: Option<PhysicalType>, count: Option<u32>) -> Result<Kind, Fault>
+    ensures { result ≡ kind_at at physical count }
 {
-    if has_children(leaf.num_children) {
-        return Err(Fault::new(Rule::Nested, at));
-    }
-    match leaf.storage.physical_type {
-        None => Err(Fault::new(Rule::Nested, at)),
-        Some(physical) => Ok(physical),
+    match (physical, count) {
+        (Some(physical), count) => {
+            if has_children(count) {
+                return Err(Fault::new(Rule::Element, at));
+            }
+            Ok(Kind::Leaf(physical))
+        }
+        (None, Some(count)) => {
+            if count == 0 {
+                return Err(Fault::new(Rule::Element, at));
+            }
+            Ok(Kind::Group(count))
+        }
+        (None, None) => Err(Fault::new(Rule::Element, at)),
     }
 }
 
@@ -47,76 +76,48 @@ fn repetition_at(at: usize, repetition: Option<Repetition>) -> Result<Repetition
     }
 }
 
-/// A list of values that are not null, under a name.
-fn list_type(alloc: Global, name: &str, item: ColumnType) -> Result<ColumnType, AllocError>
-    ensures { IfOk result (λ made. type_tree made ≡ list_type name.now (type_tree item)) }
+/// What the element with that index says.
+#[tactic(auto, using(crate::proofs::Walks::there_is, crate::proofs::Walks::none_is), unfolding(crate::specs::Columns::head_at))]
+fn head_at<'a>(elements: &[SchemaElement<'a>], at: usize) -> Result<Head<'a>, Fault>
+    ensures is { map_ok head_tree result ≡ head_at (map element elements.now) at }
+    ensures within { IfOk result (λ _. at < length elements.now) }
 {
-    match item {
-        ColumnType::Data(item) => {
-            let item = Field::new(alloc, name, item, false)?;
-            Ok(ColumnType::Data(DataType::List(Box::new(alloc, item)?)))
-        }
-        ColumnType::Other(text) => {
-            let part = part_notation(alloc, name, text.as_str(), false)?;
-            Ok(ColumnType::Other(nested_notation(alloc, "list", &[part])?))
-        }
+    if at >= elements.len() {
+        return Err(Fault::new(Rule::Children, at));
     }
-}
-
-/// A type, or where it is repeated a list of it.
-fn repeated_type(
-    alloc: Global,
-    name: &str,
-    repetition: Repetition,
-    item: ColumnType,
-) -> Result<ColumnType, AllocError>
-    ensures { IfOk result (λ made. type_tree made ≡ repeated_type name.now repetition (type_tree item)) }
-{
-    match repetition {
-        Repetition::Required | Repetition::Optional => Ok(item),
-        Repetition::Repeated => list_type(alloc, name, item),
-    }
-}
-
-/// Whether a repetition lets values be null.
-fn is_optional(repetition: Repetition) -> bool
-    ensures { result ≡ is_optional repetition }
-{
-    match repetition {
-        Repetition::Optional => true,
-        _ => false,
-    }
-}
-
-/// A column of a name, a repetition and a type.
-fn column_by(
-    alloc: Global,
-    name: &str,
-    repetition: Repetition,
-    item: ColumnType,
-) -> Result<Column, AllocError>
-    ensures { IfOk result (λ made. column_tree made ≡ column_by name.now repetition (type_tree item)) }
-{
-    let data_type = repeated_type(alloc, name, repetition, item)?;
-    let name = String::from_str(alloc, name)?;
-    Ok(Column {
-        name,
-        nullable: is_optional(repetition),
-        data_type,
-        metadata: BTreeMap::new(alloc),
+    let element = elements[at];
+    let kind = kind_at(at, element.storage.physical_type, element.num_children)?;
+    let repetition = repetition_at(at, element.storage.repetition)?;
+    Ok(Head {
+        element,
+        kind,
+        repetition,
     })
 }
 
-/// The column of the element with that index.
-#[tactic(auto, unfolding(crate::specs::Columns::column_at))]
-fn column_at(alloc: Global, at: usize, leaf: &SchemaElement<'_>) -> Result<Column, ColumnsError>
-    ensures { Says column_tree (column_at at (element leaf.now)) result }
+/// How many children an element has.
+fn children_of(kind: Kind) -> u32
+    ensures { result ≡ children_of kind }
 {
-    let physical = leaf_at(at, leaf)?;
-    let repetition = repetition_at(at, leaf.storage.repetition)?;
+    match kind {
+        Kind::Leaf(_) => 0,
+        Kind::Group(count) => count,
+    }
+}
+
+/// What a leaf stands for.
+#[tactic(auto, unfolding(crate::specs::Columns::leaf_shape))]
+fn leaf_shape(
+    alloc: Global,
+    at: usize,
+    physical: PhysicalType,
+    leaf: &SchemaElement<'_>,
+) -> Result<Shape, ColumnsError>
+    ensures { Says shape_tree (leaf_shape at physical (element leaf.now)) result }
+{
     let meaning = meaning_of(leaf);
     let digits = (leaf.precision, leaf.scale);
-    let item = leaf_type(
+    let found = leaf_type(
         alloc,
         at,
         physical,
@@ -124,35 +125,85 @@ fn column_at(alloc: Global, at: usize, leaf: &SchemaElement<'_>) -> Result<Colum
         leaf.storage.type_length,
         digits,
     )?;
-    let made = column_by(alloc, leaf.storage.name, repetition, item)?;
-    Ok(made)
+    Ok(Shape::Typed(found))
 }
 
-/// So many columns, of the elements from 1 on.
-fn columns_from(
+/// What an element stands for, by the elements below it.
+fn shape_at(
     alloc: Global,
+    at: usize,
+    head: &Head<'_>,
+    below: Vec<Node<'_>>,
+) -> Result<Shape, ColumnsError>
+    ensures { Says shape_tree (shape_at at (head_tree head.now) (map node_tree below.entry.items)) result }
+{
+    match head.kind {
+        Kind::Leaf(physical) => leaf_shape(alloc, at, physical, &head.element),
+        Kind::Group(_) => match annotation_of(&head.element) {
+            Annotation::Plain => Ok(group_shape(alloc, below)?),
+            Annotation::List => list_shape(alloc, at, head.element.storage.name, below),
+            Annotation::Map => map_shape(alloc, at, below),
+        },
+    }
+}
+
+/// An element, by what it says and the elements below it.
+#[tactic(auto, unfolding(crate::specs::Columns::finished))]
+fn finish<'a>(
+    alloc: Global,
+    at: usize,
+    head: &Head<'a>,
+    below: Vec<Node<'_>>,
+) -> Result<Node<'a>, ColumnsError>
+    ensures { Says node_tree (finished at (head_tree head.now) (map node_tree below.entry.items)) result }
+{
+    let shape = shape_at(alloc, at, head, below)?;
+    Ok(Node {
+        name: head.element.storage.name,
+        repetition: head.repetition,
+        shape,
+    })
+}
+
+/// Reads the element with that index and all that is below it; and says which index comes behind.
+#[cycle(read)]
+fn read_node<'a>(
+    alloc: Global,
+    elements: &[SchemaElement<'a>],
+    at: usize,
+    levels: usize,
+) -> Result<(Node<'a>, usize), ColumnsError>
+    ensures { Says (λ x. (node_tree x.0, x.1)) (node_at levels (map element elements.now) at) result }
+{
+    if levels == 0 {
+        return Err(ColumnsError::Broken(Fault::new(Rule::Depth, at)));
+    }
+    let head = head_at(elements, at)?;
+    let count = children_of(head.kind);
+    let (below, next) = read_nodes(alloc, elements, at + 1, count, levels - 1)?;
+    let node = finish(alloc, at, &head, below)?;
+    Ok((node, next))
+}
+
+/// Reads so many elements, each with all that is below it; and says which index comes behind.
+#[cycle(read)]
+fn read_nodes<'a>(
+    alloc: Global,
+    elements: &[SchemaElement<'a>],
+    start: usize,
     count: u32,
-    leaves: &[SchemaElement<'_>],
-) -> Result<Vec<Column>, ColumnsError>
-    ensures { Says (λ v. map column_tree v.items) (columns_from 1 count (map element leaves.now)) result }
+    levels: usize,
+) -> Result<(Vec<Node<'a>>, usize), ColumnsError>
+    ensures { Says (λ x. (map node_tree x.0.items, x.1)) (nodes_by (node_at levels (map element elements.now)) start count) result }
 {
     let mut found = Vec::new(alloc);
-    let mut left = count;
-    let mut at = 1;
-    'leaves: for leaf in leaves {
-        if left == 0 {
-            return Err(ColumnsError::Broken(Fault::new(Rule::Children, at)));
-        }
-        let made = column_at(alloc, at, leaf)?;
-        found.push(made)?;
-        left -= 1;
-        at += 1;
+    let mut at = start;
+    'nodes: for i in 0..count {
+        let (node, next) = read_node(alloc, elements, at, levels)?;
+        found.push(node)?;
+        at = next;
     }
-    if left == 0 {
-        Ok(found)
-    } else {
-        Err(ColumnsError::Broken(Fault::new(Rule::Children, at)))
-    }
+    Ok((found, at))
 }
 
 /// How many children the root has.
@@ -165,9 +216,10 @@ fn root_count(count: Option<u32>) -> Result<u32, Fault>
     }
 }
 
-/// The columns of the schema in the footer of a Parquet file, with the types that Arrow's libraries give its leaves
-/// (`docs/FORMAT.md`, 4.4): a column of a required or repeated leaf is not nullable, and a repeated leaf is a list of
-/// values that are not null. The key `ARROW:schema` is not looked at. Metadata are empty.
+/// The columns of the schema in the footer of a Parquet file, with the types that Arrow's libraries give its leaves and
+/// groups (`docs/FORMAT.md`, 4.4): a group is a struct, a LIST a list, a MAP a map; a column of a required or repeated
+/// element is not nullable, and a repeated element is a list of values that are not null. The key `ARROW:schema` is not
+/// looked at. Metadata are empty.
 ///
 /// ```rust
 /// let bytes = [0x29, 0x2c, 0x48, 1, b'r', 0x15, 2, 0, 0x15, 10, 0x25, 0, 0x18, 1, b'x', 0, 0];
@@ -178,15 +230,26 @@ fn root_count(count: Option<u32>) -> Result<u32, Fault>
 /// assert_eq!(rt; text.as_str(), "x: float64 not null");
 /// ```
 ///
-/// Errs with the first rule of the schema that is broken, and the element's place, counted from the root, which is 0; with
-/// `Nested` where there is a group below the root; and when out of memory.
+/// Errs with the first rule of the schema that is broken, and the element's place, counted from the root, which is 0; and when
+/// out of memory. At most 64 levels of elements are read.
 pub fn columns_of(alloc: Global, footer: &Footer<'_>) -> Result<Vec<Column>, ColumnsError>
     ensures { Says (λ v. map column_tree v.items) (columns_of (map element footer.now.schema.items)) result }
 {
-    let schema = footer.schema.as_slice();
-    if schema.is_empty() {
+    columns_in(alloc, footer.schema.as_slice())
+}
+
+/// The columns of the elements of a schema.
+#[tactic(auto, using(crate::proofs::Walks::left_over))]
+fn columns_in(alloc: Global, elements: &[SchemaElement<'_>]) -> Result<Vec<Column>, ColumnsError>
+    ensures { Says (λ v. map column_tree v.items) (columns_of (map element elements.now)) result }
+{
+    if elements.is_empty() {
         return Err(ColumnsError::Broken(Fault::new(Rule::Root, 0)));
     }
-    let count = root_count(schema[0].num_children)?;
-    columns_from(alloc, count, &schema[1..])
+    let count = root_count(elements[0].num_children)?;
+    let (below, next) = read_nodes(alloc, elements, 1, count, NESTING_LIMIT)?;
+    if next != elements.len() {
+        return Err(ColumnsError::Broken(Fault::new(Rule::Children, next)));
+    }
+    Ok(columns_of_nodes(alloc, below)?)
 }

@@ -11,18 +11,27 @@ pub enum Rule {
     /// The first element is the root, a group.
     #[error("no root")]
     Root,
-    /// The root has as many children as there are elements behind it.
+    /// The children of the root, with all that is below them, are the elements behind it.
     #[error("a wrong number of children")]
     Children,
+    /// An element below the root is a leaf, which says how its values are stored, or a group, which has children.
+    #[error("an element that is neither a leaf nor a group")]
+    Element,
     /// An element below the root has a repetition.
     #[error("an element without a repetition")]
     Repetition,
     /// Values of a fixed length have a length, which is below 2^31.
     #[error("a fixed length that is not there or too large")]
     Length,
-    /// No element below the root is a group: nested columns are not read.
-    #[error("a group below the root")]
-    Nested,
+    /// A LIST has one element below it, which is repeated.
+    #[error("a list without one repeated element")]
+    List,
+    /// A MAP has one element below it, which is a repeated group.
+    #[error("a map without one repeated group")]
+    Map,
+    /// Elements are nested at most `NESTING_LIMIT` levels deep.
+    #[error("nested too deep")]
+    Depth,
 }
 
 /// A rule that is broken, and by which element.

@@ -3,11 +3,11 @@ use Rattle.std.proofs.Common.{◌≡◌, ℕ, zero, suc, ◌<◌, ◌≤◌, Lis
 use Rattle.std.proofs.lemmas.Bool.{ne_eqb, lt-ltb, le-ltb}
 use Rattle.parquet_footer.specs.declared.fault.Fault.{Fault}
 use Rattle.parquet_footer.specs.declared.fault.Rule.TheVariants.{End, Depth}
-use Rattle.parquet_footer.specs.Fault.{◌>>=◌, broken, Reads}
+use Rattle.parquet_footer.specs.Fault.{◌>>=◌, broken, Returns}
 use Rattle.parquet_footer.specs.Wire.{field_at}
 use Rattle.parquet_footer.specs.Skip.{fields_at, items_past, plain_past, over, struct_past, pair_past, nested_past, is_plain, value_past}
 
-pub told : {X Y : Type 0} (view : X → Y) (read : Result Y Fault) (r : Result X Fault) (e : Fault) → r ≡ Err e → read ≡ Err e → Reads view r read
+pub told : {X Y : Type 0} (view : X → Y) (read : Result Y Fault) (r : Result X Fault) (e : Fault) → r ≡ Err e → read ≡ Err e → Returns view r read
 told view read (Ok x) e is f = absurd (cc)
 told view read (Err d) e is f = cc
 

@@ -26,10 +26,10 @@ abbrev pub needed : {A : Type 0} → List ℕ → Option A → Result A Fault
 needed bytes None = refused Missing bytes
 needed bytes (Some x) = Ok x
 
--- a call that takes no memory returned, seen by view, what reading gives
-abbrev pub Reads : {X Y : Type 0} → (X → Y) → Result X Fault → Result Y Fault → Type 0
-Reads view (Ok x) read = read ≡ Ok (view x)
-Reads view (Err e) read = read ≡ Err e
+-- a call that allocates nothing returned, seen by view, what reading gives
+abbrev pub Returns : {X Y : Type 0} → (X → Y) → Result X Fault → Result Y Fault → Type 0
+Returns view (Ok x) read = read ≡ Ok (view x)
+Returns view (Err e) read = read ≡ Err e
 
 abbrev pub Stops : {Y : Type 0} → Stop → Result Y Fault → Type 0
 Stops stops.Memory read = Unit {0}

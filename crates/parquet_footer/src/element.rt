@@ -1,6 +1,6 @@
 //! An element of the schema: a leaf or a group.
 ghost use Rattle.std.specs.Prelude.{◌≡◌};
-ghost use Rattle.parquet_footer.specs.Fault.{Reads};
+ghost use Rattle.parquet_footer.specs.Fault.{Returns};
 ghost use Rattle.parquet_footer.specs.Element.{physical_of, repetition_of, stored, storage_at, numbers_at, element, element_at};
 
 use crate::fault::{Fault, Rule, broken};
@@ -103,7 +103,7 @@ fn repetition_of(number: Option<u32>, bytes: &[u8]) -> Result<Option<Repetition>
 /// The fields 1 to 4 of an element.
 #[tactic(auto, unfolding(crate::specs::Element::storage_at))]
 fn storage_at(bytes: &[u8]) -> Result<Storage<'_>, Fault>
-    ensures { Reads stored result (storage_at bytes.now) }
+    ensures { Returns stored result (storage_at bytes.now) }
 {
     let types = pair_at(bytes, 1, 2)?;
     let physical = number_in(types.first)?;
@@ -139,7 +139,7 @@ fn numbers_at(bytes: &[u8]) -> Result<(Option<u32>, Option<u32>, Option<u32>, Op
 /// An element, and the bytes behind it.
 #[tactic(auto, unfolding(crate::specs::Element::element_at))]
 pub fn element_at(bytes: &[u8]) -> Result<(SchemaElement<'_>, &[u8]), Fault>
-    ensures { Reads (λ x. (element x.0, x.1.now)) result (element_at bytes.now) }
+    ensures { Returns (λ x. (element x.0, x.1.now)) result (element_at bytes.now) }
 {
     let storage = storage_at(bytes)?;
     let (num_children, converted_type, scale, precision) = numbers_at(bytes)?;

@@ -1,6 +1,6 @@
 //! The fields of a struct that are read, by their ids.
 ghost use Rattle.std.specs.Prelude.{◌≡◌, option_map};
-ghost use Rattle.parquet_footer.specs.Fault.{Reads};
+ghost use Rattle.parquet_footer.specs.Fault.{Returns};
 ghost use Rattle.parquet_footer.specs.Fields.{spot, spots, noted, pair_at, pair, number_in, text_in, flag_in, byte_in, structs_in};
 
 use crate::fault::{Fault, Rule, broken};
@@ -35,7 +35,7 @@ fn noted<'a>(
     value: Place<'a>,
     found: Option<Place<'a>>,
 ) -> Result<Option<Place<'a>>, Fault>
-    ensures { Reads spots result (noted wanted id (spot value.entry) (spots found.entry)) }
+    ensures { Returns spots result (noted wanted id (spot value.entry) (spots found.entry)) }
 {
     if id != wanted {
         return Ok(found);
@@ -48,7 +48,7 @@ fn noted<'a>(
 
 /// Two fields of a struct, by their ids.
 pub fn pair_at(bytes: &[u8], one: u16, other: u16) -> Result<Pair<'_>, Fault>
-    ensures { Reads pair result (pair_at one other bytes.now) }
+    ensures { Returns pair result (pair_at one other bytes.now) }
 {
     let mut rest = bytes;
     let mut last = 0;
@@ -95,7 +95,7 @@ pub fn number_in(place: Option<Place<'_>>) -> Result<Option<u32>, Fault>
 /// The text in a field, where it is there.
 #[tactic(auto, unfolding(crate::specs::Fields::text_in))]
 pub fn text_in(place: Option<Place<'_>>) -> Result<Option<&str>, Fault>
-    ensures { Reads (option_map (λ s. s.now)) result (text_in (spots place.entry)) }
+    ensures { Returns (option_map (λ s. s.now)) result (text_in (spots place.entry)) }
 {
     match place {
         None => Ok(None),
@@ -144,7 +144,7 @@ pub fn byte_in(bytes: &[u8], place: Option<Place<'_>>) -> Result<u8, Fault>
 /// How many structs a list has, and their bytes.
 #[tactic(auto, unfolding(crate::specs::Fields::structs_in))]
 pub fn structs_in(place: Place<'_>) -> Result<(u32, &[u8]), Fault>
-    ensures { Reads (λ x. (x.0, x.1.now)) result (structs_in (spot place.entry)) }
+    ensures { Returns (λ x. (x.0, x.1.now)) result (structs_in (spot place.entry)) }
 {
     if place.kind != 9 {
         return Err(broken(Rule::WireType, place.bytes));

@@ -1,6 +1,6 @@
 //! A footer.
 ghost use Rattle.std.specs.Prelude.{◌≡◌, map};
-ghost use Rattle.parquet_footer.specs.Fault.{Reads, Gives, Answers};
+ghost use Rattle.parquet_footer.specs.Fault.{Returns, Gives, Answers};
 ghost use Rattle.parquet_footer.specs.Fields.{spots};
 ghost use Rattle.parquet_footer.specs.Element.{element, element_at};
 ghost use Rattle.parquet_footer.specs.Footer.{all_at, pairing, key_value_at, none_or, contents, footer_at};
@@ -31,7 +31,7 @@ pub struct Footer<'a> {
 /// A key and its value, and the bytes behind them.
 #[tactic(auto, unfolding(crate::specs::Footer::key_value_at))]
 fn key_value_at(bytes: &[u8]) -> Result<(KeyValue<'_>, &[u8]), Fault>
-    ensures { Reads (λ x. (pairing x.0, x.1.now)) result (key_value_at bytes.now) }
+    ensures { Returns (λ x. (pairing x.0, x.1.now)) result (key_value_at bytes.now) }
 {
     let found = pair_at(bytes, 1, 2)?;
     let text = text_in(found.first)?;
@@ -70,7 +70,7 @@ fn key_values_at(alloc: Global, count: u32, bytes: &[u8]) -> Result<Vec<KeyValue
 
 /// The structs of a list that may be missing.
 fn none_or(place: Option<Place<'_>>) -> Result<(u32, &[u8]), Fault>
-    ensures { Reads (λ x. (x.0, x.1.now)) result (none_or (spots place.entry)) }
+    ensures { Returns (λ x. (x.0, x.1.now)) result (none_or (spots place.entry)) }
 {
     match place {
         None => Ok((0, &[])),

@@ -1,7 +1,7 @@
 //! Logical types: a union, of which the geometry types, times, points in time and integers are read, and the others
 //! known by their ids.
 ghost use Rattle.std.specs.Prelude.{◌≡◌, option_map};
-ghost use Rattle.parquet_footer.specs.Fault.{Reads};
+ghost use Rattle.parquet_footer.specs.Fault.{Returns};
 ghost use Rattle.parquet_footer.specs.Fields.{spot, spots};
 ghost use Rattle.parquet_footer.specs.Logical.{logical, algorithm_of, geometry_at, geography_at, union_at, unit_of, unit_in, clock_at, width_of, integer_at, member_at, logical_at, logical_in};
 
@@ -71,7 +71,7 @@ fn algorithm_of(number: Option<u32>, bytes: &[u8]) -> Result<Option<Algorithm>, 
 /// What a GEOMETRY says.
 #[tactic(auto, unfolding(crate::specs::Logical::geometry_at))]
 fn geometry_at(bytes: &[u8]) -> Result<LogicalType<'_>, Fault>
-    ensures { Reads logical result (geometry_at bytes.now) }
+    ensures { Returns logical result (geometry_at bytes.now) }
 {
     let found = pair_at(bytes, 1, 1)?;
     Ok(LogicalType::Geometry(text_in(found.first)?))
@@ -80,7 +80,7 @@ fn geometry_at(bytes: &[u8]) -> Result<LogicalType<'_>, Fault>
 /// What a GEOGRAPHY says.
 #[tactic(auto, unfolding(crate::specs::Logical::geography_at))]
 fn geography_at(bytes: &[u8]) -> Result<LogicalType<'_>, Fault>
-    ensures { Reads logical result (geography_at bytes.now) }
+    ensures { Returns logical result (geography_at bytes.now) }
 {
     let found = pair_at(bytes, 1, 2)?;
     let crs = text_in(found.first)?;
@@ -143,7 +143,7 @@ fn width_of(bits: u8, bytes: &[u8]) -> Result<u8, Fault>
 /// What an INTEGER says.
 #[tactic(auto, unfolding(crate::specs::Logical::integer_at))]
 fn integer_at(bytes: &[u8]) -> Result<LogicalType<'_>, Fault>
-    ensures { Reads logical result (integer_at bytes.now) }
+    ensures { Returns logical result (integer_at bytes.now) }
 {
     let found = pair_at(bytes, 1, 2)?;
     let number = byte_in(bytes, found.first)?;
@@ -155,7 +155,7 @@ fn integer_at(bytes: &[u8]) -> Result<LogicalType<'_>, Fault>
 /// The member of the union with that id.
 #[tactic(auto, unfolding(crate::specs::Logical::member_at))]
 fn member_at(id: u16, kind: u8, bytes: &[u8]) -> Result<LogicalType<'_>, Fault>
-    ensures { Reads logical result (member_at id (kind, bytes.now)) }
+    ensures { Returns logical result (member_at id (kind, bytes.now)) }
 {
     if kind != 12 {
         return Err(broken(Rule::WireType, bytes));
@@ -179,7 +179,7 @@ fn member_at(id: u16, kind: u8, bytes: &[u8]) -> Result<LogicalType<'_>, Fault>
 /// The one field of a union: its id, and its value.
 #[tactic(auto, unfolding(crate::specs::Logical::union_at))]
 fn union_at(bytes: &[u8]) -> Result<(u16, Place<'_>), Fault>
-    ensures { Reads (λ x. (x.0, spot x.1)) result (union_at bytes.now) }
+    ensures { Returns (λ x. (x.0, spot x.1)) result (union_at bytes.now) }
 {
     let (id, kind, value) = field_at(0, bytes)?;
     if kind == 0 {
@@ -196,7 +196,7 @@ fn union_at(bytes: &[u8]) -> Result<(u16, Place<'_>), Fault>
 /// What a logical type says.
 #[tactic(auto, unfolding(crate::specs::Logical::logical_at))]
 fn logical_at(bytes: &[u8]) -> Result<LogicalType<'_>, Fault>
-    ensures { Reads logical result (logical_at bytes.now) }
+    ensures { Returns logical result (logical_at bytes.now) }
 {
     let (id, member) = union_at(bytes)?;
     member_at(id, member.kind, member.bytes)
@@ -205,7 +205,7 @@ fn logical_at(bytes: &[u8]) -> Result<LogicalType<'_>, Fault>
 /// The logical type in a field, where it is there.
 #[tactic(auto, unfolding(crate::specs::Logical::logical_in))]
 pub fn logical_in(place: Option<Place<'_>>) -> Result<Option<LogicalType<'_>>, Fault>
-    ensures { Reads (option_map logical) result (logical_in (spots place.entry)) }
+    ensures { Returns (option_map logical) result (logical_in (spots place.entry)) }
 {
     match place {
         None => Ok(None),

@@ -1,6 +1,6 @@
-//! Passing over a value of any type. No call takes memory.
+//! Passing over a value of any type. No call allocates.
 ghost use Rattle.std.specs.Prelude.{◌≡◌};
-ghost use Rattle.parquet_footer.specs.Fault.{Reads};
+ghost use Rattle.parquet_footer.specs.Fault.{Returns};
 ghost use Rattle.parquet_footer.specs.Skip.{is_plain, plain_past, items_past, struct_past, pair_past, nested_past, value_past};
 
 use crate::fault::{Fault, Rule, broken};
@@ -13,7 +13,7 @@ pub const LEVELS: usize = 64;
 #[tactic(auto, unfolding(crate::specs::Skip::plain_past))]
 #[inline(always)]
 fn plain_past(kind: u8, bytes: &[u8]) -> Result<&[u8], Fault>
-    ensures { Reads (λ x. x.now) result (plain_past kind bytes.now) }
+    ensures { Returns (λ x. x.now) result (plain_past kind bytes.now) }
 {
     match kind {
         1 | 2 => Ok(bytes),
@@ -39,7 +39,7 @@ fn is_plain(kind: u8) -> bool
 #[tactic(auto, using(crate::proofs::Loops::has_no_parts, crate::proofs::Loops::too_deep, crate::proofs::Loops::is_nested))]
 #[inline(always)]
 pub fn value_past(kind: u8, bytes: &[u8], levels: usize) -> Result<&[u8], Fault>
-    ensures { Reads (λ x. x.now) result (value_past levels kind bytes.now) }
+    ensures { Returns (λ x. x.now) result (value_past levels kind bytes.now) }
 {
     if is_plain(kind) {
         return plain_past(kind, bytes);
@@ -55,7 +55,7 @@ pub fn value_past(kind: u8, bytes: &[u8], levels: usize) -> Result<&[u8], Fault>
 #[tactic(auto, unfolding(crate::specs::Skip::nested_past))]
 #[inline(never)]
 fn nested_past(kind: u8, bytes: &[u8], levels: usize) -> Result<&[u8], Fault>
-    ensures { Reads (λ x. x.now) result (nested_past (value_past levels) kind bytes.now) }
+    ensures { Returns (λ x. x.now) result (nested_past (value_past levels) kind bytes.now) }
 {
     match kind {
         12 => struct_past(bytes, levels),
@@ -73,7 +73,7 @@ fn nested_past(kind: u8, bytes: &[u8], levels: usize) -> Result<&[u8], Fault>
 /// Passes over the fields of a struct.
 #[cycle(skip)]
 fn struct_past(bytes: &[u8], levels: usize) -> Result<&[u8], Fault>
-    ensures { Reads (λ x. x.now) result (struct_past (value_past levels) bytes.now) }
+    ensures { Returns (λ x. x.now) result (struct_past (value_past levels) bytes.now) }
 {
     let mut rest = bytes;
     let mut last = 0;
@@ -92,7 +92,7 @@ fn struct_past(bytes: &[u8], levels: usize) -> Result<&[u8], Fault>
 /// Passes over so many items of one type.
 #[cycle(skip)]
 fn items_past(kind: u8, count: u32, bytes: &[u8], levels: usize) -> Result<&[u8], Fault>
-    ensures { Reads (λ x. x.now) result (items_past (value_past levels kind) count bytes.now) }
+    ensures { Returns (λ x. x.now) result (items_past (value_past levels kind) count bytes.now) }
 {
     let mut rest = bytes;
     'items: for i in 0..count {
@@ -105,7 +105,7 @@ fn items_past(kind: u8, count: u32, bytes: &[u8], levels: usize) -> Result<&[u8]
 /// Passes over so many pairs of a key and a value.
 #[cycle(skip)]
 fn pairs_past(key: u8, other: u8, count: u32, bytes: &[u8], levels: usize) -> Result<&[u8], Fault>
-    ensures { Reads (λ x. x.now) result (items_past (pair_past (value_past levels) key other) count bytes.now) }
+    ensures { Returns (λ x. x.now) result (items_past (pair_past (value_past levels) key other) count bytes.now) }
 {
     let mut rest = bytes;
     'pairs: for i in 0..count {

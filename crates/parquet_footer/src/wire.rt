@@ -1,6 +1,6 @@
 //! Values of Thrift's compact protocol at the front of the bytes, each with the bytes behind it.
 ghost use Rattle.std.specs.Prelude.{◌≡◌, ◌<◌, length};
-ghost use Rattle.parquet_footer.specs.Fault.{Reads};
+ghost use Rattle.parquet_footer.specs.Fault.{Returns};
 ghost use Rattle.parquet_footer.specs.Wire.{byte_at, number_at, number_past, count_at, bytes_past, binary_at, text_at, item_type, list_at, map_at, id_at, field_at};
 
 use crate::fault::{Fault, Rule, broken};
@@ -9,7 +9,7 @@ use crate::fault::{Fault, Rule, broken};
 #[tactic(auto, unfolding(crate::specs::Wire::byte_at))]
 #[inline(always)]
 pub fn byte_at(bytes: &[u8]) -> Result<(u8, &[u8]), Fault>
-    ensures { Reads (λ x. (x.0, x.1.now)) result (byte_at bytes.now) }
+    ensures { Returns (λ x. (x.0, x.1.now)) result (byte_at bytes.now) }
 {
     match bytes {
         [] => Err(broken(Rule::End, bytes)),
@@ -20,7 +20,7 @@ pub fn byte_at(bytes: &[u8]) -> Result<(u8, &[u8]), Fault>
 /// A number in at most so many bytes.
 #[tactic(auto, unfolding(crate::specs::Wire::number_at))]
 pub fn number_at(bytes: &[u8], most: u32) -> Result<(u32, &[u8]), Fault>
-    ensures { Reads (λ x. (x.0, x.1.now)) result (number_at most bytes.now) }
+    ensures { Returns (λ x. (x.0, x.1.now)) result (number_at most bytes.now) }
 {
     match bytes {
         [] => Err(broken(Rule::End, bytes)),
@@ -45,7 +45,7 @@ pub fn number_at(bytes: &[u8], most: u32) -> Result<(u32, &[u8]), Fault>
 #[inline(always)]
 pub fn number_past(bytes: &[u8], most: u32) -> Result<&[u8], Fault>
     requires { 0 < most }
-    ensures { Reads (λ x. x.now) result (number_past most bytes.now) }
+    ensures { Returns (λ x. x.now) result (number_past most bytes.now) }
 {
     let mut rest = bytes;
     'groups: for i in 1..most {
@@ -67,7 +67,7 @@ pub fn number_past(bytes: &[u8], most: u32) -> Result<&[u8], Fault>
 #[tactic(auto, unfolding(crate::specs::Wire::count_at))]
 #[inline(never)]
 pub fn count_at(bytes: &[u8]) -> Result<(u32, &[u8]), Fault>
-    ensures { Reads (λ x. (x.0, x.1.now)) result (count_at bytes.now) }
+    ensures { Returns (λ x. (x.0, x.1.now)) result (count_at bytes.now) }
 {
     let (number, rest) = number_at(bytes, 5)?;
     if number % 2 == 0 {
@@ -81,7 +81,7 @@ pub fn count_at(bytes: &[u8]) -> Result<(u32, &[u8]), Fault>
 #[tactic(auto, unfolding(crate::specs::Wire::bytes_past))]
 #[inline(always)]
 pub fn bytes_past(bytes: &[u8], count: usize) -> Result<&[u8], Fault>
-    ensures { Reads (λ x. x.now) result (bytes_past count bytes.now) }
+    ensures { Returns (λ x. x.now) result (bytes_past count bytes.now) }
 {
     if bytes.len() < count {
         return Err(broken(Rule::End, bytes));
@@ -92,7 +92,7 @@ pub fn bytes_past(bytes: &[u8], count: usize) -> Result<&[u8], Fault>
 /// A length, and so many bytes.
 #[tactic(auto, unfolding(crate::specs::Wire::binary_at))]
 pub fn binary_at(bytes: &[u8]) -> Result<(&[u8], &[u8]), Fault>
-    ensures { Reads (λ x. (x.0.now, x.1.now)) result (binary_at bytes.now) }
+    ensures { Returns (λ x. (x.0.now, x.1.now)) result (binary_at bytes.now) }
 {
     let (count, rest) = number_at(bytes, 5)?;
     let count = count as usize;
@@ -105,7 +105,7 @@ pub fn binary_at(bytes: &[u8]) -> Result<(&[u8], &[u8]), Fault>
 /// A text.
 #[tactic(auto, using(crate::proofs::Texts::utf8_is, crate::proofs::Texts::utf8_is_not), unfolding(crate::specs::Wire::text_at))]
 pub fn text_at(bytes: &[u8]) -> Result<&str, Fault>
-    ensures { Reads (λ x. x.now) result (text_at bytes.now) }
+    ensures { Returns (λ x. x.now) result (text_at bytes.now) }
 {
     let (text, _rest) = binary_at(bytes)?;
     match std::str::from_utf8(text) {
@@ -127,7 +127,7 @@ fn item_type(kind: u8) -> u8
 /// The head of a list or a set: the items' type, how many they are, and the bytes behind it.
 #[tactic(auto, unfolding(crate::specs::Wire::list_at))]
 pub fn list_at(bytes: &[u8]) -> Result<(u8, u32, &[u8]), Fault>
-    ensures { Reads (λ x. (x.0, x.1, x.2.now)) result (list_at bytes.now) }
+    ensures { Returns (λ x. (x.0, x.1, x.2.now)) result (list_at bytes.now) }
 {
     let (head, rest) = byte_at(bytes)?;
     let (count, rest) = if head < 240 {
@@ -144,7 +144,7 @@ pub fn list_at(bytes: &[u8]) -> Result<(u8, u32, &[u8]), Fault>
 /// The head of a map: the types of its keys and values, how many pairs they are, and the bytes behind it.
 #[tactic(auto, unfolding(crate::specs::Wire::map_at))]
 pub fn map_at(bytes: &[u8]) -> Result<(u8, u8, u32, &[u8]), Fault>
-    ensures { Reads (λ x. (x.0, x.1, x.2, x.3.now)) result (map_at bytes.now) }
+    ensures { Returns (λ x. (x.0, x.1, x.2, x.3.now)) result (map_at bytes.now) }
 {
     let (count, rest) = number_at(bytes, 5)?;
     if count == 0 {
@@ -161,7 +161,7 @@ pub fn map_at(bytes: &[u8]) -> Result<(u8, u8, u32, &[u8]), Fault>
 #[tactic(auto, unfolding(crate::specs::Wire::id_at))]
 #[inline(always)]
 fn id_at(last: u16, more: u8, bytes: &[u8]) -> Result<(u16, &[u8]), Fault>
-    ensures { Reads (λ x. (x.0, x.1.now)) result (id_at last more bytes.now) }
+    ensures { Returns (λ x. (x.0, x.1.now)) result (id_at last more bytes.now) }
 {
     if more == 0 {
         let (id, rest) = count_at(bytes)?;
@@ -183,7 +183,7 @@ fn id_at(last: u16, more: u8, bytes: &[u8]) -> Result<(u16, &[u8]), Fault>
 #[tactic(auto, unfolding(crate::specs::Wire::field_at))]
 #[inline(always)]
 pub fn field_at(last: u16, bytes: &[u8]) -> Result<(u16, u8, &[u8]), Fault>
-    ensures { Reads (λ x. (x.0, x.1, x.2.now)) result (field_at last bytes.now) }
+    ensures { Returns (λ x. (x.0, x.1, x.2.now)) result (field_at last bytes.now) }
 {
     let (head, rest) = byte_at(bytes)?;
     if head == 0 {

@@ -1,0 +1,4 @@
+pub mod Answering
+pub mod Sizes
+pub mod Naming
+pub mod Soundness

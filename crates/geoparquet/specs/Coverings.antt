@@ -1,0 +1,56 @@
+-- Coverings: a column of boxes, one for each geometry (GeoParquet 1.1, "covering").
+use Rattle.std.specs.Prelude.{◌≡◌, ◌⊎◌, ◌&&◌, ◌||◌, Bool, true, false, IsTrue, bytes_eq, codes, List, Option, None, Some, ⊤}
+use Rattle.serde_json.specs.Data.{Data, array, Items, no_items, item}
+use Rattle.serde_json.specs.Find.{get, as_str}
+use Rattle.arrow_values.specs.Tree.{Text, Tree, plain, float16, float32, float64, struct}
+use Rattle.arrow_values.specs.Tree.{FieldTrees, no_fields, field}
+use Rattle.arrow_columns.specs.Column.{TypeTree, known, ColumnTree}
+use Rattle.geoparquet.specs.Values.{at}
+use Rattle.geoparquet.specs.Roots.{first_of}
+
+-- whether the type is one of floats
+abbrev pub is_floating : Tree → Bool
+is_floating (plain float16) = true
+is_floating (plain float32) = true
+is_floating (plain float64) = true
+is_floating t = false
+
+-- whether a field of that name has floats
+abbrev pub has_floats : Text → FieldTrees → Bool
+has_floats name no_fields = false
+has_floats name (field n t b m fs) = (bytes_eq n name && is_floating t) || has_floats name fs
+
+abbrev pub IsGroupWith : Text → TypeTree → Type 0
+IsGroupWith name (known (struct fs)) = IsTrue (has_floats name fs)
+IsGroupWith name t = ⊥
+
+-- the column is a group with a member of that name, of floats
+abbrev pub IsColumnWith : Text → Option ColumnTree → Type 0
+IsColumnWith name None = ⊥
+IsColumnWith name (Some c) = IsGroupWith name c.data_type
+
+-- two texts: the name of a column, and that of a member of its group
+abbrev pub IsPathTo : List ColumnTree → Option Text → Option Text → Type 0
+IsPathTo cs (Some column) (Some name) = IsColumnWith name (first_of cs column)
+IsPathTo cs _ _ = ⊥
+
+abbrev pub ArePathParts : List ColumnTree → Items → Type 0
+ArePathParts cs (item column (item name no_items)) = IsPathTo cs (as_str column) (as_str name)
+ArePathParts cs items = ⊥
+
+-- a path: an array of such two texts
+abbrev pub IsPath : List ColumnTree → Option Data → Type 0
+IsPath cs (Some (array items)) = ArePathParts cs items
+IsPath cs found = ⊥
+
+-- `bbox` of a covering: a path for each bound, of z for both or none
+abbrev pub AreBounds : List ColumnTree → Option Data → Type 0
+AreBounds cs bounds = IsPath cs (at (codes "xmin") bounds) × IsPath cs (at (codes "ymin") bounds)
+    × IsPath cs (at (codes "xmax") bounds) × IsPath cs (at (codes "ymax") bounds)
+    × (((at (codes "zmin") bounds ≡ None) × (at (codes "zmax") bounds ≡ None))
+    ⊎ (IsPath cs (at (codes "zmin") bounds) × IsPath cs (at (codes "zmax") bounds)))
+
+-- `covering`: absent, or an object with such a `bbox`
+abbrev pub IsCovering : List ColumnTree → Option Data → Type 0
+IsCovering cs None = ⊤
+IsCovering cs (Some d) = AreBounds cs (get (codes "bbox") d)

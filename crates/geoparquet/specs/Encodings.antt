@@ -1,0 +1,43 @@
+-- Encodings, and the types that columns of them have (GeoParquet 1.1, "encoding").
+use Rattle.std.specs.Prelude.{◌≡◌, codes, Option, None, Some, ⊤}
+use Rattle.arrow_values.specs.Tree.{Text}
+use Rattle.arrow_columns.specs.Column.{TypeTree, ColumnTree}
+use Rattle.geoarrow_layout.specs.declared.kinds.CoordType.TheVariants.{Separated}
+use Rattle.geoarrow_layout.specs.declared.kinds.Dimension.TheVariants.{XY, XYZ}
+use Rattle.geoarrow_layout.specs.declared.encodings.NativeKind.TheVariants.{Point, LineString, Polygon, MultiPoint, MultiLineString, MultiPolygon}
+use Rattle.geoarrow_layout.specs.declared.names.ExtensionName.{ExtensionName}
+use Rattle.geoarrow_layout.specs.declared.names.ExtensionName.TheVariants.{Native, Wkb}
+use Rattle.geoarrow_layout.specs.declared.encodings.Kind.{Kind}
+use Rattle.geoarrow_layout.specs.declared.encodings.Kind.TheVariants.{Native as OfNative, Wkb as OfWkb}
+use Rattle.column_check.specs.Types.{TypeAccepted}
+
+-- the text of an encoding, by the extension name of GeoArrow for such columns
+abbrev pub encoding_text : ExtensionName → Option Text
+encoding_text Wkb = Some (codes "WKB")
+encoding_text (Native Point) = Some (codes "point")
+encoding_text (Native LineString) = Some (codes "linestring")
+encoding_text (Native Polygon) = Some (codes "polygon")
+encoding_text (Native MultiPoint) = Some (codes "multipoint")
+encoding_text (Native MultiLineString) = Some (codes "multilinestring")
+encoding_text (Native MultiPolygon) = Some (codes "multipolygon")
+encoding_text _ = None
+
+-- the kinds that GeoParquet stores: well-known binary, and separated coordinates of two numbers or three with z
+abbrev pub IsStored : Kind → Type 0
+IsStored (OfWkb w) = ⊤
+IsStored (OfNative k Separated XY) = ⊤
+IsStored (OfNative k Separated XYZ) = ⊤
+IsStored _ = ⊥
+
+-- the type is stored so, as a column of that extension name
+abbrev pub IsStoredAs : ExtensionName → TypeTree → Type 0
+IsStoredAs n t = (k : Kind) × TypeAccepted n t k × IsStored k
+
+-- the column has a type of the encoding with that text
+abbrev pub IsEncodedAs : Text → ColumnTree → Type 0
+IsEncodedAs s c = (n : ExtensionName) × (encoding_text n ≡ Some s) × IsStoredAs n c.data_type
+
+-- there are an encoding and a column, and the column has a type of it
+abbrev pub IsEncoding : Option Text → Option ColumnTree → Type 0
+IsEncoding (Some s) (Some c) = IsEncodedAs s c
+IsEncoding _ _ = ⊥

@@ -1,0 +1,11 @@
+pub mod Values
+pub mod Roots
+pub mod Encodings
+pub mod GeometryTypes
+pub mod Boxes
+pub mod Alike
+pub mod Identifiers
+pub mod Coverings
+pub mod Checks
+pub mod Words
+pub mod Sound

@@ -1,0 +1,21 @@
+//! The metadata of GeoParquet 1.1, which a Parquet file has at the key `geo`, against the columns of the file: [`check_geo`] says of each
+//! rule of the format whether it holds, and of which column.
+#![tactic(auto)]
+
+mod alike;
+mod bbox;
+mod check;
+mod covering;
+mod crs;
+mod encoding;
+mod equality_laws;
+mod finding;
+pub mod laws;
+mod schema;
+mod types;
+mod values;
+mod words;
+
+pub use check::check_geo;
+pub use equality_laws::geo_check_equality_is_exact;
+pub use finding::{GeoCheck, GeoFinding};

@@ -1,0 +1,3 @@
+mod Laters
+mod Names
+mod Steps

@@ -1,0 +1,96 @@
+-- From what a step returned to what a call returned.
+use Rattle.std.proofs.Common.{◌≡◌, ℕ, List, map, Option, Some, None, Result, Ok, Err, true, false, Vec, Global, refl, subst, sym}
+use Rattle.base64.specs.Engines.{standard}
+use Rattle.base64.specs.GeneralPurpose.{decode_of}
+use Rattle.arrow_values.specs.Tree.{Text}
+use Rattle.arrow_columns.specs.Column.{ColumnTree, column_tree}
+use Rattle.arrow_columns.specs.declared.column.Column.{Column}
+use Rattle.arrow_ipc.specs.declared.schema.Schema.{Schema}
+use Rattle.parquet_footer.specs.Fault.{Refuses}
+use Rattle.parquet_footer.specs.Footer.{Contents, footer_at}
+use Rattle.parquet_footer.specs.declared.fault.Fault as footers
+use Rattle.parquet_footer.specs.declared.fault.FooterError.{FooterError}
+use Rattle.parquet_footer.specs.declared.fault.FooterError.TheVariants.{NotParquet, Encrypted, Invalid, Memory}
+use Rattle.parquet_columns.specs.declared.fault.Fault as elements
+use Rattle.parquet_columns.specs.Columns.{columns_of}
+use Rattle.parquet_schema.specs.Keys.{schema_key, value_of}
+use Rattle.parquet_schema.specs.Fault.{error_of}
+use Rattle.parquet_schema.specs.Reads.{same_names, IsBuilt, IsDecoded, HoldsSchema, IsStoredRead, IsReadBy, IsFooterRead, IsParsed, IsFileRead}
+use Rattle.parquet_schema.specs.declared.fault.SchemaError.{SchemaError}
+use Rattle.parquet_schema.specs.declared.fault.SchemaError.TheVariants.{Footer, Cut, Elements, Encoding, Ipc, Names, OutOfMemory}
+
+-- an error was handed on
+pub handed : {X : Type 0} (Is : Result X SchemaError → Type 0) (r : Result X SchemaError) (e : SchemaError) → r ≡ Err e → Is (Err e) → Is r
+handed Is r e same f = subst Is (sym same) f
+
+-- whatever there is, a call may be out of memory
+memory_by : (cs : List ColumnTree) (value : Option Text) → IsReadBy (Ok cs) value (Err OutOfMemory)
+memory_by cs (Some text) = tt
+memory_by cs None = tt
+
+memory_read : (there : Result (List ColumnTree) elements.Fault) (value : Option Text) → IsReadBy there value (Err OutOfMemory)
+memory_read (Ok cs) value = memory_by cs value
+memory_read (Err fault) value = tt
+
+memory_of : (bytes : List ℕ) (read : Result Contents footers.Fault) → IsParsed bytes read (Err OutOfMemory)
+memory_of bytes (Ok c) = memory_read (columns_of c.schema) (value_of schema_key c.key_value_metadata)
+memory_of bytes (Err fault) = tt
+
+module _ (value : Option Text) where
+  pub elements_fail : (there : Result (List ColumnTree) elements.Fault) (e : SchemaError) → IsBuilt there (Err e) → IsReadBy there value (Err e)
+  elements_fail (Err fault) e f = f
+  elements_fail (Ok cs) (Elements fault) f = absurd (cc)
+  elements_fail (Ok cs) OutOfMemory f = memory_by cs value
+  elements_fail (Ok cs) (Footer error) f = absurd f
+  elements_fail (Ok cs) Cut f = absurd f
+  elements_fail (Ok cs) (Encoding error) f = absurd f
+  elements_fail (Ok cs) (Ipc error) f = absurd f
+  elements_fail (Ok cs) Names f = absurd f
+
+  pub by_elements : (there : Result (List ColumnTree) elements.Fault) (columns : Vec Column Global) → there ≡ Ok (map column_tree columns.items) → value ≡ None → IsReadBy there value (Ok columns)
+  by_elements there columns is none = rw (is, none) refl
+
+  pub by_text : (there : Result (List ColumnTree) elements.Fault) (cs : List ColumnTree) (text : Text) (r : Result (Vec Column Global) SchemaError) → there ≡ Ok cs → value ≡ Some text → IsReadBy (Ok cs) (Some text) r → IsReadBy there value r
+  by_text there cs text r is some f = rw (is, some) f
+
+module _ (cs : List ColumnTree) (text : Text) where
+  pub decoding_fails : (e : SchemaError) → IsDecoded (decode_of standard text) (Err e) → IsStoredRead cs text (Err e)
+  decoding_fails (Encoding error) f = f
+  decoding_fails OutOfMemory f = tt
+  decoding_fails (Footer error) f = absurd f
+  decoding_fails Cut f = absurd f
+  decoding_fails (Elements fault) f = absurd f
+  decoding_fails (Ipc error) f = absurd f
+  decoding_fails Names f = absurd f
+
+  module _ (bytes : List ℕ) (are : decode_of standard text ≡ Ok bytes) where
+    pub schema_fails : (e : SchemaError) → HoldsSchema bytes (Err e) → IsStoredRead cs text (Err e)
+    schema_fails (Ipc error) f = (bytes, are, f)
+    schema_fails OutOfMemory f = tt
+    schema_fails (Footer error) f = absurd f
+    schema_fails Cut f = absurd f
+    schema_fails (Elements fault) f = absurd f
+    schema_fails (Encoding error) f = absurd f
+    schema_fails Names f = absurd f
+
+    module _ (s : Schema) (held : HoldsSchema bytes (Ok s)) where
+      pub names_differ : same_names (map column_tree s.columns.items) cs ≡ false → IsStoredRead cs text (Err Names)
+      names_differ differ = (bytes, are, s, held, differ)
+
+      pub is_stored : same_names (map column_tree s.columns.items) cs ≡ true → IsStoredRead cs text (Ok s.columns)
+      is_stored agree = (bytes, are, s, held, (refl, agree))
+
+pub is_parsed : (bytes : List ℕ) (read : Result Contents footers.Fault) (c : Contents) (r : Result (Vec Column Global) SchemaError) → read ≡ Ok c → IsFooterRead c r → IsParsed bytes read r
+is_parsed bytes read c r is f = rw is f
+
+pub is_refused : (bytes : List ℕ) (read : Result Contents footers.Fault) (e : FooterError) → Refuses bytes e read → IsParsed bytes read (Err (error_of e))
+is_refused bytes read NotParquet f = absurd f
+is_refused bytes read Encrypted f = absurd f
+is_refused bytes read (Invalid rule offset) f = rw f.1 (refl, f.2)
+is_refused bytes read Memory f = memory_of bytes read
+
+pub no_footer : (found : Result (List ℕ) SchemaError) (e : SchemaError) → found ≡ Err e → IsFileRead found (Err e)
+no_footer found e is = rw is refl
+
+pub with_footer : (found : Result (List ℕ) SchemaError) (bytes : List ℕ) (r : Result (Vec Column Global) SchemaError) → found ≡ Ok bytes → IsParsed bytes (footer_at bytes) r → IsFileRead found r
+with_footer found bytes r is f = rw is f

@@ -1,0 +1,3 @@
+pub mod Fault
+pub mod Keys
+pub mod Reads

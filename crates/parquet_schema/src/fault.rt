@@ -1,0 +1,41 @@
+//! Why a file has no columns.
+ghost use Rattle.std.specs.Prelude.{◌≡◌};
+ghost use Rattle.parquet_schema.specs.Fault.{error_of};
+
+use arrow_ipc::IpcError;
+use base64::DecodeError;
+use parquet_columns::Fault;
+use parquet_footer::FooterError;
+
+/// Why a Parquet file has no columns.
+#[derive(Debug, Clone, Copy, PartialEq, Eq)]
+pub enum SchemaError {
+    /// The file has no footer that is read, with the rule and the offset in the footer.
+    Footer(FooterError),
+    /// The footer is longer than what stands before its length.
+    Cut,
+    /// The elements of the schema break a rule, with the element's index.
+    Elements(Fault),
+    /// The value of the key `ARROW:schema` is not base64, with the offset.
+    Encoding(DecodeError),
+    /// The value of the key `ARROW:schema` holds no schema, with the rule and the byte.
+    Ipc(IpcError),
+    /// The schema that is stored has other columns than the elements, by their names.
+    Names,
+    /// Out of memory.
+    OutOfMemory,
+}
+
+/// The error of a footer that is not read.
+pub(crate) fn error_of(error: FooterError) -> SchemaError
+    ensures { result ≡ error_of error }
+{
+    match error {
+        FooterError::NotParquet => SchemaError::Footer(FooterError::NotParquet),
+        FooterError::Encrypted => SchemaError::Footer(FooterError::Encrypted),
+        FooterError::Invalid(rule, offset) => SchemaError::Footer(FooterError::Invalid(
+            rule, offset,
+        )),
+        FooterError::Memory => SchemaError::OutOfMemory,
+    }
+}
