@@ -1,7 +1,7 @@
 #!/usr/bin/env python3
 """The names of the package, and its command, which starts from any folder as interop/arrow_lines.py.
 
-    interop/arrow_lines.py FILE | bin/geoarrow_fields columns
+    interop/arrow_lines.py FILE | bin/geoarrow_check -
     interop/arrow_lines.py --check FILE
 
 `interop.command` says what the command does, and `interop` what its functions do.

@@ -15,6 +15,8 @@ import re
 import struct
 from typing import Any, Callable, Dict, List, Optional, Tuple
 
+from . import notation
+
 Field = Dict[str, Any]
 
 LINE_BYTES = 1_048_576  # of a line at most, docs/FORMAT.md, 2.3
@@ -25,7 +27,7 @@ FIELD_BYTES = len('{"name":"","nullable":true,"type":"null"}')  # the least that
 SCHEMA_CAPSULE = ctypes.create_string_buffer(b"arrow_schema")
 STREAM_CAPSULE = ctypes.create_string_buffer(b"arrow_array_stream")
 EXTENSION_NAME = "ARROW:extension:name"
-NULLABLE = 2  # the flag
+ORDERED, NULLABLE = 1, 2  # the flags
 
 # Each plain type that a line can hold, and its format string.
 FORMATS = {
@@ -40,13 +42,6 @@ MODES = {"dense": "+ud:", "sparse": "+us:"}
 MODE_WORDS = {"d": "dense", "s": "sparse"}
 SIZED_LIST = re.compile(r"\+w:([0-9]{1,10})")
 UNION = re.compile(r"\+u([ds]):((?:[0-9]{1,3}(?:,[0-9]{1,3})*)?)")
-# Arrow's types that a line cannot hold: decimals, times, binary of a fixed size, which their format strings say whole,
-# and maps, list views and run-end encoding, which have children.
-OTHER_PLAIN = re.compile(
-    r"w:[0-9]+|d:[0-9]+,-?[0-9]+(?:,[0-9]+)?|tt[smun]|ts[smun]:.*|tD[smun]|ti[MDn]", re.DOTALL)
-OTHER_NESTED = {"+m", "+vl", "+vL", "+r"}
-
-
 class SchemaError(ValueError):
     """A schema or a line that is not what it should be; the text says where and why."""
 
@@ -207,28 +202,41 @@ class _Column:
         name = _text(schema.name, "name", self.where) if schema.name is not None else ""
         if level == 1:
             self.where += f" ({shown(name)})"
-        found = {"name": name, "nullable": bool(schema.flags & NULLABLE), "type": self.type(schema, level)}
+        kind = self.type(schema, level)
+        if level == 1 and notation.has_other(kind):
+            kind = {"other": notation.of_type(kind)}
+        found = {"name": name, "nullable": bool(schema.flags & NULLABLE), "type": kind}
         metadata = _metadata(schema.metadata, self.where)
         if metadata:
             found["metadata"] = metadata
         return found
 
     def type(self, schema: ArrowSchema, level: int) -> Any:
-        """The type as a line has it; the format string where a line cannot have it, or nests too deep."""
+        """The type as a line has it; another type as an object of its notation, or of its format string where it nests too deep."""
         text = _text(schema.format, "format string", self.where)
-        if text in WORDS or OTHER_PLAIN.fullmatch(text):
-            if schema.n_children != 0:
-                raise SchemaError(f"{self.where}: format {shown(text)} with children")
-            return WORDS[text] if text in WORDS and not schema.dictionary else text
-        if text in OTHER_NESTED or (level == LEVELS and text.startswith("+")):
-            return text
-        return self.nested(text, schema, level + 1)
+        plain = WORDS.get(text) or notation.of_format(text)
+        if plain and schema.n_children != 0:
+            raise SchemaError(f"{self.where}: format {shown(text)} with children")
+        if level == LEVELS and (text.startswith("+") or schema.dictionary):
+            return {"other": text}
+        if schema.dictionary and plain:
+            values = ArrowSchema.from_address(schema.dictionary)
+            if not values.release:
+                raise SchemaError(f"{self.where}: a dictionary that was released before")
+            held = notation.of_type(self.type(values, level + 1))
+            return {"other": notation.dictionary(held, plain, bool(schema.flags & ORDERED))}
+        if text in WORDS:
+            return plain
+        return {"other": plain} if plain else self.nested(text, schema, level + 1)
 
     def nested(self, text: str, schema: ArrowSchema, level: int) -> Any:
         sized, union = SIZED_LIST.fullmatch(text), UNION.fullmatch(text)
-        if not (text in LIST_WORDS or sized or union or text == "+s") or schema.dictionary:
+        known = text in LIST_WORDS or text in notation.NESTED or sized or union or text == "+s"
+        if not known or schema.dictionary:
             raise SchemaError(f"{self.where}: unknown format {shown(text)}")
         below = [self.field(child, level) for child in _children(schema, self.left, self.where)]
+        if text in notation.NESTED:
+            return {"other": notation.nested(notation.NESTED[text], *map(notation.part, below))}
         if text == "+s":
             return {"struct": below}
         if union:
@@ -344,10 +352,15 @@ def _hold(schema: ArrowSchema, held: _Held, flags: int) -> None:
 def _format(kind: Any, where: str) -> Tuple[str, List[Any]]:
     """The format string of a type and the fields in it."""
     if isinstance(kind, str):
-        if kind in FORMATS or OTHER_PLAIN.fullmatch(kind):
-            return FORMATS.get(kind, kind), []
+        if kind in FORMATS:
+            return FORMATS[kind], []
         raise SchemaError(f"{where}: the type {shown(kind)} stands for none")
     keys = frozenset(kind) if isinstance(kind, dict) else frozenset()
+    if keys == {"other"} and isinstance(kind["other"], str):
+        text = notation.format_of(kind["other"])
+        if text is None:
+            raise SchemaError(f"{where}: the type {shown(kind['other'])} is not said whole by its notation")
+        return text, []
     if len(keys) == 1 and keys <= LISTS.keys():
         (word,) = keys
         return LISTS[word], [kind[word]]

@@ -1,36 +1,39 @@
-"""The command that prints the lines of a file, or what the program says of them.
+"""The command that prints the lines of a file, or what the programs say of them.
 
-    interop/arrow_lines.py FILE | bin/geoarrow_fields columns
-    interop/arrow_lines.py --ask columns FILE
+    interop/arrow_lines.py FILE | bin/geoarrow_check -
     interop/arrow_lines.py --check FILE
     interop/arrow_lines.py --check --json FILE
+    interop/arrow_lines.py --ask columns FILE
 
 FILE is a `.parquet`, `.arrow` or `.feather` file, for which pyarrow is needed, or one that GDAL opens, for which its
 library is, also by a path of its virtual file systems, such as `/vsizip/FILE` and `/vsistdin/`. The first form prints a
-line a column (docs/FORMAT.md, 2.1), the second the program's answers to these lines, the third a table of what each
-column holds, the fourth the same as JSON. `--layer NAME` names another layer than the first; `--all-layers` takes all,
-in order: their lines or answers one after another, a table for each behind a line `layer NAME`, or in the JSON an
-object for each.
+line a column (docs/FORMAT.md, 2.1 and 2.7), the second and third print what `geoarrow_check --infer` says of them, as a table or
+as lines of JSON, the last the answers of `geoarrow_fields` to one of its commands. `--layer NAME` names another layer than the
+first; `--all-layers` takes all, in order: their lines or answers one after another, and each table behind a line `layer NAME`.
 
-Status 0; 1 where `--check` finds a faulty column; 2 where the file cannot be read, the program does not run or the
+Status 0; 1 where `--check` finds an invalid column; 2 where the file cannot be read, the program does not run or the
 output cannot be written, which one line on standard error then says. A pipe hands no status on, and its reader would
 take no lines for a schema without columns: so where the first form fails and prints to a pipe, it prints `error input`,
-as the program does where its own input fails; to that line the program answers `error field`.
+which is no field.
 """
 import argparse
-import json
 import os
 import pathlib
 import stat
+import subprocess
 import sys
 from typing import List, Optional, Sequence, TextIO, Tuple
 
-from . import column_check
 from .c_schema import SchemaError, shown
 from .files import FileError, Layer, layers_of_file
 
-PROGRAM = pathlib.Path(__file__).resolve().parent.parent / "bin/geoarrow_fields"
-FAULTY, FAILED = 1, 2
+BIN = pathlib.Path(__file__).resolve().parent.parent / "bin"
+FIELDS, CHECK = BIN / "geoarrow_fields", BIN / "geoarrow_check"
+INVALID, FAILED = 1, 2
+
+
+class ProgramError(Exception):
+    """The program did not run, or did not answer each line."""
 
 
 class OutputError(Exception):
@@ -63,10 +66,9 @@ def _words(name: str, arguments: Optional[Sequence[str]]) -> argparse.Namespace:
     layers.add_argument("--all-layers", action="store_true", help="all layers, in order")
     forms = parser.add_mutually_exclusive_group()
     forms.add_argument("--ask", metavar="COMMAND", help="print what the program answers to this command and the lines")
-    forms.add_argument("--check", action="store_true", help="print what each column holds")
-    parser.add_argument("--json", action="store_true", help="with --check: print it as JSON")
-    parser.add_argument(
-        "--program", metavar="PATH", default=str(PROGRAM), help="with --ask and --check: the program to ask")
+    forms.add_argument("--check", action="store_true", help="print what geoarrow_check says of each column")
+    parser.add_argument("--json", action="store_true", help="with --check: a line of JSON for each column")
+    parser.add_argument("--program", metavar="PATH", help="with --ask and --check: another program to ask")
     try:
         words = parser.parse_args(arguments)
         if words.json and not words.check:
@@ -91,7 +93,7 @@ def _run(words: argparse.Namespace) -> int:
             _tell_a_pipe()
         _tell(f"{words.file}: {error}")
         return FAILED
-    except column_check.ProgramError as error:
+    except ProgramError as error:
         _tell(str(error))
         return FAILED
     _write(text)
@@ -99,24 +101,39 @@ def _run(words: argparse.Namespace) -> int:
 
 
 def _lines_or_answers(layers: List[Layer], words: argparse.Namespace) -> str:
-    found = [line for layer in layers for line in layer.lines]
-    if words.ask is not None:
-        found = column_check.answers(found, words.program, words.ask)
-    return "".join(line + "\n" for line in found)
+    found = "".join(line + "\n" for layer in layers for line in layer.lines)
+    if words.ask is None:
+        return found
+    program = words.program or str(FIELDS)
+    text, status = _answer(program, [words.ask], found)
+    lines, answers = found.count("\n"), text.count("\n")
+    if status != 0 or answers != lines:
+        last = shown(text.split("\n")[-2]) if answers else "nothing"
+        raise ProgramError(f"{program}: status {status}, {answers} answers to {lines} lines, last {last}")
+    return text
 
 
 def _checked(layers: List[Layer], words: argparse.Namespace) -> Tuple[str, int]:
-    """What is printed of these layers, and the status."""
-    checked = [(layer.name, column_check.checked(layer.lines, words.program, layer.geometry_types)) for layer in layers]
-    faulty = sum(column_check.faulty_count(columns) for _, columns in checked)
-    if not words.json:
-        heads = [f"layer {shown(name)}\n" if words.all_layers and name is not None else "" for name, _ in checked]
-        text = "\n".join(head + column_check.as_table(columns) for head, (_, columns) in zip(heads, checked))
-    else:
-        objects = [column_check.as_object(columns, name) for name, columns in checked]
-        whole = {"faulty": faulty, "layers": objects} if words.all_layers else objects[0]
-        text = json.dumps(whole, ensure_ascii=False, indent=2) + "\n"
-    return text, FAULTY if faulty else 0
+    """What the program says of these layers, and the status."""
+    program, options = words.program or str(CHECK), ["--infer", "--json", "-"] if words.json else ["--infer", "-"]
+    said, worst = [], 0
+    for layer in layers:
+        text, status = _answer(program, options, "".join(line + "\n" for line in layer.lines))
+        if status not in (0, INVALID):
+            raise ProgramError(f"{program}: status {status}")
+        heads = words.all_layers and not words.json and layer.name is not None
+        said.append((f"layer {shown(layer.name or '')}\n" if heads else "") + text)
+        worst = max(worst, status)
+    return ("" if words.json else "\n").join(said), worst
+
+
+def _answer(program: str, words: Sequence[str], text: str) -> Tuple[str, int]:
+    """What a program writes of this input, and its status."""
+    try:
+        ran = subprocess.run([program, *words], input=text.encode("utf-8"), stdout=subprocess.PIPE)
+    except OSError as error:
+        raise ProgramError(f"{program}: {error.strerror}") from None
+    return ran.stdout.decode("utf-8", "replace"), ran.returncode
 
 
 def _tell_layers(layers: List[Layer], names: List[str], words: argparse.Namespace) -> None:

@@ -176,12 +176,13 @@ def _crs(gdal: Any, crs: Optional[int]) -> Dict[str, str]:
 
 
 def with_geometries(columns: List[Field], geometries: List[Geometry]) -> Tuple[List[Field], List[Optional[str]]]:
-    """The columns, with GDAL's CRS where they have none; and the geometry type of each, where it knows one.
+    """The columns, with GDAL's CRS where they have none, and by GeoArrow's name for WKB where they have GDAL's older one;
+    and the geometry type of each, where it knows one.
 
     The geometry fields of a layer stand in its stream in their order; if some were left out, nothing is said of any.
     """
     places = [at for at, column in enumerate(columns) if _is_geometry(column)]
-    columns = list(columns)
+    columns = [_renamed(column) for column in columns]
     types: List[Optional[str]] = [None] * len(columns)
     if len(places) == len(geometries):
         for at, geometry in zip(places, geometries):
@@ -192,6 +193,14 @@ def with_geometries(columns: List[Field], geometries: List[Geometry]) -> Tuple[L
 def _is_geometry(column: Field) -> bool:
     name = column.get("metadata", {}).get(EXTENSION_NAME, "")
     return name == "ogc.wkb" or name.startswith("geoarrow.")
+
+
+def _renamed(column: Field) -> Field:
+    """The column, which has GeoArrow's name for WKB where GDAL gave it the older `ogc.wkb`."""
+    metadata = column.get("metadata", {})
+    if metadata.get(EXTENSION_NAME) != "ogc.wkb":
+        return column
+    return {**column, "metadata": {**metadata, EXTENSION_NAME: "geoarrow.wkb"}}
 
 
 def _with_crs(column: Field, crs: Dict[str, str]) -> Field:

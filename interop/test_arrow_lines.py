@@ -5,6 +5,7 @@ structures that `Schema` makes are looked at byte by byte. Run by interop/test, 
 `python3 -m unittest interop.test_arrow_lines`, at the top of the repository.
 """
 import ctypes
+import json
 import struct
 import subprocess
 import sys
@@ -21,10 +22,14 @@ PLAIN = {
     "l": "int64", "L": "uint64", "e": "float16", "f": "float32", "g": "float64", "z": "binary", "Z": "large_binary",
     "vz": "binary_view", "u": "utf8", "U": "large_utf8", "vu": "utf8_view", "tdD": "date32", "tdm": "date64",
 }
-OTHER = [
-    "w:42", "d:19,10", "d:19,10,256", "d:5,-2", "tts", "ttm", "ttu", "ttn", "tss:", "tsm:UTC", "tsu:Europe/Zürich",
-    "tsn:+01:00", "tDs", "tDm", "tDu", "tDn", "tiM", "tiD", "tin",
-]
+# Types that a line cannot hold, with their usual notation.
+OTHER = {
+    "w:42": "fixed_size_binary[42]", "d:19,10": "decimal128(19, 10)", "d:19,10,256": "decimal256(19, 10)",
+    "d:5,-2": "decimal128(5, -2)", "tts": "time32[s]", "ttm": "time32[ms]", "ttu": "time64[us]", "ttn": "time64[ns]",
+    "tss:": "timestamp[s]", "tsm:UTC": "timestamp[ms, tz=UTC]", "tsu:Europe/Zürich": "timestamp[us, tz=Europe/Zürich]",
+    "tsn:+01:00": "timestamp[ns, tz=+01:00]", "tDs": "duration[s]", "tDm": "duration[ms]", "tDu": "duration[us]",
+    "tDn": "duration[ns]", "tiM": "month_interval", "tiD": "day_time_interval", "tin": "month_day_nano_interval",
+}
 FLOAT = '{"name":"xy","nullable":false,"type":"float64"}'
 
 
@@ -85,6 +90,11 @@ def of_type(text, name="f", nullable="true"):
     return '{"name":"%s","nullable":%s,"type":%s}' % (name, nullable, text)
 
 
+def of_other(notation):
+    """The line of a column of another type."""
+    return of_type(json.dumps({"other": notation}, ensure_ascii=False, separators=(",", ":")))
+
+
 class OutOfStructures(unittest.TestCase):
     def setUp(self):
         self.of = Producer()
@@ -123,15 +133,31 @@ class OutOfStructures(unittest.TestCase):
                 self.assertEqual(self.of.lines(self.of.child(text, children=children)), [of_type(line)])
 
     def test_types_that_lines_do_not_have(self):
-        for text in OTHER:
+        for text, notation in OTHER.items():
             with self.subTest(text):
-                self.assertEqual(self.of.lines(self.of.child(text)), [of_type(f'"{text}"')])
+                self.assertEqual(self.of.lines(self.of.child(text)), [of_other(notation)])
         entries = self.of.child("+s", "entries", 0, children=[self.of.child("u", "k", 0), self.of.child("u", "v")])
-        for text, children in {"+m": [entries], "+vl": [entries], "+vL": [entries], "+r": [entries, entries]}.items():
+        part = "entries: struct<k: utf8 not null, v: utf8> not null"
+        for text, word, children in (("+m", "map", 1), ("+vl", "list_view", 1), ("+vL", "large_list_view", 1),
+                                     ("+r", "run_end_encoded", 2)):
             with self.subTest(text):
-                self.assertEqual(self.of.lines(self.of.child(text, children=children)), [of_type(f'"{text}"')])
+                line = of_other(f"{word}<{', '.join([part] * children)}>")
+                self.assertEqual(self.of.lines(self.of.child(text, children=[entries] * children)), [line])
         values = self.of.child("u", "")
-        self.assertEqual(self.of.lines(self.of.child("i", dictionary=ctypes.addressof(values))), [of_type('"i"')])
+        for flags, ordered in ((2, 0), (3, 1)):
+            line = of_other(f"dictionary<values=utf8, indices=int32, ordered={ordered}>")
+            child = self.of.child("i", flags=flags, dictionary=ctypes.addressof(values))
+            self.assertEqual(self.of.lines(child), [line])
+
+    def test_types_with_such_a_type_below(self):
+        at, x = self.of.child("tsm:", "at", 0), self.of.child("g", "x")
+        for text, children, notation in (
+                ("+s", [x, at], "struct<x: float64, at: timestamp[ms] not null>"),
+                ("+l", [at], "list<at: timestamp[ms] not null>"),
+                ("+w:2", [at], "fixed_size_list<at: timestamp[ms] not null>[2]"),
+                ("+ud:5,1", [x, at], "dense_union<x: float64=5, at: timestamp[ms] not null=1>")):
+            with self.subTest(text):
+                self.assertEqual(self.of.lines(self.of.child(text, children=children)), [of_other(notation)])
 
     def test_names_and_flags(self):
         names = {
@@ -371,7 +397,7 @@ class Hostile(unittest.TestCase):
         for _ in range(20_000):
             column = self.of.child("+l", children=[column])
         (line,) = self.of.lines(column)
-        self.assertEqual((line.count("{"), line.count('"float64"'), line.count('"type":"+l"')), (127, 0, 1))
+        self.assertEqual((line.count("list<"), line.count("{"), line.count(": +l")), (63, 2, 1))
 
     def test_more_fields_than_a_line_has_room_for(self):
         column = self.of.child("g")
@@ -409,7 +435,7 @@ class IntoStructures(unittest.TestCase):
         self.there_and_back((TOP / "examples/schema.jsonl").read_text().split("\n")[:-1])
 
     def test_types_that_lines_do_not_have(self):
-        self.there_and_back([of_type(f'"{text}"') for text in OTHER])
+        self.there_and_back([of_other(notation) for notation in OTHER.values()])
 
     def test_metadata_and_names(self):
         metadata = '{"":"","k":"%s","é":"\\u0000"}' % ("é" * 300_000)
@@ -524,7 +550,9 @@ class IntoStructures(unittest.TestCase):
         }
         types = {
             '"Null"': "stands for none", '"g"': "stands for none", '"i"': "stands for none", '"+l"': "stands for none",
-            '"+m"': "stands for none", '"tss:\\u0000"': "a character 0", "null": "no type", "{}": "no type",
+            '"+m"': "stands for none", '"tsm:"': "stands for none", "null": "no type", "{}": "no type",
+            '{"other":"timestamp[s, tz=\\u0000]"}': "a character 0", '{"other":1}': "no type",
+            '{"other":"map<entries: null>"}': "not said whole", '{"other":"tsm:"}': "not said whole",
             '{"list":1}': "no field", '{"list":%s,"size":1}' % FLOAT: "no type", '{"struct":{}}': "no type",
             '{"struct":[%s,1]}' % FLOAT: "no field", '{"mode":"other","union":[]}': "no type",
             '{"mode":[],"union":[]}': "no type",

@@ -15,7 +15,7 @@ import zipfile
 
 from . import files, gdal_layers
 from .gdal_layers import Geometry
-from .testing import BUILT, TOP, InAFolder, line
+from .testing import CHECK, TOP, InAFolder, line
 
 POINTS = {
     "type": "FeatureCollection",
@@ -38,9 +38,9 @@ TWO_GEOMETRIES = """<OGRVRTDataSource>
 </OGRVRTLayer>
 </OGRVRTDataSource>
 """
-# A program to which each geometry column of GDAL is one of WKB with a CRS.
+# A program that says of each line which column it is of.
 PROGRAM = """#!/bin/sh
-sed -e 's/.*\\(ogc\\|geoarrow\\)[.]wkb.*/inferred wkb - - {"crs":"A:1"}/' -e t -e 's/.*/other/'
+sed -e 's/.*"name":"\\([^"]*\\)".*/\\1/'
 """
 CODE = {"crs": "EPSG:4326", "crs_type": "authority_code"}
 
@@ -90,7 +90,8 @@ class WithoutGdal(InAFolder):
                     texts = {"name": name} if before is None else {"name": name, "metadata": before}
                     column = json.loads(line("binary", "g", **texts))
                     columns, types = gdal_layers.with_geometries([column], [Geometry(CODE, "Point")])
-                    self.assertEqual(columns, [json.loads(line("binary", "g", name=name, metadata=after))])
+                    wanted = line("binary", "g", name=name.replace("ogc", "geoarrow"), metadata=after)
+                    self.assertEqual(columns, [json.loads(wanted)])
                     self.assertEqual(types, ["Point"])
 
     def test_columns_that_stay_as_they_are(self):
@@ -100,10 +101,11 @@ class WithoutGdal(InAFolder):
         geometries = [Geometry(CODE, None)] * len(said)
         self.assertEqual(gdal_layers.with_geometries(columns, geometries), (columns, [None] * len(columns)))
         without = [json.loads(line("binary", "g", name="ogc.wkb"))]
-        self.assertEqual(gdal_layers.with_geometries(without, [Geometry({}, "Point")]), (without, ["Point"]))
-        self.assertEqual(gdal_layers.with_geometries(without, []), (without, [None]))
+        named = [json.loads(line("binary", "g", name="geoarrow.wkb"))]
+        self.assertEqual(gdal_layers.with_geometries(without, [Geometry({}, "Point")]), (named, ["Point"]))
+        self.assertEqual(gdal_layers.with_geometries(without, []), (named, [None]))
         two = [Geometry(CODE, "Point")] * 2
-        self.assertEqual(gdal_layers.with_geometries(without, two), (without, [None]))
+        self.assertEqual(gdal_layers.with_geometries(without, two), (named, [None]))
 
     def test_fault_with_which_gdal_goes_on(self):
         for kind, refused in ((2, False), (3, True), (4, True)):
@@ -173,14 +175,14 @@ class Files(InAFolderWithGdal):
                 columns = self.columns(name if name == "places.geojson" else self.made(name))
                 (geometry,) = [one for one in columns.values() if "metadata" in one]
                 self.assertEqual((columns["name"]["type"], geometry["type"]), ("utf8", "binary"))
-                self.assertIn(geometry["metadata"]["ARROW:extension:name"], ("ogc.wkb", "geoarrow.wkb"))
+                self.assertEqual(geometry["metadata"]["ARROW:extension:name"], "geoarrow.wkb")
                 self.assertIn("crs", json.loads(geometry["metadata"]["ARROW:extension:metadata"]))
 
     def test_geopackage(self):
         columns = self.columns(self.made("places.gpkg"))
         self.assertEqual(list(columns), ["fid", "name", "people", "seen", "geom"])
         self.assertEqual([one["type"] for one in columns.values()][:3], ["int64", "utf8", "int32"])
-        self.assertTrue(columns["seen"]["type"].startswith("tsm:"))
+        self.assertTrue(columns["seen"]["type"]["other"].startswith("timestamp[ms"))
 
     def test_files_that_cannot_be_read(self):
         self.file("text.gpkg", "no GeoPackage")
@@ -299,39 +301,14 @@ class Check(InAFolderWithGdal):
         program.write_text(PROGRAM)
         program.chmod(0o755)
         self.assertEqual(self.ran("--check", "--all-layers", "--program", program, file), (0, (
-            "layer first\n"
-            "column  holds                  CRS  edges\n"
-            "fid     no geometry\n"
-            "name    no geometry\n"
-            "people  no geometry\n"
-            "seen    no geometry\n"
-            "geom    taken for wkb (Point)  A:1  planar\n"
+            "layer first\nfid\nname\npeople\nseen\ngeom\n"
             "\n"
-            "layer second é\n"
-            "column  holds                     CRS  edges\n"
-            "fid     no geometry\n"
-            "people  no geometry\n"
-            "geom    taken for wkb (3D Point)  A:1  planar\n"), ""))
+            "layer second é\nfid\npeople\ngeom\n"), ""))
 
-    @unittest.skipUnless(BUILT.is_file(), "the program is not built")
+    @unittest.skipUnless(CHECK.is_file(), "the program is not built")
     def test_real_program(self):
-        status, text, told = self.ran("--check", "--json", "--program", BUILT, self.made("places.gpkg"))
-        found = json.loads(text)
-        self.assertEqual((status, told, found["layer"], found["faulty"]), (0, "", "places", 0))
-        self.assertEqual([column["state"] for column in found["columns"]][:4], ["other", "inferred", "other", "other"])
-        self.assertEqual([column["kind"] for column in found["columns"]], [None, "wkt", None, None, "wkb"])
-
-    @unittest.skipUnless(BUILT.is_file(), "the program is not built")
-    def test_crs_by_the_real_program(self):
-        file = self.two_layers()
-        crs_of(self.columns(file, "--layer", "first")["geom"])
-        status, text, told = self.ran("--check", "--json", "--all-layers", "--program", BUILT, file)
-        found = json.loads(text)
-        self.assertEqual((status, told, found["faulty"], len(found["layers"])), (0, "", 0, 2))
-        for layer in found["layers"]:
-            geometry = layer["columns"][-1]
-            self.assertEqual(geometry["crs"], self.code_by_ogrinfo(file, layer["layer"]))
-            self.assertEqual([geometry["geometry_type"]], self.by_ogrinfo(file, layer["layer"])[0])
-        file = self.made("own.gpkg", "-t_srs", "+proj=laea +lat_0=46.5 +lon_0=7 +datum=WGS84 +title=Ours")
-        status, text, _ = self.ran("--check", "--json", "--program", BUILT, file)
-        self.assertEqual((status, json.loads(text)["columns"][-1]["crs"]), (0, "Ours"))
+        status, text, told = self.ran("--check", "--json", "--program", CHECK, self.made("places.gpkg"))
+        found = [json.loads(one) for one in text.splitlines()]
+        self.assertEqual((status, told), (0, ""))
+        self.assertEqual([one["state"] for one in found], ["plain", "inferred", "plain", "plain", "geometry"])
+        self.assertTrue(found[3]["type"].startswith("timestamp[ms"))

@@ -18,7 +18,7 @@ class Output(InAFolder):
         self.with_pyarrow()
         self.file("f.parquet", line("null", "n"))
         self.file("large.parquet", *(line("null", "n" * 100_000) for _ in range(20)))
-        self.program(["other"])
+        self.program(["said"], words=["--infer", "-"])
 
     def test_closed(self):
         for words in ("f.parquet", "--check --program ./program f.parquet", "--help", "missing"):

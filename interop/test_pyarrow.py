@@ -22,7 +22,7 @@ LINES = [
     '"name":"é","nullable":true,"type":"binary"}',
     '{"name":"xy","nullable":true,"type":{"struct":[{"name":"x","nullable":false,"type":"float64"},'
     '{"name":"y","nullable":false,"type":"float64"}]}}',
-    '{"name":"seen","nullable":true,"type":"tsm:UTC"}',
+    '{"name":"seen","nullable":true,"type":{"other":"timestamp[ms, tz=UTC]"}}',
 ]
 
 

@@ -11,6 +11,7 @@ HERE = pathlib.Path(__file__).resolve().parent
 TOP = HERE.parent
 COMMAND = HERE / "arrow_lines.py"
 BUILT = TOP / "crates/fields_program/out/fields_program"
+CHECK = TOP / "crates/geoarrow_check/out/geoarrow_check"
 PROJJSON = {"type": "GeographicCRS", "name": "WGS 84", "id": {"authority": "EPSG", "code": 4326}}
 # A stand-in for pyarrow: its files are lines of fields, behind `stream` where they are no file of IPC.
 PYARROW = {
@@ -107,19 +108,20 @@ class InAFolder(unittest.TestCase):
         (self.folder / name).write_text("\n".join(lines), encoding="utf-8")
         return name
 
-    def program(self, answers, status=0):
-        """A program that takes the word `columns`, reads all lines, and writes these answers."""
+    def program(self, answers, status=0, words=("columns",)):
+        """A program that takes these words, reads all lines, and writes these answers, each a line."""
         path = self.folder / "program"
         text = "".join(answer + "\n" for answer in answers).encode()
         path.write_text(
-            f"#!{sys.executable}\nimport sys\nassert sys.argv[1:] == ['columns']\nsys.stdin.buffer.read()\n"
+            f"#!{sys.executable}\nimport sys\nassert sys.argv[1:] == {list(words)!r}\nsys.stdin.buffer.read()\n"
             f"sys.stdout.buffer.write({text!r})\nsys.exit({status})\n")
         path.chmod(0o755)
         return path
 
     def checked(self, lines, answers, *words, status=0):
-        """What the check answers of a file of these lines."""
+        """What the check prints of a file of these lines."""
         if not (self.folder / "modules").exists():
             self.with_pyarrow()
         file = self.file("f.parquet", *lines)
-        return self.ran("--check", "--program", self.program(answers, status), file, *words)
+        program = self.program(answers, status, ["--infer", *(word for word in words if word == "--json"), "-"])
+        return self.ran("--check", "--program", program, file, *words)

@@ -28,9 +28,16 @@ Several files, each under its name; a CRS by its code, its name or its text; an 
   one:
   column    holds                        CRS                                       edges
   named     wkb - -                      WGS 84                                    planar
+      CRS has a number that is not whole
+      CRS without crs_type
   code      wkb - -                      OGC:CRS84                                 planar
+      CRS without crs_type
   long      wkb - -                      0123456789012345678901234567890123456789  planar
+      CRS without crs_type
   number    wkb - -                      a CRS                                     planar
+      CRS has a number that is not whole
+      CRS without crs_type
+      CRS is neither an object nor a text
   flag?[1m  extension arrow.bool8
   bad       invalid geoarrow.linestring
       unexpected number of fields at v
@@ -57,11 +64,76 @@ The columns as lines, which the other program reads
 
   $ geoarrow_check --lines ../examples/schema.jsonl | cmp - ../examples/schema.jsonl
 
+The columns as an Arrow stream, which is read back
+
+  $ geoarrow_check --ipc ../crates/geoarrow_check/data/file.arrow | geoarrow_check --lines -
+  {"metadata":{"ARROW:extension:name":"geoarrow.linestring"},"name":"g","nullable":true,"type":{"list":{"name":"vertices","nullable":false,"type":{"fixed_size_list":{"name":"xym","nullable":false,"type":"float64"},"size":3}}}}
+
+  $ geoarrow_check --ipc ../examples/schema.jsonl | geoarrow_check --lines - | cmp - ../examples/schema.jsonl
+
+  $ geoarrow_check --ipc ../crates/geoarrow_check/data/other.arrows
+  ../crates/geoarrow_check/data/other.arrows: column 1 has a type that no message can hold
+  [2]
+
+  $ geoarrow_check --ipc --lines x 2>&1 | head -n 1
+  geoarrow_check: --ipc excludes --json and --lines
+
+  $ geoarrow_check --ipc x y 2>&1 | head -n 1
+  geoarrow_check: --ipc takes one file
+
+Columns of Parquet files
+
+  $ geoarrow_check ../crates/geoarrow_check/data/stored.parquet
+  column  holds          CRS  edges
+  g       large_wkb - -       planar
+
+  $ geoarrow_check --json - < ../crates/geoarrow_check/data/plain.parquet
+  {"column":"g","index":0,"state":"plain","type":"binary"}
+
+Columns of other types as lines, which are read back
+
   $ geoarrow_check --lines ../crates/geoarrow_check/data/other.arrows
   {"metadata":{"ARROW:extension:name":"geoarrow.point"},"name":"g","nullable":true,"type":{"fixed_size_list":{"name":"xy","nullable":false,"type":"float64"},"size":2}}
-  ../crates/geoarrow_check/data/other.arrows: column é: no line has the type dense_union<p: utf8=5, q: timestamp[us, tz=UTC]=1>
-  ../crates/geoarrow_check/data/other.arrows: column d: no line has the type dictionary<values=large_utf8, indices=int16, ordered=1>
-  [2]
+  {"name":"é","nullable":false,"type":{"other":"dense_union<p: utf8=5, q: timestamp[us, tz=UTC]=1>"}}
+  {"name":"d","nullable":true,"type":{"other":"dictionary<values=large_utf8, indices=int16, ordered=1>"}}
+
+  $ geoarrow_check --lines ../crates/geoarrow_check/data/other.arrows | geoarrow_check -
+  column  holds                                                    CRS  edges
+  g       point interleaved XY                                          planar
+  é       dense_union<p: utf8=5, q: timestamp[us, tz=UTC]=1>
+  d       dictionary<values=large_utf8, indices=int16, ordered=1>
+
+  $ echo '{"metadata":{"ARROW:extension:name":"geoarrow.point"},"name":"p","nullable":true,"type":{"other":"map<e: null>"}}' | geoarrow_check -
+  column  holds                   CRS  edges
+  p       invalid geoarrow.point
+      no layout of GeoArrow has this type
+  [1]
+
+What a column is expected to hold: parts in any order
+
+  $ geoarrow_check --quiet --infer --expect outline=EPSG:4326,XYZ,native,interleaved,multipolygon --expect footprint=WKB,wkb --expect track=XYM ../examples/schema.jsonl
+  [1]
+
+  $ geoarrow_check --quiet --expect g=linestring,XYM ../crates/geoarrow_check/data/file.arrow
+
+  $ geoarrow_check --quiet --expect g=XY,WKB --expect h=point --expect g=OGC:CRS84 ../crates/geoarrow_check/data/file.arrow
+  ../crates/geoarrow_check/data/file.arrow: column g is not XY: linestring interleaved XYM, no CRS
+  ../crates/geoarrow_check/data/file.arrow: no column h
+  ../crates/geoarrow_check/data/file.arrow: column g is not OGC:CRS84: linestring interleaved XYM, no CRS
+  [1]
+
+  $ geoarrow_check --json --expect id=point ../examples/schema.jsonl 2>&1 > /dev/null
+  ../examples/schema.jsonl: column id holds no geometries
+  [1]
+
+Only the end of an Arrow file is read, and only the first message of a stream
+
+  $ (printf 'ARROW1\000\000'; tail -c 2000 ../crates/geoarrow_check/data/file.arrow) > "$TMPDIR/file" && geoarrow_check --quiet --expect g=linestring "$TMPDIR/file"
+
+  $ truncate -s 8G "$TMPDIR/large" && printf 'ARROW1' | dd of="$TMPDIR/large" conv=notrunc status=none && cat ../crates/geoarrow_check/data/file.arrow >> "$TMPDIR/large" && geoarrow_check --quiet --expect g=linestring "$TMPDIR/large"
+
+  $ (cat ../crates/geoarrow_check/data/stream.arrows; yes) | geoarrow_check --json -
+  {"column":"a","index":0,"state":"plain","type":"int64"}
 
 Lines of JSON
 
@@ -104,11 +176,40 @@ Files that cannot be read: the next one is read all the same
   [2]
 
   $ printf '{"name":"a","nullable":true,"type":"null"}\n[]\n' | geoarrow_check --json -
-  -: line 2 is no field
+  -: line 2: is JSON, but no object
+  [2]
+
+  $ for line in '{"name":"a" "nullable":true}' '' '{"nullable":true,"type":"null"}' '{"name":"a","type":"null"}' '{"metadata":{"a":1},"name":"a","nullable":true,"type":"null"}' '{"name":"a","nullable":true,"type":"time"}' '{"name":"a","nullable":true,"type":{"other":"time","size":1}}'
+  > do
+  >     printf '{"name":"a","nullable":true,"type":"null"}\n%s\n' "$line" | geoarrow_check -
+  > done
+  -: line 2, byte 13: is no JSON, or nests more than 127 levels
+  -: line 2, byte 0: is no JSON, or nests more than 127 levels
+  -: line 2: is JSON, but no field: "name" is no text
+  -: line 2: is JSON, but no field: "nullable" is neither true nor false
+  -: line 2: is JSON, but no field: "metadata" is no object of texts
+  -: line 2: is JSON, but no field: "type" is unknown
+  -: line 2: is JSON, but no field: "type" is unknown
+  [2]
+
+  $ printf 'ab\377\n' | geoarrow_check -
+  -: line 1, byte 3: is no UTF-8
   [2]
 
   $ printf 'PAR1PAR1' | geoarrow_check --json -
-  -: Parquet files are not read
+  -: the footer is larger than the file
+  [2]
+
+  $ printf 'PAR1\000\000\000\000PAR1' | geoarrow_check --json -
+  -: byte 0 of the footer: a value ends past the footer
+  [2]
+
+  $ printf 'PAR1    PARE' | geoarrow_check --json -
+  -: the footer is encrypted
+  [2]
+
+  $ printf 'PAR1    ' | geoarrow_check --json -
+  -: does not end as a Parquet file does
   [2]
 
   $ printf '\377\377\377\377\010\000\000\000\004\000\000\000' | geoarrow_check --json -
@@ -125,11 +226,11 @@ Words that are answered at once
   geoarrow_check 1.0.0 (rattle-kit-13f)
 
   $ geoarrow_check --help | head -n 1
-  usage: geoarrow_check [--json | --lines] [--infer] [--quiet] [--require-geometry] FILE..
+  usage: geoarrow_check [--json | --lines | --ipc] [--infer] [--quiet] [--require-geometry] [--expect COLUMN=WANT].. FILE..
 
 Words that are refused
 
-  $ for word in --jsno --line --infre --quite --require-geometri --hlep --versoin
+  $ for word in --jsno --line --infre --quite --require-geometri --expct --hlep --versoin
   > do
   >     geoarrow_check $word x 2>&1 | head -n 1
   > done
@@ -138,6 +239,7 @@ Words that are refused
   geoarrow_check: --infre is unknown; --infer is near it
   geoarrow_check: --quite is unknown; --quiet is near it
   geoarrow_check: --require-geometri is unknown; --require-geometry is near it
+  geoarrow_check: --expct is unknown; --expect is near it
   geoarrow_check: --hlep is unknown; --help is near it
   geoarrow_check: --versoin is unknown; --version is near it
 
@@ -149,6 +251,12 @@ Words that are refused
 
   $ geoarrow_check --json --lines x 2>&1 | head -n 1
   geoarrow_check: --json and --lines exclude one another
+
+  $ geoarrow_check x --expect 2>&1 | head -n 1
+  geoarrow_check: --expect is the last word: COLUMN=WANT is missing
+
+  $ geoarrow_check --expect point x 2>&1 | head -n 1
+  geoarrow_check: point is no COLUMN=WANT
 
   $ geoarrow_check --json 2> /dev/null
   [2]

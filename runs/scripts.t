@@ -89,10 +89,16 @@ The script of the other program: its own words, what it builds, and what it runs
   > . ./stand_in.sh
   > bin/geoarrow_check --json 'a b' c 2>&1 | sed 's/; what rt says.*//'
   > bin/geoarrow_check --json -
-  usage: geoarrow_check [--json | --lines] [--infer] [--quiet] [--require-geometry] FILE..
+  usage: geoarrow_check [--json | --lines | --ipc] [--infer] [--quiet] [--require-geometry] [--expect COLUMN=WANT].. FILE..
   geoarrow_check 1.0.0 (rattle-kit-13f)
   geoarrow_check: proving and building the program
   geoarrow_check: proved geoarrow_check
   geoarrow_check: built
   runs --json a b c
   runs --json -
+
+The script of the library of C where there is no compiler
+
+  $ CC=no_compiler "$top/bin/native" "$TMPDIR/out"
+  bin/native: there is no no_compiler on the path; a compiler of C (cc, or what CC names) and binutils are needed
+  [2]

@@ -1,3 +1,5 @@
 pub mod Forms
 pub mod Lines
+pub mod LineFaults
+pub mod ColumnLines
 pub mod Files

@@ -3,7 +3,9 @@
 
 mod columns;
 mod form;
+mod line;
 mod lines;
 
-pub use columns::{FileFault, columns_in};
+pub use columns::{FileFault, columns_in, columns_of};
 pub use form::{Form, form_of};
+pub use line::{LineFault, column_line, parse_column_line};

@@ -1,11 +1,11 @@
-//! Columns as lines, each of them a field.
+//! The columns of lines.
 ghost use Rattle.std.specs.Prelude.{◌≡◌, ◌≢◌, [], ◌<◌, length};
 ghost use Rattle.column_files.specs.Lines.{FirstLine};
 ghost use Rattle.column_files.specs.Files.{AreLinesRead};
 
 use crate::columns::FileFault;
+use crate::line::parse_column_line;
 use arrow_columns::Column;
-use field_lines::parse_line_with_scratch;
 use json::Scratch;
 use memchr::memchr;
 use std::alloc::Global;
@@ -19,10 +19,10 @@ pub(crate) fn columns_of_lines(alloc: Global, text: &[u8]) -> Result<Vec<Column>
     let mut rest = text;
     while !rest.is_empty() {
         let (line, behind) = first_line(rest);
-        let Some(field) = parse_line_with_scratch(alloc, line, &mut scratch)? else {
-            return Err(FileFault::NoField(columns.len()));
-        };
-        columns.push(Column::of_field(alloc, &field)?)?;
+        match parse_column_line(alloc, line, &mut scratch)? {
+            Ok(column) => columns.push(column)?,
+            Err(fault) => return Err(FileFault::NoField(columns.len(), fault)),
+        }
         rest = behind;
     }
     Ok(columns)

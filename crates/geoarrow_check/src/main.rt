@@ -4,32 +4,40 @@
 mod lines;
 mod options;
 mod problems;
+mod source;
 mod table;
+mod wants;
 
-use crate::lines::write_lines;
+use crate::lines::{write_lines, write_stream};
 use crate::options::{Asked, options_of};
 use crate::problems::problem_text;
+use crate::source::bytes_of;
 use crate::table::Table;
-use column_check::{Finding, check_column};
-use column_files::{FileFault, columns_in};
-use file_reports::report_file;
-use std::alloc::Global;
-use std::io::{Read, Write};
+use crate::wants::unmet_text;
+use arrow_columns::Column;
+use column_check::check_column;
+use column_files::columns_of;
+use file_reports::report_columns;
+use std::alloc::{AllocError, Global};
+use std::io::Write;
 use std::process::ExitCode;
-use std::{env, fs, io};
+use std::{env, io};
 
 /// What `--help` prints, and what follows the reason where words are refused.
 const USAGE: &str =
-    "usage: geoarrow_check [--json | --lines] [--infer] [--quiet] [--require-geometry] FILE..
+    "usage: geoarrow_check [--json | --lines | --ipc] [--infer] [--quiet] [--require-geometry] [--expect COLUMN=WANT].. FILE..
 
 Says what each column of each file holds, and why it is invalid.
-FILE: an Arrow file (Feather), an Arrow stream, or lines of fields; - is standard input
+FILE: an Arrow file (Feather), an Arrow stream, a Parquet file, or lines of fields; - is standard input
+WANT: a kind, a coordinate type, a dimension, an encoding (native, WKB, WKT), a CRS: as point,XY,EPSG:4326
   --json              a line of JSON for each column, in place of a table
   --lines             the columns as lines of fields, in place of what they hold
+  --ipc               the columns as an Arrow stream of its schema alone, of one file
   --infer             infer a type for columns without an extension name
   --quiet             print nothing of the columns
   --require-geometry  status 1 where a file has no column of geometries
-Status: 0 if no column is invalid, 1 if one is, 2 if a file or the words cannot be read.
+  --expect            status 1 where the column holds other geometries, or none
+Status: 0 if no column is invalid and all that is expected is met, 1 otherwise, 2 if a file or the words cannot be read.
 ";
 
 /// The version, as `--version` prints it.
@@ -44,16 +52,6 @@ fn words_of(rt: &HostRuntime) -> io::Result<Vec<String>> {
     Ok(words)
 }
 
-/// The bytes of a file, or of standard input.
-fn bytes_of(rt: &HostRuntime, file: &str) -> io::Result<Vec<u8>> {
-    if file != "-" {
-        return fs::read(rt, file);
-    }
-    let mut bytes = Vec::new(rt.alloc());
-    rt.stdin().read_to_end(&mut bytes)?;
-    Ok(bytes)
-}
-
 /// What is printed of a file, and what of its columns counts for the status.
 #[derive(Drop)]
 struct Printed {
@@ -63,9 +61,14 @@ struct Printed {
 }
 
 /// The lines of JSON of a file.
-fn json_of(alloc: Global, file: &str, bytes: &[u8], infer: bool) -> Result<Printed, FileFault> {
+fn json_of(
+    alloc: Global,
+    file: &str,
+    columns: &[Column],
+    infer: bool,
+) -> Result<Printed, AllocError> {
     let name = if file == "-" { None } else { Some(file) };
-    let report = report_file(alloc, name, bytes, infer)?;
+    let report = report_columns(alloc, name, columns, infer)?;
     Ok(Printed {
         text: report.lines,
         has_invalid: report.has_invalid,
@@ -74,15 +77,14 @@ fn json_of(alloc: Global, file: &str, bytes: &[u8], infer: bool) -> Result<Print
 }
 
 /// The table of a file; none where nothing is to be printed.
-fn table_of(alloc: Global, bytes: &[u8], asked: &Asked) -> Result<Printed, FileFault> {
-    let columns = columns_in(alloc, bytes)?;
+fn table_of(alloc: Global, columns: &[Column], asked: &Asked) -> Result<Printed, AllocError> {
     let mut table = Table::new(alloc);
     let mut has_invalid = false;
     let mut has_geometry = false;
-    for column in &columns {
+    for column in columns {
         let finding = check_column(alloc, column, asked.infer)?;
-        has_invalid = has_invalid | matches!(finding, Finding::Invalid(_));
-        has_geometry = has_geometry | matches!(finding, Finding::Geometry(_));
+        has_invalid = has_invalid | finding.is_invalid();
+        has_geometry = has_geometry | finding.is_geometry();
         if !asked.quiet {
             table.add(alloc, column, &finding)?;
         }
@@ -95,37 +97,55 @@ fn table_of(alloc: Global, bytes: &[u8], asked: &Asked) -> Result<Printed, FileF
     })
 }
 
-/// Reports a file on standard output; or says on standard error why it cannot be read. Returns the status.
-fn check(rt: &HostRuntime, file: &str, asked: &Asked) -> io::Result<u8> {
-    let bytes = match bytes_of(rt, file) {
-        Ok(bytes) => bytes,
+/// The columns of a file; or none, where it says on standard error why they cannot be read.
+fn read_columns(rt: &HostRuntime, file: &str) -> io::Result<Option<Vec<Column>>> {
+    let (form, bytes) = match bytes_of(rt, file) {
+        Ok(read) => read,
         Err(error) => {
             eprintln!(rt; "{file}: {error}")?;
-            return Ok(2);
+            return Ok(None);
         }
     };
-    if asked.lines {
-        return match columns_in(rt.alloc(), bytes.as_slice()) {
-            Ok(columns) => write_lines(rt, file, columns),
-            Err(fault) => refuse(rt, file, &fault),
-        };
-    }
-    let printed = if asked.json {
-        json_of(rt.alloc(), file, bytes.as_slice(), asked.infer)
-    } else {
-        table_of(rt.alloc(), bytes.as_slice(), asked)
-    };
-    match printed {
-        Ok(printed) => write_file(rt, file, asked, &printed),
-        Err(fault) => refuse(rt, file, &fault),
+    match columns_of(rt.alloc(), form, bytes.as_slice()) {
+        Ok(columns) => Ok(Some(columns)),
+        Err(fault) => {
+            let problem = problem_text(rt.alloc(), &fault)?;
+            eprintln!(rt; "{file}: {problem}")?;
+            Ok(None)
+        }
     }
 }
 
-/// Says on standard error why a file cannot be read. Returns the status.
-fn refuse(rt: &HostRuntime, file: &str, fault: &FileFault) -> io::Result<u8> {
-    let problem = problem_text(rt.alloc(), fault)?;
-    eprintln!(rt; "{file}: {problem}")?;
-    Ok(2)
+/// Reports a file on standard output; or says on standard error why it cannot be read. Returns the status.
+fn check(rt: &HostRuntime, file: &str, asked: &Asked) -> io::Result<u8> {
+    let Some(columns) = read_columns(rt, file)? else {
+        return Ok(2);
+    };
+    let mut status = 0;
+    for want in &asked.wants {
+        if let Some(text) = unmet_text(
+            rt.alloc(),
+            columns.as_slice(),
+            want.as_str(),
+            asked.infer,
+        )? {
+            eprintln!(rt; "{file}: {text}")?;
+            status = 1;
+        }
+    }
+    if asked.lines {
+        write_lines(rt, columns)?;
+        return Ok(status);
+    }
+    if asked.ipc {
+        return Ok(write_stream(rt, file, columns)?.max(status));
+    }
+    let printed = if asked.json {
+        json_of(rt.alloc(), file, columns.as_slice(), asked.infer)?
+    } else {
+        table_of(rt.alloc(), columns.as_slice(), asked)?
+    };
+    Ok(write_file(rt, file, asked, &printed)?.max(status))
 }
 
 /// Writes what is printed of a file. Returns the status.

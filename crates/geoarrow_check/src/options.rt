@@ -8,21 +8,25 @@ use strsim::levenshtein;
 pub(crate) struct Asked {
     pub(crate) json: bool,
     pub(crate) lines: bool,
+    pub(crate) ipc: bool,
     pub(crate) infer: bool,
     pub(crate) quiet: bool,
     pub(crate) require_geometry: bool,
     pub(crate) help: bool,
     pub(crate) version: bool,
+    pub(crate) wants: Vec<String>,
     pub(crate) files: Vec<String>,
 }
 
 /// The words that are no files.
-const KNOWN: [&str; 7] = [
+const KNOWN: [&str; 9] = [
     "--json",
     "--lines",
+    "--ipc",
     "--infer",
     "--quiet",
     "--require-geometry",
+    "--expect",
     "--help",
     "--version",
 ];
@@ -32,37 +36,68 @@ pub(crate) fn options_of(
     alloc: Global,
     words: &[String],
 ) -> Result<Result<Asked, String>, AllocError> {
-    let mut asked = Asked {
+    let mut asked = nothing_asked(alloc);
+    let mut expects = false;
+    for word in words {
+        let word = word.as_str();
+        if expects {
+            if !word.contains('=') {
+                return Ok(Err(format!(in alloc; "{word} is no COLUMN=WANT")?));
+            }
+            asked.wants.push(String::from_str(alloc, word)?)?;
+            expects = false;
+        } else if word == "--expect" {
+            expects = true;
+        } else if let Some(reason) = note_word(alloc, &mut asked, word)? {
+            return Ok(Err(reason));
+        }
+    }
+    let reason = if expects {
+        Some("--expect is the last word: COLUMN=WANT is missing")
+    } else {
+        conflict(&asked)
+    };
+    match reason {
+        Some(reason) => Ok(Err(String::from_str(alloc, reason)?)),
+        None => Ok(Ok(asked)),
+    }
+}
+
+/// What no word asks.
+fn nothing_asked(alloc: Global) -> Asked {
+    Asked {
         json: false,
         lines: false,
+        ipc: false,
         infer: false,
         quiet: false,
         require_geometry: false,
         help: false,
         version: false,
+        wants: Vec::new(alloc),
         files: Vec::new(alloc),
-    };
-    for word in words {
-        match word.as_str() {
-            "--json" => asked.json = true,
-            "--lines" => asked.lines = true,
-            "--infer" => asked.infer = true,
-            "--quiet" => asked.quiet = true,
-            "--require-geometry" => asked.require_geometry = true,
-            "--help" => asked.help = true,
-            "--version" => asked.version = true,
-            other => {
-                if other.starts_with("--") {
-                    return Ok(Err(unknown_text(alloc, other)?));
-                }
-                asked.files.push(String::from_str(alloc, other)?)?;
+    }
+}
+
+/// Notes what a word asks that stands alone, or says why it is refused.
+fn note_word(alloc: Global, asked: &mut Asked, word: &str) -> Result<Option<String>, AllocError> {
+    match word {
+        "--json" => asked.json = true,
+        "--lines" => asked.lines = true,
+        "--ipc" => asked.ipc = true,
+        "--infer" => asked.infer = true,
+        "--quiet" => asked.quiet = true,
+        "--require-geometry" => asked.require_geometry = true,
+        "--help" => asked.help = true,
+        "--version" => asked.version = true,
+        other => {
+            if other.starts_with("--") {
+                return Ok(Some(unknown_text(alloc, other)?));
             }
+            asked.files.push(String::from_str(alloc, other)?)?;
         }
     }
-    match conflict(&asked) {
-        Some(reason) => Ok(Err(String::from_str(alloc, reason)?)),
-        None => Ok(Ok(asked)),
-    }
+    Ok(None)
 }
 
 /// Why what is asked cannot be done, if it cannot.
@@ -73,8 +108,14 @@ fn conflict(asked: &Asked) -> Option<&'static str> {
     if asked.json && asked.lines {
         return Some("--json and --lines exclude one another");
     }
+    if asked.ipc && (asked.json || asked.lines) {
+        return Some("--ipc excludes --json and --lines");
+    }
     if asked.files.is_empty() {
         return Some("no file is named");
+    }
+    if asked.ipc && asked.files.len() > 1 {
+        return Some("--ipc takes one file");
     }
     None
 }

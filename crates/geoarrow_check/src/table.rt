@@ -1,8 +1,8 @@
 //! The report of a file as a table for people.
 
 use arrow_columns::Column;
-use column_check::{ColumnMetadata, Finding};
-use column_reports::{geometry_in, reason_words, type_word};
+use column_check::{ColumnMetadata, Finding, warnings};
+use column_reports::{reason_words, type_word, warning_words};
 use serde_json::Value;
 use std::alloc::{AllocError, Global};
 
@@ -53,7 +53,7 @@ impl Table {
         let mut cells = Vec::new(alloc);
         cells.push(shown(alloc, column.name.as_str())?)?;
         cells.push(holds(alloc, column, finding)?)?;
-        let geometry = geometry_in(finding);
+        let geometry = finding.geometry();
         cells.push(match geometry {
             Some(geometry) => crs_name(alloc, &geometry.metadata)?,
             None => String::new(alloc),
@@ -66,10 +66,7 @@ impl Table {
             None => "",
         };
         cells.push(String::from_str(alloc, edges)?)?;
-        let notes = match finding {
-            Finding::Invalid(reasons) => reason_words(alloc, reasons)?,
-            _ => Vec::new(alloc),
-        };
+        let notes = notes_of(alloc, column, finding)?;
         for at in 0..WIDTH {
             if let Some(cell) = cells.get(at) {
                 self.rooms[at] = self.rooms[at].max(cell.as_str().chars().count());
@@ -128,9 +125,22 @@ fn push_line(text: &mut String, line: &str) -> Result<(), AllocError> {
     text.push_str("\n")
 }
 
+/// The reasons and the warnings of a column, in words.
+fn notes_of(alloc: Global, column: &Column, finding: &Finding) -> Result<Vec<String>, AllocError> {
+    let mut notes = match finding {
+        Finding::Invalid(reasons) => reason_words(alloc, reasons)?,
+        _ => Vec::new(alloc),
+    };
+    let warned = warnings(alloc, column, finding)?;
+    for word in warning_words(alloc, warned.as_slice())? {
+        notes.push(word)?;
+    }
+    Ok(notes)
+}
+
 /// What a column holds.
 fn holds(alloc: Global, column: &Column, finding: &Finding) -> Result<String, AllocError> {
-    let type_word = type_word(alloc, column, geometry_in(finding))?;
+    let type_word = type_word(alloc, column, finding.geometry())?;
     match finding {
         Finding::Geometry(_) => shown(alloc, type_word.as_str()),
         Finding::Inferred(_) => format!(in alloc; "taken for {type_word}"),
@@ -147,7 +157,7 @@ fn holds(alloc: Global, column: &Column, finding: &Finding) -> Result<String, Al
 }
 
 /// A CRS for people: the authority and the code of a PROJJSON, else its name, else the first characters of a text.
-fn crs_name(alloc: Global, metadata: &ColumnMetadata) -> Result<String, AllocError> {
+pub(crate) fn crs_name(alloc: Global, metadata: &ColumnMetadata) -> Result<String, AllocError> {
     let Some(crs) = &metadata.crs else {
         return Ok(String::new(alloc));
     };
@@ -196,7 +206,7 @@ fn first_characters(alloc: Global, text: &str) -> Result<String, AllocError> {
 }
 
 /// A text with its control characters as `?`, so that it stands on one line and changes nothing of the terminal.
-fn shown(alloc: Global, text: &str) -> Result<String, AllocError> {
+pub(crate) fn shown(alloc: Global, text: &str) -> Result<String, AllocError> {
     let mut shown = String::new(alloc);
     for character in text.chars() {
         shown.push(if character.is_control() {

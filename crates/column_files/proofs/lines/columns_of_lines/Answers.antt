@@ -1,7 +1,7 @@
-use Rattle.std.proofs.Common.{rules, ◌≡◌, Some, None, [], ◌∷◌, ◌++◌, map, length, refl, sym, ◌∙◌, subst}
-use Rattle.std.proofs.lemmas.List.{map-append, length-map, nil_from_length}
-use Rattle.arrow_columns.specs.Column.{column_tree, column_of}
-use Rattle.field_lines.specs.Line.{field_of_line}
+use Rattle.std.proofs.Common.{rules, ◌≡◌, Ok, [], ◌∷◌, ◌++◌, map, length, refl, sym, subst}
+use Rattle.std.proofs.lemmas.List.{map-append, nil_from_length}
+use Rattle.arrow_columns.specs.Column.{column_tree}
+use Rattle.column_files.specs.LineFaults.{IsLineRead}
 use Rattle.column_files.specs.Lines.{DenotesNext, DenoteTo}
 use Rattle.column_files.proofs.Steps.{denote_more}
 use Rattle.column_files.proofs.lines.columns_of_lines.Goals as goal
@@ -9,30 +9,19 @@ use Rattle.column_files.proofs.lines.columns_of_lines.Goals as goal
 pub loop-rest-init : goal.loop-rest-init
 loop-rest-init c = subst (λ xs. DenoteTo c.args.text.now (map column_tree xs) c.args.text.now) (sym c.new-columns.ensures.items) refl
 
-pub returns-in_default : goal.returns-in_default
-returns-in_default c =
-    let none : field_of_line c.first_line.result.0.now ≡ None = search rules in
-    let count : c.len.result ≡ length c.loop-rest.columns.items = search rules in (
-      map column_tree c.loop-rest.columns.items,
-      c.loop-rest.rest.now,
-      length-map c.loop-rest.columns.items column_tree ∙ sym count,
-      c.loop-rest.invariant,
-      (c.first_line.result.0.now, c.first_line.result.1.now, c.first_line.ensures.line, none),
-    )
-
 pub loop-rest-smaller : goal.loop-rest-smaller
 loop-rest-smaller c = c.first_line.ensures.shorter
 
 pub loop-rest-preserved : goal.loop-rest-preserved
 loop-rest-preserved c =
     let text = c.args.text.now in
+    let line = c.first_line.result.0.now in
     let behind = c.first_line.result.1.now in
     let columns = c.loop-rest.columns.items in
-    let column = c.in_ok-of_field.field-0 in
+    let column = c.in-Ok.column in
     let pushed : c.push.new.self.items ≡ columns ++ column ∷ [] = search rules in
-    let denotes : field_of_line c.first_line.result.0.now ≡ Some c.in-Some.field = search rules in
-    let tree : column_tree column ≡ column_of c.in-Some.field = search rules in
-    let next : DenotesNext c.loop-rest.rest.now (column_tree column) behind = (c.first_line.result.0.now, c.in-Some.field, c.first_line.ensures.line, denotes, tree) in
+    let denotes : IsLineRead line (Ok column) = subst (IsLineRead line) c.in-Ok.is c.in_ok-column.ensures in
+    let next : DenotesNext c.loop-rest.rest.now (column_tree column) behind = (line, c.first_line.ensures.line, denotes) in
     subst (λ xs. DenoteTo text (map column_tree xs) behind) (sym pushed)
     (subst (λ cs. DenoteTo text cs behind) (sym (map-append column_tree columns (column ∷ [])))
     (denote_more (map column_tree columns) text c.loop-rest.rest.now behind (column_tree column) c.loop-rest.invariant next))

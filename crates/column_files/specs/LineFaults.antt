@@ -1,0 +1,69 @@
+-- Why a line denotes no column.
+use Rattle.std.specs.Prelude.{◌≡◌, ℕ, List, Some, None, Result, Ok, Err, IsSome, codes}
+use Rattle.std.specs.Str.{IsUtf8}
+use Rattle.std.specs.Str.Lossy.{utf8_valid_len}
+use Rattle.serde_json.specs.Data.{Data, object, Members}
+use Rattle.serde_json.specs.Find.{get_member, as_str, as_bool, as_object}
+use Rattle.serde_json.specs.Read.{read}
+use Rattle.arrow_values.specs.Tree.{Text}
+use Rattle.arrow_columns.specs.Column.{column_tree}
+use Rattle.arrow_columns.specs.declared.column.Column.{Column}
+use Rattle.field_lines.specs.FieldOfValue.{under, type_in, metadata_of_value}
+use Rattle.column_files.specs.Lines.{other_of_value, value_of_line, column_of_value, column_of_line, FirstLine}
+use Rattle.column_files.specs.declared.line.LineFault.{LineFault}
+use Rattle.column_files.specs.declared.line.LineFault.TheVariants.{NotUtf8, NotJson, NotObject, Name, Nullable, Metadata, TypeUnknown}
+
+-- what the members have that a field must have
+abbrev pub HasName : Members → Type 0
+HasName ms = IsSome (under as_str (codes "name") ms)
+
+abbrev pub HasNullable : Members → Type 0
+HasNullable ms = IsSome (under as_bool (codes "nullable") ms)
+
+abbrev pub HasMetadata : Members → Type 0
+HasMetadata ms = IsSome (metadata_of_value (get_member (codes "metadata") ms))
+
+abbrev pub HasType : Members → Type 0
+HasType ms = IsSome (type_in ms)
+
+-- the first of the keys beside the type that the members lack, or at which stands what denotes nothing; for private clauses
+abbrev pub IsPartFault : Members → LineFault → Type 0
+IsPartFault ms Name = ¬ HasName ms
+IsPartFault ms Nullable = HasName ms × ¬ HasNullable ms
+IsPartFault ms Metadata = HasName ms × HasNullable ms
+IsPartFault ms fault = ⊥
+
+-- the first of a field's keys that the members lack, or at which stands what denotes nothing: its name, its nullability, its metadata and its type
+abbrev pub IsKeyFault : Members → LineFault → Type 0
+IsKeyFault ms Name = ¬ HasName ms
+IsKeyFault ms Nullable = HasName ms × ¬ HasNullable ms
+IsKeyFault ms Metadata = HasName ms × HasNullable ms × ¬ HasMetadata ms
+IsKeyFault ms TypeUnknown = HasName ms × HasNullable ms × HasMetadata ms × ¬ HasType ms × (under other_of_value (codes "type") ms ≡ None)
+IsKeyFault ms fault = ⊥
+
+-- why a value denotes no column: it is no object, or lacks a key
+abbrev pub IsValueFault : Data → LineFault → Type 0
+IsValueFault d NotObject = as_object d ≡ None
+IsValueFault d fault = (ms : Members) × (d ≡ object ms) × IsKeyFault ms fault
+
+-- why a line denotes no column: it is not UTF-8, not JSON, or its value denotes none
+abbrev pub IsLineFault : Text → LineFault → Type 0
+IsLineFault line (NotUtf8 at) = ¬ IsUtf8 line × (at ≡ utf8_valid_len line)
+IsLineFault line (NotJson at) = IsUtf8 line × (read line ≡ None)
+IsLineFault line fault = (d : Data) × (value_of_line line ≡ Some d) × IsValueFault d fault
+
+-- what is read of a value: the column that it denotes, or why it denotes none
+abbrev pub IsValueRead : Data → Result Column LineFault → Type 0
+IsValueRead d (Ok column) = column_of_value d ≡ Some (column_tree column)
+IsValueRead d (Err (NotUtf8 at)) = ⊥
+IsValueRead d (Err (NotJson at)) = ⊥
+IsValueRead d (Err fault) = (column_of_value d ≡ None) × IsValueFault d fault
+
+-- what is read of a line: the column that it denotes, or why it denotes none
+abbrev pub IsLineRead : Text → Result Column LineFault → Type 0
+IsLineRead line (Ok column) = column_of_line line ≡ Some (column_tree column)
+IsLineRead line (Err fault) = (column_of_line line ≡ None) × IsLineFault line fault
+
+-- the first line of the text denotes no column, and why
+abbrev pub DenotesNone : List ℕ → LineFault → Type 0
+DenotesNone text fault = (line : List ℕ) × (rest : List ℕ) × FirstLine text line rest × (column_of_line line ≡ None) × IsLineFault line fault
