@@ -1,0 +1,13 @@
+//! The answers of the programs as calls of C: each takes bytes as a pointer and a length, and writes to the caller's buffer. The
+//! header `include/geoarrow.h` declares them, and says what a caller owes.
+#![tactic(auto)]
+
+mod answers;
+mod buffer;
+mod check;
+mod limits;
+mod status;
+
+pub use answers::{geoarrow_answer, geoarrow_run};
+pub use check::geoarrow_check;
+pub use status::geoarrow_version;

@@ -1,0 +1,87 @@
+/* GeoArrow's schema types as calls of C: the answers of the program geoarrow_fields, and the report of geoarrow_check.
+ *
+ * A call takes bytes as a pointer and a length, and writes text to the front of `out`. It returns a status; at
+ * GEOARROW_DONE `*len` is the length of the text. Where `out` is too small nothing is written to it, and `*len` is what is
+ * needed, so a call with `out_len` 0 asks for the length. The text has no NUL at its end.
+ *
+ * What a caller owes:
+ * - Each pointer is not null, also where its length is 0, and leads to so many bytes; `len` leads to a size_t. No length is
+ *   greater than PTRDIFF_MAX.
+ * - `out` and `*len` overlap nothing else that is passed. While a call runs, nobody else touches them, or writes to what it reads.
+ * - The thread has GEOARROW_STACK bytes of stack left.
+ * - No call is made from a signal handler, nor from the forked child of a process with threads.
+ * - malloc, realloc and free are those of one allocator, with blocks that are aligned to 16 bytes.
+ *
+ * Nothing is kept from call to call, so any number of threads may call at once. */
+#ifndef GEOARROW_H
+#define GEOARROW_H
+
+#include <stddef.h>
+#include <stdint.h>
+
+#ifdef __cplusplus
+extern "C" {
+#endif
+
+#define GEOARROW_VERSION 10000
+#define GEOARROW_STACK 262144
+
+/* What is asked of a line. */
+enum { GEOARROW_READ = 0, GEOARROW_INFER = 1, GEOARROW_CANON = 2, GEOARROW_COLUMNS = 3 };
+
+/* Options of geoarrow_check: infer a type for columns without an extension name. */
+enum { GEOARROW_INFER_TYPES = 1 };
+
+/* Statuses. */
+enum {
+    GEOARROW_DONE = 0,
+    GEOARROW_SHORT = 1,   /* `out` is too small; `*len` is what is needed */
+    GEOARROW_MEMORY = 2,  /* out of memory */
+    GEOARROW_UNKNOWN = 3, /* no such command, or no such options */
+    GEOARROW_LIMIT = 4,   /* more than 1,000,000 lines, or a line of more than 1,048,576 bytes */
+
+    /* Why geoarrow_check refuses bytes; `*len` is the place. */
+    GEOARROW_NO_FIELD = 5,    /* a line is no field; so many lines stand before it */
+    GEOARROW_PARQUET = 6,     /* the columns of a Parquet file are not read; 0 */
+    GEOARROW_BUDGET = 7,      /* more is to be read than eight times the message's bytes; the byte of the message */
+
+    /* A rule of Arrow's IPC format is broken, at this byte of the message (docs/FORMAT.md, 3). */
+    GEOARROW_RULE_ENVELOPE = 16,
+    GEOARROW_RULE_NUMBER = 17,
+    GEOARROW_RULE_OFFSET = 18,
+    GEOARROW_RULE_VTABLE = 19,
+    GEOARROW_RULE_SLOT = 20,
+    GEOARROW_RULE_TEXT = 21,
+    GEOARROW_RULE_UTF8 = 22,
+    GEOARROW_RULE_VECTOR = 23,
+    GEOARROW_RULE_MISSING = 24,
+    GEOARROW_RULE_MESSAGE = 25,
+    GEOARROW_RULE_TAG = 26,
+    GEOARROW_RULE_PARAMETER = 27,
+    GEOARROW_RULE_CHILDREN = 28,
+    GEOARROW_RULE_TYPE_IDS = 29,
+    GEOARROW_RULE_DEPTH = 30
+};
+
+/* GEOARROW_VERSION, as the library has it. */
+uint32_t geoarrow_version(void);
+
+/* The answer to one line, without line feeds (docs/FORMAT.md, 2.1 and 2.2).
+ * Statuses: DONE, SHORT, MEMORY, UNKNOWN; at the last two `out` and `*len` are unchanged. */
+uint8_t geoarrow_answer(uint8_t command, const uint8_t *line, size_t line_len, uint8_t *out, size_t out_len, size_t *len);
+
+/* The answers to all lines of an input, each with a line feed behind it.
+ * Statuses: as geoarrow_answer, and LIMIT, at which `out` and `*len` are unchanged. */
+uint8_t geoarrow_run(uint8_t command, const uint8_t *input, size_t input_len, uint8_t *out, size_t out_len, size_t *len);
+
+/* The report of a file, from its bytes: a line of JSON for each of its columns, each with a line feed behind it (docs/FORMAT.md,
+ * 2.5 to 2.7). `options` is 0 or GEOARROW_INFER_TYPES.
+ * Statuses: DONE, SHORT; MEMORY and UNKNOWN, at which `*len` is unchanged; and those of refused bytes. At all but DONE `out`
+ * is unchanged. */
+uint8_t geoarrow_check(uint8_t options, const uint8_t *bytes, size_t bytes_len, uint8_t *out, size_t out_len, size_t *len);
+
+#ifdef __cplusplus
+}
+#endif
+
+#endif

@@ -1,0 +1,175 @@
+/* A caller of geoarrow.h, which native/test compiles: caller answers|faults|threads|stack < REQUESTS
+ *
+ * A request is a byte for the call (0 geoarrow_answer, 1 geoarrow_run, 2 geoarrow_check), one for the number that the call takes, the
+ * length of its bytes in four bytes, the lowest first, and the bytes.
+ *   answers  calls with room, with each size of buffer that is too small (of long texts some), and between guards; writes for each
+ *            request its status in a byte, `*len` in eight, and the text
+ *   faults   over the library of bin/faults: each request for memory refused, one at a time
+ *   threads  all calls from eight threads at once
+ *   stack    all calls from a thread with GEOARROW_STACK bytes of stack
+ * The last line on standard error is `N passed, M failed`, calls counted. */
+#define _POSIX_C_SOURCE 200809L
+#include "geoarrow.h"
+#include <pthread.h>
+#include <stdio.h>
+#include <stdlib.h>
+#include <string.h>
+
+typedef uint8_t (*call_t)(uint8_t, const uint8_t *, size_t, uint8_t *, size_t, size_t *);
+
+typedef struct {
+    call_t call;
+    uint8_t number;
+    uint8_t *bytes;
+    size_t size;
+    uint8_t status; /* with room */
+    size_t len;
+    uint8_t *text;
+} request_t;
+
+enum { GUARD = 64, THREADS = 8, ROUNDS = 6, LONG = 100000 };
+static const size_t UNSET = (size_t)0x5a5a5a5a;
+static const call_t CALLS[] = {geoarrow_answer, geoarrow_run, geoarrow_check};
+
+static request_t *requests;
+static size_t count, passed, failed;
+
+/* (called through pointers that the compiler does not see through) */
+static void *(*volatile take)(size_t) = malloc;
+static void (*volatile give)(void *) = free;
+
+static void *room_for(size_t size) {
+    void *room = take(size ? size : 1);
+    if (!room) exit(3);
+    return room;
+}
+
+static void judge(int is_right, const request_t *of, const char *what) {
+    if (is_right) {
+        passed++;
+    } else {
+        failed++;
+        fprintf(stderr, "request %zu: %s\n", (size_t)(of - requests), what);
+    }
+}
+
+/* A call with a buffer of a size, between guards. Whether it does what it must where the text is known. */
+static int is_kept(const request_t *of, size_t size, uint8_t *status, size_t *len) {
+    uint8_t *room = room_for(size + 2 * GUARD);
+    uint8_t *out = room + GUARD;
+    memset(room, 0xa5, size + 2 * GUARD);
+    *len = UNSET;
+    *status = of->call(of->number, of->bytes, of->size, out, size, len);
+    size_t written = *status == GEOARROW_DONE ? *len : 0;
+    int is_right = written <= size && (!written || !memcmp(out, of->text, written));
+    for (size_t i = 0; i < size + 2 * GUARD; i++) {
+        if (i < GUARD || i >= GUARD + written) is_right = is_right && room[i] == 0xa5;
+    }
+    give(room);
+    return is_right;
+}
+
+/* The call with room: its status, its text and its length are kept. */
+static void answer(request_t *of) {
+    size_t size = 4096;
+    for (;;) {
+        of->text = room_for(size);
+        of->len = UNSET;
+        of->status = of->call(of->number, of->bytes, of->size, of->text, size, &of->len);
+        if (of->status != GEOARROW_SHORT) return;
+        give(of->text);
+        size = of->len;
+    }
+}
+
+static void answers(request_t *of) {
+    uint8_t status;
+    size_t len, least = of->status == GEOARROW_DONE ? of->len : 0;
+    judge(is_kept(of, least + 100, &status, &len) && status == of->status && len == of->len, of, "another answer");
+    judge(is_kept(of, least, &status, &len) && status == of->status && len == of->len, of, "another answer in a buffer that just has room");
+    size_t step = of->size > LONG ? least : least > 600 ? least / 200 : 1;
+    for (size_t size = 0; size < least; size = size + step < least ? size + step : size + 1 < least ? least - 1 : least) {
+        judge(is_kept(of, size, &status, &len) && status == GEOARROW_SHORT && len == of->len, of, "a buffer that is too small");
+    }
+    fputc(of->status, stdout);
+    for (int i = 0; i < 8; i++) fputc((int)((of->len >> (8 * i)) & 255), stdout);
+    if (of->status == GEOARROW_DONE) fwrite(of->text, 1, of->len, stdout);
+}
+
+static void faults(request_t *of) {
+    uint8_t status;
+    size_t len, least = of->status == GEOARROW_DONE ? of->len : 0;
+    uint8_t *out = room_for(least);
+    for (size_t at = 1;; at++) {
+        memset(out, 0xa5, least);
+        len = UNSET;
+        (void)take(((size_t)1 << 60) + at);
+        status = of->call(of->number, of->bytes, of->size, out, least, &len);
+        void *was = take((size_t)1 << 61);
+        if (!was) break;
+        give(was);
+        int is_right = status == GEOARROW_MEMORY && len == UNSET;
+        for (size_t i = 0; i < least; i++) is_right = is_right && out[i] == 0xa5;
+        judge(is_right, of, "a refused request for memory");
+    }
+    judge(status == of->status && len == of->len && (!least || !memcmp(out, of->text, least)), of, "another answer behind a refused request");
+    give(out);
+}
+
+/* Each request, from a place on. How many are wrong. */
+static void *all(void *from) {
+    size_t wrong = 0, len;
+    uint8_t status;
+    for (size_t i = 0; i < count; i++) {
+        const request_t *of = &requests[(i + (size_t)from) % count];
+        size_t least = of->status == GEOARROW_DONE ? of->len : 0;
+        wrong += !is_kept(of, least, &status, &len) || status != of->status || len != of->len;
+    }
+    return (void *)wrong;
+}
+
+static void in_threads(size_t number, size_t stack) {
+    pthread_t threads[THREADS];
+    pthread_attr_t attributes;
+    pthread_attr_init(&attributes);
+    if (stack && pthread_attr_setstacksize(&attributes, stack)) exit(4);
+    for (size_t i = 0; i < number; i++) {
+        if (pthread_create(&threads[i], &attributes, all, (void *)(i * count / number))) exit(4);
+    }
+    for (size_t i = 0; i < number; i++) {
+        void *wrong;
+        pthread_join(threads[i], &wrong);
+        failed += (size_t)wrong;
+        passed += count - (size_t)wrong;
+    }
+}
+
+static void read_requests(void) {
+    size_t room = 0;
+    uint8_t head[6];
+    while (fread(head, 1, 6, stdin) == 6) {
+        if (count == room) requests = realloc(requests, (room = 2 * room + 64) * sizeof *requests);
+        request_t *of = &requests[count++];
+        of->call = CALLS[head[0]];
+        of->number = head[1];
+        of->size = head[2] | (size_t)head[3] << 8 | (size_t)head[4] << 16 | (size_t)head[5] << 24;
+        of->bytes = room_for(of->size);
+        if (fread(of->bytes, 1, of->size, stdin) != of->size) exit(5);
+    }
+}
+
+int main(int words, char **word) {
+    const char *mode = words > 1 ? word[1] : "";
+    if (geoarrow_version() != GEOARROW_VERSION) return 6;
+    read_requests();
+    for (size_t i = 0; i < count; i++) answer(&requests[i]);
+    if (!strcmp(mode, "threads")) {
+        for (int round = 0; round < ROUNDS; round++) in_threads(THREADS, 0);
+    } else if (!strcmp(mode, "stack")) {
+        in_threads(1, GEOARROW_STACK);
+    } else {
+        for (size_t i = 0; i < count; i++) strcmp(mode, "faults") ? answers(&requests[i]) : faults(&requests[i]);
+    }
+    fprintf(stderr, "%zu passed, %zu failed\n", passed, failed);
+    return failed != 0;
+}
