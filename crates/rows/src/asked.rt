@@ -14,7 +14,7 @@ pub struct Asked<'a> {
     pub command: &'a str,
     /// What stands behind it.
     pub bytes: &'a [u8],
-    /// The same as a text; empty where it is none.
+    /// What stands behind it as a text; empty where it is none.
     pub text: &'a str,
     /// The answer of the row; empty where it is no text.
     pub wanted: &'a str,

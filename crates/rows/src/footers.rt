@@ -1,11 +1,14 @@
-//! Rows of Parquet footers: calls of `parquet_footer` and `parquet_columns`. A row's text is bytes in hexadecimal digits.
+//! Rows of Parquet footers: calls of `parquet_footer`, `parquet_columns` and `parquet_schema`. A row's text is bytes in
+//! hexadecimal digits.
 use crate::asked::Asked;
 use crate::said::{Said, say};
 use arrow_columns::Column;
+use arrow_ipc::IpcError;
 use parquet_columns::{ColumnsError, Fault, columns_of};
 use parquet_footer::{
     Footer, FooterError, KeyValue, LogicalType, SchemaElement, footer_length, read_footer,
 };
+use parquet_schema::{SchemaError, columns_of_file};
 use std::alloc::{AllocError, Global};
 use std::fmt::Debug;
 
@@ -20,6 +23,12 @@ pub fn answer(it: &mut Asked<'_>) -> Result<(), AllocError> {
             say_answer(&mut it.said, &read);
         }
         "columns_of" => answer_columns(it, bytes.as_slice()),
+        "columns_of_file" => {
+            it.before();
+            let made = columns_of_file(it.alloc, bytes.as_slice());
+            it.after();
+            say_file(it.alloc, &mut it.said, &made);
+        }
         "footer_length" => match bytes.as_slice().first_chunk::<8>() {
             Some(tail) => {
                 it.before();
@@ -146,6 +155,39 @@ fn say_columns(alloc: Global, said: &mut Said, made: &Result<Vec<Column>, Column
             say!(said, "{rule:?} {at}");
         }
         Err(ColumnsError::OutOfMemory) => said.fail(),
+    }
+}
+
+/// Says the columns of a file in Arrow's notation, each with the name of its extension type behind it.
+fn say_named_columns(alloc: Global, said: &mut Said, columns: &[Column]) {
+    for (at, column) in columns.iter().enumerate() {
+        said.push(if at > 0 { "; " } else { "" });
+        said.made(column.notation(alloc));
+        if let Some(name) = column.extension_type_name() {
+            said.push(" ");
+            said.push(name);
+        }
+    }
+}
+
+/// Says the columns of a file, or why there are none; out of memory is no answer.
+fn say_file(alloc: Global, said: &mut Said, made: &Result<Vec<Column>, SchemaError>) {
+    match made {
+        Ok(columns) => say_named_columns(alloc, said, columns.as_slice()),
+        Err(SchemaError::Footer(FooterError::Invalid(rule, offset))) => {
+            say!(said, "Footer {rule:?} {offset}");
+        }
+        Err(SchemaError::Elements(fault)) => {
+            let Fault { rule, at } = fault;
+            say!(said, "Elements {rule:?} {at}");
+        }
+        Err(SchemaError::Ipc(IpcError::Broken(fault))) => {
+            let (rule, at) = (fault.rule, fault.at);
+            say!(said, "Ipc {rule:?} {at}");
+        }
+        Err(SchemaError::Encoding(_)) => said.push("Encoding"),
+        Err(SchemaError::OutOfMemory) => said.fail(),
+        Err(error) => said.name(error),
     }
 }
 

@@ -31,7 +31,7 @@ pub fn answer(it: &mut Asked<'_>) -> Result<(), AllocError> {
     }
 }
 
-/// The same for the commands about tables, those that compare values, and those that read a data type.
+/// Answers the commands about tables, those that compare values, and those that read a data type.
 fn tables_or_read(it: &mut Asked<'_>) -> Result<(), AllocError> {
     match it.command {
         "parts" => tables::parts(it),

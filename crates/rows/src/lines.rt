@@ -1,5 +1,5 @@
 //! Rows of lines: calls of `geoarrow_fields` and of `field_lines`. Beside the four commands of the program there are `field`,
-//! the line of the field that a line stands for, or `none`, and `refusal`, the error by which that field is refused; and the whole
+//! the line of the field that a line denotes, or `none`, and `refusal`, the error by which that field is refused; and the whole
 //! runs of `runs`.
 mod runs;
 
@@ -34,7 +34,7 @@ pub fn answer(it: &mut Asked<'_>) -> Result<(), AllocError> {
     }
 }
 
-/// Says what a command answers about the field that a line stands for, if it stands for one.
+/// Says what a command answers about the field that a line denotes, if it denotes one.
 fn of_field(it: &mut Asked<'_>) -> Result<(), AllocError> {
     let field = parse_line(it.alloc, it.bytes)?;
     match (it.command, &field) {

@@ -25,6 +25,7 @@ mod asked;
 mod compared;
 mod faults;
 mod footers;
+mod geo;
 mod layouts;
 mod lines;
 mod memory;
@@ -43,8 +44,8 @@ use std::process::ExitCode;
 use std::{env, fs, io};
 
 /// The layers.
-const LAYERS: [&str; 6] = [
-    "footers", "layouts", "lines", "metadata", "reports", "schema",
+const LAYERS: [&str; 7] = [
+    "footers", "geo", "layouts", "lines", "metadata", "reports", "schema",
 ];
 
 /// Whether the program's argument is `faults`.

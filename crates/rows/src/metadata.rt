@@ -24,7 +24,7 @@ pub fn answer(it: &mut Asked<'_>) -> Result<(), AllocError> {
     }
 }
 
-/// The same for the commands that read metadata, and for those that compare them.
+/// Answers the commands that read metadata, and for those that compare them.
 fn read_or_compare(it: &mut Asked<'_>) -> Result<(), AllocError> {
     match it.command {
         "deserialize" => texts::deserialized(it, Some(it.text)),

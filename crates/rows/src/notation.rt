@@ -22,7 +22,7 @@ use std::collections::BTreeMap;
 /// How deep a spelled data type may nest; lists in one another that are counted are one level.
 const LEVELS: u8 = 60;
 
-/// The field that a line stands for. Errs also where it stands for none.
+/// The field that a line denotes. Errs also where it denotes none.
 pub fn field(alloc: Global, line: &str) -> Result<Field, AllocError> {
     parse_line(alloc, line.as_bytes())?.ok_or(AllocError)
 }

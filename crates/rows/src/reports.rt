@@ -1,9 +1,9 @@
 //! Rows of reports: calls of `file_reports`, and so of the crates that read files and say what columns hold. A row's text is lines of fields,
 //! with ` & ` between them in place of line feeds.
 use crate::asked::Asked;
-use column_check::{Finding, check_column};
+use column_check::{Finding, check_column, warnings};
 use column_files::{FileFault, columns_in};
-use column_reports::reason_words;
+use column_reports::{reason_words, warning_words};
 use file_reports::report_file;
 use std::alloc::{AllocError, Global};
 
@@ -13,7 +13,8 @@ pub fn answer(it: &mut Asked<'_>) -> Result<(), AllocError> {
     match it.command {
         "report" => report(it, text.as_str(), false),
         "report_inferred" => report(it, text.as_str(), true),
-        "reason_words" => words(it, text.as_str()),
+        "reason_words" => words(it, reasons_of(it.alloc, text.as_str())),
+        "warning_words" => words(it, warnings_of(it.alloc, text.as_str())),
         _ => it.no_command(),
     }
     Ok(())
@@ -35,7 +36,7 @@ fn report(it: &mut Asked<'_>, text: &str, infer: bool) {
 }
 
 /// The reasons of the first column that some lines denote, in words; none where it is not invalid.
-fn words_of(alloc: Global, text: &str) -> Result<Vec<String>, FileFault> {
+fn reasons_of(alloc: Global, text: &str) -> Result<Vec<String>, FileFault> {
     let columns = columns_in(alloc, text.as_bytes())?;
     let Some(column) = columns.as_slice().first() else {
         return Ok(Vec::new(alloc));
@@ -46,9 +47,20 @@ fn words_of(alloc: Global, text: &str) -> Result<Vec<String>, FileFault> {
     }
 }
 
-/// Says them.
-fn words(it: &mut Asked<'_>, text: &str) {
-    match words_of(it.alloc, text) {
+/// The warnings of the first column that some lines denote, in words.
+fn warnings_of(alloc: Global, text: &str) -> Result<Vec<String>, FileFault> {
+    let columns = columns_in(alloc, text.as_bytes())?;
+    let Some(column) = columns.as_slice().first() else {
+        return Ok(Vec::new(alloc));
+    };
+    let finding = check_column(alloc, column, false)?;
+    let warnings = warnings(alloc, column, &finding)?;
+    Ok(warning_words(alloc, warnings.as_slice())?)
+}
+
+/// Says the words.
+fn words(it: &mut Asked<'_>, words: Result<Vec<String>, FileFault>) {
+    match words {
         Ok(words) => {
             for word in &words {
                 it.said.push("/");

@@ -7,7 +7,7 @@
 use crate::asked::Asked;
 use crate::repeated::expanded;
 use crate::said::{Said, say};
-use crate::{faults, footers, layouts, lines, metadata, reports, schema};
+use crate::{faults, footers, geo, layouts, lines, metadata, reports, schema};
 use std::alloc::{AllocError, Global};
 
 /// How many bytes of a text are printed of a wrong row.
@@ -96,6 +96,7 @@ fn answer(it: &mut Asked<'_>, layer: &str) -> Result<(), AllocError> {
         "lines" => lines::answer(it),
         _ if it.text.len() < it.bytes.len() => Err(AllocError),
         "footers" => footers::answer(it),
+        "geo" => geo::answer(it),
         "reports" => reports::answer(it),
         "layouts" => layouts::answer(it),
         "metadata" => metadata::answer(it),

@@ -84,7 +84,7 @@ impl Said {
         }
     }
 
-    /// The same of the error of GeoArrow.
+    /// Says what an error of GeoArrow prints.
     pub fn geoarrow_refusal(&mut self, error: &GeoArrowError) {
         match error {
             GeoArrowError::Arrow(error) => self.refusal(error),

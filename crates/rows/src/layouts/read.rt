@@ -1,4 +1,4 @@
-//! Commands that read data types, by calls that take no memory.
+//! Commands that read data types, by calls that allocate nothing.
 use crate::asked::Asked;
 use crate::layouts::summaries::say_summary;
 use crate::layouts::trees::data_type;

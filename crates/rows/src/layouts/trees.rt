@@ -18,7 +18,7 @@ pub fn data_type(alloc: Global, text: &str) -> Result<DataType, AllocError> {
     dense(alloc, text)
 }
 
-/// The same but for `sparse`.
+/// The data type of a text without `sparse`.
 fn dense(alloc: Global, text: &str) -> Result<DataType, AllocError> {
     if let Some(name) = text.strip_prefix("written ") {
         return kind_data_type(alloc, kind(alloc, name)?);

@@ -48,7 +48,7 @@ fn say_read(said: &mut Said, read: &Result<Metadata, ArrowError>) {
     }
 }
 
-/// The metadata of a text. Errs also where it stands for none.
+/// The metadata of a text. Errs also where it denotes none.
 pub fn metadata_of(alloc: Global, text: &str) -> Result<Metadata, AllocError> {
     match Metadata::deserialize(alloc, Some(text)) {
         Ok(metadata) => Ok(metadata),

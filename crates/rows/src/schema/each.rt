@@ -66,7 +66,7 @@ fn of_geometry<E: ExtensionType<Metadata = Arc<Metadata>> + Into<GeoArrowType>>(
     }
 }
 
-/// The same of well-known binary or text, of which the type says the metadata alone.
+/// What well-known binary or text is made, of which the type says the metadata alone.
 fn of_bytes<E: Encoding>(it: &mut Asked<'_>, field: &Field) {
     match made_of::<SerializedType<E>>(it, field) {
         Ok(found) => say_text(&mut it.said, &found.serialize_metadata(it.alloc)),
