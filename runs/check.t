@@ -223,7 +223,7 @@ Files that cannot be read: the next one is read all the same
 Words that are answered at once
 
   $ geoarrow_check --version
-  geoarrow_check 1.0.0 (rattle-kit-13f)
+  geoarrow_check 1.0.0 (rattle-kit-13b)
 
   $ geoarrow_check --help | head -n 1
   usage: geoarrow_check [--json | --lines | --ipc] [--infer] [--quiet] [--require-geometry] [--expect COLUMN=WANT].. FILE..

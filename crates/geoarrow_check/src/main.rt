@@ -41,7 +41,7 @@ Status: 0 if no column is invalid and all that is expected is met, 1 otherwise, 
 ";
 
 /// The version, as `--version` prints it.
-const VERSION: &str = "geoarrow_check 1.0.0 (rattle-kit-13f)\n";
+const VERSION: &str = "geoarrow_check 1.0.0 (rattle-kit-13b)\n";
 
 /// The words after the program's name.
 fn words_of(rt: &HostRuntime) -> io::Result<Vec<String>> {
