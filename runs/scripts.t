@@ -11,6 +11,13 @@ A first answer without a proof, from the sources
   error field
   error field
 
+The other program so, of a file that is not below this folder
+
+  $ "$top/bin/try" check --infer --quiet --expect outline=XY ../examples/schema.jsonl
+  geoarrow_check: this build is not proved, only checked while it runs; bin/geoarrow_check proves and builds the program
+  schema.jsonl: column outline is not XY: multipolygon interleaved XYZ, EPSG:4326
+  [1]
+
 Words for which nothing is built, without `rt`
 
   $ for script in try geoarrow_fields
