@@ -1,4 +1,5 @@
-"""From Arrow schemas to the lines of geoarrow_fields, and back: a package that needs only Python 3.8 and its library.
+"""From Arrow schemas to the lines of geoarrow_fields, and back: a package that needs only Python 3.8 and its library, and the
+package in python/ beside it, which has `lines` and `Schema`.
 
     lines(schema)           a line a column, of an object with `__arrow_c_schema__`, with pyarrow's older `_export_to_c`
                             or with `__arrow_c_stream__` (whose rows are not read), or of the address of an
@@ -11,9 +12,10 @@ Whatever is no schema, or no line, is a `SchemaError`, which is a `ValueError` a
 cannot be read is a `FileError`. The same names stand in `interop.arrow_lines`, which is also the command;
 `python3 -m interop` runs it too.
 """
-from .c_schema import SchemaError
+from .package import c_schema  # before the others, which import geoarrow_fields by its name
 from .files import layers_of_file, lines_of_file
 from .gdal_layers import FileError, Layer
-from .schema_lines import Schema, lines
+from geoarrow_fields.c_schema import SchemaError
+from geoarrow_fields.schema_lines import Schema, lines
 
 __all__ = ["FileError", "Layer", "Schema", "SchemaError", "layers_of_file", "lines", "lines_of_file"]

@@ -24,7 +24,8 @@ import subprocess
 import sys
 from typing import List, Optional, Sequence, TextIO, Tuple
 
-from .c_schema import SchemaError, shown
+from geoarrow_fields.c_schema import SchemaError, shown
+
 from .files import FileError, Layer, layers_of_file
 
 BIN = pathlib.Path(__file__).resolve().parent.parent / "bin"

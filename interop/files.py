@@ -3,10 +3,11 @@ import os
 import pathlib
 from typing import Any, List, Optional, Tuple
 
+from geoarrow_fields.c_schema import shown
+from geoarrow_fields.schema_lines import lines
+
 from . import gdal_layers
-from .c_schema import shown
 from .gdal_layers import FileError, Layer
-from .schema_lines import lines
 
 OF_PYARROW = {".parquet", ".arrow", ".feather"}
 

@@ -9,9 +9,9 @@ import ctypes.util
 import json
 from typing import Any, Dict, Iterator, List, NamedTuple, Optional, Tuple
 
-from . import c_schema
-from .c_schema import EXTENSION_NAME, Field, SchemaError, shown
-from .schema_lines import lines_of_columns
+from geoarrow_fields import c_schema
+from geoarrow_fields.c_schema import EXTENSION_NAME, Field, SchemaError, shown
+from geoarrow_fields.schema_lines import lines_of_columns
 
 VECTOR = 4  # GDAL_OF_VECTOR; reading alone is the default
 FAILURE = 3  # CE_Failure: what is worse than a warning

@@ -13,7 +13,7 @@ import threading
 import unittest
 
 from . import arrow_lines, c_schema
-from .c_schema import ArrowArrayStream, ArrowSchema, SchemaError
+from geoarrow_fields.c_schema import ArrowArrayStream, ArrowSchema, SchemaError
 from .testing import HERE, TOP
 
 # From the format's page "The Arrow C data interface", "Data type description".

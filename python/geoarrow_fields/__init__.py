@@ -1,39 +1,47 @@
 """What the columns of an Arrow schema hold of GeoArrow's geometry types, and why they are invalid.
 
-    check(source)     what each column holds: a list of `Column`, shown as a table
-    read(line)        the GeoArrow type that a field says it holds
-    canon(line)       the field as GeoArrow writes it
+    check(source)          what each column holds: a list of `Column`, shown as a table
+    read(line)             the GeoArrow type that a field says it holds
+    canon(line)            the field as GeoArrow writes it
+    write_schema(lines)    the Arrow stream of a schema of these columns
+    lines(schema)          the line of each column of an object of pyarrow, polars and others; `Schema(lines)` is such an object
 
 The answers are those of the proved programs `geoarrow_fields` and `geoarrow_check`, by the library that include/geoarrow.h
-declares. It needs Python 3.8 or later, and nothing else.
+declares; `lines` and `Schema` are written in Python. It needs Python 3.8 or later, and nothing else.
 """
-import os
-from typing import Any, List, Union
+from typing import Any, Iterable, List, Union
 
-from . import library
-from .columns import Column, Columns, Reason, column_of
-from .bridge import SchemaError, lines
+from . import library, sources
+from .c_schema import SchemaError
+from .columns import Column, Columns, Reason, columns_of
 from .library import Command
 from .refusals import InvalidColumns, RefusedSource
+from .schema_lines import Schema, lines
 
-__all__ = ["Column", "Columns", "InvalidColumns", "Reason", "RefusedSource", "SchemaError", "canon", "check", "read"]
+__all__ = [
+    "Column", "Columns", "InvalidColumns", "Reason", "RefusedSource", "Schema", "SchemaError", "canon", "check", "lines", "read", "write_schema"]
 
 __version__ = "1.0.0"
+
+_ENVELOPE = 16  # the status of bytes that are no whole message, whose place is counted from the first that are given
 
 
 def check(source: Any, infer: bool = False, strict: bool = False) -> List[Column]:
     """What each column of a source holds.
 
-    `source` is the path of an Arrow file (Feather), of an Arrow stream or of lines; the bytes of one; lines in a list or a tuple; or
-    an object that gives a schema over Arrow's C data interface, such as one of pyarrow or polars. With `infer`, a column without an
-    extension name is taken for what is inferred from its data type. With `strict`, `InvalidColumns` is raised where one is invalid.
+    `source` is the path of an Arrow file (Feather), an Arrow stream, a Parquet file or lines; the bytes of one; lines in a list or a tuple;
+    or an object that gives a schema over Arrow's C data interface, such as one of pyarrow or polars (`lines`). Of a file only the bytes that say
+    what its columns are are read. With `infer`, a column without an extension name is taken for what is inferred from its data type. With
+    `strict`, `InvalidColumns` is raised where one is invalid.
 
-    Raises `RefusedSource` where the bytes are not read, `SchemaError` where the object gives no schema, and `OSError` for the path.
+    Raises `RefusedSource`, a `ValueError` with a code and an offset, where the bytes are not read; `SchemaError`, which is one too, where the
+    object gives no schema; `OSError` for the path; and `MemoryError`.
     """
-    status, text, place = library.report(_bytes_of(source), infer)
+    given, left_out = sources.bytes_of(source)
+    status, report, place = library.report(given, infer)
     if status != library.DONE:
-        raise RefusedSource(status, place)
-    columns = Columns(column_of(line) for line in text.split("\n")[:-1])
+        raise RefusedSource(status, place + left_out if status == _ENVELOPE else place)
+    columns = columns_of(report)
     invalid = [one for one in columns if one.is_invalid]
     if strict and invalid:
         raise InvalidColumns(invalid)
@@ -42,23 +50,24 @@ def check(source: Any, infer: bool = False, strict: bool = False) -> List[Column
 
 def read(line: Union[str, bytes]) -> str:
     """The answer of `read` to the line of one field: its type, as `point separated XY -`, `none`, or why it is refused (docs/FORMAT.md, 2.2)."""
-    return library.answer(Command.READ, _line(line))
+    return library.answer(Command.READ, sources.line_bytes(line))
 
 
 def canon(line: Union[str, bytes]) -> str:
     """The answer of `canon` to the line of one field: the line of the field as GeoArrow writes it, `none`, or why it is refused."""
-    return library.answer(Command.CANON, _line(line))
+    return library.answer(Command.CANON, sources.line_bytes(line))
 
 
-def _line(given: Union[str, bytes]) -> bytes:
-    return given.encode("utf-8", "surrogatepass") if isinstance(given, str) else bytes(given)
+def write_schema(lines: Iterable[Union[str, bytes]]) -> bytes:
+    """An Arrow stream of the schema whose columns the lines denote (docs/FORMAT.md, 2.7 and 3.6). It has the schema alone: no batches, and no
+    mark of the stream's end.
 
-
-def _bytes_of(source: Any) -> bytes:
-    if isinstance(source, (str, os.PathLike)):
-        with open(source, "rb") as file:
-            return file.read()
-    if isinstance(source, (bytes, bytearray, memoryview)):
-        return bytes(source)
-    given = source if isinstance(source, (list, tuple)) else lines(source)
-    return b"".join(_line(one) + b"\n" for one in given)
+    Raises `RefusedSource` with the code `NoField` where a line denotes no column, `Column` where no message can hold its type, and `TooLarge`;
+    and `MemoryError`.
+    """
+    if isinstance(lines, (str, bytes)):
+        raise TypeError("lines are a list of texts")
+    status, stream, place = library.stream(sources.of_lines(lines))
+    if status != library.DONE:
+        raise RefusedSource(status, place)
+    return stream

@@ -3,10 +3,13 @@ import dataclasses
 import json
 from typing import Any, Dict, List, Optional, Tuple
 
+from . import tables
+
 
 @dataclasses.dataclass(frozen=True)
 class Reason:
-    """Why a column is invalid: a code, what it says, and the names of the child fields from the column down to the data type at fault."""
+    """Why a column is invalid or doubtful: a code, what it says, and the names of the child fields from the column down to the data type at
+    fault (docs/FORMAT.md, 2.5)."""
 
     code: str
     message: str
@@ -42,56 +45,57 @@ class Column:
         return self.state == "invalid"
 
 
-def column_of(line: str) -> Column:
-    """The column of a line of the report."""
-    said = json.loads(line)
+class Columns(List[Column]):
+    """Columns, which are shown as a table: of text, and in a notebook of HTML."""
+
+    def __repr__(self) -> str:
+        return tables.text(map(_row, self))
+
+    def _repr_html_(self) -> str:
+        return tables.html(map(_row, self))
+
+
+def columns_of(report: str) -> Columns:
+    """The columns of a report, of which each line is one."""
+    lines = report.split("\n")[:-1]
+    return Columns(map(_column, _values(lines), lines))
+
+
+def _values(lines: List[str]) -> Any:
+    """The JSON of lines."""
+    text = f"[{','.join(lines)}]"
+    try:
+        return json.loads(text)
+    except ValueError:  # from Python 3.11 on, of a whole number with thousands of digits
+        return json.loads(text, parse_int=_number)
+
+
+def _number(digits: str) -> Any:
+    """A whole number, or its float where it has more digits than Python converts."""
+    try:
+        return int(digits)
+    except ValueError:
+        return float(digits)
+
+
+def _column(said: Dict[str, Any], line: str) -> Column:
+    known = said.get
     return Column(
-        name=said["column"], index=said["index"], state=said["state"], type=said["type"], extension=said.get("extension"),
-        edges=said.get("edges"), crs_type=said.get("crs_type"), crs=said.get("crs"),
-        reasons=_reasons(said, "reasons"), warnings=_reasons(said, "warnings"), json=line)
+        said["column"], said["index"], said["state"], said["type"], known("extension"), known("edges"), known("crs_type"), known("crs"),
+        _reasons(said, "reasons"), _reasons(said, "warnings"), line)
 
 
 def _reasons(said: Dict[str, Any], key: str) -> Tuple[Reason, ...]:
-    return tuple(Reason(one["code"], one["message"], tuple(one["path"])) for one in said.get(key, ()))
+    if key not in said:
+        return ()
+    return tuple(Reason(one["code"], one["message"], tuple(one["path"])) for one in said[key])
 
 
-class Columns(List[Column]):
-    """Columns, which are shown as a table."""
-
-    def __repr__(self) -> str:
-        rows = [("column", "holds", "CRS", "edges")]
-        below: List[List[str]] = [[]]
-        for column in self:
-            rows.append((_shown(column.name), _shown(_holds(column)), _shown(crs_name(column.crs)), column.edges or ""))
-            below.append([f"    {_shown(str(one))}" for one in (*column.reasons, *column.warnings)])
-        widths = [max(map(len, cells)) for cells in zip(*rows)]
-        lines = []
-        for row, more in zip(rows, below):
-            lines.append("  ".join(cell.ljust(width) for cell, width in zip(row, widths)).rstrip())
-            lines.extend(more)
-        return "\n".join(lines)
-
-
-def _holds(column: Column) -> str:
+def _row(column: Column) -> tables.Row:
+    """What a table shows of a column: its cells, and the lines below them."""
+    holds = column.type
     if column.state in ("invalid", "extension"):
-        return f"{column.state} {column.extension}"
-    return f"taken for {column.type}" if column.state == "inferred" else column.type
-
-
-def crs_name(crs: Any) -> str:
-    """What a CRS is called for people: the authority and code of a PROJJSON, else its name; the first 40 characters of a text."""
-    if crs is None:
-        return ""
-    if isinstance(crs, str):
-        return crs[:40]
-    if isinstance(crs, dict):
-        known = crs.get("id")
-        if isinstance(known, dict) and "authority" in known and "code" in known:
-            return f"{known['authority']}:{known['code']}"
-        if isinstance(crs.get("name"), str):
-            return crs["name"]
-    return "a CRS"
-
-
-def _shown(text: str) -> str:
-    return "".join(one if one.isprintable() else "?" for one in text)
+        holds = f"{column.state} {column.extension}"
+    elif column.state == "inferred":
+        holds = f"taken for {column.type}"
+    return (column.name, holds, tables.crs_name(column.crs), column.edges or ""), [str(one) for one in (*column.reasons, *column.warnings)]

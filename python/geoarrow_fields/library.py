@@ -1,11 +1,12 @@
 """The library of C (include/geoarrow.h): where it is found, and how it is called.
 
-It is the file that GEOARROW_C_LIBRARY names; or libgeoarrow_c.so beside this file, or in build/ of the repository, as bin/native
-builds it; or else the one that the system finds.
+It is the file that GEOARROW_C_LIBRARY names; or libgeoarrow_c.so beside this file, where a wheel has it, or in build/ of the
+repository, where bin/native leaves it; or else the one that the system finds. It is loaded at the first call.
 """
 import ctypes
 import ctypes.util
 import enum
+import functools
 import os
 import pathlib
 from typing import Any, Tuple
@@ -13,9 +14,10 @@ from typing import Any, Tuple
 NAME = "libgeoarrow_c.so"
 VERSION = 10000
 
-DONE, SHORT, MEMORY, UNKNOWN, LIMIT = range(5)
+DONE, SHORT, MEMORY = range(3)
 INFER_TYPES = 1
-_ROOM_OF_ANSWERS, _ROOM_OF_REPORTS = 4096, 65536  # at first
+_ROOM_OF_ANSWERS = 4096  # at first
+_ROOM_OF_REPORTS = 65536  # at first, and twice the bytes of the source: enough for nearly all
 
 
 class Command(enum.IntEnum):
@@ -27,7 +29,8 @@ class Command(enum.IntEnum):
     COLUMNS = 3
 
 
-def _path() -> str:
+def path() -> str:
+    """Where the library is."""
     given = os.environ.get("GEOARROW_C_LIBRARY")
     if given:
         return given
@@ -41,13 +44,12 @@ def _path() -> str:
     return found
 
 
-def _loaded() -> Any:
-    library = ctypes.CDLL(_path())
-    for name in ("geoarrow_answer", "geoarrow_run", "geoarrow_check"):
-        call = getattr(library, name)
-        call.restype = ctypes.c_uint8
-        call.argtypes = [
-            ctypes.c_uint8, ctypes.c_char_p, ctypes.c_size_t, ctypes.c_void_p, ctypes.c_size_t, ctypes.POINTER(ctypes.c_size_t)]
+@functools.lru_cache(maxsize=None)
+def _library() -> Any:
+    try:
+        library = ctypes.CDLL(path())
+    except OSError as error:
+        raise ImportError(f"{NAME} cannot be loaded: {error}") from None
     library.geoarrow_version.restype = ctypes.c_uint32
     library.geoarrow_version.argtypes = []
     if library.geoarrow_version() != VERSION:
@@ -55,30 +57,46 @@ def _loaded() -> Any:
     return library
 
 
-_LIBRARY = _loaded()
+@functools.lru_cache(maxsize=None)
+def _call(name: str, numbers: int) -> Any:
+    """A call of the header, which takes so many numbers of a byte, then bytes, and then room for what it writes."""
+    call = getattr(_library(), name)
+    call.restype = ctypes.c_uint8
+    call.argtypes = [ctypes.c_uint8] * numbers + [
+        ctypes.c_char_p, ctypes.c_size_t, ctypes.c_void_p, ctypes.c_size_t, ctypes.POINTER(ctypes.c_size_t)]
+    return call
 
 
-def _called(call: Any, number: int, given: bytes, size: int) -> Tuple[int, bytes, int]:
-    """The status of a call with a buffer that is of this size at first, the text that it writes, and what it leaves as its length."""
+def _called(name: str, numbers: Tuple[int, ...], given: bytes, size: int) -> Tuple[int, memoryview, int]:
+    """The status of a call with room of this size at first, what it writes, and what it leaves as its length.
+
+    The room is this call's own, so any number of threads may call at once.
+    """
+    call = _call(name, len(numbers))
+    length = ctypes.c_size_t()
     while True:
         room = ctypes.create_string_buffer(size)
-        length = ctypes.c_size_t()
-        status = call(number, given, len(given), room, size, ctypes.byref(length))
-        if status == DONE:
-            return status, ctypes.string_at(room, length.value), length.value
+        status = call(*numbers, given, len(given), room, size, ctypes.byref(length))
         if status == MEMORY:
             raise MemoryError
         if status != SHORT:
-            return status, b"", length.value
+            return status, memoryview(room)[: length.value if status == DONE else 0], length.value
         size = length.value
 
 
 def answer(command: Command, line: bytes) -> str:
     """The answer to one line under a command."""
-    return _called(_LIBRARY.geoarrow_answer, command, line, _ROOM_OF_ANSWERS)[1].decode("utf-8")
+    return str(_called("geoarrow_answer", (command,), line, _ROOM_OF_ANSWERS)[1], "utf-8")
 
 
 def report(given: bytes, infer: bool) -> Tuple[int, str, int]:
     """The status of a check, the report, and the place where the bytes are refused."""
-    status, text, place = _called(_LIBRARY.geoarrow_check, INFER_TYPES if infer else 0, given, _ROOM_OF_REPORTS)
-    return status, text.decode("utf-8"), place
+    size = _ROOM_OF_REPORTS + 2 * len(given)
+    status, text, place = _called("geoarrow_check", (INFER_TYPES if infer else 0,), given, size)
+    return status, str(text, "utf-8"), place
+
+
+def stream(lines: bytes) -> Tuple[int, bytes, int]:
+    """The status of a schema that is written, its Arrow stream, and the place where the lines are refused."""
+    status, found, place = _called("geoarrow_write_schema", (), lines, _ROOM_OF_REPORTS + 2 * len(lines))
+    return status, bytes(found), place

@@ -1,35 +1,46 @@
-"""Why a source is not read, and why columns are not taken."""
-from typing import List
+"""Why a source is not read, why a schema is not written, and why columns are not taken."""
+from typing import Any, List, Tuple
 
 from .columns import Column
 
-# The statuses of geoarrow.h that refuse bytes, in words; `{}` is the place.
-_WORDS = {
-    5: "line {} is no field",
-    6: "the columns of the Parquet file are not read",
-    7: "byte {} of the message: more is to be read than eight times its bytes",
+# The statuses of geoarrow.h that refuse bytes: a code, and what it says; `{}` is the place, for people counted as they count it.
+_REFUSALS = {
+    5: ("NoField", "line {} is no field"),
+    6: ("Parquet", "the columns of the Parquet file are not read"),
+    7: ("Budget", "byte {} of the message: more is to be read than eight times its bytes"),
+    8: ("Column", "column {} has a type that no message can hold"),
+    9: ("TooLarge", "the schema takes 2^31 bytes or more"),
 }
-# The rules of Arrow's IPC format, from the status 16 on.
-RULES = (
-    "no whole message", "no aligned number before the end", "an offset that leads nowhere", "a table without a vtable",
-    "a slot past the end", "a text without its end", "a text that is not UTF-8", "a vector past the end",
-    "a table without a slot that it must have", "a message that is no schema", "an unknown type",
-    "a type with an unknown width, unit or size", "a type with a wrong number of children", "a union with wrong type ids",
-    "columns that are nested too deep",
-)
 _FIRST_RULE = 16
+# The rules of Arrow's IPC format (docs/FORMAT.md, 3), from the status 16 on.
+RULES = (
+    ("Envelope", "no whole message"), ("Number", "no aligned number before the end"), ("Offset", "an offset that leads nowhere"),
+    ("Vtable", "a table without a vtable"), ("Slot", "a slot past the end"), ("Text", "a text without its end"),
+    ("Utf8", "a text that is not UTF-8"), ("Vector", "a vector past the end"), ("Missing", "a table without a slot that it must have"),
+    ("Message", "a message that is no schema"), ("Tag", "an unknown type"), ("Parameter", "a type with an unknown width, unit or size"),
+    ("Children", "a type with a wrong number of children"), ("TypeIds", "a union with wrong type ids"),
+    ("Depth", "columns that are nested too deep"),
+)
+_REFUSALS.update({_FIRST_RULE + at: (code, f"byte {{}} of the message: {text}") for at, (code, text) in enumerate(RULES)})
+_NO_FIELD = 5
 
 
 class RefusedSource(ValueError):
-    """A source that is not read: the status of the call, and the place where the bytes are refused."""
+    """A source that is not read, or a schema that is not written.
 
-    def __init__(self, status: int, place: int) -> None:
+    `code` says why: `NoField`, `Parquet`, `Budget`, `Column`, `TooLarge`, or the rule of docs/FORMAT.md, 3, that is broken. `offset` says where:
+    how many lines stand before the one that is no field, the byte of the message, or the index of the column. `status` is the number of
+    include/geoarrow.h.
+    """
+
+    def __init__(self, status: int, offset: int) -> None:
         self.status = status
-        self.place = place
-        if status >= _FIRST_RULE:
-            super().__init__(f"byte {place} of the message: {RULES[status - _FIRST_RULE]}")
-        else:
-            super().__init__(_WORDS[status].format(place + 1 if status == 5 else place))
+        self.offset = offset
+        self.code, words = _REFUSALS.get(status, (f"Status{status}", f"status {status} at {{}}"))
+        super().__init__(words.format(offset + 1 if status == _NO_FIELD else offset))
+
+    def __reduce__(self) -> Tuple[Any, ...]:
+        return RefusedSource, (self.status, self.offset)
 
 
 class InvalidColumns(ValueError):
@@ -38,3 +49,6 @@ class InvalidColumns(ValueError):
     def __init__(self, columns: List[Column]) -> None:
         self.columns = columns
         super().__init__("; ".join(f"{one.name!r}: {', '.join(map(str, one.reasons))}" for one in columns))
+
+    def __reduce__(self) -> Tuple[Any, ...]:
+        return InvalidColumns, (self.columns,)

@@ -1,0 +1,18 @@
+"""What the tests share: where things are, and lines of columns."""
+import pathlib
+
+TOP = pathlib.Path(__file__).resolve().parent.parent.parent
+DATA = TOP / "crates/geoarrow_check/data"
+
+POINT = '{"metadata":{"ARROW:extension:name":"geoarrow.point"},"name":"p","nullable":true,"type":{"fixed_size_list":{"name":"xy","nullable":true,"type":"float64"},"size":2}}'
+CANON = '{"metadata":{"ARROW:extension:name":"geoarrow.point"},"name":"p","nullable":true,"type":{"fixed_size_list":{"name":"xy","nullable":false,"type":"float64"},"size":2}}'
+TEXT = '{"name":"t","nullable":true,"type":"utf8"}'
+OTHER = '{"name":"at","nullable":true,"type":{"other":"timestamp[ms, tz=UTC]"}}'
+BROKEN = '{"metadata":{"ARROW:extension:metadata":"{\\"edges\\":1}","ARROW:extension:name":"geoarrow.linestring"},"name":"b","nullable":true,"type":{"list":{"name":"v","nullable":true,"type":{"struct":[]}}}}'
+CRS = '{"metadata":{"ARROW:extension:metadata":"{\\"crs\\":{\\"id\\":{\\"authority\\":\\"OGC\\",\\"code\\":\\"CRS84\\"},\\"scope\\":1.50},\\"crs_type\\":\\"projjson\\",\\"edges\\":\\"spherical\\"}","ARROW:extension:name":"geoarrow.wkb"},"name":"g","nullable":true,"type":"binary"}'
+
+
+def with_crs(crs):
+    """The line of a column of well-known binary with this text as its CRS."""
+    text = ('{"crs":%s}' % crs).replace("\\", "\\\\").replace('"', '\\"')
+    return '{"metadata":{"ARROW:extension:metadata":"%s","ARROW:extension:name":"geoarrow.wkb"},"name":"g","nullable":true,"type":"binary"}' % text

@@ -1,0 +1,231 @@
+"""Tests of the calls: what they answer, and what they raise."""
+import pathlib
+import pickle
+import re
+import tempfile
+import threading
+import unittest
+from unittest import mock
+
+import geoarrow_fields
+from geoarrow_fields import (
+    Column, InvalidColumns, Reason, RefusedSource, Schema, SchemaError, canon, check, library, lines, read, write_schema)
+from geoarrow_fields.refusals import RULES
+
+from .shared import BROKEN, CANON, CRS, DATA, OTHER, POINT, TEXT, TOP, with_crs
+
+
+class Answers(unittest.TestCase):
+    def test_read_and_canon(self):
+        self.assertEqual(read(POINT), "point interleaved XY -")
+        self.assertEqual(read(POINT.encode()), "point interleaved XY -")
+        self.assertEqual(canon(POINT), CANON)
+        self.assertEqual(read(TEXT), "none")
+        self.assertEqual(read(""), "error field")
+        self.assertEqual(read("\x00"), "error field")
+        self.assertEqual(read("\ud800"), "error field")
+        self.assertEqual(canon(BROKEN), "error arrow")
+
+    def test_an_answer_longer_than_the_first_room(self):
+        long = POINT.replace('"p"', '"' + "p" * 200_000 + '"')
+        self.assertEqual(canon(long), CANON.replace('"p"', '"' + "p" * 200_000 + '"'))
+
+    def test_out_of_memory(self):
+        with mock.patch.object(library, "_call", lambda name, numbers: lambda *given: library.MEMORY):
+            for call in (lambda: read(TEXT), lambda: canon(TEXT), lambda: check([TEXT]), lambda: write_schema([TEXT])):
+                with self.assertRaises(MemoryError):
+                    call()
+
+
+class Checks(unittest.TestCase):
+    def test_sources(self):
+        wanted = [Column("t", 0, "plain", "utf8"), Column("p", 1, "geometry", "point interleaved XY", "geoarrow.point", "planar")]
+        text = f"{TEXT}\n{POINT}\n"
+        stream = write_schema([TEXT, POINT])
+        given = text.encode()
+        for source in (
+                given, bytearray(given), memoryview(given), memoryview(b"".join(bytes([one, 0]) for one in given))[::2], [TEXT, POINT],
+                (TEXT.encode(), POINT), Schema(text), stream, stream + b"\0" * 100):
+            with self.subTest(source=type(source).__name__):
+                self.assertEqual(check(source), wanted)
+        with tempfile.TemporaryDirectory() as folder:
+            for found in (given, stream):
+                path = pathlib.Path(folder, "source")
+                path.write_bytes(found)
+                self.assertEqual(check(path), wanted)
+                self.assertEqual(check(str(path)), wanted)
+        self.assertEqual(check(b""), [])
+        self.assertEqual(check([]), [])
+
+    def test_what_is_inferred(self):
+        self.assertEqual(check([TEXT], infer=True), [Column("t", 0, "inferred", "wkt - -", None, "planar")])
+
+    def test_a_crs_and_its_text(self):
+        (column,) = check([CRS])
+        self.assertEqual(column.crs, {"id": {"authority": "OGC", "code": "CRS84"}, "scope": 1.5})
+        self.assertEqual((column.crs_type, column.edges), ("projjson", "spherical"))
+        self.assertIn('"scope":1.50', column.json)
+
+    def test_a_crs_with_a_number_of_many_digits(self):
+        long = "1" * 5000  # more than Python converts, from 3.11 on
+        column, other = check([with_crs('{"a":%s,"b":7}' % long), CRS])
+        self.assertEqual(column.crs["b"], 7)
+        self.assertIn(column.crs["a"], (float(long), int(long[:4000]) * 10**1000 + int(long[4000:])))
+        self.assertIn(long, column.json)
+        self.assertEqual(other.edges, "spherical")
+
+    def test_reasons(self):
+        (column,) = check([BROKEN])
+        self.assertEqual([one.code for one in column.reasons], ["BadFieldCount", "UnknownEdges"])
+        self.assertEqual(column.reasons[0], Reason("BadFieldCount", "unexpected number of fields", ("v",)))
+        self.assertTrue(column.is_invalid and not column.is_geometry)
+
+    def test_strict(self):
+        self.assertEqual(check([TEXT], strict=True), check([TEXT]))
+        with self.assertRaises(InvalidColumns) as caught:
+            check([TEXT, BROKEN], strict=True)
+        self.assertEqual([one.name for one in caught.exception.columns], ["b"])
+        self.assertEqual(str(caught.exception), "'b': unexpected number of fields at v, unknown edges")
+
+    def test_files_of_arrow(self):
+        (column,) = check(DATA / "file.arrow")
+        self.assertEqual((column.name, column.type), ("g", "linestring interleaved XYM"))
+        self.assertEqual(check((DATA / "file.arrow").read_bytes()), [column])
+        self.assertTrue(check(DATA / "stream.arrows"))
+
+    def test_files_of_parquet(self):
+        for name in ("stored.parquet", "plain.parquet"):
+            self.assertEqual(check(DATA / name), check((DATA / name).read_bytes()))
+        self.assertEqual([one.type for one in check(DATA / "stored.parquet")], ["large_wkb - -"])
+
+    def test_the_end_of_a_large_file_alone_is_read(self):
+        with tempfile.TemporaryDirectory() as folder:
+            path = pathlib.Path(folder, "large")
+            for name, head in (("file.arrow", b"ARROW1\0\0"), ("stored.parquet", b"PAR1")):
+                with open(path, "wb") as file:
+                    file.write(head)
+                    file.seek(2**40)  # a hole
+                    file.write((DATA / name).read_bytes())
+                self.assertEqual(check(path), check(DATA / name))
+
+
+class Refusals(unittest.TestCase):
+    def refused(self, call, *given):
+        with self.assertRaises(RefusedSource) as caught:
+            call(*given)
+        self.assertIsInstance(caught.exception, ValueError)
+        return caught.exception.code, caught.exception.offset, str(caught.exception)
+
+    def test_bytes(self):
+        self.assertEqual(self.refused(check, f"{TEXT}\n\n".encode()), ("NoField", 1, "line 2 is no field"))
+        self.assertEqual(self.refused(check, b"PAR1"), ("Parquet", 0, "the columns of the Parquet file are not read"))
+        self.assertEqual(self.refused(check, b"ARROW1"), ("Envelope", 0, "byte 0 of the message: no whole message"))
+        self.assertEqual(self.refused(check, [TEXT, "\ud800"])[:2], ("NoField", 1))
+
+    def test_a_stream_with_an_offset_that_leads_nowhere(self):
+        stream = bytearray(write_schema([TEXT]))
+        stream[8:12] = (2**31).to_bytes(4, "little")  # the root offset, which is the first of the message
+        self.assertEqual(self.refused(check, bytes(stream)), ("Offset", 0, "byte 0 of the message: an offset that leads nowhere"))
+
+    def test_a_file_that_is_cut_is_refused_at_its_end(self):
+        whole = (DATA / "file.arrow").read_bytes()
+        with tempfile.TemporaryDirectory() as folder:
+            path = pathlib.Path(folder, "file")
+            for length in range(6, len(whole)):
+                path.write_bytes(whole[:length])
+                code, offset, _ = self.refused(check, path)
+                self.assertEqual((code, offset), ("Envelope", max(length - 10, 0)))
+                self.assertEqual(self.refused(check, whole[:length])[:2], (code, offset))
+
+    def test_no_schema_and_no_file(self):
+        with self.assertRaises(SchemaError):
+            check(object())
+        with self.assertRaises(FileNotFoundError):
+            check("/nowhere/at/all")
+        with self.assertRaises(IsADirectoryError):
+            check(TOP)
+
+    def test_each_status_of_the_header_has_its_words(self):
+        header = (TOP / "include/geoarrow.h").read_text()
+        found = {int(number): name for name, number in re.findall(r"GEOARROW_(\w+) = (\d+),? *(?=/\*|\n)", header) if int(number) > 4}
+        self.assertTrue({5, 6, 7, 16, 30} <= found.keys())
+        for number, name in found.items():
+            with self.subTest(name):
+                self.assertEqual(RefusedSource(number, 0).code.lower(), re.sub("^RULE_", "", name).replace("_", "").lower())
+
+    def test_the_rules_in_words(self):
+        source = (TOP / "crates/arrow_ipc/src/fault.rt").read_text()
+        self.assertEqual(list(RULES), [(code, text) for text, code in re.findall(r'#\[error\("(.*)"\)\]\n +(\w+),', source)])
+
+    def test_errors_cross_processes(self):
+        for error in (RefusedSource(5, 1), RefusedSource(18, 7), RefusedSource(200, 3), InvalidColumns(check([BROKEN]))):
+            other = pickle.loads(pickle.dumps(error))
+            self.assertEqual((type(other), str(other), vars(other)), (type(error), str(error), vars(error)))
+
+
+class Streams(unittest.TestCase):
+    def test_streams_that_others_read(self):
+        rows = [line for line in (TOP / "crates/ipc_samples/data/written.rows").read_text().split("\n") if not line.startswith("#")]
+        compared = 0
+        for question, answer in zip(rows[::2], rows[1::2]):
+            stream = bytes.fromhex(question.partition(" ")[2])
+            if b"a text" in stream:  # metadata of the schema itself, which lines do not have
+                continue
+            self.assertEqual(write_schema(answer.split(" | ") if answer else []), stream)
+            compared += 1
+        self.assertGreater(compared, 7)
+
+    def test_refused(self):
+        for given, code, offset in (([TEXT, "{}"], "NoField", 1), ([TEXT, POINT, OTHER], "Column", 2), ([""], "NoField", 0)):
+            with self.assertRaises(RefusedSource) as caught:
+                write_schema(given)
+            self.assertEqual((caught.exception.code, caught.exception.offset), (code, offset))
+        for given in (TEXT, TEXT.encode()):
+            with self.assertRaises(TypeError):
+                write_schema(given)
+
+    def test_there_and_back(self):
+        given = (DATA / "columns.jsonl").read_text().splitlines()
+        self.assertEqual(check(write_schema(given)), check(given))
+
+
+class Schemas(unittest.TestCase):
+    """(interop/test has the tests of the C data interface.)"""
+
+    def test_lines_of_a_schema(self):
+        self.assertEqual(lines(Schema([TEXT, POINT, OTHER])), [TEXT, POINT, OTHER])
+
+    def test_a_schema_that_is_checked(self):
+        given = (TOP / "examples/schema.jsonl").read_text()
+        self.assertEqual(check(Schema(given), infer=True), check(given.encode(), infer=True))
+
+
+class Threads(unittest.TestCase):
+    def test_eight_at_once(self):
+        source = (DATA / "columns.jsonl").read_bytes()
+        calls = (
+            lambda: check(source), lambda: check(source, infer=True), lambda: canon(POINT), lambda: read(POINT),
+            lambda: write_schema([POINT, CRS]), lambda: check(Schema([POINT, CRS])))
+        wanted = [call() for call in calls]
+        wrong = []
+
+        def work():
+            for _ in range(40):
+                wrong.extend(at for at, call in enumerate(calls) if call() != wanted[at])
+
+        threads = [threading.Thread(target=work) for _ in range(8)]
+        for one in threads:
+            one.start()
+        for one in threads:
+            one.join()
+        self.assertEqual(wrong, [])
+
+
+class Package(unittest.TestCase):
+    def test_the_version(self):
+        said = (TOP / "VERSION").read_text()
+        self.assertTrue(said.startswith(f"geoarrow_fields {geoarrow_fields.__version__},"))
+
+
+if __name__ == "__main__":
+    unittest.main()

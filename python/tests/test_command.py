@@ -1,0 +1,84 @@
+"""Tests of the command: what it prints, also beside the program `geoarrow_check`, where that is built."""
+import contextlib
+import io
+import os
+import pathlib
+import subprocess
+import sys
+import tempfile
+import unittest
+
+from geoarrow_fields import check
+from geoarrow_fields.__main__ import main
+
+from .shared import BROKEN, DATA, TEXT, TOP
+
+PROGRAM = TOP / "crates/geoarrow_check/out/geoarrow_check"
+
+
+def printed(words):
+    """What the command prints on both outputs, and its status."""
+    out, err = io.StringIO(), io.StringIO()
+    with contextlib.redirect_stdout(out), contextlib.redirect_stderr(err):
+        status = main(words)
+    return out.getvalue(), err.getvalue(), status
+
+
+class Command(unittest.TestCase):
+    def test_files_and_statuses(self):
+        with tempfile.TemporaryDirectory() as folder:
+            good, bad, none = (str(pathlib.Path(folder, name)) for name in ("good", "bad", "none"))
+            pathlib.Path(good).write_text(f"{TEXT}\n")
+            pathlib.Path(bad).write_text(f"{BROKEN}\n")
+            pathlib.Path(none).write_text("\n")
+            self.assertEqual(printed(["check", good]), ("column  holds  CRS  edges\nt       utf8\n", "", 0))
+            self.assertEqual(printed(["check", good, bad])[2], 1)
+            self.assertEqual(printed(["check", none, bad])[1:], (f"{none}: line 1 is no field\n", 2))
+            self.assertEqual(printed(["check", folder + "/no"]), ("", f"{folder}/no: No such file or directory\n", 2))
+
+    def test_the_lines_that_the_program_is_to_print(self):
+        words = (DATA.parent / "args").read_text().split()
+        found = self.run_in_data(sys.executable, "-m", "geoarrow_fields", "check", *words)
+        self.assertEqual(found.stdout.decode(), (DATA.parent / "stdout").read_text())
+        self.assertEqual(found.returncode, int((DATA.parent / "status").read_text()))
+
+    def test_an_output_that_nobody_reads(self):
+        command = f'"{sys.executable}" -m geoarrow_fields check "{TOP}/examples/schema.jsonl"; echo $? >&2'
+        found = self.run_in_data("sh", "-c", "{ " + command + "; } | true")
+        self.assertIn(found.stderr.decode(), ("2\n", "1\n"))  # (it may have written all before the reader ends)
+
+    @unittest.skipUnless(PROGRAM.is_file(), "the program is not built")
+    def test_beside_the_program(self):
+        files = ["columns.jsonl", "stream.arrows", "file.arrow", "other.arrows", "stored.parquet", "plain.parquet", str(TOP / "examples/schema.jsonl")]
+        for words in [[file] for file in files] + [files, ["nowhere", "file.arrow"]]:
+            for options in ([], ["--infer"], ["--json"], ["--json", "--infer"]):
+                with self.subTest(words=words, options=options):
+                    ours = self.run_in_data(sys.executable, "-m", "geoarrow_fields", "check", *options, *words)
+                    wanted = self.run_in_data(str(PROGRAM), *options, *words)
+                    self.assertEqual((ours.stdout.decode(), ours.returncode), (wanted.stdout.decode(), wanted.returncode))
+
+    @unittest.skipUnless(PROGRAM.is_file(), "the program is not built")
+    def test_standard_input_and_files_that_are_cut(self):
+        for name in ("file.arrow", "stream.arrows", "stored.parquet", "columns.jsonl"):
+            whole = (DATA / name).read_bytes()
+            for length in (*range(0, min(len(whole), 300), 7), len(whole) - 1, len(whole)):
+                ours = self.run_in_data(sys.executable, "-m", "geoarrow_fields", "check", "--json", "-", given=whole[:length])
+                wanted = self.run_in_data(str(PROGRAM), "--json", "-", given=whole[:length])
+                self.assertEqual((ours.stdout, ours.returncode), (wanted.stdout, wanted.returncode))
+                if b"of the message" in wanted.stderr:
+                    self.assertEqual(ours.stderr, wanted.stderr)
+
+    def run_in_data(self, *words, given=b""):
+        environment = {**os.environ, "PYTHONPATH": str(TOP / "python"), "PYTHONIOENCODING": "utf-8", "PYTHONDONTWRITEBYTECODE": "1"}
+        return subprocess.run(words, cwd=DATA, input=given, env=environment, stdout=subprocess.PIPE, stderr=subprocess.PIPE)
+
+
+class Printed(unittest.TestCase):
+    def test_json_is_that_of_the_column_with_the_file(self):
+        path = str(DATA / "stream.arrows")
+        line = check(path)[0].json
+        self.assertEqual(printed(["check", "--json", path])[0], line.replace(',"index"', f',"file":"{path}","index"') + "\n")
+
+
+if __name__ == "__main__":
+    unittest.main()

@@ -1,0 +1,81 @@
+"""Tests of tables: as text, and as HTML in a notebook."""
+import html.parser
+import re
+import unittest
+
+from geoarrow_fields import check
+
+from .shared import BROKEN, CRS, TEXT, TOP, with_crs
+
+
+class Cells(html.parser.HTMLParser):
+    """The elements of an HTML text, and the texts of its cells."""
+
+    def __init__(self, text):
+        super().__init__()
+        self.tags, self.cells = set(), []
+        self.feed(text)
+        self.close()
+
+    def handle_starttag(self, tag, attrs):
+        self.tags.add(tag)
+        if tag in ("td", "th"):
+            self.cells.append("")
+
+    def handle_data(self, data):
+        self.cells[-1] += data
+
+
+class Tables(unittest.TestCase):
+    def test_a_table(self):
+        self.assertEqual(repr(check([CRS, BROKEN, TEXT], infer=True)), """\
+column  holds                        CRS        edges
+g       wkb - -                      OGC:CRS84  spherical
+    CRS has a number that is not whole
+b       invalid geoarrow.linestring
+    unexpected number of fields at v
+    unknown edges
+t       taken for wkt - -                       planar""")
+
+    def test_the_table_of_the_readme(self):
+        readme = (TOP / "README.md").read_text()
+        table = re.search(r"    bin/geoarrow_check --infer examples/schema.jsonl\n\n((?:    .*\n)+)", readme)[1]
+        self.assertEqual(repr(check(TOP / "examples/schema.jsonl", infer=True)), re.sub(r"(?m)^    ", "", table).rstrip("\n"))
+
+    def test_what_a_crs_is_called(self):
+        for crs, name in (
+                ('"EPSG:4326"', "EPSG:4326"), ('"%s"' % ("a" * 41), "a" * 40), ('"a\\tb"', "a b"), ('{"id":{"authority":"EPSG","code":4326}}', "EPSG:4326"),
+                ('{"id":{"authority":"EPSG","code":1.5}}', "EPSG:?"), ('{"id":{"authority":"EPSG","code":true}}', "EPSG:?"),
+                ('{"id":{"authority":"EPSG","code":-1}}', "EPSG:?"), ('{"id":{"authority":"OGC"}}', "OGC"), ('{"id":{"code":1},"name":"n"}', "n"),
+                ('{"id":[1],"name":"n"}', "n"), ('{"name":7}', "a CRS"), ("[1]", "a CRS"), ("4326", "a CRS"), ("null", "")):
+            with self.subTest(crs):
+                row = repr(check([with_crs(crs)])).split("\n")[1]
+                self.assertEqual(re.fullmatch(r"g +wkb - - +(.*?) *planar", row)[1], name)
+
+    def test_control_characters(self):
+        table = repr(check([TEXT.replace('"t"', '"a\\u001b[2J\\u0085\\nb"')]))
+        self.assertEqual(table, "column     holds  CRS  edges\na?[2J??b   utf8".replace("a?[2J??b  ", "a?[2J??b ").replace("column    ", "column   "))
+
+
+class Html(unittest.TestCase):
+    def test_cells(self):
+        found = Cells(check([CRS, BROKEN, TEXT], infer=True)._repr_html_())
+        self.assertEqual(found.tags, {"table", "thead", "tbody", "tr", "th", "td"})
+        self.assertEqual(found.cells, [
+            "column", "holds", "CRS", "edges",
+            "g", "wkb - -", "OGC:CRS84", "spherical", "", "CRS has a number that is not whole",
+            "b", "invalid geoarrow.linestring", "", "", "", "unexpected number of fields at v", "", "unknown edges",
+            "t", "taken for wkt - -", "", "planar"])
+
+    def test_each_text_is_escaped(self):
+        name = "<script>\\\"&amp;'</td>"
+        given = [TEXT.replace('"t"', f'"{name}"'), with_crs('"<b>"'), BROKEN.replace('"v"', '"<i>"')]
+        given.append(TEXT.replace('"name"', '"metadata":{"ARROW:extension:name":"<u>"},"name"'))
+        found = Cells(check(given)._repr_html_())
+        self.assertEqual(found.tags, {"table", "thead", "tbody", "tr", "th", "td"})
+        for text in ("<script>\"&amp;'</td>", "<b>", "unexpected number of fields at <i>", "extension <u>"):
+            self.assertIn(text, found.cells)
+
+
+if __name__ == "__main__":
+    unittest.main()
