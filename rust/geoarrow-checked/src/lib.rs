@@ -1,0 +1,96 @@
+//! What each column of an Arrow schema holds of GeoArrow's geometry types, and why it is invalid: safe Rust over the calls that
+//! `include/geoarrow.h` declares, whose code is proved. `docs/FORMAT.md` has the lines, answers and reports.
+//!
+//! ```
+//! use geoarrow_checked::{answer, check, Command};
+//!
+//! let line = br#"{"metadata":{"ARROW:extension:name":"geoarrow.wkb"},"name":"g","nullable":true,"type":"binary"}"#;
+//! assert_eq!(answer(Command::Read, line)?, "wkb - -");
+//! let report = check(line, false)?;
+//! assert!(report.contains(r#""state":"geometry","type":"wkb - -""#));
+//! # Ok::<(), geoarrow_checked::Error>(())
+//! ```
+//!
+//! # What a program owes
+//!
+//! No slice can break what is owed for the arguments. Of a program is asked that a thread which calls has 256 KiB of stack left, as those of
+//! `std` have by default, that no call is made from a signal handler or from the forked child of a process with threads, and that
+//! `malloc`, `realloc` and `free` of the program are those of one allocator. Nothing is kept from call to call: any number of threads may call.
+#![forbid(unsafe_op_in_unsafe_fn)]
+#![deny(missing_docs)]
+
+mod calls;
+mod error;
+
+#[cfg(feature = "arrow-schema")]
+pub mod arrow;
+
+pub use error::{Error, Rule};
+
+/// What is asked of a line.
+#[derive(Debug, Clone, Copy, PartialEq, Eq, Hash)]
+#[repr(u8)]
+pub enum Command {
+    /// The type that the field says it holds.
+    Read = 0,
+    /// The same, and a type that is inferred from the data type where the field has no extension name.
+    Infer = 1,
+    /// The line of the field as GeoArrow writes it.
+    Canon = 2,
+    /// What is said of the field as a column of a schema.
+    Columns = 3,
+}
+
+/// The answer to one line, without line feeds (docs/FORMAT.md, 2.1 and 2.2). A line that is no field has an answer too: `error field`.
+///
+/// # Errors
+///
+/// [`Error::OutOfMemory`].
+pub fn answer(command: Command, line: &[u8]) -> Result<String, Error> {
+    calls::answer(command as u8, line).map(text)
+}
+
+/// The answers to all lines of an input, each with a line feed behind it.
+///
+/// # Errors
+///
+/// [`Error::Limit`] where there are more than 1,000,000 lines, or one has more than 1,048,576 bytes; [`Error::OutOfMemory`].
+pub fn run(command: Command, input: &[u8]) -> Result<String, Error> {
+    calls::run(command as u8, input).map(text)
+}
+
+/// The report of a file, from its bytes: a line of JSON for each of its columns, each with a line feed behind it (docs/FORMAT.md, 2.5 to
+/// 2.7). An Arrow file (Feather), an Arrow stream, a Parquet file and lines are told apart by their first bytes. With `infer`, a column
+/// without an extension name is taken for what is inferred from its data type.
+///
+/// # Errors
+///
+/// [`Error::NoField`], [`Error::Parquet`], [`Error::Budget`] or [`Error::Broken`] where the bytes are refused; [`Error::OutOfMemory`].
+pub fn check(bytes: &[u8], infer: bool) -> Result<String, Error> {
+    calls::check(u8::from(infer), bytes).map(text)
+}
+
+/// An Arrow stream of the schema whose columns the lines denote, one a line (docs/FORMAT.md, 2.7 and 3.6). It has the schema alone: no
+/// batches, and no mark of the stream's end.
+///
+/// # Errors
+///
+/// [`Error::NoField`] where a line is no column, [`Error::Column`] where no message can hold its type, [`Error::TooLarge`];
+/// [`Error::OutOfMemory`].
+pub fn write_schema(lines: &[u8]) -> Result<Vec<u8>, Error> {
+    calls::write_schema(lines)
+}
+
+/// The version of the library that is linked, as 10000 for 1.0.0.
+#[must_use]
+pub fn version() -> u32 {
+    calls::version()
+}
+
+/// The text of bytes that a call wrote, which are UTF-8.
+fn text(bytes: Vec<u8>) -> String {
+    match String::from_utf8(bytes) {
+        Ok(text) => text,
+        Err(other) => String::from_utf8_lossy(other.as_bytes()).into_owned(),
+    }
+}

@@ -1,0 +1,277 @@
+//! The calls, on the repository's rows, files and streams.
+mod common;
+
+use common::{read, rows, rows_of};
+use geoarrow_checked::{answer, check, run, version, write_schema, Command, Error, Rule};
+use std::thread;
+
+const TEXT: &str = r#"{"name":"t","nullable":true,"type":"utf8"}"#;
+const OTHER: &str = r#"{"name":"at","nullable":true,"type":{"other":"timestamp[ms]"}}"#;
+
+fn command_of(word: &str) -> Option<Command> {
+    Some(match word {
+        "read" => Command::Read,
+        "infer" => Command::Infer,
+        "canon" => Command::Canon,
+        "columns" => Command::Columns,
+        _ => return None,
+    })
+}
+
+/// The rows under the four commands, which are more than a thousand.
+fn lines() -> Vec<(Command, Vec<u8>, Vec<u8>)> {
+    let found: Vec<_> = rows("crates/rows/data/lines")
+        .into_iter()
+        .filter_map(|(word, line, wanted)| Some((command_of(&word)?, line, wanted)))
+        .collect();
+    assert!(found.len() > 1000);
+    found
+}
+
+fn judge_lines(lines: &[(Command, Vec<u8>, Vec<u8>)]) {
+    for (command, line, wanted) in lines {
+        let found = answer(*command, line).unwrap();
+        assert!(
+            found.as_bytes() == wanted,
+            "{command:?} {}: {found}",
+            String::from_utf8_lossy(&line[..line.len().min(500)])
+        );
+    }
+}
+
+#[test]
+fn answers_to_each_row() {
+    judge_lines(&lines());
+}
+
+#[test]
+fn answers_to_eight_threads() {
+    let lines: Vec<_> = lines()
+        .into_iter()
+        .filter(|(_, line, _)| line.len() < 10_000)
+        .collect();
+    thread::scope(|scope| {
+        for _ in 0..8 {
+            scope.spawn(|| judge_lines(&lines));
+        }
+    });
+}
+
+#[test]
+fn answers_to_all_rows_at_once() {
+    for command in [
+        Command::Read,
+        Command::Infer,
+        Command::Canon,
+        Command::Columns,
+    ] {
+        let (mut input, mut wanted) = (Vec::new(), Vec::new());
+        for (of, line, answer) in lines() {
+            if of == command && line.len() <= 1 << 20 {
+                input.extend([line, vec![b'\n']].concat());
+                wanted.extend([answer, vec![b'\n']].concat());
+            }
+        }
+        assert!(run(command, &input).unwrap().as_bytes() == wanted);
+    }
+}
+
+#[test]
+fn inputs_at_the_limits() {
+    assert_eq!(run(Command::Read, b"").unwrap(), "");
+    assert_eq!(
+        run(Command::Infer, &vec![b' '; 1 << 20]).unwrap(),
+        "error field\n"
+    );
+    assert_eq!(
+        run(Command::Infer, &vec![b' '; (1 << 20) + 1]),
+        Err(Error::Limit)
+    );
+    assert_eq!(
+        run(Command::Read, &vec![b'\n'; 1_000_000]).unwrap().len(),
+        12_000_000
+    );
+    assert_eq!(
+        run(Command::Read, &vec![b'\n'; 1_000_001]),
+        Err(Error::Limit)
+    );
+}
+
+/// A line of the report without the name of its file.
+fn without_file(line: &str) -> String {
+    match line.split_once(r#","file":""#) {
+        Some((before, behind)) => format!("{before}{}", behind.split_once('"').unwrap().1),
+        None => line.to_owned(),
+    }
+}
+
+#[test]
+fn reports_of_files() {
+    let (args, stdout) = (
+        read("crates/geoarrow_check/args"),
+        read("crates/geoarrow_check/stdout"),
+    );
+    let (args, stdout) = (
+        String::from_utf8(args).unwrap(),
+        String::from_utf8(stdout).unwrap(),
+    );
+    let mut wanted = stdout.lines();
+    for file in args
+        .split_whitespace()
+        .filter(|word| !word.starts_with("--"))
+    {
+        let report = check(
+            &read(&format!("crates/geoarrow_check/data/{file}")),
+            args.contains("--infer"),
+        )
+        .unwrap();
+        for line in report.lines() {
+            assert_eq!(line, without_file(wanted.next().unwrap()));
+        }
+    }
+    assert_eq!(wanted.next(), None);
+}
+
+#[test]
+fn types_that_are_inferred() {
+    assert_eq!(
+        check(TEXT.as_bytes(), false).unwrap(),
+        "{\"column\":\"t\",\"index\":0,\"state\":\"plain\",\"type\":\"utf8\"}\n"
+    );
+    assert_eq!(
+        check(TEXT.as_bytes(), true).unwrap(),
+        "{\"column\":\"t\",\"edges\":\"planar\",\"index\":0,\"state\":\"inferred\",\"type\":\"wkt - -\"}\n"
+    );
+}
+
+#[test]
+fn refused_bytes() {
+    assert_eq!(check(b"", true).unwrap(), "");
+    assert_eq!(
+        check(format!("{TEXT}\n\n").as_bytes(), false),
+        Err(Error::NoField(1))
+    );
+    assert_eq!(check(b"PAR1", false), Err(Error::Parquet));
+    assert_eq!(
+        check(b"ARROW1", false),
+        Err(Error::Broken(Rule::Envelope, 0))
+    );
+    let mut stream = write_schema(TEXT.as_bytes()).unwrap();
+    stream[8..12].copy_from_slice(&[0, 0, 0, 128]); // the root offset, which is the first of the message
+    assert_eq!(check(&stream, false), Err(Error::Broken(Rule::Offset, 0)));
+    assert_eq!(Error::NoField(1).to_string(), "line 2 is no field");
+    assert_eq!(
+        Error::Broken(Rule::Offset, 0).to_string(),
+        "byte 0 of the message: an offset that leads nowhere"
+    );
+}
+
+#[test]
+fn rules_that_samples_break() {
+    let mut compared = 0;
+    for (form, digits, wanted) in rows_of(&read("crates/ipc_samples/data/samples.rows")) {
+        let bytes = from_hex(&digits);
+        let head: &[u8] = if form == "file" { b"ARROW1" } else { &[255; 4] };
+        let Some(rule) = wanted.strip_prefix(b"refused ") else {
+            continue;
+        };
+        if !bytes.starts_with(head) {
+            continue;
+        }
+        let rule = String::from_utf8_lossy(rule.split(|byte| *byte == b' ').next().unwrap())
+            .to_lowercase();
+        match check(&bytes, false) {
+            Err(Error::Broken(found, _)) => assert_eq!(format!("{found:?}").to_lowercase(), rule),
+            Err(Error::Budget(_)) => assert_eq!("budget", rule),
+            other => panic!("{rule}: {other:?}"),
+        }
+        compared += 1;
+    }
+    assert!(compared > 50);
+}
+
+fn from_hex(digits: &[u8]) -> Vec<u8> {
+    let text = std::str::from_utf8(digits).unwrap();
+    (0..text.len() / 2)
+        .map(|at| u8::from_str_radix(&text[2 * at..2 * at + 2], 16).unwrap())
+        .collect()
+}
+
+#[test]
+fn streams_that_others_read() {
+    let rows = read("crates/ipc_samples/data/written.rows");
+    let lines: Vec<&[u8]> = rows
+        .split(|byte| *byte == b'\n')
+        .filter(|line| line.first() != Some(&b'#'))
+        .collect();
+    let mut compared = 0;
+    for pair in lines.chunks_exact(2) {
+        let stream = from_hex(pair[0].strip_prefix(b"written ").unwrap());
+        if stream.windows(6).any(|part| part == b"a text") {
+            continue; // metadata of the schema itself, which lines do not have
+        }
+        let columns = String::from_utf8(pair[1].to_vec())
+            .unwrap()
+            .replace(" | ", "\n");
+        assert!(
+            write_schema(columns.as_bytes()).unwrap() == stream,
+            "{columns}"
+        );
+        compared += 1;
+    }
+    assert!(compared > 7);
+}
+
+#[test]
+fn schemas_that_are_not_written() {
+    assert_eq!(
+        write_schema(format!("{TEXT}\n{{}}").as_bytes()),
+        Err(Error::NoField(1))
+    );
+    assert_eq!(
+        write_schema(format!("{TEXT}\n{TEXT}\n{OTHER}").as_bytes()),
+        Err(Error::Column(2))
+    );
+    assert_eq!(
+        Error::Column(2).to_string(),
+        "column 2 has a type that no message can hold"
+    );
+}
+
+#[test]
+fn a_schema_there_and_back() {
+    let lines = read("crates/geoarrow_check/data/columns.jsonl");
+    assert_eq!(
+        check(&write_schema(&lines).unwrap(), true),
+        check(&lines, true)
+    );
+}
+
+#[test]
+fn the_version_is_that_of_the_header() {
+    let header = String::from_utf8(read("include/geoarrow.h")).unwrap();
+    let number = header
+        .split_once("#define GEOARROW_VERSION ")
+        .unwrap()
+        .1
+        .lines()
+        .next()
+        .unwrap();
+    assert_eq!(version().to_string(), number);
+}
+
+#[test]
+fn a_thread_with_the_stack_that_the_header_asks_for() {
+    let deepest = format!(
+        r#"{{"name":"d","nullable":true,"type":{}"null"{}}}"#,
+        r#"{"list":{"name":"","nullable":true,"type":"#.repeat(61),
+        "}}".repeat(61)
+    );
+    // (twice as much, since a part of it goes to what begins a thread, and Rust's own code is built without optimization here)
+    let small = thread::Builder::new().stack_size(512 << 10);
+    small
+        .spawn(move || assert!(check(deepest.as_bytes(), true).is_ok()))
+        .unwrap()
+        .join()
+        .unwrap();
+}
