@@ -16,8 +16,8 @@ use Rattle.geoarrow_layout.specs.declared.encodings.Width.{Width}
 use Rattle.geoarrow_layout.specs.declared.encodings.Width.TheVariants.{Plain}
 use Rattle.geoarrow_layout.specs.declared.encodings.Kind.{Kind}
 use Rattle.geoarrow_layout.specs.declared.encodings.Kind.TheVariants.{Native as OfNative, Geometry as OfGeometry, Rect as OfRect, Wkb as OfWkb, Wkt as OfWkt}
-use Rattle.geoarrow_layout.specs.declared.candidate_names.Candidates.{Candidates}
-use Rattle.geoarrow_layout.specs.declared.candidate_names.Candidates.TheVariants.{None as NoName, LineStringOrMultiPoint, PolygonOrMultiLineString, PointOrBox}
+use Rattle.geoarrow_layout.specs.declared.names.Candidates.{Candidates}
+use Rattle.geoarrow_layout.specs.declared.names.Candidates.TheVariants.{None as NoName, LineStringOrMultiPoint, PolygonOrMultiLineString, PointOrBox}
 use Rattle.geoarrow_layout.specs.declared.names.ExtensionName.TheVariants as names
 use Rattle.geoarrow_layout.specs.Kinds.{size_of, name_text, extension_of, name_of}
 use Rattle.geoarrow_layout.specs.Shapes.{names_of, ListsOver, levels_of, Leaf, Mixed, Native, Geometry, BoxShape, Accepted, Accepts, IsStructured, IsBytes, IsText}

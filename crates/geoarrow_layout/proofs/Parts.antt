@@ -1,5 +1,5 @@
 -- Ids and members: each is read in one way.
-use Rattle.std.proofs.Common.{◌≡◌, ◌≢◌, inl, inr, ℤ, pos, Option, None, Ok, Err, MatchResult, refl, sym, ap, subst, ◌∙◌, []}
+use Rattle.std.proofs.Common.{◌≡◌, ◌≢◌, inl, inr, ℕ, ℤ, pos, Option, None, Ok, Err, MatchResult, refl, sym, ap, subst, ◌∙◌, []}
 use Rattle.arrow_values.specs.Tree.{Tree}
 use Rattle.geoarrow_layout.specs.declared.kinds.CoordType.{CoordType}
 use Rattle.geoarrow_layout.specs.declared.kinds.Dimension.{Dimension}
@@ -7,8 +7,9 @@ use Rattle.geoarrow_layout.specs.declared.fault.LayoutFault.TheVariants.{BadType
 use Rattle.geoarrow_layout.specs.declared.encodings.NativeKind.{NativeKind}
 use Rattle.geoarrow_layout.specs.declared.encodings.NativeKind.TheVariants.{GeometryCollection}
 use Rattle.geoarrow_layout.specs.Kinds.{type_id_of}
-use Rattle.geoarrow_layout.specs.Shapes.{OverLeaf, GeometryMember, Native}
-use Rattle.geoarrow_layout.specs.FaultAt.{Faults, HasFault, PartFault, OverLeafFault, NativeFault, GeometryMemberFault}
+use Rattle.geoarrow_layout.specs.Shapes.{levels_of, OverLeaf, GeometryMember, Native}
+use Rattle.geoarrow_layout.specs.OneShape.{LeafUnder}
+use Rattle.geoarrow_layout.specs.FaultAt.{Faults, HasFault, CoordinateFault, ListsFault, PartFault, OverLeafFault, NativeFault, GeometryMemberFault}
 use Rattle.geoarrow_layout.specs.Steps.{TellsBoth, IsOtherFault}
 use Rattle.geoarrow_layout.proofs.Readings.{Answer, IsPartsOf, some_parts, refused}
 
@@ -49,3 +50,8 @@ geometry_answer (Err f) i t h = h
 pub native_any : (k : NativeKind) (t : Tree) (r : Answer) → (k ≢ GeometryCollection) → TellsBoth r (OverLeaf t k) (OverLeafFault k t) → TellsBoth r (Native t k) (NativeFault k t)
 native_any GeometryCollection t r h a = absurd (h refl)
 native_any k t r h a = a
+
+-- the lists of a kind other than a collection
+pub over_leaf_any : (k : NativeKind) (n : ℕ) (t : Tree) (r : Answer) → (k ≢ GeometryCollection) → n ≡ levels_of k → TellsBoth r (LeafUnder n t) (ListsFault CoordinateFault n t) → TellsBoth r (OverLeaf t k) (OverLeafFault k t)
+over_leaf_any GeometryCollection n t r h same a = absurd (h refl)
+over_leaf_any k n t r h same a = subst (λ m. TellsBoth r (LeafUnder m t) (ListsFault CoordinateFault m t)) same a

@@ -6,8 +6,8 @@ use Rattle.geoarrow_layout.specs.declared.encodings.NativeKind.TheVariants.{Poin
 use Rattle.geoarrow_layout.specs.declared.encodings.Kind.{Kind}
 use Rattle.geoarrow_layout.specs.declared.kinds.CoordType.{CoordType}
 use Rattle.geoarrow_layout.specs.declared.kinds.Dimension.{Dimension}
-use Rattle.geoarrow_layout.specs.declared.candidate_names.Candidates.{Candidates}
-use Rattle.geoarrow_layout.specs.declared.candidate_names.Candidates.TheVariants.{None, One, LineStringOrMultiPoint, PolygonOrMultiLineString, PointOrBox}
+use Rattle.geoarrow_layout.specs.declared.names.Candidates.{Candidates}
+use Rattle.geoarrow_layout.specs.declared.names.Candidates.TheVariants.{None, One, LineStringOrMultiPoint, PolygonOrMultiLineString, PointOrBox}
 use Rattle.geoarrow_layout.specs.declared.names.ExtensionName.TheVariants as names
 use Rattle.geoarrow_layout.specs.Kinds.{name_text}
 use Rattle.geoarrow_layout.specs.Shapes.{names_of, Native, Geometry, BoxShape, Accepts, IsStructured}

@@ -1,9 +1,57 @@
-//! The kinds of columns.
-ghost use Rattle.std.specs.Prelude.{◌≡◌};
-ghost use Rattle.geoarrow_layout.specs.Kinds.{extension_of, name_of, coord_type_of, dimension_of};
+//! The kinds of columns, and the tables of kinds: names, lists and type ids.
+ghost use Rattle.std.specs.Prelude.{◌≡◌, ◌≤◌, ◌↔◌, Some, pos, ◌++◌, map};
+ghost use Rattle.geoarrow_layout.specs.Kinds.{extension_of, name_of, coord_type_of, dimension_of, offset_of, type_id_of};
+ghost use Rattle.arrow_values.specs.Name.{fixed_text};
+ghost use Rattle.geoarrow_layout.specs.Shapes.{levels_of};
+ghost use Rattle.geoarrow_layout.specs.Layouts.{list_names, type_name, dimension_suffix};
 
-use crate::kinds::{CoordType, Dimension};
+use crate::kinds::CoordType::{Interleaved, Separated};
+use crate::kinds::Dimension::{XY, XYM, XYZ, XYZM};
+use crate::kinds::{CoordType, Dimension, dimension_at};
 use crate::names::ExtensionName;
+use arrow_values::FixedName;
+
+/// A kind in each coordinate type and dimension, for each of these native kinds, and then the other kinds.
+macro_rules! all_kinds {
+    ($($kind:ident),*) => {
+        [
+            $(
+                Kind::Native(NativeKind::$kind, Interleaved, XY),
+                Kind::Native(NativeKind::$kind, Interleaved, XYZ),
+                Kind::Native(NativeKind::$kind, Interleaved, XYM),
+                Kind::Native(NativeKind::$kind, Interleaved, XYZM),
+                Kind::Native(NativeKind::$kind, Separated, XY),
+                Kind::Native(NativeKind::$kind, Separated, XYZ),
+                Kind::Native(NativeKind::$kind, Separated, XYM),
+                Kind::Native(NativeKind::$kind, Separated, XYZM),
+            )*
+            Kind::Geometry(Interleaved),
+            Kind::Geometry(Separated),
+            Kind::Rect(XY),
+            Kind::Rect(XYZ),
+            Kind::Rect(XYM),
+            Kind::Rect(XYZM),
+            Kind::Wkb(Width::Plain),
+            Kind::Wkb(Width::Large),
+            Kind::Wkb(Width::View),
+            Kind::Wkt(Width::Plain),
+            Kind::Wkt(Width::Large),
+            Kind::Wkt(Width::View),
+        ]
+    };
+}
+
+/// Of four names, in the order of the dimensions, that of a dimension.
+macro_rules! in_dimension {
+    ($dimension:expr, $xy:ident, $xyz:ident, $xym:ident, $xyzm:ident) => {
+        match $dimension {
+            XY => FixedName::$xy,
+            XYZ => FixedName::$xyz,
+            XYM => FixedName::$xym,
+            XYZM => FixedName::$xyzm,
+        }
+    };
+}
 
 /// The kinds of geometry that have their own layout (GeoArrow, "Native encoding").
 ///
@@ -110,5 +158,156 @@ impl Kind {
             Kind::Native(_, _, dimension) | Kind::Rect(dimension) => Some(*dimension),
             Kind::Geometry(_) | Kind::Wkb(_) | Kind::Wkt(_) => None,
         }
+    }
+}
+
+impl Kind {
+    /// All 68 kinds, each once.
+    pub const ALL: [Kind; 68] = all_kinds!(
+        Point,
+        LineString,
+        Polygon,
+        MultiPoint,
+        MultiLineString,
+        MultiPolygon,
+        GeometryCollection
+    );
+}
+
+/// The native kind whose type id in two dimensions that is.
+fn kind_at(offset: u8) -> Option<NativeKind>
+    ensures { (k : NativeKind) → (result ≡ Some k) ↔ (offset ≡ offset_of k) }
+{
+    match offset {
+        1 => Some(NativeKind::Point),
+        2 => Some(NativeKind::LineString),
+        3 => Some(NativeKind::Polygon),
+        4 => Some(NativeKind::MultiPoint),
+        5 => Some(NativeKind::MultiLineString),
+        6 => Some(NativeKind::MultiPolygon),
+        7 => Some(NativeKind::GeometryCollection),
+        _ => None,
+    }
+}
+
+/// The native kind and the dimension that a type id says (GeoArrow, "Geometry": the table of type ids).
+pub(crate) fn parts_of_id(id: i8) -> Option<(NativeKind, Dimension)>
+    ensures { (k : NativeKind) (d : Dimension) → (result ≡ Some (k, d)) ↔ (id ≡ pos (type_id_of k d)) }
+{
+    if id < 0 {
+        return None;
+    }
+    let number = id as u8;
+    let dimension = dimension_at(number / 10)?;
+    let kind = kind_at(number % 10)?;
+    Some((kind, dimension))
+}
+
+/// The type id of a native kind in a dimension.
+pub(crate) fn type_id(kind: NativeKind, dimension: Dimension) -> i8
+    ensures { result ≡ pos (type_id_of kind dimension) }
+{
+    (dimension.order() * 10 + offset_of(kind)) as i8
+}
+
+/// The type id of a native kind in two dimensions.
+fn offset_of(kind: NativeKind) -> u8
+    ensures offset { result ≡ offset_of kind }
+    ensures small { result ≤ 7 }
+{
+    match kind {
+        NativeKind::Point => 1,
+        NativeKind::LineString => 2,
+        NativeKind::Polygon => 3,
+        NativeKind::MultiPoint => 4,
+        NativeKind::MultiLineString => 5,
+        NativeKind::MultiPolygon => 6,
+        NativeKind::GeometryCollection => 7,
+    }
+}
+
+/// The names of the list items of a kind, from the outermost list.
+pub(crate) fn list_names(kind: NativeKind) -> &'static [FixedName]
+    ensures { map fixed_text result.now ≡ list_names kind }
+{
+    match kind {
+        NativeKind::Point => &[],
+        NativeKind::LineString => &[FixedName::Vertices],
+        NativeKind::Polygon => &[FixedName::Rings, FixedName::Vertices],
+        NativeKind::MultiPoint => &[FixedName::Points],
+        NativeKind::MultiLineString => &[FixedName::Linestrings, FixedName::Vertices],
+        NativeKind::MultiPolygon => &[FixedName::Polygons, FixedName::Rings, FixedName::Vertices],
+        NativeKind::GeometryCollection => &[FixedName::Geometries],
+    }
+}
+
+/// The name of the member of a union for a kind in a dimension.
+pub(crate) fn member_name(kind: NativeKind, dimension: Dimension) -> FixedName
+    ensures { fixed_text result ≡ type_name kind ++ dimension_suffix dimension }
+{
+    match kind {
+        NativeKind::Point => in_dimension!(dimension, Point, PointZ, PointM, PointZm),
+        NativeKind::LineString => {
+            in_dimension!(
+                dimension,
+                LineString,
+                LineStringZ,
+                LineStringM,
+                LineStringZm
+            )
+        }
+        NativeKind::Polygon => in_dimension!(dimension, Polygon, PolygonZ, PolygonM, PolygonZm),
+        NativeKind::MultiPoint => {
+            in_dimension!(
+                dimension,
+                MultiPoint,
+                MultiPointZ,
+                MultiPointM,
+                MultiPointZm
+            )
+        }
+        NativeKind::MultiLineString => {
+            in_dimension!(
+                dimension,
+                MultiLineString,
+                MultiLineStringZ,
+                MultiLineStringM,
+                MultiLineStringZm
+            )
+        }
+        NativeKind::MultiPolygon => {
+            in_dimension!(
+                dimension,
+                MultiPolygon,
+                MultiPolygonZ,
+                MultiPolygonM,
+                MultiPolygonZm
+            )
+        }
+        NativeKind::GeometryCollection => {
+            in_dimension!(
+                dimension,
+                GeometryCollection,
+                GeometryCollectionZ,
+                GeometryCollectionM,
+                GeometryCollectionZm
+            )
+        }
+    }
+}
+
+/// How many lists a native kind has.
+pub(crate) fn levels(kind: NativeKind) -> u8
+    ensures levels { result ≡ levels_of kind }
+    ensures few { result ≤ 3 }
+{
+    match kind {
+        NativeKind::Point => 0,
+        NativeKind::LineString => 1,
+        NativeKind::Polygon => 2,
+        NativeKind::MultiPoint => 1,
+        NativeKind::MultiLineString => 2,
+        NativeKind::MultiPolygon => 3,
+        NativeKind::GeometryCollection => 1,
     }
 }

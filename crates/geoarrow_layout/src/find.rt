@@ -2,19 +2,16 @@
 ghost use Rattle.std.specs.Prelude.{◌≡◌, ◌∷◌, ◌++◌, [], None, Some, IfOk, OnOk, MatchOption};
 ghost use Rattle.arrow_values.specs.View.{tree, field_trees, member_trees};
 ghost use Rattle.geoarrow_layout.specs.Kinds.{name_text};
-ghost use Rattle.geoarrow_layout.specs.Shapes.{Member, GeometryMember, levels_of};
+ghost use Rattle.geoarrow_layout.specs.Shapes.{Member, GeometryMember};
 ghost use Rattle.geoarrow_layout.specs.Candidates.{IsAccepted};
 ghost use Rattle.geoarrow_layout.specs.FaultAt.{CoordinateFault, LevelFault, ListsFault, OverLeafFault, MemberFault, MixedFault, NativeFault, GeometryMemberFault, GeometryFault, FaultAt, child_at, field_at, member_at};
 ghost use Rattle.geoarrow_layout.specs.Steps.{LeadsTo, FirstOrNone};
 
-use crate::encodings::NativeKind;
+use crate::encodings::{NativeKind, levels, parts_of_id};
 use crate::fault::LayoutFault;
-use crate::ids::parts_of_id;
 use crate::names::ExtensionName;
-use crate::parse::parse_kind;
-use crate::readers::{any_native, geometry_part, member, native};
-use crate::summary::ListWidth;
-use crate::walk::{leaf_summary, nested_summary};
+use crate::read::{any_native, geometry_part, member, native, parse_kind};
+use crate::summary::{ListWidth, leaf_summary, nested_summary};
 use arrow_values::{DataType, Field};
 use std::alloc::{AllocError, Global};
 
@@ -125,21 +122,6 @@ fn push_over_leaf(
     match kind {
         NativeKind::GeometryCollection => Ok(()),
         _ => push_lists(path, levels(kind), data_type),
-    }
-}
-
-/// How many lists a native kind has.
-fn levels(kind: NativeKind) -> u8
-    ensures { result ≡ levels_of kind }
-{
-    match kind {
-        NativeKind::Point => 0,
-        NativeKind::LineString => 1,
-        NativeKind::Polygon => 2,
-        NativeKind::MultiPoint => 1,
-        NativeKind::MultiLineString => 2,
-        NativeKind::MultiPolygon => 3,
-        NativeKind::GeometryCollection => 1,
     }
 }
 

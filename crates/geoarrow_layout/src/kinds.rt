@@ -1,6 +1,13 @@
-//! What a layout has: a coordinate type and a dimension.
-ghost use Rattle.std.specs.Prelude.{◌≡◌, ◌≤◌, ◌↔◌, ◌⊎◌, IfOk, IfErr, Some, Ok};
+//! What a layout has: a coordinate type and a dimension, with the tables of both.
+ghost use Rattle.std.specs.Prelude.{◌≡◌, ◌≤◌, ◌<◌, ◌↔◌, ◌⊎◌, ◌^◌, IfOk, IfErr, Some, Ok, pos, map};
+ghost use Rattle.arrow_values.specs.Name.{fixed_text};
+ghost use Rattle.geoarrow_layout.specs.Kinds.{size_of, order_of, interleaved_name};
+ghost use Rattle.geoarrow_layout.specs.Layouts.{coordinate_names, box_names};
+ghost use Rattle.geoarrow_layout.specs.Summary.{place_of};
 
+use arrow_values::FixedName::{
+    self, M, Mmax, Mmin, X, Xmax, Xmin, Xy, Xym, Xyz, Xyzm, Y, Ymax, Ymin, Z, Zmax, Zmin,
+};
 use arrow_values::{Dimensions, GeoArrowError, GeoArrowResult};
 use std::alloc::Global;
 use std::fmt;
@@ -65,7 +72,7 @@ pub enum Dimension {
 
 impl Dimension {
     ghost use Rattle.arrow_values.specs.Coordinates.{dimensions_size};
-    ghost use Rattle.geoarrow_layout.specs.Kinds.{size_of, order_of, dimension_name, IsDimension, RefusesDimensions};
+    ghost use Rattle.geoarrow_layout.specs.Kinds.{dimension_name, IsDimension, RefusesDimensions};
     ghost use Rattle.arrow_values.specs.Errors.{IsGeoMemory};
 
     /// How many numbers a coordinate has: 2, 3, 3, 4.
@@ -155,5 +162,114 @@ impl From<Dimension> for Dimensions {
             Dimension::XYM => Dimensions::Xym,
             Dimension::XYZM => Dimensions::Xyzm,
         }
+    }
+}
+
+/// The dimension of that place.
+pub(crate) fn dimension_at(order: u8) -> Option<Dimension>
+    ensures { (d : Dimension) → (result ≡ Some d) ↔ (order ≡ order_of d) }
+{
+    match order {
+        0 => Some(Dimension::XY),
+        1 => Some(Dimension::XYZ),
+        2 => Some(Dimension::XYM),
+        3 => Some(Dimension::XYZM),
+        _ => None,
+    }
+}
+
+/// The name of the inner field of an interleaved coordinate.
+pub(crate) fn interleaved_name(dimension: Dimension) -> FixedName
+    ensures { fixed_text result ≡ interleaved_name dimension }
+{
+    match dimension {
+        Dimension::XY => Xy,
+        Dimension::XYZ => Xyz,
+        Dimension::XYM => Xym,
+        Dimension::XYZM => Xyzm,
+    }
+}
+
+/// The names of the fields of a separated coordinate.
+pub(crate) fn coordinate_names(dimension: Dimension) -> &'static [FixedName]
+    ensures { map fixed_text result.now ≡ coordinate_names dimension }
+{
+    match dimension {
+        Dimension::XY => &[X, Y],
+        Dimension::XYZ => &[X, Y, Z],
+        Dimension::XYM => &[X, Y, M],
+        Dimension::XYZM => &[X, Y, Z, M],
+    }
+}
+
+/// The names of the fields of a box.
+pub(crate) fn box_names(dimension: Dimension) -> &'static [FixedName]
+    ensures { map fixed_text result.now ≡ box_names dimension }
+{
+    match dimension {
+        Dimension::XY => &[Xmin, Ymin, Xmax, Ymax],
+        Dimension::XYZ => &[Xmin, Ymin, Zmin, Xmax, Ymax, Zmax],
+        Dimension::XYM => &[Xmin, Ymin, Mmin, Xmax, Ymax, Mmax],
+        Dimension::XYZM => &[Xmin, Ymin, Zmin, Mmin, Xmax, Ymax, Zmax, Mmax],
+    }
+}
+
+/// The dimension that the inner field of a fixed size list names.
+pub(crate) fn named_dimension(name: &str) -> Option<Dimension>
+    ensures { (d : Dimension) → (result ≡ Some d) ↔ (name.now ≡ interleaved_name d) }
+{
+    match name {
+        "xy" => Some(Dimension::XY),
+        "xyz" => Some(Dimension::XYZ),
+        "xym" => Some(Dimension::XYM),
+        "xyzm" => Some(Dimension::XYZM),
+        _ => None,
+    }
+}
+
+/// The one dimension of a set.
+pub(crate) fn only_dimension(bits: u8) -> Option<Dimension>
+    ensures { (d : Dimension) → (result ≡ Some d) ↔ (bits ≡ 2 ^ order_of d) }
+{
+    match bits {
+        1 => Some(Dimension::XY),
+        2 => Some(Dimension::XYZ),
+        4 => Some(Dimension::XYM),
+        8 => Some(Dimension::XYZM),
+        _ => None,
+    }
+}
+
+/// The one coordinate type of a set.
+pub(crate) fn only_coord_type(bits: u8) -> Option<CoordType>
+    ensures { (c : CoordType) → (result ≡ Some c) ↔ (bits ≡ 2 ^ place_of c) }
+{
+    match bits {
+        1 => Some(CoordType::Interleaved),
+        2 => Some(CoordType::Separated),
+        _ => None,
+    }
+}
+
+/// The place of a coordinate type among the two.
+pub(crate) fn place_of(coord_type: CoordType) -> u8
+    ensures place { result ≡ place_of coord_type }
+    ensures small { result < 8 }
+{
+    match coord_type {
+        CoordType::Interleaved => 0,
+        CoordType::Separated => 1,
+    }
+}
+
+/// The size of the fixed size list of an interleaved coordinate.
+pub(crate) fn list_size(dimension: Dimension) -> i32
+    ensures { result ≡ pos (size_of dimension) }
+{
+    match dimension {
+        Dimension::XY => 2,
+        Dimension::XYZ => 3,
+        Dimension::XYM => 3,
+        Dimension::XYZM => 4,
     }
 }

@@ -1,5 +1,5 @@
-//! Data types that no reader distinguishes.
-ghost use Rattle.std.specs.Prelude.{◌≡◌, ◌&&◌, ◌↔◌, IsTrue};
+//! Data types that no reader distinguishes, and unions that lose or gain members.
+ghost use Rattle.std.specs.Prelude.{◌≡◌, ◌&&◌, ◌↔◌, IsTrue, ◌≢◌, ◌++◌, [], None, IsOk, IfErr, OnOk, OnErr};
 ghost use Rattle.std.specs.List.{list_any, list_all};
 ghost use Rattle.std.specs.Ordering.{int_eq};
 ghost use Rattle.std.specs.Str.{bytes_eq};
@@ -7,8 +7,13 @@ ghost use Rattle.arrow_values.specs.View.{tree, field_trees, member_trees};
 ghost use Rattle.geoarrow_layout.specs.Shapes.{names_of, has_name};
 ghost use Rattle.geoarrow_layout.specs.Alike.{Alike};
 ghost use Rattle.geoarrow_layout.specs.AlikeTest.{some_member, all_members, has_member, is_repeated, alike_names, alike_of, each_has_alike, has_alike, is_met};
+ghost use Rattle.arrow_values.specs.Tree.{Members};
+ghost use Rattle.arrow_values.specs.Union.{HasTypeIds, retained, shared_id};
+ghost use Rattle.arrow_values.specs.Errors.{fault_id};
+ghost use Rattle.geoarrow_layout.specs.Changes.{GeometryUnion, MixedUnion, AlikeUnions, EachOf, AreJust};
 
-use arrow_values::{DataType, Field, UnionFields};
+use crate::kinds::{CoordType, Dimension};
+use arrow_values::{AppendFault, DataType, Field, UnionFields};
 
 /// Whether two data types are alike, so that they have the same kinds under every extension name: the same plain type,
 /// or lists of the same width over alike items (GeoArrow, "Native encoding"), or fixed size lists of the same size and
@@ -177,4 +182,55 @@ fn any_named(fields: &[Field], name: &str) -> bool
     ensures { result ≡ list_any (λ f. bytes_eq f.name name.now) fields.now }
 {
     fields.iter().any(|field| field.name() == name)
+}
+
+/// Keeps the members whose type id is in the slice, in their order. If at least one is left, a union of geometries of any
+/// kind is still one, of the same coordinate type (GeoArrow, "Geometry"), and the union in a collection is still one,
+/// of the same coordinate type and dimension (GeoArrow, "GeometryCollection"). Allocates nothing.
+///
+/// ```rust
+/// keep_members(&mut members, wanted);
+/// if members.is_empty() {
+///     return Ok(None);
+/// }
+/// ```
+pub fn keep_members(members: &mut UnionFields, ids: &[i8])
+    ensures members { members.new ≡ retained ids.now members.old }
+    ensures ids { HasTypeIds members.old → HasTypeIds members.new }
+    ensures geometry { members.new ≢ [] → (c : CoordType) → GeometryUnion c members.old → GeometryUnion c members.new }
+    ensures mixed { members.new ≢ [] → (c : CoordType) (d : Dimension) → MixedUnion c d members.old → MixedUnion c d members.new }
+{
+    members.retain_ids(ids);
+}
+
+/// Appends the members of `other`. The result is a union of geometries of any kind exactly if it has a member and each
+/// of the two unions that had members was one, both of the same coordinate type (GeoArrow, "Geometry"); the same holds
+/// for unions in a collection (GeoArrow, "GeometryCollection"). It is alike to every union of exactly these members, in
+/// any order. Errs with `RepeatedId` of the first id of `other` that `members` has too, if there is one, and otherwise
+/// only when out of memory; `other` is then returned, and both unions are unchanged.
+///
+/// ```rust
+/// let mut members = one;
+/// match append_members(&mut members, other) {
+///     Ok(()) => {}
+///     Err((_, AppendFault::RepeatedId(_))) => return Ok(None),
+///     Err((_, AppendFault::OutOfMemory)) => return Err(AllocError),
+/// }
+/// ```
+pub fn append_members(
+    members: &mut UnionFields,
+    other: UnionFields,
+) -> Result<(), (UnionFields, AppendFault)>
+    ensures joined { OnOk result (members.new ≡ members.old ++ other) }
+    ensures ids { HasTypeIds members.old → HasTypeIds other → HasTypeIds members.new }
+    ensures none_shared { OnOk result (shared_id members.old other ≡ None) }
+    ensures fault { IfErr result (λ e. shared_id members.old other ≡ fault_id e.1) }
+    ensures unchanged { OnErr result (members.new ≡ members.old) }
+    ensures given_back { IfErr result (λ e. e.0 ≡ other) }
+    ensures no_memory { other ≡ [] → IsOk result }
+    ensures geometry { OnOk result ((c : CoordType) → GeometryUnion c members.new ↔ EachOf (GeometryUnion c) members.old other members.new) }
+    ensures mixed { OnOk result ((c : CoordType) (d : Dimension) → MixedUnion c d members.new ↔ EachOf (MixedUnion c d) members.old other members.new) }
+    ensures alike { OnOk result ((all : Members) → AreJust members.old other all → AlikeUnions members.new all) }
+{
+    members.append(other)
 }

@@ -1,16 +1,16 @@
 //! What one walk over a data type finds.
-ghost use Rattle.std.specs.Prelude.{◌≡◌, ◌≢◌, ◌<◌, ◌≤◌, ◌↔◌, ◌∷◌, [], IsTrue, Some, MatchOption, ⊤};
-ghost use Rattle.arrow_values.specs.View.{tree, field_trees};
+ghost use Rattle.std.specs.Prelude.{◌≡◌, ◌≢◌, ◌<◌, ◌≤◌, ◌↔◌, ◌∷◌, [], IsTrue, Some, MatchOption, ⊤, pos, None};
+ghost use Rattle.arrow_values.specs.View.{tree, field_trees, member_trees};
 ghost use Rattle.arrow_values.specs.Tree.{Tree, plain, float64};
 ghost use Rattle.geoarrow_layout.specs.Kinds.{interleaved_name};
 ghost use Rattle.geoarrow_layout.specs.Shapes.{ListsOver};
-ghost use Rattle.geoarrow_layout.specs.Summary.{place_in, known_names, IsStruct, IsBottom, AreLevels};
+ghost use Rattle.geoarrow_layout.specs.Summary.{place_in, known_names, IsStruct, IsBottom, AreLevels, place_of, IsInnerUnion, IsRootUnion, Summarizes};
 ghost use Rattle.geoarrow_layout.specs.Inferred.{is_float64};
-ghost use Rattle.geoarrow_layout.specs.Steps.{IsNoLeaf, Ended};
+ghost use Rattle.geoarrow_layout.specs.Steps.{IsNoLeaf, Ended, AddsBits, CoordOf, DimensionOf, first_fault, Shows, ShowsInner, AddsBit, has_bit};
 
-use crate::bits::with_bit_u16;
 use crate::fault::LayoutFault;
-use crate::kinds::Dimension;
+use crate::kinds::{CoordType, Dimension, named_dimension, place_of};
+use crate::read::{geometry_part, member};
 use arrow_values::{DataType, Field};
 
 /// The two widths of lists.
@@ -79,19 +79,6 @@ pub struct Summary {
     pub width: Option<ListWidth>,
     /// What is below these levels.
     pub bottom: Bottom,
-}
-
-/// The dimension that the inner field of a fixed size list names.
-fn named_dimension(name: &str) -> Option<Dimension>
-    ensures { (d : Dimension) → (result ≡ Some d) ↔ (name.now ≡ interleaved_name d) }
-{
-    match name {
-        "xy" => Some(Dimension::XY),
-        "xyz" => Some(Dimension::XYZ),
-        "xym" => Some(Dimension::XYM),
-        "xyzm" => Some(Dimension::XYZM),
-        _ => None,
-    }
 }
 
 /// The place of a name among those that a layout goes by; 8 for any other.
@@ -248,4 +235,215 @@ pub(crate) fn leaf_bottom(below: &Below<'_>) -> Bottom
         DataType::LargeList(_) => list_bottom(below.width, ListWidth::LargeList),
         _ => Bottom::Other,
     }
+}
+
+/// The set of type ids with one more; ids that are not from 0 to 63 are left out.
+fn with_id(ids: u64, id: i8) -> u64
+    ensures { AddsBits ids (λ i. (i < 64) × (id ≡ pos i)) result }
+{
+    if id < 0 {
+        return ids;
+    }
+    if 63 < id {
+        return ids;
+    }
+    with_bit_u64(ids, id as u8)
+}
+
+/// The set of coordinate types with that of a member, if it has one.
+#[tactic(auto, using(crate::proofs::BitSteps::coord_added, crate::proofs::BitSteps::coord_kept))]
+fn with_coord_type(bits: u8, part: &Result<(CoordType, Dimension), LayoutFault>) -> u8
+    ensures { AddsBits bits (CoordOf part.now) result }
+{
+    match part {
+        Ok(pair) => with_bit_u8(bits, place_of(pair.0)),
+        Err(_) => bits,
+    }
+}
+
+/// The set of dimensions with that of a member, if it has one.
+#[tactic(auto, using(crate::proofs::BitSteps::dimension_added, crate::proofs::BitSteps::dimension_kept))]
+fn with_dimension(bits: u8, part: &Result<(CoordType, Dimension), LayoutFault>) -> u8
+    ensures { AddsBits bits (DimensionOf part.now) result }
+{
+    match part {
+        Ok(pair) => with_bit_u8(bits, pair.1.order()),
+        Err(_) => bits,
+    }
+}
+
+/// The first fault.
+fn first_fault(
+    fault: Option<LayoutFault>,
+    part: &Result<(CoordType, Dimension), LayoutFault>,
+) -> Option<LayoutFault>
+    ensures { result ≡ first_fault fault part.now }
+{
+    match (fault, part) {
+        (Some(fault), _) => Some(fault),
+        (None, Err(fault)) => Some(*fault),
+        (None, Ok(_)) => None,
+    }
+}
+
+/// What was seen of the members of a union.
+#[derive(Clone, Copy)]
+struct Members {
+    ids: u64,
+    coord_types: u8,
+    dimensions: u8,
+    fault: Option<LayoutFault>,
+}
+
+/// What was seen with one member more, of that type id and read as that.
+fn with_member(seen: Members, id: i8, part: &Result<(CoordType, Dimension), LayoutFault>) -> Members
+    ensures ids { AddsBits seen.ids (λ i. (i < 64) × (id ≡ pos i)) result.ids }
+    ensures coord_types { AddsBits seen.coord_types (CoordOf part.now) result.coord_types }
+    ensures dimensions { AddsBits seen.dimensions (DimensionOf part.now) result.dimensions }
+    ensures fault { result.fault ≡ first_fault seen.fault part.now }
+{
+    Members {
+        ids: with_id(seen.ids, id),
+        coord_types: with_coord_type(seen.coord_types, part),
+        dimensions: with_dimension(seen.dimensions, part),
+        fault: first_fault(seen.fault, part),
+    }
+}
+
+/// What was seen before the first member.
+fn no_members() -> Members
+    ensures { result ≡ record { ids = 0; coord_types = 0; dimensions = 0; fault = None } }
+{
+    Members {
+        ids: 0,
+        coord_types: 0,
+        dimensions: 0,
+        fault: None,
+    }
+}
+
+/// The summary of a data type in which no union is entered.
+pub(crate) fn leaf_summary(data_type: &DataType) -> Summary
+    ensures { Shows result (tree data_type.now) }
+{
+    let below = below_lists(data_type);
+    Summary {
+        levels: below.levels,
+        width: below.width,
+        bottom: leaf_bottom(&below),
+    }
+}
+
+/// A union below lists, whose members hold no union that anyone reads.
+fn inner_union(members: &[(i8, Field)]) -> Bottom
+    ensures { IsInnerUnion result (member_trees members.now) }
+{
+    let mut seen = no_members();
+    for item in members {
+        let below = leaf_summary(item.1.data_type());
+        let part = member(item.0, &below);
+        seen = with_member(seen, item.0, &part);
+    }
+    Bottom::Union {
+        no_members: members.is_empty(),
+        ids: seen.ids,
+        coord_types: seen.coord_types,
+        dimensions: seen.dimensions,
+        mixed_fault: seen.fault,
+        geometry_fault: Some(LayoutFault::UnexpectedType),
+    }
+}
+
+/// The summary of a member: a union below a list is entered.
+pub(crate) fn nested_summary(data_type: &DataType) -> Summary
+    ensures { ShowsInner result (tree data_type.now) }
+{
+    let below = below_lists(data_type);
+    let bottom = match below.rest {
+        DataType::Union(members, _) => inner_union(members.as_slice()),
+        _ => leaf_bottom(&below),
+    };
+    Summary {
+        levels: below.levels,
+        width: below.width,
+        bottom,
+    }
+}
+
+/// A union that is the whole data type.
+fn root_union(members: &[(i8, Field)]) -> Bottom
+    ensures { IsRootUnion result (member_trees members.now) }
+{
+    let mut seen = no_members();
+    let mut mixed_fault = None;
+    for item in members {
+        let below = nested_summary(item.1.data_type());
+        let part = geometry_part(item.0, &below);
+        seen = with_member(seen, item.0, &part);
+        let mixed = member(item.0, &below);
+        mixed_fault = first_fault(mixed_fault, &mixed);
+    }
+    Bottom::Union {
+        no_members: members.is_empty(),
+        ids: seen.ids,
+        coord_types: seen.coord_types,
+        dimensions: seen.dimensions,
+        mixed_fault,
+        geometry_fault: seen.fault,
+    }
+}
+
+/// The summary of a data type, found in one walk that goes no further than three list levels and two unions. Takes no
+/// memory.
+pub fn summarize(data_type: &DataType) -> Summary
+    ensures { Summarizes result (tree data_type.now) }
+{
+    let below = below_lists(data_type);
+    let bottom = match below.rest {
+        DataType::Union(members, _) => {
+            if below.levels == 0 {
+                root_union(members.as_slice())
+            } else {
+                inner_union(members.as_slice())
+            }
+        }
+        _ => leaf_bottom(&below),
+    };
+    Summary {
+        levels: below.levels,
+        width: below.width,
+        bottom,
+    }
+}
+
+/// The set with one number more.
+pub(crate) fn with_bit_u8(bits: u8, i: u8) -> u8
+    requires { i < 8 }
+    ensures { AddsBit bits i result }
+{
+    bits | 1 << i
+}
+
+/// The set with one number more.
+pub(crate) fn with_bit_u16(bits: u16, i: u8) -> u16
+    requires { i < 16 }
+    ensures { AddsBit bits i result }
+{
+    bits | 1 << i
+}
+
+/// The set with one number more.
+pub(crate) fn with_bit_u64(bits: u64, i: u8) -> u64
+    requires { i < 64 }
+    ensures { AddsBit bits i result }
+{
+    bits | 1 << i
+}
+
+/// Whether the number is in the set.
+pub(crate) fn has_bit(bits: u16, i: u8) -> bool
+    requires { i < 16 }
+    ensures { result ≡ has_bit bits i }
+{
+    bits >> i & 1 == 1
 }

@@ -1,5 +1,0 @@
-use Rattle.std.proofs.Common.{length}
-use Rattle.geoarrow_layout.proofs.build.+lists_over.Given as goal
-
-abbrev pub decreases-lists_over : goal.decreases-lists_over
-decreases-lists_over l = length l.names.now

@@ -1,6 +1,0 @@
-use Rattle.std.proofs.Common.{◌≡◌, ◌++◌, take}
-use Rattle.geoarrow_layout.specs.Layouts.{members_over}
-use Rattle.geoarrow_layout.proofs.build.push_over.Given as goal
-
-abbrev pub invariant-loop-kind : goal.invariant-loop-kind
-invariant-loop-kind l = l.members.items ≡ l.fn.members.items ++ members_over (take l.kind-index l.kinds) l.coord_type l.dimension

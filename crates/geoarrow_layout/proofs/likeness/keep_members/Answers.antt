@@ -1,0 +1,10 @@
+use Rattle.geoarrow_layout.specs.declared.kinds.Dimension.{Dimension}
+use Rattle.geoarrow_layout.specs.Shapes.{GeometryMember, Member}
+use Rattle.geoarrow_layout.proofs.UnionChanges.{filled_kept}
+use Rattle.geoarrow_layout.proofs.likeness.keep_members.Goals as goal
+
+pub returns-clause-geometry : goal.returns-clause-geometry
+returns-clause-geometry c = λ some b h. filled_kept (λ i t. (d : Dimension) × GeometryMember i t b d) c.args.ids.now c.args.members.now c.retain_ids.new.self c.retain_ids.ensures.members some h
+
+pub returns-clause-mixed : goal.returns-clause-mixed
+returns-clause-mixed c = λ some b d h. filled_kept (λ i t. Member i t b d) c.args.ids.now c.args.members.now c.retain_ids.new.self c.retain_ids.ensures.members some h

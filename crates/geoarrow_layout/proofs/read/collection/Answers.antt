@@ -1,0 +1,19 @@
+use Rattle.std.proofs.Common.{◌≡◌, subst, arith}
+use Rattle.geoarrow_layout.specs.Shapes.{Mixed}
+use Rattle.geoarrow_layout.specs.FaultAt.{MixedFault}
+use Rattle.geoarrow_layout.specs.Summary.{IsBottom}
+use Rattle.geoarrow_layout.specs.Steps.{IsNested}
+use Rattle.geoarrow_layout.proofs.Bottoms.{under_less, under_same, no_inner, under_no_union, mixed_refuses}
+use Rattle.geoarrow_layout.proofs.UnionSteps.{nested_union}
+use Rattle.geoarrow_layout.proofs.read.collection.Goals as goal
+
+pub returns-then-summary-gt1 : goal.returns-then-summary-gt1
+returns-then-summary-gt1 c = λ t h. under_less IsNested Mixed MixedFault mixed_refuses c.args.summary.now 1 t c.if-summary-gt1.true h
+
+pub returns-in-Union : goal.returns-in-Union
+returns-in-Union c = λ t h.
+    let one : c.args.summary.now.levels ≡ 1 = omega arith in
+    under_same IsNested Mixed MixedFault c.args.summary.now 1 _ t one h (nested_union _ _ _ _ _ _ _ _ _ _ one (subst (λ b. IsBottom IsNested c.args.summary.now.width c.args.summary.now.levels b h.0) c.in-Union.is h.2) c.both_of_union.ensures)
+
+pub returns-in_default : goal.returns-in_default
+returns-in_default c = λ t h. under_no_union IsNested Mixed c.args.summary.now 1 t (omega arith) (no_inner c.args.summary.now.bottom c.in_default.not-Union) h

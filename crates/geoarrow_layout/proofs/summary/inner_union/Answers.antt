@@ -1,0 +1,25 @@
+use Rattle.std.proofs.Common.{◌≡◌, refl, subst, rules, w8, to_z, of_z, ℤ, pos, ◌<◌}
+use Rattle.std.proofs.lemmas.Int.{to_z-of_z}
+use Rattle.std.proofs.lemmas.List.{take_all}
+use Rattle.geoarrow_layout.specs.Shapes.{Member}
+use Rattle.geoarrow_layout.specs.FaultAt.{MemberFault}
+use Rattle.geoarrow_layout.specs.OneShape.{member_same}
+use Rattle.geoarrow_layout.specs.Steps.{Shows, AddsBits, TellsBoth}
+use Rattle.geoarrow_layout.proofs.FaultLaws.{member_apart}
+use Rattle.geoarrow_layout.proofs.UnionSteps.{seen_more, seen_none, has_members}
+use Rattle.geoarrow_layout.proofs.summary.inner_union.Goals as goal
+
+pub loop-item-init : goal.loop-item-init
+loop-item-init c = rw c.no_members-seen.ensures (seen_none Member MemberFault)
+
+pub loop-item-preserved : goal.loop-item-preserved
+loop-item-preserved c =
+    let id_is : to_z w8 (of_z w8 c.item-item.result.0) ≡ c.item-item.result.0 = search (rules, to_z-of_z) in
+    let below = subst (λ t. Shows c.leaf_summary-below.result t) c.data_type.ensures c.leaf_summary-below.ensures in
+    seen_more Member MemberFault member_same member_apart _ _ _ _ _ _ _ _ c.member-part.result _ c.loop-item.item-index c.item-item.result c.loop-item-test.true c.item-item.is
+    (subst (λ i. TellsBoth c.member-part.result (Member i c.item-item.result.1.tree) (MemberFault i c.item-item.result.1.tree)) id_is (c.member-part.ensures c.item-item.result.1.tree below))
+    (subst (λ (id : ℤ). AddsBits c.loop-item.seen.ids (λ i. (i < 64) × (id ≡ pos i)) c.with_member-seen.result.ids) id_is c.with_member-seen.ensures.ids)
+    c.with_member-seen.ensures.coord_types c.with_member-seen.ensures.dimensions c.with_member-seen.ensures.fault c.loop-item.invariant
+
+pub returns : goal.returns
+returns c = (has_members _ _ c.is_empty.ensures, rw (take_all _ _ c.loop-item-test.false) at c.loop-item.invariant, refl)

@@ -1,0 +1,6 @@
+use Rattle.std.proofs.Common.{w64}
+use Rattle.geoarrow_layout.proofs.BitSteps.{adds_bit}
+use Rattle.geoarrow_layout.proofs.summary.with_bit_u64.Goals as goal
+
+pub returns : goal.returns
+returns c = adds_bit w64 _ _ c.requires

@@ -1,5 +1,0 @@
-use Rattle.geoarrow_layout.proofs.Distinct as law
-use Rattle.geoarrow_layout.proofs.tree_laws.layouts_are_distinct.Goals as goal
-
-pub returns : goal.returns
-returns c = λ j k h. law.layouts_are_distinct j k h

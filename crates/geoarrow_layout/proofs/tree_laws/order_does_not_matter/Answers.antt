@@ -1,5 +1,0 @@
-use Rattle.geoarrow_layout.proofs.UnionChanges.{same_members_alike}
-use Rattle.geoarrow_layout.proofs.tree_laws.order_does_not_matter.Goals as goal
-
-pub returns : goal.returns
-returns c = λ ms ns same. same_members_alike ms ns (λ m. (same m).0) (λ m. (same m).1)

@@ -1,5 +1,0 @@
-use Rattle.geoarrow_layout.proofs.UnionChanges.{split_and_joined}
-use Rattle.geoarrow_layout.proofs.tree_laws.parts_are_alike.Goals as goal
-
-pub returns : goal.returns
-returns c = λ ms is js all. split_and_joined ms is js all

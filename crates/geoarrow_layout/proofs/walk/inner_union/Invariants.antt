@@ -1,9 +1,0 @@
-use Rattle.std.proofs.Common.{take}
-use Rattle.arrow_values.specs.View.{member_trees}
-use Rattle.geoarrow_layout.specs.Shapes.{Member}
-use Rattle.geoarrow_layout.specs.FaultAt.{MemberFault}
-use Rattle.geoarrow_layout.specs.Summary.{Seen}
-use Rattle.geoarrow_layout.proofs.walk.inner_union.Given as goal
-
-abbrev pub invariant-loop-item : goal.invariant-loop-item
-invariant-loop-item l = Seen Member MemberFault l.seen.ids l.seen.coord_types l.seen.dimensions l.seen.fault (member_trees (take l.item-index l.members))

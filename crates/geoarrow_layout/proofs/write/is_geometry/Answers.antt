@@ -1,0 +1,11 @@
+use Rattle.std.proofs.Common.{◌≡◌, ap, rules}
+use Rattle.arrow_values.specs.View.{tree}
+use Rattle.arrow_values.specs.declared.tree.UnionMode.TheVariants.{Dense}
+use Rattle.geoarrow_layout.specs.Layouts.{geometry_members}
+use Rattle.geoarrow_layout.proofs.TableSteps.{union_same}
+use Rattle.geoarrow_layout.proofs.write.is_geometry.Goals as goal
+
+pub returns : goal.returns
+returns c =
+    let dense : c.in-Union.mode ≡ Dense = search rules in
+    union_same _ _ (geometry_members c.args.coord_type) _ _ _ (ap tree c.in-Union.is) dense (rw (← c.as_slice.ensures) c.are_geometries.ensures)

@@ -1,5 +1,0 @@
-use Rattle.std.proofs.Common.{length}
-use Rattle.geoarrow_layout.proofs.written_kinds.+are_coordinates.Given as goal
-
-abbrev pub decreases-are_coordinates : goal.decreases-are_coordinates
-decreases-are_coordinates l = length l.names.now

@@ -1,5 +1,0 @@
-use Rattle.std.proofs.Common.{length}
-use Rattle.geoarrow_layout.proofs.written_kinds.+are_in.Given as goal
-
-abbrev pub decreases-are_in : goal.decreases-are_in
-decreases-are_in l = length l.dimensions.now

@@ -1,5 +1,0 @@
-use Rattle.std.proofs.Common.{length}
-use Rattle.geoarrow_layout.proofs.written_kinds.+are_members_over.Given as goal
-
-abbrev pub decreases-are_members_over : goal.decreases-are_members_over
-decreases-are_members_over l = length l.kinds.now

@@ -1,7 +1,0 @@
-use Rattle.std.proofs.Common.{ap}
-use Rattle.arrow_values.specs.View.{tree}
-use Rattle.geoarrow_layout.proofs.TableSteps.{struct_same}
-use Rattle.geoarrow_layout.proofs.written_kinds.is_struct.Goals as goal
-
-pub returns : goal.returns
-returns c = struct_same _ _ _ _ (ap tree c.in-Struct.is) (rw (← c.as_slice.ensures) c.are_coordinates.ensures)

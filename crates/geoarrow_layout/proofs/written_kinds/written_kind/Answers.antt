@@ -1,5 +1,0 @@
-use Rattle.geoarrow_layout.proofs.Listed.{listed}
-use Rattle.geoarrow_layout.proofs.written_kinds.written_kind.Goals as goal
-
-pub returns : goal.returns
-returns c = λ k. c.first_written.ensures k (listed k)

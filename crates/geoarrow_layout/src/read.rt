@@ -1,0 +1,817 @@
+//! The readers: which layout a data type has, under which extension names, and which point is inferred. Those of
+//! geometries and boxes use only the summary of the data type, so they ignore the nullability, the metadata and the data
+//! types of coordinate fields, the names of list items and members, and the mode of a union and the order of its members.
+//! None of them allocates.
+ghost use Rattle.std.specs.Prelude.{IfErr, ◌≡◌, IfSome, ◌↔◌, IsTrue, Some, ◌≢◌, ◌∷◌, [], true, ◌≤◌, ◌<◌, Ok, ℕ, List, Option, length, ◌&&◌, MatchResult};
+ghost use Rattle.arrow_values.specs.View.{tree, field_trees};
+ghost use Rattle.geoarrow_layout.specs.Shapes.{Answers, AnswersOne, Leaf, Native, Mixed, Collection, Geometry, BoxShape, IsBytes, IsText, Accepts, AnswersKind, IsStructured, IsSeparatedAs, OverLeaf, Member, GeometryMember, IsBoxAs};
+ghost use Rattle.geoarrow_layout.specs.Kinds.{name_text, name_of};
+ghost use Rattle.geoarrow_layout.specs.Steps.{Tells, is_measured, NamesSay, SizeSays, IsNoLeaf, Shows, ShowsInner, TellsBoth, missing_fault, IsOtherFault, UnionSays, UnionSaysOne, has_bit};
+ghost use Rattle.geoarrow_layout.specs.FaultAt.{HasFault, BoxFault, MixedFault, NativeFault, GeometryFault, FaultAt, SeparatedFault, CoordinateFault, BoxNamesFault, ListsFault, OverLeafFault, MemberFault, GeometryMemberFault};
+ghost use Rattle.arrow_values.specs.Tree.{Tree, Text, struct};
+ghost use Rattle.geoarrow_layout.specs.Summary.{Summarizes, IsBits, SomeAt, IsBottom};
+ghost use Rattle.geoarrow_layout.specs.Candidates.{Holds, IsAccepted, IsAcceptedStructure, IsNative, IsGeometry, IsBox};
+ghost use Rattle.geoarrow_layout.specs.Inferred.{AnswersSome, Inferred, IsFlat};
+ghost use Rattle.geoarrow_layout.specs.declared.summary.ListWidth.{ListWidth};
+ghost use Rattle.geoarrow_layout.specs.OneShape.{LeafUnder};
+ghost use Rattle.geoarrow_layout.specs.declared.names.ExtensionName.TheVariants as names;
+
+use crate::encodings::{Kind, NativeKind, Width, levels, parts_of_id};
+use crate::fault::LayoutFault;
+use crate::kinds::{CoordType, Dimension, list_size, only_coord_type, only_dimension};
+use crate::names::{Candidates, ExtensionName};
+use crate::summary::{Below, Bottom, Summary, has_bit, is_float64, leaf_bottom, summarize};
+use arrow_values::{DataType, Field};
+
+/// Reads a point (GeoArrow, "Coordinate", "Point"): a fixed size list whose inner field's name gives the dimension and
+/// whose size matches it, or a struct of two fields, of four, or of three named x, y and z or x, y and m in
+/// any order. Errs on any other data type. Allocates nothing.
+///
+/// ```rust
+/// let xym = Field::new(alloc, "xym", DataType::Float64, true)?;
+/// let data_type = DataType::FixedSizeList(Box::new(alloc, xym)?, 3);
+/// let wanted = (CoordType::Interleaved, Dimension::XYM);
+/// assert_eq!(rt; parse_point(&data_type), Ok(wanted));
+/// ```
+pub fn parse_point(data_type: &DataType) -> Result<(CoordType, Dimension), LayoutFault>
+    ensures exact { Answers result (Leaf (tree data_type.now)) }
+    ensures fault { IfErr result (HasFault (NativeFault NativeKind.Point (tree data_type.now))) }
+{
+    parse_native(NativeKind::Point, data_type)
+}
+
+/// Reads a line string (GeoArrow, "LineString"): one list over a coordinate, of either width. Errs on any other data
+/// type. Allocates nothing.
+pub fn parse_linestring(data_type: &DataType) -> Result<(CoordType, Dimension), LayoutFault>
+    ensures exact { Answers result (Native (tree data_type.now) NativeKind.LineString) }
+    ensures fault { IfErr result (HasFault (NativeFault NativeKind.LineString (tree data_type.now))) }
+{
+    parse_native(NativeKind::LineString, data_type)
+}
+
+/// Reads a polygon (GeoArrow, "Polygon"): two lists over a coordinate, both of one width. Errs on any other data type.
+/// Allocates nothing.
+pub fn parse_polygon(data_type: &DataType) -> Result<(CoordType, Dimension), LayoutFault>
+    ensures exact { Answers result (Native (tree data_type.now) NativeKind.Polygon) }
+    ensures fault { IfErr result (HasFault (NativeFault NativeKind.Polygon (tree data_type.now))) }
+{
+    parse_native(NativeKind::Polygon, data_type)
+}
+
+/// Reads a multipoint (GeoArrow, "MultiPoint"): one list over a coordinate, of either width. Errs on any other data
+/// type. Allocates nothing.
+pub fn parse_multipoint(data_type: &DataType) -> Result<(CoordType, Dimension), LayoutFault>
+    ensures exact { Answers result (Native (tree data_type.now) NativeKind.MultiPoint) }
+    ensures fault { IfErr result (HasFault (NativeFault NativeKind.MultiPoint (tree data_type.now))) }
+{
+    parse_native(NativeKind::MultiPoint, data_type)
+}
+
+/// Reads a multilinestring (GeoArrow, "MultiLineString"): two lists over a coordinate, both of one width. Errs on any
+/// other data type. Allocates nothing.
+pub fn parse_multilinestring(data_type: &DataType) -> Result<(CoordType, Dimension), LayoutFault>
+    ensures exact { Answers result (Native (tree data_type.now) NativeKind.MultiLineString) }
+    ensures fault { IfErr result (HasFault (NativeFault NativeKind.MultiLineString (tree data_type.now))) }
+{
+    parse_native(NativeKind::MultiLineString, data_type)
+}
+
+/// Reads a multipolygon (GeoArrow, "MultiPolygon"): three lists over a coordinate, all of one width. Errs on any other
+/// data type. Allocates nothing.
+pub fn parse_multipolygon(data_type: &DataType) -> Result<(CoordType, Dimension), LayoutFault>
+    ensures exact { Answers result (Native (tree data_type.now) NativeKind.MultiPolygon) }
+    ensures fault { IfErr result (HasFault (NativeFault NativeKind.MultiPolygon (tree data_type.now))) }
+{
+    parse_native(NativeKind::MultiPolygon, data_type)
+}
+
+/// Reads the union in a collection (GeoArrow, "GeometryCollection"): a union of at least one member, where each member
+/// is of the kind and the dimension that its type id says, no collection among them, and all are of one coordinate type
+/// and dimension. Errs on any other data type. Allocates nothing.
+pub fn parse_mixed(data_type: &DataType) -> Result<(CoordType, Dimension), LayoutFault>
+    ensures exact { Answers result (Mixed (tree data_type.now)) }
+    ensures fault { IfErr result (HasFault (MixedFault (tree data_type.now))) }
+{
+    mixed(&summarize(data_type))
+}
+
+/// Reads a collection (GeoArrow, "GeometryCollection"): one list, of either width, over a union as `parse_mixed` reads.
+/// Errs on any other data type. Allocates nothing.
+pub fn parse_geometry_collection(
+    data_type: &DataType,
+) -> Result<(CoordType, Dimension), LayoutFault>
+    ensures exact { Answers result (Collection (tree data_type.now)) }
+    ensures fault { IfErr result (HasFault (NativeFault NativeKind.GeometryCollection (tree data_type.now))) }
+{
+    parse_native(NativeKind::GeometryCollection, data_type)
+}
+
+/// Reads geometries of any kind (GeoArrow, "Geometry"): a union of at least one member, where each member is of the
+/// kind and the dimension that its type id says, collections among them, and all are of one coordinate type. Errs on
+/// any other data type. Allocates nothing.
+pub fn parse_geometry(data_type: &DataType) -> Result<CoordType, LayoutFault>
+    ensures exact { AnswersOne result (Geometry (tree data_type.now)) }
+    ensures fault { IfErr result (HasFault (GeometryFault (tree data_type.now))) }
+{
+    geometry(&summarize(data_type))
+}
+
+/// Reads a native kind, as its own reader does. Errs on any data type that is not of that kind. Allocates nothing.
+pub fn parse_native(
+    kind: NativeKind,
+    data_type: &DataType,
+) -> Result<(CoordType, Dimension), LayoutFault>
+    ensures exact { Answers result (Native (tree data_type.now) kind) }
+    ensures fault { IfErr result (HasFault (NativeFault kind (tree data_type.now))) }
+{
+    any_native(kind, &summarize(data_type))
+}
+
+/// Reads well-known binary (GeoArrow, "WKB"): bytes, of any width. Errs on any other data type. Allocates nothing.
+pub fn parse_wkb(data_type: &DataType) -> Result<Width, LayoutFault>
+    ensures exact { AnswersOne result (λ width. IsBytes width (tree data_type.now)) }
+    ensures fault { IfErr result (HasFault (FaultAt names.Wkb (tree data_type.now))) }
+{
+    match bytes_width(data_type) {
+        Some(width) => Ok(width),
+        None => Err(LayoutFault::UnexpectedType),
+    }
+}
+
+/// Reads well-known text (GeoArrow, "WKT"): text, of any width. Errs on any other data type. Allocates nothing.
+pub fn parse_wkt(data_type: &DataType) -> Result<Width, LayoutFault>
+    ensures exact { AnswersOne result (λ width. IsText width (tree data_type.now)) }
+    ensures fault { IfErr result (HasFault (FaultAt names.Wkt (tree data_type.now))) }
+{
+    match text_width(data_type) {
+        Some(width) => Ok(width),
+        None => Err(LayoutFault::UnexpectedType),
+    }
+}
+
+/// Reads the data type of a column with that extension name: returns its kind. Errs on any data type that has no
+/// kind under that name. Allocates nothing.
+///
+/// ```rust
+/// let name = ExtensionName::Wkb;
+/// assert_eq!(rt;
+///     parse_kind(name, &DataType::LargeBinary),
+///     Ok(Kind::Wkb(Width::Large))
+/// );
+/// assert_eq!(rt;
+///     parse_kind(name, &DataType::Utf8),
+///     Err(LayoutFault::UnexpectedType)
+/// );
+/// ```
+pub fn parse_kind(name: ExtensionName, data_type: &DataType) -> Result<Kind, LayoutFault>
+    ensures exact { AnswersOne result (Accepts (name_text name) (tree data_type.now)) }
+    ensures fault { IfErr result (HasFault (FaultAt name (tree data_type.now))) }
+{
+    kind_read(name, data_type)
+}
+
+/// The kind, read by the reader of the name.
+#[inline(always)]
+fn kind_read(name: ExtensionName, data_type: &DataType) -> Result<Kind, LayoutFault>
+    ensures { Tells result (Accepts (name_text name) (tree data_type.now)) (FaultAt name (tree data_type.now)) }
+{
+    match name {
+        ExtensionName::Native(kind) => match parse_native(kind, data_type) {
+            Ok(pair) => Ok(Kind::Native(kind, pair.0, pair.1)),
+            Err(fault) => Err(fault),
+        },
+        ExtensionName::Geometry => match parse_geometry(data_type) {
+            Ok(coord_type) => Ok(Kind::Geometry(coord_type)),
+            Err(fault) => Err(fault),
+        },
+        ExtensionName::Rect => match parse_box(data_type) {
+            Ok(dimension) => Ok(Kind::Rect(dimension)),
+            Err(fault) => Err(fault),
+        },
+        ExtensionName::Wkb => match parse_wkb(data_type) {
+            Ok(width) => Ok(Kind::Wkb(width)),
+            Err(fault) => Err(fault),
+        },
+        ExtensionName::Wkt => match parse_wkt(data_type) {
+            Ok(width) => Ok(Kind::Wkt(width)),
+            Err(fault) => Err(fault),
+        },
+    }
+}
+
+/// Reads a box (GeoArrow, "Box"): a struct of four fields or of eight, or of six fields that include `mmin` and `mmax` or,
+/// failing that, `zmin` and `zmax`. Errs on any other data type. Allocates nothing.
+pub fn parse_box(data_type: &DataType) -> Result<Dimension, LayoutFault>
+    ensures exact { AnswersOne result (BoxShape (tree data_type.now)) }
+    ensures fault { IfErr result (HasFault (BoxFault (tree data_type.now))) }
+{
+    boxed(&summarize(data_type))
+}
+
+impl Summary {
+    /// The kind of a column of that extension name, whatever data type the summary is of: none where no kind of that
+    /// name has such a data type, and none for well-known binary and text, of which a summary says nothing. Where the
+    /// summary is of no data type at all, a kind that is answered is one of that name too. Allocates nothing.
+    #[tactic(auto, using(crate::proofs::KindSteps::of_name, crate::proofs::KindSteps::renamed))]
+    pub fn kind(&self, name: &str) -> Option<Kind>
+        ensures exact { (t : Tree) → Summarizes self.now t → AnswersKind name.now t result }
+        ensures named { IfSome result (λ k. (name.now ≡ name_of k) × IsStructured k) }
+    {
+        match name {
+            "geoarrow.point" => native_kind(NativeKind::Point, self),
+            "geoarrow.linestring" => native_kind(NativeKind::LineString, self),
+            "geoarrow.polygon" => native_kind(NativeKind::Polygon, self),
+            "geoarrow.multipoint" => native_kind(NativeKind::MultiPoint, self),
+            "geoarrow.multilinestring" => native_kind(NativeKind::MultiLineString, self),
+            "geoarrow.multipolygon" => native_kind(NativeKind::MultiPolygon, self),
+            "geoarrow.geometrycollection" => native_kind(NativeKind::GeometryCollection, self),
+            "geoarrow.geometry" => geometry_kind(self),
+            "geoarrow.box" => box_kind(self),
+            _ => None,
+        }
+    }
+}
+
+/// The kind under the name of a native kind.
+fn native_kind(kind: NativeKind, summary: &Summary) -> Option<Kind>
+    ensures exact { (t : Tree) → Summarizes summary.now t → AnswersKind (name_text (names.Native kind)) t result }
+    ensures named { IfSome result (λ k. (name_text (names.Native kind) ≡ name_of k) × IsStructured k) }
+{
+    match any_native(kind, summary) {
+        Ok(pair) => Some(Kind::Native(kind, pair.0, pair.1)),
+        Err(_) => None,
+    }
+}
+
+/// The kind under the name of unions of geometries.
+#[tactic(auto, using(crate::proofs::KindSteps::geometry_none))]
+fn geometry_kind(summary: &Summary) -> Option<Kind>
+    ensures exact { (t : Tree) → Summarizes summary.now t → AnswersKind (name_text names.Geometry) t result }
+    ensures named { IfSome result (λ k. (name_text names.Geometry ≡ name_of k) × IsStructured k) }
+{
+    match geometry(summary) {
+        Ok(coord_type) => Some(Kind::Geometry(coord_type)),
+        Err(_) => None,
+    }
+}
+
+/// The kind under the name of boxes.
+#[tactic(auto, using(crate::proofs::KindSteps::kind_some, crate::proofs::KindSteps::box_none))]
+fn box_kind(summary: &Summary) -> Option<Kind>
+    ensures exact { (t : Tree) → Summarizes summary.now t → AnswersKind (name_text names.Rect) t result }
+    ensures named { IfSome result (λ k. (name_text names.Rect ≡ name_of k) × IsStructured k) }
+{
+    match boxed(summary) {
+        Ok(dimension) => Some(Kind::Rect(dimension)),
+        Err(_) => None,
+    }
+}
+
+/// All extension names, of the eleven that there are, under which the data type can be read (GeoArrow,
+/// "Extension types"). Allocates nothing.
+///
+/// ```rust
+/// let point = coord_data_type(alloc, CoordType::Separated, Dimension::XYZM)?;
+/// assert_eq!(rt; candidates(&point), Candidates::PointOrBox);
+/// ```
+pub fn candidates(data_type: &DataType) -> Candidates
+    ensures { (n : Text) → Holds result n ↔ IsAccepted n (tree data_type.now) }
+{
+    if bytes_width(data_type).is_some() {
+        return Candidates::One("geoarrow.wkb");
+    }
+    if text_width(data_type).is_some() {
+        return Candidates::One("geoarrow.wkt");
+    }
+    structured(&summarize(data_type))
+}
+
+/// How the bytes of well-known binary are stored.
+pub(crate) fn bytes_width(data_type: &DataType) -> Option<Width>
+    ensures { (w : Width) → (result ≡ Some w) ↔ IsBytes w (tree data_type.now) }
+{
+    match data_type {
+        DataType::Binary => Some(Width::Plain),
+        DataType::LargeBinary => Some(Width::Large),
+        DataType::BinaryView => Some(Width::View),
+        _ => None,
+    }
+}
+
+/// How the text of well-known text is stored.
+pub(crate) fn text_width(data_type: &DataType) -> Option<Width>
+    ensures { (w : Width) → (result ≡ Some w) ↔ IsText w (tree data_type.now) }
+{
+    match data_type {
+        DataType::Utf8 => Some(Width::Plain),
+        DataType::LargeUtf8 => Some(Width::Large),
+        DataType::Utf8View => Some(Width::View),
+        _ => None,
+    }
+}
+
+/// The names of kinds that have a structure.
+fn structured(summary: &Summary) -> Candidates
+    ensures { (t : Tree) → Summarizes summary.now t → (n : Text) → Holds result n ↔ IsAcceptedStructure n t }
+{
+    if is_box(summary) {
+        if is_native(NativeKind::Point, summary) {
+            return Candidates::PointOrBox;
+        }
+        return Candidates::One("geoarrow.box");
+    }
+    if is_native(NativeKind::Point, summary) {
+        return Candidates::One("geoarrow.point");
+    }
+    if is_native(NativeKind::LineString, summary) {
+        return Candidates::LineStringOrMultiPoint;
+    }
+    if is_native(NativeKind::Polygon, summary) {
+        return Candidates::PolygonOrMultiLineString;
+    }
+    if is_native(NativeKind::MultiPolygon, summary) {
+        return Candidates::One("geoarrow.multipolygon");
+    }
+    if is_native(NativeKind::GeometryCollection, summary) {
+        return Candidates::One("geoarrow.geometrycollection");
+    }
+    if is_geometry(summary) {
+        return Candidates::One("geoarrow.geometry");
+    }
+    Candidates::None
+}
+
+/// Whether the summary is of a native kind.
+fn is_native(kind: NativeKind, summary: &Summary) -> bool
+    ensures { (t : Tree) → Summarizes summary.now t → IsTrue result ↔ IsNative kind t }
+{
+    any_native(kind, summary).is_ok()
+}
+
+/// Whether the summary is of geometries of any kind.
+#[tactic(auto, using(crate::proofs::NamesSteps::geometry_ok))]
+fn is_geometry(summary: &Summary) -> bool
+    ensures { (t : Tree) → Summarizes summary.now t → IsTrue result ↔ IsGeometry t }
+{
+    geometry(summary).is_ok()
+}
+
+/// Whether the summary is of a box.
+#[tactic(auto, using(crate::proofs::NamesSteps::box_ok))]
+fn is_box(summary: &Summary) -> bool
+    ensures { (t : Tree) → Summarizes summary.now t → IsTrue result ↔ IsBox t }
+{
+    boxed(summary).is_ok()
+}
+
+/// The point that is inferred from a data type without an extension name: a struct of two, three or four fields, or a
+/// fixed size list of two, three or four numbers, all of them `Float64`. Three are x, y and m if the fields have these
+/// names, in any order, or if the inner field is named `xym`; otherwise they are x, y and z. `None` for any other data
+/// type. If `parse_point` reads the data type too, it returns the same point. Allocates nothing.
+///
+/// ```rust
+/// let xym = Field::new(alloc, "xym", DataType::Float64, true)?;
+/// let data_type = DataType::FixedSizeList(Box::new(alloc, xym)?, 3);
+/// let wanted = (CoordType::Interleaved, Dimension::XYM);
+/// assert_eq!(rt; parse_point(&data_type), Ok(wanted));
+/// assert_eq!(rt; infer_point(&data_type), Some(wanted));
+/// ```
+pub fn infer_point(data_type: &DataType) -> Option<(CoordType, Dimension)>
+    ensures exact { AnswersSome result (Inferred (tree data_type.now)) }
+    ensures agrees { (c b : CoordType) (d e : Dimension) → result ≡ Some (c, d) → Leaf (tree data_type.now) b e → (c ≡ b) × (d ≡ e) }
+{
+    taken_for(data_type)
+}
+
+/// The coordinate type and dimension of a point that the data type is taken for.
+#[inline(always)]
+fn taken_for(data_type: &DataType) -> Option<(CoordType, Dimension)>
+    ensures { AnswersSome result (Inferred (tree data_type.now)) }
+{
+    match data_type {
+        DataType::Struct(fields) => match fields.as_slice() {
+            [first, second] => pair(first, second),
+            _ => inferred(&flat_summary(data_type)),
+        },
+        DataType::FixedSizeList(_, _) => inferred(&flat_summary(data_type)),
+        _ => None,
+    }
+}
+
+/// The point that is inferred from a struct of two fields, whatever their names are.
+#[inline(always)]
+#[tactic(auto, using(crate::proofs::Inferences::pair_inferred, crate::proofs::Inferences::no_floats_inferred))]
+fn pair(first: &Field, second: &Field) -> Option<(CoordType, Dimension)>
+    ensures { AnswersSome result (Inferred (struct (field_trees (first.now ∷ second.now ∷ [])))) }
+{
+    if is_float64(first.data_type()) && is_float64(second.data_type()) {
+        Some((CoordType::Separated, Dimension::XY))
+    } else {
+        None
+    }
+}
+
+/// The summary of a struct or a fixed size list, which has no list levels.
+#[inline(always)]
+fn flat_summary(data_type: &DataType) -> Summary
+    requires { IsFlat (tree data_type.now) }
+    ensures { Summarizes result (tree data_type.now) }
+{
+    let below = Below {
+        levels: 0,
+        width: None,
+        rest: data_type,
+    };
+    Summary {
+        levels: 0,
+        width: None,
+        bottom: leaf_bottom(&below),
+    }
+}
+
+/// The coordinate type and dimension of a point, from the summary of a data type.
+fn inferred(summary: &Summary) -> Option<(CoordType, Dimension)>
+    ensures { (t : Tree) → Summarizes summary.now t → AnswersSome result (Inferred t) }
+{
+    if 0 < summary.levels {
+        return None;
+    }
+    match summary.bottom {
+        Bottom::FixedSizeList {
+            named,
+            size,
+            float64,
+        } => {
+            if !float64 {
+                return None;
+            }
+            paired(CoordType::Interleaved, sized_dimension(named, size))
+        }
+        Bottom::Struct {
+            count,
+            names,
+            all_float64,
+        } => {
+            if !all_float64 {
+                return None;
+            }
+            paired(CoordType::Separated, counted_dimension(count, names))
+        }
+        _ => None,
+    }
+}
+
+/// The coordinate type with the dimension, if there is one.
+fn paired(coord_type: CoordType, dimension: Option<Dimension>) -> Option<(CoordType, Dimension)>
+    ensures { (c : CoordType) (d : Dimension) → (result ≡ Some (c, d)) ↔ ((coord_type ≡ c) × (dimension ≡ Some d)) }
+{
+    match dimension {
+        Some(dimension) => Some((coord_type, dimension)),
+        None => None,
+    }
+}
+
+/// The dimension of so many numbers, of which the inner name says that dimension or none.
+fn sized_dimension(named: Option<Dimension>, size: i32) -> Option<Dimension>
+    ensures { (d : Dimension) → (result ≡ Some d) ↔ SizeSays d named size }
+{
+    match size {
+        2 => Some(Dimension::XY),
+        3 => Some(third(is_xym(named))),
+        4 => Some(Dimension::XYZM),
+        _ => None,
+    }
+}
+
+/// The dimension of so many fields, of which the bits say the names.
+fn counted_dimension(count: usize, names: u16) -> Option<Dimension>
+    ensures { (d : Dimension) → (result ≡ Some d) ↔ NamesSay d count names }
+{
+    match count {
+        2 => Some(Dimension::XY),
+        3 => Some(third(is_measured(names))),
+        4 => Some(Dimension::XYZM),
+        _ => None,
+    }
+}
+
+/// Of three, whether they have a measure or a height.
+fn third(measured: bool) -> Dimension
+    ensures measure { (result ≡ Dimension.XYM) ↔ (measured ≡ true) }
+    ensures height { measured ≢ true → result ≡ Dimension.XYZ }
+{
+    if measured {
+        Dimension::XYM
+    } else {
+        Dimension::XYZ
+    }
+}
+
+/// Whether the inner name is `xym`.
+fn is_xym(named: Option<Dimension>) -> bool
+    ensures { IsTrue result ↔ (named ≡ Some Dimension.XYM) }
+{
+    match named {
+        Some(dimension) => dimension == Dimension::XYM,
+        None => false,
+    }
+}
+
+/// Whether x, y and m are among the names.
+fn is_measured(names: u16) -> bool
+    ensures { result ≡ is_measured names }
+{
+    has_both(names, 0, 1) && has_bit(names, 3)
+}
+
+/// The dimension that the fields of a struct say.
+#[tactic(auto, using(crate::proofs::Structs::with_z, crate::proofs::Structs::with_m))]
+fn separated_dimension(count: usize, names: u16) -> Result<Dimension, LayoutFault>
+    ensures { (ns : List Text) → count ≡ length ns → IsBits names (λ i. SomeAt i ns) → Tells result (λ d. IsSeparatedAs d ns) (SeparatedFault ns) }
+{
+    match count {
+        2 => Ok(Dimension::XY),
+        3 => {
+            if !has_bit(names, 0) {
+                return Err(LayoutFault::BadFieldNames);
+            }
+            if !has_bit(names, 1) {
+                return Err(LayoutFault::BadFieldNames);
+            }
+            if has_bit(names, 3) {
+                Ok(Dimension::XYM)
+            } else if has_bit(names, 2) {
+                Ok(Dimension::XYZ)
+            } else {
+                Err(LayoutFault::BadFieldNames)
+            }
+        }
+        4 => Ok(Dimension::XYZM),
+        _ => Err(LayoutFault::BadFieldCount),
+    }
+}
+
+/// A coordinate.
+fn leaf(bottom: &Bottom) -> Result<(CoordType, Dimension), LayoutFault>
+    ensures { (w : Option ListWidth) (levels : ℕ) (u : Tree) → IsBottom IsNoLeaf w levels bottom.now u → TellsBoth result (Leaf u) (CoordinateFault u) }
+{
+    match bottom {
+        Bottom::FixedSizeList {
+            named,
+            size,
+            float64: _,
+        } => {
+            let Some(dimension) = named else {
+                return Err(LayoutFault::BadInterleavedName);
+            };
+            if *size == list_size(*dimension) {
+                Ok((CoordType::Interleaved, *dimension))
+            } else {
+                Err(LayoutFault::BadSize)
+            }
+        }
+        Bottom::Struct {
+            count,
+            names,
+            all_float64: _,
+        } => {
+            let dimension = separated_dimension(*count, *names)?;
+            Ok((CoordType::Separated, dimension))
+        }
+        _ => Err(LayoutFault::UnexpectedType),
+    }
+}
+
+/// The fault of a data type with too few list levels.
+fn missing_level(bottom: &Bottom) -> LayoutFault
+    ensures { result ≡ missing_fault bottom.now }
+{
+    match bottom {
+        Bottom::OtherWidth => LayoutFault::MixedWidths,
+        _ => LayoutFault::UnexpectedType,
+    }
+}
+
+/// So many lists over a coordinate.
+fn leaf_under(summary: &Summary, levels: u8) -> Result<(CoordType, Dimension), LayoutFault>
+    requires { levels ≤ 3 }
+    ensures { (t : Tree) → Shows summary.now t → TellsBoth result (LeafUnder levels t) (ListsFault CoordinateFault levels t) }
+{
+    if summary.levels < levels {
+        return Err(missing_level(&summary.bottom));
+    }
+    if levels < summary.levels {
+        return Err(LayoutFault::UnexpectedType);
+    }
+    leaf(&summary.bottom)
+}
+
+/// The lists of a native kind over a coordinate.
+pub(crate) fn native(
+    kind: NativeKind,
+    summary: &Summary,
+) -> Result<(CoordType, Dimension), LayoutFault>
+    ensures { (t : Tree) → Shows summary.now t → TellsBoth result (OverLeaf t kind) (OverLeafFault kind t) }
+{
+    match kind {
+        NativeKind::GeometryCollection => Err(LayoutFault::BadTypeId),
+        _ => leaf_under(summary, levels(kind)),
+    }
+}
+
+/// What was read of a member, if it has the dimension that the type id says.
+#[inline(always)]
+fn of_dimension(
+    dimension: Dimension,
+    read: Result<(CoordType, Dimension), LayoutFault>,
+) -> Result<(CoordType, Dimension), LayoutFault>
+    ensures { MatchResult result (λ x. (read ≡ Ok x) × (x.1 ≡ dimension)) (IsOtherFault read dimension) }
+{
+    match read {
+        Ok(pair) if pair.1 == dimension => Ok(pair),
+        Ok(_) => Err(LayoutFault::MemberDimension),
+        Err(fault) => Err(fault),
+    }
+}
+
+/// A member of a union in a collection.
+pub(crate) fn member(id: i8, summary: &Summary) -> Result<(CoordType, Dimension), LayoutFault>
+    ensures { (t : Tree) → Shows summary.now t → TellsBoth result (Member id t) (MemberFault id t) }
+{
+    let Some((kind, dimension)) = parts_of_id(id) else {
+        return Err(LayoutFault::BadTypeId);
+    };
+    of_dimension(dimension, native(kind, summary))
+}
+
+/// The coordinate type of a union, from what was seen of its members.
+fn one_of_union(
+    no_members: bool,
+    fault: Option<LayoutFault>,
+    coord_types: u8,
+) -> Result<CoordType, LayoutFault>
+    ensures { UnionSaysOne no_members fault coord_types result }
+{
+    if no_members {
+        return Err(LayoutFault::EmptyUnion);
+    }
+    if let Some(fault) = fault {
+        return Err(fault);
+    }
+    match only_coord_type(coord_types) {
+        Some(coord_type) => Ok(coord_type),
+        None => Err(LayoutFault::SeveralCoordTypes),
+    }
+}
+
+/// The coordinate type and dimension of a union, from what was seen of its members.
+fn both_of_union(
+    no_members: bool,
+    fault: Option<LayoutFault>,
+    coord_types: u8,
+    dimensions: u8,
+) -> Result<(CoordType, Dimension), LayoutFault>
+    ensures { UnionSays no_members fault coord_types dimensions result }
+{
+    let coord_type = one_of_union(no_members, fault, coord_types)?;
+    match only_dimension(dimensions) {
+        Some(dimension) => Ok((coord_type, dimension)),
+        None => Err(LayoutFault::SeveralDimensions),
+    }
+}
+
+/// A list over a union of members of one coordinate type and dimension.
+fn collection(summary: &Summary) -> Result<(CoordType, Dimension), LayoutFault>
+    ensures { (t : Tree) → ShowsInner summary.now t → TellsBoth result (Collection t) (ListsFault MixedFault 1 t) }
+{
+    if summary.levels < 1 {
+        return Err(missing_level(&summary.bottom));
+    }
+    if 1 < summary.levels {
+        return Err(LayoutFault::UnexpectedType);
+    }
+    match summary.bottom {
+        Bottom::Union {
+            no_members,
+            ids: _,
+            coord_types,
+            dimensions,
+            mixed_fault,
+            geometry_fault: _,
+        } => both_of_union(no_members, mixed_fault, coord_types, dimensions),
+        _ => Err(LayoutFault::UnexpectedType),
+    }
+}
+
+/// A native kind, the collection too.
+pub(crate) fn any_native(
+    kind: NativeKind,
+    summary: &Summary,
+) -> Result<(CoordType, Dimension), LayoutFault>
+    ensures { (t : Tree) → ShowsInner summary.now t → TellsBoth result (Native t kind) (NativeFault kind t) }
+{
+    match kind {
+        NativeKind::GeometryCollection => collection(summary),
+        _ => native(kind, summary),
+    }
+}
+
+/// A member of a union of geometries.
+pub(crate) fn geometry_part(
+    id: i8,
+    summary: &Summary,
+) -> Result<(CoordType, Dimension), LayoutFault>
+    ensures { (t : Tree) → ShowsInner summary.now t → TellsBoth result (GeometryMember id t) (GeometryMemberFault id t) }
+{
+    let Some((kind, dimension)) = parts_of_id(id) else {
+        return Err(LayoutFault::BadTypeId);
+    };
+    of_dimension(dimension, any_native(kind, summary))
+}
+
+/// A union of members of one coordinate type and dimension.
+pub(crate) fn mixed(summary: &Summary) -> Result<(CoordType, Dimension), LayoutFault>
+    ensures { (t : Tree) → Summarizes summary.now t → TellsBoth result (Mixed t) (MixedFault t) }
+{
+    if 0 < summary.levels {
+        return Err(LayoutFault::UnexpectedType);
+    }
+    match summary.bottom {
+        Bottom::Union {
+            no_members,
+            ids: _,
+            coord_types,
+            dimensions,
+            mixed_fault,
+            geometry_fault: _,
+        } => both_of_union(no_members, mixed_fault, coord_types, dimensions),
+        _ => Err(LayoutFault::UnexpectedType),
+    }
+}
+
+/// A union of members of one coordinate type.
+pub(crate) fn geometry(summary: &Summary) -> Result<CoordType, LayoutFault>
+    ensures { (t : Tree) → Summarizes summary.now t → Tells result (Geometry t) (GeometryFault t) }
+{
+    if 0 < summary.levels {
+        return Err(LayoutFault::UnexpectedType);
+    }
+    match summary.bottom {
+        Bottom::Union {
+            no_members,
+            ids: _,
+            coord_types,
+            dimensions: _,
+            mixed_fault: _,
+            geometry_fault,
+        } => one_of_union(no_members, geometry_fault, coord_types),
+        _ => Err(LayoutFault::UnexpectedType),
+    }
+}
+
+/// Whether both numbers are in the set.
+pub(crate) fn has_both(bits: u16, i: u8, j: u8) -> bool
+    requires i_in { i < 16 }
+    requires j_in { j < 16 }
+    ensures { result ≡ (has_bit bits i && has_bit bits j) }
+{
+    has_bit(bits, i) && has_bit(bits, j)
+}
+
+/// The dimension that the fields of a box say.
+#[tactic(auto, using(crate::proofs::Structs::box_with_m, crate::proofs::Structs::box_with_z))]
+fn box_dimension(count: usize, names: u16) -> Result<Dimension, LayoutFault>
+    ensures { (ns : List Text) → count ≡ length ns → IsBits names (λ i. SomeAt i ns) → Tells result (λ d. IsBoxAs d ns) (BoxNamesFault ns) }
+{
+    match count {
+        4 => Ok(Dimension::XY),
+        6 => {
+            if has_both(names, 6, 7) {
+                Ok(Dimension::XYM)
+            } else if has_both(names, 4, 5) {
+                Ok(Dimension::XYZ)
+            } else {
+                Err(LayoutFault::BadFieldNames)
+            }
+        }
+        8 => Ok(Dimension::XYZM),
+        _ => Err(LayoutFault::BadFieldCount),
+    }
+}
+
+/// A box.
+pub(crate) fn boxed(summary: &Summary) -> Result<Dimension, LayoutFault>
+    ensures { (t : Tree) → Summarizes summary.now t → Tells result (BoxShape t) (BoxFault t) }
+{
+    if 0 < summary.levels {
+        return Err(LayoutFault::UnexpectedType);
+    }
+    match summary.bottom {
+        Bottom::Struct {
+            count,
+            names,
+            all_float64: _,
+        } => box_dimension(count, names),
+        _ => Err(LayoutFault::UnexpectedType),
+    }
+}

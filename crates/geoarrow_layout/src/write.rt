@@ -1,0 +1,571 @@
+//! The data types that are written, and the kind that a data type was written for.
+ghost use Rattle.std.specs.Prelude.{◌≡◌, ◌++◌, [], false, pos, map, IfOk, IsOk, OnOk, ◌↔◌, IsTrue, Some, Contains, codes};
+ghost use Rattle.arrow_values.specs.Name.{fixed_text};
+ghost use Rattle.arrow_values.specs.Tree.{list, struct};
+ghost use Rattle.arrow_values.specs.View.{tree, field_trees};
+ghost use Rattle.geoarrow_layout.specs.Kinds.{size_of};
+ghost use Rattle.geoarrow_layout.specs.Layouts.{coordinate, coordinate_names, leaf_layout, lists_over, over_leaf_layout, member_layout, members_over, mixed_members, mixed_layout, dimension_members, box_names, layout, geometry_members};
+ghost use Rattle.geoarrow_layout.specs.Shapes.{IsStructured};
+ghost use Rattle.geoarrow_layout.specs.Bare.{IsBare, members_in};
+
+use crate::encodings::{Kind, NativeKind, Width, list_names, member_name, type_id};
+use crate::kinds::{
+    CoordType, Dimension, box_names, coordinate_names, interleaved_name, list_size,
+};
+use crate::read::{bytes_width, text_width};
+use crate::summary::is_float64;
+use arrow_values::{DataType, Field, Fields, FixedName, UnionFields, UnionMode};
+use std::alloc::{AllocError, Global};
+
+/// The data type of a coordinate, which is also that of a point (GeoArrow, "Coordinate", "Point"): a fixed size list of
+/// `Float64`, or a struct of `Float64` fields. Errs only when out of memory.
+pub fn coord_data_type(
+    alloc: Global,
+    coord_type: CoordType,
+    dimension: Dimension,
+) -> Result<DataType, AllocError>
+    ensures { IfOk result (λ t. tree t ≡ leaf_layout coord_type dimension) }
+{
+    match coord_type {
+        CoordType::Interleaved => {
+            let inner = Box::new(alloc, coordinate(alloc, interleaved_name(dimension)))?;
+            Ok(DataType::FixedSizeList(inner, list_size(dimension)))
+        }
+        CoordType::Separated => Ok(DataType::Struct(Fields::from(coordinates(alloc, dimension)?))),
+    }
+}
+
+/// The data type of a native kind (GeoArrow, "Native encoding"): the lists of the kind over a coordinate, and for a
+/// collection a list over the union of `mixed_data_type`. Errs only when out of memory.
+#[inline(always)]
+pub fn list_data_type(
+    alloc: Global,
+    kind: NativeKind,
+    coord_type: CoordType,
+    dimension: Dimension,
+) -> Result<DataType, AllocError>
+    ensures { IfOk result (λ t. tree t ≡ layout (Kind.Native kind coord_type dimension)) }
+{
+    match kind {
+        NativeKind::Point => coord_data_type(alloc, coord_type, dimension),
+        NativeKind::GeometryCollection => {
+            let members = mixed_data_type(alloc, coord_type, dimension)?;
+            lists_over(alloc, list_names(kind), members)
+        }
+        _ => over_leaf(alloc, kind, coord_type, dimension),
+    }
+}
+
+/// The data type of the union in a collection (GeoArrow, "GeometryCollection"): a member for each of the other native
+/// kinds. Errs only when out of memory.
+#[tactic(auto, using(crate::proofs::Written::mixed_ids))]
+pub fn mixed_data_type(
+    alloc: Global,
+    coord_type: CoordType,
+    dimension: Dimension,
+) -> Result<DataType, AllocError>
+    ensures { IfOk result (λ t. tree t ≡ mixed_layout coord_type dimension) }
+{
+    let mut members = Vec::with_capacity(alloc, 6)?;
+    push_collected(alloc, &mut members, coord_type, dimension)?;
+    Ok(DataType::Union(UnionFields::from_members(members), UnionMode::Dense))
+}
+
+/// The data type of a column of geometries of any kind (GeoArrow, "Geometry"): a union with a member for each native
+/// kind in each dimension. Errs only when out of memory.
+#[tactic(auto, using(crate::proofs::Written::geometry_ids))]
+pub fn geometry_data_type(alloc: Global, coord_type: CoordType) -> Result<DataType, AllocError>
+    ensures { IfOk result (λ t. tree t ≡ layout (Kind.Geometry coord_type)) }
+{
+    let mut members = Vec::with_capacity(alloc, 28)?;
+    push_dimension(alloc, &mut members, coord_type, Dimension::XY)?;
+    push_dimension(alloc, &mut members, coord_type, Dimension::XYZ)?;
+    push_dimension(alloc, &mut members, coord_type, Dimension::XYM)?;
+    push_dimension(alloc, &mut members, coord_type, Dimension::XYZM)?;
+    Ok(DataType::Union(UnionFields::from_members(members), UnionMode::Dense))
+}
+
+/// The data type of a box (GeoArrow, "Box"): a struct of the least and the greatest value of each dimension. Errs only
+/// when out of memory.
+pub fn box_data_type(alloc: Global, dimension: Dimension) -> Result<DataType, AllocError>
+    ensures { IfOk result (λ t. tree t ≡ layout (Kind.Rect dimension)) }
+{
+    Ok(DataType::Struct(Fields::from(box_fields(alloc, dimension)?)))
+}
+
+/// The data type of well-known binary (GeoArrow, "WKB"). Allocates nothing.
+pub fn wkb_data_type(width: Width) -> DataType
+    ensures { tree result ≡ layout (Kind.Wkb width) }
+{
+    match width {
+        Width::Plain => DataType::Binary,
+        Width::Large => DataType::LargeBinary,
+        Width::View => DataType::BinaryView,
+    }
+}
+
+/// The data type of well-known text (GeoArrow, "WKT"). Allocates nothing.
+pub fn wkt_data_type(width: Width) -> DataType
+    ensures { tree result ≡ layout (Kind.Wkt width) }
+{
+    match width {
+        Width::Plain => DataType::Utf8,
+        Width::Large => DataType::LargeUtf8,
+        Width::View => DataType::Utf8View,
+    }
+}
+
+/// The data type of a column of a kind, as written. Errs only when out of memory, and never
+/// for well-known binary and text.
+pub fn kind_data_type(alloc: Global, kind: Kind) -> Result<DataType, AllocError>
+    ensures layout { IfOk result (λ t. tree t ≡ layout kind) }
+    ensures no_memory { ¬ IsStructured kind → IsOk result }
+{
+    match kind {
+        Kind::Native(kind, coord_type, dimension) => {
+            list_data_type(alloc, kind, coord_type, dimension)
+        }
+        Kind::Geometry(coord_type) => geometry_data_type(alloc, coord_type),
+        Kind::Rect(dimension) => box_data_type(alloc, dimension),
+        Kind::Wkb(width) => Ok(wkb_data_type(width)),
+        Kind::Wkt(width) => Ok(wkt_data_type(width)),
+    }
+}
+
+/// A field of `Float64` that is never null.
+#[inline(always)]
+fn coordinate(alloc: Global, name: FixedName) -> Field
+    ensures { result ≡ coordinate (fixed_text name) }
+{
+    Field::fixed(alloc, name, DataType::Float64, false)
+}
+
+/// Such a field of each name.
+fn coordinate_fields(alloc: Global, names: &[FixedName]) -> Result<Vec<Field>, AllocError>
+    ensures { IfOk result (λ v. v.items ≡ map coordinate (map fixed_text names.now)) }
+{
+    let mut fields = Vec::with_capacity(alloc, names.len())?;
+    for name in names {
+        fields.push(coordinate(alloc, *name))?;
+    }
+    Ok(fields)
+}
+
+/// A field for each dimension, in order.
+fn coordinates(alloc: Global, dimension: Dimension) -> Result<Vec<Field>, AllocError>
+    ensures { IfOk result (λ v. v.items ≡ map coordinate (coordinate_names dimension)) }
+{
+    coordinate_fields(alloc, coordinate_names(dimension))
+}
+
+/// The fields of a box.
+fn box_fields(alloc: Global, dimension: Dimension) -> Result<Vec<Field>, AllocError>
+    ensures { IfOk result (λ v. v.items ≡ map coordinate (box_names dimension)) }
+{
+    coordinate_fields(alloc, box_names(dimension))
+}
+
+/// A list of items of that name that are never null.
+#[inline(always)]
+fn list_over(alloc: Global, name: FixedName, inner: DataType) -> Result<DataType, AllocError>
+    ensures { IfOk result (λ t. tree t ≡ list (fixed_text name) (tree inner) false []) }
+{
+    let field = Box::new(alloc, Field::fixed(alloc, name, inner, false))?;
+    Ok(DataType::List(field))
+}
+
+/// Lists of items of these names, the first outermost.
+fn lists_over(alloc: Global, names: &[FixedName], inner: DataType) -> Result<DataType, AllocError>
+    ensures { IfOk result (λ t. tree t ≡ lists_over (map fixed_text names.now) (tree inner)) }
+{
+    match names.split_first() {
+        Some((name, rest)) => {
+            let lower = lists_over(alloc, rest, inner)?;
+            list_over(alloc, *name, lower)
+        }
+        None => Ok(inner),
+    }
+}
+
+/// The lists of a kind over a coordinate.
+#[inline(always)]
+fn over_leaf(
+    alloc: Global,
+    kind: NativeKind,
+    coord_type: CoordType,
+    dimension: Dimension,
+) -> Result<DataType, AllocError>
+    ensures { IfOk result (λ t. tree t ≡ over_leaf_layout kind coord_type dimension) }
+{
+    let leaf = coord_data_type(alloc, coord_type, dimension)?;
+    lists_over(alloc, list_names(kind), leaf)
+}
+
+/// The member of a union for a kind in a dimension, which holds that data type.
+fn member_of(
+    alloc: Global,
+    kind: NativeKind,
+    dimension: Dimension,
+    data_type: DataType,
+) -> (i8, Field)
+    ensures { result ≡ member_layout kind dimension (tree data_type) }
+{
+    let field = Field::fixed(alloc, member_name(kind, dimension), data_type, true);
+    (type_id(kind, dimension), field)
+}
+
+/// Puts a member for each of these kinds last, each over a coordinate, in one dimension.
+fn push_over(
+    alloc: Global,
+    members: &mut Vec<(i8, Field)>,
+    kinds: &[NativeKind],
+    coord_type: CoordType,
+    dimension: Dimension,
+) -> Result<(), AllocError>
+    ensures { OnOk result (members.new.items ≡ members.old.items ++ members_over kinds.now coord_type dimension) }
+{
+    for kind in kinds {
+        let data_type = over_leaf(alloc, *kind, coord_type, dimension)?;
+        members.push(member_of(alloc, *kind, dimension, data_type))?;
+    }
+    Ok(())
+}
+
+/// Puts the members of the union in a collection last.
+fn push_collected(
+    alloc: Global,
+    members: &mut Vec<(i8, Field)>,
+    coord_type: CoordType,
+    dimension: Dimension,
+) -> Result<(), AllocError>
+    ensures { OnOk result (members.new.items ≡ members.old.items ++ mixed_members coord_type dimension) }
+{
+    let kinds = [
+        NativeKind::Point,
+        NativeKind::LineString,
+        NativeKind::Polygon,
+        NativeKind::MultiPoint,
+        NativeKind::MultiLineString,
+        NativeKind::MultiPolygon,
+    ];
+    push_over(alloc, members, &kinds, coord_type, dimension)
+}
+
+/// Puts the members of a union of geometries that are of one dimension last.
+fn push_dimension(
+    alloc: Global,
+    members: &mut Vec<(i8, Field)>,
+    coord_type: CoordType,
+    dimension: Dimension,
+) -> Result<(), AllocError>
+    ensures { OnOk result (members.new.items ≡ members.old.items ++ dimension_members coord_type dimension) }
+{
+    push_collected(alloc, members, coord_type, dimension)?;
+    let kind = NativeKind::GeometryCollection;
+    let data_type = list_data_type(alloc, kind, coord_type, dimension)?;
+    members.push(member_of(alloc, kind, dimension, data_type))?;
+    Ok(())
+}
+
+/// The kind whose written data type this is, to the last name, nullability and mode (GeoArrow, "Native encoding",
+/// "Geometry", "Box"): none where it is written for no kind, though some reader may take it. Allocates nothing.
+pub fn written_kind(data_type: &DataType) -> Option<Kind>
+    ensures { (k : Kind) → (result ≡ Some k) ↔ (tree data_type.now ≡ layout k) }
+{
+    first_written(data_type, &Kind::ALL)
+}
+
+/// The first of the kinds whose written data type this is.
+fn first_written(data_type: &DataType, kinds: &[Kind]) -> Option<Kind>
+    ensures { (k : Kind) → Contains kinds.now k → (result ≡ Some k) ↔ (tree data_type.now ≡ layout k) }
+{
+    for kind in kinds {
+        if is_layout(data_type, kind) {
+            return Some(*kind);
+        }
+    }
+    None
+}
+
+/// Whether the data type is the one that is written for the kind.
+fn is_layout(data_type: &DataType, kind: &Kind) -> bool
+    ensures { IsTrue result ↔ (tree data_type.now ≡ layout kind.now) }
+{
+    match kind {
+        Kind::Native(kind, coord_type, dimension) => {
+            is_native(data_type, *kind, *coord_type, *dimension)
+        }
+        Kind::Geometry(coord_type) => is_geometry(data_type, *coord_type),
+        Kind::Rect(dimension) => is_box(data_type, *dimension),
+        Kind::Wkb(width) => is_bytes(data_type, *width),
+        Kind::Wkt(width) => is_text(data_type, *width),
+    }
+}
+
+/// Whether the data type is the one that is written for well-known binary of that width.
+fn is_bytes(data_type: &DataType, width: Width) -> bool
+    ensures { IsTrue result ↔ (tree data_type.now ≡ layout (Kind.Wkb width)) }
+{
+    bytes_width(data_type) == Some(width)
+}
+
+/// Whether the data type is the one that is written for well-known text of that width.
+fn is_text(data_type: &DataType, width: Width) -> bool
+    ensures { IsTrue result ↔ (tree data_type.now ≡ layout (Kind.Wkt width)) }
+{
+    text_width(data_type) == Some(width)
+}
+
+/// Whether the data type is the one that is written for the native kind.
+fn is_native(
+    data_type: &DataType,
+    kind: NativeKind,
+    coord_type: CoordType,
+    dimension: Dimension,
+) -> bool
+    ensures { IsTrue result ↔ (tree data_type.now ≡ layout (Kind.Native kind coord_type dimension)) }
+{
+    match kind {
+        NativeKind::GeometryCollection => is_collection(data_type, coord_type, dimension),
+        _ => is_over_leaf(data_type, list_names(kind), coord_type, dimension),
+    }
+}
+
+/// Whether the field has that name, that nullability and no metadata.
+fn is_bare(field: &Field, name: FixedName, nullable: bool) -> bool
+    ensures { IsTrue result ↔ IsBare (fixed_text name) nullable field.now }
+{
+    if field.name() != name.as_text() {
+        return false;
+    }
+    if field.is_nullable() != nullable {
+        return false;
+    }
+    field.metadata().is_empty()
+}
+
+/// Whether the field is a coordinate of that name.
+fn is_coordinate(field: &Field, name: FixedName) -> bool
+    ensures { IsTrue result ↔ (field.now ≡ coordinate (fixed_text name)) }
+{
+    if !is_bare(field, name, false) {
+        return false;
+    }
+    is_float64(field.data_type())
+}
+
+/// Whether the fields are coordinates of these names.
+fn are_coordinates(fields: &[Field], names: &[FixedName]) -> bool
+    ensures { IsTrue result ↔ (fields.now ≡ map coordinate (map fixed_text names.now)) }
+{
+    let Some((field, rest)) = fields.split_first() else {
+        return names.is_empty();
+    };
+    let Some((name, others)) = names.split_first() else {
+        return false;
+    };
+    if !is_coordinate(field, *name) {
+        return false;
+    }
+    are_coordinates(rest, others)
+}
+
+/// Whether the data type is the one that is written for a coordinate.
+fn is_leaf(data_type: &DataType, coord_type: CoordType, dimension: Dimension) -> bool
+    ensures { IsTrue result ↔ (tree data_type.now ≡ leaf_layout coord_type dimension) }
+{
+    match coord_type {
+        CoordType::Interleaved => is_interleaved(data_type, dimension),
+        CoordType::Separated => is_struct(data_type, coordinate_names(dimension)),
+    }
+}
+
+/// Whether it is the one for an interleaved coordinate.
+fn is_interleaved(data_type: &DataType, dimension: Dimension) -> bool
+    ensures { IsTrue result ↔ (tree data_type.now ≡ leaf_layout CoordType.Interleaved dimension) }
+{
+    let DataType::FixedSizeList(field, size) = data_type else {
+        return false;
+    };
+    if *size != list_size(dimension) {
+        return false;
+    }
+    is_coordinate(field, interleaved_name(dimension))
+}
+
+/// Whether it is a struct of coordinates of these names.
+fn is_struct(data_type: &DataType, names: &[FixedName]) -> bool
+    ensures { IsTrue result ↔ (tree data_type.now ≡ struct (field_trees (map coordinate (map fixed_text names.now)))) }
+{
+    let DataType::Struct(fields) = data_type else {
+        return false;
+    };
+    are_coordinates(fields.as_slice(), names)
+}
+
+/// Whether it is the one that is written for a box.
+fn is_box(data_type: &DataType, dimension: Dimension) -> bool
+    ensures { IsTrue result ↔ (tree data_type.now ≡ layout (Kind.Rect dimension)) }
+{
+    is_struct(data_type, box_names(dimension))
+}
+
+/// Whether the data type is lists of items of these names over a coordinate.
+fn is_over_leaf(
+    data_type: &DataType,
+    names: &[FixedName],
+    coord_type: CoordType,
+    dimension: Dimension,
+) -> bool
+    ensures { IsTrue result ↔ (tree data_type.now ≡ lists_over (map fixed_text names.now) (leaf_layout coord_type dimension)) }
+{
+    let Some((name, others)) = names.split_first() else {
+        return is_leaf(data_type, coord_type, dimension);
+    };
+    let DataType::List(field) = data_type else {
+        return false;
+    };
+    if !is_bare(field, *name, false) {
+        return false;
+    }
+    is_over_leaf(field.data_type(), others, coord_type, dimension)
+}
+
+/// Whether the data type is the one that is written for a collection.
+fn is_collection(data_type: &DataType, coord_type: CoordType, dimension: Dimension) -> bool
+    ensures { IsTrue result ↔ (tree data_type.now ≡ list (codes "geometries") (mixed_layout coord_type dimension) false []) }
+{
+    let DataType::List(field) = data_type else {
+        return false;
+    };
+    if !is_bare(field, FixedName::Geometries, false) {
+        return false;
+    }
+    is_mixed(field.data_type(), coord_type, dimension)
+}
+
+/// Whether the data type is the union in a collection.
+fn is_mixed(data_type: &DataType, coord_type: CoordType, dimension: Dimension) -> bool
+    ensures { IsTrue result ↔ (tree data_type.now ≡ mixed_layout coord_type dimension) }
+{
+    let DataType::Union(members, mode) = data_type else {
+        return false;
+    };
+    if *mode != UnionMode::Dense {
+        return false;
+    }
+    are_mixed(members.as_slice(), coord_type, dimension)
+}
+
+/// Whether the data type is the one that is written for geometries of any kind.
+fn is_geometry(data_type: &DataType, coord_type: CoordType) -> bool
+    ensures { IsTrue result ↔ (tree data_type.now ≡ layout (Kind.Geometry coord_type)) }
+{
+    let DataType::Union(members, mode) = data_type else {
+        return false;
+    };
+    if *mode != UnionMode::Dense {
+        return false;
+    }
+    are_geometries(members.as_slice(), coord_type)
+}
+
+/// Whether the members are those that are written for geometries of any kind.
+fn are_geometries(members: &[(i8, Field)], coord_type: CoordType) -> bool
+    ensures { IsTrue result ↔ (members.now ≡ geometry_members coord_type) }
+{
+    let dimensions = [
+        Dimension::XY,
+        Dimension::XYZ,
+        Dimension::XYM,
+        Dimension::XYZM,
+    ];
+    are_in(members, &dimensions, coord_type)
+}
+
+/// Whether the members are those that are written for geometries of these dimensions.
+fn are_in(members: &[(i8, Field)], dimensions: &[Dimension], coord_type: CoordType) -> bool
+    ensures { IsTrue result ↔ (members.now ≡ members_in dimensions.now coord_type) }
+{
+    let Some((dimension, others)) = dimensions.split_first() else {
+        return members.is_empty();
+    };
+    if members.len() < 7 {
+        return false;
+    }
+    let (first, rest) = members.split_at(7);
+    if !are_of_dimension(first, coord_type, *dimension) {
+        return false;
+    }
+    are_in(rest, others, coord_type)
+}
+
+/// Whether the members are those that are written for geometries of one dimension.
+fn are_of_dimension(members: &[(i8, Field)], coord_type: CoordType, dimension: Dimension) -> bool
+    ensures { IsTrue result ↔ (members.now ≡ dimension_members coord_type dimension) }
+{
+    let Some((last, rest)) = members.split_last() else {
+        return false;
+    };
+    if !is_member(last, NativeKind::GeometryCollection, dimension) {
+        return false;
+    }
+    if !is_collection(last.1.data_type(), coord_type, dimension) {
+        return false;
+    }
+    are_mixed(rest, coord_type, dimension)
+}
+
+/// Whether the members are those of the union in a collection.
+fn are_mixed(members: &[(i8, Field)], coord_type: CoordType, dimension: Dimension) -> bool
+    ensures { IsTrue result ↔ (members.now ≡ mixed_members coord_type dimension) }
+{
+    let kinds = [
+        NativeKind::Point,
+        NativeKind::LineString,
+        NativeKind::Polygon,
+        NativeKind::MultiPoint,
+        NativeKind::MultiLineString,
+        NativeKind::MultiPolygon,
+    ];
+    are_members_over(members, &kinds, coord_type, dimension)
+}
+
+/// Whether the members are those of these kinds, each over a coordinate.
+fn are_members_over(
+    members: &[(i8, Field)],
+    kinds: &[NativeKind],
+    coord_type: CoordType,
+    dimension: Dimension,
+) -> bool
+    ensures { IsTrue result ↔ (members.now ≡ members_over kinds.now coord_type dimension) }
+{
+    let Some((kind, others)) = kinds.split_first() else {
+        return members.is_empty();
+    };
+    let Some((member, rest)) = members.split_first() else {
+        return false;
+    };
+    if !is_member(member, *kind, dimension) {
+        return false;
+    }
+    if !is_over_leaf(
+        member.1.data_type(),
+        list_names(*kind),
+        coord_type,
+        dimension,
+    ) {
+        return false;
+    }
+    are_members_over(rest, others, coord_type, dimension)
+}
+
+/// Whether the member is the one for the kind in the dimension, but for its data type.
+fn is_member(member: &(i8, Field), kind: NativeKind, dimension: Dimension) -> bool
+    ensures { IsTrue result ↔ (member.now ≡ member_layout kind dimension member.now.1.tree) }
+{
+    if member.0 != type_id(kind, dimension) {
+        return false;
+    }
+    is_bare(&member.1, member_name(kind, dimension), true)
+}
