@@ -1,5 +1,5 @@
 -- The kind of a name and a tree: there is one at most, and it is what a reader's answer says.
-use Rattle.std.proofs.Common.{◌≡◌, ◌⊎◌, inl, inr, cond, refl, sym, ap, subst, ◌∙◌, ◌↔◌, IfSome, IfErr, Option, Some, None, Result, Ok, Err}
+use Rattle.std.proofs.Common.{◌≡◌, ◌⊎◌, inl, inr, Bool, true≢false, IsTrue, is_ok, cond, refl, sym, ap, subst, ◌∙◌, ◌↔◌, IfOk, IfErr, Option, Some, None, Result, Ok, Err}
 use Rattle.std.specs.Str.{bytes_eq}
 use Rattle.std.proofs.lemmas.Option.{same_Some}
 use Rattle.arrow_values.specs.Tree.{Text, Tree}
@@ -19,15 +19,13 @@ use Rattle.geoarrow_layout.specs.OneShape.{any_native_same, geometry_same, box_s
 use Rattle.geoarrow_layout.specs.declared.fault.LayoutFault.{LayoutFault}
 use Rattle.geoarrow_layout.specs.declared.summary.Summary.{Summary}
 use Rattle.geoarrow_layout.specs.Summary.{Summarizes}
-use Rattle.geoarrow_layout.specs.Steps.{ShowsInner}
 use Rattle.geoarrow_layout.specs.Layouts.{layout}
 use Rattle.geoarrow_layout.proofs.Distinct.{layouts_are_distinct}
-use Rattle.geoarrow_layout.proofs.UnionSteps.{inner_of}
-use Rattle.geoarrow_layout.specs.Candidates.{IsAccepted}
-use Rattle.geoarrow_layout.specs.FaultAt.{Path, HasFault, BoxFault, NativeFault, GeometryFault, FaultAt}
-use Rattle.geoarrow_layout.specs.Steps.{Tells, TellsBoth}
+use Rattle.geoarrow_layout.specs.Candidates.{IsAccepted, IsAcceptedStructure}
+use Rattle.geoarrow_layout.specs.FaultAt.{Path, HasFault, FaultAt}
+use Rattle.geoarrow_layout.specs.Steps.{Tells, TellsKind}
 use Rattle.geoarrow_layout.proofs.FaultLaws.{accepted_apart}
-use Rattle.geoarrow_layout.proofs.Readings.{Answer, exactly_one}
+use Rattle.geoarrow_layout.proofs.Readings.{exactly_one}
 
 -- a text says which name it is, so two names of one text are one
 abbrev if_named : Text → ExtensionName → ExtensionName → ExtensionName
@@ -83,31 +81,39 @@ kind_some n t k s here = λ l. (λ e. subst (λ x. Accepts n t x × IsStructured
 kind_none : (n : Text) (t : Tree) → ((l : Kind) → Accepts n t l → ⊥) → AnswersKind n t None
 kind_none n t none = λ l. (λ e. cc, λ h. absurd (none l h.0))
 
-pub native_some : (k : NativeKind) (s : Summary) (p : CoordType × Dimension) (r : Answer) → r ≡ Ok p → ((t : Tree) → ShowsInner s t → TellsBoth r (Native t k) (NativeFault k t)) → (t : Tree) → Summarizes s t → AnswersKind (name_text (names.Native k)) t (Some (OfNative k p.0 p.1))
-native_some k s p r is a t h = kind_some (name_text (names.Native k)) t (OfNative k p.0 p.1) tt (refl, subst (λ z. TellsBoth z (Native t k) (NativeFault k t)) is (a t (inner_of s t h)))
+-- what a summary says under a name is the kind, or that there is none
+pub told_kind : (n : ExtensionName) (t : Tree) (r : Result Kind LayoutFault) (k : Kind) → r ≡ Ok k → TellsKind n t r → Accepts (name_text n) t k
+told_kind names.Wkb t r k is a = let bad = sym is ∙ a in cc
+told_kind names.Wkt t r k is a = let bad = sym is ∙ a in cc
+told_kind n t r k is a = subst (λ z. Tells z (Accepts (name_text n) t) (FaultAt n t)) is a
 
-no_native : (k : NativeKind) (t : Tree) (f : LayoutFault) (r : Answer) → r ≡ Err f → TellsBoth r (Native t k) (NativeFault k t) → (l : Kind) → Accepts (name_text (names.Native k)) t l → ⊥
-no_native k t f r is a = none_accepted (names.Native k) t f (subst (λ z. TellsBoth z (Native t k) (NativeFault k t)) is a)
+plain_name : (n : ExtensionName) → (n ≡ names.Wkb) ⊎ (n ≡ names.Wkt) → (k : Kind) → IsStructured k → n ≡ extension_of k → ⊥
+plain_name n plain (OfWkb w) s e = s
+plain_name n plain (OfWkt w) s e = s
+plain_name n (inl h) k s e = let bad = sym h ∙ e in cc
+plain_name n (inr h) k s e = let bad = sym h ∙ e in cc
 
-pub native_none : (k : NativeKind) (s : Summary) (f : LayoutFault) (r : Answer) → r ≡ Err f → ((t : Tree) → ShowsInner s t → TellsBoth r (Native t k) (NativeFault k t)) → (t : Tree) → Summarizes s t → AnswersKind (name_text (names.Native k)) t None
-native_none k s f r is a t h = kind_none (name_text (names.Native k)) t (no_native k t f r is (a t (inner_of s t h)))
+pub told_none : (n : ExtensionName) (t : Tree) (r : Result Kind LayoutFault) (f : LayoutFault) → r ≡ Err f → TellsKind n t r → (k : Kind) → Accepts (name_text n) t k → IsStructured k → ⊥
+told_none names.Wkb t r f is a k h s = plain_name names.Wkb (inl refl) k s (one_name names.Wkb (extension_of k) h.0)
+told_none names.Wkt t r f is a k h s = plain_name names.Wkt (inr refl) k s (one_name names.Wkt (extension_of k) h.0)
+told_none n t r f is a k h s = none_accepted n t f (subst (λ z. Tells z (Accepts (name_text n) t) (FaultAt n t)) is a) k h
 
-pub geometry_some : (t : Tree) (c : CoordType) (r : Result CoordType LayoutFault) → r ≡ Ok c → Tells r (Geometry t) (GeometryFault t) → AnswersKind (name_text names.Geometry) t (Some (OfGeometry c))
-geometry_some t c r is h = kind_some (name_text names.Geometry) t (OfGeometry c) tt (refl, subst (λ z. Tells z (Geometry t) (GeometryFault t)) is h)
+pub answer_kind : (x : Text) (n : ExtensionName) (t : Tree) (r : Result Kind LayoutFault) (k : Kind) → x ≡ name_text n → r ≡ Ok k → IsStructured k → TellsKind n t r → AnswersKind x t (Some k)
+answer_kind x n t r k named is s a = let here = told_kind n t r k is a in kind_some x t k s (named ∙ here.0, here.1)
 
-pub geometry_none : (t : Tree) (f : LayoutFault) (r : Result CoordType LayoutFault) → r ≡ Err f → Tells r (Geometry t) (GeometryFault t) → AnswersKind (name_text names.Geometry) t None
-geometry_none t f r is a = kind_none (name_text names.Geometry) t (none_accepted names.Geometry t f (subst (λ z. Tells z (Geometry t) (GeometryFault t)) is a))
+pub answer_none : (x : Text) (n : ExtensionName) (t : Tree) (r : Result Kind LayoutFault) (f : LayoutFault) → x ≡ name_text n → r ≡ Err f → TellsKind n t r → AnswersKind x t None
+answer_none x n t r f named is a = λ l. (λ e. cc, λ h. absurd (told_none n t r f is a l (sym named ∙ h.0.0, h.0.1) h.1))
 
-pub box_none : (t : Tree) (f : LayoutFault) (r : Result Dimension LayoutFault) → r ≡ Err f → Tells r (BoxShape t) (BoxFault t) → AnswersKind (name_text names.Rect) t None
-box_none t f r is a = kind_none (name_text names.Rect) t (none_accepted names.Rect t f (subst (λ z. Tells z (BoxShape t) (BoxFault t)) is a))
+-- whether there is a kind
+pub told_ok : (n : ExtensionName) (t : Tree) (r : Result Kind LayoutFault) (b : Bool) → b ≡ is_ok r → IfOk r (λ k. (extension_of k ≡ n) × IsStructured k) → TellsKind n t r → IsTrue b ↔ IsAcceptedStructure (name_text n) t
+told_ok n t (Ok k) b is named a = (λ e. (k, told_kind n t (Ok k) k refl a, named.1), λ x. is)
+told_ok n t (Err f) b is named a = (λ e. absurd (true≢false (sym e ∙ is)), λ x. absurd (told_none n t (Err f) f refl a x.0 x.1 x.2))
 
--- the same under an equal name
-pub renamed : (n m : Text) (s : Summary) (r : Option Kind) → n ≡ m → ((t : Tree) → Summarizes s t → AnswersKind m t r) → (t : Tree) → Summarizes s t → AnswersKind n t r
-renamed n m s r is h t shown = subst (λ x. AnswersKind x t r) (sym is) (h t shown)
-
-pub of_name : (n m : Text) (r : Option Kind) → n ≡ m → IfSome r (λ k. (m ≡ name_of k) × IsStructured k) → IfSome r (λ k. (n ≡ name_of k) × IsStructured k)
-of_name n m None is h = tt
-of_name n m (Some k) is h = (is ∙ h.0, h.1)
+-- the reader of every name but those of well-known binary and text
+pub told_all : (n : ExtensionName) (t : Tree) (r : Result Kind LayoutFault) → (n ≡ names.Wkb → ⊥) → (n ≡ names.Wkt → ⊥) → TellsKind n t r → Tells r (Accepts (name_text n) t) (FaultAt n t)
+told_all names.Wkb t r a b h = absurd (a refl)
+told_all names.Wkt t r a b h = absurd (b refl)
+told_all n t r a b h = h
 
 -- the kind of a column, told by the reader of its extension name
 pub kind_exact : (n : ExtensionName) (t : Tree) (r : Result Kind LayoutFault) → Tells r (Accepts (name_text n) t) (FaultAt n t) → AnswersOne r (Accepts (name_text n) t)

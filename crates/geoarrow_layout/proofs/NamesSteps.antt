@@ -1,13 +1,11 @@
 -- The kinds exclude one another, but for point and box and for kinds of the same lists.
-use Rattle.std.proofs.Common.{◌≡◌, ◌↔◌, ◌⊎◌, ◌+◌, ◌≤◌, inl, inr, ℕ, zero, suc, Bool, true, false, true≢false, Option, Some, None, Result, Ok, Err, IsTrue, refl, sym, ap, subst, ◌∙◌, arith, rules}
-use Rattle.std.specs.Result.{is_ok}
+use Rattle.std.proofs.Common.{◌≡◌, ◌↔◌, ◌⊎◌, ◌+◌, ◌≤◌, inl, inr, ℕ, zero, suc, Bool, true, false, true≢false, Option, Some, None, refl, sym, ap, subst, ◌∙◌, arith, rules}
 use Rattle.std.specs.Option.{is_some}
 use Rattle.arrow_values.specs.Tree.{Text, Plain as PlainType, binary, large_binary, binary_view, utf8, large_utf8, utf8_view, Tree, plain, list, large_list, fixed_size_list, struct, union}
 use Rattle.geoarrow_layout.specs.declared.kinds.CoordType.{CoordType}
 use Rattle.geoarrow_layout.specs.declared.kinds.CoordType.TheVariants.{Interleaved, Separated}
 use Rattle.geoarrow_layout.specs.declared.kinds.Dimension.{Dimension}
 use Rattle.geoarrow_layout.specs.declared.kinds.Dimension.TheVariants.{XY, XYZM}
-use Rattle.geoarrow_layout.specs.declared.fault.LayoutFault.{LayoutFault}
 use Rattle.geoarrow_layout.specs.declared.summary.ListWidth.{ListWidth}
 use Rattle.geoarrow_layout.specs.declared.summary.ListWidth.TheVariants.{List as Lists, LargeList as LargeLists}
 use Rattle.geoarrow_layout.specs.declared.encodings.NativeKind.{NativeKind}
@@ -18,18 +16,13 @@ use Rattle.geoarrow_layout.specs.declared.encodings.Kind.{Kind}
 use Rattle.geoarrow_layout.specs.declared.encodings.Kind.TheVariants.{Native as OfNative, Geometry as OfGeometry, Rect as OfRect, Wkb as OfWkb, Wkt as OfWkt}
 use Rattle.geoarrow_layout.specs.declared.names.Candidates.{Candidates}
 use Rattle.geoarrow_layout.specs.declared.names.Candidates.TheVariants.{None as NoName, LineStringOrMultiPoint, PolygonOrMultiLineString, PointOrBox}
+use Rattle.geoarrow_layout.specs.declared.names.ExtensionName.{ExtensionName}
 use Rattle.geoarrow_layout.specs.declared.names.ExtensionName.TheVariants as names
 use Rattle.geoarrow_layout.specs.Kinds.{size_of, name_text, extension_of, name_of}
 use Rattle.geoarrow_layout.specs.Shapes.{names_of, ListsOver, levels_of, Leaf, Mixed, Native, Geometry, BoxShape, Accepted, Accepts, IsStructured, IsBytes, IsText}
-use Rattle.geoarrow_layout.specs.FaultAt.{Path, Located, BoxFault, NativeFault, GeometryFault}
 use Rattle.geoarrow_layout.specs.Candidates.{Holds, IsAccepted, IsAcceptedStructure, IsNative, IsGeometry, IsBox, IsStructOfFour, Share}
-use Rattle.geoarrow_layout.specs.declared.summary.Summary.{Summary}
-use Rattle.geoarrow_layout.specs.Summary.{Summarizes}
-use Rattle.geoarrow_layout.specs.Steps.{ShowsInner, Tells, TellsBoth}
-use Rattle.geoarrow_layout.proofs.FaultLaws.{box_apart, native_apart, geometry_apart, separated_length, box_length}
+use Rattle.geoarrow_layout.proofs.FaultLaws.{separated_length, box_length}
 use Rattle.geoarrow_layout.proofs.KindSteps.{one_name}
-use Rattle.geoarrow_layout.proofs.Readings.{Answer}
-use Rattle.geoarrow_layout.proofs.UnionSteps.{inner_of}
 
 -- a number that tells trees of different kinds apart: one more a list, and below the lists 4 for a union, 6 to 8 for plain types, or 0
 abbrev plain_sort : PlainType → ℕ
@@ -142,70 +135,79 @@ two_names j k t s h r g only n = (
 alone : (k : Kind) (t : Tree) → IsStructured k → Accepted k t → ((l : Kind) → Accepted l t → sort_in k ≡ sort_in l → name_of l ≡ name_of k) → Names (λ n. n ≡ name_of k) t
 alone k t s h only n = ((λ e. (k, (e, h), s)), (λ a. a.1.0 ∙ only a.0 a.1.1 (same_sort k a.0 t h a.1.1)))
 
-pub linestring_names : (t : Tree) → IsNative LineString t → Names (Holds LineStringOrMultiPoint) t
-linestring_names t h = two_names (OfNative LineString h.0 h.1) (OfNative MultiPoint h.0 h.1) t tt h.2 tt h.2 (named_as (OfNative LineString h.0 h.1))
+-- the kind under a name
+as_native : (l : Kind) (k : NativeKind) (t : Tree) → names.Native k ≡ extension_of l → Accepted l t → IsNative k t
+as_native (OfNative m c d) k t e h = let same : k ≡ m = cc in (c, d, subst (λ x. Native t x c d) (sym same) h)
+as_native _ k t e h = cc
 
-pub polygon_names : (t : Tree) → IsNative Polygon t → Names (Holds PolygonOrMultiLineString) t
-polygon_names t h = two_names (OfNative Polygon h.0 h.1) (OfNative MultiLineString h.0 h.1) t tt h.2 tt h.2 (named_as (OfNative Polygon h.0 h.1))
+native_accepted : (k : NativeKind) (t : Tree) → IsAccepted (name_text (names.Native k)) t → IsNative k t
+native_accepted k t a = as_native a.0 k t (one_name (names.Native k) (extension_of a.0) a.1.0) a.1.1
 
-pub point_and_box : (t : Tree) → IsNative Point t → IsBox t → Names (Holds PointOrBox) t
-point_and_box t p b = two_names (OfNative Point p.0 p.1) (OfRect b.0) t tt p.2 tt b.1 (named_as (OfRect b.0))
+as_box : (l : Kind) (t : Tree) → names.Rect ≡ extension_of l → Accepted l t → IsBox t
+as_box (OfRect d) t e h = (d, h)
+as_box _ t e h = cc
 
-pub box_alone : (t : Tree) → ¬ IsNative Point t → IsBox t → Names (λ n. n ≡ name_text names.Rect) t
-box_alone t p b = alone (OfRect b.0) t tt b.1 only
+box_accepted : (t : Tree) → IsAccepted (name_text names.Rect) t → IsBox t
+box_accepted t a = as_box a.0 t (one_name names.Rect (extension_of a.0) a.1.0) a.1.1
+
+as_geometry : (l : Kind) (t : Tree) → names.Geometry ≡ extension_of l → Accepted l t → IsGeometry t
+as_geometry (OfGeometry c) t e h = (c, h)
+as_geometry _ t e h = cc
+
+abbrev IsUnder : ExtensionName → Tree → Type 0
+IsUnder n t = IsAcceptedStructure (name_text n) t
+
+under_native : (k : NativeKind) (t : Tree) → IsUnder (names.Native k) t → IsNative k t
+under_native k t a = native_accepted k t (a.0, a.1)
+
+pub linestring_names : (t : Tree) → IsUnder (names.Native LineString) t → Names (Holds LineStringOrMultiPoint) t
+linestring_names t a = let h = under_native LineString t a in two_names (OfNative LineString h.0 h.1) (OfNative MultiPoint h.0 h.1) t tt h.2 tt h.2 (named_as (OfNative LineString h.0 h.1))
+
+pub polygon_names : (t : Tree) → IsUnder (names.Native Polygon) t → Names (Holds PolygonOrMultiLineString) t
+polygon_names t a = let h = under_native Polygon t a in two_names (OfNative Polygon h.0 h.1) (OfNative MultiLineString h.0 h.1) t tt h.2 tt h.2 (named_as (OfNative Polygon h.0 h.1))
+
+pub point_and_box : (t : Tree) → IsUnder (names.Native Point) t → IsUnder names.Rect t → Names (Holds PointOrBox) t
+point_and_box t p b = let x = under_native Point t p in let y = box_accepted t (b.0, b.1) in two_names (OfNative Point x.0 x.1) (OfRect y.0) t tt x.2 tt y.1 (named_as (OfRect y.0))
+
+pub box_alone : (t : Tree) → ¬ IsUnder (names.Native Point) t → IsUnder names.Rect t → Names (λ n. n ≡ name_text names.Rect) t
+box_alone t p b = let y = box_accepted t (b.0, b.1) in alone (OfRect y.0) t tt y.1 only
   where
     only : (l : Kind) → Accepted l t → 0 ≡ sort_in l → name_of l ≡ name_text names.Rect
-    only (OfNative Point c d) h s = absurd (p (c, d, h))
+    only (OfNative Point c d) h s = absurd (p (OfNative Point c d, (refl, h), tt))
     only (OfRect d) h s = refl
     only l h s = absurd (omega arith)
 
-pub point_alone : (t : Tree) → IsNative Point t → ¬ IsBox t → Names (λ n. n ≡ name_text (names.Native Point)) t
-point_alone t p b = alone (OfNative Point p.0 p.1) t tt p.2 only
+pub point_alone : (t : Tree) → IsUnder (names.Native Point) t → ¬ IsUnder names.Rect t → Names (λ n. n ≡ name_text (names.Native Point)) t
+point_alone t p b = let x = under_native Point t p in alone (OfNative Point x.0 x.1) t tt x.2 only
   where
     only : (l : Kind) → Accepted l t → 0 ≡ sort_in l → name_of l ≡ name_text (names.Native Point)
     only (OfNative Point c d) h s = refl
-    only (OfRect d) h s = absurd (b (d, h))
+    only (OfRect d) h s = absurd (b (OfRect d, (refl, h), tt))
     only l h s = absurd (omega arith)
 
-pub multipolygon_alone : (t : Tree) → IsNative MultiPolygon t → Names (λ n. n ≡ name_text (names.Native MultiPolygon)) t
-multipolygon_alone t h = alone (OfNative MultiPolygon h.0 h.1) t tt h.2 (λ l a. named_as (OfNative MultiPolygon h.0 h.1) l)
+pub multipolygon_alone : (t : Tree) → IsUnder (names.Native MultiPolygon) t → Names (λ n. n ≡ name_text (names.Native MultiPolygon)) t
+multipolygon_alone t a = let h = under_native MultiPolygon t a in alone (OfNative MultiPolygon h.0 h.1) t tt h.2 (λ l x. named_as (OfNative MultiPolygon h.0 h.1) l)
 
-pub collection_alone : (t : Tree) → IsNative GeometryCollection t → Names (λ n. n ≡ name_text (names.Native GeometryCollection)) t
-collection_alone t h = alone (OfNative GeometryCollection h.0 h.1) t tt h.2 (λ l a. named_as (OfNative GeometryCollection h.0 h.1) l)
+pub collection_alone : (t : Tree) → IsUnder (names.Native GeometryCollection) t → Names (λ n. n ≡ name_text (names.Native GeometryCollection)) t
+collection_alone t a = let h = under_native GeometryCollection t a in alone (OfNative GeometryCollection h.0 h.1) t tt h.2 (λ l x. named_as (OfNative GeometryCollection h.0 h.1) l)
 
-pub geometry_alone : (t : Tree) → IsGeometry t → Names (λ n. n ≡ name_text names.Geometry) t
-geometry_alone t h = alone (OfGeometry h.0) t tt h.1 (λ l a. named_as (OfGeometry h.0) l)
+pub geometry_alone : (t : Tree) → IsUnder names.Geometry t → Names (λ n. n ≡ name_text names.Geometry) t
+geometry_alone t a = let h = as_geometry a.0 t (one_name names.Geometry (extension_of a.0) a.1.0) a.1.1 in alone (OfGeometry h.0) t tt h.1 (λ l x. named_as (OfGeometry h.0) l)
 
-pub no_names : (t : Tree) → ¬ IsBox t → ¬ IsNative Point t → ¬ IsNative LineString t → ¬ IsNative Polygon t → ¬ IsNative MultiPolygon t → ¬ IsNative GeometryCollection t → ¬ IsGeometry t → Names (Holds NoName) t
+pub no_names : (t : Tree) → ¬ IsUnder names.Rect t → ¬ IsUnder (names.Native Point) t → ¬ IsUnder (names.Native LineString) t → ¬ IsUnder (names.Native Polygon) t → ¬ IsUnder (names.Native MultiPolygon) t → ¬ IsUnder (names.Native GeometryCollection) t → ¬ IsUnder names.Geometry t → Names (Holds NoName) t
 no_names t box point linestring polygon multipolygon collection geometry n = (λ e. absurd e, λ a. from a.0 a.1.1 a.2)
   where
     from : (k : Kind) → Accepted k t → IsStructured k → ⊥
-    from (OfNative Point c d) h s = point (c, d, h)
-    from (OfNative LineString c d) h s = linestring (c, d, h)
-    from (OfNative Polygon c d) h s = polygon (c, d, h)
-    from (OfNative MultiPoint c d) h s = linestring (c, d, h)
-    from (OfNative MultiLineString c d) h s = polygon (c, d, h)
-    from (OfNative MultiPolygon c d) h s = multipolygon (c, d, h)
-    from (OfNative GeometryCollection c d) h s = collection (c, d, h)
-    from (OfGeometry c) h s = geometry (c, h)
-    from (OfRect d) h s = box (d, h)
+    from (OfNative Point c d) h s = point (OfNative Point c d, (refl, h), tt)
+    from (OfNative LineString c d) h s = linestring (OfNative LineString c d, (refl, h), tt)
+    from (OfNative Polygon c d) h s = polygon (OfNative Polygon c d, (refl, h), tt)
+    from (OfNative MultiPoint c d) h s = linestring (OfNative LineString c d, (refl, h), tt)
+    from (OfNative MultiLineString c d) h s = polygon (OfNative Polygon c d, (refl, h), tt)
+    from (OfNative MultiPolygon c d) h s = multipolygon (OfNative MultiPolygon c d, (refl, h), tt)
+    from (OfNative GeometryCollection c d) h s = collection (OfNative GeometryCollection c d, (refl, h), tt)
+    from (OfGeometry c) h s = geometry (OfGeometry c, (refl, h), tt)
+    from (OfRect d) h s = box (OfRect d, (refl, h), tt)
     from _ h s = s
-
--- a reader answers where something is read
-pub some_one : {X : Type 0} (r : Result X LayoutFault) (b : Bool) (R : X → Type 0) (F : Located) → b ≡ is_ok r → ((x : X) (p : Path) (f : LayoutFault) → R x → F p f → ⊥) → Tells r R F → IsTrue b ↔ ((x : X) × R x)
-some_one (Ok x) b R F is apart h = (λ e. (x, h), λ y. is)
-some_one (Err f) b R F is apart h = (λ e. absurd (true≢false (sym e ∙ is)), λ y. absurd (apart y.0 h.0 f y.1 h.1))
-
-pub geometry_ok : (t : Tree) (r : Result CoordType LayoutFault) (b : Bool) → b ≡ is_ok r → Tells r (Geometry t) (GeometryFault t) → IsTrue b ↔ IsGeometry t
-geometry_ok t r b is h = some_one r b (Geometry t) (GeometryFault t) is (geometry_apart t) h
-
-pub box_ok : (t : Tree) (r : Result Dimension LayoutFault) (b : Bool) → b ≡ is_ok r → Tells r (BoxShape t) (BoxFault t) → IsTrue b ↔ IsBox t
-box_ok t r b is h = some_one r b (BoxShape t) (BoxFault t) is (box_apart t) h
-
-pub native_ok : (k : NativeKind) (s : Summary) (r : Answer) (b : Bool) → b ≡ is_ok r → ((t : Tree) → ShowsInner s t → TellsBoth r (Native t k) (NativeFault k t)) → (t : Tree) → Summarizes s t → IsTrue b ↔ IsNative k t
-native_ok k s r b is a t h =
-    let one = some_one r b (λ p. Native t k p.0 p.1) (NativeFault k t) is (λ x. native_apart k t x.0 x.1) (a t (inner_of s t h)) in
-    (λ e. let x = one.0 e in (x.0.0, x.0.1, x.1), λ x. one.1 ((x.0, x.1), x.2))
 
 -- well-known binary and text
 abbrev WidthOf : (Width → Tree → Type 0) → Option Width → Tree → Type 0
@@ -247,20 +249,6 @@ name_at n t a = subst (NamedAt (sort_of t)) (sym a.1.0) (subst (λ s. NamedAt s 
 
 pub two_at_most : (t : Tree) (a b c : Text) → IsAccepted a t → IsAccepted b t → IsAccepted c t → (a ≡ b) ⊎ ((a ≡ c) ⊎ (b ≡ c))
 two_at_most t a b c h k l = let p = pair_at (sort_of t) in of_two p.0 p.1 a b c (p.2 a (name_at a t h)) (p.2 b (name_at b t k)) (p.2 c (name_at c t l))
-
-as_native : (l : Kind) (k : NativeKind) (t : Tree) → names.Native k ≡ extension_of l → Accepted l t → IsNative k t
-as_native (OfNative m c d) k t e h = let same : k ≡ m = cc in (c, d, subst (λ x. Native t x c d) (sym same) h)
-as_native _ k t e h = cc
-
-native_accepted : (k : NativeKind) (t : Tree) → IsAccepted (name_text (names.Native k)) t → IsNative k t
-native_accepted k t a = as_native a.0 k t (one_name (names.Native k) (extension_of a.0) a.1.0) a.1.1
-
-as_box : (l : Kind) (t : Tree) → names.Rect ≡ extension_of l → Accepted l t → IsBox t
-as_box (OfRect d) t e h = (d, h)
-as_box _ t e h = cc
-
-box_accepted : (t : Tree) → IsAccepted (name_text names.Rect) t → IsBox t
-box_accepted t a = as_box a.0 t (one_name names.Rect (extension_of a.0) a.1.0) a.1.1
 
 size_within : (d : Dimension) → (2 ≤ size_of d) × (size_of d ≤ 4)
 size_within XY = (omega arith, omega arith)

@@ -12,9 +12,12 @@ use Rattle.geoarrow_layout.specs.declared.summary.ListWidth.TheVariants.{List as
 use Rattle.geoarrow_layout.specs.declared.summary.Bottom.{Bottom}
 use Rattle.geoarrow_layout.specs.declared.summary.Bottom.TheVariants.{FixedSizeList, Struct, OtherWidth}
 use Rattle.geoarrow_layout.specs.declared.summary.Summary.{Summary}
-use Rattle.geoarrow_layout.specs.Kinds.{order_of}
-use Rattle.geoarrow_layout.specs.Shapes.{AllMembers}
-use Rattle.geoarrow_layout.specs.FaultAt.{Path, Located, Faults, HasFault, FirstFault}
+use Rattle.geoarrow_layout.specs.declared.encodings.Kind.{Kind}
+use Rattle.geoarrow_layout.specs.declared.names.ExtensionName.{ExtensionName}
+use Rattle.geoarrow_layout.specs.declared.names.ExtensionName.TheVariants as names
+use Rattle.geoarrow_layout.specs.Kinds.{order_of, name_text}
+use Rattle.geoarrow_layout.specs.Shapes.{AllMembers, Accepts}
+use Rattle.geoarrow_layout.specs.FaultAt.{Path, Located, Faults, HasFault, FirstFault, FaultAt}
 use Rattle.geoarrow_layout.specs.Summary.{place_of, IsInnerUnion, SummarizesBy}
 
 -- whether bit i of the number is set
@@ -64,6 +67,12 @@ Tells r R F = MatchResult r R (HasFault F)
 -- the same, of a coordinate type and a dimension
 abbrev pub TellsBoth : Result (CoordType × Dimension) LayoutFault → (CoordType → Dimension → Type 0) → Located → Type 0
 TellsBoth r R F = Tells r (λ x. R x.0 x.1) F
+
+-- what is answered under an extension name, where well-known binary and text are refused
+abbrev pub TellsKind : ExtensionName → Tree → Result Kind LayoutFault → Type 0
+TellsKind names.Wkb t r = r ≡ Err UnexpectedType
+TellsKind names.Wkt t r = r ≡ Err UnexpectedType
+TellsKind n t r = Tells r (Accepts (name_text n) t) (FaultAt n t)
 
 -- where F says a fault, `after` is `before` with the path to it
 abbrev pub LeadsTo : Located → Path → Path → Type 0

@@ -2,15 +2,15 @@
 //! geometries and boxes use only the summary of the data type, so they ignore the nullability, the metadata and the data
 //! types of coordinate fields, the names of list items and members, and the mode of a union and the order of its members.
 //! None of them allocates.
-ghost use Rattle.std.specs.Prelude.{IfErr, ◌≡◌, IfSome, ◌↔◌, IsTrue, Some, ◌≢◌, ◌∷◌, [], true, ◌≤◌, ◌<◌, Ok, ℕ, List, Option, length, ◌&&◌, MatchResult};
+ghost use Rattle.std.specs.Prelude.{IfErr, IfOk, ◌≡◌, IfSome, ◌↔◌, IsTrue, Some, ◌≢◌, ◌∷◌, [], true, ◌≤◌, ◌<◌, Ok, ℕ, List, Option, length, ◌&&◌, MatchResult};
 ghost use Rattle.arrow_values.specs.View.{tree, field_trees};
 ghost use Rattle.geoarrow_layout.specs.Shapes.{Answers, AnswersOne, Leaf, Native, Mixed, Collection, Geometry, BoxShape, IsBytes, IsText, Accepts, AnswersKind, IsStructured, IsSeparatedAs, OverLeaf, Member, GeometryMember, IsBoxAs};
-ghost use Rattle.geoarrow_layout.specs.Kinds.{name_text, name_of};
-ghost use Rattle.geoarrow_layout.specs.Steps.{Tells, is_measured, NamesSay, SizeSays, IsNoLeaf, Shows, ShowsInner, TellsBoth, missing_fault, IsOtherFault, UnionSays, UnionSaysOne, has_bit};
+ghost use Rattle.geoarrow_layout.specs.Kinds.{name_text, extension_of, name_of};
+ghost use Rattle.geoarrow_layout.specs.Steps.{Tells, TellsKind, is_measured, NamesSay, SizeSays, IsNoLeaf, Shows, ShowsInner, TellsBoth, missing_fault, IsOtherFault, UnionSays, UnionSaysOne, has_bit};
 ghost use Rattle.geoarrow_layout.specs.FaultAt.{HasFault, BoxFault, MixedFault, NativeFault, GeometryFault, FaultAt, SeparatedFault, CoordinateFault, BoxNamesFault, ListsFault, OverLeafFault, MemberFault, GeometryMemberFault};
 ghost use Rattle.arrow_values.specs.Tree.{Tree, Text, struct};
 ghost use Rattle.geoarrow_layout.specs.Summary.{Summarizes, IsBits, SomeAt, IsBottom};
-ghost use Rattle.geoarrow_layout.specs.Candidates.{Holds, IsAccepted, IsAcceptedStructure, IsNative, IsGeometry, IsBox};
+ghost use Rattle.geoarrow_layout.specs.Candidates.{Holds, IsAccepted, IsAcceptedStructure};
 ghost use Rattle.geoarrow_layout.specs.Inferred.{AnswersSome, Inferred, IsFlat};
 ghost use Rattle.geoarrow_layout.specs.declared.summary.ListWidth.{ListWidth};
 ghost use Rattle.geoarrow_layout.specs.OneShape.{LeafUnder};
@@ -170,24 +170,12 @@ pub fn parse_kind(name: ExtensionName, data_type: &DataType) -> Result<Kind, Lay
     kind_read(name, data_type)
 }
 
-/// The kind, read by the reader of the name.
+/// The kind, by the reader of the name.
 #[inline(always)]
 fn kind_read(name: ExtensionName, data_type: &DataType) -> Result<Kind, LayoutFault>
     ensures { Tells result (Accepts (name_text name) (tree data_type.now)) (FaultAt name (tree data_type.now)) }
 {
     match name {
-        ExtensionName::Native(kind) => match parse_native(kind, data_type) {
-            Ok(pair) => Ok(Kind::Native(kind, pair.0, pair.1)),
-            Err(fault) => Err(fault),
-        },
-        ExtensionName::Geometry => match parse_geometry(data_type) {
-            Ok(coord_type) => Ok(Kind::Geometry(coord_type)),
-            Err(fault) => Err(fault),
-        },
-        ExtensionName::Rect => match parse_box(data_type) {
-            Ok(dimension) => Ok(Kind::Rect(dimension)),
-            Err(fault) => Err(fault),
-        },
         ExtensionName::Wkb => match parse_wkb(data_type) {
             Ok(width) => Ok(Kind::Wkb(width)),
             Err(fault) => Err(fault),
@@ -196,6 +184,7 @@ fn kind_read(name: ExtensionName, data_type: &DataType) -> Result<Kind, LayoutFa
             Ok(width) => Ok(Kind::Wkt(width)),
             Err(fault) => Err(fault),
         },
+        _ => kind_under(name, &summarize(data_type)),
     }
 }
 
@@ -212,58 +201,41 @@ impl Summary {
     /// The kind of a column of that extension name, whatever data type the summary is of: none where no kind of that
     /// name has such a data type, and none for well-known binary and text, of which a summary says nothing. Where the
     /// summary is of no data type at all, a kind that is answered is one of that name too. Allocates nothing.
-    #[tactic(auto, using(crate::proofs::KindSteps::of_name, crate::proofs::KindSteps::renamed))]
     pub fn kind(&self, name: &str) -> Option<Kind>
         ensures exact { (t : Tree) → Summarizes self.now t → AnswersKind name.now t result }
         ensures named { IfSome result (λ k. (name.now ≡ name_of k) × IsStructured k) }
     {
-        match name {
-            "geoarrow.point" => native_kind(NativeKind::Point, self),
-            "geoarrow.linestring" => native_kind(NativeKind::LineString, self),
-            "geoarrow.polygon" => native_kind(NativeKind::Polygon, self),
-            "geoarrow.multipoint" => native_kind(NativeKind::MultiPoint, self),
-            "geoarrow.multilinestring" => native_kind(NativeKind::MultiLineString, self),
-            "geoarrow.multipolygon" => native_kind(NativeKind::MultiPolygon, self),
-            "geoarrow.geometrycollection" => native_kind(NativeKind::GeometryCollection, self),
-            "geoarrow.geometry" => geometry_kind(self),
-            "geoarrow.box" => box_kind(self),
-            _ => None,
+        let Some(known) = ExtensionName::from_text(name) else {
+            return None;
+        };
+        match kind_under(known, self) {
+            Ok(kind) => Some(kind),
+            Err(_) => None,
         }
     }
 }
 
-/// The kind under the name of a native kind.
-fn native_kind(kind: NativeKind, summary: &Summary) -> Option<Kind>
-    ensures exact { (t : Tree) → Summarizes summary.now t → AnswersKind (name_text (names.Native kind)) t result }
-    ensures named { IfSome result (λ k. (name_text (names.Native kind) ≡ name_of k) × IsStructured k) }
+/// The kind of a column of that extension name, from the summary of its data type, which says nothing of well-known
+/// binary and text.
+pub(crate) fn kind_under(name: ExtensionName, summary: &Summary) -> Result<Kind, LayoutFault>
+    ensures told { (t : Tree) → Summarizes summary.now t → TellsKind name t result }
+    ensures named { IfOk result (λ k. (extension_of k ≡ name) × IsStructured k) }
 {
-    match any_native(kind, summary) {
-        Ok(pair) => Some(Kind::Native(kind, pair.0, pair.1)),
-        Err(_) => None,
-    }
-}
-
-/// The kind under the name of unions of geometries.
-#[tactic(auto, using(crate::proofs::KindSteps::geometry_none))]
-fn geometry_kind(summary: &Summary) -> Option<Kind>
-    ensures exact { (t : Tree) → Summarizes summary.now t → AnswersKind (name_text names.Geometry) t result }
-    ensures named { IfSome result (λ k. (name_text names.Geometry ≡ name_of k) × IsStructured k) }
-{
-    match geometry(summary) {
-        Ok(coord_type) => Some(Kind::Geometry(coord_type)),
-        Err(_) => None,
-    }
-}
-
-/// The kind under the name of boxes.
-#[tactic(auto, using(crate::proofs::KindSteps::kind_some, crate::proofs::KindSteps::box_none))]
-fn box_kind(summary: &Summary) -> Option<Kind>
-    ensures exact { (t : Tree) → Summarizes summary.now t → AnswersKind (name_text names.Rect) t result }
-    ensures named { IfSome result (λ k. (name_text names.Rect ≡ name_of k) × IsStructured k) }
-{
-    match boxed(summary) {
-        Ok(dimension) => Some(Kind::Rect(dimension)),
-        Err(_) => None,
+    match name {
+        ExtensionName::Native(kind) => match any_native(kind, summary) {
+            Ok(pair) => Ok(Kind::Native(kind, pair.0, pair.1)),
+            Err(fault) => Err(fault),
+        },
+        ExtensionName::Geometry => match geometry(summary) {
+            Ok(coord_type) => Ok(Kind::Geometry(coord_type)),
+            Err(fault) => Err(fault),
+        },
+        ExtensionName::Rect => match boxed(summary) {
+            Ok(dimension) => Ok(Kind::Rect(dimension)),
+            Err(fault) => Err(fault),
+        },
+        ExtensionName::Wkb => Err(LayoutFault::UnexpectedType),
+        ExtensionName::Wkt => Err(LayoutFault::UnexpectedType),
     }
 }
 
@@ -314,54 +286,42 @@ pub(crate) fn text_width(data_type: &DataType) -> Option<Width>
 fn structured(summary: &Summary) -> Candidates
     ensures { (t : Tree) → Summarizes summary.now t → (n : Text) → Holds result n ↔ IsAcceptedStructure n t }
 {
-    if is_box(summary) {
-        if is_native(NativeKind::Point, summary) {
+    let is_point = is_kind(ExtensionName::Native(NativeKind::Point), summary);
+    if is_kind(ExtensionName::Rect, summary) {
+        if is_point {
             return Candidates::PointOrBox;
         }
         return Candidates::One("geoarrow.box");
     }
-    if is_native(NativeKind::Point, summary) {
+    if is_point {
         return Candidates::One("geoarrow.point");
     }
-    if is_native(NativeKind::LineString, summary) {
+    if is_kind(ExtensionName::Native(NativeKind::LineString), summary) {
         return Candidates::LineStringOrMultiPoint;
     }
-    if is_native(NativeKind::Polygon, summary) {
+    if is_kind(ExtensionName::Native(NativeKind::Polygon), summary) {
         return Candidates::PolygonOrMultiLineString;
     }
-    if is_native(NativeKind::MultiPolygon, summary) {
+    if is_kind(ExtensionName::Native(NativeKind::MultiPolygon), summary) {
         return Candidates::One("geoarrow.multipolygon");
     }
-    if is_native(NativeKind::GeometryCollection, summary) {
+    if is_kind(
+        ExtensionName::Native(NativeKind::GeometryCollection),
+        summary,
+    ) {
         return Candidates::One("geoarrow.geometrycollection");
     }
-    if is_geometry(summary) {
+    if is_kind(ExtensionName::Geometry, summary) {
         return Candidates::One("geoarrow.geometry");
     }
     Candidates::None
 }
 
-/// Whether the summary is of a native kind.
-fn is_native(kind: NativeKind, summary: &Summary) -> bool
-    ensures { (t : Tree) → Summarizes summary.now t → IsTrue result ↔ IsNative kind t }
+/// Whether a column of that extension name has a kind, by the summary of its data type.
+fn is_kind(name: ExtensionName, summary: &Summary) -> bool
+    ensures { (t : Tree) → Summarizes summary.now t → IsTrue result ↔ IsAcceptedStructure (name_text name) t }
 {
-    any_native(kind, summary).is_ok()
-}
-
-/// Whether the summary is of geometries of any kind.
-#[tactic(auto, using(crate::proofs::NamesSteps::geometry_ok))]
-fn is_geometry(summary: &Summary) -> bool
-    ensures { (t : Tree) → Summarizes summary.now t → IsTrue result ↔ IsGeometry t }
-{
-    geometry(summary).is_ok()
-}
-
-/// Whether the summary is of a box.
-#[tactic(auto, using(crate::proofs::NamesSteps::box_ok))]
-fn is_box(summary: &Summary) -> bool
-    ensures { (t : Tree) → Summarizes summary.now t → IsTrue result ↔ IsBox t }
-{
-    boxed(summary).is_ok()
+    kind_under(name, summary).is_ok()
 }
 
 /// The point that is inferred from a data type without an extension name: a struct of two, three or four fields, or a
