@@ -1,4 +1,5 @@
 mod Texts
+mod Opened
 mod Told
 mod Gathered
 mod Ids

@@ -1,9 +1,11 @@
 //! Types by their tags, with their widths, units and sizes.
 ghost use Rattle.std.specs.Prelude.{◌≡◌};
+ghost use Rattle.arrow_ipc.specs.Wire.{IsOpen};
 ghost use Rattle.arrow_ipc.specs.Kinds.{unit_in, int_at, float_at, fits_byte, decimal_at, date_at, time_width, time_at, interval_at, union_at, size_in, kind_at};
 
 use crate::fault::{Fault, Rule};
 use crate::slots::{flag_in, u16_in, u32_in};
+use crate::wire::Table;
 use arrow_columns::ListForm;
 use arrow_values::UnionMode;
 
@@ -60,22 +62,24 @@ pub(crate) enum Kind {
 
 /// The unit in slot 0.
 #[tactic(auto, unfolding(crate::specs::Kinds::unit_in))]
-fn unit_in(bytes: &[u8], table: usize, missing: u16) -> Result<Unit, Fault>
-    ensures { result ≡ unit_in bytes.now table missing }
+fn unit_in(bytes: &[u8], table: Table, missing: u16) -> Result<Unit, Fault>
+    requires { IsOpen bytes.now table }
+    ensures { result ≡ unit_in bytes.now table.at missing }
 {
     match u16_in(bytes, table, 0, missing)? {
         0 => Ok(Unit::Second),
         1 => Ok(Unit::Millisecond),
         2 => Ok(Unit::Microsecond),
         3 => Ok(Unit::Nanosecond),
-        _ => Err(Fault::new(Rule::Parameter, table)),
+        _ => Err(Fault::new(Rule::Parameter, table.at)),
     }
 }
 
 /// An integer by its width and sign.
 #[tactic(auto, unfolding(crate::specs::Kinds::int_at))]
-pub(crate) fn int_at(bytes: &[u8], table: usize) -> Result<Kind, Fault>
-    ensures { result ≡ int_at bytes.now table }
+pub(crate) fn int_at(bytes: &[u8], table: Table) -> Result<Kind, Fault>
+    requires { IsOpen bytes.now table }
+    ensures { result ≡ int_at bytes.now table.at }
 {
     let width = u32_in(bytes, table, 0, 0)?;
     let signed = flag_in(bytes, table, 1)?;
@@ -88,20 +92,21 @@ pub(crate) fn int_at(bytes: &[u8], table: usize) -> Result<Kind, Fault>
         (32, false) => Ok(Kind::UInt32),
         (64, true) => Ok(Kind::Int64),
         (64, false) => Ok(Kind::UInt64),
-        _ => Err(Fault::new(Rule::Parameter, table)),
+        _ => Err(Fault::new(Rule::Parameter, table.at)),
     }
 }
 
 /// A float by its precision.
 #[tactic(auto, unfolding(crate::specs::Kinds::float_at))]
-fn float_at(bytes: &[u8], table: usize) -> Result<Kind, Fault>
-    ensures { result ≡ float_at bytes.now table }
+fn float_at(bytes: &[u8], table: Table) -> Result<Kind, Fault>
+    requires { IsOpen bytes.now table }
+    ensures { result ≡ float_at bytes.now table.at }
 {
     match u16_in(bytes, table, 0, 0)? {
         0 => Ok(Kind::Float16),
         1 => Ok(Kind::Float32),
         2 => Ok(Kind::Float64),
-        _ => Err(Fault::new(Rule::Parameter, table)),
+        _ => Err(Fault::new(Rule::Parameter, table.at)),
     }
 }
 
@@ -114,30 +119,32 @@ fn fits_byte(number: u32) -> bool
 
 /// A decimal by its precision, scale and width.
 #[tactic(auto, unfolding(crate::specs::Kinds::decimal_at))]
-fn decimal_at(bytes: &[u8], table: usize) -> Result<Kind, Fault>
-    ensures { result ≡ decimal_at bytes.now table }
+fn decimal_at(bytes: &[u8], table: Table) -> Result<Kind, Fault>
+    requires { IsOpen bytes.now table }
+    ensures { result ≡ decimal_at bytes.now table.at }
 {
     let precision = u32_in(bytes, table, 0, 0)?;
     let scale = u32_in(bytes, table, 1, 0)?;
     let width = u32_in(bytes, table, 2, 128)?;
     if precision >= 128 || !fits_byte(scale) {
-        return Err(Fault::new(Rule::Parameter, table));
+        return Err(Fault::new(Rule::Parameter, table.at));
     }
     match width {
         32 | 64 | 128 | 256 => Ok(Kind::Decimal(width, precision, scale)),
-        _ => Err(Fault::new(Rule::Parameter, table)),
+        _ => Err(Fault::new(Rule::Parameter, table.at)),
     }
 }
 
 /// A date by its unit.
 #[tactic(auto, unfolding(crate::specs::Kinds::date_at))]
-fn date_at(bytes: &[u8], table: usize) -> Result<Kind, Fault>
-    ensures { result ≡ date_at bytes.now table }
+fn date_at(bytes: &[u8], table: Table) -> Result<Kind, Fault>
+    requires { IsOpen bytes.now table }
+    ensures { result ≡ date_at bytes.now table.at }
 {
     match u16_in(bytes, table, 0, 1)? {
         0 => Ok(Kind::Date32),
         1 => Ok(Kind::Date64),
-        _ => Err(Fault::new(Rule::Parameter, table)),
+        _ => Err(Fault::new(Rule::Parameter, table.at)),
     }
 }
 
@@ -153,60 +160,65 @@ pub(crate) fn time_width(unit: Unit) -> u32
 
 /// A time of day by its unit, with its width.
 #[tactic(auto, unfolding(crate::specs::Kinds::time_at))]
-fn time_at(bytes: &[u8], table: usize) -> Result<Kind, Fault>
-    ensures { result ≡ time_at bytes.now table }
+fn time_at(bytes: &[u8], table: Table) -> Result<Kind, Fault>
+    requires { IsOpen bytes.now table }
+    ensures { result ≡ time_at bytes.now table.at }
 {
     let unit = unit_in(bytes, table, 1)?;
     let width = u32_in(bytes, table, 1, 32)?;
     if width == time_width(unit) {
         Ok(Kind::Time(unit))
     } else {
-        Err(Fault::new(Rule::Parameter, table))
+        Err(Fault::new(Rule::Parameter, table.at))
     }
 }
 
 /// An interval by its unit.
 #[tactic(auto, unfolding(crate::specs::Kinds::interval_at))]
-fn interval_at(bytes: &[u8], table: usize) -> Result<Kind, Fault>
-    ensures { result ≡ interval_at bytes.now table }
+fn interval_at(bytes: &[u8], table: Table) -> Result<Kind, Fault>
+    requires { IsOpen bytes.now table }
+    ensures { result ≡ interval_at bytes.now table.at }
 {
     match u16_in(bytes, table, 0, 0)? {
         0 => Ok(Kind::YearMonthInterval),
         1 => Ok(Kind::DayTimeInterval),
         2 => Ok(Kind::MonthDayNanoInterval),
-        _ => Err(Fault::new(Rule::Parameter, table)),
+        _ => Err(Fault::new(Rule::Parameter, table.at)),
     }
 }
 
 /// A union by its mode.
 #[tactic(auto, unfolding(crate::specs::Kinds::union_at))]
-fn union_at(bytes: &[u8], table: usize) -> Result<Kind, Fault>
-    ensures { result ≡ union_at bytes.now table }
+fn union_at(bytes: &[u8], table: Table) -> Result<Kind, Fault>
+    requires { IsOpen bytes.now table }
+    ensures { result ≡ union_at bytes.now table.at }
 {
     match u16_in(bytes, table, 0, 0)? {
         0 => Ok(Kind::Union(UnionMode::Sparse)),
         1 => Ok(Kind::Union(UnionMode::Dense)),
-        _ => Err(Fault::new(Rule::Parameter, table)),
+        _ => Err(Fault::new(Rule::Parameter, table.at)),
     }
 }
 
 /// The size in slot 0, which is not negative.
 #[tactic(auto, unfolding(crate::specs::Kinds::size_in))]
-fn size_in(bytes: &[u8], table: usize) -> Result<i32, Fault>
-    ensures { result ≡ size_in bytes.now table }
+fn size_in(bytes: &[u8], table: Table) -> Result<i32, Fault>
+    requires { IsOpen bytes.now table }
+    ensures { result ≡ size_in bytes.now table.at }
 {
     let size = u32_in(bytes, table, 0, 0)?;
     if size < 0x8000_0000 {
         Ok(size as i32)
     } else {
-        Err(Fault::new(Rule::Parameter, table))
+        Err(Fault::new(Rule::Parameter, table.at))
     }
 }
 
 /// A type by its tag, and its table.
 #[tactic(auto, unfolding(crate::specs::Kinds::kind_at))]
-pub(crate) fn kind_at(bytes: &[u8], tag: u8, table: usize) -> Result<Kind, Fault>
-    ensures { result ≡ kind_at bytes.now tag table }
+pub(crate) fn kind_at(bytes: &[u8], tag: u8, table: Table) -> Result<Kind, Fault>
+    requires { IsOpen bytes.now table }
+    ensures { result ≡ kind_at bytes.now tag table.at }
 {
     match tag {
         1 => Ok(Kind::Null),
@@ -235,6 +247,6 @@ pub(crate) fn kind_at(bytes: &[u8], tag: u8, table: usize) -> Result<Kind, Fault
         24 => Ok(Kind::Utf8View),
         25 => Ok(Kind::ListView),
         26 => Ok(Kind::LargeListView),
-        _ => Err(Fault::new(Rule::Tag, table)),
+        _ => Err(Fault::new(Rule::Tag, table.at)),
     }
 }

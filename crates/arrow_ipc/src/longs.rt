@@ -1,9 +1,10 @@
 //! Numbers of eight bytes: the length of a message's body, and the id of a dictionary.
 ghost use Rattle.std.specs.Prelude.{◌≡◌};
+ghost use Rattle.arrow_ipc.specs.Wire.{IsOpen};
 ghost use Rattle.arrow_ipc.specs.Longs.{u64_at, u64_in};
 
 use crate::fault::{Fault, Rule};
-use crate::wire::slot_at;
+use crate::wire::{Table, slot_at};
 
 /// The number of eight bytes at a position.
 #[tactic(auto, unfolding(crate::specs::Longs::u64_at))]
@@ -23,8 +24,9 @@ fn u64_at(bytes: &[u8], at: usize) -> Result<u64, Fault>
 
 /// A number of eight bytes in a slot; 0 where it is missing.
 #[tactic(auto, unfolding(crate::specs::Longs::u64_in))]
-pub(crate) fn u64_in(bytes: &[u8], table: usize, i: u16) -> Result<u64, Fault>
-    ensures { result ≡ u64_in bytes.now table i }
+pub(crate) fn u64_in(bytes: &[u8], table: Table, i: u16) -> Result<u64, Fault>
+    requires { IsOpen bytes.now table }
+    ensures { result ≡ u64_in bytes.now table.at i }
 {
     match slot_at(bytes, table, i)? {
         None => Ok(0),

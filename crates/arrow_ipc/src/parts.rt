@@ -1,13 +1,14 @@
 //! What a column's table says of the column itself, before its children are read.
 ghost use Rattle.std.specs.Prelude.{◌≡◌, ◌+◌, ◌*◌, ◌≤◌, length, IfOk, IfSome};
 ghost use Rattle.arrow_ipc.specs.Fault.{map_ok};
+ghost use Rattle.arrow_ipc.specs.Wire.{IsOpen};
 ghost use Rattle.arrow_ipc.specs.Parts.{tag_in, zone_in, index_at, index_in, ids_in, parts_of, parts_at};
 
 use crate::fault::{Fault, Rule};
 use crate::kinds::{Kind, int_at, kind_at};
 use crate::longs::u64_in;
 use crate::slots::{flag_in, table_in, text_in, u8_in, vector_in};
-use crate::wire::{slot_at, target_at, vector_at};
+use crate::wire::{Table, open, slot_at, target_at, vector_at};
 
 /// How the values of a dictionary are looked up: by integers of that kind, and whether their order is one of the values.
 #[derive(Clone, Copy)]
@@ -43,21 +44,23 @@ pub(crate) struct Parts<'a> {
 
 /// The tag of a column's type.
 #[tactic(auto, unfolding(crate::specs::Parts::tag_in))]
-fn tag_in(bytes: &[u8], table: usize) -> Result<u8, Fault>
-    ensures { result ≡ tag_in bytes.now table }
+fn tag_in(bytes: &[u8], table: Table) -> Result<u8, Fault>
+    requires { IsOpen bytes.now table }
+    ensures { result ≡ tag_in bytes.now table.at }
 {
     let tag = u8_in(bytes, table, 2, 0)?;
     match tag {
-        0 => Err(Fault::new(Rule::Missing, table)),
+        0 => Err(Fault::new(Rule::Missing, table.at)),
         1..=26 => Ok(tag),
-        _ => Err(Fault::new(Rule::Tag, table)),
+        _ => Err(Fault::new(Rule::Tag, table.at)),
     }
 }
 
 /// The time zone of a timestamp; of another type the empty text.
 #[tactic(auto, unfolding(crate::specs::Parts::zone_in))]
-fn zone_in(bytes: &[u8], tag: u8, table: usize) -> Result<&str, Fault>
-    ensures { map_ok (λ s. s.now) result ≡ zone_in bytes.now tag table }
+fn zone_in(bytes: &[u8], tag: u8, table: Table) -> Result<&str, Fault>
+    requires { IsOpen bytes.now table }
+    ensures { map_ok (λ s. s.now) result ≡ zone_in bytes.now tag table.at }
 {
     if tag == 10 {
         text_in(bytes, table, 1)
@@ -67,25 +70,27 @@ fn zone_in(bytes: &[u8], tag: u8, table: usize) -> Result<&str, Fault>
 }
 
 /// The kind of a dictionary's indices.
-#[tactic(auto, unfolding(crate::specs::Parts::index_at))]
-fn index_at(bytes: &[u8], table: usize) -> Result<Kind, Fault>
-    ensures { result ≡ index_at bytes.now table }
+#[tactic(auto, using(crate::proofs::Opened::u32_opens), unfolding(crate::specs::Parts::index_at, crate::specs::Kinds::int_at))]
+fn index_at(bytes: &[u8], table: Table) -> Result<Kind, Fault>
+    requires { IsOpen bytes.now table }
+    ensures { result ≡ index_at bytes.now table.at }
 {
     match slot_at(bytes, table, 1)? {
         None => Ok(Kind::Int32),
-        Some(slot) => int_at(bytes, target_at(bytes, slot)?),
+        Some(slot) => int_at(bytes, open(bytes, target_at(bytes, slot)?)?),
     }
 }
 
 /// A column's dictionary, if it has one.
-#[tactic(auto, unfolding(crate::specs::Parts::index_in))]
-fn index_in(bytes: &[u8], table: usize) -> Result<Option<Index>, Fault>
-    ensures { result ≡ index_in bytes.now table }
+#[tactic(auto, using(crate::proofs::Opened::u64_opens), unfolding(crate::specs::Parts::index_in))]
+fn index_in(bytes: &[u8], table: Table) -> Result<Option<Index>, Fault>
+    requires { IsOpen bytes.now table }
+    ensures { result ≡ index_in bytes.now table.at }
 {
     match slot_at(bytes, table, 4)? {
         None => Ok(None),
         Some(slot) => {
-            let dictionary = target_at(bytes, slot)?;
+            let dictionary = open(bytes, target_at(bytes, slot)?)?;
             let _id = u64_in(bytes, dictionary, 0)?;
             let kind = index_at(bytes, dictionary)?;
             let ordered = flag_in(bytes, dictionary, 2)?;
@@ -96,8 +101,9 @@ fn index_in(bytes: &[u8], table: usize) -> Result<Option<Index>, Fault>
 
 /// Where the type ids of a union are; `None` where they are missing, and of another type.
 #[tactic(auto, unfolding(crate::specs::Parts::ids_in))]
-fn ids_in(bytes: &[u8], tag: u8, table: usize) -> Result<Option<(usize, usize)>, Fault>
-    ensures is { result ≡ ids_in bytes.now tag table }
+fn ids_in(bytes: &[u8], tag: u8, table: Table) -> Result<Option<(usize, usize)>, Fault>
+    requires { IsOpen bytes.now table }
+    ensures is { result ≡ ids_in bytes.now tag table.at }
     ensures within { IfOk result (λ o. IfSome o (λ p. p.0 + 4 * p.1 ≤ length bytes.now)) }
 {
     if tag != 14 {
@@ -110,18 +116,18 @@ fn ids_in(bytes: &[u8], tag: u8, table: usize) -> Result<Option<(usize, usize)>,
 }
 
 /// What the table of a column, to which the offset at a position leads, says of the column itself.
-#[tactic(auto, unfolding(crate::specs::Parts::parts_at, crate::specs::Parts::parts_in))]
+#[tactic(auto, using(crate::proofs::Opened::text_opens, crate::proofs::Opened::slot_opens), unfolding(crate::specs::Parts::parts_at, crate::specs::Parts::parts_in))]
 pub(crate) fn parts_at(bytes: &[u8], at: usize) -> Result<Parts<'_>, Fault>
     ensures is { map_ok parts_of result ≡ parts_at bytes.now at }
     ensures children { IfOk result (λ p. p.children.0 + 4 * p.children.1 ≤ length bytes.now) }
     ensures ids { IfOk result (λ p. IfSome p.ids (λ q. q.0 + 4 * q.1 ≤ length bytes.now)) }
     ensures texts { IfOk result (λ p. p.texts.0 + 4 * p.texts.1 ≤ length bytes.now) }
 {
-    let table = target_at(bytes, at)?;
+    let table = open(bytes, target_at(bytes, at)?)?;
     let name = text_in(bytes, table, 0)?;
     let nullable = flag_in(bytes, table, 1)?;
     let tag = tag_in(bytes, table)?;
-    let value = table_in(bytes, table, 3)?;
+    let value = open(bytes, table_in(bytes, table, 3)?)?;
     let _first = slot_at(bytes, value, 0)?;
     let kind = kind_at(bytes, tag, value)?;
     let zone = zone_in(bytes, tag, value)?;
@@ -130,7 +136,7 @@ pub(crate) fn parts_at(bytes: &[u8], at: usize) -> Result<Parts<'_>, Fault>
     let children = vector_in(bytes, table, 5)?;
     let texts = vector_in(bytes, table, 6)?;
     Ok(Parts {
-        table,
+        table: table.at,
         name,
         nullable,
         kind,

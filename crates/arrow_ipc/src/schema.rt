@@ -4,13 +4,14 @@ ghost use Rattle.arrow_values.specs.View.{texts_of};
 ghost use Rattle.arrow_columns.specs.Column.{column_tree};
 ghost use Rattle.arrow_ipc.specs.Fault.{map_ok};
 ghost use Rattle.arrow_ipc.specs.Tells.{Tells};
+ghost use Rattle.arrow_ipc.specs.Wire.{IsOpen};
 ghost use Rattle.arrow_ipc.specs.Schema.{head_at, has_body, message_at, footer_at, cut, message_in, footer_in, schema_tree, schema_at, Meets, schema_of_message, schema_of_footer};
 
 use crate::columns::{read_columns, read_texts};
 use crate::fault::{Fault, IpcError, Rule};
 use crate::longs::u64_in;
 use crate::slots::{needed_vector_in, table_in, u8_in, u16_in, vector_in};
-use crate::wire::{target_at, u32_at};
+use crate::wire::{Table, open, target_at, u32_at};
 use arrow_columns::Column;
 use std::alloc::Global;
 use std::collections::BTreeMap;
@@ -47,12 +48,13 @@ struct Head {
 }
 
 /// What a schema's table says before its columns are read.
-#[tactic(auto, unfolding(crate::specs::Schema::head_at))]
+#[tactic(auto, using(crate::proofs::Opened::u16_opens), unfolding(crate::specs::Schema::head_at))]
 fn head_at(bytes: &[u8], table: usize) -> Result<Head, Fault>
     ensures is { result ≡ head_at bytes.now table }
     ensures fields { IfOk result (λ h. h.fields.0 + 4 * h.fields.1 ≤ length bytes.now) }
     ensures texts { IfOk result (λ h. h.texts.0 + 4 * h.texts.1 ≤ length bytes.now) }
 {
+    let table = open(bytes, table)?;
     let endianness = match u16_in(bytes, table, 0, 0)? {
         0 => Endianness::Little,
         _ => Endianness::Big,
@@ -68,37 +70,38 @@ fn head_at(bytes: &[u8], table: usize) -> Result<Head, Fault>
 
 /// Whether the length of a message's body, of eight bytes, is not 0.
 #[tactic(auto, unfolding(crate::specs::Schema::has_body))]
-fn has_body(bytes: &[u8], table: usize) -> Result<bool, Fault>
-    ensures { result ≡ has_body bytes.now table }
+fn has_body(bytes: &[u8], table: Table) -> Result<bool, Fault>
+    requires { IsOpen bytes.now table }
+    ensures { result ≡ has_body bytes.now table.at }
 {
     let size = u64_in(bytes, table, 3)?;
     Ok(size != 0)
 }
 
 /// Where the schema of a message is.
-#[tactic(auto, unfolding(crate::specs::Schema::message_at))]
+#[tactic(auto, using(crate::proofs::Opened::u16_opens), unfolding(crate::specs::Schema::message_at))]
 fn message_at(bytes: &[u8]) -> Result<usize, Fault>
     ensures { result ≡ message_at bytes.now }
 {
-    let message = target_at(bytes, 0)?;
+    let message = open(bytes, target_at(bytes, 0)?)?;
     let version = u16_in(bytes, message, 0, 0)?;
     let tag = u8_in(bytes, message, 1, 0)?;
     let body = has_body(bytes, message)?;
     if body || tag != 1 || version < 3 || version > 4 {
-        return Err(Fault::new(Rule::Message, message));
+        return Err(Fault::new(Rule::Message, message.at));
     }
     table_in(bytes, message, 2)
 }
 
 /// Where the schema of a file's footer is.
-#[tactic(auto, unfolding(crate::specs::Schema::footer_at))]
+#[tactic(auto, using(crate::proofs::Opened::u16_opens), unfolding(crate::specs::Schema::footer_at))]
 fn footer_at(bytes: &[u8]) -> Result<usize, Fault>
     ensures { result ≡ footer_at bytes.now }
 {
-    let footer = target_at(bytes, 0)?;
+    let footer = open(bytes, target_at(bytes, 0)?)?;
     let version = u16_in(bytes, footer, 0, 0)?;
     if version < 3 || version > 4 {
-        return Err(Fault::new(Rule::Message, footer));
+        return Err(Fault::new(Rule::Message, footer.at));
     }
     table_in(bytes, footer, 1)
 }

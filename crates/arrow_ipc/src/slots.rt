@@ -1,15 +1,17 @@
 //! The slots of a table, with what counts where one is missing.
 ghost use Rattle.std.specs.Prelude.{◌≡◌, ◌+◌, ◌*◌, ◌≤◌, length, IfOk};
+ghost use Rattle.arrow_ipc.specs.Wire.{IsOpen};
 ghost use Rattle.arrow_ipc.specs.Slots.{u8_in, flag_in, u16_in, u32_in, text_in, needed_text_in, table_in, vector_in, needed_vector_in};
 ghost use Rattle.arrow_ipc.specs.Fault.{map_ok};
 
 use crate::fault::{Fault, Rule};
-use crate::wire::{slot_at, target_at, u8_at, u16_at, u32_at, utf8_at, vector_at};
+use crate::wire::{Table, slot_at, target_at, u8_at, u16_at, u32_at, utf8_at, vector_at};
 
 /// A byte in a slot.
 #[tactic(auto, unfolding(crate::specs::Slots::u8_in))]
-pub(crate) fn u8_in(bytes: &[u8], table: usize, i: u16, missing: u8) -> Result<u8, Fault>
-    ensures { result ≡ u8_in bytes.now table i missing }
+pub(crate) fn u8_in(bytes: &[u8], table: Table, i: u16, missing: u8) -> Result<u8, Fault>
+    requires { IsOpen bytes.now table }
+    ensures { result ≡ u8_in bytes.now table.at i missing }
 {
     match slot_at(bytes, table, i)? {
         None => Ok(missing),
@@ -19,8 +21,9 @@ pub(crate) fn u8_in(bytes: &[u8], table: usize, i: u16, missing: u8) -> Result<u
 
 /// Whether a slot holds a byte other than 0.
 #[tactic(auto, unfolding(crate::specs::Slots::flag_in))]
-pub(crate) fn flag_in(bytes: &[u8], table: usize, i: u16) -> Result<bool, Fault>
-    ensures { result ≡ flag_in bytes.now table i }
+pub(crate) fn flag_in(bytes: &[u8], table: Table, i: u16) -> Result<bool, Fault>
+    requires { IsOpen bytes.now table }
+    ensures { result ≡ flag_in bytes.now table.at i }
 {
     let byte = u8_in(bytes, table, i, 0)?;
     Ok(byte != 0)
@@ -28,8 +31,9 @@ pub(crate) fn flag_in(bytes: &[u8], table: usize, i: u16) -> Result<bool, Fault>
 
 /// A number of two bytes in a slot.
 #[tactic(auto, unfolding(crate::specs::Slots::u16_in))]
-pub(crate) fn u16_in(bytes: &[u8], table: usize, i: u16, missing: u16) -> Result<u16, Fault>
-    ensures { result ≡ u16_in bytes.now table i missing }
+pub(crate) fn u16_in(bytes: &[u8], table: Table, i: u16, missing: u16) -> Result<u16, Fault>
+    requires { IsOpen bytes.now table }
+    ensures { result ≡ u16_in bytes.now table.at i missing }
 {
     match slot_at(bytes, table, i)? {
         None => Ok(missing),
@@ -39,8 +43,9 @@ pub(crate) fn u16_in(bytes: &[u8], table: usize, i: u16, missing: u16) -> Result
 
 /// A number of four bytes in a slot.
 #[tactic(auto, unfolding(crate::specs::Slots::u32_in))]
-pub(crate) fn u32_in(bytes: &[u8], table: usize, i: u16, missing: u32) -> Result<u32, Fault>
-    ensures { result ≡ u32_in bytes.now table i missing }
+pub(crate) fn u32_in(bytes: &[u8], table: Table, i: u16, missing: u32) -> Result<u32, Fault>
+    requires { IsOpen bytes.now table }
+    ensures { result ≡ u32_in bytes.now table.at i missing }
 {
     match slot_at(bytes, table, i)? {
         None => Ok(missing),
@@ -50,8 +55,9 @@ pub(crate) fn u32_in(bytes: &[u8], table: usize, i: u16, missing: u32) -> Result
 
 /// The text to which a slot leads, or the empty text where it is missing.
 #[tactic(auto, unfolding(crate::specs::Slots::text_in))]
-pub(crate) fn text_in(bytes: &[u8], table: usize, i: u16) -> Result<&str, Fault>
-    ensures { map_ok (λ s. s.now) result ≡ text_in bytes.now table i }
+pub(crate) fn text_in(bytes: &[u8], table: Table, i: u16) -> Result<&str, Fault>
+    requires { IsOpen bytes.now table }
+    ensures { map_ok (λ s. s.now) result ≡ text_in bytes.now table.at i }
 {
     match slot_at(bytes, table, i)? {
         None => Ok(""),
@@ -61,27 +67,30 @@ pub(crate) fn text_in(bytes: &[u8], table: usize, i: u16) -> Result<&str, Fault>
 
 /// The text to which a slot leads that a table must have.
 #[tactic(auto, unfolding(crate::specs::Slots::needed_text_in))]
-pub(crate) fn needed_text_in(bytes: &[u8], table: usize, i: u16) -> Result<&str, Fault>
-    ensures { map_ok (λ s. s.now) result ≡ needed_text_in bytes.now table i }
+pub(crate) fn needed_text_in(bytes: &[u8], table: Table, i: u16) -> Result<&str, Fault>
+    requires { IsOpen bytes.now table }
+    ensures { map_ok (λ s. s.now) result ≡ needed_text_in bytes.now table.at i }
 {
     utf8_at(bytes, table_in(bytes, table, i)?)
 }
 
 /// Where a slot leads that a table must have.
 #[tactic(auto, unfolding(crate::specs::Slots::table_in))]
-pub(crate) fn table_in(bytes: &[u8], table: usize, i: u16) -> Result<usize, Fault>
-    ensures { result ≡ table_in bytes.now table i }
+pub(crate) fn table_in(bytes: &[u8], table: Table, i: u16) -> Result<usize, Fault>
+    requires { IsOpen bytes.now table }
+    ensures { result ≡ table_in bytes.now table.at i }
 {
     match slot_at(bytes, table, i)? {
-        None => Err(Fault::new(Rule::Missing, table)),
+        None => Err(Fault::new(Rule::Missing, table.at)),
         Some(slot) => target_at(bytes, slot),
     }
 }
 
 /// The vector to which a slot leads, or one with no elements where it is missing.
 #[tactic(auto, unfolding(crate::specs::Slots::vector_in))]
-pub(crate) fn vector_in(bytes: &[u8], table: usize, i: u16) -> Result<(usize, usize), Fault>
-    ensures is { result ≡ vector_in bytes.now table i }
+pub(crate) fn vector_in(bytes: &[u8], table: Table, i: u16) -> Result<(usize, usize), Fault>
+    requires { IsOpen bytes.now table }
+    ensures is { result ≡ vector_in bytes.now table.at i }
     ensures within { IfOk result (λ p. p.0 + 4 * p.1 ≤ length bytes.now) }
 {
     match slot_at(bytes, table, i)? {
@@ -92,8 +101,9 @@ pub(crate) fn vector_in(bytes: &[u8], table: usize, i: u16) -> Result<(usize, us
 
 /// The vector to which a slot leads that a table must have.
 #[tactic(auto, unfolding(crate::specs::Slots::needed_vector_in))]
-pub(crate) fn needed_vector_in(bytes: &[u8], table: usize, i: u16) -> Result<(usize, usize), Fault>
-    ensures is { result ≡ needed_vector_in bytes.now table i }
+pub(crate) fn needed_vector_in(bytes: &[u8], table: Table, i: u16) -> Result<(usize, usize), Fault>
+    requires { IsOpen bytes.now table }
+    ensures is { result ≡ needed_vector_in bytes.now table.at i }
     ensures within { IfOk result (λ p. p.0 + 4 * p.1 ≤ length bytes.now) }
 {
     vector_at(bytes, table_in(bytes, table, i)?)

@@ -1,6 +1,6 @@
 //! FlatBuffers: what stands at a position of a message, and where its offsets lead.
 ghost use Rattle.std.specs.Prelude.{◌≡◌, ◌+◌, ◌*◌, ◌≤◌, length, IfOk};
-ghost use Rattle.arrow_ipc.specs.Wire.{u8_at, u16_at, u32_at, ahead, behind, vtable_at, slot_at, target_at, text_at, utf8_at, vector_at};
+ghost use Rattle.arrow_ipc.specs.Wire.{u8_at, u16_at, u32_at, ahead, behind, vtable_at, opened_at, IsOpen, slot_at, target_at, text_at, utf8_at, vector_at};
 ghost use Rattle.arrow_ipc.specs.Fault.{map_ok};
 
 use crate::fault::{Fault, Rule};
@@ -81,26 +81,44 @@ fn vtable_at(bytes: &[u8], table: usize) -> Result<usize, Fault>
     }
 }
 
-/// Where a slot of a table is; `None` where the table does not have it.
-#[tactic(auto, unfolding(crate::specs::Wire::slot_at))]
-pub(crate) fn slot_at(bytes: &[u8], table: usize, i: u16) -> Result<Option<usize>, Fault>
-    ensures { result ≡ slot_at bytes.now table i }
+/// A table whose vtable lies before the end: where the table and its vtable are, and how many bytes the vtable has.
+#[derive(Clone, Copy)]
+pub(crate) struct Table {
+    pub at: usize,
+    vtable: usize,
+    size: u16,
+}
+
+/// The table at a position, with its vtable.
+#[tactic(auto, unfolding(crate::specs::Wire::opened_at))]
+pub(crate) fn open(bytes: &[u8], at: usize) -> Result<Table, Fault>
+    ensures is { result ≡ opened_at bytes.now at }
+    ensures here { IfOk result (λ t. t.at ≡ at) }
 {
-    let vtable = vtable_at(bytes, table)?;
+    let vtable = vtable_at(bytes, at)?;
     let size = u16_at(bytes, vtable)?;
     let _end = ahead(Rule::Vtable, bytes, vtable, size as usize)?;
     if size % 2 != 0 {
         return Err(Fault::new(Rule::Vtable, vtable));
     }
-    if (size as usize) < 6 + 2 * i as usize {
+    Ok(Table { at, vtable, size })
+}
+
+/// Where a slot of a table is; `None` where the table does not have it.
+#[tactic(auto, using(crate::proofs::Opened::by_table, crate::proofs::Opened::within), unfolding(crate::specs::Wire::slot_of, crate::specs::Wire::ahead))]
+pub(crate) fn slot_at(bytes: &[u8], table: Table, i: u16) -> Result<Option<usize>, Fault>
+    requires { IsOpen bytes.now table }
+    ensures { result ≡ slot_at bytes.now table.at i }
+{
+    let entry = 4 + 2 * i as usize;
+    if (table.size as usize) < entry + 2 {
         return Ok(None);
     }
-    let entry = ahead(Rule::Vtable, bytes, vtable, 4 + 2 * i as usize)?;
-    let far = u16_at(bytes, entry)?;
+    let far = u16_at(bytes, table.vtable + entry)? as usize;
     if far == 0 {
         return Ok(None);
     }
-    let slot = ahead(Rule::Slot, bytes, table, far as usize)?;
+    let slot = ahead(Rule::Slot, bytes, table.at, far)?;
     Ok(Some(slot))
 }
 
