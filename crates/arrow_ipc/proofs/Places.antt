@@ -5,9 +5,9 @@ use Rattle.std.specs.Str.{is_utf8}
 use Rattle.std.proofs.lemmas.Nat.{from_le_bytes-to_le_bytes_4}
 use Rattle.std.proofs.lemmas.List.{length-drop, drop-drop, drop_at, take_at}
 use Rattle.std.proofs.lemmas.Bool.Decides.{nat_tests}
-use Rattle.arrow_ipc.specs.Wire.{u8_at, u16_at, u32_at, ahead, vtable_at, opened_at, slot_of, slot_at, target_at, text_at, utf8_at, vector_at}
+use Rattle.arrow_ipc.specs.Wire.{u8_at, u16_at, u32_at, ahead, vtable_at, target_at, text_at, utf8_at, vector_at}
 use Rattle.arrow_ipc.specs.declared.fault.Rule.{Rule}
-use Rattle.arrow_ipc.specs.declared.fault.Rule.TheVariants.{Vtable, Slot, Offset, Text, Vector}
+use Rattle.arrow_ipc.specs.declared.fault.Rule.TheVariants.{Vtable, Offset, Text, Vector}
 
 pub is_even : (n : ℕ) → n ≡ 0 → (n == 0) ≡ true
 is_even n e = rw e refl
@@ -56,21 +56,6 @@ module _ (bytes : List ℕ) (at : ℕ) where
   vtable_is k rest even some small within is =
       let back : 2 ^ 32 - (2 ^ 32 - k) ≡ k = omega arith in
       rw (u32_is (2 ^ 32 - k) rest even (omega arith) is, is_not_lt (2 ^ 32 - k) (2 ^ 31) (omega arith), back) (ahead_is Vtable k within)
-
--- the slots of a table, where its vtable is
-module _ (bytes : List ℕ) (table vtable size : ℕ) (found : vtable_at bytes table ≡ Ok vtable) (sized : u16_at bytes vtable ≡ Ok size) (even : size % 2 ≡ 0) (within : vtable + size ≤ length bytes) (i : ℕ) where
-  pub slot_past : size < 6 + 2 * i → slot_at bytes table i ≡ Ok None
-  unfolding slot_at slot_of opened_at
-  slot_past past = rw (found, sized, ahead_is bytes vtable Vtable size within, even, is_lt size (6 + 2 * i) past) refl
-
-  module _ (has : 6 + 2 * i ≤ size) where
-    pub slot_missing : u16_at bytes (vtable + (4 + 2 * i)) ≡ Ok 0 → slot_at bytes table i ≡ Ok None
-    unfolding slot_at slot_of opened_at
-    slot_missing none = rw (found, sized, ahead_is bytes vtable Vtable size within, even, is_not_lt size (6 + 2 * i) has, ahead_is bytes vtable Vtable (4 + 2 * i) (omega arith), none) refl
-
-    pub slot_is : (far : ℕ) → 0 < far → table + far ≤ length bytes → u16_at bytes (vtable + (4 + 2 * i)) ≡ Ok far → slot_at bytes table i ≡ Ok (Some (table + far))
-    unfolding slot_at slot_of opened_at
-    slot_is far some inside is = rw (found, sized, ahead_is bytes vtable Vtable size within, even, is_not_lt size (6 + 2 * i) has, ahead_is bytes vtable Vtable (4 + 2 * i) (omega arith), is, is_some far some, ahead_is bytes table Slot far inside) refl
 
 pub vector_is : (bytes : List ℕ) (at n : ℕ) (rest : List ℕ) → at % 4 ≡ 0 → n < 2 ^ 32 → at + 4 + 4 * n ≤ length bytes → drop at bytes ≡ to_le_bytes w32 n ++ rest → vector_at bytes at ≡ Ok (at + 4, n)
 unfolding vector_at

@@ -1,12 +1,14 @@
 -- A table at the head of a block: where its slots are, and what is read through them.
-use Rattle.std.proofs.Common.{◌≡◌, ℕ, ◌+◌, ◌*◌, ◌-◌, ◌^◌, ◌%◌, ◌<◌, ◌≤◌, Bool, true, false, ◌++◌, ◌∷◌, [], List, length, drop, Some, None, Result, Ok, refl, sym, ap, ◌∙◌, subst, arith, if◌then◌else◌}
+use Rattle.std.proofs.Common.{◌≡◌, ℕ, ◌+◌, ◌*◌, ◌-◌, ◌^◌, ◌%◌, ◌<◌, ◌≤◌, Bool, true, false, ◌++◌, ◌∷◌, [], List, length, drop, Some, None, Result, Ok, refl, sym, ap, ◌∙◌, subst, arith, ◌==◌, if◌then◌else◌}
 use Rattle.std.specs.Int.{w16, from_le_bytes}
 use Rattle.std.proofs.lemmas.List.{length-append, drop-drop, drop_at}
-use Rattle.arrow_ipc.specs.Wire.{u8_at, u16_at, u32_at, vtable_at, slot_at, target_at, utf8_at, vector_at}
+use Rattle.arrow_ipc.specs.Fault.{◌>>=◌}
+use Rattle.arrow_ipc.specs.Wire.{u8_at, u16_at, u32_at, ahead, opened_at, slot_of, slot_at, target_at, utf8_at, vector_at}
 use Rattle.arrow_ipc.specs.Slots.{u8_in, flag_in, u16_in, u32_in, text_in, vector_in, table_in, needed_text_in, needed_vector_in}
 use Rattle.arrow_ipc.specs.Blocks.{Stands, Holds, word}
 use Rattle.arrow_ipc.specs.declared.fault.Fault.{Fault}
-use Rattle.arrow_ipc.proofs.Places.{u8_is, u16_is, u32_is, target_is, vtable_is, slot_past, slot_missing, slot_is}
+use Rattle.arrow_ipc.specs.declared.fault.Rule.TheVariants.{Vtable, Slot}
+use Rattle.arrow_ipc.proofs.Places.{is_some, is_lt, is_not_lt, u8_is, u16_is, u32_is, ahead_is, target_is, vtable_is}
 
 pub drop_past : (x y : List ℕ) (k : ℕ) → drop (length x + k) (x ++ y) ≡ drop k y
 drop_past x y k = sym (drop-drop k (length x) (x ++ y)) ∙ ap (drop k) (drop_at x y (length x) refl)
@@ -33,31 +35,32 @@ module _ (x y : List ℕ) (whole : length x % 8 ≡ 0) where
 
   module _ (k size a b : ℕ) (back rest : List ℕ) (some : 0 < k) (less : k ≤ 2 ^ 31) (fourth : k % 4 ≡ 0) (begins : y ≡ word (2 ^ 32 - k) ++ back) (sizes : drop k y ≡ a ∷ b ∷ rest)
       (sized : from_le_bytes w16 (a ∷ b ∷ []) ≡ size) (even : size % 2 ≡ 0) (within : k + size ≤ length y) where
-    vtable : vtable_at (x ++ y) (length x) ≡ Ok (length x + k)
-    vtable =
+    opened : opened_at (x ++ y) (length x) ≡ Ok (record { at = length x; vtable = length x + k; size = size })
+    unfolding opened_at
+    opened =
         let all = long in
-        vtable_is (x ++ y) (length x) k back (omega (arith, whole)) some less (omega (arith, all, within)) (drop_at x y (length x) refl ∙ begins)
-
-    vtable_size : u16_at (x ++ y) (length x + k) ≡ Ok size
-    vtable_size = u16_past (length x + k) k a b rest refl (omega (arith, fourth)) sizes ∙ ap (λ (n : ℕ). Ok n) sized
-
-    inside : length x + k + size ≤ length (x ++ y)
-    inside = let all = long in omega (arith, all, within)
+        rw (vtable_is (x ++ y) (length x) k back (omega (arith, whole)) some less (omega (arith, all, within)) (drop_at x y (length x) refl ∙ begins),
+        u16_past (length x + k) k a b rest refl (omega (arith, fourth)) sizes, sized, ahead_is (x ++ y) (length x + k) Vtable size (omega (arith, all, within)), even) refl
 
     pub past : (i : ℕ) → size < 6 + 2 * i → slot_at (x ++ y) (length x) i ≡ Ok None
-    past i less = slot_past (x ++ y) (length x) (length x + k) size vtable vtable_size even inside i less
+    unfolding slot_at slot_of
+    past i less = rw (opened, is_lt size (6 + 2 * i) less) refl
 
     module _ (i : ℕ) (has : 6 + 2 * i ≤ size) (c d : ℕ) (more : List ℕ) (entry : drop (k + (4 + 2 * i)) y ≡ c ∷ d ∷ more) where
-      far_is : u16_at (x ++ y) (length x + k + (4 + 2 * i)) ≡ Ok (from_le_bytes w16 (c ∷ d ∷ []))
-      far_is = u16_past (length x + k + (4 + 2 * i)) (k + (4 + 2 * i)) c d more (omega arith) (omega (arith, fourth)) entry
+      far_is : (far : ℕ) → from_le_bytes w16 (c ∷ d ∷ []) ≡ far → slot_at (x ++ y) (length x) i ≡ (if far == 0 then Ok None else (ahead Slot (x ++ y) (length x) far >>= λ slot. Ok (Some slot)))
+      unfolding slot_at slot_of
+      far_is far is =
+          let all = long in
+          rw (opened, is_not_lt size (6 + 2 * i) has, ahead_is (x ++ y) (length x + k) Vtable (4 + 2 * i) (omega (arith, all, within, has)),
+          u16_past (length x + k + (4 + 2 * i)) (k + (4 + 2 * i)) c d more (omega arith) (omega (arith, fourth)) entry, is) refl
 
       pub missing : from_le_bytes w16 (c ∷ d ∷ []) ≡ 0 → slot_at (x ++ y) (length x) i ≡ Ok None
-      missing none = slot_missing (x ++ y) (length x) (length x + k) size vtable vtable_size even inside i has (far_is ∙ ap (λ (n : ℕ). Ok n) none)
+      missing none = far_is 0 none
 
       pub slot : (far : ℕ) → from_le_bytes w16 (c ∷ d ∷ []) ≡ far → 0 < far → far ≤ length y → slot_at (x ++ y) (length x) i ≡ Ok (Some (length x + far))
       slot far is some le =
           let all = long in
-          slot_is (x ++ y) (length x) (length x + k) size vtable vtable_size even inside i has far some (omega (arith, all, le)) (far_is ∙ ap (λ (n : ℕ). Ok n) is)
+          far_is far is ∙ rw (is_some far some, ahead_is (x ++ y) (length x) Slot far (omega (arith, all, le))) refl
 
 -- what is read through a slot
 module _ (bytes : List ℕ) (table i : ℕ) where
