@@ -1,8 +1,9 @@
-/* GeoArrow's schema types as calls of C: the answers of the program geoarrow_fields, and the report of geoarrow_check.
+/* GeoArrow's schema types as calls of C: the answers of the program geoarrow_fields, and the report and the Arrow stream of
+ * geoarrow_check.
  *
- * A call takes bytes as a pointer and a length, and writes text to the front of `out`. It returns a status; at
- * GEOARROW_DONE `*len` is the length of the text. Where `out` is too small nothing is written to it, and `*len` is what is
- * needed, so a call with `out_len` 0 asks for the length. The text has no NUL at its end.
+ * A call takes bytes as a pointer and a length, and writes text, or a stream's bytes, to the front of `out`. It returns a
+ * status; at GEOARROW_DONE `*len` is the length of what is written. Where `out` is too small nothing is written to it, and
+ * `*len` is what is needed, so a call with `out_len` 0 asks for the length. The text has no NUL at its end.
  *
  * What a caller owes:
  * - Each pointer is not null, also where its length is 0, and leads to so many bytes; `len` leads to a size_t. No length is
@@ -40,10 +41,12 @@ enum {
     GEOARROW_UNKNOWN = 3, /* no such command, or no such options */
     GEOARROW_LIMIT = 4,   /* more than 1,000,000 lines, or a line of more than 1,048,576 bytes */
 
-    /* Why geoarrow_check refuses bytes; `*len` is the place. */
+    /* Why geoarrow_check and geoarrow_write_schema refuse bytes; `*len` is the place. */
     GEOARROW_NO_FIELD = 5,    /* a line is no field; so many lines stand before it */
     GEOARROW_PARQUET = 6,     /* the columns of a Parquet file are not read; 0 */
     GEOARROW_BUDGET = 7,      /* more is to be read than eight times the message's bytes; the byte of the message */
+    GEOARROW_COLUMN = 8,      /* no message can hold the type of a column (docs/FORMAT.md, 3.6); the column's index */
+    GEOARROW_TOO_LARGE = 9,   /* the message would take 2^31 bytes or more; 0 */
 
     /* A rule of Arrow's IPC format is broken, at this byte of the message (docs/FORMAT.md, 3). */
     GEOARROW_RULE_ENVELOPE = 16,
@@ -79,6 +82,12 @@ uint8_t geoarrow_run(uint8_t command, const uint8_t *input, size_t input_len, ui
  * Statuses: DONE, SHORT; MEMORY and UNKNOWN, at which `*len` is unchanged; and those of refused bytes. At all but DONE `out`
  * is unchanged. */
 uint8_t geoarrow_check(uint8_t options, const uint8_t *bytes, size_t bytes_len, uint8_t *out, size_t out_len, size_t *len);
+
+/* An Arrow stream of the schema whose columns the lines denote, one a line, without metadata of its own (docs/FORMAT.md, 2.7
+ * and 3.6). It has the schema alone: no batches, and no mark of the stream's end.
+ * Statuses: DONE, SHORT; MEMORY, at which `*len` is unchanged; NO_FIELD, COLUMN and TOO_LARGE, with the place in `*len`. At
+ * all but DONE `out` is unchanged. */
+uint8_t geoarrow_write_schema(const uint8_t *lines, size_t lines_len, uint8_t *out, size_t out_len, size_t *len);
 
 #ifdef __cplusplus
 }

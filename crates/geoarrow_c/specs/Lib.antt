@@ -1,3 +1,4 @@
 pub mod Buffer
 pub mod Calls
 pub mod Refusals
+pub mod Streams

@@ -1,14 +1,12 @@
 //! The report of a file.
-ghost use Rattle.std.specs.Prelude.{◌≡◌, ◌⊎◌, ◌↔◌, ◌<◌, ◌≤◌, MatchOption};
+ghost use Rattle.std.specs.Prelude.{◌≡◌, ◌↔◌, ◌<◌, ◌≤◌, MatchOption};
 ghost use Rattle.geoarrow_c.specs.Buffer.{Fills, Lacks};
-ghost use Rattle.geoarrow_c.specs.Refusals.{options_number, rule_number, ipc_number, fault_number, ipc_place, fault_place, ReportGives, IsRefused};
+ghost use Rattle.geoarrow_c.specs.Refusals.{options_number, ReportGives, IsRefused};
 
 use crate::buffer::fill;
-use crate::status::{MEMORY, UNKNOWN};
-use arrow_ipc::{IpcError, Rule};
-use column_files::FileFault;
+use crate::refusal::{refusal_of, refuse};
+use crate::status::UNKNOWN;
 use file_reports::report_file;
-use parquet_schema::SchemaError;
 use std::alloc::Global;
 
 /// Whether the options of a number are to infer types.
@@ -19,45 +17,6 @@ fn infer_of(options: u8) -> Option<bool>
         0 => Some(false),
         1 => Some(true),
         _ => None,
-    }
-}
-
-/// The number of a rule.
-fn rule_number(rule: Rule) -> u8
-    ensures { (result ≡ rule_number rule) × (5 ≤ result) }
-{
-    match rule {
-        Rule::Envelope => 16,
-        Rule::Number => 17,
-        Rule::Offset => 18,
-        Rule::Vtable => 19,
-        Rule::Slot => 20,
-        Rule::Text => 21,
-        Rule::Utf8 => 22,
-        Rule::Vector => 23,
-        Rule::Missing => 24,
-        Rule::Message => 25,
-        Rule::Tag => 26,
-        Rule::Parameter => 27,
-        Rule::Children => 28,
-        Rule::TypeIds => 29,
-        Rule::Depth => 30,
-    }
-}
-
-/// The number of why a file is not read, and the place.
-fn refusal_of(fault: &FileFault) -> (u8, usize)
-    ensures number { result.0 ≡ fault_number fault.now }
-    ensures place { result.1 ≡ fault_place fault.now }
-    ensures status { (result.0 ≡ 2) ⊎ (5 ≤ result.0) }
-{
-    match fault {
-        FileFault::OutOfMemory | FileFault::Ipc(IpcError::OutOfMemory) => (MEMORY, 0),
-        FileFault::NoField(before, _) => (5, *before),
-        FileFault::Parquet(SchemaError::OutOfMemory) => (MEMORY, 0),
-        FileFault::Parquet(_) => (6, 0),
-        FileFault::Ipc(IpcError::Budget(at)) => (7, *at),
-        FileFault::Ipc(IpcError::Broken(fault)) => (rule_number(fault.rule), fault.at),
     }
 }
 
@@ -89,12 +48,6 @@ pub extern "C" fn geoarrow_check(
     };
     match report_file(alloc, None, bytes, infer) {
         Ok(report) => fill(report.lines.as_bytes(), out, len),
-        Err(fault) => {
-            let (number, place) = refusal_of(&fault);
-            if number != MEMORY {
-                *len = place;
-            }
-            number
-        }
+        Err(fault) => refuse(refusal_of(&fault), len),
     }
 }

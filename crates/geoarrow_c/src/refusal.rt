@@ -1,0 +1,60 @@
+//! The numbers by which bytes are refused.
+ghost use Rattle.std.specs.Prelude.{◌≡◌, ◌≢◌, ◌⊎◌, ◌≤◌};
+ghost use Rattle.geoarrow_c.specs.Refusals.{rule_number, ipc_number, fault_number, ipc_place, fault_place};
+
+use crate::status::MEMORY;
+use arrow_ipc::{IpcError, Rule};
+use column_files::FileFault;
+use parquet_schema::SchemaError;
+
+/// The number of a rule.
+fn rule_number(rule: Rule) -> u8
+    ensures { (result ≡ rule_number rule) × (5 ≤ result) }
+{
+    match rule {
+        Rule::Envelope => 16,
+        Rule::Number => 17,
+        Rule::Offset => 18,
+        Rule::Vtable => 19,
+        Rule::Slot => 20,
+        Rule::Text => 21,
+        Rule::Utf8 => 22,
+        Rule::Vector => 23,
+        Rule::Missing => 24,
+        Rule::Message => 25,
+        Rule::Tag => 26,
+        Rule::Parameter => 27,
+        Rule::Children => 28,
+        Rule::TypeIds => 29,
+        Rule::Depth => 30,
+    }
+}
+
+/// The number of why a file is not read, and the place.
+pub(crate) fn refusal_of(fault: &FileFault) -> (u8, usize)
+    ensures number { result.0 ≡ fault_number fault.now }
+    ensures place { result.1 ≡ fault_place fault.now }
+    ensures status { (result.0 ≡ 2) ⊎ (5 ≤ result.0) }
+{
+    match fault {
+        FileFault::OutOfMemory | FileFault::Ipc(IpcError::OutOfMemory) => (MEMORY, 0),
+        FileFault::NoField(before, _) => (5, *before),
+        FileFault::Parquet(SchemaError::OutOfMemory) => (MEMORY, 0),
+        FileFault::Parquet(_) => (6, 0),
+        FileFault::Ipc(IpcError::Budget(at)) => (7, *at),
+        FileFault::Ipc(IpcError::Broken(fault)) => (rule_number(fault.rule), fault.at),
+    }
+}
+
+/// Writes the place of a refusal, which is its second part, to `len`; when out of memory `len` is unchanged. Returns the number, its first part.
+pub(crate) fn refuse(refusal: (u8, usize), len: &mut usize) -> u8
+    ensures number { result ≡ refusal.0 }
+    ensures place { refusal.0 ≢ 2 → len.new ≡ refusal.1 }
+    ensures kept { refusal.0 ≡ 2 → len.new ≡ len.old }
+{
+    let (number, place) = refusal;
+    if number != MEMORY {
+        *len = place;
+    }
+    number
+}
