@@ -58,24 +58,7 @@ class Columns(List[Column]):
 def columns_of(report: str) -> Columns:
     """The columns of a report, of which each line is one."""
     lines = report.split("\n")[:-1]
-    return Columns(map(_column, _values(lines), lines))
-
-
-def _values(lines: List[str]) -> Any:
-    """The JSON of lines."""
-    text = f"[{','.join(lines)}]"
-    try:
-        return json.loads(text)
-    except ValueError:  # from Python 3.11 on, of a whole number with thousands of digits
-        return json.loads(text, parse_int=_number)
-
-
-def _number(digits: str) -> Any:
-    """A whole number, or its float where it has more digits than Python converts."""
-    try:
-        return int(digits)
-    except ValueError:
-        return float(digits)
+    return Columns(map(_column, json.loads(f"[{','.join(lines)}]"), lines))
 
 
 def _column(said: Dict[str, Any], line: str) -> Column:
