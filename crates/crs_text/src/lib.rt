@@ -5,4 +5,4 @@
 mod members;
 mod text;
 
-pub use text::crs_text;
+pub use text::{crs_text, crs_text_with_scratch};

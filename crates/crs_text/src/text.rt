@@ -25,8 +25,24 @@ use value_tokens::MAX_DEPTH;
 pub fn crs_text<'a>(alloc: Global, text: &'a str) -> Result<Option<&'a str>, AllocError>
     ensures { IfOk result (λ o. IsCrsText text.now (option_map (λ c. c.now) o)) }
 {
-    let mut scratch = Scratch::new(alloc);
-    let mut reader = Reader::new(text, &mut scratch)?;
+    crs_text_with_scratch(text, &mut Scratch::new(alloc))
+}
+
+/// What [`crs_text`] answers. The scratch buffer is kept by the caller from text to text: a new one has 16 KiB to clear. Errs only when
+/// out of memory.
+///
+/// ```rust
+/// let mut scratch = Scratch::new(alloc);
+/// assert_eq!(rt; crs_text_with_scratch(r#"{"crs":4326}"#, &mut scratch)?, Some("4326"));
+/// assert_eq!(rt; crs_text_with_scratch("{}", &mut scratch)?, None);
+/// ```
+pub fn crs_text_with_scratch<'a>(
+    text: &'a str,
+    scratch: &mut Scratch,
+) -> Result<Option<&'a str>, AllocError>
+    ensures { IfOk result (λ o. IsCrsText text.now (option_map (λ c. c.now) o)) }
+{
+    let mut reader = Reader::new(text, scratch)?;
     match crs_place(text, &mut reader) {
         Some(place) => Ok(Some(&text[place.from..place.to])),
         None => Ok(None),
