@@ -1,12 +1,13 @@
-/* A caller of geoarrow.h, which native/test compiles: caller answers|faults|threads|stack < REQUESTS
+/* A caller of geoarrow.h, which native/test compiles: caller answers|faults|threads|stack|leaks < REQUESTS
  *
- * A request is a byte for the call (0 geoarrow_answer, 1 geoarrow_run, 2 geoarrow_check), one for the number that the call takes, the
- * length of its bytes in four bytes, the lowest first, and the bytes.
+ * A request is a byte for the call (0 geoarrow_answer, 1 geoarrow_run, 2 geoarrow_check, 3 geoarrow_write_schema), one for the number that
+ * the call takes, if it does, the length of its bytes in four bytes, the lowest first, and the bytes.
  *   answers  calls with room, with each size of buffer that is too small (of long texts some), and between guards; writes for each
  *            request its status in a byte, `*len` in eight, and the text
  *   faults   over the library of bin/faults: each request for memory refused, one at a time
  *   threads  all calls from eight threads at once
  *   stack    all calls from a thread with GEOARROW_STACK bytes of stack
+ *   leaks    no calls: it forgets blocks of memory, so that a detector of leaks shows whether it works
  * The last line on standard error is `N passed, M failed`, calls counted. */
 #define _POSIX_C_SOURCE 200809L
 #include "geoarrow.h"
@@ -29,7 +30,13 @@ typedef struct {
 
 enum { GUARD = 64, THREADS = 8, ROUNDS = 6, LONG = 100000 };
 static const size_t UNSET = (size_t)0x5a5a5a5a;
-static const call_t CALLS[] = {geoarrow_answer, geoarrow_run, geoarrow_check};
+
+static uint8_t write_schema(uint8_t number, const uint8_t *lines, size_t lines_len, uint8_t *out, size_t out_len, size_t *len) {
+    (void)number;
+    return geoarrow_write_schema(lines, lines_len, out, out_len, len);
+}
+
+static const call_t CALLS[] = {geoarrow_answer, geoarrow_run, geoarrow_check, write_schema};
 
 static request_t *requests;
 static size_t count, passed, failed;
@@ -144,6 +151,13 @@ static void in_threads(size_t number, size_t stack) {
     }
 }
 
+static void *volatile forgotten;
+
+static void leaks(void) {
+    for (int i = 0; i < 1000; i++) forgotten = room_for(100);
+    forgotten = NULL;
+}
+
 static void read_requests(void) {
     size_t room = 0;
     uint8_t head[6];
@@ -163,7 +177,9 @@ int main(int words, char **word) {
     if (geoarrow_version() != GEOARROW_VERSION) return 6;
     read_requests();
     for (size_t i = 0; i < count; i++) answer(&requests[i]);
-    if (!strcmp(mode, "threads")) {
+    if (!strcmp(mode, "leaks")) {
+        leaks();
+    } else if (!strcmp(mode, "threads")) {
         for (int round = 0; round < ROUNDS; round++) in_threads(THREADS, 0);
     } else if (!strcmp(mode, "stack")) {
         in_threads(1, GEOARROW_STACK);
