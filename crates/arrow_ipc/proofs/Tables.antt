@@ -39,8 +39,13 @@ module _ (x y : List ℕ) (whole : length x % 8 ≡ 0) where
     unfolding opened_at
     opened =
         let all = long in
-        rw (vtable_is (x ++ y) (length x) k back (omega (arith, whole)) some less (omega (arith, all, within)) (drop_at x y (length x) refl ∙ begins),
-        u16_past (length x + k) k a b rest refl (omega (arith, fourth)) sizes, sized, ahead_is (x ++ y) (length x + k) Vtable size (omega (arith, all, within)), even) refl
+        rw (
+          vtable_is (x ++ y) (length x) k back (omega (arith, whole)) some less (omega (arith, all, within)) (drop_at x y (length x) refl ∙ begins),
+          u16_past (length x + k) k a b rest refl (omega (arith, fourth)) sizes,
+          sized,
+          ahead_is (x ++ y) (length x + k) Vtable size (omega (arith, all, within)),
+          even,
+        ) refl
 
     pub past : (i : ℕ) → size < 6 + 2 * i → slot_at (x ++ y) (length x) i ≡ Ok None
     unfolding slot_at slot_of
@@ -51,8 +56,13 @@ module _ (x y : List ℕ) (whole : length x % 8 ≡ 0) where
       unfolding slot_at slot_of
       far_is far is =
           let all = long in
-          rw (opened, is_not_lt size (6 + 2 * i) has, ahead_is (x ++ y) (length x + k) Vtable (4 + 2 * i) (omega (arith, all, within, has)),
-          u16_past (length x + k + (4 + 2 * i)) (k + (4 + 2 * i)) c d more (omega arith) (omega (arith, fourth)) entry, is) refl
+          rw (
+            opened,
+            is_not_lt size (6 + 2 * i) has,
+            ahead_is (x ++ y) (length x + k) Vtable (4 + 2 * i) (omega (arith, all, within, has)),
+            u16_past (length x + k + (4 + 2 * i)) (k + (4 + 2 * i)) c d more (omega arith) (omega (arith, fourth)) entry,
+            is,
+          ) refl
 
       pub missing : from_le_bytes w16 (c ∷ d ∷ []) ≡ 0 → slot_at (x ++ y) (length x) i ≡ Ok None
       missing none = far_is 0 none

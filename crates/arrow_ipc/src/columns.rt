@@ -47,8 +47,8 @@ fn entry_at(bytes: &[u8], at: usize) -> Result<(&str, &str), Fault>
     ensures { map_ok (λ e. (e.0.now, e.1.now)) result ≡ entry_at bytes.now at }
 {
     let table = open(bytes, target_at(bytes, at)?)?;
-    let key = needed_text_in(bytes, table, 0)?;
-    let text = needed_text_in(bytes, table, 1)?;
+    let key = needed_text_in(bytes, &table, 0)?;
+    let text = needed_text_in(bytes, &table, 1)?;
     Ok((key, text))
 }
 

@@ -62,9 +62,9 @@ pub(crate) enum Kind {
 
 /// The unit in slot 0.
 #[tactic(auto, unfolding(crate::specs::Kinds::unit_in))]
-fn unit_in(bytes: &[u8], table: Table, missing: u16) -> Result<Unit, Fault>
-    requires { IsOpen bytes.now table }
-    ensures { result ≡ unit_in bytes.now table.at missing }
+fn unit_in(bytes: &[u8], table: &Table, missing: u16) -> Result<Unit, Fault>
+    requires { IsOpen bytes.now table.now }
+    ensures { result ≡ unit_in bytes.now table.now.at missing }
 {
     match u16_in(bytes, table, 0, missing)? {
         0 => Ok(Unit::Second),
@@ -77,9 +77,9 @@ fn unit_in(bytes: &[u8], table: Table, missing: u16) -> Result<Unit, Fault>
 
 /// An integer by its width and sign.
 #[tactic(auto, unfolding(crate::specs::Kinds::int_at))]
-pub(crate) fn int_at(bytes: &[u8], table: Table) -> Result<Kind, Fault>
-    requires { IsOpen bytes.now table }
-    ensures { result ≡ int_at bytes.now table.at }
+pub(crate) fn int_at(bytes: &[u8], table: &Table) -> Result<Kind, Fault>
+    requires { IsOpen bytes.now table.now }
+    ensures { result ≡ int_at bytes.now table.now.at }
 {
     let width = u32_in(bytes, table, 0, 0)?;
     let signed = flag_in(bytes, table, 1)?;
@@ -98,9 +98,9 @@ pub(crate) fn int_at(bytes: &[u8], table: Table) -> Result<Kind, Fault>
 
 /// A float by its precision.
 #[tactic(auto, unfolding(crate::specs::Kinds::float_at))]
-fn float_at(bytes: &[u8], table: Table) -> Result<Kind, Fault>
-    requires { IsOpen bytes.now table }
-    ensures { result ≡ float_at bytes.now table.at }
+fn float_at(bytes: &[u8], table: &Table) -> Result<Kind, Fault>
+    requires { IsOpen bytes.now table.now }
+    ensures { result ≡ float_at bytes.now table.now.at }
 {
     match u16_in(bytes, table, 0, 0)? {
         0 => Ok(Kind::Float16),
@@ -119,9 +119,9 @@ fn fits_byte(number: u32) -> bool
 
 /// A decimal by its precision, scale and width.
 #[tactic(auto, unfolding(crate::specs::Kinds::decimal_at))]
-fn decimal_at(bytes: &[u8], table: Table) -> Result<Kind, Fault>
-    requires { IsOpen bytes.now table }
-    ensures { result ≡ decimal_at bytes.now table.at }
+fn decimal_at(bytes: &[u8], table: &Table) -> Result<Kind, Fault>
+    requires { IsOpen bytes.now table.now }
+    ensures { result ≡ decimal_at bytes.now table.now.at }
 {
     let precision = u32_in(bytes, table, 0, 0)?;
     let scale = u32_in(bytes, table, 1, 0)?;
@@ -137,9 +137,9 @@ fn decimal_at(bytes: &[u8], table: Table) -> Result<Kind, Fault>
 
 /// A date by its unit.
 #[tactic(auto, unfolding(crate::specs::Kinds::date_at))]
-fn date_at(bytes: &[u8], table: Table) -> Result<Kind, Fault>
-    requires { IsOpen bytes.now table }
-    ensures { result ≡ date_at bytes.now table.at }
+fn date_at(bytes: &[u8], table: &Table) -> Result<Kind, Fault>
+    requires { IsOpen bytes.now table.now }
+    ensures { result ≡ date_at bytes.now table.now.at }
 {
     match u16_in(bytes, table, 0, 1)? {
         0 => Ok(Kind::Date32),
@@ -160,9 +160,9 @@ pub(crate) fn time_width(unit: Unit) -> u32
 
 /// A time of day by its unit, with its width.
 #[tactic(auto, unfolding(crate::specs::Kinds::time_at))]
-fn time_at(bytes: &[u8], table: Table) -> Result<Kind, Fault>
-    requires { IsOpen bytes.now table }
-    ensures { result ≡ time_at bytes.now table.at }
+fn time_at(bytes: &[u8], table: &Table) -> Result<Kind, Fault>
+    requires { IsOpen bytes.now table.now }
+    ensures { result ≡ time_at bytes.now table.now.at }
 {
     let unit = unit_in(bytes, table, 1)?;
     let width = u32_in(bytes, table, 1, 32)?;
@@ -175,9 +175,9 @@ fn time_at(bytes: &[u8], table: Table) -> Result<Kind, Fault>
 
 /// An interval by its unit.
 #[tactic(auto, unfolding(crate::specs::Kinds::interval_at))]
-fn interval_at(bytes: &[u8], table: Table) -> Result<Kind, Fault>
-    requires { IsOpen bytes.now table }
-    ensures { result ≡ interval_at bytes.now table.at }
+fn interval_at(bytes: &[u8], table: &Table) -> Result<Kind, Fault>
+    requires { IsOpen bytes.now table.now }
+    ensures { result ≡ interval_at bytes.now table.now.at }
 {
     match u16_in(bytes, table, 0, 0)? {
         0 => Ok(Kind::YearMonthInterval),
@@ -189,9 +189,9 @@ fn interval_at(bytes: &[u8], table: Table) -> Result<Kind, Fault>
 
 /// A union by its mode.
 #[tactic(auto, unfolding(crate::specs::Kinds::union_at))]
-fn union_at(bytes: &[u8], table: Table) -> Result<Kind, Fault>
-    requires { IsOpen bytes.now table }
-    ensures { result ≡ union_at bytes.now table.at }
+fn union_at(bytes: &[u8], table: &Table) -> Result<Kind, Fault>
+    requires { IsOpen bytes.now table.now }
+    ensures { result ≡ union_at bytes.now table.now.at }
 {
     match u16_in(bytes, table, 0, 0)? {
         0 => Ok(Kind::Union(UnionMode::Sparse)),
@@ -202,9 +202,9 @@ fn union_at(bytes: &[u8], table: Table) -> Result<Kind, Fault>
 
 /// The size in slot 0, which is not negative.
 #[tactic(auto, unfolding(crate::specs::Kinds::size_in))]
-fn size_in(bytes: &[u8], table: Table) -> Result<i32, Fault>
-    requires { IsOpen bytes.now table }
-    ensures { result ≡ size_in bytes.now table.at }
+fn size_in(bytes: &[u8], table: &Table) -> Result<i32, Fault>
+    requires { IsOpen bytes.now table.now }
+    ensures { result ≡ size_in bytes.now table.now.at }
 {
     let size = u32_in(bytes, table, 0, 0)?;
     if size < 0x8000_0000 {
@@ -216,9 +216,9 @@ fn size_in(bytes: &[u8], table: Table) -> Result<i32, Fault>
 
 /// A type by its tag, and its table.
 #[tactic(auto, unfolding(crate::specs::Kinds::kind_at))]
-pub(crate) fn kind_at(bytes: &[u8], tag: u8, table: Table) -> Result<Kind, Fault>
-    requires { IsOpen bytes.now table }
-    ensures { result ≡ kind_at bytes.now tag table.at }
+pub(crate) fn kind_at(bytes: &[u8], tag: u8, table: &Table) -> Result<Kind, Fault>
+    requires { IsOpen bytes.now table.now }
+    ensures { result ≡ kind_at bytes.now tag table.now.at }
 {
     match tag {
         1 => Ok(Kind::Null),

@@ -24,9 +24,9 @@ fn u64_at(bytes: &[u8], at: usize) -> Result<u64, Fault>
 
 /// A number of eight bytes in a slot; 0 where it is missing.
 #[tactic(auto, unfolding(crate::specs::Longs::u64_in))]
-pub(crate) fn u64_in(bytes: &[u8], table: Table, i: u16) -> Result<u64, Fault>
-    requires { IsOpen bytes.now table }
-    ensures { result ≡ u64_in bytes.now table.at i }
+pub(crate) fn u64_in(bytes: &[u8], table: &Table, i: u16) -> Result<u64, Fault>
+    requires { IsOpen bytes.now table.now }
+    ensures { result ≡ u64_in bytes.now table.now.at i }
 {
     match slot_at(bytes, table, i)? {
         None => Ok(0),

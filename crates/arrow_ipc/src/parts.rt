@@ -44,9 +44,10 @@ pub(crate) struct Parts<'a> {
 
 /// The tag of a column's type.
 #[tactic(auto, unfolding(crate::specs::Parts::tag_in))]
-fn tag_in(bytes: &[u8], table: Table) -> Result<u8, Fault>
-    requires { IsOpen bytes.now table }
-    ensures { result ≡ tag_in bytes.now table.at }
+#[inline(always)]
+fn tag_in(bytes: &[u8], table: &Table) -> Result<u8, Fault>
+    requires { IsOpen bytes.now table.now }
+    ensures { result ≡ tag_in bytes.now table.now.at }
 {
     let tag = u8_in(bytes, table, 2, 0)?;
     match tag {
@@ -58,9 +59,10 @@ fn tag_in(bytes: &[u8], table: Table) -> Result<u8, Fault>
 
 /// The time zone of a timestamp; of another type the empty text.
 #[tactic(auto, unfolding(crate::specs::Parts::zone_in))]
-fn zone_in(bytes: &[u8], tag: u8, table: Table) -> Result<&str, Fault>
-    requires { IsOpen bytes.now table }
-    ensures { map_ok (λ s. s.now) result ≡ zone_in bytes.now tag table.at }
+#[inline(always)]
+fn zone_in<'a>(bytes: &'a [u8], tag: u8, table: &Table) -> Result<&'a str, Fault>
+    requires { IsOpen bytes.now table.now }
+    ensures { map_ok (λ s. s.now) result ≡ zone_in bytes.now tag table.now.at }
 {
     if tag == 10 {
         text_in(bytes, table, 1)
@@ -71,29 +73,29 @@ fn zone_in(bytes: &[u8], tag: u8, table: Table) -> Result<&str, Fault>
 
 /// The kind of a dictionary's indices.
 #[tactic(auto, using(crate::proofs::Opened::u32_opens), unfolding(crate::specs::Parts::index_at, crate::specs::Kinds::int_at))]
-fn index_at(bytes: &[u8], table: Table) -> Result<Kind, Fault>
-    requires { IsOpen bytes.now table }
-    ensures { result ≡ index_at bytes.now table.at }
+fn index_at(bytes: &[u8], table: &Table) -> Result<Kind, Fault>
+    requires { IsOpen bytes.now table.now }
+    ensures { result ≡ index_at bytes.now table.now.at }
 {
     match slot_at(bytes, table, 1)? {
         None => Ok(Kind::Int32),
-        Some(slot) => int_at(bytes, open(bytes, target_at(bytes, slot)?)?),
+        Some(slot) => int_at(bytes, &open(bytes, target_at(bytes, slot)?)?),
     }
 }
 
 /// A column's dictionary, if it has one.
 #[tactic(auto, using(crate::proofs::Opened::u64_opens), unfolding(crate::specs::Parts::index_in))]
-fn index_in(bytes: &[u8], table: Table) -> Result<Option<Index>, Fault>
-    requires { IsOpen bytes.now table }
-    ensures { result ≡ index_in bytes.now table.at }
+fn index_in(bytes: &[u8], table: &Table) -> Result<Option<Index>, Fault>
+    requires { IsOpen bytes.now table.now }
+    ensures { result ≡ index_in bytes.now table.now.at }
 {
     match slot_at(bytes, table, 4)? {
         None => Ok(None),
         Some(slot) => {
             let dictionary = open(bytes, target_at(bytes, slot)?)?;
-            let _id = u64_in(bytes, dictionary, 0)?;
-            let kind = index_at(bytes, dictionary)?;
-            let ordered = flag_in(bytes, dictionary, 2)?;
+            let _id = u64_in(bytes, &dictionary, 0)?;
+            let kind = index_at(bytes, &dictionary)?;
+            let ordered = flag_in(bytes, &dictionary, 2)?;
             Ok(Some(Index { kind, ordered }))
         }
     }
@@ -101,9 +103,10 @@ fn index_in(bytes: &[u8], table: Table) -> Result<Option<Index>, Fault>
 
 /// Where the type ids of a union are; `None` where they are missing, and of another type.
 #[tactic(auto, unfolding(crate::specs::Parts::ids_in))]
-fn ids_in(bytes: &[u8], tag: u8, table: Table) -> Result<Option<(usize, usize)>, Fault>
-    requires { IsOpen bytes.now table }
-    ensures is { result ≡ ids_in bytes.now tag table.at }
+#[inline(always)]
+fn ids_in(bytes: &[u8], tag: u8, table: &Table) -> Result<Option<(usize, usize)>, Fault>
+    requires { IsOpen bytes.now table.now }
+    ensures is { result ≡ ids_in bytes.now tag table.now.at }
     ensures within { IfOk result (λ o. IfSome o (λ p. p.0 + 4 * p.1 ≤ length bytes.now)) }
 {
     if tag != 14 {
@@ -117,6 +120,7 @@ fn ids_in(bytes: &[u8], tag: u8, table: Table) -> Result<Option<(usize, usize)>,
 
 /// What the table of a column, to which the offset at a position leads, says of the column itself.
 #[tactic(auto, using(crate::proofs::Opened::text_opens, crate::proofs::Opened::slot_opens), unfolding(crate::specs::Parts::parts_at, crate::specs::Parts::parts_in))]
+#[inline(never)]
 pub(crate) fn parts_at(bytes: &[u8], at: usize) -> Result<Parts<'_>, Fault>
     ensures is { map_ok parts_of result ≡ parts_at bytes.now at }
     ensures children { IfOk result (λ p. p.children.0 + 4 * p.children.1 ≤ length bytes.now) }
@@ -124,17 +128,17 @@ pub(crate) fn parts_at(bytes: &[u8], at: usize) -> Result<Parts<'_>, Fault>
     ensures texts { IfOk result (λ p. p.texts.0 + 4 * p.texts.1 ≤ length bytes.now) }
 {
     let table = open(bytes, target_at(bytes, at)?)?;
-    let name = text_in(bytes, table, 0)?;
-    let nullable = flag_in(bytes, table, 1)?;
-    let tag = tag_in(bytes, table)?;
-    let value = open(bytes, table_in(bytes, table, 3)?)?;
-    let _first = slot_at(bytes, value, 0)?;
-    let kind = kind_at(bytes, tag, value)?;
-    let zone = zone_in(bytes, tag, value)?;
-    let ids = ids_in(bytes, tag, value)?;
-    let index = index_in(bytes, table)?;
-    let children = vector_in(bytes, table, 5)?;
-    let texts = vector_in(bytes, table, 6)?;
+    let name = text_in(bytes, &table, 0)?;
+    let nullable = flag_in(bytes, &table, 1)?;
+    let tag = tag_in(bytes, &table)?;
+    let value = open(bytes, table_in(bytes, &table, 3)?)?;
+    let _first = slot_at(bytes, &value, 0)?;
+    let kind = kind_at(bytes, tag, &value)?;
+    let zone = zone_in(bytes, tag, &value)?;
+    let ids = ids_in(bytes, tag, &value)?;
+    let index = index_in(bytes, &table)?;
+    let children = vector_in(bytes, &table, 5)?;
+    let texts = vector_in(bytes, &table, 6)?;
     Ok(Parts {
         table: table.at,
         name,

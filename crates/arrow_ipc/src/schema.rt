@@ -55,12 +55,12 @@ fn head_at(bytes: &[u8], table: usize) -> Result<Head, Fault>
     ensures texts { IfOk result (λ h. h.texts.0 + 4 * h.texts.1 ≤ length bytes.now) }
 {
     let table = open(bytes, table)?;
-    let endianness = match u16_in(bytes, table, 0, 0)? {
+    let endianness = match u16_in(bytes, &table, 0, 0)? {
         0 => Endianness::Little,
         _ => Endianness::Big,
     };
-    let fields = needed_vector_in(bytes, table, 1)?;
-    let texts = vector_in(bytes, table, 2)?;
+    let fields = needed_vector_in(bytes, &table, 1)?;
+    let texts = vector_in(bytes, &table, 2)?;
     Ok(Head {
         endianness,
         fields,
@@ -70,9 +70,9 @@ fn head_at(bytes: &[u8], table: usize) -> Result<Head, Fault>
 
 /// Whether the length of a message's body, of eight bytes, is not 0.
 #[tactic(auto, unfolding(crate::specs::Schema::has_body))]
-fn has_body(bytes: &[u8], table: Table) -> Result<bool, Fault>
-    requires { IsOpen bytes.now table }
-    ensures { result ≡ has_body bytes.now table.at }
+fn has_body(bytes: &[u8], table: &Table) -> Result<bool, Fault>
+    requires { IsOpen bytes.now table.now }
+    ensures { result ≡ has_body bytes.now table.now.at }
 {
     let size = u64_in(bytes, table, 3)?;
     Ok(size != 0)
@@ -84,13 +84,13 @@ fn message_at(bytes: &[u8]) -> Result<usize, Fault>
     ensures { result ≡ message_at bytes.now }
 {
     let message = open(bytes, target_at(bytes, 0)?)?;
-    let version = u16_in(bytes, message, 0, 0)?;
-    let tag = u8_in(bytes, message, 1, 0)?;
-    let body = has_body(bytes, message)?;
+    let version = u16_in(bytes, &message, 0, 0)?;
+    let tag = u8_in(bytes, &message, 1, 0)?;
+    let body = has_body(bytes, &message)?;
     if body || tag != 1 || version < 3 || version > 4 {
         return Err(Fault::new(Rule::Message, message.at));
     }
-    table_in(bytes, message, 2)
+    table_in(bytes, &message, 2)
 }
 
 /// Where the schema of a file's footer is.
@@ -99,11 +99,11 @@ fn footer_at(bytes: &[u8]) -> Result<usize, Fault>
     ensures { result ≡ footer_at bytes.now }
 {
     let footer = open(bytes, target_at(bytes, 0)?)?;
-    let version = u16_in(bytes, footer, 0, 0)?;
+    let version = u16_in(bytes, &footer, 0, 0)?;
     if version < 3 || version > 4 {
         return Err(Fault::new(Rule::Message, footer.at));
     }
-    table_in(bytes, footer, 1)
+    table_in(bytes, &footer, 1)
 }
 
 /// The bytes of that size from a position on, which are some.

@@ -9,9 +9,10 @@ use crate::wire::{Table, slot_at, target_at, u8_at, u16_at, u32_at, utf8_at, vec
 
 /// A byte in a slot.
 #[tactic(auto, unfolding(crate::specs::Slots::u8_in))]
-pub(crate) fn u8_in(bytes: &[u8], table: Table, i: u16, missing: u8) -> Result<u8, Fault>
-    requires { IsOpen bytes.now table }
-    ensures { result ≡ u8_in bytes.now table.at i missing }
+#[inline(always)]
+pub(crate) fn u8_in(bytes: &[u8], table: &Table, i: u16, missing: u8) -> Result<u8, Fault>
+    requires { IsOpen bytes.now table.now }
+    ensures { result ≡ u8_in bytes.now table.now.at i missing }
 {
     match slot_at(bytes, table, i)? {
         None => Ok(missing),
@@ -21,9 +22,10 @@ pub(crate) fn u8_in(bytes: &[u8], table: Table, i: u16, missing: u8) -> Result<u
 
 /// Whether a slot holds a byte other than 0.
 #[tactic(auto, unfolding(crate::specs::Slots::flag_in))]
-pub(crate) fn flag_in(bytes: &[u8], table: Table, i: u16) -> Result<bool, Fault>
-    requires { IsOpen bytes.now table }
-    ensures { result ≡ flag_in bytes.now table.at i }
+#[inline(always)]
+pub(crate) fn flag_in(bytes: &[u8], table: &Table, i: u16) -> Result<bool, Fault>
+    requires { IsOpen bytes.now table.now }
+    ensures { result ≡ flag_in bytes.now table.now.at i }
 {
     let byte = u8_in(bytes, table, i, 0)?;
     Ok(byte != 0)
@@ -31,9 +33,9 @@ pub(crate) fn flag_in(bytes: &[u8], table: Table, i: u16) -> Result<bool, Fault>
 
 /// A number of two bytes in a slot.
 #[tactic(auto, unfolding(crate::specs::Slots::u16_in))]
-pub(crate) fn u16_in(bytes: &[u8], table: Table, i: u16, missing: u16) -> Result<u16, Fault>
-    requires { IsOpen bytes.now table }
-    ensures { result ≡ u16_in bytes.now table.at i missing }
+pub(crate) fn u16_in(bytes: &[u8], table: &Table, i: u16, missing: u16) -> Result<u16, Fault>
+    requires { IsOpen bytes.now table.now }
+    ensures { result ≡ u16_in bytes.now table.now.at i missing }
 {
     match slot_at(bytes, table, i)? {
         None => Ok(missing),
@@ -43,9 +45,9 @@ pub(crate) fn u16_in(bytes: &[u8], table: Table, i: u16, missing: u16) -> Result
 
 /// A number of four bytes in a slot.
 #[tactic(auto, unfolding(crate::specs::Slots::u32_in))]
-pub(crate) fn u32_in(bytes: &[u8], table: Table, i: u16, missing: u32) -> Result<u32, Fault>
-    requires { IsOpen bytes.now table }
-    ensures { result ≡ u32_in bytes.now table.at i missing }
+pub(crate) fn u32_in(bytes: &[u8], table: &Table, i: u16, missing: u32) -> Result<u32, Fault>
+    requires { IsOpen bytes.now table.now }
+    ensures { result ≡ u32_in bytes.now table.now.at i missing }
 {
     match slot_at(bytes, table, i)? {
         None => Ok(missing),
@@ -55,9 +57,9 @@ pub(crate) fn u32_in(bytes: &[u8], table: Table, i: u16, missing: u32) -> Result
 
 /// The text to which a slot leads, or the empty text where it is missing.
 #[tactic(auto, unfolding(crate::specs::Slots::text_in))]
-pub(crate) fn text_in(bytes: &[u8], table: Table, i: u16) -> Result<&str, Fault>
-    requires { IsOpen bytes.now table }
-    ensures { map_ok (λ s. s.now) result ≡ text_in bytes.now table.at i }
+pub(crate) fn text_in<'a>(bytes: &'a [u8], table: &Table, i: u16) -> Result<&'a str, Fault>
+    requires { IsOpen bytes.now table.now }
+    ensures { map_ok (λ s. s.now) result ≡ text_in bytes.now table.now.at i }
 {
     match slot_at(bytes, table, i)? {
         None => Ok(""),
@@ -67,18 +69,19 @@ pub(crate) fn text_in(bytes: &[u8], table: Table, i: u16) -> Result<&str, Fault>
 
 /// The text to which a slot leads that a table must have.
 #[tactic(auto, unfolding(crate::specs::Slots::needed_text_in))]
-pub(crate) fn needed_text_in(bytes: &[u8], table: Table, i: u16) -> Result<&str, Fault>
-    requires { IsOpen bytes.now table }
-    ensures { map_ok (λ s. s.now) result ≡ needed_text_in bytes.now table.at i }
+pub(crate) fn needed_text_in<'a>(bytes: &'a [u8], table: &Table, i: u16) -> Result<&'a str, Fault>
+    requires { IsOpen bytes.now table.now }
+    ensures { map_ok (λ s. s.now) result ≡ needed_text_in bytes.now table.now.at i }
 {
     utf8_at(bytes, table_in(bytes, table, i)?)
 }
 
 /// Where a slot leads that a table must have.
 #[tactic(auto, unfolding(crate::specs::Slots::table_in))]
-pub(crate) fn table_in(bytes: &[u8], table: Table, i: u16) -> Result<usize, Fault>
-    requires { IsOpen bytes.now table }
-    ensures { result ≡ table_in bytes.now table.at i }
+#[inline(always)]
+pub(crate) fn table_in(bytes: &[u8], table: &Table, i: u16) -> Result<usize, Fault>
+    requires { IsOpen bytes.now table.now }
+    ensures { result ≡ table_in bytes.now table.now.at i }
 {
     match slot_at(bytes, table, i)? {
         None => Err(Fault::new(Rule::Missing, table.at)),
@@ -88,9 +91,10 @@ pub(crate) fn table_in(bytes: &[u8], table: Table, i: u16) -> Result<usize, Faul
 
 /// The vector to which a slot leads, or one with no elements where it is missing.
 #[tactic(auto, unfolding(crate::specs::Slots::vector_in))]
-pub(crate) fn vector_in(bytes: &[u8], table: Table, i: u16) -> Result<(usize, usize), Fault>
-    requires { IsOpen bytes.now table }
-    ensures is { result ≡ vector_in bytes.now table.at i }
+#[inline(always)]
+pub(crate) fn vector_in(bytes: &[u8], table: &Table, i: u16) -> Result<(usize, usize), Fault>
+    requires { IsOpen bytes.now table.now }
+    ensures is { result ≡ vector_in bytes.now table.now.at i }
     ensures within { IfOk result (λ p. p.0 + 4 * p.1 ≤ length bytes.now) }
 {
     match slot_at(bytes, table, i)? {
@@ -101,9 +105,9 @@ pub(crate) fn vector_in(bytes: &[u8], table: Table, i: u16) -> Result<(usize, us
 
 /// The vector to which a slot leads that a table must have.
 #[tactic(auto, unfolding(crate::specs::Slots::needed_vector_in))]
-pub(crate) fn needed_vector_in(bytes: &[u8], table: Table, i: u16) -> Result<(usize, usize), Fault>
-    requires { IsOpen bytes.now table }
-    ensures is { result ≡ needed_vector_in bytes.now table.at i }
+pub(crate) fn needed_vector_in(bytes: &[u8], table: &Table, i: u16) -> Result<(usize, usize), Fault>
+    requires { IsOpen bytes.now table.now }
+    ensures is { result ≡ needed_vector_in bytes.now table.now.at i }
     ensures within { IfOk result (λ p. p.0 + 4 * p.1 ≤ length bytes.now) }
 {
     vector_at(bytes, table_in(bytes, table, i)?)

@@ -91,6 +91,7 @@ pub(crate) struct Table {
 
 /// The table at a position, with its vtable.
 #[tactic(auto, unfolding(crate::specs::Wire::opened_at))]
+#[inline(always)]
 pub(crate) fn open(bytes: &[u8], at: usize) -> Result<Table, Fault>
     ensures is { result ≡ opened_at bytes.now at }
     ensures here { IfOk result (λ t. t.at ≡ at) }
@@ -106,9 +107,10 @@ pub(crate) fn open(bytes: &[u8], at: usize) -> Result<Table, Fault>
 
 /// Where a slot of a table is; `None` where the table does not have it.
 #[tactic(auto, using(crate::proofs::Opened::by_table, crate::proofs::Opened::within), unfolding(crate::specs::Wire::slot_of, crate::specs::Wire::ahead))]
-pub(crate) fn slot_at(bytes: &[u8], table: Table, i: u16) -> Result<Option<usize>, Fault>
-    requires { IsOpen bytes.now table }
-    ensures { result ≡ slot_at bytes.now table.at i }
+#[inline(always)]
+pub(crate) fn slot_at(bytes: &[u8], table: &Table, i: u16) -> Result<Option<usize>, Fault>
+    requires { IsOpen bytes.now table.now }
+    ensures { result ≡ slot_at bytes.now table.now.at i }
 {
     let entry = 4 + 2 * i as usize;
     if (table.size as usize) < entry + 2 {
