@@ -1,5 +1,5 @@
 -- A table that is opened, or why it is not.
-use Rattle.std.proofs.Common.{◌≡◌, ℕ, ◌+◌, ◌%◌, ◌≤◌, Bool, true, false, List, [], length, Ok, Err, refl, arith, ◌==◌, if◌then◌else◌}
+use Rattle.std.proofs.Common.{◌≡◌, ℕ, ◌+◌, ◌%◌, ◌≤◌, Bool, true, false, List, [], length, Ok, refl, arith, ◌==◌, if◌then◌else◌}
 use Rattle.std.proofs.lemmas.Bool.Decides.{nat_tests}
 use Rattle.arrow_ipc.specs.Fault.{◌>>=◌, breaks}
 use Rattle.arrow_ipc.specs.Wire.{vtable_at, u16_at, u32_at, ahead, utf8_at, opened_at, slot_of, slot_at}

@@ -53,6 +53,7 @@ fn entry_at(bytes: &[u8], at: usize) -> Result<(&str, &str), Fault>
 }
 
 /// Puts an entry of metadata to those before it.
+#[inline(never)]
 fn put_entry(
     alloc: Global,
     bytes: &[u8],
@@ -138,6 +139,7 @@ fn are_as_many(written: Option<(usize, usize)>, count: usize) -> bool
 
 /// The type ids of a union of so many children.
 #[tactic(auto, unfolding(crate::specs::Columns::ids_at))]
+#[inline(never)]
 fn read_ids(
     alloc: Global,
     bytes: &[u8],

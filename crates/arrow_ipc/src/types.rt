@@ -98,6 +98,7 @@ fn duration_text(alloc: Global, unit: Unit) -> Result<String, AllocError>
 }
 
 /// The text of a type that is neither one of the 26 nor nested.
+#[inline(never)]
 fn other_name(alloc: Global, kind: Kind, zone: &str) -> Result<Option<String>, AllocError>
     ensures { IfOk result (λ o. option_map string_bytes o ≡ other_name kind zone.now) }
 {
@@ -131,6 +132,7 @@ fn index_word(kind: Kind) -> &'static str
 }
 
 /// The text of a dictionary of values of that type.
+#[inline(never)]
 fn dictionary_text(alloc: Global, index: Index, values: &ColumnType) -> Result<String, AllocError>
     ensures { IfOk result (λ text. string_bytes text ≡ dictionary_text index (type_text (type_tree values.now))) }
 {
@@ -198,6 +200,7 @@ fn others(
 }
 
 /// A nested type; `None` where the number of children is wrong.
+#[inline(never)]
 fn nested_type(
     alloc: Global,
     kind: Kind,
