@@ -5,14 +5,11 @@ use Rattle.std.specs.Int.RustNames.{bit_or}
 use Rattle.std.proofs.lemmas.Nat.Bits.{bit_at_set_same, bit_at_set_other, bit_at-zero}
 use Rattle.std.proofs.lemmas.Bool.{cases_eq, ltb-true, ltb-false}
 use mir.Val.{bits}
-use Rattle.geoarrow_layout.specs.Summary.{IsBits, place_of}
-use Rattle.geoarrow_layout.specs.Steps.{AddsBit, AddsBits, CoordOf, DimensionOf}
+use Rattle.geoarrow_layout.proofs.Terms.{place_of, CoordOf, DimensionOf, CoordType, Dimension, LayoutFault, order_of}
+use Rattle.geoarrow_layout.specs.Summary.{IsBits}
+use Rattle.geoarrow_layout.specs.Steps.{AddsBit, AddsBits}
 use lib.IntN.{negsuc, nat_abs}
 use lib.Signed.{lt_z}
-use Rattle.geoarrow_layout.specs.declared.kinds.CoordType.{CoordType}
-use Rattle.geoarrow_layout.specs.declared.kinds.Dimension.{Dimension}
-use Rattle.geoarrow_layout.specs.declared.fault.LayoutFault.{LayoutFault}
-use Rattle.geoarrow_layout.specs.Kinds.{order_of}
 use Rattle.geoarrow_layout.proofs.Readings.{Answer, ok_same}
 
 pub adds_bit : (w : Width) (n i : ℕ) → i < bits w → AddsBit n i (bit_or n (1 * 2 ^ i % 2 ^ bits w))

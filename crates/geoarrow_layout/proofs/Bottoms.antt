@@ -1,20 +1,9 @@
 -- What stands below the lists, and which fault it is.
 use Rattle.std.proofs.Common.{◌≡◌, ◌<◌, ◌≤◌, inl, inr, ℕ, zero, suc, ℤ, ◌+◌, refl, sym, ap, subst, arith, add-one, Bool, Option, Some, None, Ok, Err, [], ◌∷◌}
-use Rattle.arrow_values.specs.Tree.{Text, Metadata, Tree, plain, list, large_list, fixed_size_list, struct, union, FieldTree, FieldTrees, MemberTrees}
-use Rattle.arrow_values.specs.declared.tree.UnionMode.{UnionMode}
-use Rattle.geoarrow_layout.specs.declared.kinds.CoordType.{CoordType}
-use Rattle.geoarrow_layout.specs.declared.kinds.Dimension.{Dimension}
-use Rattle.geoarrow_layout.specs.declared.fault.LayoutFault.{LayoutFault}
-use Rattle.geoarrow_layout.specs.declared.fault.LayoutFault.TheVariants.{UnexpectedType}
-use Rattle.geoarrow_layout.specs.declared.summary.ListWidth.{ListWidth}
-use Rattle.geoarrow_layout.specs.declared.summary.ListWidth.TheVariants.{List as Lists, LargeList as LargeLists}
-use Rattle.geoarrow_layout.specs.declared.summary.Bottom.{Bottom}
-use Rattle.geoarrow_layout.specs.declared.summary.Bottom.TheVariants.{FixedSizeList, Struct, Union, OtherWidth, Deep, Other}
-use Rattle.geoarrow_layout.specs.declared.summary.Summary.{Summary}
-use Rattle.geoarrow_layout.specs.Shapes.{ListsOver, Levels}
-use Rattle.geoarrow_layout.specs.FaultAt.{Faults, HasFault, CoordinateFault, BoxFault, MixedFault, GeometryFault, LevelFault, ListsFault}
-use Rattle.geoarrow_layout.specs.Summary.{IsFixedSize, IsStruct, IsInnerUnion, IsBottom, AreLevels, SummarizesBy}
-use Rattle.geoarrow_layout.specs.Steps.{TellsBoth, missing_fault}
+use Rattle.geoarrow_layout.proofs.Terms.{Text, Metadata, Tree, plain, list, large_list, fixed_size_list, struct, union, FieldTree, FieldTrees, MemberTrees, UnionMode, CoordType, Dimension, LayoutFault, UnexpectedType, ListWidth, Lists, LargeLists, Bottom, FixedSizeList, Struct, Union, OtherWidth, Deep, Other, Summary, ListsOver, Faults, HasFault, CoordinateFault, BoxFault, MixedFault, GeometryFault, LevelFault, ListsFault, IsBottom, AreLevels, SummarizesBy, TellsBoth}
+use Rattle.geoarrow_layout.specs.Shapes.{Levels}
+use Rattle.geoarrow_layout.specs.Summary.{IsFixedSize, IsStruct, IsInnerUnion}
+use Rattle.geoarrow_layout.specs.Steps.{missing_fault}
 use Rattle.geoarrow_layout.proofs.Readings.{Answer}
 
 -- one level more

@@ -1,18 +1,8 @@
 -- The data types that are written are pairwise distinct: the kind is read back from the tree.
 use Rattle.std.proofs.Common.{◌≡◌, cond, List, [], ◌∷◌, codes, refl, sym, ap, ◌∙◌}
 use Rattle.std.specs.Str.{bytes_eq}
-use Rattle.arrow_values.specs.Tree.{Text, Plain as PlainType, large_binary, binary_view, utf8, large_utf8, utf8_view, Tree, plain, list, large_list, fixed_size_list, struct, union, MemberTrees, no_members, member}
-use Rattle.geoarrow_layout.specs.declared.kinds.CoordType.{CoordType}
-use Rattle.geoarrow_layout.specs.declared.kinds.CoordType.TheVariants.{Interleaved, Separated}
-use Rattle.geoarrow_layout.specs.declared.kinds.Dimension.{Dimension}
-use Rattle.geoarrow_layout.specs.declared.kinds.Dimension.TheVariants.{XY, XYZ, XYM, XYZM}
-use Rattle.geoarrow_layout.specs.declared.encodings.NativeKind.{NativeKind}
-use Rattle.geoarrow_layout.specs.declared.encodings.NativeKind.TheVariants.{Point, LineString, Polygon, MultiPoint, MultiLineString, MultiPolygon, GeometryCollection}
-use Rattle.geoarrow_layout.specs.declared.encodings.Width.TheVariants.{Plain, Large, View}
-use Rattle.geoarrow_layout.specs.declared.encodings.Kind.{Kind}
-use Rattle.geoarrow_layout.specs.declared.encodings.Kind.TheVariants.{Native, Geometry, Rect, Wkb, Wkt}
-use Rattle.geoarrow_layout.specs.Shapes.{names_of}
-use Rattle.geoarrow_layout.specs.Layouts.{leaf_layout, layout}
+use Rattle.geoarrow_layout.proofs.Terms.{Text, PlainType, large_binary, binary_view, utf8, large_utf8, utf8_view, Tree, plain, list, large_list, fixed_size_list, struct, union, MemberTrees, no_members, member, CoordType, Interleaved, Separated, Dimension, XY, XYZ, XYM, XYZM, NativeKind, Point, LineString, Polygon, MultiPoint, MultiLineString, MultiPolygon, GeometryCollection, Plain, Large, View, Kind, Rect, Wkb, Wkt, names_of, leaf_layout, layout}
+use Rattle.geoarrow_layout.specs.declared.encodings.Kind.TheVariants.{Native, Geometry}
 
 -- what the names of a written tree say
 abbrev dimension_named : Text → Dimension

@@ -1,20 +1,7 @@
 -- The path to a fault, step by step.
 use Rattle.std.proofs.Common.{◌≡◌, ◌<◌, ◌≤◌, ◌+◌, inl, inr, Bool, true, false, is_ok, is_err, None, Some, ℕ, zero, suc, ℤ, pos, List, [], ◌∷◌, ◌++◌, ◌-◌, length, take, Result, OnOk, get_or, refl, sym, ap, subst, ◌∙◌, arith, append_assoc, Ok, Err}
-use Rattle.arrow_values.specs.Tree.{Tree, union, FieldTree, MemberTrees, no_members, member}
-use Rattle.arrow_values.specs.View.{field_trees, member_trees}
-use Rattle.arrow_values.specs.declared.tree.UnionMode.{UnionMode}
-use Rattle.geoarrow_layout.specs.declared.kinds.CoordType.{CoordType}
-use Rattle.geoarrow_layout.specs.declared.kinds.Dimension.{Dimension}
-use Rattle.geoarrow_layout.specs.declared.encodings.NativeKind.{NativeKind}
-use Rattle.geoarrow_layout.specs.declared.encodings.NativeKind.TheVariants.{GeometryCollection}
-use Rattle.geoarrow_layout.specs.declared.fault.LayoutFault.{LayoutFault}
-use Rattle.geoarrow_layout.specs.declared.summary.ListWidth.{ListWidth}
-use Rattle.geoarrow_layout.specs.declared.summary.ListWidth.TheVariants.{List as Lists, LargeList as LargeLists}
-use Rattle.geoarrow_layout.specs.Kinds.{type_id_of}
-use Rattle.geoarrow_layout.specs.Shapes.{levels_of, AllMembers, Member, GeometryMember}
-use Rattle.geoarrow_layout.specs.OneShape.{id_same}
-use Rattle.geoarrow_layout.specs.FaultAt.{Path, Located, Faults, HasFault, InItem, CoordinateFault, LevelFault, ListsFault, OverLeafFault, NativeFault, PartFault, FirstFault, UnionFault, MemberFault, MixedFault, GeometryMemberFault, GeometryFault, field_at, member_at}
-use Rattle.geoarrow_layout.specs.Steps.{LeadsTo, FirstOrNone, TellsBoth}
+use Rattle.geoarrow_layout.proofs.Terms.{Tree, union, FieldTree, MemberTrees, no_members, member, field_trees, member_trees, UnionMode, CoordType, Dimension, NativeKind, GeometryCollection, LayoutFault, ListWidth, Lists, LargeLists, type_id_of, levels_of, AllMembers, Member, GeometryMember, id_same, Path, Located, Faults, HasFault, InItem, CoordinateFault, LevelFault, ListsFault, OverLeafFault, NativeFault, PartFault, FirstFault, UnionFault, MemberFault, MixedFault, GeometryMemberFault, GeometryFault, LeadsTo, FirstOrNone, TellsBoth}
+use Rattle.geoarrow_layout.specs.FaultAt.{field_at, member_at}
 use Rattle.geoarrow_layout.proofs.Readings.{Answer, IsPartsOf, some_parts}
 use Rattle.geoarrow_layout.proofs.Bottoms.{list_in}
 use Rattle.geoarrow_layout.proofs.MemberLists.{Items, all_map, all_both, one_more}

@@ -3,18 +3,14 @@ use Rattle.std.proofs.Common.{◌≡◌, ◌↔◌, ◌⊎◌, inl, inr, suc, Bo
 use Rattle.std.specs.List.{list_any}
 use Rattle.std.specs.Str.{bytes_eq}
 use Rattle.std.proofs.lemmas.Slice.Eq.{bytes_eq-Decides}
-use Rattle.arrow_values.specs.Tree.{Text, FieldTree}
-use Rattle.arrow_values.specs.View.{field_trees}
-use Rattle.geoarrow_layout.specs.declared.kinds.Dimension.{Dimension}
-use Rattle.geoarrow_layout.specs.declared.kinds.Dimension.TheVariants.{XYZ, XYM}
-use Rattle.geoarrow_layout.specs.Shapes.{has_name, SameNames, IsSeparatedAs, names_of}
+use Rattle.geoarrow_layout.proofs.Terms.{Text, FieldTree, field_trees, Dimension, XYZ, XYM, has_name, IsSeparatedAs, names_of, SomeAt, place_in, known_names, is_float64, are_float64, has_bit}
+use Rattle.geoarrow_layout.specs.Shapes.{SameNames}
 use Rattle.std.specs.Int.{bit_at}
 use Rattle.std.proofs.lemmas.Bool.{eqb-true, or_cases, or_left, or_right}
 use Rattle.std.proofs.lemmas.Bool.Decides.{same_from_decides}
 use Rattle.std.proofs.Math.Bool.{and-true, and_assoc}
-use Rattle.geoarrow_layout.specs.Summary.{IsBits, SomeAt, place_in, known_names}
-use Rattle.geoarrow_layout.specs.Inferred.{is_float64, are_float64}
-use Rattle.geoarrow_layout.specs.Steps.{AddsBit, has_bit}
+use Rattle.geoarrow_layout.specs.Summary.{IsBits}
+use Rattle.geoarrow_layout.specs.Steps.{AddsBit}
 use Rattle.geoarrow_layout.proofs.MemberLists.{or_more, one_more}
 use Rattle.geoarrow_layout.proofs.BitSteps.{bits_added, adds_one, no_bits, bit_is}
 

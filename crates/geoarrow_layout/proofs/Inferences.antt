@@ -2,19 +2,12 @@
 use Rattle.std.proofs.Common.{◌≡◌, ◌↔◌, ◌<◌, inl, inr, ℕ, ℤ, pos, refl, sym, ap, subst, ◌∙◌, arith, Bool, true, false, ◌&&◌, Option, Some, None, List, [], ◌∷◌, length, codes}
 use Rattle.std.proofs.lemmas.Bool.{and_parts, cases_Bool}
 use Rattle.std.proofs.lemmas.Option.{some_pair_parts}
-use Rattle.arrow_values.specs.Tree.{Text, Metadata, Tree, list, large_list, fixed_size_list, struct, FieldTrees}
-use Rattle.geoarrow_layout.specs.declared.kinds.CoordType.{CoordType}
-use Rattle.geoarrow_layout.specs.declared.kinds.CoordType.TheVariants.{Interleaved, Separated}
-use Rattle.geoarrow_layout.specs.declared.kinds.Dimension.{Dimension}
-use Rattle.geoarrow_layout.specs.declared.kinds.Dimension.TheVariants.{XY, XYZ, XYM}
-use Rattle.geoarrow_layout.specs.declared.summary.ListWidth.{ListWidth}
-use Rattle.geoarrow_layout.specs.declared.summary.Bottom.TheVariants.{FixedSizeList, Struct}
-use Rattle.geoarrow_layout.specs.declared.summary.Summary.{Summary}
-use Rattle.geoarrow_layout.specs.Kinds.{size_of, interleaved_name}
-use Rattle.geoarrow_layout.specs.Shapes.{names_of, SameNames, IsSeparatedAs, Leaf}
-use Rattle.geoarrow_layout.specs.Summary.{IsBits, SomeAt, IsBottom, IsUnion, Summarizes}
-use Rattle.geoarrow_layout.specs.Inferred.{are_float64, AnswersSome, Inferred, IsInferredAs, IsInferredSize}
-use Rattle.geoarrow_layout.specs.Steps.{has_bit, is_measured, NamesSay, SizeSays}
+use Rattle.geoarrow_layout.proofs.Terms.{Text, Metadata, Tree, list, large_list, fixed_size_list, struct, FieldTrees, CoordType, Interleaved, Separated, Dimension, XY, XYZ, XYM, ListWidth, FixedSizeList, Struct, Summary, size_of, names_of, IsSeparatedAs, Leaf, SomeAt, IsBottom, IsUnion, Summarizes, are_float64, has_bit}
+use Rattle.geoarrow_layout.specs.Kinds.{interleaved_name}
+use Rattle.geoarrow_layout.specs.Shapes.{SameNames}
+use Rattle.geoarrow_layout.specs.Summary.{IsBits}
+use Rattle.geoarrow_layout.specs.Inferred.{AnswersSome, Inferred, IsInferredAs, IsInferredSize}
+use Rattle.geoarrow_layout.specs.Steps.{is_measured, NamesSay, SizeSays}
 use Rattle.geoarrow_layout.specs.OneShape.{apart, separated_same}
 use Rattle.geoarrow_layout.proofs.FieldSteps.{same_three, has_at}
 use Rattle.geoarrow_layout.proofs.Bottoms.{IsAList, listed, at_bottom}

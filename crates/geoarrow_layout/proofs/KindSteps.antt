@@ -2,28 +2,11 @@
 use Rattle.std.proofs.Common.{◌≡◌, ◌⊎◌, inl, inr, Bool, true≢false, IsTrue, is_ok, cond, refl, sym, ap, subst, ◌∙◌, ◌↔◌, IfOk, IfErr, Option, Some, None, Result, Ok, Err}
 use Rattle.std.specs.Str.{bytes_eq}
 use Rattle.std.proofs.lemmas.Option.{same_Some}
-use Rattle.arrow_values.specs.Tree.{Text, Tree}
-use Rattle.geoarrow_layout.specs.declared.kinds.CoordType.{CoordType}
-use Rattle.geoarrow_layout.specs.declared.kinds.Dimension.{Dimension}
-use Rattle.geoarrow_layout.specs.declared.encodings.NativeKind.{NativeKind}
-use Rattle.geoarrow_layout.specs.declared.encodings.NativeKind.TheVariants.{Point, LineString, Polygon, MultiPoint, MultiLineString, MultiPolygon, GeometryCollection}
-use Rattle.geoarrow_layout.specs.declared.encodings.Width.{Width}
-use Rattle.geoarrow_layout.specs.declared.encodings.Width.TheVariants.{Plain}
-use Rattle.geoarrow_layout.specs.declared.encodings.Kind.{Kind}
-use Rattle.geoarrow_layout.specs.declared.encodings.Kind.TheVariants.{Native as OfNative, Geometry as OfGeometry, Rect as OfRect, Wkb as OfWkb, Wkt as OfWkt}
-use Rattle.geoarrow_layout.specs.declared.names.ExtensionName.{ExtensionName}
+use Rattle.geoarrow_layout.proofs.Terms.{Text, Tree, CoordType, Dimension, NativeKind, Point, LineString, Polygon, MultiPoint, MultiLineString, MultiPolygon, GeometryCollection, Width, Plain, Kind, OfNative, OfGeometry, OfRect, OfWkb, OfWkt, ExtensionName, name_text, extension_of, name_of, Native, Geometry, BoxShape, IsBytes, IsText, Accepted, Accepts, IsStructured, AnswersOne, any_native_same, geometry_same, box_shape_same, LayoutFault, Summary, Summarizes, layout, IsAccepted, IsAcceptedStructure, Path, HasFault, FaultAt, Tells}
 use Rattle.geoarrow_layout.specs.declared.names.ExtensionName.TheVariants as names
-use Rattle.geoarrow_layout.specs.Kinds.{name_text, extension_of, name_of}
-use Rattle.geoarrow_layout.specs.Shapes.{Native, Geometry, BoxShape, IsBytes, IsText, Accepted, Accepts, IsStructured, AnswersKind, AnswersOne}
-use Rattle.geoarrow_layout.specs.OneShape.{any_native_same, geometry_same, box_shape_same}
-use Rattle.geoarrow_layout.specs.declared.fault.LayoutFault.{LayoutFault}
-use Rattle.geoarrow_layout.specs.declared.summary.Summary.{Summary}
-use Rattle.geoarrow_layout.specs.Summary.{Summarizes}
-use Rattle.geoarrow_layout.specs.Layouts.{layout}
+use Rattle.geoarrow_layout.specs.Shapes.{AnswersKind}
 use Rattle.geoarrow_layout.proofs.Distinct.{layouts_are_distinct}
-use Rattle.geoarrow_layout.specs.Candidates.{IsAccepted, IsAcceptedStructure}
-use Rattle.geoarrow_layout.specs.FaultAt.{Path, HasFault, FaultAt}
-use Rattle.geoarrow_layout.specs.Steps.{Tells, TellsKind}
+use Rattle.geoarrow_layout.specs.Steps.{TellsKind}
 use Rattle.geoarrow_layout.proofs.FaultLaws.{accepted_apart}
 use Rattle.geoarrow_layout.proofs.Readings.{exactly_one}
 

@@ -1,3 +1,4 @@
+pub mod Terms
 pub mod Readings
 pub mod FaultLaws
 pub mod FaultPaths

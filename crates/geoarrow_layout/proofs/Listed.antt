@@ -2,18 +2,10 @@
 use Rattle.std.proofs.Common.{◌≡◌, ◌<◌, ℕ, zero, suc, ◌+◌, ◌*◌, ◌-◌, Bool, true, ◌&&◌, nat_eq, List, [], ◌∷◌, length, get_or, refl, ap, lit<, arith}
 use Rattle.std.proofs.lemmas.Bool.{and_parts, eqb-true}
 use Rattle.std.specs.List.{Contains}
-use Rattle.geoarrow_layout.specs.declared.kinds.CoordType.{CoordType}
-use Rattle.geoarrow_layout.specs.declared.kinds.CoordType.TheVariants.{Interleaved, Separated}
-use Rattle.geoarrow_layout.specs.declared.kinds.Dimension.{Dimension}
-use Rattle.geoarrow_layout.specs.declared.kinds.Dimension.TheVariants.{XY}
-use Rattle.geoarrow_layout.specs.declared.encodings.NativeKind.{NativeKind}
-use Rattle.geoarrow_layout.specs.declared.encodings.NativeKind.TheVariants.{Point, LineString}
-use Rattle.geoarrow_layout.specs.declared.encodings.Width.TheVariants.{Plain, Large, View}
-use Rattle.geoarrow_layout.specs.declared.encodings.Kind.{Kind}
-use Rattle.geoarrow_layout.specs.declared.encodings.Kind.TheVariants.{Native, Geometry, Rect, Wkb, Wkt}
+use Rattle.geoarrow_layout.proofs.Terms.{CoordType, Interleaved, Separated, Dimension, XY, NativeKind, Point, LineString, Plain, Large, View, Kind, Rect, Wkb, Wkt, order_of, place_of}
+use Rattle.geoarrow_layout.specs.declared.encodings.Kind.TheVariants.{Native, Geometry}
 use Rattle.geoarrow_layout.specs.declared.encodings.TheConstants.Kind.{ALL}
-use Rattle.geoarrow_layout.specs.Kinds.{order_of, offset_of}
-use Rattle.geoarrow_layout.specs.Summary.{place_of}
+use Rattle.geoarrow_layout.specs.Kinds.{offset_of}
 
 -- where a native kind stands
 abbrev place : NativeKind → CoordType → Dimension → ℕ

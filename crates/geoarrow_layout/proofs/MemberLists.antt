@@ -1,9 +1,7 @@
 -- The members of a union: what holds of all of them, or of some.
 use Rattle.std.proofs.Common.{◌≡◌, ◌↔◌, ◌<◌, ◌+◌, ◌⊎◌, inl, inr, ℕ, ℤ, List, [], ◌∷◌, ◌++◌, take, length, get_or, sym, ap, ◌∙◌, add-one}
 use Rattle.std.proofs.Math.Seq.{take-suc}
-use Rattle.arrow_values.specs.Tree.{Tree, FieldTree, MemberTrees, no_members, member}
-use Rattle.arrow_values.specs.View.{member_trees}
-use Rattle.geoarrow_layout.specs.Shapes.{AllMembers, SomeMember, HasMembers}
+use Rattle.geoarrow_layout.proofs.Terms.{Tree, FieldTree, MemberTrees, no_members, member, member_trees, AllMembers, SomeMember, HasMembers}
 
 abbrev pub Items : Type 0
 Items = List (ℤ × FieldTree)

@@ -1,26 +1,12 @@
 -- The kinds exclude one another, but for point and box and for kinds of the same lists.
 use Rattle.std.proofs.Common.{◌≡◌, ◌↔◌, ◌⊎◌, ◌+◌, ◌≤◌, inl, inr, ℕ, zero, suc, Bool, true, false, true≢false, Option, Some, None, refl, sym, ap, subst, ◌∙◌, arith, rules}
 use Rattle.std.specs.Option.{is_some}
-use Rattle.arrow_values.specs.Tree.{Text, Plain as PlainType, binary, large_binary, binary_view, utf8, large_utf8, utf8_view, Tree, plain, list, large_list, fixed_size_list, struct, union}
-use Rattle.geoarrow_layout.specs.declared.kinds.CoordType.{CoordType}
-use Rattle.geoarrow_layout.specs.declared.kinds.CoordType.TheVariants.{Interleaved, Separated}
-use Rattle.geoarrow_layout.specs.declared.kinds.Dimension.{Dimension}
-use Rattle.geoarrow_layout.specs.declared.kinds.Dimension.TheVariants.{XY, XYZM}
-use Rattle.geoarrow_layout.specs.declared.summary.ListWidth.{ListWidth}
-use Rattle.geoarrow_layout.specs.declared.summary.ListWidth.TheVariants.{List as Lists, LargeList as LargeLists}
-use Rattle.geoarrow_layout.specs.declared.encodings.NativeKind.{NativeKind}
-use Rattle.geoarrow_layout.specs.declared.encodings.NativeKind.TheVariants.{Point, LineString, Polygon, MultiPoint, MultiLineString, MultiPolygon, GeometryCollection}
-use Rattle.geoarrow_layout.specs.declared.encodings.Width.{Width}
-use Rattle.geoarrow_layout.specs.declared.encodings.Width.TheVariants.{Plain}
-use Rattle.geoarrow_layout.specs.declared.encodings.Kind.{Kind}
-use Rattle.geoarrow_layout.specs.declared.encodings.Kind.TheVariants.{Native as OfNative, Geometry as OfGeometry, Rect as OfRect, Wkb as OfWkb, Wkt as OfWkt}
+use Rattle.geoarrow_layout.proofs.Terms.{Text, PlainType, large_binary, binary_view, utf8, large_utf8, utf8_view, Tree, plain, list, large_list, fixed_size_list, struct, union, CoordType, Interleaved, Separated, Dimension, XY, XYZM, ListWidth, Lists, LargeLists, NativeKind, Point, LineString, Polygon, MultiPoint, MultiLineString, MultiPolygon, GeometryCollection, Width, Plain, Kind, OfNative, OfGeometry, OfRect, OfWkb, OfWkt, ExtensionName, size_of, name_text, extension_of, name_of, names_of, ListsOver, levels_of, Leaf, Mixed, Native, Geometry, BoxShape, Accepted, Accepts, IsStructured, IsBytes, IsText, IsAccepted, IsAcceptedStructure}
+use Rattle.arrow_values.specs.Tree.{binary}
 use Rattle.geoarrow_layout.specs.declared.names.Candidates.{Candidates}
 use Rattle.geoarrow_layout.specs.declared.names.Candidates.TheVariants.{None as NoName, LineStringOrMultiPoint, PolygonOrMultiLineString, PointOrBox}
-use Rattle.geoarrow_layout.specs.declared.names.ExtensionName.{ExtensionName}
 use Rattle.geoarrow_layout.specs.declared.names.ExtensionName.TheVariants as names
-use Rattle.geoarrow_layout.specs.Kinds.{size_of, name_text, extension_of, name_of}
-use Rattle.geoarrow_layout.specs.Shapes.{names_of, ListsOver, levels_of, Leaf, Mixed, Native, Geometry, BoxShape, Accepted, Accepts, IsStructured, IsBytes, IsText}
-use Rattle.geoarrow_layout.specs.Candidates.{Holds, IsAccepted, IsAcceptedStructure, IsNative, IsGeometry, IsBox, IsStructOfFour, Share}
+use Rattle.geoarrow_layout.specs.Candidates.{Holds, IsNative, IsGeometry, IsBox, IsStructOfFour, Share}
 use Rattle.geoarrow_layout.proofs.FaultLaws.{separated_length, box_length}
 use Rattle.geoarrow_layout.proofs.KindSteps.{one_name}
 

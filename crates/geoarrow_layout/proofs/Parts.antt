@@ -1,17 +1,9 @@
 -- Ids and members: each is read in one way.
-use Rattle.std.proofs.Common.{◌≡◌, ◌≢◌, inl, inr, ℕ, ℤ, pos, Option, None, Ok, Err, MatchResult, refl, sym, ap, subst, ◌∙◌, []}
-use Rattle.arrow_values.specs.Tree.{Tree}
-use Rattle.geoarrow_layout.specs.declared.kinds.CoordType.{CoordType}
-use Rattle.geoarrow_layout.specs.declared.kinds.Dimension.{Dimension}
-use Rattle.geoarrow_layout.specs.declared.fault.LayoutFault.TheVariants.{BadTypeId}
-use Rattle.geoarrow_layout.specs.declared.encodings.NativeKind.{NativeKind}
-use Rattle.geoarrow_layout.specs.declared.encodings.NativeKind.TheVariants.{GeometryCollection}
-use Rattle.geoarrow_layout.specs.Kinds.{type_id_of}
-use Rattle.geoarrow_layout.specs.Shapes.{levels_of, OverLeaf, GeometryMember, Native}
-use Rattle.geoarrow_layout.specs.OneShape.{LeafUnder}
-use Rattle.geoarrow_layout.specs.FaultAt.{Faults, HasFault, CoordinateFault, ListsFault, PartFault, OverLeafFault, NativeFault, GeometryMemberFault}
-use Rattle.geoarrow_layout.specs.Steps.{TellsBoth, IsOtherFault}
+use Rattle.std.proofs.Common.{◌≡◌, ◌≢◌, inl, inr, ℕ, ℤ, pos, Option, None, Some, Ok, Err, MatchResult, refl, sym, ap, subst, ◌∙◌, []}
+use Rattle.geoarrow_layout.proofs.Terms.{Tree, CoordType, Dimension, LayoutFault, BadTypeId, NativeKind, GeometryCollection, type_id_of, levels_of, OverLeaf, Member, GeometryMember, Native, LeafUnder, Path, Faults, HasFault, MemberFault, CoordinateFault, ListsFault, PartFault, OverLeafFault, NativeFault, GeometryMemberFault, TellsBoth}
+use Rattle.geoarrow_layout.specs.Steps.{IsOtherFault}
 use Rattle.geoarrow_layout.proofs.Readings.{Answer, IsPartsOf, some_parts, refused}
+use Rattle.geoarrow_layout.proofs.FaultLaws.{KindFault}
 
 abbrev pub Reading : Type 1
 Reading = Tree → NativeKind → CoordType → Dimension → Type 0
@@ -55,3 +47,27 @@ native_any k t r h a = a
 pub over_leaf_any : (k : NativeKind) (n : ℕ) (t : Tree) (r : Answer) → (k ≢ GeometryCollection) → n ≡ levels_of k → TellsBoth r (LeafUnder n t) (ListsFault CoordinateFault n t) → TellsBoth r (OverLeaf t k) (OverLeafFault k t)
 over_leaf_any GeometryCollection n t r h same a = absurd (h refl)
 over_leaf_any k n t r h same a = subst (λ m. TellsBoth r (LeafUnder m t) (ListsFault CoordinateFault m t)) same a
+
+-- a member of a geometry that is no collection is the same in a collection
+kind_fault_same : (k : NativeKind) (d : Dimension) (t : Tree) (p : Path) (f : LayoutFault) → (k ≡ GeometryCollection → ⊥) → KindFault Native NativeFault k d t p f → KindFault OverLeaf OverLeafFault k d t p f
+kind_fault_same GeometryCollection d t p f other h = absurd (other refl)
+kind_fault_same k d t p f other h = h
+
+pub no_collection : (i z : ℤ) (t : Tree) (r : Option (NativeKind × Dimension)) (part : Answer) → z ≡ i → IsPartsOf z r → ((d : Dimension) → r ≡ some_parts GeometryCollection d → ⊥) → TellsBoth part (GeometryMember i t) (GeometryMemberFault i t) → TellsBoth part (Member i t) (MemberFault i t)
+no_collection i z t r (Ok x) is parts other (inl m) = m
+no_collection i z t r (Ok x) is parts other (inr m) = absurd (other x.1 ((parts GeometryCollection x.1).1 (is ∙ m.0)))
+no_collection i z t r (Err f) is parts other (p, inl e) = (p, inl e)
+no_collection i z t r (Err f) is parts other (p, inr e) = (p, inr (e.0, e.1, e.2, kind_fault_same e.0 e.1 t p f (λ k. other e.1 ((parts e.0 e.1).1 (is ∙ e.2) ∙ ap (λ x. some_parts x e.1) k)) e.3))
+
+pub a_collection : (i z : ℤ) (t : Tree) (k : NativeKind) (d : Dimension) → z ≡ i → IsPartsOf z (some_parts k d) → k ≡ GeometryCollection → TellsBoth (refused BadTypeId) (Member i t) (MemberFault i t)
+a_collection i z t k d is parts same = ([], inr (k, d, sym is ∙ (parts k d).0 refl, inl (subst (λ x. OverLeafFault x t [] BadTypeId) (sym same) (refl, refl))))
+
+pub no_parts_no_collection : (i z : ℤ) (t : Tree) (part : Answer) → z ≡ i → IsPartsOf z no_parts → TellsBoth part (GeometryMember i t) (GeometryMemberFault i t) → TellsBoth part (Member i t) (MemberFault i t)
+no_parts_no_collection i z t part is parts h = no_collection i z t no_parts part is parts (λ d e. cc) h
+
+pub kind_no_collection : (i z : ℤ) (t : Tree) (k : NativeKind) (d : Dimension) (part : Answer) → z ≡ i → IsPartsOf z (some_parts k d) → (k ≢ GeometryCollection) → TellsBoth part (GeometryMember i t) (GeometryMemberFault i t) → TellsBoth part (Member i t) (MemberFault i t)
+kind_no_collection i z t k d part is parts other h = no_collection i z t (some_parts k d) part is parts (λ e same. other (ap kind_in same)) h
+  where
+    kind_in : Option (NativeKind × Dimension) → NativeKind
+    kind_in None = k
+    kind_in (Some x) = x.0

@@ -1,13 +1,6 @@
 -- What a reader answers, in short words.
 use Rattle.std.proofs.Common.{◌≡◌, ◌↔◌, subst, ℤ, pos, Result, Ok, Err, Option, Some, ap, ◌∙◌, IfErr}
-use Rattle.geoarrow_layout.specs.declared.kinds.CoordType.{CoordType}
-use Rattle.geoarrow_layout.specs.declared.kinds.Dimension.{Dimension}
-use Rattle.geoarrow_layout.specs.declared.fault.LayoutFault.{LayoutFault}
-use Rattle.geoarrow_layout.specs.declared.encodings.NativeKind.{NativeKind}
-use Rattle.geoarrow_layout.specs.Kinds.{type_id_of}
-use Rattle.geoarrow_layout.specs.Shapes.{Answers, AnswersOne}
-use Rattle.geoarrow_layout.specs.FaultAt.{Path, Located, HasFault}
-use Rattle.geoarrow_layout.specs.Steps.{Tells, TellsBoth}
+use Rattle.geoarrow_layout.proofs.Terms.{CoordType, Dimension, LayoutFault, NativeKind, type_id_of, Answers, AnswersOne, Path, Located, HasFault, Tells, TellsBoth}
 
 abbrev pub Answer : Type 0
 Answer = Result (CoordType × Dimension) LayoutFault

@@ -1,18 +1,8 @@
 -- What the names of a struct's fields say, by their bits: the dimension of a coordinate, and that of a box.
 use Rattle.std.proofs.Common.{◌≡◌, ◌⊎◌, ℕ, refl, sym, ◌∙◌, arith, Bool, true, false, Result, Ok, Err, inl, inr, List, length, Option, ◌&&◌, []}
-use Rattle.arrow_values.specs.Tree.{Text, Tree, struct, FieldTrees}
-use Rattle.geoarrow_layout.specs.declared.kinds.CoordType.TheVariants.{Separated}
-use Rattle.geoarrow_layout.specs.declared.kinds.Dimension.{Dimension}
-use Rattle.geoarrow_layout.specs.declared.kinds.Dimension.TheVariants.{XYZ, XYM}
-use Rattle.geoarrow_layout.specs.declared.fault.LayoutFault.{LayoutFault}
-use Rattle.geoarrow_layout.specs.declared.fault.LayoutFault.TheVariants.{BadFieldNames}
-use Rattle.geoarrow_layout.specs.declared.summary.ListWidth.{ListWidth}
-use Rattle.geoarrow_layout.specs.declared.summary.Bottom.{Bottom}
-use Rattle.geoarrow_layout.specs.declared.summary.Bottom.TheVariants.{Struct}
-use Rattle.geoarrow_layout.specs.Shapes.{names_of, IsSeparatedAs, Leaf, IsBoxAs, BoxShape}
-use Rattle.geoarrow_layout.specs.FaultAt.{Path, SeparatedFault, CoordinateFault, BoxNamesFault, BoxFault}
-use Rattle.geoarrow_layout.specs.Summary.{IsBits, SomeAt, IsBottom, IsUnion}
-use Rattle.geoarrow_layout.specs.Steps.{has_bit, IsNoLeaf, Tells, TellsBoth}
+use Rattle.geoarrow_layout.proofs.Terms.{Text, Tree, struct, FieldTrees, Separated, Dimension, XYZ, XYM, LayoutFault, BadFieldNames, ListWidth, Bottom, Struct, names_of, IsSeparatedAs, Leaf, IsBoxAs, BoxShape, Path, SeparatedFault, CoordinateFault, BoxFault, SomeAt, IsBottom, IsUnion, has_bit, IsNoLeaf, Tells, TellsBoth}
+use Rattle.geoarrow_layout.specs.FaultAt.{BoxNamesFault}
+use Rattle.geoarrow_layout.specs.Summary.{IsBits}
 use Rattle.geoarrow_layout.proofs.FieldSteps.{same_three, three_have, has_at}
 use Rattle.geoarrow_layout.proofs.Readings.{Answer, ok_pair}
 use Rattle.geoarrow_layout.proofs.Bottoms.{at_bottom}

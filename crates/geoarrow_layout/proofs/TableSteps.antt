@@ -3,22 +3,13 @@ use Rattle.std.proofs.Common.{◌≡◌, ◌↔◌, ◌<◌, ◌+◌, ℕ, zero,
 use Rattle.std.specs.List.{Contains}
 use Rattle.std.proofs.lemmas.Option.{same_Some}
 use Rattle.std.proofs.lemmas.List.{drop_more, same_from_push}
-use Rattle.arrow_values.specs.Tree.{Tree, struct, union, FieldTree, Members}
-use Rattle.arrow_values.specs.View.{field_trees, member_trees, field_list, member_list, listed_fields, listed_members}
-use Rattle.arrow_values.specs.declared.tree.UnionMode.{UnionMode}
-use Rattle.geoarrow_layout.specs.declared.kinds.Dimension.{Dimension}
-use Rattle.geoarrow_layout.specs.declared.encodings.NativeKind.{NativeKind}
-use Rattle.geoarrow_layout.specs.declared.encodings.Kind.{Kind}
-use Rattle.geoarrow_layout.specs.declared.encodings.Kind.TheVariants.{Wkb, Wkt}
-use Rattle.geoarrow_layout.specs.Layouts.{member_layout, layout}
+use Rattle.geoarrow_layout.proofs.Terms.{Tree, struct, union, FieldTree, Members, field_trees, member_trees, UnionMode, Dimension, NativeKind, Kind, Wkb, Wkt, member_layout, layout, Width, Plain, IsBytes, IsText}
+use Rattle.arrow_values.specs.View.{field_list, member_list, listed_fields, listed_members}
 use Rattle.geoarrow_layout.proofs.Distinct.{layouts_are_distinct}
 use Rattle.std.specs.Option.{option_eq}
-use Rattle.geoarrow_layout.specs.declared.encodings.Width.{Width}
-use Rattle.geoarrow_layout.specs.declared.encodings.Width.TheVariants.{Plain}
 use Rattle.geoarrow_layout.specs.contracts.encodings.Width as width
 use Rattle.geoarrow_layout.proofs.Equality.{option_decides, bare_decides}
 use Rattle.geoarrow_layout.specs.contracts.encodings.WidthPartialEq.TheImpl as widths
-use Rattle.geoarrow_layout.specs.Shapes.{IsBytes, IsText}
 
 -- a struct of these fields, a union of these members
 abbrev fields_in : Tree → List FieldTree

@@ -3,12 +3,8 @@ use Rattle.std.proofs.Common.{◌≡◌, ◌≢◌, ◌↔◌, ◌⊎◌, inl, i
 use Rattle.std.specs.List.{filter, Contains}
 use Rattle.std.proofs.lemmas.Bool.{cond_both}
 use Rattle.std.proofs.lemmas.List.Elements.{All-contains, All-contains_itself, All-filter, Contains-append_left, Contains-append_right, Contains-append_cases}
-use Rattle.arrow_values.specs.Tree.{Tree, FieldTree, Members}
-use Rattle.arrow_values.specs.View.{member_trees}
+use Rattle.geoarrow_layout.proofs.Terms.{Tree, FieldTree, Members, member_trees, UnionMode, Dense, AllMembers, HasMembers}
 use Rattle.arrow_values.specs.Union.{retained, has}
-use Rattle.arrow_values.specs.declared.tree.UnionMode.{UnionMode}
-use Rattle.arrow_values.specs.declared.tree.UnionMode.TheVariants.{Dense}
-use Rattle.geoarrow_layout.specs.Shapes.{AllMembers, HasMembers}
 use Rattle.geoarrow_layout.specs.Changes.{AlikeUnions, EachOf, AreJust}
 use Rattle.geoarrow_layout.proofs.MemberLists.{all_both}
 use Rattle.geoarrow_layout.proofs.AlikeLaws.{Holds, each_refl, each_sym, members_refl}

@@ -4,25 +4,10 @@ use Rattle.std.specs.Int.{bit_at}
 use Rattle.std.proofs.Math.Dec.{eqb-suc-zero}
 use Rattle.std.proofs.lemmas.Bool.{cases_eq}
 use Rattle.std.proofs.lemmas.Nat.Bits.{same_from_bits, bit_at-pow_same, bit_at-pow_other, bit_at-lt}
-use Rattle.arrow_values.specs.Tree.{Tree, union, FieldTree, MemberTrees, no_members, member}
-use Rattle.arrow_values.specs.View.{member_trees}
-use Rattle.arrow_values.specs.declared.tree.UnionMode.{UnionMode}
-use Rattle.geoarrow_layout.specs.declared.kinds.CoordType.{CoordType}
-use Rattle.geoarrow_layout.specs.declared.kinds.CoordType.TheVariants.{Interleaved}
-use Rattle.geoarrow_layout.specs.declared.kinds.Dimension.{Dimension}
-use Rattle.geoarrow_layout.specs.declared.kinds.Dimension.TheVariants.{XY}
-use Rattle.geoarrow_layout.specs.declared.fault.LayoutFault.{LayoutFault}
-use Rattle.geoarrow_layout.specs.declared.fault.LayoutFault.TheVariants.{UnexpectedType}
-use Rattle.geoarrow_layout.specs.declared.summary.ListWidth.{ListWidth}
-use Rattle.geoarrow_layout.specs.declared.summary.Bottom.{Bottom}
-use Rattle.geoarrow_layout.specs.declared.summary.Bottom.TheVariants.{Union, Deep, Other}
-use Rattle.geoarrow_layout.specs.declared.summary.Summary.{Summary}
-use Rattle.geoarrow_layout.specs.Kinds.{order_of}
-use Rattle.geoarrow_layout.specs.Shapes.{Mixed, Geometry, Member, GeometryMember, AllMembers, SomeMember, HasMembers, Answers}
-use Rattle.geoarrow_layout.specs.FaultAt.{Path, Faults, HasFault, FirstFault, UnionFault, MemberFault, DimensionsFault, MixedFault, GeometryMemberFault, GeometryFault}
-use Rattle.geoarrow_layout.specs.Summary.{IsBits, IsFaultOf, Seen, place_of, AreLevels, IsBottom, IsUnion, SummarizesBy, Summarizes}
-use Rattle.geoarrow_layout.specs.Steps.{AddsBits, CoordOf, DimensionOf, Tells, TellsBoth, first_fault, AreOf, IsCoordFault, UnionSays, UnionSaysOne, IsNested, IsNoLeaf, Shows, ShowsInner}
-use Rattle.geoarrow_layout.specs.OneShape.{member_same, geometry_part_same}
+use Rattle.geoarrow_layout.proofs.Terms.{Tree, union, FieldTree, MemberTrees, no_members, member, member_trees, UnionMode, CoordType, Interleaved, Dimension, XY, LayoutFault, UnexpectedType, ListWidth, Bottom, Union, Deep, Other, Summary, order_of, Mixed, Geometry, Member, GeometryMember, AllMembers, SomeMember, HasMembers, Answers, Path, Faults, HasFault, FirstFault, UnionFault, MemberFault, MixedFault, GeometryMemberFault, GeometryFault, IsFaultOf, Seen, place_of, AreLevels, IsBottom, IsUnion, SummarizesBy, Summarizes, CoordOf, DimensionOf, Tells, TellsBoth, IsNested, IsNoLeaf, Shows, ShowsInner, member_same, geometry_part_same}
+use Rattle.geoarrow_layout.specs.FaultAt.{DimensionsFault}
+use Rattle.geoarrow_layout.specs.Summary.{IsBits}
+use Rattle.geoarrow_layout.specs.Steps.{AddsBits, first_fault, AreOf, IsCoordFault, UnionSays, UnionSaysOne}
 use Rattle.geoarrow_layout.proofs.Readings.{Answer, exactly}
 use Rattle.geoarrow_layout.proofs.MemberLists.{Items, all_map, all_inside, all_some, first_some, all_both, some_more, one_more}
 use Rattle.geoarrow_layout.proofs.FaultLaws.{Read, ApartMember}

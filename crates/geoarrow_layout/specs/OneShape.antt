@@ -12,7 +12,7 @@ use Rattle.geoarrow_layout.specs.declared.encodings.NativeKind.TheVariants.{Poin
 use Rattle.geoarrow_layout.specs.declared.summary.ListWidth.{ListWidth}
 use Rattle.geoarrow_layout.specs.declared.summary.ListWidth.TheVariants.{List as Lists, LargeList as LargeLists}
 use Rattle.geoarrow_layout.specs.Kinds.{interleaved_name, order_of, offset_of, type_id_of}
-use Rattle.geoarrow_layout.specs.Shapes.{SameNames, IsSeparatedAs, Leaf, ListsOver, Levels, OverLeaf, Member, Mixed, Collection, Native, GeometryMember, Geometry, names_of, IsBoxAs, BoxShape}
+use Rattle.geoarrow_layout.specs.Shapes.{SameNames, IsSeparatedAs, Leaf, ListsOver, Levels, levels_of, OverLeaf, Member, Mixed, Collection, Native, GeometryMember, Geometry, names_of, IsBoxAs, BoxShape}
 
 -- field names are those of at most one dimension
 pub separated_same : (names : List Text) (d e : Dimension) → IsSeparatedAs d names → IsSeparatedAs e names → d ≡ e
@@ -49,45 +49,20 @@ interleaved_same d e h = absurd (apart _ _ refl h)
 pub leaf_same : (t : Tree) (c b : CoordType) (d e : Dimension) → Leaf t c d → Leaf t b e → (c ≡ b) × (d ≡ e)
 leaf_same (fixed_size_list n t b m z) Interleaved Interleaved d e h k = (refl, interleaved_same d e (sym h.0 ∙ k.0))
 leaf_same (struct fs) Separated Separated d e h k = (refl, separated_same (names_of fs) d e h k)
-leaf_same (fixed_size_list n t b m z) Separated _ d e h k = absurd h
-leaf_same (fixed_size_list n t b m z) Interleaved Separated d e h k = absurd k
-leaf_same (struct fs) Interleaved _ d e h k = absurd h
-leaf_same (struct fs) Separated Interleaved d e h k = absurd k
-leaf_same (plain p) c _ d e h k = absurd h
-leaf_same (list n t b m) c _ d e h k = absurd h
-leaf_same (large_list n t b m) c _ d e h k = absurd h
-leaf_same (union ms mode) c _ d e h k = absurd h
+leaf_same _ _ _ d e h k = search
 
 lists_same : (v : ListWidth) (n : ℕ) (t u x : Tree) → ListsOver v n t u → ListsOver v n t x → u ≡ x
 lists_same v zero t u x h k = sym h ∙ k
 lists_same Lists (suc n) (list nm t b a) u x h k = lists_same Lists n t u x h k
 lists_same LargeLists (suc n) (large_list nm t b a) u x h k = lists_same LargeLists n t u x h k
-lists_same Lists (suc n) (large_list nm t b a) u x h k = absurd h
-lists_same Lists (suc n) (plain p) u x h k = absurd h
-lists_same Lists (suc n) (fixed_size_list nm t b a z) u x h k = absurd h
-lists_same Lists (suc n) (struct fs) u x h k = absurd h
-lists_same Lists (suc n) (union ms mode) u x h k = absurd h
-lists_same LargeLists (suc n) (list nm t b a) u x h k = absurd h
-lists_same LargeLists (suc n) (plain p) u x h k = absurd h
-lists_same LargeLists (suc n) (fixed_size_list nm t b a z) u x h k = absurd h
-lists_same LargeLists (suc n) (struct fs) u x h k = absurd h
-lists_same LargeLists (suc n) (union ms mode) u x h k = absurd h
+lists_same _ (suc n) _ u x h k = absurd h
 
 pub widths_same : (w v : ListWidth) (n m : ℕ) (t u x : Tree) → ListsOver w (suc n) t u → ListsOver v (suc m) t x → w ≡ v
 widths_same Lists Lists n m t u x h k = refl
 widths_same LargeLists LargeLists n m t u x h k = refl
 widths_same Lists LargeLists n m (list nm t b a) u x h k = absurd k
-widths_same Lists LargeLists n m (large_list nm t b a) u x h k = absurd h
-widths_same Lists LargeLists n m (plain p) u x h k = absurd h
-widths_same Lists LargeLists n m (fixed_size_list nm t b a z) u x h k = absurd h
-widths_same Lists LargeLists n m (struct fs) u x h k = absurd h
-widths_same Lists LargeLists n m (union ms mode) u x h k = absurd h
 widths_same LargeLists Lists n m (large_list nm t b a) u x h k = absurd k
-widths_same LargeLists Lists n m (list nm t b a) u x h k = absurd h
-widths_same LargeLists Lists n m (plain p) u x h k = absurd h
-widths_same LargeLists Lists n m (fixed_size_list nm t b a z) u x h k = absurd h
-widths_same LargeLists Lists n m (struct fs) u x h k = absurd h
-widths_same LargeLists Lists n m (union ms mode) u x h k = absurd h
+widths_same _ _ n m _ u x h k = absurd h
 
 pub levels_same : (n : ℕ) (t u x : Tree) → Levels t n u → Levels t n x → u ≡ x
 levels_same zero t u x h k = sym h.1 ∙ k.1
@@ -106,12 +81,7 @@ order_same d e h = absurd (omega arith)
 
 offset_small : (k : NativeKind) → offset_of k ≤ 7
 offset_small Point = omega arith
-offset_small LineString = omega arith
-offset_small Polygon = omega arith
-offset_small MultiPoint = omega arith
-offset_small MultiLineString = omega arith
-offset_small MultiPolygon = omega arith
-offset_small GeometryCollection = omega arith
+offset_small _ = omega arith
 
 offset_same : (k l : NativeKind) → offset_of k ≡ offset_of l → k ≡ l
 offset_same Point Point h = refl
@@ -142,12 +112,7 @@ leaf_under_same n t c b d e h k = leaf_same k.0 c b d e (subst (λ x. Leaf x c d
 
 pub native_same : (k : NativeKind) (t : Tree) (c b : CoordType) (d e : Dimension) → OverLeaf t k c d → OverLeaf t k b e → (c ≡ b) × (d ≡ e)
 native_same GeometryCollection t c b d e h g = absurd h
-native_same Point t c b d e h g = leaf_under_same 0 t c b d e h g
-native_same LineString t c b d e h g = leaf_under_same 1 t c b d e h g
-native_same Polygon t c b d e h g = leaf_under_same 2 t c b d e h g
-native_same MultiPoint t c b d e h g = leaf_under_same 1 t c b d e h g
-native_same MultiLineString t c b d e h g = leaf_under_same 2 t c b d e h g
-native_same MultiPolygon t c b d e h g = leaf_under_same 3 t c b d e h g
+native_same k t c b d e h g = leaf_under_same (levels_of k) t c b d e h g
 
 pub member_same : (i : ℤ) (t : Tree) (c b : CoordType) (d e : Dimension) → Member i t c d → Member i t b e → (c ≡ b) × (d ≡ e)
 member_same i t c b d e h g =
@@ -157,33 +122,19 @@ member_same i t c b d e h g =
 pub mixed_same : (t : Tree) (c b : CoordType) (d e : Dimension) → Mixed t c d → Mixed t b e → (c ≡ b) × (d ≡ e)
 mixed_same (union no_members mode) c b d e h g = absurd h.0
 mixed_same (union (member i n t x m ms) mode) c b d e h g = member_same i t c b d e h.1.0 g.1.0
-mixed_same (plain p) c b d e h g = absurd h
-mixed_same (list n t x m) c b d e h g = absurd h
-mixed_same (large_list n t x m) c b d e h g = absurd h
-mixed_same (fixed_size_list n t x m z) c b d e h g = absurd h
-mixed_same (struct fs) c b d e h g = absurd h
+mixed_same _ c b d e h g = absurd h
 
 collection_same : (t : Tree) (c b : CoordType) (d e : Dimension) → Collection t c d → Collection t b e → (c ≡ b) × (d ≡ e)
 collection_same t c b d e h k = mixed_same k.0 c b d e (subst (λ x. Mixed x c d) (levels_same 1 t h.0 k.0 h.1 k.1) h.2) k.2
 
 any_native : (k : NativeKind) (t : Tree) (c : CoordType) (d : Dimension) → OverLeaf t k c d → Native t k c d
 any_native GeometryCollection t c d h = absurd h
-any_native Point t c d h = h
-any_native LineString t c d h = h
-any_native Polygon t c d h = h
-any_native MultiPoint t c d h = h
-any_native MultiLineString t c d h = h
-any_native MultiPolygon t c d h = h
+any_native k t c d h = h
 
 -- a data type of a native kind has one coordinate type and one dimension
 pub any_native_same : (k : NativeKind) (t : Tree) (c b : CoordType) (d e : Dimension) → Native t k c d → Native t k b e → (c ≡ b) × (d ≡ e)
 any_native_same GeometryCollection t c b d e h g = collection_same t c b d e h g
-any_native_same Point t c b d e h g = leaf_under_same 0 t c b d e h g
-any_native_same LineString t c b d e h g = leaf_under_same 1 t c b d e h g
-any_native_same Polygon t c b d e h g = leaf_under_same 2 t c b d e h g
-any_native_same MultiPoint t c b d e h g = leaf_under_same 1 t c b d e h g
-any_native_same MultiLineString t c b d e h g = leaf_under_same 2 t c b d e h g
-any_native_same MultiPolygon t c b d e h g = leaf_under_same 3 t c b d e h g
+any_native_same k t c b d e h g = leaf_under_same (levels_of k) t c b d e h g
 
 pub any_part : (i : ℤ) (t : Tree) (c : CoordType) (d : Dimension) → GeometryMember i t c d → (k : NativeKind) × (i ≡ pos (type_id_of k d)) × Native t k c d
 any_part i t c d (inl m) = (m.0, m.1, any_native m.0 t c d m.2)
@@ -218,17 +169,9 @@ box_same ns XYZM XYM h k = absurd (omega (arith, k.0))
 pub geometry_same : (t : Tree) (c b : CoordType) → Geometry t c → Geometry t b → c ≡ b
 geometry_same (union no_members mode) c b h g = absurd h.0
 geometry_same (union (member i n t x m ms) mode) c b h g = (geometry_part_same i t c b h.1.0.0 g.1.0.0 h.1.0.1 g.1.0.1).0
-geometry_same (plain p) c b h g = absurd h
-geometry_same (list n t x m) c b h g = absurd h
-geometry_same (large_list n t x m) c b h g = absurd h
-geometry_same (fixed_size_list n t x m z) c b h g = absurd h
-geometry_same (struct fs) c b h g = absurd h
+geometry_same _ c b h g = absurd h
 
 -- a box has one dimension
 pub box_shape_same : (t : Tree) (d e : Dimension) → BoxShape t d → BoxShape t e → d ≡ e
 box_shape_same (struct fs) d e h g = box_same (names_of fs) d e h g
-box_shape_same (plain p) d e h g = absurd h
-box_shape_same (list n t x m) d e h g = absurd h
-box_shape_same (large_list n t x m) d e h g = absurd h
-box_shape_same (fixed_size_list n t x m z) d e h g = absurd h
-box_shape_same (union ms mode) d e h g = absurd h
+box_shape_same _ d e h g = absurd h

@@ -3,11 +3,13 @@ ghost use Rattle.std.specs.Prelude.{◌≡◌, ◌≢◌, ◌<◌, ◌≤◌, �
 ghost use Rattle.arrow_values.specs.View.{tree, field_trees, member_trees};
 ghost use Rattle.arrow_values.specs.Tree.{Tree, plain, float64};
 ghost use Rattle.geoarrow_layout.specs.Kinds.{interleaved_name};
-ghost use Rattle.geoarrow_layout.specs.Shapes.{ListsOver};
+ghost use Rattle.geoarrow_layout.specs.Shapes.{ListsOver, Member, GeometryMember};
 ghost use Rattle.geoarrow_layout.specs.Summary.{place_in, known_names, IsStruct, IsBottom, AreLevels, place_of, IsInnerUnion, IsRootUnion, Summarizes};
 ghost use Rattle.geoarrow_layout.specs.Inferred.{is_float64};
-ghost use Rattle.geoarrow_layout.specs.Steps.{IsNoLeaf, Ended, AddsBits, CoordOf, DimensionOf, first_fault, Shows, ShowsInner, AddsBit, has_bit};
+ghost use Rattle.geoarrow_layout.specs.Steps.{IsNoLeaf, Ended, AddsBits, CoordOf, DimensionOf, first_fault, Shows, ShowsInner, TellsBoth, AddsBit, has_bit};
+ghost use Rattle.geoarrow_layout.specs.FaultAt.{MemberFault, GeometryMemberFault};
 
+use crate::encodings::{NativeKind, parts_of_id};
 use crate::fault::LayoutFault;
 use crate::kinds::{CoordType, Dimension, named_dimension, place_of};
 use crate::read::{geometry_part, member};
@@ -370,6 +372,22 @@ pub(crate) fn nested_summary(data_type: &DataType) -> Summary
     }
 }
 
+/// What a member of a union of geometries is as one of a collection, which holds no collections.
+fn in_collection(
+    id: i8,
+    part: Result<(CoordType, Dimension), LayoutFault>,
+) -> Result<(CoordType, Dimension), LayoutFault>
+    ensures { (t : Tree) → TellsBoth part (GeometryMember id t) (GeometryMemberFault id t) → TellsBoth result (Member id t) (MemberFault id t) }
+{
+    let Some((kind, _)) = parts_of_id(id) else {
+        return part;
+    };
+    match kind {
+        NativeKind::GeometryCollection => Err(LayoutFault::BadTypeId),
+        _ => part,
+    }
+}
+
 /// A union that is the whole data type.
 fn root_union(members: &[(i8, Field)]) -> Bottom
     ensures { IsRootUnion result (member_trees members.now) }
@@ -380,8 +398,7 @@ fn root_union(members: &[(i8, Field)]) -> Bottom
         let below = nested_summary(item.1.data_type());
         let part = geometry_part(item.0, &below);
         seen = with_member(seen, item.0, &part);
-        let mixed = member(item.0, &below);
-        mixed_fault = first_fault(mixed_fault, &mixed);
+        mixed_fault = first_fault(mixed_fault, &in_collection(item.0, part));
     }
     Bottom::Union {
         no_members: members.is_empty(),

@@ -297,23 +297,9 @@ fn is_layout(data_type: &DataType, kind: &Kind) -> bool
         }
         Kind::Geometry(coord_type) => is_geometry(data_type, *coord_type),
         Kind::Rect(dimension) => is_box(data_type, *dimension),
-        Kind::Wkb(width) => is_bytes(data_type, *width),
-        Kind::Wkt(width) => is_text(data_type, *width),
+        Kind::Wkb(width) => bytes_width(data_type) == Some(*width),
+        Kind::Wkt(width) => text_width(data_type) == Some(*width),
     }
-}
-
-/// Whether the data type is the one that is written for well-known binary of that width.
-fn is_bytes(data_type: &DataType, width: Width) -> bool
-    ensures { IsTrue result ↔ (tree data_type.now ≡ layout (Kind.Wkb width)) }
-{
-    bytes_width(data_type) == Some(width)
-}
-
-/// Whether the data type is the one that is written for well-known text of that width.
-fn is_text(data_type: &DataType, width: Width) -> bool
-    ensures { IsTrue result ↔ (tree data_type.now ≡ layout (Kind.Wkt width)) }
-{
-    text_width(data_type) == Some(width)
 }
 
 /// Whether the data type is the one that is written for the native kind.

@@ -1,6 +1,5 @@
 use Rattle.std.proofs.Common.{◌≡◌, take}
-use Rattle.arrow_values.specs.View.{member_trees}
-use Rattle.geoarrow_layout.specs.Shapes.{AllMembers, Member}
+use Rattle.geoarrow_layout.proofs.Terms.{member_trees, AllMembers, Member}
 use Rattle.geoarrow_layout.proofs.FaultLaws.{Read}
 use Rattle.geoarrow_layout.proofs.find.push_collected.Given as goal
 

@@ -1,10 +1,7 @@
 use Rattle.std.proofs.Common.{◌≡◌, ◌∙◌, sym, ap, ◌++◌, ◌∷◌, [], subst, rules, w8, to_z, of_z, OnOk}
 use Rattle.std.proofs.lemmas.Int.{to_z-of_z}
 use Rattle.std.proofs.lemmas.List.{take_all}
-use Rattle.arrow_values.specs.View.{tree, member_trees}
-use Rattle.geoarrow_layout.specs.Shapes.{GeometryMember}
-use Rattle.geoarrow_layout.specs.FaultAt.{GeometryMemberFault}
-use Rattle.geoarrow_layout.specs.Steps.{ShowsInner, TellsBoth, LeadsTo, FirstOrNone}
+use Rattle.geoarrow_layout.proofs.Terms.{tree, member_trees, GeometryMember, GeometryMemberFault, ShowsInner, TellsBoth, LeadsTo, FirstOrNone}
 use Rattle.geoarrow_layout.proofs.FaultLaws.{geometry_member_apart}
 use Rattle.geoarrow_layout.proofs.FaultPaths.{on_ok, at_member, told_err, told_read, read_more, at_no_member}
 use Rattle.geoarrow_layout.proofs.find.push_geometries.Goals as goal

@@ -1,6 +1,5 @@
 use Rattle.std.proofs.Common.{◌≡◌, take}
-use Rattle.arrow_values.specs.View.{member_trees}
-use Rattle.geoarrow_layout.specs.Shapes.{AllMembers, GeometryMember}
+use Rattle.geoarrow_layout.proofs.Terms.{member_trees, AllMembers, GeometryMember}
 use Rattle.geoarrow_layout.proofs.FaultLaws.{Read}
 use Rattle.geoarrow_layout.proofs.find.push_geometries.Given as goal
 

@@ -1,8 +1,6 @@
 use Rattle.std.proofs.Common.{rules}
 use Rattle.std.proofs.lemmas.Int.{to_z-of_z}
-use Rattle.arrow_values.specs.View.{tree}
-use Rattle.geoarrow_layout.specs.Shapes.{Native}
-use Rattle.geoarrow_layout.specs.FaultAt.{NativeFault}
+use Rattle.geoarrow_layout.proofs.Terms.{tree, Native, NativeFault}
 use Rattle.geoarrow_layout.proofs.FaultLaws.{native_apart}
 use Rattle.geoarrow_layout.proofs.FaultPaths.{on_ok, part_read, part_leads}
 use Rattle.geoarrow_layout.proofs.find.push_geometry_member.Goals as goal

@@ -1,8 +1,6 @@
 use Rattle.std.proofs.Common.{rules}
 use Rattle.std.proofs.lemmas.Int.{to_z-of_z}
-use Rattle.arrow_values.specs.View.{tree}
-use Rattle.geoarrow_layout.specs.Shapes.{OverLeaf}
-use Rattle.geoarrow_layout.specs.FaultAt.{OverLeafFault}
+use Rattle.geoarrow_layout.proofs.Terms.{tree, OverLeaf, OverLeafFault}
 use Rattle.geoarrow_layout.proofs.FaultLaws.{over_leaf_apart}
 use Rattle.geoarrow_layout.proofs.FaultPaths.{on_ok, part_read, part_leads}
 use Rattle.geoarrow_layout.proofs.find.push_member.Goals as goal

@@ -1,8 +1,6 @@
 use Rattle.std.proofs.Common.{◌≡◌, ℕ, zero, suc, ◌<◌, ◌+◌, ℤ, Bool, true, ◌&&◌, List, [], ◌∷◌, length, get_or, drop, sym, ap, ◌∙◌, subst, arith, ◌*◌}
 use Rattle.std.proofs.lemmas.List.{drop_more}
-use Rattle.arrow_values.specs.Tree.{FieldTree, MemberTrees, depth}
-use Rattle.arrow_values.specs.View.{member_trees, members_size}
-use Rattle.geoarrow_layout.specs.AlikeTest.{each_has_alike, some_member, alike_of}
+use Rattle.geoarrow_layout.proofs.Terms.{FieldTree, MemberTrees, depth, member_trees, members_size, each_has_alike, some_member, alike_of}
 use Rattle.std.specs.Ordering.{int_eq}
 use Rattle.geoarrow_layout.proofs.likeness.+same.Goals as goal
 

@@ -1,8 +1,6 @@
 use Rattle.std.proofs.Common.{◌≡◌, ◌&&◌, ◌+◌, ◌*◌, drop}
 use Rattle.std.specs.Ordering.{int_eq}
-use Rattle.arrow_values.specs.View.{tree, member_trees, members_size}
-use Rattle.arrow_values.specs.Tree.{depth}
-use Rattle.geoarrow_layout.specs.AlikeTest.{alike_of, each_has_alike, all_members, some_member, has_alike, is_met}
+use Rattle.geoarrow_layout.proofs.Terms.{tree, member_trees, members_size, depth, alike_of, each_has_alike, all_members, some_member, has_alike, is_met}
 use Rattle.geoarrow_layout.proofs.likeness.+same.Given as goal
 
 abbrev pub invariant-all_are_met-loop-other : goal.invariant-all_are_met-loop-other

@@ -1,6 +1,5 @@
 use Rattle.std.proofs.Common.{◌≡◌, drop}
-use Rattle.arrow_values.specs.View.{member_trees}
-use Rattle.geoarrow_layout.specs.AlikeTest.{has_member}
+use Rattle.geoarrow_layout.proofs.Terms.{member_trees, has_member}
 use Rattle.geoarrow_layout.proofs.likeness.has_member.Given as goal
 
 abbrev pub invariant-loop-member : goal.invariant-loop-member

@@ -1,8 +1,5 @@
 use Rattle.std.proofs.Common.{◌≡◌, subst, arith}
-use Rattle.geoarrow_layout.specs.Shapes.{Mixed}
-use Rattle.geoarrow_layout.specs.FaultAt.{MixedFault}
-use Rattle.geoarrow_layout.specs.Summary.{IsBottom}
-use Rattle.geoarrow_layout.specs.Steps.{IsNested}
+use Rattle.geoarrow_layout.proofs.Terms.{Mixed, MixedFault, IsBottom, IsNested}
 use Rattle.geoarrow_layout.proofs.Bottoms.{under_less, under_same, no_inner, under_no_union, mixed_refuses}
 use Rattle.geoarrow_layout.proofs.UnionSteps.{nested_union}
 use Rattle.geoarrow_layout.proofs.read.collection.Goals as goal

@@ -1,8 +1,6 @@
 use Rattle.std.proofs.Common.{rules}
 use Rattle.std.proofs.lemmas.Int.{to_z-of_z}
-use Rattle.geoarrow_layout.specs.Shapes.{Native}
-use Rattle.geoarrow_layout.specs.FaultAt.{NativeFault}
-use Rattle.geoarrow_layout.specs.declared.fault.LayoutFault.TheVariants.{BadTypeId}
+use Rattle.geoarrow_layout.proofs.Terms.{Native, NativeFault, BadTypeId}
 use Rattle.geoarrow_layout.proofs.Readings.{refused}
 use Rattle.geoarrow_layout.proofs.Parts.{part_answer, part_unknown, geometry_answer}
 use Rattle.geoarrow_layout.proofs.read.geometry_part.Goals as goal

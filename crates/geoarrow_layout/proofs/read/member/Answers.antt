@@ -1,7 +1,6 @@
 use Rattle.std.proofs.Common.{rules}
 use Rattle.std.proofs.lemmas.Int.{to_z-of_z}
-use Rattle.geoarrow_layout.specs.Shapes.{OverLeaf}
-use Rattle.geoarrow_layout.specs.FaultAt.{OverLeafFault}
+use Rattle.geoarrow_layout.proofs.Terms.{OverLeaf, OverLeafFault}
 use Rattle.geoarrow_layout.proofs.Parts.{part_answer}
 use Rattle.geoarrow_layout.proofs.read.member.Goals as goal
 

@@ -1,7 +1,4 @@
-use Rattle.arrow_values.specs.View.{tree}
-use Rattle.geoarrow_layout.specs.Shapes.{BoxShape}
-use Rattle.geoarrow_layout.specs.FaultAt.{BoxFault}
-use Rattle.geoarrow_layout.specs.OneShape.{box_shape_same}
+use Rattle.geoarrow_layout.proofs.Terms.{tree, BoxShape, BoxFault, box_shape_same}
 use Rattle.geoarrow_layout.proofs.FaultLaws.{box_apart}
 use Rattle.geoarrow_layout.proofs.Readings.{exactly_one, told_fault}
 use Rattle.geoarrow_layout.proofs.read.parse_box.Goals as goal

@@ -1,7 +1,4 @@
-use Rattle.arrow_values.specs.View.{tree}
-use Rattle.geoarrow_layout.specs.Shapes.{Geometry}
-use Rattle.geoarrow_layout.specs.FaultAt.{GeometryFault}
-use Rattle.geoarrow_layout.specs.OneShape.{geometry_same}
+use Rattle.geoarrow_layout.proofs.Terms.{tree, Geometry, GeometryFault, geometry_same}
 use Rattle.geoarrow_layout.proofs.FaultLaws.{geometry_apart}
 use Rattle.geoarrow_layout.proofs.Readings.{exactly_one, told_fault}
 use Rattle.geoarrow_layout.proofs.read.parse_geometry.Goals as goal

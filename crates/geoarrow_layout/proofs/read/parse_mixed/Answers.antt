@@ -1,6 +1,4 @@
-use Rattle.arrow_values.specs.View.{tree}
-use Rattle.geoarrow_layout.specs.Shapes.{Mixed}
-use Rattle.geoarrow_layout.specs.FaultAt.{MixedFault}
+use Rattle.geoarrow_layout.proofs.Terms.{tree, Mixed, MixedFault}
 use Rattle.geoarrow_layout.specs.OneShape.{mixed_same}
 use Rattle.geoarrow_layout.proofs.FaultLaws.{mixed_none}
 use Rattle.geoarrow_layout.proofs.Readings.{exactly, told_fault}

@@ -1,7 +1,4 @@
-use Rattle.arrow_values.specs.View.{tree}
-use Rattle.geoarrow_layout.specs.Shapes.{Native}
-use Rattle.geoarrow_layout.specs.FaultAt.{NativeFault}
-use Rattle.geoarrow_layout.specs.OneShape.{any_native_same}
+use Rattle.geoarrow_layout.proofs.Terms.{tree, Native, NativeFault, any_native_same}
 use Rattle.geoarrow_layout.proofs.FaultLaws.{native_apart}
 use Rattle.geoarrow_layout.proofs.Readings.{exactly, told_fault}
 use Rattle.geoarrow_layout.proofs.UnionSteps.{inner_of}

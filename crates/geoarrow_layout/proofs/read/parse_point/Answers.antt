@@ -1,8 +1,6 @@
 use Rattle.std.proofs.Common.{refl, sym, subst}
-use Rattle.geoarrow_layout.specs.Shapes.{Leaf, Native}
-use Rattle.geoarrow_layout.specs.declared.encodings.NativeKind.TheVariants.{Point}
+use Rattle.geoarrow_layout.proofs.Terms.{Leaf, Native, Point, tree}
 use Rattle.geoarrow_layout.specs.declared.summary.ListWidth.TheVariants.{List}
-use Rattle.arrow_values.specs.View.{tree}
 use Rattle.geoarrow_layout.proofs.Readings.{answers_like}
 use Rattle.geoarrow_layout.proofs.read.parse_point.Goals as goal
 

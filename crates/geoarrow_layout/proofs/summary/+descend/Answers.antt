@@ -1,6 +1,5 @@
 use Rattle.std.proofs.Common.{◌∙◌, ap}
-use Rattle.arrow_values.specs.View.{tree}
-use Rattle.geoarrow_layout.specs.declared.summary.ListWidth.TheVariants.{List as Lists, LargeList as LargeLists}
+use Rattle.geoarrow_layout.proofs.Terms.{tree, Lists, LargeLists}
 use Rattle.geoarrow_layout.proofs.Bottoms.{more_below}
 use Rattle.geoarrow_layout.proofs.summary.+descend.Goals as goal
 

@@ -1,10 +1,8 @@
 use Rattle.std.proofs.Common.{◌≡◌, refl, subst, rules, w8, to_z, of_z, ℤ, pos, ◌<◌}
 use Rattle.std.proofs.lemmas.Int.{to_z-of_z}
 use Rattle.std.proofs.lemmas.List.{take_all}
-use Rattle.geoarrow_layout.specs.Shapes.{Member}
-use Rattle.geoarrow_layout.specs.FaultAt.{MemberFault}
-use Rattle.geoarrow_layout.specs.OneShape.{member_same}
-use Rattle.geoarrow_layout.specs.Steps.{Shows, AddsBits, TellsBoth}
+use Rattle.geoarrow_layout.proofs.Terms.{Member, MemberFault, member_same, Shows, TellsBoth}
+use Rattle.geoarrow_layout.specs.Steps.{AddsBits}
 use Rattle.geoarrow_layout.proofs.FaultLaws.{member_apart}
 use Rattle.geoarrow_layout.proofs.UnionSteps.{seen_more, seen_none, has_members}
 use Rattle.geoarrow_layout.proofs.summary.inner_union.Goals as goal

@@ -1,8 +1,5 @@
 use Rattle.std.proofs.Common.{take}
-use Rattle.arrow_values.specs.View.{member_trees}
-use Rattle.geoarrow_layout.specs.Shapes.{Member}
-use Rattle.geoarrow_layout.specs.FaultAt.{MemberFault}
-use Rattle.geoarrow_layout.specs.Summary.{Seen}
+use Rattle.geoarrow_layout.proofs.Terms.{member_trees, Member, MemberFault, Seen}
 use Rattle.geoarrow_layout.proofs.summary.inner_union.Given as goal
 
 abbrev pub invariant-loop-item : goal.invariant-loop-item

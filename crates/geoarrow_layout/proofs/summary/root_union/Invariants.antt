@@ -1,8 +1,5 @@
 use Rattle.std.proofs.Common.{take}
-use Rattle.arrow_values.specs.View.{member_trees}
-use Rattle.geoarrow_layout.specs.Shapes.{Member, GeometryMember}
-use Rattle.geoarrow_layout.specs.FaultAt.{MemberFault, GeometryMemberFault}
-use Rattle.geoarrow_layout.specs.Summary.{IsFaultOf, Seen}
+use Rattle.geoarrow_layout.proofs.Terms.{member_trees, Member, GeometryMember, MemberFault, GeometryMemberFault, IsFaultOf, Seen}
 use Rattle.geoarrow_layout.proofs.summary.root_union.Given as goal
 
 abbrev pub invariant-loop-item : goal.invariant-loop-item

@@ -1,7 +1,6 @@
 use Rattle.std.proofs.Common.{sym, ◌∙◌, ap, ◌&&◌}
 use Rattle.std.proofs.lemmas.List.{take_all}
-use Rattle.geoarrow_layout.specs.Summary.{place_in, known_names}
-use Rattle.geoarrow_layout.specs.Inferred.{is_float64}
+use Rattle.geoarrow_layout.proofs.Terms.{place_in, known_names, is_float64}
 use Rattle.geoarrow_layout.proofs.FieldSteps.{length-names, fields_seen_none, fields_seen_more}
 use Rattle.geoarrow_layout.proofs.summary.struct_bottom.Goals as goal
 

@@ -1,6 +1,5 @@
 use Rattle.geoarrow_layout.proofs.TableSteps.{not_last, all_of_dimension}
-use Rattle.geoarrow_layout.specs.Layouts.{mixed_members, native_layout}
-use Rattle.geoarrow_layout.specs.declared.encodings.NativeKind.TheVariants.{GeometryCollection}
+use Rattle.geoarrow_layout.proofs.Terms.{mixed_members, native_layout, GeometryCollection}
 use Rattle.geoarrow_layout.proofs.write.are_of_dimension.Goals as goal
 
 pub returns-then-not-is_collection : goal.returns-then-not-is_collection

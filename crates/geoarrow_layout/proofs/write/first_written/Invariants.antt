@@ -1,8 +1,6 @@
 use Rattle.std.proofs.Common.{◌≡◌, drop}
 use Rattle.std.specs.List.{Contains}
-use Rattle.arrow_values.specs.View.{tree}
-use Rattle.geoarrow_layout.specs.declared.encodings.Kind.{Kind}
-use Rattle.geoarrow_layout.specs.Layouts.{layout}
+use Rattle.geoarrow_layout.proofs.Terms.{tree, Kind, layout}
 use Rattle.geoarrow_layout.proofs.write.first_written.Given as goal
 
 abbrev pub invariant-loop-kind : goal.invariant-loop-kind

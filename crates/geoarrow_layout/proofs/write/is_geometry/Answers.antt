@@ -1,7 +1,5 @@
 use Rattle.std.proofs.Common.{◌≡◌, ap, rules}
-use Rattle.arrow_values.specs.View.{tree}
-use Rattle.arrow_values.specs.declared.tree.UnionMode.TheVariants.{Dense}
-use Rattle.geoarrow_layout.specs.Layouts.{geometry_members}
+use Rattle.geoarrow_layout.proofs.Terms.{tree, Dense, geometry_members}
 use Rattle.geoarrow_layout.proofs.TableSteps.{union_same}
 use Rattle.geoarrow_layout.proofs.write.is_geometry.Goals as goal
 

@@ -1,7 +1,6 @@
 use Rattle.std.proofs.Common.{[], ◌∷◌, ◌++◌, ap, ◌∙◌}
 use Rattle.std.proofs.lemmas.List.{append_assoc}
-use Rattle.geoarrow_layout.specs.declared.encodings.NativeKind.TheVariants.{GeometryCollection}
-use Rattle.geoarrow_layout.specs.Layouts.{member_layout, mixed_members, native_layout}
+use Rattle.geoarrow_layout.proofs.Terms.{GeometryCollection, member_layout, mixed_members, native_layout}
 use Rattle.geoarrow_layout.proofs.write.push_dimension.Goals as goal
 
 pub returns : goal.returns
