@@ -1,7 +1,7 @@
 -- The kinds exclude one another, but for point and box and for kinds of the same lists.
 use Rattle.std.proofs.Common.{◌≡◌, ◌↔◌, ◌⊎◌, ◌+◌, ◌≤◌, inl, inr, ℕ, zero, suc, Bool, true, false, true≢false, Option, Some, None, refl, sym, ap, subst, ◌∙◌, arith, rules}
 use Rattle.std.specs.Option.{is_some}
-use Rattle.geoarrow_layout.proofs.Terms.{Text, PlainType, large_binary, binary_view, utf8, large_utf8, utf8_view, Tree, plain, list, large_list, fixed_size_list, struct, union, CoordType, Interleaved, Separated, Dimension, XY, XYZM, ListWidth, Lists, LargeLists, NativeKind, Point, LineString, Polygon, MultiPoint, MultiLineString, MultiPolygon, GeometryCollection, Width, Plain, Kind, OfNative, OfGeometry, OfRect, OfWkb, OfWkt, ExtensionName, size_of, name_text, extension_of, name_of, names_of, ListsOver, levels_of, Leaf, Mixed, Native, Geometry, BoxShape, Accepted, Accepts, IsStructured, IsBytes, IsText, IsAccepted, IsAcceptedStructure}
+use Rattle.geoarrow_layout.proofs.Terms.{Text, PlainType, large_binary, binary_view, utf8, large_utf8, utf8_view, Tree, plain, list, large_list, fixed_size_list, struct, union, CoordType, Interleaved, Separated, Dimension, XY, XYZM, ListWidth, Lists, LargeLists, NativeKind, Point, LineString, Polygon, MultiPoint, MultiLineString, MultiPolygon, GeometryCollection, Width, Plain, Kind, OfNative, OfGeometry, OfRect, OfWkb, OfWkt, ExtensionName, size_of, name_text, extension_of, name_of, names_of, ListsOver, levels_of, Leaf, Mixed, Native, BoxShape, Accepted, Accepts, IsStructured, IsBytes, IsText, IsAccepted, IsAcceptedStructure}
 use Rattle.arrow_values.specs.Tree.{binary}
 use Rattle.geoarrow_layout.specs.declared.names.Candidates.{Candidates}
 use Rattle.geoarrow_layout.specs.declared.names.Candidates.TheVariants.{None as NoName, LineStringOrMultiPoint, PolygonOrMultiLineString, PointOrBox}

@@ -410,8 +410,8 @@ fn root_union(members: &[(i8, Field)]) -> Bottom
     }
 }
 
-/// The summary of a data type, found in one walk that goes no further than three list levels and two unions. Takes no
-/// memory.
+/// The summary of a data type, found in one walk that goes no further than three list levels and two unions. Allocates
+/// nothing.
 pub fn summarize(data_type: &DataType) -> Summary
     ensures { Summarizes result (tree data_type.now) }
 {
