@@ -135,6 +135,39 @@ Only the end of an Arrow file is read, and only the first message of a stream
   $ (cat ../crates/geoarrow_check/data/stream.arrows; yes) | geoarrow_check --json -
   {"column":"a","index":0,"state":"plain","type":"int64"}
 
+200,000 lines in memory that does not grow: 16 MB of addresses suffice, and the places of columns go on
+
+  $ for word in --quiet --lines --json
+  > do
+  >     yes "$(cat point.jsonl)" | head -n 200000 | (ulimit -v 16000; geoarrow_check $word --expect geometry=point --expect b=XY -) | sed 's/"index":[0-9]*,//' | uniq -c | cut -c1-60
+  > done
+  -: no column b
+  -: no column b
+   200000 {"metadata":{"ARROW:extension:name":"geoarrow.point"
+  -: no column b
+   200000 {"column":"geometry","edges":"planar","extension":"g
+
+  $ yes "$(cat point.jsonl)" | head -n 200000 | (ulimit -v 16000; geoarrow_check --json -) | sed -n '1p;$p' | grep -o '"index":[0-9]*'
+  "index":0
+  "index":199999
+
+A line of 1,048,576 bytes, and one with a byte more
+
+  $ for bytes in 1048576 1048577
+  > do
+  >     (cat point.jsonl; printf '%*s\n' $bytes '{"name":"a","nullable":true,"type":"null"}') | geoarrow_check --json - 2>&1 | cut -c1-60
+  > done
+  {"column":"geometry","edges":"planar","extension":"geoarrow.
+  {"column":"a","index":1,"state":"plain","type":"null"}
+  {"column":"geometry","edges":"planar","extension":"geoarrow.
+  -: line 2: has more than 1048576 bytes
+
+An input without a line feed, which does not end
+
+  $ yes | tr -d '\n' | (ulimit -v 16000; geoarrow_check --quiet -)
+  -: line 1: has more than 1048576 bytes
+  [2]
+
 Lines of JSON
 
   $ geoarrow_check --json --infer ../examples/schema.jsonl
@@ -175,9 +208,22 @@ Files that cannot be read: the next one is read all the same
   {"column":"a","file":"../crates/geoarrow_check/data/stream.arrows","index":0,"state":"plain","type":"int64"}
   [2]
 
-  $ printf '{"name":"a","nullable":true,"type":"null"}\n[]\n' | geoarrow_check --json -
+What stands before a line that is refused is printed, but for a table and a stream
+
+  $ for words in --json --lines --quiet --infer --ipc
+  > do
+  >     printf '{"name":"a","nullable":true,"type":"null"}\n[]\n' | geoarrow_check $words --expect b=point --require-geometry -
+  > done
+  {"column":"a","index":0,"state":"plain","type":"null"}
+  -: line 2: is JSON, but no object
+  {"name":"a","nullable":true,"type":"null"}
+  -: line 2: is JSON, but no object
+  -: line 2: is JSON, but no object
+  -: line 2: is JSON, but no object
   -: line 2: is JSON, but no object
   [2]
+
+Why a line is refused
 
   $ for line in '{"name":"a" "nullable":true}' '' '{"nullable":true,"type":"null"}' '{"name":"a","type":"null"}' '{"metadata":{"a":1},"name":"a","nullable":true,"type":"null"}' '{"name":"a","nullable":true,"type":"time"}' '{"name":"a","nullable":true,"type":{"other":"time","size":1}}'
   > do

@@ -6,16 +6,45 @@ use strsim::levenshtein;
 /// What is asked.
 #[derive(Debug, Drop)]
 pub(crate) struct Asked {
-    pub(crate) json: bool,
-    pub(crate) lines: bool,
-    pub(crate) ipc: bool,
+    json: bool,
+    lines: bool,
+    ipc: bool,
+    quiet: bool,
     pub(crate) infer: bool,
-    pub(crate) quiet: bool,
     pub(crate) require_geometry: bool,
     pub(crate) help: bool,
     pub(crate) version: bool,
     pub(crate) wants: Vec<String>,
     pub(crate) files: Vec<String>,
+}
+
+/// What is printed of columns.
+#[derive(Debug, Clone, Copy, PartialEq, Eq)]
+pub(crate) enum Output {
+    Nothing,
+    Table,
+    Json,
+    Lines,
+    Ipc,
+}
+
+impl Asked {
+    /// What is printed of columns.
+    pub(crate) fn output(&self) -> Output {
+        if self.lines {
+            return Output::Lines;
+        }
+        if self.ipc {
+            return Output::Ipc;
+        }
+        if self.quiet {
+            return Output::Nothing;
+        }
+        if self.json {
+            return Output::Json;
+        }
+        Output::Table
+    }
 }
 
 /// The words that are no files.
@@ -69,8 +98,8 @@ fn nothing_asked(alloc: Global) -> Asked {
         json: false,
         lines: false,
         ipc: false,
-        infer: false,
         quiet: false,
+        infer: false,
         require_geometry: false,
         help: false,
         version: false,

@@ -5,6 +5,41 @@ use column_files::{FileFault, LineFault};
 use parquet_footer::{FooterError, Rule};
 use parquet_schema::SchemaError;
 use std::alloc::{AllocError, Global};
+use std::io;
+
+/// Why a file is not reported to its end.
+#[derive(Debug, Drop)]
+pub(crate) enum Failure {
+    /// The file cannot be read.
+    Input(io::Error),
+    /// What was read says no columns.
+    File(FileFault),
+    /// The line behind so many is too long.
+    LongLine(usize),
+    /// The output fails.
+    Output(io::Error),
+}
+
+impl From<io::Error> for Failure {
+    fn from(error: io::Error) -> Failure {
+        Failure::Input(error)
+    }
+}
+
+impl From<FileFault> for Failure {
+    fn from(fault: FileFault) -> Failure {
+        Failure::File(fault)
+    }
+}
+
+impl From<AllocError> for Failure {
+    fn from(refused: AllocError) -> Failure {
+        Failure::File(FileFault::from(refused))
+    }
+}
+
+/// The greatest number of bytes in a line, its line feed not among them.
+pub(crate) const MAX_LINE_BYTES: usize = 1_048_576;
 
 const OUT_OF_MEMORY: &str = "out of memory";
 
@@ -77,6 +112,12 @@ fn footer_rule(rule: Rule) -> &'static str {
         Rule::Utf8 => "a text is not UTF-8",
         Rule::Name => "a number denotes no name of the format",
     }
+}
+
+/// That the line behind so many is too long.
+pub(crate) fn long_line(alloc: Global, before: usize) -> Result<String, AllocError> {
+    let line = before.saturating_add(1);
+    format!(in alloc; "line {line}: has more than {MAX_LINE_BYTES} bytes")
 }
 
 /// Why a line denotes no column. Lines and bytes are counted from 1.

@@ -1,8 +1,11 @@
-//! The bytes of a file that say what its columns are.
+//! The columns of a file, one after another.
 
-use column_files::{Form, form_of};
+use crate::problems::{Failure, MAX_LINE_BYTES};
+use crate::report::Report;
+use column_files::{FileFault, Form, columns_of, form_of, parse_column_line};
+use json::Scratch;
 use std::alloc::Global;
-use std::io::{Read, Seek, SeekFrom};
+use std::io::{BufRead, BufReader, Cursor, Read, Seek, SeekFrom};
 use std::{fs, io};
 
 /// How many bytes are read to tell the format; of a stream they have the size of its first message.
@@ -13,13 +16,20 @@ const ARROW_TAIL: u64 = 10;
 
 const PARQUET_TAIL: u64 = 8;
 
-/// The format of a file, and the bytes of it that say what its columns are: of an Arrow or Parquet file its end, of a stream its
-/// first message, and all of lines. `-` is standard input; of an Arrow or Parquet file there, or in a pipe, all is read.
-pub(crate) fn bytes_of(rt: &HostRuntime, file: &str) -> io::Result<(Form, Vec<u8>)> {
+/// How many bytes of lines are read at a time.
+const CHUNK_BYTES: usize = 65_536;
+
+/// Reports the columns of a file: of an Arrow or Parquet file its end is read, of a stream its first message, and lines one after
+/// another. `-` is standard input; of an Arrow or Parquet file there, or in a pipe, all is read.
+pub(crate) fn report_columns(
+    rt: &HostRuntime,
+    file: &str,
+    report: &mut Report<'_>,
+) -> Result<(), Failure> {
     if file == "-" {
         let mut source = rt.stdin();
         let head = head_of(rt.alloc(), &mut source)?;
-        return with_rest(&mut source, head);
+        return report_rest(rt, source, head, report);
     }
     let mut source = fs::File::open(rt, file)?;
     let head = head_of(rt.alloc(), &mut source)?;
@@ -32,10 +42,10 @@ pub(crate) fn bytes_of(rt: &HostRuntime, file: &str) -> io::Result<(Form, Vec<u8
     if tail > 0 {
         if let Ok(length) = source.seek(SeekFrom::End(0)) {
             let end = end_of(rt.alloc(), &mut source, length, tail)?;
-            return Ok((form, end));
+            return report_schema(rt, form, end.as_slice(), report);
         }
     }
-    with_rest(&mut source, head)
+    report_rest(rt, source, head, report)
 }
 
 /// The first bytes.
@@ -45,23 +55,69 @@ fn head_of<R: Read>(alloc: Global, source: &mut R) -> io::Result<Vec<u8>> {
     Ok(head)
 }
 
-/// The format that the first bytes tell, and these with what else of the bytes says what the columns are.
-fn with_rest<R: Read>(source: &mut R, head: Vec<u8>) -> io::Result<(Form, Vec<u8>)> {
+/// Reports the columns of what the first bytes, and those behind them, say.
+fn report_rest<R: Read + Drop>(
+    rt: &HostRuntime,
+    source: R,
+    head: Vec<u8>,
+    report: &mut Report<'_>,
+) -> Result<(), Failure> {
     let form = form_of(head.as_slice());
-    let mut bytes = head;
-    match form {
-        Form::ArrowStream => {
-            let size = match bytes.as_slice() {
-                [_, _, _, _, a, b, c, d] => u32::from_le_bytes([*a, *b, *c, *d]),
-                _ => 0,
-            };
-            source.take(u64::from(size)).read_to_end(&mut bytes)?;
+    let rest = match (form, head.as_slice()) {
+        (Form::Lines, _) => {
+            let whole = Cursor::new(head).chain(source);
+            let mut lines = BufReader::with_capacity(rt.alloc(), CHUNK_BYTES, whole)?;
+            return report_lines(rt, &mut lines, report);
         }
-        Form::ArrowFile | Form::Parquet | Form::Lines => {
-            source.read_to_end(&mut bytes)?;
+        (Form::ArrowStream, [_, _, _, _, size @ ..]) => u64::from(size_in(size)),
+        _ => u64::MAX,
+    };
+    let mut bytes = head;
+    source.take(rest).read_to_end(&mut bytes)?;
+    report_schema(rt, form, bytes.as_slice(), report)
+}
+
+/// Reports the columns of a schema.
+fn report_schema(
+    rt: &HostRuntime,
+    form: Form,
+    bytes: &[u8],
+    report: &mut Report<'_>,
+) -> Result<(), Failure> {
+    let columns = columns_of(rt.alloc(), form, bytes)?;
+    for column in columns {
+        report.add(rt, column).map_err(Failure::Output)?;
+    }
+    Ok(())
+}
+
+/// Reports the columns of lines, of which one at a time is kept.
+fn report_lines<R: BufRead>(
+    rt: &HostRuntime,
+    lines: &mut R,
+    report: &mut Report<'_>,
+) -> Result<(), Failure> {
+    let mut scratch = Scratch::new(rt.alloc());
+    let mut line = Vec::new(rt.alloc());
+    for _ in 0..u64::MAX {
+        line.clear();
+        let most = MAX_LINE_BYTES as u64 + 1;
+        lines.take(most).read_until(b'\n', &mut line)?;
+        let text = match line.as_slice() {
+            [] => return Ok(()),
+            [text @ .., b'\n'] => text,
+            text => text,
+        };
+        let before = report.count();
+        if text.len() > MAX_LINE_BYTES {
+            return Err(Failure::LongLine(before));
+        }
+        match parse_column_line(rt.alloc(), text, &mut scratch)? {
+            Ok(column) => report.add(rt, column).map_err(Failure::Output)?,
+            Err(fault) => return Err(Failure::File(FileFault::NoField(before, fault))),
         }
     }
-    Ok((form, bytes))
+    Ok(())
 }
 
 /// The end of a file of that length: the footer, and so many bytes behind it, of which the first four are its size.
@@ -74,13 +130,17 @@ fn end_of<S: Read + Seek>(
     source.seek(SeekFrom::Start(length.saturating_sub(tail)))?;
     let mut last = Vec::new(alloc);
     source.take(tail).read_to_end(&mut last)?;
-    let size = match last.as_slice() {
-        [a, b, c, d, ..] => u32::from_le_bytes([*a, *b, *c, *d]),
-        _ => 0,
-    };
-    let wanted = u64::from(size).saturating_add(tail);
+    let wanted = u64::from(size_in(last.as_slice())).saturating_add(tail);
     source.seek(SeekFrom::Start(length.saturating_sub(wanted)))?;
     let mut end = Vec::new(alloc);
     source.read_to_end(&mut end)?;
     Ok(end)
+}
+
+/// The number in the first four bytes, the lowest first.
+fn size_in(bytes: &[u8]) -> u32 {
+    match bytes {
+        [a, b, c, d, ..] => u32::from_le_bytes([*a, *b, *c, *d]),
+        _ => 0,
+    }
 }
