@@ -5,7 +5,7 @@
 //! use geoarrow_checked::{answer, check, Command};
 //!
 //! let line = br#"{"metadata":{"ARROW:extension:name":"geoarrow.wkb"},"name":"g","nullable":true,"type":"binary"}"#;
-//! assert_eq!(answer(Command::Read, line)?, "wkb - -");
+//! assert_eq!(answer(Command::Read, line)?, "wkb - - -");
 //! let report = check(line, false)?;
 //! assert!(report.contains(r#""state":"geometry","type":"wkb - -""#));
 //! # Ok::<(), geoarrow_checked::Error>(())
