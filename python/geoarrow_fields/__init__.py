@@ -42,8 +42,8 @@ def check(source: Any, infer: bool = False, strict: bool = False) -> List[Column
     if status != library.DONE:
         raise RefusedSource(status, place + left_out if status == _ENVELOPE else place)
     columns = columns_of(report)
-    invalid = [one for one in columns if one.is_invalid]
-    if strict and invalid:
+    invalid = [one for one in columns if one.is_invalid] if strict else []
+    if invalid:
         raise InvalidColumns(invalid)
     return columns
 

@@ -1,5 +1,7 @@
 """What is said of columns."""
+import collections
 import dataclasses
+import itertools
 import json
 from typing import Any, Dict, List, Optional, Tuple
 
@@ -19,22 +21,26 @@ class Reason:
         return f"{self.message} at {'.'.join(self.path)}" if self.path else self.message
 
 
+def _none() -> None:
+    """The default of what a column may lack. (A factory, so that the class itself has no such attribute.)"""
+
+
 @dataclasses.dataclass(frozen=True)
 class Column:
     """What is said of a column (docs/FORMAT.md, 2.5 and 2.6). `json` is the line of the report, which has the CRS as it is written;
-    `crs` is that as Python's json reads it."""
+    `crs` is that as Python's json reads it. The line of a column that `check` gives is read when an attribute is first asked for."""
 
     name: str
     index: int
     state: str
     type: str
-    extension: Optional[str] = None
-    edges: Optional[str] = None
-    crs_type: Optional[str] = None
-    crs: Any = None
-    reasons: Tuple[Reason, ...] = ()
-    warnings: Tuple[Reason, ...] = ()
-    json: str = dataclasses.field(default="", repr=False, compare=False)
+    extension: Optional[str] = dataclasses.field(default_factory=_none)
+    edges: Optional[str] = dataclasses.field(default_factory=_none)
+    crs_type: Optional[str] = dataclasses.field(default_factory=_none)
+    crs: Any = dataclasses.field(default_factory=_none)
+    reasons: Tuple[Reason, ...] = dataclasses.field(default_factory=tuple)
+    warnings: Tuple[Reason, ...] = dataclasses.field(default_factory=tuple)
+    json: str = dataclasses.field(default_factory=str, repr=False, compare=False)
 
     @property
     def is_geometry(self) -> bool:
@@ -43,6 +49,17 @@ class Column:
     @property
     def is_invalid(self) -> bool:
         return self.state == "invalid"
+
+    def __getattr__(self, name: str) -> Any:
+        """An attribute that is not there yet: those of the line are made."""
+        held = vars(self)
+        if name not in _ATTRIBUTES or "json" not in held:
+            raise AttributeError(f"a column has no attribute {name!r}")
+        held.update(_attributes(held["json"]))
+        return held[name]
+
+
+_ATTRIBUTES = frozenset(field.name for field in dataclasses.fields(Column))
 
 
 class Columns(List[Column]):
@@ -56,16 +73,24 @@ class Columns(List[Column]):
 
 
 def columns_of(report: str) -> Columns:
-    """The columns of a report, of which each line is one."""
+    """The columns of a report, of which each line is one, and is not read yet."""
     lines = report.split("\n")[:-1]
-    return Columns(map(_column, json.loads(f"[{','.join(lines)}]"), lines))
+    columns = Columns(map(Column.__new__, itertools.repeat(Column, len(lines))))
+    collections.deque(map(object.__setattr__, columns, itertools.repeat("json"), lines), maxlen=0)  # (a loop, without a step of Python for each)
+    return columns
 
 
-def _column(said: Dict[str, Any], line: str) -> Column:
+_json = json.JSONDecoder().raw_decode
+
+
+def _attributes(line: str) -> Dict[str, Any]:
+    """The attributes of the column of a line."""
+    said = _json(line)[0]
     known = said.get
-    return Column(
-        said["column"], said["index"], said["state"], said["type"], known("extension"), known("edges"), known("crs_type"), known("crs"),
-        _reasons(said, "reasons"), _reasons(said, "warnings"), line)
+    return {
+        "name": said["column"], "index": said["index"], "state": said["state"], "type": said["type"], "extension": known("extension"),
+        "edges": known("edges"), "crs_type": known("crs_type"), "crs": known("crs"), "reasons": _reasons(said, "reasons"),
+        "warnings": _reasons(said, "warnings")}
 
 
 def _reasons(said: Dict[str, Any], key: str) -> Tuple[Reason, ...]:

@@ -1,4 +1,6 @@
 """Tests of the calls: what they answer, and what they raise."""
+import copy
+import dataclasses
 import pathlib
 import pickle
 import re
@@ -196,6 +198,28 @@ class Schemas(unittest.TestCase):
     def test_a_schema_that_is_checked(self):
         given = (TOP / "examples/schema.jsonl").read_text()
         self.assertEqual(check(Schema(given), infer=True), check(given.encode(), infer=True))
+
+
+class Columns(unittest.TestCase):
+    """Columns whose line is read when it is first looked at."""
+
+    def test_each_attribute_may_be_the_first(self):
+        wanted = Column("t", 0, "plain", "utf8")
+        for name in ("name", "index", "state", "type", "extension", "edges", "crs_type", "crs", "reasons", "warnings", "is_geometry", "is_invalid"):
+            (column,) = check([TEXT])
+            self.assertEqual(getattr(column, name), getattr(wanted, name))
+        for look in (repr, hash, dataclasses.asdict, lambda one: dataclasses.replace(one, name="u"), lambda one: pickle.loads(pickle.dumps(one)), copy.copy):
+            (column,) = check([TEXT])
+            found = look(column)
+            self.assertEqual(found, {**look(wanted), "json": column.json} if look is dataclasses.asdict else look(wanted))
+
+    def test_no_other_attribute(self):
+        (column,) = check([TEXT])
+        for one in (column, Column("t", 0, "plain", "utf8")):
+            with self.assertRaises(AttributeError):
+                one.names
+            with self.assertRaises(dataclasses.FrozenInstanceError):
+                one.name = "u"
 
 
 class Threads(unittest.TestCase):
