@@ -1,6 +1,7 @@
 """Tests of the wheel: what it holds, and that it works from another folder, in each Python that is here."""
 import os
 import pathlib
+import re
 import shutil
 import subprocess
 import sys
@@ -43,6 +44,9 @@ class Wheel(unittest.TestCase):
         shutil.copytree(TOP / "python", cls.folder / "top/python", ignore=shutil.ignore_patterns("__pycache__", "build"))
         for name in ("LICENSE-APACHE", "LICENSE-MIT", "NOTICE"):
             shutil.copy(TOP / name, cls.folder / "top")
+        readme = (TOP / "README.md").read_text()
+        cls.code = re.search(r"(?m)^    python -c '(.*)'$", readme)[1]
+        cls.table = re.sub("(?m)^    ", "", re.search(r"    bin/geoarrow_check --infer examples/schema.jsonl\n\n((?:    .*\n)+)", readme)[1])
         cls.before = sorted(cls.folder.rglob("*"))
         cls.environment = {**os.environ, "GEOARROW_C_LIBRARY": os.path.realpath(library.path())}
         words = [BUILDERS[-1], "-m", "pip", "wheel", "--no-build-isolation", "--no-index", "--no-deps", "-w", str(cls.folder / "wheels"), "."]
@@ -78,7 +82,9 @@ class Wheel(unittest.TestCase):
                     environment = {name: text for name, text in os.environ.items() if name not in ("GEOARROW_C_LIBRARY", "PYTHONPATH")}
                     said = ran(python, "-c", INSTALLED, str(TOP / "examples/schema.jsonl"), cwd=elsewhere, env={**environment, "PYTHONPATH": target})
                     self.assertEqual(said.returncode, 0, said.stdout.decode())
-                    self.assertIn("outline    multipolygon interleaved XYZ", said.stdout.decode())
+                    self.assertEqual(said.stdout.decode(), self.table)
+                    said = ran(python, "-c", self.code, cwd=TOP, env={**environment, "PYTHONPATH": target})
+                    self.assertEqual(said.stdout.decode(), self.table)
 
     def test_without_the_library(self):
         words = [BUILDERS[-1], "-m", "pip", "wheel", "--no-build-isolation", "--no-index", "--no-deps", "-w", str(self.folder / "none"), "."]
