@@ -1,0 +1,2 @@
+pub mod Crs
+pub mod Written

@@ -1,0 +1,90 @@
+//! The text of extension metadata.
+ghost use Rattle.std.specs.Prelude.{◌≡◌, ◌++◌, codes, Some, IfOk, OnOk, option_map, string_bytes};
+ghost use Rattle.json.specs.Lex.{tokens};
+ghost use Rattle.json.specs.Print.{print};
+ghost use Rattle.serde_json.specs.Data.{Data};
+ghost use Rattle.serde_json.specs.Read.{read};
+ghost use Rattle.value_tokens.specs.Adds.{Adds};
+ghost use Rattle.geoarrow_meta.specs.Read.{crs_type_text, edges_text};
+ghost use Rattle.metadata_text.specs.Crs.{IsCrs, IsJson};
+ghost use Rattle.metadata_text.specs.Written.{crs_tokens, string_tokens, metadata_tokens, metadata_data};
+
+use crate::crs::WrittenCrs;
+use geoarrow_meta::{CrsType, Edges};
+use json::{Reader, Scratch, Token, Writer};
+use std::alloc::{AllocError, Global};
+
+/// The text of extension metadata with these three values (GeoArrow, "Extension metadata"): an object with `crs`, which is null if there is
+/// none, with `crs_type` if there is one, and with `edges` if there are any, in this order and without blanks. The tokens of a CRS in JSON are
+/// copied one by one. The text that is answered is read as that object, with the value that the CRS is read as. Errs only when out of
+/// memory.
+///
+/// ```rust
+/// let crs = WrittenCrs::Text("EPSG:4326");
+/// let text = metadata_text(alloc, crs, Some(CrsType::AuthorityCode), None)?;
+/// assert_eq!(rt; text.as_str(), r#"{"crs":"EPSG:4326","crs_type":"authority_code"}"#);
+/// ```
+pub fn metadata_text(
+    alloc: Global,
+    crs: WrittenCrs<'_>,
+    crs_type: Option<CrsType>,
+    edges: Option<Edges>,
+) -> Result<String, AllocError>
+    requires { (d : Data) × IsCrs crs d }
+    ensures text { IfOk result (λ text. string_bytes text ≡ print (metadata_tokens (crs_tokens crs.entry) crs_type edges)) }
+    ensures reads { IfOk result (λ text. (d : Data) → IsCrs crs.entry d → read (string_bytes text) ≡ Some (metadata_data d crs_type edges)) }
+{
+    let mut out = Writer::new(Vec::new(alloc));
+    out.begin_object()?;
+    out.key("crs")?;
+    put_crs(alloc, crs, &mut out)?;
+    put_crs_type(crs_type, &mut out)?;
+    put_edges(edges, &mut out)?;
+    out.end_object()?;
+    Ok(unsafe { String::from_utf8_unchecked(out.into_inner()) })
+}
+
+// Writes a CRS.
+fn put_crs(alloc: Global, crs: WrittenCrs<'_>, out: &mut Writer) -> Result<(), AllocError>
+    requires { (d : Data) × IsCrs crs d }
+    ensures { OnOk result (Adds (crs_tokens crs.entry) out.old out.new) }
+{
+    match crs {
+        WrittenCrs::Absent => out.null(),
+        WrittenCrs::Text(text) => out.string(text),
+        WrittenCrs::Json(text) => put_json(alloc, text, out),
+    }
+}
+
+// Copies the tokens of a JSON text.
+fn put_json(alloc: Global, text: &str, out: &mut Writer) -> Result<(), AllocError>
+    requires { (d : Data) × IsJson text.now d }
+    ensures { OnOk result (Adds (tokens text.now) out.old out.new) }
+{
+    let mut scratch = Scratch::new(alloc);
+    let mut reader = Reader::new(text, &mut scratch)?;
+    'tokens: while let Some(token) = reader.next() {
+        out.token(token)?;
+    }
+    Ok(())
+}
+
+fn put_crs_type(crs_type: Option<CrsType>, out: &mut Writer) -> Result<(), AllocError>
+    ensures { OnOk result (Adds (string_tokens (codes "crs_type") (option_map crs_type_text crs_type)) out.old out.new) }
+{
+    if let Some(crs_type) = crs_type {
+        out.key("crs_type")?;
+        return out.string(crs_type.as_text());
+    }
+    Ok(())
+}
+
+fn put_edges(edges: Option<Edges>, out: &mut Writer) -> Result<(), AllocError>
+    ensures { OnOk result (Adds (string_tokens (codes "edges") (option_map edges_text edges)) out.old out.new) }
+{
+    if let Some(edges) = edges {
+        out.key("edges")?;
+        return out.string(edges.as_text());
+    }
+    Ok(())
+}
