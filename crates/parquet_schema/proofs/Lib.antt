@@ -1,3 +1,5 @@
+mod Children
 mod Laters
 mod Names
+mod Parts
 mod Steps

@@ -15,7 +15,7 @@ use Rattle.parquet_columns.specs.declared.fault.Fault as elements
 use Rattle.parquet_columns.specs.Columns.{columns_of}
 use Rattle.parquet_schema.specs.Keys.{schema_key, value_of}
 use Rattle.parquet_schema.specs.Fault.{error_of}
-use Rattle.parquet_schema.specs.Reads.{same_names, IsBuilt, IsDecoded, HoldsSchema, IsStoredRead, IsReadBy, IsFooterRead, IsParsed, IsFileRead}
+use Rattle.parquet_schema.specs.Reads.{same_names, IsBuilt, IsDecoded, HoldsSchema, IsStoredRead, IsReadBy, IsFooterRead, IsParsedAs, IsReadAs}
 use Rattle.parquet_schema.specs.declared.fault.SchemaError.{SchemaError}
 use Rattle.parquet_schema.specs.declared.fault.SchemaError.TheVariants.{Footer, Cut, Elements, Encoding, Ipc, Names, OutOfMemory}
 
@@ -28,13 +28,9 @@ memory_by : (cs : List ColumnTree) (value : Option Text) → IsReadBy (Ok cs) va
 memory_by cs (Some text) = tt
 memory_by cs None = tt
 
-memory_read : (there : Result (List ColumnTree) elements.Fault) (value : Option Text) → IsReadBy there value (Err OutOfMemory)
+pub memory_read : (there : Result (List ColumnTree) elements.Fault) (value : Option Text) → IsReadBy there value (Err OutOfMemory)
 memory_read (Ok cs) value = memory_by cs value
 memory_read (Err fault) value = tt
-
-memory_of : (bytes : List ℕ) (read : Result Contents footers.Fault) → IsParsed bytes read (Err OutOfMemory)
-memory_of bytes (Ok c) = memory_read (columns_of c.schema) (value_of schema_key c.key_value_metadata)
-memory_of bytes (Err fault) = tt
 
 module _ (value : Option Text) where
   pub elements_fail : (there : Result (List ColumnTree) elements.Fault) (e : SchemaError) → IsBuilt there (Err e) → IsReadBy there value (Err e)
@@ -80,17 +76,25 @@ module _ (cs : List ColumnTree) (text : Text) where
       pub is_stored : same_names (map column_tree s.columns.items) cs ≡ true → IsStoredRead cs text (Ok s.columns)
       is_stored agree = (bytes, are, s, held, (refl, agree))
 
-pub is_parsed : (bytes : List ℕ) (read : Result Contents footers.Fault) (c : Contents) (r : Result (Vec Column Global) SchemaError) → read ≡ Ok c → IsFooterRead c r → IsParsed bytes read r
-is_parsed bytes read c r is f = rw is f
+pub memory_footer : (c : Contents) → IsFooterRead c (Err OutOfMemory)
+memory_footer c = memory_read (columns_of c.schema) (value_of schema_key c.key_value_metadata)
 
-pub is_refused : (bytes : List ℕ) (read : Result Contents footers.Fault) (e : FooterError) → Refuses bytes e read → IsParsed bytes read (Err (error_of e))
-is_refused bytes read NotParquet f = absurd f
-is_refused bytes read Encrypted f = absurd f
-is_refused bytes read (Invalid rule offset) f = rw f.1 (refl, f.2)
-is_refused bytes read Memory f = memory_of bytes read
+module _ {A : Type 0} (Is : Contents → Result A SchemaError → Type 0) where
+  pub is_parsed : (bytes : List ℕ) (read : Result Contents footers.Fault) (c : Contents) (r : Result A SchemaError) → read ≡ Ok c → Is c r → IsParsedAs Is bytes read r
+  is_parsed bytes read c r is f = rw is f
 
-pub no_footer : (found : Result (List ℕ) SchemaError) (e : SchemaError) → found ≡ Err e → IsFileRead found (Err e)
-no_footer found e is = rw is refl
+  memory_of : ((c : Contents) → Is c (Err OutOfMemory)) → (bytes : List ℕ) (read : Result Contents footers.Fault) → IsParsedAs Is bytes read (Err OutOfMemory)
+  memory_of memory bytes (Ok c) = memory c
+  memory_of memory bytes (Err fault) = tt
 
-pub with_footer : (found : Result (List ℕ) SchemaError) (bytes : List ℕ) (r : Result (Vec Column Global) SchemaError) → found ≡ Ok bytes → IsParsed bytes (footer_at bytes) r → IsFileRead found r
-with_footer found bytes r is f = rw is f
+  pub is_refused : ((c : Contents) → Is c (Err OutOfMemory)) → (bytes : List ℕ) (read : Result Contents footers.Fault) (e : FooterError) → Refuses bytes e read → IsParsedAs Is bytes read (Err (error_of e))
+  is_refused memory bytes read NotParquet f = absurd f
+  is_refused memory bytes read Encrypted f = absurd f
+  is_refused memory bytes read (Invalid rule offset) f = rw f.1 (refl, f.2)
+  is_refused memory bytes read Memory f = memory_of memory bytes read
+
+  pub no_footer : (found : Result (List ℕ) SchemaError) (e : SchemaError) → found ≡ Err e → IsReadAs Is found (Err e)
+  no_footer found e is = rw is refl
+
+  pub with_footer : (found : Result (List ℕ) SchemaError) (bytes : List ℕ) (r : Result A SchemaError) → found ≡ Ok bytes → IsParsedAs Is bytes (footer_at bytes) r → IsReadAs Is found r
+  with_footer found bytes r is f = rw is f

@@ -19,6 +19,7 @@ use Rattle.parquet_columns.specs.Columns.{columns_of}
 use Rattle.parquet_columns.specs.declared.fault.Fault as elements
 use Rattle.arrow_values.specs.Tree.{Text}
 use Rattle.parquet_schema.specs.Keys.{schema_key, value_of}
+use Rattle.parquet_schema.specs.Geometry.{root_children, marked_columns}
 use Rattle.parquet_schema.specs.declared.fault.SchemaError.{SchemaError}
 use Rattle.parquet_schema.specs.declared.fault.SchemaError.TheVariants.{Footer, Cut, Elements, Encoding, Ipc, Names, OutOfMemory}
 
@@ -67,8 +68,21 @@ abbrev pub IsReadBy : Result (List ColumnTree) elements.Fault → Option Text �
 IsReadBy (Ok cs) (Some text) r = IsStoredRead cs text r
 IsReadBy there value r = IsBuilt there r
 
+-- the columns that the schema of a footer denotes, or the value of the key
+abbrev pub AreStored : Contents → Result (Vec Column Global) SchemaError → Type 0
+AreStored c r = IsReadBy (columns_of c.schema) (value_of schema_key c.key_value_metadata) r
+
+-- the columns of a footer: those, of which the ones of geometry types have the extension that their elements denote
 abbrev pub IsFooterRead : Contents → Result (Vec Column Global) SchemaError → Type 0
-IsFooterRead c r = IsReadBy (columns_of c.schema) (value_of schema_key c.key_value_metadata) r
+IsFooterRead c (Ok columns) = (stored : Vec Column Global) × AreStored c (Ok stored)
+    × (map column_tree columns.items ≡ marked_columns c.key_value_metadata (root_children c.schema) (map column_tree stored.items))
+IsFooterRead c (Err error) = AreStored c (Err error)
+
+-- the value of a key of a footer
+abbrev pub IsValueOf : Text → Contents → Result (Option Text) SchemaError → Type 0
+IsValueOf key c (Ok value) = value ≡ value_of key c.key_value_metadata
+IsValueOf key c (Err OutOfMemory) = ⊤
+IsValueOf key c (Err _) = ⊥
 
 -- the footer at the end of a file: its length and the magic stand behind it, in eight bytes
 abbrev pub footer_before : List ℕ → Result ℕ FooterError → Result (List ℕ) SchemaError
@@ -80,14 +94,21 @@ footer_in bytes =
     if nat_lt (length bytes) 8 then Err (Footer NotParquet) else
     footer_before (take (length bytes - 8) bytes) (length_at (drop (length bytes - 8) bytes))
 
--- the columns of the bytes of a footer
-abbrev pub IsParsed : List ℕ → Result Contents footers.Fault → Result (Vec Column Global) SchemaError → Type 0
-IsParsed bytes (Ok c) r = IsFooterRead c r
-IsParsed bytes (Err fault) (Err OutOfMemory) = ⊤
-IsParsed bytes (Err fault) (Err (Footer (Invalid rule offset))) = (rule ≡ fault.rule) × (offset + fault.left ≡ length bytes)
-IsParsed bytes (Err fault) r = ⊥
+-- what is read of the bytes of a footer: what its contents are read as; or which rule they break, and where
+abbrev pub IsParsedAs : {A : Type 0} → (Contents → Result A SchemaError → Type 0) → List ℕ → Result Contents footers.Fault → Result A SchemaError → Type 0
+IsParsedAs Is bytes (Ok c) r = Is c r
+IsParsedAs Is bytes (Err fault) (Err OutOfMemory) = ⊤
+IsParsedAs Is bytes (Err fault) (Err (Footer (Invalid rule offset))) = (rule ≡ fault.rule) × (offset + fault.left ≡ length bytes)
+IsParsedAs Is bytes (Err fault) r = ⊥
 
--- the columns of a file, by its end
+-- what is read of a file, by its end
+abbrev pub IsReadAs : {A : Type 0} → (Contents → Result A SchemaError → Type 0) → Result (List ℕ) SchemaError → Result A SchemaError → Type 0
+IsReadAs Is (Err error) r = r ≡ Err error
+IsReadAs Is (Ok footer) r = IsParsedAs Is footer (footer_at footer) r
+
+-- the columns of a file, and the value of a key
 abbrev pub IsFileRead : Result (List ℕ) SchemaError → Result (Vec Column Global) SchemaError → Type 0
-IsFileRead (Err error) r = r ≡ Err error
-IsFileRead (Ok footer) r = IsParsed footer (footer_at footer) r
+IsFileRead found r = IsReadAs IsFooterRead found r
+
+abbrev pub IsValueRead : Text → Result (List ℕ) SchemaError → Result (Option Text) SchemaError → Type 0
+IsValueRead key found r = IsReadAs (IsValueOf key) found r

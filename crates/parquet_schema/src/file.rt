@@ -1,11 +1,13 @@
-//! The columns of a file, from its end.
+//! The columns of a file and the values of its keys, from its end.
 ghost use Rattle.std.specs.Prelude.{◌≡◌};
 ghost use Rattle.parquet_footer.specs.Footer.{footer_at};
 ghost use Rattle.parquet_schema.specs.Fault.{map_ok};
-ghost use Rattle.parquet_schema.specs.Reads.{footer_in, IsParsed, IsFileRead};
+ghost use Rattle.arrow_values.specs.Texts.{text_of};
+ghost use Rattle.parquet_schema.specs.Reads.{footer_in, IsParsedAs, IsFooterRead, IsValueOf, IsFileRead, IsValueRead};
 
 use crate::columns::columns_of_footer;
 use crate::fault::{SchemaError, error_of};
+use crate::keys::value_of;
 use arrow_columns::Column;
 use parquet_footer::{FooterError, footer_length, read_footer};
 use std::alloc::Global;
@@ -41,7 +43,7 @@ pub fn footer_in(end: &[u8]) -> Result<&[u8], SchemaError>
 
 /// The columns of the bytes of a footer.
 fn columns_of_bytes(alloc: Global, bytes: &[u8]) -> Result<Vec<Column>, SchemaError>
-    ensures { IsParsed bytes.now (footer_at bytes.now) result }
+    ensures { IsParsedAs IsFooterRead bytes.now (footer_at bytes.now) result }
 {
     match read_footer(alloc, bytes) {
         Ok(footer) => columns_of_footer(alloc, &footer),
@@ -59,4 +61,38 @@ pub fn columns_of_file(alloc: Global, end: &[u8]) -> Result<Vec<Column>, SchemaE
 {
     let bytes = footer_in(end)?;
     columns_of_bytes(alloc, bytes)
+}
+
+/// The value of a key in the bytes of a footer.
+fn value_in_bytes<'a>(
+    alloc: Global,
+    bytes: &'a [u8],
+    key: &str,
+) -> Result<Option<&'a str>, SchemaError>
+    ensures { IsParsedAs (IsValueOf key.now) bytes.now (footer_at bytes.now) (map_ok text_of result) }
+{
+    match read_footer(alloc, bytes) {
+        Ok(footer) => Ok(value_of(&footer, key)),
+        Err(error) => Err(error_of(error)),
+    }
+}
+
+/// The value of a key in the key-value metadata of a Parquet file, as `value_of` answers it, from the end of the file: its bytes, or as many of its last
+/// ones as the footer, its length and the magic take. The value is a part of these bytes.
+///
+/// Errs as `footer_in`; with `Footer` where the footer breaks a rule, with the rule and the offset in the footer; and when out of memory.
+///
+/// ```rust
+/// let value = value_in_file(alloc, b"PAR1", "geo");
+/// assert!(rt; matches!(value, Err(SchemaError::Footer(FooterError::NotParquet))));
+/// ```
+pub fn value_in_file<'a>(
+    alloc: Global,
+    end: &'a [u8],
+    key: &str,
+) -> Result<Option<&'a str>, SchemaError>
+    ensures { IsValueRead key.now (footer_in end.now) (map_ok text_of result) }
+{
+    let bytes = footer_in(end)?;
+    value_in_bytes(alloc, bytes, key)
 }
