@@ -266,23 +266,53 @@ Why a line is refused
   -: byte 8 of the message: no whole message
   [2]
 
+The checks of GeoParquet metadata behind the columns: those that do not hold, or all
+
+  $ geoarrow_check ../crates/geoarrow_check/data/geo.parquet
+  column  holds    CRS        edges
+  geom    binary
+  place   wkb - -  EPSG:4326  planar
+  region  wkb - -  OGC:CRS84  karney
+  GeoTypes of geom does not hold: geometry_types are different names of geometry types that fit the encoding
+  GeoBbox of geom does not hold: bbox is absent, or four or six numbers in order
+  [1]
+
+  $ geoarrow_check --all-checks ../crates/geoarrow_check/data/geo.parquet | grep Geo | sed 's/:.*//'
+  GeoObject holds
+  GeoVersion holds
+  GeoPrimaryColumn holds
+  GeoColumns holds
+  GeoEncoding of geom holds
+  GeoTypes of geom does not hold
+  GeoCrs of geom holds
+  GeoCrsAgrees of geom holds
+  GeoEdges of geom holds
+  GeoOrientation of geom holds
+  GeoBbox of geom does not hold
+  GeoEpoch of geom holds
+  GeoCovering of geom holds
+
+  $ geoarrow_check --json --all-checks ../crates/geoarrow_check/data/geo.parquet | grep -c '"ok":true'
+  11
+
 Words that are answered at once
 
   $ geoarrow_check --version
   geoarrow_check 1.0.0 (rattle-kit-13b)
 
   $ geoarrow_check --help | head -n 1
-  usage: geoarrow_check [--json | --lines | --ipc] [--infer] [--quiet] [--require-geometry] [--expect COLUMN=WANT].. FILE..
+  usage: geoarrow_check [--json | --lines | --ipc] [--infer] [--all-checks] [--quiet] [--require-geometry] [--expect COLUMN=WANT].. FILE..
 
 Words that are refused
 
-  $ for word in --jsno --line --infre --quite --require-geometri --expct --hlep --versoin
+  $ for word in --jsno --line --infre --all-check --quite --require-geometri --expct --hlep --versoin
   > do
   >     geoarrow_check $word x 2>&1 | head -n 1
   > done
   geoarrow_check: --jsno is unknown; --json is near it
   geoarrow_check: --line is unknown; --lines is near it
   geoarrow_check: --infre is unknown; --infer is near it
+  geoarrow_check: --all-check is unknown; --all-checks is near it
   geoarrow_check: --quite is unknown; --quiet is near it
   geoarrow_check: --require-geometri is unknown; --require-geometry is near it
   geoarrow_check: --expct is unknown; --expect is near it

@@ -1,6 +1,7 @@
 //! The program: says what each column of the files that it is given holds, in a table or as lines of JSON.
 #![tactic(auto)]
 
+mod checks;
 mod options;
 mod problems;
 mod report;
@@ -18,19 +19,20 @@ use std::{env, io};
 
 /// What `--help` prints, and what follows the reason where words are refused.
 const USAGE: &str =
-    "usage: geoarrow_check [--json | --lines | --ipc] [--infer] [--quiet] [--require-geometry] [--expect COLUMN=WANT].. FILE..
+    "usage: geoarrow_check [--json | --lines | --ipc] [--infer] [--all-checks] [--quiet] [--require-geometry] [--expect COLUMN=WANT].. FILE..
 
-Says what each column of each file holds, and why it is invalid.
+Says what each column of each file holds, and why it is invalid; and which checks of GeoParquet metadata do not hold.
 FILE: an Arrow file (Feather), an Arrow stream, a Parquet file, or lines of fields; - is standard input
 WANT: a kind, a coordinate type, a dimension, an encoding (native, WKB, WKT), a CRS: as point,XY,EPSG:4326
   --json              a line of JSON for each column, in place of a table
   --lines             the columns as lines of fields, in place of what they hold
   --ipc               the columns as an Arrow stream of its schema alone, of one file
   --infer             infer a type for columns without an extension name
+  --all-checks        also the checks of GeoParquet metadata that hold
   --quiet             print nothing of the columns
   --require-geometry  status 1 where a file has no column of geometries
   --expect            status 1 where the column holds other geometries, or none
-Status: 0 if no column is invalid and all that is expected is met, 1 otherwise, 2 if a file or the words cannot be read.
+Status: 0 if no column is invalid, each check holds and all that is expected is met, 1 otherwise, 2 if a file or the words cannot be read.
 ";
 
 /// The version, as `--version` prints it.

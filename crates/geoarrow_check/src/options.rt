@@ -11,6 +11,7 @@ pub(crate) struct Asked {
     ipc: bool,
     quiet: bool,
     pub(crate) infer: bool,
+    pub(crate) all_checks: bool,
     pub(crate) require_geometry: bool,
     pub(crate) help: bool,
     pub(crate) version: bool,
@@ -48,11 +49,12 @@ impl Asked {
 }
 
 /// The words that are no files.
-const KNOWN: [&str; 9] = [
+const KNOWN: [&str; 10] = [
     "--json",
     "--lines",
     "--ipc",
     "--infer",
+    "--all-checks",
     "--quiet",
     "--require-geometry",
     "--expect",
@@ -100,6 +102,7 @@ fn nothing_asked(alloc: Global) -> Asked {
         ipc: false,
         quiet: false,
         infer: false,
+        all_checks: false,
         require_geometry: false,
         help: false,
         version: false,
@@ -115,6 +118,7 @@ fn note_word(alloc: Global, asked: &mut Asked, word: &str) -> Result<Option<Stri
         "--lines" => asked.lines = true,
         "--ipc" => asked.ipc = true,
         "--infer" => asked.infer = true,
+        "--all-checks" => asked.all_checks = true,
         "--quiet" => asked.quiet = true,
         "--require-geometry" => asked.require_geometry = true,
         "--help" => asked.help = true,

@@ -4,6 +4,7 @@ ghost use Rattle.arrow_values.specs.Texts.{text_of};
 ghost use Rattle.arrow_columns.specs.Column.{column_tree, metadata_on};
 ghost use Rattle.file_reports.specs.Report.{IsCrsOf, IsLineOf};
 
+use crate::checks::checks_text;
 use crate::options::{Asked, Output};
 use crate::table::Table;
 use crate::wants::Wanted;
@@ -13,6 +14,8 @@ use column_check::{Finding, check_column, warnings};
 use column_files::column_line;
 use column_reports::json_line;
 use crs_text::crs_text_with_scratch;
+use geo_reports::check_lines;
+use geoparquet::GeoFinding;
 use json::Scratch;
 use std::alloc::{AllocError, Global};
 use std::collections::BTreeMap;
@@ -31,12 +34,15 @@ pub(crate) struct Report<'a> {
     /// What is not written yet.
     text: String,
     table: Table,
+    /// The checks of GeoParquet metadata, which stand behind the table.
+    checks: String,
     /// The columns for `--ipc`.
     columns: Vec<Column>,
     wanted: Wanted<'a>,
     count: usize,
     has_invalid: bool,
     has_geometry: bool,
+    has_failed: bool,
 }
 
 impl<'a> Report<'a> {
@@ -52,11 +58,13 @@ impl<'a> Report<'a> {
             scratch: Scratch::new(alloc),
             text: String::new(alloc),
             table: Table::new(alloc),
+            checks: String::new(alloc),
             columns: Vec::new(alloc),
             wanted: Wanted::new(alloc, asked.wants.as_slice())?,
             count: 0,
             has_invalid: false,
             has_geometry: false,
+            has_failed: false,
         })
     }
 
@@ -86,6 +94,38 @@ impl<'a> Report<'a> {
         Ok(())
     }
 
+    /// Adds the checks of a file's GeoParquet metadata, behind its columns.
+    pub(crate) fn add_checks(
+        &mut self,
+        alloc: Global,
+        findings: &[GeoFinding],
+    ) -> Result<(), AllocError> {
+        for finding in findings {
+            self.has_failed = self.has_failed | !finding.ok;
+        }
+        let all = self.asked.all_checks;
+        match self.asked.output() {
+            Output::Json => {
+                let lines = check_lines(alloc, self.named_file(), findings, all)?;
+                self.text.push_str(lines.as_str())
+            }
+            Output::Table => {
+                self.checks = checks_text(alloc, findings, all)?;
+                Ok(())
+            }
+            Output::Nothing | Output::Lines | Output::Ipc => Ok(()),
+        }
+    }
+
+    /// The name that the lines of JSON give the file.
+    fn named_file(&self) -> Option<&'a str> {
+        if self.file == "-" {
+            None
+        } else {
+            Some(self.file)
+        }
+    }
+
     /// Adds the line of JSON of a column.
     fn add_json(
         &mut self,
@@ -93,11 +133,7 @@ impl<'a> Report<'a> {
         column: &Column,
         finding: &Finding,
     ) -> Result<(), AllocError> {
-        let file = if self.file == "-" {
-            None
-        } else {
-            Some(self.file)
-        };
+        let file = self.named_file();
         let line = line_of(alloc, &mut self.scratch, file, self.count, column, finding)?;
         self.add_text(line)
     }
@@ -122,13 +158,15 @@ impl<'a> Report<'a> {
             asked,
             file,
             table,
+            checks,
             columns,
             wanted,
             has_invalid,
             has_geometry,
+            has_failed,
             ..
         } = self;
-        let mut status = u8::from(has_invalid);
+        let mut status = u8::from(has_invalid | has_failed);
         match asked.output() {
             Output::Ipc => status = write_stream(rt, file, columns)?,
             Output::Table => {
@@ -136,6 +174,7 @@ impl<'a> Report<'a> {
                     println!(rt; "{file}:")?;
                 }
                 table.write(rt)?;
+                rt.stdout().write_all(checks.as_bytes())?;
             }
             Output::Json | Output::Lines | Output::Nothing => {}
         }

@@ -3,6 +3,7 @@
 use crate::problems::{Failure, MAX_LINE_BYTES};
 use crate::report::Report;
 use column_files::{FileFault, Form, columns_of, form_of, parse_column_line};
+use file_reports::findings_in;
 use json::Scratch;
 use std::alloc::Global;
 use std::io::{BufRead, BufReader, Cursor, Read, Seek, SeekFrom};
@@ -77,7 +78,7 @@ fn report_rest<R: Read + Drop>(
     report_schema(rt, form, bytes.as_slice(), report)
 }
 
-/// Reports the columns of a schema.
+/// Reports the columns of a schema, and of a Parquet file the checks of its GeoParquet metadata.
 fn report_schema(
     rt: &HostRuntime,
     form: Form,
@@ -85,10 +86,19 @@ fn report_schema(
     report: &mut Report<'_>,
 ) -> Result<(), Failure> {
     let columns = columns_of(rt.alloc(), form, bytes)?;
+    let findings = match form {
+        Form::Parquet => {
+            findings_in(rt.alloc(), bytes, columns.as_slice()).map_err(FileFault::Parquet)?
+        }
+        Form::ArrowFile | Form::ArrowStream | Form::Lines => None,
+    };
     for column in columns {
         report.add(rt, column).map_err(Failure::Output)?;
     }
-    Ok(())
+    match findings {
+        Some(findings) => Ok(report.add_checks(rt.alloc(), findings.as_slice())?),
+        None => Ok(()),
+    }
 }
 
 /// Reports the columns of lines, of which one at a time is kept.
