@@ -11,7 +11,7 @@ ghost use Rattle.geoarrow_layout.specs.FaultAt.{HasFault, BoxFault, MixedFault, 
 ghost use Rattle.arrow_values.specs.Tree.{Tree, Text, struct};
 ghost use Rattle.geoarrow_layout.specs.Summary.{Summarizes, IsBits, SomeAt, IsBottom};
 ghost use Rattle.geoarrow_layout.specs.Candidates.{Holds, IsAccepted, IsAcceptedStructure};
-ghost use Rattle.geoarrow_layout.specs.Inferred.{AnswersSome, Inferred};
+ghost use Rattle.geoarrow_layout.specs.Inferred.{AnswersSome, Inferred, IsFlat};
 ghost use Rattle.geoarrow_layout.specs.declared.summary.ListWidth.{ListWidth};
 ghost use Rattle.geoarrow_layout.specs.OneShape.{LeafUnder};
 ghost use Rattle.geoarrow_layout.specs.declared.names.ExtensionName.TheVariants as names;
@@ -20,7 +20,7 @@ use crate::encodings::{Kind, NativeKind, Width, levels, parts_of_id};
 use crate::fault::LayoutFault;
 use crate::kinds::{CoordType, Dimension, list_size, only_coord_type, only_dimension};
 use crate::names::{Candidates, ExtensionName};
-use crate::summary::{Bottom, Summary, has_bit, is_float64, summarize};
+use crate::summary::{Below, Bottom, Summary, has_bit, is_float64, leaf_bottom, summarize};
 use arrow_values::{DataType, Field};
 
 /// Reads a point (GeoArrow, "Coordinate", "Point"): a fixed size list whose inner field's name gives the dimension and
@@ -217,6 +217,7 @@ impl Summary {
 
 /// The kind of a column of that extension name, from the summary of its data type, which says nothing of well-known
 /// binary and text.
+#[inline(always)]
 pub(crate) fn kind_under(name: ExtensionName, summary: &Summary) -> Result<Kind, LayoutFault>
     ensures told { (t : Tree) → Summarizes summary.now t → TellsKind name t result }
     ensures named { IfOk result (λ k. (extension_of k ≡ name) × IsStructured k) }
@@ -351,9 +352,9 @@ fn taken_for(data_type: &DataType) -> Option<(CoordType, Dimension)>
     match data_type {
         DataType::Struct(fields) => match fields.as_slice() {
             [first, second] => pair(first, second),
-            _ => inferred(&summarize(data_type)),
+            _ => inferred(&flat_summary(data_type)),
         },
-        DataType::FixedSizeList(_, _) => inferred(&summarize(data_type)),
+        DataType::FixedSizeList(_, _) => inferred(&flat_summary(data_type)),
         _ => None,
     }
 }
@@ -368,6 +369,24 @@ fn pair(first: &Field, second: &Field) -> Option<(CoordType, Dimension)>
         Some((CoordType::Separated, Dimension::XY))
     } else {
         None
+    }
+}
+
+/// The summary of a struct or a fixed size list, which has no list levels.
+#[inline(always)]
+fn flat_summary(data_type: &DataType) -> Summary
+    requires { IsFlat (tree data_type.now) }
+    ensures { Summarizes result (tree data_type.now) }
+{
+    let below = Below {
+        levels: 0,
+        width: None,
+        rest: data_type,
+    };
+    Summary {
+        levels: 0,
+        width: None,
+        bottom: leaf_bottom(&below),
     }
 }
 
