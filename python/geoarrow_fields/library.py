@@ -7,6 +7,7 @@ import ctypes
 import ctypes.util
 import enum
 import functools
+import mmap
 import os
 import pathlib
 from typing import Any, Tuple
@@ -17,7 +18,9 @@ VERSION = 10000
 DONE, SHORT, MEMORY = range(3)
 INFER_TYPES = 1
 _ROOM_OF_ANSWERS = 4096  # at first
-_ROOM_OF_REPORTS = 65536  # at first, and twice the bytes of the source: enough for nearly all
+_ROOM_OF_REPORTS = 65536  # at first, and twice the bytes of the source, up to 64 MiB: enough for nearly all
+_MOST_ROOM = 1 << 26
+_MUCH_ROOM = 1 << 20
 
 
 class Command(enum.IntEnum):
@@ -75,13 +78,27 @@ def _called(name: str, numbers: Tuple[int, ...], given: bytes, size: int) -> Tup
     call = _call(name, len(numbers))
     length = ctypes.c_size_t()
     while True:
-        room = ctypes.create_string_buffer(size)
+        room = _room(size)
         status = call(*numbers, given, len(given), room, size, ctypes.byref(length))
         if status == MEMORY:
             raise MemoryError
         if status != SHORT:
             return status, memoryview(room)[: length.value if status == DONE else 0], length.value
         size = length.value
+
+
+def _room(size: int) -> Any:
+    """Room of that many bytes; much of it is pages that cost nothing until they are written."""
+    if size < _MUCH_ROOM:
+        return ctypes.create_string_buffer(size)
+    try:
+        return (ctypes.c_char * size).from_buffer(mmap.mmap(-1, size))
+    except OSError:
+        raise MemoryError from None
+
+
+def _first_room(given: bytes) -> int:
+    return _ROOM_OF_REPORTS + min(2 * len(given), _MOST_ROOM)
 
 
 def answer(command: Command, line: bytes) -> str:
@@ -91,12 +108,11 @@ def answer(command: Command, line: bytes) -> str:
 
 def report(given: bytes, infer: bool) -> Tuple[int, str, int]:
     """The status of a check, the report, and the place where the bytes are refused."""
-    size = _ROOM_OF_REPORTS + 2 * len(given)
-    status, text, place = _called("geoarrow_check", (INFER_TYPES if infer else 0,), given, size)
+    status, text, place = _called("geoarrow_check", (INFER_TYPES if infer else 0,), given, _first_room(given))
     return status, str(text, "utf-8"), place
 
 
 def stream(lines: bytes) -> Tuple[int, bytes, int]:
     """The status of a schema that is written, its Arrow stream, and the place where the lines are refused."""
-    status, found, place = _called("geoarrow_write_schema", (), lines, _ROOM_OF_REPORTS + 2 * len(lines))
+    status, found, place = _called("geoarrow_write_schema", (), lines, _first_room(lines))
     return status, bytes(found), place

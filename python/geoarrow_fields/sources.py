@@ -1,6 +1,5 @@
 """The bytes of a source that say what its columns are: of an Arrow or Parquet file its end, of a stream its first message, and all of
 lines (docs/FORMAT.md, 2.7)."""
-import io
 import os
 from typing import Any, BinaryIO, Iterable, Tuple, Union
 
@@ -19,7 +18,7 @@ def bytes_of(source: Any) -> Tuple[bytes, int]:
         with open(source, "rb") as file:
             return _of_file(file)
     if isinstance(source, (bytes, bytearray, memoryview)):
-        return _of_file(io.BytesIO(bytes(source)))
+        return bytes(source), 0
     return of_lines(source if isinstance(source, (list, tuple)) else lines(source)), 0
 
 
