@@ -104,9 +104,17 @@ path_quoted path = (tt, (tt, both (map string path) (end_array ∷ []) (names_qu
 
 line_quoted : (file : Option Text) (f : GeoFinding) → AreQuoted (line_tokens file f)
 line_quoted file f =
-    let column = option_map string_bytes f.column in
-    (tt, (tt, (tt, both (text_tokens (codes "column") column) _ (text_quoted (codes "column") column) (both (text_tokens (codes "file") file) _ (text_quoted (codes "file") file)
-    (tt, (tt, (tt, (tt, both (path_tokens (path_of f.check column)) (end_object ∷ []) (path_quoted (path_of f.check column)) (tt, tt)))))))))
+    let column = option_map string_bytes f.column in (
+      tt,
+      (
+        tt,
+        (
+          tt,
+          both (text_tokens (codes "column") column) _ (text_quoted (codes "column") column) (both (text_tokens (codes "file") file) _ (text_quoted (codes "file") file)
+              (tt, (tt, (tt, (tt, both (path_tokens (path_of f.check column)) (end_object ∷ []) (path_quoted (path_of f.check column)) (tt, tt)))))),
+        ),
+      ),
+    )
 
 pub one_line : (file : Option Text) (f : GeoFinding) → All IsOther (line_text file f)
 one_line file f = (print_line false (line_tokens file f) (line_quoted file f)).all

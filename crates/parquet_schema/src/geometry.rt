@@ -18,10 +18,7 @@ use std::alloc::{AllocError, Global};
 const DEFAULT_CRS: &str = "OGC:CRS84";
 
 /// A text as a CRS of that type.
-fn text_crs<'a>(
-    text: &'a str,
-    crs_type: Option<CrsType>,
-) -> (WrittenCrs<'a>, Option<CrsType>)
+fn text_crs<'a>(text: &'a str, crs_type: Option<CrsType>) -> (WrittenCrs<'a>, Option<CrsType>)
     ensures { IsTyped result (text_crs text.now crs_type) }
 {
     (WrittenCrs::Text(text), crs_type)

@@ -83,10 +83,7 @@ fn marked(
 }
 
 /// The child of the root at a place.
-fn child_at<'c, 'a>(
-    children: &'c [SchemaElement<'a>],
-    at: usize,
-) -> Option<&'c SchemaElement<'a>>
+fn child_at<'c, 'a>(children: &'c [SchemaElement<'a>], at: usize) -> Option<&'c SchemaElement<'a>>
     ensures { option_map (λ e. element e.now) result ≡ slice_get (map element children.now) at }
 {
     children.get(at)

@@ -14,11 +14,11 @@ loop-child-preserved c =
     let count = c.count_of-count.ensures.count in
     let small = c.count_of-count.ensures.small in
     elim c.if-below-eq0.branch [
-      then-below-eq0+in_ok-push w ↦ record {
+      | then-below-eq0+in_ok-push w ↦ record {
         so_far = takes es i l.found.items l.below l.invariant.so_far _ _ _ (ap (λ v. v.items) w.found-is ∙ w.in_ok-push.ensures.items) (w.below-is ∙ count) (omega arith) lt (same_item es i _ lt);
         few = omega (arith, small);
       }
-    | else-below-eq0 w ↦ record {
+      | else-below-eq0 w ↦ record {
         so_far = passes es i l.found.items l.below l.invariant.so_far _ _ _ (ap (λ v. v.items) w.found-is) (w.below-is ∙ ap (λ n. l.below - 1 + n) count) (omega arith) lt (same_item es i _ lt);
         few = omega (arith, small);
       }
