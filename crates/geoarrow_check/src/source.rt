@@ -5,8 +5,9 @@ use crate::report::Report;
 use column_files::{FileFault, Form, columns_of, form_of, parse_column_line};
 use file_reports::findings_in;
 use json::Scratch;
-use std::alloc::Global;
-use std::io::{BufRead, BufReader, Cursor, Read, Seek, SeekFrom};
+use memchr::memchr;
+use std::alloc::{AllocError, Global};
+use std::io::{Cursor, Read, Seek, SeekFrom};
 use std::{fs, io};
 
 /// How many bytes are read to tell the format; of a stream they have the size of its first message.
@@ -66,9 +67,7 @@ fn report_rest<R: Read + Drop>(
     let form = form_of(head.as_slice());
     let rest = match (form, head.as_slice()) {
         (Form::Lines, _) => {
-            let whole = Cursor::new(head).chain(source);
-            let mut lines = BufReader::with_capacity(rt.alloc(), CHUNK_BYTES, whole)?;
-            return report_lines(rt, &mut lines, report);
+            return report_lines(rt, &mut Cursor::new(head).chain(source), report);
         }
         (Form::ArrowStream, [_, _, _, _, size @ ..]) => u64::from(size_in(size)),
         _ => u64::MAX,
@@ -102,32 +101,99 @@ fn report_schema(
 }
 
 /// Reports the columns of lines, of which one at a time is kept.
-fn report_lines<R: BufRead>(
+fn report_lines<R: Read>(
     rt: &HostRuntime,
-    lines: &mut R,
+    source: &mut R,
     report: &mut Report<'_>,
 ) -> Result<(), Failure> {
+    let mut chunk = zeros(rt.alloc(), CHUNK_BYTES)?;
     let mut scratch = Scratch::new(rt.alloc());
-    let mut line = Vec::new(rt.alloc());
+    let mut begun = Vec::new(rt.alloc());
     for _ in 0..u64::MAX {
-        line.clear();
-        let most = MAX_LINE_BYTES as u64 + 1;
-        lines.take(most).read_until(b'\n', &mut line)?;
-        let text = match line.as_slice() {
-            [] => return Ok(()),
-            [text @ .., b'\n'] => text,
-            text => text,
-        };
-        let before = report.count();
-        if text.len() > MAX_LINE_BYTES {
-            return Err(Failure::LongLine(before));
+        let count = source.read(chunk.as_mut_slice())?;
+        if count == 0 {
+            break;
         }
-        match parse_column_line(rt.alloc(), text, &mut scratch)? {
-            Ok(column) => report.add(rt, column).map_err(Failure::Output)?,
-            Err(fault) => return Err(Failure::File(FileFault::NoField(before, fault))),
-        }
+        let read = chunk.as_slice().get(..count).unwrap_or(&[]);
+        report_chunk(rt, read, &mut begun, &mut scratch, report)?;
     }
+    if begun.is_empty() {
+        return Ok(());
+    }
+    report_line(rt, &mut begun, &[], &mut scratch, report)
+}
+
+/// So many bytes 0.
+fn zeros(alloc: Global, count: usize) -> Result<Vec<u8>, AllocError> {
+    vec![in alloc; 0u8; count]
+}
+
+/// Reports the columns of the lines that end in a chunk, of which the first goes on from `begun`, and leaves in `begun` what comes behind
+/// them.
+fn report_chunk(
+    rt: &HostRuntime,
+    chunk: &[u8],
+    begun: &mut Vec<u8>,
+    scratch: &mut Scratch,
+    report: &mut Report<'_>,
+) -> Result<(), Failure> {
+    let mut rest = chunk;
+    for _ in 0..chunk.len() {
+        let Some((line, behind)) = first_line(rest) else {
+            break;
+        };
+        report_line(rt, begun, line, scratch, report)?;
+        rest = behind;
+    }
+    if is_long(begun.len(), rest.len()) {
+        return Err(Failure::LongLine(report.count()));
+    }
+    begun.extend_from_slice(rest)?;
     Ok(())
+}
+
+/// The first line that ends in a text, without its line feed, and what comes behind that.
+fn first_line(text: &[u8]) -> Option<(&[u8], &[u8])> {
+    let at = memchr(b'\n', text)?;
+    Some((&text[..at], &text[at + 1..]))
+}
+
+/// Whether a line of so many bytes, and so many more, is too long.
+fn is_long(begun: usize, more: usize) -> bool {
+    begun.saturating_add(more) > MAX_LINE_BYTES
+}
+
+/// Reports the column of the line that consists of `begun` and `end`, and clears `begun`.
+fn report_line(
+    rt: &HostRuntime,
+    begun: &mut Vec<u8>,
+    end: &[u8],
+    scratch: &mut Scratch,
+    report: &mut Report<'_>,
+) -> Result<(), Failure> {
+    if is_long(begun.len(), end.len()) {
+        return Err(Failure::LongLine(report.count()));
+    }
+    if begun.is_empty() {
+        return report_text(rt, end, scratch, report);
+    }
+    begun.extend_from_slice(end)?;
+    report_text(rt, begun.as_slice(), scratch, report)?;
+    begun.clear();
+    Ok(())
+}
+
+/// Reports the column of a line.
+fn report_text(
+    rt: &HostRuntime,
+    line: &[u8],
+    scratch: &mut Scratch,
+    report: &mut Report<'_>,
+) -> Result<(), Failure> {
+    match parse_column_line(rt.alloc(), line, scratch)? {
+        Ok(column) => report.add(rt, column).map_err(Failure::Output),
+        Err(fault) => Err(Failure::File(FileFault::NoField(report.count(), fault))),
+    }
 }
 
 /// The end of a file of that length: the footer, and so many bytes behind it, of which the first four are its size.
