@@ -111,7 +111,7 @@ def paths_of(words: Iterable[str]) -> List[str]:
 def summary(counts: "collections.Counter[str]", seconds: float) -> str:
     """The summary of a run."""
     return ("{files:,} files: {columns:,} columns, {geometries:,} of them geometries; {invalid:,} files with invalid columns, {error:,} not read; "
-            .format_map(collections.Counter(counts)) + f"{seconds:.1f} s")
+            .format_map(counts) + f"{seconds:.1f} s")
 
 
 WAYS = {"dask": dask_reports, "threads": thread_reports, "loop": loop_reports}
