@@ -38,8 +38,8 @@ module _ (file : Option Text) (infer : Bool) where
   pub report_next : (cs : List Column) (i : ℕ) (r s : Report) (c : Column) (f : Finding) (line : Text) → i < length cs → take (i + 1) cs ≡ take i cs ++ c ∷ []
       → IsReportOf file infer (map column_tree (take i cs)) r → IsFinding infer (column_tree c) f → IsLineOf file i (column_tree c) f line
       → string_bytes s.lines ≡ string_bytes r.lines ++ (line ++ (line_feed ∷ [])) → s.has_invalid ≡ (r.has_invalid || is_invalid f)
-      → s.has_geometry ≡ (r.has_geometry || is_geometry f) → IsReportOf file infer (map column_tree (take (i + 1) cs)) s
-  report_next cs i r s c f line within taken is said here lines invalid geometry =
+      → s.has_geometry ≡ (r.has_geometry || is_geometry f) → s.has_failed ≡ r.has_failed → IsReportOf file infer (map column_tree (take (i + 1) cs)) s
+  report_next cs i r s c f line within taken is said here lines invalid geometry failed =
       let trees : map column_tree (take (i + 1) cs) ≡ map column_tree (take i cs) ++ column_tree c ∷ [] = ap (map column_tree) taken ∙ map-append column_tree (take i cs) (c ∷ []) in
       let count : i ≡ 0 + length (map column_tree (take i cs)) = omega (arith, length-map (take i cs) column_tree, length-take-le i cs (omega (arith, within))) in
       let more = reported_more 0 (map column_tree (take i cs)) is.findings (string_bytes r.lines) line (column_tree c) f is.lines said (subst (λ n. IsLineOf file n (column_tree c) f line) count here) in
@@ -49,4 +49,5 @@ module _ (file : Option Text) (infer : Bool) where
         lines = subst (AreReported file infer 0 (map column_tree (take i cs) ++ column_tree c ∷ []) (is.findings ++ f ∷ [])) (sym lines) more;
         invalid = invalid ∙ ap (λ b. b || is_invalid f) is.invalid ∙ sym (any_more is_invalid is.findings f);
         geometry = geometry ∙ ap (λ b. b || is_geometry f) is.geometry ∙ sym (any_more is_geometry is.findings f);
+        failed = failed ∙ is.failed;
       })

@@ -1,5 +1,5 @@
 -- The report of a file: a line of JSON for each of its columns.
-use Rattle.std.specs.Prelude.{◌≡◌, ◌⊎◌, ◌+◌, ◌++◌, ℕ, Bool, List, [], ◌∷◌, map, Option, None, Some, Result, Ok, Err, string_bytes}
+use Rattle.std.specs.Prelude.{◌≡◌, ◌⊎◌, ◌+◌, ◌++◌, ℕ, Bool, false, List, [], ◌∷◌, map, Option, None, Some, Result, Ok, Err, string_bytes}
 use Rattle.std.specs.List.{list_any}
 use Rattle.std.specs.declared.vec.Vec.{Vec}
 use Rattle.std.specs.declared.alloc.Global.{Global}
@@ -15,9 +15,12 @@ use Rattle.column_check.specs.declared.warning.Warning.{Warning}
 use Rattle.column_files.specs.Forms.{IsForm}
 use Rattle.column_files.specs.Files.{IsFileRead}
 use Rattle.column_files.specs.declared.form.Form.{Form}
+use Rattle.column_files.specs.declared.form.Form.TheVariants.{Parquet}
 use Rattle.column_files.specs.declared.columns.FileFault.{FileFault}
 use Rattle.column_files.specs.declared.columns.FileFault.TheVariants.{OutOfMemory}
 use Rattle.column_reports.specs.Report.{line_text}
+use Rattle.parquet_schema.specs.Reads.{footer_in}
+use Rattle.file_reports.specs.Checks.{AddsChecks}
 use Rattle.file_reports.specs.declared.report.Report.{Report as FileReport}
 
 abbrev pub line_feed : ℕ
@@ -39,14 +42,21 @@ AreReported file infer index (c ∷ cs) (f ∷ fs) text =
     (line : Text) × (rest : Text) × IsFinding infer c f × IsLineOf file index c f line × (text ≡ line ++ (line_feed ∷ rest)) × AreReported file infer (index + 1) cs fs rest
 AreReported file infer index _ _ text = ⊥
 
--- the report of columns: the lines of all, whether one is invalid, and whether one holds geometries
+-- the report of columns: the lines of all, whether one is invalid, and whether one holds geometries; no check of them fails
 pub record IsReportOf (file : Option Text) (infer : Bool) (cs : List ColumnTree) (report : FileReport) : Type 0 where
   pub findings : List Finding
   pub lines : AreReported file infer 0 cs findings (string_bytes report.lines)
   pub invalid : report.has_invalid ≡ list_any is_invalid findings
   pub geometry : report.has_geometry ≡ list_any is_geometry findings
+  pub failed : report.has_failed ≡ false
 
--- the report of a file: that of the columns which its bytes denote; or why they denote none, or out of memory
+-- the report of a file in that format, from that of its columns: of a Parquet file with the checks of its GeoParquet metadata
+abbrev pub Completes : Option Text → Form → List ℕ → List ColumnTree → FileReport → FileReport → Type 0
+Completes file Parquet bytes cs old new = AddsChecks file (footer_in bytes) cs old new
+Completes file form bytes cs old new = new ≡ old
+
+-- the report of a file: that of the columns which its bytes denote, with its checks; or why they denote none, or out of memory
 abbrev pub Reports : Option Text → Bool → List ℕ → Result FileReport FileFault → Type 0
-Reports file infer bytes (Ok report) = (form : Form) × (columns : Vec Column Global) × IsForm bytes form × IsFileRead form bytes (Ok columns) × IsReportOf file infer (map column_tree columns.items) report
+Reports file infer bytes (Ok report) = (form : Form) × (columns : Vec Column Global) × (of_columns : FileReport) × IsForm bytes form × IsFileRead form bytes (Ok columns)
+    × IsReportOf file infer (map column_tree columns.items) of_columns × Completes file form bytes (map column_tree columns.items) of_columns report
 Reports file infer bytes (Err fault) = (fault ≡ OutOfMemory) ⊎ ((form : Form) × IsForm bytes form × IsFileRead form bytes (Err fault))

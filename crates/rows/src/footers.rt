@@ -8,14 +8,24 @@ use parquet_columns::{ColumnsError, Fault, columns_of};
 use parquet_footer::{
     Footer, FooterError, KeyValue, LogicalType, SchemaElement, footer_length, read_footer,
 };
-use parquet_schema::{SchemaError, columns_of_file};
+use parquet_schema::{SchemaError, columns_of_file, value_in_file};
 use std::alloc::{AllocError, Global};
 use std::fmt::Debug;
 
 /// Says the answer to a text under a command. Errs where the text does not spell bytes.
 pub fn answer(it: &mut Asked<'_>) -> Result<(), AllocError> {
-    let bytes = hex::decode(it.alloc, it.text).or(Err(AllocError))?;
+    let (key, digits) = match it.command {
+        "value_in_file" => it.text.split_once(' ').unwrap_or(("", it.text)),
+        _ => ("", it.text),
+    };
+    let bytes = hex::decode(it.alloc, digits).or(Err(AllocError))?;
     match it.command {
+        "value_in_file" => {
+            it.before();
+            let found = value_in_file(it.alloc, bytes.as_slice(), key);
+            it.after();
+            say_value(&mut it.said, &found);
+        }
         "read_footer" => {
             it.before();
             let read = read_footer(it.alloc, bytes.as_slice());
@@ -158,14 +168,19 @@ fn say_columns(alloc: Global, said: &mut Said, made: &Result<Vec<Column>, Column
     }
 }
 
-/// Says the columns of a file in Arrow's notation, each with the name of its extension type behind it.
+/// Says the columns of a file in Arrow's notation, each with the name and the metadata of its extension type behind it.
 fn say_named_columns(alloc: Global, said: &mut Said, columns: &[Column]) {
     for (at, column) in columns.iter().enumerate() {
         said.push(if at > 0 { "; " } else { "" });
         said.made(column.notation(alloc));
-        if let Some(name) = column.extension_type_name() {
-            said.push(" ");
-            said.push(name);
+        for text in [
+            column.extension_type_name(),
+            column.extension_type_metadata(),
+        ] {
+            if let Some(text) = text {
+                said.push(" ");
+                said.push(text);
+            }
         }
     }
 }
@@ -174,20 +189,39 @@ fn say_named_columns(alloc: Global, said: &mut Said, columns: &[Column]) {
 fn say_file(alloc: Global, said: &mut Said, made: &Result<Vec<Column>, SchemaError>) {
     match made {
         Ok(columns) => say_named_columns(alloc, said, columns.as_slice()),
-        Err(SchemaError::Footer(FooterError::Invalid(rule, offset))) => {
+        Err(error) => say_fault(said, error),
+    }
+}
+
+/// Says the value of a key behind `=`, or a dash; or why there is none.
+fn say_value(said: &mut Said, found: &Result<Option<&str>, SchemaError>) {
+    match found {
+        Ok(Some(value)) => {
+            said.push("=");
+            said.push(value);
+        }
+        Ok(None) => said.push("-"),
+        Err(error) => say_fault(said, error),
+    }
+}
+
+/// Says why a file is not read; out of memory is no answer.
+fn say_fault(said: &mut Said, error: &SchemaError) {
+    match error {
+        SchemaError::Footer(FooterError::Invalid(rule, offset)) => {
             say!(said, "Footer {rule:?} {offset}");
         }
-        Err(SchemaError::Elements(fault)) => {
+        SchemaError::Elements(fault) => {
             let Fault { rule, at } = fault;
             say!(said, "Elements {rule:?} {at}");
         }
-        Err(SchemaError::Ipc(IpcError::Broken(fault))) => {
+        SchemaError::Ipc(IpcError::Broken(fault)) => {
             let (rule, at) = (fault.rule, fault.at);
             say!(said, "Ipc {rule:?} {at}");
         }
-        Err(SchemaError::Encoding(_)) => said.push("Encoding"),
-        Err(SchemaError::OutOfMemory) => said.fail(),
-        Err(error) => said.name(error),
+        SchemaError::Encoding(_) => said.push("Encoding"),
+        SchemaError::OutOfMemory => said.fail(),
+        error => said.name(error),
     }
 }
 

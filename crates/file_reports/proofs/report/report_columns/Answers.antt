@@ -12,4 +12,4 @@ loop-index-preserved c =
     let taken : take (i + 1) columns ≡ take i columns ++ column ∷ [] = take_more columns i _ c.loop-index-test.true ∙ ap (λ x. take i columns ++ x ∷ []) (sym c.index-columns-index.is) in
     let added = c.in_ok-add_column.ensures in
     report_next (text_of c.args.file) c.args.infer columns i c.loop-index.report c.add_column.new.report column added.0 added.1 c.loop-index-test.true taken
-    c.loop-index.invariant added.2 added.3 added.4 added.5 added.6
+    c.loop-index.invariant added.2 added.3 added.4 added.5 added.6 added.7

@@ -1,11 +1,17 @@
-use Rattle.std.proofs.Common.{rules, map}
+use Rattle.std.proofs.Common.{◌≡◌, MatchResult, map, rules}
 use Rattle.arrow_values.specs.Texts.{text_of}
 use Rattle.arrow_columns.specs.Column.{column_tree}
-use Rattle.file_reports.specs.Report.{IsReportOf}
+use Rattle.column_files.specs.declared.columns.FileFault.TheVariants.{OutOfMemory}
+use Rattle.file_reports.specs.Report.{IsReportOf, Completes}
+use Rattle.file_reports.proofs.Whole.{whole}
 use Rattle.file_reports.proofs.report.report_file.Goals as goal
 
 pub returns : goal.returns
 returns c =
-    let read = c.in_ok-columns.ensures in
-    let report : IsReportOf (text_of c.args.file) c.args.infer (map column_tree c.in_ok-columns.columns.items) c.in_ok-report_columns.field-0 = search rules in
-    (read.0, c.in_ok-columns.columns, read.1, read.2, report)
+    let file = text_of c.args.file in
+    let read = c.in_ok-read.ensures in
+    let form = c.in_ok-read.read.0 in
+    let columns = c.in_ok-read.read.1 in
+    let report : IsReportOf file c.args.infer (map column_tree columns.items) c.in_ok-report.report = search rules in
+    let done : MatchResult c.completed.result (Completes file form c.args.bytes.now (map column_tree columns.items) c.in_ok-report.report) (λ fault. fault ≡ OutOfMemory) = search rules in
+    whole file c.args.infer c.args.bytes.now form columns c.in_ok-report.report c.completed.result read.0 read.1 report done
