@@ -61,7 +61,7 @@ class Command(unittest.TestCase):
     def test_standard_input_and_files_that_are_cut(self):
         for name in ("file.arrow", "stream.arrows", "stored.parquet", "columns.jsonl"):
             whole = (DATA / name).read_bytes()
-            for length in (*range(0, min(len(whole), 300), 7), len(whole) - 1, len(whole)):
+            for length in (*range(0, min(len(whole), 300), 29), len(whole) - 1, len(whole)):
                 ours = self.run_in_data(sys.executable, "-m", "geoarrow_fields", "check", "--json", "-", given=whole[:length])
                 wanted = self.run_in_data(str(PROGRAM), "--json", "-", given=whole[:length])
                 self.assertEqual((ours.stdout, ours.returncode), (wanted.stdout, wanted.returncode))
