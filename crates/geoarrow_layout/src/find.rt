@@ -61,6 +61,7 @@ pub fn child_field(data_type: &DataType, place: usize) -> Option<&Field>
 }
 
 /// The field at that place.
+#[tactic(auto, using(crate::proofs::FaultPaths::field_there, crate::proofs::FaultPaths::no_field_there))]
 fn field_of(fields: &[Field], place: usize) -> Option<&Field>
     ensures { MatchOption result (field_at (field_trees fields.now) place ≡ None) (λ f. field_at (field_trees fields.now) place ≡ Some f.now) }
 {

@@ -149,16 +149,19 @@ pub fn two_names_at_most()
 {}
 
 /// A law: no kind is twice in `Kind::ALL`. There is nothing to run.
+#[tactic(auto, using(crate::proofs::Listed::listed_once))]
 pub fn kinds_are_listed_once()
     ensures { (i j : ℕ) (k : Kind) → i < length Kind.ALL → j < length Kind.ALL → get_or Kind.ALL i k ≡ get_or Kind.ALL j k → i ≡ j }
 {}
 
 /// A law: under one extension name a data type has one fault at most, in one place. There is nothing to run.
+#[tactic(auto, using(crate::proofs::FaultLaws::one_fault))]
 pub fn one_fault()
     ensures { (n : ExtensionName) (t : Tree) (p q : Path) (f g : LayoutFault) → FaultAt n t p f → FaultAt n t q g → (p ≡ q) × (f ≡ g) }
 {}
 
 /// A law: a data type that has a kind under an extension name has no fault under it. There is nothing to run.
+#[tactic(auto, using(crate::proofs::KindSteps::no_fault_if_accepted))]
 pub fn no_fault_if_accepted()
     ensures { (n : ExtensionName) (t : Tree) (p : Path) (f : LayoutFault) → IsAccepted (name_text n) t → ¬ FaultAt n t p f }
 {}
