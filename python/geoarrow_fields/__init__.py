@@ -9,29 +9,29 @@
 The answers are those of the proved programs `geoarrow_fields` and `geoarrow_check`, by the library that include/geoarrow.h
 declares; `lines` and `Schema` are written in Python. It needs Python 3.8 or later, and nothing else.
 """
-from typing import Any, Iterable, List, Union
+from typing import Any, Iterable, Union
 
 from . import library, sources
 from .c_schema import SchemaError
-from .columns import Column, Columns, Reason, columns_of
+from .columns import Check, Column, Columns, Reason, columns_of
 from .library import Command
 from .refusals import InvalidColumns, RefusedSource
 from .schema_lines import Schema, lines
 
 __all__ = [
-    "Column", "Columns", "InvalidColumns", "Reason", "RefusedSource", "Schema", "SchemaError", "canon", "check", "lines", "read", "write_schema"]
+    "Check", "Column", "Columns", "InvalidColumns", "Reason", "RefusedSource", "Schema", "SchemaError", "canon", "check", "lines", "read", "write_schema"]
 
 __version__ = "1.0.0"
 
 _ENVELOPE = 16  # the status of bytes that are no whole message, whose place is counted from the first that are given
 
 
-def check(source: Any, infer: bool = False, strict: bool = False) -> List[Column]:
+def check(source: Any, infer: bool = False, strict: bool = False) -> Columns:
     """What each column of a source holds.
 
     `source` is the path of an Arrow file (Feather), an Arrow stream, a Parquet file or lines; the bytes of one; lines in a list or a tuple;
     or an object that gives a schema over Arrow's C data interface, such as one of pyarrow or polars (`lines`). Of a file only the bytes that say
-    what its columns are are read. With `infer`, a column without an extension name is taken for what is inferred from its data type. With
+    what its columns are are read. `checks` of what is answered are the checks of a Parquet file's GeoParquet metadata that do not hold. With `infer`, a column without an extension name is taken for what is inferred from its data type. With
     `strict`, `InvalidColumns` is raised where one is invalid.
 
     Raises `RefusedSource`, a `ValueError` with a code and an offset, where the bytes are not read; `SchemaError`, which is one too, where the

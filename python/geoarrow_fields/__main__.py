@@ -1,6 +1,6 @@
 """The command: python -m geoarrow_fields check [--infer] [--json] FILE..
 
-Prints what each column of each file holds, as `geoarrow_check` does. The status is 1 where a column is invalid, and 2 where a file or the
+Prints what each column of each file holds, as `geoarrow_check` does. The status is 1 where a column is invalid or a check of GeoParquet metadata does not hold, and 2 where a file or the
 words cannot be read, or the output fails.
 """
 import argparse
@@ -10,7 +10,6 @@ import sys
 from typing import List, Optional
 
 from . import RefusedSource, check
-from .columns import Column
 
 INVALID, FAILED = 1, 2
 
@@ -43,17 +42,18 @@ def _checked(file: str, asked: argparse.Namespace) -> int:
         return FAILED
     if asked.json:
         for column in columns:
-            print(column.json if file == "-" else _with_file(column, name))
+            print(column.json if file == "-" else _with_file(column.json, name, column.json.rfind(',"index":')))
+        for one in columns.checks:
+            print(one.json if file == "-" else _with_file(one.json, name, one.json.find(',"message":')))
     else:
         print(*([f"{name}:"] if len(asked.files) > 1 else []), repr(columns), sep="\n")
-    return INVALID if any(one.is_invalid for one in columns) else 0
+    return INVALID if columns.checks or any(one.is_invalid for one in columns) else 0
 
 
-def _with_file(column: Column, name: str) -> str:
-    """The line of a column with the name of its file in its place, before the index. (The last key `index` is that one: behind it stand the
-    reasons and warnings, which have none.)"""
-    at = column.json.rfind(',"index":')
-    return f'{column.json[:at]},"file":{json.dumps(name, ensure_ascii=False)}{column.json[at:]}'
+def _with_file(line: str, name: str, at: int) -> str:
+    """The line of a column or of a check with the name of its file in its place: before the index of a column, which is the last key `index` (behind
+    it stand the reasons and warnings, which have none), and before the message of a check, which is the first key `message`."""
+    return f'{line[:at]},"file":{json.dumps(name, ensure_ascii=False)}{line[at:]}'
 
 
 if __name__ == "__main__":

@@ -21,6 +21,22 @@ class Reason:
         return f"{self.message} at {'.'.join(self.path)}" if self.path else self.message
 
 
+@dataclasses.dataclass(frozen=True)
+class Check:
+    """A check of a Parquet file's GeoParquet metadata that does not hold: its code, what it asks, the key of `columns` that it is on, if it is on
+    one, and the keys down to the member that it is about (docs/FORMAT.md, 5). `json` is the line of the report."""
+
+    code: str
+    message: str
+    column: Optional[str] = None
+    path: Tuple[str, ...] = ()
+    json: str = dataclasses.field(default="", repr=False, compare=False)
+
+    def __str__(self) -> str:
+        of_column = "" if self.column is None else f" of {self.column}"
+        return f"{self.code}{of_column} does not hold: {self.message}"
+
+
 def _none() -> None:
     """The default of what a column may lack. (A factory, so that the class itself has no such attribute.)"""
 
@@ -63,20 +79,29 @@ _ATTRIBUTES = frozenset(field.name for field in dataclasses.fields(Column))
 
 
 class Columns(List[Column]):
-    """Columns, which are shown as a table: of text, and in a notebook of HTML."""
+    """Columns, which are shown as a table: of text, and in a notebook of HTML. `checks` are those of the GeoParquet metadata of a Parquet file that
+    do not hold; they stand behind the table."""
+
+    checks: Tuple[Check, ...] = ()
 
     def __repr__(self) -> str:
-        return tables.text(map(_row, self))
+        return tables.text(map(_row, self), map(str, self.checks))
 
     def _repr_html_(self) -> str:
-        return tables.html(map(_row, self))
+        return tables.html(map(_row, self), map(str, self.checks))
 
 
 def columns_of(report: str) -> Columns:
-    """The columns of a report, of which each line is one, and is not read yet."""
+    """The columns of a report, of which each line is one, and is not read yet; behind them stand the checks."""
     lines = report.split("\n")[:-1]
+    count = len(lines)
+    while count and lines[count - 1].startswith('{"check":'):
+        count -= 1
+    checks = tuple(map(_check, lines[count:]))
+    del lines[count:]
     columns = Columns(map(Column.__new__, itertools.repeat(Column, len(lines))))
     collections.deque(map(object.__setattr__, columns, itertools.repeat("json"), lines), maxlen=0)  # (a loop, without a step of Python for each)
+    columns.checks = checks
     return columns
 
 
@@ -91,6 +116,12 @@ def _attributes(line: str) -> Dict[str, Any]:
         "name": said["column"], "index": said["index"], "state": said["state"], "type": said["type"], "extension": known("extension"),
         "edges": known("edges"), "crs_type": known("crs_type"), "crs": known("crs"), "reasons": _reasons(said, "reasons"),
         "warnings": _reasons(said, "warnings")}
+
+
+def _check(line: str) -> Check:
+    """The check of a line."""
+    said = _json(line)[0]
+    return Check(said["check"], said["message"], said.get("column"), tuple(said["path"]), line)
 
 
 def _reasons(said: Dict[str, Any], key: str) -> Tuple[Reason, ...]:

@@ -10,23 +10,25 @@ _CRS_SHOWN = 40  # characters of a CRS that has neither a code nor a name
 _CONTROL = re.compile("[\x00-\x1f\x7f-\x9f]")
 
 
-def text(rows: Iterable[Row]) -> str:
-    """A table of text: a line for each row, with its cells below one another, and the lines below it set in."""
+def text(rows: Iterable[Row], behind: Iterable[str] = ()) -> str:
+    """A table of text: a line for each row, with its cells below one another, and the lines below it set in; and the lines behind the table."""
     listed: List[Row] = [(HEAD, []), *((_shown_cells(cells), notes) for cells, notes in rows)]
     widths = [max(map(len, column)) for column in zip(*(cells for cells, _ in listed))]
     lines = []
     for cells, notes in listed:
         lines.append("  ".join(cell.ljust(width) for cell, width in zip(cells, widths)).rstrip())
         lines.extend(f"    {shown(note).rstrip()}" for note in notes)
+    lines.extend(map(shown, behind))
     return "\n".join(lines)
 
 
-def html(rows: Iterable[Row]) -> str:
-    """A table of HTML, in which every text is escaped."""
+def html(rows: Iterable[Row], behind: Iterable[str] = ()) -> str:
+    """A table of HTML, and the lines behind it as its last rows; every text is escaped."""
     parts = ["<table><thead><tr>", *(f"<th>{name}</th>" for name in HEAD), "</tr></thead><tbody>"]
     for cells, notes in rows:
         parts.append("<tr>" + "".join(f"<td>{_escaped(cell)}</td>" for cell in cells) + "</tr>")
         parts.extend(f'<tr><td></td><td colspan="{len(HEAD) - 1}">{_escaped(note)}</td></tr>' for note in notes)
+    parts.extend(f'<tr><td colspan="{len(HEAD)}">{_escaped(line)}</td></tr>' for line in behind)
     return "".join(parts) + "</tbody></table>"
 
 

@@ -97,6 +97,15 @@ class Checks(unittest.TestCase):
             self.assertEqual(check(DATA / name), check((DATA / name).read_bytes()))
         self.assertEqual([one.type for one in check(DATA / "stored.parquet")], ["large_wkb - -"])
 
+    def test_the_checks_of_a_file_of_parquet(self):
+        columns = check(DATA / "geo.parquet")
+        self.assertEqual([(one.code, one.column, one.path) for one in columns.checks], [
+            ("GeoTypes", "geom", ("columns", "geom", "geometry_types")), ("GeoBbox", "geom", ("columns", "geom", "bbox"))])
+        self.assertEqual([one.type for one in columns], ["binary", "wkb - -", "wkb - -"])
+        self.assertEqual(repr(columns).split("\n")[-1], f"GeoBbox of geom does not hold: {columns.checks[1].message}")
+        self.assertIn(columns.checks[0].message, columns._repr_html_())
+        self.assertEqual(check(DATA / "plain.parquet").checks, ())
+
     def test_the_end_of_a_large_file_alone_is_read(self):
         with tempfile.TemporaryDirectory() as folder:
             path = pathlib.Path(folder, "large")

@@ -49,7 +49,7 @@ class Command(unittest.TestCase):
 
     @unittest.skipUnless(PROGRAM.is_file(), "the program is not built")
     def test_beside_the_program(self):
-        files = ["columns.jsonl", "stream.arrows", "file.arrow", "other.arrows", "stored.parquet", "plain.parquet", str(TOP / "examples/schema.jsonl")]
+        files = ["columns.jsonl", "stream.arrows", "file.arrow", "other.arrows", "stored.parquet", "plain.parquet", "geo.parquet", str(TOP / "examples/schema.jsonl")]
         for words in [[file] for file in files] + [files, ["nowhere", "file.arrow"]]:
             for options in ([], ["--infer"], ["--json"], ["--json", "--infer"]):
                 with self.subTest(words=words, options=options):

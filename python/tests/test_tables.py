@@ -39,7 +39,7 @@ t       taken for wkt - -                       planar""")
 
     def test_the_table_of_the_readme(self):
         readme = (TOP / "README.md").read_text()
-        table = re.search(r"    bin/geoarrow_check --infer examples/schema.jsonl\n\n((?:    .*\n)+)", readme)[1]
+        table = re.search(r"    bin/try check --infer examples/schema.jsonl\n\n((?:    .*\n)+)", readme)[1]
         self.assertEqual(repr(check(TOP / "examples/schema.jsonl", infer=True)), re.sub(r"(?m)^    ", "", table).rstrip("\n"))
 
     def test_what_a_crs_is_called(self):
