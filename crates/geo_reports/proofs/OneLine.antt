@@ -10,6 +10,7 @@ use Rattle.arrow_values.specs.Tree.{Text}
 use Rattle.geoparquet.specs.Words.{code_of, message_of, path_of}
 use Rattle.geoparquet.specs.declared.finding.GeoFinding.{GeoFinding}
 use Rattle.geo_reports.specs.Lines.{text_tokens, path_tokens, line_tokens, line_text}
+use Rattle.geo_reports.specs.Warnings.{no_geo_tokens, no_geo_text}
 
 abbrev IsOther : ℕ → Type 0
 IsOther b = b ≢ 10
@@ -118,3 +119,11 @@ line_quoted file f =
 
 pub one_line : (file : Option Text) (f : GeoFinding) → All IsOther (line_text file f)
 one_line file f = (print_line false (line_tokens file f) (line_quoted file f)).all
+
+-- ---- the tokens of the warning
+
+no_geo_quoted : (file : Option Text) → AreQuoted (no_geo_tokens file)
+no_geo_quoted file = (tt, both (text_tokens (codes "file") file) _ (text_quoted (codes "file") file) (tt, (tt, (tt, (tt, (tt, tt))))))
+
+pub no_geo_one_line : (file : Option Text) → All IsOther (no_geo_text file)
+no_geo_one_line file = (print_line false (no_geo_tokens file) (no_geo_quoted file)).all

@@ -15,7 +15,7 @@ returns c =
     let held = c.in_ok-of_column.of_column in
     let before = map answer_of c.args.findings.now.items in
     let after = map answer_of c.add_findings.new.findings.items in
-    let entry = entry_is d cs key _ _ (c.member_at-member.ensures ∙ ap (at key) c.get.ensures) c.first_named-column.ensures in
+    let entry = entry_is d cs key _ _ c.member_of_column-member.ensures c.first_named-column.ensures in
     λ done h. on_ok_weaker c.add_findings.result
     (λ (is : after ≡ before ++ map (given (Some key)) held). more_answers d cs done before after (Some key) checks_of_column held is h
     (subst (λ e. AreHeld (HoldsOf d cs e) checks_of_column held) entry (c.in_ok-of_column.ensures d)))
