@@ -1,5 +1,5 @@
 //! The extension metadata that the metadata at the key `geo` give a column (docs/FORMAT.md, 5.2).
-ghost use Rattle.std.specs.Prelude.{◌≡◌, IfOk, IsSome, option_map, string_bytes};
+ghost use Rattle.std.specs.Prelude.{◌≡◌, Some, IfOk, IsSome, option_map, string_bytes};
 ghost use Rattle.serde_json.specs.View.{view};
 ghost use Rattle.arrow_values.specs.Texts.{text_of};
 ghost use Rattle.geoparquet.specs.Values.{at, text_of_value};
@@ -49,10 +49,19 @@ fn edges_of(text: Option<&str>) -> Option<Edges>
 fn text_with(alloc: Global, crs: Option<&str>, edges: Option<Edges>) -> Result<String, AllocError>
     ensures { IfOk result (λ text. string_bytes text ≡ text_with (crs_of (text_of crs.entry)) edges) }
 {
-    let Some(written) = crs else {
-        let default = WrittenCrs::Text(DEFAULT_CRS);
-        return metadata_text(alloc, default, Some(CrsType::AuthorityCode), edges);
-    };
+    match crs {
+        None => {
+            let crs = WrittenCrs::Text(DEFAULT_CRS);
+            metadata_text(alloc, crs, Some(CrsType::AuthorityCode), edges)
+        }
+        Some(written) => written_text(alloc, written, edges),
+    }
+}
+
+/// The text of the metadata with the CRS that is that text, and those edges. Errs only when out of memory.
+fn written_text(alloc: Global, written: &str, edges: Option<Edges>) -> Result<String, AllocError>
+    ensures { IfOk result (λ text. string_bytes text ≡ text_with (crs_of (Some written.now)) edges) }
+{
     if is_projjson(alloc, written)? {
         let crs = WrittenCrs::Json(written);
         return metadata_text(alloc, crs, Some(CrsType::Projjson), edges);

@@ -1,8 +1,7 @@
-use Rattle.std.proofs.Common.{◌≡◌, ◌++◌, Some, map, ap, ◌∙◌, subst}
+use Rattle.std.proofs.Common.{◌≡◌, ◌++◌, Some, map, subst}
 use Rattle.std.proofs.lemmas.Result.{on_ok_weaker}
 use Rattle.serde_json.specs.View.{view}
 use Rattle.arrow_columns.specs.Column.{column_tree}
-use Rattle.geoparquet.specs.Values.{at}
 use Rattle.geoparquet.specs.Checks.{checks_of_column, answer_of, given, HoldsOf, AreHeld}
 use Rattle.geoparquet.proofs.Answering.{entry_is, more_answers}
 use Rattle.geoparquet.proofs.check.add_column.Goals as goal
