@@ -1,4 +1,4 @@
-use Rattle.std.proofs.Common.{◌++◌, sym, ap, ◌∙◌}
+use Rattle.std.proofs.Common.{◌++◌, ap, ◌∙◌}
 use Rattle.arrow_values.specs.Texts.{text_of}
 use Rattle.value_tokens.specs.Adds.{sent, then}
 use Rattle.geo_reports.specs.Warnings.{no_geo_tokens}
