@@ -1,5 +1,5 @@
 -- A Parquet file's GeoParquet metadata: the columns that the file has by them, their checks, and what its report says of them.
-use Rattle.std.specs.Prelude.{◌≡◌, ◌⊎◌, ◌++◌, ℕ, Bool, not, List, [], ◌∷◌, codes, map, Option, None, Some, Result, Ok, Err, string_bytes, if◌then◌else◌}
+use Rattle.std.specs.Prelude.{◌≡◌, ◌⊎◌, ◌++◌, ℕ, Bool, false, not, List, [], ◌∷◌, codes, map, Option, None, Some, Result, Ok, Err, string_bytes, if◌then◌else◌}
 use Rattle.std.specs.List.{list_any}
 use Rattle.std.specs.declared.vec.Vec.{Vec}
 use Rattle.std.specs.declared.alloc.Global.{Global}
@@ -34,11 +34,11 @@ abbrev pub is_failed : GeoFinding → Bool
 is_failed f = not f.ok
 
 -- a report with that text behind its lines, which says that a check does not hold or that none is known not to; all else of it is as it was
-pub record AddsText (text : Text) (failed : Bool) (old new : FileReport) : Type 0 where
+pub record AddsText (text : Text) (has_failed : Bool) (old new : FileReport) : Type 0 where
   pub lines : string_bytes new.lines ≡ string_bytes old.lines ++ text
   pub invalid : new.has_invalid ≡ old.has_invalid
   pub geometry : new.has_geometry ≡ old.has_geometry
-  pub failed : new.has_failed ≡ failed
+  pub failed : new.has_failed ≡ has_failed
 
 -- the line of the warning where a column holds geometries, with its line feed
 abbrev pub warning_text : Option Text → Bool → Text

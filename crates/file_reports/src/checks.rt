@@ -1,5 +1,5 @@
 //! The checks of a Parquet file's GeoParquet metadata, and the columns that it has by them.
-ghost use Rattle.std.specs.Prelude.{◌≡◌, IfOk, MatchResult, map};
+ghost use Rattle.std.specs.Prelude.{◌≡◌, false, IfOk, MatchResult, map};
 ghost use Rattle.std.specs.List.{list_any};
 ghost use Rattle.arrow_values.specs.Texts.{text_of};
 ghost use Rattle.arrow_columns.specs.Column.{column_tree};
