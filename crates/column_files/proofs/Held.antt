@@ -1,11 +1,15 @@
 -- Bytes that are held, and the line that they begin with, over plain variables.
-use Rattle.std.proofs.Common.{◌≡◌, ◌⊎◌, inl, inr, ℕ, ◌+◌, ◌-◌, ◌<◌, ◌≤◌, true, List, [], ◌++◌, length, take, drop, get_or, replicate, Option, Some, None, Result, Ok, Err, refl, sym, ap, ◌∙◌, subst, arith}
+use Rattle.std.proofs.Common.{◌≡◌, inl, inr, ℕ, ◌+◌, ◌-◌, ◌<◌, ◌≤◌, true, List, [], ◌++◌, length, take, drop, drop_of_length-le, get_or, Option, Some, None, IfSome, Ok, Err, sym, ap, ◌∙◌, subst, arith}
 use Rattle.std.proofs.lemmas.Bool.{cases_lt}
 use Rattle.std.proofs.lemmas.List.{append-nil, get_or_append_left, get_or-drop, length-append, length-drop, length-take-le, take-append-le, take_all, drop-append-le}
-use Rattle.std.specs.Io.KnownBytes.{Keeps, Consumes, IsAtEnd, prepend_known}
+use Rattle.std.specs.Io.KnownBytes.{Keeps, prepend_known}
 use Rattle.memchr.specs.Find.{is_byte, Passes, Nowhere, IsFirstByte}
+use Rattle.arrow_columns.specs.Column.{column_tree}
+use Rattle.arrow_columns.specs.declared.column.Column.{Column}
 use Rattle.column_files.specs.Lines.{line_feed, FirstLine}
-use Rattle.column_files.specs.Reading.{max_line_bytes, HasNoFeed, IsLong}
+use Rattle.column_files.specs.LineFaults.{IsLineRead, DenotesNone}
+use Rattle.column_files.specs.declared.line.LineFault.{LineFault}
+use Rattle.column_files.specs.Reading.{max_line_bytes, HasNoFeed, IsLong, HasLine, Goes, AnswersNext}
 use lib.Seq.{take-add}
 
 -- ---- bytes that are read behind others
@@ -83,3 +87,39 @@ line_at held more len (found, is) =
         (sym (take-append-le len held more (omega (arith, high))), sym (drop-append-le (len + 1) held more (omega (arith, high)))),
       ),
     )
+
+-- the last one, which none ends
+line_last : (held more : List ℕ) (len : ℕ) → len ≡ length held → 0 < len → HasNoFeed held → more ≡ [] → FirstLine (held ++ more) (take len held) (drop (len + 1) held ++ more)
+line_last held more len len_is some none end =
+    let text_is : held ++ more ≡ held = ap (λ l. held ++ l) end ∙ append-nil held in
+    let full : held ++ more ≡ [] → ⊥ = λ empty. omega (arith, some, len_is, ap length (sym text_is ∙ empty)) in (
+      full,
+      (
+        None,
+        subst (λ t. IsFirstByte (is_byte line_feed) t None) (sym text_is) none,
+        (take_all len held (omega (arith, len_is)) ∙ sym text_is, ap (λ l. l ++ more) (drop_of_length-le held (omega (arith, len_is))) ∙ end),
+      ),
+    )
+
+first_line : (held more : List ℕ) (len : ℕ) → HasLine held (Some more) (Some len) → FirstLine (held ++ more) (take len held) (drop (len + 1) held ++ more) × ¬ IsLong (held ++ more)
+first_line held more len (short, inl found) = (line_at held more len found, short_at held more len found short)
+first_line held more len (short, inr (len_is, some, none, end)) =
+    (line_last held more len len_is some none end, λ long. omega (arith, long.0, short, len_is, length-append held more, ap length end))
+
+-- ---- what is answered of it
+
+pub column_next : (old rest : Option (List ℕ)) (held : List ℕ) (len : ℕ) (column : Column) → Keeps old (prepend_known held rest) → HasLine held rest (Some len) → IsLineRead (take len held) (Ok column)
+    → Goes (AnswersNext (column_tree column)) old (prepend_known (drop (len + 1) held) rest)
+column_next None rest held len column kept line read = tt
+column_next (Some text) None held len column kept line read = absurd kept
+column_next (Some text) (Some more) held len column kept line read =
+    let (first, short) = first_line held more len line in
+    subst (λ t. AnswersNext (column_tree column) t (drop (len + 1) held ++ more)) kept (short, (take len held, first, read))
+
+pub fault_next : (old rest : Option (List ℕ)) (held : List ℕ) (len : ℕ) (fault : LineFault) → Keeps old (prepend_known held rest) → HasLine held rest (Some len) → IsLineRead (take len held) (Err fault)
+    → IfSome old (λ text. ¬ IsLong text × DenotesNone text fault)
+fault_next None rest held len fault kept line read = tt
+fault_next (Some text) None held len fault kept line read = absurd kept
+fault_next (Some text) (Some more) held len fault kept line read =
+    let (first, short) = first_line held more len line in
+    subst (λ t. ¬ IsLong t × DenotesNone t fault) kept (short, (take len held, drop (len + 1) held ++ more, first, read.0, read.1))
