@@ -10,16 +10,15 @@ use Rattle.column_files.specs.Lines.{line_feed, FirstLine}
 use Rattle.column_files.specs.LineFaults.{IsLineRead, DenotesNone}
 use Rattle.column_files.specs.declared.line.LineFault.{LineFault}
 use Rattle.column_files.specs.Reading.{max_line_bytes, HasNoFeed, IsLong, HasLine, Goes, AnswersNext}
-use lib.Seq.{take-add}
+use lib.Seq.{take-add, take-take}
 
 -- ---- bytes that are read behind others
 
-pub read_in : (held grown bytes zeros : List ℕ) (at n k : ℕ) → at ≡ length held → grown ≡ take (at + k) held ++ zeros → take at bytes ≡ take at grown → at + n ≤ length bytes
-    → (take (at + n) bytes ≡ held ++ take n (drop at bytes)) × (length (take n (drop at bytes)) ≡ n)
-read_in held grown bytes zeros at n k at_is grown_is front fits =
-    let all : take (at + k) held ≡ held = take_all (at + k) held (omega (arith, at_is)) in
-    let before : take at grown ≡ held = ap (take at) (grown_is ∙ ap (λ l. l ++ zeros) all) ∙ take-append-le at held zeros (omega (arith, at_is)) ∙ take_all at held (omega (arith, at_is)) in
-    (take-add at n bytes ∙ ap (λ l. l ++ take n (drop at bytes)) (front ∙ before), length-take-le n (drop at bytes) (omega (arith, length-drop at bytes)))
+pub read_in : (held grown bytes : List ℕ) (end n len : ℕ) → take len grown ≡ held → end ≤ len → take end bytes ≡ take end grown → end + n ≤ length bytes
+    → (take (end + n) bytes ≡ take end held ++ take n (drop end bytes)) × (length (take n (drop end bytes)) ≡ n)
+read_in held grown bytes end n len kept within front fits =
+    let before : take end grown ≡ take end held = sym (take-take end len grown within) ∙ ap (take end) kept in
+    (take-add end n bytes ∙ ap (λ l. l ++ take n (drop end bytes)) (front ∙ before), length-take-le n (drop end bytes) (omega (arith, fits, length-drop end bytes)))
 
 -- ---- line feeds
 

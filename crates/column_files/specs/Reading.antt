@@ -1,5 +1,5 @@
 -- What is read of a source: its lines one after another, and the bytes that hold its schema.
-use Rattle.std.specs.Prelude.{◌≡◌, ◌≢◌, ℕ, ◌+◌, ◌-◌, ◌^◌, ◌<◌, ◌≤◌, ◌⊎◌, min, List, [], ◌∷◌, ◌++◌, length, drop, Option, Some, None, IfSome, Result, Ok, Err, ⊤}
+use Rattle.std.specs.Prelude.{◌≡◌, ◌≢◌, ℕ, ◌+◌, ◌-◌, ◌^◌, ◌<◌, ◌≤◌, ◌⊎◌, min, List, [], ◌∷◌, ◌++◌, length, take, drop, Option, Some, None, IfSome, Result, Ok, Err, ⊤}
 use Rattle.std.specs.Int.{w32, from_le_bytes}
 use Rattle.std.specs.Io.KnownBytes.{Keeps, IsAtEnd, prepend_known}
 use Rattle.std.specs.IoError.{error_kind}
@@ -33,7 +33,7 @@ IsLong text = (max_line_bytes < length text) × Nowhere (Passes (is_byte line_fe
 
 -- what is read of the source and not yet answered
 abbrev pub ahead : {R : Type 0} → LineColumns R → List ℕ
-ahead r = drop r.start r.held.items
+ahead r = drop r.start (take r.end r.buffer.items)
 
 -- how many lines are answered, which stops at `usize::MAX`
 abbrev pub answered : {R : Type 0} → LineColumns R → ℕ

@@ -10,7 +10,7 @@ ghost use Rattle.column_files.specs.Reading.{ahead, answered, text_left, HasLine
 use crate::columns::FileFault;
 use crate::fault::ReadFault;
 use crate::line::parse_column_line;
-use crate::source::{CHUNK_BYTES, drop_front, read_behind, rest_of};
+use crate::source::{CHUNK_BYTES, move_front, part_of, read_behind, rest_of};
 use arrow_columns::Column;
 use json::Scratch;
 use memchr::memchr;
@@ -34,9 +34,10 @@ pub const MAX_LINE_BYTES: usize = 1_048_576;
 pub struct LineColumns<R> {
     alloc: Global,
     source: R,
-    /// What is read of the source; up to `start` it is answered.
-    held: Vec<u8>,
+    /// What is read of the source stands up to `end`; up to `start` it is answered.
+    buffer: Vec<u8>,
     start: usize,
+    end: usize,
     scratch: Scratch,
     count: usize,
 }
@@ -50,7 +51,8 @@ impl<R: Read> LineColumns<R> {
         LineColumns {
             alloc,
             source,
-            held: head,
+            end: head.len(),
+            buffer: head,
             start: 0,
             scratch: Scratch::new(alloc),
             count: 0,
@@ -69,7 +71,7 @@ impl<R: Read> LineColumns<R> {
         let Some(len) = self.hold_line()? else {
             return Ok(None);
         };
-        let line = &rest_of(self.held.as_slice(), self.start)[..len];
+        let line = &part_of(self.buffer.as_slice(), self.start, self.end)[..len];
         match parse_column_line(self.alloc, line, &mut self.scratch)? {
             Ok(column) => {
                 self.pass_line(len);
@@ -98,7 +100,7 @@ impl<R: Read> LineColumns<R> {
     {
         let mut seen = 0;
         loop {
-            let rest = rest_of(self.held.as_slice(), self.start);
+            let rest = part_of(self.buffer.as_slice(), self.start, self.end);
             if let Some(len) = feed_in(rest, seen) {
                 if len > MAX_LINE_BYTES {
                     return Err(ReadFault::LongLine(self.count));
@@ -123,9 +125,11 @@ impl<R: Read> LineColumns<R> {
         ensures signal { IfErr result IsNoSignal }
         ensures counted { self.new.count ≡ self.old.count }
     {
-        drop_front(&mut self.held, self.start);
+        self.end = move_front(&mut self.buffer, self.start, self.end);
         self.start = 0;
-        read_behind(&mut self.source, &mut self.held, CHUNK_BYTES)
+        let count = read_behind(&mut self.source, &mut self.buffer, self.end, CHUNK_BYTES)?;
+        self.end += count;
+        Ok(count)
     }
 }
 

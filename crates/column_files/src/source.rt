@@ -7,6 +7,7 @@ ghost use Rattle.column_files.specs.Sources.{ReadsBehind, GivesUpTo};
 ghost use Rattle.column_files.specs.ReadErrors.{IsReadError, IsNoSignal};
 
 use crate::fault::ReadFault;
+use std::alloc::AllocError;
 use std::io;
 use std::io::{ErrorKind, Read};
 
@@ -31,44 +32,54 @@ fn read_retrying<R: Read>(source: &mut R, bytes: &mut [u8]) -> io::Result<usize>
     Err(io::Error::from(ErrorKind::TimedOut))
 }
 
-/// Reads into a slice from a place on.
-fn read_at<R: Read>(source: &mut R, bytes: &mut [u8], at: usize) -> io::Result<usize>
-    requires { at < length bytes.old }
+/// Reads at most so many bytes into a slice, from a place on.
+fn read_at<R: Read>(source: &mut R, bytes: &mut [u8], at: usize, most: usize) -> io::Result<usize>
+    requires some { 0 < most }
+    requires room { at + most ≤ length bytes.old }
     ensures front { take at bytes.new ≡ take at bytes.old }
-    ensures fits { IfOk result (λ n. at + n ≤ length bytes.new) }
+    ensures len { length bytes.new ≡ length bytes.old }
+    ensures most { IfOk result (λ n. n ≤ most) }
     ensures ok { IfOk result (λ n. Consumes (R.remaining source.old) (R.remaining source.new) (take n (drop at bytes.new))) }
     ensures err { OnErr result (Keeps (R.remaining source.old) (R.remaining source.new)) }
     ensures end { IfOk result (λ n. n ≡ 0 → IsAtEnd (R.remaining source.new)) }
-    ensures retried { IfErr result (λ error. error_kind error ≢ ErrorKind.Interrupted) }
+    ensures signal { IfErr result (λ error. error_kind error ≢ ErrorKind.Interrupted) }
 {
-    read_retrying(source, &mut bytes[at..])
+    read_retrying(source, &mut bytes[at..at + most])
 }
 
-/// Reads at most so many bytes behind those that are held, and says how many.
+/// Makes a buffer at least so long.
+fn make_room(bytes: &mut Vec<u8>, len: usize) -> Result<(), AllocError>
+    ensures front { take (vec_len bytes.old) bytes.new.items ≡ bytes.old.items }
+    ensures room { OnOk result (len ≤ vec_len bytes.new) }
+    ensures longer { vec_len bytes.old ≤ vec_len bytes.new }
+{
+    if bytes.len() < len {
+        bytes.resize(len, 0)?;
+    }
+    Ok(())
+}
+
+/// Reads at most so many bytes behind those that a buffer holds, which are the first ones up to a place, and says how many.
 pub(crate) fn read_behind<R: Read>(
     source: &mut R,
-    held: &mut Vec<u8>,
+    buffer: &mut Vec<u8>,
+    end: usize,
     most: usize,
 ) -> Result<usize, ReadFault>
+    requires within { end ≤ vec_len buffer.old }
     requires some { 0 < most }
     requires few { most ≤ 65536 }
-    ensures ok { IfOk result (λ n. ReadsBehind n (R.remaining source.old) (R.remaining source.new) held.old.items held.new.items) }
+    ensures ok { IfOk result (λ n. ReadsBehind n (R.remaining source.old) (R.remaining source.new) (take end buffer.old.items) (take (end + n) buffer.new.items)) }
+    ensures within { IfOk result (λ n. end + n ≤ vec_len buffer.new) }
     ensures most { IfOk result (λ n. n ≤ most) }
-    ensures err { OnErr result ((held.new.items ≡ held.old.items) × Keeps (R.remaining source.old) (R.remaining source.new)) }
+    ensures err { OnErr result ((take end buffer.new.items ≡ take end buffer.old.items) × Keeps (R.remaining source.old) (R.remaining source.new)) }
     ensures kind { IfErr result IsReadError }
     ensures signal { IfErr result IsNoSignal }
 {
-    let len = held.len();
-    held.resize(len + most, 0)?;
-    match read_at(source, held.as_mut_slice(), len) {
-        Ok(count) => {
-            held.truncate(len + count);
-            Ok(count)
-        }
-        Err(error) => {
-            held.truncate(len);
-            Err(ReadFault::Input(error))
-        }
+    make_room(buffer, end + most)?;
+    match read_at(source, buffer.as_mut_slice(), end, most) {
+        Ok(count) => Ok(count),
+        Err(error) => Err(ReadFault::Input(error)),
     }
 }
 
@@ -81,14 +92,17 @@ pub(crate) fn read_up_to<R: Read>(
     ensures ok { OnOk result ((more : List ℕ) × (held.new.items ≡ held.old.items ++ more) × GivesUpTo most (R.remaining source.old) (R.remaining source.new) more) }
     ensures kind { IfErr result IsReadError }
 {
+    let mut end = held.len();
     let mut left = most;
     while left > 0 {
-        let count = read_behind(source, held, chunk_of(left))?;
+        let count = read_behind(source, held, end, chunk_of(left))?;
         if count == 0 {
             break;
         }
+        end += count;
         left -= count as u64;
     }
+    held.truncate(end);
     Ok(())
 }
 
@@ -102,6 +116,13 @@ fn chunk_of(left: u64) -> usize
     left.min(CHUNK_BYTES as u64) as usize
 }
 
+/// What stands up to a place, and from another on.
+pub(crate) fn part_of(bytes: &[u8], start: usize, end: usize) -> &[u8]
+    ensures { result.now ≡ drop start (take end bytes.now) }
+{
+    rest_of(bytes.get(..end).unwrap_or(bytes), start)
+}
+
 /// What stands from a place on.
 pub(crate) fn rest_of(bytes: &[u8], start: usize) -> &[u8]
     ensures { result.now ≡ drop start bytes.now }
@@ -109,15 +130,15 @@ pub(crate) fn rest_of(bytes: &[u8], start: usize) -> &[u8]
     bytes.get(start..).unwrap_or(&[])
 }
 
-/// Takes so many bytes away at the front.
-pub(crate) fn drop_front(bytes: &mut Vec<u8>, count: usize)
-    ensures { bytes.new.items ≡ drop count bytes.old.items }
+/// Moves what stands up to a place, and from another on, to the front, and says how many bytes it has.
+pub(crate) fn move_front(bytes: &mut Vec<u8>, start: usize, end: usize) -> usize
+    ensures part { take result bytes.new.items ≡ drop start (take end bytes.old.items) }
+    ensures within { result ≤ vec_len bytes.new }
 {
-    let len = bytes.len();
-    if count >= len {
-        bytes.clear();
-        return;
+    let end = end.min(bytes.len());
+    let start = start.min(end);
+    if start > 0 {
+        bytes.copy_within(start..end, 0);
     }
-    bytes.copy_within(count.., 0);
-    bytes.truncate(len - count);
+    end - start
 }
