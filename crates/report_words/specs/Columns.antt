@@ -1,0 +1,47 @@
+-- What is said of a column, as a row of a table.
+use Rattle.std.specs.Prelude.{◌≡◌, List, [], ◌++◌, codes, map, None, Some}
+use Rattle.std.specs.Option.{unwrap_or}
+use Rattle.arrow_values.specs.Tree.{Text}
+use Rattle.arrow_columns.specs.Column.{ColumnTree, name_on}
+use Rattle.column_check.specs.declared.finding.Finding.{Finding as ColumnFinding}
+use Rattle.column_check.specs.declared.finding.Finding.TheVariants.{Geometry, Invalid, Extension, Inferred, Plain}
+use Rattle.column_check.specs.declared.warning.Warning.{Warning}
+use Rattle.column_check.specs.States.{geometry_in}
+use Rattle.column_check.specs.Warnings.{AreWarnings}
+use Rattle.column_reports.specs.Reasons.{words_of}
+use Rattle.column_reports.specs.Report.{type_word, edges_of}
+use Rattle.column_reports.specs.Warnings.{warning_words}
+use Rattle.column_tables.specs.Table.{Line}
+use Rattle.report_words.specs.Crs.{crs_of_geometry}
+use Rattle.report_words.specs.Shown.{shown}
+
+-- the name of a column's extension type, or nothing
+abbrev pub extension_word : ColumnTree → Text
+extension_word c = unwrap_or (name_on c) []
+
+-- what a column holds
+abbrev pub held : ColumnTree → ColumnFinding → Text
+held c (Geometry g) = type_word c (Some g)
+held c (Inferred g) = codes "taken for " ++ type_word c (Some g)
+held c Plain = shown (type_word c None)
+held c (Invalid r) = codes "invalid " ++ shown (extension_word c)
+held c Extension = codes "extension " ++ shown (extension_word c)
+
+-- the reasons of an invalid column
+abbrev pub reasons_in : ColumnFinding → List Text
+reasons_in (Invalid r) = words_of r
+reasons_in f = []
+
+-- the row: the column's name, what it holds, of geometries their CRS and edges, and as notes the reasons and the warnings
+abbrev pub row_of : ColumnTree → ColumnFinding → List Warning → Line
+row_of c f ws = record {
+  name = shown c.name;
+  holds = held c f;
+  crs = crs_of_geometry (geometry_in f);
+  edges = unwrap_or (edges_of (geometry_in f)) [];
+  notes = map shown (reasons_in f ++ map warning_words ws);
+}
+
+-- the row with the warnings that the column has
+abbrev pub IsRowOf : ColumnTree → ColumnFinding → Line → Type 0
+IsRowOf c f row = (ws : List Warning) × AreWarnings c f ws × (row ≡ row_of c f ws)

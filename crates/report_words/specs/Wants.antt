@@ -1,0 +1,47 @@
+-- What a column is expected to hold, and what is not met of it.
+use Rattle.std.specs.Prelude.{◌≡◌, ◌⊎◌, ◌==◌, List, [], ◌∷◌, ◌++◌, length, codes, Option, None, Some, if◌then◌else◌}
+use Rattle.std.specs.List.{slice_split}
+use Rattle.arrow_values.specs.Tree.{Text}
+use Rattle.geoarrow_layout.specs.declared.encodings.Kind.{Kind}
+use Rattle.geoarrow_layout.specs.declared.encodings.Kind.TheVariants.{Wkb, Wkt}
+use Rattle.geoarrow_layout.specs.Kinds.{coord_type_of, dimension_of}
+use Rattle.geoarrow_fields.specs.Answer.{kind_word, coord_type_word, dimension_word}
+use Rattle.column_check.specs.declared.finding.Geometry.{Geometry as GeometryColumn}
+use Rattle.column_reports.specs.Report.{kind_text}
+use Rattle.report_words.specs.Crs.{crs_of_geometry}
+use Rattle.report_words.specs.Shown.{shown}
+
+-- the parts of an expectation stand between commas
+abbrev pub parts_of : Text → List Text
+parts_of want = slice_split (λ b. b == 44) want
+
+-- the word of an encoding
+abbrev pub encoding_word : Kind → Text
+encoding_word (Wkb w) = codes "WKB"
+encoding_word (Wkt w) = codes "WKT"
+encoding_word k = codes "native"
+
+-- a part is met by the CRS of geometries, their encoding, their kind, their coordinate type or their dimension
+abbrev pub Meets : GeometryColumn → Text → Type 0
+Meets g part = (part ≡ crs_of_geometry (Some g)) ⊎ ((part ≡ encoding_word g.kind) ⊎ ((part ≡ kind_word g.kind) ⊎ ((part ≡ coord_type_word (coord_type_of g.kind)) ⊎ (part ≡ dimension_word (dimension_of g.kind)))))
+
+-- what is said where a column holds no geometries
+abbrev pub no_geometries : Text → Text
+no_geometries name = codes "column " ++ (shown name ++ codes " holds no geometries")
+
+-- what is said of a part that is not met
+abbrev pub crs_or_none : Text → Text
+crs_or_none crs = if length crs == 0 then codes "no CRS" else crs
+
+abbrev pub unmet : Text → GeometryColumn → Text → Text
+unmet name g part = codes "column " ++ (shown name ++ (codes " is not " ++ (shown part ++ (codes ": " ++ (kind_text g.kind ++ (codes ", " ++ crs_or_none (crs_of_geometry (Some g))))))))
+
+-- what is said of the first part that is not met
+abbrev pub IsUnmet : Text → GeometryColumn → List Text → Option Text → Type 0
+IsUnmet name g [] said = said ≡ None
+IsUnmet name g (part ∷ parts) said = (Meets g part × IsUnmet name g parts said) ⊎ ((Meets g part → ⊥) × (said ≡ Some (unmet name g part)))
+
+-- what is said of a column of that name that is expected to hold this, if it does not
+abbrev pub IsUnmetText : Text → Option GeometryColumn → Text → Option Text → Type 0
+IsUnmetText name None want said = said ≡ Some (no_geometries name)
+IsUnmetText name (Some g) want said = IsUnmet name g (parts_of want) said

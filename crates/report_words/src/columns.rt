@@ -1,0 +1,130 @@
+//! What is said of a column, as a row of a table.
+ghost use Rattle.std.specs.Prelude.{◌≡◌, ◌++◌, [], None, Some, IfOk, OnOk, map, option_map, string_bytes};
+ghost use Rattle.std.specs.Option.{unwrap_or};
+ghost use Rattle.arrow_columns.specs.Column.{column_tree};
+ghost use Rattle.column_check.specs.States.{geometry_in};
+ghost use Rattle.column_reports.specs.Report.{edges_of};
+ghost use Rattle.column_reports.specs.Warnings.{warning_words};
+ghost use Rattle.column_tables.specs.Table.{line_of};
+ghost use Rattle.report_words.specs.Columns.{extension_word, held, reasons_in, IsRowOf};
+ghost use Rattle.report_words.specs.Crs.{crs_of_geometry};
+ghost use Rattle.report_words.specs.Shown.{shown};
+
+use crate::crs::crs_name;
+use crate::text::shown;
+use arrow_columns::Column;
+use column_check::{Finding, Geometry, Warning, warnings};
+use column_reports::{reason_words, type_word, warning_words};
+use column_tables::Row;
+use std::alloc::{AllocError, Global};
+
+/// The row of a column, of which that is said: its name; the kind, coordinate type and dimension of geometries, or the type of another column, and
+/// `invalid` or `extension` with the extension name; the CRS and the edges of geometries; and as notes the reasons and the warnings (`docs/FORMAT.md`,
+/// 2.5 and 2.6). Control characters are shown as `?`. Errs only when out of memory.
+pub fn row_of(alloc: Global, column: &Column, finding: &Finding) -> Result<Row, AllocError>
+    ensures { IfOk result (λ row. IsRowOf (column_tree column.now) finding.now (line_of row)) }
+{
+    let warnings = warnings(alloc, column, finding)?;
+    Ok(Row {
+        name: shown(alloc, column.name.as_str())?,
+        holds: held(alloc, column, finding)?,
+        crs: crs_of(alloc, finding.geometry())?,
+        edges: edges_of(alloc, finding.geometry())?,
+        notes: notes_of(alloc, finding, warnings.as_slice())?,
+    })
+}
+
+/// What a column holds.
+fn held(alloc: Global, column: &Column, finding: &Finding) -> Result<String, AllocError>
+    ensures { IfOk result (λ text. string_bytes text ≡ held (column_tree column.now) finding.now) }
+{
+    match finding {
+        Finding::Geometry(geometry) => type_word(alloc, column, Some(geometry)),
+        Finding::Inferred(geometry) => {
+            let word = type_word(alloc, column, Some(geometry))?;
+            joined(alloc, "taken for ", word.as_str())
+        }
+        Finding::Plain => {
+            let word = type_word(alloc, column, None)?;
+            shown(alloc, word.as_str())
+        }
+        Finding::Invalid(_) => extension_shown(alloc, "invalid ", column),
+        Finding::Extension => extension_shown(alloc, "extension ", column),
+    }
+}
+
+/// A word, and the extension name of a column.
+fn extension_shown(alloc: Global, word: &str, column: &Column) -> Result<String, AllocError>
+    ensures { IfOk result (λ text. string_bytes text ≡ word.now ++ shown (extension_word (column_tree column.now))) }
+{
+    let name = shown(alloc, column.extension_type_name().unwrap_or(""))?;
+    joined(alloc, word, name.as_str())
+}
+
+/// Two texts, one behind the other.
+fn joined(alloc: Global, one: &str, other: &str) -> Result<String, AllocError>
+    ensures { IfOk result (λ text. string_bytes text ≡ one.now ++ other.now) }
+{
+    let mut text = String::from_str(alloc, one)?;
+    text.push_str(other)?;
+    Ok(text)
+}
+
+/// The CRS of geometries.
+pub(crate) fn crs_of(alloc: Global, geometry: Option<&Geometry>) -> Result<String, AllocError>
+    ensures { IfOk result (λ text. string_bytes text ≡ crs_of_geometry (option_map (λ g. g.now) geometry.entry)) }
+{
+    match geometry {
+        Some(geometry) => crs_name(alloc, geometry.metadata.crs.as_ref()),
+        None => Ok(String::new(alloc)),
+    }
+}
+
+/// How the edges of geometries run, which are planar where none are named.
+fn edges_of(alloc: Global, geometry: Option<&Geometry>) -> Result<String, AllocError>
+    ensures { IfOk result (λ text. string_bytes text ≡ unwrap_or (edges_of (option_map (λ g. g.now) geometry.entry)) []) }
+{
+    match geometry {
+        Some(geometry) => match geometry.metadata.edges {
+            Some(edges) => String::from_str(alloc, edges.as_text()),
+            None => String::from_str(alloc, "planar"),
+        },
+        None => Ok(String::new(alloc)),
+    }
+}
+
+/// The reasons of an invalid column.
+fn reasons_in(alloc: Global, finding: &Finding) -> Result<Vec<String>, AllocError>
+    ensures { IfOk result (λ words. map string_bytes words.items ≡ reasons_in finding.now) }
+{
+    match finding {
+        Finding::Invalid(reasons) => reason_words(alloc, reasons),
+        _ => Ok(Vec::new(alloc)),
+    }
+}
+
+/// The reasons and the warnings of a column.
+fn notes_of(
+    alloc: Global,
+    finding: &Finding,
+    warnings: &[Warning],
+) -> Result<Vec<String>, AllocError>
+    ensures { IfOk result (λ notes. map string_bytes notes.items ≡ map shown (reasons_in finding.now ++ map warning_words warnings.now)) }
+{
+    let reasons = reasons_in(alloc, finding)?;
+    let warned = warning_words(alloc, warnings)?;
+    let mut notes = Vec::new(alloc);
+    add_shown(alloc, &mut notes, reasons.as_slice())?;
+    add_shown(alloc, &mut notes, warned.as_slice())?;
+    Ok(notes)
+}
+
+/// Adds texts as they are shown.
+fn add_shown(alloc: Global, notes: &mut Vec<String>, words: &[String]) -> Result<(), AllocError>
+    ensures { OnOk result (map string_bytes notes.new.items ≡ map string_bytes notes.old.items ++ map shown (map string_bytes words.now)) }
+{
+    for word in words {
+        notes.push(shown(alloc, word.as_str())?)?;
+    }
+    Ok(())
+}

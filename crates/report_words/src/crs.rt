@@ -1,0 +1,111 @@
+//! A CRS for people.
+ghost use Rattle.std.specs.Prelude.{◌≡◌, IfOk, option_map, string_bytes};
+ghost use Rattle.serde_json.specs.View.{view};
+ghost use Rattle.arrow_values.specs.Texts.{text_of};
+ghost use Rattle.geoparquet.specs.Identifiers.{code_text};
+ghost use Rattle.geoparquet.specs.Values.{at, text_of_value};
+ghost use Rattle.report_words.specs.Crs.{in_id, code_shown, identifier_shown, name_shown, value_shown, crs_name};
+
+use crate::text::{first_shown, shown};
+use serde_json::Value;
+use std::alloc::{AllocError, Global};
+
+/// A CRS for people: a text by its first 40 characters; PROJJSON by the authority and the code of its id, as `EPSG:4326`, or else by the first
+/// characters of its name, or as `a CRS`; and nothing where there is none. Errs only when out of memory.
+///
+/// ```rust
+/// let crs = Value::from_str(alloc, r#"{"id":{"authority":"EPSG","code":4326},"name":"WGS 84"}"#)?;
+/// assert_eq!(rt; crs_name(alloc, Some(&crs))?.as_str(), "EPSG:4326");
+/// ```
+pub fn crs_name(alloc: Global, crs: Option<&Value>) -> Result<String, AllocError>
+    ensures { IfOk result (λ name. string_bytes name ≡ crs_name (option_map (λ v. view v.now) crs.entry)) }
+{
+    let Some(crs) = crs else {
+        return Ok(String::new(alloc));
+    };
+    if let Some(text) = crs.as_str() {
+        return first_shown(alloc, text);
+    }
+    value_shown(alloc, crs, text_in(in_id(crs, "authority")))
+}
+
+/// The member at a key of a value, where both are there.
+fn member_at<'v>(value: Option<&'v Value>, key: &str) -> Option<&'v Value>
+    ensures { option_map (λ v. view v.now) result ≡ at key.now (option_map (λ v. view v.now) value.entry) }
+{
+    match value {
+        Some(value) => value.get(key),
+        None => None,
+    }
+}
+
+/// The text of a value, where it is one.
+fn text_in(value: Option<&Value>) -> Option<&str>
+    ensures { text_of result ≡ text_of_value (option_map (λ v. view v.now) value.entry) }
+{
+    match value {
+        Some(value) => value.as_str(),
+        None => None,
+    }
+}
+
+/// A member of the id of a CRS.
+fn in_id<'v>(crs: &'v Value, key: &str) -> Option<&'v Value>
+    ensures { option_map (λ v. view v.now) result ≡ in_id key.now (view crs.now) }
+{
+    member_at(crs.get("id"), key)
+}
+
+/// A CRS that is no text.
+fn value_shown(alloc: Global, crs: &Value, authority: Option<&str>) -> Result<String, AllocError>
+    ensures { IfOk result (λ name. string_bytes name ≡ value_shown (view crs.now) (text_of authority.entry)) }
+{
+    match authority {
+        Some(authority) => identifier_shown(alloc, authority, in_id(crs, "code")),
+        None => name_shown(alloc, text_in(crs.get("name"))),
+    }
+}
+
+/// The name of a CRS.
+fn name_shown(alloc: Global, name: Option<&str>) -> Result<String, AllocError>
+    ensures { IfOk result (λ text. string_bytes text ≡ name_shown (text_of name.entry)) }
+{
+    match name {
+        Some(name) => first_shown(alloc, name),
+        None => String::from_str(alloc, "a CRS"),
+    }
+}
+
+/// An authority with its code.
+fn identifier_shown(
+    alloc: Global,
+    authority: &str,
+    code: Option<&Value>,
+) -> Result<String, AllocError>
+    ensures { IfOk result (λ text. string_bytes text ≡ identifier_shown authority.now (option_map (λ v. view v.now) code.entry)) }
+{
+    let mut text = shown(alloc, authority)?;
+    if let Some(code) = code {
+        let code = code_shown(alloc, code)?;
+        text.push_str(":")?;
+        text.push_str(code.as_str())?;
+    }
+    Ok(text)
+}
+
+/// A code, which is a text or a whole number.
+fn code_shown(alloc: Global, code: &Value) -> Result<String, AllocError>
+    ensures { IfOk result (λ text. string_bytes text ≡ code_shown (code_text (Some (view code.now)))) }
+{
+    match code {
+        Value::String(text) => shown(alloc, text.as_str()),
+        Value::Number(number) => match number.as_u64() {
+            Some(number) => {
+                let text = format!(in alloc; "{number}")?;
+                shown(alloc, text.as_str())
+            }
+            None => String::from_str(alloc, "?"),
+        },
+        _ => String::from_str(alloc, "?"),
+    }
+}

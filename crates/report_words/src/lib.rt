@@ -1,0 +1,16 @@
+//! What is said to people of a file: why it is not read, what its columns hold, which checks hold, and which expectations are not met.
+#![tactic(auto)]
+
+mod checks;
+mod columns;
+mod crs;
+mod problems;
+mod text;
+mod wants;
+
+pub use checks::checks_text;
+pub use columns::row_of;
+pub use crs::crs_name;
+pub use problems::{long_line_text, problem_text};
+pub use text::shown;
+pub use wants::unmet_text;
