@@ -1,9 +1,10 @@
 //! The bytes of a source that hold its schema.
-ghost use Rattle.std.specs.Prelude.{◌≡◌, ◌+◌, ◌≤◌, List, ℕ, ◌++◌, length, OnOk, IfOk, IfErr};
+ghost use Rattle.std.specs.Prelude.{◌≡◌, ◌+◌, ◌≤◌, List, ℕ, ◌++◌, length, OnOk, IfSome, IfOk, IfErr};
 ghost use Rattle.std.specs.Io.KnownBytes.{IsAtEnd};
+ghost use Rattle.column_files.specs.Forms.{IsForm};
 ghost use Rattle.column_files.specs.Sources.{GivesUpTo};
 ghost use Rattle.column_files.specs.ReadErrors.{IsReadError};
-ghost use Rattle.column_files.specs.Reading.{size_in, GivesSchema, GivesEnd};
+ghost use Rattle.column_files.specs.Reading.{size_in, GivesSchema, GivesEnd, IsHead, ReadAs};
 
 use crate::fault::ReadFault;
 use crate::form::Form;
@@ -39,6 +40,8 @@ pub fn read_schema_bytes<R: Read>(
 ) -> Result<Vec<u8>, ReadFault>
     ensures ok { IfOk result (λ bytes. (more : List ℕ) × (bytes.items ≡ head.items ++ more)
         × GivesSchema form head.items (R.remaining source.old) (R.remaining source.new) more) }
+    ensures enough { IfOk result (λ bytes. IfSome (R.remaining source.old) (λ rest.
+        IsForm head.items form → IsHead head.items rest → ReadAs form bytes.items (head.items ++ rest))) }
     ensures err { IfErr result IsReadError }
 {
     let mut bytes = head;
