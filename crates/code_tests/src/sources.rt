@@ -51,6 +51,9 @@ impl Seek for Stumbling<'_> {
 const LINES: &[u8] =
     b"{\"name\":\"a\",\"nullable\":true,\"type\":\"binary\"}\n{\"name\":\"b\",\"nullable\":true,\"type\":{\"other\":\"time32[s]\"}}\n{\"name\":\"c\",\"nullable\":false,\"type\":\"null\"}\n";
 
+/// How many bytes its first line has, with its line feed.
+const FIRST: usize = 45;
+
 /// Adds the lines of the columns up to the end, or to the first fault, which is returned.
 fn add_columns<R: Read>(
     alloc: Global,
@@ -182,9 +185,9 @@ fn is_same(
 /// The last column of `LINES` in a line of so many bytes, behind the first one.
 fn padded(alloc: Global, len: usize) -> Result<Vec<u8>, AllocError> {
     let mut text = Vec::new(alloc);
-    text.extend_from_slice(&LINES[..44])?;
+    text.extend_from_slice(&LINES[..FIRST])?;
     text.extend_from_slice(b"{\"name\":\"c\",\"nullable\":false,\"type\":\"null\"}")?;
-    text.resize(44 + len, b' ')?;
+    text.resize(FIRST + len, b' ')?;
     Ok(text)
 }
 
@@ -216,10 +219,10 @@ fn of_lines_are_limited(rt: HostRuntime) -> Result<(), Fail> {
             "{len} bytes"
         );
     }
-    let endless = LINES[..44].chain(Repeated { left: usize::MAX });
+    let endless = LINES[..FIRST].chain(Repeated { left: usize::MAX });
     let (text, fault) = columns_of_source(alloc, endless)?;
     assert!(rt;
-        text.len() == 44 && is_same(alloc, fault, &wanted)?,
+        text.len() == FIRST && is_same(alloc, fault, &wanted)?,
         "no end"
     );
     Ok(())

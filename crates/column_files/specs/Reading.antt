@@ -1,17 +1,21 @@
 -- What is read of a source: its lines one after another, and the bytes that hold its schema.
-use Rattle.std.specs.Prelude.{◌≡◌, ◌≢◌, ℕ, ◌+◌, ◌-◌, ◌^◌, ◌<◌, ◌≤◌, ◌⊎◌, min, List, [], ◌∷◌, ◌++◌, length, take, drop, Option, Some, None, IfSome, Result, Ok, Err, ⊤}
+use Rattle.std.specs.Prelude.{◌≡◌, ◌≢◌, ℕ, ◌+◌, ◌-◌, ◌^◌, ◌<◌, ◌≤◌, ◌⊎◌, ◌↔◌, min, List, [], ◌∷◌, ◌++◌, length, take, drop, Option, Some, None, IfSome, Result, Ok, Err, ⊤}
 use Rattle.std.specs.Int.{w32, from_le_bytes}
 use Rattle.std.specs.Io.KnownBytes.{Keeps, IsAtEnd, prepend_known}
 use Rattle.std.specs.IoError.{error_kind}
 use Rattle.std.specs.declared.io.ErrorKind.TheVariants.{Interrupted}
 use Rattle.memchr.specs.Find.{is_byte, Passes, Nowhere, IsFirstByte}
+use Rattle.std.specs.declared.vec.Vec.{Vec}
+use Rattle.std.specs.declared.alloc.Global.{Global}
 use Rattle.arrow_columns.specs.Column.{ColumnTree, column_tree}
 use Rattle.arrow_columns.specs.declared.column.Column.{Column}
 use Rattle.column_files.specs.Lines.{line_feed, DenotesNext}
 use Rattle.column_files.specs.LineFaults.{DenotesNone}
+use Rattle.column_files.specs.Files.{IsFileRead}
 use Rattle.column_files.specs.Sources.{GivesUpTo, GivesAll}
 use Rattle.column_files.specs.declared.form.Form.{Form}
 use Rattle.column_files.specs.declared.form.Form.TheVariants.{ArrowFile, ArrowStream, Parquet}
+use Rattle.column_files.specs.declared.columns.FileFault.{FileFault}
 use Rattle.column_files.specs.declared.columns.FileFault.TheVariants.{NoField, OutOfMemory}
 use Rattle.column_files.specs.declared.fault.ReadFault.{ReadFault}
 use Rattle.column_files.specs.declared.fault.ReadFault.TheVariants.{Input, LongLine, File}
@@ -101,3 +105,11 @@ abbrev pub GivesEnd : Form → List ℕ → Option (List ℕ) → Option (List �
 GivesEnd ArrowFile head old new bytes = IsAtEnd new
 GivesEnd Parquet head old new bytes = IsAtEnd new
 GivesEnd form head old new bytes = (more : List ℕ) × (bytes ≡ head ++ more) × GivesSchema form head old new more
+
+-- what `read_head` gives of a source, which has the rest left
+abbrev pub IsHead : List ℕ → List ℕ → Type 0
+IsHead head rest = (length head ≡ 8) ⊎ (rest ≡ [])
+
+-- what is read of these bytes in that format is what is read of all
+abbrev pub ReadAs : Form → List ℕ → List ℕ → Type 0
+ReadAs form bytes all = (r : Result (Vec Column Global) FileFault) → IsFileRead form bytes r ↔ IsFileRead form all r

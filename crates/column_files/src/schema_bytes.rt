@@ -1,9 +1,10 @@
 //! The bytes of a source that hold its schema.
-ghost use Rattle.std.specs.Prelude.{◌≡◌, ◌+◌, ◌≤◌, List, ℕ, ◌++◌, length, OnOk, IfOk, IfErr};
+ghost use Rattle.std.specs.Prelude.{◌≡◌, ◌+◌, ◌≤◌, List, ℕ, ◌++◌, length, OnOk, IfSome, IfOk, IfErr};
 ghost use Rattle.std.specs.Io.KnownBytes.{IsAtEnd};
+ghost use Rattle.column_files.specs.Forms.{IsForm};
 ghost use Rattle.column_files.specs.Sources.{GivesUpTo};
 ghost use Rattle.column_files.specs.ReadErrors.{IsReadError};
-ghost use Rattle.column_files.specs.Reading.{size_in, GivesSchema, GivesEnd};
+ghost use Rattle.column_files.specs.Reading.{size_in, GivesSchema, GivesEnd, IsHead, ReadAs};
 
 use crate::fault::ReadFault;
 use crate::form::Form;
@@ -19,8 +20,13 @@ const ARROW_TAIL: u64 = 10;
 
 const PARQUET_TAIL: u64 = 8;
 
-/// The first eight bytes of a source, from which `form_of` tells the format; all of them, where there are fewer. Errs where the source fails, and
-/// when out of memory.
+/// The first eight bytes of a source, from which `form_of` tells the format; all of them, where there are fewer. Errs where the source fails,
+/// and when out of memory.
+///
+/// ```rust
+/// let head = read_head(alloc, &mut b"PAR1".as_slice());
+/// assert!(rt; matches!(head, Ok(head) if head.as_slice() == b"PAR1"));
+/// ```
 pub fn read_head<R: Read>(alloc: Global, source: &mut R) -> Result<Vec<u8>, ReadFault>
     ensures ok { IfOk result (λ head. GivesUpTo 8 (R.remaining source.old) (R.remaining source.new) head.items) }
     ensures err { IfErr result IsReadError }
@@ -30,8 +36,16 @@ pub fn read_head<R: Read>(alloc: Global, source: &mut R) -> Result<Vec<u8>, Read
     Ok(head)
 }
 
-/// The bytes from which `columns_of` reads the columns of a source in that format, whose first bytes are `head`, as `read_head` gives them: of a stream
-/// the first message, with the eight bytes before it, and of another format all bytes. Errs where the source fails, and when out of memory.
+/// The bytes from which `columns_of` reads the columns of a source in that format, whose first bytes are `head`, as `read_head` gives them: of
+/// a stream the first message, with the eight bytes before it, and of another format all bytes. Errs where the source fails, and when out of
+/// memory.
+///
+/// ```rust
+/// let mut source = b"\xff\xff\xff\xff\x02\0\0\0abcdef".as_slice();
+/// let Ok(head) = read_head(alloc, &mut source) else { return Ok(()); };
+/// let read = read_schema_bytes(form_of(head.as_slice()), head, &mut source);
+/// assert!(rt; matches!(read, Ok(bytes) if bytes.as_slice() == b"\xff\xff\xff\xff\x02\0\0\0ab"));
+/// ```
 pub fn read_schema_bytes<R: Read>(
     form: Form,
     head: Vec<u8>,
@@ -39,6 +53,8 @@ pub fn read_schema_bytes<R: Read>(
 ) -> Result<Vec<u8>, ReadFault>
     ensures ok { IfOk result (λ bytes. (more : List ℕ) × (bytes.items ≡ head.items ++ more)
         × GivesSchema form head.items (R.remaining source.old) (R.remaining source.new) more) }
+    ensures enough { IfOk result (λ bytes. IfSome (R.remaining source.old) (λ rest.
+        IsForm head.items form → IsHead head.items rest → ReadAs form bytes.items (head.items ++ rest))) }
     ensures err { IfErr result IsReadError }
 {
     let mut bytes = head;

@@ -1,4 +1,4 @@
-use Rattle.std.proofs.Common.{◌≡◌, Ok, Err, Some, take, drop, ap, sym, subst, ◌∙◌}
+use Rattle.std.proofs.Common.{◌≡◌, Ok, Err, Some, take, drop, sym, subst}
 use Rattle.std.specs.Io.KnownBytes.{prepend_known}
 use Rattle.arrow_columns.specs.Column.{column_tree}
 use Rattle.column_files.specs.LineFaults.{IsLineRead}
@@ -10,7 +10,7 @@ pub returns-in-Ok-clause-next : goal.returns-in-Ok-clause-next
 returns-in-Ok-clause-next g c =
     let held = ahead c.hold_line.new.self in
     let source = c.hold_line.new.self.source in
-    let rest_is : c.part_of.result.now ≡ held = c.part_of.ensures ∙ ap (λ l. drop c.hold_line.new.self.start (take c.hold_line.new.self.end l)) c.as_slice.ensures.value in
+    let rest_is : c.part_of.result.now ≡ held = subst (λ l. c.part_of.result.now ≡ drop c.hold_line.new.self.start (take c.hold_line.new.self.end l)) c.as_slice.ensures.value c.part_of.ensures in
     let line : HasLine held (g.R.Read.remaining source) (Some c.in-Some.len) = subst (HasLine held (g.R.Read.remaining source)) c.in-Some.is c.in_ok-len.ensures.line in
     let read : IsLineRead (take c.in-Some.len held) (Ok c.in-Ok.column) =
     subst (λ l. IsLineRead (take c.in-Some.len l) (Ok c.in-Ok.column)) rest_is (subst (IsLineRead (take c.in-Some.len c.part_of.result.now)) c.in-Ok.is c.in_ok-column.ensures) in
@@ -22,7 +22,7 @@ pub returns-in-Err-clause-next : goal.returns-in-Err-clause-next
 returns-in-Err-clause-next g c =
     let held = ahead c.hold_line.new.self in
     let rest = g.R.Read.remaining c.hold_line.new.self.source in
-    let rest_is : c.part_of.result.now ≡ held = c.part_of.ensures ∙ ap (λ l. drop c.hold_line.new.self.start (take c.hold_line.new.self.end l)) c.as_slice.ensures.value in
+    let rest_is : c.part_of.result.now ≡ held = subst (λ l. c.part_of.result.now ≡ drop c.hold_line.new.self.start (take c.hold_line.new.self.end l)) c.as_slice.ensures.value c.part_of.ensures in
     let line : HasLine held rest (Some c.in-Some.len) = subst (HasLine held rest) c.in-Some.is c.in_ok-len.ensures.line in
     let read : IsLineRead (take c.in-Some.len held) (Err c.in-Err.fault) =
     subst (λ l. IsLineRead (take c.in-Some.len l) (Err c.in-Err.fault)) rest_is (subst (IsLineRead (take c.in-Some.len c.part_of.result.now)) c.in-Err.is c.in_ok-column.ensures) in
