@@ -2,8 +2,9 @@
 """Checks many files, a report for each as it comes, and one summary: examples/many_files.py [--with dask|threads|loop] [--infer] PATH..
 
 A PATH is a file, or a folder with all files in it; `-` is a list of paths on standard input. A report is a line of JSON: the `file`, its
-number of `columns`, its `geometries` and its `invalid` columns in words, and an `error` where it cannot be read, which never ends the run. The
-summary is the last line. The status is 2 where a file cannot be read, 1 where a column is invalid, otherwise 0.
+number of `columns`, its `geometries` and its `invalid` columns in words, the `checks` of its GeoParquet metadata that do not hold, the
+`warnings` of the file as a whole, and an `error` where it cannot be read, which never ends the run. The summary is the last line. The status is
+2 where a file cannot be read, 1 where a column is invalid or a check does not hold, otherwise 0.
 
 `reports` is a function of paths, so that any engine that maps over paths takes it. With Dask it is `dask_reports` below. With Spark:
 
@@ -53,12 +54,14 @@ def report(path: str, infer: bool = False) -> Report:
         return _failed(path, error)
     geometries = [f"{one.name}: {one.type}" for one in columns if one.state in ("geometry", "inferred")]
     invalid = [f"{one.name}: {', '.join(map(str, one.reasons))}" for one in columns if one.is_invalid]
-    return {"file": path, "columns": len(columns), "geometries": geometries, "invalid": invalid, "error": None}
+    return {
+        "file": path, "columns": len(columns), "geometries": geometries, "invalid": invalid, "checks": list(map(str, columns.checks)),
+        "warnings": list(map(str, columns.warnings)), "error": None}
 
 
 def _failed(path: str, error: BaseException) -> Report:
     said = getattr(error, "strerror", None) or str(error) or type(error).__name__
-    return {"file": path, "columns": 0, "geometries": [], "invalid": [], "error": said}
+    return {"file": path, "columns": 0, "geometries": [], "invalid": [], "checks": [], "warnings": [], "error": said}
 
 
 def loop_reports(paths: Sequence[str], infer: bool = False) -> Iterator[Report]:
@@ -110,8 +113,8 @@ def paths_of(words: Iterable[str]) -> List[str]:
 
 def summary(counts: "collections.Counter[str]", seconds: float) -> str:
     """The summary of a run."""
-    return ("{files:,} files: {columns:,} columns, {geometries:,} of them geometries; {invalid:,} files with invalid columns, {error:,} not read; "
-            .format_map(counts) + f"{seconds:.1f} s")
+    return ("{files:,} files: {columns:,} columns, {geometries:,} of them geometries; {invalid:,} files with invalid columns, {checks:,} with checks "
+            "that do not hold, {error:,} not read; ".format_map(counts) + f"{seconds:.1f} s")
 
 
 WAYS = {"dask": dask_reports, "threads": thread_reports, "loop": loop_reports}
@@ -128,9 +131,10 @@ def main(words: Optional[Sequence[str]] = None) -> int:
     for one in WAYS[asked.way](paths_of(asked.paths), asked.infer):
         print(json.dumps(one, ensure_ascii=True), flush=True)
         counts.update(
-            files=1, columns=one["columns"], geometries=len(one["geometries"]), invalid=bool(one["invalid"]), error=one["error"] is not None)
+            files=1, columns=one["columns"], geometries=len(one["geometries"]), invalid=bool(one["invalid"]), checks=bool(one["checks"]),
+            error=one["error"] is not None)
     print(summary(counts, time.monotonic() - begun))
-    return 2 if counts["error"] else 1 if counts["invalid"] else 0
+    return 2 if counts["error"] else 1 if counts["invalid"] or counts["checks"] else 0
 
 
 if __name__ == "__main__":

@@ -77,8 +77,9 @@ uint8_t geoarrow_answer(uint8_t command, const uint8_t *line, size_t line_len, u
  * Statuses: as geoarrow_answer, and LIMIT, at which `out` and `*len` are unchanged. */
 uint8_t geoarrow_run(uint8_t command, const uint8_t *input, size_t input_len, uint8_t *out, size_t out_len, size_t *len);
 
-/* The report of a file, from its bytes: a line of JSON for each of its columns, each with a line feed behind it (docs/FORMAT.md,
- * 2.5 to 2.7). `options` is 0 or GEOARROW_INFER_TYPES.
+/* The report of a file, from its bytes: a line of JSON for each of its columns (docs/FORMAT.md, 2.5 to 2.7), and behind them, of a
+ * Parquet file, one for each check of its GeoParquet metadata that does not hold (5.1), or one that says that it has columns of
+ * geometries and no such metadata; each with a line feed behind it. `options` is 0 or GEOARROW_INFER_TYPES.
  * Statuses: DONE, SHORT; MEMORY and UNKNOWN, at which `*len` is unchanged; and those of refused bytes. At all but DONE `out`
  * is unchanged. */
 uint8_t geoarrow_check(uint8_t options, const uint8_t *bytes, size_t bytes_len, uint8_t *out, size_t out_len, size_t *len);

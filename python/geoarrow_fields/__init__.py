@@ -13,13 +13,13 @@ from typing import Any, Iterable, Union
 
 from . import library, sources
 from .c_schema import SchemaError
-from .columns import Check, Column, Columns, Reason, columns_of
+from .columns import Check, Column, Columns, FileWarning, Reason, columns_of
 from .library import Command
 from .refusals import InvalidColumns, RefusedSource
 from .schema_lines import Schema, lines
 
 __all__ = [
-    "Check", "Column", "Columns", "InvalidColumns", "Reason", "RefusedSource", "Schema", "SchemaError", "canon", "check", "lines", "read", "write_schema"]
+    "Check", "Column", "Columns", "FileWarning", "InvalidColumns", "Reason", "RefusedSource", "Schema", "SchemaError", "canon", "check", "lines", "read", "write_schema"]
 
 __version__ = "1.0.0"
 
@@ -31,8 +31,9 @@ def check(source: Any, infer: bool = False, strict: bool = False) -> Columns:
 
     `source` is the path of an Arrow file (Feather), an Arrow stream, a Parquet file or lines; the bytes of one; lines in a list or a tuple;
     or an object that gives a schema over Arrow's C data interface, such as one of pyarrow or polars (`lines`). Of a file only the bytes that say
-    what its columns are are read. `checks` of what is answered are the checks of a Parquet file's GeoParquet metadata that do not hold. With `infer`, a column without an extension name is taken for what is inferred from its data type. With
-    `strict`, `InvalidColumns` is raised where one is invalid.
+    what its columns are are read. `checks` of what is answered are the checks of a Parquet file's GeoParquet metadata that do not hold, and
+    `warnings` are what is doubtful of the file as a whole. With `infer`, a column without an extension name is taken for what is inferred from
+    its data type. With `strict`, `InvalidColumns` is raised where one is invalid.
 
     Raises `RefusedSource`, a `ValueError` with a code and an offset, where the bytes are not read; `SchemaError`, which is one too, where the
     object gives no schema; `OSError` for the path; and `MemoryError`.

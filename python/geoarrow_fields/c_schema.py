@@ -42,6 +42,8 @@ MODES = {"dense": "+ud:", "sparse": "+us:"}
 MODE_WORDS = {"d": "dense", "s": "sparse"}
 SIZED_LIST = re.compile(r"\+w:([0-9]{1,10})")
 UNION = re.compile(r"\+u([ds]):((?:[0-9]{1,3}(?:,[0-9]{1,3})*)?)")
+
+
 class SchemaError(ValueError):
     """A schema or a line that is not what it should be; the text says where and why."""
 

@@ -92,7 +92,7 @@ def _room(size: int) -> Any:
     if size < _MUCH_ROOM:
         return ctypes.create_string_buffer(size)
     try:
-        return (ctypes.c_char * size).from_buffer(mmap.mmap(-1, size))
+        return (ctypes.c_char * size).from_buffer(mmap.mmap(-1, size, flags=mmap.MAP_PRIVATE))
     except OSError:
         raise MemoryError from None
 

@@ -1,5 +1,7 @@
-"""What the tests share: where things are, and lines of columns."""
+"""What the tests share: where things are, lines of columns, and what is said of a file."""
 import pathlib
+
+from geoarrow_fields import FileWarning
 
 TOP = pathlib.Path(__file__).resolve().parent.parent.parent
 DATA = TOP / "crates/geoarrow_check/data"
@@ -10,6 +12,8 @@ TEXT = '{"name":"t","nullable":true,"type":"utf8"}'
 OTHER = '{"name":"at","nullable":true,"type":{"other":"timestamp[ms, tz=UTC]"}}'
 BROKEN = '{"metadata":{"ARROW:extension:metadata":"{\\"edges\\":1}","ARROW:extension:name":"geoarrow.linestring"},"name":"b","nullable":true,"type":{"list":{"name":"v","nullable":true,"type":{"struct":[]}}}}'
 CRS = '{"metadata":{"ARROW:extension:metadata":"{\\"crs\\":{\\"id\\":{\\"authority\\":\\"OGC\\",\\"code\\":\\"CRS84\\"},\\"scope\\":1.50},\\"crs_type\\":\\"projjson\\",\\"edges\\":\\"spherical\\"}","ARROW:extension:name":"geoarrow.wkb"},"name":"g","nullable":true,"type":"binary"}'
+
+NO_GEO_METADATA = FileWarning("NoGeoMetadata", "the file has columns of geometries, but no metadata of GeoParquet")
 
 
 def with_crs(crs):

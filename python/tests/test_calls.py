@@ -14,7 +14,7 @@ from geoarrow_fields import (
     Column, InvalidColumns, Reason, RefusedSource, Schema, SchemaError, canon, check, library, lines, read, write_schema)
 from geoarrow_fields.refusals import RULES
 
-from .shared import BROKEN, CANON, CRS, DATA, OTHER, POINT, TEXT, TOP, with_crs
+from .shared import BROKEN, CANON, CRS, DATA, NO_GEO_METADATA, OTHER, POINT, TEXT, TOP, with_crs
 
 
 class Answers(unittest.TestCase):
@@ -101,10 +101,18 @@ class Checks(unittest.TestCase):
         columns = check(DATA / "geo.parquet")
         self.assertEqual([(one.code, one.column, one.path) for one in columns.checks], [
             ("GeoTypes", "geom", ("columns", "geom", "geometry_types")), ("GeoBbox", "geom", ("columns", "geom", "bbox"))])
-        self.assertEqual([one.type for one in columns], ["binary", "wkb - -", "wkb - -"])
+        self.assertEqual([one.type for one in columns], ["wkb - -", "wkb - -", "wkb - -"])
         self.assertEqual(repr(columns).split("\n")[-1], f"GeoBbox of geom does not hold: {columns.checks[1].message}")
         self.assertIn(columns.checks[0].message, columns._repr_html_())
+        for file in (columns, check(DATA / "plain.parquet"), check(DATA / "file.arrow")):
+            self.assertEqual(file.warnings, ())
         self.assertEqual(check(DATA / "plain.parquet").checks, ())
+
+    def test_a_file_of_parquet_without_metadata_of_geoparquet(self):
+        columns = check(DATA / "stored.parquet")
+        self.assertEqual((columns.checks, columns.warnings), ((), (NO_GEO_METADATA,)))
+        self.assertEqual(repr(columns).split("\n")[-1], str(NO_GEO_METADATA))
+        self.assertIn(str(NO_GEO_METADATA), columns._repr_html_())
 
     def test_the_end_of_a_large_file_alone_is_read(self):
         with tempfile.TemporaryDirectory() as folder:

@@ -7,9 +7,11 @@ import subprocess
 import sys
 import tempfile
 import unittest
+from unittest import mock
 
 from geoarrow_fields import check
-from geoarrow_fields.__main__ import main
+from geoarrow_fields.__main__ import OF_THE_PROGRAM, main
+from geoarrow_fields.columns import columns_of
 
 from .shared import BROKEN, DATA, TEXT, TOP
 
@@ -47,6 +49,23 @@ class Command(unittest.TestCase):
         found = self.run_in_data("sh", "-c", "{ " + command + "; } | true")
         self.assertIn(found.stderr.decode(), ("2\n", "1\n"))  # (it may have written all before the reader ends)
 
+    @unittest.skipUnless(os.path.exists("/dev/full"), "there is no /dev/full")
+    def test_an_output_that_is_full(self):
+        found = self.run_in_data("sh", "-c", f'"{sys.executable}" -m geoarrow_fields check "{TOP}/examples/schema.jsonl" > /dev/full')
+        self.assertEqual((found.stderr, found.returncode), (b"standard output: No space left on device\n", 2))
+
+    def test_out_of_memory(self):
+        with mock.patch("geoarrow_fields.__main__.check", side_effect=MemoryError):
+            self.assertEqual(printed(["check", "a"]), ("", "a: out of memory\n", 2))
+
+    def test_options_of_the_program_alone(self):
+        for word in OF_THE_PROGRAM:
+            for words in (["check", word, "a"], ["check", f"{word}=a", "a"], ["check", "a", word]):
+                err = io.StringIO()
+                with self.assertRaises(SystemExit) as caught, contextlib.redirect_stderr(err):
+                    main(words)
+                self.assertEqual((caught.exception.code, err.getvalue().split("error: ")[1]), (2, f"{word} is an option of the program geoarrow_check alone\n"))
+
     @unittest.skipUnless(PROGRAM.is_file(), "the program is not built")
     def test_beside_the_program(self):
         files = ["columns.jsonl", "stream.arrows", "file.arrow", "other.arrows", "stored.parquet", "plain.parquet", "geo.parquet", str(TOP / "examples/schema.jsonl")]
@@ -80,6 +99,20 @@ class Command(unittest.TestCase):
 
 
 class Printed(unittest.TestCase):
+    def test_what_stands_behind_the_columns(self):
+        column, other = '{"column":"g"', ',"index":0,"state":"plain","type":"binary"}'
+        check_, message = '{"check":"GeoBbox","column":"\\"message\\":"', ',"message":"m","ok":false,"path":["columns"]}'
+        warning = '"message":"w","warning":"NoGeoMetadata"}'
+        columns = columns_of(f"{column}{other}\n{{{warning}\n")
+        with mock.patch("geoarrow_fields.__main__.check", lambda *given, **more: columns):
+            for file, named in (("-", ""), ('a"b', '"file":"a\\"b",')):
+                out, err, status = printed(["check", "--json", file])
+                self.assertEqual((out, err, status), (f"{column},{named}{other[1:]}\n{{{named}{warning}\n", "", 0))
+            self.assertEqual(printed(["check", "a", "b"])[0].split("\n")[-2], "NoGeoMetadata: w")
+            columns = columns_of(f"{column}{other}\n{check_}{message}\n{{{warning}\n")
+            lines = f'{column},"file":"f"{other}\n{check_},"file":"f"{message}\n{{"file":"f",{warning}\n'
+            self.assertEqual(printed(["check", "--json", "f"]), (lines, "", 1))
+
     def test_json_is_that_of_the_column_with_the_file(self):
         path = str(DATA / "stream.arrows")
         line = check(path)[0].json

@@ -35,15 +35,20 @@ class ManyFiles(unittest.TestCase):
         shutil.copy(DATA / "file.arrow", self.folder / "e")
         (self.folder / "f").write_bytes((DATA / "file.arrow").read_bytes()[:-1])
         (self.folder / "g").symlink_to("nowhere")
+        shutil.copy(DATA / "geo.parquet", self.folder / "h")
         self.wanted = [
             self.report("a", 2, ["g: wkb - -"]), self.report("b", 1, invalid=["b: unexpected number of fields at v, unknown edges"]),
             self.report("below/c", error="line 1 is no field"), self.report("d\n", 1), self.report("e", 1, ["g: linestring interleaved XYM"]),
             self.report("f", error=f"byte {(DATA / 'file.arrow').stat().st_size - 11} of the message: no whole message"),
-            self.report("g", error="No such file or directory")]
+            self.report("g", error="No such file or directory"),
+            self.report("h", 3, ["geom: wkb - -", "place: wkb - -", "region: wkb - -"], checks=[
+                "GeoTypes of geom does not hold: geometry_types are different names of geometry types that fit the encoding",
+                "GeoBbox of geom does not hold: bbox is absent, or four or six numbers in order"])]
 
-    def report(self, name, columns=0, geometries=(), invalid=(), error=None):
+    def report(self, name, columns=0, geometries=(), invalid=(), checks=(), error=None):
         return {
-            "file": str(self.folder / name), "columns": columns, "geometries": list(geometries), "invalid": list(invalid), "error": error}
+            "file": str(self.folder / name), "columns": columns, "geometries": list(geometries), "invalid": list(invalid), "checks": list(checks),
+            "warnings": [], "error": error}
 
     def ran(self, *words):
         """The reports, by the names of the files, the summary and the status."""
@@ -57,7 +62,8 @@ class ManyFiles(unittest.TestCase):
     def judge(self, way):
         found, last, status = self.ran("--with", way, self.folder)
         self.assertEqual(found, self.wanted)
-        self.assertRegex(last, r"^7 files: 5 columns, 2 of them geometries; 1 files with invalid columns, 3 not read; \d+\.\d s$")
+        self.assertRegex(last, (
+            r"^8 files: 8 columns, 5 of them geometries; 1 files with invalid columns, 1 with checks that do not hold, 3 not read; \d+\.\d s$"))
         self.assertEqual(status, 2)
 
     def test_a_loop(self):
@@ -71,7 +77,8 @@ class ManyFiles(unittest.TestCase):
         self.judge("dask")
 
     def test_statuses_and_what_is_inferred(self):
-        self.assertEqual(self.ran("--with", "loop", self.folder / "a", self.folder / "b")[2], 1)
+        for names, wanted in (("a", 0), ("ab", 1), ("ah", 1), ("ahg", 2)):
+            self.assertEqual(self.ran("--with", "loop", *(self.folder / name for name in names))[2], wanted)
         found, _, status = self.ran("--with", "loop", "--infer", self.folder / "a")
         self.assertEqual((found[0]["geometries"], status), (["t: wkt - -", "g: wkb - -"], 0))
 

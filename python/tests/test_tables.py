@@ -3,9 +3,14 @@ import html.parser
 import re
 import unittest
 
-from geoarrow_fields import check
+from geoarrow_fields import Check, check
+from geoarrow_fields.columns import columns_of
 
-from .shared import BROKEN, CRS, TEXT, TOP, with_crs
+from .shared import BROKEN, CRS, NO_GEO_METADATA, TEXT, TOP, with_crs
+
+COLUMN = '{"column":"t","index":0,"state":"plain","type":"utf8"}'
+CHECK = '{"check":"GeoBbox","column":"t","message":"m","ok":false,"path":["columns","t","bbox"]}'
+WARNING = '{"message":"%s","warning":"NoGeoMetadata"}' % NO_GEO_METADATA.message
 
 
 class Cells(html.parser.HTMLParser):
@@ -55,6 +60,27 @@ t       taken for wkt - -                       planar""")
     def test_control_characters(self):
         table = repr(check([TEXT.replace('"t"', '"a\\u001b[2J\\u0085\\nb"')]))
         self.assertEqual(table, "column     holds  CRS  edges\na?[2J??b   utf8".replace("a?[2J??b  ", "a?[2J??b ").replace("column    ", "column   "))
+
+
+class Behind(unittest.TestCase):
+    """What stands behind the lines of the columns: checks, and warnings of the file."""
+
+    def test_each_line_is_what_it_begins_as(self):
+        columns = columns_of(f"{COLUMN}\n{CHECK}\n{CHECK}\n{WARNING}\n")
+        self.assertEqual([one.name for one in columns], ["t"])
+        self.assertEqual(columns.checks, (Check("GeoBbox", "m", "t", ("columns", "t", "bbox")),) * 2)
+        self.assertEqual(columns.warnings, (NO_GEO_METADATA,))
+        self.assertEqual([one.json for one in (*columns, *columns.checks, *columns.warnings)], [COLUMN, CHECK, CHECK, WARNING])
+        for report in ("", f"{COLUMN}\n"):
+            columns = columns_of(report)
+            self.assertEqual((len(columns), columns.checks, columns.warnings), (report.count("\n"), (), ()))
+        self.assertEqual((columns_of(f"{WARNING}\n"), columns_of(f"{WARNING}\n").warnings), ([], (NO_GEO_METADATA,)))
+
+    def test_words(self):
+        columns = columns_of(f"{COLUMN}\n{CHECK}\n{WARNING}\n")
+        behind = ["GeoBbox of t does not hold: m", "NoGeoMetadata: the file has columns of geometries, but no metadata of GeoParquet"]
+        self.assertEqual(repr(columns).split("\n")[2:], behind)
+        self.assertEqual(Cells(columns._repr_html_()).cells[-2:], behind)
 
 
 class Html(unittest.TestCase):
