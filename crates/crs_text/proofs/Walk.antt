@@ -1,5 +1,5 @@
 -- The members that are taken so far, by their tokens and by their places.
-use Rattle.std.proofs.Common.{◌≡◌, ℕ, ◌≤◌, List, [], ◌∷◌, ◌++◌, length, Bool, true, false, codes, Option, None, Some, Result, Ok, Err, sym, ap, ◌∙◌, subst, append_assoc}
+use Rattle.std.proofs.Common.{◌≡◌, ℕ, ◌≤◌, List, [], ◌∷◌, ◌++◌, length, Bool, true, false, Option, None, Some, Result, Ok, Err, sym, ap, ◌∙◌, subst, append_assoc}
 use Rattle.std.specs.Prelude.{IfSome, OnErr}
 use Rattle.std.proofs.lemmas.List.{append-nil}
 use Rattle.json.specs.Token.{Token}
@@ -13,18 +13,18 @@ use Rattle.value_places.specs.Lexemes.{tokens_left}
 use Rattle.value_places.specs.Values.{EndsValue}
 use Rattle.crs_text.specs.declared.members.Place.{Place}
 use Rattle.crs_text.specs.Members.{Member, member_at, AreMembers, NoneNamed, IsLast}
-use Rattle.crs_text.specs.Crs.{Denotes, IsValueAt}
+use Rattle.crs_text.specs.MemberText.{Denotes, IsValueAt}
 
-pub record SoFar (text : List ℕ) (depth from : ℕ) (all left : List Token) (at : ℕ) (found : Option Place) : Type 0 where
+pub record SoFar (text wanted : List ℕ) (depth from : ℕ) (all left : List Token) (at : ℕ) (found : Option Place) : Type 0 where
   pub after : Bool
   pub stands : left ≡ tokens_left after text at
   pub within : at ≤ length text
   pub members : Members
   pub decides : next_members depth no_members all ≡ next_members depth members left
-  pub value : IsValueAt text found (get_member (codes "crs") members)
+  pub value : IsValueAt text found (get_member wanted members)
   pub places : List Member
   pub are : (rest : List Member) → AreMembers text after at rest → AreMembers text false from (places ++ rest)
-  pub last : IfSome found (λ p. IsLast (codes "crs") places p.from p.to)
+  pub last : IfSome found (λ p. IsLast wanted places p.from p.to)
 
 -- ---- a member of another key behind the last one
 
@@ -42,11 +42,11 @@ found_stays k ms m (Some p) other l = last_stays k ms m p.from p.to other l
 
 -- ---- a turn
 
-module _ {text : List ℕ} {depth from : ℕ} {all left : List Token} {at : ℕ} {found : Option Place} (way : SoFar text depth from all left at found) (k : List ℕ) (s r : List Token) (d : Data) (p : Place)
+module _ {text wanted : List ℕ} {depth from : ℕ} {all left : List Token} {at : ℕ} {found : Option Place} (way : SoFar text wanted depth from all left at found) (k : List ℕ) (s r : List Token) (d : Data) (p : Place)
     (named : read_key left ≡ Some (Some k, s)) (read : next_value depth s ≡ Some (d, r)) (denotes : Denotes text p d)
     (begins : s ≡ tokens_left false text p.from) (ends : EndsValue text p.from p.to) (stands : r ≡ tokens_left true text p.to) where
-  goes_on : (new : Option Place) → IsValueAt text new (get_member (codes "crs") (put k d way.members)) → IfSome new (λ q. IsLast (codes "crs") (way.places ++ member_at k p.from p.to ∷ []) q.from q.to)
-      → SoFar text depth from all r p.to new
+  goes_on : (new : Option Place) → IsValueAt text new (get_member wanted (put k d way.members)) → IfSome new (λ q. IsLast wanted (way.places ++ member_at k p.from p.to ∷ []) q.from q.to)
+      → SoFar text wanted depth from all r p.to new
   goes_on new value last = record {
     after = true;
     stands = stands;
@@ -60,16 +60,16 @@ module _ {text : List ℕ} {depth from : ℕ} {all left : List Token} {at : ℕ}
     last = last;
   }
 
-  -- the key is `crs`, or another one
-  pub crs_found : k ≡ codes "crs" → SoFar text depth from all r p.to (Some p)
-  crs_found is =
+  -- the key is the one that is looked for, or another one
+  pub wanted_found : k ≡ wanted → SoFar text wanted depth from all r p.to (Some p)
+  wanted_found is =
       goes_on (Some p) (d, ap (λ n. get_member n (put k d way.members)) (sym is) ∙ get_member-put k d way.members, denotes)
       (way.places, [], ap (λ n. way.places ++ member_at n p.from p.to ∷ []) is, tt)
 
-  pub other_found : (k ≡ codes "crs" → ⊥) → SoFar text depth from all r p.to found
+  pub other_found : (k ≡ wanted → ⊥) → SoFar text wanted depth from all r p.to found
   other_found other =
-      goes_on found (subst (IsValueAt text found) (sym (get_member-put_other (codes "crs") k d way.members (λ is. other (sym is)))) way.value)
-      (found_stays (codes "crs") way.places (member_at k p.from p.to) found other way.last)
+      goes_on found (subst (IsValueAt text found) (sym (get_member-put_other wanted k d way.members (λ is. other (sym is)))) way.value)
+      (found_stays wanted way.places (member_at k p.from p.to) found other way.last)
 
 -- ---- the end
 
@@ -77,10 +77,10 @@ all_last : (k : List ℕ) (ms : List Member) (are : List Member → Type 0) (fou
 all_last k ms are None h l = tt
 all_last k ms are (Some p) h l = (ms, h, l)
 
-pub last_of_all : {text : List ℕ} {depth from : ℕ} {all left : List Token} {at : ℕ} {found : Option Place} → SoFar text depth from all left at found → (r : List Token) → read_key left ≡ Some (None, r)
-    → IfSome found (λ p. (ms : List Member) × AreMembers text false from ms × IsLast (codes "crs") ms p.from p.to)
-last_of_all {text} {depth} {from} {all} {left} {at} {found} way r over =
-    all_last (codes "crs") way.places (AreMembers text false from) found (subst (AreMembers text false from) (append-nil way.places) (way.are [] (r, ap read_key (sym way.stands) ∙ over))) way.last
+pub last_of_all : {text wanted : List ℕ} {depth from : ℕ} {all left : List Token} {at : ℕ} {found : Option Place} → SoFar text wanted depth from all left at found → (r : List Token) → read_key left ≡ Some (None, r)
+    → IfSome found (λ p. (ms : List Member) × AreMembers text false from ms × IsLast wanted ms p.from p.to)
+last_of_all {text} {wanted} {depth} {from} {all} {left} {at} {found} way r over =
+    all_last wanted way.places (AreMembers text false from) found (subst (AreMembers text false from) (append-nil way.places) (way.are [] (r, ap read_key (sym way.stands) ∙ over))) way.last
 
 pub on_err : {A E P : Type 0} (x : Result A E) → P → OnErr x P
 on_err (Ok a) h = tt

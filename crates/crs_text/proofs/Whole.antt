@@ -1,5 +1,5 @@
--- The CRS of a text, by the value that its tokens begin with.
-use Rattle.std.proofs.Common.{◌≡◌, ℕ, ◌-◌, List, [], ◌∷◌, codes, Option, None, Some, option_map, option_and_then, refl, sym, ap, ◌∙◌, arith}
+-- The value of a member of a text, by the value that its tokens begin with.
+use Rattle.std.proofs.Common.{◌≡◌, ℕ, ◌-◌, List, [], ◌∷◌, Option, None, Some, option_map, option_and_then, refl, sym, ap, ◌∙◌, arith}
 use Rattle.json.specs.Token as spec
 use Rattle.json.specs.Json as json
 use Rattle.json.specs.Json.{parse_map}
@@ -13,36 +13,36 @@ use Rattle.serde_json.specs.Read.{of_json, converted, max_depth}
 use Rattle.value_tokens.specs.Next.{next_value, next_members}
 use Rattle.value_tokens.specs.Turns.{no_value, value-object}
 use Rattle.value_tokens.specs.Beginnings.{value_begins, no_object}
-use Rattle.crs_text.specs.Crs.{crs_of}
+use Rattle.crs_text.specs.MemberText.{member_of}
 
--- the CRS, if nothing follows the value
-abbrev crs_when : Option (Data × List spec.Token) → Option Data
-crs_when None = None
-crs_when (Some (d, [])) = get (codes "crs") d
-crs_when (Some (d, t ∷ ts)) = None
+-- the member, if nothing follows the value
+abbrev member_when : List ℕ → Option (Data × List spec.Token) → Option Data
+member_when k None = None
+member_when k (Some (d, [])) = get k d
+member_when k (Some (d, t ∷ ts)) = None
 
-crs_alone : (x : Option Data) → option_and_then (get (codes "crs")) x ≡ crs_when (option_map (λ d. (d, [])) x)
-crs_alone None = refl
-crs_alone (Some d) = refl
+member_alone : (k : List ℕ) (x : Option Data) → option_and_then (get k) x ≡ member_when k (option_map (λ d. (d, [])) x)
+member_alone k None = refl
+member_alone k (Some d) = refl
 
-crs_followed : (x : Option Data) (t : spec.Token) (ts : List spec.Token) → None ≡ crs_when (option_map (λ d. (d, t ∷ ts)) x)
-crs_followed None t ts = refl
-crs_followed (Some d) t ts = refl
+member_followed : (k : List ℕ) (x : Option Data) (t : spec.Token) (ts : List spec.Token) → None ≡ member_when k (option_map (λ d. (d, t ∷ ts)) x)
+member_followed k None t ts = refl
+member_followed k (Some d) t ts = refl
 
-crs_on : (o : Option (json.Json × List spec.Token)) → option_and_then (get (codes "crs")) (option_and_then of_json (option_and_then (λ p. json.if_last p.0 p.1) o)) ≡ crs_when (converted of_json o)
-crs_on None = refl
-crs_on (Some (j, [])) = crs_alone (of_json j)
-crs_on (Some (j, t ∷ ts)) = crs_followed (of_json j) t ts
+member_on : (k : List ℕ) (o : Option (json.Json × List spec.Token)) → option_and_then (get k) (option_and_then of_json (option_and_then (λ p. json.if_last p.0 p.1) o)) ≡ member_when k (converted of_json o)
+member_on k None = refl
+member_on k (Some (j, [])) = member_alone k (of_json j)
+member_on k (Some (j, t ∷ ts)) = member_followed k (of_json j) t ts
 
-crs_by_tokens : (text : List ℕ) → crs_of text ≡ crs_when (next_value max_depth (tokens text))
-crs_by_tokens text = crs_on (json.value max_depth (tokens text))
+member_by_tokens : (k text : List ℕ) → member_of k text ≡ member_when k (next_value max_depth (tokens text))
+member_by_tokens k text = member_on k (json.value max_depth (tokens text))
 
 -- a text that is refused
-pub crs_refused : (text : List ℕ) → next_value max_depth (tokens text) ≡ None → crs_of text ≡ None
-crs_refused text refused = crs_by_tokens text ∙ ap crs_when refused
+pub member_of_refused : (k text : List ℕ) → next_value max_depth (tokens text) ≡ None → member_of k text ≡ None
+member_of_refused k text refused = member_by_tokens k text ∙ ap (member_when k) refused
 
-pub crs_of_nothing : (text : List ℕ) → tokens text ≡ [] → crs_of text ≡ None
-crs_of_nothing text none = crs_refused text (no_value max_depth (tokens text) none)
+pub member_of_nothing : (k text : List ℕ) → tokens text ≡ [] → member_of k text ≡ None
+member_of_nothing k text none = member_of_refused k text (no_value max_depth (tokens text) none)
 
 -- a text of another kind
 none_there : (k : List ℕ) (d : Data) → as_object d ≡ None → get k d ≡ None
@@ -53,24 +53,24 @@ none_there k (string s) e = refl
 none_there k (array ds) e = refl
 none_there k (object ms) e = absurd (cc)
 
-other_on : (t : Token) (s : List spec.Token) (o : Option (Data × List spec.Token)) → (t ≡ BeginObject → ⊥) → next_value max_depth (token_of t ∷ s) ≡ o → crs_when o ≡ None
-other_on t s None other e = refl
-other_on t s (Some (d, [])) other e = none_there (codes "crs") d (no_object t d (value_begins max_depth t s [] d e) other)
-other_on t s (Some (d, x ∷ xs)) other e = refl
+other_on : (k : List ℕ) (t : Token) (s : List spec.Token) (o : Option (Data × List spec.Token)) → (t ≡ BeginObject → ⊥) → next_value max_depth (token_of t ∷ s) ≡ o → member_when k o ≡ None
+other_on k t s None other e = refl
+other_on k t s (Some (d, [])) other e = none_there k d (no_object t d (value_begins max_depth t s [] d e) other)
+other_on k t s (Some (d, x ∷ xs)) other e = refl
 
-pub crs_of_other : (text : List ℕ) (t : Token) (s : List spec.Token) → tokens text ≡ token_of t ∷ s → (t ≡ BeginObject → ⊥) → crs_of text ≡ None
-crs_of_other text t s first other = crs_by_tokens text ∙ other_on t s (next_value max_depth (tokens text)) other (ap (next_value max_depth) (sym first))
+pub member_of_other : (k text : List ℕ) (t : Token) (s : List spec.Token) → tokens text ≡ token_of t ∷ s → (t ≡ BeginObject → ⊥) → member_of k text ≡ None
+member_of_other k text t s first other = member_by_tokens k text ∙ other_on k t s (next_value max_depth (tokens text)) other (ap (next_value max_depth) (sym first))
 
 -- an object
-module _ (text : List ℕ) (s : List spec.Token) (first : tokens text ≡ spec.begin_object ∷ s) where
+module _ (k text : List ℕ) (s : List spec.Token) (first : tokens text ≡ spec.begin_object ∷ s) where
   opened : next_value max_depth (tokens text) ≡ parse_map object (next_members (max_depth - 1) no_members s)
   opened = ap (next_value max_depth) first ∙ value-object max_depth s (omega arith)
 
-  pub members_refused : next_members (max_depth - 1) no_members s ≡ None → crs_of text ≡ None
-  members_refused refused = crs_refused text (opened ∙ ap (parse_map object) refused)
+  pub members_refused : next_members (max_depth - 1) no_members s ≡ None → member_of k text ≡ None
+  members_refused refused = member_of_refused k text (opened ∙ ap (parse_map object) refused)
 
-  pub crs_of_object : (ms : Members) (r : List spec.Token) → next_members (max_depth - 1) no_members s ≡ Some (ms, r) → r ≡ [] → crs_of text ≡ get_member (codes "crs") ms
-  crs_of_object ms r read over = crs_by_tokens text ∙ ap crs_when (opened ∙ ap (parse_map object) read) ∙ ap (λ r. crs_when (Some (object ms, r))) over
+  pub member_of_object : (ms : Members) (r : List spec.Token) → next_members (max_depth - 1) no_members s ≡ Some (ms, r) → r ≡ [] → member_of k text ≡ get_member k ms
+  member_of_object ms r read over = member_by_tokens k text ∙ ap (member_when k) (opened ∙ ap (parse_map object) read) ∙ ap (λ r. member_when k (Some (object ms, r))) over
 
-  pub object_followed : (ms : Members) (r ts : List spec.Token) (t : spec.Token) → next_members (max_depth - 1) no_members s ≡ Some (ms, r) → r ≡ t ∷ ts → crs_of text ≡ None
-  object_followed ms r ts t read more = crs_by_tokens text ∙ ap crs_when (opened ∙ ap (parse_map object) read) ∙ ap (λ r. crs_when (Some (object ms, r))) more
+  pub object_followed : (ms : Members) (r ts : List spec.Token) (t : spec.Token) → next_members (max_depth - 1) no_members s ≡ Some (ms, r) → r ≡ t ∷ ts → member_of k text ≡ None
+  object_followed ms r ts t read more = member_by_tokens k text ∙ ap (member_when k) (opened ∙ ap (parse_map object) read) ∙ ap (λ r. member_when k (Some (object ms, r))) more

@@ -1,52 +1,7 @@
 -- The part of a metadata text that is the value of its last key `crs`.
-use Rattle.std.specs.Prelude.{◌≡◌, ℕ, ◌-◌, ◌≤◌, List, codes, length, take, drop, slice_index, false, Option, None, Some, option_and_then}
-use Rattle.std.specs.Str.{IsCharBoundary}
-use Rattle.json.specs.Word.{is_space}
-use Rattle.serde_json.specs.Data.{Data}
-use Rattle.serde_json.specs.Find.{get}
-use Rattle.serde_json.specs.Read.{read}
-use Rattle.value_places.specs.Lexemes.{NoSpaceBefore}
-use Rattle.crs_text.specs.Members.{IsLastOf}
-use Rattle.crs_text.specs.declared.members.Place.{Place}
-
--- the value at the key `crs` of the JSON object that a text is, the last if there are several; none if the text is no JSON object
-abbrev pub crs_of : List ℕ → Option Data
-crs_of text = option_and_then (get (codes "crs")) (read text)
-
--- the part of the text from the one place to the other
-abbrev pub part : List ℕ → ℕ → ℕ → List ℕ
-part text from to = take (to - from) (drop from text)
-
--- that part of the text, which has no space at either end, is the value of its last key `crs`, and is by itself a JSON text of that value
-pub record IsValueOfCrs (text written : List ℕ) : Type 0 where
-  pub value : Data
-  pub found : crs_of text ≡ Some value
-  pub reads : read written ≡ Some value
-  pub from : ℕ
-  pub to : ℕ
-  pub last : IsLastOf (codes "crs") text from to
-  pub between : written ≡ part text from to
-  pub no_space : is_space (slice_index text from) ≡ false
-  pub solid : NoSpaceBefore text to
+use Rattle.std.specs.Prelude.{ℕ, List, codes, Option}
+use Rattle.crs_text.specs.MemberText.{IsMemberText}
 
 -- what is answered for a text
 abbrev pub IsCrsText : List ℕ → Option (List ℕ) → Type 0
-IsCrsText text None = crs_of text ≡ None
-IsCrsText text (Some written) = IsValueOfCrs text written
-
--- ---- places
-
--- the value is written there
-pub record Denotes (text : List ℕ) (p : Place) (d : Data) : Type 0 where
-  pub forward : p.from ≤ p.to
-  pub within : p.to ≤ length text
-  pub begins : IsCharBoundary text p.from
-  pub ends : IsCharBoundary text p.to
-  pub no_space : is_space (slice_index text p.from) ≡ false
-  pub solid : NoSpaceBefore text p.to
-  pub value : read (part text p.from p.to) ≡ Some d
-
--- the value is written there, if there is one
-abbrev pub IsValueAt : List ℕ → Option Place → Option Data → Type 0
-IsValueAt text None found = found ≡ None
-IsValueAt text (Some p) found = (d : Data) × (found ≡ Some d) × Denotes text p d
+IsCrsText text o = IsMemberText (codes "crs") text o

@@ -1,5 +1,5 @@
 //! A walk over the members of an object, by their tokens and by their places in the text.
-ghost use Rattle.std.specs.Prelude.{◌≡◌, ◌≤◌, ◌<◌, length, codes, Bool, List, ℕ, Some, None, IfSome, IfOk, OnErr, OnOk, true, false};
+ghost use Rattle.std.specs.Prelude.{◌≡◌, ◌≤◌, ◌<◌, length, Bool, List, ℕ, Some, None, IfSome, IfOk, OnErr, OnOk, true, false};
 ghost use Rattle.json.specs.Json.{read_key};
 ghost use Rattle.serde_json.specs.Data.{Data, Members, no_members};
 ghost use Rattle.serde_json.specs.Find.{get_member};
@@ -8,7 +8,7 @@ ghost use Rattle.value_tokens.specs.Next.{next_value, next_members};
 ghost use Rattle.value_places.specs.Lexemes.{tokens_left};
 ghost use Rattle.value_places.specs.Values.{EndsValue};
 ghost use Rattle.crs_text.specs.Members.{Member, AreMembers, IsLast};
-ghost use Rattle.crs_text.specs.Crs.{Denotes, IsValueAt};
+ghost use Rattle.crs_text.specs.MemberText.{Denotes, IsValueAt};
 
 use json::Reader;
 use value_places::{member_value, value_end};
@@ -21,19 +21,20 @@ pub(crate) struct Place {
     pub(crate) to: usize,
 }
 
-/// Takes the members that are left of an object, and returns where the value of the last key `crs` is. They begin at byte
+/// Takes the members that are left of an object, and returns where the value of the last one with the key `wanted` is. They begin at byte
 /// `from`. Errs where they are no JSON.
 pub(crate) fn take_members(
     text: &str,
     from: usize,
+    wanted: &str,
     reader: &mut Reader<'_>,
     depth: usize,
 ) -> Result<Option<Place>, Refusal>
     requires within { from ≤ length text.now }
     requires begins { reader.old ≡ tokens_left false text.now from }
     requires shallow { depth ≤ max_depth }
-    ensures ok { IfOk result (λ o. (ms : Members) × (next_members depth no_members reader.old ≡ Some (ms, reader.new)) × IsValueAt text.now o (get_member (codes "crs") ms)) }
-    ensures last { IfOk result (λ o. IfSome o (λ p. (ms : List Member) × AreMembers text.now false from ms × IsLast (codes "crs") ms p.from p.to)) }
+    ensures ok { IfOk result (λ o. (ms : Members) × (next_members depth no_members reader.old ≡ Some (ms, reader.new)) × IsValueAt text.now o (get_member wanted.now ms)) }
+    ensures last { IfOk result (λ o. IfSome o (λ p. (ms : List Member) × AreMembers text.now false from ms × IsLast wanted.now ms p.from p.to)) }
     ensures refused { OnErr result (next_members depth no_members reader.old ≡ None) }
 {
     let mut at = from;
@@ -41,7 +42,7 @@ pub(crate) fn take_members(
     'members: while let Some(key) = reader.next_key()? {
         let value = take_value(text, at, reader, depth)?;
         at = value.to;
-        if key == "crs" {
+        if key == wanted {
             found = Some(value);
         }
     }

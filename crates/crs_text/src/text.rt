@@ -1,9 +1,9 @@
-//! The part of a metadata text that is its CRS.
-ghost use Rattle.std.specs.Prelude.{◌≡◌, ◌≤◌, ◌∷◌, length, codes, IfSome, IfOk, option_map};
+//! The part of a JSON text that is the value of a member.
+ghost use Rattle.std.specs.Prelude.{◌≡◌, ◌≤◌, ◌∷◌, length, IfSome, IfOk, option_map};
 ghost use Rattle.json.specs.Token.{begin_object};
 ghost use Rattle.json.specs.Lex.{tokens};
 ghost use Rattle.crs_text.specs.Members.{IsLastOf};
-ghost use Rattle.crs_text.specs.Crs.{crs_of, IsCrsText, IsValueAt};
+ghost use Rattle.crs_text.specs.MemberText.{member_of, IsMemberText, IsValueAt};
 
 use crate::members::{Place, take_members};
 use json::{Reader, Scratch, Token};
@@ -11,65 +11,68 @@ use std::alloc::{AllocError, Global};
 use value_places::members_start;
 use value_tokens::MAX_DEPTH;
 
-/// The part of a metadata text that is the value of its last key `crs`, as it is written (GeoArrow, "Extension metadata"), with no
-/// space at either end. `None` where the text is no JSON object, as `serde_json` reads it, or has no key `crs`. A null is answered as
-/// the text `null`. Keys with escapes count as the keys that they denote. Errs only when out of memory. Takes time and memory that
-/// grow with the length of the text.
+/// The part of a JSON text that is the value of its last member with that key, as it is written, with no space at either end. `None` where
+/// the text is no JSON object, as `serde_json` reads it, or has no such member. A null is answered as the text `null`. Keys with escapes
+/// count as the keys that they denote. Errs only when out of memory. Takes time and memory that grow with the length of the text.
 ///
 /// ```rust
-/// let text = r#"{"crs": {"epoch": 2010.50}, "edges": "spherical"}"#;
-/// assert_eq!(rt; crs_text(alloc, text)?, Some(r#"{"epoch": 2010.50}"#));
-/// assert_eq!(rt; crs_text(alloc, r#"{"crs": 1, "\u0063rs" : null }"#)?, Some("null"));
-/// assert_eq!(rt; crs_text(alloc, r#"{"edges": {"crs": 1}}"#)?, None);
+/// let text = r#"{"columns": {"geom": 4.50}, "version": "1.1.0"}"#;
+/// assert_eq!(rt; member_text(alloc, text, "columns")?, Some(r#"{"geom": 4.50}"#));
+/// assert_eq!(rt; member_text(alloc, text, "geom")?, None);
 /// ```
-pub fn crs_text<'a>(alloc: Global, text: &'a str) -> Result<Option<&'a str>, AllocError>
-    ensures { IfOk result (λ o. IsCrsText text.now (option_map (λ c. c.now) o)) }
+pub fn member_text<'a>(
+    alloc: Global,
+    text: &'a str,
+    key: &str,
+) -> Result<Option<&'a str>, AllocError>
+    ensures { IfOk result (λ o. IsMemberText key.now text.now (option_map (λ c. c.now) o)) }
 {
-    crs_text_with_scratch(text, &mut Scratch::new(alloc))
+    member_text_with_scratch(text, key, &mut Scratch::new(alloc))
 }
 
-/// What [`crs_text`] answers. The scratch buffer is kept by the caller from text to text: a new one has 16 KiB to clear. Errs only when
+/// What [`member_text`] answers. The scratch buffer is kept by the caller from text to text: a new one has 16 KiB to clear. Errs only when
 /// out of memory.
 ///
 /// ```rust
 /// let mut scratch = Scratch::new(alloc);
-/// assert_eq!(rt; crs_text_with_scratch(r#"{"crs":4326}"#, &mut scratch)?, Some("4326"));
-/// assert_eq!(rt; crs_text_with_scratch("{}", &mut scratch)?, None);
+/// assert_eq!(rt; member_text_with_scratch(r#"{"a":1,"a":2}"#, "a", &mut scratch)?, Some("2"));
+/// assert_eq!(rt; member_text_with_scratch("{}", "a", &mut scratch)?, None);
 /// ```
-pub fn crs_text_with_scratch<'a>(
+pub fn member_text_with_scratch<'a>(
     text: &'a str,
+    key: &str,
     scratch: &mut Scratch,
 ) -> Result<Option<&'a str>, AllocError>
-    ensures { IfOk result (λ o. IsCrsText text.now (option_map (λ c. c.now) o)) }
+    ensures { IfOk result (λ o. IsMemberText key.now text.now (option_map (λ c. c.now) o)) }
 {
     let mut reader = Reader::new(text, scratch)?;
-    match crs_place(text, &mut reader) {
+    match value_place(text, key, &mut reader) {
         Some(place) => Ok(Some(&text[place.from..place.to])),
         None => Ok(None),
     }
 }
 
 // Where that part is.
-fn crs_place(text: &str, reader: &mut Reader<'_>) -> Option<Place>
+fn value_place(text: &str, key: &str, reader: &mut Reader<'_>) -> Option<Place>
     requires { reader.old ≡ tokens text.now }
-    ensures value { IsValueAt text.now result (crs_of text.now) }
-    ensures last { IfSome result (λ p. IsLastOf (codes "crs") text.now p.from p.to) }
+    ensures value { IsValueAt text.now result (member_of key.now text.now) }
+    ensures last { IfSome result (λ p. IsLastOf key.now text.now p.from p.to) }
 {
     let token = reader.next()?;
     match token {
-        Token::BeginObject => object_crs_place(text, reader),
+        Token::BeginObject => object_value_place(text, key, reader),
         _ => None,
     }
 }
 
 // Where that part is of a text that begins with a brace, which was taken.
-fn object_crs_place(text: &str, reader: &mut Reader<'_>) -> Option<Place>
+fn object_value_place(text: &str, key: &str, reader: &mut Reader<'_>) -> Option<Place>
     requires { tokens text.now ≡ begin_object ∷ reader.old }
-    ensures value { IsValueAt text.now result (crs_of text.now) }
-    ensures last { IfSome result (λ p. IsLastOf (codes "crs") text.now p.from p.to) }
+    ensures value { IsValueAt text.now result (member_of key.now text.now) }
+    ensures last { IfSome result (λ p. IsLastOf key.now text.now p.from p.to) }
 {
     let from = members_start(text, 0)?;
-    let Ok(found) = take_members(text, from, reader, MAX_DEPTH - 1) else {
+    let Ok(found) = take_members(text, from, key, reader, MAX_DEPTH - 1) else {
         return None;
     };
     match reader.next() {

@@ -1,41 +1,51 @@
--- The checks of a Parquet file's GeoParquet metadata, and their lines in its report.
-use Rattle.std.specs.Prelude.{◌≡◌, ◌⊎◌, ◌++◌, ℕ, Bool, false, not, List, codes, Option, None, Some, Result, Ok, Err, string_bytes}
+-- A Parquet file's GeoParquet metadata: the columns that the file has by them, their checks, and what its report says of them.
+use Rattle.std.specs.Prelude.{◌≡◌, ◌⊎◌, ◌++◌, ℕ, Bool, false, not, List, [], ◌∷◌, codes, map, Option, None, Some, Result, Ok, Err, string_bytes, if◌then◌else◌}
 use Rattle.std.specs.List.{list_any}
 use Rattle.std.specs.declared.vec.Vec.{Vec}
 use Rattle.std.specs.declared.alloc.Global.{Global}
 use Rattle.arrow_values.specs.Tree.{Text}
-use Rattle.arrow_columns.specs.Column.{ColumnTree}
+use Rattle.arrow_columns.specs.Column.{ColumnTree, column_tree}
 use Rattle.geoparquet.specs.Checks.{AreFindings}
 use Rattle.geoparquet.specs.declared.finding.GeoFinding.{GeoFinding}
+use Rattle.geo_columns.specs.GeoColumns.{AreGeoColumns}
 use Rattle.geo_reports.specs.Lines.{lines_text}
+use Rattle.geo_reports.specs.Warnings.{no_geo_text}
 use Rattle.parquet_schema.specs.Reads.{IsValueRead}
 use Rattle.parquet_schema.specs.declared.fault.SchemaError.{SchemaError}
 use Rattle.parquet_schema.specs.declared.fault.SchemaError.TheVariants.{OutOfMemory}
+use Rattle.file_reports.specs.declared.checks.Checked.{Checked}
 use Rattle.file_reports.specs.declared.report.Report.{Report as FileReport}
 
 abbrev pub geo_key : Text
 geo_key = codes "geo"
 
--- what is said of the metadata of a file with that footer: the findings on the value of the key, if there is one; or why the footer is not read
-abbrev pub AreChecked : Result (List ℕ) SchemaError → List ColumnTree → Result (Option (Vec GeoFinding Global)) SchemaError → Type 0
-AreChecked footer cs (Ok None) = IsValueRead geo_key footer (Ok None)
-AreChecked footer cs (Ok (Some findings)) = (geo : Text) × IsValueRead geo_key footer (Ok (Some geo)) × AreFindings geo cs findings.items
+-- what a file with that footer and the columns cs has by the value of the key: where there is none, no findings, and these columns; else the findings on
+-- the value and these columns, and the columns by the value
+abbrev pub AreBy : Result (List ℕ) SchemaError → List ColumnTree → Option (Vec GeoFinding Global) → List ColumnTree → Type 0
+AreBy footer cs None made = IsValueRead geo_key footer (Ok None) × (made ≡ cs)
+AreBy footer cs (Some findings) made = (geo : Text) × IsValueRead geo_key footer (Ok (Some geo)) × AreFindings geo cs findings.items × AreGeoColumns geo cs made
+
+-- what a call answers: that, or why the footer is not read, or out of memory
+abbrev pub AreChecked : Result (List ℕ) SchemaError → List ColumnTree → Result Checked SchemaError → Type 0
+AreChecked footer cs (Ok checked) = AreBy footer cs checked.findings (map column_tree checked.columns.items)
 AreChecked footer cs (Err error) = (error ≡ OutOfMemory) ⊎ IsValueRead geo_key footer (Err error)
 
 abbrev pub is_failed : GeoFinding → Bool
 is_failed f = not f.ok
 
--- the lines of the checks that do not hold stand behind those of the report, and all else of it is as it was
-pub record AddsLines (file : Option Text) (findings : List GeoFinding) (old new : FileReport) : Type 0 where
-  pub lines : string_bytes new.lines ≡ string_bytes old.lines ++ lines_text file false findings
+-- a report with that text behind its lines, which says that a check does not hold or that none is known not to; all else of it is as it was
+pub record AddsText (text : Text) (has_failed : Bool) (old new : FileReport) : Type 0 where
+  pub lines : string_bytes new.lines ≡ string_bytes old.lines ++ text
   pub invalid : new.has_invalid ≡ old.has_invalid
   pub geometry : new.has_geometry ≡ old.has_geometry
-  pub failed : new.has_failed ≡ list_any is_failed findings
+  pub failed : new.has_failed ≡ has_failed
 
--- the report of a file with that footer, from that of its columns
+-- the line of the warning where a column holds geometries, with its line feed
+abbrev pub warning_text : Option Text → Bool → Text
+warning_text file has_geometry = if has_geometry then no_geo_text file ++ 10 ∷ [] else []
+
+-- the report of a Parquet file from that of its columns: behind the lines of these stand those of the checks that do not hold; or, where the file
+-- has no such metadata, the warning
 abbrev pub AddsFindings : Option Text → Option (Vec GeoFinding Global) → FileReport → FileReport → Type 0
-AddsFindings file None old new = new ≡ old
-AddsFindings file (Some findings) old new = AddsLines file findings.items old new
-
-abbrev pub AddsChecks : Option Text → Result (List ℕ) SchemaError → List ColumnTree → FileReport → FileReport → Type 0
-AddsChecks file footer cs old new = (found : Option (Vec GeoFinding Global)) × AreChecked footer cs (Ok found) × AddsFindings file found old new
+AddsFindings file None old new = AddsText (warning_text file old.has_geometry) old.has_failed old new
+AddsFindings file (Some findings) old new = AddsText (lines_text file false findings.items) (list_any is_failed findings.items) old new

@@ -20,7 +20,9 @@ use Rattle.column_files.specs.declared.columns.FileFault.{FileFault}
 use Rattle.column_files.specs.declared.columns.FileFault.TheVariants.{OutOfMemory}
 use Rattle.column_reports.specs.Report.{line_text}
 use Rattle.parquet_schema.specs.Reads.{footer_in}
-use Rattle.file_reports.specs.Checks.{AddsChecks}
+use Rattle.parquet_schema.specs.declared.fault.SchemaError.{SchemaError}
+use Rattle.file_reports.specs.Checks.{AreChecked, AddsFindings}
+use Rattle.file_reports.specs.declared.checks.Checked.{Checked}
 use Rattle.file_reports.specs.declared.report.Report.{Report as FileReport}
 
 abbrev pub line_feed : ℕ
@@ -50,13 +52,21 @@ pub record IsReportOf (file : Option Text) (infer : Bool) (cs : List ColumnTree)
   pub geometry : report.has_geometry ≡ list_any is_geometry findings
   pub failed : report.has_failed ≡ false
 
--- the report of a file in that format, from that of its columns: of a Parquet file with the checks of its GeoParquet metadata
-abbrev pub Completes : Option Text → Form → List ℕ → List ColumnTree → FileReport → FileReport → Type 0
-Completes file Parquet bytes cs old new = AddsChecks file (footer_in bytes) cs old new
-Completes file form bytes cs old new = new ≡ old
+-- the report of a Parquet file with that footer and these columns: that of the columns which it has by its GeoParquet metadata, with the checks of these or the warning
+pub record IsParquetReport (file : Option Text) (infer : Bool) (footer : Result (List ℕ) SchemaError) (cs : List ColumnTree) (report : FileReport) : Type 0 where
+  pub checked : Checked
+  pub are : AreChecked footer cs (Ok checked)
+  pub of_columns : FileReport
+  pub said : IsReportOf file infer (map column_tree checked.columns.items) of_columns
+  pub adds : AddsFindings file checked.findings of_columns report
 
--- the report of a file: that of the columns which its bytes denote, with its checks; or why they denote none, or out of memory
+-- the report of a file in that format with these columns
+abbrev pub IsReportIn : Form → Option Text → Bool → List ℕ → List ColumnTree → FileReport → Type 0
+IsReportIn Parquet file infer bytes cs report = IsParquetReport file infer (footer_in bytes) cs report
+IsReportIn form file infer bytes cs report = IsReportOf file infer cs report
+
+-- the report of a file, by the columns which its bytes denote; or why they denote none, or out of memory
 abbrev pub Reports : Option Text → Bool → List ℕ → Result FileReport FileFault → Type 0
-Reports file infer bytes (Ok report) = (form : Form) × (columns : Vec Column Global) × (of_columns : FileReport) × IsForm bytes form × IsFileRead form bytes (Ok columns)
-    × IsReportOf file infer (map column_tree columns.items) of_columns × Completes file form bytes (map column_tree columns.items) of_columns report
+Reports file infer bytes (Ok report) =
+    (form : Form) × (columns : Vec Column Global) × IsForm bytes form × IsFileRead form bytes (Ok columns) × IsReportIn form file infer bytes (map column_tree columns.items) report
 Reports file infer bytes (Err fault) = (fault ≡ OutOfMemory) ⊎ ((form : Form) × IsForm bytes form × IsFileRead form bytes (Err fault))

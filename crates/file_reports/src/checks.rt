@@ -1,16 +1,21 @@
-//! The checks of a Parquet file's GeoParquet metadata.
-ghost use Rattle.std.specs.Prelude.{◌≡◌, IfOk, MatchResult, codes, map};
+//! The checks of a Parquet file's GeoParquet metadata, and the columns that it has by them.
+ghost use Rattle.std.specs.Prelude.{◌≡◌, false, IfOk, MatchResult, map};
 ghost use Rattle.std.specs.List.{list_any};
 ghost use Rattle.arrow_values.specs.Texts.{text_of};
 ghost use Rattle.arrow_columns.specs.Column.{column_tree};
 ghost use Rattle.column_files.specs.declared.columns.FileFault.TheVariants.{OutOfMemory};
+ghost use Rattle.geoparquet.specs.Checks.{AreFindings};
+ghost use Rattle.geo_columns.specs.GeoColumns.{AreGeoColumns};
+ghost use Rattle.geo_reports.specs.Lines.{lines_text};
 ghost use Rattle.parquet_schema.specs.Reads.{footer_in};
-ghost use Rattle.file_reports.specs.Checks.{geo_key, is_failed, AreChecked, AddsLines, AddsChecks};
+ghost use Rattle.file_reports.specs.Checks.{is_failed, AreChecked, AddsText, AddsFindings, warning_text};
+ghost use Rattle.file_reports.specs.Report.{IsParquetReport};
 
-use crate::report::Report;
+use crate::report::{Report, report_columns};
 use arrow_columns::Column;
 use column_files::FileFault;
-use geo_reports::check_lines;
+use geo_columns::geo_columns;
+use geo_reports::{check_lines, no_geo_line};
 use geoparquet::{GeoFinding, check_geo};
 use parquet_schema::{SchemaError, value_in_file};
 use std::alloc::{AllocError, Global};
@@ -18,25 +23,54 @@ use std::alloc::{AllocError, Global};
 /// The key of GeoParquet metadata.
 const GEO_KEY: &str = "geo";
 
-/// What the rules of GeoParquet say of the metadata of a Parquet file with these columns, as `check_geo` of `geoparquet` answers it, from the end of the
-/// file; none where the file has no value of the key `geo`. The end is the bytes of the file, or as many of its last ones as the
-/// footer, its length and the magic take.
+/// The columns that a Parquet file has by its GeoParquet metadata, and what the rules of GeoParquet say of these metadata.
+#[derive(Debug, Drop)]
+pub struct Checked {
+    /// The columns, as `geo_columns` of `geo_columns` answers them.
+    pub columns: Vec<Column>,
+    /// What the rules say, as `check_geo` of `geoparquet` answers it of the columns that the file denotes; none where the file has no value of the key
+    /// `geo`. The columns are then those that the file denotes.
+    pub findings: Option<Vec<GeoFinding>>,
+}
+
+/// What a Parquet file that denotes these columns has by its GeoParquet metadata, from the end of the file: its columns (docs/FORMAT.md, 5.2), and the checks of the metadata
+/// (docs/FORMAT.md, 5). The end is the bytes of the file, or as many of its last ones as the footer, its length and the magic take.
 ///
 /// Errs as `value_in_file` of `parquet_schema` does.
-pub fn findings_in(
+pub fn checked_columns(
     alloc: Global,
     end: &[u8],
-    columns: &[Column],
-) -> Result<Option<Vec<GeoFinding>>, SchemaError>
-    ensures { AreChecked (footer_in end.now) (map column_tree columns.now) result }
+    columns: Vec<Column>,
+) -> Result<Checked, SchemaError>
+    ensures { AreChecked (footer_in end.now) (map column_tree columns.items) result }
 {
     let Some(geo) = value_in_file(alloc, end, GEO_KEY)? else {
-        return Ok(None);
+        return Ok(Checked {
+            columns,
+            findings: None,
+        });
     };
-    match check_geo(alloc, geo, columns) {
-        Ok(findings) => Ok(Some(findings)),
+    match checked_by(alloc, geo, columns) {
+        Ok((columns, findings)) => Ok(Checked {
+            columns,
+            findings: Some(findings),
+        }),
         Err(AllocError) => Err(SchemaError::OutOfMemory),
     }
+}
+
+/// The columns by that text of the metadata, and the findings on it. Errs only when out of memory.
+fn checked_by(
+    alloc: Global,
+    geo: &str,
+    columns: Vec<Column>,
+) -> Result<(Vec<Column>, Vec<GeoFinding>), AllocError>
+    ensures columns { IfOk result (λ p. AreGeoColumns geo.now (map column_tree columns.items) (map column_tree p.0.items)) }
+    ensures findings { IfOk result (λ p. AreFindings geo.now (map column_tree columns.items) p.1.items) }
+{
+    let findings = check_geo(alloc, geo, columns.as_slice())?;
+    let made = geo_columns(alloc, geo, columns)?;
+    Ok((made, findings))
 }
 
 /// Whether a check does not hold.
@@ -58,7 +92,7 @@ fn with_lines(
     file: Option<&str>,
     findings: &[GeoFinding],
 ) -> Result<Report, AllocError>
-    ensures { IfOk result (AddsLines (text_of file.entry) findings.now report) }
+    ensures { IfOk result (AddsText (lines_text (text_of file.entry) false findings.now) (list_any is_failed findings.now) report) }
 {
     let lines = check_lines(alloc, file, findings, false)?;
     let mut text = report.lines;
@@ -71,21 +105,48 @@ fn with_lines(
     })
 }
 
-/// The report of a Parquet file, whose footer is read, from that of its columns. Errs only when out of memory.
-pub(crate) fn with_checks(
+/// The report of a file without GeoParquet metadata, with the line of the warning behind its own where a column holds geometries. Errs only when out of
+/// memory.
+fn with_warning(alloc: Global, report: Report, file: Option<&str>) -> Result<Report, AllocError>
+    ensures { IfOk result (AddsText (warning_text (text_of file.entry) report.has_geometry) report.has_failed report) }
+{
+    let mut report = report;
+    if report.has_geometry {
+        let line = no_geo_line(alloc, file)?;
+        report.lines.push_str(line.as_str())?;
+        report.lines.push_str("\n")?;
+    }
+    Ok(report)
+}
+
+/// The report of a Parquet file, whose footer is read, with these columns. Errs only when out of memory.
+pub(crate) fn parquet_report(
+    alloc: Global,
+    file: Option<&str>,
+    end: &[u8],
+    columns: Vec<Column>,
+    infer: bool,
+) -> Result<Report, FileFault>
+    ensures { MatchResult result (IsParquetReport (text_of file.entry) infer (footer_in end.now) (map column_tree columns.items)) (λ fault. fault ≡ OutOfMemory) }
+{
+    let Ok(checked) = checked_columns(alloc, end, columns) else {
+        return Err(FileFault::OutOfMemory);
+    };
+    let report = report_columns(alloc, file, checked.columns.as_slice(), infer)?;
+    Ok(with_findings(alloc, report, file, &checked.findings)?)
+}
+
+/// The report of a Parquet file with those findings, from that of its columns. Errs only when out of memory.
+fn with_findings(
     alloc: Global,
     report: Report,
     file: Option<&str>,
-    end: &[u8],
-    columns: &[Column],
-) -> Result<Report, FileFault>
-    ensures { MatchResult result (AddsChecks (text_of file.entry) (footer_in end.now) (map column_tree columns.now) report) (λ fault. fault ≡ OutOfMemory) }
+    findings: &Option<Vec<GeoFinding>>,
+) -> Result<Report, AllocError>
+    ensures { IfOk result (AddsFindings (text_of file.entry) findings.now report) }
 {
-    let Ok(found) = findings_in(alloc, end, columns) else {
-        return Err(FileFault::OutOfMemory);
-    };
-    match found {
-        None => Ok(report),
-        Some(findings) => Ok(with_lines(alloc, report, file, findings.as_slice())?),
+    match findings {
+        None => with_warning(alloc, report, file),
+        Some(findings) => with_lines(alloc, report, file, findings.as_slice()),
     }
 }

@@ -1,8 +1,8 @@
-//! The report of a file: what each of its columns holds, a line of JSON for each; and which checks of its GeoParquet metadata do not hold.
+//! The report of a file: what each of its columns holds, a line of JSON for each; and which checks of its GeoParquet metadata do not hold, or the warning that it has none.
 #![tactic(auto)]
 
 mod checks;
 mod report;
 
-pub use checks::findings_in;
-pub use report::{Report, report_columns, report_file};
+pub use checks::{Checked, checked_columns};
+pub use report::{Report, column_line_of, report_columns, report_file};

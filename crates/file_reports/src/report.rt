@@ -10,32 +10,34 @@ ghost use Rattle.arrow_columns.specs.Column.{column_tree, metadata_on};
 ghost use Rattle.column_check.specs.Finding.{IsFinding};
 ghost use Rattle.column_check.specs.States.{is_invalid, is_geometry};
 ghost use Rattle.column_check.specs.declared.finding.Finding.{Finding};
-ghost use Rattle.file_reports.specs.Report.{line_feed, IsCrsOf, IsLineOf, IsReportOf, Completes, Reports};
+ghost use Rattle.file_reports.specs.Report.{line_feed, IsCrsOf, IsLineOf, IsReportOf, IsReportIn, Reports};
 
-use crate::checks::with_checks;
+use crate::checks::parquet_report;
 use arrow_columns::Column;
-use column_check::{check_column, warnings};
+use column_check::{Finding, check_column, warnings};
 use column_files::{FileFault, Form, columns_of, form_of};
 use column_reports::json_line;
-use crs_text::crs_text;
+use crs_text::crs_text_with_scratch;
+use json::Scratch;
 use std::alloc::{AllocError, Global};
 
 /// The report of a file.
 #[derive(Debug, Drop)]
 pub struct Report {
-    /// A line of JSON for each column (docs/FORMAT.md, 2.5), and behind them one for each check of GeoParquet metadata that does not hold
-    /// (docs/FORMAT.md, 5.1), each with its line feed.
+    /// A line of JSON for each column (docs/FORMAT.md, 2.5), and behind them one for each check of GeoParquet metadata that does not hold, or one for the
+    /// warning (docs/FORMAT.md, 5.1), each with its line feed.
     pub lines: String,
     /// Whether a column is invalid.
     pub has_invalid: bool,
-    /// Whether a column holds geometries.
+    /// Whether a column holds geometries by its extension name: its state is `geometry`, and not `inferred`.
     pub has_geometry: bool,
     /// Whether a check of GeoParquet metadata does not hold.
     pub has_failed: bool,
 }
 
-/// The report of a file, from its bytes: what each of its columns holds and what is doubtful of it, a line of JSON for each; and of a Parquet file with GeoParquet
-/// metadata a line for each check that does not hold. `file` is the name that the lines give the file, if any. With `infer`, a column without an extension name is
+/// The report of a file, from its bytes: what each of its columns holds and what is doubtful of it, a line of JSON for each. A Parquet file has its columns by
+/// its GeoParquet metadata, as `checked_columns` answers them, and behind their lines a line for each check that does not hold; or, where it has no such metadata and a column
+/// holds geometries, the line of a warning. `file` is the name that the lines give the file, if any. With `infer`, a column without an extension name is
 /// taken for what is inferred from its data type. Errs as `columns_in` of `column_files` does.
 ///
 /// ```rust
@@ -55,8 +57,7 @@ pub fn report_file(
 {
     let read = read_columns(alloc, bytes)?;
     let (form, columns) = read;
-    let report = report_columns(alloc, file, columns.as_slice(), infer)?;
-    completed(alloc, form, report, file, bytes, columns.as_slice())
+    report_in(alloc, form, file, bytes, columns, infer)
 }
 
 /// The form of a file, and its columns.
@@ -71,24 +72,29 @@ fn read_columns(alloc: Global, bytes: &[u8]) -> Result<(Form, Vec<Column>), File
     }
 }
 
-/// The report of a file in that form, from that of its columns. Errs only when out of memory.
-fn completed(
+/// The report of a file in that form with these columns. Errs only when out of memory.
+fn report_in(
     alloc: Global,
     form: Form,
-    report: Report,
     file: Option<&str>,
     bytes: &[u8],
-    columns: &[Column],
+    columns: Vec<Column>,
+    infer: bool,
 ) -> Result<Report, FileFault>
-    ensures { MatchResult result (Completes (text_of file.entry) form bytes.now (map column_tree columns.now) report) (λ fault. fault ≡ OutOfMemory) }
+    ensures { MatchResult result (IsReportIn form (text_of file.entry) infer bytes.now (map column_tree columns.items)) (λ fault. fault ≡ OutOfMemory) }
 {
     match form {
-        Form::Parquet => with_checks(alloc, report, file, bytes, columns),
-        Form::ArrowFile | Form::ArrowStream | Form::Lines => Ok(report),
+        Form::Parquet => parquet_report(alloc, file, bytes, columns, infer),
+        Form::ArrowFile | Form::ArrowStream | Form::Lines => Ok(report_columns(
+            alloc,
+            file,
+            columns.as_slice(),
+            infer,
+        )?),
     }
 }
 
-/// The report of columns, as that of a file without GeoParquet metadata. Errs only when out of memory.
+/// The report of columns, as that of a file that is no Parquet file. Errs only when out of memory.
 pub fn report_columns(
     alloc: Global,
     file: Option<&str>,
@@ -103,8 +109,17 @@ pub fn report_columns(
         has_geometry: false,
         has_failed: false,
     };
+    let mut scratch = Scratch::new(alloc);
     for index in 0..columns.len() {
-        add_column(alloc, &mut report, file, index, &columns[index], infer)?;
+        add_column(
+            alloc,
+            &mut scratch,
+            &mut report,
+            file,
+            index,
+            &columns[index],
+            infer,
+        )?;
     }
     Ok(report)
 }
@@ -112,6 +127,7 @@ pub fn report_columns(
 /// Adds the line of a column.
 fn add_column(
     alloc: Global,
+    scratch: &mut Scratch,
     report: &mut Report,
     file: Option<&str>,
     index: usize,
@@ -126,17 +142,7 @@ fn add_column(
         × (report.new.has_failed ≡ report.old.has_failed)) }
 {
     let finding = check_column(alloc, column, infer)?;
-    let warnings = warnings(alloc, column, &finding)?;
-    let crs = written_crs(alloc, column)?;
-    let line = json_line(
-        alloc,
-        file,
-        index,
-        column,
-        crs,
-        &finding,
-        warnings.as_slice(),
-    )?;
+    let line = column_line_of(alloc, scratch, file, index, column, &finding)?;
     report.lines.push_str(line.as_str())?;
     report.lines.push_str("\n")?;
     report.has_invalid = report.has_invalid | finding.is_invalid();
@@ -144,12 +150,38 @@ fn add_column(
     Ok(())
 }
 
+/// The line of JSON of a column at that place, of which that is said (docs/FORMAT.md, 2.5), with what is doubtful of it and the text of its CRS, and without a
+/// line feed. `file` is the name that the line gives the file, if any. The scratch buffer is kept by the caller from column to column. Errs only when out of
+/// memory.
+pub fn column_line_of(
+    alloc: Global,
+    scratch: &mut Scratch,
+    file: Option<&str>,
+    index: usize,
+    column: &Column,
+    finding: &Finding,
+) -> Result<String, AllocError>
+    ensures { IfOk result (λ line. IsLineOf (text_of file.entry) index (column_tree column.now) finding.now (string_bytes line)) }
+{
+    let warnings = warnings(alloc, column, finding)?;
+    let crs = written_crs(scratch, column)?;
+    json_line(
+        alloc,
+        file,
+        index,
+        column,
+        crs,
+        finding,
+        warnings.as_slice(),
+    )
+}
+
 /// The text of the CRS in a column's metadata.
-fn written_crs(alloc: Global, column: &Column) -> Result<Option<&str>, AllocError>
-    ensures { IfOk result (λ crs. IsCrsOf (metadata_on (column_tree column.now)) (text_of crs)) }
+fn written_crs<'c>(scratch: &mut Scratch, column: &'c Column) -> Result<Option<&'c str>, AllocError>
+    ensures { IfOk result (λ crs. IsCrsOf (metadata_on (column_tree column.entry.now)) (text_of crs)) }
 {
     match column.extension_type_metadata() {
-        Some(metadata) => crs_text(alloc, metadata),
+        Some(metadata) => crs_text_with_scratch(metadata, scratch),
         None => Ok(None),
     }
 }

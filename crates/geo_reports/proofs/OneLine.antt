@@ -1,15 +1,16 @@
 -- A line holds no line feed.
-use Rattle.std.proofs.Common.{◌≡◌, ◌≢◌, ℕ, ◌<◌, ◌||◌, ◌&&◌, ◌==◌, ◌/◌, ◌%◌, ◌+◌, Bool, List, [], ◌∷◌, ◌++◌, true, false, All, Option, Some, None, option_map, map, codes, cond, nat_lt, string_bytes, sym, subst, arith, true≢false}
+use Rattle.std.proofs.Common.{◌≡◌, ◌≢◌, ℕ, ◌||◌, ◌&&◌, ◌==◌, ◌/◌, ◌%◌, ◌+◌, Bool, List, [], ◌∷◌, ◌++◌, true, false, All, Option, Some, None, option_map, map, codes, cond, nat_lt, string_bytes, sym, subst, arith, true≢false}
 use Rattle.std.specs.Prelude.{⊤}
 use Rattle.std.specs.Char.{digit_char}
 use Rattle.std.proofs.lemmas.Bool.{cond_both}
 use Rattle.std.proofs.lemmas.List.Elements.{All-nil, All-cons, All-append}
 use Rattle.json.specs.Token.{Token, begin_object, end_object, begin_array, end_array, key, string, number, boolean, null, bad}
-use Rattle.json.specs.Print.{escape_letter, escape_byte, escape, quoted, token_text, separator, begins, ends, print_from}
+use Rattle.json.specs.Print.{escape_letter, escape_byte, escape, quoted, token_text, begins, ends, print_from}
 use Rattle.arrow_values.specs.Tree.{Text}
-use Rattle.geoparquet.specs.Words.{code_of, message_of, path_of}
+use Rattle.geoparquet.specs.Words.{path_of}
 use Rattle.geoparquet.specs.declared.finding.GeoFinding.{GeoFinding}
 use Rattle.geo_reports.specs.Lines.{text_tokens, path_tokens, line_tokens, line_text}
+use Rattle.geo_reports.specs.Warnings.{no_geo_tokens, no_geo_text}
 
 abbrev IsOther : ℕ → Type 0
 IsOther b = b ≢ 10
@@ -118,3 +119,11 @@ line_quoted file f =
 
 pub one_line : (file : Option Text) (f : GeoFinding) → All IsOther (line_text file f)
 one_line file f = (print_line false (line_tokens file f) (line_quoted file f)).all
+
+-- ---- the tokens of the warning
+
+no_geo_quoted : (file : Option Text) → AreQuoted (no_geo_tokens file)
+no_geo_quoted file = (tt, both (text_tokens (codes "file") file) _ (text_quoted (codes "file") file) (tt, (tt, (tt, (tt, (tt, tt))))))
+
+pub no_geo_one_line : (file : Option Text) → All IsOther (no_geo_text file)
+no_geo_one_line file = (print_line false (no_geo_tokens file) (no_geo_quoted file)).all

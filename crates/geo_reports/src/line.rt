@@ -48,8 +48,8 @@ fn column_of(finding: &GeoFinding) -> Option<&str>
     }
 }
 
-// Writes a member whose value is a text, if there is one.
-fn put_text(out: &mut Writer, name: &str, text: Option<&str>) -> Result<(), AllocError>
+/// Writes a member whose value is a text, if there is one.
+pub(crate) fn put_text(out: &mut Writer, name: &str, text: Option<&str>) -> Result<(), AllocError>
     ensures { OnOk result (Adds (text_tokens name.now (text_of text.entry)) out.old out.new) }
 {
     if let Some(text) = text {

@@ -33,11 +33,12 @@ IsStored _ = ⊥
 abbrev pub IsStoredAs : ExtensionName → TypeTree → Type 0
 IsStoredAs n t = (k : Kind) × TypeAccepted n t k × IsStored k
 
--- the column has a type of the encoding with that text
-abbrev pub IsEncodedAs : Text → ColumnTree → Type 0
-IsEncodedAs s c = (n : ExtensionName) × (encoding_text n ≡ Some s) × IsStoredAs n c.data_type
+-- the encoding is that of the extension name, and the column has a type of it
+abbrev pub IsEncodedAs : Option Text → ExtensionName → ColumnTree → Type 0
+IsEncodedAs (Some s) n c = (encoding_text n ≡ Some s) × IsStoredAs n c.data_type
+IsEncodedAs None n c = ⊥
 
 -- there are an encoding and a column, and the column has a type of it
 abbrev pub IsEncoding : Option Text → Option ColumnTree → Type 0
-IsEncoding (Some s) (Some c) = IsEncodedAs s c
-IsEncoding _ _ = ⊥
+IsEncoding encoding (Some c) = (n : ExtensionName) × IsEncodedAs encoding n c
+IsEncoding encoding None = ⊥

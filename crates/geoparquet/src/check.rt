@@ -14,8 +14,8 @@ use crate::finding::{GeoCheck, GeoFinding};
 use crate::schema::{are_columns, first_named, is_primary, own_metadata};
 use crate::types::are_types;
 use crate::values::{
-    edges_agree, is_crs, is_edges, is_epoch, is_orientation, member_at, object_in, present_at,
-    text_in, value_of,
+    edges_agree, is_crs, is_edges, is_epoch, is_orientation, member_at, member_of_column,
+    object_in, present_at, text_in, value_of,
 };
 use arrow_columns::Column;
 use serde_json::{Map, Value};
@@ -116,7 +116,7 @@ fn add_column(
 {
     let column = first_named(columns, key);
     let own = own_metadata(alloc, column)?;
-    let member = member_at(value.get("columns"), key);
+    let member = member_of_column(value, key);
     let of_column = checks_of_column(alloc, columns, member, column, &own)?;
     add_findings(alloc, findings, Some(key), &of_column)
 }

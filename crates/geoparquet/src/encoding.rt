@@ -3,7 +3,7 @@ ghost use Rattle.std.specs.Prelude.{◌≡◌, ◌↔◌, IsTrue, Some, option_m
 ghost use Rattle.arrow_values.specs.Texts.{text_of};
 ghost use Rattle.arrow_columns.specs.Column.{type_tree, column_tree};
 ghost use Rattle.geoarrow_layout.specs.declared.names.ExtensionName.{ExtensionName};
-ghost use Rattle.geoparquet.specs.Encodings.{encoding_text, IsStored, IsStoredAs, IsEncoding};
+ghost use Rattle.geoparquet.specs.Encodings.{encoding_text, IsStored, IsStoredAs, IsEncodedAs, IsEncoding};
 
 use arrow_columns::{Column, ColumnType};
 use geoarrow_layout::{CoordType, Dimension, ExtensionName, Kind, NativeKind, parse_kind};
@@ -47,18 +47,35 @@ fn is_stored_as(name: ExtensionName, column_type: &ColumnType) -> bool
     }
 }
 
+/// The extension name of GeoArrow that a column has by its encoding (GeoParquet 1.1, "encoding"): where the rule `Encoding` of `GeoCheck` holds of both.
+///
+/// ```rust
+/// let column = Column {
+///     name: String::from_str(alloc, "geom")?,
+///     nullable: true,
+///     data_type: ColumnType::Data(DataType::Binary),
+///     metadata: BTreeMap::new(alloc),
+/// };
+/// assert_eq!(rt; encoded_as(Some("WKB"), &column), Some(ExtensionName::Wkb));
+/// assert_eq!(rt; encoded_as(Some("point"), &column), None);
+/// ```
+pub fn encoded_as(encoding: Option<&str>, column: &Column) -> Option<ExtensionName>
+    ensures { (name : ExtensionName) → (result ≡ Some name) ↔ IsEncodedAs (text_of encoding.entry) name (column_tree column.now) }
+{
+    let name = encoding_named(encoding?)?;
+    if is_stored_as(name, &column.data_type) {
+        Some(name)
+    } else {
+        None
+    }
+}
+
 /// Whether there are an encoding and a column, and the column has a type of it.
 pub(crate) fn is_encoding(encoding: Option<&str>, column: Option<&Column>) -> bool
     ensures { IsTrue result ↔ IsEncoding (text_of encoding.entry) (option_map (λ c. column_tree c.now) column.entry) }
 {
-    let Some(text) = encoding else {
-        return false;
-    };
-    let Some(column) = column else {
-        return false;
-    };
-    match encoding_named(text) {
-        Some(name) => is_stored_as(name, &column.data_type),
+    match column {
+        Some(column) => encoded_as(encoding, column).is_some(),
         None => false,
     }
 }

@@ -32,8 +32,8 @@ fn is_one(columns: &[Column], name: &str) -> bool
     count_named(columns, name) == 1
 }
 
-/// The first column of that name.
-pub(crate) fn first_named<'c>(columns: &'c [Column], name: &str) -> Option<&'c Column>
+/// The first of some columns that has that name, if one has it.
+pub fn first_named<'c>(columns: &'c [Column], name: &str) -> Option<&'c Column>
     ensures { option_map (λ c. column_tree c.now) result ≡ first_of (map column_tree columns.now) name.now }
 {
     for column in columns {

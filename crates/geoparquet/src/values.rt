@@ -1,6 +1,6 @@
 //! Single values of the metadata.
-ghost use Rattle.std.specs.Prelude.{◌≡◌, ◌↔◌, IfOk, IsTrue, option_map, option_and_then};
-ghost use Rattle.serde_json.specs.Find.{as_object};
+ghost use Rattle.std.specs.Prelude.{◌≡◌, ◌↔◌, IfOk, IsTrue, codes, option_map, option_and_then};
+ghost use Rattle.serde_json.specs.Find.{get, as_object};
 ghost use Rattle.serde_json.specs.View.{view, members_view};
 ghost use Rattle.arrow_values.specs.Texts.{text_of};
 ghost use Rattle.geoarrow_meta.specs.Read.{at_key};
@@ -10,8 +10,13 @@ ghost use Rattle.geoparquet.specs.Checks.{value_of};
 use serde_json::{Map, Value};
 use std::alloc::{AllocError, Global};
 
-/// The value that a text is, and null where it is no JSON. Errs only when out of memory.
-pub(crate) fn value_of(alloc: Global, text: &str) -> Result<Value, AllocError>
+/// The JSON value that the text of the metadata is, and null where it is no JSON. Errs only when out of memory.
+///
+/// ```rust
+/// assert!(rt; value_of(alloc, r#"{"version":"1.1.0"}"#)?.is_object());
+/// assert!(rt; value_of(alloc, "1.1.0")?.is_null());
+/// ```
+pub fn value_of(alloc: Global, text: &str) -> Result<Value, AllocError>
     ensures { IfOk result (λ value. view value ≡ value_of text.now) }
 {
     match Value::from_str(alloc, text) {
@@ -36,6 +41,19 @@ pub(crate) fn member_at<'v>(value: Option<&'v Value>, key: &str) -> Option<&'v V
     }
 }
 
+/// What the metadata say of the column with a name: the member of `columns` with that key, where `columns` is an object and has it.
+///
+/// ```rust
+/// let value = value_of(alloc, r#"{"columns":{"geom":{"encoding":"WKB"}}}"#)?;
+/// assert!(rt; member_of_column(&value, "geom").is_some());
+/// assert!(rt; member_of_column(&value, "columns").is_none());
+/// ```
+pub fn member_of_column<'v>(value: &'v Value, name: &str) -> Option<&'v Value>
+    ensures { option_map (λ v. view v.now) result ≡ at name.now (get (codes "columns") (view value.now)) }
+{
+    member_at(value.get("columns"), name)
+}
+
 /// The member at a key of a value, where it is there and not null.
 pub(crate) fn present_at<'v>(value: &'v Value, key: &str) -> Option<&'v Value>
     ensures { option_map (λ v. view v.now) result ≡ at_key key.now (view value.now) }
@@ -56,8 +74,8 @@ pub(crate) fn object_in(value: Option<&Value>) -> Option<&Map<String, Value>>
     }
 }
 
-/// The text of a value, where it is one.
-pub(crate) fn text_in(value: Option<&Value>) -> Option<&str>
+/// The text that a value is, where there is one and it is a text.
+pub fn text_in(value: Option<&Value>) -> Option<&str>
     ensures { text_of result ≡ text_of_value (option_map (λ v. view v.now) value.entry) }
 {
     match value {

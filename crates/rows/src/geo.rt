@@ -1,8 +1,9 @@
-//! Rows of GeoParquet metadata: calls of `geoparquet`. A row's text is the text at the key `geo`, and then lines of fields, each with ` & ` before it.
+//! Rows of GeoParquet metadata: calls of `geoparquet` and `geo_columns`. A row's text is the text at the key `geo`, and then lines of fields, each with ` & ` before it.
 use crate::asked::Asked;
 use crate::said::{Said, say};
 use arrow_columns::Column;
-use column_files::columns_in;
+use column_files::{column_line, columns_in};
+use geo_columns::geo_columns;
 use geoparquet::{GeoFinding, check_geo};
 use std::alloc::{AllocError, Global};
 
@@ -13,6 +14,10 @@ pub fn answer(it: &mut Asked<'_>) -> Result<(), AllocError> {
     let columns = columns_in(it.alloc, lines.as_bytes()).or(Err(AllocError))?;
     match it.command {
         "check_geo" => say_checks(it, geo, columns.as_slice()),
+        "geo_columns" => {
+            let made = geo_columns(it.alloc, geo, columns);
+            say_columns(it, made);
+        }
         _ => it.no_command(),
     }
     Ok(())
@@ -27,6 +32,22 @@ fn say_checks(it: &mut Asked<'_>, geo: &str, columns: &[Column]) {
             for finding in &findings {
                 if !finding.ok {
                     say_finding(it.alloc, &mut it.said, finding);
+                }
+            }
+        }
+        Err(AllocError) => it.said.fail(),
+    }
+}
+
+/// Says the lines of columns, with ` & ` between them.
+fn say_columns(it: &mut Asked<'_>, made: Result<Vec<Column>, AllocError>) {
+    match made {
+        Ok(columns) => {
+            for (place, column) in columns.into_iter().enumerate() {
+                it.said.push(if place > 0 { " & " } else { "" });
+                match column_line(it.alloc, column) {
+                    Ok(line) => it.said.push(line.as_str()),
+                    Err(AllocError) => it.said.fail(),
                 }
             }
         }

@@ -1,5 +1,5 @@
 //! Rows of reports: calls of `file_reports`, and so of the crates that read files and say what columns hold. A row's text is lines of fields,
-//! with ` & ` between them in place of line feeds.
+//! with ` & ` between them in place of line feeds; under `report_file` it is the bytes of a file in hexadecimal digits.
 use crate::asked::Asked;
 use column_check::{Finding, check_column, warnings};
 use column_files::{FileFault, columns_in};
@@ -11,8 +11,12 @@ use std::alloc::{AllocError, Global};
 pub fn answer(it: &mut Asked<'_>) -> Result<(), AllocError> {
     let text = it.text.replace(it.alloc, " & ", "\n")?;
     match it.command {
-        "report" => report(it, text.as_str(), false),
-        "report_inferred" => report(it, text.as_str(), true),
+        "report" => report(it, text.as_bytes(), false),
+        "report_inferred" => report(it, text.as_bytes(), true),
+        "report_file" => {
+            let bytes = hex::decode(it.alloc, it.text).or(Err(AllocError))?;
+            report(it, bytes.as_slice(), false);
+        }
         "reason_words" => words(it, reasons_of(it.alloc, text.as_str())),
         "warning_words" => words(it, warnings_of(it.alloc, text.as_str())),
         _ => it.no_command(),
@@ -20,9 +24,9 @@ pub fn answer(it: &mut Asked<'_>) -> Result<(), AllocError> {
     Ok(())
 }
 
-/// Says the report of the columns that some lines denote, with ` & ` between its lines.
-fn report(it: &mut Asked<'_>, text: &str, infer: bool) {
-    match report_file(it.alloc, None, text.as_bytes(), infer) {
+/// Says the report of a file, with ` & ` between its lines.
+fn report(it: &mut Asked<'_>, bytes: &[u8], infer: bool) {
+    match report_file(it.alloc, None, bytes, infer) {
         Ok(report) => {
             for (place, line) in report.lines.as_str().lines().enumerate() {
                 if place > 0 {

@@ -1,9 +1,9 @@
-use Rattle.std.proofs.Common.{◌≡◌, [], codes, false, Some, refl, sym, ap, ◌∙◌, true≢false, arith}
+use Rattle.std.proofs.Common.{◌≡◌, [], false, Some, refl, sym, ap, ◌∙◌, true≢false, arith}
 use Rattle.std.proofs.lemmas.Slice.Eq.{bytes_eq-Decides}
 use Rattle.json.specs.Json.{read_key}
 use Rattle.serde_json.specs.Data.{no_members}
 use Rattle.value_tokens.specs.Turns.{key_refused, member_refused, members_over}
-use Rattle.crs_text.proofs.Walk.{crs_found, other_found, last_of_all, on_err}
+use Rattle.crs_text.proofs.Walk.{wanted_found, other_found, last_of_all, on_err}
 use Rattle.crs_text.proofs.members.take_members.Goals as goal
 
 pub members-init : goal.members-init
@@ -38,14 +38,14 @@ returns-in_err-value-clause-refused c =
 pub members-preserved-then-eq : goal.members-preserved-then-eq
 members-preserved-then-eq c =
     let value = c.in_ok-value.ensures in
-    crs_found c.members.invariant c.in-Some.key.now c.next_key.new.self c.take_value.new.reader value.ok.0 c.in_ok-value.value (grind arith) value.ok.1 value.ok.2 value.begins value.ends value.left
-    ((bytes_eq-Decides c.in-Some.key.now (codes "crs")).0 (sym c.if-eq.ensures))
+    wanted_found c.members.invariant c.in-Some.key.now c.next_key.new.self c.take_value.new.reader value.ok.0 c.in_ok-value.value (grind arith) value.ok.1 value.ok.2 value.begins value.ends value.left
+    ((bytes_eq-Decides c.in-Some.key.now c.args.wanted.now).0 (sym c.if-eq.ensures))
 
 pub members-preserved : goal.members-preserved
 members-preserved c =
     let value = c.in_ok-value.ensures in
     other_found c.members.invariant c.in-Some.key.now c.next_key.new.self c.take_value.new.reader value.ok.0 c.in_ok-value.value (grind arith) value.ok.1 value.ok.2 value.begins value.ends value.left
-    (λ is. true≢false (sym ((bytes_eq-Decides c.in-Some.key.now (codes "crs")).1 is) ∙ sym c.if-eq.ensures))
+    (λ is. true≢false (sym ((bytes_eq-Decides c.in-Some.key.now c.args.wanted.now).1 is) ∙ sym c.if-eq.ensures))
 
 pub returns-clause-ok : goal.returns-clause-ok
 returns-clause-ok c =

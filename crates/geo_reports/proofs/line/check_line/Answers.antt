@@ -1,8 +1,7 @@
-use Rattle.std.proofs.Common.{◌≡◌, [], ◌∷◌, ◌++◌, Some, codes, map, option_map, string_bytes, sym, ap, subst, ◌∙◌}
-use Rattle.json.specs.Token.{begin_object, end_object, key, boolean}
+use Rattle.std.proofs.Common.{◌≡◌, ◌++◌, map, option_map, string_bytes, ap, subst, ◌∙◌}
 use Rattle.arrow_values.specs.Texts.{text_of}
 use Rattle.value_tokens.specs.Adds.{Adds, sent, then}
-use Rattle.geoparquet.specs.Words.{code_of, message_of, path_of}
+use Rattle.geoparquet.specs.Words.{path_of}
 use Rattle.geo_reports.specs.Lines.{path_tokens, line_tokens}
 use Rattle.geo_reports.proofs.Appending.{whole_text}
 use Rattle.geo_reports.proofs.line.check_line.Goals as goal

@@ -1,0 +1,87 @@
+//! The columns of a file with GeoParquet metadata.
+ghost use Rattle.std.specs.Prelude.{◌≡◌, IfOk, map, option_map};
+ghost use Rattle.serde_json.specs.View.{view};
+ghost use Rattle.arrow_columns.specs.Column.{column_tree};
+ghost use Rattle.geoparquet.specs.Checks.{value_of};
+ghost use Rattle.geo_columns.specs.GeoColumns.{IsGeoColumn, AreGeoColumns, IsNameFor};
+
+use crate::extension::{extension_text, text_at};
+use arrow_columns::Column;
+use geoarrow_layout::ExtensionName;
+use geoparquet::{encoded_as, first_named, member_of_column, value_of};
+use json::Scratch;
+use metadata_text::with_extension;
+use serde_json::Value;
+use std::alloc::{AllocError, Global};
+
+/// The columns of a Parquet file whose metadata at the key `geo` are that text (GeoParquet 1.1, "Column metadata"; docs/FORMAT.md, 5.2). A column that has no
+/// extension name, that is the first of its name, and of whose member of `columns` the rule `Encoding` of `GeoCheck` holds, has the extension name of GeoArrow
+/// of its encoding, and as its extension metadata the CRS and the edges of that member: a CRS that is absent is `OGC:CRS84`, and the tokens of
+/// PROJJSON are those that the text has, so each number stays as it is written. All else, every other column and the order are as they were. A text
+/// that is no JSON object changes nothing. Errs only when out of memory.
+///
+/// Takes time that grows with the length of the text, once and again for each column that changes.
+///
+/// ```rust
+/// let column = Column {
+///     name: String::from_str(alloc, "geom")?,
+///     nullable: true,
+///     data_type: ColumnType::Data(DataType::Binary),
+///     metadata: BTreeMap::new(alloc),
+/// };
+/// let geo = r#"{"columns":{"geom":{"encoding":"WKB","crs":{"epoch": 2010.50}}}}"#;
+/// let columns = geo_columns(alloc, geo, vec![in alloc; column]?)?;
+/// assert_eq!(rt; columns[0].extension_type_name(), Some("geoarrow.wkb"));
+/// let text = r#"{"crs":{"epoch":2010.50},"crs_type":"projjson"}"#;
+/// assert_eq!(rt; columns[0].extension_type_metadata(), Some(text));
+/// ```
+pub fn geo_columns(
+    alloc: Global,
+    geo: &str,
+    columns: Vec<Column>,
+) -> Result<Vec<Column>, AllocError>
+    ensures { IfOk result (λ made. AreGeoColumns geo.now (map column_tree columns.items) (map column_tree made.items)) }
+{
+    let value = value_of(alloc, geo)?;
+    let mut scratch = Scratch::new(alloc);
+    let mut made = Vec::new(alloc);
+    for column in columns {
+        let new = geo_column(alloc, &mut scratch, geo, &value, made.as_slice(), column)?;
+        made.push(new)?;
+    }
+    Ok(made)
+}
+
+/// What becomes of a column behind those. Errs only when out of memory.
+fn geo_column(
+    alloc: Global,
+    scratch: &mut Scratch,
+    geo: &str,
+    value: &Value,
+    before: &[Column],
+    column: Column,
+) -> Result<Column, AllocError>
+    requires { view value.now ≡ value_of geo.now }
+    ensures { IfOk result (λ new. IsGeoColumn geo.now (map column_tree before.now) (column_tree column) (column_tree new)) }
+{
+    let member = member_of_column(value, column.name.as_str());
+    let Some(name) = name_for(member, before, &column) else {
+        return Ok(column);
+    };
+    let text = extension_text(alloc, scratch, geo, column.name.as_str(), member)?;
+    with_extension(alloc, column, name.as_text(), text)
+}
+
+/// The extension name that a column behind those takes by its member of `columns`.
+fn name_for(member: Option<&Value>, before: &[Column], column: &Column) -> Option<ExtensionName>
+    ensures { IsNameFor (option_map (λ v. view v.now) member.entry) (map column_tree before.now) (column_tree column.now) result }
+{
+    let name = encoded_as(text_at(member, "encoding"), column)?;
+    if column.extension_type_name().is_some() {
+        return None;
+    }
+    match first_named(before, column.name.as_str()) {
+        Some(_) => None,
+        None => Some(name),
+    }
+}
