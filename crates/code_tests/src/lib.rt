@@ -10,3 +10,5 @@ mod extension;
 mod parts;
 #[cfg(test)]
 mod reading;
+#[cfg(test)]
+mod sources;

@@ -8,7 +8,7 @@ use std::test::Fail;
 
 /// Gives one byte a call, and fails at the call `fails_at`, where calls count from 0.
 #[derive(Drop)]
-struct OneByte<'a> {
+pub struct OneByte<'a> {
     text: &'a [u8],
     call: usize,
     fails_at: usize,
@@ -16,7 +16,7 @@ struct OneByte<'a> {
 }
 
 impl<'a> OneByte<'a> {
-    fn new(text: &'a [u8]) -> OneByte<'a> {
+    pub fn new(text: &'a [u8]) -> OneByte<'a> {
         OneByte::failing(text, usize::MAX, ErrorKind::Other)
     }
 
@@ -50,8 +50,8 @@ impl Read for OneByte<'_> {
 
 /// Gives an `a` again and again: `left` times, as many as fit at each call.
 #[derive(Drop)]
-struct Repeated {
-    left: usize,
+pub struct Repeated {
+    pub left: usize,
 }
 
 impl Read for Repeated {

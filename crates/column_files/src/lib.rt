@@ -2,10 +2,17 @@
 #![tactic(auto)]
 
 mod columns;
+mod fault;
 mod form;
 mod line;
 mod lines;
+mod reading;
+mod schema_bytes;
+mod source;
 
 pub use columns::{FileFault, columns_in, columns_of};
+pub use fault::ReadFault;
 pub use form::{Form, form_of};
 pub use line::{LineFault, column_line, parse_column_line};
+pub use reading::{LineColumns, MAX_LINE_BYTES};
+pub use schema_bytes::{read_head, read_schema_bytes, read_schema_end};

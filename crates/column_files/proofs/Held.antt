@@ -1,0 +1,124 @@
+-- Bytes that are held, and the line that they begin with, over plain variables.
+use Rattle.std.proofs.Common.{◌≡◌, inl, inr, ℕ, ◌+◌, ◌-◌, ◌<◌, ◌≤◌, true, List, [], ◌++◌, length, take, drop, drop_of_length-le, get_or, Option, Some, None, IfSome, Ok, Err, sym, ap, ◌∙◌, subst, arith}
+use Rattle.std.proofs.lemmas.Bool.{cases_lt}
+use Rattle.std.proofs.lemmas.List.{append-nil, get_or_append_left, get_or-drop, length-append, length-drop, length-take-le, take-append-le, take_all, drop-append-le}
+use Rattle.std.specs.Io.KnownBytes.{Keeps, prepend_known}
+use Rattle.memchr.specs.Find.{is_byte, Passes, Nowhere, IsFirstByte}
+use Rattle.arrow_columns.specs.Column.{column_tree}
+use Rattle.arrow_columns.specs.declared.column.Column.{Column}
+use Rattle.column_files.specs.Lines.{line_feed, FirstLine}
+use Rattle.column_files.specs.LineFaults.{IsLineRead, DenotesNone}
+use Rattle.column_files.specs.declared.line.LineFault.{LineFault}
+use Rattle.column_files.specs.Reading.{max_line_bytes, HasNoFeed, IsLong, HasLine, Goes, AnswersNext}
+use lib.Seq.{take-add, take-take}
+
+-- ---- bytes that are read behind others
+
+pub read_in : (held grown bytes : List ℕ) (end n len : ℕ) → take len grown ≡ held → end ≤ len → take end bytes ≡ take end grown → end + n ≤ length bytes
+    → (take (end + n) bytes ≡ take end held ++ take n (drop end bytes)) × (length (take n (drop end bytes)) ≡ n)
+read_in held grown bytes end n len kept within front fits =
+    let before : take end grown ≡ take end held = sym (take-take end len grown within) ∙ ap (take end) kept in
+    (take-add end n bytes ∙ ap (λ l. l ++ take n (drop end bytes)) (front ∙ before), length-take-le n (drop end bytes) (omega (arith, fits, length-drop end bytes)))
+
+-- ---- line feeds
+
+abbrev pub IsFeed : List ℕ → ℕ → Type 0
+IsFeed = Passes (is_byte line_feed)
+
+-- a byte of the front
+front_feed : (a b : List ℕ) (k : ℕ) → k < length a → IsFeed (a ++ b) k → IsFeed a k
+front_feed a b k lt is = subst (λ x. is_byte line_feed x ≡ true) (get_or_append_left a b 0 k lt) is
+
+pub none_in_more : (a b : List ℕ) (n : ℕ) → n ≤ length a → Nowhere (IsFeed a) 0 n → Nowhere (IsFeed (a ++ b)) 0 n
+none_in_more a b n fits none k low high is = none k low high (front_feed a b k (omega (arith, fits, high)) is)
+
+-- no line feed stands among the first bytes, of which so many were seen
+module _ (held : List ℕ) (seen : ℕ) (none : Nowhere (IsFeed held) 0 seen) where
+  none_to : (n : ℕ) → Nowhere (IsFeed (drop seen held)) 0 n → (k : ℕ) → k < seen + n → ¬ IsFeed held k
+  none_to n behind k lt is =
+      elim (cases_lt k seen) [
+        | inl before ↦ none k (omega arith) before is
+        | inr after ↦
+            let place : seen + (k - seen) ≡ k = omega (arith, after) in
+            let same : get_or (drop seen held) (k - seen) 0 ≡ get_or held k 0 = get_or-drop seen held (k - seen) 0 ∙ ap (λ i. get_or held i 0) place in
+            behind (k - seen) (omega arith) (omega (arith, lt, after)) (subst (λ x. is_byte line_feed x ≡ true) (sym same) is)
+      ]
+
+  pub none_there : HasNoFeed (drop seen held) → HasNoFeed held
+  none_there behind k low high is = none_to (length (drop seen held)) behind k (omega (arith, high, length-drop seen held)) is
+
+  pub found_at : (at : ℕ) → IsFirstByte (is_byte line_feed) (drop seen held) (Some at) → IsFirstByte (is_byte line_feed) held (Some (seen + at))
+  found_at at (found, is) = (
+    record { low = omega arith; high = omega (arith, found.high, length-drop seen held); before = λ k low high. none_to at found.before k high },
+    subst (λ x. is_byte line_feed x ≡ true) (get_or-drop seen held at 0) is,
+  )
+
+-- ---- lines that are too long
+
+pub long_at : (held : List ℕ) (len : ℕ) → IsFirstByte (is_byte line_feed) held (Some len) → max_line_bytes < len → IsLong held
+long_at held len (found, is) long = (omega (arith, found.high, long), λ k low high. found.before k low (omega (arith, high, long)))
+
+pub long_held : (held : List ℕ) → HasNoFeed held → max_line_bytes < length held → IsLong held
+long_held held none long = (long, λ k low high. none k low (omega (arith, high, long)))
+
+pub long_more : (held more : List ℕ) → IsLong held → IsLong (held ++ more)
+long_more held more (long, none) =
+    (omega (arith, long, length-append held more), none_in_more held more (max_line_bytes + 1) (omega (arith, long)) none)
+
+short_at : (held more : List ℕ) (len : ℕ) → IsFirstByte (is_byte line_feed) held (Some len) → len ≤ max_line_bytes → ¬ IsLong (held ++ more)
+short_at held more len (found, is) short (long, none) =
+    none len (omega arith) (omega (arith, short)) (subst (λ x. is_byte line_feed x ≡ true) (sym (get_or_append_left held more 0 len found.high)) is)
+
+-- ---- the first line
+
+-- one that a line feed ends
+line_at : (held more : List ℕ) (len : ℕ) → IsFirstByte (is_byte line_feed) held (Some len) → FirstLine (held ++ more) (take len held) (drop (len + 1) held ++ more)
+line_at held more len (found, is) =
+    let high = found.high in
+    let some : length (held ++ more) ≡ 0 → ⊥ = λ none. omega (arith, high, length-append held more, none) in (
+      λ empty. some (ap length empty),
+      (
+        Some len,
+        (
+          record { low = omega arith; high = omega (arith, high, length-append held more); before = none_in_more held more len (omega (arith, high)) found.before },
+          subst (λ x. is_byte line_feed x ≡ true) (sym (get_or_append_left held more 0 len high)) is,
+        ),
+        (sym (take-append-le len held more (omega (arith, high))), sym (drop-append-le (len + 1) held more (omega (arith, high)))),
+      ),
+    )
+
+-- the last one, which none ends
+line_last : (held more : List ℕ) (len : ℕ) → len ≡ length held → 0 < len → HasNoFeed held → more ≡ [] → FirstLine (held ++ more) (take len held) (drop (len + 1) held ++ more)
+line_last held more len len_is some none end =
+    let text_is : held ++ more ≡ held = ap (λ l. held ++ l) end ∙ append-nil held in
+    let full : held ++ more ≡ [] → ⊥ = λ empty. omega (arith, some, len_is, ap length (sym text_is ∙ empty)) in (
+      full,
+      (
+        None,
+        subst (λ t. IsFirstByte (is_byte line_feed) t None) (sym text_is) none,
+        (take_all len held (omega (arith, len_is)) ∙ sym text_is, ap (λ l. l ++ more) (drop_of_length-le held (omega (arith, len_is))) ∙ end),
+      ),
+    )
+
+first_line : (held more : List ℕ) (len : ℕ) → HasLine held (Some more) (Some len) → FirstLine (held ++ more) (take len held) (drop (len + 1) held ++ more) × ¬ IsLong (held ++ more)
+first_line held more len (short, inl found) = (line_at held more len found, short_at held more len found short)
+first_line held more len (short, inr (len_is, some, none, end)) =
+    (line_last held more len len_is some none end, λ long. omega (arith, long.0, short, len_is, length-append held more, ap length end))
+
+-- ---- what is answered of it
+
+pub column_next : (old rest : Option (List ℕ)) (held : List ℕ) (len : ℕ) (column : Column) → Keeps old (prepend_known held rest) → HasLine held rest (Some len) → IsLineRead (take len held) (Ok column)
+    → Goes (AnswersNext (column_tree column)) old (prepend_known (drop (len + 1) held) rest)
+column_next None rest held len column kept line read = tt
+column_next (Some text) None held len column kept line read = absurd kept
+column_next (Some text) (Some more) held len column kept line read =
+    let (first, short) = first_line held more len line in
+    subst (λ t. AnswersNext (column_tree column) t (drop (len + 1) held ++ more)) kept (short, (take len held, first, read))
+
+pub fault_next : (old rest : Option (List ℕ)) (held : List ℕ) (len : ℕ) (fault : LineFault) → Keeps old (prepend_known held rest) → HasLine held rest (Some len) → IsLineRead (take len held) (Err fault)
+    → IfSome old (λ text. ¬ IsLong text × DenotesNone text fault)
+fault_next None rest held len fault kept line read = tt
+fault_next (Some text) None held len fault kept line read = absurd kept
+fault_next (Some text) (Some more) held len fault kept line read =
+    let (first, short) = first_line held more len line in
+    subst (λ t. ¬ IsLong t × DenotesNone t fault) kept (short, (take len held, drop (len + 1) held ++ more, first, read.0, read.1))

@@ -1,0 +1,145 @@
+//! The columns of the lines of a source, one after another.
+ghost use Rattle.std.specs.Prelude.{◌≡◌, ◌+◌, ◌-◌, ◌^◌, min, drop, IfOk, OnErr, IfErr};
+ghost use Rattle.std.specs.Io.KnownBytes.{Keeps, prepend_known};
+ghost use Rattle.memchr.specs.Find.{is_byte, Passes, Nowhere, IsFirstByte};
+ghost use Rattle.column_files.specs.Lines.{line_feed};
+ghost use Rattle.column_files.specs.Sources.{ReadsBehind};
+ghost use Rattle.column_files.specs.ReadErrors.{IsReadError, IsNoSignal};
+ghost use Rattle.column_files.specs.Reading.{ahead, answered, text_left, HasLine, IsUnfinished, IsNext, IsCounted};
+
+use crate::columns::FileFault;
+use crate::fault::ReadFault;
+use crate::line::parse_column_line;
+use crate::source::{CHUNK_BYTES, move_front, part_of, read_behind, rest_of};
+use arrow_columns::Column;
+use json::Scratch;
+use memchr::memchr;
+use std::alloc::Global;
+use std::io::Read;
+
+/// The greatest number of bytes in a line of a source, its line feed not among them.
+pub const MAX_LINE_BYTES: usize = 1_048_576;
+
+/// The columns that the lines of a source denote (docs/FORMAT.md, 2.7), one after another. What is held in memory does not grow with the number
+/// of lines: it is at most the longest of them, and 65,536 bytes more.
+///
+/// ```rust
+/// let text = b"{\"name\":\"a\",\"nullable\":true,\"type\":\"int64\"}\n[]\n".as_slice();
+/// let mut lines = LineColumns::new(alloc, Vec::new(alloc), text);
+/// assert!(rt; matches!(lines.next_column(), Ok(Some(_))));
+/// let next = lines.next_column();
+/// assert!(rt; matches!(next, Err(ReadFault::File(FileFault::NoField(1, LineFault::NotObject)))));
+/// ```
+#[derive(Drop)]
+pub struct LineColumns<R> {
+    alloc: Global,
+    source: R,
+    /// What is read of the source stands up to `end`; up to `start` it is answered.
+    buffer: Vec<u8>,
+    start: usize,
+    end: usize,
+    scratch: Scratch,
+    count: usize,
+}
+
+impl<R: Read> LineColumns<R> {
+    /// The lines of what was read of a source, as its first bytes were to tell the format, and of what it gives from there on. Allocates nothing.
+    pub fn new(alloc: Global, head: Vec<u8>, source: R) -> LineColumns<R>
+        ensures text { text_left R.remaining result ≡ prepend_known head.items (R.remaining source) }
+        ensures answered { answered result ≡ 0 }
+    {
+        LineColumns {
+            alloc,
+            source,
+            end: head.len(),
+            buffer: head,
+            start: 0,
+            scratch: Scratch::new(alloc),
+            count: 0,
+        }
+    }
+
+    /// The column of the next line; or none where all lines are answered.
+    ///
+    /// Errs with `NoField` where the line denotes no column, with how many lines stand before it, and why; with `LongLine` where it has more than
+    /// [`MAX_LINE_BYTES`] bytes, with how many stand before it; with `Input` where the source fails, unless a signal interrupts it, which is tried
+    /// again; and when out of memory. The line is then not passed over: a further call begins with it, and goes on where the source failed.
+    pub fn next_column(&mut self) -> Result<Option<Column>, ReadFault>
+        ensures next { IsNext (answered self.old) (text_left R.remaining self.old) (text_left R.remaining self.new) (ahead self.new) result }
+        ensures counted { IsCounted (answered self.old) (answered self.new) result }
+    {
+        let Some(len) = self.hold_line()? else {
+            return Ok(None);
+        };
+        let line = &part_of(self.buffer.as_slice(), self.start, self.end)[..len];
+        match parse_column_line(self.alloc, line, &mut self.scratch)? {
+            Ok(column) => {
+                self.pass_line(len);
+                Ok(Some(column))
+            }
+            Err(fault) => Err(ReadFault::File(FileFault::NoField(self.count, fault))),
+        }
+    }
+
+    /// Passes over a line of so many bytes, and its line feed.
+    fn pass_line(&mut self, len: usize)
+        ensures ahead { ahead self.new ≡ drop (len + 1) (ahead self.old) }
+        ensures source { self.new.source ≡ self.old.source }
+        ensures counted { self.new.count ≡ min (self.old.count + 1) (2 ^ 64 - 1) }
+    {
+        self.start = self.start.saturating_add(len).saturating_add(1);
+        self.count = self.count.saturating_add(1);
+    }
+
+    /// Reads until the next line is held, and says how many bytes it has, its line feed not among them; or that there is none.
+    fn hold_line(&mut self) -> Result<Option<usize>, ReadFault>
+        ensures text { Keeps (text_left R.remaining self.old) (text_left R.remaining self.new) }
+        ensures counted { self.new.count ≡ self.old.count }
+        ensures line { IfOk result (HasLine (ahead self.new) (R.remaining self.new.source)) }
+        ensures err { IfErr result (IsUnfinished self.new.count (ahead self.new)) }
+    {
+        let mut seen = 0;
+        loop {
+            let rest = part_of(self.buffer.as_slice(), self.start, self.end);
+            if let Some(len) = feed_in(rest, seen) {
+                if len > MAX_LINE_BYTES {
+                    return Err(ReadFault::LongLine(self.count));
+                }
+                return Ok(Some(len));
+            }
+            seen = rest.len();
+            if seen > MAX_LINE_BYTES {
+                return Err(ReadFault::LongLine(self.count));
+            }
+            if self.read_more()? == 0 {
+                return Ok(if seen == 0 { None } else { Some(seen) });
+            }
+        }
+    }
+
+    /// Reads once, behind what is not answered, and says how many bytes.
+    fn read_more(&mut self) -> Result<usize, ReadFault>
+        ensures ok { IfOk result (λ n. ReadsBehind n (R.remaining self.old.source) (R.remaining self.new.source) (ahead self.old) (ahead self.new)) }
+        ensures err { OnErr result ((ahead self.new ≡ ahead self.old) × Keeps (R.remaining self.old.source) (R.remaining self.new.source)) }
+        ensures kind { IfErr result IsReadError }
+        ensures signal { IfErr result IsNoSignal }
+        ensures counted { self.new.count ≡ self.old.count }
+    {
+        self.end = move_front(&mut self.buffer, self.start, self.end);
+        self.start = 0;
+        let count = read_behind(&mut self.source, &mut self.buffer, self.end, CHUNK_BYTES)?;
+        self.end += count;
+        Ok(count)
+    }
+}
+
+/// Where the first line feed stands, of which there is none among the first bytes, so many.
+fn feed_in(held: &[u8], seen: usize) -> Option<usize>
+    requires { Nowhere (Passes (is_byte line_feed) held.now) 0 seen }
+    ensures { IsFirstByte (is_byte line_feed) held.now result }
+{
+    match memchr(b'\n', rest_of(held, seen)) {
+        Some(at) => Some(seen + at),
+        None => None,
+    }
+}

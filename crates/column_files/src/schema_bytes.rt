@@ -1,0 +1,119 @@
+//! The bytes of a source that hold its schema.
+ghost use Rattle.std.specs.Prelude.{◌≡◌, ◌+◌, ◌≤◌, List, ℕ, ◌++◌, length, OnOk, IfSome, IfOk, IfErr};
+ghost use Rattle.std.specs.Io.KnownBytes.{IsAtEnd};
+ghost use Rattle.column_files.specs.Forms.{IsForm};
+ghost use Rattle.column_files.specs.Sources.{GivesUpTo};
+ghost use Rattle.column_files.specs.ReadErrors.{IsReadError};
+ghost use Rattle.column_files.specs.Reading.{size_in, GivesSchema, GivesEnd, IsHead, ReadAs};
+
+use crate::fault::ReadFault;
+use crate::form::Form;
+use crate::source::{read_up_to, rest_of};
+use std::alloc::Global;
+use std::io::{Read, Seek, SeekFrom};
+
+/// How many bytes tell the format, and how long the first message of a stream is.
+const HEAD_BYTES: u64 = 8;
+
+/// How many bytes stand behind the footer of an Arrow file, and of a Parquet file: its size in four bytes, and the magic.
+const ARROW_TAIL: u64 = 10;
+
+const PARQUET_TAIL: u64 = 8;
+
+/// The first eight bytes of a source, from which `form_of` tells the format; all of them, where there are fewer. Errs where the source fails, and
+/// when out of memory.
+pub fn read_head<R: Read>(alloc: Global, source: &mut R) -> Result<Vec<u8>, ReadFault>
+    ensures ok { IfOk result (λ head. GivesUpTo 8 (R.remaining source.old) (R.remaining source.new) head.items) }
+    ensures err { IfErr result IsReadError }
+{
+    let mut head = Vec::new(alloc);
+    read_up_to(source, &mut head, HEAD_BYTES)?;
+    Ok(head)
+}
+
+/// The bytes from which `columns_of` reads the columns of a source in that format, whose first bytes are `head`, as `read_head` gives them: of a stream
+/// the first message, with the eight bytes before it, and of another format all bytes. Errs where the source fails, and when out of memory.
+pub fn read_schema_bytes<R: Read>(
+    form: Form,
+    head: Vec<u8>,
+    source: &mut R,
+) -> Result<Vec<u8>, ReadFault>
+    ensures ok { IfOk result (λ bytes. (more : List ℕ) × (bytes.items ≡ head.items ++ more)
+        × GivesSchema form head.items (R.remaining source.old) (R.remaining source.new) more) }
+    ensures enough { IfOk result (λ bytes. IfSome (R.remaining source.old) (λ rest.
+        IsForm head.items form → IsHead head.items rest → ReadAs form bytes.items (head.items ++ rest))) }
+    ensures err { IfErr result IsReadError }
+{
+    let mut bytes = head;
+    let rest = match form {
+        Form::ArrowStream => u64::from(size_of_four(rest_of(bytes.as_slice(), 4))),
+        Form::ArrowFile | Form::Parquet | Form::Lines => u64::MAX,
+    };
+    read_up_to(source, &mut bytes, rest)?;
+    Ok(bytes)
+}
+
+/// As `read_schema_bytes`, but of an Arrow or Parquet file only the end is read: the footer, with its size and the magic behind it, at the place
+/// that its size tells, or all where the size is greater than the file. Where the source does not seek, as a pipe, all is read.
+///
+/// The contract says of the end only that it is the end, since the contracts of `Seek` do not say which bytes a reader gives once it has sought.
+pub fn read_schema_end<S: Read + Seek>(
+    alloc: Global,
+    form: Form,
+    head: Vec<u8>,
+    source: &mut S,
+) -> Result<Vec<u8>, ReadFault>
+    ensures ok { IfOk result (λ bytes. GivesEnd form head.items (S.remaining source.old) (S.remaining source.new) bytes.items) }
+    ensures err { IfErr result IsReadError }
+{
+    let tail = match form {
+        Form::ArrowFile => ARROW_TAIL,
+        Form::Parquet => PARQUET_TAIL,
+        Form::ArrowStream | Form::Lines => return read_schema_bytes(form, head, source),
+    };
+    match source.seek(SeekFrom::End(0)) {
+        Ok(length) => end_of(alloc, source, length, tail),
+        Err(_) => read_schema_bytes(form, head, source),
+    }
+}
+
+/// The end of a file of that length: the footer, and so many bytes behind it, of which the first four are its size.
+fn end_of<S: Read + Seek>(
+    alloc: Global,
+    source: &mut S,
+    length: u64,
+    tail: u64,
+) -> Result<Vec<u8>, ReadFault>
+    ensures end { OnOk result (IsAtEnd (S.remaining source.new)) }
+    ensures err { IfErr result IsReadError }
+{
+    let last = last_of(alloc, source, length, tail)?;
+    let footer = u64::from(size_of_four(last.as_slice()));
+    last_of(alloc, source, length, footer.saturating_add(tail))
+}
+
+/// So many bytes at the end of a file of that length, or all.
+fn last_of<S: Read + Seek>(
+    alloc: Global,
+    source: &mut S,
+    length: u64,
+    count: u64,
+) -> Result<Vec<u8>, ReadFault>
+    ensures end { OnOk result (IsAtEnd (S.remaining source.new)) }
+    ensures err { IfErr result IsReadError }
+{
+    source.seek(SeekFrom::Start(length.saturating_sub(count)))?;
+    let mut last = Vec::new(alloc);
+    read_up_to(source, &mut last, u64::MAX)?;
+    Ok(last)
+}
+
+/// The number in the first four bytes, the lowest first.
+fn size_of_four(bytes: &[u8]) -> u32
+    ensures { result ≡ size_in bytes.now }
+{
+    match bytes {
+        [a, b, c, d, ..] => u32::from_le_bytes([*a, *b, *c, *d]),
+        _ => 0,
+    }
+}
