@@ -1,18 +1,14 @@
 //! The program: says what each column of the files that it is given holds, in a table or as lines of JSON.
 #![tactic(auto)]
 
-mod checks;
-mod options;
-mod problems;
 mod report;
 mod source;
-mod table;
-mod wants;
 
-use crate::options::{Asked, options_of};
-use crate::problems::{Failure, long_line, problem_text};
 use crate::report::Report;
-use crate::source::report_columns;
+use crate::source::{Failure, report_columns};
+use check_options::{Asked, asked_by};
+use column_files::{MAX_LINE_BYTES, ReadFault};
+use report_words::{long_line_text, problem_text};
 use std::io::Write;
 use std::process::ExitCode;
 use std::{env, io};
@@ -36,27 +32,20 @@ Status: 0 if no column is invalid, each check holds and all that is expected is 
 ";
 
 /// The version, as `--version` prints it.
-const VERSION: &str = "geoarrow_check 1.0.0 (rattle-kit-13b)\n";
-
-/// The words after the program's name.
-fn words_of(rt: &HostRuntime) -> io::Result<Vec<String>> {
-    let mut words = Vec::new(rt.alloc());
-    for word in env::args(rt)?.skip(1) {
-        words.push(word)?;
-    }
-    Ok(words)
-}
+const VERSION: &str = "geoarrow_check 1.0.0 (rattle-kit-13f)\n";
 
 /// Reports a file on standard output; or says on standard error why it cannot be read. Returns the status.
 fn check(rt: &HostRuntime, file: &str, asked: &Asked) -> io::Result<u8> {
     let mut report = Report::new(rt.alloc(), file, asked)?;
-    let ended = report_columns(rt, file, &mut report);
-    let problem = match ended {
+    let fault = match report_columns(rt, file, &mut report) {
         Ok(()) => return report.finish(rt),
         Err(Failure::Output(error)) => return Err(error),
-        Err(Failure::Input(error)) => format!(in rt.alloc(); "{error}")?,
-        Err(Failure::LongLine(before)) => long_line(rt.alloc(), before)?,
-        Err(Failure::File(fault)) => problem_text(rt.alloc(), &fault)?,
+        Err(Failure::Input(fault)) => fault,
+    };
+    let problem = match fault {
+        ReadFault::Input(error) => format!(in rt.alloc(); "{error}")?,
+        ReadFault::LongLine(before) => long_line_text(rt.alloc(), before, MAX_LINE_BYTES)?,
+        ReadFault::File(fault) => problem_text(rt.alloc(), &fault)?,
     };
     report.write(rt)?;
     eprintln!(rt; "{file}: {problem}")?;
@@ -65,28 +54,25 @@ fn check(rt: &HostRuntime, file: &str, asked: &Asked) -> io::Result<u8> {
 
 /// Does what the words ask. Returns the status.
 fn run(rt: &HostRuntime) -> io::Result<u8> {
-    let words = words_of(rt)?;
-    let asked = match options_of(rt.alloc(), words.as_slice())? {
+    let words: Vec<String> = env::args(rt)?.skip(1).collect(rt.alloc())?;
+    let asked = match asked_by(rt.alloc(), words.as_slice())? {
         Ok(asked) => asked,
         Err(reason) => {
             eprint!(rt; "geoarrow_check: {reason}\n{USAGE}")?;
             return Ok(2);
         }
     };
-    if asked.help {
+    if asked.flags.help {
         rt.stdout().write_all(USAGE.as_bytes())?;
         return Ok(0);
     }
-    if asked.version {
+    if asked.flags.version {
         rt.stdout().write_all(VERSION.as_bytes())?;
         return Ok(0);
     }
     let mut status = 0;
     for file in &asked.files {
-        let of_file = check(rt, file.as_str(), &asked)?;
-        if of_file > status {
-            status = of_file;
-        }
+        status = check(rt, file.as_str(), &asked)?.max(status);
     }
     Ok(status)
 }

@@ -1,22 +1,15 @@
 //! The report of a file, a column at a time.
-ghost use Rattle.std.specs.Prelude.{IfOk, string_bytes};
-ghost use Rattle.arrow_values.specs.Texts.{text_of};
-ghost use Rattle.arrow_columns.specs.Column.{column_tree, metadata_on};
-ghost use Rattle.file_reports.specs.Report.{IsCrsOf, IsLineOf};
 
-use crate::checks::checks_text;
-use crate::options::{Asked, Output};
-use crate::table::Table;
-use crate::wants::Wanted;
 use arrow_columns::Column;
 use arrow_ipc::{Endianness, Schema, write_schema};
-use column_check::{Finding, check_column, warnings};
+use check_options::{Asked, Output};
+use column_check::check_column;
 use column_files::column_line;
-use column_reports::json_line;
-use crs_text::crs_text_with_scratch;
-use geo_reports::check_lines;
+use column_tables::{Row, table_text};
+use file_reports::column_line_of;
 use geoparquet::GeoFinding;
 use json::Scratch;
+use report_words::{Found, checked_lines, checked_text, has_failed, row_of};
 use std::alloc::{AllocError, Global};
 use std::collections::BTreeMap;
 use std::io;
@@ -31,60 +24,63 @@ pub(crate) struct Report<'a> {
     asked: &'a Asked,
     file: &'a str,
     scratch: Scratch,
-    /// What is not written yet.
+    /// What is not written yet: of a table what stands behind it.
     text: String,
-    table: Table,
-    /// The checks of GeoParquet metadata, which stand behind the table.
-    checks: String,
+    rows: Vec<Row>,
     /// The columns for `--ipc`.
     columns: Vec<Column>,
-    wanted: Wanted<'a>,
+    /// What is found of each expectation.
+    found: Vec<Found>,
     count: usize,
-    has_invalid: bool,
     has_geometry: bool,
-    has_failed: bool,
+    status: u8,
 }
 
 impl<'a> Report<'a> {
     /// The report of a file of which no column is read yet.
-    pub(crate) fn new(
-        alloc: Global,
-        file: &'a str,
-        asked: &'a Asked,
-    ) -> Result<Report<'a>, AllocError> {
+    pub(crate) fn new(alloc: Global, file: &'a str, asked: &'a Asked) -> Result<Self, AllocError> {
+        let found = asked.wants.iter().map(|_| Found::NoColumn);
         Ok(Report {
             asked,
             file,
             scratch: Scratch::new(alloc),
             text: String::new(alloc),
-            table: Table::new(alloc),
-            checks: String::new(alloc),
+            rows: Vec::new(alloc),
             columns: Vec::new(alloc),
-            wanted: Wanted::new(alloc, asked.wants.as_slice())?,
+            found: found.collect(alloc)?,
             count: 0,
-            has_invalid: false,
             has_geometry: false,
-            has_failed: false,
+            status: 0,
         })
     }
 
-    /// How many columns were added.
-    pub(crate) fn count(&self) -> usize {
-        self.count
+    /// Adds columns.
+    pub(crate) fn add_all(&mut self, rt: &HostRuntime, columns: Vec<Column>) -> io::Result<()> {
+        for column in columns {
+            self.add(rt, column)?;
+        }
+        Ok(())
     }
 
     /// Adds a column, and writes what is to be printed of it, but for a table and a stream.
     pub(crate) fn add(&mut self, rt: &HostRuntime, column: Column) -> io::Result<()> {
         let alloc = rt.alloc();
-        let finding = check_column(alloc, &column, self.asked.infer)?;
-        self.has_invalid = self.has_invalid | finding.is_invalid();
+        let finding = check_column(alloc, &column, self.asked.flags.infer)?;
+        self.status = self.status.max(u8::from(finding.is_invalid()));
         self.has_geometry = self.has_geometry | finding.is_geometry();
-        self.wanted.look_at(alloc, &column, &finding)?;
-        match self.asked.output() {
+        for (want, found) in self.asked.wants.iter().zip(self.found.iter_mut()) {
+            let (name, want) = (want.column.as_str(), want.want.as_str());
+            found.look_at(alloc, name, want, &column, &finding)?;
+        }
+        match self.asked.flags.output() {
             Output::Nothing => {}
-            Output::Table => self.table.add(alloc, &column, &finding)?,
-            Output::Json => self.add_json(alloc, &column, &finding)?,
-            Output::Lines => self.add_text(column_line(alloc, column)?)?,
+            Output::Table => self.rows.push(row_of(alloc, &column, &finding)?)?,
+            Output::Json => {
+                let (file, scratch) = (self.named_file(), &mut self.scratch);
+                let line = column_line_of(alloc, scratch, file, self.count, &column, &finding)?;
+                self.add_line(line)?;
+            }
+            Output::Lines => self.add_line(column_line(alloc, column)?)?,
             Output::Ipc => self.columns.push(column)?,
         }
         self.count = self.count.saturating_add(1);
@@ -92,29 +88,6 @@ impl<'a> Report<'a> {
             self.write(rt)?;
         }
         Ok(())
-    }
-
-    /// Adds the checks of a file's GeoParquet metadata, behind its columns.
-    pub(crate) fn add_checks(
-        &mut self,
-        alloc: Global,
-        findings: &[GeoFinding],
-    ) -> Result<(), AllocError> {
-        for finding in findings {
-            self.has_failed = self.has_failed | !finding.ok;
-        }
-        let all = self.asked.all_checks;
-        match self.asked.output() {
-            Output::Json => {
-                let lines = check_lines(alloc, self.named_file(), findings, all)?;
-                self.text.push_str(lines.as_str())
-            }
-            Output::Table => {
-                self.checks = checks_text(alloc, findings, all)?;
-                Ok(())
-            }
-            Output::Nothing | Output::Lines | Output::Ipc => Ok(()),
-        }
     }
 
     /// The name that the lines of JSON give the file.
@@ -126,22 +99,26 @@ impl<'a> Report<'a> {
         }
     }
 
-    /// Adds the line of JSON of a column.
-    fn add_json(
-        &mut self,
-        alloc: Global,
-        column: &Column,
-        finding: &Finding,
-    ) -> Result<(), AllocError> {
-        let file = self.named_file();
-        let line = line_of(alloc, &mut self.scratch, file, self.count, column, finding)?;
-        self.add_text(line)
-    }
-
     /// Adds a line.
-    fn add_text(&mut self, line: String) -> Result<(), AllocError> {
+    fn add_line(&mut self, line: String) -> Result<(), AllocError> {
         self.text.push_str(line.as_str())?;
         self.text.push_str("\n")
+    }
+
+    /// Adds what is said of a Parquet file's GeoParquet metadata, behind its columns.
+    pub(crate) fn add_checks(
+        &mut self,
+        alloc: Global,
+        findings: &Option<Vec<GeoFinding>>,
+    ) -> io::Result<()> {
+        self.status = self.status.max(u8::from(has_failed(findings)));
+        let (has_geometry, all) = (self.has_geometry, self.asked.flags.all_checks);
+        let said = match self.asked.flags.output() {
+            Output::Json => checked_lines(alloc, self.named_file(), findings, has_geometry, all)?,
+            Output::Table => checked_text(alloc, findings, has_geometry, all)?,
+            Output::Nothing | Output::Lines | Output::Ipc => return Ok(()),
+        };
+        Ok(self.text.push_str(said.as_str())?)
     }
 
     /// Writes what is not written yet.
@@ -153,73 +130,37 @@ impl<'a> Report<'a> {
 
     /// Writes the rest, where all columns were added. Returns the status.
     pub(crate) fn finish(mut self, rt: &HostRuntime) -> io::Result<u8> {
-        self.write(rt)?;
-        let Report {
-            asked,
-            file,
-            table,
-            checks,
-            columns,
-            wanted,
-            has_invalid,
-            has_geometry,
-            has_failed,
-            ..
-        } = self;
-        let mut status = u8::from(has_invalid | has_failed);
-        match asked.output() {
-            Output::Ipc => status = write_stream(rt, file, columns)?,
-            Output::Table => {
-                if asked.files.len() > 1 {
-                    println!(rt; "{file}:")?;
-                }
-                table.write(rt)?;
-                rt.stdout().write_all(checks.as_bytes())?;
+        let (asked, file) = (self.asked, self.file);
+        if matches!(asked.flags.output(), Output::Table) {
+            let table = table_text(rt.alloc(), self.rows.as_slice())?;
+            if asked.files.len() > 1 {
+                println!(rt; "{file}:")?;
             }
-            Output::Json | Output::Lines | Output::Nothing => {}
+            rt.stdout().write_all(table.as_bytes())?;
         }
-        if !wanted.are_met(rt, file)? {
-            status = status.max(1);
-        }
-        if asked.require_geometry && !has_geometry {
-            eprintln!(rt; "{file}: no column of geometries")?;
-            status = status.max(1);
+        self.write(rt)?;
+        let mut status = self.say_unmet(rt)?;
+        if matches!(asked.flags.output(), Output::Ipc) {
+            status = write_stream(rt, file, self.columns)?.max(status);
         }
         Ok(status)
     }
-}
 
-/// The line of JSON of a column of which that is said (docs/FORMAT.md, 2.5).
-fn line_of(
-    alloc: Global,
-    scratch: &mut Scratch,
-    file: Option<&str>,
-    index: usize,
-    column: &Column,
-    finding: &Finding,
-) -> Result<String, AllocError>
-    ensures { IfOk result (λ line. IsLineOf (text_of file.entry) index (column_tree column.now) finding.now (string_bytes line)) }
-{
-    let warnings = warnings(alloc, column, finding)?;
-    let crs = written_crs(scratch, column)?;
-    json_line(
-        alloc,
-        file,
-        index,
-        column,
-        crs,
-        finding,
-        warnings.as_slice(),
-    )
-}
-
-/// The text of the CRS in a column's metadata.
-fn written_crs<'a>(scratch: &mut Scratch, column: &'a Column) -> Result<Option<&'a str>, AllocError>
-    ensures { IfOk result (λ crs. IsCrsOf (metadata_on (column_tree column.entry.now)) (text_of crs)) }
-{
-    match column.extension_type_metadata() {
-        Some(metadata) => crs_text_with_scratch(metadata, scratch),
-        None => Ok(None),
+    /// Says on standard error what is asked of the file and not met. Returns the status.
+    fn say_unmet(&self, rt: &HostRuntime) -> io::Result<u8> {
+        let (asked, file) = (self.asked, self.file);
+        let mut status = self.status;
+        for (want, found) in asked.wants.iter().zip(self.found.iter()) {
+            if let Some(said) = found.said(rt.alloc(), want.column.as_str())? {
+                eprintln!(rt; "{file}: {said}")?;
+                status = 1;
+            }
+        }
+        if asked.flags.require_geometry && !self.has_geometry {
+            eprintln!(rt; "{file}: no column of geometries")?;
+            status = 1;
+        }
+        Ok(status)
     }
 }
 

@@ -1,8 +1,11 @@
 -- The checks of GeoParquet metadata in words.
-use Rattle.std.specs.Prelude.{◌||◌, not, Bool, List, [], ◌++◌, codes, flat_map, Option, None, Some, option_map, string_bytes, if◌then◌else◌}
+use Rattle.std.specs.Prelude.{◌||◌, not, Bool, false, List, [], ◌++◌, codes, flat_map, Option, None, Some, option_map, string_bytes, if◌then◌else◌}
+use Rattle.std.specs.List.{list_any}
 use Rattle.arrow_values.specs.Tree.{Text}
 use Rattle.geoparquet.specs.Words.{code_of, message_of}
 use Rattle.geoparquet.specs.declared.finding.GeoFinding.{GeoFinding}
+use Rattle.geo_reports.specs.Lines.{lines_text}
+use Rattle.geo_reports.specs.Warnings.{no_geo_code, no_geo_message, no_geo_text}
 use Rattle.report_words.specs.Shown.{shown}
 
 -- the column that a check is of, if it is not of all the metadata
@@ -20,3 +23,21 @@ check_line all f = if all || not f.ok then check_text f ++ codes "\n" else []
 
 abbrev pub checks_text : Bool → List GeoFinding → Text
 checks_text all fs = flat_map (check_line all) fs
+
+-- what is said of the metadata of a Parquet file: the checks; or, where it has none but a column of geometries, a warning
+abbrev pub checked_text : Bool → Bool → Option (List GeoFinding) → Text
+checked_text has_geometry all (Some fs) = checks_text all fs
+checked_text has_geometry all None = if has_geometry then no_geo_code ++ (codes ": " ++ (no_geo_message ++ codes "\n")) else []
+
+-- the same as lines of JSON
+abbrev pub checked_lines : Option Text → Bool → Bool → Option (List GeoFinding) → Text
+checked_lines file has_geometry all (Some fs) = lines_text file all fs
+checked_lines file has_geometry all None = if has_geometry then no_geo_text file ++ codes "\n" else []
+
+-- whether a check does not hold
+abbrev pub is_failed : GeoFinding → Bool
+is_failed f = not f.ok
+
+abbrev pub has_failed : Option (List GeoFinding) → Bool
+has_failed None = false
+has_failed (Some fs) = list_any is_failed fs

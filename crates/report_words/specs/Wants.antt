@@ -1,13 +1,16 @@
 -- What a column is expected to hold, and what is not met of it.
-use Rattle.std.specs.Prelude.{◌≡◌, ◌⊎◌, ◌==◌, List, [], ◌∷◌, ◌++◌, length, codes, Option, None, Some, if◌then◌else◌}
+use Rattle.std.specs.Prelude.{◌≡◌, ◌⊎◌, ◌==◌, option_map, string_bytes, List, [], ◌∷◌, ◌++◌, length, codes, Option, None, Some, if◌then◌else◌}
 use Rattle.std.specs.List.{slice_split}
 use Rattle.arrow_values.specs.Tree.{Text}
+use Rattle.arrow_columns.specs.Column.{ColumnTree}
 use Rattle.geoarrow_layout.specs.declared.encodings.Kind.{Kind}
 use Rattle.geoarrow_layout.specs.declared.encodings.Kind.TheVariants.{Wkb, Wkt}
 use Rattle.geoarrow_layout.specs.Kinds.{coord_type_of, dimension_of}
 use Rattle.geoarrow_fields.specs.Answer.{kind_word, coord_type_word, dimension_word}
 use Rattle.column_check.specs.declared.finding.Geometry.{Geometry as GeometryColumn}
 use Rattle.column_reports.specs.Report.{kind_text}
+use Rattle.report_words.specs.declared.wants.Found.{Found}
+use Rattle.report_words.specs.declared.wants.Found.TheVariants.{NoColumn, Looked}
 use Rattle.report_words.specs.Crs.{crs_of_geometry}
 use Rattle.report_words.specs.Shown.{shown}
 
@@ -45,3 +48,18 @@ IsUnmet name g (part ∷ parts) said = (Meets g part × IsUnmet name g parts sai
 abbrev pub IsUnmetText : Text → Option GeometryColumn → Text → Option Text → Type 0
 IsUnmetText name None want said = said ≡ Some (no_geometries name)
 IsUnmetText name (Some g) want said = IsUnmet name g (parts_of want) said
+
+-- what was found of a column that was looked at
+abbrev pub IsLooked : Text → Option GeometryColumn → Text → Found → Type 0
+IsLooked name g want (Looked said) = IsUnmetText name g want (option_map string_bytes said)
+IsLooked name g want NoColumn = ⊥
+
+-- what is found of an expectation once a column is looked at: only the first column of the name counts
+abbrev pub IsFound : Text → Text → ColumnTree → Option GeometryColumn → Found → Found → Type 0
+IsFound name want c g (Looked said) new = new ≡ Looked said
+IsFound name want c g NoColumn new = ((c.name ≡ name → ⊥) × (new ≡ NoColumn)) ⊎ ((c.name ≡ name) × IsLooked c.name g want new)
+
+-- what is said of it once all columns were looked at, if it is not met
+abbrev pub said_of : Text → Found → Option Text
+said_of name NoColumn = Some (codes "no column " ++ shown name)
+said_of name (Looked said) = option_map string_bytes said

@@ -1,19 +1,107 @@
 //! The checks of GeoParquet metadata in words.
-ghost use Rattle.std.specs.Prelude.{◌≡◌, ◌++◌, IfOk, OnOk, option_map, string_bytes};
-ghost use Rattle.report_words.specs.Checks.{of_column, check_text, check_line, checks_text};
+ghost use Rattle.std.specs.Prelude.{◌≡◌, ◌++◌, false, None, IfOk, OnOk, option_map, string_bytes};
+ghost use Rattle.std.specs.List.{list_any};
+ghost use Rattle.arrow_values.specs.Texts.{text_of};
+ghost use Rattle.report_words.specs.Checks.{of_column, check_text, check_line, checks_text, checked_text, checked_lines, is_failed, has_failed};
 
 use crate::text::shown;
+use geo_reports::{check_lines, no_geo_code, no_geo_line, no_geo_message};
 use geoparquet::GeoFinding;
 use std::alloc::{AllocError, Global};
 
-/// What is said of the checks that do not hold, or with `all` of all: a line for each, with the code of the check, its column if it has one, whether
-/// it holds, and what it asks. Errs only when out of memory.
+/// What is said of the GeoParquet metadata of a Parquet file: of the checks that do not hold, or with `all` of all, a line for each, with the code of the
+/// check, its column if it has one, whether it holds, and what it asks; or, where the file has no metadata but a column of geometries, the code and
+/// the message of a warning (`docs/FORMAT.md`, 5.1). Errs only when out of memory.
 ///
 /// ```rust
+/// let text = checked_text(alloc, &None, true, false)?;
+/// assert!(rt; text.as_str().starts_with("NoGeoMetadata: "));
 /// let finding = GeoFinding { check: GeoCheck::Version, column: None, ok: false };
-/// assert_eq!(rt; checks_text(alloc, &[finding], false)?.as_str(), "GeoVersion does not hold: version is a text\n");
+/// let findings = Some(vec![in alloc; finding]?);
+/// let text = checked_text(alloc, &findings, true, false)?;
+/// assert_eq!(rt; text.as_str(), "GeoVersion does not hold: version is a text\n");
 /// ```
-pub fn checks_text(alloc: Global, findings: &[GeoFinding], all: bool) -> Result<String, AllocError>
+pub fn checked_text(
+    alloc: Global,
+    findings: &Option<Vec<GeoFinding>>,
+    has_geometry: bool,
+    all: bool,
+) -> Result<String, AllocError>
+    ensures { IfOk result (λ text. string_bytes text ≡ checked_text has_geometry all (option_map (λ fs. fs.items) findings.now)) }
+{
+    match findings {
+        Some(findings) => checks_text(alloc, findings.as_slice(), all),
+        None => warning_text(alloc, has_geometry),
+    }
+}
+
+/// The same as lines of JSON, which give the file that name, if any. Errs only when out of memory.
+pub fn checked_lines(
+    alloc: Global,
+    file: Option<&str>,
+    findings: &Option<Vec<GeoFinding>>,
+    has_geometry: bool,
+    all: bool,
+) -> Result<String, AllocError>
+    ensures { IfOk result (λ text. string_bytes text ≡ checked_lines (text_of file.entry) has_geometry all (option_map (λ fs. fs.items) findings.now)) }
+{
+    match findings {
+        Some(findings) => check_lines(alloc, file, findings.as_slice(), all),
+        None => warning_line(alloc, file, has_geometry),
+    }
+}
+
+/// Whether a check does not hold.
+pub fn has_failed(findings: &Option<Vec<GeoFinding>>) -> bool
+    ensures { result ≡ has_failed (option_map (λ fs. fs.items) findings.now) }
+{
+    match findings {
+        Some(findings) => is_one_failed(findings.as_slice()),
+        None => false,
+    }
+}
+
+/// Whether one of these checks does not hold.
+fn is_one_failed(findings: &[GeoFinding]) -> bool
+    ensures { result ≡ list_any is_failed findings.now }
+{
+    for finding in findings {
+        if !finding.ok {
+            return true;
+        }
+    }
+    false
+}
+
+/// The warning in words, if the file has geometries.
+fn warning_text(alloc: Global, has_geometry: bool) -> Result<String, AllocError>
+    ensures { IfOk result (λ text. string_bytes text ≡ checked_text has_geometry false None) }
+{
+    let mut text = String::new(alloc);
+    if has_geometry {
+        text.push_str(no_geo_code())?;
+        text.push_str(": ")?;
+        text.push_str(no_geo_message())?;
+        text.push_str("\n")?;
+    }
+    Ok(text)
+}
+
+/// The warning as a line of JSON, if the file has geometries.
+fn warning_line(alloc: Global, file: Option<&str>, has_geometry: bool) -> Result<String, AllocError>
+    ensures { IfOk result (λ text. string_bytes text ≡ checked_lines (text_of file.entry) has_geometry false None) }
+{
+    let mut text = String::new(alloc);
+    if has_geometry {
+        let line = no_geo_line(alloc, file)?;
+        text.push_str(line.as_str())?;
+        text.push_str("\n")?;
+    }
+    Ok(text)
+}
+
+/// What is said of the checks that do not hold, or with `all` of all.
+fn checks_text(alloc: Global, findings: &[GeoFinding], all: bool) -> Result<String, AllocError>
     ensures { IfOk result (λ text. string_bytes text ≡ checks_text all findings.now) }
 {
     let mut text = String::new(alloc);

@@ -8,9 +8,9 @@ mod problems;
 mod text;
 mod wants;
 
-pub use checks::checks_text;
+pub use checks::{checked_lines, checked_text, has_failed};
 pub use columns::row_of;
 pub use crs::crs_name;
 pub use problems::{long_line_text, problem_text};
 pub use text::shown;
-pub use wants::unmet_text;
+pub use wants::{Found, unmet_text};

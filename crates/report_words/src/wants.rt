@@ -1,9 +1,10 @@
 //! What a column is expected to hold.
-ghost use Rattle.std.specs.Prelude.{◌≡◌, ◌↔◌, ◌==◌, IfOk, IsTrue, Some, map, option_map, string_bytes};
+ghost use Rattle.std.specs.Prelude.{◌≡◌, ◌↔◌, ◌==◌, IfOk, OnOk, IsTrue, Some, map, option_map, string_bytes};
 ghost use Rattle.std.specs.List.{slice_split};
 ghost use Rattle.column_check.specs.States.{geometry_in};
 ghost use Rattle.report_words.specs.Crs.{crs_of_geometry};
-ghost use Rattle.report_words.specs.Wants.{parts_of, encoding_word, Meets, no_geometries, crs_or_none, unmet, IsUnmet, IsUnmetText};
+ghost use Rattle.report_words.specs.Wants.{parts_of, encoding_word, Meets, no_geometries, crs_or_none, unmet, IsUnmet, IsUnmetText, IsFound, said_of};
+ghost use Rattle.arrow_columns.specs.Column.{column_tree};
 
 use crate::columns::crs_of;
 use crate::text::shown;
@@ -13,6 +14,54 @@ use column_reports::type_word;
 use geoarrow_fields::{coord_type_word, dimension_word, kind_word};
 use geoarrow_layout::Kind;
 use std::alloc::{AllocError, Global};
+
+/// What is found of an expectation while the columns of a file are looked at, one after another.
+#[derive(Debug, Drop)]
+pub enum Found {
+    /// No column of the name was looked at.
+    NoColumn,
+    /// The first column of the name was looked at; with what is said where the expectation is not met.
+    Looked(Option<String>),
+}
+
+impl Found {
+    /// Looks at one more column, of which that is said: where it is the first of the name, at what is expected of it. Errs only when out of memory.
+    pub fn look_at(
+        &mut self,
+        alloc: Global,
+        name: &str,
+        want: &str,
+        column: &Column,
+        finding: &Finding,
+    ) -> Result<(), AllocError>
+        ensures { OnOk result (IsFound name.now want.now (column_tree column.now) (geometry_in finding.now) self.old self.new) }
+    {
+        if matches!(self, Found::NoColumn) && column.name.as_str() == name {
+            let said = unmet_text(alloc, column, finding, want)?;
+            *self = Found::Looked(said);
+        }
+        Ok(())
+    }
+
+    /// What is said of the expectation, if it is not met, once all columns were looked at. Errs only when out of memory.
+    ///
+    /// ```rust
+    /// let said = Found::NoColumn.said(alloc, "h")?;
+    /// assert!(rt; matches!(said, Some(text) if text.as_str() == "no column h"));
+    /// ```
+    pub fn said(&self, alloc: Global, name: &str) -> Result<Option<String>, AllocError>
+        ensures { IfOk result (λ said. option_map string_bytes said ≡ said_of name.now self.now) }
+    {
+        match self {
+            Found::NoColumn => {
+                let name = shown(alloc, name)?;
+                Ok(Some(format!(in alloc; "no column {name}")?))
+            }
+            Found::Looked(None) => Ok(None),
+            Found::Looked(Some(text)) => Ok(Some(String::from_str(alloc, text.as_str())?)),
+        }
+    }
+}
 
 /// What is said of a column that is expected to hold that, if it does not: that it holds no geometries, or the first part that is not met, and what
 /// the column holds. The parts stand between commas; each is the kind, the coordinate type, the dimension, the encoding (`native`, `WKB` or `WKT`), or

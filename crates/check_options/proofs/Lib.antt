@@ -1,0 +1,3 @@
+pub mod Nearer
+pub mod Reading
+pub mod Words
