@@ -24,8 +24,9 @@ const PARQUET_TAIL: u64 = 8;
 /// and when out of memory.
 ///
 /// ```rust
-/// let head = read_head(alloc, &mut b"PAR1".as_slice());
-/// assert!(rt; matches!(head, Ok(head) if head.as_slice() == b"PAR1"));
+/// let mut source = b"PAR1".as_slice();
+/// let head = read_head(alloc, &mut source);
+/// assert!(rt; matches!(head, Ok(head) if head.as_slice() == b"PAR1".as_slice()));
 /// ```
 pub fn read_head<R: Read>(alloc: Global, source: &mut R) -> Result<Vec<u8>, ReadFault>
     ensures ok { IfOk result (λ head. GivesUpTo 8 (R.remaining source.old) (R.remaining source.new) head.items) }
@@ -44,7 +45,7 @@ pub fn read_head<R: Read>(alloc: Global, source: &mut R) -> Result<Vec<u8>, Read
 /// let mut source = b"\xff\xff\xff\xff\x02\0\0\0abcdef".as_slice();
 /// let Ok(head) = read_head(alloc, &mut source) else { return Ok(()); };
 /// let read = read_schema_bytes(form_of(head.as_slice()), head, &mut source);
-/// assert!(rt; matches!(read, Ok(bytes) if bytes.as_slice() == b"\xff\xff\xff\xff\x02\0\0\0ab"));
+/// assert!(rt; matches!(read, Ok(bytes) if bytes.as_slice() == b"\xff\xff\xff\xff\x02\0\0\0ab".as_slice()));
 /// ```
 pub fn read_schema_bytes<R: Read>(
     form: Form,
