@@ -86,6 +86,7 @@ Columns of Parquet files
   $ geoarrow_check ../crates/geoarrow_check/data/stored.parquet
   column  holds          CRS  edges
   g       large_wkb - -       planar
+  NoGeoMetadata: the file has columns of geometries, but no metadata of GeoParquet
 
   $ geoarrow_check --json - < ../crates/geoarrow_check/data/plain.parquet
   {"column":"g","index":0,"state":"plain","type":"binary"}
@@ -270,7 +271,7 @@ The checks of GeoParquet metadata behind the columns: those that do not hold, or
 
   $ geoarrow_check ../crates/geoarrow_check/data/geo.parquet
   column  holds    CRS        edges
-  geom    binary
+  geom    wkb - -  OGC:CRS84  planar
   place   wkb - -  EPSG:4326  planar
   region  wkb - -  OGC:CRS84  karney
   GeoTypes of geom does not hold: geometry_types are different names of geometry types that fit the encoding
@@ -298,7 +299,7 @@ The checks of GeoParquet metadata behind the columns: those that do not hold, or
 Words that are answered at once
 
   $ geoarrow_check --version
-  geoarrow_check 1.0.0 (rattle-kit-13b)
+  geoarrow_check 1.0.0 (rattle-kit-13f)
 
   $ geoarrow_check --help | head -n 1
   usage: geoarrow_check [--json | --lines | --ipc] [--infer] [--all-checks] [--quiet] [--require-geometry] [--expect COLUMN=WANT].. FILE..
