@@ -15,7 +15,10 @@ from setuptools.command.build_py import build_py
 try:
     from setuptools.command.bdist_wheel import bdist_wheel
 except ImportError:  # before setuptools 70.1
-    from wheel.bdist_wheel import bdist_wheel
+    try:
+        from wheel.bdist_wheel import bdist_wheel
+    except ImportError:
+        sys.exit("setuptools 70.1 or later is needed, or an earlier one and wheel; without --no-build-isolation pip gets them")
 
 TOP = pathlib.Path(__file__).resolve().parent.parent
 LIBRARY = pathlib.Path(os.environ.get("GEOARROW_C_LIBRARY") or TOP / "build/libgeoarrow_c.so")

@@ -3,7 +3,7 @@ import collections
 import dataclasses
 import itertools
 import json
-from typing import Any, Dict, List, Optional, Tuple, Union
+from typing import Any, Dict, List, Optional, Tuple
 
 from . import tables
 
@@ -53,36 +53,17 @@ def _none() -> None:
     """The default of what a column may lack. (A factory, so that the class itself has no such attribute.)"""
 
 
-class _Report:
-    """A report, which is cut into its lines when one is first asked for."""
+class _OfALine:
+    """What has a line. It stands in a slot, which is written faster than an attribute."""
 
-    __slots__ = ("_held",)
-
-    def __init__(self, text: str) -> None:
-        self._held: Union[str, List[str]] = text
-
-    def line(self, place: int) -> str:
-        held = self._held
-        if isinstance(held, str):
-            held = self._held = held.split("\n")
-        return held[place]
+    __slots__ = ("json",)
 
 
-class _Unread:
-    """Where the line of a column stands until it is first looked at."""
-
-    __slots__ = ("_report", "_place")
-
-    _report: Optional[_Report]
-    _place: int
-
-
-_put_report = _Unread.__dict__["_report"].__set__
-_put_place = _Unread.__dict__["_place"].__set__
+_put_line = _OfALine.__dict__["json"].__set__
 
 
 @dataclasses.dataclass(frozen=True)
-class Column(_Unread):
+class Column(_OfALine):
     """What is said of a column (docs/FORMAT.md, 2.5 and 2.6). `json` is the line of the report, which has the CRS as it is written;
     `crs` is that as Python's json reads it. The line of a column that `check` gives is read when an attribute is first asked for."""
 
@@ -110,23 +91,19 @@ class Column(_Unread):
         """An attribute that is not there yet: those of the line are made."""
         if name not in _ATTRIBUTES:
             raise AttributeError(f"a column has no attribute {name!r}")
-        held, report = vars(self), self._report
-        if report is not None:
-            held["json"] = report.line(self._place)
-            _put_report(self, None)  # (last, since another thread may look too)
-        if name != "json":
-            held.update(_attributes(held["json"]))
+        held = vars(self)
+        held.update(_attributes(self.json))
         return held[name]
 
     def __getstate__(self) -> Dict[str, Any]:
         return {"json": self.json, **vars(self)}
 
     def __setstate__(self, state: Dict[str, Any]) -> None:
-        _put_report(self, None)
+        _put_line(self, state.pop("json"))
         vars(self).update(state)
 
 
-_ATTRIBUTES = frozenset(field.name for field in dataclasses.fields(Column))
+_ATTRIBUTES = frozenset(field.name for field in dataclasses.fields(Column) if field.name != "json")
 
 
 class Columns(List[Column]):
@@ -144,19 +121,18 @@ class Columns(List[Column]):
 
 
 _json = json.JSONDecoder().raw_decode
-_COLUMN = '{"column":'  # as the line of a column begins, and no other
 
 
-def columns_of(text: str) -> Columns:
+def columns_of(report: str) -> Columns:
     """The columns of a report, of which each line is one, and is not read yet; behind them stand the checks and the warnings of the file."""
-    begin = text.rfind("\n" + _COLUMN) + 1  # of the last column's line, which says how many there are
-    end = text.find("\n", begin) + 1 if text.startswith(_COLUMN) else 0
-    count = _json(text, begin)[0]["index"] + 1 if end else 0
-    columns = Columns(map(object.__new__, itertools.repeat(Column, count)))
-    # (loops without a step of Python for each)
-    collections.deque(map(_put_report, columns, itertools.repeat(_Report(text))), maxlen=0)
-    collections.deque(map(_put_place, columns, range(count)), maxlen=0)
-    behind = text[end:].split("\n")[:-1]
+    lines = report.split("\n")
+    lines.pop()  # behind the last line feed
+    behind: List[str] = []
+    while lines and not lines[-1].startswith('{"column":'):
+        behind.append(lines.pop())
+    behind.reverse()
+    columns = Columns(map(object.__new__, itertools.repeat(Column, len(lines))))
+    collections.deque(map(_put_line, columns, lines), maxlen=0)  # (a loop, without a step of Python for each)
     columns.checks = tuple(_check(line) for line in behind if line.startswith('{"check":'))
     columns.warnings = tuple(_file_warning(line) for line in behind if not line.startswith('{"check":'))
     return columns
