@@ -21,13 +21,13 @@ geo_key = codes "geo"
 
 -- what a file with that footer and the columns cs has by the value of the key: where there is none, no findings, and these columns; else the findings on
 -- the value and these columns, and the columns by the value
-abbrev pub AreBy : Result (List ℕ) SchemaError → List ColumnTree → Option (Vec GeoFinding Global) → List ColumnTree → Type 0
-AreBy footer cs None made = IsValueRead geo_key footer (Ok None) × (made ≡ cs)
-AreBy footer cs (Some findings) made = (geo : Text) × IsValueRead geo_key footer (Ok (Some geo)) × AreFindings geo cs findings.items × AreGeoColumns geo cs made
+abbrev pub AreByMetadata : Result (List ℕ) SchemaError → List ColumnTree → Option (Vec GeoFinding Global) → List ColumnTree → Type 0
+AreByMetadata footer cs None made = IsValueRead geo_key footer (Ok None) × (made ≡ cs)
+AreByMetadata footer cs (Some findings) made = (geo : Text) × IsValueRead geo_key footer (Ok (Some geo)) × AreFindings geo cs findings.items × AreGeoColumns geo cs made
 
 -- what a call answers: that, or why the footer is not read, or out of memory
 abbrev pub AreChecked : Result (List ℕ) SchemaError → List ColumnTree → Result Checked SchemaError → Type 0
-AreChecked footer cs (Ok checked) = AreBy footer cs checked.findings (map column_tree checked.columns.items)
+AreChecked footer cs (Ok checked) = AreByMetadata footer cs checked.findings (map column_tree checked.columns.items)
 AreChecked footer cs (Err error) = (error ≡ OutOfMemory) ⊎ IsValueRead geo_key footer (Err error)
 
 abbrev pub is_failed : GeoFinding → Bool

@@ -33,8 +33,9 @@ pub struct Checked {
     pub findings: Option<Vec<GeoFinding>>,
 }
 
-/// What a Parquet file that denotes these columns has by its GeoParquet metadata, from the end of the file: its columns (docs/FORMAT.md, 5.2), and the checks of the metadata
-/// (docs/FORMAT.md, 5). The end is the bytes of the file, or as many of its last ones as the footer, its length and the magic take.
+/// What a Parquet file that denotes these columns has by its GeoParquet metadata, from the end of the file: its columns (docs/FORMAT.md, 5.2), and the
+/// checks of the metadata (docs/FORMAT.md, 5). The end is the bytes of the file, or as many of its last ones as the footer, its length and the
+/// magic take.
 ///
 /// Errs as `value_in_file` of `parquet_schema` does.
 pub fn checked_columns(

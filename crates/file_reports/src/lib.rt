@@ -1,4 +1,5 @@
-//! The report of a file: what each of its columns holds, a line of JSON for each; and which checks of its GeoParquet metadata do not hold, or the warning that it has none.
+//! The report of a file: what each of its columns holds, a line of JSON for each; and which checks of its GeoParquet metadata do not hold, or the
+//! warning that it has none.
 #![tactic(auto)]
 
 mod checks;

@@ -35,10 +35,10 @@ pub struct Report {
     pub has_failed: bool,
 }
 
-/// The report of a file, from its bytes: what each of its columns holds and what is doubtful of it, a line of JSON for each. A Parquet file has its columns by
-/// its GeoParquet metadata, as `checked_columns` answers them, and behind their lines a line for each check that does not hold; or, where it has no such metadata and a column
-/// holds geometries, the line of a warning. `file` is the name that the lines give the file, if any. With `infer`, a column without an extension name is
-/// taken for what is inferred from its data type. Errs as `columns_in` of `column_files` does.
+/// The report of a file, from its bytes: what each of its columns holds and what is doubtful of it, a line of JSON for each. A Parquet file has its
+/// columns by its GeoParquet metadata, as `checked_columns` answers them, and behind their lines a line for each check that does not hold; or,
+/// where it has no such metadata and a column holds geometries, the line of a warning. `file` is the name that the lines give the file, if any.
+/// With `infer`, a column without an extension name is taken for what is inferred from its data type. Errs as `columns_in` of `column_files` does.
 ///
 /// ```rust
 /// let report = report_file(alloc, None, br#"{"name":"id","nullable":true,"type":"int64"}"#, false);
