@@ -187,7 +187,7 @@ fn padded(alloc: Global, len: usize) -> Result<Vec<u8>, AllocError> {
     let mut text = Vec::new(alloc);
     text.extend_from_slice(&LINES[..FIRST])?;
     text.extend_from_slice(b"{\"name\":\"c\",\"nullable\":false,\"type\":\"null\"}")?;
-    text.resize(FIRST + len, b' ')?;
+    text.resize(FIRST.saturating_add(len), b' ')?;
     Ok(text)
 }
 

@@ -4,6 +4,7 @@
 mod columns;
 mod fault;
 mod form;
+pub mod laws;
 mod line;
 mod lines;
 mod reading;

@@ -20,8 +20,8 @@ use std::io::Read;
 /// The greatest number of bytes in a line of a source, its line feed not among them.
 pub const MAX_LINE_BYTES: usize = 1_048_576;
 
-/// The columns that the lines of a source denote (docs/FORMAT.md, 2.7), one after another. What is held in memory does not grow with the number
-/// of lines: it is at most the longest of them, and 65,536 bytes more.
+/// The columns that the lines of a source denote (docs/FORMAT.md, 2.7), one after another. What is held in memory does not grow with the
+/// number of lines: it is a line that is not whole yet, and the 65,536 bytes that are read at a time, in a buffer of at most twice their size.
 ///
 /// ```rust
 /// let text = b"{\"name\":\"a\",\"nullable\":true,\"type\":\"int64\"}\n[]\n".as_slice();

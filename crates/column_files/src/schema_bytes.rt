@@ -20,8 +20,14 @@ const ARROW_TAIL: u64 = 10;
 
 const PARQUET_TAIL: u64 = 8;
 
-/// The first eight bytes of a source, from which `form_of` tells the format; all of them, where there are fewer. Errs where the source fails, and
-/// when out of memory.
+/// The first eight bytes of a source, from which `form_of` tells the format; all of them, where there are fewer. Errs where the source fails,
+/// and when out of memory.
+///
+/// ```rust
+/// let mut source = b"PAR1".as_slice();
+/// let head = read_head(alloc, &mut source);
+/// assert!(rt; matches!(head, Ok(head) if head.as_slice() == b"PAR1".as_slice()));
+/// ```
 pub fn read_head<R: Read>(alloc: Global, source: &mut R) -> Result<Vec<u8>, ReadFault>
     ensures ok { IfOk result (λ head. GivesUpTo 8 (R.remaining source.old) (R.remaining source.new) head.items) }
     ensures err { IfErr result IsReadError }
@@ -31,8 +37,16 @@ pub fn read_head<R: Read>(alloc: Global, source: &mut R) -> Result<Vec<u8>, Read
     Ok(head)
 }
 
-/// The bytes from which `columns_of` reads the columns of a source in that format, whose first bytes are `head`, as `read_head` gives them: of a stream
-/// the first message, with the eight bytes before it, and of another format all bytes. Errs where the source fails, and when out of memory.
+/// The bytes from which `columns_of` reads the columns of a source in that format, whose first bytes are `head`, as `read_head` gives them: of
+/// a stream the first message, with the eight bytes before it, and of another format all bytes. Errs where the source fails, and when out of
+/// memory.
+///
+/// ```rust
+/// let mut source = b"\xff\xff\xff\xff\x02\0\0\0abcdef".as_slice();
+/// let Ok(head) = read_head(alloc, &mut source) else { return Ok(()); };
+/// let read = read_schema_bytes(form_of(head.as_slice()), head, &mut source);
+/// assert!(rt; matches!(read, Ok(bytes) if bytes.as_slice() == b"\xff\xff\xff\xff\x02\0\0\0ab".as_slice()));
+/// ```
 pub fn read_schema_bytes<R: Read>(
     form: Form,
     head: Vec<u8>,
