@@ -31,6 +31,12 @@ pub struct Want {
 /// What the words ask: flags, `--expect` with the `COLUMN=WANT` behind it, and files; or why they are refused: a word that begins with `--` is
 /// unknown, with the known word that is nearest to it; `--expect` without a `COLUMN=WANT` behind it; flags that exclude one another; no file, or several
 /// with `--ipc`. With `--help` or `--version` only the first two count. Errs only when out of memory.
+///
+/// ```rust
+/// let words = vec![in alloc; String::from_str(alloc, "--jsno")?]?;
+/// let reason = "--jsno is unknown; --json is near it";
+/// assert!(rt; matches!(asked_by(alloc, words.as_slice())?, Err(text) if text.as_str() == reason));
+/// ```
 pub fn asked_by(alloc: Global, words: &[String]) -> Result<Result<Asked, String>, AllocError>
     ensures { IfOk result (IsAnswer (map string_bytes words.now)) }
 {

@@ -7,6 +7,7 @@ ghost use Rattle.geoparquet.specs.Values.{at, text_of_value};
 ghost use Rattle.report_words.specs.Crs.{in_id, code_shown, identifier_shown, name_shown, value_shown, crs_name};
 
 use crate::text::{first_shown, shown};
+use geoparquet::text_in;
 use serde_json::Value;
 use std::alloc::{AllocError, Global};
 
@@ -35,16 +36,6 @@ fn member_at<'v>(value: Option<&'v Value>, key: &str) -> Option<&'v Value>
 {
     match value {
         Some(value) => value.get(key),
-        None => None,
-    }
-}
-
-/// The text of a value, where it is one.
-fn text_in(value: Option<&Value>) -> Option<&str>
-    ensures { text_of result ≡ text_of_value (option_map (λ v. view v.now) value.entry) }
-{
-    match value {
-        Some(value) => value.as_str(),
         None => None,
     }
 }
