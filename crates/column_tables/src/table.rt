@@ -5,6 +5,9 @@ ghost use Rattle.column_tables.specs.Table.{line_of, head, width, rooms_of, padd
 use crate::Row;
 use std::alloc::{AllocError, Global};
 
+/// How many bytes a line has room for before it grows.
+const LINE_BYTES: usize = 120;
+
 /// How many characters the widest cell of each column has, but for the last column.
 #[derive(Debug, Clone, Copy)]
 pub(crate) struct Rooms {
@@ -98,7 +101,7 @@ fn push_row(alloc: Global, text: &mut String, rooms: Rooms, row: &Row) -> Result
 fn cells_text(alloc: Global, rooms: Rooms, row: &Row) -> Result<String, AllocError>
     ensures { IfOk result (λ text. string_bytes text ≡ cells_text rooms (line_of row.now)) }
 {
-    let mut text = String::new(alloc);
+    let mut text = String::with_capacity(alloc, LINE_BYTES)?;
     push_padded(&mut text, rooms.name, row.name.as_str())?;
     push_padded(&mut text, rooms.holds, row.holds.as_str())?;
     push_padded(&mut text, rooms.crs, row.crs.as_str())?;

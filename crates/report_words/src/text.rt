@@ -53,7 +53,7 @@ fn characters_of(alloc: Global, text: &str) -> Result<Vec<char>, AllocError>
 fn marked(alloc: Global, mark: char, characters: &[char]) -> Result<String, AllocError>
     ensures { IfOk result (λ s. string_bytes s ≡ encode_utf8_all (map (shown_as mark) characters.now)) }
 {
-    let mut text = String::new(alloc);
+    let mut text = String::with_capacity(alloc, characters.len())?;
     for character in characters {
         text.push(shown_as(mark, *character))?;
     }
