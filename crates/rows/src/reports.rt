@@ -5,6 +5,7 @@ use column_check::{Finding, check_column, warnings};
 use column_files::{FileFault, columns_in};
 use column_reports::{reason_words, warning_words};
 use file_reports::report_file;
+use parquet_schema::SchemaError;
 use std::alloc::{AllocError, Global};
 
 /// Says the answer to a text under a command. Errs when out of memory before the call.
@@ -78,7 +79,7 @@ fn words(it: &mut Asked<'_>, words: Result<Vec<String>, FileFault>) {
 /// Says why a file is not read.
 fn say_fault(it: &mut Asked<'_>, fault: &FileFault) {
     match fault {
-        FileFault::OutOfMemory => it.said.fail(),
+        FileFault::OutOfMemory | FileFault::Parquet(SchemaError::OutOfMemory) => it.said.fail(),
         fault => it.said.name(fault),
     }
 }
