@@ -8,4 +8,4 @@ mod members;
 mod text;
 
 pub use crs::{crs_text, crs_text_with_scratch};
-pub use text::{member_text, member_text_with_scratch};
+pub use text::{member_text, member_text_with_scratch, member_texts};

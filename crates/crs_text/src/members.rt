@@ -1,4 +1,4 @@
-//! A walk over the members of an object, by their tokens and by their places in the text.
+//! Walks over the members of an object, by their tokens and by their places in the text.
 ghost use Rattle.std.specs.Prelude.{◌≡◌, ◌≤◌, ◌<◌, length, Bool, List, ℕ, Some, None, IfSome, IfOk, OnErr, OnOk, true, false};
 ghost use Rattle.json.specs.Json.{read_key};
 ghost use Rattle.serde_json.specs.Data.{Data, Members, no_members};
@@ -8,9 +8,12 @@ ghost use Rattle.value_tokens.specs.Next.{next_value, next_members};
 ghost use Rattle.value_places.specs.Lexemes.{tokens_left};
 ghost use Rattle.value_places.specs.Values.{EndsValue};
 ghost use Rattle.crs_text.specs.Members.{Member, AreMembers, IsLast};
-ghost use Rattle.crs_text.specs.MemberText.{Denotes, IsValueAt};
+ghost use Rattle.crs_text.specs.MemberText.{Denotes, IsValueAt, AreTextsOf};
+ghost use Rattle.value_tokens.specs.declared.refusal.Refusal.TheVariants.{Text};
 
 use json::Reader;
+use std::alloc::Global;
+use std::collections::BTreeMap;
 use value_places::{member_value, value_end};
 use value_tokens::{Refusal, skip_value};
 
@@ -47,6 +50,32 @@ pub(crate) fn take_members(
         }
     }
     Ok(found)
+}
+
+/// Takes the members that are left of an object, and returns the text of the last value of each key. They begin at byte `from`. Errs
+/// where they are no JSON, and when out of memory.
+pub(crate) fn take_texts<'a>(
+    alloc: Global,
+    text: &'a str,
+    from: usize,
+    reader: &mut Reader<'_>,
+    depth: usize,
+) -> Result<BTreeMap<String, &'a str>, Refusal>
+    requires within { from ≤ length text.now }
+    requires begins { reader.old ≡ tokens_left false text.now from }
+    requires shallow { depth ≤ max_depth }
+    ensures ok { IfOk result (λ texts. AreTextsOf depth text.now from reader.old reader.new texts) }
+    ensures refused { result ≡ Err Text → next_members depth no_members reader.old ≡ None }
+{
+    let mut at = from;
+    let mut texts = BTreeMap::new(alloc);
+    'members: while let Some(name) = reader.next_key()? {
+        let key = String::from_str(alloc, name)?;
+        let value = take_value(text, at, reader, depth)?;
+        at = value.to;
+        drop(texts.insert(key, &text[value.from..value.to])?);
+    }
+    Ok(texts)
 }
 
 // Takes the value of the member at byte `at`, whose key was taken, and returns where it is.

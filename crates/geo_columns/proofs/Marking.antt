@@ -1,47 +1,27 @@
 -- The columns by GeoParquet metadata, one after another.
-use Rattle.std.proofs.Common.{◌≡◌, Bool, true, false, List, [], ◌∷◌, ◌++◌, Option, None, Some, is_some, bytes_eq, inl, inr, refl, sym, ap, ◌∙◌, subst, append_assoc, true≢false, if◌then◌else◌, Result, Ok, Err, IfOk, map}
+use Rattle.std.proofs.Common.{◌≡◌, Bool, true, false, cond, List, [], ◌∷◌, ◌++◌, Option, None, Some, String, Global, codes, bytes_eq, inl, inr, refl, sym, ap, ◌∙◌, subst, append_assoc, true≢false, if◌then◌else◌, Result, Ok, Err, IfOk, map, option_map, string_bytes}
+use Rattle.std.specs.Borrow.{Bor}
+use Rattle.std.specs.BTreeMap.{BTreeMap, get_by_text, UpdatesBy}
+use Rattle.std.specs.Cmp.Lexicographic.{slice_cmp}
+use Rattle.std.specs.Ordering.{nat_cmp}
+use Rattle.std.specs.String.{string_cmp}
 use Rattle.std.proofs.lemmas.List.{append-nil, map-append}
+use Rattle.std.proofs.lemmas.Map.Text.{btree_map_updates_text}
+use Rattle.std.proofs.lemmas.Slice.Eq.{bytes_eq-Decides}
 use Rattle.std.specs.declared.alloc.AllocError.{AllocError}
 use Rattle.arrow_values.specs.Tree.{Text}
 use Rattle.arrow_columns.specs.Column.{ColumnTree, column_tree}
 use Rattle.arrow_columns.specs.declared.column.Column.{Column}
+use Rattle.crs_text.specs.MemberText.{text_in}
 use Rattle.geoarrow_layout.specs.declared.names.ExtensionName.{ExtensionName}
+use Rattle.geoparquet.specs.Checks.{value_of}
 use Rattle.geoparquet.specs.Roots.{first_of}
+use Rattle.geoparquet.specs.Values.{at, text_of_value}
+use Rattle.geoparquet.specs.Encodings.{IsEncodedAs}
 use Rattle.serde_json.specs.Data.{Data}
-use Rattle.geo_columns.specs.Extensions.{member_named, IsExtensionText}
-use Rattle.geo_columns.specs.GeoColumns.{IsNamed, extended, IsGeoColumn, AreGeoColumnsFrom, AreGeoColumns}
-
--- ---- the names stay
-
-name_stays : (geo : Text) (before : List ColumnTree) (c d : ColumnTree) → IsGeoColumn geo before c d → d.name ≡ c.name
-name_stays geo before c d (inl is) = ap (λ (x : ColumnTree). x.name) is.4
-name_stays geo before c d (inr is) = ap (λ (x : ColumnTree). x.name) is.1
-
-found_alike : (b : Bool) (c d : ColumnTree) (x y : Option ColumnTree) → is_some x ≡ is_some y → is_some (if b then Some c else x) ≡ is_some (if b then Some d else y)
-found_alike true c d x y e = refl
-found_alike false c d x y e = e
-
-first_alike : (geo name : Text) (before cs ds : List ColumnTree) → AreGeoColumnsFrom geo before cs ds → is_some (first_of cs name) ≡ is_some (first_of ds name)
-first_alike geo name before [] [] are = refl
-first_alike geo name before (c ∷ cs) (d ∷ ds) are =
-    subst (λ b. is_some (first_of (c ∷ cs) name) ≡ is_some (if b then Some d else first_of ds name)) (sym (ap (λ n. bytes_eq n name) (name_stays geo before c d are.0)))
-    (found_alike (bytes_eq c.name name) c d (first_of cs name) (first_of ds name) (first_alike geo name (before ++ c ∷ []) cs ds are.1))
-first_alike geo name before [] (d ∷ ds) are = absurd are
-first_alike geo name before (c ∷ cs) [] are = absurd are
-
-none_alike : (x y : Option ColumnTree) → is_some x ≡ is_some y → x ≡ None → y ≡ None
-none_alike x None e none = refl
-none_alike x (Some d) e none = absurd (true≢false (sym e ∙ ap is_some none))
-
--- ---- a column behind those that were made is one behind those that they were made of
-
-module _ (member : Option Data) (before after : List ColumnTree) (c : ColumnTree) (n : ExtensionName) (alike : is_some (first_of before c.name) ≡ is_some (first_of after c.name)) where
-  named_behind : IsNamed member before c n → IsNamed member after c n
-  named_behind named = record { unnamed = named.unnamed; first = none_alike (first_of before c.name) (first_of after c.name) alike named.first; encoded = named.encoded }
-
-behind : (geo : Text) (before after : List ColumnTree) (c d : ColumnTree) → is_some (first_of before c.name) ≡ is_some (first_of after c.name) → IsGeoColumn geo before c d → IsGeoColumn geo after c d
-behind geo before after c d alike (inl is) = inl (is.0, is.1, named_behind (member_named geo c.name) before after c is.0 alike is.2, is.3, is.4)
-behind geo before after c d alike (inr is) = inr ((λ n named. is.0 n (named_behind (member_named geo c.name) after before c n (sym alike) named)), is.1)
+use Rattle.serde_json.specs.Find.{get}
+use Rattle.geo_columns.specs.Extensions.{member_named, IsTextOfMember, IsColumnText, AreColumnTexts}
+use Rattle.geo_columns.specs.GeoColumns.{IsNamed, IsNameFor, extended, IsGeoColumn, IsGeoColumnOf, IsTextLeft, AreGeoColumnsFrom, AreGeoColumns}
 
 -- ---- one more column
 
@@ -52,20 +32,78 @@ one_behind geo before (x ∷ cs) (y ∷ ds) c d are is =
 one_behind geo before [] (y ∷ ds) c d are is = absurd are
 one_behind geo before (x ∷ cs) [] c d are is = absurd are
 
-pub one_more : (geo : Text) (cs ds : List ColumnTree) (c d : ColumnTree) → AreGeoColumns geo cs ds → IsGeoColumn geo ds c d → AreGeoColumns geo (cs ++ c ∷ []) (ds ++ d ∷ [])
-one_more geo cs ds c d are is = one_behind geo [] cs ds c d are (behind geo ds cs c d (sym (first_alike geo c.name [] cs ds are)) is)
-
-pub one_pushed : (geo : Text) (cs ds after : List Column) (c d : Column) → AreGeoColumns geo (map column_tree cs) (map column_tree ds) → IsGeoColumn geo (map column_tree ds) (column_tree c) (column_tree d)
+pub one_pushed : (geo : Text) (cs ds after : List Column) (c d : Column) → AreGeoColumns geo (map column_tree cs) (map column_tree ds) → IsGeoColumn geo (map column_tree cs) (column_tree c) (column_tree d)
     → after ≡ ds ++ d ∷ [] → AreGeoColumns geo (map column_tree (cs ++ c ∷ [])) (map column_tree after)
 one_pushed geo cs ds after c d are is pushed =
-    let more = one_more geo (map column_tree cs) (map column_tree ds) (column_tree c) (column_tree d) are is in
+    let more = one_behind geo [] (map column_tree cs) (map column_tree ds) (column_tree c) (column_tree d) are is in
     let sources = subst (λ xs. AreGeoColumns geo xs (map column_tree ds ++ column_tree d ∷ [])) (sym (map-append column_tree cs (c ∷ []))) more in
     let results = subst (λ xs. AreGeoColumns geo (map column_tree (cs ++ c ∷ [])) xs) (sym (map-append column_tree ds (d ∷ []))) sources in
     subst (λ xs. AreGeoColumns geo (map column_tree (cs ++ c ∷ [])) (map column_tree xs)) (sym pushed) results
 
+-- ---- a column by the text that is left for it
+
+no_encoding : (member : Option Data) (n : ExtensionName) (c : ColumnTree) → member ≡ None → IsEncodedAs (text_of_value (at (codes "encoding") member)) n c → ⊥
+no_encoding None n c none is = is
+no_encoding (Some d) n c none is = absurd (cc)
+
+geo_column_at : (geo : Text) (before : List ColumnTree) (c d : ColumnTree) (o : Option Text) → IsTextLeft geo before c.name o → IsGeoColumnOf (value_of geo) o c d → IsGeoColumn geo before c d
+geo_column_at geo before c d None left is = inr ((λ n named. no_encoding (member_named geo c.name) n c (left named.first) named.encoded), is)
+geo_column_at geo before c d (Some written) left (inl is) =
+    inl (is.0, is.1, record { unnamed = is.2.0; first = left.0; encoded = is.2.1 }, (is.3.0, (left.1.0, written, left.1.1, left.1.2, is.3.1), is.3.2), is.4)
+geo_column_at geo before c d (Some written) left (inr is) = inr ((λ n named. is.0 n named.unnamed named.encoded), is.1)
+
+pub geo_column_of : (geo : Text) (before : List ColumnTree) (c d : ColumnTree) (value : Data) (o : Option Text) → value ≡ value_of geo → IsTextLeft geo before c.name o → IsGeoColumnOf value o c d → IsGeoColumn geo before c d
+geo_column_of geo before c d value o read left is = geo_column_at geo before c d o left (subst (λ v. IsGeoColumnOf v o c d) read is)
+
+-- ---- the texts that are left behind a column
+
+behind_step : (b : Bool) (x : ColumnTree) (later now : Option ColumnTree) (other : Type 0) → (later ≡ None → other × (now ≡ None)) → (if b then Some x else later) ≡ None → other × ((if b then Some x else now) ≡ None)
+behind_step true x later now other h none = absurd (cc)
+behind_step false x later now other h none = h none
+
+last_other : (b : Bool) (c : ColumnTree) → (if b then Some c else None) ≡ None → b ≡ false
+last_other true c none = absurd (cc)
+last_other false c none = refl
+
+first_behind : (name : Text) (before : List ColumnTree) (c : ColumnTree) → first_of (before ++ c ∷ []) name ≡ None → (bytes_eq c.name name ≡ false) × (first_of before name ≡ None)
+first_behind name [] c none = (last_other (bytes_eq c.name name) c none, refl)
+first_behind name (x ∷ before) c none = behind_step (bytes_eq x.name name) x (first_of (before ++ c ∷ []) name) (first_of before name) (bytes_eq c.name name ≡ false) (first_behind name before c) none
+
+stays_step : (b : Bool) (x : ColumnTree) (later now : Option ColumnTree) → (now ≡ None → later ≡ None) → (if b then Some x else now) ≡ None → (if b then Some x else later) ≡ None
+stays_step true x later now h none = absurd (cc)
+stays_step false x later now h none = h none
+
+first_stays : (name : Text) (before : List ColumnTree) (c : ColumnTree) → bytes_eq c.name name ≡ false → first_of before name ≡ None → first_of (before ++ c ∷ []) name ≡ None
+first_stays name [] c other none = rw other
+first_stays name (x ∷ before) c other none = stays_step (bytes_eq x.name name) x (first_of (before ++ c ∷ []) name) (first_of before name) (first_stays name before c other) none
+
+left_other : (geo name : Text) (before : List ColumnTree) (c : ColumnTree) (o : Option Text) → bytes_eq c.name name ≡ false → IsTextLeft geo before name o → IsTextLeft geo (before ++ c ∷ []) name o
+left_other geo name before c None other left = λ none. left (first_behind name before c none).1
+left_other geo name before c (Some written) other left = (first_stays name before c other left.0, left.1)
+
+left_step : (geo name : Text) (before : List ColumnTree) (c : ColumnTree) (b : Bool) (o : Option (Bor Text)) → bytes_eq c.name name ≡ b → IsTextLeft geo before name (option_map (λ t. t.now) o)
+    → IsTextLeft geo (before ++ c ∷ []) name (option_map (λ t. t.now) (cond b None o))
+left_step geo name before c true o same left = λ none. absurd (true≢false (sym same ∙ (first_behind name before c none).0))
+left_step geo name before c false o other left = left_other geo name before c (option_map (λ t. t.now) o) other left
+
+pub left_behind : (geo : Text) (before : List Column) (c : Column) (m n : BTreeMap (String Global) (Bor Text)) → UpdatesBy string_cmp (λ k. slice_cmp nat_cmp (column_tree c).name (string_bytes k)) m n None
+    → ((name : Text) → IsTextLeft geo (map column_tree before) name (text_in m name)) → (name : Text) → IsTextLeft geo (map column_tree (before ++ c ∷ [])) name (text_in n name)
+left_behind geo before c m n taken left name =
+    let step = left_step geo name (map column_tree before) (column_tree c) (bytes_eq (column_tree c).name name) (get_by_text m name) refl (left name) in
+    let now = subst (λ o. IsTextLeft geo (map column_tree before ++ column_tree c ∷ []) name (option_map (λ t. t.now) o)) (sym (btree_map_updates_text (column_tree c).name m n None taken name)) step in
+    subst (λ cs. IsTextLeft geo cs name (text_in n name)) (sym (map-append column_tree before (c ∷ []))) now
+
+-- before the first column
+pub left_first : (geo : Text) (texts : BTreeMap (String Global) (Bor Text)) → AreColumnTexts geo texts → (name : Text) → IsTextLeft geo [] name (text_in texts name)
+left_first geo texts are name = first_step (text_in texts name) (are name)
+  where
+    first_step : (o : Option Text) → IsColumnText geo name o → IsTextLeft geo [] name o
+    first_step None none = λ _. none
+    first_step (Some written) is = (refl, is)
+
 -- ---- a column that takes an extension name
 
-pub made : (geo : Text) (before : List ColumnTree) (c : ColumnTree) (n : ExtensionName) (text : Text) (r : Result Column AllocError) → IsNamed (member_named geo c.name) before c n → IsExtensionText geo c.name text
-    → IfOk r (λ new. column_tree new ≡ extended n text c) → IfOk r (λ new. IsGeoColumn geo before c (column_tree new))
-made geo before c n text (Ok new) named is e = inl (n, text, named, is, e)
-made geo before c n text (Err error) named is e = tt
+pub made : (value : Data) (written : Text) (c : ColumnTree) (n : ExtensionName) (text : Text) (r : Result Column AllocError) → IsNameFor (at c.name (get (codes "columns") value)) c (Some n)
+    → IsTextOfMember written (at c.name (get (codes "columns") value)) text → IfOk r (λ new. column_tree new ≡ extended n text c) → IfOk r (λ new. IsGeoColumnOf value (Some written) c (column_tree new))
+made value written c n text (Ok new) named is e = inl (n, text, named, is, e)
+made value written c n text (Err error) named is e = tt

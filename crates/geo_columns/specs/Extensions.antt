@@ -1,12 +1,15 @@
 -- The extension metadata that GeoParquet metadata give a column (GeoParquet 1.1, "Column metadata").
-use Rattle.std.specs.Prelude.{◌≡◌, [], ◌∷◌, codes, bytes_eq, List, Option, None, Some, if◌then◌else◌}
+use Rattle.std.specs.Prelude.{◌≡◌, [], ◌∷◌, codes, bytes_eq, List, Option, None, Some, String, if◌then◌else◌}
+use Rattle.std.specs.Borrow.{Bor}
+use Rattle.std.specs.BTreeMap.{BTreeMap}
+use Rattle.std.specs.declared.alloc.Global.{Global}
 use Rattle.json.specs.Token.{Token, string, null}
 use Rattle.json.specs.Lex.{tokens}
 use Rattle.json.specs.Print.{print}
 use Rattle.serde_json.specs.Data.{Data}
 use Rattle.serde_json.specs.Find.{get}
 use Rattle.arrow_values.specs.Tree.{Text}
-use Rattle.crs_text.specs.MemberText.{IsMemberText}
+use Rattle.crs_text.specs.MemberText.{IsMemberText, text_in}
 use Rattle.geoarrow_meta.specs.declared.edges.Edges.{Edges}
 use Rattle.geoarrow_meta.specs.declared.edges.Edges.TheVariants.{Spherical}
 use Rattle.geoarrow_meta.specs.declared.crs.crs_type.CrsType.{CrsType}
@@ -48,3 +51,18 @@ text_with crs edges = print (metadata_tokens crs.tokens crs.crs_type edges)
 -- the text is that of the extension metadata which the column with that name has by its member
 abbrev pub IsExtensionText : Text → Text → Text → Type 0
 IsExtensionText geo name text = (crs : Option Text) × IsCrsWritten geo name crs × (text ≡ text_with (crs_of crs) (edges_of (text_of_value (at (codes "edges") (member_named geo name)))))
+
+-- ---- for private contracts
+
+-- the text of the member of `columns` with that name, as it is written in the metadata, if there is one
+abbrev pub IsColumnText : Text → Text → Option Text → Type 0
+IsColumnText geo name None = member_named geo name ≡ None
+IsColumnText geo name (Some member) = (columns : Text) × IsMemberText (codes "columns") geo (Some columns) × IsMemberText name columns (Some member)
+
+-- these are the texts of all members of `columns`
+abbrev pub AreColumnTexts : Text → BTreeMap (String Global) (Bor Text) → Type 0
+AreColumnTexts geo texts = (name : Text) → IsColumnText geo name (text_in texts name)
+
+-- the text is that of the extension metadata by a member, as a text and as a value
+abbrev pub IsTextOfMember : Text → Option Data → Text → Type 0
+IsTextOfMember written member text = (crs : Option Text) × IsMemberText (codes "crs") written crs × (text ≡ text_with (crs_of crs) (edges_of (text_of_value (at (codes "edges") member))))

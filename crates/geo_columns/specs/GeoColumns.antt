@@ -1,6 +1,7 @@
 -- The columns of a file with GeoParquet metadata (docs/FORMAT.md, 5.2).
 use Rattle.std.specs.Prelude.{◌≡◌, ◌⊎◌, ⊤, List, [], ◌∷◌, ◌++◌, codes, Option, None, Some}
 use Rattle.serde_json.specs.Data.{Data}
+use Rattle.serde_json.specs.Find.{get}
 use Rattle.arrow_values.specs.Tree.{Text}
 use Rattle.arrow_values.specs.Texts.{set_extension}
 use Rattle.arrow_columns.specs.Column.{ColumnTree, name_on}
@@ -9,7 +10,7 @@ use Rattle.geoarrow_layout.specs.declared.names.ExtensionName.{ExtensionName}
 use Rattle.geoparquet.specs.Encodings.{IsEncodedAs}
 use Rattle.geoparquet.specs.Roots.{first_of}
 use Rattle.geoparquet.specs.Values.{at, text_of_value}
-use Rattle.geo_columns.specs.Extensions.{member_named, IsExtensionText}
+use Rattle.geo_columns.specs.Extensions.{member_named, IsExtensionText, IsColumnText, IsTextOfMember}
 
 -- the column, of which the metadata have that member, takes that extension name by its encoding: it has none, no column before it has its name, and the rule
 -- `GeoEncoding` holds of the member and it
@@ -38,7 +39,21 @@ AreGeoColumnsFrom geo before _ _ = ⊥
 abbrev pub AreGeoColumns : Text → List ColumnTree → List ColumnTree → Type 0
 AreGeoColumns geo cs ds = AreGeoColumnsFrom geo [] cs ds
 
--- for private contracts: the extension name that a column takes, if it takes one
-abbrev pub IsNameFor : Option Data → List ColumnTree → ColumnTree → Option ExtensionName → Type 0
-IsNameFor member before c None = (n : ExtensionName) → ¬ IsNamed member before c n
-IsNameFor member before c (Some n) = IsNamed member before c n
+-- ---- for private contracts
+
+-- the extension name that a column takes by its member, if it takes one, where it is the first of its name
+abbrev pub IsNameFor : Option Data → ColumnTree → Option ExtensionName → Type 0
+IsNameFor member c None = (n : ExtensionName) → (name_on c ≡ None) → ¬ IsEncodedAs (text_of_value (at (codes "encoding") member)) n c
+IsNameFor member c (Some n) = (name_on c ≡ None) × IsEncodedAs (text_of_value (at (codes "encoding") member)) n c
+
+-- what becomes of a column by that text of its member, where the metadata are that value: without a text it is as it was
+abbrev pub IsGeoColumnOf : Data → Option Text → ColumnTree → ColumnTree → Type 0
+IsGeoColumnOf value None c d = d ≡ c
+IsGeoColumnOf value (Some written) c d =
+    ((n : ExtensionName) × (text : Text) × IsNameFor (at c.name (get (codes "columns") value)) c (Some n) × IsTextOfMember written (at c.name (get (codes "columns") value)) text × (d ≡ extended n text c))
+    ⊎ (IsNameFor (at c.name (get (codes "columns") value)) c None × (d ≡ c))
+
+-- the text that is left for the columns of a name behind those: that of their member before the first column of the name, and none behind it or where there is no member
+abbrev pub IsTextLeft : Text → List ColumnTree → Text → Option Text → Type 0
+IsTextLeft geo before name None = (first_of before name ≡ None) → member_named geo name ≡ None
+IsTextLeft geo before name (Some written) = (first_of before name ≡ None) × IsColumnText geo name (Some written)

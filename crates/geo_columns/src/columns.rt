@@ -1,14 +1,14 @@
 //! The columns of a file with GeoParquet metadata.
-ghost use Rattle.std.specs.Prelude.{◌≡◌, IfOk, map, option_map};
+ghost use Rattle.std.specs.Prelude.{IfOk, map, option_map};
 ghost use Rattle.serde_json.specs.View.{view};
 ghost use Rattle.arrow_columns.specs.Column.{column_tree};
-ghost use Rattle.geoparquet.specs.Checks.{value_of};
-ghost use Rattle.geo_columns.specs.GeoColumns.{IsGeoColumn, AreGeoColumns, IsNameFor};
+ghost use Rattle.arrow_values.specs.Texts.{text_of};
+ghost use Rattle.geo_columns.specs.GeoColumns.{AreGeoColumns, IsGeoColumnOf, IsNameFor};
 
-use crate::extension::{extension_text, text_at};
+use crate::extension::{column_texts, extension_text, text_at};
 use arrow_columns::Column;
 use geoarrow_layout::ExtensionName;
-use geoparquet::{encoded_as, first_named, member_of_column, value_of};
+use geoparquet::{encoded_as, member_of_column, value_of};
 use json::Scratch;
 use metadata_text::with_extension;
 use serde_json::Value;
@@ -20,7 +20,7 @@ use std::alloc::{AllocError, Global};
 /// PROJJSON are those that the text has, so each number stays as it is written. All else, every other column and the order are as they were. A text
 /// that is no JSON object changes nothing. Errs only when out of memory.
 ///
-/// Takes time that grows with the length of the text, once and again for each column that changes.
+/// Takes time that grows with the length of the text and the number of columns, times the logarithm of the number of members of `columns`.
 ///
 /// ```rust
 /// let column = Column {
@@ -44,43 +44,43 @@ pub fn geo_columns(
 {
     let value = value_of(alloc, geo)?;
     let mut scratch = Scratch::new(alloc);
+    let mut members = column_texts(alloc, geo, &mut scratch)?;
     let mut made = Vec::new(alloc);
     for column in columns {
-        let new = geo_column(alloc, &mut scratch, geo, &value, made.as_slice(), column)?;
-        made.push(new)?;
+        let written = members.remove(column.name.as_str());
+        made.push(geo_column(alloc, &mut scratch, &value, written, column)?)?;
     }
     Ok(made)
 }
 
-/// What becomes of a column behind those. Errs only when out of memory.
+/// What becomes of a column, by the text of its member of `columns` as it is written, which only the first column of its name has. Errs
+/// only when out of memory.
 fn geo_column(
     alloc: Global,
     scratch: &mut Scratch,
-    geo: &str,
     value: &Value,
-    before: &[Column],
+    written: Option<&str>,
     column: Column,
 ) -> Result<Column, AllocError>
-    requires { view value.now ≡ value_of geo.now }
-    ensures { IfOk result (λ new. IsGeoColumn geo.now (map column_tree before.now) (column_tree column) (column_tree new)) }
+    ensures { IfOk result (λ new. IsGeoColumnOf (view value.now) (text_of written.entry) (column_tree column) (column_tree new)) }
 {
-    let member = member_of_column(value, column.name.as_str());
-    let Some(name) = name_for(member, before, &column) else {
+    let Some(written) = written else {
         return Ok(column);
     };
-    let text = extension_text(alloc, scratch, geo, column.name.as_str(), member)?;
+    let member = member_of_column(value, column.name.as_str());
+    let Some(name) = name_for(member, &column) else {
+        return Ok(column);
+    };
+    let text = extension_text(alloc, scratch, written, member)?;
     with_extension(alloc, column, name.as_text(), text)
 }
 
-/// The extension name that a column behind those takes by its member of `columns`.
-fn name_for(member: Option<&Value>, before: &[Column], column: &Column) -> Option<ExtensionName>
-    ensures { IsNameFor (option_map (λ v. view v.now) member.entry) (map column_tree before.now) (column_tree column.now) result }
+/// The extension name that a column, the first of its name, takes by its member of `columns`.
+fn name_for(member: Option<&Value>, column: &Column) -> Option<ExtensionName>
+    ensures { IsNameFor (option_map (λ v. view v.now) member.entry) (column_tree column.now) result }
 {
     let name = encoded_as(text_at(member, "encoding"), column)?;
-    if column.extension_type_name().is_some() {
-        return None;
-    }
-    match first_named(before, column.name.as_str()) {
+    match column.extension_type_name() {
         Some(_) => None,
         None => Some(name),
     }

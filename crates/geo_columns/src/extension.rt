@@ -1,37 +1,34 @@
 //! The extension metadata that the metadata at the key `geo` give a column (docs/FORMAT.md, 5.2).
-ghost use Rattle.std.specs.Prelude.{◌≡◌, Some, IfOk, IsSome, option_map, string_bytes};
+ghost use Rattle.std.specs.Prelude.{◌≡◌, Some, IfOk, option_map, string_bytes};
 ghost use Rattle.serde_json.specs.View.{view};
 ghost use Rattle.arrow_values.specs.Texts.{text_of};
 ghost use Rattle.geoparquet.specs.Values.{at, text_of_value};
-ghost use Rattle.geo_columns.specs.Extensions.{member_named, IsCrsWritten, crs_of, edges_of, text_with, IsExtensionText};
+ghost use Rattle.geo_columns.specs.Extensions.{AreColumnTexts, crs_of, edges_of, text_with, IsTextOfMember};
 
-use crs_text::member_text_with_scratch;
+use crs_text::{member_text_with_scratch, member_texts};
 use geoarrow_meta::{CrsType, Edges};
 use geoparquet::text_in;
 use json::Scratch;
 use metadata_text::{WrittenCrs, is_projjson, metadata_text};
 use serde_json::Value;
 use std::alloc::{AllocError, Global};
+use std::collections::BTreeMap;
 
 /// The CRS where `crs` is absent.
 const DEFAULT_CRS: &str = "OGC:CRS84";
 
-/// The text of the value at `crs` of the member of a column, as it is written in the metadata, if it has one. Errs only when out of memory.
-fn crs_written<'g>(
-    scratch: &mut Scratch,
+/// The texts of the members of `columns`, as they are written in the metadata, by their names. Errs only when out of memory.
+pub(crate) fn column_texts<'g>(
+    alloc: Global,
     geo: &'g str,
-    name: &str,
-) -> Result<Option<&'g str>, AllocError>
-    requires { IsSome (member_named geo.now name.now) }
-    ensures { IfOk result (λ crs. IsCrsWritten geo.now name.now (text_of crs)) }
+    scratch: &mut Scratch,
+) -> Result<BTreeMap<String, &'g str>, AllocError>
+    ensures { IfOk result (λ texts. AreColumnTexts geo.now texts) }
 {
-    let Some(columns) = member_text_with_scratch(geo, "columns", scratch)? else {
-        return Ok(None);
-    };
-    let Some(member) = member_text_with_scratch(columns, name, scratch)? else {
-        return Ok(None);
-    };
-    member_text_with_scratch(member, "crs", scratch)
+    match member_text_with_scratch(geo, "columns", scratch)? {
+        Some(columns) => member_texts(alloc, columns, scratch),
+        None => Ok(BTreeMap::new(alloc)),
+    }
 }
 
 /// The edges that a member says.
@@ -69,20 +66,17 @@ fn written_text(alloc: Global, written: &str, edges: Option<Edges>) -> Result<St
     metadata_text(alloc, WrittenCrs::Absent, None, edges)
 }
 
-/// The text of the extension metadata of the column with a name, by its member of `columns`. Errs only when out of memory.
+/// The text of the extension metadata of a column, by its member of `columns` as a text and as a value. Errs only when out of memory.
 pub(crate) fn extension_text(
     alloc: Global,
     scratch: &mut Scratch,
-    geo: &str,
-    name: &str,
+    written: &str,
     member: Option<&Value>,
 ) -> Result<String, AllocError>
-    requires named { option_map (λ v. view v.now) member ≡ member_named geo.now name.now }
-    requires there { IsSome (member_named geo.now name.now) }
-    ensures { IfOk result (λ text. IsExtensionText geo.now name.now (string_bytes text)) }
+    ensures { IfOk result (λ text. IsTextOfMember written.now (option_map (λ v. view v.now) member.entry) (string_bytes text)) }
 {
     let edges = edges_of(text_at(member, "edges"));
-    let crs = crs_written(scratch, geo, name)?;
+    let crs = member_text_with_scratch(written, "crs", scratch)?;
     text_with(alloc, crs, edges)
 }
 
