@@ -99,8 +99,8 @@ fn inputs_at_the_limits() {
 
 /// A line of the report without the name of its file.
 fn without_file(line: &str) -> String {
-    match line.split_once(r#","file":""#) {
-        Some((before, behind)) => format!("{before}{}", behind.split_once('"').unwrap().1),
+    match line.split_once(r#""file":""#) {
+        Some((before, behind)) => format!("{before}{}", behind.split_once("\",").unwrap().1),
         None => line.to_owned(),
     }
 }
