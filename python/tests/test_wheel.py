@@ -44,9 +44,8 @@ class Wheel(unittest.TestCase):
         shutil.copytree(TOP / "python", cls.folder / "top/python", ignore=shutil.ignore_patterns("__pycache__", "build"))
         for name in ("LICENSE-APACHE", "LICENSE-MIT", "NOTICE"):
             shutil.copy(TOP / name, cls.folder / "top")
-        readme = (TOP / "README.md").read_text()
-        cls.code = re.search(r"(?m)^    python -c '(.*)'$", readme)[1]
-        cls.table = re.sub("(?m)^    ", "", re.search(r"    bin/try check --infer examples/schema.jsonl\n\n((?:    .*\n)+)", readme)[1])
+        cls.code = re.search(r"(?m)^    python -c '(.*)'$", (TOP / "docs/USE.md").read_text())[1]
+        cls.table = re.sub("(?m)^    ", "", re.search(r"    bin/try check --infer examples/schema.jsonl\n\n((?:    .*\n)+)", (TOP / "README.md").read_text())[1])
         cls.before = sorted(cls.folder.rglob("*"))
         cls.environment = {**os.environ, "GEOARROW_C_LIBRARY": os.path.realpath(library.path())}
         words = [BUILDERS[-1], "-m", "pip", "wheel", "--no-build-isolation", "--no-index", "--no-deps", "-w", str(cls.folder / "wheels"), "."]
