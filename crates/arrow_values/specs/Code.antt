@@ -1,7 +1,8 @@
--- A tree as a list of marks, which gives it back: each part comes after its children.
-use Rattle.std.specs.Prelude.{◌≡◌, ℕ, zero, suc, cond, ℤ, pos, negsuc, Bool, true, false, List, [], ◌∷◌}
-use Rattle.std.proofs.Common.{refl, ◌∙◌, ap}
+-- Trees have codes: trees of numbers, different ones of different trees.
+use Rattle.std.specs.Prelude.{◌≡◌, ℕ, zero, suc, cond, ℤ, Bool, true, false, List, [], ◌∷◌}
+use Rattle.std.proofs.Common.{refl, sym, ◌∙◌, ap}
 use Rattle.std.specs.Coded.{Coded, code_by, coded×, coded_ℕ, coded_bool, coded_ℤ, coded_list}
+use base.Stored.{Gv, gnil, gnum, gcons}
 use Rattle.arrow_values.specs.declared.tree.UnionMode.{UnionMode}
 use Rattle.arrow_values.specs.declared.tree.UnionMode.TheVariants.{Sparse, Dense}
 use Rattle.arrow_values.specs.Tree.{Text, Metadata, Plain, null, boolean, int8, int16, int32, int64, uint8, uint16, uint32, uint64, float16, float32, float64, date32, date64, binary, large_binary, binary_view, utf8, large_utf8, utf8_view, Tree, plain, list, large_list, fixed_size_list, struct, union, FieldTrees, no_fields, field, MemberTrees, no_members, member, FieldTree}
@@ -61,13 +62,6 @@ plain_from-code utf8 = refl
 plain_from-code large_utf8 = refl
 plain_from-code utf8_view = refl
 
--- what a mark does, beside it a number and a field's name, nullability and metadata
-abbrev pub Mark : Type 0
-Mark = ℕ × (ℤ × (Text × (Bool × Metadata)))
-
-abbrev pub mark : ℕ → ℤ → Text → Bool → Metadata → Mark
-mark op z n b m = (op, (z, (n, (b, m))))
-
 abbrev pub is_dense : UnionMode → Bool
 is_dense Sparse = false
 is_dense Dense = true
@@ -79,104 +73,84 @@ pub mode_from-is_dense : (u : UnionMode) → mode_from (is_dense u) ≡ u
 mode_from-is_dense Sparse = refl
 mode_from-is_dense Dense = refl
 
--- the marks of a tree, before those of k
-abbrev mutual
-  pub tree_marks : Tree → List Mark → List Mark
-  tree_marks (plain p) k = mark 0 (pos (plain_code p)) [] false [] ∷ k
-  tree_marks (list n t b m) k = tree_marks t (mark 1 (pos 0) n b m ∷ k)
-  tree_marks (large_list n t b m) k = tree_marks t (mark 2 (pos 0) n b m ∷ k)
-  tree_marks (fixed_size_list n t b m s) k = tree_marks t (mark 3 s n b m ∷ k)
-  tree_marks (struct fs) k = fields_marks fs (mark 4 (pos 0) [] false [] ∷ k)
-  tree_marks (union ms mode) k = members_marks ms (mark 5 (pos 0) [] (is_dense mode) [] ∷ k)
-
-  pub fields_marks : FieldTrees → List Mark → List Mark
-  fields_marks no_fields k = mark 6 (pos 0) [] false [] ∷ k
-  fields_marks (field n t b m fs) k = fields_marks fs (tree_marks t (mark 7 (pos 0) n b m ∷ k))
-
-  pub members_marks : MemberTrees → List Mark → List Mark
-  members_marks no_members k = mark 8 (pos 0) [] false [] ∷ k
-  members_marks (member i n t b m ms) k = members_marks ms (tree_marks t (mark 9 i n b m ∷ k))
-
--- what was read last is on top; below the trees lie the fields and the members of the open lists
-pub data Read : Type 0 where
-  nothing : Read
-  a_tree : Tree → Read → Read
-  some_fields : FieldTrees → Read → Read
-  some_members : MemberTrees → Read → Read
-
-abbrev pub top_tree : Read → Tree
-top_tree nothing = plain null
-top_tree (a_tree t r) = t
-top_tree (some_fields fs r) = plain null
-top_tree (some_members ms r) = plain null
-
-abbrev top_fields : Read → FieldTrees
-top_fields nothing = no_fields
-top_fields (a_tree t r) = no_fields
-top_fields (some_fields fs r) = fs
-top_fields (some_members ms r) = no_fields
-
-abbrev top_members : Read → MemberTrees
-top_members nothing = no_members
-top_members (a_tree t r) = no_members
-top_members (some_fields fs r) = no_members
-top_members (some_members ms r) = ms
-
-abbrev below : Read → Read
-below nothing = nothing
-below (a_tree t r) = r
-below (some_fields fs r) = r
-below (some_members ms r) = r
-
-abbrev magnitude : ℤ → ℕ
-magnitude (pos n) = n
-magnitude (negsuc n) = n
-
--- one mark, by its number
-abbrev step : ℕ → ℤ → Text → Bool → Metadata → Read → Read
-step zero z n b m r = a_tree (plain (plain_from (magnitude z))) r
-step (suc zero) z n b m r = a_tree (list n (top_tree r) b m) (below r)
-step (suc (suc zero)) z n b m r = a_tree (large_list n (top_tree r) b m) (below r)
-step (suc (suc (suc zero))) z n b m r = a_tree (fixed_size_list n (top_tree r) b m z) (below r)
-step (suc (suc (suc (suc zero)))) z n b m r = a_tree (struct (top_fields r)) (below r)
-step (suc (suc (suc (suc (suc zero))))) z n b m r = a_tree (union (top_members r) (mode_from b)) (below r)
-step (suc (suc (suc (suc (suc (suc zero)))))) z n b m r = some_fields no_fields r
-step (suc (suc (suc (suc (suc (suc (suc zero))))))) z n b m r = some_fields (field n (top_tree r) b m (top_fields (below r))) (below (below r))
-step (suc (suc (suc (suc (suc (suc (suc (suc zero)))))))) z n b m r = some_members no_members r
-step (suc (suc (suc (suc (suc (suc (suc (suc (suc k))))))))) z n b m r = some_members (member z n (top_tree r) b m (top_members (below r))) (below (below r))
-
-abbrev pub run : List Mark → Read → Read
-run [] r = r
-run (x ∷ xs) r = run xs (step x.0 x.1.0 x.1.1.0 x.1.1.1.0 x.1.1.1.1 r)
-
-mutual
-  pub run-tree : (t : Tree) (k : List Mark) (r : Read) → run (tree_marks t k) r ≡ run k (a_tree t r)
-  run-tree (plain p) k r = ap (λ q. run k (a_tree (plain q) r)) (plain_from-code p)
-  run-tree (list n t b m) k r = run-tree t _ r
-  run-tree (large_list n t b m) k r = run-tree t _ r
-  run-tree (fixed_size_list n t b m s) k r = run-tree t _ r
-  run-tree (struct fs) k r = run-fields fs _ r
-  run-tree (union ms mode) k r = run-members ms _ r ∙ ap (λ u. run k (a_tree (union ms u) r)) (mode_from-is_dense mode)
-
-  run-fields : (fs : FieldTrees) (k : List Mark) (r : Read) → run (fields_marks fs k) r ≡ run k (some_fields fs r)
-  run-fields no_fields k r = refl
-  run-fields (field n t b m fs) k r = run-fields fs _ r ∙ run-tree t _ (some_fields fs r)
-
-  run-members : (ms : MemberTrees) (k : List Mark) (r : Read) → run (members_marks ms k) r ≡ run k (some_members ms r)
-  run-members no_members k r = refl
-  run-members (member i n t b m ms) k r = run-members ms _ r ∙ run-tree t _ (some_members ms r)
-
 abbrev pub text_code : Coded Text
 text_code = coded_list coded_ℕ
 
 abbrev pub metadata_code : Coded Metadata
 metadata_code = coded_list (coded× text_code text_code)
 
-abbrev pub mark_code : Coded Mark
-mark_code = coded× coded_ℕ (coded× coded_ℤ (coded× text_code (coded× coded_bool metadata_code)))
+-- the name, the nullability and the metadata of a field, whose data type stands beside them
+abbrev rest_code : Coded (Text × (Bool × Metadata))
+rest_code = coded× text_code (coded× coded_bool metadata_code)
+
+abbrev plain_coded : Coded Plain
+plain_coded = code_by ℕ coded_ℕ plain_code plain_from plain_from-code
+
+abbrev mode_coded : Coded UnionMode
+mode_coded = code_by Bool coded_bool is_dense mode_from mode_from-is_dense
+
+-- a tree by its sort and its parts
+abbrev mutual
+  tree_to : Tree → Gv
+  tree_to (plain p) = gcons gnil (plain_coded.code p)
+  tree_to (list n t b m) = gcons (gnum 0) (gcons (tree_to t) (rest_code.code (n, (b, m))))
+  tree_to (large_list n t b m) = gcons (gcons gnil gnil) (gcons (tree_to t) (rest_code.code (n, (b, m))))
+  tree_to (fixed_size_list n t b m s) = gcons (gcons (gnum 0) (coded_ℤ.code s)) (gcons (tree_to t) (rest_code.code (n, (b, m))))
+  tree_to (struct fs) = gcons (gcons (gcons gnil gnil) gnil) (fields_to fs)
+  tree_to (union ms u) = gcons (gcons (gcons gnil (gnum 0)) (mode_coded.code u)) (members_to ms)
+
+  fields_to : FieldTrees → Gv
+  fields_to no_fields = gnil
+  fields_to (field n t b m fs) = gcons (gcons (tree_to t) (rest_code.code (n, (b, m)))) (fields_to fs)
+
+  members_to : MemberTrees → Gv
+  members_to no_members = gnil
+  members_to (member i n t b m ms) = gcons (gcons (coded_ℤ.code i) (gcons (tree_to t) (rest_code.code (n, (b, m))))) (members_to ms)
+
+mutual
+  pub tree_inj : (t u : Tree) → tree_to t ≡ tree_to u → t ≡ u
+  tree_inj (plain p) (plain q) e = ap plain (plain_coded.inj p q cc)
+  tree_inj (list n t b m) (list o u c k) e =
+      let r = rest_code.inj (n, (b, m)) (o, (c, k)) cc in
+      let s = tree_inj t u cc in
+      λ i. list (r i).0 (s i) (r i).1.0 (r i).1.1
+  tree_inj (large_list n t b m) (large_list o u c k) e =
+      let r = rest_code.inj (n, (b, m)) (o, (c, k)) cc in
+      let s = tree_inj t u cc in
+      λ i. large_list (r i).0 (s i) (r i).1.0 (r i).1.1
+  tree_inj (fixed_size_list n t b m x) (fixed_size_list o u c k y) e =
+      let r = rest_code.inj (n, (b, m)) (o, (c, k)) cc in
+      let s = tree_inj t u cc in
+      let z = coded_ℤ.inj x y cc in
+      λ i. fixed_size_list (r i).0 (s i) (r i).1.0 (r i).1.1 (z i)
+  tree_inj (struct fs) (struct gs) e = ap struct (fields_inj fs gs cc)
+  tree_inj (union ms u) (union ns v) e =
+      let s = members_inj ms ns cc in
+      let w = mode_coded.inj u v cc in
+      λ i. union (s i) (w i)
+  tree_inj _ _ e = cc
+
+  fields_inj : (fs gs : FieldTrees) → fields_to fs ≡ fields_to gs → fs ≡ gs
+  fields_inj no_fields no_fields e = refl
+  fields_inj (field n t b m fs) (field o u c k gs) e =
+      let r = rest_code.inj (n, (b, m)) (o, (c, k)) cc in
+      let s = tree_inj t u cc in
+      let f = fields_inj fs gs cc in
+      λ i. field (r i).0 (s i) (r i).1.0 (r i).1.1 (f i)
+  fields_inj _ _ e = cc
+
+  members_inj : (ms ns : MemberTrees) → members_to ms ≡ members_to ns → ms ≡ ns
+  members_inj no_members no_members e = refl
+  members_inj (member x n t b m ms) (member y o u c k ns) e =
+      let r = rest_code.inj (n, (b, m)) (o, (c, k)) cc in
+      let s = tree_inj t u cc in
+      let z = coded_ℤ.inj x y cc in
+      let f = members_inj ms ns cc in
+      λ i. member (z i) (r i).0 (s i) (r i).1.0 (r i).1.1 (f i)
+  members_inj _ _ e = cc
 
 abbrev pub tree_code : Coded Tree
-tree_code = code_by (List Mark) (coded_list mark_code) (λ t. tree_marks t []) (λ xs. top_tree (run xs nothing)) (λ t. ap top_tree (run-tree t [] nothing))
+tree_code = record { code = tree_to; inj = tree_inj }
 
 -- a field is stored as the tuple of its parts
 abbrev pub field_code : Coded FieldTree

@@ -76,72 +76,25 @@ field_decides-at f g trees =
 abbrev of_parts : Text → Tree → Bool → Metadata → FieldTree
 of_parts n t b m = record { name = n; tree = t; nullable = b; metadata = m }
 
--- the parts of a value that is made in one way, and x of any other
-abbrev inner : FieldTree → Tree → FieldTree
-inner x (list n t b m) = of_parts n t b m
-inner x (large_list n t b m) = of_parts n t b m
-inner x (fixed_size_list n t b m s) = of_parts n t b m
-inner x _ = x
-
-abbrev size_of : ℤ → Tree → ℤ
-size_of x (fixed_size_list n t b m s) = s
-size_of x _ = x
-
-abbrev plain_of : Plain → Tree → Plain
-plain_of x (plain p) = p
-plain_of x _ = x
-
-abbrev fields_in : FieldTrees → Tree → FieldTrees
-fields_in x (struct fs) = fs
-fields_in x _ = x
-
-abbrev members_in : MemberTrees → Tree → MemberTrees
-members_in x (union ms u) = ms
-members_in x _ = x
-
-abbrev mode_in : UnionMode → Tree → UnionMode
-mode_in x (union ms u) = u
-mode_in x _ = x
-
-abbrev first_field : FieldTree → FieldTrees → FieldTree
-first_field x no_fields = x
-first_field x (field n t b m fs) = of_parts n t b m
-
-abbrev other_fields : FieldTrees → FieldTrees
-other_fields no_fields = no_fields
-other_fields (field n t b m fs) = fs
-
-abbrev first_member : FieldTree → MemberTrees → FieldTree
-first_member x no_members = x
-first_member x (member i n t b m ms) = of_parts n t b m
-
-abbrev first_id : ℤ → MemberTrees → ℤ
-first_id x no_members = x
-first_id x (member i n t b m ms) = i
-
-abbrev other_members : MemberTrees → MemberTrees
-other_members no_members = no_members
-other_members (member i n t b m ms) = ms
-
 mutual
   pub tree_decides : (t u : Tree) → Decides (tree_eq t u) (t ≡ u)
-  tree_decides (plain p) (plain q) = Decides-like _ (λ e. ap plain e) (λ e. ap (plain_of p) e) (plain_decides p q)
+  tree_decides (plain p) (plain q) = Decides-like _ (λ e. ap plain e) (λ e. cc) (plain_decides p q)
   tree_decides (list n t b m) (list o u c k) =
-      Decides-like _ (λ e. ap (λ f. list f.name f.tree f.nullable f.metadata) e) (λ e. ap (inner (of_parts n t b m)) e) (field_decides-at (of_parts n t b m) (of_parts o u c k) (tree_decides t u))
+      Decides-like _ (λ e. ap (λ f. list f.name f.tree f.nullable f.metadata) e) (λ e. cc) (field_decides-at (of_parts n t b m) (of_parts o u c k) (tree_decides t u))
   tree_decides (large_list n t b m) (large_list o u c k) =
-      Decides-like _ (λ e. ap (λ f. large_list f.name f.tree f.nullable f.metadata) e) (λ e. ap (inner (of_parts n t b m)) e) (field_decides-at (of_parts n t b m) (of_parts o u c k) (tree_decides t u))
+      Decides-like _ (λ e. ap (λ f. large_list f.name f.tree f.nullable f.metadata) e) (λ e. cc) (field_decides-at (of_parts n t b m) (of_parts o u c k) (tree_decides t u))
   tree_decides (fixed_size_list n t b m s) (fixed_size_list o u c k r) =
-      Decides-like _ (λ h. λ i. fixed_size_list (h.0 i).name (h.0 i).tree (h.0 i).nullable (h.0 i).metadata (h.1 i)) (λ e. (ap (inner (of_parts n t b m)) e, ap (size_of s) e))
+      Decides-like _ (λ h. λ i. fixed_size_list (h.0 i).name (h.0 i).tree (h.0 i).nullable (h.0 i).metadata (h.1 i)) (λ e. (cc, cc))
       (Decides-and _ _ (field_decides-at (of_parts n t b m) (of_parts o u c k) (tree_decides t u)) (Decides-int_eq s r))
-  tree_decides (struct fs) (struct gs) = Decides-like _ (λ e. ap struct e) (λ e. ap (fields_in fs) e) (fields_decides fs gs)
+  tree_decides (struct fs) (struct gs) = Decides-like _ (λ e. ap struct e) (λ e. cc) (fields_decides fs gs)
   tree_decides (union ms u) (union ns v) =
-      Decides-like _ (λ h. λ i. union (h.0 i) (h.1 i)) (λ e. (ap (members_in ms) e, ap (mode_in u) e)) (Decides-and _ _ (members_decides ms ns) (mode_decides u v))
+      Decides-like _ (λ h. λ i. union (h.0 i) (h.1 i)) (λ e. (cc, cc)) (Decides-and _ _ (members_decides ms ns) (mode_decides u v))
   tree_decides _ _ = (λ h. absurd (true≢false (sym h)), λ e. cc)
 
   pub fields_decides : (fs gs : FieldTrees) → Decides (fields_eq fs gs) (fs ≡ gs)
   fields_decides no_fields no_fields = (λ h. refl, λ h. refl)
   fields_decides (field n t b m fs) (field o u c k gs) =
-      Decides-like _ (λ h. λ i. field (h.0 i).name (h.0 i).tree (h.0 i).nullable (h.0 i).metadata (h.1 i)) (λ e. (ap (first_field (of_parts n t b m)) e, ap other_fields e))
+      Decides-like _ (λ h. λ i. field (h.0 i).name (h.0 i).tree (h.0 i).nullable (h.0 i).metadata (h.1 i)) (λ e. (cc, cc))
       (Decides-and _ _ (field_decides-at (of_parts n t b m) (of_parts o u c k) (tree_decides t u)) (fields_decides fs gs))
   fields_decides _ _ = (λ h. absurd (true≢false (sym h)), λ e. cc)
 
@@ -149,7 +102,7 @@ mutual
   members_decides no_members no_members = (λ h. refl, λ h. refl)
   members_decides (member i n t b m ms) (member j o u c k ns) =
       Decides-like _ (λ h. λ x. member (h.0.0 x) (h.0.1 x).name (h.0.1 x).tree (h.0.1 x).nullable (h.0.1 x).metadata (h.1 x))
-      (λ e. ((ap (first_id i) e, ap (first_member (of_parts n t b m)) e), ap other_members e))
+      (λ e. ((cc, cc), cc))
       (Decides-and _ _ (Decides-and _ _ (Decides-int_eq i j) (field_decides-at (of_parts n t b m) (of_parts o u c k) (tree_decides t u))) (members_decides ms ns))
   members_decides _ _ = (λ h. absurd (true≢false (sym h)), λ e. cc)
 

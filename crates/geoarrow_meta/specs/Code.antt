@@ -1,79 +1,50 @@
--- JSON values have codes: trees of numbers, each of which gives its value back.
-use Rattle.std.specs.Prelude.{◌≡◌, ℕ, zero, suc, ℤ, pos, negsuc, List, [], ◌∷◌, Bool, true, false, Float, refl}
-use Rattle.std.specs.Coded.{Coded}
-use Rattle.std.proofs.Common.{sym, ap, ap₂, ◌∙◌}
-use base.Stored.{Gv, gnil, gnum, gcons, num}
+-- JSON values have codes: trees of numbers, different ones of different values.
+use Rattle.std.specs.Prelude.{◌≡◌, ℕ, ℤ, Bool, Float, refl}
+use Rattle.std.specs.Coded.{Coded, coded×, coded_ℕ, coded_bool, coded_ℤ, coded_list}
+use Rattle.std.proofs.Common.{ap, ap₂}
+use base.Stored.{Gv, gnil, gnum, gcons}
 use lib.Ieee.{nan, inf, fin}
+use Rattle.arrow_values.specs.Tree.{Text}
 use Rattle.serde_json.specs.Data.{Num, unsigned, negative, float, Data, null, boolean, number, string, array, object, Items, no_items, item, Members, no_members, member}
 
--- the code of a truth value, and back
-abbrev bit_code : Bool → Gv
-bit_code true = gnum 1
-bit_code false = gnum 0
+abbrev text_code : Coded Text
+text_code = coded_list coded_ℕ
 
-abbrev bit_back : Gv → Bool
-bit_back gnil = false
-bit_back (gnum zero) = false
-bit_back (gnum (suc n)) = true
-bit_back (gcons a b) = false
+-- the parts of a finite float
+abbrev fin_code : Coded (Bool × (ℕ × ℤ))
+fin_code = coded× coded_bool (coded× coded_ℕ coded_ℤ)
 
--- the code of an integer, and back
-abbrev int_code : ℤ → Gv
-int_code (pos n) = gcons gnil (gnum n)
-int_code (negsuc n) = gcons (gnum 0) (gnum n)
+abbrev float_to : Float → Gv
+float_to nan = gnil
+float_to (inf s) = gcons gnil (coded_bool.code s)
+float_to (fin s m e) = gcons (gnum 0) (fin_code.code (s, (m, e)))
 
-abbrev int_back : Gv → ℤ
-int_back gnil = pos 0
-int_back (gnum n) = pos 0
-int_back (gcons gnil g) = pos (num g)
-int_back (gcons (gnum n) g) = negsuc (num g)
-int_back (gcons (gcons a b) g) = pos 0
+float_inj : (x y : Float) → float_to x ≡ float_to y → x ≡ y
+float_inj nan nan p = refl
+float_inj (inf s) (inf t) p = ap inf (coded_bool.inj s t cc)
+float_inj (fin s m e) (fin t n f) p = ap (λ x. fin x.0 x.1.0 x.1.1) (fin_code.inj (s, (m, e)) (t, (n, f)) cc)
+float_inj _ _ p = cc
 
--- the code of a text, and back
-abbrev text_code : List ℕ → Gv
-text_code [] = gnil
-text_code (x ∷ xs) = gcons (gnum x) (text_code xs)
+abbrev num_to : Num → Gv
+num_to (unsigned n) = gnum n
+num_to (negative z) = gcons gnil (coded_ℤ.code z)
+num_to (float x) = gcons (gnum 0) (float_to x)
 
-abbrev text_back : Gv → List ℕ
-text_back gnil = []
-text_back (gnum n) = []
-text_back (gcons a b) = num a ∷ text_back b
+num_inj : (m n : Num) → num_to m ≡ num_to n → m ≡ n
+num_inj (unsigned m) (unsigned n) p = cc
+num_inj (negative y) (negative z) p = ap negative (coded_ℤ.inj y z cc)
+num_inj (float x) (float y) p = ap float (float_inj x y cc)
+num_inj _ _ p = cc
 
--- the code of a float, and back
-abbrev float_code : Float → Gv
-float_code nan = gnil
-float_code (inf s) = gcons gnil (bit_code s)
-float_code (fin s m e) = gcons (gcons (bit_code s) (gnum m)) (int_code e)
-
-abbrev float_back : Gv → Float
-float_back gnil = nan
-float_back (gnum n) = nan
-float_back (gcons gnil g) = inf (bit_back g)
-float_back (gcons (gnum n) g) = nan
-float_back (gcons (gcons a b) g) = fin (bit_back a) (num b) (int_back g)
-
--- the code of a JSON number, and back
-abbrev num_code : Num → Gv
-num_code (unsigned n) = gnum n
-num_code (negative z) = gcons gnil (int_code z)
-num_code (float x) = gcons (gnum 0) (float_code x)
-
-abbrev num_back : Gv → Num
-num_back gnil = unsigned 0
-num_back (gnum n) = unsigned n
-num_back (gcons gnil g) = negative (int_back g)
-num_back (gcons (gnum n) g) = float (float_back g)
-num_back (gcons (gcons a b) g) = unsigned 0
-
--- the code of a JSON value
+-- a JSON value by its sort and its parts
 abbrev mutual
-  pub data_to : Data → Gv
+  data_to : Data → Gv
   data_to null = gnil
-  data_to (boolean b) = bit_code b
-  data_to (number n) = gcons gnil (num_code n)
-  data_to (string s) = gcons (gnum 0) (text_code s)
-  data_to (array ds) = gcons (gnum 1) (items_to ds)
-  data_to (object ms) = gcons (gnum 2) (members_to ms)
+  data_to (boolean b) = gcons gnil (coded_bool.code b)
+  data_to (number n) = gcons (gnum 0) (num_to n)
+  data_to (string s) = gcons (gcons gnil gnil) (text_code.code s)
+  data_to (array ds) = gcons (gcons gnil (gnum 0)) (items_to ds)
+  data_to (object ms) = gcons (gcons (gnum 0) gnil) (members_to ms)
 
   items_to : Items → Gv
   items_to no_items = gnil
@@ -81,73 +52,31 @@ abbrev mutual
 
   members_to : Members → Gv
   members_to no_members = gnil
-  members_to (member k d ms) = gcons (gcons (text_code k) (data_to d)) (members_to ms)
-
--- the JSON value of a code
-abbrev mutual
-  pub data_from : Gv → Data
-  data_from gnil = null
-  data_from (gnum n) = boolean (bit_back (gnum n))
-  data_from (gcons gnil g) = number (num_back g)
-  data_from (gcons (gnum zero) g) = string (text_back g)
-  data_from (gcons (gnum (suc zero)) g) = array (items_from g)
-  data_from (gcons (gnum (suc (suc n))) g) = object (members_from g)
-  data_from (gcons (gcons a b) g) = null
-
-  items_from : Gv → Items
-  items_from gnil = no_items
-  items_from (gnum n) = no_items
-  items_from (gcons a b) = item (data_from a) (items_from b)
-
-  members_from : Gv → Members
-  members_from gnil = no_members
-  members_from (gnum n) = no_members
-  members_from (gcons gnil b) = no_members
-  members_from (gcons (gnum n) b) = no_members
-  members_from (gcons (gcons k d) b) = member (text_back k) (data_from d) (members_from b)
-
--- ---- each code gives its value back
-
-bit_there : (b : Bool) → bit_back (bit_code b) ≡ b
-bit_there true = refl
-bit_there false = refl
-
-int_there : (z : ℤ) → int_back (int_code z) ≡ z
-int_there (pos n) = refl
-int_there (negsuc n) = refl
-
-text_there : (s : List ℕ) → text_back (text_code s) ≡ s
-text_there [] = refl
-text_there (x ∷ xs) = ap (λ t. x ∷ t) (text_there xs)
-
-float_there : (x : Float) → float_back (float_code x) ≡ x
-float_there nan = refl
-float_there (inf s) = ap inf (bit_there s)
-float_there (fin s m e) = ap₂ (λ t f. fin t m f) (bit_there s) (int_there e)
-
-num_there : (n : Num) → num_back (num_code n) ≡ n
-num_there (unsigned n) = refl
-num_there (negative z) = ap negative (int_there z)
-num_there (float x) = ap float (float_there x)
+  members_to (member k d ms) = gcons (text_code.code k) (gcons (data_to d) (members_to ms))
 
 mutual
-  pub data_there : (d : Data) → data_from (data_to d) ≡ d
-  data_there null = refl
-  data_there (boolean true) = refl
-  data_there (boolean false) = refl
-  data_there (number n) = ap number (num_there n)
-  data_there (string s) = ap string (text_there s)
-  data_there (array ds) = ap array (items_there ds)
-  data_there (object ms) = ap object (members_there ms)
+  pub data_inj : (d e : Data) → data_to d ≡ data_to e → d ≡ e
+  data_inj null null p = refl
+  data_inj (boolean b) (boolean c) p = ap boolean (coded_bool.inj b c cc)
+  data_inj (number m) (number n) p = ap number (num_inj m n cc)
+  data_inj (string s) (string t) p = ap string (text_code.inj s t cc)
+  data_inj (array ds) (array es) p = ap array (items_inj ds es cc)
+  data_inj (object ms) (object ns) p = ap object (members_inj ms ns cc)
+  data_inj _ _ p = cc
 
-  items_there : (ds : Items) → items_from (items_to ds) ≡ ds
-  items_there no_items = refl
-  items_there (item d ds) = ap₂ item (data_there d) (items_there ds)
+  items_inj : (ds es : Items) → items_to ds ≡ items_to es → ds ≡ es
+  items_inj no_items no_items p = refl
+  items_inj (item d ds) (item e es) p = ap₂ item (data_inj d e cc) (items_inj ds es cc)
+  items_inj _ _ p = cc
 
-  members_there : (ms : Members) → members_from (members_to ms) ≡ ms
-  members_there no_members = refl
-  members_there (member k d ms) = λ i. member (text_there k i) (data_there d i) (members_there ms i)
+  members_inj : (ms ns : Members) → members_to ms ≡ members_to ns → ms ≡ ns
+  members_inj no_members no_members p = refl
+  members_inj (member k d ms) (member l e ns) p =
+      let t = text_code.inj k l cc in
+      let v = data_inj d e cc in
+      let r = members_inj ms ns cc in
+      λ i. member (t i) (v i) (r i)
+  members_inj _ _ p = cc
 
--- so different JSON values have different codes
 abbrev pub data_code : Coded Data
-data_code = record { code = data_to; inj = λ x y p. sym (data_there x) ∙ ap data_from p ∙ data_there y }
+data_code = record { code = data_to; inj = data_inj }
