@@ -41,26 +41,7 @@ plain_from = nth (null ∷ boolean ∷ int8 ∷ int16 ∷ int32 ∷ int64 ∷ ui
 
 pub plain_from-code : (p : Plain) → plain_from (plain_code p) ≡ p
 plain_from-code null = refl
-plain_from-code boolean = refl
-plain_from-code int8 = refl
-plain_from-code int16 = refl
-plain_from-code int32 = refl
-plain_from-code int64 = refl
-plain_from-code uint8 = refl
-plain_from-code uint16 = refl
-plain_from-code uint32 = refl
-plain_from-code uint64 = refl
-plain_from-code float16 = refl
-plain_from-code float32 = refl
-plain_from-code float64 = refl
-plain_from-code date32 = refl
-plain_from-code date64 = refl
-plain_from-code binary = refl
-plain_from-code large_binary = refl
-plain_from-code binary_view = refl
-plain_from-code utf8 = refl
-plain_from-code large_utf8 = refl
-plain_from-code utf8_view = refl
+plain_from-code _ = refl
 
 abbrev pub is_dense : UnionMode → Bool
 is_dense Sparse = false
