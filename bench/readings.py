@@ -456,7 +456,7 @@ def built(program, shape, count):
 
 def footers():
     """The footers in the rows of `parquet_footer` of at most 300 bytes."""
-    for file in sorted((TOP / "crates/rows/data/footers").glob("*.rows")):
+    for file in sorted((TOP / "crates/file_rows/data/footers").glob("*.rows")):
         for row in file.read_text().splitlines():
             words = row.split(" ")
             if words[0] == "read_footer" and 0 < len(words[-1]) <= 600:

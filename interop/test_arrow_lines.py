@@ -419,7 +419,7 @@ class IntoStructures(unittest.TestCase):
         self.assertEqual(c_schema.held_count(), self.before)
 
     def test_each_kind_of_column_as_written(self):
-        rows = (TOP / "crates/rows/data/lines/written.rows").read_text(encoding="utf-8").split("\n")
+        rows = (TOP / "crates/file_rows/data/lines/written.rows").read_text(encoding="utf-8").split("\n")
         lines = [answer for asked, answer in zip(rows, rows[1:]) if asked.startswith("canon ")]
         self.assertEqual(len(lines), 68)
         self.there_and_back(lines)
@@ -427,7 +427,7 @@ class IntoStructures(unittest.TestCase):
             self.there_and_back([line])
 
     def test_lines_as_they_are_written(self):
-        rows = (TOP / "crates/rows/data/lines/fields.rows").read_text(encoding="utf-8").split("\n")
+        rows = (TOP / "crates/file_rows/data/lines/fields.rows").read_text(encoding="utf-8").split("\n")
         lines = [answer for asked, answer in zip(rows, rows[1:]) if asked.startswith("field ")]
         fits = [line for line in lines if '"size":-' not in line]
         self.assertEqual((len(lines), len(fits)), (45, 44))

@@ -29,6 +29,11 @@ pub struct Asked<'a> {
 }
 
 impl<'a> Asked<'a> {
+    /// Whether what stands behind the command is a text.
+    pub fn is_text(&self) -> bool {
+        self.text.len() == self.bytes.len()
+    }
+
     /// Stands before the call that the row is about. There is room for its answer, so that saying that makes no request.
     pub fn before(&mut self) {
         if self.is_unaided {

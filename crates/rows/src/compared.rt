@@ -1,7 +1,9 @@
 //! Values that a text spells, cloned and compared.
 use crate::asked::Asked;
-use crate::said::{Said, say};
+use crate::said::Said;
 use crate::texts::halves;
+use crate::{notation, say};
+use arrow_values::{DataType, Field, Fields, UnionFields};
 use std::alloc::{AllocError, Global};
 use std::hash::{DefaultHasher, Hash, Hasher};
 
@@ -12,6 +14,49 @@ pub trait Compared: Drop {
 
     /// Whether a clone of this value is equal to another, and where values of the type have hashes, so is its hash.
     fn is_cloned_as(&self, alloc: Global, other: &Self) -> Result<bool, AllocError>;
+}
+
+impl Compared for DataType {
+    fn spelled(alloc: Global, text: &str) -> Result<DataType, AllocError> {
+        notation::data_type(alloc, text)
+    }
+
+    fn is_cloned_as(&self, alloc: Global, other: &DataType) -> Result<bool, AllocError> {
+        Ok(self.try_clone(alloc)? == *other)
+    }
+}
+
+impl Compared for Field {
+    fn spelled(alloc: Global, text: &str) -> Result<Field, AllocError> {
+        if text.starts_with('{') {
+            return notation::field(alloc, text);
+        }
+        notation::spelled(alloc, text)
+    }
+
+    fn is_cloned_as(&self, alloc: Global, other: &Field) -> Result<bool, AllocError> {
+        Ok(self.try_clone(alloc)? == *other)
+    }
+}
+
+impl Compared for Fields {
+    fn spelled(alloc: Global, text: &str) -> Result<Fields, AllocError> {
+        notation::fields(alloc, text)
+    }
+
+    fn is_cloned_as(&self, alloc: Global, other: &Fields) -> Result<bool, AllocError> {
+        Ok(self.try_clone(alloc)? == *other)
+    }
+}
+
+impl Compared for UnionFields {
+    fn spelled(alloc: Global, text: &str) -> Result<UnionFields, AllocError> {
+        notation::members(alloc, text)
+    }
+
+    fn is_cloned_as(&self, alloc: Global, other: &UnionFields) -> Result<bool, AllocError> {
+        Ok(self.try_clone(alloc)? == *other)
+    }
 }
 
 /// A hash.

@@ -2,9 +2,10 @@
 //!
 //! Each request that a row with a star makes is refused, that one alone: the answer has to be out of memory, in the form that the call
 //! has for it. Then it is answered once more, and has to be the row's. The call of an unaided row makes no request (`asked`).
+use crate::judging::{Layers, Row, Tally, answered, say_fault, say_found};
 use crate::memory::{refuse, was_refused};
-use crate::rows::{Row, Tally, answered, say_fault, say_found};
-use crate::said::{Said, say};
+use crate::said::Said;
+use crate::say;
 use std::alloc::Global;
 
 /// More requests than a row makes.
@@ -20,9 +21,9 @@ pub fn are_refused(alloc: Global) -> bool {
 }
 
 /// Answers a row with the n-th request refused, and says what is wrong with that. Whether there was such a request.
-fn judge_refused(alloc: Global, fault: &mut Said, row: Row<'_>, nth: usize) -> bool {
+fn judge_refused<L: Layers>(alloc: Global, fault: &mut Said, row: Row<'_>, nth: usize) -> bool {
     refuse(alloc, nth);
-    let it = answered(alloc, row);
+    let it = answered::<L>(alloc, row);
     let was_refused = was_refused(alloc);
     if !was_refused {
         say_fault(fault, row, &it);
@@ -34,9 +35,9 @@ fn judge_refused(alloc: Global, fault: &mut Said, row: Row<'_>, nth: usize) -> b
 }
 
 /// Answers a row with each request refused, one at a time, and says what is wrong with that.
-pub fn judge_starred(alloc: Global, fault: &mut Said, tally: &mut Tally, row: Row<'_>) {
+pub fn judge_starred<L: Layers>(alloc: Global, fault: &mut Said, tally: &mut Tally, row: Row<'_>) {
     for nth in 1..REQUESTS {
-        if !judge_refused(alloc, fault, row, nth) {
+        if !judge_refused::<L>(alloc, fault, row, nth) {
             if nth == 1 {
                 fault.push(": it makes no request for memory");
             }

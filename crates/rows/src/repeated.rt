@@ -2,7 +2,8 @@
 //!
 //! In `<<COUNT|BETWEEN|TEXT>>` each `%` of the text is the number of the repetition, from 0 on; and in `<<FIRST..END|BETWEEN|TEXT>>` from
 //! the first one on. `BETWEEN` may be empty, and has no `|`. The text has no `<<` and no `>>`.
-use crate::said::{Said, say};
+use crate::said::Said;
+use crate::say;
 use std::alloc::Global;
 
 /// Says a text with a number in the place of each `%`.

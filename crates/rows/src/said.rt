@@ -1,4 +1,5 @@
 //! What is said, a part at a time.
+use crate::say;
 use arrow_values::{ArrowError, Field, GeoArrowError};
 use field_lines::field_line;
 use std::alloc::{AllocError, Global};
@@ -14,14 +15,13 @@ pub struct Said {
 }
 
 /// Says what `format!` would make.
+#[macro_export]
 macro_rules! say {
     ($said:expr, $($part:tt)*) => {{
         let done = write!($said.text, $($part)*);
         $said.note(done);
     }};
 }
-
-pub(crate) use say;
 
 impl Said {
     /// Nothing as yet.

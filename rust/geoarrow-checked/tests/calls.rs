@@ -20,7 +20,7 @@ fn command_of(word: &str) -> Option<Command> {
 
 /// The rows under the four commands, which are more than a thousand.
 fn lines() -> Vec<(Command, Vec<u8>, Vec<u8>)> {
-    let found: Vec<_> = rows("crates/rows/data/lines")
+    let found: Vec<_> = rows("crates/file_rows/data/lines")
         .into_iter()
         .filter_map(|(word, line, wanted)| Some((command_of(&word)?, line, wanted)))
         .collect();

@@ -1,0 +1,304 @@
+//! Rows of Parquet footers: calls of `parquet_footer`, `parquet_columns` and `parquet_schema`. A row's text is bytes in
+//! hexadecimal digits.
+use arrow_columns::Column;
+use arrow_ipc::IpcError;
+use parquet_columns::{ColumnsError, Fault, columns_of};
+use parquet_footer::{
+    Footer, FooterError, KeyValue, LogicalType, SchemaElement, footer_length, read_footer,
+};
+use parquet_schema::{SchemaError, columns_of_file, value_in_file};
+use rows::asked::Asked;
+use rows::said::Said;
+use rows::say;
+use std::alloc::{AllocError, Global};
+use std::fmt::Debug;
+
+/// Says the answer to a text under a command. Errs where the text does not spell bytes.
+pub fn answer(it: &mut Asked<'_>) -> Result<(), AllocError> {
+    let (key, digits) = match it.command {
+        "value_in_file" => it.text.split_once(' ').unwrap_or(("", it.text)),
+        _ => ("", it.text),
+    };
+    let bytes = hex::decode(it.alloc, digits).or(Err(AllocError))?;
+    match it.command {
+        "value_in_file" => {
+            it.before();
+            let found = value_in_file(it.alloc, bytes.as_slice(), key);
+            it.after();
+            say_value(&mut it.said, &found);
+        }
+        "read_footer" => {
+            it.before();
+            let read = read_footer(it.alloc, bytes.as_slice());
+            it.after();
+            say_answer(&mut it.said, &read);
+        }
+        "columns_of" => answer_columns(it, bytes.as_slice()),
+        "columns_of_file" => {
+            it.before();
+            let made = columns_of_file(it.alloc, bytes.as_slice());
+            it.after();
+            say_file(it.alloc, &mut it.said, &made);
+        }
+        "footer_length" => match bytes.as_slice().first_chunk::<8>() {
+            Some(tail) => {
+                it.before();
+                let length = footer_length(tail);
+                it.after();
+                say_length(&mut it.said, length);
+            }
+            None => it.said.fail(),
+        },
+        "each_cut" => each_cut(it.alloc, &mut it.said, bytes.as_slice()),
+        "each_turned" => each_turned(it.alloc, &mut it.said, bytes.as_slice())?,
+        _ => it.no_command(),
+    }
+    Ok(())
+}
+
+/// Says the columns of the footer that some bytes are.
+fn answer_columns(it: &mut Asked<'_>, bytes: &[u8]) {
+    match read_footer(it.alloc, bytes) {
+        Ok(footer) => {
+            it.before();
+            let made = columns_of(it.alloc, &footer);
+            it.after();
+            say_columns(it.alloc, &mut it.said, &made);
+        }
+        Err(_) => it.said.fail(),
+    }
+}
+
+/// Says a length, or why there is none.
+fn say_length(said: &mut Said, length: Result<u32, FooterError>) {
+    match length {
+        Ok(length) => said.name(&length),
+        Err(error) => said.name(&error),
+    }
+}
+
+/// Says a value by its name, or a dash.
+fn say_or_dash<T: Debug>(said: &mut Said, value: &Option<T>) {
+    said.push(" ");
+    match value {
+        Some(value) => said.name(value),
+        None => said.push("-"),
+    }
+}
+
+/// Says a logical type, or a dash.
+fn say_logical(said: &mut Said, logical: &Option<LogicalType<'_>>) {
+    match logical {
+        None => said.push(" -"),
+        Some(LogicalType::Time(utc, unit)) => say!(said, " Time({utc}, {unit:?})"),
+        Some(LogicalType::Timestamp(utc, unit)) => say!(said, " Timestamp({utc}, {unit:?})"),
+        Some(LogicalType::Integer(bits, signed)) => say!(said, " Integer({bits}, {signed})"),
+        Some(LogicalType::Other(id)) => say!(said, " Other({id})"),
+        Some(LogicalType::Geometry(crs)) => {
+            let crs = crs.unwrap_or("-");
+            say!(said, " Geometry({crs})");
+        }
+        Some(LogicalType::Geography(crs, algorithm)) => {
+            let crs = crs.unwrap_or("-");
+            say!(said, " Geography({crs},");
+            say_or_dash(said, algorithm);
+            said.push(")");
+        }
+    }
+}
+
+/// Says an element of a schema.
+fn say_element(said: &mut Said, element: &SchemaElement<'_>) {
+    said.push(element.storage.name);
+    say_or_dash(said, &element.storage.physical_type);
+    say_or_dash(said, &element.storage.type_length);
+    say_or_dash(said, &element.storage.repetition);
+    say_or_dash(said, &element.num_children);
+    say_or_dash(said, &element.converted_type);
+    say_or_dash(said, &element.scale);
+    say_or_dash(said, &element.precision);
+    say_logical(said, &element.logical_type);
+}
+
+/// Says a key, and its value if it has one.
+fn say_key_value(said: &mut Said, pair: &KeyValue<'_>) {
+    said.push(pair.key);
+    if let Some(value) = pair.value {
+        said.push("=");
+        said.push(value);
+    }
+}
+
+/// Says a footer.
+fn say_footer(said: &mut Said, footer: &Footer<'_>) {
+    for (at, element) in footer.schema.iter().enumerate() {
+        said.push(if at > 0 { "; " } else { "" });
+        say_element(said, element);
+    }
+    said.push(" | ");
+    for (at, pair) in footer.key_value_metadata.iter().enumerate() {
+        said.push(if at > 0 { "; " } else { "" });
+        say_key_value(said, pair);
+    }
+}
+
+/// Says a footer, or the rule that is broken and where; out of memory is no answer.
+fn say_answer(said: &mut Said, read: &Result<Footer<'_>, FooterError>) {
+    match read {
+        Ok(footer) => say_footer(said, footer),
+        Err(FooterError::Invalid(rule, offset)) => say!(said, "Invalid {rule:?} {offset}"),
+        Err(FooterError::Memory) => said.fail(),
+        Err(error) => said.name(error),
+    }
+}
+
+/// Says columns in Arrow's notation, or the rule that is broken and by which element; out of memory is no answer.
+fn say_columns(alloc: Global, said: &mut Said, made: &Result<Vec<Column>, ColumnsError>) {
+    match made {
+        Ok(columns) => {
+            for (at, column) in columns.iter().enumerate() {
+                said.push(if at > 0 { "; " } else { "" });
+                said.made(column.notation(alloc));
+            }
+        }
+        Err(ColumnsError::Broken(fault)) => {
+            let Fault { rule, at } = fault;
+            say!(said, "{rule:?} {at}");
+        }
+        Err(ColumnsError::OutOfMemory) => said.fail(),
+    }
+}
+
+/// Says the columns of a file in Arrow's notation, each with the name and the metadata of its extension type behind it.
+fn say_named_columns(alloc: Global, said: &mut Said, columns: &[Column]) {
+    for (at, column) in columns.iter().enumerate() {
+        said.push(if at > 0 { "; " } else { "" });
+        said.made(column.notation(alloc));
+        for text in [
+            column.extension_type_name(),
+            column.extension_type_metadata(),
+        ] {
+            if let Some(text) = text {
+                said.push(" ");
+                said.push(text);
+            }
+        }
+    }
+}
+
+/// Says the columns of a file, or why there are none; out of memory is no answer.
+fn say_file(alloc: Global, said: &mut Said, made: &Result<Vec<Column>, SchemaError>) {
+    match made {
+        Ok(columns) => say_named_columns(alloc, said, columns.as_slice()),
+        Err(error) => say_fault(said, error),
+    }
+}
+
+/// Says the value of a key behind `=`, or a dash; or why there is none.
+fn say_value(said: &mut Said, found: &Result<Option<&str>, SchemaError>) {
+    match found {
+        Ok(Some(value)) => {
+            said.push("=");
+            said.push(value);
+        }
+        Ok(None) => said.push("-"),
+        Err(error) => say_fault(said, error),
+    }
+}
+
+/// Says why a file is not read; out of memory is no answer.
+fn say_fault(said: &mut Said, error: &SchemaError) {
+    match error {
+        SchemaError::Footer(FooterError::Invalid(rule, offset)) => {
+            say!(said, "Footer {rule:?} {offset}");
+        }
+        SchemaError::Elements(fault) => {
+            let Fault { rule, at } = fault;
+            say!(said, "Elements {rule:?} {at}");
+        }
+        SchemaError::Ipc(IpcError::Broken(fault)) => {
+            let (rule, at) = (fault.rule, fault.at);
+            say!(said, "Ipc {rule:?} {at}");
+        }
+        SchemaError::Encoding(_) => said.push("Encoding"),
+        SchemaError::OutOfMemory => said.fail(),
+        error => said.name(error),
+    }
+}
+
+/// How many footers are read and refused, and a number that is made of all answers.
+#[derive(Clone, Copy)]
+struct Sum {
+    read: u64,
+    refused: u64,
+    digest: u64,
+}
+
+impl Sum {
+    /// None as yet.
+    fn new() -> Sum {
+        Sum {
+            read: 0,
+            refused: 0,
+            digest: 0xcbf2_9ce4_8422_2325,
+        }
+    }
+
+    /// Adds the answer to some bytes: its text and a line feed, by FNV-1a.
+    fn add(&mut self, alloc: Global, said: &mut Said, bytes: &[u8]) {
+        let mut text = Said::new(alloc);
+        let read = read_footer(alloc, bytes);
+        say_answer(&mut text, &read);
+        text.push("\n");
+        if read.is_ok() {
+            self.read = self.read.saturating_add(1);
+        } else {
+            self.refused = self.refused.saturating_add(1);
+        }
+        for &byte in text.text.as_bytes() {
+            self.digest = (self.digest ^ byte as u64).wrapping_mul(0x100_0000_01b3);
+        }
+        if text.is_lacking {
+            said.fail();
+        }
+    }
+
+    /// Says it.
+    fn say(&self, said: &mut Said) {
+        say!(
+            said,
+            "{} read, {} refused, {:016x}",
+            self.read,
+            self.refused,
+            self.digest
+        );
+    }
+}
+
+/// Reads each front of the bytes that is shorter than they are.
+fn each_cut(alloc: Global, said: &mut Said, bytes: &[u8]) {
+    let mut sum = Sum::new();
+    for end in 0..bytes.len() {
+        sum.add(alloc, said, &bytes[..end]);
+    }
+    sum.say(said);
+}
+
+/// Reads the bytes with each of their bits turned, that one alone.
+fn each_turned(alloc: Global, said: &mut Said, bytes: &[u8]) -> Result<(), AllocError> {
+    let mut turned = Vec::from_slice(alloc, bytes)?;
+    let mut sum = Sum::new();
+    for (at, &byte) in bytes.iter().enumerate() {
+        for bit in [1, 2, 4, 8, 16, 32, 64, 128] {
+            if let Some(place) = turned.get_mut(at) {
+                *place = byte ^ bit;
+            }
+            sum.add(alloc, said, turned.as_slice());
+        }
+        if let Some(place) = turned.get_mut(at) {
+            *place = byte;
+        }
+    }
+    sum.say(said);
+    Ok(())
+}

@@ -1,0 +1,72 @@
+//! Rows of GeoParquet metadata: calls of `geoparquet` and `geo_columns`. A row's text is the text at the key `geo`, and then lines of fields, each with ` & ` before it.
+use arrow_columns::Column;
+use column_files::{column_line, columns_in};
+use geo_columns::geo_columns;
+use geoparquet::{GeoFinding, check_geo};
+use rows::asked::Asked;
+use rows::said::Said;
+use rows::say;
+use std::alloc::{AllocError, Global};
+
+/// Says the answer to a text under a command. Errs when out of memory before the call, and where the lines are no fields.
+pub fn answer(it: &mut Asked<'_>) -> Result<(), AllocError> {
+    let (geo, lines) = it.text.split_once(" & ").unwrap_or((it.text, ""));
+    let lines = lines.replace(it.alloc, " & ", "\n")?;
+    let columns = columns_in(it.alloc, lines.as_bytes()).or(Err(AllocError))?;
+    match it.command {
+        "check_geo" => say_checks(it, geo, columns.as_slice()),
+        "geo_columns" => {
+            let made = geo_columns(it.alloc, geo, columns);
+            say_columns(it, made);
+        }
+        _ => it.no_command(),
+    }
+    Ok(())
+}
+
+/// Says how many checks there are, and which do not hold.
+fn say_checks(it: &mut Asked<'_>, geo: &str, columns: &[Column]) {
+    match check_geo(it.alloc, geo, columns) {
+        Ok(findings) => {
+            let count = findings.len();
+            say!(it.said, "{count}");
+            for finding in &findings {
+                if !finding.ok {
+                    say_finding(it.alloc, &mut it.said, finding);
+                }
+            }
+        }
+        Err(AllocError) => it.said.fail(),
+    }
+}
+
+/// Says the lines of columns, with ` & ` between them.
+fn say_columns(it: &mut Asked<'_>, made: Result<Vec<Column>, AllocError>) {
+    match made {
+        Ok(columns) => {
+            for (place, column) in columns.into_iter().enumerate() {
+                it.said.push(if place > 0 { " & " } else { "" });
+                match column_line(it.alloc, column) {
+                    Ok(line) => it.said.push(line.as_str()),
+                    Err(AllocError) => it.said.fail(),
+                }
+            }
+        }
+        Err(AllocError) => it.said.fail(),
+    }
+}
+
+/// Says a finding by its code and its path.
+fn say_finding(alloc: Global, said: &mut Said, finding: &GeoFinding) {
+    said.push(" ");
+    said.push(finding.check.code());
+    match finding.path(alloc) {
+        Ok(path) => {
+            for key in &path {
+                said.push("/");
+                said.push(key.as_str());
+            }
+        }
+        Err(AllocError) => said.fail(),
+    }
+}

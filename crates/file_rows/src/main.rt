@@ -1,0 +1,33 @@
+//! Rows of lines, files and reports: calls of `geoarrow_fields` and `field_lines`; of the crates of Parquet footers and of GeoParquet metadata; of `file_reports`.
+#![tactic(auto)]
+
+mod footers;
+mod geo;
+mod lines;
+mod reports;
+
+use rows::asked::Asked;
+use rows::{Layers, judge_rows};
+use std::alloc::AllocError;
+use std::process::ExitCode;
+
+/// The layers of this program.
+struct These {}
+
+impl Layers for These {
+    const NAMES: &'static [&'static str] = &["footers", "geo", "lines", "reports"];
+
+    fn answer(it: &mut Asked<'_>, layer: &str) -> Result<(), AllocError> {
+        match layer {
+            "lines" => lines::answer(it),
+            _ if !it.is_text() => Err(AllocError),
+            "footers" => footers::answer(it),
+            "geo" => geo::answer(it),
+            _ => reports::answer(it),
+        }
+    }
+}
+
+fn main(rt: HostRuntime) -> ExitCode {
+    judge_rows::<These>(&rt)
+}

@@ -1,0 +1,85 @@
+//! Rows of reports: calls of `file_reports`, and so of the crates that read files and say what columns hold. A row's text is lines of fields,
+//! with ` & ` between them in place of line feeds; under `report_file` it is the bytes of a file in hexadecimal digits.
+use column_check::{Finding, check_column, warnings};
+use column_files::{FileFault, columns_in};
+use column_reports::{reason_words, warning_words};
+use file_reports::report_file;
+use parquet_schema::SchemaError;
+use rows::asked::Asked;
+use std::alloc::{AllocError, Global};
+
+/// Says the answer to a text under a command. Errs when out of memory before the call.
+pub fn answer(it: &mut Asked<'_>) -> Result<(), AllocError> {
+    let text = it.text.replace(it.alloc, " & ", "\n")?;
+    match it.command {
+        "report" => report(it, text.as_bytes(), false),
+        "report_inferred" => report(it, text.as_bytes(), true),
+        "report_file" => {
+            let bytes = hex::decode(it.alloc, it.text).or(Err(AllocError))?;
+            report(it, bytes.as_slice(), false);
+        }
+        "reason_words" => words(it, reasons_of(it.alloc, text.as_str())),
+        "warning_words" => words(it, warnings_of(it.alloc, text.as_str())),
+        _ => it.no_command(),
+    }
+    Ok(())
+}
+
+/// Says the report of a file, with ` & ` between its lines.
+fn report(it: &mut Asked<'_>, bytes: &[u8], infer: bool) {
+    match report_file(it.alloc, None, bytes, infer) {
+        Ok(report) => {
+            for (place, line) in report.lines.as_str().lines().enumerate() {
+                if place > 0 {
+                    it.said.push(" & ");
+                }
+                it.said.push(line);
+            }
+        }
+        Err(fault) => say_fault(it, &fault),
+    }
+}
+
+/// The reasons of the first column that some lines denote, in words; none where it is not invalid.
+fn reasons_of(alloc: Global, text: &str) -> Result<Vec<String>, FileFault> {
+    let columns = columns_in(alloc, text.as_bytes())?;
+    let Some(column) = columns.as_slice().first() else {
+        return Ok(Vec::new(alloc));
+    };
+    match check_column(alloc, column, false)? {
+        Finding::Invalid(reasons) => Ok(reason_words(alloc, &reasons)?),
+        _ => Ok(Vec::new(alloc)),
+    }
+}
+
+/// The warnings of the first column that some lines denote, in words.
+fn warnings_of(alloc: Global, text: &str) -> Result<Vec<String>, FileFault> {
+    let columns = columns_in(alloc, text.as_bytes())?;
+    let Some(column) = columns.as_slice().first() else {
+        return Ok(Vec::new(alloc));
+    };
+    let finding = check_column(alloc, column, false)?;
+    let warnings = warnings(alloc, column, &finding)?;
+    Ok(warning_words(alloc, warnings.as_slice())?)
+}
+
+/// Says the words.
+fn words(it: &mut Asked<'_>, words: Result<Vec<String>, FileFault>) {
+    match words {
+        Ok(words) => {
+            for word in &words {
+                it.said.push("/");
+                it.said.push(word.as_str());
+            }
+        }
+        Err(fault) => say_fault(it, &fault),
+    }
+}
+
+/// Says why a file is not read.
+fn say_fault(it: &mut Asked<'_>, fault: &FileFault) {
+    match fault {
+        FileFault::OutOfMemory | FileFault::Parquet(SchemaError::OutOfMemory) => it.said.fail(),
+        fault => it.said.name(fault),
+    }
+}

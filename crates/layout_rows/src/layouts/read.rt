@@ -1,0 +1,123 @@
+//! Commands that read data types, by calls that allocate nothing.
+use crate::layouts::summaries::say_summary;
+use crate::layouts::trees::data_type;
+use arrow_values::DataType;
+use geoarrow_layout::{
+    CoordType, Dimension, ExtensionName, LayoutFault, alike, candidates, infer_point, parse_box,
+    parse_geometry, parse_geometry_collection, parse_kind, parse_linestring, parse_mixed,
+    parse_multilinestring, parse_multipoint, parse_multipolygon, parse_native, parse_point,
+    parse_polygon, parse_wkb, parse_wkt, summarize, written_kind,
+};
+use rows::asked::Asked;
+use rows::said::Said;
+use rows::say;
+use rows::texts::{first_word, halves};
+use std::alloc::AllocError;
+use std::fmt::Debug;
+use std::mem::forget;
+
+/// Says what a reader of one part answers: the part by its name, or the fault.
+pub fn say_part<T: Debug>(said: &mut Said, answer: &Result<T, LayoutFault>) {
+    match answer {
+        Ok(part) => said.name(part),
+        Err(fault) => said.name(fault),
+    }
+}
+
+/// What a reader of a coordinate type and a dimension answers.
+type Pair = Result<(CoordType, Dimension), LayoutFault>;
+
+/// Says what it answers.
+fn say_pair(said: &mut Said, answer: Pair) {
+    match answer {
+        Ok((coord_type, dimension)) => say!(said, "{coord_type:?} {dimension:?}"),
+        Err(fault) => said.name(&fault),
+    }
+}
+
+/// Says what a reader of a coordinate type and a dimension answers, or another one.
+fn say_read(it: &mut Asked<'_>, tree: &DataType) {
+    let answer = match it.command {
+        "parse_point" => parse_point(tree),
+        "parse_linestring" => parse_linestring(tree),
+        "parse_polygon" => parse_polygon(tree),
+        "parse_multipoint" => parse_multipoint(tree),
+        "parse_multilinestring" => parse_multilinestring(tree),
+        "parse_multipolygon" => parse_multipolygon(tree),
+        "parse_mixed" => parse_mixed(tree),
+        "parse_geometry_collection" => parse_geometry_collection(tree),
+        _ => return say_other(it, tree),
+    };
+    say_pair(&mut it.said, answer);
+}
+
+/// Says what a call answers that is no reader of a coordinate type and a dimension.
+fn say_other(it: &mut Asked<'_>, tree: &DataType) {
+    let said = &mut it.said;
+    match it.command {
+        "parse_geometry" => say_part(said, &parse_geometry(tree)),
+        "parse_box" => say_part(said, &parse_box(tree)),
+        "parse_wkb" => say_part(said, &parse_wkb(tree)),
+        "parse_wkt" => say_part(said, &parse_wkt(tree)),
+        "infer_point" => match infer_point(tree) {
+            Some(found) => say_pair(said, Ok(found)),
+            None => said.push("none"),
+        },
+        "summarize" => say_summary(said, summarize(tree)),
+        "candidates" => said.name(&candidates(tree)),
+        "written_kind" => said.name_or_none(&written_kind(tree)),
+        _ => it.no_command(),
+    }
+}
+
+/// Says what a call answers about a data type, which is not dropped, since one that nests deep would take more stack than there
+/// is.
+pub fn one(it: &mut Asked<'_>) -> Result<(), AllocError> {
+    let tree = data_type(it.alloc, it.text)?;
+    it.before();
+    say_read(it, &tree);
+    it.after();
+    forget(tree);
+    Ok(())
+}
+
+/// Says what a call answers about a data type and a name, which is before it.
+pub fn named(it: &mut Asked<'_>) -> Result<(), AllocError> {
+    let (named, rest) = first_word(it.text)?;
+    let tree = data_type(it.alloc, rest)?;
+    it.before();
+    say_named(it, named, &tree);
+    it.after();
+    Ok(())
+}
+
+/// Says it; nothing where the name is none that the call takes.
+fn say_named(it: &mut Asked<'_>, named: &str, tree: &DataType) {
+    let said = &mut it.said;
+    match (it.command, ExtensionName::from_text(named)) {
+        ("kind", _) => said.name_or_none(&summarize(tree).kind(named)),
+        ("parse_kind", Some(name)) => say_part(said, &parse_kind(name, tree)),
+        (_, Some(ExtensionName::Native(kind))) => say_pair(said, parse_native(kind, tree)),
+        _ => said.fail(),
+    }
+}
+
+/// Says whether two data types are alike, asked both ways round.
+pub fn likeness(it: &mut Asked<'_>) -> Result<(), AllocError> {
+    let (first, second) = halves(it.text)?;
+    let first = data_type(it.alloc, first)?;
+    let second = data_type(it.alloc, second)?;
+    it.before();
+    it.said.push(likeness_of(&first, &second));
+    it.after();
+    Ok(())
+}
+
+/// Whether two data types are alike, in words.
+fn likeness_of(first: &DataType, second: &DataType) -> &'static str {
+    match (alike(first, second), alike(second, first)) {
+        (true, true) => "alike",
+        (false, false) => "not alike",
+        _ => "alike one way round alone",
+    }
+}

@@ -1,0 +1,27 @@
+//! Rows of data types and their layouts: calls of `arrow_values` and `geoarrow_layout`.
+#![tactic(auto)]
+
+mod layouts;
+
+use rows::asked::Asked;
+use rows::{Layers, judge_rows};
+use std::alloc::AllocError;
+use std::process::ExitCode;
+
+/// The layers of this program.
+struct These {}
+
+impl Layers for These {
+    const NAMES: &'static [&'static str] = &["layouts"];
+
+    fn answer(it: &mut Asked<'_>, _layer: &str) -> Result<(), AllocError> {
+        if !it.is_text() {
+            return Err(AllocError);
+        }
+        layouts::answer(it)
+    }
+}
+
+fn main(rt: HostRuntime) -> ExitCode {
+    judge_rows::<These>(&rt)
+}

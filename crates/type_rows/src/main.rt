@@ -1,0 +1,29 @@
+//! Rows of metadata and of types: calls of `geoarrow_meta` and `crs_text`; of `geoarrow_schema`, `geoarrow_columns` and the crates of native types.
+#![tactic(auto)]
+
+mod metadata;
+mod schema;
+
+use rows::asked::Asked;
+use rows::{Layers, judge_rows};
+use std::alloc::AllocError;
+use std::process::ExitCode;
+
+/// The layers of this program.
+struct These {}
+
+impl Layers for These {
+    const NAMES: &'static [&'static str] = &["metadata", "schema"];
+
+    fn answer(it: &mut Asked<'_>, layer: &str) -> Result<(), AllocError> {
+        match layer {
+            _ if !it.is_text() => Err(AllocError),
+            "metadata" => metadata::answer(it),
+            _ => schema::answer(it),
+        }
+    }
+}
+
+fn main(rt: HostRuntime) -> ExitCode {
+    judge_rows::<These>(&rt)
+}

@@ -1,0 +1,197 @@
+//! The calls that each of the eleven types has by itself.
+use crate::metadata::say_text;
+use crate::schema::spelled::{field_of, tree_of, type_of};
+use crate::schema::words::{dimension_word, say_type};
+use arrow_values::{ArrowError, DataType, ExtensionType, Field};
+use geoarrow_schema::generic::{Encoding, SerializedType, Wkb, Wkt};
+use geoarrow_schema::type_id::GeometryTypeId;
+use geoarrow_schema::{
+    BoxType, GeoArrowType, GeometryCollectionType, GeometryType, LineStringType, Metadata,
+    MultiLineStringType, MultiPointType, MultiPolygonType, PointType, PolygonType,
+};
+use rows::asked::Asked;
+use rows::said::Said;
+use rows::say;
+use rows::texts::{first_word, halves};
+use std::alloc::AllocError;
+use std::sync::Arc;
+
+/// Says the type of a word, made of a field.
+pub fn make(it: &mut Asked<'_>) -> Result<(), AllocError> {
+    let (word, text) = first_word(it.text)?;
+    let field = field_of(it.alloc, text)?;
+    match word {
+        "point" => of_geometry::<PointType>(it, &field),
+        "linestring" => of_geometry::<LineStringType>(it, &field),
+        "polygon" => of_geometry::<PolygonType>(it, &field),
+        "multipoint" => of_geometry::<MultiPointType>(it, &field),
+        "multilinestring" => of_geometry::<MultiLineStringType>(it, &field),
+        "multipolygon" => of_geometry::<MultiPolygonType>(it, &field),
+        "geometrycollection" => of_geometry::<GeometryCollectionType>(it, &field),
+        "geometry" => of_geometry::<GeometryType>(it, &field),
+        "box" => of_geometry::<BoxType>(it, &field),
+        "wkb" => of_bytes::<Wkb>(it, &field),
+        "wkt" => of_bytes::<Wkt>(it, &field),
+        _ => it.said.fail(),
+    }
+    Ok(())
+}
+
+/// A type that is made of a field: by the field's `try_extension_type`; or by the type's own `try_new`, of the data type and of
+/// what its `deserialize_metadata` makes of the metadata text.
+fn made_of<E: ExtensionType<Metadata = Arc<Metadata>>>(
+    it: &mut Asked<'_>,
+    field: &Field,
+) -> Result<E, ArrowError> {
+    if it.command == "try_extension_type" {
+        return field.try_extension_type::<E>(it.alloc);
+    }
+    let metadata = E::deserialize_metadata(it.alloc, field.extension_type_metadata())?;
+    it.before();
+    let made = E::try_new(it.alloc, field.data_type(), metadata);
+    it.after();
+    made
+}
+
+/// Says the words of a type that is made of a field, or what its refusal prints.
+fn of_geometry<E: ExtensionType<Metadata = Arc<Metadata>> + Into<GeoArrowType>>(
+    it: &mut Asked<'_>,
+    field: &Field,
+) {
+    match made_of::<E>(it, field) {
+        Ok(found) => {
+            let found: GeoArrowType = found.into();
+            say_type(&mut it.said, it.alloc, &found);
+        }
+        Err(error) => it.said.refusal(&error),
+    }
+}
+
+/// What well-known binary or text is made, of which the type says the metadata alone.
+fn of_bytes<E: Encoding>(it: &mut Asked<'_>, field: &Field) {
+    match made_of::<SerializedType<E>>(it, field) {
+        Ok(found) => say_text(&mut it.said, &found.serialize_metadata(it.alloc)),
+        Err(error) => it.said.refusal(&error),
+    }
+}
+
+/// The text of a type, and that of the data type or the field over which it is used.
+fn texts_of<'a>(command: &str, text: &'a str) -> Result<(&'a str, &'a str), AllocError> {
+    match command {
+        "serialize_metadata" | "extension_name" => Ok((text, "- | Null")),
+        _ => halves(text),
+    }
+}
+
+/// Says what comes of the use of a type, over the data type or the field that stands after it.
+pub fn used(it: &mut Asked<'_>) -> Result<(), AllocError> {
+    let (spelled, rest) = texts_of(it.command, it.text)?;
+    let mut field = if it.command == "supports_data_type" {
+        Field::new(it.alloc, "g", tree_of(it.alloc, rest)?, true)?
+    } else {
+        field_of(it.alloc, rest)?
+    };
+    match &type_of(it.alloc, spelled)? {
+        GeoArrowType::Point(own) => use_of(it, own, &mut field),
+        GeoArrowType::LineString(own) => use_of(it, own, &mut field),
+        GeoArrowType::Polygon(own) => use_of(it, own, &mut field),
+        GeoArrowType::MultiPoint(own) => use_of(it, own, &mut field),
+        GeoArrowType::MultiLineString(own) => use_of(it, own, &mut field),
+        GeoArrowType::MultiPolygon(own) => use_of(it, own, &mut field),
+        GeoArrowType::GeometryCollection(own) => use_of(it, own, &mut field),
+        GeoArrowType::Rect(own) => use_of(it, own, &mut field),
+        GeoArrowType::Geometry(own) => use_of(it, own, &mut field),
+        GeoArrowType::Wkb(own) | GeoArrowType::LargeWkb(own) | GeoArrowType::WkbView(own) => {
+            use_of(it, own, &mut field);
+        }
+        GeoArrowType::Wkt(own) | GeoArrowType::LargeWkt(own) | GeoArrowType::WktView(own) => {
+            use_of(it, own, &mut field);
+        }
+    }
+    Ok(())
+}
+
+/// Says how a type is used: asked whether it supports a data type, written on a field by `try_with_extension_type`, or by
+/// `with_extension_type` on a field that can carry it, asked for its metadata's text, or for its name, by its constant and by its
+/// call.
+fn use_of<E: ExtensionType>(it: &mut Asked<'_>, own: &E, field: &mut Field) {
+    match it.command {
+        "supports_data_type" => supports(it, own, field.data_type()),
+        "try_with_extension_type" => write_on(it, own, field),
+        "with_extension_type" => carry(it, own, field),
+        "serialize_metadata" => {
+            it.before();
+            let text = own.serialize_metadata(it.alloc);
+            it.after();
+            say_text(&mut it.said, &text);
+        }
+        _ => say!(it.said, "{} {}", E::NAME, E::extension_name()),
+    }
+}
+
+/// Says whether a type supports a data type, or what the refusal prints.
+fn supports<E: ExtensionType>(it: &mut Asked<'_>, own: &E, data_type: &DataType) {
+    it.before();
+    let found = own.supports_data_type(it.alloc, data_type);
+    it.after();
+    match found {
+        Ok(()) => it.said.push("supported"),
+        Err(error) => it.said.refusal(&error),
+    }
+}
+
+/// Says the line of a field on which a type is written, or what the refusal prints and whether the field is as it was. Out of
+/// memory is no answer where it is.
+fn write_on<E: ExtensionType>(it: &mut Asked<'_>, own: &E, field: &mut Field) {
+    let Ok(before) = field.try_clone(it.alloc) else {
+        return it.said.fail();
+    };
+    match field.try_with_extension_type(it.alloc, own) {
+        Ok(()) => it.said.line(it.alloc, field),
+        Err(_) if *field != before => it.said.push("changed"),
+        Err(error) => {
+            it.said.refusal(&error);
+            it.said.push(", as it was");
+        }
+    }
+}
+
+/// Says the line of a field that carries a type. Has no answer where it cannot carry it.
+fn carry<E: ExtensionType>(it: &mut Asked<'_>, own: &E, field: &Field) {
+    if own.supports_data_type(it.alloc, field.data_type()).is_err() {
+        return it.said.fail();
+    }
+    let Ok(field) = field.try_clone(it.alloc) else {
+        return it.said.fail();
+    };
+    let carrying = field.with_extension_type(it.alloc, own);
+    it.said.line_or_refusal(it.alloc, &carrying);
+}
+
+/// Says the type id of a native type, its offset, and the dimension by which it goes.
+pub fn geometry_type_id(it: &mut Asked<'_>) -> Result<(), AllocError> {
+    let one = type_of(it.alloc, it.text)?;
+    it.before();
+    match &one {
+        GeoArrowType::Point(own) => say_type_id(&mut it.said, own),
+        GeoArrowType::LineString(own) => say_type_id(&mut it.said, own),
+        GeoArrowType::Polygon(own) => say_type_id(&mut it.said, own),
+        GeoArrowType::MultiPoint(own) => say_type_id(&mut it.said, own),
+        GeoArrowType::MultiLineString(own) => say_type_id(&mut it.said, own),
+        GeoArrowType::MultiPolygon(own) => say_type_id(&mut it.said, own),
+        GeoArrowType::GeometryCollection(own) => say_type_id(&mut it.said, own),
+        _ => it.said.fail(),
+    }
+    it.after();
+    Ok(())
+}
+
+/// Says the type id, the offset and the dimension of a type that has them.
+fn say_type_id<T: GeometryTypeId>(said: &mut Said, own: &T) {
+    let (id, offset) = (own.geometry_type_id(), T::GEOMETRY_TYPE_OFFSET);
+    say!(
+        said,
+        "{id} {offset} {}",
+        dimension_word(Some(own.dimension()))
+    );
+}

@@ -1,0 +1,86 @@
+//! What the answers say, in words.
+use arrow_values::{ArrowError, GeoArrowError};
+use geoarrow_schema::{CoordType, Dimension, GeoArrowType, Kind, Metadata, NativeKind, Width};
+use rows::said::Said;
+use rows::say;
+use std::alloc::Global;
+
+/// Says a type: its kind, coordinate type, dimension and metadata. It says all that there is of it.
+pub fn say_type(said: &mut Said, alloc: Global, found: &GeoArrowType) {
+    said.push(kind_word(found.kind()));
+    said.push(" ");
+    said.push(coord_type_word(found.coord_type()));
+    said.push(" ");
+    said.push(dimension_word(found.dimension()));
+    said.push(" ");
+    say_metadata(said, alloc, found.metadata());
+}
+
+/// Says a metadata: its text; or a dash where it has none, and the CRS type that is there nevertheless.
+pub fn say_metadata(said: &mut Said, alloc: Global, metadata: &Metadata) {
+    match (metadata.serialize(alloc), metadata.crs().crs_type()) {
+        (Ok(Some(text)), _) => said.push(text.as_str()),
+        (Ok(None), None) => said.push("-"),
+        (Ok(None), Some(lone)) => say!(said, "- {}", lone.as_text()),
+        (Err(error), _) => said.refusal(&error),
+    }
+}
+
+/// Says an error: its variant, and all that it prints; out of memory is no answer.
+pub fn say_error(said: &mut Said, error: &GeoArrowError) {
+    let variant = match error {
+        GeoArrowError::Arrow(ArrowError::OutOfMemory) => return said.fail(),
+        GeoArrowError::Arrow(_) => "Arrow",
+        GeoArrowError::InvalidGeoArrow(_) => "InvalidGeoArrow",
+        _ => "another variant",
+    };
+    say!(said, "{variant}: {error}");
+}
+
+/// The word of a kind.
+pub fn kind_word(kind: Kind) -> &'static str {
+    match kind {
+        Kind::Native(kind, _, _) => native_word(kind),
+        Kind::Geometry(_) => "geometry",
+        Kind::Rect(_) => "box",
+        Kind::Wkb(Width::Plain) => "wkb",
+        Kind::Wkb(Width::Large) => "large_wkb",
+        Kind::Wkb(Width::View) => "wkb_view",
+        Kind::Wkt(Width::Plain) => "wkt",
+        Kind::Wkt(Width::Large) => "large_wkt",
+        Kind::Wkt(Width::View) => "wkt_view",
+    }
+}
+
+/// The word of a native kind.
+fn native_word(kind: NativeKind) -> &'static str {
+    match kind {
+        NativeKind::Point => "point",
+        NativeKind::LineString => "linestring",
+        NativeKind::Polygon => "polygon",
+        NativeKind::MultiPoint => "multipoint",
+        NativeKind::MultiLineString => "multilinestring",
+        NativeKind::MultiPolygon => "multipolygon",
+        NativeKind::GeometryCollection => "geometrycollection",
+    }
+}
+
+/// The word of a coordinate type, or a dash.
+pub fn coord_type_word(coord_type: Option<CoordType>) -> &'static str {
+    match coord_type {
+        Some(CoordType::Interleaved) => "interleaved",
+        Some(CoordType::Separated) => "separated",
+        None => "-",
+    }
+}
+
+/// The word of a dimension, or a dash.
+pub fn dimension_word(dimension: Option<Dimension>) -> &'static str {
+    match dimension {
+        Some(Dimension::XY) => "XY",
+        Some(Dimension::XYZ) => "XYZ",
+        Some(Dimension::XYM) => "XYM",
+        Some(Dimension::XYZM) => "XYZM",
+        None => "-",
+    }
+}
