@@ -1,9 +1,9 @@
 -- The groups of a number that is passed over, one byte after the other.
-use Rattle.std.proofs.Common.{◌≡◌, ℕ, ◌-◌, ◌<◌, ◌≤◌, List, [], ◌∷◌, Result, Ok, Err, ap, refl, arith}
+use Rattle.std.proofs.Common.{◌≡◌, ℕ, ◌-◌, ◌<◌, ◌≤◌, List, [], ◌∷◌, Result, Ok, Err, Bool, true, false, nat_lt, ap, refl, ◌∙◌, arith, if◌then◌else◌}
 use Rattle.std.proofs.lemmas.Bool.{lt-ltb, le-ltb}
 use Rattle.parquet_footer.specs.declared.fault.Fault.{Fault}
 use Rattle.parquet_footer.specs.declared.fault.Rule.TheVariants.{End, Number}
-use Rattle.parquet_footer.specs.Fault.{broken}
+use Rattle.parquet_footer.specs.Fault.{broken, refused, kept, ◌>>=◌}
 use Rattle.parquet_footer.specs.Wire.{byte_at, number_past}
 
 abbrev failed : Fault → Result (List ℕ) Fault
@@ -11,6 +11,10 @@ failed e = Err e
 
 abbrev passed : List ℕ → Result (List ℕ) Fault
 passed rest = Ok rest
+
+by_test : (is_low : Bool) (bytes rest : List ℕ) → (if is_low then Ok rest else refused Number bytes) ≡ (kept is_low Number bytes >>= λ _. Ok rest)
+by_test true bytes rest = refl
+by_test false bytes rest = refl
 
 pub past_fails : (n : ℕ) (bytes : List ℕ) (e : Fault) → byte_at bytes ≡ Err e → number_past n bytes ≡ Err e
 unfolding byte_at number_past
@@ -34,10 +38,9 @@ module _ (n b : ℕ) (rest : List ℕ) where
       let first = ap (λ (p : ℕ × List ℕ). p.0) same in
       rw (le-ltb x 128 (omega (arith, first)), le-ltb n 2 more) (ap (λ (p : ℕ × List ℕ). number_past (n - 1) p.1) same)
 
-  pub past_breaks : (bytes : List ℕ) → byte_at bytes ≡ Ok (b, rest) → 128 ≤ b → n < 2 → number_past n bytes ≡ Err (broken Number bytes)
+  pub past_last : (bytes : List ℕ) → byte_at bytes ≡ Ok (b, rest) → n < 2 → number_past n bytes ≡ (kept (nat_lt b 128) Number bytes >>= λ _. Ok rest)
   unfolding byte_at number_past
-  past_breaks [] is high few = absurd (cc)
-  past_breaks (x ∷ xs) is high few =
+  past_last [] is few = absurd (cc)
+  past_last (x ∷ xs) is few =
       let same : (x, xs) ≡ (b, rest) = cc in
-      let first = ap (λ (p : ℕ × List ℕ). p.0) same in
-      rw (le-ltb x 128 (omega (arith, first)), lt-ltb n 2 few) refl
+      rw (lt-ltb n 2 few) (by_test (nat_lt x 128) (x ∷ xs) xs ∙ ap (λ (p : ℕ × List ℕ). kept (nat_lt p.0 128) Number (x ∷ xs) >>= λ _. passed p.1) same)

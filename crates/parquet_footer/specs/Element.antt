@@ -54,17 +54,6 @@ storage_at bytes = do
   name ← needed bytes text
   Ok (record { physical_type = physical_type; type_length = type_length; repetition = repetition; name = name })
 
--- 5 num_children, 6 converted_type, 7 scale, 8 precision
-unfoldable pub numbers_at : List ℕ → Result (Option ℕ × Option ℕ × Option ℕ × Option ℕ) Fault
-numbers_at bytes = do
-  one ← pair_at 5 6 bytes
-  num_children ← number_in one.0.0
-  converted_type ← number_in one.0.1
-  two ← pair_at 7 8 bytes
-  scale ← number_in two.0.0
-  precision ← number_in two.0.1
-  Ok (num_children, converted_type, scale, precision)
-
 pub record Element : Type 0 where
   pub storage : Stored
   pub num_children : Option ℕ
@@ -76,11 +65,16 @@ pub record Element : Type 0 where
 abbrev pub element : SchemaElement → Element
 element e = record { storage = stored e.storage; num_children = e.num_children; converted_type = e.converted_type; scale = e.scale; precision = e.precision; logical_type = option_map logical e.logical_type }
 
--- an element, with 10 logicalType, and the bytes behind it
+-- an element, with 5 num_children, 6 converted_type, 7 scale, 8 precision, 10 logicalType, and the bytes behind it
 unfoldable pub element_at : List ℕ → Result (Element × List ℕ) Fault
 element_at bytes = do
   storage ← storage_at bytes
-  numbers ← numbers_at bytes
-  found ← pair_at 10 10 bytes
-  logical_type ← logical_in found.0.0
-  Ok (record { storage = storage; num_children = numbers.0; converted_type = numbers.1; scale = numbers.2; precision = numbers.3; logical_type = logical_type }, found.1)
+  one ← pair_at 5 6 bytes
+  num_children ← number_in one.0.0
+  converted_type ← number_in one.0.1
+  two ← pair_at 7 8 bytes
+  scale ← number_in two.0.0
+  precision ← number_in two.0.1
+  last ← pair_at 10 10 bytes
+  logical_type ← logical_in last.0.0
+  Ok (record { storage = storage; num_children = num_children; converted_type = converted_type; scale = scale; precision = precision; logical_type = logical_type }, last.1)
