@@ -3,10 +3,10 @@ use Rattle.std.proofs.Common.{◌≡◌, ℕ, zero, suc, ◌-◌, ◌/◌, ◌�
 use Rattle.parquet_footer.specs.declared.fault.Fault.{Fault}
 use Rattle.parquet_footer.specs.declared.logical.TimeUnit.{TimeUnit}
 use Rattle.parquet_footer.specs.Fault.{needed, ◌>>=◌}
-use Rattle.parquet_footer.specs.Wire.{byte_at, number_at, number_past, count_at, bytes_past, binary_at, text_at, list_at, map_at, id_at, field_at}
-use Rattle.parquet_footer.specs.Fields.{Spot, noted, noting, pair_at, value_of, number_in, text_in, flag_in, structs_in}
-use Rattle.parquet_footer.specs.Logical.{Logical, time, timestamp, algorithm_of, union_at, unit_of, unit_in, clock_at, width_of, width_in, integer_at, geometry_at, geography_at, member_at, logical_at, logical_in}
-use Rattle.parquet_footer.specs.Element.{physical_of, repetition_of, storage_at, element_at}
+use Rattle.parquet_footer.specs.Wire.{byte_at, number_at, number_past, count_at, bytes_past, binary_at, text_at, list_at, map_at, field_at}
+use Rattle.parquet_footer.specs.Fields.{Spot, noted, noting, pair_at, value_of, number_in, named, name_in, text_in, flag_in, structs_in}
+use Rattle.parquet_footer.specs.Logical.{Logical, time, timestamp, algorithms, union_at, unit_of, unit_in, clock_at, width_of, width_in, integer_at, geometry_at, geography_at, member_at, logical_at, logical_in}
+use Rattle.parquet_footer.specs.Element.{physical_types, repetitions, storage_at, element_at}
 use Rattle.parquet_footer.specs.Footer.{all_at, key_value_at, footer_at}
 use Rattle.parquet_footer.specs.Skip.{fields_at, items_past, plain_past, over, struct_past, pair_past, nested_past, value_past}
 
@@ -39,7 +39,6 @@ checked P n true e next h more = more
 checked P n false e next h more = refuses P n e h
 
 pub byte_within : (n : ℕ) (bytes : List ℕ) → length bytes ≤ n → Within (λ x. length x.1 ≤ n) n (byte_at bytes)
-unfolding byte_at
 byte_within n [] h = refuses _ n _ h
 byte_within n (b ∷ rest) h = reads _ n _ (omega arith)
 
@@ -60,15 +59,12 @@ past_within n most (b ∷ rest) h =
 
 module _ (n : ℕ) (bytes : List ℕ) (h : length bytes ≤ n) where
   pub count_within : Within (λ x. length x.1 ≤ n) n (count_at bytes)
-  unfolding count_at
   count_within = step (λ x. length x.1 ≤ n) _ n _ _ (number_within n 5 bytes h) (λ x k. checked _ n _ _ _ h (reads _ n _ k))
 
   pub bytes_within : (count : ℕ) → Within (λ x. length x ≤ n) n (bytes_past count bytes)
-  unfolding bytes_past
   bytes_within count = checked _ n _ _ _ h (reads _ n _ (omega (arith, length-drop count bytes)))
 
   pub binary_within : Within (λ x. length x.1 ≤ n) n (binary_at bytes)
-  unfolding binary_at
   binary_within = step (λ x. length x.1 ≤ n) _ n _ _ (number_within n 5 bytes h) (λ x k. checked _ n _ _ _ h (reads _ n _ (omega (arith, k, length-drop x.0 x.1))))
 
   pub text_within : Within (λ x. Unit {0}) n (text_at bytes)
@@ -89,16 +85,11 @@ module _ (n : ℕ) (bytes : List ℕ) (h : length bytes ≤ n) where
   map_within = step (λ x. length x.1 ≤ n) _ n _ _ (number_within n 5 bytes h) (λ x k. either _ n _ _ _ (reads _ n _ k)
       (step (λ x. length x.1 ≤ n) _ n _ _ (byte_within n x.1 k) (λ b l. checked _ n _ _ _ h (reads _ n _ l))))
 
-pub id_within : (n last more : ℕ) (bytes : List ℕ) → length bytes ≤ n → Within (λ x. length x.1 ≤ n) n (id_at last more bytes)
-unfolding id_at
-id_within n last more bytes h = step (λ x. length x.1 ≤ n) _ n _ _ (either _ n (more == 0) _ _ (count_within n bytes h) (reads _ n _ h)) (λ id k.
-    checked _ n _ _ _ h (reads _ n _ k))
-
 pub field_within : (n last : ℕ) (bytes : List ℕ) → length bytes ≤ n → Within (λ x. length x.2 ≤ n) n (field_at last bytes)
 unfolding field_at
 field_within n last bytes h = step (λ x. length x.1 ≤ n) _ n _ _ (byte_within n bytes h) (λ b k.
     either _ n _ _ _ (reads _ n _ k) (checked _ n _ _ _ h
-    (step (λ x. length x.1 ≤ n) _ n _ _ (id_within n last (b.0 / 16) b.1 k) (λ x l. reads _ n _ l))))
+    (step (λ x. length x.1 ≤ n) _ n _ _ (either _ n (b.0 / 16 == 0) _ _ (count_within n b.1 k) (reads _ n _ k)) (λ x l. checked _ n _ _ _ k (reads _ n _ l)))))
 
 -- fields, where the step that takes the state on keeps P and the bounds
 module _ {S : Type 0} (P : S → Type 0) (n : ℕ) (next : S → ℕ → ℕ → List ℕ → Result (S × List ℕ) Fault)
@@ -153,7 +144,6 @@ abbrev pub FoundBoth : ℕ → Option Spot × Option Spot → Type 0
 FoundBoth n found = Found n found.0 × Found n found.1
 
 pub noted_within : (n wanted id : ℕ) (value : Spot) (old : Option Spot) → length value.1 ≤ n → Found n old → Within (Found n) n (noted wanted id value old)
-unfolding noted
 noted_within n wanted id value None h found = either _ n _ _ _ (reads _ n _ h) (reads _ n _ tt)
 noted_within n wanted id value (Some old) h found = either _ n _ _ _ (refuses _ n _ h) (reads _ n _ found)
 
@@ -172,17 +162,14 @@ pub value_of_within : (n type : ℕ) (p : Spot) → length p.1 ≤ n → Within 
 value_of_within n type p h = checked _ n _ _ _ h (reads _ n _ h)
 
 pub number_in_within : (n : ℕ) (p : Option Spot) → Found n p → Within (λ x. Unit {0}) n (number_in p)
-unfolding number_in
 number_in_within n None f = reads _ n _ tt
 number_in_within n (Some p) f = step (λ x. length x ≤ n) _ n _ _ (value_of_within n 5 p f) (λ x k. step (λ x. length x.1 ≤ n) _ n _ _ (count_within n x k) (λ x _. reads _ n _ tt))
 
 pub text_in_within : (n : ℕ) (p : Option Spot) → Found n p → Within (λ x. Unit {0}) n (text_in p)
-unfolding text_in
 text_in_within n None f = reads _ n _ tt
 text_in_within n (Some p) f = step (λ x. length x ≤ n) _ n _ _ (value_of_within n 8 p f) (λ x k. step (λ x. Unit {0}) _ n _ _ (text_within n x k) (λ x _. reads _ n _ tt))
 
 pub structs_within : (n : ℕ) (p : Option Spot) → Found n p → Within (λ x. length x.1 ≤ n) n (structs_in p)
-unfolding structs_in
 structs_within n None f = reads _ n _ (omega arith)
 structs_within n (Some p) f = step (λ x. length x ≤ n) _ n _ _ (value_of_within n 9 p f) (λ x k.
     step (λ x. length x.2 ≤ n) _ n _ _ (list_within n x k) (λ l m. checked _ n _ _ _ k (reads _ n _ m)))
@@ -197,20 +184,12 @@ place_within n bytes (Some p) h f = reads _ n _ f
 
 -- names by numbers
 module _ (n : ℕ) (bytes : List ℕ) (h : length bytes ≤ n) where
-  pub physical_within : (number : Option ℕ) → Within (λ x. Unit {0}) n (physical_of number bytes)
-  physical_within None = reads _ n _ tt
-  physical_within (Some m) =
-      either _ n (m == 0) _ _ (reads _ n _ tt) (either _ n (m == 1) _ _ (reads _ n _ tt) (either _ n (m == 2) _ _ (reads _ n _ tt) (either _ n (m == 3) _ _ (reads _ n _ tt)
-      (either _ n (m == 4) _ _ (reads _ n _ tt) (either _ n (m == 5) _ _ (reads _ n _ tt) (either _ n (m == 6) _ _ (reads _ n _ tt) (either _ n (m == 7) _ _ (reads _ n _ tt) (refuses _ n _ h))))))))
+  pub named_within : {A : Type 0} (names : List A) (number : Option ℕ) → Within (λ x. Unit {0}) n (named names number bytes)
+  named_within names None = reads _ n _ tt
+  named_within names (Some m) = checked _ n _ _ _ h (reads _ n _ tt)
 
-  pub repetition_within : (number : Option ℕ) → Within (λ x. Unit {0}) n (repetition_of number bytes)
-  repetition_within None = reads _ n _ tt
-  repetition_within (Some m) = either _ n (m == 0) _ _ (reads _ n _ tt) (either _ n (m == 1) _ _ (reads _ n _ tt) (either _ n (m == 2) _ _ (reads _ n _ tt) (refuses _ n _ h)))
-
-  pub algorithm_within : (number : Option ℕ) → Within (λ x. Unit {0}) n (algorithm_of number bytes)
-  algorithm_within None = reads _ n _ tt
-  algorithm_within (Some m) = either _ n (m == 0) _ _ (reads _ n _ tt) (either _ n (m == 1) _ _ (reads _ n _ tt) (either _ n (m == 2) _ _ (reads _ n _ tt)
-      (either _ n (m == 3) _ _ (reads _ n _ tt) (either _ n (m == 4) _ _ (reads _ n _ tt) (refuses _ n _ h)))))
+  pub name_within : {A : Type 0} (names : List A) (p : Option Spot) → Found n p → Within (λ x. Unit {0}) n (name_in names p bytes)
+  name_within names p f = step (λ x. Unit {0}) _ n _ _ (number_in_within n p f) (λ number _. named_within names number)
 
   abbrev Pair : ((Option Spot × Option Spot) × List ℕ) → Type 0
   Pair x = FoundBoth n x.0 × (length x.1 ≤ n)
@@ -218,14 +197,12 @@ module _ (n : ℕ) (bytes : List ℕ) (h : length bytes ≤ n) where
   pub storage_within : Within (λ x. Unit {0}) n (storage_at bytes)
   unfolding storage_at
   storage_within = step Pair _ n _ _ (pair_within n 1 2 bytes h) (λ types k.
-      step (λ x. Unit {0}) _ n _ _ (number_in_within n types.0.0 k.0.0) (λ physical _.
-      step (λ x. Unit {0}) _ n _ _ (physical_within physical) (λ physical_type _.
+      step (λ x. Unit {0}) _ n _ _ (name_within physical_types types.0.0 k.0.0) (λ physical_type _.
       step (λ x. Unit {0}) _ n _ _ (number_in_within n types.0.1 k.0.1) (λ type_length _.
       step Pair _ n _ _ (pair_within n 3 4 bytes h) (λ names l.
-      step (λ x. Unit {0}) _ n _ _ (number_in_within n names.0.0 l.0.0) (λ repeats _.
-      step (λ x. Unit {0}) _ n _ _ (repetition_within repeats) (λ repetition _.
+      step (λ x. Unit {0}) _ n _ _ (name_within repetitions names.0.0 l.0.0) (λ repetition _.
       step (λ x. Unit {0}) _ n _ _ (text_in_within n names.0.1 l.0.1) (λ text _.
-      step (λ x. Unit {0}) _ n _ _ (needed_within n bytes text h) (λ name _. reads _ n _ tt)))))))))
+      step (λ x. Unit {0}) _ n _ _ (needed_within n bytes text h) (λ name _. reads _ n _ tt)))))))
 
   pub geometry_within : Within (λ x. Unit {0}) n (geometry_at bytes)
   geometry_within = step Pair _ n _ _ (pair_within n 1 1 bytes h) (λ found k.
@@ -234,8 +211,7 @@ module _ (n : ℕ) (bytes : List ℕ) (h : length bytes ≤ n) where
   pub geography_within : Within (λ x. Unit {0}) n (geography_at bytes)
   geography_within = step Pair _ n _ _ (pair_within n 1 2 bytes h) (λ found k.
       step (λ x. Unit {0}) _ n _ _ (text_in_within n found.0.0 k.0.0) (λ crs _.
-      step (λ x. Unit {0}) _ n _ _ (number_in_within n found.0.1 k.0.1) (λ number _.
-      step (λ x. Unit {0}) _ n _ _ (algorithm_within number) (λ algorithm _. reads _ n _ tt))))
+      step (λ x. Unit {0}) _ n _ _ (name_within algorithms found.0.1 k.0.1) (λ algorithm _. reads _ n _ tt)))
 
   pub width_within : (bits : ℕ) → Within (λ x. Unit {0}) n (width_of bits bytes)
   width_within bits = either _ n (bits == 8) _ _ (reads _ n _ tt) (either _ n (bits == 16) _ _ (reads _ n _ tt) (either _ n (bits == 32) _ _ (reads _ n _ tt)
@@ -245,11 +221,9 @@ module _ (n : ℕ) (bytes : List ℕ) (h : length bytes ≤ n) where
   unit_within id = either _ n (id == 1) _ _ (reads _ n _ tt) (either _ n (id == 2) _ _ (reads _ n _ tt) (either _ n (id == 3) _ _ (reads _ n _ tt) (refuses _ n _ h)))
 
   pub flag_within : (p : Option Spot) → Found n p → Within (λ x. Unit {0}) n (flag_in bytes p)
-  unfolding flag_in
   flag_within p f = step (λ p. length p.1 ≤ n) _ n _ _ (place_within n bytes p h f) (λ p k. checked _ n _ _ _ k (reads _ n _ tt))
 
   pub width_in_within : (p : Option Spot) → Found n p → Within (λ x. Unit {0}) n (width_in bytes p)
-  unfolding width_in
   width_in_within p f = step (λ p. length p.1 ≤ n) _ n _ _ (place_within n bytes p h f) (λ p k.
       step (λ x. length x ≤ n) _ n _ _ (value_of_within n 3 p k) (λ x l. step (λ x. length x.1 ≤ n) _ n _ _ (byte_within n x l) (λ b _. width_within b.0)))
 
@@ -261,7 +235,6 @@ module _ (n : ℕ) (bytes : List ℕ) (h : length bytes ≤ n) where
 
 module _ (n : ℕ) (bytes : List ℕ) (h : length bytes ≤ n) where
   pub unit_in_within : (p : Option Spot) → Found n p → Within (λ x. Unit {0}) n (unit_in bytes p)
-  unfolding unit_in
   unit_in_within p f = step (λ p. length p.1 ≤ n) _ n _ _ (place_within n bytes p h f) (λ p k. step (λ x. length x ≤ n) _ n _ _ (value_of_within n 12 p k) (λ x l.
       step (λ x. length x.1.1 ≤ n) _ n _ _ (union_within n x l) (λ u _. unit_within n x l u.0)))
 
@@ -289,7 +262,6 @@ module _ (n : ℕ) (bytes : List ℕ) (h : length bytes ≤ n) where
       step (λ x. length x ≤ n) _ n _ _ (value_of_within n 12 m.1 k) (λ x l. member_within n x l m.0))
 
 pub logical_in_within : (n : ℕ) (p : Option Spot) → Found n p → Within (λ x. Unit {0}) n (logical_in p)
-unfolding logical_in
 logical_in_within n None f = reads _ n _ tt
 logical_in_within n (Some p) f = step (λ x. length x ≤ n) _ n _ _ (value_of_within n 12 p f) (λ x k. step (λ x. Unit {0}) _ n _ _ (logical_within n x k) (λ says _. reads _ n _ tt))
 

@@ -17,13 +17,13 @@ by_test true bytes rest = refl
 by_test false bytes rest = refl
 
 pub past_fails : (n : ℕ) (bytes : List ℕ) (e : Fault) → byte_at bytes ≡ Err e → number_past n bytes ≡ Err e
-unfolding byte_at number_past
+unfolding number_past
 past_fails n [] e is = let same : broken End [] ≡ e = cc in ap (λ (d : Fault). failed d) same
 past_fails n (b ∷ rest) e is = absurd (cc)
 
 module _ (n b : ℕ) (rest : List ℕ) where
   pub past_ends : (bytes : List ℕ) → byte_at bytes ≡ Ok (b, rest) → b < 128 → number_past n bytes ≡ Ok rest
-  unfolding byte_at number_past
+  unfolding number_past
   past_ends [] is low = absurd (cc)
   past_ends (x ∷ xs) is low =
       let same : (x, xs) ≡ (b, rest) = cc in
@@ -31,7 +31,7 @@ module _ (n b : ℕ) (rest : List ℕ) where
       rw (lt-ltb x 128 (omega (arith, first))) (ap (λ (p : ℕ × List ℕ). passed p.1) same)
 
   pub past_goes : (bytes : List ℕ) → byte_at bytes ≡ Ok (b, rest) → 128 ≤ b → 2 ≤ n → number_past n bytes ≡ number_past (n - 1) rest
-  unfolding byte_at number_past
+  unfolding number_past
   past_goes [] is high more = absurd (cc)
   past_goes (x ∷ xs) is high more =
       let same : (x, xs) ≡ (b, rest) = cc in
@@ -39,7 +39,7 @@ module _ (n b : ℕ) (rest : List ℕ) where
       rw (le-ltb x 128 (omega (arith, first)), le-ltb n 2 more) (ap (λ (p : ℕ × List ℕ). number_past (n - 1) p.1) same)
 
   pub past_last : (bytes : List ℕ) → byte_at bytes ≡ Ok (b, rest) → n < 2 → number_past n bytes ≡ (kept (nat_lt b 128) Number bytes >>= λ _. Ok rest)
-  unfolding byte_at number_past
+  unfolding number_past
   past_last [] is few = absurd (cc)
   past_last (x ∷ xs) is few =
       let same : (x, xs) ≡ (b, rest) = cc in

@@ -1,35 +1,21 @@
 -- An element of the schema: a leaf or a group.
-use Rattle.std.specs.Prelude.{ℕ, List, Option, Some, None, option_map, Result, Ok, ◌==◌, if◌then◌else◌}
+use Rattle.std.specs.Prelude.{ℕ, List, [], ◌∷◌, Option, option_map, Result, Ok}
 use Rattle.parquet_footer.specs.declared.fault.Fault.{Fault}
-use Rattle.parquet_footer.specs.declared.fault.Rule.TheVariants.{Name}
 use Rattle.parquet_footer.specs.declared.element.PhysicalType.{PhysicalType}
 use Rattle.parquet_footer.specs.declared.element.PhysicalType.TheVariants.{Boolean, Int32, Int64, Int96, Float, Double, ByteArray, FixedLenByteArray}
 use Rattle.parquet_footer.specs.declared.element.Repetition.{Repetition}
 use Rattle.parquet_footer.specs.declared.element.Repetition.TheVariants.{Required, Optional, Repeated}
 use Rattle.parquet_footer.specs.declared.element.Storage.{Storage}
 use Rattle.parquet_footer.specs.declared.element.SchemaElement.{SchemaElement}
-use Rattle.parquet_footer.specs.Fault.{refused, needed, ◌>>=◌}
-use Rattle.parquet_footer.specs.Fields.{pair_at, number_in, text_in}
+use Rattle.parquet_footer.specs.Fault.{needed, ◌>>=◌}
+use Rattle.parquet_footer.specs.Fields.{pair_at, number_in, name_in, text_in}
 use Rattle.parquet_footer.specs.Logical.{Logical, logical, logical_in}
 
-abbrev pub physical_of : Option ℕ → List ℕ → Result (Option PhysicalType) Fault
-physical_of None bytes = Ok None
-physical_of (Some n) bytes =
-    if n == 0 then Ok (Some Boolean) else
-    if n == 1 then Ok (Some Int32) else
-    if n == 2 then Ok (Some Int64) else
-    if n == 3 then Ok (Some Int96) else
-    if n == 4 then Ok (Some Float) else
-    if n == 5 then Ok (Some Double) else
-    if n == 6 then Ok (Some ByteArray) else
-    if n == 7 then Ok (Some FixedLenByteArray) else refused Name bytes
+abbrev pub physical_types : List PhysicalType
+physical_types = Boolean ∷ Int32 ∷ Int64 ∷ Int96 ∷ Float ∷ Double ∷ ByteArray ∷ FixedLenByteArray ∷ []
 
-abbrev pub repetition_of : Option ℕ → List ℕ → Result (Option Repetition) Fault
-repetition_of None bytes = Ok None
-repetition_of (Some n) bytes =
-    if n == 0 then Ok (Some Required) else
-    if n == 1 then Ok (Some Optional) else
-    if n == 2 then Ok (Some Repeated) else refused Name bytes
+abbrev pub repetitions : List Repetition
+repetitions = Required ∷ Optional ∷ Repeated ∷ []
 
 -- 1 type, 2 type_length, 3 repetition_type, 4 name
 pub record Stored : Type 0 where
@@ -44,12 +30,10 @@ stored s = record { physical_type = s.physical_type; type_length = s.type_length
 unfoldable pub storage_at : List ℕ → Result Stored Fault
 storage_at bytes = do
   types ← pair_at 1 2 bytes
-  physical ← number_in types.0.0
-  physical_type ← physical_of physical bytes
+  physical_type ← name_in physical_types types.0.0 bytes
   type_length ← number_in types.0.1
   names ← pair_at 3 4 bytes
-  repeats ← number_in names.0.0
-  repetition ← repetition_of repeats bytes
+  repetition ← name_in repetitions names.0.0 bytes
   text ← text_in names.0.1
   name ← needed bytes text
   Ok (record { physical_type = physical_type; type_length = type_length; repetition = repetition; name = name })

@@ -1,7 +1,7 @@
 -- The fields of a struct that are read, by their ids.
-use Rattle.std.specs.Prelude.{ℕ, Bool, ◌||◌, List, [], length, Option, Some, None, Result, Ok, ◌==◌, if◌then◌else◌}
+use Rattle.std.specs.Prelude.{ℕ, Bool, ◌||◌, is_some, slice_get, List, [], length, Option, Some, None, Result, Ok, ◌==◌, if◌then◌else◌}
 use Rattle.parquet_footer.specs.declared.fault.Fault.{Fault}
-use Rattle.parquet_footer.specs.declared.fault.Rule.TheVariants.{WireType, Repeated}
+use Rattle.parquet_footer.specs.declared.fault.Rule.TheVariants.{WireType, Repeated, Name}
 use Rattle.parquet_footer.specs.declared.fields.Place.{Place}
 use Rattle.parquet_footer.specs.Fault.{refused, kept, needed, ◌>>=◌}
 use Rattle.parquet_footer.specs.Wire.{count_at, text_at, list_at}
@@ -19,7 +19,7 @@ spots None = None
 spots (Some p) = Some (spot p)
 
 -- the value of the field that is looked for, which stands once
-unfoldable pub noted : ℕ → ℕ → Spot → Option Spot → Result (Option Spot) Fault
+abbrev pub noted : ℕ → ℕ → Spot → Option Spot → Result (Option Spot) Fault
 noted wanted id value None = if id == wanted then Ok (Some value) else Ok None
 noted wanted id value (Some old) = if id == wanted then refused Repeated value.1 else Ok (Some old)
 
@@ -41,14 +41,26 @@ value_of type p = do
   Ok p.1
 
 -- the values of fields, where they are there
-unfoldable pub number_in : Option Spot → Result (Option ℕ) Fault
+abbrev pub number_in : Option Spot → Result (Option ℕ) Fault
 number_in None = Ok None
 number_in (Some p) = do
   bytes ← value_of 5 p
   n ← count_at bytes
   Ok (Some n.0)
 
-unfoldable pub text_in : Option Spot → Result (Option (List ℕ)) Fault
+-- the name that a number denotes: the names stand in the order of their numbers, from 0 on
+abbrev pub named : {A : Type 0} → List A → Option ℕ → List ℕ → Result (Option A) Fault
+named names None bytes = Ok None
+named names (Some n) bytes = do
+  _ ← kept (is_some (slice_get names n)) Name bytes
+  Ok (slice_get names n)
+
+abbrev pub name_in : {A : Type 0} → List A → Option Spot → List ℕ → Result (Option A) Fault
+name_in names place bytes = do
+  number ← number_in place
+  named names number bytes
+
+abbrev pub text_in : Option Spot → Result (Option (List ℕ)) Fault
 text_in None = Ok None
 text_in (Some p) = do
   bytes ← value_of 8 p
@@ -56,14 +68,14 @@ text_in (Some p) = do
   Ok (Some text)
 
 -- a truth value, which is its type: 1 true, 2 false
-unfoldable pub flag_in : List ℕ → Option Spot → Result Bool Fault
+abbrev pub flag_in : List ℕ → Option Spot → Result Bool Fault
 flag_in bytes place = do
   p ← needed bytes place
   _ ← kept (p.0 == 1 || p.0 == 2) WireType p.1
   Ok (p.0 == 1)
 
 -- how many structs a list has, none where it is missing, and their bytes; an empty list may have items of any type
-unfoldable pub structs_in : Option Spot → Result (ℕ × List ℕ) Fault
+abbrev pub structs_in : Option Spot → Result (ℕ × List ℕ) Fault
 structs_in None = Ok (0, [])
 structs_in (Some p) = do
   bytes ← value_of 9 p

@@ -1,5 +1,5 @@
 -- Logical types: a union, of which the geometry types, times, points in time and integers are read, and the others known by their ids.
-use Rattle.std.specs.Prelude.{ℕ, Bool, not, List, Option, Some, None, option_map, Result, Ok, ◌==◌, if◌then◌else◌}
+use Rattle.std.specs.Prelude.{ℕ, Bool, not, List, [], ◌∷◌, Option, Some, None, option_map, Result, Ok, ◌==◌, if◌then◌else◌}
 use Rattle.parquet_footer.specs.declared.fault.Fault.{Fault}
 use Rattle.parquet_footer.specs.declared.fault.Rule.TheVariants.{Union, Name}
 use Rattle.parquet_footer.specs.declared.logical.Algorithm.{Algorithm}
@@ -11,7 +11,7 @@ use Rattle.parquet_footer.specs.declared.logical.LogicalType.TheVariants.{Geomet
 use Rattle.parquet_footer.specs.Fault.{refused, kept, needed, ◌>>=◌}
 use Rattle.parquet_footer.specs.Wire.{byte_at, field_at}
 use Rattle.parquet_footer.specs.Skip.{value_past}
-use Rattle.parquet_footer.specs.Fields.{Spot, pair_at, value_of, number_in, text_in, flag_in}
+use Rattle.parquet_footer.specs.Fields.{Spot, pair_at, value_of, name_in, text_in, flag_in}
 
 -- a logical type, without where its texts lie
 pub data Logical : Type 0 where
@@ -30,14 +30,8 @@ logical (Timestamp utc unit) = timestamp utc unit
 logical (Integer bits signed) = integer bits signed
 logical (Other id) = other id
 
-abbrev pub algorithm_of : Option ℕ → List ℕ → Result (Option Algorithm) Fault
-algorithm_of None bytes = Ok None
-algorithm_of (Some n) bytes =
-    if n == 0 then Ok (Some Spherical) else
-    if n == 1 then Ok (Some Vincenty) else
-    if n == 2 then Ok (Some Thomas) else
-    if n == 3 then Ok (Some Andoyer) else
-    if n == 4 then Ok (Some Karney) else refused Name bytes
+abbrev pub algorithms : List Algorithm
+algorithms = Spherical ∷ Vincenty ∷ Thomas ∷ Andoyer ∷ Karney ∷ []
 
 -- a union is a struct of one field: its id, and the type and the bytes of its value
 unfoldable pub union_at : List ℕ → Result (ℕ × Spot) Fault
@@ -56,7 +50,7 @@ unit_of id bytes =
     if id == 2 then Ok Microsecond else
     if id == 3 then Ok Nanosecond else refused Name bytes
 
-unfoldable pub unit_in : List ℕ → Option Spot → Result TimeUnit Fault
+abbrev pub unit_in : List ℕ → Option Spot → Result TimeUnit Fault
 unit_in bytes place = do
   p ← needed bytes place
   value ← value_of 12 p
@@ -70,7 +64,7 @@ width_of bits bytes =
     if bits == 32 then Ok bits else
     if bits == 64 then Ok bits else refused Name bytes
 
-unfoldable pub width_in : List ℕ → Option Spot → Result ℕ Fault
+abbrev pub width_in : List ℕ → Option Spot → Result ℕ Fault
 width_in bytes place = do
   p ← needed bytes place
   value ← value_of 3 p
@@ -105,8 +99,7 @@ abbrev pub geography_at : List ℕ → Result Logical Fault
 geography_at bytes = do
   found ← pair_at 1 2 bytes
   crs ← text_in found.0.0
-  number ← number_in found.0.1
-  algorithm ← algorithm_of number bytes
+  algorithm ← name_in algorithms found.0.1 bytes
   Ok (geography crs algorithm)
 
 -- the struct of a member, by its id
@@ -124,7 +117,7 @@ logical_at bytes = do
   value ← value_of 12 member.1
   member_at member.0 value
 
-unfoldable pub logical_in : Option Spot → Result (Option Logical) Fault
+abbrev pub logical_in : Option Spot → Result (Option Logical) Fault
 logical_in None = Ok None
 logical_in (Some p) = do
   bytes ← value_of 12 p

@@ -5,7 +5,7 @@ use Rattle.parquet_footer.specs.declared.fault.Fault.{Fault}
 use Rattle.parquet_footer.specs.declared.fault.Rule.TheVariants.{End, Number, Negative, Length, WireType, FieldId, Utf8}
 use Rattle.parquet_footer.specs.Fault.{refused, kept, ◌>>=◌}
 
-unfoldable pub byte_at : List ℕ → Result (ℕ × List ℕ) Fault
+abbrev pub byte_at : List ℕ → Result (ℕ × List ℕ) Fault
 byte_at [] = refused End []
 byte_at (b ∷ rest) = Ok (b, rest)
 
@@ -27,19 +27,19 @@ number_past most (b ∷ rest) =
     if nat_lt most 2 then refused Number (b ∷ rest) else number_past (most - 1) rest
 
 -- zigzag: 0 is 0, 1 is -1, 2 is 1, 3 is -2 and so on, of which those that are not negative are read
-unfoldable pub count_at : List ℕ → Result (ℕ × List ℕ) Fault
+abbrev pub count_at : List ℕ → Result (ℕ × List ℕ) Fault
 count_at bytes = do
   n ← number_at 5 bytes
   _ ← kept (n.0 % 2 == 0) Negative bytes
   Ok (n.0 / 2, n.1)
 
-unfoldable pub bytes_past : ℕ → List ℕ → Result (List ℕ) Fault
+abbrev pub bytes_past : ℕ → List ℕ → Result (List ℕ) Fault
 bytes_past n bytes = do
   _ ← kept (nat_le n (length bytes)) End bytes
   Ok (drop n bytes)
 
 -- a length, and so many bytes
-unfoldable pub binary_at : List ℕ → Result (List ℕ × List ℕ) Fault
+abbrev pub binary_at : List ℕ → Result (List ℕ × List ℕ) Fault
 binary_at bytes = do
   n ← number_at 5 bytes
   _ ← kept (nat_le n.0 (length n.1)) Length bytes
@@ -71,18 +71,13 @@ map_at bytes = do
     _ ← kept (nat_le n.0 (length b.1)) Length bytes
     Ok (item_type (b.0 / 16), item_type (b.0 % 16), n.0, b.1))
 
--- the id of a field: so many more than that of the field before it, or, where that is 0, a number behind it
-unfoldable pub id_at : ℕ → ℕ → List ℕ → Result (ℕ × List ℕ) Fault
-id_at last more bytes = do
-  id ← (if more == 0 then count_at bytes else Ok (last + more, bytes))
-  _ ← kept (nat_lt id.0 32768) FieldId bytes
-  Ok id
-
--- the head of a field behind a field of that id: its id and its type, which is 0 at the end of a struct
+-- the head of a field behind a field of that id: its id and its type, which is 0 at the end of a struct; the id is so many more
+-- than the one before, or, where that is 0, a number behind the head
 unfoldable pub field_at : ℕ → List ℕ → Result (ℕ × ℕ × List ℕ) Fault
 field_at last bytes = do
   b ← byte_at bytes
   if b.0 == 0 then Ok (last, 0, b.1) else (do
     _ ← kept (not (b.0 % 16 == 0)) WireType bytes
-    id ← id_at last (b.0 / 16) b.1
+    id ← (if b.0 / 16 == 0 then count_at b.1 else Ok (last + b.0 / 16, b.1))
+    _ ← kept (nat_lt id.0 32768) FieldId b.1
     Ok (id.0, b.0 % 16, id.1))

@@ -1,10 +1,9 @@
 //! An element of the schema: a leaf or a group.
-ghost use Rattle.std.specs.Prelude.{◌≡◌};
 ghost use Rattle.parquet_footer.specs.Fault.{Returns};
-ghost use Rattle.parquet_footer.specs.Element.{physical_of, repetition_of, stored, storage_at, element, element_at};
+ghost use Rattle.parquet_footer.specs.Element.{stored, storage_at, element, element_at};
 
 use crate::fault::{Fault, Rule, broken};
-use crate::fields::{number_in, pair_at, text_in};
+use crate::fields::{name_in, number_in, pair_at, text_in};
 use crate::logical::{LogicalType, logical_in};
 
 /// How the values of a leaf are stored.
@@ -69,36 +68,24 @@ pub struct SchemaElement<'a> {
     pub logical_type: Option<LogicalType<'a>>,
 }
 
-/// The physical type that a number denotes.
-fn physical_of(number: Option<u32>, bytes: &[u8]) -> Result<Option<PhysicalType>, Fault>
-    ensures { result ≡ physical_of number bytes.now }
-{
-    match number {
-        None => Ok(None),
-        Some(0) => Ok(Some(PhysicalType::Boolean)),
-        Some(1) => Ok(Some(PhysicalType::Int32)),
-        Some(2) => Ok(Some(PhysicalType::Int64)),
-        Some(3) => Ok(Some(PhysicalType::Int96)),
-        Some(4) => Ok(Some(PhysicalType::Float)),
-        Some(5) => Ok(Some(PhysicalType::Double)),
-        Some(6) => Ok(Some(PhysicalType::ByteArray)),
-        Some(7) => Ok(Some(PhysicalType::FixedLenByteArray)),
-        Some(_) => Err(broken(Rule::Name, bytes)),
-    }
-}
+/// The physical types, by their numbers.
+const PHYSICAL_TYPES: [PhysicalType; 8] = [
+    PhysicalType::Boolean,
+    PhysicalType::Int32,
+    PhysicalType::Int64,
+    PhysicalType::Int96,
+    PhysicalType::Float,
+    PhysicalType::Double,
+    PhysicalType::ByteArray,
+    PhysicalType::FixedLenByteArray,
+];
 
-/// The repetition that a number denotes.
-fn repetition_of(number: Option<u32>, bytes: &[u8]) -> Result<Option<Repetition>, Fault>
-    ensures { result ≡ repetition_of number bytes.now }
-{
-    match number {
-        None => Ok(None),
-        Some(0) => Ok(Some(Repetition::Required)),
-        Some(1) => Ok(Some(Repetition::Optional)),
-        Some(2) => Ok(Some(Repetition::Repeated)),
-        Some(_) => Err(broken(Rule::Name, bytes)),
-    }
-}
+/// The repetitions, by their numbers.
+const REPETITIONS: [Repetition; 3] = [
+    Repetition::Required,
+    Repetition::Optional,
+    Repetition::Repeated,
+];
 
 /// The fields 1 to 4 of an element.
 #[tactic(auto, unfolding(crate::specs::Element::storage_at))]
@@ -106,10 +93,10 @@ fn storage_at(bytes: &[u8]) -> Result<Storage<'_>, Fault>
     ensures { Returns stored result (storage_at bytes.now) }
 {
     let (physical, length, _rest) = pair_at(bytes, 1, 2)?;
-    let physical_type = physical_of(number_in(physical)?, bytes)?;
+    let physical_type = name_in(&PHYSICAL_TYPES, physical, bytes)?;
     let type_length = number_in(length)?;
     let (repetition, name, _rest) = pair_at(bytes, 3, 4)?;
-    let repetition = repetition_of(number_in(repetition)?, bytes)?;
+    let repetition = name_in(&REPETITIONS, repetition, bytes)?;
     let name = text_in(name)?.ok_or(broken(Rule::Missing, bytes))?;
     Ok(Storage {
         physical_type,

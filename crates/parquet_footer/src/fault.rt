@@ -3,8 +3,6 @@ ghost use Rattle.std.specs.Prelude.{◌≡◌, IsTrue, OnOk, length};
 ghost use Rattle.parquet_footer.specs.Fault.{broken, kept};
 ghost use Rattle.parquet_footer.specs.declared.fault.Stop.TheVariants as stops;
 
-use std::alloc::AllocFailed;
-
 /// A rule that the bytes break.
 #[derive(Debug, Clone, Copy, PartialEq, Eq)]
 pub enum Rule {
@@ -47,10 +45,8 @@ pub struct Fault {
 pub fn broken(rule: Rule, bytes: &[u8]) -> Fault
     ensures { result ≡ broken rule bytes.now }
 {
-    Fault {
-        left: bytes.len(),
-        rule,
-    }
+    let left = bytes.len();
+    Fault { left, rule }
 }
 
 /// Errs with the rule, broken at the front of the bytes, unless it is kept.
@@ -80,14 +76,6 @@ impl From<Fault> for Stop {
 
     fn from(fault: Fault) -> Stop {
         Stop::Fault(fault)
-    }
-}
-
-impl<T: Drop> From<AllocFailed<T>> for Stop {
-    ghost from_gives = { λ _ stop. stop ≡ stops.Memory };
-
-    fn from(_refused: AllocFailed<T>) -> Stop {
-        Stop::Memory
     }
 }
 

@@ -1,7 +1,7 @@
 //! The fields of a struct that are read, by their ids.
 ghost use Rattle.std.specs.Prelude.{◌≡◌, option_map};
 ghost use Rattle.parquet_footer.specs.Fault.{Returns};
-ghost use Rattle.parquet_footer.specs.Fields.{spot, spots, noted, pair_at, value_of, number_in, text_in, flag_in, structs_in};
+ghost use Rattle.parquet_footer.specs.Fields.{spot, spots, noted, pair_at, value_of, number_in, name_in, text_in, flag_in, structs_in};
 
 use crate::fault::{Fault, Rule, broken, ensure};
 use crate::skip::{LEVELS, value_past};
@@ -23,7 +23,6 @@ pub type Found<'a> = Option<Place<'a>>;
 pub type Pair<'a> = (Found<'a>, Found<'a>, &'a [u8]);
 
 /// Notes the value of a field if it is the one that is looked for, which stands once.
-#[tactic(auto, unfolding(crate::specs::Fields::noted))]
 fn noted<'a>(wanted: u16, id: u16, value: Place<'a>, found: Found<'a>) -> Result<Found<'a>, Fault>
     ensures { Returns spots result (noted wanted id (spot value.entry) (spots found.entry)) }
 {
@@ -65,29 +64,33 @@ pub fn value_of(kind: u8, place: Place<'_>) -> Result<&[u8], Fault>
 }
 
 /// The number in a field, where it is there.
-#[tactic(auto, unfolding(crate::specs::Fields::number_in))]
 pub fn number_in(place: Found<'_>) -> Result<Option<u32>, Fault>
     ensures { result ≡ number_in (spots place.entry) }
 {
-    match place {
-        None => Ok(None),
-        Some(place) => Ok(Some(count_at(value_of(5, place)?)?.0)),
-    }
+    let number = |place| Ok(count_at(value_of(5, place)?)?.0);
+    place.map(number).transpose()
+}
+
+/// The name that the number in a field denotes, where it is there: the names stand in the order of their numbers, from 0 on.
+pub fn name_in<T: Copy>(names: &[T], place: Found<'_>, bytes: &[u8]) -> Result<Option<T>, Fault>
+    ensures { result ≡ name_in names.now (spots place.entry) bytes.now }
+{
+    let Some(number) = number_in(place)? else {
+        return Ok(None);
+    };
+    let name = names.get(number as usize).copied();
+    ensure(name.is_some(), Rule::Name, bytes)?;
+    Ok(name)
 }
 
 /// The text in a field, where it is there.
-#[tactic(auto, unfolding(crate::specs::Fields::text_in))]
 pub fn text_in(place: Found<'_>) -> Result<Option<&str>, Fault>
     ensures { Returns (option_map (λ s. s.now)) result (text_in (spots place.entry)) }
 {
-    match place {
-        None => Ok(None),
-        Some(place) => Ok(Some(text_at(value_of(8, place)?)?)),
-    }
+    place.map(|place| text_at(value_of(8, place)?)).transpose()
 }
 
 /// The truth value in a field of a struct, whose bytes these are.
-#[tactic(auto, unfolding(crate::specs::Fields::flag_in))]
 pub fn flag_in(bytes: &[u8], place: Found<'_>) -> Result<bool, Fault>
     ensures { result ≡ flag_in bytes.now (spots place.entry) }
 {
@@ -98,7 +101,6 @@ pub fn flag_in(bytes: &[u8], place: Found<'_>) -> Result<bool, Fault>
 }
 
 /// How many structs a list has, which is none where it is missing, and their bytes.
-#[tactic(auto, unfolding(crate::specs::Fields::structs_in))]
 pub fn structs_in(place: Found<'_>) -> Result<(u32, &[u8]), Fault>
     ensures { Returns (λ x. (x.0, x.1.now)) result (structs_in (spots place.entry)) }
 {

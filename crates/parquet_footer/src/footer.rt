@@ -1,7 +1,8 @@
-//! A footer.
+//! A footer, and the end of a file, which says where its footer begins.
 ghost use Rattle.std.specs.Prelude.{◌≡◌, map};
 ghost use Rattle.parquet_footer.specs.Fault.{Returns, Gives, Answers};
 ghost use Rattle.parquet_footer.specs.Element.{element, element_at};
+ghost use Rattle.parquet_footer.specs.Tail.{length_at};
 ghost use Rattle.parquet_footer.specs.Footer.{all_at, pairing, key_value_at, contents, footer_at};
 
 use crate::element::{SchemaElement, element_at};
@@ -46,7 +47,7 @@ fn elements_at(alloc: Global, count: u32, bytes: &[u8]) -> Result<Vec<SchemaElem
     let mut rest = bytes;
     'structs: for i in 0..count {
         let (item, behind) = element_at(rest)?;
-        found.push(item)?;
+        found.push(item).map_err(|_| Stop::Memory)?;
         rest = behind;
     }
     Ok(found)
@@ -60,7 +61,7 @@ fn key_values_at(alloc: Global, count: u32, bytes: &[u8]) -> Result<Vec<KeyValue
     let mut rest = bytes;
     'structs: for i in 0..count {
         let (item, behind) = key_value_at(rest)?;
-        found.push(item)?;
+        found.push(item).map_err(|_| Stop::Memory)?;
         rest = behind;
     }
     Ok(found)
@@ -95,5 +96,21 @@ pub fn read_footer(alloc: Global, bytes: &[u8]) -> Result<Footer<'_>, FooterErro
             Err(FooterError::Invalid(rule, bytes.len().saturating_sub(left)))
         }
         Err(Stop::Memory) => Err(FooterError::Memory),
+    }
+}
+
+/// The length in bytes of the footer that stands before the last eight bytes of a file.
+///
+/// Errs with `Encrypted` where they end in `PARE`, and with `NotParquet` where they end neither so nor in `PAR1`.
+#[tactic(auto, unfolding(crate::specs::Tail::length_at))]
+pub fn footer_length(tail: &[u8; 8]) -> Result<u32, FooterError>
+    ensures { result ≡ length_at tail.now }
+{
+    let [a, b, c, d, e, f, g, h] = *tail;
+    let length = u32::from_le_bytes([a, b, c, d]);
+    match u32::from_le_bytes([e, f, g, h]) {
+        0x3152_4150 => Ok(length),
+        0x4552_4150 => Err(FooterError::Encrypted),
+        _ => Err(FooterError::NotParquet),
     }
 }

@@ -3,10 +3,10 @@
 ghost use Rattle.std.specs.Prelude.{◌≡◌, option_map};
 ghost use Rattle.parquet_footer.specs.Fault.{Returns};
 ghost use Rattle.parquet_footer.specs.Fields.{spot, spots};
-ghost use Rattle.parquet_footer.specs.Logical.{logical, algorithm_of, union_at, unit_in, width_in, logical_at, logical_in};
+ghost use Rattle.parquet_footer.specs.Logical.{logical, union_at, unit_in, width_in, logical_at, logical_in};
 
 use crate::fault::{Fault, Rule, broken, ensure};
-use crate::fields::{Found, Place, flag_in, number_in, pair_at, text_in, value_of};
+use crate::fields::{Found, Place, flag_in, name_in, pair_at, text_in, value_of};
 use crate::skip::{LEVELS, value_past};
 use crate::wire::{byte_at, field_at};
 
@@ -53,23 +53,16 @@ pub enum LogicalType<'a> {
     Other(u16),
 }
 
-/// The algorithm that a number denotes.
-fn algorithm_of(number: Option<u32>, bytes: &[u8]) -> Result<Option<Algorithm>, Fault>
-    ensures { result ≡ algorithm_of number bytes.now }
-{
-    match number {
-        None => Ok(None),
-        Some(0) => Ok(Some(Algorithm::Spherical)),
-        Some(1) => Ok(Some(Algorithm::Vincenty)),
-        Some(2) => Ok(Some(Algorithm::Thomas)),
-        Some(3) => Ok(Some(Algorithm::Andoyer)),
-        Some(4) => Ok(Some(Algorithm::Karney)),
-        Some(_) => Err(broken(Rule::Name, bytes)),
-    }
-}
+/// The algorithms, by their numbers.
+const ALGORITHMS: [Algorithm; 5] = [
+    Algorithm::Spherical,
+    Algorithm::Vincenty,
+    Algorithm::Thomas,
+    Algorithm::Andoyer,
+    Algorithm::Karney,
+];
 
 /// The unit of time in a field of a struct, whose bytes these are.
-#[tactic(auto, unfolding(crate::specs::Logical::unit_in))]
 fn unit_in(bytes: &[u8], place: Found<'_>) -> Result<TimeUnit, Fault>
     ensures { result ≡ unit_in bytes.now (spots place.entry) }
 {
@@ -84,7 +77,6 @@ fn unit_in(bytes: &[u8], place: Found<'_>) -> Result<TimeUnit, Fault>
 }
 
 /// The bits of an integer in a field of a struct, whose bytes these are.
-#[tactic(auto, unfolding(crate::specs::Logical::width_in))]
 fn width_in(bytes: &[u8], place: Found<'_>) -> Result<u8, Fault>
     ensures { result ≡ width_in bytes.now (spots place.entry) }
 {
@@ -104,8 +96,7 @@ fn union_at(bytes: &[u8]) -> Result<(u16, Place<'_>), Fault>
     let (id, kind, value) = field_at(0, bytes)?;
     ensure(kind != 0, Rule::Union, bytes)?;
     let rest = value_past(kind, value, LEVELS)?;
-    let (end, _behind) = byte_at(rest)?;
-    ensure(end == 0, Rule::Union, rest)?;
+    ensure(byte_at(rest)?.0 == 0, Rule::Union, rest)?;
     Ok((id, Place { kind, bytes: value }))
 }
 
@@ -136,19 +127,17 @@ fn logical_at(bytes: &[u8]) -> Result<LogicalType<'_>, Fault>
         18 => {
             let (crs, algorithm, _rest) = pair_at(bytes, 1, 2)?;
             let crs = text_in(crs)?;
-            Ok(LogicalType::Geography(crs, algorithm_of(number_in(algorithm)?, bytes)?))
+            Ok(LogicalType::Geography(crs, name_in(&ALGORITHMS, algorithm, bytes)?))
         }
         _ => Ok(LogicalType::Other(id)),
     }
 }
 
 /// The logical type in a field, where it is there.
-#[tactic(auto, unfolding(crate::specs::Logical::logical_in))]
 pub fn logical_in(place: Found<'_>) -> Result<Option<LogicalType<'_>>, Fault>
     ensures { Returns (option_map logical) result (logical_in (spots place.entry)) }
 {
-    match place {
-        None => Ok(None),
-        Some(place) => Ok(Some(logical_at(value_of(12, place)?)?)),
-    }
+    place
+        .map(|place| logical_at(value_of(12, place)?))
+        .transpose()
 }

@@ -1,12 +1,11 @@
 //! Values of Thrift's compact protocol at the front of the bytes, each with the bytes behind it.
 ghost use Rattle.std.specs.Prelude.{◌≡◌, ◌<◌, length};
 ghost use Rattle.parquet_footer.specs.Fault.{Returns};
-ghost use Rattle.parquet_footer.specs.Wire.{byte_at, number_at, number_past, count_at, bytes_past, binary_at, text_at, item_type, list_at, map_at, id_at, field_at};
+ghost use Rattle.parquet_footer.specs.Wire.{byte_at, number_at, number_past, count_at, bytes_past, binary_at, text_at, item_type, list_at, map_at, field_at};
 
 use crate::fault::{Fault, Rule, broken, ensure};
 
 /// A byte.
-#[tactic(auto, unfolding(crate::specs::Wire::byte_at))]
 #[inline(always)]
 pub fn byte_at(bytes: &[u8]) -> Result<(u8, &[u8]), Fault>
     ensures { Returns (λ x. (x.0, x.1.now)) result (byte_at bytes.now) }
@@ -54,7 +53,6 @@ pub fn number_past(bytes: &[u8], most: u32) -> Result<&[u8], Fault>
 }
 
 /// A number in zigzag that is not negative.
-#[tactic(auto, unfolding(crate::specs::Wire::count_at))]
 #[inline(never)]
 pub fn count_at(bytes: &[u8]) -> Result<(u32, &[u8]), Fault>
     ensures { Returns (λ x. (x.0, x.1.now)) result (count_at bytes.now) }
@@ -65,7 +63,6 @@ pub fn count_at(bytes: &[u8]) -> Result<(u32, &[u8]), Fault>
 }
 
 /// Passes over so many bytes.
-#[tactic(auto, unfolding(crate::specs::Wire::bytes_past))]
 #[inline(always)]
 pub fn bytes_past(bytes: &[u8], count: usize) -> Result<&[u8], Fault>
     ensures { Returns (λ x. x.now) result (bytes_past count bytes.now) }
@@ -75,7 +72,6 @@ pub fn bytes_past(bytes: &[u8], count: usize) -> Result<&[u8], Fault>
 }
 
 /// A length, and so many bytes.
-#[tactic(auto, unfolding(crate::specs::Wire::binary_at))]
 pub fn binary_at(bytes: &[u8]) -> Result<(&[u8], &[u8]), Fault>
     ensures { Returns (λ x. (x.0.now, x.1.now)) result (binary_at bytes.now) }
 {
@@ -98,10 +94,7 @@ pub fn text_at(bytes: &[u8]) -> Result<&str, Fault>
 fn item_type(kind: u8) -> u8
     ensures { result ≡ item_type kind }
 {
-    match kind {
-        1 | 2 => 3,
-        _ => kind,
-    }
+    if kind == 1 || kind == 2 { 3 } else { kind }
 }
 
 /// The head of a list or a set: the items' type, how many they are, and the bytes behind it.
@@ -133,21 +126,6 @@ pub fn map_at(bytes: &[u8]) -> Result<(u8, u8, u32, &[u8]), Fault>
     Ok((item_type(types / 16), item_type(types % 16), count, rest))
 }
 
-/// The id of a field.
-#[tactic(auto, unfolding(crate::specs::Wire::id_at))]
-#[inline(always)]
-fn id_at(last: u16, more: u8, bytes: &[u8]) -> Result<(u16, &[u8]), Fault>
-    ensures { Returns (λ x. (x.0, x.1.now)) result (id_at last more bytes.now) }
-{
-    let (id, rest) = if more == 0 {
-        count_at(bytes)?
-    } else {
-        (last as u32 + more as u32, bytes)
-    };
-    ensure(id < 32768, Rule::FieldId, bytes)?;
-    Ok((id as u16, rest))
-}
-
 /// The head of a field behind a field of that id: its id, its type, which is 0 at the end of a struct, and the
 /// bytes behind it.
 #[tactic(auto, unfolding(crate::specs::Wire::field_at))]
@@ -160,6 +138,12 @@ pub fn field_at(last: u16, bytes: &[u8]) -> Result<(u16, u8, &[u8]), Fault>
         return Ok((last, 0, rest));
     }
     ensure(head % 16 != 0, Rule::WireType, bytes)?;
-    let (id, rest) = id_at(last, head / 16, rest)?;
-    Ok((id, head % 16, rest))
+    let more = head / 16;
+    let (id, behind) = if more == 0 {
+        count_at(rest)?
+    } else {
+        (last as u32 + more as u32, rest)
+    };
+    ensure(id < 32768, Rule::FieldId, rest)?;
+    Ok((id as u16, head % 16, behind))
 }
