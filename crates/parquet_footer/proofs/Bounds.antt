@@ -1,12 +1,13 @@
 -- A rule is broken within the bytes that are read: what a step leaves, and what it finds, is never longer than what it was given.
 use Rattle.std.proofs.Common.{◌≡◌, ℕ, zero, suc, ◌-◌, ◌/◌, ◌≤◌, nat_lt, List, [], ◌∷◌, length, Bool, true, false, Option, Some, None, Result, Ok, Err, refl, subst, arith, length-drop, ◌==◌, if◌then◌else◌}
 use Rattle.parquet_footer.specs.declared.fault.Fault.{Fault}
+use Rattle.parquet_footer.specs.declared.logical.TimeUnit.{TimeUnit}
 use Rattle.parquet_footer.specs.Fault.{needed, ◌>>=◌}
-use Rattle.parquet_footer.specs.Wire.{byte_at, number_at, number_past, count_at, bytes_past, binary_at, text_at, list_at, map_at, id_at, field_at}
-use Rattle.parquet_footer.specs.Fields.{Spot, noted, noting, pair_at, number_in, text_in, flag_in, byte_in, structs_in}
-use Rattle.parquet_footer.specs.Logical.{algorithm_of, union_at, unit_of, unit_in, clock_at, width_of, integer_at, geometry_at, geography_at, member_at, logical_at, logical_in}
-use Rattle.parquet_footer.specs.Element.{physical_of, repetition_of, storage_at, numbers_at, element_at}
-use Rattle.parquet_footer.specs.Footer.{all_at, key_value_at, none_or, footer_at}
+use Rattle.parquet_footer.specs.Wire.{byte_at, number_at, number_past, count_at, bytes_past, binary_at, text_at, list_at, map_at, field_at}
+use Rattle.parquet_footer.specs.Fields.{Spot, noted, noting, pair_at, value_of, number_in, named, name_in, text_in, flag_in, structs_in}
+use Rattle.parquet_footer.specs.Logical.{Logical, time, timestamp, algorithms, union_at, unit_of, unit_in, clock_at, width_of, width_in, integer_at, geometry_at, geography_at, member_at, logical_at, logical_in}
+use Rattle.parquet_footer.specs.Element.{physical_types, repetitions, storage_at, element_at}
+use Rattle.parquet_footer.specs.Footer.{all_at, key_value_at, footer_at}
 use Rattle.parquet_footer.specs.Skip.{fields_at, items_past, plain_past, over, struct_past, pair_past, nested_past, value_past}
 
 abbrev Holds : {A : Type 0} → (A → Type 0) → ℕ → Result A Fault → Type 0
@@ -32,8 +33,12 @@ pub either : {A : Type 0} (P : A → Type 0) (n : ℕ) (b : Bool) (x y : Result 
 either P n true x y h k = h
 either P n false x y h k = k
 
+-- a rule that is kept, or is the fault
+pub checked : {A : Type 0} (P : A → Type 0) (n : ℕ) (is_kept : Bool) (e : Fault) (next : Result A Fault) → e.left ≤ n → Within P n next → Within P n ((if is_kept then Ok (tt {0}) else Err e) >>= λ _. next)
+checked P n true e next h more = more
+checked P n false e next h more = refuses P n e h
+
 pub byte_within : (n : ℕ) (bytes : List ℕ) → length bytes ≤ n → Within (λ x. length x.1 ≤ n) n (byte_at bytes)
-unfolding byte_at
 byte_within n [] h = refuses _ n _ h
 byte_within n (b ∷ rest) h = reads _ n _ (omega arith)
 
@@ -42,8 +47,8 @@ unfolding number_at
 number_within n most [] h = refuses _ n _ h
 number_within n most (b ∷ rest) h =
     let less : length rest ≤ n = omega arith in
-    either _ n _ _ _ (reads _ n _ less) (either _ n _ _ _ (refuses _ n _ h)
-    (step (λ x. length x.1 ≤ n) _ n _ _ (number_within n (most - 1) rest less) (λ high k. either _ n _ _ _ (reads _ n _ k) (refuses _ n _ h))))
+    either _ n _ _ _ (reads _ n _ less) (checked _ n _ _ _ h
+    (step (λ x. length x.1 ≤ n) _ n _ _ (number_within n (most - 1) rest less) (λ high k. checked _ n _ _ _ h (reads _ n _ k))))
 
 pub past_within : (n most : ℕ) (bytes : List ℕ) → length bytes ≤ n → Within (λ x. length x ≤ n) n (number_past most bytes)
 unfolding number_past
@@ -54,16 +59,13 @@ past_within n most (b ∷ rest) h =
 
 module _ (n : ℕ) (bytes : List ℕ) (h : length bytes ≤ n) where
   pub count_within : Within (λ x. length x.1 ≤ n) n (count_at bytes)
-  unfolding count_at
-  count_within = step (λ x. length x.1 ≤ n) _ n _ _ (number_within n 5 bytes h) (λ x k. either _ n _ _ _ (reads _ n _ k) (refuses _ n _ h))
+  count_within = step (λ x. length x.1 ≤ n) _ n _ _ (number_within n 5 bytes h) (λ x k. checked _ n _ _ _ h (reads _ n _ k))
 
   pub bytes_within : (count : ℕ) → Within (λ x. length x ≤ n) n (bytes_past count bytes)
-  unfolding bytes_past
-  bytes_within count = either _ n _ _ _ (refuses _ n _ h) (reads _ n _ (omega (arith, length-drop count bytes)))
+  bytes_within count = checked _ n _ _ _ h (reads _ n _ (omega (arith, length-drop count bytes)))
 
   pub binary_within : Within (λ x. length x.1 ≤ n) n (binary_at bytes)
-  unfolding binary_at
-  binary_within = step (λ x. length x.1 ≤ n) _ n _ _ (number_within n 5 bytes h) (λ x k. either _ n _ _ _ (refuses _ n _ h) (reads _ n _ (omega (arith, k, length-drop x.0 x.1))))
+  binary_within = step (λ x. length x.1 ≤ n) _ n _ _ (number_within n 5 bytes h) (λ x k. checked _ n _ _ _ h (reads _ n _ (omega (arith, k, length-drop x.0 x.1))))
 
   pub text_within : Within (λ x. Unit {0}) n (text_at bytes)
   unfolding text_at
@@ -76,24 +78,18 @@ module _ (n : ℕ) (bytes : List ℕ) (h : length bytes ≤ n) where
   pub list_within : Within (λ x. length x.2 ≤ n) n (list_at bytes)
   unfolding list_at
   list_within = step (λ x. length x.1 ≤ n) _ n _ _ (byte_within n bytes h) (λ b k.
-      step (λ x. length x.1 ≤ n) _ n _ _ (size_within n b.1 k b.0) (λ x l. either _ n _ _ _ (refuses _ n _ h) (reads _ n _ l)))
+      step (λ x. length x.1 ≤ n) _ n _ _ (size_within n b.1 k b.0) (λ x l. checked _ n _ _ _ h (reads _ n _ l)))
 
   pub map_within : Within (λ x. length x.3 ≤ n) n (map_at bytes)
   unfolding map_at
   map_within = step (λ x. length x.1 ≤ n) _ n _ _ (number_within n 5 bytes h) (λ x k. either _ n _ _ _ (reads _ n _ k)
-      (step (λ x. length x.1 ≤ n) _ n _ _ (byte_within n x.1 k) (λ b l. either _ n _ _ _ (refuses _ n _ h) (reads _ n _ l))))
-
-pub id_within : (n last more : ℕ) (bytes : List ℕ) → length bytes ≤ n → Within (λ x. length x.1 ≤ n) n (id_at last more bytes)
-unfolding id_at
-id_within n last more bytes h = either _ n _ _ _
-    (step (λ x. length x.1 ≤ n) _ n _ _ (count_within n bytes h) (λ x k. either _ n _ _ _ (reads _ n _ k) (refuses _ n _ h)))
-    (either _ n _ _ _ (reads _ n _ h) (refuses _ n _ h))
+      (step (λ x. length x.1 ≤ n) _ n _ _ (byte_within n x.1 k) (λ b l. checked _ n _ _ _ h (reads _ n _ l))))
 
 pub field_within : (n last : ℕ) (bytes : List ℕ) → length bytes ≤ n → Within (λ x. length x.2 ≤ n) n (field_at last bytes)
 unfolding field_at
 field_within n last bytes h = step (λ x. length x.1 ≤ n) _ n _ _ (byte_within n bytes h) (λ b k.
-    either _ n _ _ _ (reads _ n _ k) (either _ n _ _ _ (refuses _ n _ h)
-    (step (λ x. length x.1 ≤ n) _ n _ _ (id_within n last (b.0 / 16) b.1 k) (λ x l. reads _ n _ l))))
+    either _ n _ _ _ (reads _ n _ k) (checked _ n _ _ _ h
+    (step (λ x. length x.1 ≤ n) _ n _ _ (either _ n (b.0 / 16 == 0) _ _ (count_within n b.1 k) (reads _ n _ k)) (λ x l. checked _ n _ _ _ k (reads _ n _ l)))))
 
 -- fields, where the step that takes the state on keeps P and the bounds
 module _ {S : Type 0} (P : S → Type 0) (n : ℕ) (next : S → ℕ → ℕ → List ℕ → Result (S × List ℕ) Fault)
@@ -148,7 +144,6 @@ abbrev pub FoundBoth : ℕ → Option Spot × Option Spot → Type 0
 FoundBoth n found = Found n found.0 × Found n found.1
 
 pub noted_within : (n wanted id : ℕ) (value : Spot) (old : Option Spot) → length value.1 ≤ n → Found n old → Within (Found n) n (noted wanted id value old)
-unfolding noted
 noted_within n wanted id value None h found = either _ n _ _ _ (reads _ n _ h) (reads _ n _ tt)
 noted_within n wanted id value (Some old) h found = either _ n _ _ _ (refuses _ n _ h) (reads _ n _ found)
 
@@ -163,42 +158,38 @@ module _ (n one other : ℕ) where
   unfolding pair_at
   pair_within bytes h = fields_within (FoundBoth n) n (noting one other) noting_within (length bytes) 0 (None, None) bytes (tt, tt) h
 
+pub value_of_within : (n type : ℕ) (p : Spot) → length p.1 ≤ n → Within (λ x. length x ≤ n) n (value_of type p)
+value_of_within n type p h = checked _ n _ _ _ h (reads _ n _ h)
+
 pub number_in_within : (n : ℕ) (p : Option Spot) → Found n p → Within (λ x. Unit {0}) n (number_in p)
-unfolding number_in
 number_in_within n None f = reads _ n _ tt
-number_in_within n (Some p) f = either _ n _ _ _ (step (λ x. length x.1 ≤ n) _ n _ _ (count_within n p.1 f) (λ x k. reads _ n _ tt)) (refuses _ n _ f)
+number_in_within n (Some p) f = step (λ x. length x ≤ n) _ n _ _ (value_of_within n 5 p f) (λ x k. step (λ x. length x.1 ≤ n) _ n _ _ (count_within n x k) (λ x _. reads _ n _ tt))
 
 pub text_in_within : (n : ℕ) (p : Option Spot) → Found n p → Within (λ x. Unit {0}) n (text_in p)
-unfolding text_in
 text_in_within n None f = reads _ n _ tt
-text_in_within n (Some p) f = either _ n _ _ _ (step (λ x. Unit {0}) _ n _ _ (text_within n p.1 f) (λ x k. reads _ n _ tt)) (refuses _ n _ f)
+text_in_within n (Some p) f = step (λ x. length x ≤ n) _ n _ _ (value_of_within n 8 p f) (λ x k. step (λ x. Unit {0}) _ n _ _ (text_within n x k) (λ x _. reads _ n _ tt))
 
-pub structs_within : (n : ℕ) (p : Spot) → length p.1 ≤ n → Within (λ x. length x.1 ≤ n) n (structs_in p)
-unfolding structs_in
-structs_within n p h = either _ n _ _ _
-    (step (λ x. length x.2 ≤ n) _ n _ _ (list_within n p.1 h) (λ l k. either _ n (l.0 == 12) _ _ (reads _ n _ k) (either _ n (l.1 == 0) _ _ (reads _ n _ k) (refuses _ n _ h))))
-    (refuses _ n _ h)
+pub structs_within : (n : ℕ) (p : Option Spot) → Found n p → Within (λ x. length x.1 ≤ n) n (structs_in p)
+structs_within n None f = reads _ n _ (omega arith)
+structs_within n (Some p) f = step (λ x. length x ≤ n) _ n _ _ (value_of_within n 9 p f) (λ x k.
+    step (λ x. length x.2 ≤ n) _ n _ _ (list_within n x k) (λ l m. checked _ n _ _ _ k (reads _ n _ m)))
 
-pub needed_within : {A : Type 0} (P : A → Type 0) (n : ℕ) (bytes : List ℕ) (x : Option A) → length bytes ≤ n → ((y : A) → x ≡ Some y → P y) → Within P n (needed bytes x)
-needed_within P n bytes None h k = refuses _ n _ h
-needed_within P n bytes (Some y) h k = reads _ n _ (k y refl)
+pub needed_within : {A : Type 0} (n : ℕ) (bytes : List ℕ) (x : Option A) → length bytes ≤ n → Within (λ x. Unit {0}) n (needed bytes x)
+needed_within n bytes None h = refuses _ n _ h
+needed_within n bytes (Some x) h = reads _ n _ tt
+
+pub place_within : (n : ℕ) (bytes : List ℕ) (p : Option Spot) → length bytes ≤ n → Found n p → Within (λ p. length p.1 ≤ n) n (needed bytes p)
+place_within n bytes None h f = refuses _ n _ h
+place_within n bytes (Some p) h f = reads _ n _ f
 
 -- names by numbers
 module _ (n : ℕ) (bytes : List ℕ) (h : length bytes ≤ n) where
-  pub physical_within : (number : Option ℕ) → Within (λ x. Unit {0}) n (physical_of number bytes)
-  physical_within None = reads _ n _ tt
-  physical_within (Some m) =
-      either _ n (m == 0) _ _ (reads _ n _ tt) (either _ n (m == 1) _ _ (reads _ n _ tt) (either _ n (m == 2) _ _ (reads _ n _ tt) (either _ n (m == 3) _ _ (reads _ n _ tt)
-      (either _ n (m == 4) _ _ (reads _ n _ tt) (either _ n (m == 5) _ _ (reads _ n _ tt) (either _ n (m == 6) _ _ (reads _ n _ tt) (either _ n (m == 7) _ _ (reads _ n _ tt) (refuses _ n _ h))))))))
+  pub named_within : {A : Type 0} (names : List A) (number : Option ℕ) → Within (λ x. Unit {0}) n (named names number bytes)
+  named_within names None = reads _ n _ tt
+  named_within names (Some m) = checked _ n _ _ _ h (reads _ n _ tt)
 
-  pub repetition_within : (number : Option ℕ) → Within (λ x. Unit {0}) n (repetition_of number bytes)
-  repetition_within None = reads _ n _ tt
-  repetition_within (Some m) = either _ n (m == 0) _ _ (reads _ n _ tt) (either _ n (m == 1) _ _ (reads _ n _ tt) (either _ n (m == 2) _ _ (reads _ n _ tt) (refuses _ n _ h)))
-
-  pub algorithm_within : (number : Option ℕ) → Within (λ x. Unit {0}) n (algorithm_of number bytes)
-  algorithm_within None = reads _ n _ tt
-  algorithm_within (Some m) = either _ n (m == 0) _ _ (reads _ n _ tt) (either _ n (m == 1) _ _ (reads _ n _ tt) (either _ n (m == 2) _ _ (reads _ n _ tt)
-      (either _ n (m == 3) _ _ (reads _ n _ tt) (either _ n (m == 4) _ _ (reads _ n _ tt) (refuses _ n _ h)))))
+  pub name_within : {A : Type 0} (names : List A) (p : Option Spot) → Found n p → Within (λ x. Unit {0}) n (name_in names p bytes)
+  name_within names p f = step (λ x. Unit {0}) _ n _ _ (number_in_within n p f) (λ number _. named_within names number)
 
   abbrev Pair : ((Option Spot × Option Spot) × List ℕ) → Type 0
   Pair x = FoundBoth n x.0 × (length x.1 ≤ n)
@@ -206,35 +197,21 @@ module _ (n : ℕ) (bytes : List ℕ) (h : length bytes ≤ n) where
   pub storage_within : Within (λ x. Unit {0}) n (storage_at bytes)
   unfolding storage_at
   storage_within = step Pair _ n _ _ (pair_within n 1 2 bytes h) (λ types k.
-      step (λ x. Unit {0}) _ n _ _ (number_in_within n types.0.0 k.0.0) (λ physical _.
-      step (λ x. Unit {0}) _ n _ _ (physical_within physical) (λ physical_type _.
+      step (λ x. Unit {0}) _ n _ _ (name_within physical_types types.0.0 k.0.0) (λ physical_type _.
       step (λ x. Unit {0}) _ n _ _ (number_in_within n types.0.1 k.0.1) (λ type_length _.
       step Pair _ n _ _ (pair_within n 3 4 bytes h) (λ names l.
-      step (λ x. Unit {0}) _ n _ _ (number_in_within n names.0.0 l.0.0) (λ repeats _.
-      step (λ x. Unit {0}) _ n _ _ (repetition_within repeats) (λ repetition _.
+      step (λ x. Unit {0}) _ n _ _ (name_within repetitions names.0.0 l.0.0) (λ repetition _.
       step (λ x. Unit {0}) _ n _ _ (text_in_within n names.0.1 l.0.1) (λ text _.
-      step (λ x. Unit {0}) _ n _ _ (needed_within (λ x. Unit {0}) n bytes text h (λ y _. tt)) (λ name _. reads _ n _ tt)))))))))
-
-  pub numbers_within : Within (λ x. Unit {0}) n (numbers_at bytes)
-  unfolding numbers_at
-  numbers_within = step Pair _ n _ _ (pair_within n 5 6 bytes h) (λ one k.
-      step (λ x. Unit {0}) _ n _ _ (number_in_within n one.0.0 k.0.0) (λ a _.
-      step (λ x. Unit {0}) _ n _ _ (number_in_within n one.0.1 k.0.1) (λ b _.
-      step Pair _ n _ _ (pair_within n 7 8 bytes h) (λ two l.
-      step (λ x. Unit {0}) _ n _ _ (number_in_within n two.0.0 l.0.0) (λ c _.
-      step (λ x. Unit {0}) _ n _ _ (number_in_within n two.0.1 l.0.1) (λ d _. reads _ n _ tt))))))
+      step (λ x. Unit {0}) _ n _ _ (needed_within n bytes text h) (λ name _. reads _ n _ tt)))))))
 
   pub geometry_within : Within (λ x. Unit {0}) n (geometry_at bytes)
-  unfolding geometry_at
   geometry_within = step Pair _ n _ _ (pair_within n 1 1 bytes h) (λ found k.
       step (λ x. Unit {0}) _ n _ _ (text_in_within n found.0.0 k.0.0) (λ crs _. reads _ n _ tt))
 
   pub geography_within : Within (λ x. Unit {0}) n (geography_at bytes)
-  unfolding geography_at
   geography_within = step Pair _ n _ _ (pair_within n 1 2 bytes h) (λ found k.
       step (λ x. Unit {0}) _ n _ _ (text_in_within n found.0.0 k.0.0) (λ crs _.
-      step (λ x. Unit {0}) _ n _ _ (number_in_within n found.0.1 k.0.1) (λ number _.
-      step (λ x. Unit {0}) _ n _ _ (algorithm_within number) (λ algorithm _. reads _ n _ tt))))
+      step (λ x. Unit {0}) _ n _ _ (name_within algorithms found.0.1 k.0.1) (λ algorithm _. reads _ n _ tt)))
 
   pub width_within : (bits : ℕ) → Within (λ x. Unit {0}) n (width_of bits bytes)
   width_within bits = either _ n (bits == 8) _ _ (reads _ n _ tt) (either _ n (bits == 16) _ _ (reads _ n _ tt) (either _ n (bits == 32) _ _ (reads _ n _ tt)
@@ -244,73 +221,68 @@ module _ (n : ℕ) (bytes : List ℕ) (h : length bytes ≤ n) where
   unit_within id = either _ n (id == 1) _ _ (reads _ n _ tt) (either _ n (id == 2) _ _ (reads _ n _ tt) (either _ n (id == 3) _ _ (reads _ n _ tt) (refuses _ n _ h)))
 
   pub flag_within : (p : Option Spot) → Found n p → Within (λ x. Unit {0}) n (flag_in bytes p)
-  unfolding flag_in
-  flag_within None f = refuses _ n _ h
-  flag_within (Some p) f = either _ n (p.0 == 1) _ _ (reads _ n _ tt) (either _ n (p.0 == 2) _ _ (reads _ n _ tt) (refuses _ n _ f))
+  flag_within p f = step (λ p. length p.1 ≤ n) _ n _ _ (place_within n bytes p h f) (λ p k. checked _ n _ _ _ k (reads _ n _ tt))
 
-  pub byte_in_within : (p : Option Spot) → Found n p → Within (λ x. Unit {0}) n (byte_in bytes p)
-  unfolding byte_in
-  byte_in_within None f = refuses _ n _ h
-  byte_in_within (Some p) f = either _ n (p.0 == 3) _ _ (step (λ x. length x.1 ≤ n) _ n _ _ (byte_within n p.1 f) (λ b k. reads _ n _ tt)) (refuses _ n _ f)
+  pub width_in_within : (p : Option Spot) → Found n p → Within (λ x. Unit {0}) n (width_in bytes p)
+  width_in_within p f = step (λ p. length p.1 ≤ n) _ n _ _ (place_within n bytes p h f) (λ p k.
+      step (λ x. length x ≤ n) _ n _ _ (value_of_within n 3 p k) (λ x l. step (λ x. length x.1 ≤ n) _ n _ _ (byte_within n x l) (λ b _. width_within b.0)))
 
   pub union_within : Within (λ x. length x.1.1 ≤ n) n (union_at bytes)
   unfolding union_at
-  union_within = step (λ x. length x.2 ≤ n) _ n _ _ (field_within n 0 bytes h) (λ f k. either _ n (f.1 == 0) _ _ (refuses _ n _ h)
+  union_within = step (λ x. length x.2 ≤ n) _ n _ _ (field_within n 0 bytes h) (λ f k. checked _ n _ _ _ h
       (step (λ x. length x ≤ n) _ n _ _ (value_within n 64 f.1 f.2 k) (λ rest l.
-      step (λ x. length x.1 ≤ n) _ n _ _ (byte_within n rest l) (λ end _. either _ n (end.0 == 0) _ _ (reads _ n _ k) (refuses _ n _ l)))))
+      step (λ x. length x.1 ≤ n) _ n _ _ (byte_within n rest l) (λ end _. checked _ n _ _ _ l (reads _ n _ k)))))
 
 module _ (n : ℕ) (bytes : List ℕ) (h : length bytes ≤ n) where
   pub unit_in_within : (p : Option Spot) → Found n p → Within (λ x. Unit {0}) n (unit_in bytes p)
-  unfolding unit_in
-  unit_in_within None f = refuses _ n _ h
-  unit_in_within (Some p) f = either _ n (p.0 == 12) _ _ (step (λ x. length x.1.1 ≤ n) _ n _ _ (union_within n p.1 f) (λ u _. unit_within n p.1 f u.0)) (refuses _ n _ f)
+  unit_in_within p f = step (λ p. length p.1 ≤ n) _ n _ _ (place_within n bytes p h f) (λ p k. step (λ x. length x ≤ n) _ n _ _ (value_of_within n 12 p k) (λ x l.
+      step (λ x. length x.1.1 ≤ n) _ n _ _ (union_within n x l) (λ u _. unit_within n x l u.0)))
 
-  pub clock_within : Within (λ x. Unit {0}) n (clock_at bytes)
-  unfolding clock_at
-  clock_within = step (λ x. FoundBoth n x.0 × (length x.1 ≤ n)) _ n _ _ (pair_within n 1 2 bytes h) (λ found k.
+  pub clock_within : (says : Bool → TimeUnit → Logical) → Within (λ x. Unit {0}) n (clock_at says bytes)
+  clock_within says = step (λ x. FoundBoth n x.0 × (length x.1 ≤ n)) _ n _ _ (pair_within n 1 2 bytes h) (λ found k.
       step (λ x. Unit {0}) _ n _ _ (flag_within n bytes h found.0.0 k.0.0) (λ utc _.
       step (λ x. Unit {0}) _ n _ _ (unit_in_within found.0.1 k.0.1) (λ unit _. reads _ n _ tt)))
 
   pub integer_within : Within (λ x. Unit {0}) n (integer_at bytes)
-  unfolding integer_at
   integer_within = step (λ x. FoundBoth n x.0 × (length x.1 ≤ n)) _ n _ _ (pair_within n 1 2 bytes h) (λ found k.
-      step (λ x. Unit {0}) _ n _ _ (byte_in_within n bytes h found.0.0 k.0.0) (λ number _.
-      step (λ x. Unit {0}) _ n _ _ (width_within n bytes h number) (λ bits _.
-      step (λ x. Unit {0}) _ n _ _ (flag_within n bytes h found.0.1 k.0.1) (λ signed _. reads _ n _ tt))))
+      step (λ x. Unit {0}) _ n _ _ (width_in_within n bytes h found.0.0 k.0.0) (λ width _.
+      step (λ x. Unit {0}) _ n _ _ (flag_within n bytes h found.0.1 k.0.1) (λ signed _. reads _ n _ tt)))
 
 module _ (n : ℕ) (bytes : List ℕ) (h : length bytes ≤ n) where
-  pub member_within : (id type : ℕ) → Within (λ x. Unit {0}) n (member_at id (type, bytes))
+  pub member_within : (id : ℕ) → Within (λ x. Unit {0}) n (member_at id bytes)
   unfolding member_at
-  member_within id type = either _ n (type == 12) _ _
-      (either _ n (id == 7) _ _ (step (λ x. Unit {0}) _ n _ _ (clock_within n bytes h) (λ c _. reads _ n _ tt))
-      (either _ n (id == 8) _ _ (step (λ x. Unit {0}) _ n _ _ (clock_within n bytes h) (λ c _. reads _ n _ tt))
-      (either _ n (id == 10) _ _ (integer_within n bytes h)
-      (either _ n (id == 17) _ _ (geometry_within n bytes h) (either _ n (id == 18) _ _ (geography_within n bytes h) (reads _ n _ tt))))))
-      (refuses _ n _ h)
+  member_within id =
+      either _ n (id == 7) _ _ (clock_within n bytes h time) (either _ n (id == 8) _ _ (clock_within n bytes h timestamp) (either _ n (id == 10) _ _ (integer_within n bytes h)
+      (either _ n (id == 17) _ _ (geometry_within n bytes h) (either _ n (id == 18) _ _ (geography_within n bytes h) (reads _ n _ tt)))))
 
 module _ (n : ℕ) (bytes : List ℕ) (h : length bytes ≤ n) where
   pub logical_within : Within (λ x. Unit {0}) n (logical_at bytes)
   unfolding logical_at
-  logical_within = step (λ x. length x.1.1 ≤ n) _ n _ _ (union_within n bytes h) (λ m k. member_within n m.1.1 k m.0 m.1.0)
+  logical_within = step (λ x. length x.1.1 ≤ n) _ n _ _ (union_within n bytes h) (λ m k.
+      step (λ x. length x ≤ n) _ n _ _ (value_of_within n 12 m.1 k) (λ x l. member_within n x l m.0))
 
 pub logical_in_within : (n : ℕ) (p : Option Spot) → Found n p → Within (λ x. Unit {0}) n (logical_in p)
-unfolding logical_in
 logical_in_within n None f = reads _ n _ tt
-logical_in_within n (Some p) f = either _ n _ _ _ (step (λ x. Unit {0}) _ n _ _ (logical_within n p.1 f) (λ x _. reads _ n _ tt)) (refuses _ n _ f)
+logical_in_within n (Some p) f = step (λ x. length x ≤ n) _ n _ _ (value_of_within n 12 p f) (λ x k. step (λ x. Unit {0}) _ n _ _ (logical_within n x k) (λ says _. reads _ n _ tt))
 
 module _ (n : ℕ) (bytes : List ℕ) (h : length bytes ≤ n) where
   pub element_within : Within (λ x. length x.1 ≤ n) n (element_at bytes)
   unfolding element_at
   element_within = step (λ x. Unit {0}) _ n _ _ (storage_within n bytes h) (λ storage _.
-      step (λ x. Unit {0}) _ n _ _ (numbers_within n bytes h) (λ numbers _.
-      step (λ x. FoundBoth n x.0 × (length x.1 ≤ n)) _ n _ _ (pair_within n 10 10 bytes h) (λ found k.
-      step (λ x. Unit {0}) _ n _ _ (logical_in_within n found.0.0 k.0.0) (λ logical_type _. reads _ n _ k.1))))
+      step (λ x. FoundBoth n x.0 × (length x.1 ≤ n)) _ n _ _ (pair_within n 5 6 bytes h) (λ one k.
+      step (λ x. Unit {0}) _ n _ _ (number_in_within n one.0.0 k.0.0) (λ num_children _.
+      step (λ x. Unit {0}) _ n _ _ (number_in_within n one.0.1 k.0.1) (λ converted_type _.
+      step (λ x. FoundBoth n x.0 × (length x.1 ≤ n)) _ n _ _ (pair_within n 7 8 bytes h) (λ two l.
+      step (λ x. Unit {0}) _ n _ _ (number_in_within n two.0.0 l.0.0) (λ scale _.
+      step (λ x. Unit {0}) _ n _ _ (number_in_within n two.0.1 l.0.1) (λ precision _.
+      step (λ x. FoundBoth n x.0 × (length x.1 ≤ n)) _ n _ _ (pair_within n 10 10 bytes h) (λ last m.
+      step (λ x. Unit {0}) _ n _ _ (logical_in_within n last.0.0 m.0.0) (λ logical_type _. reads _ n _ m.1)))))))))
 
   pub key_value_within : Within (λ x. length x.1 ≤ n) n (key_value_at bytes)
   unfolding key_value_at
   key_value_within = step (λ x. FoundBoth n x.0 × (length x.1 ≤ n)) _ n _ _ (pair_within n 1 2 bytes h) (λ found k.
       step (λ x. Unit {0}) _ n _ _ (text_in_within n found.0.0 k.0.0) (λ text _.
-      step (λ x. Unit {0}) _ n _ _ (needed_within (λ x. Unit {0}) n bytes text h (λ y _. tt)) (λ key _.
+      step (λ x. Unit {0}) _ n _ _ (needed_within n bytes text h) (λ key _.
       step (λ x. Unit {0}) _ n _ _ (text_in_within n found.0.1 k.0.1) (λ value _. reads _ n _ k.1))))
 
 module _ {A : Type 0} (n : ℕ) (item : List ℕ → Result (A × List ℕ) Fault) (within : (bytes : List ℕ) → length bytes ≤ n → Within (λ x. length x.1 ≤ n) n (item bytes)) where
@@ -320,23 +292,15 @@ module _ {A : Type 0} (n : ℕ) (item : List ℕ → Result (A × List ℕ) Faul
   all_within (suc m) bytes h = step (λ x. length x.1 ≤ n) _ n _ _ (within bytes h) (λ first k.
       step (λ x. Unit {0}) _ n _ _ (all_within m first.1 k) (λ others _. reads _ n _ tt))
 
-pub none_or_within : (n : ℕ) (p : Option Spot) → Found n p → Within (λ x. length x.1 ≤ n) n (none_or p)
-none_or_within n None f = reads _ n _ (omega arith)
-none_or_within n (Some p) f = structs_within n p f
-
-found_in : (n : ℕ) (p : Option Spot) (s : Spot) → Found n p → p ≡ Some s → length s.1 ≤ n
-found_in n None s f is = absurd (cc)
-found_in n (Some p) s f is = let same : p ≡ s = cc in rw (← same) f
-
 pub footer_within : (bytes : List ℕ) → Within (λ x. Unit {0}) (length bytes) (footer_at bytes)
 unfolding footer_at
 footer_within bytes =
     let n = length bytes in
     let h : length bytes ≤ n = omega arith in
     step (λ x. FoundBoth n x.0 × (length x.1 ≤ n)) _ n _ _ (pair_within n 2 5 bytes h) (λ found k.
-    step (λ p. length p.1 ≤ n) _ n _ _ (needed_within (λ p. length p.1 ≤ n) n bytes found.0.0 h (λ p is. found_in n found.0.0 p k.0.0 is)) (λ elements l.
-    step (λ x. length x.1 ≤ n) _ n _ _ (structs_within n elements l) (λ one m.
-    step (λ x. length x.1 ≤ n) _ n _ _ (none_or_within n found.0.1 k.0.1) (λ other o.
+    step (λ p. length p.1 ≤ n) _ n _ _ (place_within n bytes found.0.0 h k.0.0) (λ elements l.
+    step (λ x. length x.1 ≤ n) _ n _ _ (structs_within n (Some elements) l) (λ one m.
+    step (λ x. length x.1 ≤ n) _ n _ _ (structs_within n found.0.1 k.0.1) (λ other o.
     step (λ x. Unit {0}) _ n _ _ (all_within n element_at (element_within n) one.0 one.1 m) (λ schema _.
     step (λ x. Unit {0}) _ n _ _ (all_within n key_value_at (key_value_within n) other.0 other.1 o) (λ key_values _. reads _ n _ tt))))))
 

@@ -1,5 +1,5 @@
 -- Fields and items one after the other, as loops pass them.
-use Rattle.std.proofs.Common.{◌≡◌, ℕ, zero, suc, ◌<◌, ◌≤◌, List, length, Result, Ok, Err, true, false, refl, ◌∙◌, arith, ◌==◌, if◌then◌else◌}
+use Rattle.std.proofs.Common.{◌≡◌, ℕ, zero, suc, ◌<◌, List, length, Result, Ok, Err, true, false, refl, ◌∙◌, arith, ◌==◌, if◌then◌else◌}
 use Rattle.std.proofs.lemmas.Bool.{ne_eqb, lt-ltb, le-ltb}
 use Rattle.parquet_footer.specs.declared.fault.Fault.{Fault}
 use Rattle.parquet_footer.specs.declared.fault.Rule.TheVariants.{End, Depth}
@@ -48,15 +48,6 @@ module _ (item : List ℕ → Result (List ℕ) Fault) (n : ℕ) (bytes : List �
   pub no_more : n ≡ 0 → items_past item n bytes ≡ Ok bytes
   unfolding items_past
   no_more none = rw none refl
-
-pub plain_below : (kind : ℕ) → kind < 9 → is_plain kind ≡ true
-plain_below kind below = rw (lt-ltb kind 9 below) refl
-
-pub plain_above : (kind : ℕ) → 12 < kind → is_plain kind ≡ true
-plain_above kind above = rw (le-ltb kind 9 (omega arith), lt-ltb 12 kind above) refl
-
-pub not_plain : (kind : ℕ) → 9 ≤ kind → kind ≤ 12 → is_plain kind ≡ false
-not_plain kind low high = rw (le-ltb kind 9 low, le-ltb 12 kind high) refl
 
 pub has_no_parts : (levels kind : ℕ) (bytes : List ℕ) → is_plain kind ≡ true → value_past levels kind bytes ≡ plain_past kind bytes
 unfolding value_past

@@ -1,35 +1,21 @@
 -- An element of the schema: a leaf or a group.
-use Rattle.std.specs.Prelude.{ℕ, List, Option, Some, None, option_map, Result, Ok, ◌==◌, if◌then◌else◌}
+use Rattle.std.specs.Prelude.{ℕ, List, [], ◌∷◌, Option, option_map, Result, Ok}
 use Rattle.parquet_footer.specs.declared.fault.Fault.{Fault}
-use Rattle.parquet_footer.specs.declared.fault.Rule.TheVariants.{Name}
 use Rattle.parquet_footer.specs.declared.element.PhysicalType.{PhysicalType}
 use Rattle.parquet_footer.specs.declared.element.PhysicalType.TheVariants.{Boolean, Int32, Int64, Int96, Float, Double, ByteArray, FixedLenByteArray}
 use Rattle.parquet_footer.specs.declared.element.Repetition.{Repetition}
 use Rattle.parquet_footer.specs.declared.element.Repetition.TheVariants.{Required, Optional, Repeated}
 use Rattle.parquet_footer.specs.declared.element.Storage.{Storage}
 use Rattle.parquet_footer.specs.declared.element.SchemaElement.{SchemaElement}
-use Rattle.parquet_footer.specs.Fault.{refused, needed, ◌>>=◌}
-use Rattle.parquet_footer.specs.Fields.{pair_at, number_in, text_in}
+use Rattle.parquet_footer.specs.Fault.{needed, ◌>>=◌}
+use Rattle.parquet_footer.specs.Fields.{pair_at, number_in, name_in, text_in}
 use Rattle.parquet_footer.specs.Logical.{Logical, logical, logical_in}
 
-abbrev pub physical_of : Option ℕ → List ℕ → Result (Option PhysicalType) Fault
-physical_of None bytes = Ok None
-physical_of (Some n) bytes =
-    if n == 0 then Ok (Some Boolean) else
-    if n == 1 then Ok (Some Int32) else
-    if n == 2 then Ok (Some Int64) else
-    if n == 3 then Ok (Some Int96) else
-    if n == 4 then Ok (Some Float) else
-    if n == 5 then Ok (Some Double) else
-    if n == 6 then Ok (Some ByteArray) else
-    if n == 7 then Ok (Some FixedLenByteArray) else refused Name bytes
+abbrev pub physical_types : List PhysicalType
+physical_types = Boolean ∷ Int32 ∷ Int64 ∷ Int96 ∷ Float ∷ Double ∷ ByteArray ∷ FixedLenByteArray ∷ []
 
-abbrev pub repetition_of : Option ℕ → List ℕ → Result (Option Repetition) Fault
-repetition_of None bytes = Ok None
-repetition_of (Some n) bytes =
-    if n == 0 then Ok (Some Required) else
-    if n == 1 then Ok (Some Optional) else
-    if n == 2 then Ok (Some Repeated) else refused Name bytes
+abbrev pub repetitions : List Repetition
+repetitions = Required ∷ Optional ∷ Repeated ∷ []
 
 -- 1 type, 2 type_length, 3 repetition_type, 4 name
 pub record Stored : Type 0 where
@@ -44,26 +30,13 @@ stored s = record { physical_type = s.physical_type; type_length = s.type_length
 unfoldable pub storage_at : List ℕ → Result Stored Fault
 storage_at bytes = do
   types ← pair_at 1 2 bytes
-  physical ← number_in types.0.0
-  physical_type ← physical_of physical bytes
+  physical_type ← name_in physical_types types.0.0 bytes
   type_length ← number_in types.0.1
   names ← pair_at 3 4 bytes
-  repeats ← number_in names.0.0
-  repetition ← repetition_of repeats bytes
+  repetition ← name_in repetitions names.0.0 bytes
   text ← text_in names.0.1
   name ← needed bytes text
   Ok (record { physical_type = physical_type; type_length = type_length; repetition = repetition; name = name })
-
--- 5 num_children, 6 converted_type, 7 scale, 8 precision
-unfoldable pub numbers_at : List ℕ → Result (Option ℕ × Option ℕ × Option ℕ × Option ℕ) Fault
-numbers_at bytes = do
-  one ← pair_at 5 6 bytes
-  num_children ← number_in one.0.0
-  converted_type ← number_in one.0.1
-  two ← pair_at 7 8 bytes
-  scale ← number_in two.0.0
-  precision ← number_in two.0.1
-  Ok (num_children, converted_type, scale, precision)
 
 pub record Element : Type 0 where
   pub storage : Stored
@@ -76,11 +49,16 @@ pub record Element : Type 0 where
 abbrev pub element : SchemaElement → Element
 element e = record { storage = stored e.storage; num_children = e.num_children; converted_type = e.converted_type; scale = e.scale; precision = e.precision; logical_type = option_map logical e.logical_type }
 
--- an element, with 10 logicalType, and the bytes behind it
+-- an element, with 5 num_children, 6 converted_type, 7 scale, 8 precision, 10 logicalType, and the bytes behind it
 unfoldable pub element_at : List ℕ → Result (Element × List ℕ) Fault
 element_at bytes = do
   storage ← storage_at bytes
-  numbers ← numbers_at bytes
-  found ← pair_at 10 10 bytes
-  logical_type ← logical_in found.0.0
-  Ok (record { storage = storage; num_children = numbers.0; converted_type = numbers.1; scale = numbers.2; precision = numbers.3; logical_type = logical_type }, found.1)
+  one ← pair_at 5 6 bytes
+  num_children ← number_in one.0.0
+  converted_type ← number_in one.0.1
+  two ← pair_at 7 8 bytes
+  scale ← number_in two.0.0
+  precision ← number_in two.0.1
+  last ← pair_at 10 10 bytes
+  logical_type ← logical_in last.0.0
+  Ok (record { storage = storage; num_children = num_children; converted_type = converted_type; scale = scale; precision = precision; logical_type = logical_type }, last.1)

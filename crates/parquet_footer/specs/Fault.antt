@@ -1,5 +1,5 @@
 -- What reading gives: a value, or the rule that is broken first, and how many bytes are left there.
-use Rattle.std.specs.Prelude.{◌≡◌, ℕ, ◌+◌, List, length, Option, Some, None, Result, Ok, Err}
+use Rattle.std.specs.Prelude.{◌≡◌, ℕ, ◌+◌, Bool, List, length, Option, Some, None, Result, Ok, Err, if◌then◌else◌}
 use Rattle.parquet_footer.specs.declared.fault.Rule.{Rule}
 use Rattle.parquet_footer.specs.declared.fault.Fault.{Fault}
 use Rattle.parquet_footer.specs.declared.fault.Stop.{Stop}
@@ -14,6 +14,10 @@ broken rule bytes = record { rule = rule; left = length bytes }
 
 abbrev pub refused : {A : Type 0} → Rule → List ℕ → Result A Fault
 refused rule bytes = Err (broken rule bytes)
+
+-- the rule is kept at the front of the bytes, or broken
+abbrev pub kept : Bool → Rule → List ℕ → Result (Unit {0}) Fault
+kept is_kept rule bytes = if is_kept then Ok tt else refused rule bytes
 
 -- one step after another, up to the first fault
 infixl 10 ◌>>=◌

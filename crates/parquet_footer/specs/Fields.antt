@@ -1,11 +1,10 @@
 -- The fields of a struct that are read, by their ids.
-use Rattle.std.specs.Prelude.{ℕ, Bool, true, false, List, length, Option, Some, None, Result, Ok, ◌==◌, if◌then◌else◌}
+use Rattle.std.specs.Prelude.{ℕ, Bool, ◌||◌, is_some, slice_get, List, [], length, Option, Some, None, Result, Ok, ◌==◌, if◌then◌else◌}
 use Rattle.parquet_footer.specs.declared.fault.Fault.{Fault}
-use Rattle.parquet_footer.specs.declared.fault.Rule.TheVariants.{WireType, Repeated, Missing}
+use Rattle.parquet_footer.specs.declared.fault.Rule.TheVariants.{WireType, Repeated, Name}
 use Rattle.parquet_footer.specs.declared.fields.Place.{Place}
-use Rattle.parquet_footer.specs.declared.fields.Pair.{Pair}
-use Rattle.parquet_footer.specs.Fault.{refused, ◌>>=◌}
-use Rattle.parquet_footer.specs.Wire.{byte_at, count_at, text_at, list_at}
+use Rattle.parquet_footer.specs.Fault.{refused, kept, needed, ◌>>=◌}
+use Rattle.parquet_footer.specs.Wire.{count_at, text_at, list_at}
 use Rattle.parquet_footer.specs.Skip.{fields_at, value_past}
 
 -- the type of a value, and the bytes that it begins
@@ -20,7 +19,7 @@ spots None = None
 spots (Some p) = Some (spot p)
 
 -- the value of the field that is looked for, which stands once
-unfoldable pub noted : ℕ → ℕ → Spot → Option Spot → Result (Option Spot) Fault
+abbrev pub noted : ℕ → ℕ → Spot → Option Spot → Result (Option Spot) Fault
 noted wanted id value None = if id == wanted then Ok (Some value) else Ok None
 noted wanted id value (Some old) = if id == wanted then refused Repeated value.1 else Ok (Some old)
 
@@ -35,30 +34,51 @@ noting one other found id type bytes = do
 unfoldable pub pair_at : ℕ → ℕ → List ℕ → Result ((Option Spot × Option Spot) × List ℕ) Fault
 pair_at one other bytes = fields_at (noting one other) (length bytes) 0 (None, None) bytes
 
-abbrev pub pair : Pair → (Option Spot × Option Spot) × List ℕ
-pair p = ((spots p.first, spots p.second), p.rest.now)
+-- the bytes of a value, which has that type
+abbrev pub value_of : ℕ → Spot → Result (List ℕ) Fault
+value_of type p = do
+  _ ← kept (p.0 == type) WireType p.1
+  Ok p.1
 
--- the values of fields of a type, where they are there
-unfoldable pub number_in : Option Spot → Result (Option ℕ) Fault
+-- the values of fields, where they are there
+abbrev pub number_in : Option Spot → Result (Option ℕ) Fault
 number_in None = Ok None
-number_in (Some p) = if p.0 == 5 then (count_at p.1 >>= λ n. Ok (Some n.0)) else refused WireType p.1
+number_in (Some p) = do
+  bytes ← value_of 5 p
+  n ← count_at bytes
+  Ok (Some n.0)
 
-unfoldable pub text_in : Option Spot → Result (Option (List ℕ)) Fault
+-- the name that a number denotes: the names stand in the order of their numbers, from 0 on
+abbrev pub named : {A : Type 0} → List A → Option ℕ → List ℕ → Result (Option A) Fault
+named names None bytes = Ok None
+named names (Some n) bytes = do
+  _ ← kept (is_some (slice_get names n)) Name bytes
+  Ok (slice_get names n)
+
+abbrev pub name_in : {A : Type 0} → List A → Option Spot → List ℕ → Result (Option A) Fault
+name_in names place bytes = do
+  number ← number_in place
+  named names number bytes
+
+abbrev pub text_in : Option Spot → Result (Option (List ℕ)) Fault
 text_in None = Ok None
-text_in (Some p) = if p.0 == 8 then (text_at p.1 >>= λ text. Ok (Some text)) else refused WireType p.1
+text_in (Some p) = do
+  bytes ← value_of 8 p
+  text ← text_at bytes
+  Ok (Some text)
 
--- a truth value, which is its type
-unfoldable pub flag_in : List ℕ → Option Spot → Result Bool Fault
-flag_in bytes None = refused Missing bytes
-flag_in bytes (Some p) = if p.0 == 1 then Ok true else if p.0 == 2 then Ok false else refused WireType p.1
+-- a truth value, which is its type: 1 true, 2 false
+abbrev pub flag_in : List ℕ → Option Spot → Result Bool Fault
+flag_in bytes place = do
+  p ← needed bytes place
+  _ ← kept (p.0 == 1 || p.0 == 2) WireType p.1
+  Ok (p.0 == 1)
 
-unfoldable pub byte_in : List ℕ → Option Spot → Result ℕ Fault
-byte_in bytes None = refused Missing bytes
-byte_in bytes (Some p) = if p.0 == 3 then (byte_at p.1 >>= λ b. Ok b.0) else refused WireType p.1
-
--- how many structs a list has, and their bytes; an empty list may have items of any type
-unfoldable pub structs_in : Spot → Result (ℕ × List ℕ) Fault
-structs_in p = if p.0 == 9 then (do
-  l ← list_at p.1
-  if l.0 == 12 then Ok (l.1, l.2) else
-      if l.1 == 0 then Ok (0, l.2) else refused WireType p.1) else refused WireType p.1
+-- how many structs a list has, none where it is missing, and their bytes; an empty list may have items of any type
+abbrev pub structs_in : Option Spot → Result (ℕ × List ℕ) Fault
+structs_in None = Ok (0, [])
+structs_in (Some p) = do
+  bytes ← value_of 9 p
+  l ← list_at bytes
+  _ ← kept (l.0 == 12 || l.1 == 0) WireType bytes
+  Ok (l.1, l.2)

@@ -1,10 +1,10 @@
 -- A footer, by the ids of its fields.
-use Rattle.std.specs.Prelude.{ℕ, zero, suc, List, [], ◌∷◌, map, Option, Some, None, option_map, Result, Ok}
+use Rattle.std.specs.Prelude.{ℕ, zero, suc, List, [], ◌∷◌, map, Option, Some, option_map, Result, Ok}
 use Rattle.parquet_footer.specs.declared.fault.Fault.{Fault}
 use Rattle.parquet_footer.specs.declared.footer.Footer.{Footer}
 use Rattle.parquet_footer.specs.declared.footer.KeyValue.{KeyValue}
 use Rattle.parquet_footer.specs.Fault.{needed, ◌>>=◌}
-use Rattle.parquet_footer.specs.Fields.{Spot, pair_at, text_in, structs_in}
+use Rattle.parquet_footer.specs.Fields.{pair_at, text_in, structs_in}
 use Rattle.parquet_footer.specs.Element.{Element, element, element_at}
 
 -- so many structs one after the other
@@ -31,11 +31,6 @@ key_value_at bytes = do
   value ← text_in found.0.1
   Ok (record { key = key; value = value }, found.1)
 
--- the structs of a list that may be missing
-abbrev pub none_or : Option Spot → Result (ℕ × List ℕ) Fault
-none_or None = Ok (0, [])
-none_or (Some p) = structs_in p
-
 pub record Contents : Type 0 where
   pub schema : List Element
   pub key_value_metadata : List Pairing
@@ -48,8 +43,8 @@ unfoldable pub footer_at : List ℕ → Result Contents Fault
 footer_at bytes = do
   found ← pair_at 2 5 bytes
   elements ← needed bytes found.0.0
-  one ← structs_in elements
-  other ← none_or found.0.1
+  one ← structs_in (Some elements)
+  other ← structs_in found.0.1
   schema ← all_at element_at one.0 one.1
   key_values ← all_at key_value_at other.0 other.1
   Ok (record { schema = schema; key_value_metadata = key_values })

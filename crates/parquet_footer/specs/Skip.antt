@@ -1,5 +1,5 @@
 -- Passing over a value of any type, nested no more than so many levels deep.
-use Rattle.std.specs.Prelude.{ℕ, zero, suc, Bool, true, List, length, Result, Ok, nat_lt, ◌==◌, if◌then◌else◌}
+use Rattle.std.specs.Prelude.{ℕ, zero, suc, Bool, ◌||◌, List, length, Result, Ok, nat_lt, ◌==◌, if◌then◌else◌}
 use Rattle.parquet_footer.specs.declared.fault.Fault.{Fault}
 use Rattle.parquet_footer.specs.declared.fault.Rule.TheVariants.{End, WireType, Depth}
 use Rattle.parquet_footer.specs.Fault.{refused, ◌>>=◌}
@@ -56,7 +56,7 @@ nested_past value type bytes =
         items_past (value l.0) l.1 l.2)
 
 abbrev pub is_plain : ℕ → Bool
-is_plain type = if nat_lt type 9 then true else nat_lt 12 type
+is_plain type = nat_lt type 9 || nat_lt 12 type
 
 unfoldable pub value_past : ℕ → ℕ → List ℕ → Result (List ℕ) Fault
 value_past zero type bytes = if is_plain type then plain_past type bytes else refused Depth bytes

@@ -1,10 +1,9 @@
 //! An element of the schema: a leaf or a group.
-ghost use Rattle.std.specs.Prelude.{◌≡◌};
 ghost use Rattle.parquet_footer.specs.Fault.{Returns};
-ghost use Rattle.parquet_footer.specs.Element.{physical_of, repetition_of, stored, storage_at, numbers_at, element, element_at};
+ghost use Rattle.parquet_footer.specs.Element.{stored, storage_at, element, element_at};
 
 use crate::fault::{Fault, Rule, broken};
-use crate::fields::{number_in, pair_at, text_in};
+use crate::fields::{name_in, number_in, pair_at, text_in};
 use crate::logical::{LogicalType, logical_in};
 
 /// How the values of a leaf are stored.
@@ -69,51 +68,36 @@ pub struct SchemaElement<'a> {
     pub logical_type: Option<LogicalType<'a>>,
 }
 
-/// The physical type that a number denotes.
-fn physical_of(number: Option<u32>, bytes: &[u8]) -> Result<Option<PhysicalType>, Fault>
-    ensures { result ≡ physical_of number bytes.now }
-{
-    match number {
-        None => Ok(None),
-        Some(0) => Ok(Some(PhysicalType::Boolean)),
-        Some(1) => Ok(Some(PhysicalType::Int32)),
-        Some(2) => Ok(Some(PhysicalType::Int64)),
-        Some(3) => Ok(Some(PhysicalType::Int96)),
-        Some(4) => Ok(Some(PhysicalType::Float)),
-        Some(5) => Ok(Some(PhysicalType::Double)),
-        Some(6) => Ok(Some(PhysicalType::ByteArray)),
-        Some(7) => Ok(Some(PhysicalType::FixedLenByteArray)),
-        Some(_) => Err(broken(Rule::Name, bytes)),
-    }
-}
+/// The physical types, by their numbers.
+const PHYSICAL_TYPES: [PhysicalType; 8] = [
+    PhysicalType::Boolean,
+    PhysicalType::Int32,
+    PhysicalType::Int64,
+    PhysicalType::Int96,
+    PhysicalType::Float,
+    PhysicalType::Double,
+    PhysicalType::ByteArray,
+    PhysicalType::FixedLenByteArray,
+];
 
-/// The repetition that a number denotes.
-fn repetition_of(number: Option<u32>, bytes: &[u8]) -> Result<Option<Repetition>, Fault>
-    ensures { result ≡ repetition_of number bytes.now }
-{
-    match number {
-        None => Ok(None),
-        Some(0) => Ok(Some(Repetition::Required)),
-        Some(1) => Ok(Some(Repetition::Optional)),
-        Some(2) => Ok(Some(Repetition::Repeated)),
-        Some(_) => Err(broken(Rule::Name, bytes)),
-    }
-}
+/// The repetitions, by their numbers.
+const REPETITIONS: [Repetition; 3] = [
+    Repetition::Required,
+    Repetition::Optional,
+    Repetition::Repeated,
+];
 
 /// The fields 1 to 4 of an element.
 #[tactic(auto, unfolding(crate::specs::Element::storage_at))]
 fn storage_at(bytes: &[u8]) -> Result<Storage<'_>, Fault>
     ensures { Returns stored result (storage_at bytes.now) }
 {
-    let types = pair_at(bytes, 1, 2)?;
-    let physical = number_in(types.first)?;
-    let physical_type = physical_of(physical, bytes)?;
-    let type_length = number_in(types.second)?;
-    let names = pair_at(bytes, 3, 4)?;
-    let repeats = number_in(names.first)?;
-    let repetition = repetition_of(repeats, bytes)?;
-    let text = text_in(names.second)?;
-    let name = text.ok_or(broken(Rule::Missing, bytes))?;
+    let (physical, length, _rest) = pair_at(bytes, 1, 2)?;
+    let physical_type = name_in(&PHYSICAL_TYPES, physical, bytes)?;
+    let type_length = number_in(length)?;
+    let (repetition, name, _rest) = pair_at(bytes, 3, 4)?;
+    let repetition = name_in(&REPETITIONS, repetition, bytes)?;
+    let name = text_in(name)?.ok_or(broken(Rule::Missing, bytes))?;
     Ok(Storage {
         physical_type,
         type_length,
@@ -122,38 +106,26 @@ fn storage_at(bytes: &[u8]) -> Result<Storage<'_>, Fault>
     })
 }
 
-/// The fields 5 to 8 of an element: num_children, converted_type, scale and precision.
-#[tactic(auto, unfolding(crate::specs::Element::numbers_at))]
-fn numbers_at(bytes: &[u8]) -> Result<(Option<u32>, Option<u32>, Option<u32>, Option<u32>), Fault>
-    ensures { result ≡ numbers_at bytes.now }
-{
-    let one = pair_at(bytes, 5, 6)?;
-    let num_children = number_in(one.first)?;
-    let converted_type = number_in(one.second)?;
-    let two = pair_at(bytes, 7, 8)?;
-    let scale = number_in(two.first)?;
-    let precision = number_in(two.second)?;
-    Ok((num_children, converted_type, scale, precision))
-}
-
 /// An element, and the bytes behind it.
 #[tactic(auto, unfolding(crate::specs::Element::element_at))]
 pub fn element_at(bytes: &[u8]) -> Result<(SchemaElement<'_>, &[u8]), Fault>
     ensures { Returns (λ x. (element x.0, x.1.now)) result (element_at bytes.now) }
 {
     let storage = storage_at(bytes)?;
-    let (num_children, converted_type, scale, precision) = numbers_at(bytes)?;
-    let found = pair_at(bytes, 10, 10)?;
-    let logical_type = logical_in(found.first)?;
-    Ok((
-        SchemaElement {
-            storage,
-            num_children,
-            converted_type,
-            scale,
-            precision,
-            logical_type,
-        },
-        found.rest,
-    ))
+    let (children, converted, _rest) = pair_at(bytes, 5, 6)?;
+    let num_children = number_in(children)?;
+    let converted_type = number_in(converted)?;
+    let (scale, precision, _rest) = pair_at(bytes, 7, 8)?;
+    let scale = number_in(scale)?;
+    let precision = number_in(precision)?;
+    let (logical, _same, rest) = pair_at(bytes, 10, 10)?;
+    let element = SchemaElement {
+        storage,
+        num_children,
+        converted_type,
+        scale,
+        precision,
+        logical_type: logical_in(logical)?,
+    };
+    Ok((element, rest))
 }

@@ -1,9 +1,7 @@
 //! Why a footer is not read.
-ghost use Rattle.std.specs.Prelude.{◌≡◌, length};
-ghost use Rattle.parquet_footer.specs.Fault.{broken};
+ghost use Rattle.std.specs.Prelude.{◌≡◌, IsTrue, OnOk, length};
+ghost use Rattle.parquet_footer.specs.Fault.{broken, kept};
 ghost use Rattle.parquet_footer.specs.declared.fault.Stop.TheVariants as stops;
-
-use std::alloc::{AllocError, AllocFailed};
 
 /// A rule that the bytes break.
 #[derive(Debug, Clone, Copy, PartialEq, Eq)]
@@ -47,9 +45,20 @@ pub struct Fault {
 pub fn broken(rule: Rule, bytes: &[u8]) -> Fault
     ensures { result ≡ broken rule bytes.now }
 {
-    Fault {
-        left: bytes.len(),
-        rule,
+    let left = bytes.len();
+    Fault { left, rule }
+}
+
+/// Errs with the rule, broken at the front of the bytes, unless it is kept.
+#[inline(always)]
+pub fn ensure(is_kept: bool, rule: Rule, bytes: &[u8]) -> Result<(), Fault>
+    ensures read { result ≡ kept is_kept rule bytes.now }
+    ensures ok { OnOk result (IsTrue is_kept) }
+{
+    if is_kept {
+        Ok(())
+    } else {
+        Err(broken(rule, bytes))
     }
 }
 
@@ -67,22 +76,6 @@ impl From<Fault> for Stop {
 
     fn from(fault: Fault) -> Stop {
         Stop::Fault(fault)
-    }
-}
-
-impl From<AllocError> for Stop {
-    ghost from_gives = { λ _ stop. stop ≡ stops.Memory };
-
-    fn from(_refused: AllocError) -> Stop {
-        Stop::Memory
-    }
-}
-
-impl<T: Drop> From<AllocFailed<T>> for Stop {
-    ghost from_gives = { λ _ stop. stop ≡ stops.Memory };
-
-    fn from(_refused: AllocFailed<T>) -> Stop {
-        Stop::Memory
     }
 }
 

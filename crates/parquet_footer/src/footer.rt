@@ -1,13 +1,13 @@
-//! A footer.
+//! A footer, and the end of a file, which says where its footer begins.
 ghost use Rattle.std.specs.Prelude.{◌≡◌, map};
 ghost use Rattle.parquet_footer.specs.Fault.{Returns, Gives, Answers};
-ghost use Rattle.parquet_footer.specs.Fields.{spots};
 ghost use Rattle.parquet_footer.specs.Element.{element, element_at};
-ghost use Rattle.parquet_footer.specs.Footer.{all_at, pairing, key_value_at, none_or, contents, footer_at};
+ghost use Rattle.parquet_footer.specs.Tail.{length_at};
+ghost use Rattle.parquet_footer.specs.Footer.{all_at, pairing, key_value_at, contents, footer_at};
 
 use crate::element::{SchemaElement, element_at};
 use crate::fault::{Fault, FooterError, Rule, Stop, broken};
-use crate::fields::{Place, pair_at, structs_in, text_in};
+use crate::fields::{pair_at, structs_in, text_in};
 use std::alloc::Global;
 
 /// A key of a file's metadata, and its value.
@@ -33,11 +33,10 @@ pub struct Footer<'a> {
 fn key_value_at(bytes: &[u8]) -> Result<(KeyValue<'_>, &[u8]), Fault>
     ensures { Returns (λ x. (pairing x.0, x.1.now)) result (key_value_at bytes.now) }
 {
-    let found = pair_at(bytes, 1, 2)?;
-    let text = text_in(found.first)?;
-    let key = text.ok_or(broken(Rule::Missing, bytes))?;
-    let value = text_in(found.second)?;
-    Ok((KeyValue { key, value }, found.rest))
+    let (key, value, rest) = pair_at(bytes, 1, 2)?;
+    let key = text_in(key)?.ok_or(broken(Rule::Missing, bytes))?;
+    let value = text_in(value)?;
+    Ok((KeyValue { key, value }, rest))
 }
 
 /// So many elements of the schema.
@@ -48,7 +47,7 @@ fn elements_at(alloc: Global, count: u32, bytes: &[u8]) -> Result<Vec<SchemaElem
     let mut rest = bytes;
     'structs: for i in 0..count {
         let (item, behind) = element_at(rest)?;
-        found.push(item)?;
+        found.push(item).map_err(|_| Stop::Memory)?;
         rest = behind;
     }
     Ok(found)
@@ -62,20 +61,10 @@ fn key_values_at(alloc: Global, count: u32, bytes: &[u8]) -> Result<Vec<KeyValue
     let mut rest = bytes;
     'structs: for i in 0..count {
         let (item, behind) = key_value_at(rest)?;
-        found.push(item)?;
+        found.push(item).map_err(|_| Stop::Memory)?;
         rest = behind;
     }
     Ok(found)
-}
-
-/// The structs of a list that may be missing.
-fn none_or(place: Option<Place<'_>>) -> Result<(u32, &[u8]), Fault>
-    ensures { Returns (λ x. (x.0, x.1.now)) result (none_or (spots place.entry)) }
-{
-    match place {
-        None => Ok((0, &[])),
-        Some(place) => structs_in(place),
-    }
 }
 
 /// The contents of a footer.
@@ -83,15 +72,13 @@ fn none_or(place: Option<Place<'_>>) -> Result<(u32, &[u8]), Fault>
 fn footer_at(alloc: Global, bytes: &[u8]) -> Result<Footer<'_>, Stop>
     ensures { Gives contents result (footer_at bytes.now) }
 {
-    let found = pair_at(bytes, 2, 5)?;
-    let elements = found.first.ok_or(broken(Rule::Missing, bytes))?;
-    let (elements, one) = structs_in(elements)?;
-    let (pairs, other) = none_or(found.second)?;
-    let schema = elements_at(alloc, elements, one)?;
-    let key_value_metadata = key_values_at(alloc, pairs, other)?;
+    let (elements, pairs, _rest) = pair_at(bytes, 2, 5)?;
+    let elements = elements.ok_or(broken(Rule::Missing, bytes))?;
+    let (elements, one) = structs_in(Some(elements))?;
+    let (pairs, other) = structs_in(pairs)?;
     Ok(Footer {
-        schema,
-        key_value_metadata,
+        schema: elements_at(alloc, elements, one)?,
+        key_value_metadata: key_values_at(alloc, pairs, other)?,
     })
 }
 
@@ -105,10 +92,25 @@ pub fn read_footer(alloc: Global, bytes: &[u8]) -> Result<Footer<'_>, FooterErro
 {
     match footer_at(alloc, bytes) {
         Ok(footer) => Ok(footer),
-        Err(Stop::Fault(fault)) => Err(FooterError::Invalid(
-            fault.rule,
-            bytes.len().saturating_sub(fault.left),
-        )),
+        Err(Stop::Fault(Fault { left, rule })) => {
+            Err(FooterError::Invalid(rule, bytes.len().saturating_sub(left)))
+        }
         Err(Stop::Memory) => Err(FooterError::Memory),
+    }
+}
+
+/// The length in bytes of the footer that stands before the last eight bytes of a file.
+///
+/// Errs with `Encrypted` where they end in `PARE`, and with `NotParquet` where they end neither so nor in `PAR1`.
+#[tactic(auto, unfolding(crate::specs::Tail::length_at))]
+pub fn footer_length(tail: &[u8; 8]) -> Result<u32, FooterError>
+    ensures { result ≡ length_at tail.now }
+{
+    let [a, b, c, d, e, f, g, h] = *tail;
+    let length = u32::from_le_bytes([a, b, c, d]);
+    match u32::from_le_bytes([e, f, g, h]) {
+        0x3152_4150 => Ok(length),
+        0x4552_4150 => Err(FooterError::Encrypted),
+        _ => Err(FooterError::NotParquet),
     }
 }

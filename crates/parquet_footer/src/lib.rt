@@ -9,7 +9,6 @@ mod fields;
 mod footer;
 mod logical;
 mod skip;
-mod tail;
 mod wire;
 
 pub use element::{PhysicalType, Repetition, SchemaElement};
@@ -18,7 +17,6 @@ pub use equality_laws::{
     repetition_equality_is_exact, rule_equality_is_exact, time_unit_equality_is_exact,
 };
 pub use fault::{FooterError, Rule};
-pub use footer::{Footer, KeyValue, read_footer};
+pub use footer::{Footer, KeyValue, footer_length, read_footer};
 pub use logical::{Algorithm, LogicalType, TimeUnit};
 pub use skip::LEVELS;
-pub use tail::footer_length;

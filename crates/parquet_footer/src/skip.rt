@@ -1,7 +1,7 @@
 //! Passing over a value of any type. No call allocates.
 ghost use Rattle.std.specs.Prelude.{◌≡◌};
 ghost use Rattle.parquet_footer.specs.Fault.{Returns};
-ghost use Rattle.parquet_footer.specs.Skip.{is_plain, plain_past, items_past, struct_past, pair_past, nested_past, value_past};
+ghost use Rattle.parquet_footer.specs.Skip.{plain_past, items_past, struct_past, pair_past, nested_past, value_past};
 
 use crate::fault::{Fault, Rule, broken};
 use crate::wire::{binary_at, bytes_past, field_at, list_at, map_at, number_past};
@@ -26,14 +26,6 @@ fn plain_past(kind: u8, bytes: &[u8]) -> Result<&[u8], Fault>
     }
 }
 
-/// Whether a type has no parts.
-#[inline(always)]
-fn is_plain(kind: u8) -> bool
-    ensures { result ≡ is_plain kind }
-{
-    kind < 9 || kind > 12
-}
-
 /// Passes over a value.
 #[cycle(skip)]
 #[tactic(auto, using(crate::proofs::Loops::has_no_parts, crate::proofs::Loops::too_deep, crate::proofs::Loops::is_nested))]
@@ -41,7 +33,8 @@ fn is_plain(kind: u8) -> bool
 pub fn value_past(kind: u8, bytes: &[u8], levels: usize) -> Result<&[u8], Fault>
     ensures { Returns (λ x. x.now) result (value_past levels kind bytes.now) }
 {
-    if is_plain(kind) {
+    let is_plain = kind < 9 || kind > 12;
+    if is_plain {
         return plain_past(kind, bytes);
     }
     if levels == 0 {
@@ -96,8 +89,7 @@ fn items_past(kind: u8, count: u32, bytes: &[u8], levels: usize) -> Result<&[u8]
 {
     let mut rest = bytes;
     'items: for i in 0..count {
-        let behind = value_past(kind, rest, levels)?;
-        rest = behind;
+        rest = value_past(kind, rest, levels)?;
     }
     Ok(rest)
 }
@@ -110,8 +102,7 @@ fn pairs_past(key: u8, other: u8, count: u32, bytes: &[u8], levels: usize) -> Re
     let mut rest = bytes;
     'pairs: for i in 0..count {
         let value = value_past(key, rest, levels)?;
-        let behind = value_past(other, value, levels)?;
-        rest = behind;
+        rest = value_past(other, value, levels)?;
     }
     Ok(rest)
 }

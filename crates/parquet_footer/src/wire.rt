@@ -1,12 +1,11 @@
 //! Values of Thrift's compact protocol at the front of the bytes, each with the bytes behind it.
 ghost use Rattle.std.specs.Prelude.{◌≡◌, ◌<◌, length};
 ghost use Rattle.parquet_footer.specs.Fault.{Returns};
-ghost use Rattle.parquet_footer.specs.Wire.{byte_at, number_at, number_past, count_at, bytes_past, binary_at, text_at, item_type, list_at, map_at, id_at, field_at};
+ghost use Rattle.parquet_footer.specs.Wire.{byte_at, number_at, number_past, count_at, bytes_past, binary_at, text_at, item_type, list_at, map_at, field_at};
 
-use crate::fault::{Fault, Rule, broken};
+use crate::fault::{Fault, Rule, broken, ensure};
 
 /// A byte.
-#[tactic(auto, unfolding(crate::specs::Wire::byte_at))]
 #[inline(always)]
 pub fn byte_at(bytes: &[u8]) -> Result<(u8, &[u8]), Fault>
     ensures { Returns (λ x. (x.0, x.1.now)) result (byte_at bytes.now) }
@@ -24,19 +23,12 @@ pub fn number_at(bytes: &[u8], most: u32) -> Result<(u32, &[u8]), Fault>
 {
     match bytes {
         [] => Err(broken(Rule::End, bytes)),
+        [byte, rest @ ..] if *byte < 128 => Ok((*byte as u32, rest)),
         [byte, rest @ ..] => {
-            if *byte < 128 {
-                return Ok((*byte as u32, rest));
-            }
-            if most < 2 {
-                return Err(broken(Rule::Number, bytes));
-            }
+            ensure(most > 1, Rule::Number, bytes)?;
             let (high, rest) = number_at(rest, most - 1)?;
-            if high < 0x200_0000 {
-                Ok(((*byte as u32 - 128) + 128 * high, rest))
-            } else {
-                Err(broken(Rule::Number, bytes))
-            }
+            ensure(high < 0x200_0000, Rule::Number, bytes)?;
+            Ok(((*byte as u32 - 128) + 128 * high, rest))
         }
     }
 }
@@ -56,49 +48,36 @@ pub fn number_past(bytes: &[u8], most: u32) -> Result<&[u8], Fault>
         rest = behind;
     }
     let (byte, behind) = byte_at(rest)?;
-    if byte < 128 {
-        Ok(behind)
-    } else {
-        Err(broken(Rule::Number, rest))
-    }
+    ensure(byte < 128, Rule::Number, rest)?;
+    Ok(behind)
 }
 
 /// A number in zigzag that is not negative.
-#[tactic(auto, unfolding(crate::specs::Wire::count_at))]
 #[inline(never)]
 pub fn count_at(bytes: &[u8]) -> Result<(u32, &[u8]), Fault>
     ensures { Returns (λ x. (x.0, x.1.now)) result (count_at bytes.now) }
 {
     let (number, rest) = number_at(bytes, 5)?;
-    if number % 2 == 0 {
-        Ok((number / 2, rest))
-    } else {
-        Err(broken(Rule::Negative, bytes))
-    }
+    ensure(number % 2 == 0, Rule::Negative, bytes)?;
+    Ok((number / 2, rest))
 }
 
 /// Passes over so many bytes.
-#[tactic(auto, unfolding(crate::specs::Wire::bytes_past))]
 #[inline(always)]
 pub fn bytes_past(bytes: &[u8], count: usize) -> Result<&[u8], Fault>
     ensures { Returns (λ x. x.now) result (bytes_past count bytes.now) }
 {
-    if bytes.len() < count {
-        return Err(broken(Rule::End, bytes));
-    }
+    ensure(count <= bytes.len(), Rule::End, bytes)?;
     Ok(&bytes[count..])
 }
 
 /// A length, and so many bytes.
-#[tactic(auto, unfolding(crate::specs::Wire::binary_at))]
 pub fn binary_at(bytes: &[u8]) -> Result<(&[u8], &[u8]), Fault>
     ensures { Returns (λ x. (x.0.now, x.1.now)) result (binary_at bytes.now) }
 {
     let (count, rest) = number_at(bytes, 5)?;
     let count = count as usize;
-    if rest.len() < count {
-        return Err(broken(Rule::Length, bytes));
-    }
+    ensure(count <= rest.len(), Rule::Length, bytes)?;
     Ok((&rest[..count], &rest[count..]))
 }
 
@@ -108,20 +87,14 @@ pub fn text_at(bytes: &[u8]) -> Result<&str, Fault>
     ensures { Returns (λ x. x.now) result (text_at bytes.now) }
 {
     let (text, _rest) = binary_at(bytes)?;
-    match std::str::from_utf8(text) {
-        Ok(text) => Ok(text),
-        Err(_) => Err(broken(Rule::Utf8, bytes)),
-    }
+    str::from_utf8(text).map_err(|_| broken(Rule::Utf8, bytes))
 }
 
 /// The type of an item, by the type in the head of its list or map.
 fn item_type(kind: u8) -> u8
     ensures { result ≡ item_type kind }
 {
-    match kind {
-        1 | 2 => 3,
-        _ => kind,
-    }
+    if kind == 1 || kind == 2 { 3 } else { kind }
 }
 
 /// The head of a list or a set: the items' type, how many they are, and the bytes behind it.
@@ -135,9 +108,7 @@ pub fn list_at(bytes: &[u8]) -> Result<(u8, u32, &[u8]), Fault>
     } else {
         number_at(rest, 5)?
     };
-    if rest.len() < count as usize {
-        return Err(broken(Rule::Length, bytes));
-    }
+    ensure(count as usize <= rest.len(), Rule::Length, bytes)?;
     Ok((item_type(head % 16), count, rest))
 }
 
@@ -151,31 +122,8 @@ pub fn map_at(bytes: &[u8]) -> Result<(u8, u8, u32, &[u8]), Fault>
         return Ok((3, 3, 0, rest));
     }
     let (types, rest) = byte_at(rest)?;
-    if rest.len() < count as usize {
-        return Err(broken(Rule::Length, bytes));
-    }
+    ensure(count as usize <= rest.len(), Rule::Length, bytes)?;
     Ok((item_type(types / 16), item_type(types % 16), count, rest))
-}
-
-/// The id of a field.
-#[tactic(auto, unfolding(crate::specs::Wire::id_at))]
-#[inline(always)]
-fn id_at(last: u16, more: u8, bytes: &[u8]) -> Result<(u16, &[u8]), Fault>
-    ensures { Returns (λ x. (x.0, x.1.now)) result (id_at last more bytes.now) }
-{
-    if more == 0 {
-        let (id, rest) = count_at(bytes)?;
-        if id < 32768 {
-            return Ok((id as u16, rest));
-        }
-        return Err(broken(Rule::FieldId, bytes));
-    }
-    let id = last as u32 + more as u32;
-    if id < 32768 {
-        Ok((id as u16, bytes))
-    } else {
-        Err(broken(Rule::FieldId, bytes))
-    }
 }
 
 /// The head of a field behind a field of that id: its id, its type, which is 0 at the end of a struct, and the
@@ -189,9 +137,13 @@ pub fn field_at(last: u16, bytes: &[u8]) -> Result<(u16, u8, &[u8]), Fault>
     if head == 0 {
         return Ok((last, 0, rest));
     }
-    if head % 16 == 0 {
-        return Err(broken(Rule::WireType, bytes));
-    }
-    let (id, rest) = id_at(last, head / 16, rest)?;
-    Ok((id, head % 16, rest))
+    ensure(head % 16 != 0, Rule::WireType, bytes)?;
+    let more = head / 16;
+    let (id, behind) = if more == 0 {
+        count_at(rest)?
+    } else {
+        (last as u32 + more as u32, rest)
+    };
+    ensure(id < 32768, Rule::FieldId, rest)?;
+    Ok((id as u16, head % 16, behind))
 }

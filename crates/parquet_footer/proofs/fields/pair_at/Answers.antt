@@ -1,5 +1,5 @@
 use Rattle.std.proofs.Common.{◌≡◌, ◌-◌, ◌+◌, suc, length, sym, ◌∙◌, arith}
-use Rattle.parquet_footer.specs.Fields.{spots, noting, pair}
+use Rattle.parquet_footer.specs.Fields.{spots, noting}
 use Rattle.parquet_footer.proofs.Loops.{told, known, no_field, ended, no_value, goes_on, no_end}
 use Rattle.parquet_footer.proofs.Notes.{pair_by, step_fails, first_fails, second_fails, step_is}
 use Rattle.parquet_footer.proofs.fields.pair_at.Goals as goal
@@ -10,7 +10,7 @@ returns-in_err-id c =
     let bytes = c.args.bytes.now in
     let step = noting c.args.one c.args.other in
     let k : length bytes - l.i ≡ suc (length bytes - (l.i + 1)) = omega (arith, c.fields-test.true) in
-    told pair _ c.from_residual.result c.in_err-id.field-0.0 (grind arith)
+    told (λ x. ((spots x.0, spots x.1), x.2.now)) _ c.from_residual.result c.in_err-id.field-0.0 (grind arith)
     (pair_by c.args.one c.args.other bytes _ (sym l.invariant ∙ no_field step _ _ l.last (spots l.first, spots l.second) l.rest.now k _ c.in_err-id.ensures))
 
 pub returns-then-kind-eq0 : goal.returns-then-kind-eq0
@@ -22,35 +22,35 @@ returns-then-kind-eq0 c =
     let f = c.in_ok-id in
     pair_by c.args.one c.args.other bytes _ (sym l.invariant ∙ ended step _ _ l.last (spots l.first, spots l.second) l.rest.now k f.id f.kind f.value.now f.ensures c.if-kind-eq0.true)
 
-pub returns-in_err-behind : goal.returns-in_err-behind
-returns-in_err-behind c =
+pub returns-in_err-rest : goal.returns-in_err-rest
+returns-in_err-rest c =
     let l = c.fields in
     let bytes = c.args.bytes.now in
     let step = noting c.args.one c.args.other in
     let k : length bytes - l.i ≡ suc (length bytes - (l.i + 1)) = omega (arith, c.fields-test.true) in
     let f = c.in_ok-id in
-    told pair _ c.from_residual-in_err-behind.result c.in_err-behind.field-0.0 (grind arith)
-    (pair_by c.args.one c.args.other bytes _ (sym l.invariant ∙ no_value step _ _ l.last (spots l.first, spots l.second) l.rest.now k f.id f.kind f.value.now f.ensures (omega arith) _ (step_fails c.args.one c.args.other f.id f.kind f.value.now (spots l.first) (spots l.second) _ c.in_err-behind.ensures)))
+    told (λ x. ((spots x.0, spots x.1), x.2.now)) _ c.from_residual-in_err-rest.result c.in_err-rest.field-0.0 (grind arith)
+    (pair_by c.args.one c.args.other bytes _ (sym l.invariant ∙ no_value step _ _ l.last (spots l.first, spots l.second) l.rest.now k f.id f.kind f.value.now f.ensures (omega arith) _ (step_fails c.args.one c.args.other f.id f.kind f.value.now (spots l.first) (spots l.second) _ c.in_err-rest.ensures)))
 
-pub returns-in_err-one_now : goal.returns-in_err-one_now
-returns-in_err-one_now c =
+pub returns-in_err-first : goal.returns-in_err-first
+returns-in_err-first c =
     let l = c.fields in
     let bytes = c.args.bytes.now in
     let step = noting c.args.one c.args.other in
     let k : length bytes - l.i ≡ suc (length bytes - (l.i + 1)) = omega (arith, c.fields-test.true) in
     let f = c.in_ok-id in
-    told pair _ c.from_residual-in_err-one_now.result c.in_err-one_now.field-0.0 (grind arith)
-    (pair_by c.args.one c.args.other bytes _ (sym l.invariant ∙ no_value step _ _ l.last (spots l.first, spots l.second) l.rest.now k f.id f.kind f.value.now f.ensures (omega arith) _ (first_fails c.args.one c.args.other f.id f.kind f.value.now (spots l.first) (spots l.second) _ c.in_ok-behind.ensures _ c.in_err-one_now.ensures)))
+    told (λ x. ((spots x.0, spots x.1), x.2.now)) _ c.from_residual-in_err-first.result c.in_err-first.field-0.0 (grind arith)
+    (pair_by c.args.one c.args.other bytes _ (sym l.invariant ∙ no_value step _ _ l.last (spots l.first, spots l.second) l.rest.now k f.id f.kind f.value.now f.ensures (omega arith) _ (first_fails c.args.one c.args.other f.id f.kind f.value.now (spots l.first) (spots l.second) _ c.in_ok-rest.ensures _ c.in_err-first.ensures)))
 
-pub returns-in_err-other_now : goal.returns-in_err-other_now
-returns-in_err-other_now c =
+pub returns-in_err-second : goal.returns-in_err-second
+returns-in_err-second c =
     let l = c.fields in
     let bytes = c.args.bytes.now in
     let step = noting c.args.one c.args.other in
     let k : length bytes - l.i ≡ suc (length bytes - (l.i + 1)) = omega (arith, c.fields-test.true) in
     let f = c.in_ok-id in
-    told pair _ c.from_residual-in_err-other_now.result c.in_err-other_now.field-0.0 (grind arith)
-    (pair_by c.args.one c.args.other bytes _ (sym l.invariant ∙ no_value step _ _ l.last (spots l.first, spots l.second) l.rest.now k f.id f.kind f.value.now f.ensures (omega arith) _ (second_fails c.args.one c.args.other f.id f.kind f.value.now (spots l.first) (spots l.second) _ c.in_ok-behind.ensures _ _ c.in_ok-one_now.ensures c.in_err-other_now.ensures)))
+    told (λ x. ((spots x.0, spots x.1), x.2.now)) _ c.from_residual-in_err-second.result c.in_err-second.field-0.0 (grind arith)
+    (pair_by c.args.one c.args.other bytes _ (sym l.invariant ∙ no_value step _ _ l.last (spots l.first, spots l.second) l.rest.now k f.id f.kind f.value.now f.ensures (omega arith) _ (second_fails c.args.one c.args.other f.id f.kind f.value.now (spots l.first) (spots l.second) _ c.in_ok-rest.ensures _ _ c.in_ok-first.ensures c.in_err-second.ensures)))
 
 pub fields-preserved : goal.fields-preserved
 fields-preserved c =
@@ -59,8 +59,8 @@ fields-preserved c =
     let step = noting c.args.one c.args.other in
     let k : length bytes - l.i ≡ suc (length bytes - (l.i + 1)) = omega (arith, c.fields-test.true) in
     let f = c.in_ok-id in
-    sym (goes_on step _ _ l.last (spots l.first, spots l.second) l.rest.now k f.id f.kind f.value.now f.ensures (omega arith) (spots c.in_ok-one_now.one_now, spots c.in_ok-other_now.other_now) c.in_ok-behind.behind.now
-    (step_is c.args.one c.args.other f.id f.kind f.value.now (spots l.first) (spots l.second) _ c.in_ok-behind.ensures _ _ c.in_ok-one_now.ensures c.in_ok-other_now.ensures)) ∙ l.invariant
+    sym (goes_on step _ _ l.last (spots l.first, spots l.second) l.rest.now k f.id f.kind f.value.now f.ensures (omega arith) (spots c.in_ok-first.first, spots c.in_ok-second.second) c.in_ok-rest.rest.now
+    (step_is c.args.one c.args.other f.id f.kind f.value.now (spots l.first) (spots l.second) _ c.in_ok-rest.ensures _ _ c.in_ok-first.ensures c.in_ok-second.ensures)) ∙ l.invariant
 
 pub returns : goal.returns
 returns c =

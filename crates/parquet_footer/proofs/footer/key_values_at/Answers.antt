@@ -1,4 +1,4 @@
-use Rattle.std.proofs.Common.{◌≡◌, ◌-◌, ◌+◌, suc, [], ◌∷◌, ◌++◌, map, arith}
+use Rattle.std.proofs.Common.{◌≡◌, ◌-◌, ◌+◌, suc, [], ◌∷◌, ◌++◌, map, is_ok, true, arith, rules}
 use Rattle.std.proofs.lemmas.List.{map_push}
 use Rattle.parquet_footer.specs.declared.fault.Stop.TheVariants as stops
 use Rattle.parquet_footer.specs.Footer.{pairing, key_value_at}
@@ -17,7 +17,8 @@ structs-preserved c =
     let l = c.structs in
     let x = c.in_ok-item.item in
     let k : c.args.count - l.i ≡ suc (c.args.count - (l.i + 1)) = omega (arith, c.structs-test.true) in
-    let e : map pairing c.push.new.self.items ≡ map pairing l.found.items ++ pairing x ∷ [] = rw c.in_ok-push.ensures.items (map_push _ l.found.items x) in
+    let ok : is_ok c.push.result ≡ true = search rules in
+    let e : map pairing c.push.new.self.items ≡ map pairing l.found.items ++ pairing x ∷ [] = rw (c.push.ensures.items, ok) (map_push _ l.found.items x) in
     rw e (all_go_on key_value_at (map pairing l.found.items) _ l.rest.now _ l.invariant _ (pairing x) c.in_ok-item.behind.now k c.in_ok-item.ensures)
 
 pub returns : goal.returns

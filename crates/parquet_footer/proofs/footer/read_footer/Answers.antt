@@ -5,5 +5,5 @@ use Rattle.parquet_footer.proofs.footer.read_footer.Goals as goal
 pub returns-in-Err-Fault : goal.returns-in-Err-Fault
 returns-in-Err-Fault c =
     let is = rw c.in-Err-Fault.field-0-is at c.in-Err-Fault.ensures in
-    let low = fault_within c.args.bytes.now c.in-Err-Fault.fault is in
-    (c.in-Err-Fault.fault.left, is, omega (arith, low))
+    let low = fault_within c.args.bytes.now _ is in
+    (c.in-Err-Fault.field-0-0.left, is, omega (arith, low))

@@ -47,19 +47,19 @@ struct_past-returns t c =
     let v = value_past c.args.levels in
     known _ _ _ c.broken.ensures (struct_fails v bytes _ (sym l.invariant ∙ no_end (over v) _ l.last tt l.rest.now (omega (arith, c.fields-test.false))))
 
-pub items_past-returns-in_err-behind : goal.items_past-returns-in_err-behind
-items_past-returns-in_err-behind t c =
+pub items_past-returns-in_err-rest : goal.items_past-returns-in_err-rest
+items_past-returns-in_err-rest t c =
     let l = c.items in
     let item = value_past c.args.levels c.args.kind in
     let k : c.args.count - l.i ≡ suc (c.args.count - (l.i + 1)) = omega (arith, c.items-test.true) in
-    told (λ x. x.now) _ c.from_residual.result c.in_err-behind.field-0.0 (grind arith) (sym l.invariant ∙ no_item item _ l.rest.now _ _ k c.in_err-behind.ensures)
+    told (λ x. x.now) _ c.from_residual.result c.in_err-rest.field-0.0 (grind arith) (sym l.invariant ∙ no_item item _ l.rest.now _ _ k c.in_err-rest.ensures)
 
 pub items_past-items-preserved : goal.items_past-items-preserved
 items_past-items-preserved t c =
     let l = c.items in
     let item = value_past c.args.levels c.args.kind in
     let k : c.args.count - l.i ≡ suc (c.args.count - (l.i + 1)) = omega (arith, c.items-test.true) in
-    sym (one_more item _ l.rest.now _ _ k c.in_ok-behind.ensures) ∙ l.invariant
+    sym (one_more item _ l.rest.now _ _ k c.in_ok-rest.ensures) ∙ l.invariant
 
 pub items_past-returns : goal.items_past-returns
 items_past-returns t c =
@@ -75,14 +75,14 @@ pairs_past-returns-in_err-value t c =
     told (λ x. x.now) _ c.from_residual.result c.in_err-value.field-0.0 (grind arith)
     (sym l.invariant ∙ no_item item _ l.rest.now _ _ k (pair_fails v l.rest.now c.args.key c.args.other _ c.in_err-value.ensures))
 
-pub pairs_past-returns-in_err-behind : goal.pairs_past-returns-in_err-behind
-pairs_past-returns-in_err-behind t c =
+pub pairs_past-returns-in_err-rest : goal.pairs_past-returns-in_err-rest
+pairs_past-returns-in_err-rest t c =
     let l = c.pairs in
     let v = value_past c.args.levels in
     let item = pair_past v c.args.key c.args.other in
     let k : c.args.count - l.i ≡ suc (c.args.count - (l.i + 1)) = omega (arith, c.pairs-test.true) in
-    told (λ x. x.now) _ c.from_residual-in_err-behind.result c.in_err-behind.field-0.0 (grind arith)
-    (sym l.invariant ∙ no_item item _ l.rest.now _ _ k (pair_fails_later v l.rest.now c.args.key c.args.other _ _ c.in_ok-value.ensures c.in_err-behind.ensures))
+    told (λ x. x.now) _ c.from_residual-in_err-rest.result c.in_err-rest.field-0.0 (grind arith)
+    (sym l.invariant ∙ no_item item _ l.rest.now _ _ k (pair_fails_later v l.rest.now c.args.key c.args.other _ _ c.in_ok-value.ensures c.in_err-rest.ensures))
 
 pub pairs_past-pairs-preserved : goal.pairs_past-pairs-preserved
 pairs_past-pairs-preserved t c =
@@ -90,7 +90,7 @@ pairs_past-pairs-preserved t c =
     let v = value_past c.args.levels in
     let item = pair_past v c.args.key c.args.other in
     let k : c.args.count - l.i ≡ suc (c.args.count - (l.i + 1)) = omega (arith, c.pairs-test.true) in
-    sym (one_more item _ l.rest.now _ _ k (pair_is v l.rest.now c.args.key c.args.other _ _ c.in_ok-value.ensures c.in_ok-behind.ensures)) ∙ l.invariant
+    sym (one_more item _ l.rest.now _ _ k (pair_is v l.rest.now c.args.key c.args.other _ _ c.in_ok-value.ensures c.in_ok-rest.ensures)) ∙ l.invariant
 
 pub pairs_past-returns : goal.pairs_past-returns
 pairs_past-returns t c =
