@@ -1,25 +1,16 @@
 -- Answers, place by place.
-use Rattle.std.proofs.Common.{◌≡◌, Bool, List, [], ◌∷◌, ◌++◌, map, String, Option, Some, codes, ap, ap₂, ◌∙◌, sym, subst, append_assoc, append-nil}
+use Rattle.std.proofs.Common.{◌≡◌, Bool, List, [], ◌∷◌, ◌++◌, map, String, Option, Some, None, ap, ◌∙◌, sym, subst, append_assoc, append-nil}
 use Rattle.std.specs.declared.alloc.Global.{Global}
-use Rattle.serde_json.specs.Data.{Data}
-use Rattle.serde_json.specs.Find.{get}
 use Rattle.serde_json.specs.declared.value.Value.{Value}
+use Rattle.serde_json.specs.Data.{Data}
 use Rattle.arrow_values.specs.Tree.{Text}
 use Rattle.arrow_columns.specs.Column.{ColumnTree}
-use Rattle.geoparquet.specs.Values.{at}
-use Rattle.geoparquet.specs.Roots.{first_of}
-use Rattle.geoparquet.specs.Checks.{Entry, entry_at, Place, places, places_of_column, places_of_columns, Answer, given, Holds, AreHeld, AreAnswers}
+use Rattle.geoparquet.specs.Checks.{checks_of_all, checks_of_column, Place, places, places_in, places_of_column, places_of_columns, keys_in, columns_in, Answer, given, Holds, AreHeld, AreAnswers}
 use Rattle.geoparquet.specs.declared.finding.GeoCheck.{GeoCheck}
 
 -- what a member of an object is in the code
 abbrev pub Entries : Type 0
 Entries = String Global × Value
-
-abbrev entry_of : Option Data → Option ColumnTree → Entry
-entry_of m c = record { member = m; column = c }
-
-abbrev place_at : Option Text → GeoCheck → Place
-place_at key check = record { column = key; check = check }
 
 module _ (d : Data) (cs : List ColumnTree) where
   -- more answers behind others
@@ -32,39 +23,29 @@ module _ (d : Data) (cs : List ColumnTree) where
   -- what holds at a key, as answers
   held_answers : (key : Option Text) (checks : List GeoCheck) (held : List (GeoCheck × Bool)) → AreHeld (Holds d cs key) checks held → AreAnswers d cs (places key checks) (map (given key) held)
   held_answers key [] [] h = tt
-  held_answers key (check ∷ checks) (p ∷ ps) h = ((ap (place_at key) h.0, h.1), held_answers key checks ps h.2)
+  held_answers key (check ∷ checks) (p ∷ ps) h = ((ap (λ c. record { column = key; check = c }) h.0, h.1), held_answers key checks ps h.2)
   held_answers key [] (p ∷ ps) h = absurd h
   held_answers key (check ∷ checks) [] h = absurd h
 
-  -- added to the answers so far
-  pub more_answers : (done : List Place) (before after : List Answer) (key : Option Text) (checks : List GeoCheck) (held : List (GeoCheck × Bool)) → after ≡ before ++ map (given key) held
-      → AreAnswers d cs done before → AreHeld (Holds d cs key) checks held → AreAnswers d cs (done ++ places key checks) after
-  more_answers done before after key checks held is h g =
-      subst (AreAnswers d cs (done ++ places key checks)) (sym is) (answers-append done (places key checks) before (map (given key) held) h (held_answers key checks held g))
+  -- the places are those that are answered and those of the keys that are left
+  unfoldable pub Answered : List Text → List Answer → Type 0
+  Answered keys answers = (done : List Place) × (places_in d ≡ done ++ places_of_columns keys) × AreAnswers d cs done answers
 
-  -- what the checks of a column look at
-  pub entry_is : (key : Text) (m : Option Data) (c : Option ColumnTree) → m ≡ at key (get (codes "columns") d) → c ≡ first_of cs key → entry_of m c ≡ entry_at d cs (Some key)
-  entry_is key m c e f = ap₂ entry_of e f
-
-  -- no keys are left
-  pub none_left : (done : List Place) (keys : List Text) (answers : List Answer) → keys ≡ [] → AreAnswers d cs done answers → AreAnswers d cs (done ++ places_of_columns keys) answers
-  none_left done keys answers none h =
-      subst (λ ks. AreAnswers d cs (done ++ places_of_columns ks) answers) (sym none) (subst (λ ps. AreAnswers d cs ps answers) (sym (append-nil done)) h)
-
-  -- all places are those that are done and those of the keys that are left
-  unfoldable pub Answered : List Place → List Text → List Answer → Type 0
-  Answered all keys answers = (so_far : List Place) × (all ≡ so_far ++ places_of_columns keys) × AreAnswers d cs so_far answers
-
-  pub answered_first : (done : List Place) (keys left : List Text) (answers : List Answer) → keys ≡ left → AreAnswers d cs done answers → Answered (done ++ places_of_columns keys) left answers
+  pub answered_first : (keys : List Text) (answers : List Answer) (held : List (GeoCheck × Bool)) → keys_in (columns_in d) ≡ keys → answers ≡ map (given None) held
+      → AreHeld (Holds d cs None) checks_of_all held → Answered keys answers
   unfolding Answered
-  answered_first done keys left answers same h = (done, ap (λ ks. done ++ places_of_columns ks) same, h)
+  answered_first keys answers held same is h =
+      (places None checks_of_all, ap (λ ks. places None checks_of_all ++ places_of_columns ks) same, subst (AreAnswers d cs (places None checks_of_all)) (sym is) (held_answers None checks_of_all held h))
 
-  pub answered_next : (all : List Place) (key name : Text) (keys left : List Text) (before after : List Answer) → keys ≡ name ∷ left → key ≡ name
-      → ((done : List Place) → AreAnswers d cs done before → AreAnswers d cs (done ++ places_of_column key) after) → Answered all keys before → Answered all left after
+  pub answered_next : (key name : Text) (keys left : List Text) (before after : List Answer) (held : List (GeoCheck × Bool)) → keys ≡ name ∷ left → key ≡ name
+      → after ≡ before ++ map (given (Some key)) held → AreHeld (Holds d cs (Some key)) checks_of_column held → Answered keys before → Answered left after
   unfolding Answered
-  answered_next all key name keys left before after are is adds (so_far, whole, h) =
-      (so_far ++ places_of_column key, whole ∙ ap (λ ks. so_far ++ places_of_columns ks) are ∙ ap (λ k. so_far ++ (places_of_column k ++ places_of_columns left)) (sym is) ∙ sym (append_assoc so_far (places_of_column key) (places_of_columns left)), adds so_far h)
+  answered_next key name keys left before after held are same is h (done, whole, answers) = (
+    done ++ places_of_column key,
+    whole ∙ ap (λ ks. done ++ places_of_columns ks) are ∙ ap (λ k. done ++ (places_of_column k ++ places_of_columns left)) (sym same) ∙ sym (append_assoc done (places_of_column key) (places_of_columns left)),
+    subst (AreAnswers d cs (done ++ places_of_column key)) (sym is) (answers-append done (places_of_column key) before (map (given (Some key)) held) answers (held_answers (Some key) checks_of_column held h)),
+  )
 
-  pub answered_last : (all : List Place) (keys : List Text) (answers : List Answer) → keys ≡ [] → Answered all keys answers → AreAnswers d cs all answers
+  pub answered_last : (keys : List Text) (answers : List Answer) → keys ≡ [] → Answered keys answers → AreAnswers d cs (places_in d) answers
   unfolding Answered
-  answered_last all keys answers none (so_far, whole, h) = subst (λ ps. AreAnswers d cs ps answers) (sym (whole ∙ ap (λ ks. so_far ++ places_of_columns ks) none ∙ append-nil so_far)) h
+  answered_last keys answers none (done, whole, h) = subst (λ ps. AreAnswers d cs ps answers) (sym (whole ∙ ap (λ ks. done ++ places_of_columns ks) none ∙ append-nil done)) h

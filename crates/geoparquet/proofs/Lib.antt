@@ -1,4 +1,5 @@
 pub mod Answering
+pub mod Named
 pub mod Sizes
 pub mod Naming
 pub mod Soundness

@@ -1,6 +1,6 @@
 -- Metadata of which every check holds.
 use Rattle.std.proofs.Common.{◌≡◌, true, true≢false, List, [], ◌∷◌, map, Option, None, Some, codes, sym, ap, ◌∙◌, subst, refl}
-use Rattle.std.specs.Prelude.{IsSome, ⊤}
+use Rattle.std.specs.Prelude.{IsSome, option_and_then, ⊤}
 use Rattle.std.specs.declared.cmp.Ordering.{Ordering}
 use Rattle.std.specs.declared.cmp.Ordering.TheVariants.{Less, Equal, Greater}
 use Rattle.std.specs.Ordering.{nat_cmp, match_ordering, is_eq}
@@ -9,7 +9,7 @@ use Rattle.std.specs.Cmp.Lexicographic.{slice_cmp}
 use Rattle.std.proofs.lemmas.Map.Text.{is_eq-slice_cmp}
 use Rattle.std.proofs.lemmas.Slice.Eq.{bytes_eq-Decides}
 use Rattle.serde_json.specs.Data.{Data, null, boolean, number, string, array, object, Members, no_members, member}
-use Rattle.serde_json.specs.Find.{get, get_member}
+use Rattle.serde_json.specs.Find.{get, get_member, as_object}
 use Rattle.arrow_values.specs.Tree.{Text}
 use Rattle.arrow_columns.specs.Column.{ColumnTree}
 use Rattle.geoparquet.specs.Values.{text_of_value}
@@ -42,11 +42,10 @@ module _ (d : Data) (cs : List ColumnTree) where
           subst (λ k. is_one cs k ≡ true) (sym same) (first_so (is_one cs l) (are_names cs ms) g)
       step further Greater is here = further here
 
-  primary_one : (t : Option Text) (columns : Option Data) → IsPrimary t columns → AreColumns cs columns → NamesOne cs t
+  primary_one : (t : Option Text) (columns : Option Data) → IsPrimary t columns → AreColumns cs (option_and_then as_object columns) → NamesOne cs t
   primary_one None columns h g = absurd h
   primary_one (Some s) None h g = absurd g
-  primary_one (Some s) (Some (object no_members)) h g = absurd (true≢false (sym h))
-  primary_one (Some s) (Some (object (member k e ms))) h g = named_one s (member k e ms) h g
+  primary_one (Some s) (Some (object ms)) h g = named_one s ms h g.1
   primary_one (Some s) (Some null) h g = absurd g
   primary_one (Some s) (Some (boolean b)) h g = absurd g
   primary_one (Some s) (Some (number n)) h g = absurd g

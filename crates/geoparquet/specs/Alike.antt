@@ -3,19 +3,15 @@ use Rattle.std.specs.Prelude.{◌&&◌, Bool, true, false}
 use Rattle.std.specs.Bool.{beq}
 use Rattle.std.specs.Str.{bytes_eq}
 use lib.Ieee.{eq}
-use Rattle.serde_json.specs.Data.{Num, Data, null, boolean, number, string, array, object, Items, no_items, item, Members, no_members, member}
+use Rattle.serde_json.specs.Data.{Data, null, boolean, number, string, array, object, Items, no_items, item, Members, no_members, member}
 use Rattle.serde_json.specs.Find.{to_float}
-
--- whether both numbers are equal
-abbrev pub alike_numbers : Num → Num → Bool
-alike_numbers m n = eq (to_float m) (to_float n)
 
 -- whether both values are equal
 abbrev mutual
   pub alike : Data → Data → Bool
   alike null null = true
   alike (boolean b) (boolean c) = beq b c
-  alike (number m) (number n) = alike_numbers m n
+  alike (number m) (number n) = eq (to_float m) (to_float n)
   alike (string s) (string t) = bytes_eq s t
   alike (array ds) (array es) = alike_items ds es
   alike (object ms) (object ns) = alike_members ms ns

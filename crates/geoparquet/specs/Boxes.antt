@@ -12,11 +12,14 @@ abbrev pub AreInOrder : Data → Data → Type 0
 AreInOrder (number a) (number b) = to_float a ≤ᶠ to_float b
 AreInOrder _ _ = ⊥
 
--- xmin, ymin, xmax, ymax; or xmin, ymin, zmin, xmax, ymax, zmax. A box across the antimeridian has xmin > xmax
+-- xmin, ymin, xmax, ymax. A box across the antimeridian has xmin > xmax
+abbrev pub IsFlat : Data → Data → Data → Data → Type 0
+IsFlat west south east north = IsNumber west × IsNumber east × AreInOrder south north
+
+-- xmin, ymin, xmax, ymax; or xmin, ymin, zmin, xmax, ymax, zmax
 abbrev pub IsBox : Items → Type 0
-IsBox (item west (item south (item east (item north no_items)))) = IsNumber west × IsNumber east × AreInOrder south north
-IsBox (item west (item south (item bottom (item east (item north (item top no_items)))))) =
-    IsNumber west × IsNumber east × AreInOrder south north × AreInOrder bottom top
+IsBox (item west (item south (item east (item north no_items)))) = IsFlat west south east north
+IsBox (item west (item south (item bottom (item east (item north (item top no_items)))))) = IsFlat west south east north × AreInOrder bottom top
 IsBox _ = ⊥
 
 -- `bbox`: absent or a box

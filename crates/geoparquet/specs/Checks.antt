@@ -1,6 +1,6 @@
 -- The checks of the metadata at the key `geo`, of which each holds or does not (GeoParquet 1.1), and the findings.
-use Rattle.std.specs.Prelude.{◌≡◌, ◌↔◌, ◌&&◌, Bool, true, false, List, [], ◌∷◌, ◌++◌, codes, Option, None, Some, IsSome, IsTrue, option_map, option_and_then, unwrap_or, map, flat_map, string_bytes, ⊤}
-use Rattle.serde_json.specs.Data.{Data, null, object, Members, no_members, member}
+use Rattle.std.specs.Prelude.{◌≡◌, ◌≢◌, ◌↔◌, ◌&&◌, Bool, true, false, List, [], ◌∷◌, ◌++◌, codes, Option, None, Some, IsSome, IsTrue, option_map, option_and_then, unwrap_or, map, flat_map, string_bytes, ⊤}
+use Rattle.serde_json.specs.Data.{Data, null, Members, no_members, member}
 use Rattle.serde_json.specs.Find.{get, as_object}
 use Rattle.serde_json.specs.Read.{read}
 use Rattle.arrow_values.specs.Tree.{Text}
@@ -21,19 +21,19 @@ use Rattle.geoparquet.specs.declared.finding.GeoFinding.{GeoFinding}
 abbrev pub value_of : Text → Data
 value_of s = unwrap_or (read s) null
 
+-- the members of `columns`, where it is an object
+abbrev pub columns_in : Data → Option Members
+columns_in d = option_and_then as_object (get (codes "columns") d)
+
 -- whether each key is the name of one column of the schema
 abbrev pub are_names : List ColumnTree → Members → Bool
 are_names cs no_members = true
 are_names cs (member key d ms) = is_one cs key && are_names cs ms
 
-abbrev pub are_some_names : List ColumnTree → Members → Bool
-are_some_names cs no_members = false
-are_some_names cs (member key d ms) = are_names cs (member key d ms)
-
 -- `columns`: an object with a member at least, whose keys are such names
-abbrev pub AreColumns : List ColumnTree → Option Data → Type 0
-AreColumns cs (Some (object ms)) = IsTrue (are_some_names cs ms)
-AreColumns cs _ = ⊥
+abbrev pub AreColumns : List ColumnTree → Option Members → Type 0
+AreColumns cs (Some ms) = (ms ≢ no_members) × IsTrue (are_names cs ms)
+AreColumns cs None = ⊥
 
 -- `primary_column`: the text of a key of `columns`
 abbrev pub IsPrimary : Option Text → Option Data → Type 0
@@ -59,7 +59,7 @@ abbrev pub HoldsOf : Data → List ColumnTree → Entry → GeoCheck → Type 0
 HoldsOf d cs e Object = IsSome (as_object d)
 HoldsOf d cs e Version = IsSome (text_of_value (get (codes "version") d))
 HoldsOf d cs e PrimaryColumn = IsPrimary (text_of_value (get (codes "primary_column") d)) (get (codes "columns") d)
-HoldsOf d cs e Columns = AreColumns cs (get (codes "columns") d)
+HoldsOf d cs e Columns = AreColumns cs (columns_in d)
 HoldsOf d cs e Encoding = IsEncoding (text_of_value (at (codes "encoding") e.member)) e.column
 HoldsOf d cs e Types = AreTypes (text_of_value (at (codes "encoding") e.member)) (at (codes "geometry_types") e.member)
 HoldsOf d cs e Crs = IsCrs (at (codes "crs") e.member)
@@ -103,10 +103,6 @@ places_of_column key = places (Some key) checks_of_column
 
 abbrev pub places_of_columns : List Text → List Place
 places_of_columns keys = flat_map places_of_column keys
-
--- the members of `columns`, where it is an object
-abbrev pub columns_in : Data → Option Members
-columns_in d = option_and_then as_object (get (codes "columns") d)
 
 -- every check that there is, in order
 abbrev pub places_in : Data → List Place

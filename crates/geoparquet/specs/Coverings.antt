@@ -1,7 +1,7 @@
 -- Coverings: a column of boxes, one for each geometry (GeoParquet 1.1, "covering").
-use Rattle.std.specs.Prelude.{◌≡◌, ◌⊎◌, ◌&&◌, ◌||◌, Bool, true, false, IsTrue, bytes_eq, codes, List, Option, None, Some, ⊤}
-use Rattle.serde_json.specs.Data.{Data, array, Items, no_items, item}
-use Rattle.serde_json.specs.Find.{get, as_str}
+use Rattle.std.specs.Prelude.{◌≡◌, ◌⊎◌, ◌&&◌, ◌||◌, Bool, true, false, IsTrue, bytes_eq, codes, List, Option, None, Some, option_and_then, ⊤}
+use Rattle.serde_json.specs.Data.{Data, Items, no_items, item}
+use Rattle.serde_json.specs.Find.{get, as_str, as_array}
 use Rattle.arrow_values.specs.Tree.{Text, Tree, plain, float16, float32, float64, struct}
 use Rattle.arrow_values.specs.Tree.{FieldTrees, no_fields, field}
 use Rattle.arrow_columns.specs.Column.{TypeTree, known, ColumnTree}
@@ -34,14 +34,13 @@ abbrev pub IsPathTo : List ColumnTree → Option Text → Option Text → Type 0
 IsPathTo cs (Some column) (Some name) = IsColumnWith name (first_of cs column)
 IsPathTo cs _ _ = ⊥
 
-abbrev pub ArePathParts : List ColumnTree → Items → Type 0
-ArePathParts cs (item column (item name no_items)) = IsPathTo cs (as_str column) (as_str name)
+abbrev pub ArePathParts : List ColumnTree → Option Items → Type 0
+ArePathParts cs (Some (item column (item name no_items))) = IsPathTo cs (as_str column) (as_str name)
 ArePathParts cs items = ⊥
 
 -- a path: an array of such two texts
 abbrev pub IsPath : List ColumnTree → Option Data → Type 0
-IsPath cs (Some (array items)) = ArePathParts cs items
-IsPath cs found = ⊥
+IsPath cs found = ArePathParts cs (option_and_then as_array found)
 
 -- `bbox` of a covering: a path for each bound, of z for both or none
 abbrev pub AreBounds : List ColumnTree → Option Data → Type 0

@@ -1,13 +1,11 @@
 //! Coordinate reference systems that agree.
-ghost use Rattle.std.specs.Prelude.{◌≡◌, ◌↔◌, IfOk, IsTrue, Some, Option, option_map, string_bytes};
-ghost use Rattle.serde_json.specs.View.{view};
-ghost use Rattle.arrow_values.specs.Tree.{Text};
-ghost use Rattle.arrow_values.specs.Texts.{text_of};
-ghost use Rattle.geoparquet.specs.Identifiers.{code_text, identifier, identifier_of, CrsAgree};
+ghost use Rattle.std.specs.Prelude.{◌≡◌, ◌↔◌, IfOk, IsTrue, option_map, string_bytes};
+ghost use Rattle.serde_json.specs.View.{view, items_view, members_view};
+ghost use Rattle.geoparquet.specs.Alike.{alike, alike_items, alike_members};
+ghost use Rattle.geoparquet.specs.Identifiers.{code_text, identifier_of, CrsAgree};
 
-use crate::alike::are_alike;
-use crate::values::{member_at, text_in};
-use serde_json::Value;
+use crate::values::{copied, member_at, text_in};
+use serde_json::{Map, Value};
 use std::alloc::{AllocError, Global};
 
 /// The CRS where `crs` is absent.
@@ -17,58 +15,25 @@ const DEFAULT: &str = "OGC:CRS84";
 fn code_text(alloc: Global, code: Option<&Value>) -> Result<Option<String>, AllocError>
     ensures { IfOk result (λ text. option_map string_bytes text ≡ code_text (option_map (λ v. view v.now) code.entry)) }
 {
-    match code {
-        Some(Value::String(text)) => Ok(Some(String::from_str(alloc, text.as_str())?)),
-        Some(Value::Number(number)) => match number.as_u64() {
-            Some(number) => {
-                let text = format!(in alloc; "{number}")?;
-                Ok(Some(text))
-            }
-            None => Ok(None),
-        },
-        _ => Ok(None),
+    match code.and_then(Value::as_u64) {
+        Some(number) => Ok(Some(format!(in alloc; "{number}")?)),
+        None => copied(alloc, text_in(code)),
     }
 }
 
-/// An authority and a code with a colon between them, where both are there. Errs only when out of memory.
-fn joined(
-    alloc: Global,
-    authority: Option<&str>,
-    code: Option<String>,
-) -> Result<Option<String>, AllocError>
-    ensures { IfOk result (λ text. option_map string_bytes text ≡ identifier (text_of authority.entry) (option_map string_bytes code)) }
-{
-    let Some(authority) = authority else {
-        return Ok(None);
-    };
-    let Some(code) = code else {
-        return Ok(None);
-    };
-    let mut text = String::from_str(alloc, authority)?;
-    text.push_str(":")?;
-    text.push_str(code.as_str())?;
-    Ok(Some(text))
-}
-
-/// The identifier of a CRS. Errs only when out of memory.
+/// The identifier of a CRS: its text; or its authority and its code with a colon between them, where both are there. Errs only when out
+/// of memory.
 fn identifier_of(alloc: Global, crs: &Value) -> Result<Option<String>, AllocError>
     ensures { IfOk result (λ text. option_map string_bytes text ≡ identifier_of (view crs.now)) }
 {
-    if let Some(text) = crs.as_str() {
-        return Ok(Some(String::from_str(alloc, text)?));
+    if let Value::String(text) = crs {
+        return copied(alloc, Some(text.as_str()));
     }
     let id = crs.get("id");
     let code = code_text(alloc, member_at(id, "code"))?;
-    joined(alloc, text_in(member_at(id, "authority")), code)
-}
-
-/// Whether both texts are there, and the same.
-fn are_same(one: &Option<String>, other: &Option<String>) -> bool
-    ensures { IsTrue result ↔ ((s : Text) × (option_map string_bytes one.now ≡ Some s) × (option_map string_bytes other.now ≡ Some s)) }
-{
-    match (one, other) {
-        (Some(one), Some(other)) => one.as_str() == other.as_str(),
-        _ => false,
+    match (text_in(member_at(id, "authority")), code) {
+        (Some(authority), Some(code)) => Ok(Some(format!(in alloc; "{authority}:{code}")?)),
+        _ => Ok(None),
     }
 }
 
@@ -84,10 +49,52 @@ pub(crate) fn crs_agree(
         return Ok(true);
     };
     let own_identifier = identifier_of(alloc, own)?;
-    let Some(found) = found else {
-        let default = Some(String::from_str(alloc, DEFAULT)?);
-        return Ok(are_same(&own_identifier, &default));
+    let identifier = match found {
+        Some(found) if are_alike(found, own) => return Ok(true),
+        Some(found) => identifier_of(alloc, found)?,
+        None => copied(alloc, Some(DEFAULT))?,
     };
-    let identifier = identifier_of(alloc, found)?;
-    Ok(are_alike(found, own) || are_same(&identifier, &own_identifier))
+    Ok(identifier.is_some() && identifier == own_identifier)
+}
+
+/// Whether two values are equal, where numbers are compared as the nearest floats. It recurs as deep as the values nest.
+#[cycle(alike)]
+pub(crate) fn are_alike(a: &Value, b: &Value) -> bool
+    ensures { result ≡ alike (view a.now) (view b.now) }
+{
+    match (a, b) {
+        (Value::Null, Value::Null) => true,
+        (Value::Bool(x), Value::Bool(y)) => *x == *y,
+        (Value::Number(x), Value::Number(y)) => x.as_f64() == y.as_f64(),
+        (Value::String(x), Value::String(y)) => x.as_str() == y.as_str(),
+        (Value::Array(x), Value::Array(y)) => are_alike_items(x, y),
+        (Value::Object(x), Value::Object(y)) => are_alike_members(x, y),
+        _ => false,
+    }
+}
+
+#[cycle(alike)]
+fn are_alike_items(a: &Vec<Value>, b: &Vec<Value>) -> bool
+    ensures { result ≡ alike_items (items_view a.now.items) (items_view b.now.items) }
+{
+    let mut others = b.iter();
+    for x in a.iter() {
+        if !matches!(others.next(), Some(y) if are_alike(x, y)) {
+            return false;
+        }
+    }
+    others.next().is_none()
+}
+
+#[cycle(alike)]
+fn are_alike_members(a: &Map<String, Value>, b: &Map<String, Value>) -> bool
+    ensures { result ≡ alike_members (members_view a.now.entries) (members_view b.now.entries) }
+{
+    let mut others = b.iter();
+    for (key, x) in a.iter() {
+        if !matches!(others.next(), Some((name, y)) if key == name && are_alike(x, y)) {
+            return false;
+        }
+    }
+    others.next().is_none()
 }

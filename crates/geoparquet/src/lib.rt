@@ -2,17 +2,13 @@
 //! rule of the format whether it holds, and of which column.
 #![tactic(auto)]
 
-mod alike;
-mod bbox;
 mod check;
-mod covering;
 mod crs;
 mod encoding;
 mod equality_laws;
 mod finding;
 pub mod laws;
 mod schema;
-mod types;
 mod values;
 mod words;
 

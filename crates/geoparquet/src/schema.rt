@@ -1,84 +1,58 @@
-//! The columns of the schema that the metadata names.
-ghost use Rattle.std.specs.Prelude.{◌≡◌, ◌↔◌, ◌≤◌, IfOk, IsTrue, length, map, option_map};
+//! The columns of the schema that the metadata name: by a key of `columns`, and by a path of a covering.
+ghost use Rattle.std.specs.Prelude.{◌≡◌, ◌↔◌, IfOk, IsTrue, codes, map, option_map};
+ghost use Rattle.serde_json.specs.Find.{get};
 ghost use Rattle.serde_json.specs.View.{view, members_view};
-ghost use Rattle.arrow_values.specs.Texts.{text_of};
 ghost use Rattle.arrow_columns.specs.Column.{column_tree};
-ghost use Rattle.geoparquet.specs.Roots.{count_of, is_one, first_of};
-ghost use Rattle.geoparquet.specs.Checks.{are_names, are_some_names, AreColumns, IsPrimary, own_metadata};
+ghost use Rattle.arrow_values.specs.Texts.{text_of};
+ghost use Rattle.arrow_values.specs.View.{tree, field_trees};
+ghost use Rattle.geoparquet.specs.Coverings.{is_floating, has_floats, IsColumnWith, IsPathTo, IsPath, AreBounds, IsCovering};
+ghost use Rattle.geoparquet.specs.Values.{text_of_value};
+ghost use Rattle.geoparquet.specs.Roots.{is_one, first_of};
+ghost use Rattle.geoparquet.specs.Checks.{AreColumns, IsPrimary, own_metadata};
 
-use crate::values::{member_at, value_of};
-use arrow_columns::Column;
+use crate::values::{items_in, member_at, member_of_column, text_in, value_of};
+use arrow_columns::{Column, ColumnType};
+use arrow_values::{DataType, Field, Fields};
 use serde_json::{Map, Value};
 use std::alloc::{AllocError, Global};
-
-/// How many columns have that name.
-fn count_named(columns: &[Column], name: &str) -> usize
-    ensures { result ≡ count_of (map column_tree columns.now) name.now }
-{
-    let mut count: usize = 0;
-    for column in columns {
-        if column.name.as_str() == name {
-            count += 1;
-        }
-    }
-    count
-}
 
 /// Whether one column, and no other, has that name.
 #[tactic(auto, unfolding(crate::specs::Roots::is_one))]
 fn is_one(columns: &[Column], name: &str) -> bool
     ensures { result ≡ is_one (map column_tree columns.now) name.now }
 {
-    count_named(columns, name) == 1
+    let is_named = |column: &&Column| column.name.as_str() == name;
+    columns.iter().filter(is_named).count() == 1
 }
 
 /// The first of some columns that has that name, if one has it.
 pub fn first_named<'c>(columns: &'c [Column], name: &str) -> Option<&'c Column>
     ensures { option_map (λ c. column_tree c.now) result ≡ first_of (map column_tree columns.now) name.now }
 {
-    for column in columns {
-        if column.name.as_str() == name {
-            return Some(column);
-        }
-    }
-    None
+    columns.iter().find(|column| column.name.as_str() == name)
 }
 
-/// Whether each key is the name of one column.
-fn are_names(members: &Map<String, Value>, columns: &[Column]) -> bool
-    ensures { result ≡ are_names (map column_tree columns.now) (members_view members.now.entries) }
+/// Whether `columns` is an object with a member at least, whose keys are each the name of one column.
+pub(crate) fn are_columns(members: Option<&Map<String, Value>>, columns: &[Column]) -> bool
+    ensures { IsTrue result ↔ AreColumns (map column_tree columns.now) (option_map (λ m. members_view m.now.entries) members.entry) }
 {
+    let Some(members) = members else {
+        return false;
+    };
     for (key, _member) in members.iter() {
         if !is_one(columns, key.as_str()) {
             return false;
         }
     }
-    true
-}
-
-/// Whether there is a key, and each is the name of one column.
-fn are_some_names(members: &Map<String, Value>, columns: &[Column]) -> bool
-    ensures { result ≡ are_some_names (map column_tree columns.now) (members_view members.now.entries) }
-{
-    !members.is_empty() && are_names(members, columns)
-}
-
-/// Whether `columns` is an object with a member at least, whose keys are each the name of one column.
-pub(crate) fn are_columns(found: Option<&Value>, columns: &[Column]) -> bool
-    ensures { IsTrue result ↔ AreColumns (map column_tree columns.now) (option_map (λ v. view v.now) found.entry) }
-{
-    match found {
-        Some(Value::Object(members)) => are_some_names(members, columns),
-        _ => false,
-    }
+    !members.is_empty()
 }
 
 /// Whether `primary_column` is the text of a key of `columns`.
-pub(crate) fn is_primary(text: Option<&str>, found: Option<&Value>) -> bool
-    ensures { IsTrue result ↔ IsPrimary (text_of text.entry) (option_map (λ v. view v.now) found.entry) }
+pub(crate) fn is_primary(value: &Value) -> bool
+    ensures { IsTrue result ↔ IsPrimary (text_of_value (get (codes "primary_column") (view value.now))) (get (codes "columns") (view value.now)) }
 {
-    match text {
-        Some(key) => member_at(found, key).is_some(),
+    match text_in(value.get("primary_column")) {
+        Some(key) => member_of_column(value, key).is_some(),
         None => false,
     }
 }
@@ -87,11 +61,80 @@ pub(crate) fn is_primary(text: Option<&str>, found: Option<&Value>) -> bool
 pub(crate) fn own_metadata(alloc: Global, column: Option<&Column>) -> Result<Value, AllocError>
     ensures { IfOk result (λ value. view value ≡ own_metadata (option_map (λ c. column_tree c.now) column.entry)) }
 {
-    let Some(column) = column else {
-        return Ok(Value::Null);
-    };
-    match column.extension_type_metadata() {
+    match column.and_then(Column::extension_type_metadata) {
         Some(text) => value_of(alloc, text),
         None => Ok(Value::Null),
     }
+}
+
+/// Whether a type is one of floats.
+fn is_floating(data_type: &DataType) -> bool
+    ensures { result ≡ is_floating (tree data_type.now) }
+{
+    matches!(
+        data_type,
+        DataType::Float16 | DataType::Float32 | DataType::Float64
+    )
+}
+
+/// Whether a field of that name has floats.
+fn has_floats(name: &str, fields: &Fields) -> bool
+    ensures { result ≡ has_floats name.now (field_trees fields.now) }
+{
+    let has_them = |field: &Field| field.name() == name && is_floating(field.data_type());
+    fields.as_slice().iter().any(has_them)
+}
+
+/// Whether a column is a group with a member of that name, of floats.
+fn is_column_with(name: &str, column: Option<&Column>) -> bool
+    ensures { IsTrue result ↔ IsColumnWith name.now (option_map (λ c. column_tree c.now) column.entry) }
+{
+    let Some(column) = column else {
+        return false;
+    };
+    match &column.data_type {
+        ColumnType::Data(DataType::Struct(fields)) => has_floats(name, fields),
+        _ => false,
+    }
+}
+
+/// Whether there are two texts, the name of a column and that of floats in its group.
+fn is_path_to(columns: &[Column], column: Option<&str>, name: Option<&str>) -> bool
+    ensures { IsTrue result ↔ IsPathTo (map column_tree columns.now) (text_of column.entry) (text_of name.entry) }
+{
+    match (column, name) {
+        (Some(column), Some(name)) => is_column_with(name, first_named(columns, column)),
+        _ => false,
+    }
+}
+
+/// Whether a value is a path to floats: an array of two such texts.
+fn is_path(columns: &[Column], found: Option<&Value>) -> bool
+    ensures { IsTrue result ↔ IsPath (map column_tree columns.now) (option_map (λ v. view v.now) found.entry) }
+{
+    match items_in(found) {
+        Some([column, name]) => is_path_to(columns, column.as_str(), name.as_str()),
+        _ => false,
+    }
+}
+
+/// Whether `bbox` of a covering has a path for each bound.
+fn are_bounds(columns: &[Column], bounds: Option<&Value>) -> bool
+    ensures { IsTrue result ↔ AreBounds (map column_tree columns.now) (option_map (λ v. view v.now) bounds.entry) }
+{
+    let least = member_at(bounds, "zmin");
+    let greatest = member_at(bounds, "zmax");
+    is_path(columns, member_at(bounds, "xmin"))
+        && is_path(columns, member_at(bounds, "ymin"))
+        && is_path(columns, member_at(bounds, "xmax"))
+        && is_path(columns, member_at(bounds, "ymax"))
+        && (least.is_none() && greatest.is_none()
+            || is_path(columns, least) && is_path(columns, greatest))
+}
+
+/// Whether `covering` is absent or has such a `bbox`.
+pub(crate) fn is_covering(columns: &[Column], found: Option<&Value>) -> bool
+    ensures { IsTrue result ↔ IsCovering (map column_tree columns.now) (option_map (λ v. view v.now) found.entry) }
+{
+    found.is_none_or(|covering| are_bounds(columns, covering.get("bbox")))
 }

@@ -1,11 +1,12 @@
 //! Single values of the metadata.
-ghost use Rattle.std.specs.Prelude.{◌≡◌, ◌↔◌, IfOk, IsTrue, codes, option_map, option_and_then};
-ghost use Rattle.serde_json.specs.Find.{get, as_object};
-ghost use Rattle.serde_json.specs.View.{view, members_view};
+ghost use Rattle.std.specs.Prelude.{◌≡◌, ◌↔◌, IfOk, IsTrue, codes, option_map, option_and_then, string_bytes};
+ghost use Rattle.serde_json.specs.Find.{get, as_array};
+ghost use Rattle.serde_json.specs.View.{view, items_view, members_view};
 ghost use Rattle.arrow_values.specs.Texts.{text_of};
 ghost use Rattle.geoarrow_meta.specs.Read.{at_key};
 ghost use Rattle.geoparquet.specs.Values.{at, text_of_value, IsCrs, IsEdges, EdgesAgree, IsOrientation, IsEpoch};
-ghost use Rattle.geoparquet.specs.Checks.{value_of};
+ghost use Rattle.geoparquet.specs.Boxes.{AreInOrder, IsFlat, IsBox, IsBbox};
+ghost use Rattle.geoparquet.specs.Checks.{value_of, columns_in};
 
 use serde_json::{Map, Value};
 use std::alloc::{AllocError, Global};
@@ -21,13 +22,8 @@ pub fn value_of(alloc: Global, text: &str) -> Result<Value, AllocError>
 {
     match Value::from_str(alloc, text) {
         Ok(value) => Ok(value),
-        Err(error) => {
-            if error.is_memory() {
-                Err(AllocError)
-            } else {
-                Ok(Value::Null)
-            }
-        }
+        Err(error) if error.is_memory() => Err(AllocError),
+        Err(_) => Ok(Value::Null),
     }
 }
 
@@ -35,10 +31,7 @@ pub fn value_of(alloc: Global, text: &str) -> Result<Value, AllocError>
 pub(crate) fn member_at<'v>(value: Option<&'v Value>, key: &str) -> Option<&'v Value>
     ensures { option_map (λ v. view v.now) result ≡ at key.now (option_map (λ v. view v.now) value.entry) }
 {
-    match value {
-        Some(value) => value.get(key),
-        None => None,
-    }
+    value?.get(key)
 }
 
 /// What the metadata say of the column with a name: the member of `columns` with that key, where `columns` is an object and has it.
@@ -58,60 +51,51 @@ pub fn member_of_column<'v>(value: &'v Value, name: &str) -> Option<&'v Value>
 pub(crate) fn present_at<'v>(value: &'v Value, key: &str) -> Option<&'v Value>
     ensures { option_map (λ v. view v.now) result ≡ at_key key.now (view value.now) }
 {
-    match value.get(key) {
-        Some(found) if !found.is_null() => Some(found),
-        _ => None,
-    }
+    value.get(key).filter(|found| !found.is_null())
 }
 
-/// The members of a value, where it is an object.
-pub(crate) fn object_in(value: Option<&Value>) -> Option<&Map<String, Value>>
-    ensures { option_map (λ m. members_view m.now.entries) result ≡ option_and_then as_object (option_map (λ v. view v.now) value.entry) }
+/// The members of `columns`, where it is an object.
+pub(crate) fn columns_in(value: &Value) -> Option<&Map<String, Value>>
+    ensures { option_map (λ m. members_view m.now.entries) result ≡ columns_in (view value.now) }
 {
-    match value {
-        Some(value) => value.as_object(),
-        None => None,
-    }
+    value.get("columns")?.as_object()
+}
+
+/// The items of a value, where it is an array.
+pub(crate) fn items_in(value: Option<&Value>) -> Option<&[Value]>
+    ensures { option_map (λ vs. items_view vs.now) result ≡ option_and_then as_array (option_map (λ v. view v.now) value.entry) }
+{
+    Some(value?.as_array()?.as_slice())
 }
 
 /// The text that a value is, where there is one and it is a text.
 pub fn text_in(value: Option<&Value>) -> Option<&str>
     ensures { text_of result ≡ text_of_value (option_map (λ v. view v.now) value.entry) }
 {
-    match value {
-        Some(value) => value.as_str(),
-        None => None,
-    }
+    value?.as_str()
+}
+
+/// A copy of a text that may be missing. Errs only when out of memory.
+pub(crate) fn copied(alloc: Global, text: Option<&str>) -> Result<Option<String>, AllocError>
+    ensures { IfOk result (λ copy. option_map string_bytes copy ≡ text_of text.entry) }
+{
+    text.map(|text| String::from_str(alloc, text)).transpose()
 }
 
 /// Whether `crs` is absent, null or an object.
 pub(crate) fn is_crs(found: Option<&Value>) -> bool
     ensures { IsTrue result ↔ IsCrs (option_map (λ v. view v.now) found.entry) }
 {
-    match found {
-        None | Some(Value::Null) | Some(Value::Object(_)) => true,
-        Some(_) => false,
-    }
+    matches!(found, None | Some(Value::Null | Value::Object(_)))
 }
 
-/// Whether `edges` is absent or one of two texts.
-pub(crate) fn is_edges(found: Option<&Value>) -> bool
-    ensures { IsTrue result ↔ IsEdges (option_map (λ v. view v.now) found.entry) }
+/// Whether `edges` is absent or one of two texts, and that text of the column's own metadata, where it has one.
+pub(crate) fn is_edges(found: Option<&Value>, own: Option<&str>) -> bool
+    ensures { IsTrue result ↔ (IsEdges (option_map (λ v. view v.now) found.entry) × EdgesAgree (option_map (λ v. view v.now) found.entry) (text_of own.entry)) }
 {
-    found.is_none() || matches!(text_in(found), Some("planar" | "spherical"))
-}
-
-/// Whether `edges` is that text of the column's own metadata, where it has one.
-pub(crate) fn edges_agree(found: Option<&Value>, own: Option<&str>) -> bool
-    ensures { IsTrue result ↔ EdgesAgree (option_map (λ v. view v.now) found.entry) (text_of own.entry) }
-{
-    match own {
-        Some(own) => match text_in(found) {
-            Some(text) => text == own,
-            None => false,
-        },
-        None => true,
-    }
+    let text = text_in(found);
+    (found.is_none() || matches!(text, Some("planar" | "spherical")))
+        && (own.is_none() || text == own)
 }
 
 /// Whether `orientation` is absent or the one text.
@@ -125,8 +109,43 @@ pub(crate) fn is_orientation(found: Option<&Value>) -> bool
 pub(crate) fn is_epoch(found: Option<&Value>) -> bool
     ensures { IsTrue result ↔ IsEpoch (option_map (λ v. view v.now) found.entry) }
 {
+    matches!(found, None | Some(Value::Number(_)))
+}
+
+/// Whether both are numbers, and the first is at most the second.
+fn are_in_order(lower: &Value, upper: &Value) -> bool
+    ensures { IsTrue result ↔ AreInOrder (view lower.now) (view upper.now) }
+{
+    matches!((lower.as_f64(), upper.as_f64()), (Some(lower), Some(upper)) if lower <= upper)
+}
+
+/// Whether the numbers are those of a box of two dimensions.
+fn is_flat(west: &Value, south: &Value, east: &Value, north: &Value) -> bool
+    ensures { IsTrue result ↔ IsFlat (view west.now) (view south.now) (view east.now) (view north.now) }
+{
+    west.is_number() && east.is_number() && are_in_order(south, north)
+}
+
+/// Whether the items are the numbers of a box.
+fn is_box(items: &[Value]) -> bool
+    ensures { IsTrue result ↔ IsBox (items_view items.now) }
+{
+    match items {
+        [west, south, east, north] => is_flat(west, south, east, north),
+        [west, south, bottom, east, north, top] => {
+            is_flat(west, south, east, north) && are_in_order(bottom, top)
+        }
+        _ => false,
+    }
+}
+
+/// Whether `bbox` is absent or a box.
+pub(crate) fn is_bbox(found: Option<&Value>) -> bool
+    ensures { IsTrue result ↔ IsBbox (option_map (λ v. view v.now) found.entry) }
+{
     match found {
-        None | Some(Value::Number(_)) => true,
+        None => true,
+        Some(Value::Array(items)) => is_box(items.as_slice()),
         Some(_) => false,
     }
 }

@@ -16,19 +16,19 @@ impl GeoCheck {
         ensures { result.now ≡ code_of self }
     {
         match self {
-            GeoCheck::Object => "GeoObject",
-            GeoCheck::Version => "GeoVersion",
-            GeoCheck::PrimaryColumn => "GeoPrimaryColumn",
-            GeoCheck::Columns => "GeoColumns",
-            GeoCheck::Encoding => "GeoEncoding",
-            GeoCheck::Types => "GeoTypes",
-            GeoCheck::Crs => "GeoCrs",
-            GeoCheck::CrsAgrees => "GeoCrsAgrees",
-            GeoCheck::Edges => "GeoEdges",
-            GeoCheck::Orientation => "GeoOrientation",
-            GeoCheck::Bbox => "GeoBbox",
-            GeoCheck::Epoch => "GeoEpoch",
-            GeoCheck::Covering => "GeoCovering",
+            Self::Object => "GeoObject",
+            Self::Version => "GeoVersion",
+            Self::PrimaryColumn => "GeoPrimaryColumn",
+            Self::Columns => "GeoColumns",
+            Self::Encoding => "GeoEncoding",
+            Self::Types => "GeoTypes",
+            Self::Crs => "GeoCrs",
+            Self::CrsAgrees => "GeoCrsAgrees",
+            Self::Edges => "GeoEdges",
+            Self::Orientation => "GeoOrientation",
+            Self::Bbox => "GeoBbox",
+            Self::Epoch => "GeoEpoch",
+            Self::Covering => "GeoCovering",
         }
     }
 
@@ -41,27 +41,25 @@ impl GeoCheck {
         ensures { result.now ≡ message_of self }
     {
         match self {
-            GeoCheck::Object => "the value of the key geo is a JSON object",
-            GeoCheck::Version => "version is a text",
-            GeoCheck::PrimaryColumn => "primary_column is a key of columns",
-            GeoCheck::Columns => {
+            Self::Object => "the value of the key geo is a JSON object",
+            Self::Version => "version is a text",
+            Self::PrimaryColumn => "primary_column is a key of columns",
+            Self::Columns => {
                 "columns has a member at least, and each key is the name of one column"
             }
-            GeoCheck::Encoding => {
-                "encoding is one of the format, and fits the type of the column"
-            }
-            GeoCheck::Types => {
+            Self::Encoding => { "encoding is one of the format, and fits the type of the column" }
+            Self::Types => {
                 "geometry_types are different names of geometry types that fit the encoding"
             }
-            GeoCheck::Crs => "crs is absent, null or an object",
-            GeoCheck::CrsAgrees => "crs is that of the column's own metadata",
-            GeoCheck::Edges => {
+            Self::Crs => "crs is absent, null or an object",
+            Self::CrsAgrees => "crs is that of the column's own metadata",
+            Self::Edges => {
                 "edges is planar, spherical or absent, and that of the column's own metadata"
             }
-            GeoCheck::Orientation => "orientation is counterclockwise or absent",
-            GeoCheck::Bbox => "bbox is absent, or four or six numbers in order",
-            GeoCheck::Epoch => "epoch is a number or absent",
-            GeoCheck::Covering => "covering is absent, or has paths to columns of floats",
+            Self::Orientation => "orientation is counterclockwise or absent",
+            Self::Bbox => "bbox is absent, or four or six numbers in order",
+            Self::Epoch => "epoch is a number or absent",
+            Self::Covering => "covering is absent, or has paths to columns of floats",
         }
     }
 
@@ -70,18 +68,18 @@ impl GeoCheck {
         ensures { text_of result ≡ key_of self }
     {
         match self {
-            GeoCheck::Object => None,
-            GeoCheck::Version => Some("version"),
-            GeoCheck::PrimaryColumn => Some("primary_column"),
-            GeoCheck::Columns => Some("columns"),
-            GeoCheck::Encoding => Some("encoding"),
-            GeoCheck::Types => Some("geometry_types"),
-            GeoCheck::Crs | GeoCheck::CrsAgrees => Some("crs"),
-            GeoCheck::Edges => Some("edges"),
-            GeoCheck::Orientation => Some("orientation"),
-            GeoCheck::Bbox => Some("bbox"),
-            GeoCheck::Epoch => Some("epoch"),
-            GeoCheck::Covering => Some("covering"),
+            Self::Object => None,
+            Self::Version => Some("version"),
+            Self::PrimaryColumn => Some("primary_column"),
+            Self::Columns => Some("columns"),
+            Self::Encoding => Some("encoding"),
+            Self::Types => Some("geometry_types"),
+            Self::Crs | Self::CrsAgrees => Some("crs"),
+            Self::Edges => Some("edges"),
+            Self::Orientation => Some("orientation"),
+            Self::Bbox => Some("bbox"),
+            Self::Epoch => Some("epoch"),
+            Self::Covering => Some("covering"),
         }
     }
 }

@@ -2,7 +2,7 @@ use Rattle.std.proofs.Common.{◌≡◌, drop}
 use Rattle.std.specs.Slice.Iter.{iter_rest}
 use Rattle.serde_json.specs.View.{items_view, members_view}
 use Rattle.geoparquet.specs.Alike.{alike_items, alike_members}
-use Rattle.geoparquet.proofs.alike.+alike.Given as goal
+use Rattle.geoparquet.proofs.crs.+alike.Given as goal
 
 -- what is left on either side decides
 abbrev pub invariant-are_alike_items-loop-x : goal.invariant-are_alike_items-loop-x
