@@ -6,12 +6,13 @@ use Rattle.arrow_values.specs.View.{field_trees, member_trees}
 use Rattle.arrow_values.specs.declared.tree.UnionMode.{UnionMode}
 use Rattle.arrow_columns.specs.Column.{known, ColumnTree}
 use Rattle.arrow_ipc.specs.Blocks.{Holds, child_in, columns_read, vector_block, IsType, IsColumnBlock}
-use Rattle.arrow_ipc.specs.Shapes.{member_ids, column_of, column_of_member, columns_of_fields, columns_of_members, nested_columns}
-use Rattle.arrow_ipc.specs.Rooms.{is_size, is_sound, are_sound, members_sound, are_ids, fields_room, members_room, nested_room, room_of, columns_room, Refuses, IsUnfit, NestsUnfit, IsUnfitType, AreUnfit, HoldsEach, IsNesting}
+use Rattle.arrow_ipc.specs.Shapes.{member_ids, are_ids, shape_of, ids_of, shape_tag, shape_bytes, has_table, column_of, column_of_member, columns_of_fields, columns_of_members, nested_columns}
+use Rattle.arrow_ipc.specs.Rooms.{is_size, is_sound, are_sound, members_sound, fields_room, members_room, nested_room, room_of, columns_room, Refuses, IsUnfit, NestsUnfit, IsUnfitType, AreUnfit, HoldsEach, IsNesting}
 use Rattle.arrow_ipc.specs.declared.blocks.Refusal.{Refusal}
 use Rattle.arrow_ipc.proofs.Vectors.{items}
 use Rattle.arrow_ipc.proofs.Made.{Made, made_more, made_all, length_vector, columns_hold}
-use Rattle.arrow_ipc.proofs.Built.{refuses_more}
+use Rattle.arrow_ipc.proofs.TreeTypes.{table_is}
+use Rattle.arrow_ipc.proofs.Built.{refuses_more, refused_as}
 
 -- a part is smaller than the whole
 module _ {A : Type 0} (one : A → ℕ) (all : List A → ℕ) (more : (x : A) (xs : List A) → all (x ∷ xs) ≡ max (suc (one x)) (all xs)) where
@@ -105,10 +106,6 @@ each_as : (levels : ℕ) (r : Nested) (cs ds : List ColumnTree) (n m : ℕ) → 
 each_as levels (Err e) cs ds n m same size h = tt
 each_as levels (Ok bs) cs ds n m same size h = subst (λ k. HoldsEach levels (map items bs.items) ds k) size (subst (λ ks. HoldsEach levels (map items bs.items) ks n) same h)
 
-pub refused_as : {X : Type 0} (r : Result X Refusal) (P Q : Type 0) (n m : ℕ) → (P → Q) → n ≤ m → IfErr r (λ e. Refuses e P n) → IfErr r (λ e. Refuses e Q m)
-refused_as (Ok x) P Q n m f le h = tt
-refused_as (Err e) P Q n m f le h = refuses_more e P Q n m f le h
-
 pub struct_each : (levels : ℕ) (r : Nested) (fs : List FieldTree) → IfOk r (λ bs. HoldsEach levels (map items bs.items) (map column_of fs) (columns_room (map column_of fs)))
     → IfOk r (λ bs. HoldsEach levels (map items bs.items) (nested_columns (struct (field_trees fs))) (nested_room (struct (field_trees fs))))
 struct_each levels r fs h = each_as levels r (map column_of fs) (columns_of_fields (field_trees fs)) (columns_room (map column_of fs)) (fields_room (field_trees fs)) (sym (fields_columns fs)) (sym (fields_rooms fs)) h
@@ -140,15 +137,16 @@ fixed_size_list_unfit levels f s (inr deep) = inr (omega (arith, deep))
 
 -- ---- a column, given the blocks of what its type nests
 
-pub nest_ok : (r : Result (Vec ℕ Global) Refusal) (bs : List (List ℕ)) (t : Tree) (name : Text) (nullable : Bool) (texts : Metadata) (tag : ℕ) (table tables children slices : List ℕ)
-    → IfOk r (λ b. IsColumnBlock tag tables slices name nullable texts b.items) → tables ≡ table → slices ≡ children → IsType tag table (nested_columns t) (known t) → children ≡ vector_block bs → length children < 2 ^ 31
+pub nest_ok : (r : Result (Vec ℕ Global) Refusal) (bs : List (List ℕ)) (t : Tree) (name : Text) (nullable : Bool) (texts : Metadata) (tag : ℕ) (table children : List ℕ)
+    → IfOk r (λ b. IsColumnBlock tag table children name nullable texts b.items) → tag ≡ shape_tag (shape_of t) → table ≡ shape_bytes (shape_of t) (ids_of t) → has_table (shape_of t) (ids_of t) ≡ true → length table < 2 ^ 31 → children ≡ vector_block bs → length children < 2 ^ 31
     → IfOk r (λ b. IsNesting bs t name nullable texts b.items)
 unfolding IsColumnBlock IsNesting
-nest_ok (Err e) bs t name nullable texts tag table tables children slices h one two typing is small = tt
-nest_ok (Ok b) bs t name nullable texts tag table tables children slices h one two typing is small = λ levels each.
+nest_ok (Err e) bs t name nullable texts tag table children h tagged same sound low is small = tt
+nest_ok (Ok b) bs t name nullable texts tag table children h tagged same sound low is small = λ levels each.
     let size : length (vector_block bs) < 2 ^ 31 = subst (λ l. length l < 2 ^ 31) is small in
-    let nested : Holds (columns_read levels) slices (nested_columns t) = subst (λ l. Holds (columns_read levels) l (nested_columns t)) (sym (two ∙ is)) (columns_hold levels bs (nested_columns t) each (omega (arith, size))) in
-    h levels t (record { columns = nested_columns t; typing = subst (λ l. IsType tag l (nested_columns t) (known t)) (sym one) typing; nested = nested })
+    let nested : Holds (columns_read levels) children (nested_columns t) = subst (λ l. Holds (columns_read levels) l (nested_columns t)) (sym is) (columns_hold levels bs (nested_columns t) each (omega (arith, size))) in
+    let typing : IsType tag table (nested_columns t) (known t) = rw (tagged, same) (table_is t sound (subst (λ l. length l < 2 ^ 31) same low)) in
+    h levels t (record { columns = nested_columns t; typing = typing; nested = nested })
 
 pub data_ok : (r : Result (Vec ℕ Global) Refusal) (bs : List (List ℕ)) (t : Tree) (name : Text) (nullable : Bool) (texts : Metadata) (levels room : ℕ) → IfOk r (λ b. IsNesting bs t name nullable texts b.items)
     → HoldsEach (levels - 1) bs (nested_columns t) room → 0 < levels → IfOk r (λ b. Holds (child_in levels) b.items (record { name = name; data_type = known t; nullable = nullable; metadata = texts }))

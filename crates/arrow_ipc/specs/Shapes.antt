@@ -1,7 +1,9 @@
 -- The tags of types, and the number and the truth value that the table of a type has.
-use Rattle.std.specs.Prelude.{ℕ, ℤ, pos, negsuc, Bool, true, false, List, [], ◌∷◌, Option, Some, None, ◌^◌, nat_lt, if◌then◌else◌}
+use Rattle.std.specs.Prelude.{ℕ, ℤ, pos, negsuc, Bool, true, false, ◌&&◌, not, List, [], ◌∷◌, ◌++◌, Option, Some, None, ◌^◌, nat_lt, if◌then◌else◌}
 use Rattle.arrow_values.specs.Tree.{null, boolean, int8, int16, int32, int64, uint8, uint16, uint32, uint64, float16, float32, float64, date32, date64, binary, large_binary, binary_view, utf8, large_utf8, utf8_view, Plain, Tree, plain, list, large_list, fixed_size_list, struct, union, FieldTrees, no_fields, field, MemberTrees, no_members, member, FieldTree}
 use Rattle.arrow_columns.specs.Column.{known, ColumnTree}
+use Rattle.arrow_values.specs.Union.{has}
+use Rattle.arrow_ipc.specs.Blocks.{type_block, union_block}
 use Rattle.arrow_ipc.specs.declared.shapes.Shape.{Shape}
 use Rattle.arrow_ipc.specs.declared.shapes.Shape.TheVariants.{Table, Members}
 
@@ -101,3 +103,28 @@ member_ids (member i n t b m ms) = i ∷ member_ids ms
 abbrev pub ids_of : Tree → List ℤ
 ids_of (union ms mode) = member_ids ms
 ids_of _ = []
+
+-- a type id is 0 to 127
+abbrev pub is_id : ℤ → Bool
+is_id (pos n) = nat_lt n 128
+is_id (negsuc n) = false
+
+-- the type ids of a union, each of which is none of those before
+abbrev pub are_ids : List ℤ → List ℤ → Bool
+are_ids before [] = true
+are_ids before (i ∷ is) = is_id i && not (has i before) && are_ids (before ++ i ∷ []) is
+
+-- a type's table, and whether the type has one, whatever it nests
+abbrev pub shape_tag : Option Shape → ℕ
+shape_tag (Some (Table tag n b)) = tag
+shape_tag _ = 14
+
+abbrev pub shape_bytes : Option Shape → List ℤ → List ℕ
+shape_bytes (Some (Table tag n b)) ids = type_block n b
+shape_bytes (Some (Members mode)) ids = union_block mode ids
+shape_bytes None ids = []
+
+abbrev pub has_table : Option Shape → List ℤ → Bool
+has_table (Some (Table tag n b)) ids = true
+has_table (Some (Members mode)) ids = are_ids [] ids
+has_table None ids = false

@@ -9,7 +9,7 @@ ghost use Rattle.arrow_ipc.specs.Shapes.{column_of, column_of_member, nested_col
 ghost use Rattle.arrow_ipc.specs.Rooms.{Refuses, IsUnfit, NestsUnfit, AreUnfit, HoldsEach, IsNesting, is_sound, table_room, column_room, nested_room, field_room, columns_room, texts_room};
 
 use crate::blocks::{ColumnParts, Refusal, column_block, vector_block};
-use crate::type_tables::table_block;
+use crate::type_tables::type_table;
 use arrow_values::{DataType, Field, Fields, UnionFields};
 use std::alloc::Global;
 use std::collections::BTreeMap;
@@ -28,13 +28,13 @@ fn finish_block(
     ensures err { IfErr result (λ e. Refuses e (is_sound (tree data_type.now) ≡ false) (60 + length name.now + (table_room (tree data_type.now) + length (vector_block (map (λ v. v.items) blocks.now))) + texts_room (texts_of texts.now.entries))) }
 {
     let children = vector_block(alloc, blocks)?;
-    let typed = table_block(alloc, data_type)?;
+    let typed = type_table(alloc, data_type)?;
     let parts = ColumnParts {
         name,
         nullable,
         tag: typed.0,
-        table: typed.1.as_slice(),
-        children: children.as_slice(),
+        table: typed.1,
+        children,
         texts,
     };
     column_block(alloc, parts)

@@ -5,8 +5,8 @@ use Rattle.arrow_ipc.specs.Blocks.{vector_block}
 use Rattle.arrow_ipc.specs.Shapes.{column_of, column_of_member, nested_columns}
 use Rattle.arrow_ipc.specs.Rooms.{is_sound, nested_room, table_room, column_room, texts_room, field_room, room_of, IsUnfit}
 use Rattle.arrow_ipc.proofs.Vectors.{items}
-use Rattle.arrow_ipc.proofs.Built.{told, refuses_more}
-use Rattle.arrow_ipc.proofs.Nestings.{falls, each_more, each_refused, refused_as, struct_each, struct_refused, union_each, union_refused, data_ok, data_most, vector_room}
+use Rattle.arrow_ipc.proofs.Built.{told, refuses_more, refused_as}
+use Rattle.arrow_ipc.proofs.Nestings.{falls, each_more, each_refused, struct_each, struct_refused, union_each, union_refused, data_ok, data_most, vector_room}
 use Rattle.arrow_ipc.proofs.nesting.+write.Goals as goal
 
 pub data_block-returns-clause-holds : goal.data_block-returns-clause-holds
