@@ -70,12 +70,6 @@ module _ (blocks : List (Vec ℕ Global)) (left rest all : Texts) (k v : String 
       subst (λ bs. Made (Holds entry_read) texts_room bs (texts_of rest) (texts_of all)) (sym same)
       (made_more (Holds entry_read) texts_room (map items blocks) b.items (kb, vb) (texts_of rest) (texts_of all) here one (omega (arith, most)))
 
-  pub entry_refused : (e : Refusal) → Refuses e ⊥ (48 + length kb + length vb) → Refuses e ⊥ (texts_room (texts_of all))
-  entry_refused e r =
-      let m = here in
-      let fits = m.fits in
-      refuses_more e ⊥ ⊥ (48 + length kb + length vb) (texts_room (texts_of all)) (λ x. x) (omega (arith, fits)) r
-
 module _ (blocks : List (Vec ℕ Global)) (left all : Texts) (none : left ≡ []) (way : Made (Holds entry_read) texts_room (map items blocks) (texts_of left) (texts_of all)) where
   whole : Made (Holds entry_read) texts_room (map items blocks) [] (texts_of all)
   whole = subst (λ (l : Texts). Made (Holds entry_read) texts_room (map items blocks) (texts_of l) (texts_of all)) none way

@@ -7,7 +7,7 @@ use Rattle.arrow_ipc.specs.Wire.{u8_at, u16_at, u32_at, target_at, slot_at, vect
 use Rattle.arrow_ipc.specs.Slots.{u8_in, u16_in, table_in, vector_in, needed_vector_in}
 use Rattle.arrow_ipc.specs.Longs.{u64_in}
 use Rattle.arrow_ipc.specs.Columns.{texts_at, columns_by, column_at}
-use Rattle.arrow_ipc.specs.Schema.{SchemaTree, head_at, schema_at, has_body, message_at, cut, message_in, schema_of_message}
+use Rattle.arrow_ipc.specs.Schema.{SchemaTree, head_at, schema_at, message_at, cut, message_in, schema_of_message}
 use Rattle.arrow_ipc.specs.Denotes.{IsStreamOf}
 use Rattle.arrow_ipc.specs.Blocks.{Lies, Holds, word, offsets, places, table_block, columns_read, texts_read, order_number, schema_block, message_block, stream_block}
 use Rattle.arrow_ipc.specs.declared.schema.Endianness.{Endianness}
@@ -66,7 +66,7 @@ length_message schema =
 
 message_is : (bytes : List ℕ) (to : ℕ) → target_at bytes 0 ≡ Ok 8 → ((i : ℕ) → slot_at bytes 8 i ≡ Ok (slot_place 8 (8 ∷ 10 ∷ 4 ∷ []) i)) → u16_at bytes 16 ≡ Ok 4 → u8_at bytes 18 ≡ Ok 1 → target_at bytes 12 ≡ Ok to
     → message_at bytes ≡ Ok to
-unfolding message_at has_body u64_in u16_in u8_in table_in
+unfolding message_at u64_in u16_in u8_in table_in
 message_is bytes to root slot version tag header = rw (root, slot 0, version, slot 1, tag, slot 3, slot 2, header) refl
 
 message_reads : (levels : ℕ) (block : List ℕ) (s : SchemaTree) → Holds (schema_at levels) block s → length (message_block block) < 2 ^ 32

@@ -4,21 +4,15 @@ use Rattle.arrow_values.specs.Tree.{Tree, plain, list, large_list, fixed_size_li
 use Rattle.arrow_values.specs.View.{field_list, field_trees_of_list}
 use Rattle.arrow_columns.specs.Column.{known}
 use Rattle.arrow_ipc.specs.Blocks.{IsType, type_block}
-use Rattle.arrow_ipc.specs.Shapes.{number_of, truth_of, member_ids, column_of, columns_of_fields, nested_columns, shape_of, ids_of, shape_tag, shape_bytes, has_table}
+use Rattle.arrow_ipc.specs.Shapes.{number_of, truth_of, member_ids, column_of, nested_columns, shape_of, ids_of, shape_tag, shape_bytes, has_table}
 use Rattle.arrow_ipc.specs.Rooms.{is_sound, table_room}
 use Rattle.arrow_ipc.specs.declared.shapes.Shape.{Shape}
 use Rattle.arrow_ipc.specs.declared.shapes.Shape.TheVariants.{Table, Members}
 use Rattle.arrow_ipc.proofs.TypeTables.{below, length_type, plain_type, list_is, large_list_is, fixed_size_list_is, struct_is}
 use Rattle.arrow_ipc.proofs.Unions.{length_union, count_ids, union_type}
 
-fields_as_columns : (fs : FieldTrees) → map column_of (field_list fs) ≡ columns_of_fields fs
-fields_as_columns no_fields = refl
-fields_as_columns (field n t b m fs) = ap (λ l. record { name = n; data_type = known t; nullable = b; metadata = m } ∷ l) (fields_as_columns fs)
-
-struct_type : (fs : FieldTrees) → IsType 13 (type_block None None) (columns_of_fields fs) (known (struct fs))
-struct_type fs =
-    subst (λ cs. IsType 13 (type_block None None) cs (known (struct fs))) (fields_as_columns fs)
-    (subst (λ gs. IsType 13 (type_block None None) (map column_of (field_list fs)) (known (struct gs))) (field_trees_of_list fs) (struct_is (field_list fs)))
+struct_type : (fs : FieldTrees) → IsType 13 (type_block None None) (map column_of (field_list fs)) (known (struct fs))
+struct_type fs = subst (λ gs. IsType 13 (type_block None None) (map column_of (field_list fs)) (known (struct gs))) (field_trees_of_list fs) (struct_is (field_list fs))
 
 sized_is : (f : FieldTree) (s : ℕ) (b : Bool) → nat_lt s (2 ^ 31) ≡ b → (has_table (if b then Some (Table 16 (Some s) None) else None) [] ≡ true)
     → IsType (shape_tag (if b then Some (Table 16 (Some s) None) else None)) (shape_bytes (if b then Some (Table 16 (Some s) None) else None) []) (column_of f ∷ []) (known (fixed_size_list f.name f.tree f.nullable f.metadata (pos s)))

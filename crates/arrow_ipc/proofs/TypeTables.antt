@@ -8,7 +8,7 @@ use Rattle.arrow_columns.specs.Column.{TypeTree, known, ColumnTree}
 use Rattle.arrow_ipc.specs.Fault.{◌>>=◌}
 use Rattle.arrow_ipc.specs.Wire.{u8_at, u16_at, u32_at, slot_at}
 use Rattle.arrow_ipc.specs.Slots.{u8_in, u16_in, u32_in, flag_in}
-use Rattle.arrow_ipc.specs.Kinds.{int_at, float_at, date_at, size_in, kind_at}
+use Rattle.arrow_ipc.specs.Kinds.{int_at, choice_at, size_in, kind_at}
 use Rattle.arrow_ipc.specs.Parts.{zone_in, ids_in}
 use Rattle.arrow_columns.specs.Nested.{all_known, known_fields}
 use Rattle.arrow_ipc.specs.Types.{type_of}
@@ -152,7 +152,7 @@ is_type tag n b cs t made =
 
 -- the plain types
 plainly : (p : Plain) → Makes (tag_of p) (number_of p) (truth_of p) [] (known (plain p))
-unfolding kind_at int_at float_at date_at type_of
+unfolding kind_at int_at choice_at type_of
 plainly null = record { kind = Null; tagged = refl; small = omega arith; kind_is = λ bytes at o. refl; type_is = λ bytes table. refl }
 plainly boolean = record { kind = Boolean; tagged = refl; small = omega arith; kind_is = λ bytes at o. refl; type_is = λ bytes table. refl }
 plainly int8 = record { kind = Int8; tagged = refl; small = omega arith; kind_is = λ bytes at o. rw (o.word_is 0, o.truth_is) refl; type_is = λ bytes table. refl }

@@ -1,5 +1,5 @@
 -- A union's table, with its type ids.
-use Rattle.std.proofs.Common.{◌≡◌, ℕ, ◌+◌, ◌*◌, ◌-◌, ◌^◌, ◌%◌, ◌<◌, ◌≤◌, ℤ, pos, negsuc, Bool, true, false, ◌&&◌, not, ◌++◌, ◌∷◌, [], List, length, drop, Some, None, Ok, refl, sym, ap, ◌∙◌, subst, arith, append_assoc, append-nil, nat_lt, ◌==◌, if◌then◌else◌}
+use Rattle.std.proofs.Common.{◌≡◌, ℕ, ◌+◌, ◌*◌, ◌-◌, ◌^◌, ◌%◌, ◌<◌, ◌≤◌, ℤ, pos, negsuc, Bool, true, false, ◌&&◌, not, ◌++◌, ◌∷◌, [], List, length, map, drop, Some, None, Ok, refl, sym, ap, ◌∙◌, subst, arith, append_assoc, append-nil, nat_lt, ◌==◌, if◌then◌else◌}
 use Rattle.std.specs.List.{zip}
 use Rattle.std.proofs.lemmas.List.{length-append, drop_all}
 use Rattle.std.proofs.lemmas.Bool.Decides.{nat_tests}
@@ -12,13 +12,13 @@ use Rattle.arrow_columns.specs.Column.{known}
 use Rattle.arrow_ipc.specs.Fault.{◌>>=◌}
 use Rattle.arrow_ipc.specs.Wire.{u16_at, u32_at, target_at, slot_at, vector_at}
 use Rattle.arrow_ipc.specs.Slots.{u16_in}
-use Rattle.arrow_ipc.specs.Kinds.{union_at, kind_at}
+use Rattle.arrow_ipc.specs.Kinds.{choice_at, kind_at}
 use Rattle.arrow_ipc.specs.Parts.{zone_in, ids_in}
 use Rattle.arrow_columns.specs.Nested.{all_known, known_fields}
 use Rattle.arrow_ipc.specs.Types.{type_of}
 use Rattle.arrow_ipc.specs.Columns.{is_new, put_id, ids_from, ids_at, ids_of_kind, counted}
 use Rattle.arrow_ipc.specs.Blocks.{Lies, IsType, word, rounded, offsets, linked, mode_number, id_number, id_words, table_block, union_block}
-use Rattle.arrow_ipc.specs.Shapes.{member_ids, are_ids, columns_of_members}
+use Rattle.arrow_ipc.specs.Shapes.{member_ids, are_ids, column_of, member_fields}
 use Rattle.arrow_ipc.specs.Rooms.{member_count}
 use Rattle.arrow_ipc.specs.declared.kinds.Kind.TheVariants.{Union}
 use Rattle.arrow_ipc.proofs.Places.{u32_is, vector_is}
@@ -51,11 +51,11 @@ module _ (bytes : List ℕ) (table start count : ℕ) where
       let next = walk (done ++ pos n ∷ []) left (i + 1) (at + 4) rest (by_place bytes at (word n ++ (id_words left ++ rest)) 4 cut) (omega (arith, place)) (omega (arith, even)) new.1 in
       rw first next ∙ ap (λ (l : List ℤ). Ok l) (append_assoc done (pos n ∷ []) left)
 
-members_known : (ms : MemberTrees) → all_known (columns_of_members ms) ≡ true
+members_known : (ms : MemberTrees) → all_known (map column_of (member_fields ms)) ≡ true
 members_known no_members = refl
 members_known (member i n t b m ms) = members_known ms
 
-members_back : (ms : MemberTrees) → member_trees (zip (member_ids ms) (known_fields (columns_of_members ms))) ≡ ms
+members_back : (ms : MemberTrees) → member_trees (zip (member_ids ms) (known_fields (map column_of (member_fields ms)))) ≡ ms
 members_back no_members = refl
 members_back (member i n t b m ms) = ap (member i n t b m) (members_back ms)
 
@@ -63,12 +63,12 @@ pub count_ids : (ms : MemberTrees) → length (member_ids ms) ≡ member_count m
 count_ids no_members = refl
 count_ids (member i n t b m ms) = let rest = count_ids ms in omega (arith, rest)
 
-count_columns : (ms : MemberTrees) → length (columns_of_members ms) ≡ length (member_ids ms)
+count_columns : (ms : MemberTrees) → length (map column_of (member_fields ms)) ≡ length (member_ids ms)
 count_columns no_members = refl
 count_columns (member i n t b m ms) = let rest = count_columns ms in omega (arith, rest)
 
 by_mode : (bytes : List ℕ) (table : ℕ) (mode : UnionMode) → slot_at bytes table 0 ≡ Ok (Some (table + 8)) → u16_at bytes (table + 8) ≡ Ok (mode_number mode) → kind_at bytes 14 table ≡ Ok (Union mode)
-unfolding kind_at union_at u16_in
+unfolding kind_at choice_at u16_in
 by_mode bytes table Sparse here is = rw (here, is) refl
 by_mode bytes table Dense here is = rw (here, is) refl
 
@@ -81,7 +81,7 @@ unfolding zone_in
 no_zone bytes table = refl
 
 is_union : (bytes : List ℕ) (table : ℕ) (mode : UnionMode) (ms : MemberTrees) (v : ℕ × ℕ) → v.1 ≡ length (member_ids ms) → ids_from bytes table (Some v) [] 0 (length (member_ids ms)) ≡ Ok (member_ids ms)
-    → (ids_of_kind (Union mode) (ids_at bytes table (Some v) (length (columns_of_members ms))) >>= λ i. counted table (type_of (Union mode) [] i (columns_of_members ms))) ≡ Ok (known (union ms mode))
+    → (ids_of_kind (Union mode) (ids_at bytes table (Some v) (length (map column_of (member_fields ms)))) >>= λ i. counted table (type_of (Union mode) [] i (map column_of (member_fields ms)))) ≡ Ok (known (union ms mode))
 unfolding ids_at type_of
 is_union bytes table mode ms v many ids =
     let count = count_columns ms in
@@ -115,7 +115,7 @@ ids_lie bytes at ids lies few good =
       λ table. walk bytes table (at + 4) (length ids) [] ids 0 (at + 4) rest (by_place bytes at _ 4 is) (omega arith) (omega (arith, whole)) good,
     )
 
-pub union_type : (mode : UnionMode) (ms : MemberTrees) → are_ids [] (member_ids ms) ≡ true → length (union_block mode (member_ids ms)) < 2 ^ 31 → IsType 14 (union_block mode (member_ids ms)) (columns_of_members ms) (known (union ms mode))
+pub union_type : (mode : UnionMode) (ms : MemberTrees) → are_ids [] (member_ids ms) ≡ true → length (union_block mode (member_ids ms)) < 2 ^ 31 → IsType 14 (union_block mode (member_ids ms)) (map column_of (member_fields ms)) (known (union ms mode))
 unfolding offsets
 union_type mode ms good few =
     let ids = member_ids ms in

@@ -27,10 +27,6 @@ module _ (blocks : List (Vec ℕ Global)) (i : ℕ) (x : Vec ℕ Global) (lt : i
   pub lengths_more : length (concat (left blocks i)) ≡ length x.items + length (concat (left blocks (i + 1)))
   lengths_more = ap (λ bs. length (concat bs)) next ∙ length-append x.items (concat (left blocks (i + 1)))
 
-  pub blocks_more : (done new whole : List ℕ) → new ≡ done ++ x.items → done ++ concat (left blocks i) ≡ whole → new ++ concat (left blocks (i + 1)) ≡ whole
-  blocks_more done new whole made so_far =
-      ap (λ l. l ++ concat (left blocks (i + 1))) made ∙ append_assoc done x.items (concat (left blocks (i + 1))) ∙ sym (ap (λ bs. done ++ concat bs) next) ∙ so_far
-
 module _ (blocks : List (Vec ℕ Global)) (i : ℕ) (le : length blocks ≤ i) where
   none_left : left blocks i ≡ []
   none_left = ap (map items) (drop_all i blocks le)

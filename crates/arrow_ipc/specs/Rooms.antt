@@ -96,12 +96,9 @@ Refuses Unfit unfit room = unfit
 Refuses TooLarge unfit room = 2 ^ 31 ≤ room
 Refuses OutOfMemory unfit room = Unit {0}
 
--- a type that no message can hold where so many levels are left for what nests it, and for what it nests
+-- a type that no message can hold where so many levels are left
 abbrev pub IsUnfit : ℕ → Tree → Type 0
 IsUnfit levels t = (is_sound t ≡ false) ⊎ (levels ≤ depth t)
-
-abbrev pub NestsUnfit : ℕ → Tree → Type 0
-NestsUnfit levels t = (is_sound t ≡ false) ⊎ (levels < depth t)
 
 -- columns of which one is unfit
 abbrev pub IsUnfitType : ℕ → TypeTree → Type 0
