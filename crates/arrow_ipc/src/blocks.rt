@@ -86,7 +86,7 @@ pub(crate) fn linked_block(
         return Err(Refusal::TooLarge);
     }
     let mut end = (4 + (4 * blocks.len() + rest.len()) + 7) / 8 * 8;
-    let mut block = Vec::new(alloc);
+    let mut block = Vec::with_capacity(alloc, end)?;
     put_word(&mut block, first)?;
     'offsets: for one in blocks {
         if end >= 0x8000_0000 {
@@ -121,7 +121,7 @@ pub(crate) fn table_block(
     ensures err { IfErr result (λ e. Refuses e ⊥ (length (table_block slots.now numbers.now (map (λ v. v.items) blocks.now)))) }
 {
     let size = 4 + (4 * blocks.len() + numbers.len());
-    let mut rest = Vec::new(alloc);
+    let mut rest = Vec::with_capacity(alloc, numbers.len() + 4 + 2 * slots.len())?;
     rest.extend_from_slice(numbers)?;
     rest.extend_from_slice(&[4 + 2 * slots.len() as u8, 0, size as u8, 0])?;
     'slots: for slot in slots {
@@ -192,7 +192,7 @@ pub(crate) fn type_block(
         Some(truth) => (8, truth as u8),
         None => (0, 0),
     };
-    let mut numbers = Vec::new(alloc);
+    let mut numbers = Vec::with_capacity(alloc, 8)?;
     put_word(&mut numbers, number)?;
     numbers.extend_from_slice(&[truth, 0, 0, 0])?;
     table_block(alloc, &[number_place, truth_place], numbers.as_slice(), &[])
