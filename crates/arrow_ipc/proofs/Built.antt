@@ -1,38 +1,49 @@
 -- What is put one after the other gives a block.
-use Rattle.std.proofs.Common.{◌≡◌, ℕ, ◌+◌, ◌^◌, ◌<◌, ◌≤◌, Bool, ◌++◌, ◌∷◌, [], List, length, map, Vec, String, Global, string_bytes, string_cmp, Result, Ok, Err, IfOk, IfErr, refl, sym, ap, ◌∙◌, subst, arith, append_assoc}
+use Rattle.std.proofs.Common.{◌≡◌, ℕ, ◌+◌, ◌^◌, ◌<◌, ◌≤◌, Bool, ◌++◌, ◌∷◌, [], List, length, map, Vec, String, Global, string_bytes, string_cmp, Result, Ok, Err, IfOk, IfErr, refl, sym, ap, ◌∙◌, subst, arith, append_assoc, append-nil}
 use Rattle.std.proofs.lemmas.List.{map_push}
 use Rattle.std.specs.List.Sorted.{IsStrictlySortedBy}
 use Rattle.std.specs.Map.{keys_of}
 use Rattle.arrow_values.specs.Tree.{Text}
 use Rattle.arrow_values.specs.View.{texts_of}
-use Rattle.arrow_ipc.specs.Blocks.{Holds, word, padded, text_block, entry_block, vector_block, entry_read, texts_read, flag, column_head, column_block}
+use Rattle.arrow_ipc.specs.Blocks.{Holds, word, padded, offsets, linked, text_block, vector_block, entry_read, texts_read}
 use Rattle.arrow_ipc.specs.Rooms.{Refuses, texts_room}
+use Rattle.arrow_ipc.specs.declared.fault.Fault.{Fault}
 use Rattle.arrow_ipc.specs.declared.blocks.Refusal.{Refusal}
 use Rattle.arrow_ipc.specs.declared.blocks.Refusal.TheVariants.{Unfit, TooLarge, OutOfMemory}
 use Rattle.arrow_ipc.proofs.Vectors.{items}
 use Rattle.arrow_ipc.proofs.Made.{Made, Texts, made_more, made_all, texts_hold, length_vector}
 
 pub text_built : (s a b c d more text : List ℕ) (n : ℕ) → s ≡ [] → a ≡ s ++ word n → b ≡ a ++ more → c ≡ b ++ 0 ∷ [] → d ≡ padded c → n ≡ length text → more ≡ text → d ≡ text_block text
-unfolding text_block
-text_built s a b c d more text n s1 a2 b3 c4 d5 many same = rw (d5, c4, b3, a2, s1, many, same) (ap padded (append_assoc (word (length text)) text (0 ∷ [])))
-
-pub entry_built : (s a b c d e k t ks ts : List ℕ) (n : ℕ) → s ≡ [] → a ≡ s ++ (244 ∷ 255 ∷ 255 ∷ 255 ∷ 20 ∷ 0 ∷ 0 ∷ 0 ∷ []) → b ≡ a ++ word n → c ≡ b ++ (8 ∷ 0 ∷ 12 ∷ 0 ∷ 4 ∷ 0 ∷ 8 ∷ 0 ∷ 0 ∷ 0 ∷ 0 ∷ 0 ∷ [])
-    → d ≡ c ++ ks → e ≡ d ++ ts → ks ≡ k → ts ≡ t → n ≡ 16 + length k → e ≡ entry_block k t
-unfolding entry_block
-entry_built s a b c d e k t ks ts n s1 a2 b3 c4 d5 e6 k7 t8 many = rw (e6, d5, c4, b3, a2, s1, k7, t8, many) refl
-
-pub column_built : (s a b c d e f g h i j n t l m ns ms : List ℕ) (x y z flagged tag : ℕ) (nullable : Bool) → s ≡ [] → a ≡ s ++ (232 ∷ 255 ∷ 255 ∷ 255 ∷ 44 ∷ 0 ∷ 0 ∷ 0 ∷ []) → b ≡ a ++ word x → c ≡ b ++ word y → d ≡ c ++ word z
-    → e ≡ d ++ (flagged ∷ tag ∷ 0 ∷ 0 ∷ 18 ∷ 0 ∷ 24 ∷ 0 ∷ []) → f ≡ e ++ (4 ∷ 0 ∷ 20 ∷ 0 ∷ 21 ∷ 0 ∷ 8 ∷ 0 ∷ 0 ∷ 0 ∷ 12 ∷ 0 ∷ 16 ∷ 0 ∷ 0 ∷ 0 ∷ 0 ∷ 0 ∷ 0 ∷ 0 ∷ [])
-    → g ≡ f ++ ns → h ≡ g ++ t → i ≡ h ++ l → j ≡ i ++ ms → ns ≡ n → ms ≡ m → x ≡ 40 + length n → y ≡ 36 + (length n + length t) → z ≡ 32 + (length n + length t + length l) → flagged ≡ flag nullable
-    → j ≡ column_block n t l m nullable tag
-unfolding column_block
-column_built s a b c d e f g h i j n t l m ns ms x y z flagged tag nullable s1 a2 b3 c4 d5 e6 f7 g8 h9 i10 j11 n12 m13 xs ys zs fs =
-    rw (j11, i10, h9, g8, f7, e6, d5, c4, b3, a2, s1, n12, m13, xs, ys, zs, fs) (ap (λ r. column_head (length n) (length t) (length l) nullable tag ++ r) (append_assoc (n ++ t) l m ∙ append_assoc n t (l ++ m)))
+unfolding linked offsets
+text_built s a b c d more text n s1 a2 b3 c4 d5 many same =
+    rw (d5, c4, b3, a2, s1, many, same) (ap padded (append_assoc (word (length text)) text (0 ∷ [])) ∙ sym (append-nil (padded (word (length text) ++ (text ++ 0 ∷ [])))))
 
 pub refuses_more : (e : Refusal) (P Q : Type 0) (n m : ℕ) → (P → Q) → n ≤ m → Refuses e P n → Refuses e Q m
 refuses_more Unfit P Q n m f le r = f r
 refuses_more TooLarge P Q n m f le r = omega (arith, le, r)
 refuses_more OutOfMemory P Q n m f le r = tt
+
+-- and by a result
+pub refused_as : {X : Type 0} (r : Result X Refusal) (P Q : Type 0) (n m : ℕ) → (P → Q) → n ≤ m → IfErr r (λ e. Refuses e P n) → IfErr r (λ e. Refuses e Q m)
+refused_as (Ok x) P Q n m f le h = tt
+refused_as (Err e) P Q n m f le h = refuses_more e P Q n m f le h
+
+-- what was written is the block
+pub holds_as : {A : Type 0} (r : Result (Vec ℕ Global) Refusal) (block : List ℕ) (read : List ℕ → ℕ → Result (A × ℕ) Fault) (a : A) → IfOk r (λ b. b.items ≡ block) → IfOk r (λ b. length b.items < 2 ^ 31)
+    → (length block < 2 ^ 32 → Holds read block a) → IfOk r (λ b. Holds read b.items a)
+holds_as (Err e) block read a is small h = tt
+holds_as (Ok b) block read a is small h = let n : length b.items ≡ length block = ap length is in subst (λ l. Holds read l a) (sym is) (h (omega (arith, n, small)))
+
+pub is_as : (r : Result (Vec ℕ Global) Refusal) (block made : List ℕ) → block ≡ made → IfOk r (λ b. b.items ≡ block) → IfOk r (λ b. b.items ≡ made)
+is_as r block made same is = subst (λ l. IfOk r (λ b. b.items ≡ l)) same is
+
+pub most_as : (r : Result (Vec ℕ Global) Refusal) (block : List ℕ) (n : ℕ) → IfOk r (λ b. b.items ≡ block) → length block ≤ n → IfOk r (λ b. length b.items ≤ n)
+most_as (Err e) block n is le = tt
+most_as (Ok b) block n is le = let m : length b.items ≡ length block = ap length is in omega (arith, m, le)
+
+pub most_than : (r : Result (Vec ℕ Global) Refusal) (n m : ℕ) → n ≤ m → IfOk r (λ b. length b.items ≤ n) → IfOk r (λ b. length b.items ≤ m)
+most_than (Err e) n m le h = tt
+most_than (Ok b) n m le h = omega (arith, le, h)
 
 -- an error was handed on
 pub handed : {X E : Type 0} (P : E → Type 0) (r : Result X E) (e : E) → r ≡ Err e → P e → IfErr r P
@@ -58,12 +69,6 @@ module _ (blocks : List (Vec ℕ Global)) (left rest all : Texts) (k v : String 
       let same : map items new ≡ map items blocks ++ b.items ∷ [] = ap (map items) pushed ∙ map_push items blocks b in
       subst (λ bs. Made (Holds entry_read) texts_room bs (texts_of rest) (texts_of all)) (sym same)
       (made_more (Holds entry_read) texts_room (map items blocks) b.items (kb, vb) (texts_of rest) (texts_of all) here one (omega (arith, most)))
-
-  pub entry_refused : (e : Refusal) → Refuses e ⊥ (48 + length kb + length vb) → Refuses e ⊥ (texts_room (texts_of all))
-  entry_refused e r =
-      let m = here in
-      let fits = m.fits in
-      refuses_more e ⊥ ⊥ (48 + length kb + length vb) (texts_room (texts_of all)) (λ x. x) (omega (arith, fits)) r
 
 module _ (blocks : List (Vec ℕ Global)) (left all : Texts) (none : left ≡ []) (way : Made (Holds entry_read) texts_room (map items blocks) (texts_of left) (texts_of all)) where
   whole : Made (Holds entry_read) texts_room (map items blocks) [] (texts_of all)

@@ -1,87 +1,65 @@
 -- Blocks of texts and of entries of metadata.
-use Rattle.std.proofs.Common.{◌≡◌, ℕ, ◌+◌, ◌-◌, ◌^◌, ◌<◌, ◌≤◌, true, ◌++◌, ◌∷◌, [], List, length, replicate, drop, Some, Ok, refl, sym, ap, ◌∙◌, subst, arith, append_assoc}
+use Rattle.std.proofs.Common.{◌≡◌, ℕ, ◌+◌, ◌-◌, ◌^◌, ◌<◌, ◌≤◌, true, ◌++◌, ◌∷◌, [], List, length, Result, Ok, refl, sym, ap, ◌∙◌, arith, append_assoc}
 use Rattle.std.specs.Str.{is_utf8}
-use Rattle.std.proofs.lemmas.List.{length-append, drop_at}
+use Rattle.std.proofs.lemmas.List.{length-append}
 use Rattle.arrow_values.specs.Tree.{Text}
-use Rattle.arrow_ipc.specs.Wire.{target_at, utf8_at, slot_at}
-use Rattle.arrow_ipc.specs.Slots.{needed_text_in}
-use Rattle.arrow_ipc.specs.Columns.{entry_in, entry_price}
-use Rattle.arrow_ipc.specs.Blocks.{Stands, Holds, word, rounded, padded, text_block, entry_head, entry_block, entry_read}
+use Rattle.arrow_ipc.specs.Fault.{◌>>=◌}
+use Rattle.arrow_ipc.specs.Wire.{utf8_at}
+use Rattle.arrow_ipc.specs.Slots.{needed_text_in, table_in}
+use Rattle.arrow_ipc.specs.Columns.{entry_in}
+use Rattle.arrow_ipc.specs.Blocks.{Holds, word, rounded, offsets, text_block, text_read, entry_block, entry_read}
+use Rattle.arrow_ipc.proofs.Told.{bound}
 use Rattle.arrow_ipc.proofs.Places.{text_is}
-use Rattle.arrow_ipc.proofs.Tables.{target_past, slot, in_needed_text, stands_at}
-use Rattle.arrow_ipc.proofs.Walks.{length_padded}
-
-regrouped : (x w t f a : List ℕ) → x ++ (((w ++ (t ++ 0 ∷ [])) ++ f) ++ a) ≡ x ++ (w ++ (t ++ 0 ∷ (f ++ a)))
-regrouped x w t f a = simp append_assoc
+use Rattle.arrow_ipc.proofs.Linked.{length_linked, flat, tail, are_linked, slot_is}
 
 pub length_text : (text : Text) → length (text_block text) ≡ rounded (5 + length text)
-unfolding text_block
 length_text text =
-    let w = word (length text) in
-    let last : List ℕ = 0 ∷ [] in
-    let whole : length (padded (w ++ (text ++ last))) ≡ rounded (length (w ++ (text ++ last))) = length_padded (w ++ (text ++ last)) in
-    let first = length-append w (text ++ last) in
-    let second = length-append text last in
-    omega (arith, whole, first, second)
+    let size = length_linked (length text) [] (text ++ 0 ∷ []) in
+    let sum = length-append text (0 ∷ []) in
+    omega (arith, size, sum)
 
-pub text_stands : (text : Text) → is_utf8 text ≡ true → length text < 2 ^ 32 → Stands utf8_at (text_block text) text
-unfolding text_block padded
-text_stands text valid small =
-    let w = word (length text) in
-    let last : List ℕ = 0 ∷ [] in
-    let f : List ℕ = replicate (rounded (length (w ++ (text ++ last))) - length (w ++ (text ++ last))) 0 in
+pub text_holds : (text : Text) → is_utf8 text ≡ true → length text < 2 ^ 31 → Holds text_read (text_block text) text
+unfolding offsets
+text_holds text valid small =
     let size = length_text text in
     record {
       whole = omega (arith, size);
-      reads = λ before after whole. text_is (before ++ (((w ++ (text ++ last)) ++ f) ++ after)) (length before) text (f ++ after) (omega (arith, whole)) small valid
-          (ap (drop (length before)) (regrouped before w text f after) ∙ drop_at before (w ++ (text ++ 0 ∷ (f ++ after))) (length before) refl);
+      reads = λ bytes at lies.
+          let whole = lies.whole in
+          let after = tail bytes at (length text) [] (text ++ 0 ∷ []) lies in
+          let is = text_is bytes at text after (omega (arith, whole)) (omega (arith, small)) valid
+          (flat bytes at (length text) [] (text ++ 0 ∷ []) lies ∙ ap (λ l. word (length text) ++ l) (append_assoc text (0 ∷ []) after)) in
+          (length text, omega (arith, size), rw is refl);
     }
 
-module _ (x h k t a : List ℕ) where
-  of_table : x ++ ((h ++ (k ++ t)) ++ a) ≡ x ++ (h ++ (k ++ (t ++ a)))
-  of_table = simp append_assoc
-
-  of_key : x ++ ((h ++ (k ++ t)) ++ a) ≡ (x ++ h) ++ (k ++ (t ++ a))
-  of_key = simp append_assoc
-
-  of_text : x ++ ((h ++ (k ++ t)) ++ a) ≡ ((x ++ h) ++ k) ++ (t ++ a)
-  of_text = simp append_assoc
+pub is_text : (bytes : List ℕ) (at : ℕ) (text : Text) (n : ℕ) → text_read bytes at ≡ Ok (text, n) → (utf8_at bytes at ≡ Ok text) × (n ≡ length text)
+is_text bytes at text n is =
+    let t = bound (utf8_at bytes at) (λ t. Ok (t, length t)) (text, n) is in
+    let pair : ◌≡◌ {A = Text × ℕ} (t.0, length t.0) (text, n) = cc (t.2) in
+    let same : t.0 ≡ text = ap (λ (p : Text × ℕ). p.0) pair in
+    (t.1 ∙ ap (λ (t : Text). Ok t) same, sym (ap (λ (p : Text × ℕ). p.1) pair) ∙ ap length same)
 
 pub length_entry : (kb tb : List ℕ) → length (entry_block kb tb) ≡ 24 + (length kb + length tb)
-unfolding entry_block
 length_entry kb tb =
-    let size : length (entry_head (length kb) ++ (kb ++ tb)) ≡ 24 + length (kb ++ tb) = length-append (entry_head (length kb)) (kb ++ tb) in
-    let rest : length (kb ++ tb) ≡ length kb + length tb = length-append kb tb in
-    omega (arith, size, rest)
+    let size = length_linked (2 ^ 32 - 12) (kb ∷ tb ∷ []) (8 ∷ 0 ∷ 12 ∷ 0 ∷ 4 ∷ 0 ∷ 8 ∷ 0 ∷ []) in
+    let one = length-append kb (tb ++ []) in
+    let two = length-append tb [] in
+    omega (arith, size, one, two)
 
-pub entry_holds : (kb tb : List ℕ) (key text : Text) → Stands utf8_at kb key → Stands utf8_at tb text → length key ≤ length kb → length text ≤ length tb
-    → length (entry_block kb tb) < 2 ^ 32 → Holds entry_read (entry_block kb tb) (key, text)
-unfolding entry_block entry_in
-entry_holds kb tb key text sk st lk lt small =
-    let h = entry_head (length kb) in
-    let wk = sk.whole in
-    let wt = st.whole in
-    let size : length (h ++ (kb ++ tb)) ≡ 24 + length (kb ++ tb) = length-append h (kb ++ tb) in
-    let rest : length (kb ++ tb) ≡ length kb + length tb = length-append kb tb in
+pub entry_holds : (kb tb : List ℕ) (key text : Text) → Holds text_read kb key → Holds text_read tb text → length (entry_block kb tb) < 2 ^ 32 → Holds entry_read (entry_block kb tb) (key, text)
+unfolding entry_in needed_text_in table_in
+entry_holds kb tb key text hk ht small =
+    let wk = hk.whole in
+    let wt = ht.whole in
+    let size = length_entry kb tb in
     record {
-      whole = omega (arith, size, rest, wk, wt);
-      reads = λ before after whole.
-          let y = h ++ (kb ++ (tb ++ after)) in
-          let bytes = before ++ ((h ++ (kb ++ tb)) ++ after) in
-          let all : length y ≡ 24 + length (kb ++ (tb ++ after)) = length-append h (kb ++ (tb ++ after)) in
-          let more : length (kb ++ (tb ++ after)) ≡ length kb + length (tb ++ after) = length-append kb (tb ++ after) in
-          let last : length (tb ++ after) ≡ length tb + length after = length-append tb after in
-          let front : length (before ++ h) ≡ length before + 24 = length-append before h in
-          let middle : length ((before ++ h) ++ kb) ≡ length (before ++ h) + length kb = length-append (before ++ h) kb in
-          let slot_of = slot before y whole 12 8 8 0 (drop 4 y) (drop 14 y) (omega arith) (omega arith) refl refl refl refl refl (omega (arith, all)) in
-          let key_slot : slot_at (before ++ y) (length before) 0 ≡ Ok (Some (length before + 4)) = slot_of 0 (omega arith) 4 0 (drop 18 y) refl 4 refl (omega arith) (omega (arith, all)) in
-          let text_slot : slot_at (before ++ y) (length before) 1 ≡ Ok (Some (length before + 8)) = slot_of 1 (omega arith) 8 0 (drop 20 y) refl 8 refl (omega arith) (omega (arith, all)) in
-          let key_led : target_at (before ++ y) (length before + 4) ≡ Ok (length before + (4 + 20)) = target_past before y whole 4 20 (drop 8 y) refl (omega arith) (omega arith) (omega (arith, all)) refl in
-          let text_led : target_at (before ++ y) (length before + 8) ≡ Ok (length before + (8 + (16 + length kb))) = target_past before y whole 8 (16 + length kb) (drop 12 y) refl (omega arith) (omega (arith, small, size, rest)) (omega (arith, all, more)) refl in
-          let is_key : utf8_at (before ++ y) (length before + (4 + 20)) ≡ Ok key = stands_at utf8_at kb key sk (before ++ y) (before ++ h) (tb ++ after) (length before + (4 + 20)) (sym (of_table before h kb tb after) ∙ of_key before h kb tb after) (omega (arith, front)) (omega (arith, whole)) in
-          let is_text : utf8_at (before ++ y) (length before + (8 + (16 + length kb))) ≡ Ok text = stands_at utf8_at tb text st (before ++ y) ((before ++ h) ++ kb) after (length before + (8 + (16 + length kb))) (sym (of_table before h kb tb after) ∙ of_text before h kb tb after) (omega (arith, front, middle)) (omega (arith, whole, wk)) in
-          let one : needed_text_in (before ++ y) (length before) 0 ≡ Ok key = in_needed_text (before ++ y) (length before) 0 (length before + 4) key_slot (length before + (4 + 20)) key key_led is_key in
-          let two : needed_text_in (before ++ y) (length before) 1 ≡ Ok text = in_needed_text (before ++ y) (length before) 1 (length before + 8) text_slot (length before + (8 + (16 + length kb))) text text_led is_text in
-          let whole_is : entry_read (before ++ y) (length before) ≡ Ok ((key, text), entry_price (key, text)) = rw (one, two) refl in
-          (8 + length key + length text, omega (arith, lk, lt, size, rest), subst (λ bytes. entry_read bytes (length before) ≡ Ok ((key, text), entry_price (key, text))) (sym (of_table before h kb tb after)) whole_is);
+      whole = omega (arith, size, wk, wt);
+      reads = λ bytes at lies.
+          let slot = slot_is bytes at (4 ∷ 8 ∷ []) [] (kb ∷ tb ∷ []) lies refl (omega arith) (omega arith, (omega arith, tt)) in
+          let l = are_linked bytes at (2 ^ 32 - 12) (kb ∷ tb ∷ []) (8 ∷ 0 ∷ 12 ∷ 0 ∷ 4 ∷ 0 ∷ 8 ∷ 0 ∷ []) lies (wk, (wt, tt)) small in
+          let k = hk.reads bytes l.0.to l.0.lies in
+          let t = ht.reads bytes l.1.0.to l.1.0.lies in
+          let key_is = is_text bytes l.0.to key k.0 k.2 in
+          let text_is = is_text bytes l.1.0.to text t.0 t.2 in
+          (8 + length key + length text, omega (arith, size, k.1, t.1, key_is.1, text_is.1), rw (slot 0, l.0.led, key_is.0, slot 1, l.1.0.led, text_is.0) refl);
     }

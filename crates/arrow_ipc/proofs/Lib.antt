@@ -13,8 +13,8 @@ mod TypeOf
 mod Words
 mod Levels
 mod Places
+mod Linked
 mod Walks
-mod Tables
 mod Entries
 mod Fields
 mod TypeTables

@@ -14,11 +14,12 @@ use Rattle.arrow_values.specs.Texts.{put_text}
 use Rattle.arrow_columns.specs.Column.{ColumnTree}
 use Rattle.arrow_ipc.specs.Wire.{target_at}
 use Rattle.arrow_ipc.specs.Columns.{entry_in, entry_at, entry_price, put_next, texts_at, put_column, columns_by, column_at}
-use Rattle.arrow_ipc.specs.Blocks.{Holds, rounded, padded, word, offsets, vector_block, entry_read, texts_read, columns_read, child_in}
+use Rattle.arrow_ipc.specs.Blocks.{Holds, rounded, vector_block, entry_read, texts_read, columns_read, child_in}
 use Rattle.arrow_ipc.proofs.Told.{bound}
 use Rattle.arrow_ipc.proofs.Inserted.{texts_inserted}
 use Rattle.arrow_ipc.proofs.Fields.{column_by_table}
-use Rattle.arrow_ipc.proofs.Walks.{joined, vector_holds, length_padded, length_offsets}
+use Rattle.arrow_ipc.proofs.Linked.{length_linked}
+use Rattle.arrow_ipc.proofs.Walks.{joined, vector_holds}
 
 -- ---- one block after the other
 
@@ -64,15 +65,7 @@ module _ {A : Type 0} (P : List ℕ → A → Type 0) (rooms : List A → ℕ) w
   made_all blocks all m = subst (λ xs. AllZip P blocks xs) (sym (append-nil m.done) ∙ m.parts) m.each
 
 pub length_vector : (bs : List (List ℕ)) → length (vector_block bs) ≡ rounded (4 + 4 * length bs) + length (concat bs)
-unfolding vector_block
-length_vector bs =
-    let w = word (length bs) in
-    let o = offsets 4 (rounded (4 + 4 * length bs)) bs in
-    let one = length-append (padded (w ++ o)) (concat bs) in
-    let two = length_padded (w ++ o) in
-    let three : length (w ++ o) ≡ 4 + length o = length-append w o in
-    let four = length_offsets 4 (rounded (4 + 4 * length bs)) bs in
-    omega (arith, one, two, three, four)
+length_vector bs = let size = length_linked (length bs) bs [] in omega (arith, size)
 
 -- ---- metadata
 

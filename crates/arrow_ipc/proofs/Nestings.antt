@@ -1,24 +1,47 @@
 -- The columns that a type nests, one block after the other.
-use Rattle.std.proofs.Common.{◌≡◌, ℕ, zero, suc, ◌+◌, ◌-◌, ◌^◌, ◌<◌, ◌≤◌, ◌⊎◌, inl, inr, max, ℤ, Bool, true, false, ◌&&◌, ◌++◌, ◌∷◌, [], List, length, map, drop, get_or, Vec, Global, Result, Ok, Err, IfOk, IfErr, refl, sym, ap, ◌∙◌, subst, arith}
+use Rattle.std.proofs.Common.{◌≡◌, ℕ, zero, suc, ◌+◌, ◌-◌, ◌^◌, ◌<◌, ◌≤◌, ◌⊎◌, inl, inr, max, ℤ, Bool, true, false, ◌&&◌, ◌++◌, ◌∷◌, [], List, length, map, drop, get_or, Vec, Global, Result, Ok, Err, IfOk, IfErr, refl, sym, ap, ◌∙◌, subst, arith, append-nil}
 use Rattle.std.proofs.lemmas.List.{map_push, drop_more, drop_all}
-use Rattle.arrow_values.specs.Tree.{Text, Metadata, Tree, list, large_list, fixed_size_list, struct, union, FieldTree, Members, fields_depth, members_depth}
-use Rattle.arrow_values.specs.View.{field_trees, member_trees}
-use Rattle.arrow_values.specs.declared.tree.UnionMode.{UnionMode}
+use Rattle.arrow_values.specs.Tree.{Text, Metadata, Tree, plain, list, large_list, fixed_size_list, struct, union, FieldTrees, no_fields, field, MemberTrees, no_members, member, FieldTree, Members, depth, fields_depth, members_depth}
+use Rattle.std.specs.Borrow.{Bor}
+use Rattle.arrow_values.specs.View.{field_trees, member_trees, field_list, listed_fields}
 use Rattle.arrow_columns.specs.Column.{known, ColumnTree}
 use Rattle.arrow_ipc.specs.Blocks.{Holds, child_in, columns_read, vector_block, IsType, IsColumnBlock}
-use Rattle.arrow_ipc.specs.Shapes.{member_ids, column_of, column_of_member, columns_of_fields, columns_of_members, nested_columns}
-use Rattle.arrow_ipc.specs.Rooms.{is_size, is_sound, are_sound, members_sound, are_ids, fields_room, members_room, nested_room, room_of, columns_room, Refuses, IsUnfit, NestsUnfit, IsUnfitType, AreUnfit, HoldsEach, IsNesting}
+use Rattle.arrow_ipc.specs.Shapes.{member_ids, are_ids, shape_of, ids_of, shape_tag, shape_bytes, has_table, column_of, member_fields, nested_fields, nested_columns}
+use Rattle.arrow_ipc.specs.Rooms.{is_size, is_sound, are_sound, members_sound, fields_room, members_room, nested_room, room_of, columns_room, Refuses, IsUnfit, IsUnfitType, AreUnfit, HoldsEach, IsNesting}
 use Rattle.arrow_ipc.specs.declared.blocks.Refusal.{Refusal}
 use Rattle.arrow_ipc.proofs.Vectors.{items}
 use Rattle.arrow_ipc.proofs.Made.{Made, made_more, made_all, length_vector, columns_hold}
-use Rattle.arrow_ipc.proofs.Built.{refuses_more}
+use Rattle.arrow_ipc.proofs.TreeTypes.{table_is}
+use Rattle.arrow_ipc.proofs.Built.{refuses_more, refused_as}
 
--- a part is smaller than the whole
-module _ {A : Type 0} (one : A → ℕ) (all : List A → ℕ) (more : (x : A) (xs : List A) → all (x ∷ xs) ≡ max (suc (one x)) (all xs)) where
-  pub falls : (xs : List A) {ys : List A} (i : ℕ) (x : A) → xs ≡ ys → i < length xs → x ≡ get_or xs i x → suc (one x) ≤ all ys
-  falls [] i x e lt is = absurd (omega arith)
-  falls (y ∷ ys) zero x e lt is = rw (← e) (let same : one x ≡ one y = ap one is in let most = more y ys in omega arith)
-  falls (y ∷ ys) (suc i) x e lt is = rw (← e) (let low = falls ys i x refl (omega arith) is in let most = more y ys in omega arith)
+-- fields nest less than the type that nests them
+abbrev pub deepest : List FieldTree → ℕ
+deepest [] = 0
+deepest (f ∷ fs) = max (suc (depth f.tree)) (deepest fs)
+
+abbrev pub lent : List (Bor FieldTree) → List FieldTree
+lent fs = map (λ f. f.now) fs
+
+pub falls : (fs : List (Bor FieldTree)) (i : ℕ) (f : Bor FieldTree) → i < length fs → f ≡ get_or fs i f → depth f.now.tree < deepest (lent fs)
+falls [] i f lt is = absurd (omega arith)
+falls (g ∷ fs) zero f lt is = let same : depth f.now.tree ≡ depth g.now.tree = ap (λ (f : Bor FieldTree). depth f.now.tree) is in omega arith
+falls (g ∷ fs) (suc i) f lt is = let low = falls fs i f (omega arith) is in omega arith
+
+deepest_fields : (fs : FieldTrees) → deepest (field_list fs) ≡ fields_depth fs
+deepest_fields no_fields = refl
+deepest_fields (field n t b m fs) = let rest = deepest_fields fs in omega (arith, rest)
+
+deepest_members : (ms : MemberTrees) → deepest (member_fields ms) ≡ members_depth ms
+deepest_members no_members = refl
+deepest_members (member i n t b m ms) = let rest = deepest_members ms in omega (arith, rest)
+
+pub nests_less : (t : Tree) → deepest (nested_fields t) ≤ depth t
+nests_less (plain p) = omega arith
+nests_less (list n t b m) = omega arith
+nests_less (large_list n t b m) = omega arith
+nests_less (fixed_size_list n t b m s) = omega arith
+nests_less (struct fs) = let same = deepest_fields fs in omega (arith, same)
+nests_less (union ms mode) = let same = deepest_members ms in omega (arith, same)
 
 module _ {A : Type 0} (f : A → ColumnTree) (levels : ℕ) where
   among : (xs : List A) (i : ℕ) (x : A) → i < length xs → x ≡ get_or xs i x → IsUnfitType levels (f x).data_type → AreUnfit levels (map f xs)
@@ -50,105 +73,90 @@ module _ {A : Type 0} (f : A → ColumnTree) (levels : ℕ) where
         let fits = m.fits in
         record { each = made_all (Holds (child_in levels)) columns_room (map items blocks) (map f xs) m; most = omega (arith, fits) }
 
--- ---- the fields of a struct and the members of a union as columns
+-- ---- what a type nests
 
-fields_columns : (fs : List FieldTree) → columns_of_fields (field_trees fs) ≡ map column_of fs
-fields_columns [] = refl
-fields_columns (f ∷ fs) = ap (λ cs. column_of f ∷ cs) (fields_columns fs)
+fields_room_is : (fs : FieldTrees) → columns_room (map column_of (field_list fs)) ≡ fields_room fs
+fields_room_is no_fields = refl
+fields_room_is (field n t b m fs) = let rest = fields_room_is fs in omega (arith, rest)
 
-fields_rooms : (fs : List FieldTree) → fields_room (field_trees fs) ≡ columns_room (map column_of fs)
-fields_rooms [] = refl
-fields_rooms (f ∷ fs) = let rest = fields_rooms fs in omega (arith, rest)
+members_room_is : (ms : MemberTrees) → columns_room (map column_of (member_fields ms)) ≡ members_room ms
+members_room_is no_members = refl
+members_room_is (member i n t b m ms) = let rest = members_room_is ms in omega (arith, rest)
 
-members_columns : (ms : Members) → columns_of_members (member_trees ms) ≡ map column_of_member ms
-members_columns [] = refl
-members_columns (m ∷ ms) = ap (λ cs. column_of_member m ∷ cs) (members_columns ms)
+pub nested_room_is : (t : Tree) → columns_room (nested_columns t) ≡ nested_room t
+nested_room_is (plain p) = refl
+nested_room_is (list n t b m) = omega arith
+nested_room_is (large_list n t b m) = omega arith
+nested_room_is (fixed_size_list n t b m s) = omega arith
+nested_room_is (struct fs) = fields_room_is fs
+nested_room_is (union ms mode) = members_room_is ms
 
-members_rooms : (ms : Members) → members_room (member_trees ms) ≡ columns_room (map column_of_member ms)
-members_rooms [] = refl
-members_rooms (m ∷ ms) = let rest = members_rooms ms in omega (arith, rest)
+either : (a b : Bool) → (a ≡ false) ⊎ (b ≡ false) → (a && b) ≡ false
+either true b (inl e) = absurd (cc)
+either false b (inl e) = refl
+either true b (inr e) = e
+either false b (inr e) = refl
 
-first_false : (a b : Bool) → a ≡ false → (a && b) ≡ false
-first_false a b e = rw e refl
+fields_unfit : (levels : ℕ) (fs : FieldTrees) → AreUnfit levels (map column_of (field_list fs)) → (are_sound fs ≡ false) ⊎ (levels < fields_depth fs)
+fields_unfit levels no_fields u = absurd u
+fields_unfit levels (field n t b m fs) (inl (inl e)) = inl (either (is_sound t) (are_sound fs) (inl e))
+fields_unfit levels (field n t b m fs) (inl (inr deep)) = inr (omega (arith, deep))
+fields_unfit levels (field n t b m fs) (inr u) = elim (fields_unfit levels fs u) [ inl e ↦ inl (either (is_sound t) (are_sound fs) (inr e)) | inr deep ↦ inr (omega (arith, deep)) ]
 
-second_false : (a b : Bool) → b ≡ false → (a && b) ≡ false
-second_false true b e = e
-second_false false b e = refl
+members_unfit : (levels : ℕ) (ms : MemberTrees) → AreUnfit levels (map column_of (member_fields ms)) → (members_sound ms ≡ false) ⊎ (levels < members_depth ms)
+members_unfit levels no_members u = absurd u
+members_unfit levels (member i n t b m ms) (inl (inl e)) = inl (either (is_sound t) (members_sound ms) (inl e))
+members_unfit levels (member i n t b m ms) (inl (inr deep)) = inr (omega (arith, deep))
+members_unfit levels (member i n t b m ms) (inr u) = elim (members_unfit levels ms u) [ inl e ↦ inl (either (is_sound t) (members_sound ms) (inr e)) | inr deep ↦ inr (omega (arith, deep)) ]
 
-fields_unfit : (levels : ℕ) (fs : List FieldTree) → AreUnfit levels (map column_of fs) → (are_sound (field_trees fs) ≡ false) ⊎ (levels < fields_depth (field_trees fs))
-fields_unfit levels [] u = absurd u
-fields_unfit levels (f ∷ fs) (inl (inl e)) = inl (first_false (is_sound f.tree) (are_sound (field_trees fs)) e)
-fields_unfit levels (f ∷ fs) (inl (inr deep)) = inr (omega (arith, deep))
-fields_unfit levels (f ∷ fs) (inr u) =
-    elim (fields_unfit levels fs u) [ inl e ↦ inl (second_false (is_sound f.tree) (are_sound (field_trees fs)) e) | inr deep ↦ inr (omega (arith, deep)) ]
+members_listed : (ms : Members) → map (λ m. m.1) ms ≡ member_fields (member_trees ms)
+members_listed [] = refl
+members_listed (m ∷ ms) = ap (λ fs. m.1 ∷ fs) (members_listed ms)
 
-members_unfit : (levels : ℕ) (ms : Members) → AreUnfit levels (map column_of_member ms) → (members_sound (member_trees ms) ≡ false) ⊎ (levels < members_depth (member_trees ms))
-members_unfit levels [] u = absurd u
-members_unfit levels (m ∷ ms) (inl (inl e)) = inl (first_false (is_sound m.1.tree) (members_sound (member_trees ms)) e)
-members_unfit levels (m ∷ ms) (inl (inr deep)) = inr (omega (arith, deep))
-members_unfit levels (m ∷ ms) (inr u) =
-    elim (members_unfit levels ms u) [ inl e ↦ inl (second_false (is_sound m.1.tree) (members_sound (member_trees ms)) e) | inr deep ↦ inr (omega (arith, deep)) ]
+pub fields_lent : (lends : List (Bor FieldTree)) (all fs : List FieldTree) (i : ℕ) → lent lends ++ drop i all ≡ all → length all ≤ i → all ≡ fs → lent lends ≡ field_list (field_trees fs)
+fields_lent lends all fs i so_far le same = sym (append-nil (lent lends)) ∙ ap (λ l. lent lends ++ l) (sym (drop_all i all le)) ∙ so_far ∙ same ∙ sym (listed_fields fs)
 
-pub struct_unfit : (levels : ℕ) (fs : List FieldTree) → AreUnfit levels (map column_of fs) → NestsUnfit levels (struct (field_trees fs))
-struct_unfit levels fs u = elim (fields_unfit levels fs u) [ inl e ↦ inl e | inr deep ↦ inr (omega (arith, deep)) ]
+pub members_lent : (lends : List (Bor FieldTree)) (all ms : Members) (i : ℕ) → lent lends ++ map (λ m. m.1) (drop i all) ≡ map (λ m. m.1) all → length all ≤ i → all ≡ ms → lent lends ≡ member_fields (member_trees ms)
+members_lent lends all ms i so_far le same =
+    sym (append-nil (lent lends)) ∙ ap (λ (l : Members). lent lends ++ map (λ m. m.1) l) (sym (drop_all i all le)) ∙ so_far ∙ ap (map (λ m. m.1)) same ∙ members_listed ms
 
-pub union_unfit : (levels : ℕ) (ms : Members) (mode : UnionMode) → AreUnfit levels (map column_of_member ms) → NestsUnfit levels (union (member_trees ms) mode)
-union_unfit levels ms mode u =
-    elim (members_unfit levels ms u) [ inl e ↦ inl (second_false (are_ids [] (member_ids (member_trees ms))) (members_sound (member_trees ms)) e) | inr deep ↦ inr (omega (arith, deep)) ]
+lent_columns : (fs : List (Bor FieldTree)) → map (λ f. column_of f.now) fs ≡ map column_of (lent fs)
+lent_columns [] = refl
+lent_columns (f ∷ fs) = ap (λ cs. column_of f.now ∷ cs) (lent_columns fs)
 
--- ---- what a call returned, of a type
+pub columns_are : (fs : List (Bor FieldTree)) (t : Tree) → lent fs ≡ nested_fields t → map (λ f. column_of f.now) fs ≡ nested_columns t
+columns_are fs t same = lent_columns fs ∙ ap (map column_of) same
 
-abbrev Nested : Type 0
-Nested = Result (Vec (Vec ℕ Global) Global) Refusal
+pub each_is : (levels : ℕ) (bs : List (List ℕ)) (cs : List ColumnTree) (t : Tree) → cs ≡ nested_columns t → HoldsEach levels bs cs (columns_room cs) → HoldsEach levels bs (nested_columns t) (nested_room t)
+each_is levels bs cs t same each = subst (λ n. HoldsEach levels bs (nested_columns t) n) (nested_room_is t) (subst (λ ks. HoldsEach levels bs ks (columns_room ks)) same each)
 
-each_as : (levels : ℕ) (r : Nested) (cs ds : List ColumnTree) (n m : ℕ) → cs ≡ ds → n ≡ m → IfOk r (λ bs. HoldsEach levels (map items bs.items) cs n) → IfOk r (λ bs. HoldsEach levels (map items bs.items) ds m)
-each_as levels (Err e) cs ds n m same size h = tt
-each_as levels (Ok bs) cs ds n m same size h = subst (λ k. HoldsEach levels (map items bs.items) ds k) size (subst (λ ks. HoldsEach levels (map items bs.items) ks n) same h)
-
-pub refused_as : {X : Type 0} (r : Result X Refusal) (P Q : Type 0) (n m : ℕ) → (P → Q) → n ≤ m → IfErr r (λ e. Refuses e P n) → IfErr r (λ e. Refuses e Q m)
-refused_as (Ok x) P Q n m f le h = tt
-refused_as (Err e) P Q n m f le h = refuses_more e P Q n m f le h
-
-pub struct_each : (levels : ℕ) (r : Nested) (fs : List FieldTree) → IfOk r (λ bs. HoldsEach levels (map items bs.items) (map column_of fs) (columns_room (map column_of fs)))
-    → IfOk r (λ bs. HoldsEach levels (map items bs.items) (nested_columns (struct (field_trees fs))) (nested_room (struct (field_trees fs))))
-struct_each levels r fs h = each_as levels r (map column_of fs) (columns_of_fields (field_trees fs)) (columns_room (map column_of fs)) (fields_room (field_trees fs)) (sym (fields_columns fs)) (sym (fields_rooms fs)) h
-
-pub struct_refused : (levels : ℕ) (r : Nested) (fs : List FieldTree) → IfErr r (λ e. Refuses e (AreUnfit levels (map column_of fs)) (columns_room (map column_of fs)))
-    → IfErr r (λ e. Refuses e (NestsUnfit levels (struct (field_trees fs))) (nested_room (struct (field_trees fs))))
-struct_refused levels r fs h = let size = fields_rooms fs in refused_as r (AreUnfit levels (map column_of fs)) (NestsUnfit levels (struct (field_trees fs))) (columns_room (map column_of fs)) (fields_room (field_trees fs)) (struct_unfit levels fs) (omega (arith, size)) h
-
-pub union_each : (levels : ℕ) (r : Nested) (ms : Members) (mode : UnionMode) → IfOk r (λ bs. HoldsEach levels (map items bs.items) (map column_of_member ms) (columns_room (map column_of_member ms)))
-    → IfOk r (λ bs. HoldsEach levels (map items bs.items) (nested_columns (union (member_trees ms) mode)) (nested_room (union (member_trees ms) mode)))
-union_each levels r ms mode h = each_as levels r (map column_of_member ms) (columns_of_members (member_trees ms)) (columns_room (map column_of_member ms)) (members_room (member_trees ms)) (sym (members_columns ms)) (sym (members_rooms ms)) h
-
-pub union_refused : (levels : ℕ) (r : Nested) (ms : Members) (mode : UnionMode) → IfErr r (λ e. Refuses e (AreUnfit levels (map column_of_member ms)) (columns_room (map column_of_member ms)))
-    → IfErr r (λ e. Refuses e (NestsUnfit levels (union (member_trees ms) mode)) (nested_room (union (member_trees ms) mode)))
-union_refused levels r ms mode h = let size = members_rooms ms in refused_as r (AreUnfit levels (map column_of_member ms)) (NestsUnfit levels (union (member_trees ms) mode)) (columns_room (map column_of_member ms)) (members_room (member_trees ms)) (union_unfit levels ms mode) (omega (arith, size)) h
-
--- a list of a field: its type is unfit where the field's is
-pub list_unfit : (levels : ℕ) (f : FieldTree) → IsUnfit levels f.tree → NestsUnfit levels (list f.name f.tree f.nullable f.metadata)
-list_unfit levels f (inl e) = inl e
-list_unfit levels f (inr deep) = inr (omega (arith, deep))
-
-pub large_list_unfit : (levels : ℕ) (f : FieldTree) → IsUnfit levels f.tree → NestsUnfit levels (large_list f.name f.tree f.nullable f.metadata)
-large_list_unfit levels f (inl e) = inl e
-large_list_unfit levels f (inr deep) = inr (omega (arith, deep))
-
-pub fixed_size_list_unfit : (levels : ℕ) (f : FieldTree) (s : ℤ) → IsUnfit levels f.tree → NestsUnfit levels (fixed_size_list f.name f.tree f.nullable f.metadata s)
-fixed_size_list_unfit levels f s (inl e) = inl (second_false (is_size s) (is_sound f.tree) e)
-fixed_size_list_unfit levels f s (inr deep) = inr (omega (arith, deep))
+pub nested_unfit : (levels : ℕ) (t : Tree) → 0 < levels → AreUnfit (levels - 1) (nested_columns t) → IsUnfit levels t
+nested_unfit levels (plain p) some u = absurd u
+nested_unfit levels (list n t b m) some (inl (inl e)) = inl e
+nested_unfit levels (list n t b m) some (inl (inr deep)) = inr (omega (arith, deep))
+nested_unfit levels (list n t b m) some (inr u) = absurd u
+nested_unfit levels (large_list n t b m) some (inl (inl e)) = inl e
+nested_unfit levels (large_list n t b m) some (inl (inr deep)) = inr (omega (arith, deep))
+nested_unfit levels (large_list n t b m) some (inr u) = absurd u
+nested_unfit levels (fixed_size_list n t b m s) some (inl (inl e)) = inl (either (is_size s) (is_sound t) (inr e))
+nested_unfit levels (fixed_size_list n t b m s) some (inl (inr deep)) = inr (omega (arith, deep))
+nested_unfit levels (fixed_size_list n t b m s) some (inr u) = absurd u
+nested_unfit levels (struct fs) some u = elim (fields_unfit (levels - 1) fs u) [ inl e ↦ inl e | inr deep ↦ inr (omega (arith, deep)) ]
+nested_unfit levels (union ms mode) some u =
+    elim (members_unfit (levels - 1) ms u) [ inl e ↦ inl (either (are_ids [] (member_ids ms)) (members_sound ms) (inr e)) | inr deep ↦ inr (omega (arith, deep)) ]
 
 -- ---- a column, given the blocks of what its type nests
 
-pub nest_ok : (r : Result (Vec ℕ Global) Refusal) (bs : List (List ℕ)) (t : Tree) (name : Text) (nullable : Bool) (texts : Metadata) (tag : ℕ) (table tables children slices : List ℕ)
-    → IfOk r (λ b. IsColumnBlock tag tables slices name nullable texts b.items) → tables ≡ table → slices ≡ children → IsType tag table (nested_columns t) (known t) → children ≡ vector_block bs → length children < 2 ^ 31
+pub nest_ok : (r : Result (Vec ℕ Global) Refusal) (bs : List (List ℕ)) (t : Tree) (name : Text) (nullable : Bool) (texts : Metadata) (tag : ℕ) (table children : List ℕ)
+    → IfOk r (λ b. IsColumnBlock tag table children name nullable texts b.items) → tag ≡ shape_tag (shape_of t) → table ≡ shape_bytes (shape_of t) (ids_of t) → has_table (shape_of t) (ids_of t) ≡ true → length table < 2 ^ 31 → children ≡ vector_block bs → length children < 2 ^ 31
     → IfOk r (λ b. IsNesting bs t name nullable texts b.items)
 unfolding IsColumnBlock IsNesting
-nest_ok (Err e) bs t name nullable texts tag table tables children slices h one two typing is small = tt
-nest_ok (Ok b) bs t name nullable texts tag table tables children slices h one two typing is small = λ levels each.
+nest_ok (Err e) bs t name nullable texts tag table children h tagged same sound low is small = tt
+nest_ok (Ok b) bs t name nullable texts tag table children h tagged same sound low is small = λ levels each.
     let size : length (vector_block bs) < 2 ^ 31 = subst (λ l. length l < 2 ^ 31) is small in
-    let nested : Holds (columns_read levels) slices (nested_columns t) = subst (λ l. Holds (columns_read levels) l (nested_columns t)) (sym (two ∙ is)) (columns_hold levels bs (nested_columns t) each (omega (arith, size))) in
-    h levels t (record { columns = nested_columns t; typing = subst (λ l. IsType tag l (nested_columns t) (known t)) (sym one) typing; nested = nested })
+    let nested : Holds (columns_read levels) children (nested_columns t) = subst (λ l. Holds (columns_read levels) l (nested_columns t)) (sym is) (columns_hold levels bs (nested_columns t) each (omega (arith, size))) in
+    let typing : IsType tag table (nested_columns t) (known t) = rw (tagged, same) (table_is t sound (subst (λ l. length l < 2 ^ 31) same low)) in
+    h levels t (record { columns = nested_columns t; typing = typing; nested = nested })
 
 pub data_ok : (r : Result (Vec ℕ Global) Refusal) (bs : List (List ℕ)) (t : Tree) (name : Text) (nullable : Bool) (texts : Metadata) (levels room : ℕ) → IfOk r (λ b. IsNesting bs t name nullable texts b.items)
     → HoldsEach (levels - 1) bs (nested_columns t) room → 0 < levels → IfOk r (λ b. Holds (child_in levels) b.items (record { name = name; data_type = known t; nullable = nullable; metadata = texts }))

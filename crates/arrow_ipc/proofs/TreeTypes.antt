@@ -1,73 +1,61 @@
 -- A type's table and its columns, by its shape.
-use Rattle.std.proofs.Common.{◌≡◌, ℕ, ◌^◌, ◌<◌, ◌≤◌, pos, negsuc, Bool, true, false, ◌∷◌, map, Option, Some, None, refl, ap, subst, arith, nat_lt, if◌then◌else◌}
-use Rattle.std.proofs.lemmas.Bool.Decides.{nat_tests}
-use Rattle.arrow_values.specs.Tree.{Tree, plain, list, large_list, fixed_size_list, struct, union, FieldTrees, no_fields, field}
+use Rattle.std.proofs.Common.{◌≡◌, ℕ, ◌^◌, ◌<◌, ◌≤◌, ◌+◌, ◌*◌, pos, negsuc, ℤ, Bool, true, false, ◌∷◌, [], List, length, map, Option, Some, None, refl, ap, subst, arith, nat_lt, if◌then◌else◌}
+use Rattle.arrow_values.specs.Tree.{Tree, plain, list, large_list, fixed_size_list, struct, union, FieldTrees, no_fields, field, FieldTree}
 use Rattle.arrow_values.specs.View.{field_list, field_trees_of_list}
 use Rattle.arrow_columns.specs.Column.{known}
 use Rattle.arrow_ipc.specs.Blocks.{IsType, type_block}
-use Rattle.arrow_ipc.specs.Shapes.{column_of, shape_of, columns_of_fields, nested_columns}
+use Rattle.arrow_ipc.specs.Shapes.{number_of, truth_of, member_ids, column_of, nested_columns, shape_of, ids_of, shape_tag, shape_bytes, has_table}
 use Rattle.arrow_ipc.specs.Rooms.{is_sound, table_room}
-use Rattle.arrow_ipc.specs.declared.shapes.Shape.TheVariants.{Table}
-use Rattle.arrow_ipc.proofs.TypeTables.{plain_type, list_is, large_list_is, fixed_size_list_is, struct_is}
+use Rattle.arrow_ipc.specs.declared.shapes.Shape.{Shape}
+use Rattle.arrow_ipc.specs.declared.shapes.Shape.TheVariants.{Table, Members}
+use Rattle.arrow_ipc.proofs.TypeTables.{below, length_type, plain_type, list_is, large_list_is, fixed_size_list_is, struct_is}
+use Rattle.arrow_ipc.proofs.Unions.{length_union, count_ids, union_type}
 
-fields_as_columns : (fs : FieldTrees) → map column_of (field_list fs) ≡ columns_of_fields fs
-fields_as_columns no_fields = refl
-fields_as_columns (field n t b m fs) = ap (λ l. record { name = n; data_type = known t; nullable = b; metadata = m } ∷ l) (fields_as_columns fs)
+struct_type : (fs : FieldTrees) → IsType 13 (type_block None None) (map column_of (field_list fs)) (known (struct fs))
+struct_type fs = subst (λ gs. IsType 13 (type_block None None) (map column_of (field_list fs)) (known (struct gs))) (field_trees_of_list fs) (struct_is (field_list fs))
 
-struct_type : (fs : FieldTrees) → IsType 13 (type_block None None) (columns_of_fields fs) (known (struct fs))
-struct_type fs =
-    subst (λ cs. IsType 13 (type_block None None) cs (known (struct fs))) (fields_as_columns fs)
-    (subst (λ gs. IsType 13 (type_block None None) (map column_of (field_list fs)) (known (struct gs))) (field_trees_of_list fs) (struct_is (field_list fs)))
+sized_is : (f : FieldTree) (s : ℕ) (b : Bool) → nat_lt s (2 ^ 31) ≡ b → (has_table (if b then Some (Table 16 (Some s) None) else None) [] ≡ true)
+    → IsType (shape_tag (if b then Some (Table 16 (Some s) None) else None)) (shape_bytes (if b then Some (Table 16 (Some s) None) else None) []) (column_of f ∷ []) (known (fixed_size_list f.name f.tree f.nullable f.metadata (pos s)))
+sized_is f s true is sound = fixed_size_list_is f s (below s (2 ^ 31) is)
+sized_is f s false is sound = absurd (cc)
 
--- what a choice gives tells which was taken
-taken : {A : Type 0} (b : Bool) (x y : A) → (if b then Some x else None) ≡ Some y → (b ≡ true) × (Some x ≡ Some y)
-taken true x y is = (refl, is)
-taken false x y is = absurd (cc)
+-- a type that has a table
+pub table_is : (t : Tree) → has_table (shape_of t) (ids_of t) ≡ true → length (shape_bytes (shape_of t) (ids_of t)) < 2 ^ 31 → IsType (shape_tag (shape_of t)) (shape_bytes (shape_of t) (ids_of t)) (nested_columns t) (known t)
+table_is (plain p) sound small = plain_type p
+table_is (list n t b m) sound small = list_is (record { name = n; tree = t; nullable = b; metadata = m })
+table_is (large_list n t b m) sound small = large_list_is (record { name = n; tree = t; nullable = b; metadata = m })
+table_is (fixed_size_list n t b m (pos s)) sound small = sized_is (record { name = n; tree = t; nullable = b; metadata = m }) s (nat_lt s (2 ^ 31)) refl sound
+table_is (fixed_size_list n t b m (negsuc s)) sound small = absurd (cc)
+table_is (struct fs) sound small = struct_type fs
+table_is (union ms mode) sound small = union_type mode ms sound small
 
-not_taken : {A : Type 0} (b : Bool) (x : A) → (if b then Some x else None) ≡ None → b ≡ false
-not_taken true x is = absurd (cc)
-not_taken false x is = refl
+sized_size : (s : ℕ) (b : Bool) → length (shape_bytes (if b then Some (Table 16 (Some s) None) else None) []) ≤ 24
+sized_size s true = let size = length_type (Some s) None in omega (arith, size)
+sized_size s false = omega arith
 
-lower : (n m : ℕ) → nat_lt n m ≡ true → n < m
-lower n m is = grind (arith, nat_tests)
+pub table_size : (t : Tree) → length (shape_bytes (shape_of t) (ids_of t)) ≤ table_room t
+table_size (plain p) = let size = length_type (number_of p) (truth_of p) in omega (arith, size)
+table_size (list n t b m) = let size = length_type None None in omega (arith, size)
+table_size (large_list n t b m) = let size = length_type None None in omega (arith, size)
+table_size (fixed_size_list n t b m (pos s)) = sized_size s (nat_lt s (2 ^ 31))
+table_size (fixed_size_list n t b m (negsuc s)) = omega arith
+table_size (struct fs) = let size = length_type None None in omega (arith, size)
+table_size (union ms mode) = let size = length_union mode (member_ids ms) in let many = count_ids ms in omega (arith, size, many)
 
-module _ (tag : ℕ) (number : Option ℕ) (truth : Option Bool) where
-  abbrev Goal : Tree → ℕ → Option ℕ → Option Bool → Type 0
-  Goal t a n b = IsType a (type_block n b) (nested_columns t) (known t)
+pub ids_size : (t : Tree) → 36 + 4 * length (ids_of t) ≤ 12 + table_room t
+ids_size (union ms mode) = let many = count_ids ms in omega (arith, many)
+ids_size (plain p) = omega arith
+ids_size (list n t b m) = omega arith
+ids_size (large_list n t b m) = omega arith
+ids_size (fixed_size_list n t b m s) = omega arith
+ids_size (struct fs) = omega arith
 
-  moved : (t : Tree) (a : ℕ) (n : Option ℕ) (b : Option Bool) → Goal t a n b → Some (Table a n b) ≡ Some (Table tag number truth) → Goal t tag number truth
-  moved t a n b is same =
-      let one : a ≡ tag = cc (same) in
-      let two : n ≡ number = cc (same) in
-      let three : b ≡ truth = cc (same) in
-      subst (λ c. IsType tag (type_block number c) (nested_columns t) (known t)) three
-      (subst (λ m. IsType tag (type_block m b) (nested_columns t) (known t)) two (subst (λ k. IsType k (type_block n b) (nested_columns t) (known t)) one is))
+no_size : (s : ℕ) (b : Bool) → nat_lt s (2 ^ 31) ≡ b → has_table (if b then Some (Table 16 (Some s) None) else None) [] ≡ false → nat_lt s (2 ^ 31) ≡ false
+no_size s true is none = absurd (cc)
+no_size s false is none = is
 
-  pub table_type : (t : Tree) → shape_of t ≡ Some (Table tag number truth) → Goal t tag number truth
-  table_type (plain p) same = moved (plain p) _ _ _ (plain_type p) same
-  table_type (list n t b m) same = moved (list n t b m) 12 None None (list_is (record { name = n; tree = t; nullable = b; metadata = m })) same
-  table_type (large_list n t b m) same = moved (large_list n t b m) 21 None None (large_list_is (record { name = n; tree = t; nullable = b; metadata = m })) same
-  table_type (fixed_size_list n t b m (pos s)) same =
-      let two = taken (nat_lt s (2 ^ 31)) (Table 16 (Some s) None) (Table tag number truth) same in
-      moved (fixed_size_list n t b m (pos s)) 16 (Some s) None (fixed_size_list_is (record { name = n; tree = t; nullable = b; metadata = m }) s (lower s (2 ^ 31) two.0)) two.1
-  table_type (fixed_size_list n t b m (negsuc s)) same = absurd (cc)
-  table_type (struct fs) same = moved (struct fs) 13 None None (struct_type fs) same
-  table_type (union ms mode) same = absurd (cc)
-
-  pub table_size : (t : Tree) → shape_of t ≡ Some (Table tag number truth) → 24 ≤ table_room t
-  table_size (plain p) same = omega arith
-  table_size (list n t b m) same = omega arith
-  table_size (large_list n t b m) same = omega arith
-  table_size (fixed_size_list n t b m s) same = omega arith
-  table_size (struct fs) same = omega arith
-  table_size (union ms mode) same = omega arith
-
--- a type without a shape is not sound
-pub no_shape : (t : Tree) → shape_of t ≡ None → is_sound t ≡ false
-no_shape (plain p) none = absurd (cc)
-no_shape (list n t b m) none = absurd (cc)
-no_shape (large_list n t b m) none = absurd (cc)
-no_shape (fixed_size_list n t b m (pos s)) none = rw (not_taken (nat_lt s (2 ^ 31)) (Table 16 (Some s) None) none) refl
-no_shape (fixed_size_list n t b m (negsuc s)) none = refl
-no_shape (struct fs) none = absurd (cc)
-no_shape (union ms mode) none = absurd (cc)
+pub no_table : (t : Tree) → has_table (shape_of t) (ids_of t) ≡ false → is_sound t ≡ false
+no_table (fixed_size_list n t b m (pos s)) none = rw (no_size s (nat_lt s (2 ^ 31)) refl none) refl
+no_table (fixed_size_list n t b m (negsuc s)) none = refl
+no_table (union ms mode) none = rw none refl
+no_table _ none = absurd (cc)

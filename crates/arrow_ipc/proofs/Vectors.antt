@@ -2,7 +2,7 @@
 use Rattle.std.proofs.Common.{◌≡◌, ℕ, ◌+◌, ◌*◌, ◌-◌, ◌<◌, ◌≤◌, ◌++◌, ◌∷◌, [], List, length, drop, get_or, map, Vec, Global, refl, sym, ap, ◌∙◌, append_assoc, append-nil}
 use Rattle.std.proofs.lemmas.List.{length-append, length-map, drop_more, drop_all}
 use Rattle.std.specs.List.{concat}
-use Rattle.arrow_ipc.specs.Blocks.{word, rounded, padded, offsets, vector_block}
+use Rattle.arrow_ipc.specs.Blocks.{word, rounded, padded, offsets, linked}
 
 abbrev pub items : Vec ℕ Global → List ℕ
 items v = v.items
@@ -27,10 +27,6 @@ module _ (blocks : List (Vec ℕ Global)) (i : ℕ) (x : Vec ℕ Global) (lt : i
   pub lengths_more : length (concat (left blocks i)) ≡ length x.items + length (concat (left blocks (i + 1)))
   lengths_more = ap (λ bs. length (concat bs)) next ∙ length-append x.items (concat (left blocks (i + 1)))
 
-  pub blocks_more : (done new whole : List ℕ) → new ≡ done ++ x.items → done ++ concat (left blocks i) ≡ whole → new ++ concat (left blocks (i + 1)) ≡ whole
-  blocks_more done new whole made so_far =
-      ap (λ l. l ++ concat (left blocks (i + 1))) made ∙ append_assoc done x.items (concat (left blocks (i + 1))) ∙ sym (ap (λ bs. done ++ concat bs) next) ∙ so_far
-
 module _ (blocks : List (Vec ℕ Global)) (i : ℕ) (le : length blocks ≤ i) where
   none_left : left blocks i ≡ []
   none_left = ap (map items) (drop_all i blocks le)
@@ -45,9 +41,10 @@ module _ (blocks : List (Vec ℕ Global)) (i : ℕ) (le : length blocks ≤ i) w
   pub blocks_done : (done whole : List ℕ) → done ++ concat (left blocks i) ≡ whole → done ≡ whole
   blocks_done done whole so_far = sym (append-nil done) ∙ sym (ap (λ bs. done ++ concat bs) none_left) ∙ so_far
 
--- the count and the offsets, padded, before the blocks
-pub vector_begins : (blocks : List (Vec ℕ Global)) (done new : List ℕ) → done ≡ word (length blocks) ++ offsets 4 (rounded (4 + 4 * length blocks)) (left blocks 0) → new ≡ padded done → new ++ concat (left blocks 0) ≡ vector_block (left blocks 0)
-unfolding vector_block
-vector_begins blocks done new is made =
+-- the number and the offsets, with the other bytes behind them, before the blocks
+pub linked_begins : (first : ℕ) (blocks : List (Vec ℕ Global)) (rest done more new : List ℕ) → done ≡ word first ++ offsets 4 (rounded (4 + (4 * length blocks + length rest))) (left blocks 0) → more ≡ done ++ rest → new ≡ padded more
+    → new ++ concat (left blocks 0) ≡ linked first (left blocks 0) rest
+unfolding linked
+linked_begins first blocks rest done more new is joined made =
     let many : length (left blocks 0) ≡ length blocks = length-map blocks items in
-    rw (made, is, many) refl
+    rw (made, joined, is, many, append_assoc (word first) (offsets 4 (rounded (4 + (4 * length blocks + length rest))) (left blocks 0)) rest) refl

@@ -1,5 +1,5 @@
 -- Types by their tags, with their widths, units and sizes, and what counts where a slot is missing.
-use Rattle.std.specs.Prelude.{ℕ, ℤ, pos, ◌^◌, Bool, ◌||◌, List, Result, Ok, nat_lt, nat_le, ◌==◌, if◌then◌else◌}
+use Rattle.std.specs.Prelude.{ℕ, ℤ, pos, ◌^◌, Bool, ◌||◌, List, [], ◌∷◌, Option, Some, None, Result, Ok, nat_lt, nat_le, slice_get, ◌==◌, if◌then◌else◌}
 use Rattle.arrow_ipc.specs.Fault.{◌>>=◌, breaks}
 use Rattle.arrow_ipc.specs.Slots.{flag_in, u16_in, u32_in}
 use Rattle.arrow_ipc.specs.declared.fault.Fault.{Fault}
@@ -19,6 +19,16 @@ unit_in bytes table missing = do
       if unit == 2 then Ok Microsecond else
       if unit == 3 then Ok Nanosecond else breaks Parameter table
 
+-- the kind whose index is in slot 0
+abbrev pub among : ℕ → Option Kind → Result Kind Fault
+among table (Some kind) = Ok kind
+among table None = breaks Parameter table
+
+unfoldable pub choice_at : List ℕ → ℕ → ℕ → List Kind → Result Kind Fault
+choice_at bytes table missing kinds = do
+  index ← u16_in bytes table 0 missing
+  among table (slice_get kinds index)
+
 unfoldable pub int_at : List ℕ → ℕ → Result Kind Fault
 int_at bytes table = do
   width ← u32_in bytes table 0 0
@@ -27,13 +37,6 @@ int_at bytes table = do
       if width == 16 then Ok (if signed then Int16 else UInt16) else
       if width == 32 then Ok (if signed then Int32 else UInt32) else
       if width == 64 then Ok (if signed then Int64 else UInt64) else breaks Parameter table
-
-unfoldable pub float_at : List ℕ → ℕ → Result Kind Fault
-float_at bytes table = do
-  precision ← u16_in bytes table 0 0
-  if precision == 0 then Ok Float16 else
-      if precision == 1 then Ok Float32 else
-      if precision == 2 then Ok Float64 else breaks Parameter table
 
 -- a number in two's complement is one of a signed byte
 abbrev pub fits_byte : ℕ → Bool
@@ -50,11 +53,6 @@ decimal_at bytes table = do
       if width == 128 then Ok (Decimal width precision scale) else
       if width == 256 then Ok (Decimal width precision scale) else breaks Parameter table) else breaks Parameter table) else breaks Parameter table
 
-unfoldable pub date_at : List ℕ → ℕ → Result Kind Fault
-date_at bytes table = do
-  unit ← u16_in bytes table 0 1
-  if unit == 0 then Ok Date32 else if unit == 1 then Ok Date64 else breaks Parameter table
-
 abbrev pub time_width : units.Unit → ℕ
 time_width Second = 32
 time_width Millisecond = 32
@@ -67,18 +65,6 @@ time_at bytes table = do
   width ← u32_in bytes table 1 32
   if width == time_width unit then Ok (Time unit) else breaks Parameter table
 
-unfoldable pub interval_at : List ℕ → ℕ → Result Kind Fault
-interval_at bytes table = do
-  unit ← u16_in bytes table 0 0
-  if unit == 0 then Ok YearMonthInterval else
-      if unit == 1 then Ok DayTimeInterval else
-      if unit == 2 then Ok MonthDayNanoInterval else breaks Parameter table
-
-unfoldable pub union_at : List ℕ → ℕ → Result Kind Fault
-union_at bytes table = do
-  mode ← u16_in bytes table 0 0
-  if mode == 0 then Ok (Union Sparse) else if mode == 1 then Ok (Union Dense) else breaks Parameter table
-
 -- a size that is not negative
 unfoldable pub size_in : List ℕ → ℕ → Result ℤ Fault
 size_in bytes table = do
@@ -89,18 +75,18 @@ unfoldable pub kind_at : List ℕ → ℕ → ℕ → Result Kind Fault
 kind_at bytes tag table =
     if tag == 1 then Ok Null else
     if tag == 2 then int_at bytes table else
-    if tag == 3 then float_at bytes table else
+    if tag == 3 then choice_at bytes table 0 (Float16 ∷ Float32 ∷ Float64 ∷ []) else
     if tag == 4 then Ok Binary else
     if tag == 5 then Ok Utf8 else
     if tag == 6 then Ok Boolean else
     if tag == 7 then decimal_at bytes table else
-    if tag == 8 then date_at bytes table else
+    if tag == 8 then choice_at bytes table 1 (Date32 ∷ Date64 ∷ []) else
     if tag == 9 then time_at bytes table else
     if tag == 10 then (unit_in bytes table 0 >>= λ unit. Ok (Timestamp unit)) else
-    if tag == 11 then interval_at bytes table else
+    if tag == 11 then choice_at bytes table 0 (YearMonthInterval ∷ DayTimeInterval ∷ MonthDayNanoInterval ∷ []) else
     if tag == 12 then Ok (ListOf Small) else
     if tag == 13 then Ok Struct else
-    if tag == 14 then union_at bytes table else
+    if tag == 14 then choice_at bytes table 0 (Union Sparse ∷ Union Dense ∷ []) else
     if tag == 15 then (size_in bytes table >>= λ size. Ok (FixedSizeBinary size)) else
     if tag == 16 then (size_in bytes table >>= λ size. Ok (ListOf (Fixed size))) else
     if tag == 17 then Ok Map else

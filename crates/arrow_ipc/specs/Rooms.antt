@@ -6,23 +6,13 @@ use Rattle.arrow_values.specs.Union.{has}
 use Rattle.arrow_columns.specs.Column.{TypeTree, known, other, ColumnTree}
 use Rattle.arrow_ipc.specs.Schema.{SchemaTree}
 use Rattle.arrow_ipc.specs.Blocks.{Holds, column_in, child_in}
-use Rattle.arrow_ipc.specs.Shapes.{member_ids, nested_columns}
+use Rattle.arrow_ipc.specs.Shapes.{member_ids, are_ids, nested_columns}
 use Rattle.arrow_ipc.specs.declared.blocks.Refusal.{Refusal}
 use Rattle.arrow_ipc.specs.declared.blocks.Refusal.TheVariants.{Unfit, TooLarge, OutOfMemory}
 
 abbrev pub is_size : ℤ → Bool
 is_size (pos n) = nat_lt n (2 ^ 31)
 is_size (negsuc n) = false
-
--- a type id is 0 to 127
-abbrev pub is_id : ℤ → Bool
-is_id (pos n) = nat_lt n 128
-is_id (negsuc n) = false
-
--- the type ids of a union, each of which is none of those before
-abbrev pub are_ids : List ℤ → List ℤ → Bool
-are_ids before [] = true
-are_ids before (i ∷ is) = is_id i && not (has i before) && are_ids (before ++ i ∷ []) is
 
 -- the sizes of lists are not negative, and the type ids of unions are ones that the format has
 abbrev mutual
@@ -106,12 +96,9 @@ Refuses Unfit unfit room = unfit
 Refuses TooLarge unfit room = 2 ^ 31 ≤ room
 Refuses OutOfMemory unfit room = Unit {0}
 
--- a type that no message can hold where so many levels are left for what nests it, and for what it nests
+-- a type that no message can hold where so many levels are left
 abbrev pub IsUnfit : ℕ → Tree → Type 0
 IsUnfit levels t = (is_sound t ≡ false) ⊎ (levels ≤ depth t)
-
-abbrev pub NestsUnfit : ℕ → Tree → Type 0
-NestsUnfit levels t = (is_sound t ≡ false) ⊎ (levels < depth t)
 
 -- columns of which one is unfit
 abbrev pub IsUnfitType : ℕ → TypeTree → Type 0

@@ -1,5 +1,5 @@
 -- The schema of a message, and what stands around messages.
-use Rattle.std.specs.Prelude.{◌≡◌, ℕ, ◌+◌, ◌-◌, ◌*◌, ◌≤◌, Bool, ◌&&◌, not, List, [], ◌∷◌, length, take, drop, map, Result, Ok, Err, nat_lt, nat_le, ◌==◌, if◌then◌else◌, codes}
+use Rattle.std.specs.Prelude.{◌≡◌, ℕ, ◌+◌, ◌-◌, ◌*◌, ◌≤◌, Bool, ◌&&◌, List, [], ◌∷◌, length, take, drop, map, Result, Ok, Err, nat_lt, nat_le, ◌==◌, if◌then◌else◌, codes}
 use Rattle.std.specs.Str.{bytes_eq}
 use Rattle.std.specs.Int.{w32, from_le_bytes}
 use Rattle.arrow_values.specs.Tree.{Metadata}
@@ -44,24 +44,19 @@ schema_at levels bytes table = do
   ms ← texts_at bytes h.texts
   Ok (record { columns = cs.0; metadata = ms.0; endianness = h.endianness }, cs.1 + ms.1)
 
--- a message's body has a length of eight bytes, in slot 3; none where it is missing
-unfoldable pub has_body : List ℕ → ℕ → Result Bool Fault
-has_body bytes table = do
-  size ← u64_in bytes table 3
-  Ok (not (size == 0))
-
 -- version 4 is written 3, version 5 is written 4
 abbrev pub is_version : ℕ → Bool
 is_version version = nat_le 3 version && nat_le version 4
 
--- the schema's table in a message: slot 0 its version, 1 and 2 the header's tag, 1 for a schema, and table
+-- the schema's table in a message: slot 0 its version, 1 and 2 the header's tag, 1 for a schema, and table; slot 3 the length of its
+-- body, which is 0
 unfoldable pub message_at : List ℕ → Result ℕ Fault
 message_at bytes = do
   message ← target_at bytes 0
   version ← u16_in bytes message 0 0
   tag ← u8_in bytes message 1 0
-  body ← has_body bytes message
-  if is_version version && (tag == 1) && not body then table_in bytes message 2 else breaks Message message
+  body ← u64_in bytes message 3
+  if is_version version && (tag == 1) && (body == 0) then table_in bytes message 2 else breaks Message message
 
 -- the schema's table in a footer: slot 0 its version, 1 the schema
 unfoldable pub footer_at : List ℕ → Result ℕ Fault

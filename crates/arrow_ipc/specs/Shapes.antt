@@ -1,7 +1,10 @@
 -- The tags of types, and the number and the truth value that the table of a type has.
-use Rattle.std.specs.Prelude.{ℕ, ℤ, pos, negsuc, Bool, true, false, List, [], ◌∷◌, Option, Some, None, ◌^◌, nat_lt, if◌then◌else◌}
+use Rattle.std.specs.Prelude.{ℕ, ℤ, pos, negsuc, Bool, true, false, ◌&&◌, not, List, [], ◌∷◌, ◌++◌, map, Option, Some, None, ◌^◌, nat_lt, if◌then◌else◌}
 use Rattle.arrow_values.specs.Tree.{null, boolean, int8, int16, int32, int64, uint8, uint16, uint32, uint64, float16, float32, float64, date32, date64, binary, large_binary, binary_view, utf8, large_utf8, utf8_view, Plain, Tree, plain, list, large_list, fixed_size_list, struct, union, FieldTrees, no_fields, field, MemberTrees, no_members, member, FieldTree}
+use Rattle.arrow_values.specs.View.{field_list}
 use Rattle.arrow_columns.specs.Column.{known, ColumnTree}
+use Rattle.arrow_values.specs.Union.{has}
+use Rattle.arrow_ipc.specs.Blocks.{type_block, union_block}
 use Rattle.arrow_ipc.specs.declared.shapes.Shape.{Shape}
 use Rattle.arrow_ipc.specs.declared.shapes.Shape.TheVariants.{Table, Members}
 
@@ -59,9 +62,6 @@ truth_of _ = None
 abbrev pub column_of : FieldTree → ColumnTree
 column_of f = record { name = f.name; data_type = known f.tree; nullable = f.nullable; metadata = f.metadata }
 
-abbrev pub column_of_member : ℤ × FieldTree → ColumnTree
-column_of_member m = column_of m.1
-
 -- a list of a size that is not negative
 abbrev pub sized_shape : ℤ → Option Shape
 sized_shape (pos n) = if nat_lt n (2 ^ 31) then Some (Table 16 (Some n) None) else None
@@ -76,22 +76,21 @@ shape_of (fixed_size_list n t b m s) = sized_shape s
 shape_of (struct fs) = Some (Table 13 None None)
 shape_of (union ms mode) = Some (Members mode)
 
--- the columns that a type nests
-abbrev pub columns_of_fields : FieldTrees → List ColumnTree
-columns_of_fields no_fields = []
-columns_of_fields (field n t b m fs) = record { name = n; data_type = known t; nullable = b; metadata = m } ∷ columns_of_fields fs
+-- the fields that a type nests, and the same as columns
+abbrev pub member_fields : MemberTrees → List FieldTree
+member_fields no_members = []
+member_fields (member i n t b m ms) = record { name = n; tree = t; nullable = b; metadata = m } ∷ member_fields ms
 
-abbrev pub columns_of_members : MemberTrees → List ColumnTree
-columns_of_members no_members = []
-columns_of_members (member i n t b m ms) = record { name = n; data_type = known t; nullable = b; metadata = m } ∷ columns_of_members ms
+abbrev pub nested_fields : Tree → List FieldTree
+nested_fields (plain p) = []
+nested_fields (list n t b m) = record { name = n; tree = t; nullable = b; metadata = m } ∷ []
+nested_fields (large_list n t b m) = record { name = n; tree = t; nullable = b; metadata = m } ∷ []
+nested_fields (fixed_size_list n t b m s) = record { name = n; tree = t; nullable = b; metadata = m } ∷ []
+nested_fields (struct fs) = field_list fs
+nested_fields (union ms mode) = member_fields ms
 
 abbrev pub nested_columns : Tree → List ColumnTree
-nested_columns (plain p) = []
-nested_columns (list n t b m) = record { name = n; data_type = known t; nullable = b; metadata = m } ∷ []
-nested_columns (large_list n t b m) = record { name = n; data_type = known t; nullable = b; metadata = m } ∷ []
-nested_columns (fixed_size_list n t b m s) = record { name = n; data_type = known t; nullable = b; metadata = m } ∷ []
-nested_columns (struct fs) = columns_of_fields fs
-nested_columns (union ms mode) = columns_of_members ms
+nested_columns t = map column_of (nested_fields t)
 
 abbrev pub member_ids : MemberTrees → List ℤ
 member_ids no_members = []
@@ -101,3 +100,28 @@ member_ids (member i n t b m ms) = i ∷ member_ids ms
 abbrev pub ids_of : Tree → List ℤ
 ids_of (union ms mode) = member_ids ms
 ids_of _ = []
+
+-- a type id is 0 to 127
+abbrev pub is_id : ℤ → Bool
+is_id (pos n) = nat_lt n 128
+is_id (negsuc n) = false
+
+-- the type ids of a union, each of which is none of those before
+abbrev pub are_ids : List ℤ → List ℤ → Bool
+are_ids before [] = true
+are_ids before (i ∷ is) = is_id i && not (has i before) && are_ids (before ++ i ∷ []) is
+
+-- a type's table, and whether the type has one, whatever it nests
+abbrev pub shape_tag : Option Shape → ℕ
+shape_tag (Some (Table tag n b)) = tag
+shape_tag _ = 14
+
+abbrev pub shape_bytes : Option Shape → List ℤ → List ℕ
+shape_bytes (Some (Table tag n b)) ids = type_block n b
+shape_bytes (Some (Members mode)) ids = union_block mode ids
+shape_bytes None ids = []
+
+abbrev pub has_table : Option Shape → List ℤ → Bool
+has_table (Some (Table tag n b)) ids = true
+has_table (Some (Members mode)) ids = are_ids [] ids
+has_table None ids = false

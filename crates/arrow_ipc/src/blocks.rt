@@ -1,9 +1,7 @@
 //! Blocks of which a message is made, each of a length that is a multiple of eight.
-ghost use Rattle.std.specs.Prelude.{◌≡◌, ◌+◌, ◌^◌, ◌<◌, ◌≤◌, ◌++◌, ◌∷◌, [], length, IfOk, IfErr, OnOk, map};
-ghost use Rattle.std.specs.List.{concat};
+ghost use Rattle.std.specs.Prelude.{◌≡◌, ◌+◌, ◌*◌, ◌^◌, ◌<◌, ◌≤◌, ◌++◌, ◌∷◌, [], length, IfOk, IfErr, OnOk, map};
 ghost use Rattle.arrow_values.specs.View.{texts_of};
-ghost use Rattle.arrow_ipc.specs.Wire.{utf8_at};
-ghost use Rattle.arrow_ipc.specs.Blocks.{Stands, Holds, word, padded, offsets, vector_block, entry_read, texts_read, type_block, IsColumnBlock};
+ghost use Rattle.arrow_ipc.specs.Blocks.{Holds, word, padded, linked, vector_block, table_size, table_block, text_read, entry_read, texts_read, type_block, IsColumnBlock};
 ghost use Rattle.arrow_ipc.specs.Rooms.{Refuses, texts_room};
 
 use std::alloc::{AllocError, AllocFailed, Global};
@@ -48,7 +46,7 @@ pub(crate) fn put_word(bytes: &mut Vec<u8>, number: u32) -> Result<(), AllocErro
 
 /// Puts zeros up to a multiple of eight.
 #[tactic(auto, unfolding(crate::specs::Blocks::padded))]
-pub(crate) fn pad(bytes: &mut Vec<u8>) -> Result<(), AllocError>
+fn pad(bytes: &mut Vec<u8>) -> Result<(), AllocError>
     requires { length bytes.old.items < 2 ^ 40 }
     ensures { OnOk result (bytes.new.items ≡ padded bytes.old.items) }
 {
@@ -58,10 +56,8 @@ pub(crate) fn pad(bytes: &mut Vec<u8>) -> Result<(), AllocError>
 
 /// A text, with a NUL behind it.
 fn text_block(alloc: Global, text: &str) -> Result<Vec<u8>, Refusal>
-    ensures stands { IfOk result (λ b. Stands utf8_at b.items text.now) }
-    ensures least { IfOk result (λ b. length text.now ≤ length b.items) }
+    ensures holds { IfOk result (λ b. Holds text_read b.items text.now) }
     ensures most { IfOk result (λ b. length b.items ≤ 12 + length text.now) }
-    ensures small { IfOk result (λ b. length b.items < 2 ^ 32) }
     ensures err { IfErr result (λ e. Refuses e ⊥ (length text.now)) }
 {
     if text.len() >= 0x8000_0000 {
@@ -75,31 +71,80 @@ fn text_block(alloc: Global, text: &str) -> Result<Vec<u8>, Refusal>
     Ok(block)
 }
 
+/// A number, offsets to blocks, and other bytes, with the blocks behind them.
+pub(crate) fn linked_block(
+    alloc: Global,
+    first: u32,
+    blocks: &[Vec<u8>],
+    rest: &[u8],
+) -> Result<Vec<u8>, Refusal>
+    ensures is { IfOk result (λ b. b.items ≡ linked first (map (λ v. v.items) blocks.now) rest.now) }
+    ensures small { IfOk result (λ b. length b.items < 2 ^ 31) }
+    ensures err { IfErr result (λ e. Refuses e ⊥ (length (linked first (map (λ v. v.items) blocks.now) rest.now))) }
+{
+    if blocks.len() >= 0x2000_0000 || rest.len() >= 0x8000_0000 {
+        return Err(Refusal::TooLarge);
+    }
+    let mut end = (4 + (4 * blocks.len() + rest.len()) + 7) / 8 * 8;
+    let mut block = Vec::with_capacity(alloc, end)?;
+    put_word(&mut block, first)?;
+    'offsets: for one in blocks {
+        if end >= 0x8000_0000 {
+            return Err(Refusal::TooLarge);
+        }
+        let at = block.len();
+        put_word(&mut block, (end - at) as u32)?;
+        end += one.len();
+    }
+    if end >= 0x8000_0000 {
+        return Err(Refusal::TooLarge);
+    }
+    block.extend_from_slice(rest)?;
+    pad(&mut block)?;
+    'bodies: for piece in blocks {
+        block.extend_from_slice(piece.as_slice())?;
+    }
+    Ok(block)
+}
+
+/// A table: how far each of its slots is from its begin, 0 where it is missing; its numbers; and the blocks to which its offsets lead,
+/// which stand before its numbers.
+pub(crate) fn table_block(
+    alloc: Global,
+    slots: &[u8],
+    numbers: &[u8],
+    blocks: &[Vec<u8>],
+) -> Result<Vec<u8>, Refusal>
+    requires { table_size (map (λ v. v.items) blocks.now) numbers.now + 2 * length slots.now < 100 }
+    ensures is { IfOk result (λ b. b.items ≡ table_block slots.now numbers.now (map (λ v. v.items) blocks.now)) }
+    ensures small { IfOk result (λ b. length b.items < 2 ^ 31) }
+    ensures err { IfErr result (λ e. Refuses e ⊥ (length (table_block slots.now numbers.now (map (λ v. v.items) blocks.now)))) }
+{
+    let size = 4 + (4 * blocks.len() + numbers.len());
+    let mut rest = Vec::with_capacity(alloc, numbers.len() + 4 + 2 * slots.len())?;
+    rest.extend_from_slice(numbers)?;
+    rest.extend_from_slice(&[4 + 2 * slots.len() as u8, 0, size as u8, 0])?;
+    'slots: for slot in slots {
+        rest.extend_from_slice(&[*slot, 0])?;
+    }
+    linked_block(
+        alloc,
+        (0x1_0000_0000 - size) as u32,
+        blocks,
+        rest.as_slice(),
+    )
+}
+
 /// A vector of tables, with their blocks behind it.
 pub(crate) fn vector_block(alloc: Global, blocks: &[Vec<u8>]) -> Result<Vec<u8>, Refusal>
     ensures is { IfOk result (λ b. b.items ≡ vector_block (map (λ v. v.items) blocks.now)) }
     ensures small { IfOk result (λ b. length b.items < 2 ^ 31) }
     ensures err { IfErr result (λ e. Refuses e ⊥ (length (vector_block (map (λ v. v.items) blocks.now)))) }
 {
-    if blocks.len() >= 0x1fff_fffe {
+    if blocks.len() >= 0x2000_0000 {
         return Err(Refusal::TooLarge);
     }
-    let mut block = Vec::new(alloc);
-    put_word(&mut block, blocks.len() as u32)?;
-    let mut table = (4 + 4 * blocks.len() + 7) / 8 * 8;
-    'offsets: for one in blocks {
-        let at = block.len();
-        put_word(&mut block, (table - at) as u32)?;
-        table += one.len();
-        if table >= 0x8000_0000 {
-            return Err(Refusal::TooLarge);
-        }
-    }
-    pad(&mut block)?;
-    'bodies: for piece in blocks {
-        block.extend_from_slice(piece.as_slice())?;
-    }
-    Ok(block)
+    linked_block(alloc, blocks.len() as u32, blocks, &[])
 }
 
 /// An entry of metadata.
@@ -110,16 +155,7 @@ fn entry_block(alloc: Global, key: &str, text: &str) -> Result<Vec<u8>, Refusal>
 {
     let first = text_block(alloc, key)?;
     let second = text_block(alloc, text)?;
-    if first.len() + second.len() >= 0x7fff_ffe8 {
-        return Err(Refusal::TooLarge);
-    }
-    let mut block = Vec::new(alloc);
-    block.extend_from_slice(&[244, 255, 255, 255, 20, 0, 0, 0])?;
-    put_word(&mut block, 16 + first.len() as u32)?;
-    block.extend_from_slice(&[8, 0, 12, 0, 4, 0, 8, 0, 0, 0, 0, 0])?;
-    block.extend_from_slice(first.as_slice())?;
-    block.extend_from_slice(second.as_slice())?;
-    Ok(block)
+    table_block(alloc, &[4, 8], &[], &[first, second])
 }
 
 /// Metadata.
@@ -129,7 +165,6 @@ pub(crate) fn texts_block(
 ) -> Result<Vec<u8>, Refusal>
     ensures holds { IfOk result (λ b. Holds texts_read b.items (texts_of texts.now.entries)) }
     ensures most { IfOk result (λ b. length b.items ≤ texts_room (texts_of texts.now.entries)) }
-    ensures small { IfOk result (λ b. length b.items < 2 ^ 31) }
     ensures err { IfErr result (λ e. Refuses e ⊥ (texts_room (texts_of texts.now.entries))) }
 {
     let mut blocks = Vec::new(alloc);
@@ -140,13 +175,14 @@ pub(crate) fn texts_block(
 }
 
 /// A type's table, with a number and a truth value of its own.
-#[tactic(auto, unfolding(crate::specs::Blocks::type_block))]
 pub(crate) fn type_block(
     alloc: Global,
     number: Option<u32>,
     truth: Option<bool>,
-) -> Result<Vec<u8>, AllocError>
-    ensures { IfOk result (λ b. b.items ≡ type_block number truth) }
+) -> Result<Vec<u8>, Refusal>
+    ensures is { IfOk result (λ b. b.items ≡ type_block number truth) }
+    ensures small { IfOk result (λ b. length b.items < 2 ^ 31) }
+    ensures err { IfErr result (λ e. Refuses e ⊥ 24) }
 {
     let (number_place, number) = match number {
         Some(number) => (4, number),
@@ -156,51 +192,35 @@ pub(crate) fn type_block(
         Some(truth) => (8, truth as u8),
         None => (0, 0),
     };
-    let mut block = Vec::new(alloc);
-    block.extend_from_slice(&[244, 255, 255, 255])?;
-    put_word(&mut block, number)?;
-    block.extend_from_slice(&[truth, 0, 0, 0, 8, 0, 12, 0])?;
-    block.extend_from_slice(&[number_place, 0, truth_place, 0, 0, 0, 0, 0])?;
-    Ok(block)
+    let mut numbers = Vec::with_capacity(alloc, 8)?;
+    put_word(&mut numbers, number)?;
+    numbers.extend_from_slice(&[truth, 0, 0, 0])?;
+    table_block(alloc, &[number_place, truth_place], numbers.as_slice(), &[])
 }
 
 /// A column, with the blocks of its type and its children.
-#[derive(Clone, Copy)]
+#[derive(Drop)]
 pub(crate) struct ColumnParts<'a> {
     pub(crate) name: &'a str,
     pub(crate) nullable: bool,
     pub(crate) tag: u8,
-    pub(crate) table: &'a [u8],
-    pub(crate) children: &'a [u8],
+    pub(crate) table: Vec<u8>,
+    pub(crate) children: Vec<u8>,
     pub(crate) texts: &'a BTreeMap<String, String>,
 }
 
 /// A column, with the blocks of its type and its children.
 pub(crate) fn column_block(alloc: Global, parts: ColumnParts<'_>) -> Result<Vec<u8>, Refusal>
-    requires { length parts.table.now + length parts.children.now < 2 ^ 40 }
-    ensures holds { IfOk result (λ b. IsColumnBlock parts.entry.tag parts.entry.table.now parts.entry.children.now parts.entry.name.now parts.entry.nullable (texts_of parts.entry.texts.now.entries) b.items) }
-    ensures most { IfOk result (λ b. length b.items ≤ 60 + length parts.entry.name.now + (length parts.entry.table.now + length parts.entry.children.now) + texts_room (texts_of parts.entry.texts.now.entries)) }
-    ensures err { IfErr result (λ e. Refuses e ⊥ (60 + length parts.entry.name.now + (length parts.entry.table.now + length parts.entry.children.now) + texts_room (texts_of parts.entry.texts.now.entries))) }
+    ensures holds { IfOk result (λ b. IsColumnBlock parts.entry.tag parts.entry.table.items parts.entry.children.items parts.entry.name.now parts.entry.nullable (texts_of parts.entry.texts.now.entries) b.items) }
+    ensures most { IfOk result (λ b. length b.items ≤ 60 + length parts.entry.name.now + (length parts.entry.table.items + length parts.entry.children.items) + texts_room (texts_of parts.entry.texts.now.entries)) }
+    ensures err { IfErr result (λ e. Refuses e ⊥ (60 + length parts.entry.name.now + (length parts.entry.table.items + length parts.entry.children.items) + texts_room (texts_of parts.entry.texts.now.entries))) }
 {
     let name = text_block(alloc, parts.name)?;
     let texts = texts_block(alloc, parts.texts)?;
-    let type_end = name.len() + parts.table.len();
-    let children_end = type_end + parts.children.len();
-    if children_end + texts.len() >= 0x7fff_ffd0 {
-        return Err(Refusal::TooLarge);
-    }
-    let mut block = Vec::new(alloc);
-    block.extend_from_slice(&[232, 255, 255, 255, 44, 0, 0, 0])?;
-    put_word(&mut block, 40 + name.len() as u32)?;
-    put_word(&mut block, 36 + type_end as u32)?;
-    put_word(&mut block, 32 + children_end as u32)?;
-    block.extend_from_slice(&[parts.nullable as u8, parts.tag, 0, 0, 18, 0, 24, 0])?;
-    block.extend_from_slice(&[
-        4, 0, 20, 0, 21, 0, 8, 0, 0, 0, 12, 0, 16, 0, 0, 0, 0, 0, 0, 0,
-    ])?;
-    block.extend_from_slice(name.as_slice())?;
-    block.extend_from_slice(parts.table)?;
-    block.extend_from_slice(parts.children)?;
-    block.extend_from_slice(texts.as_slice())?;
-    Ok(block)
+    table_block(
+        alloc,
+        &[4, 20, 21, 8, 0, 12, 16],
+        &[parts.nullable as u8, parts.tag, 0, 0],
+        &[name, parts.table, parts.children, texts],
+    )
 }

@@ -1,7 +1,7 @@
 //! Types by their tags, with their widths, units and sizes.
 ghost use Rattle.std.specs.Prelude.{◌≡◌};
 ghost use Rattle.arrow_ipc.specs.Wire.{IsOpen};
-ghost use Rattle.arrow_ipc.specs.Kinds.{unit_in, int_at, float_at, fits_byte, decimal_at, date_at, time_width, time_at, interval_at, union_at, size_in, kind_at};
+ghost use Rattle.arrow_ipc.specs.Kinds.{unit_in, choice_at, int_at, fits_byte, decimal_at, time_width, time_at, size_in, kind_at};
 
 use crate::fault::{Fault, Rule};
 use crate::slots::{flag_in, u16_in, u32_in};
@@ -75,6 +75,19 @@ fn unit_in(bytes: &[u8], table: &Table, missing: u16) -> Result<Unit, Fault>
     }
 }
 
+/// The kind whose index is in slot 0.
+#[tactic(auto, unfolding(crate::specs::Kinds::choice_at))]
+fn choice_at(bytes: &[u8], table: &Table, missing: u16, kinds: &[Kind]) -> Result<Kind, Fault>
+    requires { IsOpen bytes.now table.now }
+    ensures { result ≡ choice_at bytes.now table.now.at missing kinds.now }
+{
+    let index = u16_in(bytes, table, 0, missing)?;
+    match kinds.get(index as usize) {
+        Some(kind) => Ok(*kind),
+        None => Err(Fault::new(Rule::Parameter, table.at)),
+    }
+}
+
 /// An integer by its width and sign.
 #[tactic(auto, unfolding(crate::specs::Kinds::int_at))]
 pub(crate) fn int_at(bytes: &[u8], table: &Table) -> Result<Kind, Fault>
@@ -92,20 +105,6 @@ pub(crate) fn int_at(bytes: &[u8], table: &Table) -> Result<Kind, Fault>
         (32, false) => Ok(Kind::UInt32),
         (64, true) => Ok(Kind::Int64),
         (64, false) => Ok(Kind::UInt64),
-        _ => Err(Fault::new(Rule::Parameter, table.at)),
-    }
-}
-
-/// A float by its precision.
-#[tactic(auto, unfolding(crate::specs::Kinds::float_at))]
-fn float_at(bytes: &[u8], table: &Table) -> Result<Kind, Fault>
-    requires { IsOpen bytes.now table.now }
-    ensures { result ≡ float_at bytes.now table.now.at }
-{
-    match u16_in(bytes, table, 0, 0)? {
-        0 => Ok(Kind::Float16),
-        1 => Ok(Kind::Float32),
-        2 => Ok(Kind::Float64),
         _ => Err(Fault::new(Rule::Parameter, table.at)),
     }
 }
@@ -135,19 +134,6 @@ fn decimal_at(bytes: &[u8], table: &Table) -> Result<Kind, Fault>
     }
 }
 
-/// A date by its unit.
-#[tactic(auto, unfolding(crate::specs::Kinds::date_at))]
-fn date_at(bytes: &[u8], table: &Table) -> Result<Kind, Fault>
-    requires { IsOpen bytes.now table.now }
-    ensures { result ≡ date_at bytes.now table.now.at }
-{
-    match u16_in(bytes, table, 0, 1)? {
-        0 => Ok(Kind::Date32),
-        1 => Ok(Kind::Date64),
-        _ => Err(Fault::new(Rule::Parameter, table.at)),
-    }
-}
-
 /// How many bits a time of day of that unit has.
 pub(crate) fn time_width(unit: Unit) -> u32
     ensures { result ≡ time_width unit }
@@ -170,33 +156,6 @@ fn time_at(bytes: &[u8], table: &Table) -> Result<Kind, Fault>
         Ok(Kind::Time(unit))
     } else {
         Err(Fault::new(Rule::Parameter, table.at))
-    }
-}
-
-/// An interval by its unit.
-#[tactic(auto, unfolding(crate::specs::Kinds::interval_at))]
-fn interval_at(bytes: &[u8], table: &Table) -> Result<Kind, Fault>
-    requires { IsOpen bytes.now table.now }
-    ensures { result ≡ interval_at bytes.now table.now.at }
-{
-    match u16_in(bytes, table, 0, 0)? {
-        0 => Ok(Kind::YearMonthInterval),
-        1 => Ok(Kind::DayTimeInterval),
-        2 => Ok(Kind::MonthDayNanoInterval),
-        _ => Err(Fault::new(Rule::Parameter, table.at)),
-    }
-}
-
-/// A union by its mode.
-#[tactic(auto, unfolding(crate::specs::Kinds::union_at))]
-fn union_at(bytes: &[u8], table: &Table) -> Result<Kind, Fault>
-    requires { IsOpen bytes.now table.now }
-    ensures { result ≡ union_at bytes.now table.now.at }
-{
-    match u16_in(bytes, table, 0, 0)? {
-        0 => Ok(Kind::Union(UnionMode::Sparse)),
-        1 => Ok(Kind::Union(UnionMode::Dense)),
-        _ => Err(Fault::new(Rule::Parameter, table.at)),
     }
 }
 
@@ -223,18 +182,36 @@ pub(crate) fn kind_at(bytes: &[u8], tag: u8, table: &Table) -> Result<Kind, Faul
     match tag {
         1 => Ok(Kind::Null),
         2 => int_at(bytes, table),
-        3 => float_at(bytes, table),
+        3 => choice_at(
+            bytes,
+            table,
+            0,
+            &[Kind::Float16, Kind::Float32, Kind::Float64],
+        ),
         4 => Ok(Kind::Binary),
         5 => Ok(Kind::Utf8),
         6 => Ok(Kind::Boolean),
         7 => decimal_at(bytes, table),
-        8 => date_at(bytes, table),
+        8 => choice_at(bytes, table, 1, &[Kind::Date32, Kind::Date64]),
         9 => time_at(bytes, table),
         10 => Ok(Kind::Timestamp(unit_in(bytes, table, 0)?)),
-        11 => interval_at(bytes, table),
+        11 => {
+            let kinds = [
+                Kind::YearMonthInterval,
+                Kind::DayTimeInterval,
+                Kind::MonthDayNanoInterval,
+            ];
+            choice_at(bytes, table, 0, &kinds)
+        }
         12 => Ok(Kind::List(ListForm::Small)),
         13 => Ok(Kind::Struct),
-        14 => union_at(bytes, table),
+        14 => {
+            let kinds = [
+                Kind::Union(UnionMode::Sparse),
+                Kind::Union(UnionMode::Dense),
+            ];
+            choice_at(bytes, table, 0, &kinds)
+        }
         15 => Ok(Kind::FixedSizeBinary(size_in(bytes, table)?)),
         16 => Ok(Kind::List(ListForm::Fixed(size_in(bytes, table)?))),
         17 => Ok(Kind::Map),

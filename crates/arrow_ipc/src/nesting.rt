@@ -5,13 +5,13 @@ ghost use Rattle.arrow_columns.specs.Column.{known, column_tree};
 ghost use Rattle.arrow_ipc.specs.Schema.{schema_tree};
 ghost use Rattle.arrow_ipc.specs.Denotes.{IsStreamOf};
 ghost use Rattle.arrow_ipc.specs.Blocks.{Holds, child_in, vector_block};
-ghost use Rattle.arrow_ipc.specs.Shapes.{column_of, column_of_member, nested_columns};
-ghost use Rattle.arrow_ipc.specs.Rooms.{Refuses, IsUnfit, NestsUnfit, AreUnfit, HoldsEach, IsNesting, is_sound, table_room, column_room, nested_room, field_room, columns_room, texts_room};
+ghost use Rattle.arrow_ipc.specs.Shapes.{column_of, nested_fields};
+ghost use Rattle.arrow_ipc.specs.Rooms.{Refuses, IsUnfit, AreUnfit, HoldsEach, IsNesting, is_sound, table_room, column_room, nested_room, field_room, columns_room, texts_room};
 
 use crate::blocks::{ColumnParts, Refusal, column_block, vector_block};
-use crate::type_tables::table_block;
-use arrow_values::{DataType, Field, Fields, UnionFields};
-use std::alloc::Global;
+use crate::type_tables::type_table;
+use arrow_values::{DataType, Field};
+use std::alloc::{AllocError, Global};
 use std::collections::BTreeMap;
 
 /// A column, with the blocks of the columns that its type nests.
@@ -28,16 +28,42 @@ fn finish_block(
     ensures err { IfErr result (λ e. Refuses e (is_sound (tree data_type.now) ≡ false) (60 + length name.now + (table_room (tree data_type.now) + length (vector_block (map (λ v. v.items) blocks.now))) + texts_room (texts_of texts.now.entries))) }
 {
     let children = vector_block(alloc, blocks)?;
-    let typed = table_block(alloc, data_type)?;
+    let typed = type_table(alloc, data_type)?;
     let parts = ColumnParts {
         name,
         nullable,
         tag: typed.0,
-        table: typed.1.as_slice(),
-        children: children.as_slice(),
+        table: typed.1,
+        children,
         texts,
     };
     column_block(alloc, parts)
+}
+
+/// The fields that a type nests.
+fn nested_fields<'a>(alloc: Global, data_type: &'a DataType) -> Result<Vec<&'a Field>, AllocError>
+    ensures { IfOk result (λ fs. map (λ f. f.now) fs.items ≡ nested_fields (tree data_type.now)) }
+{
+    let mut nested = Vec::new(alloc);
+    match data_type {
+        DataType::List(field) | DataType::LargeList(field) | DataType::FixedSizeList(field, _) => {
+            nested.push(&**field)?;
+            Ok(nested)
+        }
+        DataType::Struct(fields) => {
+            for field in fields.as_slice() {
+                nested.push(field)?;
+            }
+            Ok(nested)
+        }
+        DataType::Union(members, _mode) => {
+            for member in members.as_slice() {
+                nested.push(&member.1)?;
+            }
+            Ok(nested)
+        }
+        _ => Ok(nested),
+    }
 }
 
 /// A column of a data type, with so many levels for itself and what it nests.
@@ -57,7 +83,8 @@ pub(crate) fn data_block(
     if levels == 0 {
         return Err(Refusal::Unfit);
     }
-    let blocks = nested_blocks(alloc, data_type, levels - 1)?;
+    let fields = nested_fields(alloc, data_type)?;
+    let blocks = field_blocks(alloc, fields.as_slice(), levels - 1)?;
     finish_block(alloc, name, nullable, data_type, texts, blocks.as_slice())
 }
 
@@ -80,61 +107,13 @@ fn field_block(alloc: Global, field: &Field, levels: usize) -> Result<Vec<u8>, R
 
 /// The columns that a type nests.
 #[cycle(write)]
-fn nested_blocks(
-    alloc: Global,
-    data_type: &DataType,
-    levels: usize,
-) -> Result<Vec<Vec<u8>>, Refusal>
-    ensures each { IfOk result (λ bs. HoldsEach levels (map (λ v. v.items) bs.items) (nested_columns (tree data_type.now)) (nested_room (tree data_type.now))) }
-    ensures err { IfErr result (λ e. Refuses e (NestsUnfit levels (tree data_type.now)) (nested_room (tree data_type.now))) }
-{
-    match data_type {
-        DataType::List(field) => one_block(alloc, field, levels),
-        DataType::LargeList(field) => one_block(alloc, field, levels),
-        DataType::FixedSizeList(field, _) => one_block(alloc, field, levels),
-        DataType::Struct(fields) => fields_blocks(alloc, fields, levels),
-        DataType::Union(members, _mode) => members_blocks(alloc, members, levels),
-        _ => Ok(Vec::new(alloc)),
-    }
-}
-
-/// The column that a list nests.
-#[cycle(write)]
-fn one_block(alloc: Global, field: &Field, levels: usize) -> Result<Vec<Vec<u8>>, Refusal>
-    ensures each { IfOk result (λ bs. HoldsEach levels (map (λ v. v.items) bs.items) (column_of field.now ∷ []) (16 + field_room field.now)) }
-    ensures err { IfErr result (λ e. Refuses e (IsUnfit levels field.now.tree) (16 + field_room field.now)) }
+fn field_blocks(alloc: Global, fields: &[&Field], levels: usize) -> Result<Vec<Vec<u8>>, Refusal>
+    ensures each { IfOk result (λ bs. HoldsEach levels (map (λ v. v.items) bs.items) (map (λ f. column_of f.now) fields.now) (columns_room (map (λ f. column_of f.now) fields.now))) }
+    ensures err { IfErr result (λ e. Refuses e (AreUnfit levels (map (λ f. column_of f.now) fields.now)) (columns_room (map (λ f. column_of f.now) fields.now))) }
 {
     let mut blocks = Vec::new(alloc);
-    blocks.push(field_block(alloc, field, levels)?)?;
-    Ok(blocks)
-}
-
-/// The columns that a struct nests.
-#[cycle(write)]
-fn fields_blocks(alloc: Global, fields: &Fields, levels: usize) -> Result<Vec<Vec<u8>>, Refusal>
-    ensures each { IfOk result (λ bs. HoldsEach levels (map (λ v. v.items) bs.items) (map column_of fields.now) (columns_room (map column_of fields.now))) }
-    ensures err { IfErr result (λ e. Refuses e (AreUnfit levels (map column_of fields.now)) (columns_room (map column_of fields.now))) }
-{
-    let mut blocks = Vec::new(alloc);
-    'columns: for field in fields.as_slice() {
+    'columns: for field in fields {
         blocks.push(field_block(alloc, field, levels)?)?;
-    }
-    Ok(blocks)
-}
-
-/// The columns that a union nests.
-#[cycle(write)]
-fn members_blocks(
-    alloc: Global,
-    members: &UnionFields,
-    levels: usize,
-) -> Result<Vec<Vec<u8>>, Refusal>
-    ensures each { IfOk result (λ bs. HoldsEach levels (map (λ v. v.items) bs.items) (map column_of_member members.now) (columns_room (map column_of_member members.now))) }
-    ensures err { IfErr result (λ e. Refuses e (AreUnfit levels (map column_of_member members.now)) (columns_room (map column_of_member members.now))) }
-{
-    let mut blocks = Vec::new(alloc);
-    'columns: for member in members.as_slice() {
-        blocks.push(field_block(alloc, &member.1, levels)?)?;
     }
     Ok(blocks)
 }

@@ -4,14 +4,13 @@ ghost use Rattle.arrow_values.specs.View.{texts_of};
 ghost use Rattle.arrow_columns.specs.Column.{column_tree};
 ghost use Rattle.arrow_ipc.specs.Fault.{map_ok};
 ghost use Rattle.arrow_ipc.specs.Tells.{Tells};
-ghost use Rattle.arrow_ipc.specs.Wire.{IsOpen};
-ghost use Rattle.arrow_ipc.specs.Schema.{head_at, has_body, message_at, footer_at, cut, message_in, footer_in, schema_tree, schema_at, Meets, schema_of_message, schema_of_footer};
+ghost use Rattle.arrow_ipc.specs.Schema.{head_at, message_at, footer_at, cut, message_in, footer_in, schema_tree, schema_at, Meets, schema_of_message, schema_of_footer};
 
 use crate::columns::{read_columns, read_texts};
 use crate::fault::{Fault, IpcError, Rule};
 use crate::longs::u64_in;
 use crate::slots::{needed_vector_in, table_in, u8_in, u16_in, vector_in};
-use crate::wire::{Table, open, target_at, u32_at};
+use crate::wire::{open, target_at, u32_at};
 use arrow_columns::Column;
 use std::alloc::Global;
 use std::collections::BTreeMap;
@@ -68,16 +67,6 @@ fn head_at(bytes: &[u8], table: usize) -> Result<Head, Fault>
     })
 }
 
-/// Whether the length of a message's body, of eight bytes, is not 0.
-#[tactic(auto, unfolding(crate::specs::Schema::has_body))]
-fn has_body(bytes: &[u8], table: &Table) -> Result<bool, Fault>
-    requires { IsOpen bytes.now table.now }
-    ensures { result ≡ has_body bytes.now table.now.at }
-{
-    let size = u64_in(bytes, table, 3)?;
-    Ok(size != 0)
-}
-
 /// Where the schema of a message is.
 #[tactic(auto, using(crate::proofs::Opened::u16_opens), unfolding(crate::specs::Schema::message_at))]
 fn message_at(bytes: &[u8]) -> Result<usize, Fault>
@@ -86,8 +75,8 @@ fn message_at(bytes: &[u8]) -> Result<usize, Fault>
     let message = open(bytes, target_at(bytes, 0)?)?;
     let version = u16_in(bytes, &message, 0, 0)?;
     let tag = u8_in(bytes, &message, 1, 0)?;
-    let body = has_body(bytes, &message)?;
-    if body || tag != 1 || version < 3 || version > 4 {
+    let body = u64_in(bytes, &message, 3)?;
+    if body != 0 || tag != 1 || version < 3 || version > 4 {
         return Err(Fault::new(Rule::Message, message.at));
     }
     table_in(bytes, &message, 2)

@@ -1,13 +1,12 @@
 //! The tables of types.
-ghost use Rattle.std.specs.Prelude.{◌≡◌, ◌≤◌, ◌<◌, ◌+◌, ◌*◌, ◌^◌, ◌&&◌, not, true, false, ◌++◌, ◌∷◌, [], length, IfOk, IfErr, OnOk};
+ghost use Rattle.std.specs.Prelude.{◌≡◌, ◌≤◌, ◌<◌, ◌+◌, ◌*◌, ◌^◌, ◌&&◌, not, true, false, [], length, IfOk, IfErr};
 ghost use Rattle.arrow_values.specs.Union.{has};
 ghost use Rattle.arrow_values.specs.View.{tree};
-ghost use Rattle.arrow_columns.specs.Column.{known};
-ghost use Rattle.arrow_ipc.specs.Blocks.{IsType, mode_number, union_head, union_block};
-ghost use Rattle.arrow_ipc.specs.Shapes.{nested_columns};
-ghost use Rattle.arrow_ipc.specs.Rooms.{Refuses, is_id, are_ids, is_sound, table_room};
+ghost use Rattle.arrow_ipc.specs.Blocks.{union_block};
+ghost use Rattle.arrow_ipc.specs.Shapes.{shape_of, ids_of, shape_tag, shape_bytes, has_table, is_id, are_ids};
+ghost use Rattle.arrow_ipc.specs.Rooms.{Refuses, table_room};
 
-use crate::blocks::{Refusal, pad, put_word, type_block};
+use crate::blocks::{Refusal, linked_block, put_word, table_block, type_block};
 use crate::shapes::{Shape, shape_of, type_ids};
 use arrow_values::{DataType, UnionMode};
 use std::alloc::{AllocError, Global};
@@ -19,51 +18,38 @@ fn is_new_id(id: i8, before: &[i8]) -> bool
     id >= 0 && !before.contains(&id)
 }
 
-/// What stands before the type ids of a union.
-fn union_head(alloc: Global, mode: UnionMode) -> Result<Vec<u8>, AllocError>
-    ensures { IfOk result (λ b. b.items ≡ union_head mode) }
-{
-    let mode = match mode {
-        UnionMode::Sparse => 0,
-        UnionMode::Dense => 1,
-    };
-    let mut head = Vec::new(alloc);
-    head.extend_from_slice(&[244, 255, 255, 255, 20, 0, 0, 0, mode, 0, 0, 0])?;
-    head.extend_from_slice(&[8, 0, 12, 0, 8, 0, 4, 0, 0, 0, 0, 0])?;
-    Ok(head)
-}
-
 /// A union's table, with its type ids.
 fn union_block(alloc: Global, mode: UnionMode, ids: &[i8]) -> Result<Vec<u8>, Refusal>
     ensures is { IfOk result (λ b. b.items ≡ union_block mode ids.now) }
     ensures sound { IfOk result (λ _. are_ids [] ids.now ≡ true) }
-    ensures few { IfOk result (λ _. length ids.now < 0x2000_0000) }
-    ensures err { IfErr result (λ e. Refuses e (are_ids [] ids.now ≡ false) (4 * length ids.now)) }
+    ensures small { IfOk result (λ b. length b.items < 2 ^ 31) }
+    ensures err { IfErr result (λ e. Refuses e (are_ids [] ids.now ≡ false) (36 + 4 * length ids.now)) }
 {
     if ids.len() >= 0x2000_0000 {
         return Err(Refusal::TooLarge);
     }
-    let mut vector = Vec::new(alloc);
-    put_word(&mut vector, ids.len() as u32)?;
+    let mut words = Vec::new(alloc);
     'each: for i in 0..ids.len() {
         let id = ids[i];
         if !is_new_id(id, &ids[..i]) {
             return Err(Refusal::Unfit);
         }
-        put_word(&mut vector, id as u32)?;
+        put_word(&mut words, id as u32)?;
     }
-    pad(&mut vector)?;
-    let mut block = union_head(alloc, mode)?;
-    block.extend_from_slice(vector.as_slice())?;
-    Ok(block)
+    let vector = linked_block(alloc, ids.len() as u32, &[], words.as_slice())?;
+    let mode = match mode {
+        UnionMode::Sparse => 0,
+        UnionMode::Dense => 1,
+    };
+    table_block(alloc, &[8, 4], &[mode, 0, 0, 0], &[vector])
 }
 
 /// A type's tag and table.
-pub(crate) fn table_block(alloc: Global, data_type: &DataType) -> Result<(u8, Vec<u8>), Refusal>
-    ensures typed { IfOk result (λ p. IsType p.0 p.1.items (nested_columns (tree data_type.now)) (known (tree data_type.now))) }
-    ensures most { IfOk result (λ p. length p.1.items ≤ table_room (tree data_type.now)) }
-    ensures small { IfOk result (λ p. length p.1.items < 2 ^ 32) }
-    ensures err { IfErr result (λ e. Refuses e (is_sound (tree data_type.now) ≡ false) (table_room (tree data_type.now))) }
+pub(crate) fn type_table(alloc: Global, data_type: &DataType) -> Result<(u8, Vec<u8>), Refusal>
+    ensures is { IfOk result (λ p. (p.0 ≡ shape_tag (shape_of (tree data_type.now))) × (p.1.items ≡ shape_bytes (shape_of (tree data_type.now)) (ids_of (tree data_type.now)))) }
+    ensures sound { IfOk result (λ _. has_table (shape_of (tree data_type.now)) (ids_of (tree data_type.now)) ≡ true) }
+    ensures small { IfOk result (λ p. length p.1.items < 2 ^ 31) }
+    ensures err { IfErr result (λ e. Refuses e (has_table (shape_of (tree data_type.now)) (ids_of (tree data_type.now)) ≡ false) (36 + 4 * length (ids_of (tree data_type.now)))) }
 {
     match shape_of(data_type) {
         None => Err(Refusal::Unfit),

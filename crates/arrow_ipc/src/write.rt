@@ -8,7 +8,7 @@ ghost use Rattle.arrow_ipc.specs.Blocks.{Holds, child_in, columns_read, texts_re
 ghost use Rattle.arrow_ipc.specs.Rooms.{Refuses, IsUnfitType, HoldsEach, room_of, columns_room, texts_room, schema_room};
 ghost use Rattle.arrow_ipc.specs.Writes.{refused, RefusesColumns};
 
-use crate::blocks::{Refusal, put_word, texts_block, vector_block};
+use crate::blocks::{Refusal, put_word, table_block, texts_block, vector_block};
 use crate::nesting::data_block;
 use crate::schema::{Endianness, NESTING_LIMIT, Schema};
 use arrow_columns::{Column, ColumnType};
@@ -100,7 +100,6 @@ fn column_blocks(alloc: Global, columns: &[Column]) -> Result<Vec<Vec<u8>>, Writ
 fn columns_block(alloc: Global, columns: &[Column]) -> Result<Vec<u8>, WriteError>
     ensures holds { IfOk result (λ b. Holds (columns_read NESTING_LIMIT) b.items (map column_tree columns.now)) }
     ensures most { IfOk result (λ b. length b.items ≤ columns_room (map column_tree columns.now)) }
-    ensures small { IfOk result (λ b. length b.items < 2 ^ 31) }
     ensures err { IfErr result (λ e. RefusesColumns NESTING_LIMIT e (map column_tree columns.now) (columns_room (map column_tree columns.now))) }
 {
     let blocks = column_blocks(alloc, columns)?;
@@ -114,7 +113,6 @@ fn columns_block(alloc: Global, columns: &[Column]) -> Result<Vec<u8>, WriteErro
 fn metadata_block(alloc: Global, texts: &BTreeMap<String, String>) -> Result<Vec<u8>, WriteError>
     ensures holds { IfOk result (λ b. Holds texts_read b.items (texts_of texts.now.entries)) }
     ensures most { IfOk result (λ b. length b.items ≤ texts_room (texts_of texts.now.entries)) }
-    ensures small { IfOk result (λ b. length b.items < 2 ^ 31) }
     ensures err { IfErr result (λ e. RefusesColumns NESTING_LIMIT e [] (texts_room (texts_of texts.now.entries))) }
 {
     match texts_block(alloc, texts) {
@@ -126,29 +124,28 @@ fn metadata_block(alloc: Global, texts: &BTreeMap<String, String>) -> Result<Vec
 /// The stream of a schema, given the blocks of its columns and of its metadata.
 fn stream_bytes(
     alloc: Global,
-    columns: &[u8],
-    texts: &[u8],
+    columns: Vec<u8>,
+    texts: Vec<u8>,
     order: Endianness,
-) -> Result<Vec<u8>, AllocError>
-    requires { length columns.now + length texts.now < 0x7fff_ffc0 }
-    ensures { IfOk result (λ b. b.items ≡ stream_block (message_block (schema_block columns.now texts.now order))) }
+) -> Result<Vec<u8>, Refusal>
+    ensures is { IfOk result (λ b. b.items ≡ stream_block (message_block (schema_block columns.items texts.items order))) }
+    ensures small { IfOk result (λ _. length (message_block (schema_block columns.items texts.items order)) < 2 ^ 31) }
+    ensures err { IfErr result (λ e. Refuses e ⊥ (length (message_block (schema_block columns.items texts.items order)))) }
 {
     let order = match order {
         Endianness::Little => 0,
         Endianness::Big => 1,
     };
+    let schema = table_block(alloc, &[12, 4, 8], &[order, 0, 0, 0], &[columns, texts])?;
+    let message = table_block(alloc, &[8, 10, 4], &[4, 0, 1, 0], &[schema])?;
+    if message.len() >= 0x7fff_fff8 {
+        return Err(Refusal::TooLarge);
+    }
     let mut stream = Vec::new(alloc);
     put_word(&mut stream, 0xffff_ffff)?;
-    put_word(&mut stream, (64 + columns.len() + texts.len()) as u32)?;
-    stream.extend_from_slice(&[8, 0, 0, 0, 0, 0, 0, 0, 244, 255, 255, 255, 20, 0, 0, 0])?;
-    stream.extend_from_slice(&[4, 0, 1, 0, 10, 0, 12, 0, 8, 0, 10, 0, 4, 0, 0, 0])?;
-    stream.extend_from_slice(&[240, 255, 255, 255, 28, 0, 0, 0])?;
-    put_word(&mut stream, (24 + columns.len()) as u32)?;
-    stream.extend_from_slice(&[
-        order, 0, 0, 0, 10, 0, 16, 0, 12, 0, 4, 0, 8, 0, 0, 0, 0, 0, 0, 0,
-    ])?;
-    stream.extend_from_slice(columns)?;
-    stream.extend_from_slice(texts)?;
+    put_word(&mut stream, 8 + message.len() as u32)?;
+    stream.extend_from_slice(&[8, 0, 0, 0, 0, 0, 0, 0])?;
+    stream.extend_from_slice(message.as_slice())?;
     Ok(stream)
 }
 
@@ -170,14 +167,8 @@ pub fn write_schema(alloc: Global, schema: &Schema) -> Result<Vec<u8>, WriteErro
 {
     let columns = columns_block(alloc, schema.columns.as_slice())?;
     let texts = metadata_block(alloc, &schema.metadata)?;
-    if columns.len() + texts.len() >= 0x7fff_ffc0 {
-        return Err(WriteError::TooLarge);
+    match stream_bytes(alloc, columns, texts, schema.endianness) {
+        Ok(stream) => Ok(stream),
+        Err(refusal) => Err(refused(refusal, 0)),
     }
-    let stream = stream_bytes(
-        alloc,
-        columns.as_slice(),
-        texts.as_slice(),
-        schema.endianness,
-    )?;
-    Ok(stream)
 }

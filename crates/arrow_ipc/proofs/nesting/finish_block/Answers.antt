@@ -1,16 +1,33 @@
-use Rattle.std.proofs.Common.{map, length, ap, arith}
+use Rattle.std.proofs.Common.{◌≡◌, ◌+◌, ◌*◌, ◌≤◌, false, map, length, ap, arith}
 use Rattle.arrow_values.specs.View.{tree, texts_of}
+use Rattle.arrow_ipc.specs.Blocks.{vector_block}
+use Rattle.arrow_ipc.specs.Shapes.{shape_of, ids_of, has_table}
+use Rattle.arrow_ipc.specs.Rooms.{table_room, texts_room, is_sound}
 use Rattle.arrow_ipc.proofs.Vectors.{items}
+use Rattle.arrow_ipc.proofs.Built.{told_more, most_than, refused_as}
+use Rattle.arrow_ipc.proofs.TreeTypes.{table_size, ids_size, no_table}
 use Rattle.arrow_ipc.proofs.Nestings.{nest_ok}
 use Rattle.arrow_ipc.proofs.nesting.finish_block.Goals as goal
 
-pub column_block-requires : goal.column_block-requires
-column_block-requires c =
-    let one = ap length c.as_slice.ensures.value in
-    let two = ap length c.as_slice-2.ensures.value in
-    omega (arith, one, two, c.in_ok-children.ensures.small, c.in_ok-typed.ensures.small)
-
 pub returns-clause-holds : goal.returns-clause-holds
 returns-clause-holds c =
-    nest_ok c.column_block.result (map items c.args.blocks.now) (tree c.args.data_type.now) c.args.name.now c.args.nullable (texts_of c.args.texts.now.entries) c.in_ok-typed.typed.0 c.in_ok-typed.typed.1.items c.as_slice.result.now c.in_ok-children.children.items c.as_slice-2.result.now
-    c.column_block.ensures.holds c.as_slice.ensures.value c.as_slice-2.ensures.value c.in_ok-typed.ensures.typed c.in_ok-children.ensures.is c.in_ok-children.ensures.small
+    let e = c.in_ok-typed.ensures in
+    nest_ok c.column_block.result (map items c.args.blocks.now) (tree c.args.data_type.now) c.args.name.now c.args.nullable (texts_of c.args.texts.now.entries) c.in_ok-typed.typed.0 c.in_ok-typed.typed.1.items c.in_ok-children.children.items
+    c.column_block.ensures.holds e.is.0 e.is.1 e.sound e.small c.in_ok-children.ensures.is c.in_ok-children.ensures.small
+
+pub returns-clause-most : goal.returns-clause-most
+returns-clause-most c =
+    let size = table_size (tree c.args.data_type.now) in
+    most_than c.column_block.result _ _ (omega (arith, size, ap length c.in_ok-typed.ensures.is.1, ap length c.in_ok-children.ensures.is)) c.column_block.ensures.most
+
+pub returns-clause-err : goal.returns-clause-err
+returns-clause-err c =
+    let size = table_size (tree c.args.data_type.now) in
+    refused_as c.column_block.result ⊥ (is_sound (tree c.args.data_type.now) ≡ false) _ _ (λ x. absurd x) (omega (arith, size, ap length c.in_ok-typed.ensures.is.1, ap length c.in_ok-children.ensures.is)) c.column_block.ensures.err
+
+pub returns-in_err-typed-clause-err : goal.returns-in_err-typed-clause-err
+returns-in_err-typed-clause-err c =
+    let t = tree c.args.data_type.now in
+    let size = ids_size t in
+    told_more c.from_residual-in_err-typed.result c.in_err-typed.field-0.0 (has_table (shape_of t) (ids_of t) ≡ false) (is_sound t ≡ false) (36 + 4 * length (ids_of t))
+    (60 + length c.args.name.now + (table_room t + length (vector_block (map items c.args.blocks.now))) + texts_room (texts_of c.args.texts.now.entries)) (grind arith) (no_table t) (omega (arith, size)) c.in_err-typed.ensures.err

@@ -1,12 +1,32 @@
-use Rattle.std.proofs.Common.{◌∙◌, arith}
-use Rattle.arrow_ipc.proofs.Unions.{ids_long, union_built}
+use Rattle.std.proofs.Common.{◌≡◌, ◌+◌, ◌*◌, ◌∷◌, [], List, ℤ, length, IfOk, false, ap, ◌∙◌, subst, arith}
+use Rattle.std.proofs.lemmas.Grind.{common_steps}
+use Rattle.arrow_ipc.specs.Blocks.{mode_number, id_words, linked, table_block, union_block}
+use Rattle.arrow_ipc.specs.Shapes.{are_ids}
+use Rattle.arrow_ipc.proofs.Built.{told_more, refused_as}
+use Rattle.arrow_ipc.proofs.Unions.{length_vector_of, length_union, ids_written, union_built}
 use Rattle.arrow_ipc.proofs.type_tables.union_block.Goals as goal
-
-pub pad-requires : goal.pad-requires
-pad-requires c =
-    let long = ids_long c.each.vector.items _ c.args.ids.now c.each.invariant.written in
-    omega (arith, long)
 
 pub returns-clause-is : goal.returns-clause-is
 returns-clause-is c =
-    union_built c.in_ok-block.block.items c.each.vector.items c.as_slice.result.now c.extend_from_slice.new.self.items c.args.mode c.args.ids.now c.each.i c.in_ok-block.ensures c.each.invariant.written (omega arith) (c.as_slice.ensures.value ∙ c.in_ok-pad.ensures) c.in_ok-extend_from_slice.ensures.items
+    let ids = c.args.ids.now in
+    let mode : c.match-mode.mode ≡ mode_number c.args.mode = grind (arith, common_steps) in
+    let written = c.as_slice.ensures.value ∙ ids_written c.each.words.items ids c.each.i c.each.invariant.written (omega arith) in
+    let same = union_built c.args.mode ids c.match-mode.mode c.as_slice.result.now c.in_ok-vector.vector.items mode written c.in_ok-vector.ensures.is in
+    subst (λ l. IfOk c.table_block.result (λ b. b.items ≡ l)) same c.table_block.ensures.is
+
+pub returns-clause-err : goal.returns-clause-err
+returns-clause-err c =
+    let ids = c.args.ids.now in
+    let mode : c.match-mode.mode ≡ mode_number c.args.mode = grind (arith, common_steps) in
+    let written = c.as_slice.ensures.value ∙ ids_written c.each.words.items ids c.each.i c.each.invariant.written (omega arith) in
+    let same = union_built c.args.mode ids c.match-mode.mode c.as_slice.result.now c.in_ok-vector.vector.items mode written c.in_ok-vector.ensures.is in
+    let size = length_union c.args.mode ids in
+    refused_as c.table_block.result ⊥ (are_ids [] ids ≡ false) _ (36 + 4 * length ids) (λ x. absurd x) (omega (arith, ap length same, size)) c.table_block.ensures.err
+
+pub returns-in_err-vector-clause-err : goal.returns-in_err-vector-clause-err
+returns-in_err-vector-clause-err c =
+    let ids = c.args.ids.now in
+    let written = c.as_slice.ensures.value ∙ ids_written c.each.words.items ids c.each.i c.each.invariant.written (omega arith) in
+    let size = length_vector_of ids in
+    told_more c.from_residual-in_err-vector.result c.in_err-vector.field-0.0 ⊥ (are_ids [] ids ≡ false) (length (linked (length ids) [] c.as_slice.result.now)) (36 + 4 * length ids) (grind arith) (λ x. absurd x)
+    (omega (arith, size, ap (λ l. length (linked (length ids) [] l)) written)) c.in_err-vector.ensures.err

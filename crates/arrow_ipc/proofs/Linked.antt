@@ -1,0 +1,255 @@
+-- What stands in a block of linked blocks: its number, its offsets with the blocks to which they lead, its other bytes, and where it
+-- is a table, its slots.
+use Rattle.std.proofs.Common.{◌≡◌, ℕ, zero, suc, ◌+◌, ◌*◌, ◌-◌, ◌^◌, ◌%◌, ◌<◌, ◌≤◌, Bool, true, false, ◌++◌, ◌∷◌, [], List, length, replicate, drop, Option, Some, None, Result, Ok, refl, sym, ap, ◌∙◌, subst, arith, append_assoc, nat_lt, ◌==◌, if◌then◌else◌}
+use Rattle.std.specs.List.{concat}
+use Rattle.std.proofs.lemmas.List.{length-append, length-replicate, length-drop, drop-drop, drop_at}
+use Rattle.std.proofs.lemmas.Bool.Decides.{nat_tests}
+use Rattle.arrow_ipc.specs.Fault.{◌>>=◌}
+use Rattle.arrow_ipc.specs.Wire.{u16_at, ahead, opened_at, slot_of, slot_at, target_at, vector_at}
+use Rattle.arrow_ipc.specs.Blocks.{Lies, word, rounded, padded, offsets, linked, table_size, places, table_block}
+use Rattle.arrow_ipc.specs.declared.fault.Fault.{Fault}
+use Rattle.arrow_ipc.specs.declared.fault.Rule.TheVariants.{Vtable, Slot}
+use Rattle.arrow_ipc.proofs.Places.{is_lt, is_not_lt, is_even, u16_is, ahead_is, target_is, vtable_is, vector_is}
+
+-- ---- lengths
+
+pub length_offsets : (near far : ℕ) (bs : List (List ℕ)) → length (offsets near far bs) ≡ 4 * length bs
+unfolding offsets
+length_offsets near far [] = refl
+length_offsets near far (b ∷ bs) =
+    let rest = length_offsets (near + 4) (far + length b) bs in
+    let all : length (offsets near far (b ∷ bs)) ≡ 4 + length (offsets (near + 4) (far + length b) bs) = length-append (word (far - near)) (offsets (near + 4) (far + length b) bs) in
+    omega (arith, rest, all)
+
+pub length_padded : (bytes : List ℕ) → length (padded bytes) ≡ rounded (length bytes)
+unfolding padded
+length_padded bytes =
+    let fill = length-replicate {A = ℕ} (rounded (length bytes) - length bytes) 0 in
+    let all = length-append bytes (replicate (rounded (length bytes) - length bytes) 0) in
+    omega (arith, fill, all)
+
+module _ (first : ℕ) (bs : List (List ℕ)) (rest : List ℕ) where
+  abbrev far : ℕ
+  far = rounded (4 + (4 * length bs + length rest))
+
+  abbrev heads : List ℕ
+  heads = offsets 4 far bs
+
+  length_heads : length (word first ++ (heads ++ rest)) ≡ 4 + (4 * length bs + length rest)
+  length_heads =
+      let one : length (word first ++ (heads ++ rest)) ≡ 4 + length (heads ++ rest) = length-append (word first) (heads ++ rest) in
+      let two = length-append heads rest in
+      let three = length_offsets 4 far bs in
+      omega (arith, one, two, three)
+
+  length_front : length (padded (word first ++ (heads ++ rest))) ≡ far
+  length_front = let one = length_padded (word first ++ (heads ++ rest)) in let two = length_heads in one ∙ ap rounded two
+
+  pub length_linked : length (linked first bs rest) ≡ rounded (4 + (4 * length bs + length rest)) + length (concat bs)
+  unfolding linked
+  length_linked =
+      let one = length-append (padded (word first ++ (heads ++ rest))) (concat bs) in
+      let two = length_front in
+      omega (arith, one, two)
+
+-- ---- what stands further on
+
+module _ (bytes : List ℕ) (at : ℕ) where
+  pub by_place : (y : List ℕ) (k : ℕ) → drop at bytes ≡ y → drop (at + k) bytes ≡ drop k y
+  by_place y k is = sym (drop-drop k at bytes) ∙ ap (drop k) is
+
+  pub further : (a b : List ℕ) (to : ℕ) → drop at bytes ≡ a ++ b → at + length a ≡ to → drop to bytes ≡ b
+  further a b to is place = subst (λ n. drop n bytes ≡ b) place (by_place (a ++ b) (length a) is ∙ drop_at a b (length a) refl)
+
+  pub ends : (y : List ℕ) → drop at bytes ≡ y → 0 < length y → at + length y ≡ length bytes
+  ends y is some =
+      let left = length-drop at bytes in
+      let same : length (drop at bytes) ≡ length y = ap length is in
+      omega (arith, left, same)
+
+-- ---- the blocks to which offsets lead
+
+pub record Leads (bytes : List ℕ) (at : ℕ) (block : List ℕ) : Type 0 where
+  pub to : ℕ
+  pub led : target_at bytes at ≡ Ok to
+  pub lies : Lies block bytes to
+
+abbrev pub AreLinked : List ℕ → ℕ → ℕ → List (List ℕ) → Type 0
+AreLinked bytes at near [] = Unit {0}
+AreLinked bytes at near (b ∷ bs) = Leads bytes (at + near) b × AreLinked bytes at (near + 4) bs
+
+abbrev pub AreWhole : List (List ℕ) → Type 0
+AreWhole [] = Unit {0}
+AreWhole (b ∷ bs) = (length b % 8 ≡ 0) × AreWhole bs
+
+pub whole_concat : (bs : List (List ℕ)) → AreWhole bs → length (concat bs) % 8 ≡ 0
+whole_concat [] all = refl
+whole_concat (b ∷ bs) all =
+    let rest = whole_concat bs all.1 in
+    let sum = length-append b (concat bs) in
+    omega (arith, rest, all.0, sum)
+
+links : (bytes : List ℕ) (at : ℕ) (bs : List (List ℕ)) (near far : ℕ) (rest more : List ℕ) → drop (at + near) bytes ≡ offsets near far bs ++ rest → drop (at + far) bytes ≡ concat bs ++ more
+    → (at + near) % 4 ≡ 0 → (at + far) % 8 ≡ 0 → AreWhole bs → near + 4 * length bs ≤ far → far + length (concat bs) < 2 ^ 32 → at + far + length (concat bs) ≤ length bytes → AreLinked bytes at near bs
+unfolding offsets
+links bytes at [] near far rest more is has fourth whole all room small within = tt
+links bytes at (b ∷ bs) near far rest more is has fourth whole all room small within =
+    let left = offsets (near + 4) (far + length b) bs ++ rest in
+    let here : drop (at + near) bytes ≡ word (far - near) ++ left = is ∙ append_assoc (word (far - near)) (offsets (near + 4) (far + length b) bs) rest in
+    let there : drop (at + far) bytes ≡ b ++ (concat bs ++ more) = has ∙ append_assoc b (concat bs) more in
+    let sum : length (b ++ concat bs) ≡ length b + length (concat bs) = length-append b (concat bs) in
+    let place : at + near + (far - near) ≡ at + far = omega (arith, room) in
+    let led : target_at bytes (at + near) ≡ Ok (at + far) = target_is bytes (at + near) (far - near) left fourth (omega (arith, room)) (omega (arith, small)) (omega (arith, place, within)) here ∙ ap (λ (p : ℕ). Ok p) place in
+    let next = links bytes at bs (near + 4) (far + length b) rest more (further bytes (at + near) (word (far - near)) left (at + (near + 4)) here (omega arith))
+    (further bytes (at + far) b (concat bs ++ more) (at + (far + length b)) there (omega arith)) (omega (arith, fourth)) (omega (arith, whole, all.0)) all.1 (omega (arith, room)) (omega (arith, small, sum)) (omega (arith, within, sum)) in
+    (record { to = at + far; led = led; lies = record { after = concat bs ++ more; is = there; whole = whole } }, next)
+
+regroup : (w o r f c a : List ℕ) → (((w ++ (o ++ r)) ++ f) ++ c) ++ a ≡ w ++ (o ++ (r ++ (f ++ (c ++ a))))
+regroup w o r f c a = simp append_assoc
+
+module _ (bytes : List ℕ) (at first : ℕ) (bs : List (List ℕ)) (rest : List ℕ) (lies : Lies (linked first bs rest) bytes at) where
+  -- what comes behind the other bytes
+  abbrev pub tail : List ℕ
+  tail = replicate (rounded (length (word first ++ (heads first bs rest ++ rest))) - length (word first ++ (heads first bs rest ++ rest))) 0 ++ (concat bs ++ lies.after)
+
+  pub flat : drop at bytes ≡ word first ++ (offsets 4 (rounded (4 + (4 * length bs + length rest))) bs ++ (rest ++ tail))
+  unfolding linked padded
+  flat = lies.is ∙ regroup (word first) (heads first bs rest) rest (replicate (rounded (length (word first ++ (heads first bs rest ++ rest))) - length (word first ++ (heads first bs rest ++ rest))) 0) (concat bs) lies.after
+
+  pub lies_within : at + length (linked first bs rest) ≤ length bytes
+  lies_within =
+      let size = length_linked first bs rest in
+      let sum = length-append (linked first bs rest) lies.after in
+      let all = ends bytes at (linked first bs rest ++ lies.after) lies.is (omega (arith, size, sum)) in
+      omega (arith, all, sum)
+
+  bodies : drop (at + far first bs rest) bytes ≡ concat bs ++ lies.after
+  unfolding linked
+  bodies =
+      let front = padded (word first ++ (heads first bs rest ++ rest)) in
+      let size = length_front first bs rest in
+      further bytes at front (concat bs ++ lies.after) (at + far first bs rest) (lies.is ∙ append_assoc front (concat bs) lies.after) (omega (arith, size))
+
+  pub are_linked : AreWhole bs → length (linked first bs rest) < 2 ^ 32 → AreLinked bytes at 4 bs
+  are_linked all small =
+      let size = length_linked first bs rest in
+      let within = lies_within in
+      let whole = lies.whole in
+      links bytes at bs 4 (far first bs rest) (rest ++ tail) lies.after (further bytes at (word first) (heads first bs rest ++ (rest ++ tail)) (at + 4) flat refl) bodies
+      (omega (arith, whole)) (omega (arith, whole)) all (omega arith) (omega (arith, small, size)) (omega (arith, within, size))
+
+  pub is_vector : first ≡ length bs → length (linked first bs rest) < 2 ^ 32 → vector_at bytes at ≡ Ok (at + 4, length bs)
+  is_vector same small =
+      let size = length_linked first bs rest in
+      let within = lies_within in
+      let whole = lies.whole in
+      subst (λ n. vector_at bytes at ≡ Ok (at + 4, n)) same (vector_is bytes at first (heads first bs rest ++ (rest ++ tail)) (omega (arith, whole)) (omega (arith, same, small, size)) (omega (arith, same, within, size)) flat)
+
+-- ---- the slots of a table
+
+abbrev pub slot_place : ℕ → List ℕ → ℕ → Option ℕ
+slot_place at [] i = None
+slot_place at (s ∷ ss) zero = if s == 0 then None else Some (at + s)
+slot_place at (s ∷ ss) (suc i) = slot_place at ss i
+
+abbrev pub AreWithin : ℕ → List ℕ → Type 0
+AreWithin size [] = Unit {0}
+AreWithin size (s ∷ ss) = (s ≤ size) × AreWithin size ss
+
+past : (at : ℕ) (ss : List ℕ) (i : ℕ) → length ss ≤ i → slot_place at ss i ≡ None
+past at [] i le = refl
+past at (s ∷ ss) zero le = absurd (omega arith)
+past at (s ∷ ss) (suc i) le = past at ss i (omega arith)
+
+pub low : (bytes : List ℕ) (at n : ℕ) (rest : List ℕ) → at % 2 ≡ 0 → drop at bytes ≡ n ∷ 0 ∷ rest → u16_at bytes at ≡ Ok n
+low bytes at n rest even is = u16_is bytes at n 0 rest even is ∙ ap (λ (k : ℕ). Ok k) (omega arith)
+
+chosen : (b : Bool) (x : Option ℕ) → ◌≡◌ {A = Result (Option ℕ) Fault} (if b then Ok None else Ok x) (Ok (if b then None else x))
+chosen true x = refl
+chosen false x = refl
+
+below : (n m : ℕ) → nat_lt n m ≡ true → n < m
+below n m is = grind (arith, nat_tests)
+
+above : (n m : ℕ) → nat_lt n m ≡ false → m ≤ n
+above n m is = grind (arith, nat_tests)
+
+module _ (bytes : List ℕ) (at size : ℕ) (within : at + size ≤ length bytes) where
+  abbrev led : ℕ → Result (Option ℕ) Fault
+  led n = if n == 0 then Ok None else (ahead Slot bytes at n >>= λ slot. Ok (Some slot))
+
+  found : (ss : List ℕ) (i entry : ℕ) (rest : List ℕ) → drop entry bytes ≡ places ss ++ rest → entry % 2 ≡ 0 → AreWithin size ss → i < length ss → (u16_at bytes (entry + 2 * i) >>= led) ≡ Ok (slot_place at ss i)
+  found [] i entry rest is even all lt = absurd (omega arith)
+  found (s ∷ ss) zero entry rest is even all lt =
+      let here : u16_at bytes (entry + 0) ≡ Ok s = subst (λ n. u16_at bytes n ≡ Ok s) (omega arith) (low bytes entry s (places ss ++ rest) even is) in
+      let ahead_of : ahead Slot bytes at s ≡ Ok (at + s) = ahead_is bytes at Slot s (omega (arith, within, all.0)) in
+      rw (here, ahead_of) (chosen (s == 0) (Some (at + s)))
+  found (s ∷ ss) (suc i) entry rest is even all lt =
+      let next = found ss i (entry + 2) rest (by_place bytes entry (places (s ∷ ss) ++ rest) 2 is) (omega (arith, even)) all.1 (omega arith) in
+      subst (λ n. (u16_at bytes n >>= led) ≡ Ok (slot_place at ss i)) (omega arith) next
+
+module _ (bytes : List ℕ) (at : ℕ) (slots numbers : List ℕ) (bs : List (List ℕ)) (lies : Lies (table_block slots numbers bs) bytes at)
+    (fourth : length numbers % 4 ≡ 0) (few : table_size bs numbers ≤ 2 ^ 31) (all : AreWithin (table_size bs numbers) slots) where
+  abbrev size : ℕ
+  size = table_size bs numbers
+
+  abbrev first : ℕ
+  first = 2 ^ 32 - size
+
+  abbrev vtable : List ℕ
+  vtable = (4 + 2 * length slots) ∷ 0 ∷ size ∷ 0 ∷ places slots
+
+  abbrev behind : List ℕ
+  behind = tail bytes at first bs (numbers ++ vtable) lies
+
+  length_places : (ss : List ℕ) → length (places ss) ≡ 2 * length ss
+  length_places [] = refl
+  length_places (s ∷ ss) = let rest = length_places ss in omega (arith, rest)
+
+  ends_at : at + size + (4 + 2 * length slots) ≤ length bytes
+  ends_at =
+      let within = lies_within bytes at first bs (numbers ++ vtable) lies in
+      let long = length_linked first bs (numbers ++ vtable) in
+      let sum = length-append numbers vtable in
+      let many = length_places slots in
+      omega (arith, within, long, sum, many)
+
+  vtable_at_size : drop (at + size) bytes ≡ vtable ++ behind
+  vtable_at_size =
+      let o = offsets 4 (rounded (4 + (4 * length bs + length (numbers ++ vtable)))) bs in
+      let long = length_offsets 4 (rounded (4 + (4 * length bs + length (numbers ++ vtable)))) bs in
+      let is : drop at bytes ≡ word first ++ (o ++ (numbers ++ (vtable ++ behind))) = flat bytes at first bs (numbers ++ vtable) lies ∙ ap (λ l. word first ++ (o ++ l)) (append_assoc numbers vtable behind) in
+      let one = further bytes at (word first) (o ++ (numbers ++ (vtable ++ behind))) (at + 4) is refl in
+      let two = further bytes (at + 4) o (numbers ++ (vtable ++ behind)) (at + 4 + 4 * length bs) one (omega (arith, long)) in
+      further bytes (at + 4 + 4 * length bs) numbers (vtable ++ behind) (at + size) two (omega arith)
+
+  opened : opened_at bytes at ≡ Ok (record { at = at; vtable = at + size; size = 4 + 2 * length slots })
+  unfolding opened_at
+  opened =
+      let whole = lies.whole in
+      let ended = ends_at in
+      let even : ((4 + 2 * length slots) % 2 == 0) ≡ true = is_even ((4 + 2 * length slots) % 2) (omega arith) in
+      rw (
+        vtable_is bytes at size _ (omega (arith, whole)) (omega arith) few (omega (arith, ended)) (flat bytes at first bs (numbers ++ vtable) lies),
+        low bytes (at + size) (4 + 2 * length slots) _ (omega (arith, whole, fourth)) vtable_at_size,
+        ahead_is bytes (at + size) Vtable (4 + 2 * length slots) ended,
+        even,
+      ) refl
+
+  by_test : (i : ℕ) (b : Bool) → nat_lt i (length slots) ≡ b → slot_at bytes at i ≡ Ok (slot_place at slots i)
+  unfolding slot_at slot_of
+  by_test i true is =
+      let lt = below i (length slots) is in
+      let ended = ends_at in
+      let whole = lies.whole in
+      let got = found bytes at size (omega (arith, ended)) slots i (at + size + 4) behind (by_place bytes (at + size) (vtable ++ behind) 4 vtable_at_size) (omega (arith, whole, fourth)) all lt in
+      let place : at + size + 4 + 2 * i ≡ at + size + (4 + 2 * i) = omega arith in
+      rw (opened, is_not_lt (4 + 2 * length slots) (6 + 2 * i) (omega (arith, lt)), ahead_is bytes (at + size) Vtable (4 + 2 * i) (omega (arith, ended, lt)))
+      (subst (λ n. (u16_at bytes n >>= led bytes at size (omega (arith, ended))) ≡ Ok (slot_place at slots i)) place got)
+  by_test i false is =
+      let le = above i (length slots) is in
+      rw (opened, is_lt (4 + 2 * length slots) (6 + 2 * i) (omega (arith, le)), past at slots i le) refl
+
+  -- a slot is where the table says
+  pub slot_is : (i : ℕ) → slot_at bytes at i ≡ Ok (slot_place at slots i)
+  slot_is i = by_test i (nat_lt i (length slots)) refl
