@@ -1,9 +1,10 @@
 -- A data type has one fault at most under a name, and none if it is accepted.
-use Rattle.std.proofs.Common.{◌≡◌, ◌≢◌, ◌*◌, Bool, inl, inr, ℕ, zero, suc, ℤ, pos, List, [], ◌∷◌, length, sym, ap, subst, ◌∙◌, ◌⊎◌}
+use Rattle.std.proofs.Common.{◌≡◌, ◌≢◌, ◌*◌, Bool, true, false, inl, inr, ℕ, zero, suc, ℤ, pos, List, [], ◌∷◌, length, sym, ap, subst, ◌∙◌, ◌⊎◌}
 use Rattle.geoarrow_layout.proofs.Terms.{Text, Metadata, Tree, list, large_list, fixed_size_list, struct, union, MemberTrees, no_members, member, CoordType, Interleaved, Separated, Dimension, XY, XYZ, XYM, XYZM, NativeKind, GeometryCollection, Kind, OfNative, OfGeometry, OfRect, OfWkb, OfWkt, ListWidth, Lists, LargeLists, LayoutFault, UnexpectedType, BadFieldNames, BadTypeId, ExtensionName, size_of, type_id_of, extension_of, names_of, IsSeparatedAs, Leaf, ListsOver, levels_of, OverLeaf, Member, AllMembers, Mixed, Native, GeometryMember, Geometry, IsBoxAs, BoxShape, Accepted, id_same, any_native_same, Path, Located, Faults, InItem, SeparatedFault, CoordinateFault, BoxFault, LevelFault, ListsFault, OverLeafFault, PartFault, FirstFault, UnionFault, MemberFault, MixedFault, NativeFault, GeometryMemberFault, GeometryFault, FaultAt}
 use Rattle.geoarrow_layout.specs.declared.fault.LayoutFault.TheVariants.{BadInterleavedName, BadSize, BadFieldCount, MixedWidths, MemberDimension, EmptyUnion, SeveralCoordTypes, SeveralDimensions}
 use Rattle.geoarrow_layout.specs.declared.names.ExtensionName.TheVariants as names
 use Rattle.geoarrow_layout.specs.OneShape.{interleaved_same, native_same, any_part}
+use Rattle.geoarrow_layout.specs.Steps.{NativeIn, NativeFaultIn, MemberIn, MemberFaultIn}
 use Rattle.geoarrow_layout.specs.FaultAt.{Here, InterleavedFault}
 use Rattle.geoarrow_layout.proofs.MemberLists.{all_map}
 
@@ -232,6 +233,15 @@ geometry_member_one = part_one Native NativeFault native_one native_apart
 
 pub geometry_member_apart : ApartMember GeometryMember GeometryMemberFault
 geometry_member_apart i t c d p f h k = let x = any_part i t c d h in part_apart Native NativeFault any_native_same native_apart i t x.0 c d p f x.1 x.2 k
+
+-- the same where collections are allowed or not
+pub native_apart_in : (b : Bool) → ApartNative (NativeIn b) (NativeFaultIn b)
+native_apart_in true = native_apart
+native_apart_in false = over_leaf_apart
+
+pub member_apart_in : (b : Bool) → ApartMember (MemberIn b) (MemberFaultIn b)
+member_apart_in true = geometry_member_apart
+member_apart_in false = member_apart
 
 geometry_one : (t : Tree) → One (GeometryFault t)
 geometry_one (union ms mode) = union_one GeometryMember GeometryMemberFault geometry_member_one geometry_member_apart ms

@@ -1,7 +1,8 @@
 -- Ids and members: each is read in one way.
-use Rattle.std.proofs.Common.{◌≡◌, ◌≢◌, inl, inr, ℕ, ℤ, pos, Option, None, Some, Ok, Err, MatchResult, refl, sym, ap, subst, ◌∙◌, []}
-use Rattle.geoarrow_layout.proofs.Terms.{Tree, CoordType, Dimension, LayoutFault, BadTypeId, NativeKind, GeometryCollection, type_id_of, levels_of, OverLeaf, Member, GeometryMember, Native, LeafUnder, Path, Faults, HasFault, MemberFault, CoordinateFault, ListsFault, PartFault, OverLeafFault, NativeFault, GeometryMemberFault, TellsBoth}
-use Rattle.geoarrow_layout.specs.Steps.{IsOtherFault}
+use Rattle.std.proofs.Common.{◌≡◌, ◌≢◌, inl, inr, ℕ, ℤ, pos, Bool, true, false, Option, None, Some, Ok, Err, MatchResult, refl, sym, ap, subst, ◌∙◌, []}
+use Rattle.geoarrow_layout.proofs.Terms.{Tree, CoordType, Dimension, LayoutFault, BadTypeId, NativeKind, GeometryCollection, type_id_of, levels_of, OverLeaf, Member, GeometryMember, Native, LeafUnder, Path, Faults, HasFault, MemberFault, CoordinateFault, ListsFault, PartFault, OverLeafFault, NativeFault, GeometryMemberFault, TellsBoth, Summary, Shows}
+use Rattle.geoarrow_layout.specs.Steps.{IsOtherFault, ShowsIn, NativeIn, NativeFaultIn, MemberIn, MemberFaultIn}
+use Rattle.geoarrow_layout.proofs.UnionSteps.{shows_of_inner}
 use Rattle.geoarrow_layout.proofs.Readings.{Answer, IsPartsOf, some_parts, refused}
 use Rattle.geoarrow_layout.proofs.FaultLaws.{KindFault}
 
@@ -35,18 +36,16 @@ to_part : (k : NativeKind) (i : ℤ) (t : Tree) (c : CoordType) (d : Dimension) 
 to_part GeometryCollection i t c d id h = inr (id, h)
 to_part k i t c d id h = inl (k, id, h)
 
-pub geometry_answer : (r : Answer) (i : ℤ) (t : Tree) → TellsBoth r (Part Native i t) (PartFault Native NativeFault i t) → TellsBoth r (GeometryMember i t) (GeometryMemberFault i t)
-geometry_answer (Ok x) i t h = to_part h.0 i t x.0 x.1 h.1 h.2
-geometry_answer (Err f) i t h = h
-
-pub native_any : (k : NativeKind) (t : Tree) (r : Answer) → (k ≢ GeometryCollection) → TellsBoth r (OverLeaf t k) (OverLeafFault k t) → TellsBoth r (Native t k) (NativeFault k t)
-native_any GeometryCollection t r h a = absurd (h refl)
-native_any k t r h a = a
+pub member_answer : (b : Bool) (r : Answer) (i : ℤ) (t : Tree) → TellsBoth r (Part (NativeIn b) i t) (PartFault (NativeIn b) (NativeFaultIn b) i t) → TellsBoth r (MemberIn b i t) (MemberFaultIn b i t)
+member_answer true (Ok x) i t h = to_part h.0 i t x.0 x.1 h.1 h.2
+member_answer false (Ok x) i t h = h
+member_answer b (Err f) i t h = h
 
 -- the lists of a kind other than a collection
-pub over_leaf_any : (k : NativeKind) (n : ℕ) (t : Tree) (r : Answer) → (k ≢ GeometryCollection) → n ≡ levels_of k → TellsBoth r (LeafUnder n t) (ListsFault CoordinateFault n t) → TellsBoth r (OverLeaf t k) (OverLeafFault k t)
-over_leaf_any GeometryCollection n t r h same a = absurd (h refl)
-over_leaf_any k n t r h same a = subst (λ m. TellsBoth r (LeafUnder m t) (ListsFault CoordinateFault m t)) same a
+pub over_leaf_answer : (b : Bool) (k : NativeKind) (n : ℕ) (s : Summary) (t : Tree) (r : Answer) → (k ≢ GeometryCollection) → n ≡ levels_of k → ((u : Tree) → Shows s u → TellsBoth r (LeafUnder n u) (ListsFault CoordinateFault n u)) → ShowsIn b s t → TellsBoth r (NativeIn b t k) (NativeFaultIn b k t)
+over_leaf_answer b GeometryCollection n s t r other same says shown = absurd (other refl)
+over_leaf_answer true k n s t r other same says shown = subst (λ m. TellsBoth r (LeafUnder m t) (ListsFault CoordinateFault m t)) same (says t (shows_of_inner s t shown))
+over_leaf_answer false k n s t r other same says shown = subst (λ m. TellsBoth r (LeafUnder m t) (ListsFault CoordinateFault m t)) same (says t shown)
 
 -- a member of a geometry that is no collection is the same in a collection
 kind_fault_same : (k : NativeKind) (d : Dimension) (t : Tree) (p : Path) (f : LayoutFault) → (k ≡ GeometryCollection → ⊥) → KindFault Native NativeFault k d t p f → KindFault OverLeaf OverLeafFault k d t p f

@@ -4,10 +4,10 @@
 //! None of them allocates.
 ghost use Rattle.std.specs.Prelude.{IfErr, IfOk, ◌≡◌, IfSome, ◌↔◌, IsTrue, Some, ◌≢◌, ◌∷◌, [], true, ◌≤◌, ◌<◌, Ok, ℕ, List, Option, length, ◌&&◌, MatchResult};
 ghost use Rattle.arrow_values.specs.View.{tree, field_trees};
-ghost use Rattle.geoarrow_layout.specs.Shapes.{Answers, AnswersOne, Leaf, Native, Mixed, Collection, Geometry, BoxShape, IsBytes, IsText, Accepts, AnswersKind, IsStructured, IsSeparatedAs, OverLeaf, Member, GeometryMember, IsBoxAs};
+ghost use Rattle.geoarrow_layout.specs.Shapes.{Answers, AnswersOne, Leaf, Native, Mixed, Collection, Geometry, BoxShape, IsBytes, IsText, Accepts, AnswersKind, IsStructured, IsSeparatedAs, IsBoxAs};
 ghost use Rattle.geoarrow_layout.specs.Kinds.{name_text, extension_of, name_of};
-ghost use Rattle.geoarrow_layout.specs.Steps.{Tells, TellsKind, is_measured, NamesSay, SizeSays, IsNoLeaf, Shows, ShowsInner, TellsBoth, missing_fault, IsOtherFault, UnionSays, UnionSaysOne, has_bit};
-ghost use Rattle.geoarrow_layout.specs.FaultAt.{HasFault, BoxFault, MixedFault, NativeFault, GeometryFault, FaultAt, SeparatedFault, CoordinateFault, BoxNamesFault, ListsFault, OverLeafFault, MemberFault, GeometryMemberFault};
+ghost use Rattle.geoarrow_layout.specs.Steps.{Tells, TellsKind, is_measured, NamesSay, SizeSays, IsNoLeaf, Shows, ShowsInner, ShowsIn, NativeIn, NativeFaultIn, MemberIn, MemberFaultIn, TellsBoth, missing_fault, IsOtherFault, UnionSays, UnionSaysOne, has_bit};
+ghost use Rattle.geoarrow_layout.specs.FaultAt.{HasFault, BoxFault, MixedFault, NativeFault, GeometryFault, FaultAt, SeparatedFault, CoordinateFault, BoxNamesFault, ListsFault};
 ghost use Rattle.arrow_values.specs.Tree.{Tree, Text, struct};
 ghost use Rattle.geoarrow_layout.specs.Summary.{Summarizes, IsBits, SomeAt, IsBottom};
 ghost use Rattle.geoarrow_layout.specs.Candidates.{Holds, IsAccepted, IsAcceptedStructure};
@@ -124,7 +124,7 @@ pub fn parse_native(
     ensures exact { Answers result (Native (tree data_type.now) kind) }
     ensures fault { IfErr result (HasFault (NativeFault kind (tree data_type.now))) }
 {
-    any_native(kind, &summarize(data_type))
+    native(true, kind, &summarize(data_type))
 }
 
 /// Reads well-known binary (GeoArrow, "WKB"): bytes, of any width. Errs on any other data type. Allocates nothing.
@@ -223,7 +223,7 @@ pub(crate) fn kind_under(name: ExtensionName, summary: &Summary) -> Result<Kind,
     ensures named { IfOk result (λ k. (extension_of k ≡ name) × IsStructured k) }
 {
     match name {
-        ExtensionName::Native(kind) => match any_native(kind, summary) {
+        ExtensionName::Native(kind) => match native(true, kind, summary) {
             Ok(pair) => Ok(Kind::Native(kind, pair.0, pair.1)),
             Err(fault) => Err(fault),
         },
@@ -567,44 +567,6 @@ fn leaf_under(summary: &Summary, levels: u8) -> Result<(CoordType, Dimension), L
     leaf(&summary.bottom)
 }
 
-/// The lists of a native kind over a coordinate.
-pub(crate) fn native(
-    kind: NativeKind,
-    summary: &Summary,
-) -> Result<(CoordType, Dimension), LayoutFault>
-    ensures { (t : Tree) → Shows summary.now t → TellsBoth result (OverLeaf t kind) (OverLeafFault kind t) }
-{
-    match kind {
-        NativeKind::GeometryCollection => Err(LayoutFault::BadTypeId),
-        _ => leaf_under(summary, levels(kind)),
-    }
-}
-
-/// What was read of a member, if it has the dimension that the type id says.
-#[inline(always)]
-fn of_dimension(
-    dimension: Dimension,
-    read: Result<(CoordType, Dimension), LayoutFault>,
-) -> Result<(CoordType, Dimension), LayoutFault>
-    ensures { MatchResult result (λ x. (read ≡ Ok x) × (x.1 ≡ dimension)) (IsOtherFault read dimension) }
-{
-    match read {
-        Ok(pair) if pair.1 == dimension => Ok(pair),
-        Ok(_) => Err(LayoutFault::MemberDimension),
-        Err(fault) => Err(fault),
-    }
-}
-
-/// A member of a union in a collection.
-pub(crate) fn member(id: i8, summary: &Summary) -> Result<(CoordType, Dimension), LayoutFault>
-    ensures { (t : Tree) → Shows summary.now t → TellsBoth result (Member id t) (MemberFault id t) }
-{
-    let Some((kind, dimension)) = parts_of_id(id) else {
-        return Err(LayoutFault::BadTypeId);
-    };
-    of_dimension(dimension, native(kind, summary))
-}
-
 /// The coordinate type of a union, from what was seen of its members.
 fn one_of_union(
     no_members: bool,
@@ -664,30 +626,53 @@ fn collection(summary: &Summary) -> Result<(CoordType, Dimension), LayoutFault>
     }
 }
 
-/// A native kind, the collection too.
-pub(crate) fn any_native(
+/// A native kind; a collection only where collections are allowed.
+pub(crate) fn native(
+    collections: bool,
     kind: NativeKind,
     summary: &Summary,
 ) -> Result<(CoordType, Dimension), LayoutFault>
-    ensures { (t : Tree) → ShowsInner summary.now t → TellsBoth result (Native t kind) (NativeFault kind t) }
+    ensures { (t : Tree) → ShowsIn collections summary.now t → TellsBoth result (NativeIn collections t kind) (NativeFaultIn collections kind t) }
 {
     match kind {
-        NativeKind::GeometryCollection => collection(summary),
-        _ => native(kind, summary),
+        NativeKind::GeometryCollection => {
+            if collections {
+                collection(summary)
+            } else {
+                Err(LayoutFault::BadTypeId)
+            }
+        }
+        _ => leaf_under(summary, levels(kind)),
     }
 }
 
-/// A member of a union of geometries.
-pub(crate) fn geometry_part(
+/// What was read of a member, if it has the dimension that the type id says.
+#[inline(always)]
+fn of_dimension(
+    dimension: Dimension,
+    read: Result<(CoordType, Dimension), LayoutFault>,
+) -> Result<(CoordType, Dimension), LayoutFault>
+    ensures { MatchResult result (λ x. (read ≡ Ok x) × (x.1 ≡ dimension)) (IsOtherFault read dimension) }
+{
+    match read {
+        Ok(pair) if pair.1 == dimension => Ok(pair),
+        Ok(_) => Err(LayoutFault::MemberDimension),
+        Err(fault) => Err(fault),
+    }
+}
+
+/// A member of a union of geometries, or, where collections are not allowed, of the union in a collection.
+pub(crate) fn member(
+    collections: bool,
     id: i8,
     summary: &Summary,
 ) -> Result<(CoordType, Dimension), LayoutFault>
-    ensures { (t : Tree) → ShowsInner summary.now t → TellsBoth result (GeometryMember id t) (GeometryMemberFault id t) }
+    ensures { (t : Tree) → ShowsIn collections summary.now t → TellsBoth result (MemberIn collections id t) (MemberFaultIn collections id t) }
 {
     let Some((kind, dimension)) = parts_of_id(id) else {
         return Err(LayoutFault::BadTypeId);
     };
-    of_dimension(dimension, any_native(kind, summary))
+    of_dimension(dimension, native(collections, kind, summary))
 }
 
 /// A union of members of one coordinate type and dimension.

@@ -1,0 +1,11 @@
+use Rattle.std.proofs.Common.{◌≡◌, take}
+use Rattle.geoarrow_layout.proofs.Terms.{member_trees, AllMembers}
+use Rattle.geoarrow_layout.specs.Steps.{MemberIn}
+use Rattle.geoarrow_layout.proofs.FaultLaws.{Read}
+use Rattle.geoarrow_layout.proofs.find.push_place.Given as goal
+
+abbrev pub invariant-loop-place : goal.invariant-loop-place
+invariant-loop-place l = record {
+  read : AllMembers (Read (MemberIn l.collections)) (member_trees (take l.place l.members));
+  same : l.path.items ≡ l.fn.path.items;
+}
