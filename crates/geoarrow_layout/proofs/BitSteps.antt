@@ -6,6 +6,7 @@ use Rattle.std.proofs.lemmas.Nat.Bits.{bit_at_set_same, bit_at_set_other, bit_at
 use Rattle.std.proofs.lemmas.Bool.{cases_eq, ltb-true, ltb-false}
 use mir.Val.{bits}
 use Rattle.geoarrow_layout.proofs.Terms.{place_of, CoordOf, DimensionOf, CoordType, Dimension, LayoutFault, order_of}
+use Rattle.geoarrow_layout.specs.OneShape.{pos_same}
 use Rattle.geoarrow_layout.specs.Summary.{IsBits}
 use Rattle.geoarrow_layout.specs.Steps.{AddsBit, AddsBits}
 use lib.IntN.{negsuc, nat_abs}
@@ -52,9 +53,6 @@ adds_one n j more P there only adds = λ i. (
   (λ e. elim ((adds i).0 e) [ inl was ↦ inl was | inr is ↦ inr (subst P (sym is) there) ]),
   (λ h. elim h [ inl e ↦ (adds i).1 (inl e) | inr p ↦ (adds i).1 (inr (only i p)) ]),
 )
-
-pub pos_same : (m n : ℕ) → pos m ≡ pos n → m ≡ n
-pos_same m n h = cc
 
 pub coord_added : (n j more : ℕ) (part : Answer) (p : CoordType × Dimension) → part ≡ Ok p → j ≡ place_of p.0 → AddsBit n j more → AddsBits n (CoordOf part) more
 coord_added n j more part p is place adds =

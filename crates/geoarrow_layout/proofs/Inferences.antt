@@ -8,10 +8,9 @@ use Rattle.geoarrow_layout.specs.Shapes.{SameNames}
 use Rattle.geoarrow_layout.specs.Summary.{IsBits}
 use Rattle.geoarrow_layout.specs.Inferred.{AnswersSome, Inferred, IsInferredAs, IsInferredSize}
 use Rattle.geoarrow_layout.specs.Steps.{is_measured, NamesSay, SizeSays}
-use Rattle.geoarrow_layout.specs.OneShape.{apart, separated_same}
+use Rattle.geoarrow_layout.specs.OneShape.{apart, separated_same, pos_same}
 use Rattle.geoarrow_layout.proofs.FieldSteps.{same_three, has_at}
 use Rattle.geoarrow_layout.proofs.Bottoms.{IsAList, listed, at_bottom}
-use Rattle.geoarrow_layout.proofs.BitSteps.{pos_same}
 
 abbrev pub PairOption : Type 0
 PairOption = Option (CoordType × Dimension)

@@ -5,6 +5,7 @@ use Rattle.std.proofs.Math.Dec.{eqb-suc-zero}
 use Rattle.std.proofs.lemmas.Bool.{cases_eq}
 use Rattle.std.proofs.lemmas.Nat.Bits.{same_from_bits, bit_at-pow_same, bit_at-pow_other, bit_at-lt}
 use Rattle.geoarrow_layout.proofs.Terms.{Tree, union, FieldTree, MemberTrees, no_members, member, member_trees, UnionMode, CoordType, Interleaved, Dimension, XY, LayoutFault, UnexpectedType, ListWidth, Bottom, Union, Deep, Other, Summary, order_of, Mixed, Geometry, Member, GeometryMember, AllMembers, SomeMember, HasMembers, Answers, Path, Faults, HasFault, FirstFault, UnionFault, MemberFault, MixedFault, GeometryMemberFault, GeometryFault, IsFaultOf, Seen, place_of, AreLevels, IsBottom, IsUnion, SummarizesBy, Summarizes, CoordOf, DimensionOf, Tells, TellsBoth, IsNested, IsNoLeaf, Shows, ShowsInner, member_same, geometry_part_same}
+use Rattle.geoarrow_layout.specs.OneShape.{order_same}
 use Rattle.geoarrow_layout.specs.FaultAt.{DimensionsFault}
 use Rattle.geoarrow_layout.specs.Summary.{IsBits}
 use Rattle.geoarrow_layout.specs.Steps.{AddsBits, first_fault, AreOf, IsCoordFault, UnionSays, UnionSaysOne}
@@ -38,10 +39,6 @@ pow_bit n j i is one = elim (cases_eq i j) [ inl e ↦ e | inr e ↦ let z : bit
 place_same : (c b : CoordType) → place_of c ≡ place_of b → c ≡ b
 place_same Interleaved Interleaved h = refl
 place_same _ _ h = grind arith
-
-order_same : (d e : Dimension) → order_of d ≡ order_of e → d ≡ e
-order_same XY XY h = refl
-order_same _ _ h = grind arith
 
 -- the bits of keys for which S holds of some member
 abbrev Keyed : (K : Type 0) → (K → ℕ) → (K → ℤ → Tree → Type 0) → MemberTrees → ℕ → Type 0

@@ -46,6 +46,7 @@ pub fn find_fault(
 /// ```rust
 /// let item = child_field(&data_type, 0);
 /// ```
+#[tactic(auto, using(crate::proofs::FaultPaths::field_there, crate::proofs::FaultPaths::no_field_there, crate::proofs::FaultPaths::member_there, crate::proofs::FaultPaths::no_member_there))]
 pub fn child_field(data_type: &DataType, place: usize) -> Option<&Field>
     ensures { MatchOption result (child_at (tree data_type.now) place ≡ None) (λ f. child_at (tree data_type.now) place ≡ Some f.now) }
 {
@@ -53,32 +54,12 @@ pub fn child_field(data_type: &DataType, place: usize) -> Option<&Field>
         DataType::List(item) | DataType::LargeList(item) | DataType::FixedSizeList(item, _) => {
             if place == 0 { Some(item) } else { None }
         }
-        DataType::Struct(fields) => field_of(fields.as_slice(), place),
-        DataType::Union(members, _) => member_of(members.as_slice(), place),
+        DataType::Struct(fields) => fields.as_slice().get(place),
+        DataType::Union(members, _) => match members.as_slice().get(place) {
+            Some(member) => Some(&member.1),
+            None => None,
+        },
         _ => None,
-    }
-}
-
-/// The field at that place.
-#[tactic(auto, using(crate::proofs::FaultPaths::field_there, crate::proofs::FaultPaths::no_field_there))]
-fn field_of(fields: &[Field], place: usize) -> Option<&Field>
-    ensures { MatchOption result (field_at (field_trees fields.now) place ≡ None) (λ f. field_at (field_trees fields.now) place ≡ Some f.now) }
-{
-    if place < fields.len() {
-        Some(&fields[place])
-    } else {
-        None
-    }
-}
-
-/// The field of the member at that place.
-fn member_of(members: &[(i8, Field)], place: usize) -> Option<&Field>
-    ensures { MatchOption result (member_at (member_trees members.now) place ≡ None) (λ f. member_at (member_trees members.now) place ≡ Some f.now) }
-{
-    if place < members.len() {
-        Some(&members[place].1)
-    } else {
-        None
     }
 }
 

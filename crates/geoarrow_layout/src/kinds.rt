@@ -165,6 +165,14 @@ impl From<Dimension> for Dimensions {
     }
 }
 
+/// All dimensions, in their order.
+pub(crate) const DIMENSIONS: [Dimension; 4] = [
+    Dimension::XY,
+    Dimension::XYZ,
+    Dimension::XYM,
+    Dimension::XYZM,
+];
+
 /// The dimension of that place.
 pub(crate) fn dimension_at(order: u8) -> Option<Dimension>
     ensures { (d : Dimension) → (result ≡ Some d) ↔ (order ≡ order_of d) }

@@ -23,6 +23,9 @@ use crate::names::{Candidates, ExtensionName};
 use crate::summary::{Below, Bottom, Summary, has_bit, is_float64, leaf_bottom, summarize};
 use arrow_values::{DataType, Field};
 
+/// What a reader of coordinates returns.
+pub(crate) type Answer = Result<(CoordType, Dimension), LayoutFault>;
+
 /// Reads a point (GeoArrow, "Coordinate", "Point"): a fixed size list whose inner field's name gives the dimension and
 /// whose size matches it, or a struct of two fields, of four, or of three named x, y and z or x, y and m in
 /// any order. Errs on any other data type. Allocates nothing.
@@ -163,6 +166,7 @@ pub fn parse_wkt(data_type: &DataType) -> Result<Width, LayoutFault>
 ///     Err(LayoutFault::UnexpectedType)
 /// );
 /// ```
+#[tactic(auto, using(crate::proofs::KindSteps::kind_exact, crate::proofs::Readings::told_fault))]
 pub fn parse_kind(name: ExtensionName, data_type: &DataType) -> Result<Kind, LayoutFault>
     ensures exact { AnswersOne result (Accepts (name_text name) (tree data_type.now)) }
     ensures fault { IfErr result (HasFault (FaultAt name (tree data_type.now))) }
@@ -172,6 +176,7 @@ pub fn parse_kind(name: ExtensionName, data_type: &DataType) -> Result<Kind, Lay
 
 /// The kind, by the reader of the name.
 #[inline(always)]
+#[tactic(auto, using(crate::proofs::KindSteps::told_all))]
 fn kind_read(name: ExtensionName, data_type: &DataType) -> Result<Kind, LayoutFault>
     ensures { Tells result (Accepts (name_text name) (tree data_type.now)) (FaultAt name (tree data_type.now)) }
 {
@@ -436,10 +441,11 @@ fn paired(coord_type: CoordType, dimension: Option<Dimension>) -> Option<(CoordT
 fn sized_dimension(named: Option<Dimension>, size: i32) -> Option<Dimension>
     ensures { (d : Dimension) → (result ≡ Some d) ↔ SizeSays d named size }
 {
-    match size {
-        2 => Some(Dimension::XY),
-        3 => Some(third(is_xym(named))),
-        4 => Some(Dimension::XYZM),
+    match (size, named) {
+        (2, _) => Some(Dimension::XY),
+        (3, Some(Dimension::XYM)) => Some(Dimension::XYM),
+        (3, _) => Some(Dimension::XYZ),
+        (4, _) => Some(Dimension::XYZM),
         _ => None,
     }
 }
@@ -448,33 +454,12 @@ fn sized_dimension(named: Option<Dimension>, size: i32) -> Option<Dimension>
 fn counted_dimension(count: usize, names: u16) -> Option<Dimension>
     ensures { (d : Dimension) → (result ≡ Some d) ↔ NamesSay d count names }
 {
-    match count {
-        2 => Some(Dimension::XY),
-        3 => Some(third(is_measured(names))),
-        4 => Some(Dimension::XYZM),
+    match (count, is_measured(names)) {
+        (2, _) => Some(Dimension::XY),
+        (3, true) => Some(Dimension::XYM),
+        (3, false) => Some(Dimension::XYZ),
+        (4, _) => Some(Dimension::XYZM),
         _ => None,
-    }
-}
-
-/// Of three, whether they have a measure or a height.
-fn third(measured: bool) -> Dimension
-    ensures measure { (result ≡ Dimension.XYM) ↔ (measured ≡ true) }
-    ensures height { measured ≢ true → result ≡ Dimension.XYZ }
-{
-    if measured {
-        Dimension::XYM
-    } else {
-        Dimension::XYZ
-    }
-}
-
-/// Whether the inner name is `xym`.
-fn is_xym(named: Option<Dimension>) -> bool
-    ensures { IsTrue result ↔ (named ≡ Some Dimension.XYM) }
-{
-    match named {
-        Some(dimension) => dimension == Dimension::XYM,
-        None => false,
     }
 }
 
@@ -513,7 +498,7 @@ fn separated_dimension(count: usize, names: u16) -> Result<Dimension, LayoutFaul
 }
 
 /// A coordinate.
-fn leaf(bottom: &Bottom) -> Result<(CoordType, Dimension), LayoutFault>
+fn leaf(bottom: &Bottom) -> Answer
     ensures { (w : Option ListWidth) (levels : ℕ) (u : Tree) → IsBottom IsNoLeaf w levels bottom.now u → TellsBoth result (Leaf u) (CoordinateFault u) }
 {
     match bottom {
@@ -554,7 +539,7 @@ fn missing_level(bottom: &Bottom) -> LayoutFault
 }
 
 /// So many lists over a coordinate.
-fn leaf_under(summary: &Summary, levels: u8) -> Result<(CoordType, Dimension), LayoutFault>
+fn leaf_under(summary: &Summary, levels: u8) -> Answer
     requires { levels ≤ 3 }
     ensures { (t : Tree) → Shows summary.now t → TellsBoth result (LeafUnder levels t) (ListsFault CoordinateFault levels t) }
 {
@@ -593,7 +578,7 @@ fn both_of_union(
     fault: Option<LayoutFault>,
     coord_types: u8,
     dimensions: u8,
-) -> Result<(CoordType, Dimension), LayoutFault>
+) -> Answer
     ensures { UnionSays no_members fault coord_types dimensions result }
 {
     let coord_type = one_of_union(no_members, fault, coord_types)?;
@@ -604,7 +589,7 @@ fn both_of_union(
 }
 
 /// A list over a union of members of one coordinate type and dimension.
-fn collection(summary: &Summary) -> Result<(CoordType, Dimension), LayoutFault>
+fn collection(summary: &Summary) -> Answer
     ensures { (t : Tree) → ShowsInner summary.now t → TellsBoth result (Collection t) (ListsFault MixedFault 1 t) }
 {
     if summary.levels < 1 {
@@ -616,22 +601,17 @@ fn collection(summary: &Summary) -> Result<(CoordType, Dimension), LayoutFault>
     match summary.bottom {
         Bottom::Union {
             no_members,
-            ids: _,
             coord_types,
             dimensions,
             mixed_fault,
-            geometry_fault: _,
+            ..
         } => both_of_union(no_members, mixed_fault, coord_types, dimensions),
         _ => Err(LayoutFault::UnexpectedType),
     }
 }
 
 /// A native kind; a collection only where collections are allowed.
-pub(crate) fn native(
-    collections: bool,
-    kind: NativeKind,
-    summary: &Summary,
-) -> Result<(CoordType, Dimension), LayoutFault>
+pub(crate) fn native(collections: bool, kind: NativeKind, summary: &Summary) -> Answer
     ensures { (t : Tree) → ShowsIn collections summary.now t → TellsBoth result (NativeIn collections t kind) (NativeFaultIn collections kind t) }
 {
     match kind {
@@ -648,10 +628,7 @@ pub(crate) fn native(
 
 /// What was read of a member, if it has the dimension that the type id says.
 #[inline(always)]
-fn of_dimension(
-    dimension: Dimension,
-    read: Result<(CoordType, Dimension), LayoutFault>,
-) -> Result<(CoordType, Dimension), LayoutFault>
+fn of_dimension(dimension: Dimension, read: Answer) -> Answer
     ensures { MatchResult result (λ x. (read ≡ Ok x) × (x.1 ≡ dimension)) (IsOtherFault read dimension) }
 {
     match read {
@@ -662,11 +639,7 @@ fn of_dimension(
 }
 
 /// A member of a union of geometries, or, where collections are not allowed, of the union in a collection.
-pub(crate) fn member(
-    collections: bool,
-    id: i8,
-    summary: &Summary,
-) -> Result<(CoordType, Dimension), LayoutFault>
+pub(crate) fn member(collections: bool, id: i8, summary: &Summary) -> Answer
     ensures { (t : Tree) → ShowsIn collections summary.now t → TellsBoth result (MemberIn collections id t) (MemberFaultIn collections id t) }
 {
     let Some((kind, dimension)) = parts_of_id(id) else {
@@ -676,7 +649,7 @@ pub(crate) fn member(
 }
 
 /// A union of members of one coordinate type and dimension.
-pub(crate) fn mixed(summary: &Summary) -> Result<(CoordType, Dimension), LayoutFault>
+pub(crate) fn mixed(summary: &Summary) -> Answer
     ensures { (t : Tree) → Summarizes summary.now t → TellsBoth result (Mixed t) (MixedFault t) }
 {
     if 0 < summary.levels {
@@ -685,11 +658,10 @@ pub(crate) fn mixed(summary: &Summary) -> Result<(CoordType, Dimension), LayoutF
     match summary.bottom {
         Bottom::Union {
             no_members,
-            ids: _,
             coord_types,
             dimensions,
             mixed_fault,
-            geometry_fault: _,
+            ..
         } => both_of_union(no_members, mixed_fault, coord_types, dimensions),
         _ => Err(LayoutFault::UnexpectedType),
     }
@@ -705,11 +677,9 @@ pub(crate) fn geometry(summary: &Summary) -> Result<CoordType, LayoutFault>
     match summary.bottom {
         Bottom::Union {
             no_members,
-            ids: _,
             coord_types,
-            dimensions: _,
-            mixed_fault: _,
             geometry_fault,
+            ..
         } => one_of_union(no_members, geometry_fault, coord_types),
         _ => Err(LayoutFault::UnexpectedType),
     }

@@ -12,7 +12,7 @@ ghost use Rattle.geoarrow_layout.specs.FaultAt.{MemberFault, GeometryMemberFault
 use crate::encodings::{NativeKind, parts_of_id};
 use crate::fault::LayoutFault;
 use crate::kinds::{CoordType, Dimension, named_dimension, place_of};
-use crate::read::member;
+use crate::read::{Answer, member};
 use arrow_values::{DataType, Field};
 
 /// The two widths of lists.
@@ -256,7 +256,7 @@ fn with_id(ids: u64, id: i8) -> u64
 
 /// The set of coordinate types with that of a member, if it has one.
 #[tactic(auto, using(crate::proofs::BitSteps::coord_added, crate::proofs::BitSteps::coord_kept))]
-fn with_coord_type(bits: u8, part: &Result<(CoordType, Dimension), LayoutFault>) -> u8
+fn with_coord_type(bits: u8, part: &Answer) -> u8
     ensures { AddsBits bits (CoordOf part.now) result }
 {
     match part {
@@ -267,7 +267,7 @@ fn with_coord_type(bits: u8, part: &Result<(CoordType, Dimension), LayoutFault>)
 
 /// The set of dimensions with that of a member, if it has one.
 #[tactic(auto, using(crate::proofs::BitSteps::dimension_added, crate::proofs::BitSteps::dimension_kept))]
-fn with_dimension(bits: u8, part: &Result<(CoordType, Dimension), LayoutFault>) -> u8
+fn with_dimension(bits: u8, part: &Answer) -> u8
     ensures { AddsBits bits (DimensionOf part.now) result }
 {
     match part {
@@ -277,10 +277,7 @@ fn with_dimension(bits: u8, part: &Result<(CoordType, Dimension), LayoutFault>) 
 }
 
 /// The first fault.
-fn first_fault(
-    fault: Option<LayoutFault>,
-    part: &Result<(CoordType, Dimension), LayoutFault>,
-) -> Option<LayoutFault>
+fn first_fault(fault: Option<LayoutFault>, part: &Answer) -> Option<LayoutFault>
     ensures { result ≡ first_fault fault part.now }
 {
     match (fault, part) {
@@ -300,7 +297,7 @@ struct Members {
 }
 
 /// What was seen with one member more, of that type id and read as that.
-fn with_member(seen: Members, id: i8, part: &Result<(CoordType, Dimension), LayoutFault>) -> Members
+fn with_member(seen: Members, id: i8, part: &Answer) -> Members
     ensures ids { AddsBits seen.ids (λ i. (i < 64) × (id ≡ pos i)) result.ids }
     ensures coord_types { AddsBits seen.coord_types (CoordOf part.now) result.coord_types }
     ensures dimensions { AddsBits seen.dimensions (DimensionOf part.now) result.dimensions }
@@ -386,10 +383,7 @@ pub(crate) fn member_summary(collections: bool, data_type: &DataType) -> Summary
 }
 
 /// What a member of a union of geometries is as one of a collection, which holds no collections.
-fn in_collection(
-    id: i8,
-    part: Result<(CoordType, Dimension), LayoutFault>,
-) -> Result<(CoordType, Dimension), LayoutFault>
+fn in_collection(id: i8, part: Answer) -> Answer
     ensures { (t : Tree) → TellsBoth part (GeometryMember id t) (GeometryMemberFault id t) → TellsBoth result (Member id t) (MemberFault id t) }
 {
     let Some((kind, _)) = parts_of_id(id) else {

@@ -10,12 +10,22 @@ ghost use Rattle.geoarrow_layout.specs.Bare.{IsBare, members_in};
 
 use crate::encodings::{Kind, NativeKind, Width, list_names, member_name, type_id};
 use crate::kinds::{
-    CoordType, Dimension, box_names, coordinate_names, interleaved_name, list_size,
+    CoordType, DIMENSIONS, Dimension, box_names, coordinate_names, interleaved_name, list_size,
 };
 use crate::read::{bytes_width, text_width};
 use crate::summary::is_float64;
 use arrow_values::{DataType, Field, Fields, FixedName, UnionFields, UnionMode};
 use std::alloc::{AllocError, Global};
+
+/// The kinds of the members of the union in a collection, in the order of their type ids.
+const COLLECTED: [NativeKind; 6] = [
+    NativeKind::Point,
+    NativeKind::LineString,
+    NativeKind::Polygon,
+    NativeKind::MultiPoint,
+    NativeKind::MultiLineString,
+    NativeKind::MultiPolygon,
+];
 
 /// The data type of a coordinate, which is also that of a point (GeoArrow, "Coordinate", "Point"): a fixed size list of
 /// `Float64`, or a struct of `Float64` fields. Errs only when out of memory.
@@ -31,7 +41,7 @@ pub fn coord_data_type(
             let inner = Box::new(alloc, coordinate(alloc, interleaved_name(dimension)))?;
             Ok(DataType::FixedSizeList(inner, list_size(dimension)))
         }
-        CoordType::Separated => Ok(DataType::Struct(Fields::from(coordinates(alloc, dimension)?))),
+        CoordType::Separated => struct_of(alloc, coordinate_names(dimension)),
     }
 }
 
@@ -67,7 +77,7 @@ pub fn mixed_data_type(
     ensures { IfOk result (λ t. tree t ≡ mixed_layout coord_type dimension) }
 {
     let mut members = Vec::with_capacity(alloc, 6)?;
-    push_collected(alloc, &mut members, coord_type, dimension)?;
+    push_over(alloc, &mut members, &COLLECTED, coord_type, dimension)?;
     Ok(DataType::Union(UnionFields::from_members(members), UnionMode::Dense))
 }
 
@@ -90,7 +100,7 @@ pub fn geometry_data_type(alloc: Global, coord_type: CoordType) -> Result<DataTy
 pub fn box_data_type(alloc: Global, dimension: Dimension) -> Result<DataType, AllocError>
     ensures { IfOk result (λ t. tree t ≡ layout (Kind.Rect dimension)) }
 {
-    Ok(DataType::Struct(Fields::from(box_fields(alloc, dimension)?)))
+    struct_of(alloc, box_names(dimension))
 }
 
 /// The data type of well-known binary (GeoArrow, "WKB"). Allocates nothing.
@@ -140,29 +150,15 @@ fn coordinate(alloc: Global, name: FixedName) -> Field
     Field::fixed(alloc, name, DataType::Float64, false)
 }
 
-/// Such a field of each name.
-fn coordinate_fields(alloc: Global, names: &[FixedName]) -> Result<Vec<Field>, AllocError>
-    ensures { IfOk result (λ v. v.items ≡ map coordinate (map fixed_text names.now)) }
+/// A struct with such a field of each name.
+fn struct_of(alloc: Global, names: &[FixedName]) -> Result<DataType, AllocError>
+    ensures { IfOk result (λ t. tree t ≡ struct (field_trees (map coordinate (map fixed_text names.now)))) }
 {
     let mut fields = Vec::with_capacity(alloc, names.len())?;
     for name in names {
         fields.push(coordinate(alloc, *name))?;
     }
-    Ok(fields)
-}
-
-/// A field for each dimension, in order.
-fn coordinates(alloc: Global, dimension: Dimension) -> Result<Vec<Field>, AllocError>
-    ensures { IfOk result (λ v. v.items ≡ map coordinate (coordinate_names dimension)) }
-{
-    coordinate_fields(alloc, coordinate_names(dimension))
-}
-
-/// The fields of a box.
-fn box_fields(alloc: Global, dimension: Dimension) -> Result<Vec<Field>, AllocError>
-    ensures { IfOk result (λ v. v.items ≡ map coordinate (box_names dimension)) }
-{
-    coordinate_fields(alloc, box_names(dimension))
+    Ok(DataType::Struct(Fields::from(fields)))
 }
 
 /// A list of items of that name that are never null.
@@ -231,26 +227,6 @@ fn push_over(
     Ok(())
 }
 
-/// Puts the members of the union in a collection last.
-fn push_collected(
-    alloc: Global,
-    members: &mut Vec<(i8, Field)>,
-    coord_type: CoordType,
-    dimension: Dimension,
-) -> Result<(), AllocError>
-    ensures { OnOk result (members.new.items ≡ members.old.items ++ mixed_members coord_type dimension) }
-{
-    let kinds = [
-        NativeKind::Point,
-        NativeKind::LineString,
-        NativeKind::Polygon,
-        NativeKind::MultiPoint,
-        NativeKind::MultiLineString,
-        NativeKind::MultiPolygon,
-    ];
-    push_over(alloc, members, &kinds, coord_type, dimension)
-}
-
 /// Puts the members of a union of geometries that are of one dimension last.
 fn push_dimension(
     alloc: Global,
@@ -260,7 +236,7 @@ fn push_dimension(
 ) -> Result<(), AllocError>
     ensures { OnOk result (members.new.items ≡ members.old.items ++ dimension_members coord_type dimension) }
 {
-    push_collected(alloc, members, coord_type, dimension)?;
+    push_over(alloc, members, &COLLECTED, coord_type, dimension)?;
     let kind = NativeKind::GeometryCollection;
     let data_type = list_data_type(alloc, kind, coord_type, dimension)?;
     members.push(member_of(alloc, kind, dimension, data_type))?;
@@ -296,7 +272,7 @@ fn is_layout(data_type: &DataType, kind: &Kind) -> bool
             is_native(data_type, *kind, *coord_type, *dimension)
         }
         Kind::Geometry(coord_type) => is_geometry(data_type, *coord_type),
-        Kind::Rect(dimension) => is_box(data_type, *dimension),
+        Kind::Rect(dimension) => is_struct(data_type, box_names(*dimension)),
         Kind::Wkb(width) => bytes_width(data_type) == Some(*width),
         Kind::Wkt(width) => text_width(data_type) == Some(*width),
     }
@@ -389,13 +365,6 @@ fn is_struct(data_type: &DataType, names: &[FixedName]) -> bool
     are_coordinates(fields.as_slice(), names)
 }
 
-/// Whether it is the one that is written for a box.
-fn is_box(data_type: &DataType, dimension: Dimension) -> bool
-    ensures { IsTrue result ↔ (tree data_type.now ≡ layout (Kind.Rect dimension)) }
-{
-    is_struct(data_type, box_names(dimension))
-}
-
 /// Whether the data type is lists of items of these names over a coordinate.
 fn is_over_leaf(
     data_type: &DataType,
@@ -440,7 +409,7 @@ fn is_mixed(data_type: &DataType, coord_type: CoordType, dimension: Dimension) -
     if *mode != UnionMode::Dense {
         return false;
     }
-    are_mixed(members.as_slice(), coord_type, dimension)
+    are_members_over(members.as_slice(), &COLLECTED, coord_type, dimension)
 }
 
 /// Whether the data type is the one that is written for geometries of any kind.
@@ -453,20 +422,7 @@ fn is_geometry(data_type: &DataType, coord_type: CoordType) -> bool
     if *mode != UnionMode::Dense {
         return false;
     }
-    are_geometries(members.as_slice(), coord_type)
-}
-
-/// Whether the members are those that are written for geometries of any kind.
-fn are_geometries(members: &[(i8, Field)], coord_type: CoordType) -> bool
-    ensures { IsTrue result ↔ (members.now ≡ geometry_members coord_type) }
-{
-    let dimensions = [
-        Dimension::XY,
-        Dimension::XYZ,
-        Dimension::XYM,
-        Dimension::XYZM,
-    ];
-    are_in(members, &dimensions, coord_type)
+    are_in(members.as_slice(), &DIMENSIONS, coord_type)
 }
 
 /// Whether the members are those that are written for geometries of these dimensions.
@@ -499,22 +455,7 @@ fn are_of_dimension(members: &[(i8, Field)], coord_type: CoordType, dimension: D
     if !is_collection(last.1.data_type(), coord_type, dimension) {
         return false;
     }
-    are_mixed(rest, coord_type, dimension)
-}
-
-/// Whether the members are those of the union in a collection.
-fn are_mixed(members: &[(i8, Field)], coord_type: CoordType, dimension: Dimension) -> bool
-    ensures { IsTrue result ↔ (members.now ≡ mixed_members coord_type dimension) }
-{
-    let kinds = [
-        NativeKind::Point,
-        NativeKind::LineString,
-        NativeKind::Polygon,
-        NativeKind::MultiPoint,
-        NativeKind::MultiLineString,
-        NativeKind::MultiPolygon,
-    ];
-    are_members_over(members, &kinds, coord_type, dimension)
+    are_members_over(rest, &COLLECTED, coord_type, dimension)
 }
 
 /// Whether the members are those of these kinds, each over a coordinate.
