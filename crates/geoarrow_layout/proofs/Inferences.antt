@@ -1,14 +1,6 @@
 -- Points that trees are taken for.
-use Rattle.std.proofs.Common.{◌≡◌, ◌↔◌, ◌<◌, inl, inr, ℕ, ℤ, pos, refl, sym, ap, subst, ◌∙◌, arith, Bool, true, false, ◌&&◌, Option, Some, None, List, [], ◌∷◌, length, codes}
-use Rattle.std.proofs.lemmas.Bool.{and_parts, cases_Bool}
-use Rattle.std.proofs.lemmas.Option.{some_pair_parts}
-use Rattle.geoarrow_layout.proofs.Terms.{Text, Metadata, Tree, list, large_list, fixed_size_list, struct, FieldTrees, CoordType, Interleaved, Separated, Dimension, XY, XYZ, XYM, ListWidth, FixedSizeList, Struct, Summary, size_of, names_of, IsSeparatedAs, Leaf, SomeAt, IsBottom, IsUnion, Summarizes, are_float64, has_bit}
-use Rattle.geoarrow_layout.specs.Kinds.{interleaved_name}
+use Rattle.geoarrow_layout.proofs.Terms.{◌≡◌, ◌↔◌, ◌<◌, inl, inr, ℕ, ℤ, pos, refl, sym, ap, subst, ◌∙◌, arith, Bool, true, false, ◌&&◌, Option, Some, None, List, [], ◌∷◌, length, codes, and_parts, cases_Bool, some_pair_parts, Text, Metadata, Tree, list, large_list, fixed_size_list, struct, FieldTrees, CoordType, Interleaved, Separated, Dimension, XY, XYZ, XYM, ListWidth, FixedSizeList, Struct, Summary, size_of, names_of, IsSeparatedAs, Leaf, SomeAt, IsBottom, IsUnion, Summarizes, are_float64, has_bit, interleaved_name, IsBits, AnswersSome, Inferred, IsInferredAs, IsInferredSize, is_measured, NamesSay, SizeSays, apart, separated_same, pos_same}
 use Rattle.geoarrow_layout.specs.Shapes.{SameNames}
-use Rattle.geoarrow_layout.specs.Summary.{IsBits}
-use Rattle.geoarrow_layout.specs.Inferred.{AnswersSome, Inferred, IsInferredAs, IsInferredSize}
-use Rattle.geoarrow_layout.specs.Steps.{is_measured, NamesSay, SizeSays}
-use Rattle.geoarrow_layout.specs.OneShape.{apart, separated_same, pos_same}
 use Rattle.geoarrow_layout.proofs.FieldSteps.{same_three, has_at}
 use Rattle.geoarrow_layout.proofs.Bottoms.{IsAList, listed, at_bottom}
 

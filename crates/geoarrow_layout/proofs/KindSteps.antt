@@ -1,12 +1,7 @@
 -- The kind of a name and a tree: there is one at most, and it is what a reader's answer says.
-use Rattle.std.proofs.Common.{◌≡◌, ◌⊎◌, inl, inr, Bool, true≢false, IsTrue, is_ok, cond, refl, sym, ap, subst, ◌∙◌, ◌↔◌, IfOk, IfErr, Option, Some, None, Result, Ok, Err}
-use Rattle.std.specs.Str.{bytes_eq}
-use Rattle.std.proofs.lemmas.Option.{same_Some}
-use Rattle.geoarrow_layout.proofs.Terms.{Text, Tree, CoordType, Dimension, NativeKind, Point, LineString, Polygon, MultiPoint, MultiLineString, MultiPolygon, GeometryCollection, Width, Plain, Kind, OfNative, OfGeometry, OfRect, OfWkb, OfWkt, ExtensionName, name_text, extension_of, Native, IsBytes, IsText, Accepted, Accepts, IsStructured, AnswersOne, any_native_same, geometry_same, box_shape_same, LayoutFault, Summary, Summarizes, layout, IsAccepted, IsAcceptedStructure, Path, HasFault, FaultAt, Tells}
+use Rattle.geoarrow_layout.proofs.Terms.{◌≡◌, ◌⊎◌, inl, inr, Bool, true≢false, IsTrue, is_ok, cond, refl, sym, ap, subst, ◌∙◌, ◌↔◌, IfOk, IfErr, Option, Some, None, Result, Ok, Err, bytes_eq, same_Some, Text, Tree, CoordType, Dimension, NativeKind, Point, LineString, Polygon, MultiPoint, MultiLineString, MultiPolygon, GeometryCollection, Width, Plain, Kind, OfNative, OfGeometry, OfRect, OfWkb, OfWkt, ExtensionName, name_text, extension_of, Native, IsBytes, IsText, Accepted, Accepts, IsStructured, AnswersOne, any_native_same, geometry_same, box_shape_same, LayoutFault, Summary, Summarizes, layout, IsAccepted, IsAcceptedStructure, Path, HasFault, FaultAt, Tells, AnswersKind, TellsKind}
 use Rattle.geoarrow_layout.specs.declared.names.ExtensionName.TheVariants as names
-use Rattle.geoarrow_layout.specs.Shapes.{AnswersKind}
 use Rattle.geoarrow_layout.proofs.Distinct.{layouts_are_distinct}
-use Rattle.geoarrow_layout.specs.Steps.{TellsKind}
 use Rattle.geoarrow_layout.proofs.FaultLaws.{accepted_apart}
 use Rattle.geoarrow_layout.proofs.Readings.{exactly_one}
 

@@ -1,11 +1,6 @@
 -- Every kind is listed, and once.
-use Rattle.std.proofs.Common.{◌≡◌, ◌<◌, ℕ, zero, suc, ◌+◌, ◌*◌, ◌-◌, Bool, true, ◌&&◌, nat_eq, List, [], ◌∷◌, length, get_or, refl, ap, lit<, arith}
-use Rattle.std.proofs.lemmas.Bool.{and_parts, eqb-true}
-use Rattle.std.specs.List.{Contains}
-use Rattle.geoarrow_layout.proofs.Terms.{CoordType, Interleaved, Separated, Dimension, XY, NativeKind, Point, LineString, Plain, Large, View, Kind, Rect, Wkb, Wkt, order_of, place_of}
+use Rattle.geoarrow_layout.proofs.Terms.{◌≡◌, ◌<◌, ℕ, zero, suc, ◌+◌, ◌*◌, ◌-◌, Bool, true, ◌&&◌, nat_eq, List, [], ◌∷◌, length, get_or, refl, ap, lit<, arith, and_parts, eqb-true, Contains, CoordType, Interleaved, Separated, Dimension, XY, NativeKind, Point, LineString, Plain, Large, View, Kind, Rect, Wkb, Wkt, order_of, place_of, ALL, offset_of}
 use Rattle.geoarrow_layout.specs.declared.encodings.Kind.TheVariants.{Native, Geometry}
-use Rattle.geoarrow_layout.specs.declared.encodings.TheConstants.Kind.{ALL}
-use Rattle.geoarrow_layout.specs.Kinds.{offset_of}
 
 -- where a native kind stands
 abbrev place : NativeKind → CoordType → Dimension → ℕ

@@ -1,6 +1,5 @@
 -- What a reader answers, in short words.
-use Rattle.std.proofs.Common.{◌≡◌, ◌↔◌, subst, ℤ, pos, Result, Ok, Err, Option, Some, ap, ◌∙◌, IfErr}
-use Rattle.geoarrow_layout.proofs.Terms.{CoordType, Dimension, LayoutFault, NativeKind, type_id_of, Answers, AnswersOne, Path, Located, HasFault, Tells, TellsBoth}
+use Rattle.geoarrow_layout.proofs.Terms.{◌≡◌, ◌↔◌, subst, ℤ, pos, Result, Ok, Err, Option, Some, ap, ◌∙◌, IfErr, CoordType, Dimension, LayoutFault, NativeKind, type_id_of, Answers, AnswersOne, Path, Located, HasFault, Tells, TellsBoth}
 
 abbrev pub Answer : Type 0
 Answer = Result (CoordType × Dimension) LayoutFault

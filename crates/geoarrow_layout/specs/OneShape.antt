@@ -1,16 +1,6 @@
 -- Laws of `Shapes`: a data type of a kind has one coordinate type and one dimension.
-use Rattle.std.proofs.Common.{◌≡◌, ◌≤◌, ◌+◌, ◌*◌, inl, inr, ℕ, zero, suc, ℤ, pos, true, false, List, [], ◌∷◌, refl, sym, subst, ◌∙◌, arith}
-use Rattle.std.specs.Str.{bytes_eq}
-use Rattle.std.proofs.lemmas.Slice.Eq.{bytes_eq-Decides}
-use Rattle.arrow_values.specs.Tree.{Text, Tree, list, large_list, fixed_size_list, struct, union, no_members, member}
-use Rattle.geoarrow_layout.specs.declared.kinds.CoordType.{CoordType}
-use Rattle.geoarrow_layout.specs.declared.kinds.CoordType.TheVariants.{Interleaved, Separated}
-use Rattle.geoarrow_layout.specs.declared.kinds.Dimension.{Dimension}
-use Rattle.geoarrow_layout.specs.declared.kinds.Dimension.TheVariants.{XY, XYZ, XYM, XYZM}
-use Rattle.geoarrow_layout.specs.declared.encodings.NativeKind.{NativeKind}
-use Rattle.geoarrow_layout.specs.declared.encodings.NativeKind.TheVariants.{Point, LineString, Polygon, MultiPoint, MultiLineString, MultiPolygon, GeometryCollection}
-use Rattle.geoarrow_layout.specs.declared.summary.ListWidth.{ListWidth}
-use Rattle.geoarrow_layout.specs.declared.summary.ListWidth.TheVariants.{List as Lists, LargeList as LargeLists}
+use Rattle.geoarrow_layout.specs.Words.{◌≤◌, ◌+◌, inl, inr, refl, sym, subst, ◌∙◌, arith, bytes_eq, bytes_eq-Decides, Text, Tree, list, large_list, fixed_size_list, struct, union, no_members, member, CoordType, Interleaved, Separated, Dimension, XY, XYZ, XYM, XYZM, NativeKind, Point, LineString, Polygon, MultiPoint, MultiLineString, MultiPolygon, GeometryCollection, ListWidth, Lists, LargeLists}
+use Rattle.std.proofs.Common.{◌≡◌, ◌*◌, ℕ, zero, suc, ℤ, pos, true, false, List, [], ◌∷◌}
 use Rattle.geoarrow_layout.specs.Kinds.{interleaved_name, order_of, offset_of, type_id_of}
 use Rattle.geoarrow_layout.specs.Shapes.{SameNames, IsSeparatedAs, Leaf, ListsOver, Levels, levels_of, OverLeaf, Member, Mixed, Collection, Native, GeometryMember, Geometry, names_of, IsBoxAs, BoxShape}
 

@@ -1,20 +1,5 @@
 -- What the steps of the walk and of the readers do.
-use Rattle.std.specs.Prelude.{ℕ, zero, suc, nat_eq, ℤ, pos, ◌≡◌, ◌≢◌, ◌↔◌, ◌⊎◌, ◌^◌, ◌++◌, [], Bool, true, false, ◌&&◌, Option, Some, None, Result, Ok, Err, MatchResult}
-use Rattle.std.specs.Int.{bit_at}
-use Rattle.arrow_values.specs.Tree.{Tree, list, large_list, MemberTrees}
-use Rattle.geoarrow_layout.specs.declared.kinds.CoordType.{CoordType}
-use Rattle.geoarrow_layout.specs.declared.kinds.Dimension.{Dimension}
-use Rattle.geoarrow_layout.specs.declared.kinds.Dimension.TheVariants.{XY, XYZ, XYM, XYZM}
-use Rattle.geoarrow_layout.specs.declared.fault.LayoutFault.{LayoutFault}
-use Rattle.geoarrow_layout.specs.declared.fault.LayoutFault.TheVariants.{UnexpectedType, MixedWidths, MemberDimension, EmptyUnion, SeveralCoordTypes, SeveralDimensions}
-use Rattle.geoarrow_layout.specs.declared.summary.ListWidth.{ListWidth}
-use Rattle.geoarrow_layout.specs.declared.summary.ListWidth.TheVariants.{List as Lists, LargeList as LargeLists}
-use Rattle.geoarrow_layout.specs.declared.summary.Bottom.{Bottom}
-use Rattle.geoarrow_layout.specs.declared.summary.Bottom.TheVariants.{FixedSizeList, Struct, OtherWidth}
-use Rattle.geoarrow_layout.specs.declared.summary.Summary.{Summary}
-use Rattle.geoarrow_layout.specs.declared.encodings.Kind.{Kind}
-use Rattle.geoarrow_layout.specs.declared.encodings.NativeKind.{NativeKind}
-use Rattle.geoarrow_layout.specs.declared.names.ExtensionName.{ExtensionName}
+use Rattle.geoarrow_layout.specs.Words.{ℕ, zero, suc, nat_eq, ℤ, pos, ◌≡◌, ◌≢◌, ◌↔◌, ◌⊎◌, ◌^◌, ◌++◌, [], Bool, true, false, ◌&&◌, Option, Some, None, Result, Ok, Err, MatchResult, bit_at, Tree, list, large_list, MemberTrees, CoordType, Dimension, XY, XYZ, XYM, XYZM, LayoutFault, UnexpectedType, MixedWidths, MemberDimension, EmptyUnion, SeveralCoordTypes, SeveralDimensions, ListWidth, Lists, LargeLists, Bottom, FixedSizeList, Struct, OtherWidth, Summary, Kind, NativeKind, ExtensionName}
 use Rattle.geoarrow_layout.specs.declared.names.ExtensionName.TheVariants as names
 use Rattle.geoarrow_layout.specs.Kinds.{order_of, name_text}
 use Rattle.geoarrow_layout.specs.Shapes.{AllMembers, OverLeaf, Member, Native, GeometryMember, Accepts}

@@ -1,5 +1,4 @@
-use Rattle.std.proofs.Common.{◌-◌, arith}
-use Rattle.arrow_values.specs.View.{tree}
+use Rattle.geoarrow_layout.proofs.Terms.{◌-◌, arith, tree}
 use Rattle.geoarrow_layout.proofs.FaultPaths.{on_ok, level_leads, no_item}
 use Rattle.geoarrow_layout.proofs.find.+push_levels.Goals as goal
 

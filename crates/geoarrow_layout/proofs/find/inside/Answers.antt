@@ -1,7 +1,4 @@
-use Rattle.std.proofs.Common.{rules}
-use Rattle.std.proofs.lemmas.Int.{to_z-of_z}
-use Rattle.arrow_values.specs.View.{tree}
-use Rattle.geoarrow_layout.specs.Steps.{NativeIn, NativeFaultIn}
+use Rattle.geoarrow_layout.proofs.Terms.{rules, to_z-of_z, tree, NativeIn, NativeFaultIn}
 use Rattle.geoarrow_layout.proofs.Readings.{ok, refused}
 use Rattle.geoarrow_layout.proofs.FaultLaws.{native_apart_in}
 use Rattle.geoarrow_layout.proofs.FaultPaths.{unknown_here, kind_inside}

@@ -1,5 +1,4 @@
-use Rattle.std.proofs.Common.{ap}
-use Rattle.arrow_values.specs.View.{tree}
+use Rattle.geoarrow_layout.proofs.Terms.{ap, tree}
 use Rattle.geoarrow_layout.proofs.FaultPaths.{on_ok, geometry_leads}
 use Rattle.geoarrow_layout.proofs.find.push_geometry.Goals as goal
 

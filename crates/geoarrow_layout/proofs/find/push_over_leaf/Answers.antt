@@ -1,4 +1,4 @@
-use Rattle.arrow_values.specs.View.{tree}
+use Rattle.geoarrow_layout.proofs.Terms.{tree}
 use Rattle.geoarrow_layout.proofs.FaultPaths.{on_ok, over_leaf_leads}
 use Rattle.geoarrow_layout.proofs.find.push_over_leaf.Goals as goal
 

@@ -1,8 +1,4 @@
-use Rattle.std.proofs.Common.{◌≡◌, ◌∙◌, sym, ap, ◌++◌, ◌∷◌, [], subst, rules, w8, to_z, of_z}
-use Rattle.std.proofs.lemmas.Int.{to_z-of_z}
-use Rattle.std.proofs.lemmas.List.{take_all}
-use Rattle.geoarrow_layout.proofs.Terms.{tree, member_trees, TellsBoth, LeadsTo, FirstOrNone}
-use Rattle.geoarrow_layout.specs.Steps.{ShowsIn, MemberIn, MemberFaultIn}
+use Rattle.geoarrow_layout.proofs.Terms.{◌≡◌, ◌∙◌, sym, ap, ◌++◌, ◌∷◌, [], subst, rules, w8, to_z, of_z, to_z-of_z, take_all, tree, member_trees, TellsBoth, LeadsTo, FirstOrNone, ShowsIn, MemberIn, MemberFaultIn}
 use Rattle.geoarrow_layout.proofs.FaultLaws.{member_apart_in}
 use Rattle.geoarrow_layout.proofs.FaultPaths.{goes_on, at_member, told_err, told_read, read_more, at_no_member}
 use Rattle.geoarrow_layout.proofs.find.push_place.Goals as goal

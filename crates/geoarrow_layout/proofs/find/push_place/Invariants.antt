@@ -1,6 +1,4 @@
-use Rattle.std.proofs.Common.{◌≡◌, take}
-use Rattle.geoarrow_layout.proofs.Terms.{member_trees, AllMembers}
-use Rattle.geoarrow_layout.specs.Steps.{MemberIn}
+use Rattle.geoarrow_layout.proofs.Terms.{◌≡◌, take, member_trees, AllMembers, MemberIn}
 use Rattle.geoarrow_layout.proofs.FaultLaws.{Read}
 use Rattle.geoarrow_layout.proofs.find.push_place.Given as goal
 

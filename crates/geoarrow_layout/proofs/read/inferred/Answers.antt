@@ -1,5 +1,4 @@
-use Rattle.std.proofs.Common.{rules, arith}
-use Rattle.std.proofs.lemmas.Int.{to_z-of_z}
+use Rattle.geoarrow_layout.proofs.Terms.{rules, arith, to_z-of_z}
 use Rattle.geoarrow_layout.proofs.UnionSteps.{at_root}
 use Rattle.geoarrow_layout.proofs.Inferences.{inferred_below, size_inferred, names_inferred}
 use Rattle.geoarrow_layout.proofs.read.inferred.Goals as goal

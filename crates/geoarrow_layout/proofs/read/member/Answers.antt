@@ -1,7 +1,4 @@
-use Rattle.std.proofs.Common.{rules}
-use Rattle.std.proofs.lemmas.Int.{to_z-of_z}
-use Rattle.geoarrow_layout.proofs.Terms.{BadTypeId}
-use Rattle.geoarrow_layout.specs.Steps.{NativeIn, NativeFaultIn}
+use Rattle.geoarrow_layout.proofs.Terms.{rules, to_z-of_z, BadTypeId, NativeIn, NativeFaultIn}
 use Rattle.geoarrow_layout.proofs.Readings.{refused}
 use Rattle.geoarrow_layout.proofs.Parts.{part_answer, part_unknown, member_answer}
 use Rattle.geoarrow_layout.proofs.read.member.Goals as goal

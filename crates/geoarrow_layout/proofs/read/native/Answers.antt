@@ -1,4 +1,4 @@
-use Rattle.std.proofs.Common.{[], refl}
+use Rattle.geoarrow_layout.proofs.Terms.{[], refl}
 use Rattle.geoarrow_layout.proofs.Parts.{over_leaf_answer}
 use Rattle.geoarrow_layout.proofs.read.native.Goals as goal
 

@@ -1,5 +1,4 @@
-use Rattle.geoarrow_layout.proofs.Terms.{tree, Mixed, MixedFault}
-use Rattle.geoarrow_layout.specs.OneShape.{mixed_same}
+use Rattle.geoarrow_layout.proofs.Terms.{tree, Mixed, MixedFault, mixed_same}
 use Rattle.geoarrow_layout.proofs.FaultLaws.{mixed_none}
 use Rattle.geoarrow_layout.proofs.Readings.{exactly, told_fault}
 use Rattle.geoarrow_layout.proofs.read.parse_mixed.Goals as goal

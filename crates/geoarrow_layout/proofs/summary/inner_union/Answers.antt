@@ -1,8 +1,4 @@
-use Rattle.std.proofs.Common.{◌≡◌, refl, subst, rules, w8, to_z, of_z, ℤ, pos, ◌<◌}
-use Rattle.std.proofs.lemmas.Int.{to_z-of_z}
-use Rattle.std.proofs.lemmas.List.{take_all}
-use Rattle.geoarrow_layout.proofs.Terms.{Member, MemberFault, member_same, Shows, TellsBoth}
-use Rattle.geoarrow_layout.specs.Steps.{AddsBits}
+use Rattle.geoarrow_layout.proofs.Terms.{◌≡◌, refl, subst, rules, w8, to_z, of_z, ℤ, pos, ◌<◌, to_z-of_z, take_all, Member, MemberFault, member_same, Shows, TellsBoth, AddsBits}
 use Rattle.geoarrow_layout.proofs.FaultLaws.{member_apart}
 use Rattle.geoarrow_layout.proofs.UnionSteps.{seen_more, seen_none, has_members}
 use Rattle.geoarrow_layout.proofs.summary.inner_union.Goals as goal

@@ -1,8 +1,4 @@
-use Rattle.std.proofs.Common.{◌≡◌, subst, rules, w8, to_z, of_z, ℤ, pos, ◌<◌}
-use Rattle.std.proofs.lemmas.Int.{to_z-of_z}
-use Rattle.std.proofs.lemmas.List.{take_all}
-use Rattle.geoarrow_layout.proofs.Terms.{Member, GeometryMember, MemberFault, GeometryMemberFault, geometry_part_same, ShowsInner, TellsBoth}
-use Rattle.geoarrow_layout.specs.Steps.{AddsBits}
+use Rattle.geoarrow_layout.proofs.Terms.{◌≡◌, subst, rules, w8, to_z, of_z, ℤ, pos, ◌<◌, to_z-of_z, take_all, Member, GeometryMember, MemberFault, GeometryMemberFault, geometry_part_same, ShowsInner, TellsBoth, AddsBits}
 use Rattle.geoarrow_layout.proofs.FaultLaws.{geometry_member_apart}
 use Rattle.geoarrow_layout.proofs.UnionSteps.{seen_more, seen_none, has_members, fault_next}
 use Rattle.geoarrow_layout.proofs.summary.root_union.Goals as goal

@@ -1,6 +1,4 @@
-use Rattle.std.proofs.Common.{◌≡◌, ◌<◌, ℤ, pos, subst, rules, w8, to_z, of_z}
-use Rattle.std.proofs.lemmas.Int.{to_z-of_z}
-use Rattle.geoarrow_layout.specs.Steps.{AddsBits}
+use Rattle.geoarrow_layout.proofs.Terms.{◌≡◌, ◌<◌, ℤ, pos, subst, rules, w8, to_z, of_z, to_z-of_z, AddsBits}
 use Rattle.geoarrow_layout.proofs.summary.with_member.Goals as goal
 
 pub returns-clause-ids : goal.returns-clause-ids

@@ -1,5 +1,4 @@
-use Rattle.std.proofs.Common.{◌≡◌, ap, rules}
-use Rattle.geoarrow_layout.proofs.Terms.{tree, Dense, mixed_members}
+use Rattle.geoarrow_layout.proofs.Terms.{◌≡◌, ap, rules, tree, Dense, mixed_members}
 use Rattle.geoarrow_layout.proofs.TableSteps.{union_same}
 use Rattle.geoarrow_layout.proofs.write.is_mixed.Goals as goal
 

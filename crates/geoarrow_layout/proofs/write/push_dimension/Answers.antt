@@ -1,6 +1,5 @@
-use Rattle.std.proofs.Common.{[], ◌∷◌, ◌++◌, ap, ◌∙◌}
+use Rattle.geoarrow_layout.proofs.Terms.{[], ◌∷◌, ◌++◌, ap, ◌∙◌, GeometryCollection, member_layout, mixed_members, native_layout}
 use Rattle.std.proofs.lemmas.List.{append_assoc}
-use Rattle.geoarrow_layout.proofs.Terms.{GeometryCollection, member_layout, mixed_members, native_layout}
 use Rattle.geoarrow_layout.proofs.write.push_dimension.Goals as goal
 
 pub returns : goal.returns
