@@ -56,9 +56,6 @@ none_accepted n t f h l a = no_fault_if_accepted n t l h.0 f a h.1
 pub kind_some : (n : Text) (t : Tree) (k : Kind) → IsStructured k → Accepts n t k → AnswersKind n t (Some k)
 kind_some n t k s here = λ l. (λ e. subst (λ x. Accepts n t x × IsStructured x) (same_Some k l e) (here, s), λ h. ap (λ x. Some x) (one_kind n t k l here h.0))
 
-kind_none : (n : Text) (t : Tree) → ((l : Kind) → Accepts n t l → ⊥) → AnswersKind n t None
-kind_none n t none = λ l. (λ e. cc, λ h. absurd (none l h.0))
-
 -- what a summary says under a name is the kind, or that there is none
 pub told_kind : (n : ExtensionName) (t : Tree) (r : Result Kind LayoutFault) (k : Kind) → r ≡ Ok k → TellsKind n t r → Accepts (name_text n) t k
 told_kind names.Wkb t r k is a = let bad = sym is ∙ a in cc

@@ -12,19 +12,6 @@ natives d Separated Point = (place Point Separated d, lit< tt, refl)
 natives d c LineString = (place LineString c d, lit< tt, refl)
 natives d c k = (place k c d, lit< tt, refl)
 
-pub listed : (k : Kind) → Contains ALL k
-listed (Native k c d) = natives d c k
-listed (Geometry Interleaved) = (56, lit< tt, refl)
-listed (Geometry Separated) = (57, lit< tt, refl)
-listed (Rect XY) = (58, lit< tt, refl)
-listed (Rect d) = (58 + order_of d, lit< tt, refl)
-listed (Wkb Plain) = (62, lit< tt, refl)
-listed (Wkb Large) = (63, lit< tt, refl)
-listed (Wkb View) = (64, lit< tt, refl)
-listed (Wkt Plain) = (65, lit< tt, refl)
-listed (Wkt Large) = (66, lit< tt, refl)
-listed (Wkt View) = (67, lit< tt, refl)
-
 -- where a kind stands
 abbrev place_of_kind : Kind → ℕ
 place_of_kind (Native k c d) = place k c d
@@ -36,6 +23,14 @@ place_of_kind (Wkb View) = 64
 place_of_kind (Wkt Plain) = 65
 place_of_kind (Wkt Large) = 66
 place_of_kind (Wkt View) = 67
+
+pub listed : (k : Kind) → Contains ALL k
+listed (Native k c d) = natives d c k
+listed (Geometry Interleaved) = (56, lit< tt, refl)
+listed (Rect XY) = (58, lit< tt, refl)
+listed (Wkb Plain) = (62, lit< tt, refl)
+listed (Wkt Plain) = (65, lit< tt, refl)
+listed k = (place_of_kind k, lit< tt, refl)
 
 -- whether the kinds stand where they say, from n on
 abbrev are_placed : ℕ → List Kind → Bool

@@ -8,9 +8,6 @@ Answer = Result (CoordType × Dimension) LayoutFault
 pub answers_like : (r : Answer) (R S : CoordType → Dimension → Type 0) → ((c : CoordType) (d : Dimension) → R c d → S c d) → ((c : CoordType) (d : Dimension) → S c d → R c d) → Answers r R → Answers r S
 answers_like r R S to from h = λ c d. (λ e. to c d ((h c d).0 e), λ s. (h c d).1 (from c d s))
 
-pub refuses : (f : LayoutFault) (R : CoordType → Dimension → Type 0) → ((c : CoordType) (d : Dimension) → R c d → ⊥) → Answers (Err f) R
-refuses f R none = λ c d. (λ e. cc, λ h. absurd (none c d h))
-
 -- the same of one value
 abbrev pub ok : {X : Type 0} → X → Result X LayoutFault
 ok x = Ok x

@@ -42,11 +42,7 @@ macro_rules! all_kinds {
 }
 
 /// The kinds of geometry that have their own layout (GeoArrow, "Native encoding").
-///
-/// ```rust
-/// let kind = Kind::Native(NativeKind::Polygon, CoordType::Separated, Dimension::XYZ);
-/// assert_eq!(rt; kind.name(), "geoarrow.polygon");
-/// ```
+/// [`Kind`] has an example.
 #[derive(Clone, Copy, Debug, PartialEq, Eq)]
 pub enum NativeKind {
     /// A coordinate.
@@ -66,14 +62,7 @@ pub enum NativeKind {
 }
 
 /// How bytes and texts are stored (Arrow, "Variable-size Binary Layout", "Variable-size Binary View Layout").
-///
-/// ```rust
-/// let name = ExtensionName::Wkb;
-/// assert_eq!(rt;
-///     parse_kind(name, &DataType::LargeBinary),
-///     Ok(Kind::Wkb(Width::Large))
-/// );
-/// ```
+/// [`Kind`] has an example.
 #[derive(Clone, Copy, Debug, PartialEq, Eq)]
 pub enum Width {
     /// With 32-bit offsets.
@@ -147,9 +136,7 @@ impl Kind {
             Kind::Geometry(_) | Kind::Wkb(_) | Kind::Wkt(_) => None,
         }
     }
-}
 
-impl Kind {
     /// All 68 kinds, each once.
     pub const ALL: [Kind; 68] = all_kinds!(
         Point,

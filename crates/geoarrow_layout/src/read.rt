@@ -135,10 +135,7 @@ pub fn parse_wkb(data_type: &DataType) -> Result<Width, LayoutFault>
     ensures exact { AnswersOne result (λ width. IsBytes width (tree data_type.now)) }
     ensures fault { IfErr result (HasFault (FaultAt names.Wkb (tree data_type.now))) }
 {
-    match bytes_width(data_type) {
-        Some(width) => Ok(width),
-        None => Err(LayoutFault::UnexpectedType),
-    }
+    bytes_width(data_type).ok_or(LayoutFault::UnexpectedType)
 }
 
 /// Reads well-known text (GeoArrow, "WKT"): text, of any width. Errs on any other data type. Allocates nothing.
@@ -146,10 +143,7 @@ pub fn parse_wkt(data_type: &DataType) -> Result<Width, LayoutFault>
     ensures exact { AnswersOne result (λ width. IsText width (tree data_type.now)) }
     ensures fault { IfErr result (HasFault (FaultAt names.Wkt (tree data_type.now))) }
 {
-    match text_width(data_type) {
-        Some(width) => Ok(width),
-        None => Err(LayoutFault::UnexpectedType),
-    }
+    text_width(data_type).ok_or(LayoutFault::UnexpectedType)
 }
 
 /// Reads the data type of a column with that extension name: returns its kind. Errs on any data type that has no
@@ -181,14 +175,8 @@ fn kind_read(name: ExtensionName, data_type: &DataType) -> Result<Kind, LayoutFa
     ensures { Tells result (Accepts (name_text name) (tree data_type.now)) (FaultAt name (tree data_type.now)) }
 {
     match name {
-        ExtensionName::Wkb => match parse_wkb(data_type) {
-            Ok(width) => Ok(Kind::Wkb(width)),
-            Err(fault) => Err(fault),
-        },
-        ExtensionName::Wkt => match parse_wkt(data_type) {
-            Ok(width) => Ok(Kind::Wkt(width)),
-            Err(fault) => Err(fault),
-        },
+        ExtensionName::Wkb => Ok(Kind::Wkb(parse_wkb(data_type)?)),
+        ExtensionName::Wkt => Ok(Kind::Wkt(parse_wkt(data_type)?)),
         _ => kind_under(name, &summarize(data_type)),
     }
 }
@@ -240,8 +228,7 @@ pub(crate) fn kind_under(name: ExtensionName, summary: &Summary) -> Result<Kind,
             Ok(dimension) => Ok(Kind::Rect(dimension)),
             Err(fault) => Err(fault),
         },
-        ExtensionName::Wkb => Err(LayoutFault::UnexpectedType),
-        ExtensionName::Wkt => Err(LayoutFault::UnexpectedType),
+        ExtensionName::Wkb | ExtensionName::Wkt => Err(LayoutFault::UnexpectedType),
     }
 }
 

@@ -254,28 +254,6 @@ fn with_id(ids: u64, id: i8) -> u64
     with_bit_u64(ids, id as u8)
 }
 
-/// The set of coordinate types with that of a member, if it has one.
-#[tactic(auto, using(crate::proofs::BitSteps::coord_added, crate::proofs::BitSteps::coord_kept))]
-fn with_coord_type(bits: u8, part: &Answer) -> u8
-    ensures { AddsBits bits (CoordOf part.now) result }
-{
-    match part {
-        Ok(pair) => with_bit_u8(bits, place_of(pair.0)),
-        Err(_) => bits,
-    }
-}
-
-/// The set of dimensions with that of a member, if it has one.
-#[tactic(auto, using(crate::proofs::BitSteps::dimension_added, crate::proofs::BitSteps::dimension_kept))]
-fn with_dimension(bits: u8, part: &Answer) -> u8
-    ensures { AddsBits bits (DimensionOf part.now) result }
-{
-    match part {
-        Ok(pair) => with_bit_u8(bits, pair.1.order()),
-        Err(_) => bits,
-    }
-}
-
 /// The first fault.
 fn first_fault(fault: Option<LayoutFault>, part: &Answer) -> Option<LayoutFault>
     ensures { result ≡ first_fault fault part.now }
@@ -287,8 +265,8 @@ fn first_fault(fault: Option<LayoutFault>, part: &Answer) -> Option<LayoutFault>
     }
 }
 
-/// What was seen of the members of a union.
-#[derive(Clone, Copy)]
+/// What was seen of the members of a union; by default, what was seen before the first.
+#[derive(Clone, Copy, Default)]
 struct Members {
     ids: u64,
     coord_types: u8,
@@ -297,29 +275,23 @@ struct Members {
 }
 
 /// What was seen with one member more, of that type id and read as that.
+#[tactic(auto, using(crate::proofs::BitSteps::coord_added, crate::proofs::BitSteps::coord_kept, crate::proofs::BitSteps::dimension_added, crate::proofs::BitSteps::dimension_kept))]
 fn with_member(seen: Members, id: i8, part: &Answer) -> Members
     ensures ids { AddsBits seen.ids (λ i. (i < 64) × (id ≡ pos i)) result.ids }
     ensures coord_types { AddsBits seen.coord_types (CoordOf part.now) result.coord_types }
     ensures dimensions { AddsBits seen.dimensions (DimensionOf part.now) result.dimensions }
     ensures fault { result.fault ≡ first_fault seen.fault part.now }
 {
-    Members {
-        ids: with_id(seen.ids, id),
-        coord_types: with_coord_type(seen.coord_types, part),
-        dimensions: with_dimension(seen.dimensions, part),
-        fault: first_fault(seen.fault, part),
-    }
-}
-
-/// What was seen before the first member.
-fn no_members() -> Members
-    ensures { result ≡ record { ids = 0; coord_types = 0; dimensions = 0; fault = None } }
-{
-    Members {
-        ids: 0,
-        coord_types: 0,
-        dimensions: 0,
-        fault: None,
+    let ids = with_id(seen.ids, id);
+    let fault = first_fault(seen.fault, part);
+    match part {
+        Ok(pair) => Members {
+            ids,
+            coord_types: with_bit_u8(seen.coord_types, place_of(pair.0)),
+            dimensions: with_bit_u8(seen.dimensions, pair.1.order()),
+            fault,
+        },
+        Err(_) => Members { ids, fault, ..seen },
     }
 }
 
@@ -339,7 +311,7 @@ pub(crate) fn leaf_summary(data_type: &DataType) -> Summary
 fn inner_union(members: &[(i8, Field)]) -> Bottom
     ensures { IsInnerUnion result (member_trees members.now) }
 {
-    let mut seen = no_members();
+    let mut seen = Members::default();
     for item in members {
         let below = leaf_summary(item.1.data_type());
         let part = member(false, item.0, &below);
@@ -399,7 +371,7 @@ fn in_collection(id: i8, part: Answer) -> Answer
 fn root_union(members: &[(i8, Field)]) -> Bottom
     ensures { IsRootUnion result (member_trees members.now) }
 {
-    let mut seen = no_members();
+    let mut seen = Members::default();
     let mut mixed_fault = None;
     for item in members {
         let below = nested_summary(item.1.data_type());

@@ -161,23 +161,15 @@ fn struct_of(alloc: Global, names: &[FixedName]) -> Result<DataType, AllocError>
     Ok(DataType::Struct(Fields::from(fields)))
 }
 
-/// A list of items of that name that are never null.
-#[inline(always)]
-fn list_over(alloc: Global, name: FixedName, inner: DataType) -> Result<DataType, AllocError>
-    ensures { IfOk result (λ t. tree t ≡ list (fixed_text name) (tree inner) false []) }
-{
-    let field = Box::new(alloc, Field::fixed(alloc, name, inner, false))?;
-    Ok(DataType::List(field))
-}
-
-/// Lists of items of these names, the first outermost.
+/// Lists of items of these names that are never null, the first outermost.
 fn lists_over(alloc: Global, names: &[FixedName], inner: DataType) -> Result<DataType, AllocError>
     ensures { IfOk result (λ t. tree t ≡ lists_over (map fixed_text names.now) (tree inner)) }
 {
     match names.split_first() {
         Some((name, rest)) => {
             let lower = lists_over(alloc, rest, inner)?;
-            list_over(alloc, *name, lower)
+            let item = Box::new(alloc, Field::fixed(alloc, *name, lower, false))?;
+            Ok(DataType::List(item))
         }
         None => Ok(inner),
     }
@@ -297,23 +289,14 @@ fn is_native(
 fn is_bare(field: &Field, name: FixedName, nullable: bool) -> bool
     ensures { IsTrue result ↔ IsBare (fixed_text name) nullable field.now }
 {
-    if field.name() != name.as_text() {
-        return false;
-    }
-    if field.is_nullable() != nullable {
-        return false;
-    }
-    field.metadata().is_empty()
+    field.name() == name.as_text() && field.is_nullable() == nullable && field.metadata().is_empty()
 }
 
 /// Whether the field is a coordinate of that name.
 fn is_coordinate(field: &Field, name: FixedName) -> bool
     ensures { IsTrue result ↔ (field.now ≡ coordinate (fixed_text name)) }
 {
-    if !is_bare(field, name, false) {
-        return false;
-    }
-    is_float64(field.data_type())
+    is_bare(field, name, false) && is_float64(field.data_type())
 }
 
 /// Whether the fields are coordinates of these names.
@@ -326,10 +309,7 @@ fn are_coordinates(fields: &[Field], names: &[FixedName]) -> bool
     let Some((name, others)) = names.split_first() else {
         return false;
     };
-    if !is_coordinate(field, *name) {
-        return false;
-    }
-    are_coordinates(rest, others)
+    is_coordinate(field, *name) && are_coordinates(rest, others)
 }
 
 /// Whether the data type is the one that is written for a coordinate.
@@ -349,10 +329,7 @@ fn is_interleaved(data_type: &DataType, dimension: Dimension) -> bool
     let DataType::FixedSizeList(field, size) = data_type else {
         return false;
     };
-    if *size != list_size(dimension) {
-        return false;
-    }
-    is_coordinate(field, interleaved_name(dimension))
+    *size == list_size(dimension) && is_coordinate(field, interleaved_name(dimension))
 }
 
 /// Whether it is a struct of coordinates of these names.
@@ -380,10 +357,7 @@ fn is_over_leaf(
     let DataType::List(field) = data_type else {
         return false;
     };
-    if !is_bare(field, *name, false) {
-        return false;
-    }
-    is_over_leaf(field.data_type(), others, coord_type, dimension)
+    is_bare(field, *name, false) && is_over_leaf(field.data_type(), others, coord_type, dimension)
 }
 
 /// Whether the data type is the one that is written for a collection.
@@ -393,10 +367,8 @@ fn is_collection(data_type: &DataType, coord_type: CoordType, dimension: Dimensi
     let DataType::List(field) = data_type else {
         return false;
     };
-    if !is_bare(field, FixedName::Geometries, false) {
-        return false;
-    }
-    is_mixed(field.data_type(), coord_type, dimension)
+    is_bare(field, FixedName::Geometries, false)
+        && is_mixed(field.data_type(), coord_type, dimension)
 }
 
 /// Whether the data type is the union in a collection.
@@ -436,10 +408,7 @@ fn are_in(members: &[(i8, Field)], dimensions: &[Dimension], coord_type: CoordTy
         return false;
     }
     let (first, rest) = members.split_at(7);
-    if !are_of_dimension(first, coord_type, *dimension) {
-        return false;
-    }
-    are_in(rest, others, coord_type)
+    are_of_dimension(first, coord_type, *dimension) && are_in(rest, others, coord_type)
 }
 
 /// Whether the members are those that are written for geometries of one dimension.
@@ -473,26 +442,19 @@ fn are_members_over(
     let Some((member, rest)) = members.split_first() else {
         return false;
     };
-    if !is_member(member, *kind, dimension) {
-        return false;
-    }
-    if !is_over_leaf(
-        member.1.data_type(),
-        list_names(*kind),
-        coord_type,
-        dimension,
-    ) {
-        return false;
-    }
-    are_members_over(rest, others, coord_type, dimension)
+    is_member(member, *kind, dimension)
+        && is_over_leaf(
+            member.1.data_type(),
+            list_names(*kind),
+            coord_type,
+            dimension,
+        )
+        && are_members_over(rest, others, coord_type, dimension)
 }
 
 /// Whether the member is the one for the kind in the dimension, but for its data type.
 fn is_member(member: &(i8, Field), kind: NativeKind, dimension: Dimension) -> bool
     ensures { IsTrue result ↔ (member.now ≡ member_layout kind dimension member.now.1.tree) }
 {
-    if member.0 != type_id(kind, dimension) {
-        return false;
-    }
-    is_bare(&member.1, member_name(kind, dimension), true)
+    member.0 == type_id(kind, dimension) && is_bare(&member.1, member_name(kind, dimension), true)
 }

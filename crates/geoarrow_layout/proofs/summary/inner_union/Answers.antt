@@ -4,7 +4,7 @@ use Rattle.geoarrow_layout.proofs.UnionSteps.{seen_more, seen_none, has_members}
 use Rattle.geoarrow_layout.proofs.summary.inner_union.Goals as goal
 
 pub loop-item-init : goal.loop-item-init
-loop-item-init c = rw c.no_members-seen.ensures (seen_none Member MemberFault)
+loop-item-init c = seen_none Member MemberFault _ _ _ _ (search rules) (search rules) (search rules) (search rules)
 
 pub loop-item-preserved : goal.loop-item-preserved
 loop-item-preserved c =

@@ -4,7 +4,7 @@ use Rattle.geoarrow_layout.proofs.UnionSteps.{seen_more, seen_none, has_members,
 use Rattle.geoarrow_layout.proofs.summary.root_union.Goals as goal
 
 pub loop-item-init : goal.loop-item-init
-loop-item-init c = record { seen = rw c.no_members-seen.ensures (seen_none GeometryMember GeometryMemberFault); mixed = tt }
+loop-item-init c = record { seen = seen_none GeometryMember GeometryMemberFault _ _ _ _ (search rules) (search rules) (search rules) (search rules); mixed = tt }
 
 pub loop-item-preserved : goal.loop-item-preserved
 loop-item-preserved c =
