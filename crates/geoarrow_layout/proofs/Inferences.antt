@@ -13,16 +13,6 @@ some_pair c d = Some (c, d)
 abbrev no_pair : PairOption
 no_pair = None
 
--- a list is inferred as no point
-not_inferred : (t : Tree) (c : CoordType) (d : Dimension) → IsAList t → Inferred t c d → ⊥
-not_inferred (list n t b m) c d l h = h
-not_inferred (large_list n t b m) c d l h = h
-not_inferred _ c d l h = absurd l
-
--- below lists nothing is
-pub inferred_below : (s : Summary) (t : Tree) → 0 < s.levels → Summarizes s t → AnswersSome None (Inferred t)
-inferred_below s t some h = λ c d. (λ e. let bad : no_pair ≡ some_pair c d = e in cc, λ g. absurd (not_inferred t c d (listed s.width s.levels t h.0 some h.1) g))
-
 -- fixed size lists
 abbrev Names : Option Dimension → Text → Type 0
 Names named name = (d : Dimension) → (named ≡ Some d) ↔ (name ≡ interleaved_name d)

@@ -2,14 +2,14 @@
 //! geometries and boxes use only the summary of the data type, so they ignore the nullability, the metadata and the data
 //! types of coordinate fields, the names of list items and members, and the mode of a union and the order of its members.
 //! None of them allocates.
-ghost use Rattle.std.specs.Prelude.{IfErr, IfOk, ◌≡◌, IfSome, ◌↔◌, IsTrue, Some, ◌≢◌, ◌∷◌, [], true, ◌≤◌, ◌<◌, Ok, ℕ, List, Option, length, ◌&&◌, MatchResult};
+ghost use Rattle.std.specs.Prelude.{IfErr, IfOk, ◌≡◌, IfSome, ◌↔◌, IsTrue, Some, ◌≢◌, ◌∷◌, [], true, ◌≤◌, ◌<◌, Ok, ℕ, List, Option, None, length, ◌&&◌, MatchResult};
 ghost use Rattle.arrow_values.specs.View.{tree, field_trees};
 ghost use Rattle.geoarrow_layout.specs.Shapes.{Answers, AnswersOne, Leaf, Native, Mixed, Collection, Geometry, BoxShape, IsBytes, IsText, Accepts, AnswersKind, IsStructured, IsSeparatedAs, IsBoxAs};
 ghost use Rattle.geoarrow_layout.specs.Kinds.{name_text, extension_of, name_of};
 ghost use Rattle.geoarrow_layout.specs.Steps.{Tells, TellsKind, is_measured, NamesSay, SizeSays, IsNoLeaf, Shows, ShowsInner, ShowsIn, NativeIn, NativeFaultIn, MemberIn, MemberFaultIn, TellsBoth, missing_fault, IsOtherFault, UnionSays, UnionSaysOne, has_bit};
 ghost use Rattle.geoarrow_layout.specs.FaultAt.{HasFault, BoxFault, MixedFault, NativeFault, GeometryFault, FaultAt, SeparatedFault, CoordinateFault, BoxNamesFault, ListsFault};
 ghost use Rattle.arrow_values.specs.Tree.{Tree, Text, struct};
-ghost use Rattle.geoarrow_layout.specs.Summary.{Summarizes, IsBits, SomeAt, IsBottom};
+ghost use Rattle.geoarrow_layout.specs.Summary.{Summarizes, IsBits, SomeAt, IsBottom, IsUnion};
 ghost use Rattle.geoarrow_layout.specs.Candidates.{Holds, IsAccepted, IsAcceptedStructure};
 ghost use Rattle.geoarrow_layout.specs.Inferred.{AnswersSome, Inferred, IsFlat};
 ghost use Rattle.geoarrow_layout.specs.declared.summary.ListWidth.{ListWidth};
@@ -344,9 +344,9 @@ fn taken_for(data_type: &DataType) -> Option<(CoordType, Dimension)>
     match data_type {
         DataType::Struct(fields) => match fields.as_slice() {
             [first, second] => pair(first, second),
-            _ => inferred(&flat_summary(data_type)),
+            _ => inferred(&flat_bottom(data_type)),
         },
-        DataType::FixedSizeList(_, _) => inferred(&flat_summary(data_type)),
+        DataType::FixedSizeList(_, _) => inferred(&flat_bottom(data_type)),
         _ => None,
     }
 }
@@ -364,32 +364,24 @@ fn pair(first: &Field, second: &Field) -> Option<(CoordType, Dimension)>
     }
 }
 
-/// The summary of a struct or a fixed size list, which has no list levels.
+/// What a struct or a fixed size list is, which has no list levels.
 #[inline(always)]
-fn flat_summary(data_type: &DataType) -> Summary
+fn flat_bottom(data_type: &DataType) -> Bottom
     requires { IsFlat (tree data_type.now) }
-    ensures { Summarizes result (tree data_type.now) }
+    ensures { IsBottom IsUnion None 0 result (tree data_type.now) }
 {
-    let below = Below {
+    leaf_bottom(&Below {
         levels: 0,
         width: None,
         rest: data_type,
-    };
-    Summary {
-        levels: 0,
-        width: None,
-        bottom: leaf_bottom(&below),
-    }
+    })
 }
 
-/// The coordinate type and dimension of a point, from the summary of a data type.
-fn inferred(summary: &Summary) -> Option<(CoordType, Dimension)>
-    ensures { (t : Tree) → Summarizes summary.now t → AnswersSome result (Inferred t) }
+/// The coordinate type and dimension of a point, from what the data type is.
+fn inferred(bottom: &Bottom) -> Option<(CoordType, Dimension)>
+    ensures { (t : Tree) → IsBottom IsUnion None 0 bottom.now t → AnswersSome result (Inferred t) }
 {
-    if 0 < summary.levels {
-        return None;
-    }
-    match summary.bottom {
+    match *bottom {
         Bottom::FixedSizeList {
             named,
             size,
