@@ -1,8 +1,8 @@
 -- Points that trees are taken for.
-use Rattle.geoarrow_layout.proofs.Terms.{◌≡◌, ◌↔◌, ◌<◌, inl, inr, ℕ, ℤ, pos, refl, sym, ap, subst, ◌∙◌, arith, Bool, true, false, ◌&&◌, Option, Some, None, List, [], ◌∷◌, length, codes, and_parts, cases_Bool, some_pair_parts, Text, Metadata, Tree, list, large_list, fixed_size_list, struct, FieldTrees, CoordType, Interleaved, Separated, Dimension, XY, XYZ, XYM, ListWidth, FixedSizeList, Struct, Summary, size_of, names_of, IsSeparatedAs, Leaf, SomeAt, IsBottom, IsUnion, Summarizes, are_float64, has_bit, interleaved_name, IsBits, AnswersSome, Inferred, IsInferredAs, IsInferredSize, is_measured, NamesSay, SizeSays, apart, separated_same, pos_same}
+use Rattle.geoarrow_layout.proofs.Terms.{◌≡◌, ◌↔◌, inl, inr, ℕ, ℤ, pos, refl, sym, ap, subst, ◌∙◌, arith, Bool, true, false, ◌&&◌, Option, Some, None, List, [], ◌∷◌, length, codes, and_parts, cases_Bool, some_pair_parts, Text, Metadata, Tree, fixed_size_list, struct, FieldTrees, CoordType, Interleaved, Separated, Dimension, XY, XYZ, XYM, ListWidth, FixedSizeList, Struct, size_of, names_of, IsSeparatedAs, Leaf, SomeAt, IsBottom, IsUnion, are_float64, has_bit, interleaved_name, IsBits, AnswersSome, Inferred, IsInferredAs, IsInferredSize, is_measured, NamesSay, SizeSays, apart, separated_same, pos_same}
 use Rattle.geoarrow_layout.specs.Shapes.{SameNames}
 use Rattle.geoarrow_layout.proofs.FieldSteps.{same_three, has_at}
-use Rattle.geoarrow_layout.proofs.Bottoms.{IsAList, listed, at_bottom}
+use Rattle.geoarrow_layout.proofs.Bottoms.{at_bottom}
 
 abbrev pub PairOption : Type 0
 PairOption = Option (CoordType × Dimension)

@@ -1,4 +1,4 @@
-use Rattle.geoarrow_layout.proofs.Terms.{◌≡◌, ◌∙◌, sym, ap, ◌++◌, ◌∷◌, [], subst, rules, w8, to_z, of_z, to_z-of_z, take_all, tree, member_trees, TellsBoth, LeadsTo, FirstOrNone, ShowsIn, MemberIn, MemberFaultIn}
+use Rattle.geoarrow_layout.proofs.Terms.{◌≡◌, ◌∙◌, sym, ap, ◌++◌, ◌∷◌, [], subst, rules, w8, to_z, of_z, to_z-of_z, take_all, member_trees, TellsBoth, LeadsTo, FirstOrNone, ShowsIn, MemberIn, MemberFaultIn}
 use Rattle.geoarrow_layout.proofs.FaultLaws.{member_apart_in}
 use Rattle.geoarrow_layout.proofs.FaultPaths.{goes_on, at_member, told_err, told_read, read_more, at_no_member}
 use Rattle.geoarrow_layout.proofs.find.push_place.Goals as goal
