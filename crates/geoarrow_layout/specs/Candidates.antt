@@ -1,5 +1,6 @@
 -- The extension names under which a data type can be read.
-use Rattle.geoarrow_layout.specs.Words.{◌≡◌, ◌⊎◌, length, Text, Tree, struct, NativeKind, Point, LineString, Polygon, MultiPoint, MultiLineString, Kind, CoordType, Dimension, Candidates, One, LineStringOrMultiPoint, PolygonOrMultiLineString, PointOrBox}
+use Rattle.geoarrow_layout.specs.Words.{◌≡◌, ◌⊎◌, length, NativeKind, Point, LineString, Polygon, MultiPoint, MultiLineString, Kind, CoordType, Dimension, Candidates, One, LineStringOrMultiPoint, PolygonOrMultiLineString, PointOrBox}
+use Rattle.arrow_values.specs.Tree.{Text, Tree, struct}
 use Rattle.geoarrow_layout.specs.declared.names.Candidates.TheVariants.{None}
 use Rattle.geoarrow_layout.specs.declared.names.ExtensionName.TheVariants as names
 use Rattle.geoarrow_layout.specs.Kinds.{name_text}

@@ -1,5 +1,7 @@
 -- The faults of data types, as errors of Arrow.
-use Rattle.geoarrow_layout.specs.Words.{codes, Text, ArrowError, ExternalError', IsSchemaOf, IsInvalidOf, LayoutFault, UnexpectedType, BadInterleavedName, BadSize, BadFieldNames, BadFieldCount, MixedWidths, BadTypeId, MemberDimension, EmptyUnion, SeveralCoordTypes, SeveralDimensions}
+use Rattle.geoarrow_layout.specs.Words.{codes, ArrowError, ExternalError', LayoutFault, UnexpectedType, BadInterleavedName, BadSize, BadFieldNames, BadFieldCount, MixedWidths, BadTypeId, MemberDimension, EmptyUnion, SeveralCoordTypes, SeveralDimensions}
+use Rattle.arrow_values.specs.Tree.{Text}
+use Rattle.arrow_values.specs.Errors.{IsSchemaOf, IsInvalidOf}
 
 -- the message of a fault
 abbrev pub fault_text : LayoutFault → Text

@@ -1,8 +1,4 @@
--- The words of the libraries and the names of the crate's own types, for the definitions: passed on from one place. Declares nothing.
-pub use Rattle.arrow_values.specs.Code.{plain_code}
-pub use Rattle.arrow_values.specs.Errors.{IsInvalidOf, IsSchemaOf}
-pub use Rattle.arrow_values.specs.Tree.{FieldTree, FieldTrees, MemberTrees, Members, Text, Tree, binary, binary_view, field, field_tree, fixed_size_list, float64, large_binary, large_list, large_utf8, list, member, no_fields, no_members, null, plain, struct, union, utf8, utf8_view}
-pub use Rattle.arrow_values.specs.View.{field_trees, member_trees}
+-- The words of std and the names of the types of Rust, for the definitions: passed on from one place. Declares nothing.
 pub use Rattle.arrow_values.specs.declared.coordinates.Dimensions.{Dimensions}
 pub use Rattle.arrow_values.specs.declared.coordinates.Dimensions.TheVariants.{Unknown, Xy, Xym, Xyz, Xyzm}
 pub use Rattle.arrow_values.specs.declared.error.ArrowError.{ArrowError}

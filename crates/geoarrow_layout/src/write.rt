@@ -317,19 +317,14 @@ fn is_leaf(data_type: &DataType, coord_type: CoordType, dimension: Dimension) ->
     ensures { IsTrue result ↔ (tree data_type.now ≡ leaf_layout coord_type dimension) }
 {
     match coord_type {
-        CoordType::Interleaved => is_interleaved(data_type, dimension),
+        CoordType::Interleaved => match data_type {
+            DataType::FixedSizeList(field, size) => {
+                *size == list_size(dimension) && is_coordinate(field, interleaved_name(dimension))
+            }
+            _ => false,
+        },
         CoordType::Separated => is_struct(data_type, coordinate_names(dimension)),
     }
-}
-
-/// Whether it is the one for an interleaved coordinate.
-fn is_interleaved(data_type: &DataType, dimension: Dimension) -> bool
-    ensures { IsTrue result ↔ (tree data_type.now ≡ leaf_layout CoordType.Interleaved dimension) }
-{
-    let DataType::FixedSizeList(field, size) = data_type else {
-        return false;
-    };
-    *size == list_size(dimension) && is_coordinate(field, interleaved_name(dimension))
 }
 
 /// Whether it is a struct of coordinates of these names.
