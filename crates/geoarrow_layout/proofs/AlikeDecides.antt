@@ -1,18 +1,9 @@
 -- The test decides `Alike`.
-use Rattle.std.proofs.Common.{◌≡◌, ◌⊎◌, inl, inr, ℤ, nat_eq, cond, Bool, true, false, ◌&&◌, ◌||◌, not, List, [], ◌∷◌, length, refl, sym, ap, ◌∙◌, subst, true≢false}
-use Rattle.std.specs.Bool.{Decides}
-use Rattle.std.specs.List.{list_all}
-use Rattle.std.specs.Ordering.{int_eq}
-use Rattle.std.specs.Str.{bytes_eq}
-use Rattle.std.proofs.lemmas.Slice.Eq.{bytes_eq-Decides}
-use Rattle.std.proofs.lemmas.Bool.Decides.{Decides-eqb, Decides-int_eq, Decides-and, Decides-or, Decides-like, same_from_decides}
-use Rattle.std.proofs.lemmas.Bool.{and_parts, and_from, or_cases, or_left, or_right, cond-true, cond-false, false_from_ne_true}
-use Rattle.arrow_values.specs.Code.{plain_code, plain_from, plain_from-code}
-use Rattle.geoarrow_layout.proofs.Terms.{Text, FieldTree, Tree, plain, list, large_list, fixed_size_list, struct, union, MemberTrees, no_members, member, field_trees, names_of, has_name, AllMembers, SomeMember, AlikeNames, Alike, EachHasAlike, HasAlike, some_member, all_members, has_member, is_repeated, is_met, alike_of, each_has_alike, has_alike}
+use Rattle.geoarrow_layout.proofs.Terms.{◌≡◌, ◌⊎◌, inl, inr, ℤ, nat_eq, cond, Bool, true, false, ◌&&◌, ◌||◌, not, List, [], ◌∷◌, length, refl, sym, ap, ◌∙◌, subst, true≢false, Decides, list_all, int_eq, bytes_eq, bytes_eq-Decides, Decides-eqb, Decides-int_eq, Decides-and, Decides-or, Decides-like, same_from_decides, and_parts, and_from, or_cases, or_left, or_right, cond-true, cond-false, false_from_ne_true, plain_code, plain_from, plain_from-code, Text, FieldTree, Tree, plain, list, large_list, fixed_size_list, struct, union, MemberTrees, no_members, member, field_trees, names_of, has_name, AllMembers, SomeMember, AlikeNames, Alike, EachHasAlike, HasAlike, some_member, all_members, has_member, is_repeated, is_met, alike_of, each_has_alike, has_alike, alike_names}
 use Rattle.arrow_values.specs.Tree.{Plain}
-use Rattle.geoarrow_layout.proofs.FieldSteps.{length-names}
 use Rattle.geoarrow_layout.specs.Shapes.{SameNames}
-use Rattle.geoarrow_layout.specs.AlikeTest.{same_names, alike_names}
+use Rattle.geoarrow_layout.specs.AlikeTest.{same_names}
+use Rattle.geoarrow_layout.proofs.FieldSteps.{length-names}
 use Rattle.geoarrow_layout.proofs.AlikeLaws.{any_map, has_any, Holds}
 
 any_decides : (p : ℤ → Tree → Bool) (P : ℤ → Tree → Type 0) → ((i : ℤ) (t : Tree) → Decides (p i t) (P i t)) → (ms : MemberTrees) → Decides (some_member p ms) (SomeMember P ms)

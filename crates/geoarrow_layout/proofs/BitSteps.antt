@@ -1,15 +1,8 @@
 -- Sets of bits, and what one reading adds to them.
-use Rattle.std.proofs.Common.{◌≡◌, ◌↔◌, ◌<◌, ◌⊎◌, ◌*◌, ◌%◌, ◌^◌, inl, inr, ℕ, sym, ap, subst, ◌∙◌, ◌≤◌, true, false, ℤ, pos, Ok, Err, refl, arith}
-use Rattle.std.specs.Int.{bit_at, Width}
-use Rattle.std.specs.Int.RustNames.{bit_or}
-use Rattle.std.proofs.lemmas.Nat.Bits.{bit_at_set_same, bit_at_set_other, bit_at-zero}
-use Rattle.std.proofs.lemmas.Bool.{cases_eq, ltb-true, ltb-false}
-use mir.Val.{bits}
-use Rattle.geoarrow_layout.proofs.Terms.{place_of, CoordOf, DimensionOf, CoordType, Dimension, LayoutFault, order_of}
+use Rattle.geoarrow_layout.proofs.Terms.{◌≡◌, ◌↔◌, ◌<◌, ◌⊎◌, ◌*◌, ◌%◌, ◌^◌, inl, inr, ℕ, sym, ap, subst, ◌∙◌, ◌≤◌, true, false, ℤ, pos, Ok, Err, refl, arith, bit_at, bit_or, bit_at_set_same, bit_at_set_other, bit_at-zero, cases_eq, ltb-true, ltb-false, bits, place_of, CoordOf, DimensionOf, CoordType, Dimension, LayoutFault, order_of, pos_same, negsuc, nat_abs, lt_z}
+use Rattle.std.specs.Int.{Width}
 use Rattle.geoarrow_layout.specs.Summary.{IsBits}
 use Rattle.geoarrow_layout.specs.Steps.{AddsBit, AddsBits}
-use lib.IntN.{negsuc, nat_abs}
-use lib.Signed.{lt_z}
 use Rattle.geoarrow_layout.proofs.Readings.{Answer, ok_same}
 
 pub adds_bit : (w : Width) (n i : ℕ) → i < bits w → AddsBit n i (bit_or n (1 * 2 ^ i % 2 ^ bits w))
@@ -52,9 +45,6 @@ adds_one n j more P there only adds = λ i. (
   (λ e. elim ((adds i).0 e) [ inl was ↦ inl was | inr is ↦ inr (subst P (sym is) there) ]),
   (λ h. elim h [ inl e ↦ (adds i).1 (inl e) | inr p ↦ (adds i).1 (inr (only i p)) ]),
 )
-
-pub pos_same : (m n : ℕ) → pos m ≡ pos n → m ≡ n
-pos_same m n h = cc
 
 pub coord_added : (n j more : ℕ) (part : Answer) (p : CoordType × Dimension) → part ≡ Ok p → j ≡ place_of p.0 → AddsBit n j more → AddsBits n (CoordOf part) more
 coord_added n j more part p is place adds =

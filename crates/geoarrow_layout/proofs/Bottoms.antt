@@ -1,27 +1,18 @@
 -- What stands below the lists, and which fault it is.
-use Rattle.std.proofs.Common.{◌≡◌, ◌<◌, ◌≤◌, inl, inr, ℕ, zero, suc, ℤ, ◌+◌, refl, sym, ap, subst, arith, add-one, Bool, Option, Some, None, Ok, Err, [], ◌∷◌}
-use Rattle.geoarrow_layout.proofs.Terms.{Text, Metadata, Tree, plain, list, large_list, fixed_size_list, struct, union, FieldTree, FieldTrees, MemberTrees, UnionMode, CoordType, Dimension, LayoutFault, UnexpectedType, ListWidth, Lists, LargeLists, Bottom, FixedSizeList, Struct, Union, OtherWidth, Deep, Other, Summary, ListsOver, Faults, HasFault, CoordinateFault, BoxFault, MixedFault, GeometryFault, LevelFault, ListsFault, IsBottom, AreLevels, SummarizesBy, TellsBoth}
-use Rattle.geoarrow_layout.specs.Shapes.{Levels}
-use Rattle.geoarrow_layout.specs.Summary.{IsFixedSize, IsStruct, IsInnerUnion}
-use Rattle.geoarrow_layout.specs.Steps.{missing_fault}
+use Rattle.geoarrow_layout.proofs.Terms.{◌≡◌, ◌<◌, ◌≤◌, inl, inr, ℕ, zero, suc, ℤ, ◌+◌, refl, sym, ap, subst, arith, add-one, Bool, Option, Some, None, Ok, Err, [], ◌∷◌, same_Some, Text, Metadata, Tree, plain, list, large_list, fixed_size_list, struct, union, FieldTrees, MemberTrees, UnionMode, CoordType, Dimension, LayoutFault, UnexpectedType, ListWidth, Lists, LargeLists, Bottom, FixedSizeList, Struct, Union, OtherWidth, Deep, Other, Summary, ListsOver, Faults, HasFault, CoordinateFault, BoxFault, MixedFault, GeometryFault, LevelFault, ListsFault, IsBottom, AreLevels, SummarizesBy, TellsBoth, Levels, IsFixedSize, IsStruct, IsInnerUnion, missing_fault, IsWidth}
 use Rattle.geoarrow_layout.proofs.Readings.{Answer}
 
 -- one level more
-abbrev pub list_in : ListWidth → Text → Tree → Bool → Metadata → Tree
-list_in Lists = list
-list_in LargeLists = large_list
+lists_more : (v : ListWidth) (n : ℕ) (t x u : Tree) → ListsOver v n t x → ListsOver v 1 x u → ListsOver v (suc n) t u
+lists_more v zero t x u h one = subst (λ y. ListsOver v 1 y u) (sym h) one
+lists_more Lists (suc n) (list nm t b m) x u h one = lists_more Lists n t x u h one
+lists_more LargeLists (suc n) (large_list nm t b m) x u h one = lists_more LargeLists n t x u h one
+lists_more _ (suc n) _ x u h one = absurd h
 
-lists_more : (v : ListWidth) (n : ℕ) (t u : Tree) (nm : Text) (b : Bool) (m : Metadata) → ListsOver v n t (list_in v nm u b m) → ListsOver v (suc n) t u
-lists_more Lists zero t u nm b m h = subst (λ x. ListsOver Lists 1 x u) (sym h) refl
-lists_more LargeLists zero t u nm b m h = subst (λ x. ListsOver LargeLists 1 x u) (sym h) refl
-lists_more Lists (suc n) (list x t c k) u nm b m h = lists_more Lists n t u nm b m h
-lists_more LargeLists (suc n) (large_list x t c k) u nm b m h = lists_more LargeLists n t u nm b m h
-lists_more _ (suc n) _ u nm b m h = absurd h
-
-pub more_below : (w v : ListWidth) (n : ℕ) (root t u : Tree) (f : FieldTree) → w ≡ v → t ≡ list_in v f.name f.tree f.nullable f.metadata → u ≡ f.tree → ListsOver w n root t → ListsOver w (n + 1) root u
-more_below w v n root t u f width is inner h =
-    let there : ListsOver v n root (list_in v f.name f.tree f.nullable f.metadata) = subst (λ z. ListsOver z n root (list_in v f.name f.tree f.nullable f.metadata)) width (subst (ListsOver w n root) is h) in
-    rw (width, inner, add-one) (lists_more v n root f.tree f.name f.nullable f.metadata there)
+pub level_more : (w : Option ListWidth) (v : ListWidth) (n : ℕ) (root t u : Tree) → n < 3 → IsWidth w v → ListsOver v 1 t u → AreLevels w n root t → AreLevels (Some v) (n + 1) root u
+level_more None v n root t u few is one h = rw (h.0, h.1) (omega arith, omega arith, one)
+level_more (Some w) v n root t u few (inl is) one h = cc
+level_more (Some w) v n root t u few (inr is) one h = (omega arith, omega arith, rw add-one (lists_more v n root t u (subst (λ z. ListsOver z n root t) (same_Some w v is) h.2) one))
 
 -- a bottom that is entered, that of a fixed size list, a struct or a union, stands at such a tree alone
 abbrev IsEntered : Bottom → Type 0

@@ -1,7 +1,5 @@
 -- The data types that are written are pairwise distinct: the kind is read back from the tree.
-use Rattle.std.proofs.Common.{◌≡◌, cond, List, [], ◌∷◌, codes, refl, sym, ap, ◌∙◌}
-use Rattle.std.specs.Str.{bytes_eq}
-use Rattle.geoarrow_layout.proofs.Terms.{Text, PlainType, large_binary, binary_view, utf8, large_utf8, utf8_view, Tree, plain, list, large_list, fixed_size_list, struct, union, MemberTrees, no_members, member, CoordType, Interleaved, Separated, Dimension, XY, XYZ, XYM, XYZM, NativeKind, Point, LineString, Polygon, MultiPoint, MultiLineString, MultiPolygon, GeometryCollection, Plain, Large, View, Kind, Rect, Wkb, Wkt, names_of, leaf_layout, layout}
+use Rattle.geoarrow_layout.proofs.Terms.{◌≡◌, cond, List, [], ◌∷◌, codes, refl, sym, ap, ◌∙◌, bytes_eq, Text, PlainType, large_binary, binary_view, utf8, large_utf8, utf8_view, Tree, plain, list, large_list, fixed_size_list, struct, union, MemberTrees, no_members, member, CoordType, Interleaved, Separated, Dimension, XY, XYZ, XYM, XYZM, NativeKind, Point, LineString, Polygon, MultiPoint, MultiLineString, MultiPolygon, GeometryCollection, Plain, Large, View, Kind, Rect, Wkb, Wkt, names_of, leaf_layout, layout}
 use Rattle.geoarrow_layout.specs.declared.encodings.Kind.TheVariants.{Native, Geometry}
 
 -- what the names of a written tree say

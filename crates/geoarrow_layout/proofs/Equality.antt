@@ -1,12 +1,5 @@
 -- The derived `==` of kinds and summaries answers true exactly at equal values.
-use denote.Enum.Bare.{Bare, sameb, same_true, true_same}
-use denote.Enum.Declared.{Declared}
-use Rattle.std.proofs.Common.{◌≡◌, Bool, Option, None, Some, refl, ap}
-use Rattle.std.proofs.lemmas.Bool.Decides.{Decides-and, Decides-like}
-use Rattle.std.specs.Bool.{Decides}
-use Rattle.std.specs.Cmp.{booleans_Decides, unsigned_Decides, signed_Decides}
-use Rattle.std.specs.Option.{option_eq}
-use Rattle.geoarrow_layout.proofs.Terms.{LayoutFault, Dimension, Kind, Rect, Wkb, Wkt, Bottom, FixedSizeList, Struct, Union, OtherWidth, Summary}
+use Rattle.geoarrow_layout.proofs.Terms.{Bare, sameb, same_true, true_same, Declared, ◌≡◌, Bool, Option, None, Some, refl, ap, Decides-and, Decides-like, Decides, booleans_Decides, unsigned_Decides, signed_Decides, option_eq, LayoutFault, Dimension, Kind, Rect, Wkb, Wkt, Bottom, FixedSizeList, Struct, Union, OtherWidth, Summary}
 use Rattle.geoarrow_layout.specs.declared.encodings.Kind.TheVariants.{Native, Geometry}
 use Rattle.geoarrow_layout.specs.contracts.encodings.KindPartialEq.TheImpl as kinds
 use Rattle.geoarrow_layout.specs.contracts.encodings.NativeKind as native_kind

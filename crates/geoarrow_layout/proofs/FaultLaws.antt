@@ -1,10 +1,6 @@
 -- A data type has one fault at most under a name, and none if it is accepted.
-use Rattle.std.proofs.Common.{◌≡◌, ◌≢◌, ◌*◌, Bool, inl, inr, ℕ, zero, suc, ℤ, pos, List, [], ◌∷◌, length, sym, ap, subst, ◌∙◌, ◌⊎◌}
-use Rattle.geoarrow_layout.proofs.Terms.{Text, Metadata, Tree, list, large_list, fixed_size_list, struct, union, MemberTrees, no_members, member, CoordType, Interleaved, Separated, Dimension, XY, XYZ, XYM, XYZM, NativeKind, GeometryCollection, Kind, OfNative, OfGeometry, OfRect, OfWkb, OfWkt, ListWidth, Lists, LargeLists, LayoutFault, UnexpectedType, BadFieldNames, BadTypeId, ExtensionName, size_of, type_id_of, extension_of, names_of, IsSeparatedAs, Leaf, ListsOver, levels_of, OverLeaf, Member, AllMembers, Mixed, Native, GeometryMember, Geometry, IsBoxAs, BoxShape, Accepted, id_same, any_native_same, Path, Located, Faults, InItem, SeparatedFault, CoordinateFault, BoxFault, LevelFault, ListsFault, OverLeafFault, PartFault, FirstFault, UnionFault, MemberFault, MixedFault, NativeFault, GeometryMemberFault, GeometryFault, FaultAt}
-use Rattle.geoarrow_layout.specs.declared.fault.LayoutFault.TheVariants.{BadInterleavedName, BadSize, BadFieldCount, MixedWidths, MemberDimension, EmptyUnion, SeveralCoordTypes, SeveralDimensions}
+use Rattle.geoarrow_layout.proofs.Terms.{◌≡◌, ◌≢◌, ◌*◌, Bool, true, false, inl, inr, ℕ, zero, suc, ℤ, pos, List, [], ◌∷◌, length, sym, ap, subst, ◌∙◌, ◌⊎◌, Text, Metadata, Tree, list, large_list, fixed_size_list, struct, union, MemberTrees, no_members, member, CoordType, Interleaved, Separated, Dimension, XY, XYZ, XYM, NativeKind, GeometryCollection, Kind, OfNative, OfGeometry, OfRect, OfWkb, OfWkt, ListWidth, Lists, LargeLists, LayoutFault, UnexpectedType, BadFieldNames, BadTypeId, ExtensionName, size_of, type_id_of, extension_of, names_of, IsSeparatedAs, Leaf, ListsOver, levels_of, OverLeaf, Member, AllMembers, Mixed, Native, GeometryMember, Geometry, IsBoxAs, BoxShape, Accepted, id_same, any_native_same, Path, Located, Faults, InItem, SeparatedFault, CoordinateFault, BoxFault, LevelFault, ListsFault, OverLeafFault, PartFault, FirstFault, UnionFault, MemberFault, MixedFault, NativeFault, GeometryMemberFault, GeometryFault, FaultAt, BadInterleavedName, BadSize, BadFieldCount, MixedWidths, MemberDimension, EmptyUnion, SeveralCoordTypes, SeveralDimensions, interleaved_same, native_same, any_part, NativeIn, NativeFaultIn, MemberIn, MemberFaultIn, Here, InterleavedFault}
 use Rattle.geoarrow_layout.specs.declared.names.ExtensionName.TheVariants as names
-use Rattle.geoarrow_layout.specs.OneShape.{interleaved_same, native_same, any_part}
-use Rattle.geoarrow_layout.specs.FaultAt.{Here, InterleavedFault}
 use Rattle.geoarrow_layout.proofs.MemberLists.{all_map}
 
 abbrev Same : Path → Path → LayoutFault → LayoutFault → Type 0
@@ -32,19 +28,20 @@ pub in_item_none : (F : Located) (p : Path) (f : LayoutFault) → ((q : Path) �
 in_item_none F (zero ∷ p) f none h = none p h
 in_item_none F _ f none h = absurd h
 
+-- a fault of one sort or another, which exclude each other
+either_one : (A B : Located) → One A → One B → ((p q : Path) (f g : LayoutFault) → A p f → B q g → ⊥) → One (λ p f. A p f ⊎ B p f)
+either_one A B one two apart p q f g (inl h) (inl k) = one p q f g h k
+either_one A B one two apart p q f g (inl h) (inr k) = absurd (apart p q f g h k)
+either_one A B one two apart p q f g (inr h) (inl k) = absurd (apart q p g f k h)
+either_one A B one two apart p q f g (inr h) (inr k) = two p q f g h k
+
 -- ---- coordinates and boxes
 
 interleaved_one : (name : Text) (z : ℤ) → One (InterleavedFault name z)
-interleaved_one name z p q f g (inl h) (inl k) = here_one BadInterleavedName p q f g h.1 k.1
-interleaved_one name z p q f g (inl h) (inr k) = absurd (h.0 k.0 k.1)
-interleaved_one name z p q f g (inr h) (inl k) = absurd (k.0 h.0 h.1)
-interleaved_one name z p q f g (inr h) (inr k) = here_one BadSize p q f g h.3 k.3
+interleaved_one name z = either_one _ _ (λ p q f g h k. here_one BadInterleavedName p q f g h.1 k.1) (λ p q f g h k. here_one BadSize p q f g h.3 k.3) (λ p q f g h k. h.0 k.0 k.1)
 
 separated_one : (ns : List Text) → One (SeparatedFault ns)
-separated_one ns p q f g (inl h) (inl k) = here_one BadFieldCount p q f g h.1 k.1
-separated_one ns p q f g (inl h) (inr k) = absurd (h.0 XYZ k.0)
-separated_one ns p q f g (inr h) (inl k) = absurd (k.0 XYZ h.0)
-separated_one ns p q f g (inr h) (inr k) = here_one BadFieldNames p q f g h.2 k.2
+separated_one ns = either_one _ _ (λ p q f g h k. here_one BadFieldCount p q f g h.1 k.1) (λ p q f g h k. here_one BadFieldNames p q f g h.2 k.2) (λ p q f g h k. h.0 XYZ k.0)
 
 coordinate_one : (t : Tree) → One (CoordinateFault t)
 coordinate_one (fixed_size_list n t b m z) = interleaved_one n z
@@ -52,23 +49,18 @@ coordinate_one (struct fs) = separated_one (names_of fs)
 coordinate_one _ = here_one UnexpectedType
 
 pub box_one : (t : Tree) → One (BoxFault t)
-box_one (struct fs) p q f g (inl h) (inl k) = here_one BadFieldCount p q f g h.1 k.1
-box_one (struct fs) p q f g (inl h) (inr k) = absurd (h.0 XYZ k.0)
-box_one (struct fs) p q f g (inr h) (inl k) = absurd (k.0 XYZ h.0)
-box_one (struct fs) p q f g (inr h) (inr k) = here_one BadFieldNames p q f g h.2 k.2
-box_one _ p q f g h k = here_one UnexpectedType p q f g h k
+box_one (struct fs) = either_one _ _ (λ p q f g h k. here_one BadFieldCount p q f g h.1 k.1) (λ p q f g h k. here_one BadFieldNames p q f g h.2 k.2) (λ p q f g h k. h.0 XYZ k.0)
+box_one _ = here_one UnexpectedType
 
 pub separated_length : (ns : List Text) (d : Dimension) → IsSeparatedAs d ns → length ns ≡ size_of d
-separated_length ns XY h = h
 separated_length ns XYZ h = h.0
 separated_length ns XYM h = h.0
-separated_length ns XYZM h = h
+separated_length ns _ h = h
 
 pub box_length : (ns : List Text) (d : Dimension) → IsBoxAs d ns → length ns ≡ 2 * size_of d
-box_length ns XY h = h
 box_length ns XYZ h = h.0
 box_length ns XYM h = h.0
-box_length ns XYZM h = h
+box_length ns _ h = h
 
 coordinate_apart : Apart Leaf CoordinateFault
 coordinate_apart (fixed_size_list n t b m z) Interleaved d p f h (inl k) = k.0 d h.0
@@ -134,10 +126,7 @@ abbrev pub KindFault : KindReads → (NativeKind → Faults) → NativeKind → 
 KindFault N F k d t p f = F k t p f ⊎ ((c : CoordType) × (e : Dimension) × N t k c e × (e ≢ d) × Here MemberDimension p f)
 
 kind_fault_one : (N : KindReads) (F : NativeKind → Faults) → ((k : NativeKind) (t : Tree) → One (F k t)) → ApartNative N F → (k : NativeKind) (d : Dimension) (t : Tree) → One (KindFault N F k d t)
-kind_fault_one N F one apart k d t p q f g (inl h) (inl l) = one k t p q f g h l
-kind_fault_one N F one apart k d t p q f g (inl h) (inr l) = absurd (apart k t l.0 l.1 p f l.2 h)
-kind_fault_one N F one apart k d t p q f g (inr h) (inl l) = absurd (apart k t h.0 h.1 q g h.2 l)
-kind_fault_one N F one apart k d t p q f g (inr h) (inr l) = here_one MemberDimension p q f g h.4 l.4
+kind_fault_one N F one apart k d t = either_one _ _ (one k t) (λ p q f g h l. here_one MemberDimension p q f g h.4 l.4) (λ p q f g h l. apart k t l.0 l.1 p f l.2 h)
 
 part_one : (N : KindReads) (F : NativeKind → Faults) → ((k : NativeKind) (t : Tree) → One (F k t)) → ApartNative N F → (i : ℤ) (t : Tree) → One (PartFault N F i t)
 part_one N F one apart i t p q f g (inl h) (inl l) = here_one BadTypeId p q f g h.1 l.1
@@ -232,6 +221,15 @@ geometry_member_one = part_one Native NativeFault native_one native_apart
 
 pub geometry_member_apart : ApartMember GeometryMember GeometryMemberFault
 geometry_member_apart i t c d p f h k = let x = any_part i t c d h in part_apart Native NativeFault any_native_same native_apart i t x.0 c d p f x.1 x.2 k
+
+-- the same where collections are allowed or not
+pub native_apart_in : (b : Bool) → ApartNative (NativeIn b) (NativeFaultIn b)
+native_apart_in true = native_apart
+native_apart_in false = over_leaf_apart
+
+pub member_apart_in : (b : Bool) → ApartMember (MemberIn b) (MemberFaultIn b)
+member_apart_in true = geometry_member_apart
+member_apart_in false = member_apart
 
 geometry_one : (t : Tree) → One (GeometryFault t)
 geometry_one (union ms mode) = union_one GeometryMember GeometryMemberFault geometry_member_one geometry_member_apart ms

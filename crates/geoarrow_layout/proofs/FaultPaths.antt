@@ -1,19 +1,13 @@
 -- The path to a fault, step by step.
-use Rattle.std.proofs.Common.{◌≡◌, ◌<◌, ◌≤◌, ◌+◌, inl, inr, Bool, true, false, is_ok, is_err, None, Some, ℕ, zero, suc, ℤ, pos, List, [], ◌∷◌, ◌++◌, ◌-◌, length, take, Result, OnOk, get_or, refl, sym, ap, subst, ◌∙◌, arith, append_assoc, Ok, Err}
-use Rattle.geoarrow_layout.proofs.Terms.{Tree, union, FieldTree, MemberTrees, no_members, member, field_trees, member_trees, UnionMode, CoordType, Dimension, NativeKind, GeometryCollection, LayoutFault, ListWidth, Lists, LargeLists, type_id_of, levels_of, AllMembers, Member, GeometryMember, id_same, Path, Located, Faults, HasFault, InItem, CoordinateFault, LevelFault, ListsFault, OverLeafFault, NativeFault, PartFault, FirstFault, UnionFault, MemberFault, MixedFault, GeometryMemberFault, GeometryFault, LeadsTo, FirstOrNone, TellsBoth}
-use Rattle.geoarrow_layout.specs.FaultAt.{field_at, member_at}
+use Rattle.geoarrow_layout.proofs.Terms.{◌≡◌, ◌<◌, ◌≤◌, ◌+◌, inl, inr, Bool, true, false, is_err, Option, None, Some, MatchOption, MatchResult, ℕ, zero, suc, ℤ, pos, List, [], ◌∷◌, ◌++◌, length, take, Result, OnOk, get_or, refl, sym, ap, subst, ◌∙◌, arith, append_assoc, Ok, Err, Tree, list, large_list, union, FieldTree, MemberTrees, no_members, member, field_trees, member_trees, UnionMode, CoordType, Dimension, NativeKind, GeometryCollection, LayoutFault, ListWidth, Lists, LargeLists, type_id_of, levels_of, ListsOver, AllMembers, Member, GeometryMember, id_same, Path, Located, Faults, HasFault, InItem, CoordinateFault, LevelFault, ListsFault, OverLeafFault, NativeFault, PartFault, FirstFault, UnionFault, MemberFault, MixedFault, GeometryMemberFault, GeometryFault, LeadsTo, FirstOrNone, TellsBoth, field_at, member_at, Ended, IsWidth, LevelsFault, StaysHere}
 use Rattle.geoarrow_layout.proofs.Readings.{Answer, IsPartsOf, some_parts}
-use Rattle.geoarrow_layout.proofs.Bottoms.{list_in}
+use Rattle.geoarrow_layout.proofs.Parts.{no_parts}
 use Rattle.geoarrow_layout.proofs.MemberLists.{Items, all_map, all_both, one_more}
 use Rattle.geoarrow_layout.proofs.FaultLaws.{ApartMember, MemberReads, Read, KindReads, ApartNative, KindFault, first_apart, behind}
 
 append_none : (p : Path) → p ≡ p ++ []
 append_none [] = refl
 append_none (i ∷ p) = ap (λ q. i ∷ q) (append_none p)
-
--- a fault of the data type itself has the empty path
-abbrev pub StaysHere : Located → Type 0
-StaysHere F = (p : Path) (f : LayoutFault) → F p f → p ≡ []
 
 pub stays : (F : Located) (before : Path) → StaysHere F → LeadsTo F before before
 stays F before here = λ p f h. append_none before ∙ ap (λ q. before ++ q) (sym (here p f h))
@@ -34,22 +28,29 @@ on_ok (Ok x) f h = f h
 on_ok (Err e) f h = tt
 
 -- levels are gone down
-pub level_leads : (w v : ListWidth) (levels : ℕ) (t u : Tree) (f : FieldTree) (before between after : Path) → 0 < levels → w ≡ v → t ≡ list_in v f.name f.tree f.nullable f.metadata → u ≡ f.tree → between ≡ before ++ (0 ∷ [])
-    → LeadsTo (LevelFault CoordinateFault w (levels - 1) u) between after → LeadsTo (LevelFault CoordinateFault w levels t) before after
-level_leads w v levels t u f before between after some width is inner pushed h =
-    rw (width, is) (level_down v levels (levels - 1) f before between after (omega arith) pushed (rw (← width, ← inner) h))
-  where
-    level_down : (v : ListWidth) (levels n : ℕ) (f : FieldTree) (before between after : Path) → levels ≡ suc n → between ≡ before ++ (0 ∷ []) → LeadsTo (LevelFault CoordinateFault v n f.tree) between after → LeadsTo (LevelFault CoordinateFault v levels (list_in v f.name f.tree f.nullable f.metadata)) before after
-    level_down Lists levels n f before between after same pushed h = rw same (into_item (LevelFault CoordinateFault Lists n f.tree) before between after pushed h)
-    level_down LargeLists levels n f before between after same pushed h = rw same (into_item (LevelFault CoordinateFault LargeLists n f.tree) before between after pushed h)
+ended_here : (w : Option ListWidth) (n : ℕ) (t : Tree) → Ended w 0 t → StaysHere (LevelsFault w (suc n) t)
+ended_here None n (list x t b m) e p f h = absurd e
+ended_here None n (large_list x t b m) e p f h = absurd e
+ended_here (Some Lists) n (list x t b m) e p f h = absurd (omega arith)
+ended_here (Some LargeLists) n (large_list x t b m) e p f h = absurd (omega arith)
+ended_here _ n _ e p f h = h.0
 
-pub lists_lead : (v : ListWidth) (levels : ℕ) (t u : Tree) (f : FieldTree) (before between after : Path) → 0 < levels → t ≡ list_in v f.name f.tree f.nullable f.metadata → u ≡ f.tree → between ≡ before ++ (0 ∷ [])
-    → LeadsTo (LevelFault CoordinateFault v (levels - 1) u) between after → LeadsTo (ListsFault CoordinateFault levels t) before after
-lists_lead v levels t u f before between after some is inner pushed h = rw is (lists_down v levels (levels - 1) f before between after (omega arith) pushed (rw (← inner) h))
-  where
-    lists_down : (v : ListWidth) (levels n : ℕ) (f : FieldTree) (before between after : Path) → levels ≡ suc n → between ≡ before ++ (0 ∷ []) → LeadsTo (LevelFault CoordinateFault v n f.tree) between after → LeadsTo (ListsFault CoordinateFault levels (list_in v f.name f.tree f.nullable f.metadata)) before after
-    lists_down Lists levels n f before between after same pushed h = rw same (into_item (LevelFault CoordinateFault Lists n f.tree) before between after pushed h)
-    lists_down LargeLists levels n f before between after same pushed h = rw same (into_item (LevelFault CoordinateFault LargeLists n f.tree) before between after pushed h)
+pub no_item : (w : Option ListWidth) (levels : ℕ) (t : Tree) (before : Path) → 0 < levels → Ended w 0 t → LeadsTo (LevelsFault w levels t) before before
+no_item w zero t before some e = absurd (omega arith)
+no_item w (suc n) t before some e = stays (LevelsFault w (suc n) t) before (ended_here w n t e)
+
+level_item : (w : Option ListWidth) (v : ListWidth) (n : ℕ) (t u : Tree) (p : Path) (f : LayoutFault) → IsWidth w v → ListsOver v 1 t u → LevelsFault w (suc n) t p f → InItem (LevelFault CoordinateFault v n u) p f
+level_item None Lists n (list x t b m) u p f is one h = subst (λ z. InItem (LevelFault CoordinateFault Lists n z) p f) one h
+level_item None LargeLists n (large_list x t b m) u p f is one h = subst (λ z. InItem (LevelFault CoordinateFault LargeLists n z) p f) one h
+level_item (Some Lists) Lists n (list x t b m) u p f is one h = subst (λ z. InItem (LevelFault CoordinateFault Lists n z) p f) one h
+level_item (Some LargeLists) LargeLists n (large_list x t b m) u p f is one h = subst (λ z. InItem (LevelFault CoordinateFault LargeLists n z) p f) one h
+level_item (Some Lists) LargeLists n t u p f is one h = elim is [ inl e ↦ cc | inr e ↦ cc ]
+level_item (Some LargeLists) Lists n t u p f is one h = elim is [ inl e ↦ cc | inr e ↦ cc ]
+level_item _ _ n _ u p f is one h = absurd one
+
+pub level_leads : (w : Option ListWidth) (v : ListWidth) (levels n : ℕ) (t u : Tree) (before between after : Path) → levels ≡ suc n → IsWidth w v → ListsOver v 1 t u → between ≡ before ++ (0 ∷ [])
+    → LeadsTo (LevelsFault (Some v) n u) between after → LeadsTo (LevelsFault w levels t) before after
+level_leads w v levels n t u before between after same is one pushed h = rw same (λ p f e. into_item (LevelFault CoordinateFault v n u) before between after pushed h p f (level_item w v n t u p f is one e))
 
 -- ---- members
 
@@ -124,16 +125,21 @@ kind_only N F i t k d p f id (inr h) = let same = id_same i h.0 k h.1 d h.2 id i
 read_stays : (N : KindReads) (F : NativeKind → Faults) → ApartNative N F → (i : ℤ) (t : Tree) (k : NativeKind) (d : Dimension) (x : CoordType × Dimension) → i ≡ pos (type_id_of k d) → N t k x.0 x.1 → StaysHere (PartFault N F i t)
 read_stays N F apart i t k d x id read p f h = elim (kind_only N F i t k d p f id h) [ inl e ↦ absurd (apart k t x.0 x.1 p f read e) | inr e ↦ e.4.0 ]
 
-pub part_read : (N : KindReads) (F : NativeKind → Faults) → ApartNative N F → (i z : ℤ) (t : Tree) (k : NativeKind) (d : Dimension) (r : Answer) (b : Bool) (before : Path) → z ≡ i → IsPartsOf z (some_parts k d) → b ≡ is_ok r → b ≡ true → TellsBoth r (N t k) (F k t) → LeadsTo (PartFault N F i t) before before
-part_read N F apart i z t k d (Ok x) b before same parts is e h = stays (PartFault N F i t) before (read_stays N F apart i t k d x (sym same ∙ (parts k d).0 refl) h)
-part_read N F apart i z t k d (Err f) b before same parts is e h = let bad : true ≡ false = sym e ∙ is in cc
+pub unknown_here : (N : KindReads) (F : NativeKind → Faults) (i z : ℤ) (t : Tree) → z ≡ i → IsPartsOf z no_parts → StaysHere (PartFault N F i t)
+unknown_here N F i z t is parts p f (inl h) = h.1.0
+unknown_here N F i z t is parts p f (inr h) = let bad : no_parts ≡ some_parts h.0 h.1 = (parts h.0 h.1).1 (is ∙ h.2) in cc
 
-pub kind_leads : (N : KindReads) (F : NativeKind → Faults) → ApartNative N F → (i : ℤ) (t : Tree) (k : NativeKind) (d : Dimension) (g : LayoutFault) (before after : Path) → i ≡ pos (type_id_of k d) → HasFault (F k t) g → LeadsTo (F k t) before after → LeadsTo (PartFault N F i t) before after
-kind_leads N F apart i t k d g before after id bad h = λ p f e. elim (kind_only N F i t k d p f id e) [ inl x ↦ h p f x | inr x ↦ absurd (apart k t x.0 x.1 bad.0 g x.2 bad.1) ]
+-- a member that is read as one of its kind has no fault inside, and one that is not has that of its kind
+pub kind_inside : (N : KindReads) (F : NativeKind → Faults) → ApartNative N F → (i z : ℤ) (t : Tree) (k : NativeKind) (d : Dimension) (r : Answer) → z ≡ i → IsPartsOf z (some_parts k d) → TellsBoth r (N t k) (F k t)
+    → MatchResult r (λ x. StaysHere (PartFault N F i t)) (λ g. (p : Path) (f : LayoutFault) → PartFault N F i t p f → F k t p f)
+kind_inside N F apart i z t k d (Ok x) same parts h = read_stays N F apart i t k d x (sym same ∙ (parts k d).0 refl) h
+kind_inside N F apart i z t k d (Err g) same parts h = λ p f e. elim (kind_only N F i t k d p f (sym same ∙ (parts k d).0 refl) e) [ inl x ↦ x | inr x ↦ absurd (apart k t x.0 x.1 h.0 g x.2 h.1) ]
 
-pub part_leads : (N : KindReads) (F : NativeKind → Faults) → ApartNative N F → (i z : ℤ) (t : Tree) (k : NativeKind) (d : Dimension) (r : Answer) (b : Bool) (before after : Path) → z ≡ i → IsPartsOf z (some_parts k d) → b ≡ is_ok r → b ≡ false → TellsBoth r (N t k) (F k t) → LeadsTo (F k t) before after → LeadsTo (PartFault N F i t) before after
-part_leads N F apart i z t k d (Ok x) b before after same parts is e h leads = let bad : false ≡ true = sym e ∙ is in cc
-part_leads N F apart i z t k d (Err f) b before after same parts is e h leads = kind_leads N F apart i t k d f before after (sym same ∙ (parts k d).0 refl) h leads
+-- the path goes on inside of a member, or ends there
+pub goes_on : {X : Type 0} (r : Option X) (K : X → Located) (F G : Located) (before between : Path) → ((end : Path) → LeadsTo F between end → LeadsTo G before end)
+    → MatchOption r (StaysHere F) (λ x. (p : Path) (f : LayoutFault) → F p f → K x p f) → MatchOption r (LeadsTo G before between) (λ x. (end : Path) → LeadsTo (K x) between end → LeadsTo G before end)
+goes_on None K F G before between up here = up between (stays F between here)
+goes_on (Some x) K F G before between up on = λ end h. up end (λ p f e. h p f (on p f e))
 
 -- ---- the field at a place
 

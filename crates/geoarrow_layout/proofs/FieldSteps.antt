@@ -1,16 +1,6 @@
 -- The fields of a struct: which names are those of a coordinate, and which bits stand for them.
-use Rattle.std.proofs.Common.{◌≡◌, ◌↔◌, ◌⊎◌, inl, inr, suc, Bool, true, false, ◌||◌, List, [], ◌∷◌, length, refl, sym, ap, ◌∙◌, arith, ◌<◌, ℕ, zero, ◌+◌, subst, ◌&&◌, cond, ◌++◌, take, get_or, eq-eqb}
-use Rattle.std.specs.List.{list_any}
-use Rattle.std.specs.Str.{bytes_eq}
-use Rattle.std.proofs.lemmas.Slice.Eq.{bytes_eq-Decides}
-use Rattle.geoarrow_layout.proofs.Terms.{Text, FieldTree, field_trees, Dimension, XYZ, XYM, has_name, IsSeparatedAs, names_of, SomeAt, place_in, known_names, is_float64, are_float64, has_bit}
+use Rattle.geoarrow_layout.proofs.Terms.{◌≡◌, ◌↔◌, ◌⊎◌, inl, inr, suc, Bool, true, false, ◌||◌, List, [], ◌∷◌, length, refl, sym, ap, ◌∙◌, arith, ◌<◌, ℕ, zero, ◌+◌, subst, ◌&&◌, cond, ◌++◌, take, get_or, eq-eqb, list_any, bytes_eq, bytes_eq-Decides, Text, FieldTree, field_trees, Dimension, XYZ, XYM, has_name, IsSeparatedAs, names_of, SomeAt, place_in, known_names, is_float64, are_float64, has_bit, bit_at, eqb-true, or_cases, or_left, or_right, same_from_decides, and-true, and_assoc, IsBits, AddsBit}
 use Rattle.geoarrow_layout.specs.Shapes.{SameNames}
-use Rattle.std.specs.Int.{bit_at}
-use Rattle.std.proofs.lemmas.Bool.{eqb-true, or_cases, or_left, or_right}
-use Rattle.std.proofs.lemmas.Bool.Decides.{same_from_decides}
-use Rattle.std.proofs.Math.Bool.{and-true, and_assoc}
-use Rattle.geoarrow_layout.specs.Summary.{IsBits}
-use Rattle.geoarrow_layout.specs.Steps.{AddsBit}
 use Rattle.geoarrow_layout.proofs.MemberLists.{or_more, one_more}
 use Rattle.geoarrow_layout.proofs.BitSteps.{bits_added, adds_one, no_bits, bit_is}
 

@@ -1,17 +1,8 @@
 -- Points that trees are taken for.
-use Rattle.std.proofs.Common.{◌≡◌, ◌↔◌, ◌<◌, inl, inr, ℕ, ℤ, pos, refl, sym, ap, subst, ◌∙◌, arith, Bool, true, false, ◌&&◌, Option, Some, None, List, [], ◌∷◌, length, codes}
-use Rattle.std.proofs.lemmas.Bool.{and_parts, cases_Bool}
-use Rattle.std.proofs.lemmas.Option.{some_pair_parts}
-use Rattle.geoarrow_layout.proofs.Terms.{Text, Metadata, Tree, list, large_list, fixed_size_list, struct, FieldTrees, CoordType, Interleaved, Separated, Dimension, XY, XYZ, XYM, ListWidth, FixedSizeList, Struct, Summary, size_of, names_of, IsSeparatedAs, Leaf, SomeAt, IsBottom, IsUnion, Summarizes, are_float64, has_bit}
-use Rattle.geoarrow_layout.specs.Kinds.{interleaved_name}
+use Rattle.geoarrow_layout.proofs.Terms.{◌≡◌, ◌↔◌, inl, inr, ℕ, ℤ, pos, refl, sym, ap, subst, ◌∙◌, arith, Bool, true, false, ◌&&◌, Option, Some, None, List, [], ◌∷◌, length, codes, and_parts, cases_Bool, some_pair_parts, Text, Metadata, Tree, fixed_size_list, struct, FieldTrees, CoordType, Interleaved, Separated, Dimension, XY, XYZ, XYM, ListWidth, FixedSizeList, Struct, size_of, names_of, IsSeparatedAs, Leaf, SomeAt, IsBottom, IsUnion, are_float64, has_bit, interleaved_name, IsBits, AnswersSome, Inferred, IsInferredAs, IsInferredSize, is_measured, NamesSay, SizeSays, apart, separated_same, pos_same}
 use Rattle.geoarrow_layout.specs.Shapes.{SameNames}
-use Rattle.geoarrow_layout.specs.Summary.{IsBits}
-use Rattle.geoarrow_layout.specs.Inferred.{AnswersSome, Inferred, IsInferredAs, IsInferredSize}
-use Rattle.geoarrow_layout.specs.Steps.{is_measured, NamesSay, SizeSays}
-use Rattle.geoarrow_layout.specs.OneShape.{apart, separated_same}
 use Rattle.geoarrow_layout.proofs.FieldSteps.{same_three, has_at}
-use Rattle.geoarrow_layout.proofs.Bottoms.{IsAList, listed, at_bottom}
-use Rattle.geoarrow_layout.proofs.BitSteps.{pos_same}
+use Rattle.geoarrow_layout.proofs.Bottoms.{at_bottom}
 
 abbrev pub PairOption : Type 0
 PairOption = Option (CoordType × Dimension)
@@ -21,16 +12,6 @@ some_pair c d = Some (c, d)
 
 abbrev no_pair : PairOption
 no_pair = None
-
--- a list is inferred as no point
-not_inferred : (t : Tree) (c : CoordType) (d : Dimension) → IsAList t → Inferred t c d → ⊥
-not_inferred (list n t b m) c d l h = h
-not_inferred (large_list n t b m) c d l h = h
-not_inferred _ c d l h = absurd l
-
--- below lists nothing is
-pub inferred_below : (s : Summary) (t : Tree) → 0 < s.levels → Summarizes s t → AnswersSome None (Inferred t)
-inferred_below s t some h = λ c d. (λ e. let bad : no_pair ≡ some_pair c d = e in cc, λ g. absurd (not_inferred t c d (listed s.width s.levels t h.0 some h.1) g))
 
 -- fixed size lists
 abbrev Names : Option Dimension → Text → Type 0

@@ -1,12 +1,7 @@
 -- The kind of a name and a tree: there is one at most, and it is what a reader's answer says.
-use Rattle.std.proofs.Common.{◌≡◌, ◌⊎◌, inl, inr, Bool, true≢false, IsTrue, is_ok, cond, refl, sym, ap, subst, ◌∙◌, ◌↔◌, IfOk, IfErr, Option, Some, None, Result, Ok, Err}
-use Rattle.std.specs.Str.{bytes_eq}
-use Rattle.std.proofs.lemmas.Option.{same_Some}
-use Rattle.geoarrow_layout.proofs.Terms.{Text, Tree, CoordType, Dimension, NativeKind, Point, LineString, Polygon, MultiPoint, MultiLineString, MultiPolygon, GeometryCollection, Width, Plain, Kind, OfNative, OfGeometry, OfRect, OfWkb, OfWkt, ExtensionName, name_text, extension_of, Native, IsBytes, IsText, Accepted, Accepts, IsStructured, AnswersOne, any_native_same, geometry_same, box_shape_same, LayoutFault, Summary, Summarizes, layout, IsAccepted, IsAcceptedStructure, Path, HasFault, FaultAt, Tells}
+use Rattle.geoarrow_layout.proofs.Terms.{◌≡◌, ◌⊎◌, inl, inr, Bool, true≢false, IsTrue, is_ok, cond, refl, sym, ap, subst, ◌∙◌, ◌↔◌, IfOk, IfErr, Option, Some, None, Result, Ok, Err, bytes_eq, same_Some, Text, Tree, CoordType, Dimension, NativeKind, Point, LineString, Polygon, MultiPoint, MultiLineString, MultiPolygon, GeometryCollection, Width, Plain, Kind, OfNative, OfGeometry, OfRect, OfWkb, OfWkt, ExtensionName, name_text, extension_of, Native, IsBytes, IsText, Accepted, Accepts, IsStructured, AnswersOne, any_native_same, geometry_same, box_shape_same, LayoutFault, Summary, Summarizes, layout, IsAccepted, IsAcceptedStructure, Path, HasFault, FaultAt, Tells, AnswersKind, TellsKind}
 use Rattle.geoarrow_layout.specs.declared.names.ExtensionName.TheVariants as names
-use Rattle.geoarrow_layout.specs.Shapes.{AnswersKind}
 use Rattle.geoarrow_layout.proofs.Distinct.{layouts_are_distinct}
-use Rattle.geoarrow_layout.specs.Steps.{TellsKind}
 use Rattle.geoarrow_layout.proofs.FaultLaws.{accepted_apart}
 use Rattle.geoarrow_layout.proofs.Readings.{exactly_one}
 
@@ -60,9 +55,6 @@ none_accepted n t f h l a = no_fault_if_accepted n t l h.0 f a h.1
 -- a kind that accepts the tree is the one
 pub kind_some : (n : Text) (t : Tree) (k : Kind) → IsStructured k → Accepts n t k → AnswersKind n t (Some k)
 kind_some n t k s here = λ l. (λ e. subst (λ x. Accepts n t x × IsStructured x) (same_Some k l e) (here, s), λ h. ap (λ x. Some x) (one_kind n t k l here h.0))
-
-kind_none : (n : Text) (t : Tree) → ((l : Kind) → Accepts n t l → ⊥) → AnswersKind n t None
-kind_none n t none = λ l. (λ e. cc, λ h. absurd (none l h.0))
 
 -- what a summary says under a name is the kind, or that there is none
 pub told_kind : (n : ExtensionName) (t : Tree) (r : Result Kind LayoutFault) (k : Kind) → r ≡ Ok k → TellsKind n t r → Accepts (name_text n) t k

@@ -1,11 +1,6 @@
 -- Every kind is listed, and once.
-use Rattle.std.proofs.Common.{◌≡◌, ◌<◌, ℕ, zero, suc, ◌+◌, ◌*◌, ◌-◌, Bool, true, ◌&&◌, nat_eq, List, [], ◌∷◌, length, get_or, refl, ap, lit<, arith}
-use Rattle.std.proofs.lemmas.Bool.{and_parts, eqb-true}
-use Rattle.std.specs.List.{Contains}
-use Rattle.geoarrow_layout.proofs.Terms.{CoordType, Interleaved, Separated, Dimension, XY, NativeKind, Point, LineString, Plain, Large, View, Kind, Rect, Wkb, Wkt, order_of, place_of}
+use Rattle.geoarrow_layout.proofs.Terms.{◌≡◌, ◌<◌, ℕ, zero, suc, ◌+◌, ◌*◌, ◌-◌, Bool, true, ◌&&◌, nat_eq, List, [], ◌∷◌, length, get_or, refl, ap, lit<, arith, and_parts, eqb-true, Contains, CoordType, Interleaved, Separated, Dimension, XY, NativeKind, Point, LineString, Plain, Large, View, Kind, Rect, Wkb, Wkt, order_of, place_of, ALL, offset_of}
 use Rattle.geoarrow_layout.specs.declared.encodings.Kind.TheVariants.{Native, Geometry}
-use Rattle.geoarrow_layout.specs.declared.encodings.TheConstants.Kind.{ALL}
-use Rattle.geoarrow_layout.specs.Kinds.{offset_of}
 
 -- where a native kind stands
 abbrev place : NativeKind → CoordType → Dimension → ℕ
@@ -16,19 +11,6 @@ natives XY Interleaved Point = (0, lit< tt, refl)
 natives d Separated Point = (place Point Separated d, lit< tt, refl)
 natives d c LineString = (place LineString c d, lit< tt, refl)
 natives d c k = (place k c d, lit< tt, refl)
-
-pub listed : (k : Kind) → Contains ALL k
-listed (Native k c d) = natives d c k
-listed (Geometry Interleaved) = (56, lit< tt, refl)
-listed (Geometry Separated) = (57, lit< tt, refl)
-listed (Rect XY) = (58, lit< tt, refl)
-listed (Rect d) = (58 + order_of d, lit< tt, refl)
-listed (Wkb Plain) = (62, lit< tt, refl)
-listed (Wkb Large) = (63, lit< tt, refl)
-listed (Wkb View) = (64, lit< tt, refl)
-listed (Wkt Plain) = (65, lit< tt, refl)
-listed (Wkt Large) = (66, lit< tt, refl)
-listed (Wkt View) = (67, lit< tt, refl)
 
 -- where a kind stands
 abbrev place_of_kind : Kind → ℕ
@@ -41,6 +23,14 @@ place_of_kind (Wkb View) = 64
 place_of_kind (Wkt Plain) = 65
 place_of_kind (Wkt Large) = 66
 place_of_kind (Wkt View) = 67
+
+pub listed : (k : Kind) → Contains ALL k
+listed (Native k c d) = natives d c k
+listed (Geometry Interleaved) = (56, lit< tt, refl)
+listed (Rect XY) = (58, lit< tt, refl)
+listed (Wkb Plain) = (62, lit< tt, refl)
+listed (Wkt Plain) = (65, lit< tt, refl)
+listed k = (place_of_kind k, lit< tt, refl)
 
 -- whether the kinds stand where they say, from n on
 abbrev are_placed : ℕ → List Kind → Bool

@@ -1,7 +1,5 @@
 -- The members of a union: what holds of all of them, or of some.
-use Rattle.std.proofs.Common.{◌≡◌, ◌↔◌, ◌<◌, ◌+◌, ◌⊎◌, inl, inr, ℕ, ℤ, List, [], ◌∷◌, ◌++◌, take, length, get_or, sym, ap, ◌∙◌, add-one}
-use Rattle.std.proofs.Math.Seq.{take-suc}
-use Rattle.geoarrow_layout.proofs.Terms.{Tree, FieldTree, MemberTrees, no_members, member, member_trees, AllMembers, SomeMember, HasMembers}
+use Rattle.geoarrow_layout.proofs.Terms.{◌≡◌, ◌↔◌, ◌<◌, ◌+◌, ◌⊎◌, inl, inr, ℕ, ℤ, List, [], ◌∷◌, ◌++◌, take, length, get_or, sym, ap, ◌∙◌, add-one, take-suc, Tree, FieldTree, MemberTrees, no_members, member, member_trees, AllMembers, SomeMember, HasMembers}
 
 abbrev pub Items : Type 0
 Items = List (ℤ × FieldTree)

@@ -1,12 +1,6 @@
 -- The kinds exclude one another, but for point and box and for kinds of the same lists.
-use Rattle.std.proofs.Common.{◌≡◌, ◌↔◌, ◌⊎◌, ◌+◌, ◌≤◌, inl, inr, ℕ, zero, suc, Bool, true, false, true≢false, Option, Some, None, refl, sym, ap, subst, ◌∙◌, arith, rules}
-use Rattle.std.specs.Option.{is_some}
-use Rattle.geoarrow_layout.proofs.Terms.{Text, PlainType, large_binary, binary_view, utf8, large_utf8, utf8_view, Tree, plain, list, large_list, fixed_size_list, struct, union, CoordType, Interleaved, Separated, Dimension, XY, XYZM, ListWidth, Lists, LargeLists, NativeKind, Point, LineString, Polygon, MultiPoint, MultiLineString, MultiPolygon, GeometryCollection, Width, Plain, Kind, OfNative, OfGeometry, OfRect, OfWkb, OfWkt, ExtensionName, size_of, name_text, extension_of, name_of, names_of, ListsOver, levels_of, Leaf, Mixed, Native, BoxShape, Accepted, Accepts, IsStructured, IsBytes, IsText, IsAccepted, IsAcceptedStructure}
-use Rattle.arrow_values.specs.Tree.{binary}
-use Rattle.geoarrow_layout.specs.declared.names.Candidates.{Candidates}
-use Rattle.geoarrow_layout.specs.declared.names.Candidates.TheVariants.{None as NoName, LineStringOrMultiPoint, PolygonOrMultiLineString, PointOrBox}
+use Rattle.geoarrow_layout.proofs.Terms.{◌≡◌, ◌↔◌, ◌⊎◌, ◌+◌, ◌≤◌, inl, inr, ℕ, zero, suc, Bool, true, false, true≢false, Option, Some, None, refl, sym, ap, subst, ◌∙◌, arith, rules, is_some, Text, PlainType, large_binary, binary_view, utf8, large_utf8, utf8_view, Tree, plain, list, large_list, fixed_size_list, struct, union, CoordType, Interleaved, Separated, Dimension, XY, XYZM, ListWidth, Lists, LargeLists, NativeKind, Point, LineString, Polygon, MultiPoint, MultiLineString, MultiPolygon, GeometryCollection, Width, Plain, Kind, OfNative, OfGeometry, OfRect, OfWkb, OfWkt, ExtensionName, size_of, name_text, extension_of, name_of, names_of, ListsOver, levels_of, Leaf, Mixed, Native, BoxShape, Accepted, Accepts, IsStructured, IsBytes, IsText, IsAccepted, IsAcceptedStructure, binary, Candidates, NoName, LineStringOrMultiPoint, PolygonOrMultiLineString, PointOrBox, Holds, IsNative, IsGeometry, IsBox, IsStructOfFour, Share}
 use Rattle.geoarrow_layout.specs.declared.names.ExtensionName.TheVariants as names
-use Rattle.geoarrow_layout.specs.Candidates.{Holds, IsNative, IsGeometry, IsBox, IsStructOfFour, Share}
 use Rattle.geoarrow_layout.proofs.FaultLaws.{separated_length, box_length}
 use Rattle.geoarrow_layout.proofs.KindSteps.{one_name}
 

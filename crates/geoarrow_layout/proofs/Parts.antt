@@ -1,21 +1,17 @@
 -- Ids and members: each is read in one way.
-use Rattle.std.proofs.Common.{◌≡◌, ◌≢◌, inl, inr, ℕ, ℤ, pos, Option, None, Some, Ok, Err, MatchResult, refl, sym, ap, subst, ◌∙◌, []}
-use Rattle.geoarrow_layout.proofs.Terms.{Tree, CoordType, Dimension, LayoutFault, BadTypeId, NativeKind, GeometryCollection, type_id_of, levels_of, OverLeaf, Member, GeometryMember, Native, LeafUnder, Path, Faults, HasFault, MemberFault, CoordinateFault, ListsFault, PartFault, OverLeafFault, NativeFault, GeometryMemberFault, TellsBoth}
-use Rattle.geoarrow_layout.specs.Steps.{IsOtherFault}
+use Rattle.geoarrow_layout.proofs.Terms.{◌≡◌, ◌≢◌, inl, inr, ℕ, ℤ, pos, Bool, true, false, Option, None, Some, Ok, Err, MatchResult, refl, sym, ap, subst, ◌∙◌, [], Tree, CoordType, Dimension, LayoutFault, BadTypeId, NativeKind, GeometryCollection, type_id_of, levels_of, OverLeaf, Member, GeometryMember, Native, LeafUnder, Path, Faults, HasFault, MemberFault, CoordinateFault, ListsFault, PartFault, OverLeafFault, NativeFault, GeometryMemberFault, TellsBoth, Summary, Shows, IsOtherFault, ShowsIn, NativeIn, NativeFaultIn, MemberIn, MemberFaultIn}
+use Rattle.geoarrow_layout.proofs.UnionSteps.{shows_of_inner}
 use Rattle.geoarrow_layout.proofs.Readings.{Answer, IsPartsOf, some_parts, refused}
-use Rattle.geoarrow_layout.proofs.FaultLaws.{KindFault}
+use Rattle.geoarrow_layout.proofs.FaultLaws.{KindReads, KindFault}
 
-abbrev pub Reading : Type 1
-Reading = Tree → NativeKind → CoordType → Dimension → Type 0
-
-abbrev pub Part : Reading → ℤ → Tree → CoordType → Dimension → Type 0
+abbrev pub Part : KindReads → ℤ → Tree → CoordType → Dimension → Type 0
 Part N i t c d = (k : NativeKind) × (i ≡ pos (type_id_of k d)) × N t k c d
 
 abbrev pub no_parts : Option (NativeKind × Dimension)
 no_parts = None
 
 -- the answer of a kind, if the dimension is that of the type id
-kept : (N : Reading) (F : NativeKind → Faults) (i : ℤ) (t : Tree) (k : NativeKind) (d : Dimension) (read r : Answer) → i ≡ pos (type_id_of k d) → MatchResult r (λ x. (read ≡ Ok x) × (x.1 ≡ d)) (IsOtherFault read d)
+kept : (N : KindReads) (F : NativeKind → Faults) (i : ℤ) (t : Tree) (k : NativeKind) (d : Dimension) (read r : Answer) → i ≡ pos (type_id_of k d) → MatchResult r (λ x. (read ≡ Ok x) × (x.1 ≡ d)) (IsOtherFault read d)
     → TellsBoth read (N t k) (F k t) → TellsBoth r (Part N i t) (PartFault N F i t)
 kept N F i t k d read (Ok x) id h a = let read_is : N t k x.0 x.1 = subst (λ z. TellsBoth z (N t k) (F k t)) h.0 a in (k, id ∙ ap (λ e. pos (type_id_of k e)) (sym h.1), read_is)
 kept N F i t k d read (Err f) id (inl e) a = let fault : HasFault (F k t) f = subst (λ z. TellsBoth z (N t k) (F k t)) e a in (fault.0, inr (k, d, id, inl fault.1))
@@ -23,11 +19,11 @@ kept N F i t k d read (Err f) id (inr e) a =
     let read_is : N t k e.1 e.2 = subst (λ z. TellsBoth z (N t k) (F k t)) e.3 a in
     ([], inr (k, d, id, inr (e.1, e.2, read_is, e.4, (refl, e.0))))
 
-pub part_answer : (N : Reading) (F : NativeKind → Faults) (i z : ℤ) (t : Tree) (k : NativeKind) (d : Dimension) (read r : Answer) → z ≡ i → IsPartsOf z (some_parts k d) → MatchResult r (λ x. (read ≡ Ok x) × (x.1 ≡ d)) (IsOtherFault read d)
+pub part_answer : (N : KindReads) (F : NativeKind → Faults) (i z : ℤ) (t : Tree) (k : NativeKind) (d : Dimension) (read r : Answer) → z ≡ i → IsPartsOf z (some_parts k d) → MatchResult r (λ x. (read ≡ Ok x) × (x.1 ≡ d)) (IsOtherFault read d)
     → TellsBoth read (N t k) (F k t) → TellsBoth r (Part N i t) (PartFault N F i t)
 part_answer N F i z t k d read r is parts h native = kept N F i t k d read r (sym is ∙ (parts k d).0 refl) h native
 
-pub part_unknown : (N : Reading) (F : NativeKind → Faults) (i z : ℤ) (t : Tree) → z ≡ i → IsPartsOf z no_parts → TellsBoth (refused BadTypeId) (Part N i t) (PartFault N F i t)
+pub part_unknown : (N : KindReads) (F : NativeKind → Faults) (i z : ℤ) (t : Tree) → z ≡ i → IsPartsOf z no_parts → TellsBoth (refused BadTypeId) (Part N i t) (PartFault N F i t)
 part_unknown N F i z t is parts = ([], inl ((λ k d id. let bad : no_parts ≡ some_parts k d = (parts k d).1 (is ∙ id) in cc), (refl, refl)))
 
 -- a member of a geometry
@@ -35,18 +31,16 @@ to_part : (k : NativeKind) (i : ℤ) (t : Tree) (c : CoordType) (d : Dimension) 
 to_part GeometryCollection i t c d id h = inr (id, h)
 to_part k i t c d id h = inl (k, id, h)
 
-pub geometry_answer : (r : Answer) (i : ℤ) (t : Tree) → TellsBoth r (Part Native i t) (PartFault Native NativeFault i t) → TellsBoth r (GeometryMember i t) (GeometryMemberFault i t)
-geometry_answer (Ok x) i t h = to_part h.0 i t x.0 x.1 h.1 h.2
-geometry_answer (Err f) i t h = h
-
-pub native_any : (k : NativeKind) (t : Tree) (r : Answer) → (k ≢ GeometryCollection) → TellsBoth r (OverLeaf t k) (OverLeafFault k t) → TellsBoth r (Native t k) (NativeFault k t)
-native_any GeometryCollection t r h a = absurd (h refl)
-native_any k t r h a = a
+pub member_answer : (b : Bool) (r : Answer) (i : ℤ) (t : Tree) → TellsBoth r (Part (NativeIn b) i t) (PartFault (NativeIn b) (NativeFaultIn b) i t) → TellsBoth r (MemberIn b i t) (MemberFaultIn b i t)
+member_answer true (Ok x) i t h = to_part h.0 i t x.0 x.1 h.1 h.2
+member_answer false (Ok x) i t h = h
+member_answer b (Err f) i t h = h
 
 -- the lists of a kind other than a collection
-pub over_leaf_any : (k : NativeKind) (n : ℕ) (t : Tree) (r : Answer) → (k ≢ GeometryCollection) → n ≡ levels_of k → TellsBoth r (LeafUnder n t) (ListsFault CoordinateFault n t) → TellsBoth r (OverLeaf t k) (OverLeafFault k t)
-over_leaf_any GeometryCollection n t r h same a = absurd (h refl)
-over_leaf_any k n t r h same a = subst (λ m. TellsBoth r (LeafUnder m t) (ListsFault CoordinateFault m t)) same a
+pub over_leaf_answer : (b : Bool) (k : NativeKind) (n : ℕ) (s : Summary) (t : Tree) (r : Answer) → (k ≢ GeometryCollection) → n ≡ levels_of k → ((u : Tree) → Shows s u → TellsBoth r (LeafUnder n u) (ListsFault CoordinateFault n u)) → ShowsIn b s t → TellsBoth r (NativeIn b t k) (NativeFaultIn b k t)
+over_leaf_answer b GeometryCollection n s t r other same says shown = absurd (other refl)
+over_leaf_answer true k n s t r other same says shown = subst (λ m. TellsBoth r (LeafUnder m t) (ListsFault CoordinateFault m t)) same (says t (shows_of_inner s t shown))
+over_leaf_answer false k n s t r other same says shown = subst (λ m. TellsBoth r (LeafUnder m t) (ListsFault CoordinateFault m t)) same (says t shown)
 
 -- a member of a geometry that is no collection is the same in a collection
 kind_fault_same : (k : NativeKind) (d : Dimension) (t : Tree) (p : Path) (f : LayoutFault) → (k ≡ GeometryCollection → ⊥) → KindFault Native NativeFault k d t p f → KindFault OverLeaf OverLeafFault k d t p f

@@ -1,6 +1,5 @@
 -- What a reader answers, in short words.
-use Rattle.std.proofs.Common.{◌≡◌, ◌↔◌, subst, ℤ, pos, Result, Ok, Err, Option, Some, ap, ◌∙◌, IfErr}
-use Rattle.geoarrow_layout.proofs.Terms.{CoordType, Dimension, LayoutFault, NativeKind, type_id_of, Answers, AnswersOne, Path, Located, HasFault, Tells, TellsBoth}
+use Rattle.geoarrow_layout.proofs.Terms.{◌≡◌, ◌↔◌, subst, ℤ, pos, Result, Ok, Err, Option, Some, ap, ◌∙◌, IfErr, CoordType, Dimension, LayoutFault, NativeKind, type_id_of, Answers, AnswersOne, Path, Located, HasFault, Tells, TellsBoth}
 
 abbrev pub Answer : Type 0
 Answer = Result (CoordType × Dimension) LayoutFault
@@ -8,9 +7,6 @@ Answer = Result (CoordType × Dimension) LayoutFault
 -- an answer to one relation is an answer to another that holds at the same pairs
 pub answers_like : (r : Answer) (R S : CoordType → Dimension → Type 0) → ((c : CoordType) (d : Dimension) → R c d → S c d) → ((c : CoordType) (d : Dimension) → S c d → R c d) → Answers r R → Answers r S
 answers_like r R S to from h = λ c d. (λ e. to c d ((h c d).0 e), λ s. (h c d).1 (from c d s))
-
-pub refuses : (f : LayoutFault) (R : CoordType → Dimension → Type 0) → ((c : CoordType) (d : Dimension) → R c d → ⊥) → Answers (Err f) R
-refuses f R none = λ c d. (λ e. cc, λ h. absurd (none c d h))
 
 -- the same of one value
 abbrev pub ok : {X : Type 0} → X → Result X LayoutFault

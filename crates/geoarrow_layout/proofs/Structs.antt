@@ -1,12 +1,8 @@
 -- What the names of a struct's fields say, by their bits: the dimension of a coordinate, and that of a box.
-use Rattle.std.proofs.Common.{◌≡◌, ◌⊎◌, ℕ, refl, sym, ◌∙◌, arith, Bool, true, false, Result, Ok, Err, inl, inr, List, length, Option, ◌&&◌, []}
-use Rattle.geoarrow_layout.proofs.Terms.{Text, Tree, struct, FieldTrees, Separated, Dimension, XYZ, XYM, LayoutFault, BadFieldNames, ListWidth, Bottom, Struct, names_of, IsSeparatedAs, Leaf, IsBoxAs, BoxShape, Path, SeparatedFault, CoordinateFault, BoxFault, SomeAt, IsBottom, IsUnion, has_bit, IsNoLeaf, Tells, TellsBoth}
-use Rattle.geoarrow_layout.specs.FaultAt.{BoxNamesFault}
-use Rattle.geoarrow_layout.specs.Summary.{IsBits}
+use Rattle.geoarrow_layout.proofs.Terms.{◌≡◌, ◌⊎◌, ℕ, refl, sym, ◌∙◌, arith, Bool, true, false, Result, Ok, Err, inl, inr, List, length, Option, ◌&&◌, [], Text, Tree, struct, FieldTrees, Separated, Dimension, XYZ, XYM, LayoutFault, BadFieldNames, ListWidth, Bottom, Struct, names_of, IsSeparatedAs, Leaf, IsBoxAs, BoxShape, Path, SeparatedFault, CoordinateFault, BoxFault, SomeAt, IsBottom, IsUnion, has_bit, IsNoLeaf, Tells, TellsBoth, BoxNamesFault, IsBits, and_parts}
 use Rattle.geoarrow_layout.proofs.FieldSteps.{same_three, three_have, has_at}
 use Rattle.geoarrow_layout.proofs.Readings.{Answer, ok_pair}
 use Rattle.geoarrow_layout.proofs.Bottoms.{at_bottom}
-use Rattle.std.proofs.lemmas.Bool.{and_parts}
 
 abbrev DimensionAnswer : Type 0
 DimensionAnswer = Result Dimension LayoutFault

@@ -1,11 +1,5 @@
 -- Members that go or come, and what they leave of a union.
-use Rattle.std.proofs.Common.{◌≡◌, ◌≢◌, ◌↔◌, ◌⊎◌, inl, inr, zero, suc, ℤ, Bool, true, cond, List, [], ◌∷◌, ◌++◌, refl, sym, ap, subst, arith, ◌∙◌}
-use Rattle.std.specs.List.{filter, Contains}
-use Rattle.std.proofs.lemmas.Bool.{cond_both}
-use Rattle.std.proofs.lemmas.List.Elements.{All-contains, All-contains_itself, All-filter, Contains-append_left, Contains-append_right, Contains-append_cases}
-use Rattle.geoarrow_layout.proofs.Terms.{Tree, FieldTree, Members, member_trees, UnionMode, Dense, AllMembers, HasMembers}
-use Rattle.arrow_values.specs.Union.{retained, has}
-use Rattle.geoarrow_layout.specs.Changes.{AlikeUnions, EachOf, AreJust}
+use Rattle.geoarrow_layout.proofs.Terms.{◌≡◌, ◌≢◌, ◌↔◌, ◌⊎◌, inl, inr, zero, suc, ℤ, Bool, true, cond, List, [], ◌∷◌, ◌++◌, refl, sym, ap, subst, arith, ◌∙◌, filter, Contains, cond_both, All-contains, All-contains_itself, All-filter, Contains-append_left, Contains-append_right, Contains-append_cases, Tree, FieldTree, Members, member_trees, UnionMode, Dense, AllMembers, HasMembers, retained, has, AlikeUnions, EachOf, AreJust}
 use Rattle.geoarrow_layout.proofs.MemberLists.{all_both}
 use Rattle.geoarrow_layout.proofs.AlikeLaws.{Holds, each_refl, each_sym, members_refl}
 

@@ -1,23 +1,12 @@
 -- What was seen of members says what the union is.
-use Rattle.std.proofs.Common.{◌≡◌, ◌≢◌, ◌↔◌, ◌<◌, ◌+◌, ◌^◌, ◌⊎◌, inl, inr, ℕ, zero, suc, ℤ, pos, Result, Ok, Err, Option, Some, None, MatchOption, Bool, true, false, [], ◌∷◌, ◌++◌, take, length, get_or, refl, sym, ap, subst, ◌∙◌, arith, nat_eq}
-use Rattle.std.specs.Int.{bit_at}
-use Rattle.std.proofs.Math.Dec.{eqb-suc-zero}
-use Rattle.std.proofs.lemmas.Bool.{cases_eq}
-use Rattle.std.proofs.lemmas.Nat.Bits.{same_from_bits, bit_at-pow_same, bit_at-pow_other, bit_at-lt}
-use Rattle.geoarrow_layout.proofs.Terms.{Tree, union, FieldTree, MemberTrees, no_members, member, member_trees, UnionMode, CoordType, Interleaved, Dimension, XY, LayoutFault, UnexpectedType, ListWidth, Bottom, Union, Deep, Other, Summary, order_of, Mixed, Geometry, Member, GeometryMember, AllMembers, SomeMember, HasMembers, Answers, Path, Faults, HasFault, FirstFault, UnionFault, MemberFault, MixedFault, GeometryMemberFault, GeometryFault, IsFaultOf, Seen, place_of, AreLevels, IsBottom, IsUnion, SummarizesBy, Summarizes, CoordOf, DimensionOf, Tells, TellsBoth, IsNested, IsNoLeaf, Shows, ShowsInner, member_same, geometry_part_same}
-use Rattle.geoarrow_layout.specs.FaultAt.{DimensionsFault}
-use Rattle.geoarrow_layout.specs.Summary.{IsBits}
-use Rattle.geoarrow_layout.specs.Steps.{AddsBits, first_fault, AreOf, IsCoordFault, UnionSays, UnionSaysOne}
+use Rattle.geoarrow_layout.proofs.Terms.{◌≡◌, ◌≢◌, ◌↔◌, ◌<◌, ◌+◌, ◌^◌, ◌⊎◌, inl, inr, ℕ, zero, suc, ℤ, pos, Result, Ok, Err, Option, Some, None, MatchOption, Bool, true, false, [], ◌∷◌, ◌++◌, take, length, get_or, refl, sym, ap, subst, ◌∙◌, arith, nat_eq, bit_at, eqb-suc-zero, cases_eq, same_from_bits, bit_at-pow_same, bit_at-pow_other, bit_at-lt, Tree, union, FieldTree, MemberTrees, no_members, member, member_trees, UnionMode, CoordType, Interleaved, Dimension, LayoutFault, UnexpectedType, ListWidth, Bottom, Union, Deep, Other, Summary, order_of, Mixed, Geometry, Member, GeometryMember, AllMembers, SomeMember, HasMembers, Answers, Path, Faults, HasFault, FirstFault, UnionFault, MemberFault, MixedFault, GeometryMemberFault, GeometryFault, IsFaultOf, Seen, place_of, AreLevels, IsBottom, IsUnion, SummarizesBy, Summarizes, CoordOf, DimensionOf, Tells, TellsBoth, IsNested, IsNoLeaf, Shows, ShowsInner, member_same, geometry_part_same, order_same, DimensionsFault, IsBits, AddsBits, first_fault, AreOf, IsCoordFault, UnionSays, UnionSaysOne}
 use Rattle.geoarrow_layout.proofs.Readings.{Answer, exactly}
 use Rattle.geoarrow_layout.proofs.MemberLists.{Items, all_map, all_inside, all_some, first_some, all_both, some_more, one_more}
-use Rattle.geoarrow_layout.proofs.FaultLaws.{Read, ApartMember}
+use Rattle.geoarrow_layout.proofs.FaultLaws.{Read, ApartMember, MemberReads}
 use Rattle.geoarrow_layout.proofs.Bottoms.{NoListAtUnion, RefusesLists, listed, at_bottom}
 use Rattle.geoarrow_layout.proofs.BitSteps.{bits_like, bits_added, no_bits, bit_is}
 
-abbrev pub Reads : Type 1
-Reads = ℤ → Tree → CoordType → Dimension → Type 0
-
-abbrev pub OneReading : Reads → Type 0
+abbrev pub OneReading : MemberReads → Type 0
 OneReading R = (i : ℤ) (t : Tree) (c b : CoordType) (d e : Dimension) → R i t c d → R i t b e → (c ≡ b) × (d ≡ e)
 
 -- one bit alone
@@ -39,10 +28,6 @@ place_same : (c b : CoordType) → place_of c ≡ place_of b → c ≡ b
 place_same Interleaved Interleaved h = refl
 place_same _ _ h = grind arith
 
-order_same : (d e : Dimension) → order_of d ≡ order_of e → d ≡ e
-order_same XY XY h = refl
-order_same _ _ h = grind arith
-
 -- the bits of keys for which S holds of some member
 abbrev Keyed : (K : Type 0) → (K → ℕ) → (K → ℤ → Tree → Type 0) → MemberTrees → ℕ → Type 0
 Keyed K place S ms i = (k : K) × (i ≡ place k) × SomeMember (S k) ms
@@ -56,23 +41,23 @@ keyed_pow K place S one n ms k bits some all =
     (λ i h. h.1 ∙ ap place (all_some (S k) (S h.0) (h.0 ≡ k) (λ j t p q. one j t h.0 k q p) ms all h.2))
     (λ i h. (k, h, first_some (S k) ms some all)) bits)
 
-abbrev AtCoord : Reads → CoordType → ℤ → Tree → Type 0
+abbrev AtCoord : MemberReads → CoordType → ℤ → Tree → Type 0
 AtCoord R c i t = (d : Dimension) × R i t c d
 
-abbrev AtDimension : Reads → Dimension → ℤ → Tree → Type 0
+abbrev AtDimension : MemberReads → Dimension → ℤ → Tree → Type 0
 AtDimension R d i t = (c : CoordType) × R i t c d
 
-abbrev CoordBits : Reads → ℕ → MemberTrees → Type 0
+abbrev CoordBits : MemberReads → ℕ → MemberTrees → Type 0
 CoordBits R n ms = IsBits n (Keyed CoordType place_of (AtCoord R) ms)
 
-abbrev DimensionBits : Reads → ℕ → MemberTrees → Type 0
+abbrev DimensionBits : MemberReads → ℕ → MemberTrees → Type 0
 DimensionBits R n ms = IsBits n (Keyed Dimension order_of (AtDimension R) ms)
 
-coord_pow : (R : Reads) → OneReading R → (n : ℕ) (ms : MemberTrees) (c : CoordType) → CoordBits R n ms → HasMembers ms → AllMembers (AtCoord R c) ms → n ≡ 2 ^ place_of c
+coord_pow : (R : MemberReads) → OneReading R → (n : ℕ) (ms : MemberTrees) (c : CoordType) → CoordBits R n ms → HasMembers ms → AllMembers (AtCoord R c) ms → n ≡ 2 ^ place_of c
 coord_pow R one = keyed_pow CoordType place_of (AtCoord R) (λ i t a b p q. (one i t a b p.0 q.0 p.1 q.1).0)
 
 -- members that the walk finds to be of one coordinate type
-of_one : (R S : Reads) → ((i : ℤ) (t : Tree) (c : CoordType) (d : Dimension) → R i t c d → S i t c d) → (F : ℤ → Faults) (empty : Bool) (fault : Option LayoutFault) (coords : ℕ) (ms : MemberTrees) (c : CoordType)
+of_one : (R S : MemberReads) → ((i : ℤ) (t : Tree) (c : CoordType) (d : Dimension) → R i t c d → S i t c d) → (F : ℤ → Faults) (empty : Bool) (fault : Option LayoutFault) (coords : ℕ) (ms : MemberTrees) (c : CoordType)
     → AreOf empty fault coords c → CoordBits S coords ms → IsFaultOf R F fault ms → AllMembers (Read R) ms × ((i : ℤ) (t : Tree) (x : Read R i t) → ((W : ℤ → Tree → Type 0) → W i t → SomeMember W ms) → x.0 ≡ c)
 of_one R S sub F empty fault coords ms c h coord_bits first = (
   subst (λ o. MatchOption o (AllMembers (Read R) ms) (HasFault (FirstFault R F ms))) h.1 first,
@@ -80,7 +65,7 @@ of_one R S sub F empty fault coords ms c h coord_bits first = (
 )
 
 -- the fault of a union as one of one coordinate type
-coord_fault : (R S : Reads) → ((i : ℤ) (t : Tree) (c : CoordType) (d : Dimension) → R i t c d → S i t c d) → OneReading S → (F : ℤ → Faults) (empty : Bool) (fault : Option LayoutFault) (coords : ℕ) (f : LayoutFault) (ms : MemberTrees)
+coord_fault : (R S : MemberReads) → ((i : ℤ) (t : Tree) (c : CoordType) (d : Dimension) → R i t c d → S i t c d) → OneReading S → (F : ℤ → Faults) (empty : Bool) (fault : Option LayoutFault) (coords : ℕ) (f : LayoutFault) (ms : MemberTrees)
     → IsCoordFault empty fault coords f → ((empty ≡ false) ↔ HasMembers ms) → CoordBits S coords ms → IsFaultOf R F fault ms → HasFault (UnionFault R F ms) f
 coord_fault R S sub one F empty fault coords f no_members (inl e) some bits first = ([], (refl, e.1))
 coord_fault R S sub one F empty fault coords f no_members (inr (inl e)) some bits first = absurd (some.0 e.0)
@@ -94,7 +79,7 @@ coord_fault R S sub one F empty fault coords f (member i n t b m ms) (inr (inr e
     ([], inr (all, (λ c same. e.2 c (coord_pow S one coords (member i n t b m ms) c bits tt (all_map (AtCoord R c) (AtCoord S c) (λ j u x. (x.0, sub j u c x.0 x.1)) (member i n t b m ms) same))), (refl, e.3)))
 
 -- members of one coordinate type and dimension
-mixed_from : (S : Reads) → OneReading S → ((i : ℤ) (t : Tree) (c : CoordType) (d : Dimension) → Member i t c d → S i t c d)
+mixed_from : (S : MemberReads) → OneReading S → ((i : ℤ) (t : Tree) (c : CoordType) (d : Dimension) → Member i t c d → S i t c d)
     → (empty : Bool) (fault : Option LayoutFault) (coords dims : ℕ) (r : Answer) (ms : MemberTrees)
     → UnionSays empty fault coords dims r → ((empty ≡ false) ↔ HasMembers ms) → CoordBits S coords ms → DimensionBits S dims ms
     → IsFaultOf Member MemberFault fault ms → TellsBoth r (λ c d. HasMembers ms × AllMembers (λ i t. Member i t c d) ms) (λ p f. UnionFault Member MemberFault ms p f ⊎ DimensionsFault ms p f)
@@ -120,7 +105,7 @@ mixed_from S one sub empty fault coords dims (Err f) ms (inr says) some coord_bi
     )
 
 -- members of one coordinate type
-one_from : (R : Reads) → OneReading R → (F : ℤ → Faults) (empty : Bool) (fault : Option LayoutFault) (coords : ℕ) (r : Result CoordType LayoutFault) (ms : MemberTrees)
+one_from : (R : MemberReads) → OneReading R → (F : ℤ → Faults) (empty : Bool) (fault : Option LayoutFault) (coords : ℕ) (r : Result CoordType LayoutFault) (ms : MemberTrees)
     → UnionSaysOne empty fault coords r → ((empty ≡ false) ↔ HasMembers ms) → CoordBits R coords ms
     → IsFaultOf R F fault ms → Tells r (λ c. HasMembers ms × AllMembers (AtCoord R c) ms) (UnionFault R F ms)
 one_from R one F empty fault coords (Ok c) ms says some coord_bits first =
@@ -175,16 +160,16 @@ inner_of s t h = weaken IsUnion IsNested union_nested s t h
 
 -- ---- one more member
 
-first_later : (R : Reads) (F : ℤ → Faults) (xs ys : Items) (p : Path) (f : LayoutFault) → FirstFault R F (member_trees xs) p f → FirstFault R F (member_trees (xs ++ ys)) p f
+first_later : (R : MemberReads) (F : ℤ → Faults) (xs ys : Items) (p : Path) (f : LayoutFault) → FirstFault R F (member_trees xs) p f → FirstFault R F (member_trees (xs ++ ys)) p f
 first_later R F (x ∷ xs) ys (zero ∷ p) f h = h
 first_later R F (x ∷ xs) ys (suc j ∷ p) f h = (h.0, first_later R F xs ys (j ∷ p) f h.1)
 first_later R F _ ys _ f h = absurd h
 
-first_here : (R : Reads) (F : ℤ → Faults) (xs : Items) (x : ℤ × FieldTree) (p : Path) (f : LayoutFault) → AllMembers (Read R) (member_trees xs) → F x.0 x.1.tree p f → FirstFault R F (member_trees (xs ++ (x ∷ []))) (length xs ∷ p) f
+first_here : (R : MemberReads) (F : ℤ → Faults) (xs : Items) (x : ℤ × FieldTree) (p : Path) (f : LayoutFault) → AllMembers (Read R) (member_trees xs) → F x.0 x.1.tree p f → FirstFault R F (member_trees (xs ++ (x ∷ []))) (length xs ∷ p) f
 first_here R F [] x p f all h = h
 first_here R F (y ∷ xs) x p f all h = (all.0, first_here R F xs x p f all.1 h)
 
-fault_added : (R : Reads) (F : ℤ → Faults) (fault : Option LayoutFault) (part : Answer) (xs : Items) (x : ℤ × FieldTree) → TellsBoth part (R x.0 x.1.tree) (F x.0 x.1.tree)
+fault_added : (R : MemberReads) (F : ℤ → Faults) (fault : Option LayoutFault) (part : Answer) (xs : Items) (x : ℤ × FieldTree) → TellsBoth part (R x.0 x.1.tree) (F x.0 x.1.tree)
     → IsFaultOf R F fault (member_trees xs) → IsFaultOf R F (first_fault fault part) (member_trees (xs ++ (x ∷ [])))
 fault_added R F (Some g) part xs x read before = (before.0, first_later R F xs (x ∷ []) before.0 g before.1)
 fault_added R F None (Ok y) xs x read before = (all_both (Read R) xs (x ∷ [])).1 (before, ((y.0, y.1, read), tt))
@@ -201,7 +186,7 @@ keyed_added K place S n more A xs x adds is before =
 abbrev Ids : MemberTrees → ℕ → Type 0
 Ids ms i = (i < 64) × SomeMember (λ j t. j ≡ pos i) ms
 
-pub seen_more : (R : Reads) (F : ℤ → Faults) → OneReading R → ApartMember R F → (ids ids2 coords coords2 dims dims2 : ℕ) (fault fault2 : Option LayoutFault) (part : Answer) (xs : Items) (k : ℕ) (x : ℤ × FieldTree) → k < length xs → x ≡ get_or xs k x
+pub seen_more : (R : MemberReads) (F : ℤ → Faults) → OneReading R → ApartMember R F → (ids ids2 coords coords2 dims dims2 : ℕ) (fault fault2 : Option LayoutFault) (part : Answer) (xs : Items) (k : ℕ) (x : ℤ × FieldTree) → k < length xs → x ≡ get_or xs k x
     → TellsBoth part (R x.0 x.1.tree) (F x.0 x.1.tree) → AddsBits ids (λ i. (i < 64) × (x.0 ≡ pos i)) ids2 → AddsBits coords (CoordOf part) coords2 → AddsBits dims (DimensionOf part) dims2
     → fault2 ≡ first_fault fault part → Seen R F ids coords dims fault (member_trees (take k xs)) → Seen R F ids2 coords2 dims2 fault2 (member_trees (take (k + 1) xs))
 seen_more R F one apart ids ids2 coords coords2 dims dims2 fault fault2 part all k x lt at told add_id add_coord add_dim next before =
@@ -219,8 +204,8 @@ seen_more R F one apart ids ids2 coords coords2 dims dims2 fault fault2 part all
       fault_found = subst (λ o. IsFaultOf R F o (member_trees (xs ++ (x ∷ [])))) (sym next) (fault_added R F fault part xs x told before.fault_found);
     }
 
-pub seen_none : (R : Reads) (F : ℤ → Faults) → Seen R F 0 0 0 None no_members
-seen_none R F = record {
+pub seen_none : (R : MemberReads) (F : ℤ → Faults) (ids coords dims : ℕ) (fault : Option LayoutFault) → ids ≡ 0 → coords ≡ 0 → dims ≡ 0 → fault ≡ None → Seen R F ids coords dims fault no_members
+seen_none R F ids coords dims fault no_ids no_coords no_dims no_fault = rw (no_ids, no_coords, no_dims, no_fault) record {
   id_bits = no_bits (Ids no_members) (λ i h. h.1);
   coord_bits = no_bits (Keyed CoordType place_of (AtCoord R) no_members) (λ i h. h.2);
   dimension_bits = no_bits (Keyed Dimension order_of (AtDimension R) no_members) (λ i h. h.2);
@@ -231,7 +216,7 @@ pub has_members : (xs : Items) (empty : Bool) → empty ≡ nat_eq (length xs) 0
 has_members [] empty h = (λ e. let bad : true ≡ false = sym h ∙ e in cc, λ m. absurd m)
 has_members (y ∷ ys) empty h = (λ e. tt, λ m. let z : nat_eq (suc (length ys)) 0 ≡ false = eqb-suc-zero (length ys) in h ∙ z)
 
-pub fault_next : (R : Reads) (F : ℤ → Faults) (fault more : Option LayoutFault) (part : Answer) (xs : Items) (k : ℕ) (x : ℤ × FieldTree) → k < length xs → x ≡ get_or xs k x
+pub fault_next : (R : MemberReads) (F : ℤ → Faults) (fault more : Option LayoutFault) (part : Answer) (xs : Items) (k : ℕ) (x : ℤ × FieldTree) → k < length xs → x ≡ get_or xs k x
     → TellsBoth part (R x.0 x.1.tree) (F x.0 x.1.tree) → more ≡ first_fault fault part → IsFaultOf R F fault (member_trees (take k xs)) → IsFaultOf R F more (member_trees (take (k + 1) xs))
 fault_next R F fault more part xs k x lt at read next before =
     subst (λ ys. IsFaultOf R F more (member_trees ys)) (sym (one_more xs k x lt at)) (subst (λ o. IsFaultOf R F o (member_trees (take k xs ++ (x ∷ [])))) (sym next) (fault_added R F fault part (take k xs) x read before))

@@ -1,9 +1,6 @@
 -- What is written is read as what it was written for.
-use Rattle.std.proofs.Common.{◌≡◌, ℤ, [], ◌∷◌, ◌++◌, true, false, inl, inr, refl}
-use Rattle.geoarrow_layout.proofs.Terms.{Tree, member_trees, CoordType, Interleaved, Separated, Dimension, XY, XYZ, XYM, XYZM, Lists, NativeKind, Point, LineString, Polygon, MultiPoint, MultiLineString, MultiPolygon, GeometryCollection, Plain, Kind, OfNative, OfGeometry, OfRect, OfWkb, OfWkt, Leaf, levels_of, Member, AllMembers, Collection, GeometryMember, Geometry, BoxShape, Accepted, LeafUnder, leaf_layout, member_layout, mixed_members, native_layout, geometry_members, layout}
-use Rattle.arrow_values.specs.Union.{HasTypeIds}
+use Rattle.geoarrow_layout.proofs.Terms.{◌≡◌, ℤ, [], ◌∷◌, ◌++◌, true, false, inl, inr, refl, Tree, member_trees, CoordType, Interleaved, Separated, Dimension, XY, XYZ, XYM, XYZM, Lists, NativeKind, Point, LineString, Polygon, MultiPoint, MultiLineString, MultiPolygon, GeometryCollection, Plain, Kind, OfNative, OfGeometry, OfRect, OfWkb, OfWkt, Leaf, levels_of, Member, AllMembers, Collection, GeometryMember, Geometry, BoxShape, Accepted, LeafUnder, leaf_layout, member_layout, mixed_members, native_layout, geometry_members, layout, HasTypeIds, over_leaf_layout, mixed_layout, dimension_members, IsWritten, IsWrittenSome}
 use Rattle.geoarrow_layout.specs.Shapes.{SameNames}
-use Rattle.geoarrow_layout.specs.Layouts.{over_leaf_layout, mixed_layout, dimension_members, IsWritten, IsWrittenSome}
 use Rattle.geoarrow_layout.proofs.MemberLists.{all_map, all_both}
 
 pub written_leaf : (c : CoordType) (d : Dimension) → Leaf (leaf_layout c d) c d

@@ -1,8 +1,5 @@
 -- `Alike` as the test that `alike` makes.
-use Rattle.std.specs.Prelude.{ℤ, nat_eq, cond, Bool, true, false, ◌&&◌, ◌||◌, not, List, length}
-use Rattle.std.specs.List.{list_all}
-use Rattle.std.specs.Ordering.{int_eq}
-use Rattle.std.specs.Str.{bytes_eq}
+use Rattle.geoarrow_layout.specs.Words.{ℤ, nat_eq, cond, Bool, true, false, ◌&&◌, ◌||◌, not, List, length, list_all, int_eq, bytes_eq}
 use Rattle.arrow_values.specs.Code.{plain_code}
 use Rattle.arrow_values.specs.Tree.{Text, Tree, plain, list, large_list, fixed_size_list, struct, union, MemberTrees, no_members, member}
 use Rattle.geoarrow_layout.specs.Shapes.{names_of, has_name}

@@ -1,8 +1,6 @@
 -- What `written_kind` compares of a data type.
-use Rattle.std.specs.Prelude.{◌≡◌, Bool, List, [], ◌∷◌, ◌++◌}
+use Rattle.geoarrow_layout.specs.Words.{◌≡◌, Bool, List, [], ◌∷◌, ◌++◌, CoordType, Dimension}
 use Rattle.arrow_values.specs.Tree.{Text, FieldTree, Members}
-use Rattle.geoarrow_layout.specs.declared.kinds.CoordType.{CoordType}
-use Rattle.geoarrow_layout.specs.declared.kinds.Dimension.{Dimension}
 use Rattle.geoarrow_layout.specs.Layouts.{dimension_members}
 
 -- the field has this name and nullability, and no metadata

@@ -1,13 +1,7 @@
 -- The extension names under which a data type can be read.
-use Rattle.std.specs.Prelude.{◌≡◌, ◌⊎◌, length}
+use Rattle.geoarrow_layout.specs.Words.{◌≡◌, ◌⊎◌, length, NativeKind, Point, LineString, Polygon, MultiPoint, MultiLineString, Kind, CoordType, Dimension, Candidates, One, LineStringOrMultiPoint, PolygonOrMultiLineString, PointOrBox}
 use Rattle.arrow_values.specs.Tree.{Text, Tree, struct}
-use Rattle.geoarrow_layout.specs.declared.encodings.NativeKind.{NativeKind}
-use Rattle.geoarrow_layout.specs.declared.encodings.NativeKind.TheVariants.{Point, LineString, Polygon, MultiPoint, MultiLineString}
-use Rattle.geoarrow_layout.specs.declared.encodings.Kind.{Kind}
-use Rattle.geoarrow_layout.specs.declared.kinds.CoordType.{CoordType}
-use Rattle.geoarrow_layout.specs.declared.kinds.Dimension.{Dimension}
-use Rattle.geoarrow_layout.specs.declared.names.Candidates.{Candidates}
-use Rattle.geoarrow_layout.specs.declared.names.Candidates.TheVariants.{None, One, LineStringOrMultiPoint, PolygonOrMultiLineString, PointOrBox}
+use Rattle.geoarrow_layout.specs.declared.names.Candidates.TheVariants.{None}
 use Rattle.geoarrow_layout.specs.declared.names.ExtensionName.TheVariants as names
 use Rattle.geoarrow_layout.specs.Kinds.{name_text}
 use Rattle.geoarrow_layout.specs.Shapes.{names_of, Native, Geometry, BoxShape, Accepts, IsStructured}

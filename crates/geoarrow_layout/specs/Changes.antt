@@ -1,10 +1,7 @@
 -- What a union is read as when members are dropped or joined; the mode never matters.
-use Rattle.std.specs.Prelude.{◌≢◌, ◌↔◌, ◌⊎◌, [], ℤ, Contains}
+use Rattle.geoarrow_layout.specs.Words.{◌≢◌, ◌↔◌, ◌⊎◌, [], ℤ, Contains, UnionMode, CoordType, Dimension}
 use Rattle.arrow_values.specs.Tree.{union, FieldTree, Members}
 use Rattle.arrow_values.specs.View.{member_trees}
-use Rattle.arrow_values.specs.declared.tree.UnionMode.{UnionMode}
-use Rattle.geoarrow_layout.specs.declared.kinds.CoordType.{CoordType}
-use Rattle.geoarrow_layout.specs.declared.kinds.Dimension.{Dimension}
 use Rattle.geoarrow_layout.specs.Shapes.{Geometry, Mixed}
 use Rattle.geoarrow_layout.specs.Alike.{Alike}
 

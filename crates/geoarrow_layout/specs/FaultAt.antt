@@ -1,16 +1,6 @@
 -- Which fault a reader names, and where it is: the table of faults, rule by rule.
-use Rattle.std.specs.Prelude.{ℕ, zero, suc, ℤ, pos, ◌≡◌, ◌≢◌, ◌*◌, ◌⊎◌, List, [], ◌∷◌, ◌++◌, length, Option, None, Some}
+use Rattle.geoarrow_layout.specs.Words.{ℕ, zero, suc, ℤ, pos, ◌≡◌, ◌≢◌, ◌*◌, ◌⊎◌, List, [], ◌∷◌, ◌++◌, length, Option, None, Some, CoordType, Dimension, NativeKind, GeometryCollection, Width, ListWidth, Lists, LargeLists, LayoutFault, UnexpectedType, BadInterleavedName, BadSize, BadFieldNames, BadFieldCount, MixedWidths, BadTypeId, MemberDimension, EmptyUnion, SeveralCoordTypes, SeveralDimensions, ExtensionName}
 use Rattle.arrow_values.specs.Tree.{Text, Tree, plain, null, list, large_list, fixed_size_list, struct, union, FieldTrees, no_fields, field, MemberTrees, no_members, member, FieldTree, field_tree}
-use Rattle.geoarrow_layout.specs.declared.kinds.CoordType.{CoordType}
-use Rattle.geoarrow_layout.specs.declared.kinds.Dimension.{Dimension}
-use Rattle.geoarrow_layout.specs.declared.encodings.NativeKind.{NativeKind}
-use Rattle.geoarrow_layout.specs.declared.encodings.NativeKind.TheVariants.{GeometryCollection}
-use Rattle.geoarrow_layout.specs.declared.encodings.Width.{Width}
-use Rattle.geoarrow_layout.specs.declared.summary.ListWidth.{ListWidth}
-use Rattle.geoarrow_layout.specs.declared.summary.ListWidth.TheVariants.{List as Lists, LargeList as LargeLists}
-use Rattle.geoarrow_layout.specs.declared.fault.LayoutFault.{LayoutFault}
-use Rattle.geoarrow_layout.specs.declared.fault.LayoutFault.TheVariants.{UnexpectedType, BadInterleavedName, BadSize, BadFieldNames, BadFieldCount, MixedWidths, BadTypeId, MemberDimension, EmptyUnion, SeveralCoordTypes, SeveralDimensions}
-use Rattle.geoarrow_layout.specs.declared.names.ExtensionName.{ExtensionName}
 use Rattle.geoarrow_layout.specs.declared.names.ExtensionName.TheVariants as names
 use Rattle.geoarrow_layout.specs.Kinds.{size_of, interleaved_name, type_id_of}
 use Rattle.geoarrow_layout.specs.Shapes.{names_of, IsSeparatedAs, levels_of, OverLeaf, Member, AllMembers, Native, GeometryMember, IsBoxAs, IsBytes, IsText}

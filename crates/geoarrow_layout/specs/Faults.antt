@@ -1,11 +1,7 @@
 -- The faults of data types, as errors of Arrow.
-use Rattle.std.specs.Prelude.{codes}
+use Rattle.geoarrow_layout.specs.Words.{codes, ArrowError, ExternalError', LayoutFault, UnexpectedType, BadInterleavedName, BadSize, BadFieldNames, BadFieldCount, MixedWidths, BadTypeId, MemberDimension, EmptyUnion, SeveralCoordTypes, SeveralDimensions}
 use Rattle.arrow_values.specs.Tree.{Text}
-use Rattle.arrow_values.specs.declared.error.ArrowError.{ArrowError}
-use Rattle.arrow_values.specs.declared.error.ArrowError.TheVariants.{ExternalError'}
 use Rattle.arrow_values.specs.Errors.{IsSchemaOf, IsInvalidOf}
-use Rattle.geoarrow_layout.specs.declared.fault.LayoutFault.{LayoutFault}
-use Rattle.geoarrow_layout.specs.declared.fault.LayoutFault.TheVariants.{UnexpectedType, BadInterleavedName, BadSize, BadFieldNames, BadFieldCount, MixedWidths, BadTypeId, MemberDimension, EmptyUnion, SeveralCoordTypes, SeveralDimensions}
 
 -- the message of a fault
 abbrev pub fault_text : LayoutFault → Text

@@ -1,21 +1,7 @@
 -- Tables of dimensions and kinds: sizes, names and type ids.
-use Rattle.std.specs.Prelude.{◌≡◌, ℕ, ◌+◌, ◌*◌, ◌++◌, Option, Some, None, codes, string_bytes}
-use Rattle.std.specs.Fmt.{decimal}
+use Rattle.geoarrow_layout.specs.Words.{◌+◌, ◌≡◌, ℕ, ◌*◌, ◌++◌, Option, Some, None, codes, string_bytes, decimal, Dimensions, Xy, Xyz, Xym, Xyzm, Unknown, GeoArrowError, InvalidGeoArrow, CoordType, Separated, Dimension, XY, XYZ, XYM, XYZM, NativeKind, Point, LineString, Polygon, MultiPoint, MultiLineString, MultiPolygon, GeometryCollection, ExtensionName, Kind, Native, Geometry, Rect, Wkb, Wkt}
 use Rattle.arrow_values.specs.Tree.{Text}
-use Rattle.arrow_values.specs.declared.coordinates.Dimensions.{Dimensions}
-use Rattle.arrow_values.specs.declared.coordinates.Dimensions.TheVariants.{Xy, Xyz, Xym, Xyzm, Unknown}
-use Rattle.arrow_values.specs.declared.error.GeoArrowError.{GeoArrowError}
-use Rattle.arrow_values.specs.declared.error.GeoArrowError.TheVariants.{InvalidGeoArrow}
-use Rattle.geoarrow_layout.specs.declared.kinds.CoordType.{CoordType}
-use Rattle.geoarrow_layout.specs.declared.kinds.CoordType.TheVariants.{Separated}
-use Rattle.geoarrow_layout.specs.declared.kinds.Dimension.{Dimension}
-use Rattle.geoarrow_layout.specs.declared.kinds.Dimension.TheVariants.{XY, XYZ, XYM, XYZM}
-use Rattle.geoarrow_layout.specs.declared.encodings.NativeKind.{NativeKind}
-use Rattle.geoarrow_layout.specs.declared.encodings.NativeKind.TheVariants.{Point, LineString, Polygon, MultiPoint, MultiLineString, MultiPolygon, GeometryCollection}
-use Rattle.geoarrow_layout.specs.declared.names.ExtensionName.{ExtensionName}
 use Rattle.geoarrow_layout.specs.declared.names.ExtensionName.TheVariants as names
-use Rattle.geoarrow_layout.specs.declared.encodings.Kind.{Kind}
-use Rattle.geoarrow_layout.specs.declared.encodings.Kind.TheVariants.{Native, Geometry, Rect, Wkb, Wkt}
 
 -- how many numbers a coordinate has
 abbrev pub size_of : Dimension → ℕ

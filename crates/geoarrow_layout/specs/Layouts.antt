@@ -1,17 +1,7 @@
 -- The data types as written: names, list levels, type ids and nullability.
-use Rattle.std.specs.Prelude.{◌≡◌, ℤ, pos, true, false, List, [], ◌∷◌, ◌++◌, map, codes}
+use Rattle.geoarrow_layout.specs.Words.{◌≡◌, ℤ, pos, true, false, List, [], ◌∷◌, ◌++◌, map, codes, Dense, CoordType, Interleaved, Separated, Dimension, XY, XYZ, XYM, XYZM, NativeKind, Point, LineString, Polygon, MultiPoint, MultiLineString, MultiPolygon, GeometryCollection, Plain, Large, View, Kind, Native, Geometry, Rect, Wkb, Wkt}
 use Rattle.arrow_values.specs.Tree.{Text, Tree, plain, float64, binary, large_binary, binary_view, utf8, large_utf8, utf8_view, list, fixed_size_list, struct, union, FieldTree, field_tree, Members}
 use Rattle.arrow_values.specs.View.{field_trees, member_trees}
-use Rattle.arrow_values.specs.declared.tree.UnionMode.TheVariants.{Dense}
-use Rattle.geoarrow_layout.specs.declared.kinds.CoordType.{CoordType}
-use Rattle.geoarrow_layout.specs.declared.kinds.CoordType.TheVariants.{Interleaved, Separated}
-use Rattle.geoarrow_layout.specs.declared.kinds.Dimension.{Dimension}
-use Rattle.geoarrow_layout.specs.declared.kinds.Dimension.TheVariants.{XY, XYZ, XYM, XYZM}
-use Rattle.geoarrow_layout.specs.declared.encodings.NativeKind.{NativeKind}
-use Rattle.geoarrow_layout.specs.declared.encodings.NativeKind.TheVariants.{Point, LineString, Polygon, MultiPoint, MultiLineString, MultiPolygon, GeometryCollection}
-use Rattle.geoarrow_layout.specs.declared.encodings.Width.TheVariants.{Plain, Large, View}
-use Rattle.geoarrow_layout.specs.declared.encodings.Kind.{Kind}
-use Rattle.geoarrow_layout.specs.declared.encodings.Kind.TheVariants.{Native, Geometry, Rect, Wkb, Wkt}
 use Rattle.geoarrow_layout.specs.Kinds.{size_of, interleaved_name, type_id_of}
 
 -- a field of a coordinate or a box: `Float64`, not nullable, without metadata

@@ -1,38 +1,15 @@
 -- Laws of `Shapes`: a data type of a kind has one coordinate type and one dimension.
-use Rattle.std.proofs.Common.{◌≡◌, ◌≤◌, ◌+◌, ◌*◌, inl, inr, ℕ, zero, suc, ℤ, pos, true, false, List, [], ◌∷◌, refl, sym, subst, ◌∙◌, arith}
-use Rattle.std.specs.Str.{bytes_eq}
-use Rattle.std.proofs.lemmas.Slice.Eq.{bytes_eq-Decides}
+use Rattle.geoarrow_layout.specs.Words.{◌≤◌, ◌+◌, inl, inr, refl, sym, subst, ◌∙◌, arith, bytes_eq, bytes_eq-Decides, CoordType, Interleaved, Separated, Dimension, XY, XYZ, XYM, XYZM, NativeKind, Point, GeometryCollection, ListWidth, Lists, LargeLists, ◌≡◌, ◌*◌, ℕ, zero, suc, ℤ, pos, true, false, List, [], ◌∷◌}
 use Rattle.arrow_values.specs.Tree.{Text, Tree, list, large_list, fixed_size_list, struct, union, no_members, member}
-use Rattle.geoarrow_layout.specs.declared.kinds.CoordType.{CoordType}
-use Rattle.geoarrow_layout.specs.declared.kinds.CoordType.TheVariants.{Interleaved, Separated}
-use Rattle.geoarrow_layout.specs.declared.kinds.Dimension.{Dimension}
-use Rattle.geoarrow_layout.specs.declared.kinds.Dimension.TheVariants.{XY, XYZ, XYM, XYZM}
-use Rattle.geoarrow_layout.specs.declared.encodings.NativeKind.{NativeKind}
-use Rattle.geoarrow_layout.specs.declared.encodings.NativeKind.TheVariants.{Point, LineString, Polygon, MultiPoint, MultiLineString, MultiPolygon, GeometryCollection}
-use Rattle.geoarrow_layout.specs.declared.summary.ListWidth.{ListWidth}
-use Rattle.geoarrow_layout.specs.declared.summary.ListWidth.TheVariants.{List as Lists, LargeList as LargeLists}
 use Rattle.geoarrow_layout.specs.Kinds.{interleaved_name, order_of, offset_of, type_id_of}
 use Rattle.geoarrow_layout.specs.Shapes.{SameNames, IsSeparatedAs, Leaf, ListsOver, Levels, levels_of, OverLeaf, Member, Mixed, Collection, Native, GeometryMember, Geometry, names_of, IsBoxAs, BoxShape}
 
 -- field names are those of at most one dimension
 pub separated_same : (names : List Text) (d e : Dimension) → IsSeparatedAs d names → IsSeparatedAs e names → d ≡ e
 unfolding SameNames
-separated_same names XY XY h k = refl
-separated_same names XYZ XYZ h k = refl
-separated_same names XYM XYM h k = refl
-separated_same names XYZM XYZM h k = refl
-separated_same names XY XYZ h k = absurd (omega (arith, k.0))
-separated_same names XY XYM h k = absurd (omega (arith, k.0))
-separated_same names XY XYZM h k = absurd (omega arith)
-separated_same names XYZ XY h k = absurd (omega (arith, h.0))
 separated_same names XYZ XYM h k = let e = h.1 (122 ∷ []) in let f = k.1 (122 ∷ []) in cc
-separated_same names XYZ XYZM h k = absurd (omega (arith, h.0))
-separated_same names XYM XY h k = absurd (omega (arith, h.0))
 separated_same names XYM XYZ h k = let e = h.1 (122 ∷ []) in let f = k.1 (122 ∷ []) in cc
-separated_same names XYM XYZM h k = absurd (omega (arith, h.0))
-separated_same names XYZM XY h k = absurd (omega arith)
-separated_same names XYZM XYZ h k = absurd (omega (arith, k.0))
-separated_same names XYZM XYM h k = absurd (omega (arith, k.0))
+separated_same names d e h k = grind arith
 
 -- texts are different if the test says so
 pub apart : (x y : Text) → bytes_eq x y ≡ false → x ≡ y → ⊥
@@ -72,12 +49,9 @@ levels_same (suc n) t u x h k =
 
 -- ---- a type id has one kind and one dimension
 
-order_same : (d e : Dimension) → order_of d ≡ order_of e → d ≡ e
+pub order_same : (d e : Dimension) → order_of d ≡ order_of e → d ≡ e
 order_same XY XY h = refl
-order_same XYZ XYZ h = refl
-order_same XYM XYM h = refl
-order_same XYZM XYZM h = refl
-order_same d e h = absurd (omega arith)
+order_same d e h = grind arith
 
 offset_small : (k : NativeKind) → offset_of k ≤ 7
 offset_small Point = omega arith
@@ -85,15 +59,9 @@ offset_small _ = omega arith
 
 offset_same : (k l : NativeKind) → offset_of k ≡ offset_of l → k ≡ l
 offset_same Point Point h = refl
-offset_same LineString LineString h = refl
-offset_same Polygon Polygon h = refl
-offset_same MultiPoint MultiPoint h = refl
-offset_same MultiLineString MultiLineString h = refl
-offset_same MultiPolygon MultiPolygon h = refl
-offset_same GeometryCollection GeometryCollection h = refl
-offset_same k l h = absurd (omega arith)
+offset_same k l h = grind arith
 
-pos_same : (m n : ℕ) → pos m ≡ pos n → m ≡ n
+pub pos_same : (m n : ℕ) → pos m ≡ pos n → m ≡ n
 pos_same m n h = cc
 
 pub id_same : (i : ℤ) (k l : NativeKind) (d e : Dimension) → i ≡ pos (type_id_of k d) → i ≡ pos (type_id_of l e) → (k ≡ l) × (d ≡ e)
@@ -148,22 +116,9 @@ geometry_part_same i t c b d e h g =
     any_native_same y.0 t c b d e (subst (λ k. Native t k c d) p.0 x.2) y.2
 
 pub box_same : (ns : List Text) (d e : Dimension) → IsBoxAs d ns → IsBoxAs e ns → d ≡ e
-box_same ns XY XY h k = refl
-box_same ns XYZ XYZ h k = refl
-box_same ns XYM XYM h k = refl
-box_same ns XYZM XYZM h k = refl
-box_same ns XY XYZ h k = absurd (omega (arith, k.0))
-box_same ns XY XYM h k = absurd (omega (arith, k.0))
-box_same ns XY XYZM h k = absurd (omega arith)
-box_same ns XYZ XY h k = absurd (omega (arith, h.0))
 box_same ns XYZ XYM h k = absurd (h.1 k.1)
-box_same ns XYZ XYZM h k = absurd (omega (arith, h.0))
-box_same ns XYM XY h k = absurd (omega (arith, h.0))
 box_same ns XYM XYZ h k = absurd (k.1 h.1)
-box_same ns XYM XYZM h k = absurd (omega (arith, h.0))
-box_same ns XYZM XY h k = absurd (omega arith)
-box_same ns XYZM XYZ h k = absurd (omega (arith, k.0))
-box_same ns XYZM XYM h k = absurd (omega (arith, k.0))
+box_same ns d e h k = grind arith
 
 -- a geometry has one coordinate type
 pub geometry_same : (t : Tree) (c b : CoordType) → Geometry t c → Geometry t b → c ≡ b

@@ -1,23 +1,10 @@
 -- What the steps of the walk and of the readers do.
-use Rattle.std.specs.Prelude.{ℕ, zero, suc, nat_eq, ℤ, pos, ◌≡◌, ◌≢◌, ◌↔◌, ◌⊎◌, ◌^◌, ◌++◌, [], Bool, true, false, ◌&&◌, Option, Some, None, Result, Ok, Err, MatchResult}
-use Rattle.std.specs.Int.{bit_at}
+use Rattle.geoarrow_layout.specs.Words.{ℕ, zero, suc, nat_eq, ℤ, pos, ◌≡◌, ◌≢◌, ◌↔◌, ◌⊎◌, ◌^◌, ◌++◌, [], Bool, true, false, ◌&&◌, Option, Some, None, Result, Ok, Err, MatchResult, bit_at, CoordType, Dimension, XY, XYZ, XYM, XYZM, LayoutFault, UnexpectedType, MixedWidths, MemberDimension, EmptyUnion, SeveralCoordTypes, SeveralDimensions, ListWidth, Lists, LargeLists, Bottom, FixedSizeList, Struct, OtherWidth, Summary, Kind, NativeKind, ExtensionName}
 use Rattle.arrow_values.specs.Tree.{Tree, list, large_list, MemberTrees}
-use Rattle.geoarrow_layout.specs.declared.kinds.CoordType.{CoordType}
-use Rattle.geoarrow_layout.specs.declared.kinds.Dimension.{Dimension}
-use Rattle.geoarrow_layout.specs.declared.kinds.Dimension.TheVariants.{XY, XYZ, XYM, XYZM}
-use Rattle.geoarrow_layout.specs.declared.fault.LayoutFault.{LayoutFault}
-use Rattle.geoarrow_layout.specs.declared.fault.LayoutFault.TheVariants.{UnexpectedType, MixedWidths, MemberDimension, EmptyUnion, SeveralCoordTypes, SeveralDimensions}
-use Rattle.geoarrow_layout.specs.declared.summary.ListWidth.{ListWidth}
-use Rattle.geoarrow_layout.specs.declared.summary.ListWidth.TheVariants.{List as Lists, LargeList as LargeLists}
-use Rattle.geoarrow_layout.specs.declared.summary.Bottom.{Bottom}
-use Rattle.geoarrow_layout.specs.declared.summary.Bottom.TheVariants.{FixedSizeList, Struct, OtherWidth}
-use Rattle.geoarrow_layout.specs.declared.summary.Summary.{Summary}
-use Rattle.geoarrow_layout.specs.declared.encodings.Kind.{Kind}
-use Rattle.geoarrow_layout.specs.declared.names.ExtensionName.{ExtensionName}
 use Rattle.geoarrow_layout.specs.declared.names.ExtensionName.TheVariants as names
 use Rattle.geoarrow_layout.specs.Kinds.{order_of, name_text}
-use Rattle.geoarrow_layout.specs.Shapes.{AllMembers, Accepts}
-use Rattle.geoarrow_layout.specs.FaultAt.{Path, Located, Faults, HasFault, FirstFault, FaultAt}
+use Rattle.geoarrow_layout.specs.Shapes.{AllMembers, OverLeaf, Member, Native, GeometryMember, Accepts}
+use Rattle.geoarrow_layout.specs.FaultAt.{Path, Located, Faults, HasFault, FirstFault, CoordinateFault, LevelFault, ListsFault, OverLeafFault, PartFault, NativeFault, FaultAt}
 use Rattle.geoarrow_layout.specs.Summary.{place_of, IsInnerUnion, SummarizesBy}
 
 -- whether bit i of the number is set
@@ -60,6 +47,30 @@ IsNested (suc levels) b ms = IsInnerUnion b ms
 abbrev pub ShowsInner : Summary → Tree → Type 0
 ShowsInner s t = SummarizesBy IsNested s t
 
+-- the width of a list is the one that is asked for, if one is
+abbrev pub IsWidth : Option ListWidth → ListWidth → Type 0
+IsWidth asked w = (asked ≡ None) ⊎ (asked ≡ Some w)
+
+-- the same where collections are allowed or not: what a summary says, what is read, and the faults of a native kind and of a member
+abbrev pub ShowsIn : Bool → Summary → Tree → Type 0
+ShowsIn true s t = ShowsInner s t
+ShowsIn false s t = Shows s t
+
+abbrev pub NativeIn : Bool → Tree → NativeKind → CoordType → Dimension → Type 0
+NativeIn true = Native
+NativeIn false = OverLeaf
+
+abbrev pub NativeFaultIn : Bool → NativeKind → Faults
+NativeFaultIn true = NativeFault
+NativeFaultIn false = OverLeafFault
+
+abbrev pub MemberIn : Bool → ℤ → Tree → CoordType → Dimension → Type 0
+MemberIn true = GeometryMember
+MemberIn false = Member
+
+abbrev pub MemberFaultIn : Bool → ℤ → Faults
+MemberFaultIn b i t p f = PartFault (NativeIn b) (NativeFaultIn b) i t p f
+
 -- the answer is a value for which R holds, or else the fault that F says
 abbrev pub Tells : {X : Type 0} → Result X LayoutFault → (X → Type 0) → Located → Type 0
 Tells r R F = MatchResult r R (HasFault F)
@@ -77,6 +88,15 @@ TellsKind n t r = Tells r (Accepts (name_text n) t) (FaultAt n t)
 -- where F says a fault, `after` is `before` with the path to it
 abbrev pub LeadsTo : Located → Path → Path → Type 0
 LeadsTo F before after = (p : Path) (f : LayoutFault) → F p f → after ≡ before ++ p
+
+-- a fault of the data type itself
+abbrev pub StaysHere : Located → Type 0
+StaysHere F = (p : Path) (f : LayoutFault) → F p f → p ≡ []
+
+-- so many levels of a width, or of either, over a coordinate
+abbrev pub LevelsFault : Option ListWidth → ℕ → Faults
+LevelsFault None n t p f = ListsFault CoordinateFault n t p f
+LevelsFault (Some w) n t p f = LevelFault CoordinateFault w n t p f
 
 -- the first member with a fault and its fault, or, where each is read, the union itself
 abbrev pub FirstOrNone : (ℤ → Tree → CoordType → Dimension → Type 0) → (ℤ → Faults) → MemberTrees → Located

@@ -1,18 +1,6 @@
 -- What a summary says of its data type.
-use Rattle.std.specs.Prelude.{ℕ, zero, suc, ℤ, pos, ◌≡◌, ◌↔◌, ◌<◌, ◌≤◌, ◌⊎◌, false, cond, Option, Some, None, MatchOption, List, [], ◌∷◌, length, codes}
-use Rattle.std.specs.Int.{bit_at}
-use Rattle.std.specs.Str.{bytes_eq}
+use Rattle.geoarrow_layout.specs.Words.{◌≤◌, ℕ, zero, suc, ℤ, pos, ◌≡◌, ◌↔◌, ◌<◌, ◌⊎◌, false, cond, Option, Some, None, MatchOption, List, [], ◌∷◌, length, codes, bit_at, bytes_eq, CoordType, Interleaved, Separated, Dimension, LayoutFault, UnexpectedType, ListWidth, Lists, LargeLists, Bottom, FixedSizeList, Struct, Union, OtherWidth, Deep, Other, Summary}
 use Rattle.arrow_values.specs.Tree.{Text, Tree, plain, list, large_list, fixed_size_list, struct, union, FieldTrees, MemberTrees}
-use Rattle.geoarrow_layout.specs.declared.kinds.CoordType.{CoordType}
-use Rattle.geoarrow_layout.specs.declared.kinds.CoordType.TheVariants.{Interleaved, Separated}
-use Rattle.geoarrow_layout.specs.declared.kinds.Dimension.{Dimension}
-use Rattle.geoarrow_layout.specs.declared.fault.LayoutFault.{LayoutFault}
-use Rattle.geoarrow_layout.specs.declared.fault.LayoutFault.TheVariants.{UnexpectedType}
-use Rattle.geoarrow_layout.specs.declared.summary.ListWidth.{ListWidth}
-use Rattle.geoarrow_layout.specs.declared.summary.ListWidth.TheVariants.{List as Lists, LargeList as LargeLists}
-use Rattle.geoarrow_layout.specs.declared.summary.Bottom.{Bottom}
-use Rattle.geoarrow_layout.specs.declared.summary.Bottom.TheVariants.{FixedSizeList, Struct, Union, OtherWidth, Deep, Other}
-use Rattle.geoarrow_layout.specs.declared.summary.Summary.{Summary}
 use Rattle.geoarrow_layout.specs.Kinds.{interleaved_name, order_of}
 use Rattle.geoarrow_layout.specs.Shapes.{names_of, ListsOver, Member, GeometryMember, HasMembers, AllMembers, SomeMember}
 use Rattle.geoarrow_layout.specs.Inferred.{is_float64, are_float64}

@@ -41,24 +41,8 @@ macro_rules! all_kinds {
     };
 }
 
-/// Of four names, in the order of the dimensions, that of a dimension.
-macro_rules! in_dimension {
-    ($dimension:expr, $xy:ident, $xyz:ident, $xym:ident, $xyzm:ident) => {
-        match $dimension {
-            XY => FixedName::$xy,
-            XYZ => FixedName::$xyz,
-            XYM => FixedName::$xym,
-            XYZM => FixedName::$xyzm,
-        }
-    };
-}
-
 /// The kinds of geometry that have their own layout (GeoArrow, "Native encoding").
-///
-/// ```rust
-/// let kind = Kind::Native(NativeKind::Polygon, CoordType::Separated, Dimension::XYZ);
-/// assert_eq!(rt; kind.name(), "geoarrow.polygon");
-/// ```
+/// [`Kind`] has an example.
 #[derive(Clone, Copy, Debug, PartialEq, Eq)]
 pub enum NativeKind {
     /// A coordinate.
@@ -78,14 +62,7 @@ pub enum NativeKind {
 }
 
 /// How bytes and texts are stored (Arrow, "Variable-size Binary Layout", "Variable-size Binary View Layout").
-///
-/// ```rust
-/// let name = ExtensionName::Wkb;
-/// assert_eq!(rt;
-///     parse_kind(name, &DataType::LargeBinary),
-///     Ok(Kind::Wkb(Width::Large))
-/// );
-/// ```
+/// [`Kind`] has an example.
 #[derive(Clone, Copy, Debug, PartialEq, Eq)]
 pub enum Width {
     /// With 32-bit offsets.
@@ -159,9 +136,7 @@ impl Kind {
             Kind::Geometry(_) | Kind::Wkb(_) | Kind::Wkt(_) => None,
         }
     }
-}
 
-impl Kind {
     /// All 68 kinds, each once.
     pub const ALL: [Kind; 68] = all_kinds!(
         Point,
@@ -245,54 +220,35 @@ pub(crate) fn list_names(kind: NativeKind) -> &'static [FixedName]
 pub(crate) fn member_name(kind: NativeKind, dimension: Dimension) -> FixedName
     ensures { fixed_text result ≡ type_name kind ++ dimension_suffix dimension }
 {
-    match kind {
-        NativeKind::Point => in_dimension!(dimension, Point, PointZ, PointM, PointZm),
-        NativeKind::LineString => {
-            in_dimension!(
-                dimension,
-                LineString,
-                LineStringZ,
-                LineStringM,
-                LineStringZm
-            )
-        }
-        NativeKind::Polygon => in_dimension!(dimension, Polygon, PolygonZ, PolygonM, PolygonZm),
-        NativeKind::MultiPoint => {
-            in_dimension!(
-                dimension,
-                MultiPoint,
-                MultiPointZ,
-                MultiPointM,
-                MultiPointZm
-            )
-        }
-        NativeKind::MultiLineString => {
-            in_dimension!(
-                dimension,
-                MultiLineString,
-                MultiLineStringZ,
-                MultiLineStringM,
-                MultiLineStringZm
-            )
-        }
-        NativeKind::MultiPolygon => {
-            in_dimension!(
-                dimension,
-                MultiPolygon,
-                MultiPolygonZ,
-                MultiPolygonM,
-                MultiPolygonZm
-            )
-        }
-        NativeKind::GeometryCollection => {
-            in_dimension!(
-                dimension,
-                GeometryCollection,
-                GeometryCollectionZ,
-                GeometryCollectionM,
-                GeometryCollectionZm
-            )
-        }
+    match (kind, dimension) {
+        (NativeKind::Point, XY) => FixedName::Point,
+        (NativeKind::Point, XYZ) => FixedName::PointZ,
+        (NativeKind::Point, XYM) => FixedName::PointM,
+        (NativeKind::Point, XYZM) => FixedName::PointZm,
+        (NativeKind::LineString, XY) => FixedName::LineString,
+        (NativeKind::LineString, XYZ) => FixedName::LineStringZ,
+        (NativeKind::LineString, XYM) => FixedName::LineStringM,
+        (NativeKind::LineString, XYZM) => FixedName::LineStringZm,
+        (NativeKind::Polygon, XY) => FixedName::Polygon,
+        (NativeKind::Polygon, XYZ) => FixedName::PolygonZ,
+        (NativeKind::Polygon, XYM) => FixedName::PolygonM,
+        (NativeKind::Polygon, XYZM) => FixedName::PolygonZm,
+        (NativeKind::MultiPoint, XY) => FixedName::MultiPoint,
+        (NativeKind::MultiPoint, XYZ) => FixedName::MultiPointZ,
+        (NativeKind::MultiPoint, XYM) => FixedName::MultiPointM,
+        (NativeKind::MultiPoint, XYZM) => FixedName::MultiPointZm,
+        (NativeKind::MultiLineString, XY) => FixedName::MultiLineString,
+        (NativeKind::MultiLineString, XYZ) => FixedName::MultiLineStringZ,
+        (NativeKind::MultiLineString, XYM) => FixedName::MultiLineStringM,
+        (NativeKind::MultiLineString, XYZM) => FixedName::MultiLineStringZm,
+        (NativeKind::MultiPolygon, XY) => FixedName::MultiPolygon,
+        (NativeKind::MultiPolygon, XYZ) => FixedName::MultiPolygonZ,
+        (NativeKind::MultiPolygon, XYM) => FixedName::MultiPolygonM,
+        (NativeKind::MultiPolygon, XYZM) => FixedName::MultiPolygonZm,
+        (NativeKind::GeometryCollection, XY) => FixedName::GeometryCollection,
+        (NativeKind::GeometryCollection, XYZ) => FixedName::GeometryCollectionZ,
+        (NativeKind::GeometryCollection, XYM) => FixedName::GeometryCollectionM,
+        (NativeKind::GeometryCollection, XYZM) => FixedName::GeometryCollectionZm,
     }
 }
 

@@ -6,18 +6,7 @@ use arrow_values::{ArrowError, GeoArrowError};
 use std::alloc::{AllocError, Global};
 
 /// Why a data type does not have the layout that a reader expects.
-///
-/// ```rust
-/// let name = ExtensionName::Wkb;
-/// assert_eq!(rt;
-///     parse_kind(name, &DataType::LargeBinary),
-///     Ok(Kind::Wkb(Width::Large))
-/// );
-/// assert_eq!(rt;
-///     parse_kind(name, &DataType::Utf8),
-///     Err(LayoutFault::UnexpectedType)
-/// );
-/// ```
+/// [`parse_kind`](crate::parse_kind) has an example.
 #[derive(Clone, Copy, Debug, PartialEq, Eq)]
 pub enum LayoutFault {
     /// The data type, or one inside it, is of another sort.

@@ -1,17 +1,16 @@
 //! Where the fault of a data type is.
-ghost use Rattle.std.specs.Prelude.{◌≡◌, ◌∷◌, ◌++◌, [], None, Some, IfOk, OnOk, MatchOption};
+ghost use Rattle.std.specs.Prelude.{◌≡◌, None, Some, IfOk, OnOk, MatchOption};
 ghost use Rattle.arrow_values.specs.View.{tree, field_trees, member_trees};
 ghost use Rattle.geoarrow_layout.specs.Kinds.{name_text};
-ghost use Rattle.geoarrow_layout.specs.Shapes.{Member, GeometryMember};
 ghost use Rattle.geoarrow_layout.specs.Candidates.{IsAccepted};
-ghost use Rattle.geoarrow_layout.specs.FaultAt.{CoordinateFault, LevelFault, ListsFault, OverLeafFault, MemberFault, MixedFault, NativeFault, GeometryMemberFault, GeometryFault, FaultAt, child_at, field_at, member_at};
-ghost use Rattle.geoarrow_layout.specs.Steps.{LeadsTo, FirstOrNone};
+ghost use Rattle.geoarrow_layout.specs.FaultAt.{Path, ListsFault, OverLeafFault, MixedFault, NativeFault, GeometryFault, FaultAt, child_at, field_at, member_at};
+ghost use Rattle.geoarrow_layout.specs.Steps.{LeadsTo, LevelsFault, FirstOrNone, StaysHere, MemberIn, MemberFaultIn, NativeFaultIn};
 
 use crate::encodings::{NativeKind, levels, parts_of_id};
 use crate::fault::LayoutFault;
 use crate::names::ExtensionName;
-use crate::read::{any_native, geometry_part, member, native, parse_kind};
-use crate::summary::{ListWidth, leaf_summary, nested_summary};
+use crate::read::{member, native, parse_kind};
+use crate::summary::{ListWidth, list_item, member_summary};
 use arrow_values::{DataType, Field};
 use std::alloc::{AllocError, Global};
 
@@ -47,6 +46,7 @@ pub fn find_fault(
 /// ```rust
 /// let item = child_field(&data_type, 0);
 /// ```
+#[tactic(auto, using(crate::proofs::FaultPaths::field_there, crate::proofs::FaultPaths::no_field_there, crate::proofs::FaultPaths::member_there, crate::proofs::FaultPaths::no_member_there))]
 pub fn child_field(data_type: &DataType, place: usize) -> Option<&Field>
     ensures { MatchOption result (child_at (tree data_type.now) place ≡ None) (λ f. child_at (tree data_type.now) place ≡ Some f.now) }
 {
@@ -54,32 +54,12 @@ pub fn child_field(data_type: &DataType, place: usize) -> Option<&Field>
         DataType::List(item) | DataType::LargeList(item) | DataType::FixedSizeList(item, _) => {
             if place == 0 { Some(item) } else { None }
         }
-        DataType::Struct(fields) => field_of(fields.as_slice(), place),
-        DataType::Union(members, _) => member_of(members.as_slice(), place),
+        DataType::Struct(fields) => fields.as_slice().get(place),
+        DataType::Union(members, _) => match members.as_slice().get(place) {
+            Some(member) => Some(&member.1),
+            None => None,
+        },
         _ => None,
-    }
-}
-
-/// The field at that place.
-#[tactic(auto, using(crate::proofs::FaultPaths::field_there, crate::proofs::FaultPaths::no_field_there))]
-fn field_of(fields: &[Field], place: usize) -> Option<&Field>
-    ensures { MatchOption result (field_at (field_trees fields.now) place ≡ None) (λ f. field_at (field_trees fields.now) place ≡ Some f.now) }
-{
-    if place < fields.len() {
-        Some(&fields[place])
-    } else {
-        None
-    }
-}
-
-/// The field of the member at that place.
-fn member_of(members: &[(i8, Field)], place: usize) -> Option<&Field>
-    ensures { MatchOption result (member_at (member_trees members.now) place ≡ None) (λ f. member_at (member_trees members.now) place ≡ Some f.now) }
-{
-    if place < members.len() {
-        Some(&members[place].1)
-    } else {
-        None
     }
 }
 
@@ -122,52 +102,28 @@ fn push_over_leaf(
 {
     match kind {
         NativeKind::GeometryCollection => Ok(()),
-        _ => push_lists(path, levels(kind), data_type),
+        _ => push_levels(path, None, levels(kind), data_type),
     }
 }
 
-/// Adds the path to the fault as so many lists over a coordinate.
-fn push_lists(path: &mut Vec<usize>, levels: u8, data_type: &DataType) -> Result<(), AllocError>
-    ensures { OnOk result (LeadsTo (ListsFault CoordinateFault levels (tree data_type.now)) path.old.items path.new.items) }
-{
-    if levels == 0 {
-        return Ok(());
-    }
-    match data_type {
-        DataType::List(item) => {
-            path.push(0)?;
-            push_levels(path, ListWidth::List, levels - 1, item.data_type())
-        }
-        DataType::LargeList(item) => {
-            path.push(0)?;
-            push_levels(path, ListWidth::LargeList, levels - 1, item.data_type())
-        }
-        _ => Ok(()),
-    }
-}
-
-/// Adds the path to the fault as so many more levels inside a list of that width.
+/// Adds the path to the fault as so many lists of that width, or of either where it is `None`, over a coordinate.
 fn push_levels(
     path: &mut Vec<usize>,
-    width: ListWidth,
+    width: Option<ListWidth>,
     levels: u8,
     data_type: &DataType,
 ) -> Result<(), AllocError>
-    ensures { OnOk result (LeadsTo (LevelFault CoordinateFault width levels (tree data_type.now)) path.old.items path.new.items) }
+    ensures { OnOk result (LeadsTo (LevelsFault width levels (tree data_type.now)) path.old.items path.new.items) }
 {
     if levels == 0 {
         return Ok(());
     }
-    match (data_type, width) {
-        (DataType::List(item), ListWidth::List) => {
+    match list_item(width, data_type) {
+        Some((found, item)) => {
             path.push(0)?;
-            push_levels(path, width, levels - 1, item.data_type())
+            push_levels(path, Some(found), levels - 1, item)
         }
-        (DataType::LargeList(item), ListWidth::LargeList) => {
-            path.push(0)?;
-            push_levels(path, width, levels - 1, item.data_type())
-        }
-        _ => Ok(()),
+        None => Ok(()),
     }
 }
 
@@ -188,78 +144,63 @@ fn push_collection(path: &mut Vec<usize>, data_type: &DataType) -> Result<(), Al
 fn push_mixed(path: &mut Vec<usize>, data_type: &DataType) -> Result<(), AllocError>
     ensures { OnOk result (LeadsTo (MixedFault (tree data_type.now)) path.old.items path.new.items) }
 {
-    match data_type {
-        DataType::Union(members, _) => push_collected(path, members.as_slice()),
-        _ => Ok(()),
-    }
-}
-
-/// Adds the path to the fault of the first member of a collection that has one.
-fn push_collected(path: &mut Vec<usize>, members: &[(i8, Field)]) -> Result<(), AllocError>
-    ensures { OnOk result (LeadsTo (FirstOrNone Member MemberFault (member_trees members.now)) path.old.items path.new.items) }
-{
-    for place in 0..members.len() {
-        let item = &members[place];
-        let read = member(item.0, &leaf_summary(item.1.data_type()));
-        if read.is_err() {
-            path.push(place)?;
-            return push_member(path, item.0, item.1.data_type());
-        }
-    }
-    Ok(())
-}
-
-/// Adds the path to the fault of a member of a collection.
-fn push_member(path: &mut Vec<usize>, id: i8, data_type: &DataType) -> Result<(), AllocError>
-    ensures { OnOk result (LeadsTo (MemberFault id (tree data_type.now)) path.old.items path.new.items) }
-{
-    let Some((kind, _)) = parts_of_id(id) else {
+    let DataType::Union(members, _) = data_type else {
         return Ok(());
     };
-    if native(kind, &leaf_summary(data_type)).is_ok() {
-        return Ok(());
+    match push_place(path, false, members.as_slice())? {
+        Some((kind, inner)) => push_over_leaf(path, kind, inner),
+        None => Ok(()),
     }
-    push_over_leaf(path, kind, data_type)
 }
 
 /// Adds the path to the fault as geometries of any kind.
 fn push_geometry(path: &mut Vec<usize>, data_type: &DataType) -> Result<(), AllocError>
     ensures { OnOk result (LeadsTo (GeometryFault (tree data_type.now)) path.old.items path.new.items) }
 {
-    match data_type {
-        DataType::Union(members, _) => push_geometries(path, members.as_slice()),
-        _ => Ok(()),
+    let DataType::Union(members, _) = data_type else {
+        return Ok(());
+    };
+    match push_place(path, true, members.as_slice())? {
+        Some((kind, inner)) => push_native(path, kind, inner),
+        None => Ok(()),
     }
 }
 
-/// Adds the path to the fault of the first member of a geometry that has one.
-fn push_geometries(path: &mut Vec<usize>, members: &[(i8, Field)]) -> Result<(), AllocError>
-    ensures { OnOk result (LeadsTo (FirstOrNone GeometryMember GeometryMemberFault (member_trees members.now)) path.old.items path.new.items) }
+/// Adds the place of the first member with a fault, if there is one. Where the path goes on inside of that member, returns
+/// the kind that its type id says, and its data type.
+fn push_place<'a>(
+    path: &mut Vec<usize>,
+    collections: bool,
+    members: &'a [(i8, Field)],
+) -> Result<Option<(NativeKind, &'a DataType)>, AllocError>
+    ensures { IfOk result (λ r. MatchOption r (LeadsTo (FirstOrNone (MemberIn collections) (MemberFaultIn collections) (member_trees members.now)) path.old.items path.new.items) (λ x. (end : Path) → LeadsTo (NativeFaultIn collections x.0 (tree x.1.now)) path.new.items end → LeadsTo (FirstOrNone (MemberIn collections) (MemberFaultIn collections) (member_trees members.now)) path.old.items end)) }
 {
     for place in 0..members.len() {
         let item = &members[place];
-        let read = geometry_part(item.0, &nested_summary(item.1.data_type()));
+        let below = member_summary(collections, item.1.data_type());
+        let read = member(collections, item.0, &below);
         if read.is_err() {
             path.push(place)?;
-            return push_geometry_member(path, item.0, item.1.data_type());
+            return Ok(inside(collections, item.0, item.1.data_type()));
         }
     }
-    Ok(())
+    Ok(None)
 }
 
-/// Adds the path to the fault of a member of a geometry.
-fn push_geometry_member(
-    path: &mut Vec<usize>,
+/// The kind that a member's type id says, and its data type, where that has a fault as one of the kind; `None` where the
+/// member has no other fault than one of its own.
+fn inside<'a>(
+    collections: bool,
     id: i8,
-    data_type: &DataType,
-) -> Result<(), AllocError>
-    ensures { OnOk result (LeadsTo (GeometryMemberFault id (tree data_type.now)) path.old.items path.new.items) }
+    data_type: &'a DataType,
+) -> Option<(NativeKind, &'a DataType)>
+    ensures { MatchOption result (StaysHere (MemberFaultIn collections id (tree data_type.now))) (λ x. (p : Path) (f : LayoutFault) → MemberFaultIn collections id (tree data_type.now) p f → NativeFaultIn collections x.0 (tree x.1.now) p f) }
 {
     let Some((kind, _)) = parts_of_id(id) else {
-        return Ok(());
+        return None;
     };
-    if any_native(kind, &nested_summary(data_type)).is_ok() {
-        return Ok(());
+    match native(collections, kind, &member_summary(collections, data_type)) {
+        Ok(_) => None,
+        Err(_) => Some((kind, data_type)),
     }
-    push_native(path, kind, data_type)
 }

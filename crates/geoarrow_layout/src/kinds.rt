@@ -13,12 +13,7 @@ use std::alloc::Global;
 use std::fmt;
 
 /// How the numbers of a coordinate are stored (GeoArrow, "Coordinate").
-///
-/// ```rust
-/// let xy = Field::new(alloc, "xy", DataType::Float64, false)?;
-/// let wanted = DataType::FixedSizeList(Box::new(alloc, xy)?, 2);
-/// assert!(rt; coord_data_type(alloc, CoordType::Interleaved, Dimension::XY)? == wanted);
-/// ```
+/// Each variant has an example.
 #[derive(Clone, Copy, Debug, PartialEq, Eq, Hash)]
 pub enum CoordType {
     /// The numbers of a coordinate are stored side by side, in a fixed size list.
@@ -52,12 +47,7 @@ impl Default for CoordType {
 }
 
 /// Which dimensions a coordinate has (GeoArrow, "Coordinate").
-///
-/// ```rust
-/// let dimension = Dimension::try_from_dimensions(alloc, Dimensions::Unknown(3))?;
-/// assert_eq!(rt; dimension, Dimension::XYZ);
-/// assert_eq!(rt; Dimensions::from(dimension), Dimensions::Xyz);
-/// ```
+/// [`Dimension::try_from_dimensions`] has an example.
 #[derive(Clone, Copy, Debug, PartialEq, Eq, Hash)]
 pub enum Dimension {
     /// x and y.
@@ -164,6 +154,14 @@ impl From<Dimension> for Dimensions {
         }
     }
 }
+
+/// All dimensions, in their order.
+pub(crate) const DIMENSIONS: [Dimension; 4] = [
+    Dimension::XY,
+    Dimension::XYZ,
+    Dimension::XYM,
+    Dimension::XYZM,
+];
 
 /// The dimension of that place.
 pub(crate) fn dimension_at(order: u8) -> Option<Dimension>

@@ -24,32 +24,31 @@ use crate::read::parse_kind;
 use crate::summary::{Bottom, ListWidth, Summary};
 use arrow_values::DataType;
 
-/// A law: the data type that is written for a coordinate is read as that coordinate. There is nothing to run.
+/// A law: the data type that is written for a coordinate is read as that coordinate.
 #[tactic(auto, using(crate::proofs::Written::written_leaf))]
 pub fn leaf_reads_back(coord_type: CoordType, dimension: Dimension)
     ensures { Leaf (leaf_layout coord_type dimension) coord_type dimension }
 {}
 
-/// A law: the data type that is written for a kind is, under the kind's extension name, of that kind. There is nothing
-/// to run.
+/// A law: the data type that is written for a kind is, under the kind's extension name, of that kind.
 #[tactic(auto, using(crate::proofs::Written::written))]
 pub fn layout_reads_back(kind: Kind)
     ensures { Accepts (name_of kind) (layout kind) kind }
 {}
 
-/// A law: every kind is in `Kind::ALL`. There is nothing to run.
+/// A law: every kind is in `Kind::ALL`.
 #[tactic(auto, using(crate::proofs::Listed::listed))]
 pub fn kind_is_listed(kind: Kind)
     ensures { Contains Kind.ALL kind }
 {}
 
-/// A law: the extension names are texts of their own. There is nothing to run.
+/// A law: the extension names are texts of their own.
 #[tactic(auto, using(crate::proofs::KindSteps::one_name))]
 pub fn names_are_distinct()
     ensures { (a b : ExtensionName) → name_text a ≡ name_text b → a ≡ b }
 {}
 
-/// A law: under one extension name a data type is of one kind at most. There is nothing to run.
+/// A law: under one extension name a data type is of one kind at most.
 pub fn one_kind()
     ensures { (name : Text) (t : Tree) (k l : Kind) → Accepts name t k → Accepts name t l → k ≡ l }
 {}
@@ -71,103 +70,101 @@ pub fn read_alike(summary: &Summary)
 }
 
 /// A law: the members that are written for a collection have type ids of their own, from 0 to 127 and all distinct,
-/// each that of its kind and dimension, and each member's data type is what is written for these. There is nothing to
-/// run.
+/// each that of its kind and dimension, and each member's data type is what is written for these.
 #[tactic(auto, using(crate::proofs::Written::mixed_ids))]
 pub fn mixed_ids(coord_type: CoordType, dimension: Dimension)
     ensures distinct { HasTypeIds (mixed_members coord_type dimension) }
     ensures own { AllMembers (IsWritten coord_type dimension) (member_trees (mixed_members coord_type dimension)) }
 {}
 
-/// A law: the same for the members that are written for geometries of any kind. There is nothing to run.
+/// A law: the same for the members that are written for geometries of any kind.
 #[tactic(auto, using(crate::proofs::Written::geometry_ids))]
 pub fn geometry_ids(coord_type: CoordType)
     ensures distinct { HasTypeIds (geometry_members coord_type) }
     ensures own { AllMembers (IsWrittenSome coord_type) (member_trees (geometry_members coord_type)) }
 {}
 
-/// A law: a dimension that is made dimensions is that dimension again and no other, and of the same size. There is
-/// nothing to run.
+/// A law: a dimension that is made dimensions is that dimension again and no other, and of the same size.
 pub fn dimension_reads_back(dimension: Dimension)
     ensures same { (d : Dimension) → IsDimension (dimensions_of dimension) d ↔ (d ≡ dimension) }
     ensures size { dimensions_size (dimensions_of dimension) ≡ size_of dimension }
 {}
 
-/// A law: where a point is inferred from a data type that is also read as one, it is the same point. There is nothing to run.
+/// A law: where a point is inferred from a data type that is also read as one, it is the same point.
 #[tactic(auto, using(crate::proofs::Inferences::inferred_as_read))]
 pub fn inferred_as_read()
     ensures { (t : Tree) (c b : CoordType) (d e : Dimension) → Inferred t c d → Leaf t b e → (c ≡ b) × (d ≡ e) }
 {}
 
-/// A law: the data types that are written for the 68 kinds are pairwise distinct. There is nothing to run.
+/// A law: the data types that are written for the 68 kinds are pairwise distinct.
 pub fn layouts_are_distinct()
     ensures { (j k : Kind) → layout j ≡ layout k → j ≡ k }
 {}
 
-/// A law: a data type is alike to itself. There is nothing to run.
+/// A law: a data type is alike to itself.
 #[tactic(auto, using(crate::proofs::AlikeLaws::alike_refl))]
 pub fn alike_to_itself()
     ensures { (t : Tree) → Alike t t }
 {}
 
-/// A law: of two alike data types each is alike to the other. There is nothing to run.
+/// A law: of two alike data types each is alike to the other.
 #[tactic(auto, using(crate::proofs::AlikeLaws::alike_sym))]
 pub fn alike_both_ways()
     ensures { (t u : Tree) → Alike t u → Alike u t }
 {}
 
-/// A law: what is alike to an alike data type is alike. There is nothing to run.
+/// A law: what is alike to an alike data type is alike.
 #[tactic(auto, using(crate::proofs::AlikeLaws::alike_trans))]
 pub fn alike_in_turn()
     ensures { (t u v : Tree) → Alike t u → Alike u v → Alike t v }
 {}
 
-/// A law: alike data types are of the same kind under every extension name. There is nothing to run.
+/// A law: alike data types are of the same kind under every extension name.
 #[tactic(auto, using(crate::proofs::AlikeLaws::alike_accepted, crate::proofs::AlikeLaws::alike_sym))]
 pub fn alike_are_one_kind()
     ensures { (t u : Tree) → Alike t u → (name : Text) (k : Kind) → Accepts name t k ↔ Accepts name u k }
 {}
 
 /// A law: where each member of a union has its type id in one list or the other, the two parts that these lists keep,
-/// one after the other, are alike to the whole. There is nothing to run.
+/// one after the other, are alike to the whole.
 pub fn parts_are_alike()
     ensures { (ms : Members) (is js : List ℤ) → ((m : ℤ × FieldTree) → Contains ms m → (has m.0 is ≡ true) ⊎ (has m.0 js ≡ true)) → AlikeUnions (retained is ms ++ retained js ms) ms }
 {}
 
-/// A law: unions of the same members, in any order, are alike. There is nothing to run.
+/// A law: unions of the same members, in any order, are alike.
 pub fn order_does_not_matter()
     ensures { (ms ns : Members) → ((m : ℤ × FieldTree) → Contains ms m ↔ Contains ns m) → AlikeUnions ms ns }
 {}
 
-/// A law: a data type has a kind under two names at most (GeoArrow, "Extension types"). Two names that have it are those
-/// of line strings and multipoints, those of polygons and multilinestrings, or, if it is a struct of four fields, those
-/// of points and boxes; and what has a kind under one of such two has one under the other. There is nothing to run.
+/// A law: a data type has a kind under two names at most (GeoArrow, "Extension types"). Two names that have it are
+/// those of line strings and multipoints, those of polygons and multilinestrings, or, if it is a struct of four fields,
+/// those of points and boxes; and what has a kind under one of such two has one under the other.
 pub fn two_names_at_most()
     ensures two { (t : Tree) (a b c : Text) → IsAccepted a t → IsAccepted b t → IsAccepted c t → (a ≡ b) ⊎ ((a ≡ c) ⊎ (b ≡ c)) }
     ensures which { (t : Tree) (a b : Text) → IsAccepted a t → IsAccepted b t → a ≢ b → Share t a b ⊎ Share t b a }
     ensures both { (t : Tree) (a b : Text) → Share t a b → IsAccepted a t ↔ IsAccepted b t }
 {}
 
-/// A law: no kind is twice in `Kind::ALL`. There is nothing to run.
+/// A law: no kind is twice in `Kind::ALL`.
 #[tactic(auto, using(crate::proofs::Listed::listed_once))]
 pub fn kinds_are_listed_once()
     ensures { (i j : ℕ) (k : Kind) → i < length Kind.ALL → j < length Kind.ALL → get_or Kind.ALL i k ≡ get_or Kind.ALL j k → i ≡ j }
 {}
 
-/// A law: under one extension name a data type has one fault at most, in one place. There is nothing to run.
+/// A law: under one extension name a data type has one fault at most, in one place.
 #[tactic(auto, using(crate::proofs::FaultLaws::one_fault))]
 pub fn one_fault()
     ensures { (n : ExtensionName) (t : Tree) (p q : Path) (f g : LayoutFault) → FaultAt n t p f → FaultAt n t q g → (p ≡ q) × (f ≡ g) }
 {}
 
-/// A law: a data type that has a kind under an extension name has no fault under it. There is nothing to run.
+/// A law: a data type that has a kind under an extension name has no fault under it.
 #[tactic(auto, using(crate::proofs::KindSteps::no_fault_if_accepted))]
 pub fn no_fault_if_accepted()
     ensures { (n : ExtensionName) (t : Tree) (p : Path) (f : LayoutFault) → IsAccepted (name_text n) t → ¬ FaultAt n t p f }
 {}
 
-/// A law: a data type has a kind under an extension name, or else a fault, which `parse_kind` names, so there is no need
-/// to run this.
+/// A law: a data type has a kind under an extension name, or else a fault, which `parse_kind` names, so there is no
+/// need to run this.
 pub fn accepted_or_at_fault(name: ExtensionName, data_type: &DataType)
     ensures { IsAccepted (name_text name) (tree data_type.now) ⊎ ((p : Path) × (f : LayoutFault) × FaultAt name (tree data_type.now) p f) }
 {

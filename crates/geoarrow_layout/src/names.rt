@@ -76,11 +76,7 @@ impl ExtensionName {
 }
 
 /// The extension names under which a data type can be read: at most two (GeoArrow, "Extension types").
-///
-/// ```rust
-/// let point = coord_data_type(alloc, CoordType::Separated, Dimension::XYZM)?;
-/// assert_eq!(rt; candidates(&point), Candidates::PointOrBox);
-/// ```
+/// [`candidates`](crate::candidates) has an example.
 #[derive(Debug, Clone, Copy, PartialEq, Eq)]
 pub enum Candidates {
     /// No name.

@@ -2,14 +2,14 @@
 //! geometries and boxes use only the summary of the data type, so they ignore the nullability, the metadata and the data
 //! types of coordinate fields, the names of list items and members, and the mode of a union and the order of its members.
 //! None of them allocates.
-ghost use Rattle.std.specs.Prelude.{IfErr, IfOk, ◌≡◌, IfSome, ◌↔◌, IsTrue, Some, ◌≢◌, ◌∷◌, [], true, ◌≤◌, ◌<◌, Ok, ℕ, List, Option, length, ◌&&◌, MatchResult};
+ghost use Rattle.std.specs.Prelude.{IfErr, IfOk, ◌≡◌, IfSome, ◌↔◌, IsTrue, Some, ◌≢◌, ◌∷◌, [], true, ◌≤◌, ◌<◌, Ok, ℕ, List, Option, None, length, ◌&&◌, MatchResult};
 ghost use Rattle.arrow_values.specs.View.{tree, field_trees};
-ghost use Rattle.geoarrow_layout.specs.Shapes.{Answers, AnswersOne, Leaf, Native, Mixed, Collection, Geometry, BoxShape, IsBytes, IsText, Accepts, AnswersKind, IsStructured, IsSeparatedAs, OverLeaf, Member, GeometryMember, IsBoxAs};
+ghost use Rattle.geoarrow_layout.specs.Shapes.{Answers, AnswersOne, Leaf, Native, Mixed, Collection, Geometry, BoxShape, IsBytes, IsText, Accepts, AnswersKind, IsStructured, IsSeparatedAs, IsBoxAs};
 ghost use Rattle.geoarrow_layout.specs.Kinds.{name_text, extension_of, name_of};
-ghost use Rattle.geoarrow_layout.specs.Steps.{Tells, TellsKind, is_measured, NamesSay, SizeSays, IsNoLeaf, Shows, ShowsInner, TellsBoth, missing_fault, IsOtherFault, UnionSays, UnionSaysOne, has_bit};
-ghost use Rattle.geoarrow_layout.specs.FaultAt.{HasFault, BoxFault, MixedFault, NativeFault, GeometryFault, FaultAt, SeparatedFault, CoordinateFault, BoxNamesFault, ListsFault, OverLeafFault, MemberFault, GeometryMemberFault};
+ghost use Rattle.geoarrow_layout.specs.Steps.{Tells, TellsKind, is_measured, NamesSay, SizeSays, IsNoLeaf, Shows, ShowsInner, ShowsIn, NativeIn, NativeFaultIn, MemberIn, MemberFaultIn, TellsBoth, missing_fault, IsOtherFault, UnionSays, UnionSaysOne, has_bit};
+ghost use Rattle.geoarrow_layout.specs.FaultAt.{HasFault, BoxFault, MixedFault, NativeFault, GeometryFault, FaultAt, SeparatedFault, CoordinateFault, BoxNamesFault, ListsFault};
 ghost use Rattle.arrow_values.specs.Tree.{Tree, Text, struct};
-ghost use Rattle.geoarrow_layout.specs.Summary.{Summarizes, IsBits, SomeAt, IsBottom};
+ghost use Rattle.geoarrow_layout.specs.Summary.{Summarizes, IsBits, SomeAt, IsBottom, IsUnion};
 ghost use Rattle.geoarrow_layout.specs.Candidates.{Holds, IsAccepted, IsAcceptedStructure};
 ghost use Rattle.geoarrow_layout.specs.Inferred.{AnswersSome, Inferred, IsFlat};
 ghost use Rattle.geoarrow_layout.specs.declared.summary.ListWidth.{ListWidth};
@@ -22,6 +22,9 @@ use crate::kinds::{CoordType, Dimension, list_size, only_coord_type, only_dimens
 use crate::names::{Candidates, ExtensionName};
 use crate::summary::{Below, Bottom, Summary, has_bit, is_float64, leaf_bottom, summarize};
 use arrow_values::{DataType, Field};
+
+/// What a reader of coordinates returns.
+pub(crate) type Answer = Result<(CoordType, Dimension), LayoutFault>;
 
 /// Reads a point (GeoArrow, "Coordinate", "Point"): a fixed size list whose inner field's name gives the dimension and
 /// whose size matches it, or a struct of two fields, of four, or of three named x, y and z or x, y and m in
@@ -124,7 +127,7 @@ pub fn parse_native(
     ensures exact { Answers result (Native (tree data_type.now) kind) }
     ensures fault { IfErr result (HasFault (NativeFault kind (tree data_type.now))) }
 {
-    any_native(kind, &summarize(data_type))
+    native(true, kind, &summarize(data_type))
 }
 
 /// Reads well-known binary (GeoArrow, "WKB"): bytes, of any width. Errs on any other data type. Allocates nothing.
@@ -132,10 +135,7 @@ pub fn parse_wkb(data_type: &DataType) -> Result<Width, LayoutFault>
     ensures exact { AnswersOne result (λ width. IsBytes width (tree data_type.now)) }
     ensures fault { IfErr result (HasFault (FaultAt names.Wkb (tree data_type.now))) }
 {
-    match bytes_width(data_type) {
-        Some(width) => Ok(width),
-        None => Err(LayoutFault::UnexpectedType),
-    }
+    bytes_width(data_type).ok_or(LayoutFault::UnexpectedType)
 }
 
 /// Reads well-known text (GeoArrow, "WKT"): text, of any width. Errs on any other data type. Allocates nothing.
@@ -143,10 +143,7 @@ pub fn parse_wkt(data_type: &DataType) -> Result<Width, LayoutFault>
     ensures exact { AnswersOne result (λ width. IsText width (tree data_type.now)) }
     ensures fault { IfErr result (HasFault (FaultAt names.Wkt (tree data_type.now))) }
 {
-    match text_width(data_type) {
-        Some(width) => Ok(width),
-        None => Err(LayoutFault::UnexpectedType),
-    }
+    text_width(data_type).ok_or(LayoutFault::UnexpectedType)
 }
 
 /// Reads the data type of a column with that extension name: returns its kind. Errs on any data type that has no
@@ -163,6 +160,7 @@ pub fn parse_wkt(data_type: &DataType) -> Result<Width, LayoutFault>
 ///     Err(LayoutFault::UnexpectedType)
 /// );
 /// ```
+#[tactic(auto, using(crate::proofs::KindSteps::kind_exact, crate::proofs::Readings::told_fault))]
 pub fn parse_kind(name: ExtensionName, data_type: &DataType) -> Result<Kind, LayoutFault>
     ensures exact { AnswersOne result (Accepts (name_text name) (tree data_type.now)) }
     ensures fault { IfErr result (HasFault (FaultAt name (tree data_type.now))) }
@@ -172,18 +170,13 @@ pub fn parse_kind(name: ExtensionName, data_type: &DataType) -> Result<Kind, Lay
 
 /// The kind, by the reader of the name.
 #[inline(always)]
+#[tactic(auto, using(crate::proofs::KindSteps::told_all))]
 fn kind_read(name: ExtensionName, data_type: &DataType) -> Result<Kind, LayoutFault>
     ensures { Tells result (Accepts (name_text name) (tree data_type.now)) (FaultAt name (tree data_type.now)) }
 {
     match name {
-        ExtensionName::Wkb => match parse_wkb(data_type) {
-            Ok(width) => Ok(Kind::Wkb(width)),
-            Err(fault) => Err(fault),
-        },
-        ExtensionName::Wkt => match parse_wkt(data_type) {
-            Ok(width) => Ok(Kind::Wkt(width)),
-            Err(fault) => Err(fault),
-        },
+        ExtensionName::Wkb => Ok(Kind::Wkb(parse_wkb(data_type)?)),
+        ExtensionName::Wkt => Ok(Kind::Wkt(parse_wkt(data_type)?)),
         _ => kind_under(name, &summarize(data_type)),
     }
 }
@@ -223,7 +216,7 @@ pub(crate) fn kind_under(name: ExtensionName, summary: &Summary) -> Result<Kind,
     ensures named { IfOk result (λ k. (extension_of k ≡ name) × IsStructured k) }
 {
     match name {
-        ExtensionName::Native(kind) => match any_native(kind, summary) {
+        ExtensionName::Native(kind) => match native(true, kind, summary) {
             Ok(pair) => Ok(Kind::Native(kind, pair.0, pair.1)),
             Err(fault) => Err(fault),
         },
@@ -235,8 +228,7 @@ pub(crate) fn kind_under(name: ExtensionName, summary: &Summary) -> Result<Kind,
             Ok(dimension) => Ok(Kind::Rect(dimension)),
             Err(fault) => Err(fault),
         },
-        ExtensionName::Wkb => Err(LayoutFault::UnexpectedType),
-        ExtensionName::Wkt => Err(LayoutFault::UnexpectedType),
+        ExtensionName::Wkb | ExtensionName::Wkt => Err(LayoutFault::UnexpectedType),
     }
 }
 
@@ -352,9 +344,9 @@ fn taken_for(data_type: &DataType) -> Option<(CoordType, Dimension)>
     match data_type {
         DataType::Struct(fields) => match fields.as_slice() {
             [first, second] => pair(first, second),
-            _ => inferred(&flat_summary(data_type)),
+            _ => inferred(&flat_bottom(data_type)),
         },
-        DataType::FixedSizeList(_, _) => inferred(&flat_summary(data_type)),
+        DataType::FixedSizeList(_, _) => inferred(&flat_bottom(data_type)),
         _ => None,
     }
 }
@@ -372,32 +364,24 @@ fn pair(first: &Field, second: &Field) -> Option<(CoordType, Dimension)>
     }
 }
 
-/// The summary of a struct or a fixed size list, which has no list levels.
+/// What a struct or a fixed size list is, which has no list levels.
 #[inline(always)]
-fn flat_summary(data_type: &DataType) -> Summary
+fn flat_bottom(data_type: &DataType) -> Bottom
     requires { IsFlat (tree data_type.now) }
-    ensures { Summarizes result (tree data_type.now) }
+    ensures { IsBottom IsUnion None 0 result (tree data_type.now) }
 {
-    let below = Below {
+    leaf_bottom(&Below {
         levels: 0,
         width: None,
         rest: data_type,
-    };
-    Summary {
-        levels: 0,
-        width: None,
-        bottom: leaf_bottom(&below),
-    }
+    })
 }
 
-/// The coordinate type and dimension of a point, from the summary of a data type.
-fn inferred(summary: &Summary) -> Option<(CoordType, Dimension)>
-    ensures { (t : Tree) → Summarizes summary.now t → AnswersSome result (Inferred t) }
+/// The coordinate type and dimension of a point, from what the data type is.
+fn inferred(bottom: &Bottom) -> Option<(CoordType, Dimension)>
+    ensures { (t : Tree) → IsBottom IsUnion None 0 bottom.now t → AnswersSome result (Inferred t) }
 {
-    if 0 < summary.levels {
-        return None;
-    }
-    match summary.bottom {
+    match *bottom {
         Bottom::FixedSizeList {
             named,
             size,
@@ -436,10 +420,11 @@ fn paired(coord_type: CoordType, dimension: Option<Dimension>) -> Option<(CoordT
 fn sized_dimension(named: Option<Dimension>, size: i32) -> Option<Dimension>
     ensures { (d : Dimension) → (result ≡ Some d) ↔ SizeSays d named size }
 {
-    match size {
-        2 => Some(Dimension::XY),
-        3 => Some(third(is_xym(named))),
-        4 => Some(Dimension::XYZM),
+    match (size, named) {
+        (2, _) => Some(Dimension::XY),
+        (3, Some(Dimension::XYM)) => Some(Dimension::XYM),
+        (3, _) => Some(Dimension::XYZ),
+        (4, _) => Some(Dimension::XYZM),
         _ => None,
     }
 }
@@ -448,33 +433,12 @@ fn sized_dimension(named: Option<Dimension>, size: i32) -> Option<Dimension>
 fn counted_dimension(count: usize, names: u16) -> Option<Dimension>
     ensures { (d : Dimension) → (result ≡ Some d) ↔ NamesSay d count names }
 {
-    match count {
-        2 => Some(Dimension::XY),
-        3 => Some(third(is_measured(names))),
-        4 => Some(Dimension::XYZM),
+    match (count, is_measured(names)) {
+        (2, _) => Some(Dimension::XY),
+        (3, true) => Some(Dimension::XYM),
+        (3, false) => Some(Dimension::XYZ),
+        (4, _) => Some(Dimension::XYZM),
         _ => None,
-    }
-}
-
-/// Of three, whether they have a measure or a height.
-fn third(measured: bool) -> Dimension
-    ensures measure { (result ≡ Dimension.XYM) ↔ (measured ≡ true) }
-    ensures height { measured ≢ true → result ≡ Dimension.XYZ }
-{
-    if measured {
-        Dimension::XYM
-    } else {
-        Dimension::XYZ
-    }
-}
-
-/// Whether the inner name is `xym`.
-fn is_xym(named: Option<Dimension>) -> bool
-    ensures { IsTrue result ↔ (named ≡ Some Dimension.XYM) }
-{
-    match named {
-        Some(dimension) => dimension == Dimension::XYM,
-        None => false,
     }
 }
 
@@ -513,7 +477,7 @@ fn separated_dimension(count: usize, names: u16) -> Result<Dimension, LayoutFaul
 }
 
 /// A coordinate.
-fn leaf(bottom: &Bottom) -> Result<(CoordType, Dimension), LayoutFault>
+fn leaf(bottom: &Bottom) -> Answer
     ensures { (w : Option ListWidth) (levels : ℕ) (u : Tree) → IsBottom IsNoLeaf w levels bottom.now u → TellsBoth result (Leaf u) (CoordinateFault u) }
 {
     match bottom {
@@ -554,7 +518,7 @@ fn missing_level(bottom: &Bottom) -> LayoutFault
 }
 
 /// So many lists over a coordinate.
-fn leaf_under(summary: &Summary, levels: u8) -> Result<(CoordType, Dimension), LayoutFault>
+fn leaf_under(summary: &Summary, levels: u8) -> Answer
     requires { levels ≤ 3 }
     ensures { (t : Tree) → Shows summary.now t → TellsBoth result (LeafUnder levels t) (ListsFault CoordinateFault levels t) }
 {
@@ -565,44 +529,6 @@ fn leaf_under(summary: &Summary, levels: u8) -> Result<(CoordType, Dimension), L
         return Err(LayoutFault::UnexpectedType);
     }
     leaf(&summary.bottom)
-}
-
-/// The lists of a native kind over a coordinate.
-pub(crate) fn native(
-    kind: NativeKind,
-    summary: &Summary,
-) -> Result<(CoordType, Dimension), LayoutFault>
-    ensures { (t : Tree) → Shows summary.now t → TellsBoth result (OverLeaf t kind) (OverLeafFault kind t) }
-{
-    match kind {
-        NativeKind::GeometryCollection => Err(LayoutFault::BadTypeId),
-        _ => leaf_under(summary, levels(kind)),
-    }
-}
-
-/// What was read of a member, if it has the dimension that the type id says.
-#[inline(always)]
-fn of_dimension(
-    dimension: Dimension,
-    read: Result<(CoordType, Dimension), LayoutFault>,
-) -> Result<(CoordType, Dimension), LayoutFault>
-    ensures { MatchResult result (λ x. (read ≡ Ok x) × (x.1 ≡ dimension)) (IsOtherFault read dimension) }
-{
-    match read {
-        Ok(pair) if pair.1 == dimension => Ok(pair),
-        Ok(_) => Err(LayoutFault::MemberDimension),
-        Err(fault) => Err(fault),
-    }
-}
-
-/// A member of a union in a collection.
-pub(crate) fn member(id: i8, summary: &Summary) -> Result<(CoordType, Dimension), LayoutFault>
-    ensures { (t : Tree) → Shows summary.now t → TellsBoth result (Member id t) (MemberFault id t) }
-{
-    let Some((kind, dimension)) = parts_of_id(id) else {
-        return Err(LayoutFault::BadTypeId);
-    };
-    of_dimension(dimension, native(kind, summary))
 }
 
 /// The coordinate type of a union, from what was seen of its members.
@@ -631,7 +557,7 @@ fn both_of_union(
     fault: Option<LayoutFault>,
     coord_types: u8,
     dimensions: u8,
-) -> Result<(CoordType, Dimension), LayoutFault>
+) -> Answer
     ensures { UnionSays no_members fault coord_types dimensions result }
 {
     let coord_type = one_of_union(no_members, fault, coord_types)?;
@@ -642,7 +568,7 @@ fn both_of_union(
 }
 
 /// A list over a union of members of one coordinate type and dimension.
-fn collection(summary: &Summary) -> Result<(CoordType, Dimension), LayoutFault>
+fn collection(summary: &Summary) -> Answer
     ensures { (t : Tree) → ShowsInner summary.now t → TellsBoth result (Collection t) (ListsFault MixedFault 1 t) }
 {
     if summary.levels < 1 {
@@ -654,44 +580,55 @@ fn collection(summary: &Summary) -> Result<(CoordType, Dimension), LayoutFault>
     match summary.bottom {
         Bottom::Union {
             no_members,
-            ids: _,
             coord_types,
             dimensions,
             mixed_fault,
-            geometry_fault: _,
+            ..
         } => both_of_union(no_members, mixed_fault, coord_types, dimensions),
         _ => Err(LayoutFault::UnexpectedType),
     }
 }
 
-/// A native kind, the collection too.
-pub(crate) fn any_native(
-    kind: NativeKind,
-    summary: &Summary,
-) -> Result<(CoordType, Dimension), LayoutFault>
-    ensures { (t : Tree) → ShowsInner summary.now t → TellsBoth result (Native t kind) (NativeFault kind t) }
+/// A native kind; a collection only where collections are allowed.
+pub(crate) fn native(collections: bool, kind: NativeKind, summary: &Summary) -> Answer
+    ensures { (t : Tree) → ShowsIn collections summary.now t → TellsBoth result (NativeIn collections t kind) (NativeFaultIn collections kind t) }
 {
     match kind {
-        NativeKind::GeometryCollection => collection(summary),
-        _ => native(kind, summary),
+        NativeKind::GeometryCollection => {
+            if collections {
+                collection(summary)
+            } else {
+                Err(LayoutFault::BadTypeId)
+            }
+        }
+        _ => leaf_under(summary, levels(kind)),
     }
 }
 
-/// A member of a union of geometries.
-pub(crate) fn geometry_part(
-    id: i8,
-    summary: &Summary,
-) -> Result<(CoordType, Dimension), LayoutFault>
-    ensures { (t : Tree) → ShowsInner summary.now t → TellsBoth result (GeometryMember id t) (GeometryMemberFault id t) }
+/// What was read of a member, if it has the dimension that the type id says.
+#[inline(always)]
+fn of_dimension(dimension: Dimension, read: Answer) -> Answer
+    ensures { MatchResult result (λ x. (read ≡ Ok x) × (x.1 ≡ dimension)) (IsOtherFault read dimension) }
+{
+    match read {
+        Ok(pair) if pair.1 == dimension => Ok(pair),
+        Ok(_) => Err(LayoutFault::MemberDimension),
+        Err(fault) => Err(fault),
+    }
+}
+
+/// A member of a union of geometries, or, where collections are not allowed, of the union in a collection.
+pub(crate) fn member(collections: bool, id: i8, summary: &Summary) -> Answer
+    ensures { (t : Tree) → ShowsIn collections summary.now t → TellsBoth result (MemberIn collections id t) (MemberFaultIn collections id t) }
 {
     let Some((kind, dimension)) = parts_of_id(id) else {
         return Err(LayoutFault::BadTypeId);
     };
-    of_dimension(dimension, any_native(kind, summary))
+    of_dimension(dimension, native(collections, kind, summary))
 }
 
 /// A union of members of one coordinate type and dimension.
-pub(crate) fn mixed(summary: &Summary) -> Result<(CoordType, Dimension), LayoutFault>
+pub(crate) fn mixed(summary: &Summary) -> Answer
     ensures { (t : Tree) → Summarizes summary.now t → TellsBoth result (Mixed t) (MixedFault t) }
 {
     if 0 < summary.levels {
@@ -700,11 +637,10 @@ pub(crate) fn mixed(summary: &Summary) -> Result<(CoordType, Dimension), LayoutF
     match summary.bottom {
         Bottom::Union {
             no_members,
-            ids: _,
             coord_types,
             dimensions,
             mixed_fault,
-            geometry_fault: _,
+            ..
         } => both_of_union(no_members, mixed_fault, coord_types, dimensions),
         _ => Err(LayoutFault::UnexpectedType),
     }
@@ -720,11 +656,9 @@ pub(crate) fn geometry(summary: &Summary) -> Result<CoordType, LayoutFault>
     match summary.bottom {
         Bottom::Union {
             no_members,
-            ids: _,
             coord_types,
-            dimensions: _,
-            mixed_fault: _,
             geometry_fault,
+            ..
         } => one_of_union(no_members, geometry_fault, coord_types),
         _ => Err(LayoutFault::UnexpectedType),
     }

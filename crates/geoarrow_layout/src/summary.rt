@@ -6,13 +6,13 @@ ghost use Rattle.geoarrow_layout.specs.Kinds.{interleaved_name};
 ghost use Rattle.geoarrow_layout.specs.Shapes.{ListsOver, Member, GeometryMember};
 ghost use Rattle.geoarrow_layout.specs.Summary.{place_in, known_names, IsStruct, IsBottom, AreLevels, place_of, IsInnerUnion, IsRootUnion, Summarizes};
 ghost use Rattle.geoarrow_layout.specs.Inferred.{is_float64};
-ghost use Rattle.geoarrow_layout.specs.Steps.{IsNoLeaf, Ended, AddsBits, CoordOf, DimensionOf, first_fault, Shows, ShowsInner, TellsBoth, AddsBit, has_bit};
+ghost use Rattle.geoarrow_layout.specs.Steps.{IsNoLeaf, Ended, IsWidth, ShowsIn, AddsBits, CoordOf, DimensionOf, first_fault, Shows, ShowsInner, TellsBoth, AddsBit, has_bit};
 ghost use Rattle.geoarrow_layout.specs.FaultAt.{MemberFault, GeometryMemberFault};
 
 use crate::encodings::{NativeKind, parts_of_id};
 use crate::fault::LayoutFault;
 use crate::kinds::{CoordType, Dimension, named_dimension, place_of};
-use crate::read::{geometry_part, member};
+use crate::read::{Answer, member};
 use arrow_values::{DataType, Field};
 
 /// The two widths of lists.
@@ -168,30 +168,40 @@ pub struct Below<'a> {
     pub rest: &'a DataType,
 }
 
-/// Goes down the levels of that width from the level that was reached, to the third at most.
-fn descend<'a>(width: ListWidth, levels: u8, data_type: &'a DataType) -> Below<'a>
-    requires some { 0 < levels }
-    requires few { levels ≤ 3 }
-    ensures over { (root : Tree) → ListsOver width levels root (tree data_type.now) → AreLevels result.width result.levels root (tree result.rest.now) }
+/// The item of a list of that width, or of either where it is `None`, and the width that the list has.
+#[inline(always)]
+pub(crate) fn list_item(
+    width: Option<ListWidth>,
+    data_type: &DataType,
+) -> Option<(ListWidth, &DataType)>
+    ensures { MatchOption result (Ended width 0 (tree data_type.now)) (λ x. IsWidth width x.0 × ListsOver x.0 1 (tree data_type.now) (tree x.1.now)) }
+{
+    match (data_type, width) {
+        (DataType::List(item), None | Some(ListWidth::List)) => {
+            Some((ListWidth::List, item.data_type()))
+        }
+        (DataType::LargeList(item), None | Some(ListWidth::LargeList)) => {
+            Some((ListWidth::LargeList, item.data_type()))
+        }
+        _ => None,
+    }
+}
+
+/// Goes down the levels from the one that was reached, to the third at most.
+fn descend<'a>(width: Option<ListWidth>, levels: u8, data_type: &'a DataType) -> Below<'a>
+    requires { MatchOption width (levels ≡ 0) (λ w. (0 < levels) × (levels ≤ 3)) }
+    ensures over { (root : Tree) → AreLevels width levels root (tree data_type.now) → AreLevels result.width result.levels root (tree result.rest.now) }
     ensures ended { Ended result.width result.levels (tree result.rest.now) }
 {
-    if levels == 3 {
-        return Below {
-            levels,
-            width: Some(width),
-            rest: data_type,
-        };
-    }
-    match (data_type, width) {
-        (DataType::List(item), ListWidth::List) => descend(width, levels + 1, item.data_type()),
-        (DataType::LargeList(item), ListWidth::LargeList) => {
-            descend(width, levels + 1, item.data_type())
+    if levels < 3 {
+        if let Some((found, item)) = list_item(width, data_type) {
+            return descend(Some(found), levels + 1, item);
         }
-        _ => Below {
-            levels,
-            width: Some(width),
-            rest: data_type,
-        },
+    }
+    Below {
+        levels,
+        width,
+        rest: data_type,
     }
 }
 
@@ -200,15 +210,7 @@ pub(crate) fn below_lists(data_type: &DataType) -> Below<'_>
     ensures levels { AreLevels result.width result.levels (tree data_type.now) (tree result.rest.now) }
     ensures ended { Ended result.width result.levels (tree result.rest.now) }
 {
-    match data_type {
-        DataType::List(item) => descend(ListWidth::List, 1, item.data_type()),
-        DataType::LargeList(item) => descend(ListWidth::LargeList, 1, item.data_type()),
-        _ => Below {
-            levels: 0,
-            width: None,
-            rest: data_type,
-        },
-    }
+    descend(None, 0, data_type)
 }
 
 /// A list that is no further level.
@@ -252,33 +254,8 @@ fn with_id(ids: u64, id: i8) -> u64
     with_bit_u64(ids, id as u8)
 }
 
-/// The set of coordinate types with that of a member, if it has one.
-#[tactic(auto, using(crate::proofs::BitSteps::coord_added, crate::proofs::BitSteps::coord_kept))]
-fn with_coord_type(bits: u8, part: &Result<(CoordType, Dimension), LayoutFault>) -> u8
-    ensures { AddsBits bits (CoordOf part.now) result }
-{
-    match part {
-        Ok(pair) => with_bit_u8(bits, place_of(pair.0)),
-        Err(_) => bits,
-    }
-}
-
-/// The set of dimensions with that of a member, if it has one.
-#[tactic(auto, using(crate::proofs::BitSteps::dimension_added, crate::proofs::BitSteps::dimension_kept))]
-fn with_dimension(bits: u8, part: &Result<(CoordType, Dimension), LayoutFault>) -> u8
-    ensures { AddsBits bits (DimensionOf part.now) result }
-{
-    match part {
-        Ok(pair) => with_bit_u8(bits, pair.1.order()),
-        Err(_) => bits,
-    }
-}
-
 /// The first fault.
-fn first_fault(
-    fault: Option<LayoutFault>,
-    part: &Result<(CoordType, Dimension), LayoutFault>,
-) -> Option<LayoutFault>
+fn first_fault(fault: Option<LayoutFault>, part: &Answer) -> Option<LayoutFault>
     ensures { result ≡ first_fault fault part.now }
 {
     match (fault, part) {
@@ -288,8 +265,8 @@ fn first_fault(
     }
 }
 
-/// What was seen of the members of a union.
-#[derive(Clone, Copy)]
+/// What was seen of the members of a union; by default, what was seen before the first.
+#[derive(Clone, Copy, Default)]
 struct Members {
     ids: u64,
     coord_types: u8,
@@ -298,29 +275,23 @@ struct Members {
 }
 
 /// What was seen with one member more, of that type id and read as that.
-fn with_member(seen: Members, id: i8, part: &Result<(CoordType, Dimension), LayoutFault>) -> Members
+#[tactic(auto, using(crate::proofs::BitSteps::coord_added, crate::proofs::BitSteps::coord_kept, crate::proofs::BitSteps::dimension_added, crate::proofs::BitSteps::dimension_kept))]
+fn with_member(seen: Members, id: i8, part: &Answer) -> Members
     ensures ids { AddsBits seen.ids (λ i. (i < 64) × (id ≡ pos i)) result.ids }
     ensures coord_types { AddsBits seen.coord_types (CoordOf part.now) result.coord_types }
     ensures dimensions { AddsBits seen.dimensions (DimensionOf part.now) result.dimensions }
     ensures fault { result.fault ≡ first_fault seen.fault part.now }
 {
-    Members {
-        ids: with_id(seen.ids, id),
-        coord_types: with_coord_type(seen.coord_types, part),
-        dimensions: with_dimension(seen.dimensions, part),
-        fault: first_fault(seen.fault, part),
-    }
-}
-
-/// What was seen before the first member.
-fn no_members() -> Members
-    ensures { result ≡ record { ids = 0; coord_types = 0; dimensions = 0; fault = None } }
-{
-    Members {
-        ids: 0,
-        coord_types: 0,
-        dimensions: 0,
-        fault: None,
+    let ids = with_id(seen.ids, id);
+    let fault = first_fault(seen.fault, part);
+    match part {
+        Ok(pair) => Members {
+            ids,
+            coord_types: with_bit_u8(seen.coord_types, place_of(pair.0)),
+            dimensions: with_bit_u8(seen.dimensions, pair.1.order()),
+            fault,
+        },
+        Err(_) => Members { ids, fault, ..seen },
     }
 }
 
@@ -340,10 +311,10 @@ pub(crate) fn leaf_summary(data_type: &DataType) -> Summary
 fn inner_union(members: &[(i8, Field)]) -> Bottom
     ensures { IsInnerUnion result (member_trees members.now) }
 {
-    let mut seen = no_members();
+    let mut seen = Members::default();
     for item in members {
         let below = leaf_summary(item.1.data_type());
-        let part = member(item.0, &below);
+        let part = member(false, item.0, &below);
         seen = with_member(seen, item.0, &part);
     }
     Bottom::Union {
@@ -372,11 +343,19 @@ pub(crate) fn nested_summary(data_type: &DataType) -> Summary
     }
 }
 
+/// The summary of a member: a union below a list is entered only where collections are allowed.
+pub(crate) fn member_summary(collections: bool, data_type: &DataType) -> Summary
+    ensures { ShowsIn collections result (tree data_type.now) }
+{
+    if collections {
+        nested_summary(data_type)
+    } else {
+        leaf_summary(data_type)
+    }
+}
+
 /// What a member of a union of geometries is as one of a collection, which holds no collections.
-fn in_collection(
-    id: i8,
-    part: Result<(CoordType, Dimension), LayoutFault>,
-) -> Result<(CoordType, Dimension), LayoutFault>
+fn in_collection(id: i8, part: Answer) -> Answer
     ensures { (t : Tree) → TellsBoth part (GeometryMember id t) (GeometryMemberFault id t) → TellsBoth result (Member id t) (MemberFault id t) }
 {
     let Some((kind, _)) = parts_of_id(id) else {
@@ -392,11 +371,11 @@ fn in_collection(
 fn root_union(members: &[(i8, Field)]) -> Bottom
     ensures { IsRootUnion result (member_trees members.now) }
 {
-    let mut seen = no_members();
+    let mut seen = Members::default();
     let mut mixed_fault = None;
     for item in members {
         let below = nested_summary(item.1.data_type());
-        let part = geometry_part(item.0, &below);
+        let part = member(true, item.0, &below);
         seen = with_member(seen, item.0, &part);
         mixed_fault = first_fault(mixed_fault, &in_collection(item.0, part));
     }

@@ -10,12 +10,22 @@ ghost use Rattle.geoarrow_layout.specs.Bare.{IsBare, members_in};
 
 use crate::encodings::{Kind, NativeKind, Width, list_names, member_name, type_id};
 use crate::kinds::{
-    CoordType, Dimension, box_names, coordinate_names, interleaved_name, list_size,
+    CoordType, DIMENSIONS, Dimension, box_names, coordinate_names, interleaved_name, list_size,
 };
 use crate::read::{bytes_width, text_width};
 use crate::summary::is_float64;
 use arrow_values::{DataType, Field, Fields, FixedName, UnionFields, UnionMode};
 use std::alloc::{AllocError, Global};
+
+/// The kinds of the members of the union in a collection, in the order of their type ids.
+const COLLECTED: [NativeKind; 6] = [
+    NativeKind::Point,
+    NativeKind::LineString,
+    NativeKind::Polygon,
+    NativeKind::MultiPoint,
+    NativeKind::MultiLineString,
+    NativeKind::MultiPolygon,
+];
 
 /// The data type of a coordinate, which is also that of a point (GeoArrow, "Coordinate", "Point"): a fixed size list of
 /// `Float64`, or a struct of `Float64` fields. Errs only when out of memory.
@@ -31,7 +41,7 @@ pub fn coord_data_type(
             let inner = Box::new(alloc, coordinate(alloc, interleaved_name(dimension)))?;
             Ok(DataType::FixedSizeList(inner, list_size(dimension)))
         }
-        CoordType::Separated => Ok(DataType::Struct(Fields::from(coordinates(alloc, dimension)?))),
+        CoordType::Separated => struct_of(alloc, coordinate_names(dimension)),
     }
 }
 
@@ -67,7 +77,7 @@ pub fn mixed_data_type(
     ensures { IfOk result (λ t. tree t ≡ mixed_layout coord_type dimension) }
 {
     let mut members = Vec::with_capacity(alloc, 6)?;
-    push_collected(alloc, &mut members, coord_type, dimension)?;
+    push_over(alloc, &mut members, &COLLECTED, coord_type, dimension)?;
     Ok(DataType::Union(UnionFields::from_members(members), UnionMode::Dense))
 }
 
@@ -90,7 +100,7 @@ pub fn geometry_data_type(alloc: Global, coord_type: CoordType) -> Result<DataTy
 pub fn box_data_type(alloc: Global, dimension: Dimension) -> Result<DataType, AllocError>
     ensures { IfOk result (λ t. tree t ≡ layout (Kind.Rect dimension)) }
 {
-    Ok(DataType::Struct(Fields::from(box_fields(alloc, dimension)?)))
+    struct_of(alloc, box_names(dimension))
 }
 
 /// The data type of well-known binary (GeoArrow, "WKB"). Allocates nothing.
@@ -140,48 +150,26 @@ fn coordinate(alloc: Global, name: FixedName) -> Field
     Field::fixed(alloc, name, DataType::Float64, false)
 }
 
-/// Such a field of each name.
-fn coordinate_fields(alloc: Global, names: &[FixedName]) -> Result<Vec<Field>, AllocError>
-    ensures { IfOk result (λ v. v.items ≡ map coordinate (map fixed_text names.now)) }
+/// A struct with such a field of each name.
+fn struct_of(alloc: Global, names: &[FixedName]) -> Result<DataType, AllocError>
+    ensures { IfOk result (λ t. tree t ≡ struct (field_trees (map coordinate (map fixed_text names.now)))) }
 {
     let mut fields = Vec::with_capacity(alloc, names.len())?;
     for name in names {
         fields.push(coordinate(alloc, *name))?;
     }
-    Ok(fields)
+    Ok(DataType::Struct(Fields::from(fields)))
 }
 
-/// A field for each dimension, in order.
-fn coordinates(alloc: Global, dimension: Dimension) -> Result<Vec<Field>, AllocError>
-    ensures { IfOk result (λ v. v.items ≡ map coordinate (coordinate_names dimension)) }
-{
-    coordinate_fields(alloc, coordinate_names(dimension))
-}
-
-/// The fields of a box.
-fn box_fields(alloc: Global, dimension: Dimension) -> Result<Vec<Field>, AllocError>
-    ensures { IfOk result (λ v. v.items ≡ map coordinate (box_names dimension)) }
-{
-    coordinate_fields(alloc, box_names(dimension))
-}
-
-/// A list of items of that name that are never null.
-#[inline(always)]
-fn list_over(alloc: Global, name: FixedName, inner: DataType) -> Result<DataType, AllocError>
-    ensures { IfOk result (λ t. tree t ≡ list (fixed_text name) (tree inner) false []) }
-{
-    let field = Box::new(alloc, Field::fixed(alloc, name, inner, false))?;
-    Ok(DataType::List(field))
-}
-
-/// Lists of items of these names, the first outermost.
+/// Lists of items of these names that are never null, the first outermost.
 fn lists_over(alloc: Global, names: &[FixedName], inner: DataType) -> Result<DataType, AllocError>
     ensures { IfOk result (λ t. tree t ≡ lists_over (map fixed_text names.now) (tree inner)) }
 {
     match names.split_first() {
         Some((name, rest)) => {
             let lower = lists_over(alloc, rest, inner)?;
-            list_over(alloc, *name, lower)
+            let item = Box::new(alloc, Field::fixed(alloc, *name, lower, false))?;
+            Ok(DataType::List(item))
         }
         None => Ok(inner),
     }
@@ -231,26 +219,6 @@ fn push_over(
     Ok(())
 }
 
-/// Puts the members of the union in a collection last.
-fn push_collected(
-    alloc: Global,
-    members: &mut Vec<(i8, Field)>,
-    coord_type: CoordType,
-    dimension: Dimension,
-) -> Result<(), AllocError>
-    ensures { OnOk result (members.new.items ≡ members.old.items ++ mixed_members coord_type dimension) }
-{
-    let kinds = [
-        NativeKind::Point,
-        NativeKind::LineString,
-        NativeKind::Polygon,
-        NativeKind::MultiPoint,
-        NativeKind::MultiLineString,
-        NativeKind::MultiPolygon,
-    ];
-    push_over(alloc, members, &kinds, coord_type, dimension)
-}
-
 /// Puts the members of a union of geometries that are of one dimension last.
 fn push_dimension(
     alloc: Global,
@@ -260,7 +228,7 @@ fn push_dimension(
 ) -> Result<(), AllocError>
     ensures { OnOk result (members.new.items ≡ members.old.items ++ dimension_members coord_type dimension) }
 {
-    push_collected(alloc, members, coord_type, dimension)?;
+    push_over(alloc, members, &COLLECTED, coord_type, dimension)?;
     let kind = NativeKind::GeometryCollection;
     let data_type = list_data_type(alloc, kind, coord_type, dimension)?;
     members.push(member_of(alloc, kind, dimension, data_type))?;
@@ -296,7 +264,7 @@ fn is_layout(data_type: &DataType, kind: &Kind) -> bool
             is_native(data_type, *kind, *coord_type, *dimension)
         }
         Kind::Geometry(coord_type) => is_geometry(data_type, *coord_type),
-        Kind::Rect(dimension) => is_box(data_type, *dimension),
+        Kind::Rect(dimension) => is_struct(data_type, box_names(*dimension)),
         Kind::Wkb(width) => bytes_width(data_type) == Some(*width),
         Kind::Wkt(width) => text_width(data_type) == Some(*width),
     }
@@ -321,23 +289,14 @@ fn is_native(
 fn is_bare(field: &Field, name: FixedName, nullable: bool) -> bool
     ensures { IsTrue result ↔ IsBare (fixed_text name) nullable field.now }
 {
-    if field.name() != name.as_text() {
-        return false;
-    }
-    if field.is_nullable() != nullable {
-        return false;
-    }
-    field.metadata().is_empty()
+    field.name() == name.as_text() && field.is_nullable() == nullable && field.metadata().is_empty()
 }
 
 /// Whether the field is a coordinate of that name.
 fn is_coordinate(field: &Field, name: FixedName) -> bool
     ensures { IsTrue result ↔ (field.now ≡ coordinate (fixed_text name)) }
 {
-    if !is_bare(field, name, false) {
-        return false;
-    }
-    is_float64(field.data_type())
+    is_bare(field, name, false) && is_float64(field.data_type())
 }
 
 /// Whether the fields are coordinates of these names.
@@ -350,10 +309,7 @@ fn are_coordinates(fields: &[Field], names: &[FixedName]) -> bool
     let Some((name, others)) = names.split_first() else {
         return false;
     };
-    if !is_coordinate(field, *name) {
-        return false;
-    }
-    are_coordinates(rest, others)
+    is_coordinate(field, *name) && are_coordinates(rest, others)
 }
 
 /// Whether the data type is the one that is written for a coordinate.
@@ -361,22 +317,14 @@ fn is_leaf(data_type: &DataType, coord_type: CoordType, dimension: Dimension) ->
     ensures { IsTrue result ↔ (tree data_type.now ≡ leaf_layout coord_type dimension) }
 {
     match coord_type {
-        CoordType::Interleaved => is_interleaved(data_type, dimension),
+        CoordType::Interleaved => match data_type {
+            DataType::FixedSizeList(field, size) => {
+                *size == list_size(dimension) && is_coordinate(field, interleaved_name(dimension))
+            }
+            _ => false,
+        },
         CoordType::Separated => is_struct(data_type, coordinate_names(dimension)),
     }
-}
-
-/// Whether it is the one for an interleaved coordinate.
-fn is_interleaved(data_type: &DataType, dimension: Dimension) -> bool
-    ensures { IsTrue result ↔ (tree data_type.now ≡ leaf_layout CoordType.Interleaved dimension) }
-{
-    let DataType::FixedSizeList(field, size) = data_type else {
-        return false;
-    };
-    if *size != list_size(dimension) {
-        return false;
-    }
-    is_coordinate(field, interleaved_name(dimension))
 }
 
 /// Whether it is a struct of coordinates of these names.
@@ -387,13 +335,6 @@ fn is_struct(data_type: &DataType, names: &[FixedName]) -> bool
         return false;
     };
     are_coordinates(fields.as_slice(), names)
-}
-
-/// Whether it is the one that is written for a box.
-fn is_box(data_type: &DataType, dimension: Dimension) -> bool
-    ensures { IsTrue result ↔ (tree data_type.now ≡ layout (Kind.Rect dimension)) }
-{
-    is_struct(data_type, box_names(dimension))
 }
 
 /// Whether the data type is lists of items of these names over a coordinate.
@@ -411,10 +352,7 @@ fn is_over_leaf(
     let DataType::List(field) = data_type else {
         return false;
     };
-    if !is_bare(field, *name, false) {
-        return false;
-    }
-    is_over_leaf(field.data_type(), others, coord_type, dimension)
+    is_bare(field, *name, false) && is_over_leaf(field.data_type(), others, coord_type, dimension)
 }
 
 /// Whether the data type is the one that is written for a collection.
@@ -424,10 +362,8 @@ fn is_collection(data_type: &DataType, coord_type: CoordType, dimension: Dimensi
     let DataType::List(field) = data_type else {
         return false;
     };
-    if !is_bare(field, FixedName::Geometries, false) {
-        return false;
-    }
-    is_mixed(field.data_type(), coord_type, dimension)
+    is_bare(field, FixedName::Geometries, false)
+        && is_mixed(field.data_type(), coord_type, dimension)
 }
 
 /// Whether the data type is the union in a collection.
@@ -440,7 +376,7 @@ fn is_mixed(data_type: &DataType, coord_type: CoordType, dimension: Dimension) -
     if *mode != UnionMode::Dense {
         return false;
     }
-    are_mixed(members.as_slice(), coord_type, dimension)
+    are_members_over(members.as_slice(), &COLLECTED, coord_type, dimension)
 }
 
 /// Whether the data type is the one that is written for geometries of any kind.
@@ -453,20 +389,7 @@ fn is_geometry(data_type: &DataType, coord_type: CoordType) -> bool
     if *mode != UnionMode::Dense {
         return false;
     }
-    are_geometries(members.as_slice(), coord_type)
-}
-
-/// Whether the members are those that are written for geometries of any kind.
-fn are_geometries(members: &[(i8, Field)], coord_type: CoordType) -> bool
-    ensures { IsTrue result ↔ (members.now ≡ geometry_members coord_type) }
-{
-    let dimensions = [
-        Dimension::XY,
-        Dimension::XYZ,
-        Dimension::XYM,
-        Dimension::XYZM,
-    ];
-    are_in(members, &dimensions, coord_type)
+    are_in(members.as_slice(), &DIMENSIONS, coord_type)
 }
 
 /// Whether the members are those that are written for geometries of these dimensions.
@@ -480,10 +403,7 @@ fn are_in(members: &[(i8, Field)], dimensions: &[Dimension], coord_type: CoordTy
         return false;
     }
     let (first, rest) = members.split_at(7);
-    if !are_of_dimension(first, coord_type, *dimension) {
-        return false;
-    }
-    are_in(rest, others, coord_type)
+    are_of_dimension(first, coord_type, *dimension) && are_in(rest, others, coord_type)
 }
 
 /// Whether the members are those that are written for geometries of one dimension.
@@ -499,22 +419,7 @@ fn are_of_dimension(members: &[(i8, Field)], coord_type: CoordType, dimension: D
     if !is_collection(last.1.data_type(), coord_type, dimension) {
         return false;
     }
-    are_mixed(rest, coord_type, dimension)
-}
-
-/// Whether the members are those of the union in a collection.
-fn are_mixed(members: &[(i8, Field)], coord_type: CoordType, dimension: Dimension) -> bool
-    ensures { IsTrue result ↔ (members.now ≡ mixed_members coord_type dimension) }
-{
-    let kinds = [
-        NativeKind::Point,
-        NativeKind::LineString,
-        NativeKind::Polygon,
-        NativeKind::MultiPoint,
-        NativeKind::MultiLineString,
-        NativeKind::MultiPolygon,
-    ];
-    are_members_over(members, &kinds, coord_type, dimension)
+    are_members_over(rest, &COLLECTED, coord_type, dimension)
 }
 
 /// Whether the members are those of these kinds, each over a coordinate.
@@ -532,26 +437,19 @@ fn are_members_over(
     let Some((member, rest)) = members.split_first() else {
         return false;
     };
-    if !is_member(member, *kind, dimension) {
-        return false;
-    }
-    if !is_over_leaf(
-        member.1.data_type(),
-        list_names(*kind),
-        coord_type,
-        dimension,
-    ) {
-        return false;
-    }
-    are_members_over(rest, others, coord_type, dimension)
+    is_member(member, *kind, dimension)
+        && is_over_leaf(
+            member.1.data_type(),
+            list_names(*kind),
+            coord_type,
+            dimension,
+        )
+        && are_members_over(rest, others, coord_type, dimension)
 }
 
 /// Whether the member is the one for the kind in the dimension, but for its data type.
 fn is_member(member: &(i8, Field), kind: NativeKind, dimension: Dimension) -> bool
     ensures { IsTrue result ↔ (member.now ≡ member_layout kind dimension member.now.1.tree) }
 {
-    if member.0 != type_id(kind, dimension) {
-        return false;
-    }
-    is_bare(&member.1, member_name(kind, dimension), true)
+    member.0 == type_id(kind, dimension) && is_bare(&member.1, member_name(kind, dimension), true)
 }

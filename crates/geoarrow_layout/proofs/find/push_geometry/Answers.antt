@@ -1,8 +1,11 @@
-use Rattle.std.proofs.Common.{ap}
-use Rattle.arrow_values.specs.View.{tree}
+use Rattle.geoarrow_layout.proofs.Terms.{ap, tree}
 use Rattle.geoarrow_layout.proofs.FaultPaths.{on_ok, geometry_leads}
 use Rattle.geoarrow_layout.proofs.find.push_geometry.Goals as goal
 
-pub returns-in-Union : goal.returns-in-Union
-returns-in-Union c =
-    on_ok c.push_geometries.result (geometry_leads (tree c.args.data_type.now) c.in-Union.members c.as_slice.result.now c.in-Union.field-1 c.args.path.now.items c.push_geometries.new.path.items (ap tree c.in-Union.is) c.as_slice.ensures) c.push_geometries.ensures
+pub returns-in-Some : goal.returns-in-Some
+returns-in-Some c =
+    let goes_on = rw c.in-Some.is at c.in_ok-kind.ensures in
+    on_ok c.push_native.result (λ h. geometry_leads _ c.in-Union.members _ c.in-Union.field-1 _ _ (ap tree c.in-Union.is) c.as_slice.ensures (goes_on _ h)) c.push_native.ensures
+
+pub returns-in-None : goal.returns-in-None
+returns-in-None c = geometry_leads _ c.in-Union.members _ c.in-Union.field-1 _ _ (ap tree c.in-Union.is) c.as_slice.ensures (rw c.in-None.is at c.in_ok-kind.ensures)

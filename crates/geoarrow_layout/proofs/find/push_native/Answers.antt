@@ -1,4 +1,4 @@
-use Rattle.arrow_values.specs.View.{tree}
+use Rattle.geoarrow_layout.proofs.Terms.{tree}
 use Rattle.geoarrow_layout.proofs.FaultPaths.{on_ok, native_leads}
 use Rattle.geoarrow_layout.proofs.find.push_native.Goals as goal
 

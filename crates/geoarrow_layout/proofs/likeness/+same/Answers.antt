@@ -1,7 +1,4 @@
-use Rattle.std.proofs.Common.{◌≡◌, ℕ, zero, suc, ◌<◌, ◌+◌, ℤ, Bool, true, ◌&&◌, List, [], ◌∷◌, length, get_or, drop, sym, ap, ◌∙◌, subst, arith, ◌*◌}
-use Rattle.std.proofs.lemmas.List.{drop_more}
-use Rattle.geoarrow_layout.proofs.Terms.{FieldTree, MemberTrees, depth, member_trees, members_size, each_has_alike, some_member, alike_of}
-use Rattle.std.specs.Ordering.{int_eq}
+use Rattle.geoarrow_layout.proofs.Terms.{◌≡◌, ℕ, zero, suc, ◌<◌, ◌+◌, ℤ, Bool, true, ◌&&◌, List, [], ◌∷◌, length, get_or, drop, sym, ap, ◌∙◌, subst, arith, ◌*◌, drop_more, FieldTree, MemberTrees, depth, member_trees, members_size, each_has_alike, some_member, alike_of, int_eq}
 use Rattle.geoarrow_layout.proofs.likeness.+same.Goals as goal
 
 -- a member lies less deep than its union

@@ -1,6 +1,4 @@
-use Rattle.std.proofs.Common.{◌≡◌, ◌&&◌, ◌+◌, ◌*◌, drop}
-use Rattle.std.specs.Ordering.{int_eq}
-use Rattle.geoarrow_layout.proofs.Terms.{tree, member_trees, members_size, depth, alike_of, each_has_alike, all_members, some_member, has_alike, is_met}
+use Rattle.geoarrow_layout.proofs.Terms.{◌≡◌, ◌&&◌, ◌+◌, ◌*◌, drop, int_eq, tree, member_trees, members_size, depth, alike_of, each_has_alike, all_members, some_member, has_alike, is_met}
 use Rattle.geoarrow_layout.proofs.likeness.+same.Given as goal
 
 abbrev pub invariant-all_are_met-loop-other : goal.invariant-all_are_met-loop-other

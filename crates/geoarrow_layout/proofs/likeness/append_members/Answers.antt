@@ -1,5 +1,4 @@
-use Rattle.geoarrow_layout.proofs.Terms.{Dimension, GeometryMember, Member}
-use Rattle.std.proofs.lemmas.Result.{on_ok_weaker}
+use Rattle.geoarrow_layout.proofs.Terms.{Dimension, GeometryMember, Member, on_ok_weaker}
 use Rattle.geoarrow_layout.proofs.UnionChanges.{filled_joined, joined_alike}
 use Rattle.geoarrow_layout.proofs.likeness.append_members.Goals as goal
 

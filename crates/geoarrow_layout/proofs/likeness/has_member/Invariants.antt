@@ -1,5 +1,4 @@
-use Rattle.std.proofs.Common.{◌≡◌, drop}
-use Rattle.geoarrow_layout.proofs.Terms.{member_trees, has_member}
+use Rattle.geoarrow_layout.proofs.Terms.{◌≡◌, drop, member_trees, has_member}
 use Rattle.geoarrow_layout.proofs.likeness.has_member.Given as goal
 
 abbrev pub invariant-loop-member : goal.invariant-loop-member

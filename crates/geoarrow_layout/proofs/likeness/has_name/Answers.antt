@@ -1,4 +1,4 @@
-use Rattle.std.proofs.Common.{◌∙◌}
+use Rattle.geoarrow_layout.proofs.Terms.{◌∙◌}
 use Rattle.geoarrow_layout.proofs.FieldSteps.{has_name-fields}
 use Rattle.geoarrow_layout.proofs.likeness.has_name.Goals as goal
 

@@ -1,5 +1,4 @@
-use Rattle.std.proofs.Common.{◌≡◌, cond, drop}
-use Rattle.geoarrow_layout.proofs.Terms.{member_trees, has_member, is_repeated}
+use Rattle.geoarrow_layout.proofs.Terms.{◌≡◌, cond, drop, member_trees, has_member, is_repeated}
 use Rattle.geoarrow_layout.proofs.likeness.is_repeated.Given as goal
 
 abbrev pub invariant-loop-member : goal.invariant-loop-member

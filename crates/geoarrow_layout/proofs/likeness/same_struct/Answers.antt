@@ -1,4 +1,4 @@
-use Rattle.std.proofs.Common.{inl, inr, sym, ◌∙◌, true, false, refl}
+use Rattle.geoarrow_layout.proofs.Terms.{inl, inr, sym, ◌∙◌, true, false, refl}
 use Rattle.geoarrow_layout.proofs.AlikeDecides.{struct_named}
 use Rattle.geoarrow_layout.proofs.likeness.same_struct.Goals as goal
 

@@ -1,4 +1,4 @@
-use Rattle.std.proofs.Common.{sym, ◌∙◌}
+use Rattle.geoarrow_layout.proofs.Terms.{sym, ◌∙◌}
 use Rattle.geoarrow_layout.proofs.Structs.{no_box}
 use Rattle.geoarrow_layout.proofs.read.box_dimension.Goals as goal
 

@@ -1,5 +1,4 @@
-use Rattle.std.proofs.Common.{arith}
-use Rattle.geoarrow_layout.specs.FaultAt.{BoxFault}
+use Rattle.geoarrow_layout.proofs.Terms.{arith, BoxFault}
 use Rattle.geoarrow_layout.proofs.Bottoms.{box_refuses}
 use Rattle.geoarrow_layout.proofs.UnionSteps.{below_root, at_root}
 use Rattle.geoarrow_layout.proofs.Structs.{root_box}

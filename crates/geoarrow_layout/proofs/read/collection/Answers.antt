@@ -1,5 +1,4 @@
-use Rattle.std.proofs.Common.{◌≡◌, subst, arith}
-use Rattle.geoarrow_layout.proofs.Terms.{Mixed, MixedFault, IsBottom, IsNested}
+use Rattle.geoarrow_layout.proofs.Terms.{◌≡◌, subst, arith, Mixed, MixedFault, IsBottom, IsNested}
 use Rattle.geoarrow_layout.proofs.Bottoms.{under_less, under_same, no_inner, under_no_union, mixed_refuses}
 use Rattle.geoarrow_layout.proofs.UnionSteps.{nested_union}
 use Rattle.geoarrow_layout.proofs.read.collection.Goals as goal

@@ -1,5 +1,4 @@
-use Rattle.std.proofs.Common.{arith}
-use Rattle.geoarrow_layout.specs.FaultAt.{GeometryFault}
+use Rattle.geoarrow_layout.proofs.Terms.{arith, GeometryFault}
 use Rattle.geoarrow_layout.proofs.Bottoms.{geometry_refuses}
 use Rattle.geoarrow_layout.proofs.UnionSteps.{below_root, root_geometry, at_root}
 use Rattle.geoarrow_layout.proofs.read.geometry.Goals as goal

@@ -1,4 +1,4 @@
-use Rattle.std.proofs.lemmas.Result.{err_from_is_err_and}
+use Rattle.geoarrow_layout.proofs.Terms.{err_from_is_err_and}
 use Rattle.geoarrow_layout.proofs.Structs.{struct_leaf, struct_no_leaf}
 use Rattle.geoarrow_layout.proofs.read.leaf.Goals as goal
 

@@ -1,5 +1,4 @@
-use Rattle.std.proofs.Common.{arith}
-use Rattle.geoarrow_layout.proofs.Terms.{Leaf, CoordinateFault, IsNoLeaf}
+use Rattle.geoarrow_layout.proofs.Terms.{arith, Leaf, CoordinateFault, IsNoLeaf}
 use Rattle.geoarrow_layout.proofs.Bottoms.{under_less, under_more, under_same, coordinate_refuses}
 use Rattle.geoarrow_layout.proofs.UnionSteps.{no_leaf_no_list}
 use Rattle.geoarrow_layout.proofs.read.leaf_under.Goals as goal

@@ -1,5 +1,4 @@
-use Rattle.std.proofs.Common.{arith}
-use Rattle.geoarrow_layout.specs.FaultAt.{MixedFault}
+use Rattle.geoarrow_layout.proofs.Terms.{arith, MixedFault}
 use Rattle.geoarrow_layout.proofs.Bottoms.{mixed_refuses}
 use Rattle.geoarrow_layout.proofs.UnionSteps.{below_root, root_mixed, at_root}
 use Rattle.geoarrow_layout.proofs.read.mixed.Goals as goal

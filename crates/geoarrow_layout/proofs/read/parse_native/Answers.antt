@@ -4,10 +4,8 @@ use Rattle.geoarrow_layout.proofs.Readings.{exactly, told_fault}
 use Rattle.geoarrow_layout.proofs.UnionSteps.{inner_of}
 use Rattle.geoarrow_layout.proofs.read.parse_native.Goals as goal
 
-pub returns-clause-exact : goal.returns-clause-exact
-returns-clause-exact c =
+pub returns : goal.returns
+returns c =
     let t = tree c.args.data_type.now in
-    exactly _ (Native t c.args.kind) (NativeFault c.args.kind t) (any_native_same c.args.kind t) (native_apart c.args.kind t) (c.any_native.ensures t (inner_of _ t c.summarize.ensures))
-
-pub returns-clause-fault : goal.returns-clause-fault
-returns-clause-fault c = told_fault _ _ _ (c.any_native.ensures _ (inner_of _ _ c.summarize.ensures))
+    let told = c.native.ensures t (inner_of _ t c.summarize.ensures) in
+    record { exact = exactly _ (Native t c.args.kind) (NativeFault c.args.kind t) (any_native_same c.args.kind t) (native_apart c.args.kind t) told; fault = told_fault _ _ _ told }

@@ -1,5 +1,4 @@
-use Rattle.std.proofs.Common.{refl, sym, subst}
-use Rattle.geoarrow_layout.proofs.Terms.{Leaf, Native, Point, tree}
+use Rattle.geoarrow_layout.proofs.Terms.{refl, sym, subst, Leaf, Native, Point, tree}
 use Rattle.geoarrow_layout.specs.declared.summary.ListWidth.TheVariants.{List}
 use Rattle.geoarrow_layout.proofs.Readings.{answers_like}
 use Rattle.geoarrow_layout.proofs.read.parse_point.Goals as goal

@@ -1,4 +1,4 @@
-use Rattle.std.proofs.Common.{inl, inr}
+use Rattle.geoarrow_layout.proofs.Terms.{inl, inr}
 use Rattle.geoarrow_layout.proofs.Structs.{no_third}
 use Rattle.geoarrow_layout.proofs.read.separated_dimension.Goals as goal
 

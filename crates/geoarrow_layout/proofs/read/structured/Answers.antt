@@ -1,4 +1,4 @@
-use Rattle.std.proofs.lemmas.Bool.{iff_false}
+use Rattle.geoarrow_layout.proofs.Terms.{iff_false}
 use Rattle.geoarrow_layout.proofs.NamesSteps.{point_and_box, box_alone, point_alone, linestring_names, polygon_names, multipolygon_alone, collection_alone, geometry_alone, no_names}
 use Rattle.geoarrow_layout.proofs.read.structured.Goals as goal
 

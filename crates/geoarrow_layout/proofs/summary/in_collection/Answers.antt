@@ -1,5 +1,4 @@
-use Rattle.std.proofs.Common.{◌≡◌, rules, w8, to_z, of_z}
-use Rattle.std.proofs.lemmas.Int.{to_z-of_z}
+use Rattle.geoarrow_layout.proofs.Terms.{◌≡◌, rules, w8, to_z, of_z, to_z-of_z}
 use Rattle.geoarrow_layout.proofs.Parts.{a_collection, kind_no_collection, no_parts_no_collection}
 use Rattle.geoarrow_layout.proofs.summary.in_collection.Goals as goal
 

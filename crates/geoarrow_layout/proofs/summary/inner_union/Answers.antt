@@ -1,14 +1,10 @@
-use Rattle.std.proofs.Common.{◌≡◌, refl, subst, rules, w8, to_z, of_z, ℤ, pos, ◌<◌}
-use Rattle.std.proofs.lemmas.Int.{to_z-of_z}
-use Rattle.std.proofs.lemmas.List.{take_all}
-use Rattle.geoarrow_layout.proofs.Terms.{Member, MemberFault, member_same, Shows, TellsBoth}
-use Rattle.geoarrow_layout.specs.Steps.{AddsBits}
+use Rattle.geoarrow_layout.proofs.Terms.{◌≡◌, refl, subst, rules, w8, to_z, of_z, ℤ, pos, ◌<◌, to_z-of_z, take_all, Member, MemberFault, member_same, Shows, TellsBoth, AddsBits}
 use Rattle.geoarrow_layout.proofs.FaultLaws.{member_apart}
 use Rattle.geoarrow_layout.proofs.UnionSteps.{seen_more, seen_none, has_members}
 use Rattle.geoarrow_layout.proofs.summary.inner_union.Goals as goal
 
 pub loop-item-init : goal.loop-item-init
-loop-item-init c = rw c.no_members-seen.ensures (seen_none Member MemberFault)
+loop-item-init c = seen_none Member MemberFault _ _ _ _ (search rules) (search rules) (search rules) (search rules)
 
 pub loop-item-preserved : goal.loop-item-preserved
 loop-item-preserved c =

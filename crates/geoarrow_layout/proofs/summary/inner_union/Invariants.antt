@@ -1,5 +1,4 @@
-use Rattle.std.proofs.Common.{take}
-use Rattle.geoarrow_layout.proofs.Terms.{member_trees, Member, MemberFault, Seen}
+use Rattle.geoarrow_layout.proofs.Terms.{take, member_trees, Member, MemberFault, Seen}
 use Rattle.geoarrow_layout.proofs.summary.inner_union.Given as goal
 
 abbrev pub invariant-loop-item : goal.invariant-loop-item

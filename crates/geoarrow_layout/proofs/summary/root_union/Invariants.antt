@@ -1,5 +1,4 @@
-use Rattle.std.proofs.Common.{take}
-use Rattle.geoarrow_layout.proofs.Terms.{member_trees, Member, GeometryMember, MemberFault, GeometryMemberFault, IsFaultOf, Seen}
+use Rattle.geoarrow_layout.proofs.Terms.{take, member_trees, Member, GeometryMember, MemberFault, GeometryMemberFault, IsFaultOf, Seen}
 use Rattle.geoarrow_layout.proofs.summary.root_union.Given as goal
 
 abbrev pub invariant-loop-item : goal.invariant-loop-item

@@ -1,6 +1,4 @@
-use Rattle.std.proofs.Common.{sym, ◌∙◌, ap, ◌&&◌}
-use Rattle.std.proofs.lemmas.List.{take_all}
-use Rattle.geoarrow_layout.proofs.Terms.{place_in, known_names, is_float64}
+use Rattle.geoarrow_layout.proofs.Terms.{sym, ◌∙◌, ap, ◌&&◌, take_all, place_in, known_names, is_float64}
 use Rattle.geoarrow_layout.proofs.FieldSteps.{length-names, fields_seen_none, fields_seen_more}
 use Rattle.geoarrow_layout.proofs.summary.struct_bottom.Goals as goal
 

@@ -1,4 +1,4 @@
-use Rattle.std.proofs.Common.{w16}
+use Rattle.geoarrow_layout.proofs.Terms.{w16}
 use Rattle.geoarrow_layout.proofs.BitSteps.{adds_bit}
 use Rattle.geoarrow_layout.proofs.summary.with_bit_u16.Goals as goal
 

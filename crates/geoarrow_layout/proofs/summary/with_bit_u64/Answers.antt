@@ -1,4 +1,4 @@
-use Rattle.std.proofs.Common.{w64}
+use Rattle.geoarrow_layout.proofs.Terms.{w64}
 use Rattle.geoarrow_layout.proofs.BitSteps.{adds_bit}
 use Rattle.geoarrow_layout.proofs.summary.with_bit_u64.Goals as goal
 

@@ -1,4 +1,4 @@
-use Rattle.std.proofs.Common.{w8}
+use Rattle.geoarrow_layout.proofs.Terms.{w8}
 use Rattle.geoarrow_layout.proofs.BitSteps.{adds_bit}
 use Rattle.geoarrow_layout.proofs.summary.with_bit_u8.Goals as goal
 

@@ -1,5 +1,4 @@
-use Rattle.std.proofs.Common.{inl, inr, rules, w8, to_z, of_z}
-use Rattle.std.proofs.lemmas.Int.{to_z-of_z}
+use Rattle.geoarrow_layout.proofs.Terms.{inl, inr, rules, w8, to_z, of_z, to_z-of_z}
 use Rattle.geoarrow_layout.proofs.BitSteps.{id_outside, id_between}
 use Rattle.geoarrow_layout.proofs.summary.with_id.Goals as goal
 

@@ -1,4 +1,4 @@
-use Rattle.std.proofs.Common.{length}
+use Rattle.geoarrow_layout.proofs.Terms.{length}
 use Rattle.geoarrow_layout.proofs.write.+are_coordinates.Given as goal
 
 abbrev pub decreases-are_coordinates : goal.decreases-are_coordinates

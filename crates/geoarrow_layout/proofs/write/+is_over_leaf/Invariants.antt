@@ -1,4 +1,4 @@
-use Rattle.std.proofs.Common.{length}
+use Rattle.geoarrow_layout.proofs.Terms.{length}
 use Rattle.geoarrow_layout.proofs.write.+is_over_leaf.Given as goal
 
 abbrev pub decreases-is_over_leaf : goal.decreases-is_over_leaf

@@ -11,4 +11,4 @@ pub returns : goal.returns
 returns c =
     all_of_dimension c.args.members.now c.in-Some.rest.now (mixed_members c.args.coord_type c.args.dimension) c.in-Some.last.now GeometryCollection c.args.dimension
     _ (native_layout GeometryCollection c.args.coord_type c.args.dimension) _ _ _ c.in-Some.ensures.cases.0 c.data_type.ensures c.is_member.ensures c.if-not-is_member.false c.is_collection.ensures c.if-not-is_collection.false
-    c.are_mixed.ensures
+    c.are_members_over.ensures

@@ -1,6 +1,4 @@
-use Rattle.std.proofs.Common.{◌≡◌, drop}
-use Rattle.std.specs.List.{Contains}
-use Rattle.geoarrow_layout.proofs.Terms.{tree, Kind, layout}
+use Rattle.geoarrow_layout.proofs.Terms.{◌≡◌, drop, Contains, tree, Kind, layout}
 use Rattle.geoarrow_layout.proofs.write.first_written.Given as goal
 
 abbrev pub invariant-loop-kind : goal.invariant-loop-kind

@@ -1,5 +1,4 @@
-use Rattle.std.proofs.Common.{ap}
-use Rattle.arrow_values.specs.View.{tree}
+use Rattle.geoarrow_layout.proofs.Terms.{ap, tree}
 use Rattle.geoarrow_layout.proofs.TableSteps.{struct_same}
 use Rattle.geoarrow_layout.proofs.write.is_struct.Goals as goal
 

@@ -1,5 +1,4 @@
-use Rattle.std.proofs.Common.{◌≡◌, ◌++◌, take}
-use Rattle.geoarrow_layout.specs.Layouts.{members_over}
+use Rattle.geoarrow_layout.proofs.Terms.{◌≡◌, ◌++◌, take, members_over}
 use Rattle.geoarrow_layout.proofs.write.push_over.Given as goal
 
 abbrev pub invariant-loop-kind : goal.invariant-loop-kind

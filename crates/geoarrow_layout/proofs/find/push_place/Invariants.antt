@@ -1,0 +1,9 @@
+use Rattle.geoarrow_layout.proofs.Terms.{◌≡◌, take, member_trees, AllMembers, MemberIn}
+use Rattle.geoarrow_layout.proofs.FaultLaws.{Read}
+use Rattle.geoarrow_layout.proofs.find.push_place.Given as goal
+
+abbrev pub invariant-loop-place : goal.invariant-loop-place
+invariant-loop-place l = record {
+  read : AllMembers (Read (MemberIn l.collections)) (member_trees (take l.place l.members));
+  same : l.path.items ≡ l.fn.path.items;
+}

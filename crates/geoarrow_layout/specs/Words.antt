@@ -1,0 +1,37 @@
+-- The words of std and the names of the types of Rust, for the definitions: passed on from one place. Declares nothing.
+pub use Rattle.arrow_values.specs.declared.coordinates.Dimensions.{Dimensions}
+pub use Rattle.arrow_values.specs.declared.coordinates.Dimensions.TheVariants.{Unknown, Xy, Xym, Xyz, Xyzm}
+pub use Rattle.arrow_values.specs.declared.error.ArrowError.{ArrowError}
+pub use Rattle.arrow_values.specs.declared.error.ArrowError.TheVariants.{ExternalError'}
+pub use Rattle.arrow_values.specs.declared.error.GeoArrowError.{GeoArrowError}
+pub use Rattle.arrow_values.specs.declared.error.GeoArrowError.TheVariants.{InvalidGeoArrow}
+pub use Rattle.arrow_values.specs.declared.tree.UnionMode.{UnionMode}
+pub use Rattle.arrow_values.specs.declared.tree.UnionMode.TheVariants.{Dense}
+pub use Rattle.geoarrow_layout.specs.declared.encodings.Kind.{Kind}
+pub use Rattle.geoarrow_layout.specs.declared.encodings.Kind.TheVariants.{Geometry, Geometry as OfGeometry, Native, Native as OfNative, Rect, Rect as OfRect, Wkb, Wkb as OfWkb, Wkt, Wkt as OfWkt}
+pub use Rattle.geoarrow_layout.specs.declared.encodings.NativeKind.{NativeKind}
+pub use Rattle.geoarrow_layout.specs.declared.encodings.NativeKind.TheVariants.{GeometryCollection, LineString, MultiLineString, MultiPoint, MultiPolygon, Point, Polygon}
+pub use Rattle.geoarrow_layout.specs.declared.encodings.Width.{Width}
+pub use Rattle.geoarrow_layout.specs.declared.encodings.Width.TheVariants.{Large, Plain, View}
+pub use Rattle.geoarrow_layout.specs.declared.fault.LayoutFault.{LayoutFault}
+pub use Rattle.geoarrow_layout.specs.declared.fault.LayoutFault.TheVariants.{BadFieldCount, BadFieldNames, BadInterleavedName, BadSize, BadTypeId, EmptyUnion, MemberDimension, MixedWidths, SeveralCoordTypes, SeveralDimensions, UnexpectedType}
+pub use Rattle.geoarrow_layout.specs.declared.kinds.CoordType.{CoordType}
+pub use Rattle.geoarrow_layout.specs.declared.kinds.CoordType.TheVariants.{Interleaved, Separated}
+pub use Rattle.geoarrow_layout.specs.declared.kinds.Dimension.{Dimension}
+pub use Rattle.geoarrow_layout.specs.declared.kinds.Dimension.TheVariants.{XY, XYM, XYZ, XYZM}
+pub use Rattle.geoarrow_layout.specs.declared.names.Candidates.{Candidates}
+pub use Rattle.geoarrow_layout.specs.declared.names.Candidates.TheVariants.{LineStringOrMultiPoint, One, PointOrBox, PolygonOrMultiLineString}
+pub use Rattle.geoarrow_layout.specs.declared.names.ExtensionName.{ExtensionName}
+pub use Rattle.geoarrow_layout.specs.declared.summary.Bottom.{Bottom}
+pub use Rattle.geoarrow_layout.specs.declared.summary.Bottom.TheVariants.{Deep, FixedSizeList, Other, OtherWidth, Struct, Union}
+pub use Rattle.geoarrow_layout.specs.declared.summary.ListWidth.{ListWidth}
+pub use Rattle.geoarrow_layout.specs.declared.summary.ListWidth.TheVariants.{LargeList as LargeLists, List as Lists}
+pub use Rattle.geoarrow_layout.specs.declared.summary.Summary.{Summary}
+pub use Rattle.std.proofs.Common.{arith, inl, inr, refl, subst, sym, ◌∙◌}
+pub use Rattle.std.proofs.lemmas.Slice.Eq.{bytes_eq-Decides}
+pub use Rattle.std.specs.Fmt.{decimal}
+pub use Rattle.std.specs.Int.{bit_at}
+pub use Rattle.std.specs.List.{list_all, list_any}
+pub use Rattle.std.specs.Ordering.{int_eq}
+pub use Rattle.std.specs.Prelude.{Bool, Contains, Err, List, MatchOption, MatchResult, None, Ok, Option, Result, Some, [], codes, cond, false, length, map, nat_eq, not, pos, string_bytes, suc, true, zero, ℕ, ℤ, ⊤, ◌&&◌, ◌*◌, ◌++◌, ◌+◌, ◌<◌, ◌^◌, ◌||◌, ◌↔◌, ◌∷◌, ◌≡◌, ◌≢◌, ◌≤◌, ◌⊎◌}
+pub use Rattle.std.specs.Str.{bytes_eq}
