@@ -2,10 +2,10 @@ use Rattle.std.proofs.Common.{arith, refl, ◌≡◌, ◌-◌, Some, ap, ◌∙�
 use Rattle.std.proofs.lemmas.Result.{on_ok_weaker}
 use Rattle.json.specs.Json.{parse_map, read_key}
 use Rattle.json.specs.Reads.{token_of}
-use Rattle.json.proofs.Grammar.{read_key-shorter}
+use Rattle.json.proofs.Grammar.{left-parse_map, read_key-shorter}
 use Rattle.serde_json.specs.Data.{array, object, item, no_members, put}
 use Rattle.value_tokens.specs.Next.{next_items, next_members, after}
-use Rattle.value_tokens.specs.Turns.{no_value, plain, value-array, value-object, array_too_deep, object_too_deep, after-parse_map, item_read, items_over, item_refused, member_read, members_over, key_refused, member_refused}
+use Rattle.value_tokens.specs.Turns.{no_value, plain, value-array, value-object, array_too_deep, object_too_deep, item_read, items_over, item_refused, member_read, members_over, key_refused, member_refused}
 use Rattle.value_tokens.proofs.Firsts.{begins, shut, is_number}
 use Rattle.value_tokens.proofs.Loops.{stop, go_on}
 use Rattle.value_tokens.proofs.skip.+skip.Goals as goal
@@ -22,7 +22,7 @@ skip_items-items-preserved t c =
     let l = c.items in
     let r = c.skip_rest.new.reader in
     go_on l.invariant c.args.depth l.reader r (omega arith) (grind (arith, c.in_ok-skip_rest.ensures.ok))
-    (λ _ d read. (tt, ap after (item_read c.args.depth l.reader r d (grind arith) read) ∙ after-parse_map (item d) (next_items c.args.depth r)))
+    (λ _ d read. (tt, ap after (item_read c.args.depth l.reader r d (grind arith) read) ∙ left-parse_map (item d) (next_items c.args.depth r)))
 
 pub skip_items-returns-in_err-skip_rest-clause-text : goal.skip_items-returns-in_err-skip_rest-clause-text
 skip_items-returns-in_err-skip_rest-clause-text t c refused =
@@ -86,7 +86,7 @@ skip_rest-returns-in-EndObject-clause-text t c refused = rw (plain c.args.depth 
 pub skip_rest-returns-else-depth-eq0-clause-ok : goal.skip_rest-returns-else-depth-eq0-clause-ok
 skip_rest-returns-else-depth-eq0-clause-ok t c =
     on_ok_weaker c.skip_items.result (λ e. ap after (begins c.args.depth c.args.reader.now (grind arith) (value-array _ c.args.reader.now (omega arith)))
-    ∙ after-parse_map array (next_items (c.args.depth - 1) c.args.reader.now) ∙ e) c.skip_items.ensures.ok
+    ∙ left-parse_map array (next_items (c.args.depth - 1) c.args.reader.now) ∙ e) c.skip_items.ensures.ok
 
 pub skip_rest-returns-else-depth-eq0-clause-text : goal.skip_rest-returns-else-depth-eq0-clause-text
 skip_rest-returns-else-depth-eq0-clause-text t c refused =
@@ -95,7 +95,7 @@ skip_rest-returns-else-depth-eq0-clause-text t c refused =
 pub skip_rest-returns-else-depth-eq0-2-clause-ok : goal.skip_rest-returns-else-depth-eq0-2-clause-ok
 skip_rest-returns-else-depth-eq0-2-clause-ok t c =
     on_ok_weaker c.skip_members.result (λ e. ap after (begins c.args.depth c.args.reader.now (grind arith) (value-object _ c.args.reader.now (omega arith)))
-    ∙ after-parse_map object (next_members (c.args.depth - 1) no_members c.args.reader.now) ∙ e no_members) c.skip_members.ensures.ok
+    ∙ left-parse_map object (next_members (c.args.depth - 1) no_members c.args.reader.now) ∙ e no_members) c.skip_members.ensures.ok
 
 pub skip_rest-returns-else-depth-eq0-2-clause-text : goal.skip_rest-returns-else-depth-eq0-2-clause-text
 skip_rest-returns-else-depth-eq0-2-clause-text t c refused =
