@@ -1,5 +1,5 @@
 -- Which keys an object has, as members are put into it one after another.
-use Rattle.std.proofs.Common.{◌≡◌, ℕ, List, length, cond, bytes_eq, Option, Some, None, refl, sym, ap, ◌∙◌, true≢false}
+use Rattle.std.proofs.Common.{◌≡◌, ℕ, List, length, cond, bytes_eq, Option, Some, None, sym, ap, ◌∙◌, true≢false}
 use Rattle.std.proofs.lemmas.Bool.{cond_both}
 use Rattle.std.proofs.lemmas.Option.{option_and_then_some}
 use Rattle.std.proofs.lemmas.Slice.Eq.{bytes_eq-Decides}
