@@ -1,5 +1,5 @@
 -- The compact text of what is held: what holds of its tokens and of texts that are joined holds of it.
-use Rattle.std.proofs.Common.{◌≡◌, ◌≢◌, ℕ, suc, ◌<◌, ◌^◌, ◌&&◌, ◌||◌, ◌==◌, ◌/◌, ◌%◌, ◌+◌, pos, negsuc, List, [], ◌∷◌, ◌++◌, Bool, true, false, IsUtf8, All, decimal, nat_lt, refl, sym, subst, arith, ltb-true, true≢false}
+use Rattle.std.proofs.Common.{◌≡◌, ◌≢◌, ℕ, suc, ◌<◌, ◌^◌, ◌&&◌, ◌/◌, ◌%◌, pos, negsuc, List, [], ◌∷◌, ◌++◌, Bool, true, false, IsUtf8, All, decimal, nat_lt, refl, sym, subst, arith, ltb-true, true≢false}
 use Rattle.std.specs.Str.{is_utf8}
 use Rattle.std.specs.Char.{digit_char}
 use Rattle.std.proofs.lemmas.Bool.{and_parts, cond_both}
@@ -84,13 +84,10 @@ printable_line (x ∷ xs) h =
 
 -- the letter of an escape, and a digit
 letter_other : (x : ℕ) → IsOther (escape_letter x)
-letter_other x =
-    cond_both ((x == 34) || (x == 92)) x _ IsOther (λ e f. true≢false (sym (subst (λ y. ((y == 34) || (y == 92)) ≡ true) f e)))
-    (λ _. cond_both (x == 8) 98 _ IsOther (λ _ f. omega arith) (λ _. cond_both (x == 12) 102 _ IsOther (λ _ f. omega arith) (λ _. cond_both (x == 10) 110 _ IsOther (λ _ f. omega arith)
-    (λ _. cond_both (x == 13) 114 _ IsOther (λ _ f. omega arith) (λ _. cond_both (x == 9) 116 0 IsOther (λ _ f. omega arith) (λ _ f. omega arith))))))
+letter_other x e = grind arith
 
 digit_other : (d : ℕ) → IsOther (digit_char d)
-digit_other d = cond_both (nat_lt d 10) (48 + d) (87 + d) IsOther (λ _ f. omega arith) (λ _ f. omega arith)
+digit_other d e = grind arith
 
 before : (x : ℕ) (xs : List ℕ) → IsOther x → IsOneLine xs → IsOneLine (x ∷ xs)
 before x xs = All-cons IsOther x xs

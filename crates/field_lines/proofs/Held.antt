@@ -20,7 +20,7 @@ use Rattle.serde_json.proofs.Numbers.{number_of-decimal, number_of-negative}
 use Rattle.value_tokens.specs.Adds.{Prints}
 use Rattle.value_tokens.specs.Printed.{reads_back}
 use Rattle.field_lines.proofs.Lean.{mapped, chained}
-use Rattle.field_lines.proofs.Utf8.{HasUtf8, ItemsHaveUtf8, MembersHaveUtf8, texts_utf8}
+use Rattle.field_lines.proofs.Utf8.{AreUtf8, utf8_parts, texts_utf8}
 use Rattle.field_lines.specs.Held.{is_held_number, comes_first, is_held, items_are_held, members_are_held, held_parts}
 
 -- ---- members that are put in stay in order
@@ -78,22 +78,24 @@ number_held s =
         (λ e. let q = and_parts (is_integer p && nat_lt 0 (digits_of p)) _ e in below_zero (digits_of p) (and_parts (is_integer p) _ q.0).1 q.1) (λ _. float_held true p)
 
 mutual
-  json_held : (j : json.Json) → HasUtf8 j → IfSome (of_json j) (λ d. is_held d ≡ true)
+  json_held : (j : json.Json) → AreUtf8 (tree.json_tokens j) → IfSome (of_json j) (λ d. is_held d ≡ true)
   json_held (json.number s) u = mapped _ number (number_of s) (number_held s) (λ n h. h)
-  json_held (json.string s) u = is_utf8-from_IsUtf8 s u
-  json_held (json.array js) u = mapped _ array (of_items js) (items_held js u) (λ ds h. h)
-  json_held (json.object ms) u = mapped _ object (of_members ms no_members) (members_held ms no_members u refl) (λ ms h. h)
+  json_held (json.string s) u = is_utf8-from_IsUtf8 s u.0
+  json_held (json.array js) u = mapped _ array (of_items js) (items_held js u.1) (λ ds h. h)
+  json_held (json.object ms) u = mapped _ object (of_members ms no_members) (members_held ms no_members u.1 refl) (λ ms h. h)
   json_held _ u = refl
 
-  items_held : (js : json.Items) → ItemsHaveUtf8 js → IfSome (of_items js) (λ ds. items_are_held ds ≡ true)
+  items_held : (js : json.Items) → AreUtf8 (tree.items_tokens js) → IfSome (of_items js) (λ ds. items_are_held ds ≡ true)
   items_held json.no_items u = refl
   items_held (json.item j js) u =
-      chained _ (λ d. option_map (item d) (of_items js)) (of_json j) (json_held j u.0) (λ d h. mapped _ (item d) (of_items js) (items_held js u.1) (λ ds k. and_from _ _ h k))
+      let p = utf8_parts (tree.json_tokens j) (tree.items_tokens js) u in
+      chained _ (λ d. option_map (item d) (of_items js)) (of_json j) (json_held j p.0) (λ d h. mapped _ (item d) (of_items js) (items_held js p.1) (λ ds k. and_from _ _ h k))
 
-  members_held : (js : json.Members) (found : Members) → MembersHaveUtf8 js → members_are_held found ≡ true → IfSome (of_members js found) (λ ms. members_are_held ms ≡ true)
+  members_held : (js : json.Members) (found : Members) → AreUtf8 (tree.members_tokens js) → members_are_held found ≡ true → IfSome (of_members js found) (λ ms. members_are_held ms ≡ true)
   members_held json.no_members found u h = h
   members_held (json.member k j js) found u h =
-      chained _ (λ d. of_members js (put k d found)) (of_json j) (json_held j u.1) (λ d own. members_held js (put k d found) u.2 (put_held k d found (is_utf8-from_IsUtf8 k u.0) own h))
+      let p = utf8_parts (tree.json_tokens j) (tree.members_tokens js) u.1 in
+      chained _ (λ d. of_members js (put k d found)) (of_json j) (json_held j p.0) (λ d own. members_held js (put k d found) p.1 (put_held k d found (is_utf8-from_IsUtf8 k u.0) own h))
 
 -- what UTF-8 is read as is held
 pub read_held : (text : List ℕ) (d : Data) → is_utf8 text ≡ true → read text ≡ Some d → is_held d ≡ true
