@@ -1,20 +1,19 @@
 -- What is read is held, and what is held and has no float is read back from its compact text.
-use Rattle.std.proofs.Common.{◌≡◌, ◌≤◌, ◌^◌, ◌&&◌, ◌==◌, ℕ, zero, suc, pos, negsuc, List, [], Bool, true, false, Some, None, IfSome, option_map, drop, slice_index, nat_lt, nat_le, nat_cmp, is_lt, refl, sym, ap, ◌∙◌, subst, Ordering, Less, Equal, Greater, ltb-true, true≢false}
+use Rattle.std.proofs.Common.{◌≡◌, ◌≤◌, ◌^◌, ℕ, zero, suc, pos, negsuc, List, [], Bool, true, false, Some, IfSome, option_map, nat_lt, nat_le, nat_cmp, is_lt, refl, sym, ap, ◌∙◌, subst, arith, Ordering, Less, Equal, Greater, ltb-true, true≢false}
 use Rattle.std.specs.Ordering.{match_ordering, ordering_reverse}
 use Rattle.std.specs.Cmp.Lexicographic.{slice_cmp}
-use Rattle.std.proofs.lemmas.Bool.{and_parts, or_parts, and_from, cond_both}
+use Rattle.std.proofs.lemmas.Bool.{and_parts, or_parts, and_from}
 use Rattle.std.proofs.lemmas.Cmp.{nat_list_cmp_total}
 use Rattle.std.proofs.lemmas.Str.{IsUtf8-from_is_utf8, is_utf8-from_IsUtf8}
 use Rattle.std.specs.Str.{is_utf8}
-use Rattle.fast_float.specs.Text.{minus, Parts, scan, digits_of, nearest, with_sign}
-use Rattle.std.specs.Float.{binary64, float_is_finite}
+use Rattle.fast_float.specs.Text.{Parts, with_sign}
 use Rattle.json.specs.Json as json
 use Rattle.json.specs.Tree as tree
 use Rattle.json.proofs.Printed.Decimals.{IsNumber-decimal, IsNumber-signed_decimal}
 use Rattle.json.proofs.Printed.Tokens.{tokens-print}
 use Rattle.json.proofs.Printed.Trees.{ArePrintable-json_tokens}
 use Rattle.serde_json.specs.Data.{Num, unsigned, negative, float, Data, number, array, object, Items, no_items, item, Members, no_members, member, put, depth}
-use Rattle.serde_json.specs.Read.{is_integer, float_of, number_from, number_of, of_json, of_items, of_members, max_depth, read}
+use Rattle.serde_json.specs.Read.{float_of, number_from, number_of, of_json, of_items, of_members, max_depth, read}
 use Rattle.serde_json.specs.Written.{number_text, outline, items_outline, members_outline, has_float, items_have_float, members_have_float, compact_text}
 use Rattle.serde_json.proofs.Numbers.{number_of-decimal, number_of-negative}
 use Rattle.value_tokens.specs.Adds.{Prints}
@@ -58,7 +57,7 @@ abbrev IsHeldNumber : Num → Type 0
 IsHeldNumber n = is_held_number n ≡ true
 
 float_held : (sign : Bool) (p : Parts) → IfSome (float_of sign p) IsHeldNumber
-float_held sign p = cond_both (float_is_finite (nearest binary64 sign p)) (Some (float (nearest binary64 sign p))) None (λ o. IfSome o IsHeldNumber) (λ _. refl) (λ _. tt)
+float_held sign p = grind arith
 
 below_zero : (n : ℕ) → nat_lt 0 n ≡ true → nat_le n (2 ^ 63) ≡ true → is_held_number (negative (with_sign true n)) ≡ true
 below_zero zero some small = absurd (true≢false (sym some))
@@ -66,16 +65,13 @@ below_zero (suc n) some small = small
 
 number_held : (s : List ℕ) → IfSome (number_of s) IsHeldNumber
 unfolding number_of
-number_held s =
-    cond_both (slice_index s 0 == minus) (number_from true (scan (drop 1 s))) (number_from false (scan s)) (λ o. IfSome o IsHeldNumber) (λ _. signed (scan (drop 1 s))) (λ _. plain (scan s))
+number_held s = grind (arith, plain, signed)
   where
     plain : (p : Parts) → IfSome (number_from false p) IsHeldNumber
-    plain p = cond_both (is_integer p && nat_lt (digits_of p) (2 ^ 64)) (Some (unsigned (digits_of p))) (float_of false p) (λ o. IfSome o IsHeldNumber)
-        (λ e. (and_parts (is_integer p) (nat_lt (digits_of p) (2 ^ 64)) e).1) (λ _. float_held false p)
+    plain p = grind (arith, float_held)
 
     signed : (p : Parts) → IfSome (number_from true p) IsHeldNumber
-    signed p = cond_both (is_integer p && nat_lt 0 (digits_of p) && nat_le (digits_of p) (2 ^ 63)) (Some (negative (with_sign true (digits_of p)))) (float_of true p) (λ o. IfSome o IsHeldNumber)
-        (λ e. let q = and_parts (is_integer p && nat_lt 0 (digits_of p)) _ e in below_zero (digits_of p) (and_parts (is_integer p) _ q.0).1 q.1) (λ _. float_held true p)
+    signed p = grind (arith, float_held, below_zero)
 
 mutual
   json_held : (j : json.Json) → AreUtf8 (tree.json_tokens j) → IfSome (of_json j) (λ d. is_held d ≡ true)

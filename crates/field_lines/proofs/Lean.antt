@@ -71,6 +71,9 @@ pub chained : {A B : Type 0} {P : A → Type 0} (Q : B → Type 0) (f : A → Op
 chained Q f None h k = tt
 chained Q f (Some x) h k = k x h
 
+pub either : {A : Type 0} (P : A → Type 0) (b : Bool) (x y : A) → P x → P y → P (cond b x y)
+either P b x y p q = cond_both b x y P (λ _. p) (λ _. q)
+
 pub if_some : {A : Type 0} (P : A → Type 0) (o : Option A) → ((x : A) → o ≡ Some x → P x) → IfSome o P
 if_some P None h = tt
 if_some P (Some x) h = h x refl

@@ -1,8 +1,6 @@
 -- The line of a field is read back as that field, and a field that a line denotes has its texts and its metadata as a value holds them.
-use Rattle.std.proofs.Common.{◌≡◌, ◌≤◌, Bool, true, cond, Option, Some, None, IfSome, option_and_then, codes, refl, ap, ◌∙◌, subst, Ordering, Less, Equal, Greater, nat_cmp}
+use Rattle.std.proofs.Common.{◌≡◌, ◌≤◌, Bool, true, cond, Option, Some, None, IfSome, option_and_then, codes, bytes_eq, refl, sym, ap, ◌∙◌, subst}
 use Rattle.std.specs.Str.{is_utf8}
-use Rattle.std.specs.Ordering.{match_ordering}
-use Rattle.std.specs.Cmp.Lexicographic.{slice_cmp}
 use Rattle.std.proofs.lemmas.Bool.{cond_both}
 use Rattle.std.proofs.lemmas.Option.{IfSome_then}
 use Rattle.serde_json.specs.Data.{Data, string, object, Members, no_members, member, depth}
@@ -14,7 +12,8 @@ use Rattle.field_lines.specs.Held.{is_held, members_are_held, held_parts}
 use Rattle.field_lines.specs.FieldOfValue.{field_from, metadata_of_value, texts_in, type_in, field_of_value}
 use Rattle.field_lines.specs.Line.{texts_value, value_of_field, line_of_field, field_of_line}
 use Rattle.field_lines.specs.LineForm.{HasLineForm}
-use Rattle.field_lines.proofs.Lean.{chained, if_some, texts_say}
+use Rattle.field_lines.proofs.Lean.{chained, if_some, either, texts_say}
+use Rattle.field_lines.proofs.TokenMembers.{get_member-at}
 use Rattle.field_lines.proofs.Round.{value_is}
 use Rattle.field_lines.proofs.Held.{read_held, held_read_back}
 use Rattle.field_lines.proofs.Compact.{compact_utf8}
@@ -30,15 +29,12 @@ line_back f form held shallow =
 
 -- ---- what a line denotes is held
 
-found_held : (o : Ordering) (k : Text) (e : Data) (ms : Members) → is_held e ≡ true → IfSome (get_member k ms) (λ d. is_held d ≡ true)
-    → IfSome (match_ordering o (get_member k ms) (Some e) (get_member k ms)) (λ d. is_held d ≡ true)
-found_held Less k e ms own rest = rest
-found_held Equal k e ms own rest = own
-found_held Greater k e ms own rest = rest
-
 member_held : (k : Text) (ms : Members) → members_are_held ms ≡ true → IfSome (get_member k ms) (λ d. is_held d ≡ true)
 member_held k no_members h = tt
-member_held k (member l e ms) h = let p = held_parts l e ms h in found_held (slice_cmp nat_cmp k l) k e ms p.2 (member_held k ms p.3)
+member_held k (member l e ms) h =
+    let p = held_parts l e ms h in
+    let is_held_there = λ (o : Option Data). IfSome o (λ d. is_held d ≡ true) in
+    subst is_held_there (sym (get_member-at k l e ms)) (either is_held_there (bytes_eq k l) (Some e) (get_member k ms) p.2 (member_held k ms p.3))
 
 text_held : (d : Data) → is_held d ≡ true → IfSome (as_str d) (λ s. is_utf8 s ≡ true)
 text_held (string s) h = h

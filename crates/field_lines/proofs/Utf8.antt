@@ -1,5 +1,5 @@
 -- The texts of what UTF-8 is read as are UTF-8, and so is the compact text of what is held.
-use Rattle.std.proofs.Common.{◌≡◌, ℕ, ◌+◌, ◌-◌, ◌*◌, ◌<◌, ◌==◌, ◌&&◌, List, [], ◌∷◌, ◌++◌, length, take, get_or, Bool, true, false, cond, Option, Some, None, IfSome, option_and_then, IsUtf8, refl, sym, subst, arith, append_assoc, append-nil, length-append, eqb-true, ltb-true}
+use Rattle.std.proofs.Common.{◌≡◌, ℕ, ◌+◌, ◌-◌, ◌<◌, ◌==◌, ◌&&◌, List, [], ◌∷◌, ◌++◌, length, take, get_or, Bool, true, false, cond, Option, Some, None, IfSome, option_and_then, IsUtf8, refl, sym, subst, arith, append_assoc, append-nil, length-append, eqb-true, ltb-true}
 use Rattle.std.specs.Prelude.{⊤, nat_lt}
 use Rattle.std.specs.List.{AllByRecursion}
 use Rattle.std.specs.Char.{is_digit, digit_value, encode_utf8, IsScalar}
@@ -10,13 +10,13 @@ use lib.Seq.{take-append_seam, drop-append-add, get_or-append_seam}
 use lib.Utf8.{low_scalar}
 use Rattle.json.specs.Token.{Token}
 use Rattle.json.specs.Text.{plain, after_backslash, after_u, after_high, content, code_unit, short_escape, is_high_surrogate, is_low_surrogate, surrogate_pair, prepend}
-use Rattle.json.specs.Word.{is_operator, is_space, head, ends_word, literal, after_number, number_before, word}
+use Rattle.json.specs.Word.{head, ends_word, literal, after_number, number_before, word}
 use Rattle.json.specs.Ascii.{true_text, false_text, null_text}
 use Rattle.json.specs.Lex.{Lexeme, token, comma, colon, Class, class, quote, backslash, operator, space, other, Mode, between, in_word, in_string, in_escape, string_token, operator_lexeme, lex_byte, lex, Place, fresh, after_value, after_comma, after_key, begins_colon, if_allowed, place_token, punctuate, tokens}
 use Rattle.json.specs.Json as json
 use Rattle.json.specs.Tree.{json_tokens}
 use Rattle.json.proofs.Unique.Spelling.{value-json_tokens_back}
-use Rattle.field_lines.proofs.Lean.{mapped, chained, if_some}
+use Rattle.field_lines.proofs.Lean.{mapped, chained, if_some, either}
 
 -- ---- UTF-8 around an ASCII byte
 
@@ -59,17 +59,7 @@ digit_small c e = (grind arith, ltb-true _ _ e)
 
 four_digits : (a b c d : ℕ) → IfSome (code_unit a b c d) (Digits a b c d)
 unfolding code_unit
-four_digits a b c d =
-    cond_both (is_digit a 16 && is_digit b 16 && is_digit c 16 && is_digit d 16) (Some (digit_value a * 4096 + digit_value b * 256 + digit_value c * 16 + digit_value d)) None (λ o. IfSome o (Digits a b c d))
-    (λ e.
-    let p = and_parts (is_digit a 16 && is_digit b 16 && is_digit c 16) (is_digit d 16) e in
-    let q = and_parts (is_digit a 16 && is_digit b 16) (is_digit c 16) p.0 in
-    let r = and_parts (is_digit a 16) (is_digit b 16) q.0 in
-    let da = digit_small a r.0 in
-    let db = digit_small b r.1 in
-    let dc = digit_small c q.1 in
-    let dd = digit_small d p.1 in
-    (da.0, db.0, dc.0, dd.0, omega (arith, da.1, db.1, dc.1, dd.1))) (λ _. tt)
+four_digits a b c d = grind (arith, digit_small)
 
 after_four : {a b c d u : ℕ} (xs : List ℕ) → Digits a b c d u → IsUtf8 (a ∷ b ∷ c ∷ d ∷ xs) → IsUtf8 xs
 after_four xs h t = utf8_tail _ xs h.3 (utf8_tail _ _ h.2 (utf8_tail _ _ h.1 (utf8_tail _ _ h.0 t)))
@@ -152,13 +142,8 @@ string_ok : (o : Option (List ℕ)) → IfSome o IsUtf8 → IsUtf8Token (string_
 string_ok None h = tt
 string_ok (Some s) h = h
 
-either : {A : Type 0} (P : A → Type 0) (b : Bool) (x y : A) → P x → P y → P (cond b x y)
-either P b x y p q = cond_both b x y P (λ _. p) (λ _. q)
-
 operator_ok : (x : ℕ) → IsUtf8Lexeme (operator_lexeme x)
-operator_ok x =
-    let or = either IsUtf8Lexeme in
-    or (x == 123) (token Token.begin_object) _ tt (or (x == 125) (token Token.end_object) _ tt (or (x == 91) (token Token.begin_array) _ tt (or (x == 93) (token Token.end_array) _ tt (or (x == 44) comma colon tt tt))))
+operator_ok x = grind arith
 
 literal_ok : (b : Bool) (t : Token) → IsUtf8Token t → IsUtf8Token (cond b t Token.bad)
 literal_ok b t h = either IsUtf8Token b t Token.bad h tt
@@ -176,10 +161,7 @@ word_ok t =
     (or (head t == 110) (literal null_text Token.null t) _ (literal_ok _ Token.null tt) (number_ok t (after_number t))))
 
 is_quote : (x : ℕ) → class x ≡ quote → x ≡ 34
-is_quote x = cond_both (x == 34) quote _ (λ c. c ≡ quote → x ≡ 34) (λ e _. eqb-true x 34 e)
-    (λ _. cond_both (x == 92) backslash _ (λ c. c ≡ quote → x ≡ 34) (λ _ h. absurd cc)
-    (λ _. cond_both (is_operator x) operator _ (λ c. c ≡ quote → x ≡ 34) (λ _ h. absurd cc)
-    (λ _. cond_both (is_space x) space other (λ c. c ≡ quote → x ≡ 34) (λ _ h. absurd cc) (λ _ h. absurd cc))))
+is_quote x h = grind arith
 
 byte_ok : (m : Mode) (c : Class) (x : ℕ) (xs : List ℕ) (k : Mode → List Lexeme) → (c ≡ quote → IsUtf8 xs) → ((n : Mode) → AreUtf8Lexemes (k n)) → AreUtf8Lexemes (lex_byte m c x xs k)
 byte_ok between quote x xs k u h = (string_ok _ (in_plain xs [] (u refl)), h in_string)

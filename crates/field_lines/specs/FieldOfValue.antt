@@ -81,11 +81,6 @@ are_keys key other k l = bytes_eq key k && bytes_eq other l
 abbrev pub keyed_type : Text → Option FieldTree → Option FieldTrees → Option Tree
 keyed_type key f fs = if bytes_eq key (codes "list") then option_map list_of f else (if bytes_eq key (codes "large_list") then option_map large_list_of f else (if bytes_eq key (codes "struct") then option_map struct fs else None))
 
--- the two values of a list of two
-abbrev pub pair_of_value : Data → Option (Data × Data)
-pair_of_value (array (item d (item e no_items))) = Some (d, e)
-pair_of_value _ = None
-
 abbrev mutual
   -- a field is an object with a name, a nullability, a type and perhaps metadata; its other keys are ignored
   pub field_of_value : Data → Option FieldTree

@@ -337,7 +337,7 @@ fn take_fields(
 
 /// The fields of the items that are left of a list.
 #[cycle(take)]
-#[tactic(auto, using(crate::proofs::TokenItems::item_turn))]
+#[tactic(auto, using(crate::proofs::TokenItems::taking_items))]
 fn take_items(
     alloc: Global,
     reader: &mut Reader<'_>,
@@ -380,7 +380,7 @@ fn take_members(
 
 /// The ids and the fields of the pairs that are left of a list.
 #[cycle(take)]
-#[tactic(auto, using(crate::proofs::TokenItems::item_turn))]
+#[tactic(auto, using(crate::proofs::TokenItems::taking_items))]
 fn take_pairs(
     alloc: Global,
     reader: &mut Reader<'_>,

@@ -6,12 +6,12 @@ use Rattle.json.specs.Json.{parse_map}
 use Rattle.serde_json.specs.Data.{string, no_items, item, no_members}
 use Rattle.arrow_values.specs.Tree.{struct}
 use Rattle.arrow_values.specs.Union.{is_type_id}
-use Rattle.arrow_values.specs.View.{texts_of, field_trees, member_trees}
-use Rattle.field_lines.specs.FieldOfValue.{field_of_value, type_of_value, list_of, large_list_of}
+use Rattle.arrow_values.specs.View.{texts_of, field_trees}
+use Rattle.field_lines.specs.FieldOfValue.{field_before, field_of_value, type_of_value, list_of, large_list_of}
 use Rattle.field_lines.specs.Keys.{pair_read}
 use Rattle.field_lines.specs.Steps.{AreMemberParts}
 use Rattle.field_lines.proofs.TokenMembers.{part_other, parts_go_on, parts_end, no_type, only_go_on, only_end, only_spoiled, first_read, second_read, two_spoiled, no_pair, as_fixed_size_list, as_union, as_only, taken_as, keyed_read, not_keyed}
-use Rattle.field_lines.proofs.TokenItems.{item_turn, item_taken, taken_start, taken_go_on, taken_end, taken_spoiled, members_in-pair, zip_push, parts_push}
+use Rattle.field_lines.proofs.TokenItems.{pair_before, item_turn, item_taken, taken_start, taken_go_on, taken_end, taken_spoiled, members_in-pair, zip_push, parts_push}
 use Rattle.value_tokens.specs.Turns.{value-object, members_over, after_some}
 use Rattle.value_tokens.specs.Beginnings.{passed, next_string, no_object, no_text, object_read}
 use Rattle.field_lines.proofs.tokens.+take.Goals as goal
@@ -42,19 +42,16 @@ take_union-returns-in_default-key-clause-ok t c =
     two_spoiled c.keys.invariant.0 (ap (option_map (λ s. s.now)) c.in-Some.is) c.in_ok-skip_value-in_default-key.ensures.ok c.in_ok-skip_members-in_default-key.ensures.ok
     (λ ms. no_pair _ _ _ _ ms c.in_default-key.not-mode c.in_default-key.not-union)
 
-pub take_items-items-init : goal.take_items-items-init
-take_items-items-init t c = taken_start c.new-fields.ensures.items
-
 pub take_items-items-preserved : goal.take_items-items-preserved
 take_items-items-preserved t c =
-    taken_go_on c.items.invariant field_of_value (λ d ds. refl) (rw c.in-Some.is at c.in_ok-field.ensures.ok) c.in_ok-push-in-Some.ensures.items (grind arith)
+    taken_go_on c.items.invariant field_before field_of_value (λ x xs. refl) (λ d ds. refl) (rw c.in-Some.is at c.in_ok-field.ensures.ok) c.in_ok-push-in-Some.ensures.items (grind arith)
 
 pub take_items-returns-clause-ok : goal.take_items-returns-clause-ok
-take_items-returns-clause-ok t c = taken_end c.items.invariant field_trees refl (λ x xs. refl) (grind arith)
+take_items-returns-clause-ok t c = taken_end c.items.invariant refl (grind arith)
 
 pub take_items-returns-in-None-clause-ok : goal.take_items-returns-in-None-clause-ok
 take_items-returns-in-None-clause-ok t c =
-    taken_spoiled c.items.invariant field_of_value (λ d ds. refl) (rw c.in-None.is at c.in_ok-field.ensures.ok) c.in_ok-skip_items-in-None.ensures.ok (grind arith)
+    taken_spoiled c.items.invariant field_before field_of_value (λ x xs. refl) (λ d ds. refl) (rw c.in-None.is at c.in_ok-field.ensures.ok) c.in_ok-skip_items-in-None.ensures.ok (grind arith)
 
 pub take_pairs-pairs-init : goal.take_pairs-pairs-init
 take_pairs-pairs-init t c =
@@ -66,16 +63,16 @@ take_pairs-pairs-preserved t c =
     let ids : c.push.new.self.items ≡ l.ids.items ++ (c.in-Some.id ∷ []) = search (rules, to_z-of_z) in
     let fields = c.in_ok-push-in-Some-2.ensures.items in
     let good : IsTrue (is_type_id c.in-Some.id) = rw c.in-Some.is at c.in_ok-id.ensures.id in (
-      taken_go_on l.invariant.0 pair_read members_in-pair (rw c.in-Some.is at c.in_ok-id.ensures.ok) (ap₂ zip ids fields ∙ zip_push l.ids.items l.fields.items _ _ l.invariant.1.0) (grind arith),
+      taken_go_on l.invariant.0 pair_before pair_read (λ x xs. refl) members_in-pair (rw c.in-Some.is at c.in_ok-id.ensures.ok) (ap₂ zip ids fields ∙ zip_push l.ids.items l.fields.items _ _ l.invariant.1.0) (grind arith),
       subst₂ AreMemberParts (sym ids) (sym fields) (parts_push _ _ _ _ l.invariant.1 good),
     )
 
 pub take_pairs-returns-clause-ok : goal.take_pairs-returns-clause-ok
-take_pairs-returns-clause-ok t c = taken_end c.pairs.invariant.0 member_trees refl (λ x xs. refl) (grind arith)
+take_pairs-returns-clause-ok t c = taken_end c.pairs.invariant.0 refl (grind arith)
 
 pub take_pairs-returns-in-None-clause-ok : goal.take_pairs-returns-in-None-clause-ok
 take_pairs-returns-in-None-clause-ok t c =
-    taken_spoiled c.pairs.invariant.0 pair_read members_in-pair (rw c.in-None.is at c.in_ok-id.ensures.ok) c.in_ok-skip_items-in-None.ensures.ok (grind arith)
+    taken_spoiled c.pairs.invariant.0 pair_before pair_read (λ x xs. refl) members_in-pair (rw c.in-None.is at c.in_ok-id.ensures.ok) c.in_ok-skip_items-in-None.ensures.ok (grind arith)
 
 pub take_keys-returns-in-fixed_size_list-clause-ok : goal.take_keys-returns-in-fixed_size_list-clause-ok
 take_keys-returns-in-fixed_size_list-clause-ok t c =

@@ -1,10 +1,10 @@
 use Rattle.std.proofs.Common.{IfSome, ◌+◌, ◌*◌, length, codes, option_map}
 use Rattle.std.specs.List.{zip}
 use Rattle.field_lines.specs.Steps.{AreMemberParts}
-use Rattle.arrow_values.specs.View.{tree, texts_of, member_trees}
-use Rattle.field_lines.specs.FieldOfValue.{field_before, fields_in, members_in, field_of_value, size_of_value, mode_of_value, members_of_value}
+use Rattle.arrow_values.specs.View.{tree, texts_of, field_trees, member_trees}
+use Rattle.field_lines.specs.FieldOfValue.{fields_in, members_in, field_of_value, size_of_value, mode_of_value, members_of_value}
 use Rattle.field_lines.proofs.TokenMembers.{ArePartsUnderWay, IsOnlyUnderWay, AreTwoUnderWay}
-use Rattle.field_lines.proofs.TokenItems.{AreItemsTaken, pair_before}
+use Rattle.field_lines.proofs.TokenItems.{AreItemsTaken}
 use Rattle.field_lines.proofs.tokens.+take.Given as goal
 
 abbrev pub decreases-take_field : goal.decreases-take_field
@@ -66,7 +66,7 @@ abbrev pub decreases-take_only-only : goal.decreases-take_only-only
 decreases-take_only-only l = length l.reader
 
 abbrev pub invariant-take_items-items : goal.invariant-take_items-items
-invariant-take_items-items l = AreItemsTaken field_before fields_in l.depth l.initial.reader l.reader l.fields.items
+invariant-take_items-items l = AreItemsTaken field_trees fields_in l.depth l.initial.reader l.reader l.fields.items
 
 abbrev pub decreases-take_items-items : goal.decreases-take_items-items
 decreases-take_items-items l = length l.reader
@@ -88,7 +88,7 @@ abbrev pub decreases-take_union-keys : goal.decreases-take_union-keys
 decreases-take_union-keys l = length l.reader
 
 abbrev pub invariant-take_pairs-pairs : goal.invariant-take_pairs-pairs
-invariant-take_pairs-pairs l = AreItemsTaken pair_before members_in l.depth l.initial.reader l.reader (zip l.ids.items l.fields.items) × AreMemberParts l.ids.items l.fields.items
+invariant-take_pairs-pairs l = AreItemsTaken member_trees members_in l.depth l.initial.reader l.reader (zip l.ids.items l.fields.items) × AreMemberParts l.ids.items l.fields.items
 
 abbrev pub decreases-take_pairs-pairs : goal.decreases-take_pairs-pairs
 decreases-take_pairs-pairs l = length l.reader
