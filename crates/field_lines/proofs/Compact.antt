@@ -1,5 +1,5 @@
 -- The compact text of what is held: what holds of its tokens and of texts that are joined holds of it.
-use Rattle.std.proofs.Common.{◌≡◌, ◌≢◌, ℕ, suc, ◌<◌, ◌^◌, ◌&&◌, ◌||◌, ◌==◌, ◌/◌, ◌%◌, ◌+◌, pos, negsuc, List, [], ◌∷◌, ◌++◌, Bool, true, false, IsUtf8, All, decimal, nat_lt, refl, sym, subst, arith, ltb-true, true≢false}
+use Rattle.std.proofs.Common.{◌≡◌, ◌≢◌, ℕ, suc, ◌<◌, ◌^◌, ◌&&◌, ◌/◌, ◌%◌, pos, negsuc, List, [], ◌∷◌, ◌++◌, Bool, true, false, IsUtf8, All, decimal, nat_lt, refl, sym, subst, arith, ltb-true, true≢false}
 use Rattle.std.specs.Str.{is_utf8}
 use Rattle.std.specs.Char.{digit_char}
 use Rattle.std.proofs.lemmas.Bool.{and_parts, cond_both}
@@ -19,8 +19,15 @@ abbrev are_printable : List ℕ → Bool
 are_printable [] = true
 are_printable (x ∷ xs) = (nat_lt x 128 && nat_lt 31 x) && are_printable xs
 
-module _ (P : List ℕ → Type 0) (none : P []) (join : (xs ys : List ℕ) → P xs → P ys → P (xs ++ ys)) (fixed : (xs : List ℕ) → are_printable xs ≡ true → P xs)
+module _ (P : List ℕ → Type 0) (none : P []) (join : (xs ys : List ℕ) → P xs → P ys → P (xs ++ ys)) (byte : (x : ℕ) (xs : List ℕ) → x < 128 → 31 < x → P xs → P (x ∷ xs))
     (quotes : (s : List ℕ) → is_utf8 s ≡ true → P (quoted s)) (digits : (n : ℕ) → n < 2 ^ 64 → P (decimal n)) where
+  fixed : (xs : List ℕ) → are_printable xs ≡ true → P xs
+  fixed [] h = none
+  fixed (x ∷ xs) h =
+      let p = and_parts (nat_lt x 128 && nat_lt 31 x) _ h in
+      let q = and_parts (nat_lt x 128) _ p.0 in
+      byte x xs (ltb-true _ _ q.0) (ltb-true _ _ q.1) (fixed xs p.1)
+
   number_is : (n : Num) → is_held_number n ≡ true → P (number_text n)
   number_is (unsigned n) h = digits n (ltb-true _ _ h)
   number_is (negative (pos n)) h = absurd (true≢false (sym h))
@@ -56,15 +63,9 @@ module _ (P : List ℕ → Type 0) (none : P []) (join : (xs ys : List ℕ) → 
 
 -- ---- UTF-8
 
-printable_utf8 : (xs : List ℕ) → are_printable xs ≡ true → IsUtf8 xs
-printable_utf8 [] h = IsUtf8-nil
-printable_utf8 (x ∷ xs) h =
-    let p = and_parts (nat_lt x 128 && nat_lt 31 x) _ h in
-    ascii_then x xs (ltb-true _ _ (and_parts (nat_lt x 128) _ p.0).0) (printable_utf8 xs p.1)
-
 pub compact_utf8 : (d : Data) → is_held d ≡ true → is_utf8 (compact_text d) ≡ true
 compact_utf8 d h =
-    is_utf8-from_IsUtf8 (compact_text d) (compact_is IsUtf8 IsUtf8-nil IsUtf8-append printable_utf8 (λ s u. IsUtf8-quoted s (IsUtf8-from_is_utf8 s u))
+    is_utf8-from_IsUtf8 (compact_text d) (compact_is IsUtf8 IsUtf8-nil IsUtf8-append (λ x xs small high. ascii_then x xs small) (λ s u. IsUtf8-quoted s (IsUtf8-from_is_utf8 s u))
     (λ n small. IsUtf8-from_ascii (decimal n) (IsAscii-decimal n small)) d h)
 
 -- ---- no line feed
@@ -75,35 +76,26 @@ IsOther b = b ≢ 10
 abbrev IsOneLine : List ℕ → Type 0
 IsOneLine xs = All IsOther xs
 
-printable_line : (xs : List ℕ) → are_printable xs ≡ true → IsOneLine xs
-printable_line [] h = All-nil IsOther
-printable_line (x ∷ xs) h =
-    let p = and_parts (nat_lt x 128 && nat_lt 31 x) _ h in
-    let high = ltb-true 31 x (and_parts (nat_lt x 128) _ p.0).1 in
-    All-cons IsOther x xs (λ e. omega arith) (printable_line xs p.1)
-
 -- the letter of an escape, and a digit
 letter_other : (x : ℕ) → IsOther (escape_letter x)
-letter_other x =
-    cond_both ((x == 34) || (x == 92)) x _ IsOther (λ e f. true≢false (sym (subst (λ y. ((y == 34) || (y == 92)) ≡ true) f e)))
-    (λ _. cond_both (x == 8) 98 _ IsOther (λ _ f. omega arith) (λ _. cond_both (x == 12) 102 _ IsOther (λ _ f. omega arith) (λ _. cond_both (x == 10) 110 _ IsOther (λ _ f. omega arith)
-    (λ _. cond_both (x == 13) 114 _ IsOther (λ _ f. omega arith) (λ _. cond_both (x == 9) 116 0 IsOther (λ _ f. omega arith) (λ _ f. omega arith))))))
+letter_other x e = grind arith
 
 digit_other : (d : ℕ) → IsOther (digit_char d)
-digit_other d = cond_both (nat_lt d 10) (48 + d) (87 + d) IsOther (λ _ f. omega arith) (λ _ f. omega arith)
+digit_other d e = grind arith
 
-before : (x : ℕ) (xs : List ℕ) → IsOther x → IsOneLine xs → IsOneLine (x ∷ xs)
-before x xs = All-cons IsOther x xs
+then : (x : ℕ) (xs : List ℕ) → IsOther x → IsOneLine xs → IsOneLine (x ∷ xs)
+then x xs = All-cons IsOther x xs
 
 escaped_line : (x : ℕ) → IsOneLine (escape_byte x)
 unfolding escape_byte
 escaped_line x =
     let end = All-nil IsOther in
-    cond_both (nat_lt 0 (escape_letter x)) (92 ∷ escape_letter x ∷ []) _ IsOneLine (λ _. before 92 (escape_letter x ∷ []) (λ f. omega arith) (before (escape_letter x) [] (letter_other x) end))
-    (λ _. cond_both (nat_lt x 32) (92 ∷ 117 ∷ 48 ∷ 48 ∷ digit_char (x / 16) ∷ digit_char (x % 16) ∷ []) (x ∷ []) IsOneLine
-    (λ _. All-append IsOther (92 ∷ 117 ∷ 48 ∷ 48 ∷ []) (digit_char (x / 16) ∷ digit_char (x % 16) ∷ []) (printable_line (92 ∷ 117 ∷ 48 ∷ 48 ∷ []) refl)
-    (before (digit_char (x / 16)) (digit_char (x % 16) ∷ []) (digit_other (x / 16)) (before (digit_char (x % 16)) [] (digit_other (x % 16)) end)))
-    (λ e. before x [] (λ f. true≢false (subst (λ y. nat_lt y 32 ≡ false) f e)) end))
+    let digits = digit_char (x / 16) ∷ digit_char (x % 16) ∷ [] in
+    cond_both (nat_lt 0 (escape_letter x)) (92 ∷ escape_letter x ∷ []) _ IsOneLine (λ _. then 92 (escape_letter x ∷ []) (λ f. omega arith) (then (escape_letter x) [] (letter_other x) end))
+    (λ _. cond_both (nat_lt x 32) (92 ∷ 117 ∷ 48 ∷ 48 ∷ digits) (x ∷ []) IsOneLine
+    (λ _. then 92 (117 ∷ 48 ∷ 48 ∷ digits) (λ f. omega arith) (then 117 (48 ∷ 48 ∷ digits) (λ f. omega arith) (then 48 (48 ∷ digits) (λ f. omega arith) (then 48 digits (λ f. omega arith)
+    (then (digit_char (x / 16)) (digit_char (x % 16) ∷ []) (digit_other (x / 16)) (then (digit_char (x % 16)) [] (digit_other (x % 16)) end))))))
+    (λ e. then x [] (λ f. true≢false (subst (λ y. nat_lt y 32 ≡ false) f e)) end))
 
 text_line : (s : List ℕ) → IsOneLine (escape s)
 text_line [] = All-nil IsOther
@@ -114,6 +106,6 @@ digits_line n small = All-from_get_or IsOther (decimal n) 0 (λ k lt e. omega (a
 
 pub compact_line : (d : Data) → is_held d ≡ true → All (λ b. b ≢ 10) (compact_text d)
 compact_line d h =
-    compact_is IsOneLine (All-nil IsOther) (All-append IsOther) printable_line
-    (λ s u. All-append IsOther (34 ∷ []) _ (printable_line (34 ∷ []) refl) (All-append IsOther (escape s) (34 ∷ []) (text_line s) (printable_line (34 ∷ []) refl)))
+    compact_is IsOneLine (All-nil IsOther) (All-append IsOther) (λ x xs small high. then x xs (λ f. omega arith))
+    (λ s u. then 34 _ (λ f. omega arith) (All-append IsOther (escape s) (34 ∷ []) (text_line s) (then 34 [] (λ f. omega arith) (All-nil IsOther))))
     digits_line d h

@@ -1,26 +1,25 @@
 -- What is read is held, and what is held and has no float is read back from its compact text.
-use Rattle.std.proofs.Common.{◌≡◌, ◌≤◌, ◌^◌, ◌&&◌, ◌==◌, ℕ, zero, suc, pos, negsuc, List, [], Bool, true, false, Some, None, IfSome, option_map, drop, slice_index, nat_lt, nat_le, nat_cmp, is_lt, refl, sym, ap, ◌∙◌, subst, Ordering, Less, Equal, Greater, ltb-true, true≢false}
+use Rattle.std.proofs.Common.{◌≡◌, ◌≤◌, ◌^◌, ℕ, zero, suc, pos, negsuc, List, [], Bool, true, false, Some, IfSome, option_map, nat_lt, nat_le, nat_cmp, is_lt, refl, sym, ap, ◌∙◌, subst, arith, Ordering, Less, Equal, Greater, ltb-true, true≢false}
 use Rattle.std.specs.Ordering.{match_ordering, ordering_reverse}
 use Rattle.std.specs.Cmp.Lexicographic.{slice_cmp}
-use Rattle.std.proofs.lemmas.Bool.{and_parts, or_parts, and_from, cond_both}
+use Rattle.std.proofs.lemmas.Bool.{and_parts, or_parts, and_from}
 use Rattle.std.proofs.lemmas.Cmp.{nat_list_cmp_total}
 use Rattle.std.proofs.lemmas.Str.{IsUtf8-from_is_utf8, is_utf8-from_IsUtf8}
 use Rattle.std.specs.Str.{is_utf8}
-use Rattle.fast_float.specs.Text.{minus, Parts, scan, digits_of, nearest, with_sign}
-use Rattle.std.specs.Float.{binary64, float_is_finite}
+use Rattle.fast_float.specs.Text.{Parts, with_sign}
 use Rattle.json.specs.Json as json
 use Rattle.json.specs.Tree as tree
 use Rattle.json.proofs.Printed.Decimals.{IsNumber-decimal, IsNumber-signed_decimal}
 use Rattle.json.proofs.Printed.Tokens.{tokens-print}
 use Rattle.json.proofs.Printed.Trees.{ArePrintable-json_tokens}
 use Rattle.serde_json.specs.Data.{Num, unsigned, negative, float, Data, number, array, object, Items, no_items, item, Members, no_members, member, put, depth}
-use Rattle.serde_json.specs.Read.{is_integer, float_of, number_from, number_of, of_json, of_items, of_members, max_depth, read}
+use Rattle.serde_json.specs.Read.{float_of, number_from, number_of, of_json, of_items, of_members, max_depth, read}
 use Rattle.serde_json.specs.Written.{number_text, outline, items_outline, members_outline, has_float, items_have_float, members_have_float, compact_text}
 use Rattle.serde_json.proofs.Numbers.{number_of-decimal, number_of-negative}
 use Rattle.value_tokens.specs.Adds.{Prints}
 use Rattle.value_tokens.specs.Printed.{reads_back}
 use Rattle.field_lines.proofs.Lean.{mapped, chained}
-use Rattle.field_lines.proofs.Utf8.{HasUtf8, ItemsHaveUtf8, MembersHaveUtf8, texts_utf8}
+use Rattle.field_lines.proofs.Utf8.{AreUtf8, utf8_parts, texts_utf8}
 use Rattle.field_lines.specs.Held.{is_held_number, comes_first, is_held, items_are_held, members_are_held, held_parts}
 
 -- ---- members that are put in stay in order
@@ -58,7 +57,7 @@ abbrev IsHeldNumber : Num → Type 0
 IsHeldNumber n = is_held_number n ≡ true
 
 float_held : (sign : Bool) (p : Parts) → IfSome (float_of sign p) IsHeldNumber
-float_held sign p = cond_both (float_is_finite (nearest binary64 sign p)) (Some (float (nearest binary64 sign p))) None (λ o. IfSome o IsHeldNumber) (λ _. refl) (λ _. tt)
+float_held sign p = grind arith
 
 below_zero : (n : ℕ) → nat_lt 0 n ≡ true → nat_le n (2 ^ 63) ≡ true → is_held_number (negative (with_sign true n)) ≡ true
 below_zero zero some small = absurd (true≢false (sym some))
@@ -66,34 +65,33 @@ below_zero (suc n) some small = small
 
 number_held : (s : List ℕ) → IfSome (number_of s) IsHeldNumber
 unfolding number_of
-number_held s =
-    cond_both (slice_index s 0 == minus) (number_from true (scan (drop 1 s))) (number_from false (scan s)) (λ o. IfSome o IsHeldNumber) (λ _. signed (scan (drop 1 s))) (λ _. plain (scan s))
+number_held s = grind (arith, plain, signed)
   where
     plain : (p : Parts) → IfSome (number_from false p) IsHeldNumber
-    plain p = cond_both (is_integer p && nat_lt (digits_of p) (2 ^ 64)) (Some (unsigned (digits_of p))) (float_of false p) (λ o. IfSome o IsHeldNumber)
-        (λ e. (and_parts (is_integer p) (nat_lt (digits_of p) (2 ^ 64)) e).1) (λ _. float_held false p)
+    plain p = grind (arith, float_held)
 
     signed : (p : Parts) → IfSome (number_from true p) IsHeldNumber
-    signed p = cond_both (is_integer p && nat_lt 0 (digits_of p) && nat_le (digits_of p) (2 ^ 63)) (Some (negative (with_sign true (digits_of p)))) (float_of true p) (λ o. IfSome o IsHeldNumber)
-        (λ e. let q = and_parts (is_integer p && nat_lt 0 (digits_of p)) _ e in below_zero (digits_of p) (and_parts (is_integer p) _ q.0).1 q.1) (λ _. float_held true p)
+    signed p = grind (arith, float_held, below_zero)
 
 mutual
-  json_held : (j : json.Json) → HasUtf8 j → IfSome (of_json j) (λ d. is_held d ≡ true)
+  json_held : (j : json.Json) → AreUtf8 (tree.json_tokens j) → IfSome (of_json j) (λ d. is_held d ≡ true)
   json_held (json.number s) u = mapped _ number (number_of s) (number_held s) (λ n h. h)
-  json_held (json.string s) u = is_utf8-from_IsUtf8 s u
-  json_held (json.array js) u = mapped _ array (of_items js) (items_held js u) (λ ds h. h)
-  json_held (json.object ms) u = mapped _ object (of_members ms no_members) (members_held ms no_members u refl) (λ ms h. h)
+  json_held (json.string s) u = is_utf8-from_IsUtf8 s u.0
+  json_held (json.array js) u = mapped _ array (of_items js) (items_held js u.1) (λ ds h. h)
+  json_held (json.object ms) u = mapped _ object (of_members ms no_members) (members_held ms no_members u.1 refl) (λ ms h. h)
   json_held _ u = refl
 
-  items_held : (js : json.Items) → ItemsHaveUtf8 js → IfSome (of_items js) (λ ds. items_are_held ds ≡ true)
+  items_held : (js : json.Items) → AreUtf8 (tree.items_tokens js) → IfSome (of_items js) (λ ds. items_are_held ds ≡ true)
   items_held json.no_items u = refl
   items_held (json.item j js) u =
-      chained _ (λ d. option_map (item d) (of_items js)) (of_json j) (json_held j u.0) (λ d h. mapped _ (item d) (of_items js) (items_held js u.1) (λ ds k. and_from _ _ h k))
+      let p = utf8_parts (tree.json_tokens j) (tree.items_tokens js) u in
+      chained _ (λ d. option_map (item d) (of_items js)) (of_json j) (json_held j p.0) (λ d h. mapped _ (item d) (of_items js) (items_held js p.1) (λ ds k. and_from _ _ h k))
 
-  members_held : (js : json.Members) (found : Members) → MembersHaveUtf8 js → members_are_held found ≡ true → IfSome (of_members js found) (λ ms. members_are_held ms ≡ true)
+  members_held : (js : json.Members) (found : Members) → AreUtf8 (tree.members_tokens js) → members_are_held found ≡ true → IfSome (of_members js found) (λ ms. members_are_held ms ≡ true)
   members_held json.no_members found u h = h
   members_held (json.member k j js) found u h =
-      chained _ (λ d. of_members js (put k d found)) (of_json j) (json_held j u.1) (λ d own. members_held js (put k d found) u.2 (put_held k d found (is_utf8-from_IsUtf8 k u.0) own h))
+      let p = utf8_parts (tree.json_tokens j) (tree.members_tokens js) u.1 in
+      chained _ (λ d. of_members js (put k d found)) (of_json j) (json_held j p.0) (λ d own. members_held js (put k d found) p.1 (put_held k d found (is_utf8-from_IsUtf8 k u.0) own h))
 
 -- what UTF-8 is read as is held
 pub read_held : (text : List ℕ) (d : Data) → is_utf8 text ≡ true → read text ≡ Some d → is_held d ≡ true

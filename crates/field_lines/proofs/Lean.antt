@@ -1,4 +1,4 @@
--- The value of a field is lean; a value that denotes a field is that field's value, if it is lean; and a line can say the field.
+-- A value that denotes a field is that field's value, if it is lean; and a line can say the field.
 use Rattle.std.proofs.Common.{◌≡◌, ℤ, pos, negsuc, List, [], ◌∷◌, Bool, true, cond, Option, Some, None, IfSome, IsTrue, IsUtf8, option_map, option_and_then, inl, inr, codes, bytes_eq, Less, Greater, nat_cmp, refl, sym, ap, ap₂, subst, ◌∙◌}
 use Rattle.std.proofs.lemmas.Cmp.{nat_list_cmp_total, tied_itself}
 use Rattle.std.proofs.lemmas.Bool.{and_from, and_parts, cond_both, false_from_ne_true}
@@ -13,46 +13,16 @@ use Rattle.serde_json.specs.Find.{of_integer, get_member, as_str, as_bool}
 use Rattle.serde_json.specs.Read.{read}
 use Rattle.arrow_values.specs.declared.tree.UnionMode.{UnionMode}
 use Rattle.arrow_values.specs.declared.tree.UnionMode.TheVariants.{Sparse, Dense}
-use Rattle.arrow_values.specs.Tree.{Text, Metadata, Tree, plain, list, large_list, fixed_size_list, struct, union, FieldTrees, no_fields, field, MemberTrees, no_members as no_union_members, member as union_member, FieldTree, field_tree}
+use Rattle.arrow_values.specs.Tree.{Text, Metadata, Tree, plain, struct, union, MemberTrees, FieldTree, field_tree}
 use Rattle.arrow_values.specs.Union.{is_type_id, are_distinct}
 use Rattle.arrow_columns.specs.Notation.{plain_name}
 use Rattle.field_lines.specs.Names.{plain_named, plain_types, mode_name}
 use Rattle.field_lines.specs.FieldOfValue.{field_from, integer_of, kept, is_size, size_of_value, id_of_value, mode_of_value, texts_in, metadata_of_value, field_before, member_before, list_of, large_list_of, fixed_size_list_of, tree_ids, union_of, are_keys, field_of_value, type_in, type_of_value, fields_of_value, fields_in, members_of_value, members_in}
-use Rattle.field_lines.specs.Line.{texts_value, with_metadata, parts_value, one_key, two_keys, type_value, fields_value, members_value, value_of_field, field_of_line}
+use Rattle.field_lines.specs.Line.{texts_value, with_metadata, one_key, two_keys, type_value, fields_value, members_value, value_of_field, field_of_line}
 use Rattle.field_lines.specs.LineForm.{HasLineForm, FieldsHaveLineForm, MembersHaveLineForm}
 use Rattle.field_lines.proofs.TokenMembers.{get_member-at, with_key}
 use Rattle.field_lines.proofs.TokenTexts.{text_says}
 use Rattle.field_lines.specs.Lean.{field_keys, HaveKeysOf, IsLean, AreLean, HasLeanType, IsLeanType}
-
--- ---- the value of a field is lean
-
-lean_parts : (n : Text) (d : Data) (b : Bool) (m : Metadata) → IsLeanType d → IsLean (parts_value n d b m)
-lean_parts n d b [] h = (inr (inl (refl, inl (refl, inl (refl, tt)))), (λ e. tt, (λ e. tt, (λ e. h, tt))), λ e. cc)
-lean_parts n d b (e ∷ es) h = (inl (refl, inl (refl, inl (refl, inl (refl, tt)))), (λ e. absurd (cc), (λ e. tt, (λ e. tt, (λ e. h, tt)))), λ e. cc)
-
-lean_integer : (z : ℤ) → IsLean (number (of_integer z))
-lean_integer (pos n) = tt
-lean_integer (negsuc n) = tt
-
-mutual
-  lean_type : (t : Tree) → IsLeanType (type_value t)
-  lean_type (plain p) = tt
-  lean_type (list n t b m) = (lean_parts n (type_value t) b m (lean_type t), tt)
-  lean_type (large_list n t b m) = (lean_parts n (type_value t) b m (lean_type t), tt)
-  lean_type (fixed_size_list n t b m s) = (lean_parts n (type_value t) b m (lean_type t), (lean_integer s, tt))
-  lean_type (struct fs) = (lean_fields fs, tt)
-  lean_type (union ms mode) = (tt, (lean_members ms, tt))
-
-  lean_fields : (fs : FieldTrees) → AreLean (fields_value fs)
-  lean_fields no_fields = tt
-  lean_fields (field n t b m fs) = (lean_parts n (type_value t) b m (lean_type t), lean_fields fs)
-
-  lean_members : (ms : MemberTrees) → AreLean (members_value ms)
-  lean_members no_union_members = tt
-  lean_members (union_member i n t b m ms) = ((lean_integer i, (lean_parts n (type_value t) b m (lean_type t), tt)), lean_members ms)
-
-pub value_is_lean : (f : FieldTree) → IsLean (value_of_field f)
-value_is_lean f = lean_parts f.name (type_value f.tree) f.nullable f.metadata (lean_type f.tree)
 
 -- ---- members of a field's keys alone are what is found under these keys
 
@@ -101,9 +71,12 @@ pub chained : {A B : Type 0} {P : A → Type 0} (Q : B → Type 0) (f : A → Op
 chained Q f None h k = tt
 chained Q f (Some x) h k = k x h
 
-anything : {A : Type 0} (o : Option A) → IfSome o (λ _. Unit {0})
-anything None = tt
-anything (Some x) = tt
+pub either : {A : Type 0} (P : A → Type 0) (b : Bool) (x y : A) → P x → P y → P (cond b x y)
+either P b x y p q = cond_both b x y P (λ _. p) (λ _. q)
+
+pub if_some : {A : Type 0} (P : A → Type 0) (o : Option A) → ((x : A) → o ≡ Some x → P x) → IfSome o P
+if_some P None h = tt
+if_some P (Some x) h = h x refl
 
 -- what stands at a key, by what is read there
 there : {A : Type 0} (f : Data → Option A) (g : A → Data) → ((d : Data) → IfSome (f d) (λ x. d ≡ g x)) → (o : Option Data)
@@ -271,7 +244,7 @@ lean_value_is f d lean is = let says = subst (λ o. IfSome o (SaysField d)) is (
 pub line_form : (line : Text) (o : Option FieldTree) → o ≡ field_of_line line → IfSome o (λ f. HasLineForm f.tree)
 line_form line o is =
     subst (λ x. IfSome x (λ f. HasLineForm f.tree)) (sym is)
-    (chained _ field_of_value (cond (is_utf8 line) (read line) None) (anything _) (λ d _. IfSome_then (field_of_value d) (field_says d) (λ f h. h.0)))
+    (chained _ field_of_value (cond (is_utf8 line) (read line) None) (if_some (λ _. Unit {0}) _ (λ d is. tt)) (λ d _. IfSome_then (field_of_value d) (field_says d) (λ f h. h.0)))
 
 pub line_field : (line : Text) → IsUtf8 line → field_of_line line ≡ option_and_then field_of_value (read line)
 line_field line h = ap (λ b. option_and_then field_of_value (cond b (read line) None)) (is_utf8-from_IsUtf8 line h)

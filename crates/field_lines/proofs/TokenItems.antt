@@ -1,5 +1,5 @@
 -- The items of a list from tokens: what is left decides.
-use Rattle.std.proofs.Common.{◌≡◌, ℕ, ◌≤◌, ℤ, List, [], ◌∷◌, ◌++◌, ◌+◌, length, length-append, IsTrue, Option, Some, None, option_map, option_and_then, refl, sym, ap, ◌∙◌, arith}
+use Rattle.std.proofs.Common.{◌≡◌, ℕ, ◌≤◌, ℤ, List, [], ◌∷◌, ◌++◌, ◌+◌, length, length-append, append_assoc, append-nil, IsTrue, Option, Some, None, option_map, option_and_then, refl, sym, ap, ◌∙◌, arith}
 use Rattle.std.proofs.lemmas.Bool.{and_from}
 use Rattle.std.proofs.lemmas.List.Folds.{list_all-append}
 use Rattle.std.proofs.lemmas.Iterator.Adapters.{option_map_id}
@@ -38,73 +38,50 @@ item_taken depth ts {s} {r} read going =
     let value = ap (next_value depth) (sym going.1) ∙ read.1 in
     (read.0, item_read depth ts r read.0 going.0 value, read.2, value)
 
--- ---- what the items so far made stands before what those that are left make
+-- ---- the items so far made these, which stand before what those that are left make
 
-abbrev pub before : {X T : Type 0} → (X → T → T) → List X → T → T
-before step [] rest = rest
-before step (x ∷ xs) rest = step x (before step xs rest)
-
-pub record AreItemsTaken {X T : Type 0} (step : X → T → T) (whole : Items → Option T) (depth : _) (all left : List Token) (made : List X) : Type 0 where
+pub record AreItemsTaken {X T : Type 0} (trees : List X → T) (whole : Items → Option T) (depth : _) (all left : List Token) (made : List X) : Type 0 where
   pub front : Items → Items
   pub decides : next_items depth all ≡ parse_map front (next_items depth left)
-  pub items : (ds : Items) → whole (front ds) ≡ option_map (before step made) (whole ds)
+  pub some : (ds : Items) (xs : List X) → whole ds ≡ Some (trees xs) → whole (front ds) ≡ Some (trees (made ++ xs))
+  pub none : (ds : Items) → whole ds ≡ None → whole (front ds) ≡ None
   pub fewer : length left ≤ length all
 
 nested : (front : Items → Items) (d : Data) (o : Option (Items × List Token)) → parse_map front (parse_map (item d) o) ≡ parse_map (λ ds. front (item d ds)) o
 nested front d None = refl
 nested front d (Some p) = refl
 
-pub taken_start : {X T : Type 0} {step : X → T → T} {whole : Items → Option T} {depth : ℕ} {all : List Token} {made : List X} → made ≡ [] → AreItemsTaken step whole depth all all made
-taken_start {step = step} {whole} {depth} {all} none = record {
-  front = λ ds. ds;
-  decides = sym (option_map_id (next_items depth all));
-  items = λ ds. sym (ap (λ l. option_map (before step l) (whole ds)) none ∙ option_map_id (whole ds));
-  fewer = omega arith;
-}
+pub taken_start : {X T : Type 0} {trees : List X → T} {whole : Items → Option T} {depth : ℕ} {all : List Token} {made : List X} → made ≡ [] → AreItemsTaken trees whole depth all all made
+taken_start {depth = depth} {all} is = rw is (record { front = λ ds. ds; decides = sym (option_map_id (next_items depth all)); some = λ ds xs e. e; none = λ ds e. e; fewer = omega arith })
 
-module _ {X T : Type 0} (step : X → T → T) where
-  before_push : (xs : List X) (x : X) (rest : T) → before step (xs ++ (x ∷ [])) rest ≡ before step xs (step x rest)
-  before_push [] x rest = refl
-  before_push (y ∷ xs) x rest = ap (step y) (before_push xs x rest)
-
-  one_more : (made : List X) (x : X) (o : Option T) → option_map (before step made) (option_map (step x) o) ≡ option_map (before step (made ++ (x ∷ []))) o
-  one_more made x None = refl
-  one_more made x (Some rest) = ap Some (sym (before_push made x rest))
-
-  before_all : (trees : List X → T) → ((x : X) (xs : List X) → trees (x ∷ xs) ≡ step x (trees xs)) → (xs : List X) → before step xs (trees []) ≡ trees xs
-  before_all trees more [] = refl
-  before_all trees more (x ∷ xs) = ap (step x) (before_all trees more xs) ∙ sym (more x xs)
-
-module _ {X T : Type 0} {step : X → T → T} {whole : Items → Option T} {depth : ℕ} {all left : List Token} {made : List X} (way : AreItemsTaken step whole depth all left made) where
-  pub taken_end : {r : List Token} (trees : List X → T) → whole no_items ≡ Some (trees []) → ((x : X) (xs : List X) → trees (x ∷ xs) ≡ step x (trees xs)) → after_end_array left ≡ Some r
-      → ReadsItems whole depth all (Some (trees made)) r
-  taken_end {r} trees none more over = (
+module _ {X T : Type 0} {trees : List X → T} {whole : Items → Option T} {depth : ℕ} {all left : List Token} {made : List X} (way : AreItemsTaken trees whole depth all left made) where
+  pub taken_end : {r : List Token} → whole no_items ≡ Some (trees []) → after_end_array left ≡ Some r → ReadsItems whole depth all (Some (trees made)) r
+  taken_end {r} none over = (
     way.front no_items,
     way.decides ∙ ap (parse_map way.front) (items_over depth left r over),
-    sym (way.items no_items ∙ ap (option_map (before step made)) none ∙ ap Some (before_all step trees more made)),
+    ap (λ xs. Some (trees xs)) (sym (append-nil made)) ∙ sym (way.some no_items [] none),
   )
 
   -- with how an item is read before the others
-  module _ (item_of : Data → Option X) (law : (d : Data) (ds : Items) → whole (item d ds) ≡ option_and_then (λ x. option_map (step x) (whole ds)) (item_of d)) where
-    pub taken_go_on : {s r : List Token} {x : X} {new : List X} → ReadsValue item_of depth s (Some x) r → new ≡ made ++ (x ∷ []) → GoesOn left s → AreItemsTaken step whole depth all r new
+  module _ (step : X → T → T) (item_of : Data → Option X) (more : (x : X) (xs : List X) → step x (trees xs) ≡ trees (x ∷ xs))
+      (law : (d : Data) (ds : Items) → whole (item d ds) ≡ option_and_then (λ x. option_map (step x) (whole ds)) (item_of d)) where
+    pub taken_go_on : {s r : List Token} {x : X} {new : List X} → ReadsValue item_of depth s (Some x) r → new ≡ made ++ (x ∷ []) → GoesOn left s → AreItemsTaken trees whole depth all r new
     taken_go_on {s} {r} {x} {new} read is going =
         let one = item_taken depth left read going in
         let less = value_takes depth left r one.0 one.3 in
         record {
           front = λ ds. way.front (item one.0 ds);
           decides = way.decides ∙ ap (parse_map way.front) one.1 ∙ nested way.front one.0 (next_items depth r);
-          items = λ ds. rw (way.items (item one.0 ds), law one.0 ds, ← one.2, is) (one_more step made x (whole ds));
+          some = λ ds xs e. rw (is, append_assoc made (x ∷ []) xs) (way.some (item one.0 ds) (x ∷ xs) (rw (law one.0 ds, ← one.2, e) (ap Some (more x xs))));
+          none = λ ds e. way.none (item one.0 ds) (rw (law one.0 ds, ← one.2, e));
           fewer = omega (arith, way.fewer);
         }
 
     pub taken_spoiled : {s u r : List Token} → ReadsValue item_of depth s None u → after (next_items depth u) ≡ Some r → GoesOn left s → ReadsItems whole depth all None r
     taken_spoiled {s} {u} {r} read rest going =
         let one = item_taken depth left read going in
-        let ds = after_some (next_items depth u) r rest in (
-          way.front (item one.0 ds.0),
-          way.decides ∙ ap (parse_map way.front) (one.1 ∙ ap (parse_map (item one.0)) ds.1),
-          sym (way.items (item one.0 ds.0) ∙ ap (option_map (before step made)) (law one.0 ds.0 ∙ ap (option_and_then (λ x. option_map (step x) (whole ds.0))) (sym one.2))),
-        )
+        let ds = after_some (next_items depth u) r rest in
+        (way.front (item one.0 ds.0), way.decides ∙ ap (parse_map way.front) (one.1 ∙ ap (parse_map (item one.0)) ds.1), sym (way.none (item one.0 ds.0) (rw (law one.0 ds.0, ← one.2))))
 
 -- ---- the pairs of a union
 
@@ -127,3 +104,5 @@ zip_push _ _ i f h = absurd (omega arith)
 
 pub parts_push : (ids : List ℤ) (fs : List FieldTree) (i : ℤ) (f : FieldTree) → AreMemberParts ids fs → IsTrue (is_type_id i) → AreMemberParts (ids ++ (i ∷ [])) (fs ++ (f ∷ []))
 parts_push ids fs i f parts good = (simp length-append (ap (λ n. n + 1) parts.0), list_all-append is_type_id ids (i ∷ []) ∙ and_from _ _ parts.1 (and_from _ _ good refl))
+
+pub ruleset taking_items = (item_turn, taken_start)

@@ -14,7 +14,7 @@ use Rattle.serde_json.specs.Data.{Data, string, object, Members, no_members, mem
 use Rattle.serde_json.specs.Find.{get_member, as_str, as_bool, as_object}
 use Rattle.arrow_values.specs.Tree.{Text, Metadata, Tree, FieldTree}
 use Rattle.field_lines.specs.FieldOfValue.{under, metadata_of_value, field_from, field_of_value, type_in, type_of_value, are_keys}
-use Rattle.field_lines.specs.Keys.{only_at, pair_at, fixed_size_list_at, union_at}
+use Rattle.field_lines.specs.Keys.{keyed_at, only_at, pair_at, fixed_size_list_at, union_at}
 use Rattle.value_tokens.specs.Next.{next_value, next_members, ReadsMembers, next_after, after, ReadsValue, ReadsAfter}
 use Rattle.value_tokens.specs.Turns.{no_value, object_too_deep, value-object, member_read, members_over, value_takes, key_refused, after_some, taken, named}
 use Rattle.value_tokens.specs.Presence.{get_member-put_at, Has, kept, has_new, has_taken}
@@ -134,22 +134,23 @@ skipped depth found k s {u} {r} passed rest =
 
 -- ---- one key
 
-pub record IsOnlyUnderWay {A : Type 0} (f : Data → Option A) (depth : _) (only : Text) (all left : List Token) (answer : Option A) : Type 0 where
+pub record IsOnlyUnderWay (depth : _) (only : Text) (all left : List Token) (answer : Option Tree) : Type 0 where
   pub value : Data
   pub decides : next_after depth no_members only all ≡ next_members depth (member only value no_members) left
-  pub answers : answer ≡ f value
+  pub answers : answer ≡ keyed_at only value
   pub fewer : length left < length all
 
 put_only : (k : Text) (d e : Data) → put k d (member k e no_members) ≡ member k d no_members
 put_only k d e = rw (tied_itself nat_list_cmp_total k)
 
 -- another key beside it
-spoiled : {A : Type 0} (f : Data → Option A) (only k : Text) (ms : Members) → (k ≡ only → ⊥) → Has k ms → None ≡ only_at f only ms
-spoiled f only k (member l d no_members) other h = rw (apart l only (λ is. other (only_key k l d h ∙ is)))
-spoiled f only k _ other h = refl
+spoiled : (only k : Text) (ms : Members) → (k ≡ only → ⊥) → Has k ms → None ≡ only_at only ms
+spoiled only k (member l d no_members) other h = rw (apart l only (λ is. other (only_key k l d h ∙ is)))
+spoiled only k _ other h = refl
 
-module _ {A : Type 0} {f : Data → Option A} {depth : ℕ} {only : Text} {all left s : List Token} {answer : Option A} (way : IsOnlyUnderWay f depth only all left answer) where
-  pub only_go_on : {k : Text} {r : List Token} {new : Option A} {b : Bool} → read_key left ≡ Some (Some k, s) → b ≡ not (bytes_eq k only) → b ≡ false → ReadsValue f depth s new r → IsOnlyUnderWay f depth only all r new
+module _ {depth : ℕ} {only : Text} {all left s : List Token} {answer : Option Tree} (way : IsOnlyUnderWay depth only all left answer) where
+  pub only_go_on : {k : Text} {r : List Token} {new : Option Tree} {b : Bool} → read_key left ≡ Some (Some k, s) → b ≡ not (bytes_eq k only) → b ≡ false → ReadsValue (keyed_at only) depth s new r
+      → IsOnlyUnderWay depth only all r new
   only_go_on {k} {r} named e same read =
       let is : k ≡ only = (bytes_eq-Decides k only).0 (not-false _ (sym e ∙ same)) in
       record {
@@ -160,15 +161,15 @@ module _ {A : Type 0} {f : Data → Option A} {depth : ℕ} {only : Text} {all l
         fewer = omega (arith, way.fewer, member_takes depth left s r k read.0 named read.1);
       }
 
-  pub only_end : read_key left ≡ Some (None, s) → ReadsAfter (only_at f only) depth no_members only all answer s
+  pub only_end : read_key left ≡ Some (None, s) → ReadsAfter (only_at only) depth no_members only all answer s
   only_end over = (member only way.value no_members, way.decides ∙ members_over depth (member only way.value no_members) left s over, way.answers ∙ rw ((bytes_eq-Decides only only).1 refl))
 
   pub only_spoiled : {k : Text} {u r : List Token} {b : Bool} → read_key left ≡ Some (Some k, s) → b ≡ not (bytes_eq k only) → b ≡ true → after (next_value depth s) ≡ Some u
-      → ((found : Members) → after (next_members depth found u) ≡ Some r) → ReadsAfter (only_at f only) depth no_members only all None r
+      → ((found : Members) → after (next_members depth found u) ≡ Some r) → ReadsAfter (only_at only) depth no_members only all None r
   only_spoiled {k} came e differs passed rest =
       let ms = skipped depth (member only way.value no_members) k s passed rest in
       let other = λ (is : k ≡ only). both_ways _ (not-true _ (sym e ∙ differs)) ((bytes_eq-Decides k only).1 is) in
-      (ms.0, way.decides ∙ named depth (member only way.value no_members) k left s came ∙ ms.1, spoiled f only k ms.0 other ms.2)
+      (ms.0, way.decides ∙ named depth (member only way.value no_members) k left s came ∙ ms.1, spoiled only k ms.0 other ms.2)
 
 -- ---- two keys
 
@@ -268,12 +269,10 @@ nothing_at_two q k l d e size mode h =
     let one = either_key q k l d e h in
     rw (is_no_pair q k l (codes "fixed_size_list") (codes "size") size one, is_no_pair q k l (codes "mode") (codes "union") mode one)
 
-as_one : {A : Type 0} (f : Data → Option A) (w : A → Tree) (q : Text) → IsNoSize q → IsNoMode q → ((d : Data) → option_map w (only_at f q (member q d no_members)) ≡ type_of_value (object (member q d no_members)))
-    → (ms : Members) → Has q ms → option_map w (only_at f q ms) ≡ type_of_value (object ms)
-as_one f w q size mode own (member k d no_members) h =
-    subst (λ n. option_map w (only_at f q (member n d no_members)) ≡ type_of_value (object (member n d no_members))) (only_key q k d h) (own d)
-as_one f w q size mode own (member k d (member l e no_members)) h = nothing_at_two q k l d e size mode h
-as_one f w q size mode own _ h = refl
+pub as_only : (q : Text) (ms : Members) → (q ≡ codes "fixed_size_list" → ⊥) → (q ≡ codes "size" → ⊥) → (q ≡ codes "mode" → ⊥) → (q ≡ codes "union" → ⊥) → Has q ms → only_at q ms ≡ type_of_value (object ms)
+as_only q (member k d no_members) fixed size mode union h = rw (← only_key q k d h, (bytes_eq-Decides q q).1 refl)
+as_only q (member k d (member l e no_members)) fixed size mode union h = nothing_at_two q k l d e (apart q _ fixed, apart q _ size) (apart q _ mode, apart q _ union) h
+as_only q _ fixed size mode union h = refl
 
 pub as_fixed_size_list : (q : Text) (ms : Members) → (q ≡ codes "fixed_size_list") ⊎ (q ≡ codes "size") → Has q ms → fixed_size_list_at ms ≡ type_of_value (object ms)
 as_fixed_size_list q (member k d no_members) one h = nothing_at_one q k d (either_is IsNoOne one (refl, refl, refl) (refl, refl, refl)) h
@@ -287,25 +286,15 @@ as_union q (member k d (member l e no_members)) one h =
     rw (is_no_pair q k l (codes "fixed_size_list") (codes "size") (either_is IsNoSize one (refl, refl) (refl, refl)) (either_key q k l d e h))
 as_union q _ one h = refl
 
-as_nothing : (q : Text) (ms : Members) → IsNoOne q → IsNoSize q → IsNoMode q → Has q ms → None ≡ type_of_value (object ms)
-as_nothing q (member k d no_members) one size mode h = nothing_at_one q k d one h
-as_nothing q (member k d (member l e no_members)) one size mode h = nothing_at_two q k l d e size mode h
-as_nothing q _ one size mode h = refl
-
 -- an answer by one definition is one by another, where they agree on what has the key
 pub taken_as : {A : Type 0} {f g : Members → A} (depth : ℕ) (ts : List Token) {k : Text} {s r : List Token} {o : A} → read_key ts ≡ Some (Some k, s) → ((ms : Members) → Has k ms → f ms ≡ g ms) → ReadsAfter f depth no_members k s o r
     → ReadsMembers g depth no_members ts o r
 taken_as depth ts {k} {s} {r} came same read = (read.0, named depth no_members k ts s came ∙ read.1, read.2 ∙ same read.0 (has_taken depth k no_members read.0 s r read.1))
 
-pub only_taken : {A : Type 0} {f : Data → Option A} (w : A → Tree) (o : Option A) (depth : ℕ) (ts : List Token) {k : Text} {s r : List Token} → read_key ts ≡ Some (Some k, s) → IsNoSize k → IsNoMode k
-    → ((d : Data) → option_map w (only_at f k (member k d no_members)) ≡ type_of_value (object (member k d no_members))) → ReadsAfter (only_at f k) depth no_members k s o r
-    → ReadsMembers (λ ms. type_of_value (object ms)) depth no_members ts (option_map w o) r
-only_taken {f = f} w o depth ts {k} came size mode own read = taken_as depth ts came (as_one f w k size mode own) (read.0, read.1, ap (option_map w) read.2)
+-- what stands at the one key
+pub keyed_read : {A : Type 0} {f : Data → Option A} (w : A → Tree) (k : Text) (depth : ℕ) (ts : List Token) {r : List Token} {o : Option A} → ReadsValue f depth ts o r → ((d : Data) → option_map w (f d) ≡ keyed_at k d)
+    → ReadsValue (keyed_at k) depth ts (option_map w o) r
+keyed_read w k depth ts read law = (read.0, read.1, ap (option_map w) read.2 ∙ law read.0)
 
-pub none_taken_as : (depth : ℕ) (ts : List Token) {k : Text} {s u r : List Token} → read_key ts ≡ Some (Some k, s) → (k ≡ codes "list" → ⊥) → (k ≡ codes "large_list" → ⊥) → (k ≡ codes "struct" → ⊥) → (k ≡ codes "fixed_size_list" → ⊥)
-    → (k ≡ codes "size" → ⊥) → (k ≡ codes "mode" → ⊥) → (k ≡ codes "union" → ⊥) → after (next_value depth s) ≡ Some u → ((found : Members) → after (next_members depth found u) ≡ Some r)
-    → ReadsMembers (λ ms. type_of_value (object ms)) depth no_members ts None r
-none_taken_as depth ts {k} {s} came list large struct fixed size mode union passed rest =
-    let ms = skipped depth no_members k s passed rest in
-    let none = as_nothing k ms.0 (apart k _ list, apart k _ large, apart k _ struct) (apart k _ fixed, apart k _ size) (apart k _ mode, apart k _ union) ms.2 in
-    (ms.0, named depth no_members k ts s came ∙ ms.1, none)
+pub not_keyed : (k : Text) (d : Data) → (k ≡ codes "list" → ⊥) → (k ≡ codes "large_list" → ⊥) → (k ≡ codes "struct" → ⊥) → None ≡ keyed_at k d
+not_keyed k d list large struct = rw (apart k _ list, apart k _ large, apart k _ struct)

@@ -1,6 +1,7 @@
 -- The texts of what UTF-8 is read as are UTF-8, and so is the compact text of what is held.
-use Rattle.std.proofs.Common.{◌≡◌, ℕ, zero, suc, ◌+◌, ◌-◌, ◌*◌, ◌<◌, ◌==◌, ◌&&◌, List, [], ◌∷◌, ◌++◌, length, take, get_or, Bool, true, false, cond, Option, Some, None, IfSome, option_and_then, IsUtf8, refl, sym, subst, arith, append_assoc, append-nil, length-append, eqb-true, ltb-true}
+use Rattle.std.proofs.Common.{◌≡◌, ℕ, ◌+◌, ◌-◌, ◌<◌, ◌==◌, ◌&&◌, List, [], ◌∷◌, ◌++◌, length, take, get_or, Bool, true, false, cond, Option, Some, None, IfSome, option_and_then, IsUtf8, refl, sym, subst, arith, append_assoc, append-nil, length-append, eqb-true, ltb-true}
 use Rattle.std.specs.Prelude.{⊤, nat_lt}
+use Rattle.std.specs.List.{AllByRecursion}
 use Rattle.std.specs.Char.{is_digit, digit_value, encode_utf8, IsScalar}
 use Rattle.std.proofs.lemmas.Bool.{and_parts, cond_both}
 use Rattle.std.proofs.lemmas.Option.{IfSome_then}
@@ -9,11 +10,13 @@ use lib.Seq.{take-append_seam, drop-append-add, get_or-append_seam}
 use lib.Utf8.{low_scalar}
 use Rattle.json.specs.Token.{Token}
 use Rattle.json.specs.Text.{plain, after_backslash, after_u, after_high, content, code_unit, short_escape, is_high_surrogate, is_low_surrogate, surrogate_pair, prepend}
-use Rattle.json.specs.Word.{is_operator, is_space, head, ends_word, literal, after_number, number_before, word}
+use Rattle.json.specs.Word.{head, ends_word, literal, after_number, number_before, word}
 use Rattle.json.specs.Ascii.{true_text, false_text, null_text}
 use Rattle.json.specs.Lex.{Lexeme, token, comma, colon, Class, class, quote, backslash, operator, space, other, Mode, between, in_word, in_string, in_escape, string_token, operator_lexeme, lex_byte, lex, Place, fresh, after_value, after_comma, after_key, begins_colon, if_allowed, place_token, punctuate, tokens}
 use Rattle.json.specs.Json as json
-use Rattle.field_lines.proofs.Lean.{mapped, chained}
+use Rattle.json.specs.Tree.{json_tokens}
+use Rattle.json.proofs.Unique.Spelling.{value-json_tokens_back}
+use Rattle.field_lines.proofs.Lean.{mapped, chained, if_some, either}
 
 -- ---- UTF-8 around an ASCII byte
 
@@ -48,32 +51,18 @@ escaped : (x : ℕ) → IfSome (short_escape x) (λ c. (c < 128) × (x < 128))
 unfolding short_escape
 escaped x = grind arith
 
-record Digits (a b c d u : ℕ) : Type 0 where
-  pub first : a < 128
-  pub second : b < 128
-  pub third : c < 128
-  pub fourth : d < 128
-  pub unit : u < 65536
+abbrev Digits : ℕ → ℕ → ℕ → ℕ → ℕ → Type 0
+Digits a b c d u = (a < 128) × (b < 128) × (c < 128) × (d < 128) × (u < 65536)
 
 digit_small : (c : ℕ) → is_digit c 16 ≡ true → (c < 128) × (digit_value c < 16)
 digit_small c e = (grind arith, ltb-true _ _ e)
 
 four_digits : (a b c d : ℕ) → IfSome (code_unit a b c d) (Digits a b c d)
 unfolding code_unit
-four_digits a b c d =
-    cond_both (is_digit a 16 && is_digit b 16 && is_digit c 16 && is_digit d 16) (Some (digit_value a * 4096 + digit_value b * 256 + digit_value c * 16 + digit_value d)) None (λ o. IfSome o (Digits a b c d))
-    (λ e.
-    let p = and_parts (is_digit a 16 && is_digit b 16 && is_digit c 16) (is_digit d 16) e in
-    let q = and_parts (is_digit a 16 && is_digit b 16) (is_digit c 16) p.0 in
-    let r = and_parts (is_digit a 16) (is_digit b 16) q.0 in
-    let da = digit_small a r.0 in
-    let db = digit_small b r.1 in
-    let dc = digit_small c q.1 in
-    let dd = digit_small d p.1 in
-    record { first = da.0; second = db.0; third = dc.0; fourth = dd.0; unit = omega (arith, da.1, db.1, dc.1, dd.1) }) (λ _. tt)
+four_digits a b c d = grind (arith, digit_small)
 
-after_four : (a b c d u : ℕ) (xs : List ℕ) → Digits a b c d u → IsUtf8 (a ∷ b ∷ c ∷ d ∷ xs) → IsUtf8 xs
-after_four a b c d u xs h t = utf8_tail d xs h.fourth (utf8_tail c _ h.third (utf8_tail b _ h.second (utf8_tail a _ h.first t)))
+after_four : {a b c d u : ℕ} (xs : List ℕ) → Digits a b c d u → IsUtf8 (a ∷ b ∷ c ∷ d ∷ xs) → IsUtf8 xs
+after_four xs h t = utf8_tail _ xs h.3 (utf8_tail _ _ h.2 (utf8_tail _ _ h.1 (utf8_tail _ _ h.0 t)))
 
 -- a code unit that is no surrogate, and a pair of surrogates, are the code of a character
 no_surrogate : (u : ℕ) → u < 65536 → is_high_surrogate u ≡ false → is_low_surrogate u ≡ false → IsScalar u
@@ -108,32 +97,24 @@ mutual
       (λ c h. mapped IsUtf8 (λ s. c ∷ s) (content plain xs) (in_plain xs [] (utf8_tail x xs h.1 u)) (λ s k. ascii_then c s h.0 k)))
 
   in_u : (xs : List ℕ) → IsUtf8 xs → IfSome (content after_u xs) IsUtf8
-  in_u [] u = tt
-  in_u (a ∷ []) u = tt
-  in_u (a ∷ b ∷ []) u = tt
-  in_u (a ∷ b ∷ c ∷ []) u = tt
   in_u (a ∷ b ∷ c ∷ d ∷ xs) u =
       chained IsUtf8 _ (code_unit a b c d) (four_digits a b c d)
-      (λ w h. let rest = after_four a b c d w xs h u in
+      (λ w h. let rest = after_four xs h u in
       cond_both (is_high_surrogate w) (content (after_high w) xs) _ (λ o. IfSome o IsUtf8) (λ high. in_high w xs high rest)
       (λ high. cond_both (is_low_surrogate w) None _ (λ o. IfSome o IsUtf8) (λ _. tt)
-      (λ low. encoded w (content plain xs) (no_surrogate w h.unit high low) (in_plain xs [] rest))))
+      (λ low. encoded w (content plain xs) (no_surrogate w h.4 high low) (in_plain xs [] rest))))
+  in_u _ u = tt
 
   in_high : (high : ℕ) (xs : List ℕ) → is_high_surrogate high ≡ true → IsUtf8 xs → IfSome (content (after_high high) xs) IsUtf8
-  in_high high [] is u = tt
-  in_high high (s ∷ []) is u = tt
-  in_high high (s ∷ t ∷ []) is u = tt
-  in_high high (s ∷ t ∷ a ∷ []) is u = tt
-  in_high high (s ∷ t ∷ a ∷ b ∷ []) is u = tt
-  in_high high (s ∷ t ∷ a ∷ b ∷ c ∷ []) is u = tt
   in_high high (s ∷ t ∷ a ∷ b ∷ c ∷ d ∷ xs) is u =
       cond_both ((s == 92) && (t == 117)) _ None (λ o. IfSome o IsUtf8)
       (λ e. let p = and_parts (s == 92) (t == 117) e in
       let begun = utf8_tail t _ (equals t 117 (omega arith) p.1) (utf8_tail s _ (equals s 92 (omega arith) p.0) u) in
       chained IsUtf8 _ (code_unit a b c d) (four_digits a b c d)
       (λ w h. cond_both (is_low_surrogate w) _ None (λ o. IfSome o IsUtf8)
-      (λ low. encoded (surrogate_pair high w) (content plain xs) (pair_of high w is low) (in_plain xs [] (after_four a b c d w xs h begun)))
+      (λ low. encoded (surrogate_pair high w) (content plain xs) (pair_of high w is low) (in_plain xs [] (after_four xs h begun)))
       (λ _. tt))) (λ _. tt)
+  in_high high _ is u = tt
 
 -- ---- the tokens of a text
 
@@ -142,9 +123,12 @@ IsUtf8Token (Token.key s) = IsUtf8 s
 IsUtf8Token (Token.string s) = IsUtf8 s
 IsUtf8Token _ = ⊤
 
-abbrev AreUtf8 : List Token → Type 0
-AreUtf8 [] = ⊤
-AreUtf8 (t ∷ ts) = IsUtf8Token t × AreUtf8 ts
+abbrev pub AreUtf8 : List Token → Type 0
+AreUtf8 ts = AllByRecursion IsUtf8Token ts
+
+pub utf8_parts : (ts us : List Token) → AreUtf8 (ts ++ us) → AreUtf8 ts × AreUtf8 us
+utf8_parts [] us u = (tt, u)
+utf8_parts (t ∷ ts) us u = let p = utf8_parts ts us u.1 in ((u.0, p.0), p.1)
 
 abbrev IsUtf8Lexeme : Lexeme → Type 0
 IsUtf8Lexeme (token t) = IsUtf8Token t
@@ -152,28 +136,17 @@ IsUtf8Lexeme comma = ⊤
 IsUtf8Lexeme colon = ⊤
 
 abbrev AreUtf8Lexemes : List Lexeme → Type 0
-AreUtf8Lexemes [] = ⊤
-AreUtf8Lexemes (l ∷ ls) = IsUtf8Lexeme l × AreUtf8Lexemes ls
+AreUtf8Lexemes ls = AllByRecursion IsUtf8Lexeme ls
 
 string_ok : (o : Option (List ℕ)) → IfSome o IsUtf8 → IsUtf8Token (string_token o)
 string_ok None h = tt
 string_ok (Some s) h = h
 
 operator_ok : (x : ℕ) → IsUtf8Lexeme (operator_lexeme x)
-operator_ok x = by (x == 123) (x == 125) (x == 91) (x == 93) (x == 44)
-  where
-    by : (a b c d e : Bool)
-        → IsUtf8Lexeme (cond a (token Token.begin_object) (cond b (token Token.end_object) (cond c (token Token.begin_array) (cond d (token Token.end_array) (cond e comma colon)))))
-    by true b c d e = tt
-    by false true c d e = tt
-    by false false true d e = tt
-    by false false false true e = tt
-    by false false false false true = tt
-    by false false false false false = tt
+operator_ok x = grind arith
 
 literal_ok : (b : Bool) (t : Token) → IsUtf8Token t → IsUtf8Token (cond b t Token.bad)
-literal_ok true t h = h
-literal_ok false t h = tt
+literal_ok b t h = either IsUtf8Token b t Token.bad h tt
 
 number_ok : (t : List ℕ) (o : Option (List ℕ)) → IsUtf8Token (number_before t o)
 number_ok t None = tt
@@ -182,20 +155,13 @@ number_ok t (Some rest) = literal_ok (ends_word rest) (Token.number (take (lengt
 word_ok : (t : List ℕ) → IsUtf8Token (word t)
 unfolding word
 word_ok t =
-    by (head t == 116) (head t == 102) (head t == 110) (literal true_text (Token.boolean true) t) (literal false_text (Token.boolean false) t) (literal null_text Token.null t) (number_before t (after_number t))
-    (literal_ok _ (Token.boolean true) tt) (literal_ok _ (Token.boolean false) tt) (literal_ok _ Token.null tt) (number_ok t (after_number t))
-  where
-    by : (a b c : Bool) (x y z n : Token) → IsUtf8Token x → IsUtf8Token y → IsUtf8Token z → IsUtf8Token n → IsUtf8Token (cond a x (cond b y (cond c z n)))
-    by true b c x y z n p q r s = p
-    by false true c x y z n p q r s = q
-    by false false true x y z n p q r s = r
-    by false false false x y z n p q r s = s
+    let or = either IsUtf8Token in
+    or (head t == 116) (literal true_text (Token.boolean true) t) _ (literal_ok _ (Token.boolean true) tt)
+    (or (head t == 102) (literal false_text (Token.boolean false) t) _ (literal_ok _ (Token.boolean false) tt)
+    (or (head t == 110) (literal null_text Token.null t) _ (literal_ok _ Token.null tt) (number_ok t (after_number t))))
 
 is_quote : (x : ℕ) → class x ≡ quote → x ≡ 34
-is_quote x = cond_both (x == 34) quote _ (λ c. c ≡ quote → x ≡ 34) (λ e _. eqb-true x 34 e)
-    (λ _. cond_both (x == 92) backslash _ (λ c. c ≡ quote → x ≡ 34) (λ _ h. absurd cc)
-    (λ _. cond_both (is_operator x) operator _ (λ c. c ≡ quote → x ≡ 34) (λ _ h. absurd cc)
-    (λ _. cond_both (is_space x) space other (λ c. c ≡ quote → x ≡ 34) (λ _ h. absurd cc) (λ _ h. absurd cc))))
+is_quote x h = grind arith
 
 byte_ok : (m : Mode) (c : Class) (x : ℕ) (xs : List ℕ) (k : Mode → List Lexeme) → (c ≡ quote → IsUtf8 xs) → ((n : Mode) → AreUtf8Lexemes (k n)) → AreUtf8Lexemes (lex_byte m c x xs k)
 byte_ok between quote x xs k u h = (string_ok _ (in_plain xs [] (u refl)), h in_string)
@@ -239,87 +205,13 @@ punctuated _ (comma ∷ ls) h = (tt, tt)
 punctuated after_key (colon ∷ ls) h = punctuated fresh ls h.1
 punctuated _ (colon ∷ ls) h = (tt, tt)
 
--- ---- the value of the tokens
-
-abbrev mutual
-  pub HasUtf8 : json.Json → Type 0
-  HasUtf8 (json.string s) = IsUtf8 s
-  HasUtf8 (json.array js) = ItemsHaveUtf8 js
-  HasUtf8 (json.object ms) = MembersHaveUtf8 ms
-  HasUtf8 _ = ⊤
-
-  pub ItemsHaveUtf8 : json.Items → Type 0
-  ItemsHaveUtf8 json.no_items = ⊤
-  ItemsHaveUtf8 (json.item j js) = HasUtf8 j × ItemsHaveUtf8 js
-
-  pub MembersHaveUtf8 : json.Members → Type 0
-  MembersHaveUtf8 json.no_members = ⊤
-  MembersHaveUtf8 (json.member k j ms) = IsUtf8 k × HasUtf8 j × MembersHaveUtf8 ms
-
-abbrev Given : {A : Type 0} → (A → Type 0) → Option (A × List Token) → Type 0
-Given P o = IfSome o (λ p. P p.0 × AreUtf8 p.1)
-
-abbrev Parses : {A : Type 0} → (A → Type 0) → json.Parse A → Type 0
-Parses P p = (ts : List Token) → AreUtf8 ts → Given P (p ts)
-
-more_given : {A B : Type 0} (P : A → Type 0) (Q : B → Type 0) (f : A → B) (o : Option (A × List Token)) → ((a : A) → P a → Q (f a)) → Given P o → Given Q (json.parse_map f o)
-more_given P Q f None k h = tt
-more_given P Q f (Some p) k h = (k p.0 h.0, h.1)
-
-after_end : (ts : List Token) → AreUtf8 ts → IfSome (json.after_end_array ts) AreUtf8
-after_end [] u = tt
-after_end (Token.end_array ∷ ts) u = u.1
-after_end (_ ∷ ts) u = tt
-
-key_given : (ts : List Token) → AreUtf8 ts → Given (λ o. IfSome o IsUtf8) (json.read_key ts)
-key_given [] u = tt
-key_given (Token.end_object ∷ ts) u = (tt, u.1)
-key_given (Token.key s ∷ ts) u = u
-key_given (_ ∷ ts) u = tt
-
-module _ (p : json.Parse json.Json) (one : Parses HasUtf8 p) where
-  item_turn : (more : json.Parse json.Items) → Parses ItemsHaveUtf8 more → (ts : List Token) → AreUtf8 ts → (o : Option (List Token)) → IfSome o AreUtf8 → Given ItemsHaveUtf8 (json.items_step p more ts o)
-  item_turn more again ts u (Some r) h = (tt, h)
-  item_turn more again ts u None h = chained _ _ (p ts) (one ts u) (λ q g. more_given ItemsHaveUtf8 ItemsHaveUtf8 (json.item q.0) (more q.1) (λ js k. (g.0, k)) (again q.1 g.1))
-
-  items_given : (n : ℕ) → Parses ItemsHaveUtf8 (json.items p n)
-  unfolding json.items
-  items_given zero ts u = tt
-  items_given (suc n) ts u = item_turn (json.items p n) (items_given n) ts u (json.after_end_array ts) (after_end ts u)
-
-  member_turn : (more : json.Parse json.Members) → Parses MembersHaveUtf8 more → (o : Option (Option (List ℕ) × List Token)) → Given (λ o. IfSome o IsUtf8) o
-      → Given MembersHaveUtf8 (option_and_then (λ q. json.members_step p more q.0 q.1) o)
-  member_turn more again None h = tt
-  member_turn more again (Some (None, ts)) h = (tt, h.1)
-  member_turn more again (Some (Some k, ts)) h =
-      chained _ _ (p ts) (one ts h.1) (λ q g. more_given MembersHaveUtf8 MembersHaveUtf8 (json.member k q.0) (more q.1) (λ ms l. (h.0, g.0, l)) (again q.1 g.1))
-
-  members_given : (n : ℕ) → Parses MembersHaveUtf8 (json.members p n)
-  unfolding json.members
-  members_given zero ts u = tt
-  members_given (suc n) ts u = member_turn (json.members p n) (members_given n) (json.read_key ts) (key_given ts u)
-
-one_level : (a : json.Parse json.Items) (o : json.Parse json.Members) → Parses ItemsHaveUtf8 a → Parses MembersHaveUtf8 o → Parses HasUtf8 (json.value_with a o)
-one_level a o p q [] u = tt
-one_level a o p q (Token.begin_object ∷ ts) u = more_given MembersHaveUtf8 HasUtf8 json.object (o ts) (λ ms h. h) (q ts u.1)
-one_level a o p q (Token.begin_array ∷ ts) u = more_given ItemsHaveUtf8 HasUtf8 json.array (a ts) (λ js h. h) (p ts u.1)
-one_level a o p q (Token.string s ∷ ts) u = u
-one_level a o p q (Token.number s ∷ ts) u = u
-one_level a o p q (Token.boolean b ∷ ts) u = u
-one_level a o p q (Token.null ∷ ts) u = u
-one_level a o p q (_ ∷ ts) u = tt
-
-value_given : (d : ℕ) → Parses HasUtf8 (json.value d)
-unfolding json.value
-value_given zero = one_level (λ ts. None) (λ ts. None) (λ ts u. tt) (λ ts u. tt)
-value_given (suc d) =
-    one_level (λ ts. json.items (json.value d) (length ts) ts) (λ ts. json.members (json.value d) (length ts) ts)
-    (λ ts u. items_given (json.value d) (value_given d) (length ts) ts u) (λ ts u. members_given (json.value d) (value_given d) (length ts) ts u)
-
--- a value that UTF-8 is read as, before it is converted
-pub texts_utf8 : (d : ℕ) (text : List ℕ) → IsUtf8 text → IfSome (option_and_then (λ p. json.if_last p.0 p.1) (json.value d (tokens text))) HasUtf8
-texts_utf8 d text u = chained HasUtf8 _ (json.value d (tokens text)) (value_given d (tokens text) (punctuated fresh (lex between text) (lexed between text [] u))) (λ p h. last p.0 p.1 h.0)
+-- the tokens of a value that UTF-8 is read as, before it is converted
+pub texts_utf8 : (d : ℕ) (text : List ℕ) → IsUtf8 text → IfSome (option_and_then (λ p. json.if_last p.0 p.1) (json.value d (tokens text))) (λ j. AreUtf8 (json_tokens j))
+texts_utf8 d text u =
+    let all = punctuated fresh (lex between text) (lexed between text [] u) in
+    chained _ _ (json.value d (tokens text)) (if_some (λ p. AreUtf8 (json_tokens p.0)) _ (λ p is. (utf8_parts (json_tokens p.0) p.1 (subst AreUtf8 (value-json_tokens_back d (tokens text) p.1 p.0 is) all)).0))
+    (λ p h. last p.0 p.1 h)
   where
-    last : (j : json.Json) (ts : List Token) → HasUtf8 j → IfSome (json.if_last j ts) HasUtf8
+    last : (j : json.Json) (ts : List Token) → AreUtf8 (json_tokens j) → IfSome (json.if_last j ts) (λ j. AreUtf8 (json_tokens j))
     last j [] h = h
     last j (t ∷ ts) h = tt

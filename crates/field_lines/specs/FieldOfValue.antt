@@ -77,10 +77,9 @@ union_of mode ms = if are_distinct (tree_ids ms) then Some (union ms mode) else 
 abbrev pub are_keys : Text → Text → Text → Text → Bool
 are_keys key other k l = bytes_eq key k && bytes_eq other l
 
--- the two values of a list of two
-abbrev pub pair_of_value : Data → Option (Data × Data)
-pair_of_value (array (item d (item e no_items))) = Some (d, e)
-pair_of_value _ = None
+-- the type of an object of this one key, by the field or the fields that stand there
+abbrev pub keyed_type : Text → Option FieldTree → Option FieldTrees → Option Tree
+keyed_type key f fs = if bytes_eq key (codes "list") then option_map list_of f else (if bytes_eq key (codes "large_list") then option_map large_list_of f else (if bytes_eq key (codes "struct") then option_map struct fs else None))
 
 abbrev mutual
   -- a field is an object with a name, a nullability, a type and perhaps metadata; its other keys are ignored
@@ -96,7 +95,7 @@ abbrev mutual
   -- a type is the word of a plain type, or an object of just these keys
   pub type_of_value : Data → Option Tree
   type_of_value (string word) = option_map plain (plain_named word)
-  type_of_value (object (member key d no_members)) = if bytes_eq key (codes "list") then option_map list_of (field_of_value d) else (if bytes_eq key (codes "large_list") then option_map large_list_of (field_of_value d) else (if bytes_eq key (codes "struct") then option_map struct (fields_of_value d) else None))
+  type_of_value (object (member key d no_members)) = keyed_type key (field_of_value d) (fields_of_value d)
   type_of_value (object (member key d (member other e no_members))) = if are_keys key other (codes "fixed_size_list") (codes "size") then option_and_then (λ f. option_map (fixed_size_list_of f) (size_of_value e)) (field_of_value d) else (if are_keys key other (codes "mode") (codes "union") then option_and_then (λ mode. option_and_then (union_of mode) (members_of_value e)) (mode_of_value d) else None)
   type_of_value _ = None
 

@@ -2,12 +2,16 @@
 use Rattle.std.specs.Prelude.{ℤ, Option, None, option_and_then, option_map, if◌then◌else◌, codes, bytes_eq}
 use Rattle.serde_json.specs.Data.{Data, array, no_items, item, Members, no_members, member}
 use Rattle.arrow_values.specs.Tree.{Text, Tree, FieldTree}
-use Rattle.field_lines.specs.FieldOfValue.{id_of_value, size_of_value, mode_of_value, fixed_size_list_of, union_of, are_keys, field_of_value, members_of_value}
+use Rattle.field_lines.specs.FieldOfValue.{id_of_value, size_of_value, mode_of_value, fixed_size_list_of, union_of, are_keys, keyed_type, field_of_value, fields_of_value, members_of_value}
 
--- what f says of the value at the one key
-abbrev pub only_at : {A : Type 0} → (Data → Option A) → Text → Members → Option A
-only_at f k (member l d no_members) = if bytes_eq l k then f d else None
-only_at f k _ = None
+-- the type that a value says at the one key of an object
+abbrev pub keyed_at : Text → Data → Option Tree
+keyed_at k d = keyed_type k (field_of_value d) (fields_of_value d)
+
+-- the type of the members, where this is their one key
+abbrev pub only_at : Text → Members → Option Tree
+only_at k (member l d no_members) = if bytes_eq l k then keyed_at k d else None
+only_at k _ = None
 
 -- what f says of the values at these two keys, where there are no others
 abbrev pub pair_at : {A : Type 0} → (Data → Data → Option A) → Text → Text → Members → Option A

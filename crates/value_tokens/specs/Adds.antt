@@ -1,10 +1,10 @@
 -- Which tokens a JSON writer was given.
 use Rattle.std.specs.Prelude.{◌≡◌, List, [], ◌∷◌, ◌++◌, Result, Ok, Err, OnOk, Some, option_map, option_and_then, refl}
 use Rattle.std.proofs.Common.{ap, ◌∙◌, append_assoc}
-use Rattle.json.specs.Token.{Token, begin_object, begin_array, end_array}
+use Rattle.json.specs.Token.{Token, begin_array, end_array}
 use Rattle.json.specs.Tree.{json_tokens, items_tokens, members_tokens}
 use Rattle.json.specs.Written.{Written, Writes}
-use Rattle.serde_json.specs.Data.{Data, object, array, Items, no_items, item, Members, no_members}
+use Rattle.serde_json.specs.Data.{Data, array, Items, no_items, item, Members, no_members}
 use Rattle.serde_json.specs.Read.{of_json, of_items, of_members}
 use Rattle.serde_json.specs.Written.{outline, items_outline, members_outline}
 
@@ -58,7 +58,3 @@ prints_item {d} {ds} one more = record {
 
 pub prints_array : {ds : Items} {a b c : Written} → Adds (begin_array ∷ []) a b → PrintsItems ds b c → Prints (array ds) a c
 prints_array begin items = record { adds = then begin items.adds; reads_back = ap (option_map array) items.reads_back }
-
--- an object, from its members
-pub prints_object : {ms : Members} {a b c : Written} → Adds (begin_object ∷ []) a b → PrintsMembers ms b c → Prints (object ms) a c
-prints_object begin members = record { adds = then begin members.adds; reads_back = ap (option_map object) members.reads_back }

@@ -1,104 +1,81 @@
 -- The token that a value begins with says what kind of value it is.
-use Rattle.std.proofs.Common.{◌≡◌, ℕ, zero, suc, List, ◌∷◌, Bool, Option, Some, None, option_map, refl, sym, ap, ◌∙◌, arith}
+use Rattle.std.proofs.Common.{◌≡◌, ℕ, suc, List, ◌∷◌, length, Bool, Option, Some, None, option_map, IfSome, refl, sym, ap, ◌∙◌, subst}
 use Rattle.json.specs.Token as spec
-use Rattle.json.specs.Json.{parse_map, value}
+use Rattle.json.specs.Json.{parse_map, items, members, value, value_with}
 use Rattle.json.specs.Reads.{token_of}
 use Rattle.json.specs.declared.token.Token.{Token}
-use Rattle.json.specs.declared.token.Token.TheVariants.{BeginObject, EndObject, BeginArray, EndArray, Key, String, Number, Bool as Boolean, Null, Bad}
-use Rattle.serde_json.specs.Data.{Num, Data, null, boolean, number, string, array, object, Items, Members, no_members}
+use Rattle.json.specs.declared.token.Token.TheVariants.{BeginObject, BeginArray, String, Number, Bool as Boolean, Null}
+use Rattle.serde_json.specs.Data.{Num, Data, null, boolean, number, string, array, object, no_members}
 use Rattle.serde_json.specs.Find.{as_null, as_str, as_bool, as_number, as_object, as_array}
-use Rattle.serde_json.specs.Read.{number_of}
-use Rattle.value_tokens.specs.Next.{next_value, next_items, next_members, after, ReadsValue, ReadsItems, ReadsMembers}
-use Rattle.value_tokens.specs.Turns.{value-array, value-object, array_too_deep, object_too_deep, after_some}
+use Rattle.serde_json.specs.Read.{number_of, of_json, converted}
+use Rattle.value_tokens.specs.Next.{next_value, next_items, next_members, after, ReadsValue, ReadsMembers}
+use Rattle.value_tokens.specs.Turns.{nested_items, nested_members, plain, converted-array, converted-object, after_some}
 
 pub next_string : (depth : ℕ) (s : List ℕ) (ts : List spec.Token) → next_value depth (spec.string s ∷ ts) ≡ Some (string s, ts)
-unfolding value
-next_string zero s ts = refl
-next_string (suc d) s ts = refl
+next_string depth s ts = plain depth (spec.string s) ts
 
 pub next_boolean : (depth : ℕ) (b : Bool) (ts : List spec.Token) → next_value depth (spec.boolean b ∷ ts) ≡ Some (boolean b, ts)
-unfolding value
-next_boolean zero b ts = refl
-next_boolean (suc d) b ts = refl
+next_boolean depth b ts = plain depth (spec.boolean b) ts
 
 pub next_null : (depth : ℕ) (ts : List spec.Token) → next_value depth (spec.null ∷ ts) ≡ Some (null, ts)
-unfolding value
-next_null zero ts = refl
-next_null (suc d) ts = refl
+next_null depth ts = plain depth spec.null ts
 
 numbered : (o : Option Num) (ts : List spec.Token) → option_map {U = Data × List spec.Token} (λ d. (d, ts)) (option_map number o) ≡ option_map (λ n. (number n, ts)) o
 numbered None ts = refl
 numbered (Some n) ts = refl
 
 pub next_number : (depth : ℕ) (s : List ℕ) (ts : List spec.Token) → next_value depth (spec.number s ∷ ts) ≡ option_map (λ n. (number n, ts)) (number_of s)
-unfolding value
-next_number zero s ts = numbered (number_of s) ts
-next_number (suc d) s ts = numbered (number_of s) ts
+next_number depth s ts = plain depth (spec.number s) ts ∙ numbered (number_of s) ts
 
 pub next_array : (depth : ℕ) (ts : List spec.Token) → next_value (suc depth) (spec.begin_array ∷ ts) ≡ parse_map array (next_items depth ts)
-next_array depth ts = value-array (suc depth) ts (omega arith) ∙ ap (λ d. parse_map array (next_items d ts)) (omega arith)
+next_array depth ts = plain (suc depth) spec.begin_array ts ∙ converted-array (items (value depth) (length ts) ts)
 
 pub next_object : (depth : ℕ) (ts : List spec.Token) → next_value (suc depth) (spec.begin_object ∷ ts) ≡ parse_map object (next_members depth no_members ts)
-next_object depth ts = value-object (suc depth) ts (omega arith) ∙ ap (λ d. parse_map object (next_members d no_members ts)) (omega arith)
+next_object depth ts = plain (suc depth) spec.begin_object ts ∙ converted-object (members (value depth) (length ts) ts)
 
 pub no_key : (depth : ℕ) (k : List ℕ) (ts : List spec.Token) → next_value depth (spec.key k ∷ ts) ≡ None
-unfolding value
-no_key zero k ts = refl
-no_key (suc d) k ts = refl
+no_key depth k ts = plain depth (spec.key k) ts
 
 pub no_end_object : (depth : ℕ) (ts : List spec.Token) → next_value depth (spec.end_object ∷ ts) ≡ None
-unfolding value
-no_end_object zero ts = refl
-no_end_object (suc d) ts = refl
+no_end_object depth ts = plain depth spec.end_object ts
 
 pub no_end_array : (depth : ℕ) (ts : List spec.Token) → next_value depth (spec.end_array ∷ ts) ≡ None
-unfolding value
-no_end_array zero ts = refl
-no_end_array (suc d) ts = refl
+no_end_array depth ts = plain depth spec.end_array ts
 
 pub no_bad : (depth : ℕ) (ts : List spec.Token) → next_value depth (spec.bad ∷ ts) ≡ None
-unfolding value
-no_bad zero ts = refl
-no_bad (suc d) ts = refl
+no_bad depth ts = plain depth spec.bad ts
 
 -- the token can begin the value
 abbrev pub Begins : Token → Data → Type 0
-Begins BeginObject d = (ms : Members) × (d ≡ object ms)
-Begins EndObject d = ⊥
-Begins BeginArray d = (ds : Items) × (d ≡ array ds)
-Begins EndArray d = ⊥
-Begins (Key s) d = ⊥
-Begins (String s) d = d ≡ string s.now
-Begins (Number s) d = (n : Num) × (d ≡ number n)
-Begins (Boolean b) d = d ≡ boolean b
-Begins Null d = d ≡ null
-Begins Bad d = ⊥
+Begins t null = t ≡ Null
+Begins t (boolean b) = t ≡ Boolean b
+Begins t (number n) = (s : _) × (t ≡ Number s)
+Begins t (string s) = (u : _) × (t ≡ String u)
+Begins t (array ds) = t ≡ BeginArray
+Begins t (object ms) = t ≡ BeginObject
 
-abbrev pick : Data → Option (Data × List spec.Token) → Data
-pick d None = d
-pick d (Some p) = p.0
+abbrev IsBegun : Token → Option (Data × List spec.Token) → Type 0
+IsBegun t o = IfSome o (λ p. Begins t p.0)
 
-made : {A : Type 0} (f : A → Data) (o : Option (A × List spec.Token)) (d : Data) (r : List spec.Token) → parse_map f o ≡ Some (d, r) → (a : A) × (d ≡ f a)
-made f None d r e = absurd (cc)
-made f (Some p) d r e = (p.0, ap (pick d) (sym e))
+begun : {A : Type 0} (t : Token) (f : A → Data) → ((a : A) → Begins t (f a)) → (o : Option (A × List spec.Token)) → IsBegun t (parse_map f o)
+begun t f h None = tt
+begun t f h (Some p) = h p.0
 
-numeral : (o : Option Num) (ts r : List spec.Token) (d : Data) → option_map {U = Data × List spec.Token} (λ n. (number n, ts)) o ≡ Some (d, r) → (n : Num) × (d ≡ number n)
-numeral None ts r d e = absurd (cc)
-numeral (Some n) ts r d e = (n, ap (pick d) (sym e))
+begun_number : (s : _) (o : Option Num) (ts : List spec.Token) → IsBegun (Number s) (option_map (λ n. (number n, ts)) o)
+begun_number s None ts = tt
+begun_number s (Some n) ts = (s, refl)
+
+begins_as : (depth : ℕ) (t : Token) (ts : List spec.Token) → IsBegun t (converted of_json (value_with (nested_items depth) (nested_members depth) (token_of t ∷ ts)))
+begins_as depth BeginObject ts = subst (IsBegun BeginObject) (sym (converted-object (nested_members depth ts))) (begun BeginObject object (λ ms. refl) _)
+begins_as depth BeginArray ts = subst (IsBegun BeginArray) (sym (converted-array (nested_items depth ts))) (begun BeginArray array (λ ds. refl) _)
+begins_as depth (String s) ts = (s, refl)
+begins_as depth (Number s) ts = subst (IsBegun (Number s)) (sym (numbered (number_of s.now) ts)) (begun_number s (number_of s.now) ts)
+begins_as depth (Boolean b) ts = refl
+begins_as depth Null ts = refl
+begins_as depth _ ts = tt
 
 pub value_begins : (depth : ℕ) (t : Token) (ts r : List spec.Token) (d : Data) → next_value depth (token_of t ∷ ts) ≡ Some (d, r) → Begins t d
-value_begins zero BeginObject ts r d e = absurd (let n = sym (object_too_deep ts) ∙ e in cc)
-value_begins (suc depth) BeginObject ts r d e = made object (next_members depth no_members ts) d r (sym (next_object depth ts) ∙ e)
-value_begins depth EndObject ts r d e = let n = sym (no_end_object depth ts) ∙ e in cc
-value_begins zero BeginArray ts r d e = absurd (let n = sym (array_too_deep ts) ∙ e in cc)
-value_begins (suc depth) BeginArray ts r d e = made array (next_items depth ts) d r (sym (next_array depth ts) ∙ e)
-value_begins depth EndArray ts r d e = let n = sym (no_end_array depth ts) ∙ e in cc
-value_begins depth (Key s) ts r d e = let n = sym (no_key depth s.now ts) ∙ e in cc
-value_begins depth (String s) ts r d e = ap (pick d) (sym e ∙ next_string depth s.now ts)
-value_begins depth (Number s) ts r d e = numeral (number_of s.now) ts r d (sym (next_number depth s.now ts) ∙ e)
-value_begins depth (Boolean b) ts r d e = ap (pick d) (sym e ∙ next_boolean depth b ts)
-value_begins depth Null ts r d e = ap (pick d) (sym e ∙ next_null depth ts)
-value_begins depth Bad ts r d e = let n = sym (no_bad depth ts) ∙ e in cc
+value_begins depth t ts r d e = subst (IsBegun t) (sym (plain depth (token_of t) ts) ∙ e) (begins_as depth t ts)
 
 -- a value that is skipped begins with its first token
 pub passed : (depth : ℕ) (t : Token) (ts s r : List spec.Token) → ts ≡ token_of t ∷ s → after (next_value depth (token_of t ∷ s)) ≡ Some r → (d : Data) × (next_value depth ts ≡ Some (d, r)) × Begins t d
@@ -107,92 +84,31 @@ passed depth t ts s r first e = let d = after_some (next_value depth (token_of t
 -- ---- a value that begins with another token is of another kind
 
 pub no_text : (t : Token) (d : Data) → Begins t d → ((s : _) → t ≡ String s → ⊥) → as_str d ≡ None
-no_text BeginObject d b other = ap as_str b.1
-no_text EndObject d b other = absurd b
-no_text BeginArray d b other = ap as_str b.1
-no_text EndArray d b other = absurd b
-no_text (Key s) d b other = absurd b
-no_text (String s) d b other = absurd (other s refl)
-no_text (Number s) d b other = ap as_str b.1
-no_text (Boolean v) d b other = ap as_str b
-no_text Null d b other = ap as_str b
-no_text Bad d b other = absurd b
+no_text t (string s) b other = absurd (other b.0 b.1)
+no_text t _ b other = refl
 
 pub no_null : (t : Token) (d : Data) → Begins t d → (t ≡ Null → ⊥) → as_null d ≡ None
-no_null BeginObject d b other = ap as_null b.1
-no_null EndObject d b other = absurd b
-no_null BeginArray d b other = ap as_null b.1
-no_null EndArray d b other = absurd b
-no_null (Key s) d b other = absurd b
-no_null (String s) d b other = ap as_null b
-no_null (Number s) d b other = ap as_null b.1
-no_null (Boolean v) d b other = ap as_null b
-no_null Null d b other = absurd (other refl)
-no_null Bad d b other = absurd b
+no_null t null b other = absurd (other b)
+no_null t _ b other = refl
 
 pub no_truth : (t : Token) (d : Data) → Begins t d → ((v : Bool) → t ≡ Boolean v → ⊥) → as_bool d ≡ None
-no_truth BeginObject d b other = ap as_bool b.1
-no_truth EndObject d b other = absurd b
-no_truth BeginArray d b other = ap as_bool b.1
-no_truth EndArray d b other = absurd b
-no_truth (Key s) d b other = absurd b
-no_truth (String s) d b other = ap as_bool b
-no_truth (Number s) d b other = ap as_bool b.1
-no_truth (Boolean v) d b other = absurd (other v refl)
-no_truth Null d b other = ap as_bool b
-no_truth Bad d b other = absurd b
+no_truth t (boolean v) b other = absurd (other v b)
+no_truth t _ b other = refl
 
 pub no_numeral : (t : Token) (d : Data) → Begins t d → ((s : _) → t ≡ Number s → ⊥) → as_number d ≡ None
-no_numeral BeginObject d b other = ap as_number b.1
-no_numeral EndObject d b other = absurd b
-no_numeral BeginArray d b other = ap as_number b.1
-no_numeral EndArray d b other = absurd b
-no_numeral (Key s) d b other = absurd b
-no_numeral (String s) d b other = ap as_number b
-no_numeral (Number s) d b other = absurd (other s refl)
-no_numeral (Boolean v) d b other = ap as_number b
-no_numeral Null d b other = ap as_number b
-no_numeral Bad d b other = absurd b
+no_numeral t (number n) b other = absurd (other b.0 b.1)
+no_numeral t _ b other = refl
 
 pub no_object : (t : Token) (d : Data) → Begins t d → (t ≡ BeginObject → ⊥) → as_object d ≡ None
-no_object BeginObject d b other = absurd (other refl)
-no_object EndObject d b other = absurd b
-no_object BeginArray d b other = ap as_object b.1
-no_object EndArray d b other = absurd b
-no_object (Key s) d b other = absurd b
-no_object (String s) d b other = ap as_object b
-no_object (Number s) d b other = ap as_object b.1
-no_object (Boolean v) d b other = ap as_object b
-no_object Null d b other = ap as_object b
-no_object Bad d b other = absurd b
+no_object t (object ms) b other = absurd (other b)
+no_object t _ b other = refl
 
 pub no_array : (t : Token) (d : Data) → Begins t d → (t ≡ BeginArray → ⊥) → as_array d ≡ None
-no_array BeginObject d b other = ap as_array b.1
-no_array EndObject d b other = absurd b
-no_array BeginArray d b other = absurd (other refl)
-no_array EndArray d b other = absurd b
-no_array (Key s) d b other = absurd b
-no_array (String s) d b other = ap as_array b
-no_array (Number s) d b other = ap as_array b.1
-no_array (Boolean v) d b other = ap as_array b
-no_array Null d b other = ap as_array b
-no_array Bad d b other = absurd b
+no_array t (array ds) b other = absurd (other b)
+no_array t _ b other = refl
 
--- ---- an object or an array that is read, and one that is refused
-
-readied : {A B : Type 0} (f : A → B) (o : Option (A × List spec.Token)) (a : A) (r : List spec.Token) → o ≡ Some (a, r) → parse_map f o ≡ Some (f a, r)
-readied f o a r e = ap (parse_map f) e
+-- ---- an object that is read
 
 pub object_read : {A : Type 0} (f : Data → A) (depth below : ℕ) (ts s r : List spec.Token) (a : A) → next_value depth ts ≡ parse_map object (next_members below no_members s)
     → ReadsMembers (λ ms. f (object ms)) below no_members s a r → ReadsValue f depth ts a r
-object_read f depth below ts s r a opened read = (object read.0, opened ∙ readied object (next_members below no_members s) read.0 r read.1, read.2)
-
-pub object_refused : (depth below : ℕ) (ts s : List spec.Token) → next_value depth ts ≡ parse_map object (next_members below no_members s) → next_members below no_members s ≡ None → next_value depth ts ≡ None
-object_refused depth below ts s opened none = opened ∙ ap (parse_map object) none
-
-pub array_read : {A : Type 0} (f : Data → A) (depth below : ℕ) (ts s r : List spec.Token) (a : A) → next_value depth ts ≡ parse_map array (next_items below s)
-    → ReadsItems (λ ds. f (array ds)) below s a r → ReadsValue f depth ts a r
-array_read f depth below ts s r a opened read = (array read.0, opened ∙ readied array (next_items below s) read.0 r read.1, read.2)
-
-pub array_refused : (depth below : ℕ) (ts s : List spec.Token) → next_value depth ts ≡ parse_map array (next_items below s) → next_items below s ≡ None → next_value depth ts ≡ None
-array_refused depth below ts s opened none = opened ∙ ap (parse_map array) none
+object_read f depth below ts s r a opened read = (object read.0, opened ∙ ap (parse_map object) read.1, read.2)

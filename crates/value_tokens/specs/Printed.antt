@@ -7,7 +7,7 @@ use Rattle.json.specs.Print.{print}
 use Rattle.json.specs.Tree as tree
 use Rattle.json.specs.Written.{Written}
 use Rattle.json.proofs.Printed.Trees.{value-json_tokens}
-use Rattle.serde_json.specs.Data.{Data, null, boolean, number, string, array, object, Items, no_items, item, Members, no_members, member, depth, items_depth, members_depth}
+use Rattle.serde_json.specs.Data.{Data, array, object, Items, no_items, item, Members, no_members, member, depth, items_depth, members_depth}
 use Rattle.serde_json.specs.Read.{of_json, read, max_depth}
 use Rattle.serde_json.specs.Written.{outline, items_outline, members_outline, compact_text}
 use Rattle.serde_json.proofs.Texts.{print-outline}
@@ -15,12 +15,9 @@ use Rattle.value_tokens.specs.Adds.{Prints}
 
 mutual
   outline_depth : (d : Data) → tree.depth (outline d) ≡ depth d
-  outline_depth null = refl
-  outline_depth (boolean b) = refl
-  outline_depth (number n) = refl
-  outline_depth (string s) = refl
   outline_depth (array ds) = ap suc (items_outline_depth ds)
   outline_depth (object ms) = ap suc (members_outline_depth ms)
+  outline_depth _ = refl
 
   items_outline_depth : (ds : Items) → tree.items_depth (items_outline ds) ≡ items_depth ds
   items_outline_depth no_items = refl

@@ -9,6 +9,7 @@ use crate::refusal::Refusal;
 use json::{Reader, Token};
 
 /// Passes over a value.
+#[tactic(auto, using(crate::specs::Turns::no_value))]
 #[cold]
 #[inline(never)]
 pub fn skip_value(reader: &mut Reader<'_>, depth: usize) -> Result<(), Refusal>
@@ -23,6 +24,7 @@ pub fn skip_value(reader: &mut Reader<'_>, depth: usize) -> Result<(), Refusal>
 
 /// Passes over what is left of a value whose first token was taken.
 #[cycle(skip)]
+#[tactic(auto, using(crate::proofs::Firsts::first_tokens))]
 #[cold]
 #[inline(never)]
 pub fn skip_rest(token: Token<'_>, reader: &mut Reader<'_>, depth: usize) -> Result<(), Refusal>
@@ -55,6 +57,7 @@ pub fn skip_rest(token: Token<'_>, reader: &mut Reader<'_>, depth: usize) -> Res
 
 /// Passes over the items that are left of an array.
 #[cycle(skip)]
+#[tactic(auto, using(crate::proofs::Loops::skipping))]
 #[cold]
 #[inline(never)]
 pub fn skip_items(reader: &mut Reader<'_>, depth: usize) -> Result<(), Refusal>

@@ -12,6 +12,7 @@ use std::alloc::{AllocError, Global};
 
 /// Takes a value, and returns it.
 #[cycle(read)]
+#[tactic(auto, using(crate::proofs::Firsts::first_values))]
 #[inline]
 pub fn read_value(alloc: Global, reader: &mut Reader<'_>, depth: usize) -> Result<Value, Refusal>
     ensures ok { IfOk result (λ v. next_value depth reader.old ≡ Some (view v, reader.new)) }
@@ -45,6 +46,7 @@ pub fn read_value(alloc: Global, reader: &mut Reader<'_>, depth: usize) -> Resul
 
 /// The items that are left of an array.
 #[cycle(read)]
+#[tactic(auto, using(crate::proofs::Loops::reading))]
 #[inline(never)]
 fn read_items(alloc: Global, reader: &mut Reader<'_>, depth: usize) -> Result<Vec<Value>, Refusal>
     ensures ok { IfOk result (λ v. next_items depth reader.old ≡ Some (items_view v.items, reader.new)) }
@@ -61,6 +63,7 @@ fn read_items(alloc: Global, reader: &mut Reader<'_>, depth: usize) -> Result<Ve
 
 /// The members that are left of an object. The last value of a key counts.
 #[cycle(read)]
+#[tactic(auto, using(crate::proofs::Loops::reading))]
 #[inline(never)]
 fn read_members(
     alloc: Global,

@@ -1,4 +1,4 @@
-use Rattle.std.proofs.Common.{◌≡◌, string_bytes, ap, ◌∙◌}
+use Rattle.std.proofs.Common.{ap, ◌∙◌}
 use Rattle.serde_json.specs.Read.{read}
 use Rattle.arrow_values.specs.View.{texts_of}
 use Rattle.field_lines.specs.Line.{other_value}

@@ -1,4 +1,4 @@
-use Rattle.std.proofs.Common.{rules, arith, ◌≡◌, ◌-◌, [], ◌∷◌, ◌++◌, Some, None, IsTrue, option_map, option_and_then, subst₂, refl, sym, ap, ap₂, ◌∙◌}
+use Rattle.std.proofs.Common.{rules, arith, ◌≡◌, ◌-◌, [], ◌∷◌, ◌++◌, Some, IsTrue, option_map, option_and_then, subst₂, refl, sym, ap, ap₂, ◌∙◌}
 use Rattle.std.proofs.lemmas.Int.{to_z-of_z}
 use Rattle.std.proofs.lemmas.Result.{IfOk-weaker}
 use Rattle.std.specs.List.{zip}
@@ -6,12 +6,12 @@ use Rattle.json.specs.Json.{parse_map}
 use Rattle.serde_json.specs.Data.{string, no_items, item, no_members}
 use Rattle.arrow_values.specs.Tree.{struct}
 use Rattle.arrow_values.specs.Union.{is_type_id}
-use Rattle.arrow_values.specs.View.{texts_of, field_trees, member_trees}
-use Rattle.field_lines.specs.FieldOfValue.{field_of_value, type_of_value, list_of, large_list_of}
+use Rattle.arrow_values.specs.View.{texts_of, field_trees}
+use Rattle.field_lines.specs.FieldOfValue.{field_before, field_of_value, type_of_value, list_of, large_list_of}
 use Rattle.field_lines.specs.Keys.{pair_read}
 use Rattle.field_lines.specs.Steps.{AreMemberParts}
-use Rattle.field_lines.proofs.TokenMembers.{part_other, parts_go_on, parts_end, no_type, only_go_on, only_end, only_spoiled, first_read, second_read, two_spoiled, no_pair, as_fixed_size_list, as_union, taken_as, only_taken, none_taken_as}
-use Rattle.field_lines.proofs.TokenItems.{item_turn, item_taken, taken_start, taken_go_on, taken_end, taken_spoiled, members_in-pair, zip_push, parts_push}
+use Rattle.field_lines.proofs.TokenMembers.{part_other, parts_go_on, parts_end, no_type, only_go_on, only_end, only_spoiled, first_read, second_read, two_spoiled, no_pair, as_fixed_size_list, as_union, as_only, taken_as, keyed_read, not_keyed}
+use Rattle.field_lines.proofs.TokenItems.{pair_before, item_turn, item_taken, taken_start, taken_go_on, taken_end, taken_spoiled, members_in-pair, zip_push, parts_push}
 use Rattle.value_tokens.specs.Turns.{value-object, members_over, after_some}
 use Rattle.value_tokens.specs.Beginnings.{passed, next_string, no_object, no_text, object_read}
 use Rattle.field_lines.proofs.tokens.+take.Goals as goal
@@ -42,19 +42,16 @@ take_union-returns-in_default-key-clause-ok t c =
     two_spoiled c.keys.invariant.0 (ap (option_map (λ s. s.now)) c.in-Some.is) c.in_ok-skip_value-in_default-key.ensures.ok c.in_ok-skip_members-in_default-key.ensures.ok
     (λ ms. no_pair _ _ _ _ ms c.in_default-key.not-mode c.in_default-key.not-union)
 
-pub take_items-items-init : goal.take_items-items-init
-take_items-items-init t c = taken_start c.new-fields.ensures.items
-
 pub take_items-items-preserved : goal.take_items-items-preserved
 take_items-items-preserved t c =
-    taken_go_on c.items.invariant field_of_value (λ d ds. refl) (rw c.in-Some.is at c.in_ok-field.ensures.ok) c.in_ok-push-in-Some.ensures.items (grind arith)
+    taken_go_on c.items.invariant field_before field_of_value (λ x xs. refl) (λ d ds. refl) (rw c.in-Some.is at c.in_ok-field.ensures.ok) c.in_ok-push-in-Some.ensures.items (grind arith)
 
 pub take_items-returns-clause-ok : goal.take_items-returns-clause-ok
-take_items-returns-clause-ok t c = taken_end c.items.invariant field_trees refl (λ x xs. refl) (grind arith)
+take_items-returns-clause-ok t c = taken_end c.items.invariant refl (grind arith)
 
 pub take_items-returns-in-None-clause-ok : goal.take_items-returns-in-None-clause-ok
 take_items-returns-in-None-clause-ok t c =
-    taken_spoiled c.items.invariant field_of_value (λ d ds. refl) (rw c.in-None.is at c.in_ok-field.ensures.ok) c.in_ok-skip_items-in-None.ensures.ok (grind arith)
+    taken_spoiled c.items.invariant field_before field_of_value (λ x xs. refl) (λ d ds. refl) (rw c.in-None.is at c.in_ok-field.ensures.ok) c.in_ok-skip_items-in-None.ensures.ok (grind arith)
 
 pub take_pairs-pairs-init : goal.take_pairs-pairs-init
 take_pairs-pairs-init t c =
@@ -66,41 +63,16 @@ take_pairs-pairs-preserved t c =
     let ids : c.push.new.self.items ≡ l.ids.items ++ (c.in-Some.id ∷ []) = search (rules, to_z-of_z) in
     let fields = c.in_ok-push-in-Some-2.ensures.items in
     let good : IsTrue (is_type_id c.in-Some.id) = rw c.in-Some.is at c.in_ok-id.ensures.id in (
-      taken_go_on l.invariant.0 pair_read members_in-pair (rw c.in-Some.is at c.in_ok-id.ensures.ok) (ap₂ zip ids fields ∙ zip_push l.ids.items l.fields.items _ _ l.invariant.1.0) (grind arith),
+      taken_go_on l.invariant.0 pair_before pair_read (λ x xs. refl) members_in-pair (rw c.in-Some.is at c.in_ok-id.ensures.ok) (ap₂ zip ids fields ∙ zip_push l.ids.items l.fields.items _ _ l.invariant.1.0) (grind arith),
       subst₂ AreMemberParts (sym ids) (sym fields) (parts_push _ _ _ _ l.invariant.1 good),
     )
 
 pub take_pairs-returns-clause-ok : goal.take_pairs-returns-clause-ok
-take_pairs-returns-clause-ok t c = taken_end c.pairs.invariant.0 member_trees refl (λ x xs. refl) (grind arith)
+take_pairs-returns-clause-ok t c = taken_end c.pairs.invariant.0 refl (grind arith)
 
 pub take_pairs-returns-in-None-clause-ok : goal.take_pairs-returns-in-None-clause-ok
 take_pairs-returns-in-None-clause-ok t c =
-    taken_spoiled c.pairs.invariant.0 pair_read members_in-pair (rw c.in-None.is at c.in_ok-id.ensures.ok) c.in_ok-skip_items-in-None.ensures.ok (grind arith)
-
-pub take_keys-returns-in-None-2-clause-ok : goal.take_keys-returns-in-None-2-clause-ok
-take_keys-returns-in-None-2-clause-ok t c =
-    only_taken large_list_of None _ _ (rw (c.in-Some.is, c.in-large_list.is) at c.in_ok-key.ensures.value) (refl, refl) (refl, refl) (λ d. refl) (rw c.in-None-2.is at c.in_ok-field-in-large_list.ensures.ok)
-
-pub take_keys-returns-in-None-3-clause-ok : goal.take_keys-returns-in-None-3-clause-ok
-take_keys-returns-in-None-3-clause-ok t c =
-    only_taken struct None _ _ (rw (c.in-Some.is, c.in-struct.is) at c.in_ok-key.ensures.value) (refl, refl) (refl, refl) (λ d. refl) (rw c.in-None-3.is at c.in_ok-fields-in-struct.ensures.ok)
-
-pub take_keys-returns-in-None-clause-ok : goal.take_keys-returns-in-None-clause-ok
-take_keys-returns-in-None-clause-ok t c =
-    only_taken list_of None _ _ (rw (c.in-Some.is, c.in-list.is) at c.in_ok-key.ensures.value) (refl, refl) (refl, refl) (λ d. refl) (rw c.in-None.is at c.in_ok-field-in-list.ensures.ok)
-
-pub take_keys-returns-in-Some-4-clause-ok : goal.take_keys-returns-in-Some-4-clause-ok
-take_keys-returns-in-Some-4-clause-ok t c =
-    let read = only_taken struct (Some (field_trees c.in-Some-4.fields.items)) _ _ (rw (c.in-Some.is, c.in-struct.is) at c.in_ok-key.ensures.value) (refl, refl) (refl, refl) (λ d. refl) (rw c.in-Some-4.is at c.in_ok-fields-in-struct.ensures.ok) in
-    (read.0, read.1, ap (λ l. Some (struct (field_trees l))) c.from.ensures ∙ read.2)
-
-pub take_keys-returns-in-Some-2-clause-ok : goal.take_keys-returns-in-Some-2-clause-ok
-take_keys-returns-in-Some-2-clause-ok t c =
-    only_taken list_of (Some c.in-Some-2.field.value) _ _ (rw (c.in-Some.is, c.in-list.is) at c.in_ok-key.ensures.value) (refl, refl) (refl, refl) (λ d. refl) (rw c.in-Some-2.is at c.in_ok-field-in-list.ensures.ok)
-
-pub take_keys-returns-in-Some-3-clause-ok : goal.take_keys-returns-in-Some-3-clause-ok
-take_keys-returns-in-Some-3-clause-ok t c =
-    only_taken large_list_of (Some c.in-Some-3.field.value) _ _ (rw (c.in-Some.is, c.in-large_list.is) at c.in_ok-key.ensures.value) (refl, refl) (refl, refl) (λ d. refl) (rw c.in-Some-3.is at c.in_ok-field-in-large_list.ensures.ok)
+    taken_spoiled c.pairs.invariant.0 pair_before pair_read (λ x xs. refl) members_in-pair (rw c.in-None.is at c.in_ok-id.ensures.ok) c.in_ok-skip_items-in-None.ensures.ok (grind arith)
 
 pub take_keys-returns-in-fixed_size_list-clause-ok : goal.take_keys-returns-in-fixed_size_list-clause-ok
 take_keys-returns-in-fixed_size_list-clause-ok t c =
@@ -110,34 +82,49 @@ pub take_keys-returns-in-mode-clause-ok : goal.take_keys-returns-in-mode-clause-
 take_keys-returns-in-mode-clause-ok t c =
     IfOk-weaker _ _ _ (λ o. taken_as _ _ (rw c.in-Some.is at c.in_ok-key.ensures.value) (λ ms. as_union _ ms c.in-mode.is)) c.take_union.ensures.ok
 
+pub take_keys-returns-in_default-key-clause-ok : goal.take_keys-returns-in_default-key-clause-ok
+take_keys-returns-in_default-key-clause-ok t c =
+    let n = c.in_default-key in
+    IfOk-weaker _ _ _ (λ o. taken_as _ _ (rw c.in-Some.is at c.in_ok-key.ensures.value) (λ ms. as_only _ ms n.not-fixed_size_list n.not-size n.not-mode n.not-union)) c.take_only.ensures.ok
+
+pub take_keyed-returns-in-None-clause-ok : goal.take_keyed-returns-in-None-clause-ok
+take_keyed-returns-in-None-clause-ok t c = keyed_read list_of c.args.key.now _ _ (rw c.in-None.is at c.in_ok-field-in-list.ensures.ok) (λ d. rw c.in-list.is)
+
+pub take_keyed-returns-in-None-2-clause-ok : goal.take_keyed-returns-in-None-2-clause-ok
+take_keyed-returns-in-None-2-clause-ok t c = keyed_read large_list_of c.args.key.now _ _ (rw c.in-None-2.is at c.in_ok-field-in-large_list.ensures.ok) (λ d. rw c.in-large_list.is)
+
+pub take_keyed-returns-in-None-3-clause-ok : goal.take_keyed-returns-in-None-3-clause-ok
+take_keyed-returns-in-None-3-clause-ok t c = keyed_read struct c.args.key.now _ _ (rw c.in-None-3.is at c.in_ok-fields-in-struct.ensures.ok) (λ d. rw c.in-struct.is)
+
+pub take_keyed-returns-in-Some-clause-ok : goal.take_keyed-returns-in-Some-clause-ok
+take_keyed-returns-in-Some-clause-ok t c = keyed_read list_of c.args.key.now _ _ (rw c.in-Some.is at c.in_ok-field-in-list.ensures.ok) (λ d. rw c.in-list.is)
+
+pub take_keyed-returns-in-Some-2-clause-ok : goal.take_keyed-returns-in-Some-2-clause-ok
+take_keyed-returns-in-Some-2-clause-ok t c = keyed_read large_list_of c.args.key.now _ _ (rw c.in-Some-2.is at c.in_ok-field-in-large_list.ensures.ok) (λ d. rw c.in-large_list.is)
+
+pub take_keyed-returns-in-Some-3-clause-ok : goal.take_keyed-returns-in-Some-3-clause-ok
+take_keyed-returns-in-Some-3-clause-ok t c =
+    let read = keyed_read struct c.args.key.now _ _ (rw c.in-Some-3.is at c.in_ok-fields-in-struct.ensures.ok) (λ d. rw c.in-struct.is) in
+    (read.0, read.1, ap (λ l. Some (struct (field_trees l))) c.from.ensures ∙ read.2)
+
+pub take_keyed-returns-in_ok-skip_value-in_default-clause-ok : goal.take_keyed-returns-in_ok-skip_value-in_default-clause-ok
+take_keyed-returns-in_ok-skip_value-in_default-clause-ok t c =
+    let d = after_some _ _ c.in_ok-skip_value-in_default.ensures.ok in
+    let n = c.in_default in
+    (d.0, d.1, not_keyed _ d.0 n.not-list n.not-large_list n.not-struct)
+
 pub take_keys-returns-in_default-clause-ok : goal.take_keys-returns-in_default-clause-ok
 take_keys-returns-in_default-clause-ok t c = (no_members, members_over c.args.depth no_members c.args.reader.now c.next_key.new.self (grind arith), refl)
 
-pub take_keys-returns-in_ok-skip_members-in_default-key-clause-ok : goal.take_keys-returns-in_ok-skip_members-in_default-key-clause-ok
-take_keys-returns-in_ok-skip_members-in_default-key-clause-ok t c =
-    let n = c.in_default-key in
-    none_taken_as _ _ (rw c.in-Some.is at c.in_ok-key.ensures.value) n.not-list n.not-large_list n.not-struct n.not-fixed_size_list n.not-size n.not-mode n.not-union c.in_ok-skip_value-in_default-key.ensures.ok c.in_ok-skip_members-in_default-key.ensures.ok
+pub take_only-only-preserved : goal.take_only-only-preserved
+take_only-only-preserved t c =
+    only_go_on c.only.invariant (rw c.in-Some.is at c.in_ok-key.ensures.value) c.ne.ensures c.if-ne.false c.in_ok-data_type-2.ensures.ok
 
-pub take_only_field-only-preserved : goal.take_only_field-only-preserved
-take_only_field-only-preserved t c =
-    only_go_on c.only.invariant (rw c.in-Some.is at c.in_ok-key.ensures.value) c.ne.ensures c.if-ne.false c.in_ok-field-2.ensures.ok
+pub take_only-returns-clause-ok : goal.take_only-returns-clause-ok
+take_only-returns-clause-ok t c = only_end c.only.invariant (grind arith)
 
-pub take_only_field-returns-clause-ok : goal.take_only_field-returns-clause-ok
-take_only_field-returns-clause-ok t c = only_end c.only.invariant (grind arith)
-
-pub take_only_field-returns-then-ne-clause-ok : goal.take_only_field-returns-then-ne-clause-ok
-take_only_field-returns-then-ne-clause-ok t c =
-    only_spoiled c.only.invariant (rw c.in-Some.is at c.in_ok-key.ensures.value) c.ne.ensures c.if-ne.true c.in_ok-skip_value.ensures.ok c.in_ok-skip_members.ensures.ok
-
-pub take_only_fields-only-preserved : goal.take_only_fields-only-preserved
-take_only_fields-only-preserved t c =
-    only_go_on c.only.invariant (rw c.in-Some.is at c.in_ok-key.ensures.value) c.ne.ensures c.if-ne.false c.in_ok-fields-2.ensures.ok
-
-pub take_only_fields-returns-clause-ok : goal.take_only_fields-returns-clause-ok
-take_only_fields-returns-clause-ok t c = only_end c.only.invariant (grind arith)
-
-pub take_only_fields-returns-then-ne-clause-ok : goal.take_only_fields-returns-then-ne-clause-ok
-take_only_fields-returns-then-ne-clause-ok t c =
+pub take_only-returns-then-ne-clause-ok : goal.take_only-returns-then-ne-clause-ok
+take_only-returns-then-ne-clause-ok t c =
     only_spoiled c.only.invariant (rw c.in-Some.is at c.in_ok-key.ensures.value) c.ne.ensures c.if-ne.true c.in_ok-skip_value.ensures.ok c.in_ok-skip_members.ensures.ok
 
 pub take_parts-parts-init : goal.take_parts-parts-init

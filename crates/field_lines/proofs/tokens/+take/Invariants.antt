@@ -2,9 +2,9 @@ use Rattle.std.proofs.Common.{IfSome, ◌+◌, ◌*◌, length, codes, option_ma
 use Rattle.std.specs.List.{zip}
 use Rattle.field_lines.specs.Steps.{AreMemberParts}
 use Rattle.arrow_values.specs.View.{tree, texts_of, field_trees, member_trees}
-use Rattle.field_lines.specs.FieldOfValue.{field_before, fields_in, members_in, field_of_value, fields_of_value, size_of_value, mode_of_value, members_of_value}
+use Rattle.field_lines.specs.FieldOfValue.{fields_in, members_in, field_of_value, size_of_value, mode_of_value, members_of_value}
 use Rattle.field_lines.proofs.TokenMembers.{ArePartsUnderWay, IsOnlyUnderWay, AreTwoUnderWay}
-use Rattle.field_lines.proofs.TokenItems.{AreItemsTaken, pair_before}
+use Rattle.field_lines.proofs.TokenItems.{AreItemsTaken}
 use Rattle.field_lines.proofs.tokens.+take.Given as goal
 
 abbrev pub decreases-take_field : goal.decreases-take_field
@@ -20,13 +20,13 @@ abbrev pub decreases-take_type : goal.decreases-take_type
 decreases-take_type l = 8 * l.depth + 6
 
 abbrev pub decreases-take_keys : goal.decreases-take_keys
-decreases-take_keys l = 8 * l.depth + 6
+decreases-take_keys l = 8 * l.depth + 7
 
-abbrev pub decreases-take_only_field : goal.decreases-take_only_field
-decreases-take_only_field l = 8 * l.depth + 5
+abbrev pub decreases-take_only : goal.decreases-take_only
+decreases-take_only l = 8 * l.depth + 6
 
-abbrev pub decreases-take_only_fields : goal.decreases-take_only_fields
-decreases-take_only_fields l = 8 * l.depth + 5
+abbrev pub decreases-take_keyed : goal.decreases-take_keyed
+decreases-take_keyed l = 8 * l.depth + 5
 
 abbrev pub decreases-take_fixed_size_list : goal.decreases-take_fixed_size_list
 decreases-take_fixed_size_list l = 8 * l.depth + 5
@@ -59,20 +59,14 @@ invariant-take_parts-parts l =
 abbrev pub decreases-take_parts-parts : goal.decreases-take_parts-parts
 decreases-take_parts-parts l = length l.reader
 
-abbrev pub invariant-take_only_field-only : goal.invariant-take_only_field-only
-invariant-take_only_field-only l = IsOnlyUnderWay field_of_value l.depth l.only l.fn.reader l.reader (option_map (λ b. b.value) l.field)
+abbrev pub invariant-take_only-only : goal.invariant-take_only-only
+invariant-take_only-only l = IsOnlyUnderWay l.depth l.only l.fn.reader l.reader (option_map tree l.data_type)
 
-abbrev pub decreases-take_only_field-only : goal.decreases-take_only_field-only
-decreases-take_only_field-only l = length l.reader
-
-abbrev pub invariant-take_only_fields-only : goal.invariant-take_only_fields-only
-invariant-take_only_fields-only l = IsOnlyUnderWay fields_of_value l.depth (codes "struct") l.fn.reader l.reader (option_map (λ v. field_trees v.items) l.fields)
-
-abbrev pub decreases-take_only_fields-only : goal.decreases-take_only_fields-only
-decreases-take_only_fields-only l = length l.reader
+abbrev pub decreases-take_only-only : goal.decreases-take_only-only
+decreases-take_only-only l = length l.reader
 
 abbrev pub invariant-take_items-items : goal.invariant-take_items-items
-invariant-take_items-items l = AreItemsTaken field_before fields_in l.depth l.initial.reader l.reader l.fields.items
+invariant-take_items-items l = AreItemsTaken field_trees fields_in l.depth l.initial.reader l.reader l.fields.items
 
 abbrev pub decreases-take_items-items : goal.decreases-take_items-items
 decreases-take_items-items l = length l.reader
@@ -94,7 +88,7 @@ abbrev pub decreases-take_union-keys : goal.decreases-take_union-keys
 decreases-take_union-keys l = length l.reader
 
 abbrev pub invariant-take_pairs-pairs : goal.invariant-take_pairs-pairs
-invariant-take_pairs-pairs l = AreItemsTaken pair_before members_in l.depth l.initial.reader l.reader (zip l.ids.items l.fields.items) × AreMemberParts l.ids.items l.fields.items
+invariant-take_pairs-pairs l = AreItemsTaken member_trees members_in l.depth l.initial.reader l.reader (zip l.ids.items l.fields.items) × AreMemberParts l.ids.items l.fields.items
 
 abbrev pub decreases-take_pairs-pairs : goal.decreases-take_pairs-pairs
 decreases-take_pairs-pairs l = length l.reader

@@ -1,16 +1,12 @@
-use Rattle.std.proofs.Common.{arith, refl}
-use Rattle.serde_json.specs.Find.{as_bool}
-use Rattle.value_tokens.specs.Turns.{no_value}
-use Rattle.value_tokens.specs.Beginnings.{next_boolean, no_truth}
-use Rattle.value_tokens.proofs.Firsts.{is_plain, skipped}
+use Rattle.std.proofs.Common.{arith, refl, sym}
+use Rattle.serde_json.specs.Data.{boolean}
+use Rattle.value_tokens.specs.Beginnings.{next_boolean, passed, no_truth}
 use Rattle.value_tokens.proofs.scalars.read_bool.Goals as goal
 
-pub returns-in_err-token-clause-text : goal.returns-in_err-token-clause-text
-returns-in_err-token-clause-text c refused = no_value c.args.depth c.args.reader.now (grind arith)
-
 pub returns-in-Bool-clause-ok : goal.returns-in-Bool-clause-ok
-returns-in-Bool-clause-ok c = (_, is_plain _ c.next.new.self (grind arith) (next_boolean _ c.in-Bool.truth c.next.new.self) refl, refl)
+returns-in-Bool-clause-ok c = (boolean c.in-Bool.truth, grind (arith, next_boolean), refl)
 
 pub returns-in_ok-skip_rest-in_default-clause-ok : goal.returns-in_ok-skip_rest-in_default-clause-ok
 returns-in_ok-skip_rest-in_default-clause-ok c =
-    skipped _ c.next.new.self as_bool c.in_ok-token.token (grind arith) c.in_ok-skip_rest-in_default.ensures.ok (no_truth _) c.in_default.not-Bool
+    let (d, is, begins) = passed c.args.depth _ _ c.next.new.self _ (grind arith) c.in_ok-skip_rest-in_default.ensures.ok in
+    (d, is, sym (no_truth _ d begins c.in_default.not-Bool))

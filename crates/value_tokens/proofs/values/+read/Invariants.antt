@@ -1,8 +1,8 @@
-use Rattle.std.proofs.Common.{◌≡◌, ◌+◌, ◌*◌, ◌≤◌, length}
-use Rattle.json.specs.Json.{parse_map}
+use Rattle.std.proofs.Common.{◌≡◌, ◌+◌, ◌*◌, ◌≤◌, ◌++◌, length, List, Some, None}
+use Rattle.json.specs.Token.{Token}
 use Rattle.serde_json.specs.Data.{no_members}
-use Rattle.serde_json.specs.View.{members_view}
-use Rattle.value_tokens.proofs.Loops.{items_before}
+use Rattle.serde_json.specs.View.{items_view, members_view}
+use Rattle.serde_json.specs.declared.value.Value.{Value}
 use Rattle.value_tokens.specs.Next.{next_items, next_members}
 use Rattle.value_tokens.proofs.values.+read.Given as goal
 
@@ -15,10 +15,11 @@ decreases-read_items l = 2 * l.depth + 1
 abbrev pub decreases-read_members : goal.decreases-read_members
 decreases-read_members l = 2 * l.depth + 1
 
--- what is left goes behind the items so far
+-- the items that are left go behind those so far
 abbrev pub invariant-read_items-items : goal.invariant-read_items-items
 invariant-read_items-items l = record {
-  decides : next_items l.depth l.initial.reader ≡ parse_map (items_before l.found.items) (next_items l.depth l.reader);
+  some : (rest : List Value) (r : List Token) → next_items l.depth l.reader ≡ Some (items_view rest, r) → next_items l.depth l.initial.reader ≡ Some (items_view (l.found.items ++ rest), r);
+  none : next_items l.depth l.reader ≡ None → next_items l.depth l.initial.reader ≡ None;
   fewer : length l.reader ≤ length l.initial.reader;
 }
 
