@@ -4,11 +4,7 @@ use Rattle.std.proofs.lemmas.List.{take-append-drop, take_rest}
 use Rattle.std.proofs.KnownBytes.{Appends-trans}
 use Rattle.std.specs.Io.KnownBytes.{Appends}
 use Rattle.std.specs.Result.{IsErrAnd}
-use Rattle.geoarrow_fields.specs.declared.Command.{Command}
-use Rattle.geoarrow_fields.specs.Lines.{Bytes, line_feed}
-use Rattle.geoarrow_fields.specs.Answer.{Answers}
-use Rattle.geoarrow_fields.specs.Output.{Answered}
-use Rattle.geoarrow_fields.specs.Progress.{AppendsSome, FrontOf}
+use Rattle.geoarrow_fields.proofs.Terms.{Command, Bytes, line_feed, Answers, Answered, AppendsSome, FrontOf}
 
 -- what follows from a fault that is handed on
 pub handed_on : {T E R : Type 0} {Q : E → Type 0} (r : Result T E) (x : E) → IsErrAnd r Q → ((e : E) → Q e → e ≡ x → R) → IfErr r (λ e. e ≡ x → R)

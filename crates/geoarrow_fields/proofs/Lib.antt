@@ -1,3 +1,4 @@
+pub mod Terms
 pub mod Splits
 pub mod Limits
 pub mod WithinLimits

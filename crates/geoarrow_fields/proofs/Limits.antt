@@ -3,7 +3,7 @@ use Rattle.std.proofs.Common.{◌≡◌, ◌≢◌, ◌⊎◌, inl, inr, ℕ, su
 use Rattle.std.proofs.lemmas.Bool.{eq-eqb, eqb-true}
 use Rattle.std.proofs.lemmas.List.{length-append, length-take, take-append-drop, take_rest, get_or-take, get_or_append_left, get_or_at}
 use Rattle.std.proofs.lemmas.List.Elements.{All-from_get_or}
-use Rattle.geoarrow_fields.specs.Lines.{Bytes, line_feed, max_lines, max_line_bytes, IsLine, IsPastLimit}
+use Rattle.geoarrow_fields.proofs.Terms.{Bytes, line_feed, max_lines, max_line_bytes, IsLine, IsPastLimit}
 
 -- the byte at a place is no line feed
 abbrev pub IsOther : Bytes → ℕ → Type 0

@@ -1,11 +1,11 @@
 -- An input and its lines.
-use Rattle.std.proofs.Common.{◌≡◌, ◌≢◌, ℕ, ◌<◌, inl, inr, cond, eqb, List, [], ◌∷◌, ◌++◌, length, refl, sym, subst, ap, ◌∙◌, append_assoc, append-nil, All, arith}
+use Rattle.std.proofs.Common.{◌≡◌, ◌≢◌, ℕ, ◌<◌, inl, inr, cond, eqb, List, [], ◌∷◌, ◌++◌, length, refl, sym, ap, ap₂, ◌⊎◌, ◌∙◌, append_assoc, append-nil, All, arith}
 use Rattle.std.proofs.lemmas.Bool.{ne_eqb, cases_eq}
 use Rattle.std.proofs.lemmas.List.Elements.{All-nil, All-cons, All-head, All-tail, All-append}
-use Rattle.geoarrow_fields.specs.Lines.{Bytes, begin_line, lines_of, ended_lines, line_feed, IsLine, IsSplit}
+use Rattle.geoarrow_fields.proofs.Terms.{Bytes, begin_line, lines_of, ended_lines, line_feed, IsLine, IsSplit}
 
 -- another byte stands in the first line
-put_other : (byte : ℕ) (bytes : Bytes) (lines : List Bytes) → byte ≢ line_feed → lines_of bytes ≡ lines → lines_of (byte ∷ bytes) ≡ begin_line byte lines
+pub put_other : (byte : ℕ) (bytes : Bytes) (lines : List Bytes) → byte ≢ line_feed → lines_of bytes ≡ lines → lines_of (byte ∷ bytes) ≡ begin_line byte lines
 put_other byte bytes lines h same =
     ap (λ l. cond (eqb byte line_feed) ([] ∷ l) (begin_line byte l)) same ∙ ap (λ t. cond t ([] ∷ lines) (begin_line byte lines)) (ne_eqb byte line_feed h)
 
@@ -46,20 +46,22 @@ split_after input a middle b later first second = record {
   each = All-append IsLine a b first.each second.each;
 }
 
--- every input is split, after what is begun
-split_from : (begun bytes : Bytes) → IsLine begun → (lines : List Bytes) × (rest : Bytes) × IsSplit (begun ++ bytes) lines rest × IsLine rest
-split_from begun [] is = ([], begun, record { joined = append-nil begun; each = All-nil IsLine }, is)
-split_from begun (byte ∷ bytes) is =
-    elim (cases_eq byte line_feed) [
-      | inl feed ↦
-          let (lines, rest, split, line) = split_from [] bytes (All-nil (λ b. b ≢ line_feed)) in
-          let joined = ap (λ l. begun ++ (line_feed ∷ l)) split.joined ∙ sym (append_assoc begun (line_feed ∷ ended_lines lines) rest) in
-          (begun ∷ lines, rest, record { joined = ap (λ b. begun ++ (b ∷ bytes)) feed ∙ joined; each = All-cons IsLine begun lines is split.each }, line)
-      | inr other ↦
-          let one = All-cons (λ b. b ≢ line_feed) byte [] other (All-nil (λ b. b ≢ line_feed)) in
-          subst (λ l. (lines : List Bytes) × (rest : Bytes) × IsSplit l lines rest × IsLine rest) (append_assoc begun (byte ∷ []) bytes)
-          (split_from (begun ++ (byte ∷ [])) bytes (All-append (λ b. b ≢ line_feed) begun (byte ∷ []) is one))
-    ]
+-- what the law of `lines` says
+pub lines_of_ended : (lines : List Bytes) → All IsLine lines → lines_of (ended_lines lines) ≡ lines
+lines_of_ended lines h = ap lines_of (sym (append-nil (ended_lines lines))) ∙ lines_of-ended lines [] h ∙ append-nil lines
+
+pub lines_of_both : (lines : List Bytes) (rest : Bytes) → All IsLine lines → IsLine rest → 0 < length rest → lines_of (ended_lines lines ++ rest) ≡ lines ++ rest ∷ []
+lines_of_both lines rest h line some = lines_of-ended lines rest h ∙ ap (λ l. lines ++ l) (lines_of-last rest line some)
 
 pub split_every : (input : Bytes) → (lines : List Bytes) × (rest : Bytes) × IsSplit input lines rest × IsLine rest
-split_every input = split_from [] input (All-nil (λ b. b ≢ line_feed))
+split_every [] = ([], [], record { joined = refl; each = All-nil IsLine }, All-nil (λ b. b ≢ line_feed))
+split_every (byte ∷ bytes) = after (cases_eq byte line_feed) (split_every bytes)
+  where
+    after : (byte ≡ line_feed) ⊎ (byte ≢ line_feed) → (lines : List Bytes) × (rest : Bytes) × IsSplit bytes lines rest × IsLine rest
+        → (lines : List Bytes) × (rest : Bytes) × IsSplit (byte ∷ bytes) lines rest × IsLine rest
+    after (inl feed) (lines, rest, split, line) =
+        ([] ∷ lines, rest, record { joined = ap₂ (λ b l. b ∷ l) feed split.joined; each = All-cons IsLine [] lines (All-nil (λ b. b ≢ line_feed)) split.each }, line)
+    after (inr other) ([], rest, split, line) = ([], byte ∷ rest, record { joined = ap (λ l. byte ∷ l) split.joined; each = split.each }, All-cons (λ b. b ≢ line_feed) byte rest other line)
+    after (inr other) (begun ∷ lines, rest, split, line) =
+        let longer = All-cons (λ b. b ≢ line_feed) byte begun other (All-head IsLine begun lines split.each) in
+        ((byte ∷ begun) ∷ lines, rest, record { joined = ap (λ l. byte ∷ l) split.joined; each = All-cons IsLine (byte ∷ begun) lines longer (All-tail IsLine begun lines split.each) }, line)

@@ -5,10 +5,7 @@ use Rattle.std.proofs.KnownBytes.{Appends-kept, Keeps-refl}
 use Rattle.std.proofs.lemmas.List.Elements.{All-nil, All-append}
 use Rattle.std.specs.Io.KnownBytes.{Keeps}
 use Rattle.memchr.specs.Find.{is_byte, IsFirstByte}
-use Rattle.geoarrow_fields.specs.declared.Command.{Command}
-use Rattle.geoarrow_fields.specs.Lines.{Bytes, line_feed, max_lines, max_line_bytes, IsLine, IsPastLimit}
-use Rattle.geoarrow_fields.specs.Output.{Answered}
-use Rattle.geoarrow_fields.specs.Progress.{IsBegun, AnswersNext, AnswersUntil, AppendsSome, FrontOf}
+use Rattle.geoarrow_fields.proofs.Terms.{Command, Bytes, line_feed, max_lines, max_line_bytes, IsLine, IsPastLimit, Answered, IsBegun, AnswersNext, AnswersUntil, AppendsSome, FrontOf}
 use Rattle.geoarrow_fields.proofs.Limits.{line_before, after, line_parted, limit_passed, line_inside}
 use Rattle.geoarrow_fields.proofs.WithinLimits.{lines_line}
 use Rattle.geoarrow_fields.proofs.Grows.{appends_after, front_after, answered_after}
@@ -19,7 +16,7 @@ none_begun total few = record { line = All-nil (λ b. b ≢ line_feed); short = 
 
 -- what is answered, and the rest of the chunk
 module _ (command : Command) {count total : ℕ} {input : Bytes} (begun rest : Bytes) (old mid : Option Bytes)
-    (way : AppendsSome (AnswersNext command count input total (begun ++ rest)) old mid × IsBegun total begun) (len : ℕ) (len_is : len ≡ length begun) where
+    (way : AppendsSome (AnswersNext command count input total (begun ++ rest)) old mid × IsBegun total begun) where
   -- a cause to stop comes
   stops_here : (Cause : ℕ → Bytes → Type 0) (new : Option Bytes) → Keeps mid new → Cause total (begun ++ rest)
       → AppendsSome (AnswersUntil Cause command count input) old new
@@ -37,16 +34,16 @@ module _ (command : Command) {count total : ℕ} {input : Bytes} (begun rest : B
     line_is : IsLine line
     line_is = All-append (λ b. b ≢ line_feed) begun (take at rest) way.1.line (line_before rest at (omega (arith, found.0.high)) (λ k lt. found.0.before k (omega arith) lt))
 
-    line_length : len + at ≡ length line
-    line_length = omega (arith, len_is, found.0.high, length-append begun (take at rest), length-take at rest)
+    line_length : length begun + at ≡ length line
+    line_length = omega (arith, found.0.high, length-append begun (take at rest), length-take at rest)
 
-    pub line_past_limit : (total ≡ max_lines) ⊎ (max_line_bytes < len + at) → AppendsSome (AnswersUntil IsPastLimit command count input) old mid
+    pub line_past_limit : (total ≡ max_lines) ⊎ (max_line_bytes < length begun + at) → AppendsSome (AnswersUntil IsPastLimit command count input) old mid
     line_past_limit past =
         stops_here IsPastLimit mid (Keeps-refl mid)
         (limit_passed total (begun ++ rest) line (line_feed ∷ after rest at) joined line_is (omega (arith, found.0.high, length-append begun rest))
-        (len + at) line_length past)
+        (length begun + at) line_length past)
 
-    module _ (fits : (total < max_lines) × (len + at ≤ max_line_bytes)) (new : Option Bytes) where
+    module _ (fits : (total < max_lines) × (length begun + at ≤ max_line_bytes)) (new : Option Bytes) where
       short : length line ≤ max_line_bytes
       short = omega (arith, fits.1, line_length)
 
@@ -81,20 +78,17 @@ module _ (command : Command) {count total : ℕ} {input : Bytes} (begun rest : B
         All-append (λ b. b ≢ line_feed) begun rest way.1.line
         (subst IsLine (take_all (length rest) rest (omega arith)) (line_before rest (length rest) (omega arith) (λ k lt. none k (omega arith) lt)))
 
-    rest_length : len + length rest ≡ length (begun ++ rest)
-    rest_length = omega (arith, len_is, length-append begun rest)
-
-    pub rest_past_limit : 0 < length rest → (total ≡ max_lines) ⊎ (max_line_bytes < len + length rest)
+    pub rest_past_limit : 0 < length rest → (total ≡ max_lines) ⊎ (max_line_bytes < length begun + length rest)
         → AppendsSome (AnswersUntil IsPastLimit command count input) old mid
     rest_past_limit some past =
         stops_here IsPastLimit mid (Keeps-refl mid)
-        (limit_passed total (begun ++ rest) (begun ++ rest) [] (sym (append-nil (begun ++ rest))) rest_is (omega (arith, rest_length))
-        (len + length rest) rest_length past)
+        (limit_passed total (begun ++ rest) (begun ++ rest) [] (sym (append-nil (begun ++ rest))) rest_is (omega (arith, some, length-append begun rest))
+        (length begun + length rest) (sym (length-append begun rest)) past)
 
-    pub rest_begun : (total < max_lines) × (len + length rest ≤ max_line_bytes) → (more : Bytes) → more ≡ begun ++ rest → IsBegun total more
+    pub rest_begun : (total < max_lines) × (length begun + length rest ≤ max_line_bytes) → (more : Bytes) → more ≡ begun ++ rest → IsBegun total more
     rest_begun (few, short) more same = record {
       line = subst IsLine (sym same) rest_is;
-      short = omega (arith, short, ap length same, rest_length);
+      short = omega (arith, short, ap length same, length-append begun rest);
       few = omega arith;
       room = λ _. few;
     }

@@ -3,11 +3,7 @@ use Rattle.std.specs.Prelude.{⊤}
 use Rattle.std.proofs.Common.{◌≡◌, ℕ, ◌+◌, List, ◌*◌, ◌-◌, ◌<◌, [], ◌∷◌, ◌++◌, length, Option, refl, sym, ap, ◌∙◌, subst, append-nil, length-append, arith}
 use Rattle.std.proofs.KnownBytes.{Appends-trans, Appends-nil, Consumes-nil, Consumes-trans}
 use Rattle.std.specs.Io.KnownBytes.{Appends, Consumes}
-use Rattle.geoarrow_fields.specs.declared.Command.{Command}
-use Rattle.geoarrow_fields.specs.declared.RunEnd.TheVariants.{Done, OutputFault}
-use Rattle.geoarrow_fields.specs.Lines.{Bytes, lines_of, max_lines, max_line_bytes, IsSplit, Stops}
-use Rattle.geoarrow_fields.specs.Output.{Answered, Means, ReadsAndWrites, RunsTo}
-use Rattle.geoarrow_fields.specs.Progress.{IsBegun, AnswersNext, AnswersUntil, AppendsSome, FrontOf}
+use Rattle.geoarrow_fields.proofs.Terms.{Command, Done, OutputFault, Bytes, lines_of, max_lines, max_line_bytes, IsSplit, Stops, Answered, Means, ReadsAndWrites, RunsTo, IsBegun, AnswersNext, AnswersUntil, AppendsSome, FrontOf}
 use Rattle.geoarrow_fields.proofs.Splits.{lines_of-split}
 use Rattle.geoarrow_fields.proofs.WithinLimits.{lines_none, lines_after, all_within, stops}
 use Rattle.geoarrow_fields.proofs.Grows.{answered_none, answered_after, answered_then, front_after}
@@ -31,15 +27,21 @@ pub writes_more : (Before After : Bytes → Bytes → Type 0) (More : Bytes → 
     → ReadsAndWrites Before i j o p → Consumes j k [] → AppendsSome More p q → ReadsAndWrites After i k o q
 writes_more Before After More i j k o p q join run read grown =
     continues Before After More i j k o p q []
-    (λ input output more is so. subst (λ l. After l (output ++ more)) (sym (append-nil input)) (join input output more is so)) run read grown
+    (λ input output more is so. rw (append-nil input) (join input output more is so)) run read grown
+
+-- and only a front part is written
+pub writes_front : (Before Meant : Bytes → Bytes → Type 0) (More : Bytes → Type 0) (i j k o p q : Option Bytes)
+    → ((input output more : Bytes) → Before input output → More more → Meant input (output ++ more))
+    → ReadsAndWrites Before i j o p → Consumes j k [] → AppendsSome (FrontOf More) p q → ReadsAndWrites (λ input. FrontOf (Meant input)) i k o q
+writes_front Before Meant More i j k o p q join =
+    writes_more Before (λ input. FrontOf (Meant input)) (FrontOf More) i j k o p q (λ input output more is. front_after More (Meant input) output (λ whole. join input output whole is) more)
 
 -- ---- a run under way
 
 -- nothing is read yet
 pub way_starts : (command : Command) {begun : Bytes} {i o : Option Bytes} → begun ≡ [] → ReadsAndWrites (λ input. AnswersNext command 0 input 0 begun) i i o o
 way_starts command {begun} {i} {o} none =
-    subst (λ l. ReadsAndWrites (λ input. AnswersNext command 0 input 0 l) i i o o) (sym none)
-    (record { input = []; output = []; consumed = Consumes-nil i; written = Appends-nil o; is = (lines_none 0 [] (omega arith), answered_none command []) })
+    rw none (record { input = []; output = []; consumed = Consumes-nil i; written = Appends-nil o; is = (lines_none 0 [] (omega arith), answered_none command []) })
 
 module _ (command : Command) {count : ℕ} {begun : Bytes} {i j o p : Option Bytes}
     (way : ReadsAndWrites (λ input. AnswersNext command 0 input count begun) i j o p) (k q : Option Bytes) where
@@ -64,11 +66,7 @@ module _ (command : Command) {count : ℕ} {begun : Bytes} {i j o p : Option Byt
     way_done = writes_more _ (Means command Done) _ i j k o p q all way read
 
     pub way_breaks_off_at_end : AppendsSome (FrontOf (Answered command [] (lines_of begun))) p q → RunsTo command OutputFault i k o q
-    way_breaks_off_at_end part = (
-      Done,
-      writes_more _ _ _ i j k o p q
-          (λ input output more next. front_after _ (Means command Done input) output (λ whole. all input output whole next) more) way read part,
-    )
+    way_breaks_off_at_end part = (Done, writes_front _ (Means command Done) _ i j k o p q all way read part)
 
   -- a piece of the input comes
   module _ (piece : Bytes) (read : Consumes j k piece) where
@@ -89,16 +87,16 @@ module _ (command : Command) {count : ℕ} {begun : Bytes} {i j o p : Option Byt
         continues _ _ _ i j k o p q piece
         (λ input output more first (total, later, next, cause). (total, later, after input output more total later first next, turn total later cause)) way read
 
+    whole : (input output : Bytes) → AnswersNext command 0 input count begun output → (more : Bytes) → AnswersUntil (λ n l. ⊤) command count (begun ++ piece) more
+        → Means command OutputFault (input ++ piece) (output ++ more)
+    whole input output first more (total, later, next, _) =
+        let (lines, answers) = after input output more total later first next in (stops (λ n l. ⊤) total (input ++ piece) later lines tt, answers)
+
     pub way_breaks_off : AppendsSome (FrontOf (AnswersUntil (λ n l. ⊤) command count (begun ++ piece))) p q → RunsTo command OutputFault i k o q
-    way_breaks_off part =
-        let whole : (input output more : Bytes) → AnswersNext command 0 input count begun output → AnswersUntil (λ n l. ⊤) command count (begun ++ piece) more
-        → Means command OutputFault (input ++ piece) (output ++ more) =
-        λ input output more first (total, later, next, _). let (lines, answers) =
-        after input output more total later first next in (stops (λ n l. ⊤) total (input ++ piece) later lines tt, answers) in (
-          OutputFault,
-          continues _ _ _ i j k o p q piece
-              (λ input output more first. front_after _ (Means command OutputFault (input ++ piece)) output (λ b. whole input output b first) more) way read part,
-        )
+    way_breaks_off part = (
+      OutputFault,
+      continues _ (λ input. FrontOf (Means command OutputFault input)) _ i j k o p q piece (λ input output more first. front_after _ (Means command OutputFault (input ++ piece)) output (whole input output first) more) way read part,
+    )
 
 -- ---- a run ends
 

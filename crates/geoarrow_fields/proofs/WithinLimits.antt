@@ -1,11 +1,10 @@
 -- The limits as the lines of an input have them.
-use Rattle.std.proofs.Common.{◌≡◌, ◌≢◌, ◌⊎◌, inl, inr, ℕ, ◌+◌, ◌<◌, ◌≤◌, List, [], ◌∷◌, ◌++◌, length, refl, sym, ap, ◌∙◌, subst, append_assoc, append-nil, length-append, All, arith}
-use Rattle.std.proofs.lemmas.Bool.{cases_lt}
-use Rattle.std.proofs.lemmas.List.{get_or_at}
-use Rattle.std.proofs.lemmas.List.Elements.{All-nil, All-cons, All-head, All-tail, All-append, All-push}
-use Rattle.geoarrow_fields.specs.Lines.{Bytes, line_feed, max_lines, max_line_bytes, lines_of, ended_lines, IsLine, IsWithinLimits, IsPastLimit, IsSplit, Stops}
-use Rattle.geoarrow_fields.specs.Progress.{IsShort, IsBegun, NextLines}
-use Rattle.geoarrow_fields.proofs.Splits.{lines_of-last, lines_of-split, lines_of-line, split_after, split_every}
+use Rattle.std.proofs.Common.{◌≡◌, ◌≢◌, ◌⊎◌, inl, inr, ℕ, ◌+◌, ◌<◌, ◌≤◌, List, [], ◌∷◌, ◌++◌, length, get_or, eqb, refl, sym, ap, ◌∙◌, subst, append_assoc, append-nil, length-append, All, arith}
+use Rattle.std.proofs.lemmas.Bool.{cases_lt, cond_both}
+use Rattle.std.proofs.Math.Seq.{drop-append_seam}
+use Rattle.std.proofs.lemmas.List.Elements.{All-nil, All-cons, All-head, All-tail, All-append, All-push, All-drop, All-get_or}
+use Rattle.geoarrow_fields.proofs.Terms.{Bytes, line_feed, max_lines, max_line_bytes, begin_line, lines_of, ended_lines, IsLine, IsWithinLimits, IsPastLimit, Stops, IsShort, IsBegun, NextLines}
+use Rattle.geoarrow_fields.proofs.Splits.{put_other, lines_of-last, lines_of-split, split_after, split_every}
 
 -- ---- lines one after the other
 
@@ -107,46 +106,42 @@ either input =
 
 -- ---- and not both
 
--- the first line goes on from what is begun
-goes_on : (begun rest : Bytes) → IsLine begun → 0 < length (begun ++ rest) → (end : Bytes) × (others : List Bytes)
-    × (lines_of (begun ++ rest) ≡ (begun ++ end) ∷ others)
-goes_on begun rest is some = from (split_every rest)
+-- bytes have a line
+some_line : (bytes : Bytes) → 0 < length bytes → 0 < length (lines_of bytes)
+some_line [] some = absurd (omega arith)
+some_line (byte ∷ bytes) some =
+    cond_both (eqb byte line_feed) ([] ∷ lines_of bytes) (begin_line byte (lines_of bytes)) (λ lines. 0 < length lines) (λ _. omega arith) (λ _. begins (lines_of bytes))
   where
-    from : (lines : List Bytes) × (last : Bytes) × IsSplit rest lines last × IsLine last → (end : Bytes) × (others : List Bytes)
-        × (lines_of (begun ++ rest) ≡ (begun ++ end) ∷ others)
-    from ([], last, split, line) = (
-      last,
-      [],
-      ap (λ l. lines_of (begun ++ l)) split.joined ∙ lines_of-last (begun ++ last) (All-append (λ b. b ≢ line_feed) begun last is line)
-          (subst (λ l. 0 < length (begun ++ l)) split.joined some),
-    )
-    from (line ∷ lines, last, split, _) =
-        let later = ended_lines lines ++ last in
-        let joined =
-        ap (λ l. begun ++ l) (split.joined ∙ append_assoc line (line_feed ∷ ended_lines lines) last) ∙ sym (append_assoc begun line (line_feed ∷ later)) in (
-          line,
-          lines_of later,
-          ap lines_of joined ∙ lines_of-line (begun ++ line) later
-              (All-append (λ b. b ≢ line_feed) begun line is (All-head IsLine line lines split.each)),
-        )
+    begins : (lines : List Bytes) → 0 < length (begin_line byte lines)
+    begins [] = omega arith
+    begins (line ∷ lines) = omega arith
+
+-- and the first is no shorter than what is begun
+first_long : (begun rest : Bytes) → IsLine begun → length begun ≤ length (get_or (lines_of (begun ++ rest)) 0 [])
+first_long [] rest is = omega arith
+first_long (byte ∷ begun) rest is =
+    rw (put_other byte (begun ++ rest) (lines_of (begun ++ rest)) (All-head (λ b. b ≢ line_feed) byte begun is) refl)
+    (longer (lines_of (begun ++ rest)) (first_long begun rest (All-tail (λ b. b ≢ line_feed) byte begun is)))
+  where
+    longer : (lines : List Bytes) → length begun ≤ length (get_or lines 0 []) → length (byte ∷ begun) ≤ length (get_or (begin_line byte lines) 0 [])
+    longer [] h = omega arith
+    longer (line ∷ lines) h = omega arith
 
 pub never_both : (input : Bytes) → IsWithinLimits (lines_of input) → ¬ Stops IsPastLimit input
 never_both input within passes = contradicts passes.cause
   where
-    split : lines_of input ≡ passes.lines ++ lines_of passes.later
+    later : List Bytes
+    later = lines_of passes.later
+
+    split : lines_of input ≡ passes.lines ++ later
     split = lines_of-split input passes.lines passes.later passes.split
 
+    short : All IsShort later
+    short = rw (split, drop-append_seam) at (All-drop IsShort (length passes.lines) (lines_of input) within.short)
+
     contradicts : IsPastLimit (length passes.lines) passes.later → ⊥
-    contradicts (inl (many, some)) =
-        let (end, others, same) = goes_on [] passes.later (All-nil (λ b. b ≢ line_feed)) some in
-        omega (arith, many, within.few, ap length split, length-append passes.lines (lines_of passes.later), ap length same)
+    contradicts (inl (many, some)) = omega (arith, many, within.few, ap length split, length-append passes.lines later, some_line passes.later some)
     contradicts (inr long) =
-        let some : 0 < length (long.begun ++ long.rest) = omega (arith, long.long, length-append long.begun long.rest) in
-        let (end, others, same) = goes_on long.begun long.rest long.line some in
-        let all : All IsShort (passes.lines ++ ((long.begun ++ end) ∷ others)) =
-        subst (All IsShort) (split ∙ ap (λ l. passes.lines ++ l) (ap lines_of long.joined ∙ same)) within.short in
-        let at : length passes.lines < length (passes.lines ++ ((long.begun ++ end) ∷ others)) =
-        omega (arith, length-append passes.lines ((long.begun ++ end) ∷ others)) in
-        let short : length (long.begun ++ end) ≤ max_line_bytes =
-        subst IsShort (get_or_at passes.lines (long.begun ++ end) others [] (length passes.lines) refl) (all (length passes.lines) [] at) in
-        omega (arith, long.long, length-append long.begun end)
+        let some : 0 < length later = some_line passes.later (omega (arith, long.long, ap length long.joined, length-append long.begun long.rest)) in
+        let first : IsShort (get_or (lines_of (long.begun ++ long.rest)) 0 []) = rw (← long.joined) (All-get_or IsShort later 0 [] some short) in
+        omega (arith, first, long.long, first_long long.begun long.rest long.line)

@@ -1,7 +1,7 @@
 //! What is written: answers, each with its line feed, and the line of an end.
 ghost use Rattle.std.specs.Prelude.{◌≡◌, ◌≢◌, [], ◌∷◌, ◌++◌, OnOk, OnErr, IfErr};
 ghost use Rattle.std.specs.Io.KnownBytes.{Appends, Keeps};
-ghost use Rattle.geoarrow_fields.specs.Output.{Answered};
+ghost use Rattle.geoarrow_fields.specs.Answer.{Answered};
 ghost use Rattle.geoarrow_fields.specs.Progress.{AppendsSome, FrontOf};
 
 use crate::answer::answer_line_with_scratch;

@@ -3,8 +3,7 @@ use Rattle.std.proofs.KnownBytes.{Appends-nil, Appends-kept, Consumes-nil, Consu
 use Rattle.std.proofs.lemmas.Grind.{common_steps}
 use Rattle.std.proofs.lemmas.List.{nil_from_length}
 use Rattle.std.proofs.lemmas.Result.{on_ok_weaker}
-use Rattle.geoarrow_fields.specs.Lines.{lines_of, IsPastLimit, IsLine}
-use Rattle.geoarrow_fields.specs.Output.{Answered}
+use Rattle.geoarrow_fields.proofs.Terms.{lines_of, IsPastLimit, IsLine, Answered}
 use Rattle.geoarrow_fields.proofs.Grows.{handed_on, on_fault, answered_none}
 use Rattle.geoarrow_fields.proofs.Limits.{begun_inside}
 use Rattle.geoarrow_fields.proofs.Splits.{lines_of-last}
