@@ -1,8 +1,5 @@
 pub mod Terms
-pub mod Splits
 pub mod Limits
-pub mod WithinLimits
-pub mod Grows
 pub mod Steps
 pub mod Ways
 mod Layouts

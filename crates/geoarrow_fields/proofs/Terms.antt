@@ -1,6 +1,6 @@
 -- The names of the specs that most proofs cite, passed on from one place. Declares nothing.
 pub use Rattle.std.specs.Str.{is_utf8}
-pub use Rattle.serde_json.specs.Data.{Data, array, boolean, depth, member, members_depth, no_members, null, number, object, put, string, Members}
+pub use Rattle.serde_json.specs.Data.{Data, boolean, depth, member, members_depth, no_members, null, object, put, string, Members}
 pub use Rattle.serde_json.specs.Read.{max_depth, read}
 pub use Rattle.serde_json.specs.Written.{compact_text, has_float}
 pub use Rattle.arrow_values.specs.Tree.{FieldTree, Metadata as Texts, Text, Tree, fixed_size_list, plain, struct}
@@ -27,8 +27,6 @@ unfoldable pub use Rattle.geoarrow_native.specs.Column.{ReadsAs}
 pub use Rattle.geoarrow_schema.specs.declared.types.GeoArrowType.{GeoArrowType}
 pub use Rattle.geoarrow_schema.specs.Types.{SameType, kind_of, meta_of}
 pub use Rattle.geoarrow_schema.specs.Reads.{HasGeoArrowName, Reads}
-pub use Rattle.geoarrow_schema.specs.Infers.{Infers}
-unfoldable pub use Rattle.geoarrow_schema.specs.Infers.{InfersAs}
 pub use Rattle.geoarrow_schema.specs.Normal.{IsCanonical, ReadsNormally, rewritten}
 pub use Rattle.geoarrow_columns.specs.declared.check.ColumnFault.{ColumnFault}
 pub use Rattle.geoarrow_columns.specs.declared.check.ColumnFault.TheVariants.{Arrow, InvalidGeoArrow}

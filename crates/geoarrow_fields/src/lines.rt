@@ -20,7 +20,7 @@ const MAX_LINE_BYTES: usize = 1_048_576;
 
 /// A law: lines that are joined, each with its line feed, and followed by a rest without one, are an input of exactly
 /// these lines and, unless it is empty, the rest; every input has this form. There is nothing to run.
-#[tactic(auto, using(crate::proofs::Splits::lines_of_ended, crate::proofs::Splits::lines_of_both, crate::proofs::Splits::split_every))]
+#[tactic(auto, using(crate::proofs::Limits::lines_of_ended, crate::proofs::Limits::lines_of_both, crate::proofs::Limits::split_every))]
 pub fn splits_at_line_feeds()
     ensures ended { (lines : List Bytes) → All IsLine lines → lines_of (ended_lines lines) ≡ lines }
     ensures last { (lines : List Bytes) (rest : Bytes) → All IsLine lines → IsLine rest → 0 < length rest
@@ -30,7 +30,7 @@ pub fn splits_at_line_feeds()
 
 /// A law: either all lines of an input are within the limits, or the first ones are and what comes after them exceeds a
 /// limit; never both. There is nothing to run.
-#[tactic(auto, using(crate::proofs::WithinLimits::either, crate::proofs::WithinLimits::never_both))]
+#[tactic(auto, using(crate::proofs::Limits::either, crate::proofs::Limits::never_both))]
 pub fn keeps_limits_or_passes_one()
     ensures either { (input : Bytes) → IsWithinLimits (lines_of input) ⊎ Stops IsPastLimit input }
     ensures never_both { (input : Bytes) → IsWithinLimits (lines_of input) → ¬ Stops IsPastLimit input }

@@ -32,6 +32,7 @@ impl From<AllocError> for Fault {
 }
 
 /// Writes all of a text, or returns a fault of the output.
+#[tactic(auto, using(crate::proofs::Ways::write_goes_on))]
 fn write_whole<W: Write>(writer: &mut W, text: &[u8]) -> Result<(), Fault>
     ensures ok { OnOk result (Appends (W.contents writer.old) (W.contents writer.new) text.now) }
     ensures err { IfErr result (λ fault. fault ≡ Fault.Output) }

@@ -3,8 +3,8 @@ use Rattle.std.proofs.KnownBytes.{Appends-nil}
 use Rattle.std.proofs.lemmas.Grind.{common_steps}
 use Rattle.std.proofs.lemmas.List.{nil_from_length}
 use Rattle.geoarrow_fields.proofs.Steps.{line_past_limit, line_answered, line_lacks_memory, line_breaks_off, rest_past_limit, rest_begun}
-use Rattle.geoarrow_fields.proofs.Grows.{handed_on, answered_none}
-use Rattle.geoarrow_fields.proofs.WithinLimits.{lines_none}
+use Rattle.geoarrow_fields.proofs.Ways.{handed_on, answered_none}
+use Rattle.geoarrow_fields.proofs.Limits.{lines_none}
 use Rattle.geoarrow_fields.proofs.lines.answer_chunk.Goals as goal
 
 pub loop-at-init : goal.loop-at-init

@@ -2,8 +2,7 @@ use Rattle.std.proofs.Common.{◌≡◌, ◌≢◌, ◌++◌, Option, [], refl, 
 use Rattle.std.proofs.KnownBytes.{Consumes-nil}
 use Rattle.std.specs.Io.KnownBytes.{Appends}
 use Rattle.geoarrow_fields.proofs.Terms.{Command, RunEnd, Done, InputFault, Memory, OutputFault, Bytes, lines_of, Means, ReadsAndWrites, RunsTo, AppendsSome, FrontOf}
-use Rattle.geoarrow_fields.proofs.Grows.{answered_then}
-use Rattle.geoarrow_fields.proofs.Ways.{writes_more, writes_front, stopped}
+use Rattle.geoarrow_fields.proofs.Ways.{answered_then, writes_more, writes_front, stopped}
 use Rattle.geoarrow_fields.proofs.reading.run.Goals as goal
 
 -- an end is the one that was meant, or a fault of the writer
