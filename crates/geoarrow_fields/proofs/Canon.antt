@@ -1,6 +1,6 @@
 -- The canonical field of a field that a line denotes: its line is read back as that field, which is its own canonical form and reads as
 -- the same type.
-use Rattle.std.proofs.Common.{◌≡◌, inl, inr, ◌≤◌, ◌∷◌, [], List, ℕ, Bool, true, false, Option, Some, None, IfSome, option_map, codes, refl, sym, ap, ap₂, ◌∙◌, subst, arith, Ordering, Less, Equal, Greater, nat_cmp}
+use Rattle.std.proofs.Common.{◌≡◌, inl, inr, ◌≤◌, ◌∷◌, [], List, ℕ, Bool, true, false, Option, Some, None, IfSome, option_map, codes, refl, sym, ap, ap₂, ◌∙◌, subst, arith, nat_cmp}
 use Rattle.std.specs.Ordering.{match_ordering}
 use Rattle.std.specs.Cmp.Lexicographic.{slice_cmp}
 use Rattle.std.specs.Arc.{arc_with_value}
@@ -13,8 +13,8 @@ use Rattle.geoarrow_meta.specs.Written.{of_parts, written, type_unless, IsReadBa
 use Rattle.geoarrow_schema.specs.declared.types.GeoArrowType.TheVariants as types
 use Rattle.geoarrow_fields.proofs.Terms.{is_utf8, Data, boolean, depth, member, members_depth, no_members, null, object, string, Members, max_depth, read, compact_text, has_float, FieldTree, Text, Texts, extension_metadata, metadata_key, ExtensionName, Point, Kind, extension_of, name_of, name_text, layout, Edges, CrsType, Metadata, DenotesMetadata, NestsWithin, meta_value, normal, printed, GeoArrowType, kind_of, meta_of, Reads, IsCanonical, ReadsNormally, rewritten, is_held, members_are_held, held_parts, field_of_line, line_of_field, parts_value, texts_value, type_value, value_of_field, HasLineForm, Canon, Read, Bytes, Answers, AnswersField, type_text}
 use Rattle.geoarrow_fields.proofs.OneAnswer.{IsOneKind, words_of, reads_parts, one_reading, no_type_read, one_field_answer, answered, answer_of}
-use Rattle.geoarrow_fields.proofs.Layouts.{ascii, layout_form, layout_held, layout_levels}
-use Rattle.geoarrow_fields.proofs.Extension.{HoldsTexts, PutIsHeld, set_held, set_again, text_held}
+use Rattle.geoarrow_fields.proofs.Layouts.{ascii, layout_form, layout_said, layout_levels}
+use Rattle.geoarrow_fields.proofs.Extension.{HoldsTexts, PutIsHeld, set_held, set_again, text_held, each_order}
 
 -- ---- the value of a metadata that UTF-8 denotes is held
 
@@ -67,12 +67,10 @@ present_held (Some _) h = h
 
 member_held : (k : Text) (ms : Members) → members_are_held ms ≡ true → IsHeldIf (get_member k ms)
 member_held k no_members h = tt
-member_held k (member l e ms) h = by (slice_cmp nat_cmp k l) (member_held k ms (held_parts l e ms h).3) (held_parts l e ms h).2
-  where
-    by : (o : Ordering) → IsHeldIf (get_member k ms) → is_held e ≡ true → IsHeldIf (match_ordering o (get_member k ms) (Some e) (get_member k ms))
-    by Less rest own = rest
-    by Equal rest own = own
-    by Greater rest own = rest
+member_held k (member l e ms) h =
+    let rest = member_held k ms (held_parts l e ms h).3 in
+    let own = (held_parts l e ms h).2 in
+    each_order (λ o. IsHeldIf (match_ordering o (get_member k ms) (Some e) (get_member k ms))) (slice_cmp nat_cmp k l) (λ _. rest) (λ _. own) (λ _. rest)
 
 get_held : (k : Text) (d : Data) → is_held d ≡ true → IsHeldIf (get k d)
 get_held k (object ms) h = member_held k ms h
@@ -162,7 +160,7 @@ module _ (put_is : PutIsHeld) (read_is : ReadIsHeld) (utf8 : IsUtf8Written) (fie
     rewritten_held k m denotes =
         let own = field_is line f is in
         let value = value_held m.crs.value (type_unless m.crs.value m.crs.crs_type m.edges) m.edges (crs_held m denotes).0 in
-        parts_held f.name (type_value (layout k)) f.nullable _ own.0 (layout_held k)
+        parts_held f.name (type_value (layout k)) f.nullable _ own.0 (layout_said k).1
         (set_held put_is (name_of k) (printed (normal m)) f.metadata (name_utf8 (extension_of k)) (text_of utf8 (meta_value (normal m)) value) own.1)
 
     -- the value of the canonical field is held

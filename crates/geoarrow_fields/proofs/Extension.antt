@@ -1,8 +1,8 @@
 -- The two extension keys in the metadata of a field: setting them keeps the order of the keys, and setting them again changes nothing.
-use Rattle.std.proofs.Common.{◌≡◌, ◌∷◌, [], List, ℕ, Bool, true, false, not, cond, Option, Some, None, IfSome, Ordering, Less, Equal, Greater, nat_cmp, bytes_eq, refl, sym, ap, ◌∙◌, subst, true≢false}
+use Rattle.std.proofs.Common.{◌≡◌, inl, inr, ◌∷◌, [], List, ℕ, true, false, not, Option, Some, None, IfSome, Ordering, Less, Equal, Greater, nat_cmp, bytes_eq, refl, sym, ap, ◌∙◌, subst, true≢false}
 use Rattle.std.specs.Ordering.{is_lt, is_eq, match_ordering, ordering_reverse}
 use Rattle.std.specs.Cmp.Lexicographic.{slice_cmp}
-use Rattle.std.proofs.lemmas.Bool.{cond_both}
+use Rattle.std.proofs.lemmas.Bool.{cond_both, cases_Bool}
 use Rattle.std.proofs.lemmas.Cmp.{nat_list_cmp_total, tied_itself}
 use Rattle.std.proofs.lemmas.Map.Text.{is_eq-slice_cmp}
 use Rattle.std.proofs.lemmas.Slice.Eq.{bytes_eq-Decides}
@@ -52,16 +52,10 @@ remove_text_held q (e ∷ m) h =
     cond_both (not (bytes_eq q e.0)) (e ∷ remove_text q m) (remove_text q m) HoldsTexts
     (λ _. rw (first_of_rest e.0 q m p.3 p.0, p.1, p.2) (remove_text_held q m p.3)) (λ _. remove_text_held q m p.3)
 
-name_key_utf8 : is_utf8 name_key ≡ true
-name_key_utf8 = ascii name_key refl
-
-metadata_key_utf8 : is_utf8 metadata_key ≡ true
-metadata_key_utf8 = ascii metadata_key refl
-
 pub set_held : PutIsHeld → (name : Text) (text : Option Text) (m : Texts) → is_utf8 name ≡ true → IfSome text (λ t. is_utf8 t ≡ true) → HoldsTexts m → HoldsTexts (set_extension name text m)
-set_held put_is name None m named written h = remove_text_held metadata_key (put_text name_key name m) (put_text_held put_is name_key name m name_key_utf8 named h)
+set_held put_is name None m named written h = remove_text_held metadata_key (put_text name_key name m) (put_text_held put_is name_key name m (ascii name_key refl) named h)
 set_held put_is name (Some t) m named written h =
-    put_text_held put_is metadata_key t (put_text name_key name m) metadata_key_utf8 written (put_text_held put_is name_key name m name_key_utf8 named h)
+    put_text_held put_is metadata_key t (put_text name_key name m) (ascii metadata_key refl) written (put_text_held put_is name_key name m (ascii name_key refl) named h)
 
 -- ---- setting the keys again: what is put or removed once more changes nothing, and a put changes places with what is done at an earlier key
 
@@ -71,15 +65,17 @@ order = slice_cmp nat_cmp
 above : (x k : Text) → order x k ≡ Less → order k x ≡ Greater
 above x k h = nat_list_cmp_total.antisymm k x ∙ ap ordering_reverse h
 
+-- by the order of two keys
+pub each_order : (P : Ordering → Type 0) (o : Ordering) → (o ≡ Less → P Less) → (o ≡ Equal → P Equal) → (o ≡ Greater → P Greater) → P o
+each_order P Less less equal greater = less refl
+each_order P Equal less equal greater = equal refl
+each_order P Greater less equal greater = greater refl
+
 put_twice : (k t : Text) (m : Texts) → put_text k t (put_text k t m) ≡ put_text k t m
 put_twice k t [] = rw (tied_itself nat_list_cmp_total k) refl
-put_twice k t (e ∷ m) = by (order k e.0) refl (put_twice k t m)
-  where
-    by : (o : Ordering) → order k e.0 ≡ o → put_text k t (put_text k t m) ≡ put_text k t m
-        → put_text k t (match_ordering o ((k, t) ∷ e ∷ m) ((e.0, t) ∷ m) (e ∷ put_text k t m)) ≡ match_ordering o ((k, t) ∷ e ∷ m) ((e.0, t) ∷ m) (e ∷ put_text k t m)
-    by Less is more = rw (tied_itself nat_list_cmp_total k) refl
-    by Equal is more = rw is refl
-    by Greater is more = rw is (ap (λ l. e ∷ l) more)
+put_twice k t (e ∷ m) =
+    each_order (λ o. put_text k t (match_ordering o ((k, t) ∷ e ∷ m) ((e.0, t) ∷ m) (e ∷ put_text k t m)) ≡ match_ordering o ((k, t) ∷ e ∷ m) ((e.0, t) ∷ m) (e ∷ put_text k t m)) (order k e.0)
+    (λ is. rw (tied_itself nat_list_cmp_total k) refl) (λ is. rw is refl) (λ is. rw is (ap (λ l. e ∷ l) (put_twice k t m)))
 
 remove_twice : (q : Text) (m : Texts) → remove_text q (remove_text q m) ≡ remove_text q m
 remove_twice q [] = refl
@@ -93,36 +89,25 @@ module _ (k t q : Text) (before : order q k ≡ Less) where
 
   put_removed : (m : Texts) → put_text k t (remove_text q m) ≡ remove_text q (put_text k t m)
   put_removed [] = rw apart refl
-  put_removed (e ∷ m) = by (bytes_eq q e.0) refl (put_removed m)
-    where
-      kept : (o : Ordering) → bytes_eq q e.0 ≡ false → put_text k t (remove_text q m) ≡ remove_text q (put_text k t m)
-          → match_ordering o ((k, t) ∷ e ∷ remove_text q m) ((e.0, t) ∷ remove_text q m) (e ∷ put_text k t (remove_text q m)) ≡ remove_text q (match_ordering o ((k, t) ∷ e ∷ m) ((e.0, t) ∷ m) (e ∷ put_text k t m))
-      kept Less is more = rw (apart, is) refl
-      kept Equal is more = rw is refl
-      kept Greater is more = rw is (ap (λ l. e ∷ l) more)
-
-      by : (b : Bool) → bytes_eq q e.0 ≡ b → put_text k t (remove_text q m) ≡ remove_text q (put_text k t m)
-          → put_text k t (cond (not b) (e ∷ remove_text q m) (remove_text q m)) ≡ remove_text q (put_text k t (e ∷ m))
-      by true is more = let over : order k e.0 ≡ Greater = ap (order k) (sym ((bytes_eq-Decides q e.0).0 is)) ∙ above q k before in rw (over, is) more
-      by false is more = kept (order k e.0) is more
+  put_removed (e ∷ m) =
+      let kept : bytes_eq q e.0 ≡ false → put_text k t (e ∷ remove_text q m) ≡ remove_text q (put_text k t (e ∷ m)) =
+      λ is. each_order (λ o. match_ordering o ((k, t) ∷ e ∷ remove_text q m) ((e.0, t) ∷ remove_text q m) (e ∷ put_text k t (remove_text q m)) ≡ remove_text q (match_ordering o ((k, t) ∷ e ∷ m) ((e.0, t) ∷ m) (e ∷ put_text k t m))) (order k e.0)
+      (λ _. rw (apart, is) refl) (λ _. rw is refl) (λ _. rw is (ap (λ l. e ∷ l) (put_removed m))) in
+      elim (cases_Bool (bytes_eq q e.0)) [
+        | inl is ↦ let over : order k e.0 ≡ Greater = ap (order k) (sym ((bytes_eq-Decides q e.0).0 is)) ∙ above q k before in rw (over, is) (put_removed m)
+        | inr is ↦ rw is (kept is)
+      ]
 
   put_put : (s : Text) (m : Texts) → put_text k t (put_text q s m) ≡ put_text q s (put_text k t m)
   put_put s [] = rw (above q k before, before) refl
-  put_put s (e ∷ m) = by (order q e.0) refl (put_put s m)
-    where
-      first : (o : Ordering) → order q e.0 ≡ Less
-          → (q, s) ∷ match_ordering o ((k, t) ∷ e ∷ m) ((e.0, t) ∷ m) (e ∷ put_text k t m) ≡ put_text q s (match_ordering o ((k, t) ∷ e ∷ m) ((e.0, t) ∷ m) (e ∷ put_text k t m))
-      first Less is = rw before refl
-      first Equal is = rw is refl
-      first Greater is = rw is refl
-
-      by : (o : Ordering) → order q e.0 ≡ o → put_text k t (put_text q s m) ≡ put_text q s (put_text k t m)
-          → put_text k t (match_ordering o ((q, s) ∷ e ∷ m) ((e.0, s) ∷ m) (e ∷ put_text q s m)) ≡ put_text q s (put_text k t (e ∷ m))
-      by Less is more = rw (above q k before) (first (order k e.0) is)
-      by Equal is more = let over = above e.0 k (sym (nat_list_cmp_total.congr q e.0 k is) ∙ before) in rw (over, is) refl
-      by Greater is more =
-          let over = above e.0 k (nat_list_cmp_total.trans e.0 q k (nat_list_cmp_total.antisymm e.0 q ∙ ap ordering_reverse is) before) in
-          rw (over, is) (ap (λ l. e ∷ l) more)
+  put_put s (e ∷ m) =
+      let first : order q e.0 ≡ Less → (q, s) ∷ put_text k t (e ∷ m) ≡ put_text q s (put_text k t (e ∷ m)) =
+      λ is. each_order (λ o. (q, s) ∷ match_ordering o ((k, t) ∷ e ∷ m) ((e.0, t) ∷ m) (e ∷ put_text k t m) ≡ put_text q s (match_ordering o ((k, t) ∷ e ∷ m) ((e.0, t) ∷ m) (e ∷ put_text k t m))) (order k e.0)
+      (λ _. rw before refl) (λ _. rw is refl) (λ _. rw is refl) in
+      each_order (λ o. put_text k t (match_ordering o ((q, s) ∷ e ∷ m) ((e.0, s) ∷ m) (e ∷ put_text q s m)) ≡ put_text q s (put_text k t (e ∷ m))) (order q e.0)
+      (λ is. rw (above q k before) (first is))
+      (λ is. rw (above e.0 k (sym (nat_list_cmp_total.congr q e.0 k is) ∙ before), is) refl)
+      (λ is. rw (above e.0 k (nat_list_cmp_total.trans e.0 q k (nat_list_cmp_total.antisymm e.0 q ∙ ap ordering_reverse is) before), is) (ap (λ l. e ∷ l) (put_put s m)))
 
 pub set_again : (name : Text) (text : Option Text) (m : Texts) → set_extension name text (set_extension name text m) ≡ set_extension name text m
 set_again name None m =

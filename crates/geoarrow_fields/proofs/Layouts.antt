@@ -120,14 +120,11 @@ each_fits (Wkb _) = refl
 each_fits (Wkt Plain) = refl
 each_fits (Wkt _) = refl
 
-layout_said : (k : Kind) → HasLineForm (layout k) × (is_held (type_value (layout k)) ≡ true)
+pub layout_said : (k : Kind) → HasLineForm (layout k) × (is_held (type_value (layout k)) ≡ true)
 layout_said k = said (layout k) (and_parts (can_say (layout k)) _ (each_fits k)).0
 
 pub layout_form : (k : Kind) → HasLineForm (layout k)
 layout_form k = (layout_said k).0
-
-pub layout_held : (k : Kind) → is_held (type_value (layout k)) ≡ true
-layout_held k = (layout_said k).1
 
 pub layout_levels : (k : Kind) → depth (type_value (layout k)) ≤ 19
 layout_levels k = leb-true _ 19 (and_parts (can_say (layout k)) _ (each_fits k)).1
