@@ -4,8 +4,7 @@ use Rattle.geoarrow_fields.specs.declared.Command.{Command}
 use Rattle.geoarrow_fields.specs.declared.Command.TheVariants.{Read, Infer, Canon, Columns}
 use Rattle.geoarrow_fields.specs.declared.RunEnd.TheVariants.{Done as ToEnd}
 use Rattle.geoarrow_fields.specs.Lines.{Bytes}
-use Rattle.geoarrow_fields.specs.Answer.{Answers}
-use Rattle.geoarrow_fields.specs.Output.{Means}
+use Rattle.geoarrow_fields.specs.Answer.{Answers, Means}
 
 -- the number of a command
 abbrev pub number_of : Command → ℕ

@@ -1,7 +1,7 @@
 //! The answers to lines.
 ghost use Rattle.std.specs.Prelude.{◌≡◌, ◌↔◌, ◌<◌, ◌≤◌, [], MatchOption};
 ghost use Rattle.geoarrow_fields.specs.Lines.{lines_of, IsWithinLimits};
-ghost use Rattle.geoarrow_fields.specs.Output.{Means};
+ghost use Rattle.geoarrow_fields.specs.Answer.{Means};
 ghost use Rattle.geoarrow_c.specs.Buffer.{Fills, Lacks};
 ghost use Rattle.geoarrow_c.specs.Calls.{number_of, Gives, RunGives};
 

@@ -1,48 +1,24 @@
 -- The canonical field of a field that a line denotes: its line is read back as that field, which is its own canonical form and reads as
 -- the same type.
-use Rattle.std.proofs.Common.{◌≡◌, inl, inr, ◌≤◌, ◌∷◌, [], List, ℕ, Bool, true, false, Option, Some, None, IfSome, option_map, codes, refl, sym, ap, ap₂, ◌∙◌, subst, arith, Ordering, Less, Equal, Greater, nat_cmp}
+use Rattle.std.proofs.Common.{◌≡◌, inl, inr, ◌≤◌, ◌∷◌, [], List, ℕ, Bool, true, false, Option, Some, None, IfSome, option_map, codes, refl, sym, ap, ap₂, ◌∙◌, subst, arith, nat_cmp}
 use Rattle.std.specs.Ordering.{match_ordering}
 use Rattle.std.specs.Cmp.Lexicographic.{slice_cmp}
-use Rattle.std.specs.Str.{is_utf8}
 use Rattle.std.specs.Arc.{arc_with_value}
-use Rattle.serde_json.specs.Data.{Data, null, boolean, number, string, array, object, Members, no_members, member, depth, members_depth}
 use Rattle.serde_json.specs.Find.{get, get_member}
-use Rattle.serde_json.specs.Read.{read, max_depth}
-use Rattle.serde_json.specs.Written.{has_float, compact_text}
-use Rattle.arrow_values.specs.Tree.{Text, Metadata as Texts, FieldTree}
-use Rattle.arrow_values.specs.Texts.{metadata_key, extension_metadata}
-use Rattle.geoarrow_layout.specs.declared.names.ExtensionName.{ExtensionName}
 use Rattle.geoarrow_layout.specs.declared.names.ExtensionName.TheVariants as names
-use Rattle.geoarrow_layout.specs.declared.encodings.NativeKind.TheVariants.{Point}
-use Rattle.geoarrow_layout.specs.declared.encodings.Kind.{Kind}
-use Rattle.geoarrow_layout.specs.Kinds.{name_text, extension_of, name_of}
-use Rattle.geoarrow_layout.specs.Layouts.{layout}
-use Rattle.geoarrow_meta.specs.declared.edges.Edges.{Edges}
 use Rattle.geoarrow_meta.specs.declared.edges.Edges.TheVariants.{Andoyer}
-use Rattle.geoarrow_meta.specs.declared.crs.crs_type.CrsType.{CrsType}
 use Rattle.geoarrow_meta.specs.declared.crs.crs_type.CrsType.TheVariants.{Projjson}
-use Rattle.geoarrow_meta.specs.declared.metadata.Metadata.{Metadata}
-use Rattle.geoarrow_meta.specs.Read.{edges_text, crs_type_text, crs_type_data, edges_data, present, some_has_float, DenotesMetadata}
-use Rattle.geoarrow_meta.specs.Written.{of_parts, with_some, meta_value, printed, type_unless, normal, IsReadBack, NestsWithin}
-use Rattle.geoarrow_native.specs.Column.{ReadsAs}
-use Rattle.geoarrow_schema.specs.declared.types.GeoArrowType.{GeoArrowType}
+use Rattle.geoarrow_meta.specs.Read.{edges_text, crs_type_text, present, some_has_float}
+use Rattle.geoarrow_meta.specs.Written.{of_parts, written, type_unless, IsReadBack}
 use Rattle.geoarrow_schema.specs.declared.types.GeoArrowType.TheVariants as types
-use Rattle.geoarrow_schema.specs.Types.{kind_of, meta_of}
-use Rattle.geoarrow_schema.specs.Reads.{Reads}
-use Rattle.geoarrow_schema.specs.Normal.{rewritten, ReadsNormally, IsCanonical}
-use Rattle.field_lines.specs.Line.{texts_value, parts_value, type_value, value_of_field, line_of_field, field_of_line}
-use Rattle.field_lines.specs.LineForm.{HasLineForm}
-use Rattle.field_lines.specs.Held.{is_held, members_are_held, held_parts}
-use Rattle.geoarrow_fields.specs.declared.Command.TheVariants.{Read, Canon}
-use Rattle.geoarrow_fields.specs.Lines.{Bytes}
-use Rattle.geoarrow_fields.specs.Answer.{type_text, AnswersField, Answers}
-use Rattle.geoarrow_fields.proofs.OneAnswer.{IsOneKind, words_of, one_reading, no_type_read, read_text, answered, answer_of}
-use Rattle.geoarrow_fields.proofs.Layouts.{ascii, layout_form, layout_held, layout_levels}
-use Rattle.geoarrow_fields.proofs.Extension.{HoldsTexts, PutIsHeld, set_held, set_again, text_held}
+use Rattle.geoarrow_fields.proofs.Terms.{is_utf8, Data, boolean, depth, member, members_depth, no_members, null, object, string, Members, max_depth, read, compact_text, has_float, FieldTree, Text, Texts, extension_metadata, metadata_key, ExtensionName, Point, Kind, extension_of, name_of, name_text, layout, Edges, CrsType, Metadata, DenotesMetadata, NestsWithin, meta_value, normal, printed, GeoArrowType, kind_of, meta_of, Reads, IsCanonical, ReadsNormally, rewritten, is_held, members_are_held, held_parts, field_of_line, line_of_field, parts_value, texts_value, type_value, value_of_field, HasLineForm, Canon, Read, Bytes, Answers, AnswersField, type_text}
+use Rattle.geoarrow_fields.proofs.OneAnswer.{IsOneKind, words_of, reads_parts, one_reading, no_type_read, one_field_answer, answered, answer_of}
+use Rattle.geoarrow_fields.proofs.Layouts.{ascii, layout_form, layout_said, layout_levels}
+use Rattle.geoarrow_fields.proofs.Extension.{HoldsTexts, PutIsHeld, set_held, set_again, text_held, each_order}
 
 -- ---- the value of a metadata that UTF-8 denotes is held
 
-abbrev IsHeldIf : Option Data → Type 0
+abbrev pub IsHeldIf : Option Data → Type 0
 IsHeldIf o = IfSome o (λ d. is_held d ≡ true)
 
 name_utf8 : (n : ExtensionName) → is_utf8 (name_text n) ≡ true
@@ -58,57 +34,43 @@ edges_utf8 : (e : Edges) → is_utf8 (edges_text e) ≡ true
 edges_utf8 Andoyer = ascii _ refl
 edges_utf8 _ = ascii _ refl
 
-abbrev object_of : Data → Members → Data
-object_of d ms = object (member (codes "crs") d ms)
-
-object_held : (d : Data) (t : Option CrsType) (e : Option Edges) → is_held d ≡ true
-    → is_held (object_of d (with_some (codes "crs_type") (option_map crs_type_data t) (with_some (codes "edges") (option_map edges_data e) no_members))) ≡ true
-object_held d None None own = rw (ascii (codes "crs") refl, own) refl
-object_held d (Some t) None own = rw (ascii (codes "crs") refl, own, ascii (codes "crs_type") refl, type_utf8 t) refl
-object_held d None (Some e) own = rw (ascii (codes "crs") refl, own, ascii (codes "edges") refl, edges_utf8 e) refl
-object_held d (Some t) (Some e) own = rw (ascii (codes "crs") refl, own, ascii (codes "crs_type") refl, type_utf8 t, ascii (codes "edges") refl, edges_utf8 e) refl
+written_held : (d : Data) (t : Option CrsType) (e : Option Edges) → is_held d ≡ true → is_held (written (Some d) t e) ≡ true
+written_held d None None own = rw (ascii (codes "crs") refl, own) refl
+written_held d (Some t) None own = rw (ascii (codes "crs") refl, own, ascii (codes "crs_type") refl, type_utf8 t) refl
+written_held d None (Some e) own = rw (ascii (codes "crs") refl, own, ascii (codes "edges") refl, edges_utf8 e) refl
+written_held d (Some t) (Some e) own = rw (ascii (codes "crs") refl, own, ascii (codes "crs_type") refl, type_utf8 t, ascii (codes "edges") refl, edges_utf8 e) refl
 
 value_held : (v : Option Data) (t : Option CrsType) (e : Option Edges) → IsHeldIf v → IsHeldIf (meta_value (of_parts v t e))
 value_held None t None own = tt
-value_held None t (Some e) own = object_held null t (Some e) refl
-value_held (Some d) t e own = object_held d t e own
+value_held None t (Some e) own = written_held null t (Some e) refl
+value_held (Some d) t e own = written_held d t e own
 
--- the value holds no float if the CRS holds none, and nests one level more
-value_whole : (v : Option Data) (t : Option CrsType) (e : Option Edges) → some_has_float v ≡ false → some_has_float (meta_value (of_parts v t e)) ≡ false
-value_whole None t None own = refl
-value_whole None None (Some e) own = refl
-value_whole None (Some t) (Some e) own = refl
-value_whole (Some d) None None own = rw own refl
-value_whole (Some d) (Some t) None own = rw own refl
-value_whole (Some d) None (Some e) own = rw own refl
-value_whole (Some d) (Some t) (Some e) own = rw own refl
+-- it holds no float if the CRS holds none, and nests one level more, so it is read back
+abbrev pub IsRead : Type 0
+IsRead = (d : Data) → is_held d ≡ true → has_float d ≡ false → depth d ≤ max_depth → read (compact_text d) ≡ Some d
 
-value_nests : (v : Option Data) (t : Option CrsType) (e : Option Edges) → NestsWithin 100 v → NestsWithin max_depth (meta_value (of_parts v t e))
-value_nests None t None own = tt
-value_nests None None (Some e) own = omega arith
-value_nests None (Some t) (Some e) own = omega arith
-value_nests (Some d) None None own = omega arith
-value_nests (Some d) (Some t) None own = omega arith
-value_nests (Some d) None (Some e) own = omega arith
-value_nests (Some d) (Some t) (Some e) own = omega arith
+written_back : IsRead → (d : Data) (t : Option CrsType) (e : Option Edges) → is_held d ≡ true → has_float d ≡ false → depth d ≤ 100 → IsReadBack (Some (written (Some d) t e))
+written_back back d None None held whole nests = back _ (written_held d None None held) (rw whole refl) (omega arith)
+written_back back d (Some t) None held whole nests = back _ (written_held d (Some t) None held) (rw whole refl) (omega arith)
+written_back back d None (Some e) held whole nests = back _ (written_held d None (Some e) held) (rw whole refl) (omega arith)
+written_back back d (Some t) (Some e) held whole nests = back _ (written_held d (Some t) (Some e) held) (rw whole refl) (omega arith)
+
+value_back : IsRead → (v : Option Data) (t : Option CrsType) (e : Option Edges) → IsHeldIf v → some_has_float v ≡ false → NestsWithin 100 v → IsReadBack (meta_value (of_parts v t e))
+value_back back None t None held whole nests = tt
+value_back back None t (Some e) held whole nests = written_back back null t (Some e) refl refl (omega arith)
+value_back back (Some d) t e held whole nests = written_back back d t e held whole nests
 
 present_held : (o : Option Data) → IsHeldIf o → IsHeldIf (present o)
 present_held None h = tt
 present_held (Some null) h = tt
-present_held (Some (boolean b)) h = h
-present_held (Some (string s)) h = h
-present_held (Some (number n)) h = h
-present_held (Some (array ds)) h = h
-present_held (Some (object ms)) h = h
+present_held (Some _) h = h
 
 member_held : (k : Text) (ms : Members) → members_are_held ms ≡ true → IsHeldIf (get_member k ms)
 member_held k no_members h = tt
-member_held k (member l e ms) h = by (slice_cmp nat_cmp k l) (member_held k ms (held_parts l e ms h).3) (held_parts l e ms h).2
-  where
-    by : (o : Ordering) → IsHeldIf (get_member k ms) → is_held e ≡ true → IsHeldIf (match_ordering o (get_member k ms) (Some e) (get_member k ms))
-    by Less rest own = rest
-    by Equal rest own = own
-    by Greater rest own = rest
+member_held k (member l e ms) h =
+    let rest = member_held k ms (held_parts l e ms h).3 in
+    let own = (held_parts l e ms h).2 in
+    each_order (λ o. IsHeldIf (match_ordering o (get_member k ms) (Some e) (get_member k ms))) (slice_cmp nat_cmp k l) (λ _. rest) (λ _. own) (λ _. rest)
 
 get_held : (k : Text) (d : Data) → is_held d ≡ true → IsHeldIf (get k d)
 get_held k (object ms) h = member_held k ms h
@@ -127,9 +89,6 @@ crs_of law (Some s) m utf8 (d, reads, stands) =
 
 abbrev pub IsUtf8Written : Type 0
 IsUtf8Written = (d : Data) → is_held d ≡ true → is_utf8 (compact_text d) ≡ true
-
-abbrev pub IsRead : Type 0
-IsRead = (d : Data) → is_held d ≡ true → has_float d ≡ false → depth d ≤ max_depth → read (compact_text d) ≡ Some d
 
 abbrev pub FieldIsHeld : Type 0
 FieldIsHeld = (line : Text) (f : FieldTree) → field_of_line line ≡ Some f → (is_utf8 f.name ≡ true) × (members_are_held (texts_value f.metadata) ≡ true)
@@ -159,27 +118,14 @@ text_of : IsUtf8Written → (o : Option Data) → IsHeldIf o → IfSome (option_
 text_of utf8 None h = tt
 text_of utf8 (Some d) h = utf8 d h
 
-back_of : IsRead → (o : Option Data) → IsHeldIf o → some_has_float o ≡ false → NestsWithin max_depth o → IsReadBack o
-back_of back None held whole shallow = tt
-back_of back (Some d) held whole shallow = back d held whole shallow
-
 -- the normal form is its own, and is written as the metadata
-type_again : (v : Option Data) (t : Option CrsType) (e : Option Edges) → type_unless v (type_unless v t e) e ≡ type_unless v t e
-type_again None t None = refl
-type_again _ t e = refl
-
-normal_again : (m : Metadata) → normal (normal m) ≡ normal m
-normal_again m = ap (λ t. of_parts m.crs.value t m.edges) (type_again m.crs.value m.crs.crs_type m.edges)
-
-value_same : (v : Option Data) (t : Option CrsType) (e : Option Edges) → meta_value (of_parts v (type_unless v t e) e) ≡ meta_value (of_parts v t e)
-value_same None t None = refl
-value_same _ t e = refl
-
-printed_same : (m : Metadata) → printed (normal m) ≡ printed m
-printed_same m = ap (option_map compact_text) (value_same m.crs.value m.crs.crs_type m.edges)
+normal_same : (v : Option Data) (t : Option CrsType) (e : Option Edges)
+    → (type_unless v (type_unless v t e) e ≡ type_unless v t e) × (meta_value (of_parts v (type_unless v t e) e) ≡ meta_value (of_parts v t e))
+normal_same None t None = (refl, refl)
+normal_same _ t e = (refl, refl)
 
 -- the type with another metadata
-with_metadata : GeoArrowType → Metadata → GeoArrowType
+pub with_metadata : GeoArrowType → Metadata → GeoArrowType
 with_metadata (types.Point t) m = types.Point (record t { metadata = arc_with_value t.metadata m })
 with_metadata (types.LineString t) m = types.LineString (record t { metadata = arc_with_value t.metadata m })
 with_metadata (types.Polygon t) m = types.Polygon (record t { metadata = arc_with_value t.metadata m })
@@ -204,28 +150,22 @@ same_parts _ m = (refl, refl)
 module _ (put_is : PutIsHeld) (read_is : ReadIsHeld) (utf8 : IsUtf8Written) (field_is : FieldIsHeld) where
   module _ (line : Text) (f : FieldTree) (is : field_of_line line ≡ Some f) where
     crs_held : (m : Metadata) → DenotesMetadata (extension_metadata f) m → IsHeldIf m.crs.value × (some_has_float m.crs.value ≡ false)
-    crs_held m stands = crs_of read_is (extension_metadata f) m (text_held metadata_key f.metadata (field_is line f is).1) stands
+    crs_held m denotes = crs_of read_is (extension_metadata f) m (text_held metadata_key f.metadata (field_is line f is).1) denotes
 
     -- the value of a metadata that the field's text denotes
     pub metadata_held : (m : Metadata) → DenotesMetadata (extension_metadata f) m → IsHeldIf (meta_value m)
-    metadata_held m stands = value_held m.crs.value m.crs.crs_type m.edges (crs_held m stands).0
-
-    normal_text : (m : Metadata) → DenotesMetadata (extension_metadata f) m → IfSome (printed (normal m)) (λ t. is_utf8 t ≡ true)
-    normal_text m stands = text_of utf8 (meta_value (normal m)) (value_held m.crs.value (type_unless m.crs.value m.crs.crs_type m.edges) m.edges (crs_held m stands).0)
+    metadata_held m denotes = value_held m.crs.value m.crs.crs_type m.edges (crs_held m denotes).0
 
     rewritten_held : (k : Kind) (m : Metadata) → DenotesMetadata (extension_metadata f) m → is_held (value_of_field (rewritten f k (normal m))) ≡ true
-    rewritten_held k m stands =
+    rewritten_held k m denotes =
         let own = field_is line f is in
-        parts_held f.name (type_value (layout k)) f.nullable _ own.0 (layout_held k)
-        (set_held put_is (name_of k) (printed (normal m)) f.metadata (name_utf8 (extension_of k)) (normal_text m stands) own.1)
-
-    stands : (g : GeoArrowType) → Reads f g → DenotesMetadata (extension_metadata f) (meta_of g)
-    unfolding ReadsAs
-    stands g r = r.1
+        let value = value_held m.crs.value (type_unless m.crs.value m.crs.crs_type m.edges) m.edges (crs_held m denotes).0 in
+        parts_held f.name (type_value (layout k)) f.nullable _ own.0 (layout_said k).1
+        (set_held put_is (name_of k) (printed (normal m)) f.metadata (name_utf8 (extension_of k)) (text_of utf8 (meta_value (normal m)) value) own.1)
 
     -- the value of the canonical field is held
     pub canonical_held : (n : FieldTree) → IsCanonical f n → is_held (value_of_field n) ≡ true
-    canonical_held n (g, r, same, normally) = subst (λ x. is_held (value_of_field x) ≡ true) (sym same) (rewritten_held (kind_of g) (meta_of g) (stands g r))
+    canonical_held n (g, r, same, normally) = rw same (rewritten_held (kind_of g) (meta_of g) (reads_parts f g r).1)
 
     -- and its line is read back
     pub canonical_back : LineIsRead → (n : FieldTree) → IsCanonical f n → field_of_line (line_of_field n) ≡ Some n
@@ -233,7 +173,7 @@ module _ (put_is : PutIsHeld) (read_is : ReadIsHeld) (utf8 : IsUtf8Written) (fie
         let k = kind_of g in
         let c = rewritten f k (normal (meta_of g)) in
         subst (λ x. field_of_line (line_of_field x) ≡ Some x) (sym same)
-        (line_read c (layout_form k) (rewritten_held k (meta_of g) (stands g r)) (parts_levels f.name (type_value (layout k)) f.nullable c.metadata (layout_levels k)))
+        (line_read c (layout_form k) (rewritten_held k (meta_of g) (reads_parts f g r).1) (parts_levels f.name (type_value (layout k)) f.nullable c.metadata (layout_levels k)))
 
     -- it is its own canonical form, and reads as the normal form of the type
     module _ (back : IsRead) (n : FieldTree) (g : GeoArrowType) (r : Reads f g) (same : n ≡ rewritten f (kind_of g) (normal (meta_of g))) (normally : ReadsNormally n (kind_of g) (meta_of g))
@@ -241,36 +181,31 @@ module _ (put_is : PutIsHeld) (read_is : ReadIsHeld) (utf8 : IsUtf8Written) (fie
       abbrev m : Metadata
       m = meta_of g
 
+      parts : (kind_of (with_metadata g (normal m)) ≡ kind_of g) × (meta_of (with_metadata g (normal m)) ≡ normal m)
+      parts = same_parts g (normal m)
+
       read_back : IsReadBack (meta_value (normal m))
       read_back =
-          let own = crs_held m (stands g r) in
-          let t = type_unless m.crs.value m.crs.crs_type m.edges in
-          back_of back (meta_value (normal m)) (value_held m.crs.value t m.edges own.0) (value_whole m.crs.value t m.edges own.1) (value_nests m.crs.value t m.edges nests)
+          let own = crs_held m (reads_parts f g r).1 in
+          value_back back m.crs.value (type_unless m.crs.value m.crs.crs_type m.edges) m.edges own.0 own.1 nests
 
-      pub normal_type : GeoArrowType
-      normal_type = with_metadata g (normal m)
-
-      pub normal_parts : (kind_of normal_type ≡ kind_of g) × (meta_of normal_type ≡ normal m)
-      unfolding normal_type
-      normal_parts = same_parts g (normal m)
-
-      pub normal_reads : Reads n normal_type
-      normal_reads = rw (normal_parts.0, normal_parts.1) (normally read_back)
+      pub normal_reads : Reads n (with_metadata g (normal m))
+      normal_reads = rw (parts.0, parts.1) (normally read_back)
 
       again : rewritten n (kind_of g) (normal m) ≡ n
       again =
           let k = kind_of g in
-          let own = field_is line f is in
-          let unchanged = set_again put_is (name_of k) (printed (normal m)) f.metadata (name_utf8 (extension_of k)) (normal_text m (stands g r)) own.1 in
-          ap (λ x. rewritten x k (normal m)) same ∙ ap (λ (texts : Texts). record f { tree = layout k; metadata = texts }) unchanged ∙ sym same
+          ap (λ x. rewritten x k (normal m)) same
+          ∙ ap (λ (texts : Texts). record f { tree = layout k; metadata = texts }) (set_again (name_of k) (printed (normal m)) f.metadata) ∙ sym same
 
       pub own_canonical : IsCanonical n n
-      own_canonical = (
-        normal_type,
-        normal_reads,
-        sym again ∙ ap₂ (λ k l. rewritten n k l) (sym normal_parts.0) (sym (normal_again m) ∙ ap normal (sym normal_parts.1)),
-        λ _. rw (normal_parts.0, normal_parts.1, normal_again m) (normally read_back),
-      )
+      own_canonical =
+          let once : normal (normal m) ≡ normal m = ap (λ t. of_parts m.crs.value t m.edges) (normal_same m.crs.value m.crs.crs_type m.edges).0 in (
+            with_metadata g (normal m),
+            normal_reads,
+            sym again ∙ ap₂ (λ k l. rewritten n k l) (sym parts.0) (sym once ∙ ap normal (sym parts.1)),
+            λ _. rw (parts.0, parts.1, once) (normally read_back),
+          )
 
   -- ---- the answer of `canon` is answered by itself, and read as the line that it was the answer to
 
@@ -279,15 +214,17 @@ module _ (put_is : PutIsHeld) (read_is : ReadIsHeld) (utf8 : IsUtf8Written) (fie
     of_line : (n : FieldTree) → IsCanonical f n → (a : Bytes) → a ≡ line_of_field n → Answers Canon a a × ((text : Bytes) → Answers Read line text → Answers Read a text)
     of_line n (h, s, same, normally) a written =
         let type = one_reading one_kind f g h r s in
+        let m = meta_of h in
         let near = subst (λ m. NestsWithin 100 m.crs.value) type.1 nests in
         let found : field_of_line a ≡ Some n = ap field_of_line written ∙ canonical_back line f is line_read n (h, s, same, normally) in
-        let own = own_canonical line f is back n h s same normally near in
-        let parts = normal_parts line f is back n h s same normally near in
-        let reads = normal_reads line f is back n h s same normally near in
-        let words : type_text g ≡ type_text (normal_type line f is back n h s same normally near) =
-        ap₂ words_of (type.0 ∙ sym parts.0) (ap printed type.1 ∙ sym (ap printed parts.1 ∙ printed_same (meta_of h))) in (
-          answered Canon a n a found (inl (n, own, written)),
-          λ text answer. answered Read a n text found (inl (_, reads, read_text one_kind f text g r (answer_of Read line f text is answer) ∙ words)),
+        let parts = same_parts h (normal m) in
+        let printed_same = ap (option_map compact_text) (normal_same m.crs.value m.crs.crs_type m.edges).1 in
+        let words : type_text g ≡ type_text (with_metadata h (normal m)) =
+        ap₂ words_of (type.0 ∙ sym parts.0) (ap printed type.1 ∙ sym (ap printed parts.1 ∙ printed_same)) in (
+          answered Canon a n a found (inl (n, own_canonical line f is back n h s same normally near, written)),
+          λ text answer.
+              let read = one_field_answer one_kind Read f text (type_text g) (answer_of Read line f text is answer) (inl (g, r, refl)) in
+              answered Read a n text found (inl (_, normal_reads line f is back n h s same normally near, read ∙ words)),
         )
 
     pub canon_again : (a : Bytes) → Answers Canon line a → Answers Canon a a × ((text : Bytes) → Answers Read line text → Answers Read a text)
@@ -295,4 +232,4 @@ module _ (put_is : PutIsHeld) (read_is : ReadIsHeld) (utf8 : IsUtf8Written) (fie
       where
         by : AnswersField Canon f a → Answers Canon a a × ((text : Bytes) → Answers Read line text → Answers Read a text)
         by (inl (n, canonical, written)) = of_line n canonical a written
-        by (inr none) = absurd (no_type_read one_kind f a g r none)
+        by (inr none) = absurd (no_type_read f a g r none)

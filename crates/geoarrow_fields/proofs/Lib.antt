@@ -1,7 +1,5 @@
-pub mod Splits
+pub mod Terms
 pub mod Limits
-pub mod WithinLimits
-pub mod Grows
 pub mod Steps
 pub mod Ways
 mod Layouts

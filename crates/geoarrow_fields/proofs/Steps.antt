@@ -1,17 +1,56 @@
 -- The lines of a chunk, one after the other, over plain variables.
-use Rattle.std.proofs.Common.{◌≡◌, ◌≢◌, ◌⊎◌, ℕ, ◌+◌, ◌<◌, ◌≤◌, [], ◌∷◌, ◌++◌, length, take, take_all, Option, Some, None, sym, ap, subst, append-nil, length-append, length-take, arith}
+use Rattle.std.proofs.Common.{◌≡◌, ◌≢◌, ◌⊎◌, inl, inr, ℕ, suc, ◌+◌, ◌-◌, ◌<◌, ◌≤◌, true, eqb, ◌∷◌, ◌++◌, length, take, drop, get_or, refl, sym, ap, ◌∙◌, append_assoc, drop-cons, add-one, arith, [], take_all, Option, Some, None, subst, append-nil, length-append, length-take}
+use Rattle.std.proofs.lemmas.Bool.{eq-eqb, eqb-true}
+use Rattle.std.proofs.lemmas.List.{take-append-drop, take_rest, get_or-take, get_or_append_left, get_or_at}
+use Rattle.std.proofs.lemmas.List.Elements.{All-from_get_or, All-nil, All-append}
+use Rattle.geoarrow_fields.proofs.Terms.{Bytes, line_feed, max_lines, max_line_bytes, IsLine, IsPastLimit, Command, Answered, IsBegun, AnswersNext, AnswersUntil, AppendsSome, FrontOf}
 use Rattle.std.specs.Prelude.{⊤}
 use Rattle.std.proofs.KnownBytes.{Appends-kept, Keeps-refl}
-use Rattle.std.proofs.lemmas.List.Elements.{All-nil, All-append}
 use Rattle.std.specs.Io.KnownBytes.{Keeps}
 use Rattle.memchr.specs.Find.{is_byte, IsFirstByte}
-use Rattle.geoarrow_fields.specs.declared.Command.{Command}
-use Rattle.geoarrow_fields.specs.Lines.{Bytes, line_feed, max_lines, max_line_bytes, IsLine, IsPastLimit}
-use Rattle.geoarrow_fields.specs.Output.{Answered}
-use Rattle.geoarrow_fields.specs.Progress.{IsBegun, AnswersNext, AnswersUntil, AppendsSome, FrontOf}
-use Rattle.geoarrow_fields.proofs.Limits.{line_before, after, line_parted, limit_passed, line_inside}
-use Rattle.geoarrow_fields.proofs.WithinLimits.{lines_line}
-use Rattle.geoarrow_fields.proofs.Grows.{appends_after, front_after, answered_after}
+use Rattle.geoarrow_fields.proofs.Limits.{lines_line}
+use Rattle.geoarrow_fields.proofs.Ways.{appends_after, front_after, answered_after}
+
+-- the byte at a place is no line feed
+abbrev pub IsOther : Bytes → ℕ → Type 0
+IsOther bytes k = eqb (get_or bytes k 0) line_feed ≢ true
+
+-- what stands before a place up to which no line feed stands is of one line
+pub line_before : (rest : Bytes) (at : ℕ) → at ≤ length rest → ((k : ℕ) → k < at → IsOther rest k) → IsLine (take at rest)
+line_before rest at within h =
+    All-from_get_or (λ b. b ≢ line_feed) (take at rest) 0
+    (λ k lt is. let less : k < at = omega (arith, length-take at rest) in h k less (eq-eqb _ line_feed (sym (get_or-take at rest k 0 less) ∙ is)))
+
+-- the bytes after a place, as the code has them
+abbrev pub after : Bytes → ℕ → Bytes
+after rest at = take (length rest - (at + 1)) (drop (at + 1) rest)
+
+-- the begun line ends at the line feed
+pub line_parted : (begun rest : Bytes) (at : ℕ) → at < length rest → eqb (get_or rest at 0) line_feed ≡ true
+    → begun ++ rest ≡ (begun ++ take at rest) ++ (line_feed ∷ after rest at)
+line_parted begun rest at within feed =
+    let here : drop at rest ≡ line_feed ∷ drop (suc at) rest = drop-cons rest at 0 within ∙ ap (λ b. b ∷ drop (suc at) rest) (eqb-true _ line_feed feed) in
+    rw (append_assoc, take_rest, add-one, ← here) (ap (λ l. begun ++ l) (sym (take-append-drop at rest)))
+
+-- a line that comes is past a limit
+pub limit_passed : (total : ℕ) (later line tail : Bytes) → later ≡ line ++ tail → IsLine line → 0 < length later
+    → (len : ℕ) → len ≡ length line → (total ≡ max_lines) ⊎ (max_line_bytes < len) → IsPastLimit total later
+limit_passed total later line tail joined is some len same (inl many) = inl (many, some)
+limit_passed total later line tail joined is some len same (inr long) =
+    inr (record { begun = line; rest = tail; joined = joined; line = is; long = omega (arith, long, same) })
+
+-- a line that a line feed ends within its limit is past none
+pub line_inside : (total : ℕ) (later line tail : Bytes) → later ≡ line ++ (line_feed ∷ tail) → total < max_lines → length line ≤ max_line_bytes → ¬ IsPastLimit total later
+line_inside total later line tail joined few short (inl (many, some)) = omega arith
+line_inside total later line tail joined few short (inr long) =
+    let at : length line < length long.begun = omega (arith, long.long) in
+    long.line (length line) 0 at
+    (sym (get_or_append_left long.begun long.rest 0 (length line) at) ∙ ap (λ l. get_or l (length line) 0) (sym long.joined ∙ joined) ∙ get_or_at line line_feed tail 0 (length line) refl)
+
+-- nor is what has come of one
+pub begun_inside : (total : ℕ) (later : Bytes) → (0 < length later → total < max_lines) → length later ≤ max_line_bytes → ¬ IsPastLimit total later
+begun_inside total later room short (inl (many, some)) = let few : total < max_lines = room some in omega arith
+begun_inside total later room short (inr long) = omega (arith, long.long, ap length long.joined, length-append long.begun long.rest)
 
 -- nothing has come of the next line
 pub none_begun : (total : ℕ) → total ≤ max_lines → IsBegun total []
@@ -19,7 +58,7 @@ none_begun total few = record { line = All-nil (λ b. b ≢ line_feed); short = 
 
 -- what is answered, and the rest of the chunk
 module _ (command : Command) {count total : ℕ} {input : Bytes} (begun rest : Bytes) (old mid : Option Bytes)
-    (way : AppendsSome (AnswersNext command count input total (begun ++ rest)) old mid × IsBegun total begun) (len : ℕ) (len_is : len ≡ length begun) where
+    (way : AppendsSome (AnswersNext command count input total (begun ++ rest)) old mid × IsBegun total begun) where
   -- a cause to stop comes
   stops_here : (Cause : ℕ → Bytes → Type 0) (new : Option Bytes) → Keeps mid new → Cause total (begun ++ rest)
       → AppendsSome (AnswersUntil Cause command count input) old new
@@ -37,16 +76,16 @@ module _ (command : Command) {count total : ℕ} {input : Bytes} (begun rest : B
     line_is : IsLine line
     line_is = All-append (λ b. b ≢ line_feed) begun (take at rest) way.1.line (line_before rest at (omega (arith, found.0.high)) (λ k lt. found.0.before k (omega arith) lt))
 
-    line_length : len + at ≡ length line
-    line_length = omega (arith, len_is, found.0.high, length-append begun (take at rest), length-take at rest)
+    line_length : length begun + at ≡ length line
+    line_length = omega (arith, found.0.high, length-append begun (take at rest), length-take at rest)
 
-    pub line_past_limit : (total ≡ max_lines) ⊎ (max_line_bytes < len + at) → AppendsSome (AnswersUntil IsPastLimit command count input) old mid
+    pub line_past_limit : (total ≡ max_lines) ⊎ (max_line_bytes < length begun + at) → AppendsSome (AnswersUntil IsPastLimit command count input) old mid
     line_past_limit past =
         stops_here IsPastLimit mid (Keeps-refl mid)
         (limit_passed total (begun ++ rest) line (line_feed ∷ after rest at) joined line_is (omega (arith, found.0.high, length-append begun rest))
-        (len + at) line_length past)
+        (length begun + at) line_length past)
 
-    module _ (fits : (total < max_lines) × (len + at ≤ max_line_bytes)) (new : Option Bytes) where
+    module _ (fits : (total < max_lines) × (length begun + at ≤ max_line_bytes)) (new : Option Bytes) where
       short : length line ≤ max_line_bytes
       short = omega (arith, fits.1, line_length)
 
@@ -81,20 +120,17 @@ module _ (command : Command) {count total : ℕ} {input : Bytes} (begun rest : B
         All-append (λ b. b ≢ line_feed) begun rest way.1.line
         (subst IsLine (take_all (length rest) rest (omega arith)) (line_before rest (length rest) (omega arith) (λ k lt. none k (omega arith) lt)))
 
-    rest_length : len + length rest ≡ length (begun ++ rest)
-    rest_length = omega (arith, len_is, length-append begun rest)
-
-    pub rest_past_limit : 0 < length rest → (total ≡ max_lines) ⊎ (max_line_bytes < len + length rest)
+    pub rest_past_limit : 0 < length rest → (total ≡ max_lines) ⊎ (max_line_bytes < length begun + length rest)
         → AppendsSome (AnswersUntil IsPastLimit command count input) old mid
     rest_past_limit some past =
         stops_here IsPastLimit mid (Keeps-refl mid)
-        (limit_passed total (begun ++ rest) (begun ++ rest) [] (sym (append-nil (begun ++ rest))) rest_is (omega (arith, rest_length))
-        (len + length rest) rest_length past)
+        (limit_passed total (begun ++ rest) (begun ++ rest) [] (sym (append-nil (begun ++ rest))) rest_is (omega (arith, some, length-append begun rest))
+        (length begun + length rest) (sym (length-append begun rest)) past)
 
-    pub rest_begun : (total < max_lines) × (len + length rest ≤ max_line_bytes) → (more : Bytes) → more ≡ begun ++ rest → IsBegun total more
+    pub rest_begun : (total < max_lines) × (length begun + length rest ≤ max_line_bytes) → (more : Bytes) → more ≡ begun ++ rest → IsBegun total more
     rest_begun (few, short) more same = record {
       line = subst IsLine (sym same) rest_is;
-      short = omega (arith, short, ap length same, rest_length);
+      short = omega (arith, short, ap length same, length-append begun rest);
       few = omega arith;
       room = λ _. few;
     }

@@ -3,7 +3,7 @@ use Rattle.std.specs.Prelude.{◌≡◌, ℕ, ◌+◌, ◌<◌, ◌≤◌, List,
 use Rattle.std.specs.Io.KnownBytes.{Appends}
 use Rattle.geoarrow_fields.specs.declared.Command.{Command}
 use Rattle.geoarrow_fields.specs.Lines.{Bytes, max_lines, max_line_bytes, IsLine, IsSplit}
-use Rattle.geoarrow_fields.specs.Output.{Answered}
+use Rattle.geoarrow_fields.specs.Answer.{Answered}
 
 -- it has at most as many bytes as a line may have
 abbrev pub IsShort : Bytes → Type 0

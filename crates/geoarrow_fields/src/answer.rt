@@ -45,9 +45,9 @@ fn answer_field(alloc: Global, command: Command, field: Field) -> Result<String,
 {
     match command {
         Command::Read => answer_read(alloc, &field),
-        Command::Infer => answer_infer(alloc, &field),
+        Command::Infer => inferred_text(alloc, &check_column(alloc, &field)?),
         Command::Canon => answer_canon(alloc, field),
-        Command::Columns => answer_columns(alloc, &field),
+        Command::Columns => column_text(alloc, &check_column(alloc, &field)?),
     }
 }
 
@@ -62,14 +62,6 @@ fn answer_read(alloc: Global, field: &Field) -> Result<String, AllocError>
     }
 }
 
-/// The type that the field is read as, or that is inferred.
-fn answer_infer(alloc: Global, field: &Field) -> Result<String, AllocError>
-    ensures { IfOk result (λ answer. AnswersField Command.Infer field.now (string_bytes answer)) }
-{
-    let column = check_column(alloc, field)?;
-    inferred_text(alloc, &column)
-}
-
 /// The line of the field in normal form.
 fn answer_canon(alloc: Global, field: Field) -> Result<String, AllocError>
     ensures { IfOk result (λ answer. AnswersField Command.Canon field (string_bytes answer)) }
@@ -82,14 +74,6 @@ fn answer_canon(alloc: Global, field: Field) -> Result<String, AllocError>
         Ok(None) => String::from_str(alloc, "none"),
         Err(error) => answer_refused(alloc, &field, &error),
     }
-}
-
-/// What the column holds.
-fn answer_columns(alloc: Global, field: &Field) -> Result<String, AllocError>
-    ensures { IfOk result (λ answer. AnswersField Command.Columns field.now (string_bytes answer)) }
-{
-    let column = check_column(alloc, field)?;
-    column_text(alloc, &column)
 }
 
 /// The answer to a field that is refused by that error, or out-of-memory.

@@ -2,7 +2,7 @@
 ghost use Rattle.std.specs.Prelude.{◌≡◌, ◌⊎◌, ◌↔◌, None, Some, IfSome, map, string_bytes};
 ghost use Rattle.geoarrow_fields.specs.declared.Command.{Command};
 ghost use Rattle.geoarrow_fields.specs.Arguments.{word_of, Name};
-ghost use Rattle.geoarrow_fields.specs.Output.{RunsTo};
+ghost use Rattle.geoarrow_fields.specs.Answer.{RunsTo};
 
 use crate::reading::run;
 use crate::{Command, RunEnd};

@@ -17,8 +17,7 @@ ghost use Rattle.geoarrow_fields.specs.declared.Command.{Command};
 ghost use Rattle.geoarrow_fields.specs.declared.Command.TheVariants.{Read, Canon};
 ghost use Rattle.geoarrow_fields.specs.declared.RunEnd.TheVariants.{Done};
 ghost use Rattle.geoarrow_fields.specs.Lines.{Bytes, lines_of, IsLine};
-ghost use Rattle.geoarrow_fields.specs.Answer.{Answers};
-ghost use Rattle.geoarrow_fields.specs.Output.{Means};
+ghost use Rattle.geoarrow_fields.specs.Answer.{Answers, Means};
 ghost use Rattle.geoarrow_fields.specs.Reports.{SameReport};
 
 use field_lines::laws::{
@@ -33,6 +32,7 @@ pub fn layouts_have_line_form()
 {}
 
 /// A law: the line of the canonical field of a field that a line denotes denotes that canonical field. There is nothing to run.
+#[tactic(auto, using(crate::proofs::Canon::canonical_back))]
 pub fn canonical_line_reads_back()
     ensures { (line : Bytes) (f n : FieldTree) → field_of_line line ≡ Some f → IsCanonical f n
         → field_of_line (line_of_field n) ≡ Some n }
@@ -46,6 +46,7 @@ pub fn canonical_line_reads_back()
 
 /// A law: where a line denotes a field that is read as a type, and its CRS is nested at most 100 levels, the answer of `canon` to
 /// the line is the answer of `canon` to itself, and `read` answers it as it answers the line. There is nothing to run.
+#[tactic(auto, using(crate::proofs::Canon::canon_again))]
 pub fn canon_is_closed()
     ensures { (line answer : Bytes) (f : FieldTree) (g : GeoArrowType) → field_of_line line ≡ Some f → Reads f g
         → NestsWithin 100 (meta_of g).crs.value → Answers Canon line answer
@@ -60,6 +61,7 @@ pub fn canon_is_closed()
 }
 
 /// A law: an answer holds no line feed. So in a run that is done, as many lines go out as came in. There is nothing to run.
+#[tactic(auto, using(crate::proofs::OneLine::answer_line, crate::proofs::OneLine::as_many))]
 pub fn answer_is_one_line()
     ensures line { (command : Command) (line answer : Bytes) → Answers command line answer → IsLine answer }
     ensures run { (command : Command) (input output : Bytes) → Means command Done input output
@@ -73,6 +75,7 @@ pub fn answer_is_one_line()
 
 /// A law: a line has one answer under a command, so a run that is done has one output; and fields have one report on their
 /// columns. There is nothing to run.
+#[tactic(auto, using(crate::proofs::OneAnswer::one_answer, crate::proofs::OneAnswer::one_done, crate::proofs::OneAnswer::one_column, crate::proofs::OneAnswer::one_report))]
 pub fn answer_is_unique()
     ensures line { (command : Command) (line a b : Bytes) → Answers command line a → Answers command line b → a ≡ b }
     ensures run { (command : Command) (input x y : Bytes) → Means command Done input x → Means command Done input y

@@ -2,7 +2,7 @@
 ghost use Rattle.std.specs.Prelude.{◌≡◌, ◌≢◌, ◌⊎◌, ◌+◌, ◌<◌, ◌≤◌, List, [], ◌∷◌, ◌++◌, length, All, IfOk, OnOk, IfErr, MatchBool, ⊤};
 ghost use Rattle.std.specs.Io.KnownBytes.{Keeps};
 ghost use Rattle.geoarrow_fields.specs.Lines.{Bytes, max_lines, max_line_bytes, lines_of, ended_lines, IsLine, IsSplit, IsWithinLimits, IsPastLimit, Stops};
-ghost use Rattle.geoarrow_fields.specs.Output.{Answered};
+ghost use Rattle.geoarrow_fields.specs.Answer.{Answered};
 ghost use Rattle.geoarrow_fields.specs.Progress.{IsBegun, AnswersNext, AnswersUntil, AppendsSome, FrontOf};
 
 use crate::Command;
@@ -20,6 +20,7 @@ const MAX_LINE_BYTES: usize = 1_048_576;
 
 /// A law: lines that are joined, each with its line feed, and followed by a rest without one, are an input of exactly
 /// these lines and, unless it is empty, the rest; every input has this form. There is nothing to run.
+#[tactic(auto, using(crate::proofs::Limits::lines_of_ended, crate::proofs::Limits::lines_of_both, crate::proofs::Limits::split_every))]
 pub fn splits_at_line_feeds()
     ensures ended { (lines : List Bytes) → All IsLine lines → lines_of (ended_lines lines) ≡ lines }
     ensures last { (lines : List Bytes) (rest : Bytes) → All IsLine lines → IsLine rest → 0 < length rest
@@ -29,19 +30,19 @@ pub fn splits_at_line_feeds()
 
 /// A law: either all lines of an input are within the limits, or the first ones are and what comes after them exceeds a
 /// limit; never both. There is nothing to run.
+#[tactic(auto, using(crate::proofs::Limits::either, crate::proofs::Limits::never_both))]
 pub fn keeps_limits_or_passes_one()
     ensures either { (input : Bytes) → IsWithinLimits (lines_of input) ⊎ Stops IsPastLimit input }
     ensures never_both { (input : Bytes) → IsWithinLimits (lines_of input) → ¬ Stops IsPastLimit input }
 {}
 
-/// Whether a line of `begun` and `more` bytes exceeds a limit, after `count` lines.
-fn is_past_limit(count: usize, begun: usize, more: usize) -> bool
-    requires few { count ≤ max_lines }
-    requires short { begun ≤ max_line_bytes }
-    ensures { MatchBool result ((count ≡ max_lines) ⊎ (max_line_bytes < begun + more))
-        ((count < max_lines) × (begun + more ≤ max_line_bytes)) }
+/// Whether a line exceeds a limit that begins with `begun` and has `more` bytes more, after `count` lines.
+fn is_past_limit(count: usize, begun: &Vec<u8>, more: usize) -> bool
+    requires { IsBegun count begun.now.items }
+    ensures { MatchBool result ((count ≡ max_lines) ⊎ (max_line_bytes < length begun.now.items + more))
+        ((count < max_lines) × (length begun.now.items + more ≤ max_line_bytes)) }
 {
-    count == MAX_LINES || more > MAX_LINE_BYTES - begun
+    count == MAX_LINES || more > MAX_LINE_BYTES - begun.len()
 }
 
 /// Answers the line that consists of `begun` and `end`, and clears `begun`.
@@ -101,7 +102,7 @@ pub(crate) fn answer_chunk<W: Write>(
     let mut count = count;
     let mut rest = chunk;
     while let Some(at) = memchr(b'\n', rest) {
-        if is_past_limit(count, begun.len(), at) {
+        if is_past_limit(count, begun, at) {
             return Err(Fault::Input);
         }
         end_line(alloc, command, begun, &rest[..at], scratch, writer)?;
@@ -111,7 +112,7 @@ pub(crate) fn answer_chunk<W: Write>(
     if rest.is_empty() {
         return Ok(count);
     }
-    if is_past_limit(count, begun.len(), rest.len()) {
+    if is_past_limit(count, begun, rest.len()) {
         return Err(Fault::Input);
     }
     begun.extend_from_slice(rest)?;

@@ -1,7 +1,7 @@
 //! What is written: answers, each with its line feed, and the line of an end.
 ghost use Rattle.std.specs.Prelude.{◌≡◌, ◌≢◌, [], ◌∷◌, ◌++◌, OnOk, OnErr, IfErr};
 ghost use Rattle.std.specs.Io.KnownBytes.{Appends, Keeps};
-ghost use Rattle.geoarrow_fields.specs.Output.{Answered};
+ghost use Rattle.geoarrow_fields.specs.Answer.{Answered};
 ghost use Rattle.geoarrow_fields.specs.Progress.{AppendsSome, FrontOf};
 
 use crate::answer::answer_line_with_scratch;
@@ -32,6 +32,7 @@ impl From<AllocError> for Fault {
 }
 
 /// Writes all of a text, or returns a fault of the output.
+#[tactic(auto, using(crate::proofs::Ways::write_goes_on))]
 fn write_whole<W: Write>(writer: &mut W, text: &[u8]) -> Result<(), Fault>
     ensures ok { OnOk result (Appends (W.contents writer.old) (W.contents writer.new) text.now) }
     ensures err { IfErr result (λ fault. fault ≡ Fault.Output) }

@@ -2,7 +2,7 @@
 ghost use Rattle.std.specs.Prelude.{◌≡◌, ◌⊎◌, ◌<◌, ◌≤◌, length, take, IfOk, OnOk, IfErr, vec_len};
 ghost use Rattle.std.specs.Io.KnownBytes.{Consumes, IsAtEnd, Keeps};
 ghost use Rattle.geoarrow_fields.specs.Lines.{IsLine, IsPastLimit};
-ghost use Rattle.geoarrow_fields.specs.Output.{Means, ReadsAndWrites, RunsTo};
+ghost use Rattle.geoarrow_fields.specs.Answer.{Means, ReadsAndWrites, RunsTo};
 ghost use Rattle.geoarrow_fields.specs.Progress.{AnswersUntil};
 
 use crate::lines::{answer_chunk, end_line};

@@ -1,5 +1,5 @@
 use Rattle.std.proofs.Common.{◌++◌, length}
-use Rattle.geoarrow_fields.specs.Progress.{IsBegun, AnswersNext, AppendsSome}
+use Rattle.geoarrow_fields.proofs.Terms.{IsBegun, AnswersNext, AppendsSome}
 use Rattle.geoarrow_fields.proofs.lines.answer_chunk.Given as goal
 
 abbrev pub invariant-loop-at : goal.invariant-loop-at

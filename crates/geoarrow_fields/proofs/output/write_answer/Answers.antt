@@ -1,7 +1,7 @@
 use Rattle.std.proofs.Common.{◌≡◌}
 use Rattle.std.proofs.lemmas.Result.{on_ok_weaker, IfErr-weaker}
 use Rattle.geoarrow_fields.specs.declared.output.Fault.TheVariants.{Output}
-use Rattle.geoarrow_fields.proofs.Grows.{handed_on, answer_breaks_off, feed_breaks_off, answer_written}
+use Rattle.geoarrow_fields.proofs.Ways.{handed_on, answer_breaks_off, feed_breaks_off, answer_written}
 use Rattle.geoarrow_fields.proofs.output.write_answer.Goals as goal
 
 pub returns-in_err-write_whole-clause-output : goal.returns-in_err-write_whole-clause-output

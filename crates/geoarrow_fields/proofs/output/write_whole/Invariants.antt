@@ -1,5 +1,5 @@
 use Rattle.std.proofs.Common.{◌≡◌, ◌++◌, length}
-use Rattle.geoarrow_fields.specs.Progress.{AppendsSome}
+use Rattle.geoarrow_fields.proofs.Terms.{AppendsSome}
 use Rattle.geoarrow_fields.proofs.output.write_whole.Given as goal
 
 abbrev pub invariant-loop-rest : goal.invariant-loop-rest

@@ -3,13 +3,10 @@ use Rattle.std.proofs.KnownBytes.{Appends-nil, Appends-kept, Consumes-nil, Consu
 use Rattle.std.proofs.lemmas.Grind.{common_steps}
 use Rattle.std.proofs.lemmas.List.{nil_from_length}
 use Rattle.std.proofs.lemmas.Result.{on_ok_weaker}
-use Rattle.geoarrow_fields.specs.Lines.{lines_of, IsPastLimit, IsLine}
-use Rattle.geoarrow_fields.specs.Output.{Answered}
-use Rattle.geoarrow_fields.proofs.Grows.{handed_on, on_fault, answered_none}
-use Rattle.geoarrow_fields.proofs.Limits.{begun_inside}
-use Rattle.geoarrow_fields.proofs.Splits.{lines_of-last}
-use Rattle.geoarrow_fields.proofs.Steps.{none_begun}
-use Rattle.geoarrow_fields.proofs.Ways.{way_starts, way_stops, way_done, way_breaks_off_at_end, way_goes_on, way_ends, way_breaks_off, bytes_left_falls}
+use Rattle.geoarrow_fields.proofs.Terms.{lines_of, IsPastLimit, IsLine, Answered}
+use Rattle.geoarrow_fields.proofs.Ways.{handed_on, on_fault, answered_none, way_starts, way_stops, way_done, way_breaks_off_at_end, way_goes_on, way_ends, way_breaks_off, bytes_left_falls}
+use Rattle.geoarrow_fields.proofs.Steps.{begun_inside, none_begun}
+use Rattle.geoarrow_fields.proofs.Limits.{lines_of-last}
 use Rattle.geoarrow_fields.proofs.reading.answer_lines.Goals as goal
 
 pub returns-in_err-chunk-clause-memory : goal.returns-in_err-chunk-clause-memory

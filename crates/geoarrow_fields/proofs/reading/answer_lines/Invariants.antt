@@ -1,6 +1,5 @@
 use Rattle.std.proofs.Common.{◌<◌, vec_len}
-use Rattle.geoarrow_fields.specs.Output.{ReadsAndWrites}
-use Rattle.geoarrow_fields.specs.Progress.{IsBegun, AnswersNext}
+use Rattle.geoarrow_fields.proofs.Terms.{ReadsAndWrites, IsBegun, AnswersNext}
 use Rattle.geoarrow_fields.proofs.Ways.{bytes_left}
 use Rattle.geoarrow_fields.proofs.reading.answer_lines.Given as goal
 

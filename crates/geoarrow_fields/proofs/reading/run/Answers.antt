@@ -1,14 +1,8 @@
 use Rattle.std.proofs.Common.{◌≡◌, ◌≢◌, ◌++◌, Option, [], refl, sym, subst}
 use Rattle.std.proofs.KnownBytes.{Consumes-nil}
 use Rattle.std.specs.Io.KnownBytes.{Appends}
-use Rattle.geoarrow_fields.specs.declared.Command.{Command}
-use Rattle.geoarrow_fields.specs.declared.RunEnd.{RunEnd}
-use Rattle.geoarrow_fields.specs.declared.RunEnd.TheVariants.{Done, InputFault, Memory, OutputFault}
-use Rattle.geoarrow_fields.specs.Lines.{Bytes, lines_of}
-use Rattle.geoarrow_fields.specs.Output.{Means, ReadsAndWrites, RunsTo}
-use Rattle.geoarrow_fields.specs.Progress.{AppendsSome, FrontOf}
-use Rattle.geoarrow_fields.proofs.Grows.{answered_then, front_after}
-use Rattle.geoarrow_fields.proofs.Ways.{writes_more, stopped}
+use Rattle.geoarrow_fields.proofs.Terms.{Command, RunEnd, Done, InputFault, Memory, OutputFault, Bytes, lines_of, Means, ReadsAndWrites, RunsTo, AppendsSome, FrontOf}
+use Rattle.geoarrow_fields.proofs.Ways.{answered_then, writes_more, writes_front, stopped}
 use Rattle.geoarrow_fields.proofs.reading.run.Goals as goal
 
 -- an end is the one that was meant, or a fault of the writer
@@ -20,12 +14,7 @@ module _ (command : Command) (i j o p q : Option Bytes) (meant : RunEnd) (Before
 
   ends_so : (end : RunEnd) → (end ≢ OutputFault → end ≡ meant) → (end ≢ OutputFault → Appends p q text) → AppendsSome (FrontOf (λ whole. text ≡ whole)) p q
       → RunsTo command end i j o q
-  ends_so OutputFault is grown part = (
-    meant,
-    writes_more Before _ _ i j j o p q
-        (λ input output more before. front_after _ (Means command meant input) output (λ whole. join input output whole before) more)
-        ran (Consumes-nil j) part,
-  )
+  ends_so OutputFault is grown part = (meant, writes_front Before (Means command meant) _ i j j o p q join ran (Consumes-nil j) part)
   ends_so end is grown part =
       let other : end ≢ OutputFault = λ fault. cc in
       subst (λ e. RunsTo command e i j o q) (sym (is other)) (so (writes_more Before _ _ i j j o p q join ran (Consumes-nil j) (text, refl, grown other)))
