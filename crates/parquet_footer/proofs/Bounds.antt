@@ -1,11 +1,11 @@
 -- A rule is broken within the bytes that are read: what a step leaves, and what it finds, is never longer than what it was given.
-use Rattle.std.proofs.Common.{◌≡◌, ℕ, zero, suc, ◌-◌, ◌/◌, ◌≤◌, nat_lt, List, [], ◌∷◌, length, Bool, true, false, Option, Some, None, Result, Ok, Err, refl, subst, arith, length-drop, ◌==◌, if◌then◌else◌}
+use Rattle.std.proofs.Common.{◌≡◌, ℕ, zero, suc, ◌-◌, ◌/◌, ◌≤◌, nat_lt, List, [], ◌∷◌, length, Bool, true, false, Option, Some, None, Result, Ok, Err, subst, arith, length-drop, ◌==◌, if◌then◌else◌}
 use Rattle.parquet_footer.specs.declared.fault.Fault.{Fault}
 use Rattle.parquet_footer.specs.declared.logical.TimeUnit.{TimeUnit}
 use Rattle.parquet_footer.specs.Fault.{needed, ◌>>=◌}
 use Rattle.parquet_footer.specs.Wire.{byte_at, number_at, number_past, count_at, bytes_past, binary_at, text_at, list_at, map_at, field_at}
 use Rattle.parquet_footer.specs.Fields.{Spot, noted, noting, pair_at, value_of, number_in, named, name_in, text_in, flag_in, structs_in}
-use Rattle.parquet_footer.specs.Logical.{Logical, time, timestamp, algorithms, union_at, unit_of, unit_in, clock_at, width_of, width_in, integer_at, geometry_at, geography_at, member_at, logical_at, logical_in}
+use Rattle.parquet_footer.specs.Logical.{Logical, time, timestamp, algorithms, union_at, unit_of, unit_in, clock_at, width_in, integer_at, geometry_at, geography_at, member_at, logical_at, logical_in}
 use Rattle.parquet_footer.specs.Element.{physical_types, repetitions, storage_at, element_at}
 use Rattle.parquet_footer.specs.Footer.{all_at, key_value_at, footer_at}
 use Rattle.parquet_footer.specs.Skip.{fields_at, items_past, plain_past, over, struct_past, pair_past, nested_past, value_past}
@@ -76,12 +76,10 @@ module _ (n : ℕ) (bytes : List ℕ) (h : length bytes ≤ n) where
 
 module _ (n : ℕ) (bytes : List ℕ) (h : length bytes ≤ n) where
   pub list_within : Within (λ x. length x.2 ≤ n) n (list_at bytes)
-  unfolding list_at
   list_within = step (λ x. length x.1 ≤ n) _ n _ _ (byte_within n bytes h) (λ b k.
       step (λ x. length x.1 ≤ n) _ n _ _ (size_within n b.1 k b.0) (λ x l. checked _ n _ _ _ h (reads _ n _ l)))
 
   pub map_within : Within (λ x. length x.3 ≤ n) n (map_at bytes)
-  unfolding map_at
   map_within = step (λ x. length x.1 ≤ n) _ n _ _ (number_within n 5 bytes h) (λ x k. either _ n _ _ _ (reads _ n _ k)
       (step (λ x. length x.1 ≤ n) _ n _ _ (byte_within n x.1 k) (λ b l. checked _ n _ _ _ h (reads _ n _ l))))
 
@@ -195,7 +193,6 @@ module _ (n : ℕ) (bytes : List ℕ) (h : length bytes ≤ n) where
   Pair x = FoundBoth n x.0 × (length x.1 ≤ n)
 
   pub storage_within : Within (λ x. Unit {0}) n (storage_at bytes)
-  unfolding storage_at
   storage_within = step Pair _ n _ _ (pair_within n 1 2 bytes h) (λ types k.
       step (λ x. Unit {0}) _ n _ _ (name_within physical_types types.0.0 k.0.0) (λ physical_type _.
       step (λ x. Unit {0}) _ n _ _ (number_in_within n types.0.1 k.0.1) (λ type_length _.
@@ -213,10 +210,6 @@ module _ (n : ℕ) (bytes : List ℕ) (h : length bytes ≤ n) where
       step (λ x. Unit {0}) _ n _ _ (text_in_within n found.0.0 k.0.0) (λ crs _.
       step (λ x. Unit {0}) _ n _ _ (name_within algorithms found.0.1 k.0.1) (λ algorithm _. reads _ n _ tt)))
 
-  pub width_within : (bits : ℕ) → Within (λ x. Unit {0}) n (width_of bits bytes)
-  width_within bits = either _ n (bits == 8) _ _ (reads _ n _ tt) (either _ n (bits == 16) _ _ (reads _ n _ tt) (either _ n (bits == 32) _ _ (reads _ n _ tt)
-      (either _ n (bits == 64) _ _ (reads _ n _ tt) (refuses _ n _ h))))
-
   pub unit_within : (id : ℕ) → Within (λ x. Unit {0}) n (unit_of id bytes)
   unit_within id = either _ n (id == 1) _ _ (reads _ n _ tt) (either _ n (id == 2) _ _ (reads _ n _ tt) (either _ n (id == 3) _ _ (reads _ n _ tt) (refuses _ n _ h)))
 
@@ -225,10 +218,9 @@ module _ (n : ℕ) (bytes : List ℕ) (h : length bytes ≤ n) where
 
   pub width_in_within : (p : Option Spot) → Found n p → Within (λ x. Unit {0}) n (width_in bytes p)
   width_in_within p f = step (λ p. length p.1 ≤ n) _ n _ _ (place_within n bytes p h f) (λ p k.
-      step (λ x. length x ≤ n) _ n _ _ (value_of_within n 3 p k) (λ x l. step (λ x. length x.1 ≤ n) _ n _ _ (byte_within n x l) (λ b _. width_within b.0)))
+      step (λ x. length x ≤ n) _ n _ _ (value_of_within n 3 p k) (λ x l. step (λ x. length x.1 ≤ n) _ n _ _ (byte_within n x l) (λ b _. checked _ n _ _ _ h (reads _ n _ tt))))
 
   pub union_within : Within (λ x. length x.1.1 ≤ n) n (union_at bytes)
-  unfolding union_at
   union_within = step (λ x. length x.2 ≤ n) _ n _ _ (field_within n 0 bytes h) (λ f k. checked _ n _ _ _ h
       (step (λ x. length x ≤ n) _ n _ _ (value_within n 64 f.1 f.2 k) (λ rest l.
       step (λ x. length x.1 ≤ n) _ n _ _ (byte_within n rest l) (λ end _. checked _ n _ _ _ l (reads _ n _ k)))))
@@ -267,7 +259,6 @@ logical_in_within n (Some p) f = step (λ x. length x ≤ n) _ n _ _ (value_of_w
 
 module _ (n : ℕ) (bytes : List ℕ) (h : length bytes ≤ n) where
   pub element_within : Within (λ x. length x.1 ≤ n) n (element_at bytes)
-  unfolding element_at
   element_within = step (λ x. Unit {0}) _ n _ _ (storage_within n bytes h) (λ storage _.
       step (λ x. FoundBoth n x.0 × (length x.1 ≤ n)) _ n _ _ (pair_within n 5 6 bytes h) (λ one k.
       step (λ x. Unit {0}) _ n _ _ (number_in_within n one.0.0 k.0.0) (λ num_children _.
@@ -279,7 +270,6 @@ module _ (n : ℕ) (bytes : List ℕ) (h : length bytes ≤ n) where
       step (λ x. Unit {0}) _ n _ _ (logical_in_within n last.0.0 m.0.0) (λ logical_type _. reads _ n _ m.1)))))))))
 
   pub key_value_within : Within (λ x. length x.1 ≤ n) n (key_value_at bytes)
-  unfolding key_value_at
   key_value_within = step (λ x. FoundBoth n x.0 × (length x.1 ≤ n)) _ n _ _ (pair_within n 1 2 bytes h) (λ found k.
       step (λ x. Unit {0}) _ n _ _ (text_in_within n found.0.0 k.0.0) (λ text _.
       step (λ x. Unit {0}) _ n _ _ (needed_within n bytes text h) (λ key _.

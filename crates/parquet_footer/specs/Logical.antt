@@ -1,5 +1,5 @@
 -- Logical types: a union, of which the geometry types, times, points in time and integers are read, and the others known by their ids.
-use Rattle.std.specs.Prelude.{ℕ, Bool, not, List, [], ◌∷◌, Option, Some, None, option_map, Result, Ok, ◌==◌, if◌then◌else◌}
+use Rattle.std.specs.Prelude.{ℕ, Bool, not, ◌||◌, List, [], ◌∷◌, Option, Some, None, option_map, Result, Ok, ◌==◌, if◌then◌else◌}
 use Rattle.parquet_footer.specs.declared.fault.Fault.{Fault}
 use Rattle.parquet_footer.specs.declared.fault.Rule.TheVariants.{Union, Name}
 use Rattle.parquet_footer.specs.declared.logical.Algorithm.{Algorithm}
@@ -34,7 +34,7 @@ abbrev pub algorithms : List Algorithm
 algorithms = Spherical ∷ Vincenty ∷ Thomas ∷ Andoyer ∷ Karney ∷ []
 
 -- a union is a struct of one field: its id, and the type and the bytes of its value
-unfoldable pub union_at : List ℕ → Result (ℕ × Spot) Fault
+abbrev pub union_at : List ℕ → Result (ℕ × Spot) Fault
 union_at bytes = do
   field ← field_at 0 bytes
   _ ← kept (not (field.1 == 0)) Union bytes
@@ -57,19 +57,13 @@ unit_in bytes place = do
   member ← union_at value
   unit_of member.0 value
 
-abbrev pub width_of : ℕ → List ℕ → Result ℕ Fault
-width_of bits bytes =
-    if bits == 8 then Ok bits else
-    if bits == 16 then Ok bits else
-    if bits == 32 then Ok bits else
-    if bits == 64 then Ok bits else refused Name bytes
-
 abbrev pub width_in : List ℕ → Option Spot → Result ℕ Fault
 width_in bytes place = do
   p ← needed bytes place
   value ← value_of 3 p
   width ← byte_at value
-  width_of width.0 bytes
+  _ ← kept (width.0 == 8 || width.0 == 16 || width.0 == 32 || width.0 == 64) Name bytes
+  Ok width.0
 
 -- TIME and TIMESTAMP: 1 isAdjustedToUTC, 2 unit
 abbrev pub clock_at : (Bool → TimeUnit → Logical) → List ℕ → Result Logical Fault

@@ -55,7 +55,7 @@ abbrev pub item_type : ℕ → ℕ
 item_type type = if type == 1 then 3 else if type == 2 then 3 else type
 
 -- the head of a list or a set: the items' type and how many they are; a size of 15 denotes a number behind it
-unfoldable pub list_at : List ℕ → Result (ℕ × ℕ × List ℕ) Fault
+abbrev pub list_at : List ℕ → Result (ℕ × ℕ × List ℕ) Fault
 list_at bytes = do
   b ← byte_at bytes
   n ← (if nat_lt b.0 240 then Ok (b.0 / 16, b.1) else number_at 5 b.1)
@@ -63,7 +63,7 @@ list_at bytes = do
   Ok (item_type (b.0 % 16), n.0, n.1)
 
 -- the head of a map: the types of keys and values, and how many pairs they are; an empty map has no types
-unfoldable pub map_at : List ℕ → Result (ℕ × ℕ × ℕ × List ℕ) Fault
+abbrev pub map_at : List ℕ → Result (ℕ × ℕ × ℕ × List ℕ) Fault
 map_at bytes = do
   n ← number_at 5 bytes
   if n.0 == 0 then Ok (3, 3, 0, n.1) else (do

@@ -88,7 +88,6 @@ const REPETITIONS: [Repetition; 3] = [
 ];
 
 /// The fields 1 to 4 of an element.
-#[tactic(auto, unfolding(crate::specs::Element::storage_at))]
 fn storage_at(bytes: &[u8]) -> Result<Storage<'_>, Fault>
     ensures { Returns stored result (storage_at bytes.now) }
 {
@@ -107,7 +106,6 @@ fn storage_at(bytes: &[u8]) -> Result<Storage<'_>, Fault>
 }
 
 /// An element, and the bytes behind it.
-#[tactic(auto, unfolding(crate::specs::Element::element_at))]
 pub fn element_at(bytes: &[u8]) -> Result<(SchemaElement<'_>, &[u8]), Fault>
     ensures { Returns (λ x. (element x.0, x.1.now)) result (element_at bytes.now) }
 {

@@ -19,9 +19,6 @@ pub struct Place<'a> {
 /// The value of a field, where the struct has it.
 pub type Found<'a> = Option<Place<'a>>;
 
-/// Two fields of a struct, and the bytes behind the struct.
-pub type Pair<'a> = (Found<'a>, Found<'a>, &'a [u8]);
-
 /// Notes the value of a field if it is the one that is looked for, which stands once.
 fn noted<'a>(wanted: u16, id: u16, value: Place<'a>, found: Found<'a>) -> Result<Found<'a>, Fault>
     ensures { Returns spots result (noted wanted id (spot value.entry) (spots found.entry)) }
@@ -34,7 +31,7 @@ fn noted<'a>(wanted: u16, id: u16, value: Place<'a>, found: Found<'a>) -> Result
 }
 
 /// Two fields of a struct, by their ids, and the bytes behind the struct.
-pub fn pair_at(bytes: &[u8], one: u16, other: u16) -> Result<Pair<'_>, Fault>
+pub fn pair_at(bytes: &[u8], one: u16, other: u16) -> Result<(Found<'_>, Found<'_>, &[u8]), Fault>
     ensures { Returns (λ x. ((spots x.0, spots x.1), x.2.now)) result (pair_at one other bytes.now) }
 {
     let mut rest = bytes;
@@ -95,8 +92,7 @@ pub fn flag_in(bytes: &[u8], place: Found<'_>) -> Result<bool, Fault>
     ensures { result ≡ flag_in bytes.now (spots place.entry) }
 {
     let place = place.ok_or(broken(Rule::Missing, bytes))?;
-    let is_flag = place.kind == 1 || place.kind == 2;
-    ensure(is_flag, Rule::WireType, place.bytes)?;
+    ensure(matches!(place.kind, 1 | 2), Rule::WireType, place.bytes)?;
     Ok(place.kind == 1)
 }
 

@@ -29,7 +29,6 @@ pub struct Footer<'a> {
 }
 
 /// A key and its value, and the bytes behind them.
-#[tactic(auto, unfolding(crate::specs::Footer::key_value_at))]
 fn key_value_at(bytes: &[u8]) -> Result<(KeyValue<'_>, &[u8]), Fault>
     ensures { Returns (λ x. (pairing x.0, x.1.now)) result (key_value_at bytes.now) }
 {

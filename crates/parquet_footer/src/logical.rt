@@ -82,14 +82,11 @@ fn width_in(bytes: &[u8], place: Found<'_>) -> Result<u8, Fault>
 {
     let place = place.ok_or(broken(Rule::Missing, bytes))?;
     let (width, _rest) = byte_at(value_of(3, place)?)?;
-    match width {
-        8 | 16 | 32 | 64 => Ok(width),
-        _ => Err(broken(Rule::Name, bytes)),
-    }
+    ensure(matches!(width, 8 | 16 | 32 | 64), Rule::Name, bytes)?;
+    Ok(width)
 }
 
 /// The one field of a union: its id, and its value.
-#[tactic(auto, unfolding(crate::specs::Logical::union_at))]
 fn union_at(bytes: &[u8]) -> Result<(u16, Place<'_>), Fault>
     ensures { Returns (λ x. (x.0, spot x.1)) result (union_at bytes.now) }
 {

@@ -98,7 +98,6 @@ fn item_type(kind: u8) -> u8
 }
 
 /// The head of a list or a set: the items' type, how many they are, and the bytes behind it.
-#[tactic(auto, unfolding(crate::specs::Wire::list_at))]
 pub fn list_at(bytes: &[u8]) -> Result<(u8, u32, &[u8]), Fault>
     ensures { Returns (λ x. (x.0, x.1, x.2.now)) result (list_at bytes.now) }
 {
@@ -113,7 +112,6 @@ pub fn list_at(bytes: &[u8]) -> Result<(u8, u32, &[u8]), Fault>
 }
 
 /// The head of a map: the types of its keys and values, how many pairs they are, and the bytes behind it.
-#[tactic(auto, unfolding(crate::specs::Wire::map_at))]
 pub fn map_at(bytes: &[u8]) -> Result<(u8, u8, u32, &[u8]), Fault>
     ensures { Returns (λ x. (x.0, x.1, x.2, x.3.now)) result (map_at bytes.now) }
 {
