@@ -10,8 +10,7 @@ use Rattle.serde_json.specs.Data.{Data, array, Items, no_items, item}
 use Rattle.arrow_values.specs.Tree.{FieldTree, MemberTrees}
 use Rattle.arrow_values.specs.Union.{is_type_id}
 use Rattle.field_lines.specs.FieldOfValue.{member_before, field_of_value, id_of_value, members_in}
-use Rattle.field_lines.specs.Keys.{pair_read}
-use Rattle.field_lines.specs.Steps.{AreMemberParts}
+use Rattle.field_lines.specs.Keys.{AreMemberParts, pair_read}
 use Rattle.value_tokens.specs.Next.{next_value, next_items, after, ReadsValue, ReadsItems}
 use Rattle.value_tokens.specs.Turns.{item_read, item_refused, items_over, value_takes, after_some}
 

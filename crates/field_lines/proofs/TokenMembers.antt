@@ -239,7 +239,10 @@ module _ {A B : Type 0} {f : Data → Option A} {g : Data → Option B} {k l : T
   second_read came read e = took way came way.at_first (Some read.0) read e (put_second k l read.0 way.at_first way.at_second ordered) (way.answers.0, read.2)
 
 -- one of two keys is neither of two others
-is_no_pair : (q k l m n : Text) → (bytes_eq q m ≡ false) × (bytes_eq q n ≡ false) → (q ≡ k) ⊎ (q ≡ l) → are_keys k l m n ≡ false
+abbrev IsNeither : Text → Text → Text → Type 0
+IsNeither m n q = (bytes_eq q m ≡ false) × (bytes_eq q n ≡ false)
+
+is_no_pair : (q k l m n : Text) → IsNeither m n q → (q ≡ k) ⊎ (q ≡ l) → are_keys k l m n ≡ false
 is_no_pair q k l m n none (inl is) = and_left (bytes_eq k m) (bytes_eq l n) (rw (← is) none.0)
 is_no_pair q k l m n none (inr is) = and_right (bytes_eq k m) (bytes_eq l n) (rw (← is) none.1)
 
@@ -249,41 +252,26 @@ no_pair f p q u _ a b h = refl
 
 -- ---- the key that comes first says which type it is
 
-abbrev IsNoOne : Text → Type 0
-IsNoOne q = (bytes_eq q (codes "list") ≡ false) × (bytes_eq q (codes "large_list") ≡ false) × (bytes_eq q (codes "struct") ≡ false)
-
-abbrev IsNoSize : Text → Type 0
-IsNoSize q = (bytes_eq q (codes "fixed_size_list") ≡ false) × (bytes_eq q (codes "size") ≡ false)
-
-abbrev IsNoMode : Text → Type 0
-IsNoMode q = (bytes_eq q (codes "mode") ≡ false) × (bytes_eq q (codes "union") ≡ false)
-
 either_is : {q m n : Text} (P : Text → Type 0) → (q ≡ m) ⊎ (q ≡ n) → P m → P n → P q
 either_is P one at_m at_n = ⊎_elim (λ is. subst P (sym is) at_m) (λ is. subst P (sym is) at_n) one
 
-nothing_at_one : (q k : Text) (d : Data) → IsNoOne q → Has q (member k d no_members) → None ≡ type_of_value (object (member k d no_members))
-nothing_at_one q k d none h = rw (← only_key q k d h, none.0, none.1, none.2)
-
-nothing_at_two : (q k l : Text) (d e : Data) → IsNoSize q → IsNoMode q → Has q (member k d (member l e no_members)) → None ≡ type_of_value (object (member k d (member l e no_members)))
-nothing_at_two q k l d e size mode h =
-    let one = either_key q k l d e h in
-    rw (is_no_pair q k l (codes "fixed_size_list") (codes "size") size one, is_no_pair q k l (codes "mode") (codes "union") mode one)
-
 pub as_only : (q : Text) (ms : Members) → (q ≡ codes "fixed_size_list" → ⊥) → (q ≡ codes "size" → ⊥) → (q ≡ codes "mode" → ⊥) → (q ≡ codes "union" → ⊥) → Has q ms → only_at q ms ≡ type_of_value (object ms)
 as_only q (member k d no_members) fixed size mode union h = rw (← only_key q k d h, (bytes_eq-Decides q q).1 refl)
-as_only q (member k d (member l e no_members)) fixed size mode union h = nothing_at_two q k l d e (apart q _ fixed, apart q _ size) (apart q _ mode, apart q _ union) h
+as_only q (member k d (member l e no_members)) fixed size mode union h =
+    let one = either_key q k l d e h in
+    rw (is_no_pair q k l (codes "fixed_size_list") (codes "size") (apart q _ fixed, apart q _ size) one, is_no_pair q k l (codes "mode") (codes "union") (apart q _ mode, apart q _ union) one)
 as_only q _ fixed size mode union h = refl
 
 pub as_fixed_size_list : (q : Text) (ms : Members) → (q ≡ codes "fixed_size_list") ⊎ (q ≡ codes "size") → Has q ms → fixed_size_list_at ms ≡ type_of_value (object ms)
-as_fixed_size_list q (member k d no_members) one h = nothing_at_one q k d (either_is IsNoOne one (refl, refl, refl) (refl, refl, refl)) h
+as_fixed_size_list q (member k d no_members) one h = subst (λ n. None ≡ keyed_at n d) (only_key q k d h) (either_is (λ n. None ≡ keyed_at n d) one refl refl)
 as_fixed_size_list q (member k d (member l e no_members)) one h =
-    rw (is_no_pair q k l (codes "mode") (codes "union") (either_is IsNoMode one (refl, refl) (refl, refl)) (either_key q k l d e h))
+    rw (is_no_pair q k l (codes "mode") (codes "union") (either_is (IsNeither (codes "mode") (codes "union")) one (refl, refl) (refl, refl)) (either_key q k l d e h))
 as_fixed_size_list q _ one h = refl
 
 pub as_union : (q : Text) (ms : Members) → (q ≡ codes "mode") ⊎ (q ≡ codes "union") → Has q ms → union_at ms ≡ type_of_value (object ms)
-as_union q (member k d no_members) one h = nothing_at_one q k d (either_is IsNoOne one (refl, refl, refl) (refl, refl, refl)) h
+as_union q (member k d no_members) one h = subst (λ n. None ≡ keyed_at n d) (only_key q k d h) (either_is (λ n. None ≡ keyed_at n d) one refl refl)
 as_union q (member k d (member l e no_members)) one h =
-    rw (is_no_pair q k l (codes "fixed_size_list") (codes "size") (either_is IsNoSize one (refl, refl) (refl, refl)) (either_key q k l d e h))
+    rw (is_no_pair q k l (codes "fixed_size_list") (codes "size") (either_is (IsNeither (codes "fixed_size_list") (codes "size")) one (refl, refl) (refl, refl)) (either_key q k l d e h))
 as_union q _ one h = refl
 
 -- an answer by one definition is one by another, where they agree on what has the key

@@ -1,7 +1,9 @@
--- What stands at the keys of a type's object. For private clauses.
-use Rattle.std.specs.Prelude.{ℤ, Option, None, option_and_then, option_map, if◌then◌else◌, codes, bytes_eq}
+-- What stands at the keys of a type's object, and what is known of a union's members as they are read. For private clauses.
+use Rattle.std.specs.Prelude.{◌≡◌, length, ℤ, List, IsTrue, Option, None, option_and_then, option_map, if◌then◌else◌, codes, bytes_eq}
+use Rattle.std.specs.List.{list_all}
 use Rattle.serde_json.specs.Data.{Data, array, no_items, item, Members, no_members, member}
 use Rattle.arrow_values.specs.Tree.{Text, Tree, FieldTree}
+use Rattle.arrow_values.specs.Union.{is_type_id}
 use Rattle.field_lines.specs.FieldOfValue.{id_of_value, size_of_value, mode_of_value, fixed_size_list_of, union_of, are_keys, keyed_type, field_of_value, fields_of_value, members_of_value}
 
 -- the type that a value says at the one key of an object
@@ -28,3 +30,7 @@ union_at = pair_at (λ d e. option_and_then (λ mode. option_and_then (union_of 
 abbrev pub pair_read : Data → Option (ℤ × FieldTree)
 pair_read (array (item i (item d no_items))) = option_and_then (λ id. option_map (λ f. (id, f)) (field_of_value d)) (id_of_value i)
 pair_read _ = None
+
+-- ids and fields of members: as many of one as of the other, each id 0 to 127
+abbrev pub AreMemberParts : List ℤ → List FieldTree → Type 0
+AreMemberParts ids fields = (length ids ≡ length fields) × IsTrue (list_all is_type_id ids)

@@ -4,7 +4,6 @@ pub mod Lean
 pub mod LineForm
 pub mod Held
 pub mod Line
-pub mod Steps
 pub mod Keys
 pub mod Slots
 pub mod Prints

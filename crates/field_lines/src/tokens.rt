@@ -10,8 +10,7 @@ ghost use Rattle.arrow_values.specs.Tree.{field_tree};
 ghost use Rattle.arrow_values.specs.View.{tree, texts_of, field_trees, member_trees};
 ghost use Rattle.arrow_values.specs.Union.{is_type_id};
 ghost use Rattle.field_lines.specs.FieldOfValue.{field_from, field_of_value, type_of_value, fields_of_value, fields_in, members_of_value, members_in};
-ghost use Rattle.field_lines.specs.Steps.{AreMemberParts};
-ghost use Rattle.field_lines.specs.Keys.{keyed_at, only_at, fixed_size_list_at, union_at, pair_read};
+ghost use Rattle.field_lines.specs.Keys.{AreMemberParts, keyed_at, only_at, fixed_size_list_at, union_at, pair_read};
 ghost use Rattle.value_tokens.specs.Next.{next_value, next_items, next_members, next_after, ReadsValue, ReadsItems, ReadsMembers, ReadsAfter};
 
 use crate::metadata::take_texts;

@@ -8,8 +8,7 @@ use Rattle.arrow_values.specs.Tree.{struct}
 use Rattle.arrow_values.specs.Union.{is_type_id}
 use Rattle.arrow_values.specs.View.{texts_of, field_trees}
 use Rattle.field_lines.specs.FieldOfValue.{field_before, field_of_value, type_of_value, list_of, large_list_of}
-use Rattle.field_lines.specs.Keys.{pair_read}
-use Rattle.field_lines.specs.Steps.{AreMemberParts}
+use Rattle.field_lines.specs.Keys.{AreMemberParts, pair_read}
 use Rattle.field_lines.proofs.TokenMembers.{part_other, parts_go_on, parts_end, no_type, only_go_on, only_end, only_spoiled, first_read, second_read, two_spoiled, no_pair, as_fixed_size_list, as_union, as_only, taken_as, keyed_read, not_keyed}
 use Rattle.field_lines.proofs.TokenItems.{pair_before, item_turn, item_taken, taken_start, taken_go_on, taken_end, taken_spoiled, members_in-pair, zip_push, parts_push}
 use Rattle.value_tokens.specs.Turns.{value-object, members_over, after_some}
