@@ -5,6 +5,8 @@ use Rattle.std.proofs.lemmas.List.Elements.{All-nil, All-cons, All-head, All-tai
 use Rattle.geoarrow_fields.proofs.Terms.{Bytes, begin_line, lines_of, ended_lines, line_feed, IsLine, IsSplit, max_lines, max_line_bytes, IsWithinLimits, IsPastLimit, Stops, IsShort, IsBegun, NextLines}
 use Rattle.std.proofs.Math.Seq.{drop-append_seam}
 
+-- ---- an input and its lines
+
 -- another byte stands in the first line
 pub put_other : (byte : ℕ) (bytes : Bytes) (lines : List Bytes) → byte ≢ line_feed → lines_of bytes ≡ lines → lines_of (byte ∷ bytes) ≡ begin_line byte lines
 put_other byte bytes lines h same =

@@ -92,7 +92,7 @@ refused : (f : FieldTree) (fault : ColumnFault) → IsRefusedFor f fault → IsR
 refused f Arrow h = h.0
 refused f InvalidGeoArrow h = h.0
 
--- a faulty column is refused, or its metadata text is
+-- a faulty column is refused, or has no GeoArrow name and a metadata text that denotes none
 faulty : (f : FieldTree) (fault : ColumnFault) → IsColumnOf f (Faulty fault) → IsRefused f ⊎ IsUnread f
 faulty f InvalidGeoArrow h = inl h.0
 faulty f Arrow (inl h) = inl h.0

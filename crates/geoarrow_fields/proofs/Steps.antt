@@ -1,4 +1,4 @@
--- The lines of a chunk, one after the other, over plain variables.
+-- The lines of a chunk, one after the other. Over plain variables.
 use Rattle.std.proofs.Common.{◌≡◌, ◌≢◌, ◌⊎◌, inl, inr, ℕ, suc, ◌+◌, ◌-◌, ◌<◌, ◌≤◌, true, eqb, ◌∷◌, ◌++◌, length, take, drop, get_or, refl, sym, ap, ◌∙◌, append_assoc, drop-cons, add-one, arith, [], take_all, Option, Some, None, subst, append-nil, length-append, length-take}
 use Rattle.std.proofs.lemmas.Bool.{eq-eqb, eqb-true}
 use Rattle.std.proofs.lemmas.List.{take-append-drop, take_rest, get_or-take, get_or_append_left, get_or_at}
@@ -11,12 +11,10 @@ use Rattle.memchr.specs.Find.{is_byte, IsFirstByte}
 use Rattle.geoarrow_fields.proofs.Limits.{lines_line}
 use Rattle.geoarrow_fields.proofs.Ways.{appends_after, front_after, answered_after}
 
--- the byte at a place is no line feed
-abbrev pub IsOther : Bytes → ℕ → Type 0
-IsOther bytes k = eqb (get_or bytes k 0) line_feed ≢ true
+-- ---- a line feed in bytes, and what is past a limit
 
 -- what stands before a place up to which no line feed stands is of one line
-pub line_before : (rest : Bytes) (at : ℕ) → at ≤ length rest → ((k : ℕ) → k < at → IsOther rest k) → IsLine (take at rest)
+pub line_before : (rest : Bytes) (at : ℕ) → at ≤ length rest → ((k : ℕ) → k < at → eqb (get_or rest k 0) line_feed ≢ true) → IsLine (take at rest)
 line_before rest at within h =
     All-from_get_or (λ b. b ≢ line_feed) (take at rest) 0
     (λ k lt is. let less : k < at = omega (arith, length-take at rest) in h k less (eq-eqb _ line_feed (sym (get_or-take at rest k 0 less) ∙ is)))
@@ -51,6 +49,8 @@ line_inside total later line tail joined few short (inr long) =
 pub begun_inside : (total : ℕ) (later : Bytes) → (0 < length later → total < max_lines) → length later ≤ max_line_bytes → ¬ IsPastLimit total later
 begun_inside total later room short (inl (many, some)) = let few : total < max_lines = room some in omega arith
 begun_inside total later room short (inr long) = omega (arith, long.long, ap length long.joined, length-append long.begun long.rest)
+
+-- ---- one line after the other
 
 -- nothing has come of the next line
 pub none_begun : (total : ℕ) → total ≤ max_lines → IsBegun total []

@@ -8,6 +8,8 @@ use Rattle.geoarrow_fields.proofs.Terms.{Command, Bytes, line_feed, Answers, Ans
 use Rattle.std.specs.Prelude.{⊤}
 use Rattle.geoarrow_fields.proofs.Limits.{lines_of-split, lines_none, lines_after, all_within, stops}
 
+-- ---- faults, and what a writer holds
+
 -- what follows from a fault that is handed on
 pub handed_on : {T E R : Type 0} {Q : E → Type 0} (r : Result T E) (x : E) → IsErrAnd r Q → ((e : E) → Q e → e ≡ x → R) → IfErr r (λ e. e ≡ x → R)
 handed_on (Ok _) x is f = absurd is

@@ -36,7 +36,7 @@ pub fn keeps_limits_or_passes_one()
     ensures never_both { (input : Bytes) → IsWithinLimits (lines_of input) → ¬ Stops IsPastLimit input }
 {}
 
-/// Whether a line exceeds a limit that begins with `begun` and has `more` bytes more, after `count` lines.
+/// Whether a line of `begun` and `more` bytes after that exceeds a limit, after `count` lines.
 fn is_past_limit(count: usize, begun: &Vec<u8>, more: usize) -> bool
     requires { IsBegun count begun.now.items }
     ensures { MatchBool result ((count ≡ max_lines) ⊎ (max_line_bytes < length begun.now.items + more))
