@@ -1,6 +1,6 @@
 -- Trees have codes: trees of numbers, different ones of different trees.
 use Rattle.std.specs.Prelude.{◌≡◌, ℕ, zero, suc, cond, ℤ, Bool, true, false, List, [], ◌∷◌}
-use Rattle.std.proofs.Common.{refl, sym, ◌∙◌, ap}
+use Rattle.std.proofs.Common.{refl, ap}
 use Rattle.std.specs.Coded.{Coded, code_by, coded×, coded_ℕ, coded_bool, coded_ℤ, coded_list}
 use base.Stored.{Gv, gnil, gnum, gcons}
 use Rattle.arrow_values.specs.declared.tree.UnionMode.{UnionMode}
