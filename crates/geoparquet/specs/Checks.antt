@@ -1,5 +1,5 @@
 -- The checks of the metadata at the key `geo`, of which each holds or does not (GeoParquet 1.1), and the findings.
-use Rattle.std.specs.Prelude.{◌≡◌, ◌≢◌, ◌↔◌, ◌&&◌, Bool, true, false, List, [], ◌∷◌, ◌++◌, codes, Option, None, Some, IsSome, IsTrue, option_map, option_and_then, unwrap_or, map, flat_map, string_bytes, ⊤}
+use Rattle.std.specs.Prelude.{◌≡◌, ◌≢◌, ◌↔◌, ◌&&◌, Bool, true, List, [], ◌∷◌, ◌++◌, codes, Option, None, Some, IsSome, IsTrue, option_map, option_and_then, unwrap_or, map, flat_map, string_bytes, ⊤}
 use Rattle.serde_json.specs.Data.{Data, null, Members, no_members, member}
 use Rattle.serde_json.specs.Find.{get, as_object}
 use Rattle.serde_json.specs.Read.{read}

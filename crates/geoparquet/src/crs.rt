@@ -1,4 +1,4 @@
-//! Coordinate reference systems that agree.
+//! Coordinate reference systems that agree, and equality of JSON values.
 ghost use Rattle.std.specs.Prelude.{◌≡◌, ◌↔◌, IfOk, IsTrue, option_map, string_bytes};
 ghost use Rattle.serde_json.specs.View.{view, items_view, members_view};
 ghost use Rattle.geoparquet.specs.Alike.{alike, alike_items, alike_members};

@@ -1,4 +1,4 @@
-use Rattle.std.proofs.Common.{◌≡◌, Bool, List, [], ◌∷◌, map, option_map, ap₂, subst, refl, rules}
+use Rattle.std.proofs.Common.{Bool, List, [], ◌∷◌, map, option_map, ap₂, subst, refl, rules}
 use Rattle.serde_json.specs.View.{view}
 use Rattle.arrow_columns.specs.Column.{column_tree}
 use Rattle.geoparquet.specs.Checks.{Entry, checks_of_column, HoldsOf, AreHeld}

@@ -1,4 +1,4 @@
-use Rattle.std.proofs.Common.{◌≡◌, ◌↔◌, [], map, not, IsTrue, option_map, ap, ◌∙◌, rules}
+use Rattle.std.proofs.Common.{◌≡◌, [], map, ap, ◌∙◌, rules}
 use Rattle.serde_json.specs.View.{members_view}
 use Rattle.arrow_columns.specs.Column.{column_tree}
 use Rattle.geoparquet.specs.Checks.{are_names}
