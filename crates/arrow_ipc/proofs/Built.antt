@@ -1,5 +1,5 @@
 -- What is put one after the other gives a block.
-use Rattle.std.proofs.Common.{◌≡◌, ℕ, ◌+◌, ◌^◌, ◌<◌, ◌≤◌, Bool, ◌++◌, ◌∷◌, [], List, length, map, Vec, String, Global, string_bytes, string_cmp, Result, Ok, Err, IfOk, IfErr, refl, sym, ap, ◌∙◌, subst, arith, append_assoc, append-nil}
+use Rattle.std.proofs.Common.{◌≡◌, ℕ, ◌+◌, ◌^◌, ◌<◌, ◌≤◌, ◌++◌, ◌∷◌, [], List, length, map, Vec, String, Global, string_bytes, string_cmp, Result, Ok, Err, IfOk, IfErr, sym, ap, ◌∙◌, subst, arith, append_assoc, append-nil}
 use Rattle.std.proofs.lemmas.List.{map_push}
 use Rattle.std.specs.List.Sorted.{IsStrictlySortedBy}
 use Rattle.std.specs.Map.{keys_of}
@@ -40,10 +40,6 @@ is_as r block made same is = subst (λ l. IfOk r (λ b. b.items ≡ l)) same is
 pub most_as : (r : Result (Vec ℕ Global) Refusal) (block : List ℕ) (n : ℕ) → IfOk r (λ b. b.items ≡ block) → length block ≤ n → IfOk r (λ b. length b.items ≤ n)
 most_as (Err e) block n is le = tt
 most_as (Ok b) block n is le = let m : length b.items ≡ length block = ap length is in omega (arith, m, le)
-
-pub most_than : (r : Result (Vec ℕ Global) Refusal) (n m : ℕ) → n ≤ m → IfOk r (λ b. length b.items ≤ n) → IfOk r (λ b. length b.items ≤ m)
-most_than (Err e) n m le h = tt
-most_than (Ok b) n m le h = omega (arith, le, h)
 
 -- an error was handed on
 pub handed : {X E : Type 0} (P : E → Type 0) (r : Result X E) (e : E) → r ≡ Err e → P e → IfErr r P

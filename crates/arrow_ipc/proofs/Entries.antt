@@ -1,9 +1,8 @@
 -- Blocks of texts and of entries of metadata.
-use Rattle.std.proofs.Common.{◌≡◌, ℕ, ◌+◌, ◌-◌, ◌^◌, ◌<◌, ◌≤◌, true, ◌++◌, ◌∷◌, [], List, length, Result, Ok, refl, sym, ap, ◌∙◌, arith, append_assoc}
+use Rattle.std.proofs.Common.{◌≡◌, ℕ, ◌+◌, ◌-◌, ◌^◌, ◌<◌, true, ◌++◌, ◌∷◌, [], List, length, Ok, refl, sym, ap, ◌∙◌, arith, append_assoc}
 use Rattle.std.specs.Str.{is_utf8}
 use Rattle.std.proofs.lemmas.List.{length-append}
 use Rattle.arrow_values.specs.Tree.{Text}
-use Rattle.arrow_ipc.specs.Fault.{◌>>=◌}
 use Rattle.arrow_ipc.specs.Wire.{utf8_at}
 use Rattle.arrow_ipc.specs.Slots.{needed_text_in, table_in}
 use Rattle.arrow_ipc.specs.Columns.{entry_in}

@@ -1,9 +1,9 @@
 -- A column's block: its own table, then its name, its type, its children and its metadata.
-use Rattle.std.proofs.Common.{◌≡◌, ℕ, suc, ◌+◌, ◌-◌, ◌*◌, ◌^◌, ◌%◌, ◌<◌, ◌≤◌, Bool, true, false, ◌++◌, ◌∷◌, [], List, length, Vec, Global, Option, None, Result, Ok, Err, IfOk, refl, sym, ap, subst, arith, ◌==◌, if◌then◌else◌}
+use Rattle.std.proofs.Common.{◌≡◌, ℕ, suc, ◌+◌, ◌-◌, ◌^◌, ◌<◌, ◌≤◌, Bool, true, false, ◌++◌, ◌∷◌, [], List, length, Option, None, Ok, refl, ap, arith, ◌==◌, if◌then◌else◌}
 use mir.Val.{bool_byte}
 use Rattle.std.proofs.lemmas.List.{length-append}
 use Rattle.arrow_values.specs.Tree.{Text, Metadata}
-use Rattle.arrow_columns.specs.Column.{TypeTree, known, ColumnTree}
+use Rattle.arrow_columns.specs.Column.{TypeTree, ColumnTree}
 use Rattle.arrow_ipc.specs.Fault.{◌>>=◌}
 use Rattle.arrow_ipc.specs.Wire.{u8_at, slot_at, target_at, utf8_at, vector_at}
 use Rattle.arrow_ipc.specs.Slots.{u8_in, flag_in, text_in, table_in, vector_in}
@@ -11,8 +11,7 @@ use Rattle.arrow_ipc.specs.Parts.{Own, tag_in, zone_in, index_in, ids_in, parts_
 use Rattle.arrow_ipc.specs.Kinds.{kind_at}
 use Rattle.arrow_ipc.specs.Types.{type_of}
 use Rattle.arrow_ipc.specs.Columns.{texts_at, ids_at, ids_of_kind, counted, typed, finished, columns_by, column_at}
-use Rattle.arrow_ipc.specs.Blocks.{Holds, IsType, offsets, places, flag, table_block, column_block, column_in, text_read, columns_read, texts_read, IsColumnBlock}
-use Rattle.arrow_ipc.specs.declared.blocks.Refusal.{Refusal}
+use Rattle.arrow_ipc.specs.Blocks.{Holds, IsType, offsets, places, flag, table_block, column_block, column_in, text_read, columns_read, texts_read}
 use Rattle.arrow_ipc.specs.declared.kinds.Kind.{Kind}
 use Rattle.arrow_ipc.proofs.Places.{is_some, is_le, u8_is}
 use Rattle.arrow_ipc.proofs.Told.{bound}
@@ -104,12 +103,3 @@ flag_byte false = refl
 
 pub flagged : (nullable : Bool) (tag : ℕ) (bs : List (List ℕ)) → table_block slots (bool_byte nullable ∷ tag ∷ 0 ∷ 0 ∷ []) bs ≡ table_block slots (flag nullable ∷ tag ∷ 0 ∷ 0 ∷ []) bs
 flagged nullable tag bs = ap (λ (f : ℕ). table_block slots (f ∷ tag ∷ 0 ∷ 0 ∷ []) bs) (flag_byte nullable)
-
-pub columns_made : (r : Result (Vec ℕ Global) Refusal) (nb tb cb mb : List ℕ) (nullable : Bool) (tag : ℕ) (name : Text) (ms : Metadata) → Holds text_read nb name → Holds texts_read mb ms
-    → IfOk r (λ b. b.items ≡ column_block nb tb cb mb nullable tag) → IfOk r (λ b. length b.items < 2 ^ 31) → IfOk r (λ b. IsColumnBlock tag tb cb name nullable ms b.items)
-unfolding IsColumnBlock
-columns_made (Err e) nb tb cb mb nullable tag name ms named texts is small = tt
-columns_made (Ok b) nb tb cb mb nullable tag name ms named texts is small = λ levels t typed.
-    let size : length b.items ≡ length (column_block nb tb cb mb nullable tag) = ap length is in
-    subst (λ l. Holds (column_in levels) l (record { name = name; data_type = known t; nullable = nullable; metadata = ms })) (sym is)
-    (column_holds levels nb tb cb mb nullable tag name typed.columns (known t) ms named typed.typing typed.nested texts (omega (arith, size, small)))

@@ -45,9 +45,6 @@ pub record Made {A : Type 0} (P : List ℕ → A → Type 0) (rooms : List A →
   pub fits : length (concat blocks) + 4 * length blocks + rooms left ≤ rooms all
 
 module _ {A : Type 0} (P : List ℕ → A → Type 0) (rooms : List A → ℕ) where
-  pub made_none : (all : List A) → Made P rooms [] all all
-  made_none all = record { done = []; parts = refl; each = tt; fits = omega arith }
-
   pub made_more : (blocks : List (List ℕ)) (b : List ℕ) (x : A) (left all : List A) → Made P rooms blocks (x ∷ left) all → P b x → 4 + length b + rooms left ≤ rooms (x ∷ left)
       → Made P rooms (blocks ++ b ∷ []) left all
   made_more blocks b x left all m one room =

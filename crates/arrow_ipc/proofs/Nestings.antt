@@ -1,18 +1,19 @@
 -- The columns that a type nests, one block after the other.
-use Rattle.std.proofs.Common.{◌≡◌, ℕ, zero, suc, ◌+◌, ◌-◌, ◌^◌, ◌<◌, ◌≤◌, ◌⊎◌, inl, inr, max, ℤ, Bool, true, false, ◌&&◌, ◌++◌, ◌∷◌, [], List, length, map, drop, get_or, Vec, Global, Result, Ok, Err, IfOk, IfErr, refl, sym, ap, ◌∙◌, subst, arith, append-nil}
+use Rattle.std.proofs.Common.{◌≡◌, ℕ, zero, suc, ◌+◌, ◌-◌, ◌^◌, ◌<◌, ◌≤◌, ◌⊎◌, inl, inr, max, Bool, true, false, ◌&&◌, ◌++◌, ◌∷◌, [], List, length, map, drop, get_or, Vec, Global, Result, Ok, Err, IfOk, refl, sym, ap, ◌∙◌, subst, arith, append-nil}
 use Rattle.std.proofs.lemmas.List.{map_push, drop_more, drop_all}
 use Rattle.arrow_values.specs.Tree.{Text, Metadata, Tree, plain, list, large_list, fixed_size_list, struct, union, FieldTrees, no_fields, field, MemberTrees, no_members, member, FieldTree, Members, depth, fields_depth, members_depth}
 use Rattle.std.specs.Borrow.{Bor}
 use Rattle.arrow_values.specs.View.{field_trees, member_trees, field_list, listed_fields}
 use Rattle.arrow_columns.specs.Column.{known, ColumnTree}
-use Rattle.arrow_ipc.specs.Blocks.{Holds, child_in, columns_read, vector_block, IsType, IsColumnBlock}
+use Rattle.arrow_ipc.specs.Blocks.{Holds, child_in, column_in, text_read, texts_read, columns_read, vector_block, column_block, IsType}
 use Rattle.arrow_ipc.specs.Shapes.{member_ids, are_ids, shape_of, ids_of, shape_tag, shape_bytes, has_table, column_of, member_fields, nested_fields, nested_columns}
 use Rattle.arrow_ipc.specs.Rooms.{is_size, is_sound, are_sound, members_sound, fields_room, members_room, nested_room, room_of, columns_room, Refuses, IsUnfit, IsUnfitType, AreUnfit, HoldsEach, IsNesting}
 use Rattle.arrow_ipc.specs.declared.blocks.Refusal.{Refusal}
 use Rattle.arrow_ipc.proofs.Vectors.{items}
 use Rattle.arrow_ipc.proofs.Made.{Made, made_more, made_all, length_vector, columns_hold}
+use Rattle.arrow_ipc.proofs.Fields.{column_holds}
 use Rattle.arrow_ipc.proofs.TreeTypes.{table_is}
-use Rattle.arrow_ipc.proofs.Built.{refuses_more, refused_as}
+use Rattle.arrow_ipc.proofs.Built.{refuses_more}
 
 -- fields nest less than the type that nests them
 abbrev pub deepest : List FieldTree → ℕ
@@ -147,16 +148,19 @@ nested_unfit levels (union ms mode) some u =
 
 -- ---- a column, given the blocks of what its type nests
 
-pub nest_ok : (r : Result (Vec ℕ Global) Refusal) (bs : List (List ℕ)) (t : Tree) (name : Text) (nullable : Bool) (texts : Metadata) (tag : ℕ) (table children : List ℕ)
-    → IfOk r (λ b. IsColumnBlock tag table children name nullable texts b.items) → tag ≡ shape_tag (shape_of t) → table ≡ shape_bytes (shape_of t) (ids_of t) → has_table (shape_of t) (ids_of t) ≡ true → length table < 2 ^ 31 → children ≡ vector_block bs → length children < 2 ^ 31
+pub nest_ok : (r : Result (Vec ℕ Global) Refusal) (bs : List (List ℕ)) (t : Tree) (name : Text) (nullable : Bool) (texts : Metadata) (nb tb cb mb : List ℕ) (tag : ℕ)
+    → IfOk r (λ b. b.items ≡ column_block nb tb cb mb nullable tag) → IfOk r (λ b. length b.items < 2 ^ 31) → Holds text_read nb name → Holds texts_read mb texts
+    → tag ≡ shape_tag (shape_of t) → tb ≡ shape_bytes (shape_of t) (ids_of t) → has_table (shape_of t) (ids_of t) ≡ true → length tb < 2 ^ 31 → cb ≡ vector_block bs → length cb < 2 ^ 31
     → IfOk r (λ b. IsNesting bs t name nullable texts b.items)
-unfolding IsColumnBlock IsNesting
-nest_ok (Err e) bs t name nullable texts tag table children h tagged same sound low is small = tt
-nest_ok (Ok b) bs t name nullable texts tag table children h tagged same sound low is small = λ levels each.
-    let size : length (vector_block bs) < 2 ^ 31 = subst (λ l. length l < 2 ^ 31) is small in
-    let nested : Holds (columns_read levels) children (nested_columns t) = subst (λ l. Holds (columns_read levels) l (nested_columns t)) (sym is) (columns_hold levels bs (nested_columns t) each (omega (arith, size))) in
-    let typing : IsType tag table (nested_columns t) (known t) = rw (tagged, same) (table_is t sound (subst (λ l. length l < 2 ^ 31) same low)) in
-    h levels t (record { columns = nested_columns t; typing = typing; nested = nested })
+unfolding IsNesting
+nest_ok (Err e) bs t name nullable texts nb tb cb mb tag is few named written tagged same sound low vector small = tt
+nest_ok (Ok b) bs t name nullable texts nb tb cb mb tag is few named written tagged same sound low vector small = λ levels each.
+    let size : length (vector_block bs) < 2 ^ 31 = subst (λ l. length l < 2 ^ 31) vector small in
+    let nested : Holds (columns_read levels) cb (nested_columns t) = subst (λ l. Holds (columns_read levels) l (nested_columns t)) (sym vector) (columns_hold levels bs (nested_columns t) each (omega (arith, size))) in
+    let typing : IsType tag tb (nested_columns t) (known t) = rw (tagged, same) (table_is t sound (subst (λ l. length l < 2 ^ 31) same low)) in
+    let long : length b.items ≡ length (column_block nb tb cb mb nullable tag) = ap length is in
+    subst (λ l. Holds (column_in levels) l (record { name = name; data_type = known t; nullable = nullable; metadata = texts })) (sym is)
+    (column_holds levels nb tb cb mb nullable tag name (nested_columns t) (known t) texts named typing nested written (omega (arith, long, few)))
 
 pub data_ok : (r : Result (Vec ℕ Global) Refusal) (bs : List (List ℕ)) (t : Tree) (name : Text) (nullable : Bool) (texts : Metadata) (levels room : ℕ) → IfOk r (λ b. IsNesting bs t name nullable texts b.items)
     → HoldsEach (levels - 1) bs (nested_columns t) room → 0 < levels → IfOk r (λ b. Holds (child_in levels) b.items (record { name = name; data_type = known t; nullable = nullable; metadata = texts }))

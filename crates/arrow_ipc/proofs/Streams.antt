@@ -1,5 +1,5 @@
 -- The block of a schema, in a message, in a stream.
-use Rattle.std.proofs.Common.{◌≡◌, ℕ, ◌+◌, ◌*◌, ◌-◌, ◌^◌, ◌%◌, ◌<◌, ◌≤◌, false, ◌++◌, ◌∷◌, [], List, length, take, drop, Some, None, Ok, refl, sym, ap, ◌∙◌, subst, arith, append-nil, ◌==◌, if◌then◌else◌}
+use Rattle.std.proofs.Common.{◌≡◌, ℕ, ◌+◌, ◌-◌, ◌^◌, ◌<◌, ◌≤◌, ◌++◌, ◌∷◌, [], List, length, take, drop, Ok, refl, sym, ap, ◌∙◌, arith, append-nil, ◌==◌, if◌then◌else◌}
 use Rattle.std.proofs.lemmas.List.{length-append, take_at}
 use Rattle.arrow_values.specs.Tree.{Metadata}
 use Rattle.arrow_columns.specs.Column.{ColumnTree}

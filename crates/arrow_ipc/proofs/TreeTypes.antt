@@ -1,13 +1,12 @@
 -- A type's table and its columns, by its shape.
-use Rattle.std.proofs.Common.{◌≡◌, ℕ, ◌^◌, ◌<◌, ◌≤◌, ◌+◌, ◌*◌, pos, negsuc, ℤ, Bool, true, false, ◌∷◌, [], List, length, map, Option, Some, None, refl, ap, subst, arith, nat_lt, if◌then◌else◌}
-use Rattle.arrow_values.specs.Tree.{Tree, plain, list, large_list, fixed_size_list, struct, union, FieldTrees, no_fields, field, FieldTree}
+use Rattle.std.proofs.Common.{◌≡◌, ℕ, ◌^◌, ◌<◌, ◌≤◌, ◌+◌, ◌*◌, pos, negsuc, Bool, true, false, ◌∷◌, [], length, map, Some, None, refl, subst, arith, nat_lt, if◌then◌else◌}
+use Rattle.arrow_values.specs.Tree.{Tree, plain, list, large_list, fixed_size_list, struct, union, FieldTrees, FieldTree}
 use Rattle.arrow_values.specs.View.{field_list, field_trees_of_list}
 use Rattle.arrow_columns.specs.Column.{known}
 use Rattle.arrow_ipc.specs.Blocks.{IsType, type_block}
 use Rattle.arrow_ipc.specs.Shapes.{number_of, truth_of, member_ids, column_of, nested_columns, shape_of, ids_of, shape_tag, shape_bytes, has_table}
 use Rattle.arrow_ipc.specs.Rooms.{is_sound, table_room}
-use Rattle.arrow_ipc.specs.declared.shapes.Shape.{Shape}
-use Rattle.arrow_ipc.specs.declared.shapes.Shape.TheVariants.{Table, Members}
+use Rattle.arrow_ipc.specs.declared.shapes.Shape.TheVariants.{Table}
 use Rattle.arrow_ipc.proofs.TypeTables.{below, length_type, plain_type, list_is, large_list_is, fixed_size_list_is, struct_is}
 use Rattle.arrow_ipc.proofs.Unions.{length_union, count_ids, union_type}
 

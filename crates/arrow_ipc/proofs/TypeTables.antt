@@ -1,5 +1,5 @@
 -- The blocks of types that have at most a number and a truth value.
-use Rattle.std.proofs.Common.{◌≡◌, ℕ, ◌+◌, ◌-◌, ◌^◌, ◌%◌, ◌<◌, ◌≤◌, pos, Bool, true, false, ◌&&◌, not, ◌++◌, ◌∷◌, [], List, length, map, Option, Some, None, Ok, refl, ap, arith, nat_lt, nat_le, ◌==◌}
+use Rattle.std.proofs.Common.{◌≡◌, ℕ, ◌+◌, ◌-◌, ◌^◌, ◌<◌, ◌≤◌, pos, Bool, true, false, ◌&&◌, not, ◌++◌, ◌∷◌, [], List, length, map, Option, Some, None, Ok, refl, ap, arith, nat_lt, nat_le, ◌==◌}
 use Rattle.std.specs.Int.{w16, from_le_bytes, byte_at}
 use Rattle.std.proofs.lemmas.Bool.Decides.{nat_tests}
 use Rattle.arrow_values.specs.Tree.{null, boolean, int8, int16, int32, int64, uint8, uint16, uint32, uint64, float16, float32, float64, date32, date64, binary, large_binary, binary_view, utf8, large_utf8, utf8_view, Plain, plain, list, large_list, fixed_size_list, struct, FieldTree}
@@ -13,7 +13,7 @@ use Rattle.arrow_ipc.specs.Parts.{zone_in, ids_in}
 use Rattle.arrow_columns.specs.Nested.{all_known, known_fields}
 use Rattle.arrow_ipc.specs.Types.{type_of}
 use Rattle.arrow_ipc.specs.Columns.{ids_at, ids_of_kind, counted}
-use Rattle.arrow_ipc.specs.Blocks.{Lies, IsType, word, offsets, places, flag, number, truth, place_of_number, place_of_truth, table_block, type_block}
+use Rattle.arrow_ipc.specs.Blocks.{Lies, IsType, word, offsets, places, number, truth, place_of_number, place_of_truth, table_block, type_block}
 use Rattle.arrow_ipc.specs.Shapes.{tag_of, number_of, truth_of, column_of}
 use Rattle.arrow_ipc.specs.declared.kinds.Kind.{Kind}
 use Rattle.arrow_ipc.specs.declared.kinds.Kind.TheVariants.{Null, Boolean, Int8, Int16, Int32, Int64, UInt8, UInt16, UInt32, UInt64, Float16, Float32, Float64, Date32, Date64, Binary, LargeBinary, BinaryView, Utf8, LargeUtf8, Utf8View, List as ListOf, Struct}

@@ -1,9 +1,9 @@
 -- A union's table, with its type ids.
-use Rattle.std.proofs.Common.{◌≡◌, ℕ, ◌+◌, ◌*◌, ◌-◌, ◌^◌, ◌%◌, ◌<◌, ◌≤◌, ℤ, pos, negsuc, Bool, true, false, ◌&&◌, not, ◌++◌, ◌∷◌, [], List, length, map, drop, Some, None, Ok, refl, sym, ap, ◌∙◌, subst, arith, append_assoc, append-nil, nat_lt, ◌==◌, if◌then◌else◌}
+use Rattle.std.proofs.Common.{◌≡◌, ℕ, ◌+◌, ◌*◌, ◌-◌, ◌^◌, ◌%◌, ◌<◌, ◌≤◌, ℤ, pos, negsuc, true, not, ◌++◌, ◌∷◌, [], List, length, map, drop, Some, Ok, refl, sym, ap, ◌∙◌, subst, arith, append_assoc, append-nil, nat_lt, ◌==◌}
 use Rattle.std.specs.List.{zip}
 use Rattle.std.proofs.lemmas.List.{length-append, drop_all}
 use Rattle.std.proofs.lemmas.Bool.Decides.{nat_tests}
-use Rattle.arrow_values.specs.Tree.{Tree, fixed_size_list, union, MemberTrees, no_members, member}
+use Rattle.arrow_values.specs.Tree.{union, MemberTrees, no_members, member}
 use Rattle.arrow_values.specs.View.{member_trees}
 use Rattle.arrow_values.specs.Union.{has}
 use Rattle.arrow_values.specs.declared.tree.UnionMode.{UnionMode}

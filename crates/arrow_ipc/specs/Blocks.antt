@@ -3,10 +3,10 @@
 use Rattle.std.specs.Prelude.{◌≡◌, ℕ, zero, suc, ◌+◌, ◌-◌, ◌*◌, ◌/◌, ◌%◌, ◌^◌, ◌<◌, ◌≤◌, ℤ, pos, negsuc, Bool, List, [], ◌∷◌, ◌++◌, length, drop, replicate, Option, Some, None, Result, Ok, if◌then◌else◌}
 use Rattle.std.specs.Int.{w32, to_le_bytes}
 use Rattle.std.specs.List.{concat}
-use Rattle.arrow_values.specs.Tree.{Text, Metadata, Tree}
+use Rattle.arrow_values.specs.Tree.{Text, Metadata}
 use Rattle.arrow_values.specs.declared.tree.UnionMode.{UnionMode}
 use Rattle.arrow_values.specs.declared.tree.UnionMode.TheVariants.{Sparse, Dense}
-use Rattle.arrow_columns.specs.Column.{TypeTree, known, ColumnTree}
+use Rattle.arrow_columns.specs.Column.{TypeTree, ColumnTree}
 use Rattle.arrow_ipc.specs.Fault.{◌>>=◌, breaks}
 use Rattle.arrow_ipc.specs.Wire.{slot_at, utf8_at, vector_at}
 use Rattle.arrow_ipc.specs.Kinds.{kind_at}
@@ -142,17 +142,6 @@ place_of_truth (Some b) = 8
 
 abbrev pub type_block : Option ℕ → Option Bool → List ℕ
 type_block n b = table_block (place_of_number n ∷ place_of_truth b ∷ []) (word (number n) ++ truth b ∷ 0 ∷ 0 ∷ 0 ∷ []) []
-
--- a type's table, and the block of the columns that it nests, whose columns have no more than so many levels
-pub record IsTyped (levels tag : ℕ) (table children : List ℕ) (t : Tree) : Type 0 where
-  pub columns : List ColumnTree
-  pub typing : IsType tag table columns (known t)
-  pub nested : Holds (columns_read levels) children columns
-
--- a column's block, where those of its type and its children are given
-unfoldable pub IsColumnBlock : ℕ → List ℕ → List ℕ → Text → Bool → Metadata → List ℕ → Type 0
-IsColumnBlock tag table children name nullable texts block =
-    (levels : ℕ) (t : Tree) → IsTyped levels tag table children t → Holds (column_in levels) block (record { name = name; data_type = known t; nullable = nullable; metadata = texts })
 
 -- a schema, given the blocks of its columns and its metadata
 abbrev pub order_number : Endianness → ℕ

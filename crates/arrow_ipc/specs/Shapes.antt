@@ -1,6 +1,6 @@
 -- The tags of types, and the number and the truth value that the table of a type has.
 use Rattle.std.specs.Prelude.{ℕ, ℤ, pos, negsuc, Bool, true, false, ◌&&◌, not, List, [], ◌∷◌, ◌++◌, map, Option, Some, None, ◌^◌, nat_lt, if◌then◌else◌}
-use Rattle.arrow_values.specs.Tree.{null, boolean, int8, int16, int32, int64, uint8, uint16, uint32, uint64, float16, float32, float64, date32, date64, binary, large_binary, binary_view, utf8, large_utf8, utf8_view, Plain, Tree, plain, list, large_list, fixed_size_list, struct, union, FieldTrees, no_fields, field, MemberTrees, no_members, member, FieldTree}
+use Rattle.arrow_values.specs.Tree.{null, boolean, int8, int16, int32, int64, uint8, uint16, uint32, uint64, float16, float32, float64, date32, date64, binary, large_binary, binary_view, utf8, large_utf8, utf8_view, Plain, Tree, plain, list, large_list, fixed_size_list, struct, union, MemberTrees, no_members, member, FieldTree}
 use Rattle.arrow_values.specs.View.{field_list}
 use Rattle.arrow_columns.specs.Column.{known, ColumnTree}
 use Rattle.arrow_values.specs.Union.{has}

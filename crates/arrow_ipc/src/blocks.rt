@@ -1,7 +1,7 @@
 //! Blocks of which a message is made, each of a length that is a multiple of eight.
 ghost use Rattle.std.specs.Prelude.{◌≡◌, ◌+◌, ◌*◌, ◌^◌, ◌<◌, ◌≤◌, ◌++◌, ◌∷◌, [], length, IfOk, IfErr, OnOk, map};
 ghost use Rattle.arrow_values.specs.View.{texts_of};
-ghost use Rattle.arrow_ipc.specs.Blocks.{Holds, word, padded, linked, vector_block, table_size, table_block, text_read, entry_read, texts_read, type_block, IsColumnBlock};
+ghost use Rattle.arrow_ipc.specs.Blocks.{Holds, word, padded, linked, vector_block, table_size, table_block, text_read, entry_read, texts_read, type_block};
 ghost use Rattle.arrow_ipc.specs.Rooms.{Refuses, texts_room};
 
 use std::alloc::{AllocError, AllocFailed, Global};
@@ -55,7 +55,7 @@ fn pad(bytes: &mut Vec<u8>) -> Result<(), AllocError>
 }
 
 /// A text, with a NUL behind it.
-fn text_block(alloc: Global, text: &str) -> Result<Vec<u8>, Refusal>
+pub(crate) fn text_block(alloc: Global, text: &str) -> Result<Vec<u8>, Refusal>
     ensures holds { IfOk result (λ b. Holds text_read b.items text.now) }
     ensures most { IfOk result (λ b. length b.items ≤ 12 + length text.now) }
     ensures err { IfErr result (λ e. Refuses e ⊥ (length text.now)) }
@@ -71,7 +71,7 @@ fn text_block(alloc: Global, text: &str) -> Result<Vec<u8>, Refusal>
     Ok(block)
 }
 
-/// A number, offsets to blocks, and other bytes, with the blocks behind them.
+/// A number, offsets to blocks, and other bytes, up to a multiple of eight; behind them the blocks.
 pub(crate) fn linked_block(
     alloc: Global,
     first: u32,
@@ -107,8 +107,8 @@ pub(crate) fn linked_block(
     Ok(block)
 }
 
-/// A table: how far each of its slots is from its begin, 0 where it is missing; its numbers; and the blocks to which its offsets lead,
-/// which stand before its numbers.
+/// A table with the blocks to which its offsets lead. Its offsets come first, then its numbers, then its vtable; `slots` has for each
+/// slot how far it is from the table's begin, 0 where it is missing.
 pub(crate) fn table_block(
     alloc: Global,
     slots: &[u8],
@@ -196,31 +196,4 @@ pub(crate) fn type_block(
     put_word(&mut numbers, number)?;
     numbers.extend_from_slice(&[truth, 0, 0, 0])?;
     table_block(alloc, &[number_place, truth_place], numbers.as_slice(), &[])
-}
-
-/// A column, with the blocks of its type and its children.
-#[derive(Drop)]
-pub(crate) struct ColumnParts<'a> {
-    pub(crate) name: &'a str,
-    pub(crate) nullable: bool,
-    pub(crate) tag: u8,
-    pub(crate) table: Vec<u8>,
-    pub(crate) children: Vec<u8>,
-    pub(crate) texts: &'a BTreeMap<String, String>,
-}
-
-/// A column, with the blocks of its type and its children.
-pub(crate) fn column_block(alloc: Global, parts: ColumnParts<'_>) -> Result<Vec<u8>, Refusal>
-    ensures holds { IfOk result (λ b. IsColumnBlock parts.entry.tag parts.entry.table.items parts.entry.children.items parts.entry.name.now parts.entry.nullable (texts_of parts.entry.texts.now.entries) b.items) }
-    ensures most { IfOk result (λ b. length b.items ≤ 60 + length parts.entry.name.now + (length parts.entry.table.items + length parts.entry.children.items) + texts_room (texts_of parts.entry.texts.now.entries)) }
-    ensures err { IfErr result (λ e. Refuses e ⊥ (60 + length parts.entry.name.now + (length parts.entry.table.items + length parts.entry.children.items) + texts_room (texts_of parts.entry.texts.now.entries))) }
-{
-    let name = text_block(alloc, parts.name)?;
-    let texts = texts_block(alloc, parts.texts)?;
-    table_block(
-        alloc,
-        &[4, 20, 21, 8, 0, 12, 16],
-        &[parts.nullable as u8, parts.tag, 0, 0],
-        &[name, parts.table, parts.children, texts],
-    )
 }

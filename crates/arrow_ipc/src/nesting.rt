@@ -8,7 +8,7 @@ ghost use Rattle.arrow_ipc.specs.Blocks.{Holds, child_in, vector_block};
 ghost use Rattle.arrow_ipc.specs.Shapes.{column_of, nested_fields};
 ghost use Rattle.arrow_ipc.specs.Rooms.{Refuses, IsUnfit, AreUnfit, HoldsEach, IsNesting, is_sound, table_room, column_room, nested_room, field_room, columns_room, texts_room};
 
-use crate::blocks::{ColumnParts, Refusal, column_block, vector_block};
+use crate::blocks::{Refusal, table_block, text_block, texts_block, vector_block};
 use crate::type_tables::type_table;
 use arrow_values::{DataType, Field};
 use std::alloc::{AllocError, Global};
@@ -29,15 +29,14 @@ fn finish_block(
 {
     let children = vector_block(alloc, blocks)?;
     let typed = type_table(alloc, data_type)?;
-    let parts = ColumnParts {
-        name,
-        nullable,
-        tag: typed.0,
-        table: typed.1,
-        children,
-        texts,
-    };
-    column_block(alloc, parts)
+    let name = text_block(alloc, name)?;
+    let texts = texts_block(alloc, texts)?;
+    table_block(
+        alloc,
+        &[4, 20, 21, 8, 0, 12, 16],
+        &[nullable as u8, typed.0, 0, 0],
+        &[name, typed.1, children, texts],
+    )
 }
 
 /// The fields that a type nests.

@@ -1,6 +1,6 @@
-use Rattle.std.proofs.Common.{◌≡◌, ◌∷◌, [], IfOk, length, refl, ap, subst, arith}
+use Rattle.std.proofs.Common.{◌≡◌, IfOk, length, refl, ap, subst, arith}
 use Rattle.std.proofs.lemmas.Grind.{common_steps}
-use Rattle.arrow_ipc.specs.Blocks.{word, number, truth, place_of_number, place_of_truth, table_block, type_block}
+use Rattle.arrow_ipc.specs.Blocks.{number, truth, place_of_number, place_of_truth}
 use Rattle.arrow_ipc.proofs.Built.{refused_as}
 use Rattle.arrow_ipc.proofs.TypeTables.{length_type, type_built}
 use Rattle.arrow_ipc.proofs.blocks.type_block.Goals as goal

@@ -6,7 +6,7 @@ use Rattle.arrow_ipc.specs.Shapes.{column_of, nested_columns}
 use Rattle.arrow_ipc.specs.Rooms.{is_sound, nested_room, table_room, column_room, field_room, room_of, columns_room, texts_room, IsUnfit, AreUnfit}
 use Rattle.arrow_ipc.proofs.Vectors.{items}
 use Rattle.arrow_ipc.proofs.Built.{told, told_more, refuses_more, refused_as}
-use Rattle.arrow_ipc.proofs.Nestings.{lent, deepest, falls, nests_less, nested_room_is, columns_are, each_is, nested_unfit, each_more, each_refused, each_done, data_ok, data_most, vector_room}
+use Rattle.arrow_ipc.proofs.Nestings.{lent, deepest, falls, nests_less, nested_room_is, columns_are, each_is, nested_unfit, each_more, each_refused, data_ok, data_most, vector_room}
 use Rattle.arrow_ipc.proofs.nesting.+write.Goals as goal
 
 pub data_block-field_blocks-requires : goal.data_block-field_blocks-requires

@@ -1,6 +1,6 @@
-use Rattle.std.proofs.Common.{◌≡◌, ◌+◌, ◌*◌, ◌∷◌, [], List, ℤ, length, IfOk, false, ap, ◌∙◌, subst, arith}
+use Rattle.std.proofs.Common.{◌≡◌, ◌+◌, ◌*◌, [], length, IfOk, false, ap, ◌∙◌, subst, arith}
 use Rattle.std.proofs.lemmas.Grind.{common_steps}
-use Rattle.arrow_ipc.specs.Blocks.{mode_number, id_words, linked, table_block, union_block}
+use Rattle.arrow_ipc.specs.Blocks.{mode_number, linked}
 use Rattle.arrow_ipc.specs.Shapes.{are_ids}
 use Rattle.arrow_ipc.proofs.Built.{told_more, refused_as}
 use Rattle.arrow_ipc.proofs.Unions.{length_vector_of, length_union, ids_written, union_built}

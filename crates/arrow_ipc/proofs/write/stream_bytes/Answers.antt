@@ -1,8 +1,8 @@
 use Rattle.std.proofs.Common.{◌≡◌, ℕ, ◌∷◌, [], List, length, ap, ◌∙◌, arith}
 use Rattle.std.proofs.lemmas.Grind.{common_steps}
-use Rattle.arrow_ipc.specs.Blocks.{order_number, table_block, schema_block, message_block}
+use Rattle.arrow_ipc.specs.Blocks.{order_number, table_block, schema_block}
 use Rattle.arrow_ipc.proofs.Built.{told_more}
-use Rattle.arrow_ipc.proofs.Streams.{length_schema, length_message, stream_built}
+use Rattle.arrow_ipc.proofs.Streams.{length_message, stream_built}
 use Rattle.arrow_ipc.proofs.write.stream_bytes.Goals as goal
 
 pub returns-clause-is : goal.returns-clause-is

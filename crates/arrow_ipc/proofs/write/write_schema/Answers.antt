@@ -1,4 +1,4 @@
-use Rattle.std.proofs.Common.{◌≡◌, ◌≤◌, List, length, map, sym, subst, arith}
+use Rattle.std.proofs.Common.{◌≤◌, List, length, map, sym, subst, arith}
 use Rattle.arrow_values.specs.View.{texts_of}
 use Rattle.arrow_columns.specs.declared.column.Column.{Column}
 use Rattle.arrow_columns.specs.Column.{column_tree}
