@@ -1,5 +1,6 @@
 -- `Alike` as the test that `alike` makes.
-use Rattle.geoarrow_layout.specs.Words.{ℤ, nat_eq, cond, Bool, true, false, ◌&&◌, ◌||◌, not, List, length, list_all, int_eq, bytes_eq}
+use Rattle.std.specs.Prelude.{◌&&◌, ◌||◌}
+use Rattle.geoarrow_layout.specs.Words.{ℤ, nat_eq, cond, Bool, true, false, not, List, length, list_all, int_eq, bytes_eq}
 use Rattle.arrow_values.specs.Code.{plain_code}
 use Rattle.arrow_values.specs.Tree.{Text, Tree, plain, list, large_list, fixed_size_list, struct, union, MemberTrees, no_members, member}
 use Rattle.geoarrow_layout.specs.Shapes.{names_of, has_name}

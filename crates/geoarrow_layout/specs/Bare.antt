@@ -1,5 +1,6 @@
 -- What `written_kind` compares of a data type.
-use Rattle.geoarrow_layout.specs.Words.{◌≡◌, Bool, List, [], ◌∷◌, ◌++◌, CoordType, Dimension}
+use Rattle.std.specs.Prelude.{◌≡◌, ◌∷◌, ◌++◌}
+use Rattle.geoarrow_layout.specs.Words.{Bool, List, [], CoordType, Dimension}
 use Rattle.arrow_values.specs.Tree.{Text, FieldTree, Members}
 use Rattle.geoarrow_layout.specs.Layouts.{dimension_members}
 

@@ -1,5 +1,6 @@
 -- The extension names under which a data type can be read.
-use Rattle.geoarrow_layout.specs.Words.{◌≡◌, ◌⊎◌, length, NativeKind, Point, LineString, Polygon, MultiPoint, MultiLineString, Kind, CoordType, Dimension, Candidates, One, LineStringOrMultiPoint, PolygonOrMultiLineString, PointOrBox}
+use Rattle.std.specs.Prelude.{◌≡◌, ◌⊎◌}
+use Rattle.geoarrow_layout.specs.Words.{length, NativeKind, Point, LineString, Polygon, MultiPoint, MultiLineString, Kind, CoordType, Dimension, Candidates, One, LineStringOrMultiPoint, PolygonOrMultiLineString, PointOrBox}
 use Rattle.arrow_values.specs.Tree.{Text, Tree, struct}
 use Rattle.geoarrow_layout.specs.declared.names.Candidates.TheVariants.{None}
 use Rattle.geoarrow_layout.specs.declared.names.ExtensionName.TheVariants as names

@@ -1,5 +1,6 @@
 -- What a union is read as when members are dropped or joined; the mode never matters.
-use Rattle.geoarrow_layout.specs.Words.{◌≢◌, ◌↔◌, ◌⊎◌, [], ℤ, Contains, UnionMode, CoordType, Dimension}
+use Rattle.std.specs.Prelude.{◌≢◌, ◌↔◌, ◌⊎◌}
+use Rattle.geoarrow_layout.specs.Words.{[], ℤ, Contains, UnionMode, CoordType, Dimension}
 use Rattle.arrow_values.specs.Tree.{union, FieldTree, Members}
 use Rattle.arrow_values.specs.View.{member_trees}
 use Rattle.geoarrow_layout.specs.Shapes.{Geometry, Mixed}

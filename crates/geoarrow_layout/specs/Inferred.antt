@@ -1,5 +1,6 @@
 -- Which data types are inferred as points, without an extension name.
-use Rattle.geoarrow_layout.specs.Words.{ℤ, pos, ◌≡◌, ◌↔◌, List, [], ◌∷◌, length, codes, Bool, true, false, ◌&&◌, Option, Some, ⊤, CoordType, Interleaved, Separated, Dimension, XY, XYZ, XYM, XYZM}
+use Rattle.std.specs.Prelude.{◌≡◌, ◌↔◌, ◌∷◌, ◌&&◌}
+use Rattle.geoarrow_layout.specs.Words.{ℤ, pos, List, [], length, codes, Bool, true, false, Option, Some, ⊤, CoordType, Interleaved, Separated, Dimension, XY, XYZ, XYM, XYZM}
 use Rattle.arrow_values.specs.Tree.{Text, Tree, plain, float64, fixed_size_list, struct, FieldTrees, no_fields, field}
 use Rattle.geoarrow_layout.specs.Shapes.{SameNames, names_of, IsSeparatedAs}
 

@@ -1,5 +1,6 @@
 -- Laws of `Shapes`: a data type of a kind has one coordinate type and one dimension.
-use Rattle.geoarrow_layout.specs.Words.{◌≤◌, ◌+◌, inl, inr, refl, sym, subst, ◌∙◌, arith, bytes_eq, bytes_eq-Decides, CoordType, Interleaved, Separated, Dimension, XY, XYZ, XYM, XYZM, NativeKind, Point, GeometryCollection, ListWidth, Lists, LargeLists, ◌≡◌, ◌*◌, ℕ, zero, suc, ℤ, pos, true, false, List, [], ◌∷◌}
+use Rattle.std.specs.Prelude.{◌≤◌, ◌+◌, ◌≡◌, ◌*◌, ◌∷◌}
+use Rattle.geoarrow_layout.specs.Words.{inl, inr, refl, sym, subst, ◌∙◌, arith, bytes_eq, bytes_eq-Decides, CoordType, Interleaved, Separated, Dimension, XY, XYZ, XYM, XYZM, NativeKind, Point, GeometryCollection, ListWidth, Lists, LargeLists, ℕ, zero, suc, ℤ, pos, true, false, List, []}
 use Rattle.arrow_values.specs.Tree.{Text, Tree, list, large_list, fixed_size_list, struct, union, no_members, member}
 use Rattle.geoarrow_layout.specs.Kinds.{interleaved_name, order_of, offset_of, type_id_of}
 use Rattle.geoarrow_layout.specs.Shapes.{SameNames, IsSeparatedAs, Leaf, ListsOver, Levels, levels_of, OverLeaf, Member, Mixed, Collection, Native, GeometryMember, Geometry, names_of, IsBoxAs, BoxShape}

@@ -1,5 +1,6 @@
 -- What the steps of the walk and of the readers do.
-use Rattle.geoarrow_layout.specs.Words.{ℕ, zero, suc, nat_eq, ℤ, pos, ◌≡◌, ◌≢◌, ◌↔◌, ◌⊎◌, ◌^◌, ◌++◌, [], Bool, true, false, ◌&&◌, Option, Some, None, Result, Ok, Err, MatchResult, bit_at, CoordType, Dimension, XY, XYZ, XYM, XYZM, LayoutFault, UnexpectedType, MixedWidths, MemberDimension, EmptyUnion, SeveralCoordTypes, SeveralDimensions, ListWidth, Lists, LargeLists, Bottom, FixedSizeList, Struct, OtherWidth, Summary, Kind, NativeKind, ExtensionName}
+use Rattle.std.specs.Prelude.{◌≡◌, ◌≢◌, ◌↔◌, ◌⊎◌, ◌^◌, ◌++◌, ◌&&◌}
+use Rattle.geoarrow_layout.specs.Words.{ℕ, zero, suc, nat_eq, ℤ, pos, [], Bool, true, false, Option, Some, None, Result, Ok, Err, MatchResult, bit_at, CoordType, Dimension, XY, XYZ, XYM, XYZM, LayoutFault, UnexpectedType, MixedWidths, MemberDimension, EmptyUnion, SeveralCoordTypes, SeveralDimensions, ListWidth, Lists, LargeLists, Bottom, FixedSizeList, Struct, OtherWidth, Summary, Kind, NativeKind, ExtensionName}
 use Rattle.arrow_values.specs.Tree.{Tree, list, large_list, MemberTrees}
 use Rattle.geoarrow_layout.specs.declared.names.ExtensionName.TheVariants as names
 use Rattle.geoarrow_layout.specs.Kinds.{order_of, name_text}
