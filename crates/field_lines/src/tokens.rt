@@ -209,6 +209,7 @@ fn take_only(
 
 /// The type that the value at the one key of an object says.
 #[cycle(take)]
+#[inline(always)]
 fn take_keyed(
     alloc: Global,
     reader: &mut Reader<'_>,
