@@ -1,7 +1,7 @@
 //! The words of the answers.
 ghost use Rattle.std.specs.Prelude.{◌≡◌, ◌++◌, IfOk, option_map, string_bytes};
 ghost use Rattle.geoarrow_meta.specs.Written.{printed};
-ghost use Rattle.geoarrow_fields.specs.Answer.{native_word, kind_word, coord_type_word, dimension_word, metadata_word, type_text, error_text, column_text, inferred_text};
+ghost use Rattle.geoarrow_fields.specs.Answer.{native_word, kind_word, coord_type_word, dimension_word, type_text, error_text, column_text, inferred_text};
 
 use geoarrow_columns::{Column, ColumnFault};
 use geoarrow_schema::{CoordType, Dimension, GeoArrowType, Kind, Metadata, NativeKind, Width};
@@ -15,15 +15,19 @@ fn type_behind(alloc: Global, before: &str, found: &GeoArrowType) -> Result<Stri
     ensures { IfOk result (λ text. string_bytes text ≡ before.now ++ type_text found.now) }
 {
     let written = metadata_text(alloc, found.metadata())?;
-    let metadata = metadata_word(&written);
+    let metadata = match &written {
+        Some(text) => text.as_str(),
+        None => "-",
+    };
     let room = metadata.len().saturating_add(WORDS_ROOM);
     let mut text = String::with_capacity(alloc, room)?;
     text.push_str(before)?;
-    text.push_str(kind_word(found.kind()))?;
+    let kind = found.kind();
+    text.push_str(kind_word(kind))?;
     text.push_str(" ")?;
-    text.push_str(coord_type_word(found.coord_type()))?;
+    text.push_str(coord_type_word(kind.coord_type()))?;
     text.push_str(" ")?;
-    text.push_str(dimension_word(found.dimension()))?;
+    text.push_str(dimension_word(kind.dimension()))?;
     text.push_str(" ")?;
     text.push_str(metadata)?;
     Ok(text)
@@ -77,16 +81,6 @@ fn metadata_text(alloc: Global, metadata: &Metadata) -> Result<Option<String>, A
     match metadata.serialize(alloc) {
         Ok(text) => Ok(text),
         Err(_) => Err(AllocError),
-    }
-}
-
-/// The text of a metadata, or a dash.
-fn metadata_word(text: &Option<String>) -> &str
-    ensures { result.now ≡ metadata_word (option_map string_bytes text.now) }
-{
-    match text {
-        Some(text) => text.as_str(),
-        None => "-",
     }
 }
 
