@@ -11,10 +11,10 @@ use rows::{Layers, judge_rows};
 use std::alloc::AllocError;
 use std::process::ExitCode;
 
-/// The layers of this program.
-struct These {}
+/// The layers of lines, files and reports.
+struct FileRows {}
 
-impl Layers for These {
+impl Layers for FileRows {
     const NAMES: &'static [&'static str] = &["footers", "geo", "lines", "reports"];
 
     fn answer(it: &mut Asked<'_>, layer: &str) -> Result<(), AllocError> {
@@ -29,5 +29,5 @@ impl Layers for These {
 }
 
 fn main(rt: HostRuntime) -> ExitCode {
-    judge_rows::<These>(&rt)
+    judge_rows::<FileRows>(&rt)
 }

@@ -8,10 +8,10 @@ use rows::{Layers, judge_rows};
 use std::alloc::AllocError;
 use std::process::ExitCode;
 
-/// The layers of this program.
-struct These {}
+/// The layer of data types and their layouts.
+struct LayoutRows {}
 
-impl Layers for These {
+impl Layers for LayoutRows {
     const NAMES: &'static [&'static str] = &["layouts"];
 
     fn answer(it: &mut Asked<'_>, _layer: &str) -> Result<(), AllocError> {
@@ -23,5 +23,5 @@ impl Layers for These {
 }
 
 fn main(rt: HostRuntime) -> ExitCode {
-    judge_rows::<These>(&rt)
+    judge_rows::<LayoutRows>(&rt)
 }

@@ -9,10 +9,10 @@ use rows::{Layers, judge_rows};
 use std::alloc::AllocError;
 use std::process::ExitCode;
 
-/// The layers of this program.
-struct These {}
+/// The layers of metadata and of types.
+struct TypeRows {}
 
-impl Layers for These {
+impl Layers for TypeRows {
     const NAMES: &'static [&'static str] = &["metadata", "schema"];
 
     fn answer(it: &mut Asked<'_>, layer: &str) -> Result<(), AllocError> {
@@ -25,5 +25,5 @@ impl Layers for These {
 }
 
 fn main(rt: HostRuntime) -> ExitCode {
-    judge_rows::<These>(&rt)
+    judge_rows::<TypeRows>(&rt)
 }
