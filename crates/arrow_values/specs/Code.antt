@@ -54,15 +54,12 @@ pub mode_from-is_dense : (u : UnionMode) → mode_from (is_dense u) ≡ u
 mode_from-is_dense Sparse = refl
 mode_from-is_dense Dense = refl
 
-abbrev pub text_code : Coded Text
+abbrev text_code : Coded Text
 text_code = coded_list coded_ℕ
-
-abbrev pub metadata_code : Coded Metadata
-metadata_code = coded_list (coded× text_code text_code)
 
 -- the name, the nullability and the metadata of a field, whose data type stands beside them
 abbrev rest_code : Coded (Text × (Bool × Metadata))
-rest_code = coded× text_code (coded× coded_bool metadata_code)
+rest_code = coded× text_code (coded× coded_bool (coded_list (coded× text_code text_code)))
 
 abbrev plain_coded : Coded Plain
 plain_coded = code_by ℕ coded_ℕ plain_code plain_from plain_from-code
@@ -127,8 +124,8 @@ tree_code = record { code = tree_to; inj = tree_inj }
 -- a field is stored as the tuple of its parts
 abbrev pub field_code : Coded FieldTree
 field_code =
-    code_by (Text × (Tree × (Bool × Metadata))) (coded× text_code (coded× tree_code (coded× coded_bool metadata_code)))
-    (λ f. (f.name, (f.tree, (f.nullable, f.metadata)))) (λ p. record { name = p.0; tree = p.1.0; nullable = p.1.1.0; metadata = p.1.1.1 }) (λ _. refl)
+    code_by (Tree × (Text × (Bool × Metadata))) (coded× tree_code rest_code)
+    (λ f. (f.tree, (f.name, (f.nullable, f.metadata)))) (λ p. record { name = p.1.0; tree = p.0; nullable = p.1.1.0; metadata = p.1.1.1 }) (λ _. refl)
 
 abbrev pub fields_code : Coded (List FieldTree)
 fields_code = coded_list field_code

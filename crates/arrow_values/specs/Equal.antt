@@ -8,7 +8,7 @@ use Rattle.std.specs.Cmp.Lexicographic.{pointwise, pointwise_decides, bytes_deci
 use Rattle.std.proofs.Common.{refl, sym, ◌∙◌, ap, true≢false}
 use Rattle.std.proofs.lemmas.Bool.Decides.{Decides-eqb, Decides-int_eq, Decides-and, Decides-like}
 use Rattle.arrow_values.specs.declared.tree.UnionMode.{UnionMode}
-use Rattle.arrow_values.specs.Tree.{Text, Metadata, Plain, Tree, plain, list, large_list, fixed_size_list, struct, union, FieldTrees, no_fields, field, MemberTrees, no_members, member, FieldTree, field_tree}
+use Rattle.arrow_values.specs.Tree.{Text, Metadata, Tree, plain, list, large_list, fixed_size_list, struct, union, FieldTrees, no_fields, field, MemberTrees, no_members, member, FieldTree, field_tree}
 use Rattle.arrow_values.specs.Code.{plain_code, plain_from, plain_from-code, is_dense, mode_from, mode_from-is_dense}
 
 abbrev pub text_eq : Text → Text → Bool
@@ -49,13 +49,9 @@ pair_decides p q {a} {b} one other = Decides-like _ (λ h. λ i. (h.0 i, h.1 i))
 metadata_decides : (m k : Metadata) → Decides (metadata_eq m k) (m ≡ k)
 metadata_decides = pointwise_decides (λ p q. pair_decides p q (bytes_decides p.0 q.0) (bytes_decides p.1 q.1))
 
-plain_decides : (p q : Plain) → Decides (eqb (plain_code p) (plain_code q)) (p ≡ q)
-plain_decides p q =
-    Decides-like _ (λ e. sym (plain_from-code p) ∙ (ap plain_from e ∙ plain_from-code q)) (λ e. ap plain_code e) (Decides-eqb (plain_code p) (plain_code q))
-
-mode_decides : (u v : UnionMode) → Decides (mode_eq u v) (u ≡ v)
-mode_decides u v =
-    Decides-like _ (λ e. sym (mode_from-is_dense u) ∙ (ap mode_from e ∙ mode_from-is_dense v)) (λ e. ap is_dense e) (booleans_Decides (is_dense u) (is_dense v))
+-- what has a code is decided by it
+by_code : {X Y : Type 0} {E : Y → Y → Bool} (to : X → Y) (from : Y → X) → ((x : X) → from (to x) ≡ x) → ((a b : Y) → Decides (E a b) (a ≡ b)) → (x y : X) → Decides (E (to x) (to y)) (x ≡ y)
+by_code to from back decides x y = Decides-like _ (λ e. sym (back x) ∙ (ap from e ∙ back y)) (λ e. ap to e) (decides (to x) (to y))
 
 field_decides-at : (f g : FieldTree) → Decides (tree_eq f.tree g.tree) (f.tree ≡ g.tree) → Decides (field_eq f g) (f ≡ g)
 field_decides-at f g trees =
@@ -65,7 +61,7 @@ field_decides-at f g trees =
 
 mutual
   pub tree_decides : (t u : Tree) → Decides (tree_eq t u) (t ≡ u)
-  tree_decides (plain p) (plain q) = Decides-like _ (λ e. ap plain e) (λ e. cc) (plain_decides p q)
+  tree_decides (plain p) (plain q) = Decides-like _ (λ e. ap plain e) (λ e. cc) (by_code plain_code plain_from plain_from-code Decides-eqb p q)
   tree_decides (list n t b m) (list o u c k) =
       Decides-like _ (λ e. ap (λ f. list f.name f.tree f.nullable f.metadata) e) (λ e. cc) (field_decides-at (field_tree n t b m) (field_tree o u c k) (tree_decides t u))
   tree_decides (large_list n t b m) (large_list o u c k) =
@@ -75,7 +71,7 @@ mutual
       (Decides-and _ _ (field_decides-at (field_tree n t b m) (field_tree o u c k) (tree_decides t u)) (Decides-int_eq s r))
   tree_decides (struct fs) (struct gs) = Decides-like _ (λ e. ap struct e) (λ e. cc) (fields_decides fs gs)
   tree_decides (union ms u) (union ns v) =
-      Decides-like _ (λ h. λ i. union (h.0 i) (h.1 i)) (λ e. (cc, cc)) (Decides-and _ _ (members_decides ms ns) (mode_decides u v))
+      Decides-like _ (λ h. λ i. union (h.0 i) (h.1 i)) (λ e. (cc, cc)) (Decides-and _ _ (members_decides ms ns) (by_code is_dense mode_from mode_from-is_dense booleans_Decides u v))
   tree_decides _ _ = (λ h. absurd (true≢false (sym h)), λ e. cc)
 
   pub fields_decides : (fs gs : FieldTrees) → Decides (fields_eq fs gs) (fs ≡ gs)
