@@ -36,3 +36,6 @@ pub pointwise_fails : {X : Type 0} (E : X → X → Bool) (xs ys : List X) (i : 
 pointwise_fails E (x ∷ xs) (y ∷ ys) zero d e p q h = and_left (E x y) (pointwise E xs ys) h
 pointwise_fails E (x ∷ xs) (y ∷ ys) (suc i) d e p q h = pointwise_fails E xs ys i d e (omega arith) (omega arith) h
 pointwise_fails E _ _ i d e p q h = absurd (omega arith)
+
+-- for `grind`
+pub ruleset same_lists = (mode_same, fields_same, members_same)

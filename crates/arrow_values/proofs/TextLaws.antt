@@ -10,12 +10,11 @@ use Rattle.std.specs.Ordering.{is_eq, match_ordering}
 use Rattle.std.specs.Cmp.Lexicographic.{slice_cmp}
 use Rattle.std.proofs.lemmas.Map.Entries.{lookup-filter-keys}
 use Rattle.std.proofs.lemmas.Bool.{cases_Bool, false_from_ne_true}
-use Rattle.std.proofs.lemmas.Cmp.{nat_list_cmp_total}
+use Rattle.std.proofs.lemmas.Cmp.{nat_list_cmp_total, nat_list_eq_equiv}
 use Rattle.std.proofs.lemmas.Option.{same_Some}
 use Rattle.std.proofs.lemmas.Map.Text.{is_eq-slice_cmp}
 use Rattle.std.proofs.lemmas.Slice.Eq.{bytes_eq-Decides}
 use Rattle.arrow_values.specs.Tree.{Text, Metadata}
-use Rattle.arrow_values.specs.Equal.{equivalence_of}
 use Rattle.arrow_values.specs.View.{texts_of}
 use Rattle.arrow_values.specs.Texts.{name_key, metadata_key, text_at, put_text, remove_text, set_extension, SetsExtension}
 
@@ -25,10 +24,10 @@ Entry = String Global × String Global
 -- a text is put at a key
 put_step : (r : Ordering) (k t q : Text) (e : Text × Text) (m later : Metadata) → is_eq r ≡ bytes_eq k e.0 → text_at q later ≡ cond (bytes_eq k q) (Some t) (text_at q m)
     → text_at q (match_ordering r ((k, t) ∷ e ∷ m) ((e.0, t) ∷ m) (e ∷ later)) ≡ cond (bytes_eq k q) (Some t) (text_at q (e ∷ m))
-put_step Less k t q e m later is h = rw ((equivalence_of bytes_eq bytes_eq-Decides).symm q k)
+put_step Less k t q e m later is h = rw (nat_list_eq_equiv.symm q k)
 put_step Equal k t q e m later is h =
     let same : k ≡ e.0 = (bytes_eq-Decides k e.0).0 (sym is) in
-    rw (← same, (equivalence_of bytes_eq bytes_eq-Decides).symm q k) (⊎_elim (λ b. rw b) (λ b. rw b) (cases_Bool (bytes_eq k q)))
+    rw (← same, nat_list_eq_equiv.symm q k) (⊎_elim (λ b. rw b) (λ b. rw b) (cases_Bool (bytes_eq k q)))
 put_step Greater k t q e m later is h = ap (cond (bytes_eq q e.0) (Some e.1)) h ∙ apart (bytes_eq q e.0) (bytes_eq k q) (Some t) (Some e.1) (text_at q m)
     (λ a b. true≢false (sym ((bytes_eq-Decides k e.0).1 ((bytes_eq-Decides k q).0 b ∙ (bytes_eq-Decides q e.0).0 a)) ∙ sym is))
   where
@@ -38,7 +37,7 @@ put_step Greater k t q e m later is h = ap (cond (bytes_eq q e.0) (Some e.1)) h 
     apart false b t u o h = refl
 
 text_at-put : (k t q : Text) (m : Metadata) → text_at q (put_text k t m) ≡ cond (bytes_eq k q) (Some t) (text_at q m)
-text_at-put k t q [] = rw ((equivalence_of bytes_eq bytes_eq-Decides).symm q k)
+text_at-put k t q [] = rw (nat_list_eq_equiv.symm q k)
 text_at-put k t q (e ∷ m) = put_step (slice_cmp nat_cmp k e.0) k t q e m (put_text k t m) (is_eq-slice_cmp k e.0) (text_at-put k t q m)
 
 -- a text is removed
@@ -79,31 +78,24 @@ texts_of-remove q (e ∷ es) h = rw (is_eq-slice_cmp q (string_bytes e.0)) (remo
     removed false is later = ap (λ m. (string_bytes e.0, string_bytes e.1) ∷ m) later
 
 -- ---- texts that are there already: putting them changes nothing
-before : (k : String Global) (es : List Entry) → AllByRecursion (λ y. string_cmp k y ≡ Less) (keys_of es) → AllByRecursion (λ y. slice_cmp nat_cmp (string_bytes k) y ≡ Less) (keys_of (texts_of es))
-before k [] h = tt
-before k (e ∷ es) h = (h.0, before k es h.1)
-
-ascending : (es : List Entry) → IsStrictlySortedBy string_cmp (keys_of es) → IsStrictlySortedBy (slice_cmp nat_cmp) (keys_of (texts_of es))
-unfolding IsStrictlySortedBy
-ascending [] h = tt
-ascending (e ∷ es) h = (before e.0 es h.0, ascending es h.1)
-
 -- a key below all is at none
-at_none : (k x : Text) (m : Metadata) → slice_cmp nat_cmp k x ≡ Less → AllByRecursion (λ y. slice_cmp nat_cmp x y ≡ Less) (keys_of m) → text_at k m ≡ None
+at_none : (k : Text) (x : String Global) (es : List Entry) → slice_cmp nat_cmp k (string_bytes x) ≡ Less → AllByRecursion (λ y. string_cmp x y ≡ Less) (keys_of es) → text_at k (texts_of es) ≡ None
 at_none k x [] less h = refl
-at_none k x (e ∷ m) less h = rw (← is_eq-slice_cmp k e.0, nat_list_cmp_total.trans k x e.0 less h.0) (at_none k x m less h.1)
+at_none k x (e ∷ es) less h = rw (← is_eq-slice_cmp k (string_bytes e.0), nat_list_cmp_total.trans k (string_bytes x) (string_bytes e.0) less h.0) (at_none k x es less h.1)
 
 -- a text that stands at a key is put there with no change
-same_step : (r : Ordering) (k t : Text) (e : Text × Text) (m later : Metadata) → slice_cmp nat_cmp k e.0 ≡ r → AllByRecursion (λ y. slice_cmp nat_cmp e.0 y ≡ Less) (keys_of m)
-    → cond (is_eq r) (Some e.1) (text_at k m) ≡ Some t → (text_at k m ≡ Some t → later ≡ m) → match_ordering r ((k, t) ∷ e ∷ m) ((e.0, t) ∷ m) (e ∷ later) ≡ e ∷ m
-same_step Less k t e m later is above here rest = let none = at_none k e.0 m is above in absurd cc
-same_step Equal k t e m later is above here rest = ap (λ u. (e.0, u) ∷ m) (sym (same_Some e.1 t here))
-same_step Greater k t e m later is above here rest = ap (λ l. e ∷ l) (rest here)
+same_step : (r : Ordering) (k t : Text) (e : Text × Text) (m later : Metadata) → (r ≡ Less → text_at k m ≡ None) → cond (is_eq r) (Some e.1) (text_at k m) ≡ Some t → (text_at k m ≡ Some t → later ≡ m)
+    → match_ordering r ((k, t) ∷ e ∷ m) ((e.0, t) ∷ m) (e ∷ later) ≡ e ∷ m
+same_step Less k t e m later below here rest = let none = below refl in absurd cc
+same_step Equal k t e m later below here rest = ap (λ u. (e.0, u) ∷ m) (sym (same_Some e.1 t here))
+same_step Greater k t e m later below here rest = ap (λ l. e ∷ l) (rest here)
 
-same_put : (k t : Text) (m : Metadata) → IsStrictlySortedBy (slice_cmp nat_cmp) (keys_of m) → text_at k m ≡ Some t → put_text k t m ≡ m
+same_put : (k t : Text) (es : List Entry) → IsStrictlySortedBy string_cmp (keys_of es) → text_at k (texts_of es) ≡ Some t → put_text k t (texts_of es) ≡ texts_of es
 unfolding IsStrictlySortedBy
 same_put k t [] a here = absurd cc
-same_put k t (e ∷ m) a here = same_step (slice_cmp nat_cmp k e.0) k t e m (put_text k t m) refl a.0 (rw (← is_eq-slice_cmp k e.0) at here) (same_put k t m a.1)
+same_put k t (e ∷ es) a here =
+    same_step (slice_cmp nat_cmp k (string_bytes e.0)) k t (string_bytes e.0, string_bytes e.1) (texts_of es) (put_text k t (texts_of es)) (λ less. at_none k e.0 es less a.0)
+    (rw (← is_eq-slice_cmp k (string_bytes e.0)) at here) (same_put k t es a.1)
 
 -- and where none stands there is none to remove
 absent_removed : (k : Text) (m : Metadata) → text_at k m ≡ None → remove_text k m ≡ m
@@ -115,8 +107,8 @@ absent_removed k (e ∷ m) here =
 -- the texts of a map that has a name, and a text or nothing, at the two keys
 pub kept : (name : Text) (text : Option Text) (es : List Entry) → IsStrictlySortedBy string_cmp (keys_of es) → text_at name_key (texts_of es) ≡ Some name → text_at metadata_key (texts_of es) ≡ text
     → set_extension name text (texts_of es) ≡ texts_of es
-kept name None es sorted named here = rw (same_put name_key name (texts_of es) (ascending es sorted) named) (absent_removed metadata_key (texts_of es) here)
-kept name (Some t) es sorted named here = rw (same_put name_key name (texts_of es) (ascending es sorted) named) (same_put metadata_key t (texts_of es) (ascending es sorted) here)
+kept name None es sorted named here = rw (same_put name_key name es sorted named) (absent_removed metadata_key (texts_of es) here)
+kept name (Some t) es sorted named here = rw (same_put name_key name es sorted named) (same_put metadata_key t es sorted here)
 
 -- ---- the text at a key, of the map and of what it denotes
 pub text_at-lookup : (key : Text) (es : List Entry) → option_map (λ t. string_bytes t) (lookup (at_text key) es) ≡ text_at key (texts_of es)

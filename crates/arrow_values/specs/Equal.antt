@@ -3,12 +3,12 @@ use Rattle.std.specs.Prelude.{◌≡◌, eqb, ℤ, Bool, true, false, ◌&&◌, 
 use Rattle.std.specs.Ordering.{int_eq}
 use mathlib.Core.Bool.{beq}
 use Rattle.std.specs.Bool.{Decides}
-use Rattle.std.specs.Cmp.{IsEquivalence}
+use Rattle.std.specs.Cmp.{booleans_Decides}
 use Rattle.std.specs.Cmp.Lexicographic.{pointwise, pointwise_decides, bytes_decides}
 use Rattle.std.proofs.Common.{refl, sym, ◌∙◌, ap, true≢false}
-use Rattle.std.proofs.lemmas.Bool.Decides.{Decides-eqb, Decides-int_eq, Decides-and, Decides-like, same_from_decides}
+use Rattle.std.proofs.lemmas.Bool.Decides.{Decides-eqb, Decides-int_eq, Decides-and, Decides-like}
 use Rattle.arrow_values.specs.declared.tree.UnionMode.{UnionMode}
-use Rattle.arrow_values.specs.Tree.{Text, Metadata, Plain, Tree, plain, list, large_list, fixed_size_list, struct, union, FieldTrees, no_fields, field, MemberTrees, no_members, member, FieldTree}
+use Rattle.arrow_values.specs.Tree.{Text, Metadata, Tree, plain, list, large_list, fixed_size_list, struct, union, FieldTrees, no_fields, field, MemberTrees, no_members, member, FieldTree, field_tree}
 use Rattle.arrow_values.specs.Code.{plain_code, plain_from, plain_from-code, is_dense, mode_from, mode_from-is_dense}
 
 abbrev pub text_eq : Text → Text → Bool
@@ -43,59 +43,42 @@ abbrev mutual
 abbrev pub field_eq : FieldTree → FieldTree → Bool
 field_eq f g = ((text_eq f.name g.name && tree_eq f.tree g.tree) && beq f.nullable g.nullable) && metadata_eq f.metadata g.metadata
 
-pub text_decides : (x y : Text) → Decides (text_eq x y) (x ≡ y)
-text_decides = bytes_decides
+pair_decides : {X Y : Type 0} (p q : X × Y) {a b : Bool} → Decides a (p.0 ≡ q.0) → Decides b (p.1 ≡ q.1) → Decides (a && b) (p ≡ q)
+pair_decides p q {a} {b} one other = Decides-like _ (λ h. λ i. (h.0 i, h.1 i)) (λ e. (ap (λ x. x.0) e, ap (λ x. x.1) e)) (Decides-and a b one other)
 
-pub bool_decides : (x y : Bool) → Decides (beq x y) (x ≡ y)
-bool_decides true true = (λ h. refl, λ h. refl)
-bool_decides true false = (λ h. absurd (true≢false (sym h)), λ h. sym h)
-bool_decides false true = (λ h. absurd (true≢false (sym h)), λ h. h)
-bool_decides false false = (λ h. refl, λ h. refl)
+metadata_decides : (m k : Metadata) → Decides (metadata_eq m k) (m ≡ k)
+metadata_decides = pointwise_decides (λ p q. pair_decides p q (bytes_decides p.0 q.0) (bytes_decides p.1 q.1))
 
-pair_decides : (p q : Text × Text) → Decides (text_eq p.0 q.0 && text_eq p.1 q.1) (p ≡ q)
-pair_decides p q = Decides-like _ (λ h. λ i. (h.0 i, h.1 i)) (λ e. (ap (λ x. x.0) e, ap (λ x. x.1) e)) (Decides-and _ _ (text_decides p.0 q.0) (text_decides p.1 q.1))
-
-pub metadata_decides : (m k : Metadata) → Decides (metadata_eq m k) (m ≡ k)
-metadata_decides = pointwise_decides pair_decides
-
-pub plain_decides : (p q : Plain) → Decides (eqb (plain_code p) (plain_code q)) (p ≡ q)
-plain_decides p q =
-    Decides-like _ (λ e. sym (plain_from-code p) ∙ (ap plain_from e ∙ plain_from-code q)) (λ e. ap plain_code e) (Decides-eqb (plain_code p) (plain_code q))
-
-pub mode_decides : (u v : UnionMode) → Decides (mode_eq u v) (u ≡ v)
-mode_decides u v =
-    Decides-like _ (λ e. sym (mode_from-is_dense u) ∙ (ap mode_from e ∙ mode_from-is_dense v)) (λ e. ap is_dense e) (bool_decides (is_dense u) (is_dense v))
+-- what has a code is decided by it
+by_code : {X Y : Type 0} {E : Y → Y → Bool} (to : X → Y) (from : Y → X) → ((x : X) → from (to x) ≡ x) → ((a b : Y) → Decides (E a b) (a ≡ b)) → (x y : X) → Decides (E (to x) (to y)) (x ≡ y)
+by_code to from back decides x y = Decides-like _ (λ e. sym (back x) ∙ (ap from e ∙ back y)) (λ e. ap to e) (decides (to x) (to y))
 
 field_decides-at : (f g : FieldTree) → Decides (tree_eq f.tree g.tree) (f.tree ≡ g.tree) → Decides (field_eq f g) (f ≡ g)
 field_decides-at f g trees =
     Decides-like _ (λ h. λ i. record { name = h.0.0.0 i; tree = h.0.0.1 i; nullable = h.0.1 i; metadata = h.1 i })
     (λ e. (((ap (λ x. x.name) e, ap (λ x. x.tree) e), ap (λ x. x.nullable) e), ap (λ x. x.metadata) e))
-    (Decides-and _ _ (Decides-and _ _ (Decides-and _ _ (text_decides f.name g.name) trees) (bool_decides f.nullable g.nullable)) (metadata_decides f.metadata g.metadata))
-
--- a field from its parts
-abbrev of_parts : Text → Tree → Bool → Metadata → FieldTree
-of_parts n t b m = record { name = n; tree = t; nullable = b; metadata = m }
+    (Decides-and _ _ (Decides-and _ _ (Decides-and _ _ (bytes_decides f.name g.name) trees) (booleans_Decides f.nullable g.nullable)) (metadata_decides f.metadata g.metadata))
 
 mutual
   pub tree_decides : (t u : Tree) → Decides (tree_eq t u) (t ≡ u)
-  tree_decides (plain p) (plain q) = Decides-like _ (λ e. ap plain e) (λ e. cc) (plain_decides p q)
+  tree_decides (plain p) (plain q) = Decides-like _ (λ e. ap plain e) (λ e. cc) (by_code plain_code plain_from plain_from-code Decides-eqb p q)
   tree_decides (list n t b m) (list o u c k) =
-      Decides-like _ (λ e. ap (λ f. list f.name f.tree f.nullable f.metadata) e) (λ e. cc) (field_decides-at (of_parts n t b m) (of_parts o u c k) (tree_decides t u))
+      Decides-like _ (λ e. ap (λ f. list f.name f.tree f.nullable f.metadata) e) (λ e. cc) (field_decides-at (field_tree n t b m) (field_tree o u c k) (tree_decides t u))
   tree_decides (large_list n t b m) (large_list o u c k) =
-      Decides-like _ (λ e. ap (λ f. large_list f.name f.tree f.nullable f.metadata) e) (λ e. cc) (field_decides-at (of_parts n t b m) (of_parts o u c k) (tree_decides t u))
+      Decides-like _ (λ e. ap (λ f. large_list f.name f.tree f.nullable f.metadata) e) (λ e. cc) (field_decides-at (field_tree n t b m) (field_tree o u c k) (tree_decides t u))
   tree_decides (fixed_size_list n t b m s) (fixed_size_list o u c k r) =
       Decides-like _ (λ h. λ i. fixed_size_list (h.0 i).name (h.0 i).tree (h.0 i).nullable (h.0 i).metadata (h.1 i)) (λ e. (cc, cc))
-      (Decides-and _ _ (field_decides-at (of_parts n t b m) (of_parts o u c k) (tree_decides t u)) (Decides-int_eq s r))
+      (Decides-and _ _ (field_decides-at (field_tree n t b m) (field_tree o u c k) (tree_decides t u)) (Decides-int_eq s r))
   tree_decides (struct fs) (struct gs) = Decides-like _ (λ e. ap struct e) (λ e. cc) (fields_decides fs gs)
   tree_decides (union ms u) (union ns v) =
-      Decides-like _ (λ h. λ i. union (h.0 i) (h.1 i)) (λ e. (cc, cc)) (Decides-and _ _ (members_decides ms ns) (mode_decides u v))
+      Decides-like _ (λ h. λ i. union (h.0 i) (h.1 i)) (λ e. (cc, cc)) (Decides-and _ _ (members_decides ms ns) (by_code is_dense mode_from mode_from-is_dense booleans_Decides u v))
   tree_decides _ _ = (λ h. absurd (true≢false (sym h)), λ e. cc)
 
   pub fields_decides : (fs gs : FieldTrees) → Decides (fields_eq fs gs) (fs ≡ gs)
   fields_decides no_fields no_fields = (λ h. refl, λ h. refl)
   fields_decides (field n t b m fs) (field o u c k gs) =
       Decides-like _ (λ h. λ i. field (h.0 i).name (h.0 i).tree (h.0 i).nullable (h.0 i).metadata (h.1 i)) (λ e. (cc, cc))
-      (Decides-and _ _ (field_decides-at (of_parts n t b m) (of_parts o u c k) (tree_decides t u)) (fields_decides fs gs))
+      (Decides-and _ _ (field_decides-at (field_tree n t b m) (field_tree o u c k) (tree_decides t u)) (fields_decides fs gs))
   fields_decides _ _ = (λ h. absurd (true≢false (sym h)), λ e. cc)
 
   pub members_decides : (ms ns : MemberTrees) → Decides (members_eq ms ns) (ms ≡ ns)
@@ -103,24 +86,11 @@ mutual
   members_decides (member i n t b m ms) (member j o u c k ns) =
       Decides-like _ (λ h. λ x. member (h.0.0 x) (h.0.1 x).name (h.0.1 x).tree (h.0.1 x).nullable (h.0.1 x).metadata (h.1 x))
       (λ e. ((cc, cc), cc))
-      (Decides-and _ _ (Decides-and _ _ (Decides-int_eq i j) (field_decides-at (of_parts n t b m) (of_parts o u c k) (tree_decides t u))) (members_decides ms ns))
+      (Decides-and _ _ (Decides-and _ _ (Decides-int_eq i j) (field_decides-at (field_tree n t b m) (field_tree o u c k) (tree_decides t u))) (members_decides ms ns))
   members_decides _ _ = (λ h. absurd (true≢false (sym h)), λ e. cc)
 
 pub field_decides : (f g : FieldTree) → Decides (field_eq f g) (f ≡ g)
 field_decides f g = field_decides-at f g (tree_decides f.tree g.tree)
-
--- a test that decides equality is an equivalence
-congr_of : {K : Type 0} (E : K → K → Bool) → ((x y : K) → Decides (E x y) (x ≡ y)) → (x y z : K) → E x y ≡ true → E x z ≡ E y z
-congr_of E d x y z h = ap (λ w. E w z) ((d x y).0 h)
-
-symm_of : {K : Type 0} (E : K → K → Bool) → ((x y : K) → Decides (E x y) (x ≡ y)) → (x y : K) → E x y ≡ E y x
-symm_of E d x y = same_from_decides (E x y) (E y x) (d x y) (Decides-like _ sym sym (d y x))
-
-pub equivalence_of : {K : Type 0} (E : K → K → Bool) → ((x y : K) → Decides (E x y) (x ≡ y)) → IsEquivalence E
-equivalence_of E d = record { refl = λ x. (d x x).1 refl; symm = symm_of E d; congr = congr_of E d }
-
-pub pair_equal : (m n : ℤ × FieldTree) → Decides (int_eq m.0 n.0 && field_eq m.1 n.1) (m ≡ n)
-pair_equal m n = Decides-like _ (λ h. λ i. (h.0 i, h.1 i)) (λ e. (ap (λ x. x.0) e, ap (λ x. x.1) e)) (Decides-and _ _ (Decides-int_eq m.0 n.0) (field_decides m.1 n.1))
 
 abbrev pub member_eq : ℤ × FieldTree → ℤ × FieldTree → Bool
 member_eq m n = int_eq m.0 n.0 && field_eq m.1 n.1
@@ -135,16 +105,4 @@ pub field_lists_decide : (fs gs : List FieldTree) → Decides (field_lists_eq fs
 field_lists_decide = pointwise_decides field_decides
 
 pub member_lists_decide : (ms ns : List (ℤ × FieldTree)) → Decides (member_lists_eq ms ns) (ms ≡ ns)
-member_lists_decide = pointwise_decides pair_equal
-
-pub tree_equivalence : IsEquivalence tree_eq
-tree_equivalence = equivalence_of tree_eq tree_decides
-
-pub field_equivalence : IsEquivalence field_eq
-field_equivalence = equivalence_of field_eq field_decides
-
-pub fields_equivalence : IsEquivalence field_lists_eq
-fields_equivalence = equivalence_of field_lists_eq field_lists_decide
-
-pub members_equivalence : IsEquivalence member_lists_eq
-members_equivalence = equivalence_of member_lists_eq member_lists_decide
+member_lists_decide = pointwise_decides (λ m n. pair_decides m n (Decides-int_eq m.0 n.0) (field_decides m.1 n.1))

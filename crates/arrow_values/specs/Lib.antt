@@ -6,7 +6,6 @@ pub mod Falls
 pub mod Equal
 pub mod Texts
 pub mod Union
-pub mod UnionRest
 pub mod Errors
 pub mod Extension
 pub mod Coordinates

@@ -7,9 +7,7 @@ use Rattle.std.specs.List.{filter}
 use Rattle.std.specs.Borrow.{Bor}
 use Rattle.std.specs.Map.{lookup}
 use Rattle.std.specs.Str.{bytes_eq}
-use Rattle.std.proofs.Common.{refl}
 use Rattle.arrow_values.specs.Tree.{Text, Metadata, FieldTree}
-use Rattle.arrow_values.specs.declared.tree.parts.TheConstants.{EXTENSION_TYPE_NAME_KEY, EXTENSION_TYPE_METADATA_KEY}
 
 -- the key of a field's metadata under which the name of its extension type stands (Arrow, "Extension Types")
 abbrev pub name_key : Text
@@ -18,13 +16,6 @@ name_key = codes "ARROW:extension:name"
 -- the key under which the metadata of its extension type stands
 abbrev pub metadata_key : Text
 metadata_key = codes "ARROW:extension:metadata"
-
--- the constants of the code are these keys
-pub name_key-is-constant : EXTENSION_TYPE_NAME_KEY.now ≡ name_key
-name_key-is-constant = refl
-
-pub metadata_key-is-constant : EXTENSION_TYPE_METADATA_KEY.now ≡ metadata_key
-metadata_key-is-constant = refl
 
 -- the bytes of a text that may be missing
 abbrev pub text_of : Option (Bor Text) → Option Text

@@ -3,6 +3,7 @@ use Rattle.std.specs.Prelude.{◌≡◌, length, ℤ, pos, Bool, true, IsTrue, n
 use Rattle.std.specs.Ordering.{int_eq}
 use Rattle.std.specs.List.{list_any, list_all, filter}
 use Rattle.arrow_values.specs.Tree.{FieldTree, Members}
+use Rattle.arrow_values.specs.declared.tree.union_fields.UnionIter.{UnionIter}
 
 -- a type id is 0 to 127
 abbrev pub is_type_id : ℤ → Bool
@@ -42,3 +43,7 @@ retained is ms = filter (λ m. has m.0 is) ms
 abbrev pub shared_id : Members → Members → Option ℤ
 shared_id ms [] = None
 shared_id ms (n ∷ ns) = cond (has_id n.0 ms) (Some n.0) (shared_id ms ns)
+
+-- what an iterator over a union has left
+abbrev pub union_rest : UnionIter → Members
+union_rest iterator = iterator.rest.now

@@ -80,7 +80,3 @@ listed_members (m ∷ ms) = ap (λ ns. m ∷ ns) (listed_members ms)
 pub field_trees_of_list : (fs : FieldTrees) → field_trees (field_list fs) ≡ fs
 field_trees_of_list no_fields = refl
 field_trees_of_list (field n t b m fs) = ap (field n t b m) (field_trees_of_list fs)
-
-pub member_trees_of_list : (ms : MemberTrees) → member_trees (member_list ms) ≡ ms
-member_trees_of_list no_members = refl
-member_trees_of_list (member i n t b m ms) = ap (member i n t b m) (member_trees_of_list ms)

@@ -208,8 +208,7 @@ impl Model for UnionFields {
 
     ghost size = { members_size };
 
-    ghost use Rattle.std.proofs.Common.{arith};
-    ghost use Rattle.arrow_values.specs.Falls.{most_le-members_size, le_of};
+    ghost use Rattle.arrow_values.specs.Falls.{most_le-members_size};
 
-    ghost size_decreases = { λ ms h. le_of (most_le-members_size ms.members.items) };
+    ghost size_decreases = { λ ms h. most_le-members_size ms.members.items };
 }

@@ -1,7 +1,8 @@
 -- The token that a value begins with says what kind of value it is.
 use Rattle.std.proofs.Common.{◌≡◌, ℕ, suc, List, ◌∷◌, length, Bool, Option, Some, None, option_map, IfSome, refl, sym, ap, ◌∙◌, subst}
 use Rattle.json.specs.Token as spec
-use Rattle.json.specs.Json.{parse_map, items, members, value, value_with}
+use Rattle.json.specs.Json.{Parse, Items, Members, parse_map, items, members, value, value_with}
+use Rattle.json.proofs.Grammar.{value_is}
 use Rattle.json.specs.Reads.{token_of}
 use Rattle.json.specs.declared.token.Token.{Token}
 use Rattle.json.specs.declared.token.Token.TheVariants.{BeginObject, BeginArray, String, Number, Bool as Boolean, Null}
@@ -9,41 +10,41 @@ use Rattle.serde_json.specs.Data.{Num, Data, null, boolean, number, string, arra
 use Rattle.serde_json.specs.Find.{as_null, as_str, as_bool, as_number, as_object, as_array}
 use Rattle.serde_json.specs.Read.{number_of, of_json, converted}
 use Rattle.value_tokens.specs.Next.{next_value, next_items, next_members, after, ReadsValue, ReadsMembers}
-use Rattle.value_tokens.specs.Turns.{nested_items, nested_members, plain, converted-array, converted-object, after_some}
+use Rattle.value_tokens.specs.Turns.{converted-array, converted-object, after_some}
 
 pub next_string : (depth : ℕ) (s : List ℕ) (ts : List spec.Token) → next_value depth (spec.string s ∷ ts) ≡ Some (string s, ts)
-next_string depth s ts = plain depth (spec.string s) ts
+next_string depth s ts = ap (converted of_json) (value_is depth ((spec.string s) ∷ ts))
 
 pub next_boolean : (depth : ℕ) (b : Bool) (ts : List spec.Token) → next_value depth (spec.boolean b ∷ ts) ≡ Some (boolean b, ts)
-next_boolean depth b ts = plain depth (spec.boolean b) ts
+next_boolean depth b ts = ap (converted of_json) (value_is depth ((spec.boolean b) ∷ ts))
 
 pub next_null : (depth : ℕ) (ts : List spec.Token) → next_value depth (spec.null ∷ ts) ≡ Some (null, ts)
-next_null depth ts = plain depth spec.null ts
+next_null depth ts = ap (converted of_json) (value_is depth (spec.null ∷ ts))
 
 numbered : (o : Option Num) (ts : List spec.Token) → option_map {U = Data × List spec.Token} (λ d. (d, ts)) (option_map number o) ≡ option_map (λ n. (number n, ts)) o
 numbered None ts = refl
 numbered (Some n) ts = refl
 
 pub next_number : (depth : ℕ) (s : List ℕ) (ts : List spec.Token) → next_value depth (spec.number s ∷ ts) ≡ option_map (λ n. (number n, ts)) (number_of s)
-next_number depth s ts = plain depth (spec.number s) ts ∙ numbered (number_of s) ts
+next_number depth s ts = ap (converted of_json) (value_is depth ((spec.number s) ∷ ts)) ∙ numbered (number_of s) ts
 
 pub next_array : (depth : ℕ) (ts : List spec.Token) → next_value (suc depth) (spec.begin_array ∷ ts) ≡ parse_map array (next_items depth ts)
-next_array depth ts = plain (suc depth) spec.begin_array ts ∙ converted-array (items (value depth) (length ts) ts)
+next_array depth ts = ap (converted of_json) (value_is (suc depth) (spec.begin_array ∷ ts)) ∙ converted-array (items (value depth) (length ts) ts)
 
 pub next_object : (depth : ℕ) (ts : List spec.Token) → next_value (suc depth) (spec.begin_object ∷ ts) ≡ parse_map object (next_members depth no_members ts)
-next_object depth ts = plain (suc depth) spec.begin_object ts ∙ converted-object (members (value depth) (length ts) ts)
+next_object depth ts = ap (converted of_json) (value_is (suc depth) (spec.begin_object ∷ ts)) ∙ converted-object (members (value depth) (length ts) ts)
 
 pub no_key : (depth : ℕ) (k : List ℕ) (ts : List spec.Token) → next_value depth (spec.key k ∷ ts) ≡ None
-no_key depth k ts = plain depth (spec.key k) ts
+no_key depth k ts = ap (converted of_json) (value_is depth ((spec.key k) ∷ ts))
 
 pub no_end_object : (depth : ℕ) (ts : List spec.Token) → next_value depth (spec.end_object ∷ ts) ≡ None
-no_end_object depth ts = plain depth spec.end_object ts
+no_end_object depth ts = ap (converted of_json) (value_is depth (spec.end_object ∷ ts))
 
 pub no_end_array : (depth : ℕ) (ts : List spec.Token) → next_value depth (spec.end_array ∷ ts) ≡ None
-no_end_array depth ts = plain depth spec.end_array ts
+no_end_array depth ts = ap (converted of_json) (value_is depth (spec.end_array ∷ ts))
 
 pub no_bad : (depth : ℕ) (ts : List spec.Token) → next_value depth (spec.bad ∷ ts) ≡ None
-no_bad depth ts = plain depth spec.bad ts
+no_bad depth ts = ap (converted of_json) (value_is depth (spec.bad ∷ ts))
 
 -- the token can begin the value
 abbrev pub Begins : Token → Data → Type 0
@@ -65,17 +66,17 @@ begun_number : (s : _) (o : Option Num) (ts : List spec.Token) → IsBegun (Numb
 begun_number s None ts = tt
 begun_number s (Some n) ts = (s, refl)
 
-begins_as : (depth : ℕ) (t : Token) (ts : List spec.Token) → IsBegun t (converted of_json (value_with (nested_items depth) (nested_members depth) (token_of t ∷ ts)))
-begins_as depth BeginObject ts = subst (IsBegun BeginObject) (sym (converted-object (nested_members depth ts))) (begun BeginObject object (λ ms. refl) _)
-begins_as depth BeginArray ts = subst (IsBegun BeginArray) (sym (converted-array (nested_items depth ts))) (begun BeginArray array (λ ds. refl) _)
-begins_as depth (String s) ts = (s, refl)
-begins_as depth (Number s) ts = subst (IsBegun (Number s)) (sym (numbered (number_of s.now) ts)) (begun_number s (number_of s.now) ts)
-begins_as depth (Boolean b) ts = refl
-begins_as depth Null ts = refl
-begins_as depth _ ts = tt
+begins_as : (a : Parse Items) (o : Parse Members) (t : Token) (ts : List spec.Token) → IsBegun t (converted of_json (value_with a o (token_of t ∷ ts)))
+begins_as a o BeginObject ts = subst (IsBegun BeginObject) (sym (converted-object (o ts))) (begun BeginObject object (λ ms. refl) _)
+begins_as a o BeginArray ts = subst (IsBegun BeginArray) (sym (converted-array (a ts))) (begun BeginArray array (λ ds. refl) _)
+begins_as a o (String s) ts = (s, refl)
+begins_as a o (Number s) ts = subst (IsBegun (Number s)) (sym (numbered (number_of s.now) ts)) (begun_number s (number_of s.now) ts)
+begins_as a o (Boolean b) ts = refl
+begins_as a o Null ts = refl
+begins_as a o _ ts = tt
 
 pub value_begins : (depth : ℕ) (t : Token) (ts r : List spec.Token) (d : Data) → next_value depth (token_of t ∷ ts) ≡ Some (d, r) → Begins t d
-value_begins depth t ts r d e = subst (IsBegun t) (sym (plain depth (token_of t) ts) ∙ e) (begins_as depth t ts)
+value_begins depth t ts r d e = subst (IsBegun t) (sym (ap (converted of_json) (value_is depth (token_of t ∷ ts))) ∙ e) (begins_as _ _ t ts)
 
 -- a value that is skipped begins with its first token
 pub passed : (depth : ℕ) (t : Token) (ts s r : List spec.Token) → ts ≡ token_of t ∷ s → after (next_value depth (token_of t ∷ s)) ≡ Some r → (d : Data) × (next_value depth ts ≡ Some (d, r)) × Begins t d

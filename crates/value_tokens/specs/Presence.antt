@@ -1,7 +1,7 @@
 -- Which keys an object has, as members are put into it one after another.
-use Rattle.std.proofs.Common.{◌≡◌, ℕ, List, length, cond, bytes_eq, Option, Some, None, sym, ap, ◌∙◌, true≢false}
+use Rattle.std.proofs.Common.{◌≡◌, ℕ, List, length, cond, bytes_eq, Some, sym, ap, ◌∙◌, true≢false}
 use Rattle.std.proofs.lemmas.Bool.{cond_both}
-use Rattle.std.proofs.lemmas.Option.{option_and_then_some}
+use Rattle.std.proofs.lemmas.Option.{option_and_then_some, same_Some}
 use Rattle.std.proofs.lemmas.Slice.Eq.{bytes_eq-Decides}
 use Rattle.json.specs.Token.{Token}
 use Rattle.json.specs.Json as json
@@ -32,12 +32,8 @@ has_put q k d found h =
 pub has_new : (k : List ℕ) (d : Data) (found : Members) → Has k (put k d found)
 has_new k d found = (d, get_member-put k d found)
 
-abbrev unwrap : Members → Option Members → Members
-unwrap ms None = ms
-unwrap ms (Some found) = found
-
 kept_in : (js : json.Members) (q : List ℕ) (found ms : Members) → of_members js found ≡ Some ms → Has q found → Has q ms
-kept_in json.no_members q found ms e h = (h.0, ap (λ o. get_member q (unwrap found o)) (sym e) ∙ h.1)
+kept_in json.no_members q found ms e h = (h.0, ap (get_member q) (sym (same_Some found ms e)) ∙ h.1)
 kept_in (json.member k j js) q found ms e h = option_and_then_some _ (of_json j) ms e (λ d _ next. kept_in js q (put k d found) ms next (has_put q k d found h))
 
 -- a key that was there is still there when all members are read

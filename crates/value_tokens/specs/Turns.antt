@@ -1,92 +1,51 @@
 -- JSON's grammar, one item or member at a time, and converted to `serde_json`'s values.
-use Rattle.std.proofs.Common.{◌≡◌, ℕ, zero, suc, ◌-◌, ◌<◌, ◌≤◌, List, [], ◌∷◌, length, Option, Some, None, option_map, option_and_then, refl, sym, ap, ◌∙◌, arith}
+use Rattle.std.proofs.Common.{◌≡◌, ℕ, suc, ◌-◌, ◌<◌, ◌≤◌, List, [], ◌∷◌, length, Option, Some, None, option_map, option_and_then, refl, sym, ap, ◌∙◌, arith}
+use Rattle.std.proofs.lemmas.Option.{some_pair_parts}
 use Rattle.json.specs.Token.{Token}
 use Rattle.json.specs.Json as json
-use Rattle.json.specs.Json.{Parse, parse_map, after_end_array, read_key, items_step, members_step, items, members, value, value_with}
+use Rattle.json.specs.Json.{Parse, parse_map, after_end_array, read_key, items_step, members_step, items, members, value}
 use Rattle.json.proofs.Grammar.{left, left_some, skip_value-shorter, read_key-shorter, value-begin_array, value-begin_object, value_is, items_end, items_more, items_fail, members_end, members_no_key, members_more, members_fail}
-use Rattle.serde_json.specs.Data.{Data, array, object, Items, no_items, item, Members, no_members, put}
+use Rattle.serde_json.specs.Data.{Data, array, object, no_items, item, Members, no_members, put}
 use Rattle.serde_json.specs.Read.{of_json, of_items, of_members, converted}
 use Rattle.value_tokens.specs.Next.{next_value, next_items, next_members, next_after, after}
 
--- ---- the grammar's bound on turns changes nothing if it is at least the number of tokens
-
-then_same : {A B : Type 0} (f g : A → Option B) (o : Option A) → ((a : A) → o ≡ Some a → f a ≡ g a) → option_and_then f o ≡ option_and_then g o
-then_same f g None same = refl
-then_same f g (Some a) same = same a refl
-
--- a parser whose turns stop where no token is left, and read on only behind a token
-module _ {B : Type 0} (turns : ℕ → Parse B) (step : Parse B → Parse B) (first : (ts : List Token) → turns 0 ts ≡ None) (next : (n : ℕ) (ts : List Token) → turns (suc n) ts ≡ step (turns n) ts)
-    (none : (f : Parse B) → step f [] ≡ None) (local : (f g : Parse B) (ts : List Token) → ((r : List Token) → length r < length ts → f r ≡ g r) → step f ts ≡ step g ts) where
-  enough : (n m : ℕ) (ts : List Token) → length ts ≤ n → length ts ≤ m → turns n ts ≡ turns m ts
-  enough zero zero ts le le2 = refl
-  enough zero (suc m) [] le le2 = first [] ∙ sym (next m [] ∙ none (turns m))
-  enough (suc n) zero [] le le2 = next n [] ∙ none (turns n) ∙ sym (first [])
-  enough zero (suc m) (t ∷ ts) le le2 = absurd (omega arith)
-  enough (suc n) zero (t ∷ ts) le le2 = absurd (omega arith)
-  enough (suc n) (suc m) ts le le2 = next n ts ∙ local (turns n) (turns m) ts (λ r less. enough n m r (omega arith) (omega arith)) ∙ sym (next m ts)
-
-module _ (depth : ℕ) where
-  shorter : (ts : List Token) (q : json.Json × List Token) → value depth ts ≡ Some q → length q.1 < length ts
-  shorter ts q is = skip_value-shorter depth ts q.1 (ap left is)
-
-  items_enough : (n m : ℕ) (ts : List Token) → length ts ≤ n → length ts ≤ m → items (value depth) n ts ≡ items (value depth) m ts
-  unfolding items
-  items_enough =
-      enough (items (value depth)) (λ f ts. items_step (value depth) f ts (after_end_array ts)) (λ ts. refl) (λ n ts. refl) (λ f. ap (option_and_then (λ q. parse_map (json.item q.0) (f q.1))) (value_is depth []))
-      (λ f g ts same. by f g ts (after_end_array ts) same)
-    where
-      by : (f g : Parse json.Items) (ts : List Token) (o : Option (List Token)) → ((r : List Token) → length r < length ts → f r ≡ g r) → items_step (value depth) f ts o ≡ items_step (value depth) g ts o
-      by f g ts (Some r) same = refl
-      by f g ts None same = then_same _ _ (value depth ts) (λ q is. ap (parse_map (json.item q.0)) (same q.1 (shorter ts q is)))
-
-  members_enough : (n m : ℕ) (ts : List Token) → length ts ≤ n → length ts ≤ m → members (value depth) n ts ≡ members (value depth) m ts
-  unfolding members
-  members_enough =
-      enough (members (value depth)) (λ f ts. option_and_then (λ p. members_step (value depth) f p.0 p.1) (read_key ts)) (λ ts. refl) (λ n ts. refl) (λ f. refl)
-      (λ f g ts same. then_same _ _ (read_key ts) (λ p is. by f g (length ts) p.0 p.1 same (read_key-shorter ts p.0 p.1 is)))
-    where
-      by : (f g : Parse json.Members) (n : ℕ) (k : Option (List ℕ)) (s : List Token) → ((r : List Token) → length r < n → f r ≡ g r) → length s < n → members_step (value depth) f k s ≡ members_step (value depth) g k s
-      by f g n None s same less = refl
-      by f g n (Some k) s same less = then_same _ _ (value depth s) (λ q is. ap (parse_map (json.member k q.0)) (same q.1 (omega (arith, shorter s q is))))
-
--- ---- one turn, converted
-
-abbrev pick : {A : Type 0} → A → Option A → A
-pick d None = d
-pick d (Some a) = a
-
-found_with : {B : Type 0} (r s : List Token) (x : Option B) (b : B) → option_map {U = B × List Token} (λ y. (y, r)) x ≡ Some (b, s) → (r ≡ s) × (x ≡ Some b)
-found_with r s None b e = absurd (cc)
-found_with r s (Some y) b e = let same = ap (pick (y, r)) e in (ap (λ p. p.1) same, ap (λ p. Some p.0) same)
+-- ---- what was read, converted
 
 pub converted_some : {A B : Type 0} (f : A → Option B) (o : Option (A × List Token)) (b : B) (r : List Token) → converted f o ≡ Some (b, r) → (a : A) × (o ≡ Some (a, r)) × (f a ≡ Some b)
-converted_some f None b r e = absurd (cc)
-converted_some f (Some p) b r e = let both = found_with p.1 r (f p.0) b e in (p.0, ap (λ s. Some (p.0, s)) both.0, both.1)
+converted_some f None b r e = absurd cc
+converted_some {A} {B} f (Some p) b r e = by (f p.0) refl e
+  where
+    by : (x : Option B) → f p.0 ≡ x → option_map {U = B × List Token} (λ y. (y, p.1)) x ≡ Some (b, r) → (a : A) × (Some p ≡ Some (a, r)) × (f a ≡ Some b)
+    by None is e = absurd cc
+    by (Some y) is e = let same = some_pair_parts y b p.1 r e in (p.0, ap (λ s. Some (p.0, s)) same.1, is ∙ ap Some same.0)
 
-twice : {A B : Type 0} (g : A → B) (r : List Token) (x : Option A) → option_map (λ b. (b, r)) (option_map g x) ≡ parse_map g (option_map (λ a. (a, r)) x)
-twice g r None = refl
-twice g r (Some a) = refl
+-- the parts that are converted, and then put into f's value
+module _ {A B C D : Type 0} (f : C → Option D) (c : A → C) (part : A → Option B) (whole : B → D) (same : (a : A) → f (c a) ≡ option_map whole (part a)) where
+  pub converted_part : (o : Option (A × List Token)) → converted f (parse_map c o) ≡ parse_map whole (converted part o)
+  converted_part None = refl
+  converted_part (Some p) = ap (option_map (λ d. (d, p.1))) (same p.0) ∙ by (part p.0)
+    where
+      by : (x : Option B) → option_map (λ d. (d, p.1)) (option_map whole x) ≡ parse_map whole (option_map (λ b. (b, p.1)) x)
+      by None = refl
+      by (Some b) = refl
 
 pub converted-array : (o : Option (json.Items × List Token)) → converted of_json (parse_map json.array o) ≡ parse_map array (converted of_items o)
-converted-array None = refl
-converted-array (Some p) = twice array p.1 (of_items p.0)
+converted-array = converted_part of_json json.array of_items array (λ _. refl)
 
 pub converted-object : (o : Option (json.Members × List Token)) → converted of_json (parse_map json.object o) ≡ parse_map object (converted (λ ms. of_members ms no_members) o)
-converted-object None = refl
-converted-object (Some p) = twice object p.1 (of_members p.0 no_members)
+converted-object = converted_part of_json json.object (λ ms. of_members ms no_members) object (λ _. refl)
 
-converted-item : (j : json.Json) (d : Option Data) → of_json j ≡ d → (o : Option (json.Items × List Token)) → converted of_items (parse_map (json.item j) o) ≡ option_and_then (λ d. parse_map (item d) (converted of_items o)) d
-converted-item j None e (Some p) = rw e
-converted-item j (Some d) e (Some p) = rw e (twice (item d) p.1 (of_items p.0))
-converted-item j None e None = refl
-converted-item j (Some d) e None = refl
-
-converted-member : (old : Members) (k : List ℕ) (j : json.Json) (d : Option Data) → of_json j ≡ d → (o : Option (json.Members × List Token))
-    → converted (λ ms. of_members ms old) (parse_map (json.member k j) o) ≡ option_and_then (λ d. converted (λ ms. of_members ms (put k d old)) o) d
-converted-member old k j None e (Some p) = rw e
-converted-member old k j (Some d) e (Some p) = rw e
-converted-member old k j None e None = refl
-converted-member old k j (Some d) e None = refl
+-- A turn: t reads the value that v is, and then by `more` what is left. It is converted as the value is, and then what is left.
+module _ {A B C : Type 0} (f : C → Option B) (c : json.Json → A → C) (then : Data → Option (A × List Token) → Option (B × List Token)) (more : Parse A) (t : Option (C × List Token))
+    (one : (j : json.Json) (o : Option (A × List Token)) → converted f (parse_map (c j) o) ≡ option_and_then (λ d. then d o) (of_json j)) where
+  turn : (v : Option (json.Json × List Token)) → (v ≡ None → t ≡ None) → ((q : json.Json × List Token) → v ≡ Some q → t ≡ parse_map (c q.0) (more q.1))
+      → converted f t ≡ option_and_then (λ (p : Data × List Token). then p.0 (more p.1)) (converted of_json v)
+  turn None none some = ap (converted f) (none refl)
+  turn (Some q) none some = ap (converted f) (some q refl) ∙ one q.0 (more q.1) ∙ by (of_json q.0)
+    where
+      by : (x : Option Data) → option_and_then (λ d. then d (more q.1)) x ≡ option_and_then (λ (p : Data × List Token). then p.0 (more p.1)) (option_map (λ d. (d, q.1)) x)
+      by None = refl
+      by (Some d) = refl
 
 -- an array and an object
 pub value-array : (depth : ℕ) (ts : List Token) → 0 < depth → next_value depth (Token.begin_array ∷ ts) ≡ parse_map array (next_items (depth - 1) ts)
@@ -95,59 +54,78 @@ value-array depth ts some = ap (converted of_json) (value-begin_array depth ts s
 pub value-object : (depth : ℕ) (ts : List Token) → 0 < depth → next_value depth (Token.begin_object ∷ ts) ≡ parse_map object (next_members (depth - 1) no_members ts)
 value-object depth ts some = ap (converted of_json) (value-begin_object depth ts some) ∙ converted-object (members (value (depth - 1)) (length ts) ts)
 
-abbrev pub nested_items : ℕ → Parse json.Items
-nested_items zero ts = None
-nested_items (suc d) ts = items (value d) (length ts) ts
-
-abbrev pub nested_members : ℕ → Parse json.Members
-nested_members zero ts = None
-nested_members (suc d) ts = members (value d) (length ts) ts
-
--- the depth counts only for what is nested in the value
-pub plain : (depth : ℕ) (t : Token) (ts : List Token) → next_value depth (t ∷ ts) ≡ converted of_json (value_with (nested_items depth) (nested_members depth) (t ∷ ts))
-plain depth t ts = ap (converted of_json) (value_is depth (t ∷ ts))
-
 pub array_too_deep : (ts : List Token) → next_value 0 (Token.begin_array ∷ ts) ≡ None
-array_too_deep ts = plain 0 Token.begin_array ts
+array_too_deep ts = ap (converted of_json) (value_is 0 (Token.begin_array ∷ ts))
 
 pub object_too_deep : (ts : List Token) → next_value 0 (Token.begin_object ∷ ts) ≡ None
-object_too_deep ts = plain 0 Token.begin_object ts
+object_too_deep ts = ap (converted of_json) (value_is 0 (Token.begin_object ∷ ts))
 
 -- no value is next if no token is left
 pub no_value : (depth : ℕ) (ts : List Token) → ts ≡ [] → next_value depth ts ≡ None
 no_value depth ts none = ap (next_value depth) none ∙ ap (converted of_json) (value_is depth [])
 
 -- a value takes at least one token
+shorter : (depth : ℕ) (ts : List Token) (q : json.Json × List Token) → value depth ts ≡ Some q → length q.1 < length ts
+shorter depth ts q is = skip_value-shorter depth ts q.1 (ap left is)
+
 pub value_takes : (depth : ℕ) (ts r : List Token) (d : Data) → next_value depth ts ≡ Some (d, r) → length r < length ts
 value_takes depth ts r d e = let j = converted_some of_json (value depth ts) d r e in shorter depth ts (j.0, r) j.1
+
+-- ---- the grammar's bound on turns changes nothing if it is at least the number of tokens
+
+module _ (depth : ℕ) where
+  items_enough : (n m : ℕ) (ts : List Token) → length ts ≤ n → length ts ≤ m → items (value depth) n ts ≡ items (value depth) m ts
+  unfolding items
+  items_enough n m [] le le2 = items_fail (value depth) n [] refl (value_is depth []) ∙ sym (items_fail (value depth) m [] refl (value_is depth []))
+  items_enough (suc n) (suc m) (t ∷ ts) le le2 =
+      by (items_enough n m) (after_end_array (t ∷ ts)) (value depth (t ∷ ts)) (λ q is. shorter depth (t ∷ ts) q is)
+    where
+      by : ((r : List Token) → length r ≤ n → length r ≤ m → items (value depth) n r ≡ items (value depth) m r) → (o : Option (List Token)) (v : Option (json.Json × List Token))
+          → ((q : json.Json × List Token) → v ≡ Some q → length q.1 < length (t ∷ ts)) → items_step (λ _. v) (items (value depth) n) [] o ≡ items_step (λ _. v) (items (value depth) m) [] o
+      by again (Some r) v less = refl
+      by again None None less = refl
+      by again None (Some q) less = let less = less q refl in ap (parse_map (json.item q.0)) (again q.1 (omega arith) (omega arith))
+  items_enough _ _ (t ∷ ts) le le2 = absurd (omega arith)
+
+  members_enough : (n m : ℕ) (ts : List Token) → length ts ≤ n → length ts ≤ m → members (value depth) n ts ≡ members (value depth) m ts
+  unfolding members
+  members_enough n m [] le le2 = members_no_key (value depth) n [] refl ∙ sym (members_no_key (value depth) m [] refl)
+  members_enough (suc n) (suc m) (t ∷ ts) le le2 = by (members_enough n m) (read_key (t ∷ ts)) (λ k r is. read_key-shorter (t ∷ ts) k r is)
+    where
+      then : ((r : List Token) → length r ≤ n → length r ≤ m → members (value depth) n r ≡ members (value depth) m r) → (k : List ℕ) (s : List Token) (v : Option (json.Json × List Token)) → length s < length (t ∷ ts)
+          → value depth s ≡ v → members_step (λ _. v) (members (value depth) n) (Some k) [] ≡ members_step (λ _. v) (members (value depth) m) (Some k) []
+      then again k s None less is = refl
+      then again k s (Some q) less is = let lesser = shorter depth s q is in ap (parse_map (json.member k q.0)) (again q.1 (omega arith) (omega arith))
+
+      by : ((r : List Token) → length r ≤ n → length r ≤ m → members (value depth) n r ≡ members (value depth) m r) → (o : Option (Option (List ℕ) × List Token))
+          → ((k : Option (List ℕ)) (r : List Token) → o ≡ Some (k, r) → length r < length (t ∷ ts))
+          → option_and_then (λ p. members_step (value depth) (members (value depth) n) p.0 p.1) o ≡ option_and_then (λ p. members_step (value depth) (members (value depth) m) p.0 p.1) o
+      by again None less = refl
+      by again (Some (None, s)) less = refl
+      by again (Some (Some k, s)) less = then again k s (value depth s) (less (Some k) s refl) refl
+  members_enough _ _ (t ∷ ts) le le2 = absurd (omega arith)
 
 -- ---- an item, and the items after it
 
 pub items_over : (depth : ℕ) (ts r : List Token) → after_end_array ts ≡ Some r → next_items depth ts ≡ Some (no_items, r)
 items_over depth ts r e = ap (converted of_items) (items_end (value depth) (length ts) ts r (omega arith) e)
 
-abbrev items_after : ℕ → Option (Data × List Token) → Option (Items × List Token)
-items_after depth o = option_and_then (λ p. parse_map (item p.0) (next_items depth p.1)) o
-
-pub item_next : (depth : ℕ) (ts : List Token) → after_end_array ts ≡ None → next_items depth ts ≡ items_after depth (next_value depth ts)
-item_next depth ts going = by (value depth ts) refl
+item_next : (depth : ℕ) (ts : List Token) → after_end_array ts ≡ None → next_items depth ts ≡ option_and_then (λ p. parse_map (item p.0) (next_items depth p.1)) (next_value depth ts)
+item_next depth ts going =
+    turn of_items json.item (λ d o. parse_map (item d) (converted of_items o)) (λ r. items (value depth) (length r) r) (items (value depth) (length ts) ts) (λ j. one (of_json j) j refl) (value depth ts)
+    (items_fail (value depth) (length ts) ts going)
+    (λ q is. let less = shorter depth ts q is in items_more (value depth) (length ts) ts q.1 q.0 (omega arith) going is ∙ ap (parse_map (json.item q.0)) (items_enough depth _ (length q.1) q.1 (omega arith) (omega arith)))
   where
-    one : (d : Option Data) (r : List Token) → option_and_then (λ d. parse_map (item d) (next_items depth r)) d ≡ items_after depth (option_map (λ d. (d, r)) d)
-    one None r = refl
-    one (Some d) r = refl
-
-    by : (o : Option (json.Json × List Token)) → value depth ts ≡ o → next_items depth ts ≡ items_after depth (converted of_json o)
-    by None is = ap (converted of_items) (items_fail (value depth) (length ts) ts going is)
-    by (Some q) is =
-        let less = shorter depth ts q is in
-        ap (converted of_items) (items_more (value depth) (length ts) ts q.1 q.0 (omega arith) going is ∙ ap (parse_map (json.item q.0)) (items_enough depth _ (length q.1) q.1 (omega arith) (omega arith)))
-        ∙ converted-item q.0 (of_json q.0) refl (items (value depth) (length q.1) q.1) ∙ one (of_json q.0) q.1
+    one : (x : Option Data) (j : json.Json) → of_json j ≡ x → (o : Option (json.Items × List Token)) → converted of_items (parse_map (json.item j) o) ≡ option_and_then (λ d. parse_map (item d) (converted of_items o)) x
+    one None j e None = refl
+    one None j e (Some p) = rw e
+    one (Some d) j e o = converted_part of_items (json.item j) of_items (item d) (λ js. rw e) o
 
 pub item_read : (depth : ℕ) (ts r : List Token) (d : Data) → after_end_array ts ≡ None → next_value depth ts ≡ Some (d, r) → next_items depth ts ≡ parse_map (item d) (next_items depth r)
-item_read depth ts r d going e = item_next depth ts going ∙ ap (items_after depth) e
+item_read depth ts r d going e = item_next depth ts going ∙ ap (option_and_then (λ p. parse_map (item p.0) (next_items depth p.1))) e
 
 pub item_refused : (depth : ℕ) (ts : List Token) → after_end_array ts ≡ None → next_value depth ts ≡ None → next_items depth ts ≡ None
-item_refused depth ts going e = item_next depth ts going ∙ ap (items_after depth) e
+item_refused depth ts going e = item_next depth ts going ∙ ap (option_and_then (λ p. parse_map (item p.0) (next_items depth p.1))) e
 
 -- ---- a key, and what is next after it
 
@@ -157,32 +135,27 @@ members_over depth old ts r e = ap (converted (λ ms. of_members ms old)) (membe
 pub key_refused : (depth : ℕ) (old : Members) (ts : List Token) → read_key ts ≡ None → next_members depth old ts ≡ None
 key_refused depth old ts e = ap (converted (λ ms. of_members ms old)) (members_no_key (value depth) (length ts) ts e)
 
-abbrev members_after : ℕ → Members → List ℕ → Option (Data × List Token) → Option (Members × List Token)
-members_after depth old k o = option_and_then (λ p. next_members depth (put k p.0 old) p.1) o
-
 pub named : (depth : ℕ) (found : Members) (k : List ℕ) (ts s : List Token) → read_key ts ≡ Some (Some k, s) → next_members depth found ts ≡ next_after depth found k s
-named depth found k ts s key = by (value depth s) refl
+named depth found k ts s key =
+    let first = read_key-shorter ts (Some k) s key in
+    turn (λ ms. of_members ms found) (json.member k) (λ d o. converted (λ ms. of_members ms (put k d found)) o) (λ r. members (value depth) (length r) r) (members (value depth) (length ts) ts) (λ j. one (of_json j) j refl)
+    (value depth s) (members_fail (value depth) (length ts) k ts s key)
+    (λ q is. let less = shorter depth s q is in members_more (value depth) (length ts) k ts s q.1 q.0 (omega arith) key is ∙ ap (parse_map (json.member k q.0)) (members_enough depth _ (length q.1) q.1 (omega arith) (omega arith)))
   where
-    one : (d : Option Data) (r : List Token) → option_and_then (λ d. next_members depth (put k d found) r) d ≡ members_after depth found k (option_map (λ d. (d, r)) d)
-    one None r = refl
-    one (Some d) r = refl
-
-    by : (o : Option (json.Json × List Token)) → value depth s ≡ o → next_members depth found ts ≡ members_after depth found k (converted of_json o)
-    by None is = ap (converted (λ ms. of_members ms found)) (members_fail (value depth) (length ts) k ts s key is)
-    by (Some q) is =
-        let less = shorter depth s q is in
-        let first = read_key-shorter ts (Some k) s key in
-        ap (converted (λ ms. of_members ms found)) (members_more (value depth) (length ts) k ts s q.1 q.0 (omega arith) key is ∙ ap (parse_map (json.member k q.0)) (members_enough depth _ (length q.1) q.1 (omega arith) (omega arith)))
-        ∙ converted-member found k q.0 (of_json q.0) refl (members (value depth) (length q.1) q.1) ∙ one (of_json q.0) q.1
+    one : (x : Option Data) (j : json.Json) → of_json j ≡ x → (o : Option (json.Members × List Token)) → converted (λ ms. of_members ms found) (parse_map (json.member k j) o) ≡ option_and_then (λ d. converted (λ ms. of_members ms (put k d found)) o) x
+    one None j e None = refl
+    one (Some d) j e None = refl
+    one None j e (Some p) = rw e
+    one (Some d) j e (Some p) = rw e
 
 pub taken : (depth : ℕ) (found : Members) (k : List ℕ) (ts r : List Token) (d : Data) → next_value depth ts ≡ Some (d, r) → next_after depth found k ts ≡ next_members depth (put k d found) r
-taken depth found k ts r d e = ap (members_after depth found k) e
+taken depth found k ts r d e = ap (option_and_then (λ p. next_members depth (put k p.0 found) p.1)) e
 
 pub member_read : (depth : ℕ) (old : Members) (k : List ℕ) (ts s r : List Token) (d : Data) → read_key ts ≡ Some (Some k, s) → next_value depth s ≡ Some (d, r) → next_members depth old ts ≡ next_members depth (put k d old) r
 member_read depth old k ts s r d key e = named depth old k ts s key ∙ taken depth old k s r d e
 
 pub member_refused : (depth : ℕ) (old : Members) (k : List ℕ) (ts s : List Token) → read_key ts ≡ Some (Some k, s) → next_value depth s ≡ None → next_members depth old ts ≡ None
-member_refused depth old k ts s key e = named depth old k ts s key ∙ ap (members_after depth old k) e
+member_refused depth old k ts s key e = named depth old k ts s key ∙ ap (option_and_then (λ p. next_members depth (put k p.0 old) p.1)) e
 
 -- ---- only the tokens that are left
 

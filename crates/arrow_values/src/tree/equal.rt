@@ -1,10 +1,10 @@
 //! Equality: two data types, fields or lists of them are equal where all parts are, nested metadata and order included.
 ghost use Rattle.std.specs.Prelude.{◌≡◌, ◌&&◌, ◌↔◌, IsTrue};
 ghost use Rattle.std.specs.Ordering.{int_eq};
-ghost use Rattle.std.specs.Cmp.{partial_equiv_from_equiv};
+ghost use Rattle.std.specs.Cmp.{decided, partial_equiv_from_equiv};
 ghost use Rattle.std.proofs.lemmas.Cmp.{on_equiv};
 ghost use Rattle.arrow_values.specs.View.{tree, texts_of};
-ghost use Rattle.arrow_values.specs.Equal.{tree_eq, metadata_eq, field_eq, field_lists_eq, member_eq, member_lists_eq, tree_equivalence, field_equivalence, fields_equivalence, members_equivalence};
+ghost use Rattle.arrow_values.specs.Equal.{tree_eq, metadata_eq, field_eq, field_lists_eq, member_eq, member_lists_eq, tree_decides, field_decides, field_lists_decide, member_lists_decide};
 
 use crate::tree::name::same_name;
 use crate::tree::{DataType, Field, Fields, UnionFields};
@@ -13,7 +13,7 @@ use std::collections::BTreeMap;
 impl PartialEq for DataType {
     ghost eq = { λ a b. tree_eq (tree a) (tree b) };
 
-    ghost laws = { partial_equiv_from_equiv (on_equiv tree tree_equivalence) };
+    ghost laws = { partial_equiv_from_equiv (on_equiv tree (decided tree_eq tree_decides)) };
 
     #[tactic(auto, using(crate::specs::Equal::tree_decides))]
     fn eq(&self, other: &DataType) -> bool
@@ -25,13 +25,13 @@ impl PartialEq for DataType {
 }
 
 impl Eq for DataType {
-    ghost laws = { on_equiv tree tree_equivalence };
+    ghost laws = { on_equiv tree (decided tree_eq tree_decides) };
 }
 
 impl PartialEq for Field {
     ghost eq = { field_eq };
 
-    ghost laws = { partial_equiv_from_equiv field_equivalence };
+    ghost laws = { partial_equiv_from_equiv (decided field_eq field_decides) };
 
     #[tactic(auto, using(crate::specs::Equal::field_decides))]
     fn eq(&self, other: &Field) -> bool
@@ -43,13 +43,13 @@ impl PartialEq for Field {
 }
 
 impl Eq for Field {
-    ghost laws = { field_equivalence };
+    ghost laws = { decided field_eq field_decides };
 }
 
 impl PartialEq for Fields {
     ghost eq = { field_lists_eq };
 
-    ghost laws = { partial_equiv_from_equiv fields_equivalence };
+    ghost laws = { partial_equiv_from_equiv (decided field_lists_eq field_lists_decide) };
 
     #[tactic(auto, using(crate::specs::Equal::field_lists_decide))]
     fn eq(&self, other: &Fields) -> bool
@@ -61,13 +61,13 @@ impl PartialEq for Fields {
 }
 
 impl Eq for Fields {
-    ghost laws = { fields_equivalence };
+    ghost laws = { decided field_lists_eq field_lists_decide };
 }
 
 impl PartialEq for UnionFields {
     ghost eq = { member_lists_eq };
 
-    ghost laws = { partial_equiv_from_equiv members_equivalence };
+    ghost laws = { partial_equiv_from_equiv (decided member_lists_eq member_lists_decide) };
 
     #[tactic(auto, using(crate::specs::Equal::member_lists_decide))]
     fn eq(&self, other: &UnionFields) -> bool
@@ -79,10 +79,11 @@ impl PartialEq for UnionFields {
 }
 
 impl Eq for UnionFields {
-    ghost laws = { members_equivalence };
+    ghost laws = { decided member_lists_eq member_lists_decide };
 }
 
 #[cycle(equal)]
+#[tactic(auto, using(crate::proofs::Equal::same_lists))]
 fn same_type(a: &DataType, b: &DataType) -> bool
     ensures { result ≡ tree_eq (tree a.now) (tree b.now) }
 {
@@ -131,6 +132,7 @@ fn same_boxed(a: &Field, b: &Field) -> bool
 
 /// As `same_type`, with the three types first that most fields inside a layout have.
 #[cycle(equal)]
+#[tactic(auto, using(crate::proofs::Equal::same_lists))]
 #[inline(always)]
 fn same_inner(a: &DataType, b: &DataType) -> bool
     ensures { result ≡ tree_eq (tree a.now) (tree b.now) }

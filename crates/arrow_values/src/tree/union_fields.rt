@@ -2,7 +2,7 @@
 ghost use Rattle.std.specs.Prelude.{◌≡◌, ◌==◌, length, slice_get, option_map};
 ghost use Rattle.std.specs.Iterator.{YieldsFirstBy, item_count};
 ghost use Rattle.arrow_values.specs.View.{member_of_ref};
-ghost use Rattle.arrow_values.specs.UnionRest.{union_rest};
+ghost use Rattle.arrow_values.specs.Union.{union_rest};
 
 use crate::tree::{Field, UnionFields};
 

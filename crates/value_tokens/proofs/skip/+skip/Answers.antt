@@ -5,7 +5,7 @@ use Rattle.json.specs.Reads.{token_of}
 use Rattle.json.proofs.Grammar.{left-parse_map, read_key-shorter}
 use Rattle.serde_json.specs.Data.{array, object, no_members, put}
 use Rattle.value_tokens.specs.Next.{next_value, next_items, next_members, after}
-use Rattle.value_tokens.specs.Turns.{no_value, plain, value-array, value-object, after_some, value_takes, member_read, members_over, key_refused, member_refused}
+use Rattle.value_tokens.specs.Turns.{no_value, value-array, value-object, after_some, value_takes, member_read, members_over, key_refused, member_refused}
 use Rattle.value_tokens.proofs.Loops.{stopped}
 use Rattle.value_tokens.proofs.skip.+skip.Goals as goal
 
@@ -54,6 +54,3 @@ pub skip_rest-returns-else-depth-eq0-2-clause-ok : goal.skip_rest-returns-else-d
 skip_rest-returns-else-depth-eq0-2-clause-ok t c =
     let opened : next_value c.args.depth (token_of c.args.token ∷ c.args.reader.now) ≡ parse_map object (next_members (c.args.depth - 1) no_members c.args.reader.now) = grind (arith, value-object) in
     on_ok_weaker c.skip_members.result (λ e. ap after opened ∙ left-parse_map object _ ∙ e no_members) c.skip_members.ensures.ok
-
-pub skip_rest-returns-in-EndObject-clause-text : goal.skip_rest-returns-in-EndObject-clause-text
-skip_rest-returns-in-EndObject-clause-text t c refused = rw (plain c.args.depth (token_of c.args.token) c.args.reader.now) (grind arith)

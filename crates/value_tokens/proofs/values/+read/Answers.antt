@@ -1,17 +1,11 @@
 use Rattle.std.proofs.Common.{◌≡◌, [], ◌∷◌, Some, sym, ap, ◌∙◌, append_assoc, append-nil, arith}
 use Rattle.json.specs.Json.{parse_map, read_key}
-use Rattle.json.specs.Reads.{token_of}
 use Rattle.json.proofs.Grammar.{read_key-shorter}
 use Rattle.serde_json.specs.Data.{item}
 use Rattle.serde_json.specs.View.{view, items_view, members_view}
 use Rattle.value_tokens.specs.Next.{next_value, next_members}
-use Rattle.value_tokens.specs.Turns.{plain, value_takes, item_read, items_over, member_read}
+use Rattle.value_tokens.specs.Turns.{value_takes, item_read, items_over, member_read}
 use Rattle.value_tokens.proofs.values.+read.Goals as goal
-
-pub read_value-returns-in-EndObject-clause-text : goal.read_value-returns-in-EndObject-clause-text
-read_value-returns-in-EndObject-clause-text t c refused =
-    let first : c.args.reader.now ≡ token_of c.in_ok-token.token ∷ c.next.new.self = grind arith in
-    rw (first, plain c.args.depth (token_of c.in_ok-token.token) c.next.new.self) (grind arith)
 
 pub read_items-items-init : goal.read_items-items-init
 read_items-items-init t c = record { some = λ rest r e. rw c.new-found.ensures.items e; none = λ e. e; fewer = omega arith }

@@ -1,19 +1,8 @@
 use Rattle.std.proofs.Common.{arith, sym, ◌∙◌, ◌≡◌, false, get_or}
 use Rattle.std.proofs.lemmas.Bool.{and_left, and_right, not-true}
 use Rattle.arrow_values.specs.Equal.{member_eq}
-use Rattle.arrow_values.proofs.Equal.{mode_same, fields_same, members_same, pointwise_fails}
+use Rattle.arrow_values.proofs.Equal.{pointwise_fails}
 use Rattle.arrow_values.proofs.tree.equal.+equal.Goals as goal
-
-pub same_type-returns-in-Struct-Struct : goal.same_type-returns-in-Struct-Struct
-same_type-returns-in-Struct-Struct t c = rw (c.in-Struct-Struct.is-0, c.in-Struct-Struct.is-1) (c.same_fields.ensures ∙ fields_same c.in-Struct-Struct.fields c.in-Struct-Struct.others)
-
-pub same_type-returns-then-same_members : goal.same_type-returns-then-same_members
-same_type-returns-then-same_members t c =
-    rw (c.in-Union-Union.is-0, c.in-Union-Union.is-1, ← members_same c.in-Union-Union.members c.in-Union-Union.others, ← c.if-same_members.ensures) (c.eq.ensures ∙ mode_same c.in-Union-Union.mode c.in-Union-Union.other_mode)
-
-pub same_type-returns-else-same_members : goal.same_type-returns-else-same_members
-same_type-returns-else-same_members t c =
-    rw (c.in-Union-Union.is-0, c.in-Union-Union.is-1, ← members_same c.in-Union-Union.members c.in-Union-Union.others, ← c.if-same_members.ensures) c.if-same_members.false
 
 pub same_field-returns-then-a-b : goal.same_field-returns-then-a-b
 same_field-returns-then-a-b t c = rw (← c.a.view_is, ← c.b.view_is) (sym (and_left _ _ (and_right _ _ (not-true _ c.if-a-b.true))))
@@ -30,6 +19,3 @@ same_members-returns-then-not-same_member t c =
     sym (c.loop-i.invariant ∙ pointwise_fails member_eq c.args.a.now c.args.b.now c.loop-i.i m n
     (rw (← c.a.view_is) (omega (arith, c.loop-i-test.true, c.len-i-end.ensures)))
     (rw (← c.b.view_is) (omega (arith, c.loop-i-test.true, c.len-i-end.ensures, c.if-len.false, c.len.ensures, c.len-2.ensures))) h)
-
-pub same_inner-returns-in-Struct-Struct : goal.same_inner-returns-in-Struct-Struct
-same_inner-returns-in-Struct-Struct t c = rw (c.in-Struct-Struct.is-0, c.in-Struct-Struct.is-1) (c.same_fields.ensures ∙ fields_same c.in-Struct-Struct.fields c.in-Struct-Struct.others)
