@@ -1,5 +1,5 @@
 -- What stands at the three keys, as members are put in one after another.
-use Rattle.std.proofs.Common.{◌≡◌, List, false, bytes_eq, cond, Option, None, Some, option_map, codes, ◌∙◌, arith}
+use Rattle.std.proofs.Common.{◌≡◌, List, false, bytes_eq, cond, Option, None, Some, codes, ◌∙◌, arith}
 use Rattle.std.proofs.lemmas.Slice.Eq.{bytes_eq-Decides}
 use Rattle.json.specs.Token.{Token}
 use Rattle.json.specs.Json.{read_key}
