@@ -1,4 +1,5 @@
 pub mod Equality
+pub mod Codes
 pub mod Order
 pub mod ReadBack
 pub mod KeyedValues

@@ -8,7 +8,7 @@ use Rattle.geoarrow_meta.specs.declared.edges.Edges.{Edges}
 use Rattle.geoarrow_meta.specs.declared.crs.crs_type.CrsType.{CrsType}
 use Rattle.geoarrow_meta.specs.declared.metadata.Metadata.{Metadata}
 use Rattle.geoarrow_meta.specs.CrsValue.{IsCrsValue}
-use Rattle.geoarrow_meta.specs.Written.{of_parts, meta_value, normal, is_bare, written, IsReadBack, NestsWithin}
+use Rattle.geoarrow_meta.specs.Written.{of_parts, meta_value, normal, written, IsReadBack, NestsWithin}
 use Rattle.geoarrow_meta.specs.Read.{empty, present, some_has_float, Denotes, DenotesMetadata}
 use Rattle.geoarrow_meta.specs.Laws.{denotes_one}
 
@@ -20,7 +20,6 @@ there (Some _) h = (refl, h.1)
 
 of_written : (v : Option Data) (t : Option CrsType) (e : Option Edges) → IfSome v IsCrsValue → Denotes (written v t e) (of_parts v t e)
 of_written v None None h = record { is_object = refl; whole = (there v h).1; crs = (there v h).0; crs_type = refl; edges = refl }
-of_written v None (Some e) h = record { is_object = refl; whole = (there v h).1; crs = (there v h).0; crs_type = refl; edges = refl }
 of_written v (Some t) None h = record { is_object = refl; whole = (there v h).1; crs = (there v h).0; crs_type = refl; edges = refl }
 of_written v _ _ h = record { is_object = refl; whole = (there v h).1; crs = (there v h).0; crs_type = refl; edges = refl }
 
@@ -68,8 +67,3 @@ nests _ _ _ h = omega arith
 -- the value of a metadata with a CRS value nested at most 100 levels is nested no deeper than texts are read
 pub nests_within : (m : Metadata) → NestsWithin 100 m.crs.value → NestsWithin max_depth (meta_value m)
 nests_within m h = nests m.crs.value m.crs.crs_type m.edges h
-
--- unless it is bare, a metadata is written as the object of its parts
-pub meta_written : (v : Option Data) (t : Option CrsType) (e : Option Edges) → is_bare v e ≡ false → meta_value (of_parts v t e) ≡ Some (written v t e)
-meta_written None t None h = absurd (true≢false h)
-meta_written _ t e h = refl

@@ -1,39 +1,25 @@
--- JSON values have codes: trees of numbers, different ones of different values.
-use Rattle.std.specs.Prelude.{◌≡◌, ℕ, ℤ, Bool, Float, refl}
-use Rattle.std.specs.Coded.{Coded, coded×, coded_ℕ, coded_bool, coded_ℤ, coded_list}
+-- JSON values have codes: trees of numbers, different ones of different values. So two values are the same where their codes are.
+use Rattle.std.specs.Prelude.{◌≡◌, ◌==◌, ◌&&◌, Bool, true, false, refl}
+use Rattle.std.specs.Bool.{Decides}
+use Rattle.std.specs.Coded.{Coded, coded_ℕ, coded_bool, coded_ℤ, coded_list}
 use Rattle.std.proofs.Common.{ap, ap₂}
-use base.Stored.{Gv, gnil, gnum, gcons}
-use lib.Ieee.{nan, inf, fin}
+use Rattle.std.proofs.lemmas.Bool.Decides.{Decides-eqb, Decides-and, Decides-like}
+use base.Stored.{Gv, gnil, gnum, gcons, coded_float}
 use Rattle.arrow_values.specs.Tree.{Text}
 use Rattle.serde_json.specs.Data.{Num, unsigned, negative, float, Data, null, boolean, number, string, array, object, Items, no_items, item, Members, no_members, member}
 
-abbrev text_code : Coded Text
+abbrev pub text_code : Coded Text
 text_code = coded_list coded_ℕ
-
--- the parts of a finite float
-abbrev fin_code : Coded (Bool × (ℕ × ℤ))
-fin_code = coded× coded_bool (coded× coded_ℕ coded_ℤ)
-
-abbrev float_to : Float → Gv
-float_to nan = gnil
-float_to (inf s) = gcons gnil (coded_bool.code s)
-float_to (fin s m e) = gcons (gnum 0) (fin_code.code (s, (m, e)))
-
-float_inj : (x y : Float) → float_to x ≡ float_to y → x ≡ y
-float_inj nan nan p = refl
-float_inj (inf s) (inf t) p = ap inf (coded_bool.inj s t cc)
-float_inj (fin s m e) (fin t n f) p = ap (λ x. fin x.0 x.1.0 x.1.1) (fin_code.inj (s, (m, e)) (t, (n, f)) cc)
-float_inj _ _ p = cc
 
 abbrev num_to : Num → Gv
 num_to (unsigned n) = gnum n
 num_to (negative z) = gcons gnil (coded_ℤ.code z)
-num_to (float x) = gcons (gnum 0) (float_to x)
+num_to (float x) = gcons (gnum 0) (coded_float.code x)
 
 num_inj : (m n : Num) → num_to m ≡ num_to n → m ≡ n
 num_inj (unsigned m) (unsigned n) p = cc
 num_inj (negative y) (negative z) p = ap negative (coded_ℤ.inj y z cc)
-num_inj (float x) (float y) p = ap float (float_inj x y cc)
+num_inj (float x) (float y) p = ap float (coded_float.inj x y cc)
 num_inj _ _ p = cc
 
 -- a JSON value by its sort and its parts
@@ -80,3 +66,28 @@ mutual
 
 abbrev pub data_code : Coded Data
 data_code = record { code = data_to; inj = data_inj }
+
+-- whether both trees of numbers are the same
+abbrev pub same_tree : Gv → Gv → Bool
+same_tree gnil gnil = true
+same_tree (gnum m) (gnum n) = m == n
+same_tree (gcons a b) (gcons c d) = same_tree a c && same_tree b d
+same_tree _ _ = false
+
+same_tree-Decides : (a b : Gv) → Decides (same_tree a b) (a ≡ b)
+same_tree-Decides gnil gnil = (λ h. refl, λ p. refl)
+same_tree-Decides (gnum m) (gnum n) = Decides-like _ (λ p. ap gnum p) (λ p. cc) (Decides-eqb m n)
+same_tree-Decides (gcons a b) (gcons c d) =
+    Decides-like _ (λ p. ap₂ gcons p.0 p.1) (λ p. (cc, cc)) (Decides-and _ _ (same_tree-Decides a c) (same_tree-Decides b d))
+same_tree-Decides _ _ = (λ h. cc, λ p. cc)
+
+-- a value of any kind that has codes is the same where its code is
+pub same_code : {A : Type 0} (c : Coded A) (x y : A) → Decides (same_tree (c.code x) (c.code y)) (x ≡ y)
+same_code c x y = Decides-like _ (c.inj x y) (λ p. ap c.code p) (same_tree-Decides _ _)
+
+-- whether both are the same JSON value
+abbrev pub same : Data → Data → Bool
+same d e = same_tree (data_code.code d) (data_code.code e)
+
+pub same-Decides : (d e : Data) → Decides (same d e) (d ≡ e)
+same-Decides = same_code data_code

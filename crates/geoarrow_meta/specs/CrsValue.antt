@@ -6,7 +6,7 @@ use Rattle.std.specs.Cmp.{IsEquivalence, IsPartialEquivalence, decided, partial_
 use Rattle.serde_json.specs.Data.{Data, null, boolean, number, string, array, object}
 use Rattle.serde_json.specs.Find.{as_null}
 use Rattle.serde_json.specs.Written.{has_float}
-use Rattle.geoarrow_meta.specs.Same.{same, same-Decides}
+use Rattle.geoarrow_meta.specs.Code.{same, same-Decides}
 
 -- a CRS can have the value: it is not null, and its numbers are whole at any depth
 abbrev pub IsCrsValue : Data → Type 0

@@ -1,5 +1,6 @@
 -- The values of the three keys of a metadata's object, whatever numbers its CRS holds.
 use Rattle.std.specs.Prelude.{◌≡◌, codes, Option, None, Some, IsSome, option_map}
+use Rattle.std.specs.Borrow.{Bor}
 use Rattle.serde_json.specs.Data.{Data, string}
 use Rattle.serde_json.specs.Find.{as_object}
 use Rattle.serde_json.specs.View.{view}
@@ -8,20 +9,16 @@ use Rattle.arrow_values.specs.Tree.{Text}
 use Rattle.geoarrow_meta.specs.declared.edges.Edges.{Edges}
 use Rattle.geoarrow_meta.specs.declared.crs.crs_type.CrsType.{CrsType}
 use Rattle.geoarrow_meta.specs.declared.metadata.key_values.KeyValues.{KeyValues}
-use Rattle.geoarrow_meta.specs.declared.metadata.key_values.Word.{Word}
-use Rattle.geoarrow_meta.specs.declared.metadata.key_values.Word.TheVariants.{Absent, Text as Said, Other}
 use Rattle.geoarrow_meta.specs.Read.{crs_type_data, edges_data, at_key}
-
--- the word says what was found: nothing, a text, or another value
-abbrev pub IsWord : Word → Option Data → Type 0
-IsWord Absent found = found ≡ None
-IsWord (Said s) found = found ≡ Some (string s.now)
-IsWord Other found = (o : Option Text) → ¬ (option_map string o ≡ found)
 
 -- `Some` says what was found: a value that is written so, or nothing; `None` says that it was something else
 abbrev pub IsNamed : {A : Type 0} → (A → Data) → Option (Option A) → Option Data → Type 0
 IsNamed written (Some a) found = option_map written a ≡ found
 IsNamed {A} written None found = (a : Option A) → ¬ (option_map written a ≡ found)
+
+-- the same of a text
+abbrev pub IsWord : Option (Option (Bor Text)) → Option Data → Type 0
+IsWord word = IsNamed string (option_map (option_map (λ s. s.now)) word)
 
 -- these were found at the three keys of the value
 pub record AreValuesOf (d : Data) (crs : Option Data) (crs_type : Option (Option CrsType)) (edges : Option (Option Edges)) : Type 0 where

@@ -1,5 +1,4 @@
 pub mod Code
-pub mod Same
 pub mod CrsValue
 pub mod Read
 pub mod Written

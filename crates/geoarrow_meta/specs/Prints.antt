@@ -1,12 +1,9 @@
--- The tokens of a metadata's object.
+-- The tokens of a member that is a text.
 use Rattle.std.specs.Prelude.{List, [], ◌∷◌, Option, None, Some}
-use Rattle.json.specs.Token.{Token, key}
-use Rattle.json.specs.Tree.{json_tokens}
-use Rattle.serde_json.specs.Data.{Data}
-use Rattle.serde_json.specs.Written.{outline}
+use Rattle.json.specs.Token.{Token, key, string}
 use Rattle.arrow_values.specs.Tree.{Text}
 
--- the tokens of a key and its value, if there is a value
-abbrev pub some_tokens : Text → Option Data → List Token
-some_tokens k None = []
-some_tokens k (Some d) = key k ∷ json_tokens (outline d)
+-- the tokens of a key and its text, if there is one
+abbrev pub text_tokens : Text → Option Text → List Token
+text_tokens k None = []
+text_tokens k (Some s) = key k ∷ string s ∷ []

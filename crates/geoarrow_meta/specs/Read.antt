@@ -99,27 +99,8 @@ TextRefusedAs (Some s) (ExternalError' p (Crs t)) = (d : Data) × (read s ≡ So
 TextRefusedAs (Some s) (ExternalError' p (External t)) = ((d : Data) → read s ≡ Some d → ¬ HasFloat d) × ((m : Metadata) → ¬ DenotesMetadata (Some s) m)
 TextRefusedAs (Some s) _ = ⊥
 
--- ---- errors by variant
-
--- the error is a `Crs`, or out of memory
-abbrev pub IsCrsOrMemory : GeoArrowError → Type 0
-IsCrsOrMemory (Arrow a) = IsMemory a
-IsCrsOrMemory (Crs s) = ⊤
-IsCrsOrMemory _ = ⊥
-
 -- the error is an `External`, or out of memory
 abbrev pub IsExternalOrMemory : GeoArrowError → Type 0
 IsExternalOrMemory (Arrow a) = IsMemory a
 IsExternalOrMemory (External s) = ⊤
 IsExternalOrMemory _ = ⊥
-
--- the error is an `External`
-abbrev pub IsExternal : GeoArrowError → Type 0
-IsExternal (External s) = ⊤
-IsExternal _ = ⊥
-
--- the error is out of memory; or, if P does not hold, an `ExternalError` of an `External`
-abbrev pub MeansUnread : Type 0 → ArrowError → Type 0
-MeansUnread P OutOfMemory = ⊤
-MeansUnread P (ExternalError' p g) = ¬ P × IsExternal g
-MeansUnread P _ = ⊥

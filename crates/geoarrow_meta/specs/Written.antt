@@ -1,7 +1,7 @@
 -- Which JSON value a metadata is written as (GeoArrow, "Extension metadata"), and its normal form.
-use Rattle.std.specs.Prelude.{◌≡◌, ◌≤◌, ℕ, codes, Bool, true, false, Option, None, Some, option_map, unwrap_or, ⊤}
+use Rattle.std.specs.Prelude.{◌≡◌, ◌≤◌, ℕ, codes, ◌&&◌, Bool, if◌then◌else◌, Option, None, Some, is_none, option_map, unwrap_or, ⊤}
 use Rattle.arrow_values.specs.Tree.{Text}
-use Rattle.serde_json.specs.Data.{Data, null, object, Members, no_members, member, put, depth}
+use Rattle.serde_json.specs.Data.{Data, null, object, Members, no_members, member, depth}
 use Rattle.serde_json.specs.Read.{read}
 use Rattle.serde_json.specs.Written.{compact_text}
 use Rattle.geoarrow_meta.specs.declared.edges.Edges.{Edges}
@@ -18,30 +18,17 @@ abbrev pub with_some : Text → Option Data → Members → Members
 with_some k None ms = ms
 with_some k (Some d) ms = member k d ms
 
--- the members, with a new one put among them if there is a value for it
-abbrev pub put_some : Text → Option Data → Members → Members
-put_some k None ms = ms
-put_some k (Some d) ms = put k d ms
-
 -- the object with `crs`, which is null if there is none, with `crs_type` if there is one, and with `edges` if there are any
 abbrev pub written : Option Data → Option CrsType → Option Edges → Data
 written v t e = object (member (codes "crs") (unwrap_or v null) (with_some (codes "crs_type") (option_map crs_type_data t) (with_some (codes "edges") (option_map edges_data e) no_members)))
 
 -- whether there is neither a CRS value nor edges
 abbrev pub is_bare : Option Data → Option Edges → Bool
-is_bare None None = true
-is_bare None (Some e) = false
-is_bare (Some d) e = false
+is_bare v e = is_none v && is_none e
 
--- that object, but nothing if there is neither a CRS value nor edges
-abbrev written_unless : Option Data → Option CrsType → Option Edges → Option Data
-written_unless None t None = None
-written_unless None t (Some e) = Some (written None t (Some e))
-written_unless (Some v) t e = Some (written (Some v) t e)
-
--- the JSON value that the metadata is written as, if any
+-- the JSON value that the metadata is written as: that object, but nothing if there is neither a CRS value nor edges
 abbrev pub meta_value : Metadata → Option Data
-meta_value m = written_unless m.crs.value m.crs.crs_type m.edges
+meta_value m = if is_bare m.crs.value m.edges then None else Some (written m.crs.value m.crs.crs_type m.edges)
 
 -- the text that the metadata is written as: the compact text of that value
 abbrev pub printed : Metadata → Option Text
@@ -49,14 +36,12 @@ printed m = option_map compact_text (meta_value m)
 
 -- the CRS type, but none if there is neither a CRS value nor edges
 abbrev pub type_unless : Option Data → Option CrsType → Option Edges → Option CrsType
-type_unless None t None = None
-type_unless None t (Some e) = t
-type_unless (Some v) t e = t
+type_unless v t e = if is_bare v e then None else t
 
 -- the normal form: the metadata without its CRS type if there is neither a CRS value nor edges, otherwise the metadata
 -- itself
 abbrev pub normal : Metadata → Metadata
-normal m = record { crs = record { value = m.crs.value; crs_type = type_unless m.crs.value m.crs.crs_type m.edges }; edges = m.edges }
+normal m = of_parts m.crs.value (type_unless m.crs.value m.crs.crs_type m.edges) m.edges
 
 -- `serde_json` reads the printed value back as that value
 abbrev pub IsReadBack : Option Data → Type 0

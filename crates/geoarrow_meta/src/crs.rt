@@ -9,7 +9,7 @@ ghost use Rattle.geoarrow_meta.specs.CrsValue.{IsCrsValue};
 mod crs_type;
 mod value;
 
-use crate::walks::{holds_whole_numbers, is_same};
+use crate::walks::{holds_whole_numbers, same_value};
 pub use crs_type::CrsType;
 use serde_json::Value;
 use std::alloc::{AllocError, Global};
@@ -167,7 +167,7 @@ impl Crs {
         let theirs = other.crs_value();
         match (mine, theirs) {
             (None, None) => true,
-            (Some(a), Some(b)) => is_same(a, b),
+            (Some(a), Some(b)) => same_value(a, b),
             _ => false,
         }
     }

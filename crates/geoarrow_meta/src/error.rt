@@ -1,7 +1,10 @@
 //! The errors with which a metadata is refused.
-ghost use Rattle.std.specs.Prelude.{◌≡◌, ◌⊎◌};
+ghost use Rattle.std.specs.Prelude.{◌≡◌, ◌⊎◌, Some, None};
 ghost use Rattle.arrow_values.specs.Errors.{IsMemory as IsArrowMemory, IsArrowFormOf};
-ghost use Rattle.geoarrow_meta.specs.Read.{IsCrsOrMemory, IsExternalOrMemory, MeansUnread};
+ghost use Rattle.arrow_values.specs.Tree.{Text};
+ghost use Rattle.serde_json.specs.Data.{Data};
+ghost use Rattle.serde_json.specs.Read.{read};
+ghost use Rattle.geoarrow_meta.specs.Read.{HasFloat, RefusedAs, TextRefusedAs, IsExternalOrMemory};
 
 use arrow_values::{ArrowError, GeoArrowError};
 use std::alloc::Global;
@@ -9,7 +12,7 @@ use value_tokens::Refusal;
 
 // A `Crs` error of that text; out-of-memory where there is none for the text.
 pub(crate) fn crs_fault(alloc: Global, text: &str) -> GeoArrowError
-    ensures { IsCrsOrMemory result }
+    ensures { (d : Data) → HasFloat d → RefusedAs d result }
 {
     match String::from_str(alloc, text) {
         Ok(message) => GeoArrowError::Crs(message),
@@ -39,7 +42,9 @@ pub(crate) fn into_external(alloc: Global, error: GeoArrowError) -> ArrowError
 
 // What is answered for a text that was not read.
 pub(crate) fn unread(alloc: Global, refusal: Refusal) -> ArrowError
-    ensures { MeansUnread (refusal ≡ Refusal.Memory) result }
+    ensures memory { IsArrowMemory result ⊎ (refusal ≡ Refusal.Text) }
+    ensures refused { (s : Text) → (refusal ≡ Refusal.Text → read s ≡ None)
+        → TextRefusedAs (Some s) result }
 {
     match refusal {
         Refusal::Memory => ArrowError::OutOfMemory,

@@ -1,9 +1,10 @@
 //! Walks over JSON values: whether their numbers are whole, and whether two of them are the same.
-ghost use Rattle.std.specs.Prelude.{◌≡◌, ◌↔◌, IsTrue, not, true, false};
+ghost use Rattle.std.specs.Prelude.{◌≡◌, not, true, false};
+ghost use Rattle.serde_json.specs.Data.{number, array, object};
 ghost use Rattle.serde_json.specs.View.{view, number_view, items_view, members_view};
 ghost use Rattle.serde_json.specs.Find.{is_float};
 ghost use Rattle.serde_json.specs.Written.{has_float, items_have_float, members_have_float};
-ghost use Rattle.geoarrow_meta.specs.Same.{same, same_items, same_members, same_num};
+ghost use Rattle.geoarrow_meta.specs.Code.{same};
 ghost use Rattle.geoarrow_meta.specs.Whole.{is_integer, is_whole, items_are_whole, members_are_whole};
 
 use serde_json::{Map, Number, Value};
@@ -78,19 +79,11 @@ pub(crate) fn same_value(a: &Value, b: &Value) -> bool
     }
 }
 
-// Whether two values whose numbers are whole are equal.
-pub(crate) fn is_same(a: &Value, b: &Value) -> bool
-    requires first { has_float (view a.now) ≡ false }
-    requires second { has_float (view b.now) ≡ false }
-    ensures { IsTrue result ↔ (view a.now ≡ view b.now) }
-{
-    same_value(a, b)
-}
-
+#[tactic(auto, using(crate::proofs::Codes::codes))]
 fn same_number(a: &Number, b: &Number) -> bool
     requires first { is_float (number_view a.now) ≡ false }
     requires second { is_float (number_view b.now) ≡ false }
-    ensures { result ≡ same_num (number_view a.now) (number_view b.now) }
+    ensures { result ≡ same (number (number_view a.now)) (number (number_view b.now)) }
 {
     match (a.as_u64(), b.as_u64()) {
         (Some(x), Some(y)) => x == y,
@@ -103,14 +96,11 @@ fn same_number(a: &Number, b: &Number) -> bool
 fn same_arrays(a: &Vec<Value>, b: &Vec<Value>) -> bool
     requires first { items_have_float (items_view a.now.items) ≡ false }
     requires second { items_have_float (items_view b.now.items) ≡ false }
-    ensures { result ≡ same_items (items_view a.now.items) (items_view b.now.items) }
+    ensures { result ≡ same (array (items_view a.now.items)) (array (items_view b.now.items)) }
 {
     let mut others = b.iter();
     for x in a.iter() {
-        let Some(y) = others.next() else {
-            return false;
-        };
-        if !same_value(x, y) {
+        if !matches!(others.next(), Some(y) if same_value(x, y)) {
             return false;
         }
     }
@@ -118,17 +108,15 @@ fn same_arrays(a: &Vec<Value>, b: &Vec<Value>) -> bool
 }
 
 #[cycle(same)]
+#[tactic(auto, using(crate::proofs::Codes::codes))]
 fn same_objects(a: &Map<String, Value>, b: &Map<String, Value>) -> bool
     requires first { members_have_float (members_view a.now.entries) ≡ false }
     requires second { members_have_float (members_view b.now.entries) ≡ false }
-    ensures { result ≡ same_members (members_view a.now.entries) (members_view b.now.entries) }
+    ensures { result ≡ same (object (members_view a.now.entries)) (object (members_view b.now.entries)) }
 {
     let mut others = b.iter();
     for (key, x) in a.iter() {
-        let Some((name, y)) = others.next() else {
-            return false;
-        };
-        if key.as_str() != name.as_str() || !same_value(x, y) {
+        if !matches!(others.next(), Some((name, y)) if key == name && same_value(x, y)) {
             return false;
         }
     }

@@ -58,7 +58,7 @@ impl CrsValue {
 }
 
 impl PartialEq for CrsValue {
-    ghost use Rattle.geoarrow_meta.specs.Same.{same};
+    ghost use Rattle.geoarrow_meta.specs.Code.{same};
     ghost use Rattle.geoarrow_meta.specs.CrsValue.{same-per};
 
     ghost eq = { same };

@@ -1,6 +1,6 @@
 //! The values of the three keys of a metadata's JSON object.
 ghost use Rattle.std.specs.Prelude.{◌≡◌, Option, IfOk, option_map};
-ghost use Rattle.serde_json.specs.Data.{Data, string};
+ghost use Rattle.serde_json.specs.Data.{Data};
 ghost use Rattle.serde_json.specs.View.{view};
 ghost use Rattle.geoarrow_meta.specs.Read.{crs_type_data, edges_data, at_key};
 ghost use Rattle.geoarrow_meta.specs.KeyValues.{IsWord, IsNamed, AreValuesOf};
@@ -20,26 +20,6 @@ pub struct KeyValues<V> {
     pub crs_type: Option<Option<CrsType>>,
     /// The value of `edges`.
     pub edges: Option<Option<Edges>>,
-}
-
-// A value that should be a text, null as absent.
-#[derive(Clone, Copy, Drop)]
-pub(crate) enum Word<'a> {
-    Absent,
-    Text(&'a str),
-    Other,
-}
-
-impl<'a> Word<'a> {
-    // The word that is that text, or absent.
-    pub(crate) fn of(text: Option<&'a str>) -> Word<'a>
-        ensures { IsWord result (option_map (λ t. string t.now) text.entry) }
-    {
-        match text {
-            Some(text) => Word::Text(text),
-            None => Word::Absent,
-        }
-    }
 }
 
 // The values of the three keys of a JSON value. Errs only when out of memory.
@@ -66,42 +46,34 @@ fn present_at<'v>(value: &'v Value, key: &str) -> Option<&'v Value>
     }
 }
 
-fn word_at<'v>(value: &'v Value, key: &str) -> Word<'v>
+// The text at the key, or its absence; none where another value stands there.
+fn word_at<'v>(value: &'v Value, key: &str) -> Option<Option<&'v str>>
     ensures { IsWord result (at_key key.now (view value.now)) }
 {
     match present_at(value, key) {
-        None => Word::Absent,
-        Some(found) => match found.as_str() {
-            Some(text) => Word::Text(text),
-            None => Word::Other,
-        },
+        None => Some(None),
+        Some(found) => Some(Some(found.as_str()?)),
     }
 }
 
 // The CRS type, or its absence, that is written so; none where none is.
-pub(crate) fn crs_type_of(word: Word<'_>) -> Option<Option<CrsType>>
+pub(crate) fn crs_type_of(word: Option<Option<&str>>) -> Option<Option<CrsType>>
     ensures { (found : Option Data) → IsWord word.entry found → IsNamed crs_type_data result found }
 {
     match word {
-        Word::Absent => Some(None),
-        Word::Text(text) => match CrsType::from_text(text) {
-            Some(crs_type) => Some(Some(crs_type)),
-            None => None,
-        },
-        Word::Other => None,
+        None => None,
+        Some(None) => Some(None),
+        Some(Some(text)) => Some(Some(CrsType::from_text(text)?)),
     }
 }
 
 // The edges, or their absence, that are written so; none where none are.
-pub(crate) fn edges_of(word: Word<'_>) -> Option<Option<Edges>>
+pub(crate) fn edges_of(word: Option<Option<&str>>) -> Option<Option<Edges>>
     ensures { (found : Option Data) → IsWord word.entry found → IsNamed edges_data result found }
 {
     match word {
-        Word::Absent => Some(None),
-        Word::Text(text) => match Edges::from_text(text) {
-            Some(edges) => Some(Some(edges)),
-            None => None,
-        },
-        Word::Other => None,
+        None => None,
+        Some(None) => Some(None),
+        Some(Some(text)) => Some(Some(Edges::from_text(text)?)),
     }
 }

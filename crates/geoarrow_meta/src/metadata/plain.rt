@@ -5,7 +5,7 @@ ghost use Rattle.serde_json.specs.Data.{Data, Members, object, string};
 ghost use Rattle.serde_json.specs.Read.{read};
 ghost use Rattle.geoarrow_meta.specs.KeyValues.{AreValuesOf, Finds};
 
-use crate::metadata::key_values::{KeyValues, Word, crs_type_of, edges_of};
+use crate::metadata::key_values::{KeyValues, crs_type_of, edges_of};
 use crate::metadata::plain_members::{NotPlain, PlainMembers};
 use serde_json::Value;
 use std::alloc::{AllocError, Global};
@@ -35,7 +35,7 @@ pub(crate) fn plain_values(
 // Those values, with the text of a CRS where it is in the metadata text.
 fn take_members<'a>(text: &'a str) -> Result<KeyValues<&'a str>, NotPlain>
     ensures { IfOk result (λ s. (ms : Members) × (read text.entry.now ≡ Some (object ms))
-        × AreValuesOf (object ms) (option_map (λ t. string t.now) s.crs) s.crs_type s.edges) }
+        × AreValuesOf (object ms) (option_map string (option_map (λ t. t.now) s.crs)) s.crs_type s.edges) }
 {
     let mut members = PlainMembers::new(text)?;
     let mut crs = None;
@@ -44,8 +44,8 @@ fn take_members<'a>(text: &'a str) -> Result<KeyValues<&'a str>, NotPlain>
     'values: while let Some((key, word)) = members.next()? {
         match key {
             "crs" => crs = word,
-            "crs_type" => crs_type = crs_type_of(Word::of(word)),
-            "edges" => edges = edges_of(Word::of(word)),
+            "crs_type" => crs_type = crs_type_of(Some(word)),
+            "edges" => edges = edges_of(Some(word)),
             _ => {}
         }
     }

@@ -27,18 +27,19 @@ pub(crate) struct PlainMembers<'a> {
 }
 
 impl<'a> Model for PlainMembers<'a> {
-    ghost use Rattle.std.specs.Prelude.{List};
+    ghost use Rattle.std.specs.Prelude.{◌≤◌, List, length};
+    ghost use Rattle.std.specs.Str.{IsUtf8};
     ghost use Rattle.json.specs.Token.{Token, tokens_code};
 
     ghost Value = { List Token };
 
     ghost coded = { tokens_code };
 
-    ghost use Rattle.geoarrow_meta.specs.PlainTokens.{tokens_left, ArePlainMembers};
+    ghost use Rattle.geoarrow_meta.specs.PlainTokens.{tokens_left};
 
     ghost view = { λ a. tokens_left a.after_member a.text.now a.at };
 
-    ghost invariant = { λ a. ArePlainMembers a };
+    ghost invariant = { λ a. IsUtf8 a.text.now × (a.at ≤ length a.text.now) };
 }
 
 impl<'a> PlainMembers<'a> {

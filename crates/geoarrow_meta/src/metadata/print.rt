@@ -1,12 +1,11 @@
 //! The JSON object that a metadata is written as, printed with no JSON value between.
-ghost use Rattle.std.specs.Prelude.{◌≡◌, false, codes, IfSome, OnOk, option_map, unwrap_or};
+ghost use Rattle.std.specs.Prelude.{◌≡◌, false, IfSome, OnOk, option_map, unwrap_or};
 ghost use Rattle.serde_json.specs.Data.{null};
 ghost use Rattle.serde_json.specs.View.{view};
 ghost use Rattle.serde_json.specs.Written.{has_float};
 ghost use Rattle.value_tokens.specs.Adds.{Adds, Prints};
-ghost use Rattle.geoarrow_meta.specs.Prints.{some_tokens};
+ghost use Rattle.geoarrow_meta.specs.Prints.{text_tokens};
 ghost use Rattle.geoarrow_meta.specs.Written.{written};
-ghost use Rattle.geoarrow_meta.specs.Read.{crs_type_data, edges_data};
 
 use crate::crs::CrsType;
 use crate::edges::Edges;
@@ -29,8 +28,8 @@ pub(crate) fn print_parts(
     out.begin_object()?;
     out.key("crs")?;
     print_crs(value, out)?;
-    print_crs_type(crs_type, out)?;
-    print_edges(edges, out)?;
+    print_text("crs_type", crs_type.map(CrsType::as_text), out)?;
+    print_text("edges", edges.map(Edges::as_text), out)?;
     out.end_object()
 }
 
@@ -45,24 +44,13 @@ fn print_crs(value: Option<&Value>, out: &mut Writer) -> Result<(), AllocError>
     }
 }
 
-fn print_crs_type(crs_type: Option<CrsType>, out: &mut Writer) -> Result<(), AllocError>
-    ensures { OnOk result (Adds (some_tokens (codes "crs_type") (option_map crs_type_data crs_type))
-        out.old out.new) }
+// Prints a text at the key, if there is one.
+fn print_text(key: &str, text: Option<&str>, out: &mut Writer) -> Result<(), AllocError>
+    ensures { OnOk result (Adds (text_tokens key.now (option_map (λ t. t.now) text.entry)) out.old out.new) }
 {
-    if let Some(crs_type) = crs_type {
-        out.key("crs_type")?;
-        return out.string(crs_type.as_text());
-    }
-    Ok(())
-}
-
-fn print_edges(edges: Option<Edges>, out: &mut Writer) -> Result<(), AllocError>
-    ensures { OnOk result (Adds (some_tokens (codes "edges") (option_map edges_data edges))
-        out.old out.new) }
-{
-    if let Some(edges) = edges {
-        out.key("edges")?;
-        return out.string(edges.as_text());
+    if let Some(text) = text {
+        out.key(key)?;
+        return out.string(text);
     }
     Ok(())
 }

@@ -7,7 +7,7 @@ ghost use Rattle.value_tokens.specs.Next.{next_value, next_members, ReadsValue};
 ghost use Rattle.geoarrow_meta.specs.Read.{present};
 ghost use Rattle.geoarrow_meta.specs.KeyValues.{IsWord, AreValuesOf, Finds};
 
-use crate::metadata::key_values::{KeyValues, Word, crs_type_of, edges_of};
+use crate::metadata::key_values::{KeyValues, crs_type_of, edges_of};
 use crate::metadata::plain::plain_values;
 use json::{Reader, Scratch, Token};
 use serde_json::Value;
@@ -106,19 +106,19 @@ fn take_crs(alloc: Global, reader: &mut Reader<'_>, depth: usize) -> Result<Opti
     Ok(Some(value))
 }
 
-// The word that comes next. Allocates nothing.
-fn take_word<'a>(reader: &mut Reader<'a>, depth: usize) -> Result<Word<'a>, Refusal>
+// The text that comes next, null as absent; none where another value comes. Allocates nothing.
+fn take_word<'a>(reader: &mut Reader<'a>, depth: usize) -> Result<Option<Option<&'a str>>, Refusal>
     ensures ok { IfOk result (λ w. (d : Data) × (next_value depth reader.old ≡ Some (d, reader.new)) × IsWord w (present (Some d))) }
     ensures shorter { OnOk result (length reader.new < length reader.old) }
     ensures text { result ≡ Err Refusal.Text → next_value depth reader.old ≡ None }
 {
     let token = reader.next().ok_or(Refusal::Text)?;
     match token {
-        Token::String(text) => Ok(Word::Text(text)),
-        Token::Null => Ok(Word::Absent),
+        Token::String(text) => Ok(Some(Some(text))),
+        Token::Null => Ok(Some(None)),
         other => {
             skip_rest(other, reader, depth)?;
-            Ok(Word::Other)
+            Ok(None)
         }
     }
 }

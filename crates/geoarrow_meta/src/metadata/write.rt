@@ -1,8 +1,8 @@
 //! The JSON object that a metadata is written as.
-ghost use Rattle.std.specs.Prelude.{◌≡◌, codes, IfOk, OnOk, option_map};
+ghost use Rattle.std.specs.Prelude.{◌≡◌, IfOk, OnOk, MatchOption, option_map};
+ghost use Rattle.serde_json.specs.Data.{string, put};
 ghost use Rattle.serde_json.specs.View.{view, members_view};
-ghost use Rattle.geoarrow_meta.specs.Written.{written, put_some};
-ghost use Rattle.geoarrow_meta.specs.Read.{crs_type_data, edges_data};
+ghost use Rattle.geoarrow_meta.specs.Written.{written};
 
 use crate::crs::CrsType;
 use crate::edges::Edges;
@@ -25,37 +25,29 @@ pub(crate) fn written_value(
         None => Value::Null,
     };
     serde_json::put(&mut members, alloc, "crs", crs)?;
-    put_crs_type(&mut members, alloc, crs_type)?;
-    put_edges(&mut members, alloc, edges)?;
+    put_text(
+        &mut members,
+        alloc,
+        "crs_type",
+        crs_type.map(CrsType::as_text),
+    )?;
+    put_text(&mut members, alloc, "edges", edges.map(Edges::as_text))?;
     Ok(Value::Object(members))
 }
 
-fn put_crs_type(
+// Puts a text at the key, if there is one.
+fn put_text(
     members: &mut Map<String, Value>,
     alloc: Global,
-    crs_type: Option<CrsType>,
+    key: &str,
+    text: Option<&str>,
 ) -> Result<(), AllocError>
-    ensures { OnOk result (members_view members.new.entries ≡ put_some (codes "crs_type")
-        (option_map crs_type_data crs_type) (members_view members.old.entries)) }
+    ensures { OnOk result (MatchOption text.entry (members_view members.new.entries ≡ members_view members.old.entries)
+        (λ t. members_view members.new.entries ≡ put key.now (string t.now) (members_view members.old.entries))) }
 {
-    if let Some(crs_type) = crs_type {
-        let text = Value::try_from_str(alloc, crs_type.as_text())?;
-        serde_json::put(members, alloc, "crs_type", text)?;
-    }
-    Ok(())
-}
-
-fn put_edges(
-    members: &mut Map<String, Value>,
-    alloc: Global,
-    edges: Option<Edges>,
-) -> Result<(), AllocError>
-    ensures { OnOk result (members_view members.new.entries ≡ put_some (codes "edges")
-        (option_map edges_data edges) (members_view members.old.entries)) }
-{
-    if let Some(edges) = edges {
-        let text = Value::try_from_str(alloc, edges.as_text())?;
-        serde_json::put(members, alloc, "edges", text)?;
+    if let Some(text) = text {
+        let text = Value::try_from_str(alloc, text)?;
+        serde_json::put(members, alloc, key, text)?;
     }
     Ok(())
 }

@@ -1,21 +1,22 @@
 use Rattle.std.proofs.Common.{◌≡◌, false, drop}
 use Rattle.std.specs.Slice.Iter.{iter_rest}
+use Rattle.serde_json.specs.Data.{array, object}
 use Rattle.serde_json.specs.View.{items_view, members_view}
 use Rattle.serde_json.specs.Written.{items_have_float, members_have_float}
-use Rattle.geoarrow_meta.specs.Same.{same_items, same_members}
+use Rattle.geoarrow_meta.specs.Code.{same}
 use Rattle.geoarrow_meta.proofs.walks.+same.Given as goal
 
 -- what is left on either side decides
 abbrev pub invariant-same_arrays-loop-x : goal.invariant-same_arrays-loop-x
 invariant-same_arrays-loop-x l = record {
-  decides : same_items (items_view l.a.items) (items_view l.b.items) ≡ same_items (items_view (drop l.x-index l.x-items)) (items_view (iter_rest l.others));
+  decides : same (array (items_view l.a.items)) (array (items_view l.b.items)) ≡ same (array (items_view (drop l.x-index l.x-items))) (array (items_view (iter_rest l.others)));
   first : items_have_float (items_view (drop l.x-index l.x-items)) ≡ false;
   second : items_have_float (items_view (iter_rest l.others)) ≡ false;
 }
 
 abbrev pub invariant-same_objects-loop-key : goal.invariant-same_objects-loop-key
 invariant-same_objects-loop-key l = record {
-  decides : same_members (members_view l.a.entries) (members_view l.b.entries) ≡ same_members (members_view l.key-iterator) (members_view l.others);
+  decides : same (object (members_view l.a.entries)) (object (members_view l.b.entries)) ≡ same (object (members_view l.key-iterator)) (object (members_view l.others));
   first : members_have_float (members_view l.key-iterator) ≡ false;
   second : members_have_float (members_view l.others) ≡ false;
 }
