@@ -1,5 +1,5 @@
 -- Sets of bits, and what one reading adds to them.
-use Rattle.geoarrow_layout.proofs.Terms.{◌≡◌, ◌↔◌, ◌<◌, ◌⊎◌, ◌*◌, ◌%◌, ◌^◌, inl, inr, ℕ, sym, ap, subst, ◌∙◌, ◌≤◌, true, false, ℤ, pos, Ok, Err, refl, arith, bit_at, bit_or, bit_at_set_same, bit_at_set_other, bit_at-zero, cases_eq, ltb-true, ltb-false, bits, place_of, CoordOf, DimensionOf, CoordType, Dimension, LayoutFault, order_of, pos_same, negsuc, nat_abs, lt_z}
+use Rattle.geoarrow_layout.proofs.Terms.{◌≡◌, ◌↔◌, ◌<◌, ◌⊎◌, ◌*◌, ◌%◌, ◌^◌, inl, inr, ℕ, sym, ap, subst, ◌∙◌, ◌≤◌, true, false, ℤ, pos, Ok, Err, refl, arith, bit_at, bit_or, bit_at_set_same, bit_at_set_other, bit_at-zero, cases_eq, ltb-true, ltb-false, bits, place_of, CoordOf, DimensionOf, CoordType, Dimension, LayoutFault, order_of, negsuc, nat_abs, lt_z}
 use Rattle.std.specs.Int.{Width}
 use Rattle.geoarrow_layout.specs.Summary.{IsBits}
 use Rattle.geoarrow_layout.specs.Steps.{AddsBit, AddsBits}
@@ -64,7 +64,7 @@ dimension_kept n part f is = adds_none n (DimensionOf part) (λ i h. let bad = s
 
 outside : (z : ℤ) (i : ℕ) → (lt_z z (pos 0) ≡ true) ⊎ (lt_z (pos 63) z ≡ true) → i < 64 → z ≡ pos i → ⊥
 outside (pos n) i (inl h) small e = let lt : n < 0 = ltb-true n 0 h in omega arith
-outside (pos n) i (inr h) small e = let lt : 63 < n = ltb-true 63 n h in let same : n ≡ i = pos_same n i e in omega arith
+outside (pos n) i (inr h) small e = let lt : 63 < n = ltb-true 63 n h in let same : n ≡ i = cc in omega arith
 outside (negsuc n) i h small e = cc
 
 between : (id : ℤ) → lt_z id (pos 0) ≡ false → lt_z (pos 63) id ≡ false → (id ≡ pos (nat_abs id)) × (nat_abs id < 64)
@@ -77,4 +77,4 @@ id_outside n id z is h = adds_none n (λ i. (i < 64) × (id ≡ pos i)) (λ i p.
 pub id_between : (n more : ℕ) (id z : ℤ) → z ≡ id → lt_z z (pos 0) ≡ false → lt_z (pos 63) z ≡ false → AddsBit n (nat_abs z) more → AddsBits n (λ i. (i < 64) × (id ≡ pos i)) more
 id_between n more id z is h k adds =
     let b = between z h k in
-    adds_one n (nat_abs z) more (λ i. (i < 64) × (id ≡ pos i)) (b.1, sym is ∙ b.0) (λ i p. pos_same i (nat_abs z) (sym p.1 ∙ sym is ∙ b.0)) adds
+    adds_one n (nat_abs z) more (λ i. (i < 64) × (id ≡ pos i)) (b.1, sym is ∙ b.0) (λ i p. let same = sym p.1 ∙ sym is ∙ b.0 in cc) adds

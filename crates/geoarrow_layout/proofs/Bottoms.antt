@@ -1,5 +1,5 @@
 -- What stands below the lists, and which fault it is.
-use Rattle.geoarrow_layout.proofs.Terms.{◌≡◌, ◌<◌, ◌≤◌, inl, inr, ℕ, zero, suc, ℤ, ◌+◌, refl, sym, ap, subst, arith, add-one, Bool, Option, Some, None, Ok, Err, [], ◌∷◌, same_Some, Text, Metadata, Tree, plain, list, large_list, fixed_size_list, struct, union, FieldTrees, MemberTrees, UnionMode, CoordType, Dimension, LayoutFault, UnexpectedType, ListWidth, Lists, LargeLists, Bottom, FixedSizeList, Struct, Union, OtherWidth, Deep, Other, Summary, ListsOver, Faults, HasFault, CoordinateFault, BoxFault, MixedFault, GeometryFault, LevelFault, ListsFault, IsBottom, AreLevels, SummarizesBy, TellsBoth, Levels, IsFixedSize, IsStruct, IsInnerUnion, missing_fault, IsWidth}
+use Rattle.geoarrow_layout.proofs.Terms.{◌≡◌, ◌<◌, ◌≤◌, inl, inr, ℕ, zero, suc, ℤ, ◌+◌, refl, sym, ap, subst, arith, add-one, Bool, Option, Some, None, Ok, Err, [], ◌∷◌, same_Some, Text, Metadata, Tree, plain, list, large_list, fixed_size_list, struct, union, FieldTrees, MemberTrees, UnionMode, CoordType, Dimension, LayoutFault, UnexpectedType, ListWidth, Lists, LargeLists, Bottom, FixedSizeList, Struct, Union, OtherWidth, Deep, Other, Summary, ListsOver, Faults, HasFault, CoordinateFault, BoxFault, MixedFault, GeometryFault, LevelFault, ListsFault, IsBottom, AreLevels, SummarizesBy, TellsBoth, Levels, Under, IsFixedSize, IsStruct, IsInnerUnion, missing_fault, IsWidth}
 use Rattle.geoarrow_layout.proofs.Readings.{Answer}
 
 -- one level more
@@ -28,10 +28,6 @@ at_bottom U Q w n b entered sizes structs unions (struct fs) h = structs fs h
 at_bottom U Q w n b entered sizes structs unions (union ms mode) h = unions ms mode h
 at_bottom U Q w n b entered sizes structs unions (plain p) h = absurd (subst IsEntered h entered)
 at_bottom U Q w n b entered sizes structs unions _ h = absurd (elim h [ inl e ↦ subst IsEntered e.1 entered | inr e ↦ subst IsEntered e.2 entered ])
-
--- P holds of what stands below m levels
-abbrev pub Under : (Tree → CoordType → Dimension → Type 0) → ℕ → Tree → CoordType → Dimension → Type 0
-Under P m t c d = (u : Tree) × Levels t m u × P u c d
 
 -- ---- lists of which F says the fault below
 

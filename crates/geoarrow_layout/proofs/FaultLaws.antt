@@ -1,5 +1,5 @@
 -- A data type has one fault at most under a name, and none if it is accepted.
-use Rattle.geoarrow_layout.proofs.Terms.{◌≡◌, ◌≢◌, ◌*◌, Bool, true, false, inl, inr, ℕ, zero, suc, ℤ, pos, List, [], ◌∷◌, length, sym, ap, subst, ◌∙◌, ◌⊎◌, Text, Metadata, Tree, list, large_list, fixed_size_list, struct, union, MemberTrees, no_members, member, CoordType, Interleaved, Separated, Dimension, XY, XYZ, XYM, NativeKind, GeometryCollection, Kind, OfNative, OfGeometry, OfRect, OfWkb, OfWkt, ListWidth, Lists, LargeLists, LayoutFault, UnexpectedType, BadFieldNames, BadTypeId, ExtensionName, size_of, type_id_of, extension_of, names_of, IsSeparatedAs, Leaf, ListsOver, levels_of, OverLeaf, Member, AllMembers, Mixed, Native, GeometryMember, Geometry, IsBoxAs, BoxShape, Accepted, id_same, any_native_same, Path, Located, Faults, InItem, SeparatedFault, CoordinateFault, BoxFault, LevelFault, ListsFault, OverLeafFault, PartFault, FirstFault, UnionFault, MemberFault, MixedFault, NativeFault, GeometryMemberFault, GeometryFault, FaultAt, BadInterleavedName, BadSize, BadFieldCount, MixedWidths, MemberDimension, EmptyUnion, SeveralCoordTypes, SeveralDimensions, interleaved_same, native_same, any_part, NativeIn, NativeFaultIn, MemberIn, MemberFaultIn, Here, InterleavedFault}
+use Rattle.geoarrow_layout.proofs.Terms.{◌≡◌, ◌≢◌, ◌*◌, Bool, true, false, inl, inr, ℕ, zero, suc, ℤ, pos, List, [], ◌∷◌, length, sym, ap, subst, ◌∙◌, ◌⊎◌, Text, Metadata, Tree, list, large_list, fixed_size_list, struct, union, MemberTrees, no_members, member, CoordType, Interleaved, Separated, Dimension, XY, XYZ, XYM, NativeKind, GeometryCollection, Kind, OfNative, OfGeometry, OfRect, OfWkb, OfWkt, ListWidth, Lists, LargeLists, LayoutFault, UnexpectedType, BadFieldNames, BadTypeId, ExtensionName, size_of, type_id_of, extension_of, names_of, IsSeparatedAs, Leaf, ListsOver, levels_of, OverLeaf, Member, AllMembers, Mixed, Native, GeometryMember, Geometry, IsBoxAs, BoxShape, Accepted, Path, Located, Faults, InItem, SeparatedFault, CoordinateFault, BoxFault, LevelFault, ListsFault, OverLeafFault, PartFault, FirstFault, UnionFault, MemberFault, MixedFault, NativeFault, GeometryMemberFault, GeometryFault, FaultAt, BadInterleavedName, BadSize, BadFieldCount, MixedWidths, MemberDimension, EmptyUnion, SeveralCoordTypes, SeveralDimensions, ReadsFirst, named_back, dimension_named, over_leaf_first, native_first, order_of, offset_of, arith, refl, ◌+◌, ◌≤◌, Point, NativeIn, NativeFaultIn, MemberIn, MemberFaultIn, Here, InterleavedFault}
 use Rattle.geoarrow_layout.specs.declared.names.ExtensionName.TheVariants as names
 use Rattle.geoarrow_layout.proofs.MemberLists.{all_map}
 
@@ -64,7 +64,7 @@ box_length ns _ h = h
 
 coordinate_apart : Apart Leaf CoordinateFault
 coordinate_apart (fixed_size_list n t b m z) Interleaved d p f h (inl k) = k.0 d h.0
-coordinate_apart (fixed_size_list n t b m z) Interleaved d p f h (inr k) = k.2 (h.1 ∙ ap (λ x. pos (size_of x)) (interleaved_same d k.0 (sym h.0 ∙ k.1)))
+coordinate_apart (fixed_size_list n t b m z) Interleaved d p f h (inr k) = k.2 (h.1 ∙ ap (λ x. pos (size_of x)) (sym (named_back d) ∙ ap dimension_named (sym h.0 ∙ k.1) ∙ named_back k.0))
 coordinate_apart (struct fs) Separated d p f h (inl k) = k.0 d (separated_length (names_of fs) d h)
 coordinate_apart (struct fs) Separated d p f h (inr k) = k.1 d h
 coordinate_apart _ c d p f h k = absurd h
@@ -116,7 +116,26 @@ abbrev pub KindReads : Type 1
 KindReads = Tree → NativeKind → CoordType → Dimension → Type 0
 
 abbrev OneNative : KindReads → Type 0
-OneNative N = (k : NativeKind) (t : Tree) (c b : CoordType) (d e : Dimension) → N t k c d → N t k b e → (c ≡ b) × (d ≡ e)
+OneNative N = (k : NativeKind) → ReadsFirst (λ t. N t k)
+
+-- a type id is that of one kind and one dimension
+pub order_same : (d e : Dimension) → order_of d ≡ order_of e → d ≡ e
+order_same XY XY h = refl
+order_same _ _ h = grind arith
+
+offset_same : (k l : NativeKind) → offset_of k ≡ offset_of l → k ≡ l
+offset_same Point Point h = refl
+offset_same k l h = grind arith
+
+offset_small : (k : NativeKind) → offset_of k ≤ 7
+offset_small Point = omega arith
+offset_small _ = omega arith
+
+pub id_same : (i : ℤ) (k l : NativeKind) (d e : Dimension) → i ≡ pos (type_id_of k d) → i ≡ pos (type_id_of l e) → (k ≡ l) × (d ≡ e)
+id_same i k l d e h g =
+    let n : 10 * order_of d + offset_of k ≡ 10 * order_of e + offset_of l = cc in
+    let one : order_of d ≡ order_of e = omega (arith, offset_small k, offset_small l) in
+    (offset_same k l (omega arith), order_same d e one)
 
 abbrev pub ApartNative : KindReads → (NativeKind → Faults) → Type 0
 ApartNative N F = (k : NativeKind) → Apart (λ t. N t k) (F k)
@@ -138,7 +157,7 @@ part_one N F one apart i t p q f g (inr h) (inr l) =
 
 kind_fault_none : (N : KindReads) (F : NativeKind → Faults) → OneNative N → ApartNative N F → (k : NativeKind) (d : Dimension) (t : Tree) (c : CoordType) (p : Path) (f : LayoutFault) → N t k c d → KindFault N F k d t p f → ⊥
 kind_fault_none N F same apart k d t c p f h (inl e) = apart k t c d p f h e
-kind_fault_none N F same apart k d t c p f h (inr e) = e.3 (same k t e.0 c e.1 d e.2 h).1
+kind_fault_none N F same apart k d t c p f h (inr e) = e.3 (ap (λ x. x.1) (sym (same k t e.0 e.1 e.2) ∙ same k t c d h))
 
 part_apart : (N : KindReads) (F : NativeKind → Faults) → OneNative N → ApartNative N F → (i : ℤ) (t : Tree) (k : NativeKind) (c : CoordType) (d : Dimension) (p : Path) (f : LayoutFault) → i ≡ pos (type_id_of k d) → N t k c d → PartFault N F i t p f → ⊥
 part_apart N F same apart i t k c d p f id h (inl e) = e.0 k d id
@@ -191,7 +210,7 @@ pub member_one : OneMember MemberFault
 member_one = part_one OverLeaf OverLeafFault over_leaf_one over_leaf_apart
 
 pub member_apart : ApartMember Member MemberFault
-member_apart i t c d p f h k = part_apart OverLeaf OverLeafFault native_same over_leaf_apart i t h.0 c d p f h.1 h.2 k
+member_apart i t c d p f h k = part_apart OverLeaf OverLeafFault over_leaf_first over_leaf_apart i t h.0 c d p f h.1 h.2 k
 
 mixed_one : (t : Tree) → One (MixedFault t)
 mixed_one (union ms mode) p q f g (inl h) (inl k) = union_one Member MemberFault member_one member_apart ms p q f g h k
@@ -216,11 +235,16 @@ pub native_apart : (k : NativeKind) → Apart (λ t. Native t k) (NativeFault k)
 native_apart GeometryCollection t c d p f h e = lists_apart Mixed MixedFault mixed_none 1 h.1.0 t h.0 c d p f h.1.1 h.2 e
 native_apart k t c d p f h e = over_leaf_apart k t c d p f h e
 
+as_native : (k : NativeKind) (t : Tree) (c : CoordType) (d : Dimension) → OverLeaf t k c d → Native t k c d
+as_native GeometryCollection t c d h = absurd h
+as_native k t c d h = h
+
 geometry_member_one : OneMember GeometryMemberFault
 geometry_member_one = part_one Native NativeFault native_one native_apart
 
 pub geometry_member_apart : ApartMember GeometryMember GeometryMemberFault
-geometry_member_apart i t c d p f h k = let x = any_part i t c d h in part_apart Native NativeFault any_native_same native_apart i t x.0 c d p f x.1 x.2 k
+geometry_member_apart i t c d p f (inl h) k = part_apart Native NativeFault native_first native_apart i t h.0 c d p f h.1 (as_native h.0 t c d h.2) k
+geometry_member_apart i t c d p f (inr h) k = part_apart Native NativeFault native_first native_apart i t GeometryCollection c d p f h.0 h.1 k
 
 -- the same where collections are allowed or not
 pub native_apart_in : (b : Bool) → ApartNative (NativeIn b) (NativeFaultIn b)

@@ -1,5 +1,5 @@
 -- Points that trees are taken for.
-use Rattle.geoarrow_layout.proofs.Terms.{◌≡◌, ◌↔◌, inl, inr, ℕ, ℤ, pos, refl, sym, ap, subst, ◌∙◌, arith, Bool, true, false, ◌&&◌, Option, Some, None, List, [], ◌∷◌, length, codes, and_parts, cases_Bool, some_pair_parts, Text, Metadata, Tree, fixed_size_list, struct, FieldTrees, CoordType, Interleaved, Separated, Dimension, XY, XYZ, XYM, ListWidth, FixedSizeList, Struct, size_of, names_of, IsSeparatedAs, Leaf, SomeAt, IsBottom, IsUnion, are_float64, has_bit, interleaved_name, IsBits, AnswersSome, Inferred, IsInferredAs, IsInferredSize, is_measured, NamesSay, SizeSays, apart, separated_same, pos_same}
+use Rattle.geoarrow_layout.proofs.Terms.{◌≡◌, ◌↔◌, inl, inr, ℕ, ℤ, pos, refl, sym, ap, subst, ◌∙◌, arith, Bool, true, false, ◌&&◌, Option, Some, None, List, [], ◌∷◌, length, codes, and_parts, cases_Bool, some_pair_parts, Text, Metadata, Tree, fixed_size_list, struct, FieldTrees, CoordType, Interleaved, Separated, Dimension, XY, XYZ, XYM, ListWidth, FixedSizeList, Struct, size_of, names_of, IsSeparatedAs, Leaf, SomeAt, IsBottom, IsUnion, are_float64, has_bit, interleaved_name, IsBits, AnswersSome, Inferred, IsInferredAs, IsInferredSize, is_measured, NamesSay, SizeSays, among_back, dimension_named}
 use Rattle.geoarrow_layout.specs.Shapes.{SameNames}
 use Rattle.geoarrow_layout.proofs.FieldSteps.{same_three, has_at}
 use Rattle.geoarrow_layout.proofs.Bottoms.{at_bottom}
@@ -107,7 +107,7 @@ names_agree : (ns : List Text) (d e : Dimension) → IsInferredAs d ns → IsSep
 names_agree ns XYZ XYZ h k = refl
 names_agree ns XYZ XYM h k = absurd (h.1 k.1)
 names_agree ns XYZ _ h k = absurd (omega arith)
-names_agree ns d e h k = separated_same ns d e h k
+names_agree ns d e h k = sym (among_back ns d h) ∙ among_back ns e k
 
 size_inferred_as : (d : Dimension) (name : Text) (z : ℤ) → IsInferredSize d name z → z ≡ pos (size_of d)
 size_inferred_as XYZ name z h = h.0
@@ -116,10 +116,10 @@ size_inferred_as _ name z h = h
 
 size_agrees : (name : Text) (z : ℤ) (d e : Dimension) → IsInferredSize d name z → name ≡ interleaved_name e → size_of d ≡ size_of e → d ≡ e
 size_agrees name z XYZ XYM h named size = absurd (h.1 named)
-size_agrees name z XYM XYZ h named size = absurd (apart _ _ refl (sym h.1 ∙ named))
+size_agrees name z XYM XYZ h named size = let bad = ap dimension_named (sym h.1 ∙ named) in cc
 size_agrees name z _ _ h named size = grind arith
 
 pub inferred_as_read : (t : Tree) (c b : CoordType) (d e : Dimension) → Inferred t c d → Leaf t b e → (c ≡ b) × (d ≡ e)
-inferred_as_read (fixed_size_list n t x m z) Interleaved Interleaved d e h k = (refl, size_agrees n z d e h.1 k.0 (pos_same _ _ (sym (size_inferred_as d n z h.1) ∙ k.1)))
+inferred_as_read (fixed_size_list n t x m z) Interleaved Interleaved d e h k = (refl, size_agrees n z d e h.1 k.0 (let same = sym (size_inferred_as d n z h.1) ∙ k.1 in cc))
 inferred_as_read (struct fs) Separated Separated d e h k = (refl, names_agree (names_of fs) d e h.1 k)
 inferred_as_read _ _ _ d e h k = search

@@ -1,7 +1,6 @@
 -- The kind of a name and a tree: there is one at most, and it is what a reader's answer says.
-use Rattle.geoarrow_layout.proofs.Terms.{◌≡◌, ◌⊎◌, inl, inr, Bool, true≢false, IsTrue, is_ok, cond, refl, sym, ap, subst, ◌∙◌, ◌↔◌, IfOk, IfErr, Option, Some, None, Result, Ok, Err, bytes_eq, same_Some, Text, Tree, CoordType, Dimension, NativeKind, Point, LineString, Polygon, MultiPoint, MultiLineString, MultiPolygon, GeometryCollection, Width, Plain, Kind, OfNative, OfGeometry, OfRect, OfWkb, OfWkt, ExtensionName, name_text, extension_of, Native, IsBytes, IsText, Accepted, Accepts, IsStructured, AnswersOne, any_native_same, geometry_same, box_shape_same, LayoutFault, Summary, Summarizes, layout, IsAccepted, IsAcceptedStructure, Path, HasFault, FaultAt, Tells, AnswersKind, TellsKind}
+use Rattle.geoarrow_layout.proofs.Terms.{◌≡◌, ◌⊎◌, inl, inr, Bool, true≢false, IsTrue, is_ok, cond, refl, sym, ap, subst, ◌∙◌, ◌↔◌, IfOk, IfErr, Option, Some, None, Result, Ok, Err, bytes_eq, same_Some, Text, Tree, CoordType, Dimension, NativeKind, Point, LineString, Polygon, MultiPoint, MultiLineString, MultiPolygon, GeometryCollection, Width, Plain, Large, View, Kind, OfNative, OfGeometry, OfRect, OfWkb, OfWkt, ExtensionName, name_text, extension_of, Native, IsBytes, IsText, Accepted, Accepts, IsStructured, AnswersOne, any_native_same, geometry_same, box_shape_same, LayoutFault, Summary, Summarizes, layout, IsAccepted, IsAcceptedStructure, Path, HasFault, FaultAt, Tells, AnswersKind, TellsKind}
 use Rattle.geoarrow_layout.specs.declared.names.ExtensionName.TheVariants as names
-use Rattle.geoarrow_layout.proofs.Distinct.{layouts_are_distinct}
 use Rattle.geoarrow_layout.proofs.FaultLaws.{accepted_apart}
 use Rattle.geoarrow_layout.proofs.Readings.{exactly_one}
 
@@ -22,22 +21,20 @@ named_back _ = refl
 pub one_name : (a b : ExtensionName) → name_text a ≡ name_text b → a ≡ b
 one_name a b h = sym (named_back a) ∙ ap named h ∙ named_back b
 
--- well-known binary and text are of the one data type that is written for the width
-plain_layout : (w : Width) (t : Tree) → (IsBytes w t → t ≡ layout (OfWkb w)) × (IsText w t → t ≡ layout (OfWkt w))
-plain_layout Plain t = (λ h. h, λ h. h)
-plain_layout _ t = (λ h. h, λ h. h)
+widths_same : (t : Tree) (w v : Width) → (IsBytes w t → IsBytes v t → w ≡ v) × (IsText w t → IsText v t → w ≡ v)
+widths_same t Plain Plain = (λ h g. refl, λ h g. refl)
+widths_same t Large Large = (λ h g. refl, λ h g. refl)
+widths_same t View View = (λ h g. refl, λ h g. refl)
+widths_same t _ _ = (λ h g. cc, λ h g. cc)
 
-native_kinds_same : (t : Tree) (k l : NativeKind) (c b : CoordType) (d e : Dimension) → k ≡ l → Native t k c d → Native t l b e → OfNative k c d ≡ OfNative l b e
-native_kinds_same t k l c b d e same h g =
-    let p = any_native_same l t c b d e (subst (λ x. Native t x c d) same h) g in
-    ap (λ x. OfNative x c d) same ∙ ap (λ x. OfNative l x d) p.0 ∙ ap (λ x. OfNative l b x) p.1
-
-same_kind : (t : Tree) (k l : Kind) → extension_of k ≡ extension_of l → Accepted k t → Accepted l t → k ≡ l
-same_kind t (OfNative k c d) (OfNative l b e) same h g = let kinds : k ≡ l = cc in native_kinds_same t k l c b d e kinds h g
+pub same_kind : (t : Tree) (k l : Kind) → extension_of k ≡ extension_of l → Accepted k t → Accepted l t → k ≡ l
+same_kind t (OfNative k c d) (OfNative l b e) same h g =
+    let kinds : k ≡ l = cc in
+    let pair = any_native_same l t c b d e (subst (λ x. Native t x c d) kinds h) g in cc
 same_kind t (OfGeometry c) (OfGeometry b) same h g = ap (λ x. OfGeometry x) (geometry_same t c b h g)
 same_kind t (OfRect d) (OfRect e) same h g = ap (λ x. OfRect x) (box_shape_same t d e h g)
-same_kind t (OfWkb w) (OfWkb v) same h g = layouts_are_distinct (OfWkb w) (OfWkb v) (sym ((plain_layout w t).0 h) ∙ (plain_layout v t).0 g)
-same_kind t (OfWkt w) (OfWkt v) same h g = layouts_are_distinct (OfWkt w) (OfWkt v) (sym ((plain_layout w t).1 h) ∙ (plain_layout v t).1 g)
+same_kind t (OfWkb w) (OfWkb v) same h g = ap (λ x. OfWkb x) ((widths_same t w v).0 h g)
+same_kind t (OfWkt w) (OfWkt v) same h g = ap (λ x. OfWkt x) ((widths_same t w v).1 h g)
 same_kind t k l same h g = cc
 
 pub one_kind : (name : Text) (t : Tree) (k l : Kind) → Accepts name t k → Accepts name t l → k ≡ l

@@ -1,5 +1,5 @@
 -- What a reader answers, in short words.
-use Rattle.geoarrow_layout.proofs.Terms.{◌≡◌, ◌↔◌, subst, ℤ, pos, Result, Ok, Err, Option, Some, ap, ◌∙◌, IfErr, CoordType, Dimension, LayoutFault, NativeKind, type_id_of, Answers, AnswersOne, Path, Located, HasFault, Tells, TellsBoth}
+use Rattle.geoarrow_layout.proofs.Terms.{◌≡◌, ◌↔◌, sym, subst, ℤ, pos, Result, Ok, Err, Option, Some, ap, ◌∙◌, IfErr, CoordType, Dimension, LayoutFault, NativeKind, type_id_of, Answers, AnswersOne, Path, Located, HasFault, Tells, TellsBoth}
 
 abbrev pub Answer : Type 0
 Answer = Result (CoordType × Dimension) LayoutFault
@@ -42,11 +42,8 @@ pub exactly_one : {X : Type 0} (r : Result X LayoutFault) (R : X → Type 0) (F 
 exactly_one (Ok x) R F one apart h = answers_one x R one h
 exactly_one (Err f) R F one apart h = refuses_one f R (λ x k. apart x h.0 f k h.1)
 
-pair_same : (x y : CoordType × Dimension) → (x.0 ≡ y.0) × (x.1 ≡ y.1) → x ≡ y
-pair_same (c, d) (b, e) h = ap (λ z. (z, d)) h.0 ∙ ap (λ z. (b, z)) h.1
-
-pub exactly : (r : Answer) (R : CoordType → Dimension → Type 0) (F : Located) → ((c b : CoordType) (d e : Dimension) → R c d → R b e → (c ≡ b) × (d ≡ e)) → ((c : CoordType) (d : Dimension) (p : Path) (f : LayoutFault) → R c d → F p f → ⊥) → TellsBoth r R F → Answers r R
-exactly r R F one apart h = let all = exactly_one r (λ x. R x.0 x.1) F (λ x y h k. pair_same x y (one x.0 y.0 x.1 y.1 h k)) (λ x p f k e. apart x.0 x.1 p f k e) h in λ c d. all (c, d)
+pub exactly : (v : CoordType × Dimension) (r : Answer) (R : CoordType → Dimension → Type 0) (F : Located) → ((c : CoordType) (d : Dimension) → R c d → v ≡ (c, d)) → ((c : CoordType) (d : Dimension) (p : Path) (f : LayoutFault) → R c d → F p f → ⊥) → TellsBoth r R F → Answers r R
+exactly v r R F first apart h = let all = exactly_one r (λ x. R x.0 x.1) F (λ x y h k. sym (first x.0 x.1 h) ∙ first y.0 y.1 k) (λ x. apart x.0 x.1) h in λ c d. all (c, d)
 
 pub told_fault : {X : Type 0} (r : Result X LayoutFault) (R : X → Type 0) (F : Located) → Tells r R F → IfErr r (HasFault F)
 told_fault (Ok x) R F h = tt

@@ -14,8 +14,8 @@ pub use Rattle.geoarrow_layout.specs.FaultAt.{BoxFault, BoxNamesFault, Coordinat
 pub use Rattle.geoarrow_layout.specs.Inferred.{AnswersSome, Inferred, IsInferredAs, IsInferredSize, are_float64, is_float64}
 pub use Rattle.geoarrow_layout.specs.Kinds.{extension_of, interleaved_name, name_of, name_text, offset_of, order_of, size_of, type_id_of}
 pub use Rattle.geoarrow_layout.specs.Layouts.{IsWritten, IsWrittenSome, coordinate, dimension_members, geometry_members, layout, leaf_layout, member_layout, members_over, mixed_layout, mixed_members, native_layout, over_leaf_layout}
-pub use Rattle.geoarrow_layout.specs.OneShape.{LeafUnder, any_native_same, any_part, apart, box_shape_same, geometry_part_same, geometry_same, id_same, interleaved_same, member_same, mixed_same, native_same, order_same, pos_same, separated_same}
-pub use Rattle.geoarrow_layout.specs.Shapes.{Accepted, Accepts, AllMembers, Answers, AnswersKind, AnswersOne, BoxShape, Collection, Geometry, GeometryMember, HasMembers, HaveBoth, IsBoxAs, IsBytes, IsSeparatedAs, IsStructured, IsText, Leaf, Levels, ListsOver, Member, Mixed, Native, OverLeaf, SomeMember, has_name, levels_of, names_of}
+pub use Rattle.geoarrow_layout.specs.OneShape.{ReadsFirst, among_back, any_native_same, box_shape_same, coords_in, dimension_among, dimension_named, geometry_member_first, geometry_same, member_first, mixed_first, named_back, native_first, over_leaf_first}
+pub use Rattle.geoarrow_layout.specs.Shapes.{Accepted, Accepts, AllMembers, Answers, AnswersKind, AnswersOne, BoxShape, Collection, Geometry, GeometryMember, HasMembers, HaveBoth, IsBoxAs, IsBytes, IsSeparatedAs, IsStructured, IsText, Leaf, Levels, ListsOver, Member, Mixed, Native, OverLeaf, SomeMember, Under, has_name, levels_of, names_of}
 pub use Rattle.geoarrow_layout.specs.Steps.{AddsBit, AddsBits, AreOf, CoordOf, DimensionOf, Ended, FirstOrNone, IsCoordFault, IsNested, IsNoLeaf, IsOtherFault, IsWidth, LeadsTo, LevelsFault, MemberFaultIn, MemberIn, NamesSay, NativeFaultIn, NativeIn, Shows, ShowsIn, ShowsInner, SizeSays, StaysHere, Tells, TellsBoth, TellsKind, UnionSays, UnionSaysOne, first_fault, has_bit, is_measured, missing_fault}
 pub use Rattle.geoarrow_layout.specs.Summary.{AreLevels, IsBits, IsBottom, IsFaultOf, IsFixedSize, IsInnerUnion, IsStruct, IsUnion, Seen, SomeAt, Summarizes, SummarizesBy, known_names, place_in, place_of}
 pub use Rattle.geoarrow_layout.specs.declared.encodings.Kind.{Kind}

@@ -1,13 +1,13 @@
 -- What was seen of members says what the union is.
-use Rattle.geoarrow_layout.proofs.Terms.{◌≡◌, ◌≢◌, ◌↔◌, ◌<◌, ◌+◌, ◌^◌, ◌⊎◌, inl, inr, ℕ, zero, suc, ℤ, pos, Result, Ok, Err, Option, Some, None, MatchOption, Bool, true, false, [], ◌∷◌, ◌++◌, take, length, get_or, refl, sym, ap, subst, ◌∙◌, arith, nat_eq, bit_at, eqb-suc-zero, cases_eq, same_from_bits, bit_at-pow_same, bit_at-pow_other, bit_at-lt, Tree, union, FieldTree, MemberTrees, no_members, member, member_trees, UnionMode, CoordType, Interleaved, Dimension, LayoutFault, UnexpectedType, ListWidth, Bottom, Union, Deep, Other, Summary, order_of, Mixed, Geometry, Member, GeometryMember, AllMembers, SomeMember, HasMembers, Answers, Path, Faults, HasFault, FirstFault, UnionFault, MemberFault, MixedFault, GeometryMemberFault, GeometryFault, IsFaultOf, Seen, place_of, AreLevels, IsBottom, IsUnion, SummarizesBy, Summarizes, CoordOf, DimensionOf, Tells, TellsBoth, IsNested, IsNoLeaf, Shows, ShowsInner, member_same, geometry_part_same, order_same, DimensionsFault, IsBits, AddsBits, first_fault, AreOf, IsCoordFault, UnionSays, UnionSaysOne}
+use Rattle.geoarrow_layout.proofs.Terms.{◌≡◌, ◌≢◌, ◌↔◌, ◌<◌, ◌+◌, ◌^◌, ◌⊎◌, inl, inr, ℕ, zero, suc, ℤ, pos, Result, Ok, Err, Option, Some, None, MatchOption, Bool, true, false, [], ◌∷◌, ◌++◌, take, length, get_or, refl, sym, ap, subst, ◌∙◌, arith, nat_eq, bit_at, eqb-suc-zero, cases_eq, same_from_bits, bit_at-pow_same, bit_at-pow_other, bit_at-lt, Tree, union, FieldTree, MemberTrees, no_members, member, member_trees, UnionMode, CoordType, Interleaved, Dimension, LayoutFault, UnexpectedType, ListWidth, Bottom, Union, Deep, Other, Summary, order_of, Mixed, Geometry, Member, GeometryMember, AllMembers, SomeMember, HasMembers, Answers, Path, Faults, HasFault, FirstFault, UnionFault, MemberFault, MixedFault, GeometryMemberFault, GeometryFault, IsFaultOf, Seen, place_of, AreLevels, IsBottom, IsUnion, SummarizesBy, Summarizes, CoordOf, DimensionOf, Tells, TellsBoth, IsNested, IsNoLeaf, Shows, ShowsInner, ReadsFirst, coords_in, member_first, geometry_member_first, DimensionsFault, IsBits, AddsBits, first_fault, AreOf, IsCoordFault, UnionSays, UnionSaysOne}
 use Rattle.geoarrow_layout.proofs.Readings.{Answer, exactly}
 use Rattle.geoarrow_layout.proofs.MemberLists.{Items, all_map, all_inside, all_some, first_some, all_both, some_more, one_more}
-use Rattle.geoarrow_layout.proofs.FaultLaws.{Read, ApartMember, MemberReads}
+use Rattle.geoarrow_layout.proofs.FaultLaws.{Read, ApartMember, MemberReads, order_same}
 use Rattle.geoarrow_layout.proofs.Bottoms.{NoListAtUnion, RefusesLists, listed, at_bottom}
 use Rattle.geoarrow_layout.proofs.BitSteps.{bits_like, bits_added, no_bits, bit_is}
 
 abbrev pub OneReading : MemberReads → Type 0
-OneReading R = (i : ℤ) (t : Tree) (c b : CoordType) (d e : Dimension) → R i t c d → R i t b e → (c ≡ b) × (d ≡ e)
+OneReading R = (i : ℤ) → ReadsFirst (R i)
 
 -- one bit alone
 is_pow : (n j : ℕ) → IsBits n (λ i. i ≡ j) → n ≡ 2 ^ j
@@ -35,10 +35,10 @@ Keyed K place S ms i = (k : K) × (i ≡ place k) × SomeMember (S k) ms
 keyed_only : (K : Type 0) (place : K → ℕ) (S : K → ℤ → Tree → Type 0) → ((a b : K) → place a ≡ place b → a ≡ b) → (n : ℕ) (ms : MemberTrees) (k : K) → IsBits n (Keyed K place S ms) → n ≡ 2 ^ place k → (b : K) → SomeMember (S b) ms → b ≡ k
 keyed_only K place S one n ms k bits is b some = one b k (pow_bit n (place k) (place b) is ((bit_is n (Keyed K place S ms) (place b) bits).1 (b, refl, some)))
 
-keyed_pow : (K : Type 0) (place : K → ℕ) (S : K → ℤ → Tree → Type 0) → ((i : ℤ) (t : Tree) (a b : K) → S a i t → S b i t → a ≡ b) → (n : ℕ) (ms : MemberTrees) (k : K) → IsBits n (Keyed K place S ms) → HasMembers ms → AllMembers (S k) ms → n ≡ 2 ^ place k
-keyed_pow K place S one n ms k bits some all =
+keyed_pow : (K : Type 0) (place : K → ℕ) (S : K → ℤ → Tree → Type 0) (key : Tree → K) → ((i : ℤ) (t : Tree) (k : K) → S k i t → key t ≡ k) → (n : ℕ) (ms : MemberTrees) (k : K) → IsBits n (Keyed K place S ms) → HasMembers ms → AllMembers (S k) ms → n ≡ 2 ^ place k
+keyed_pow K place S key one n ms k bits some all =
     is_pow n (place k) (bits_like n (Keyed K place S ms) (λ i. i ≡ place k)
-    (λ i h. h.1 ∙ ap place (all_some (S k) (S h.0) (h.0 ≡ k) (λ j t p q. one j t h.0 k q p) ms all h.2))
+    (λ i h. h.1 ∙ ap place (all_some (S k) (S h.0) (h.0 ≡ k) (λ j t p q. sym (one j t h.0 q) ∙ one j t k p) ms all h.2))
     (λ i h. (k, h, first_some (S k) ms some all)) bits)
 
 abbrev AtCoord : MemberReads → CoordType → ℤ → Tree → Type 0
@@ -54,7 +54,7 @@ abbrev DimensionBits : MemberReads → ℕ → MemberTrees → Type 0
 DimensionBits R n ms = IsBits n (Keyed Dimension order_of (AtDimension R) ms)
 
 coord_pow : (R : MemberReads) → OneReading R → (n : ℕ) (ms : MemberTrees) (c : CoordType) → CoordBits R n ms → HasMembers ms → AllMembers (AtCoord R c) ms → n ≡ 2 ^ place_of c
-coord_pow R one = keyed_pow CoordType place_of (AtCoord R) (λ i t a b p q. (one i t a b p.0 q.0 p.1 q.1).0)
+coord_pow R one = keyed_pow CoordType place_of (AtCoord R) (λ t. (coords_in t).0) (λ i t c x. ap (λ p. p.0) (one i t c x.0 x.1))
 
 -- members that the walk finds to be of one coordinate type
 of_one : (R S : MemberReads) → ((i : ℤ) (t : Tree) (c : CoordType) (d : Dimension) → R i t c d → S i t c d) → (F : ℤ → Faults) (empty : Bool) (fault : Option LayoutFault) (coords : ℕ) (ms : MemberTrees) (c : CoordType)
@@ -99,7 +99,7 @@ mixed_from S one sub empty fault coords dims (Err f) ms (inr says) some coord_bi
       [],
       inr (
         (c, all_inside (Read Member) (AtCoord Member c) ms (λ i t p inside. (p.1, subst (λ b. Member i t b p.1) (of.1 i t p inside) p.2)) of.0),
-        (λ b d same. says.1 d (keyed_pow Dimension order_of (AtDimension S) (λ i t e g p q. (one i t p.0 q.0 e g p.1 q.1).1) dims ms d dimension_bits (some.0 says.0.1.0) (all_map (λ i t. Member i t b d) (AtDimension S d) (λ i t p. (b, sub i t b d p)) ms same))),
+        (λ b d same. says.1 d (keyed_pow Dimension order_of (AtDimension S) (λ t. (coords_in t).1) (λ i t e x. ap (λ p. p.1) (one i t x.0 e x.1)) dims ms d dimension_bits (some.0 says.0.1.0) (all_map (λ i t. Member i t b d) (AtDimension S d) (λ i t p. (b, sub i t b d p)) ms same))),
         (refl, says.2),
       ),
     )
@@ -126,7 +126,7 @@ pub nested_union : (w : Option ListWidth) (levels : ℕ) (empty : Bool) (ids coo
     → IsBottom IsNested w levels (Union empty ids coords dims fault geometry) u → UnionSays empty fault coords dims r → TellsBoth r (Mixed u) (MixedFault u)
 nested_union w levels empty ids coords dims fault geometry u r one h says =
     at_bottom IsNested (λ x. TellsBoth r (Mixed x) (MixedFault x)) w 1 (Union empty ids coords dims fault geometry) tt (λ x t b m z k. absurd k) (λ fs k. absurd k)
-    (λ ms mode k. mixed_told r ms mode (mixed_from Member member_same (λ i t c d m. m) empty fault coords dims r ms says k.0 k.1.coord_bits k.1.dimension_bits k.1.fault_found))
+    (λ ms mode k. mixed_told r ms mode (mixed_from Member member_first (λ i t c d m. m) empty fault coords dims r ms says k.0 k.1.coord_bits k.1.dimension_bits k.1.fault_found))
     u (subst (λ n. IsBottom IsNested w n (Union empty ids coords dims fault geometry) u) one h)
 
 -- a summary says less of unions
@@ -191,7 +191,7 @@ pub seen_more : (R : MemberReads) (F : ℤ → Faults) → OneReading R → Apar
     → fault2 ≡ first_fault fault part → Seen R F ids coords dims fault (member_trees (take k xs)) → Seen R F ids2 coords2 dims2 fault2 (member_trees (take (k + 1) xs))
 seen_more R F one apart ids ids2 coords coords2 dims dims2 fault fault2 part all k x lt at told add_id add_coord add_dim next before =
     let xs = take k all in
-    let read : Answers part (R x.0 x.1.tree) = exactly part (R x.0 x.1.tree) (F x.0 x.1.tree) (one x.0 x.1.tree) (apart x.0 x.1.tree) told in
+    let read : Answers part (R x.0 x.1.tree) = exactly (coords_in x.1.tree) part (R x.0 x.1.tree) (F x.0 x.1.tree) (one x.0 x.1.tree) (apart x.0 x.1.tree) told in
     subst (λ ys. Seen R F ids2 coords2 dims2 fault2 (member_trees ys)) (sym (one_more all k x lt at)) record {
       id_bits = bits_added ids ids2 (λ i. (i < 64) × (x.0 ≡ pos i)) (Ids (member_trees xs)) (Ids (member_trees (xs ++ (x ∷ [])))) add_id (λ i. let is = some_more (λ j t. j ≡ pos i) xs x in (
         (λ q. elim (is.0 q.1) [ inl s ↦ inl (q.0, s) | inr s ↦ inr (q.0, s) ]),
@@ -237,10 +237,10 @@ pub root_mixed : (w : Option ListWidth) (empty : Bool) (ids coords dims : ℕ) (
     → IsBottom IsUnion w 0 (Union empty ids coords dims fault geometry) u → UnionSays empty fault coords dims r → TellsBoth r (Mixed u) (MixedFault u)
 root_mixed w empty ids coords dims fault geometry u r k says =
     at_bottom IsUnion (λ x. TellsBoth r (Mixed x) (MixedFault x)) w 0 (Union empty ids coords dims fault geometry) tt (λ x t b m z h. absurd h) (λ fs h. absurd h)
-    (λ ms mode h. mixed_told r ms mode (mixed_from GeometryMember geometry_part_same (λ i t c d m. inl m) empty fault coords dims r ms says h.0 h.1.coord_bits h.1.dimension_bits h.2)) u k
+    (λ ms mode h. mixed_told r ms mode (mixed_from GeometryMember geometry_member_first (λ i t c d m. inl m) empty fault coords dims r ms says h.0 h.1.coord_bits h.1.dimension_bits h.2)) u k
 
 pub root_geometry : (w : Option ListWidth) (empty : Bool) (ids coords dims : ℕ) (fault geometry : Option LayoutFault) (u : Tree) (r : Result CoordType LayoutFault)
     → IsBottom IsUnion w 0 (Union empty ids coords dims fault geometry) u → UnionSaysOne empty geometry coords r → Tells r (Geometry u) (GeometryFault u)
 root_geometry w empty ids coords dims fault geometry u r k says =
     at_bottom IsUnion (λ x. Tells r (Geometry x) (GeometryFault x)) w 0 (Union empty ids coords dims fault geometry) tt (λ x t b m z h. absurd h) (λ fs h. absurd h)
-    (λ ms mode h. geometry_told r ms mode (one_from GeometryMember geometry_part_same GeometryMemberFault empty geometry coords r ms says h.0 h.1.coord_bits h.1.fault_found)) u k
+    (λ ms mode h. geometry_told r ms mode (one_from GeometryMember geometry_member_first GeometryMemberFault empty geometry coords r ms says h.0 h.1.coord_bits h.1.fault_found)) u k

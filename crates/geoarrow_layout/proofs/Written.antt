@@ -1,5 +1,5 @@
 -- What is written is read as what it was written for.
-use Rattle.geoarrow_layout.proofs.Terms.{◌≡◌, ℤ, [], ◌∷◌, ◌++◌, true, false, inl, inr, refl, Tree, member_trees, CoordType, Interleaved, Separated, Dimension, XY, XYZ, XYM, XYZM, Lists, NativeKind, Point, LineString, Polygon, MultiPoint, MultiLineString, MultiPolygon, GeometryCollection, Plain, Kind, OfNative, OfGeometry, OfRect, OfWkb, OfWkt, Leaf, levels_of, Member, AllMembers, Collection, GeometryMember, Geometry, BoxShape, Accepted, LeafUnder, leaf_layout, member_layout, mixed_members, native_layout, geometry_members, layout, HasTypeIds, over_leaf_layout, mixed_layout, dimension_members, IsWritten, IsWrittenSome}
+use Rattle.geoarrow_layout.proofs.Terms.{◌≡◌, ℤ, [], ◌∷◌, ◌++◌, true, false, inl, inr, refl, Tree, member_trees, CoordType, Interleaved, Separated, Dimension, XY, XYZ, XYM, XYZM, Lists, NativeKind, Point, LineString, Polygon, MultiPoint, MultiLineString, MultiPolygon, GeometryCollection, Plain, Kind, OfNative, OfGeometry, OfRect, OfWkb, OfWkt, Leaf, levels_of, Member, AllMembers, Collection, GeometryMember, Geometry, BoxShape, Accepted, Under, leaf_layout, member_layout, mixed_members, native_layout, geometry_members, layout, HasTypeIds, over_leaf_layout, mixed_layout, dimension_members, IsWritten, IsWrittenSome}
 use Rattle.geoarrow_layout.specs.Shapes.{SameNames}
 use Rattle.geoarrow_layout.proofs.MemberLists.{all_map, all_both}
 
@@ -11,7 +11,7 @@ written_leaf Separated XYM = (refl, λ n. refl)
 written_leaf Separated _ = refl
 
 -- the members in a collection
-written_under : (k : NativeKind) (c : CoordType) (d : Dimension) → LeafUnder (levels_of k) (over_leaf_layout k c d) c d
+written_under : (k : NativeKind) (c : CoordType) (d : Dimension) → Under Leaf (levels_of k) (over_leaf_layout k c d) c d
 written_under Point c d = (leaf_layout c d, (Lists, refl), written_leaf c d)
 written_under k c d = (leaf_layout c d, (Lists, refl), written_leaf c d)
 

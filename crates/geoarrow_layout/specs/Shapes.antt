@@ -59,10 +59,14 @@ levels_of MultiLineString = 2
 levels_of MultiPolygon = 3
 levels_of GeometryCollection = 1
 
+-- the data type t is n lists, all of one width, over a data type for which P holds
+abbrev pub Under : (Tree → CoordType → Dimension → Type 0) → ℕ → Tree → CoordType → Dimension → Type 0
+Under P n t c d = (u : Tree) × Levels t n u × P u c d
+
 -- the data type t is the lists of a native kind over a coordinate; a collection is not, since it has a union there
 abbrev pub OverLeaf : Tree → NativeKind → CoordType → Dimension → Type 0
 OverLeaf t GeometryCollection c d = ⊥
-OverLeaf t k c d = (u : Tree) × Levels t (levels_of k) u × Leaf u c d
+OverLeaf t k c d = Under Leaf (levels_of k) t c d
 
 -- a member of a collection: its data type has the kind and the dimension of its type id
 abbrev pub Member : ℤ → Tree → CoordType → Dimension → Type 0
@@ -90,7 +94,7 @@ Mixed _ c d = ⊥
 
 -- the data type is a collection: a list over that union
 abbrev pub Collection : Tree → CoordType → Dimension → Type 0
-Collection t c d = (u : Tree) × Levels t 1 u × Mixed u c d
+Collection t c d = Under Mixed 1 t c d
 
 -- the data type is of this native kind, coordinate type and dimension
 abbrev pub Native : Tree → NativeKind → CoordType → Dimension → Type 0

@@ -4,7 +4,7 @@
 //! None of them allocates.
 ghost use Rattle.std.specs.Prelude.{IfErr, IfOk, ◌≡◌, IfSome, ◌↔◌, IsTrue, Some, ◌≢◌, ◌∷◌, [], true, ◌≤◌, ◌<◌, Ok, ℕ, List, Option, None, length, ◌&&◌, MatchResult};
 ghost use Rattle.arrow_values.specs.View.{tree, field_trees};
-ghost use Rattle.geoarrow_layout.specs.Shapes.{Answers, AnswersOne, Leaf, Native, Mixed, Collection, Geometry, BoxShape, IsBytes, IsText, Accepts, AnswersKind, IsStructured, IsSeparatedAs, IsBoxAs};
+ghost use Rattle.geoarrow_layout.specs.Shapes.{Answers, AnswersOne, Leaf, Under, Native, Mixed, Collection, Geometry, BoxShape, IsBytes, IsText, Accepts, AnswersKind, IsStructured, IsSeparatedAs, IsBoxAs};
 ghost use Rattle.geoarrow_layout.specs.Kinds.{name_text, extension_of, name_of};
 ghost use Rattle.geoarrow_layout.specs.Steps.{Tells, TellsKind, is_measured, NamesSay, SizeSays, IsNoLeaf, Shows, ShowsInner, ShowsIn, NativeIn, NativeFaultIn, MemberIn, MemberFaultIn, TellsBoth, missing_fault, IsOtherFault, UnionSays, UnionSaysOne, has_bit};
 ghost use Rattle.geoarrow_layout.specs.FaultAt.{HasFault, BoxFault, MixedFault, NativeFault, GeometryFault, FaultAt, SeparatedFault, CoordinateFault, BoxNamesFault, ListsFault};
@@ -13,7 +13,6 @@ ghost use Rattle.geoarrow_layout.specs.Summary.{Summarizes, IsBits, SomeAt, IsBo
 ghost use Rattle.geoarrow_layout.specs.Candidates.{Holds, IsAccepted, IsAcceptedStructure};
 ghost use Rattle.geoarrow_layout.specs.Inferred.{AnswersSome, Inferred, IsFlat};
 ghost use Rattle.geoarrow_layout.specs.declared.summary.ListWidth.{ListWidth};
-ghost use Rattle.geoarrow_layout.specs.OneShape.{LeafUnder};
 ghost use Rattle.geoarrow_layout.specs.declared.names.ExtensionName.TheVariants as names;
 
 use crate::encodings::{Kind, NativeKind, Width, levels, parts_of_id};
@@ -520,7 +519,7 @@ fn missing_level(bottom: &Bottom) -> LayoutFault
 /// So many lists over a coordinate.
 fn leaf_under(summary: &Summary, levels: u8) -> Answer
     requires { levels ≤ 3 }
-    ensures { (t : Tree) → Shows summary.now t → TellsBoth result (LeafUnder levels t) (ListsFault CoordinateFault levels t) }
+    ensures { (t : Tree) → Shows summary.now t → TellsBoth result (Under Leaf levels t) (ListsFault CoordinateFault levels t) }
 {
     if summary.levels < levels {
         return Err(missing_level(&summary.bottom));
