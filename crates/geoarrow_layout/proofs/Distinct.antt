@@ -1,7 +1,8 @@
 -- The data types that are written are pairwise distinct: the kind of one is read back from it.
-use Rattle.geoarrow_layout.proofs.Terms.{◌≡◌, cond, List, [], ◌∷◌, codes, refl, sym, subst, ◌∙◌, ap, bytes_eq, Text, PlainType, large_binary, binary_view, utf8, large_utf8, utf8_view, Tree, plain, list, large_list, fixed_size_list, struct, union, CoordType, Interleaved, Separated, XY, NativeKind, Point, LineString, Polygon, MultiPoint, MultiLineString, MultiPolygon, GeometryCollection, Plain, Kind, OfNative, OfGeometry, OfRect, OfWkb, OfWkt, ExtensionName, extension_of, names_of, layout, Accepted}
+use Rattle.geoarrow_layout.proofs.Terms.{◌≡◌, cond, List, [], ◌∷◌, codes, refl, sym, subst, ◌∙◌, ap, bytes_eq, Text, Tree, plain, list, large_list, fixed_size_list, struct, union, CoordType, Interleaved, Separated, XY, NativeKind, Point, LineString, Polygon, MultiPoint, MultiLineString, MultiPolygon, GeometryCollection, Plain, Kind, OfNative, OfGeometry, OfRect, OfWkb, OfWkt, ExtensionName, extension_of, names_of, layout, Accepted}
 use Rattle.geoarrow_layout.specs.declared.names.ExtensionName.TheVariants as names
 use Rattle.geoarrow_layout.proofs.KindSteps.{same_kind}
+use Rattle.geoarrow_layout.proofs.NamesSteps.{plain_name}
 use Rattle.geoarrow_layout.proofs.Written.{written}
 
 -- what a written data type says of its extension name
@@ -9,12 +10,6 @@ abbrev kind_named : Text → NativeKind
 kind_named n =
     cond (bytes_eq n (codes "vertices")) LineString (cond (bytes_eq n (codes "rings")) Polygon (cond (bytes_eq n (codes "points")) MultiPoint
     (cond (bytes_eq n (codes "linestrings")) MultiLineString (cond (bytes_eq n (codes "polygons")) MultiPolygon GeometryCollection))))
-
-abbrev plain_name : PlainType → ExtensionName
-plain_name utf8 = names.Wkt
-plain_name large_utf8 = names.Wkt
-plain_name utf8_view = names.Wkt
-plain_name _ = names.Wkb
 
 abbrev struct_name : List Text → ExtensionName
 struct_name (a ∷ ns) = cond (bytes_eq a (codes "xmin")) names.Rect (names.Native Point)

@@ -8,7 +8,7 @@ pub use Rattle.arrow_values.specs.declared.tree.UnionMode.{UnionMode}
 pub use Rattle.arrow_values.specs.declared.tree.UnionMode.TheVariants.{Dense}
 pub use Rattle.geoarrow_layout.specs.Alike.{Alike, AlikeNames, EachHasAlike, HasAlike}
 pub use Rattle.geoarrow_layout.specs.AlikeTest.{alike_names, alike_of, all_members, each_has_alike, has_alike, has_member, is_met, is_repeated, some_member}
-pub use Rattle.geoarrow_layout.specs.Candidates.{Holds, IsAccepted, IsAcceptedStructure, IsBox, IsGeometry, IsNative, IsStructOfFour, Share}
+pub use Rattle.geoarrow_layout.specs.Candidates.{Holds, IsAccepted, IsStructOfFour, Share}
 pub use Rattle.geoarrow_layout.specs.Changes.{AlikeUnions, AreJust, EachOf}
 pub use Rattle.geoarrow_layout.specs.FaultAt.{BoxFault, BoxNamesFault, CoordinateFault, DimensionsFault, FaultAt, Faults, FirstFault, GeometryFault, GeometryMemberFault, HasFault, Here, InItem, InterleavedFault, LevelFault, ListsFault, Located, MemberFault, MixedFault, NativeFault, OverLeafFault, PartFault, Path, SeparatedFault, UnionFault, field_at, member_at}
 pub use Rattle.geoarrow_layout.specs.Inferred.{AnswersSome, Inferred, IsInferredAs, IsInferredSize, are_float64, is_float64}
@@ -16,7 +16,7 @@ pub use Rattle.geoarrow_layout.specs.Kinds.{extension_of, interleaved_name, name
 pub use Rattle.geoarrow_layout.specs.Layouts.{IsWritten, IsWrittenSome, coordinate, dimension_members, geometry_members, layout, leaf_layout, member_layout, members_over, mixed_layout, mixed_members, native_layout, over_leaf_layout}
 pub use Rattle.geoarrow_layout.specs.OneShape.{ReadsFirst, among_back, any_native_same, box_shape_same, coords_in, dimension_among, dimension_named, geometry_member_first, geometry_same, member_first, mixed_first, named_back, native_first, over_leaf_first}
 pub use Rattle.geoarrow_layout.specs.Shapes.{Accepted, Accepts, AllMembers, Answers, AnswersKind, AnswersOne, BoxShape, Collection, Geometry, GeometryMember, HasMembers, HaveBoth, IsBoxAs, IsBytes, IsSeparatedAs, IsStructured, IsText, Leaf, Levels, ListsOver, Member, Mixed, Native, OverLeaf, SomeMember, Under, has_name, levels_of, names_of}
-pub use Rattle.geoarrow_layout.specs.Steps.{AddsBit, AddsBits, AreOf, CoordOf, DimensionOf, Ended, FirstOrNone, IsCoordFault, IsNested, IsNoLeaf, IsOtherFault, IsWidth, LeadsTo, LevelsFault, MemberFaultIn, MemberIn, NamesSay, NativeFaultIn, NativeIn, Shows, ShowsIn, ShowsInner, SizeSays, StaysHere, Tells, TellsBoth, TellsKind, UnionSays, UnionSaysOne, first_fault, has_bit, is_measured, missing_fault}
+pub use Rattle.geoarrow_layout.specs.Steps.{AddsBit, AddsBits, AreOf, CoordOf, DimensionOf, Ended, FirstOrNone, IsCoordFault, IsNested, IsNoLeaf, IsOtherFault, IsWidth, LeadsTo, LevelsFault, MemberFaultIn, MemberIn, NamesSay, NativeFaultIn, NativeIn, Shows, ShowsIn, ShowsInner, SizeSays, StaysHere, Tells, TellsBoth, UnionSays, UnionSaysOne, first_fault, has_bit, is_measured, missing_fault}
 pub use Rattle.geoarrow_layout.specs.Summary.{AreLevels, IsBits, IsBottom, IsFaultOf, IsFixedSize, IsInnerUnion, IsStruct, IsUnion, Seen, SomeAt, Summarizes, SummarizesBy, known_names, place_in, place_of}
 pub use Rattle.geoarrow_layout.specs.declared.encodings.Kind.{Kind}
 pub use Rattle.geoarrow_layout.specs.declared.encodings.Kind.TheVariants.{Geometry as OfGeometry, Native as OfNative, Rect, Rect as OfRect, Wkb, Wkb as OfWkb, Wkt, Wkt as OfWkt}

@@ -1,11 +1,10 @@
 -- What the steps of the walk and of the readers do.
 use Rattle.std.specs.Prelude.{◌≡◌, ◌≢◌, ◌↔◌, ◌⊎◌, ◌^◌, ◌++◌, ◌&&◌}
-use Rattle.geoarrow_layout.specs.Words.{ℕ, zero, suc, nat_eq, ℤ, pos, [], Bool, true, false, Option, Some, None, Result, Ok, Err, MatchResult, bit_at, CoordType, Dimension, XY, XYZ, XYM, XYZM, LayoutFault, UnexpectedType, MixedWidths, MemberDimension, EmptyUnion, SeveralCoordTypes, SeveralDimensions, ListWidth, Lists, LargeLists, Bottom, FixedSizeList, Struct, OtherWidth, Summary, Kind, NativeKind, ExtensionName}
+use Rattle.geoarrow_layout.specs.Words.{ℕ, zero, suc, nat_eq, ℤ, pos, [], Bool, true, false, Option, Some, None, Result, Ok, Err, MatchResult, bit_at, CoordType, Dimension, XY, XYZ, XYM, XYZM, LayoutFault, UnexpectedType, MixedWidths, MemberDimension, EmptyUnion, SeveralCoordTypes, SeveralDimensions, ListWidth, Lists, LargeLists, Bottom, FixedSizeList, Struct, OtherWidth, Summary, NativeKind}
 use Rattle.arrow_values.specs.Tree.{Tree, list, large_list, MemberTrees}
-use Rattle.geoarrow_layout.specs.declared.names.ExtensionName.TheVariants as names
-use Rattle.geoarrow_layout.specs.Kinds.{order_of, name_text}
-use Rattle.geoarrow_layout.specs.Shapes.{AllMembers, OverLeaf, Member, Native, GeometryMember, Accepts}
-use Rattle.geoarrow_layout.specs.FaultAt.{Path, Located, Faults, HasFault, FirstFault, CoordinateFault, LevelFault, ListsFault, OverLeafFault, PartFault, NativeFault, FaultAt}
+use Rattle.geoarrow_layout.specs.Kinds.{order_of}
+use Rattle.geoarrow_layout.specs.Shapes.{AllMembers, OverLeaf, Member, Native, GeometryMember}
+use Rattle.geoarrow_layout.specs.FaultAt.{Path, Located, Faults, HasFault, FirstFault, CoordinateFault, LevelFault, ListsFault, OverLeafFault, PartFault, NativeFault}
 use Rattle.geoarrow_layout.specs.Summary.{place_of, IsInnerUnion, SummarizesBy}
 
 -- whether bit i of the number is set
@@ -79,12 +78,6 @@ Tells r R F = MatchResult r R (HasFault F)
 -- the same, of a coordinate type and a dimension
 abbrev pub TellsBoth : Result (CoordType × Dimension) LayoutFault → (CoordType → Dimension → Type 0) → Located → Type 0
 TellsBoth r R F = Tells r (λ x. R x.0 x.1) F
-
--- what is answered under an extension name, where well-known binary and text are refused
-abbrev pub TellsKind : ExtensionName → Tree → Result Kind LayoutFault → Type 0
-TellsKind names.Wkb t r = r ≡ Err UnexpectedType
-TellsKind names.Wkt t r = r ≡ Err UnexpectedType
-TellsKind n t r = Tells r (Accepts (name_text n) t) (FaultAt n t)
 
 -- where F says a fault, `after` is `before` with the path to it
 abbrev pub LeadsTo : Located → Path → Path → Type 0

@@ -6,11 +6,11 @@ ghost use Rattle.std.specs.Prelude.{IfErr, IfOk, ◌≡◌, IfSome, ◌↔◌, I
 ghost use Rattle.arrow_values.specs.View.{tree, field_trees};
 ghost use Rattle.geoarrow_layout.specs.Shapes.{Answers, AnswersOne, Leaf, Under, Native, Mixed, Collection, Geometry, BoxShape, IsBytes, IsText, Accepts, AnswersKind, IsStructured, IsSeparatedAs, IsBoxAs};
 ghost use Rattle.geoarrow_layout.specs.Kinds.{name_text, extension_of, name_of};
-ghost use Rattle.geoarrow_layout.specs.Steps.{Tells, TellsKind, is_measured, NamesSay, SizeSays, IsNoLeaf, Shows, ShowsInner, ShowsIn, NativeIn, NativeFaultIn, MemberIn, MemberFaultIn, TellsBoth, missing_fault, IsOtherFault, UnionSays, UnionSaysOne, has_bit};
+ghost use Rattle.geoarrow_layout.specs.Steps.{Tells, is_measured, NamesSay, SizeSays, IsNoLeaf, Shows, ShowsInner, ShowsIn, NativeIn, NativeFaultIn, MemberIn, MemberFaultIn, TellsBoth, missing_fault, IsOtherFault, UnionSays, UnionSaysOne, has_bit};
 ghost use Rattle.geoarrow_layout.specs.FaultAt.{HasFault, BoxFault, MixedFault, NativeFault, GeometryFault, FaultAt, SeparatedFault, CoordinateFault, BoxNamesFault, ListsFault};
 ghost use Rattle.arrow_values.specs.Tree.{Tree, Text, struct};
 ghost use Rattle.geoarrow_layout.specs.Summary.{Summarizes, IsBits, SomeAt, IsBottom, IsUnion};
-ghost use Rattle.geoarrow_layout.specs.Candidates.{Holds, IsAccepted, IsAcceptedStructure};
+ghost use Rattle.geoarrow_layout.specs.Candidates.{Holds, IsAccepted};
 ghost use Rattle.geoarrow_layout.specs.Inferred.{AnswersSome, Inferred, IsFlat};
 ghost use Rattle.geoarrow_layout.specs.declared.summary.ListWidth.{ListWidth};
 ghost use Rattle.geoarrow_layout.specs.declared.names.ExtensionName.TheVariants as names;
@@ -169,7 +169,6 @@ pub fn parse_kind(name: ExtensionName, data_type: &DataType) -> Result<Kind, Lay
 
 /// The kind, by the reader of the name.
 #[inline(always)]
-#[tactic(auto, using(crate::proofs::KindSteps::told_all))]
 fn kind_read(name: ExtensionName, data_type: &DataType) -> Result<Kind, LayoutFault>
     ensures { Tells result (Accepts (name_text name) (tree data_type.now)) (FaultAt name (tree data_type.now)) }
 {
@@ -200,9 +199,12 @@ impl Summary {
         let Some(known) = ExtensionName::from_text(name) else {
             return None;
         };
-        match kind_under(known, self) {
-            Ok(kind) => Some(kind),
-            Err(_) => None,
+        match known {
+            ExtensionName::Wkb | ExtensionName::Wkt => None,
+            _ => match kind_under(known, self) {
+                Ok(kind) => Some(kind),
+                Err(_) => None,
+            },
         }
     }
 }
@@ -210,8 +212,9 @@ impl Summary {
 /// The kind of a column of that extension name, from the summary of its data type, which says nothing of well-known
 /// binary and text.
 #[inline(always)]
-pub(crate) fn kind_under(name: ExtensionName, summary: &Summary) -> Result<Kind, LayoutFault>
-    ensures told { (t : Tree) → Summarizes summary.now t → TellsKind name t result }
+fn kind_under(name: ExtensionName, summary: &Summary) -> Result<Kind, LayoutFault>
+    requires { (name ≢ names.Wkb) × (name ≢ names.Wkt) }
+    ensures told { (t : Tree) → Summarizes summary.now t → Tells result (Accepts (name_text name) t) (FaultAt name t) }
     ensures named { IfOk result (λ k. (extension_of k ≡ name) × IsStructured k) }
 {
     match name {
@@ -241,13 +244,40 @@ pub(crate) fn kind_under(name: ExtensionName, summary: &Summary) -> Result<Kind,
 pub fn candidates(data_type: &DataType) -> Candidates
     ensures { (n : Text) → Holds result n ↔ IsAccepted n (tree data_type.now) }
 {
-    if bytes_width(data_type).is_some() {
+    if parse_kind(ExtensionName::Wkb, data_type).is_ok() {
         return Candidates::One("geoarrow.wkb");
     }
-    if text_width(data_type).is_some() {
+    if parse_kind(ExtensionName::Wkt, data_type).is_ok() {
         return Candidates::One("geoarrow.wkt");
     }
-    structured(&summarize(data_type))
+    let summary = summarize(data_type);
+    let is_point = is_kind(ExtensionName::Native(NativeKind::Point), &summary);
+    if is_kind(ExtensionName::Rect, &summary) {
+        if is_point {
+            return Candidates::PointOrBox;
+        }
+        return Candidates::One("geoarrow.box");
+    }
+    if is_point {
+        return Candidates::One("geoarrow.point");
+    }
+    if is_kind(ExtensionName::Native(NativeKind::LineString), &summary) {
+        return Candidates::LineStringOrMultiPoint;
+    }
+    if is_kind(ExtensionName::Native(NativeKind::Polygon), &summary) {
+        return Candidates::PolygonOrMultiLineString;
+    }
+    if is_kind(ExtensionName::Native(NativeKind::MultiPolygon), &summary) {
+        return Candidates::One("geoarrow.multipolygon");
+    }
+    let collection = NativeKind::GeometryCollection;
+    if is_kind(ExtensionName::Native(collection), &summary) {
+        return Candidates::One("geoarrow.geometrycollection");
+    }
+    if is_kind(ExtensionName::Geometry, &summary) {
+        return Candidates::One("geoarrow.geometry");
+    }
+    Candidates::None
 }
 
 /// How the bytes of well-known binary are stored.
@@ -274,44 +304,10 @@ pub(crate) fn text_width(data_type: &DataType) -> Option<Width>
     }
 }
 
-/// The names of kinds that have a structure.
-fn structured(summary: &Summary) -> Candidates
-    ensures { (t : Tree) → Summarizes summary.now t → (n : Text) → Holds result n ↔ IsAcceptedStructure n t }
-{
-    let is_point = is_kind(ExtensionName::Native(NativeKind::Point), summary);
-    if is_kind(ExtensionName::Rect, summary) {
-        if is_point {
-            return Candidates::PointOrBox;
-        }
-        return Candidates::One("geoarrow.box");
-    }
-    if is_point {
-        return Candidates::One("geoarrow.point");
-    }
-    if is_kind(ExtensionName::Native(NativeKind::LineString), summary) {
-        return Candidates::LineStringOrMultiPoint;
-    }
-    if is_kind(ExtensionName::Native(NativeKind::Polygon), summary) {
-        return Candidates::PolygonOrMultiLineString;
-    }
-    if is_kind(ExtensionName::Native(NativeKind::MultiPolygon), summary) {
-        return Candidates::One("geoarrow.multipolygon");
-    }
-    if is_kind(
-        ExtensionName::Native(NativeKind::GeometryCollection),
-        summary,
-    ) {
-        return Candidates::One("geoarrow.geometrycollection");
-    }
-    if is_kind(ExtensionName::Geometry, summary) {
-        return Candidates::One("geoarrow.geometry");
-    }
-    Candidates::None
-}
-
 /// Whether a column of that extension name has a kind, by the summary of its data type.
 fn is_kind(name: ExtensionName, summary: &Summary) -> bool
-    ensures { (t : Tree) → Summarizes summary.now t → IsTrue result ↔ IsAcceptedStructure (name_text name) t }
+    requires { (name ≢ names.Wkb) × (name ≢ names.Wkt) }
+    ensures { (t : Tree) → Summarizes summary.now t → IsTrue result ↔ IsAccepted (name_text name) t }
 {
     kind_under(name, summary).is_ok()
 }
