@@ -5,12 +5,9 @@ use Rattle.geoarrow_layout.proofs.FaultLaws.{accepted_apart}
 use Rattle.geoarrow_layout.proofs.Readings.{exactly_one}
 
 -- a text says which name it is, so two names of one text are one
-abbrev if_named : Text → ExtensionName → ExtensionName → ExtensionName
-if_named n a b = cond (bytes_eq n (name_text a)) a b
-
 abbrev named : Text → ExtensionName
 named n =
-    let or = if_named n in
+    let or = λ (a b : ExtensionName). cond (bytes_eq n (name_text a)) a b in
     or (names.Native Point) (or (names.Native LineString) (or (names.Native Polygon) (or (names.Native MultiPoint) (or (names.Native MultiLineString) (or (names.Native MultiPolygon)
     (or (names.Native GeometryCollection) (or names.Geometry (or names.Rect (or names.Wkb names.Wkt)))))))))
 
@@ -44,9 +41,6 @@ one_kind name t k l h g = same_kind t k l (one_name (extension_of k) (extension_
 pub no_fault_if_accepted : (n : ExtensionName) (t : Tree) (k : Kind) (p : Path) (f : LayoutFault) → Accepts (name_text n) t k → FaultAt n t p f → ⊥
 no_fault_if_accepted n t k p f h e = accepted_apart k t p f h.1 (subst (λ m. FaultAt m t p f) (one_name n (extension_of k) h.0) e)
 
-none_accepted : (n : ExtensionName) (t : Tree) (f : LayoutFault) → HasFault (FaultAt n t) f → (l : Kind) → Accepts (name_text n) t l → ⊥
-none_accepted n t f h l a = no_fault_if_accepted n t l h.0 f a h.1
-
 -- ---- answers
 
 -- a kind that accepts the tree is the one
@@ -58,7 +52,7 @@ pub kind_exact : (n : ExtensionName) (t : Tree) (r : Result Kind LayoutFault) �
 kind_exact n t r h = exactly_one r (Accepts (name_text n) t) (FaultAt n t) (one_kind (name_text n) t) (no_fault_if_accepted n t) h
 
 pub answer_none : (x : Text) (n : ExtensionName) (t : Tree) (f : LayoutFault) → x ≡ name_text n → HasFault (FaultAt n t) f → AnswersKind x t None
-answer_none x n t f named fault l = (λ e. cc, λ h. absurd (none_accepted n t f fault l (sym named ∙ h.0.0, h.0.1)))
+answer_none x n t f named fault l = (λ e. cc, λ h. absurd (no_fault_if_accepted n t l fault.0 f (sym named ∙ h.0.0, h.0.1) fault.1))
 
 -- well-known binary and text have no structure
 not_plain : (k : Kind) → IsStructured k → (extension_of k ≡ names.Wkb) ⊎ (extension_of k ≡ names.Wkt) → ⊥

@@ -2,7 +2,7 @@
 use Rattle.geoarrow_layout.proofs.Terms.{◌≡◌, ◌↔◌, ◌⊎◌, ◌≤◌, inl, inr, ℕ, zero, suc, refl, sym, ap, subst, ◌∙◌, arith, Text, PlainType, binary, large_binary, binary_view, utf8, large_utf8, utf8_view, Tree, plain, list, large_list, fixed_size_list, struct, union, CoordType, Interleaved, Separated, Dimension, XY, XYZM, ListWidth, Lists, LargeLists, NativeKind, Point, LineString, Polygon, MultiPoint, MultiLineString, MultiPolygon, GeometryCollection, Plain, Kind, OfNative, OfGeometry, OfRect, OfWkb, OfWkt, ExtensionName, size_of, name_text, extension_of, names_of, ListsOver, levels_of, Leaf, Mixed, Native, BoxShape, Accepted, IsAccepted, Candidates, NoName, LineStringOrMultiPoint, PolygonOrMultiLineString, PointOrBox, Holds, IsStructOfFour, Share}
 use Rattle.geoarrow_layout.specs.declared.names.ExtensionName.TheVariants as names
 use Rattle.geoarrow_layout.proofs.FaultLaws.{separated_length, box_length}
-use Rattle.geoarrow_layout.proofs.KindSteps.{one_name}
+use Rattle.geoarrow_layout.proofs.KindSteps.{one_name, by_name}
 
 -- the first of the names of a data type with such a structure, if it has any
 abbrev pub plain_name : PlainType → ExtensionName
@@ -115,29 +115,6 @@ point_alone t p no_box = named _ (names.Native Point) t p (λ n e. moved _ n t e
 pub box_alone : (t : Tree) → ¬ IsAccepted (name_text (names.Native Point)) t → IsAccepted (name_text names.Rect) t → Names (λ n. n ≡ name_text names.Rect) t
 box_alone t no_point b = named _ names.Rect t b (λ n e. moved _ n t e b) (λ n x g. elim x [ inl e ↦ absurd (no_point (moved n _ t (sym e) g)) | inr e ↦ e ])
 
-pub no_names : (t : Tree) → ((a : ExtensionName) → first_of a ≡ a → ¬ IsAccepted (name_text a) t) → ¬ IsAccepted (name_text names.Rect) t → Names (Holds NoName) t
-no_names t firsts box n = (λ e. absurd e, λ a. from a.0 a.1.1)
-  where
-    from : (k : Kind) → Accepted k t → ⊥
-    from (OfNative MultiPoint c d) h = firsts (names.Native LineString) refl (OfNative LineString c d, (refl, h))
-    from (OfNative MultiLineString c d) h = firsts (names.Native Polygon) refl (OfNative Polygon c d, (refl, h))
-    from (OfRect d) h = box (OfRect d, (refl, h))
-    from (OfNative Point c d) h = firsts (names.Native Point) refl (OfNative Point c d, (refl, h))
-    from (OfNative k c d) h = firsts (names.Native k) refl (OfNative k c d, (refl, h))
-    from k h = firsts (extension_of k) refl (k, (refl, h))
-
--- each of the first names is one of those that were tried
-pub tried : (P : ExtensionName → Type 0) → P (names.Native Point) → P (names.Native LineString) → P (names.Native Polygon) → P (names.Native MultiPolygon) → P (names.Native GeometryCollection) → P names.Geometry → P names.Wkb → P names.Wkt → (a : ExtensionName) → first_of a ≡ a → P a
-tried P a b c d e f g h (names.Native Point) first = a
-tried P a b c d e f g h (names.Native LineString) first = b
-tried P a b c d e f g h (names.Native Polygon) first = c
-tried P a b c d e f g h (names.Native MultiPolygon) first = d
-tried P a b c d e f g h (names.Native GeometryCollection) first = e
-tried P a b c d e f g h names.Geometry first = f
-tried P a b c d e f g h names.Wkb first = g
-tried P a b c d e f g h names.Wkt first = h
-tried P a b c d e f g h _ first = cc
-
 -- ---- two names of one data type
 
 of_two : (x y a b c : Text) → (a ≡ x) ⊎ (a ≡ y) → (b ≡ x) ⊎ (b ≡ y) → (c ≡ x) ⊎ (c ≡ y) → (a ≡ b) ⊎ ((a ≡ c) ⊎ (b ≡ c))
@@ -213,3 +190,18 @@ pub both_accepted : (t : Tree) (a b : Text) → Share t a b → IsAccepted a t �
 both_accepted t a b (inl h) = renamed_both t a b _ _ h.0 h.1 (as_other LineString MultiPoint t (λ c d x. x), as_other MultiPoint LineString t (λ c d x. x))
 both_accepted t a b (inr (inl h)) = renamed_both t a b _ _ h.0 h.1 (as_other Polygon MultiLineString t (λ c d x. x), as_other MultiLineString Polygon t (λ c d x. x))
 both_accepted t a b (inr (inr h)) = renamed_both t a b _ _ h.0 h.1 (λ x. box_of_four t h.2, λ x. point_of_four t h.2)
+
+-- ---- no name
+
+abbrev No : Tree → ExtensionName → Type 0
+No t a = ¬ IsAccepted (name_text a) t
+
+pub no_names : (t : Tree) → No t (names.Native Point) → No t (names.Native LineString) → No t (names.Native Polygon) → No t (names.Native MultiPolygon) → No t (names.Native GeometryCollection) → No t names.Geometry → No t names.Rect → No t names.Wkb → No t names.Wkt → Names (Holds NoName) t
+no_names t point line polygon multi collection geometry box wkb wkt n = (λ e. absurd e, λ a. from a.0 a.1.1)
+  where
+    from : (k : Kind) → Accepted k t → ⊥
+    from (OfWkb w) h = wkb (OfWkb w, (refl, h))
+    from (OfWkt w) h = wkt (OfWkt w, (refl, h))
+    from k h =
+        by_name (No t) point line polygon (λ x. line (as_other MultiPoint LineString t (λ c d y. y) x)) (λ x. polygon (as_other MultiLineString Polygon t (λ c d y. y) x)) multi collection geometry box
+        k tt (k, (refl, h))

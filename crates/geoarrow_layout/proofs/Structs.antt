@@ -1,7 +1,7 @@
 -- What the names of a struct's fields say, by their bits: the dimension of a coordinate, and that of a box.
 use Rattle.geoarrow_layout.proofs.Terms.{◌≡◌, ◌⊎◌, ℕ, refl, sym, ◌∙◌, arith, Bool, true, false, Result, Ok, Err, inl, inr, List, length, Option, ◌&&◌, [], Text, Tree, struct, FieldTrees, Separated, Dimension, XYZ, XYM, LayoutFault, BadFieldNames, ListWidth, Bottom, Struct, names_of, IsSeparatedAs, Leaf, IsBoxAs, BoxShape, Path, SeparatedFault, CoordinateFault, BoxFault, SomeAt, IsBottom, IsUnion, has_bit, IsNoLeaf, Tells, TellsBoth, BoxNamesFault, IsBits, and_parts}
 use Rattle.geoarrow_layout.proofs.FieldSteps.{same_three, three_have, has_at}
-use Rattle.geoarrow_layout.proofs.Readings.{Answer, ok_pair}
+use Rattle.geoarrow_layout.proofs.Readings.{Answer}
 use Rattle.geoarrow_layout.proofs.Bottoms.{at_bottom}
 
 abbrev DimensionAnswer : Type 0
@@ -38,7 +38,7 @@ LeafAnswer b r = (w : Option ListWidth) (levels : ℕ) (u : Tree) → IsBottom I
 at_struct : (P : Tree → Type 0) (count names : ℕ) (floats : Bool) → ((fs : FieldTrees) → count ≡ length (names_of fs) → IsBits names (λ i. SomeAt i (names_of fs)) → P (struct fs)) → (w : Option ListWidth) (n : ℕ) (u : Tree) → IsBottom IsNoLeaf w n (Struct count names floats) u → P u
 at_struct P count names floats h w n u is = at_bottom IsNoLeaf P w n (Struct count names floats) tt (λ x t b m z k. absurd k) (λ fs k. h fs k.0 k.1) (λ ms mode k. absurd k) u is
 
-pub struct_leaf : (count names : ℕ) (floats : Bool) (d : Dimension) → NamesAnswer count names (Ok d) → LeafAnswer (Struct count names floats) (ok_pair Separated d)
+pub struct_leaf : (count names : ℕ) (floats : Bool) (d : Dimension) → NamesAnswer count names (Ok d) → LeafAnswer (Struct count names floats) (Ok (Separated, d))
 struct_leaf count names floats d h w n u is = at_struct (λ x. Leaf x Separated d) count names floats (λ fs same bits. h (names_of fs) same bits) w n u is
 
 pub struct_no_leaf : (count names : ℕ) (floats : Bool) (f : LayoutFault) → NamesAnswer count names (Err f) → LeafAnswer (Struct count names floats) (Err f)

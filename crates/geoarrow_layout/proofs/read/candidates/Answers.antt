@@ -1,7 +1,7 @@
-use Rattle.geoarrow_layout.proofs.Terms.{refl, tree, iff_false, LineString, MultiPoint, Polygon, MultiLineString, MultiPolygon, GeometryCollection, Point, IsAccepted, name_text}
+use Rattle.geoarrow_layout.proofs.Terms.{refl, tree, iff_false, LineString, MultiPoint, Polygon, MultiLineString, MultiPolygon, GeometryCollection, Point}
 use Rattle.geoarrow_layout.specs.declared.names.ExtensionName.TheVariants as names
 use Rattle.geoarrow_layout.proofs.KindSteps.{accepted_ok}
-use Rattle.geoarrow_layout.proofs.NamesSteps.{alone, both, point_alone, box_alone, as_other, no_names, tried}
+use Rattle.geoarrow_layout.proofs.NamesSteps.{alone, both, point_alone, box_alone, as_other, no_names}
 use Rattle.geoarrow_layout.proofs.read.candidates.Goals as goal
 
 pub returns-then-is_ok : goal.returns-then-is_ok
@@ -38,7 +38,6 @@ pub returns : goal.returns
 returns c =
     let t = tree c.args.data_type.now in
     let s = c.summarize-summary.ensures in
-    no_names t (tried (λ a. ¬ IsAccepted (name_text a) t) (iff_false (c.is_kind-is_point.ensures t s) c.if-is_point-2.false) (iff_false (c.is_kind-2.ensures t s) c.if-is_kind-2.false) (iff_false (c.is_kind-3.ensures t s) c.if-is_kind-3.false)
-    (iff_false (c.is_kind-4.ensures t s) c.if-is_kind-4.false) (iff_false (c.is_kind-5.ensures t s) c.if-is_kind-5.false) (iff_false (c.is_kind-6.ensures t s) c.if-is_kind-6.false)
-    (iff_false (accepted_ok _ _ _ _ c.is_ok.ensures.value c.parse_kind.ensures.exact) c.if-is_ok.false) (iff_false (accepted_ok _ _ _ _ c.is_ok-2.ensures.value c.parse_kind-2.ensures.exact) c.if-is_ok-2.false))
-    (iff_false (c.is_kind.ensures t s) c.if-is_kind.false)
+    no_names t (iff_false (c.is_kind-is_point.ensures t s) c.if-is_point-2.false) (iff_false (c.is_kind-2.ensures t s) c.if-is_kind-2.false) (iff_false (c.is_kind-3.ensures t s) c.if-is_kind-3.false)
+    (iff_false (c.is_kind-4.ensures t s) c.if-is_kind-4.false) (iff_false (c.is_kind-5.ensures t s) c.if-is_kind-5.false) (iff_false (c.is_kind-6.ensures t s) c.if-is_kind-6.false) (iff_false (c.is_kind.ensures t s) c.if-is_kind.false)
+    (iff_false (accepted_ok _ _ _ _ c.is_ok.ensures.value c.parse_kind.ensures.exact) c.if-is_ok.false) (iff_false (accepted_ok _ _ _ _ c.is_ok-2.ensures.value c.parse_kind-2.ensures.exact) c.if-is_ok-2.false)
