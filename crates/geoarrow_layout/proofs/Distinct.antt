@@ -1,5 +1,5 @@
 -- The data types that are written are pairwise distinct: the kind of one is read back from it.
-use Rattle.geoarrow_layout.proofs.Terms.{◌≡◌, cond, List, [], ◌∷◌, codes, refl, sym, subst, ◌∙◌, ap, bytes_eq, Text, Tree, plain, list, large_list, fixed_size_list, struct, union, CoordType, Interleaved, Separated, XY, NativeKind, Point, LineString, Polygon, MultiPoint, MultiLineString, MultiPolygon, GeometryCollection, Plain, Kind, OfNative, OfGeometry, OfRect, OfWkb, OfWkt, ExtensionName, extension_of, names_of, layout, Accepted}
+use Rattle.geoarrow_layout.proofs.Terms.{◌≡◌, cond, List, ◌∷◌, codes, refl, sym, subst, ◌∙◌, ap, bytes_eq, Text, Tree, plain, list, struct, union, Interleaved, Separated, XY, NativeKind, Point, LineString, Polygon, MultiPoint, MultiLineString, MultiPolygon, GeometryCollection, Plain, Kind, OfNative, OfGeometry, OfRect, OfWkb, OfWkt, ExtensionName, extension_of, names_of, layout, Accepted}
 use Rattle.geoarrow_layout.specs.declared.names.ExtensionName.TheVariants as names
 use Rattle.geoarrow_layout.proofs.KindSteps.{same_kind}
 use Rattle.geoarrow_layout.proofs.NamesSteps.{plain_name}

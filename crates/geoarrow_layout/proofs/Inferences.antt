@@ -1,5 +1,5 @@
 -- Points that trees are taken for.
-use Rattle.geoarrow_layout.proofs.Terms.{◌≡◌, ◌↔◌, inl, inr, ℤ, pos, refl, sym, ap, subst, ◌∙◌, arith, Bool, true, false, Option, Some, None, List, length, same_Some, [], ◌∷◌, get_or, FieldTree, field_trees, Text, Tree, fixed_size_list, struct, FieldTrees, CoordType, Interleaved, Separated, Dimension, XY, XYZ, XYM, LayoutFault, BadFieldNames, Path, SeparatedFault, size_of, names_of, IsSeparatedAs, Leaf, is_float64, are_float64, interleaved_name, AnswersSome, Inferred, IsInferredAs, IsInferredSize, among_back, dimension_named}
+use Rattle.geoarrow_layout.proofs.Terms.{◌≡◌, ◌↔◌, inl, inr, ℤ, pos, refl, sym, ap, subst, ◌∙◌, arith, true, false, Option, Some, None, List, length, same_Some, [], ◌∷◌, get_or, FieldTree, field_trees, Text, Tree, fixed_size_list, struct, FieldTrees, CoordType, Interleaved, Separated, Dimension, XY, XYZ, XYM, LayoutFault, BadFieldNames, Path, SeparatedFault, size_of, names_of, IsSeparatedAs, Leaf, is_float64, are_float64, interleaved_name, AnswersSome, Inferred, IsInferredAs, IsInferredSize, among_back, dimension_named}
 
 abbrev PairOption : Type 0
 PairOption = Option (CoordType × Dimension)

@@ -1,5 +1,5 @@
 -- The extension names of a data type: two at most, and which two.
-use Rattle.geoarrow_layout.proofs.Terms.{◌≡◌, ◌↔◌, ◌⊎◌, ◌≤◌, inl, inr, ℕ, zero, suc, refl, sym, ap, subst, ◌∙◌, arith, Text, PlainType, binary, large_binary, binary_view, utf8, large_utf8, utf8_view, Tree, plain, list, large_list, fixed_size_list, struct, union, CoordType, Interleaved, Separated, Dimension, XY, XYZM, ListWidth, Lists, LargeLists, NativeKind, Point, LineString, Polygon, MultiPoint, MultiLineString, MultiPolygon, GeometryCollection, Plain, Kind, OfNative, OfGeometry, OfRect, OfWkb, OfWkt, ExtensionName, size_of, name_text, extension_of, names_of, ListsOver, levels_of, Leaf, Mixed, Native, BoxShape, Accepted, IsAccepted, Candidates, NoName, LineStringOrMultiPoint, PolygonOrMultiLineString, PointOrBox, Holds, IsStructOfFour, Share}
+use Rattle.geoarrow_layout.proofs.Terms.{◌≡◌, ◌↔◌, ◌⊎◌, ◌≤◌, inl, inr, ℕ, zero, suc, refl, sym, ap, subst, ◌∙◌, arith, Text, PlainType, binary, large_binary, binary_view, utf8, large_utf8, utf8_view, Tree, plain, list, large_list, fixed_size_list, struct, union, CoordType, Interleaved, Separated, Dimension, XY, XYZM, ListWidth, Lists, LargeLists, NativeKind, Point, LineString, Polygon, MultiPoint, MultiLineString, MultiPolygon, GeometryCollection, Plain, Kind, OfNative, OfGeometry, OfRect, OfWkb, OfWkt, ExtensionName, size_of, name_text, extension_of, names_of, ListsOver, levels_of, Leaf, Mixed, Native, BoxShape, Accepted, IsAccepted, NoName, Holds, IsStructOfFour, Share}
 use Rattle.geoarrow_layout.specs.declared.names.ExtensionName.TheVariants as names
 use Rattle.geoarrow_layout.proofs.FaultLaws.{separated_length, box_length}
 use Rattle.geoarrow_layout.proofs.KindSteps.{one_name, by_name}

@@ -1,5 +1,5 @@
 -- Ids and members: each is read in one way.
-use Rattle.geoarrow_layout.proofs.Terms.{◌≡◌, ◌≢◌, inl, inr, ℕ, ℤ, pos, Bool, true, false, Option, None, Some, some_pair_parts, Ok, Err, MatchResult, refl, sym, ap, subst, ◌∙◌, [], Tree, CoordType, Dimension, LayoutFault, BadTypeId, NativeKind, GeometryCollection, type_id_of, levels_of, OverLeaf, Member, GeometryMember, Native, Leaf, Under, Path, Faults, HasFault, MemberFault, CoordinateFault, ListsFault, PartFault, OverLeafFault, NativeFault, GeometryMemberFault, TellsBoth, Summary, IsOtherFault, ShowsIn, NativeIn, NativeFaultIn, MemberIn, MemberFaultIn}
+use Rattle.geoarrow_layout.proofs.Terms.{◌≡◌, ◌≢◌, inl, inr, ℕ, ℤ, pos, Bool, true, false, Option, None, some_pair_parts, Ok, Err, MatchResult, refl, sym, ap, subst, ◌∙◌, [], Tree, CoordType, Dimension, LayoutFault, BadTypeId, NativeKind, GeometryCollection, type_id_of, levels_of, OverLeaf, Member, GeometryMember, Native, Leaf, Under, Path, Faults, HasFault, MemberFault, CoordinateFault, ListsFault, PartFault, OverLeafFault, NativeFault, GeometryMemberFault, TellsBoth, Summary, IsOtherFault, ShowsIn, NativeIn, NativeFaultIn, MemberIn, MemberFaultIn}
 use Rattle.geoarrow_layout.proofs.UnionSteps.{shows_of_inner}
 use Rattle.geoarrow_layout.proofs.Readings.{Answer, IsPartsOf, some_parts, refused}
 use Rattle.geoarrow_layout.proofs.FaultLaws.{KindReads, KindFault}

@@ -73,9 +73,5 @@ no_box count bits six no_m no_z = λ ns same is. ([], inr (sym same ∙ six, (λ
     none ns XYZ count6 is h = not_both (has_bit bits 4) (has_bit bits 5) no_z (has_at _ 4 bits ns (omega arith) refl refl is ∙ h.2.0, has_at _ 5 bits ns (omega arith) refl refl is ∙ h.2.1)
     none ns _ count6 is h = omega arith
 
-box_told : (fs : FieldTrees) (r : DimensionAnswer) → Tells r (λ d. IsBoxAs d (names_of fs)) (BoxNamesFault (names_of fs)) → Tells r (BoxShape (struct fs)) (BoxFault (struct fs))
-box_told fs (Ok d) h = h
-box_told fs (Err f) h = h
-
 pub root_box : (w : Option ListWidth) (count names : ℕ) (floats : Bool) (u : Tree) (r : DimensionAnswer) → IsBottom IsUnion w 0 (Struct count names floats) u → BoxNames count names r → Tells r (BoxShape u) (BoxFault u)
-root_box w count names floats u r k says = at_bottom IsUnion (λ x. Tells r (BoxShape x) (BoxFault x)) w 0 (Struct count names floats) tt (λ x t b m z h. absurd h) (λ fs h. box_told fs r (says (names_of fs) h.0 h.1)) (λ ms mode h. absurd h) u k
+root_box w count names floats u r k says = at_bottom IsUnion (λ x. Tells r (BoxShape x) (BoxFault x)) w 0 (Struct count names floats) tt (λ x t b m z h. absurd h) (λ fs h. says (names_of fs) h.0 h.1) (λ ms mode h. absurd h) u k

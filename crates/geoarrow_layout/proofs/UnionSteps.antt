@@ -1,5 +1,5 @@
 -- What was seen of members says what the union is.
-use Rattle.geoarrow_layout.proofs.Terms.{ShowsIn, ◌≡◌, ◌≢◌, ◌↔◌, ◌<◌, ◌+◌, ◌^◌, ◌⊎◌, inl, inr, ℕ, zero, suc, ℤ, pos, Result, Ok, Err, Option, Some, None, MatchOption, MatchResult, Bool, true, false, [], ◌∷◌, ◌++◌, take, length, get_or, refl, sym, ap, subst, ◌∙◌, arith, nat_eq, bit_at, eqb-suc-zero, cases_eq, same_from_bits, bit_at-pow_same, bit_at-pow_other, bit_at-lt, Tree, union, FieldTree, MemberTrees, no_members, member, member_trees, UnionMode, CoordType, Interleaved, Dimension, LayoutFault, UnexpectedType, ListWidth, Bottom, Union, Deep, Other, Summary, order_of, Mixed, Geometry, Member, GeometryMember, AllMembers, SomeMember, HasMembers, Answers, Path, Faults, HasFault, FirstFault, UnionFault, MemberFault, MixedFault, GeometryMemberFault, GeometryFault, IsFaultOf, Seen, place_of, AreLevels, IsBottom, IsUnion, SummarizesBy, Summarizes, ReadAt, Tells, TellsBoth, IsNested, IsNoLeaf, ReadsFirst, coords_in, member_first, geometry_member_first, DimensionsFault, IsBits, AddsBits, first_fault, AreOf, IsCoordFault, UnionSays}
+use Rattle.geoarrow_layout.proofs.Terms.{ShowsIn, ◌≡◌, ◌≢◌, ◌↔◌, ◌<◌, ◌+◌, ◌^◌, ◌⊎◌, inl, inr, ℕ, zero, suc, ℤ, pos, Result, Ok, Err, Option, Some, None, MatchOption, MatchResult, Bool, true, false, [], ◌∷◌, ◌++◌, take, length, get_or, refl, sym, ap, subst, ◌∙◌, arith, nat_eq, bit_at, eqb-suc-zero, cases_eq, same_from_bits, bit_at-pow_same, bit_at-pow_other, bit_at-lt, Tree, union, FieldTree, MemberTrees, no_members, member, member_trees, CoordType, Interleaved, Dimension, LayoutFault, UnexpectedType, ListWidth, Bottom, Union, Deep, Other, Summary, order_of, Mixed, Geometry, Member, GeometryMember, AllMembers, SomeMember, HasMembers, Answers, Path, Faults, HasFault, FirstFault, UnionFault, MemberFault, MixedFault, GeometryMemberFault, GeometryFault, IsFaultOf, Seen, place_of, AreLevels, IsBottom, IsUnion, SummarizesBy, Summarizes, ReadAt, Tells, TellsBoth, IsNested, IsNoLeaf, ReadsFirst, coords_in, member_first, geometry_member_first, DimensionsFault, IsBits, AddsBits, first_fault, AreOf, IsCoordFault, UnionSays}
 use Rattle.geoarrow_layout.proofs.Readings.{Answer, exactly}
 use Rattle.geoarrow_layout.proofs.MemberLists.{Items, all_map, all_inside, all_some, first_some, all_both, some_more, one_more}
 use Rattle.geoarrow_layout.proofs.FaultLaws.{Read, ApartMember, MemberReads, order_same}
@@ -110,20 +110,12 @@ one_from R one F empty fault coords (Ok c) ms says some coord_bits first =
     (some.0 says.0, all_inside (Read R) (AtCoord R c) ms (λ i t p inside. (p.1, subst (λ b. R i t b p.1) (of.1 i t p inside) p.2)) of.0)
 one_from R one F empty fault coords (Err f) ms says some coord_bits first = coord_fault R R (λ i t b d x. x) one F empty fault coords f ms says some coord_bits first
 
-mixed_told : (r : Answer) (ms : MemberTrees) (mode : UnionMode) → TellsBoth r (λ c d. HasMembers ms × AllMembers (λ i t. Member i t c d) ms) (λ p f. UnionFault Member MemberFault ms p f ⊎ DimensionsFault ms p f) → TellsBoth r (Mixed (union ms mode)) (MixedFault (union ms mode))
-mixed_told (Ok x) ms mode h = h
-mixed_told (Err f) ms mode h = h
-
-geometry_told : (r : Result CoordType LayoutFault) (ms : MemberTrees) (mode : UnionMode) → Tells r (λ c. HasMembers ms × AllMembers (AtCoord GeometryMember c) ms) (UnionFault GeometryMember GeometryMemberFault ms) → Tells r (Geometry (union ms mode)) (GeometryFault (union ms mode))
-geometry_told (Ok x) ms mode h = h
-geometry_told (Err f) ms mode h = h
-
 -- a union that stands below one list
 pub nested_union : (w : Option ListWidth) (levels : ℕ) (empty : Bool) (ids coords dims : ℕ) (fault geometry : Option LayoutFault) (u : Tree) (r : Answer) → levels ≡ 1
     → IsBottom IsNested w levels (Union empty ids coords dims fault geometry) u → UnionSays empty fault coords dims r → TellsBoth r (Mixed u) (MixedFault u)
 nested_union w levels empty ids coords dims fault geometry u r one h says =
     at_bottom IsNested (λ x. TellsBoth r (Mixed x) (MixedFault x)) w 1 (Union empty ids coords dims fault geometry) tt (λ x t b m z k. absurd k) (λ fs k. absurd k)
-    (λ ms mode k. mixed_told r ms mode (mixed_from Member member_first (λ i t c d m. m) empty fault coords dims r ms says k.0 k.1.coord_bits k.1.dimension_bits k.1.fault_found))
+    (λ ms mode k. (mixed_from Member member_first (λ i t c d m. m) empty fault coords dims r ms says k.0 k.1.coord_bits k.1.dimension_bits k.1.fault_found))
     u (subst (λ n. IsBottom IsNested w n (Union empty ids coords dims fault geometry) u) one h)
 
 -- a summary says less of unions
@@ -234,10 +226,10 @@ pub root_mixed : (w : Option ListWidth) (empty : Bool) (ids coords dims : ℕ) (
     → IsBottom IsUnion w 0 (Union empty ids coords dims fault geometry) u → UnionSays empty fault coords dims r → TellsBoth r (Mixed u) (MixedFault u)
 root_mixed w empty ids coords dims fault geometry u r k says =
     at_bottom IsUnion (λ x. TellsBoth r (Mixed x) (MixedFault x)) w 0 (Union empty ids coords dims fault geometry) tt (λ x t b m z h. absurd h) (λ fs h. absurd h)
-    (λ ms mode h. mixed_told r ms mode (mixed_from GeometryMember geometry_member_first (λ i t c d m. inl m) empty fault coords dims r ms says h.0 h.1.coord_bits h.1.dimension_bits h.2)) u k
+    (λ ms mode h. (mixed_from GeometryMember geometry_member_first (λ i t c d m. inl m) empty fault coords dims r ms says h.0 h.1.coord_bits h.1.dimension_bits h.2)) u k
 
 pub root_geometry : (w : Option ListWidth) (empty : Bool) (ids coords dims : ℕ) (fault geometry : Option LayoutFault) (u : Tree) (r : Result CoordType LayoutFault)
     → IsBottom IsUnion w 0 (Union empty ids coords dims fault geometry) u → MatchResult r (AreOf empty geometry coords) (IsCoordFault empty geometry coords) → Tells r (Geometry u) (GeometryFault u)
 root_geometry w empty ids coords dims fault geometry u r k says =
     at_bottom IsUnion (λ x. Tells r (Geometry x) (GeometryFault x)) w 0 (Union empty ids coords dims fault geometry) tt (λ x t b m z h. absurd h) (λ fs h. absurd h)
-    (λ ms mode h. geometry_told r ms mode (one_from GeometryMember geometry_member_first GeometryMemberFault empty geometry coords r ms says h.0 h.1.coord_bits h.1.fault_found)) u k
+    (λ ms mode h. (one_from GeometryMember geometry_member_first GeometryMemberFault empty geometry coords r ms says h.0 h.1.coord_bits h.1.fault_found)) u k
