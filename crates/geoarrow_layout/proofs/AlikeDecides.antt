@@ -2,7 +2,7 @@
 use Rattle.geoarrow_layout.proofs.Terms.{◌≡◌, ◌⊎◌, inl, inr, ℤ, nat_eq, cond, Bool, true, false, ◌&&◌, ◌||◌, not, List, [], ◌∷◌, length, refl, sym, ap, ◌∙◌, subst, true≢false, Decides, list_all, int_eq, bytes_eq, bytes_eq-Decides, Decides-eqb, Decides-int_eq, Decides-and, Decides-or, Decides-like, same_from_decides, and_parts, and_from, or_cases, or_left, or_right, cond-true, cond-false, false_from_ne_true, plain_code, plain_from, plain_from-code, Text, FieldTree, Tree, plain, list, large_list, fixed_size_list, struct, union, MemberTrees, no_members, member, field_trees, names_of, has_name, AllMembers, SomeMember, AlikeNames, Alike, EachHasAlike, HasAlike, some_member, all_members, has_member, is_repeated, is_met, alike_of, each_has_alike, has_alike, alike_names}
 use Rattle.arrow_values.specs.Tree.{Plain}
 use Rattle.geoarrow_layout.specs.Shapes.{SameNames}
-use Rattle.geoarrow_layout.specs.AlikeTest.{same_names}
+use Rattle.geoarrow_layout.specs.Alike.{same_names}
 use Rattle.geoarrow_layout.proofs.FieldSteps.{length-names}
 use Rattle.geoarrow_layout.proofs.AlikeLaws.{any_map, has_any, Holds}
 

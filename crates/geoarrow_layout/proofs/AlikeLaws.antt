@@ -1,9 +1,8 @@
 -- `Alike` is an equivalence, and alike trees are of the same kinds.
-use Rattle.geoarrow_layout.proofs.Terms.{◌≡◌, inl, inr, ℤ, List, refl, sym, ◌∙◌, subst, ◌↔◌, ℕ, zero, suc, codes, ap, Text, Tree, plain, list, large_list, fixed_size_list, struct, union, MemberTrees, no_members, member, names_of, AllMembers, SomeMember, Leaf, IsSeparatedAs, ListsOver, levels_of, OverLeaf, Member, Mixed, HasMembers, Collection, Native, GeometryMember, IsBoxAs, Accepted, AlikeNames, Alike, EachHasAlike, HasAlike, CoordType, Interleaved, Separated, Dimension, XYZ, XYM, NativeKind, GeometryCollection, Kind, OfNative, OfGeometry, OfRect, OfWkb, OfWkt, ListWidth, Lists, LargeLists, HaveBoth, Narrow}
+use Rattle.geoarrow_layout.proofs.Terms.{◌≡◌, inl, inr, ℤ, List, refl, sym, ◌∙◌, subst, ◌↔◌, ℕ, zero, suc, codes, ap, Text, Tree, plain, list, large_list, fixed_size_list, struct, union, MemberTrees, no_members, member, names_of, AllMembers, SomeMember, Leaf, IsSeparatedAs, ListsOver, levels_of, OverLeaf, Member, Mixed, HasMembers, Collection, Native, GeometryMember, IsBoxAs, Accepted, AlikeNames, Alike, EachHasAlike, HasAlike, CoordType, Interleaved, Separated, Dimension, XYZ, XYM, NativeKind, GeometryCollection, Kind, OfNative, OfGeometry, OfRect, OfWkb, OfWkt, ListWidth, Lists, LargeLists, HaveBoth, Narrow, Under}
 use Rattle.arrow_values.specs.Tree.{Plain}
 use Rattle.geoarrow_layout.specs.Shapes.{SameNames}
 use Rattle.geoarrow_layout.proofs.MemberLists.{all_map, all_some}
-use Rattle.geoarrow_layout.proofs.Bottoms.{Under}
 
 names_refl : (xs : List Text) → AlikeNames xs xs
 unfolding SameNames

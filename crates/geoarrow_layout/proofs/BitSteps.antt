@@ -1,8 +1,7 @@
 -- Sets of bits, and what one reading adds to them.
-use Rattle.geoarrow_layout.proofs.Terms.{◌≡◌, ◌↔◌, ◌<◌, ◌⊎◌, ◌*◌, ◌%◌, ◌^◌, inl, inr, ℕ, sym, ap, subst, ◌∙◌, ◌≤◌, true, false, ℤ, pos, Ok, Err, refl, arith, bit_at, bit_or, bit_at_set_same, bit_at_set_other, bit_at-zero, cases_eq, ltb-true, ltb-false, bits, place_of, CoordOf, DimensionOf, CoordType, Dimension, LayoutFault, order_of, pos_same, negsuc, nat_abs, lt_z}
+use Rattle.geoarrow_layout.proofs.Terms.{◌≡◌, ◌↔◌, ◌<◌, ◌⊎◌, ◌*◌, ◌%◌, ◌^◌, inl, inr, ℕ, sym, ap, subst, ◌∙◌, ◌≤◌, true, false, ℤ, pos, Ok, Err, refl, arith, bit_at, bit_or, bit_at_set_same, bit_at_set_other, bit_at-zero, cases_eq, ltb-true, ltb-false, bits, ReadAt, CoordType, Dimension, LayoutFault, negsuc, nat_abs, lt_z}
 use Rattle.std.specs.Int.{Width}
-use Rattle.geoarrow_layout.specs.Summary.{IsBits}
-use Rattle.geoarrow_layout.specs.Steps.{AddsBit, AddsBits}
+use Rattle.geoarrow_layout.specs.Summary.{IsBits, AddsBit, AddsBits}
 use Rattle.geoarrow_layout.proofs.Readings.{Answer, ok_same}
 
 pub adds_bit : (w : Width) (n i : ℕ) → i < bits w → AddsBit n i (bit_or n (1 * 2 ^ i % 2 ^ bits w))
@@ -46,25 +45,16 @@ adds_one n j more P there only adds = λ i. (
   (λ h. elim h [ inl e ↦ (adds i).1 (inl e) | inr p ↦ (adds i).1 (inr (only i p)) ]),
 )
 
-pub coord_added : (n j more : ℕ) (part : Answer) (p : CoordType × Dimension) → part ≡ Ok p → j ≡ place_of p.0 → AddsBit n j more → AddsBits n (CoordOf part) more
-coord_added n j more part p is place adds =
-    adds_one n j more (CoordOf part) (p.0, place, p.1, is)
-    (λ i h. h.1 ∙ ap place_of (ap (λ x. x.0) (ok_same (h.0, h.2) p (sym h.3 ∙ is))) ∙ sym place) adds
+pub number_added : (number : CoordType × Dimension → ℕ) (n j more : ℕ) (part : Answer) (p : CoordType × Dimension) → part ≡ Ok p → j ≡ number p → AddsBit n j more → AddsBits n (ReadAt number part) more
+number_added number n j more part p is place adds =
+    adds_one n j more (ReadAt number part) (p, is, place) (λ i h. h.2 ∙ ap number (ok_same h.0 p (sym h.1 ∙ is)) ∙ sym place) adds
 
-pub coord_kept : (n : ℕ) (part : Answer) (f : LayoutFault) → part ≡ Err f → AddsBits n (CoordOf part) n
-coord_kept n part f is = adds_none n (CoordOf part) (λ i h. let bad = sym h.3 ∙ is in cc)
-
-pub dimension_added : (n j more : ℕ) (part : Answer) (p : CoordType × Dimension) → part ≡ Ok p → j ≡ order_of p.1 → AddsBit n j more → AddsBits n (DimensionOf part) more
-dimension_added n j more part p is place adds =
-    adds_one n j more (DimensionOf part) (p.1, place, p.0, is)
-    (λ i h. h.1 ∙ ap order_of (ap (λ x. x.1) (ok_same (h.2, h.0) p (sym h.3 ∙ is))) ∙ sym place) adds
-
-pub dimension_kept : (n : ℕ) (part : Answer) (f : LayoutFault) → part ≡ Err f → AddsBits n (DimensionOf part) n
-dimension_kept n part f is = adds_none n (DimensionOf part) (λ i h. let bad = sym h.3 ∙ is in cc)
+pub number_kept : (number : CoordType × Dimension → ℕ) (n : ℕ) (part : Answer) (f : LayoutFault) → part ≡ Err f → AddsBits n (ReadAt number part) n
+number_kept number n part f is = adds_none n (ReadAt number part) (λ i h. let bad = sym h.1 ∙ is in cc)
 
 outside : (z : ℤ) (i : ℕ) → (lt_z z (pos 0) ≡ true) ⊎ (lt_z (pos 63) z ≡ true) → i < 64 → z ≡ pos i → ⊥
 outside (pos n) i (inl h) small e = let lt : n < 0 = ltb-true n 0 h in omega arith
-outside (pos n) i (inr h) small e = let lt : 63 < n = ltb-true 63 n h in let same : n ≡ i = pos_same n i e in omega arith
+outside (pos n) i (inr h) small e = let lt : 63 < n = ltb-true 63 n h in let same : n ≡ i = cc in omega arith
 outside (negsuc n) i h small e = cc
 
 between : (id : ℤ) → lt_z id (pos 0) ≡ false → lt_z (pos 63) id ≡ false → (id ≡ pos (nat_abs id)) × (nat_abs id < 64)
@@ -77,4 +67,4 @@ id_outside n id z is h = adds_none n (λ i. (i < 64) × (id ≡ pos i)) (λ i p.
 pub id_between : (n more : ℕ) (id z : ℤ) → z ≡ id → lt_z z (pos 0) ≡ false → lt_z (pos 63) z ≡ false → AddsBit n (nat_abs z) more → AddsBits n (λ i. (i < 64) × (id ≡ pos i)) more
 id_between n more id z is h k adds =
     let b = between z h k in
-    adds_one n (nat_abs z) more (λ i. (i < 64) × (id ≡ pos i)) (b.1, sym is ∙ b.0) (λ i p. pos_same i (nat_abs z) (sym p.1 ∙ sym is ∙ b.0)) adds
+    adds_one n (nat_abs z) more (λ i. (i < 64) × (id ≡ pos i)) (b.1, sym is ∙ b.0) (λ i p. let same = sym p.1 ∙ sym is ∙ b.0 in cc) adds

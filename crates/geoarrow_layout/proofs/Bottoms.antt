@@ -1,5 +1,5 @@
 -- What stands below the lists, and which fault it is.
-use Rattle.geoarrow_layout.proofs.Terms.{◌≡◌, ◌<◌, ◌≤◌, inl, inr, ℕ, zero, suc, ℤ, ◌+◌, refl, sym, ap, subst, arith, add-one, Bool, Option, Some, None, Ok, Err, [], ◌∷◌, same_Some, Text, Metadata, Tree, plain, list, large_list, fixed_size_list, struct, union, FieldTrees, MemberTrees, UnionMode, CoordType, Dimension, LayoutFault, UnexpectedType, ListWidth, Lists, LargeLists, Bottom, FixedSizeList, Struct, Union, OtherWidth, Deep, Other, Summary, ListsOver, Faults, HasFault, CoordinateFault, BoxFault, MixedFault, GeometryFault, LevelFault, ListsFault, IsBottom, AreLevels, SummarizesBy, TellsBoth, Levels, IsFixedSize, IsStruct, IsInnerUnion, missing_fault, IsWidth}
+use Rattle.geoarrow_layout.proofs.Terms.{◌≡◌, ◌<◌, ◌≤◌, inl, inr, ℕ, zero, suc, ℤ, ◌+◌, refl, sym, ap, subst, arith, add-one, Bool, Option, Some, None, Ok, Err, [], ◌∷◌, same_Some, Text, Metadata, Tree, plain, list, large_list, fixed_size_list, struct, union, FieldTrees, MemberTrees, UnionMode, CoordType, Dimension, LayoutFault, UnexpectedType, ListWidth, Lists, LargeLists, Bottom, FixedSizeList, Struct, Union, OtherWidth, Deep, Other, Summary, ListsOver, Faults, HasFault, CoordinateFault, BoxFault, MixedFault, GeometryFault, LevelFault, ListsFault, IsBottom, AreLevels, SummarizesBy, TellsBoth, Under, IsFixedSize, IsStruct, IsInnerUnion, missing_fault, IsWidth}
 use Rattle.geoarrow_layout.proofs.Readings.{Answer}
 
 -- one level more
@@ -29,50 +29,33 @@ at_bottom U Q w n b entered sizes structs unions (union ms mode) h = unions ms m
 at_bottom U Q w n b entered sizes structs unions (plain p) h = absurd (subst IsEntered h entered)
 at_bottom U Q w n b entered sizes structs unions _ h = absurd (elim h [ inl e ↦ subst IsEntered e.1 entered | inr e ↦ subst IsEntered e.2 entered ])
 
--- P holds of what stands below m levels
-abbrev pub Under : (Tree → CoordType → Dimension → Type 0) → ℕ → Tree → CoordType → Dimension → Type 0
-Under P m t c d = (u : Tree) × Levels t m u × P u c d
-
 -- ---- lists of which F says the fault below
 
 -- a list is at fault itself, as an unexpected type
-abbrev pub IsAList : Tree → Type 0
-IsAList (list n t b m) = Unit {0}
-IsAList (large_list n t b m) = Unit {0}
-IsAList _ = ⊥
-
 abbrev pub RefusesLists : Faults → Type 0
-RefusesLists F = (t : Tree) → IsAList t → F t [] UnexpectedType
+RefusesLists F = (x : Text) (t : Tree) (b : Bool) (m : Metadata) → F (list x t b m) [] UnexpectedType × F (large_list x t b m) [] UnexpectedType
 
 pub coordinate_refuses : RefusesLists CoordinateFault
-coordinate_refuses (list n t b m) h = (refl, refl)
-coordinate_refuses (large_list n t b m) h = (refl, refl)
-coordinate_refuses _ h = absurd h
+coordinate_refuses x t b m = ((refl, refl), (refl, refl))
 
 pub mixed_refuses : RefusesLists MixedFault
-mixed_refuses (list n t b m) h = (refl, refl)
-mixed_refuses (large_list n t b m) h = (refl, refl)
-mixed_refuses _ h = absurd h
+mixed_refuses x t b m = ((refl, refl), (refl, refl))
 
 pub geometry_refuses : RefusesLists GeometryFault
-geometry_refuses (list n t b m) h = (refl, refl)
-geometry_refuses (large_list n t b m) h = (refl, refl)
-geometry_refuses _ h = absurd h
+geometry_refuses x t b m = ((refl, refl), (refl, refl))
 
 pub box_refuses : RefusesLists BoxFault
-box_refuses (list n t b m) h = (refl, refl)
-box_refuses (large_list n t b m) h = (refl, refl)
-box_refuses _ h = absurd h
+box_refuses x t b m = ((refl, refl), (refl, refl))
 
-lists_listed : (w : ListWidth) (n : ℕ) (t u : Tree) → 0 < n → ListsOver w n t u → IsAList t
-lists_listed w zero t u some h = absurd (omega arith)
-lists_listed Lists (suc n) (list x t b m) u some h = tt
-lists_listed LargeLists (suc n) (large_list x t b m) u some h = tt
-lists_listed _ (suc n) _ u some h = absurd h
+lists_refused : (F : Faults) → RefusesLists F → (w : ListWidth) (n : ℕ) (t u : Tree) → 0 < n → ListsOver w n t u → F t [] UnexpectedType
+lists_refused F lacks w zero t u some h = absurd (omega arith)
+lists_refused F lacks Lists (suc n) (list x t b m) u some h = (lacks x t b m).0
+lists_refused F lacks LargeLists (suc n) (large_list x t b m) u some h = (lacks x t b m).1
+lists_refused F lacks _ (suc n) _ u some h = absurd h
 
-pub listed : (w : Option ListWidth) (n : ℕ) (t u : Tree) → 0 < n → AreLevels w n t u → IsAList t
-listed None n t u some h = absurd (omega (arith, h.0))
-listed (Some w) n t u some h = lists_listed w n t u some h.2
+pub levels_refused : (F : Faults) → RefusesLists F → (w : Option ListWidth) (n : ℕ) (t u : Tree) → 0 < n → AreLevels w n t u → F t [] UnexpectedType
+levels_refused F lacks None n t u some h = absurd (omega (arith, h.0))
+levels_refused F lacks (Some w) n t u some h = lists_refused F lacks w n t u some h.2
 
 -- n levels are wanted; F is the fault below all of them
 level_below : (F : Faults) (w : ListWidth) (n : ℕ) (t u : Tree) (f : LayoutFault) → ListsOver w n t u → HasFault (F u) f → HasFault (LevelFault F w n t) f
@@ -92,7 +75,7 @@ level_missing F _ (suc k) (suc n) _ u f h lt here = absurd h
 -- there are more
 level_above : (F : Faults) → RefusesLists F → (w : ListWidth) (k n : ℕ) (t u : Tree) → ListsOver w k t u → n < k → HasFault (LevelFault F w n t) UnexpectedType
 level_above F lacks w zero n t u h lt = absurd (omega arith)
-level_above F lacks w (suc k) zero t u h lt = ([], lacks t (lists_listed w (suc k) t u (omega arith) h))
+level_above F lacks w (suc k) zero t u h lt = ([], lists_refused F lacks w (suc k) t u (omega arith) h)
 level_above F lacks Lists (suc k) (suc n) (list x t b m) u h lt = let s = level_above F lacks Lists k n t u h (omega arith) in (zero ∷ s.0, s.1)
 level_above F lacks LargeLists (suc k) (suc n) (large_list x t b m) u h lt = let s = level_above F lacks LargeLists k n t u h (omega arith) in (zero ∷ s.0, s.1)
 level_above F lacks _ (suc k) (suc n) _ u h lt = absurd h
@@ -120,18 +103,14 @@ missing_struct (Struct count names floats) fs h = refl
 missing_struct _ fs h = absurd h
 
 missing_below : (F : Faults) (U : ℕ → Bottom → MemberTrees → Type 0) → NoListAtUnion U → (w : ListWidth) (n : ℕ) (b : Bottom) (u : Tree) (m : ℕ) → n < 3 → IsBottom U (Some w) n b u → LevelFault F w (suc m) u [] (missing_fault b)
-missing_below F U lacks Lists n b (fixed_size_list x t k a z) m few h = (refl, missing_sized b x t z h)
-missing_below F U lacks Lists n b (struct fs) m few h = (refl, missing_struct b fs h)
-missing_below F U lacks Lists n b (union ms mode) m few h = (refl, lacks n b ms h)
-missing_below F U lacks Lists n b (plain p) m few h = (refl, ap missing_fault h)
-missing_below F U lacks LargeLists n b (fixed_size_list x t k a z) m few h = (refl, missing_sized b x t z h)
-missing_below F U lacks LargeLists n b (struct fs) m few h = (refl, missing_struct b fs h)
-missing_below F U lacks LargeLists n b (union ms mode) m few h = (refl, lacks n b ms h)
-missing_below F U lacks LargeLists n b (plain p) m few h = (refl, ap missing_fault h)
 missing_below F U lacks Lists n b (large_list x t k a) m few (inl e) = (refl, ap missing_fault e.1)
 missing_below F U lacks LargeLists n b (list x t k a) m few (inl e) = (refl, ap missing_fault e.1)
 missing_below F U lacks Lists n b (list x t k a) m few (inl e) = let bad = e.0 in cc
 missing_below F U lacks LargeLists n b (large_list x t k a) m few (inl e) = let bad = e.0 in cc
+missing_below F U lacks w n b (fixed_size_list x t k a z) m few h = (refl, missing_sized b x t z h)
+missing_below F U lacks w n b (struct fs) m few h = (refl, missing_struct b fs h)
+missing_below F U lacks w n b (union ms mode) m few h = (refl, lacks n b ms h)
+missing_below F U lacks w n b (plain p) m few h = (refl, ap missing_fault h)
 missing_below F U lacks w n b _ m few (inr e) = absurd (omega (arith, few, e.1))
 
 missing_alone : (F : Faults) (U : ℕ → Bottom → MemberTrees → Type 0) → NoListAtUnion U → (n : ℕ) (b : Bottom) (u : Tree) (m : ℕ) → IsBottom U None n b u → ListsFault F (suc m) u [] (missing_fault b)
@@ -142,13 +121,13 @@ missing_alone F U lacks n b (plain p) m h = (refl, ap missing_fault h)
 missing_alone F U lacks n b _ m (inl e) = let bad = e.0 in cc
 missing_alone F U lacks n b _ m (inr e) = let bad = e.0 in cc
 
-missing_lists : (F : Faults) (U : ℕ → Bottom → MemberTrees → Type 0) → NoListAtUnion U → (w : Option ListWidth) (k n : ℕ) (b : Bottom) (t u : Tree) → AreLevels w k t u → IsBottom U w k b u → k < n → n ≤ 3 → HasFault (ListsFault F n t) (missing_fault b)
+pub missing_lists : (F : Faults) (U : ℕ → Bottom → MemberTrees → Type 0) → NoListAtUnion U → (w : Option ListWidth) (k n : ℕ) (b : Bottom) (t u : Tree) → AreLevels w k t u → IsBottom U w k b u → k < n → n ≤ 3 → HasFault (ListsFault F n t) (missing_fault b)
 missing_lists F U lacks w k zero b t u h bottom lt few = absurd (omega arith)
 missing_lists F U lacks None k (suc n) b t u h bottom lt few = ([], subst (λ x. ListsFault F (suc n) x [] (missing_fault b)) (sym h.1) (missing_alone F U lacks k b u n bottom))
 missing_lists F U lacks (Some w) k (suc n) b t u h bottom lt few =
     outermost F w k (suc n) t u (missing_fault b) h.0 h.2 (level_missing F w k (suc n) t u (missing_fault b) h.2 lt (λ m. missing_below F U lacks w k b u m (omega arith) bottom))
 
-above_lists : (F : Faults) → RefusesLists F → (w : Option ListWidth) (k n : ℕ) (t u : Tree) → AreLevels w k t u → n < k → HasFault (ListsFault F n t) UnexpectedType
+pub above_lists : (F : Faults) → RefusesLists F → (w : Option ListWidth) (k n : ℕ) (t u : Tree) → AreLevels w k t u → n < k → HasFault (ListsFault F n t) UnexpectedType
 above_lists F lacks None k n t u h lt = absurd (omega (arith, h.0))
 above_lists F lacks (Some w) k n t u h lt = outermost F w k n t u UnexpectedType h.0 h.2 (level_above F lacks w k n t u h.2 lt)
 
@@ -156,7 +135,7 @@ below_lists : (F : Faults) (w : Option ListWidth) (k : ℕ) (t u : Tree) (f : La
 below_lists F None k t u f h r = subst (λ n. HasFault (ListsFault F n t) f) (sym h.0) (subst (λ x. HasFault (F x) f) (sym h.1) r)
 below_lists F (Some w) k t u f h r = outermost F w k k t u f h.0 h.2 (level_below F w k t u f h.2 r)
 
-are_levels : (w : Option ListWidth) (n : ℕ) (t u : Tree) → AreLevels w n t u → Levels t n u
+are_levels : (w : Option ListWidth) (n : ℕ) (t u : Tree) → AreLevels w n t u → (v : ListWidth) × ListsOver v n t u
 are_levels None n t u h = (Lists, rw h.0 h.1)
 are_levels (Some w) n t u h = (w, h.2)
 
@@ -165,18 +144,9 @@ are_levels (Some w) n t u h = (w, h.2)
 abbrev TellsUnder : (Tree → CoordType → Dimension → Type 0) → Faults → ℕ → Answer → Tree → Type 0
 TellsUnder P F m r t = TellsBoth r (Under P m t) (ListsFault F m t)
 
-pub under_less : (U : ℕ → Bottom → MemberTrees → Type 0) (P : Tree → CoordType → Dimension → Type 0) (F : Faults) → RefusesLists F → (s : Summary) (m : ℕ) (t : Tree) → m < s.levels → SummarizesBy U s t → TellsUnder P F m (Err UnexpectedType) t
-under_less U P F lacks s m t lt h = above_lists F lacks s.width s.levels m t h.0 h.1 lt
-
-pub under_more : (U : ℕ → Bottom → MemberTrees → Type 0) (P : Tree → CoordType → Dimension → Type 0) (F : Faults) → NoListAtUnion U → (s : Summary) (m : ℕ) (f : LayoutFault) (t : Tree) → s.levels < m → m ≤ 3 → f ≡ missing_fault s.bottom → SummarizesBy U s t → TellsUnder P F m (Err f) t
-under_more U P F lacks s m f t lt few is h = subst (HasFault (ListsFault F m t)) (sym is) (missing_lists F U lacks s.width s.levels m s.bottom t h.0 h.1 h.2 lt few)
-
-under_here : (P : Tree → CoordType → Dimension → Type 0) (F : Faults) (w : Option ListWidth) (m : ℕ) (r : Answer) (t u : Tree) → AreLevels w m t u → TellsBoth r (P u) (F u) → TellsUnder P F m r t
-under_here P F w m (Ok x) t u h a = (u, are_levels w m t u h, a)
-under_here P F w m (Err f) t u h a = below_lists F w m t u f h a
-
 pub under_same : (U : ℕ → Bottom → MemberTrees → Type 0) (P : Tree → CoordType → Dimension → Type 0) (F : Faults) (s : Summary) (m : ℕ) (r : Answer) (t : Tree) → s.levels ≡ m → (h : SummarizesBy U s t) → TellsBoth r (P h.0) (F h.0) → TellsUnder P F m r t
-under_same U P F s m r t same h a = under_here P F s.width m r t h.0 (subst (λ n. AreLevels s.width n t h.0) same h.1) a
+under_same U P F s m (Ok x) t same h a = (h.0, are_levels s.width m t h.0 (subst (λ n. AreLevels s.width n t h.0) same h.1), a)
+under_same U P F s m (Err f) t same h a = below_lists F s.width m t h.0 f (subst (λ n. AreLevels s.width n t h.0) same h.1) a
 
 -- where no union stands below one list, the collection is at fault there
 no_union : (U : ℕ → Bottom → MemberTrees → Type 0) (w : Option ListWidth) (n : ℕ) (b : Bottom) (u : Tree) → ((ms : MemberTrees) → U n b ms → ⊥) → IsBottom U w n b u → HasFault (MixedFault u) UnexpectedType

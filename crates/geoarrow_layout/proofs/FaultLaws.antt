@@ -1,14 +1,11 @@
 -- A data type has one fault at most under a name, and none if it is accepted.
-use Rattle.geoarrow_layout.proofs.Terms.{◌≡◌, ◌≢◌, ◌*◌, Bool, true, false, inl, inr, ℕ, zero, suc, ℤ, pos, List, [], ◌∷◌, length, sym, ap, subst, ◌∙◌, ◌⊎◌, Text, Metadata, Tree, list, large_list, fixed_size_list, struct, union, MemberTrees, no_members, member, CoordType, Interleaved, Separated, Dimension, XY, XYZ, XYM, NativeKind, GeometryCollection, Kind, OfNative, OfGeometry, OfRect, OfWkb, OfWkt, ListWidth, Lists, LargeLists, LayoutFault, UnexpectedType, BadFieldNames, BadTypeId, ExtensionName, size_of, type_id_of, extension_of, names_of, IsSeparatedAs, Leaf, ListsOver, levels_of, OverLeaf, Member, AllMembers, Mixed, Native, GeometryMember, Geometry, IsBoxAs, BoxShape, Accepted, id_same, any_native_same, Path, Located, Faults, InItem, SeparatedFault, CoordinateFault, BoxFault, LevelFault, ListsFault, OverLeafFault, PartFault, FirstFault, UnionFault, MemberFault, MixedFault, NativeFault, GeometryMemberFault, GeometryFault, FaultAt, BadInterleavedName, BadSize, BadFieldCount, MixedWidths, MemberDimension, EmptyUnion, SeveralCoordTypes, SeveralDimensions, interleaved_same, native_same, any_part, NativeIn, NativeFaultIn, MemberIn, MemberFaultIn, Here, InterleavedFault}
+use Rattle.geoarrow_layout.proofs.Terms.{◌≡◌, ◌≢◌, ◌*◌, Bool, true, false, inl, inr, ℕ, zero, suc, ℤ, pos, List, [], ◌∷◌, length, sym, ap, subst, ◌∙◌, ◌⊎◌, Text, Metadata, Tree, list, large_list, fixed_size_list, struct, union, MemberTrees, no_members, member, CoordType, Interleaved, Separated, Dimension, XY, XYZ, XYM, NativeKind, GeometryCollection, Kind, OfNative, OfGeometry, OfRect, OfWkb, OfWkt, ListWidth, Lists, LargeLists, LayoutFault, UnexpectedType, BadFieldNames, BadTypeId, ExtensionName, size_of, type_id_of, extension_of, names_of, IsSeparatedAs, Leaf, ListsOver, levels_of, OverLeaf, Member, AllMembers, Mixed, Native, GeometryMember, Geometry, IsBoxAs, BoxShape, Accepted, Path, Located, Faults, InItem, CoordinateFault, BoxFault, LevelFault, ListsFault, OverLeafFault, PartFault, FirstFault, UnionFault, MemberFault, MixedFault, NativeFault, GeometryMemberFault, GeometryFault, FaultAt, BadInterleavedName, BadSize, BadFieldCount, MixedWidths, MemberDimension, EmptyUnion, SeveralCoordTypes, SeveralDimensions, ReadsFirst, named_back, dimension_named, over_leaf_first, native_first, order_of, offset_of, arith, refl, ◌+◌, ◌≤◌, Point, NativeIn, NativeFaultIn, MemberIn, MemberFaultIn, Here}
 use Rattle.geoarrow_layout.specs.declared.names.ExtensionName.TheVariants as names
 use Rattle.geoarrow_layout.proofs.MemberLists.{all_map}
 
-abbrev Same : Path → Path → LayoutFault → LayoutFault → Type 0
-Same p q f g = (p ≡ q) × (f ≡ g)
-
 -- a tree has one fault at most
 abbrev pub One : Located → Type 0
-One F = (p q : Path) (f g : LayoutFault) → F p f → F q g → Same p q f g
+One F = (p q : Path) (f g : LayoutFault) → F p f → F q g → (p ≡ q) × (f ≡ g)
 
 abbrev pub Reads : Type 1
 Reads = Tree → CoordType → Dimension → Type 0
@@ -37,15 +34,9 @@ either_one A B one two apart p q f g (inr h) (inr k) = two p q f g h k
 
 -- ---- coordinates and boxes
 
-interleaved_one : (name : Text) (z : ℤ) → One (InterleavedFault name z)
-interleaved_one name z = either_one _ _ (λ p q f g h k. here_one BadInterleavedName p q f g h.1 k.1) (λ p q f g h k. here_one BadSize p q f g h.3 k.3) (λ p q f g h k. h.0 k.0 k.1)
-
-separated_one : (ns : List Text) → One (SeparatedFault ns)
-separated_one ns = either_one _ _ (λ p q f g h k. here_one BadFieldCount p q f g h.1 k.1) (λ p q f g h k. here_one BadFieldNames p q f g h.2 k.2) (λ p q f g h k. h.0 XYZ k.0)
-
 coordinate_one : (t : Tree) → One (CoordinateFault t)
-coordinate_one (fixed_size_list n t b m z) = interleaved_one n z
-coordinate_one (struct fs) = separated_one (names_of fs)
+coordinate_one (fixed_size_list n t b m z) = either_one _ _ (λ p q f g h k. here_one BadInterleavedName p q f g h.1 k.1) (λ p q f g h k. here_one BadSize p q f g h.3 k.3) (λ p q f g h k. h.0 k.0 k.1)
+coordinate_one (struct fs) = either_one _ _ (λ p q f g h k. here_one BadFieldCount p q f g h.1 k.1) (λ p q f g h k. here_one BadFieldNames p q f g h.2 k.2) (λ p q f g h k. h.0 XYZ k.0)
 coordinate_one _ = here_one UnexpectedType
 
 pub box_one : (t : Tree) → One (BoxFault t)
@@ -64,7 +55,7 @@ box_length ns _ h = h
 
 coordinate_apart : Apart Leaf CoordinateFault
 coordinate_apart (fixed_size_list n t b m z) Interleaved d p f h (inl k) = k.0 d h.0
-coordinate_apart (fixed_size_list n t b m z) Interleaved d p f h (inr k) = k.2 (h.1 ∙ ap (λ x. pos (size_of x)) (interleaved_same d k.0 (sym h.0 ∙ k.1)))
+coordinate_apart (fixed_size_list n t b m z) Interleaved d p f h (inr k) = k.2 (h.1 ∙ ap (λ x. pos (size_of x)) (sym (named_back d) ∙ ap dimension_named (sym h.0 ∙ k.1) ∙ named_back k.0))
 coordinate_apart (struct fs) Separated d p f h (inl k) = k.0 d (separated_length (names_of fs) d h)
 coordinate_apart (struct fs) Separated d p f h (inr k) = k.1 d h
 coordinate_apart _ c d p f h k = absurd h
@@ -116,7 +107,26 @@ abbrev pub KindReads : Type 1
 KindReads = Tree → NativeKind → CoordType → Dimension → Type 0
 
 abbrev OneNative : KindReads → Type 0
-OneNative N = (k : NativeKind) (t : Tree) (c b : CoordType) (d e : Dimension) → N t k c d → N t k b e → (c ≡ b) × (d ≡ e)
+OneNative N = (k : NativeKind) → ReadsFirst (λ t. N t k)
+
+-- a type id is that of one kind and one dimension
+pub order_same : (d e : Dimension) → order_of d ≡ order_of e → d ≡ e
+order_same XY XY h = refl
+order_same _ _ h = grind arith
+
+offset_same : (k l : NativeKind) → offset_of k ≡ offset_of l → k ≡ l
+offset_same Point Point h = refl
+offset_same k l h = grind arith
+
+offset_small : (k : NativeKind) → offset_of k ≤ 7
+offset_small Point = omega arith
+offset_small _ = omega arith
+
+pub id_same : (i : ℤ) (k l : NativeKind) (d e : Dimension) → i ≡ pos (type_id_of k d) → i ≡ pos (type_id_of l e) → (k ≡ l) × (d ≡ e)
+id_same i k l d e h g =
+    let n : 10 * order_of d + offset_of k ≡ 10 * order_of e + offset_of l = cc in
+    let one : order_of d ≡ order_of e = omega (arith, offset_small k, offset_small l) in
+    (offset_same k l (omega arith), order_same d e one)
 
 abbrev pub ApartNative : KindReads → (NativeKind → Faults) → Type 0
 ApartNative N F = (k : NativeKind) → Apart (λ t. N t k) (F k)
@@ -129,16 +139,15 @@ kind_fault_one : (N : KindReads) (F : NativeKind → Faults) → ((k : NativeKin
 kind_fault_one N F one apart k d t = either_one _ _ (one k t) (λ p q f g h l. here_one MemberDimension p q f g h.4 l.4) (λ p q f g h l. apart k t l.0 l.1 p f l.2 h)
 
 part_one : (N : KindReads) (F : NativeKind → Faults) → ((k : NativeKind) (t : Tree) → One (F k t)) → ApartNative N F → (i : ℤ) (t : Tree) → One (PartFault N F i t)
-part_one N F one apart i t p q f g (inl h) (inl l) = here_one BadTypeId p q f g h.1 l.1
-part_one N F one apart i t p q f g (inl h) (inr l) = absurd (h.0 l.0 l.1 l.2)
-part_one N F one apart i t p q f g (inr h) (inl l) = absurd (l.0 h.0 h.1 h.2)
-part_one N F one apart i t p q f g (inr h) (inr l) =
+part_one N F one apart i t = either_one _ _ (λ p q f g h l. here_one BadTypeId p q f g h.1 l.1)
+    (λ p q f g h l.
     let same = id_same i l.0 h.0 l.1 h.1 l.2 h.2 in
-    kind_fault_one N F one apart h.0 h.1 t p q f g h.3 (subst (λ d. KindFault N F h.0 d t q g) same.1 (subst (λ k. KindFault N F k l.1 t q g) same.0 l.3))
+    kind_fault_one N F one apart h.0 h.1 t p q f g h.3 (subst (λ d. KindFault N F h.0 d t q g) same.1 (subst (λ k. KindFault N F k l.1 t q g) same.0 l.3)))
+    (λ p q f g h l. h.0 l.0 l.1 l.2)
 
 kind_fault_none : (N : KindReads) (F : NativeKind → Faults) → OneNative N → ApartNative N F → (k : NativeKind) (d : Dimension) (t : Tree) (c : CoordType) (p : Path) (f : LayoutFault) → N t k c d → KindFault N F k d t p f → ⊥
 kind_fault_none N F same apart k d t c p f h (inl e) = apart k t c d p f h e
-kind_fault_none N F same apart k d t c p f h (inr e) = e.3 (same k t e.0 c e.1 d e.2 h).1
+kind_fault_none N F same apart k d t c p f h (inr e) = e.3 (ap (λ x. x.1) (sym (same k t e.0 e.1 e.2) ∙ same k t c d h))
 
 part_apart : (N : KindReads) (F : NativeKind → Faults) → OneNative N → ApartNative N F → (i : ℤ) (t : Tree) (k : NativeKind) (c : CoordType) (d : Dimension) (p : Path) (f : LayoutFault) → i ≡ pos (type_id_of k d) → N t k c d → PartFault N F i t p f → ⊥
 part_apart N F same apart i t k c d p f id h (inl e) = e.0 k d id
@@ -176,11 +185,9 @@ first_apart R F apart (member i n t b m ms) (suc j ∷ p) f h k = first_apart R 
 first_apart R F apart _ _ f h k = absurd k
 
 union_one : (R : MemberReads) (F : ℤ → Faults) → OneMember F → ApartMember R F → (ms : MemberTrees) → One (UnionFault R F ms)
-union_one R F one apart no_members p q f g h k = here_one EmptyUnion p q f g h k
-union_one R F one apart (member i n t b m ms) p q f g (inl h) (inl k) = first_one R F one apart (member i n t b m ms) p q f g h k
-union_one R F one apart (member i n t b m ms) p q f g (inl h) (inr k) = absurd (first_apart R F apart (member i n t b m ms) p f k.0 h)
-union_one R F one apart (member i n t b m ms) p q f g (inr h) (inl k) = absurd (first_apart R F apart (member i n t b m ms) q g h.0 k)
-union_one R F one apart (member i n t b m ms) p q f g (inr h) (inr k) = here_one SeveralCoordTypes p q f g h.2 k.2
+union_one R F one apart no_members = here_one EmptyUnion
+union_one R F one apart (member i n t b m ms) = either_one _ _ (first_one R F one apart (member i n t b m ms)) (λ p q f g h k. here_one SeveralCoordTypes p q f g h.2 k.2)
+    (λ p q f g h k. first_apart R F apart (member i n t b m ms) p f k.0 h)
 
 -- members of one coordinate type, at least one, are at fault as no union
 union_apart : (R : MemberReads) (F : ℤ → Faults) → ApartMember R F → (i : ℤ) (n : Text) (t : Tree) (b : Bool) (m : Metadata) (ms : MemberTrees) (c : CoordType) (p : Path) (f : LayoutFault) → AllMembers (λ j u. (d : Dimension) × R j u c d) (member i n t b m ms) → UnionFault R F (member i n t b m ms) p f → ⊥
@@ -191,16 +198,14 @@ pub member_one : OneMember MemberFault
 member_one = part_one OverLeaf OverLeafFault over_leaf_one over_leaf_apart
 
 pub member_apart : ApartMember Member MemberFault
-member_apart i t c d p f h k = part_apart OverLeaf OverLeafFault native_same over_leaf_apart i t h.0 c d p f h.1 h.2 k
+member_apart i t c d p f h k = part_apart OverLeaf OverLeafFault over_leaf_first over_leaf_apart i t h.0 c d p f h.1 h.2 k
 
 mixed_one : (t : Tree) → One (MixedFault t)
-mixed_one (union ms mode) p q f g (inl h) (inl k) = union_one Member MemberFault member_one member_apart ms p q f g h k
-mixed_one (union no_members mode) p q f g (inl h) (inr k) = absurd (k.1 Interleaved XY tt)
-mixed_one (union no_members mode) p q f g (inr h) (inl k) = absurd (h.1 Interleaved XY tt)
-mixed_one (union (member i n t b m ms) mode) p q f g (inl h) (inr k) = absurd (union_apart Member MemberFault member_apart i n t b m ms k.0.0 p f k.0.1 h)
-mixed_one (union (member i n t b m ms) mode) p q f g (inr h) (inl k) = absurd (union_apart Member MemberFault member_apart i n t b m ms h.0.0 q g h.0.1 k)
-mixed_one (union ms mode) p q f g (inr h) (inr k) = here_one SeveralDimensions p q f g h.2 k.2
-mixed_one _ p q f g h k = here_one UnexpectedType p q f g h k
+mixed_one (union no_members mode) = either_one _ _ (union_one Member MemberFault member_one member_apart no_members) (λ p q f g h k. here_one SeveralDimensions p q f g h.2 k.2)
+    (λ p q f g h k. k.1 Interleaved XY tt)
+mixed_one (union (member i n t b m ms) mode) = either_one _ _ (union_one Member MemberFault member_one member_apart (member i n t b m ms)) (λ p q f g h k. here_one SeveralDimensions p q f g h.2 k.2)
+    (λ p q f g h k. union_apart Member MemberFault member_apart i n t b m ms k.0.0 p f k.0.1 h)
+mixed_one _ = here_one UnexpectedType
 
 pub mixed_none : Apart Mixed MixedFault
 mixed_none (union no_members mode) c d p f h k = absurd h.0
@@ -216,11 +221,16 @@ pub native_apart : (k : NativeKind) → Apart (λ t. Native t k) (NativeFault k)
 native_apart GeometryCollection t c d p f h e = lists_apart Mixed MixedFault mixed_none 1 h.1.0 t h.0 c d p f h.1.1 h.2 e
 native_apart k t c d p f h e = over_leaf_apart k t c d p f h e
 
+as_native : (k : NativeKind) (t : Tree) (c : CoordType) (d : Dimension) → OverLeaf t k c d → Native t k c d
+as_native GeometryCollection t c d h = absurd h
+as_native k t c d h = h
+
 geometry_member_one : OneMember GeometryMemberFault
 geometry_member_one = part_one Native NativeFault native_one native_apart
 
 pub geometry_member_apart : ApartMember GeometryMember GeometryMemberFault
-geometry_member_apart i t c d p f h k = let x = any_part i t c d h in part_apart Native NativeFault any_native_same native_apart i t x.0 c d p f x.1 x.2 k
+geometry_member_apart i t c d p f (inl h) k = part_apart Native NativeFault native_first native_apart i t h.0 c d p f h.1 (as_native h.0 t c d h.2) k
+geometry_member_apart i t c d p f (inr h) k = part_apart Native NativeFault native_first native_apart i t GeometryCollection c d p f h.0 h.1 k
 
 -- the same where collections are allowed or not
 pub native_apart_in : (b : Bool) → ApartNative (NativeIn b) (NativeFaultIn b)

@@ -1,113 +1,73 @@
 -- Points that trees are taken for.
-use Rattle.geoarrow_layout.proofs.Terms.{◌≡◌, ◌↔◌, inl, inr, ℕ, ℤ, pos, refl, sym, ap, subst, ◌∙◌, arith, Bool, true, false, ◌&&◌, Option, Some, None, List, [], ◌∷◌, length, codes, and_parts, cases_Bool, some_pair_parts, Text, Metadata, Tree, fixed_size_list, struct, FieldTrees, CoordType, Interleaved, Separated, Dimension, XY, XYZ, XYM, ListWidth, FixedSizeList, Struct, size_of, names_of, IsSeparatedAs, Leaf, SomeAt, IsBottom, IsUnion, are_float64, has_bit, interleaved_name, IsBits, AnswersSome, Inferred, IsInferredAs, IsInferredSize, is_measured, NamesSay, SizeSays, apart, separated_same, pos_same}
-use Rattle.geoarrow_layout.specs.Shapes.{SameNames}
-use Rattle.geoarrow_layout.proofs.FieldSteps.{same_three, has_at}
-use Rattle.geoarrow_layout.proofs.Bottoms.{at_bottom}
+use Rattle.geoarrow_layout.proofs.Terms.{◌≡◌, ◌↔◌, inl, inr, ℤ, pos, refl, sym, ap, subst, ◌∙◌, arith, true, false, Option, Some, None, List, length, same_Some, [], ◌∷◌, get_or, FieldTree, field_trees, Text, Tree, fixed_size_list, struct, FieldTrees, CoordType, Interleaved, Separated, Dimension, XY, XYZ, XYM, LayoutFault, BadFieldNames, Path, SeparatedFault, size_of, names_of, IsSeparatedAs, Leaf, is_float64, are_float64, interleaved_name, AnswersSome, Inferred, IsInferredAs, IsInferredSize, among_back, dimension_named}
 
-abbrev pub PairOption : Type 0
+abbrev PairOption : Type 0
 PairOption = Option (CoordType × Dimension)
 
-abbrev pub some_pair : CoordType → Dimension → PairOption
-some_pair c d = Some (c, d)
-
-abbrev no_pair : PairOption
-no_pair = None
-
--- fixed size lists
-abbrev Names : Option Dimension → Text → Type 0
-Names named name = (d : Dimension) → (named ≡ Some d) ↔ (name ≡ interleaved_name d)
-
-size_is : (d : Dimension) (named : Option Dimension) (name : Text) (size z : ℤ) → Names named name → size ≡ z → SizeSays d named size ↔ IsInferredSize d name z
-size_is XYZ named name size z names same = (λ h. (sym same ∙ h.0, λ e. h.1 ((names XYM).1 e)), λ h. (same ∙ h.0, λ e. h.1 ((names XYM).0 e)))
-size_is XYM named name size z names same = (λ h. (sym same ∙ h.0, (names XYM).0 h.1), λ h. (same ∙ h.0, (names XYM).1 h.1))
-size_is _ named name size z names same = (λ h. sym same ∙ h, λ h. same ∙ h)
-
 abbrev Pairs : CoordType → Option Dimension → PairOption → Type 0
-Pairs b o r = (c : CoordType) (d : Dimension) → (r ≡ some_pair c d) ↔ ((b ≡ c) × (o ≡ Some d))
+Pairs b o r = (c : CoordType) (d : Dimension) → (r ≡ Some (c, d)) ↔ ((b ≡ c) × (o ≡ Some d))
 
--- a coordinate type with a dimension that S says, where S says what is inferred there
-inferred_pair : (b : CoordType) (o : Option Dimension) (r : PairOption) (S : Dimension → Type 0) (t : Tree) → ((c : CoordType) (d : Dimension) → Inferred t c d → b ≡ c) → ((d : Dimension) → S d ↔ Inferred t b d) → ((d : Dimension) → (o ≡ Some d) ↔ S d) → Pairs b o r → AnswersSome r (Inferred t)
-inferred_pair b o r S t only is says pairs = λ c d. (
-  (λ e. let p = (pairs c d).0 e in subst (λ x. Inferred t x d) p.0 ((is d).0 ((says d).0 p.1))),
-  (λ h. let same = only c d h in (pairs c d).1 (same, (says d).1 ((is d).1 (subst (λ x. Inferred t x d) (sym same) h)))),
-)
+pub separated_inferred : (t : Tree) (xs ys : List FieldTree) (o : Option Dimension) (r : PairOption) → t ≡ struct (field_trees xs) → ys ≡ xs → ((d : Dimension) → (o ≡ Some d) ↔ ((are_float64 (field_trees ys) ≡ true) × IsInferredAs d (names_of (field_trees ys)))) → Pairs Separated o r → AnswersSome r (Inferred t)
+separated_inferred t xs ys o r is same says pairs = rw (is, ← same) at_pair
+  where
+    at_pair : AnswersSome r (Inferred (struct (field_trees ys)))
+    at_pair Separated d = (λ e. (says d).0 ((pairs Separated d).0 e).1, λ h. (pairs Separated d).1 (refl, (says d).1 h))
+    at_pair Interleaved d = (λ e. let bad = ((pairs Interleaved d).0 e).0 in cc, λ h. absurd h)
 
-only_interleaved : (n : Text) (t : Tree) (b : Bool) (m : Metadata) (z : ℤ) (c : CoordType) (d : Dimension) → Inferred (fixed_size_list n t b m z) c d → Interleaved ≡ c
-only_interleaved n t b m z Interleaved d h = refl
-only_interleaved n t b m z Separated d h = absurd h
+pub interleaved_inferred : (t : Tree) (x y : FieldTree) (z told : ℤ) (o : Option Dimension) (r : PairOption) → t ≡ fixed_size_list x.name x.tree x.nullable x.metadata z → y ≡ x → told ≡ z → ((d : Dimension) → (o ≡ Some d) ↔ ((is_float64 y.tree ≡ true) × IsInferredSize d y.name told)) → Pairs Interleaved o r → AnswersSome r (Inferred t)
+interleaved_inferred t x y z told o r is same size says pairs = rw (is, ← same, ← size) at_pair
+  where
+    at_pair : AnswersSome r (Inferred (fixed_size_list y.name y.tree y.nullable y.metadata told))
+    at_pair Interleaved d = (λ e. (says d).0 ((pairs Interleaved d).0 e).1, λ h. (pairs Interleaved d).1 (refl, (says d).1 h))
+    at_pair Separated d = (λ e. let bad = ((pairs Separated d).0 e).0 in cc, λ h. absurd h)
 
-only_separated : (fs : FieldTrees) (c : CoordType) (d : Dimension) → Inferred (struct fs) c d → (Separated ≡ c) × (are_float64 fs ≡ true) × IsInferredAs d (names_of fs)
-only_separated fs Separated d h = (refl, h.0, h.1)
-only_separated fs Interleaved d h = absurd h
+pub two_fields : (fs : List FieldTree) (x y a b : FieldTree) → length fs ≡ 2 → x ≡ get_or fs 0 a → y ≡ get_or fs 1 b → fs ≡ x ∷ y ∷ []
+two_fields (f ∷ g ∷ []) x y a b two first second = cc
+two_fields _ x y a b two first second = absurd (omega arith)
 
-pub size_inferred : (w : Option ListWidth) (named : Option Dimension) (size told : ℤ) (floats : Bool) (o : Option Dimension) (r : PairOption) (u : Tree)
-    → IsBottom IsUnion w 0 (FixedSizeList named size floats) u → floats ≡ true → told ≡ size → ((d : Dimension) → (o ≡ Some d) ↔ SizeSays d named told) → Pairs Interleaved o r → AnswersSome r (Inferred u)
-size_inferred w named size told floats o r u k all same says pairs =
-    at_bottom IsUnion (λ x. AnswersSome r (Inferred x)) w 0 (FixedSizeList named size floats) tt
-    (λ n t b m z h. inferred_pair Interleaved o r (λ d. SizeSays d named told) (fixed_size_list n t b m z) (only_interleaved n t b m z)
-    (λ d. let is = size_is d named n told z h.0 (same ∙ h.1) in (λ s. (sym h.2 ∙ all, is.0 s), λ i. is.1 i.1)) says pairs)
-    (λ fs h. absurd h) (λ ms mode h. absurd h) u k
+-- what the fields say, where all are numbers
+pub none_inferred : (fs : FieldTrees) (r : Option Dimension) → are_float64 fs ≡ false → r ≡ None → (d : Dimension) → (r ≡ Some d) ↔ ((are_float64 fs ≡ true) × IsInferredAs d (names_of fs))
+none_inferred fs r floatless is d = (λ e. let bad = sym is ∙ e in cc, λ h. let bad = sym floatless ∙ h.0 in cc)
 
--- structs
-abbrev Bits : ℕ → List Text → Type 0
-Bits bits ns = IsBits bits (λ i. SomeAt i ns)
+pub all_inferred : (fs : FieldTrees) (r : Option Dimension) → are_float64 fs ≡ true → ((d : Dimension) → (r ≡ Some d) ↔ IsInferredAs d (names_of fs)) → (d : Dimension) → (r ≡ Some d) ↔ ((are_float64 fs ≡ true) × IsInferredAs d (names_of fs))
+all_inferred fs r all says d = (λ e. (all, (says d).0 e), λ h. (says d).1 h.1)
 
-measured_to : (bits : ℕ) (ns : List Text) → Bits bits ns → length ns ≡ 3 → is_measured bits ≡ true → SameNames ns (codes "x" ∷ codes "y" ∷ codes "m" ∷ [])
-measured_to bits ns is three h =
-    let p = and_parts (has_bit bits 0 && has_bit bits 1) (has_bit bits 3) h in
-    let q = and_parts (has_bit bits 0) (has_bit bits 1) p.0 in
-    same_three _ _ _ ns refl refl refl three (sym (has_at _ 0 bits ns (omega arith) refl refl is) ∙ q.0) (sym (has_at _ 1 bits ns (omega arith) refl refl is) ∙ q.1) (sym (has_at _ 3 bits ns (omega arith) refl refl is) ∙ p.1)
-
-measured_from : (bits : ℕ) (ns : List Text) → Bits bits ns → is_measured bits ≡ false → SameNames ns (codes "x" ∷ codes "y" ∷ codes "m" ∷ []) → ⊥
-unfolding SameNames
-measured_from bits ns is h same =
-    let x = has_at (120 ∷ []) 0 bits ns (omega arith) refl refl is ∙ same (120 ∷ []) in
-    let y = has_at (121 ∷ []) 1 bits ns (omega arith) refl refl is ∙ same (121 ∷ []) in
-    let m = has_at (109 ∷ []) 3 bits ns (omega arith) refl refl is ∙ same (109 ∷ []) in
-    let all : is_measured bits ≡ true = rw (x, y, m) refl in cc
-
-names_are : (d : Dimension) (count bits : ℕ) (ns : List Text) → count ≡ length ns → Bits bits ns → NamesSay d count bits ↔ IsInferredAs d ns
-names_are XYZ count bits ns same is = (
-  (λ h. (sym same ∙ h.0, measured_from bits ns is h.1)),
-  (λ h. (same ∙ h.0, elim (cases_Bool (is_measured bits)) [ inl e ↦ absurd (h.1 (measured_to bits ns is h.0 e)) | inr e ↦ e ])),
-)
-names_are XYM count bits ns same is = (
-  (λ h. (sym same ∙ h.0, measured_to bits ns is (sym same ∙ h.0) h.1)),
-  (λ h. (same ∙ h.0, elim (cases_Bool (is_measured bits)) [ inl e ↦ e | inr e ↦ absurd (measured_from bits ns is e h.1) ])),
-)
-names_are _ count bits ns same is = (λ h. sym same ∙ h, λ h. same ∙ h)
-
-pub names_inferred : (w : Option ListWidth) (count names : ℕ) (floats : Bool) (o : Option Dimension) (r : PairOption) (u : Tree)
-    → IsBottom IsUnion w 0 (Struct count names floats) u → floats ≡ true → ((d : Dimension) → (o ≡ Some d) ↔ NamesSay d count names) → Pairs Separated o r → AnswersSome r (Inferred u)
-names_inferred w count names floats o r u k all says pairs =
-    at_bottom IsUnion (λ x. AnswersSome r (Inferred x)) w 0 (Struct count names floats) tt (λ n t b m z h. absurd h)
-    (λ fs h. inferred_pair Separated o r (λ d. NamesSay d count names) (struct fs) (λ c d i. (only_separated fs c d i).0)
-    (λ d. let is = names_are d count names (names_of fs) h.0 h.1 in (λ s. (sym h.2 ∙ all, is.0 s), λ i. is.1 i.1)) says pairs)
-    (λ ms mode h. absurd h) u k
-
--- two fields, whatever their names are
-pub no_floats_inferred : (r : PairOption) (fs : FieldTrees) → are_float64 fs ≡ false → r ≡ no_pair → AnswersSome r (Inferred (struct fs))
-no_floats_inferred r fs floatless is = λ c d. (
-  (λ e. let bad : no_pair ≡ some_pair c d = sym is ∙ e in cc),
-  (λ h. let bad : false ≡ true = sym floatless ∙ (only_separated fs c d h).1 in cc),
-)
-
-two_names : (ns : List Text) (d : Dimension) → length ns ≡ 2 → IsInferredAs d ns → XY ≡ d
-two_names ns XY two h = refl
-two_names ns _ two h = absurd (omega arith)
-
-pub pair_inferred : (r : PairOption) (fs : FieldTrees) → are_float64 fs ≡ true → length (names_of fs) ≡ 2 → r ≡ some_pair Separated XY → AnswersSome r (Inferred (struct fs))
-pair_inferred r fs all two is = λ c d. (
-  (λ e. let p = some_pair_parts Separated c XY d (sym is ∙ e) in subst (λ x. Inferred (struct fs) x d) p.0 (all, subst (λ x. IsInferredAs x (names_of fs)) p.1 two)),
-  (λ h. let s = only_separated fs c d h in let xy = two_names (names_of fs) d two s.2 in is ∙ ap (λ x. some_pair x XY) s.0 ∙ ap (some_pair c) xy),
-)
+pub two_inferred : (fs : FieldTrees) (r : Option Dimension) → are_float64 fs ≡ true → length (names_of fs) ≡ 2 → r ≡ Some XY → (d : Dimension) → (r ≡ Some d) ↔ ((are_float64 fs ≡ true) × IsInferredAs d (names_of fs))
+two_inferred fs r all two is = all_inferred fs r all (by is)
+  where
+    by : r ≡ Some XY → (d : Dimension) → (r ≡ Some d) ↔ IsInferredAs d (names_of fs)
+    by is XY = (λ e. two, λ h. is)
+    by is _ = (λ e. let bad = sym is ∙ e in cc, λ h. absurd (omega arith))
 
 -- a coordinate is taken for what it is read as
 names_agree : (ns : List Text) (d e : Dimension) → IsInferredAs d ns → IsSeparatedAs e ns → d ≡ e
 names_agree ns XYZ XYZ h k = refl
 names_agree ns XYZ XYM h k = absurd (h.1 k.1)
 names_agree ns XYZ _ h k = absurd (omega arith)
-names_agree ns d e h k = separated_same ns d e h k
+names_agree ns d e h k = sym (among_back ns d h) ∙ among_back ns e k
+
+-- what the reader of a coordinate says of the names
+as_inferred : (ns : List Text) (d : Dimension) → IsSeparatedAs d ns → IsInferredAs d ns
+as_inferred ns XYZ h = (h.0, λ m. let bad = sym (among_back ns XYZ h) ∙ among_back ns XYM (h.0, m) in cc)
+as_inferred ns _ h = h
+
+pub read_inferred : (ns : List Text) (e d : Dimension) → IsSeparatedAs e ns → (Some e ≡ Some d) ↔ IsInferredAs d ns
+read_inferred ns e d h = (λ is. subst (λ x. IsInferredAs x ns) (same_Some e d is) (as_inferred ns e h), λ k. ap (λ x. Some x) (sym (names_agree ns d e k h)))
+
+pub other_inferred : (ns : List Text) (p : Path) → SeparatedFault ns p BadFieldNames → (d : Dimension) → (Some XYZ ≡ Some d) ↔ IsInferredAs d ns
+other_inferred ns p (inl h) d = let bad = h.1.1 in cc
+other_inferred ns p (inr h) XYZ = (λ e. (h.0, λ m. h.1 XYM (h.0, m)), λ k. refl)
+other_inferred ns p (inr h) XYM = (λ e. cc, λ k. absurd (h.1 XYM k))
+other_inferred ns p (inr h) _ = (λ e. cc, λ k. absurd (omega (arith, h.0)))
+
+inferred_length : (ns : List Text) (d : Dimension) → IsInferredAs d ns → length ns ≡ size_of d
+inferred_length ns XYZ h = h.0
+inferred_length ns XYM h = h.0
+inferred_length ns _ h = h
+
+pub not_inferred : (ns : List Text) (p : Path) (f : LayoutFault) → (f ≡ BadFieldNames → ⊥) → SeparatedFault ns p f → (d : Dimension) → (None ≡ Some d) ↔ IsInferredAs d ns
+not_inferred ns p f other (inl h) d = (λ e. cc, λ k. absurd (h.0 d (inferred_length ns d k)))
+not_inferred ns p f other (inr h) d = absurd (other h.2.1)
 
 size_inferred_as : (d : Dimension) (name : Text) (z : ℤ) → IsInferredSize d name z → z ≡ pos (size_of d)
 size_inferred_as XYZ name z h = h.0
@@ -116,10 +76,10 @@ size_inferred_as _ name z h = h
 
 size_agrees : (name : Text) (z : ℤ) (d e : Dimension) → IsInferredSize d name z → name ≡ interleaved_name e → size_of d ≡ size_of e → d ≡ e
 size_agrees name z XYZ XYM h named size = absurd (h.1 named)
-size_agrees name z XYM XYZ h named size = absurd (apart _ _ refl (sym h.1 ∙ named))
+size_agrees name z XYM XYZ h named size = let bad = ap dimension_named (sym h.1 ∙ named) in cc
 size_agrees name z _ _ h named size = grind arith
 
 pub inferred_as_read : (t : Tree) (c b : CoordType) (d e : Dimension) → Inferred t c d → Leaf t b e → (c ≡ b) × (d ≡ e)
-inferred_as_read (fixed_size_list n t x m z) Interleaved Interleaved d e h k = (refl, size_agrees n z d e h.1 k.0 (pos_same _ _ (sym (size_inferred_as d n z h.1) ∙ k.1)))
+inferred_as_read (fixed_size_list n t x m z) Interleaved Interleaved d e h k = (refl, size_agrees n z d e h.1 k.0 (let same = sym (size_inferred_as d n z h.1) ∙ k.1 in cc))
 inferred_as_read (struct fs) Separated Separated d e h k = (refl, names_agree (names_of fs) d e h.1 k)
 inferred_as_read _ _ _ d e h k = search

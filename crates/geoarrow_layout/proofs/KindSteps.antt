@@ -1,17 +1,13 @@
 -- The kind of a name and a tree: there is one at most, and it is what a reader's answer says.
-use Rattle.geoarrow_layout.proofs.Terms.{◌≡◌, ◌⊎◌, inl, inr, Bool, true≢false, IsTrue, is_ok, cond, refl, sym, ap, subst, ◌∙◌, ◌↔◌, IfOk, IfErr, Option, Some, None, Result, Ok, Err, bytes_eq, same_Some, Text, Tree, CoordType, Dimension, NativeKind, Point, LineString, Polygon, MultiPoint, MultiLineString, MultiPolygon, GeometryCollection, Width, Plain, Kind, OfNative, OfGeometry, OfRect, OfWkb, OfWkt, ExtensionName, name_text, extension_of, Native, IsBytes, IsText, Accepted, Accepts, IsStructured, AnswersOne, any_native_same, geometry_same, box_shape_same, LayoutFault, Summary, Summarizes, layout, IsAccepted, IsAcceptedStructure, Path, HasFault, FaultAt, Tells, AnswersKind, TellsKind}
+use Rattle.geoarrow_layout.proofs.Terms.{◌≡◌, ◌⊎◌, inl, inr, Bool, true≢false, IsTrue, is_ok, cond, refl, sym, ap, subst, ◌∙◌, ◌↔◌, IfErr, Option, Some, None, Result, Ok, Err, bytes_eq, same_Some, Text, Tree, Point, LineString, Polygon, MultiPoint, MultiLineString, MultiPolygon, GeometryCollection, Width, Plain, Large, View, Kind, OfNative, OfGeometry, OfRect, OfWkb, OfWkt, ExtensionName, name_text, extension_of, Native, IsBytes, IsText, Accepted, Accepts, IsStructured, AnswersOne, any_native_same, geometry_same, box_shape_same, LayoutFault, Summary, Summarizes, IsAccepted, Path, HasFault, FaultAt, Tells, AnswersKind}
 use Rattle.geoarrow_layout.specs.declared.names.ExtensionName.TheVariants as names
-use Rattle.geoarrow_layout.proofs.Distinct.{layouts_are_distinct}
 use Rattle.geoarrow_layout.proofs.FaultLaws.{accepted_apart}
 use Rattle.geoarrow_layout.proofs.Readings.{exactly_one}
 
 -- a text says which name it is, so two names of one text are one
-abbrev if_named : Text → ExtensionName → ExtensionName → ExtensionName
-if_named n a b = cond (bytes_eq n (name_text a)) a b
-
 abbrev named : Text → ExtensionName
 named n =
-    let or = if_named n in
+    let or = λ (a b : ExtensionName). cond (bytes_eq n (name_text a)) a b in
     or (names.Native Point) (or (names.Native LineString) (or (names.Native Polygon) (or (names.Native MultiPoint) (or (names.Native MultiLineString) (or (names.Native MultiPolygon)
     (or (names.Native GeometryCollection) (or names.Geometry (or names.Rect (or names.Wkb names.Wkt)))))))))
 
@@ -22,22 +18,20 @@ named_back _ = refl
 pub one_name : (a b : ExtensionName) → name_text a ≡ name_text b → a ≡ b
 one_name a b h = sym (named_back a) ∙ ap named h ∙ named_back b
 
--- well-known binary and text are of the one data type that is written for the width
-plain_layout : (w : Width) (t : Tree) → (IsBytes w t → t ≡ layout (OfWkb w)) × (IsText w t → t ≡ layout (OfWkt w))
-plain_layout Plain t = (λ h. h, λ h. h)
-plain_layout _ t = (λ h. h, λ h. h)
+widths_same : (t : Tree) (w v : Width) → (IsBytes w t → IsBytes v t → w ≡ v) × (IsText w t → IsText v t → w ≡ v)
+widths_same t Plain Plain = (λ h g. refl, λ h g. refl)
+widths_same t Large Large = (λ h g. refl, λ h g. refl)
+widths_same t View View = (λ h g. refl, λ h g. refl)
+widths_same t _ _ = (λ h g. cc, λ h g. cc)
 
-native_kinds_same : (t : Tree) (k l : NativeKind) (c b : CoordType) (d e : Dimension) → k ≡ l → Native t k c d → Native t l b e → OfNative k c d ≡ OfNative l b e
-native_kinds_same t k l c b d e same h g =
-    let p = any_native_same l t c b d e (subst (λ x. Native t x c d) same h) g in
-    ap (λ x. OfNative x c d) same ∙ ap (λ x. OfNative l x d) p.0 ∙ ap (λ x. OfNative l b x) p.1
-
-same_kind : (t : Tree) (k l : Kind) → extension_of k ≡ extension_of l → Accepted k t → Accepted l t → k ≡ l
-same_kind t (OfNative k c d) (OfNative l b e) same h g = let kinds : k ≡ l = cc in native_kinds_same t k l c b d e kinds h g
+pub same_kind : (t : Tree) (k l : Kind) → extension_of k ≡ extension_of l → Accepted k t → Accepted l t → k ≡ l
+same_kind t (OfNative k c d) (OfNative l b e) same h g =
+    let kinds : k ≡ l = cc in
+    let pair = any_native_same l t c b d e (subst (λ x. Native t x c d) kinds h) g in cc
 same_kind t (OfGeometry c) (OfGeometry b) same h g = ap (λ x. OfGeometry x) (geometry_same t c b h g)
 same_kind t (OfRect d) (OfRect e) same h g = ap (λ x. OfRect x) (box_shape_same t d e h g)
-same_kind t (OfWkb w) (OfWkb v) same h g = layouts_are_distinct (OfWkb w) (OfWkb v) (sym ((plain_layout w t).0 h) ∙ (plain_layout v t).0 g)
-same_kind t (OfWkt w) (OfWkt v) same h g = layouts_are_distinct (OfWkt w) (OfWkt v) (sym ((plain_layout w t).1 h) ∙ (plain_layout v t).1 g)
+same_kind t (OfWkb w) (OfWkb v) same h g = ap (λ x. OfWkb x) ((widths_same t w v).0 h g)
+same_kind t (OfWkt w) (OfWkt v) same h g = ap (λ x. OfWkt x) ((widths_same t w v).1 h g)
 same_kind t k l same h g = cc
 
 pub one_kind : (name : Text) (t : Tree) (k l : Kind) → Accepts name t k → Accepts name t l → k ≡ l
@@ -47,52 +41,33 @@ one_kind name t k l h g = same_kind t k l (one_name (extension_of k) (extension_
 pub no_fault_if_accepted : (n : ExtensionName) (t : Tree) (k : Kind) (p : Path) (f : LayoutFault) → Accepts (name_text n) t k → FaultAt n t p f → ⊥
 no_fault_if_accepted n t k p f h e = accepted_apart k t p f h.1 (subst (λ m. FaultAt m t p f) (one_name n (extension_of k) h.0) e)
 
-none_accepted : (n : ExtensionName) (t : Tree) (f : LayoutFault) → HasFault (FaultAt n t) f → (l : Kind) → Accepts (name_text n) t l → ⊥
-none_accepted n t f h l a = no_fault_if_accepted n t l h.0 f a h.1
-
 -- ---- answers
 
 -- a kind that accepts the tree is the one
 pub kind_some : (n : Text) (t : Tree) (k : Kind) → IsStructured k → Accepts n t k → AnswersKind n t (Some k)
 kind_some n t k s here = λ l. (λ e. subst (λ x. Accepts n t x × IsStructured x) (same_Some k l e) (here, s), λ h. ap (λ x. Some x) (one_kind n t k l here h.0))
 
--- what a summary says under a name is the kind, or that there is none
-pub told_kind : (n : ExtensionName) (t : Tree) (r : Result Kind LayoutFault) (k : Kind) → r ≡ Ok k → TellsKind n t r → Accepts (name_text n) t k
-told_kind names.Wkb t r k is a = let bad = sym is ∙ a in cc
-told_kind names.Wkt t r k is a = let bad = sym is ∙ a in cc
-told_kind n t r k is a = subst (λ z. Tells z (Accepts (name_text n) t) (FaultAt n t)) is a
-
-plain_name : (n : ExtensionName) → (n ≡ names.Wkb) ⊎ (n ≡ names.Wkt) → (k : Kind) → IsStructured k → n ≡ extension_of k → ⊥
-plain_name n plain (OfWkb w) s e = s
-plain_name n plain (OfWkt w) s e = s
-plain_name n (inl h) k s e = let bad = sym h ∙ e in cc
-plain_name n (inr h) k s e = let bad = sym h ∙ e in cc
-
-pub told_none : (n : ExtensionName) (t : Tree) (r : Result Kind LayoutFault) (f : LayoutFault) → r ≡ Err f → TellsKind n t r → (k : Kind) → Accepts (name_text n) t k → IsStructured k → ⊥
-told_none names.Wkb t r f is a k h s = plain_name names.Wkb (inl refl) k s (one_name names.Wkb (extension_of k) h.0)
-told_none names.Wkt t r f is a k h s = plain_name names.Wkt (inr refl) k s (one_name names.Wkt (extension_of k) h.0)
-told_none n t r f is a k h s = none_accepted n t f (subst (λ z. Tells z (Accepts (name_text n) t) (FaultAt n t)) is a) k h
-
-pub answer_kind : (x : Text) (n : ExtensionName) (t : Tree) (r : Result Kind LayoutFault) (k : Kind) → x ≡ name_text n → r ≡ Ok k → IsStructured k → TellsKind n t r → AnswersKind x t (Some k)
-answer_kind x n t r k named is s a = let here = told_kind n t r k is a in kind_some x t k s (named ∙ here.0, here.1)
-
-pub answer_none : (x : Text) (n : ExtensionName) (t : Tree) (r : Result Kind LayoutFault) (f : LayoutFault) → x ≡ name_text n → r ≡ Err f → TellsKind n t r → AnswersKind x t None
-answer_none x n t r f named is a = λ l. (λ e. cc, λ h. absurd (told_none n t r f is a l (sym named ∙ h.0.0, h.0.1) h.1))
-
--- whether there is a kind
-pub told_ok : (n : ExtensionName) (t : Tree) (r : Result Kind LayoutFault) (b : Bool) → b ≡ is_ok r → IfOk r (λ k. (extension_of k ≡ n) × IsStructured k) → TellsKind n t r → IsTrue b ↔ IsAcceptedStructure (name_text n) t
-told_ok n t (Ok k) b is named a = (λ e. (k, told_kind n t (Ok k) k refl a, named.1), λ x. is)
-told_ok n t (Err f) b is named a = (λ e. absurd (true≢false (sym e ∙ is)), λ x. absurd (told_none n t (Err f) f refl a x.0 x.1 x.2))
-
--- the reader of every name but those of well-known binary and text
-pub told_all : (n : ExtensionName) (t : Tree) (r : Result Kind LayoutFault) → (n ≡ names.Wkb → ⊥) → (n ≡ names.Wkt → ⊥) → TellsKind n t r → Tells r (Accepts (name_text n) t) (FaultAt n t)
-told_all names.Wkb t r a b h = absurd (a refl)
-told_all names.Wkt t r a b h = absurd (b refl)
-told_all n t r a b h = h
-
 -- the kind of a column, told by the reader of its extension name
 pub kind_exact : (n : ExtensionName) (t : Tree) (r : Result Kind LayoutFault) → Tells r (Accepts (name_text n) t) (FaultAt n t) → AnswersOne r (Accepts (name_text n) t)
 kind_exact n t r h = exactly_one r (Accepts (name_text n) t) (FaultAt n t) (one_kind (name_text n) t) (no_fault_if_accepted n t) h
+
+pub answer_none : (x : Text) (n : ExtensionName) (t : Tree) (f : LayoutFault) → x ≡ name_text n → HasFault (FaultAt n t) f → AnswersKind x t None
+answer_none x n t f named fault l = (λ e. cc, λ h. absurd (no_fault_if_accepted n t l fault.0 f (sym named ∙ h.0.0, h.0.1) fault.1))
+
+-- well-known binary and text have no structure
+not_plain : (k : Kind) → IsStructured k → (extension_of k ≡ names.Wkb) ⊎ (extension_of k ≡ names.Wkt) → ⊥
+not_plain (OfWkb w) s plain = s
+not_plain (OfWkt w) s plain = s
+not_plain k s (inl e) = cc
+not_plain k s (inr e) = cc
+
+pub answer_plain : (x : Text) (n : ExtensionName) (t : Tree) → x ≡ name_text n → (n ≡ names.Wkb) ⊎ (n ≡ names.Wkt) → AnswersKind x t None
+answer_plain x n t named plain l = (λ e. cc, λ h. absurd (not_plain l h.1 (subst (λ m. (m ≡ names.Wkb) ⊎ (m ≡ names.Wkt)) (one_name n (extension_of l) (sym named ∙ h.0.0)) plain)))
+
+-- whether there is a kind
+pub accepted_ok : (n : Text) (t : Tree) (r : Result Kind LayoutFault) (b : Bool) → b ≡ is_ok r → AnswersOne r (Accepts n t) → IsTrue b ↔ IsAccepted n t
+accepted_ok n t (Ok k) b is a = (λ e. (k, (a k).0 refl), λ x. is)
+accepted_ok n t (Err f) b is a = (λ e. absurd (true≢false (sym e ∙ is)), λ x. let bad = (a x.0).1 x.1 in cc)
 
 -- there is a kind, or a fault
 pub either : (r : Result Kind LayoutFault) (n : ExtensionName) (t : Tree) → AnswersOne r (Accepts (name_text n) t) → IfErr r (HasFault (FaultAt n t)) → IsAccepted (name_text n) t ⊎ ((p : Path) × (f : LayoutFault) × FaultAt n t p f)

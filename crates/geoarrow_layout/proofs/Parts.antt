@@ -1,5 +1,5 @@
 -- Ids and members: each is read in one way.
-use Rattle.geoarrow_layout.proofs.Terms.{◌≡◌, ◌≢◌, inl, inr, ℕ, ℤ, pos, Bool, true, false, Option, None, Some, Ok, Err, MatchResult, refl, sym, ap, subst, ◌∙◌, [], Tree, CoordType, Dimension, LayoutFault, BadTypeId, NativeKind, GeometryCollection, type_id_of, levels_of, OverLeaf, Member, GeometryMember, Native, LeafUnder, Path, Faults, HasFault, MemberFault, CoordinateFault, ListsFault, PartFault, OverLeafFault, NativeFault, GeometryMemberFault, TellsBoth, Summary, Shows, IsOtherFault, ShowsIn, NativeIn, NativeFaultIn, MemberIn, MemberFaultIn}
+use Rattle.geoarrow_layout.proofs.Terms.{◌≡◌, ◌≢◌, inl, inr, ℕ, ℤ, pos, Bool, true, false, Option, None, some_pair_parts, Ok, Err, MatchResult, refl, sym, ap, subst, ◌∙◌, [], Tree, CoordType, Dimension, LayoutFault, BadTypeId, NativeKind, GeometryCollection, type_id_of, levels_of, OverLeaf, Member, GeometryMember, Native, Leaf, Under, Path, Faults, HasFault, MemberFault, CoordinateFault, ListsFault, PartFault, OverLeafFault, NativeFault, GeometryMemberFault, TellsBoth, Summary, IsOtherFault, ShowsIn, NativeIn, NativeFaultIn, MemberIn, MemberFaultIn}
 use Rattle.geoarrow_layout.proofs.UnionSteps.{shows_of_inner}
 use Rattle.geoarrow_layout.proofs.Readings.{Answer, IsPartsOf, some_parts, refused}
 use Rattle.geoarrow_layout.proofs.FaultLaws.{KindReads, KindFault}
@@ -27,7 +27,7 @@ pub part_unknown : (N : KindReads) (F : NativeKind → Faults) (i z : ℤ) (t : 
 part_unknown N F i z t is parts = ([], inl ((λ k d id. let bad : no_parts ≡ some_parts k d = (parts k d).1 (is ∙ id) in cc), (refl, refl)))
 
 -- a member of a geometry
-to_part : (k : NativeKind) (i : ℤ) (t : Tree) (c : CoordType) (d : Dimension) → i ≡ pos (type_id_of k d) → Native t k c d → GeometryMember i t c d
+pub to_part : (k : NativeKind) (i : ℤ) (t : Tree) (c : CoordType) (d : Dimension) → i ≡ pos (type_id_of k d) → Native t k c d → GeometryMember i t c d
 to_part GeometryCollection i t c d id h = inr (id, h)
 to_part k i t c d id h = inl (k, id, h)
 
@@ -37,10 +37,10 @@ member_answer false (Ok x) i t h = h
 member_answer b (Err f) i t h = h
 
 -- the lists of a kind other than a collection
-pub over_leaf_answer : (b : Bool) (k : NativeKind) (n : ℕ) (s : Summary) (t : Tree) (r : Answer) → (k ≢ GeometryCollection) → n ≡ levels_of k → ((u : Tree) → Shows s u → TellsBoth r (LeafUnder n u) (ListsFault CoordinateFault n u)) → ShowsIn b s t → TellsBoth r (NativeIn b t k) (NativeFaultIn b k t)
+pub over_leaf_answer : (b : Bool) (k : NativeKind) (n : ℕ) (s : Summary) (t : Tree) (r : Answer) → (k ≢ GeometryCollection) → n ≡ levels_of k → ((u : Tree) → ShowsIn false s u → TellsBoth r (Under Leaf n u) (ListsFault CoordinateFault n u)) → ShowsIn b s t → TellsBoth r (NativeIn b t k) (NativeFaultIn b k t)
 over_leaf_answer b GeometryCollection n s t r other same says shown = absurd (other refl)
-over_leaf_answer true k n s t r other same says shown = subst (λ m. TellsBoth r (LeafUnder m t) (ListsFault CoordinateFault m t)) same (says t (shows_of_inner s t shown))
-over_leaf_answer false k n s t r other same says shown = subst (λ m. TellsBoth r (LeafUnder m t) (ListsFault CoordinateFault m t)) same (says t shown)
+over_leaf_answer true k n s t r other same says shown = subst (λ m. TellsBoth r (Under Leaf m t) (ListsFault CoordinateFault m t)) same (says t (shows_of_inner s t shown))
+over_leaf_answer false k n s t r other same says shown = subst (λ m. TellsBoth r (Under Leaf m t) (ListsFault CoordinateFault m t)) same (says t shown)
 
 -- a member of a geometry that is no collection is the same in a collection
 kind_fault_same : (k : NativeKind) (d : Dimension) (t : Tree) (p : Path) (f : LayoutFault) → (k ≡ GeometryCollection → ⊥) → KindFault Native NativeFault k d t p f → KindFault OverLeaf OverLeafFault k d t p f
@@ -56,12 +56,5 @@ no_collection i z t r (Err f) is parts other (p, inr e) = (p, inr (e.0, e.1, e.2
 pub a_collection : (i z : ℤ) (t : Tree) (k : NativeKind) (d : Dimension) → z ≡ i → IsPartsOf z (some_parts k d) → k ≡ GeometryCollection → TellsBoth (refused BadTypeId) (Member i t) (MemberFault i t)
 a_collection i z t k d is parts same = ([], inr (k, d, sym is ∙ (parts k d).0 refl, inl (subst (λ x. OverLeafFault x t [] BadTypeId) (sym same) (refl, refl))))
 
-pub no_parts_no_collection : (i z : ℤ) (t : Tree) (part : Answer) → z ≡ i → IsPartsOf z no_parts → TellsBoth part (GeometryMember i t) (GeometryMemberFault i t) → TellsBoth part (Member i t) (MemberFault i t)
-no_parts_no_collection i z t part is parts h = no_collection i z t no_parts part is parts (λ d e. cc) h
-
 pub kind_no_collection : (i z : ℤ) (t : Tree) (k : NativeKind) (d : Dimension) (part : Answer) → z ≡ i → IsPartsOf z (some_parts k d) → (k ≢ GeometryCollection) → TellsBoth part (GeometryMember i t) (GeometryMemberFault i t) → TellsBoth part (Member i t) (MemberFault i t)
-kind_no_collection i z t k d part is parts other h = no_collection i z t (some_parts k d) part is parts (λ e same. other (ap kind_in same)) h
-  where
-    kind_in : Option (NativeKind × Dimension) → NativeKind
-    kind_in None = k
-    kind_in (Some x) = x.0
+kind_no_collection i z t k d part is parts other h = no_collection i z t (some_parts k d) part is parts (λ e same. other (some_pair_parts k GeometryCollection d e same).0) h

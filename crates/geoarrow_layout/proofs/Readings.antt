@@ -1,34 +1,20 @@
 -- What a reader answers, in short words.
-use Rattle.geoarrow_layout.proofs.Terms.{◌≡◌, ◌↔◌, subst, ℤ, pos, Result, Ok, Err, Option, Some, ap, ◌∙◌, IfErr, CoordType, Dimension, LayoutFault, NativeKind, type_id_of, Answers, AnswersOne, Path, Located, HasFault, Tells, TellsBoth}
+use Rattle.geoarrow_layout.proofs.Terms.{◌≡◌, ◌↔◌, sym, subst, ℤ, pos, Result, Ok, Err, Option, Some, ap, ◌∙◌, IfErr, CoordType, Dimension, LayoutFault, NativeKind, type_id_of, Answers, AnswersOne, Path, Located, HasFault, Tells, TellsBoth}
 
 abbrev pub Answer : Type 0
 Answer = Result (CoordType × Dimension) LayoutFault
 
--- an answer to one relation is an answer to another that holds at the same pairs
-pub answers_like : (r : Answer) (R S : CoordType → Dimension → Type 0) → ((c : CoordType) (d : Dimension) → R c d → S c d) → ((c : CoordType) (d : Dimension) → S c d → R c d) → Answers r R → Answers r S
-answers_like r R S to from h = λ c d. (λ e. to c d ((h c d).0 e), λ s. (h c d).1 (from c d s))
-
--- the same of one value
 abbrev pub ok : {X : Type 0} → X → Result X LayoutFault
 ok x = Ok x
 
 pub ok_same : {X : Type 0} (x y : X) → ok x ≡ ok y → x ≡ y
 ok_same x y h = cc
 
-pub answers_one : {X : Type 0} (x : X) (R : X → Type 0) → ((x y : X) → R x → R y → x ≡ y) → R x → AnswersOne (ok x) R
-answers_one x R one h = λ y. (λ e. subst R (ok_same x y e) h, λ k. ap ok (one x y h k))
-
-pub refuses_one : {X : Type 0} (f : LayoutFault) (R : X → Type 0) → ((x : X) → R x → ⊥) → AnswersOne (Err f) R
-refuses_one f R none = λ x. (λ e. cc, λ h. absurd (none x h))
-
 abbrev pub Parts : Type 0
 Parts = Option (NativeKind × Dimension)
 
 abbrev pub some_parts : NativeKind → Dimension → Parts
 some_parts k d = Some (k, d)
-
-abbrev pub ok_pair : CoordType → Dimension → Answer
-ok_pair c d = Ok (c, d)
 
 abbrev pub refused : LayoutFault → Answer
 refused e = Err e
@@ -39,14 +25,11 @@ IsPartsOf i r = (k : NativeKind) (d : Dimension) → (r ≡ some_parts k d) ↔ 
 
 -- what holds for one value alone, and for none where there is a fault, is answered exactly
 pub exactly_one : {X : Type 0} (r : Result X LayoutFault) (R : X → Type 0) (F : Located) → ((x y : X) → R x → R y → x ≡ y) → ((x : X) (p : Path) (f : LayoutFault) → R x → F p f → ⊥) → Tells r R F → AnswersOne r R
-exactly_one (Ok x) R F one apart h = answers_one x R one h
-exactly_one (Err f) R F one apart h = refuses_one f R (λ x k. apart x h.0 f k h.1)
+exactly_one (Ok x) R F one apart h y = (λ e. subst R (ok_same x y e) h, λ k. ap ok (one x y h k))
+exactly_one (Err f) R F one apart h y = (λ e. cc, λ k. absurd (apart y h.0 f k h.1))
 
-pair_same : (x y : CoordType × Dimension) → (x.0 ≡ y.0) × (x.1 ≡ y.1) → x ≡ y
-pair_same (c, d) (b, e) h = ap (λ z. (z, d)) h.0 ∙ ap (λ z. (b, z)) h.1
-
-pub exactly : (r : Answer) (R : CoordType → Dimension → Type 0) (F : Located) → ((c b : CoordType) (d e : Dimension) → R c d → R b e → (c ≡ b) × (d ≡ e)) → ((c : CoordType) (d : Dimension) (p : Path) (f : LayoutFault) → R c d → F p f → ⊥) → TellsBoth r R F → Answers r R
-exactly r R F one apart h = let all = exactly_one r (λ x. R x.0 x.1) F (λ x y h k. pair_same x y (one x.0 y.0 x.1 y.1 h k)) (λ x p f k e. apart x.0 x.1 p f k e) h in λ c d. all (c, d)
+pub exactly : (v : CoordType × Dimension) (r : Answer) (R : CoordType → Dimension → Type 0) (F : Located) → ((c : CoordType) (d : Dimension) → R c d → v ≡ (c, d)) → ((c : CoordType) (d : Dimension) (p : Path) (f : LayoutFault) → R c d → F p f → ⊥) → TellsBoth r R F → Answers r R
+exactly v r R F first apart h = let all = exactly_one r (λ x. R x.0 x.1) F (λ x y h k. sym (first x.0 x.1 h) ∙ first y.0 y.1 k) (λ x. apart x.0 x.1) h in λ c d. all (c, d)
 
 pub told_fault : {X : Type 0} (r : Result X LayoutFault) (R : X → Type 0) (F : Located) → Tells r R F → IfErr r (HasFault F)
 told_fault (Ok x) R F h = tt

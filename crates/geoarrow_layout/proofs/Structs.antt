@@ -1,7 +1,7 @@
 -- What the names of a struct's fields say, by their bits: the dimension of a coordinate, and that of a box.
 use Rattle.geoarrow_layout.proofs.Terms.{◌≡◌, ◌⊎◌, ℕ, refl, sym, ◌∙◌, arith, Bool, true, false, Result, Ok, Err, inl, inr, List, length, Option, ◌&&◌, [], Text, Tree, struct, FieldTrees, Separated, Dimension, XYZ, XYM, LayoutFault, BadFieldNames, ListWidth, Bottom, Struct, names_of, IsSeparatedAs, Leaf, IsBoxAs, BoxShape, Path, SeparatedFault, CoordinateFault, BoxFault, SomeAt, IsBottom, IsUnion, has_bit, IsNoLeaf, Tells, TellsBoth, BoxNamesFault, IsBits, and_parts}
 use Rattle.geoarrow_layout.proofs.FieldSteps.{same_three, three_have, has_at}
-use Rattle.geoarrow_layout.proofs.Readings.{Answer, ok_pair}
+use Rattle.geoarrow_layout.proofs.Readings.{Answer}
 use Rattle.geoarrow_layout.proofs.Bottoms.{at_bottom}
 
 abbrev DimensionAnswer : Type 0
@@ -38,7 +38,7 @@ LeafAnswer b r = (w : Option ListWidth) (levels : ℕ) (u : Tree) → IsBottom I
 at_struct : (P : Tree → Type 0) (count names : ℕ) (floats : Bool) → ((fs : FieldTrees) → count ≡ length (names_of fs) → IsBits names (λ i. SomeAt i (names_of fs)) → P (struct fs)) → (w : Option ListWidth) (n : ℕ) (u : Tree) → IsBottom IsNoLeaf w n (Struct count names floats) u → P u
 at_struct P count names floats h w n u is = at_bottom IsNoLeaf P w n (Struct count names floats) tt (λ x t b m z k. absurd k) (λ fs k. h fs k.0 k.1) (λ ms mode k. absurd k) u is
 
-pub struct_leaf : (count names : ℕ) (floats : Bool) (d : Dimension) → NamesAnswer count names (Ok d) → LeafAnswer (Struct count names floats) (ok_pair Separated d)
+pub struct_leaf : (count names : ℕ) (floats : Bool) (d : Dimension) → NamesAnswer count names (Ok d) → LeafAnswer (Struct count names floats) (Ok (Separated, d))
 struct_leaf count names floats d h w n u is = at_struct (λ x. Leaf x Separated d) count names floats (λ fs same bits. h (names_of fs) same bits) w n u is
 
 pub struct_no_leaf : (count names : ℕ) (floats : Bool) (f : LayoutFault) → NamesAnswer count names (Err f) → LeafAnswer (Struct count names floats) (Err f)
@@ -73,9 +73,5 @@ no_box count bits six no_m no_z = λ ns same is. ([], inr (sym same ∙ six, (λ
     none ns XYZ count6 is h = not_both (has_bit bits 4) (has_bit bits 5) no_z (has_at _ 4 bits ns (omega arith) refl refl is ∙ h.2.0, has_at _ 5 bits ns (omega arith) refl refl is ∙ h.2.1)
     none ns _ count6 is h = omega arith
 
-box_told : (fs : FieldTrees) (r : DimensionAnswer) → Tells r (λ d. IsBoxAs d (names_of fs)) (BoxNamesFault (names_of fs)) → Tells r (BoxShape (struct fs)) (BoxFault (struct fs))
-box_told fs (Ok d) h = h
-box_told fs (Err f) h = h
-
 pub root_box : (w : Option ListWidth) (count names : ℕ) (floats : Bool) (u : Tree) (r : DimensionAnswer) → IsBottom IsUnion w 0 (Struct count names floats) u → BoxNames count names r → Tells r (BoxShape u) (BoxFault u)
-root_box w count names floats u r k says = at_bottom IsUnion (λ x. Tells r (BoxShape x) (BoxFault x)) w 0 (Struct count names floats) tt (λ x t b m z h. absurd h) (λ fs h. box_told fs r (says (names_of fs) h.0 h.1)) (λ ms mode h. absurd h) u k
+root_box w count names floats u r k says = at_bottom IsUnion (λ x. Tells r (BoxShape x) (BoxFault x)) w 0 (Struct count names floats) tt (λ x t b m z h. absurd h) (λ fs h. says (names_of fs) h.0 h.1) (λ ms mode h. absurd h) u k

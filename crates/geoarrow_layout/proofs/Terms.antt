@@ -4,41 +4,19 @@ pub use Rattle.arrow_values.specs.Name.{fixed_text}
 pub use Rattle.arrow_values.specs.Tree.{FieldTree, FieldTrees, MemberTrees, Members, Metadata, Plain as PlainType, Text, Tree, binary, binary_view, depth, fixed_size_list, large_binary, large_list, large_utf8, list, member, no_members, plain, struct, union, utf8, utf8_view}
 pub use Rattle.arrow_values.specs.Union.{HasTypeIds, has, retained}
 pub use Rattle.arrow_values.specs.View.{field_list, field_trees, listed_fields, listed_members, member_list, member_trees, members_size, tree}
-pub use Rattle.arrow_values.specs.declared.tree.UnionMode.{UnionMode}
-pub use Rattle.arrow_values.specs.declared.tree.UnionMode.TheVariants.{Dense}
-pub use Rattle.geoarrow_layout.specs.Alike.{Alike, AlikeNames, EachHasAlike, HasAlike}
-pub use Rattle.geoarrow_layout.specs.AlikeTest.{alike_names, alike_of, all_members, each_has_alike, has_alike, has_member, is_met, is_repeated, some_member}
-pub use Rattle.geoarrow_layout.specs.Candidates.{Holds, IsAccepted, IsAcceptedStructure, IsBox, IsGeometry, IsNative, IsStructOfFour, Share}
+pub use Rattle.geoarrow_layout.specs.Alike.{Alike, AlikeNames, EachHasAlike, HasAlike, alike_names, alike_of, all_members, each_has_alike, has_alike, has_member, is_met, is_repeated, some_member}
+pub use Rattle.geoarrow_layout.specs.Candidates.{Holds, IsAccepted, IsStructOfFour, Share}
 pub use Rattle.geoarrow_layout.specs.Changes.{AlikeUnions, AreJust, EachOf}
-pub use Rattle.geoarrow_layout.specs.FaultAt.{BoxFault, BoxNamesFault, CoordinateFault, DimensionsFault, FaultAt, Faults, FirstFault, GeometryFault, GeometryMemberFault, HasFault, Here, InItem, InterleavedFault, LevelFault, ListsFault, Located, MemberFault, MixedFault, NativeFault, OverLeafFault, PartFault, Path, SeparatedFault, UnionFault, field_at, member_at}
+pub use Rattle.geoarrow_layout.specs.FaultAt.{BoxFault, BoxNamesFault, CoordinateFault, DimensionsFault, FaultAt, Faults, FirstFault, GeometryFault, GeometryMemberFault, HasFault, Here, InItem, LevelFault, ListsFault, Located, MemberFault, MixedFault, NativeFault, OverLeafFault, PartFault, Path, SeparatedFault, UnionFault, field_at, member_at}
 pub use Rattle.geoarrow_layout.specs.Inferred.{AnswersSome, Inferred, IsInferredAs, IsInferredSize, are_float64, is_float64}
 pub use Rattle.geoarrow_layout.specs.Kinds.{extension_of, interleaved_name, name_of, name_text, offset_of, order_of, size_of, type_id_of}
 pub use Rattle.geoarrow_layout.specs.Layouts.{IsWritten, IsWrittenSome, coordinate, dimension_members, geometry_members, layout, leaf_layout, member_layout, members_over, mixed_layout, mixed_members, native_layout, over_leaf_layout}
-pub use Rattle.geoarrow_layout.specs.OneShape.{LeafUnder, any_native_same, any_part, apart, box_shape_same, geometry_part_same, geometry_same, id_same, interleaved_same, member_same, mixed_same, native_same, order_same, pos_same, separated_same}
-pub use Rattle.geoarrow_layout.specs.Shapes.{Accepted, Accepts, AllMembers, Answers, AnswersKind, AnswersOne, BoxShape, Collection, Geometry, GeometryMember, HasMembers, HaveBoth, IsBoxAs, IsBytes, IsSeparatedAs, IsStructured, IsText, Leaf, Levels, ListsOver, Member, Mixed, Native, OverLeaf, SomeMember, has_name, levels_of, names_of}
-pub use Rattle.geoarrow_layout.specs.Steps.{AddsBit, AddsBits, AreOf, CoordOf, DimensionOf, Ended, FirstOrNone, IsCoordFault, IsNested, IsNoLeaf, IsOtherFault, IsWidth, LeadsTo, LevelsFault, MemberFaultIn, MemberIn, NamesSay, NativeFaultIn, NativeIn, Shows, ShowsIn, ShowsInner, SizeSays, StaysHere, Tells, TellsBoth, TellsKind, UnionSays, UnionSaysOne, first_fault, has_bit, is_measured, missing_fault}
-pub use Rattle.geoarrow_layout.specs.Summary.{AreLevels, IsBits, IsBottom, IsFaultOf, IsFixedSize, IsInnerUnion, IsStruct, IsUnion, Seen, SomeAt, Summarizes, SummarizesBy, known_names, place_in, place_of}
-pub use Rattle.geoarrow_layout.specs.declared.encodings.Kind.{Kind}
-pub use Rattle.geoarrow_layout.specs.declared.encodings.Kind.TheVariants.{Geometry as OfGeometry, Native as OfNative, Rect, Rect as OfRect, Wkb, Wkb as OfWkb, Wkt, Wkt as OfWkt}
-pub use Rattle.geoarrow_layout.specs.declared.encodings.NativeKind.{NativeKind}
-pub use Rattle.geoarrow_layout.specs.declared.encodings.NativeKind.TheVariants.{GeometryCollection, LineString, MultiLineString, MultiPoint, MultiPolygon, Point, Polygon}
+pub use Rattle.geoarrow_layout.specs.OneShape.{ReadsFirst, among_back, any_native_same, box_shape_same, coords_in, dimension_among, dimension_named, geometry_member_first, geometry_same, member_first, mixed_first, named_back, native_first, over_leaf_first}
+pub use Rattle.geoarrow_layout.specs.Shapes.{Accepted, Accepts, AllMembers, Answers, AnswersKind, AnswersOne, BoxShape, Collection, Geometry, GeometryMember, HasMembers, HaveBoth, IsBoxAs, IsBytes, IsSeparatedAs, IsStructured, IsText, Leaf, ListsOver, Member, Mixed, Native, OverLeaf, SomeMember, Under, has_name, levels_of, names_of}
+pub use Rattle.geoarrow_layout.specs.Summary.{AreLevels, IsBits, IsBottom, IsFaultOf, IsFixedSize, IsInnerUnion, IsStruct, IsUnion, Seen, SomeAt, Summarizes, SummarizesBy, known_names, place_in, place_of, AddsBit, AddsBits, AreOf, Ended, FirstOrNone, IsCoordFault, IsNested, IsNoLeaf, IsOtherFault, IsWidth, LeadsTo, LevelsFault, MemberFaultIn, MemberIn, NativeFaultIn, NativeIn, ReadAt, ShowsIn, StaysHere, Tells, TellsBoth, UnionSays, first_fault, has_bit, missing_fault}
+pub use Rattle.geoarrow_layout.specs.Words.{BadFieldCount, BadFieldNames, BadInterleavedName, BadSize, BadTypeId, Bottom, Candidates, CoordType, Deep, Dense, Dimension, EmptyUnion, ExtensionName, FixedSizeList, GeometryCollection, Interleaved, Kind, Large, LargeLists, LayoutFault, LineString, LineStringOrMultiPoint, ListWidth, Lists, MemberDimension, MixedWidths, MultiLineString, MultiPoint, MultiPolygon, NativeKind, OfGeometry, OfNative, OfRect, OfWkb, OfWkt, Other, OtherWidth, Plain, Plain as Narrow, Point, PointOrBox, Polygon, PolygonOrMultiLineString, Rect, Separated, SeveralCoordTypes, SeveralDimensions, Struct, Summary, UnexpectedType, Union, UnionMode, View, Width, Wkb, Wkt, XY, XYM, XYZ, XYZM, bit_at, bytes_eq, bytes_eq-Decides, int_eq, list_all, list_any}
 pub use Rattle.geoarrow_layout.specs.declared.encodings.TheConstants.Kind.{ALL}
-pub use Rattle.geoarrow_layout.specs.declared.encodings.Width.{Width}
-pub use Rattle.geoarrow_layout.specs.declared.encodings.Width.TheVariants.{Large, Plain, Plain as Narrow, View}
-pub use Rattle.geoarrow_layout.specs.declared.fault.LayoutFault.{LayoutFault}
-pub use Rattle.geoarrow_layout.specs.declared.fault.LayoutFault.TheVariants.{BadFieldCount, BadFieldNames, BadInterleavedName, BadSize, BadTypeId, EmptyUnion, MemberDimension, MixedWidths, SeveralCoordTypes, SeveralDimensions, UnexpectedType}
-pub use Rattle.geoarrow_layout.specs.declared.kinds.CoordType.{CoordType}
-pub use Rattle.geoarrow_layout.specs.declared.kinds.CoordType.TheVariants.{Interleaved, Separated}
-pub use Rattle.geoarrow_layout.specs.declared.kinds.Dimension.{Dimension}
-pub use Rattle.geoarrow_layout.specs.declared.kinds.Dimension.TheVariants.{XY, XYM, XYZ, XYZM}
-pub use Rattle.geoarrow_layout.specs.declared.names.Candidates.{Candidates}
-pub use Rattle.geoarrow_layout.specs.declared.names.Candidates.TheVariants.{LineStringOrMultiPoint, None as NoName, PointOrBox, PolygonOrMultiLineString}
-pub use Rattle.geoarrow_layout.specs.declared.names.ExtensionName.{ExtensionName}
-pub use Rattle.geoarrow_layout.specs.declared.summary.Bottom.{Bottom}
-pub use Rattle.geoarrow_layout.specs.declared.summary.Bottom.TheVariants.{Deep, FixedSizeList, Other, OtherWidth, Struct, Union}
-pub use Rattle.geoarrow_layout.specs.declared.summary.ListWidth.{ListWidth}
-pub use Rattle.geoarrow_layout.specs.declared.summary.ListWidth.TheVariants.{LargeList as LargeLists, List as Lists}
-pub use Rattle.geoarrow_layout.specs.declared.summary.Summary.{Summary}
+pub use Rattle.geoarrow_layout.specs.declared.names.Candidates.TheVariants.{None as NoName}
 pub use Rattle.std.proofs.Common.{Bool, Err, IfErr, IfOk, IsTrue, List, MatchOption, MatchResult, None, Ok, OnOk, Option, Result, Some, [], add-one, ap, append_assoc, arith, codes, cond, drop, eq-eqb, false, get_or, inl, inr, is_err, is_ok, length, lit<, map, nat_eq, not, of_z, pos, refl, rules, subst, suc, sym, take, to_z, true, true≢false, w16, w64, w8, zero, ℕ, ℤ, ◌%◌, ◌&&◌, ◌*◌, ◌++◌, ◌+◌, ◌-◌, ◌<◌, ◌^◌, ◌||◌, ◌↔◌, ◌∙◌, ◌∷◌, ◌≡◌, ◌≢◌, ◌≤◌, ◌⊎◌}
 pub use Rattle.std.proofs.Math.Bool.{and-true, and_assoc}
 pub use Rattle.std.proofs.Math.Dec.{eqb-suc-zero}
@@ -51,15 +29,11 @@ pub use Rattle.std.proofs.lemmas.List.Elements.{All-contains, All-contains_itsel
 pub use Rattle.std.proofs.lemmas.Nat.Bits.{bit_at-lt, bit_at-pow_other, bit_at-pow_same, bit_at-zero, bit_at_set_other, bit_at_set_same, same_from_bits}
 pub use Rattle.std.proofs.lemmas.Option.{same_Some, some_pair_parts}
 pub use Rattle.std.proofs.lemmas.Result.{err_from_is_err_and, on_ok_weaker}
-pub use Rattle.std.proofs.lemmas.Slice.Eq.{bytes_eq-Decides}
 pub use Rattle.std.specs.Bool.{Decides}
 pub use Rattle.std.specs.Cmp.{booleans_Decides, signed_Decides, unsigned_Decides}
-pub use Rattle.std.specs.Int.{bit_at}
 pub use Rattle.std.specs.Int.RustNames.{bit_or}
-pub use Rattle.std.specs.List.{Contains, filter, list_all, list_any}
+pub use Rattle.std.specs.List.{Contains, filter}
 pub use Rattle.std.specs.Option.{is_some, option_eq}
-pub use Rattle.std.specs.Ordering.{int_eq}
-pub use Rattle.std.specs.Str.{bytes_eq}
 pub use denote.Enum.Bare.{Bare, same_true, sameb, true_same}
 pub use denote.Enum.Declared.{Declared}
 pub use lib.IntN.{nat_abs, negsuc}

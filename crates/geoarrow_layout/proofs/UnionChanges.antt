@@ -72,11 +72,8 @@ all_kept_of p (x ∷ xs) m passes (suc n, lt, is) =
     let rest = all_kept_of p xs m passes (n, omega (arith, lt), is) in
     cond_both (p x) (x ∷ filter p xs) (filter p xs) (λ ys. Contains ys m) (λ e. (suc rest.0, omega (arith, rest.1), rest.2)) (λ e. rest)
 
-pub parts_are_just : (ms : Members) (is js : List ℤ) → ((m : ℤ × FieldTree) → Contains ms m → (has m.0 is ≡ true) ⊎ (has m.0 js ≡ true)) → AreJust (retained is ms) (retained js ms) ms
-parts_are_just ms is js all m = (
+pub split_and_joined : (ms : Members) (is js : List ℤ) → ((m : ℤ × FieldTree) → Contains ms m → (has m.0 is ≡ true) ⊎ (has m.0 js ≡ true)) → AlikeUnions (retained is ms ++ retained js ms) ms
+split_and_joined ms is js all = joined_alike (retained is ms) (retained js ms) (retained is ms ++ retained js ms) refl ms (λ m. (
   (λ h. elim (all m h) [ inl e ↦ inl (all_kept_of (λ x. has x.0 is) ms m e h) | inr e ↦ inr (all_kept_of (λ x. has x.0 js) ms m e h) ]),
   (λ h. elim h [ inl e ↦ kept_all (λ x. has x.0 is) ms m e | inr e ↦ kept_all (λ x. has x.0 js) ms m e ]),
-)
-
-pub split_and_joined : (ms : Members) (is js : List ℤ) → ((m : ℤ × FieldTree) → Contains ms m → (has m.0 is ≡ true) ⊎ (has m.0 js ≡ true)) → AlikeUnions (retained is ms ++ retained js ms) ms
-split_and_joined ms is js all = joined_alike (retained is ms) (retained js ms) (retained is ms ++ retained js ms) refl ms (parts_are_just ms is js all)
+))

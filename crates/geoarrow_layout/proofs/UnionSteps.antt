@@ -1,13 +1,13 @@
 -- What was seen of members says what the union is.
-use Rattle.geoarrow_layout.proofs.Terms.{◌≡◌, ◌≢◌, ◌↔◌, ◌<◌, ◌+◌, ◌^◌, ◌⊎◌, inl, inr, ℕ, zero, suc, ℤ, pos, Result, Ok, Err, Option, Some, None, MatchOption, Bool, true, false, [], ◌∷◌, ◌++◌, take, length, get_or, refl, sym, ap, subst, ◌∙◌, arith, nat_eq, bit_at, eqb-suc-zero, cases_eq, same_from_bits, bit_at-pow_same, bit_at-pow_other, bit_at-lt, Tree, union, FieldTree, MemberTrees, no_members, member, member_trees, UnionMode, CoordType, Interleaved, Dimension, LayoutFault, UnexpectedType, ListWidth, Bottom, Union, Deep, Other, Summary, order_of, Mixed, Geometry, Member, GeometryMember, AllMembers, SomeMember, HasMembers, Answers, Path, Faults, HasFault, FirstFault, UnionFault, MemberFault, MixedFault, GeometryMemberFault, GeometryFault, IsFaultOf, Seen, place_of, AreLevels, IsBottom, IsUnion, SummarizesBy, Summarizes, CoordOf, DimensionOf, Tells, TellsBoth, IsNested, IsNoLeaf, Shows, ShowsInner, member_same, geometry_part_same, order_same, DimensionsFault, IsBits, AddsBits, first_fault, AreOf, IsCoordFault, UnionSays, UnionSaysOne}
+use Rattle.geoarrow_layout.proofs.Terms.{ShowsIn, ◌≡◌, ◌≢◌, ◌↔◌, ◌<◌, ◌+◌, ◌^◌, ◌⊎◌, inl, inr, ℕ, zero, suc, ℤ, pos, Result, Ok, Err, Option, Some, None, MatchOption, MatchResult, Bool, true, false, [], ◌∷◌, ◌++◌, take, length, get_or, refl, sym, ap, subst, ◌∙◌, arith, nat_eq, bit_at, eqb-suc-zero, cases_eq, same_from_bits, bit_at-pow_same, bit_at-pow_other, bit_at-lt, Tree, union, FieldTree, MemberTrees, no_members, member, member_trees, CoordType, Interleaved, Dimension, LayoutFault, UnexpectedType, ListWidth, Bottom, Union, Deep, Other, Summary, order_of, Mixed, Geometry, Member, GeometryMember, AllMembers, SomeMember, HasMembers, Answers, Path, Faults, HasFault, FirstFault, UnionFault, MemberFault, MixedFault, GeometryMemberFault, GeometryFault, IsFaultOf, Seen, place_of, AreLevels, IsBottom, IsUnion, SummarizesBy, Summarizes, ReadAt, Tells, TellsBoth, IsNested, IsNoLeaf, ReadsFirst, coords_in, member_first, geometry_member_first, DimensionsFault, IsBits, AddsBits, first_fault, AreOf, IsCoordFault, UnionSays}
 use Rattle.geoarrow_layout.proofs.Readings.{Answer, exactly}
 use Rattle.geoarrow_layout.proofs.MemberLists.{Items, all_map, all_inside, all_some, first_some, all_both, some_more, one_more}
-use Rattle.geoarrow_layout.proofs.FaultLaws.{Read, ApartMember, MemberReads}
-use Rattle.geoarrow_layout.proofs.Bottoms.{NoListAtUnion, RefusesLists, listed, at_bottom}
+use Rattle.geoarrow_layout.proofs.FaultLaws.{Read, ApartMember, MemberReads, order_same}
+use Rattle.geoarrow_layout.proofs.Bottoms.{NoListAtUnion, RefusesLists, levels_refused, at_bottom}
 use Rattle.geoarrow_layout.proofs.BitSteps.{bits_like, bits_added, no_bits, bit_is}
 
 abbrev pub OneReading : MemberReads → Type 0
-OneReading R = (i : ℤ) (t : Tree) (c b : CoordType) (d e : Dimension) → R i t c d → R i t b e → (c ≡ b) × (d ≡ e)
+OneReading R = (i : ℤ) → ReadsFirst (R i)
 
 -- one bit alone
 is_pow : (n j : ℕ) → IsBits n (λ i. i ≡ j) → n ≡ 2 ^ j
@@ -35,10 +35,10 @@ Keyed K place S ms i = (k : K) × (i ≡ place k) × SomeMember (S k) ms
 keyed_only : (K : Type 0) (place : K → ℕ) (S : K → ℤ → Tree → Type 0) → ((a b : K) → place a ≡ place b → a ≡ b) → (n : ℕ) (ms : MemberTrees) (k : K) → IsBits n (Keyed K place S ms) → n ≡ 2 ^ place k → (b : K) → SomeMember (S b) ms → b ≡ k
 keyed_only K place S one n ms k bits is b some = one b k (pow_bit n (place k) (place b) is ((bit_is n (Keyed K place S ms) (place b) bits).1 (b, refl, some)))
 
-keyed_pow : (K : Type 0) (place : K → ℕ) (S : K → ℤ → Tree → Type 0) → ((i : ℤ) (t : Tree) (a b : K) → S a i t → S b i t → a ≡ b) → (n : ℕ) (ms : MemberTrees) (k : K) → IsBits n (Keyed K place S ms) → HasMembers ms → AllMembers (S k) ms → n ≡ 2 ^ place k
-keyed_pow K place S one n ms k bits some all =
+keyed_pow : (K : Type 0) (place : K → ℕ) (S : K → ℤ → Tree → Type 0) (key : Tree → K) → ((i : ℤ) (t : Tree) (k : K) → S k i t → key t ≡ k) → (n : ℕ) (ms : MemberTrees) (k : K) → IsBits n (Keyed K place S ms) → HasMembers ms → AllMembers (S k) ms → n ≡ 2 ^ place k
+keyed_pow K place S key one n ms k bits some all =
     is_pow n (place k) (bits_like n (Keyed K place S ms) (λ i. i ≡ place k)
-    (λ i h. h.1 ∙ ap place (all_some (S k) (S h.0) (h.0 ≡ k) (λ j t p q. one j t h.0 k q p) ms all h.2))
+    (λ i h. h.1 ∙ ap place (all_some (S k) (S h.0) (h.0 ≡ k) (λ j t p q. sym (one j t h.0 q) ∙ one j t k p) ms all h.2))
     (λ i h. (k, h, first_some (S k) ms some all)) bits)
 
 abbrev AtCoord : MemberReads → CoordType → ℤ → Tree → Type 0
@@ -52,9 +52,6 @@ CoordBits R n ms = IsBits n (Keyed CoordType place_of (AtCoord R) ms)
 
 abbrev DimensionBits : MemberReads → ℕ → MemberTrees → Type 0
 DimensionBits R n ms = IsBits n (Keyed Dimension order_of (AtDimension R) ms)
-
-coord_pow : (R : MemberReads) → OneReading R → (n : ℕ) (ms : MemberTrees) (c : CoordType) → CoordBits R n ms → HasMembers ms → AllMembers (AtCoord R c) ms → n ≡ 2 ^ place_of c
-coord_pow R one = keyed_pow CoordType place_of (AtCoord R) (λ i t a b p q. (one i t a b p.0 q.0 p.1 q.1).0)
 
 -- members that the walk finds to be of one coordinate type
 of_one : (R S : MemberReads) → ((i : ℤ) (t : Tree) (c : CoordType) (d : Dimension) → R i t c d → S i t c d) → (F : ℤ → Faults) (empty : Bool) (fault : Option LayoutFault) (coords : ℕ) (ms : MemberTrees) (c : CoordType)
@@ -76,7 +73,7 @@ coord_fault R S sub one F empty fault coords f (member i n t b m ms) (inr (inl e
     (found.0, inl found.1)
 coord_fault R S sub one F empty fault coords f (member i n t b m ms) (inr (inr e)) some bits first =
     let all : AllMembers (Read R) (member i n t b m ms) = subst (λ o. IsFaultOf R F o (member i n t b m ms)) e.1 first in
-    ([], inr (all, (λ c same. e.2 c (coord_pow S one coords (member i n t b m ms) c bits tt (all_map (AtCoord R c) (AtCoord S c) (λ j u x. (x.0, sub j u c x.0 x.1)) (member i n t b m ms) same))), (refl, e.3)))
+    ([], inr (all, (λ c same. e.2 c (keyed_pow CoordType place_of (AtCoord S) (λ u. (coords_in u).0) (λ j u b x. ap (λ p. p.0) (one j u b x.0 x.1)) coords (member i n t b m ms) c bits tt (all_map (AtCoord R c) (AtCoord S c) (λ j u x. (x.0, sub j u c x.0 x.1)) (member i n t b m ms) same))), (refl, e.3)))
 
 -- members of one coordinate type and dimension
 mixed_from : (S : MemberReads) → OneReading S → ((i : ℤ) (t : Tree) (c : CoordType) (d : Dimension) → Member i t c d → S i t c d)
@@ -99,34 +96,26 @@ mixed_from S one sub empty fault coords dims (Err f) ms (inr says) some coord_bi
       [],
       inr (
         (c, all_inside (Read Member) (AtCoord Member c) ms (λ i t p inside. (p.1, subst (λ b. Member i t b p.1) (of.1 i t p inside) p.2)) of.0),
-        (λ b d same. says.1 d (keyed_pow Dimension order_of (AtDimension S) (λ i t e g p q. (one i t p.0 q.0 e g p.1 q.1).1) dims ms d dimension_bits (some.0 says.0.1.0) (all_map (λ i t. Member i t b d) (AtDimension S d) (λ i t p. (b, sub i t b d p)) ms same))),
+        (λ b d same. says.1 d (keyed_pow Dimension order_of (AtDimension S) (λ t. (coords_in t).1) (λ i t e x. ap (λ p. p.1) (one i t x.0 e x.1)) dims ms d dimension_bits (some.0 says.0.1.0) (all_map (λ i t. Member i t b d) (AtDimension S d) (λ i t p. (b, sub i t b d p)) ms same))),
         (refl, says.2),
       ),
     )
 
 -- members of one coordinate type
 one_from : (R : MemberReads) → OneReading R → (F : ℤ → Faults) (empty : Bool) (fault : Option LayoutFault) (coords : ℕ) (r : Result CoordType LayoutFault) (ms : MemberTrees)
-    → UnionSaysOne empty fault coords r → ((empty ≡ false) ↔ HasMembers ms) → CoordBits R coords ms
+    → MatchResult r (AreOf empty fault coords) (IsCoordFault empty fault coords) → ((empty ≡ false) ↔ HasMembers ms) → CoordBits R coords ms
     → IsFaultOf R F fault ms → Tells r (λ c. HasMembers ms × AllMembers (AtCoord R c) ms) (UnionFault R F ms)
 one_from R one F empty fault coords (Ok c) ms says some coord_bits first =
     let of = of_one R R (λ i t b d x. x) F empty fault coords ms c says coord_bits first in
     (some.0 says.0, all_inside (Read R) (AtCoord R c) ms (λ i t p inside. (p.1, subst (λ b. R i t b p.1) (of.1 i t p inside) p.2)) of.0)
 one_from R one F empty fault coords (Err f) ms says some coord_bits first = coord_fault R R (λ i t b d x. x) one F empty fault coords f ms says some coord_bits first
 
-mixed_told : (r : Answer) (ms : MemberTrees) (mode : UnionMode) → TellsBoth r (λ c d. HasMembers ms × AllMembers (λ i t. Member i t c d) ms) (λ p f. UnionFault Member MemberFault ms p f ⊎ DimensionsFault ms p f) → TellsBoth r (Mixed (union ms mode)) (MixedFault (union ms mode))
-mixed_told (Ok x) ms mode h = h
-mixed_told (Err f) ms mode h = h
-
-geometry_told : (r : Result CoordType LayoutFault) (ms : MemberTrees) (mode : UnionMode) → Tells r (λ c. HasMembers ms × AllMembers (AtCoord GeometryMember c) ms) (UnionFault GeometryMember GeometryMemberFault ms) → Tells r (Geometry (union ms mode)) (GeometryFault (union ms mode))
-geometry_told (Ok x) ms mode h = h
-geometry_told (Err f) ms mode h = h
-
 -- a union that stands below one list
 pub nested_union : (w : Option ListWidth) (levels : ℕ) (empty : Bool) (ids coords dims : ℕ) (fault geometry : Option LayoutFault) (u : Tree) (r : Answer) → levels ≡ 1
     → IsBottom IsNested w levels (Union empty ids coords dims fault geometry) u → UnionSays empty fault coords dims r → TellsBoth r (Mixed u) (MixedFault u)
 nested_union w levels empty ids coords dims fault geometry u r one h says =
     at_bottom IsNested (λ x. TellsBoth r (Mixed x) (MixedFault x)) w 1 (Union empty ids coords dims fault geometry) tt (λ x t b m z k. absurd k) (λ fs k. absurd k)
-    (λ ms mode k. mixed_told r ms mode (mixed_from Member member_same (λ i t c d m. m) empty fault coords dims r ms says k.0 k.1.coord_bits k.1.dimension_bits k.1.fault_found))
+    (λ ms mode k. (mixed_from Member member_first (λ i t c d m. m) empty fault coords dims r ms says k.0 k.1.coord_bits k.1.dimension_bits k.1.fault_found))
     u (subst (λ n. IsBottom IsNested w n (Union empty ids coords dims fault geometry) u) one h)
 
 -- a summary says less of unions
@@ -148,14 +137,14 @@ no_leaf_no_list n Deep ms h = refl
 no_leaf_no_list n Other ms h = refl
 no_leaf_no_list n _ ms h = absurd h
 
-pub shows_of_inner : (s : Summary) (t : Tree) → ShowsInner s t → Shows s t
+pub shows_of_inner : (s : Summary) (t : Tree) → ShowsIn true s t → ShowsIn false s t
 shows_of_inner s t h = weaken IsNested IsNoLeaf nested_no_leaf s t h
 
 union_nested : (n : ℕ) (b : Bottom) (ms : MemberTrees) → IsUnion n b ms → IsNested n b ms
 union_nested zero (Union empty ids coords dims fault geometry) ms h = tt
 union_nested _ _ ms h = search
 
-pub inner_of : (s : Summary) (t : Tree) → Summarizes s t → ShowsInner s t
+pub inner_of : (s : Summary) (t : Tree) → Summarizes s t → ShowsIn true s t
 inner_of s t h = weaken IsUnion IsNested union_nested s t h
 
 -- ---- one more member
@@ -187,20 +176,20 @@ abbrev Ids : MemberTrees → ℕ → Type 0
 Ids ms i = (i < 64) × SomeMember (λ j t. j ≡ pos i) ms
 
 pub seen_more : (R : MemberReads) (F : ℤ → Faults) → OneReading R → ApartMember R F → (ids ids2 coords coords2 dims dims2 : ℕ) (fault fault2 : Option LayoutFault) (part : Answer) (xs : Items) (k : ℕ) (x : ℤ × FieldTree) → k < length xs → x ≡ get_or xs k x
-    → TellsBoth part (R x.0 x.1.tree) (F x.0 x.1.tree) → AddsBits ids (λ i. (i < 64) × (x.0 ≡ pos i)) ids2 → AddsBits coords (CoordOf part) coords2 → AddsBits dims (DimensionOf part) dims2
+    → TellsBoth part (R x.0 x.1.tree) (F x.0 x.1.tree) → AddsBits ids (λ i. (i < 64) × (x.0 ≡ pos i)) ids2 → AddsBits coords (ReadAt (λ y. place_of y.0) part) coords2 → AddsBits dims (ReadAt (λ y. order_of y.1) part) dims2
     → fault2 ≡ first_fault fault part → Seen R F ids coords dims fault (member_trees (take k xs)) → Seen R F ids2 coords2 dims2 fault2 (member_trees (take (k + 1) xs))
 seen_more R F one apart ids ids2 coords coords2 dims dims2 fault fault2 part all k x lt at told add_id add_coord add_dim next before =
     let xs = take k all in
-    let read : Answers part (R x.0 x.1.tree) = exactly part (R x.0 x.1.tree) (F x.0 x.1.tree) (one x.0 x.1.tree) (apart x.0 x.1.tree) told in
+    let read : Answers part (R x.0 x.1.tree) = exactly (coords_in x.1.tree) part (R x.0 x.1.tree) (F x.0 x.1.tree) (one x.0 x.1.tree) (apart x.0 x.1.tree) told in
     subst (λ ys. Seen R F ids2 coords2 dims2 fault2 (member_trees ys)) (sym (one_more all k x lt at)) record {
       id_bits = bits_added ids ids2 (λ i. (i < 64) × (x.0 ≡ pos i)) (Ids (member_trees xs)) (Ids (member_trees (xs ++ (x ∷ [])))) add_id (λ i. let is = some_more (λ j t. j ≡ pos i) xs x in (
         (λ q. elim (is.0 q.1) [ inl s ↦ inl (q.0, s) | inr s ↦ inr (q.0, s) ]),
         (λ h. elim h [ inl p ↦ (p.0, is.1 (inl p.1)) | inr a ↦ (a.0, is.1 (inr a.1)) ]),
       )) before.id_bits;
-      coord_bits = keyed_added CoordType place_of (AtCoord R) coords coords2 (CoordOf part) xs x add_coord
-          (λ i. ((λ a. (a.0, a.1, (a.2, (read a.0 a.2).0 a.3))), (λ p. (p.0, p.1, p.2.0, (read p.0 p.2.0).1 p.2.1)))) before.coord_bits;
-      dimension_bits = keyed_added Dimension order_of (AtDimension R) dims dims2 (DimensionOf part) xs x add_dim
-          (λ i. ((λ a. (a.0, a.1, (a.2, (read a.2 a.0).0 a.3))), (λ p. (p.0, p.1, p.2.0, (read p.2.0 p.0).1 p.2.1)))) before.dimension_bits;
+      coord_bits = keyed_added CoordType place_of (AtCoord R) coords coords2 (ReadAt (λ y. place_of y.0) part) xs x add_coord
+          (λ i. ((λ a. (a.0.0, a.2, (a.0.1, (read a.0.0 a.0.1).0 a.1))), (λ p. ((p.0, p.2.0), (read p.0 p.2.0).1 p.2.1, p.1)))) before.coord_bits;
+      dimension_bits = keyed_added Dimension order_of (AtDimension R) dims dims2 (ReadAt (λ y. order_of y.1) part) xs x add_dim
+          (λ i. ((λ a. (a.0.1, a.2, (a.0.0, (read a.0.0 a.0.1).0 a.1))), (λ p. ((p.2.0, p.0), (read p.2.0 p.0).1 p.2.1, p.1)))) before.dimension_bits;
       fault_found = subst (λ o. IsFaultOf R F o (member_trees (xs ++ (x ∷ [])))) (sym next) (fault_added R F fault part xs x told before.fault_found);
     }
 
@@ -231,16 +220,16 @@ pub at_root : (s : Summary) (b : Bottom) (t : Tree) → s.levels ≡ 0 → s.bot
 at_root s b t none is h = subst (λ u. IsBottom IsUnion s.width 0 b u) (sym (levels_none s.width s.levels t h.0 h.1 none)) (rw (← none, ← is) h.2)
 
 pub below_root : (F : Faults) → RefusesLists F → (s : Summary) (t : Tree) → 0 < s.levels → Summarizes s t → HasFault (F t) UnexpectedType
-below_root F refuses s t some h = ([], refuses t (listed s.width s.levels t h.0 some h.1))
+below_root F refuses s t some h = ([], levels_refused F refuses s.width s.levels t h.0 some h.1)
 
 pub root_mixed : (w : Option ListWidth) (empty : Bool) (ids coords dims : ℕ) (fault geometry : Option LayoutFault) (u : Tree) (r : Answer)
     → IsBottom IsUnion w 0 (Union empty ids coords dims fault geometry) u → UnionSays empty fault coords dims r → TellsBoth r (Mixed u) (MixedFault u)
 root_mixed w empty ids coords dims fault geometry u r k says =
     at_bottom IsUnion (λ x. TellsBoth r (Mixed x) (MixedFault x)) w 0 (Union empty ids coords dims fault geometry) tt (λ x t b m z h. absurd h) (λ fs h. absurd h)
-    (λ ms mode h. mixed_told r ms mode (mixed_from GeometryMember geometry_part_same (λ i t c d m. inl m) empty fault coords dims r ms says h.0 h.1.coord_bits h.1.dimension_bits h.2)) u k
+    (λ ms mode h. (mixed_from GeometryMember geometry_member_first (λ i t c d m. inl m) empty fault coords dims r ms says h.0 h.1.coord_bits h.1.dimension_bits h.2)) u k
 
 pub root_geometry : (w : Option ListWidth) (empty : Bool) (ids coords dims : ℕ) (fault geometry : Option LayoutFault) (u : Tree) (r : Result CoordType LayoutFault)
-    → IsBottom IsUnion w 0 (Union empty ids coords dims fault geometry) u → UnionSaysOne empty geometry coords r → Tells r (Geometry u) (GeometryFault u)
+    → IsBottom IsUnion w 0 (Union empty ids coords dims fault geometry) u → MatchResult r (AreOf empty geometry coords) (IsCoordFault empty geometry coords) → Tells r (Geometry u) (GeometryFault u)
 root_geometry w empty ids coords dims fault geometry u r k says =
     at_bottom IsUnion (λ x. Tells r (Geometry x) (GeometryFault x)) w 0 (Union empty ids coords dims fault geometry) tt (λ x t b m z h. absurd h) (λ fs h. absurd h)
-    (λ ms mode h. geometry_told r ms mode (one_from GeometryMember geometry_part_same GeometryMemberFault empty geometry coords r ms says h.0 h.1.coord_bits h.1.fault_found)) u k
+    (λ ms mode h. (one_from GeometryMember geometry_member_first GeometryMemberFault empty geometry coords r ms says h.0 h.1.coord_bits h.1.fault_found)) u k

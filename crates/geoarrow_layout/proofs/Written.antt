@@ -1,7 +1,8 @@
 -- What is written is read as what it was written for.
-use Rattle.geoarrow_layout.proofs.Terms.{◌≡◌, ℤ, [], ◌∷◌, ◌++◌, true, false, inl, inr, refl, Tree, member_trees, CoordType, Interleaved, Separated, Dimension, XY, XYZ, XYM, XYZM, Lists, NativeKind, Point, LineString, Polygon, MultiPoint, MultiLineString, MultiPolygon, GeometryCollection, Plain, Kind, OfNative, OfGeometry, OfRect, OfWkb, OfWkt, Leaf, levels_of, Member, AllMembers, Collection, GeometryMember, Geometry, BoxShape, Accepted, LeafUnder, leaf_layout, member_layout, mixed_members, native_layout, geometry_members, layout, HasTypeIds, over_leaf_layout, mixed_layout, dimension_members, IsWritten, IsWrittenSome}
+use Rattle.geoarrow_layout.proofs.Terms.{◌≡◌, [], ◌∷◌, ◌++◌, true, false, refl, sym, subst, member_trees, CoordType, Interleaved, Separated, Dimension, XY, XYZ, XYM, XYZM, Lists, NativeKind, Point, LineString, Polygon, MultiPoint, MultiLineString, MultiPolygon, GeometryCollection, Plain, Kind, OfNative, OfGeometry, OfRect, OfWkb, OfWkt, Leaf, levels_of, Member, AllMembers, Collection, GeometryMember, Geometry, Native, BoxShape, Accepted, Under, leaf_layout, member_layout, mixed_members, native_layout, geometry_members, layout, HasTypeIds, over_leaf_layout, mixed_layout, dimension_members, IsWritten, IsWrittenSome}
 use Rattle.geoarrow_layout.specs.Shapes.{SameNames}
 use Rattle.geoarrow_layout.proofs.MemberLists.{all_map, all_both}
+use Rattle.geoarrow_layout.proofs.Parts.{to_part}
 
 pub written_leaf : (c : CoordType) (d : Dimension) → Leaf (leaf_layout c d) c d
 unfolding SameNames
@@ -11,7 +12,7 @@ written_leaf Separated XYM = (refl, λ n. refl)
 written_leaf Separated _ = refl
 
 -- the members in a collection
-written_under : (k : NativeKind) (c : CoordType) (d : Dimension) → LeafUnder (levels_of k) (over_leaf_layout k c d) c d
+written_under : (k : NativeKind) (c : CoordType) (d : Dimension) → Under Leaf (levels_of k) (over_leaf_layout k c d) c d
 written_under Point c d = (leaf_layout c d, (Lists, refl), written_leaf c d)
 written_under k c d = (leaf_layout c d, (Lists, refl), written_leaf c d)
 
@@ -23,23 +24,34 @@ written_mixed c d =
 written_collection : (c : CoordType) (d : Dimension) → Collection (native_layout GeometryCollection c d) c d
 written_collection c d = (mixed_layout c d, (Lists, refl), (tt, written_mixed c d))
 
--- the members of a union of geometries
-abbrev InGeometry : CoordType → ℤ → Tree → Type 0
-InGeometry c i t = (d : Dimension) × GeometryMember i t c d
+-- what is written for the members
+pub mixed_written : (c : CoordType) (d : Dimension) → AllMembers (IsWritten c d) (member_trees (mixed_members c d))
+mixed_written c d = ((Point, refl, refl), ((LineString, refl, refl), ((Polygon, refl, refl), ((MultiPoint, refl, refl), ((MultiLineString, refl, refl), ((MultiPolygon, refl, refl), tt))))))
 
--- what holds of the members of each dimension
-all_dimensions : (P : ℤ → Tree → Type 0) (c : CoordType) → ((d : Dimension) → AllMembers P (member_trees (dimension_members c d))) → AllMembers P (member_trees (geometry_members c))
-all_dimensions P c h =
-    (all_both P (dimension_members c XY ++ dimension_members c XYZ ++ dimension_members c XYM) (dimension_members c XYZM)).1
-    ((all_both P (dimension_members c XY ++ dimension_members c XYZ) (dimension_members c XYM)).1 ((all_both P (dimension_members c XY) (dimension_members c XYZ)).1 (h XY, h XYZ), h XYM), h XYZM)
+dimension_written : (c : CoordType) (d : Dimension) → AllMembers (IsWrittenSome c) (member_trees (dimension_members c d))
+dimension_written c d =
+    (all_both (IsWrittenSome c) (mixed_members c d) (member_layout GeometryCollection d (native_layout GeometryCollection c d) ∷ [])).1
+    (all_map (IsWritten c d) (IsWrittenSome c) (λ i t m. (d, m)) (member_trees (mixed_members c d)) (mixed_written c d), ((d, (GeometryCollection, refl, refl)), tt))
 
-written_dimension : (c : CoordType) (d : Dimension) → AllMembers (InGeometry c) (member_trees (dimension_members c d))
-written_dimension c d =
-    (all_both (InGeometry c) (mixed_members c d) (member_layout GeometryCollection d (native_layout GeometryCollection c d) ∷ [])).1
-    (all_map (λ i t. Member i t c d) (InGeometry c) (λ i t m. (d, inl m)) (member_trees (mixed_members c d)) (written_mixed c d), ((d, inr (refl, written_collection c d)), tt))
+pub geometry_written : (c : CoordType) → AllMembers (IsWrittenSome c) (member_trees (geometry_members c))
+geometry_written c =
+    let P = IsWrittenSome c in
+    (all_both P (dimension_members c XY ++ dimension_members c XYZ ++ dimension_members c XYM) (dimension_members c XYZM)).1 (
+      (all_both P (dimension_members c XY ++ dimension_members c XYZ) (dimension_members c XYM)).1
+          ((all_both P (dimension_members c XY) (dimension_members c XYZ)).1 (dimension_written c XY, dimension_written c XYZ), dimension_written c XYM),
+      dimension_written c XYZM,
+    )
+
+written_native : (k : NativeKind) (c : CoordType) (d : Dimension) → Native (native_layout k c d) k c d
+written_native GeometryCollection c d = written_collection c d
+written_native k c d = written_under k c d
 
 written_geometry : (c : CoordType) → Geometry (layout (OfGeometry c)) c
-written_geometry c = (tt, all_dimensions (InGeometry c) c (written_dimension c))
+written_geometry c = (
+  tt,
+  all_map (IsWrittenSome c) (λ i t. (d : Dimension) × GeometryMember i t c d)
+      (λ i t w. (w.0, to_part w.1.0 i t c w.0 w.1.1 (subst (λ u. Native u w.1.0 c w.0) (sym w.1.2) (written_native w.1.0 c w.0)))) (member_trees (geometry_members c)) (geometry_written c),
+)
 
 written_box : (d : Dimension) → BoxShape (layout (OfRect d)) d
 written_box XYZ = (refl, λ h. let bad : false ≡ true = h.0 in cc, (refl, refl))
@@ -47,8 +59,7 @@ written_box XYM = (refl, (refl, refl))
 written_box _ = refl
 
 pub written : (k : Kind) → Accepted k (layout k)
-written (OfNative GeometryCollection c d) = written_collection c d
-written (OfNative k c d) = written_under k c d
+written (OfNative k c d) = written_native k c d
 written (OfGeometry c) = written_geometry c
 written (OfRect d) = written_box d
 written (OfWkb Plain) = refl
@@ -62,14 +73,3 @@ mixed_ids c _ = refl
 
 pub geometry_ids : (c : CoordType) → HasTypeIds (geometry_members c)
 geometry_ids c = refl
-
-pub mixed_written : (c : CoordType) (d : Dimension) → AllMembers (IsWritten c d) (member_trees (mixed_members c d))
-mixed_written c d = ((Point, refl, refl), ((LineString, refl, refl), ((Polygon, refl, refl), ((MultiPoint, refl, refl), ((MultiLineString, refl, refl), ((MultiPolygon, refl, refl), tt))))))
-
-dimension_written : (c : CoordType) (d : Dimension) → AllMembers (IsWrittenSome c) (member_trees (dimension_members c d))
-dimension_written c d =
-    (all_both (IsWrittenSome c) (mixed_members c d) (member_layout GeometryCollection d (native_layout GeometryCollection c d) ∷ [])).1
-    (all_map (IsWritten c d) (IsWrittenSome c) (λ i t m. (d, m)) (member_trees (mixed_members c d)) (mixed_written c d), ((d, (GeometryCollection, refl, refl)), tt))
-
-pub geometry_written : (c : CoordType) → AllMembers (IsWrittenSome c) (member_trees (geometry_members c))
-geometry_written c = all_dimensions (IsWrittenSome c) c (dimension_written c)

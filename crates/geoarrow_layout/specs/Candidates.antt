@@ -1,11 +1,11 @@
 -- The extension names under which a data type can be read.
 use Rattle.std.specs.Prelude.{◌≡◌, ◌⊎◌}
-use Rattle.geoarrow_layout.specs.Words.{length, NativeKind, Point, LineString, Polygon, MultiPoint, MultiLineString, Kind, CoordType, Dimension, Candidates, One, LineStringOrMultiPoint, PolygonOrMultiLineString, PointOrBox}
+use Rattle.geoarrow_layout.specs.Words.{length, Point, LineString, Polygon, MultiPoint, MultiLineString, Kind, Candidates, One, LineStringOrMultiPoint, PolygonOrMultiLineString, PointOrBox}
 use Rattle.arrow_values.specs.Tree.{Text, Tree, struct}
 use Rattle.geoarrow_layout.specs.declared.names.Candidates.TheVariants.{None}
 use Rattle.geoarrow_layout.specs.declared.names.ExtensionName.TheVariants as names
 use Rattle.geoarrow_layout.specs.Kinds.{name_text}
-use Rattle.geoarrow_layout.specs.Shapes.{names_of, Native, Geometry, BoxShape, Accepts, IsStructured}
+use Rattle.geoarrow_layout.specs.Shapes.{names_of, Accepts}
 
 -- the name is one of the candidates
 abbrev pub Holds : Candidates → Text → Type 0
@@ -27,22 +27,6 @@ SameCandidates _ _ = ⊥
 -- under that extension name some kind accepts the data type
 abbrev pub IsAccepted : Text → Tree → Type 0
 IsAccepted n t = (k : Kind) × Accepts n t k
-
--- the same, for a kind other than well-known binary and text
-abbrev pub IsAcceptedStructure : Text → Tree → Type 0
-IsAcceptedStructure n t = (k : Kind) × Accepts n t k × IsStructured k
-
--- the data type is of that native kind, in some coordinate type and dimension
-abbrev pub IsNative : NativeKind → Tree → Type 0
-IsNative k t = (c : CoordType) × (d : Dimension) × Native t k c d
-
--- the data type is a geometry, in some coordinate type
-abbrev pub IsGeometry : Tree → Type 0
-IsGeometry t = (c : CoordType) × Geometry t c
-
--- the data type is a box, in some dimension
-abbrev pub IsBox : Tree → Type 0
-IsBox t = (d : Dimension) × BoxShape t d
 
 -- the data type is a struct of four fields
 abbrev pub IsStructOfFour : Tree → Type 0

@@ -33,21 +33,17 @@ InItem F _ f = ⊥
 
 -- ---- coordinates and boxes
 
--- a fixed size list whose inner field has that name: the name is that of no dimension; or it is, and the size is another
-abbrev pub InterleavedFault : Text → ℤ → Located
-InterleavedFault name size p f =
-    (((d : Dimension) → name ≢ interleaved_name d) × Here BadInterleavedName p f)
-    ⊎ ((d : Dimension) × (name ≡ interleaved_name d) × (size ≢ pos (size_of d)) × Here BadSize p f)
-
 -- a struct whose fields have these names: their number is that of no dimension; or there are three, and their names are those of no dimension
 abbrev pub SeparatedFault : List Text → Located
 SeparatedFault names p f =
     (((d : Dimension) → length names ≢ size_of d) × Here BadFieldCount p f)
     ⊎ ((length names ≡ 3) × ((d : Dimension) → ¬ IsSeparatedAs d names) × Here BadFieldNames p f)
 
--- a coordinate is a fixed size list or a struct
+-- a coordinate is a fixed size list, whose name is that of no dimension, or is, and the size is another; or a struct
 abbrev pub CoordinateFault : Faults
-CoordinateFault (fixed_size_list name t b m size) p f = InterleavedFault name size p f
+CoordinateFault (fixed_size_list name t b m size) p f =
+    (((d : Dimension) → name ≢ interleaved_name d) × Here BadInterleavedName p f)
+    ⊎ ((d : Dimension) × (name ≡ interleaved_name d) × (size ≢ pos (size_of d)) × Here BadSize p f)
 CoordinateFault (struct fields) p f = SeparatedFault (names_of fields) p f
 CoordinateFault _ p f = Here UnexpectedType p f
 

@@ -1,6 +1,6 @@
 -- Which data types are inferred as points, without an extension name.
 use Rattle.std.specs.Prelude.{◌≡◌, ◌↔◌, ◌∷◌, ◌&&◌}
-use Rattle.geoarrow_layout.specs.Words.{ℤ, pos, List, [], length, codes, Bool, true, false, Option, Some, ⊤, CoordType, Interleaved, Separated, Dimension, XY, XYZ, XYM, XYZM}
+use Rattle.geoarrow_layout.specs.Words.{ℤ, pos, List, [], length, codes, Bool, true, false, Option, Some, CoordType, Interleaved, Separated, Dimension, XY, XYZ, XYM, XYZM}
 use Rattle.arrow_values.specs.Tree.{Text, Tree, plain, float64, fixed_size_list, struct, FieldTrees, no_fields, field}
 use Rattle.geoarrow_layout.specs.Shapes.{SameNames, names_of, IsSeparatedAs}
 
@@ -35,9 +35,3 @@ abbrev pub Inferred : Tree → CoordType → Dimension → Type 0
 Inferred (struct fs) Separated d = (are_float64 fs ≡ true) × IsInferredAs d (names_of fs)
 Inferred (fixed_size_list name t b m size) Interleaved d = (is_float64 t ≡ true) × IsInferredSize d name size
 Inferred _ c d = ⊥
-
--- the data type is a struct or a fixed size list
-abbrev pub IsFlat : Tree → Type 0
-IsFlat (struct fs) = ⊤
-IsFlat (fixed_size_list n t b m size) = ⊤
-IsFlat _ = ⊥

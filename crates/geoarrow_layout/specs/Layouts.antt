@@ -1,6 +1,6 @@
 -- The data types as written: names, list levels, type ids and nullability.
 use Rattle.std.specs.Prelude.{◌≡◌, ◌∷◌, ◌++◌}
-use Rattle.geoarrow_layout.specs.Words.{ℤ, pos, true, false, List, [], map, codes, Dense, CoordType, Interleaved, Separated, Dimension, XY, XYZ, XYM, XYZM, NativeKind, Point, LineString, Polygon, MultiPoint, MultiLineString, MultiPolygon, GeometryCollection, Plain, Large, View, Kind, Native, Geometry, Rect, Wkb, Wkt}
+use Rattle.geoarrow_layout.specs.Words.{ℤ, pos, Bool, true, false, List, [], map, codes, Dense, CoordType, Interleaved, Separated, Dimension, XY, XYZ, XYM, XYZM, NativeKind, Point, LineString, Polygon, MultiPoint, MultiLineString, MultiPolygon, GeometryCollection, Plain, Large, View, Kind, Native, Geometry, Rect, Wkb, Wkt}
 use Rattle.arrow_values.specs.Tree.{Text, Tree, plain, float64, binary, large_binary, binary_view, utf8, large_utf8, utf8_view, list, fixed_size_list, struct, union, FieldTree, field_tree, Members}
 use Rattle.arrow_values.specs.View.{field_trees, member_trees}
 use Rattle.geoarrow_layout.specs.Kinds.{size_of, interleaved_name, type_id_of}
@@ -104,6 +104,15 @@ layout (Wkb View) = plain binary_view
 layout (Wkt Plain) = plain utf8
 layout (Wkt Large) = plain large_utf8
 layout (Wkt View) = plain utf8_view
+
+-- the field has this name and nullability, and no metadata
+abbrev pub IsBare : Text → Bool → FieldTree → Type 0
+IsBare name nullable f = (f.name ≡ name) × (f.nullable ≡ nullable) × (f.metadata ≡ [])
+
+-- the members of a geometry's union, as written, that are of these dimensions
+abbrev pub members_in : List Dimension → CoordType → Members
+members_in [] c = []
+members_in (d ∷ ds) c = dimension_members c d ++ members_in ds c
 
 -- a union's member as written: its type id and its data type are those of one kind, in this coordinate type and dimension
 abbrev pub IsWritten : CoordType → Dimension → ℤ → Tree → Type 0

@@ -4,12 +4,9 @@ pub mod Shapes
 pub mod Layouts
 pub mod Summary
 pub mod Inferred
-pub mod Steps
 pub mod Faults
 pub mod Alike
-pub mod AlikeTest
 pub mod Changes
 pub mod Candidates
-pub mod Bare
 pub mod OneShape
 pub mod FaultAt

@@ -45,10 +45,6 @@ ListsOver Lists (suc n) (list name t b m) u = ListsOver Lists n t u
 ListsOver LargeLists (suc n) (large_list name t b m) u = ListsOver LargeLists n t u
 ListsOver w (suc n) _ u = ⊥
 
--- the data type t is n lists over u, all of one width
-abbrev pub Levels : Tree → ℕ → Tree → Type 0
-Levels t n u = (w : ListWidth) × ListsOver w n t u
-
 -- how many lists a native kind has
 abbrev pub levels_of : NativeKind → ℕ
 levels_of Point = 0
@@ -59,10 +55,14 @@ levels_of MultiLineString = 2
 levels_of MultiPolygon = 3
 levels_of GeometryCollection = 1
 
+-- the data type t is n lists, all of one width, over a data type for which P holds
+abbrev pub Under : (Tree → CoordType → Dimension → Type 0) → ℕ → Tree → CoordType → Dimension → Type 0
+Under P n t c d = (u : Tree) × ((w : ListWidth) × ListsOver w n t u) × P u c d
+
 -- the data type t is the lists of a native kind over a coordinate; a collection is not, since it has a union there
 abbrev pub OverLeaf : Tree → NativeKind → CoordType → Dimension → Type 0
 OverLeaf t GeometryCollection c d = ⊥
-OverLeaf t k c d = (u : Tree) × Levels t (levels_of k) u × Leaf u c d
+OverLeaf t k c d = Under Leaf (levels_of k) t c d
 
 -- a member of a collection: its data type has the kind and the dimension of its type id
 abbrev pub Member : ℤ → Tree → CoordType → Dimension → Type 0
@@ -90,7 +90,7 @@ Mixed _ c d = ⊥
 
 -- the data type is a collection: a list over that union
 abbrev pub Collection : Tree → CoordType → Dimension → Type 0
-Collection t c d = (u : Tree) × Levels t 1 u × Mixed u c d
+Collection t c d = Under Mixed 1 t c d
 
 -- the data type is of this native kind, coordinate type and dimension
 abbrev pub Native : Tree → NativeKind → CoordType → Dimension → Type 0

@@ -1,11 +1,11 @@
--- What a summary says of its data type.
-use Rattle.std.specs.Prelude.{◌≤◌, ◌≡◌, ◌↔◌, ◌<◌, ◌⊎◌, ◌∷◌}
-use Rattle.geoarrow_layout.specs.Words.{ℕ, zero, suc, ℤ, pos, false, cond, Option, Some, None, MatchOption, List, [], length, codes, bit_at, bytes_eq, CoordType, Interleaved, Separated, Dimension, LayoutFault, UnexpectedType, ListWidth, Lists, LargeLists, Bottom, FixedSizeList, Struct, Union, OtherWidth, Deep, Other, Summary}
+-- What a summary says of its data type, and what the steps of the walk and of the readers do.
+use Rattle.std.specs.Prelude.{◌≤◌, ◌≡◌, ◌↔◌, ◌<◌, ◌⊎◌, ◌∷◌, ◌≢◌, ◌^◌, ◌++◌}
+use Rattle.geoarrow_layout.specs.Words.{ℕ, zero, suc, ℤ, pos, false, cond, Option, Some, None, MatchOption, List, [], length, codes, bit_at, bytes_eq, CoordType, Interleaved, Separated, Dimension, LayoutFault, UnexpectedType, ListWidth, Lists, LargeLists, Bottom, FixedSizeList, Struct, Union, OtherWidth, Deep, Other, Summary, nat_eq, Bool, true, Result, Ok, Err, MatchResult, MixedWidths, MemberDimension, EmptyUnion, SeveralCoordTypes, SeveralDimensions, NativeKind}
 use Rattle.arrow_values.specs.Tree.{Text, Tree, plain, list, large_list, fixed_size_list, struct, union, FieldTrees, MemberTrees}
 use Rattle.geoarrow_layout.specs.Kinds.{interleaved_name, order_of}
-use Rattle.geoarrow_layout.specs.Shapes.{names_of, ListsOver, Member, GeometryMember, HasMembers, AllMembers, SomeMember}
+use Rattle.geoarrow_layout.specs.Shapes.{names_of, ListsOver, Member, GeometryMember, HasMembers, AllMembers, SomeMember, OverLeaf, Native}
 use Rattle.geoarrow_layout.specs.Inferred.{is_float64, are_float64}
-use Rattle.geoarrow_layout.specs.FaultAt.{Faults, HasFault, FirstFault, MemberFault, GeometryMemberFault}
+use Rattle.geoarrow_layout.specs.FaultAt.{Faults, HasFault, FirstFault, MemberFault, GeometryMemberFault, Path, Located, CoordinateFault, LevelFault, ListsFault, OverLeafFault, PartFault, NativeFault}
 
 -- bit i of the number, counted from the lowest, is set exactly if P holds for i
 unfoldable pub IsBits : ℕ → (ℕ → Type 0) → Type 0
@@ -98,3 +98,123 @@ SummarizesBy U s t = (u : Tree) × AreLevels s.width s.levels t u × IsBottom U 
 -- the summary is that of the data type
 abbrev pub Summarizes : Summary → Tree → Type 0
 Summarizes s t = SummarizesBy IsUnion s t
+
+-- ---- steps
+
+-- whether bit i of the number is set
+abbrev pub has_bit : ℕ → ℕ → Bool
+has_bit bits i = nat_eq (bit_at bits i) 1
+
+-- `more` has the bits of `bits`, and bit i
+unfoldable pub AddsBit : ℕ → ℕ → ℕ → Type 0
+AddsBit bits i more = (k : ℕ) → (bit_at more k ≡ 1) ↔ ((bit_at bits k ≡ 1) ⊎ (k ≡ i))
+
+-- `more` has the bits of `bits`, and those for which P holds
+unfoldable pub AddsBits : ℕ → (ℕ → Type 0) → ℕ → Type 0
+AddsBits bits P more = (i : ℕ) → (bit_at more i ≡ 1) ↔ ((bit_at bits i ≡ 1) ⊎ P i)
+
+-- of a union the bottom says only that it is neither a coordinate nor a list
+abbrev pub IsNoLeaf : ℕ → Bottom → MemberTrees → Type 0
+IsNoLeaf levels (FixedSizeList named size all_floats) ms = ⊥
+IsNoLeaf levels (Struct count names all_floats) ms = ⊥
+IsNoLeaf levels OtherWidth ms = ⊥
+IsNoLeaf levels _ ms = Unit {0}
+
+-- the levels end at this data type: it is not a list of their width, or would be the fourth level
+abbrev pub Ended : Option ListWidth → ℕ → Tree → Type 0
+Ended None levels (list n t b m) = ⊥
+Ended None levels (large_list n t b m) = ⊥
+Ended (Some Lists) levels (list n t b m) = levels ≡ 3
+Ended (Some LargeLists) levels (large_list n t b m) = levels ≡ 3
+Ended w levels t = Unit {0}
+
+-- the bottom describes a union below lists; of a union that is the whole data type it says only that it is neither a coordinate nor a list
+abbrev pub IsNested : ℕ → Bottom → MemberTrees → Type 0
+IsNested zero b ms = IsNoLeaf 0 b ms
+IsNested (suc levels) b ms = IsInnerUnion b ms
+
+-- the width of a list is the one that is asked for, if one is
+abbrev pub IsWidth : Option ListWidth → ListWidth → Type 0
+IsWidth asked w = (asked ≡ None) ⊎ (asked ≡ Some w)
+
+-- where collections are allowed or not: the summary is that of the data type, except for what it says of a union that is the whole data type, or of any union
+abbrev pub ShowsIn : Bool → Summary → Tree → Type 0
+ShowsIn true s t = SummarizesBy IsNested s t
+ShowsIn false s t = SummarizesBy IsNoLeaf s t
+
+-- what is read there, and the faults of a native kind and of a member
+abbrev pub NativeIn : Bool → Tree → NativeKind → CoordType → Dimension → Type 0
+NativeIn true = Native
+NativeIn false = OverLeaf
+
+abbrev pub NativeFaultIn : Bool → NativeKind → Faults
+NativeFaultIn true = NativeFault
+NativeFaultIn false = OverLeafFault
+
+abbrev pub MemberIn : Bool → ℤ → Tree → CoordType → Dimension → Type 0
+MemberIn true = GeometryMember
+MemberIn false = Member
+
+abbrev pub MemberFaultIn : Bool → ℤ → Faults
+MemberFaultIn b i t p f = PartFault (NativeIn b) (NativeFaultIn b) i t p f
+
+-- the answer is a value for which R holds, or else the fault that F says
+abbrev pub Tells : {X : Type 0} → Result X LayoutFault → (X → Type 0) → Located → Type 0
+Tells r R F = MatchResult r R (HasFault F)
+
+-- the same, of a coordinate type and a dimension
+abbrev pub TellsBoth : Result (CoordType × Dimension) LayoutFault → (CoordType → Dimension → Type 0) → Located → Type 0
+TellsBoth r R F = Tells r (λ x. R x.0 x.1) F
+
+-- where F says a fault, `after` is `before` with the path to it
+abbrev pub LeadsTo : Located → Path → Path → Type 0
+LeadsTo F before after = (p : Path) (f : LayoutFault) → F p f → after ≡ before ++ p
+
+-- a fault of the data type itself
+abbrev pub StaysHere : Located → Type 0
+StaysHere F = (p : Path) (f : LayoutFault) → F p f → p ≡ []
+
+-- so many levels of a width, or of either, over a coordinate
+abbrev pub LevelsFault : Option ListWidth → ℕ → Faults
+LevelsFault None n t p f = ListsFault CoordinateFault n t p f
+LevelsFault (Some w) n t p f = LevelFault CoordinateFault w n t p f
+
+-- the first member with a fault and its fault, or, where each is read, the union itself
+abbrev pub FirstOrNone : (ℤ → Tree → CoordType → Dimension → Type 0) → (ℤ → Faults) → MemberTrees → Located
+FirstOrNone R F ms p f = FirstFault R F ms p f ⊎ (AllMembers (λ i t. (c : CoordType) × (d : Dimension) × R i t c d) ms × (p ≡ []))
+
+-- the fault of a data type with too few list levels
+abbrev pub missing_fault : Bottom → LayoutFault
+missing_fault OtherWidth = MixedWidths
+missing_fault _ = UnexpectedType
+
+-- the fault of a member whose data type was read as one of its kind, in any dimension
+abbrev pub IsOtherFault : Result (CoordType × Dimension) LayoutFault → Dimension → LayoutFault → Type 0
+IsOtherFault read d f = (read ≡ Err f) ⊎ ((f ≡ MemberDimension) × (c : CoordType) × (e : Dimension) × (read ≡ Ok (c, e)) × (e ≢ d))
+
+-- the first fault, with one member more
+abbrev pub first_fault : Option LayoutFault → Result (CoordType × Dimension) LayoutFault → Option LayoutFault
+first_fault (Some f) part = Some f
+first_fault None (Err f) = Some f
+first_fault None (Ok x) = None
+
+-- by what the walk found of a union's members, they are without a fault and all of this coordinate type
+abbrev pub AreOf : Bool → Option LayoutFault → ℕ → CoordType → Type 0
+AreOf empty fault coord_types c = (empty ≡ false) × (fault ≡ None) × (coord_types ≡ 2 ^ place_of c)
+
+-- by what the walk found, this is the fault of a union as one of one coordinate type
+abbrev pub IsCoordFault : Bool → Option LayoutFault → ℕ → LayoutFault → Type 0
+IsCoordFault empty fault coord_types f =
+    ((empty ≡ true) × (f ≡ EmptyUnion))
+    ⊎ (((empty ≡ false) × (fault ≡ Some f))
+    ⊎ ((empty ≡ false) × (fault ≡ None) × ((c : CoordType) → coord_types ≢ 2 ^ place_of c) × (f ≡ SeveralCoordTypes)))
+
+-- the result is the one coordinate type and dimension of a union's members, by what the walk found, or else their fault
+abbrev pub UnionSays : Bool → Option LayoutFault → ℕ → ℕ → Result (CoordType × Dimension) LayoutFault → Type 0
+UnionSays empty fault coord_types dimensions r =
+    MatchResult r (λ x. AreOf empty fault coord_types x.0 × (dimensions ≡ 2 ^ order_of x.1))
+    (λ f. IsCoordFault empty fault coord_types f ⊎ (((c : CoordType) × AreOf empty fault coord_types c) × ((d : Dimension) → dimensions ≢ 2 ^ order_of d) × (f ≡ SeveralDimensions)))
+
+-- i is the number of what was read
+abbrev pub ReadAt : (CoordType × Dimension → ℕ) → Result (CoordType × Dimension) LayoutFault → ℕ → Type 0
+ReadAt number r i = (x : CoordType × Dimension) × (r ≡ Ok x) × (i ≡ number x)

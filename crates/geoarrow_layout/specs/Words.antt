@@ -27,7 +27,7 @@ pub use Rattle.geoarrow_layout.specs.declared.summary.Bottom.TheVariants.{Deep, 
 pub use Rattle.geoarrow_layout.specs.declared.summary.ListWidth.{ListWidth}
 pub use Rattle.geoarrow_layout.specs.declared.summary.ListWidth.TheVariants.{LargeList as LargeLists, List as Lists}
 pub use Rattle.geoarrow_layout.specs.declared.summary.Summary.{Summary}
-pub use Rattle.std.proofs.Common.{arith, inl, inr, refl, subst, sym, ◌∙◌}
+pub use Rattle.std.proofs.Common.{ap, arith, inl, inr, refl, subst, sym, ◌∙◌}
 pub use Rattle.std.proofs.lemmas.Slice.Eq.{bytes_eq-Decides}
 pub use Rattle.std.specs.Fmt.{decimal}
 pub use Rattle.std.specs.Int.{bit_at}

@@ -4,7 +4,7 @@ ghost use Rattle.arrow_values.specs.View.{tree, field_trees, member_trees};
 ghost use Rattle.geoarrow_layout.specs.Kinds.{name_text};
 ghost use Rattle.geoarrow_layout.specs.Candidates.{IsAccepted};
 ghost use Rattle.geoarrow_layout.specs.FaultAt.{Path, ListsFault, OverLeafFault, MixedFault, NativeFault, GeometryFault, FaultAt, child_at, field_at, member_at};
-ghost use Rattle.geoarrow_layout.specs.Steps.{LeadsTo, LevelsFault, FirstOrNone, StaysHere, MemberIn, MemberFaultIn, NativeFaultIn};
+ghost use Rattle.geoarrow_layout.specs.Summary.{LeadsTo, LevelsFault, FirstOrNone, StaysHere, MemberIn, MemberFaultIn, NativeFaultIn};
 
 use crate::encodings::{NativeKind, levels, parts_of_id};
 use crate::fault::LayoutFault;
@@ -79,6 +79,7 @@ fn push_path(
 }
 
 /// Adds the path to the fault as one of a native kind.
+#[tactic(auto, using(crate::proofs::FaultPaths::native_leads))]
 fn push_native(
     path: &mut Vec<usize>,
     kind: NativeKind,

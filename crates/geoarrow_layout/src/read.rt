@@ -2,25 +2,23 @@
 //! geometries and boxes use only the summary of the data type, so they ignore the nullability, the metadata and the data
 //! types of coordinate fields, the names of list items and members, and the mode of a union and the order of its members.
 //! None of them allocates.
-ghost use Rattle.std.specs.Prelude.{IfErr, IfOk, ◌≡◌, IfSome, ◌↔◌, IsTrue, Some, ◌≢◌, ◌∷◌, [], true, ◌≤◌, ◌<◌, Ok, ℕ, List, Option, None, length, ◌&&◌, MatchResult};
+ghost use Rattle.std.specs.Prelude.{false, IfErr, IfOk, ◌≡◌, IfSome, ◌↔◌, IsTrue, Some, ◌≢◌, ◌∷◌, [], true, ◌≤◌, ◌<◌, Ok, ℕ, List, Option, None, length, ◌&&◌, MatchResult};
 ghost use Rattle.arrow_values.specs.View.{tree, field_trees};
-ghost use Rattle.geoarrow_layout.specs.Shapes.{Answers, AnswersOne, Leaf, Native, Mixed, Collection, Geometry, BoxShape, IsBytes, IsText, Accepts, AnswersKind, IsStructured, IsSeparatedAs, IsBoxAs};
+ghost use Rattle.geoarrow_layout.specs.Shapes.{Answers, AnswersOne, Leaf, Under, Native, Mixed, Collection, Geometry, BoxShape, IsBytes, IsText, Accepts, AnswersKind, IsStructured, IsSeparatedAs, IsBoxAs, names_of};
 ghost use Rattle.geoarrow_layout.specs.Kinds.{name_text, extension_of, name_of};
-ghost use Rattle.geoarrow_layout.specs.Steps.{Tells, TellsKind, is_measured, NamesSay, SizeSays, IsNoLeaf, Shows, ShowsInner, ShowsIn, NativeIn, NativeFaultIn, MemberIn, MemberFaultIn, TellsBoth, missing_fault, IsOtherFault, UnionSays, UnionSaysOne, has_bit};
 ghost use Rattle.geoarrow_layout.specs.FaultAt.{HasFault, BoxFault, MixedFault, NativeFault, GeometryFault, FaultAt, SeparatedFault, CoordinateFault, BoxNamesFault, ListsFault};
 ghost use Rattle.arrow_values.specs.Tree.{Tree, Text, struct};
-ghost use Rattle.geoarrow_layout.specs.Summary.{Summarizes, IsBits, SomeAt, IsBottom, IsUnion};
-ghost use Rattle.geoarrow_layout.specs.Candidates.{Holds, IsAccepted, IsAcceptedStructure};
-ghost use Rattle.geoarrow_layout.specs.Inferred.{AnswersSome, Inferred, IsFlat};
+ghost use Rattle.geoarrow_layout.specs.Summary.{AreOf, IsCoordFault, Summarizes, IsBits, SomeAt, IsBottom, IsUnion, Tells, IsNoLeaf, ShowsIn, NativeIn, NativeFaultIn, MemberIn, MemberFaultIn, TellsBoth, missing_fault, IsOtherFault, UnionSays, has_bit};
+ghost use Rattle.geoarrow_layout.specs.Candidates.{Holds, IsAccepted};
+ghost use Rattle.geoarrow_layout.specs.Inferred.{AnswersSome, Inferred, IsInferredAs, IsInferredSize, is_float64, are_float64};
 ghost use Rattle.geoarrow_layout.specs.declared.summary.ListWidth.{ListWidth};
-ghost use Rattle.geoarrow_layout.specs.OneShape.{LeafUnder};
 ghost use Rattle.geoarrow_layout.specs.declared.names.ExtensionName.TheVariants as names;
 
 use crate::encodings::{Kind, NativeKind, Width, levels, parts_of_id};
 use crate::fault::LayoutFault;
 use crate::kinds::{CoordType, Dimension, list_size, only_coord_type, only_dimension};
 use crate::names::{Candidates, ExtensionName};
-use crate::summary::{Below, Bottom, Summary, has_bit, is_float64, leaf_bottom, summarize};
+use crate::summary::{Bottom, Summary, has_bit, is_float64, struct_bottom, summarize};
 use arrow_values::{DataType, Field};
 
 /// What a reader of coordinates returns.
@@ -170,7 +168,6 @@ pub fn parse_kind(name: ExtensionName, data_type: &DataType) -> Result<Kind, Lay
 
 /// The kind, by the reader of the name.
 #[inline(always)]
-#[tactic(auto, using(crate::proofs::KindSteps::told_all))]
 fn kind_read(name: ExtensionName, data_type: &DataType) -> Result<Kind, LayoutFault>
     ensures { Tells result (Accepts (name_text name) (tree data_type.now)) (FaultAt name (tree data_type.now)) }
 {
@@ -201,9 +198,12 @@ impl Summary {
         let Some(known) = ExtensionName::from_text(name) else {
             return None;
         };
-        match kind_under(known, self) {
-            Ok(kind) => Some(kind),
-            Err(_) => None,
+        match known {
+            ExtensionName::Wkb | ExtensionName::Wkt => None,
+            _ => match kind_under(known, self) {
+                Ok(kind) => Some(kind),
+                Err(_) => None,
+            },
         }
     }
 }
@@ -211,8 +211,9 @@ impl Summary {
 /// The kind of a column of that extension name, from the summary of its data type, which says nothing of well-known
 /// binary and text.
 #[inline(always)]
-pub(crate) fn kind_under(name: ExtensionName, summary: &Summary) -> Result<Kind, LayoutFault>
-    ensures told { (t : Tree) → Summarizes summary.now t → TellsKind name t result }
+fn kind_under(name: ExtensionName, summary: &Summary) -> Result<Kind, LayoutFault>
+    requires { (name ≢ names.Wkb) × (name ≢ names.Wkt) }
+    ensures told { (t : Tree) → Summarizes summary.now t → Tells result (Accepts (name_text name) t) (FaultAt name t) }
     ensures named { IfOk result (λ k. (extension_of k ≡ name) × IsStructured k) }
 {
     match name {
@@ -242,13 +243,40 @@ pub(crate) fn kind_under(name: ExtensionName, summary: &Summary) -> Result<Kind,
 pub fn candidates(data_type: &DataType) -> Candidates
     ensures { (n : Text) → Holds result n ↔ IsAccepted n (tree data_type.now) }
 {
-    if bytes_width(data_type).is_some() {
+    if parse_kind(ExtensionName::Wkb, data_type).is_ok() {
         return Candidates::One("geoarrow.wkb");
     }
-    if text_width(data_type).is_some() {
+    if parse_kind(ExtensionName::Wkt, data_type).is_ok() {
         return Candidates::One("geoarrow.wkt");
     }
-    structured(&summarize(data_type))
+    let summary = summarize(data_type);
+    let is_point = is_kind(ExtensionName::Native(NativeKind::Point), &summary);
+    if is_kind(ExtensionName::Rect, &summary) {
+        if is_point {
+            return Candidates::PointOrBox;
+        }
+        return Candidates::One("geoarrow.box");
+    }
+    if is_point {
+        return Candidates::One("geoarrow.point");
+    }
+    if is_kind(ExtensionName::Native(NativeKind::LineString), &summary) {
+        return Candidates::LineStringOrMultiPoint;
+    }
+    if is_kind(ExtensionName::Native(NativeKind::Polygon), &summary) {
+        return Candidates::PolygonOrMultiLineString;
+    }
+    if is_kind(ExtensionName::Native(NativeKind::MultiPolygon), &summary) {
+        return Candidates::One("geoarrow.multipolygon");
+    }
+    let collection = NativeKind::GeometryCollection;
+    if is_kind(ExtensionName::Native(collection), &summary) {
+        return Candidates::One("geoarrow.geometrycollection");
+    }
+    if is_kind(ExtensionName::Geometry, &summary) {
+        return Candidates::One("geoarrow.geometry");
+    }
+    Candidates::None
 }
 
 /// How the bytes of well-known binary are stored.
@@ -275,44 +303,10 @@ pub(crate) fn text_width(data_type: &DataType) -> Option<Width>
     }
 }
 
-/// The names of kinds that have a structure.
-fn structured(summary: &Summary) -> Candidates
-    ensures { (t : Tree) → Summarizes summary.now t → (n : Text) → Holds result n ↔ IsAcceptedStructure n t }
-{
-    let is_point = is_kind(ExtensionName::Native(NativeKind::Point), summary);
-    if is_kind(ExtensionName::Rect, summary) {
-        if is_point {
-            return Candidates::PointOrBox;
-        }
-        return Candidates::One("geoarrow.box");
-    }
-    if is_point {
-        return Candidates::One("geoarrow.point");
-    }
-    if is_kind(ExtensionName::Native(NativeKind::LineString), summary) {
-        return Candidates::LineStringOrMultiPoint;
-    }
-    if is_kind(ExtensionName::Native(NativeKind::Polygon), summary) {
-        return Candidates::PolygonOrMultiLineString;
-    }
-    if is_kind(ExtensionName::Native(NativeKind::MultiPolygon), summary) {
-        return Candidates::One("geoarrow.multipolygon");
-    }
-    if is_kind(
-        ExtensionName::Native(NativeKind::GeometryCollection),
-        summary,
-    ) {
-        return Candidates::One("geoarrow.geometrycollection");
-    }
-    if is_kind(ExtensionName::Geometry, summary) {
-        return Candidates::One("geoarrow.geometry");
-    }
-    Candidates::None
-}
-
 /// Whether a column of that extension name has a kind, by the summary of its data type.
 fn is_kind(name: ExtensionName, summary: &Summary) -> bool
-    ensures { (t : Tree) → Summarizes summary.now t → IsTrue result ↔ IsAcceptedStructure (name_text name) t }
+    requires { (name ≢ names.Wkb) × (name ≢ names.Wkt) }
+    ensures { (t : Tree) → Summarizes summary.now t → IsTrue result ↔ IsAccepted (name_text name) t }
 {
     kind_under(name, summary).is_ok()
 }
@@ -342,65 +336,11 @@ fn taken_for(data_type: &DataType) -> Option<(CoordType, Dimension)>
     ensures { AnswersSome result (Inferred (tree data_type.now)) }
 {
     match data_type {
-        DataType::Struct(fields) => match fields.as_slice() {
-            [first, second] => pair(first, second),
-            _ => inferred(&flat_bottom(data_type)),
-        },
-        DataType::FixedSizeList(_, _) => inferred(&flat_bottom(data_type)),
-        _ => None,
-    }
-}
-
-/// The point that is inferred from a struct of two fields, whatever their names are.
-#[inline(always)]
-#[tactic(auto, using(crate::proofs::Inferences::pair_inferred, crate::proofs::Inferences::no_floats_inferred))]
-fn pair(first: &Field, second: &Field) -> Option<(CoordType, Dimension)>
-    ensures { AnswersSome result (Inferred (struct (field_trees (first.now ∷ second.now ∷ [])))) }
-{
-    if is_float64(first.data_type()) && is_float64(second.data_type()) {
-        Some((CoordType::Separated, Dimension::XY))
-    } else {
-        None
-    }
-}
-
-/// What a struct or a fixed size list is, which has no list levels.
-#[inline(always)]
-fn flat_bottom(data_type: &DataType) -> Bottom
-    requires { IsFlat (tree data_type.now) }
-    ensures { IsBottom IsUnion None 0 result (tree data_type.now) }
-{
-    leaf_bottom(&Below {
-        levels: 0,
-        width: None,
-        rest: data_type,
-    })
-}
-
-/// The coordinate type and dimension of a point, from what the data type is.
-fn inferred(bottom: &Bottom) -> Option<(CoordType, Dimension)>
-    ensures { (t : Tree) → IsBottom IsUnion None 0 bottom.now t → AnswersSome result (Inferred t) }
-{
-    match *bottom {
-        Bottom::FixedSizeList {
-            named,
-            size,
-            float64,
-        } => {
-            if !float64 {
-                return None;
-            }
-            paired(CoordType::Interleaved, sized_dimension(named, size))
+        DataType::Struct(fields) => {
+            paired(CoordType::Separated, struct_dimension(fields.as_slice()))
         }
-        Bottom::Struct {
-            count,
-            names,
-            all_float64,
-        } => {
-            if !all_float64 {
-                return None;
-            }
-            paired(CoordType::Separated, counted_dimension(count, names))
+        DataType::FixedSizeList(inner, size) => {
+            paired(CoordType::Interleaved, sized_dimension(inner, *size))
         }
         _ => None,
     }
@@ -416,37 +356,68 @@ fn paired(coord_type: CoordType, dimension: Option<Dimension>) -> Option<(CoordT
     }
 }
 
-/// The dimension of so many numbers, of which the inner name says that dimension or none.
-fn sized_dimension(named: Option<Dimension>, size: i32) -> Option<Dimension>
-    ensures { (d : Dimension) → (result ≡ Some d) ↔ SizeSays d named size }
+/// The dimension that is inferred from a fixed size list of so many of these.
+fn sized_dimension(inner: &Field, size: i32) -> Option<Dimension>
+    ensures { (d : Dimension) → (result ≡ Some d) ↔ ((is_float64 inner.now.tree ≡ true) × IsInferredSize d inner.now.name size) }
 {
-    match (size, named) {
-        (2, _) => Some(Dimension::XY),
-        (3, Some(Dimension::XYM)) => Some(Dimension::XYM),
-        (3, _) => Some(Dimension::XYZ),
-        (4, _) => Some(Dimension::XYZM),
+    if !is_float64(inner.data_type()) {
+        return None;
+    }
+    match size {
+        2 => Some(Dimension::XY),
+        3 if inner.name() == "xym" => Some(Dimension::XYM),
+        3 => Some(Dimension::XYZ),
+        4 => Some(Dimension::XYZM),
         _ => None,
     }
 }
 
-/// The dimension of so many fields, of which the bits say the names.
+/// The dimension that is inferred from a struct of these fields.
+#[inline(always)]
+fn struct_dimension(fields: &[Field]) -> Option<Dimension>
+    ensures { (d : Dimension) → (result ≡ Some d) ↔ ((are_float64 (field_trees fields.now) ≡ true) × IsInferredAs d (names_of (field_trees fields.now))) }
+{
+    if let [first, second] = fields {
+        return pair(first, second);
+    }
+    let Bottom::Struct {
+        count,
+        names,
+        all_float64,
+    } = struct_bottom(fields)
+    else {
+        return None;
+    };
+    if !all_float64 {
+        return None;
+    }
+    counted_dimension(count, names)
+}
+
+/// The dimension that is inferred from a struct of two fields, whatever their names are.
+#[inline(always)]
+#[tactic(auto, using(crate::proofs::Inferences::two_inferred, crate::proofs::Inferences::none_inferred))]
+fn pair(first: &Field, second: &Field) -> Option<Dimension>
+    ensures { (d : Dimension) → (result ≡ Some d) ↔ ((are_float64 (field_trees (first.now ∷ second.now ∷ [])) ≡ true) × IsInferredAs d (names_of (field_trees (first.now ∷ second.now ∷ [])))) }
+{
+    if is_float64(first.data_type()) && is_float64(second.data_type()) {
+        Some(Dimension::XY)
+    } else {
+        None
+    }
+}
+
+/// The dimension that is inferred from so many fields, of which the bits say the names.
 fn counted_dimension(count: usize, names: u16) -> Option<Dimension>
-    ensures { (d : Dimension) → (result ≡ Some d) ↔ NamesSay d count names }
+    ensures { (ns : List Text) → count ≡ length ns → IsBits names (λ i. SomeAt i ns) → (d : Dimension) → (result ≡ Some d) ↔ IsInferredAs d ns }
 {
-    match (count, is_measured(names)) {
-        (2, _) => Some(Dimension::XY),
-        (3, true) => Some(Dimension::XYM),
-        (3, false) => Some(Dimension::XYZ),
-        (4, _) => Some(Dimension::XYZM),
-        _ => None,
+    match separated_dimension(count, names) {
+        Ok(dimension) => Some(dimension),
+        Err(fault) => match fault {
+            LayoutFault::BadFieldNames => Some(Dimension::XYZ),
+            _ => None,
+        },
     }
-}
-
-/// Whether x, y and m are among the names.
-fn is_measured(names: u16) -> bool
-    ensures { result ≡ is_measured names }
-{
-    has_both(names, 0, 1) && has_bit(names, 3)
 }
 
 /// The dimension that the fields of a struct say.
@@ -520,7 +491,7 @@ fn missing_level(bottom: &Bottom) -> LayoutFault
 /// So many lists over a coordinate.
 fn leaf_under(summary: &Summary, levels: u8) -> Answer
     requires { levels ≤ 3 }
-    ensures { (t : Tree) → Shows summary.now t → TellsBoth result (LeafUnder levels t) (ListsFault CoordinateFault levels t) }
+    ensures { (t : Tree) → ShowsIn false summary.now t → TellsBoth result (Under Leaf levels t) (ListsFault CoordinateFault levels t) }
 {
     if summary.levels < levels {
         return Err(missing_level(&summary.bottom));
@@ -537,7 +508,7 @@ fn one_of_union(
     fault: Option<LayoutFault>,
     coord_types: u8,
 ) -> Result<CoordType, LayoutFault>
-    ensures { UnionSaysOne no_members fault coord_types result }
+    ensures { MatchResult result (AreOf no_members fault coord_types) (IsCoordFault no_members fault coord_types) }
 {
     if no_members {
         return Err(LayoutFault::EmptyUnion);
@@ -569,7 +540,7 @@ fn both_of_union(
 
 /// A list over a union of members of one coordinate type and dimension.
 fn collection(summary: &Summary) -> Answer
-    ensures { (t : Tree) → ShowsInner summary.now t → TellsBoth result (Collection t) (ListsFault MixedFault 1 t) }
+    ensures { (t : Tree) → ShowsIn true summary.now t → TellsBoth result (Collection t) (ListsFault MixedFault 1 t) }
 {
     if summary.levels < 1 {
         return Err(missing_level(&summary.bottom));

@@ -1,12 +1,11 @@
 //! What one walk over a data type finds.
-ghost use Rattle.std.specs.Prelude.{◌≡◌, ◌≢◌, ◌<◌, ◌≤◌, ◌↔◌, ◌∷◌, [], IsTrue, Some, MatchOption, ⊤, pos, None};
+ghost use Rattle.std.specs.Prelude.{true, false, ◌≡◌, ◌≢◌, ◌<◌, ◌≤◌, ◌↔◌, ◌∷◌, [], IsTrue, Some, MatchOption, ⊤, pos, None};
 ghost use Rattle.arrow_values.specs.View.{tree, field_trees, member_trees};
 ghost use Rattle.arrow_values.specs.Tree.{Tree, plain, float64};
-ghost use Rattle.geoarrow_layout.specs.Kinds.{interleaved_name};
+ghost use Rattle.geoarrow_layout.specs.Kinds.{interleaved_name, order_of};
 ghost use Rattle.geoarrow_layout.specs.Shapes.{ListsOver, Member, GeometryMember};
-ghost use Rattle.geoarrow_layout.specs.Summary.{place_in, known_names, IsStruct, IsBottom, AreLevels, place_of, IsInnerUnion, IsRootUnion, Summarizes};
+ghost use Rattle.geoarrow_layout.specs.Summary.{place_in, known_names, IsStruct, IsBottom, AreLevels, place_of, IsInnerUnion, IsRootUnion, Summarizes, IsNoLeaf, Ended, IsWidth, ShowsIn, AddsBits, ReadAt, first_fault, TellsBoth, AddsBit, has_bit};
 ghost use Rattle.geoarrow_layout.specs.Inferred.{is_float64};
-ghost use Rattle.geoarrow_layout.specs.Steps.{IsNoLeaf, Ended, IsWidth, ShowsIn, AddsBits, CoordOf, DimensionOf, first_fault, Shows, ShowsInner, TellsBoth, AddsBit, has_bit};
 ghost use Rattle.geoarrow_layout.specs.FaultAt.{MemberFault, GeometryMemberFault};
 
 use crate::encodings::{NativeKind, parts_of_id};
@@ -141,7 +140,7 @@ pub(crate) fn is_float64(data_type: &DataType) -> bool
 }
 
 /// A struct of these fields.
-fn struct_bottom(fields: &[Field]) -> Bottom
+pub(crate) fn struct_bottom(fields: &[Field]) -> Bottom
     ensures { IsStruct result (field_trees fields.now) }
 {
     let mut names = 0;
@@ -224,7 +223,7 @@ fn list_bottom(width: Option<ListWidth>, found: ListWidth) -> Bottom
 }
 
 /// What stands below the levels, where a union is not entered.
-pub(crate) fn leaf_bottom(below: &Below<'_>) -> Bottom
+fn leaf_bottom(below: &Below<'_>) -> Bottom
     requires { Ended below.now.width below.now.levels (tree below.now.rest.now) }
     ensures { IsBottom IsNoLeaf below.now.width below.now.levels result (tree below.now.rest.now) }
 {
@@ -275,11 +274,11 @@ struct Members {
 }
 
 /// What was seen with one member more, of that type id and read as that.
-#[tactic(auto, using(crate::proofs::BitSteps::coord_added, crate::proofs::BitSteps::coord_kept, crate::proofs::BitSteps::dimension_added, crate::proofs::BitSteps::dimension_kept))]
+#[tactic(auto, using(crate::proofs::BitSteps::number_added, crate::proofs::BitSteps::number_kept))]
 fn with_member(seen: Members, id: i8, part: &Answer) -> Members
     ensures ids { AddsBits seen.ids (λ i. (i < 64) × (id ≡ pos i)) result.ids }
-    ensures coord_types { AddsBits seen.coord_types (CoordOf part.now) result.coord_types }
-    ensures dimensions { AddsBits seen.dimensions (DimensionOf part.now) result.dimensions }
+    ensures coord_types { AddsBits seen.coord_types (ReadAt (λ x. place_of x.0) part.now) result.coord_types }
+    ensures dimensions { AddsBits seen.dimensions (ReadAt (λ x. order_of x.1) part.now) result.dimensions }
     ensures fault { result.fault ≡ first_fault seen.fault part.now }
 {
     let ids = with_id(seen.ids, id);
@@ -297,7 +296,7 @@ fn with_member(seen: Members, id: i8, part: &Answer) -> Members
 
 /// The summary of a data type in which no union is entered.
 pub(crate) fn leaf_summary(data_type: &DataType) -> Summary
-    ensures { Shows result (tree data_type.now) }
+    ensures { ShowsIn false result (tree data_type.now) }
 {
     let below = below_lists(data_type);
     Summary {
@@ -329,7 +328,7 @@ fn inner_union(members: &[(i8, Field)]) -> Bottom
 
 /// The summary of a member: a union below a list is entered.
 pub(crate) fn nested_summary(data_type: &DataType) -> Summary
-    ensures { ShowsInner result (tree data_type.now) }
+    ensures { ShowsIn true result (tree data_type.now) }
 {
     let below = below_lists(data_type);
     let bottom = match below.rest {

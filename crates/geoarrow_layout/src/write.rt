@@ -4,9 +4,8 @@ ghost use Rattle.arrow_values.specs.Name.{fixed_text};
 ghost use Rattle.arrow_values.specs.Tree.{list, struct};
 ghost use Rattle.arrow_values.specs.View.{tree, field_trees};
 ghost use Rattle.geoarrow_layout.specs.Kinds.{size_of};
-ghost use Rattle.geoarrow_layout.specs.Layouts.{coordinate, coordinate_names, leaf_layout, lists_over, over_leaf_layout, member_layout, members_over, mixed_members, mixed_layout, dimension_members, box_names, layout, geometry_members};
+ghost use Rattle.geoarrow_layout.specs.Layouts.{coordinate, coordinate_names, leaf_layout, lists_over, over_leaf_layout, member_layout, members_over, mixed_members, mixed_layout, dimension_members, box_names, layout, geometry_members, IsBare, members_in};
 ghost use Rattle.geoarrow_layout.specs.Shapes.{IsStructured};
-ghost use Rattle.geoarrow_layout.specs.Bare.{IsBare, members_in};
 
 use crate::encodings::{Kind, NativeKind, Width, list_names, member_name, type_id};
 use crate::kinds::{

@@ -1,10 +1,10 @@
 use Rattle.geoarrow_layout.proofs.Terms.{◌≡◌, subst, arith, Mixed, MixedFault, IsBottom, IsNested}
-use Rattle.geoarrow_layout.proofs.Bottoms.{under_less, under_same, no_inner, under_no_union, mixed_refuses}
+use Rattle.geoarrow_layout.proofs.Bottoms.{above_lists, under_same, no_inner, under_no_union, mixed_refuses}
 use Rattle.geoarrow_layout.proofs.UnionSteps.{nested_union}
 use Rattle.geoarrow_layout.proofs.read.collection.Goals as goal
 
 pub returns-then-summary-gt1 : goal.returns-then-summary-gt1
-returns-then-summary-gt1 c = λ t h. under_less IsNested Mixed MixedFault mixed_refuses c.args.summary.now 1 t c.if-summary-gt1.true h
+returns-then-summary-gt1 c = λ t h. above_lists MixedFault mixed_refuses c.args.summary.now.width c.args.summary.now.levels 1 t h.0 h.1 c.if-summary-gt1.true
 
 pub returns-in-Union : goal.returns-in-Union
 returns-in-Union c = λ t h.

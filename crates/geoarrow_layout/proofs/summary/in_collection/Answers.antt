@@ -1,5 +1,5 @@
 use Rattle.geoarrow_layout.proofs.Terms.{◌≡◌, rules, w8, to_z, of_z, to_z-of_z}
-use Rattle.geoarrow_layout.proofs.Parts.{a_collection, kind_no_collection, no_parts_no_collection}
+use Rattle.geoarrow_layout.proofs.Parts.{a_collection, kind_no_collection, no_collection, no_parts}
 use Rattle.geoarrow_layout.proofs.summary.in_collection.Goals as goal
 
 pub returns-in-GeometryCollection : goal.returns-in-GeometryCollection
@@ -15,4 +15,4 @@ returns-in_default-kind c =
 pub returns-in_default : goal.returns-in_default
 returns-in_default c =
     let id_is : to_z w8 (of_z w8 c.args.id) ≡ c.args.id = search (rules, to_z-of_z) in
-    λ t h. no_parts_no_collection c.args.id _ t _ id_is c.in_default.ensures h
+    λ t h. no_collection c.args.id _ t no_parts _ id_is c.in_default.ensures (λ d e. cc) h
