@@ -5,6 +5,7 @@ use Rattle.std.proofs.lemmas.List.{length-append}
 use Rattle.arrow_values.specs.Tree.{Text, Metadata}
 use Rattle.arrow_columns.specs.Column.{TypeTree, ColumnTree}
 use Rattle.arrow_ipc.specs.Fault.{◌>>=◌}
+use Rattle.arrow_ipc.specs.Tells.{◌>>+◌}
 use Rattle.arrow_ipc.specs.Wire.{u8_at, slot_at, target_at, utf8_at, vector_at}
 use Rattle.arrow_ipc.specs.Slots.{u8_in, flag_in, text_in, table_in, vector_in}
 use Rattle.arrow_ipc.specs.Parts.{Own, tag_in, zone_in, index_in, ids_in, parts_in, parts_at}
@@ -34,7 +35,7 @@ is_typed bytes p cs t zone index is =
 
 is_column : (depth : ℕ) (bytes : List ℕ) (table : ℕ) (p : Own) (cs : List ColumnTree) (t : TypeTree) (ms : Metadata) (k l : ℕ) → parts_in bytes table ≡ Ok p → p.zone ≡ []
     → columns_by (column_at depth bytes) p.children ≡ Ok (cs, k) → typed bytes p cs ≡ Ok t → texts_at bytes p.texts ≡ Ok (ms, l)
-    → column_in depth bytes table ≡ Ok (record { name = p.name; data_type = t; nullable = p.nullable; metadata = ms }, 16 + length p.name + length p.zone + k + l)
+    → column_in depth bytes table ≡ Ok (record { name = p.name; data_type = t; nullable = p.nullable; metadata = ms }, 16 + length p.name + length p.zone + (k + l))
 unfolding column_in finished
 is_column depth bytes table p cs t ms k l parts zone children type texts = rw (parts, children, type, texts) refl
 
@@ -93,7 +94,7 @@ column_holds levels nb tb cb mb nullable tag name cs t ms named typing children 
           let mv = bound (vector_at bytes l.1.1.1.0.to) (texts_at bytes) (ms, m.0) m.2 in
           let p : Own = record { table = at; name = name; nullable = nullable; kind = r.kind; zone = []; index = None; children = cv.0; ids = r.ids; texts = mv.0 } in
           let parted = parts_are bytes at nullable tag _ _ _ _ name r.first r.kind r.ids cv.0 mv.0 slot l.0.led nv.0 first second typing.some typing.least l.1.0.led r.is_first r.is_kind r.no_zone r.is_ids l.1.1.0.led cv.1 l.1.1.1.0.led mv.1 in
-          (16 + length name + 0 + c.0 + m.0, omega (arith, size, n.1, nv.1, c.1, m.1), is_column levels bytes at p cs t ms c.0 m.0 parted refl cv.2 (is_typed bytes p cs t refl refl (r.is_type at)) mv.2);
+          (16 + length name + 0 + (c.0 + m.0), omega (arith, size, n.1, nv.1, c.1, m.1), is_column levels bytes at p cs t ms c.0 m.0 parted refl cv.2 (is_typed bytes p cs t refl refl (r.is_type at)) mv.2);
     }
 
 -- as it is written

@@ -5,10 +5,8 @@ mod Gathered
 mod Ids
 mod Column
 mod Inserted
-mod Finish
 mod Schemas
 mod Known
-mod Typed
 mod TypeOf
 mod Words
 mod Levels

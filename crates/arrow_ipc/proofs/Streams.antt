@@ -1,5 +1,5 @@
 -- The block of a schema, in a message, in a stream.
-use Rattle.std.proofs.Common.{◌≡◌, ℕ, ◌+◌, ◌-◌, ◌^◌, ◌<◌, ◌≤◌, ◌++◌, ◌∷◌, [], List, length, take, drop, Ok, refl, sym, ap, ◌∙◌, arith, append-nil, ◌==◌, if◌then◌else◌}
+use Rattle.std.proofs.Common.{◌≡◌, ℕ, ◌+◌, ◌-◌, ◌^◌, ◌<◌, ◌≤◌, ◌++◌, ◌∷◌, [], List, length, take, drop, Vec, Global, Result, Ok, Err, IfOk, refl, sym, ap, ◌∙◌, arith, append-nil, ◌==◌, if◌then◌else◌}
 use Rattle.std.proofs.lemmas.List.{length-append, take_at}
 use Rattle.arrow_values.specs.Tree.{Metadata}
 use Rattle.arrow_columns.specs.Column.{ColumnTree}
@@ -12,6 +12,7 @@ use Rattle.arrow_ipc.specs.Denotes.{IsStreamOf}
 use Rattle.arrow_ipc.specs.Blocks.{Lies, Holds, word, offsets, places, table_block, columns_read, texts_read, order_number, schema_block, message_block, stream_block}
 use Rattle.arrow_ipc.specs.declared.schema.Endianness.{Endianness}
 use Rattle.arrow_ipc.specs.declared.schema.Endianness.TheVariants.{Little, Big}
+use Rattle.arrow_ipc.specs.declared.write.WriteError.{WriteError}
 use Rattle.arrow_ipc.proofs.Told.{bound}
 use Rattle.arrow_ipc.proofs.Places.{u8_is, u32_is, target_is, is_lt, is_le}
 use Rattle.arrow_ipc.proofs.Linked.{length_linked, by_place, flat, are_linked, slot_place, low, slot_is}
@@ -106,6 +107,12 @@ stream_is levels cb mb order cs ms columns texts small =
     let size = length_message block in
     let got = message_reads levels block (record { columns = cs; metadata = ms; endianness = order }) (schema_holds levels cb mb order cs ms columns texts (omega (arith, size, small))) (omega (arith, small)) in
     (message_block block, in_stream (message_block block) (omega (arith, size)) (omega (arith, small)), (got.0, omega (arith, got.1, size), got.2))
+
+pub stream_ok : (levels : ℕ) (cb mb : List ℕ) (order : Endianness) (cs : List ColumnTree) (ms : Metadata) → Holds (columns_read levels) cb cs → Holds texts_read mb ms
+    → (r : Result (Vec ℕ Global) WriteError) → IfOk r (λ b. b.items ≡ stream_block (message_block (schema_block cb mb order))) → IfOk r (λ b. length (message_block (schema_block cb mb order)) < 2 ^ 31)
+    → IfOk r (λ b. IsStreamOf levels b.items (record { columns = cs; metadata = ms; endianness = order }))
+stream_ok levels cb mb order cs ms columns texts (Ok b) is small = rw is (stream_is levels cb mb order cs ms columns texts small)
+stream_ok levels cb mb order cs ms columns texts (Err e) is small = tt
 
 pub stream_built : (s a b c d e message block : List ℕ) (x : ℕ) → s ≡ [] → a ≡ s ++ word 0xffff_ffff → b ≡ a ++ word x → c ≡ b ++ (8 ∷ 0 ∷ 0 ∷ 0 ∷ 0 ∷ 0 ∷ 0 ∷ 0 ∷ []) → d ≡ c ++ e → e ≡ message
     → message ≡ table_block (8 ∷ 10 ∷ 4 ∷ []) (4 ∷ 0 ∷ 1 ∷ 0 ∷ []) (block ∷ []) → x ≡ 8 + length message → d ≡ stream_block (message_block block)

@@ -41,14 +41,6 @@ table_size (fixed_size_list n t b m (negsuc s)) = omega arith
 table_size (struct fs) = let size = length_type None None in omega (arith, size)
 table_size (union ms mode) = let size = length_union mode (member_ids ms) in let many = count_ids ms in omega (arith, size, many)
 
-pub ids_size : (t : Tree) → 36 + 4 * length (ids_of t) ≤ 12 + table_room t
-ids_size (union ms mode) = let many = count_ids ms in omega (arith, many)
-ids_size (plain p) = omega arith
-ids_size (list n t b m) = omega arith
-ids_size (large_list n t b m) = omega arith
-ids_size (fixed_size_list n t b m s) = omega arith
-ids_size (struct fs) = omega arith
-
 no_size : (s : ℕ) (b : Bool) → nat_lt s (2 ^ 31) ≡ b → has_table (if b then Some (Table 16 (Some s) None) else None) [] ≡ false → nat_lt s (2 ^ 31) ≡ false
 no_size s true is none = absurd (cc)
 no_size s false is none = is

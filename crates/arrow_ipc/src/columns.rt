@@ -72,7 +72,7 @@ fn put_entry(
 }
 
 /// The metadata to which the offsets of a vector lead.
-#[tactic(auto, using(crate::proofs::Gathered::starts_at), unfolding(crate::specs::Columns::texts_at))]
+#[tactic(auto, unfolding(crate::specs::Columns::texts_at))]
 pub(crate) fn read_texts(
     alloc: Global,
     bytes: &[u8],
