@@ -1,14 +1,18 @@
--- What is put one after the other gives a block.
-use Rattle.std.proofs.Common.{◌≡◌, ℕ, ◌+◌, ◌^◌, ◌<◌, ◌≤◌, ◌++◌, ◌∷◌, [], List, length, map, Vec, String, Global, string_bytes, string_cmp, Result, Ok, Err, IfErr, Bool, true, false, sym, ap, ◌∙◌, subst, arith, append_assoc, append-nil}
+-- What is put one after the other gives a block, or why it does not.
+use Rattle.std.proofs.Common.{◌≡◌, ℕ, ◌+◌, ◌^◌, ◌<◌, ◌≤◌, ◌++◌, ◌∷◌, [], List, length, map, Vec, String, Global, string_bytes, string_cmp, Result, Ok, Err, IfErr, Bool, true, false, sym, ap, ◌∙◌, subst, arith, append_assoc, append-nil, get_or, Some, slice_get}
 use Rattle.std.proofs.lemmas.List.{map_push}
 use Rattle.std.specs.List.Sorted.{IsStrictlySortedBy}
 use Rattle.std.specs.Map.{keys_of}
+use Rattle.std.proofs.lemmas.Option.{slice_get-map, slice_get-get_or}
+use Rattle.std.specs.Option.{option_map}
 use Rattle.arrow_values.specs.Tree.{Text}
 use Rattle.arrow_values.specs.View.{texts_of}
+use Rattle.arrow_columns.specs.Column.{ColumnTree}
 use Rattle.arrow_ipc.specs.Blocks.{Holds, word, padded, offsets, linked, text_block, vector_block, entry_read, texts_read}
-use Rattle.arrow_ipc.specs.Rooms.{Refuses, Makes, MakesSound, Gives, texts_room}
+use Rattle.arrow_ipc.specs.Rooms.{Refuses, Makes, MakesSound, Gives, texts_room, IsUnfitType}
 use Rattle.arrow_ipc.specs.declared.write.WriteError.{WriteError}
 use Rattle.arrow_ipc.specs.declared.write.WriteError.TheVariants.{Column, TooLarge, OutOfMemory}
+use Rattle.arrow_ipc.specs.Writes.{refused, RefusesColumns}
 use Rattle.arrow_ipc.proofs.Vectors.{items}
 use Rattle.arrow_ipc.proofs.Made.{Made, Texts, made_more, made_all, texts_hold, length_vector}
 
@@ -34,9 +38,9 @@ pub told : {X : Type 0} (P : WriteError → Type 0) (r : Result X WriteError) (e
 told P (Ok x) e is f = absurd (cc)
 told P (Err d) e is f = let same : e ≡ d = cc in subst P same f
 
-pub refused : (P : List ℕ → Type 0) (unfit other : Type 0) (n m : ℕ) (r : Result (Vec ℕ Global) WriteError) (e : WriteError) → r ≡ Err e → (unfit → other) → n ≤ m → Refuses e unfit n → Gives P other m r
-refused P unfit other n m (Ok x) e is f le h = absurd (cc)
-refused P unfit other n m (Err d) e is f le h = let same : e ≡ d = cc in subst (λ e. Refuses e other m) same (refuses_more e unfit other n m f le h)
+pub handed : (P : List ℕ → Type 0) (unfit other : Type 0) (n m : ℕ) (r : Result (Vec ℕ Global) WriteError) (e : WriteError) → r ≡ Err e → (unfit → other) → n ≤ m → Refuses e unfit n → Gives P other m r
+handed P unfit other n m (Ok x) e is f le h = absurd (cc)
+handed P unfit other n m (Err d) e is f le h = let same : e ≡ d = cc in subst (λ e. Refuses e other m) same (refuses_more e unfit other n m f le h)
 
 pub unsound : (sound : Bool) (made : List ℕ) (n : ℕ) (r : Result (Vec ℕ Global) WriteError) (e : WriteError) → r ≡ Err e → n ≤ length made → Refuses e ⊥ n → MakesSound sound made r
 unsound sound made n (Ok x) e is le h = absurd (cc)
@@ -69,3 +73,29 @@ entries_give blocks left all es none same way sorted r made =
     let size = length_vector (map items blocks) in
     gives r (vector_block (map items blocks)) (λ b. Holds texts_read b (texts_of es)) ⊥ (texts_room (texts_of es)) made
     (λ small. texts_hold es sorted (map items blocks) (made_all (Holds entry_read) texts_room (map items blocks) (texts_of es) m) (omega (arith, small))) (omega (arith, fits, size))
+
+-- ---- why a schema is not written, from why a block is not
+
+pub element : {A B : Type 0} (f : A → B) (xs : List A) (i : ℕ) (x : A) → i < length xs → x ≡ get_or xs i x → slice_get (map f xs) i ≡ Some (f x)
+element f xs i x lt is = slice_get-map f xs i ∙ ap (option_map f) (slice_get-get_or xs i x lt) ∙ ap (λ y. Some (f y)) (sym is)
+
+-- of one of the columns
+pub column_refused : (levels : ℕ) (cs : List ColumnTree) (i : ℕ) (c : ColumnTree) (n room : ℕ) → slice_get cs i ≡ Some c → n ≤ room → (e : WriteError) → Refuses e (IsUnfitType levels c.data_type) n → RefusesColumns levels (refused e i) cs room
+column_refused levels cs i c n room is le (Column j) r = (c, is, r)
+column_refused levels cs i c n room is le TooLarge r = omega (arith, le, r)
+column_refused levels cs i c n room is le OutOfMemory r = tt
+
+-- of what has no type
+pub none_refused : (levels : ℕ) (cs : List ColumnTree) (n room : ℕ) (e : WriteError) → n ≤ room → Refuses e ⊥ n → RefusesColumns levels e cs room
+none_refused levels cs n room (Column j) le f = absurd f
+none_refused levels cs n room TooLarge le f = omega (arith, le, f)
+none_refused levels cs n room OutOfMemory le f = tt
+
+pub all_refused : {X : Type 0} (levels : ℕ) (cs : List ColumnTree) (n room : ℕ) (r : Result X WriteError) → n ≤ room → IfErr r (λ e. Refuses e ⊥ n) → IfErr r (λ e. RefusesColumns levels e cs room)
+all_refused levels cs n room (Ok x) le f = tt
+all_refused levels cs n room (Err e) le f = none_refused levels cs n room e le f
+
+pub refused_more : (levels : ℕ) (cs : List ColumnTree) (n room : ℕ) (e : WriteError) → n ≤ room → RefusesColumns levels e cs n → RefusesColumns levels e cs room
+refused_more levels cs n room (Column j) le f = f
+refused_more levels cs n room TooLarge le f = omega (arith, le, f)
+refused_more levels cs n room OutOfMemory le f = tt

@@ -11,8 +11,8 @@ use Rattle.arrow_ipc.specs.Rooms.{is_size, is_sound, are_sound, members_sound, f
 use Rattle.arrow_ipc.specs.declared.write.WriteError.{WriteError}
 use Rattle.arrow_ipc.proofs.Vectors.{items}
 use Rattle.arrow_ipc.proofs.Made.{Made, made_more, made_all, length_vector, columns_hold}
-use Rattle.arrow_ipc.proofs.Fields.{column_holds}
-use Rattle.arrow_ipc.proofs.TreeTypes.{table_is}
+use Rattle.arrow_ipc.proofs.Tables.{column_holds}
+use Rattle.arrow_ipc.proofs.TypeTables.{table_is}
 use Rattle.arrow_ipc.proofs.Built.{refuses_more}
 
 -- fields nest less than the type that nests them

@@ -1,10 +1,15 @@
 -- From what a step returned to what a call returned.
-use Rattle.std.proofs.Common.{◌≡◌, ℕ, ◌+◌, ◌-◌, ◌<◌, ◌≤◌, Result, Ok, Err, refl, sym, ap, ◌∙◌, subst, arith}
-use Rattle.arrow_ipc.specs.Fault.{◌>>=◌}
-use Rattle.arrow_ipc.specs.Tells.{Fails, Tells, Says, ◌>>+◌}
+use Rattle.std.proofs.Common.{◌≡◌, ℕ, ◌+◌, ◌-◌, ◌<◌, ◌≤◌, Result, Ok, Err, refl, sym, ap, ◌∙◌, subst, arith, suc, ap₂, List, length}
+use Rattle.arrow_columns.specs.Column.{ColumnTree, column_tree}
+use Rattle.arrow_columns.specs.declared.column.Column.{Column}
+use Rattle.arrow_ipc.specs.Fault.{◌>>=◌, breaks}
+use Rattle.arrow_ipc.specs.Tells.{Fails, Tells, Says, ◌>>+◌, gather}
 use Rattle.arrow_ipc.specs.declared.fault.Fault.{Fault}
 use Rattle.arrow_ipc.specs.declared.fault.IpcError.{IpcError}
 use Rattle.arrow_ipc.specs.declared.fault.IpcError.TheVariants.{Broken, Budget, OutOfMemory}
+use Rattle.arrow_ipc.specs.Parts.{Own, parts_at}
+use Rattle.arrow_ipc.specs.Columns.{columns_by, finished, priced, column_at}
+use Rattle.arrow_ipc.specs.declared.fault.Rule.TheVariants.{Depth}
 
 -- what a chain of two gave came from both
 pub bound : {A B : Type 0} (r : Result A Fault) (f : A → Result B Fault) (y : B) → (r >>= f) ≡ Ok y → (x : A) × (r ≡ Ok x) × (f x ≡ Ok y)
@@ -64,3 +69,49 @@ pub says_fails : {X A B : Type 0} (view : X → A) (step : Result A Fault) (rest
 says_fails view step rest old (Broken fault) f = rw f refl
 says_fails view step rest old (Budget place) f = absurd f
 says_fails view step rest old OutOfMemory f = tt
+
+-- ---- what a loop gathers, one element after the other: what is still gathered tells all
+
+module _ {X S : Type 0} (view : X → S) (put : S → ℕ → Result (S × ℕ) Fault) (s : S) (i count old : ℕ) where
+  turn : i < count → gather put s i (count - i) ≡ (put s i >>+ λ x. gather put x (i + 1) (count - (i + 1)))
+  unfolding gather
+  turn more = let k : count - i ≡ suc (count - (i + 1)) = omega arith in rw k refl
+
+  pub goes_on : i < count → (t : S) (mid new : ℕ) (r : Result X IpcError) → (mid ≤ old) × (put s i ≡ Ok (t, old - mid))
+      → Tells view (gather put t (i + 1) (count - (i + 1))) mid new r → Tells view (gather put s i (count - i)) old new r
+  goes_on more t mid new r one f = rw (turn more) (then_tells view (put s i) (λ x. gather put x (i + 1) (count - (i + 1))) t old mid new r one f)
+
+  pub breaks_off : i < count → (new : ℕ) (r : Result X IpcError) (e : IpcError) → r ≡ Err e → Fails (put s i) old e → Tells view (gather put s i (count - i)) old new r
+  breaks_off more new r e is f = rw (turn more) (told view (put s i >>+ λ x. gather put x (i + 1) (count - (i + 1))) old new r e is (first_fails (put s i) (λ x. gather put x (i + 1) (count - (i + 1))) old e f))
+
+  pub is_done : count ≤ i → (x : X) → view x ≡ s → Tells view (gather put s i (count - i)) old old (Ok x)
+  unfolding gather
+  is_done le x same =
+      let k : count - i ≡ 0 = omega arith in
+      (omega arith, rw k (ap₂ (λ (t : S) (n : ℕ). Ok (t, n)) (sym same) (omega arith)))
+
+-- ---- a column, by what its own table says
+
+module _ (bytes : List ℕ) (at depth : ℕ) where
+  pub too_deep : depth ≡ 0 → column_at depth bytes at ≡ breaks Depth at
+  unfolding column_at
+  too_deep none = rw none refl
+
+  abbrev pub rest : Own → Result (ColumnTree × ℕ) Fault
+  rest p = columns_by (column_at (depth - 1) bytes) p.children >>+ finished bytes p
+
+  steps : 0 < depth → column_at depth bytes at ≡ (priced (parts_at bytes at) >>+ rest)
+  unfolding column_at
+  steps some = let k : depth ≡ suc (depth - 1) = omega arith in ap (λ d. column_at d bytes at) k
+
+  module _ (some : 0 < depth) where
+    pub no_parts : (fault : Fault) → parts_at bytes at ≡ Err fault → column_at depth bytes at ≡ Err fault
+    no_parts fault is = steps some ∙ rw is refl
+
+    module _ (p : Own) (is : parts_at bytes at ≡ Ok p) where
+      pub too_poor : (old place : ℕ) → old < 16 + length p.name + length p.zone → Fails (column_at depth bytes at) old (Budget place)
+      too_poor old place less = rw (steps some) (first_fails (priced (parts_at bytes at)) rest old (Budget place) (too_dear (priced (parts_at bytes at)) (p, 16 + length p.name + length p.zone) old place (rw is refl) less))
+
+      pub with_parts : (old left new : ℕ) (r : Result Column IpcError) → left + (16 + length p.name + length p.zone) ≡ old → Tells column_tree (rest p) left new r → Tells column_tree (column_at depth bytes at) old new r
+      with_parts old left new r sum f =
+          rw (steps some) (then_tells column_tree (priced (parts_at bytes at)) rest p old left new r (omega (arith, sum), rw is (ap (λ (n : ℕ). Ok (p, n)) (omega (arith, sum)))) f)

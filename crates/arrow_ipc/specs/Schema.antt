@@ -6,9 +6,9 @@ use Rattle.arrow_values.specs.Tree.{Metadata}
 use Rattle.arrow_values.specs.View.{texts_of}
 use Rattle.arrow_columns.specs.Column.{ColumnTree, column_tree}
 use Rattle.arrow_ipc.specs.Fault.{◌>>=◌, breaks}
-use Rattle.arrow_ipc.specs.Wire.{u32_at, target_at}
+use Rattle.arrow_ipc.specs.Wire.{u32_at, target_at, vector_at}
 use Rattle.arrow_ipc.specs.Longs.{u64_in}
-use Rattle.arrow_ipc.specs.Slots.{u8_in, u16_in, table_in, vector_in, needed_vector_in}
+use Rattle.arrow_ipc.specs.Slots.{u8_in, u16_in, table_in, vector_in}
 use Rattle.arrow_ipc.specs.Columns.{texts_at, columns_by, column_at}
 use Rattle.arrow_ipc.specs.Tells.{Fails, ◌>>+◌}
 use Rattle.arrow_ipc.specs.declared.fault.Fault.{Fault}
@@ -32,7 +32,7 @@ schema_tree s = record { columns = map column_tree s.columns.items; metadata = t
 unfoldable pub head_at : List ℕ → ℕ → Result Head Fault
 head_at bytes table = do
   order ← u16_in bytes table 0 0
-  fields ← needed_vector_in bytes table 1
+  fields ← (table_in bytes table 1 >>= vector_at bytes)
   texts ← vector_in bytes table 2
   Ok (record { endianness = if order == 0 then Little else Big; fields = fields; texts = texts })
 

@@ -6,8 +6,8 @@ ghost use Rattle.arrow_ipc.specs.Schema.{head_at, message_at, footer_at, cut, me
 use crate::columns::{read_columns, read_texts};
 use crate::fault::{Fault, IpcError, Rule};
 use crate::longs::u64_in;
-use crate::slots::{needed_vector_in, table_in, u8_in, u16_in, vector_in};
-use crate::wire::{open, target_at, u32_at};
+use crate::slots::{table_in, u8_in, u16_in, vector_in};
+use crate::wire::{open, target_at, u32_at, vector_at};
 use arrow_columns::Column;
 use std::alloc::Global;
 use std::collections::BTreeMap;
@@ -55,7 +55,7 @@ fn head_at(bytes: &[u8], table: usize) -> Result<Head, Fault>
         0 => Endianness::Little,
         _ => Endianness::Big,
     };
-    let fields = needed_vector_in(bytes, &table, 1)?;
+    let fields = vector_at(bytes, table_in(bytes, &table, 1)?)?;
     let texts = vector_in(bytes, &table, 2)?;
     Ok(Head {
         endianness,

@@ -1,7 +1,7 @@
 use Rattle.std.proofs.Common.{arith}
 use Rattle.arrow_ipc.specs.Blocks.{Holds, entry_block, entry_read}
 use Rattle.arrow_ipc.proofs.Built.{gives}
-use Rattle.arrow_ipc.proofs.Entries.{length_entry, entry_holds}
+use Rattle.arrow_ipc.proofs.Tables.{length_entry, entry_holds}
 use Rattle.arrow_ipc.proofs.blocks.entry_block.Goals as goal
 
 pub returns : goal.returns

@@ -2,7 +2,7 @@ use Rattle.std.proofs.Common.{◌≡◌, sym, subst, arith}
 use Rattle.std.proofs.lemmas.Str.{is_utf8-from_IsUtf8}
 use Rattle.arrow_ipc.specs.Blocks.{Holds, text_block, text_read}
 use Rattle.arrow_ipc.proofs.Built.{text_built}
-use Rattle.arrow_ipc.proofs.Entries.{text_holds, length_text}
+use Rattle.arrow_ipc.proofs.Tables.{text_holds, length_text}
 use Rattle.arrow_ipc.proofs.blocks.text_block.Goals as goal
 
 pub returns : goal.returns

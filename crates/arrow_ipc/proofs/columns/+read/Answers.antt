@@ -5,9 +5,7 @@ use Rattle.arrow_columns.specs.Column.{ColumnTree, column_tree}
 use Rattle.arrow_ipc.specs.Parts.{Own, parts_of, parts_at}
 use Rattle.arrow_ipc.specs.Columns.{put_column, columns_by, column_at, finished}
 use Rattle.arrow_ipc.specs.declared.fault.IpcError.TheVariants.{Broken, Budget}
-use Rattle.arrow_ipc.proofs.Told.{told, first_fails, then_tells, made_fails}
-use Rattle.arrow_ipc.proofs.Gathered.{goes_on, breaks_off, is_done}
-use Rattle.arrow_ipc.proofs.Column.{too_deep, no_parts, too_poor, with_parts}
+use Rattle.arrow_ipc.proofs.Told.{told, first_fails, then_tells, made_fails, goes_on, breaks_off, is_done, too_deep, no_parts, too_poor, with_parts}
 use Rattle.arrow_ipc.proofs.columns.+read.Invariants.{columns_tree}
 use Rattle.arrow_ipc.proofs.columns.+read.Goals as goal
 

@@ -2,7 +2,7 @@ use Rattle.std.proofs.Common.{arith, Ok, refl}
 use native.Mathlib.Numerals.{unary_clauses}
 use Rattle.arrow_values.specs.View.{texts_of}
 use Rattle.arrow_ipc.specs.Columns.{put_next, texts_at}
-use Rattle.arrow_ipc.proofs.Gathered.{goes_on, breaks_off, is_done}
+use Rattle.arrow_ipc.proofs.Told.{goes_on, breaks_off, is_done}
 use Rattle.arrow_ipc.proofs.columns.read_texts.Invariants.{map_texts}
 use Rattle.arrow_ipc.proofs.columns.read_texts.Goals as goal
 

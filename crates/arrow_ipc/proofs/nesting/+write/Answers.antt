@@ -4,7 +4,7 @@ use Rattle.arrow_values.specs.View.{tree, texts_of}
 use Rattle.arrow_ipc.specs.Shapes.{column_of, nested_columns}
 use Rattle.arrow_ipc.specs.Rooms.{Refuses, nested_room, column_room, field_room, room_of, columns_room, IsUnfit, AreUnfit}
 use Rattle.arrow_ipc.proofs.Vectors.{items}
-use Rattle.arrow_ipc.proofs.Built.{told, refuses_more, refused}
+use Rattle.arrow_ipc.proofs.Built.{told, refuses_more, handed}
 use Rattle.arrow_ipc.proofs.Nestings.{lent, deepest, falls, nests_less, nested_room_is, columns_are, each_is, nested_unfit, each_more, each_refused, data_gives}
 use Rattle.arrow_ipc.proofs.nesting.+write.Goals as goal
 
@@ -27,7 +27,7 @@ data_block-returns-in_err-blocks t c =
     let fs = c.as_slice.result.now in
     let same = columns_are fs d (ap lent c.as_slice.ensures.value ∙ c.in_ok-fields.ensures) in
     let room : columns_room (map (λ f. column_of f.now) fs) ≡ nested_room d = ap columns_room same ∙ nested_room_is d in
-    refused _ (AreUnfit (c.args.levels - 1) (map (λ f. column_of f.now) fs)) (IsUnfit c.args.levels d) (columns_room (map (λ f. column_of f.now) fs)) (column_room c.args.name.now d (texts_of c.args.texts.now.entries))
+    handed _ (AreUnfit (c.args.levels - 1) (map (λ f. column_of f.now) fs)) (IsUnfit c.args.levels d) (columns_room (map (λ f. column_of f.now) fs)) (column_room c.args.name.now d (texts_of c.args.texts.now.entries))
     c.from_residual-in_err-blocks.result c.in_err-blocks.field-0.0 (grind arith) (λ u. nested_unfit c.args.levels d (omega arith) (subst (AreUnfit (c.args.levels - 1)) same u)) (omega (arith, room)) c.in_err-blocks.ensures.err
 
 pub field_blocks-field_block-requires : goal.field_blocks-field_block-requires

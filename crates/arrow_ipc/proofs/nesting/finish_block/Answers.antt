@@ -4,9 +4,9 @@ use Rattle.arrow_ipc.specs.Blocks.{vector_block, column_block}
 use Rattle.arrow_ipc.specs.Shapes.{shape_of, ids_of, shape_bytes, has_table}
 use Rattle.arrow_ipc.specs.Rooms.{IsNesting, is_sound}
 use Rattle.arrow_ipc.proofs.Vectors.{items}
-use Rattle.arrow_ipc.proofs.Built.{gives, refused}
-use Rattle.arrow_ipc.proofs.Fields.{length_column, flagged}
-use Rattle.arrow_ipc.proofs.TreeTypes.{table_size, no_table}
+use Rattle.arrow_ipc.proofs.Built.{gives, handed}
+use Rattle.arrow_ipc.proofs.Tables.{length_column, flagged}
+use Rattle.arrow_ipc.proofs.TypeTables.{table_size, no_table}
 use Rattle.arrow_ipc.proofs.Nestings.{nest_holds}
 use Rattle.arrow_ipc.proofs.nesting.finish_block.Goals as goal
 
@@ -31,4 +31,4 @@ pub returns-in_err-typed : goal.returns-in_err-typed
 returns-in_err-typed c =
     let d = tree c.args.data_type.now in
     let size = table_size d in
-    refused _ (has_table (shape_of d) (ids_of d) ≡ false) (is_sound d ≡ false) (length (shape_bytes (shape_of d) (ids_of d))) _ c.from_residual-in_err-typed.result c.in_err-typed.field-0.0 (grind arith) (no_table d) (omega (arith, size)) c.in_err-typed.ensures
+    handed _ (has_table (shape_of d) (ids_of d) ≡ false) (is_sound d ≡ false) (length (shape_bytes (shape_of d) (ids_of d))) _ c.from_residual-in_err-typed.result c.in_err-typed.field-0.0 (grind arith) (no_table d) (omega (arith, size)) c.in_err-typed.ensures

@@ -3,7 +3,7 @@ use Rattle.arrow_columns.specs.Column.{column_tree}
 use Rattle.arrow_ipc.specs.Rooms.{room_of, columns_room}
 use Rattle.arrow_ipc.specs.Writes.{RefusesColumns}
 use Rattle.arrow_ipc.proofs.Nestings.{each_more, each_room, each_done}
-use Rattle.arrow_ipc.proofs.Refusals.{element, column_refused}
+use Rattle.arrow_ipc.proofs.Built.{element, column_refused}
 use Rattle.arrow_ipc.proofs.write.column_blocks.Goals as goal
 
 pub columns-preserved : goal.columns-preserved

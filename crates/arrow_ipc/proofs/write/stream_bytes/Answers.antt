@@ -3,7 +3,7 @@ use Rattle.std.proofs.lemmas.Grind.{common_steps}
 use Rattle.arrow_ipc.specs.Blocks.{order_number, table_block, schema_block}
 use Rattle.arrow_ipc.specs.Rooms.{Refuses}
 use Rattle.arrow_ipc.proofs.Built.{told, refuses_more}
-use Rattle.arrow_ipc.proofs.Streams.{length_message, stream_built}
+use Rattle.arrow_ipc.proofs.Tables.{length_message, stream_built}
 use Rattle.arrow_ipc.proofs.write.stream_bytes.Goals as goal
 
 pub returns-clause-is : goal.returns-clause-is

@@ -8,11 +8,10 @@ use Rattle.arrow_ipc.specs.Blocks.{Holds, columns_read, vector_block, schema_blo
 use Rattle.arrow_ipc.specs.Rooms.{HoldsEach, columns_room, schema_room}
 use Rattle.arrow_ipc.proofs.Vectors.{items}
 use Rattle.arrow_ipc.specs.Writes.{RefusesColumns}
-use Rattle.arrow_ipc.proofs.Built.{told}
+use Rattle.arrow_ipc.proofs.Built.{told, none_refused, all_refused, refused_more}
 use Rattle.arrow_ipc.proofs.Made.{columns_hold}
 use Rattle.arrow_ipc.proofs.Nestings.{vector_room}
-use Rattle.arrow_ipc.proofs.Refusals.{none_refused, all_refused, refused_more}
-use Rattle.arrow_ipc.proofs.Streams.{length_schema, length_message, stream_ok}
+use Rattle.arrow_ipc.proofs.Tables.{length_schema, length_message, stream_ok}
 use Rattle.arrow_ipc.proofs.write.write_schema.Goals as goal
 
 pub returns-in_err-blocks-clause-err : goal.returns-in_err-blocks-clause-err
