@@ -1,15 +1,18 @@
--- What is put one after the other gives a block.
-use Rattle.std.proofs.Common.{◌≡◌, ℕ, ◌+◌, ◌^◌, ◌<◌, ◌≤◌, ◌++◌, ◌∷◌, [], List, length, map, Vec, String, Global, string_bytes, string_cmp, Result, Ok, Err, IfOk, IfErr, sym, ap, ◌∙◌, subst, arith, append_assoc, append-nil}
+-- What is put one after the other gives a block, or why it does not.
+use Rattle.std.proofs.Common.{◌≡◌, ℕ, ◌+◌, ◌^◌, ◌<◌, ◌≤◌, ◌++◌, ◌∷◌, [], List, length, map, Vec, String, Global, string_bytes, string_cmp, Result, Ok, Err, IfErr, Bool, true, false, sym, ap, ◌∙◌, subst, arith, append_assoc, append-nil, get_or, Some, slice_get}
 use Rattle.std.proofs.lemmas.List.{map_push}
 use Rattle.std.specs.List.Sorted.{IsStrictlySortedBy}
 use Rattle.std.specs.Map.{keys_of}
+use Rattle.std.proofs.lemmas.Option.{slice_get-map, slice_get-get_or}
+use Rattle.std.specs.Option.{option_map}
 use Rattle.arrow_values.specs.Tree.{Text}
 use Rattle.arrow_values.specs.View.{texts_of}
+use Rattle.arrow_columns.specs.Column.{ColumnTree}
 use Rattle.arrow_ipc.specs.Blocks.{Holds, word, padded, offsets, linked, text_block, vector_block, entry_read, texts_read}
-use Rattle.arrow_ipc.specs.Rooms.{Refuses, texts_room}
-use Rattle.arrow_ipc.specs.declared.fault.Fault.{Fault}
-use Rattle.arrow_ipc.specs.declared.blocks.Refusal.{Refusal}
-use Rattle.arrow_ipc.specs.declared.blocks.Refusal.TheVariants.{Unfit, TooLarge, OutOfMemory}
+use Rattle.arrow_ipc.specs.Rooms.{Refuses, Makes, MakesSound, Gives, texts_room, IsUnfitType}
+use Rattle.arrow_ipc.specs.declared.write.WriteError.{WriteError}
+use Rattle.arrow_ipc.specs.declared.write.WriteError.TheVariants.{Column, TooLarge, OutOfMemory}
+use Rattle.arrow_ipc.specs.Writes.{refused, RefusesColumns}
 use Rattle.arrow_ipc.proofs.Vectors.{items}
 use Rattle.arrow_ipc.proofs.Made.{Made, Texts, made_more, made_all, texts_hold, length_vector}
 
@@ -18,39 +21,34 @@ unfolding linked offsets
 text_built s a b c d more text n s1 a2 b3 c4 d5 many same =
     rw (d5, c4, b3, a2, s1, many, same) (ap padded (append_assoc (word (length text)) text (0 ∷ [])) ∙ sym (append-nil (padded (word (length text) ++ (text ++ 0 ∷ [])))))
 
-pub refuses_more : (e : Refusal) (P Q : Type 0) (n m : ℕ) → (P → Q) → n ≤ m → Refuses e P n → Refuses e Q m
-refuses_more Unfit P Q n m f le r = f r
+-- the room is no less, and what cannot be held the same
+pub refuses_more : (e : WriteError) (P Q : Type 0) (n m : ℕ) → (P → Q) → n ≤ m → Refuses e P n → Refuses e Q m
+refuses_more (Column i) P Q n m f le r = f r
 refuses_more TooLarge P Q n m f le r = omega (arith, le, r)
 refuses_more OutOfMemory P Q n m f le r = tt
 
 -- and by a result
-pub refused_as : {X : Type 0} (r : Result X Refusal) (P Q : Type 0) (n m : ℕ) → (P → Q) → n ≤ m → IfErr r (λ e. Refuses e P n) → IfErr r (λ e. Refuses e Q m)
-refused_as (Ok x) P Q n m f le h = tt
-refused_as (Err e) P Q n m f le h = refuses_more e P Q n m f le h
-
--- what was written is the block
-pub holds_as : {A : Type 0} (r : Result (Vec ℕ Global) Refusal) (block : List ℕ) (read : List ℕ → ℕ → Result (A × ℕ) Fault) (a : A) → IfOk r (λ b. b.items ≡ block) → IfOk r (λ b. length b.items < 2 ^ 31)
-    → (length block < 2 ^ 32 → Holds read block a) → IfOk r (λ b. Holds read b.items a)
-holds_as (Err e) block read a is small h = tt
-holds_as (Ok b) block read a is small h = let n : length b.items ≡ length block = ap length is in subst (λ l. Holds read l a) (sym is) (h (omega (arith, n, small)))
-
-pub is_as : (r : Result (Vec ℕ Global) Refusal) (block made : List ℕ) → block ≡ made → IfOk r (λ b. b.items ≡ block) → IfOk r (λ b. b.items ≡ made)
-is_as r block made same is = subst (λ l. IfOk r (λ b. b.items ≡ l)) same is
-
-pub most_as : (r : Result (Vec ℕ Global) Refusal) (block : List ℕ) (n : ℕ) → IfOk r (λ b. b.items ≡ block) → length block ≤ n → IfOk r (λ b. length b.items ≤ n)
-most_as (Err e) block n is le = tt
-most_as (Ok b) block n is le = let m : length b.items ≡ length block = ap length is in omega (arith, m, le)
+-- a block that was made holds what it should, in the room that it has
+pub gives : (r : Result (Vec ℕ Global) WriteError) (block : List ℕ) (P : List ℕ → Type 0) (unfit : Type 0) (room : ℕ) → Makes block r → (length block < 2 ^ 31 → P block) → length block ≤ room → Gives P unfit room r
+gives (Ok b) block P unfit room made holds le = (subst P (sym made.0) (holds made.1), rw made.0 le)
+gives (Err e) block P unfit room made holds le = refuses_more e ⊥ unfit (length block) room (λ x. absurd x) le made
 
 -- an error was handed on
-pub handed : {X E : Type 0} (P : E → Type 0) (r : Result X E) (e : E) → r ≡ Err e → P e → IfErr r P
-handed P (Ok x) e is f = absurd (cc)
-handed P (Err d) e is f = let same : e ≡ d = cc in subst P same f
+pub told : {X : Type 0} (P : WriteError → Type 0) (r : Result X WriteError) (e : WriteError) → r ≡ Err e → P e → IfErr r P
+told P (Ok x) e is f = absurd (cc)
+told P (Err d) e is f = let same : e ≡ d = cc in subst P same f
 
-pub told : {X : Type 0} (r : Result X Refusal) (e : Refusal) (P : Type 0) (n : ℕ) → r ≡ Err e → Refuses e P n → IfErr r (λ e. Refuses e P n)
-told r e P n is f = handed (λ e. Refuses e P n) r e is f
+pub handed : (P : List ℕ → Type 0) (unfit other : Type 0) (n m : ℕ) (r : Result (Vec ℕ Global) WriteError) (e : WriteError) → r ≡ Err e → (unfit → other) → n ≤ m → Refuses e unfit n → Gives P other m r
+handed P unfit other n m (Ok x) e is f le h = absurd (cc)
+handed P unfit other n m (Err d) e is f le h = let same : e ≡ d = cc in subst (λ e. Refuses e other m) same (refuses_more e unfit other n m f le h)
 
-pub told_more : {X : Type 0} (r : Result X Refusal) (e : Refusal) (P Q : Type 0) (n m : ℕ) → r ≡ Err e → (P → Q) → n ≤ m → Refuses e P n → IfErr r (λ e. Refuses e Q m)
-told_more r e P Q n m is f le h = told r e Q m is (refuses_more e P Q n m f le h)
+pub unsound : (sound : Bool) (made : List ℕ) (n : ℕ) (r : Result (Vec ℕ Global) WriteError) (e : WriteError) → r ≡ Err e → n ≤ length made → Refuses e ⊥ n → MakesSound sound made r
+unsound sound made n (Ok x) e is le h = absurd (cc)
+unsound sound made n (Err d) e is le h = let same : e ≡ d = cc in subst (λ e. Refuses e (sound ≡ false) (length made)) same (refuses_more e ⊥ (sound ≡ false) n (length made) (λ x. absurd x) le h)
+
+pub made_sound : (r : Result (Vec ℕ Global) WriteError) (block made : List ℕ) (sound : Bool) → block ≡ made → sound ≡ true → Makes block r → MakesSound sound made r
+made_sound (Ok b) block made sound same is h = (is, (h.0 ∙ same, subst (λ l. length l < 2 ^ 31) same h.1))
+made_sound (Err e) block made sound same is h = refuses_more e ⊥ (sound ≡ false) (length block) (length made) (λ x. absurd x) (rw same (omega arith)) h
 
 -- ---- entries, one after the other
 
@@ -66,40 +64,38 @@ module _ (blocks : List (Vec ℕ Global)) (left rest all : Texts) (k v : String 
       subst (λ bs. Made (Holds entry_read) texts_room bs (texts_of rest) (texts_of all)) (sym same)
       (made_more (Holds entry_read) texts_room (map items blocks) b.items (kb, vb) (texts_of rest) (texts_of all) here one (omega (arith, most)))
 
-module _ (blocks : List (Vec ℕ Global)) (left all : Texts) (none : left ≡ []) (way : Made (Holds entry_read) texts_room (map items blocks) (texts_of left) (texts_of all)) where
-  whole : Made (Holds entry_read) texts_room (map items blocks) [] (texts_of all)
-  whole = subst (λ (l : Texts). Made (Holds entry_read) texts_room (map items blocks) (texts_of l) (texts_of all)) none way
+pub entries_give : (blocks : List (Vec ℕ Global)) (left all es : Texts) → left ≡ [] → all ≡ es → Made (Holds entry_read) texts_room (map items blocks) (texts_of left) (texts_of all) → IsStrictlySortedBy string_cmp (keys_of es)
+    → (r : Result (Vec ℕ Global) WriteError) → Makes (vector_block (map items blocks)) r → Gives (λ b. Holds texts_read b (texts_of es)) ⊥ (texts_room (texts_of es)) r
+entries_give blocks left all es none same way sorted r made =
+    let here : Made (Holds entry_read) texts_room (map items blocks) (texts_of left) (texts_of es) = subst (λ (l : Texts). Made (Holds entry_read) texts_room (map items blocks) (texts_of left) (texts_of l)) same way in
+    let m : Made (Holds entry_read) texts_room (map items blocks) [] (texts_of es) = subst (λ (l : Texts). Made (Holds entry_read) texts_room (map items blocks) (texts_of l) (texts_of es)) none here in
+    let fits = m.fits in
+    let size = length_vector (map items blocks) in
+    gives r (vector_block (map items blocks)) (λ b. Holds texts_read b (texts_of es)) ⊥ (texts_room (texts_of es)) made
+    (λ small. texts_hold es sorted (map items blocks) (made_all (Holds entry_read) texts_room (map items blocks) (texts_of es) m) (omega (arith, small))) (omega (arith, fits, size))
 
-  pub entries_room : length (vector_block (map items blocks)) ≤ texts_room (texts_of all)
-  entries_room =
-      let m = whole in
-      let fits = m.fits in
-      let size = length_vector (map items blocks) in
-      omega (arith, fits, size)
+-- ---- why a schema is not written, from why a block is not
 
-  pub entries_hold : IsStrictlySortedBy string_cmp (keys_of all) → (b : List ℕ) → b ≡ vector_block (map items blocks) → length b < 2 ^ 31 → Holds texts_read b (texts_of all)
-  entries_hold sorted b is small =
-      let size : length (vector_block (map items blocks)) < 2 ^ 31 = subst (λ l. length l < 2 ^ 31) is small in
-      subst (λ l. Holds texts_read l (texts_of all)) (sym is) (texts_hold all sorted (map items blocks) (made_all (Holds entry_read) texts_room (map items blocks) (texts_of all) whole) (omega (arith, size)))
+pub element : {A B : Type 0} (f : A → B) (xs : List A) (i : ℕ) (x : A) → i < length xs → x ≡ get_or xs i x → slice_get (map f xs) i ≡ Some (f x)
+element f xs i x lt is = slice_get-map f xs i ∙ ap (option_map f) (slice_get-get_or xs i x lt) ∙ ap (λ y. Some (f y)) (sym is)
 
-  pub entries_refused : (e : Refusal) → Refuses e ⊥ (length (vector_block (map items blocks))) → Refuses e ⊥ (texts_room (texts_of all))
-  entries_refused e r = refuses_more e ⊥ ⊥ (length (vector_block (map items blocks))) (texts_room (texts_of all)) (λ x. x) entries_room r
+-- of one of the columns
+pub column_refused : (levels : ℕ) (cs : List ColumnTree) (i : ℕ) (c : ColumnTree) (n room : ℕ) → slice_get cs i ≡ Some c → n ≤ room → (e : WriteError) → Refuses e (IsUnfitType levels c.data_type) n → RefusesColumns levels (refused e i) cs room
+column_refused levels cs i c n room is le (Column j) r = (c, is, r)
+column_refused levels cs i c n room is le TooLarge r = omega (arith, le, r)
+column_refused levels cs i c n room is le OutOfMemory r = tt
 
-  module _ (es : Texts) (whole_is : all ≡ es) (slice : List (Vec ℕ Global)) (same : slice ≡ blocks) where
-    pub entries_ok : IsStrictlySortedBy string_cmp (keys_of es) → (r : Result (Vec ℕ Global) Refusal) → IfOk r (λ b. b.items ≡ vector_block (map items slice)) → IfOk r (λ b. length b.items < 2 ^ 31) → IfOk r (λ b. Holds texts_read b.items (texts_of es))
-    entries_ok sorted (Ok b) is small =
-        let first : b.items ≡ vector_block (map items blocks) = is ∙ ap (λ (l : List (Vec ℕ Global)). vector_block (map items l)) same in
-        subst (λ (l : Texts). Holds texts_read b.items (texts_of l)) whole_is (entries_hold (subst (λ (l : Texts). IsStrictlySortedBy string_cmp (keys_of l)) (sym whole_is) sorted) b.items first small)
-    entries_ok sorted (Err e) is small = tt
+-- of what has no type
+pub none_refused : (levels : ℕ) (cs : List ColumnTree) (n room : ℕ) (e : WriteError) → n ≤ room → Refuses e ⊥ n → RefusesColumns levels e cs room
+none_refused levels cs n room (Column j) le f = absurd f
+none_refused levels cs n room TooLarge le f = omega (arith, le, f)
+none_refused levels cs n room OutOfMemory le f = tt
 
-    pub entries_most : (r : Result (Vec ℕ Global) Refusal) → IfOk r (λ b. b.items ≡ vector_block (map items slice)) → IfOk r (λ b. length b.items ≤ texts_room (texts_of es))
-    entries_most (Ok b) is =
-        let first : b.items ≡ vector_block (map items blocks) = is ∙ ap (λ (l : List (Vec ℕ Global)). vector_block (map items l)) same in
-        rw first (subst (λ (l : Texts). length (vector_block (map items blocks)) ≤ texts_room (texts_of l)) whole_is entries_room)
-    entries_most (Err e) is = tt
+pub all_refused : {X : Type 0} (levels : ℕ) (cs : List ColumnTree) (n room : ℕ) (r : Result X WriteError) → n ≤ room → IfErr r (λ e. Refuses e ⊥ n) → IfErr r (λ e. RefusesColumns levels e cs room)
+all_refused levels cs n room (Ok x) le f = tt
+all_refused levels cs n room (Err e) le f = none_refused levels cs n room e le f
 
-    pub entries_err : (r : Result (Vec ℕ Global) Refusal) → IfErr r (λ e. Refuses e ⊥ (length (vector_block (map items slice)))) → IfErr r (λ e. Refuses e ⊥ (texts_room (texts_of es)))
-    entries_err (Ok b) is = tt
-    entries_err (Err e) is =
-        let here : Refuses e ⊥ (length (vector_block (map items blocks))) = subst (λ (l : List (Vec ℕ Global)). Refuses e ⊥ (length (vector_block (map items l)))) same is in
-        subst (λ (l : Texts). Refuses e ⊥ (texts_room (texts_of l))) whole_is (entries_refused e here)
+pub refused_more : (levels : ℕ) (cs : List ColumnTree) (n room : ℕ) (e : WriteError) → n ≤ room → RefusesColumns levels e cs n → RefusesColumns levels e cs room
+refused_more levels cs n room (Column j) le f = f
+refused_more levels cs n room TooLarge le f = omega (arith, le, f)
+refused_more levels cs n room OutOfMemory le f = tt

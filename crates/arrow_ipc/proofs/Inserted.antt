@@ -1,13 +1,10 @@
 -- The texts of a map after an insert, and metadata with one more entry.
-use Rattle.std.proofs.Common.{◌≡◌, ℕ, Ok, ap, List, [], ◌∷◌, String, Global, Ordering, Less, Equal, Greater, string_bytes, refl, ◌∙◌}
+use Rattle.std.proofs.Common.{◌≡◌, List, [], ◌∷◌, String, Global, Ordering, Less, Equal, Greater, string_bytes, refl, ◌∙◌}
 use Rattle.std.specs.BTreeMap.{insert_entry}
 use Rattle.std.specs.String.{string_cmp}
 use Rattle.std.specs.Ordering.{match_ordering}
-use Rattle.arrow_values.specs.Tree.{Text, Metadata}
 use Rattle.arrow_values.specs.View.{texts_of}
 use Rattle.arrow_values.specs.Texts.{put_text}
-use Rattle.arrow_ipc.specs.Fault.{◌>>=◌}
-use Rattle.arrow_ipc.specs.Columns.{entry_at, entry_price, put_entry}
 
 abbrev Entries : Type 0
 Entries = List (String Global × String Global)
@@ -20,7 +17,3 @@ moved Greater a b c = refl
 pub texts_inserted : (es : Entries) (k v : String Global) → texts_of (insert_entry string_cmp es k v) ≡ put_text (string_bytes k) (string_bytes v) (texts_of es)
 texts_inserted [] k v = refl
 texts_inserted (e ∷ es) k v = moved (string_cmp k e.0) _ _ _ ∙ rw (texts_inserted es k v)
-
--- an entry is put to those before it
-pub puts : (bytes : List ℕ) (at : ℕ) (texts : Metadata) (e : Text × Text) → entry_at bytes at ≡ Ok e → put_entry bytes at texts ≡ Ok (put_text e.0 e.1 texts, entry_price e)
-puts bytes at texts e led = ap (λ r. r >>= λ e. Ok (put_text e.0 e.1 texts, entry_price e)) led

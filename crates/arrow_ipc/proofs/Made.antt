@@ -17,7 +17,7 @@ use Rattle.arrow_ipc.specs.Columns.{entry_in, entry_at, entry_price, put_next, t
 use Rattle.arrow_ipc.specs.Blocks.{Holds, rounded, vector_block, entry_read, texts_read, columns_read, child_in}
 use Rattle.arrow_ipc.proofs.Told.{bound}
 use Rattle.arrow_ipc.proofs.Inserted.{texts_inserted}
-use Rattle.arrow_ipc.proofs.Fields.{column_by_table}
+use Rattle.arrow_ipc.proofs.Tables.{column_by_table}
 use Rattle.arrow_ipc.proofs.Linked.{length_linked}
 use Rattle.arrow_ipc.proofs.Walks.{joined, vector_holds}
 

@@ -1,5 +1,5 @@
 -- The columns that a type nests, one block after the other.
-use Rattle.std.proofs.Common.{◌≡◌, ℕ, zero, suc, ◌+◌, ◌-◌, ◌^◌, ◌<◌, ◌≤◌, ◌⊎◌, inl, inr, max, Bool, true, false, ◌&&◌, ◌++◌, ◌∷◌, [], List, length, map, drop, get_or, Vec, Global, Result, Ok, Err, IfOk, refl, sym, ap, ◌∙◌, subst, arith, append-nil}
+use Rattle.std.proofs.Common.{◌≡◌, ℕ, zero, suc, ◌+◌, ◌-◌, ◌^◌, ◌<◌, ◌≤◌, ◌⊎◌, inl, inr, max, Bool, true, false, ◌&&◌, ◌++◌, ◌∷◌, [], List, length, map, drop, get_or, Vec, Global, Result, Ok, Err, refl, sym, ap, ◌∙◌, subst, arith, append-nil}
 use Rattle.std.proofs.lemmas.List.{map_push, drop_more, drop_all}
 use Rattle.arrow_values.specs.Tree.{Text, Metadata, Tree, plain, list, large_list, fixed_size_list, struct, union, FieldTrees, no_fields, field, MemberTrees, no_members, member, FieldTree, Members, depth, fields_depth, members_depth}
 use Rattle.std.specs.Borrow.{Bor}
@@ -7,12 +7,12 @@ use Rattle.arrow_values.specs.View.{field_trees, member_trees, field_list, liste
 use Rattle.arrow_columns.specs.Column.{known, ColumnTree}
 use Rattle.arrow_ipc.specs.Blocks.{Holds, child_in, column_in, text_read, texts_read, columns_read, vector_block, column_block, IsType}
 use Rattle.arrow_ipc.specs.Shapes.{member_ids, are_ids, shape_of, ids_of, shape_tag, shape_bytes, has_table, column_of, member_fields, nested_fields, nested_columns}
-use Rattle.arrow_ipc.specs.Rooms.{is_size, is_sound, are_sound, members_sound, fields_room, members_room, nested_room, room_of, columns_room, Refuses, IsUnfit, IsUnfitType, AreUnfit, HoldsEach, IsNesting}
-use Rattle.arrow_ipc.specs.declared.blocks.Refusal.{Refusal}
+use Rattle.arrow_ipc.specs.Rooms.{is_size, is_sound, are_sound, members_sound, fields_room, members_room, nested_room, table_room, column_room, texts_room, room_of, columns_room, Refuses, Gives, IsUnfit, IsUnfitType, AreUnfit, HoldsEach, IsNesting}
+use Rattle.arrow_ipc.specs.declared.write.WriteError.{WriteError}
 use Rattle.arrow_ipc.proofs.Vectors.{items}
 use Rattle.arrow_ipc.proofs.Made.{Made, made_more, made_all, length_vector, columns_hold}
-use Rattle.arrow_ipc.proofs.Fields.{column_holds}
-use Rattle.arrow_ipc.proofs.TreeTypes.{table_is}
+use Rattle.arrow_ipc.proofs.Tables.{column_holds}
+use Rattle.arrow_ipc.proofs.TypeTables.{table_is}
 use Rattle.arrow_ipc.proofs.Built.{refuses_more}
 
 -- fields nest less than the type that nests them
@@ -65,7 +65,7 @@ module _ {A : Type 0} (f : A → ColumnTree) (levels : ℕ) where
       pub each_room : room_of (f x) ≤ columns_room (map f xs)
       each_room = let m = here in let fits = m.fits in omega (arith, fits)
 
-      pub each_refused : (e : Refusal) → Refuses e (IsUnfitType levels (f x).data_type) (room_of (f x)) → Refuses e (AreUnfit levels (map f xs)) (columns_room (map f xs))
+      pub each_refused : (e : WriteError) → Refuses e (IsUnfitType levels (f x).data_type) (room_of (f x)) → Refuses e (AreUnfit levels (map f xs)) (columns_room (map f xs))
       each_refused e r = refuses_more e (IsUnfitType levels (f x).data_type) (AreUnfit levels (map f xs)) (room_of (f x)) (columns_room (map f xs)) (among xs i x lt is) each_room r
 
     pub each_done : length xs ≤ i → HoldsEach levels (map items blocks) (map f xs) (columns_room (map f xs))
@@ -148,32 +148,27 @@ nested_unfit levels (union ms mode) some u =
 
 -- ---- a column, given the blocks of what its type nests
 
-pub nest_ok : (r : Result (Vec ℕ Global) Refusal) (bs : List (List ℕ)) (t : Tree) (name : Text) (nullable : Bool) (texts : Metadata) (nb tb cb mb : List ℕ) (tag : ℕ)
-    → IfOk r (λ b. b.items ≡ column_block nb tb cb mb nullable tag) → IfOk r (λ b. length b.items < 2 ^ 31) → Holds text_read nb name → Holds texts_read mb texts
-    → tag ≡ shape_tag (shape_of t) → tb ≡ shape_bytes (shape_of t) (ids_of t) → has_table (shape_of t) (ids_of t) ≡ true → length tb < 2 ^ 31 → cb ≡ vector_block bs → length cb < 2 ^ 31
-    → IfOk r (λ b. IsNesting bs t name nullable texts b.items)
-unfolding IsNesting
-nest_ok (Err e) bs t name nullable texts nb tb cb mb tag is few named written tagged same sound low vector small = tt
-nest_ok (Ok b) bs t name nullable texts nb tb cb mb tag is few named written tagged same sound low vector small = λ levels each.
-    let size : length (vector_block bs) < 2 ^ 31 = subst (λ l. length l < 2 ^ 31) vector small in
-    let nested : Holds (columns_read levels) cb (nested_columns t) = subst (λ l. Holds (columns_read levels) l (nested_columns t)) (sym vector) (columns_hold levels bs (nested_columns t) each (omega (arith, size))) in
-    let typing : IsType tag tb (nested_columns t) (known t) = rw (tagged, same) (table_is t sound (subst (λ l. length l < 2 ^ 31) same low)) in
-    let long : length b.items ≡ length (column_block nb tb cb mb nullable tag) = ap length is in
-    subst (λ l. Holds (column_in levels) l (record { name = name; data_type = known t; nullable = nullable; metadata = texts })) (sym is)
-    (column_holds levels nb tb cb mb nullable tag name (nested_columns t) (known t) texts named typing nested written (omega (arith, long, few)))
-
-pub data_ok : (r : Result (Vec ℕ Global) Refusal) (bs : List (List ℕ)) (t : Tree) (name : Text) (nullable : Bool) (texts : Metadata) (levels room : ℕ) → IfOk r (λ b. IsNesting bs t name nullable texts b.items)
-    → HoldsEach (levels - 1) bs (nested_columns t) room → 0 < levels → IfOk r (λ b. Holds (child_in levels) b.items (record { name = name; data_type = known t; nullable = nullable; metadata = texts }))
-unfolding IsNesting
-data_ok (Err e) bs t name nullable texts levels room h each some = tt
-data_ok (Ok b) bs t name nullable texts levels room h each some =
-    let next : suc (levels - 1) ≡ levels = omega arith in
-    subst (λ k. Holds (child_in k) b.items (record { name = name; data_type = known t; nullable = nullable; metadata = texts })) next (h (levels - 1) each.each)
-
-pub data_most : (r : Result (Vec ℕ Global) Refusal) (bs : List (List ℕ)) (cs : List ColumnTree) (levels n m k room : ℕ) → IfOk r (λ b. length b.items ≤ n + (k + length (vector_block bs)) + m) → HoldsEach levels bs cs room
-    → IfOk r (λ b. length b.items ≤ n + (k + room) + m)
-data_most (Err e) bs cs levels n m k room h each = tt
-data_most (Ok b) bs cs levels n m k room h each = let size = length_vector bs in let most = each.most in omega (arith, h, size, most)
-
 pub vector_room : (bs : List (List ℕ)) (cs : List ColumnTree) (levels room : ℕ) → HoldsEach levels bs cs room → length (vector_block bs) ≤ room
 vector_room bs cs levels room each = let size = length_vector bs in let most = each.most in omega (arith, size, most)
+
+pub nest_holds : (bs : List (List ℕ)) (t : Tree) (name : Text) (nullable : Bool) (texts : Metadata) (nb tb cb mb : List ℕ) (tag : ℕ)
+    → length (column_block nb tb cb mb nullable tag) < 2 ^ 31 → Holds text_read nb name → Holds texts_read mb texts → tag ≡ shape_tag (shape_of t)
+    → (has_table (shape_of t) (ids_of t) ≡ true) × ((tb ≡ shape_bytes (shape_of t) (ids_of t)) × (length (shape_bytes (shape_of t) (ids_of t)) < 2 ^ 31)) → (cb ≡ vector_block bs) × (length (vector_block bs) < 2 ^ 31)
+    → IsNesting bs t name nullable texts (column_block nb tb cb mb nullable tag)
+unfolding IsNesting
+nest_holds bs t name nullable texts nb tb cb mb tag few named written tagged table vector = λ levels each.
+    let nested : Holds (columns_read levels) cb (nested_columns t) = rw vector.0 (columns_hold levels bs (nested_columns t) each (omega (arith, vector.1))) in
+    let typing : IsType tag tb (nested_columns t) (known t) = rw (tagged, table.1.0) (table_is t table.0 table.1.1) in
+    column_holds levels nb tb cb mb nullable tag name (nested_columns t) (known t) texts named typing nested written (omega (arith, few))
+
+pub data_gives : (r : Result (Vec ℕ Global) WriteError) (bs : List (List ℕ)) (t : Tree) (name : Text) (nullable : Bool) (texts : Metadata) (levels : ℕ)
+    → Gives (IsNesting bs t name nullable texts) (is_sound t ≡ false) (60 + length name + (table_room t + length (vector_block bs)) + texts_room texts) r → HoldsEach (levels - 1) bs (nested_columns t) (nested_room t) → 0 < levels
+    → Gives (λ b. Holds (child_in levels) b (record { name = name; data_type = known t; nullable = nullable; metadata = texts })) (IsUnfit levels t) (column_room name t texts) r
+unfolding IsNesting
+data_gives (Err e) bs t name nullable texts levels h each some =
+    let room = vector_room bs (nested_columns t) (levels - 1) (nested_room t) each in
+    refuses_more e (is_sound t ≡ false) (IsUnfit levels t) _ _ (λ e. inl e) (omega (arith, room)) h
+data_gives (Ok b) bs t name nullable texts levels h each some =
+    let room = vector_room bs (nested_columns t) (levels - 1) (nested_room t) each in
+    let next : suc (levels - 1) ≡ levels = omega arith in
+    (subst (λ k. Holds (child_in k) b.items (record { name = name; data_type = known t; nullable = nullable; metadata = texts })) next (h.0 (levels - 1) each.each), omega (arith, h.1, room))

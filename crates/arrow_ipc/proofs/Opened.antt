@@ -3,7 +3,7 @@ use Rattle.std.proofs.Common.{◌≡◌, ℕ, ◌+◌, ◌%◌, ◌≤◌, Bool,
 use Rattle.std.proofs.lemmas.Bool.Decides.{nat_tests}
 use Rattle.arrow_ipc.specs.Fault.{◌>>=◌, breaks}
 use Rattle.arrow_ipc.specs.Wire.{vtable_at, u16_at, u32_at, ahead, utf8_at, opened_at, slot_of, slot_at}
-use Rattle.arrow_ipc.specs.Slots.{number_or, led_to, needed, u16_in, u32_in, text_in, table_in, needed_text_in}
+use Rattle.arrow_ipc.specs.Slots.{number_or, led_to, needed, u16_in, u32_in, text_in, table_in}
 use Rattle.arrow_ipc.specs.Longs.{u64_at, u64_in}
 use Rattle.arrow_ipc.specs.declared.fault.Rule.{Rule}
 use Rattle.arrow_ipc.specs.declared.fault.Rule.TheVariants.{Vtable}
@@ -56,6 +56,6 @@ module _ (bytes : List ℕ) (at i : ℕ) where
   unfolding text_in slot_at
   text_opens = refl
 
-  pub key_opens : needed_text_in bytes at i ≡ (opened_at bytes at >>= slot_of bytes i >>= needed bytes at >>= utf8_at bytes)
-  unfolding needed_text_in table_in slot_at
-  key_opens = refl
+  pub table_opens : table_in bytes at i ≡ (opened_at bytes at >>= slot_of bytes i >>= needed bytes at)
+  unfolding table_in slot_at
+  table_opens = refl

@@ -1,75 +1,117 @@
 -- From what a step returned to what a call returned.
-use Rattle.std.proofs.Common.{◌≡◌, ℕ, ◌+◌, ◌-◌, ◌<◌, ◌≤◌, Result, Ok, Err, refl, sym, ap, ◌∙◌, subst, arith}
-use Rattle.arrow_ipc.specs.Fault.{◌>>=◌}
-use Rattle.arrow_ipc.specs.Tells.{Fails, Tells, Says}
+use Rattle.std.proofs.Common.{◌≡◌, ℕ, ◌+◌, ◌-◌, ◌<◌, ◌≤◌, Result, Ok, Err, refl, sym, ap, ◌∙◌, subst, arith, suc, ap₂, List, length}
+use Rattle.arrow_columns.specs.Column.{ColumnTree, column_tree}
+use Rattle.arrow_columns.specs.declared.column.Column.{Column}
+use Rattle.arrow_ipc.specs.Fault.{◌>>=◌, breaks}
+use Rattle.arrow_ipc.specs.Tells.{Fails, Tells, Says, ◌>>+◌, gather}
 use Rattle.arrow_ipc.specs.declared.fault.Fault.{Fault}
 use Rattle.arrow_ipc.specs.declared.fault.IpcError.{IpcError}
 use Rattle.arrow_ipc.specs.declared.fault.IpcError.TheVariants.{Broken, Budget, OutOfMemory}
-
--- an error was handed on
-pub told : {X A : Type 0} (view : X → A) (there : Result (A × ℕ) Fault) (old new : ℕ) (r : Result X IpcError) (e : IpcError) → r ≡ Err e → Fails there old e → Tells view there old new r
-told view there old new (Ok x) e is f = absurd (cc)
-told view there old new (Err d) e is f = let same : e ≡ d = cc in subst (Fails there old) same f
+use Rattle.arrow_ipc.specs.Parts.{Own, parts_at}
+use Rattle.arrow_ipc.specs.Columns.{columns_by, finished, priced, column_at}
+use Rattle.arrow_ipc.specs.declared.fault.Rule.TheVariants.{Depth}
 
 -- what a chain of two gave came from both
 pub bound : {A B : Type 0} (r : Result A Fault) (f : A → Result B Fault) (y : B) → (r >>= f) ≡ Ok y → (x : A) × (r ≡ Ok x) × (f x ≡ Ok y)
 bound (Err e) f y is = absurd (cc)
 bound (Ok x) f y is = (x, refl, is)
 
--- a fault of the first step is one of the whole
-pub first_fails : {A B : Type 0} (step : Result (A × ℕ) Fault) (rest : A × ℕ → Result (B × ℕ) Fault) (old : ℕ)
-    → ((x : A × ℕ) (v : B × ℕ) → rest x ≡ Ok v → x.1 ≤ v.1) → (e : IpcError) → Fails step old e → Fails (step >>= rest) old e
-first_fails step rest old least (Broken fault) f = ap (λ r. r >>= rest) f
-first_fails step rest old least (Budget place) f = λ v is.
-    let parts = bound step rest v is in
-    let low = least parts.0 v parts.2 in
-    let dear = f parts.0 parts.1 in
-    omega (arith, low, dear)
-first_fails step rest old least OutOfMemory f = tt
-
--- and one of a later step, where so much was taken before
-pub later_fails : {A : Type 0} (there rest : Result (A × ℕ) Fault) (paid left old : ℕ) → there ≡ (rest >>= λ x. Ok (x.0, paid + x.1)) → left + paid ≡ old
-    → (e : IpcError) → Fails rest left e → Fails there old e
-later_fails there rest paid left old same sum (Broken fault) f = same ∙ ap (λ r. r >>= λ x. Ok (x.0, paid + x.1)) f
-later_fails there rest paid left old same sum (Budget place) f = λ v is.
-    let parts = bound rest (λ x. Ok (x.0, paid + x.1)) v (sym same ∙ is) in
-    let dear = f parts.0 parts.1 in
-    let whole : (parts.0.0, paid + parts.0.1) ≡ v = cc (parts.2) in
-    subst (λ v. old < v.1) whole (omega (arith, dear, sum))
-later_fails there rest paid left old same sum OutOfMemory f = tt
-
--- the first step breaks a rule
-pub at_first : {A B : Type 0} (step : Result A Fault) (rest : A → Result (B × ℕ) Fault) (old : ℕ) (fault : Fault) → step ≡ Err fault → Fails (step >>= rest) old (Broken fault)
-at_first step rest old fault e = ap (λ r. r >>= rest) e
-
--- a later step fails
-pub after : {A B : Type 0} (step : Result A Fault) (rest : A → Result (B × ℕ) Fault) (x : A) (old : ℕ) (e : IpcError) → step ≡ Ok x → Fails (rest x) old e → Fails (step >>= rest) old e
-after step rest x old e is f = subst (λ r. Fails (r >>= rest) old e) (sym is) f
-
 -- what there is takes too much
 pub too_dear : {A : Type 0} (there : Result (A × ℕ) Fault) (x : A × ℕ) (old place : ℕ) → there ≡ Ok x → old < x.1 → Fails there old (Budget place)
 too_dear there x old place is less = λ v e. let same : x ≡ v = cc in subst (λ v. old < v.1) same less
 
--- a step without a budget fails
+-- an error was handed on
+pub told : {X A : Type 0} (view : X → A) (there : Result (A × ℕ) Fault) (old new : ℕ) (r : Result X IpcError) (e : IpcError) → r ≡ Err e → Fails there old e → Tells view there old new r
+told view there old new (Ok x) e is f = absurd (cc)
+told view there old new (Err d) e is f = let same : e ≡ d = cc in subst (Fails there old) same f
+
+-- what fails first fails in all, whatever comes after
+pub first_fails : {A B : Type 0} (step : Result (A × ℕ) Fault) (rest : A → Result (B × ℕ) Fault) (old : ℕ) (e : IpcError) → Fails step old e → Fails (step >>+ rest) old e
+first_fails step rest old (Broken fault) f = rw f refl
+first_fails (Err d) rest old (Budget place) f = λ v is. absurd (cc)
+first_fails (Ok x) rest old (Budget place) f = λ v is.
+    let last = bound (rest x.0) (λ y. Ok (y.0, x.1 + y.1)) v is in
+    let sum : x.1 + last.0.1 ≡ v.1 = cc (last.2) in
+    let dear = f x refl in
+    omega (arith, sum, dear)
+first_fails step rest old OutOfMemory f = tt
+
+-- and where the first step was taken, the rest tells all
+pub then_tells : {X A B : Type 0} (view : X → B) (step : Result (A × ℕ) Fault) (rest : A → Result (B × ℕ) Fault) (x : A) (old mid new : ℕ) (r : Result X IpcError)
+    → (mid ≤ old) × (step ≡ Ok (x, old - mid)) → Tells view (rest x) mid new r → Tells view (step >>+ rest) old new r
+then_tells view step rest x old mid new (Ok y) one f = (omega (arith, one.0, f.0), rw (one.1, f.1) (ap (λ (n : ℕ). Ok (view y, n)) (omega (arith, one.0, f.0))))
+then_tells view step rest x old mid new (Err (Broken fault)) one f = rw (one.1, f) refl
+then_tells view step rest x old mid new (Err (Budget place)) one f = λ v is.
+    let last = bound (rest x) (λ y. Ok (y.0, old - mid + y.1)) v (sym (ap (λ r. r >>+ rest) one.1) ∙ is) in
+    let sum : old - mid + last.0.1 ≡ v.1 = cc (last.2) in
+    let dear = f last.0 last.1 in
+    omega (arith, sum, dear, one.0)
+then_tells view step rest x old mid new (Err OutOfMemory) one f = tt
+
+-- what is made of it takes as much
+pub made_fails : {A B : Type 0} (step : Result (A × ℕ) Fault) (f : A → B) (old : ℕ) (e : IpcError) → Fails step old e → Fails (step >>= λ x. Ok (f x.0, x.1)) old e
+made_fails step f old (Broken fault) h = rw h refl
+made_fails (Err d) f old (Budget place) h = λ v is. absurd (cc)
+made_fails (Ok x) f old (Budget place) h = λ v is. let same : x.1 ≡ v.1 = cc (is) in let dear = h x refl in omega (arith, same, dear)
+made_fails step f old OutOfMemory h = tt
+
+-- a step without a budget fails, before others without one, and before others with one
+says_first : {X Y A B : Type 0} (view : X → A) (over : Y → B) (step : Result A Fault) (rest : A → Result B Fault) (e : IpcError) → Says view step (Err e) → Says over (step >>= rest) (Err e)
+says_first view over step rest (Broken fault) f = rw f refl
+says_first view over step rest (Budget place) f = absurd f
+says_first view over step rest OutOfMemory f = tt
+
+pub said : {X Y A B : Type 0} (view : X → A) (over : Y → B) (step : Result A Fault) (rest : A → Result B Fault) (r : Result Y IpcError) (e : IpcError) → r ≡ Err e → Says view step (Err e) → Says over (step >>= rest) r
+said view over step rest (Ok y) e is f = absurd (cc)
+said view over step rest (Err d) e is f = let same : e ≡ d = cc in subst (λ e. Says over (step >>= rest) (Err e)) same (says_first view over step rest e f)
+
 pub says_fails : {X A B : Type 0} (view : X → A) (step : Result A Fault) (rest : A → Result (B × ℕ) Fault) (old : ℕ) (e : IpcError) → Says view step (Err e) → Fails (step >>= rest) old e
-says_fails view step rest old (Broken fault) f = ap (λ r. r >>= rest) f
+says_fails view step rest old (Broken fault) f = rw f refl
 says_fails view step rest old (Budget place) f = absurd f
 says_fails view step rest old OutOfMemory f = tt
 
--- and hands its error on
-pub said : {X A : Type 0} (view : X → A) (there : Result A Fault) (r : Result X IpcError) (e : IpcError) → r ≡ Err e → Says view there (Err e) → Says view there r
-said view there (Ok x) e is f = absurd (cc)
-said view there (Err d) e is f = let same : e ≡ d = cc in subst (λ e. Says view there (Err e)) same f
+-- ---- what a loop gathers, one element after the other: what is still gathered tells all
 
-pub said_first : {X Y A B : Type 0} (view : X → A) (over : Y → B) (step : Result A Fault) (rest : A → Result B Fault) (e : IpcError) → Says view step (Err e) → Says over (step >>= rest) (Err e)
-said_first view over step rest (Broken fault) f = ap (λ r. r >>= rest) f
-said_first view over step rest (Budget place) f = absurd f
-said_first view over step rest OutOfMemory f = tt
+module _ {X S : Type 0} (view : X → S) (put : S → ℕ → Result (S × ℕ) Fault) (s : S) (i count old : ℕ) where
+  turn : i < count → gather put s i (count - i) ≡ (put s i >>+ λ x. gather put x (i + 1) (count - (i + 1)))
+  unfolding gather
+  turn more = let k : count - i ≡ suc (count - (i + 1)) = omega arith in rw k refl
 
--- the last step, where so much was taken before
-pub tells_later : {X A : Type 0} (view : X → A) (there rest : Result (A × ℕ) Fault) (paid old mid new : ℕ) (r : Result X IpcError)
-    → there ≡ (rest >>= λ x. Ok (x.0, paid + x.1)) → mid + paid ≡ old → Tells view rest mid new r → Tells view there old new r
-tells_later view there rest paid old mid new (Ok x) same sum f =
-    let all : there ≡ Ok (view x, paid + (mid - new)) = same ∙ ap (λ r. r >>= λ x. Ok (x.0, paid + x.1)) f.1 in
-    (omega (arith, f.0, sum), all ∙ ap (λ (n : ℕ). Ok (view x, n)) (omega (arith, f.0, sum)))
-tells_later view there rest paid old mid new (Err e) same sum f = later_fails there rest paid mid old same sum e f
+  pub goes_on : i < count → (t : S) (mid new : ℕ) (r : Result X IpcError) → (mid ≤ old) × (put s i ≡ Ok (t, old - mid))
+      → Tells view (gather put t (i + 1) (count - (i + 1))) mid new r → Tells view (gather put s i (count - i)) old new r
+  goes_on more t mid new r one f = rw (turn more) (then_tells view (put s i) (λ x. gather put x (i + 1) (count - (i + 1))) t old mid new r one f)
+
+  pub breaks_off : i < count → (new : ℕ) (r : Result X IpcError) (e : IpcError) → r ≡ Err e → Fails (put s i) old e → Tells view (gather put s i (count - i)) old new r
+  breaks_off more new r e is f = rw (turn more) (told view (put s i >>+ λ x. gather put x (i + 1) (count - (i + 1))) old new r e is (first_fails (put s i) (λ x. gather put x (i + 1) (count - (i + 1))) old e f))
+
+  pub is_done : count ≤ i → (x : X) → view x ≡ s → Tells view (gather put s i (count - i)) old old (Ok x)
+  unfolding gather
+  is_done le x same =
+      let k : count - i ≡ 0 = omega arith in
+      (omega arith, rw k (ap₂ (λ (t : S) (n : ℕ). Ok (t, n)) (sym same) (omega arith)))
+
+-- ---- a column, by what its own table says
+
+module _ (bytes : List ℕ) (at depth : ℕ) where
+  pub too_deep : depth ≡ 0 → column_at depth bytes at ≡ breaks Depth at
+  unfolding column_at
+  too_deep none = rw none refl
+
+  abbrev pub rest : Own → Result (ColumnTree × ℕ) Fault
+  rest p = columns_by (column_at (depth - 1) bytes) p.children >>+ finished bytes p
+
+  steps : 0 < depth → column_at depth bytes at ≡ (priced (parts_at bytes at) >>+ rest)
+  unfolding column_at
+  steps some = let k : depth ≡ suc (depth - 1) = omega arith in ap (λ d. column_at d bytes at) k
+
+  module _ (some : 0 < depth) where
+    pub no_parts : (fault : Fault) → parts_at bytes at ≡ Err fault → column_at depth bytes at ≡ Err fault
+    no_parts fault is = steps some ∙ rw is refl
+
+    module _ (p : Own) (is : parts_at bytes at ≡ Ok p) where
+      pub too_poor : (old place : ℕ) → old < 16 + length p.name + length p.zone → Fails (column_at depth bytes at) old (Budget place)
+      too_poor old place less = rw (steps some) (first_fails (priced (parts_at bytes at)) rest old (Budget place) (too_dear (priced (parts_at bytes at)) (p, 16 + length p.name + length p.zone) old place (rw is refl) less))
+
+      pub with_parts : (old left new : ℕ) (r : Result Column IpcError) → left + (16 + length p.name + length p.zone) ≡ old → Tells column_tree (rest p) left new r → Tells column_tree (column_at depth bytes at) old new r
+      with_parts old left new r sum f =
+          rw (steps some) (then_tells column_tree (priced (parts_at bytes at)) rest p old left new r (omega (arith, sum), rw is (ap (λ (n : ℕ). Ok (p, n)) (omega (arith, sum)))) f)

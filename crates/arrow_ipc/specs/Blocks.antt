@@ -8,11 +8,12 @@ use Rattle.arrow_values.specs.declared.tree.UnionMode.{UnionMode}
 use Rattle.arrow_values.specs.declared.tree.UnionMode.TheVariants.{Sparse, Dense}
 use Rattle.arrow_columns.specs.Column.{TypeTree, ColumnTree}
 use Rattle.arrow_ipc.specs.Fault.{◌>>=◌, breaks}
+use Rattle.arrow_ipc.specs.Tells.{◌>>+◌}
 use Rattle.arrow_ipc.specs.Wire.{slot_at, utf8_at, vector_at}
 use Rattle.arrow_ipc.specs.Kinds.{kind_at}
 use Rattle.arrow_ipc.specs.Types.{type_of}
 use Rattle.arrow_ipc.specs.Parts.{zone_in, ids_in, parts_in}
-use Rattle.arrow_ipc.specs.Columns.{entry_in, entry_price, texts_at, ids_at, ids_of_kind, counted, columns_by, column_at, finished, price}
+use Rattle.arrow_ipc.specs.Columns.{entry_in, entry_price, texts_at, ids_at, ids_of_kind, counted, columns_by, column_at, finished, priced}
 use Rattle.arrow_ipc.specs.declared.fault.Fault.{Fault}
 use Rattle.arrow_ipc.specs.declared.fault.Rule.TheVariants.{Depth}
 use Rattle.arrow_ipc.specs.declared.kinds.Kind.{Kind}
@@ -83,11 +84,7 @@ abbrev pub texts_read : List ℕ → ℕ → Result (Metadata × ℕ) Fault
 texts_read bytes at = vector_at bytes at >>= texts_at bytes
 
 unfoldable pub column_in : ℕ → List ℕ → ℕ → Result (ColumnTree × ℕ) Fault
-column_in depth bytes table = do
-  p ← parts_in bytes table
-  cs ← columns_by (column_at depth bytes) p.children
-  c ← finished bytes p cs.0
-  Ok (c.0, price p + cs.1 + c.1)
+column_in depth bytes table = priced (parts_in bytes table) >>+ λ p. columns_by (column_at depth bytes) p.children >>+ finished bytes p
 
 -- a column that another nests, where so many levels are left
 abbrev pub child_in : ℕ → List ℕ → ℕ → Result (ColumnTree × ℕ) Fault

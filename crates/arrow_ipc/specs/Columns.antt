@@ -6,11 +6,11 @@ use Rattle.arrow_values.specs.Texts.{put_text}
 use Rattle.arrow_values.specs.Union.{has}
 use Rattle.arrow_columns.specs.Column.{TypeTree, ColumnTree}
 use Rattle.arrow_ipc.specs.Fault.{◌>>=◌, breaks}
-use Rattle.arrow_ipc.specs.Wire.{u32_at, target_at}
-use Rattle.arrow_ipc.specs.Slots.{needed_text_in}
+use Rattle.arrow_ipc.specs.Wire.{u32_at, target_at, utf8_at}
+use Rattle.arrow_ipc.specs.Slots.{table_in}
 use Rattle.arrow_ipc.specs.Parts.{Own, parts_at}
 use Rattle.arrow_ipc.specs.Types.{type_of, with_dictionary}
-use Rattle.arrow_ipc.specs.Tells.{gather}
+use Rattle.arrow_ipc.specs.Tells.{◌>>+◌, gather}
 use Rattle.arrow_ipc.specs.declared.fault.Fault.{Fault}
 use Rattle.arrow_ipc.specs.declared.fault.Rule.TheVariants.{Children, TypeIds, Depth}
 use Rattle.arrow_ipc.specs.declared.kinds.Kind.{Kind}
@@ -19,8 +19,8 @@ use Rattle.arrow_ipc.specs.declared.kinds.Kind.TheVariants.{Union}
 -- an entry of metadata: slot 0 of its table is its key, slot 1 its text. The last text of a key counts
 unfoldable pub entry_in : List ℕ → ℕ → Result (Text × Text) Fault
 entry_in bytes table = do
-  key ← needed_text_in bytes table 0
-  text ← needed_text_in bytes table 1
+  key ← (table_in bytes table 0 >>= utf8_at bytes)
+  text ← (table_in bytes table 1 >>= utf8_at bytes)
   Ok (key, text)
 
 -- the entry to which the offset at a position leads
@@ -91,8 +91,8 @@ finished bytes p cs = do
   ms ← texts_at bytes p.texts
   Ok (record { name = p.name; data_type = t; nullable = p.nullable; metadata = ms.0 }, ms.1)
 
-abbrev pub price : Own → ℕ
-price p = 16 + length p.name + length p.zone
+abbrev pub priced : Result Own Fault → Result (Own × ℕ) Fault
+priced parts = parts >>= λ p. Ok (p, 16 + length p.name + length p.zone)
 
 abbrev pub put_column : (ℕ → Result (ColumnTree × ℕ) Fault) → ℕ → List ColumnTree → ℕ → Result (List ColumnTree × ℕ) Fault
 put_column read start cs i = do
@@ -106,8 +106,4 @@ columns_by read v = gather (put_column read v.0) [] 0 v.1
 -- the column to which the offset at a position leads, no more than so many levels deep, and what it takes
 unfoldable pub column_at : ℕ → List ℕ → ℕ → Result (ColumnTree × ℕ) Fault
 column_at zero bytes at = breaks Depth at
-column_at (suc depth) bytes at = do
-  p ← parts_at bytes at
-  cs ← columns_by (column_at depth bytes) p.children
-  c ← finished bytes p cs.0
-  Ok (c.0, price p + cs.1 + c.1)
+column_at (suc depth) bytes at = priced (parts_at bytes at) >>+ λ p. columns_by (column_at depth bytes) p.children >>+ finished bytes p

@@ -1,13 +1,16 @@
 -- Which types a message can hold, and how many bytes a schema takes at most.
-use Rattle.std.specs.Prelude.{◌≡◌, ℕ, ◌+◌, ◌*◌, ◌^◌, ◌≤◌, ◌⊎◌, ℤ, pos, negsuc, Bool, true, false, ◌&&◌, List, [], ◌∷◌, length, nat_lt}
+use Rattle.std.specs.Prelude.{◌≡◌, ℕ, ◌+◌, ◌*◌, ◌^◌, ◌<◌, ◌≤◌, ◌⊎◌, Option, Result, Ok, Err, ℤ, pos, negsuc, Bool, true, false, ◌&&◌, List, [], ◌∷◌, length, nat_lt}
 use Rattle.std.specs.List.{concat, AllZip}
+use Rattle.std.specs.declared.vec.Vec.{Vec}
+use Rattle.std.specs.declared.alloc.Global.{Global}
 use Rattle.arrow_values.specs.Tree.{Text, Metadata, Tree, plain, list, large_list, fixed_size_list, struct, union, FieldTrees, no_fields, field, MemberTrees, no_members, member, FieldTree, depth}
 use Rattle.arrow_columns.specs.Column.{TypeTree, known, other, ColumnTree}
 use Rattle.arrow_ipc.specs.Schema.{SchemaTree}
 use Rattle.arrow_ipc.specs.Blocks.{Holds, column_in, child_in}
-use Rattle.arrow_ipc.specs.Shapes.{member_ids, are_ids, nested_columns}
-use Rattle.arrow_ipc.specs.declared.blocks.Refusal.{Refusal}
-use Rattle.arrow_ipc.specs.declared.blocks.Refusal.TheVariants.{Unfit, TooLarge, OutOfMemory}
+use Rattle.arrow_ipc.specs.Shapes.{member_ids, are_ids, nested_columns, shape_tag, shape_bytes, has_table}
+use Rattle.arrow_ipc.specs.declared.shapes.Shape.{Shape}
+use Rattle.arrow_ipc.specs.declared.write.WriteError.{WriteError}
+use Rattle.arrow_ipc.specs.declared.write.WriteError.TheVariants.{Column, TooLarge, OutOfMemory}
 
 abbrev pub is_size : ℤ → Bool
 is_size (pos n) = nat_lt n (2 ^ 31)
@@ -90,10 +93,30 @@ abbrev pub schema_room : SchemaTree → ℕ
 schema_room s = 72 + columns_room s.columns + texts_room s.metadata
 
 -- why a block is not written
-abbrev pub Refuses : Refusal → Type 0 → ℕ → Type 0
-Refuses Unfit unfit room = unfit
+abbrev pub Refuses : WriteError → Type 0 → ℕ → Type 0
+Refuses (Column i) unfit room = unfit
 Refuses TooLarge unfit room = 2 ^ 31 ≤ room
 Refuses OutOfMemory unfit room = Unit {0}
+
+-- that block was made, or why not
+abbrev pub Makes : List ℕ → Result (Vec ℕ Global) WriteError → Type 0
+Makes block (Ok b) = (b.items ≡ block) × (length block < 2 ^ 31)
+Makes block (Err e) = Refuses e ⊥ (length block)
+
+-- and where only what is sound has a block
+abbrev pub MakesSound : Bool → List ℕ → Result (Vec ℕ Global) WriteError → Type 0
+MakesSound sound block (Ok b) = (sound ≡ true) × ((b.items ≡ block) × (length block < 2 ^ 31))
+MakesSound sound block (Err e) = Refuses e (sound ≡ false) (length block)
+
+-- a type's tag and table
+abbrev pub IsTable : Option Shape → List ℤ → Result (ℕ × Vec ℕ Global) WriteError → Type 0
+IsTable shape ids (Ok p) = (p.0 ≡ shape_tag shape) × MakesSound (has_table shape ids) (shape_bytes shape ids) (Ok p.1)
+IsTable shape ids (Err e) = Refuses e (has_table shape ids ≡ false) (length (shape_bytes shape ids))
+
+-- a block was made of which that is so, in so much room; or why not
+abbrev pub Gives : (List ℕ → Type 0) → Type 0 → ℕ → Result (Vec ℕ Global) WriteError → Type 0
+Gives P unfit room (Ok b) = P b.items × (length b.items ≤ room)
+Gives P unfit room (Err e) = Refuses e unfit room
 
 -- a type that no message can hold where so many levels are left
 abbrev pub IsUnfit : ℕ → Tree → Type 0

@@ -6,11 +6,11 @@ use Rattle.arrow_values.specs.Tree.{Metadata}
 use Rattle.arrow_values.specs.View.{texts_of}
 use Rattle.arrow_columns.specs.Column.{ColumnTree, column_tree}
 use Rattle.arrow_ipc.specs.Fault.{◌>>=◌, breaks}
-use Rattle.arrow_ipc.specs.Wire.{u32_at, target_at}
+use Rattle.arrow_ipc.specs.Wire.{u32_at, target_at, vector_at}
 use Rattle.arrow_ipc.specs.Longs.{u64_in}
-use Rattle.arrow_ipc.specs.Slots.{u8_in, u16_in, table_in, vector_in, needed_vector_in}
+use Rattle.arrow_ipc.specs.Slots.{u8_in, u16_in, table_in, vector_in}
 use Rattle.arrow_ipc.specs.Columns.{texts_at, columns_by, column_at}
-use Rattle.arrow_ipc.specs.Tells.{Fails}
+use Rattle.arrow_ipc.specs.Tells.{Fails, ◌>>+◌}
 use Rattle.arrow_ipc.specs.declared.fault.Fault.{Fault}
 use Rattle.arrow_ipc.specs.declared.fault.IpcError.{IpcError}
 use Rattle.arrow_ipc.specs.declared.fault.IpcError.TheVariants.{Broken}
@@ -32,17 +32,21 @@ schema_tree s = record { columns = map column_tree s.columns.items; metadata = t
 unfoldable pub head_at : List ℕ → ℕ → Result Head Fault
 head_at bytes table = do
   order ← u16_in bytes table 0 0
-  fields ← needed_vector_in bytes table 1
+  fields ← (table_in bytes table 1 >>= vector_at bytes)
   texts ← vector_in bytes table 2
   Ok (record { endianness = if order == 0 then Little else Big; fields = fields; texts = texts })
+
+-- a schema whose columns are read
+abbrev pub with_columns : List ℕ → Head → List ColumnTree → Result (SchemaTree × ℕ) Fault
+with_columns bytes h cs = do
+  ms ← texts_at bytes h.texts
+  Ok (record { columns = cs; metadata = ms.0; endianness = h.endianness }, ms.1)
 
 -- the schema of a table, whose columns are no more than so many levels deep, and what it takes
 unfoldable pub schema_at : ℕ → List ℕ → ℕ → Result (SchemaTree × ℕ) Fault
 schema_at levels bytes table = do
   h ← head_at bytes table
-  cs ← columns_by (column_at levels bytes) h.fields
-  ms ← texts_at bytes h.texts
-  Ok (record { columns = cs.0; metadata = ms.0; endianness = h.endianness }, cs.1 + ms.1)
+  columns_by (column_at levels bytes) h.fields >>+ with_columns bytes h
 
 -- version 4 is written 3, version 5 is written 4
 abbrev pub is_version : ℕ → Bool
@@ -88,11 +92,15 @@ footer_in bytes = if nat_lt (length bytes) 10 then breaks Envelope 0 else (do
   size ← size_before_magic (length bytes - 10) (drop (length bytes - 10) bytes)
   if nat_le size (length bytes - 10) then cut (take (length bytes - 10) bytes) (length bytes - 10 - size) size else breaks Envelope (length bytes - 10))
 
+-- the schema whose table is there
+abbrev pub schema_of : ℕ → Result ℕ Fault → List ℕ → Result (SchemaTree × ℕ) Fault
+schema_of levels place bytes = place >>= schema_at levels bytes
+
 unfoldable pub schema_of_message : ℕ → List ℕ → Result (SchemaTree × ℕ) Fault
-schema_of_message levels bytes = message_at bytes >>= schema_at levels bytes
+schema_of_message levels bytes = schema_of levels (message_at bytes) bytes
 
 unfoldable pub schema_of_footer : ℕ → List ℕ → Result (SchemaTree × ℕ) Fault
-schema_of_footer levels bytes = footer_at bytes >>= schema_at levels bytes
+schema_of_footer levels bytes = schema_of levels (footer_at bytes) bytes
 
 -- a call that reads a flatbuffer answers what it denotes, which takes no more than eight times its bytes; or says which rule is
 -- broken where, or that it takes more

@@ -43,9 +43,3 @@ vector_in bytes table i = slot_at bytes table i >>= led_to (0, 0) (vector_at byt
 -- where a slot leads that the table must have
 unfoldable pub table_in : List ℕ → ℕ → ℕ → Result ℕ Fault
 table_in bytes table i = slot_at bytes table i >>= needed bytes table
-
-unfoldable pub needed_text_in : List ℕ → ℕ → ℕ → Result (List ℕ) Fault
-needed_text_in bytes table i = table_in bytes table i >>= utf8_at bytes
-
-unfoldable pub needed_vector_in : List ℕ → ℕ → ℕ → Result (ℕ × ℕ) Fault
-needed_vector_in bytes table i = table_in bytes table i >>= vector_at bytes

@@ -23,10 +23,13 @@ Says view there (Err (Broken fault)) = there ≡ Err fault
 Says view there (Err (Budget place)) = ⊥
 Says view there (Err OutOfMemory) = Unit {0}
 
+-- one step after another, and what both take
+infixl 10 ◌>>+◌
+abbrev pub ◌>>+◌ : {A B : Type 0} → Result (A × ℕ) Fault → (A → Result (B × ℕ) Fault) → Result (B × ℕ) Fault
+(Ok x) >>+ f = f x.0 >>= λ y. Ok (y.0, x.1 + y.1)
+(Err e) >>+ f = Err e
+
 -- what so many elements give one after the other from an index on, each put to what came before, and what they take in all
 unfoldable pub gather : {S : Type 0} → (S → ℕ → Result (S × ℕ) Fault) → S → ℕ → ℕ → Result (S × ℕ) Fault
 gather put s i zero = Ok (s, 0)
-gather put s i (suc n) = do
-  x ← put s i
-  rest ← gather put x.0 (i + 1) n
-  Ok (rest.0, x.1 + rest.1)
+gather put s i (suc n) = put s i >>+ λ x. gather put x (i + 1) n

@@ -1,41 +1,12 @@
 //! Blocks of which a message is made, each of a length that is a multiple of eight.
-ghost use Rattle.std.specs.Prelude.{◌≡◌, ◌+◌, ◌*◌, ◌^◌, ◌<◌, ◌≤◌, ◌++◌, ◌∷◌, [], length, IfOk, IfErr, OnOk, map};
+ghost use Rattle.std.specs.Prelude.{◌≡◌, ◌+◌, ◌*◌, ◌^◌, ◌<◌, ◌++◌, ◌∷◌, [], length, OnOk, map};
 ghost use Rattle.arrow_values.specs.View.{texts_of};
 ghost use Rattle.arrow_ipc.specs.Blocks.{Holds, word, padded, linked, vector_block, table_size, table_block, text_read, entry_read, texts_read, type_block};
-ghost use Rattle.arrow_ipc.specs.Rooms.{Refuses, texts_room};
+ghost use Rattle.arrow_ipc.specs.Rooms.{Makes, Gives, texts_room};
 
-use std::alloc::{AllocError, AllocFailed, Global};
+use crate::write::WriteError;
+use std::alloc::{AllocError, Global};
 use std::collections::BTreeMap;
-
-/// Why a block is not written.
-#[derive(Clone, Copy)]
-pub(crate) enum Refusal {
-    /// No message can hold the type.
-    Unfit,
-    /// The message would have 2^31 bytes or more.
-    TooLarge,
-    OutOfMemory,
-}
-
-impl From<AllocError> for Refusal {
-    ghost use Rattle.arrow_ipc.specs.declared.blocks.Refusal.TheVariants.{OutOfMemory};
-
-    ghost from_gives = { λ _ e. e ≡ OutOfMemory };
-
-    fn from(_refused: AllocError) -> Refusal {
-        Refusal::OutOfMemory
-    }
-}
-
-impl<T: Drop> From<AllocFailed<T>> for Refusal {
-    ghost use Rattle.arrow_ipc.specs.declared.blocks.Refusal.TheVariants.{OutOfMemory};
-
-    ghost from_gives = { λ _ e. e ≡ OutOfMemory };
-
-    fn from(_refused: AllocFailed<T>) -> Refusal {
-        Refusal::OutOfMemory
-    }
-}
 
 /// Puts a number of four bytes, the least byte first.
 pub(crate) fn put_word(bytes: &mut Vec<u8>, number: u32) -> Result<(), AllocError>
@@ -55,13 +26,11 @@ fn pad(bytes: &mut Vec<u8>) -> Result<(), AllocError>
 }
 
 /// A text, with a NUL behind it.
-pub(crate) fn text_block(alloc: Global, text: &str) -> Result<Vec<u8>, Refusal>
-    ensures holds { IfOk result (λ b. Holds text_read b.items text.now) }
-    ensures most { IfOk result (λ b. length b.items ≤ 12 + length text.now) }
-    ensures err { IfErr result (λ e. Refuses e ⊥ (length text.now)) }
+pub(crate) fn text_block(alloc: Global, text: &str) -> Result<Vec<u8>, WriteError>
+    ensures { Gives (λ b. Holds text_read b text.now) ⊥ (12 + length text.now) result }
 {
     if text.len() >= 0x8000_0000 {
-        return Err(Refusal::TooLarge);
+        return Err(WriteError::TooLarge);
     }
     let mut block = Vec::new(alloc);
     put_word(&mut block, text.len() as u32)?;
@@ -77,27 +46,25 @@ pub(crate) fn linked_block(
     first: u32,
     blocks: &[Vec<u8>],
     rest: &[u8],
-) -> Result<Vec<u8>, Refusal>
-    ensures is { IfOk result (λ b. b.items ≡ linked first (map (λ v. v.items) blocks.now) rest.now) }
-    ensures small { IfOk result (λ b. length b.items < 2 ^ 31) }
-    ensures err { IfErr result (λ e. Refuses e ⊥ (length (linked first (map (λ v. v.items) blocks.now) rest.now))) }
+) -> Result<Vec<u8>, WriteError>
+    ensures { Makes (linked first (map (λ v. v.items) blocks.now) rest.now) result }
 {
     if blocks.len() >= 0x2000_0000 || rest.len() >= 0x8000_0000 {
-        return Err(Refusal::TooLarge);
+        return Err(WriteError::TooLarge);
     }
     let mut end = (4 + (4 * blocks.len() + rest.len()) + 7) / 8 * 8;
     let mut block = Vec::with_capacity(alloc, end)?;
     put_word(&mut block, first)?;
     'offsets: for one in blocks {
         if end >= 0x8000_0000 {
-            return Err(Refusal::TooLarge);
+            return Err(WriteError::TooLarge);
         }
         let at = block.len();
         put_word(&mut block, (end - at) as u32)?;
         end += one.len();
     }
     if end >= 0x8000_0000 {
-        return Err(Refusal::TooLarge);
+        return Err(WriteError::TooLarge);
     }
     block.extend_from_slice(rest)?;
     pad(&mut block)?;
@@ -114,11 +81,9 @@ pub(crate) fn table_block(
     slots: &[u8],
     numbers: &[u8],
     blocks: &[Vec<u8>],
-) -> Result<Vec<u8>, Refusal>
+) -> Result<Vec<u8>, WriteError>
     requires { table_size (map (λ v. v.items) blocks.now) numbers.now + 2 * length slots.now < 100 }
-    ensures is { IfOk result (λ b. b.items ≡ table_block slots.now numbers.now (map (λ v. v.items) blocks.now)) }
-    ensures small { IfOk result (λ b. length b.items < 2 ^ 31) }
-    ensures err { IfErr result (λ e. Refuses e ⊥ (length (table_block slots.now numbers.now (map (λ v. v.items) blocks.now)))) }
+    ensures { Makes (table_block slots.now numbers.now (map (λ v. v.items) blocks.now)) result }
 {
     let size = 4 + (4 * blocks.len() + numbers.len());
     let mut rest = Vec::with_capacity(alloc, numbers.len() + 4 + 2 * slots.len())?;
@@ -136,22 +101,18 @@ pub(crate) fn table_block(
 }
 
 /// A vector of tables, with their blocks behind it.
-pub(crate) fn vector_block(alloc: Global, blocks: &[Vec<u8>]) -> Result<Vec<u8>, Refusal>
-    ensures is { IfOk result (λ b. b.items ≡ vector_block (map (λ v. v.items) blocks.now)) }
-    ensures small { IfOk result (λ b. length b.items < 2 ^ 31) }
-    ensures err { IfErr result (λ e. Refuses e ⊥ (length (vector_block (map (λ v. v.items) blocks.now)))) }
+pub(crate) fn vector_block(alloc: Global, blocks: &[Vec<u8>]) -> Result<Vec<u8>, WriteError>
+    ensures { Makes (vector_block (map (λ v. v.items) blocks.now)) result }
 {
     if blocks.len() >= 0x2000_0000 {
-        return Err(Refusal::TooLarge);
+        return Err(WriteError::TooLarge);
     }
     linked_block(alloc, blocks.len() as u32, blocks, &[])
 }
 
 /// An entry of metadata.
-fn entry_block(alloc: Global, key: &str, text: &str) -> Result<Vec<u8>, Refusal>
-    ensures holds { IfOk result (λ b. Holds entry_read b.items (key.now, text.now)) }
-    ensures most { IfOk result (λ b. length b.items ≤ 48 + length key.now + length text.now) }
-    ensures err { IfErr result (λ e. Refuses e ⊥ (48 + length key.now + length text.now)) }
+fn entry_block(alloc: Global, key: &str, text: &str) -> Result<Vec<u8>, WriteError>
+    ensures { Gives (λ b. Holds entry_read b (key.now, text.now)) ⊥ (48 + length key.now + length text.now) result }
 {
     let first = text_block(alloc, key)?;
     let second = text_block(alloc, text)?;
@@ -162,10 +123,8 @@ fn entry_block(alloc: Global, key: &str, text: &str) -> Result<Vec<u8>, Refusal>
 pub(crate) fn texts_block(
     alloc: Global,
     texts: &BTreeMap<String, String>,
-) -> Result<Vec<u8>, Refusal>
-    ensures holds { IfOk result (λ b. Holds texts_read b.items (texts_of texts.now.entries)) }
-    ensures most { IfOk result (λ b. length b.items ≤ texts_room (texts_of texts.now.entries)) }
-    ensures err { IfErr result (λ e. Refuses e ⊥ (texts_room (texts_of texts.now.entries))) }
+) -> Result<Vec<u8>, WriteError>
+    ensures { Gives (λ b. Holds texts_read b (texts_of texts.now.entries)) ⊥ (texts_room (texts_of texts.now.entries)) result }
 {
     let mut blocks = Vec::new(alloc);
     'entries: for (key, text) in texts.iter() {
@@ -179,10 +138,8 @@ pub(crate) fn type_block(
     alloc: Global,
     number: Option<u32>,
     truth: Option<bool>,
-) -> Result<Vec<u8>, Refusal>
-    ensures is { IfOk result (λ b. b.items ≡ type_block number truth) }
-    ensures small { IfOk result (λ b. length b.items < 2 ^ 31) }
-    ensures err { IfErr result (λ e. Refuses e ⊥ 24) }
+) -> Result<Vec<u8>, WriteError>
+    ensures { Makes (type_block number truth) result }
 {
     let (number_place, number) = match number {
         Some(number) => (4, number),

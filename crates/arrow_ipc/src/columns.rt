@@ -10,9 +10,9 @@ ghost use Rattle.arrow_ipc.specs.Columns.{entry_at, put_entry, texts_at, id_at, 
 use crate::fault::{Fault, IpcError, Rule};
 use crate::kinds::Kind;
 use crate::parts::{Parts, parts_at};
-use crate::slots::needed_text_in;
+use crate::slots::table_in;
 use crate::types::{type_of, with_dictionary};
-use crate::wire::{open, target_at, u32_at};
+use crate::wire::{open, target_at, u32_at, utf8_at};
 use arrow_columns::{Column, ColumnType};
 use std::alloc::Global;
 use std::collections::BTreeMap;
@@ -42,13 +42,13 @@ fn spend(
 }
 
 /// The entry of metadata to which the offset at a position leads: its key and its text.
-#[tactic(auto, using(crate::proofs::Opened::key_opens), unfolding(crate::specs::Columns::entry_at, crate::specs::Columns::entry_in))]
+#[tactic(auto, using(crate::proofs::Opened::table_opens), unfolding(crate::specs::Columns::entry_at, crate::specs::Columns::entry_in))]
 fn entry_at(bytes: &[u8], at: usize) -> Result<(&str, &str), Fault>
     ensures { map_ok (λ e. (e.0.now, e.1.now)) result ≡ entry_at bytes.now at }
 {
     let table = open(bytes, target_at(bytes, at)?)?;
-    let key = needed_text_in(bytes, &table, 0)?;
-    let text = needed_text_in(bytes, &table, 1)?;
+    let key = utf8_at(bytes, table_in(bytes, &table, 0)?)?;
+    let text = utf8_at(bytes, table_in(bytes, &table, 1)?)?;
     Ok((key, text))
 }
 
@@ -72,7 +72,7 @@ fn put_entry(
 }
 
 /// The metadata to which the offsets of a vector lead.
-#[tactic(auto, using(crate::proofs::Gathered::starts_at), unfolding(crate::specs::Columns::texts_at))]
+#[tactic(auto, unfolding(crate::specs::Columns::texts_at))]
 pub(crate) fn read_texts(
     alloc: Global,
     bytes: &[u8],

@@ -3,7 +3,7 @@ ghost use Rattle.std.specs.Prelude.{◌≡◌, ◌∷◌, []};
 ghost use Rattle.arrow_values.specs.declared.tree.UnionMode.TheVariants.{Sparse, Dense};
 ghost use Rattle.arrow_ipc.specs.declared.kinds.Kind.TheVariants.{YearMonthInterval, DayTimeInterval, MonthDayNanoInterval, Union};
 ghost use Rattle.arrow_ipc.specs.Wire.{IsOpen};
-ghost use Rattle.arrow_ipc.specs.Kinds.{unit_in, choice_at, int_at, fits_byte, decimal_at, time_width, time_at, size_in, kind_at};
+ghost use Rattle.arrow_ipc.specs.Kinds.{unit_in, choice_at, int_at, decimal_at, time_width, time_at, size_in, kind_at};
 
 use crate::fault::{Fault, Rule};
 use crate::slots::{flag_in, u16_in, u32_in};
@@ -111,13 +111,6 @@ pub(crate) fn int_at(bytes: &[u8], table: &Table) -> Result<Kind, Fault>
     }
 }
 
-/// Whether a number in two's complement is one of a signed byte.
-fn fits_byte(number: u32) -> bool
-    ensures { result ≡ fits_byte number }
-{
-    number < 128 || 0xffff_ff80 <= number
-}
-
 /// A decimal by its precision, scale and width.
 #[tactic(auto, unfolding(crate::specs::Kinds::decimal_at))]
 fn decimal_at(bytes: &[u8], table: &Table) -> Result<Kind, Fault>
@@ -127,7 +120,7 @@ fn decimal_at(bytes: &[u8], table: &Table) -> Result<Kind, Fault>
     let precision = u32_in(bytes, table, 0, 0)?;
     let scale = u32_in(bytes, table, 1, 0)?;
     let width = u32_in(bytes, table, 2, 128)?;
-    if precision >= 128 || !fits_byte(scale) {
+    if precision >= 128 || (scale >= 128 && scale < 0xffff_ff80) {
         return Err(Fault::new(Rule::Parameter, table.at));
     }
     match width {

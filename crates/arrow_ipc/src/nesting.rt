@@ -1,15 +1,14 @@
 //! Columns of data types, with all that they nest.
-ghost use Rattle.std.specs.Prelude.{◌≡◌, ◌+◌, ◌*◌, ◌^◌, ◌<◌, ◌≤◌, ◌∷◌, [], length, map, IfOk, IfErr, false};
-ghost use Rattle.arrow_values.specs.View.{tree, texts_of, field_trees, member_trees};
-ghost use Rattle.arrow_columns.specs.Column.{known, column_tree};
-ghost use Rattle.arrow_ipc.specs.Schema.{schema_tree};
-ghost use Rattle.arrow_ipc.specs.Denotes.{IsStreamOf};
+ghost use Rattle.std.specs.Prelude.{◌≡◌, ◌+◌, length, map, IfOk, IfErr, false};
+ghost use Rattle.arrow_values.specs.View.{tree, texts_of};
+ghost use Rattle.arrow_columns.specs.Column.{known};
 ghost use Rattle.arrow_ipc.specs.Blocks.{Holds, child_in, vector_block};
 ghost use Rattle.arrow_ipc.specs.Shapes.{column_of, nested_fields};
-ghost use Rattle.arrow_ipc.specs.Rooms.{Refuses, IsUnfit, AreUnfit, HoldsEach, IsNesting, is_sound, table_room, column_room, nested_room, field_room, columns_room, texts_room};
+ghost use Rattle.arrow_ipc.specs.Rooms.{Refuses, Gives, IsUnfit, AreUnfit, HoldsEach, IsNesting, is_sound, table_room, column_room, field_room, columns_room, texts_room};
 
-use crate::blocks::{Refusal, table_block, text_block, texts_block, vector_block};
+use crate::blocks::{table_block, text_block, texts_block, vector_block};
 use crate::type_tables::type_table;
+use crate::write::WriteError;
 use arrow_values::{DataType, Field};
 use std::alloc::{AllocError, Global};
 use std::collections::BTreeMap;
@@ -22,10 +21,9 @@ fn finish_block(
     data_type: &DataType,
     texts: &BTreeMap<String, String>,
     blocks: &[Vec<u8>],
-) -> Result<Vec<u8>, Refusal>
-    ensures holds { IfOk result (λ b. IsNesting (map (λ v. v.items) blocks.now) (tree data_type.now) name.now nullable (texts_of texts.now.entries) b.items) }
-    ensures most { IfOk result (λ b. length b.items ≤ 60 + length name.now + (table_room (tree data_type.now) + length (vector_block (map (λ v. v.items) blocks.now))) + texts_room (texts_of texts.now.entries)) }
-    ensures err { IfErr result (λ e. Refuses e (is_sound (tree data_type.now) ≡ false) (60 + length name.now + (table_room (tree data_type.now) + length (vector_block (map (λ v. v.items) blocks.now))) + texts_room (texts_of texts.now.entries))) }
+) -> Result<Vec<u8>, WriteError>
+    ensures { Gives (IsNesting (map (λ v. v.items) blocks.now) (tree data_type.now) name.now nullable (texts_of texts.now.entries)) (is_sound (tree data_type.now) ≡ false)
+        (60 + length name.now + (table_room (tree data_type.now) + length (vector_block (map (λ v. v.items) blocks.now))) + texts_room (texts_of texts.now.entries)) result }
 {
     let children = vector_block(alloc, blocks)?;
     let typed = type_table(alloc, data_type)?;
@@ -74,13 +72,12 @@ pub(crate) fn data_block(
     data_type: &DataType,
     texts: &BTreeMap<String, String>,
     levels: usize,
-) -> Result<Vec<u8>, Refusal>
-    ensures holds { IfOk result (λ b. Holds (child_in levels) b.items (record { name = name.now; data_type = known (tree data_type.now); nullable = nullable; metadata = texts_of texts.now.entries })) }
-    ensures most { IfOk result (λ b. length b.items ≤ column_room name.now (tree data_type.now) (texts_of texts.now.entries)) }
-    ensures err { IfErr result (λ e. Refuses e (IsUnfit levels (tree data_type.now)) (column_room name.now (tree data_type.now) (texts_of texts.now.entries))) }
+) -> Result<Vec<u8>, WriteError>
+    ensures { Gives (λ b. Holds (child_in levels) b (record { name = name.now; data_type = known (tree data_type.now); nullable = nullable; metadata = texts_of texts.now.entries }))
+        (IsUnfit levels (tree data_type.now)) (column_room name.now (tree data_type.now) (texts_of texts.now.entries)) result }
 {
     if levels == 0 {
-        return Err(Refusal::Unfit);
+        return Err(WriteError::Column(0));
     }
     let fields = nested_fields(alloc, data_type)?;
     let blocks = field_blocks(alloc, fields.as_slice(), levels - 1)?;
@@ -89,10 +86,8 @@ pub(crate) fn data_block(
 
 /// A column of a field.
 #[cycle(write)]
-fn field_block(alloc: Global, field: &Field, levels: usize) -> Result<Vec<u8>, Refusal>
-    ensures holds { IfOk result (λ b. Holds (child_in levels) b.items (column_of field.now)) }
-    ensures most { IfOk result (λ b. length b.items ≤ field_room field.now) }
-    ensures err { IfErr result (λ e. Refuses e (IsUnfit levels field.now.tree) (field_room field.now)) }
+fn field_block(alloc: Global, field: &Field, levels: usize) -> Result<Vec<u8>, WriteError>
+    ensures { Gives (λ b. Holds (child_in levels) b (column_of field.now)) (IsUnfit levels field.now.tree) (field_room field.now) result }
 {
     data_block(
         alloc,
@@ -106,7 +101,7 @@ fn field_block(alloc: Global, field: &Field, levels: usize) -> Result<Vec<u8>, R
 
 /// The columns that a type nests.
 #[cycle(write)]
-fn field_blocks(alloc: Global, fields: &[&Field], levels: usize) -> Result<Vec<Vec<u8>>, Refusal>
+fn field_blocks(alloc: Global, fields: &[&Field], levels: usize) -> Result<Vec<Vec<u8>>, WriteError>
     ensures each { IfOk result (λ bs. HoldsEach levels (map (λ v. v.items) bs.items) (map (λ f. column_of f.now) fields.now) (columns_room (map (λ f. column_of f.now) fields.now))) }
     ensures err { IfErr result (λ e. Refuses e (AreUnfit levels (map (λ f. column_of f.now) fields.now)) (columns_room (map (λ f. column_of f.now) fields.now))) }
 {

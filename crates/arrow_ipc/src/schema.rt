@@ -1,16 +1,13 @@
 //! The schema of a message or of a file's footer.
-ghost use Rattle.std.specs.Prelude.{◌≡◌, ◌+◌, ◌*◌, ◌^◌, ◌≤◌, ◌<◌, length, IfOk, map};
-ghost use Rattle.arrow_values.specs.View.{texts_of};
-ghost use Rattle.arrow_columns.specs.Column.{column_tree};
+ghost use Rattle.std.specs.Prelude.{◌≡◌, ◌+◌, ◌*◌, ◌^◌, ◌≤◌, ◌<◌, length, IfOk};
 ghost use Rattle.arrow_ipc.specs.Fault.{map_ok};
-ghost use Rattle.arrow_ipc.specs.Tells.{Tells};
-ghost use Rattle.arrow_ipc.specs.Schema.{head_at, message_at, footer_at, cut, message_in, footer_in, schema_tree, schema_at, Meets, schema_of_message, schema_of_footer};
+ghost use Rattle.arrow_ipc.specs.Schema.{head_at, message_at, footer_at, cut, message_in, footer_in, schema_of, Meets, MeetsIn, schema_of_message, schema_of_footer};
 
 use crate::columns::{read_columns, read_texts};
 use crate::fault::{Fault, IpcError, Rule};
 use crate::longs::u64_in;
-use crate::slots::{needed_vector_in, table_in, u8_in, u16_in, vector_in};
-use crate::wire::{open, target_at, u32_at};
+use crate::slots::{table_in, u8_in, u16_in, vector_in};
+use crate::wire::{open, target_at, u32_at, vector_at};
 use arrow_columns::Column;
 use std::alloc::Global;
 use std::collections::BTreeMap;
@@ -58,7 +55,7 @@ fn head_at(bytes: &[u8], table: usize) -> Result<Head, Fault>
         0 => Endianness::Little,
         _ => Endianness::Big,
     };
-    let fields = needed_vector_in(bytes, &table, 1)?;
+    let fields = vector_at(bytes, table_in(bytes, &table, 1)?)?;
     let texts = vector_in(bytes, &table, 2)?;
     Ok(Head {
         endianness,
@@ -142,18 +139,19 @@ fn footer_in(bytes: &[u8]) -> Result<&[u8], Fault>
     cut(&bytes[..end], end - size as usize, size)
 }
 
-/// Reads a schema's table within a budget.
-fn read_table(
+/// Reads the schema whose table is at that place of a message or footer, within a budget of eight times its bytes.
+fn read_flatbuffer(
     alloc: Global,
     bytes: &[u8],
-    table: usize,
-    budget: &mut usize,
+    place: Result<usize, Fault>,
 ) -> Result<Schema, IpcError>
-    ensures { Tells schema_tree (schema_at NESTING_LIMIT bytes.now table) budget.old budget.new result }
+    requires { length bytes.now < 2 ^ 32 }
+    ensures { MeetsIn (schema_of NESTING_LIMIT place) bytes.now result }
 {
-    let head = head_at(bytes, table)?;
-    let columns = read_columns(alloc, bytes, head.fields, NESTING_LIMIT, budget)?;
-    let metadata = read_texts(alloc, bytes, head.texts, budget)?;
+    let head = head_at(bytes, place?)?;
+    let mut budget = bytes.len() * 8;
+    let columns = read_columns(alloc, bytes, head.fields, NESTING_LIMIT, &mut budget)?;
+    let metadata = read_texts(alloc, bytes, head.texts, &mut budget)?;
     Ok(Schema {
         columns,
         metadata,
@@ -176,9 +174,7 @@ pub fn read_schema(alloc: Global, stream: &[u8]) -> Result<Schema, IpcError>
     ensures { Meets (message_in stream.now) (schema_of_message NESTING_LIMIT) result }
 {
     let message = message_in(stream)?;
-    let table = message_at(message)?;
-    let mut budget = message.len() * 8;
-    read_table(alloc, message, table, &mut budget)
+    read_flatbuffer(alloc, message, message_at(message))
 }
 
 /// The schema of an Arrow file, from its end: the bytes of the file, or as many of its last ones as the footer, its
@@ -188,7 +184,5 @@ pub fn read_file_footer(alloc: Global, end: &[u8]) -> Result<Schema, IpcError>
     ensures { Meets (footer_in end.now) (schema_of_footer NESTING_LIMIT) result }
 {
     let footer = footer_in(end)?;
-    let table = footer_at(footer)?;
-    let mut budget = footer.len() * 8;
-    read_table(alloc, footer, table, &mut budget)
+    read_flatbuffer(alloc, footer, footer_at(footer))
 }

@@ -1,7 +1,7 @@
 //! The slots of a table, with what counts where one is missing.
 ghost use Rattle.std.specs.Prelude.{◌≡◌, ◌+◌, ◌*◌, ◌≤◌, length, IfOk};
 ghost use Rattle.arrow_ipc.specs.Wire.{IsOpen};
-ghost use Rattle.arrow_ipc.specs.Slots.{u8_in, flag_in, u16_in, u32_in, text_in, needed_text_in, table_in, vector_in, needed_vector_in};
+ghost use Rattle.arrow_ipc.specs.Slots.{u8_in, flag_in, u16_in, u32_in, text_in, table_in, vector_in};
 ghost use Rattle.arrow_ipc.specs.Fault.{map_ok};
 
 use crate::fault::{Fault, Rule};
@@ -67,15 +67,6 @@ pub(crate) fn text_in<'a>(bytes: &'a [u8], table: &Table, i: u16) -> Result<&'a 
     }
 }
 
-/// The text to which a slot leads that a table must have.
-#[tactic(auto, unfolding(crate::specs::Slots::needed_text_in))]
-pub(crate) fn needed_text_in<'a>(bytes: &'a [u8], table: &Table, i: u16) -> Result<&'a str, Fault>
-    requires { IsOpen bytes.now table.now }
-    ensures { map_ok (λ s. s.now) result ≡ needed_text_in bytes.now table.now.at i }
-{
-    utf8_at(bytes, table_in(bytes, table, i)?)
-}
-
 /// Where a slot leads that a table must have.
 #[tactic(auto, unfolding(crate::specs::Slots::table_in))]
 #[inline(always)]
@@ -101,14 +92,4 @@ pub(crate) fn vector_in(bytes: &[u8], table: &Table, i: u16) -> Result<(usize, u
         None => Ok((0, 0)),
         Some(slot) => vector_at(bytes, target_at(bytes, slot)?),
     }
-}
-
-/// The vector to which a slot leads that a table must have.
-#[tactic(auto, unfolding(crate::specs::Slots::needed_vector_in))]
-pub(crate) fn needed_vector_in(bytes: &[u8], table: &Table, i: u16) -> Result<(usize, usize), Fault>
-    requires { IsOpen bytes.now table.now }
-    ensures is { result ≡ needed_vector_in bytes.now table.now.at i }
-    ensures within { IfOk result (λ p. p.0 + 4 * p.1 ≤ length bytes.now) }
-{
-    vector_at(bytes, table_in(bytes, table, i)?)
 }

@@ -1,15 +1,16 @@
 //! The tables of types.
-ghost use Rattle.std.specs.Prelude.{◌≡◌, ◌≤◌, ◌<◌, ◌+◌, ◌*◌, ◌^◌, ◌&&◌, not, true, false, [], length, IfOk, IfErr};
+ghost use Rattle.std.specs.Prelude.{◌≡◌, ◌&&◌, not, []};
 ghost use Rattle.arrow_values.specs.Union.{has};
 ghost use Rattle.arrow_values.specs.View.{tree};
 ghost use Rattle.arrow_ipc.specs.Blocks.{union_block};
-ghost use Rattle.arrow_ipc.specs.Shapes.{shape_of, ids_of, shape_tag, shape_bytes, has_table, is_id, are_ids};
-ghost use Rattle.arrow_ipc.specs.Rooms.{Refuses, table_room};
+ghost use Rattle.arrow_ipc.specs.Shapes.{shape_of, ids_of, is_id, are_ids};
+ghost use Rattle.arrow_ipc.specs.Rooms.{MakesSound, IsTable};
 
-use crate::blocks::{Refusal, linked_block, put_word, table_block, type_block};
+use crate::blocks::{linked_block, put_word, table_block, type_block};
 use crate::shapes::{Shape, shape_of, type_ids};
+use crate::write::WriteError;
 use arrow_values::{DataType, UnionMode};
-use std::alloc::{AllocError, Global};
+use std::alloc::Global;
 
 /// Whether a type id is 0 to 127, and none of those before it.
 fn is_new_id(id: i8, before: &[i8]) -> bool
@@ -19,20 +20,17 @@ fn is_new_id(id: i8, before: &[i8]) -> bool
 }
 
 /// A union's table, with its type ids.
-fn union_block(alloc: Global, mode: UnionMode, ids: &[i8]) -> Result<Vec<u8>, Refusal>
-    ensures is { IfOk result (λ b. b.items ≡ union_block mode ids.now) }
-    ensures sound { IfOk result (λ _. are_ids [] ids.now ≡ true) }
-    ensures small { IfOk result (λ b. length b.items < 2 ^ 31) }
-    ensures err { IfErr result (λ e. Refuses e (are_ids [] ids.now ≡ false) (36 + 4 * length ids.now)) }
+fn union_block(alloc: Global, mode: UnionMode, ids: &[i8]) -> Result<Vec<u8>, WriteError>
+    ensures { MakesSound (are_ids [] ids.now) (union_block mode ids.now) result }
 {
     if ids.len() >= 0x2000_0000 {
-        return Err(Refusal::TooLarge);
+        return Err(WriteError::TooLarge);
     }
     let mut words = Vec::new(alloc);
     'each: for i in 0..ids.len() {
         let id = ids[i];
         if !is_new_id(id, &ids[..i]) {
-            return Err(Refusal::Unfit);
+            return Err(WriteError::Column(0));
         }
         put_word(&mut words, id as u32)?;
     }
@@ -45,14 +43,11 @@ fn union_block(alloc: Global, mode: UnionMode, ids: &[i8]) -> Result<Vec<u8>, Re
 }
 
 /// A type's tag and table.
-pub(crate) fn type_table(alloc: Global, data_type: &DataType) -> Result<(u8, Vec<u8>), Refusal>
-    ensures is { IfOk result (λ p. (p.0 ≡ shape_tag (shape_of (tree data_type.now))) × (p.1.items ≡ shape_bytes (shape_of (tree data_type.now)) (ids_of (tree data_type.now)))) }
-    ensures sound { IfOk result (λ _. has_table (shape_of (tree data_type.now)) (ids_of (tree data_type.now)) ≡ true) }
-    ensures small { IfOk result (λ p. length p.1.items < 2 ^ 31) }
-    ensures err { IfErr result (λ e. Refuses e (has_table (shape_of (tree data_type.now)) (ids_of (tree data_type.now)) ≡ false) (36 + 4 * length (ids_of (tree data_type.now)))) }
+pub(crate) fn type_table(alloc: Global, data_type: &DataType) -> Result<(u8, Vec<u8>), WriteError>
+    ensures { IsTable (shape_of (tree data_type.now)) (ids_of (tree data_type.now)) result }
 {
     match shape_of(data_type) {
-        None => Err(Refusal::Unfit),
+        None => Err(WriteError::Column(0)),
         Some(Shape::Table(tag, number, truth)) => {
             let table = type_block(alloc, number, truth)?;
             Ok((tag, table))

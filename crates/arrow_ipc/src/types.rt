@@ -145,7 +145,7 @@ fn dictionary_text(alloc: Global, index: Index, values: &ColumnType) -> Result<S
 }
 
 /// The children as members of a notation, each with its type id.
-#[tactic(auto, using(crate::proofs::Known::text_push))]
+#[tactic(auto, using(crate::proofs::TypeOf::text_push))]
 fn member_parts(alloc: Global, ids: &[i8], children: &[Column]) -> Result<Vec<String>, AllocError>
     ensures { IfOk result (λ parts. map string_bytes parts.items ≡ member_parts ids.now (map column_tree children.now)) }
 {

@@ -1,19 +1,17 @@
 //! A schema as the message at the head of a stream.
-ghost use Rattle.std.specs.Prelude.{◌≡◌, ◌+◌, ◌^◌, ◌<◌, ◌≤◌, [], length, map, IfOk, IfErr};
-ghost use Rattle.arrow_values.specs.View.{texts_of};
+ghost use Rattle.std.specs.Prelude.{◌≡◌, ◌^◌, ◌<◌, length, map, IfOk, IfErr};
 ghost use Rattle.arrow_columns.specs.Column.{type_tree, column_tree};
 ghost use Rattle.arrow_ipc.specs.Schema.{schema_tree};
 ghost use Rattle.arrow_ipc.specs.Denotes.{IsStreamOf};
-ghost use Rattle.arrow_ipc.specs.Blocks.{Holds, child_in, columns_read, texts_read, message_block, schema_block, stream_block};
-ghost use Rattle.arrow_ipc.specs.Rooms.{Refuses, IsUnfitType, HoldsEach, room_of, columns_room, texts_room, schema_room};
+ghost use Rattle.arrow_ipc.specs.Blocks.{Holds, child_in, message_block, schema_block, stream_block};
+ghost use Rattle.arrow_ipc.specs.Rooms.{Refuses, Gives, IsUnfitType, HoldsEach, room_of, columns_room, schema_room};
 ghost use Rattle.arrow_ipc.specs.Writes.{refused, RefusesColumns};
 
-use crate::blocks::{Refusal, put_word, table_block, texts_block, vector_block};
+use crate::blocks::{put_word, table_block, texts_block, vector_block};
 use crate::nesting::data_block;
 use crate::schema::{Endianness, NESTING_LIMIT, Schema};
 use arrow_columns::{Column, ColumnType};
 use std::alloc::{AllocError, AllocFailed, Global};
-use std::collections::BTreeMap;
 use thiserror::Error;
 
 /// Why a schema is not written.
@@ -52,21 +50,18 @@ impl<T: Drop> From<AllocFailed<T>> for WriteError {
 }
 
 /// The error of a column's block, of the column with that index.
-fn refused(refusal: Refusal, index: usize) -> WriteError
-    ensures { result ≡ refused refusal index }
+fn refused(error: WriteError, index: usize) -> WriteError
+    ensures { result ≡ refused error index }
 {
-    match refusal {
-        Refusal::Unfit => WriteError::Column(index),
-        Refusal::TooLarge => WriteError::TooLarge,
-        Refusal::OutOfMemory => WriteError::OutOfMemory,
+    match error {
+        WriteError::Column(_) => WriteError::Column(index),
+        _ => error,
     }
 }
 
 /// A column of any type.
-fn any_column(alloc: Global, column: &Column) -> Result<Vec<u8>, Refusal>
-    ensures holds { IfOk result (λ b. Holds (child_in NESTING_LIMIT) b.items (column_tree column.now)) }
-    ensures most { IfOk result (λ b. length b.items ≤ room_of (column_tree column.now)) }
-    ensures err { IfErr result (λ e. Refuses e (IsUnfitType NESTING_LIMIT (type_tree column.now.data_type)) (room_of (column_tree column.now))) }
+fn any_column(alloc: Global, column: &Column) -> Result<Vec<u8>, WriteError>
+    ensures { Gives (λ b. Holds (child_in NESTING_LIMIT) b (column_tree column.now)) (IsUnfitType NESTING_LIMIT (type_tree column.now.data_type)) (room_of (column_tree column.now)) result }
 {
     match &column.data_type {
         ColumnType::Data(data_type) => data_block(
@@ -77,7 +72,7 @@ fn any_column(alloc: Global, column: &Column) -> Result<Vec<u8>, Refusal>
             &column.metadata,
             NESTING_LIMIT,
         ),
-        ColumnType::Other(_) => Err(Refusal::Unfit),
+        ColumnType::Other(_) => Err(WriteError::Column(0)),
     }
 }
 
@@ -90,35 +85,10 @@ fn column_blocks(alloc: Global, columns: &[Column]) -> Result<Vec<Vec<u8>>, Writ
     'columns: for i in 0..columns.len() {
         match any_column(alloc, &columns[i]) {
             Ok(block) => blocks.push(block)?,
-            Err(refusal) => return Err(refused(refusal, i)),
+            Err(error) => return Err(refused(error, i)),
         }
     }
     Ok(blocks)
-}
-
-/// The vector of a schema's columns.
-fn columns_block(alloc: Global, columns: &[Column]) -> Result<Vec<u8>, WriteError>
-    ensures holds { IfOk result (λ b. Holds (columns_read NESTING_LIMIT) b.items (map column_tree columns.now)) }
-    ensures most { IfOk result (λ b. length b.items ≤ columns_room (map column_tree columns.now)) }
-    ensures err { IfErr result (λ e. RefusesColumns NESTING_LIMIT e (map column_tree columns.now) (columns_room (map column_tree columns.now))) }
-{
-    let blocks = column_blocks(alloc, columns)?;
-    match vector_block(alloc, blocks.as_slice()) {
-        Ok(block) => Ok(block),
-        Err(refusal) => Err(refused(refusal, 0)),
-    }
-}
-
-/// The metadata of a schema.
-fn metadata_block(alloc: Global, texts: &BTreeMap<String, String>) -> Result<Vec<u8>, WriteError>
-    ensures holds { IfOk result (λ b. Holds texts_read b.items (texts_of texts.now.entries)) }
-    ensures most { IfOk result (λ b. length b.items ≤ texts_room (texts_of texts.now.entries)) }
-    ensures err { IfErr result (λ e. RefusesColumns NESTING_LIMIT e [] (texts_room (texts_of texts.now.entries))) }
-{
-    match texts_block(alloc, texts) {
-        Ok(block) => Ok(block),
-        Err(refusal) => Err(refused(refusal, 0)),
-    }
 }
 
 /// The stream of a schema, given the blocks of its columns and of its metadata.
@@ -127,7 +97,7 @@ fn stream_bytes(
     columns: Vec<u8>,
     texts: Vec<u8>,
     order: Endianness,
-) -> Result<Vec<u8>, Refusal>
+) -> Result<Vec<u8>, WriteError>
     ensures is { IfOk result (λ b. b.items ≡ stream_block (message_block (schema_block columns.items texts.items order))) }
     ensures small { IfOk result (λ _. length (message_block (schema_block columns.items texts.items order)) < 2 ^ 31) }
     ensures err { IfErr result (λ e. Refuses e ⊥ (length (message_block (schema_block columns.items texts.items order)))) }
@@ -139,7 +109,7 @@ fn stream_bytes(
     let schema = table_block(alloc, &[12, 4, 8], &[order, 0, 0, 0], &[columns, texts])?;
     let message = table_block(alloc, &[8, 10, 4], &[4, 0, 1, 0], &[schema])?;
     if message.len() >= 0x7fff_fff8 {
-        return Err(Refusal::TooLarge);
+        return Err(WriteError::TooLarge);
     }
     let mut stream = Vec::new(alloc);
     put_word(&mut stream, 0xffff_ffff)?;
@@ -165,10 +135,8 @@ pub fn write_schema(alloc: Global, schema: &Schema) -> Result<Vec<u8>, WriteErro
     ensures is { IfOk result (λ b. IsStreamOf NESTING_LIMIT b.items (schema_tree schema.now)) }
     ensures err { IfErr result (λ e. RefusesColumns NESTING_LIMIT e (map column_tree schema.now.columns.items) (schema_room (schema_tree schema.now))) }
 {
-    let columns = columns_block(alloc, schema.columns.as_slice())?;
-    let texts = metadata_block(alloc, &schema.metadata)?;
-    match stream_bytes(alloc, columns, texts, schema.endianness) {
-        Ok(stream) => Ok(stream),
-        Err(refusal) => Err(refused(refusal, 0)),
-    }
+    let blocks = column_blocks(alloc, schema.columns.as_slice())?;
+    let columns = vector_block(alloc, blocks.as_slice())?;
+    let texts = texts_block(alloc, &schema.metadata)?;
+    stream_bytes(alloc, columns, texts, schema.endianness)
 }

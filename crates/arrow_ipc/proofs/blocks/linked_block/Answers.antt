@@ -21,20 +21,20 @@ offsets-preserved c =
       high = omega (arith, l.invariant.high);
     }
 
-pub returns-then-blocks-ge536870912-clause-err : goal.returns-then-blocks-ge536870912-clause-err
-returns-then-blocks-ge536870912-clause-err c =
+pub returns-then-blocks-ge536870912 : goal.returns-then-blocks-ge536870912
+returns-then-blocks-ge536870912 c =
     let size = length_linked c.args.first (left c.args.blocks.now 0) c.args.rest.now in
     let many : length (left c.args.blocks.now 0) ≡ length c.args.blocks.now = length-map c.args.blocks.now items in
     elim c.then-blocks-ge536870912.branch [ then-blocks-ge536870912-via-then-blocks-ge536870912 w ↦ omega (arith, size, many) | then-blocks-ge536870912-via-else-blocks-ge536870912+then-rest-ge2147483648 w ↦ omega (arith, size, many) ]
 
-pub returns-then-end-ge2147483648-clause-err : goal.returns-then-end-ge2147483648-clause-err
-returns-then-end-ge2147483648-clause-err c =
+pub returns-then-end-ge2147483648 : goal.returns-then-end-ge2147483648
+returns-then-end-ge2147483648 c =
     let size = length_linked c.args.first (left c.args.blocks.now 0) c.args.rest.now in
     let many : length (left c.args.blocks.now 0) ≡ length c.args.blocks.now = length-map c.args.blocks.now items in
     omega (arith, size, many, c.offsets.invariant.lies)
 
-pub returns-then-end-ge2147483648-2-clause-err : goal.returns-then-end-ge2147483648-2-clause-err
-returns-then-end-ge2147483648-2-clause-err c =
+pub returns-then-end-ge2147483648-2 : goal.returns-then-end-ge2147483648-2
+returns-then-end-ge2147483648-2 c =
     let size = length_linked c.args.first (left c.args.blocks.now 0) c.args.rest.now in
     let many : length (left c.args.blocks.now 0) ≡ length c.args.blocks.now = length-map c.args.blocks.now items in
     omega (arith, size, many, c.offsets.invariant.lies)
@@ -45,13 +45,10 @@ bodies-init c =
     linked_begins c.args.first c.args.blocks.now c.args.rest.now l.block.items _ c.pad.new.bytes.items (offsets_done c.args.blocks.now l.one-index c.offsets-test.false l.block.items l.end _ l.invariant.decides)
     c.in_ok-extend_from_slice.ensures.items c.in_ok-pad.ensures
 
-pub returns-clause-small : goal.returns-clause-small
-returns-clause-small c =
+pub returns : goal.returns
+returns c =
     let is = blocks_done c.args.blocks.now c.bodies.piece-index c.bodies-test.false c.bodies.block.items (linked c.args.first (left c.args.blocks.now 0) c.args.rest.now) c.bodies.invariant in
     let size = length_linked c.args.first (left c.args.blocks.now 0) c.args.rest.now in
     let many : length (left c.args.blocks.now 0) ≡ length c.args.blocks.now = length-map c.args.blocks.now items in
     let none = lengths_done c.args.blocks.now c.offsets.one-index c.offsets-test.false in
-    rw is (omega (arith, size, many, c.offsets.invariant.lies, none))
-
-pub returns-clause-is : goal.returns-clause-is
-returns-clause-is c = blocks_done c.args.blocks.now c.bodies.piece-index c.bodies-test.false c.bodies.block.items _ c.bodies.invariant
+    (is, omega (arith, size, many, c.offsets.invariant.lies, none))

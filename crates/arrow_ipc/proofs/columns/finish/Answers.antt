@@ -1,21 +1,27 @@
-use Rattle.std.proofs.Common.{arith, map}
+use Rattle.std.proofs.Common.{arith, ◌≡◌, map, refl}
 use Rattle.arrow_columns.specs.Column.{type_tree, column_tree}
-use Rattle.arrow_ipc.specs.Parts.{parts_of}
-use Rattle.arrow_ipc.proofs.Told.{told}
-use Rattle.arrow_ipc.proofs.Finish.{type_fails, texts_fail, is_finished}
+use Rattle.arrow_values.specs.Tree.{Metadata}
+use Rattle.arrow_ipc.specs.Fault.{◌>>=◌}
+use Rattle.arrow_ipc.specs.Parts.{Own, parts_of}
+use Rattle.arrow_ipc.specs.Columns.{typed, texts_at, finished}
+use Rattle.arrow_ipc.proofs.Told.{told, says_fails, made_fails}
 use Rattle.arrow_ipc.proofs.columns.finish.Goals as goal
 
 pub returns-in_err-data_type : goal.returns-in_err-data_type
+unfolding finished
 returns-in_err-data_type c =
     told _ _ _ _ c.from_residual.result c.in_err-data_type.field-0.0 (grind arith)
-    (type_fails c.args.bytes.now (parts_of c.args.parts.now) (map column_tree c.args.children.items) type_tree _ _ c.in_err-data_type.ensures)
+    (says_fails type_tree (typed c.args.bytes.now (parts_of c.args.parts.now) (map column_tree c.args.children.items)) _ _ _ c.in_err-data_type.ensures)
 
 pub returns-in_err-metadata : goal.returns-in_err-metadata
+unfolding finished
 returns-in_err-metadata c =
+    let p : Own = parts_of c.args.parts.now in
     told _ _ _ _ c.from_residual-in_err-metadata.result c.in_err-metadata.field-0.0 (grind arith)
-    (texts_fail c.args.bytes.now (parts_of c.args.parts.now) (map column_tree c.args.children.items) _ c.in_ok-data_type.ensures _ _ c.in_err-metadata.ensures)
+    (rw c.in_ok-data_type.ensures (made_fails (texts_at c.args.bytes.now p.texts) (λ (ms : Metadata). record { name = p.name; data_type = type_tree c.in_ok-data_type.data_type; nullable = p.nullable; metadata = ms }) _ _ c.in_err-metadata.ensures))
 
 pub returns : goal.returns
+unfolding finished
 returns c =
     let ms = c.in_ok-metadata.ensures in
-    (ms.0, is_finished c.args.bytes.now (parts_of c.args.parts.now) (map column_tree c.args.children.items) _ c.in_ok-data_type.ensures _ ms.1 _ c.in_ok-name.ensures.ok)
+    (ms.0, rw (c.in_ok-data_type.ensures, ms.1, ← c.in_ok-name.ensures.ok) refl)

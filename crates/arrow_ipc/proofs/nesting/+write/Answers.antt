@@ -1,12 +1,11 @@
-use Rattle.std.proofs.Common.{◌≡◌, ◌+◌, ◌-◌, ◌≤◌, false, inl, map, length, sym, ap, ◌∙◌, subst, arith}
+use Rattle.std.proofs.Common.{◌≡◌, ◌+◌, ◌-◌, ◌≤◌, map, sym, ap, ◌∙◌, subst, arith}
 use Rattle.arrow_values.specs.Tree.{depth}
 use Rattle.arrow_values.specs.View.{tree, texts_of}
-use Rattle.arrow_ipc.specs.Blocks.{vector_block}
 use Rattle.arrow_ipc.specs.Shapes.{column_of, nested_columns}
-use Rattle.arrow_ipc.specs.Rooms.{is_sound, nested_room, table_room, column_room, field_room, room_of, columns_room, texts_room, IsUnfit, AreUnfit}
+use Rattle.arrow_ipc.specs.Rooms.{Refuses, nested_room, column_room, field_room, room_of, columns_room, IsUnfit, AreUnfit}
 use Rattle.arrow_ipc.proofs.Vectors.{items}
-use Rattle.arrow_ipc.proofs.Built.{told, told_more, refuses_more, refused_as}
-use Rattle.arrow_ipc.proofs.Nestings.{lent, deepest, falls, nests_less, nested_room_is, columns_are, each_is, nested_unfit, each_more, each_refused, data_ok, data_most, vector_room}
+use Rattle.arrow_ipc.proofs.Built.{told, refuses_more, handed}
+use Rattle.arrow_ipc.proofs.Nestings.{lent, deepest, falls, nests_less, nested_room_is, columns_are, each_is, nested_unfit, each_more, each_refused, data_gives}
 use Rattle.arrow_ipc.proofs.nesting.+write.Goals as goal
 
 pub data_block-field_blocks-requires : goal.data_block-field_blocks-requires
@@ -15,38 +14,21 @@ data_block-field_blocks-requires t c =
     let less : deepest (lent c.as_slice.result.now) ≤ depth d = subst (λ fs. deepest fs ≤ depth d) (sym (ap lent c.as_slice.ensures.value ∙ c.in_ok-fields.ensures)) (nests_less d) in
     (omega (arith, less), tt)
 
-pub data_block-returns-clause-holds : goal.data_block-returns-clause-holds
-data_block-returns-clause-holds t c =
+pub data_block-returns : goal.data_block-returns
+data_block-returns t c =
     let d = tree c.args.data_type.now in
     let same = columns_are c.as_slice.result.now d (ap lent c.as_slice.ensures.value ∙ c.in_ok-fields.ensures) in
     let each = each_is (c.args.levels - 1) (map items c.in_ok-blocks.blocks.items) _ d same c.in_ok-blocks.ensures.each in
-    data_ok c.finish_block.result (map items c.in_ok-blocks.blocks.items) d c.args.name.now c.args.nullable (texts_of c.args.texts.now.entries) c.args.levels _ (rw (← c.as_slice-2.ensures.value) c.finish_block.ensures.holds) each (omega arith)
+    data_gives c.finish_block.result (map items c.in_ok-blocks.blocks.items) d c.args.name.now c.args.nullable (texts_of c.args.texts.now.entries) c.args.levels (rw c.as_slice-2.ensures.value at c.finish_block.ensures) each (omega arith)
 
-pub data_block-returns-clause-most : goal.data_block-returns-clause-most
-data_block-returns-clause-most t c =
-    let d = tree c.args.data_type.now in
-    let same = columns_are c.as_slice.result.now d (ap lent c.as_slice.ensures.value ∙ c.in_ok-fields.ensures) in
-    let each = each_is (c.args.levels - 1) (map items c.in_ok-blocks.blocks.items) _ d same c.in_ok-blocks.ensures.each in
-    data_most c.finish_block.result (map items c.in_ok-blocks.blocks.items) (nested_columns d) (c.args.levels - 1) (60 + length c.args.name.now) (texts_room (texts_of c.args.texts.now.entries)) (table_room d) (nested_room d)
-    (rw (← c.as_slice-2.ensures.value) c.finish_block.ensures.most) each
-
-pub data_block-returns-clause-err : goal.data_block-returns-clause-err
-data_block-returns-clause-err t c =
-    let d = tree c.args.data_type.now in
-    let same = columns_are c.as_slice.result.now d (ap lent c.as_slice.ensures.value ∙ c.in_ok-fields.ensures) in
-    let each = each_is (c.args.levels - 1) (map items c.in_ok-blocks.blocks.items) _ d same c.in_ok-blocks.ensures.each in
-    let room = vector_room (map items c.in_ok-blocks.blocks.items) (nested_columns d) (c.args.levels - 1) (nested_room d) each in
-    refused_as c.finish_block.result (is_sound d ≡ false) (IsUnfit c.args.levels d) (60 + length c.args.name.now + (table_room d + length (vector_block (map items c.in_ok-blocks.blocks.items))) + texts_room (texts_of c.args.texts.now.entries))
-    (column_room c.args.name.now d (texts_of c.args.texts.now.entries)) (λ e. inl e) (omega (arith, room)) (rw (← c.as_slice-2.ensures.value) c.finish_block.ensures.err)
-
-pub data_block-returns-in_err-blocks-clause-err : goal.data_block-returns-in_err-blocks-clause-err
-data_block-returns-in_err-blocks-clause-err t c =
+pub data_block-returns-in_err-blocks : goal.data_block-returns-in_err-blocks
+data_block-returns-in_err-blocks t c =
     let d = tree c.args.data_type.now in
     let fs = c.as_slice.result.now in
     let same = columns_are fs d (ap lent c.as_slice.ensures.value ∙ c.in_ok-fields.ensures) in
     let room : columns_room (map (λ f. column_of f.now) fs) ≡ nested_room d = ap columns_room same ∙ nested_room_is d in
-    told_more c.from_residual-in_err-blocks.result c.in_err-blocks.field-0.0 (AreUnfit (c.args.levels - 1) (map (λ f. column_of f.now) fs)) (IsUnfit c.args.levels d) (columns_room (map (λ f. column_of f.now) fs))
-    (column_room c.args.name.now d (texts_of c.args.texts.now.entries)) (grind arith) (λ u. nested_unfit c.args.levels d (omega arith) (subst (AreUnfit (c.args.levels - 1)) same u)) (omega (arith, room)) c.in_err-blocks.ensures.err
+    handed _ (AreUnfit (c.args.levels - 1) (map (λ f. column_of f.now) fs)) (IsUnfit c.args.levels d) (columns_room (map (λ f. column_of f.now) fs)) (column_room c.args.name.now d (texts_of c.args.texts.now.entries))
+    c.from_residual-in_err-blocks.result c.in_err-blocks.field-0.0 (grind arith) (λ u. nested_unfit c.args.levels d (omega arith) (subst (AreUnfit (c.args.levels - 1)) same u)) (omega (arith, room)) c.in_err-blocks.ensures.err
 
 pub field_blocks-field_block-requires : goal.field_blocks-field_block-requires
 field_blocks-field_block-requires t c =
@@ -57,13 +39,13 @@ pub field_blocks-columns-preserved : goal.field_blocks-columns-preserved
 field_blocks-columns-preserved t c =
     let l = c.columns in
     each_more (λ f. column_of f.now) c.args.levels l.blocks.items c.args.fields.now l.field-index l.invariant c.field-item.result c.columns-test.true c.field-item.is c.push.new.self.items c.in_ok-field_block.field-0 c.in_ok-push.ensures.items
-    c.in_ok-field_block.ensures.holds (omega (arith, c.in_ok-field_block.ensures.most))
+    c.in_ok-field_block.ensures.0 (omega (arith, c.in_ok-field_block.ensures.1))
 
 pub field_blocks-returns-in_err-field_block-clause-err : goal.field_blocks-returns-in_err-field_block-clause-err
 field_blocks-returns-in_err-field_block-clause-err t c =
     let l = c.columns in
     let x = c.field-item.result in
     let e = c.in_err-field_block.field-0.0 in
-    told c.from_residual.result e _ _ (grind arith)
+    told (λ e. Refuses e (AreUnfit c.args.levels (map (λ f. column_of f.now) c.args.fields.now)) (columns_room (map (λ f. column_of f.now) c.args.fields.now))) c.from_residual.result e (grind arith)
     (each_refused (λ f. column_of f.now) c.args.levels l.blocks.items c.args.fields.now l.field-index l.invariant x c.columns-test.true c.field-item.is e
-    (refuses_more e (IsUnfit c.args.levels x.now.tree) (IsUnfit c.args.levels x.now.tree) (field_room x.now) (room_of (column_of x.now)) (λ u. u) (omega arith) c.in_err-field_block.ensures.err))
+    (refuses_more e (IsUnfit c.args.levels x.now.tree) (IsUnfit c.args.levels x.now.tree) (field_room x.now) (room_of (column_of x.now)) (λ u. u) (omega arith) c.in_err-field_block.ensures))

@@ -1,32 +1,53 @@
-use Rattle.std.proofs.Common.{◌≤◌, List, length, map, sym, subst, arith}
+use Rattle.std.proofs.Common.{◌≡◌, ◌≤◌, List, length, map, sym, ap, ◌∙◌, subst, arith, IfOk}
 use Rattle.arrow_values.specs.View.{texts_of}
 use Rattle.arrow_columns.specs.declared.column.Column.{Column}
 use Rattle.arrow_columns.specs.Column.{column_tree}
 use Rattle.arrow_ipc.specs.Schema.{schema_tree}
 use Rattle.arrow_ipc.specs.Denotes.{IsStreamOf}
-use Rattle.arrow_ipc.specs.Blocks.{Holds, columns_read, schema_block, message_block}
-use Rattle.arrow_ipc.specs.Rooms.{columns_room, schema_room}
+use Rattle.arrow_ipc.specs.Blocks.{Holds, columns_read, vector_block, schema_block, message_block}
+use Rattle.arrow_ipc.specs.Rooms.{HoldsEach, columns_room, schema_room}
+use Rattle.arrow_ipc.proofs.Vectors.{items}
 use Rattle.arrow_ipc.specs.Writes.{RefusesColumns}
-use Rattle.arrow_ipc.proofs.Refusals.{block_refused}
-use Rattle.arrow_ipc.proofs.Streams.{length_schema, length_message, stream_is}
+use Rattle.arrow_ipc.proofs.Built.{told, none_refused, all_refused, refused_more}
+use Rattle.arrow_ipc.proofs.Made.{columns_hold}
+use Rattle.arrow_ipc.proofs.Nestings.{vector_room}
+use Rattle.arrow_ipc.proofs.Tables.{length_schema, length_message, stream_ok}
 use Rattle.arrow_ipc.proofs.write.write_schema.Goals as goal
 
-pub returns-in-Ok-clause-is : goal.returns-in-Ok-clause-is
-returns-in-Ok-clause-is c =
-    let s = c.args.schema.now in
-    let cb = c.in_ok-columns.columns.items in
-    let columns : Holds (columns_read 61) cb (map column_tree s.columns.items) = subst (λ (l : List Column). Holds (columns_read 61) cb (map column_tree l)) c.as_slice.ensures.value c.in_ok-columns.ensures.holds in
-    subst (λ b. IsStreamOf 61 b (schema_tree s)) (sym c.in-Ok.ensures.is)
-    (stream_is 61 cb c.in_ok-texts.texts.items s.endianness (map column_tree s.columns.items) (texts_of s.metadata.entries) columns c.in_ok-texts.ensures.holds c.in-Ok.ensures.small)
+pub returns-in_err-blocks-clause-err : goal.returns-in_err-blocks-clause-err
+returns-in_err-blocks-clause-err c =
+    let s = schema_tree c.args.schema.now in
+    told (λ e. RefusesColumns 61 e s.columns (schema_room s)) c.from_residual.result c.in_err-blocks.field-0.0 (grind arith)
+    (refused_more 61 s.columns (columns_room s.columns) (schema_room s) _ (omega arith) (rw c.as_slice.ensures.value at c.in_err-blocks.ensures.err))
 
-pub returns-in-Err-clause-err : goal.returns-in-Err-clause-err
-returns-in-Err-clause-err c =
+pub returns-in_err-columns-clause-err : goal.returns-in_err-columns-clause-err
+returns-in_err-columns-clause-err c =
+    let s = schema_tree c.args.schema.now in
+    let bs = map items c.in_ok-blocks.blocks.items in
+    let each : HoldsEach 61 bs s.columns (columns_room s.columns) = rw c.as_slice.ensures.value at c.in_ok-blocks.ensures.each in
+    let room = vector_room bs s.columns 61 (columns_room s.columns) each in
+    told (λ e. RefusesColumns 61 e s.columns (schema_room s)) c.from_residual-in_err-columns.result c.in_err-columns.field-0.0 (grind arith)
+    (none_refused 61 s.columns (length (vector_block bs)) (schema_room s) _ (omega (arith, room)) (rw c.as_slice-2.ensures.value at c.in_err-columns.ensures))
+
+pub returns-clause-is : goal.returns-clause-is
+returns-clause-is c =
     let s = c.args.schema.now in
+    let cs = map column_tree s.columns.items in
+    let bs = map items c.in_ok-blocks.blocks.items in
+    let each : HoldsEach 61 bs cs (columns_room cs) = rw c.as_slice.ensures.value at c.in_ok-blocks.ensures.each in
+    let made = rw c.as_slice-2.ensures.value at c.in_ok-columns.ensures in
+    let columns : Holds (columns_read 61) c.in_ok-columns.columns.items cs = rw made.0 (columns_hold 61 bs cs each.each (omega (arith, made.1))) in
+    stream_ok 61 c.in_ok-columns.columns.items c.in_ok-texts.texts.items s.endianness cs (texts_of s.metadata.entries) columns c.in_ok-texts.ensures.0 c.stream_bytes.result c.stream_bytes.ensures.is c.stream_bytes.ensures.small
+
+pub returns-clause-err : goal.returns-clause-err
+returns-clause-err c =
+    let s = c.args.schema.now in
+    let cs = map column_tree s.columns.items in
     let cb = c.in_ok-columns.columns.items in
     let mb = c.in_ok-texts.texts.items in
-    let cs = map column_tree s.columns.items in
-    let most : length cb ≤ columns_room cs = subst (λ (l : List Column). length cb ≤ columns_room (map column_tree l)) c.as_slice.ensures.value c.in_ok-columns.ensures.most in
+    let each : HoldsEach 61 (map items c.in_ok-blocks.blocks.items) cs (columns_room cs) = rw c.as_slice.ensures.value at c.in_ok-blocks.ensures.each in
+    let room = vector_room (map items c.in_ok-blocks.blocks.items) cs 61 (columns_room cs) each in
+    let made = rw c.as_slice-2.ensures.value at c.in_ok-columns.ensures in
     let one = length_schema cb mb s.endianness in
     let two = length_message (schema_block cb mb s.endianness) in
-    subst (λ e. RefusesColumns 61 e cs (schema_room (schema_tree s))) (sym c.refused.ensures)
-    (block_refused 61 cs 0 (length (message_block (schema_block cb mb s.endianness))) (schema_room (schema_tree s)) (omega (arith, one, two, most, c.in_ok-texts.ensures.most)) c.in-Err.refusal c.in-Err.ensures.err)
+    all_refused 61 cs (length (message_block (schema_block cb mb s.endianness))) _ c.stream_bytes.result (omega (arith, one, two, room, ap length made.0, c.in_ok-texts.ensures.1)) c.stream_bytes.ensures.err

@@ -1,0 +1,271 @@
+-- The blocks of texts, of entries, of columns, of schemas and of messages.
+use Rattle.std.proofs.Common.{◌≡◌, ℕ, ◌+◌, ◌-◌, ◌^◌, ◌<◌, true, ◌++◌, ◌∷◌, [], List, length, Ok, refl, sym, ap, ◌∙◌, arith, append_assoc, suc, ◌≤◌, Bool, false, Option, None, ◌==◌, if◌then◌else◌, take, drop, Vec, Global, Result, Err, IfOk, append-nil}
+use Rattle.std.specs.Str.{is_utf8}
+use Rattle.std.proofs.lemmas.List.{length-append, take_at}
+use mir.Val.{bool_byte}
+use Rattle.arrow_values.specs.Tree.{Text, Metadata}
+use Rattle.arrow_columns.specs.Column.{TypeTree, ColumnTree}
+use Rattle.arrow_ipc.specs.Wire.{utf8_at, u8_at, slot_at, target_at, vector_at, u16_at, u32_at}
+use Rattle.arrow_ipc.specs.Slots.{table_in, u8_in, flag_in, text_in, vector_in, u16_in}
+use Rattle.arrow_ipc.specs.Columns.{entry_in, texts_at, ids_at, ids_of_kind, counted, typed, finished, columns_by, column_at}
+use Rattle.arrow_ipc.specs.Blocks.{Holds, word, rounded, offsets, text_block, text_read, entry_block, entry_read, IsType, places, flag, table_block, column_block, column_in, columns_read, texts_read, Lies, order_number, schema_block, message_block, stream_block}
+use Rattle.arrow_ipc.specs.Fault.{◌>>=◌}
+use Rattle.arrow_ipc.specs.Tells.{◌>>+◌}
+use Rattle.arrow_ipc.specs.Parts.{Own, tag_in, zone_in, index_in, ids_in, parts_in, parts_at}
+use Rattle.arrow_ipc.specs.Kinds.{kind_at}
+use Rattle.arrow_ipc.specs.Types.{type_of}
+use Rattle.arrow_ipc.specs.declared.kinds.Kind.{Kind}
+use Rattle.arrow_ipc.specs.Longs.{u64_in}
+use Rattle.arrow_ipc.specs.Schema.{SchemaTree, head_at, schema_at, message_at, cut, message_in, schema_of_message}
+use Rattle.arrow_ipc.specs.Denotes.{IsStreamOf}
+use Rattle.arrow_ipc.specs.declared.schema.Endianness.{Endianness}
+use Rattle.arrow_ipc.specs.declared.schema.Endianness.TheVariants.{Little, Big}
+use Rattle.arrow_ipc.specs.declared.write.WriteError.{WriteError}
+use Rattle.arrow_ipc.proofs.Told.{bound}
+use Rattle.arrow_ipc.proofs.Places.{text_is, is_some, is_le, u8_is, u32_is, target_is, is_lt}
+use Rattle.arrow_ipc.proofs.Linked.{length_linked, flat, tail, are_linked, slot_is, by_place, slot_place, low}
+
+pub length_text : (text : Text) → length (text_block text) ≡ rounded (5 + length text)
+length_text text =
+    let size = length_linked (length text) [] (text ++ 0 ∷ []) in
+    let sum = length-append text (0 ∷ []) in
+    omega (arith, size, sum)
+
+pub text_holds : (text : Text) → is_utf8 text ≡ true → length text < 2 ^ 31 → Holds text_read (text_block text) text
+unfolding offsets
+text_holds text valid small =
+    let size = length_text text in
+    record {
+      whole = omega (arith, size);
+      reads = λ bytes at lies.
+          let whole = lies.whole in
+          let after = tail bytes at (length text) [] (text ++ 0 ∷ []) lies in
+          let is = text_is bytes at text after (omega (arith, whole)) (omega (arith, small)) valid
+          (flat bytes at (length text) [] (text ++ 0 ∷ []) lies ∙ ap (λ l. word (length text) ++ l) (append_assoc text (0 ∷ []) after)) in
+          (length text, omega (arith, size), rw is refl);
+    }
+
+pub is_text : (bytes : List ℕ) (at : ℕ) (text : Text) (n : ℕ) → text_read bytes at ≡ Ok (text, n) → (utf8_at bytes at ≡ Ok text) × (n ≡ length text)
+is_text bytes at text n is =
+    let t = bound (utf8_at bytes at) (λ t. Ok (t, length t)) (text, n) is in
+    let pair : ◌≡◌ {A = Text × ℕ} (t.0, length t.0) (text, n) = cc (t.2) in
+    let same : t.0 ≡ text = ap (λ (p : Text × ℕ). p.0) pair in
+    (t.1 ∙ ap (λ (t : Text). Ok t) same, sym (ap (λ (p : Text × ℕ). p.1) pair) ∙ ap length same)
+
+pub length_entry : (kb tb : List ℕ) → length (entry_block kb tb) ≡ 24 + (length kb + length tb)
+length_entry kb tb =
+    let size = length_linked (2 ^ 32 - 12) (kb ∷ tb ∷ []) (8 ∷ 0 ∷ 12 ∷ 0 ∷ 4 ∷ 0 ∷ 8 ∷ 0 ∷ []) in
+    let one = length-append kb (tb ++ []) in
+    let two = length-append tb [] in
+    omega (arith, size, one, two)
+
+pub entry_holds : (kb tb : List ℕ) (key text : Text) → Holds text_read kb key → Holds text_read tb text → length (entry_block kb tb) < 2 ^ 32 → Holds entry_read (entry_block kb tb) (key, text)
+unfolding entry_in table_in
+entry_holds kb tb key text hk ht small =
+    let wk = hk.whole in
+    let wt = ht.whole in
+    let size = length_entry kb tb in
+    record {
+      whole = omega (arith, size, wk, wt);
+      reads = λ bytes at lies.
+          let slot = slot_is bytes at (4 ∷ 8 ∷ []) [] (kb ∷ tb ∷ []) lies refl (omega arith) (omega arith, (omega arith, tt)) in
+          let l = are_linked bytes at (2 ^ 32 - 12) (kb ∷ tb ∷ []) (8 ∷ 0 ∷ 12 ∷ 0 ∷ 4 ∷ 0 ∷ 8 ∷ 0 ∷ []) lies (wk, (wt, tt)) small in
+          let k = hk.reads bytes l.0.to l.0.lies in
+          let t = ht.reads bytes l.1.0.to l.1.0.lies in
+          let key_is = is_text bytes l.0.to key k.0 k.2 in
+          let text_is = is_text bytes l.1.0.to text t.0 t.2 in
+          (8 + length key + length text, omega (arith, size, k.1, t.1, key_is.1, text_is.1), rw (slot 0, l.0.led, key_is.0, slot 1, l.1.0.led, text_is.0) refl);
+    }
+
+-- ---- a column's block: its own table, then its name, its type, its children and its metadata
+
+-- a column is what its table says
+pub column_by_table : (depth : ℕ) (bytes : List ℕ) (at table : ℕ) (v : ColumnTree × ℕ) → target_at bytes at ≡ Ok table → column_in depth bytes table ≡ Ok v → column_at (suc depth) bytes at ≡ Ok v
+unfolding column_at parts_at column_in
+column_by_table depth bytes at table v led is = rw led is
+
+-- the type, and the column, from what the table says
+is_typed : (bytes : List ℕ) (p : Own) (cs : List ColumnTree) (t : TypeTree) → p.zone ≡ [] → p.index ≡ None
+    → (ids_of_kind p.kind (ids_at bytes p.table p.ids (length cs)) >>= λ i. counted p.table (type_of p.kind [] i cs)) ≡ Ok t → typed bytes p cs ≡ Ok t
+unfolding typed
+is_typed bytes p cs t zone index is =
+    let two = bound (ids_of_kind p.kind (ids_at bytes p.table p.ids (length cs))) (λ i. counted p.table (type_of p.kind [] i cs)) t is in
+    let three : counted p.table (type_of p.kind p.zone two.0 cs) ≡ Ok t = rw zone two.2 in
+    rw (two.1, three, index) refl
+
+is_column : (depth : ℕ) (bytes : List ℕ) (table : ℕ) (p : Own) (cs : List ColumnTree) (t : TypeTree) (ms : Metadata) (k l : ℕ) → parts_in bytes table ≡ Ok p → p.zone ≡ []
+    → columns_by (column_at depth bytes) p.children ≡ Ok (cs, k) → typed bytes p cs ≡ Ok t → texts_at bytes p.texts ≡ Ok (ms, l)
+    → column_in depth bytes table ≡ Ok (record { name = p.name; data_type = t; nullable = p.nullable; metadata = ms }, 16 + length p.name + length p.zone + (k + l))
+unfolding column_in finished
+is_column depth bytes table p cs t ms k l parts zone children type texts = rw (parts, children, type, texts) refl
+
+pub length_column : (nb tb cb mb : List ℕ) (nullable : Bool) (tag : ℕ) → length (column_block nb tb cb mb nullable tag) ≡ 48 + (length nb + (length tb + (length cb + length mb)))
+length_column nb tb cb mb nullable tag =
+    let size = length_linked (2 ^ 32 - 24) (nb ∷ tb ∷ cb ∷ mb ∷ []) (flag nullable ∷ tag ∷ 0 ∷ 0 ∷ 18 ∷ 0 ∷ 24 ∷ 0 ∷ places (4 ∷ 20 ∷ 21 ∷ 8 ∷ 0 ∷ 12 ∷ 16 ∷ [])) in
+    let one = length-append nb (tb ++ (cb ++ (mb ++ []))) in
+    let two = length-append tb (cb ++ (mb ++ [])) in
+    let three = length-append cb (mb ++ []) in
+    let four = length-append mb [] in
+    omega (arith, size, one, two, three, four)
+
+flag_is : (b : Bool) → (if flag b == 0 then false else true) ≡ b
+flag_is true = refl
+flag_is false = refl
+
+abbrev slots : List ℕ
+slots = 4 ∷ 20 ∷ 21 ∷ 8 ∷ 0 ∷ 12 ∷ 16 ∷ []
+
+parts_are : (bytes : List ℕ) (at : ℕ) (nullable : Bool) (tag a b c d : ℕ) (name : Text) (first : Option ℕ) (kind : Kind) (ids : Option (ℕ × ℕ)) (cv mv : ℕ × ℕ)
+    → ((i : ℕ) → slot_at bytes at i ≡ Ok (slot_place at slots i)) → target_at bytes (at + 4) ≡ Ok a → utf8_at bytes a ≡ Ok name → u8_at bytes (at + 20) ≡ Ok (flag nullable)
+    → u8_at bytes (at + 21) ≡ Ok tag → 0 < tag → tag ≤ 26 → target_at bytes (at + 8) ≡ Ok b → slot_at bytes b 0 ≡ Ok first → kind_at bytes tag b ≡ Ok kind → zone_in bytes tag b ≡ Ok [] → ids_in bytes tag b ≡ Ok ids
+    → target_at bytes (at + 12) ≡ Ok c → vector_at bytes c ≡ Ok cv → target_at bytes (at + 16) ≡ Ok d → vector_at bytes d ≡ Ok mv
+    → parts_in bytes at ≡ Ok (record { table = at; name = name; nullable = nullable; kind = kind; zone = []; index = None; children = cv; ids = ids; texts = mv })
+unfolding parts_in text_in flag_in u8_in tag_in table_in index_in vector_in
+parts_are bytes at nullable tag a b c d name first kind ids cv mv slot to_name named second third some least to_type is_first is_kind no_zone is_ids to_children children to_texts texts =
+    rw (slot 0, to_name, named, slot 1, second, flag_is nullable, slot 2, third, is_some tag some, is_le tag 26 least, slot 3, to_type, is_first, is_kind, no_zone, is_ids, slot 4, slot 5, to_children, children, slot 6, to_texts, texts) refl
+
+pub column_holds : (levels : ℕ) (nb tb cb mb : List ℕ) (nullable : Bool) (tag : ℕ) (name : Text) (cs : List ColumnTree) (t : TypeTree) (ms : Metadata)
+    → Holds text_read nb name → IsType tag tb cs t → Holds (columns_read levels) cb cs → Holds texts_read mb ms → length (column_block nb tb cb mb nullable tag) < 2 ^ 32
+    → Holds (column_in levels) (column_block nb tb cb mb nullable tag) (record { name = name; data_type = t; nullable = nullable; metadata = ms })
+unfolding offsets
+column_holds levels nb tb cb mb nullable tag name cs t ms named typing children texts small =
+    let bs = nb ∷ tb ∷ cb ∷ mb ∷ [] in
+    let numbers : List ℕ = flag nullable ∷ tag ∷ 0 ∷ 0 ∷ [] in
+    let rest : List ℕ = flag nullable ∷ tag ∷ 0 ∷ 0 ∷ 18 ∷ 0 ∷ 24 ∷ 0 ∷ places slots in
+    let size = length_column nb tb cb mb nullable tag in
+    let wn = named.whole in
+    let wt = typing.whole in
+    let wc = children.whole in
+    let wm = texts.whole in
+    record {
+      whole = omega (arith, size, wn, wt, wc, wm);
+      reads = λ bytes at lies.
+          let slot = slot_is bytes at slots numbers bs lies refl (omega arith) (omega arith, (omega arith, (omega arith, (omega arith, (omega arith, (omega arith, (omega arith, tt))))))) in
+          let l = are_linked bytes at (2 ^ 32 - 24) bs rest lies (wn, (wt, (wc, (wm, tt)))) small in
+          let is = flat bytes at (2 ^ 32 - 24) bs rest lies in
+          let first : u8_at bytes (at + 20) ≡ Ok (flag nullable) = u8_is bytes (at + 20) (flag nullable) _ (by_place bytes at _ 20 is) in
+          let second : u8_at bytes (at + 21) ≡ Ok tag = u8_is bytes (at + 21) tag _ (by_place bytes at _ 21 is) in
+          let n = named.reads bytes l.0.to l.0.lies in
+          let r = typing.reads bytes l.1.0.to l.1.0.lies in
+          let c = children.reads bytes l.1.1.0.to l.1.1.0.lies in
+          let m = texts.reads bytes l.1.1.1.0.to l.1.1.1.0.lies in
+          let nv = is_text bytes l.0.to name n.0 n.2 in
+          let cv = bound (vector_at bytes l.1.1.0.to) (columns_by (column_at levels bytes)) (cs, c.0) c.2 in
+          let mv = bound (vector_at bytes l.1.1.1.0.to) (texts_at bytes) (ms, m.0) m.2 in
+          let p : Own = record { table = at; name = name; nullable = nullable; kind = r.kind; zone = []; index = None; children = cv.0; ids = r.ids; texts = mv.0 } in
+          let parted = parts_are bytes at nullable tag _ _ _ _ name r.first r.kind r.ids cv.0 mv.0 slot l.0.led nv.0 first second typing.some typing.least l.1.0.led r.is_first r.is_kind r.no_zone r.is_ids l.1.1.0.led cv.1 l.1.1.1.0.led mv.1 in
+          (16 + length name + 0 + (c.0 + m.0), omega (arith, size, n.1, nv.1, c.1, m.1), is_column levels bytes at p cs t ms c.0 m.0 parted refl cv.2 (is_typed bytes p cs t refl refl (r.is_type at)) mv.2);
+    }
+
+-- as it is written
+flag_byte : (b : Bool) → bool_byte b ≡ flag b
+flag_byte true = refl
+flag_byte false = refl
+
+pub flagged : (nullable : Bool) (tag : ℕ) (bs : List (List ℕ)) → table_block slots (bool_byte nullable ∷ tag ∷ 0 ∷ 0 ∷ []) bs ≡ table_block slots (flag nullable ∷ tag ∷ 0 ∷ 0 ∷ []) bs
+flagged nullable tag bs = ap (λ (f : ℕ). table_block slots (f ∷ tag ∷ 0 ∷ 0 ∷ []) bs) (flag_byte nullable)
+
+-- ---- the block of a schema, in a message, in a stream
+
+ordered : (order : Endianness) → (if order_number order == 0 then Little else Big) ≡ order
+ordered Little = refl
+ordered Big = refl
+
+head_is : (bytes : List ℕ) (at a b : ℕ) (order : Endianness) (cv mv : ℕ × ℕ) → ((i : ℕ) → slot_at bytes at i ≡ Ok (slot_place at (12 ∷ 4 ∷ 8 ∷ []) i)) → u16_at bytes (at + 12) ≡ Ok (order_number order)
+    → target_at bytes (at + 4) ≡ Ok a → vector_at bytes a ≡ Ok cv → target_at bytes (at + 8) ≡ Ok b → vector_at bytes b ≡ Ok mv → head_at bytes at ≡ Ok (record { endianness = order; fields = cv; texts = mv })
+unfolding head_at u16_in table_in vector_in
+head_is bytes at a b order cv mv slot order_is to_columns columns to_texts texts = rw (slot 0, order_is, slot 1, to_columns, columns, slot 2, to_texts, texts, ordered order) refl
+
+pub length_schema : (cb mb : List ℕ) (order : Endianness) → length (schema_block cb mb order) ≡ 32 + (length cb + length mb)
+length_schema cb mb order =
+    let size = length_linked (2 ^ 32 - 16) (cb ∷ mb ∷ []) (order_number order ∷ 0 ∷ 0 ∷ 0 ∷ 10 ∷ 0 ∷ 16 ∷ 0 ∷ places (12 ∷ 4 ∷ 8 ∷ [])) in
+    let one = length-append cb (mb ++ []) in
+    let two = length-append mb [] in
+    omega (arith, size, one, two)
+
+schema_holds : (levels : ℕ) (cb mb : List ℕ) (order : Endianness) (cs : List ColumnTree) (ms : Metadata) → Holds (columns_read levels) cb cs → Holds texts_read mb ms → length (schema_block cb mb order) < 2 ^ 32
+    → Holds (schema_at levels) (schema_block cb mb order) (record { columns = cs; metadata = ms; endianness = order })
+unfolding offsets schema_at
+schema_holds levels cb mb order cs ms columns texts small =
+    let bs = cb ∷ mb ∷ [] in
+    let rest : List ℕ = order_number order ∷ 0 ∷ 0 ∷ 0 ∷ 10 ∷ 0 ∷ 16 ∷ 0 ∷ places (12 ∷ 4 ∷ 8 ∷ []) in
+    let size = length_schema cb mb order in
+    let wc = columns.whole in
+    let wm = texts.whole in
+    record {
+      whole = omega (arith, size, wc, wm);
+      reads = λ bytes at lies.
+          let whole = lies.whole in
+          let slot = slot_is bytes at (12 ∷ 4 ∷ 8 ∷ []) (order_number order ∷ 0 ∷ 0 ∷ 0 ∷ []) bs lies refl (omega arith) (omega arith, (omega arith, (omega arith, tt))) in
+          let l = are_linked bytes at (2 ^ 32 - 16) bs rest lies (wc, (wm, tt)) small in
+          let order_is = low bytes (at + 12) (order_number order) _ (omega (arith, whole)) (by_place bytes at _ 12 (flat bytes at (2 ^ 32 - 16) bs rest lies)) in
+          let c = columns.reads bytes l.0.to l.0.lies in
+          let m = texts.reads bytes l.1.0.to l.1.0.lies in
+          let cv = bound (vector_at bytes l.0.to) (columns_by (column_at levels bytes)) (cs, c.0) c.2 in
+          let mv = bound (vector_at bytes l.1.0.to) (texts_at bytes) (ms, m.0) m.2 in
+          let is = head_is bytes at l.0.to l.1.0.to order cv.0 mv.0 slot order_is l.0.led cv.1 l.1.0.led mv.1 in
+          (c.0 + m.0, omega (arith, size, c.1, m.1), rw (is, cv.2, mv.2) refl);
+    }
+
+-- ---- the message
+
+pub length_message : (schema : List ℕ) → length (message_block schema) ≡ 32 + length schema
+length_message schema =
+    let size = length_linked (2 ^ 32 - 12) (schema ∷ []) (4 ∷ 0 ∷ 1 ∷ 0 ∷ 10 ∷ 0 ∷ 12 ∷ 0 ∷ places (8 ∷ 10 ∷ 4 ∷ [])) in
+    let one = length-append schema [] in
+    omega (arith, size, one)
+
+message_is : (bytes : List ℕ) (to : ℕ) → target_at bytes 0 ≡ Ok 8 → ((i : ℕ) → slot_at bytes 8 i ≡ Ok (slot_place 8 (8 ∷ 10 ∷ 4 ∷ []) i)) → u16_at bytes 16 ≡ Ok 4 → u8_at bytes 18 ≡ Ok 1 → target_at bytes 12 ≡ Ok to
+    → message_at bytes ≡ Ok to
+unfolding message_at u64_in u16_in u8_in table_in
+message_is bytes to root slot version tag header = rw (root, slot 0, version, slot 1, tag, slot 3, slot 2, header) refl
+
+message_reads : (levels : ℕ) (block : List ℕ) (s : SchemaTree) → Holds (schema_at levels) block s → length (message_block block) < 2 ^ 32
+    → (n : ℕ) × (n ≤ length block) × (schema_of_message levels (message_block block) ≡ Ok (s, n))
+unfolding offsets schema_of_message
+message_reads levels block s h small =
+    let bytes = message_block block in
+    let numbers : List ℕ = 4 ∷ 0 ∷ 1 ∷ 0 ∷ [] in
+    let rest : List ℕ = 4 ∷ 0 ∷ 1 ∷ 0 ∷ 10 ∷ 0 ∷ 12 ∷ 0 ∷ places (8 ∷ 10 ∷ 4 ∷ []) in
+    let size = length_message block in
+    let lies : Lies (table_block (8 ∷ 10 ∷ 4 ∷ []) numbers (block ∷ [])) bytes 8 = record { after = []; is = sym (append-nil (table_block (8 ∷ 10 ∷ 4 ∷ []) numbers (block ∷ []))); whole = refl } in
+    let root : target_at bytes 0 ≡ Ok 8 = target_is bytes 0 8 (drop 4 bytes) refl (omega arith) (omega arith) (omega (arith, size)) refl in
+    let slot = slot_is bytes 8 (8 ∷ 10 ∷ 4 ∷ []) numbers (block ∷ []) lies refl (omega arith) (omega arith, (omega arith, (omega arith, tt))) in
+    let is = flat bytes 8 (2 ^ 32 - 12) (block ∷ []) rest lies in
+    let version = low bytes 16 4 _ refl (by_place bytes 8 _ 8 is) in
+    let tag = u8_is bytes 18 1 _ (by_place bytes 8 _ 10 is) in
+    let l = are_linked bytes 8 (2 ^ 32 - 12) (block ∷ []) rest lies (h.whole, tt) (omega (arith, small)) in
+    let got = h.reads bytes l.0.to l.0.lies in
+    (got.0, got.1, rw (message_is bytes l.0.to root slot version tag l.0.led) got.2)
+
+-- ---- the stream
+
+in_stream : (message : List ℕ) → 0 < length message → length message < 2 ^ 32 - 1 → message_in (stream_block message) ≡ Ok message
+unfolding message_in cut
+in_stream message some small =
+    let bytes = word 0xffff_ffff ++ (word (length message) ++ message) in
+    let long : length bytes ≡ 8 + length message = omega arith in
+    let first : u32_at bytes 0 ≡ Ok 0xffff_ffff = u32_is bytes 0 0xffff_ffff (drop 4 bytes) refl (omega arith) refl in
+    let size : u32_at bytes 4 ≡ Ok (length message) = u32_is bytes 4 (length message) message refl (omega (arith, small)) refl in
+    let all : take (length message) message ≡ message = ap (take (length message)) (sym (append-nil message)) ∙ take_at message [] (length message) refl in
+    rw (first, size, is_lt 0 (length message) some, is_le (8 + length message) (length bytes) (omega (arith, long)), all) refl
+
+pub stream_is : (levels : ℕ) (cb mb : List ℕ) (order : Endianness) (cs : List ColumnTree) (ms : Metadata) → Holds (columns_read levels) cb cs → Holds texts_read mb ms
+    → length (message_block (schema_block cb mb order)) < 2 ^ 31 → IsStreamOf levels (stream_block (message_block (schema_block cb mb order))) (record { columns = cs; metadata = ms; endianness = order })
+stream_is levels cb mb order cs ms columns texts small =
+    let block = schema_block cb mb order in
+    let size = length_message block in
+    let got = message_reads levels block (record { columns = cs; metadata = ms; endianness = order }) (schema_holds levels cb mb order cs ms columns texts (omega (arith, size, small))) (omega (arith, small)) in
+    (message_block block, in_stream (message_block block) (omega (arith, size)) (omega (arith, small)), (got.0, omega (arith, got.1, size), got.2))
+
+pub stream_ok : (levels : ℕ) (cb mb : List ℕ) (order : Endianness) (cs : List ColumnTree) (ms : Metadata) → Holds (columns_read levels) cb cs → Holds texts_read mb ms
+    → (r : Result (Vec ℕ Global) WriteError) → IfOk r (λ b. b.items ≡ stream_block (message_block (schema_block cb mb order))) → IfOk r (λ b. length (message_block (schema_block cb mb order)) < 2 ^ 31)
+    → IfOk r (λ b. IsStreamOf levels b.items (record { columns = cs; metadata = ms; endianness = order }))
+stream_ok levels cb mb order cs ms columns texts (Ok b) is small = rw is (stream_is levels cb mb order cs ms columns texts small)
+stream_ok levels cb mb order cs ms columns texts (Err e) is small = tt
+
+pub stream_built : (s a b c d e message block : List ℕ) (x : ℕ) → s ≡ [] → a ≡ s ++ word 0xffff_ffff → b ≡ a ++ word x → c ≡ b ++ (8 ∷ 0 ∷ 0 ∷ 0 ∷ 0 ∷ 0 ∷ 0 ∷ 0 ∷ []) → d ≡ c ++ e → e ≡ message
+    → message ≡ table_block (8 ∷ 10 ∷ 4 ∷ []) (4 ∷ 0 ∷ 1 ∷ 0 ∷ []) (block ∷ []) → x ≡ 8 + length message → d ≡ stream_block (message_block block)
+stream_built s a b c d e message block x s1 a2 b3 c4 d5 e6 same many =
+    let size : length (message_block block) ≡ 8 + length message = rw same (omega arith) in
+    rw (d5, c4, b3, a2, s1, e6, many, ← size, same) refl
