@@ -126,7 +126,7 @@ mutual
       let rest = items_back ds p.1 w.1 in
       (rw (first.0, rest.0), (first.1, rest.1))
 
-  members_back : (ms : Members) → members_are_held ms ≡ true → members_have_float ms ≡ false → (of_members (members_outline ms) no_members ≡ Some ms) × tree.MembersHaveNumbers (members_outline ms)
+  pub members_back : (ms : Members) → members_are_held ms ≡ true → members_have_float ms ≡ false → (of_members (members_outline ms) no_members ≡ Some ms) × tree.MembersHaveNumbers (members_outline ms)
   members_back no_members h whole = (refl, tt)
   members_back (member k d ms) h whole =
       let p = held_parts k d ms h in

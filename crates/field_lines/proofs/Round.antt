@@ -46,7 +46,7 @@ integer_whole : (z : ℤ) → has_float (number (of_integer z)) ≡ false
 integer_whole (pos n) = refl
 integer_whole (negsuc n) = refl
 
-texts_whole : (m : Metadata) → members_have_float (texts_value m) ≡ false
+pub texts_whole : (m : Metadata) → members_have_float (texts_value m) ≡ false
 texts_whole [] = refl
 texts_whole (e ∷ m) = texts_whole m
 

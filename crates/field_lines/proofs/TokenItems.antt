@@ -10,7 +10,7 @@ use Rattle.serde_json.specs.Data.{Data, array, Items, no_items, item}
 use Rattle.arrow_values.specs.Tree.{FieldTree, MemberTrees}
 use Rattle.arrow_values.specs.Union.{is_type_id}
 use Rattle.field_lines.specs.FieldOfValue.{member_before, field_of_value, id_of_value, members_in}
-use Rattle.field_lines.specs.Keys.{AreMemberParts, pair_read}
+use Rattle.field_lines.specs.Steps.{AreMemberParts, pair_read}
 use Rattle.value_tokens.specs.Next.{next_value, next_items, after, ReadsValue, ReadsItems}
 use Rattle.value_tokens.specs.Turns.{item_read, item_refused, items_over, value_takes, after_some}
 
@@ -26,6 +26,10 @@ turned depth ts None (Some p) over e = item_read depth ts p.1 p.0 over e
 
 pub item_turn : (depth : ℕ) (ts : List Token) → next_items depth ts ≡ turn depth (after_end_array ts) (next_value depth ts)
 item_turn depth ts = turned depth ts (after_end_array ts) (next_value depth ts) refl refl
+
+pub array_read : {A : Type 0} (f : Data → A) (depth below : ℕ) (ts s r : List Token) (a : A) → next_value depth ts ≡ parse_map array (next_items below s)
+    → ReadsItems (λ ds. f (array ds)) below s a r → ReadsValue f depth ts a r
+array_read f depth below ts s r a opened read = (array read.0, opened ∙ ap (parse_map array) read.1, read.2)
 
 -- an item where no bracket closes the list
 abbrev pub GoesOn : List Token → List Token → Type 0

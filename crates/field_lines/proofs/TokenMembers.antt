@@ -14,7 +14,7 @@ use Rattle.serde_json.specs.Data.{Data, string, object, Members, no_members, mem
 use Rattle.serde_json.specs.Find.{get_member, as_str, as_bool, as_object}
 use Rattle.arrow_values.specs.Tree.{Text, Metadata, Tree, FieldTree}
 use Rattle.field_lines.specs.FieldOfValue.{under, metadata_of_value, field_from, field_of_value, type_in, type_of_value, are_keys}
-use Rattle.field_lines.specs.Keys.{keyed_at, only_at, pair_at, fixed_size_list_at, union_at}
+use Rattle.field_lines.specs.Steps.{keyed_at, IsNeither}
 use Rattle.value_tokens.specs.Next.{next_value, next_members, ReadsMembers, next_after, after, ReadsValue, ReadsAfter}
 use Rattle.value_tokens.specs.Turns.{no_value, object_too_deep, value-object, member_read, members_over, value_takes, key_refused, after_some, taken, named}
 use Rattle.value_tokens.specs.Presence.{get_member-put_at, Has, kept, has_new, has_taken}
@@ -22,6 +22,9 @@ use Rattle.value_tokens.specs.Presence.{get_member-put_at, Has, kept, has_new, h
 -- a text that is another is told apart
 apart : (k l : Text) → (k ≡ l → ⊥) → bytes_eq k l ≡ false
 apart k l other = false_from_ne_true (bytes_eq k l) (λ e. other ((bytes_eq-Decides k l).0 e))
+
+differ : (k l : Text) → bytes_eq k l ≡ false → k ≡ l → ⊥
+differ k l other is = both_ways (bytes_eq k l) other ((bytes_eq-Decides k l).1 is)
 
 -- what the key that is next leaves
 abbrev pub turn : ℕ → Members → Option (Option Text × List Token) → Option (Members × List Token)
@@ -124,6 +127,23 @@ either_key u k l d e h =
     cond_both (bytes_eq u k) (Some d) (get_member u (member l e no_members)) (λ o. o ≡ Some h.0 → (u ≡ k) ⊎ (u ≡ l))
     (λ same _. inl ((bytes_eq-Decides u k).0 same)) (λ _ is. inr (only_key u l e (h.0, is))) (sym (get_member-at u k d (member l e no_members)) ∙ h.1)
 
+is_no_pair : (q k l m n : Text) → IsNeither m n q → (q ≡ k) ⊎ (q ≡ l) → are_keys k l m n ≡ false
+is_no_pair q k l m n none (inl is) = and_left (bytes_eq k m) (bytes_eq l n) (rw (← is) (apart q m none.0))
+is_no_pair q k l m n none (inr is) = and_right (bytes_eq k m) (bytes_eq l n) (rw (← is) (apart q n none.1))
+
+abbrev pub denoted : Members → Option Tree
+denoted ms = type_of_value (object ms)
+
+-- members of which one has no key of a fixed size list and one has no key of a union denote a type only by their one key
+pub no_type_of : {q u v : Text} (ms : Members) → IsNeither (codes "fixed_size_list") (codes "size") q → IsNeither (codes "mode") (codes "union") u → Has q ms → Has u ms → Has v ms
+    → ((d : Data) → q ≡ v → u ≡ v → None ≡ keyed_at v d) → None ≡ denoted ms
+no_type_of {q} {u} {v} (member k d no_members) size union a b c one =
+    let is = only_key v k d c in
+    subst (λ n. None ≡ keyed_at n d) is (one d (only_key q k d a ∙ sym is) (only_key u k d b ∙ sym is))
+no_type_of {q} {u} {v} (member k d (member l e no_members)) size union a b c one =
+    rw (is_no_pair q k l (codes "fixed_size_list") (codes "size") size (either_key q k l d e a), is_no_pair u k l (codes "mode") (codes "union") union (either_key u k l d e b))
+no_type_of _ size union a b c one = refl
+
 -- members that are skipped, of which one has the key that was read
 skipped : (depth : ℕ) (found : Members) (k : Text) (s : List Token) {u r : List Token} → after (next_value depth s) ≡ Some u
     → ((more : Members) → after (next_members depth more u) ≡ Some r) → (ms : Members) × (next_after depth found k s ≡ Some (ms, r)) × Has k ms
@@ -143,11 +163,6 @@ pub record IsOnlyUnderWay (depth : _) (only : Text) (all left : List Token) (ans
 put_only : (k : Text) (d e : Data) → put k d (member k e no_members) ≡ member k d no_members
 put_only k d e = rw (tied_itself nat_list_cmp_total k)
 
--- another key beside it
-spoiled : (only k : Text) (ms : Members) → (k ≡ only → ⊥) → Has k ms → None ≡ only_at only ms
-spoiled only k (member l d no_members) other h = rw (apart l only (λ is. other (only_key k l d h ∙ is)))
-spoiled only k _ other h = refl
-
 module _ {depth : ℕ} {only : Text} {all left s : List Token} {answer : Option Tree} (way : IsOnlyUnderWay depth only all left answer) where
   pub only_go_on : {k : Text} {r : List Token} {new : Option Tree} {b : Bool} → read_key left ≡ Some (Some k, s) → b ≡ not (bytes_eq k only) → b ≡ false → ReadsValue (keyed_at only) depth s new r
       → IsOnlyUnderWay depth only all r new
@@ -161,15 +176,17 @@ module _ {depth : ℕ} {only : Text} {all left s : List Token} {answer : Option 
         fewer = omega (arith, way.fewer, member_takes depth left s r k read.0 named read.1);
       }
 
-  pub only_end : read_key left ≡ Some (None, s) → ReadsAfter (only_at only) depth no_members only all answer s
-  only_end over = (member only way.value no_members, way.decides ∙ members_over depth (member only way.value no_members) left s over, way.answers ∙ rw ((bytes_eq-Decides only only).1 refl))
+  pub only_end : read_key left ≡ Some (None, s) → ReadsAfter denoted depth no_members only all answer s
+  only_end over = (member only way.value no_members, way.decides ∙ members_over depth (member only way.value no_members) left s over, way.answers)
 
-  pub only_spoiled : {k : Text} {u r : List Token} {b : Bool} → read_key left ≡ Some (Some k, s) → b ≡ not (bytes_eq k only) → b ≡ true → after (next_value depth s) ≡ Some u
-      → ((found : Members) → after (next_members depth found u) ≡ Some r) → ReadsAfter (only_at only) depth no_members only all None r
-  only_spoiled {k} came e differs passed rest =
+  pub only_spoiled : {k : Text} {u r : List Token} {b : Bool} → IsNeither (codes "fixed_size_list") (codes "size") only × IsNeither (codes "mode") (codes "union") only → read_key left ≡ Some (Some k, s)
+      → b ≡ not (bytes_eq k only) → b ≡ true → after (next_value depth s) ≡ Some u → ((found : Members) → after (next_members depth found u) ≡ Some r) → ReadsAfter denoted depth no_members only all None r
+  only_spoiled {k} {r = r} none came e differs passed rest =
       let ms = skipped depth (member only way.value no_members) k s passed rest in
-      let other = λ (is : k ≡ only). both_ways _ (not-true _ (sym e ∙ differs)) ((bytes_eq-Decides k only).1 is) in
-      (ms.0, way.decides ∙ named depth (member only way.value no_members) k left s came ∙ ms.1, spoiled only k ms.0 other ms.2)
+      let read = way.decides ∙ named depth (member only way.value no_members) k left s came ∙ ms.1 in
+      let has = has_taken depth only no_members ms.0 all r read in
+      let other = λ (is : only ≡ k). both_ways _ (not-true _ (sym e ∙ differs)) ((bytes_eq-Decides k only).1 (sym is)) in
+      (ms.0, read, no_type_of ms.0 none.0 none.1 has has ms.2 (λ d is _. absurd (other is)))
 
 -- ---- two keys
 
@@ -223,12 +240,13 @@ module _ {A B : Type 0} {f : Data → Option A} {g : Data → Option B} {k l : T
       }
 
   -- a third key beside the two
-  pub two_spoiled : {u r : List Token} {at : Members → Option Tree} → after (next_value depth left) ≡ Some u → ((found : Members) → after (next_members depth found u) ≡ Some r)
-      → ((ms : Members) → Has q ms → None ≡ at ms) → ReadsAfter at depth no_members first all None r
-  two_spoiled passed rest none =
+  pub two_spoiled : {u r : List Token} → after (next_value depth left) ≡ Some u → ((found : Members) → after (next_members depth found u) ≡ Some r)
+      → ((ms : Members) → Has q ms → Has first ms → None ≡ denoted ms) → ReadsAfter denoted depth no_members first all None r
+  two_spoiled {r = r} passed rest none =
       let found = two k l before.at_first before.at_second in
       let ms = skipped depth found q left passed rest in
-      (ms.0, before.decides ∙ ap (λ n. turn depth found (Some (n, left))) came ∙ ms.1, none ms.0 ms.2)
+      let read = before.decides ∙ ap (λ n. turn depth found (Some (n, left))) came ∙ ms.1 in
+      (ms.0, read, none ms.0 ms.2 (has_taken depth first no_members ms.0 all r read))
 
 module _ {A B : Type 0} {f : Data → Option A} {g : Data → Option B} {k l : Text} {depth : ℕ} {first : Text} {all left : List Token} {now : Option Text} {x : Option A} {y : Option B}
     (ordered : AreOrdered k l) (way : AreTwoUnderWay f g k l depth first all left now x y) {r s : List Token} {next : Option Text} where
@@ -238,46 +256,15 @@ module _ {A B : Type 0} {f : Data → Option A} {g : Data → Option B} {k l : T
   pub second_read : {new : Option B} → now ≡ Some l → ReadsValue g depth left new r → read_key r ≡ Some (next, s) → AreTwoUnderWay f g k l depth first all s next x new
   second_read came read e = took way came way.at_first (Some read.0) read e (put_second k l read.0 way.at_first way.at_second ordered) (way.answers.0, read.2)
 
--- one of two keys is neither of two others
-abbrev IsNeither : Text → Text → Text → Type 0
-IsNeither m n q = (bytes_eq q m ≡ false) × (bytes_eq q n ≡ false)
-
-is_no_pair : (q k l m n : Text) → IsNeither m n q → (q ≡ k) ⊎ (q ≡ l) → are_keys k l m n ≡ false
-is_no_pair q k l m n none (inl is) = and_left (bytes_eq k m) (bytes_eq l n) (rw (← is) none.0)
-is_no_pair q k l m n none (inr is) = and_right (bytes_eq k m) (bytes_eq l n) (rw (← is) none.1)
-
-pub no_pair : {A : Type 0} (f : Data → Data → Option A) (p q u : Text) (ms : Members) → (u ≡ p → ⊥) → (u ≡ q → ⊥) → Has u ms → None ≡ pair_at f p q ms
-no_pair f p q u (member k d (member l e no_members)) a b h = rw (is_no_pair u k l p q (apart u _ a, apart u _ b) (either_key u k l d e h))
-no_pair f p q u _ a b h = refl
-
--- ---- the key that comes first says which type it is
-
+-- a key that is one of two, and none of the others
 either_is : {q m n : Text} (P : Text → Type 0) → (q ≡ m) ⊎ (q ≡ n) → P m → P n → P q
 either_is P one at_m at_n = ⊎_elim (λ is. subst P (sym is) at_m) (λ is. subst P (sym is) at_n) one
 
-pub as_only : (q : Text) (ms : Members) → (q ≡ codes "fixed_size_list" → ⊥) → (q ≡ codes "size" → ⊥) → (q ≡ codes "mode" → ⊥) → (q ≡ codes "union" → ⊥) → Has q ms → only_at q ms ≡ type_of_value (object ms)
-as_only q (member k d no_members) fixed size mode union h = rw (← only_key q k d h, (bytes_eq-Decides q q).1 refl)
-as_only q (member k d (member l e no_members)) fixed size mode union h =
-    let one = either_key q k l d e h in
-    rw (is_no_pair q k l (codes "fixed_size_list") (codes "size") (apart q _ fixed, apart q _ size) one, is_no_pair q k l (codes "mode") (codes "union") (apart q _ mode, apart q _ union) one)
-as_only q _ fixed size mode union h = refl
+pub of_fixed_size_list : {q : Text} → (q ≡ codes "fixed_size_list") ⊎ (q ≡ codes "size") → IsNeither (codes "mode") (codes "union") q × ((d : Data) → None ≡ keyed_at q d)
+of_fixed_size_list one = either_is (λ q. IsNeither (codes "mode") (codes "union") q × ((d : Data) → None ≡ keyed_at q d)) one ((differ _ _ refl, differ _ _ refl), λ d. refl) ((differ _ _ refl, differ _ _ refl), λ d. refl)
 
-pub as_fixed_size_list : (q : Text) (ms : Members) → (q ≡ codes "fixed_size_list") ⊎ (q ≡ codes "size") → Has q ms → fixed_size_list_at ms ≡ type_of_value (object ms)
-as_fixed_size_list q (member k d no_members) one h = subst (λ n. None ≡ keyed_at n d) (only_key q k d h) (either_is (λ n. None ≡ keyed_at n d) one refl refl)
-as_fixed_size_list q (member k d (member l e no_members)) one h =
-    rw (is_no_pair q k l (codes "mode") (codes "union") (either_is (IsNeither (codes "mode") (codes "union")) one (refl, refl) (refl, refl)) (either_key q k l d e h))
-as_fixed_size_list q _ one h = refl
-
-pub as_union : (q : Text) (ms : Members) → (q ≡ codes "mode") ⊎ (q ≡ codes "union") → Has q ms → union_at ms ≡ type_of_value (object ms)
-as_union q (member k d no_members) one h = subst (λ n. None ≡ keyed_at n d) (only_key q k d h) (either_is (λ n. None ≡ keyed_at n d) one refl refl)
-as_union q (member k d (member l e no_members)) one h =
-    rw (is_no_pair q k l (codes "fixed_size_list") (codes "size") (either_is (IsNeither (codes "fixed_size_list") (codes "size")) one (refl, refl) (refl, refl)) (either_key q k l d e h))
-as_union q _ one h = refl
-
--- an answer by one definition is one by another, where they agree on what has the key
-pub taken_as : {A : Type 0} {f g : Members → A} (depth : ℕ) (ts : List Token) {k : Text} {s r : List Token} {o : A} → read_key ts ≡ Some (Some k, s) → ((ms : Members) → Has k ms → f ms ≡ g ms) → ReadsAfter f depth no_members k s o r
-    → ReadsMembers g depth no_members ts o r
-taken_as depth ts {k} {s} {r} came same read = (read.0, named depth no_members k ts s came ∙ read.1, read.2 ∙ same read.0 (has_taken depth k no_members read.0 s r read.1))
+pub of_union : {q : Text} → (q ≡ codes "mode") ⊎ (q ≡ codes "union") → IsNeither (codes "fixed_size_list") (codes "size") q × ((d : Data) → None ≡ keyed_at q d)
+of_union one = either_is (λ q. IsNeither (codes "fixed_size_list") (codes "size") q × ((d : Data) → None ≡ keyed_at q d)) one ((differ _ _ refl, differ _ _ refl), λ d. refl) ((differ _ _ refl, differ _ _ refl), λ d. refl)
 
 -- what stands at the one key
 pub keyed_read : {A : Type 0} {f : Data → Option A} (w : A → Tree) (k : Text) (depth : ℕ) (ts : List Token) {r : List Token} {o : Option A} → ReadsValue f depth ts o r → ((d : Data) → option_map w (f d) ≡ keyed_at k d)

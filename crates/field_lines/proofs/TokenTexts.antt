@@ -8,18 +8,18 @@ use Rattle.std.specs.Map.{keys_of}
 use Rattle.std.specs.BTreeMap.{insert_entry}
 use Rattle.std.specs.String.{string_cmp_total}
 use Rattle.json.specs.Token.{Token}
-use Rattle.json.specs.Json.{read_key}
-use Rattle.serde_json.specs.Data.{Data, string, Members, no_members, member, put}
+use Rattle.json.specs.Json.{read_key, parse_map}
+use Rattle.serde_json.specs.Data.{Data, string, object, Members, no_members, member, put}
 use Rattle.serde_json.specs.Find.{as_str}
 use Rattle.arrow_values.specs.Tree.{Text, Metadata}
 use Rattle.arrow_values.specs.View.{texts_of}
-use Rattle.field_lines.specs.FieldOfValue.{texts_in}
-use Rattle.field_lines.specs.Slots.{slots_in, slots_of, texts_kept}
+use Rattle.field_lines.specs.FieldOfValue.{texts_in, metadata_of_value}
+use Rattle.field_lines.specs.Steps.{slots_in, slots_of, texts_kept}
 use Rattle.field_lines.specs.Line.{texts_value}
 use Rattle.field_lines.proofs.TokenMembers.{member_takes}
 use Rattle.field_lines.proofs.Round.{texts_in-value}
 use Rattle.field_lines.proofs.Prints.{Texts, insert_last, ordered, texts_put}
-use Rattle.value_tokens.specs.Next.{next_members, ReadsValue, ReadsMembers}
+use Rattle.value_tokens.specs.Next.{next_value, next_members, ReadsValue, ReadsMembers}
 use Rattle.value_tokens.specs.Turns.{member_read, members_over}
 
 pub text_says : (d : Data) → IfSome (as_str d) (λ s. d ≡ string s)
@@ -92,9 +92,10 @@ module _ {depth : ℕ} {all left : List Token} {start made : SlotEntries} (way :
       (more.0, more.1 ∙ members_over depth more.0 left r over, is ∙ ap texts_kept (sym more.2) ∙ sym (texts_by_slots more.0))
 
 -- at the first member that is no text the slots take over
-pub slots_read : (depth : ℕ) (all left : List Token) (slots : SlotEntries) {r : List Token} {o : Option Metadata} (found : Members) → next_members depth no_members all ≡ next_members depth found left → slots_in found ≡ slots_of slots
-    → ((found : Members) → slots_in found ≡ slots_of slots → ReadsMembers texts_in depth found left o r) → ReadsMembers texts_in depth no_members all o r
-slots_read depth all left slots found decides same read = let ms = read found same in (ms.0, decides ∙ ms.1, ms.2)
+pub slots_read : (depth below : ℕ) (ts all left : List Token) (slots : SlotEntries) {r : List Token} {o : Option Metadata} (found : Members) → next_value depth ts ≡ parse_map object (next_members below no_members all)
+    → next_members below no_members all ≡ next_members below found left → slots_in found ≡ slots_of slots → ((found : Members) → slots_in found ≡ slots_of slots → ReadsMembers texts_in below found left o r)
+    → ReadsValue (λ d. metadata_of_value (Some d)) depth ts o r
+slots_read depth below ts all left slots found opened decides same read = let ms = read found same in (object ms.0, opened ∙ ap (parse_map object) (decides ∙ ms.1), ms.2)
 
 -- ---- a loop that puts the entries of one map into another: those so far stand before what is left, and all keys ascend
 

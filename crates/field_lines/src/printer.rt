@@ -4,7 +4,7 @@ ghost use Rattle.serde_json.specs.Data.{string, number, object, array, no_items,
 ghost use Rattle.serde_json.specs.Find.{of_integer};
 ghost use Rattle.arrow_values.specs.View.{tree, texts_of, field_trees, member_trees};
 ghost use Rattle.field_lines.specs.Names.{mode_name};
-ghost use Rattle.field_lines.specs.Prints.{PrintsMetadata};
+ghost use Rattle.field_lines.specs.Steps.{PrintsMetadata};
 ghost use Rattle.field_lines.specs.Line.{texts_value, one_key, two_keys, type_value, fields_value, members_value, value_of_field, other_value};
 ghost use Rattle.value_tokens.specs.Adds.{Prints, PrintsItems};
 
