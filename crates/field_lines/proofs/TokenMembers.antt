@@ -1,22 +1,9 @@
 -- The members of an object from tokens: those of a field, of which the last value at each key counts, and those of a type, with one key or two and no others.
 use Rattle.std.proofs.Common.{◌≡◌, ℕ, ◌≤◌, List, length, Bool, true, false, cond, bytes_eq, nat_cmp, Ordering, Equal, Option, Some, None, option_and_then, codes, refl, sym, ap, ◌∙◌, arith, ◌<◌, Less, Greater, option_map, not, ◌⊎◌, inl, inr, ⊎_elim, subst}
-use Rattle.std.proofs.lemmas.Bool.{cond-false, cond_both, false_from_ne_true, and_left, and_right, both_ways, not-true, not-false}
+use Rattle.field_lines.proofs.Terms.{cond-false, cond_both, false_from_ne_true, and_left, and_right, both_ways, not-true, not-false, slice_cmp, is_eq, match_ordering, cond_some, nat_list_cmp_total, tied_itself, Token, read_key, Data, string, object, Members, no_members, member, put, get_member, as_str, as_bool, as_object, Text, Metadata, Tree, FieldTree, under, metadata_of_value, field_from, field_of_value, type_in, type_of_value, are_keys, keyed_at, IsNeither, next_value, next_members, ReadsMembers, next_after, after, ReadsValue, ReadsAfter, no_value, object_too_deep, value-object, member_read, members_over, value_takes, key_refused, after_some, taken, named}
 use Rattle.std.proofs.lemmas.Map.Text.{is_eq-slice_cmp}
-use Rattle.std.specs.Cmp.Lexicographic.{slice_cmp}
-use Rattle.std.specs.Ordering.{is_eq, match_ordering}
 use Rattle.std.proofs.lemmas.Slice.Eq.{bytes_eq-Decides}
-use Rattle.std.proofs.lemmas.Option.{cond_some}
-use Rattle.std.proofs.lemmas.Cmp.{nat_list_cmp_total, tied_itself}
-use Rattle.json.specs.Token.{Token}
-use Rattle.json.specs.Json.{read_key}
 use Rattle.json.proofs.Grammar.{read_key-shorter}
-use Rattle.serde_json.specs.Data.{Data, string, object, Members, no_members, member, put}
-use Rattle.serde_json.specs.Find.{get_member, as_str, as_bool, as_object}
-use Rattle.arrow_values.specs.Tree.{Text, Metadata, Tree, FieldTree}
-use Rattle.field_lines.specs.FieldOfValue.{under, metadata_of_value, field_from, field_of_value, type_in, type_of_value, are_keys}
-use Rattle.field_lines.specs.Steps.{keyed_at, IsNeither}
-use Rattle.value_tokens.specs.Next.{next_value, next_members, ReadsMembers, next_after, after, ReadsValue, ReadsAfter}
-use Rattle.value_tokens.specs.Turns.{no_value, object_too_deep, value-object, member_read, members_over, value_takes, key_refused, after_some, taken, named}
 use Rattle.value_tokens.specs.Presence.{get_member-put_at, Has, kept, has_new, has_taken}
 
 -- a text that is another is told apart
@@ -32,13 +19,8 @@ turn depth found None = None
 turn depth found (Some (None, s)) = Some (found, s)
 turn depth found (Some (Some k, s)) = next_after depth found k s
 
-turned : (depth : ℕ) (found : Members) (ts : List Token) (o : Option (Option Text × List Token)) → read_key ts ≡ o → next_members depth found ts ≡ turn depth found o
-turned depth found ts None e = key_refused depth found ts e
-turned depth found ts (Some (None, s)) e = members_over depth found ts s e
-turned depth found ts (Some (Some k, s)) e = named depth found k ts s e
-
 pub member_turn : (depth : ℕ) (found : Members) (ts : List Token) → next_members depth found ts ≡ turn depth found (read_key ts)
-member_turn depth found ts = turned depth found ts (read_key ts) refl
+member_turn depth found ts = grind (arith, key_refused, members_over, named)
 
 -- a member takes tokens
 pub member_takes : (depth : ℕ) (ts s r : List Token) (k : Text) (d : Data) → read_key ts ≡ Some (Some k, s) → next_value depth s ≡ Some (d, r) → length r < length ts
@@ -47,15 +29,13 @@ member_takes depth ts s r k d key e = let less = value_takes depth s r d e in le
 -- ---- the parts of a field
 
 at_first : (r : Ordering) (d o : Option Data) → match_ordering r o d o ≡ cond (is_eq r) d o
-at_first Equal d o = refl
-at_first _ d o = refl
+at_first r d o = grind arith
 
 pub get_member-at : (q k : Text) (d : Data) (ms : Members) → get_member q (member k d ms) ≡ cond (bytes_eq q k) (Some d) (get_member q ms)
 get_member-at q k d ms = at_first (slice_cmp nat_cmp q k) (Some d) (get_member q ms) ∙ ap (λ b. cond b (Some d) (get_member q ms)) (is_eq-slice_cmp q k)
 
 chosen : {A B : Type 0} (f : Option A → B) (b : Bool) (x y : Option A) → f (cond b x y) ≡ cond b (f x) (f y)
-chosen f true x y = refl
-chosen f false x y = refl
+chosen f b x y = grind arith
 
 -- the type is what stands at its key
 type_in-get : (ms : Members) → type_in ms ≡ under type_of_value (codes "type") ms
@@ -108,9 +88,7 @@ pub ruleset type_begins = (no_value, object_too_deep, value-object)
 
 -- what is no object and no text denotes no type
 pub no_type : (d : Data) → as_object d ≡ None → as_str d ≡ None → None ≡ type_of_value d
-no_type (string s) e f = cc
-no_type (object ms) e f = cc
-no_type _ e f = refl
+no_type d e f = grind arith
 
 -- a part at another key
 pub part_other : {A : Type 0} {q k : Text} (here : Option A) {old : Option A} → (k ≡ q → ⊥) → Part q k old here old
@@ -128,8 +106,7 @@ either_key u k l d e h =
     (λ same _. inl ((bytes_eq-Decides u k).0 same)) (λ _ is. inr (only_key u l e (h.0, is))) (sym (get_member-at u k d (member l e no_members)) ∙ h.1)
 
 is_no_pair : (q k l m n : Text) → IsNeither m n q → (q ≡ k) ⊎ (q ≡ l) → are_keys k l m n ≡ false
-is_no_pair q k l m n none (inl is) = and_left (bytes_eq k m) (bytes_eq l n) (rw (← is) (apart q m none.0))
-is_no_pair q k l m n none (inr is) = and_right (bytes_eq k m) (bytes_eq l n) (rw (← is) (apart q n none.1))
+is_no_pair q k l m n none one = grind (arith, bytes_eq-Decides)
 
 abbrev pub denoted : Members → Option Tree
 denoted ms = type_of_value (object ms)
@@ -176,9 +153,6 @@ module _ {depth : ℕ} {only : Text} {all left s : List Token} {answer : Option 
         fewer = omega (arith, way.fewer, member_takes depth left s r k read.0 named read.1);
       }
 
-  pub only_end : read_key left ≡ Some (None, s) → ReadsAfter denoted depth no_members only all answer s
-  only_end over = (member only way.value no_members, way.decides ∙ members_over depth (member only way.value no_members) left s over, way.answers)
-
   pub only_spoiled : {k : Text} {u r : List Token} {b : Bool} → IsNeither (codes "fixed_size_list") (codes "size") only × IsNeither (codes "mode") (codes "union") only → read_key left ≡ Some (Some k, s)
       → b ≡ not (bytes_eq k only) → b ≡ true → after (next_value depth s) ≡ Some u → ((found : Members) → after (next_members depth found u) ≡ Some r) → ReadsAfter denoted depth no_members only all None r
   only_spoiled {k} {r = r} none came e differs passed rest =
@@ -210,17 +184,13 @@ abbrev pub AreOrdered : Text → Text → Type 0
 AreOrdered k l = (slice_cmp nat_cmp k l ≡ Less) × (slice_cmp nat_cmp l k ≡ Greater)
 
 put_first : (k l : Text) (d : Data) (a b : Option Data) → AreOrdered k l → put k d (two k l a b) ≡ two k l (Some d) b
-put_first k l d None None h = refl
-put_first k l d None (Some e) h = rw h.0
-put_first k l d (Some c) b h = rw (tied_itself nat_list_cmp_total k)
+put_first k l d a b h = grind (arith, tied_itself nat_list_cmp_total k)
 
 put_alone : (l : Text) (d : Data) (b : Option Data) → put l d (with_key l b no_members) ≡ member l d no_members
-put_alone l d None = refl
-put_alone l d (Some e) = put_only l d e
+put_alone l d b = grind (arith, put_only)
 
 put_second : (k l : Text) (d : Data) (a b : Option Data) → AreOrdered k l → put l d (two k l a b) ≡ two k l a (Some d)
-put_second k l d None b h = put_alone l d b
-put_second k l d (Some c) b h = rw h.1 (ap (member k c) (put_alone l d b))
+put_second k l d a b h = grind (arith, put_alone l d b)
 
 module _ {A B : Type 0} {f : Data → Option A} {g : Data → Option B} {k l : Text} {depth : ℕ} {first : Text} {all left : List Token} {now : Option Text} {x : Option A} {y : Option B}
     (before : AreTwoUnderWay f g k l depth first all left now x y) {q : Text} (came : now ≡ Some q) where
@@ -265,11 +235,6 @@ of_fixed_size_list one = either_is (λ q. IsNeither (codes "mode") (codes "union
 
 pub of_union : {q : Text} → (q ≡ codes "mode") ⊎ (q ≡ codes "union") → IsNeither (codes "fixed_size_list") (codes "size") q × ((d : Data) → None ≡ keyed_at q d)
 of_union one = either_is (λ q. IsNeither (codes "fixed_size_list") (codes "size") q × ((d : Data) → None ≡ keyed_at q d)) one ((differ _ _ refl, differ _ _ refl), λ d. refl) ((differ _ _ refl, differ _ _ refl), λ d. refl)
-
--- what stands at the one key
-pub keyed_read : {A : Type 0} {f : Data → Option A} (w : A → Tree) (k : Text) (depth : ℕ) (ts : List Token) {r : List Token} {o : Option A} → ReadsValue f depth ts o r → ((d : Data) → option_map w (f d) ≡ keyed_at k d)
-    → ReadsValue (keyed_at k) depth ts (option_map w o) r
-keyed_read w k depth ts read law = (read.0, read.1, ap (option_map w) read.2 ∙ law read.0)
 
 pub not_keyed : (k : Text) (d : Data) → (k ≡ codes "list" → ⊥) → (k ≡ codes "large_list" → ⊥) → (k ≡ codes "struct" → ⊥) → None ≡ keyed_at k d
 not_keyed k d list large struct = rw (apart k _ list, apart k _ large, apart k _ struct)

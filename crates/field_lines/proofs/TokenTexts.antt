@@ -1,30 +1,16 @@
 -- An object of texts from tokens: the texts so far are the members so far, until a member is no text; then slots, in which the newest value of a key stands.
 use Rattle.std.proofs.Common.{◌≡◌, ◌≤◌, ℕ, List, [], ◌∷◌, ◌++◌, length, map, nat_cmp, IfSome, Option, Some, None, option_map, option_and_then, String, Global, string_bytes, string_cmp, refl, sym, ap, ◌∙◌, subst, arith, append_assoc, append-nil}
+use Rattle.field_lines.proofs.Terms.{slice_cmp, IsStrictlySortedBy, keys_of, Token, read_key, parse_map, Data, string, object, Members, no_members, member, put, as_str, Text, Metadata, texts_of, texts_in, metadata_of_value, slots_in, slots_of, texts_kept, texts_value, next_value, next_members, ReadsValue, ReadsMembers, member_read, members_over}
 use Rattle.std.proofs.lemmas.Iterator.Adapters.{option_map_id}
 use Rattle.std.proofs.lemmas.List.{map-append}
-use Rattle.std.specs.Cmp.Lexicographic.{slice_cmp}
-use Rattle.std.specs.List.Sorted.{IsStrictlySortedBy}
-use Rattle.std.specs.Map.{keys_of}
 use Rattle.std.specs.BTreeMap.{insert_entry}
 use Rattle.std.specs.String.{string_cmp_total}
-use Rattle.json.specs.Token.{Token}
-use Rattle.json.specs.Json.{read_key, parse_map}
-use Rattle.serde_json.specs.Data.{Data, string, object, Members, no_members, member, put}
-use Rattle.serde_json.specs.Find.{as_str}
-use Rattle.arrow_values.specs.Tree.{Text, Metadata}
-use Rattle.arrow_values.specs.View.{texts_of}
-use Rattle.field_lines.specs.FieldOfValue.{texts_in, metadata_of_value}
-use Rattle.field_lines.specs.Steps.{slots_in, slots_of, texts_kept}
-use Rattle.field_lines.specs.Line.{texts_value}
 use Rattle.field_lines.proofs.TokenMembers.{member_takes}
 use Rattle.field_lines.proofs.Round.{texts_in-value}
 use Rattle.field_lines.proofs.Prints.{Texts, insert_last, ordered, texts_put}
-use Rattle.value_tokens.specs.Next.{next_value, next_members, ReadsValue, ReadsMembers}
-use Rattle.value_tokens.specs.Turns.{member_read, members_over}
 
 pub text_says : (d : Data) → IfSome (as_str d) (λ s. d ≡ string s)
-text_says (string s) = refl
-text_says _ = tt
+text_says d = grind arith
 
 pub record AreTextsUnderWay (depth : _) (all left : List Token) (made : Texts) : Type 0 where
   pub decides : next_members depth no_members all ≡ next_members depth (texts_value (texts_of made)) left
@@ -104,8 +90,7 @@ abbrev onto : {E : Type 0} → List E → Option (List E) → Option (List E)
 onto front o = option_map (λ rest. front ++ rest) o
 
 one_more : {E : Type 0} (front : List E) (e : E) (o : Option (List E)) → onto front (option_map (λ es. e ∷ es) o) ≡ onto (front ++ (e ∷ [])) o
-one_more front e None = refl
-one_more front e (Some es) = ap Some (sym (append_assoc front (e ∷ []) es))
+one_more front e o = grind (arith, append_assoc)
 
 abbrev Entries : Type 0 → Type 0
 Entries X = List (String Global × X)

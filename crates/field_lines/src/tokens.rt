@@ -196,6 +196,7 @@ fn take_only(
 /// The type that the value at the one key of an object says.
 #[cycle(take)]
 #[inline(always)]
+#[tactic(auto, using(crate::proofs::TokenMembers::not_keyed))]
 fn take_keyed(
     alloc: Global,
     reader: &mut Reader<'_>,
@@ -207,18 +208,11 @@ fn take_keyed(
     ensures text { result ≡ Err Refusal.Text → next_value depth reader.old ≡ None }
 {
     match key {
-        "list" => match take_boxed(alloc, reader, depth)? {
-            Some(field) => Ok(Some(DataType::List(field))),
-            None => Ok(None),
-        },
-        "large_list" => match take_boxed(alloc, reader, depth)? {
-            Some(field) => Ok(Some(DataType::LargeList(field))),
-            None => Ok(None),
-        },
-        "struct" => match take_fields(alloc, reader, depth)? {
-            Some(fields) => Ok(Some(DataType::Struct(Fields::from(fields)))),
-            None => Ok(None),
-        },
+        "list" => Ok(take_boxed(alloc, reader, depth)?.map(DataType::List)),
+        "large_list" => Ok(take_boxed(alloc, reader, depth)?.map(DataType::LargeList)),
+        "struct" => Ok(take_fields(alloc, reader, depth)?.map(|fields| DataType::Struct(
+            Fields::from(fields),
+        ))),
         _ => {
             skip_value(reader, depth)?;
             Ok(None)

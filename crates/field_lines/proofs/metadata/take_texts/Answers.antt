@@ -1,12 +1,6 @@
 use Rattle.std.proofs.Common.{arith, rules, None, Some, sym, ap, ◌∙◌}
-use Rattle.std.proofs.lemmas.Result.{IfOk-weaker}
-use Rattle.json.specs.Json.{parse_map}
-use Rattle.serde_json.specs.Data.{put, object}
-use Rattle.arrow_values.specs.View.{texts_of}
-use Rattle.field_lines.specs.FieldOfValue.{metadata_of_value}
-use Rattle.field_lines.specs.Line.{texts_value}
+use Rattle.field_lines.proofs.Terms.{IfOk-weaker, parse_map, put, object, texts_of, metadata_of_value, texts_value, member_read}
 use Rattle.value_tokens.specs.Beginnings.{object_read}
-use Rattle.value_tokens.specs.Turns.{member_read}
 use Rattle.field_lines.proofs.TokenTexts.{texts_go_on, texts_end, slot_put, slots_read}
 use Rattle.field_lines.proofs.metadata.take_texts.Goals as goal
 

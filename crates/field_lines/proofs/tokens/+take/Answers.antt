@@ -1,17 +1,8 @@
 use Rattle.std.proofs.Common.{rules, arith, ◌≡◌, ◌-◌, [], ◌∷◌, ◌++◌, Some, IsTrue, option_map, option_and_then, subst₂, refl, sym, ap, ap₂, ◌∙◌}
+use Rattle.field_lines.proofs.Terms.{IfOk-weaker, zip, parse_map, string, no_items, item, no_members, struct, is_type_id, texts_of, field_trees, field_before, field_of_value, type_of_value, fields_of_value, members_of_value, list_of, large_list_of, AreMemberParts, pair_read, value-object, members_over, after_some}
 use Rattle.std.proofs.lemmas.Int.{to_z-of_z}
-use Rattle.std.proofs.lemmas.Result.{IfOk-weaker}
-use Rattle.std.specs.List.{zip}
-use Rattle.json.specs.Json.{parse_map}
-use Rattle.serde_json.specs.Data.{string, no_items, item, no_members}
-use Rattle.arrow_values.specs.Tree.{struct}
-use Rattle.arrow_values.specs.Union.{is_type_id}
-use Rattle.arrow_values.specs.View.{texts_of, field_trees}
-use Rattle.field_lines.specs.FieldOfValue.{field_before, field_of_value, type_of_value, fields_of_value, members_of_value, list_of, large_list_of}
-use Rattle.field_lines.specs.Steps.{AreMemberParts, pair_read}
-use Rattle.field_lines.proofs.TokenMembers.{part_other, parts_go_on, parts_end, no_type, only_go_on, only_end, only_spoiled, first_read, second_read, two_spoiled, of_fixed_size_list, of_union, no_type_of, keyed_read, not_keyed}
+use Rattle.field_lines.proofs.TokenMembers.{part_other, parts_go_on, parts_end, no_type, only_go_on, only_spoiled, first_read, second_read, two_spoiled, of_fixed_size_list, of_union, no_type_of}
 use Rattle.field_lines.proofs.TokenItems.{array_read, pair_before, item_turn, item_taken, taken_start, taken_go_on, taken_end, taken_spoiled, members_in-pair, zip_push, parts_push}
-use Rattle.value_tokens.specs.Turns.{value-object, members_over, after_some}
 use Rattle.value_tokens.specs.Beginnings.{passed, next_string, no_object, no_text, object_read}
 use Rattle.field_lines.proofs.tokens.+take.Goals as goal
 
@@ -73,41 +64,12 @@ pub take_members-returns-in-None-clause-ok : goal.take_members-returns-in-None-c
 take_members-returns-in-None-clause-ok t c =
     array_read members_of_value _ _ _ _ _ _ (rw c.in-Some.is at c.in_ok-below.ensures.ok).0 (taken_spoiled c.pairs.invariant.0 pair_before pair_read (λ x xs. refl) members_in-pair (rw c.in-None.is at c.in_ok-id.ensures.ok) c.in_ok-skip_items-in-None.ensures.ok (grind arith))
 
-pub take_keyed-returns-in-None-clause-ok : goal.take_keyed-returns-in-None-clause-ok
-take_keyed-returns-in-None-clause-ok t c = keyed_read list_of c.args.key.now _ _ (rw c.in-None.is at c.in_ok-field-in-list.ensures.ok) (λ d. rw c.in-list.is)
-
-pub take_keyed-returns-in-None-2-clause-ok : goal.take_keyed-returns-in-None-2-clause-ok
-take_keyed-returns-in-None-2-clause-ok t c = keyed_read large_list_of c.args.key.now _ _ (rw c.in-None-2.is at c.in_ok-field-in-large_list.ensures.ok) (λ d. rw c.in-large_list.is)
-
-pub take_keyed-returns-in-None-3-clause-ok : goal.take_keyed-returns-in-None-3-clause-ok
-take_keyed-returns-in-None-3-clause-ok t c = keyed_read struct c.args.key.now _ _ (rw c.in-None-3.is at c.in_ok-fields-in-struct.ensures.ok) (λ d. rw c.in-struct.is)
-
-pub take_keyed-returns-in-Some-clause-ok : goal.take_keyed-returns-in-Some-clause-ok
-take_keyed-returns-in-Some-clause-ok t c = keyed_read list_of c.args.key.now _ _ (rw c.in-Some.is at c.in_ok-field-in-list.ensures.ok) (λ d. rw c.in-list.is)
-
-pub take_keyed-returns-in-Some-2-clause-ok : goal.take_keyed-returns-in-Some-2-clause-ok
-take_keyed-returns-in-Some-2-clause-ok t c = keyed_read large_list_of c.args.key.now _ _ (rw c.in-Some-2.is at c.in_ok-field-in-large_list.ensures.ok) (λ d. rw c.in-large_list.is)
-
-pub take_keyed-returns-in-Some-3-clause-ok : goal.take_keyed-returns-in-Some-3-clause-ok
-take_keyed-returns-in-Some-3-clause-ok t c =
-    let read = keyed_read struct c.args.key.now _ _ (rw c.in-Some-3.is at c.in_ok-fields-in-struct.ensures.ok) (λ d. rw c.in-struct.is) in
-    (read.0, read.1, ap (λ l. Some (struct (field_trees l))) c.from.ensures ∙ read.2)
-
-pub take_keyed-returns-in_ok-skip_value-in_default-clause-ok : goal.take_keyed-returns-in_ok-skip_value-in_default-clause-ok
-take_keyed-returns-in_ok-skip_value-in_default-clause-ok t c =
-    let d = after_some _ _ c.in_ok-skip_value-in_default.ensures.ok in
-    let n = c.in_default in
-    (d.0, d.1, not_keyed _ d.0 n.not-list n.not-large_list n.not-struct)
-
 pub take_keys-returns-in_default-clause-ok : goal.take_keys-returns-in_default-clause-ok
 take_keys-returns-in_default-clause-ok t c = (no_members, members_over c.args.depth no_members c.args.reader.now c.next_key.new.self (grind arith), refl)
 
 pub take_only-only-preserved : goal.take_only-only-preserved
 take_only-only-preserved t c =
     only_go_on c.only.invariant (rw c.in-Some.is at c.in_ok-key.ensures.value) c.ne.ensures c.if-ne.false c.in_ok-data_type-2.ensures.ok
-
-pub take_only-returns-clause-ok : goal.take_only-returns-clause-ok
-take_only-returns-clause-ok t c = only_end c.only.invariant (grind arith)
 
 pub take_only-returns-then-ne-clause-ok : goal.take_only-returns-then-ne-clause-ok
 take_only-returns-then-ne-clause-ok t c =
@@ -156,13 +118,6 @@ take_pair-returns-then-not-take_end_array-clause-ok t c =
     let ds = after_some _ _ c.in_ok-skip_items.ensures.ok in
     array_read pair_read _ _ _ _ _ _ (rw c.in-Some.is at c.in_ok-below.ensures.ok).0
     (item one.0 (item two.0 (item three.0 ds.0)), one.1 ∙ ap (parse_map (item one.0)) (two.1 ∙ ap (parse_map (item two.0)) (three.1 ∙ ap (parse_map (item three.0)) ds.1)), refl)
-
-pub take_pair-returns-then-take_end_array-2-clause-ok : goal.take_pair-returns-then-take_end_array-2-clause-ok
-take_pair-returns-then-take_end_array-2-clause-ok t c =
-    array_read pair_read _ _ _ _ _ _ (rw c.in-Some.is at c.in_ok-below.ensures.ok).0 (item c.in_ok-id.ensures.ok.0 no_items, grind (arith, item_turn), refl)
-
-pub take_pair-returns-then-take_end_array-clause-ok : goal.take_pair-returns-then-take_end_array-clause-ok
-take_pair-returns-then-take_end_array-clause-ok t c = array_read pair_read _ _ _ _ _ _ (rw c.in-Some.is at c.in_ok-below.ensures.ok).0 (no_items, grind (arith, item_turn), refl)
 
 pub take_pair-returns-clause-ok : goal.take_pair-returns-clause-ok
 take_pair-returns-clause-ok t c =

@@ -1,8 +1,5 @@
 use Rattle.std.proofs.Common.{IfSome, ◌+◌, ◌*◌, length, codes, option_map}
-use Rattle.std.specs.List.{zip}
-use Rattle.field_lines.specs.Steps.{AreMemberParts}
-use Rattle.arrow_values.specs.View.{tree, texts_of, field_trees, member_trees}
-use Rattle.field_lines.specs.FieldOfValue.{fields_in, members_in, field_of_value, size_of_value, mode_of_value, members_of_value}
+use Rattle.field_lines.proofs.Terms.{zip, AreMemberParts, tree, texts_of, field_trees, member_trees, fields_in, members_in, field_of_value, size_of_value, mode_of_value, members_of_value}
 use Rattle.field_lines.proofs.TokenMembers.{ArePartsUnderWay, IsOnlyUnderWay, AreTwoUnderWay}
 use Rattle.field_lines.proofs.TokenItems.{AreItemsTaken}
 use Rattle.field_lines.proofs.tokens.+take.Given as goal

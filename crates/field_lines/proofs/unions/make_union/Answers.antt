@@ -1,11 +1,5 @@
-use Rattle.std.proofs.Common.{◌≡◌, ℤ, Bool, true, false, cond, ◌∷◌, [], List, length, None, Some, ⊎_elim, sym, ap, ◌∙◌, refl, arith}
-use Rattle.std.proofs.lemmas.Bool.{and_from, and_parts, false_from_ne_true}
-use Rattle.std.specs.List.{zip}
-use Rattle.arrow_values.specs.declared.tree.UnionMode.{UnionMode}
-use Rattle.arrow_values.specs.Tree.{FieldTree, union}
-use Rattle.arrow_values.specs.View.{member_trees}
-use Rattle.arrow_values.specs.Union.{are_distinct}
-use Rattle.field_lines.specs.FieldOfValue.{tree_ids, union_of}
+use Rattle.std.proofs.Common.{◌≡◌, ℤ, true, ◌∷◌, [], List, length, ⊎_elim, ap, refl, arith}
+use Rattle.field_lines.proofs.Terms.{and_from, and_parts, false_from_ne_true, zip, FieldTree, member_trees, are_distinct, tree_ids}
 use Rattle.field_lines.proofs.unions.make_union.Goals as goal
 
 tree_ids-zip : (is : List ℤ) (fs : List FieldTree) → length is ≡ length fs → tree_ids (member_trees (zip is fs)) ≡ is
