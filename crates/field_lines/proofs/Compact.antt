@@ -1,6 +1,6 @@
 -- The compact text of what is held: what holds of its tokens and of texts that are joined holds of it.
-use Rattle.std.proofs.Common.{◌≡◌, ◌≢◌, ℕ, suc, ◌<◌, ◌^◌, ◌&&◌, ◌/◌, ◌%◌, pos, negsuc, List, [], ◌∷◌, ◌++◌, Bool, true, false, cond, IsUtf8, All, decimal, nat_lt, refl, sym, subst, arith, ltb-true, true≢false}
-use Rattle.field_lines.proofs.Terms.{is_utf8, and_parts, cond_both, IsUtf8-append, IsUtf8-nil, IsUtf8-from_ascii, IsUtf8-from_is_utf8, is_utf8-from_IsUtf8, Num, unsigned, negative, float, Data, null, boolean, number, string, array, object, Items, no_items, item, Members, no_members, member, number_text, comma_if, compact_text, items_text, members_text, is_held_number, is_held, items_are_held, members_are_held, held_parts}
+use Rattle.std.proofs.Common.{◌≡◌, ◌≢◌, ℕ, suc, ◌<◌, ◌^◌, ◌&&◌, ◌/◌, ◌%◌, pos, negsuc, List, [], ◌∷◌, ◌++◌, Bool, true, false, cond, IsUtf8, All, decimal, nat_lt, refl, sym, arith, ltb-true, true≢false}
+use Rattle.field_lines.proofs.Terms.{is_utf8, and_parts, IsUtf8-append, IsUtf8-nil, IsUtf8-from_ascii, IsUtf8-from_is_utf8, is_utf8-from_IsUtf8, Num, unsigned, negative, float, Data, null, boolean, number, string, array, object, Items, no_items, item, Members, no_members, member, number_text, comma_if, compact_text, items_text, members_text, is_held_number, is_held, items_are_held, members_are_held, held_parts}
 use Rattle.std.specs.Char.{digit_char}
 use Rattle.std.proofs.lemmas.Fmt.{IsAscii-decimal, decimal_is_IsNumeral}
 use Rattle.std.proofs.lemmas.List.Elements.{All-nil, All-cons, All-append, All-from_get_or}

@@ -1,6 +1,6 @@
 -- What is read is held, and what is held and has no float is read back from its compact text.
-use Rattle.std.proofs.Common.{◌≡◌, ◌≤◌, ◌^◌, ℕ, zero, suc, pos, negsuc, List, [], Bool, true, false, Some, IfSome, option_map, nat_lt, nat_le, nat_cmp, is_lt, refl, sym, ap, ◌∙◌, subst, arith, Ordering, Less, Equal, Greater, ltb-true, true≢false}
-use Rattle.field_lines.proofs.Terms.{match_ordering, ordering_reverse, slice_cmp, and_parts, or_parts, and_from, nat_list_cmp_total, IsUtf8-from_is_utf8, is_utf8-from_IsUtf8, is_utf8, Num, unsigned, negative, float, Data, number, array, object, Items, no_items, item, Members, no_members, member, put, depth, float_of, number_from, of_json, of_items, of_members, max_depth, read, number_text, outline, items_outline, members_outline, has_float, items_have_float, members_have_float, compact_text, Prints, reads_back, is_held_number, comes_first, is_held, items_are_held, members_are_held, held_parts}
+use Rattle.std.proofs.Common.{◌≡◌, ◌≤◌, ◌^◌, ℕ, List, [], Bool, true, false, Some, IfSome, option_map, nat_lt, nat_le, nat_cmp, is_lt, refl, ap, ◌∙◌, subst, arith, Ordering, Less}
+use Rattle.field_lines.proofs.Terms.{match_ordering, ordering_reverse, slice_cmp, and_parts, or_parts, and_from, nat_list_cmp_total, IsUtf8-from_is_utf8, is_utf8-from_IsUtf8, is_utf8, Num, negative, Data, number, array, object, Items, no_items, item, Members, no_members, member, put, depth, float_of, number_from, of_json, of_items, of_members, max_depth, read, number_text, outline, items_outline, members_outline, has_float, items_have_float, members_have_float, compact_text, Prints, reads_back, is_held_number, comes_first, is_held, items_are_held, members_are_held, held_parts}
 use Rattle.fast_float.specs.Text.{Parts, with_sign}
 use Rattle.json.specs.Json as json
 use Rattle.json.specs.Tree as tree

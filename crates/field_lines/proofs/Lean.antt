@@ -1,8 +1,7 @@
 -- A value that denotes a field is that field's value, if it is lean; and a line can say the field.
-use Rattle.std.proofs.Common.{◌≡◌, ℤ, pos, negsuc, List, [], ◌∷◌, Bool, true, cond, Option, Some, None, IfSome, IsTrue, IsUtf8, option_map, option_and_then, inl, inr, codes, bytes_eq, Less, Greater, nat_cmp, refl, sym, ap, ap₂, subst, ◌∙◌, arith}
-use Rattle.field_lines.proofs.Terms.{nat_list_cmp_total, tied_itself, and_from, and_parts, cond_both, false_from_ne_true, IfSome_then, IsUtf8-from_is_utf8, is_utf8-from_IsUtf8, slice_cmp, find, list_all, is_utf8, Data, boolean, number, string, array, object, unsigned, negative, Items, no_items, item, Members, no_members, member, of_integer, get_member, as_str, as_bool, read, UnionMode, Text, Metadata, Tree, plain, struct, union, MemberTrees, FieldTree, field_tree, is_type_id, are_distinct, field_from, integer_of, kept, is_size, size_of_value, id_of_value, mode_of_value, texts_in, metadata_of_value, field_before, member_before, list_of, large_list_of, fixed_size_list_of, tree_ids, union_of, are_keys, field_of_value, type_in, type_of_value, fields_of_value, fields_in, members_of_value, members_in, texts_value, with_metadata, one_key, two_keys, type_value, fields_value, members_value, value_of_field, field_of_line, HasLineForm, FieldsHaveLineForm, MembersHaveLineForm}
+use Rattle.std.proofs.Common.{◌≡◌, ℤ, List, [], ◌∷◌, Bool, true, cond, Option, Some, None, IfSome, IsTrue, IsUtf8, option_map, option_and_then, inl, inr, codes, bytes_eq, Less, Greater, nat_cmp, refl, sym, ap, ap₂, subst, ◌∙◌, arith}
+use Rattle.field_lines.proofs.Terms.{nat_list_cmp_total, tied_itself, and_from, cond_both, false_from_ne_true, IfSome_then, IsUtf8-from_is_utf8, is_utf8-from_IsUtf8, slice_cmp, find, list_all, is_utf8, Data, boolean, number, string, array, object, Items, no_items, item, Members, no_members, member, of_integer, get_member, as_str, as_bool, read, UnionMode, Text, Metadata, Tree, plain, struct, union, MemberTrees, FieldTree, field_tree, is_type_id, are_distinct, field_from, integer_of, kept, is_size, size_of_value, id_of_value, mode_of_value, texts_in, metadata_of_value, field_before, member_before, list_of, large_list_of, fixed_size_list_of, tree_ids, union_of, are_keys, field_of_value, type_in, type_of_value, fields_of_value, fields_in, members_of_value, members_in, texts_value, with_metadata, one_key, two_keys, type_value, fields_value, members_value, value_of_field, field_of_line, HasLineForm, FieldsHaveLineForm, MembersHaveLineForm}
 use Rattle.std.proofs.lemmas.Slice.Eq.{bytes_eq-Decides}
-use Rattle.arrow_values.specs.declared.tree.UnionMode.TheVariants.{Sparse, Dense}
 use Rattle.arrow_columns.specs.Notation.{plain_name}
 use Rattle.field_lines.specs.Names.{plain_named, plain_types, mode_name}
 use Rattle.field_lines.proofs.TokenMembers.{get_member-at, with_key}

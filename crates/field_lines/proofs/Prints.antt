@@ -1,13 +1,12 @@
 -- Steps of the loops that write, and from the tokens that were added one after another to those of a value.
-use Rattle.std.proofs.Common.{◌≡◌, ℕ, ℤ, zero, suc, ◌<◌, ◌≤◌, List, [], ◌∷◌, ◌++◌, length, get_or, String, Global, Ordering, Less, Greater, string_bytes, string_cmp, subst, refl, sym, ap, ◌∙◌, arith, Bool, Some, codes, negsuc, pos, SFits, w64, option_map, option_and_then, append_assoc, append-nil, ◌+◌, max, drop, Result, OnOk}
-use Rattle.field_lines.proofs.Terms.{on_ok_weaker, ordering_reverse, match_ordering, AllByRecursion, keys_of, Token, key, number_token, string_token, boolean_token, begin_object, end_object, end_array, string, boolean, put, Data, number, object, Items, no_items, item, no_members, member, of_integer, of_json, of_members, outline, members_outline, Text, Metadata, texts_of, texts_value, one_key, two_keys, parts_value, PrintsMetadata, Adds, Prints, PrintsItems, then, added, prints_item, prints_end}
-use Rattle.std.proofs.lemmas.List.{map-append, at_drop_more, drop_all}
+use Rattle.std.proofs.Common.{◌≡◌, ℕ, ℤ, zero, suc, ◌<◌, ◌≤◌, List, [], ◌∷◌, ◌++◌, length, get_or, String, Global, Ordering, Less, Greater, string_bytes, string_cmp, subst, refl, sym, ap, ◌∙◌, arith, Bool, Some, codes, negsuc, pos, SFits, w64, option_map, option_and_then, ◌+◌, max, drop, Result, OnOk}
+use Rattle.field_lines.proofs.Terms.{on_ok_weaker, ordering_reverse, match_ordering, AllByRecursion, keys_of, Token, key, number_token, string_token, boolean_token, begin_object, end_object, end_array, string, boolean, put, Data, number, object, Items, no_items, item, no_members, member, of_integer, of_json, outline, members_outline, Text, Metadata, texts_of, texts_value, one_key, two_keys, parts_value, PrintsMetadata, Adds, Prints, PrintsItems, then, added, prints_item, prints_end}
+use Rattle.std.proofs.lemmas.List.{at_drop_more, drop_all}
 use Rattle.std.specs.Cmp.{IsTotalOrder}
 use Rattle.std.specs.List.Sorted.{IsStrictlySortedBy}
 use Rattle.std.specs.BTreeMap.{insert_entry}
-use Rattle.std.specs.String.{string_cmp_total}
 use Rattle.std.specs.Fmt.{signed_decimal}
-use Rattle.json.specs.Tree.{json_tokens, members_tokens}
+use Rattle.json.specs.Tree.{members_tokens}
 use Rattle.json.specs.Written.{Written, Writes}
 use Rattle.serde_json.proofs.Numbers.{number_of-decimal, number_of-negative}
 

@@ -1,6 +1,6 @@
 -- The line of a field is read back as that field, and a field that a line denotes has its texts and its metadata as a value holds them.
 use Rattle.std.proofs.Common.{◌≡◌, ◌≤◌, [], ◌∷◌, Bool, true, cond, Option, Some, None, IfSome, option_and_then, option_map, codes, bytes_eq, String, Global, string_bytes, string_cmp, is_lt, Less, refl, sym, ap, ◌∙◌, subst, arith}
-use Rattle.field_lines.proofs.Terms.{AllByRecursion, keys_of, is_utf8, cond_both, and_from, IsUtf8-string_bytes, is_utf8-from_IsUtf8, IfSome_then, Data, string, object, Members, no_members, member, depth, get_member, as_str, read, of_json, max_depth, compact_text, outline, Text, Metadata, Tree, FieldTree, texts_of, comes_first, is_held, members_are_held, held_parts, field_from, metadata_of_value, texts_in, type_in, field_of_value, texts_value, value_of_field, line_of_field, field_of_line, HasLineForm}
+use Rattle.field_lines.proofs.Terms.{AllByRecursion, keys_of, is_utf8, cond_both, and_from, IsUtf8-string_bytes, is_utf8-from_IsUtf8, IfSome_then, Data, object, Members, no_members, member, depth, get_member, as_str, read, of_json, max_depth, compact_text, outline, Text, Metadata, Tree, FieldTree, texts_of, comes_first, is_held, members_are_held, held_parts, field_from, metadata_of_value, texts_in, type_in, field_of_value, texts_value, value_of_field, line_of_field, field_of_line, HasLineForm}
 use Rattle.std.specs.List.Sorted.{IsStrictlySortedBy}
 use Rattle.field_lines.proofs.Prints.{Texts}
 use Rattle.field_lines.proofs.Lean.{chained, if_some, either, texts_say}

@@ -1,8 +1,7 @@
 -- The value of a field: it is lean, holds no float, and denotes that field.
-use Rattle.std.proofs.Common.{◌≡◌, ◌≤◌, max, ℤ, pos, negsuc, [], ◌∷◌, Bool, cond, false, IsTrue, inl, inr, Some, None, option_map, option_and_then, refl, ap, ◌∙◌, arith}
+use Rattle.std.proofs.Common.{◌≡◌, ◌≤◌, max, ℤ, [], ◌∷◌, Bool, cond, false, IsTrue, inl, inr, Some, None, option_map, option_and_then, refl, ap, ◌∙◌, arith}
 use Rattle.field_lines.proofs.Terms.{and_parts, list_all, Data, number, string, depth, max_depth, of_integer, as_integer, as_str, has_float, items_have_float, members_have_float, UnionMode, Text, Metadata, Plain, Tree, plain, list, large_list, fixed_size_list, struct, union, FieldTrees, no_fields, field, MemberTrees, FieldTree, field_tree, is_type_id, are_distinct, kept, is_size, texts_in, list_of, large_list_of, tree_ids, field_of_value, type_of_value, fields_in, members_in, texts_value, parts_value, type_value, fields_value, members_value, value_of_field, other_value, HasLineForm, FieldsHaveLineForm, MembersHaveLineForm}
 use Rattle.serde_json.specs.Data.{members_depth}
-use Rattle.arrow_values.specs.declared.tree.UnionMode.TheVariants.{Sparse, Dense}
 use Rattle.arrow_values.specs.Tree.{null, no_members, member}
 use Rattle.arrow_columns.specs.Notation.{plain_name}
 use Rattle.field_lines.specs.Names.{plain_named, mode_name, mode_named}

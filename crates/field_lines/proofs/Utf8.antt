@@ -1,14 +1,14 @@
 -- The texts of what UTF-8 is read as are UTF-8, and so is the compact text of what is held.
-use Rattle.std.proofs.Common.{◌≡◌, ℕ, ◌+◌, ◌-◌, ◌<◌, ◌==◌, ◌&&◌, List, [], ◌∷◌, ◌++◌, length, take, get_or, Bool, true, false, cond, Option, Some, None, IfSome, option_and_then, IsUtf8, refl, sym, subst, arith, append_assoc, append-nil, length-append, eqb-true, ltb-true}
+use Rattle.std.proofs.Common.{◌≡◌, ℕ, ◌+◌, ◌<◌, ◌==◌, ◌&&◌, List, [], ◌∷◌, ◌++◌, length, get_or, Bool, true, false, cond, Option, Some, None, IfSome, option_and_then, IsUtf8, sym, subst, arith, append_assoc, append-nil, length-append, eqb-true, ltb-true}
 use Rattle.field_lines.proofs.Terms.{AllByRecursion, and_parts, cond_both, IfSome_then, IsUtf8-append, IsUtf8-encode, IsUtf8-take, IsUtf8-drop, IsCharBoundary-before_ascii, IsCharBoundary-after_ascii, encode_ascii, Token}
 use Rattle.std.specs.Prelude.{⊤, nat_lt}
 use Rattle.std.specs.Char.{is_digit, digit_value, encode_utf8, IsScalar}
 use lib.Seq.{take-append_seam, drop-append-add, get_or-append_seam}
 use lib.Utf8.{low_scalar}
 use Rattle.json.specs.Text.{plain, after_backslash, after_u, after_high, content, code_unit, short_escape, is_high_surrogate, is_low_surrogate, surrogate_pair, prepend}
-use Rattle.json.specs.Word.{head, ends_word, literal, after_number, number_before, word}
+use Rattle.json.specs.Word.{head, literal, after_number, number_before, word}
 use Rattle.json.specs.Ascii.{true_text, false_text, null_text}
-use Rattle.json.specs.Lex.{Lexeme, token, comma, colon, Class, class, quote, backslash, operator, space, other, Mode, between, in_word, in_string, in_escape, string_token, operator_lexeme, lex_byte, lex, Place, fresh, after_value, after_comma, after_key, begins_colon, if_allowed, place_token, punctuate, tokens}
+use Rattle.json.specs.Lex.{Lexeme, token, comma, colon, Class, class, quote, Mode, between, string_token, operator_lexeme, lex_byte, lex, Place, fresh, if_allowed, place_token, punctuate, tokens}
 use Rattle.json.specs.Json as json
 use Rattle.json.specs.Tree.{json_tokens}
 use Rattle.json.proofs.Unique.Spelling.{value-json_tokens_back}

@@ -4,7 +4,6 @@ use Rattle.std.specs.Prelude.{◌≡◌, ◌^◌, ◌&&◌, pos, negsuc, List, �
 use Rattle.std.specs.Ordering.{nat_cmp, is_lt}
 use Rattle.std.specs.Cmp.Lexicographic.{slice_cmp}
 use Rattle.std.specs.Str.{is_utf8}
-use Rattle.std.proofs.lemmas.Bool.{and_parts}
 use Rattle.serde_json.specs.Data.{Num, unsigned, negative, float, Data, null, boolean, number, string, array, object, Items, no_items, item, Members, no_members, member}
 
 -- whether the number is a float, or an integer of 64 bits, which has a sign only if it is below zero

@@ -1,5 +1,5 @@
 use Rattle.std.proofs.Common.{rules, arith, ◌≡◌, ◌-◌, [], ◌∷◌, ◌++◌, Some, IsTrue, option_map, option_and_then, subst₂, refl, sym, ap, ap₂, ◌∙◌}
-use Rattle.field_lines.proofs.Terms.{IfOk-weaker, zip, parse_map, string, no_items, item, no_members, struct, is_type_id, texts_of, field_trees, field_before, field_of_value, type_of_value, fields_of_value, members_of_value, list_of, large_list_of, AreMemberParts, pair_read, value-object, members_over, after_some}
+use Rattle.field_lines.proofs.Terms.{IfOk-weaker, zip, parse_map, string, no_items, item, no_members, is_type_id, texts_of, field_before, field_of_value, type_of_value, fields_of_value, members_of_value, AreMemberParts, pair_read, value-object, members_over, after_some}
 use Rattle.std.proofs.lemmas.Int.{to_z-of_z}
 use Rattle.field_lines.proofs.TokenMembers.{part_other, parts_go_on, parts_end, no_type, only_go_on, only_spoiled, first_read, second_read, two_spoiled, of_fixed_size_list, of_union, no_type_of}
 use Rattle.field_lines.proofs.TokenItems.{array_read, pair_before, item_turn, item_taken, taken_start, taken_go_on, taken_end, taken_spoiled, members_in-pair, zip_push, parts_push}
