@@ -1,17 +1,12 @@
 -- The compact text of what is held: what holds of its tokens and of texts that are joined holds of it.
-use Rattle.std.proofs.Common.{◌≡◌, ◌≢◌, ℕ, suc, ◌<◌, ◌^◌, ◌&&◌, ◌/◌, ◌%◌, pos, negsuc, List, [], ◌∷◌, ◌++◌, Bool, true, false, IsUtf8, All, decimal, nat_lt, refl, sym, subst, arith, ltb-true, true≢false}
-use Rattle.std.specs.Str.{is_utf8}
+use Rattle.std.proofs.Common.{◌≡◌, ◌≢◌, ℕ, suc, ◌<◌, ◌^◌, ◌&&◌, ◌/◌, ◌%◌, pos, negsuc, List, [], ◌∷◌, ◌++◌, Bool, true, false, cond, IsUtf8, All, decimal, nat_lt, refl, sym, arith, ltb-true, true≢false}
+use Rattle.field_lines.proofs.Terms.{is_utf8, and_parts, IsUtf8-append, IsUtf8-nil, IsUtf8-from_ascii, IsUtf8-from_is_utf8, is_utf8-from_IsUtf8, Num, unsigned, negative, float, Data, null, boolean, number, string, array, object, Items, no_items, item, Members, no_members, member, number_text, comma_if, compact_text, items_text, members_text, is_held_number, is_held, items_are_held, members_are_held, held_parts}
 use Rattle.std.specs.Char.{digit_char}
-use Rattle.std.proofs.lemmas.Bool.{and_parts, cond_both}
 use Rattle.std.proofs.lemmas.Fmt.{IsAscii-decimal, decimal_is_IsNumeral}
 use Rattle.std.proofs.lemmas.List.Elements.{All-nil, All-cons, All-append, All-from_get_or}
-use Rattle.std.proofs.lemmas.Str.{IsUtf8-append, IsUtf8-nil, IsUtf8-from_ascii, IsUtf8-from_is_utf8, is_utf8-from_IsUtf8}
 use Rattle.std.proofs.lemmas.Str.Parse.{digit_at}
 use Rattle.json.specs.Print.{escape_letter, escape_byte, escape, quoted}
 use Rattle.json.proofs.Printed.Utf8.{IsUtf8-quoted}
-use Rattle.serde_json.specs.Data.{Num, unsigned, negative, float, Data, null, boolean, number, string, array, object, Items, no_items, item, Members, no_members, member}
-use Rattle.serde_json.specs.Written.{number_text, comma_if, compact_text, items_text, members_text}
-use Rattle.field_lines.specs.Held.{is_held_number, is_held, items_are_held, members_are_held, held_parts}
 use Rattle.field_lines.proofs.Utf8.{ascii_then}
 
 -- whether the bytes are ASCII that is printed as it is
@@ -35,8 +30,7 @@ module _ (P : List ℕ → Type 0) (none : P []) (join : (xs ys : List ℕ) → 
   number_is (float x) h = none
 
   comma_is : (later : Bool) → P (comma_if later)
-  comma_is true = fixed (44 ∷ []) refl
-  comma_is false = none
+  comma_is later = grind (arith, fixed (44 ∷ []) refl, none)
 
   mutual
     pub compact_is : (d : Data) → is_held d ≡ true → P (compact_text d)
@@ -86,16 +80,13 @@ digit_other d e = grind arith
 then : (x : ℕ) (xs : List ℕ) → IsOther x → IsOneLine xs → IsOneLine (x ∷ xs)
 then x xs = All-cons IsOther x xs
 
+bytes_line : (letter a b x : ℕ) → IsOther letter → IsOther a → IsOther b
+    → IsOneLine (cond (nat_lt 0 letter) (92 ∷ letter ∷ []) (cond (nat_lt x 32) (92 ∷ 117 ∷ 48 ∷ 48 ∷ a ∷ b ∷ []) (x ∷ [])))
+bytes_line letter a b x p q r = grind (arith, then, All-nil IsOther)
+
 escaped_line : (x : ℕ) → IsOneLine (escape_byte x)
 unfolding escape_byte
-escaped_line x =
-    let end = All-nil IsOther in
-    let digits = digit_char (x / 16) ∷ digit_char (x % 16) ∷ [] in
-    cond_both (nat_lt 0 (escape_letter x)) (92 ∷ escape_letter x ∷ []) _ IsOneLine (λ _. then 92 (escape_letter x ∷ []) (λ f. omega arith) (then (escape_letter x) [] (letter_other x) end))
-    (λ _. cond_both (nat_lt x 32) (92 ∷ 117 ∷ 48 ∷ 48 ∷ digits) (x ∷ []) IsOneLine
-    (λ _. then 92 (117 ∷ 48 ∷ 48 ∷ digits) (λ f. omega arith) (then 117 (48 ∷ 48 ∷ digits) (λ f. omega arith) (then 48 (48 ∷ digits) (λ f. omega arith) (then 48 digits (λ f. omega arith)
-    (then (digit_char (x / 16)) (digit_char (x % 16) ∷ []) (digit_other (x / 16)) (then (digit_char (x % 16)) [] (digit_other (x % 16)) end))))))
-    (λ e. then x [] (λ f. true≢false (subst (λ y. nat_lt y 32 ≡ false) f e)) end))
+escaped_line x = bytes_line (escape_letter x) _ _ x (letter_other x) (digit_other (x / 16)) (digit_other (x % 16))
 
 text_line : (s : List ℕ) → IsOneLine (escape s)
 text_line [] = All-nil IsOther

@@ -1,51 +1,32 @@
 -- What is read is held, and what is held and has no float is read back from its compact text.
-use Rattle.std.proofs.Common.{◌≡◌, ◌≤◌, ◌^◌, ℕ, zero, suc, pos, negsuc, List, [], Bool, true, false, Some, IfSome, option_map, nat_lt, nat_le, nat_cmp, is_lt, refl, sym, ap, ◌∙◌, subst, arith, Ordering, Less, Equal, Greater, ltb-true, true≢false}
-use Rattle.std.specs.Ordering.{match_ordering, ordering_reverse}
-use Rattle.std.specs.Cmp.Lexicographic.{slice_cmp}
-use Rattle.std.proofs.lemmas.Bool.{and_parts, or_parts, and_from}
-use Rattle.std.proofs.lemmas.Cmp.{nat_list_cmp_total}
-use Rattle.std.proofs.lemmas.Str.{IsUtf8-from_is_utf8, is_utf8-from_IsUtf8}
-use Rattle.std.specs.Str.{is_utf8}
+use Rattle.std.proofs.Common.{◌≡◌, ◌≤◌, ◌^◌, ℕ, List, [], Bool, true, false, Some, IfSome, option_map, nat_lt, nat_le, nat_cmp, is_lt, refl, ap, ◌∙◌, subst, arith, Ordering, Less}
+use Rattle.field_lines.proofs.Terms.{match_ordering, ordering_reverse, slice_cmp, and_parts, or_parts, and_from, nat_list_cmp_total, IsUtf8-from_is_utf8, is_utf8-from_IsUtf8, is_utf8, Num, negative, Data, number, array, object, Items, no_items, item, Members, no_members, member, put, depth, float_of, number_from, of_json, of_items, of_members, max_depth, read, number_text, outline, items_outline, members_outline, has_float, items_have_float, members_have_float, compact_text, Prints, reads_back, is_held_number, comes_first, is_held, items_are_held, members_are_held, held_parts}
 use Rattle.fast_float.specs.Text.{Parts, with_sign}
 use Rattle.json.specs.Json as json
 use Rattle.json.specs.Tree as tree
 use Rattle.json.proofs.Printed.Decimals.{IsNumber-decimal, IsNumber-signed_decimal}
 use Rattle.json.proofs.Printed.Tokens.{tokens-print}
 use Rattle.json.proofs.Printed.Trees.{ArePrintable-json_tokens}
-use Rattle.serde_json.specs.Data.{Num, unsigned, negative, float, Data, number, array, object, Items, no_items, item, Members, no_members, member, put, depth}
-use Rattle.serde_json.specs.Read.{float_of, number_from, number_of, of_json, of_items, of_members, max_depth, read}
-use Rattle.serde_json.specs.Written.{number_text, outline, items_outline, members_outline, has_float, items_have_float, members_have_float, compact_text}
+use Rattle.serde_json.specs.Read.{number_of}
 use Rattle.serde_json.proofs.Numbers.{number_of-decimal, number_of-negative}
-use Rattle.value_tokens.specs.Adds.{Prints}
-use Rattle.value_tokens.specs.Printed.{reads_back}
 use Rattle.field_lines.proofs.Lean.{mapped, chained}
 use Rattle.field_lines.proofs.Utf8.{AreUtf8, utf8_parts, texts_utf8}
-use Rattle.field_lines.specs.Held.{is_held_number, comes_first, is_held, items_are_held, members_are_held, held_parts}
 
 -- ---- members that are put in stay in order
 
 less : (o : Ordering) → is_lt o ≡ true → o ≡ Less
-less Less h = refl
-less _ h = absurd (true≢false (sym h))
+less o h = grind arith
 
 turned : (k l : List ℕ) (o : Ordering) → slice_cmp nat_cmp k l ≡ o → slice_cmp nat_cmp l k ≡ ordering_reverse o
 turned k l o e = nat_list_cmp_total.antisymm l k ∙ ap ordering_reverse e
 
 first_of_put : (l k : List ℕ) (d : Data) (ms : Members) → slice_cmp nat_cmp l k ≡ Less → comes_first l ms ≡ true → comes_first l (put k d ms) ≡ true
-first_of_put l k d no_members here h = ap is_lt here
-first_of_put l k d (member m e ms) here h = by (slice_cmp nat_cmp k m)
-  where
-    by : (o : Ordering) → comes_first l (match_ordering o (member k d (member m e ms)) (member m d ms) (member m e (put k d ms))) ≡ true
-    by Less = ap is_lt here
-    by Equal = h
-    by Greater = h
+first_of_put l k d ms here h = grind arith
 
 -- a member is put before, in place of or after the first, as the keys compare
 put_at : (o : Ordering) (k : List ℕ) (d : Data) (l : List ℕ) (e : Data) (ms : Members) → slice_cmp nat_cmp k l ≡ o → is_utf8 k ≡ true → is_held d ≡ true → members_are_held (member l e ms) ≡ true
     → members_are_held (put k d ms) ≡ true → members_are_held (match_ordering o (member k d (member l e ms)) (member l d ms) (member l e (put k d ms))) ≡ true
-put_at Less k d l e ms is text own h later = rw (is, text, own) h
-put_at Equal k d l e ms is text own h later = let p = held_parts l e ms h in rw (p.0, p.1, own) p.3
-put_at Greater k d l e ms is text own h later = let p = held_parts l e ms h in rw (first_of_put l k d ms (turned k l Greater is) p.0, p.1, p.2) later
+put_at o k d l e ms is text own h later = grind (arith, held_parts, first_of_put, turned)
 
 pub put_held : (k : List ℕ) (d : Data) (ms : Members) → is_utf8 k ≡ true → is_held d ≡ true → members_are_held ms ≡ true → members_are_held (put k d ms) ≡ true
 put_held k d no_members text own h = rw (text, own) refl
@@ -60,8 +41,7 @@ float_held : (sign : Bool) (p : Parts) → IfSome (float_of sign p) IsHeldNumber
 float_held sign p = grind arith
 
 below_zero : (n : ℕ) → nat_lt 0 n ≡ true → nat_le n (2 ^ 63) ≡ true → is_held_number (negative (with_sign true n)) ≡ true
-below_zero zero some small = absurd (true≢false (sym some))
-below_zero (suc n) some small = small
+below_zero n some small = grind arith
 
 number_held : (s : List ℕ) → IfSome (number_of s) IsHeldNumber
 unfolding number_of
@@ -101,14 +81,10 @@ read_held text d utf8 is =
 -- ---- what is held is read back
 
 rest_first : (k l : List ℕ) (ms : Members) → slice_cmp nat_cmp k l ≡ Less → comes_first l ms ≡ true → comes_first k ms ≡ true
-rest_first k l no_members first h = refl
-rest_first k l (member m e ms) first h = ap is_lt (nat_list_cmp_total.trans k l m first (less _ h))
+rest_first k l ms first h = grind (arith, nat_list_cmp_total.trans k l, less)
 
 integer_outline : (n : Num) → is_held_number n ≡ true → has_float (number n) ≡ false → (option_map number (number_of (number_text n)) ≡ Some (number n)) × tree.HasNumbers (json.number (number_text n))
-integer_outline (unsigned n) h whole = (ap (option_map number) (number_of-decimal n (ltb-true _ _ h)), IsNumber-decimal n (ltb-true _ _ h))
-integer_outline (negative (negsuc n)) h whole = (ap (option_map number) (number_of-negative n (ltb-true _ _ h)), IsNumber-signed_decimal (negsuc n) (ltb-true _ _ h))
-integer_outline (negative (pos n)) h whole = absurd (true≢false (sym h))
-integer_outline (float x) h whole = absurd (true≢false whole)
+integer_outline n h whole = grind (arith, number_of-decimal, IsNumber-decimal, number_of-negative, IsNumber-signed_decimal)
 
 mutual
   outline_back : (d : Data) → is_held d ≡ true → has_float d ≡ false → (of_json (outline d) ≡ Some d) × tree.HasNumbers (outline d)
@@ -126,7 +102,7 @@ mutual
       let rest = items_back ds p.1 w.1 in
       (rw (first.0, rest.0), (first.1, rest.1))
 
-  members_back : (ms : Members) → members_are_held ms ≡ true → members_have_float ms ≡ false → (of_members (members_outline ms) no_members ≡ Some ms) × tree.MembersHaveNumbers (members_outline ms)
+  pub members_back : (ms : Members) → members_are_held ms ≡ true → members_have_float ms ≡ false → (of_members (members_outline ms) no_members ≡ Some ms) × tree.MembersHaveNumbers (members_outline ms)
   members_back no_members h whole = (refl, tt)
   members_back (member k d ms) h whole =
       let p = held_parts k d ms h in

@@ -1,25 +1,9 @@
 -- A value that denotes a field is that field's value, if it is lean; and a line can say the field.
-use Rattle.std.proofs.Common.{◌≡◌, ℤ, pos, negsuc, List, [], ◌∷◌, Bool, true, cond, Option, Some, None, IfSome, IsTrue, IsUtf8, option_map, option_and_then, inl, inr, codes, bytes_eq, Less, Greater, nat_cmp, refl, sym, ap, ap₂, subst, ◌∙◌}
-use Rattle.std.proofs.lemmas.Cmp.{nat_list_cmp_total, tied_itself}
-use Rattle.std.proofs.lemmas.Bool.{and_from, and_parts, cond_both, false_from_ne_true}
-use Rattle.std.proofs.lemmas.Option.{IfSome_then}
+use Rattle.std.proofs.Common.{◌≡◌, ℤ, List, [], ◌∷◌, Bool, true, cond, Option, Some, None, IfSome, IsTrue, IsUtf8, option_map, option_and_then, inl, inr, codes, bytes_eq, Less, Greater, nat_cmp, refl, sym, ap, ap₂, subst, ◌∙◌, arith}
+use Rattle.field_lines.proofs.Terms.{nat_list_cmp_total, tied_itself, and_from, cond_both, false_from_ne_true, IfSome_then, IsUtf8-from_is_utf8, is_utf8-from_IsUtf8, slice_cmp, find, list_all, is_utf8, Data, boolean, number, string, array, object, Items, no_items, item, Members, no_members, member, of_integer, get_member, as_str, as_bool, read, UnionMode, Text, Metadata, Tree, plain, struct, union, MemberTrees, FieldTree, field_tree, is_type_id, are_distinct, field_from, integer_of, kept, is_size, size_of_value, id_of_value, mode_of_value, texts_in, metadata_of_value, field_before, member_before, list_of, large_list_of, fixed_size_list_of, tree_ids, union_of, are_keys, field_of_value, type_in, type_of_value, fields_of_value, fields_in, members_of_value, members_in, texts_value, with_metadata, one_key, two_keys, type_value, fields_value, members_value, value_of_field, field_of_line, HasLineForm, FieldsHaveLineForm, MembersHaveLineForm}
 use Rattle.std.proofs.lemmas.Slice.Eq.{bytes_eq-Decides}
-use Rattle.std.proofs.lemmas.Str.{IsUtf8-from_is_utf8, is_utf8-from_IsUtf8}
-use Rattle.std.specs.Cmp.Lexicographic.{slice_cmp}
-use Rattle.std.specs.List.{find, list_all}
-use Rattle.std.specs.Str.{is_utf8}
-use Rattle.serde_json.specs.Data.{Data, boolean, number, string, array, object, unsigned, negative, Items, no_items, item, Members, no_members, member}
-use Rattle.serde_json.specs.Find.{of_integer, get_member, as_str, as_bool}
-use Rattle.serde_json.specs.Read.{read}
-use Rattle.arrow_values.specs.declared.tree.UnionMode.{UnionMode}
-use Rattle.arrow_values.specs.declared.tree.UnionMode.TheVariants.{Sparse, Dense}
-use Rattle.arrow_values.specs.Tree.{Text, Metadata, Tree, plain, struct, union, MemberTrees, FieldTree, field_tree}
-use Rattle.arrow_values.specs.Union.{is_type_id, are_distinct}
 use Rattle.arrow_columns.specs.Notation.{plain_name}
 use Rattle.field_lines.specs.Names.{plain_named, plain_types, mode_name}
-use Rattle.field_lines.specs.FieldOfValue.{field_from, integer_of, kept, is_size, size_of_value, id_of_value, mode_of_value, texts_in, metadata_of_value, field_before, member_before, list_of, large_list_of, fixed_size_list_of, tree_ids, union_of, are_keys, field_of_value, type_in, type_of_value, fields_of_value, fields_in, members_of_value, members_in}
-use Rattle.field_lines.specs.Line.{texts_value, with_metadata, one_key, two_keys, type_value, fields_value, members_value, value_of_field, field_of_line}
-use Rattle.field_lines.specs.LineForm.{HasLineForm, FieldsHaveLineForm, MembersHaveLineForm}
 use Rattle.field_lines.proofs.TokenMembers.{get_member-at, with_key}
 use Rattle.field_lines.proofs.TokenTexts.{text_says}
 use Rattle.field_lines.specs.Lean.{field_keys, HaveKeysOf, IsLean, AreLean, HasLeanType, IsLeanType}
@@ -64,29 +48,24 @@ field_keys_ordered = ((refl, refl, (refl, refl, (refl, refl, tt))), ((refl, refl
 
 -- what holds of an answer, by what holds of its parts
 pub mapped : {A B : Type 0} {P : A → Type 0} (Q : B → Type 0) (f : A → B) (o : Option A) → IfSome o P → ((x : A) → P x → Q (f x)) → IfSome (option_map f o) Q
-mapped Q f None h k = tt
-mapped Q f (Some x) h k = k x h
+mapped Q f o h k = grind arith
 
 pub chained : {A B : Type 0} {P : A → Type 0} (Q : B → Type 0) (f : A → Option B) (o : Option A) → IfSome o P → ((x : A) → P x → IfSome (f x) Q) → IfSome (option_and_then f o) Q
-chained Q f None h k = tt
-chained Q f (Some x) h k = k x h
+chained Q f o h k = grind arith
 
 pub either : {A : Type 0} (P : A → Type 0) (b : Bool) (x y : A) → P x → P y → P (cond b x y)
 either P b x y p q = cond_both b x y P (λ _. p) (λ _. q)
 
 pub if_some : {A : Type 0} (P : A → Type 0) (o : Option A) → ((x : A) → o ≡ Some x → P x) → IfSome o P
-if_some P None h = tt
-if_some P (Some x) h = h x refl
+if_some P o h = grind arith
 
 -- what stands at a key, by what is read there
 there : {A : Type 0} (f : Data → Option A) (g : A → Data) → ((d : Data) → IfSome (f d) (λ x. d ≡ g x)) → (o : Option Data)
     → IfSome (option_and_then f o) (λ x. o ≡ Some (g x))
-there f g h None = tt
-there f g h (Some d) = IfSome_then (f d) (h d) (λ x is. ap Some is)
+there f g h o = grind arith
 
 bool_says : (d : Data) → IfSome (as_bool d) (λ b. d ≡ boolean b)
-bool_says (boolean b) = refl
-bool_says _ = tt
+bool_says d = grind arith
 
 pub texts_say : (ms : Members) → IfSome (texts_in ms) (λ m. ms ≡ texts_value m)
 texts_say no_members = refl
@@ -96,8 +75,7 @@ texts_say (member k d ms) =
 
 metadata_at : (m : Metadata) (ms rest : Members) → ms ≡ texts_value m → (Some (object ms) ≡ Some (object no_members) → ⊥)
     → member (codes "metadata") (object ms) rest ≡ with_metadata m rest
-metadata_at [] ms rest is full = absurd (full (ap (λ x. Some (object x)) is))
-metadata_at (e ∷ es) ms rest is full = ap (λ x. member (codes "metadata") (object x) rest) is
+metadata_at m ms rest is full = grind arith
 
 metadata_says : (o : Option Data)
     → IfSome (metadata_of_value o) (λ m. (rest : Members) → (o ≡ Some (object no_members) → ⊥) → with_key (codes "metadata") o rest ≡ with_metadata m rest)
@@ -108,8 +86,7 @@ metadata_says (Some _) = tt
 parts_say : {N : Text → Type 0} {B : Bool → Type 0} {T : Tree → Type 0} {M : Metadata → Type 0} (Q : FieldTree → Type 0) (n : _) (b : _) (t : _) (m : _)
     → IfSome n N → IfSome b B → IfSome t T → IfSome m M → ((n : _) (b : _) (t : _) (m : _) → N n → B b → T t → M m → Q (field_tree n t b m))
     → IfSome (field_from n b t m) Q
-parts_say Q (Some n) (Some b) (Some t) (Some m) at_name at_nullable at_type at_metadata all = all n b t m at_name at_nullable at_type at_metadata
-parts_say Q _ _ _ _ at_name at_nullable at_type at_metadata all = tt
+parts_say Q n b t m at_name at_nullable at_type at_metadata all = grind arith
 
 -- ---- words and numbers
 
@@ -118,22 +95,17 @@ find_holds p [] = tt
 find_holds p (x ∷ xs) = cond_both (p x) (Some x) (find p xs) (λ o. IfSome o (λ y. p y ≡ true)) (λ e. e) (λ _. find_holds p xs)
 
 mode_says : (d : Data) → IfSome (mode_of_value d) (λ mode. d ≡ string (mode_name mode))
-mode_says (string word) =
-    IfSome_then _ (find_holds (λ u. bytes_eq word (mode_name u)) (Sparse ∷ Dense ∷ [])) (λ mode e. ap string ((bytes_eq-Decides word (mode_name mode)).0 e))
-mode_says _ = tt
+mode_says d = grind (arith, bytes_eq-Decides)
 
 -- a number that is kept has the property
 abbrev SaysNumber : (ℤ → Bool) → Data → ℤ → Type 0
 SaysNumber p d z = IsTrue (p z) × (IsLean d → d ≡ number (of_integer z))
 
 kept_says : (p : ℤ → Bool) (d : Data) (z : ℤ) → (IsLean d → d ≡ number (of_integer z)) → IfSome (kept p z) (SaysNumber p d)
-kept_says p d z is = cond_both (p z) (Some z) None (λ o. IfSome o (SaysNumber p d)) (λ e. (e, is)) (λ _. tt)
+kept_says p d z is = grind arith
 
 integer_says : (p : ℤ → Bool) (d : Data) → IfSome (option_and_then (kept p) (integer_of d)) (SaysNumber p d)
-integer_says p (number (unsigned n)) = kept_says p (number (unsigned n)) (pos n) (λ lean. refl)
-integer_says p (number (negative (negsuc n))) = kept_says p (number (negative (negsuc n))) (negsuc n) (λ lean. refl)
-integer_says p (number (negative (pos n))) = kept_says p (number (negative (pos n))) (pos n) (λ lean. absurd lean)
-integer_says p _ = tt
+integer_says p d = grind (arith, kept_says)
 
 -- ---- objects of one key and of two
 
@@ -153,14 +125,10 @@ SaysMembers lean d e ms = (MembersHaveLineForm ms × IsTrue (list_all is_type_id
 keyed : {A : Type 0} (k l : Text) (d : Data) (f : A → Tree) (g : A → Data) (o : Option A) (rest : Option Tree) → ((x : A) → one_key l (g x) ≡ type_value (f x))
     → IfSome o (λ x. HasLineForm (f x) × (IsLean d → d ≡ g x)) → IfSome rest (SaysType (one_key k d))
     → IfSome (cond (bytes_eq k l) (option_map f o) rest) (SaysType (one_key k d))
-keyed k l d f g o rest law own next =
-    cond_both (bytes_eq k l) (option_map f o) rest (λ x. IfSome x (SaysType (one_key k d)))
-    (λ e. mapped _ f o own (λ x h. (h.0, λ lean. ap₂ one_key ((bytes_eq-Decides k l).0 e) (h.1 lean.0) ∙ law x))) (λ _. next)
+keyed k l d f g o rest law own next = grind (arith, bytes_eq-Decides, law)
 
 keys_are : (k l p q : Text) {d e x y : Data} → are_keys k l p q ≡ true → d ≡ x → e ≡ y → two_keys k d l e ≡ two_keys p x q y
-keys_are k l p q h first second =
-    let keys = and_parts (bytes_eq k p) (bytes_eq l q) h in
-    rw ((bytes_eq-Decides k p).0 keys.0, (bytes_eq-Decides l q).0 keys.1, first, second)
+keys_are k l p q h first second = grind (arith, bytes_eq-Decides)
 
 two_keyed : (k l : Text) (d e : Data) → IfSome (field_of_value d) (SaysField d)
     → IfSome (members_of_value e) (λ ms. SaysMembers (IsLean e) e (array (members_value ms)) ms)

@@ -1,3 +1,4 @@
+mod Terms
 mod Prints
 mod Round
 mod Lean

@@ -1,28 +1,14 @@
 -- Steps of the loops that write, and from the tokens that were added one after another to those of a value.
-use Rattle.std.proofs.Common.{◌≡◌, ℕ, ℤ, zero, suc, ◌<◌, ◌≤◌, List, [], ◌∷◌, ◌++◌, length, get_or, String, Global, Ordering, Less, Greater, string_bytes, string_cmp, subst, refl, sym, ap, ◌∙◌, arith, Bool, Some, codes, negsuc, pos, SFits, w64, option_map, option_and_then, append_assoc, append-nil, ◌+◌, max, drop, Result, OnOk}
-use Rattle.std.proofs.lemmas.List.{map-append, at_drop_more, drop_all}
-use Rattle.std.proofs.lemmas.Result.{on_ok_weaker}
-use Rattle.std.specs.Ordering.{ordering_reverse, match_ordering}
+use Rattle.std.proofs.Common.{◌≡◌, ℕ, ℤ, zero, suc, ◌<◌, ◌≤◌, List, [], ◌∷◌, ◌++◌, length, get_or, String, Global, Ordering, Less, Greater, string_bytes, string_cmp, subst, refl, sym, ap, ◌∙◌, arith, Bool, Some, codes, negsuc, pos, SFits, w64, option_map, option_and_then, ◌+◌, max, drop, Result, OnOk}
+use Rattle.field_lines.proofs.Terms.{on_ok_weaker, ordering_reverse, match_ordering, AllByRecursion, keys_of, Token, key, number_token, string_token, boolean_token, begin_object, end_object, end_array, string, boolean, put, Data, number, object, Items, no_items, item, no_members, member, of_integer, of_json, outline, members_outline, Text, Metadata, texts_of, texts_value, one_key, two_keys, parts_value, PrintsMetadata, Adds, Prints, PrintsItems, then, added, prints_item, prints_end}
+use Rattle.std.proofs.lemmas.List.{at_drop_more, drop_all}
 use Rattle.std.specs.Cmp.{IsTotalOrder}
-use Rattle.std.specs.List.{AllByRecursion}
 use Rattle.std.specs.List.Sorted.{IsStrictlySortedBy}
-use Rattle.std.specs.Map.{keys_of}
 use Rattle.std.specs.BTreeMap.{insert_entry}
-use Rattle.std.specs.String.{string_cmp_total}
 use Rattle.std.specs.Fmt.{signed_decimal}
-use Rattle.json.specs.Token.{Token, key, number as number_token, string as string_token, boolean as boolean_token, begin_object, end_object, end_array}
-use Rattle.json.specs.Tree.{json_tokens, members_tokens}
+use Rattle.json.specs.Tree.{members_tokens}
 use Rattle.json.specs.Written.{Written, Writes}
-use Rattle.serde_json.specs.Data.{string, put, Data, number, object, Items, no_items, item, no_members, member}
-use Rattle.serde_json.specs.Find.{of_integer}
-use Rattle.serde_json.specs.Read.{of_json, of_members}
-use Rattle.serde_json.specs.Written.{outline, members_outline}
 use Rattle.serde_json.proofs.Numbers.{number_of-decimal, number_of-negative}
-use Rattle.arrow_values.specs.Tree.{Text, Metadata}
-use Rattle.arrow_values.specs.View.{texts_of}
-use Rattle.field_lines.specs.Line.{texts_value, one_key, two_keys, parts_value}
-use Rattle.field_lines.specs.Prints.{PrintsMetadata, metadata_tokens}
-use Rattle.value_tokens.specs.Adds.{Adds, Prints, PrintsItems, then, added, prints_item, prints_end}
 
 -- ---- a loop over a list
 
@@ -76,23 +62,6 @@ pub texts_put : (es : Texts) (k t : String Global) → texts_value (texts_of (in
 texts_put [] k t = refl
 texts_put (e ∷ es) k t = ordered (λ es. texts_value (texts_of es)) (string_cmp k e.0) _ _ _ ∙ rw (texts_put es k t)
 
-pub put_last : (done : Texts) (k t : String Global) (left : Texts) → IsStrictlySortedBy string_cmp (keys_of (done ++ (k, t) ∷ left))
-    → put (string_bytes k) (string (string_bytes t)) (texts_value (texts_of done)) ≡ texts_value (texts_of (done ++ (k, t) ∷ []))
-put_last done k t left h =
-    let sorted = subst (IsStrictlySortedBy string_cmp) (map-append (λ (e : String Global × String Global). e.0) done ((k, t) ∷ left)) h in
-    sym (texts_put done k t) ∙ ap (λ es. texts_value (texts_of es)) (insert_last string_cmp_total done k t (keys_of left) sorted)
-
--- ---- texts in the order of their keys are read back
-
-read_texts : (done left : Texts) → IsStrictlySortedBy string_cmp (keys_of (done ++ left)) → of_members (members_outline (texts_value (texts_of left))) (texts_value (texts_of done)) ≡ Some (texts_value (texts_of (done ++ left)))
-read_texts done [] h = ap (λ l. Some (texts_value (texts_of l))) (sym (append-nil done))
-read_texts done (e ∷ left) h =
-    let all : done ++ (e ∷ left) ≡ (done ++ e ∷ []) ++ left = sym (append_assoc done (e ∷ []) left) in
-    rw (put_last done e.0 e.1 left h, all) (read_texts (done ++ e ∷ []) left (subst (λ l. IsStrictlySortedBy string_cmp (keys_of l)) all h))
-
-pub texts_read_back : (texts : Texts) → IsStrictlySortedBy string_cmp (keys_of texts) → of_json (outline (object (texts_value (texts_of texts)))) ≡ Some (object (texts_value (texts_of texts)))
-texts_read_back texts h = ap (option_map object) (read_texts [] texts h)
-
 -- the tokens of texts after the bracket that opens them
 abbrev pub texts_tokens : Texts → List Token
 texts_tokens texts = members_tokens (members_outline (texts_value (texts_of texts)))
@@ -125,20 +94,15 @@ parts_read_back : (n : Text) (d : Data) (b : Bool) (m : Metadata) → of_json (o
 parts_read_back n d b [] texts type = rw type
 parts_read_back n d b (e ∷ es) texts type = rw (texts, type)
 
-parts_tokens : (n : Text) (d : Data) (b : Bool) (m : Metadata)
-    → begin_object ∷ (metadata_tokens m ++ key (codes "name") ∷ string_token n ∷ key (codes "nullable") ∷ boolean_token b ∷ key (codes "type")
-    ∷ (json_tokens (outline d) ++ end_object ∷ [])) ≡ json_tokens (outline (parts_value n d b m))
-parts_tokens n d b [] = refl
-parts_tokens n d b (e ∷ es) = refl
-
 pub prints_parts : (n : Text) (d : Data) (b : Bool) (m : Metadata) {w0 w1 w2 w3 w4 w5 w6 w7 w8 w9 : Written} → Adds (begin_object ∷ []) w0 w1 → PrintsMetadata m w1 w2
     → Adds (key (codes "name") ∷ []) w2 w3 → Adds (string_token n ∷ []) w3 w4 → Adds (key (codes "nullable") ∷ []) w4 w5 → Adds (boolean_token b ∷ []) w5 w6
     → Adds (key (codes "type") ∷ []) w6 w7 → Prints d w7 w8 → Adds (end_object ∷ []) w8 w9 → Prints (parts_value n d b m) w0 w9
-prints_parts n d b m {w0} {w9 = w9} begin metadata name_key name nullable_key nullable type_key type finish = record {
-  adds = subst (λ ts. Adds ts w0 w9) (parts_tokens n d b m) (then begin (then metadata.adds (then name_key (then name (then nullable_key (then nullable (then type_key (then type.adds finish))))))));
+prints_parts n d b m {w9 = w9} begin metadata name_key name nullable_key nullable type_key type finish = record {
+  adds = then begin (metadata.adds (member (codes "name") (string n) (member (codes "nullable") (boolean b) (member (codes "type") d no_members))) w9
+      (then name_key (then name (then nullable_key (then nullable (then type_key (then type.adds finish)))))));
   reads_back = parts_read_back n d b m metadata.reads_back type.reads_back;
 }
 
 pub prints_metadata : (texts : Texts) {a b c : Written} → (texts ≡ [] → ⊥) → Adds (key (codes "metadata") ∷ []) a b → Prints (object (texts_value (texts_of texts))) b c → PrintsMetadata (texts_of texts) a c
 prints_metadata [] some named value = absurd (some refl)
-prints_metadata (e ∷ es) some named value = record { adds = then named value.adds; reads_back = value.reads_back }
+prints_metadata (e ∷ es) some named value = record { adds = λ ms end rest. then named (then value.adds rest); reads_back = value.reads_back }

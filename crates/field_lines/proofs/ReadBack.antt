@@ -1,21 +1,12 @@
 -- The line of a field is read back as that field, and a field that a line denotes has its texts and its metadata as a value holds them.
-use Rattle.std.proofs.Common.{◌≡◌, ◌≤◌, Bool, true, cond, Option, Some, None, IfSome, option_and_then, codes, bytes_eq, refl, sym, ap, ◌∙◌, subst}
-use Rattle.std.specs.Str.{is_utf8}
-use Rattle.std.proofs.lemmas.Bool.{cond_both}
-use Rattle.std.proofs.lemmas.Option.{IfSome_then}
-use Rattle.serde_json.specs.Data.{Data, string, object, Members, no_members, member, depth}
-use Rattle.serde_json.specs.Find.{get_member, as_str}
-use Rattle.serde_json.specs.Read.{read, max_depth}
-use Rattle.serde_json.specs.Written.{compact_text}
-use Rattle.arrow_values.specs.Tree.{Text, Metadata, Tree, FieldTree}
-use Rattle.field_lines.specs.Held.{is_held, members_are_held, held_parts}
-use Rattle.field_lines.specs.FieldOfValue.{field_from, metadata_of_value, texts_in, type_in, field_of_value}
-use Rattle.field_lines.specs.Line.{texts_value, value_of_field, line_of_field, field_of_line}
-use Rattle.field_lines.specs.LineForm.{HasLineForm}
+use Rattle.std.proofs.Common.{◌≡◌, ◌≤◌, [], ◌∷◌, Bool, true, cond, Option, Some, None, IfSome, option_and_then, option_map, codes, bytes_eq, String, Global, string_bytes, string_cmp, is_lt, Less, refl, sym, ap, ◌∙◌, subst, arith}
+use Rattle.field_lines.proofs.Terms.{AllByRecursion, keys_of, is_utf8, cond_both, and_from, IsUtf8-string_bytes, is_utf8-from_IsUtf8, IfSome_then, Data, object, Members, no_members, member, depth, get_member, as_str, read, of_json, max_depth, compact_text, outline, Text, Metadata, Tree, FieldTree, texts_of, comes_first, is_held, members_are_held, held_parts, field_from, metadata_of_value, texts_in, type_in, field_of_value, texts_value, value_of_field, line_of_field, field_of_line, HasLineForm}
+use Rattle.std.specs.List.Sorted.{IsStrictlySortedBy}
+use Rattle.field_lines.proofs.Prints.{Texts}
 use Rattle.field_lines.proofs.Lean.{chained, if_some, either, texts_say}
 use Rattle.field_lines.proofs.TokenMembers.{get_member-at}
-use Rattle.field_lines.proofs.Round.{value_is}
-use Rattle.field_lines.proofs.Held.{read_held, held_read_back}
+use Rattle.field_lines.proofs.Round.{value_is, texts_whole}
+use Rattle.field_lines.proofs.Held.{read_held, members_back, held_read_back}
 use Rattle.field_lines.proofs.Compact.{compact_utf8}
 
 -- ---- the line is read back
@@ -27,6 +18,22 @@ line_back f form held shallow =
     ap (λ b. option_and_then field_of_value (cond b (read (compact_text v)) None)) (compact_utf8 v held)
     ∙ ap (option_and_then field_of_value) (held_read_back v held is.1 shallow) ∙ is.2 form
 
+-- ---- texts in the order of their keys are read back
+
+before_all : (k : String Global) (es : Texts) → AllByRecursion (λ l. string_cmp k l ≡ Less) (keys_of es) → comes_first (string_bytes k) (texts_value (texts_of es)) ≡ true
+before_all k [] h = refl
+before_all k (e ∷ es) h = ap is_lt h.0
+
+texts_ordered : (texts : Texts) → IsStrictlySortedBy string_cmp (keys_of texts) → members_are_held (texts_value (texts_of texts)) ≡ true
+unfolding IsStrictlySortedBy
+texts_ordered [] h = refl
+texts_ordered (e ∷ es) h =
+    let utf8 = λ (s : String Global). is_utf8-from_IsUtf8 (string_bytes s) (IsUtf8-string_bytes s) in
+    and_from _ _ (before_all e.0 es h.0) (and_from _ _ (utf8 e.0) (and_from _ _ (utf8 e.1) (texts_ordered es h.1)))
+
+pub texts_read_back : (texts : Texts) → IsStrictlySortedBy string_cmp (keys_of texts) → of_json (outline (object (texts_value (texts_of texts)))) ≡ Some (object (texts_value (texts_of texts)))
+texts_read_back texts h = ap (option_map object) (members_back (texts_value (texts_of texts)) (texts_ordered texts h) (texts_whole (texts_of texts))).0
+
 -- ---- what a line denotes is held
 
 member_held : (k : Text) (ms : Members) → members_are_held ms ≡ true → IfSome (get_member k ms) (λ d. is_held d ≡ true)
@@ -37,8 +44,7 @@ member_held k (member l e ms) h =
     subst is_held_there (sym (get_member-at k l e ms)) (either is_held_there (bytes_eq k l) (Some e) (get_member k ms) p.2 (member_held k ms p.3))
 
 text_held : (d : Data) → is_held d ≡ true → IfSome (as_str d) (λ s. is_utf8 s ≡ true)
-text_held (string s) h = h
-text_held _ h = tt
+text_held d h = grind arith
 
 abbrev HoldsTexts : Metadata → Type 0
 HoldsTexts m = members_are_held (texts_value m) ≡ true
@@ -52,8 +58,7 @@ abbrev IsHeldField : FieldTree → Type 0
 IsHeldField f = (is_utf8 f.name ≡ true) × HoldsTexts f.metadata
 
 from_held : (n : Option Text) (b : Option Bool) (t : Option Tree) (m : Option Metadata) → IfSome n (λ s. is_utf8 s ≡ true) → IfSome m HoldsTexts → IfSome (field_from n b t m) IsHeldField
-from_held (Some n) (Some b) (Some t) (Some m) name metadata = (name, metadata)
-from_held _ _ _ _ name metadata = tt
+from_held n b t m name metadata = grind arith
 
 field_held : (d : Data) → is_held d ≡ true → IfSome (field_of_value d) IsHeldField
 field_held (object ms) h =

@@ -1,21 +1,11 @@
 -- The value of a field: it is lean, holds no float, and denotes that field.
-use Rattle.std.proofs.Common.{◌≡◌, ◌≤◌, max, ℤ, pos, negsuc, [], ◌∷◌, Bool, cond, false, IsTrue, inl, inr, Some, None, option_map, option_and_then, refl, ap, ◌∙◌, arith}
-use Rattle.std.proofs.lemmas.Bool.{and_parts}
-use Rattle.std.specs.List.{list_all}
-use Rattle.serde_json.specs.Data.{Data, number, string, depth, members_depth}
-use Rattle.serde_json.specs.Read.{max_depth}
-use Rattle.serde_json.specs.Find.{of_integer, as_integer, as_str}
-use Rattle.serde_json.specs.Written.{has_float, items_have_float, members_have_float}
-use Rattle.arrow_values.specs.declared.tree.UnionMode.{UnionMode}
-use Rattle.arrow_values.specs.declared.tree.UnionMode.TheVariants.{Sparse, Dense}
-use Rattle.arrow_values.specs.Tree.{Text, Metadata, Plain, null, Tree, plain, list, large_list, fixed_size_list, struct, union, FieldTrees, no_fields, field, MemberTrees, no_members, member, FieldTree, field_tree}
-use Rattle.arrow_values.specs.Union.{is_type_id, are_distinct}
+use Rattle.std.proofs.Common.{◌≡◌, ◌≤◌, max, ℤ, [], ◌∷◌, Bool, cond, false, IsTrue, inl, inr, Some, None, option_map, option_and_then, refl, ap, ◌∙◌, arith}
+use Rattle.field_lines.proofs.Terms.{and_parts, list_all, Data, number, string, depth, max_depth, of_integer, as_integer, as_str, has_float, items_have_float, members_have_float, UnionMode, Text, Metadata, Plain, Tree, plain, list, large_list, fixed_size_list, struct, union, FieldTrees, no_fields, field, MemberTrees, FieldTree, field_tree, is_type_id, are_distinct, kept, is_size, texts_in, list_of, large_list_of, tree_ids, field_of_value, type_of_value, fields_in, members_in, texts_value, parts_value, type_value, fields_value, members_value, value_of_field, other_value, HasLineForm, FieldsHaveLineForm, MembersHaveLineForm}
+use Rattle.serde_json.specs.Data.{members_depth}
+use Rattle.arrow_values.specs.Tree.{null, no_members, member}
 use Rattle.arrow_columns.specs.Notation.{plain_name}
 use Rattle.field_lines.specs.Names.{plain_named, mode_name, mode_named}
-use Rattle.field_lines.specs.FieldOfValue.{kept, is_size, texts_in, list_of, large_list_of, tree_ids, field_of_value, type_of_value, fields_in, members_in}
-use Rattle.field_lines.specs.Line.{texts_value, parts_value, type_value, fields_value, members_value, value_of_field, other_value}
 use Rattle.field_lines.specs.Lean.{IsLean, AreLean, IsLeanType}
-use Rattle.field_lines.specs.LineForm.{HasLineForm, FieldsHaveLineForm, MembersHaveLineForm}
 
 -- the words
 named_plain : (p : Plain) → plain_named (plain_name p) ≡ Some p
@@ -23,13 +13,11 @@ named_plain null = refl
 named_plain _ = refl
 
 named_mode : (mode : UnionMode) → mode_named (mode_name mode) ≡ Some mode
-named_mode Sparse = refl
-named_mode Dense = refl
+named_mode mode = grind arith
 
 -- the numbers
 as_integer-of : (z : ℤ) → as_integer (of_integer z) ≡ Some z
-as_integer-of (pos n) = refl
-as_integer-of (negsuc n) = refl
+as_integer-of z = grind arith
 
 kept-integer : (p : ℤ → Bool) (z : ℤ) → IsTrue (p z) → option_and_then (kept p) (as_integer (of_integer z)) ≡ Some z
 kept-integer p z is = ap (option_and_then (kept p)) (as_integer-of z) ∙ ap (λ b. cond b (Some z) None) is
@@ -39,14 +27,12 @@ texts_in-value [] = refl
 texts_in-value (e ∷ es) = ap (λ o. option_and_then (λ text. option_map (λ texts. ((e.0, text) ∷ texts)) o) (as_str (string e.1))) (texts_in-value es)
 
 lean_integer : (z : ℤ) → IsLean (number (of_integer z))
-lean_integer (pos n) = tt
-lean_integer (negsuc n) = tt
+lean_integer z = grind arith
 
 integer_whole : (z : ℤ) → has_float (number (of_integer z)) ≡ false
-integer_whole (pos n) = refl
-integer_whole (negsuc n) = refl
+integer_whole z = grind arith
 
-texts_whole : (m : Metadata) → members_have_float (texts_value m) ≡ false
+pub texts_whole : (m : Metadata) → members_have_float (texts_value m) ≡ false
 texts_whole [] = refl
 texts_whole (e ∷ m) = texts_whole m
 

@@ -1,18 +1,8 @@
 -- The items of a list from tokens: what is left decides.
 use Rattle.std.proofs.Common.{◌≡◌, ℕ, ◌≤◌, ℤ, List, [], ◌∷◌, ◌++◌, ◌+◌, length, length-append, append_assoc, append-nil, IsTrue, Option, Some, None, option_map, option_and_then, refl, sym, ap, ◌∙◌, arith}
-use Rattle.std.proofs.lemmas.Bool.{and_from}
+use Rattle.field_lines.proofs.Terms.{and_from, zip, Token, parse_map, after_end_array, Data, array, Items, no_items, item, FieldTree, MemberTrees, is_type_id, member_before, field_of_value, id_of_value, members_in, AreMemberParts, pair_read, next_value, next_items, after, ReadsValue, ReadsItems, item_read, item_refused, items_over, value_takes, after_some}
 use Rattle.std.proofs.lemmas.List.Folds.{list_all-append}
 use Rattle.std.proofs.lemmas.Iterator.Adapters.{option_map_id}
-use Rattle.std.specs.List.{zip}
-use Rattle.json.specs.Token.{Token}
-use Rattle.json.specs.Json.{parse_map, after_end_array}
-use Rattle.serde_json.specs.Data.{Data, array, Items, no_items, item}
-use Rattle.arrow_values.specs.Tree.{FieldTree, MemberTrees}
-use Rattle.arrow_values.specs.Union.{is_type_id}
-use Rattle.field_lines.specs.FieldOfValue.{member_before, field_of_value, id_of_value, members_in}
-use Rattle.field_lines.specs.Keys.{AreMemberParts, pair_read}
-use Rattle.value_tokens.specs.Next.{next_value, next_items, after, ReadsValue, ReadsItems}
-use Rattle.value_tokens.specs.Turns.{item_read, item_refused, items_over, value_takes, after_some}
 
 -- what is next leaves of a list: its end, or an item
 abbrev pub turn : ℕ → Option (List Token) → Option (Data × List Token) → Option (Items × List Token)
@@ -26,6 +16,10 @@ turned depth ts None (Some p) over e = item_read depth ts p.1 p.0 over e
 
 pub item_turn : (depth : ℕ) (ts : List Token) → next_items depth ts ≡ turn depth (after_end_array ts) (next_value depth ts)
 item_turn depth ts = turned depth ts (after_end_array ts) (next_value depth ts) refl refl
+
+pub array_read : {A : Type 0} (f : Data → A) (depth below : ℕ) (ts s r : List Token) (a : A) → next_value depth ts ≡ parse_map array (next_items below s)
+    → ReadsItems (λ ds. f (array ds)) below s a r → ReadsValue f depth ts a r
+array_read f depth below ts s r a opened read = (array read.0, opened ∙ ap (parse_map array) read.1, read.2)
 
 -- an item where no bracket closes the list
 abbrev pub GoesOn : List Token → List Token → Type 0
@@ -47,8 +41,7 @@ pub record AreItemsTaken {X T : Type 0} (trees : List X → T) (whole : Items �
   pub fewer : length left ≤ length all
 
 nested : (front : Items → Items) (d : Data) (o : Option (Items × List Token)) → parse_map front (parse_map (item d) o) ≡ parse_map (λ ds. front (item d ds)) o
-nested front d None = refl
-nested front d (Some p) = refl
+nested front d o = grind arith
 
 pub taken_start : {X T : Type 0} {trees : List X → T} {whole : Items → Option T} {depth : ℕ} {all : List Token} {made : List X} → made ≡ [] → AreItemsTaken trees whole depth all all made
 taken_start {depth = depth} {all} is = rw is (record { front = λ ds. ds; decides = sym (option_map_id (next_items depth all)); some = λ ds xs e. e; none = λ ds e. e; fewer = omega arith })
@@ -89,8 +82,7 @@ pair_before q rest = member_before q.0 q.1 rest
 
 paired : (ids : Option ℤ) (fields : Option FieldTree) (rest : Option MemberTrees)
     → option_and_then (λ id. option_and_then (λ f. option_map (member_before id f) rest) fields) ids ≡ option_and_then {U = _} (λ q. option_map (pair_before q) rest) (option_and_then {U = ℤ × FieldTree} (λ id. option_map (λ f. (id, f)) fields) ids)
-paired (Some id) (Some f) rest = refl
-paired _ _ rest = refl
+paired ids fields rest = grind arith
 
 pub members_in-pair : (p : Data) (ds : Items) → members_in (item p ds) ≡ option_and_then (λ q. option_map (pair_before q) (members_in ds)) (pair_read p)
 members_in-pair (array (item i (item d no_items))) ds = paired (id_of_value i) (field_of_value d) (members_in ds)

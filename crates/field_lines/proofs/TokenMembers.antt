@@ -1,27 +1,17 @@
 -- The members of an object from tokens: those of a field, of which the last value at each key counts, and those of a type, with one key or two and no others.
-use Rattle.std.proofs.Common.{◌≡◌, ℕ, ◌≤◌, List, length, Bool, true, false, cond, bytes_eq, nat_cmp, Ordering, Equal, Option, Some, None, option_and_then, codes, refl, sym, ap, ◌∙◌, arith, ◌<◌, Less, Greater, option_map, not, ◌⊎◌, inl, inr, ⊎_elim, subst}
-use Rattle.std.proofs.lemmas.Bool.{cond-false, cond_both, false_from_ne_true, and_left, and_right, both_ways, not-true, not-false}
+use Rattle.std.proofs.Common.{◌≡◌, ℕ, ◌≤◌, List, length, Bool, true, false, cond, bytes_eq, nat_cmp, Ordering, Option, Some, None, option_and_then, codes, refl, sym, ap, ◌∙◌, arith, ◌<◌, Less, Greater, not, ◌⊎◌, inl, inr, ⊎_elim, subst}
+use Rattle.field_lines.proofs.Terms.{cond-false, cond_both, false_from_ne_true, and_left, and_right, both_ways, not-true, not-false, slice_cmp, is_eq, match_ordering, cond_some, nat_list_cmp_total, tied_itself, Token, read_key, Data, string, object, Members, no_members, member, put, get_member, as_str, as_bool, as_object, Text, Metadata, Tree, FieldTree, under, metadata_of_value, field_from, field_of_value, type_in, type_of_value, are_keys, keyed_at, IsNeither, next_value, next_members, ReadsMembers, next_after, after, ReadsValue, ReadsAfter, no_value, object_too_deep, value-object, member_read, members_over, value_takes, key_refused, after_some, taken, named}
 use Rattle.std.proofs.lemmas.Map.Text.{is_eq-slice_cmp}
-use Rattle.std.specs.Cmp.Lexicographic.{slice_cmp}
-use Rattle.std.specs.Ordering.{is_eq, match_ordering}
 use Rattle.std.proofs.lemmas.Slice.Eq.{bytes_eq-Decides}
-use Rattle.std.proofs.lemmas.Option.{cond_some}
-use Rattle.std.proofs.lemmas.Cmp.{nat_list_cmp_total, tied_itself}
-use Rattle.json.specs.Token.{Token}
-use Rattle.json.specs.Json.{read_key}
 use Rattle.json.proofs.Grammar.{read_key-shorter}
-use Rattle.serde_json.specs.Data.{Data, string, object, Members, no_members, member, put}
-use Rattle.serde_json.specs.Find.{get_member, as_str, as_bool, as_object}
-use Rattle.arrow_values.specs.Tree.{Text, Metadata, Tree, FieldTree}
-use Rattle.field_lines.specs.FieldOfValue.{under, metadata_of_value, field_from, field_of_value, type_in, type_of_value, are_keys}
-use Rattle.field_lines.specs.Keys.{keyed_at, only_at, pair_at, fixed_size_list_at, union_at}
-use Rattle.value_tokens.specs.Next.{next_value, next_members, ReadsMembers, next_after, after, ReadsValue, ReadsAfter}
-use Rattle.value_tokens.specs.Turns.{no_value, object_too_deep, value-object, member_read, members_over, value_takes, key_refused, after_some, taken, named}
 use Rattle.value_tokens.specs.Presence.{get_member-put_at, Has, kept, has_new, has_taken}
 
 -- a text that is another is told apart
 apart : (k l : Text) → (k ≡ l → ⊥) → bytes_eq k l ≡ false
 apart k l other = false_from_ne_true (bytes_eq k l) (λ e. other ((bytes_eq-Decides k l).0 e))
+
+differ : (k l : Text) → bytes_eq k l ≡ false → k ≡ l → ⊥
+differ k l other is = both_ways (bytes_eq k l) other ((bytes_eq-Decides k l).1 is)
 
 -- what the key that is next leaves
 abbrev pub turn : ℕ → Members → Option (Option Text × List Token) → Option (Members × List Token)
@@ -29,13 +19,8 @@ turn depth found None = None
 turn depth found (Some (None, s)) = Some (found, s)
 turn depth found (Some (Some k, s)) = next_after depth found k s
 
-turned : (depth : ℕ) (found : Members) (ts : List Token) (o : Option (Option Text × List Token)) → read_key ts ≡ o → next_members depth found ts ≡ turn depth found o
-turned depth found ts None e = key_refused depth found ts e
-turned depth found ts (Some (None, s)) e = members_over depth found ts s e
-turned depth found ts (Some (Some k, s)) e = named depth found k ts s e
-
 pub member_turn : (depth : ℕ) (found : Members) (ts : List Token) → next_members depth found ts ≡ turn depth found (read_key ts)
-member_turn depth found ts = turned depth found ts (read_key ts) refl
+member_turn depth found ts = grind (arith, key_refused, members_over, named)
 
 -- a member takes tokens
 pub member_takes : (depth : ℕ) (ts s r : List Token) (k : Text) (d : Data) → read_key ts ≡ Some (Some k, s) → next_value depth s ≡ Some (d, r) → length r < length ts
@@ -44,15 +29,13 @@ member_takes depth ts s r k d key e = let less = value_takes depth s r d e in le
 -- ---- the parts of a field
 
 at_first : (r : Ordering) (d o : Option Data) → match_ordering r o d o ≡ cond (is_eq r) d o
-at_first Equal d o = refl
-at_first _ d o = refl
+at_first r d o = grind arith
 
 pub get_member-at : (q k : Text) (d : Data) (ms : Members) → get_member q (member k d ms) ≡ cond (bytes_eq q k) (Some d) (get_member q ms)
 get_member-at q k d ms = at_first (slice_cmp nat_cmp q k) (Some d) (get_member q ms) ∙ ap (λ b. cond b (Some d) (get_member q ms)) (is_eq-slice_cmp q k)
 
 chosen : {A B : Type 0} (f : Option A → B) (b : Bool) (x y : Option A) → f (cond b x y) ≡ cond b (f x) (f y)
-chosen f true x y = refl
-chosen f false x y = refl
+chosen f b x y = grind arith
 
 -- the type is what stands at its key
 type_in-get : (ms : Members) → type_in ms ≡ under type_of_value (codes "type") ms
@@ -105,9 +88,7 @@ pub ruleset type_begins = (no_value, object_too_deep, value-object)
 
 -- what is no object and no text denotes no type
 pub no_type : (d : Data) → as_object d ≡ None → as_str d ≡ None → None ≡ type_of_value d
-no_type (string s) e f = cc
-no_type (object ms) e f = cc
-no_type _ e f = refl
+no_type d e f = grind arith
 
 -- a part at another key
 pub part_other : {A : Type 0} {q k : Text} (here : Option A) {old : Option A} → (k ≡ q → ⊥) → Part q k old here old
@@ -123,6 +104,22 @@ either_key : (u k l : Text) (d e : Data) → Has u (member k d (member l e no_me
 either_key u k l d e h =
     cond_both (bytes_eq u k) (Some d) (get_member u (member l e no_members)) (λ o. o ≡ Some h.0 → (u ≡ k) ⊎ (u ≡ l))
     (λ same _. inl ((bytes_eq-Decides u k).0 same)) (λ _ is. inr (only_key u l e (h.0, is))) (sym (get_member-at u k d (member l e no_members)) ∙ h.1)
+
+is_no_pair : (q k l m n : Text) → IsNeither m n q → (q ≡ k) ⊎ (q ≡ l) → are_keys k l m n ≡ false
+is_no_pair q k l m n none one = grind (arith, bytes_eq-Decides)
+
+abbrev pub denoted : Members → Option Tree
+denoted ms = type_of_value (object ms)
+
+-- members of which one has no key of a fixed size list and one has no key of a union denote a type only by their one key
+pub no_type_of : {q u v : Text} (ms : Members) → IsNeither (codes "fixed_size_list") (codes "size") q → IsNeither (codes "mode") (codes "union") u → Has q ms → Has u ms → Has v ms
+    → ((d : Data) → q ≡ v → u ≡ v → None ≡ keyed_at v d) → None ≡ denoted ms
+no_type_of {q} {u} {v} (member k d no_members) size union a b c one =
+    let is = only_key v k d c in
+    subst (λ n. None ≡ keyed_at n d) is (one d (only_key q k d a ∙ sym is) (only_key u k d b ∙ sym is))
+no_type_of {q} {u} {v} (member k d (member l e no_members)) size union a b c one =
+    rw (is_no_pair q k l (codes "fixed_size_list") (codes "size") size (either_key q k l d e a), is_no_pair u k l (codes "mode") (codes "union") union (either_key u k l d e b))
+no_type_of _ size union a b c one = refl
 
 -- members that are skipped, of which one has the key that was read
 skipped : (depth : ℕ) (found : Members) (k : Text) (s : List Token) {u r : List Token} → after (next_value depth s) ≡ Some u
@@ -143,11 +140,6 @@ pub record IsOnlyUnderWay (depth : _) (only : Text) (all left : List Token) (ans
 put_only : (k : Text) (d e : Data) → put k d (member k e no_members) ≡ member k d no_members
 put_only k d e = rw (tied_itself nat_list_cmp_total k)
 
--- another key beside it
-spoiled : (only k : Text) (ms : Members) → (k ≡ only → ⊥) → Has k ms → None ≡ only_at only ms
-spoiled only k (member l d no_members) other h = rw (apart l only (λ is. other (only_key k l d h ∙ is)))
-spoiled only k _ other h = refl
-
 module _ {depth : ℕ} {only : Text} {all left s : List Token} {answer : Option Tree} (way : IsOnlyUnderWay depth only all left answer) where
   pub only_go_on : {k : Text} {r : List Token} {new : Option Tree} {b : Bool} → read_key left ≡ Some (Some k, s) → b ≡ not (bytes_eq k only) → b ≡ false → ReadsValue (keyed_at only) depth s new r
       → IsOnlyUnderWay depth only all r new
@@ -161,15 +153,14 @@ module _ {depth : ℕ} {only : Text} {all left s : List Token} {answer : Option 
         fewer = omega (arith, way.fewer, member_takes depth left s r k read.0 named read.1);
       }
 
-  pub only_end : read_key left ≡ Some (None, s) → ReadsAfter (only_at only) depth no_members only all answer s
-  only_end over = (member only way.value no_members, way.decides ∙ members_over depth (member only way.value no_members) left s over, way.answers ∙ rw ((bytes_eq-Decides only only).1 refl))
-
-  pub only_spoiled : {k : Text} {u r : List Token} {b : Bool} → read_key left ≡ Some (Some k, s) → b ≡ not (bytes_eq k only) → b ≡ true → after (next_value depth s) ≡ Some u
-      → ((found : Members) → after (next_members depth found u) ≡ Some r) → ReadsAfter (only_at only) depth no_members only all None r
-  only_spoiled {k} came e differs passed rest =
+  pub only_spoiled : {k : Text} {u r : List Token} {b : Bool} → IsNeither (codes "fixed_size_list") (codes "size") only × IsNeither (codes "mode") (codes "union") only → read_key left ≡ Some (Some k, s)
+      → b ≡ not (bytes_eq k only) → b ≡ true → after (next_value depth s) ≡ Some u → ((found : Members) → after (next_members depth found u) ≡ Some r) → ReadsAfter denoted depth no_members only all None r
+  only_spoiled {k} {r = r} none came e differs passed rest =
       let ms = skipped depth (member only way.value no_members) k s passed rest in
-      let other = λ (is : k ≡ only). both_ways _ (not-true _ (sym e ∙ differs)) ((bytes_eq-Decides k only).1 is) in
-      (ms.0, way.decides ∙ named depth (member only way.value no_members) k left s came ∙ ms.1, spoiled only k ms.0 other ms.2)
+      let read = way.decides ∙ named depth (member only way.value no_members) k left s came ∙ ms.1 in
+      let has = has_taken depth only no_members ms.0 all r read in
+      let other = λ (is : only ≡ k). both_ways _ (not-true _ (sym e ∙ differs)) ((bytes_eq-Decides k only).1 (sym is)) in
+      (ms.0, read, no_type_of ms.0 none.0 none.1 has has ms.2 (λ d is _. absurd (other is)))
 
 -- ---- two keys
 
@@ -193,17 +184,13 @@ abbrev pub AreOrdered : Text → Text → Type 0
 AreOrdered k l = (slice_cmp nat_cmp k l ≡ Less) × (slice_cmp nat_cmp l k ≡ Greater)
 
 put_first : (k l : Text) (d : Data) (a b : Option Data) → AreOrdered k l → put k d (two k l a b) ≡ two k l (Some d) b
-put_first k l d None None h = refl
-put_first k l d None (Some e) h = rw h.0
-put_first k l d (Some c) b h = rw (tied_itself nat_list_cmp_total k)
+put_first k l d a b h = grind (arith, tied_itself nat_list_cmp_total k)
 
 put_alone : (l : Text) (d : Data) (b : Option Data) → put l d (with_key l b no_members) ≡ member l d no_members
-put_alone l d None = refl
-put_alone l d (Some e) = put_only l d e
+put_alone l d b = grind (arith, put_only)
 
 put_second : (k l : Text) (d : Data) (a b : Option Data) → AreOrdered k l → put l d (two k l a b) ≡ two k l a (Some d)
-put_second k l d None b h = put_alone l d b
-put_second k l d (Some c) b h = rw h.1 (ap (member k c) (put_alone l d b))
+put_second k l d a b h = grind (arith, put_alone l d b)
 
 module _ {A B : Type 0} {f : Data → Option A} {g : Data → Option B} {k l : Text} {depth : ℕ} {first : Text} {all left : List Token} {now : Option Text} {x : Option A} {y : Option B}
     (before : AreTwoUnderWay f g k l depth first all left now x y) {q : Text} (came : now ≡ Some q) where
@@ -223,12 +210,13 @@ module _ {A B : Type 0} {f : Data → Option A} {g : Data → Option B} {k l : T
       }
 
   -- a third key beside the two
-  pub two_spoiled : {u r : List Token} {at : Members → Option Tree} → after (next_value depth left) ≡ Some u → ((found : Members) → after (next_members depth found u) ≡ Some r)
-      → ((ms : Members) → Has q ms → None ≡ at ms) → ReadsAfter at depth no_members first all None r
-  two_spoiled passed rest none =
+  pub two_spoiled : {u r : List Token} → after (next_value depth left) ≡ Some u → ((found : Members) → after (next_members depth found u) ≡ Some r)
+      → ((ms : Members) → Has q ms → Has first ms → None ≡ denoted ms) → ReadsAfter denoted depth no_members first all None r
+  two_spoiled {r = r} passed rest none =
       let found = two k l before.at_first before.at_second in
       let ms = skipped depth found q left passed rest in
-      (ms.0, before.decides ∙ ap (λ n. turn depth found (Some (n, left))) came ∙ ms.1, none ms.0 ms.2)
+      let read = before.decides ∙ ap (λ n. turn depth found (Some (n, left))) came ∙ ms.1 in
+      (ms.0, read, none ms.0 ms.2 (has_taken depth first no_members ms.0 all r read))
 
 module _ {A B : Type 0} {f : Data → Option A} {g : Data → Option B} {k l : Text} {depth : ℕ} {first : Text} {all left : List Token} {now : Option Text} {x : Option A} {y : Option B}
     (ordered : AreOrdered k l) (way : AreTwoUnderWay f g k l depth first all left now x y) {r s : List Token} {next : Option Text} where
@@ -238,51 +226,15 @@ module _ {A B : Type 0} {f : Data → Option A} {g : Data → Option B} {k l : T
   pub second_read : {new : Option B} → now ≡ Some l → ReadsValue g depth left new r → read_key r ≡ Some (next, s) → AreTwoUnderWay f g k l depth first all s next x new
   second_read came read e = took way came way.at_first (Some read.0) read e (put_second k l read.0 way.at_first way.at_second ordered) (way.answers.0, read.2)
 
--- one of two keys is neither of two others
-abbrev IsNeither : Text → Text → Text → Type 0
-IsNeither m n q = (bytes_eq q m ≡ false) × (bytes_eq q n ≡ false)
-
-is_no_pair : (q k l m n : Text) → IsNeither m n q → (q ≡ k) ⊎ (q ≡ l) → are_keys k l m n ≡ false
-is_no_pair q k l m n none (inl is) = and_left (bytes_eq k m) (bytes_eq l n) (rw (← is) none.0)
-is_no_pair q k l m n none (inr is) = and_right (bytes_eq k m) (bytes_eq l n) (rw (← is) none.1)
-
-pub no_pair : {A : Type 0} (f : Data → Data → Option A) (p q u : Text) (ms : Members) → (u ≡ p → ⊥) → (u ≡ q → ⊥) → Has u ms → None ≡ pair_at f p q ms
-no_pair f p q u (member k d (member l e no_members)) a b h = rw (is_no_pair u k l p q (apart u _ a, apart u _ b) (either_key u k l d e h))
-no_pair f p q u _ a b h = refl
-
--- ---- the key that comes first says which type it is
-
+-- a key that is one of two, and none of the others
 either_is : {q m n : Text} (P : Text → Type 0) → (q ≡ m) ⊎ (q ≡ n) → P m → P n → P q
 either_is P one at_m at_n = ⊎_elim (λ is. subst P (sym is) at_m) (λ is. subst P (sym is) at_n) one
 
-pub as_only : (q : Text) (ms : Members) → (q ≡ codes "fixed_size_list" → ⊥) → (q ≡ codes "size" → ⊥) → (q ≡ codes "mode" → ⊥) → (q ≡ codes "union" → ⊥) → Has q ms → only_at q ms ≡ type_of_value (object ms)
-as_only q (member k d no_members) fixed size mode union h = rw (← only_key q k d h, (bytes_eq-Decides q q).1 refl)
-as_only q (member k d (member l e no_members)) fixed size mode union h =
-    let one = either_key q k l d e h in
-    rw (is_no_pair q k l (codes "fixed_size_list") (codes "size") (apart q _ fixed, apart q _ size) one, is_no_pair q k l (codes "mode") (codes "union") (apart q _ mode, apart q _ union) one)
-as_only q _ fixed size mode union h = refl
+pub of_fixed_size_list : {q : Text} → (q ≡ codes "fixed_size_list") ⊎ (q ≡ codes "size") → IsNeither (codes "mode") (codes "union") q × ((d : Data) → None ≡ keyed_at q d)
+of_fixed_size_list one = either_is (λ q. IsNeither (codes "mode") (codes "union") q × ((d : Data) → None ≡ keyed_at q d)) one ((differ _ _ refl, differ _ _ refl), λ d. refl) ((differ _ _ refl, differ _ _ refl), λ d. refl)
 
-pub as_fixed_size_list : (q : Text) (ms : Members) → (q ≡ codes "fixed_size_list") ⊎ (q ≡ codes "size") → Has q ms → fixed_size_list_at ms ≡ type_of_value (object ms)
-as_fixed_size_list q (member k d no_members) one h = subst (λ n. None ≡ keyed_at n d) (only_key q k d h) (either_is (λ n. None ≡ keyed_at n d) one refl refl)
-as_fixed_size_list q (member k d (member l e no_members)) one h =
-    rw (is_no_pair q k l (codes "mode") (codes "union") (either_is (IsNeither (codes "mode") (codes "union")) one (refl, refl) (refl, refl)) (either_key q k l d e h))
-as_fixed_size_list q _ one h = refl
-
-pub as_union : (q : Text) (ms : Members) → (q ≡ codes "mode") ⊎ (q ≡ codes "union") → Has q ms → union_at ms ≡ type_of_value (object ms)
-as_union q (member k d no_members) one h = subst (λ n. None ≡ keyed_at n d) (only_key q k d h) (either_is (λ n. None ≡ keyed_at n d) one refl refl)
-as_union q (member k d (member l e no_members)) one h =
-    rw (is_no_pair q k l (codes "fixed_size_list") (codes "size") (either_is (IsNeither (codes "fixed_size_list") (codes "size")) one (refl, refl) (refl, refl)) (either_key q k l d e h))
-as_union q _ one h = refl
-
--- an answer by one definition is one by another, where they agree on what has the key
-pub taken_as : {A : Type 0} {f g : Members → A} (depth : ℕ) (ts : List Token) {k : Text} {s r : List Token} {o : A} → read_key ts ≡ Some (Some k, s) → ((ms : Members) → Has k ms → f ms ≡ g ms) → ReadsAfter f depth no_members k s o r
-    → ReadsMembers g depth no_members ts o r
-taken_as depth ts {k} {s} {r} came same read = (read.0, named depth no_members k ts s came ∙ read.1, read.2 ∙ same read.0 (has_taken depth k no_members read.0 s r read.1))
-
--- what stands at the one key
-pub keyed_read : {A : Type 0} {f : Data → Option A} (w : A → Tree) (k : Text) (depth : ℕ) (ts : List Token) {r : List Token} {o : Option A} → ReadsValue f depth ts o r → ((d : Data) → option_map w (f d) ≡ keyed_at k d)
-    → ReadsValue (keyed_at k) depth ts (option_map w o) r
-keyed_read w k depth ts read law = (read.0, read.1, ap (option_map w) read.2 ∙ law read.0)
+pub of_union : {q : Text} → (q ≡ codes "mode") ⊎ (q ≡ codes "union") → IsNeither (codes "fixed_size_list") (codes "size") q × ((d : Data) → None ≡ keyed_at q d)
+of_union one = either_is (λ q. IsNeither (codes "fixed_size_list") (codes "size") q × ((d : Data) → None ≡ keyed_at q d)) one ((differ _ _ refl, differ _ _ refl), λ d. refl) ((differ _ _ refl, differ _ _ refl), λ d. refl)
 
 pub not_keyed : (k : Text) (d : Data) → (k ≡ codes "list" → ⊥) → (k ≡ codes "large_list" → ⊥) → (k ≡ codes "struct" → ⊥) → None ≡ keyed_at k d
 not_keyed k d list large struct = rw (apart k _ list, apart k _ large, apart k _ struct)

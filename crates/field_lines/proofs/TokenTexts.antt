@@ -1,30 +1,16 @@
 -- An object of texts from tokens: the texts so far are the members so far, until a member is no text; then slots, in which the newest value of a key stands.
 use Rattle.std.proofs.Common.{◌≡◌, ◌≤◌, ℕ, List, [], ◌∷◌, ◌++◌, length, map, nat_cmp, IfSome, Option, Some, None, option_map, option_and_then, String, Global, string_bytes, string_cmp, refl, sym, ap, ◌∙◌, subst, arith, append_assoc, append-nil}
+use Rattle.field_lines.proofs.Terms.{slice_cmp, IsStrictlySortedBy, keys_of, Token, read_key, parse_map, Data, string, object, Members, no_members, member, put, as_str, Text, Metadata, texts_of, texts_in, metadata_of_value, slots_in, slots_of, texts_kept, texts_value, next_value, next_members, ReadsValue, ReadsMembers, member_read, members_over}
 use Rattle.std.proofs.lemmas.Iterator.Adapters.{option_map_id}
 use Rattle.std.proofs.lemmas.List.{map-append}
-use Rattle.std.specs.Cmp.Lexicographic.{slice_cmp}
-use Rattle.std.specs.List.Sorted.{IsStrictlySortedBy}
-use Rattle.std.specs.Map.{keys_of}
 use Rattle.std.specs.BTreeMap.{insert_entry}
 use Rattle.std.specs.String.{string_cmp_total}
-use Rattle.json.specs.Token.{Token}
-use Rattle.json.specs.Json.{read_key}
-use Rattle.serde_json.specs.Data.{Data, string, Members, no_members, member, put}
-use Rattle.serde_json.specs.Find.{as_str}
-use Rattle.arrow_values.specs.Tree.{Text, Metadata}
-use Rattle.arrow_values.specs.View.{texts_of}
-use Rattle.field_lines.specs.FieldOfValue.{texts_in}
-use Rattle.field_lines.specs.Slots.{slots_in, slots_of, texts_kept}
-use Rattle.field_lines.specs.Line.{texts_value}
 use Rattle.field_lines.proofs.TokenMembers.{member_takes}
 use Rattle.field_lines.proofs.Round.{texts_in-value}
 use Rattle.field_lines.proofs.Prints.{Texts, insert_last, ordered, texts_put}
-use Rattle.value_tokens.specs.Next.{next_members, ReadsValue, ReadsMembers}
-use Rattle.value_tokens.specs.Turns.{member_read, members_over}
 
 pub text_says : (d : Data) → IfSome (as_str d) (λ s. d ≡ string s)
-text_says (string s) = refl
-text_says _ = tt
+text_says d = grind arith
 
 pub record AreTextsUnderWay (depth : _) (all left : List Token) (made : Texts) : Type 0 where
   pub decides : next_members depth no_members all ≡ next_members depth (texts_value (texts_of made)) left
@@ -92,9 +78,10 @@ module _ {depth : ℕ} {all left : List Token} {start made : SlotEntries} (way :
       (more.0, more.1 ∙ members_over depth more.0 left r over, is ∙ ap texts_kept (sym more.2) ∙ sym (texts_by_slots more.0))
 
 -- at the first member that is no text the slots take over
-pub slots_read : (depth : ℕ) (all left : List Token) (slots : SlotEntries) {r : List Token} {o : Option Metadata} (found : Members) → next_members depth no_members all ≡ next_members depth found left → slots_in found ≡ slots_of slots
-    → ((found : Members) → slots_in found ≡ slots_of slots → ReadsMembers texts_in depth found left o r) → ReadsMembers texts_in depth no_members all o r
-slots_read depth all left slots found decides same read = let ms = read found same in (ms.0, decides ∙ ms.1, ms.2)
+pub slots_read : (depth below : ℕ) (ts all left : List Token) (slots : SlotEntries) {r : List Token} {o : Option Metadata} (found : Members) → next_value depth ts ≡ parse_map object (next_members below no_members all)
+    → next_members below no_members all ≡ next_members below found left → slots_in found ≡ slots_of slots → ((found : Members) → slots_in found ≡ slots_of slots → ReadsMembers texts_in below found left o r)
+    → ReadsValue (λ d. metadata_of_value (Some d)) depth ts o r
+slots_read depth below ts all left slots found opened decides same read = let ms = read found same in (object ms.0, opened ∙ ap (parse_map object) (decides ∙ ms.1), ms.2)
 
 -- ---- a loop that puts the entries of one map into another: those so far stand before what is left, and all keys ascend
 
@@ -103,8 +90,7 @@ abbrev onto : {E : Type 0} → List E → Option (List E) → Option (List E)
 onto front o = option_map (λ rest. front ++ rest) o
 
 one_more : {E : Type 0} (front : List E) (e : E) (o : Option (List E)) → onto front (option_map (λ es. e ∷ es) o) ≡ onto (front ++ (e ∷ [])) o
-one_more front e None = refl
-one_more front e (Some es) = ap Some (sym (append_assoc front (e ∷ []) es))
+one_more front e o = grind (arith, append_assoc)
 
 abbrev Entries : Type 0 → Type 0
 Entries X = List (String Global × X)

@@ -1,18 +1,14 @@
 -- The texts of what UTF-8 is read as are UTF-8, and so is the compact text of what is held.
-use Rattle.std.proofs.Common.{◌≡◌, ℕ, ◌+◌, ◌-◌, ◌<◌, ◌==◌, ◌&&◌, List, [], ◌∷◌, ◌++◌, length, take, get_or, Bool, true, false, cond, Option, Some, None, IfSome, option_and_then, IsUtf8, refl, sym, subst, arith, append_assoc, append-nil, length-append, eqb-true, ltb-true}
+use Rattle.std.proofs.Common.{◌≡◌, ℕ, ◌+◌, ◌<◌, ◌==◌, ◌&&◌, List, [], ◌∷◌, ◌++◌, length, get_or, Bool, true, false, cond, Option, Some, None, IfSome, option_and_then, IsUtf8, sym, subst, arith, append_assoc, append-nil, length-append, eqb-true, ltb-true}
+use Rattle.field_lines.proofs.Terms.{AllByRecursion, and_parts, cond_both, IfSome_then, IsUtf8-append, IsUtf8-encode, IsUtf8-take, IsUtf8-drop, IsCharBoundary-before_ascii, IsCharBoundary-after_ascii, encode_ascii, Token}
 use Rattle.std.specs.Prelude.{⊤, nat_lt}
-use Rattle.std.specs.List.{AllByRecursion}
 use Rattle.std.specs.Char.{is_digit, digit_value, encode_utf8, IsScalar}
-use Rattle.std.proofs.lemmas.Bool.{and_parts, cond_both}
-use Rattle.std.proofs.lemmas.Option.{IfSome_then}
-use Rattle.std.proofs.lemmas.Str.{IsUtf8-append, IsUtf8-encode, IsUtf8-take, IsUtf8-drop, IsCharBoundary-before_ascii, IsCharBoundary-after_ascii, encode_ascii}
 use lib.Seq.{take-append_seam, drop-append-add, get_or-append_seam}
 use lib.Utf8.{low_scalar}
-use Rattle.json.specs.Token.{Token}
 use Rattle.json.specs.Text.{plain, after_backslash, after_u, after_high, content, code_unit, short_escape, is_high_surrogate, is_low_surrogate, surrogate_pair, prepend}
-use Rattle.json.specs.Word.{head, ends_word, literal, after_number, number_before, word}
+use Rattle.json.specs.Word.{head, literal, after_number, number_before, word}
 use Rattle.json.specs.Ascii.{true_text, false_text, null_text}
-use Rattle.json.specs.Lex.{Lexeme, token, comma, colon, Class, class, quote, backslash, operator, space, other, Mode, between, in_word, in_string, in_escape, string_token, operator_lexeme, lex_byte, lex, Place, fresh, after_value, after_comma, after_key, begins_colon, if_allowed, place_token, punctuate, tokens}
+use Rattle.json.specs.Lex.{Lexeme, token, comma, colon, Class, class, quote, Mode, between, string_token, operator_lexeme, lex_byte, lex, Place, fresh, if_allowed, place_token, punctuate, tokens}
 use Rattle.json.specs.Json as json
 use Rattle.json.specs.Tree.{json_tokens}
 use Rattle.json.proofs.Unique.Spelling.{value-json_tokens_back}
@@ -72,8 +68,7 @@ pair_of : (h l : ℕ) → is_high_surrogate h ≡ true → is_low_surrogate l �
 pair_of h l high low = grind arith
 
 encoded : (c : ℕ) (o : Option (List ℕ)) → IsScalar c → IfSome o IsUtf8 → IfSome (prepend (encode_utf8 c) o) IsUtf8
-encoded c None ok h = tt
-encoded c (Some s) ok h = IsUtf8-append (encode_utf8 c) s (IsUtf8-encode c ok) h
+encoded c o ok h = grind (arith, IsUtf8-append, IsUtf8-encode)
 
 mutual
   unfolding content
@@ -139,18 +134,16 @@ abbrev AreUtf8Lexemes : List Lexeme → Type 0
 AreUtf8Lexemes ls = AllByRecursion IsUtf8Lexeme ls
 
 string_ok : (o : Option (List ℕ)) → IfSome o IsUtf8 → IsUtf8Token (string_token o)
-string_ok None h = tt
-string_ok (Some s) h = h
+string_ok o h = grind arith
 
 operator_ok : (x : ℕ) → IsUtf8Lexeme (operator_lexeme x)
 operator_ok x = grind arith
 
 literal_ok : (b : Bool) (t : Token) → IsUtf8Token t → IsUtf8Token (cond b t Token.bad)
-literal_ok b t h = either IsUtf8Token b t Token.bad h tt
+literal_ok b t h = grind arith
 
 number_ok : (t : List ℕ) (o : Option (List ℕ)) → IsUtf8Token (number_before t o)
-number_ok t None = tt
-number_ok t (Some rest) = literal_ok (ends_word rest) (Token.number (take (length t - length rest) t)) tt
+number_ok t o = grind arith
 
 word_ok : (t : List ℕ) → IsUtf8Token (word t)
 unfolding word
@@ -163,19 +156,11 @@ word_ok t =
 is_quote : (x : ℕ) → class x ≡ quote → x ≡ 34
 is_quote x h = grind arith
 
+in_plain_whole : (xs : List ℕ) → IsUtf8 xs → IfSome (content plain xs) IsUtf8
+in_plain_whole xs u = in_plain xs [] u
+
 byte_ok : (m : Mode) (c : Class) (x : ℕ) (xs : List ℕ) (k : Mode → List Lexeme) → (c ≡ quote → IsUtf8 xs) → ((n : Mode) → AreUtf8Lexemes (k n)) → AreUtf8Lexemes (lex_byte m c x xs k)
-byte_ok between quote x xs k u h = (string_ok _ (in_plain xs [] (u refl)), h in_string)
-byte_ok between backslash x xs k u h = (tt, h in_word)
-byte_ok between operator x xs k u h = (operator_ok x, h between)
-byte_ok between space x xs k u h = h between
-byte_ok between other x xs k u h = (word_ok (x ∷ xs), h in_word)
-byte_ok in_word operator x xs k u h = (operator_ok x, h between)
-byte_ok in_word space x xs k u h = h between
-byte_ok in_word _ x xs k u h = h in_word
-byte_ok in_string quote x xs k u h = h between
-byte_ok in_string backslash x xs k u h = h in_escape
-byte_ok in_string _ x xs k u h = h in_string
-byte_ok in_escape c x xs k u h = h in_string
+byte_ok m c x xs k u h = grind (arith, string_ok, in_plain_whole, operator_ok, word_ok)
 
 lexed : (m : Mode) (xs pre : List ℕ) → IsUtf8 (pre ++ xs) → AreUtf8Lexemes (lex m xs)
 unfolding lex
@@ -184,26 +169,22 @@ lexed m (x ∷ xs) pre u =
     byte_ok m (class x) x xs (λ n. lex n xs) (λ q. let is = is_quote x q in utf8_after pre xs x (omega arith) u) (λ n. lexed n xs (pre ++ x ∷ []) (one_more pre x xs u))
 
 allowed : (b : Bool) (t : Token) (k : Place → List Token) (next : Place) → IsUtf8Token t → ((n : Place) → AreUtf8 (k n)) → AreUtf8 (if_allowed b t k next)
-allowed true t k next h rest = (h, rest next)
-allowed false t k next h rest = (tt, tt)
+allowed b t k next h rest = grind arith
 
 placed : (p : Place) (t : Token) (before : Bool) (k : Place → List Token) → IsUtf8Token t → ((n : Place) → AreUtf8 (k n)) → AreUtf8 (place_token p t before k)
-placed p (Token.key s) before k h rest = (tt, tt)
-placed p Token.bad before k h rest = (tt, tt)
-placed p (Token.string s) true k h rest = allowed _ _ k _ h rest
-placed p (Token.string s) false k h rest = allowed _ _ k _ h rest
-placed p _ before k h rest = allowed _ _ k _ tt rest
+placed p t before k h rest = grind (arith, allowed)
+
+one_placed : (p : Place) (l : Lexeme) (ls : List Lexeme) → IsUtf8Lexeme l → ((n : Place) → AreUtf8 (punctuate n ls)) → AreUtf8 (punctuate p (l ∷ ls))
+unfolding punctuate
+one_placed p l ls h rest = grind (arith, placed)
+
+none_placed : (p : Place) → AreUtf8 (punctuate p [])
+unfolding punctuate
+none_placed p = grind arith
 
 punctuated : (p : Place) (ls : List Lexeme) → AreUtf8Lexemes ls → AreUtf8 (punctuate p ls)
-unfolding punctuate
-punctuated fresh [] h = tt
-punctuated after_value [] h = tt
-punctuated _ [] h = (tt, tt)
-punctuated p (token t ∷ ls) h = placed p t (begins_colon ls) (λ n. punctuate n ls) h.0 (λ n. punctuated n ls h.1)
-punctuated after_value (comma ∷ ls) h = punctuated after_comma ls h.1
-punctuated _ (comma ∷ ls) h = (tt, tt)
-punctuated after_key (colon ∷ ls) h = punctuated fresh ls h.1
-punctuated _ (colon ∷ ls) h = (tt, tt)
+punctuated p [] h = none_placed p
+punctuated p (l ∷ ls) h = one_placed p l ls h.0 (λ n. punctuated n ls h.1)
 
 -- the tokens of a value that UTF-8 is read as, before it is converted
 pub texts_utf8 : (d : ℕ) (text : List ℕ) → IsUtf8 text → IfSome (option_and_then (λ p. json.if_last p.0 p.1) (json.value d (tokens text))) (λ j. AreUtf8 (json_tokens j))

@@ -1,9 +1,9 @@
 -- JSON values as `serde_json` holds those that it reads from UTF-8.
+use Rattle.std.proofs.Common.{arith}
 use Rattle.std.specs.Prelude.{◌≡◌, ◌^◌, ◌&&◌, pos, negsuc, List, ℕ, Bool, true, false, nat_lt}
 use Rattle.std.specs.Ordering.{nat_cmp, is_lt}
 use Rattle.std.specs.Cmp.Lexicographic.{slice_cmp}
 use Rattle.std.specs.Str.{is_utf8}
-use Rattle.std.proofs.lemmas.Bool.{and_parts}
 use Rattle.serde_json.specs.Data.{Num, unsigned, negative, float, Data, null, boolean, number, string, array, object, Items, no_items, item, Members, no_members, member}
 
 -- whether the number is a float, or an integer of 64 bits, which has a sign only if it is below zero
@@ -38,8 +38,4 @@ abbrev mutual
 
 -- the parts of members that are held: the first key before the others, the key, its value, and the others
 pub held_parts : (k : List ℕ) (d : Data) (ms : Members) → members_are_held (member k d ms) ≡ true → (comes_first k ms ≡ true) × (is_utf8 k ≡ true) × (is_held d ≡ true) × (members_are_held ms ≡ true)
-held_parts k d ms h =
-    let p = and_parts (comes_first k ms) _ h in
-    let q = and_parts (is_utf8 k) _ p.1 in
-    let r = and_parts (is_held d) _ q.1 in
-    (p.0, q.0, r.0, r.1)
+held_parts k d ms h = grind arith

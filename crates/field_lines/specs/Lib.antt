@@ -4,6 +4,4 @@ pub mod Lean
 pub mod LineForm
 pub mod Held
 pub mod Line
-pub mod Keys
-pub mod Slots
-pub mod Prints
+pub mod Steps

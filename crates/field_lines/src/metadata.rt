@@ -4,7 +4,7 @@ ghost use Rattle.std.specs.Option.{option_map};
 ghost use Rattle.serde_json.specs.Data.{Members, no_members};
 ghost use Rattle.arrow_values.specs.View.{texts_of};
 ghost use Rattle.field_lines.specs.FieldOfValue.{texts_in, metadata_of_value};
-ghost use Rattle.field_lines.specs.Slots.{slots_in, slots_of, texts_kept};
+ghost use Rattle.field_lines.specs.Steps.{slots_in, slots_of, texts_kept};
 ghost use Rattle.field_lines.specs.Line.{texts_value};
 ghost use Rattle.value_tokens.specs.Next.{next_value, next_members, ReadsValue, ReadsMembers};
 
@@ -13,7 +13,8 @@ use std::alloc::{AllocError, Global};
 use std::collections::BTreeMap;
 use value_tokens::{Refusal, open_object, read_text};
 
-/// The object of texts that comes next.
+/// The object of texts that comes next, and none where a member is no text.
+#[tactic(auto, using(crate::proofs::TokenMembers::member_turn))]
 pub(crate) fn take_texts(
     alloc: Global,
     reader: &mut Reader<'_>,
@@ -23,32 +24,18 @@ pub(crate) fn take_texts(
     ensures shorter { OnOk result (length reader.new < length reader.old) }
     ensures text { result ≡ Err Refusal.Text → next_value depth reader.old ≡ None }
 {
-    match open_object(reader, depth)? {
-        Some(below) => take_members_of_texts(alloc, reader, below),
-        None => Ok(None),
-    }
-}
-
-/// The texts of the members that are left of an object, and none where a member is no text.
-#[tactic(auto, using(crate::proofs::TokenMembers::member_turn))]
-fn take_members_of_texts(
-    alloc: Global,
-    reader: &mut Reader<'_>,
-    depth: usize,
-) -> Result<Option<BTreeMap<String, String>>, Refusal>
-    ensures ok { IfOk result (λ o. ReadsMembers texts_in depth no_members reader.old (option_map (λ m. texts_of m.entries) o) reader.new) }
-    ensures shorter { OnOk result (length reader.new < length reader.old) }
-    ensures text { result ≡ Err Refusal.Text → next_members depth no_members reader.old ≡ None }
-{
+    let Some(below) = open_object(reader, depth)? else {
+        return Ok(None);
+    };
     let mut texts = BTreeMap::new(alloc);
     'texts: while let Some(name) = reader.next_key()? {
         let key = String::from_str(alloc, name)?;
-        match read_text(alloc, reader, depth)? {
+        match read_text(alloc, reader, below)? {
             Some(text) => drop(texts.insert(key, text)?),
             None => {
                 let mut slots = slots_of_texts(alloc, texts)?;
                 drop(slots.insert(key, None)?);
-                return take_slots(alloc, reader, depth, slots);
+                return take_slots(alloc, reader, below, slots);
             }
         }
     }

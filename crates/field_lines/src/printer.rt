@@ -4,9 +4,9 @@ ghost use Rattle.serde_json.specs.Data.{string, number, object, array, no_items,
 ghost use Rattle.serde_json.specs.Find.{of_integer};
 ghost use Rattle.arrow_values.specs.View.{tree, texts_of, field_trees, member_trees};
 ghost use Rattle.field_lines.specs.Names.{mode_name};
-ghost use Rattle.field_lines.specs.Prints.{PrintsMetadata};
+ghost use Rattle.field_lines.specs.Steps.{PrintsMetadata};
 ghost use Rattle.field_lines.specs.Line.{texts_value, one_key, two_keys, type_value, fields_value, members_value, value_of_field, other_value};
-ghost use Rattle.value_tokens.specs.Adds.{Prints, PrintsItems};
+ghost use Rattle.value_tokens.specs.Adds.{Prints};
 
 use crate::names::mode_name;
 use arrow_columns::plain_name;
@@ -146,19 +146,11 @@ fn print_struct(fields: &Fields, out: &mut Writer) -> Result<(), AllocError>
     out.begin_object()?;
     out.key("struct")?;
     out.begin_array()?;
-    print_fields(fields, out)?;
-    out.end_object()
-}
-
-/// Writes the fields of a struct, and the bracket after them.
-#[cycle(print)]
-fn print_fields(fields: &Fields, out: &mut Writer) -> Result<(), AllocError>
-    ensures { OnOk result (PrintsItems (fields_value (field_trees fields.now)) out.old out.new) }
-{
     for field in fields.as_slice() {
         print_field(field, out)?;
     }
-    out.end_array()
+    out.end_array()?;
+    out.end_object()
 }
 
 /// Writes a union.
@@ -171,19 +163,11 @@ fn print_union(members: &UnionFields, mode: UnionMode, out: &mut Writer) -> Resu
     out.string(mode_name(mode))?;
     out.key("union")?;
     out.begin_array()?;
-    print_members(members, out)?;
-    out.end_object()
-}
-
-/// Writes the members of a union, and the bracket after them.
-#[cycle(print)]
-fn print_members(members: &UnionFields, out: &mut Writer) -> Result<(), AllocError>
-    ensures { OnOk result (PrintsItems (members_value (member_trees members.now)) out.old out.new) }
-{
     for member in members.as_slice() {
         print_member(member.0, &member.1, out)?;
     }
-    out.end_array()
+    out.end_array()?;
+    out.end_object()
 }
 
 /// Writes a member of a union.

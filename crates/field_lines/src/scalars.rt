@@ -26,10 +26,7 @@ pub(crate) fn take_size(reader: &mut Reader<'_>, depth: usize) -> Result<Option<
     ensures shorter { OnOk result (length reader.new < length reader.old) }
     ensures text { result ≡ Err Refusal.Text → next_value depth reader.old ≡ None }
 {
-    match read_number(reader, depth)? {
-        Some(number) => Ok(size_of(number)),
-        None => Ok(None),
-    }
+    Ok(read_number(reader, depth)?.and_then(size_of))
 }
 
 /// A type id.
@@ -49,10 +46,7 @@ pub(crate) fn take_id(reader: &mut Reader<'_>, depth: usize) -> Result<Option<i8
     ensures shorter { OnOk result (length reader.new < length reader.old) }
     ensures text { result ≡ Err Refusal.Text → next_value depth reader.old ≡ None }
 {
-    match read_number(reader, depth)? {
-        Some(number) => Ok(id_of(number)),
-        None => Ok(None),
-    }
+    Ok(read_number(reader, depth)?.and_then(id_of))
 }
 
 /// The union mode that comes next.
@@ -61,8 +55,5 @@ pub(crate) fn take_mode(reader: &mut Reader<'_>, depth: usize) -> Result<Option<
     ensures shorter { OnOk result (length reader.new < length reader.old) }
     ensures text { result ≡ Err Refusal.Text → next_value depth reader.old ≡ None }
 {
-    match read_str(reader, depth)? {
-        Some(word) => Ok(mode_named(word)),
-        None => Ok(None),
-    }
+    Ok(read_str(reader, depth)?.and_then(mode_named))
 }

@@ -2,7 +2,7 @@
 //!
 //! Each reader takes one value whole. It answers none where the value is JSON and denotes nothing, so that a later
 //! member of the same key may still count.
-ghost use Rattle.std.specs.Prelude.{◌≡◌, ◌<◌, length, None, Err, IfOk, IfSome, IsTrue, OnOk};
+ghost use Rattle.std.specs.Prelude.{◌≡◌, ◌<◌, ◌⊎◌, codes, length, None, Err, IfOk, IfSome, IsTrue, OnOk};
 ghost use Rattle.std.specs.Option.{option_map, option_and_then};
 ghost use Rattle.std.specs.List.{zip};
 ghost use Rattle.serde_json.specs.Data.{no_members, object, array};
@@ -10,7 +10,7 @@ ghost use Rattle.arrow_values.specs.Tree.{field_tree};
 ghost use Rattle.arrow_values.specs.View.{tree, texts_of, field_trees, member_trees};
 ghost use Rattle.arrow_values.specs.Union.{is_type_id};
 ghost use Rattle.field_lines.specs.FieldOfValue.{field_from, field_of_value, type_of_value, fields_of_value, fields_in, members_of_value, members_in};
-ghost use Rattle.field_lines.specs.Keys.{AreMemberParts, keyed_at, only_at, fixed_size_list_at, union_at, pair_read};
+ghost use Rattle.field_lines.specs.Steps.{AreMemberParts, IsNeither, keyed_at, pair_read};
 ghost use Rattle.value_tokens.specs.Next.{next_value, next_items, next_members, next_after, ReadsValue, ReadsItems, ReadsMembers, ReadsAfter};
 
 use crate::metadata::take_texts;
@@ -28,20 +28,34 @@ use value_tokens::{
 
 /// The field that comes next.
 #[cycle(take)]
-#[inline]
-pub(crate) fn take_field(
+#[inline(never)]
+#[tactic(auto, using(crate::proofs::TokenMembers::member_turn))]
+pub(crate) fn take_field<'a>(
     alloc: Global,
-    reader: &mut Reader<'_>,
+    reader: &mut Reader<'a>,
     depth: usize,
 ) -> Result<Option<Field>, Refusal>
     ensures ok { IfOk result (λ o. ReadsValue field_of_value depth reader.old o reader.new) }
     ensures shorter { OnOk result (length reader.new < length reader.old) }
     ensures text { result ≡ Err Refusal.Text → next_value depth reader.old ≡ None }
 {
-    match open_object(reader, depth)? {
-        Some(below) => take_parts(alloc, reader, below),
-        None => Ok(None),
+    let Some(below) = open_object(reader, depth)? else {
+        return Ok(None);
+    };
+    let mut name = None;
+    let mut nullable = None;
+    let mut data_type = None;
+    let mut metadata = Some(BTreeMap::new(alloc));
+    'parts: while let Some(key) = reader.next_key()? {
+        match key {
+            "name" => name = read_str(reader, below)?,
+            "nullable" => nullable = read_bool(reader, below)?,
+            "type" => data_type = take_type(alloc, reader, below)?,
+            "metadata" => metadata = take_texts(alloc, reader, below)?,
+            _ => skip_value(reader, below)?,
+        }
     }
+    Ok(field_of(alloc, name, nullable, data_type, metadata)?)
 }
 
 /// The field that comes next, in a box. Out of line, since a result that holds a field takes much room on the stack, which is
@@ -61,35 +75,6 @@ fn take_boxed(
         Some(field) => Ok(Some(Box::new(alloc, field)?)),
         None => Ok(None),
     }
-}
-
-/// The field of the members that are left of an object.
-#[cycle(take)]
-#[inline(never)]
-#[tactic(auto, using(crate::proofs::TokenMembers::member_turn))]
-fn take_parts<'a>(
-    alloc: Global,
-    reader: &mut Reader<'a>,
-    depth: usize,
-) -> Result<Option<Field>, Refusal>
-    ensures ok { IfOk result (λ o. ReadsMembers (λ ms. field_of_value (object ms)) depth no_members reader.old o reader.new) }
-    ensures shorter { OnOk result (length reader.new < length reader.old) }
-    ensures text { result ≡ Err Refusal.Text → next_members depth no_members reader.old ≡ None }
-{
-    let mut name = None;
-    let mut nullable = None;
-    let mut data_type = None;
-    let mut metadata = Some(BTreeMap::new(alloc));
-    'parts: while let Some(key) = reader.next_key()? {
-        match key {
-            "name" => name = read_str(reader, depth)?,
-            "nullable" => nullable = read_bool(reader, depth)?,
-            "type" => data_type = take_type(alloc, reader, depth)?,
-            "metadata" => metadata = take_texts(alloc, reader, depth)?,
-            _ => skip_value(reader, depth)?,
-        }
-    }
-    Ok(field_of(alloc, name, nullable, data_type, metadata)?)
 }
 
 /// The field of these parts, where each is there.
@@ -191,7 +176,8 @@ fn take_only(
     depth: usize,
     only: &str,
 ) -> Result<Option<DataType>, Refusal>
-    ensures ok { IfOk result (λ o. ReadsAfter (only_at only.now) depth no_members only.now reader.old (option_map tree o) reader.new) }
+    requires { IsNeither (codes "fixed_size_list") (codes "size") only.now × IsNeither (codes "mode") (codes "union") only.now }
+    ensures ok { IfOk result (λ o. ReadsAfter (λ ms. type_of_value (object ms)) depth no_members only.now reader.old (option_map tree o) reader.new) }
     ensures shorter { OnOk result (length reader.new < length reader.old) }
     ensures text { result ≡ Err Refusal.Text → next_after depth no_members only.now reader.old ≡ None }
 {
@@ -210,6 +196,7 @@ fn take_only(
 /// The type that the value at the one key of an object says.
 #[cycle(take)]
 #[inline(always)]
+#[tactic(auto, using(crate::proofs::TokenMembers::not_keyed))]
 fn take_keyed(
     alloc: Global,
     reader: &mut Reader<'_>,
@@ -221,18 +208,11 @@ fn take_keyed(
     ensures text { result ≡ Err Refusal.Text → next_value depth reader.old ≡ None }
 {
     match key {
-        "list" => match take_boxed(alloc, reader, depth)? {
-            Some(field) => Ok(Some(DataType::List(field))),
-            None => Ok(None),
-        },
-        "large_list" => match take_boxed(alloc, reader, depth)? {
-            Some(field) => Ok(Some(DataType::LargeList(field))),
-            None => Ok(None),
-        },
-        "struct" => match take_fields(alloc, reader, depth)? {
-            Some(fields) => Ok(Some(DataType::Struct(Fields::from(fields)))),
-            None => Ok(None),
-        },
+        "list" => Ok(take_boxed(alloc, reader, depth)?.map(DataType::List)),
+        "large_list" => Ok(take_boxed(alloc, reader, depth)?.map(DataType::LargeList)),
+        "struct" => Ok(take_fields(alloc, reader, depth)?.map(|fields| DataType::Struct(
+            Fields::from(fields),
+        ))),
         _ => {
             skip_value(reader, depth)?;
             Ok(None)
@@ -249,7 +229,8 @@ fn take_fixed_size_list<'a>(
     depth: usize,
     first: &'a str,
 ) -> Result<Option<DataType>, Refusal>
-    ensures ok { IfOk result (λ o. ReadsAfter fixed_size_list_at depth no_members first.now reader.old (option_map tree o) reader.new) }
+    requires { (first.now ≡ codes "fixed_size_list") ⊎ (first.now ≡ codes "size") }
+    ensures ok { IfOk result (λ o. ReadsAfter (λ ms. type_of_value (object ms)) depth no_members first.now reader.old (option_map tree o) reader.new) }
     ensures shorter { OnOk result (length reader.new < length reader.old) }
     ensures text { result ≡ Err Refusal.Text → next_after depth no_members first.now reader.old ≡ None }
 {
@@ -288,7 +269,8 @@ fn take_union<'a>(
     depth: usize,
     first: &'a str,
 ) -> Result<Option<DataType>, Refusal>
-    ensures ok { IfOk result (λ o. ReadsAfter union_at depth no_members first.now reader.old (option_map tree o) reader.new) }
+    requires { (first.now ≡ codes "mode") ⊎ (first.now ≡ codes "union") }
+    ensures ok { IfOk result (λ o. ReadsAfter (λ ms. type_of_value (object ms)) depth no_members first.now reader.old (option_map tree o) reader.new) }
     ensures shorter { OnOk result (length reader.new < length reader.old) }
     ensures text { result ≡ Err Refusal.Text → next_after depth no_members first.now reader.old ≡ None }
 {
@@ -320,6 +302,7 @@ fn take_union<'a>(
 
 /// The list of fields that comes next.
 #[cycle(take)]
+#[tactic(auto, using(crate::proofs::TokenItems::taking_items))]
 fn take_fields(
     alloc: Global,
     reader: &mut Reader<'_>,
@@ -329,30 +312,15 @@ fn take_fields(
     ensures shorter { OnOk result (length reader.new < length reader.old) }
     ensures text { result ≡ Err Refusal.Text → next_value depth reader.old ≡ None }
 {
-    match open_array(reader, depth)? {
-        Some(below) => take_items(alloc, reader, below),
-        None => Ok(None),
-    }
-}
-
-/// The fields of the items that are left of a list.
-#[cycle(take)]
-#[tactic(auto, using(crate::proofs::TokenItems::taking_items))]
-fn take_items(
-    alloc: Global,
-    reader: &mut Reader<'_>,
-    depth: usize,
-) -> Result<Option<Vec<Field>>, Refusal>
-    ensures ok { IfOk result (λ o. ReadsItems fields_in depth reader.old (option_map (λ v. field_trees v.items) o) reader.new) }
-    ensures shorter { OnOk result (length reader.new < length reader.old) }
-    ensures text { result ≡ Err Refusal.Text → next_items depth reader.old ≡ None }
-{
+    let Some(below) = open_array(reader, depth)? else {
+        return Ok(None);
+    };
     let mut fields = Vec::new(alloc);
     'items: while !reader.take_end_array() {
-        match take_field(alloc, reader, depth)? {
+        match take_field(alloc, reader, below)? {
             Some(field) => fields.push(field)?,
             None => {
-                skip_items(reader, depth)?;
+                skip_items(reader, below)?;
                 return Ok(None);
             }
         }
@@ -360,8 +328,9 @@ fn take_items(
     Ok(Some(fields))
 }
 
-/// The list of pairs of id and field that comes next.
+/// The list of pairs of id and field that comes next, as ids and fields.
 #[cycle(take)]
+#[tactic(auto, using(crate::proofs::TokenItems::taking_items))]
 fn take_members(
     alloc: Global,
     reader: &mut Reader<'_>,
@@ -372,35 +341,19 @@ fn take_members(
     ensures shorter { OnOk result (length reader.new < length reader.old) }
     ensures text { result ≡ Err Refusal.Text → next_value depth reader.old ≡ None }
 {
-    match open_array(reader, depth)? {
-        Some(below) => take_pairs(alloc, reader, below),
-        None => Ok(None),
-    }
-}
-
-/// The ids and the fields of the pairs that are left of a list.
-#[cycle(take)]
-#[tactic(auto, using(crate::proofs::TokenItems::taking_items))]
-fn take_pairs(
-    alloc: Global,
-    reader: &mut Reader<'_>,
-    depth: usize,
-) -> Result<Option<(Vec<i8>, Vec<Field>)>, Refusal>
-    ensures ok { IfOk result (λ o. ReadsItems members_in depth reader.old (option_map (λ p. member_trees (zip p.0.items p.1.items)) o) reader.new) }
-    ensures parts { IfOk result (λ o. IfSome o (λ p. AreMemberParts p.0.items p.1.items)) }
-    ensures shorter { OnOk result (length reader.new < length reader.old) }
-    ensures text { result ≡ Err Refusal.Text → next_items depth reader.old ≡ None }
-{
+    let Some(below) = open_array(reader, depth)? else {
+        return Ok(None);
+    };
     let mut ids = Vec::new(alloc);
     let mut fields = Vec::new(alloc);
     'pairs: while !reader.take_end_array() {
-        match take_pair(alloc, reader, depth)? {
+        match take_pair(alloc, reader, below)? {
             Some((id, field)) => {
                 ids.push(id)?;
                 fields.push(field)?;
             }
             None => {
-                skip_items(reader, depth)?;
+                skip_items(reader, below)?;
                 return Ok(None);
             }
         }
@@ -410,6 +363,7 @@ fn take_pairs(
 
 /// The pair of id and field that comes next.
 #[cycle(take)]
+#[tactic(auto, using(crate::proofs::TokenItems::item_turn))]
 fn take_pair(
     alloc: Global,
     reader: &mut Reader<'_>,
@@ -420,36 +374,20 @@ fn take_pair(
     ensures shorter { OnOk result (length reader.new < length reader.old) }
     ensures text { result ≡ Err Refusal.Text → next_value depth reader.old ≡ None }
 {
-    match open_array(reader, depth)? {
-        Some(below) => take_two(alloc, reader, below),
-        None => Ok(None),
-    }
-}
-
-/// The id and the field that are all the items of a list.
-#[cycle(take)]
-#[tactic(auto, using(crate::proofs::TokenItems::item_turn))]
-fn take_two(
-    alloc: Global,
-    reader: &mut Reader<'_>,
-    depth: usize,
-) -> Result<Option<(i8, Field)>, Refusal>
-    ensures ok { IfOk result (λ o. ReadsItems (λ ds. pair_read (array ds)) depth reader.old o reader.new) }
-    ensures id { IfOk result (λ o. IfSome o (λ p. IsTrue (is_type_id p.0))) }
-    ensures shorter { OnOk result (length reader.new < length reader.old) }
-    ensures text { result ≡ Err Refusal.Text → next_items depth reader.old ≡ None }
-{
+    let Some(below) = open_array(reader, depth)? else {
+        return Ok(None);
+    };
     if reader.take_end_array() {
         return Ok(None);
     }
-    let id = take_id(reader, depth)?;
+    let id = take_id(reader, below)?;
     if reader.take_end_array() {
         return Ok(None);
     }
-    let field = take_field(alloc, reader, depth)?;
+    let field = take_field(alloc, reader, below)?;
     if !reader.take_end_array() {
-        skip_value(reader, depth)?;
-        skip_items(reader, depth)?;
+        skip_value(reader, below)?;
+        skip_items(reader, below)?;
         return Ok(None);
     }
     Ok(pair_of(id, field))

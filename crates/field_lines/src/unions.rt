@@ -5,7 +5,7 @@ ghost use Rattle.std.specs.List.{zip};
 ghost use Rattle.arrow_values.specs.Errors.{IsMemory};
 ghost use Rattle.arrow_values.specs.View.{tree, member_trees};
 ghost use Rattle.field_lines.specs.FieldOfValue.{union_of};
-ghost use Rattle.field_lines.specs.Keys.{AreMemberParts};
+ghost use Rattle.field_lines.specs.Steps.{AreMemberParts};
 
 use arrow_values::{ArrowError, DataType, Field, UnionFields, UnionMode};
 use std::alloc::{AllocError, Global};

@@ -1,11 +1,7 @@
 use Rattle.std.proofs.Common.{option_and_then, string_bytes, ap, ◌∙◌}
-use Rattle.std.proofs.lemmas.Str.{IsUtf8-string_bytes}
-use Rattle.serde_json.specs.Read.{read}
-use Rattle.field_lines.specs.FieldOfValue.{field_of_value}
-use Rattle.field_lines.specs.Line.{value_of_field}
+use Rattle.field_lines.proofs.Terms.{IsUtf8-string_bytes, read, field_of_value, value_of_field, printed, reads_back}
 use Rattle.field_lines.proofs.Round.{field_read}
 use Rattle.field_lines.proofs.Lean.{line_field}
-use Rattle.value_tokens.specs.Printed.{printed, reads_back}
 use Rattle.field_lines.proofs.line.field_line.Goals as goal
 
 pub returns-clause-text : goal.returns-clause-text

@@ -1,9 +1,6 @@
 use Rattle.std.proofs.Common.{ap, ◌∙◌}
-use Rattle.serde_json.specs.Read.{read}
-use Rattle.arrow_values.specs.View.{texts_of}
-use Rattle.field_lines.specs.Line.{other_value}
+use Rattle.field_lines.proofs.Terms.{read, texts_of, other_value, printed, reads_back}
 use Rattle.field_lines.proofs.Round.{other_depth}
-use Rattle.value_tokens.specs.Printed.{printed, reads_back}
 use Rattle.field_lines.proofs.line.other_line.Goals as goal
 
 pub returns-clause-text : goal.returns-clause-text

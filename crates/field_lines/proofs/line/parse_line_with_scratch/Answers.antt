@@ -1,6 +1,5 @@
 use Rattle.std.proofs.Common.{◌≡◌, IsUtf8, option_and_then, sym, ap, ◌∙◌, arith}
-use Rattle.serde_json.specs.Read.{read}
-use Rattle.field_lines.specs.FieldOfValue.{field_of_value}
+use Rattle.field_lines.proofs.Terms.{read, field_of_value}
 use Rattle.field_lines.proofs.Lean.{line_form, line_field, line_no_text}
 use Rattle.field_lines.proofs.line.parse_line_with_scratch.Goals as goal
 

@@ -1,7 +1,6 @@
 use Rattle.std.proofs.Common.{◌≡◌, [], arith}
+use Rattle.field_lines.proofs.Terms.{on_ok_weaker, sent}
 use Rattle.std.proofs.lemmas.Grind.{common_steps}
-use Rattle.std.proofs.lemmas.Result.{on_ok_weaker}
-use Rattle.value_tokens.specs.Adds.{sent}
 use Rattle.field_lines.proofs.Prints.{prints_metadata}
 use Rattle.field_lines.proofs.printer.print_metadata.Goals as goal
 

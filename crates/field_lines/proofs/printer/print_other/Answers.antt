@@ -1,8 +1,5 @@
 use Rattle.std.proofs.Common.{codes}
-use Rattle.serde_json.specs.Data.{string}
-use Rattle.arrow_values.specs.View.{texts_of}
-use Rattle.value_tokens.specs.Adds.{sent}
-use Rattle.field_lines.specs.Line.{one_key}
+use Rattle.field_lines.proofs.Terms.{string, texts_of, sent, one_key}
 use Rattle.field_lines.proofs.Prints.{finished, prints_parts}
 use Rattle.field_lines.proofs.printer.print_other.Goals as goal
 

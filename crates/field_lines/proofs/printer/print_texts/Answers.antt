@@ -1,6 +1,7 @@
 use Rattle.std.proofs.Common.{◌≡◌, subst, sym, rules}
 use Rattle.value_tokens.specs.Adds.{Adds, sent, then}
-use Rattle.field_lines.proofs.Prints.{finished, texts_tokens, texts_read_back}
+use Rattle.field_lines.proofs.Prints.{finished, texts_tokens}
+use Rattle.field_lines.proofs.ReadBack.{texts_read_back}
 use Rattle.field_lines.proofs.printer.print_texts.Goals as goal
 
 pub loop-key-preserved : goal.loop-key-preserved

@@ -1,17 +1,8 @@
 use Rattle.std.proofs.Common.{rules, arith, ◌≡◌, ◌-◌, [], ◌∷◌, ◌++◌, Some, IsTrue, option_map, option_and_then, subst₂, refl, sym, ap, ap₂, ◌∙◌}
+use Rattle.field_lines.proofs.Terms.{IfOk-weaker, zip, parse_map, string, no_items, item, no_members, is_type_id, texts_of, field_before, field_of_value, type_of_value, fields_of_value, members_of_value, AreMemberParts, pair_read, value-object, members_over, after_some}
 use Rattle.std.proofs.lemmas.Int.{to_z-of_z}
-use Rattle.std.proofs.lemmas.Result.{IfOk-weaker}
-use Rattle.std.specs.List.{zip}
-use Rattle.json.specs.Json.{parse_map}
-use Rattle.serde_json.specs.Data.{string, no_items, item, no_members}
-use Rattle.arrow_values.specs.Tree.{struct}
-use Rattle.arrow_values.specs.Union.{is_type_id}
-use Rattle.arrow_values.specs.View.{texts_of, field_trees}
-use Rattle.field_lines.specs.FieldOfValue.{field_before, field_of_value, type_of_value, list_of, large_list_of}
-use Rattle.field_lines.specs.Keys.{AreMemberParts, pair_read}
-use Rattle.field_lines.proofs.TokenMembers.{part_other, parts_go_on, parts_end, no_type, only_go_on, only_end, only_spoiled, first_read, second_read, two_spoiled, no_pair, as_fixed_size_list, as_union, as_only, taken_as, keyed_read, not_keyed}
-use Rattle.field_lines.proofs.TokenItems.{pair_before, item_turn, item_taken, taken_start, taken_go_on, taken_end, taken_spoiled, members_in-pair, zip_push, parts_push}
-use Rattle.value_tokens.specs.Turns.{value-object, members_over, after_some}
+use Rattle.field_lines.proofs.TokenMembers.{part_other, parts_go_on, parts_end, no_type, only_go_on, only_spoiled, first_read, second_read, two_spoiled, of_fixed_size_list, of_union, no_type_of}
+use Rattle.field_lines.proofs.TokenItems.{array_read, pair_before, item_turn, item_taken, taken_start, taken_go_on, taken_end, taken_spoiled, members_in-pair, zip_push, parts_push}
 use Rattle.value_tokens.specs.Beginnings.{passed, next_string, no_object, no_text, object_read}
 use Rattle.field_lines.proofs.tokens.+take.Goals as goal
 
@@ -26,7 +17,7 @@ take_fixed_size_list-keys-preserved-then-str_eq t c =
 pub take_fixed_size_list-returns-in_default-key-clause-ok : goal.take_fixed_size_list-returns-in_default-key-clause-ok
 take_fixed_size_list-returns-in_default-key-clause-ok t c =
     two_spoiled c.keys.invariant (ap (option_map (λ s. s.now)) c.in-Some.is) c.in_ok-skip_value-in_default-key.ensures.ok c.in_ok-skip_members-in_default-key.ensures.ok
-    (λ ms. no_pair _ _ _ _ ms c.in_default-key.not-fixed_size_list c.in_default-key.not-size)
+    (λ ms a b. let of = of_fixed_size_list {q = c.args.first.now} (search rules) in no_type_of ms (c.in_default-key.not-fixed_size_list, c.in_default-key.not-size) of.0 a b b (λ d _ _. of.1 d))
 
 pub take_union-keys-preserved : goal.take_union-keys-preserved
 take_union-keys-preserved t c =
@@ -39,78 +30,39 @@ take_union-keys-preserved-then-str_eq t c =
 pub take_union-returns-in_default-key-clause-ok : goal.take_union-returns-in_default-key-clause-ok
 take_union-returns-in_default-key-clause-ok t c =
     two_spoiled c.keys.invariant.0 (ap (option_map (λ s. s.now)) c.in-Some.is) c.in_ok-skip_value-in_default-key.ensures.ok c.in_ok-skip_members-in_default-key.ensures.ok
-    (λ ms. no_pair _ _ _ _ ms c.in_default-key.not-mode c.in_default-key.not-union)
+    (λ ms a b. let of = of_union {q = c.args.first.now} (search rules) in no_type_of ms of.0 (c.in_default-key.not-mode, c.in_default-key.not-union) b a b (λ d _ _. of.1 d))
 
-pub take_items-items-preserved : goal.take_items-items-preserved
-take_items-items-preserved t c =
-    taken_go_on c.items.invariant field_before field_of_value (λ x xs. refl) (λ d ds. refl) (rw c.in-Some.is at c.in_ok-field.ensures.ok) c.in_ok-push-in-Some.ensures.items (grind arith)
+pub take_fields-items-preserved : goal.take_fields-items-preserved
+take_fields-items-preserved t c =
+    taken_go_on c.items.invariant field_before field_of_value (λ x xs. refl) (λ d ds. refl) (rw c.in-Some-2.is at c.in_ok-field.ensures.ok) c.in_ok-push-in-Some-2.ensures.items (grind arith)
 
-pub take_items-returns-clause-ok : goal.take_items-returns-clause-ok
-take_items-returns-clause-ok t c = taken_end c.items.invariant refl (grind arith)
+pub take_fields-returns-clause-ok : goal.take_fields-returns-clause-ok
+take_fields-returns-clause-ok t c = array_read fields_of_value _ _ _ _ _ _ (rw c.in-Some.is at c.in_ok-below.ensures.ok).0 (taken_end c.items.invariant refl (grind arith))
 
-pub take_items-returns-in-None-clause-ok : goal.take_items-returns-in-None-clause-ok
-take_items-returns-in-None-clause-ok t c =
-    taken_spoiled c.items.invariant field_before field_of_value (λ x xs. refl) (λ d ds. refl) (rw c.in-None.is at c.in_ok-field.ensures.ok) c.in_ok-skip_items-in-None.ensures.ok (grind arith)
+pub take_fields-returns-in-None-clause-ok : goal.take_fields-returns-in-None-clause-ok
+take_fields-returns-in-None-clause-ok t c =
+    array_read fields_of_value _ _ _ _ _ _ (rw c.in-Some.is at c.in_ok-below.ensures.ok).0 (taken_spoiled c.items.invariant field_before field_of_value (λ x xs. refl) (λ d ds. refl) (rw c.in-None.is at c.in_ok-field.ensures.ok) c.in_ok-skip_items-in-None.ensures.ok (grind arith))
 
-pub take_pairs-pairs-init : goal.take_pairs-pairs-init
-take_pairs-pairs-init t c =
+pub take_members-pairs-init : goal.take_members-pairs-init
+take_members-pairs-init t c =
     (taken_start (ap₂ zip c.new-ids.ensures.items c.new-fields.ensures.items), rw (c.new-ids.ensures.items, c.new-fields.ensures.items) (refl, refl))
 
-pub take_pairs-pairs-preserved : goal.take_pairs-pairs-preserved
-take_pairs-pairs-preserved t c =
+pub take_members-pairs-preserved : goal.take_members-pairs-preserved
+take_members-pairs-preserved t c =
     let l = c.pairs in
-    let ids : c.push.new.self.items ≡ l.ids.items ++ (c.in-Some.id ∷ []) = search (rules, to_z-of_z) in
-    let fields = c.in_ok-push-in-Some-2.ensures.items in
-    let good : IsTrue (is_type_id c.in-Some.id) = rw c.in-Some.is at c.in_ok-id.ensures.id in (
-      taken_go_on l.invariant.0 pair_before pair_read (λ x xs. refl) members_in-pair (rw c.in-Some.is at c.in_ok-id.ensures.ok) (ap₂ zip ids fields ∙ zip_push l.ids.items l.fields.items _ _ l.invariant.1.0) (grind arith),
+    let ids : c.push.new.self.items ≡ l.ids.items ++ (c.in-Some-2.id ∷ []) = search (rules, to_z-of_z) in
+    let fields = c.in_ok-push-in-Some-2-2.ensures.items in
+    let good : IsTrue (is_type_id c.in-Some-2.id) = rw c.in-Some-2.is at c.in_ok-id.ensures.id in (
+      taken_go_on l.invariant.0 pair_before pair_read (λ x xs. refl) members_in-pair (rw c.in-Some-2.is at c.in_ok-id.ensures.ok) (ap₂ zip ids fields ∙ zip_push l.ids.items l.fields.items _ _ l.invariant.1.0) (grind arith),
       subst₂ AreMemberParts (sym ids) (sym fields) (parts_push _ _ _ _ l.invariant.1 good),
     )
 
-pub take_pairs-returns-clause-ok : goal.take_pairs-returns-clause-ok
-take_pairs-returns-clause-ok t c = taken_end c.pairs.invariant.0 refl (grind arith)
+pub take_members-returns-clause-ok : goal.take_members-returns-clause-ok
+take_members-returns-clause-ok t c = array_read members_of_value _ _ _ _ _ _ (rw c.in-Some.is at c.in_ok-below.ensures.ok).0 (taken_end c.pairs.invariant.0 refl (grind arith))
 
-pub take_pairs-returns-in-None-clause-ok : goal.take_pairs-returns-in-None-clause-ok
-take_pairs-returns-in-None-clause-ok t c =
-    taken_spoiled c.pairs.invariant.0 pair_before pair_read (λ x xs. refl) members_in-pair (rw c.in-None.is at c.in_ok-id.ensures.ok) c.in_ok-skip_items-in-None.ensures.ok (grind arith)
-
-pub take_keys-returns-in-fixed_size_list-clause-ok : goal.take_keys-returns-in-fixed_size_list-clause-ok
-take_keys-returns-in-fixed_size_list-clause-ok t c =
-    IfOk-weaker _ _ _ (λ o. taken_as _ _ (rw c.in-Some.is at c.in_ok-key.ensures.value) (λ ms. as_fixed_size_list _ ms c.in-fixed_size_list.is)) c.take_fixed_size_list.ensures.ok
-
-pub take_keys-returns-in-mode-clause-ok : goal.take_keys-returns-in-mode-clause-ok
-take_keys-returns-in-mode-clause-ok t c =
-    IfOk-weaker _ _ _ (λ o. taken_as _ _ (rw c.in-Some.is at c.in_ok-key.ensures.value) (λ ms. as_union _ ms c.in-mode.is)) c.take_union.ensures.ok
-
-pub take_keys-returns-in_default-key-clause-ok : goal.take_keys-returns-in_default-key-clause-ok
-take_keys-returns-in_default-key-clause-ok t c =
-    let n = c.in_default-key in
-    IfOk-weaker _ _ _ (λ o. taken_as _ _ (rw c.in-Some.is at c.in_ok-key.ensures.value) (λ ms. as_only _ ms n.not-fixed_size_list n.not-size n.not-mode n.not-union)) c.take_only.ensures.ok
-
-pub take_keyed-returns-in-None-clause-ok : goal.take_keyed-returns-in-None-clause-ok
-take_keyed-returns-in-None-clause-ok t c = keyed_read list_of c.args.key.now _ _ (rw c.in-None.is at c.in_ok-field-in-list.ensures.ok) (λ d. rw c.in-list.is)
-
-pub take_keyed-returns-in-None-2-clause-ok : goal.take_keyed-returns-in-None-2-clause-ok
-take_keyed-returns-in-None-2-clause-ok t c = keyed_read large_list_of c.args.key.now _ _ (rw c.in-None-2.is at c.in_ok-field-in-large_list.ensures.ok) (λ d. rw c.in-large_list.is)
-
-pub take_keyed-returns-in-None-3-clause-ok : goal.take_keyed-returns-in-None-3-clause-ok
-take_keyed-returns-in-None-3-clause-ok t c = keyed_read struct c.args.key.now _ _ (rw c.in-None-3.is at c.in_ok-fields-in-struct.ensures.ok) (λ d. rw c.in-struct.is)
-
-pub take_keyed-returns-in-Some-clause-ok : goal.take_keyed-returns-in-Some-clause-ok
-take_keyed-returns-in-Some-clause-ok t c = keyed_read list_of c.args.key.now _ _ (rw c.in-Some.is at c.in_ok-field-in-list.ensures.ok) (λ d. rw c.in-list.is)
-
-pub take_keyed-returns-in-Some-2-clause-ok : goal.take_keyed-returns-in-Some-2-clause-ok
-take_keyed-returns-in-Some-2-clause-ok t c = keyed_read large_list_of c.args.key.now _ _ (rw c.in-Some-2.is at c.in_ok-field-in-large_list.ensures.ok) (λ d. rw c.in-large_list.is)
-
-pub take_keyed-returns-in-Some-3-clause-ok : goal.take_keyed-returns-in-Some-3-clause-ok
-take_keyed-returns-in-Some-3-clause-ok t c =
-    let read = keyed_read struct c.args.key.now _ _ (rw c.in-Some-3.is at c.in_ok-fields-in-struct.ensures.ok) (λ d. rw c.in-struct.is) in
-    (read.0, read.1, ap (λ l. Some (struct (field_trees l))) c.from.ensures ∙ read.2)
-
-pub take_keyed-returns-in_ok-skip_value-in_default-clause-ok : goal.take_keyed-returns-in_ok-skip_value-in_default-clause-ok
-take_keyed-returns-in_ok-skip_value-in_default-clause-ok t c =
-    let d = after_some _ _ c.in_ok-skip_value-in_default.ensures.ok in
-    let n = c.in_default in
-    (d.0, d.1, not_keyed _ d.0 n.not-list n.not-large_list n.not-struct)
+pub take_members-returns-in-None-clause-ok : goal.take_members-returns-in-None-clause-ok
+take_members-returns-in-None-clause-ok t c =
+    array_read members_of_value _ _ _ _ _ _ (rw c.in-Some.is at c.in_ok-below.ensures.ok).0 (taken_spoiled c.pairs.invariant.0 pair_before pair_read (λ x xs. refl) members_in-pair (rw c.in-None.is at c.in_ok-id.ensures.ok) c.in_ok-skip_items-in-None.ensures.ok (grind arith))
 
 pub take_keys-returns-in_default-clause-ok : goal.take_keys-returns-in_default-clause-ok
 take_keys-returns-in_default-clause-ok t c = (no_members, members_over c.args.depth no_members c.args.reader.now c.next_key.new.self (grind arith), refl)
@@ -119,66 +71,59 @@ pub take_only-only-preserved : goal.take_only-only-preserved
 take_only-only-preserved t c =
     only_go_on c.only.invariant (rw c.in-Some.is at c.in_ok-key.ensures.value) c.ne.ensures c.if-ne.false c.in_ok-data_type-2.ensures.ok
 
-pub take_only-returns-clause-ok : goal.take_only-returns-clause-ok
-take_only-returns-clause-ok t c = only_end c.only.invariant (grind arith)
-
 pub take_only-returns-then-ne-clause-ok : goal.take_only-returns-then-ne-clause-ok
 take_only-returns-then-ne-clause-ok t c =
-    only_spoiled c.only.invariant (rw c.in-Some.is at c.in_ok-key.ensures.value) c.ne.ensures c.if-ne.true c.in_ok-skip_value.ensures.ok c.in_ok-skip_members.ensures.ok
+    only_spoiled c.only.invariant (search rules) (rw c.in-Some.is at c.in_ok-key.ensures.value) c.ne.ensures c.if-ne.true c.in_ok-skip_value.ensures.ok c.in_ok-skip_members.ensures.ok
 
-pub take_parts-parts-init : goal.take_parts-parts-init
-take_parts-parts-init t c =
+pub take_field-parts-init : goal.take_field-parts-init
+take_field-parts-init t c =
     let none = ap (λ es. Some (texts_of es)) c.new.ensures.empty in
     record { found = no_members; decides = refl; at_name = refl; at_nullable = refl; at_type = refl; at_metadata = none; fewer = omega arith }
 
-pub take_parts-parts-preserved : goal.take_parts-parts-preserved
-take_parts-parts-preserved t c =
+pub take_field-parts-preserved : goal.take_field-parts-preserved
+take_field-parts-preserved t c =
     let d = after_some _ _ c.in_ok-skip_value-in_default-key.ensures.ok in
     let n = c.in_default-key in
-    parts_go_on c.parts.invariant (rw c.in-Some.is at c.in_ok-key.ensures.value) d.1 (part_other _ n.not-name) (part_other _ n.not-nullable) (part_other _ n.not-type) (part_other _ n.not-metadata)
+    parts_go_on c.parts.invariant (rw c.in-Some-2.is at c.in_ok-key.ensures.value) d.1 (part_other _ n.not-name) (part_other _ n.not-nullable) (part_other _ n.not-type) (part_other _ n.not-metadata)
 
-pub take_parts-parts-preserved-then-str_eq : goal.take_parts-parts-preserved-then-str_eq
-take_parts-parts-preserved-then-str_eq t c =
+pub take_field-parts-preserved-then-str_eq : goal.take_field-parts-preserved-then-str_eq
+take_field-parts-preserved-then-str_eq t c =
     let read = c.in_ok-name-in-name.ensures.ok in
-    parts_go_on c.parts.invariant (rw (c.in-Some.is, c.in-name.is) at c.in_ok-key.ensures.value) read.1 read.2 refl refl refl
+    parts_go_on c.parts.invariant (rw (c.in-Some-2.is, c.in-name.is) at c.in_ok-key.ensures.value) read.1 read.2 refl refl refl
 
-pub take_parts-parts-preserved-then-str_eq-2 : goal.take_parts-parts-preserved-then-str_eq-2
-take_parts-parts-preserved-then-str_eq-2 t c =
+pub take_field-parts-preserved-then-str_eq-2 : goal.take_field-parts-preserved-then-str_eq-2
+take_field-parts-preserved-then-str_eq-2 t c =
     let read = c.in_ok-nullable-in-nullable.ensures.ok in
-    parts_go_on c.parts.invariant (rw (c.in-Some.is, c.in-nullable.is) at c.in_ok-key.ensures.value) read.1 refl read.2 refl refl
+    parts_go_on c.parts.invariant (rw (c.in-Some-2.is, c.in-nullable.is) at c.in_ok-key.ensures.value) read.1 refl read.2 refl refl
 
-pub take_parts-parts-preserved-then-str_eq-3 : goal.take_parts-parts-preserved-then-str_eq-3
-take_parts-parts-preserved-then-str_eq-3 t c =
+pub take_field-parts-preserved-then-str_eq-3 : goal.take_field-parts-preserved-then-str_eq-3
+take_field-parts-preserved-then-str_eq-3 t c =
     let read = c.in_ok-data_type-in-type.ensures.ok in
-    parts_go_on c.parts.invariant (rw (c.in-Some.is, c.in-type.is) at c.in_ok-key.ensures.value) read.1 refl refl read.2 refl
+    parts_go_on c.parts.invariant (rw (c.in-Some-2.is, c.in-type.is) at c.in_ok-key.ensures.value) read.1 refl refl read.2 refl
 
-pub take_parts-parts-preserved-then-str_eq-4 : goal.take_parts-parts-preserved-then-str_eq-4
-take_parts-parts-preserved-then-str_eq-4 t c =
+pub take_field-parts-preserved-then-str_eq-4 : goal.take_field-parts-preserved-then-str_eq-4
+take_field-parts-preserved-then-str_eq-4 t c =
     let read = c.in_ok-metadata-in-metadata.ensures.ok in
-    parts_go_on c.parts.invariant (rw (c.in-Some.is, c.in-metadata.is) at c.in_ok-key.ensures.value) read.1 refl refl refl read.2
+    parts_go_on c.parts.invariant (rw (c.in-Some-2.is, c.in-metadata.is) at c.in_ok-key.ensures.value) read.1 refl refl refl read.2
 
-pub take_parts-returns-clause-ok : goal.take_parts-returns-clause-ok
-take_parts-returns-clause-ok t c = parts_end c.parts.invariant c.in_ok-field_of.ensures (grind arith)
+pub take_field-returns-clause-ok : goal.take_field-returns-clause-ok
+take_field-returns-clause-ok t c = object_read field_of_value _ _ _ _ _ _ (rw c.in-Some.is at c.in_ok-below.ensures.ok).0 (parts_end c.parts.invariant c.in_ok-field_of.ensures (grind arith))
 
-pub take_two-returns-then-not-take_end_array-clause-ok : goal.take_two-returns-then-not-take_end_array-clause-ok
-take_two-returns-then-not-take_end_array-clause-ok t c =
-    let one = item_taken c.args.depth c.args.reader.now c.in_ok-id.ensures.ok (grind arith) in
-    let two = item_taken c.args.depth c.take_id.new.reader c.in_ok-field.ensures.ok (grind arith) in
+pub take_pair-returns-then-not-take_end_array-clause-ok : goal.take_pair-returns-then-not-take_end_array-clause-ok
+take_pair-returns-then-not-take_end_array-clause-ok t c =
+    let one = item_taken c.in-Some.below c.open_array.new.reader c.in_ok-id.ensures.ok (grind arith) in
+    let two = item_taken c.in-Some.below c.take_id.new.reader c.in_ok-field.ensures.ok (grind arith) in
     let d = after_some _ _ c.in_ok-skip_value.ensures.ok in
-    let three = item_taken {f = λ d. d} c.args.depth c.take_field.new.reader (d.0, d.1, refl) (grind arith) in
+    let three = item_taken {f = λ d. d} c.in-Some.below c.take_field.new.reader (d.0, d.1, refl) (grind arith) in
     let ds = after_some _ _ c.in_ok-skip_items.ensures.ok in
+    array_read pair_read _ _ _ _ _ _ (rw c.in-Some.is at c.in_ok-below.ensures.ok).0
     (item one.0 (item two.0 (item three.0 ds.0)), one.1 ∙ ap (parse_map (item one.0)) (two.1 ∙ ap (parse_map (item two.0)) (three.1 ∙ ap (parse_map (item three.0)) ds.1)), refl)
 
-pub take_two-returns-then-take_end_array-2-clause-ok : goal.take_two-returns-then-take_end_array-2-clause-ok
-take_two-returns-then-take_end_array-2-clause-ok t c = (item c.in_ok-id.ensures.ok.0 no_items, grind (arith, item_turn), refl)
-
-pub take_two-returns-then-take_end_array-clause-ok : goal.take_two-returns-then-take_end_array-clause-ok
-take_two-returns-then-take_end_array-clause-ok t c = (no_items, grind (arith, item_turn), refl)
-
-pub take_two-returns-clause-ok : goal.take_two-returns-clause-ok
-take_two-returns-clause-ok t c =
+pub take_pair-returns-clause-ok : goal.take_pair-returns-clause-ok
+take_pair-returns-clause-ok t c =
     let id = c.in_ok-id.ensures.ok in
     let field = c.in_ok-field.ensures.ok in
+    array_read pair_read _ _ _ _ _ _ (rw c.in-Some.is at c.in_ok-below.ensures.ok).0
     (item id.0 (item field.0 no_items), grind (arith, item_turn), c.pair_of.ensures.pair ∙ ap₂ (λ i f. option_and_then (λ id. option_map (λ g. (id, g)) f) i) id.2 field.2)
 
 pub take_type-returns-in-String-clause-ok : goal.take_type-returns-in-String-clause-ok

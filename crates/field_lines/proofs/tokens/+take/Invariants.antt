@@ -1,8 +1,5 @@
 use Rattle.std.proofs.Common.{IfSome, ◌+◌, ◌*◌, length, codes, option_map}
-use Rattle.std.specs.List.{zip}
-use Rattle.field_lines.specs.Keys.{AreMemberParts}
-use Rattle.arrow_values.specs.View.{tree, texts_of, field_trees, member_trees}
-use Rattle.field_lines.specs.FieldOfValue.{fields_in, members_in, field_of_value, size_of_value, mode_of_value, members_of_value}
+use Rattle.field_lines.proofs.Terms.{zip, AreMemberParts, tree, texts_of, field_trees, member_trees, fields_in, members_in, field_of_value, size_of_value, mode_of_value, members_of_value}
 use Rattle.field_lines.proofs.TokenMembers.{ArePartsUnderWay, IsOnlyUnderWay, AreTwoUnderWay}
 use Rattle.field_lines.proofs.TokenItems.{AreItemsTaken}
 use Rattle.field_lines.proofs.tokens.+take.Given as goal
@@ -12,9 +9,6 @@ decreases-take_field l = 8 * l.depth
 
 abbrev pub decreases-take_boxed : goal.decreases-take_boxed
 decreases-take_boxed l = 8 * l.depth + 1
-
-abbrev pub decreases-take_parts : goal.decreases-take_parts
-decreases-take_parts l = 8 * l.depth + 7
 
 abbrev pub decreases-take_type : goal.decreases-take_type
 decreases-take_type l = 8 * l.depth + 6
@@ -37,27 +31,18 @@ decreases-take_union l = 8 * l.depth + 5
 abbrev pub decreases-take_fields : goal.decreases-take_fields
 decreases-take_fields l = 8 * l.depth + 4
 
-abbrev pub decreases-take_items : goal.decreases-take_items
-decreases-take_items l = 8 * l.depth + 3
-
 abbrev pub decreases-take_members : goal.decreases-take_members
 decreases-take_members l = 8 * l.depth + 4
-
-abbrev pub decreases-take_pairs : goal.decreases-take_pairs
-decreases-take_pairs l = 8 * l.depth + 3
 
 abbrev pub decreases-take_pair : goal.decreases-take_pair
 decreases-take_pair l = 8 * l.depth + 2
 
-abbrev pub decreases-take_two : goal.decreases-take_two
-decreases-take_two l = 8 * l.depth + 1
+abbrev pub invariant-take_field-parts : goal.invariant-take_field-parts
+invariant-take_field-parts l =
+    ArePartsUnderWay l.below l.initial.reader l.reader (option_map (λ n. n.now) l.name) l.nullable (option_map tree l.data_type) (option_map (λ m. texts_of m.entries) l.metadata)
 
-abbrev pub invariant-take_parts-parts : goal.invariant-take_parts-parts
-invariant-take_parts-parts l =
-    ArePartsUnderWay l.depth l.initial.reader l.reader (option_map (λ n. n.now) l.name) l.nullable (option_map tree l.data_type) (option_map (λ m. texts_of m.entries) l.metadata)
-
-abbrev pub decreases-take_parts-parts : goal.decreases-take_parts-parts
-decreases-take_parts-parts l = length l.reader
+abbrev pub decreases-take_field-parts : goal.decreases-take_field-parts
+decreases-take_field-parts l = length l.reader
 
 abbrev pub invariant-take_only-only : goal.invariant-take_only-only
 invariant-take_only-only l = IsOnlyUnderWay l.depth l.only l.fn.reader l.reader (option_map tree l.data_type)
@@ -65,11 +50,11 @@ invariant-take_only-only l = IsOnlyUnderWay l.depth l.only l.fn.reader l.reader 
 abbrev pub decreases-take_only-only : goal.decreases-take_only-only
 decreases-take_only-only l = length l.reader
 
-abbrev pub invariant-take_items-items : goal.invariant-take_items-items
-invariant-take_items-items l = AreItemsTaken field_trees fields_in l.depth l.initial.reader l.reader l.fields.items
+abbrev pub invariant-take_fields-items : goal.invariant-take_fields-items
+invariant-take_fields-items l = AreItemsTaken field_trees fields_in l.below l.initial.reader l.reader l.fields.items
 
-abbrev pub decreases-take_items-items : goal.decreases-take_items-items
-decreases-take_items-items l = length l.reader
+abbrev pub decreases-take_fields-items : goal.decreases-take_fields-items
+decreases-take_fields-items l = length l.reader
 
 abbrev pub invariant-take_fixed_size_list-keys : goal.invariant-take_fixed_size_list-keys
 invariant-take_fixed_size_list-keys l =
@@ -87,8 +72,8 @@ invariant-take_union-keys l =
 abbrev pub decreases-take_union-keys : goal.decreases-take_union-keys
 decreases-take_union-keys l = length l.reader
 
-abbrev pub invariant-take_pairs-pairs : goal.invariant-take_pairs-pairs
-invariant-take_pairs-pairs l = AreItemsTaken member_trees members_in l.depth l.initial.reader l.reader (zip l.ids.items l.fields.items) × AreMemberParts l.ids.items l.fields.items
+abbrev pub invariant-take_members-pairs : goal.invariant-take_members-pairs
+invariant-take_members-pairs l = AreItemsTaken member_trees members_in l.below l.initial.reader l.reader (zip l.ids.items l.fields.items) × AreMemberParts l.ids.items l.fields.items
 
-abbrev pub decreases-take_pairs-pairs : goal.decreases-take_pairs-pairs
-decreases-take_pairs-pairs l = length l.reader
+abbrev pub decreases-take_members-pairs : goal.decreases-take_members-pairs
+decreases-take_members-pairs l = length l.reader
