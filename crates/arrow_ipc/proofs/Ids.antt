@@ -1,5 +1,5 @@
 -- The type ids of a union, one after the other.
-use Rattle.std.proofs.Common.{◌≡◌, true, false, ℕ, ℤ, pos, ◌++◌, ◌∷◌, suc, ◌-◌, ◌+◌, ◌≤◌, ◌<◌, List, [], Option, Result, Ok, Err, refl, arith}
+use Rattle.std.proofs.Common.{◌≡◌, true, false, ℕ, ℤ, pos, ◌++◌, ◌∷◌, suc, ◌-◌, ◌+◌, ◌≤◌, ◌<◌, List, [], Option, Ok, Err, refl, arith}
 use Rattle.arrow_ipc.specs.Fault.{◌>>=◌, breaks}
 use Rattle.arrow_ipc.specs.declared.fault.Rule.TheVariants.{TypeIds}
 use Rattle.arrow_ipc.specs.Columns.{id_at, is_new, put_id, ids_from}

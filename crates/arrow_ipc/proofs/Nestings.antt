@@ -5,7 +5,7 @@ use Rattle.arrow_values.specs.Tree.{Text, Metadata, Tree, plain, list, large_lis
 use Rattle.std.specs.Borrow.{Bor}
 use Rattle.arrow_values.specs.View.{field_trees, member_trees, field_list, listed_fields}
 use Rattle.arrow_columns.specs.Column.{known, ColumnTree}
-use Rattle.arrow_ipc.specs.Blocks.{Holds, child_in, column_in, text_read, texts_read, columns_read, vector_block, column_block, IsType}
+use Rattle.arrow_ipc.specs.Blocks.{Holds, child_in, text_read, texts_read, columns_read, vector_block, column_block, IsType}
 use Rattle.arrow_ipc.specs.Shapes.{member_ids, are_ids, shape_of, ids_of, shape_tag, shape_bytes, has_table, column_of, member_fields, nested_fields, nested_columns}
 use Rattle.arrow_ipc.specs.Rooms.{is_size, is_sound, are_sound, members_sound, fields_room, members_room, nested_room, table_room, column_room, texts_room, room_of, columns_room, Refuses, Gives, IsUnfit, IsUnfitType, AreUnfit, HoldsEach, IsNesting}
 use Rattle.arrow_ipc.specs.declared.write.WriteError.{WriteError}

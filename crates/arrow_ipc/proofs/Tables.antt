@@ -10,7 +10,6 @@ use Rattle.arrow_ipc.specs.Slots.{table_in, u8_in, flag_in, text_in, vector_in, 
 use Rattle.arrow_ipc.specs.Columns.{entry_in, texts_at, ids_at, ids_of_kind, counted, typed, finished, columns_by, column_at}
 use Rattle.arrow_ipc.specs.Blocks.{Holds, word, rounded, offsets, text_block, text_read, entry_block, entry_read, IsType, places, flag, table_block, column_block, column_in, columns_read, texts_read, Lies, order_number, schema_block, message_block, stream_block}
 use Rattle.arrow_ipc.specs.Fault.{◌>>=◌}
-use Rattle.arrow_ipc.specs.Tells.{◌>>+◌}
 use Rattle.arrow_ipc.specs.Parts.{Own, tag_in, zone_in, index_in, ids_in, parts_in, parts_at}
 use Rattle.arrow_ipc.specs.Kinds.{kind_at}
 use Rattle.arrow_ipc.specs.Types.{type_of}

@@ -1,8 +1,8 @@
-use Rattle.std.proofs.Common.{arith, ◌≡◌, ◌+◌, ◌-◌, ◌*◌, ◌++◌, ◌∷◌, [], List, Ok, Err, map, refl, sym, ap, ◌∙◌}
+use Rattle.std.proofs.Common.{arith, ◌≡◌, ◌+◌, ◌-◌, ◌*◌, ◌++◌, ◌∷◌, [], List, Ok, map, refl, sym, ap, ◌∙◌}
 use native.Mathlib.Numerals.{unary_clauses}
 use Rattle.std.proofs.lemmas.List.{map_push}
 use Rattle.arrow_columns.specs.Column.{ColumnTree, column_tree}
-use Rattle.arrow_ipc.specs.Parts.{Own, parts_of, parts_at}
+use Rattle.arrow_ipc.specs.Parts.{Own, parts_of}
 use Rattle.arrow_ipc.specs.Columns.{put_column, columns_by, column_at, finished}
 use Rattle.arrow_ipc.specs.declared.fault.IpcError.TheVariants.{Broken, Budget}
 use Rattle.arrow_ipc.proofs.Told.{told, first_fails, then_tells, made_fails, goes_on, breaks_off, is_done, too_deep, no_parts, too_poor, with_parts}

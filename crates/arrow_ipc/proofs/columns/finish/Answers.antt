@@ -1,7 +1,6 @@
-use Rattle.std.proofs.Common.{arith, ◌≡◌, map, refl}
+use Rattle.std.proofs.Common.{arith, map, refl}
 use Rattle.arrow_columns.specs.Column.{type_tree, column_tree}
 use Rattle.arrow_values.specs.Tree.{Metadata}
-use Rattle.arrow_ipc.specs.Fault.{◌>>=◌}
 use Rattle.arrow_ipc.specs.Parts.{Own, parts_of}
 use Rattle.arrow_ipc.specs.Columns.{typed, texts_at, finished}
 use Rattle.arrow_ipc.proofs.Told.{told, says_fails, made_fails}

@@ -1,4 +1,4 @@
-use Rattle.std.proofs.Common.{arith, rules, ◌≡◌, true, ℤ, List, Ok}
+use Rattle.std.proofs.Common.{arith, rules, ◌≡◌, true, Ok}
 use native.Mathlib.Numerals.{unary_clauses}
 use Rattle.arrow_ipc.specs.Columns.{are_as_many, put_id, ids_at}
 use Rattle.arrow_ipc.proofs.Told.{said}

@@ -1,10 +1,8 @@
-use Rattle.std.proofs.Common.{arith, ◌≡◌, ℕ, ℤ, List, Vec, Global, length, map, option_map, Ok, Err, refl}
+use Rattle.std.proofs.Common.{arith, ◌≡◌, ℤ, Vec, Global, length, map, option_map, Ok, Err, refl}
 use Rattle.std.proofs.lemmas.List.{length-map}
 use Rattle.std.proofs.lemmas.Grind.{common_steps}
-use Rattle.arrow_columns.specs.Column.{ColumnTree, type_tree, column_tree}
-use Rattle.arrow_ipc.specs.Fault.{◌>>=◌}
+use Rattle.arrow_columns.specs.Column.{type_tree, column_tree}
 use Rattle.arrow_ipc.specs.Parts.{Own, parts_of}
-use Rattle.arrow_ipc.specs.Types.{type_of}
 use Rattle.arrow_ipc.specs.Columns.{ids_at, ids_of_kind, typed, counted}
 use Rattle.arrow_ipc.specs.declared.fault.IpcError.TheVariants.{Broken}
 use Rattle.arrow_ipc.proofs.Told.{said}

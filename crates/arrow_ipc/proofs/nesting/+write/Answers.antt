@@ -1,7 +1,7 @@
-use Rattle.std.proofs.Common.{◌≡◌, ◌+◌, ◌-◌, ◌≤◌, map, sym, ap, ◌∙◌, subst, arith}
+use Rattle.std.proofs.Common.{◌≡◌, ◌-◌, ◌≤◌, map, sym, ap, ◌∙◌, subst, arith}
 use Rattle.arrow_values.specs.Tree.{depth}
 use Rattle.arrow_values.specs.View.{tree, texts_of}
-use Rattle.arrow_ipc.specs.Shapes.{column_of, nested_columns}
+use Rattle.arrow_ipc.specs.Shapes.{column_of}
 use Rattle.arrow_ipc.specs.Rooms.{Refuses, nested_room, column_room, field_room, room_of, columns_room, IsUnfit, AreUnfit}
 use Rattle.arrow_ipc.proofs.Vectors.{items}
 use Rattle.arrow_ipc.proofs.Built.{told, refuses_more, handed}

@@ -1,6 +1,6 @@
-use Rattle.std.proofs.Common.{◌≡◌, ◌+◌, ◌∷◌, [], false, map, length, ap, arith}
+use Rattle.std.proofs.Common.{◌≡◌, ◌∷◌, [], false, map, length, ap, arith}
 use Rattle.arrow_values.specs.View.{tree, texts_of}
-use Rattle.arrow_ipc.specs.Blocks.{vector_block, column_block}
+use Rattle.arrow_ipc.specs.Blocks.{column_block}
 use Rattle.arrow_ipc.specs.Shapes.{shape_of, ids_of, shape_bytes, has_table}
 use Rattle.arrow_ipc.specs.Rooms.{IsNesting, is_sound}
 use Rattle.arrow_ipc.proofs.Vectors.{items}

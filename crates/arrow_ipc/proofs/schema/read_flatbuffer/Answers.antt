@@ -1,7 +1,6 @@
-use Rattle.std.proofs.Common.{arith, ◌≡◌, ℕ, ◌+◌, ◌*◌, ◌-◌, length, map, Ok, Err, refl, ap}
+use Rattle.std.proofs.Common.{arith, ◌≡◌, ℕ, ◌*◌, ◌-◌, length, map, Ok, Err, refl, ap}
 use Rattle.arrow_values.specs.Tree.{Metadata}
 use Rattle.arrow_columns.specs.Column.{column_tree}
-use Rattle.arrow_ipc.specs.Fault.{◌>>=◌}
 use Rattle.arrow_ipc.specs.Columns.{texts_at, columns_by, column_at}
 use Rattle.arrow_ipc.specs.Schema.{schema_tree, head_at, with_columns, schema_at, schema_of}
 use Rattle.arrow_ipc.specs.declared.fault.IpcError.TheVariants.{Broken}

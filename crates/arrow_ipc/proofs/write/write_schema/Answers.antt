@@ -1,9 +1,7 @@
-use Rattle.std.proofs.Common.{◌≡◌, ◌≤◌, List, length, map, sym, ap, ◌∙◌, subst, arith, IfOk}
+use Rattle.std.proofs.Common.{length, map, ap, arith}
 use Rattle.arrow_values.specs.View.{texts_of}
-use Rattle.arrow_columns.specs.declared.column.Column.{Column}
 use Rattle.arrow_columns.specs.Column.{column_tree}
 use Rattle.arrow_ipc.specs.Schema.{schema_tree}
-use Rattle.arrow_ipc.specs.Denotes.{IsStreamOf}
 use Rattle.arrow_ipc.specs.Blocks.{Holds, columns_read, vector_block, schema_block, message_block}
 use Rattle.arrow_ipc.specs.Rooms.{HoldsEach, columns_room, schema_room}
 use Rattle.arrow_ipc.proofs.Vectors.{items}
