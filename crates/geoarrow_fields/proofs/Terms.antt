@@ -1,5 +1,5 @@
 -- The names of the specs that most proofs cite, passed on from one place. Declares nothing.
-pub use Rattle.std.specs.Str.{is_utf8}
+unfoldable pub use Rattle.std.specs.Str.{is_utf8}
 pub use Rattle.serde_json.specs.Data.{Data, boolean, depth, member, members_depth, no_members, null, object, put, string, Members}
 pub use Rattle.serde_json.specs.Read.{max_depth, read}
 pub use Rattle.serde_json.specs.Written.{compact_text, has_float}
