@@ -11,7 +11,7 @@ use Rattle.geoarrow_meta.specs.declared.crs.crs_type.CrsType.TheVariants.{Projjs
 use Rattle.geoarrow_meta.specs.Read.{edges_text, crs_type_text, present, some_has_float}
 use Rattle.geoarrow_meta.specs.Written.{of_parts, written, type_unless, IsReadBack}
 use Rattle.geoarrow_schema.specs.declared.types.GeoArrowType.TheVariants as types
-use Rattle.geoarrow_fields.proofs.Terms.{is_utf8, Data, boolean, depth, member, members_depth, no_members, null, object, string, Members, max_depth, read, compact_text, has_float, FieldTree, Text, Texts, extension_metadata, metadata_key, ExtensionName, Point, Kind, extension_of, name_of, name_text, layout, Edges, CrsType, Metadata, DenotesMetadata, NestsWithin, meta_value, normal, printed, GeoArrowType, kind_of, meta_of, Reads, IsCanonical, ReadsNormally, rewritten, is_held, members_are_held, held_parts, field_of_line, line_of_field, parts_value, texts_value, type_value, value_of_field, HasLineForm, Canon, Read, Bytes, Answers, AnswersField, type_text}
+use Rattle.geoarrow_fields.proofs.Terms.{is_utf8, Data, depth, member, members_depth, no_members, null, object, Members, max_depth, read, compact_text, has_float, FieldTree, Text, Texts, extension_metadata, metadata_key, Kind, name_of, layout, Edges, CrsType, Metadata, DenotesMetadata, NestsWithin, meta_value, normal, printed, GeoArrowType, kind_of, meta_of, Reads, IsCanonical, ReadsNormally, rewritten, is_held, members_are_held, held_parts, field_of_line, line_of_field, parts_value, texts_value, type_value, value_of_field, HasLineForm, Canon, Read, Bytes, Answers, AnswersField, type_text}
 use Rattle.geoarrow_fields.proofs.OneAnswer.{IsOneKind, words_of, reads_parts, one_reading, no_type_read, one_field_answer, answered, answer_of}
 use Rattle.geoarrow_fields.proofs.Layouts.{each_kind, layout_form, layout_held, layout_levels}
 use Rattle.geoarrow_fields.proofs.Extension.{HoldsTexts, PutIsHeld, set_held, set_again, text_held, each_order}

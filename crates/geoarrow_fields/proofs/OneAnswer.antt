@@ -9,7 +9,7 @@ use Rattle.geoarrow_schema.specs.Infers.{InferredAs, InfersAs, Infers, IsStored}
 use Rattle.geoarrow_schema.proofs.Reading.{read_has_name}
 use Rattle.geoarrow_columns.specs.Same.{SameColumn}
 use Rattle.geoarrow_fields.specs.Answer.{SameReport}
-use Rattle.geoarrow_fields.proofs.Terms.{FieldTree, Text, Tree, fixed_size_list, struct, extension_metadata, CoordType, Interleaved, Separated, Dimension, XY, XYM, XYZ, XYZM, Point, Width, Large, Plain, View, Kind, Native, Wkb, Wkt, coord_type_of, dimension_of, extension_of, name_of, DenotesMetadata, normal, printed, ReadsAs, GeoArrowType, SameType, kind_of, meta_of, HasGeoArrowName, Reads, IsCanonical, rewritten, ColumnFault, Arrow, InvalidGeoArrow, Column, Faulty, Geometry, OfInferred, Other, IsColumnOf, IsRefused, IsRefusedFor, IsReport, IsUnread, field_of_line, line_of_field, Command, Canon, Columns, Infer, Read, Done, Bytes, line_feed, lines_of, Answers, AnswersField, AnswersNoType, column_text, coord_type_word, dimension_word, error_text, inferred_text, kind_word, metadata_word, type_text, Answered, Means}
+use Rattle.geoarrow_fields.proofs.Terms.{FieldTree, Text, Tree, fixed_size_list, struct, extension_metadata, CoordType, Interleaved, Separated, Dimension, Point, Width, Plain, Kind, Native, Wkb, Wkt, coord_type_of, dimension_of, extension_of, name_of, DenotesMetadata, normal, printed, ReadsAs, GeoArrowType, SameType, kind_of, meta_of, HasGeoArrowName, Reads, IsCanonical, rewritten, ColumnFault, Arrow, InvalidGeoArrow, Column, Faulty, Geometry, OfInferred, Other, IsColumnOf, IsRefused, IsRefusedFor, IsReport, IsUnread, field_of_line, line_of_field, Command, Canon, Columns, Infer, Read, Done, Bytes, line_feed, lines_of, Answers, AnswersField, AnswersNoType, column_text, coord_type_word, dimension_word, error_text, inferred_text, kind_word, metadata_word, type_text, Answered, Means}
 
 -- ---- a data type is inferred as one kind
 

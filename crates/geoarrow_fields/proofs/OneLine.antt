@@ -6,7 +6,7 @@ use Rattle.std.proofs.lemmas.Bool.{eq-eqb}
 use Rattle.std.proofs.lemmas.List.Elements.{All-append, All-weaker}
 use Rattle.std.proofs.lemmas.List.Sums.{AllPass-from_list_all}
 use Rattle.geoarrow_fields.proofs.Limits.{lines_of-line}
-use Rattle.geoarrow_fields.proofs.Terms.{Data, compact_text, FieldTree, Text, extension_metadata, CoordType, Interleaved, Dimension, XY, Point, Plain, Kind, Native, Wkb, Wkt, coord_type_of, dimension_of, DenotesMetadata, meta_value, printed, GeoArrowType, kind_of, meta_of, ColumnFault, Arrow, InvalidGeoArrow, Column, Faulty, Geometry, OfInferred, Other, IsColumnOf, is_held, field_of_line, value_of_field, Command, Canon, Columns, Infer, Read, Done, Bytes, IsLine, line_feed, lines_of, Answers, AnswersField, AnswersNoType, column_text, coord_type_word, dimension_word, error_text, inferred_text, kind_word, metadata_word, type_text, Answered, Means}
+use Rattle.geoarrow_fields.proofs.Terms.{Data, compact_text, FieldTree, Text, extension_metadata, Kind, coord_type_of, dimension_of, DenotesMetadata, meta_value, printed, GeoArrowType, kind_of, meta_of, ColumnFault, Arrow, InvalidGeoArrow, Column, Faulty, Geometry, OfInferred, Other, IsColumnOf, is_held, field_of_line, value_of_field, Command, Canon, Columns, Infer, Read, Done, Bytes, IsLine, line_feed, lines_of, Answers, AnswersField, AnswersNoType, column_text, coord_type_word, dimension_word, error_text, inferred_text, kind_word, metadata_word, type_text, Answered, Means}
 use Rattle.geoarrow_fields.proofs.Extension.{PutIsHeld}
 use Rattle.geoarrow_fields.proofs.OneAnswer.{reads_parts, infers_parts}
 use Rattle.geoarrow_fields.proofs.Layouts.{each_kind}

@@ -1,5 +1,5 @@
 -- What a writer holds grows; a run under way, line by line, and its ends. Over plain variables.
-use Rattle.std.proofs.Common.{◌≡◌, ◌≢◌, ◌⊎◌, inl, inr, ℕ, suc, List, [], ◌∷◌, ◌++◌, ◌-◌, ◌+◌, ◌<◌, ◌≤◌, true, eqb, length, take, drop, get_or, All, Option, Some, None, Result, Ok, Err, IfErr, codes, refl, sym, ap, ◌∙◌, subst, append_assoc, append-nil, length-append, length-take, drop-cons, take_all, add-one, arith}
+use Rattle.std.proofs.Common.{◌≡◌, ◌≢◌, ◌⊎◌, inl, ℕ, suc, List, [], ◌∷◌, ◌++◌, ◌-◌, ◌+◌, ◌<◌, ◌≤◌, true, eqb, length, take, drop, get_or, All, Option, Some, None, Result, Ok, Err, IfErr, codes, refl, sym, ap, ◌∙◌, subst, append_assoc, append-nil, length-append, length-take, drop-cons, take_all, add-one, arith}
 use Rattle.std.specs.Prelude.{⊤}
 use Rattle.std.specs.Result.{IsErrAnd}
 use Rattle.std.specs.Io.KnownBytes.{Appends, Consumes, Keeps}
@@ -8,7 +8,7 @@ use Rattle.std.proofs.lemmas.Bool.{eq-eqb, eqb-true}
 use Rattle.std.proofs.lemmas.List.{take-append-drop, take_rest, get_or-take}
 use Rattle.std.proofs.lemmas.List.Elements.{All-from_get_or, All-nil, All-cons, All-append}
 use Rattle.memchr.specs.Find.{is_byte, IsFirstByte}
-use Rattle.geoarrow_fields.proofs.Terms.{Command, Bytes, line_feed, Answers, Answered, AppendsSome, FrontOf, Breaks, Done, OutputFault, Fault, Input, NoMemory, Output, lines_of, max_lines, max_line_bytes, IsLine, IsPastLimit, Stops, Means, ReadsAndWrites, RunsTo, IsBegun, IsAt, AnswersUntil, HasCome, IsMeant, IsStopped}
+use Rattle.geoarrow_fields.proofs.Terms.{Command, Bytes, line_feed, Answers, Answered, AppendsSome, FrontOf, Breaks, Done, OutputFault, Fault, Input, NoMemory, Output, lines_of, max_lines, max_line_bytes, IsLine, IsPastLimit, Stops, Means, ReadsAndWrites, IsBegun, IsAt, AnswersUntil, HasCome, IsMeant, IsStopped}
 use Rattle.geoarrow_fields.proofs.Limits.{IsShort, lines_of-last, stops_first, stops_longer, stops_next, stops_for, stops_last, limit_passed, line_inside, begun_inside}
 
 -- ---- faults, and what a writer holds
