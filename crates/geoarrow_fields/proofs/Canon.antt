@@ -3,17 +3,17 @@
 use Rattle.std.proofs.Common.{◌≡◌, inl, inr, ◌≤◌, ◌∷◌, [], List, ℕ, Bool, true, false, Option, Some, None, IfSome, option_map, codes, refl, sym, ap, ap₂, ◌∙◌, subst, arith, nat_cmp}
 use Rattle.std.specs.Ordering.{match_ordering}
 use Rattle.std.specs.Cmp.Lexicographic.{slice_cmp}
+use Rattle.std.specs.Str.{chars}
 use Rattle.std.specs.Arc.{arc_with_value}
 use Rattle.serde_json.specs.Find.{get, get_member}
-use Rattle.geoarrow_layout.specs.declared.names.ExtensionName.TheVariants as names
 use Rattle.geoarrow_meta.specs.declared.edges.Edges.TheVariants.{Andoyer}
 use Rattle.geoarrow_meta.specs.declared.crs.crs_type.CrsType.TheVariants.{Projjson}
 use Rattle.geoarrow_meta.specs.Read.{edges_text, crs_type_text, present, some_has_float}
 use Rattle.geoarrow_meta.specs.Written.{of_parts, written, type_unless, IsReadBack}
 use Rattle.geoarrow_schema.specs.declared.types.GeoArrowType.TheVariants as types
-use Rattle.geoarrow_fields.proofs.Terms.{is_utf8, Data, boolean, depth, member, members_depth, no_members, null, object, string, Members, max_depth, read, compact_text, has_float, FieldTree, Text, Texts, extension_metadata, metadata_key, ExtensionName, Point, Kind, extension_of, name_of, name_text, layout, Edges, CrsType, Metadata, DenotesMetadata, NestsWithin, meta_value, normal, printed, GeoArrowType, kind_of, meta_of, Reads, IsCanonical, ReadsNormally, rewritten, is_held, members_are_held, held_parts, field_of_line, line_of_field, parts_value, texts_value, type_value, value_of_field, HasLineForm, Canon, Read, Bytes, Answers, AnswersField, type_text}
+use Rattle.geoarrow_fields.proofs.Terms.{is_utf8, Data, depth, member, members_depth, no_members, null, object, Members, max_depth, read, compact_text, has_float, FieldTree, Text, Texts, extension_metadata, metadata_key, Kind, name_of, layout, Edges, CrsType, Metadata, DenotesMetadata, NestsWithin, meta_value, normal, printed, GeoArrowType, kind_of, meta_of, Reads, IsCanonical, ReadsNormally, rewritten, is_held, members_are_held, held_parts, field_of_line, line_of_field, parts_value, texts_value, type_value, value_of_field, HasLineForm, Canon, Read, Bytes, Answers, AnswersField, type_text}
 use Rattle.geoarrow_fields.proofs.OneAnswer.{IsOneKind, words_of, reads_parts, one_reading, no_type_read, one_field_answer, answered, answer_of}
-use Rattle.geoarrow_fields.proofs.Layouts.{ascii, layout_form, layout_said, layout_levels}
+use Rattle.geoarrow_fields.proofs.Layouts.{each_kind, layout_form, layout_held, layout_levels}
 use Rattle.geoarrow_fields.proofs.Extension.{HoldsTexts, PutIsHeld, set_held, set_again, text_held, each_order}
 
 -- ---- the value of a metadata that UTF-8 denotes is held
@@ -21,24 +21,26 @@ use Rattle.geoarrow_fields.proofs.Extension.{HoldsTexts, PutIsHeld, set_held, se
 abbrev pub IsHeldIf : Option Data → Type 0
 IsHeldIf o = IfSome o (λ d. is_held d ≡ true)
 
-name_utf8 : (n : ExtensionName) → is_utf8 (name_text n) ≡ true
-name_utf8 (names.Native Point) = ascii _ refl
-name_utf8 (names.Native _) = ascii _ refl
-name_utf8 _ = ascii _ refl
+name_utf8 : (k : Kind) → is_utf8 (name_of k) ≡ true
+unfolding is_utf8 chars lib.Utf8.encode
+name_utf8 = each_kind (λ k. is_utf8 (name_of k)) refl
 
 type_utf8 : (t : CrsType) → is_utf8 (crs_type_text t) ≡ true
-type_utf8 Projjson = ascii _ refl
-type_utf8 _ = ascii _ refl
+unfolding is_utf8 chars lib.Utf8.encode
+type_utf8 Projjson = refl
+type_utf8 _ = refl
 
 edges_utf8 : (e : Edges) → is_utf8 (edges_text e) ≡ true
-edges_utf8 Andoyer = ascii _ refl
-edges_utf8 _ = ascii _ refl
+unfolding is_utf8 chars lib.Utf8.encode
+edges_utf8 Andoyer = refl
+edges_utf8 _ = refl
 
 written_held : (d : Data) (t : Option CrsType) (e : Option Edges) → is_held d ≡ true → is_held (written (Some d) t e) ≡ true
-written_held d None None own = rw (ascii (codes "crs") refl, own) refl
-written_held d (Some t) None own = rw (ascii (codes "crs") refl, own, ascii (codes "crs_type") refl, type_utf8 t) refl
-written_held d None (Some e) own = rw (ascii (codes "crs") refl, own, ascii (codes "edges") refl, edges_utf8 e) refl
-written_held d (Some t) (Some e) own = rw (ascii (codes "crs") refl, own, ascii (codes "crs_type") refl, type_utf8 t, ascii (codes "edges") refl, edges_utf8 e) refl
+unfolding is_utf8 chars lib.Utf8.encode
+written_held d None None own = rw own refl
+written_held d (Some t) None own = rw (own, type_utf8 t) refl
+written_held d None (Some e) own = rw (own, edges_utf8 e) refl
+written_held d (Some t) (Some e) own = rw (own, type_utf8 t, edges_utf8 e) refl
 
 value_held : (v : Option Data) (t : Option CrsType) (e : Option Edges) → IsHeldIf v → IsHeldIf (meta_value (of_parts v t e))
 value_held None t None own = tt
@@ -97,13 +99,10 @@ abbrev pub LineIsRead : Type 0
 LineIsRead = (f : FieldTree) → HasLineForm f.tree → is_held (value_of_field f) ≡ true → depth (value_of_field f) ≤ max_depth → field_of_line (line_of_field f) ≡ Some f
 
 -- a field's value, from its parts
-with_texts : (n : Text) (d : Data) (b : Bool) (ms : Members) → is_utf8 n ≡ true → is_held d ≡ true → members_are_held ms ≡ true
-    → is_held (object (member (codes "metadata") (object ms) (member (codes "name") (string n) (member (codes "nullable") (boolean b) (member (codes "type") d no_members))))) ≡ true
-with_texts n d b ms name own texts = rw (ascii (codes "metadata") refl, ascii (codes "name") refl, name, ascii (codes "nullable") refl, ascii (codes "type") refl, own, texts) refl
-
 parts_held : (n : Text) (d : Data) (b : Bool) (m : Texts) → is_utf8 n ≡ true → is_held d ≡ true → HoldsTexts m → is_held (parts_value n d b m) ≡ true
-parts_held n d b [] name own texts = rw (ascii (codes "name") refl, name, ascii (codes "nullable") refl, ascii (codes "type") refl, own) refl
-parts_held n d b (e ∷ m) name own texts = with_texts n d b (texts_value (e ∷ m)) name own texts
+unfolding is_utf8 chars lib.Utf8.encode
+parts_held n d b [] name own texts = rw (name, own) refl
+parts_held n d b (e ∷ m) name own texts = rw (texts, name, own) refl
 
 texts_flat : (m : Texts) → members_depth (texts_value m) ≤ 0
 texts_flat [] = omega arith
@@ -160,8 +159,8 @@ module _ (put_is : PutIsHeld) (read_is : ReadIsHeld) (utf8 : IsUtf8Written) (fie
     rewritten_held k m denotes =
         let own = field_is line f is in
         let value = value_held m.crs.value (type_unless m.crs.value m.crs.crs_type m.edges) m.edges (crs_held m denotes).0 in
-        parts_held f.name (type_value (layout k)) f.nullable _ own.0 (layout_said k).1
-        (set_held put_is (name_of k) (printed (normal m)) f.metadata (name_utf8 (extension_of k)) (text_of utf8 (meta_value (normal m)) value) own.1)
+        parts_held f.name (type_value (layout k)) f.nullable _ own.0 (layout_held k)
+        (set_held put_is (name_of k) (printed (normal m)) f.metadata (name_utf8 k) (text_of utf8 (meta_value (normal m)) value) own.1)
 
     -- the value of the canonical field is held
     pub canonical_held : (n : FieldTree) → IsCanonical f n → is_held (value_of_field n) ≡ true

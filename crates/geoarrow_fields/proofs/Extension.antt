@@ -1,5 +1,6 @@
 -- The two extension keys in the metadata of a field: setting them keeps the order of the keys, and setting them again changes nothing.
 use Rattle.std.proofs.Common.{◌≡◌, inl, inr, ◌∷◌, [], List, ℕ, true, false, not, Option, Some, None, IfSome, Ordering, Less, Equal, Greater, nat_cmp, bytes_eq, refl, sym, ap, ◌∙◌, subst, true≢false}
+use Rattle.std.specs.Str.{chars}
 use Rattle.std.specs.Ordering.{is_lt, is_eq, match_ordering, ordering_reverse}
 use Rattle.std.specs.Cmp.Lexicographic.{slice_cmp}
 use Rattle.std.proofs.lemmas.Bool.{cond_both, cases_Bool}
@@ -8,7 +9,6 @@ use Rattle.std.proofs.lemmas.Map.Text.{is_eq-slice_cmp}
 use Rattle.std.proofs.lemmas.Slice.Eq.{bytes_eq-Decides}
 use Rattle.field_lines.specs.Held.{comes_first}
 use Rattle.geoarrow_fields.proofs.Terms.{is_utf8, Data, string, Members, put, Text, Texts, name_key, metadata_key, text_at, put_text, remove_text, set_extension, texts_value, is_held, members_are_held, held_parts}
-use Rattle.geoarrow_fields.proofs.Layouts.{ascii}
 
 abbrev pub HoldsTexts : Texts → Type 0
 HoldsTexts m = members_are_held (texts_value m) ≡ true
@@ -53,9 +53,10 @@ remove_text_held q (e ∷ m) h =
     (λ _. rw (first_of_rest e.0 q m p.3 p.0, p.1, p.2) (remove_text_held q m p.3)) (λ _. remove_text_held q m p.3)
 
 pub set_held : PutIsHeld → (name : Text) (text : Option Text) (m : Texts) → is_utf8 name ≡ true → IfSome text (λ t. is_utf8 t ≡ true) → HoldsTexts m → HoldsTexts (set_extension name text m)
-set_held put_is name None m named written h = remove_text_held metadata_key (put_text name_key name m) (put_text_held put_is name_key name m (ascii name_key refl) named h)
+unfolding is_utf8 chars lib.Utf8.encode
+set_held put_is name None m named written h = remove_text_held metadata_key (put_text name_key name m) (put_text_held put_is name_key name m refl named h)
 set_held put_is name (Some t) m named written h =
-    put_text_held put_is metadata_key t (put_text name_key name m) (ascii metadata_key refl) written (put_text_held put_is name_key name m (ascii name_key refl) named h)
+    put_text_held put_is metadata_key t (put_text name_key name m) refl written (put_text_held put_is name_key name m refl named h)
 
 -- ---- setting the keys again: what is put or removed once more changes nothing, and a put changes places with what is done at an earlier key
 

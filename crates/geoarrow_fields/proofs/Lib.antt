@@ -1,6 +1,5 @@
 pub mod Terms
 pub mod Limits
-pub mod Steps
 pub mod Ways
 mod Layouts
 mod Extension

@@ -1,16 +1,17 @@
 -- An input, its lines and their limits.
-use Rattle.std.proofs.Common.{◌≡◌, ◌≢◌, ℕ, ◌<◌, inl, inr, cond, eqb, List, [], ◌∷◌, ◌++◌, length, refl, sym, ap, ap₂, ◌⊎◌, ◌∙◌, append_assoc, append-nil, All, arith, ◌+◌, ◌≤◌, get_or, subst, length-append}
-use Rattle.std.proofs.lemmas.Bool.{ne_eqb, cases_eq, cases_lt, cond_both}
-use Rattle.std.proofs.lemmas.List.Elements.{All-nil, All-cons, All-head, All-tail, All-append, All-push, All-drop, All-get_or}
-use Rattle.geoarrow_fields.proofs.Terms.{Bytes, begin_line, lines_of, ended_lines, line_feed, IsLine, IsSplit, max_lines, max_line_bytes, IsWithinLimits, IsPastLimit, Stops, IsShort, IsBegun, NextLines}
+use Rattle.std.proofs.Common.{◌≡◌, ◌≢◌, ℕ, ◌<◌, inl, inr, List, [], ◌∷◌, ◌++◌, length, refl, sym, ap, ap₂, ◌⊎◌, ◌∙◌, append_assoc, append-nil, All, arith, ◌+◌, ◌≤◌, get_or, subst, length-append}
+use Rattle.std.specs.List.{onto_first}
+use Rattle.std.proofs.lemmas.Bool.{ne_eqb, cases_eq, cases_lt}
+use Rattle.std.proofs.lemmas.List.{get_or_append_left, get_or_at}
+use Rattle.std.proofs.lemmas.List.Elements.{All-nil, All-cons, All-head, All-tail, All-append, All-push, All-drop}
 use Rattle.std.proofs.Math.Seq.{drop-append_seam}
+use Rattle.geoarrow_fields.proofs.Terms.{Bytes, lines_of, ended_lines, line_feed, IsLine, IsSplit, max_lines, max_line_bytes, IsWithinLimits, IsPastLimit, Stops, IsAt}
 
 -- ---- an input and its lines
 
 -- another byte stands in the first line
-pub put_other : (byte : ℕ) (bytes : Bytes) (lines : List Bytes) → byte ≢ line_feed → lines_of bytes ≡ lines → lines_of (byte ∷ bytes) ≡ begin_line byte lines
-put_other byte bytes lines h same =
-    ap (λ l. cond (eqb byte line_feed) ([] ∷ l) (begin_line byte l)) same ∙ ap (λ t. cond t ([] ∷ lines) (begin_line byte lines)) (ne_eqb byte line_feed h)
+put_other : (byte : ℕ) (bytes : Bytes) (lines : List Bytes) → byte ≢ line_feed → lines_of bytes ≡ lines → lines_of (byte ∷ bytes) ≡ onto_first byte lines
+put_other byte bytes lines h same = rw (ne_eqb byte line_feed h, same) refl
 
 -- a line that a line feed ends is the first of the lines
 pub lines_of-line : (line rest : Bytes) → IsLine line → lines_of (line ++ (line_feed ∷ rest)) ≡ line ∷ lines_of rest
@@ -28,26 +29,19 @@ lines_of-last (byte ∷ (next ∷ rest)) h some =
     put_other byte (next ∷ rest) ((next ∷ rest) ∷ []) (All-head (λ b. b ≢ line_feed) byte (next ∷ rest) h) more
 
 -- the lines of lines put together, and of what comes after them
-pub lines_of-ended : (lines : List Bytes) (later : Bytes) → All IsLine lines → lines_of (ended_lines lines ++ later) ≡ lines ++ lines_of later
+lines_of-ended : (lines : List Bytes) (later : Bytes) → All IsLine lines → lines_of (ended_lines lines ++ later) ≡ lines ++ lines_of later
 lines_of-ended [] later h = refl
 lines_of-ended (line ∷ lines) later h =
     ap lines_of (append_assoc line (line_feed ∷ ended_lines lines) later)
     ∙ lines_of-line line (ended_lines lines ++ later) (All-head IsLine line lines h)
     ∙ ap (λ l. line ∷ l) (lines_of-ended lines later (All-tail IsLine line lines h))
 
-pub lines_of-split : (input : Bytes) (lines : List Bytes) (later : Bytes) → IsSplit input lines later → lines_of input ≡ lines ++ lines_of later
+lines_of-split : (input : Bytes) (lines : List Bytes) (later : Bytes) → IsSplit input lines later → lines_of input ≡ lines ++ lines_of later
 lines_of-split input lines later split = ap lines_of split.joined ∙ lines_of-ended lines later split.each
 
-ended_lines-append : (a b : List Bytes) → ended_lines (a ++ b) ≡ ended_lines a ++ ended_lines b
-ended_lines-append [] b = refl
-ended_lines-append (line ∷ a) b =
-    ap (λ l. line ++ (line_feed ∷ l)) (ended_lines-append a b) ∙ sym (append_assoc line (line_feed ∷ ended_lines a) (ended_lines b))
-
-pub split_after : (input : Bytes) (a : List Bytes) (middle : Bytes) (b : List Bytes) (later : Bytes) → IsSplit input a middle → IsSplit middle b later → IsSplit input (a ++ b) later
-split_after input a middle b later first second = record {
-  joined = first.joined ∙ ap (λ l. ended_lines a ++ l) second.joined ∙ sym (append_assoc (ended_lines a) (ended_lines b) later) ∙ ap (λ l. l ++ later) (sym (ended_lines-append a b));
-  each = All-append IsLine a b first.each second.each;
-}
+pub ended_lines-push : (lines : List Bytes) (line rest : Bytes) → ended_lines (lines ++ line ∷ []) ++ rest ≡ ended_lines lines ++ (line ++ (line_feed ∷ rest))
+ended_lines-push [] line rest = append_assoc line (line_feed ∷ []) rest
+ended_lines-push (first ∷ lines) line rest = simp (append_assoc, ended_lines-push lines line rest)
 
 -- what the law of `lines` says
 pub lines_of_ended : (lines : List Bytes) → All IsLine lines → lines_of (ended_lines lines) ≡ lines
@@ -69,142 +63,134 @@ split_every (byte ∷ bytes) = after (cases_eq byte line_feed) (split_every byte
         let longer = All-cons (λ b. b ≢ line_feed) byte begun other (All-head IsLine begun lines split.each) in
         ((byte ∷ begun) ∷ lines, rest, record { joined = ap (λ l. byte ∷ l) split.joined; each = All-cons IsLine (byte ∷ begun) lines longer (All-tail IsLine begun lines split.each) }, line)
 
--- ---- lines one after the other
+-- ---- where an input is stopped
 
-abbrev pub lines_none : (count : ℕ) (input : Bytes) → count ≤ max_lines → NextLines count input count input
-lines_none count input few =
-    record { lines = []; split = record { joined = refl; each = All-nil IsLine }; short = All-nil IsShort; counted = omega arith; few = few }
+abbrev pub IsShort : Bytes → Type 0
+IsShort line = length line ≤ max_line_bytes
 
--- one line more
-abbrev pub lines_line : (count total : ℕ) (input later line rest : Bytes) → NextLines count input total later → later ≡ line ++ (line_feed ∷ rest) → IsLine line
-    → IsShort line → total < max_lines
-    → NextLines count input (total + 1) rest
-lines_line count total input later line rest next joined is short few = record {
-  lines = next.lines ++ (line ∷ []);
-  split = split_after input next.lines later (line ∷ []) rest next.split
-      (record { joined = joined ∙ sym (append_assoc line (line_feed ∷ []) rest); each = All-cons IsLine line [] is (All-nil IsLine) });
-  short = All-push IsShort next.lines line next.short short;
-  counted = omega (arith, next.counted, length-append next.lines (line ∷ []));
-  few = omega arith;
+-- before all of it
+abbrev pub stops_first : (input : Bytes) → Stops (IsAt 0 input) input
+stops_first input = record {
+  lines = [];
+  later = input;
+  split = record { joined = refl; each = All-nil IsLine };
+  within = record { few = omega arith; short = All-nil IsShort };
+  cause = (refl, refl);
 }
 
--- the lines of what comes after
-abbrev pub lines_after : (count middle total : ℕ) (input more begun later : Bytes) → NextLines count input middle begun
-    → NextLines middle (begun ++ more) total later → NextLines count (input ++ more) total later
-lines_after count middle total input more begun later first second = record {
-  lines = first.lines ++ second.lines;
-  split = split_after (input ++ more) first.lines (begun ++ more) second.lines later
-      (record { joined = ap (λ l. l ++ more) first.split.joined ∙ append_assoc (ended_lines first.lines) begun more; each = first.split.each }) second.split;
-  short = All-append IsShort first.lines second.lines first.short second.short;
-  counted = omega (arith, first.counted, second.counted, length-append first.lines second.lines);
-  few = second.few;
+-- at the same place, where more comes
+abbrev pub stops_longer : (count : ℕ) (later input more : Bytes) → Stops (IsAt count later) input → Stops (IsAt count (later ++ more)) (input ++ more)
+stops_longer count later input more stop = record {
+  lines = stop.lines;
+  later = stop.later ++ more;
+  split = record { joined = ap (λ l. l ++ more) stop.split.joined ∙ append_assoc (ended_lines stop.lines) stop.later more; each = stop.split.each };
+  within = stop.within;
+  cause = (stop.cause.0, ap (λ l. l ++ more) stop.cause.1);
 }
 
--- the lines of what is begun
-begun_lines : (total : ℕ) (later : Bytes) → IsBegun total later → (total + length (lines_of later) ≤ max_lines) × All IsShort (lines_of later)
-begun_lines total [] is = (omega (arith, is.few), All-nil IsShort)
-begun_lines total (byte ∷ bytes) is =
-    let few : total < max_lines = is.room (omega arith) in
-    subst (λ l. (total + length l ≤ max_lines) × All IsShort l) (sym (lines_of-last (byte ∷ bytes) is.line (omega arith)))
-    (omega (arith, few), All-cons IsShort (byte ∷ bytes) [] is.short (All-nil IsShort))
-
--- all comes within the limits
-pub all_within : (total : ℕ) (input later : Bytes) → NextLines 0 input total later → IsBegun total later → IsWithinLimits (lines_of input)
-all_within total input later next is =
-    let (few, short) = begun_lines total later is in
-    subst IsWithinLimits (sym (lines_of-split input next.lines later next.split)) (record {
-      few = omega (arith, few, next.counted, length-append next.lines (lines_of later));
-      short = All-append IsShort next.lines (lines_of later) next.short short;
-    })
-
--- a cause to stop comes after these lines
-abbrev pub stops : (Cause : ℕ → Bytes → Type 0) (total : ℕ) (input later : Bytes) → NextLines 0 input total later → Cause total later → Stops Cause input
-stops Cause total input later next cause = record {
-  lines = next.lines;
-  later = later;
-  split = next.split;
-  within = record { few = omega (arith, next.counted, next.few); short = next.short };
-  cause = let same : total ≡ length next.lines = omega (arith, next.counted) in subst (λ n. Cause n later) same cause;
+-- one line later
+abbrev pub stops_next : (count : ℕ) (later input line rest : Bytes) → Stops (IsAt count later) input → later ≡ line ++ (line_feed ∷ rest) → IsLine line → (count < max_lines) × IsShort line
+    → Stops (IsAt (count + 1) rest) input
+stops_next count later input line rest stop joined is fits = record {
+  lines = stop.lines ++ line ∷ [];
+  later = rest;
+  split = record {
+    joined = stop.split.joined ∙ ap (λ l. ended_lines stop.lines ++ l) (stop.cause.1 ∙ joined) ∙ sym (ended_lines-push stop.lines line rest);
+    each = All-push IsLine stop.lines line stop.split.each is;
+  };
+  within = record { few = omega (arith, stop.cause.0, fits.0, length-append stop.lines (line ∷ [])); short = All-push IsShort stop.lines line stop.within.short fits.1 };
+  cause = (omega (arith, stop.cause.0, length-append stop.lines (line ∷ [])), refl);
 }
+
+-- for a cause
+abbrev pub stops_for : (Cause : ℕ → Bytes → Type 0) (count : ℕ) (later input : Bytes) → Stops (IsAt count later) input → Cause count later → Stops Cause input
+stops_for Cause count later input stop cause = record { lines = stop.lines; later = stop.later; split = stop.split; within = stop.within; cause = rw (stop.cause.0, stop.cause.1) cause }
+
+-- what comes then has these lines, which are within the limits, so all are
+pub stops_last : (count : ℕ) (later input : Bytes) (last : List Bytes) → lines_of later ≡ last → (count + length last ≤ max_lines) × All IsShort last → (stop : Stops (IsAt count later) input)
+    → IsWithinLimits (lines_of input) × (lines_of input ≡ stop.lines ++ last)
+stops_last count later input last same fits stop =
+    let lines : lines_of input ≡ stop.lines ++ last = lines_of-split input stop.lines stop.later stop.split ∙ ap (λ l. stop.lines ++ lines_of l) stop.cause.1 ∙ ap (λ l. stop.lines ++ l) same in (
+      rw lines (record {
+        few = omega (arith, fits.0, stop.cause.0, length-append stop.lines last);
+        short = All-append IsShort stop.lines last stop.within.short fits.1;
+      }),
+      lines,
+    )
+
+-- ---- what is past a limit
+
+-- a line that comes is
+pub limit_passed : (count : ℕ) (later line tail : Bytes) → later ≡ line ++ tail → IsLine line → 0 < length later → (count ≡ max_lines) ⊎ (max_line_bytes < length line) → IsPastLimit count later
+limit_passed count later line tail joined is some (inl many) = inl (many, some)
+limit_passed count later line tail joined is some (inr long) = inr (record { begun = line; rest = tail; joined = joined; line = is; long = long })
+
+-- or fits
+comes : (count : ℕ) (later line tail : Bytes) → count ≤ max_lines → later ≡ line ++ tail → IsLine line → 0 < length later → IsPastLimit count later ⊎ ((count < max_lines) × IsShort line)
+comes count later line tail few joined is some =
+    let passes = limit_passed count later line tail joined is some in
+    elim (cases_lt max_line_bytes (length line)) [
+      | inl long ↦ inl (passes (inr long))
+      | inr short ↦ elim (cases_lt count max_lines) [ inl less ↦ inr (less, short) | inr most ↦ inl (passes (inl (omega arith))) ]
+    ]
+
+-- a line that a line feed ends within its limit is past none
+pub line_inside : (count : ℕ) (later line tail : Bytes) → later ≡ line ++ (line_feed ∷ tail) → (count < max_lines) × IsShort line → ¬ IsPastLimit count later
+line_inside count later line tail joined fits (inl (many, some)) = omega (arith, fits.0, many)
+line_inside count later line tail joined fits (inr long) =
+    let at : length line < length long.begun = omega (arith, fits.1, long.long) in
+    long.line (length line) 0 at
+    (sym (get_or_append_left long.begun long.rest 0 (length line) at) ∙ ap (λ l. get_or l (length line) 0) (sym long.joined ∙ joined) ∙ get_or_at line line_feed tail 0 (length line) refl)
+
+-- nor is what has come of one
+pub begun_inside : (count : ℕ) (later : Bytes) → (0 < length later → count < max_lines) → IsShort later → ¬ IsPastLimit count later
+begun_inside count later room short (inl (many, some)) = let few : count < max_lines = room some in omega arith
+begun_inside count later room short (inr long) = omega (arith, long.long, ap length long.joined, length-append long.begun long.rest)
 
 -- ---- an input is within the limits, or passes one
 
--- a line that comes is past a limit, or fits
-comes : (total : ℕ) (later line tail : Bytes) → total ≤ max_lines → later ≡ line ++ tail → IsLine line
-    → IsPastLimit total later ⊎ ((0 < length later → total < max_lines) × IsShort line)
-comes total later line tail few joined is = decide (cases_lt max_line_bytes (length line)) (cases_lt total max_lines) (cases_lt 0 (length later))
-  where
-    decide : (max_line_bytes < length line) ⊎ (length line ≤ max_line_bytes) → (total < max_lines) ⊎ (max_lines ≤ total)
-        → (0 < length later) ⊎ (length later ≤ 0)
-        → IsPastLimit total later ⊎ ((0 < length later → total < max_lines) × IsShort line)
-    decide (inl long) room come = inl (inr (record { begun = line; rest = tail; joined = joined; line = is; long = long }))
-    decide (inr short) (inl less) come = inr (λ _. less, short)
-    decide (inr short) (inr most) (inl some) = let same : total ≡ max_lines = omega arith in inl (inl (same, some))
-    decide (inr short) (inr most) (inr none) = inr (λ some. absurd (omega arith), short)
-
-walks : (input : Bytes) (lines : List Bytes) (total : ℕ) (rest : Bytes) → NextLines 0 input total (ended_lines lines ++ rest) → All IsLine lines → IsLine rest
+walks : (input : Bytes) (count : ℕ) (lines : List Bytes) (rest : Bytes) → Stops (IsAt count (ended_lines lines ++ rest)) input → All IsLine lines → IsLine rest
     → IsWithinLimits (lines_of input) ⊎ Stops IsPastLimit input
-walks input [] total rest next each is =
-    elim (comes total rest rest [] next.few (sym (append-nil rest)) is) [
-      | inl past ↦ inr (stops IsPastLimit total input rest next past)
-      | inr fits ↦ inl (all_within total input rest next (record { line = is; short = fits.1; few = next.few; room = fits.0 }))
+walks input count [] [] stop each is = inl (stops_last count [] input [] refl (omega (arith, stop.cause.0, stop.within.few), All-nil IsShort) stop).0
+walks input count [] (byte ∷ bytes) stop each is =
+    let rest = byte ∷ bytes in
+    elim (comes count rest rest [] (omega (arith, stop.cause.0, stop.within.few)) (sym (append-nil rest)) is (omega arith)) [
+      | inl past ↦ inr (stops_for IsPastLimit count rest input stop past)
+      | inr fits ↦ inl (stops_last count rest input (rest ∷ []) (lines_of-last rest is (omega arith)) (omega (arith, fits.0), All-cons IsShort rest [] fits.1 (All-nil IsShort)) stop).0
     ]
-walks input (line ∷ lines) total rest next each is =
+walks input count (line ∷ lines) rest stop each is =
     let here = All-head IsLine line lines each in
-    let joined = append_assoc line (line_feed ∷ ended_lines lines) rest in
-    let some : 0 < length (ended_lines (line ∷ lines) ++ rest) =
-    omega (arith, ap length joined, length-append line (line_feed ∷ (ended_lines lines ++ rest))) in
-    elim (comes total (ended_lines (line ∷ lines) ++ rest) line (line_feed ∷ (ended_lines lines ++ rest)) next.few joined here) [
-      | inl past ↦ inr (stops IsPastLimit total input (ended_lines (line ∷ lines) ++ rest) next past)
-      | inr fits ↦
-          walks input lines (total + 1) rest
-          (lines_line 0 total input (ended_lines (line ∷ lines) ++ rest) line (ended_lines lines ++ rest) next joined here fits.1 (fits.0 some))
-          (All-tail IsLine line lines each) is
+    let later = ended_lines (line ∷ lines) ++ rest in
+    let joined : later ≡ line ++ (line_feed ∷ (ended_lines lines ++ rest)) = append_assoc line (line_feed ∷ ended_lines lines) rest in
+    let some : 0 < length later = omega (arith, ap length joined, length-append line (line_feed ∷ (ended_lines lines ++ rest))) in
+    elim (comes count later line (line_feed ∷ (ended_lines lines ++ rest)) (omega (arith, stop.cause.0, stop.within.few)) joined here some) [
+      | inl past ↦ inr (stops_for IsPastLimit count later input stop past)
+      | inr fits ↦ walks input (count + 1) lines rest (stops_next count later input line (ended_lines lines ++ rest) stop joined here fits) (All-tail IsLine line lines each) is
     ]
 
 pub either : (input : Bytes) → IsWithinLimits (lines_of input) ⊎ Stops IsPastLimit input
 either input =
     let (lines, rest, split, is) = split_every input in
-    walks input lines 0 rest (subst (NextLines 0 input 0) split.joined (lines_none 0 input (omega arith))) split.each is
+    walks input 0 lines rest (subst (λ l. Stops (IsAt 0 l) input) split.joined (stops_first input)) split.each is
 
--- ---- and not both
-
--- bytes have a line
-some_line : (bytes : Bytes) → 0 < length bytes → 0 < length (lines_of bytes)
-some_line [] some = absurd (omega arith)
-some_line (byte ∷ bytes) some =
-    cond_both (eqb byte line_feed) ([] ∷ lines_of bytes) (begin_line byte (lines_of bytes)) (λ lines. 0 < length lines) (λ _. omega arith) (λ _. begins (lines_of bytes))
-  where
-    begins : (lines : List Bytes) → 0 < length (begin_line byte lines)
-    begins [] = omega arith
-    begins (line ∷ lines) = omega arith
-
--- and the first is no shorter than what is begun
-first_long : (begun rest : Bytes) → IsLine begun → length begun ≤ length (get_or (lines_of (begun ++ rest)) 0 [])
-first_long [] rest is = omega arith
-first_long (byte ∷ begun) rest is =
-    rw (put_other byte (begun ++ rest) (lines_of (begun ++ rest)) (All-head (λ b. b ≢ line_feed) byte begun is) refl)
-    (longer (lines_of (begun ++ rest)) (first_long begun rest (All-tail (λ b. b ≢ line_feed) byte begun is)))
-  where
-    longer : (lines : List Bytes) → length begun ≤ length (get_or lines 0 []) → length (byte ∷ begun) ≤ length (get_or (begin_line byte lines) 0 [])
-    longer [] h = omega arith
-    longer (line ∷ lines) h = omega arith
+-- and not both: the next line fits
+next_fits : (lines : List Bytes) (line : Bytes) (others : List Bytes) → IsWithinLimits (lines ++ line ∷ others) → (length lines < max_lines) × IsShort line
+next_fits lines line others within = (
+  omega (arith, within.few, length-append lines (line ∷ others)),
+  All-head IsShort line others (rw drop-append_seam at (All-drop IsShort (length lines) (lines ++ line ∷ others) within.short)),
+)
 
 pub never_both : (input : Bytes) → IsWithinLimits (lines_of input) → ¬ Stops IsPastLimit input
-never_both input within passes = contradicts passes.cause
+never_both input within passes = inside (split_every passes.later) passes.cause
   where
-    later : List Bytes
-    later = lines_of passes.later
+    lines : (later : List Bytes) → lines_of passes.later ≡ later → IsWithinLimits (passes.lines ++ later)
+    lines later same = rw (lines_of-split input passes.lines passes.later passes.split, same) at within
 
-    split : lines_of input ≡ passes.lines ++ later
-    split = lines_of-split input passes.lines passes.later passes.split
-
-    short : All IsShort later
-    short = rw (split, drop-append_seam) at (All-drop IsShort (length passes.lines) (lines_of input) within.short)
-
-    contradicts : IsPastLimit (length passes.lines) passes.later → ⊥
-    contradicts (inl (many, some)) = omega (arith, many, within.few, ap length split, length-append passes.lines later, some_line passes.later some)
-    contradicts (inr long) =
-        let some : 0 < length later = some_line passes.later (omega (arith, long.long, ap length long.joined, length-append long.begun long.rest)) in
-        let first : IsShort (get_or (lines_of (long.begun ++ long.rest)) 0 []) = rw (← long.joined) (All-get_or IsShort later 0 [] some short) in
-        omega (arith, first, long.long, first_long long.begun long.rest long.line)
+    inside : (lines : List Bytes) × (rest : Bytes) × IsSplit passes.later lines rest × IsLine rest → ¬ IsPastLimit (length passes.lines) passes.later
+    inside (line ∷ others, rest, split, is) =
+        line_inside _ _ line _ (split.joined ∙ append_assoc line (line_feed ∷ ended_lines others) rest)
+        (next_fits passes.lines line (others ++ lines_of rest) (lines _ (lines_of-split passes.later (line ∷ others) rest split)))
+    inside ([], [], split, is) = begun_inside _ _ (λ some. absurd (omega (arith, ap length split.joined))) (omega (arith, ap length split.joined))
+    inside ([], byte ∷ bytes, split, is) =
+        let fits = next_fits passes.lines (byte ∷ bytes) [] (lines _ (ap lines_of split.joined ∙ lines_of-last (byte ∷ bytes) is (omega arith))) in
+        begun_inside _ _ (λ some. fits.0) (rw split.joined fits.1)

@@ -6,9 +6,10 @@ use Rattle.geoarrow_layout.specs.Shapes.{IsBytes, IsText, Accepts}
 use Rattle.geoarrow_layout.specs.Inferred.{IsInferredAs, IsInferredSize, Inferred}
 use Rattle.geoarrow_meta.specs.Laws.{text_denotes_one}
 use Rattle.geoarrow_schema.specs.Infers.{InferredAs, InfersAs, Infers, IsStored}
+use Rattle.geoarrow_schema.proofs.Reading.{read_has_name}
 use Rattle.geoarrow_columns.specs.Same.{SameColumn}
-use Rattle.geoarrow_fields.specs.Reports.{SameReport}
-use Rattle.geoarrow_fields.proofs.Terms.{FieldTree, Text, Tree, fixed_size_list, struct, extension_metadata, CoordType, Interleaved, Separated, Dimension, XY, XYM, XYZ, XYZM, Point, Width, Large, Plain, View, Kind, Native, Wkb, Wkt, coord_type_of, dimension_of, extension_of, name_of, DenotesMetadata, normal, printed, ReadsAs, GeoArrowType, SameType, kind_of, meta_of, HasGeoArrowName, Reads, IsCanonical, rewritten, ColumnFault, Arrow, InvalidGeoArrow, Column, Faulty, Geometry, OfInferred, Other, IsColumnOf, IsRefused, IsRefusedFor, IsReport, IsUnread, field_of_line, line_of_field, Command, Canon, Columns, Infer, Read, Done, Bytes, line_feed, lines_of, Answers, AnswersField, AnswersNoType, column_text, coord_type_word, dimension_word, error_text, inferred_text, kind_word, metadata_word, type_text, Answered, Means}
+use Rattle.geoarrow_fields.specs.Answer.{SameReport}
+use Rattle.geoarrow_fields.proofs.Terms.{FieldTree, Text, Tree, fixed_size_list, struct, extension_metadata, CoordType, Interleaved, Separated, Dimension, Point, Width, Plain, Kind, Native, Wkb, Wkt, coord_type_of, dimension_of, extension_of, name_of, DenotesMetadata, normal, printed, ReadsAs, GeoArrowType, SameType, kind_of, meta_of, HasGeoArrowName, Reads, IsCanonical, rewritten, ColumnFault, Arrow, InvalidGeoArrow, Column, Faulty, Geometry, OfInferred, Other, IsColumnOf, IsRefused, IsRefusedFor, IsReport, IsUnread, field_of_line, line_of_field, Command, Canon, Columns, Infer, Read, Done, Bytes, line_feed, lines_of, Answers, AnswersField, AnswersNoType, column_text, coord_type_word, dimension_word, error_text, inferred_text, kind_word, metadata_word, type_text, Answered, Means}
 
 -- ---- a data type is inferred as one kind
 
@@ -19,18 +20,10 @@ abbrev pub IsOneKind : Type 0
 IsOneKind = (name : Text) (t : Tree) (k l : Kind) → Accepts name t k → Accepts name t l → k ≡ l
 
 one_of_names : (names : List Text) → One (λ (d : Dimension). IsInferredAs d names)
-one_of_names names XYZ XYM h k = absurd (h.1 k.1)
-one_of_names names XYM XYZ h k = absurd (k.1 h.1)
-one_of_names names XY XY h k = refl
-one_of_names names XYZM XYZM h k = refl
-one_of_names names _ _ h k = grind arith
+one_of_names names d e h k = grind arith
 
 one_of_size : (name : Text) (size : ℤ) → One (λ (d : Dimension). IsInferredSize d name size)
-one_of_size name size XYZ XYM h k = absurd (h.1 k.1)
-one_of_size name size XYM XYZ h k = absurd (k.1 h.1)
-one_of_size name size XY XY h k = refl
-one_of_size name size XYZM XYZM h k = refl
-one_of_size name size _ _ h k = grind arith
+one_of_size name size d e h k = grind arith
 
 one_point : (t : Tree) (c b : CoordType) (d e : Dimension) → Inferred t c d → Inferred t b e → Native Point c d ≡ Native Point b e
 one_point (struct fs) Separated Separated d e h k = ap (Native Point Separated) (one_of_names _ d e h.1 k.1)
@@ -46,19 +39,14 @@ not_stored t c d (Wkt _) h k = subst (λ x. Inferred x c d) k h
 not_stored t c d _ h k = k
 
 apart : (t : Tree) (w v : Width) → IsBytes w t → IsText v t → ⊥
-apart t Plain Plain h k = cc
-apart t Large Large h k = cc
-apart t View View h k = cc
-apart t _ _ h k = cc
+apart t w v h k = grind arith
 
 one_inferred : IsOneKind → (t : Tree) → One (InferredAs t)
 one_inferred one_kind t (Native Point c d) (Native Point b e) h k = one_point t c b d e h k
 one_inferred one_kind t (Wkb w) (Wkb v) h k = one_kind (name_of (Wkb w)) t (Wkb w) (Wkb v) (refl, h) (refl, k)
 one_inferred one_kind t (Wkt w) (Wkt v) h k = one_kind (name_of (Wkt w)) t (Wkt w) (Wkt v) (refl, h) (refl, k)
-one_inferred one_kind t (Native Point c d) (Wkb w) h k = absurd (not_stored t c d (Wkb w) h k)
-one_inferred one_kind t (Native Point c d) (Wkt w) h k = absurd (not_stored t c d (Wkt w) h k)
-one_inferred one_kind t (Wkb w) (Native Point c d) h k = absurd (not_stored t c d (Wkb w) k h)
-one_inferred one_kind t (Wkt w) (Native Point c d) h k = absurd (not_stored t c d (Wkt w) k h)
+one_inferred one_kind t (Native Point c d) l h k = absurd (not_stored t c d l h k)
+one_inferred one_kind t k (Native Point c d) h l = absurd (not_stored t c d k l h)
 one_inferred one_kind t (Wkb w) (Wkt v) h k = absurd (apart t w v h k)
 one_inferred one_kind t (Wkt w) (Wkb v) h k = absurd (apart t v w k h)
 one_inferred one_kind t _ _ h k = search
@@ -88,6 +76,9 @@ pub infers_parts : (f : FieldTree) (g : GeoArrowType) → Infers f g → ¬ HasG
 unfolding InfersAs
 infers_parts f g i = (i.0, i.1)
 
+unnamed : (f : FieldTree) (g : GeoArrowType) → Infers f g → ¬ HasGeoArrowName f
+unnamed f g i = (infers_parts f g i).0
+
 refused : (f : FieldTree) (fault : ColumnFault) → IsRefusedFor f fault → IsRefused f
 refused f Arrow h = h.0
 refused f InvalidGeoArrow h = h.0
@@ -99,12 +90,7 @@ faulty f Arrow (inl h) = inl h.0
 faulty f Arrow (inr h) = inr h
 
 one_fault : (f : FieldTree) → One (λ fault. IsColumnOf f (Faulty fault))
-one_fault f Arrow InvalidGeoArrow (inl h) k = absurd (h.1 k.1)
-one_fault f Arrow InvalidGeoArrow (inr h) k = absurd (h.0 k.0.0)
-one_fault f InvalidGeoArrow Arrow h (inl k) = absurd (k.1 h.1)
-one_fault f InvalidGeoArrow Arrow h (inr k) = absurd (k.0 h.0.0)
-one_fault f Arrow _ h k = refl
-one_fault f _ _ h k = refl
+one_fault f e d h k = grind arith
 
 faulty_for : (f : FieldTree) (fault : ColumnFault) → IsRefusedFor f fault → IsColumnOf f (Faulty fault)
 faulty_for f Arrow h = inl h
@@ -154,21 +140,10 @@ module _ (one_kind : IsOneKind) where
 
   pub one_column : (f : FieldTree) (c d : Column) → IsColumnOf f c → IsColumnOf f d → SameColumn c d
   one_column f (Geometry g) (Geometry h) r s = one_reading f g h r s
-  one_column f (Geometry g) (OfInferred h) r s = absurd ((infers_parts f h s).0 (reads_parts f g r).0)
-  one_column f (Geometry g) Other r s = absurd (s.0 (reads_parts f g r).0)
-  one_column f (Geometry g) (Faulty e) r s = absurd (not_read f e g s r)
-  one_column f (OfInferred g) (Geometry h) r s = absurd ((infers_parts f g r).0 (reads_parts f h s).0)
   one_column f (OfInferred g) (OfInferred h) r s = one_inference f g h r s
-  one_column f (OfInferred g) Other r s = absurd (s.1 (kind_of g) (meta_of g) r)
-  one_column f (OfInferred g) (Faulty e) r s = absurd (not_inferred f e g s r)
-  one_column f Other (Geometry h) r s = absurd (r.0 (reads_parts f h s).0)
-  one_column f Other (OfInferred h) r s = absurd (r.1 (kind_of h) (meta_of h) s)
   one_column f Other Other r s = tt
-  one_column f Other (Faulty e) r s = absurd (not_other f e s r)
-  one_column f (Faulty e) (Geometry h) r s = absurd (not_read f e h r s)
-  one_column f (Faulty e) (OfInferred h) r s = absurd (not_inferred f e h r s)
-  one_column f (Faulty e) Other r s = absurd (not_other f e r s)
   one_column f (Faulty e) (Faulty d) r s = one_fault f e d r s
+  one_column f _ _ r s = grind (arith, not_read, not_inferred, not_other, unnamed, read_has_name)
 
   pub one_report : (fs : List FieldTree) (cs ds : List Column) → IsReport fs cs → IsReport fs ds → SameReport cs ds
   one_report [] [] [] r s = tt

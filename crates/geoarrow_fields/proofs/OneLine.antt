@@ -1,23 +1,23 @@
 -- An answer holds no line feed.
-use Rattle.std.proofs.Common.{◌≡◌, ◌≢◌, inl, inr, ◌==◌, ◌∷◌, [], ◌++◌, ◌∙◌, List, suc, length, All, Bool, true, not, Option, Some, None, option_map, codes, refl, sym, ap, subst, true≢false}
+use Rattle.std.proofs.Common.{◌≡◌, ◌≢◌, inl, inr, ◌==◌, ◌∷◌, [], ◌++◌, ◌∙◌, List, suc, length, All, Bool, true, not, Option, Some, None, option_map, codes, refl, sym, ap, subst, append_assoc, true≢false}
 use Rattle.std.specs.Prelude.{MatchOption}
 use Rattle.std.specs.List.{list_all}
 use Rattle.std.proofs.lemmas.Bool.{eq-eqb}
 use Rattle.std.proofs.lemmas.List.Elements.{All-append, All-weaker}
 use Rattle.std.proofs.lemmas.List.Sums.{AllPass-from_list_all}
 use Rattle.geoarrow_fields.proofs.Limits.{lines_of-line}
-use Rattle.geoarrow_fields.proofs.Terms.{Data, compact_text, FieldTree, Text, extension_metadata, CoordType, Interleaved, Dimension, XY, Point, Plain, Kind, Native, Wkb, Wkt, coord_type_of, dimension_of, DenotesMetadata, meta_value, GeoArrowType, kind_of, meta_of, ColumnFault, Arrow, InvalidGeoArrow, Column, Faulty, Geometry, OfInferred, Other, IsColumnOf, is_held, field_of_line, value_of_field, Command, Canon, Columns, Infer, Read, Done, Bytes, IsLine, line_feed, lines_of, Answers, AnswersField, AnswersNoType, column_text, coord_type_word, dimension_word, error_text, inferred_text, kind_word, metadata_word, type_text, Answered, Means}
+use Rattle.geoarrow_fields.proofs.Terms.{Data, compact_text, FieldTree, Text, extension_metadata, Kind, coord_type_of, dimension_of, DenotesMetadata, meta_value, printed, GeoArrowType, kind_of, meta_of, ColumnFault, Arrow, InvalidGeoArrow, Column, Faulty, Geometry, OfInferred, Other, IsColumnOf, is_held, field_of_line, value_of_field, Command, Canon, Columns, Infer, Read, Done, Bytes, IsLine, line_feed, lines_of, Answers, AnswersField, AnswersNoType, column_text, coord_type_word, dimension_word, error_text, inferred_text, kind_word, metadata_word, type_text, Answered, Means}
 use Rattle.geoarrow_fields.proofs.Extension.{PutIsHeld}
 use Rattle.geoarrow_fields.proofs.OneAnswer.{reads_parts, infers_parts}
+use Rattle.geoarrow_fields.proofs.Layouts.{each_kind}
 use Rattle.geoarrow_fields.proofs.Canon.{IsHeldIf, ReadIsHeld, IsUtf8Written, FieldIsHeld, metadata_held, canonical_held}
 
 -- ---- words
 
-has_no_feed : Bytes → Bool
+abbrev has_no_feed : Bytes → Bool
 has_no_feed bytes = list_all (λ b. not (b == line_feed)) bytes
 
 word : (bytes : Bytes) → has_no_feed bytes ≡ true → IsLine bytes
-unfolding has_no_feed
 word bytes h =
     All-weaker _ (λ b. b ≢ line_feed) (λ b other e. true≢false (sym other ∙ ap not (eq-eqb b line_feed e))) bytes
     (AllPass-from_list_all (λ b. not (b == line_feed)) bytes h)
@@ -25,34 +25,9 @@ word bytes h =
 joined : (a b : Bytes) → IsLine a → IsLine b → IsLine (a ++ b)
 joined a b = All-append (λ b. b ≢ line_feed) a b
 
-spaced : (a b : Bytes) → IsLine a → IsLine b → IsLine (a ++ codes " " ++ b)
-unfolding has_no_feed
-spaced a b h k = joined _ b (joined a _ h (word (codes " ") refl)) k
-
-kind_fine : (k : Kind) → has_no_feed (kind_word k) ≡ true
-unfolding has_no_feed
-kind_fine (Native Point c d) = refl
-kind_fine (Native _ c d) = refl
-kind_fine (Wkb Plain) = refl
-kind_fine (Wkb _) = refl
-kind_fine (Wkt Plain) = refl
-kind_fine (Wkt _) = refl
-kind_fine _ = refl
-
-coord_type_fine : (c : Option CoordType) → has_no_feed (coord_type_word c) ≡ true
-unfolding has_no_feed
-coord_type_fine (Some Interleaved) = refl
-coord_type_fine _ = refl
-
-dimension_fine : (d : Option Dimension) → has_no_feed (dimension_word d) ≡ true
-unfolding has_no_feed
-dimension_fine (Some XY) = refl
-dimension_fine _ = refl
-
-error_fine : (fault : ColumnFault) → (has_no_feed (error_text fault) ≡ true) × (has_no_feed (column_text (Faulty fault)) ≡ true)
-unfolding has_no_feed
-error_fine Arrow = (refl, refl)
-error_fine InvalidGeoArrow = (refl, refl)
+error_line : (fault : ColumnFault) → IsLine (error_text fault) × IsLine (column_text (Faulty fault))
+error_line Arrow = (word (codes "error arrow") refl, word (codes "faulty arrow") refl)
+error_line InvalidGeoArrow = (word (codes "error invalid") refl, word (codes "faulty invalid") refl)
 
 -- ---- answers
 
@@ -60,15 +35,19 @@ abbrev pub IsOneLine : Type 0
 IsOneLine = (d : Data) → is_held d ≡ true → All (λ b. b ≢ 10) (compact_text d)
 
 metadata_line : IsOneLine → (o : Option Data) → IsHeldIf o → IsLine (metadata_word (option_map compact_text o))
-unfolding has_no_feed
 metadata_line line None h = word (codes "-") refl
 metadata_line line (Some d) h = line d h
+
+-- what stands before the metadata
+abbrev head : Kind → Bytes
+head k = kind_word k ++ codes " " ++ coord_type_word (coord_type_of k) ++ codes " " ++ dimension_word (dimension_of k) ++ codes " "
 
 type_line : IsOneLine → (g : GeoArrowType) → IsHeldIf (meta_value (meta_of g)) → IsLine (type_text g)
 type_line line g h =
     let k = kind_of g in
-    spaced _ _ (spaced _ _ (spaced _ _ (word _ (kind_fine k)) (word _ (coord_type_fine (coord_type_of k)))) (word _ (dimension_fine (dimension_of k))))
-    (metadata_line line (meta_value (meta_of g)) h)
+    let text = metadata_word (printed (meta_of g)) in
+    let same : head k ++ text ≡ type_text g = simp append_assoc in
+    subst IsLine same (joined (head k) text (word (head k) (each_kind (λ k. has_no_feed (head k)) refl k)) (metadata_line line (meta_value (meta_of g)) h))
 
 module _ (put_is : PutIsHeld) (read_is : ReadIsHeld) (utf8 : IsUtf8Written) (field_is : FieldIsHeld) (one_line : IsOneLine) where
   module _ (line : Text) (f : FieldTree) (is : field_of_line line ≡ Some f) where
@@ -76,16 +55,14 @@ module _ (put_is : PutIsHeld) (read_is : ReadIsHeld) (utf8 : IsUtf8Written) (fie
     of_type g denotes = type_line one_line g (metadata_held put_is read_is utf8 field_is line f is (meta_of g) denotes)
 
     column_lines : (c : Column) → IsColumnOf f c → IsLine (column_text c) × IsLine (inferred_text c)
-    unfolding has_no_feed
     column_lines (Geometry g) r = let text = of_type g (reads_parts f g r).1 in (joined (codes "geometry ") (type_text g) (word (codes "geometry ") refl) text, text)
     column_lines (OfInferred g) r = let text = of_type g (infers_parts f g r).1 in (joined (codes "inferred ") (type_text g) (word (codes "inferred ") refl) text, text)
     column_lines Other r = (word (codes "other") refl, word (codes "error invalid") refl)
-    column_lines (Faulty fault) r = (word _ (error_fine fault).1, word _ (error_fine fault).0)
+    column_lines (Faulty fault) r = ((error_line fault).1, (error_line fault).0)
 
     no_type_line : (answer : Bytes) → AnswersNoType f answer → IsLine answer
-    unfolding has_no_feed
     no_type_line answer (inl x) = subst IsLine (sym x.1) (word (codes "none") refl)
-    no_type_line answer (inr (fault, refused, x)) = subst IsLine (sym x) (word _ (error_fine fault).0)
+    no_type_line answer (inr (fault, refused, x)) = subst IsLine (sym x) (error_line fault).0
 
     field_line : (command : Command) (answer : Bytes) → AnswersField command f answer → IsLine answer
     field_line Read answer (inl (g, r, x)) = subst IsLine (sym x) (of_type g (reads_parts f g r).1)
@@ -96,7 +73,7 @@ module _ (put_is : PutIsHeld) (read_is : ReadIsHeld) (utf8 : IsUtf8Written) (fie
     field_line Columns answer (c, r, x) = subst IsLine (sym x) (column_lines c r).0
 
   pub answer_line : (command : Command) (line answer : Bytes) → Answers command line answer → IsLine answer
-  unfolding Answers has_no_feed
+  unfolding Answers
   answer_line command line answer = by (field_of_line line) refl
     where
       by : (o : Option FieldTree) → field_of_line line ≡ o → MatchOption o (answer ≡ codes "error field") (λ f. AnswersField command f answer) → IsLine answer

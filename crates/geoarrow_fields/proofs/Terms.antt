@@ -1,5 +1,5 @@
 -- The names of the specs that most proofs cite, passed on from one place. Declares nothing.
-pub use Rattle.std.specs.Str.{is_utf8}
+unfoldable pub use Rattle.std.specs.Str.{is_utf8}
 pub use Rattle.serde_json.specs.Data.{Data, boolean, depth, member, members_depth, no_members, null, object, put, string, Members}
 pub use Rattle.serde_json.specs.Read.{max_depth, read}
 pub use Rattle.serde_json.specs.Written.{compact_text, has_float}
@@ -40,7 +40,9 @@ pub use Rattle.geoarrow_fields.specs.declared.Command.{Command}
 pub use Rattle.geoarrow_fields.specs.declared.Command.TheVariants.{Canon, Columns, Infer, Read}
 pub use Rattle.geoarrow_fields.specs.declared.RunEnd.{RunEnd}
 pub use Rattle.geoarrow_fields.specs.declared.RunEnd.TheVariants.{Done, InputFault, Memory, OutputFault}
-pub use Rattle.geoarrow_fields.specs.Lines.{Bytes, IsLine, IsPastLimit, IsSplit, IsWithinLimits, Stops, begin_line, ended_lines, line_feed, lines_of, max_line_bytes, max_lines}
+pub use Rattle.geoarrow_fields.specs.Lines.{Bytes, IsLine, IsPastLimit, IsSplit, IsWithinLimits, Stops, ended_lines, line_feed, lines_of, max_line_bytes, max_lines}
 unfoldable pub use Rattle.geoarrow_fields.specs.Answer.{Answered, Answers}
 pub use Rattle.geoarrow_fields.specs.Answer.{AnswersField, AnswersNoType, Means, ReadsAndWrites, RunsTo, column_text, coord_type_word, dimension_word, error_text, inferred_text, kind_word, metadata_word, type_text}
-pub use Rattle.geoarrow_fields.specs.Progress.{AnswersNext, AnswersUntil, AppendsSome, FrontOf, IsBegun, IsShort, NextLines}
+pub use Rattle.geoarrow_fields.specs.declared.output.Fault.{Fault}
+pub use Rattle.geoarrow_fields.specs.declared.output.Fault.TheVariants.{Input, Memory as NoMemory, Output}
+pub use Rattle.geoarrow_fields.specs.Progress.{AnswersUntil, AppendsSome, Breaks, FrontOf, HasCome, IsAt, IsBegun, IsMeant, IsStopped, Leads, bytes_come}

@@ -1,33 +1,26 @@
--- What a writer holds grows; a run under way, and its ends. Over plain variables.
-use Rattle.std.proofs.Common.{◌≡◌, ℕ, List, [], ◌∷◌, ◌++◌, ◌-◌, length, take, drop, Option, Result, Ok, Err, IfErr, refl, sym, ap, ◌∙◌, subst, append_assoc, append-nil, ◌+◌, ◌*◌, ◌<◌, length-append, arith}
-use Rattle.std.proofs.lemmas.List.{take-append-drop, take_rest}
-use Rattle.std.proofs.KnownBytes.{Appends-trans, Appends-nil, Consumes-nil, Consumes-trans}
-use Rattle.std.specs.Io.KnownBytes.{Appends, Consumes}
-use Rattle.std.specs.Result.{IsErrAnd}
-use Rattle.geoarrow_fields.proofs.Terms.{Command, Bytes, line_feed, Answers, Answered, AppendsSome, FrontOf, Done, OutputFault, lines_of, max_lines, max_line_bytes, IsSplit, Stops, Means, ReadsAndWrites, RunsTo, IsBegun, AnswersNext, AnswersUntil}
+-- What a writer holds grows; a run under way, line by line, and its ends. Over plain variables.
+use Rattle.std.proofs.Common.{◌≡◌, ◌≢◌, ◌⊎◌, inl, ℕ, suc, List, [], ◌∷◌, ◌++◌, ◌-◌, ◌+◌, ◌<◌, ◌≤◌, true, eqb, length, take, drop, get_or, All, Option, Some, None, Result, Ok, Err, IfErr, codes, refl, sym, ap, ◌∙◌, subst, append_assoc, append-nil, length-append, length-take, drop-cons, take_all, add-one, arith}
 use Rattle.std.specs.Prelude.{⊤}
-use Rattle.geoarrow_fields.proofs.Limits.{lines_of-split, lines_none, lines_after, all_within, stops}
+use Rattle.std.specs.Result.{IsErrAnd}
+use Rattle.std.specs.Io.KnownBytes.{Appends, Consumes, Keeps}
+use Rattle.std.proofs.KnownBytes.{Appends-trans, Appends-nil, Appends-kept, Consumes-nil, Consumes-trans, Consumes-kept, Keeps-refl}
+use Rattle.std.proofs.lemmas.Bool.{eq-eqb, eqb-true}
+use Rattle.std.proofs.lemmas.List.{take-append-drop, take_rest, get_or-take}
+use Rattle.std.proofs.lemmas.List.Elements.{All-from_get_or, All-nil, All-cons, All-append}
+use Rattle.memchr.specs.Find.{is_byte, IsFirstByte}
+use Rattle.geoarrow_fields.proofs.Terms.{Command, Bytes, line_feed, Answers, Answered, AppendsSome, FrontOf, Breaks, Done, OutputFault, Fault, Input, NoMemory, Output, lines_of, max_lines, max_line_bytes, IsLine, IsPastLimit, Stops, Means, ReadsAndWrites, IsBegun, IsAt, AnswersUntil, HasCome, IsMeant, IsStopped}
+use Rattle.geoarrow_fields.proofs.Limits.{IsShort, lines_of-last, stops_first, stops_longer, stops_next, stops_for, stops_last, limit_passed, line_inside, begun_inside}
 
 -- ---- faults, and what a writer holds
 
--- what follows from a fault that is handed on
-pub handed_on : {T E R : Type 0} {Q : E → Type 0} (r : Result T E) (x : E) → IsErrAnd r Q → ((e : E) → Q e → e ≡ x → R) → IfErr r (λ e. e ≡ x → R)
-handed_on (Ok _) x is f = absurd is
-handed_on (Err e) x is f = f e is
-
--- what a fault tells, and what follows from it
-pub on_fault : {T E R S : Type 0} (r : Result T E) (x : E) → IfErr r (λ e. e ≡ x → R) → (R → S) → IfErr r (λ e. e ≡ x → S)
-on_fault (Ok _) x h f = tt
-on_fault (Err e) x h f = λ is. f (h is)
-
--- more output after output
-pub appends_after : (First More Both : Bytes → Type 0) (old mid new : Option Bytes) → ((a b : Bytes) → First a → More b → Both (a ++ b))
-    → AppendsSome First old mid → AppendsSome More mid new → AppendsSome Both old new
-appends_after First More Both old mid new join (a, is, first) (b, so, more) = (a ++ b, join a b is so, Appends-trans old mid new a b first more)
-
--- a front part of it
+-- a front part of more output after output
 pub front_after : (More Both : Bytes → Type 0) (a : Bytes) → ((b : Bytes) → More b → Both (a ++ b)) → (b : Bytes) → FrontOf More b → FrontOf Both (a ++ b)
 front_after More Both a join b (back, is) = (back, subst Both (sym (append_assoc a b back)) (join (b ++ back) is))
+
+-- what follows from a fault that is handed on
+pub handed_on : {T E : Type 0} (P : E → Type 0) (r : Result T E) (x : E) → IsErrAnd r (λ e. e ≡ x) → P x → IfErr r P
+handed_on P (Ok _) x is h = absurd is
+handed_on P (Err e) x is h = subst P (sym is) h
 
 -- an answer to a line, with its line feed, answers that line
 module _ (command : Command) (line text answer : Bytes) (same : text ≡ answer) (is : Answers command line answer) where
@@ -74,113 +67,160 @@ pub write_goes_on : (text rest : Bytes) (n : ℕ) (old mid new : Option Bytes) �
 write_goes_on text rest n old mid new (done, split, before) more =
     (done ++ take n rest, rw (append_assoc, take_rest, take-append-drop) split, Appends-trans old mid new done (take n rest) before more)
 
--- ---- more is read and written
+-- ---- a run goes on
 
-continues : (Before After : Bytes → Bytes → Type 0) (More : Bytes → Type 0) (i j k o p q : Option Bytes) (piece : Bytes)
-    → ((input output more : Bytes) → Before input output → More more → After (input ++ piece) (output ++ more))
-    → ReadsAndWrites Before i j o p → Consumes j k piece → AppendsSome More p q → ReadsAndWrites After i k o q
-continues Before After More i j k o p q piece join run read (more, is, grown) = record {
-  input = run.input ++ piece;
+-- by more that it writes
+pub writes : (Before After : Bytes → Bytes → Type 0) (More : Bytes → Type 0) {i j o p q : Option Bytes} → ((input output more : Bytes) → Before input output → More more → After input (output ++ more))
+    → ReadsAndWrites Before i j o p → AppendsSome More p q → ReadsAndWrites After i j o q
+writes Before After More {i} {j} {o} {p} {q} join run (more, is, grown) = record {
+  input = run.input;
   output = run.output ++ more;
-  consumed = Consumes-trans i j k run.input piece run.consumed read;
+  consumed = run.consumed;
   written = Appends-trans o p q run.output more run.written grown;
   is = join run.input run.output more run.is is;
 }
 
--- nothing more is read
-pub writes_more : (Before After : Bytes → Bytes → Type 0) (More : Bytes → Type 0) (i j k o p q : Option Bytes)
-    → ((input output more : Bytes) → Before input output → More more → After input (output ++ more))
-    → ReadsAndWrites Before i j o p → Consumes j k [] → AppendsSome More p q → ReadsAndWrites After i k o q
-writes_more Before After More i j k o p q join run read grown =
-    continues Before After More i j k o p q []
-    (λ input output more is so. rw (append-nil input) (join input output more is so)) run read grown
+-- or by a front part of it
+pub writes_front : (Before After : Bytes → Bytes → Type 0) (More : Bytes → Type 0) {i j o p q : Option Bytes} → ((input output more : Bytes) → Before input output → More more → After input (output ++ more))
+    → ReadsAndWrites Before i j o p → AppendsSome (FrontOf More) p q → ReadsAndWrites (λ input. FrontOf (After input)) i j o q
+writes_front Before After More join =
+    writes Before (λ input. FrontOf (After input)) (FrontOf More) (λ input output more is. front_after More (After input) output (λ whole. join input output whole is) more)
 
--- and only a front part is written
-pub writes_front : (Before Meant : Bytes → Bytes → Type 0) (More : Bytes → Type 0) (i j k o p q : Option Bytes)
-    → ((input output more : Bytes) → Before input output → More more → Meant input (output ++ more))
-    → ReadsAndWrites Before i j o p → Consumes j k [] → AppendsSome (FrontOf More) p q → ReadsAndWrites (λ input. FrontOf (Meant input)) i k o q
-writes_front Before Meant More i j k o p q join =
-    writes_more Before (λ input. FrontOf (Meant input)) (FrontOf More) i j k o p q (λ input output more is. front_after More (Meant input) output (λ whole. join input output whole is) more)
-
--- ---- a run under way
-
--- nothing is read yet
-pub way_starts : (command : Command) {begun : Bytes} {i o : Option Bytes} → begun ≡ [] → ReadsAndWrites (λ input. AnswersNext command 0 input 0 begun) i i o o
+-- nothing has come yet
+pub way_starts : (command : Command) {begun : Bytes} {i o : Option Bytes} → begun ≡ [] → HasCome command 0 begun i i o o
 way_starts command {begun} {i} {o} none =
-    rw none (record { input = []; output = []; consumed = Consumes-nil i; written = Appends-nil o; is = (lines_none 0 [] (omega arith), answered_none command []) })
+    rw none (record { input = []; output = []; consumed = Consumes-nil i; written = Appends-nil o; is = (stops_first [], answered_none command []) })
 
-module _ (command : Command) {count : ℕ} {begun : Bytes} {i j o p : Option Bytes}
-    (way : ReadsAndWrites (λ input. AnswersNext command 0 input count begun) i j o p) (k q : Option Bytes) where
-  -- nothing more is read or written
-  pub way_stops : (Cause : ℕ → Bytes → Type 0) → Cause count begun → Consumes j k [] → Appends p q [] → ReadsAndWrites (AnswersUntil Cause command 0) i k o q
-  way_stops Cause cause read kept =
-      writes_more _ (AnswersUntil Cause command 0) (λ more. more ≡ []) i j k o p q
-      (λ input output more next none. subst (AnswersUntil Cause command 0 input) (sym (ap (λ l. output ++ l) none ∙ append-nil output))
-      (count, begun, next, cause)) way read ([], refl, kept)
+module _ (command : Command) {count : ℕ} {later : Bytes} {i j o p : Option Bytes} (way : HasCome command count later i j o p) where
+  -- a piece of the input is read
+  pub way_reads : (piece : Bytes) (k : Option Bytes) → Consumes j k piece → HasCome command count (later ++ piece) i k o p
+  way_reads piece k read = record {
+    input = way.input ++ piece;
+    output = way.output;
+    consumed = Consumes-trans i j k way.input piece way.consumed read;
+    written = way.written;
+    is = (stops_longer count later way.input piece way.is.0, way.is.1);
+  }
 
-  -- all is read, and what is begun is answered
-  module _ (is : IsBegun count begun) (read : Consumes j k []) where
-    all : (input output more : Bytes) → AnswersNext command 0 input count begun output → Answered command [] (lines_of begun) more
-        → Means command Done input (output ++ more)
-    all input output more (next, answers) last = (
-      all_within count input begun next is,
-      subst (λ l. Answered command [] l (output ++ more)) (sym (lines_of-split input next.lines begun next.split))
-          (answered_after command [] next.lines (lines_of begun) output more answers last),
-    )
+  -- it ends there, with a last text
+  pub way_stops : (Cause : ℕ → Bytes → Type 0) (last : Bytes) (k q : Option Bytes) → Cause count later → Keeps j k → Keeps p q
+      → ReadsAndWrites (λ input output. (stop : Stops Cause input) × Answered command last stop.lines (output ++ last)) i k o q
+  way_stops Cause last k q cause read written = record {
+    input = way.input;
+    output = way.output;
+    consumed = Consumes-kept i j k way.input way.consumed read;
+    written = Appends-kept o p q way.output way.written written;
+    is = (stops_for Cause count later way.input way.is.0 cause, answered_then command last way.is.0.lines way.output way.is.1);
+  }
 
-    pub way_done : AppendsSome (Answered command [] (lines_of begun)) p q → ReadsAndWrites (Means command Done) i k o q
-    way_done = writes_more _ (Means command Done) _ i j k o p q all way read
+  pub way_passes : (k : Option Bytes) → IsPastLimit count later ⊎ IsLine later → Keeps j k → IsStopped command Input i k o p
+  way_passes k cause read = way_stops (λ n l. IsPastLimit n l ⊎ IsLine l) (codes "error input\n") k p cause read (Keeps-refl p)
 
-    pub way_breaks_off_at_end : AppendsSome (FrontOf (Answered command [] (lines_of begun))) p q → RunsTo command OutputFault i k o q
-    way_breaks_off_at_end part = (Done, writes_front _ (Means command Done) _ i j k o p q all way read part)
+  way_keeps : (q : Option Bytes) → ¬ IsPastLimit count later → Keeps p q → IsStopped command NoMemory i j o q
+  way_keeps q inside = way_stops (λ n l. ¬ IsPastLimit n l) (codes "error memory\n") j q inside (Keeps-refl j)
 
-  -- a piece of the input comes
-  module _ (piece : Bytes) (read : Consumes j k piece) where
-    after : (input output more : Bytes) (total : ℕ) (later : Bytes) → AnswersNext command 0 input count begun output
-        → AnswersNext command count (begun ++ piece) total later more
-        → AnswersNext command 0 (input ++ piece) total later (output ++ more)
-    after input output more total later (first, answers) (second, others) =
-        (lines_after 0 count total input piece begun later first second, answered_after command [] first.lines second.lines output more answers others)
+  pub way_lacks_memory : (q : Option Bytes) → IsBegun count later → Keeps p q → IsStopped command NoMemory i j o q
+  way_lacks_memory q is = way_keeps q (begun_inside count later is.room is.short)
 
-    pub way_goes_on : {total : ℕ} {later : Bytes} → AppendsSome (AnswersNext command count (begun ++ piece) total later) p q
-        → ReadsAndWrites (λ input. AnswersNext command 0 input total later) i k o q
-    way_goes_on {total} {later} = continues _ _ _ i j k o p q piece (λ input output more. after input output more total later) way read
+  -- a line comes
+  module _ (line rest : Bytes) (q : Option Bytes) (joined : later ≡ line ++ (line_feed ∷ rest)) (is : IsLine line) (fits : (count < max_lines) × IsShort line) where
+    next : (input output more : Bytes) → AnswersUntil (IsAt count later) command input output → Answered command [] (line ∷ []) more → AnswersUntil (IsAt (count + 1) rest) command input (output ++ more)
+    next input output more (stop, answers) answered =
+        (stops_next count later input line rest stop joined is fits, answered_after command [] stop.lines (line ∷ []) output more answers answered)
 
-    pub way_ends : (Cause : ℕ → Bytes → Type 0) {Other : ℕ → Bytes → Type 0} → ((n : ℕ) (l : Bytes) → Cause n l → Other n l)
-        → AppendsSome (AnswersUntil Cause command count (begun ++ piece)) p q
-        → ReadsAndWrites (AnswersUntil Other command 0) i k o q
-    way_ends Cause turn =
-        continues _ _ _ i j k o p q piece
-        (λ input output more first (total, later, next, cause). (total, later, after input output more total later first next, turn total later cause)) way read
+    pub way_answers : AppendsSome (Answered command [] (line ∷ [])) p q → HasCome command (count + 1) rest i j o q
+    way_answers = writes _ (AnswersUntil (IsAt (count + 1) rest) command) (Answered command [] (line ∷ [])) next way
 
-    whole : (input output : Bytes) → AnswersNext command 0 input count begun output → (more : Bytes) → AnswersUntil (λ n l. ⊤) command count (begun ++ piece) more
-        → Means command OutputFault (input ++ piece) (output ++ more)
-    whole input output first more (total, later, next, _) =
-        let (lines, answers) = after input output more total later first next in (stops (λ n l. ⊤) total (input ++ piece) later lines tt, answers)
-
-    pub way_breaks_off : AppendsSome (FrontOf (AnswersUntil (λ n l. ⊤) command count (begun ++ piece))) p q → RunsTo command OutputFault i k o q
-    way_breaks_off part = (
+    pub way_breaks : (fault : Fault) → Breaks fault (Answered command [] (line ∷ [])) p q → IsStopped command fault i j o q
+    way_breaks Input broken = absurd broken
+    way_breaks NoMemory kept = way_keeps q (line_inside count later line rest joined fits) kept
+    way_breaks Output part = (
       OutputFault,
-      continues _ (λ input. FrontOf (Means command OutputFault input)) _ i j k o p q piece (λ input output more first. front_after _ (Means command OutputFault (input ++ piece)) output (whole input output first) more) way read part,
+      writes_front _ (Means command OutputFault) (Answered command [] (line ∷ []))
+          (λ input output more is answered. let (stop, answers) = next input output more is answered in (stops_for (λ n l. ⊤) (count + 1) rest input stop tt, answers)) way part,
     )
 
--- ---- a run ends
+  -- all lines have come
+  module _ (last : List Bytes) (q : Option Bytes) (same : lines_of later ≡ last) (fits : (count + length last ≤ max_lines) × All IsShort last) where
+    all : (input output more : Bytes) → AnswersUntil (IsAt count later) command input output → Answered command [] last more → Means command Done input (output ++ more)
+    all input output more (stop, answers) answered =
+        let (within, lines) = stops_last count later input last same fits stop in
+        (within, rw lines (answered_after command [] stop.lines last output more answers answered))
 
--- how many bytes may still come of an input that is within the limits
-unfoldable pub bytes_left : ℕ → Bytes → ℕ
-bytes_left count begun = (max_lines * (max_line_bytes + 1) + max_line_bytes) - (count * (max_line_bytes + 1) + length begun)
+    pub way_done : AppendsSome (Answered command [] last) p q → IsMeant command Done [] i j o q
+    way_done =
+        writes _ (λ input output. Means command Done input (output ++ [])) (Answered command [] last)
+        (λ input output more is answered. rw (append-nil (output ++ more)) (all input output more is answered)) way
 
--- with each piece that comes, fewer bytes may still come
-pub bytes_left_falls : (count total : ℕ) (begun piece later : Bytes) (lines : List Bytes) → IsSplit (begun ++ piece) lines later → total ≡ count + length lines
-    → IsBegun count begun → IsBegun total later → 0 < length piece
-    → bytes_left total later < bytes_left count begun
-unfolding bytes_left
-bytes_left_falls count total begun piece later [] split counted was is some =
-    omega (arith, counted, was.few, was.short, is.short, ap length split.joined, length-append begun piece)
-bytes_left_falls count total begun piece later (line ∷ lines) split counted was is some = omega (arith, counted, was.few, was.short, is.few, is.short)
+    pub way_done_breaks : (fault : Fault) → IsBegun count later → Breaks fault (Answered command [] last) p q → IsStopped command fault i j o q
+    way_done_breaks Input is broken = absurd broken
+    way_done_breaks NoMemory is kept = way_lacks_memory q is kept
+    way_done_breaks Output is part = (Done, writes_front _ (Means command Done) (Answered command [] last) all way part)
 
--- the last line of a run that stopped for a cause
-pub stopped : (Cause : ℕ → Bytes → Type 0) (command : Command) (last input output : Bytes) → AnswersUntil Cause command 0 input output
-    → (stop : Stops Cause input) × Answered command last stop.lines (output ++ last)
-stopped Cause command last input output (total, later, (next, answers), cause) =
-    (stops Cause total input later next cause, answered_then command last next.lines output answers)
+-- ---- the lines of a chunk
+
+-- what stands before a place up to which no line feed stands is of one line
+line_before : (rest : Bytes) (at : ℕ) → at ≤ length rest → ((k : ℕ) → k < at → eqb (get_or rest k 0) line_feed ≢ true) → IsLine (take at rest)
+line_before rest at within h =
+    All-from_get_or (λ b. b ≢ line_feed) (take at rest) 0
+    (λ k lt is. let less : k < at = omega (arith, length-take at rest) in h k less (eq-eqb _ line_feed (sym (get_or-take at rest k 0 less) ∙ is)))
+
+-- the bytes after a place, as the code has them
+abbrev pub after : Bytes → ℕ → Bytes
+after rest at = take (length rest - (at + 1)) (drop (at + 1) rest)
+
+-- nothing has come of the next line
+pub none_begun : (count : ℕ) → count ≤ max_lines → IsBegun count []
+none_begun count few = record { line = All-nil (λ b. b ≢ line_feed); short = omega arith; few = few; room = λ some. absurd (omega arith) }
+
+-- or what is begun is the last line
+pub begun_last : (count : ℕ) (begun : Bytes) → IsBegun count begun → 0 < length begun
+    → (lines_of (begun ++ []) ≡ (begun ++ []) ∷ []) × ((count + 1 ≤ max_lines) × All IsShort ((begun ++ []) ∷ []))
+begun_last count begun is some =
+    let few : count < max_lines = is.room some in
+    rw (append-nil begun) (lines_of-last begun is.line some, (omega arith, All-cons IsShort begun [] is.short (All-nil IsShort)))
+
+module _ {count : ℕ} (begun rest : Bytes) (is : IsBegun count begun) where
+  -- a line feed stands in the rest
+  module _ (at : ℕ) (found : IsFirstByte (is_byte line_feed) rest (Some at)) where
+    abbrev line : Bytes
+    line = begun ++ take at rest
+
+    joined : begun ++ rest ≡ line ++ (line_feed ∷ after rest at)
+    joined =
+        let here : drop at rest ≡ line_feed ∷ drop (suc at) rest = drop-cons rest at 0 found.0.high ∙ ap (λ b. b ∷ drop (suc at) rest) (eqb-true _ line_feed found.1) in
+        rw (append_assoc, take_rest, add-one, ← here) (ap (λ l. begun ++ l) (sym (take-append-drop at rest)))
+
+    line_is : IsLine line
+    line_is = All-append (λ b. b ≢ line_feed) begun (take at rest) is.line (line_before rest at (omega (arith, found.0.high)) (λ k lt. found.0.before k (omega arith) lt))
+
+    line_length : length begun + at ≡ length line
+    line_length = omega (arith, found.0.high, length-append begun (take at rest), length-take at rest)
+
+    module _ (command : Command) {i j o p : Option Bytes} (way : HasCome command count (begun ++ rest) i j o p) where
+      pub line_passes : (count ≡ max_lines) ⊎ (max_line_bytes < length begun + at) → IsStopped command Input i j o p
+      line_passes past =
+          let some : 0 < length (begun ++ rest) = omega (arith, found.0.high, length-append begun rest) in
+          way_passes command way j (inl (limit_passed count (begun ++ rest) line (line_feed ∷ after rest at) joined line_is some (rw line_length at past))) (Keeps-refl j)
+
+      module _ (fits : (count < max_lines) × (length begun + at ≤ max_line_bytes)) (q : Option Bytes) where
+        pub line_answered : (cleared : Bytes) → cleared ≡ [] → AppendsSome (Answered command [] (line ∷ [])) p q → HasCome command (count + 1) (cleared ++ after rest at) i j o q
+        line_answered cleared clear answer = rw clear (way_answers command way line (after rest at) q joined line_is (rw line_length at fits) answer)
+
+        pub line_breaks : (fault : Fault) → Breaks fault (Answered command [] (line ∷ [])) p q → IsStopped command fault i j o q
+        line_breaks = way_breaks command way line (after rest at) q joined line_is (rw line_length at fits)
+
+  -- no line feed stands in the rest
+  module _ (none : IsFirstByte (is_byte line_feed) rest None) where
+    rest_is : IsLine (begun ++ rest)
+    rest_is =
+        All-append (λ b. b ≢ line_feed) begun rest is.line
+        (subst IsLine (take_all (length rest) rest (omega arith)) (line_before rest (length rest) (omega arith) (λ k lt. none k (omega arith) lt)))
+
+    pub rest_begun : (count < max_lines) × (length begun + length rest ≤ max_line_bytes) → IsBegun count (begun ++ rest)
+    rest_begun (few, short) = record { line = rest_is; short = omega (arith, short, length-append begun rest); few = omega arith; room = λ _. few }
+
+    pub rest_passes : (command : Command) {i j o p : Option Bytes} → HasCome command count (begun ++ rest) i j o p → 0 < length rest → (count ≡ max_lines) ⊎ (max_line_bytes < length begun + length rest) → IsStopped command Input i j o p
+    rest_passes command {i} {j} {o} {p} way some past =
+        let all = begun ++ rest in
+        way_passes command way j (inl (limit_passed count all all [] (sym (append-nil all)) rest_is (omega (arith, some, length-append begun rest)) (rw (← length-append begun rest) at past))) (Keeps-refl j)

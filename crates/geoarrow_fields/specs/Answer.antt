@@ -20,6 +20,7 @@ use Rattle.geoarrow_columns.specs.declared.check.ColumnFault.{ColumnFault}
 use Rattle.geoarrow_columns.specs.declared.check.ColumnFault.TheVariants.{Arrow, InvalidGeoArrow}
 use Rattle.geoarrow_columns.specs.declared.check.Column.{Column}
 use Rattle.geoarrow_columns.specs.declared.check.Column.TheVariants.{Geometry, Inferred, Other, Faulty}
+use Rattle.geoarrow_columns.specs.Same.{SameColumn}
 use Rattle.geoarrow_columns.specs.Report.{IsRefusedFor, IsColumnOf}
 use Rattle.field_lines.specs.Line.{field_of_line, line_of_field}
 use Rattle.geoarrow_fields.specs.declared.Command.{Command}
@@ -89,6 +90,12 @@ inferred_text (Geometry g) = type_text g
 inferred_text (Inferred g) = type_text g
 inferred_text Other = codes "error invalid"
 inferred_text (Faulty fault) = error_text fault
+
+-- two reports on columns say the same: as many entries, each the same as the other's
+abbrev pub SameReport : List Column → List Column → Type 0
+SameReport [] [] = ⊤
+SameReport (c ∷ cs) (d ∷ ds) = SameColumn c d × SameReport cs ds
+SameReport _ _ = ⊥
 
 -- no type, for a field without a name of GeoArrow or one that is refused
 abbrev pub AnswersNoType : FieldTree → Bytes → Type 0

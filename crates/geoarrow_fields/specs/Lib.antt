@@ -2,4 +2,3 @@ pub mod Lines
 pub mod Answer
 pub mod Progress
 pub mod Arguments
-pub mod Reports

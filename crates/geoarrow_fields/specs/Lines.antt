@@ -1,5 +1,6 @@
 -- The lines of an input, and their limits.
 use Rattle.std.specs.Prelude.{◌≡◌, ◌≢◌, ◌⊎◌, ℕ, ◌<◌, ◌≤◌, ◌==◌, List, [], ◌∷◌, ◌++◌, length, All, if◌then◌else◌}
+use Rattle.std.specs.List.{onto_first}
 
 -- the bytes of an input, of a line without its line feed, or of an output
 abbrev pub Bytes : Type 0
@@ -17,15 +18,10 @@ max_lines = 1000000
 abbrev pub max_line_bytes : ℕ
 max_line_bytes = 1048576
 
--- a byte at the head of the first line, which it begins where there is none
-abbrev pub begin_line : ℕ → List Bytes → List Bytes
-begin_line byte [] = (byte ∷ []) ∷ []
-begin_line byte (line ∷ lines) = (byte ∷ line) ∷ lines
-
 -- the lines of an input: a line feed ends each, and the last may lack it
 abbrev pub lines_of : Bytes → List Bytes
 lines_of [] = []
-lines_of (byte ∷ bytes) = if byte == line_feed then [] ∷ lines_of bytes else begin_line byte (lines_of bytes)
+lines_of (byte ∷ bytes) = if byte == line_feed then [] ∷ lines_of bytes else onto_first byte (lines_of bytes)
 
 -- these lines, each with its line feed
 abbrev pub ended_lines : List Bytes → Bytes

@@ -1,13 +1,13 @@
 -- Only private contracts cite it. How far a run has come, inside the loop.
-use Rattle.std.specs.Prelude.{◌≡◌, ℕ, ◌+◌, ◌<◌, ◌≤◌, List, [], ◌++◌, length, All, Option}
-use Rattle.std.specs.Io.KnownBytes.{Appends}
+use Rattle.std.specs.Prelude.{◌≡◌, ℕ, ◌+◌, ◌*◌, ◌<◌, ◌≤◌, [], ◌++◌, length, Option, codes}
+use Rattle.std.specs.Io.KnownBytes.{Appends, Keeps}
 use Rattle.geoarrow_fields.specs.declared.Command.{Command}
-use Rattle.geoarrow_fields.specs.Lines.{Bytes, max_lines, max_line_bytes, IsLine, IsSplit}
-use Rattle.geoarrow_fields.specs.Answer.{Answered}
-
--- it has at most as many bytes as a line may have
-abbrev pub IsShort : Bytes → Type 0
-IsShort line = length line ≤ max_line_bytes
+use Rattle.geoarrow_fields.specs.declared.RunEnd.{RunEnd}
+use Rattle.geoarrow_fields.specs.declared.RunEnd.TheVariants.{InputFault, Memory as OutOfMemory, OutputFault}
+use Rattle.geoarrow_fields.specs.declared.output.Fault.{Fault}
+use Rattle.geoarrow_fields.specs.declared.output.Fault.TheVariants.{Input, Memory, Output}
+use Rattle.geoarrow_fields.specs.Lines.{Bytes, max_lines, max_line_bytes, IsLine, Stops}
+use Rattle.geoarrow_fields.specs.Answer.{Answered, Means, ReadsAndWrites, RunsTo}
 
 -- after `count` lines, what has come of the next one is within the limits
 pub record IsBegun (count : ℕ) (begun : Bytes) : Type 0 where
@@ -16,26 +16,46 @@ pub record IsBegun (count : ℕ) (begun : Bytes) : Type 0 where
   pub few : count ≤ max_lines
   pub room : 0 < length begun → count < max_lines
 
--- after `count` lines, those of the input are within the limits, which makes `total` lines, and `later` comes after them
-pub record NextLines (count : ℕ) (input : Bytes) (total : ℕ) (later : Bytes) : Type 0 where
-  pub lines : List Bytes
-  pub split : IsSplit input lines later
-  pub short : All IsShort lines
-  pub counted : total ≡ count + length lines
-  pub few : total ≤ max_lines
-
--- after `count` lines, the input's are answered, which makes `total` lines, and `later` comes after them
-abbrev pub AnswersNext : Command → ℕ → Bytes → ℕ → Bytes → Bytes → Type 0
-AnswersNext command count input total later output = (next : NextLines count input total later) × Answered command [] next.lines output
+-- how many bytes have come at most, after `count` lines and what is begun
+abbrev pub bytes_come : ℕ → Bytes → ℕ
+bytes_come count begun = count * (max_line_bytes + 1) + length begun
 
 -- the lines of the input are answered up to such a cause to stop
-abbrev pub AnswersUntil : (ℕ → Bytes → Type 0) → Command → ℕ → Bytes → Bytes → Type 0
-AnswersUntil Cause command count input output = (total : ℕ) × (later : Bytes) × AnswersNext command count input total later output × Cause total later
+abbrev pub AnswersUntil : (ℕ → Bytes → Type 0) → Command → Bytes → Bytes → Type 0
+AnswersUntil Cause command input output = (stop : Stops Cause input) × Answered command [] stop.lines output
+
+-- the place after `count` lines, before `later`
+abbrev pub IsAt : ℕ → Bytes → ℕ → Bytes → Type 0
+IsAt count later n l = (n ≡ count) × (l ≡ later)
+
+-- a run has read `count` lines, which are answered, and then `later`
+abbrev pub HasCome : Command → ℕ → Bytes → (in_old in_new out_old out_new : Option Bytes) → Type 0
+HasCome command count later = ReadsAndWrites (AnswersUntil (IsAt count later) command)
+
+-- with this text last, a run has written what it means to write at such an end
+abbrev pub IsMeant : Command → RunEnd → Bytes → (in_old in_new out_old out_new : Option Bytes) → Type 0
+IsMeant command end last = ReadsAndWrites (λ input output. Means command end input (output ++ last))
+
+-- a run is stopped by that fault
+abbrev pub IsStopped : Command → Fault → (in_old in_new out_old out_new : Option Bytes) → Type 0
+IsStopped command Input = IsMeant command InputFault (codes "error input\n")
+IsStopped command Memory = IsMeant command OutOfMemory (codes "error memory\n")
+IsStopped command Output = RunsTo command OutputFault
+
+-- by writing, a run that has come there comes here
+abbrev pub Leads : (There Here : (in_old in_new out_old out_new : Option Bytes) → Type 0) → Option Bytes → Option Bytes → Type 0
+Leads There Here old new = (i j o : Option Bytes) → There i j o old → Here i j o new
 
 -- known bytes grow by an output of this kind
 abbrev pub AppendsSome : (Bytes → Type 0) → Option Bytes → Option Bytes → Type 0
-AppendsSome Output old new = (output : Bytes) × Output output × Appends old new output
+AppendsSome Form old new = (output : Bytes) × Form output × Appends old new output
 
 -- a front part of an output of this kind
 abbrev pub FrontOf : (Bytes → Type 0) → Bytes → Type 0
-FrontOf Output front = (back : Bytes) × Output (front ++ back)
+FrontOf Form front = (back : Bytes) × Form (front ++ back)
+
+-- what is written of an output of this kind where a fault ends it: nothing without memory, or a front part
+abbrev pub Breaks : Fault → (Bytes → Type 0) → Option Bytes → Option Bytes → Type 0
+Breaks Input Form old new = ⊥
+Breaks Memory Form old new = Keeps old new
+Breaks Output Form old new = AppendsSome (FrontOf Form) old new

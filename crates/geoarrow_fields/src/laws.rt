@@ -17,8 +17,7 @@ ghost use Rattle.geoarrow_fields.specs.declared.Command.{Command};
 ghost use Rattle.geoarrow_fields.specs.declared.Command.TheVariants.{Read, Canon};
 ghost use Rattle.geoarrow_fields.specs.declared.RunEnd.TheVariants.{Done};
 ghost use Rattle.geoarrow_fields.specs.Lines.{Bytes, lines_of, IsLine};
-ghost use Rattle.geoarrow_fields.specs.Answer.{Answers, Means};
-ghost use Rattle.geoarrow_fields.specs.Reports.{SameReport};
+ghost use Rattle.geoarrow_fields.specs.Answer.{Answers, Means, SameReport};
 
 use field_lines::laws::{
     held_reads_back, line_reads_back, put_is_held, read_field_is_held, read_is_held,

@@ -1,9 +1,8 @@
 //! The lines of a chunk of the input: their limits, their answers, and the line that goes on into the next chunk.
-ghost use Rattle.std.specs.Prelude.{◌≡◌, ◌≢◌, ◌⊎◌, ◌+◌, ◌<◌, ◌≤◌, List, [], ◌∷◌, ◌++◌, length, All, IfOk, OnOk, IfErr, MatchBool, ⊤};
-ghost use Rattle.std.specs.Io.KnownBytes.{Keeps};
+ghost use Rattle.std.specs.Prelude.{◌≡◌, ◌⊎◌, ◌+◌, ◌<◌, ◌≤◌, List, [], ◌∷◌, ◌++◌, length, All, IfOk, OnOk, IfErr, MatchBool};
 ghost use Rattle.geoarrow_fields.specs.Lines.{Bytes, max_lines, max_line_bytes, lines_of, ended_lines, IsLine, IsSplit, IsWithinLimits, IsPastLimit, Stops};
 ghost use Rattle.geoarrow_fields.specs.Answer.{Answered};
-ghost use Rattle.geoarrow_fields.specs.Progress.{IsBegun, AnswersNext, AnswersUntil, AppendsSome, FrontOf};
+ghost use Rattle.geoarrow_fields.specs.Progress.{IsBegun, HasCome, IsStopped, Leads, AppendsSome, Breaks, bytes_come};
 
 use crate::Command;
 use crate::output::{Fault, write_answer};
@@ -57,11 +56,7 @@ pub(crate) fn end_line<W: Write>(
     ensures ok { OnOk result (AppendsSome (Answered command [] ((begun.old.items ++ end.now) ∷ []))
         (W.contents writer.old) (W.contents writer.new)) }
     ensures clear { OnOk result (begun.new.items ≡ []) }
-    ensures kind { IfErr result (λ fault. fault ≢ Fault.Input) }
-    ensures memory { IfErr result (λ fault. fault ≡ Fault.Memory
-        → Keeps (W.contents writer.old) (W.contents writer.new)) }
-    ensures output { IfErr result (λ fault. fault ≡ Fault.Output
-        → AppendsSome (FrontOf (Answered command [] ((begun.old.items ++ end.now) ∷ [])))
+    ensures err { IfErr result (λ fault. Breaks fault (Answered command [] ((begun.old.items ++ end.now) ∷ []))
         (W.contents writer.old) (W.contents writer.new)) }
 {
     if begun.is_empty() {
@@ -85,19 +80,13 @@ pub(crate) fn answer_chunk<W: Write>(
     writer: &mut W,
 ) -> Result<usize, Fault>
     requires { IsBegun count begun.old.items }
-    ensures ok { IfOk result (λ total. AppendsSome
-        (AnswersNext command count (begun.old.items ++ chunk.now) total begun.new.items)
-        (W.contents writer.old) (W.contents writer.new)) }
+    ensures ok { IfOk result (λ total. Leads (HasCome command count (begun.old.items ++ chunk.now))
+        (HasCome command total begun.new.items) (W.contents writer.old) (W.contents writer.new)) }
     ensures begun { IfOk result (λ total. IsBegun total begun.new.items) }
-    ensures input { IfErr result (λ fault. fault ≡ Fault.Input
-        → AppendsSome (AnswersUntil IsPastLimit command count (begun.old.items ++ chunk.now))
-        (W.contents writer.old) (W.contents writer.new)) }
-    ensures memory { IfErr result (λ fault. fault ≡ Fault.Memory
-        → AppendsSome (AnswersUntil (λ total later. ¬ IsPastLimit total later) command count (begun.old.items ++ chunk.now))
-        (W.contents writer.old) (W.contents writer.new)) }
-    ensures output { IfErr result (λ fault. fault ≡ Fault.Output
-        → AppendsSome (FrontOf (AnswersUntil (λ total later. ⊤) command count (begun.old.items ++ chunk.now)))
-        (W.contents writer.old) (W.contents writer.new)) }
+    ensures come { IfOk result (λ total. bytes_come count begun.old.items + length chunk.now
+        ≤ bytes_come total begun.new.items) }
+    ensures err { IfErr result (λ fault. Leads (HasCome command count (begun.old.items ++ chunk.now))
+        (IsStopped command fault) (W.contents writer.old) (W.contents writer.new)) }
 {
     let mut count = count;
     let mut rest = chunk;

@@ -1,8 +1,8 @@
 //! What is written: answers, each with its line feed, and the line of an end.
 ghost use Rattle.std.specs.Prelude.{◌≡◌, ◌≢◌, [], ◌∷◌, ◌++◌, OnOk, OnErr, IfErr};
-ghost use Rattle.std.specs.Io.KnownBytes.{Appends, Keeps};
+ghost use Rattle.std.specs.Io.KnownBytes.{Appends};
 ghost use Rattle.geoarrow_fields.specs.Answer.{Answered};
-ghost use Rattle.geoarrow_fields.specs.Progress.{AppendsSome, FrontOf};
+ghost use Rattle.geoarrow_fields.specs.Progress.{AppendsSome, FrontOf, Breaks};
 
 use crate::answer::answer_line_with_scratch;
 use crate::{Command, RunEnd};
@@ -59,11 +59,7 @@ pub(crate) fn write_answer<W: Write>(
 ) -> Result<(), Fault>
     ensures ok { OnOk result (AppendsSome (Answered command [] (line.now ∷ []))
         (W.contents writer.old) (W.contents writer.new)) }
-    ensures kind { IfErr result (λ fault. fault ≢ Fault.Input) }
-    ensures memory { IfErr result (λ fault. fault ≡ Fault.Memory
-        → Keeps (W.contents writer.old) (W.contents writer.new)) }
-    ensures output { IfErr result (λ fault. fault ≡ Fault.Output
-        → AppendsSome (FrontOf (Answered command [] (line.now ∷ [])))
+    ensures err { IfErr result (λ fault. Breaks fault (Answered command [] (line.now ∷ []))
         (W.contents writer.old) (W.contents writer.new)) }
 {
     let answer = answer_line_with_scratch(alloc, command, line, scratch)?;

@@ -1,9 +1,8 @@
 //! The loop that reads an input, answers its lines and ends.
-ghost use Rattle.std.specs.Prelude.{◌≡◌, ◌⊎◌, ◌<◌, ◌≤◌, length, take, IfOk, OnOk, IfErr, vec_len};
+ghost use Rattle.std.specs.Prelude.{◌≡◌, ◌<◌, ◌≤◌, [], length, take, IfOk, OnOk, IfErr, vec_len};
 ghost use Rattle.std.specs.Io.KnownBytes.{Consumes, IsAtEnd, Keeps};
-ghost use Rattle.geoarrow_fields.specs.Lines.{IsLine, IsPastLimit};
-ghost use Rattle.geoarrow_fields.specs.Answer.{Means, ReadsAndWrites, RunsTo};
-ghost use Rattle.geoarrow_fields.specs.Progress.{AnswersUntil};
+ghost use Rattle.geoarrow_fields.specs.Answer.{RunsTo};
+ghost use Rattle.geoarrow_fields.specs.Progress.{IsMeant, IsStopped};
 
 use crate::lines::{answer_chunk, end_line};
 use crate::output::{Fault, finish};
@@ -57,16 +56,10 @@ fn answer_lines<R: Read, W: Write>(
     reader: &mut R,
     writer: &mut W,
 ) -> Result<(), Fault>
-    ensures done { OnOk result (ReadsAndWrites (Means command RunEnd.Done)
+    ensures done { OnOk result (IsMeant command RunEnd.Done []
         (R.remaining reader.old) (R.remaining reader.new) (W.contents writer.old) (W.contents writer.new)) }
     ensures end { OnOk result (IsAtEnd (R.remaining reader.new)) }
-    ensures input { IfErr result (λ fault. fault ≡ Fault.Input → ReadsAndWrites
-        (AnswersUntil (λ total later. IsPastLimit total later ⊎ IsLine later) command 0)
-        (R.remaining reader.old) (R.remaining reader.new) (W.contents writer.old) (W.contents writer.new)) }
-    ensures memory { IfErr result (λ fault. fault ≡ Fault.Memory → ReadsAndWrites
-        (AnswersUntil (λ total later. ¬ IsPastLimit total later) command 0)
-        (R.remaining reader.old) (R.remaining reader.new) (W.contents writer.old) (W.contents writer.new)) }
-    ensures output { IfErr result (λ fault. fault ≡ Fault.Output → RunsTo command RunEnd.OutputFault
+    ensures err { IfErr result (λ fault. IsStopped command fault
         (R.remaining reader.old) (R.remaining reader.new) (W.contents writer.old) (W.contents writer.new)) }
 {
     let mut chunk = zeros(alloc, CHUNK_BYTES)?;
