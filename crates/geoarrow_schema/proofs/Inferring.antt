@@ -1,5 +1,5 @@
 -- What a tree is taken for.
-use Rattle.std.proofs.Common.{◌≡◌, ◌⊎◌, inl, inr, ◌∙◌, sym, ap, subst, Option, Some, None, Result, Ok, Err}
+use Rattle.std.proofs.Common.{◌≡◌, ◌⊎◌, inl, inr, ◌∙◌, sym, ap, subst, Option, Some, Result, Ok, Err}
 use Rattle.std.specs.Prelude.{IfOk, IfErr}
 use Rattle.std.proofs.lemmas.Option.{same_Some}
 use Rattle.std.specs.Arc.{arc_value}
@@ -28,7 +28,7 @@ use Rattle.geoarrow_schema.specs.declared.types.GeoArrowType.{GeoArrowType}
 use Rattle.geoarrow_schema.specs.Types.{kind_of, metadata_of, meta_of, SameType}
 use Rattle.geoarrow_schema.specs.Reads.{HasGeoArrowName, Reads, ReadsAlone}
 use Rattle.geoarrow_schema.specs.Refusals.{IsRefusal}
-use Rattle.geoarrow_schema.specs.Infers.{InferredAs, InfersAs, Infers, ReadsOrInfers, InfersAlone, ReadsOrInfersAlone, InfersNone, uninferred_text, UninferredAs, IsInference, AnswersInferred, IsStored, SerializedAs}
+use Rattle.geoarrow_schema.specs.Infers.{InferredAs, InfersAs, Infers, ReadsOrInfers, InfersAlone, ReadsOrInfersAlone, InfersNone, uninferred_text, UninferredAs, IsInference, AnswersInferred, IsStored}
 use Rattle.geoarrow_schema.proofs.Reading.{read_has_name, none_unnamed}
 
 -- no tree is both bytes and text
@@ -38,10 +38,11 @@ apart Large Large t h g = absurd cc
 apart View View t h g = absurd cc
 apart _ _ t h g = absurd cc
 
-pub stored_as_bytes : (t : Tree) (w : Width) (r : Result Width LayoutFault) → r ≡ Ok w → AnswersOne r (λ v. IsBytes v t) → SerializedAs t (Some (Wkb w))
-stored_as_bytes t w r is a = λ k. (λ e. subst (IsStored t) (same_Some (Wkb w) k e) ((a w).0 is), λ h. back k h)
+pub bytes_inferred : (t : Tree) (w : Width) (r : Result Width LayoutFault) → ((c : CoordType) (d : Dimension) → ¬ Inferred t c d) → r ≡ Ok w → AnswersOne r (λ v. IsBytes v t) → AnswersInferred t (Some (Wkb w))
+bytes_inferred t w r none is a = λ k. (λ e. subst (InferredAs t) (same_Some (Wkb w) k e) ((a w).0 is), λ h. back k h)
   where
-    back : (k : Kind) → IsStored t k → Some (Wkb w) ≡ Some k
+    back : (k : Kind) → InferredAs t k → Some (Wkb w) ≡ Some k
+    back (Native Point c d) h = absurd (none c d h)
     back (Wkb v) h = cc ((a v).1 h)
     back (Wkt v) h = absurd (apart w v t ((a w).0 is) h)
     back _ h = absurd h
@@ -64,20 +65,6 @@ point_inferred t p r is a = λ k. (λ e. subst (InferredAs t) (same_Some (Native
     back (Native Point b e) h = let q : p ≡ (b, e) = same_Some p (b, e) (sym is ∙ (a b e).1 h) in ap (λ x. Some (Native Point x.0 x.1)) q
     back (Wkb w) h = absurd (not_stored t p.0 p.1 (Wkb w) ((a p.0 p.1).0 is) h)
     back (Wkt w) h = absurd (not_stored t p.0 p.1 (Wkt w) ((a p.0 p.1).0 is) h)
-    back _ h = absurd h
-
-pub serialized_inferred : (t : Tree) (r : Option Pair) (s : Option Kind) → r ≡ None → AnswersSome r (Inferred t) → SerializedAs t s → AnswersInferred t s
-serialized_inferred t r s is a stored = λ k. (λ e. there k ((stored k).0 e), λ h. back k h)
-  where
-    there : (k : Kind) → IsStored t k → InferredAs t k
-    there (Wkb w) h = h
-    there (Wkt w) h = h
-    there _ h = absurd h
-
-    back : (k : Kind) → InferredAs t k → s ≡ Some k
-    back (Native Point b e) h = absurd (cc ((a b e).1 h))
-    back (Wkb w) h = (stored (Wkb w)).1 h
-    back (Wkt w) h = (stored (Wkt w)).1 h
     back _ h = absurd h
 
 -- what is inferred of a tree and a metadata

@@ -84,10 +84,6 @@ IsStored t (Wkb w) = IsBytes w t
 IsStored t (Wkt w) = IsText w t
 IsStored t _ = ⊥
 
--- the result is the one kind of well-known binary or text of the tree, or `None` if there is none
-abbrev pub SerializedAs : Tree → Option Kind → Type 0
-SerializedAs t r = (k : Kind) → (r ≡ Some k) ↔ IsStored t k
-
 -- a kind that can be inferred from its data type: points, well-known binary and text
 abbrev pub IsInferable : Kind → Type 0
 IsInferable (Native Point c d) = ⊤

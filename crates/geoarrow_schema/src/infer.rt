@@ -2,9 +2,12 @@
 ghost use Rattle.std.specs.Prelude.{◌≡◌, ◌⊎◌, IfOk, IfErr};
 ghost use Rattle.arrow_values.specs.View.{tree};
 ghost use Rattle.arrow_values.specs.Errors.{IsGeoMemory};
+ghost use Rattle.geoarrow_layout.specs.declared.kinds.CoordType.{CoordType};
+ghost use Rattle.geoarrow_layout.specs.declared.kinds.Dimension.{Dimension};
 ghost use Rattle.geoarrow_layout.specs.declared.encodings.Kind.{Kind};
+ghost use Rattle.geoarrow_layout.specs.Inferred.{Inferred};
 ghost use Rattle.geoarrow_schema.specs.Reads.{HasGeoArrowName};
-ghost use Rattle.geoarrow_schema.specs.Infers.{InferredAs, Infers, InfersAlone, ReadsOrInfersAlone, InfersNone, uninferred_text, UninferredAs, IsInference, AnswersInferred, SerializedAs};
+ghost use Rattle.geoarrow_schema.specs.Infers.{InferredAs, Infers, InfersAlone, ReadsOrInfersAlone, InfersNone, uninferred_text, UninferredAs, IsInference, AnswersInferred};
 ghost use Rattle.geoarrow_schema.specs.Refusals.{bottom_text};
 
 use crate::read::{name_of, read_named};
@@ -88,9 +91,10 @@ pub fn infer_kind(data_type: &DataType) -> Option<Kind>
     }
 }
 
-/// The kind of well-known binary or text that a data type is taken for.
+/// The kind of well-known binary or text that a data type is taken for, which is no point.
 fn infer_serialized(data_type: &DataType) -> Option<Kind>
-    ensures { SerializedAs (tree data_type.now) result }
+    requires { (c : CoordType) (d : Dimension) → ¬ Inferred (tree data_type.now) c d }
+    ensures { AnswersInferred (tree data_type.now) result }
 {
     match parse_wkb(data_type) {
         Ok(width) => Some(Kind::Wkb(width)),
