@@ -13,7 +13,7 @@ use Rattle.geoarrow_meta.specs.Written.{of_parts, written, type_unless, IsReadBa
 use Rattle.geoarrow_schema.specs.declared.types.GeoArrowType.TheVariants as types
 use Rattle.geoarrow_fields.proofs.Terms.{is_utf8, Data, depth, member, members_depth, no_members, null, object, Members, max_depth, read, compact_text, has_float, FieldTree, Text, Texts, extension_metadata, metadata_key, Kind, name_of, layout, Edges, CrsType, Metadata, DenotesMetadata, NestsWithin, meta_value, normal, printed, GeoArrowType, kind_of, meta_of, Reads, IsCanonical, ReadsNormally, rewritten, is_held, members_are_held, held_parts, field_of_line, line_of_field, parts_value, texts_value, type_value, value_of_field, HasLineForm, Canon, Read, Bytes, Answers, AnswersField, type_text}
 use Rattle.geoarrow_fields.proofs.OneAnswer.{IsOneKind, words_of, reads_parts, one_reading, no_type_read, one_field_answer, answered, answer_of}
-use Rattle.geoarrow_fields.proofs.Layouts.{each_kind, layout_form, layout_held, layout_levels}
+use Rattle.geoarrow_fields.proofs.Layouts.{AreListed, each_kind, layout_form, layout_held, layout_levels}
 use Rattle.geoarrow_fields.proofs.Extension.{HoldsTexts, PutIsHeld, set_held, set_again, text_held, each_order}
 
 -- ---- the value of a metadata that UTF-8 denotes is held
@@ -21,9 +21,9 @@ use Rattle.geoarrow_fields.proofs.Extension.{HoldsTexts, PutIsHeld, set_held, se
 abbrev pub IsHeldIf : Option Data → Type 0
 IsHeldIf o = IfSome o (λ d. is_held d ≡ true)
 
-name_utf8 : (k : Kind) → is_utf8 (name_of k) ≡ true
+name_utf8 : AreListed → (k : Kind) → is_utf8 (name_of k) ≡ true
 unfolding is_utf8 chars lib.Utf8.encode
-name_utf8 = each_kind (λ k. is_utf8 (name_of k)) refl
+name_utf8 listed = each_kind listed (λ k. is_utf8 (name_of k)) refl
 
 type_utf8 : (t : CrsType) → is_utf8 (crs_type_text t) ≡ true
 unfolding is_utf8 chars lib.Utf8.encode
@@ -146,7 +146,7 @@ unfolding with_metadata
 same_parts (types.Point t) m = (refl, refl)
 same_parts _ m = (refl, refl)
 
-module _ (put_is : PutIsHeld) (read_is : ReadIsHeld) (utf8 : IsUtf8Written) (field_is : FieldIsHeld) where
+module _ (listed : AreListed) (put_is : PutIsHeld) (read_is : ReadIsHeld) (utf8 : IsUtf8Written) (field_is : FieldIsHeld) where
   module _ (line : Text) (f : FieldTree) (is : field_of_line line ≡ Some f) where
     crs_held : (m : Metadata) → DenotesMetadata (extension_metadata f) m → IsHeldIf m.crs.value × (some_has_float m.crs.value ≡ false)
     crs_held m denotes = crs_of read_is (extension_metadata f) m (text_held metadata_key f.metadata (field_is line f is).1) denotes
@@ -159,8 +159,8 @@ module _ (put_is : PutIsHeld) (read_is : ReadIsHeld) (utf8 : IsUtf8Written) (fie
     rewritten_held k m denotes =
         let own = field_is line f is in
         let value = value_held m.crs.value (type_unless m.crs.value m.crs.crs_type m.edges) m.edges (crs_held m denotes).0 in
-        parts_held f.name (type_value (layout k)) f.nullable _ own.0 (layout_held k)
-        (set_held put_is (name_of k) (printed (normal m)) f.metadata (name_utf8 k) (text_of utf8 (meta_value (normal m)) value) own.1)
+        parts_held f.name (type_value (layout k)) f.nullable _ own.0 (layout_held listed k)
+        (set_held put_is (name_of k) (printed (normal m)) f.metadata (name_utf8 listed k) (text_of utf8 (meta_value (normal m)) value) own.1)
 
     -- the value of the canonical field is held
     pub canonical_held : (n : FieldTree) → IsCanonical f n → is_held (value_of_field n) ≡ true
@@ -172,7 +172,7 @@ module _ (put_is : PutIsHeld) (read_is : ReadIsHeld) (utf8 : IsUtf8Written) (fie
         let k = kind_of g in
         let c = rewritten f k (normal (meta_of g)) in
         subst (λ x. field_of_line (line_of_field x) ≡ Some x) (sym same)
-        (line_read c (layout_form k) (rewritten_held k (meta_of g) (reads_parts f g r).1) (parts_levels f.name (type_value (layout k)) f.nullable c.metadata (layout_levels k)))
+        (line_read c (layout_form listed k) (rewritten_held k (meta_of g) (reads_parts f g r).1) (parts_levels f.name (type_value (layout k)) f.nullable c.metadata (layout_levels listed k)))
 
     -- it is its own canonical form, and reads as the normal form of the type
     module _ (back : IsRead) (n : FieldTree) (g : GeoArrowType) (r : Reads f g) (same : n ≡ rewritten f (kind_of g) (normal (meta_of g))) (normally : ReadsNormally n (kind_of g) (meta_of g))

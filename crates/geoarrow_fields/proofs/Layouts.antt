@@ -1,7 +1,7 @@
 -- The data types that are written: a line can represent each, and its value is one that is read, and nests at most 19 levels.
 use Rattle.std.proofs.Common.{◌≡◌, ◌≤◌, Bool, true, ◌&&◌, refl}
 use Rattle.std.proofs.Math.Dec.{leb}
-use Rattle.std.specs.List.{list_all}
+use Rattle.std.specs.List.{Contains, list_all}
 use Rattle.std.specs.Str.{is_utf8, chars}
 use Rattle.std.proofs.lemmas.Bool.{and_parts, leb-true}
 use Rattle.std.proofs.lemmas.List.Elements.{All-contains}
@@ -11,12 +11,14 @@ use Rattle.arrow_values.specs.Union.{are_type_ids}
 use Rattle.field_lines.specs.FieldOfValue.{is_size, tree_ids}
 use Rattle.field_lines.specs.LineForm.{FieldsHaveLineForm, MembersHaveLineForm}
 use Rattle.geoarrow_layout.specs.declared.encodings.TheConstants.Kind.{ALL}
-use Rattle.geoarrow_layout.proofs.Listed.{listed}
 use Rattle.geoarrow_fields.proofs.Terms.{depth, Tree, plain, fixed_size_list, struct, Kind, layout, type_value, HasLineForm, is_held}
 
+abbrev pub AreListed : Type 0
+AreListed = (k : Kind) → Contains ALL k
+
 -- what a test says of the listed kinds it says of each
-pub each_kind : (test : Kind → Bool) → list_all test ALL ≡ true → (k : Kind) → test k ≡ true
-each_kind test all k = All-contains (λ x. test x ≡ true) ALL k (AllPass-from_list_all test ALL all) (listed k)
+pub each_kind : AreListed → (test : Kind → Bool) → list_all test ALL ≡ true → (k : Kind) → test k ≡ true
+each_kind listed test all k = All-contains (λ x. test x ≡ true) ALL k (AllPass-from_list_all test ALL all) (listed k)
 
 -- `HasLineForm` as a test
 abbrev mutual
@@ -53,12 +55,12 @@ mutual
   members_formed no_members h = tt
   members_formed (member i n t b m ms) h = let p = and_parts (has_form t) _ h in (formed t p.0, members_formed ms p.1)
 
-pub layout_form : (k : Kind) → HasLineForm (layout k)
-layout_form k = formed (layout k) (each_kind (λ k. has_form (layout k)) refl k)
+pub layout_form : AreListed → (k : Kind) → HasLineForm (layout k)
+layout_form listed k = formed (layout k) (each_kind listed (λ k. has_form (layout k)) refl k)
 
-pub layout_held : (k : Kind) → is_held (type_value (layout k)) ≡ true
+pub layout_held : AreListed → (k : Kind) → is_held (type_value (layout k)) ≡ true
 unfolding is_utf8 chars lib.Utf8.encode
-layout_held = each_kind (λ k. is_held (type_value (layout k))) refl
+layout_held listed = each_kind listed (λ k. is_held (type_value (layout k))) refl
 
-pub layout_levels : (k : Kind) → depth (type_value (layout k)) ≤ 19
-layout_levels k = leb-true _ 19 (each_kind (λ k. leb (depth (type_value (layout k))) 19) refl k)
+pub layout_levels : AreListed → (k : Kind) → depth (type_value (layout k)) ≤ 19
+layout_levels listed k = leb-true _ 19 (each_kind listed (λ k. leb (depth (type_value (layout k))) 19) refl k)

@@ -6,7 +6,6 @@ use Rattle.geoarrow_layout.specs.Shapes.{IsBytes, IsText, Accepts}
 use Rattle.geoarrow_layout.specs.Inferred.{IsInferredAs, IsInferredSize, Inferred}
 use Rattle.geoarrow_meta.specs.Laws.{text_denotes_one}
 use Rattle.geoarrow_schema.specs.Infers.{InferredAs, InfersAs, Infers, IsStored}
-use Rattle.geoarrow_schema.proofs.Reading.{read_has_name}
 use Rattle.geoarrow_columns.specs.Same.{SameColumn}
 use Rattle.geoarrow_fields.specs.Answer.{SameReport}
 use Rattle.geoarrow_fields.proofs.Terms.{FieldTree, Text, Tree, fixed_size_list, struct, extension_metadata, CoordType, Interleaved, Separated, Dimension, Point, Width, Plain, Kind, Native, Wkb, Wkt, coord_type_of, dimension_of, extension_of, name_of, DenotesMetadata, normal, printed, ReadsAs, GeoArrowType, SameType, kind_of, meta_of, HasGeoArrowName, Reads, IsCanonical, rewritten, ColumnFault, Arrow, InvalidGeoArrow, Column, Faulty, Geometry, OfInferred, Other, IsColumnOf, IsRefused, IsRefusedFor, IsReport, IsUnread, field_of_line, line_of_field, Command, Canon, Columns, Infer, Read, Done, Bytes, line_feed, lines_of, Answers, AnswersField, AnswersNoType, column_text, coord_type_word, dimension_word, error_text, inferred_text, kind_word, metadata_word, type_text, Answered, Means}
@@ -76,6 +75,9 @@ pub infers_parts : (f : FieldTree) (g : GeoArrowType) → Infers f g → ¬ HasG
 unfolding InfersAs
 infers_parts f g i = (i.0, i.1)
 
+named : (f : FieldTree) (g : GeoArrowType) → Reads f g → HasGeoArrowName f
+named f g r = (reads_parts f g r).0
+
 unnamed : (f : FieldTree) (g : GeoArrowType) → Infers f g → ¬ HasGeoArrowName f
 unnamed f g i = (infers_parts f g i).0
 
@@ -143,7 +145,7 @@ module _ (one_kind : IsOneKind) where
   one_column f (OfInferred g) (OfInferred h) r s = one_inference f g h r s
   one_column f Other Other r s = tt
   one_column f (Faulty e) (Faulty d) r s = one_fault f e d r s
-  one_column f _ _ r s = grind (arith, not_read, not_inferred, not_other, unnamed, read_has_name)
+  one_column f _ _ r s = grind (arith, not_read, not_inferred, not_other, unnamed, named)
 
   pub one_report : (fs : List FieldTree) (cs ds : List Column) → IsReport fs cs → IsReport fs ds → SameReport cs ds
   one_report [] [] [] r s = tt

@@ -9,7 +9,7 @@ use Rattle.geoarrow_fields.proofs.Limits.{lines_of-line}
 use Rattle.geoarrow_fields.proofs.Terms.{Data, compact_text, FieldTree, Text, extension_metadata, Kind, coord_type_of, dimension_of, DenotesMetadata, meta_value, printed, GeoArrowType, kind_of, meta_of, ColumnFault, Arrow, InvalidGeoArrow, Column, Faulty, Geometry, OfInferred, Other, IsColumnOf, is_held, field_of_line, value_of_field, Command, Canon, Columns, Infer, Read, Done, Bytes, IsLine, line_feed, lines_of, Answers, AnswersField, AnswersNoType, column_text, coord_type_word, dimension_word, error_text, inferred_text, kind_word, metadata_word, type_text, Answered, Means}
 use Rattle.geoarrow_fields.proofs.Extension.{PutIsHeld}
 use Rattle.geoarrow_fields.proofs.OneAnswer.{reads_parts, infers_parts}
-use Rattle.geoarrow_fields.proofs.Layouts.{each_kind}
+use Rattle.geoarrow_fields.proofs.Layouts.{AreListed, each_kind}
 use Rattle.geoarrow_fields.proofs.Canon.{IsHeldIf, ReadIsHeld, IsUtf8Written, FieldIsHeld, metadata_held, canonical_held}
 
 -- ---- words
@@ -42,17 +42,17 @@ metadata_line line (Some d) h = line d h
 abbrev head : Kind → Bytes
 head k = kind_word k ++ codes " " ++ coord_type_word (coord_type_of k) ++ codes " " ++ dimension_word (dimension_of k) ++ codes " "
 
-type_line : IsOneLine → (g : GeoArrowType) → IsHeldIf (meta_value (meta_of g)) → IsLine (type_text g)
-type_line line g h =
+type_line : AreListed → IsOneLine → (g : GeoArrowType) → IsHeldIf (meta_value (meta_of g)) → IsLine (type_text g)
+type_line listed line g h =
     let k = kind_of g in
     let text = metadata_word (printed (meta_of g)) in
     let same : head k ++ text ≡ type_text g = simp append_assoc in
-    subst IsLine same (joined (head k) text (word (head k) (each_kind (λ k. has_no_feed (head k)) refl k)) (metadata_line line (meta_value (meta_of g)) h))
+    subst IsLine same (joined (head k) text (word (head k) (each_kind listed (λ k. has_no_feed (head k)) refl k)) (metadata_line line (meta_value (meta_of g)) h))
 
-module _ (put_is : PutIsHeld) (read_is : ReadIsHeld) (utf8 : IsUtf8Written) (field_is : FieldIsHeld) (one_line : IsOneLine) where
+module _ (listed : AreListed) (put_is : PutIsHeld) (read_is : ReadIsHeld) (utf8 : IsUtf8Written) (field_is : FieldIsHeld) (one_line : IsOneLine) where
   module _ (line : Text) (f : FieldTree) (is : field_of_line line ≡ Some f) where
     of_type : (g : GeoArrowType) → DenotesMetadata (extension_metadata f) (meta_of g) → IsLine (type_text g)
-    of_type g denotes = type_line one_line g (metadata_held put_is read_is utf8 field_is line f is (meta_of g) denotes)
+    of_type g denotes = type_line listed one_line g (metadata_held listed put_is read_is utf8 field_is line f is (meta_of g) denotes)
 
     column_lines : (c : Column) → IsColumnOf f c → IsLine (column_text c) × IsLine (inferred_text c)
     column_lines (Geometry g) r = let text = of_type g (reads_parts f g r).1 in (joined (codes "geometry ") (type_text g) (word (codes "geometry ") refl) text, text)
@@ -68,7 +68,7 @@ module _ (put_is : PutIsHeld) (read_is : ReadIsHeld) (utf8 : IsUtf8Written) (fie
     field_line Read answer (inl (g, r, x)) = subst IsLine (sym x) (of_type g (reads_parts f g r).1)
     field_line Read answer (inr none) = no_type_line answer none
     field_line Infer answer (c, r, x) = subst IsLine (sym x) (column_lines c r).1
-    field_line Canon answer (inl (n, r, x)) = subst IsLine (sym x) (one_line (value_of_field n) (canonical_held put_is read_is utf8 field_is line f is n r))
+    field_line Canon answer (inl (n, r, x)) = subst IsLine (sym x) (one_line (value_of_field n) (canonical_held listed put_is read_is utf8 field_is line f is n r))
     field_line Canon answer (inr none) = no_type_line answer none
     field_line Columns answer (c, r, x) = subst IsLine (sym x) (column_lines c r).0
 

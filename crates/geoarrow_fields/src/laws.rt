@@ -22,13 +22,15 @@ ghost use Rattle.geoarrow_fields.specs.Answer.{Answers, Means, SameReport};
 use field_lines::laws::{
     held_reads_back, line_reads_back, put_is_held, read_field_is_held, read_is_held,
 };
-use geoarrow_layout::one_kind;
+use geoarrow_layout::{kind_is_listed, one_kind};
 
 /// A law: a line can represent the data type that is written for each of the 68 kinds. There is nothing to run.
 #[tactic(auto, using(crate::proofs::Layouts::layout_form))]
 pub fn layouts_have_line_form()
     ensures { (k : Kind) → HasLineForm (layout k) }
-{}
+{
+    kind_is_listed();
+}
 
 /// A law: the line of the canonical field of a field that a line denotes denotes that canonical field. There is nothing to run.
 #[tactic(auto, using(crate::proofs::Canon::canonical_back))]
@@ -36,6 +38,7 @@ pub fn canonical_line_reads_back()
     ensures { (line : Bytes) (f n : FieldTree) → field_of_line line ≡ Some f → IsCanonical f n
         → field_of_line (line_of_field n) ≡ Some n }
 {
+    kind_is_listed();
     put_is_held();
     read_is_held();
     held_reads_back();
@@ -51,6 +54,7 @@ pub fn canon_is_closed()
         → NestsWithin 100 (meta_of g).crs.value → Answers Canon line answer
         → Answers Canon answer answer × ((text : Bytes) → Answers Read line text → Answers Read answer text) }
 {
+    kind_is_listed();
     put_is_held();
     read_is_held();
     held_reads_back();
@@ -66,6 +70,7 @@ pub fn answer_is_one_line()
     ensures run { (command : Command) (input output : Bytes) → Means command Done input output
         → length (lines_of output) ≡ length (lines_of input) }
 {
+    kind_is_listed();
     put_is_held();
     read_is_held();
     held_reads_back();

@@ -38,8 +38,8 @@ pub fn layout_reads_back(kind: Kind)
 
 /// A law: every kind is in `Kind::ALL`.
 #[tactic(auto, using(crate::proofs::Listed::listed))]
-pub fn kind_is_listed(kind: Kind)
-    ensures { Contains Kind.ALL kind }
+pub fn kind_is_listed()
+    ensures { (k : Kind) → Contains Kind.ALL k }
 {}
 
 /// A law: the extension names are texts of their own.
