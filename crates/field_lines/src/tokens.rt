@@ -28,34 +28,20 @@ use value_tokens::{
 
 /// The field that comes next.
 #[cycle(take)]
-#[inline(never)]
-#[tactic(auto, using(crate::proofs::TokenMembers::member_turn))]
-pub(crate) fn take_field<'a>(
+#[inline]
+pub(crate) fn take_field(
     alloc: Global,
-    reader: &mut Reader<'a>,
+    reader: &mut Reader<'_>,
     depth: usize,
 ) -> Result<Option<Field>, Refusal>
     ensures ok { IfOk result (λ o. ReadsValue field_of_value depth reader.old o reader.new) }
     ensures shorter { OnOk result (length reader.new < length reader.old) }
     ensures text { result ≡ Err Refusal.Text → next_value depth reader.old ≡ None }
 {
-    let Some(below) = open_object(reader, depth)? else {
-        return Ok(None);
-    };
-    let mut name = None;
-    let mut nullable = None;
-    let mut data_type = None;
-    let mut metadata = Some(BTreeMap::new(alloc));
-    'parts: while let Some(key) = reader.next_key()? {
-        match key {
-            "name" => name = read_str(reader, below)?,
-            "nullable" => nullable = read_bool(reader, below)?,
-            "type" => data_type = take_type(alloc, reader, below)?,
-            "metadata" => metadata = take_texts(alloc, reader, below)?,
-            _ => skip_value(reader, below)?,
-        }
+    match open_object(reader, depth)? {
+        Some(below) => take_parts(alloc, reader, below),
+        None => Ok(None),
     }
-    Ok(field_of(alloc, name, nullable, data_type, metadata)?)
 }
 
 /// The field that comes next, in a box. Out of line, since a result that holds a field takes much room on the stack, which is
@@ -75,6 +61,35 @@ fn take_boxed(
         Some(field) => Ok(Some(Box::new(alloc, field)?)),
         None => Ok(None),
     }
+}
+
+/// The field of the members that are left of an object.
+#[cycle(take)]
+#[inline(never)]
+#[tactic(auto, using(crate::proofs::TokenMembers::member_turn))]
+fn take_parts<'a>(
+    alloc: Global,
+    reader: &mut Reader<'a>,
+    depth: usize,
+) -> Result<Option<Field>, Refusal>
+    ensures ok { IfOk result (λ o. ReadsMembers (λ ms. field_of_value (object ms)) depth no_members reader.old o reader.new) }
+    ensures shorter { OnOk result (length reader.new < length reader.old) }
+    ensures text { result ≡ Err Refusal.Text → next_members depth no_members reader.old ≡ None }
+{
+    let mut name = None;
+    let mut nullable = None;
+    let mut data_type = None;
+    let mut metadata = Some(BTreeMap::new(alloc));
+    'parts: while let Some(key) = reader.next_key()? {
+        match key {
+            "name" => name = read_str(reader, depth)?,
+            "nullable" => nullable = read_bool(reader, depth)?,
+            "type" => data_type = take_type(alloc, reader, depth)?,
+            "metadata" => metadata = take_texts(alloc, reader, depth)?,
+            _ => skip_value(reader, depth)?,
+        }
+    }
+    Ok(field_of(alloc, name, nullable, data_type, metadata)?)
 }
 
 /// The field of these parts, where each is there.

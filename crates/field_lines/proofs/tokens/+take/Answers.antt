@@ -75,39 +75,39 @@ pub take_only-returns-then-ne-clause-ok : goal.take_only-returns-then-ne-clause-
 take_only-returns-then-ne-clause-ok t c =
     only_spoiled c.only.invariant (search rules) (rw c.in-Some.is at c.in_ok-key.ensures.value) c.ne.ensures c.if-ne.true c.in_ok-skip_value.ensures.ok c.in_ok-skip_members.ensures.ok
 
-pub take_field-parts-init : goal.take_field-parts-init
-take_field-parts-init t c =
+pub take_parts-parts-init : goal.take_parts-parts-init
+take_parts-parts-init t c =
     let none = ap (λ es. Some (texts_of es)) c.new.ensures.empty in
     record { found = no_members; decides = refl; at_name = refl; at_nullable = refl; at_type = refl; at_metadata = none; fewer = omega arith }
 
-pub take_field-parts-preserved : goal.take_field-parts-preserved
-take_field-parts-preserved t c =
+pub take_parts-parts-preserved : goal.take_parts-parts-preserved
+take_parts-parts-preserved t c =
     let d = after_some _ _ c.in_ok-skip_value-in_default-key.ensures.ok in
     let n = c.in_default-key in
-    parts_go_on c.parts.invariant (rw c.in-Some-2.is at c.in_ok-key.ensures.value) d.1 (part_other _ n.not-name) (part_other _ n.not-nullable) (part_other _ n.not-type) (part_other _ n.not-metadata)
+    parts_go_on c.parts.invariant (rw c.in-Some.is at c.in_ok-key.ensures.value) d.1 (part_other _ n.not-name) (part_other _ n.not-nullable) (part_other _ n.not-type) (part_other _ n.not-metadata)
 
-pub take_field-parts-preserved-then-str_eq : goal.take_field-parts-preserved-then-str_eq
-take_field-parts-preserved-then-str_eq t c =
+pub take_parts-parts-preserved-then-str_eq : goal.take_parts-parts-preserved-then-str_eq
+take_parts-parts-preserved-then-str_eq t c =
     let read = c.in_ok-name-in-name.ensures.ok in
-    parts_go_on c.parts.invariant (rw (c.in-Some-2.is, c.in-name.is) at c.in_ok-key.ensures.value) read.1 read.2 refl refl refl
+    parts_go_on c.parts.invariant (rw (c.in-Some.is, c.in-name.is) at c.in_ok-key.ensures.value) read.1 read.2 refl refl refl
 
-pub take_field-parts-preserved-then-str_eq-2 : goal.take_field-parts-preserved-then-str_eq-2
-take_field-parts-preserved-then-str_eq-2 t c =
+pub take_parts-parts-preserved-then-str_eq-2 : goal.take_parts-parts-preserved-then-str_eq-2
+take_parts-parts-preserved-then-str_eq-2 t c =
     let read = c.in_ok-nullable-in-nullable.ensures.ok in
-    parts_go_on c.parts.invariant (rw (c.in-Some-2.is, c.in-nullable.is) at c.in_ok-key.ensures.value) read.1 refl read.2 refl refl
+    parts_go_on c.parts.invariant (rw (c.in-Some.is, c.in-nullable.is) at c.in_ok-key.ensures.value) read.1 refl read.2 refl refl
 
-pub take_field-parts-preserved-then-str_eq-3 : goal.take_field-parts-preserved-then-str_eq-3
-take_field-parts-preserved-then-str_eq-3 t c =
+pub take_parts-parts-preserved-then-str_eq-3 : goal.take_parts-parts-preserved-then-str_eq-3
+take_parts-parts-preserved-then-str_eq-3 t c =
     let read = c.in_ok-data_type-in-type.ensures.ok in
-    parts_go_on c.parts.invariant (rw (c.in-Some-2.is, c.in-type.is) at c.in_ok-key.ensures.value) read.1 refl refl read.2 refl
+    parts_go_on c.parts.invariant (rw (c.in-Some.is, c.in-type.is) at c.in_ok-key.ensures.value) read.1 refl refl read.2 refl
 
-pub take_field-parts-preserved-then-str_eq-4 : goal.take_field-parts-preserved-then-str_eq-4
-take_field-parts-preserved-then-str_eq-4 t c =
+pub take_parts-parts-preserved-then-str_eq-4 : goal.take_parts-parts-preserved-then-str_eq-4
+take_parts-parts-preserved-then-str_eq-4 t c =
     let read = c.in_ok-metadata-in-metadata.ensures.ok in
-    parts_go_on c.parts.invariant (rw (c.in-Some-2.is, c.in-metadata.is) at c.in_ok-key.ensures.value) read.1 refl refl refl read.2
+    parts_go_on c.parts.invariant (rw (c.in-Some.is, c.in-metadata.is) at c.in_ok-key.ensures.value) read.1 refl refl refl read.2
 
-pub take_field-returns-clause-ok : goal.take_field-returns-clause-ok
-take_field-returns-clause-ok t c = object_read field_of_value _ _ _ _ _ _ (rw c.in-Some.is at c.in_ok-below.ensures.ok).0 (parts_end c.parts.invariant c.in_ok-field_of.ensures (grind arith))
+pub take_parts-returns-clause-ok : goal.take_parts-returns-clause-ok
+take_parts-returns-clause-ok t c = parts_end c.parts.invariant c.in_ok-field_of.ensures (grind arith)
 
 pub take_pair-returns-then-not-take_end_array-clause-ok : goal.take_pair-returns-then-not-take_end_array-clause-ok
 take_pair-returns-then-not-take_end_array-clause-ok t c =

@@ -10,6 +10,9 @@ decreases-take_field l = 8 * l.depth
 abbrev pub decreases-take_boxed : goal.decreases-take_boxed
 decreases-take_boxed l = 8 * l.depth + 1
 
+abbrev pub decreases-take_parts : goal.decreases-take_parts
+decreases-take_parts l = 8 * l.depth + 7
+
 abbrev pub decreases-take_type : goal.decreases-take_type
 decreases-take_type l = 8 * l.depth + 6
 
@@ -37,12 +40,12 @@ decreases-take_members l = 8 * l.depth + 4
 abbrev pub decreases-take_pair : goal.decreases-take_pair
 decreases-take_pair l = 8 * l.depth + 2
 
-abbrev pub invariant-take_field-parts : goal.invariant-take_field-parts
-invariant-take_field-parts l =
-    ArePartsUnderWay l.below l.initial.reader l.reader (option_map (λ n. n.now) l.name) l.nullable (option_map tree l.data_type) (option_map (λ m. texts_of m.entries) l.metadata)
+abbrev pub invariant-take_parts-parts : goal.invariant-take_parts-parts
+invariant-take_parts-parts l =
+    ArePartsUnderWay l.depth l.initial.reader l.reader (option_map (λ n. n.now) l.name) l.nullable (option_map tree l.data_type) (option_map (λ m. texts_of m.entries) l.metadata)
 
-abbrev pub decreases-take_field-parts : goal.decreases-take_field-parts
-decreases-take_field-parts l = length l.reader
+abbrev pub decreases-take_parts-parts : goal.decreases-take_parts-parts
+decreases-take_parts-parts l = length l.reader
 
 abbrev pub invariant-take_only-only : goal.invariant-take_only-only
 invariant-take_only-only l = IsOnlyUnderWay l.depth l.only l.fn.reader l.reader (option_map tree l.data_type)
