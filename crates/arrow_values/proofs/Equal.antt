@@ -1,41 +1,38 @@
 -- What the tests of the code compute is what the specs say.
-use Rattle.std.proofs.Common.{◌≡◌, ◌<◌, List, [], ◌∷◌, Bool, false, ◌&&◌, map, refl, ap, ℤ, ℕ, zero, suc, length, get_or, drop, arith}
+use Rattle.std.proofs.Common.{◌≡◌, List, [], ◌∷◌, ◌&&◌, refl, ap, String, Global, string_bytes, bytes_eq}
+use Rattle.std.specs.Bool.{beq}
 use Rattle.std.specs.Cmp.Lexicographic.{pointwise}
-use Rattle.std.proofs.lemmas.Bool.{and_left}
-use denote.Enum.Bare.{sameb}
+use Rattle.std.specs.Coded.{coded×}
+use Rattle.std.proofs.lemmas.Bool.Decides.{same_from_decides}
+use denote.Enum.Bare.{sameb, same_true, true_same}
 use Rattle.arrow_values.specs.contracts.tree.UnionMode.{the_type}
 use Rattle.arrow_values.specs.declared.tree.UnionMode.{UnionMode}
-use Rattle.arrow_values.specs.declared.tree.UnionMode.TheVariants.{Sparse, Dense}
-use Rattle.arrow_values.specs.Tree.{FieldTree}
-use Rattle.arrow_values.specs.View.{field_trees, member_trees}
-use Rattle.arrow_values.specs.Equal.{mode_eq, fields_eq, members_eq, field_lists_eq, member_lists_eq, field_eq, member_eq}
+use Rattle.arrow_values.specs.Tree.{FieldTree, Members}
+use Rattle.arrow_values.specs.Code.{mode_coded, text_code, fields_to, members_to}
+use Rattle.arrow_values.specs.View.{field_trees, member_trees, texts_of}
+use Rattle.arrow_values.specs.Equal.{same_tree, code_eq, code_decides, tree_eq, field_eq, member_eq, metadata_eq, field_lists_eq, member_lists_eq, same_text, same_int, same_bool, same_list}
 
-pub mode_same : (u v : UnionMode) → sameb the_type u v ≡ mode_eq u v
-mode_same Sparse Sparse = refl
-mode_same Dense Dense = refl
-mode_same _ _ = refl
+pub mode_same : (u v : UnionMode) → sameb the_type u v ≡ code_eq mode_coded u v
+mode_same u v = same_from_decides _ _ (same_true the_type tt u v, true_same the_type u v) (code_decides mode_coded u v)
 
-pub fields_same : (fs gs : List FieldTree) → field_lists_eq fs gs ≡ fields_eq (field_trees fs) (field_trees gs)
+pub fields_same : (fs gs : List FieldTree) → field_lists_eq fs gs ≡ same_tree (fields_to (field_trees fs)) (fields_to (field_trees gs))
 fields_same (f ∷ fs) (g ∷ gs) = ap (λ b. field_eq f g && b) (fields_same fs gs)
 fields_same [] [] = refl
 fields_same _ _ = refl
 
-pub members_same : (ms ns : List (ℤ × FieldTree)) → member_lists_eq ms ns ≡ members_eq (member_trees ms) (member_trees ns)
+pub members_same : (ms ns : Members) → member_lists_eq ms ns ≡ same_tree (members_to (member_trees ms)) (members_to (member_trees ns))
 members_same (m ∷ ms) (n ∷ ns) = ap (λ b. member_eq m n && b) (members_same ms ns)
 members_same [] [] = refl
 members_same _ _ = refl
 
-pub pointwise_map : {X Y : Type 0} (E : Y → Y → Bool) (f : X → Y) (xs ys : List X) → pointwise (λ p q. E (f p) (f q)) xs ys ≡ pointwise E (map f xs) (map f ys)
-pointwise_map E f (x ∷ xs) (y ∷ ys) = ap (λ b. E (f x) (f y) && b) (pointwise_map E f xs ys)
-pointwise_map E f [] [] = refl
-pointwise_map E f _ _ = refl
+pub texts_same : (es fs : List (String Global × String Global))
+    → pointwise (λ e f. bytes_eq (string_bytes e.0) (string_bytes f.0) && bytes_eq (string_bytes e.1) (string_bytes f.1)) es fs ≡ metadata_eq (texts_of es) (texts_of fs)
+texts_same (e ∷ es) (f ∷ fs) = rw (same_text (string_bytes e.0) (string_bytes f.0), same_text (string_bytes e.1) (string_bytes f.1), texts_same es fs) refl
+texts_same [] [] = refl
+texts_same _ _ = refl
 
--- two lists that differ at one place
-pub pointwise_fails : {X : Type 0} (E : X → X → Bool) (xs ys : List X) (i : ℕ) (d e : X) → i < length xs → i < length ys → E (get_or xs i d) (get_or ys i e) ≡ false
-    → pointwise E (drop i xs) (drop i ys) ≡ false
-pointwise_fails E (x ∷ xs) (y ∷ ys) zero d e p q h = and_left (E x y) (pointwise E xs ys) h
-pointwise_fails E (x ∷ xs) (y ∷ ys) (suc i) d e p q h = pointwise_fails E xs ys i d e (omega arith) (omega arith) h
-pointwise_fails E _ _ i d e p q h = absurd (omega arith)
+pub field_same : (f g : FieldTree) → field_eq f g ≡ (tree_eq f.tree g.tree && (bytes_eq f.name g.name && (beq f.nullable g.nullable && metadata_eq f.metadata g.metadata)))
+field_same f g = rw (same_text f.name g.name, same_bool f.nullable g.nullable, same_list (coded× text_code text_code) f.metadata g.metadata) refl
 
 -- for `grind`
-pub ruleset same_lists = (mode_same, fields_same, members_same)
+pub ruleset same_lists = (mode_same, fields_same, members_same, same_int)

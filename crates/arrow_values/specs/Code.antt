@@ -54,7 +54,7 @@ pub mode_from-is_dense : (u : UnionMode) → mode_from (is_dense u) ≡ u
 mode_from-is_dense Sparse = refl
 mode_from-is_dense Dense = refl
 
-abbrev text_code : Coded Text
+abbrev pub text_code : Coded Text
 text_code = coded_list coded_ℕ
 
 -- the name, the nullability and the metadata of a field, whose data type stands beside them
@@ -64,12 +64,12 @@ rest_code = coded× text_code (coded× coded_bool (coded_list (coded× text_code
 abbrev plain_coded : Coded Plain
 plain_coded = code_by ℕ coded_ℕ plain_code plain_from plain_from-code
 
-abbrev mode_coded : Coded UnionMode
+abbrev pub mode_coded : Coded UnionMode
 mode_coded = code_by Bool coded_bool is_dense mode_from mode_from-is_dense
 
 -- a tree by its sort and its parts
 abbrev mutual
-  tree_to : Tree → Gv
+  pub tree_to : Tree → Gv
   tree_to (plain p) = gcons gnil (plain_coded.code p)
   tree_to (list n t b m) = gcons (gnum 0) (gcons (tree_to t) (rest_code.code (n, (b, m))))
   tree_to (large_list n t b m) = gcons (gcons gnil gnil) (gcons (tree_to t) (rest_code.code (n, (b, m))))
@@ -77,11 +77,11 @@ abbrev mutual
   tree_to (struct fs) = gcons (gcons (gcons gnil gnil) gnil) (fields_to fs)
   tree_to (union ms u) = gcons (gcons (gcons gnil (gnum 0)) (mode_coded.code u)) (members_to ms)
 
-  fields_to : FieldTrees → Gv
+  pub fields_to : FieldTrees → Gv
   fields_to no_fields = gnil
   fields_to (field n t b m fs) = gcons (gcons (tree_to t) (rest_code.code (n, (b, m)))) (fields_to fs)
 
-  members_to : MemberTrees → Gv
+  pub members_to : MemberTrees → Gv
   members_to no_members = gnil
   members_to (member i n t b m ms) = gcons (gcons (coded_ℤ.code i) (gcons (tree_to t) (rest_code.code (n, (b, m))))) (members_to ms)
 

@@ -146,6 +146,7 @@ fn same_inner(a: &DataType, b: &DataType) -> bool
 }
 
 #[cycle(equal)]
+#[tactic(auto, using(crate::proofs::Equal::field_same))]
 #[inline(always)]
 fn same_field(a: &Field, b: &Field) -> bool
     ensures { result ≡ field_eq a.now b.now }
@@ -210,6 +211,7 @@ fn same_members(a: &UnionFields, b: &UnionFields) -> bool
 }
 
 #[cycle(equal)]
+#[tactic(auto, using(crate::specs::Equal::same_int))]
 fn same_member(a: &(i8, Field), b: &(i8, Field)) -> bool
     ensures { result ≡ member_eq a.now b.now }
 {

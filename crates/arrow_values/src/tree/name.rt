@@ -1,6 +1,6 @@
 //! The name of a field.
 ghost use Rattle.std.specs.Prelude.{◌≡◌, IfOk, string_bytes};
-ghost use Rattle.arrow_values.specs.Equal.{text_eq};
+ghost use Rattle.std.specs.Str.{bytes_eq};
 ghost use Rattle.arrow_values.specs.Name.{name_bytes};
 
 use crate::tree::fixed_name::FixedName;
@@ -58,7 +58,7 @@ impl Name {
 /// Whether both are the same text.
 #[inline(always)]
 pub(crate) fn same_name(a: &Name, b: &Name) -> bool
-    ensures { result ≡ text_eq (name_bytes a.now) (name_bytes b.now) }
+    ensures { result ≡ bytes_eq (name_bytes a.now) (name_bytes b.now) }
 {
     if let (Name::Fixed(x), Name::Fixed(y)) = (a, b) {
         if *x == *y {
@@ -70,7 +70,7 @@ pub(crate) fn same_name(a: &Name, b: &Name) -> bool
 
 #[inline(never)]
 fn same_text(a: &str, b: &str) -> bool
-    ensures { result ≡ text_eq a.now b.now }
+    ensures { result ≡ bytes_eq a.now b.now }
 {
     *a == *b
 }
