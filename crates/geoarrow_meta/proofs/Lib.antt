@@ -1,5 +1,4 @@
 pub mod Equality
-pub mod Codes
 pub mod Order
 pub mod ReadBack
 pub mod KeyedValues

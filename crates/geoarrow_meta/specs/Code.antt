@@ -1,15 +1,12 @@
 -- JSON values have codes: trees of numbers, different ones of different values. So two values are the same where their codes are.
-use Rattle.std.specs.Prelude.{◌≡◌, ◌==◌, ◌&&◌, Bool, true, false, refl}
+use Rattle.std.specs.Prelude.{◌≡◌, Bool, refl}
 use Rattle.std.specs.Bool.{Decides}
-use Rattle.std.specs.Coded.{Coded, coded_ℕ, coded_bool, coded_ℤ, coded_list}
+use Rattle.std.specs.Coded.{Coded, coded_bool, coded_ℤ}
 use Rattle.std.proofs.Common.{ap, ap₂}
-use Rattle.std.proofs.lemmas.Bool.Decides.{Decides-eqb, Decides-and, Decides-like}
 use base.Stored.{Gv, gnil, gnum, gcons, coded_float}
-use Rattle.arrow_values.specs.Tree.{Text}
+use Rattle.arrow_values.specs.Code.{text_code}
+use Rattle.arrow_values.specs.Equal.{code_eq, code_decides}
 use Rattle.serde_json.specs.Data.{Num, unsigned, negative, float, Data, null, boolean, number, string, array, object, Items, no_items, item, Members, no_members, member}
-
-abbrev pub text_code : Coded Text
-text_code = coded_list coded_ℕ
 
 abbrev num_to : Num → Gv
 num_to (unsigned n) = gnum n
@@ -67,27 +64,9 @@ mutual
 abbrev pub data_code : Coded Data
 data_code = record { code = data_to; inj = data_inj }
 
--- whether both trees of numbers are the same
-abbrev pub same_tree : Gv → Gv → Bool
-same_tree gnil gnil = true
-same_tree (gnum m) (gnum n) = m == n
-same_tree (gcons a b) (gcons c d) = same_tree a c && same_tree b d
-same_tree _ _ = false
-
-same_tree-Decides : (a b : Gv) → Decides (same_tree a b) (a ≡ b)
-same_tree-Decides gnil gnil = (λ h. refl, λ p. refl)
-same_tree-Decides (gnum m) (gnum n) = Decides-like _ (λ p. ap gnum p) (λ p. cc) (Decides-eqb m n)
-same_tree-Decides (gcons a b) (gcons c d) =
-    Decides-like _ (λ p. ap₂ gcons p.0 p.1) (λ p. (cc, cc)) (Decides-and _ _ (same_tree-Decides a c) (same_tree-Decides b d))
-same_tree-Decides _ _ = (λ h. cc, λ p. cc)
-
--- a value of any kind that has codes is the same where its code is
-pub same_code : {A : Type 0} (c : Coded A) (x y : A) → Decides (same_tree (c.code x) (c.code y)) (x ≡ y)
-same_code c x y = Decides-like _ (c.inj x y) (λ p. ap c.code p) (same_tree-Decides _ _)
-
 -- whether both are the same JSON value
 abbrev pub same : Data → Data → Bool
-same d e = same_tree (data_code.code d) (data_code.code e)
+same = code_eq data_code
 
 pub same-Decides : (d e : Data) → Decides (same d e) (d ≡ e)
-same-Decides = same_code data_code
+same-Decides = code_decides data_code

@@ -79,7 +79,7 @@ pub(crate) fn same_value(a: &Value, b: &Value) -> bool
     }
 }
 
-#[tactic(auto, using(crate::proofs::Codes::codes))]
+#[tactic(auto, using(arrow_values::specs::Equal::codes))]
 fn same_number(a: &Number, b: &Number) -> bool
     requires first { is_float (number_view a.now) ≡ false }
     requires second { is_float (number_view b.now) ≡ false }
@@ -108,7 +108,7 @@ fn same_arrays(a: &Vec<Value>, b: &Vec<Value>) -> bool
 }
 
 #[cycle(same)]
-#[tactic(auto, using(crate::proofs::Codes::codes))]
+#[tactic(auto, using(arrow_values::specs::Equal::codes))]
 fn same_objects(a: &Map<String, Value>, b: &Map<String, Value>) -> bool
     requires first { members_have_float (members_view a.now.entries) ≡ false }
     requires second { members_have_float (members_view b.now.entries) ≡ false }

@@ -1,8 +1,15 @@
-use Rattle.std.proofs.Common.{◌≡◌, bytes_eq, string_bytes, sym, ap, ◌∙◌, rules}
+use Rattle.std.proofs.Common.{◌≡◌, Bool, String, Global, bytes_eq, string_bytes, sym, ap, ◌∙◌, rules}
 use Rattle.serde_json.specs.Data.{boolean, string}
 use Rattle.serde_json.specs.View.{view}
-use Rattle.geoarrow_meta.proofs.Codes.{view-Bool, view-String, same_bool, same_text}
+use Rattle.serde_json.specs.declared.value.Value.{Bool as OfBool, String as OfString, the_lemmas}
+use Rattle.arrow_values.specs.Equal.{same_bool, same_text}
 use Rattle.geoarrow_meta.proofs.walks.+same.Goals as goal
+
+view-Bool : (b : Bool) → view (OfBool b) ≡ boolean b
+view-Bool b = search (rules, the_lemmas)
+
+view-String : (s : String Global) → view (OfString s) ≡ string (string_bytes s)
+view-String s = search (rules, the_lemmas)
 
 pub same_value-returns-in-Bool-Bool : goal.same_value-returns-in-Bool-Bool
 same_value-returns-in-Bool-Bool t c =
