@@ -3,17 +3,10 @@ use Rattle.std.proofs.Common.{◌≡◌, List, [], ◌∷◌, ◌&&◌, refl, ap
 use Rattle.std.specs.Bool.{beq}
 use Rattle.std.specs.Cmp.Lexicographic.{pointwise}
 use Rattle.std.specs.Coded.{coded×}
-use Rattle.std.proofs.lemmas.Bool.Decides.{same_from_decides}
-use denote.Enum.Bare.{sameb, same_true, true_same}
-use Rattle.arrow_values.specs.contracts.tree.UnionMode.{the_type}
-use Rattle.arrow_values.specs.declared.tree.UnionMode.{UnionMode}
 use Rattle.arrow_values.specs.Tree.{FieldTree, Members}
-use Rattle.arrow_values.specs.Code.{mode_coded, text_code, fields_to, members_to}
+use Rattle.arrow_values.specs.Code.{text_code, fields_to, members_to}
 use Rattle.arrow_values.specs.View.{field_trees, member_trees, texts_of}
-use Rattle.arrow_values.specs.Equal.{same_tree, code_eq, code_decides, tree_eq, field_eq, member_eq, metadata_eq, field_lists_eq, member_lists_eq, same_text, same_int, same_bool, same_list}
-
-pub mode_same : (u v : UnionMode) → sameb the_type u v ≡ code_eq mode_coded u v
-mode_same u v = same_from_decides _ _ (same_true the_type tt u v, true_same the_type u v) (code_decides mode_coded u v)
+use Rattle.arrow_values.specs.Equal.{same_tree, tree_eq, field_eq, member_eq, metadata_eq, field_lists_eq, member_lists_eq, same_text, same_int, same_bool, same_list}
 
 pub fields_same : (fs gs : List FieldTree) → field_lists_eq fs gs ≡ same_tree (fields_to (field_trees fs)) (fields_to (field_trees gs))
 fields_same (f ∷ fs) (g ∷ gs) = ap (λ b. field_eq f g && b) (fields_same fs gs)
@@ -35,4 +28,4 @@ pub field_same : (f g : FieldTree) → field_eq f g ≡ (tree_eq f.tree g.tree &
 field_same f g = rw (same_text f.name g.name, same_bool f.nullable g.nullable, same_list (coded× text_code text_code) f.metadata g.metadata) refl
 
 -- for `grind`
-pub ruleset same_lists = (mode_same, fields_same, members_same, same_int)
+pub ruleset same_lists = (fields_same, members_same, same_int)

@@ -1,5 +1,5 @@
 -- Texts by key: after a change, and as the entries of a map.
-use Rattle.std.proofs.Common.{◌≡◌, ⊎_elim, List, [], ◌∷◌, Bool, true, false, not, cond, Option, Some, None, option_map, String, Global, Ordering, Less, Equal, Greater, string_bytes, nat_cmp, refl, sym, ap, ◌∙◌, true≢false}
+use Rattle.std.proofs.Common.{◌≡◌, ⊎_elim, List, [], ◌∷◌, Bool, false, not, cond, Option, Some, None, option_map, String, Global, Ordering, Less, Equal, Greater, string_bytes, nat_cmp, refl, sym, ap, ◌∙◌}
 use Rattle.std.specs.Map.{lookup, remove_entry, keys_of}
 use Rattle.std.specs.BTreeMap.{is_at, insert_entry}
 use Rattle.std.specs.String.{string_cmp}
@@ -28,13 +28,7 @@ put_step Less k t q e m later is h = rw (nat_list_eq_equiv.symm q k)
 put_step Equal k t q e m later is h =
     let same : k ≡ e.0 = (bytes_eq-Decides k e.0).0 (sym is) in
     rw (← same, nat_list_eq_equiv.symm q k) (⊎_elim (λ b. rw b) (λ b. rw b) (cases_Bool (bytes_eq k q)))
-put_step Greater k t q e m later is h = ap (cond (bytes_eq q e.0) (Some e.1)) h ∙ apart (bytes_eq q e.0) (bytes_eq k q) (Some t) (Some e.1) (text_at q m)
-    (λ a b. true≢false (sym ((bytes_eq-Decides k e.0).1 ((bytes_eq-Decides k q).0 b ∙ (bytes_eq-Decides q e.0).0 a)) ∙ sym is))
-  where
-    apart : (a b : Bool) (t u o : Option Text) → (a ≡ true → b ≡ true → ⊥) → cond a u (cond b t o) ≡ cond b t (cond a u o)
-    apart true true t u o h = absurd (h refl refl)
-    apart true false t u o h = refl
-    apart false b t u o h = refl
+put_step Greater k t q e m later is h = ⊎_elim (λ b. rw b (rw ((bytes_eq-Decides q e.0).0 b, ← is) refl)) (λ b. rw b h) (cases_Bool (bytes_eq q e.0))
 
 text_at-put : (k t q : Text) (m : Metadata) → text_at q (put_text k t m) ≡ cond (bytes_eq k q) (Some t) (text_at q m)
 text_at-put k t q [] = rw (nat_list_eq_equiv.symm q k)
@@ -70,12 +64,11 @@ none_above first (e ∷ es) h = rw (← is_eq-slice_cmp (string_bytes first) (st
 pub texts_of-remove : (q : Text) (es : List Entry) → IsStrictlySortedBy string_cmp (keys_of es) → texts_of (remove_entry (at_text q) es) ≡ remove_text q (texts_of es)
 unfolding IsStrictlySortedBy
 texts_of-remove q [] h = refl
-texts_of-remove q (e ∷ es) h = rw (is_eq-slice_cmp q (string_bytes e.0)) (removed (bytes_eq q (string_bytes e.0)) refl (texts_of-remove q es h.1))
-  where
-    removed : (b : Bool) → bytes_eq q (string_bytes e.0) ≡ b → texts_of (remove_entry (at_text q) es) ≡ remove_text q (texts_of es)
-        → texts_of (cond b es (e ∷ remove_entry (at_text q) es)) ≡ cond (not b) ((string_bytes e.0, string_bytes e.1) ∷ remove_text q (texts_of es)) (remove_text q (texts_of es))
-    removed true is later = rw ((bytes_eq-Decides q (string_bytes e.0)).0 is) (sym (none_above e.0 es h.0))
-    removed false is later = ap (λ m. (string_bytes e.0, string_bytes e.1) ∷ m) later
+texts_of-remove q (e ∷ es) h =
+    let first : q ≡ string_bytes e.0 → texts_of es ≡ remove_text q (texts_of es) = λ same. rw same (sym (none_above e.0 es h.0)) in
+    let later = ap (λ m. (string_bytes e.0, string_bytes e.1) ∷ m) (texts_of-remove q es h.1) in
+    rw (is_eq-slice_cmp q (string_bytes e.0))
+    (⊎_elim (λ b. rw b (first ((bytes_eq-Decides q (string_bytes e.0)).0 b))) (λ b. rw b later) (cases_Bool (bytes_eq q (string_bytes e.0))))
 
 -- ---- texts that are there already: putting them changes nothing
 -- a key below all is at none

@@ -1,10 +1,12 @@
 -- Trees have codes: trees of numbers, different ones of different trees.
-use Rattle.std.specs.Prelude.{◌≡◌, ℕ, zero, suc, cond, ℤ, Bool, true, false, List, [], ◌∷◌}
+use Rattle.std.specs.Prelude.{◌≡◌, ℕ, ℤ, Bool, List, [], ◌∷◌, get_or}
 use Rattle.std.proofs.Common.{refl, ap, ap₂}
 use Rattle.std.specs.Coded.{Coded, code_by, coded×, coded_ℕ, coded_bool, coded_ℤ, coded_list}
-use base.Stored.{Gv, gnil, gnum, gcons}
+use base.Stored.{Gv, gnil, gnum, gcons, coded_via}
+use denote.Enum.Bare.{tag_one}
+use denote.Enum.Declared.{tag_of}
 use Rattle.arrow_values.specs.declared.tree.UnionMode.{UnionMode}
-use Rattle.arrow_values.specs.declared.tree.UnionMode.TheVariants.{Sparse, Dense}
+use Rattle.arrow_values.specs.contracts.tree.UnionMode.{the_type}
 use Rattle.arrow_values.specs.Tree.{Text, Metadata, Plain, null, boolean, int8, int16, int32, int64, uint8, uint16, uint32, uint64, float16, float32, float64, date32, date64, binary, large_binary, binary_view, utf8, large_utf8, utf8_view, Tree, plain, list, large_list, fixed_size_list, struct, union, FieldTrees, no_fields, field, MemberTrees, no_members, member, FieldTree, field_tree}
 
 abbrev pub plain_code : Plain → ℕ
@@ -30,29 +32,12 @@ plain_code utf8 = 18
 plain_code large_utf8 = 19
 plain_code utf8_view = 20
 
--- the type at a place of the list
-abbrev nth : List Plain → ℕ → Plain
-nth [] n = null
-nth (p ∷ ps) zero = p
-nth (p ∷ ps) (suc n) = nth ps n
-
 abbrev pub plain_from : ℕ → Plain
-plain_from = nth (null ∷ boolean ∷ int8 ∷ int16 ∷ int32 ∷ int64 ∷ uint8 ∷ uint16 ∷ uint32 ∷ uint64 ∷ float16 ∷ float32 ∷ float64 ∷ date32 ∷ date64 ∷ binary ∷ large_binary ∷ binary_view ∷ utf8 ∷ large_utf8 ∷ utf8_view ∷ [])
+plain_from n = get_or (null ∷ boolean ∷ int8 ∷ int16 ∷ int32 ∷ int64 ∷ uint8 ∷ uint16 ∷ uint32 ∷ uint64 ∷ float16 ∷ float32 ∷ float64 ∷ date32 ∷ date64 ∷ binary ∷ large_binary ∷ binary_view ∷ utf8 ∷ large_utf8 ∷ utf8_view ∷ []) n null
 
 pub plain_from-code : (p : Plain) → plain_from (plain_code p) ≡ p
 plain_from-code null = refl
 plain_from-code _ = refl
-
-abbrev pub is_dense : UnionMode → Bool
-is_dense Sparse = false
-is_dense Dense = true
-
-abbrev pub mode_from : Bool → UnionMode
-mode_from b = cond b Dense Sparse
-
-pub mode_from-is_dense : (u : UnionMode) → mode_from (is_dense u) ≡ u
-mode_from-is_dense Sparse = refl
-mode_from-is_dense Dense = refl
 
 abbrev pub text_code : Coded Text
 text_code = coded_list coded_ℕ
@@ -64,8 +49,9 @@ rest_code = coded× text_code (coded× coded_bool (coded_list (coded× text_code
 abbrev plain_coded : Coded Plain
 plain_coded = code_by ℕ coded_ℕ plain_code plain_from plain_from-code
 
-abbrev pub mode_coded : Coded UnionMode
-mode_coded = code_by Bool coded_bool is_dense mode_from mode_from-is_dense
+-- a mode by the place of its variant
+abbrev mode_coded : Coded UnionMode
+mode_coded = coded_via coded_ℕ (tag_of the_type) (tag_one the_type tt)
 
 -- a tree by its sort and its parts
 abbrev mutual
