@@ -6,7 +6,7 @@ use Rattle.serde_json.specs.Find.{as_str}
 use Rattle.serde_json.specs.View.{view}
 use Rattle.serde_json.specs.declared.value.Value.{Value}
 use Rattle.geoarrow_meta.specs.declared.crs.crs_type.CrsType.{CrsType}
-use Rattle.geoarrow_meta.specs.declared.crs.crs_type.CrsType.TheVariants.{Projjson, Wkt2_2019, AuthorityCode, Srid}
+use Rattle.geoarrow_meta.specs.declared.crs.crs_type.CrsType.TheVariants.{Projjson, Wkt2_2019}
 use Rattle.geoarrow_meta.specs.declared.crs.Crs.{Crs}
 use Rattle.arrow_values.specs.declared.error.GeoArrowError.{GeoArrowError}
 use Rattle.arrow_values.specs.Errors.{IsGeoMemory}
@@ -14,19 +14,13 @@ use Rattle.arrow_values.specs.Tree.{Text}
 
 -- if the type is `Projjson`, the value, which may be missing
 abbrev if_projjson : Option CrsType → Option Data → Option (Option Data)
-if_projjson None v = None
 if_projjson (Some Projjson) v = Some v
-if_projjson (Some Wkt2_2019) v = None
-if_projjson (Some AuthorityCode) v = None
-if_projjson (Some Srid) v = None
+if_projjson _ v = None
 
 -- if the type is `Wkt2_2019` and the value is a text, that text
 abbrev if_wkt : Option CrsType → Option Data → Option Text
-if_wkt None v = None
-if_wkt (Some Projjson) v = None
 if_wkt (Some Wkt2_2019) v = option_and_then as_str v
-if_wkt (Some AuthorityCode) v = None
-if_wkt (Some Srid) v = None
+if_wkt _ v = None
 
 -- the PROJJSON that a CRS has already
 abbrev pub own_projjson : Crs → Option (Option Data)
