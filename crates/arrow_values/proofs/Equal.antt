@@ -27,5 +27,9 @@ texts_same _ _ = refl
 pub field_same : (f g : FieldTree) → field_eq f g ≡ (tree_eq f.tree g.tree && (bytes_eq f.name g.name && (beq f.nullable g.nullable && metadata_eq f.metadata g.metadata)))
 field_same f g = rw (same_text f.name g.name, same_bool f.nullable g.nullable, same_list (coded× text_code text_code) f.metadata g.metadata) refl
 
+-- equal fields have equal parts
+pub same_parts : (f g : FieldTree) → f ≡ g → (f.name ≡ g.name) × (f.tree ≡ g.tree) × (f.nullable ≡ g.nullable) × (f.metadata ≡ g.metadata)
+same_parts f g e = (ap (λ h. h.name) e, ap (λ h. h.tree) e, ap (λ h. h.nullable) e, ap (λ h. h.metadata) e)
+
 -- for `grind`
 pub ruleset same_lists = (fields_same, members_same, same_int)

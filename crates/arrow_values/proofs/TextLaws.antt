@@ -44,9 +44,9 @@ sets_extension name None m n is = λ q. rw (is, text_at-remove metadata_key q (p
 sets_extension name (Some text) m n is = λ q. rw (is, text_at-put metadata_key text q (put_text name_key name m), text_at-put name_key name q m)
 
 -- the entries of a map: what an insert leaves
-pub texts_of-insert : (es : List Entry) (k v : String Global) → texts_of (insert_entry string_cmp es k v) ≡ put_text (string_bytes k) (string_bytes v) (texts_of es)
-texts_of-insert [] k v = refl
-texts_of-insert (e ∷ es) k v = moved (string_cmp k e.0) _ _ _ ∙ rw (texts_of-insert es k v)
+pub texts_of_insert : (es : List Entry) (k v : String Global) → texts_of (insert_entry string_cmp es k v) ≡ put_text (string_bytes k) (string_bytes v) (texts_of es)
+texts_of_insert [] k v = refl
+texts_of_insert (e ∷ es) k v = moved (string_cmp k e.0) _ _ _ ∙ rw (texts_of_insert es k v)
   where
     moved : (r : Ordering) (a b c : List Entry) → texts_of (match_ordering r a b c) ≡ match_ordering r (texts_of a) (texts_of b) (texts_of c)
     moved Less a b c = refl

@@ -149,6 +149,7 @@ impl Field {
     /// Writes an extension type on the field: its name at the name key, and at the metadata key the text of its
     /// metadata, or nothing. Errs as `supports_data_type` does if the type cannot be written over the field's data type,
     /// and otherwise only when out of memory; the field is then unchanged.
+    #[tactic(auto, using(crate::proofs::TextLaws::sets_extension))]
     pub fn try_with_extension_type<E: ExtensionType>(
         &mut self,
         alloc: Global,

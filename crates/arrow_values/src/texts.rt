@@ -73,6 +73,7 @@ pub(crate) fn clone_texts(
 }
 
 /// Puts a text at a key.
+#[tactic(auto, using(crate::proofs::TextLaws::texts_of_insert))]
 fn put_text(
     alloc: Global,
     texts: &mut BTreeMap<String, String>,

@@ -81,6 +81,7 @@ impl Field {
     }
 
     /// The name.
+    #[tactic(auto, using(crate::proofs::Equal::same_parts))]
     #[inline(always)]
     pub fn name(&self) -> &str
         ensures { result.now ≡ self.now.name }
@@ -89,6 +90,7 @@ impl Field {
     }
 
     /// The data type.
+    #[tactic(auto, using(crate::proofs::Equal::same_parts))]
     pub fn data_type(&self) -> &DataType
         ensures { tree result.now ≡ self.now.tree }
     {
@@ -96,6 +98,7 @@ impl Field {
     }
 
     /// Whether its values may be null.
+    #[tactic(auto, using(crate::proofs::Equal::same_parts))]
     pub fn is_nullable(&self) -> bool
         ensures { result ≡ self.now.nullable }
     {
@@ -103,6 +106,7 @@ impl Field {
     }
 
     /// The metadata: a map of texts.
+    #[tactic(auto, using(crate::proofs::Equal::same_parts))]
     pub fn metadata(&self) -> &BTreeMap<String, String>
         ensures { texts_of result.now.entries ≡ self.now.metadata }
     {

@@ -12,7 +12,7 @@ impl UnionFields {
     /// The union of these members: the first id with the first field, and so on. Errs with `InvalidArgumentError`
     /// if there are not as many ids as fields, if an id is negative, or if one is repeated; otherwise only when
     /// out of memory. A union may have no members; it then allocates nothing.
-    #[tactic(auto, using(crate::proofs::Ids::unfit))]
+    #[tactic(auto, using(crate::proofs::Ids::unfit, crate::proofs::Ids::made_ids))]
     pub fn try_new(
         alloc: Global,
         type_ids: Vec<i8>,
