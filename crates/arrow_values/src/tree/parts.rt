@@ -150,6 +150,7 @@ impl Field {
     /// `EXTENSION_TYPE_NAME_KEY`, and at `EXTENSION_TYPE_METADATA_KEY` the text, or nothing. Whether the data type can carry
     /// an extension type of that name is not tested. Errs only when out of memory. A field that has them so already stays
     /// as it is, which allocates nothing.
+    #[tactic(auto, using(crate::proofs::Equal::same_parts, crate::proofs::TextLaws::sets_extension))]
     pub fn with_extension_texts(
         self,
         alloc: Global,

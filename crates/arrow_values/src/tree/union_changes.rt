@@ -54,6 +54,7 @@ impl UnionFields {
 
     /// Appends the members of `other`. Errs with `RepeatedId` of the first id of `other` that this union has too, if
     /// there is one, and otherwise only when out of memory; `other` is then returned, and both unions are unchanged.
+    #[tactic(auto, using(crate::proofs::Ids::appended_ids))]
     pub fn append(&mut self, other: UnionFields) -> Result<(), (UnionFields, AppendFault)>
         ensures joined { OnOk result (self.new ≡ self.old ++ other) }
         ensures ids { HasTypeIds self.old → HasTypeIds other → HasTypeIds self.new }

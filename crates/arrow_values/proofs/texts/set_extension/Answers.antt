@@ -1,5 +1,4 @@
-use Rattle.std.proofs.Common.{rules, ◌≡◌, [], ap, ◌∙◌}
-use Rattle.std.proofs.lemmas.List.{nil_from_length}
+use Rattle.std.proofs.Common.{rules, ◌≡◌, ap, ◌∙◌}
 use Rattle.arrow_values.specs.View.{texts_of}
 use Rattle.arrow_values.specs.Texts.{metadata_key, put_text, name_key, remove_text}
 use Rattle.arrow_values.proofs.texts.set_extension.Goals as goal
@@ -8,9 +7,3 @@ pub returns-then-not-bare : goal.returns-then-not-bare
 returns-then-not-bare c =
     let put : texts_of c.put_text.new.texts.entries ≡ put_text name_key c.args.name.now (texts_of c.args.texts.now.entries) = search rules in
     rw c.in-None.is (c.remove_text.ensures ∙ ap (remove_text metadata_key) put)
-
-pub returns-else-not-bare : goal.returns-else-not-bare
-returns-else-not-bare c =
-    let put : texts_of c.put_text.new.texts.entries ≡ put_text name_key c.args.name.now (texts_of c.args.texts.now.entries) = search rules in
-    let none : c.args.texts.now.entries ≡ [] = nil_from_length c.args.texts.now.entries (c.is_empty-bare.ensures.0 c.if-not-bare.false) in
-    rw (c.in-None.is, none) (put ∙ rw none)
