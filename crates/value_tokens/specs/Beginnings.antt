@@ -1,5 +1,5 @@
 -- The token that a value begins with says what kind of value it is.
-use Rattle.std.proofs.Common.{◌≡◌, ℕ, suc, List, ◌∷◌, length, Bool, Option, Some, None, option_map, IfSome, refl, sym, ap, ◌∙◌, subst}
+use Rattle.std.proofs.Common.{◌≡◌, ℕ, suc, List, ◌∷◌, length, Bool, Option, Some, None, option_map, IfSome, refl, sym, ap, ◌∙◌, subst, arith}
 use Rattle.json.specs.Token as spec
 use Rattle.json.specs.Json.{Parse, Items, Members, parse_map, items, members, value, value_with}
 use Rattle.json.proofs.Grammar.{value_is}
@@ -22,8 +22,7 @@ pub next_null : (depth : ℕ) (ts : List spec.Token) → next_value depth (spec.
 next_null depth ts = ap (converted of_json) (value_is depth (spec.null ∷ ts))
 
 numbered : (o : Option Num) (ts : List spec.Token) → option_map {U = Data × List spec.Token} (λ d. (d, ts)) (option_map number o) ≡ option_map (λ n. (number n, ts)) o
-numbered None ts = refl
-numbered (Some n) ts = refl
+numbered o ts = grind arith
 
 pub next_number : (depth : ℕ) (s : List ℕ) (ts : List spec.Token) → next_value depth (spec.number s ∷ ts) ≡ option_map (λ n. (number n, ts)) (number_of s)
 next_number depth s ts = ap (converted of_json) (value_is depth ((spec.number s) ∷ ts)) ∙ numbered (number_of s) ts
@@ -58,19 +57,11 @@ Begins t (object ms) = t ≡ BeginObject
 abbrev IsBegun : Token → Option (Data × List spec.Token) → Type 0
 IsBegun t o = IfSome o (λ p. Begins t p.0)
 
-begun : {A : Type 0} (t : Token) (f : A → Data) → ((a : A) → Begins t (f a)) → (o : Option (A × List spec.Token)) → IsBegun t (parse_map f o)
-begun t f h None = tt
-begun t f h (Some p) = h p.0
-
-begun_number : (s : _) (o : Option Num) (ts : List spec.Token) → IsBegun (Number s) (option_map (λ n. (number n, ts)) o)
-begun_number s None ts = tt
-begun_number s (Some n) ts = (s, refl)
-
 begins_as : (a : Parse Items) (o : Parse Members) (t : Token) (ts : List spec.Token) → IsBegun t (converted of_json (value_with a o (token_of t ∷ ts)))
-begins_as a o BeginObject ts = subst (IsBegun BeginObject) (sym (converted-object (o ts))) (begun BeginObject object (λ ms. refl) _)
-begins_as a o BeginArray ts = subst (IsBegun BeginArray) (sym (converted-array (a ts))) (begun BeginArray array (λ ds. refl) _)
+begins_as a o BeginObject ts = grind arith
+begins_as a o BeginArray ts = grind arith
 begins_as a o (String s) ts = (s, refl)
-begins_as a o (Number s) ts = subst (IsBegun (Number s)) (sym (numbered (number_of s.now) ts)) (begun_number s (number_of s.now) ts)
+begins_as a o (Number s) ts = grind arith
 begins_as a o (Boolean b) ts = refl
 begins_as a o Null ts = refl
 begins_as a o _ ts = tt
@@ -85,28 +76,22 @@ passed depth t ts s r first e = let d = after_some (next_value depth (token_of t
 -- ---- a value that begins with another token is of another kind
 
 pub no_text : (t : Token) (d : Data) → Begins t d → ((s : _) → t ≡ String s → ⊥) → as_str d ≡ None
-no_text t (string s) b other = absurd (other b.0 b.1)
-no_text t _ b other = refl
+no_text t d b other = grind arith
 
 pub no_null : (t : Token) (d : Data) → Begins t d → (t ≡ Null → ⊥) → as_null d ≡ None
-no_null t null b other = absurd (other b)
-no_null t _ b other = refl
+no_null t d b other = grind arith
 
 pub no_truth : (t : Token) (d : Data) → Begins t d → ((v : Bool) → t ≡ Boolean v → ⊥) → as_bool d ≡ None
-no_truth t (boolean v) b other = absurd (other v b)
-no_truth t _ b other = refl
+no_truth t d b other = grind arith
 
 pub no_numeral : (t : Token) (d : Data) → Begins t d → ((s : _) → t ≡ Number s → ⊥) → as_number d ≡ None
-no_numeral t (number n) b other = absurd (other b.0 b.1)
-no_numeral t _ b other = refl
+no_numeral t d b other = grind arith
 
 pub no_object : (t : Token) (d : Data) → Begins t d → (t ≡ BeginObject → ⊥) → as_object d ≡ None
-no_object t (object ms) b other = absurd (other b)
-no_object t _ b other = refl
+no_object t d b other = grind arith
 
 pub no_array : (t : Token) (d : Data) → Begins t d → (t ≡ BeginArray → ⊥) → as_array d ≡ None
-no_array t (array ds) b other = absurd (other b)
-no_array t _ b other = refl
+no_array t d b other = grind arith
 
 -- ---- an object that is read
 

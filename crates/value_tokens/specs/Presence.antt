@@ -1,40 +1,34 @@
 -- Which keys an object has, as members are put into it one after another.
-use Rattle.std.proofs.Common.{◌≡◌, ℕ, List, length, cond, bytes_eq, Some, sym, ap, ◌∙◌, true≢false}
-use Rattle.std.proofs.lemmas.Bool.{cond_both}
-use Rattle.std.proofs.lemmas.Option.{option_and_then_some, same_Some}
+use Rattle.std.proofs.Common.{◌≡◌, ℕ, List, length, cond, bytes_eq, Some, is_some, true, arith}
+use Rattle.std.proofs.lemmas.Option.{option_and_then_some}
 use Rattle.std.proofs.lemmas.Slice.Eq.{bytes_eq-Decides}
 use Rattle.json.specs.Token.{Token}
 use Rattle.json.specs.Json as json
 use Rattle.json.specs.Json.{members, value}
 use Rattle.serde_json.specs.Data.{Data, Members, put}
 use Rattle.serde_json.specs.Find.{get_member}
-use Rattle.serde_json.specs.Read.{of_json, of_members}
+use Rattle.serde_json.specs.Read.{of_members}
 use Rattle.serde_json.proofs.Views.{get_member-put, get_member-put_other}
 use Rattle.value_tokens.specs.Next.{next_value, next_members, next_after}
 use Rattle.value_tokens.specs.Turns.{converted_some}
 
 -- a value that is put is at its key, and the other keys are as they were
 pub get_member-put_at : (q k : List ℕ) (d : Data) (found : Members) → get_member q (put k d found) ≡ cond (bytes_eq q k) (Some d) (get_member q found)
-get_member-put_at q k d found =
-    cond_both (bytes_eq q k) (Some d) (get_member q found) (λ o. get_member q (put k d found) ≡ o)
-    (λ same. ap (λ n. get_member n (put k d found)) ((bytes_eq-Decides q k).0 same) ∙ get_member-put k d found)
-    (λ other. get_member-put_other q k d found (λ is. true≢false (sym ((bytes_eq-Decides q k).1 is) ∙ other)))
+get_member-put_at q k d found = grind (arith, bytes_eq-Decides, get_member-put, get_member-put_other)
 
 -- the object has the key
 abbrev pub Has : List ℕ → Members → Type 0
-Has q ms = (d : Data) × (get_member q ms ≡ Some d)
+Has q ms = is_some (get_member q ms) ≡ true
 
 has_put : (q k : List ℕ) (d : Data) (found : Members) → Has q found → Has q (put k d found)
-has_put q k d found h =
-    let at = get_member-put_at q k d found in
-    cond_both (bytes_eq q k) (Some d) (get_member q found) (λ o. get_member q (put k d found) ≡ o → Has q (put k d found)) (λ _ is. (d, is)) (λ _ is. (h.0, is ∙ h.1)) at
+has_put q k d found h = grind (arith, get_member-put_at)
 
 pub has_new : (k : List ℕ) (d : Data) (found : Members) → Has k (put k d found)
-has_new k d found = (d, get_member-put k d found)
+has_new k d found = grind (arith, get_member-put)
 
 kept_in : (js : json.Members) (q : List ℕ) (found ms : Members) → of_members js found ≡ Some ms → Has q found → Has q ms
-kept_in json.no_members q found ms e h = (h.0, ap (get_member q) (sym (same_Some found ms e)) ∙ h.1)
-kept_in (json.member k j js) q found ms e h = option_and_then_some _ (of_json j) ms e (λ d _ next. kept_in js q (put k d found) ms next (has_put q k d found h))
+kept_in json.no_members q found ms e h = grind arith
+kept_in (json.member k j js) q found ms e h = let again = λ (d : Data). kept_in js q (put k d found) ms in grind (arith, again, has_put)
 
 -- a key that was there is still there when all members are read
 pub kept : (depth : ℕ) (q : List ℕ) (found ms : Members) (ts r : List Token) → next_members depth found ts ≡ Some (ms, r) → Has q found → Has q ms

@@ -24,7 +24,7 @@ pub fn skip_value(reader: &mut Reader<'_>, depth: usize) -> Result<(), Refusal>
 
 /// Passes over what is left of a value whose first token was taken.
 #[cycle(skip)]
-#[tactic(auto, using(crate::proofs::Firsts::first_tokens))]
+#[tactic(auto, using(crate::proofs::Firsts::first_tokens, crate::proofs::Loops::skipping))]
 #[cold]
 #[inline(never)]
 pub fn skip_rest(token: Token<'_>, reader: &mut Reader<'_>, depth: usize) -> Result<(), Refusal>
@@ -75,6 +75,7 @@ pub fn skip_items(reader: &mut Reader<'_>, depth: usize) -> Result<(), Refusal>
 
 /// Passes over the members that are left of an object.
 #[cycle(skip)]
+#[tactic(auto, using(crate::proofs::Loops::skipping))]
 #[cold]
 #[inline(never)]
 pub fn skip_members(reader: &mut Reader<'_>, depth: usize) -> Result<(), Refusal>

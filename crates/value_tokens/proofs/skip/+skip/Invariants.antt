@@ -23,7 +23,7 @@ decreases-skip_items-items l = length l.reader
 
 abbrev pub invariant-skip_members-members : goal.invariant-skip_members-members
 invariant-skip_members-members l = record {
-  same : (found : Members) → (more : Members) × (after (next_members l.depth found l.initial.reader) ≡ after (next_members l.depth more l.reader));
+  same : (found : Members) → after (next_members l.depth found l.initial.reader) ≡ after (next_members l.depth found l.reader);
   fewer : length l.reader ≤ length l.initial.reader;
 }
 
