@@ -4,7 +4,7 @@ use denote.Enum.Bare.{same_true, true_same}
 use Rattle.std.specs.Bool.{Decides}
 use Rattle.std.specs.Option.{option_eq}
 use Rattle.std.proofs.lemmas.Bool.Decides.{Decides-and, Decides-like}
-use Rattle.geoarrow_meta.specs.Code.{same-Decides}
+use Rattle.geoarrow_meta.specs.Code.{same_decides}
 use Rattle.geoarrow_meta.specs.declared.crs.Crs.{Crs}
 use Rattle.geoarrow_meta.specs.declared.metadata.Metadata.{Metadata}
 use Rattle.geoarrow_meta.specs.contracts.crs.crs_type.CrsType.{the_type as crs_types}
@@ -20,7 +20,7 @@ option-Decides E d _ _ = (λ h. cc, λ p. cc)
 pub crs_decides : (a b : Crs) → Decides ((crss.eq-value).it a b) (a ≡ b)
 crs_decides a b =
     Decides-like _ (λ h i. record { value = h.0 i; crs_type = h.1 i }) (λ p. (ap (λ c. c.value) p, ap (λ c. c.crs_type) p))
-    (Decides-and _ _ (option-Decides _ same-Decides a.value b.value) (option-Decides _ (λ s t. (same_true crs_types tt s t, true_same crs_types s t)) a.crs_type b.crs_type))
+    (Decides-and _ _ (option-Decides _ same_decides a.value b.value) (option-Decides _ (λ s t. (same_true crs_types tt s t, true_same crs_types s t)) a.crs_type b.crs_type))
 
 pub metadata_decides : (a b : Metadata) → Decides ((metadatas.eq-value).it a b) (a ≡ b)
 metadata_decides a b =

@@ -152,6 +152,7 @@ fn text_or_null<'a>(text: &'a str, at: usize) -> Result<(Option<&'a str>, usize)
 }
 
 // The plain text there, between its quotes, and the place after it.
+#[tactic(auto, using(crate::proofs::PlainTexts::text_stands))]
 fn plain_text<'a>(text: &'a str, at: usize) -> Result<(&'a str, usize), NotPlain>
     requires { at ≤ length text.now }
     ensures { IfOk result (λ p. Passes text.entry.now at (token (spec.string p.0.now) ∷ []) p.1) }

@@ -66,7 +66,7 @@ fn take_values(
 }
 
 // The members that are left of an object.
-#[tactic(auto, using(value_tokens::specs::Turns::key_refused, value_tokens::specs::Turns::members_over))]
+#[tactic(auto, using(crate::proofs::KeyedValues::none_yet, value_tokens::specs::Turns::key_refused, value_tokens::specs::Turns::members_over))]
 fn take_members(
     alloc: Global,
     reader: &mut Reader<'_>,

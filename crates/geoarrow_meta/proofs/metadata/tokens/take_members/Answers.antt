@@ -1,13 +1,9 @@
-use Rattle.std.proofs.Common.{Some, codes, refl, arith}
-use Rattle.serde_json.specs.Data.{no_members}
+use Rattle.std.proofs.Common.{Some, codes, arith}
 use Rattle.value_tokens.specs.Next.{next_value}
 use Rattle.value_tokens.specs.Turns.{after_some}
 use Rattle.geoarrow_meta.specs.Read.{present}
 use Rattle.geoarrow_meta.proofs.KeyedValues.{values_refused, values_go_on, differs}
 use Rattle.geoarrow_meta.proofs.metadata.tokens.take_members.Goals as goal
-
-pub values-init : goal.values-init
-values-init c = record { found = no_members; decides = refl; values = record { at_crs = refl; at_crs_type = refl; at_edges = refl } }
 
 pub returns-in_err-crs-in-crs-clause-text : goal.returns-in_err-crs-in-crs-clause-text
 returns-in_err-crs-in-crs-clause-text c refused =
