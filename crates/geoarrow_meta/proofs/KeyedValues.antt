@@ -1,5 +1,5 @@
 -- What stands at the three keys, as members are put in one after another.
-use Rattle.std.proofs.Common.{◌≡◌, List, false, bytes_eq, cond, Option, None, Some, codes, ◌∙◌, arith}
+use Rattle.std.proofs.Common.{◌≡◌, List, false, bytes_eq, cond, Option, None, Some, codes, refl, ◌∙◌, arith}
 use Rattle.std.proofs.lemmas.Slice.Eq.{bytes_eq-Decides}
 use Rattle.json.specs.Token.{Token}
 use Rattle.json.specs.Json.{read_key}
@@ -43,6 +43,10 @@ pub record AreValuesSoFar (depth : _) (all left : List Token) (crs : Option Data
   pub found : Members
   pub decides : next_members depth no_members all ≡ next_members depth found left
   pub values : AreValuesOf (object found) crs crs_type edges
+
+-- before the first member
+pub none_yet : (depth : _) (all : List Token) → AreValuesSoFar depth all all None (Some None) (Some None)
+none_yet depth all = record { found = no_members; decides = refl; values = record { at_crs = refl; at_crs_type = refl; at_edges = refl } }
 
 module _ {depth : _} {all left : List Token} {crs : Option Data} {crs_type : Option (Option CrsType)} {edges : Option (Option Edges)}
     (way : AreValuesSoFar depth all left crs crs_type edges) (k : Text) (s : List Token) (named : read_key left ≡ Some (Some k, s)) where

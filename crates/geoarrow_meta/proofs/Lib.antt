@@ -1,6 +1,7 @@
 pub mod Equality
 pub mod Order
+pub mod Views
 pub mod ReadBack
 pub mod KeyedValues
 pub mod Stands
-mod PlainTexts
+pub mod PlainTexts

@@ -1,8 +1,8 @@
 -- What an object of plain texts is to the lexer, a byte or a text at a time.
-use Rattle.std.proofs.Common.{◌≡◌, ℕ, ◌+◌, ◌-◌, ◌<◌, Bool, true, false, cond, ◌||◌, ◌==◌, List, [], ◌∷◌, ◌++◌, length, take, drop, get_or, nat_eq, Option, Some, None, ⊎_elim, refl, sym, ap, ap₂, ◌∙◌, arith, lt_of_not-le, length-take, get_or-take}
+use Rattle.std.proofs.Common.{◌≡◌, ℕ, ◌+◌, ◌-◌, ◌<◌, ◌≤◌, Bool, true, false, cond, ◌||◌, ◌==◌, List, [], ◌∷◌, ◌++◌, length, take, drop, get_or, nat_eq, Option, Some, None, ⊎_elim, refl, sym, ap, ap₂, ◌∙◌, arith, lt_of_not-le, length-take, get_or-take}
 use Rattle.std.proofs.lemmas.Bool.{eqb-true, or_cases}
 use Rattle.std.proofs.lemmas.Bool.Decides.{Decides-eqb}
-use Rattle.std.proofs.lemmas.List.{drop_more, drop-drop, get_or_past, take-append-drop}
+use Rattle.std.proofs.lemmas.List.{drop_all, drop_more, drop-drop, get_or_past, take-append-drop}
 use Rattle.std.proofs.lemmas.List.Sums.{prefix_len_passes}
 use Rattle.std.proofs.lemmas.Slice.Eq.{starts_is}
 use Rattle.std.specs.List.{prefix_len, starts_with}
@@ -40,6 +40,10 @@ pub space_skipped : (d : List ℕ) (i : ℕ) → i < length d → is_space (get_
 unfolding lex
 space_skipped d i within h =
     ap (lex between) (drop_more d i 0 within) ∙ ap (λ k. lex_byte between k (get_or d i 0) (drop (i + 1) d) (λ m. lex m (drop (i + 1) d))) (space_class (get_or d i 0) h)
+
+pub none_left : (d : List ℕ) (i : ℕ) → length d ≤ i → lexemes_at d i ≡ []
+unfolding lex
+none_left d i h = ap (lex between) (drop_all i d h)
 
 -- plain bytes stand for themselves
 plain_escaped : (xs : List ℕ) → escape (take (prefix_len is_plain xs) xs) ≡ take (prefix_len is_plain xs) xs

@@ -68,5 +68,5 @@ data_code = record { code = data_to; inj = data_inj }
 abbrev pub same : Data → Data → Bool
 same = code_eq data_code
 
-pub same-Decides : (d e : Data) → Decides (same d e) (d ≡ e)
-same-Decides = code_decides data_code
+pub same_decides : (d e : Data) → Decides (same d e) (d ≡ e)
+same_decides = code_decides data_code

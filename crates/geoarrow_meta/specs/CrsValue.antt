@@ -6,7 +6,7 @@ use Rattle.std.specs.Cmp.{IsEquivalence, IsPartialEquivalence, decided, partial_
 use Rattle.serde_json.specs.Data.{Data, null, boolean, number, string, array, object}
 use Rattle.serde_json.specs.Find.{as_null}
 use Rattle.serde_json.specs.Written.{has_float}
-use Rattle.geoarrow_meta.specs.Code.{same, same-Decides}
+use Rattle.geoarrow_meta.specs.Code.{same, same_decides}
 
 -- a CRS can have the value: it is not null, and its numbers are whole at any depth
 abbrev pub IsCrsValue : Data → Type 0
@@ -23,11 +23,11 @@ value_fed (object ms) = u8 5
 
 -- equal values write the same to a hasher
 pub value_fed-same : (d e : Data) → same d e ≡ true → value_fed d ≡ value_fed e
-value_fed-same d e h = ap value_fed ((same-Decides d e).0 h)
+value_fed-same d e h = ap value_fed ((same_decides d e).0 h)
 
 -- `same` is an equivalence
 pub same-equiv : IsEquivalence same
-same-equiv = decided same same-Decides
+same-equiv = decided same same_decides
 
 -- so it is a partial equivalence too
 pub same-per : IsPartialEquivalence same

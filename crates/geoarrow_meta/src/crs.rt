@@ -158,6 +158,7 @@ impl Crs {
     }
 
     // Whether both hold the same value, or none.
+    #[tactic(auto, using(crate::specs::Code::same_decides))]
     pub(crate) fn same_value(&self, other: &Crs) -> bool
         ensures same { IsTrue result ↔ (self.now.value ≡ other.now.value) }
         ensures valid { IfSome self.now.value IsCrsValue }

@@ -21,6 +21,7 @@ pub fn normal_form_is_its_own(metadata: &Metadata)
 
 /// A law: two metadata are written as the same JSON value, or both as nothing, exactly where their normal forms are
 /// equal.
+#[tactic(auto, using(crate::proofs::Stands::written_alike))]
 pub fn written_alike(one: &Metadata, other: &Metadata)
     ensures { (meta_value one.now ≡ meta_value other.now)
         ↔ (normal one.now ≡ normal other.now) }
@@ -73,6 +74,7 @@ pub fn text_denotes_one(text: Option<&str>)
 {}
 
 /// A law: `==` returns true for two metadata exactly if their parts are equal.
+#[tactic(auto, using(crate::proofs::Equality::metadata_decides))]
 pub fn equality_is_exact(one: &Metadata, other: &Metadata) -> bool
     ensures { IsTrue result ↔ (one.now ≡ other.now) }
 {
@@ -81,11 +83,13 @@ pub fn equality_is_exact(one: &Metadata, other: &Metadata) -> bool
 
 /// A law: the test behind `==`, which types that share their metadata go by, returns true for two metadata exactly
 /// where their parts are equal. There is nothing to run.
+#[tactic(auto, using(crate::proofs::Equality::metadata_decides))]
 pub fn equality_test_is_exact()
     ensures { (m n : Metadata) → IsTrue ((metadatas.eq-value).it m n) ↔ (m ≡ n) }
 {}
 
 /// A law: `==` returns true for two CRS exactly if JSON value and type are equal.
+#[tactic(auto, using(crate::proofs::Equality::crs_decides))]
 pub fn crs_equality_is_exact(one: &Crs, other: &Crs) -> bool
     ensures { IsTrue result ↔ (one.now ≡ other.now) }
 {

@@ -33,6 +33,7 @@ pub(crate) fn plain_values(
 }
 
 // Those values, with the text of a CRS where it is in the metadata text.
+#[tactic(auto, using(crate::proofs::KeyedValues::none_yet))]
 fn take_members<'a>(text: &'a str) -> Result<KeyValues<&'a str>, NotPlain>
     ensures { IfOk result (λ s. (ms : Members) × (read text.entry.now ≡ Some (object ms))
         × AreValuesOf (object ms) (option_map string (option_map (λ t. t.now) s.crs)) s.crs_type s.edges) }

@@ -82,6 +82,7 @@ impl<'a> PlainMembers<'a> {
 }
 
 // Errs if anything but spaces is left from there on.
+#[tactic(auto, using(crate::proofs::PlainTexts::none_left))]
 fn nothing_follows(text: &str, at: usize) -> Result<(), NotPlain>
     requires { at ≤ length text.now }
     ensures { IfOk result (λ o. lexemes_at text.now at ≡ []) }
@@ -151,6 +152,7 @@ fn text_or_null<'a>(text: &'a str, at: usize) -> Result<(Option<&'a str>, usize)
 }
 
 // The plain text there, between its quotes, and the place after it.
+#[tactic(auto, using(crate::proofs::PlainTexts::text_stands))]
 fn plain_text<'a>(text: &'a str, at: usize) -> Result<(&'a str, usize), NotPlain>
     requires { at ≤ length text.now }
     ensures { IfOk result (λ p. Passes text.entry.now at (token (spec.string p.0.now) ∷ []) p.1) }
@@ -192,6 +194,7 @@ fn plain_end(text: &str, from: usize) -> usize
 }
 
 // The first place from there on where no space is.
+#[tactic(auto, using(crate::proofs::PlainTexts::space_skipped))]
 #[inline(always)]
 fn after_spaces(text: &str, from: usize) -> usize
     requires { from ≤ length text.now }

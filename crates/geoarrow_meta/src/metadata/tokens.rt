@@ -66,6 +66,7 @@ fn take_values(
 }
 
 // The members that are left of an object.
+#[tactic(auto, using(crate::proofs::KeyedValues::none_yet, value_tokens::specs::Turns::key_refused, value_tokens::specs::Turns::members_over))]
 fn take_members(
     alloc: Global,
     reader: &mut Reader<'_>,
@@ -107,6 +108,7 @@ fn take_crs(alloc: Global, reader: &mut Reader<'_>, depth: usize) -> Result<Opti
 }
 
 // The text that comes next, null as absent; none where another value comes. Allocates nothing.
+#[tactic(auto, using(value_tokens::specs::Turns::no_value))]
 fn take_word<'a>(reader: &mut Reader<'a>, depth: usize) -> Result<Option<Option<&'a str>>, Refusal>
     ensures ok { IfOk result (λ w. (d : Data) × (next_value depth reader.old ≡ Some (d, reader.new)) × IsWord w (present (Some d))) }
     ensures shorter { OnOk result (length reader.new < length reader.old) }

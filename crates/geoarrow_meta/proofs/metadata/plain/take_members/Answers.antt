@@ -3,7 +3,7 @@ use Rattle.json.specs.Json as json
 use Rattle.json.specs.Json.{read_key, parse_map}
 use Rattle.json.specs.Lex.{tokens}
 use Rattle.json.specs.Token.{Token}
-use Rattle.serde_json.specs.Data.{Data, null, string, object, no_members}
+use Rattle.serde_json.specs.Data.{Data, null, string, object}
 use Rattle.serde_json.specs.Read.{of_json, max_depth, read}
 use Rattle.arrow_values.specs.Tree.{Text}
 use Rattle.value_tokens.specs.Next.{next_value}
@@ -37,9 +37,6 @@ read_whole : (text : Text) (d : Data) → next_value max_depth (tokens text) ≡
 read_whole text d e =
     let j = converted_some of_json (json.value max_depth (tokens text)) d [] e in
     ap (λ o. option_and_then of_json (option_and_then (λ p. json.if_last p.0 p.1) o)) j.1 ∙ j.2
-
-pub values-init : goal.values-init
-values-init c = record { found = no_members; decides = refl; values = record { at_crs = refl; at_crs_type = refl; at_edges = refl } }
 
 go_on : (c : In-Some) {crs : Option Data} {crs_type : Option (Option CrsType)} {edges : Option (Option Edges)} → let put = λ (q : Text). put_at q c.in-Some.key.now (word_value (option_map (λ s. s.now) c.in-Some.word)) c.values.invariant.found in
     crs ≡ put (codes "crs") → IsNamed crs_type_data crs_type (put (codes "crs_type")) → IsNamed edges_data edges (put (codes "edges")) → AreValuesSoFar 126 c.in_ok-members.members c.next.new.self crs crs_type edges

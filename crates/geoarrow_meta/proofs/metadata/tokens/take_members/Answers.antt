@@ -1,18 +1,9 @@
-use Rattle.std.proofs.Common.{Some, codes, refl, arith, ◌∙◌}
-use Rattle.serde_json.specs.Data.{no_members}
+use Rattle.std.proofs.Common.{Some, codes, arith}
 use Rattle.value_tokens.specs.Next.{next_value}
-use Rattle.value_tokens.specs.Turns.{after_some, key_refused, members_over}
+use Rattle.value_tokens.specs.Turns.{after_some}
 use Rattle.geoarrow_meta.specs.Read.{present}
 use Rattle.geoarrow_meta.proofs.KeyedValues.{values_refused, values_go_on, differs}
 use Rattle.geoarrow_meta.proofs.metadata.tokens.take_members.Goals as goal
-
-pub values-init : goal.values-init
-values-init c = record { found = no_members; decides = refl; values = record { at_crs = refl; at_crs_type = refl; at_edges = refl } }
-
-pub returns-in_err-key-clause-text : goal.returns-in_err-key-clause-text
-returns-in_err-key-clause-text c refused =
-    let way = c.values.invariant in
-    way.decides ∙ key_refused c.args.depth way.found c.values.reader c.in_err-key.ensures.value
 
 pub returns-in_err-crs-in-crs-clause-text : goal.returns-in_err-crs-in-crs-clause-text
 returns-in_err-crs-in-crs-clause-text c refused =
@@ -59,8 +50,3 @@ values-preserved c =
 pub returns-in_err-skip_value-in_default-key-clause-text : goal.returns-in_err-skip_value-in_default-key-clause-text
 returns-in_err-skip_value-in_default-key-clause-text c refused =
     values_refused c.values.invariant c.in-Some.key.now c.next_key.new.self (grind arith) (c.skip_value.ensures.text (grind arith))
-
-pub returns-clause-ok : goal.returns-clause-ok
-returns-clause-ok c =
-    let l = c.values in
-    (l.invariant.found, l.invariant.decides ∙ members_over c.args.depth l.invariant.found l.reader c.next_key.new.self (grind arith), l.invariant.values)

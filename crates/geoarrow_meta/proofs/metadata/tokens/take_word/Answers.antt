@@ -2,13 +2,9 @@ use Rattle.std.proofs.Common.{arith, ◌≡◌, ◌∷◌, length, refl, ap, ◌
 use Rattle.json.specs.Token.{Token}
 use Rattle.json.specs.Reads.{token_of}
 use Rattle.value_tokens.specs.Next.{next_value}
-use Rattle.value_tokens.specs.Turns.{no_value}
 use Rattle.value_tokens.specs.Beginnings.{passed, next_string, next_null, no_text, no_null}
 use Rattle.geoarrow_meta.proofs.KeyedValues.{no_word}
 use Rattle.geoarrow_meta.proofs.metadata.tokens.take_word.Goals as goal
-
-pub returns-in_err-token-clause-text : goal.returns-in_err-token-clause-text
-returns-in_err-token-clause-text c refused = no_value c.args.depth c.args.reader.now (grind arith)
 
 pub returns-in-String-clause-ok : goal.returns-in-String-clause-ok
 returns-in-String-clause-ok c =
