@@ -1,6 +1,6 @@
 -- A value that denotes a field is that field's value, if it is lean; and a line can say the field.
 use Rattle.std.proofs.Common.{◌≡◌, ℤ, List, [], ◌∷◌, Bool, true, cond, Option, Some, None, IfSome, IsTrue, IsUtf8, option_map, option_and_then, inl, inr, codes, bytes_eq, Less, Greater, nat_cmp, refl, sym, ap, ap₂, subst, ◌∙◌, arith}
-use Rattle.field_lines.proofs.Terms.{nat_list_cmp_total, tied_itself, and_from, cond_both, false_from_ne_true, IfSome_then, IsUtf8-from_is_utf8, is_utf8-from_IsUtf8, slice_cmp, find, list_all, is_utf8, Data, boolean, number, string, array, object, Items, no_items, item, Members, no_members, member, of_integer, get_member, as_str, as_bool, read, UnionMode, Text, Metadata, Tree, plain, struct, union, MemberTrees, FieldTree, field_tree, is_type_id, are_distinct, field_from, integer_of, kept, is_size, size_of_value, id_of_value, mode_of_value, texts_in, metadata_of_value, field_before, member_before, list_of, large_list_of, fixed_size_list_of, tree_ids, union_of, are_keys, field_of_value, type_in, type_of_value, fields_of_value, fields_in, members_of_value, members_in, texts_value, with_metadata, one_key, two_keys, type_value, fields_value, members_value, value_of_field, field_of_line, HasLineForm, FieldsHaveLineForm, MembersHaveLineForm}
+use Rattle.field_lines.proofs.Terms.{nat_list_cmp_total, tied_itself, and_from, cond_both, false_from_ne_true, IfSome_then, IsUtf8-from_is_utf8, is_utf8-from_IsUtf8, slice_cmp, find, list_all, is_utf8, Data, boolean, number, string, array, object, Items, no_items, item, Members, no_members, member, of_integer, get_member, as_str, as_bool, read, UnionMode, Text, Metadata, Tree, plain, struct, union, MemberTrees, FieldTree, field_tree, is_type_id, are_distinct, field_from, integer_of, kept, is_size, size_of_value, id_of_value, mode_of_value, texts_in, metadata_of_value, member_before, list_of, large_list_of, fixed_size_list_of, tree_ids, union_of, are_keys, field_of_value, type_in, type_of_value, fields_of_value, fields_in, members_of_value, members_in, texts_value, with_metadata, one_key, two_keys, type_value, fields_value, members_value, value_of_field, field_of_line, HasLineForm, FieldsHaveLineForm, MembersHaveLineForm}
 use Rattle.std.proofs.lemmas.Slice.Eq.{bytes_eq-Decides}
 use Rattle.arrow_columns.specs.Notation.{plain_name}
 use Rattle.field_lines.specs.Names.{plain_named, plain_types, mode_name}
@@ -69,9 +69,7 @@ bool_says d = grind arith
 
 pub texts_say : (ms : Members) → IfSome (texts_in ms) (λ m. ms ≡ texts_value m)
 texts_say no_members = refl
-texts_say (member k d ms) =
-    chained _ (λ text. option_map (λ texts. (k, text) ∷ texts) (texts_in ms)) (as_str d) (text_says d)
-    (λ text is. mapped _ (λ texts. (k, text) ∷ texts) (texts_in ms) (texts_say ms) (λ texts same. ap₂ (member k) is same))
+texts_say (member k d ms) = let one = text_says d in let rest = texts_say ms in grind arith
 
 metadata_at : (m : Metadata) (ms rest : Members) → ms ≡ texts_value m → (Some (object ms) ≡ Some (object no_members) → ⊥)
     → member (codes "metadata") (object ms) rest ≡ with_metadata m rest
@@ -185,9 +183,7 @@ mutual
 
   fields_in_say : (ds : Items) → IfSome (fields_in ds) (λ fs. FieldsHaveLineForm fs × (AreLean ds → ds ≡ fields_value fs))
   fields_in_say no_items = (tt, λ lean. refl)
-  fields_in_say (item d ds) =
-      chained _ (λ f. option_map (field_before f) (fields_in ds)) (field_of_value d) (field_says d)
-      (λ f x. mapped _ (field_before f) (fields_in ds) (fields_in_say ds) (λ fs y. ((x.0, y.0), λ lean. ap₂ item (x.1 lean.0) (y.1 lean.1))))
+  fields_in_say (item d ds) = let one = field_says d in let rest = fields_in_say ds in grind arith
 
   members_say : (d : Data) → IfSome (members_of_value d) (λ ms. SaysMembers (IsLean d) d (array (members_value ms)) ms)
   members_say (array ds) = IfSome_then (members_in ds) (members_in_say ds) (λ ms h. (h.0, λ lean. ap array (h.1 lean)))

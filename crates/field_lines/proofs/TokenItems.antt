@@ -1,6 +1,6 @@
 -- The items of a list from tokens: what is left decides.
 use Rattle.std.proofs.Common.{◌≡◌, ℕ, ◌≤◌, ℤ, List, [], ◌∷◌, ◌++◌, ◌+◌, length, length-append, append_assoc, append-nil, IsTrue, Option, Some, None, option_map, option_and_then, refl, sym, ap, ◌∙◌, arith}
-use Rattle.field_lines.proofs.Terms.{and_from, zip, Token, parse_map, after_end_array, Data, array, Items, no_items, item, FieldTree, MemberTrees, is_type_id, member_before, field_of_value, id_of_value, members_in, AreMemberParts, pair_read, next_value, next_items, after, ReadsValue, ReadsItems, item_read, item_refused, items_over, value_takes, after_some}
+use Rattle.field_lines.proofs.Terms.{and_from, zip, Token, parse_map, after_end_array, Data, array, Items, no_items, item, FieldTree, MemberTrees, is_type_id, member_before, field_of_value, id_of_value, members_in, AreMemberParts, pair_read, tree_ids, member_trees, next_value, next_items, after, ReadsValue, ReadsItems, item_read, item_refused, items_over, value_takes, after_some}
 use Rattle.std.proofs.lemmas.List.Folds.{list_all-append}
 use Rattle.std.proofs.lemmas.Iterator.Adapters.{option_map_id}
 
@@ -76,6 +76,11 @@ module _ {X T : Type 0} {trees : List X → T} {whole : Items → Option T} {dep
         (way.front (item one.0 ds.0), way.decides ∙ ap (parse_map way.front) (one.1 ∙ ap (parse_map (item one.0)) ds.1), sym (way.none (item one.0 ds.0) (rw (law one.0 ds.0, ← one.2))))
 
 -- ---- the pairs of a union
+
+pub tree_ids_zip : (is : List ℤ) (fs : List FieldTree) → length is ≡ length fs → tree_ids (member_trees (zip is fs)) ≡ is
+tree_ids_zip [] fs h = refl
+tree_ids_zip (i ∷ is) [] h = absurd (omega arith)
+tree_ids_zip (i ∷ is) (f ∷ fs) h = ap (λ js. i ∷ js) (tree_ids_zip is fs (omega arith))
 
 abbrev pub pair_before : ℤ × FieldTree → MemberTrees → MemberTrees
 pair_before q rest = member_before q.0 q.1 rest

@@ -1,5 +1,5 @@
 -- The members of an object from tokens: those of a field, of which the last value at each key counts, and those of a type, with one key or two and no others.
-use Rattle.std.proofs.Common.{◌≡◌, ℕ, ◌≤◌, List, length, Bool, true, false, cond, bytes_eq, nat_cmp, Ordering, Option, Some, None, option_and_then, codes, refl, sym, ap, ◌∙◌, arith, ◌<◌, Less, Greater, not, ◌⊎◌, inl, inr, ⊎_elim, subst}
+use Rattle.std.proofs.Common.{◌≡◌, ℕ, ◌≤◌, List, length, Bool, true, false, cond, bytes_eq, nat_cmp, Option, Some, None, option_and_then, codes, refl, sym, ap, ◌∙◌, arith, ◌<◌, Less, Greater, not, ◌⊎◌, ⊎_elim, subst}
 use Rattle.field_lines.proofs.Terms.{cond-false, cond_both, false_from_ne_true, and_left, and_right, both_ways, not-true, not-false, slice_cmp, is_eq, match_ordering, cond_some, nat_list_cmp_total, tied_itself, Token, read_key, Data, string, object, Members, no_members, member, put, get_member, as_str, as_bool, as_object, Text, Metadata, Tree, FieldTree, under, metadata_of_value, field_from, field_of_value, type_in, type_of_value, are_keys, keyed_at, IsNeither, next_value, next_members, ReadsMembers, next_after, after, ReadsValue, ReadsAfter, no_value, object_too_deep, value-object, member_read, members_over, value_takes, key_refused, after_some, taken, named}
 use Rattle.std.proofs.lemmas.Map.Text.{is_eq-slice_cmp}
 use Rattle.std.proofs.lemmas.Slice.Eq.{bytes_eq-Decides}
@@ -28,25 +28,17 @@ member_takes depth ts s r k d key e = let less = value_takes depth s r d e in le
 
 -- ---- the parts of a field
 
-at_first : (r : Ordering) (d o : Option Data) → match_ordering r o d o ≡ cond (is_eq r) d o
-at_first r d o = grind arith
-
 pub get_member-at : (q k : Text) (d : Data) (ms : Members) → get_member q (member k d ms) ≡ cond (bytes_eq q k) (Some d) (get_member q ms)
-get_member-at q k d ms = at_first (slice_cmp nat_cmp q k) (Some d) (get_member q ms) ∙ ap (λ b. cond b (Some d) (get_member q ms)) (is_eq-slice_cmp q k)
-
-chosen : {A B : Type 0} (f : Option A → B) (b : Bool) (x y : Option A) → f (cond b x y) ≡ cond b (f x) (f y)
-chosen f b x y = grind arith
+get_member-at q k d ms = let same = is_eq-slice_cmp q k in grind arith
 
 -- the type is what stands at its key
 type_in-get : (ms : Members) → type_in ms ≡ under type_of_value (codes "type") ms
 type_in-get no_members = refl
-type_in-get (member k d ms) =
-    let q = codes "type" in
-    rw (get_member-at q k d ms, type_in-get ms) (sym (chosen (option_and_then type_of_value) (bytes_eq q k) (Some d) (get_member q ms)))
+type_in-get (member k d ms) = let at = get_member-at (codes "type") k d ms in let rest = type_in-get ms in grind arith
 
 -- what f says of what stands at the key q, after d is put at k
 put_at : {A : Type 0} (f : Option Data → A) (q k : Text) (d : Data) (found : Members) → f (get_member q (put k d found)) ≡ cond (bytes_eq q k) (f (Some d)) (f (get_member q found))
-put_at f q k d found = ap f (get_member-put_at q k d found) ∙ chosen f (bytes_eq q k) (Some d) (get_member q found)
+put_at f q k d found = grind (arith, get_member-put_at)
 
 pub record ArePartsUnderWay (depth : _) (all left : List Token) (name : Option Text) (nullable : Option Bool) (tree : Option Tree) (metadata : Option Metadata) : Type 0 where
   pub found : Members
@@ -98,12 +90,10 @@ part_other {q = q} {k} here {old} other = sym (cond-false (bytes_eq q k) here ol
 
 -- what stands at a key of one member is at that member's key, and of two members one has the key
 only_key : (q k : Text) (d : Data) → Has q (member k d no_members) → q ≡ k
-only_key q k d h = (bytes_eq-Decides q k).0 (cond_some (bytes_eq q k) d h.0 (sym (get_member-at q k d no_members) ∙ h.1)).0
+only_key q k d h = let same = is_eq-slice_cmp q k in grind (arith, bytes_eq-Decides)
 
 either_key : (u k l : Text) (d e : Data) → Has u (member k d (member l e no_members)) → (u ≡ k) ⊎ (u ≡ l)
-either_key u k l d e h =
-    cond_both (bytes_eq u k) (Some d) (get_member u (member l e no_members)) (λ o. o ≡ Some h.0 → (u ≡ k) ⊎ (u ≡ l))
-    (λ same _. inl ((bytes_eq-Decides u k).0 same)) (λ _ is. inr (only_key u l e (h.0, is))) (sym (get_member-at u k d (member l e no_members)) ∙ h.1)
+either_key u k l d e h = let same = is_eq-slice_cmp u k in grind (arith, bytes_eq-Decides, only_key u l e)
 
 is_no_pair : (q k l m n : Text) → IsNeither m n q → (q ≡ k) ⊎ (q ≡ l) → are_keys k l m n ≡ false
 is_no_pair q k l m n none one = grind (arith, bytes_eq-Decides)

@@ -6,13 +6,12 @@ use Rattle.std.specs.Char.{is_digit, digit_value, encode_utf8, IsScalar}
 use lib.Seq.{take-append_seam, drop-append-add, get_or-append_seam}
 use lib.Utf8.{low_scalar}
 use Rattle.json.specs.Text.{plain, after_backslash, after_u, after_high, content, code_unit, short_escape, is_high_surrogate, is_low_surrogate, surrogate_pair, prepend}
-use Rattle.json.specs.Word.{head, literal, after_number, number_before, word}
-use Rattle.json.specs.Ascii.{true_text, false_text, null_text}
-use Rattle.json.specs.Lex.{Lexeme, token, comma, colon, Class, class, quote, Mode, between, string_token, operator_lexeme, lex_byte, lex, Place, fresh, if_allowed, place_token, punctuate, tokens}
+use Rattle.json.specs.Word.{number_before, word}
+use Rattle.json.specs.Lex.{Lexeme, token, comma, colon, Class, class, quote, Mode, between, string_token, operator_lexeme, lex_byte, lex, Place, fresh, punctuate, tokens}
 use Rattle.json.specs.Json as json
 use Rattle.json.specs.Tree.{json_tokens}
 use Rattle.json.proofs.Unique.Spelling.{value-json_tokens_back}
-use Rattle.field_lines.proofs.Lean.{mapped, chained, if_some, either}
+use Rattle.field_lines.proofs.Lean.{mapped, chained, if_some}
 
 -- ---- UTF-8 around an ASCII byte
 
@@ -139,19 +138,13 @@ string_ok o h = grind arith
 operator_ok : (x : ℕ) → IsUtf8Lexeme (operator_lexeme x)
 operator_ok x = grind arith
 
-literal_ok : (b : Bool) (t : Token) → IsUtf8Token t → IsUtf8Token (cond b t Token.bad)
-literal_ok b t h = grind arith
-
-number_ok : (t : List ℕ) (o : Option (List ℕ)) → IsUtf8Token (number_before t o)
-number_ok t o = grind arith
+one_of_words : (a b c x y z : Bool) (t : List ℕ) (o : Option (List ℕ))
+    → IsUtf8Token (cond a (cond x (Token.boolean true) Token.bad) (cond b (cond y (Token.boolean false) Token.bad) (cond c (cond z Token.null Token.bad) (number_before t o))))
+one_of_words a b c x y z t o = grind arith
 
 word_ok : (t : List ℕ) → IsUtf8Token (word t)
 unfolding word
-word_ok t =
-    let or = either IsUtf8Token in
-    or (head t == 116) (literal true_text (Token.boolean true) t) _ (literal_ok _ (Token.boolean true) tt)
-    (or (head t == 102) (literal false_text (Token.boolean false) t) _ (literal_ok _ (Token.boolean false) tt)
-    (or (head t == 110) (literal null_text Token.null t) _ (literal_ok _ Token.null tt) (number_ok t (after_number t))))
+word_ok t = search one_of_words
 
 is_quote : (x : ℕ) → class x ≡ quote → x ≡ 34
 is_quote x h = grind arith
@@ -168,15 +161,9 @@ lexed m [] pre u = tt
 lexed m (x ∷ xs) pre u =
     byte_ok m (class x) x xs (λ n. lex n xs) (λ q. let is = is_quote x q in utf8_after pre xs x (omega arith) u) (λ n. lexed n xs (pre ++ x ∷ []) (one_more pre x xs u))
 
-allowed : (b : Bool) (t : Token) (k : Place → List Token) (next : Place) → IsUtf8Token t → ((n : Place) → AreUtf8 (k n)) → AreUtf8 (if_allowed b t k next)
-allowed b t k next h rest = grind arith
-
-placed : (p : Place) (t : Token) (before : Bool) (k : Place → List Token) → IsUtf8Token t → ((n : Place) → AreUtf8 (k n)) → AreUtf8 (place_token p t before k)
-placed p t before k h rest = grind (arith, allowed)
-
 one_placed : (p : Place) (l : Lexeme) (ls : List Lexeme) → IsUtf8Lexeme l → ((n : Place) → AreUtf8 (punctuate n ls)) → AreUtf8 (punctuate p (l ∷ ls))
 unfolding punctuate
-one_placed p l ls h rest = grind (arith, placed)
+one_placed p l ls h rest = grind arith
 
 none_placed : (p : Place) → AreUtf8 (punctuate p [])
 unfolding punctuate
