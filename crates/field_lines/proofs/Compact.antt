@@ -18,10 +18,7 @@ module _ (P : List ℕ → Type 0) (none : P []) (join : (xs ys : List ℕ) → 
     (quotes : (s : List ℕ) → is_utf8 s ≡ true → P (quoted s)) (digits : (n : ℕ) → n < 2 ^ 64 → P (decimal n)) where
   fixed : (xs : List ℕ) → are_printable xs ≡ true → P xs
   fixed [] h = none
-  fixed (x ∷ xs) h =
-      let p = and_parts (nat_lt x 128 && nat_lt 31 x) _ h in
-      let q = and_parts (nat_lt x 128) _ p.0 in
-      byte x xs (ltb-true _ _ q.0) (ltb-true _ _ q.1) (fixed xs p.1)
+  fixed (x ∷ xs) h = let rest = fixed xs in grind (arith, byte)
 
   number_is : (n : Num) → is_held_number n ≡ true → P (number_text n)
   number_is (unsigned n) h = digits n (ltb-true _ _ h)

@@ -40,9 +40,6 @@ pub record AreItemsTaken {X T : Type 0} (trees : List X → T) (whole : Items �
   pub none : (ds : Items) → whole ds ≡ None → whole (front ds) ≡ None
   pub fewer : length left ≤ length all
 
-nested : (front : Items → Items) (d : Data) (o : Option (Items × List Token)) → parse_map front (parse_map (item d) o) ≡ parse_map (λ ds. front (item d ds)) o
-nested front d o = grind arith
-
 pub taken_start : {X T : Type 0} {trees : List X → T} {whole : Items → Option T} {depth : ℕ} {all : List Token} {made : List X} → made ≡ [] → AreItemsTaken trees whole depth all all made
 taken_start {depth = depth} {all} is = rw is (record { front = λ ds. ds; decides = sym (option_map_id (next_items depth all)); some = λ ds xs e. e; none = λ ds e. e; fewer = omega arith })
 
@@ -63,7 +60,7 @@ module _ {X T : Type 0} {trees : List X → T} {whole : Items → Option T} {dep
         let less = value_takes depth left r one.0 one.3 in
         record {
           front = λ ds. way.front (item one.0 ds);
-          decides = way.decides ∙ ap (parse_map way.front) one.1 ∙ nested way.front one.0 (next_items depth r);
+          decides = rw (way.decides, one.1) (grind arith);
           some = λ ds xs e. rw (is, append_assoc made (x ∷ []) xs) (way.some (item one.0 ds) (x ∷ xs) (rw (law one.0 ds, ← one.2, e) (ap Some (more x xs))));
           none = λ ds e. way.none (item one.0 ds) (rw (law one.0 ds, ← one.2, e));
           fewer = omega (arith, way.fewer);

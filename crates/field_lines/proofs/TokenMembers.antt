@@ -1,5 +1,5 @@
 -- The members of an object from tokens: those of a field, of which the last value at each key counts, and those of a type, with one key or two and no others.
-use Rattle.std.proofs.Common.{◌≡◌, ℕ, ◌≤◌, List, length, Bool, true, false, cond, bytes_eq, nat_cmp, Option, Some, None, option_and_then, codes, refl, sym, ap, ◌∙◌, arith, ◌<◌, Less, Greater, not, ◌⊎◌, ⊎_elim, subst}
+use Rattle.std.proofs.Common.{◌≡◌, ℕ, ◌≤◌, List, length, Bool, true, false, cond, bytes_eq, nat_cmp, Option, Some, None, option_and_then, codes, refl, sym, ap, ◌∙◌, arith, ◌<◌, Less, Greater, not, ◌⊎◌}
 use Rattle.field_lines.proofs.Terms.{cond-false, cond_both, false_from_ne_true, and_left, and_right, both_ways, not-true, not-false, slice_cmp, is_eq, match_ordering, cond_some, nat_list_cmp_total, tied_itself, Token, read_key, Data, string, object, Members, no_members, member, put, get_member, as_str, as_bool, as_object, Text, Metadata, Tree, FieldTree, under, metadata_of_value, field_from, field_of_value, type_in, type_of_value, are_keys, keyed_at, IsNeither, next_value, next_members, ReadsMembers, next_after, after, ReadsValue, ReadsAfter, no_value, object_too_deep, value-object, member_read, members_over, value_takes, key_refused, after_some, taken, named}
 use Rattle.std.proofs.lemmas.Map.Text.{is_eq-slice_cmp}
 use Rattle.std.proofs.lemmas.Slice.Eq.{bytes_eq-Decides}
@@ -84,7 +84,7 @@ no_type d e f = grind arith
 
 -- a part at another key
 pub part_other : {A : Type 0} {q k : Text} (here : Option A) {old : Option A} → (k ≡ q → ⊥) → Part q k old here old
-part_other {q = q} {k} here {old} other = sym (cond-false (bytes_eq q k) here old (apart q k (λ e. other (sym e))))
+part_other {q = q} {k} here {old} other = grind (arith, bytes_eq-Decides q k)
 
 -- ---- the keys of a type
 
@@ -104,9 +104,7 @@ denoted ms = type_of_value (object ms)
 -- members of which one has no key of a fixed size list and one has no key of a union denote a type only by their one key
 pub no_type_of : {q u v : Text} (ms : Members) → IsNeither (codes "fixed_size_list") (codes "size") q → IsNeither (codes "mode") (codes "union") u → Has q ms → Has u ms → Has v ms
     → ((d : Data) → q ≡ v → u ≡ v → None ≡ keyed_at v d) → None ≡ denoted ms
-no_type_of {q} {u} {v} (member k d no_members) size union a b c one =
-    let is = only_key v k d c in
-    subst (λ n. None ≡ keyed_at n d) is (one d (only_key q k d a ∙ sym is) (only_key u k d b ∙ sym is))
+no_type_of (member k d no_members) size union a b c one = grind (arith, only_key)
 no_type_of {q} {u} {v} (member k d (member l e no_members)) size union a b c one =
     rw (is_no_pair q k l (codes "fixed_size_list") (codes "size") size (either_key q k l d e a), is_no_pair u k l (codes "mode") (codes "union") union (either_key u k l d e b))
 no_type_of _ size union a b c one = refl
@@ -217,14 +215,11 @@ module _ {A B : Type 0} {f : Data → Option A} {g : Data → Option B} {k l : T
   second_read came read e = took way came way.at_first (Some read.0) read e (put_second k l read.0 way.at_first way.at_second ordered) (way.answers.0, read.2)
 
 -- a key that is one of two, and none of the others
-either_is : {q m n : Text} (P : Text → Type 0) → (q ≡ m) ⊎ (q ≡ n) → P m → P n → P q
-either_is P one at_m at_n = ⊎_elim (λ is. subst P (sym is) at_m) (λ is. subst P (sym is) at_n) one
-
 pub of_fixed_size_list : {q : Text} → (q ≡ codes "fixed_size_list") ⊎ (q ≡ codes "size") → IsNeither (codes "mode") (codes "union") q × ((d : Data) → None ≡ keyed_at q d)
-of_fixed_size_list one = either_is (λ q. IsNeither (codes "mode") (codes "union") q × ((d : Data) → None ≡ keyed_at q d)) one ((differ _ _ refl, differ _ _ refl), λ d. refl) ((differ _ _ refl, differ _ _ refl), λ d. refl)
+of_fixed_size_list one = grind arith
 
 pub of_union : {q : Text} → (q ≡ codes "mode") ⊎ (q ≡ codes "union") → IsNeither (codes "fixed_size_list") (codes "size") q × ((d : Data) → None ≡ keyed_at q d)
-of_union one = either_is (λ q. IsNeither (codes "fixed_size_list") (codes "size") q × ((d : Data) → None ≡ keyed_at q d)) one ((differ _ _ refl, differ _ _ refl), λ d. refl) ((differ _ _ refl, differ _ _ refl), λ d. refl)
+of_union one = grind arith
 
 pub not_keyed : (k : Text) (d : Data) → (k ≡ codes "list" → ⊥) → (k ≡ codes "large_list" → ⊥) → (k ≡ codes "struct" → ⊥) → None ≡ keyed_at k d
 not_keyed k d list large struct = rw (apart k _ list, apart k _ large, apart k _ struct)

@@ -7,7 +7,7 @@ use lib.Seq.{take-append_seam, drop-append-add, get_or-append_seam}
 use lib.Utf8.{low_scalar}
 use Rattle.json.specs.Text.{plain, after_backslash, after_u, after_high, content, code_unit, short_escape, is_high_surrogate, is_low_surrogate, surrogate_pair, prepend}
 use Rattle.json.specs.Word.{number_before, word}
-use Rattle.json.specs.Lex.{Lexeme, token, comma, colon, Class, class, quote, Mode, between, string_token, operator_lexeme, lex_byte, lex, Place, fresh, punctuate, tokens}
+use Rattle.json.specs.Lex.{Lexeme, token, comma, colon, Class, class, quote, Mode, between, lex_byte, lex, Place, fresh, punctuate, tokens}
 use Rattle.json.specs.Json as json
 use Rattle.json.specs.Tree.{json_tokens}
 use Rattle.json.proofs.Unique.Spelling.{value-json_tokens_back}
@@ -132,12 +132,6 @@ IsUtf8Lexeme colon = ⊤
 abbrev AreUtf8Lexemes : List Lexeme → Type 0
 AreUtf8Lexemes ls = AllByRecursion IsUtf8Lexeme ls
 
-string_ok : (o : Option (List ℕ)) → IfSome o IsUtf8 → IsUtf8Token (string_token o)
-string_ok o h = grind arith
-
-operator_ok : (x : ℕ) → IsUtf8Lexeme (operator_lexeme x)
-operator_ok x = grind arith
-
 one_of_words : (a b c x y z : Bool) (t : List ℕ) (o : Option (List ℕ))
     → IsUtf8Token (cond a (cond x (Token.boolean true) Token.bad) (cond b (cond y (Token.boolean false) Token.bad) (cond c (cond z Token.null Token.bad) (number_before t o))))
 one_of_words a b c x y z t o = grind arith
@@ -149,11 +143,8 @@ word_ok t = search one_of_words
 is_quote : (x : ℕ) → class x ≡ quote → x ≡ 34
 is_quote x h = grind arith
 
-in_plain_whole : (xs : List ℕ) → IsUtf8 xs → IfSome (content plain xs) IsUtf8
-in_plain_whole xs u = in_plain xs [] u
-
 byte_ok : (m : Mode) (c : Class) (x : ℕ) (xs : List ℕ) (k : Mode → List Lexeme) → (c ≡ quote → IsUtf8 xs) → ((n : Mode) → AreUtf8Lexemes (k n)) → AreUtf8Lexemes (lex_byte m c x xs k)
-byte_ok m c x xs k u h = grind (arith, string_ok, in_plain_whole, operator_ok, word_ok)
+byte_ok m c x xs k u h = let text = in_plain xs [] in grind (arith, word_ok)
 
 lexed : (m : Mode) (xs pre : List ℕ) → IsUtf8 (pre ++ xs) → AreUtf8Lexemes (lex m xs)
 unfolding lex
@@ -161,17 +152,10 @@ lexed m [] pre u = tt
 lexed m (x ∷ xs) pre u =
     byte_ok m (class x) x xs (λ n. lex n xs) (λ q. let is = is_quote x q in utf8_after pre xs x (omega arith) u) (λ n. lexed n xs (pre ++ x ∷ []) (one_more pre x xs u))
 
-one_placed : (p : Place) (l : Lexeme) (ls : List Lexeme) → IsUtf8Lexeme l → ((n : Place) → AreUtf8 (punctuate n ls)) → AreUtf8 (punctuate p (l ∷ ls))
-unfolding punctuate
-one_placed p l ls h rest = grind arith
-
-none_placed : (p : Place) → AreUtf8 (punctuate p [])
-unfolding punctuate
-none_placed p = grind arith
-
 punctuated : (p : Place) (ls : List Lexeme) → AreUtf8Lexemes ls → AreUtf8 (punctuate p ls)
-punctuated p [] h = none_placed p
-punctuated p (l ∷ ls) h = one_placed p l ls h.0 (λ n. punctuated n ls h.1)
+unfolding punctuate
+punctuated p [] h = grind arith
+punctuated p (l ∷ ls) h = let rest = λ (n : Place). punctuated n ls h.1 in grind arith
 
 -- the tokens of a value that UTF-8 is read as, before it is converted
 pub texts_utf8 : (d : ℕ) (text : List ℕ) → IsUtf8 text → IfSome (option_and_then (λ p. json.if_last p.0 p.1) (json.value d (tokens text))) (λ j. AreUtf8 (json_tokens j))
