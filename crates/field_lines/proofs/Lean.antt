@@ -68,14 +68,10 @@ pub texts_say : (ms : Members) → IfSome (texts_in ms) (λ m. ms ≡ texts_valu
 texts_say no_members = refl
 texts_say (member k d ms) = let one = text_says d in let rest = texts_say ms in grind arith
 
-metadata_at : (m : Metadata) (ms rest : Members) → ms ≡ texts_value m → (Some (object ms) ≡ Some (object no_members) → ⊥)
-    → member (codes "metadata") (object ms) rest ≡ with_metadata m rest
-metadata_at m ms rest is full = grind arith
-
 metadata_says : (o : Option Data)
     → IfSome (metadata_of_value o) (λ m. (rest : Members) → (o ≡ Some (object no_members) → ⊥) → with_key (codes "metadata") o rest ≡ with_metadata m rest)
 metadata_says None = λ rest full. refl
-metadata_says (Some (object ms)) = IfSome_then (texts_in ms) (texts_say ms) (λ m is rest full. metadata_at m ms rest is full)
+metadata_says (Some (object ms)) = let says = texts_say ms in grind arith
 metadata_says (Some _) = tt
 
 parts_say : {N : Text → Type 0} {B : Bool → Type 0} {T : Tree → Type 0} {M : Metadata → Type 0} (Q : FieldTree → Type 0) (n : _) (b : _) (t : _) (m : _)
@@ -203,9 +199,7 @@ lean_value_is f d lean is = let says = subst (λ o. IfSome o (SaysField d)) is (
 -- ---- a line
 
 pub line_form : (line : Text) (o : Option FieldTree) → o ≡ field_of_line line → IfSome o (λ f. HasLineForm f.tree)
-line_form line o is =
-    subst (λ x. IfSome x (λ f. HasLineForm f.tree)) (sym is)
-    (chained _ field_of_value (cond (is_utf8 line) (read line) None) (if_some (λ _. Unit {0}) _ (λ d is. tt)) (λ d _. IfSome_then (field_of_value d) (field_says d) (λ f h. h.0)))
+line_form line o is = grind (arith, field_says)
 
 pub line_field : (line : Text) → IsUtf8 line → field_of_line line ≡ option_and_then field_of_value (read line)
 line_field line h = ap (λ b. option_and_then field_of_value (cond b (read line) None)) (is_utf8-from_IsUtf8 line h)

@@ -6,13 +6,6 @@ use Rattle.std.proofs.lemmas.Slice.Eq.{bytes_eq-Decides}
 use Rattle.json.proofs.Grammar.{read_key-shorter}
 use Rattle.value_tokens.specs.Presence.{get_member-put_at, Has, kept, has_new, has_taken}
 
--- a text that is another is told apart
-apart : (k l : Text) → (k ≡ l → ⊥) → bytes_eq k l ≡ false
-apart k l other = false_from_ne_true (bytes_eq k l) (λ e. other ((bytes_eq-Decides k l).0 e))
-
-differ : (k l : Text) → bytes_eq k l ≡ false → k ≡ l → ⊥
-differ k l other is = both_ways (bytes_eq k l) other ((bytes_eq-Decides k l).1 is)
-
 -- what the key that is next leaves
 abbrev pub turn : ℕ → Members → Option (Option Text × List Token) → Option (Members × List Token)
 turn depth found None = None
@@ -174,11 +167,8 @@ AreOrdered k l = (slice_cmp nat_cmp k l ≡ Less) × (slice_cmp nat_cmp l k ≡ 
 put_first : (k l : Text) (d : Data) (a b : Option Data) → AreOrdered k l → put k d (two k l a b) ≡ two k l (Some d) b
 put_first k l d a b h = grind (arith, tied_itself nat_list_cmp_total k)
 
-put_alone : (l : Text) (d : Data) (b : Option Data) → put l d (with_key l b no_members) ≡ member l d no_members
-put_alone l d b = grind (arith, put_only)
-
 put_second : (k l : Text) (d : Data) (a b : Option Data) → AreOrdered k l → put l d (two k l a b) ≡ two k l a (Some d)
-put_second k l d a b h = grind (arith, put_alone l d b)
+put_second k l d a b h = grind (arith, put_only)
 
 module _ {A B : Type 0} {f : Data → Option A} {g : Data → Option B} {k l : Text} {depth : ℕ} {first : Text} {all left : List Token} {now : Option Text} {x : Option A} {y : Option B}
     (before : AreTwoUnderWay f g k l depth first all left now x y) {q : Text} (came : now ≡ Some q) where
@@ -222,4 +212,4 @@ pub of_union : {q : Text} → (q ≡ codes "mode") ⊎ (q ≡ codes "union") →
 of_union one = grind arith
 
 pub not_keyed : (k : Text) (d : Data) → (k ≡ codes "list" → ⊥) → (k ≡ codes "large_list" → ⊥) → (k ≡ codes "struct" → ⊥) → None ≡ keyed_at k d
-not_keyed k d list large struct = rw (apart k _ list, apart k _ large, apart k _ struct)
+not_keyed k d list large struct = grind (arith, bytes_eq-Decides k)

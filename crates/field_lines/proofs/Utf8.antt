@@ -1,5 +1,5 @@
 -- The texts of what UTF-8 is read as are UTF-8, and so is the compact text of what is held.
-use Rattle.std.proofs.Common.{◌≡◌, ℕ, ◌+◌, ◌<◌, ◌==◌, ◌&&◌, List, [], ◌∷◌, ◌++◌, length, get_or, Bool, true, false, cond, Option, Some, None, IfSome, option_and_then, IsUtf8, sym, subst, arith, append_assoc, append-nil, length-append, eqb-true, ltb-true}
+use Rattle.std.proofs.Common.{◌≡◌, ℕ, ◌+◌, ◌<◌, ◌==◌, ◌&&◌, List, [], ◌∷◌, ◌++◌, length, get_or, Bool, true, false, cond, Option, Some, None, IfSome, option_and_then, IsUtf8, refl, sym, subst, arith, append_assoc, append-nil, length-append, eqb-true, ltb-true}
 use Rattle.field_lines.proofs.Terms.{AllByRecursion, and_parts, cond_both, IfSome_then, IsUtf8-append, IsUtf8-encode, IsUtf8-take, IsUtf8-drop, IsCharBoundary-before_ascii, IsCharBoundary-after_ascii, encode_ascii, Token}
 use Rattle.std.specs.Prelude.{⊤, nat_lt}
 use Rattle.std.specs.Char.{is_digit, digit_value, encode_utf8, IsScalar}
@@ -11,7 +11,7 @@ use Rattle.json.specs.Lex.{Lexeme, token, comma, colon, Class, class, quote, Mod
 use Rattle.json.specs.Json as json
 use Rattle.json.specs.Tree.{json_tokens}
 use Rattle.json.proofs.Unique.Spelling.{value-json_tokens_back}
-use Rattle.field_lines.proofs.Lean.{mapped, chained, if_some}
+use Rattle.field_lines.proofs.Lean.{mapped, chained}
 
 -- ---- UTF-8 around an ASCII byte
 
@@ -140,9 +140,6 @@ word_ok : (t : List ℕ) → IsUtf8Token (word t)
 unfolding word
 word_ok t = search one_of_words
 
-is_quote : (x : ℕ) → class x ≡ quote → x ≡ 34
-is_quote x h = grind arith
-
 byte_ok : (m : Mode) (c : Class) (x : ℕ) (xs : List ℕ) (k : Mode → List Lexeme) → (c ≡ quote → IsUtf8 xs) → ((n : Mode) → AreUtf8Lexemes (k n)) → AreUtf8Lexemes (lex_byte m c x xs k)
 byte_ok m c x xs k u h = let text = in_plain xs [] in grind (arith, word_ok)
 
@@ -150,7 +147,7 @@ lexed : (m : Mode) (xs pre : List ℕ) → IsUtf8 (pre ++ xs) → AreUtf8Lexemes
 unfolding lex
 lexed m [] pre u = tt
 lexed m (x ∷ xs) pre u =
-    byte_ok m (class x) x xs (λ n. lex n xs) (λ q. let is = is_quote x q in utf8_after pre xs x (omega arith) u) (λ n. lexed n xs (pre ++ x ∷ []) (one_more pre x xs u))
+    byte_ok m (class x) x xs (λ n. lex n xs) (λ q. utf8_after pre xs x (grind arith) u) (λ n. lexed n xs (pre ++ x ∷ []) (one_more pre x xs u))
 
 punctuated : (p : Place) (ls : List Lexeme) → AreUtf8Lexemes ls → AreUtf8 (punctuate p ls)
 unfolding punctuate
@@ -159,11 +156,8 @@ punctuated p (l ∷ ls) h = let rest = λ (n : Place). punctuated n ls h.1 in gr
 
 -- the tokens of a value that UTF-8 is read as, before it is converted
 pub texts_utf8 : (d : ℕ) (text : List ℕ) → IsUtf8 text → IfSome (option_and_then (λ p. json.if_last p.0 p.1) (json.value d (tokens text))) (λ j. AreUtf8 (json_tokens j))
-texts_utf8 d text u =
-    let all = punctuated fresh (lex between text) (lexed between text [] u) in
-    chained _ _ (json.value d (tokens text)) (if_some (λ p. AreUtf8 (json_tokens p.0)) _ (λ p is. (utf8_parts (json_tokens p.0) p.1 (subst AreUtf8 (value-json_tokens_back d (tokens text) p.1 p.0 is) all)).0))
-    (λ p h. last p.0 p.1 h)
+texts_utf8 d text u = by (json.value d (tokens text)) refl
   where
-    last : (j : json.Json) (ts : List Token) → AreUtf8 (json_tokens j) → IfSome (json.if_last j ts) (λ j. AreUtf8 (json_tokens j))
-    last j [] h = h
-    last j (t ∷ ts) h = tt
+    by : (o : Option (json.Json × List Token)) → json.value d (tokens text) ≡ o → IfSome (option_and_then (λ p. json.if_last p.0 p.1) o) (λ j. AreUtf8 (json_tokens j))
+    by (Some (j, [])) e = (utf8_parts (json_tokens j) [] (subst AreUtf8 (value-json_tokens_back d (tokens text) [] j e) (punctuated fresh _ (lexed between text [] u)))).0
+    by _ e = tt
