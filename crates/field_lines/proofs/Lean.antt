@@ -1,9 +1,9 @@
 -- A value that denotes a field is that field's value, if it is lean; and a line can say the field.
 use Rattle.std.proofs.Common.{◌≡◌, ℤ, List, [], ◌∷◌, Bool, true, cond, Option, Some, None, IfSome, IsTrue, IsUtf8, option_map, option_and_then, inl, inr, codes, bytes_eq, Less, Greater, nat_cmp, refl, sym, ap, ap₂, subst, ◌∙◌, arith}
-use Rattle.field_lines.proofs.Terms.{nat_list_cmp_total, tied_itself, and_from, cond_both, false_from_ne_true, IfSome_then, IsUtf8-from_is_utf8, is_utf8-from_IsUtf8, slice_cmp, find, list_all, is_utf8, Data, boolean, number, string, array, object, Items, no_items, item, Members, no_members, member, of_integer, get_member, as_str, as_bool, read, UnionMode, Text, Metadata, Tree, plain, struct, union, MemberTrees, FieldTree, field_tree, is_type_id, are_distinct, field_from, integer_of, kept, is_size, size_of_value, id_of_value, mode_of_value, texts_in, metadata_of_value, member_before, list_of, large_list_of, fixed_size_list_of, tree_ids, union_of, are_keys, field_of_value, type_in, type_of_value, fields_of_value, fields_in, members_of_value, members_in, texts_value, with_metadata, one_key, two_keys, type_value, fields_value, members_value, value_of_field, field_of_line, HasLineForm, FieldsHaveLineForm, MembersHaveLineForm}
+use Rattle.field_lines.proofs.Terms.{nat_list_cmp_total, tied_itself, and_from, cond_both, false_from_ne_true, IfSome_then, IsUtf8-from_is_utf8, is_utf8-from_IsUtf8, slice_cmp, find, list_all, is_utf8, Data, boolean, number, string, array, object, Items, no_items, item, Members, no_members, member, of_integer, get_member, as_str, as_bool, read, UnionMode, Text, Metadata, Tree, struct, union, MemberTrees, FieldTree, field_tree, is_type_id, are_distinct, field_from, integer_of, kept, is_size, size_of_value, id_of_value, mode_of_value, texts_in, metadata_of_value, member_before, list_of, large_list_of, fixed_size_list_of, tree_ids, union_of, are_keys, field_of_value, type_in, type_of_value, fields_of_value, fields_in, members_of_value, members_in, texts_value, with_metadata, one_key, two_keys, type_value, fields_value, members_value, value_of_field, field_of_line, HasLineForm, FieldsHaveLineForm, MembersHaveLineForm}
 use Rattle.std.proofs.lemmas.Slice.Eq.{bytes_eq-Decides}
 use Rattle.arrow_columns.specs.Notation.{plain_name}
-use Rattle.field_lines.specs.Names.{plain_named, plain_types, mode_name}
+use Rattle.field_lines.specs.Names.{plain_types, mode_name}
 use Rattle.field_lines.proofs.TokenMembers.{get_member-at, with_key}
 use Rattle.field_lines.proofs.TokenTexts.{text_says}
 use Rattle.field_lines.specs.Lean.{field_keys, HaveKeysOf, IsLean, AreLean, HasLeanType, IsLeanType}
@@ -83,7 +83,7 @@ parts_say Q n b t m at_name at_nullable at_type at_metadata all = grind arith
 
 find_holds : {A : Type 0} (p : A → Bool) (xs : List A) → IfSome (find p xs) (λ x. p x ≡ true)
 find_holds p [] = tt
-find_holds p (x ∷ xs) = cond_both (p x) (Some x) (find p xs) (λ o. IfSome o (λ y. p y ≡ true)) (λ e. e) (λ _. find_holds p xs)
+find_holds p (x ∷ xs) = let rest = find_holds p xs in grind arith
 
 mode_says : (d : Data) → IfSome (mode_of_value d) (λ mode. d ≡ string (mode_name mode))
 mode_says d = grind (arith, bytes_eq-Decides)
@@ -160,9 +160,7 @@ mutual
       (λ e. IfSome_then (type_in ms) (type_in_says ms) (λ t h. (h.0, λ lean. rw (get_member-at (codes "type") k d ms, e) (h.1 lean.1))))
 
   type_says : (d : Data) → IfSome (type_of_value d) (SaysType d)
-  type_says (string word) =
-      let says = find_holds (λ p. bytes_eq word (plain_name p)) plain_types in
-      mapped _ plain (plain_named word) says (λ p e. (tt, λ lean. ap string ((bytes_eq-Decides word (plain_name p)).0 e)))
+  type_says (string word) = let says = find_holds (λ p. bytes_eq word (plain_name p)) plain_types in grind (arith, bytes_eq-Decides)
   type_says (object (member k d no_members)) =
       keyed k (codes "list") d list_of value_of_field (field_of_value d) _ (λ f. refl) (field_says d)
       (keyed k (codes "large_list") d large_list_of value_of_field (field_of_value d) _ (λ f. refl) (field_says d)
