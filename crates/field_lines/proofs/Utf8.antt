@@ -39,9 +39,6 @@ one_more pre x xs u = subst IsUtf8 (sym (append_assoc pre (x ∷ []) xs)) u
 
 -- ---- the content of a string
 
-equals : (x y : ℕ) → y < 128 → (x == y) ≡ true → x < 128
-equals x y small e = let same : x ≡ y = eqb-true x y e in omega arith
-
 escaped : (x : ℕ) → IfSome (short_escape x) (λ c. (c < 128) × (x < 128))
 unfolding short_escape
 escaped x = grind arith
@@ -76,9 +73,9 @@ mutual
   in_plain [] pre u = tt
   in_plain (x ∷ xs) pre u =
       let ends = λ (o : Option (List ℕ)). IfSome o (λ s. IsUtf8 (pre ++ s)) in
-      cond_both (x == 34) (Some []) _ ends (λ e. subst IsUtf8 (sym (append-nil pre)) (utf8_before pre xs x (equals x 34 (omega arith) e) u))
+      cond_both (x == 34) (Some []) _ ends (λ e. subst IsUtf8 (sym (append-nil pre)) (utf8_before pre xs x (omega (arith, eqb-true x 34 e)) u))
       (λ _. cond_both (x == 92) (content after_backslash xs) _ ends
-      (λ e. let small = equals x 92 (omega arith) e in
+      (λ e. let small : x < 128 = omega (arith, eqb-true x 92 e) in
       IfSome_then (content after_backslash xs) (in_backslash xs (utf8_after pre xs x small u)) (λ s h. IsUtf8-append pre s (utf8_before pre xs x small u) h))
       (λ _. cond_both (nat_lt x 32) None _ ends (λ _. tt)
       (λ _. mapped (λ s. IsUtf8 (pre ++ s)) (λ s. x ∷ s) (content plain xs) (in_plain xs (pre ++ x ∷ []) (one_more pre x xs u)) (λ s h. subst IsUtf8 (append_assoc pre (x ∷ []) s) h))))
@@ -86,7 +83,7 @@ mutual
   in_backslash : (xs : List ℕ) → IsUtf8 xs → IfSome (content after_backslash xs) IsUtf8
   in_backslash [] u = tt
   in_backslash (x ∷ xs) u =
-      cond_both (x == 117) (content after_u xs) _ (λ o. IfSome o IsUtf8) (λ e. in_u xs (utf8_tail x xs (equals x 117 (omega arith) e) u))
+      cond_both (x == 117) (content after_u xs) _ (λ o. IfSome o IsUtf8) (λ e. in_u xs (utf8_tail x xs (omega (arith, eqb-true x 117 e)) u))
       (λ _. chained IsUtf8 (λ c. prepend (c ∷ []) (content plain xs)) (short_escape x) (escaped x)
       (λ c h. mapped IsUtf8 (λ s. c ∷ s) (content plain xs) (in_plain xs [] (utf8_tail x xs h.1 u)) (λ s k. ascii_then c s h.0 k)))
 
@@ -103,7 +100,7 @@ mutual
   in_high high (s ∷ t ∷ a ∷ b ∷ c ∷ d ∷ xs) is u =
       cond_both ((s == 92) && (t == 117)) _ None (λ o. IfSome o IsUtf8)
       (λ e. let p = and_parts (s == 92) (t == 117) e in
-      let begun = utf8_tail t _ (equals t 117 (omega arith) p.1) (utf8_tail s _ (equals s 92 (omega arith) p.0) u) in
+      let begun = utf8_tail t _ (omega (arith, eqb-true t 117 p.1)) (utf8_tail s _ (omega (arith, eqb-true s 92 p.0)) u) in
       chained IsUtf8 _ (code_unit a b c d) (four_digits a b c d)
       (λ w h. cond_both (is_low_surrogate w) _ None (λ o. IfSome o IsUtf8)
       (λ low. encoded (surrogate_pair high w) (content plain xs) (pair_of high w is low) (in_plain xs [] (after_four xs h begun)))
