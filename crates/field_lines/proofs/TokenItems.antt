@@ -53,7 +53,9 @@ module _ {X T : Type 0} {trees : List X → T} {whole : Items → Option T} {dep
         let one = item_taken depth left read going in
         let less = value_takes depth left r one.0 one.3 in
         record {
-          some = λ xs u rest. rw (is, append_assoc made (x ∷ []) xs) (way.some (x ∷ xs) u (item one.0 rest.0, one.1 ∙ ap (parse_map (item one.0)) rest.1, rw (law one.0 rest.0, ← one.2, ← rest.2) (ap Some (sym (more x xs)))));
+          some = λ xs u rest.
+              rw (is, append_assoc made (x ∷ []) xs)
+              (way.some (x ∷ xs) u (item one.0 rest.0, one.1 ∙ ap (parse_map (item one.0)) rest.1, rw (law one.0 rest.0, ← one.2, ← rest.2) (ap Some (sym (more x xs)))));
           none = λ u rest. way.none u (item one.0 rest.0, one.1 ∙ ap (parse_map (item one.0)) rest.1, rw (law one.0 rest.0, ← one.2, ← rest.2));
           refused = λ e. way.refused (one.1 ∙ ap (parse_map (item one.0)) e);
           fewer = omega (arith, way.fewer);
