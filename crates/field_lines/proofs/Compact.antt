@@ -1,7 +1,6 @@
 -- The compact text of what is held: what holds of its tokens and of texts that are joined holds of it.
-use Rattle.std.proofs.Common.{◌≡◌, ◌≢◌, ℕ, suc, ◌<◌, ◌^◌, ◌&&◌, ◌/◌, ◌%◌, pos, negsuc, List, [], ◌∷◌, ◌++◌, Bool, true, false, cond, IsUtf8, All, decimal, nat_lt, refl, sym, arith, ltb-true, true≢false}
+use Rattle.std.proofs.Common.{◌≡◌, ◌≢◌, ℕ, suc, ◌<◌, ◌^◌, ◌&&◌, pos, negsuc, List, [], ◌∷◌, ◌++◌, Bool, true, false, cond, IsUtf8, All, decimal, nat_lt, refl, sym, arith, ltb-true, true≢false}
 use Rattle.field_lines.proofs.Terms.{is_utf8, and_parts, IsUtf8-append, IsUtf8-nil, IsUtf8-from_ascii, IsUtf8-from_is_utf8, is_utf8-from_IsUtf8, Num, unsigned, negative, float, Data, null, boolean, number, string, array, object, Items, no_items, item, Members, no_members, member, number_text, comma_if, compact_text, items_text, members_text, is_held_number, is_held, items_are_held, members_are_held, held_parts}
-use Rattle.std.specs.Char.{digit_char}
 use Rattle.std.proofs.lemmas.Fmt.{IsAscii-decimal, decimal_is_IsNumeral}
 use Rattle.std.proofs.lemmas.List.Elements.{All-nil, All-cons, All-append, All-from_get_or}
 use Rattle.std.proofs.lemmas.Str.Parse.{digit_at}
@@ -18,10 +17,7 @@ module _ (P : List ℕ → Type 0) (none : P []) (join : (xs ys : List ℕ) → 
     (quotes : (s : List ℕ) → is_utf8 s ≡ true → P (quoted s)) (digits : (n : ℕ) → n < 2 ^ 64 → P (decimal n)) where
   fixed : (xs : List ℕ) → are_printable xs ≡ true → P xs
   fixed [] h = none
-  fixed (x ∷ xs) h =
-      let p = and_parts (nat_lt x 128 && nat_lt 31 x) _ h in
-      let q = and_parts (nat_lt x 128) _ p.0 in
-      byte x xs (ltb-true _ _ q.0) (ltb-true _ _ q.1) (fixed xs p.1)
+  fixed (x ∷ xs) h = let rest = fixed xs in grind (arith, byte)
 
   number_is : (n : Num) → is_held_number n ≡ true → P (number_text n)
   number_is (unsigned n) h = digits n (ltb-true _ _ h)
@@ -70,13 +66,6 @@ IsOther b = b ≢ 10
 abbrev IsOneLine : List ℕ → Type 0
 IsOneLine xs = All IsOther xs
 
--- the letter of an escape, and a digit
-letter_other : (x : ℕ) → IsOther (escape_letter x)
-letter_other x e = grind arith
-
-digit_other : (d : ℕ) → IsOther (digit_char d)
-digit_other d e = grind arith
-
 then : (x : ℕ) (xs : List ℕ) → IsOther x → IsOneLine xs → IsOneLine (x ∷ xs)
 then x xs = All-cons IsOther x xs
 
@@ -86,7 +75,7 @@ bytes_line letter a b x p q r = grind (arith, then, All-nil IsOther)
 
 escaped_line : (x : ℕ) → IsOneLine (escape_byte x)
 unfolding escape_byte
-escaped_line x = bytes_line (escape_letter x) _ _ x (letter_other x) (digit_other (x / 16)) (digit_other (x % 16))
+escaped_line x = bytes_line (escape_letter x) _ _ x (λ e. grind arith) (λ e. grind arith) (λ e. grind arith)
 
 text_line : (s : List ℕ) → IsOneLine (escape s)
 text_line [] = All-nil IsOther

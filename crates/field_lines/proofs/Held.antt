@@ -1,7 +1,7 @@
 -- What is read is held, and what is held and has no float is read back from its compact text.
-use Rattle.std.proofs.Common.{◌≡◌, ◌≤◌, ◌^◌, ℕ, List, [], Bool, true, false, Some, IfSome, option_map, nat_lt, nat_le, nat_cmp, is_lt, refl, ap, ◌∙◌, subst, arith, Ordering, Less}
-use Rattle.field_lines.proofs.Terms.{match_ordering, ordering_reverse, slice_cmp, and_parts, or_parts, and_from, nat_list_cmp_total, IsUtf8-from_is_utf8, is_utf8-from_IsUtf8, is_utf8, Num, negative, Data, number, array, object, Items, no_items, item, Members, no_members, member, put, depth, float_of, number_from, of_json, of_items, of_members, max_depth, read, number_text, outline, items_outline, members_outline, has_float, items_have_float, members_have_float, compact_text, Prints, reads_back, is_held_number, comes_first, is_held, items_are_held, members_are_held, held_parts}
-use Rattle.fast_float.specs.Text.{Parts, with_sign}
+use Rattle.std.proofs.Common.{◌≡◌, ◌≤◌, ℕ, List, [], Bool, true, false, Some, IfSome, option_map, nat_cmp, is_lt, refl, ap, ◌∙◌, subst, arith, Ordering, Less}
+use Rattle.field_lines.proofs.Terms.{match_ordering, ordering_reverse, slice_cmp, and_parts, or_parts, and_from, nat_list_cmp_total, IsUtf8-from_is_utf8, is_utf8-from_IsUtf8, is_utf8, Num, Data, number, array, object, Items, no_items, item, Members, no_members, member, put, depth, number_from, of_json, of_items, of_members, max_depth, read, number_text, outline, items_outline, members_outline, has_float, items_have_float, members_have_float, compact_text, Prints, reads_back, is_held_number, comes_first, is_held, items_are_held, members_are_held, held_parts}
+use Rattle.fast_float.specs.Text.{Parts}
 use Rattle.json.specs.Json as json
 use Rattle.json.specs.Tree as tree
 use Rattle.json.proofs.Printed.Decimals.{IsNumber-decimal, IsNumber-signed_decimal}
@@ -37,21 +37,12 @@ put_held k d (member l e ms) text own h = put_at (slice_cmp nat_cmp k l) k d l e
 abbrev IsHeldNumber : Num → Type 0
 IsHeldNumber n = is_held_number n ≡ true
 
-float_held : (sign : Bool) (p : Parts) → IfSome (float_of sign p) IsHeldNumber
-float_held sign p = grind arith
-
-below_zero : (n : ℕ) → nat_lt 0 n ≡ true → nat_le n (2 ^ 63) ≡ true → is_held_number (negative (with_sign true n)) ≡ true
-below_zero n some small = grind arith
-
 number_held : (s : List ℕ) → IfSome (number_of s) IsHeldNumber
 unfolding number_of
-number_held s = grind (arith, plain, signed)
+number_held s = grind (arith, held)
   where
-    plain : (p : Parts) → IfSome (number_from false p) IsHeldNumber
-    plain p = grind (arith, float_held)
-
-    signed : (p : Parts) → IfSome (number_from true p) IsHeldNumber
-    signed p = grind (arith, float_held, below_zero)
+    held : (sign : Bool) (p : Parts) → IfSome (number_from sign p) IsHeldNumber
+    held sign p = grind arith
 
 mutual
   json_held : (j : json.Json) → AreUtf8 (tree.json_tokens j) → IfSome (of_json j) (λ d. is_held d ≡ true)

@@ -1,9 +1,9 @@
 -- A value that denotes a field is that field's value, if it is lean; and a line can say the field.
 use Rattle.std.proofs.Common.{◌≡◌, ℤ, List, [], ◌∷◌, Bool, true, cond, Option, Some, None, IfSome, IsTrue, IsUtf8, option_map, option_and_then, inl, inr, codes, bytes_eq, Less, Greater, nat_cmp, refl, sym, ap, ap₂, subst, ◌∙◌, arith}
-use Rattle.field_lines.proofs.Terms.{nat_list_cmp_total, tied_itself, and_from, cond_both, false_from_ne_true, IfSome_then, IsUtf8-from_is_utf8, is_utf8-from_IsUtf8, slice_cmp, find, list_all, is_utf8, Data, boolean, number, string, array, object, Items, no_items, item, Members, no_members, member, of_integer, get_member, as_str, as_bool, read, UnionMode, Text, Metadata, Tree, plain, struct, union, MemberTrees, FieldTree, field_tree, is_type_id, are_distinct, field_from, integer_of, kept, is_size, size_of_value, id_of_value, mode_of_value, texts_in, metadata_of_value, field_before, member_before, list_of, large_list_of, fixed_size_list_of, tree_ids, union_of, are_keys, field_of_value, type_in, type_of_value, fields_of_value, fields_in, members_of_value, members_in, texts_value, with_metadata, one_key, two_keys, type_value, fields_value, members_value, value_of_field, field_of_line, HasLineForm, FieldsHaveLineForm, MembersHaveLineForm}
+use Rattle.field_lines.proofs.Terms.{nat_list_cmp_total, tied_itself, and_from, cond_both, false_from_ne_true, IfSome_then, IsUtf8-from_is_utf8, is_utf8-from_IsUtf8, slice_cmp, find, list_all, is_utf8, Data, boolean, number, string, array, object, Items, no_items, item, Members, no_members, member, of_integer, get_member, as_str, as_bool, read, UnionMode, Text, Metadata, Tree, struct, union, MemberTrees, FieldTree, field_tree, is_type_id, are_distinct, field_from, integer_of, kept, is_size, size_of_value, id_of_value, mode_of_value, texts_in, metadata_of_value, member_before, list_of, large_list_of, fixed_size_list_of, tree_ids, union_of, are_keys, field_of_value, type_in, type_of_value, fields_of_value, fields_in, members_of_value, members_in, texts_value, with_metadata, one_key, two_keys, type_value, fields_value, members_value, value_of_field, field_of_line, HasLineForm, FieldsHaveLineForm, MembersHaveLineForm}
 use Rattle.std.proofs.lemmas.Slice.Eq.{bytes_eq-Decides}
 use Rattle.arrow_columns.specs.Notation.{plain_name}
-use Rattle.field_lines.specs.Names.{plain_named, plain_types, mode_name}
+use Rattle.field_lines.specs.Names.{plain_types, mode_name}
 use Rattle.field_lines.proofs.TokenMembers.{get_member-at, with_key}
 use Rattle.field_lines.proofs.TokenTexts.{text_says}
 use Rattle.field_lines.specs.Lean.{field_keys, HaveKeysOf, IsLean, AreLean, HasLeanType, IsLeanType}
@@ -53,9 +53,6 @@ mapped Q f o h k = grind arith
 pub chained : {A B : Type 0} {P : A → Type 0} (Q : B → Type 0) (f : A → Option B) (o : Option A) → IfSome o P → ((x : A) → P x → IfSome (f x) Q) → IfSome (option_and_then f o) Q
 chained Q f o h k = grind arith
 
-pub either : {A : Type 0} (P : A → Type 0) (b : Bool) (x y : A) → P x → P y → P (cond b x y)
-either P b x y p q = cond_both b x y P (λ _. p) (λ _. q)
-
 pub if_some : {A : Type 0} (P : A → Type 0) (o : Option A) → ((x : A) → o ≡ Some x → P x) → IfSome o P
 if_some P o h = grind arith
 
@@ -69,18 +66,12 @@ bool_says d = grind arith
 
 pub texts_say : (ms : Members) → IfSome (texts_in ms) (λ m. ms ≡ texts_value m)
 texts_say no_members = refl
-texts_say (member k d ms) =
-    chained _ (λ text. option_map (λ texts. (k, text) ∷ texts) (texts_in ms)) (as_str d) (text_says d)
-    (λ text is. mapped _ (λ texts. (k, text) ∷ texts) (texts_in ms) (texts_say ms) (λ texts same. ap₂ (member k) is same))
-
-metadata_at : (m : Metadata) (ms rest : Members) → ms ≡ texts_value m → (Some (object ms) ≡ Some (object no_members) → ⊥)
-    → member (codes "metadata") (object ms) rest ≡ with_metadata m rest
-metadata_at m ms rest is full = grind arith
+texts_say (member k d ms) = let one = text_says d in let rest = texts_say ms in grind arith
 
 metadata_says : (o : Option Data)
     → IfSome (metadata_of_value o) (λ m. (rest : Members) → (o ≡ Some (object no_members) → ⊥) → with_key (codes "metadata") o rest ≡ with_metadata m rest)
 metadata_says None = λ rest full. refl
-metadata_says (Some (object ms)) = IfSome_then (texts_in ms) (texts_say ms) (λ m is rest full. metadata_at m ms rest is full)
+metadata_says (Some (object ms)) = let says = texts_say ms in grind arith
 metadata_says (Some _) = tt
 
 parts_say : {N : Text → Type 0} {B : Bool → Type 0} {T : Tree → Type 0} {M : Metadata → Type 0} (Q : FieldTree → Type 0) (n : _) (b : _) (t : _) (m : _)
@@ -92,7 +83,7 @@ parts_say Q n b t m at_name at_nullable at_type at_metadata all = grind arith
 
 find_holds : {A : Type 0} (p : A → Bool) (xs : List A) → IfSome (find p xs) (λ x. p x ≡ true)
 find_holds p [] = tt
-find_holds p (x ∷ xs) = cond_both (p x) (Some x) (find p xs) (λ o. IfSome o (λ y. p y ≡ true)) (λ e. e) (λ _. find_holds p xs)
+find_holds p (x ∷ xs) = let rest = find_holds p xs in grind arith
 
 mode_says : (d : Data) → IfSome (mode_of_value d) (λ mode. d ≡ string (mode_name mode))
 mode_says d = grind (arith, bytes_eq-Decides)
@@ -169,9 +160,7 @@ mutual
       (λ e. IfSome_then (type_in ms) (type_in_says ms) (λ t h. (h.0, λ lean. rw (get_member-at (codes "type") k d ms, e) (h.1 lean.1))))
 
   type_says : (d : Data) → IfSome (type_of_value d) (SaysType d)
-  type_says (string word) =
-      let says = find_holds (λ p. bytes_eq word (plain_name p)) plain_types in
-      mapped _ plain (plain_named word) says (λ p e. (tt, λ lean. ap string ((bytes_eq-Decides word (plain_name p)).0 e)))
+  type_says (string word) = let says = find_holds (λ p. bytes_eq word (plain_name p)) plain_types in grind (arith, bytes_eq-Decides)
   type_says (object (member k d no_members)) =
       keyed k (codes "list") d list_of value_of_field (field_of_value d) _ (λ f. refl) (field_says d)
       (keyed k (codes "large_list") d large_list_of value_of_field (field_of_value d) _ (λ f. refl) (field_says d)
@@ -185,9 +174,7 @@ mutual
 
   fields_in_say : (ds : Items) → IfSome (fields_in ds) (λ fs. FieldsHaveLineForm fs × (AreLean ds → ds ≡ fields_value fs))
   fields_in_say no_items = (tt, λ lean. refl)
-  fields_in_say (item d ds) =
-      chained _ (λ f. option_map (field_before f) (fields_in ds)) (field_of_value d) (field_says d)
-      (λ f x. mapped _ (field_before f) (fields_in ds) (fields_in_say ds) (λ fs y. ((x.0, y.0), λ lean. ap₂ item (x.1 lean.0) (y.1 lean.1))))
+  fields_in_say (item d ds) = let one = field_says d in let rest = fields_in_say ds in grind arith
 
   members_say : (d : Data) → IfSome (members_of_value d) (λ ms. SaysMembers (IsLean d) d (array (members_value ms)) ms)
   members_say (array ds) = IfSome_then (members_in ds) (members_in_say ds) (λ ms h. (h.0, λ lean. ap array (h.1 lean)))
@@ -210,9 +197,7 @@ lean_value_is f d lean is = let says = subst (λ o. IfSome o (SaysField d)) is (
 -- ---- a line
 
 pub line_form : (line : Text) (o : Option FieldTree) → o ≡ field_of_line line → IfSome o (λ f. HasLineForm f.tree)
-line_form line o is =
-    subst (λ x. IfSome x (λ f. HasLineForm f.tree)) (sym is)
-    (chained _ field_of_value (cond (is_utf8 line) (read line) None) (if_some (λ _. Unit {0}) _ (λ d is. tt)) (λ d _. IfSome_then (field_of_value d) (field_says d) (λ f h. h.0)))
+line_form line o is = grind (arith, field_says)
 
 pub line_field : (line : Text) → IsUtf8 line → field_of_line line ≡ option_and_then field_of_value (read line)
 line_field line h = ap (λ b. option_and_then field_of_value (cond b (read line) None)) (is_utf8-from_IsUtf8 line h)

@@ -1,9 +1,9 @@
 -- The line of a field is read back as that field, and a field that a line denotes has its texts and its metadata as a value holds them.
-use Rattle.std.proofs.Common.{◌≡◌, ◌≤◌, [], ◌∷◌, Bool, true, cond, Option, Some, None, IfSome, option_and_then, option_map, codes, bytes_eq, String, Global, string_bytes, string_cmp, is_lt, Less, refl, sym, ap, ◌∙◌, subst, arith}
-use Rattle.field_lines.proofs.Terms.{AllByRecursion, keys_of, is_utf8, cond_both, and_from, IsUtf8-string_bytes, is_utf8-from_IsUtf8, IfSome_then, Data, object, Members, no_members, member, depth, get_member, as_str, read, of_json, max_depth, compact_text, outline, Text, Metadata, Tree, FieldTree, texts_of, comes_first, is_held, members_are_held, held_parts, field_from, metadata_of_value, texts_in, type_in, field_of_value, texts_value, value_of_field, line_of_field, field_of_line, HasLineForm}
+use Rattle.std.proofs.Common.{◌≡◌, ◌≤◌, [], ◌∷◌, Bool, true, cond, Option, Some, None, IfSome, option_and_then, option_map, codes, String, Global, string_bytes, string_cmp, is_lt, Less, refl, ap, ◌∙◌, subst, arith}
+use Rattle.field_lines.proofs.Terms.{AllByRecursion, keys_of, is_utf8, and_from, IsUtf8-string_bytes, is_utf8-from_IsUtf8, IfSome_then, Data, object, Members, no_members, member, depth, get_member, as_str, read, of_json, max_depth, compact_text, outline, Text, Metadata, Tree, FieldTree, texts_of, comes_first, is_held, members_are_held, held_parts, field_from, metadata_of_value, texts_in, type_in, field_of_value, texts_value, value_of_field, line_of_field, field_of_line, HasLineForm}
 use Rattle.std.specs.List.Sorted.{IsStrictlySortedBy}
 use Rattle.field_lines.proofs.Prints.{Texts}
-use Rattle.field_lines.proofs.Lean.{chained, if_some, either, texts_say}
+use Rattle.field_lines.proofs.Lean.{chained, texts_say}
 use Rattle.field_lines.proofs.TokenMembers.{get_member-at}
 use Rattle.field_lines.proofs.Round.{value_is, texts_whole}
 use Rattle.field_lines.proofs.Held.{read_held, members_back, held_read_back}
@@ -40,8 +40,9 @@ member_held : (k : Text) (ms : Members) → members_are_held ms ≡ true → IfS
 member_held k no_members h = tt
 member_held k (member l e ms) h =
     let p = held_parts l e ms h in
-    let is_held_there = λ (o : Option Data). IfSome o (λ d. is_held d ≡ true) in
-    subst is_held_there (sym (get_member-at k l e ms)) (either is_held_there (bytes_eq k l) (Some e) (get_member k ms) p.2 (member_held k ms p.3))
+    let at = get_member-at k l e ms in
+    let rest = member_held k ms p.3 in
+    grind arith
 
 text_held : (d : Data) → is_held d ≡ true → IfSome (as_str d) (λ s. is_utf8 s ≡ true)
 text_held d h = grind arith
@@ -67,7 +68,4 @@ field_held (object ms) h =
 field_held _ h = tt
 
 pub line_held : (line : Text) (f : FieldTree) → field_of_line line ≡ Some f → (is_utf8 f.name ≡ true) × (members_are_held (texts_value f.metadata) ≡ true)
-line_held line f is =
-    subst (λ o. IfSome o IsHeldField) is
-    (chained _ field_of_value (cond (is_utf8 line) (read line) None)
-    (cond_both (is_utf8 line) (read line) None (λ o. IfSome o (λ d. is_held d ≡ true)) (λ utf8. if_some _ (read line) (λ d. read_held line d utf8)) (λ _. tt)) field_held)
+line_held line f is = grind (arith, read_held, field_held)

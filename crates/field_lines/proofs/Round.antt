@@ -1,5 +1,5 @@
 -- The value of a field: it is lean, holds no float, and denotes that field.
-use Rattle.std.proofs.Common.{◌≡◌, ◌≤◌, max, ℤ, [], ◌∷◌, Bool, cond, false, IsTrue, inl, inr, Some, None, option_map, option_and_then, refl, ap, ◌∙◌, arith}
+use Rattle.std.proofs.Common.{◌≡◌, ◌≤◌, max, ℤ, [], ◌∷◌, Bool, false, IsTrue, inl, inr, Some, option_map, option_and_then, refl, ap, arith}
 use Rattle.field_lines.proofs.Terms.{and_parts, list_all, Data, number, string, depth, max_depth, of_integer, as_integer, as_str, has_float, items_have_float, members_have_float, UnionMode, Text, Metadata, Plain, Tree, plain, list, large_list, fixed_size_list, struct, union, FieldTrees, no_fields, field, MemberTrees, FieldTree, field_tree, is_type_id, are_distinct, kept, is_size, texts_in, list_of, large_list_of, tree_ids, field_of_value, type_of_value, fields_in, members_in, texts_value, parts_value, type_value, fields_value, members_value, value_of_field, other_value, HasLineForm, FieldsHaveLineForm, MembersHaveLineForm}
 use Rattle.serde_json.specs.Data.{members_depth}
 use Rattle.arrow_values.specs.Tree.{null, no_members, member}
@@ -16,11 +16,8 @@ named_mode : (mode : UnionMode) → mode_named (mode_name mode) ≡ Some mode
 named_mode mode = grind arith
 
 -- the numbers
-as_integer-of : (z : ℤ) → as_integer (of_integer z) ≡ Some z
-as_integer-of z = grind arith
-
 kept-integer : (p : ℤ → Bool) (z : ℤ) → IsTrue (p z) → option_and_then (kept p) (as_integer (of_integer z)) ≡ Some z
-kept-integer p z is = ap (option_and_then (kept p)) (as_integer-of z) ∙ ap (λ b. cond b (Some z) None) is
+kept-integer p z is = grind arith
 
 pub texts_in-value : (m : Metadata) → texts_in (texts_value m) ≡ Some m
 texts_in-value [] = refl

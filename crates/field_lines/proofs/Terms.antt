@@ -14,7 +14,7 @@ pub use Rattle.json.specs.Json.{after_end_array, parse_map, read_key}
 pub use Rattle.json.specs.Token.{begin_object, boolean as boolean_token, end_array, end_object, key, number as number_token, string as string_token, Token}
 pub use Rattle.serde_json.specs.Data.{array, boolean, Data, depth, float, item, Items, member, Members, negative, no_items, no_members, null, Num, number, object, put, string, unsigned}
 pub use Rattle.serde_json.specs.Find.{as_bool, as_integer, as_object, as_str, get_member, of_integer}
-pub use Rattle.serde_json.specs.Read.{float_of, max_depth, number_from, of_items, of_json, of_members, read}
+pub use Rattle.serde_json.specs.Read.{max_depth, number_from, of_items, of_json, of_members, read}
 pub use Rattle.serde_json.specs.Written.{comma_if, compact_text, has_float, items_have_float, items_outline, items_text, members_have_float, members_outline, members_text, number_text, outline}
 pub use Rattle.arrow_values.specs.Tree.{field, field_tree, fields_depth, FieldTree, FieldTrees, fixed_size_list, large_list, list, members_depth, MemberTrees, Metadata, no_fields, plain, Plain, struct, Text, Tree, union}
 pub use Rattle.arrow_values.specs.Union.{are_distinct, is_type_id}

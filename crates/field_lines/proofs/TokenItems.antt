@@ -1,8 +1,7 @@
 -- The items of a list from tokens: what is left decides.
-use Rattle.std.proofs.Common.{◌≡◌, ℕ, ◌≤◌, ℤ, List, [], ◌∷◌, ◌++◌, ◌+◌, length, length-append, append_assoc, append-nil, IsTrue, Option, Some, None, option_map, option_and_then, refl, sym, ap, ◌∙◌, arith}
-use Rattle.field_lines.proofs.Terms.{and_from, zip, Token, parse_map, after_end_array, Data, array, Items, no_items, item, FieldTree, MemberTrees, is_type_id, member_before, field_of_value, id_of_value, members_in, AreMemberParts, pair_read, next_value, next_items, after, ReadsValue, ReadsItems, item_read, item_refused, items_over, value_takes, after_some}
+use Rattle.std.proofs.Common.{◌≡◌, ℕ, ◌≤◌, ℤ, List, [], ◌∷◌, ◌++◌, ◌+◌, length, length-append, append_assoc, append-nil, IsTrue, Option, Some, None, option_map, option_and_then, refl, sym, ap, subst, ◌∙◌, arith}
+use Rattle.field_lines.proofs.Terms.{and_from, zip, Token, parse_map, after_end_array, Data, array, Items, no_items, item, FieldTree, MemberTrees, is_type_id, member_before, field_of_value, id_of_value, members_in, AreMemberParts, pair_read, tree_ids, member_trees, next_value, next_items, after, ReadsValue, ReadsItems, item_read, item_refused, items_over, value_takes, after_some}
 use Rattle.std.proofs.lemmas.List.Folds.{list_all-append}
-use Rattle.std.proofs.lemmas.Iterator.Adapters.{option_map_id}
 
 -- what is next leaves of a list: its end, or an item
 abbrev pub turn : ℕ → Option (List Token) → Option (Data × List Token) → Option (Items × List Token)
@@ -34,25 +33,17 @@ item_taken depth ts {s} {r} read going =
 -- ---- the items so far made these, which stand before what those that are left make
 
 pub record AreItemsTaken {X T : Type 0} (trees : List X → T) (whole : Items → Option T) (depth : _) (all left : List Token) (made : List X) : Type 0 where
-  pub front : Items → Items
-  pub decides : next_items depth all ≡ parse_map front (next_items depth left)
-  pub some : (ds : Items) (xs : List X) → whole ds ≡ Some (trees xs) → whole (front ds) ≡ Some (trees (made ++ xs))
-  pub none : (ds : Items) → whole ds ≡ None → whole (front ds) ≡ None
+  pub some : (xs : List X) (r : List Token) → ReadsItems whole depth left (Some (trees xs)) r → ReadsItems whole depth all (Some (trees (made ++ xs))) r
+  pub none : (r : List Token) → ReadsItems whole depth left None r → ReadsItems whole depth all None r
+  pub refused : next_items depth left ≡ None → next_items depth all ≡ None
   pub fewer : length left ≤ length all
 
-nested : (front : Items → Items) (d : Data) (o : Option (Items × List Token)) → parse_map front (parse_map (item d) o) ≡ parse_map (λ ds. front (item d ds)) o
-nested front d o = grind arith
-
 pub taken_start : {X T : Type 0} {trees : List X → T} {whole : Items → Option T} {depth : ℕ} {all : List Token} {made : List X} → made ≡ [] → AreItemsTaken trees whole depth all all made
-taken_start {depth = depth} {all} is = rw is (record { front = λ ds. ds; decides = sym (option_map_id (next_items depth all)); some = λ ds xs e. e; none = λ ds e. e; fewer = omega arith })
+taken_start is = rw is (record { some = λ xs r e. e; none = λ r e. e; refused = λ e. e; fewer = omega arith })
 
 module _ {X T : Type 0} {trees : List X → T} {whole : Items → Option T} {depth : ℕ} {all left : List Token} {made : List X} (way : AreItemsTaken trees whole depth all left made) where
   pub taken_end : {r : List Token} → whole no_items ≡ Some (trees []) → after_end_array left ≡ Some r → ReadsItems whole depth all (Some (trees made)) r
-  taken_end {r} none over = (
-    way.front no_items,
-    way.decides ∙ ap (parse_map way.front) (items_over depth left r over),
-    ap (λ xs. Some (trees xs)) (sym (append-nil made)) ∙ sym (way.some no_items [] none),
-  )
+  taken_end {r} none over = subst (λ xs. ReadsItems whole depth all (Some (trees xs)) r) (append-nil made) (way.some [] r (no_items, items_over depth left r over, sym none))
 
   -- with how an item is read before the others
   module _ (step : X → T → T) (item_of : Data → Option X) (more : (x : X) (xs : List X) → step x (trees xs) ≡ trees (x ∷ xs))
@@ -62,10 +53,11 @@ module _ {X T : Type 0} {trees : List X → T} {whole : Items → Option T} {dep
         let one = item_taken depth left read going in
         let less = value_takes depth left r one.0 one.3 in
         record {
-          front = λ ds. way.front (item one.0 ds);
-          decides = way.decides ∙ ap (parse_map way.front) one.1 ∙ nested way.front one.0 (next_items depth r);
-          some = λ ds xs e. rw (is, append_assoc made (x ∷ []) xs) (way.some (item one.0 ds) (x ∷ xs) (rw (law one.0 ds, ← one.2, e) (ap Some (more x xs))));
-          none = λ ds e. way.none (item one.0 ds) (rw (law one.0 ds, ← one.2, e));
+          some = λ xs u rest.
+              rw (is, append_assoc made (x ∷ []) xs)
+              (way.some (x ∷ xs) u (item one.0 rest.0, one.1 ∙ ap (parse_map (item one.0)) rest.1, rw (law one.0 rest.0, ← one.2, ← rest.2) (ap Some (sym (more x xs)))));
+          none = λ u rest. way.none u (item one.0 rest.0, one.1 ∙ ap (parse_map (item one.0)) rest.1, rw (law one.0 rest.0, ← one.2, ← rest.2));
+          refused = λ e. way.refused (one.1 ∙ ap (parse_map (item one.0)) e);
           fewer = omega (arith, way.fewer);
         }
 
@@ -73,9 +65,14 @@ module _ {X T : Type 0} {trees : List X → T} {whole : Items → Option T} {dep
     taken_spoiled {s} {u} {r} read rest going =
         let one = item_taken depth left read going in
         let ds = after_some (next_items depth u) r rest in
-        (way.front (item one.0 ds.0), way.decides ∙ ap (parse_map way.front) (one.1 ∙ ap (parse_map (item one.0)) ds.1), sym (way.none (item one.0 ds.0) (rw (law one.0 ds.0, ← one.2))))
+        way.none r (item one.0 ds.0, one.1 ∙ ap (parse_map (item one.0)) ds.1, rw (law one.0 ds.0, ← one.2))
 
 -- ---- the pairs of a union
+
+pub tree_ids_zip : (is : List ℤ) (fs : List FieldTree) → length is ≡ length fs → tree_ids (member_trees (zip is fs)) ≡ is
+tree_ids_zip [] fs h = refl
+tree_ids_zip (i ∷ is) [] h = absurd (omega arith)
+tree_ids_zip (i ∷ is) (f ∷ fs) h = ap (λ js. i ∷ js) (tree_ids_zip is fs (omega arith))
 
 abbrev pub pair_before : ℤ × FieldTree → MemberTrees → MemberTrees
 pair_before q rest = member_before q.0 q.1 rest

@@ -1,17 +1,10 @@
 -- The members of an object from tokens: those of a field, of which the last value at each key counts, and those of a type, with one key or two and no others.
-use Rattle.std.proofs.Common.{◌≡◌, ℕ, ◌≤◌, List, length, Bool, true, false, cond, bytes_eq, nat_cmp, Ordering, Option, Some, None, option_and_then, codes, refl, sym, ap, ◌∙◌, arith, ◌<◌, Less, Greater, not, ◌⊎◌, inl, inr, ⊎_elim, subst}
+use Rattle.std.proofs.Common.{◌≡◌, ℕ, ◌≤◌, List, length, Bool, true, false, cond, bytes_eq, nat_cmp, Option, Some, None, option_and_then, codes, refl, sym, ap, ◌∙◌, arith, ◌<◌, Less, Greater, not, ◌⊎◌}
 use Rattle.field_lines.proofs.Terms.{cond-false, cond_both, false_from_ne_true, and_left, and_right, both_ways, not-true, not-false, slice_cmp, is_eq, match_ordering, cond_some, nat_list_cmp_total, tied_itself, Token, read_key, Data, string, object, Members, no_members, member, put, get_member, as_str, as_bool, as_object, Text, Metadata, Tree, FieldTree, under, metadata_of_value, field_from, field_of_value, type_in, type_of_value, are_keys, keyed_at, IsNeither, next_value, next_members, ReadsMembers, next_after, after, ReadsValue, ReadsAfter, no_value, object_too_deep, value-object, member_read, members_over, value_takes, key_refused, after_some, taken, named}
 use Rattle.std.proofs.lemmas.Map.Text.{is_eq-slice_cmp}
 use Rattle.std.proofs.lemmas.Slice.Eq.{bytes_eq-Decides}
 use Rattle.json.proofs.Grammar.{read_key-shorter}
 use Rattle.value_tokens.specs.Presence.{get_member-put_at, Has, kept, has_new, has_taken}
-
--- a text that is another is told apart
-apart : (k l : Text) → (k ≡ l → ⊥) → bytes_eq k l ≡ false
-apart k l other = false_from_ne_true (bytes_eq k l) (λ e. other ((bytes_eq-Decides k l).0 e))
-
-differ : (k l : Text) → bytes_eq k l ≡ false → k ≡ l → ⊥
-differ k l other is = both_ways (bytes_eq k l) other ((bytes_eq-Decides k l).1 is)
 
 -- what the key that is next leaves
 abbrev pub turn : ℕ → Members → Option (Option Text × List Token) → Option (Members × List Token)
@@ -28,25 +21,17 @@ member_takes depth ts s r k d key e = let less = value_takes depth s r d e in le
 
 -- ---- the parts of a field
 
-at_first : (r : Ordering) (d o : Option Data) → match_ordering r o d o ≡ cond (is_eq r) d o
-at_first r d o = grind arith
-
 pub get_member-at : (q k : Text) (d : Data) (ms : Members) → get_member q (member k d ms) ≡ cond (bytes_eq q k) (Some d) (get_member q ms)
-get_member-at q k d ms = at_first (slice_cmp nat_cmp q k) (Some d) (get_member q ms) ∙ ap (λ b. cond b (Some d) (get_member q ms)) (is_eq-slice_cmp q k)
-
-chosen : {A B : Type 0} (f : Option A → B) (b : Bool) (x y : Option A) → f (cond b x y) ≡ cond b (f x) (f y)
-chosen f b x y = grind arith
+get_member-at q k d ms = let same = is_eq-slice_cmp q k in grind arith
 
 -- the type is what stands at its key
 type_in-get : (ms : Members) → type_in ms ≡ under type_of_value (codes "type") ms
 type_in-get no_members = refl
-type_in-get (member k d ms) =
-    let q = codes "type" in
-    rw (get_member-at q k d ms, type_in-get ms) (sym (chosen (option_and_then type_of_value) (bytes_eq q k) (Some d) (get_member q ms)))
+type_in-get (member k d ms) = let at = get_member-at (codes "type") k d ms in let rest = type_in-get ms in grind arith
 
 -- what f says of what stands at the key q, after d is put at k
 put_at : {A : Type 0} (f : Option Data → A) (q k : Text) (d : Data) (found : Members) → f (get_member q (put k d found)) ≡ cond (bytes_eq q k) (f (Some d)) (f (get_member q found))
-put_at f q k d found = ap f (get_member-put_at q k d found) ∙ chosen f (bytes_eq q k) (Some d) (get_member q found)
+put_at f q k d found = grind (arith, get_member-put_at)
 
 pub record ArePartsUnderWay (depth : _) (all left : List Token) (name : Option Text) (nullable : Option Bool) (tree : Option Tree) (metadata : Option Metadata) : Type 0 where
   pub found : Members
@@ -92,18 +77,16 @@ no_type d e f = grind arith
 
 -- a part at another key
 pub part_other : {A : Type 0} {q k : Text} (here : Option A) {old : Option A} → (k ≡ q → ⊥) → Part q k old here old
-part_other {q = q} {k} here {old} other = sym (cond-false (bytes_eq q k) here old (apart q k (λ e. other (sym e))))
+part_other {q = q} {k} here {old} other = grind (arith, bytes_eq-Decides q k)
 
 -- ---- the keys of a type
 
 -- what stands at a key of one member is at that member's key, and of two members one has the key
 only_key : (q k : Text) (d : Data) → Has q (member k d no_members) → q ≡ k
-only_key q k d h = (bytes_eq-Decides q k).0 (cond_some (bytes_eq q k) d h.0 (sym (get_member-at q k d no_members) ∙ h.1)).0
+only_key q k d h = let same = is_eq-slice_cmp q k in grind (arith, bytes_eq-Decides)
 
 either_key : (u k l : Text) (d e : Data) → Has u (member k d (member l e no_members)) → (u ≡ k) ⊎ (u ≡ l)
-either_key u k l d e h =
-    cond_both (bytes_eq u k) (Some d) (get_member u (member l e no_members)) (λ o. o ≡ Some h.0 → (u ≡ k) ⊎ (u ≡ l))
-    (λ same _. inl ((bytes_eq-Decides u k).0 same)) (λ _ is. inr (only_key u l e (h.0, is))) (sym (get_member-at u k d (member l e no_members)) ∙ h.1)
+either_key u k l d e h = let same = is_eq-slice_cmp u k in grind (arith, bytes_eq-Decides, only_key u l e)
 
 is_no_pair : (q k l m n : Text) → IsNeither m n q → (q ≡ k) ⊎ (q ≡ l) → are_keys k l m n ≡ false
 is_no_pair q k l m n none one = grind (arith, bytes_eq-Decides)
@@ -114,9 +97,7 @@ denoted ms = type_of_value (object ms)
 -- members of which one has no key of a fixed size list and one has no key of a union denote a type only by their one key
 pub no_type_of : {q u v : Text} (ms : Members) → IsNeither (codes "fixed_size_list") (codes "size") q → IsNeither (codes "mode") (codes "union") u → Has q ms → Has u ms → Has v ms
     → ((d : Data) → q ≡ v → u ≡ v → None ≡ keyed_at v d) → None ≡ denoted ms
-no_type_of {q} {u} {v} (member k d no_members) size union a b c one =
-    let is = only_key v k d c in
-    subst (λ n. None ≡ keyed_at n d) is (one d (only_key q k d a ∙ sym is) (only_key u k d b ∙ sym is))
+no_type_of (member k d no_members) size union a b c one = grind (arith, only_key)
 no_type_of {q} {u} {v} (member k d (member l e no_members)) size union a b c one =
     rw (is_no_pair q k l (codes "fixed_size_list") (codes "size") size (either_key q k l d e a), is_no_pair u k l (codes "mode") (codes "union") union (either_key u k l d e b))
 no_type_of _ size union a b c one = refl
@@ -186,11 +167,8 @@ AreOrdered k l = (slice_cmp nat_cmp k l ≡ Less) × (slice_cmp nat_cmp l k ≡ 
 put_first : (k l : Text) (d : Data) (a b : Option Data) → AreOrdered k l → put k d (two k l a b) ≡ two k l (Some d) b
 put_first k l d a b h = grind (arith, tied_itself nat_list_cmp_total k)
 
-put_alone : (l : Text) (d : Data) (b : Option Data) → put l d (with_key l b no_members) ≡ member l d no_members
-put_alone l d b = grind (arith, put_only)
-
 put_second : (k l : Text) (d : Data) (a b : Option Data) → AreOrdered k l → put l d (two k l a b) ≡ two k l a (Some d)
-put_second k l d a b h = grind (arith, put_alone l d b)
+put_second k l d a b h = grind (arith, put_only)
 
 module _ {A B : Type 0} {f : Data → Option A} {g : Data → Option B} {k l : Text} {depth : ℕ} {first : Text} {all left : List Token} {now : Option Text} {x : Option A} {y : Option B}
     (before : AreTwoUnderWay f g k l depth first all left now x y) {q : Text} (came : now ≡ Some q) where
@@ -227,14 +205,11 @@ module _ {A B : Type 0} {f : Data → Option A} {g : Data → Option B} {k l : T
   second_read came read e = took way came way.at_first (Some read.0) read e (put_second k l read.0 way.at_first way.at_second ordered) (way.answers.0, read.2)
 
 -- a key that is one of two, and none of the others
-either_is : {q m n : Text} (P : Text → Type 0) → (q ≡ m) ⊎ (q ≡ n) → P m → P n → P q
-either_is P one at_m at_n = ⊎_elim (λ is. subst P (sym is) at_m) (λ is. subst P (sym is) at_n) one
-
 pub of_fixed_size_list : {q : Text} → (q ≡ codes "fixed_size_list") ⊎ (q ≡ codes "size") → IsNeither (codes "mode") (codes "union") q × ((d : Data) → None ≡ keyed_at q d)
-of_fixed_size_list one = either_is (λ q. IsNeither (codes "mode") (codes "union") q × ((d : Data) → None ≡ keyed_at q d)) one ((differ _ _ refl, differ _ _ refl), λ d. refl) ((differ _ _ refl, differ _ _ refl), λ d. refl)
+of_fixed_size_list one = grind arith
 
 pub of_union : {q : Text} → (q ≡ codes "mode") ⊎ (q ≡ codes "union") → IsNeither (codes "fixed_size_list") (codes "size") q × ((d : Data) → None ≡ keyed_at q d)
-of_union one = either_is (λ q. IsNeither (codes "fixed_size_list") (codes "size") q × ((d : Data) → None ≡ keyed_at q d)) one ((differ _ _ refl, differ _ _ refl), λ d. refl) ((differ _ _ refl, differ _ _ refl), λ d. refl)
+of_union one = grind arith
 
 pub not_keyed : (k : Text) (d : Data) → (k ≡ codes "list" → ⊥) → (k ≡ codes "large_list" → ⊥) → (k ≡ codes "struct" → ⊥) → None ≡ keyed_at k d
-not_keyed k d list large struct = rw (apart k _ list, apart k _ large, apart k _ struct)
+not_keyed k d list large struct = grind (arith, bytes_eq-Decides k)

@@ -1,18 +1,17 @@
 -- The texts of what UTF-8 is read as are UTF-8, and so is the compact text of what is held.
-use Rattle.std.proofs.Common.{◌≡◌, ℕ, ◌+◌, ◌<◌, ◌==◌, ◌&&◌, List, [], ◌∷◌, ◌++◌, length, get_or, Bool, true, false, cond, Option, Some, None, IfSome, option_and_then, IsUtf8, sym, subst, arith, append_assoc, append-nil, length-append, eqb-true, ltb-true}
+use Rattle.std.proofs.Common.{◌≡◌, ℕ, ◌+◌, ◌<◌, ◌==◌, ◌&&◌, List, [], ◌∷◌, ◌++◌, length, get_or, Bool, true, false, cond, Option, Some, None, IfSome, option_and_then, IsUtf8, refl, sym, subst, arith, append_assoc, append-nil, length-append, eqb-true, ltb-true}
 use Rattle.field_lines.proofs.Terms.{AllByRecursion, and_parts, cond_both, IfSome_then, IsUtf8-append, IsUtf8-encode, IsUtf8-take, IsUtf8-drop, IsCharBoundary-before_ascii, IsCharBoundary-after_ascii, encode_ascii, Token}
 use Rattle.std.specs.Prelude.{⊤, nat_lt}
 use Rattle.std.specs.Char.{is_digit, digit_value, encode_utf8, IsScalar}
 use lib.Seq.{take-append_seam, drop-append-add, get_or-append_seam}
 use lib.Utf8.{low_scalar}
 use Rattle.json.specs.Text.{plain, after_backslash, after_u, after_high, content, code_unit, short_escape, is_high_surrogate, is_low_surrogate, surrogate_pair, prepend}
-use Rattle.json.specs.Word.{head, literal, after_number, number_before, word}
-use Rattle.json.specs.Ascii.{true_text, false_text, null_text}
-use Rattle.json.specs.Lex.{Lexeme, token, comma, colon, Class, class, quote, Mode, between, string_token, operator_lexeme, lex_byte, lex, Place, fresh, if_allowed, place_token, punctuate, tokens}
+use Rattle.json.specs.Word.{number_before, word}
+use Rattle.json.specs.Lex.{Lexeme, token, comma, colon, Class, class, quote, Mode, between, lex_byte, lex, Place, fresh, punctuate, tokens}
 use Rattle.json.specs.Json as json
 use Rattle.json.specs.Tree.{json_tokens}
 use Rattle.json.proofs.Unique.Spelling.{value-json_tokens_back}
-use Rattle.field_lines.proofs.Lean.{mapped, chained, if_some, either}
+use Rattle.field_lines.proofs.Lean.{mapped, chained}
 
 -- ---- UTF-8 around an ASCII byte
 
@@ -39,9 +38,6 @@ one_more : (pre : List ℕ) (x : ℕ) (xs : List ℕ) → IsUtf8 (pre ++ x ∷ x
 one_more pre x xs u = subst IsUtf8 (sym (append_assoc pre (x ∷ []) xs)) u
 
 -- ---- the content of a string
-
-equals : (x y : ℕ) → y < 128 → (x == y) ≡ true → x < 128
-equals x y small e = let same : x ≡ y = eqb-true x y e in omega arith
 
 escaped : (x : ℕ) → IfSome (short_escape x) (λ c. (c < 128) × (x < 128))
 unfolding short_escape
@@ -77,9 +73,9 @@ mutual
   in_plain [] pre u = tt
   in_plain (x ∷ xs) pre u =
       let ends = λ (o : Option (List ℕ)). IfSome o (λ s. IsUtf8 (pre ++ s)) in
-      cond_both (x == 34) (Some []) _ ends (λ e. subst IsUtf8 (sym (append-nil pre)) (utf8_before pre xs x (equals x 34 (omega arith) e) u))
+      cond_both (x == 34) (Some []) _ ends (λ e. subst IsUtf8 (sym (append-nil pre)) (utf8_before pre xs x (omega (arith, eqb-true x 34 e)) u))
       (λ _. cond_both (x == 92) (content after_backslash xs) _ ends
-      (λ e. let small = equals x 92 (omega arith) e in
+      (λ e. let small : x < 128 = omega (arith, eqb-true x 92 e) in
       IfSome_then (content after_backslash xs) (in_backslash xs (utf8_after pre xs x small u)) (λ s h. IsUtf8-append pre s (utf8_before pre xs x small u) h))
       (λ _. cond_both (nat_lt x 32) None _ ends (λ _. tt)
       (λ _. mapped (λ s. IsUtf8 (pre ++ s)) (λ s. x ∷ s) (content plain xs) (in_plain xs (pre ++ x ∷ []) (one_more pre x xs u)) (λ s h. subst IsUtf8 (append_assoc pre (x ∷ []) s) h))))
@@ -87,7 +83,7 @@ mutual
   in_backslash : (xs : List ℕ) → IsUtf8 xs → IfSome (content after_backslash xs) IsUtf8
   in_backslash [] u = tt
   in_backslash (x ∷ xs) u =
-      cond_both (x == 117) (content after_u xs) _ (λ o. IfSome o IsUtf8) (λ e. in_u xs (utf8_tail x xs (equals x 117 (omega arith) e) u))
+      cond_both (x == 117) (content after_u xs) _ (λ o. IfSome o IsUtf8) (λ e. in_u xs (utf8_tail x xs (omega (arith, eqb-true x 117 e)) u))
       (λ _. chained IsUtf8 (λ c. prepend (c ∷ []) (content plain xs)) (short_escape x) (escaped x)
       (λ c h. mapped IsUtf8 (λ s. c ∷ s) (content plain xs) (in_plain xs [] (utf8_tail x xs h.1 u)) (λ s k. ascii_then c s h.0 k)))
 
@@ -104,7 +100,7 @@ mutual
   in_high high (s ∷ t ∷ a ∷ b ∷ c ∷ d ∷ xs) is u =
       cond_both ((s == 92) && (t == 117)) _ None (λ o. IfSome o IsUtf8)
       (λ e. let p = and_parts (s == 92) (t == 117) e in
-      let begun = utf8_tail t _ (equals t 117 (omega arith) p.1) (utf8_tail s _ (equals s 92 (omega arith) p.0) u) in
+      let begun = utf8_tail t _ (omega (arith, eqb-true t 117 p.1)) (utf8_tail s _ (omega (arith, eqb-true s 92 p.0)) u) in
       chained IsUtf8 _ (code_unit a b c d) (four_digits a b c d)
       (λ w h. cond_both (is_low_surrogate w) _ None (λ o. IfSome o IsUtf8)
       (λ low. encoded (surrogate_pair high w) (content plain xs) (pair_of high w is low) (in_plain xs [] (after_four xs h begun)))
@@ -133,66 +129,32 @@ IsUtf8Lexeme colon = ⊤
 abbrev AreUtf8Lexemes : List Lexeme → Type 0
 AreUtf8Lexemes ls = AllByRecursion IsUtf8Lexeme ls
 
-string_ok : (o : Option (List ℕ)) → IfSome o IsUtf8 → IsUtf8Token (string_token o)
-string_ok o h = grind arith
-
-operator_ok : (x : ℕ) → IsUtf8Lexeme (operator_lexeme x)
-operator_ok x = grind arith
-
-literal_ok : (b : Bool) (t : Token) → IsUtf8Token t → IsUtf8Token (cond b t Token.bad)
-literal_ok b t h = grind arith
-
-number_ok : (t : List ℕ) (o : Option (List ℕ)) → IsUtf8Token (number_before t o)
-number_ok t o = grind arith
+one_of_words : (a b c x y z : Bool) (t : List ℕ) (o : Option (List ℕ))
+    → IsUtf8Token (cond a (cond x (Token.boolean true) Token.bad) (cond b (cond y (Token.boolean false) Token.bad) (cond c (cond z Token.null Token.bad) (number_before t o))))
+one_of_words a b c x y z t o = grind arith
 
 word_ok : (t : List ℕ) → IsUtf8Token (word t)
 unfolding word
-word_ok t =
-    let or = either IsUtf8Token in
-    or (head t == 116) (literal true_text (Token.boolean true) t) _ (literal_ok _ (Token.boolean true) tt)
-    (or (head t == 102) (literal false_text (Token.boolean false) t) _ (literal_ok _ (Token.boolean false) tt)
-    (or (head t == 110) (literal null_text Token.null t) _ (literal_ok _ Token.null tt) (number_ok t (after_number t))))
-
-is_quote : (x : ℕ) → class x ≡ quote → x ≡ 34
-is_quote x h = grind arith
-
-in_plain_whole : (xs : List ℕ) → IsUtf8 xs → IfSome (content plain xs) IsUtf8
-in_plain_whole xs u = in_plain xs [] u
+word_ok t = search one_of_words
 
 byte_ok : (m : Mode) (c : Class) (x : ℕ) (xs : List ℕ) (k : Mode → List Lexeme) → (c ≡ quote → IsUtf8 xs) → ((n : Mode) → AreUtf8Lexemes (k n)) → AreUtf8Lexemes (lex_byte m c x xs k)
-byte_ok m c x xs k u h = grind (arith, string_ok, in_plain_whole, operator_ok, word_ok)
+byte_ok m c x xs k u h = let text = in_plain xs [] in grind (arith, word_ok)
 
 lexed : (m : Mode) (xs pre : List ℕ) → IsUtf8 (pre ++ xs) → AreUtf8Lexemes (lex m xs)
 unfolding lex
 lexed m [] pre u = tt
 lexed m (x ∷ xs) pre u =
-    byte_ok m (class x) x xs (λ n. lex n xs) (λ q. let is = is_quote x q in utf8_after pre xs x (omega arith) u) (λ n. lexed n xs (pre ++ x ∷ []) (one_more pre x xs u))
-
-allowed : (b : Bool) (t : Token) (k : Place → List Token) (next : Place) → IsUtf8Token t → ((n : Place) → AreUtf8 (k n)) → AreUtf8 (if_allowed b t k next)
-allowed b t k next h rest = grind arith
-
-placed : (p : Place) (t : Token) (before : Bool) (k : Place → List Token) → IsUtf8Token t → ((n : Place) → AreUtf8 (k n)) → AreUtf8 (place_token p t before k)
-placed p t before k h rest = grind (arith, allowed)
-
-one_placed : (p : Place) (l : Lexeme) (ls : List Lexeme) → IsUtf8Lexeme l → ((n : Place) → AreUtf8 (punctuate n ls)) → AreUtf8 (punctuate p (l ∷ ls))
-unfolding punctuate
-one_placed p l ls h rest = grind (arith, placed)
-
-none_placed : (p : Place) → AreUtf8 (punctuate p [])
-unfolding punctuate
-none_placed p = grind arith
+    byte_ok m (class x) x xs (λ n. lex n xs) (λ q. utf8_after pre xs x (grind arith) u) (λ n. lexed n xs (pre ++ x ∷ []) (one_more pre x xs u))
 
 punctuated : (p : Place) (ls : List Lexeme) → AreUtf8Lexemes ls → AreUtf8 (punctuate p ls)
-punctuated p [] h = none_placed p
-punctuated p (l ∷ ls) h = one_placed p l ls h.0 (λ n. punctuated n ls h.1)
+unfolding punctuate
+punctuated p [] h = grind arith
+punctuated p (l ∷ ls) h = let rest = λ (n : Place). punctuated n ls h.1 in grind arith
 
 -- the tokens of a value that UTF-8 is read as, before it is converted
 pub texts_utf8 : (d : ℕ) (text : List ℕ) → IsUtf8 text → IfSome (option_and_then (λ p. json.if_last p.0 p.1) (json.value d (tokens text))) (λ j. AreUtf8 (json_tokens j))
-texts_utf8 d text u =
-    let all = punctuated fresh (lex between text) (lexed between text [] u) in
-    chained _ _ (json.value d (tokens text)) (if_some (λ p. AreUtf8 (json_tokens p.0)) _ (λ p is. (utf8_parts (json_tokens p.0) p.1 (subst AreUtf8 (value-json_tokens_back d (tokens text) p.1 p.0 is) all)).0))
-    (λ p h. last p.0 p.1 h)
+texts_utf8 d text u = by (json.value d (tokens text)) refl
   where
-    last : (j : json.Json) (ts : List Token) → AreUtf8 (json_tokens j) → IfSome (json.if_last j ts) (λ j. AreUtf8 (json_tokens j))
-    last j [] h = h
-    last j (t ∷ ts) h = tt
+    by : (o : Option (json.Json × List Token)) → json.value d (tokens text) ≡ o → IfSome (option_and_then (λ p. json.if_last p.0 p.1) o) (λ j. AreUtf8 (json_tokens j))
+    by (Some (j, [])) e = (utf8_parts (json_tokens j) [] (subst AreUtf8 (value-json_tokens_back d (tokens text) [] j e) (punctuated fresh _ (lexed between text [] u)))).0
+    by _ e = tt

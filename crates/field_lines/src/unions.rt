@@ -11,6 +11,7 @@ use arrow_values::{ArrowError, DataType, Field, UnionFields, UnionMode};
 use std::alloc::{AllocError, Global};
 
 /// The union of these members, and none where an id stands twice.
+#[tactic(auto, using(crate::proofs::TokenItems::tree_ids_zip))]
 pub(crate) fn make_union(
     alloc: Global,
     mode: UnionMode,

@@ -30,7 +30,8 @@ found_any : (o : Option (json.Members × List Token)) (found more : Members) →
 found_any None found more = refl
 found_any (Some p) found more = rest_by p.0 found more p.1
 
-pub pass_member : (depth : ℕ) (found : Members) (k : List ℕ) (ts s r : List Token) → read_key ts ≡ Some (Some k, s) → after (next_value depth s) ≡ Some r → after (next_members depth found ts) ≡ after (next_members depth found r)
+pub pass_member : (depth : ℕ) (found : Members) (k : List ℕ) (ts s r : List Token) → read_key ts ≡ Some (Some k, s) → after (next_value depth s) ≡ Some r
+    → after (next_members depth found ts) ≡ after (next_members depth found r)
 pass_member depth found k ts s r key e =
     let d = after_some (next_value depth s) r e in
     ap after (member_read depth found k ts s r d.0 key d.1) ∙ found_any (members (value depth) (length r) r) (put k d.0 found) found

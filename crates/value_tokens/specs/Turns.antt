@@ -56,13 +56,13 @@ module _ {A : Type 0} (run : ℕ → Parse A) (turn_of : Parse A → Parse A) (l
 
 items_enough : (depth n m : ℕ) (ts : List Token) → length ts ≤ n → length ts ≤ m → items (value depth) n ts ≡ items (value depth) m ts
 unfolding items
-items_enough depth = enough (items (value depth)) (λ more ts. items_step (value depth) more ts (after_end_array ts)) (λ n ts. refl) (λ n. items_fail (value depth) n [] refl (value_is depth []))
-    (λ f g ts same. grind (arith, shorter, same))
+items_enough depth = enough (items (value depth)) (λ more ts. items_step (value depth) more ts (after_end_array ts))
+    (λ n ts. refl) (λ n. items_fail (value depth) n [] refl (value_is depth [])) (λ f g ts same. grind (arith, shorter, same))
 
 members_enough : (depth n m : ℕ) (ts : List Token) → length ts ≤ n → length ts ≤ m → members (value depth) n ts ≡ members (value depth) m ts
 unfolding members
-members_enough depth = enough (members (value depth)) (λ more ts. option_and_then (λ p. members_step (value depth) more p.0 p.1) (read_key ts)) (λ n ts. refl) (λ n. members_no_key (value depth) n [] refl)
-    (λ f g ts same. grind (arith, shorter, read_key-shorter, same))
+members_enough depth = enough (members (value depth)) (λ more ts. option_and_then (λ p. members_step (value depth) more p.0 p.1) (read_key ts))
+    (λ n ts. refl) (λ n. members_no_key (value depth) n [] refl) (λ f g ts same. grind (arith, shorter, read_key-shorter, same))
 
 -- ---- an item, and the items after it
 

@@ -1,5 +1,5 @@
 use Rattle.std.proofs.Common.{◌≡◌, ℤ, List, codes, refl, w8, w32, w64, arith, rules}
-use Rattle.field_lines.proofs.Terms.{FieldTree, fields_depth, members_depth, tree, field_trees, member_trees, Data, string, number, array, Items, no_items, item, of_integer, sent, prints_array, prints_item, prints_end, value_of_field, type_value, fields_value, members_value}
+use Rattle.field_lines.proofs.Terms.{FieldTree, fields_depth, members_depth, field_trees, member_trees, Data, number, array, Items, no_items, item, of_integer, sent, prints_array, prints_item, prints_end, value_of_field, type_value, fields_value, members_value}
 use Rattle.arrow_values.specs.Tree.{depth}
 use mir.Val.{to_z, of_z}
 use Rattle.field_lines.proofs.Prints.{falls, rest_go_on, rest_end, finished, prints_one_key, prints_two_keys, prints_parts, prints_text}
@@ -14,11 +14,6 @@ print_field-returns t c =
     let type = rw c.data_type.ensures at c.in_ok-print_type.ensures in
     finished _ (prints_parts f.name (type_value f.tree) f.nullable f.metadata (sent c.in_ok-begin_object.ensures) metadata (sent c.in_ok-key.ensures) name
     (sent c.in_ok-key-2.ensures) nullable (sent c.in_ok-key-3.ensures) type) c.end_object.ensures
-
-pub print_type-returns-in_default : goal.print_type-returns-in_default
-print_type-returns-in_default t c =
-    let same : string c.plain_name.result.now ≡ type_value (tree c.args.data_type.now) = search rules in
-    rw same at c.print_text.ensures
 
 pub print_list-returns : goal.print_list-returns
 print_list-returns t c =
