@@ -1,16 +1,33 @@
 -- The fields of a struct: which names are those of a coordinate, and which bits stand for them.
-use Rattle.geoarrow_layout.proofs.Terms.{◌≡◌, ◌↔◌, ◌⊎◌, inl, inr, suc, Bool, true, false, ◌||◌, List, [], ◌∷◌, length, refl, sym, ap, ◌∙◌, arith, ◌<◌, ℕ, zero, ◌+◌, subst, ◌&&◌, cond, ◌++◌, take, get_or, eq-eqb, list_any, bytes_eq, bytes_eq-Decides, Text, FieldTree, field_trees, Dimension, XYZ, XYM, has_name, IsSeparatedAs, names_of, SomeAt, place_in, known_names, is_float64, are_float64, has_bit, bit_at, eqb-true, or_cases, or_left, or_right, same_from_decides, and-true, and_assoc, IsBits, AddsBit}
+use Rattle.geoarrow_layout.proofs.Terms.{◌≡◌, ◌↔◌, ◌⊎◌, inl, inr, suc, Bool, true, false, ◌||◌, true≢false, Decides, IsTrue, list_all, and_parts, and_from, List, [], ◌∷◌, length, refl, sym, ap, ◌∙◌, arith, ◌<◌, ℕ, zero, ◌+◌, subst, ◌&&◌, cond, ◌++◌, take, get_or, eq-eqb, list_any, bytes_eq, bytes_eq-Decides, Text, FieldTree, field_trees, Dimension, XYZ, XYM, has_name, IsSeparatedAs, names_of, SomeAt, place_in, known_names, is_float64, are_float64, has_bit, bit_at, eqb-true, or_cases, or_left, or_right, same_from_decides, and-true, and_assoc, IsBits, AddsBit}
 use Rattle.geoarrow_layout.specs.Shapes.{SameNames}
 use Rattle.geoarrow_layout.proofs.MemberLists.{or_more, one_more}
 use Rattle.geoarrow_layout.proofs.BitSteps.{bits_added, adds_one, no_bits, bit_is}
 
-pub length-names : (fs : List FieldTree) → length (names_of (field_trees fs)) ≡ length fs
-length-names [] = refl
-length-names (f ∷ fs) = omega (arith, length-names fs)
+pub length_names : (fs : List FieldTree) → length (names_of (field_trees fs)) ≡ length fs
+length_names [] = refl
+length_names (f ∷ fs) = omega (arith, length_names fs)
 
 pub has_name-fields : (n : Text) (fs : List FieldTree) → list_any (λ f. bytes_eq f.name n) fs ≡ has_name n (names_of (field_trees fs))
 has_name-fields n [] = refl
 has_name-fields n (f ∷ fs) = rw (has_name-fields n fs)
+
+-- the names of two structs are the same where each field of either has its name in the other
+all_decides : (xs : List FieldTree) (ys : List Text) → Decides (list_all (λ f. has_name f.name ys) xs) ((n : Text) → has_name n (names_of (field_trees xs)) ≡ true → has_name n ys ≡ true)
+all_decides [] ys = (λ h n e. absurd (true≢false (sym e)), λ f. refl)
+all_decides (x ∷ xs) ys = (
+  (λ h n e. let p = and_parts _ _ h in
+      elim (or_cases (bytes_eq x.name n) _ e) [ inl f ↦ subst (λ z. has_name z ys ≡ true) ((bytes_eq-Decides x.name n).0 f) p.0 | inr f ↦ (all_decides xs ys).0 p.1 n f ]),
+  (λ f. and_from _ _ (f x.name (or_left _ _ ((bytes_eq-Decides x.name x.name).1 refl))) ((all_decides xs ys).1 (λ n h. f n (or_right (bytes_eq x.name n) _ h)))),
+)
+
+pub same_decides : (xs ys : List FieldTree) (p q : Bool) → p ≡ list_all (λ f. has_name f.name (names_of (field_trees ys))) xs → q ≡ list_all (λ f. has_name f.name (names_of (field_trees xs))) ys → (IsTrue (p && q) ↔ SameNames (names_of (field_trees xs)) (names_of (field_trees ys)))
+unfolding SameNames
+same_decides xs ys p q e f = (
+  (λ h n. let both = and_parts p q h in
+      same_from_decides {P = has_name n (names_of (field_trees ys)) ≡ true} _ _ ((all_decides xs _).0 (sym e ∙ both.0) n, (all_decides ys _).0 (sym f ∙ both.1) n) ((λ e. e), (λ e. e))),
+  (λ s. and_from p q (e ∙ (all_decides xs _).1 (λ n h. sym (s n) ∙ h)) (f ∙ (all_decides ys _).1 (λ n h. s n ∙ h))),
+)
 
 or_swap : (p q r : Bool) → (p || (q || r)) ≡ (q || (p || r))
 or_swap true true r = refl

@@ -14,7 +14,6 @@ pub mod KindSteps
 pub mod Listed
 pub mod Inferences
 pub mod AlikeLaws
-pub mod AlikeDecides
 pub mod UnionChanges
 pub mod NamesSteps
 pub mod Distinct

@@ -4,7 +4,7 @@ pub use Rattle.arrow_values.specs.Name.{fixed_text}
 pub use Rattle.arrow_values.specs.Tree.{FieldTree, FieldTrees, MemberTrees, Members, Metadata, Plain as PlainType, Text, Tree, binary, binary_view, depth, fixed_size_list, large_binary, large_list, large_utf8, list, member, no_members, plain, struct, union, utf8, utf8_view}
 pub use Rattle.arrow_values.specs.Union.{HasTypeIds, has, retained}
 pub use Rattle.arrow_values.specs.View.{field_list, field_trees, listed_fields, listed_members, member_list, member_trees, members_size, tree}
-pub use Rattle.geoarrow_layout.specs.Alike.{Alike, AlikeNames, EachHasAlike, HasAlike, alike_names, alike_of, all_members, each_has_alike, has_alike, has_member, is_met, is_repeated, some_member}
+pub use Rattle.geoarrow_layout.specs.Alike.{Alike, AlikeNames, EachHasAlike, HasAlike}
 pub use Rattle.geoarrow_layout.specs.Candidates.{Holds, IsAccepted, IsStructOfFour, Share}
 pub use Rattle.geoarrow_layout.specs.Changes.{AlikeUnions, AreJust, EachOf}
 pub use Rattle.geoarrow_layout.specs.FaultAt.{BoxFault, BoxNamesFault, CoordinateFault, DimensionsFault, FaultAt, Faults, FirstFault, GeometryFault, GeometryMemberFault, HasFault, Here, InItem, LevelFault, ListsFault, Located, MemberFault, MixedFault, NativeFault, OverLeafFault, PartFault, Path, SeparatedFault, UnionFault, field_at, member_at}
