@@ -6,7 +6,7 @@ ghost use Rattle.std.specs.Prelude.{false, IfErr, IfOk, ◌≡◌, IfSome, ◌�
 ghost use Rattle.arrow_values.specs.View.{tree, field_trees};
 ghost use Rattle.geoarrow_layout.specs.Shapes.{Answers, AnswersOne, Leaf, Under, Native, Mixed, Collection, Geometry, BoxShape, IsBytes, IsText, Accepts, AnswersKind, IsStructured, IsSeparatedAs, IsBoxAs, names_of};
 ghost use Rattle.geoarrow_layout.specs.Kinds.{name_text, extension_of, name_of};
-ghost use Rattle.geoarrow_layout.specs.FaultAt.{HasFault, BoxFault, MixedFault, NativeFault, GeometryFault, FaultAt, SeparatedFault, CoordinateFault, BoxNamesFault, ListsFault};
+ghost use Rattle.geoarrow_layout.specs.FaultAt.{HasFault, BoxFault, MixedFault, NativeFault, GeometryFault, FaultAt, SeparatedFault, CoordinateFault, BoxNamesFault, LevelsFault};
 ghost use Rattle.arrow_values.specs.Tree.{Tree, Text, struct};
 ghost use Rattle.geoarrow_layout.specs.Summary.{AreOf, IsCoordFault, Summarizes, IsBits, SomeAt, IsBottom, IsUnion, Tells, IsNoLeaf, ShowsIn, NativeIn, NativeFaultIn, MemberIn, MemberFaultIn, TellsBoth, missing_fault, IsOtherFault, UnionSays, has_bit};
 ghost use Rattle.geoarrow_layout.specs.Candidates.{Holds, IsAccepted};
@@ -491,7 +491,7 @@ fn missing_level(bottom: &Bottom) -> LayoutFault
 /// So many lists over a coordinate.
 fn leaf_under(summary: &Summary, levels: u8) -> Answer
     requires { levels ≤ 3 }
-    ensures { (t : Tree) → ShowsIn false summary.now t → TellsBoth result (Under Leaf levels t) (ListsFault CoordinateFault levels t) }
+    ensures { (t : Tree) → ShowsIn false summary.now t → TellsBoth result (Under Leaf levels t) (LevelsFault CoordinateFault None levels t) }
 {
     if summary.levels < levels {
         return Err(missing_level(&summary.bottom));
@@ -540,7 +540,7 @@ fn both_of_union(
 
 /// A list over a union of members of one coordinate type and dimension.
 fn collection(summary: &Summary) -> Answer
-    ensures { (t : Tree) → ShowsIn true summary.now t → TellsBoth result (Collection t) (ListsFault MixedFault 1 t) }
+    ensures { (t : Tree) → ShowsIn true summary.now t → TellsBoth result (Collection t) (LevelsFault MixedFault None 1 t) }
 {
     if summary.levels < 1 {
         return Err(missing_level(&summary.bottom));
