@@ -41,12 +41,6 @@ coordinate_refuses x t b m = ((refl, refl), (refl, refl))
 pub mixed_refuses : RefusesLists MixedFault
 mixed_refuses x t b m = ((refl, refl), (refl, refl))
 
-pub geometry_refuses : RefusesLists GeometryFault
-geometry_refuses x t b m = ((refl, refl), (refl, refl))
-
-pub box_refuses : RefusesLists BoxFault
-box_refuses x t b m = ((refl, refl), (refl, refl))
-
 lists_refused : (F : Faults) → RefusesLists F → (w : ListWidth) (n : ℕ) (t u : Tree) → 0 < n → ListsOver w n t u → F t [] UnexpectedType
 lists_refused F lacks w zero t u some h = absurd (omega arith)
 lists_refused F lacks Lists (suc n) (list x t b m) u some h = (lacks x t b m).0

@@ -8,9 +8,9 @@ pub length_names : (fs : List FieldTree) → length (names_of (field_trees fs)) 
 length_names [] = refl
 length_names (f ∷ fs) = omega (arith, length_names fs)
 
-pub has_name-fields : (n : Text) (fs : List FieldTree) → list_any (λ f. bytes_eq f.name n) fs ≡ has_name n (names_of (field_trees fs))
-has_name-fields n [] = refl
-has_name-fields n (f ∷ fs) = rw (has_name-fields n fs)
+pub has_name_fields : (n : Text) (fs : List FieldTree) → list_any (λ f. bytes_eq f.name n) fs ≡ has_name n (names_of (field_trees fs))
+has_name_fields n [] = refl
+has_name_fields n (f ∷ fs) = rw (has_name_fields n fs)
 
 -- the names of two structs are the same where each field of either has its name in the other
 all_decides : (xs : List FieldTree) (ys : List Text) → Decides (list_all (λ f. has_name f.name ys) xs) ((n : Text) → has_name n (names_of (field_trees xs)) ≡ true → has_name n ys ≡ true)

@@ -448,6 +448,7 @@ fn separated_dimension(count: usize, names: u16) -> Result<Dimension, LayoutFaul
 }
 
 /// A coordinate.
+#[tactic(auto, using(crate::proofs::Structs::struct_leaf))]
 fn leaf(bottom: &Bottom) -> Answer
     ensures { (w : Option ListWidth) (levels : ℕ) (u : Tree) → IsBottom IsNoLeaf w levels bottom.now u → TellsBoth result (Leaf u) (CoordinateFault u) }
 {
@@ -599,6 +600,7 @@ pub(crate) fn member(collections: bool, id: i8, summary: &Summary) -> Answer
 }
 
 /// A union of members of one coordinate type and dimension.
+#[tactic(auto, using(crate::proofs::UnionSteps::root_mixed, crate::proofs::UnionSteps::at_root))]
 pub(crate) fn mixed(summary: &Summary) -> Answer
     ensures { (t : Tree) → Summarizes summary.now t → TellsBoth result (Mixed t) (MixedFault t) }
 {
@@ -618,6 +620,7 @@ pub(crate) fn mixed(summary: &Summary) -> Answer
 }
 
 /// A union of members of one coordinate type.
+#[tactic(auto, using(crate::proofs::UnionSteps::root_geometry, crate::proofs::UnionSteps::at_root))]
 pub(crate) fn geometry(summary: &Summary) -> Result<CoordType, LayoutFault>
     ensures { (t : Tree) → Summarizes summary.now t → Tells result (Geometry t) (GeometryFault t) }
 {
@@ -666,6 +669,7 @@ fn box_dimension(count: usize, names: u16) -> Result<Dimension, LayoutFault>
 }
 
 /// A box.
+#[tactic(auto, using(crate::proofs::Structs::root_box, crate::proofs::UnionSteps::at_root))]
 pub(crate) fn boxed(summary: &Summary) -> Result<Dimension, LayoutFault>
     ensures { (t : Tree) → Summarizes summary.now t → Tells result (BoxShape t) (BoxFault t) }
 {

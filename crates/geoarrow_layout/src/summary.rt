@@ -187,6 +187,7 @@ pub(crate) fn list_item(
 }
 
 /// Goes down the levels from the one that was reached, to the third at most.
+#[tactic(auto, using(crate::proofs::Bottoms::level_more))]
 fn descend<'a>(width: Option<ListWidth>, levels: u8, data_type: &'a DataType) -> Below<'a>
     requires { MatchOption width (levels ≡ 0) (λ w. (0 < levels) × (levels ≤ 3)) }
     ensures over { (root : Tree) → AreLevels width levels root (tree data_type.now) → AreLevels result.width result.levels root (tree result.rest.now) }
@@ -241,6 +242,7 @@ fn leaf_bottom(below: &Below<'_>) -> Bottom
 }
 
 /// The set of type ids with one more; ids that are not from 0 to 63 are left out.
+#[tactic(auto, using(crate::proofs::BitSteps::id_outside, crate::proofs::BitSteps::id_between))]
 fn with_id(ids: u64, id: i8) -> u64
     ensures { AddsBits ids (λ i. (i < 64) × (id ≡ pos i)) result }
 {
