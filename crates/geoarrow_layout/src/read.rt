@@ -89,9 +89,18 @@ pub fn parse_multipolygon(data_type: &DataType) -> Result<(CoordType, Dimension)
 /// Reads the union in a collection (GeoArrow, "GeometryCollection"): a union of at least one member, where each member
 /// is of the kind and the dimension that its type id says, no collection among them, and all are of one coordinate type
 /// and dimension. Errs on any other data type. Allocates nothing.
+#[tactic(auto, using(crate::proofs::KindSteps::mixed_exact, crate::proofs::Readings::told_fault))]
 pub fn parse_mixed(data_type: &DataType) -> Result<(CoordType, Dimension), LayoutFault>
     ensures exact { Answers result (Mixed (tree data_type.now)) }
     ensures fault { IfErr result (HasFault (MixedFault (tree data_type.now))) }
+{
+    mixed_read(data_type)
+}
+
+/// The union in a collection, or its fault.
+#[inline(always)]
+fn mixed_read(data_type: &DataType) -> Answer
+    ensures { TellsBoth result (Mixed (tree data_type.now)) (MixedFault (tree data_type.now)) }
 {
     mixed(&summarize(data_type))
 }
@@ -110,20 +119,38 @@ pub fn parse_geometry_collection(
 /// Reads geometries of any kind (GeoArrow, "Geometry"): a union of at least one member, where each member is of the
 /// kind and the dimension that its type id says, collections among them, and all are of one coordinate type. Errs on
 /// any other data type. Allocates nothing.
+#[tactic(auto, using(crate::proofs::KindSteps::geometry_exact, crate::proofs::Readings::told_fault))]
 pub fn parse_geometry(data_type: &DataType) -> Result<CoordType, LayoutFault>
     ensures exact { AnswersOne result (Geometry (tree data_type.now)) }
     ensures fault { IfErr result (HasFault (GeometryFault (tree data_type.now))) }
+{
+    geometry_read(data_type)
+}
+
+/// A geometry, or its fault.
+#[inline(always)]
+fn geometry_read(data_type: &DataType) -> Result<CoordType, LayoutFault>
+    ensures { Tells result (Geometry (tree data_type.now)) (GeometryFault (tree data_type.now)) }
 {
     geometry(&summarize(data_type))
 }
 
 /// Reads a native kind, as its own reader does. Errs on any data type that is not of that kind. Allocates nothing.
+#[tactic(auto, using(crate::proofs::Readings::told_fault))]
 pub fn parse_native(
     kind: NativeKind,
     data_type: &DataType,
 ) -> Result<(CoordType, Dimension), LayoutFault>
     ensures exact { Answers result (Native (tree data_type.now) kind) }
     ensures fault { IfErr result (HasFault (NativeFault kind (tree data_type.now))) }
+{
+    native_read(kind, data_type)
+}
+
+/// A native kind, or its fault.
+#[inline(always)]
+fn native_read(kind: NativeKind, data_type: &DataType) -> Answer
+    ensures { TellsBoth result (Native (tree data_type.now) kind) (NativeFault kind (tree data_type.now)) }
 {
     native(true, kind, &summarize(data_type))
 }
@@ -180,9 +207,18 @@ fn kind_read(name: ExtensionName, data_type: &DataType) -> Result<Kind, LayoutFa
 
 /// Reads a box (GeoArrow, "Box"): a struct of four fields or of eight, or of six fields that include `mmin` and `mmax` or,
 /// failing that, `zmin` and `zmax`. Errs on any other data type. Allocates nothing.
+#[tactic(auto, using(crate::proofs::KindSteps::box_exact, crate::proofs::Readings::told_fault))]
 pub fn parse_box(data_type: &DataType) -> Result<Dimension, LayoutFault>
     ensures exact { AnswersOne result (BoxShape (tree data_type.now)) }
     ensures fault { IfErr result (HasFault (BoxFault (tree data_type.now))) }
+{
+    box_read(data_type)
+}
+
+/// A box, or its fault.
+#[inline(always)]
+fn box_read(data_type: &DataType) -> Result<Dimension, LayoutFault>
+    ensures { Tells result (BoxShape (tree data_type.now)) (BoxFault (tree data_type.now)) }
 {
     boxed(&summarize(data_type))
 }
