@@ -3,7 +3,6 @@ pub mod Readings
 pub mod FaultLaws
 pub mod FaultPaths
 pub mod MemberLists
-pub mod BitSteps
 pub mod FieldSteps
 pub mod Bottoms
 pub mod Parts
@@ -16,6 +15,5 @@ pub mod Inferences
 pub mod AlikeLaws
 pub mod UnionChanges
 pub mod NamesSteps
-pub mod Distinct
 pub mod TableSteps
 pub mod Equality

@@ -4,7 +4,7 @@ use Rattle.geoarrow_layout.proofs.Readings.{Answer, exactly}
 use Rattle.geoarrow_layout.proofs.MemberLists.{Items, all_map, all_inside, all_some, first_some, all_both, some_more, one_more}
 use Rattle.geoarrow_layout.proofs.FaultLaws.{Read, ApartMember, MemberReads, order_same}
 use Rattle.geoarrow_layout.proofs.Bottoms.{NoListAtUnion, RefusesLists, mixed_refuses, levels_refused, at_bottom}
-use Rattle.geoarrow_layout.proofs.BitSteps.{bits_like, bits_added, no_bits, bit_is}
+use Rattle.geoarrow_layout.proofs.FieldSteps.{bits_like, bits_added, no_bits, bit_is}
 
 abbrev pub OneReading : MemberReads → Type 0
 OneReading R = (i : ℤ) → ReadsFirst (R i)

@@ -242,7 +242,7 @@ fn leaf_bottom(below: &Below<'_>) -> Bottom
 }
 
 /// The set of type ids with one more; ids that are not from 0 to 63 are left out.
-#[tactic(auto, using(crate::proofs::BitSteps::id_outside, crate::proofs::BitSteps::id_between))]
+#[tactic(auto, using(crate::proofs::FieldSteps::id_outside, crate::proofs::FieldSteps::id_between))]
 fn with_id(ids: u64, id: i8) -> u64
     ensures { AddsBits ids (λ i. (i < 64) × (id ≡ pos i)) result }
 {
@@ -276,7 +276,7 @@ struct Members {
 }
 
 /// What was seen with one member more, of that type id and read as that.
-#[tactic(auto, using(crate::proofs::BitSteps::number_added, crate::proofs::BitSteps::number_kept))]
+#[tactic(auto, using(crate::proofs::FieldSteps::number_added, crate::proofs::FieldSteps::number_kept))]
 fn with_member(seen: Members, id: i8, part: &Answer) -> Members
     ensures ids { AddsBits seen.ids (λ i. (i < 64) × (id ≡ pos i)) result.ids }
     ensures coord_types { AddsBits seen.coord_types (ReadAt (λ x. place_of x.0) part.now) result.coord_types }

@@ -1,5 +1,5 @@
 use Rattle.geoarrow_layout.proofs.Terms.{w8}
-use Rattle.geoarrow_layout.proofs.BitSteps.{adds_bit}
+use Rattle.geoarrow_layout.proofs.FieldSteps.{adds_bit}
 use Rattle.geoarrow_layout.proofs.summary.with_bit_u8.Goals as goal
 
 pub returns : goal.returns
