@@ -1,18 +1,27 @@
 -- Sets of bits, and what one reading adds to them; the fields of a struct: which names are those of a coordinate, and which bits stand for them.
-use Rattle.geoarrow_layout.proofs.Terms.{◌≡◌, ◌↔◌, ◌<◌, ◌⊎◌, ◌*◌, ◌%◌, ◌^◌, inl, inr, ℕ, sym, ap, subst, ◌∙◌, ◌≤◌, true, false, ℤ, pos, Ok, Err, refl, arith, bit_at, bit_or, bit_at_set_same, bit_at_set_other, bit_at-zero, cases_eq, ltb-true, ltb-false, bits, ReadAt, CoordType, Dimension, LayoutFault, negsuc, nat_abs, lt_z, suc, Bool, ◌||◌, true≢false, Decides, IsTrue, list_all, and_parts, and_from, List, [], ◌∷◌, length, zero, ◌+◌, ◌&&◌, cond, ◌++◌, take, get_or, eq-eqb, list_any, bytes_eq, bytes_eq-Decides, Text, FieldTree, field_trees, XYZ, XYM, has_name, IsSeparatedAs, names_of, SomeAt, place_in, known_names, is_float64, are_float64, has_bit, eqb-true, or_cases, or_left, or_right, same_from_decides, and-true, and_assoc, IsBits, AddsBit}
+use Rattle.geoarrow_layout.proofs.Terms.{◌≡◌, ◌↔◌, ◌<◌, ◌⊎◌, ◌*◌, ◌%◌, ◌^◌, inl, inr, ℕ, sym, ap, subst, ◌∙◌, ◌≤◌, true, false, ℤ, pos, Ok, Err, refl, arith, bit_at, bit_or, bit_at_set_same, bit_at_set_other, bit_at-zero, cases_eq, ltb-true, ltb-false, bits, ReadAt, w8, w16, w64, CoordType, Dimension, LayoutFault, negsuc, nat_abs, lt_z, suc, Bool, ◌||◌, true≢false, Decides, IsTrue, list_all, and_parts, and_from, List, [], ◌∷◌, length, zero, ◌+◌, ◌&&◌, cond, ◌++◌, take, get_or, eq-eqb, list_any, bytes_eq, bytes_eq-Decides, Text, FieldTree, field_trees, XYZ, XYM, has_name, IsSeparatedAs, names_of, SomeAt, place_in, known_names, is_float64, are_float64, has_bit, eqb-true, or_cases, or_left, or_right, same_from_decides, and-true, and_assoc, IsBits, AddsBit}
 use Rattle.std.specs.Int.{Width}
 use Rattle.geoarrow_layout.specs.Summary.{IsBits, AddsBit, AddsBits}
 use Rattle.geoarrow_layout.proofs.Readings.{Answer, ok_same}
 use Rattle.geoarrow_layout.specs.Shapes.{SameNames}
 use Rattle.geoarrow_layout.proofs.MemberLists.{or_more, one_more}
 
-pub adds_bit : (w : Width) (n i : ℕ) → i < bits w → AddsBit n i (bit_or n (1 * 2 ^ i % 2 ^ bits w))
+adds_bit : (w : Width) (n i : ℕ) → i < bits w → AddsBit n i (bit_or n (1 * 2 ^ i % 2 ^ bits w))
 unfolding AddsBit
 adds_bit w n i within = λ k. elim (cases_eq k i) [
   | inl e ↦ (λ h. inr e, λ h. ap (bit_at (bit_or n (1 * 2 ^ i % 2 ^ bits w))) e ∙ bit_at_set_same w n i within)
   | inr e ↦ let other = bit_at_set_other w n i within k e in
       (λ h. inl (sym other ∙ h), λ h. elim h [ inl was ↦ other ∙ was | inr is ↦ absurd (e is) ])
 ]
+
+pub adds_bit_8 : (n i : ℕ) → i < 8 → AddsBit n i (bit_or n (1 * 2 ^ i % 2 ^ 8))
+adds_bit_8 = adds_bit w8
+
+pub adds_bit_16 : (n i : ℕ) → i < 16 → AddsBit n i (bit_or n (1 * 2 ^ i % 2 ^ 16))
+adds_bit_16 = adds_bit w16
+
+pub adds_bit_64 : (n i : ℕ) → i < 64 → AddsBit n i (bit_or n (1 * 2 ^ i % 2 ^ 64))
+adds_bit_64 = adds_bit w64
 
 pub bits_like : (n : ℕ) (P Q : ℕ → Type 0) → ((i : ℕ) → P i → Q i) → ((i : ℕ) → Q i → P i) → IsBits n P → IsBits n Q
 unfolding IsBits

@@ -243,16 +243,16 @@ fn leaf_bottom(below: &Below<'_>) -> Bottom
 
 /// The set of type ids with one more; ids that are not from 0 to 63 are left out.
 #[tactic(auto, using(crate::proofs::FieldSteps::id_outside, crate::proofs::FieldSteps::id_between))]
-fn with_id(ids: u64, id: i8) -> u64
-    ensures { AddsBits ids (λ i. (i < 64) × (id ≡ pos i)) result }
+fn with_id(ids: u64, id: &i8) -> u64
+    ensures { AddsBits ids (λ i. (i < 64) × (id.now ≡ pos i)) result }
 {
-    if id < 0 {
+    if *id < 0 {
         return ids;
     }
-    if 63 < id {
+    if 63 < *id {
         return ids;
     }
-    with_bit_u64(ids, id as u8)
+    with_bit_u64(ids, *id as u8)
 }
 
 /// The first fault.
@@ -277,8 +277,8 @@ struct Members {
 
 /// What was seen with one member more, of that type id and read as that.
 #[tactic(auto, using(crate::proofs::FieldSteps::number_added, crate::proofs::FieldSteps::number_kept))]
-fn with_member(seen: Members, id: i8, part: &Answer) -> Members
-    ensures ids { AddsBits seen.ids (λ i. (i < 64) × (id ≡ pos i)) result.ids }
+fn with_member(seen: Members, id: &i8, part: &Answer) -> Members
+    ensures ids { AddsBits seen.ids (λ i. (i < 64) × (id.now ≡ pos i)) result.ids }
     ensures coord_types { AddsBits seen.coord_types (ReadAt (λ x. place_of x.0) part.now) result.coord_types }
     ensures dimensions { AddsBits seen.dimensions (ReadAt (λ x. order_of x.1) part.now) result.dimensions }
     ensures fault { result.fault ≡ first_fault seen.fault part.now }
@@ -316,7 +316,7 @@ fn inner_union(members: &[(i8, Field)]) -> Bottom
     for item in members {
         let below = leaf_summary(item.1.data_type());
         let part = member(false, item.0, &below);
-        seen = with_member(seen, item.0, &part);
+        seen = with_member(seen, &item.0, &part);
     }
     Bottom::Union {
         no_members: members.is_empty(),
@@ -377,7 +377,7 @@ fn root_union(members: &[(i8, Field)]) -> Bottom
     for item in members {
         let below = nested_summary(item.1.data_type());
         let part = member(true, item.0, &below);
-        seen = with_member(seen, item.0, &part);
+        seen = with_member(seen, &item.0, &part);
         mixed_fault = first_fault(mixed_fault, &in_collection(item.0, part));
     }
     Bottom::Union {
@@ -414,6 +414,7 @@ pub fn summarize(data_type: &DataType) -> Summary
 }
 
 /// The set with one number more.
+#[tactic(auto, using(crate::proofs::FieldSteps::adds_bit_8))]
 pub(crate) fn with_bit_u8(bits: u8, i: u8) -> u8
     requires { i < 8 }
     ensures { AddsBit bits i result }
@@ -422,6 +423,7 @@ pub(crate) fn with_bit_u8(bits: u8, i: u8) -> u8
 }
 
 /// The set with one number more.
+#[tactic(auto, using(crate::proofs::FieldSteps::adds_bit_16))]
 pub(crate) fn with_bit_u16(bits: u16, i: u8) -> u16
     requires { i < 16 }
     ensures { AddsBit bits i result }
@@ -430,6 +432,7 @@ pub(crate) fn with_bit_u16(bits: u16, i: u8) -> u16
 }
 
 /// The set with one number more.
+#[tactic(auto, using(crate::proofs::FieldSteps::adds_bit_64))]
 pub(crate) fn with_bit_u64(bits: u64, i: u8) -> u64
     requires { i < 64 }
     ensures { AddsBit bits i result }

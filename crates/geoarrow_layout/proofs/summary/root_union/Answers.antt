@@ -1,4 +1,4 @@
-use Rattle.geoarrow_layout.proofs.Terms.{ShowsIn, true, ◌≡◌, subst, rules, w8, to_z, of_z, ℤ, pos, ◌<◌, to_z-of_z, take_all, Member, GeometryMember, MemberFault, GeometryMemberFault, geometry_member_first, TellsBoth, AddsBits}
+use Rattle.geoarrow_layout.proofs.Terms.{ShowsIn, true, ◌≡◌, subst, rules, w8, to_z, of_z, to_z-of_z, take_all, Member, GeometryMember, MemberFault, GeometryMemberFault, geometry_member_first, TellsBoth}
 use Rattle.geoarrow_layout.proofs.FaultLaws.{geometry_member_apart}
 use Rattle.geoarrow_layout.proofs.UnionSteps.{seen_more, seen_none, has_members, fault_next}
 use Rattle.geoarrow_layout.proofs.summary.root_union.Goals as goal
@@ -13,8 +13,7 @@ loop-item-preserved c =
     record {
       seen = seen_more GeometryMember GeometryMemberFault geometry_member_first geometry_member_apart _ _ _ _ _ _ _ _ c.member-part.result _ c.loop-item.item-index c.item-item.result c.loop-item-test.true c.item-item.is
           (subst (λ i. TellsBoth c.member-part.result (GeometryMember i c.item-item.result.1.tree) (GeometryMemberFault i c.item-item.result.1.tree)) id_is (c.member-part.ensures c.item-item.result.1.tree below))
-          (subst (λ (id : ℤ). AddsBits c.loop-item.seen.ids (λ i. (i < 64) × (id ≡ pos i)) c.with_member-seen.result.ids) id_is c.with_member-seen.ensures.ids)
-          c.with_member-seen.ensures.coord_types c.with_member-seen.ensures.dimensions c.with_member-seen.ensures.fault c.loop-item.invariant.seen;
+          c.with_member-seen.ensures.ids c.with_member-seen.ensures.coord_types c.with_member-seen.ensures.dimensions c.with_member-seen.ensures.fault c.loop-item.invariant.seen;
       mixed = fault_next Member MemberFault _ _ _ _ c.loop-item.item-index c.item-item.result c.loop-item-test.true c.item-item.is
           (subst (λ i. TellsBoth c.in_collection.result (Member i c.item-item.result.1.tree) (MemberFault i c.item-item.result.1.tree)) id_is (c.in_collection.ensures c.item-item.result.1.tree (c.member-part.ensures c.item-item.result.1.tree below)))
           c.first_fault-mixed_fault.ensures c.loop-item.invariant.mixed;
