@@ -315,7 +315,7 @@ fn inner_union(members: &[(i8, Field)]) -> Bottom
     let mut seen = Members::default();
     for item in members {
         let below = leaf_summary(item.1.data_type());
-        let part = member(false, item.0, &below);
+        let part = member(false, &item.0, &below);
         seen = with_member(seen, &item.0, &part);
     }
     Bottom::Union {
@@ -356,10 +356,10 @@ pub(crate) fn member_summary(collections: bool, data_type: &DataType) -> Summary
 }
 
 /// What a member of a union of geometries is as one of a collection, which holds no collections.
-fn in_collection(id: i8, part: Answer) -> Answer
-    ensures { (t : Tree) → TellsBoth part (GeometryMember id t) (GeometryMemberFault id t) → TellsBoth result (Member id t) (MemberFault id t) }
+fn in_collection(id: &i8, part: Answer) -> Answer
+    ensures { (t : Tree) → TellsBoth part (GeometryMember id.now t) (GeometryMemberFault id.now t) → TellsBoth result (Member id.now t) (MemberFault id.now t) }
 {
-    let Some((kind, _)) = parts_of_id(id) else {
+    let Some((kind, _)) = parts_of_id(*id) else {
         return part;
     };
     match kind {
@@ -376,9 +376,9 @@ fn root_union(members: &[(i8, Field)]) -> Bottom
     let mut mixed_fault = None;
     for item in members {
         let below = nested_summary(item.1.data_type());
-        let part = member(true, item.0, &below);
+        let part = member(true, &item.0, &below);
         seen = with_member(seen, &item.0, &part);
-        mixed_fault = first_fault(mixed_fault, &in_collection(item.0, part));
+        mixed_fault = first_fault(mixed_fault, &in_collection(&item.0, part));
     }
     Bottom::Union {
         no_members: members.is_empty(),
