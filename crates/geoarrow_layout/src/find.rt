@@ -179,10 +179,10 @@ fn push_place<'a>(
     for place in 0..members.len() {
         let item = &members[place];
         let below = member_summary(collections, item.1.data_type());
-        let read = member(collections, &item.0, &below);
+        let read = member(collections, item.0, &below);
         if read.is_err() {
             path.push(place)?;
-            return Ok(inside(collections, &item.0, item.1.data_type()));
+            return Ok(inside(collections, item.0, item.1.data_type()));
         }
     }
     Ok(None)
@@ -192,12 +192,12 @@ fn push_place<'a>(
 /// member has no other fault than one of its own.
 fn inside<'a>(
     collections: bool,
-    id: &i8,
+    id: i8,
     data_type: &'a DataType,
 ) -> Option<(NativeKind, &'a DataType)>
-    ensures { MatchOption result (StaysHere (MemberFaultIn collections id.now (tree data_type.now))) (λ x. (p : Path) (f : LayoutFault) → MemberFaultIn collections id.now (tree data_type.now) p f → NativeFaultIn collections x.0 (tree x.1.now) p f) }
+    ensures { MatchOption result (StaysHere (MemberFaultIn collections id (tree data_type.now))) (λ x. (p : Path) (f : LayoutFault) → MemberFaultIn collections id (tree data_type.now) p f → NativeFaultIn collections x.0 (tree x.1.now) p f) }
 {
-    let Some((kind, _)) = parts_of_id(*id) else {
+    let Some((kind, _)) = parts_of_id(id) else {
         return None;
     };
     match native(collections, kind, &member_summary(collections, data_type)) {

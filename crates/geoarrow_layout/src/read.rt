@@ -626,10 +626,10 @@ fn of_dimension(dimension: Dimension, read: Answer) -> Answer
 }
 
 /// A member of a union of geometries, or, where collections are not allowed, of the union in a collection.
-pub(crate) fn member(collections: bool, id: &i8, summary: &Summary) -> Answer
-    ensures { (t : Tree) → ShowsIn collections summary.now t → TellsBoth result (MemberIn collections id.now t) (MemberFaultIn collections id.now t) }
+pub(crate) fn member(collections: bool, id: i8, summary: &Summary) -> Answer
+    ensures { (t : Tree) → ShowsIn collections summary.now t → TellsBoth result (MemberIn collections id t) (MemberFaultIn collections id t) }
 {
-    let Some((kind, dimension)) = parts_of_id(*id) else {
+    let Some((kind, dimension)) = parts_of_id(id) else {
         return Err(LayoutFault::BadTypeId);
     };
     of_dimension(dimension, native(collections, kind, summary))

@@ -243,16 +243,16 @@ fn leaf_bottom(below: &Below<'_>) -> Bottom
 
 /// The set of type ids with one more; ids that are not from 0 to 63 are left out.
 #[tactic(auto, using(crate::proofs::FieldSteps::id_outside, crate::proofs::FieldSteps::id_between))]
-fn with_id(ids: u64, id: &i8) -> u64
-    ensures { AddsBits ids (λ i. (i < 64) × (id.now ≡ pos i)) result }
+fn with_id(ids: u64, id: i8) -> u64
+    ensures { AddsBits ids (λ i. (i < 64) × (id ≡ pos i)) result }
 {
-    if *id < 0 {
+    if id < 0 {
         return ids;
     }
-    if 63 < *id {
+    if 63 < id {
         return ids;
     }
-    with_bit_u64(ids, *id as u8)
+    with_bit_u64(ids, id as u8)
 }
 
 /// The first fault.
@@ -277,8 +277,8 @@ struct Members {
 
 /// What was seen with one member more, of that type id and read as that.
 #[tactic(auto, using(crate::proofs::FieldSteps::number_added, crate::proofs::FieldSteps::number_kept))]
-fn with_member(seen: Members, id: &i8, part: &Answer) -> Members
-    ensures ids { AddsBits seen.ids (λ i. (i < 64) × (id.now ≡ pos i)) result.ids }
+fn with_member(seen: Members, id: i8, part: &Answer) -> Members
+    ensures ids { AddsBits seen.ids (λ i. (i < 64) × (id ≡ pos i)) result.ids }
     ensures coord_types { AddsBits seen.coord_types (ReadAt (λ x. place_of x.0) part.now) result.coord_types }
     ensures dimensions { AddsBits seen.dimensions (ReadAt (λ x. order_of x.1) part.now) result.dimensions }
     ensures fault { result.fault ≡ first_fault seen.fault part.now }
@@ -315,8 +315,8 @@ fn inner_union(members: &[(i8, Field)]) -> Bottom
     let mut seen = Members::default();
     for item in members {
         let below = leaf_summary(item.1.data_type());
-        let part = member(false, &item.0, &below);
-        seen = with_member(seen, &item.0, &part);
+        let part = member(false, item.0, &below);
+        seen = with_member(seen, item.0, &part);
     }
     Bottom::Union {
         no_members: members.is_empty(),
@@ -356,10 +356,10 @@ pub(crate) fn member_summary(collections: bool, data_type: &DataType) -> Summary
 }
 
 /// What a member of a union of geometries is as one of a collection, which holds no collections.
-fn in_collection(id: &i8, part: Answer) -> Answer
-    ensures { (t : Tree) → TellsBoth part (GeometryMember id.now t) (GeometryMemberFault id.now t) → TellsBoth result (Member id.now t) (MemberFault id.now t) }
+fn in_collection(id: i8, part: Answer) -> Answer
+    ensures { (t : Tree) → TellsBoth part (GeometryMember id t) (GeometryMemberFault id t) → TellsBoth result (Member id t) (MemberFault id t) }
 {
-    let Some((kind, _)) = parts_of_id(*id) else {
+    let Some((kind, _)) = parts_of_id(id) else {
         return part;
     };
     match kind {
@@ -376,9 +376,9 @@ fn root_union(members: &[(i8, Field)]) -> Bottom
     let mut mixed_fault = None;
     for item in members {
         let below = nested_summary(item.1.data_type());
-        let part = member(true, &item.0, &below);
-        seen = with_member(seen, &item.0, &part);
-        mixed_fault = first_fault(mixed_fault, &in_collection(&item.0, part));
+        let part = member(true, item.0, &below);
+        seen = with_member(seen, item.0, &part);
+        mixed_fault = first_fault(mixed_fault, &in_collection(item.0, part));
     }
     Bottom::Union {
         no_members: members.is_empty(),

@@ -1,4 +1,4 @@
-use Rattle.geoarrow_layout.proofs.Terms.{◌∙◌, sym, ap, ◌++◌, ◌∷◌, [], subst, take_all, member_trees, LeadsTo, FirstOrNone, ShowsIn, MemberIn, MemberFaultIn}
+use Rattle.geoarrow_layout.proofs.Terms.{◌≡◌, ◌∙◌, sym, ap, ◌++◌, ◌∷◌, [], subst, rules, w8, to_z, of_z, to_z-of_z, take_all, member_trees, TellsBoth, LeadsTo, FirstOrNone, ShowsIn, MemberIn, MemberFaultIn}
 use Rattle.geoarrow_layout.proofs.FaultLaws.{member_apart_in}
 use Rattle.geoarrow_layout.proofs.FaultPaths.{goes_on, at_member, told_err, told_read, read_more, at_no_member}
 use Rattle.geoarrow_layout.proofs.find.push_place.Goals as goal
@@ -7,20 +7,22 @@ pub returns-then-is_err : goal.returns-then-is_err
 returns-then-is_err c =
     let b = c.args.collections in
     let x = c.index-members-place.result in
+    let id_is : to_z w8 (of_z w8 x.0) ≡ x.0 = search (rules, to_z-of_z) in
     let shown = subst (λ u. ShowsIn b c.member_summary-below.result u) c.data_type.ensures c.member_summary-below.ensures in
-    let told = c.member-read.ensures x.1.tree shown in
+    let told = subst (λ i. TellsBoth c.member-read.result (MemberIn b i x.1.tree) (MemberFaultIn b i x.1.tree)) id_is (c.member-read.ensures x.1.tree shown) in
     let bad = told_err c.member-read.result (MemberIn b x.0 x.1.tree) (MemberFaultIn b x.0 x.1.tree) _ c.is_err.ensures.value c.if-is_err.true told in
     goes_on c.inside.result _ (MemberFaultIn b x.0 x.1.tree) _ _ _
     (λ end leads. at_member (MemberIn b) (MemberFaultIn b) (member_apart_in b) c.args.members.now c.loop-place.place x c.args.path.now.items c.push.new.self.items end c.loop-place-test.true c.index-members-place.is c.loop-place.invariant.read bad
     (c.in_ok-push.ensures.items ∙ ap (λ p. p ++ (c.loop-place.place ∷ [])) c.loop-place.invariant.same) leads)
-    (rw (← c.data_type-then-is_err.ensures) c.inside.ensures)
+    (rw (← id_is, ← c.data_type-then-is_err.ensures) c.inside.ensures)
 
 pub loop-place-preserved : goal.loop-place-preserved
 loop-place-preserved c =
     let b = c.args.collections in
     let x = c.index-members-place.result in
+    let id_is : to_z w8 (of_z w8 x.0) ≡ x.0 = search (rules, to_z-of_z) in
     let shown = subst (λ u. ShowsIn b c.member_summary-below.result u) c.data_type.ensures c.member_summary-below.ensures in
-    let told = c.member-read.ensures x.1.tree shown in
+    let told = subst (λ i. TellsBoth c.member-read.result (MemberIn b i x.1.tree) (MemberFaultIn b i x.1.tree)) id_is (c.member-read.ensures x.1.tree shown) in
     record {
       read = read_more (MemberIn b) c.args.members.now c.loop-place.place x c.loop-place-test.true c.index-members-place.is (told_read c.member-read.result (MemberIn b x.0 x.1.tree) (MemberFaultIn b x.0 x.1.tree) _ c.is_err.ensures.value c.if-is_err.false told) c.loop-place.invariant.read;
       same = c.loop-place.invariant.same;
