@@ -16,30 +16,27 @@ names_trans : (xs ys zs : List Text) → AlikeNames xs ys → AlikeNames ys zs �
 unfolding SameNames
 names_trans xs ys zs h k = (h.0 ∙ k.0, λ e n. h.1 e n ∙ k.1 (elim e [ inl f ↦ inl (sym h.0 ∙ f) | inr f ↦ inr (sym h.0 ∙ f) ]) n)
 
-pub any_map : (P Q : ℤ → Tree → Type 0) → ((i : ℤ) (t : Tree) → P i t → Q i t) → (ms : MemberTrees) → SomeMember P ms → SomeMember Q ms
+any_map : (P Q : ℤ → Tree → Type 0) → ((i : ℤ) (t : Tree) → P i t → Q i t) → (ms : MemberTrees) → SomeMember P ms → SomeMember Q ms
 any_map P Q f no_members h = h
 any_map P Q f (member i n t b m ms) (inl p) = inl (f i t p)
 any_map P Q f (member i n t b m ms) (inr h) = inr (any_map P Q f ms h)
 
--- the two recursions over the first union say the same as the quantifiers
-pub has_any : (ms : MemberTrees) (j : ℤ) (u : Tree) → HasAlike ms j u ↔ SomeMember (λ i t. (i ≡ j) × Alike t u) ms
-has_any no_members j u = (λ h. h, λ h. h)
-has_any (member i n t b m ms) j u = let rest = has_any ms j u in (λ h. elim h [ inl p ↦ inl p | inr e ↦ inr (rest.0 e) ], λ h. elim h [ inl p ↦ inl p | inr e ↦ inr (rest.1 e) ])
+-- some member of ns has the type id i and a data type that t is alike to
+abbrev pub Among : ℤ → Tree → MemberTrees → Type 0
+Among i t ns = SomeMember (λ j u. (i ≡ j) × Alike t u) ns
 
-each_all : (ms ns : MemberTrees) → EachHasAlike ms ns ↔ AllMembers (λ i t. SomeMember (λ j u. (i ≡ j) × Alike t u) ns) ms
-each_all no_members ns = (λ h. tt, λ h. tt)
-each_all (member i n t b m ms) ns = let rest = each_all ms ns in (λ h. (h.0, rest.0 h.1), λ h. (h.0, rest.1 h.1))
+each_from : (ms ns : MemberTrees) → ((i : ℤ) (t : Tree) → HasAlike ns i t → Among i t ns) → AllMembers (HasAlike ns) ms → EachHasAlike ms ns
+each_from no_members ns f h = tt
+each_from (member i n t b m ms) ns f h = (f i t h.0, each_from ms ns f h.1)
 
--- a member by its id and its tree
-abbrev pub Holds : MemberTrees → ℤ → Tree → Type 0
-Holds ms i t = SomeMember (λ j u. (i ≡ j) × (t ≡ u)) ms
+each_map : (ms ns ps : MemberTrees) → ((i : ℤ) (t : Tree) → Among i t ns → Among i t ps) → EachHasAlike ms ns → EachHasAlike ms ps
+each_map no_members ns ps f h = tt
+each_map (member i n t b m ms) ns ps f h = (f i t h.0, each_map ms ns ps f h.1)
 
-pub each_refl : (ms ns : MemberTrees) → AllMembers (λ i t. Alike t t) ms → ((i : ℤ) (t : Tree) → Holds ms i t → Holds ns i t) → EachHasAlike ms ns
-each_refl no_members ns h inside = tt
-each_refl (member i n t b m ms) ns h inside = (
-  any_map (λ j u. (i ≡ j) × (t ≡ u)) (λ j u. (i ≡ j) × Alike t u) (λ j u e. (e.0, subst (λ x. Alike t x) e.1 h.0)) ns (inside i t (inl (refl, refl))),
-  each_refl ms ns h.1 (λ j u e. inside j u (inr e)),
-)
+has_from : (ns : MemberTrees) (i : ℤ) (t : Tree) → ((u : Tree) → Alike t u → Alike u t) → Among i t ns → HasAlike ns i t
+has_from no_members i t f h = h
+has_from (member j n u b m ns) i t f (inl e) = inl (sym e.0, f u e.1)
+has_from (member j n u b m ns) i t f (inr h) = inr (has_from ns i t f h)
 
 mutual
   pub alike_sym : (t u : Tree) → Alike t u → Alike u t
@@ -48,23 +45,17 @@ mutual
   alike_sym (large_list n t b m) (large_list o u c k) h = alike_sym t u h
   alike_sym (fixed_size_list n t b m s) (fixed_size_list o u c k r) h = (sym h.0, sym h.1)
   alike_sym (struct fs) (struct gs) h = names_sym (names_of fs) (names_of gs) h
-  alike_sym (union ms mode) (union ns mode') h = (
-    (each_all ns ms).1 (all_map (HasAlike ms) (λ j u. SomeMember (λ i t. (j ≡ i) × Alike u t) ms) (has_sym ms) ns h.1),
-    each_sym ms ns h.0,
-  )
+  alike_sym (union ms mode) (union ns mode') h = (each_from ns ms (has_sym ms) h.1, each_sym ms ns h.0)
   alike_sym _ _ h = absurd h
 
-  has_sym : (ms : MemberTrees) (j : ℤ) (u : Tree) → HasAlike ms j u → SomeMember (λ i t. (j ≡ i) × Alike u t) ms
+  has_sym : (ms : MemberTrees) (j : ℤ) (u : Tree) → HasAlike ms j u → Among j u ms
   has_sym no_members j u h = h
   has_sym (member i n t b m ms) j u (inl e) = inl (sym e.0, alike_sym t u e.1)
   has_sym (member i n t b m ms) j u (inr h) = inr (has_sym ms j u h)
 
   pub each_sym : (ms ns : MemberTrees) → EachHasAlike ms ns → AllMembers (HasAlike ns) ms
   each_sym no_members ns h = tt
-  each_sym (member i n t b m ms) ns h = (
-    (has_any ns i t).1 (any_map (λ j u. (i ≡ j) × Alike t u) (λ j u. (j ≡ i) × Alike u t) (λ j u e. (sym e.0, alike_sym t u e.1)) ns h.0),
-    each_sym ms ns h.1,
-  )
+  each_sym (member i n t b m ms) ns h = (has_from ns i t (alike_sym t) h.0, each_sym ms ns h.1)
 
 mutual
   pub alike_refl : (t : Tree) → Alike t t
@@ -73,11 +64,11 @@ mutual
   alike_refl (large_list n t b m) = alike_refl t
   alike_refl (fixed_size_list n t b m s) = (refl, refl)
   alike_refl (struct fs) = names_refl (names_of fs)
-  alike_refl (union ms mode) = let each = each_refl ms ms (members_refl ms) (λ i t h. h) in (each, each_sym ms ms each)
+  alike_refl (union ms mode) = let each = each_refl ms ms (λ i t h. h) in (each, each_sym ms ms each)
 
-  pub members_refl : (ms : MemberTrees) → AllMembers (λ i t. Alike t t) ms
-  members_refl no_members = tt
-  members_refl (member i n t b m ms) = (alike_refl t, members_refl ms)
+  each_refl : (ms ns : MemberTrees) → ((i : ℤ) (t : Tree) → Among i t ms → Among i t ns) → EachHasAlike ms ns
+  each_refl no_members ns f = tt
+  each_refl (member i n t b m ms) ns f = (f i t (inl (refl, alike_refl t)), each_refl ms ns (λ j u h. f j u (inr h)))
 
 mutual
   pub alike_trans : (t u v : Tree) → Alike t u → Alike u v → Alike t v
@@ -86,24 +77,15 @@ mutual
   alike_trans (large_list n t b m) (large_list o u c k) (large_list p v d l) h e = alike_trans t u v h e
   alike_trans (fixed_size_list n t b m s) (fixed_size_list o u c k r) (fixed_size_list p v d l q) h e = (h.0 ∙ e.0, h.1 ∙ e.1)
   alike_trans (struct fs) (struct gs) (struct hs) h e = names_trans (names_of fs) (names_of gs) (names_of hs) h e
-  alike_trans (union ms mode) (union ns mode') (union ps mode'') h e = (
-    each_trans ms ns ps h.0 ((each_all ns ps).0 e.0),
-    all_map (HasAlike ns) (HasAlike ms) (λ k v one. all_some (HasAlike ms) (λ j u. (j ≡ k) × Alike u v) (HasAlike ms k v) (λ j u h x. has_trans ms j u k v h x.0 x.1) ns h.1 ((has_any ns k v).0 one)) ps e.1,
-  )
+  alike_trans (union ms mode) (union ns mode') (union ps mode'') h e =
+      let back = each_map ps ns ms (λ k v x. among_trans k v ns ms x (each_from ns ms (has_sym ms) h.1)) (each_from ps ns (has_sym ns) e.1) in
+      (each_map ms ns ps (λ i t x. among_trans i t ns ps x e.0) h.0, each_sym ps ms back)
   alike_trans _ _ _ h e = search
 
-  each_trans : (ms ns ps : MemberTrees) → EachHasAlike ms ns → AllMembers (λ j u. SomeMember (λ k v. (j ≡ k) × Alike u v) ps) ns → EachHasAlike ms ps
-  each_trans no_members ns ps h e = tt
-  each_trans (member i n t b m ms) ns ps h e = (
-    all_some (λ j u. SomeMember (λ k v. (j ≡ k) × Alike u v) ps) (λ j u. (i ≡ j) × Alike t u) (SomeMember (λ k v. (i ≡ k) × Alike t v) ps)
-        (λ j u some x. any_map (λ k v. (j ≡ k) × Alike u v) (λ k v. (i ≡ k) × Alike t v) (λ k v y. (x.0 ∙ y.0, alike_trans t u v x.1 y.1)) ps some) ns e h.0,
-    each_trans ms ns ps h.1 e,
-  )
-
-  has_trans : (ms : MemberTrees) (j : ℤ) (u : Tree) (k : ℤ) (v : Tree) → HasAlike ms j u → j ≡ k → Alike u v → HasAlike ms k v
-  has_trans no_members j u k v h e f = h
-  has_trans (member i n t b m ms) j u k v (inl h) e f = inl (h.0 ∙ e, alike_trans t u v h.1 f)
-  has_trans (member i n t b m ms) j u k v (inr h) e f = inr (has_trans ms j u k v h e f)
+  among_trans : (i : ℤ) (t : Tree) (ns ps : MemberTrees) → Among i t ns → EachHasAlike ns ps → Among i t ps
+  among_trans i t no_members ps h e = absurd h
+  among_trans i t (member j n u b m ns) ps (inl x) e = any_map (λ k v. (j ≡ k) × Alike u v) (λ k v. (i ≡ k) × Alike t v) (λ k v y. (x.0 ∙ y.0, alike_trans t u v x.1 y.1)) ps e.0
+  among_trans i t (member j n u b m ns) ps (inr h) e = among_trans i t ns ps h e.1
 
 -- ---- kinds
 
@@ -154,7 +136,7 @@ Shared P = (i : ℤ) (t u : Tree) → Alike t u → P i t → P i u
 pub alike_all : (P : ℤ → Tree → Type 0) → Shared P → (ms ns : MemberTrees) → AllMembers (HasAlike ms) ns → AllMembers P ms → AllMembers P ns
 alike_all P shared ms ns h all =
     all_map (HasAlike ms) P
-    (λ j u one. all_some P (λ i t. (i ≡ j) × Alike t u) (P j u) (λ i t p x. subst (λ k. P k u) x.0 (shared i t u x.1 p)) ms all ((has_any ms j u).0 one))
+    (λ j u one. all_some P (λ i t. (j ≡ i) × Alike u t) (P j u) (λ i t p x. subst (λ k. P k u) (sym x.0) (shared i t u (alike_sym u t x.1) p)) ms all (has_sym ms j u one))
     ns h
 
 alike_some : (ms ns : MemberTrees) → EachHasAlike ms ns → HasMembers ms → HasMembers ns

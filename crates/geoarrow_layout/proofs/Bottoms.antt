@@ -1,5 +1,5 @@
 -- What stands below the lists, and which fault it is.
-use Rattle.geoarrow_layout.proofs.Terms.{◌≡◌, ◌<◌, ◌≤◌, inl, inr, ℕ, zero, suc, ℤ, ◌+◌, refl, sym, ap, subst, arith, add-one, Bool, Option, Some, None, Ok, Err, [], ◌∷◌, same_Some, Text, Metadata, Tree, plain, list, large_list, fixed_size_list, struct, union, FieldTrees, MemberTrees, UnionMode, CoordType, Dimension, LayoutFault, UnexpectedType, ListWidth, Lists, LargeLists, Bottom, FixedSizeList, Struct, Union, OtherWidth, Deep, Other, Summary, ListsOver, Faults, HasFault, CoordinateFault, BoxFault, MixedFault, GeometryFault, LevelFault, ListsFault, IsBottom, AreLevels, SummarizesBy, TellsBoth, Under, IsFixedSize, IsStruct, IsInnerUnion, missing_fault, IsWidth}
+use Rattle.geoarrow_layout.proofs.Terms.{◌≡◌, ◌<◌, ◌≤◌, inl, inr, ℕ, zero, suc, ℤ, ◌+◌, refl, sym, ap, subst, arith, add-one, Bool, Option, Some, None, Ok, Err, [], ◌∷◌, same_Some, Text, Metadata, Tree, plain, list, large_list, fixed_size_list, struct, union, FieldTrees, MemberTrees, UnionMode, CoordType, Dimension, LayoutFault, UnexpectedType, ListWidth, Lists, LargeLists, Bottom, FixedSizeList, Struct, Union, OtherWidth, Deep, Other, Summary, ListsOver, Faults, HasFault, CoordinateFault, MixedFault, LevelsFault, IsBottom, AreLevels, SummarizesBy, TellsBoth, Under, IsFixedSize, IsStruct, IsInnerUnion, missing_fault, IsWidth}
 use Rattle.geoarrow_layout.proofs.Readings.{Answer}
 
 -- one level more
@@ -41,12 +41,6 @@ coordinate_refuses x t b m = ((refl, refl), (refl, refl))
 pub mixed_refuses : RefusesLists MixedFault
 mixed_refuses x t b m = ((refl, refl), (refl, refl))
 
-pub geometry_refuses : RefusesLists GeometryFault
-geometry_refuses x t b m = ((refl, refl), (refl, refl))
-
-pub box_refuses : RefusesLists BoxFault
-box_refuses x t b m = ((refl, refl), (refl, refl))
-
 lists_refused : (F : Faults) → RefusesLists F → (w : ListWidth) (n : ℕ) (t u : Tree) → 0 < n → ListsOver w n t u → F t [] UnexpectedType
 lists_refused F lacks w zero t u some h = absurd (omega arith)
 lists_refused F lacks Lists (suc n) (list x t b m) u some h = (lacks x t b m).0
@@ -58,22 +52,22 @@ levels_refused F lacks None n t u some h = absurd (omega (arith, h.0))
 levels_refused F lacks (Some w) n t u some h = lists_refused F lacks w n t u some h.2
 
 -- n levels are wanted; F is the fault below all of them
-level_below : (F : Faults) (w : ListWidth) (n : ℕ) (t u : Tree) (f : LayoutFault) → ListsOver w n t u → HasFault (F u) f → HasFault (LevelFault F w n t) f
+level_below : (F : Faults) (w : ListWidth) (n : ℕ) (t u : Tree) (f : LayoutFault) → ListsOver w n t u → HasFault (F u) f → HasFault (LevelsFault F (Some w) n t) f
 level_below F w zero t u f h r = subst (λ x. HasFault (F x) f) (sym h) r
 level_below F Lists (suc n) (list x t b m) u f h r = let s = level_below F Lists n t u f h r in (zero ∷ s.0, s.1)
 level_below F LargeLists (suc n) (large_list x t b m) u f h r = let s = level_below F LargeLists n t u f h r in (zero ∷ s.0, s.1)
 level_below F _ (suc n) _ u f h r = absurd h
 
 -- there are fewer
-level_missing : (F : Faults) (w : ListWidth) (k n : ℕ) (t u : Tree) (f : LayoutFault) → ListsOver w k t u → k < n → ((m : ℕ) → LevelFault F w (suc m) u [] f) → HasFault (LevelFault F w n t) f
+level_missing : (F : Faults) (w : ListWidth) (k n : ℕ) (t u : Tree) (f : LayoutFault) → ListsOver w k t u → k < n → ((m : ℕ) → LevelsFault F (Some w) (suc m) u [] f) → HasFault (LevelsFault F (Some w) n t) f
 level_missing F w k zero t u f h lt here = absurd (omega arith)
-level_missing F w zero (suc n) t u f h lt here = ([], subst (λ x. LevelFault F w (suc n) x [] f) (sym h) (here n))
+level_missing F w zero (suc n) t u f h lt here = ([], subst (λ x. LevelsFault F (Some w) (suc n) x [] f) (sym h) (here n))
 level_missing F Lists (suc k) (suc n) (list x t b m) u f h lt here = let s = level_missing F Lists k n t u f h (omega arith) here in (zero ∷ s.0, s.1)
 level_missing F LargeLists (suc k) (suc n) (large_list x t b m) u f h lt here = let s = level_missing F LargeLists k n t u f h (omega arith) here in (zero ∷ s.0, s.1)
 level_missing F _ (suc k) (suc n) _ u f h lt here = absurd h
 
 -- there are more
-level_above : (F : Faults) → RefusesLists F → (w : ListWidth) (k n : ℕ) (t u : Tree) → ListsOver w k t u → n < k → HasFault (LevelFault F w n t) UnexpectedType
+level_above : (F : Faults) → RefusesLists F → (w : ListWidth) (k n : ℕ) (t u : Tree) → ListsOver w k t u → n < k → HasFault (LevelsFault F (Some w) n t) UnexpectedType
 level_above F lacks w zero n t u h lt = absurd (omega arith)
 level_above F lacks w (suc k) zero t u h lt = ([], lists_refused F lacks w (suc k) t u (omega arith) h)
 level_above F lacks Lists (suc k) (suc n) (list x t b m) u h lt = let s = level_above F lacks Lists k n t u h (omega arith) in (zero ∷ s.0, s.1)
@@ -81,7 +75,7 @@ level_above F lacks LargeLists (suc k) (suc n) (large_list x t b m) u h lt = let
 level_above F lacks _ (suc k) (suc n) _ u h lt = absurd h
 
 -- the outermost list gives the width
-outermost : (F : Faults) (w : ListWidth) (k n : ℕ) (t u : Tree) (f : LayoutFault) → 0 < k → ListsOver w k t u → HasFault (LevelFault F w n t) f → HasFault (ListsFault F n t) f
+outermost : (F : Faults) (w : ListWidth) (k n : ℕ) (t u : Tree) (f : LayoutFault) → 0 < k → ListsOver w k t u → HasFault (LevelsFault F (Some w) n t) f → HasFault (LevelsFault F None n t) f
 outermost F w k zero t u f some h r = r
 outermost F w zero (suc n) t u f some h r = absurd (omega arith)
 outermost F Lists (suc k) (suc n) (list x t b m) u f some h r = r
@@ -102,37 +96,29 @@ missing_struct : (b : Bottom) (fs : FieldTrees) → IsStruct b fs → missing_fa
 missing_struct (Struct count names floats) fs h = refl
 missing_struct _ fs h = absurd h
 
-missing_below : (F : Faults) (U : ℕ → Bottom → MemberTrees → Type 0) → NoListAtUnion U → (w : ListWidth) (n : ℕ) (b : Bottom) (u : Tree) (m : ℕ) → n < 3 → IsBottom U (Some w) n b u → LevelFault F w (suc m) u [] (missing_fault b)
-missing_below F U lacks Lists n b (large_list x t k a) m few (inl e) = (refl, ap missing_fault e.1)
-missing_below F U lacks LargeLists n b (list x t k a) m few (inl e) = (refl, ap missing_fault e.1)
-missing_below F U lacks Lists n b (list x t k a) m few (inl e) = let bad = e.0 in cc
-missing_below F U lacks LargeLists n b (large_list x t k a) m few (inl e) = let bad = e.0 in cc
+missing_below : (F : Faults) (U : ℕ → Bottom → MemberTrees → Type 0) → NoListAtUnion U → (w : Option ListWidth) (n : ℕ) (b : Bottom) (u : Tree) (m : ℕ) → n < 3 → IsBottom U w n b u → LevelsFault F w (suc m) u [] (missing_fault b)
+missing_below F U lacks (Some Lists) n b (large_list x t k a) m few (inl e) = (refl, ap missing_fault e.1)
+missing_below F U lacks (Some LargeLists) n b (list x t k a) m few (inl e) = (refl, ap missing_fault e.1)
+missing_below F U lacks w n b (list x t k a) m few (inl e) = let bad = e.0 in cc
+missing_below F U lacks w n b (large_list x t k a) m few (inl e) = let bad = e.0 in cc
 missing_below F U lacks w n b (fixed_size_list x t k a z) m few h = (refl, missing_sized b x t z h)
 missing_below F U lacks w n b (struct fs) m few h = (refl, missing_struct b fs h)
 missing_below F U lacks w n b (union ms mode) m few h = (refl, lacks n b ms h)
 missing_below F U lacks w n b (plain p) m few h = (refl, ap missing_fault h)
 missing_below F U lacks w n b _ m few (inr e) = absurd (omega (arith, few, e.1))
 
-missing_alone : (F : Faults) (U : ℕ → Bottom → MemberTrees → Type 0) → NoListAtUnion U → (n : ℕ) (b : Bottom) (u : Tree) (m : ℕ) → IsBottom U None n b u → ListsFault F (suc m) u [] (missing_fault b)
-missing_alone F U lacks n b (fixed_size_list x t k a z) m h = (refl, missing_sized b x t z h)
-missing_alone F U lacks n b (struct fs) m h = (refl, missing_struct b fs h)
-missing_alone F U lacks n b (union ms mode) m h = (refl, lacks n b ms h)
-missing_alone F U lacks n b (plain p) m h = (refl, ap missing_fault h)
-missing_alone F U lacks n b _ m (inl e) = let bad = e.0 in cc
-missing_alone F U lacks n b _ m (inr e) = let bad = e.0 in cc
-
-pub missing_lists : (F : Faults) (U : ℕ → Bottom → MemberTrees → Type 0) → NoListAtUnion U → (w : Option ListWidth) (k n : ℕ) (b : Bottom) (t u : Tree) → AreLevels w k t u → IsBottom U w k b u → k < n → n ≤ 3 → HasFault (ListsFault F n t) (missing_fault b)
+pub missing_lists : (F : Faults) (U : ℕ → Bottom → MemberTrees → Type 0) → NoListAtUnion U → (w : Option ListWidth) (k n : ℕ) (b : Bottom) (t u : Tree) → AreLevels w k t u → IsBottom U w k b u → k < n → n ≤ 3 → HasFault (LevelsFault F None n t) (missing_fault b)
 missing_lists F U lacks w k zero b t u h bottom lt few = absurd (omega arith)
-missing_lists F U lacks None k (suc n) b t u h bottom lt few = ([], subst (λ x. ListsFault F (suc n) x [] (missing_fault b)) (sym h.1) (missing_alone F U lacks k b u n bottom))
+missing_lists F U lacks None k (suc n) b t u h bottom lt few = ([], subst (λ x. LevelsFault F None (suc n) x [] (missing_fault b)) (sym h.1) (missing_below F U lacks None k b u n (omega arith) bottom))
 missing_lists F U lacks (Some w) k (suc n) b t u h bottom lt few =
-    outermost F w k (suc n) t u (missing_fault b) h.0 h.2 (level_missing F w k (suc n) t u (missing_fault b) h.2 lt (λ m. missing_below F U lacks w k b u m (omega arith) bottom))
+    outermost F w k (suc n) t u (missing_fault b) h.0 h.2 (level_missing F w k (suc n) t u (missing_fault b) h.2 lt (λ m. missing_below F U lacks (Some w) k b u m (omega arith) bottom))
 
-pub above_lists : (F : Faults) → RefusesLists F → (w : Option ListWidth) (k n : ℕ) (t u : Tree) → AreLevels w k t u → n < k → HasFault (ListsFault F n t) UnexpectedType
+pub above_lists : (F : Faults) → RefusesLists F → (w : Option ListWidth) (k n : ℕ) (t u : Tree) → AreLevels w k t u → n < k → HasFault (LevelsFault F None n t) UnexpectedType
 above_lists F lacks None k n t u h lt = absurd (omega (arith, h.0))
 above_lists F lacks (Some w) k n t u h lt = outermost F w k n t u UnexpectedType h.0 h.2 (level_above F lacks w k n t u h.2 lt)
 
-below_lists : (F : Faults) (w : Option ListWidth) (k : ℕ) (t u : Tree) (f : LayoutFault) → AreLevels w k t u → HasFault (F u) f → HasFault (ListsFault F k t) f
-below_lists F None k t u f h r = subst (λ n. HasFault (ListsFault F n t) f) (sym h.0) (subst (λ x. HasFault (F x) f) (sym h.1) r)
+below_lists : (F : Faults) (w : Option ListWidth) (k : ℕ) (t u : Tree) (f : LayoutFault) → AreLevels w k t u → HasFault (F u) f → HasFault (LevelsFault F None k t) f
+below_lists F None k t u f h r = subst (λ n. HasFault (LevelsFault F None n t) f) (sym h.0) (subst (λ x. HasFault (F x) f) (sym h.1) r)
 below_lists F (Some w) k t u f h r = outermost F w k k t u f h.0 h.2 (level_below F w k t u f h.2 r)
 
 are_levels : (w : Option ListWidth) (n : ℕ) (t u : Tree) → AreLevels w n t u → (v : ListWidth) × ListsOver v n t u
@@ -142,7 +128,7 @@ are_levels (Some w) n t u h = (w, h.2)
 -- ---- what a reader of m levels answers
 
 abbrev TellsUnder : (Tree → CoordType → Dimension → Type 0) → Faults → ℕ → Answer → Tree → Type 0
-TellsUnder P F m r t = TellsBoth r (Under P m t) (ListsFault F m t)
+TellsUnder P F m r t = TellsBoth r (Under P m t) (LevelsFault F None m t)
 
 pub under_same : (U : ℕ → Bottom → MemberTrees → Type 0) (P : Tree → CoordType → Dimension → Type 0) (F : Faults) (s : Summary) (m : ℕ) (r : Answer) (t : Tree) → s.levels ≡ m → (h : SummarizesBy U s t) → TellsBoth r (P h.0) (F h.0) → TellsUnder P F m r t
 under_same U P F s m (Ok x) t same h a = (h.0, are_levels s.width m t h.0 (subst (λ n. AreLevels s.width n t h.0) same h.1), a)

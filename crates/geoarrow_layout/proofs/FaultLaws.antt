@@ -1,5 +1,5 @@
 -- A data type has one fault at most under a name, and none if it is accepted.
-use Rattle.geoarrow_layout.proofs.Terms.{◌≡◌, ◌≢◌, ◌*◌, Bool, true, false, inl, inr, ℕ, zero, suc, ℤ, pos, List, [], ◌∷◌, length, sym, ap, subst, ◌∙◌, ◌⊎◌, Text, Metadata, Tree, list, large_list, fixed_size_list, struct, union, MemberTrees, no_members, member, CoordType, Interleaved, Separated, Dimension, XY, XYZ, XYM, NativeKind, GeometryCollection, Kind, OfNative, OfGeometry, OfRect, OfWkb, OfWkt, ListWidth, Lists, LargeLists, LayoutFault, UnexpectedType, BadFieldNames, BadTypeId, ExtensionName, size_of, type_id_of, extension_of, names_of, IsSeparatedAs, Leaf, ListsOver, levels_of, OverLeaf, Member, AllMembers, Mixed, Native, GeometryMember, Geometry, IsBoxAs, BoxShape, Accepted, Path, Located, Faults, InItem, CoordinateFault, BoxFault, LevelFault, ListsFault, OverLeafFault, PartFault, FirstFault, UnionFault, MemberFault, MixedFault, NativeFault, GeometryMemberFault, GeometryFault, FaultAt, BadInterleavedName, BadSize, BadFieldCount, MixedWidths, MemberDimension, EmptyUnion, SeveralCoordTypes, SeveralDimensions, ReadsFirst, named_back, dimension_named, over_leaf_first, native_first, order_of, offset_of, arith, refl, ◌+◌, ◌≤◌, Point, NativeIn, NativeFaultIn, MemberIn, MemberFaultIn, Here}
+use Rattle.geoarrow_layout.proofs.Terms.{◌≡◌, ◌≢◌, ◌*◌, Bool, true, false, inl, inr, ℕ, zero, suc, ℤ, pos, List, [], ◌∷◌, length, sym, ap, subst, ◌∙◌, ◌⊎◌, Text, Metadata, Tree, list, large_list, fixed_size_list, struct, union, MemberTrees, no_members, member, CoordType, Interleaved, Separated, Dimension, XY, XYZ, XYM, NativeKind, GeometryCollection, Kind, OfNative, OfGeometry, OfRect, OfWkb, OfWkt, ListWidth, Lists, LargeLists, LayoutFault, UnexpectedType, BadFieldNames, BadTypeId, ExtensionName, size_of, type_id_of, extension_of, names_of, IsSeparatedAs, Leaf, ListsOver, levels_of, OverLeaf, Member, AllMembers, Mixed, Native, GeometryMember, Geometry, IsBoxAs, BoxShape, Accepted, Path, Located, Faults, InItem, CoordinateFault, BoxFault, LevelsFault, Option, None, Some, IsWidth, OverLeafFault, PartFault, FirstFault, UnionFault, MemberFault, MixedFault, NativeFault, GeometryMemberFault, GeometryFault, FaultAt, BadInterleavedName, BadSize, BadFieldCount, MixedWidths, MemberDimension, EmptyUnion, SeveralCoordTypes, SeveralDimensions, ReadsFirst, named_back, dimension_named, over_leaf_first, native_first, order_of, offset_of, arith, refl, ◌+◌, ◌≤◌, Point, NativeIn, NativeFaultIn, MemberIn, MemberFaultIn, Here}
 use Rattle.geoarrow_layout.specs.declared.names.ExtensionName.TheVariants as names
 use Rattle.geoarrow_layout.proofs.MemberLists.{all_map}
 
@@ -67,39 +67,29 @@ box_apart _ d p f h k = absurd h
 
 -- ---- lists
 
-level_one : (F : Faults) → ((t : Tree) → One (F t)) → (w : ListWidth) (n : ℕ) (t : Tree) → One (LevelFault F w n t)
-level_one F one w zero t = one t
-level_one F one Lists (suc n) (list x t b m) = in_item_one (LevelFault F Lists n t) (level_one F one Lists n t)
-level_one F one LargeLists (suc n) (large_list x t b m) = in_item_one (LevelFault F LargeLists n t) (level_one F one LargeLists n t)
-level_one F one Lists (suc n) (large_list x t b m) = here_one MixedWidths
-level_one F one LargeLists (suc n) (list x t b m) = here_one MixedWidths
-level_one F one w (suc n) _ = here_one UnexpectedType
+levels_one : (F : Faults) → ((t : Tree) → One (F t)) → (w : Option ListWidth) (n : ℕ) (t : Tree) → One (LevelsFault F w n t)
+levels_one F one w zero t = one t
+levels_one F one (Some LargeLists) (suc n) (list x t b m) = here_one MixedWidths
+levels_one F one (Some Lists) (suc n) (large_list x t b m) = here_one MixedWidths
+levels_one F one w (suc n) (list x t b m) = in_item_one (LevelsFault F (Some Lists) n t) (levels_one F one (Some Lists) n t)
+levels_one F one w (suc n) (large_list x t b m) = in_item_one (LevelsFault F (Some LargeLists) n t) (levels_one F one (Some LargeLists) n t)
+levels_one F one w (suc n) _ = here_one UnexpectedType
 
-lists_one : (F : Faults) → ((t : Tree) → One (F t)) → (n : ℕ) (t : Tree) → One (ListsFault F n t)
-lists_one F one zero t = one t
-lists_one F one (suc n) (list x t b m) = in_item_one (LevelFault F Lists n t) (level_one F one Lists n t)
-lists_one F one (suc n) (large_list x t b m) = in_item_one (LevelFault F LargeLists n t) (level_one F one LargeLists n t)
-lists_one F one (suc n) _ = here_one UnexpectedType
-
-level_apart : (P : Reads) (F : Faults) → Apart P F → (w : ListWidth) (n : ℕ) (t u : Tree) (c : CoordType) (d : Dimension) (p : Path) (f : LayoutFault) → ListsOver w n t u → P u c d → LevelFault F w n t p f → ⊥
-level_apart P F apart w zero t u c d p f h r k = apart t c d p f (subst (λ x. P x c d) (sym h) r) k
-level_apart P F apart Lists (suc n) (list x t b m) u c d p f h r k = in_item_none (LevelFault F Lists n t) p f (λ q e. level_apart P F apart Lists n t u c d q f h r e) k
-level_apart P F apart LargeLists (suc n) (large_list x t b m) u c d p f h r k = in_item_none (LevelFault F LargeLists n t) p f (λ q e. level_apart P F apart LargeLists n t u c d q f h r e) k
-level_apart P F apart _ (suc n) _ u c d p f h r k = absurd h
-
-lists_apart : (P : Reads) (F : Faults) → Apart P F → (n : ℕ) (w : ListWidth) (t u : Tree) (c : CoordType) (d : Dimension) (p : Path) (f : LayoutFault) → ListsOver w n t u → P u c d → ListsFault F n t p f → ⊥
-lists_apart P F apart zero w t u c d p f h r k = apart t c d p f (subst (λ x. P x c d) (sym h) r) k
-lists_apart P F apart (suc n) Lists (list x t b m) u c d p f h r k = in_item_none (LevelFault F Lists n t) p f (λ q e. level_apart P F apart Lists n t u c d q f h r e) k
-lists_apart P F apart (suc n) LargeLists (large_list x t b m) u c d p f h r k = in_item_none (LevelFault F LargeLists n t) p f (λ q e. level_apart P F apart LargeLists n t u c d q f h r e) k
-lists_apart P F apart (suc n) _ _ u c d p f h r k = absurd h
+levels_apart : (P : Reads) (F : Faults) → Apart P F → (w : Option ListWidth) (v : ListWidth) (n : ℕ) (t u : Tree) (c : CoordType) (d : Dimension) (p : Path) (f : LayoutFault) → IsWidth w v → ListsOver v n t u → P u c d → LevelsFault F w n t p f → ⊥
+levels_apart P F apart w v zero t u c d p f is h r k = apart t c d p f (subst (λ x. P x c d) (sym h) r) k
+levels_apart P F apart (Some LargeLists) Lists (suc n) (list x t b m) u c d p f is h r k = elim is [ inl e ↦ cc | inr e ↦ cc ]
+levels_apart P F apart (Some Lists) LargeLists (suc n) (large_list x t b m) u c d p f is h r k = elim is [ inl e ↦ cc | inr e ↦ cc ]
+levels_apart P F apart w Lists (suc n) (list x t b m) u c d p f is h r k = in_item_none (LevelsFault F (Some Lists) n t) p f (λ q e. levels_apart P F apart (Some Lists) Lists n t u c d q f (inr refl) h r e) k
+levels_apart P F apart w LargeLists (suc n) (large_list x t b m) u c d p f is h r k = in_item_none (LevelsFault F (Some LargeLists) n t) p f (λ q e. levels_apart P F apart (Some LargeLists) LargeLists n t u c d q f (inr refl) h r e) k
+levels_apart P F apart _ _ (suc n) _ u c d p f is h r k = absurd h
 
 over_leaf_one : (k : NativeKind) (t : Tree) → One (OverLeafFault k t)
 over_leaf_one GeometryCollection t = here_one BadTypeId
-over_leaf_one k t = lists_one CoordinateFault coordinate_one (levels_of k) t
+over_leaf_one k t = levels_one CoordinateFault coordinate_one None (levels_of k) t
 
 pub over_leaf_apart : (k : NativeKind) → Apart (λ t. OverLeaf t k) (OverLeafFault k)
 over_leaf_apart GeometryCollection t c d p f h e = absurd h
-over_leaf_apart k t c d p f h e = lists_apart Leaf CoordinateFault coordinate_apart (levels_of k) h.1.0 t h.0 c d p f h.1.1 h.2 e
+over_leaf_apart k t c d p f h e = levels_apart Leaf CoordinateFault coordinate_apart None h.1.0 (levels_of k) t h.0 c d p f (inl refl) h.1.1 h.2 e
 
 -- ---- unions
 
@@ -214,11 +204,11 @@ mixed_none (union (member i n t b m ms) mode) c d p f h (inr k) = k.1 c d h.1
 mixed_none _ c d p f h k = absurd h
 
 native_one : (k : NativeKind) (t : Tree) → One (NativeFault k t)
-native_one GeometryCollection t = lists_one MixedFault mixed_one 1 t
+native_one GeometryCollection t = levels_one MixedFault mixed_one None 1 t
 native_one k t = over_leaf_one k t
 
 pub native_apart : (k : NativeKind) → Apart (λ t. Native t k) (NativeFault k)
-native_apart GeometryCollection t c d p f h e = lists_apart Mixed MixedFault mixed_none 1 h.1.0 t h.0 c d p f h.1.1 h.2 e
+native_apart GeometryCollection t c d p f h e = levels_apart Mixed MixedFault mixed_none None h.1.0 1 t h.0 c d p f (inl refl) h.1.1 h.2 e
 native_apart k t c d p f h e = over_leaf_apart k t c d p f h e
 
 as_native : (k : NativeKind) (t : Tree) (c : CoordType) (d : Dimension) → OverLeaf t k c d → Native t k c d

@@ -1,5 +1,5 @@
 -- The path to a fault, step by step.
-use Rattle.geoarrow_layout.proofs.Terms.{◌≡◌, ◌<◌, ◌≤◌, ◌+◌, inl, inr, Bool, true, false, is_err, Option, None, Some, MatchOption, MatchResult, ℕ, zero, suc, ℤ, pos, List, [], ◌∷◌, ◌++◌, length, take, Result, OnOk, get_or, refl, sym, ap, subst, ◌∙◌, arith, append_assoc, Ok, Err, Tree, list, large_list, union, FieldTree, MemberTrees, no_members, member, field_trees, member_trees, UnionMode, CoordType, Dimension, NativeKind, GeometryCollection, LayoutFault, ListWidth, Lists, LargeLists, type_id_of, levels_of, ListsOver, AllMembers, Member, GeometryMember, Path, Located, Faults, HasFault, InItem, CoordinateFault, LevelFault, OverLeafFault, NativeFault, PartFault, FirstFault, UnionFault, MemberFault, MixedFault, GeometryMemberFault, GeometryFault, LeadsTo, FirstOrNone, TellsBoth, field_at, member_at, Ended, IsWidth, LevelsFault, StaysHere}
+use Rattle.geoarrow_layout.proofs.Terms.{◌≡◌, ◌<◌, ◌≤◌, ◌+◌, inl, inr, Bool, true, false, is_err, Option, None, Some, MatchOption, MatchResult, ℕ, zero, suc, ℤ, pos, List, [], ◌∷◌, ◌++◌, length, take, Result, OnOk, get_or, refl, sym, ap, subst, ◌∙◌, arith, append_assoc, Ok, Err, Tree, list, large_list, union, FieldTree, MemberTrees, no_members, member, field_trees, member_trees, UnionMode, CoordType, Dimension, NativeKind, GeometryCollection, LayoutFault, ListWidth, Lists, LargeLists, type_id_of, levels_of, ListsOver, AllMembers, Member, GeometryMember, Path, Located, Faults, HasFault, InItem, CoordinateFault, OverLeafFault, NativeFault, PartFault, FirstFault, UnionFault, MemberFault, MixedFault, GeometryMemberFault, GeometryFault, LeadsTo, FirstOrNone, TellsBoth, field_at, member_at, Ended, IsWidth, LevelsFault, StaysHere}
 use Rattle.geoarrow_layout.proofs.Readings.{Answer, IsPartsOf, some_parts}
 use Rattle.geoarrow_layout.proofs.Parts.{no_parts}
 use Rattle.geoarrow_layout.proofs.MemberLists.{Items, all_map, all_both, one_more}
@@ -24,27 +24,27 @@ into_item F before between after is h = λ p f e. at_path p f e
     at_path _ f e = absurd e
 
 -- levels are gone down
-ended_here : (w : Option ListWidth) (n : ℕ) (t : Tree) → Ended w 0 t → StaysHere (LevelsFault w (suc n) t)
+ended_here : (w : Option ListWidth) (n : ℕ) (t : Tree) → Ended w 0 t → StaysHere (LevelsFault CoordinateFault w (suc n) t)
 ended_here None n (list x t b m) e p f h = absurd e
 ended_here None n (large_list x t b m) e p f h = absurd e
 ended_here (Some Lists) n (list x t b m) e p f h = absurd (omega arith)
 ended_here (Some LargeLists) n (large_list x t b m) e p f h = absurd (omega arith)
 ended_here _ n _ e p f h = h.0
 
-pub no_item : (w : Option ListWidth) (levels : ℕ) (t : Tree) (before : Path) → 0 < levels → Ended w 0 t → LeadsTo (LevelsFault w levels t) before before
+pub no_item : (w : Option ListWidth) (levels : ℕ) (t : Tree) (before : Path) → 0 < levels → Ended w 0 t → LeadsTo (LevelsFault CoordinateFault w levels t) before before
 no_item w zero t before some e = absurd (omega arith)
-no_item w (suc n) t before some e = stays (LevelsFault w (suc n) t) before (ended_here w n t e)
+no_item w (suc n) t before some e = stays (LevelsFault CoordinateFault w (suc n) t) before (ended_here w n t e)
 
-level_item : (w : Option ListWidth) (v : ListWidth) (n : ℕ) (t u : Tree) (p : Path) (f : LayoutFault) → IsWidth w v → ListsOver v 1 t u → LevelsFault w (suc n) t p f → InItem (LevelFault CoordinateFault v n u) p f
+level_item : (w : Option ListWidth) (v : ListWidth) (n : ℕ) (t u : Tree) (p : Path) (f : LayoutFault) → IsWidth w v → ListsOver v 1 t u → LevelsFault CoordinateFault w (suc n) t p f → InItem (LevelsFault CoordinateFault (Some v) n u) p f
 level_item (Some Lists) LargeLists n t u p f is one h = elim is [ inl e ↦ cc | inr e ↦ cc ]
 level_item (Some LargeLists) Lists n t u p f is one h = elim is [ inl e ↦ cc | inr e ↦ cc ]
-level_item w Lists n (list x t b m) u p f is one h = subst (λ z. InItem (LevelFault CoordinateFault Lists n z) p f) one h
-level_item w LargeLists n (large_list x t b m) u p f is one h = subst (λ z. InItem (LevelFault CoordinateFault LargeLists n z) p f) one h
+level_item w Lists n (list x t b m) u p f is one h = subst (λ z. InItem (LevelsFault CoordinateFault (Some Lists) n z) p f) one h
+level_item w LargeLists n (large_list x t b m) u p f is one h = subst (λ z. InItem (LevelsFault CoordinateFault (Some LargeLists) n z) p f) one h
 level_item _ _ n _ u p f is one h = absurd one
 
 pub level_leads : (w : Option ListWidth) (v : ListWidth) (levels n : ℕ) (t u : Tree) (before between after : Path) → levels ≡ suc n → IsWidth w v → ListsOver v 1 t u → between ≡ before ++ (0 ∷ [])
-    → LeadsTo (LevelsFault (Some v) n u) between after → LeadsTo (LevelsFault w levels t) before after
-level_leads w v levels n t u before between after same is one pushed h = rw same (λ p f e. into_item (LevelFault CoordinateFault v n u) before between after pushed h p f (level_item w v n t u p f is one e))
+    → LeadsTo (LevelsFault CoordinateFault (Some v) n u) between after → LeadsTo (LevelsFault CoordinateFault w levels t) before after
+level_leads w v levels n t u before between after same is one pushed h = rw same (λ p f e. into_item (LevelsFault CoordinateFault (Some v) n u) before between after pushed h p f (level_item w v n t u p f is one e))
 
 -- ---- members
 
@@ -102,9 +102,9 @@ geometry_leads t ms ns mode before after is same h = subst (λ u. LeadsTo (Geome
 
 -- ---- native kinds
 
-pub over_leaf_leads : {X E : Type 0} (r : Result X E) (k : NativeKind) (n : ℕ) (t : Tree) (before after : Path) → (k ≡ GeometryCollection → ⊥) → n ≡ levels_of k → OnOk r (LeadsTo (LevelsFault None n t) before after) → OnOk r (LeadsTo (OverLeafFault k t) before after)
+pub over_leaf_leads : {X E : Type 0} (r : Result X E) (k : NativeKind) (n : ℕ) (t : Tree) (before after : Path) → (k ≡ GeometryCollection → ⊥) → n ≡ levels_of k → OnOk r (LeadsTo (LevelsFault CoordinateFault None n t) before after) → OnOk r (LeadsTo (OverLeafFault k t) before after)
 over_leaf_leads r GeometryCollection n t before after other same h = absurd (other refl)
-over_leaf_leads r k n t before after other same h = subst (λ m. OnOk r (LeadsTo (LevelsFault None m t) before after)) same h
+over_leaf_leads r k n t before after other same h = subst (λ m. OnOk r (LeadsTo (LevelsFault CoordinateFault None m t) before after)) same h
 
 pub native_leads : {X E : Type 0} (r : Result X E) (k : NativeKind) (t : Tree) (before after : Path) → (k ≡ GeometryCollection → ⊥) → OnOk r (LeadsTo (OverLeafFault k t) before after) → OnOk r (LeadsTo (NativeFault k t) before after)
 native_leads r GeometryCollection t before after other h = absurd (other refl)

@@ -1,16 +1,109 @@
--- The fields of a struct: which names are those of a coordinate, and which bits stand for them.
-use Rattle.geoarrow_layout.proofs.Terms.{◌≡◌, ◌↔◌, ◌⊎◌, inl, inr, suc, Bool, true, false, ◌||◌, List, [], ◌∷◌, length, refl, sym, ap, ◌∙◌, arith, ◌<◌, ℕ, zero, ◌+◌, subst, ◌&&◌, cond, ◌++◌, take, get_or, eq-eqb, list_any, bytes_eq, bytes_eq-Decides, Text, FieldTree, field_trees, Dimension, XYZ, XYM, has_name, IsSeparatedAs, names_of, SomeAt, place_in, known_names, is_float64, are_float64, has_bit, bit_at, eqb-true, or_cases, or_left, or_right, same_from_decides, and-true, and_assoc, IsBits, AddsBit}
+-- Sets of bits, and what one reading adds to them; the fields of a struct: which names are those of a coordinate, and which bits stand for them.
+use Rattle.geoarrow_layout.proofs.Terms.{◌≡◌, ◌↔◌, ◌<◌, ◌⊎◌, ◌*◌, ◌%◌, ◌^◌, inl, inr, ℕ, sym, ap, subst, ◌∙◌, ◌≤◌, true, false, ℤ, pos, Ok, Err, refl, arith, bit_at, bit_or, bit_at_set_same, bit_at_set_other, bit_at-zero, cases_eq, ltb-true, ltb-false, bits, ReadAt, w8, w16, w64, CoordType, Dimension, LayoutFault, negsuc, nat_abs, lt_z, suc, Bool, ◌||◌, true≢false, Decides, IsTrue, list_all, and_parts, and_from, List, [], ◌∷◌, length, zero, ◌+◌, ◌&&◌, cond, ◌++◌, take, get_or, eq-eqb, list_any, bytes_eq, bytes_eq-Decides, Text, FieldTree, field_trees, XYZ, XYM, has_name, IsSeparatedAs, names_of, SomeAt, place_in, known_names, is_float64, are_float64, has_bit, eqb-true, or_cases, or_left, or_right, same_from_decides, and-true, and_assoc, IsBits, AddsBit}
+use Rattle.std.specs.Int.{Width}
+use Rattle.geoarrow_layout.specs.Summary.{IsBits, AddsBit, AddsBits}
+use Rattle.geoarrow_layout.proofs.Readings.{Answer, ok_same}
 use Rattle.geoarrow_layout.specs.Shapes.{SameNames}
 use Rattle.geoarrow_layout.proofs.MemberLists.{or_more, one_more}
-use Rattle.geoarrow_layout.proofs.BitSteps.{bits_added, adds_one, no_bits, bit_is}
 
-pub length-names : (fs : List FieldTree) → length (names_of (field_trees fs)) ≡ length fs
-length-names [] = refl
-length-names (f ∷ fs) = omega (arith, length-names fs)
+adds_bit : (w : Width) (n i : ℕ) → i < bits w → AddsBit n i (bit_or n (1 * 2 ^ i % 2 ^ bits w))
+unfolding AddsBit
+adds_bit w n i within = λ k. elim (cases_eq k i) [
+  | inl e ↦ (λ h. inr e, λ h. ap (bit_at (bit_or n (1 * 2 ^ i % 2 ^ bits w))) e ∙ bit_at_set_same w n i within)
+  | inr e ↦ let other = bit_at_set_other w n i within k e in
+      (λ h. inl (sym other ∙ h), λ h. elim h [ inl was ↦ other ∙ was | inr is ↦ absurd (e is) ])
+]
 
-pub has_name-fields : (n : Text) (fs : List FieldTree) → list_any (λ f. bytes_eq f.name n) fs ≡ has_name n (names_of (field_trees fs))
-has_name-fields n [] = refl
-has_name-fields n (f ∷ fs) = rw (has_name-fields n fs)
+pub adds_bit_8 : (n i : ℕ) → i < 8 → AddsBit n i (bit_or n (1 * 2 ^ i % 2 ^ 8))
+adds_bit_8 = adds_bit w8
+
+pub adds_bit_16 : (n i : ℕ) → i < 16 → AddsBit n i (bit_or n (1 * 2 ^ i % 2 ^ 16))
+adds_bit_16 = adds_bit w16
+
+pub adds_bit_64 : (n i : ℕ) → i < 64 → AddsBit n i (bit_or n (1 * 2 ^ i % 2 ^ 64))
+adds_bit_64 = adds_bit w64
+
+pub bits_like : (n : ℕ) (P Q : ℕ → Type 0) → ((i : ℕ) → P i → Q i) → ((i : ℕ) → Q i → P i) → IsBits n P → IsBits n Q
+unfolding IsBits
+bits_like n P Q to from h = λ i. (λ e. to i ((h i).0 e), λ q. (h i).1 (from i q))
+
+pub no_bits : (P : ℕ → Type 0) → ((i : ℕ) → P i → ⊥) → IsBits 0 P
+unfolding IsBits
+no_bits P none = λ i. (λ e. let z = bit_at-zero i in cc, λ p. absurd (none i p))
+
+-- the numbers of Q are those of P and those that are added
+pub bits_added : (n more : ℕ) (A P Q : ℕ → Type 0) → AddsBits n A more → ((i : ℕ) → Q i ↔ (P i ⊎ A i)) → IsBits n P → IsBits more Q
+unfolding IsBits AddsBits
+bits_added n more A P Q adds is h = λ i. (
+  (λ e. (is i).1 (elim ((adds i).0 e) [ inl was ↦ inl ((h i).0 was) | inr a ↦ inr a ])),
+  (λ q. (adds i).1 (elim ((is i).0 q) [ inl p ↦ inl ((h i).1 p) | inr a ↦ inr a ])),
+)
+
+pub bit_is : (n : ℕ) (P : ℕ → Type 0) (i : ℕ) → IsBits n P → (bit_at n i ≡ 1) ↔ P i
+unfolding IsBits
+bit_is n P i h = h i
+
+-- ---- one reading
+
+adds_none : (n : ℕ) (P : ℕ → Type 0) → ((i : ℕ) → P i → ⊥) → AddsBits n P n
+unfolding AddsBits
+adds_none n P none = λ i. (λ e. inl e, λ h. elim h [ inl e ↦ e | inr p ↦ absurd (none i p) ])
+
+pub adds_one : (n j more : ℕ) (P : ℕ → Type 0) → P j → ((i : ℕ) → P i → i ≡ j) → AddsBit n j more → AddsBits n P more
+unfolding AddsBit AddsBits
+adds_one n j more P there only adds = λ i. (
+  (λ e. elim ((adds i).0 e) [ inl was ↦ inl was | inr is ↦ inr (subst P (sym is) there) ]),
+  (λ h. elim h [ inl e ↦ (adds i).1 (inl e) | inr p ↦ (adds i).1 (inr (only i p)) ]),
+)
+
+pub number_added : (number : CoordType × Dimension → ℕ) (n j more : ℕ) (part : Answer) (p : CoordType × Dimension) → part ≡ Ok p → j ≡ number p → AddsBit n j more → AddsBits n (ReadAt number part) more
+number_added number n j more part p is place adds =
+    adds_one n j more (ReadAt number part) (p, is, place) (λ i h. h.2 ∙ ap number (ok_same h.0 p (sym h.1 ∙ is)) ∙ sym place) adds
+
+pub number_kept : (number : CoordType × Dimension → ℕ) (n : ℕ) (part : Answer) (f : LayoutFault) → part ≡ Err f → AddsBits n (ReadAt number part) n
+number_kept number n part f is = adds_none n (ReadAt number part) (λ i h. let bad = sym h.1 ∙ is in cc)
+
+outside : (z : ℤ) (i : ℕ) → (lt_z z (pos 0) ≡ true) ⊎ (lt_z (pos 63) z ≡ true) → i < 64 → z ≡ pos i → ⊥
+outside (pos n) i (inl h) small e = let lt : n < 0 = ltb-true n 0 h in omega arith
+outside (pos n) i (inr h) small e = let lt : 63 < n = ltb-true 63 n h in let same : n ≡ i = cc in omega arith
+outside (negsuc n) i h small e = cc
+
+between : (id : ℤ) → lt_z id (pos 0) ≡ false → lt_z (pos 63) id ≡ false → (id ≡ pos (nat_abs id)) × (nat_abs id < 64)
+between (pos n) h k = let le : n ≤ 63 = ltb-false 63 n k in (refl, omega arith)
+between (negsuc n) h k = cc
+
+pub id_outside : (n : ℕ) (id z : ℤ) → z ≡ id → (lt_z z (pos 0) ≡ true) ⊎ (lt_z (pos 63) z ≡ true) → AddsBits n (λ i. (i < 64) × (id ≡ pos i)) n
+id_outside n id z is h = adds_none n (λ i. (i < 64) × (id ≡ pos i)) (λ i p. outside z i h p.0 (is ∙ p.1))
+
+pub id_between : (n more : ℕ) (id z : ℤ) → z ≡ id → lt_z z (pos 0) ≡ false → lt_z (pos 63) z ≡ false → AddsBit n (nat_abs z) more → AddsBits n (λ i. (i < 64) × (id ≡ pos i)) more
+id_between n more id z is h k adds =
+    let b = between z h k in
+    adds_one n (nat_abs z) more (λ i. (i < 64) × (id ≡ pos i)) (b.1, sym is ∙ b.0) (λ i p. let same = sym p.1 ∙ sym is ∙ b.0 in cc) adds
+
+pub length_names : (fs : List FieldTree) → length (names_of (field_trees fs)) ≡ length fs
+length_names [] = refl
+length_names (f ∷ fs) = omega (arith, length_names fs)
+
+pub has_name_fields : (n : Text) (fs : List FieldTree) → list_any (λ f. bytes_eq f.name n) fs ≡ has_name n (names_of (field_trees fs))
+has_name_fields n [] = refl
+has_name_fields n (f ∷ fs) = rw (has_name_fields n fs)
+
+-- the names of two structs are the same where each field of either has its name in the other
+all_decides : (xs : List FieldTree) (ys : List Text) → Decides (list_all (λ f. has_name f.name ys) xs) ((n : Text) → has_name n (names_of (field_trees xs)) ≡ true → has_name n ys ≡ true)
+all_decides [] ys = (λ h n e. absurd (true≢false (sym e)), λ f. refl)
+all_decides (x ∷ xs) ys = (
+  (λ h n e. let p = and_parts _ _ h in
+      elim (or_cases (bytes_eq x.name n) _ e) [ inl f ↦ subst (λ z. has_name z ys ≡ true) ((bytes_eq-Decides x.name n).0 f) p.0 | inr f ↦ (all_decides xs ys).0 p.1 n f ]),
+  (λ f. and_from _ _ (f x.name (or_left _ _ ((bytes_eq-Decides x.name x.name).1 refl))) ((all_decides xs ys).1 (λ n h. f n (or_right (bytes_eq x.name n) _ h)))),
+)
+
+pub same_decides : (xs ys : List FieldTree) (p q : Bool) → p ≡ list_all (λ f. has_name f.name (names_of (field_trees ys))) xs → q ≡ list_all (λ f. has_name f.name (names_of (field_trees xs))) ys → (IsTrue (p && q) ↔ SameNames (names_of (field_trees xs)) (names_of (field_trees ys)))
+unfolding SameNames
+same_decides xs ys p q e f = (
+  (λ h n. let both = and_parts p q h in
+      same_from_decides {P = has_name n (names_of (field_trees ys)) ≡ true} _ _ ((all_decides xs _).0 (sym e ∙ both.0) n, (all_decides ys _).0 (sym f ∙ both.1) n) ((λ e. e), (λ e. e))),
+  (λ s. and_from p q (e ∙ (all_decides xs _).1 (λ n h. sym (s n) ∙ h)) (f ∙ (all_decides ys _).1 (λ n h. s n ∙ h))),
+)
 
 or_swap : (p q r : Bool) → (p || (q || r)) ≡ (q || (p || r))
 or_swap true true r = refl

@@ -1,8 +1,8 @@
 -- The kind of a name and a tree: there is one at most, and it is what a reader's answer says.
-use Rattle.geoarrow_layout.proofs.Terms.{◌≡◌, ◌⊎◌, inl, inr, Bool, true≢false, IsTrue, is_ok, cond, refl, sym, ap, subst, ◌∙◌, ◌↔◌, IfErr, Option, Some, None, Result, Ok, Err, bytes_eq, same_Some, Text, Tree, Point, LineString, Polygon, MultiPoint, MultiLineString, MultiPolygon, GeometryCollection, Width, Plain, Large, View, Kind, OfNative, OfGeometry, OfRect, OfWkb, OfWkt, ExtensionName, name_text, extension_of, Native, IsBytes, IsText, Accepted, Accepts, IsStructured, AnswersOne, any_native_same, geometry_same, box_shape_same, LayoutFault, Summary, Summarizes, IsAccepted, Path, HasFault, FaultAt, Tells, AnswersKind}
+use Rattle.geoarrow_layout.proofs.Terms.{◌≡◌, ◌⊎◌, inl, inr, Bool, true≢false, IsTrue, is_ok, cond, refl, sym, ap, subst, ◌∙◌, ◌↔◌, IfErr, Option, Some, None, Result, Ok, Err, bytes_eq, same_Some, Text, Tree, Point, LineString, Polygon, MultiPoint, MultiLineString, MultiPolygon, GeometryCollection, Width, Plain, Large, View, Kind, OfNative, OfGeometry, OfRect, OfWkb, OfWkt, ExtensionName, name_text, extension_of, Native, IsBytes, IsText, Accepted, Accepts, IsStructured, AnswersOne, any_native_same, geometry_same, box_shape_same, LayoutFault, Summary, Summarizes, IsAccepted, Path, HasFault, FaultAt, Tells, AnswersKind, NativeKind, CoordType, Dimension, Mixed, Geometry, BoxShape, NativeFault, MixedFault, GeometryFault, BoxFault, TellsBoth, Answers, coords_in, native_first, mixed_first}
 use Rattle.geoarrow_layout.specs.declared.names.ExtensionName.TheVariants as names
-use Rattle.geoarrow_layout.proofs.FaultLaws.{accepted_apart}
-use Rattle.geoarrow_layout.proofs.Readings.{exactly_one}
+use Rattle.geoarrow_layout.proofs.FaultLaws.{accepted_apart, native_apart, mixed_none, geometry_apart, box_apart}
+use Rattle.geoarrow_layout.proofs.Readings.{Answer, exactly, exactly_one}
 
 -- a text says which name it is, so two names of one text are one
 abbrev named : Text → ExtensionName
@@ -50,6 +50,19 @@ kind_some n t k s here = λ l. (λ e. subst (λ x. Accepts n t x × IsStructured
 -- the kind of a column, told by the reader of its extension name
 pub kind_exact : (n : ExtensionName) (t : Tree) (r : Result Kind LayoutFault) → Tells r (Accepts (name_text n) t) (FaultAt n t) → AnswersOne r (Accepts (name_text n) t)
 kind_exact n t r h = exactly_one r (Accepts (name_text n) t) (FaultAt n t) (one_kind (name_text n) t) (no_fault_if_accepted n t) h
+
+-- the same, told by the reader of a data type
+pub native_exact : (k : NativeKind) (t : Tree) (r : Answer) → TellsBoth r (Native t k) (NativeFault k t) → Answers r (Native t k)
+native_exact k t r = exactly (coords_in t) r (Native t k) (NativeFault k t) (native_first k t) (native_apart k t)
+
+pub mixed_exact : (t : Tree) (r : Answer) → TellsBoth r (Mixed t) (MixedFault t) → Answers r (Mixed t)
+mixed_exact t r = exactly (coords_in t) r (Mixed t) (MixedFault t) (mixed_first t) (mixed_none t)
+
+pub geometry_exact : (t : Tree) (r : Result CoordType LayoutFault) → Tells r (Geometry t) (GeometryFault t) → AnswersOne r (Geometry t)
+geometry_exact t r = exactly_one r (Geometry t) (GeometryFault t) (geometry_same t) (geometry_apart t)
+
+pub box_exact : (t : Tree) (r : Result Dimension LayoutFault) → Tells r (BoxShape t) (BoxFault t) → AnswersOne r (BoxShape t)
+box_exact t r = exactly_one r (BoxShape t) (BoxFault t) (box_shape_same t) (box_apart t)
 
 pub answer_none : (x : Text) (n : ExtensionName) (t : Tree) (f : LayoutFault) → x ≡ name_text n → HasFault (FaultAt n t) f → AnswersKind x t None
 answer_none x n t f named fault l = (λ e. cc, λ h. absurd (no_fault_if_accepted n t l fault.0 f (sym named ∙ h.0.0, h.0.1) fault.1))

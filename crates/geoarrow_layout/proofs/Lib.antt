@@ -3,7 +3,6 @@ pub mod Readings
 pub mod FaultLaws
 pub mod FaultPaths
 pub mod MemberLists
-pub mod BitSteps
 pub mod FieldSteps
 pub mod Bottoms
 pub mod Parts
@@ -14,9 +13,7 @@ pub mod KindSteps
 pub mod Listed
 pub mod Inferences
 pub mod AlikeLaws
-pub mod AlikeDecides
 pub mod UnionChanges
 pub mod NamesSteps
-pub mod Distinct
 pub mod TableSteps
 pub mod Equality

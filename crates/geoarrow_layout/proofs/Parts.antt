@@ -1,5 +1,5 @@
 -- Ids and members: each is read in one way.
-use Rattle.geoarrow_layout.proofs.Terms.{◌≡◌, ◌≢◌, inl, inr, ℕ, ℤ, pos, Bool, true, false, Option, None, some_pair_parts, Ok, Err, MatchResult, refl, sym, ap, subst, ◌∙◌, [], Tree, CoordType, Dimension, LayoutFault, BadTypeId, NativeKind, GeometryCollection, type_id_of, levels_of, OverLeaf, Member, GeometryMember, Native, Leaf, Under, Path, Faults, HasFault, MemberFault, CoordinateFault, ListsFault, PartFault, OverLeafFault, NativeFault, GeometryMemberFault, TellsBoth, Summary, IsOtherFault, ShowsIn, NativeIn, NativeFaultIn, MemberIn, MemberFaultIn}
+use Rattle.geoarrow_layout.proofs.Terms.{◌≡◌, ◌≢◌, inl, inr, ℕ, ℤ, pos, Bool, true, false, Option, None, some_pair_parts, Ok, Err, MatchResult, refl, sym, ap, subst, ◌∙◌, [], Tree, CoordType, Dimension, LayoutFault, BadTypeId, NativeKind, GeometryCollection, type_id_of, levels_of, OverLeaf, Member, GeometryMember, Native, Leaf, Under, Path, Faults, HasFault, MemberFault, CoordinateFault, LevelsFault, PartFault, OverLeafFault, NativeFault, GeometryMemberFault, TellsBoth, Summary, IsOtherFault, ShowsIn, NativeIn, NativeFaultIn, MemberIn, MemberFaultIn}
 use Rattle.geoarrow_layout.proofs.UnionSteps.{shows_of_inner}
 use Rattle.geoarrow_layout.proofs.Readings.{Answer, IsPartsOf, some_parts, refused}
 use Rattle.geoarrow_layout.proofs.FaultLaws.{KindReads, KindFault}
@@ -37,10 +37,10 @@ member_answer false (Ok x) i t h = h
 member_answer b (Err f) i t h = h
 
 -- the lists of a kind other than a collection
-pub over_leaf_answer : (b : Bool) (k : NativeKind) (n : ℕ) (s : Summary) (t : Tree) (r : Answer) → (k ≢ GeometryCollection) → n ≡ levels_of k → ((u : Tree) → ShowsIn false s u → TellsBoth r (Under Leaf n u) (ListsFault CoordinateFault n u)) → ShowsIn b s t → TellsBoth r (NativeIn b t k) (NativeFaultIn b k t)
+pub over_leaf_answer : (b : Bool) (k : NativeKind) (n : ℕ) (s : Summary) (t : Tree) (r : Answer) → (k ≢ GeometryCollection) → n ≡ levels_of k → ((u : Tree) → ShowsIn false s u → TellsBoth r (Under Leaf n u) (LevelsFault CoordinateFault None n u)) → ShowsIn b s t → TellsBoth r (NativeIn b t k) (NativeFaultIn b k t)
 over_leaf_answer b GeometryCollection n s t r other same says shown = absurd (other refl)
-over_leaf_answer true k n s t r other same says shown = subst (λ m. TellsBoth r (Under Leaf m t) (ListsFault CoordinateFault m t)) same (says t (shows_of_inner s t shown))
-over_leaf_answer false k n s t r other same says shown = subst (λ m. TellsBoth r (Under Leaf m t) (ListsFault CoordinateFault m t)) same (says t shown)
+over_leaf_answer true k n s t r other same says shown = subst (λ m. TellsBoth r (Under Leaf m t) (LevelsFault CoordinateFault None m t)) same (says t (shows_of_inner s t shown))
+over_leaf_answer false k n s t r other same says shown = subst (λ m. TellsBoth r (Under Leaf m t) (LevelsFault CoordinateFault None m t)) same (says t shown)
 
 -- a member of a geometry that is no collection is the same in a collection
 kind_fault_same : (k : NativeKind) (d : Dimension) (t : Tree) (p : Path) (f : LayoutFault) → (k ≡ GeometryCollection → ⊥) → KindFault Native NativeFault k d t p f → KindFault OverLeaf OverLeafFault k d t p f

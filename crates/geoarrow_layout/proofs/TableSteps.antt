@@ -1,6 +1,6 @@
 -- Steps of the comparison with the table of written data types.
 use Rattle.geoarrow_layout.proofs.Terms.{◌≡◌, ◌↔◌, ◌<◌, ◌+◌, ℕ, zero, suc, ℤ, Bool, true, false, true≢false, IsTrue, Some, List, [], ◌∷◌, ◌++◌, drop, length, get_or, sym, ap, subst, ◌∙◌, arith, Option, Contains, same_Some, drop_more, same_from_push, Tree, struct, union, FieldTree, Members, field_trees, member_trees, UnionMode, Dimension, NativeKind, Kind, Wkb, Wkt, member_layout, layout, Width, Plain, IsBytes, IsText, field_list, member_list, listed_fields, listed_members, option_eq}
-use Rattle.geoarrow_layout.proofs.Distinct.{layouts_are_distinct}
+use Rattle.geoarrow_layout.proofs.Written.{layouts_are_distinct}
 use Rattle.geoarrow_layout.specs.contracts.encodings.Width as width
 use Rattle.geoarrow_layout.proofs.Equality.{option_decides, bare_decides}
 use Rattle.geoarrow_layout.specs.contracts.encodings.WidthPartialEq.TheImpl as widths

@@ -1,7 +1,7 @@
 -- Members that go or come, and what they leave of a union.
-use Rattle.geoarrow_layout.proofs.Terms.{◌≡◌, ◌≢◌, ◌↔◌, ◌⊎◌, inl, inr, zero, suc, ℤ, Bool, true, cond, List, [], ◌∷◌, ◌++◌, refl, sym, ap, subst, arith, ◌∙◌, filter, Contains, cond_both, All-contains, All-contains_itself, All-filter, Contains-append_left, Contains-append_right, Contains-append_cases, Tree, FieldTree, Members, member_trees, UnionMode, Dense, AllMembers, HasMembers, retained, has, AlikeUnions, EachOf, AreJust}
+use Rattle.geoarrow_layout.proofs.Terms.{◌≡◌, ◌≢◌, ◌↔◌, ◌⊎◌, inl, inr, zero, suc, ℤ, Bool, true, cond, List, [], ◌∷◌, ◌++◌, refl, sym, ap, subst, arith, ◌∙◌, filter, Contains, cond_both, All-contains, All-contains_itself, All-filter, Contains-append_left, Contains-append_right, Contains-append_cases, Tree, FieldTree, Members, member_trees, UnionMode, Dense, AllMembers, HasMembers, retained, has, Alike, EachHasAlike, AlikeUnions, EachOf, AreJust}
 use Rattle.geoarrow_layout.proofs.MemberLists.{all_both}
-use Rattle.geoarrow_layout.proofs.AlikeLaws.{Holds, each_refl, each_sym, members_refl}
+use Rattle.geoarrow_layout.proofs.AlikeLaws.{Among, alike_refl, each_sym}
 
 -- members, at least one, that all have P
 abbrev Filled : (ℤ → Tree → Type 0) → Members → Type 0
@@ -33,28 +33,18 @@ filled_joined P ms ns all joined = (
   (λ h mode. ((some_members all).0 h.0, subst (λ x. AllMembers P (member_trees x)) (sym joined) ((all_both P ms ns).1 (all_of P ms h.1, all_of P ns h.2)))),
 )
 
--- members by their ids and trees
-held_by : (ms : Members) (m : ℤ × FieldTree) → Contains ms m → Holds (member_trees ms) m.0 m.1.tree
-held_by [] m h = absurd (omega (arith, h.1))
-held_by (x ∷ xs) m (zero, lt, is) = inl (ap (λ y. y.0) (sym is), ap (λ y. y.1.tree) (sym is))
-held_by (x ∷ xs) m (suc n, lt, is) = inr (held_by xs m (n, omega (arith, lt), is))
-
-held_from : (X : Type 0) (ms : Members) (i : ℤ) (t : Tree) → ((m : ℤ × FieldTree) → Contains ms m → i ≡ m.0 → t ≡ m.1.tree → X) → Holds (member_trees ms) i t → X
-held_from X [] i t f h = absurd h
-held_from X (m ∷ ms) i t f (inl e) = f m (0, omega arith, refl) e.0 e.1
-held_from X (m ∷ ms) i t f (inr h) = held_from X ms i t (λ n c. f n (suc c.0, omega (arith, c.1), c.2)) h
-
-moved : (ms ns : Members) → ((m : ℤ × FieldTree) → Contains ms m → Contains ns m) → (i : ℤ) (t : Tree) → Holds (member_trees ms) i t → Holds (member_trees ns) i t
-moved ms ns f i t h =
-    held_from (Holds (member_trees ns) i t) ms i t
-    (λ m c same_id same_tree. subst (λ x. Holds (member_trees ns) x t) (sym same_id) (subst (λ x. Holds (member_trees ns) m.0 x) (sym same_tree) (held_by ns m (f m c)))) h
-
 -- unions of the same members are alike
+contained : (ns : Members) (m : ℤ × FieldTree) → Contains ns m → Among m.0 m.1.tree (member_trees ns)
+contained [] m h = absurd (omega (arith, h.1))
+contained (x ∷ xs) m (zero, lt, is) = inl (ap (λ y. y.0) (sym is), subst (λ y. Alike m.1.tree y.1.tree) (sym is) (alike_refl m.1.tree))
+contained (x ∷ xs) m (suc n, lt, is) = inr (contained xs m (n, omega (arith, lt), is))
+
+each_contained : (ms ns : Members) → ((m : ℤ × FieldTree) → Contains ms m → Contains ns m) → EachHasAlike (member_trees ms) (member_trees ns)
+each_contained [] ns f = tt
+each_contained (m ∷ ms) ns f = (contained ns m (f m (0, omega arith, refl)), each_contained ms ns (λ x c. f x (suc c.0, omega (arith, c.1), c.2)))
+
 pub same_members_alike : (ms ns : Members) → ((m : ℤ × FieldTree) → Contains ms m → Contains ns m) → ((m : ℤ × FieldTree) → Contains ns m → Contains ms m) → AlikeUnions ms ns
-same_members_alike ms ns to from = λ x y. (
-  each_refl (member_trees ms) (member_trees ns) (members_refl (member_trees ms)) (moved ms ns to),
-  each_sym (member_trees ns) (member_trees ms) (each_refl (member_trees ns) (member_trees ms) (members_refl (member_trees ns)) (moved ns ms from)),
-)
+same_members_alike ms ns to from = λ x y. (each_contained ms ns to, each_sym (member_trees ns) (member_trees ms) (each_contained ns ms from))
 
 pub joined_alike : (ms ns all : Members) → all ≡ ms ++ ns → (others : Members) → AreJust ms ns others → AlikeUnions all others
 joined_alike ms ns all joined others just = same_members_alike all others

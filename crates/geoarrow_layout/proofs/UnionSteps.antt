@@ -1,10 +1,10 @@
 -- What was seen of members says what the union is.
-use Rattle.geoarrow_layout.proofs.Terms.{ShowsIn, ◌≡◌, ◌≢◌, ◌↔◌, ◌<◌, ◌+◌, ◌^◌, ◌⊎◌, inl, inr, ℕ, zero, suc, ℤ, pos, Result, Ok, Err, Option, Some, None, MatchOption, MatchResult, Bool, true, false, [], ◌∷◌, ◌++◌, take, length, get_or, refl, sym, ap, subst, ◌∙◌, arith, nat_eq, bit_at, eqb-suc-zero, cases_eq, same_from_bits, bit_at-pow_same, bit_at-pow_other, bit_at-lt, Tree, union, FieldTree, MemberTrees, no_members, member, member_trees, CoordType, Interleaved, Dimension, LayoutFault, UnexpectedType, ListWidth, Bottom, Union, Deep, Other, Summary, order_of, Mixed, Geometry, Member, GeometryMember, AllMembers, SomeMember, HasMembers, Answers, Path, Faults, HasFault, FirstFault, UnionFault, MemberFault, MixedFault, GeometryMemberFault, GeometryFault, IsFaultOf, Seen, place_of, AreLevels, IsBottom, IsUnion, SummarizesBy, Summarizes, ReadAt, Tells, TellsBoth, IsNested, IsNoLeaf, ReadsFirst, coords_in, member_first, geometry_member_first, DimensionsFault, IsBits, AddsBits, first_fault, AreOf, IsCoordFault, UnionSays}
+use Rattle.geoarrow_layout.proofs.Terms.{ShowsIn, ◌≡◌, ◌≢◌, ◌↔◌, ◌<◌, ◌+◌, ◌^◌, ◌⊎◌, inl, inr, ℕ, zero, suc, ℤ, pos, Result, Ok, Err, Option, Some, None, MatchOption, MatchResult, Bool, true, false, [], ◌∷◌, ◌++◌, take, length, get_or, refl, sym, ap, subst, ◌∙◌, arith, nat_eq, bit_at, eqb-suc-zero, cases_eq, same_from_bits, bit_at-pow_same, bit_at-pow_other, bit_at-lt, Tree, union, FieldTree, MemberTrees, no_members, member, member_trees, CoordType, Interleaved, Dimension, LayoutFault, UnexpectedType, ListWidth, Bottom, Union, Deep, Other, Summary, order_of, Mixed, Geometry, Member, GeometryMember, AllMembers, SomeMember, HasMembers, Answers, Path, Faults, HasFault, FirstFault, UnionFault, MemberFault, MixedFault, GeometryMemberFault, GeometryFault, BoxFault, IsFaultOf, Seen, place_of, AreLevels, IsBottom, IsUnion, SummarizesBy, Summarizes, ReadAt, Tells, TellsBoth, IsNested, IsNoLeaf, ReadsFirst, coords_in, member_first, geometry_member_first, DimensionsFault, IsBits, AddsBits, first_fault, AreOf, IsCoordFault, UnionSays}
 use Rattle.geoarrow_layout.proofs.Readings.{Answer, exactly}
 use Rattle.geoarrow_layout.proofs.MemberLists.{Items, all_map, all_inside, all_some, first_some, all_both, some_more, one_more}
 use Rattle.geoarrow_layout.proofs.FaultLaws.{Read, ApartMember, MemberReads, order_same}
-use Rattle.geoarrow_layout.proofs.Bottoms.{NoListAtUnion, RefusesLists, levels_refused, at_bottom}
-use Rattle.geoarrow_layout.proofs.BitSteps.{bits_like, bits_added, no_bits, bit_is}
+use Rattle.geoarrow_layout.proofs.Bottoms.{NoListAtUnion, RefusesLists, mixed_refuses, levels_refused, at_bottom}
+use Rattle.geoarrow_layout.proofs.FieldSteps.{bits_like, bits_added, no_bits, bit_is}
 
 abbrev pub OneReading : MemberReads → Type 0
 OneReading R = (i : ℤ) → ReadsFirst (R i)
@@ -219,8 +219,17 @@ levels_none (Some w) n t u h z = absurd (omega (arith, h.0))
 pub at_root : (s : Summary) (b : Bottom) (t : Tree) → s.levels ≡ 0 → s.bottom ≡ b → Summarizes s t → IsBottom IsUnion s.width 0 b t
 at_root s b t none is h = subst (λ u. IsBottom IsUnion s.width 0 b u) (sym (levels_none s.width s.levels t h.0 h.1 none)) (rw (← none, ← is) h.2)
 
-pub below_root : (F : Faults) → RefusesLists F → (s : Summary) (t : Tree) → 0 < s.levels → Summarizes s t → HasFault (F t) UnexpectedType
-below_root F refuses s t some h = ([], levels_refused F refuses s.width s.levels t h.0 some h.1)
+below_root : (F : Faults) → RefusesLists F → (s : Summary) → 0 < s.levels → (t : Tree) → Summarizes s t → HasFault (F t) UnexpectedType
+below_root F refuses s some t h = ([], levels_refused F refuses s.width s.levels t h.0 some h.1)
+
+pub below_mixed : (s : Summary) → 0 < s.levels → (t : Tree) → Summarizes s t → HasFault (MixedFault t) UnexpectedType
+below_mixed = below_root MixedFault mixed_refuses
+
+pub below_geometry : (s : Summary) → 0 < s.levels → (t : Tree) → Summarizes s t → HasFault (GeometryFault t) UnexpectedType
+below_geometry = below_root GeometryFault (λ x t b m. ((refl, refl), (refl, refl)))
+
+pub below_box : (s : Summary) → 0 < s.levels → (t : Tree) → Summarizes s t → HasFault (BoxFault t) UnexpectedType
+below_box = below_root BoxFault (λ x t b m. ((refl, refl), (refl, refl)))
 
 pub root_mixed : (w : Option ListWidth) (empty : Bool) (ids coords dims : ℕ) (fault geometry : Option LayoutFault) (u : Tree) (r : Answer)
     → IsBottom IsUnion w 0 (Union empty ids coords dims fault geometry) u → UnionSays empty fault coords dims r → TellsBoth r (Mixed u) (MixedFault u)

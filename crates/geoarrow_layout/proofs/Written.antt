@@ -1,8 +1,11 @@
--- What is written is read as what it was written for.
-use Rattle.geoarrow_layout.proofs.Terms.{◌≡◌, [], ◌∷◌, ◌++◌, true, false, refl, sym, subst, member_trees, CoordType, Interleaved, Separated, Dimension, XY, XYZ, XYM, XYZM, Lists, NativeKind, Point, LineString, Polygon, MultiPoint, MultiLineString, MultiPolygon, GeometryCollection, Plain, Kind, OfNative, OfGeometry, OfRect, OfWkb, OfWkt, Leaf, levels_of, Member, AllMembers, Collection, GeometryMember, Geometry, Native, BoxShape, Accepted, Under, leaf_layout, member_layout, mixed_members, native_layout, geometry_members, layout, HasTypeIds, over_leaf_layout, mixed_layout, dimension_members, IsWritten, IsWrittenSome}
+-- What is written is read as what it was written for, so the data types that are written are pairwise distinct.
+use Rattle.geoarrow_layout.proofs.Terms.{◌≡◌, [], ◌∷◌, ◌++◌, true, false, refl, sym, subst, member_trees, CoordType, Interleaved, Separated, Dimension, XY, XYZ, XYM, XYZM, Lists, NativeKind, Point, LineString, Polygon, MultiPoint, MultiLineString, MultiPolygon, GeometryCollection, Plain, Kind, OfNative, OfGeometry, OfRect, OfWkb, OfWkt, Leaf, levels_of, Member, AllMembers, Collection, GeometryMember, Geometry, Native, BoxShape, Accepted, Under, leaf_layout, member_layout, mixed_members, native_layout, geometry_members, layout, HasTypeIds, over_leaf_layout, mixed_layout, dimension_members, IsWritten, IsWrittenSome, cond, List, codes, ◌∙◌, ap, bytes_eq, Text, Tree, plain, list, struct, union, ExtensionName, extension_of, names_of}
 use Rattle.geoarrow_layout.specs.Shapes.{SameNames}
 use Rattle.geoarrow_layout.proofs.MemberLists.{all_map, all_both}
 use Rattle.geoarrow_layout.proofs.Parts.{to_part}
+use Rattle.geoarrow_layout.specs.declared.names.ExtensionName.TheVariants as names
+use Rattle.geoarrow_layout.proofs.KindSteps.{same_kind}
+use Rattle.geoarrow_layout.proofs.NamesSteps.{plain_name}
 
 pub written_leaf : (c : CoordType) (d : Dimension) → Leaf (leaf_layout c d) c d
 unfolding SameNames
@@ -73,3 +76,34 @@ mixed_ids c _ = refl
 
 pub geometry_ids : (c : CoordType) → HasTypeIds (geometry_members c)
 geometry_ids c = refl
+
+-- what a written data type says of its extension name
+abbrev kind_named : Text → NativeKind
+kind_named n =
+    cond (bytes_eq n (codes "vertices")) LineString (cond (bytes_eq n (codes "rings")) Polygon (cond (bytes_eq n (codes "points")) MultiPoint
+    (cond (bytes_eq n (codes "linestrings")) MultiLineString (cond (bytes_eq n (codes "polygons")) MultiPolygon GeometryCollection))))
+
+abbrev struct_name : List Text → ExtensionName
+struct_name (a ∷ ns) = cond (bytes_eq a (codes "xmin")) names.Rect (names.Native Point)
+struct_name _ = names.Rect
+
+abbrev name_in : Tree → ExtensionName
+name_in (plain p) = plain_name p
+name_in (list n t b m) = names.Native (kind_named n)
+name_in (struct fs) = struct_name (names_of fs)
+name_in (union ms mode) = names.Geometry
+name_in _ = names.Native Point
+
+name_back : (k : Kind) → name_in (layout k) ≡ extension_of k
+name_back (OfNative Point Interleaved d) = refl
+name_back (OfNative Point Separated XY) = refl
+name_back (OfNative Point c d) = refl
+name_back (OfNative k c d) = refl
+name_back (OfGeometry c) = refl
+name_back (OfRect XY) = refl
+name_back (OfWkb Plain) = refl
+name_back (OfWkt Plain) = refl
+name_back _ = refl
+
+pub layouts_are_distinct : (j k : Kind) → layout j ≡ layout k → j ≡ k
+layouts_are_distinct j k same = same_kind (layout k) j k (sym (name_back j) ∙ ap name_in same ∙ name_back k) (subst (Accepted j) same (written j)) (written k)

@@ -60,26 +60,19 @@ BoxFault _ p f = Here UnexpectedType p f
 
 -- ---- lists
 
--- inside a list of width w: n more levels of that width, over a data type of which F says the fault
-abbrev pub LevelFault : Faults → ListWidth → ℕ → Faults
-LevelFault F w zero t p f = F t p f
-LevelFault F Lists (suc n) (list name t b m) p f = InItem (LevelFault F Lists n t) p f
-LevelFault F LargeLists (suc n) (large_list name t b m) p f = InItem (LevelFault F LargeLists n t) p f
-LevelFault F Lists (suc n) (large_list name t b m) p f = Here MixedWidths p f
-LevelFault F LargeLists (suc n) (list name t b m) p f = Here MixedWidths p f
-LevelFault F w (suc n) _ p f = Here UnexpectedType p f
-
--- n levels of one width, over a data type of which F says the fault
-abbrev pub ListsFault : Faults → ℕ → Faults
-ListsFault F zero t p f = F t p f
-ListsFault F (suc n) (list name t b m) p f = InItem (LevelFault F Lists n t) p f
-ListsFault F (suc n) (large_list name t b m) p f = InItem (LevelFault F LargeLists n t) p f
-ListsFault F (suc n) _ p f = Here UnexpectedType p f
+-- n levels of one width, or, inside a list, of the width of that list, over a data type of which F says the fault
+abbrev pub LevelsFault : Faults → Option ListWidth → ℕ → Faults
+LevelsFault F w zero t p f = F t p f
+LevelsFault F (Some LargeLists) (suc n) (list name t b m) p f = Here MixedWidths p f
+LevelsFault F (Some Lists) (suc n) (large_list name t b m) p f = Here MixedWidths p f
+LevelsFault F w (suc n) (list name t b m) p f = InItem (LevelsFault F (Some Lists) n t) p f
+LevelsFault F w (suc n) (large_list name t b m) p f = InItem (LevelsFault F (Some LargeLists) n t) p f
+LevelsFault F w (suc n) _ p f = Here UnexpectedType p f
 
 -- the lists of a native kind over a coordinate; a collection is not allowed there
 abbrev pub OverLeafFault : NativeKind → Faults
 OverLeafFault GeometryCollection t p f = Here BadTypeId p f
-OverLeafFault k t p f = ListsFault CoordinateFault (levels_of k) t p f
+OverLeafFault k t p f = LevelsFault CoordinateFault None (levels_of k) t p f
 
 -- ---- unions
 
@@ -119,7 +112,7 @@ MixedFault _ p f = Here UnexpectedType p f
 
 -- a native kind; a collection is one list over that union
 abbrev pub NativeFault : NativeKind → Faults
-NativeFault GeometryCollection t p f = ListsFault MixedFault 1 t p f
+NativeFault GeometryCollection t p f = LevelsFault MixedFault None 1 t p f
 NativeFault k t p f = OverLeafFault k t p f
 
 -- a member of a geometry

@@ -5,7 +5,7 @@ use Rattle.arrow_values.specs.Tree.{Text, Tree, plain, list, large_list, fixed_s
 use Rattle.geoarrow_layout.specs.Kinds.{interleaved_name, order_of}
 use Rattle.geoarrow_layout.specs.Shapes.{names_of, ListsOver, Member, GeometryMember, HasMembers, AllMembers, SomeMember, OverLeaf, Native}
 use Rattle.geoarrow_layout.specs.Inferred.{is_float64, are_float64}
-use Rattle.geoarrow_layout.specs.FaultAt.{Faults, HasFault, FirstFault, MemberFault, GeometryMemberFault, Path, Located, CoordinateFault, LevelFault, ListsFault, OverLeafFault, PartFault, NativeFault}
+use Rattle.geoarrow_layout.specs.FaultAt.{Faults, HasFault, FirstFault, MemberFault, GeometryMemberFault, Path, Located, OverLeafFault, PartFault, NativeFault}
 
 -- bit i of the number, counted from the lowest, is set exactly if P holds for i
 unfoldable pub IsBits : ℕ → (ℕ → Type 0) → Type 0
@@ -173,11 +173,6 @@ LeadsTo F before after = (p : Path) (f : LayoutFault) → F p f → after ≡ be
 -- a fault of the data type itself
 abbrev pub StaysHere : Located → Type 0
 StaysHere F = (p : Path) (f : LayoutFault) → F p f → p ≡ []
-
--- so many levels of a width, or of either, over a coordinate
-abbrev pub LevelsFault : Option ListWidth → ℕ → Faults
-LevelsFault None n t p f = ListsFault CoordinateFault n t p f
-LevelsFault (Some w) n t p f = LevelFault CoordinateFault w n t p f
 
 -- the first member with a fault and its fault, or, where each is read, the union itself
 abbrev pub FirstOrNone : (ℤ → Tree → CoordType → Dimension → Type 0) → (ℤ → Faults) → MemberTrees → Located

@@ -27,11 +27,10 @@ pub use Rattle.geoarrow_layout.specs.declared.summary.Bottom.TheVariants.{Deep, 
 pub use Rattle.geoarrow_layout.specs.declared.summary.ListWidth.{ListWidth}
 pub use Rattle.geoarrow_layout.specs.declared.summary.ListWidth.TheVariants.{LargeList as LargeLists, List as Lists}
 pub use Rattle.geoarrow_layout.specs.declared.summary.Summary.{Summary}
-pub use Rattle.std.proofs.Common.{ap, arith, inl, inr, refl, subst, sym, ◌∙◌}
+pub use Rattle.std.proofs.Common.{ap, arith, inl, inr, refl, sym, ◌∙◌}
 pub use Rattle.std.proofs.lemmas.Slice.Eq.{bytes_eq-Decides}
 pub use Rattle.std.specs.Fmt.{decimal}
 pub use Rattle.std.specs.Int.{bit_at}
 pub use Rattle.std.specs.List.{list_all, list_any}
-pub use Rattle.std.specs.Ordering.{int_eq}
-pub use Rattle.std.specs.Prelude.{Bool, Contains, Err, List, MatchOption, MatchResult, None, Ok, Option, Result, Some, [], codes, cond, false, length, map, nat_eq, not, pos, string_bytes, suc, true, zero, ℕ, ℤ, ⊤}
+pub use Rattle.std.specs.Prelude.{Bool, Contains, Err, List, MatchOption, MatchResult, None, Ok, Option, Result, Some, [], codes, cond, false, length, map, nat_eq, pos, string_bytes, suc, true, zero, ℕ, ℤ}
 pub use Rattle.std.specs.Str.{bytes_eq}

@@ -3,8 +3,8 @@ ghost use Rattle.std.specs.Prelude.{◌≡◌, None, Some, IfOk, OnOk, MatchOpti
 ghost use Rattle.arrow_values.specs.View.{tree, field_trees, member_trees};
 ghost use Rattle.geoarrow_layout.specs.Kinds.{name_text};
 ghost use Rattle.geoarrow_layout.specs.Candidates.{IsAccepted};
-ghost use Rattle.geoarrow_layout.specs.FaultAt.{Path, ListsFault, OverLeafFault, MixedFault, NativeFault, GeometryFault, FaultAt, child_at, field_at, member_at};
-ghost use Rattle.geoarrow_layout.specs.Summary.{LeadsTo, LevelsFault, FirstOrNone, StaysHere, MemberIn, MemberFaultIn, NativeFaultIn};
+ghost use Rattle.geoarrow_layout.specs.FaultAt.{Path, CoordinateFault, LevelsFault, OverLeafFault, MixedFault, NativeFault, GeometryFault, FaultAt, child_at, field_at, member_at};
+ghost use Rattle.geoarrow_layout.specs.Summary.{LeadsTo, FirstOrNone, StaysHere, MemberIn, MemberFaultIn, NativeFaultIn};
 
 use crate::encodings::{NativeKind, levels, parts_of_id};
 use crate::fault::LayoutFault;
@@ -114,7 +114,7 @@ fn push_levels(
     levels: u8,
     data_type: &DataType,
 ) -> Result<(), AllocError>
-    ensures { OnOk result (LeadsTo (LevelsFault width levels (tree data_type.now)) path.old.items path.new.items) }
+    ensures { OnOk result (LeadsTo (LevelsFault CoordinateFault width levels (tree data_type.now)) path.old.items path.new.items) }
 {
     if levels == 0 {
         return Ok(());
@@ -130,7 +130,7 @@ fn push_levels(
 
 /// Adds the path to the fault as a collection.
 fn push_collection(path: &mut Vec<usize>, data_type: &DataType) -> Result<(), AllocError>
-    ensures { OnOk result (LeadsTo (ListsFault MixedFault 1 (tree data_type.now)) path.old.items path.new.items) }
+    ensures { OnOk result (LeadsTo (LevelsFault MixedFault None 1 (tree data_type.now)) path.old.items path.new.items) }
 {
     match data_type {
         DataType::List(item) | DataType::LargeList(item) => {

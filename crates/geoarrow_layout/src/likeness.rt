@@ -1,11 +1,10 @@
 //! Data types that no reader distinguishes, and unions that lose or gain members.
-ghost use Rattle.std.specs.Prelude.{◌≡◌, ◌&&◌, ◌↔◌, IsTrue, ◌≢◌, ◌++◌, [], None, IsOk, IfErr, OnOk, OnErr};
+ghost use Rattle.std.specs.Prelude.{◌≡◌, ◌↔◌, IsTrue, ◌≢◌, ◌++◌, [], None, IsOk, IfErr, OnOk, OnErr};
 ghost use Rattle.std.specs.List.{list_any, list_all};
-ghost use Rattle.std.specs.Ordering.{int_eq};
 ghost use Rattle.std.specs.Str.{bytes_eq};
 ghost use Rattle.arrow_values.specs.View.{tree, field_trees, member_trees};
-ghost use Rattle.geoarrow_layout.specs.Shapes.{names_of, has_name};
-ghost use Rattle.geoarrow_layout.specs.Alike.{Alike, some_member, all_members, has_member, is_repeated, alike_names, alike_of, each_has_alike, has_alike, is_met};
+ghost use Rattle.geoarrow_layout.specs.Shapes.{names_of, has_name, SameNames, AllMembers, SomeMember};
+ghost use Rattle.geoarrow_layout.specs.Alike.{Alike, AlikeNames, EachHasAlike, HasAlike};
 ghost use Rattle.arrow_values.specs.Tree.{Members};
 ghost use Rattle.arrow_values.specs.Union.{HasTypeIds, retained, shared_id};
 ghost use Rattle.arrow_values.specs.Errors.{fault_id};
@@ -27,7 +26,6 @@ use arrow_values::{AppendFault, DataType, Field, UnionFields};
 /// let points = list_data_type(alloc, NativeKind::MultiPoint, separated, xy)?;
 /// assert!(rt; lines != points && alike(&lines, &points));
 /// ```
-#[tactic(auto, using(crate::proofs::AlikeDecides::alike_decides))]
 pub fn alike(a: &DataType, b: &DataType) -> bool
     ensures { IsTrue result ↔ Alike (tree a.now) (tree b.now) }
 {
@@ -37,7 +35,7 @@ pub fn alike(a: &DataType, b: &DataType) -> bool
 /// The test that `alike` makes.
 #[cycle(same)]
 fn same(a: &DataType, b: &DataType) -> bool
-    ensures { result ≡ alike_of (tree a.now) (tree b.now) }
+    ensures { IsTrue result ↔ Alike (tree a.now) (tree b.now) }
 {
     match (a, b) {
         (DataType::List(f), DataType::List(g)) => same(f.data_type(), g.data_type()),
@@ -58,7 +56,7 @@ fn same(a: &DataType, b: &DataType) -> bool
 /// Whether each member has an alike one of the same id among the others.
 #[cycle(same)]
 fn each_has_same(members: &UnionFields, others: &UnionFields) -> bool
-    ensures { result ≡ each_has_alike (member_trees members.now) (member_trees others.now) }
+    ensures { IsTrue result ↔ EachHasAlike (member_trees members.now) (member_trees others.now) }
 {
     for member in members.as_slice() {
         if !any_same(member, others) {
@@ -71,7 +69,7 @@ fn each_has_same(members: &UnionFields, others: &UnionFields) -> bool
 /// Whether some of the others has the member's id and is alike.
 #[cycle(same)]
 fn any_same(member: &(i8, Field), others: &UnionFields) -> bool
-    ensures { result ≡ some_member (λ j u. int_eq member.now.0 j && alike_of member.now.1.tree u) (member_trees others.now) }
+    ensures { IsTrue result ↔ SomeMember (λ j u. (member.now.0 ≡ j) × Alike member.now.1.tree u) (member_trees others.now) }
 {
     for (id, field) in others.as_slice() {
         if member.0 == *id && same(member.1.data_type(), field.data_type()) {
@@ -84,7 +82,8 @@ fn any_same(member: &(i8, Field), others: &UnionFields) -> bool
 /// Whether each of the others has an alike member of the same id, where each member is known to have one among them.
 #[cycle(same)]
 fn all_are_met(members: &UnionFields, others: &UnionFields) -> bool
-    ensures { result ≡ all_members (is_met (member_trees members.now) (member_trees others.now)) (member_trees others.now) }
+    requires { EachHasAlike (member_trees members.now) (member_trees others.now) }
+    ensures { IsTrue result ↔ AllMembers (HasAlike (member_trees members.now)) (member_trees others.now) }
 {
     for other in others.as_slice() {
         if !is_met(members, others, other) {
@@ -94,22 +93,24 @@ fn all_are_met(members: &UnionFields, others: &UnionFields) -> bool
     true
 }
 
-/// Whether one of the others is met by a member. It goes down again only where its id stands twice among the others.
+/// Whether one of the others is met by a member, where each member is known to have an alike one among them. It goes down
+/// again only where another data type stands among them under the same id.
 #[cycle(same)]
 fn is_met(members: &UnionFields, others: &UnionFields, other: &(i8, Field)) -> bool
-    ensures { result ≡ is_met (member_trees members.now) (member_trees others.now) other.now.0 other.now.1.tree }
+    requires { EachHasAlike (member_trees members.now) (member_trees others.now) }
+    ensures { IsTrue result ↔ HasAlike (member_trees members.now) other.now.0 other.now.1.tree }
 {
-    if is_repeated(other, others) {
-        has_same(members, other)
+    if is_only(other, others) {
+        has_id(other, members)
     } else {
-        has_member(other, members)
+        has_same(members, other)
     }
 }
 
 /// Whether some member has the other's id and is alike.
 #[cycle(same)]
 fn has_same(members: &UnionFields, other: &(i8, Field)) -> bool
-    ensures { result ≡ has_alike (member_trees members.now) other.now.0 other.now.1.tree }
+    ensures { IsTrue result ↔ HasAlike (member_trees members.now) other.now.0 other.now.1.tree }
 {
     for (id, field) in members.as_slice() {
         if *id == other.0 && same(field.data_type(), other.1.data_type()) {
@@ -120,8 +121,8 @@ fn has_same(members: &UnionFields, other: &(i8, Field)) -> bool
 }
 
 /// Whether some member has the other's id.
-fn has_member(other: &(i8, Field), members: &UnionFields) -> bool
-    ensures { result ≡ has_member other.now.0 (member_trees members.now) }
+fn has_id(other: &(i8, Field), members: &UnionFields) -> bool
+    ensures { IsTrue result ↔ SomeMember (λ i t. i ≡ other.now.0) (member_trees members.now) }
 {
     for member in members.as_slice() {
         if member.0 == other.0 {
@@ -131,35 +132,46 @@ fn has_member(other: &(i8, Field), members: &UnionFields) -> bool
     false
 }
 
-/// Whether two members have the other's id.
-fn is_repeated(other: &(i8, Field), members: &UnionFields) -> bool
-    ensures { result ≡ is_repeated other.now.0 (member_trees members.now) }
+/// Whether each member with the other's id has its data type.
+fn is_only(other: &(i8, Field), members: &UnionFields) -> bool
+    ensures { IsTrue result → AllMembers (λ i t. i ≡ other.now.0 → t ≡ other.now.1.tree) (member_trees members.now) }
 {
-    let mut is_found = false;
     for member in members.as_slice() {
-        if member.0 == other.0 {
-            if is_found {
-                return true;
-            }
-            is_found = true;
+        if !is_same_or_apart(member, other) {
+            return false;
         }
     }
-    false
+    true
+}
+
+/// Whether the two members have one data type if they have one id.
+fn is_same_or_apart(member: &(i8, Field), other: &(i8, Field)) -> bool
+    ensures { IsTrue result → member.now.0 ≡ other.now.0 → member.now.1.tree ≡ other.now.1.tree }
+{
+    member.0 != other.0 || *member.1.data_type() == *other.1.data_type()
 }
 
 /// Whether structs of these fields are alike.
-#[tactic(auto, using(crate::proofs::AlikeDecides::struct_differ, crate::proofs::AlikeDecides::struct_other))]
+#[tactic(auto, using(crate::proofs::FieldSteps::length_names))]
 fn same_struct(fields: &[Field], others: &[Field]) -> bool
-    ensures { result ≡ alike_names (names_of (field_trees fields.now)) (names_of (field_trees others.now)) }
+    ensures { IsTrue result ↔ AlikeNames (names_of (field_trees fields.now)) (names_of (field_trees others.now)) }
 {
     if fields.len() != others.len() {
         return false;
     }
     if fields.len() == 3 || fields.len() == 6 {
-        are_all_named(fields, others) && are_all_named(others, fields)
+        same_names(fields, others)
     } else {
         true
     }
+}
+
+/// Whether the fields have the same set of names.
+#[tactic(auto, using(crate::proofs::FieldSteps::same_decides))]
+fn same_names(fields: &[Field], others: &[Field]) -> bool
+    ensures { IsTrue result ↔ SameNames (names_of (field_trees fields.now)) (names_of (field_trees others.now)) }
+{
+    are_all_named(fields, others) & are_all_named(others, fields)
 }
 
 /// Whether each field's name is among those of the others.

@@ -6,7 +6,7 @@ ghost use Rattle.std.specs.Prelude.{false, IfErr, IfOk, ◌≡◌, IfSome, ◌�
 ghost use Rattle.arrow_values.specs.View.{tree, field_trees};
 ghost use Rattle.geoarrow_layout.specs.Shapes.{Answers, AnswersOne, Leaf, Under, Native, Mixed, Collection, Geometry, BoxShape, IsBytes, IsText, Accepts, AnswersKind, IsStructured, IsSeparatedAs, IsBoxAs, names_of};
 ghost use Rattle.geoarrow_layout.specs.Kinds.{name_text, extension_of, name_of};
-ghost use Rattle.geoarrow_layout.specs.FaultAt.{HasFault, BoxFault, MixedFault, NativeFault, GeometryFault, FaultAt, SeparatedFault, CoordinateFault, BoxNamesFault, ListsFault};
+ghost use Rattle.geoarrow_layout.specs.FaultAt.{HasFault, BoxFault, MixedFault, NativeFault, GeometryFault, FaultAt, SeparatedFault, CoordinateFault, BoxNamesFault, LevelsFault};
 ghost use Rattle.arrow_values.specs.Tree.{Tree, Text, struct};
 ghost use Rattle.geoarrow_layout.specs.Summary.{AreOf, IsCoordFault, Summarizes, IsBits, SomeAt, IsBottom, IsUnion, Tells, IsNoLeaf, ShowsIn, NativeIn, NativeFaultIn, MemberIn, MemberFaultIn, TellsBoth, missing_fault, IsOtherFault, UnionSays, has_bit};
 ghost use Rattle.geoarrow_layout.specs.Candidates.{Holds, IsAccepted};
@@ -89,9 +89,18 @@ pub fn parse_multipolygon(data_type: &DataType) -> Result<(CoordType, Dimension)
 /// Reads the union in a collection (GeoArrow, "GeometryCollection"): a union of at least one member, where each member
 /// is of the kind and the dimension that its type id says, no collection among them, and all are of one coordinate type
 /// and dimension. Errs on any other data type. Allocates nothing.
+#[tactic(auto, using(crate::proofs::KindSteps::mixed_exact, crate::proofs::Readings::told_fault))]
 pub fn parse_mixed(data_type: &DataType) -> Result<(CoordType, Dimension), LayoutFault>
     ensures exact { Answers result (Mixed (tree data_type.now)) }
     ensures fault { IfErr result (HasFault (MixedFault (tree data_type.now))) }
+{
+    mixed_read(data_type)
+}
+
+/// The union in a collection, or its fault.
+#[inline(always)]
+fn mixed_read(data_type: &DataType) -> Answer
+    ensures { TellsBoth result (Mixed (tree data_type.now)) (MixedFault (tree data_type.now)) }
 {
     mixed(&summarize(data_type))
 }
@@ -110,20 +119,38 @@ pub fn parse_geometry_collection(
 /// Reads geometries of any kind (GeoArrow, "Geometry"): a union of at least one member, where each member is of the
 /// kind and the dimension that its type id says, collections among them, and all are of one coordinate type. Errs on
 /// any other data type. Allocates nothing.
+#[tactic(auto, using(crate::proofs::KindSteps::geometry_exact, crate::proofs::Readings::told_fault))]
 pub fn parse_geometry(data_type: &DataType) -> Result<CoordType, LayoutFault>
     ensures exact { AnswersOne result (Geometry (tree data_type.now)) }
     ensures fault { IfErr result (HasFault (GeometryFault (tree data_type.now))) }
+{
+    geometry_read(data_type)
+}
+
+/// A geometry, or its fault.
+#[inline(always)]
+fn geometry_read(data_type: &DataType) -> Result<CoordType, LayoutFault>
+    ensures { Tells result (Geometry (tree data_type.now)) (GeometryFault (tree data_type.now)) }
 {
     geometry(&summarize(data_type))
 }
 
 /// Reads a native kind, as its own reader does. Errs on any data type that is not of that kind. Allocates nothing.
+#[tactic(auto, using(crate::proofs::Readings::told_fault))]
 pub fn parse_native(
     kind: NativeKind,
     data_type: &DataType,
 ) -> Result<(CoordType, Dimension), LayoutFault>
     ensures exact { Answers result (Native (tree data_type.now) kind) }
     ensures fault { IfErr result (HasFault (NativeFault kind (tree data_type.now))) }
+{
+    native_read(kind, data_type)
+}
+
+/// A native kind, or its fault.
+#[inline(always)]
+fn native_read(kind: NativeKind, data_type: &DataType) -> Answer
+    ensures { TellsBoth result (Native (tree data_type.now) kind) (NativeFault kind (tree data_type.now)) }
 {
     native(true, kind, &summarize(data_type))
 }
@@ -180,9 +207,18 @@ fn kind_read(name: ExtensionName, data_type: &DataType) -> Result<Kind, LayoutFa
 
 /// Reads a box (GeoArrow, "Box"): a struct of four fields or of eight, or of six fields that include `mmin` and `mmax` or,
 /// failing that, `zmin` and `zmax`. Errs on any other data type. Allocates nothing.
+#[tactic(auto, using(crate::proofs::KindSteps::box_exact, crate::proofs::Readings::told_fault))]
 pub fn parse_box(data_type: &DataType) -> Result<Dimension, LayoutFault>
     ensures exact { AnswersOne result (BoxShape (tree data_type.now)) }
     ensures fault { IfErr result (HasFault (BoxFault (tree data_type.now))) }
+{
+    box_read(data_type)
+}
+
+/// A box, or its fault.
+#[inline(always)]
+fn box_read(data_type: &DataType) -> Result<Dimension, LayoutFault>
+    ensures { Tells result (BoxShape (tree data_type.now)) (BoxFault (tree data_type.now)) }
 {
     boxed(&summarize(data_type))
 }
@@ -448,6 +484,7 @@ fn separated_dimension(count: usize, names: u16) -> Result<Dimension, LayoutFaul
 }
 
 /// A coordinate.
+#[tactic(auto, using(crate::proofs::Structs::struct_leaf))]
 fn leaf(bottom: &Bottom) -> Answer
     ensures { (w : Option ListWidth) (levels : ℕ) (u : Tree) → IsBottom IsNoLeaf w levels bottom.now u → TellsBoth result (Leaf u) (CoordinateFault u) }
 {
@@ -491,7 +528,7 @@ fn missing_level(bottom: &Bottom) -> LayoutFault
 /// So many lists over a coordinate.
 fn leaf_under(summary: &Summary, levels: u8) -> Answer
     requires { levels ≤ 3 }
-    ensures { (t : Tree) → ShowsIn false summary.now t → TellsBoth result (Under Leaf levels t) (ListsFault CoordinateFault levels t) }
+    ensures { (t : Tree) → ShowsIn false summary.now t → TellsBoth result (Under Leaf levels t) (LevelsFault CoordinateFault None levels t) }
 {
     if summary.levels < levels {
         return Err(missing_level(&summary.bottom));
@@ -540,7 +577,7 @@ fn both_of_union(
 
 /// A list over a union of members of one coordinate type and dimension.
 fn collection(summary: &Summary) -> Answer
-    ensures { (t : Tree) → ShowsIn true summary.now t → TellsBoth result (Collection t) (ListsFault MixedFault 1 t) }
+    ensures { (t : Tree) → ShowsIn true summary.now t → TellsBoth result (Collection t) (LevelsFault MixedFault None 1 t) }
 {
     if summary.levels < 1 {
         return Err(missing_level(&summary.bottom));
@@ -599,6 +636,7 @@ pub(crate) fn member(collections: bool, id: i8, summary: &Summary) -> Answer
 }
 
 /// A union of members of one coordinate type and dimension.
+#[tactic(auto, using(crate::proofs::UnionSteps::root_mixed, crate::proofs::UnionSteps::at_root))]
 pub(crate) fn mixed(summary: &Summary) -> Answer
     ensures { (t : Tree) → Summarizes summary.now t → TellsBoth result (Mixed t) (MixedFault t) }
 {
@@ -618,6 +656,7 @@ pub(crate) fn mixed(summary: &Summary) -> Answer
 }
 
 /// A union of members of one coordinate type.
+#[tactic(auto, using(crate::proofs::UnionSteps::root_geometry, crate::proofs::UnionSteps::at_root))]
 pub(crate) fn geometry(summary: &Summary) -> Result<CoordType, LayoutFault>
     ensures { (t : Tree) → Summarizes summary.now t → Tells result (Geometry t) (GeometryFault t) }
 {
@@ -666,6 +705,7 @@ fn box_dimension(count: usize, names: u16) -> Result<Dimension, LayoutFault>
 }
 
 /// A box.
+#[tactic(auto, using(crate::proofs::Structs::root_box, crate::proofs::UnionSteps::at_root))]
 pub(crate) fn boxed(summary: &Summary) -> Result<Dimension, LayoutFault>
     ensures { (t : Tree) → Summarizes summary.now t → Tells result (BoxShape t) (BoxFault t) }
 {

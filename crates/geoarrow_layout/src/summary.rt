@@ -187,6 +187,7 @@ pub(crate) fn list_item(
 }
 
 /// Goes down the levels from the one that was reached, to the third at most.
+#[tactic(auto, using(crate::proofs::Bottoms::level_more))]
 fn descend<'a>(width: Option<ListWidth>, levels: u8, data_type: &'a DataType) -> Below<'a>
     requires { MatchOption width (levels ≡ 0) (λ w. (0 < levels) × (levels ≤ 3)) }
     ensures over { (root : Tree) → AreLevels width levels root (tree data_type.now) → AreLevels result.width result.levels root (tree result.rest.now) }
@@ -241,6 +242,7 @@ fn leaf_bottom(below: &Below<'_>) -> Bottom
 }
 
 /// The set of type ids with one more; ids that are not from 0 to 63 are left out.
+#[tactic(auto, using(crate::proofs::FieldSteps::id_outside, crate::proofs::FieldSteps::id_between))]
 fn with_id(ids: u64, id: i8) -> u64
     ensures { AddsBits ids (λ i. (i < 64) × (id ≡ pos i)) result }
 {
@@ -274,7 +276,7 @@ struct Members {
 }
 
 /// What was seen with one member more, of that type id and read as that.
-#[tactic(auto, using(crate::proofs::BitSteps::number_added, crate::proofs::BitSteps::number_kept))]
+#[tactic(auto, using(crate::proofs::FieldSteps::number_added, crate::proofs::FieldSteps::number_kept))]
 fn with_member(seen: Members, id: i8, part: &Answer) -> Members
     ensures ids { AddsBits seen.ids (λ i. (i < 64) × (id ≡ pos i)) result.ids }
     ensures coord_types { AddsBits seen.coord_types (ReadAt (λ x. place_of x.0) part.now) result.coord_types }
@@ -412,6 +414,7 @@ pub fn summarize(data_type: &DataType) -> Summary
 }
 
 /// The set with one number more.
+#[tactic(auto, using(crate::proofs::FieldSteps::adds_bit_8))]
 pub(crate) fn with_bit_u8(bits: u8, i: u8) -> u8
     requires { i < 8 }
     ensures { AddsBit bits i result }
@@ -420,6 +423,7 @@ pub(crate) fn with_bit_u8(bits: u8, i: u8) -> u8
 }
 
 /// The set with one number more.
+#[tactic(auto, using(crate::proofs::FieldSteps::adds_bit_16))]
 pub(crate) fn with_bit_u16(bits: u16, i: u8) -> u16
     requires { i < 16 }
     ensures { AddsBit bits i result }
@@ -428,6 +432,7 @@ pub(crate) fn with_bit_u16(bits: u16, i: u8) -> u16
 }
 
 /// The set with one number more.
+#[tactic(auto, using(crate::proofs::FieldSteps::adds_bit_64))]
 pub(crate) fn with_bit_u64(bits: u64, i: u8) -> u64
     requires { i < 64 }
     ensures { AddsBit bits i result }

@@ -1,4 +1,4 @@
-use Rattle.geoarrow_layout.proofs.Distinct as law
+use Rattle.geoarrow_layout.proofs.Written as law
 use Rattle.geoarrow_layout.proofs.laws.layouts_are_distinct.Goals as goal
 
 pub returns : goal.returns

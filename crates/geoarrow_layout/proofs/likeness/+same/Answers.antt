@@ -1,4 +1,5 @@
-use Rattle.geoarrow_layout.proofs.Terms.{◌≡◌, ℕ, zero, suc, ◌<◌, ◌+◌, ℤ, Bool, true, ◌&&◌, List, [], ◌∷◌, length, get_or, drop, sym, ap, ◌∙◌, subst, arith, ◌*◌, drop_more, FieldTree, MemberTrees, depth, member_trees, members_size, each_has_alike, some_member, alike_of, int_eq}
+use Rattle.geoarrow_layout.proofs.Terms.{◌≡◌, ◌↔◌, inl, inr, ℕ, zero, suc, ◌<◌, ◌+◌, ◌*◌, ◌∙◌, ℤ, List, [], ◌∷◌, length, get_or, drop, drop_more, sym, ap, subst, true≢false, arith, FieldTree, Tree, MemberTrees, no_members, member, depth, members_size, member_trees, AllMembers, SomeMember, Alike, EachHasAlike, HasAlike}
+use Rattle.geoarrow_layout.proofs.MemberLists.{all_some}
 use Rattle.geoarrow_layout.proofs.likeness.+same.Goals as goal
 
 -- a member lies less deep than its union
@@ -12,15 +13,39 @@ element_depth : (ms xs : List (ℤ × FieldTree)) (k : ℕ) (x : ℤ × FieldTre
 element_depth ms xs k x same lt at =
     subst (λ zs. depth x.1.tree < members_size zs) same (subst (λ y. depth y.1.tree < members_size xs) (sym at) (member_depth xs k x lt))
 
--- the first of what is left
-each_next : (xs : List (ℤ × FieldTree)) (ms ns : MemberTrees) (k : ℕ) (x : ℤ × FieldTree) (r : Bool) → k < length xs → x ≡ get_or xs k x → r ≡ some_member (λ j u. int_eq x.0 j && alike_of x.1.tree u) ns → r ≡ true → each_has_alike (member_trees (drop k xs)) ns ≡ each_has_alike ms ns → each_has_alike (member_trees (drop (k + 1) xs)) ns ≡ each_has_alike ms ns
-each_next xs ms ns k x r lt at is found before =
-    ap (λ b. b && each_has_alike (member_trees (drop (k + 1) xs)) ns) (sym found ∙ is ∙ ap (λ y. some_member (λ j u. int_eq y.0 j && alike_of y.1.tree u) ns) at)
-    ∙ ap (λ ys. each_has_alike (member_trees ys) ns) (sym (drop_more xs k x lt)) ∙ before
+-- where the loop stands: the first of the members that are left has an alike one, and the rest have
+each_left : (xs : List (ℤ × FieldTree)) (ns : MemberTrees) (k : ℕ) (x : ℤ × FieldTree) → k < length xs → x ≡ get_or xs k x → EachHasAlike (member_trees (drop k xs)) ns ↔ (SomeMember (λ j u. (x.0 ≡ j) × Alike x.1.tree u) ns × EachHasAlike (member_trees (drop (k + 1) xs)) ns)
+each_left xs ns k x lt at =
+    subst (λ ys. EachHasAlike (member_trees ys) ns ↔ (SomeMember (λ j u. (x.0 ≡ j) × Alike x.1.tree u) ns × EachHasAlike (member_trees (drop (k + 1) xs)) ns))
+    (sym (drop_more xs k x lt ∙ ap (λ y. y ∷ drop (k + 1) xs) (sym at))) (λ h. h, λ h. h)
+
+pub each_has_same-returns-then-not-any_same : goal.each_has_same-returns-then-not-any_same
+each_has_same-returns-then-not-any_same t c =
+    let left = each_left _ _ _ _ c.loop-member-test.true c.member-item.is in
+    (λ h. absurd (true≢false (sym h)), λ h. sym c.if-not-any_same.true ∙ c.any_same.ensures.1 (left.0 (c.loop-member.invariant.1 h)).0)
 
 pub each_has_same-loop-member-preserved : goal.each_has_same-loop-member-preserved
 each_has_same-loop-member-preserved t c =
-    each_next _ _ _ c.loop-member.member-index c.member-item.result c.any_same.result c.loop-member-test.true c.member-item.is c.any_same.ensures c.if-not-any_same.false c.loop-member.invariant
+    let left = each_left _ _ _ _ c.loop-member-test.true c.member-item.is in
+    (λ h. c.loop-member.invariant.0 (left.1 (c.any_same.ensures.0 c.if-not-any_same.false, h)), λ h. (left.0 (c.loop-member.invariant.1 h)).1)
+
+-- where each member of ms has an alike one in ns, and u alone stands under the id j there, a member with this id is alike to u
+only_alike : (ms ns : MemberTrees) (j : ℤ) (u : Tree) → EachHasAlike ms ns → AllMembers (λ k v. k ≡ j → v ≡ u) ns → SomeMember (λ i t. i ≡ j) ms ↔ HasAlike ms j u
+only_alike no_members ns j u each only = (λ h. h, λ h. h)
+only_alike (member i n t b m ms) ns j u each only =
+    let rest = only_alike ms ns j u each.1 only in
+    let alike : i ≡ j → Alike t u =
+    λ e. all_some (λ k v. k ≡ j → v ≡ u) (λ k v. (i ≡ k) × Alike t v) (Alike t u) (λ k v is p. subst (λ x. Alike t x) (is (sym p.0 ∙ e)) p.1) ns only each.0 in
+    (λ h. elim h [ inl e ↦ inl (e, alike e) | inr s ↦ inr (rest.0 s) ], λ h. elim h [ inl p ↦ inl p.0 | inr s ↦ inr (rest.1 s) ])
+
+pub is_met-returns-then-is_only : goal.is_met-returns-then-is_only
+is_met-returns-then-is_only t c =
+    let by = only_alike _ _ _ _ c.requires (c.is_only.ensures c.if-is_only.true) in
+    (λ h. by.0 (c.has_id.ensures.0 h), λ h. c.has_id.ensures.1 (by.1 h))
+
+pub same-returns-then-each_has_same : goal.same-returns-then-each_has_same
+same-returns-then-each_has_same t c =
+    rw (c.in-Union-Union.is-0, c.in-Union-Union.is-1) (λ h. (c.each_has_same.ensures.0 c.if-each_has_same.true, c.all_are_met.ensures.0 h), λ h. c.all_are_met.ensures.1 h.1)
 
 pub each_has_same-any_same-requires : goal.each_has_same-any_same-requires
 each_has_same-any_same-requires t c =

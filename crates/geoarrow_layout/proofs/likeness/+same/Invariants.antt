@@ -1,19 +1,18 @@
-use Rattle.geoarrow_layout.proofs.Terms.{◌≡◌, ◌&&◌, ◌+◌, ◌*◌, drop, int_eq, tree, member_trees, members_size, depth, alike_of, each_has_alike, all_members, some_member, has_alike, is_met}
+use Rattle.geoarrow_layout.proofs.Terms.{◌≡◌, ◌↔◌, ◌+◌, ◌*◌, drop, tree, member_trees, members_size, depth, AllMembers, SomeMember, Alike, EachHasAlike, HasAlike}
 use Rattle.geoarrow_layout.proofs.likeness.+same.Given as goal
 
 abbrev pub invariant-all_are_met-loop-other : goal.invariant-all_are_met-loop-other
-invariant-all_are_met-loop-other l =
-    all_members (is_met (member_trees l.members) (member_trees l.others)) (member_trees (drop l.other-index l.other-items)) ≡ all_members (is_met (member_trees l.members) (member_trees l.others)) (member_trees l.others)
+invariant-all_are_met-loop-other l = AllMembers (HasAlike (member_trees l.members)) (member_trees (drop l.other-index l.other-items)) ↔ AllMembers (HasAlike (member_trees l.members)) (member_trees l.others)
 
 abbrev pub invariant-any_same-loop-id : goal.invariant-any_same-loop-id
 invariant-any_same-loop-id l =
-    some_member (λ j u. int_eq l.member.0 j && alike_of l.member.1.tree u) (member_trees (drop l.id-index l.id-items)) ≡ some_member (λ j u. int_eq l.member.0 j && alike_of l.member.1.tree u) (member_trees l.others)
+    SomeMember (λ j u. (l.member.0 ≡ j) × Alike l.member.1.tree u) (member_trees (drop l.id-index l.id-items)) ↔ SomeMember (λ j u. (l.member.0 ≡ j) × Alike l.member.1.tree u) (member_trees l.others)
 
 abbrev pub invariant-each_has_same-loop-member : goal.invariant-each_has_same-loop-member
-invariant-each_has_same-loop-member l = each_has_alike (member_trees (drop l.member-index l.member-items)) (member_trees l.others) ≡ each_has_alike (member_trees l.members) (member_trees l.others)
+invariant-each_has_same-loop-member l = EachHasAlike (member_trees (drop l.member-index l.member-items)) (member_trees l.others) ↔ EachHasAlike (member_trees l.members) (member_trees l.others)
 
 abbrev pub invariant-has_same-loop-id : goal.invariant-has_same-loop-id
-invariant-has_same-loop-id l = has_alike (member_trees (drop l.id-index l.id-items)) l.other.0 l.other.1.tree ≡ has_alike (member_trees l.members) l.other.0 l.other.1.tree
+invariant-has_same-loop-id l = HasAlike (member_trees (drop l.id-index l.id-items)) l.other.0 l.other.1.tree ↔ HasAlike (member_trees l.members) l.other.0 l.other.1.tree
 
 -- a call goes down the first tree, and a function that calls another on the same one stands above it
 abbrev pub decreases-same : goal.decreases-same

@@ -1,5 +1,5 @@
 use Rattle.geoarrow_layout.proofs.Terms.{sym, ◌∙◌, ap, ◌&&◌, take_all, place_in, known_names, is_float64}
-use Rattle.geoarrow_layout.proofs.FieldSteps.{length-names, fields_seen_none, fields_seen_more}
+use Rattle.geoarrow_layout.proofs.FieldSteps.{length_names, fields_seen_none, fields_seen_more}
 use Rattle.geoarrow_layout.proofs.summary.struct_bottom.Goals as goal
 
 pub loop-field-init : goal.loop-field-init
@@ -16,4 +16,4 @@ loop-field-preserved c =
 pub returns : goal.returns
 returns c =
     let seen = rw (take_all _ _ c.loop-field-test.false) at c.loop-field.invariant in
-    (sym (length-names c.args.fields.now), seen.bits, seen.floats)
+    (sym (length_names c.args.fields.now), seen.bits, seen.floats)
