@@ -1,9 +1,9 @@
 //! The normal form of a type, and of a field that holds one.
 ghost use Rattle.std.specs.Prelude.{◌≡◌, ◌↔◌, Ok, None, IsOk, IfOk, IfErr, IfSome, IsTrue};
 ghost use Rattle.arrow_values.specs.Errors.{IsMemory};
+ghost use Rattle.geoarrow_layout.specs.Shapes.{Accepted};
 ghost use Rattle.geoarrow_layout.specs.Layouts.{layout};
-ghost use Rattle.geoarrow_meta.specs.Read.{DenotesMetadata};
-ghost use Rattle.geoarrow_meta.specs.Written.{printed, normal, NestsWithin};
+ghost use Rattle.geoarrow_meta.specs.Written.{normal};
 ghost use Rattle.geoarrow_schema.specs.declared.types.GeoArrowType.{GeoArrowType};
 ghost use Rattle.geoarrow_schema.specs.Types.{kind_of, meta_of};
 ghost use Rattle.geoarrow_schema.specs.Reads.{HasGeoArrowName, Reads, IsRefusedBy, writes, with_extension};
@@ -41,6 +41,7 @@ impl GeoArrowType {
     /// let other_type = GeoArrowType::try_from_field(alloc, other)?;
     /// Ok(one_type.same_written(&other_type))
     /// ```
+    #[tactic(auto, using(crate::proofs::Rewriting::kinds_written))]
     pub fn same_written(&self, other: &GeoArrowType) -> bool
         ensures written { IsTrue result ↔ (writes self.now ≡ writes other.now) }
         ensures normal { IsTrue result ↔ (normal_of self.now ≡ normal_of other.now) }
@@ -108,11 +109,13 @@ impl GeoArrowType {
     }
 
     /// The field with the extension name and the metadata text of this type.
+    #[tactic(auto, using(crate::proofs::Rewriting::with_normal_extension, crate::proofs::Rewriting::reads_where, crate::proofs::Rewriting::back_of_normal))]
     fn set_extension(&self, alloc: Global, bare: Field) -> Result<Field, ArrowError>
-        ensures written { IfOk result (λ f. f ≡ with_extension bare (kind_of self.now) (meta_of self.now)) }
+        ensures written { IfOk result (λ f. f ≡ with_extension bare (kind_of self.now) (normal (meta_of self.now))) }
         ensures keys { IfOk result (HasKeysOf self.now bare) }
-        ensures nested { IfOk result (λ _. NestsWithin 100 (meta_of self.now).crs.value
-            → DenotesMetadata (printed (meta_of self.now)) (normal (meta_of self.now))) }
+        ensures reads_back { IfOk result (λ f. Accepted (kind_of self.now) bare.tree
+            → ReadsNormally f (kind_of self.now) (meta_of self.now)) }
+        ensures nested { IfOk result (λ f. Accepted (kind_of self.now) bare.tree → ReadsShallow f self.now) }
         ensures refused { IfErr result IsMemory }
     {
         let text = self.metadata().serialize(alloc)?;
