@@ -16,8 +16,8 @@ use Rattle.geoarrow_meta.specs.Read.{DenotesMetadata}
 use Rattle.geoarrow_native.specs.Column.{ReadsAs}
 use Rattle.geoarrow_schema.specs.declared.types.GeoArrowType.{GeoArrowType}
 use Rattle.geoarrow_schema.specs.Types.{kind_of, meta_of}
-use Rattle.geoarrow_schema.specs.Reads.{Reads, ReadsAlone, writes, with_extension}
-use Rattle.geoarrow_schema.specs.Normal.{HasKeysOf, ReadsNormally, ReadsShallow}
+use Rattle.geoarrow_schema.specs.Reads.{Reads, ReadsAlone, writes}
+use Rattle.geoarrow_schema.specs.Normal.{rewritten, HasKeysOf, ReadsNormally, ReadsShallow}
 
 -- the normal form is written as the metadata itself
 same_value : (v : Option Data) (t : Option CrsType) (e : Option Edges)
@@ -25,20 +25,15 @@ same_value : (v : Option Data) (t : Option CrsType) (e : Option Edges)
 same_value None t None = refl
 same_value _ t e = refl
 
-normal_value : (m : Metadata) → meta_value (normal m) ≡ meta_value m
+pub normal_value : (m : Metadata) → meta_value (normal m) ≡ meta_value m
 normal_value m = same_value m.crs.value m.crs.crs_type m.edges
-
-pub back_of_normal : (m : Metadata) → IsReadBack (meta_value (normal m)) → IsReadBack (meta_value m)
-back_of_normal m back = subst IsReadBack (normal_value m) back
 
 pub kinds_written : ((j k : Kind) → layout j ≡ layout k → j ≡ k) → (g h : GeoArrowType) → writes g ≡ writes h → kind_of g ≡ kind_of h
 kinds_written distinct g h same = distinct (kind_of g) (kind_of h) (ap (λ w. w.1) same)
 
 -- and so is a field
-pub with_normal_extension : (f n : FieldTree) (k : Kind) (m : Metadata) → n ≡ with_extension f k m → n ≡ with_extension f k (normal m)
-with_normal_extension f n k m is =
-    let of_text : Option Text → FieldTree = λ t. record f { metadata = set_extension (name_of k) t f.metadata } in
-    is ∙ ap (λ v. of_text (option_map compact_text v)) (sym (normal_value m))
+pub normal_written : (f n : FieldTree) (k : Kind) (m : Metadata) → f.tree ≡ layout k → n ≡ record f { metadata = set_extension (name_of k) (printed m) f.metadata } → n ≡ rewritten f k (normal m)
+normal_written f n k m typed is = rw (normal_value m, ← typed) is
 
 -- a field with the extension keys of a kind that accepts its tree reads as the normal form, where its text denotes that
 pub reads_where : (f n : FieldTree) (k : Kind) (m : Metadata) → f.tree ≡ n.tree → Accepted k f.tree → DenotesMetadata (printed m) (normal m)

@@ -22,20 +22,17 @@ levels_over (Some LargeLists) (suc n) (large_list name t b m) u some h = refl
 levels_over (Some w) (suc n) t u some h = absurd h.2
 
 -- below none
-bottom_says : (w : Option ListWidth) (b : Bottom) (u : Tree) → IsBottom IsUnion w 0 b u → bottom_text b ≡ uninferred_text u
-bottom_says w (FixedSizeList named size floats) (fixed_size_list n t nullable m z) h = ap (λ x. bottom_text (FixedSizeList named size x)) h.2
-bottom_says w (Struct count names floats) (struct fs) h = ap (λ x. bottom_text (Struct count names x)) h.2
-bottom_says w (Union e i c d f g) (union ms mode) h = refl
-bottom_says w b (list n t nullable m) h = grind arith
-bottom_says w b (large_list n t nullable m) h = grind arith
-bottom_says w b (plain p) h = ap bottom_text h
-bottom_says w b _ h = absurd h
+bottom_says : (w : Option ListWidth) (n : ℕ) (b : Bottom) (u : Tree) → IsBottom IsUnion w n b u → bottom_text b ≡ uninferred_text u
+bottom_says w n (FixedSizeList named size floats) (fixed_size_list name t nullable m z) h = ap (λ x. bottom_text (FixedSizeList named size x)) h.2
+bottom_says w n (Struct count names floats) (struct fs) h = ap (λ x. bottom_text (Struct count names x)) h.2
+bottom_says w zero (Union e i c d f g) (union ms mode) h = refl
+bottom_says w (suc n) (Union e i c d f g) (union ms mode) h = refl
+bottom_says w n b (plain p) h = ap bottom_text h
+bottom_says w n b _ h = grind arith
 
 no_levels : (w : Option ListWidth) (n : ℕ) (t u : Tree) → n ≤ 0 → AreLevels w n t u → t ≡ u
 no_levels None n t u none h = h.1
 no_levels (Some w) n t u none h = absurd (omega (arith, none, h.0))
 
 pub at_bottom : (s : Summary) (t : Tree) (text : Text) → s.levels ≤ 0 → Summarizes s t → text ≡ bottom_text s.bottom → text ≡ uninferred_text t
-at_bottom s t text none h is =
-    let here : IsBottom IsUnion s.width 0 s.bottom h.0 = subst (λ n. IsBottom IsUnion s.width n s.bottom h.0) (omega (arith, none)) h.2 in
-    is ∙ bottom_says s.width s.bottom h.0 here ∙ ap uninferred_text (sym (no_levels s.width s.levels t h.0 none h.1))
+at_bottom s t text none h is = is ∙ bottom_says s.width s.levels s.bottom h.0 h.2 ∙ ap uninferred_text (sym (no_levels s.width s.levels t h.0 none h.1))

@@ -19,12 +19,16 @@ use Rattle.geoarrow_schema.specs.declared.types.GeoArrowType.{GeoArrowType}
 use Rattle.geoarrow_schema.specs.Types.{kind_of, meta_of}
 use Rattle.geoarrow_schema.specs.Reads.{HasGeoArrowName, Reads, ReadsAlone, ReadsAsNone, FieldRefusedAs}
 
+-- the tree is well-known binary or text, in some width
+abbrev pub IsStored : Tree → Kind → Type 0
+IsStored t (Wkb w) = IsBytes w t
+IsStored t (Wkt w) = IsText w t
+IsStored t _ = ⊥
+
 -- the kind is inferred from the tree: a point, well-known binary or well-known text
 abbrev pub InferredAs : Tree → Kind → Type 0
 InferredAs t (Native Point c d) = Inferred t c d
-InferredAs t (Wkb w) = IsBytes w t
-InferredAs t (Wkt w) = IsText w t
-InferredAs t _ = ⊥
+InferredAs t k = IsStored t k
 
 -- the field has no GeoArrow name, its metadata text denotes the metadata, and the kind is inferred from its tree
 unfoldable pub InfersAs : FieldTree → Kind → Metadata → Type 0
@@ -80,12 +84,6 @@ IsInference f r = MatchResult r (ReadsOrInfers f) (IsInferenceRefusal f)
 -- the result is the one kind that is inferred from the tree, or `None` if there is none
 abbrev pub AnswersInferred : Tree → Option Kind → Type 0
 AnswersInferred t r = (k : Kind) → (r ≡ Some k) ↔ InferredAs t k
-
--- the tree is well-known binary or text, in some width
-abbrev pub IsStored : Tree → Kind → Type 0
-IsStored t (Wkb w) = IsBytes w t
-IsStored t (Wkt w) = IsText w t
-IsStored t _ = ⊥
 
 -- a kind that can be inferred from its data type: points, well-known binary and text
 abbrev pub IsInferable : Kind → Type 0

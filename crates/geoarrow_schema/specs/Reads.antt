@@ -1,7 +1,7 @@
 -- What a field reads as, and what is written.
 use Rattle.std.specs.Prelude.{◌≡◌, ◌⊎◌, Bool, Option, Some, None, Result, Ok, Err, MatchResult}
 use Rattle.arrow_values.specs.Tree.{Text, Tree, FieldTree}
-use Rattle.arrow_values.specs.Texts.{extension_name, extension_metadata, set_extension}
+use Rattle.arrow_values.specs.Texts.{extension_name, extension_metadata}
 use Rattle.arrow_values.specs.Errors.{IsGeoMemory, IsInvalidOf}
 use Rattle.arrow_values.specs.declared.error.ArrowError.{ArrowError}
 use Rattle.arrow_values.specs.declared.error.GeoArrowError.{GeoArrowError}
@@ -14,7 +14,7 @@ use Rattle.geoarrow_layout.specs.Kinds.{name_text, name_of}
 use Rattle.geoarrow_layout.specs.Shapes.{IsBytes, IsText}
 use Rattle.geoarrow_layout.specs.Layouts.{layout}
 use Rattle.geoarrow_meta.specs.declared.metadata.Metadata.{Metadata}
-use Rattle.geoarrow_meta.specs.Written.{meta_value, printed}
+use Rattle.geoarrow_meta.specs.Written.{meta_value}
 use Rattle.geoarrow_meta.specs.Read.{DenotesMetadata, TextRefusedAs}
 use Rattle.serde_json.specs.Data.{Data}
 use Rattle.geoarrow_native.specs.Column.{ReadsAs, IsLayoutRefusal, written_field}
@@ -76,10 +76,6 @@ IsTypeReading f r = MatchResult r (Reads f) (IsTypeRefusal f)
 -- what is written of a type: name, tree and metadata value
 abbrev pub writes : GeoArrowType → Text × Tree × Option Data
 writes g = (name_of (kind_of g), layout (kind_of g), meta_value (meta_of g))
-
--- the field with the extension name of a kind and the metadata text of a metadata, otherwise unchanged
-abbrev pub with_extension : FieldTree → Kind → Metadata → FieldTree
-with_extension f k m = record f { metadata = set_extension (name_of k) (printed m) f.metadata }
 
 -- the field of that name and nullability that is written for a type
 abbrev pub field_of : Text → Bool → GeoArrowType → FieldTree

@@ -6,7 +6,7 @@ ghost use Rattle.geoarrow_layout.specs.Layouts.{layout};
 ghost use Rattle.geoarrow_meta.specs.Written.{normal};
 ghost use Rattle.geoarrow_schema.specs.declared.types.GeoArrowType.{GeoArrowType};
 ghost use Rattle.geoarrow_schema.specs.Types.{kind_of, meta_of};
-ghost use Rattle.geoarrow_schema.specs.Reads.{HasGeoArrowName, Reads, IsRefusedBy, writes, with_extension};
+ghost use Rattle.geoarrow_schema.specs.Reads.{HasGeoArrowName, Reads, IsRefusedBy, writes};
 ghost use Rattle.geoarrow_schema.specs.Normal.{normal_of, rewritten, HasKeysOf, ReadsNormally, ReadsShallow, IsCanonical};
 
 use crate::types::GeoArrowType;
@@ -97,7 +97,7 @@ impl GeoArrowType {
     /// nothing writes what the normal form drops.
     fn set_normal_extension(&self, alloc: Global, column: Field) -> Result<Field, ArrowError>
         requires { column.tree ≡ layout (kind_of self.now) }
-        ensures written { IfOk result (λ f. f ≡ with_extension column (kind_of self.now) (normal (meta_of self.now))) }
+        ensures written { IfOk result (λ f. f ≡ rewritten column (kind_of self.now) (normal (meta_of self.now))) }
         ensures keys { IfOk result (HasKeysOf self.now column) }
         ensures reads_back { IfOk result (λ f. ReadsNormally f (kind_of self.now) (meta_of self.now)) }
         ensures nested { IfOk result (λ f. ReadsShallow f self.now) }
@@ -109,9 +109,10 @@ impl GeoArrowType {
     }
 
     /// The field with the extension name and the metadata text of this type.
-    #[tactic(auto, using(crate::proofs::Rewriting::with_normal_extension, crate::proofs::Rewriting::reads_where, crate::proofs::Rewriting::back_of_normal))]
+    #[tactic(auto, using(crate::proofs::Rewriting::normal_written, crate::proofs::Rewriting::reads_where, crate::proofs::Rewriting::normal_value))]
     fn set_extension(&self, alloc: Global, bare: Field) -> Result<Field, ArrowError>
-        ensures written { IfOk result (λ f. f ≡ with_extension bare (kind_of self.now) (normal (meta_of self.now))) }
+        ensures written { IfOk result (λ f. bare.tree ≡ layout (kind_of self.now)
+            → f ≡ rewritten bare (kind_of self.now) (normal (meta_of self.now))) }
         ensures keys { IfOk result (HasKeysOf self.now bare) }
         ensures reads_back { IfOk result (λ f. Accepted (kind_of self.now) bare.tree
             → ReadsNormally f (kind_of self.now) (meta_of self.now)) }
