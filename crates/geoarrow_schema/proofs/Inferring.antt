@@ -1,33 +1,11 @@
 -- What a tree is taken for.
-use Rattle.std.proofs.Common.{◌≡◌, ◌⊎◌, inl, inr, ◌∙◌, sym, ap, subst, Option, Some, Result, Ok, Err}
-use Rattle.std.specs.Prelude.{IfOk, IfErr}
-use Rattle.std.proofs.lemmas.Option.{same_Some}
-use Rattle.std.specs.Arc.{arc_value}
-use Rattle.arrow_values.specs.Tree.{Text, Tree, FieldTree}
-use Rattle.arrow_values.specs.Texts.{extension_metadata}
-use Rattle.arrow_values.specs.Errors.{IsMemory, IsGeoMemory, IsInvalidOf}
-use Rattle.arrow_values.specs.declared.error.ArrowError.{ArrowError}
-use Rattle.arrow_values.specs.declared.error.GeoArrowError.{GeoArrowError}
-use Rattle.arrow_values.specs.declared.error.GeoArrowError.TheVariants.{Arrow, InvalidGeoArrow}
-use Rattle.geoarrow_layout.specs.declared.kinds.CoordType.{CoordType}
-use Rattle.geoarrow_layout.specs.declared.kinds.Dimension.{Dimension}
+use Rattle.geoarrow_schema.proofs.Terms.{◌≡◌, ◌⊎◌, inl, inr, ◌∙◌, sym, ap, subst, Option, Some, Result, Ok, Err, same_Some, arc_value, Text, Tree, FieldTree, extension_metadata, IsMemory, IsGeoMemory}
+use Rattle.geoarrow_schema.proofs.Terms.{IsInvalidOf, ArrowError, GeoArrowError, Arrow, InvalidGeoArrow, CoordType, Dimension, Point, Width, Plain, Large, View, Kind, Native, Wkb, Wkt, AnswersOne}
+use Rattle.geoarrow_schema.proofs.Terms.{IsBytes, IsText, AnswersSome, Inferred, Metadata, DenotesMetadata, TextRefusedAs, Arc, Global, GeoArrowType, kind_of, metadata_of, meta_of, SameType}
+use Rattle.geoarrow_schema.proofs.Terms.{HasGeoArrowName, Reads, IsRefusedBy, InferredAs, InfersAs, Infers, ReadsOrInfers, ReadsOrInfersAlone, InfersNone, uninferred_text, UninferredAs}
+use Rattle.geoarrow_schema.proofs.Terms.{IsInferenceRefusal, IsInference, AnswersInferred, IfOk, IfErr}
 use Rattle.geoarrow_layout.specs.declared.fault.LayoutFault.{LayoutFault}
-use Rattle.geoarrow_layout.specs.declared.encodings.NativeKind.TheVariants.{Point}
-use Rattle.geoarrow_layout.specs.declared.encodings.Width.{Width}
-use Rattle.geoarrow_layout.specs.declared.encodings.Width.TheVariants.{Plain, Large, View}
-use Rattle.geoarrow_layout.specs.declared.encodings.Kind.{Kind}
-use Rattle.geoarrow_layout.specs.declared.encodings.Kind.TheVariants.{Native, Wkb, Wkt}
-use Rattle.geoarrow_layout.specs.Shapes.{AnswersOne, IsBytes, IsText}
-use Rattle.geoarrow_layout.specs.Inferred.{AnswersSome, Inferred}
-use Rattle.geoarrow_meta.specs.declared.metadata.Metadata.{Metadata}
-use Rattle.geoarrow_meta.specs.Read.{DenotesMetadata, TextRefusedAs}
 use Rattle.geoarrow_meta.specs.Laws.{text_denotes_one}
-use Rattle.std.specs.declared.sync.Arc.{Arc}
-use Rattle.std.specs.declared.alloc.Global.{Global}
-use Rattle.geoarrow_schema.specs.declared.types.GeoArrowType.{GeoArrowType}
-use Rattle.geoarrow_schema.specs.Types.{kind_of, metadata_of, meta_of, SameType}
-use Rattle.geoarrow_schema.specs.Reads.{HasGeoArrowName, Reads, IsRefusedBy}
-use Rattle.geoarrow_schema.specs.Infers.{InferredAs, InfersAs, Infers, ReadsOrInfers, ReadsOrInfersAlone, InfersNone, uninferred_text, UninferredAs, IsInferenceRefusal, IsInference, AnswersInferred}
 use Rattle.geoarrow_schema.proofs.Reading.{read_has_name, read_uninferred}
 
 -- no tree is both bytes and text

@@ -1,29 +1,11 @@
 -- A field's name, tree and metadata text, and what it reads as.
-use Rattle.std.proofs.Common.{◌≡◌, ◌⊎◌, ◌∙◌, inl, inr, ap, sym, subst}
-use Rattle.std.proofs.lemmas.Option.{same_Some}
-use Rattle.std.specs.Arc.{arc_value}
-use Rattle.arrow_values.specs.Tree.{Text, Tree, FieldTree}
-use Rattle.arrow_values.specs.Texts.{extension_metadata}
-use Rattle.arrow_values.specs.Errors.{IsMemory, IsGeoMemory, IsInvalidOf}
-use Rattle.arrow_values.specs.declared.error.ArrowError.{ArrowError}
-use Rattle.arrow_values.specs.declared.error.GeoArrowError.{GeoArrowError}
-use Rattle.arrow_values.specs.declared.error.GeoArrowError.TheVariants.{Arrow, InvalidGeoArrow}
+use Rattle.geoarrow_schema.proofs.Terms.{◌≡◌, ◌⊎◌, ◌∙◌, inl, inr, ap, sym, subst, same_Some, arc_value, Text, Tree, FieldTree, extension_metadata, IsMemory, IsGeoMemory, IsInvalidOf, ArrowError}
+use Rattle.geoarrow_schema.proofs.Terms.{GeoArrowError, Arrow, InvalidGeoArrow, Width, Kind, name_text, extension_of, name_of, Accepts, Accepted, IsBytes, IsText, Metadata, DenotesMetadata}
+use Rattle.geoarrow_schema.proofs.Terms.{TextRefusedAs, Arc, Global, IsColumn, ReadsAs, GeoArrowType, kind_of, metadata_of, meta_of, HasName, HasGeoArrowName, Reads, ReadsAsNone, ReadsAlone}
+use Rattle.geoarrow_schema.proofs.Terms.{HasWrongStorage, ColumnRefusedAs, IsRefusedBy, IsTypeRefusal, InfersAs, ReadsOrInfersAlone}
 use Rattle.geoarrow_layout.specs.declared.names.ExtensionName.{ExtensionName}
 use Rattle.geoarrow_layout.specs.declared.names.ExtensionName.TheVariants.{Wkb, Wkt}
-use Rattle.geoarrow_layout.specs.declared.encodings.Width.{Width}
-use Rattle.geoarrow_layout.specs.declared.encodings.Kind.{Kind}
 use Rattle.geoarrow_layout.specs.declared.encodings.Kind.TheVariants as kinds
-use Rattle.geoarrow_layout.specs.Kinds.{name_text, extension_of, name_of}
-use Rattle.geoarrow_layout.specs.Shapes.{Accepts, Accepted, IsBytes, IsText}
-use Rattle.geoarrow_meta.specs.declared.metadata.Metadata.{Metadata}
-use Rattle.geoarrow_meta.specs.Read.{DenotesMetadata, TextRefusedAs}
-use Rattle.std.specs.declared.sync.Arc.{Arc}
-use Rattle.std.specs.declared.alloc.Global.{Global}
-use Rattle.geoarrow_native.specs.Column.{IsColumn, ReadsAs}
-use Rattle.geoarrow_schema.specs.declared.types.GeoArrowType.{GeoArrowType}
-use Rattle.geoarrow_schema.specs.Types.{kind_of, metadata_of, meta_of}
-use Rattle.geoarrow_schema.specs.Reads.{HasName, HasGeoArrowName, Reads, ReadsAsNone, ReadsAlone, HasWrongStorage, ColumnRefusedAs, IsRefusedBy, IsTypeRefusal}
-use Rattle.geoarrow_schema.specs.Infers.{InfersAs, ReadsOrInfersAlone}
 
 -- a field that is read has a GeoArrow name
 pub read_has_name : (f : FieldTree) (k : Kind) (m : Metadata) → ReadsAs f k m → HasGeoArrowName f

@@ -1,22 +1,11 @@
 -- A field in normal form reads as that.
-use Rattle.std.proofs.Common.{◌≡◌, ◌∙◌, Option, None, refl, sym, ap, subst, option_map}
+use Rattle.geoarrow_schema.proofs.Terms.{◌≡◌, ◌∙◌, Option, None, refl, sym, ap, subst, option_map, Text, FieldTree, SetsExtension, name_key, metadata_key, set_extension, Kind, name_of, Accepted}
+use Rattle.geoarrow_schema.proofs.Terms.{layout, Metadata, DenotesMetadata, ReadsAs, GeoArrowType, kind_of, meta_of, Reads, ReadsAlone, writes}
 use Rattle.serde_json.specs.Data.{Data}
 use Rattle.serde_json.specs.Written.{compact_text}
-use Rattle.arrow_values.specs.Tree.{Text, FieldTree}
-use Rattle.arrow_values.specs.Texts.{SetsExtension, name_key, metadata_key, set_extension}
-use Rattle.geoarrow_layout.specs.declared.encodings.Kind.{Kind}
-use Rattle.geoarrow_layout.specs.Kinds.{name_of}
-use Rattle.geoarrow_layout.specs.Shapes.{Accepted}
-use Rattle.geoarrow_layout.specs.Layouts.{layout}
-use Rattle.geoarrow_meta.specs.declared.metadata.Metadata.{Metadata}
 use Rattle.geoarrow_meta.specs.declared.crs.crs_type.CrsType.{CrsType}
 use Rattle.geoarrow_meta.specs.declared.edges.Edges.{Edges}
 use Rattle.geoarrow_meta.specs.Written.{meta_value, printed, type_unless, normal, IsReadBack, NestsWithin}
-use Rattle.geoarrow_meta.specs.Read.{DenotesMetadata}
-use Rattle.geoarrow_native.specs.Column.{ReadsAs}
-use Rattle.geoarrow_schema.specs.declared.types.GeoArrowType.{GeoArrowType}
-use Rattle.geoarrow_schema.specs.Types.{kind_of, meta_of}
-use Rattle.geoarrow_schema.specs.Reads.{Reads, ReadsAlone, writes}
 use Rattle.geoarrow_schema.specs.Normal.{rewritten, HasKeysOf, ReadsNormally, ReadsShallow}
 
 -- the normal form is written as the metadata itself
