@@ -1,19 +1,16 @@
 -- What a tree is taken for.
 use Rattle.geoarrow_schema.proofs.Terms.{◌≡◌, ◌⊎◌, inl, inr, ◌∙◌, sym, ap, subst, Option, Some, Result, Ok, Err, same_Some, arc_value, Text, Tree, FieldTree, extension_metadata, IsMemory, IsGeoMemory}
-use Rattle.geoarrow_schema.proofs.Terms.{IsInvalidOf, ArrowError, GeoArrowError, Arrow, InvalidGeoArrow, CoordType, Dimension, Point, Width, Plain, Large, View, Kind, Native, Wkb, Wkt, AnswersOne}
+use Rattle.geoarrow_schema.proofs.Terms.{IsInvalidOf, ArrowError, GeoArrowError, Arrow, InvalidGeoArrow, CoordType, Dimension, Point, Width, Plain, Kind, Native, Wkb, Wkt, AnswersOne}
 use Rattle.geoarrow_schema.proofs.Terms.{IsBytes, IsText, AnswersSome, Inferred, Metadata, DenotesMetadata, TextRefusedAs, Arc, Global, GeoArrowType, kind_of, metadata_of, meta_of, SameType}
 use Rattle.geoarrow_schema.proofs.Terms.{HasGeoArrowName, Reads, IsRefusedBy, InferredAs, InfersAs, Infers, ReadsOrInfers, ReadsOrInfersAlone, InfersNone, uninferred_text, UninferredAs}
-use Rattle.geoarrow_schema.proofs.Terms.{IsInferenceRefusal, IsInference, AnswersInferred, IfOk, IfErr}
+use Rattle.geoarrow_schema.proofs.Terms.{IsInferenceRefusal, IsInference, AnswersInferred, IfOk, IfErr, arith}
 use Rattle.geoarrow_layout.specs.declared.fault.LayoutFault.{LayoutFault}
 use Rattle.geoarrow_meta.specs.Laws.{text_denotes_one}
 use Rattle.geoarrow_schema.proofs.Reading.{read_has_name, read_uninferred}
 
 -- no tree is both bytes and text
 apart : (w v : Width) (t : Tree) → IsBytes w t → IsText v t → ⊥
-apart Plain Plain t h g = absurd cc
-apart Large Large t h g = absurd cc
-apart View View t h g = absurd cc
-apart _ _ t h g = absurd cc
+apart w v t h g = grind arith
 
 pub bytes_inferred : (t : Tree) (w : Width) (r : Result Width LayoutFault) → ((c : CoordType) (d : Dimension) → ¬ Inferred t c d) → r ≡ Ok w → AnswersOne r (λ v. IsBytes v t) → AnswersInferred t (Some (Wkb w))
 bytes_inferred t w r none is a = λ k. (λ e. subst (InferredAs t) (same_Some (Wkb w) k e) ((a w).0 is), λ h. back k h)

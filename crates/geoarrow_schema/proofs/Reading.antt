@@ -63,13 +63,15 @@ column_refused distinct f k a column (inr none) refused =
     ((extension_of k, column.0), inr (λ k m r. none m r.1, (well_stored distinct f (extension_of k) column.0 stored.0 stored.1, inl refused)))
 
 -- that of a field whose name is of well-known binary or text, and whose tree is not
-pub unstored_refused : (f : FieldTree) (n : ExtensionName) (text : Text) (e : GeoArrowError) → (n ≡ Wkb) ⊎ (n ≡ Wkt) → HasName f n → ((k : Kind) → ¬ Accepts (name_text n) f.tree k) → IsGeoMemory e ⊎ IsInvalidOf text e → IsRefusedBy f e
+pub unstored_refused : (f : FieldTree) (n : ExtensionName) (text : Text) (e : GeoArrowError) → (n ≡ Wkb) ⊎ (n ≡ Wkt) → HasName f n → ((k : Kind) → ¬ Accepts (name_text n) f.tree k)
+    → IsGeoMemory e ⊎ IsInvalidOf text e → IsRefusedBy f e
 unstored_refused f n text e serialized named none (inl memory) = ((n, named), inl memory)
 unstored_refused f n text (InvalidGeoArrow s) serialized named none (inr is) = ((n, named), inr (none_of_name f n named none, wrong_storage f n serialized named none))
 unstored_refused f n text e serialized named none (inr is) = absurd is
 
 -- that of any other field whose tree is of no kind
-pub structured_refused : NamesAreDistinct → (f : FieldTree) (n : ExtensionName) (a : ArrowError) → ¬ (n ≡ Wkb) → ¬ (n ≡ Wkt) → HasName f n → ((k : Kind) → ¬ Accepts (name_text n) f.tree k) → IsMemory a ⊎ ColumnRefusedAs f a → IsRefusedBy f (Arrow a)
+pub structured_refused : NamesAreDistinct → (f : FieldTree) (n : ExtensionName) (a : ArrowError) → ¬ (n ≡ Wkb) → ¬ (n ≡ Wkt) → HasName f n → ((k : Kind) → ¬ Accepts (name_text n) f.tree k)
+    → IsMemory a ⊎ ColumnRefusedAs f a → IsRefusedBy f (Arrow a)
 structured_refused distinct f n a binary text named none (inl memory) = ((n, named), inl (ap Arrow memory))
 structured_refused distinct f n a binary text named none (inr refused) =
     ((n, named), inr (none_of_name f n named none, (well_stored distinct f n named (λ e. absurd (binary e)) (λ e. absurd (text e)), refused)))

@@ -17,7 +17,7 @@ pub use Rattle.geoarrow_layout.specs.Shapes.{Accepts, Accepted, IsBytes, IsText,
 pub use Rattle.geoarrow_layout.specs.declared.kinds.CoordType.{CoordType}
 pub use Rattle.geoarrow_layout.specs.declared.kinds.Dimension.{Dimension}
 pub use Rattle.geoarrow_layout.specs.declared.encodings.NativeKind.TheVariants.{Point}
-pub use Rattle.geoarrow_layout.specs.declared.encodings.Width.TheVariants.{Plain, Large, View}
+pub use Rattle.geoarrow_layout.specs.declared.encodings.Width.TheVariants.{Plain}
 pub use Rattle.geoarrow_layout.specs.declared.encodings.Kind.TheVariants.{Native, Wkb, Wkt}
 pub use Rattle.geoarrow_layout.specs.Inferred.{AnswersSome, Inferred}
 pub use Rattle.geoarrow_layout.specs.Layouts.{layout, leaf_layout}
