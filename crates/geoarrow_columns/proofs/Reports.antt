@@ -35,7 +35,8 @@ taken_for f g unnamed (inl reads) = absurd (unnamed (extension_of (kind_of g), r
 taken_for f g unnamed (inr infers) = infers
 
 -- what a field without a GeoArrow name holds that is refused, out-of-memory aside
-pub uninferred : (f : FieldTree) (e : GeoArrowError) → ¬ IsGeoMemory e → ¬ HasGeoArrowName f → IsInferenceRefusal f e → (IsVariantOf e InvalidGeoArrow → IsColumnOf f Other) × (IsVariantOf e Arrow → IsUnread f)
+pub uninferred : (f : FieldTree) (e : GeoArrowError) → ¬ IsGeoMemory e → ¬ HasGeoArrowName f → IsInferenceRefusal f e
+    → (IsVariantOf e InvalidGeoArrow → IsColumnOf f Other) × (IsVariantOf e Arrow → IsUnread f)
 uninferred f e rich unnamed (inl memory) = absurd (rich memory)
 uninferred f e rich unnamed (inr (read, none, inl refused)) = absurd (unnamed refused.0)
 uninferred f (Invalid s) rich unnamed (inr (read, none, inr refused)) = (λ is. (unnamed, none, refused.1.0), λ is. absurd cc)
