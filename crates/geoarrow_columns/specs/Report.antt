@@ -29,15 +29,12 @@ IsRefusedFor f Arrow = IsRefused f × ¬ HasWrongStorage f
 abbrev pub IsUnread : FieldTree → Type 0
 IsUnread f = ¬ HasGeoArrowName f × ((m : Metadata) → ¬ DenotesMetadata (extension_metadata f) m)
 
--- the field has no GeoArrow name, its metadata text denotes a metadata, and no type is inferred from its data type
-abbrev pub IsOther : FieldTree → Type 0
-IsOther f = ¬ HasGeoArrowName f × InfersNone f × ((m : Metadata) × DenotesMetadata (extension_metadata f) m)
-
--- the entry says what the field holds
+-- the entry says what the field holds; `Other` where the field has no GeoArrow name, no type is inferred from its data type, and its
+-- metadata text denotes a metadata
 abbrev pub IsColumnOf : FieldTree → Column → Type 0
 IsColumnOf f (Geometry g) = Reads f g
 IsColumnOf f (Inferred g) = Infers f g
-IsColumnOf f Other = IsOther f
+IsColumnOf f Other = ¬ HasGeoArrowName f × InfersNone f × ((m : Metadata) × DenotesMetadata (extension_metadata f) m)
 IsColumnOf f (Faulty InvalidGeoArrow) = IsRefusedFor f InvalidGeoArrow
 IsColumnOf f (Faulty Arrow) = IsRefusedFor f Arrow ⊎ IsUnread f
 

@@ -52,6 +52,7 @@ pub enum ColumnFault {
 /// let columns = check_columns(alloc, &[id, geometry])?;
 /// assert!(rt; matches!(columns.as_slice(), [Column::Other, Column::Geometry(_)]));
 /// ```
+#[tactic(auto, using(crate::proofs::Reports::report_next))]
 pub fn check_columns(alloc: Global, fields: &[Field]) -> Result<Vec<Column>, AllocError>
     ensures { IfOk result (λ columns. IsReport fields.now columns.items) }
 {
@@ -87,7 +88,7 @@ fn column_unnamed(field: &Field, taken: GeoArrowResult<GeoArrowType>) -> Result<
 }
 
 /// What a column holds on whose field no GeoArrow name stands, and for which no type is inferred because of an error.
-#[tactic(auto, using(crate::proofs::Reports::other, crate::proofs::Reports::unread))]
+#[tactic(auto, using(crate::proofs::Reports::uninferred))]
 fn column_uninferred(field: &Field, error: &GeoArrowError) -> Result<Column, AllocError>
     requires unnamed { ¬ HasGeoArrowName field.now }
     requires refused { IsInferenceRefusal field.now error.now }

@@ -19,6 +19,7 @@ use geoarrow_meta::Metadata;
 use geoarrow_meta::laws::{equality_test_is_exact, printed_reads_back};
 
 /// A law: a field reads as one kind and one metadata alone. There is nothing to run.
+#[tactic(auto, using(crate::proofs::Writing::read_once))]
 pub fn reads_as_one_column(field: &Field)
     ensures { (j k : Kind) (m n : Metadata) → ReadsAs field.now j m → ReadsAs field.now k n
         → (j ≡ k) × (m ≡ n) }

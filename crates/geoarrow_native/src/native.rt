@@ -100,11 +100,10 @@ impl<S: NativeShape> fmt::Debug for ColumnType<Native<S>> {
 }
 
 impl<S: NativeShape> ColumnEncoding for Native<S> {
-    ghost use Rattle.std.proofs.Common.{refl};
+    ghost use Rattle.std.proofs.Common.{refl, sym, subst};
     ghost use Rattle.geoarrow_layout.specs.declared.names.ExtensionName.TheVariants as names;
     ghost use Rattle.geoarrow_layout.specs.Shapes.{Native as IsOfKind};
     ghost use Rattle.geoarrow_layout.specs.OneShape.{any_native_same};
-    ghost use Rattle.geoarrow_native.specs.Agree.{native_along};
 
     const NAME: &'static str = S::NAME;
 
@@ -116,7 +115,8 @@ impl<S: NativeShape> ColumnEncoding for Native<S> {
 
     ghost accepts_one = { λ t a b h k. any_native_same S.KIND t a.coord_type b.coord_type a.dimension b.dimension h k };
 
-    ghost accepts_by_shape = { λ t a e h k. native_along t S.KIND a.coord_type e.coord_type a.dimension e.dimension k h };
+    ghost accepts_by_shape = { λ t a e h k. subst (λ c. IsOfKind t S.KIND c e.dimension) (sym k.0)
+        (subst (λ d. IsOfKind t S.KIND a.coord_type d) (sym k.1) h) };
 
     ghost agrees_with_itself = { λ e. (refl, refl) };
 

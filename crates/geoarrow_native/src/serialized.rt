@@ -159,13 +159,13 @@ impl<E: Encoding> fmt::Debug for ColumnType<Serialized<E>> {
 
 impl<E: Encoding> ColumnEncoding for Serialized<E> {
     ghost use Rattle.std.specs.Prelude.{⊤};
-    ghost use Rattle.geoarrow_native.specs.Stored.{InSomeWidth};
+    ghost use Rattle.geoarrow_layout.specs.declared.encodings.Width.{Width};
 
     const NAME: &'static str = E::NAME;
 
     ghost name = { E.name };
 
-    ghost Accepts = { λ t _. InSomeWidth E.IsStored t };
+    ghost Accepts = { λ t _. (w : Width) × E.IsStored w t };
 
     ghost Agrees = { λ _ _. ⊤ };
 

@@ -1,24 +1,11 @@
 -- What is written of points, well-known binary and text is taken for that.
-use Rattle.std.proofs.Common.{◌≡◌, ◌∙◌, refl, sym, subst, true, false}
-use Rattle.std.specs.Prelude.{codes}
+use Rattle.geoarrow_schema.proofs.Terms.{◌≡◌, ◌∙◌, refl, sym, subst, true, false, codes, FieldTree, CoordType, Dimension, Point, Plain, Kind, Native, Wkb, Wkt, Inferred, layout, leaf_layout}
+use Rattle.geoarrow_schema.proofs.Terms.{DenotesMetadata, empty, GeoArrowType, kind_of, meta_of, InfersAs, Infers, InferredAs, IsInferable, IsBareColumn}
 use Rattle.std.proofs.lemmas.Bool.{false≢true}
 use Rattle.std.proofs.lemmas.Slice.Eq.{bytes_eq-Decides}
-use Rattle.arrow_values.specs.Tree.{FieldTree}
-use Rattle.geoarrow_layout.specs.declared.kinds.CoordType.{CoordType}
 use Rattle.geoarrow_layout.specs.declared.kinds.CoordType.TheVariants.{Interleaved, Separated}
-use Rattle.geoarrow_layout.specs.declared.kinds.Dimension.{Dimension}
 use Rattle.geoarrow_layout.specs.declared.kinds.Dimension.TheVariants.{XYZ, XYM}
-use Rattle.geoarrow_layout.specs.declared.encodings.NativeKind.TheVariants.{Point}
-use Rattle.geoarrow_layout.specs.declared.encodings.Width.TheVariants.{Plain}
-use Rattle.geoarrow_layout.specs.declared.encodings.Kind.{Kind}
-use Rattle.geoarrow_layout.specs.declared.encodings.Kind.TheVariants.{Native, Wkb, Wkt}
 use Rattle.geoarrow_layout.specs.Shapes.{SameNames}
-use Rattle.geoarrow_layout.specs.Inferred.{Inferred}
-use Rattle.geoarrow_layout.specs.Layouts.{layout, leaf_layout}
-use Rattle.geoarrow_meta.specs.Read.{DenotesMetadata, empty}
-use Rattle.geoarrow_schema.specs.declared.types.GeoArrowType.{GeoArrowType}
-use Rattle.geoarrow_schema.specs.Types.{kind_of, meta_of}
-use Rattle.geoarrow_schema.specs.Infers.{InfersAs, Infers, InferredAs, IsInferable, IsBareColumn}
 
 leaf_inferred : (c : CoordType) (d : Dimension) → Inferred (leaf_layout c d) c d
 unfolding SameNames

@@ -1,42 +1,16 @@
 -- What a tree is taken for.
-use Rattle.std.proofs.Common.{◌≡◌, ◌⊎◌, inl, inr, ◌∙◌, sym, ap, subst, Option, Some, Result, Ok, Err}
-use Rattle.std.specs.Prelude.{IfOk, IfErr}
-use Rattle.std.proofs.lemmas.Option.{same_Some}
-use Rattle.std.specs.Arc.{arc_value}
-use Rattle.arrow_values.specs.Tree.{Text, Tree, FieldTree}
-use Rattle.arrow_values.specs.Texts.{extension_metadata}
-use Rattle.arrow_values.specs.Errors.{IsMemory, IsGeoMemory, IsInvalidOf}
-use Rattle.arrow_values.specs.declared.error.ArrowError.{ArrowError}
-use Rattle.arrow_values.specs.declared.error.GeoArrowError.{GeoArrowError}
-use Rattle.arrow_values.specs.declared.error.GeoArrowError.TheVariants.{Arrow, InvalidGeoArrow}
-use Rattle.geoarrow_layout.specs.declared.kinds.CoordType.{CoordType}
-use Rattle.geoarrow_layout.specs.declared.kinds.Dimension.{Dimension}
+use Rattle.geoarrow_schema.proofs.Terms.{◌≡◌, ◌⊎◌, inl, inr, ◌∙◌, sym, ap, subst, Option, Some, Result, Ok, Err, same_Some, arc_value, Text, Tree, FieldTree, extension_metadata, IsMemory, IsGeoMemory}
+use Rattle.geoarrow_schema.proofs.Terms.{IsInvalidOf, ArrowError, GeoArrowError, Arrow, InvalidGeoArrow, CoordType, Dimension, Point, Width, Plain, Kind, Native, Wkb, Wkt, AnswersOne}
+use Rattle.geoarrow_schema.proofs.Terms.{IsBytes, IsText, AnswersSome, Inferred, Metadata, DenotesMetadata, TextRefusedAs, Arc, Global, GeoArrowType, kind_of, metadata_of, meta_of, SameType}
+use Rattle.geoarrow_schema.proofs.Terms.{HasGeoArrowName, Reads, IsRefusedBy, InferredAs, InfersAs, Infers, ReadsOrInfers, ReadsOrInfersAlone, InfersNone, uninferred_text, UninferredAs}
+use Rattle.geoarrow_schema.proofs.Terms.{IsInferenceRefusal, IsInference, AnswersInferred, IfOk, IfErr, arith}
 use Rattle.geoarrow_layout.specs.declared.fault.LayoutFault.{LayoutFault}
-use Rattle.geoarrow_layout.specs.declared.encodings.NativeKind.TheVariants.{Point}
-use Rattle.geoarrow_layout.specs.declared.encodings.Width.{Width}
-use Rattle.geoarrow_layout.specs.declared.encodings.Width.TheVariants.{Plain, Large, View}
-use Rattle.geoarrow_layout.specs.declared.encodings.Kind.{Kind}
-use Rattle.geoarrow_layout.specs.declared.encodings.Kind.TheVariants.{Native, Wkb, Wkt}
-use Rattle.geoarrow_layout.specs.Shapes.{AnswersOne, IsBytes, IsText}
-use Rattle.geoarrow_layout.specs.Inferred.{AnswersSome, Inferred}
-use Rattle.geoarrow_meta.specs.declared.metadata.Metadata.{Metadata}
-use Rattle.geoarrow_meta.specs.Read.{DenotesMetadata, TextRefusedAs}
 use Rattle.geoarrow_meta.specs.Laws.{text_denotes_one}
-use Rattle.std.specs.declared.sync.Arc.{Arc}
-use Rattle.std.specs.declared.alloc.Global.{Global}
-use Rattle.geoarrow_schema.specs.declared.types.GeoArrowType.{GeoArrowType}
-use Rattle.geoarrow_schema.specs.Types.{kind_of, metadata_of, meta_of, SameType}
-use Rattle.geoarrow_schema.specs.Reads.{HasGeoArrowName, Reads, ReadsAlone}
-use Rattle.geoarrow_schema.specs.Refusals.{IsRefusal}
-use Rattle.geoarrow_schema.specs.Infers.{InferredAs, InfersAs, Infers, ReadsOrInfers, InfersAlone, ReadsOrInfersAlone, InfersNone, uninferred_text, UninferredAs, IsInference, AnswersInferred, IsStored}
-use Rattle.geoarrow_schema.proofs.Reading.{read_has_name, none_unnamed}
+use Rattle.geoarrow_schema.proofs.Reading.{read_has_name, read_uninferred}
 
 -- no tree is both bytes and text
 apart : (w v : Width) (t : Tree) → IsBytes w t → IsText v t → ⊥
-apart Plain Plain t h g = absurd cc
-apart Large Large t h g = absurd cc
-apart View View t h g = absurd cc
-apart _ _ t h g = absurd cc
+apart w v t h g = grind arith
 
 pub bytes_inferred : (t : Tree) (w : Width) (r : Result Width LayoutFault) → ((c : CoordType) (d : Dimension) → ¬ Inferred t c d) → r ≡ Ok w → AnswersOne r (λ v. IsBytes v t) → AnswersInferred t (Some (Wkb w))
 bytes_inferred t w r none is a = λ k. (λ e. subst (InferredAs t) (same_Some (Wkb w) k e) ((a w).0 is), λ h. back k h)
@@ -47,24 +21,19 @@ bytes_inferred t w r none is a = λ k. (λ e. subst (InferredAs t) (same_Some (W
     back (Wkt v) h = absurd (apart w v t ((a w).0 is) h)
     back _ h = absurd h
 
--- a tree that is taken for a point is neither bytes nor text
-not_stored : (t : Tree) (c : CoordType) (d : Dimension) (k : Kind) → Inferred t c d → IsStored t k → ⊥
-not_stored t c d (Wkb Plain) p h = subst (λ x. Inferred x c d) h p
-not_stored t c d (Wkb w) p h = subst (λ x. Inferred x c d) h p
-not_stored t c d (Wkt Plain) p h = subst (λ x. Inferred x c d) h p
-not_stored t c d (Wkt w) p h = subst (λ x. Inferred x c d) h p
-not_stored t c d _ p h = h
-
-abbrev Pair : Type 0
-Pair = CoordType × Dimension
-
-pub point_inferred : (t : Tree) (p : Pair) (r : Option Pair) → r ≡ Some p → AnswersSome r (Inferred t) → AnswersInferred t (Some (Native Point p.0 p.1))
-point_inferred t p r is a = λ k. (λ e. subst (InferredAs t) (same_Some (Native Point p.0 p.1) k e) ((a p.0 p.1).0 is), λ h. back k h)
+pub point_inferred : (t : Tree) (p : CoordType × Dimension) (r : Option (CoordType × Dimension)) → r ≡ Some p → AnswersSome r (Inferred t) → AnswersInferred t (Some (Native Point p.0 p.1))
+point_inferred t p r is a = λ k. (λ e. subst (InferredAs t) (same_Some (Native Point p.0 p.1) k e) here, λ h. back k h)
   where
+    here : Inferred t p.0 p.1
+    here = (a p.0 p.1).0 is
+
+    -- neither bytes nor text is inferred as a point
     back : (k : Kind) → InferredAs t k → Some (Native Point p.0 p.1) ≡ Some k
-    back (Native Point b e) h = let q : p ≡ (b, e) = same_Some p (b, e) (sym is ∙ (a b e).1 h) in ap (λ x. Some (Native Point x.0 x.1)) q
-    back (Wkb w) h = absurd (not_stored t p.0 p.1 (Wkb w) ((a p.0 p.1).0 is) h)
-    back (Wkt w) h = absurd (not_stored t p.0 p.1 (Wkt w) ((a p.0 p.1).0 is) h)
+    back (Native Point b e) h = ap (λ x. Some (Native Point x.0 x.1)) (same_Some p (b, e) (sym is ∙ (a b e).1 h))
+    back (Wkb Plain) h = absurd (subst (λ x. Inferred x p.0 p.1) h here)
+    back (Wkb w) h = absurd (subst (λ x. Inferred x p.0 p.1) h here)
+    back (Wkt Plain) h = absurd (subst (λ x. Inferred x p.0 p.1) h here)
+    back (Wkt w) h = absurd (subst (λ x. Inferred x p.0 p.1) h here)
     back _ h = absurd h
 
 -- what is inferred of a tree and a metadata
@@ -72,15 +41,15 @@ pub type_inferred : (f : FieldTree) (k : Kind) (m : Arc Metadata Global) (g : Ge
 unfolding InfersAs
 type_inferred f k m g kind meta unnamed stands column = (unnamed, rw meta stands, rw kind column)
 
-pub none_for_tree : (f : FieldTree) → ((k : Kind) → ¬ InferredAs f.tree k) → InfersNone f
+-- as for one alone, and read as none beside
+pub infers_alone : (f : FieldTree) (t : Tree) (r : Option Kind) (g : GeoArrowType) → t ≡ f.tree → AnswersInferred t r → Infers f g → ReadsOrInfersAlone f g
 unfolding InfersAs
-none_for_tree f none k m h = none k h.2
-
--- as for one alone
-pub infers_alone : (f : FieldTree) (r : Option Kind) (g : GeoArrowType) → AnswersInferred f.tree r → Infers f g → InfersAlone f g
-unfolding InfersAs
-infers_alone f r g is here k m there =
-    (same_Some k (kind_of g) (sym ((is k).1 there.2) ∙ (is (kind_of g)).1 here.2), text_denotes_one (extension_metadata f) m (meta_of g) there.1 here.1)
+infers_alone f t r g same answers here =
+    let is : AnswersInferred f.tree r = subst (λ u. AnswersInferred u r) same answers in (
+      (λ k m there. absurd (here.0 (read_has_name f k m there))),
+      λ k m there.
+          (same_Some k (kind_of g) (sym ((is k).1 there.2) ∙ (is (kind_of g)).1 here.2), text_denotes_one (extension_metadata f) m (meta_of g) there.1 here.1),
+    )
 
 -- how a field is refused that is taken for nothing
 abbrev IsUninferred : FieldTree → GeoArrowError → Type 0
@@ -91,34 +60,30 @@ unfolding InfersAs
 text_error f a (inl memory) refused = inl (ap Arrow memory)
 text_error f a (inr none) refused = inr ((λ k m h. none m h.1), (none, refused))
 
+pub none_for_tree : (f : FieldTree) → ((k : Kind) → ¬ InferredAs f.tree k) → InfersNone f
+unfolding InfersAs
+none_for_tree f none k m h = none k h.2
+
 pub tree_error : (f : FieldTree) (text : Text) (e : GeoArrowError) (m : Metadata) → DenotesMetadata (extension_metadata f) m → ((k : Kind) → ¬ InferredAs f.tree k) → text ≡ uninferred_text f.tree → IsGeoMemory e ⊎ IsInvalidOf text e → IsUninferred f e
 tree_error f text e m stands none why (inl memory) = inl memory
-tree_error f text (InvalidGeoArrow s) m stands none why (inr is) = inr (none_for_tree f none, ((m, stands), (none, is ∙ why)))
+tree_error f text (InvalidGeoArrow s) m stands none why (inr is) = inr (none_for_tree f none, ((m, stands), none, is ∙ why))
 tree_error f text e m stands none why (inr is) = absurd is
 
--- and how one that is read as nothing beside
-pub named_inference : (f : FieldTree) (r : Result GeoArrowType GeoArrowError) → HasGeoArrowName f → IfOk r (Reads f) → IfErr r (IsRefusal f) → IsInference f r
-unfolding InfersAs
-named_inference f (Ok g) named reads refused = inl reads
-named_inference f (Err e) named reads (inl memory) = inl memory
-named_inference f (Err e) named reads (inr (none, refused)) = inr (none, (λ k m h. h.0 named), inl (named, refused))
+pub unnamed_error : (f : FieldTree) (e : GeoArrowError) → ¬ HasGeoArrowName f → IsUninferred f e → IsInferenceRefusal f e
+unnamed_error f e unnamed (inl memory) = inl memory
+unnamed_error f e unnamed (inr (none, refused)) = inr ((λ k m r. unnamed (read_has_name f k m r)), none, inr (unnamed, refused))
 
-pub unnamed_inference : (f : FieldTree) (r : Result GeoArrowType GeoArrowError) → ¬ HasGeoArrowName f → IfOk r (Infers f) → IfErr r (λ e. IsGeoMemory e ⊎ (InfersNone f × UninferredAs f e)) → IsInference f r
-unnamed_inference f (Ok g) unnamed infers refused = inr infers
-unnamed_inference f (Err e) unnamed infers (inl memory) = inl memory
-unnamed_inference f (Err e) unnamed infers (inr (none, refused)) = inr (none_unnamed f unnamed, none, inr (unnamed, refused))
-
--- a field that is read is taken for none beside
-pub named_alone : (f : FieldTree) (r : Result GeoArrowType GeoArrowError) → IfOk r (Reads f) → IfOk r (ReadsAlone f) → IfOk r (ReadsOrInfersAlone f)
+-- a field that is read, or refused, under its name is taken for nothing
+pub named_inference : (f : FieldTree) (r : Result GeoArrowType GeoArrowError) → IfOk r (Reads f) → IfErr r (IsRefusedBy f) → IsInference f r
 unfolding InfersAs
-named_alone f (Ok g) reads alone = (alone, λ k m there. absurd (there.0 (read_has_name f g reads)))
-named_alone f (Err e) reads alone = tt
+named_inference f (Ok g) reads refused = inl reads
+named_inference f (Err e) reads (named, inl memory) = inl memory
+named_inference f (Err e) reads (named, inr (none, refused)) = inr (none, (λ k m h. h.0 named), inl (named, refused))
 
 -- a field is read as one type or taken for one
 pub taken_once : (f : FieldTree) → ((g h : GeoArrowType) → Reads f g → Reads f h → SameType g h) → ((g h : GeoArrowType) → Infers f g → Infers f h → SameType g h)
     → (g h : GeoArrowType) → ReadsOrInfers f g → ReadsOrInfers f h → SameType g h
-unfolding InfersAs
 taken_once f read inferred g h (inl p) (inl q) = read g h p q
 taken_once f read inferred g h (inr p) (inr q) = inferred g h p q
-taken_once f read inferred g h (inl p) (inr q) = absurd (q.0 (read_has_name f g p))
-taken_once f read inferred g h (inr p) (inl q) = absurd (p.0 (read_has_name f h q))
+taken_once f read inferred g h (inl p) (inr q) = absurd (read_uninferred f (kind_of g) (kind_of h) (meta_of g) (meta_of h) p q)
+taken_once f read inferred g h (inr p) (inl q) = absurd (read_uninferred f (kind_of h) (kind_of g) (meta_of h) (meta_of g) q p)

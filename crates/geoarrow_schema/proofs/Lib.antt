@@ -1,3 +1,4 @@
+pub mod Terms
 pub mod Reading
 pub mod Inferring
 pub mod Uninferred

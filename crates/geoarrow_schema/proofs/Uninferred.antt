@@ -1,52 +1,36 @@
 -- Why nothing is inferred from a tree, by its summary.
-use Rattle.std.proofs.Common.{◌≡◌, inl, inr, ◌∙◌, ◌<◌, ◌≤◌, ℕ, zero, suc, refl, sym, ap, subst, arith, codes, Option, Some, None}
-use Rattle.arrow_values.specs.Tree.{Text, Tree, plain, list, large_list, fixed_size_list, struct, union}
+use Rattle.geoarrow_schema.proofs.Terms.{◌≡◌, inl, inr, ◌∙◌, ◌<◌, ◌≤◌, ℕ, zero, suc, refl, sym, ap, subst, arith, codes, Option, Some, None, Text, Tree, plain, list, large_list, fixed_size_list}
+use Rattle.geoarrow_schema.proofs.Terms.{struct, union, ListsOver, uninferred_text, bottom_text}
 use Rattle.geoarrow_layout.specs.declared.summary.ListWidth.{ListWidth}
 use Rattle.geoarrow_layout.specs.declared.summary.ListWidth.TheVariants.{List as Lists, LargeList as LargeLists}
 use Rattle.geoarrow_layout.specs.declared.summary.Bottom.{Bottom}
 use Rattle.geoarrow_layout.specs.declared.summary.Bottom.TheVariants.{FixedSizeList, Struct, Union}
 use Rattle.geoarrow_layout.specs.declared.summary.Summary.{Summary}
-use Rattle.geoarrow_layout.specs.Shapes.{ListsOver}
 use Rattle.geoarrow_layout.specs.Summary.{IsUnion, IsList, IsBottom, AreLevels, Summarizes}
-use Rattle.geoarrow_schema.specs.Infers.{uninferred_text}
-use Rattle.geoarrow_schema.specs.Refusals.{bottom_text}
 
 abbrev other : Text
 other = codes "cannot infer: data type"
 
 -- below lists
-over_lists : (w : ListWidth) (n : ℕ) (t u : Tree) → 0 < n → ListsOver w n t u → other ≡ uninferred_text t
-over_lists w zero t u some h = absurd (omega (arith, some))
-over_lists Lists (suc n) (list name t b m) u some h = refl
-over_lists LargeLists (suc n) (large_list name t b m) u some h = refl
-over_lists w (suc n) t u some h = absurd h
-
-levels_over : (w : Option ListWidth) (n : ℕ) (t u : Tree) → 0 < n → AreLevels w n t u → other ≡ uninferred_text t
+pub levels_over : (w : Option ListWidth) (n : ℕ) (t u : Tree) → 0 < n → AreLevels w n t u → other ≡ uninferred_text t
 levels_over None n t u some h = absurd (omega (arith, some, h.0))
-levels_over (Some w) n t u some h = over_lists w n t u some h.2
-
-pub below_lists : (s : Summary) (t : Tree) → 0 < s.levels → Summarizes s t → other ≡ uninferred_text t
-below_lists s t some h = levels_over s.width s.levels t h.0 some h.1
+levels_over (Some w) zero t u some h = absurd (omega (arith, some))
+levels_over (Some Lists) (suc n) (list name t b m) u some h = refl
+levels_over (Some LargeLists) (suc n) (large_list name t b m) u some h = refl
+levels_over (Some w) (suc n) t u some h = absurd h.2
 
 -- below none
-no_list : (v : ListWidth) (w : Option ListWidth) (b : Bottom) → IsList v w 0 b → bottom_text b ≡ other
-no_list v w b (inl h) = ap bottom_text h.1
-no_list v w b (inr h) = absurd (omega (arith, h.1))
-
-bottom_says : (w : Option ListWidth) (b : Bottom) (u : Tree) → IsBottom IsUnion w 0 b u → bottom_text b ≡ uninferred_text u
-bottom_says w (FixedSizeList named size floats) (fixed_size_list n t nullable m z) h = ap (λ x. bottom_text (FixedSizeList named size x)) h.2
-bottom_says w (Struct count names floats) (struct fs) h = ap (λ x. bottom_text (Struct count names x)) h.2
-bottom_says w (Union e i c d f g) (union ms mode) h = refl
-bottom_says w b (list n t nullable m) h = no_list Lists w b h
-bottom_says w b (large_list n t nullable m) h = no_list LargeLists w b h
-bottom_says w b (plain p) h = ap bottom_text h
-bottom_says w b _ h = absurd h
+bottom_says : (w : Option ListWidth) (n : ℕ) (b : Bottom) (u : Tree) → IsBottom IsUnion w n b u → bottom_text b ≡ uninferred_text u
+bottom_says w n (FixedSizeList named size floats) (fixed_size_list name t nullable m z) h = ap (λ x. bottom_text (FixedSizeList named size x)) h.2
+bottom_says w n (Struct count names floats) (struct fs) h = ap (λ x. bottom_text (Struct count names x)) h.2
+bottom_says w zero (Union e i c d f g) (union ms mode) h = refl
+bottom_says w (suc n) (Union e i c d f g) (union ms mode) h = refl
+bottom_says w n b (plain p) h = ap bottom_text h
+bottom_says w n b _ h = grind arith
 
 no_levels : (w : Option ListWidth) (n : ℕ) (t u : Tree) → n ≤ 0 → AreLevels w n t u → t ≡ u
 no_levels None n t u none h = h.1
 no_levels (Some w) n t u none h = absurd (omega (arith, none, h.0))
 
 pub at_bottom : (s : Summary) (t : Tree) (text : Text) → s.levels ≤ 0 → Summarizes s t → text ≡ bottom_text s.bottom → text ≡ uninferred_text t
-at_bottom s t text none h is =
-    let here : IsBottom IsUnion s.width 0 s.bottom h.0 = subst (λ n. IsBottom IsUnion s.width n s.bottom h.0) (omega (arith, none)) h.2 in
-    is ∙ bottom_says s.width s.bottom h.0 here ∙ ap uninferred_text (sym (no_levels s.width s.levels t h.0 none h.1))
+at_bottom s t text none h is = is ∙ bottom_says s.width s.levels s.bottom h.0 h.2 ∙ ap uninferred_text (sym (no_levels s.width s.levels t h.0 none h.1))

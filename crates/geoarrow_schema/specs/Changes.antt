@@ -2,20 +2,16 @@
 use Rattle.geoarrow_layout.specs.declared.kinds.CoordType.{CoordType}
 use Rattle.geoarrow_layout.specs.declared.kinds.Dimension.{Dimension}
 use Rattle.geoarrow_layout.specs.declared.encodings.Kind.{Kind}
-use Rattle.geoarrow_layout.specs.declared.encodings.Kind.TheVariants.{Native, Geometry, Rect, Wkb, Wkt}
+use Rattle.geoarrow_layout.specs.declared.encodings.Kind.TheVariants.{Native, Geometry, Rect}
 
 -- a native kind and geometries of any kind have a coordinate type to change
 abbrev pub with_coord_type : CoordType → Kind → Kind
 with_coord_type b (Native k c d) = Native k b d
 with_coord_type b (Geometry c) = Geometry b
-with_coord_type b (Rect d) = Rect d
-with_coord_type b (Wkb w) = Wkb w
-with_coord_type b (Wkt w) = Wkt w
+with_coord_type b k = k
 
 -- a native kind and boxes have a dimension
 abbrev pub with_dimension : Dimension → Kind → Kind
 with_dimension e (Native k c d) = Native k c e
-with_dimension e (Geometry c) = Geometry c
 with_dimension e (Rect d) = Rect e
-with_dimension e (Wkb w) = Wkb w
-with_dimension e (Wkt w) = Wkt w
+with_dimension e k = k

@@ -1,5 +1,5 @@
 -- What is inferred for a field without a GeoArrow name.
-use Rattle.std.specs.Prelude.{◌≡◌, ◌⊎◌, ◌↔◌, Option, Some, None, Result, Ok, Err, cond, codes, string_bytes, ⊤}
+use Rattle.std.specs.Prelude.{◌≡◌, ◌⊎◌, ◌↔◌, Option, Some, None, Result, MatchResult, cond, codes, string_bytes, ⊤}
 use Rattle.arrow_values.specs.Tree.{Text, Tree, fixed_size_list, struct, FieldTree}
 use Rattle.arrow_values.specs.Texts.{extension_name, extension_metadata}
 use Rattle.arrow_values.specs.Errors.{IsGeoMemory}
@@ -8,6 +8,8 @@ use Rattle.arrow_values.specs.declared.error.GeoArrowError.TheVariants.{Arrow, I
 use Rattle.geoarrow_layout.specs.declared.encodings.NativeKind.TheVariants.{Point}
 use Rattle.geoarrow_layout.specs.declared.encodings.Kind.{Kind}
 use Rattle.geoarrow_layout.specs.declared.encodings.Kind.TheVariants.{Native, Wkb, Wkt}
+use Rattle.geoarrow_layout.specs.declared.summary.Bottom.{Bottom}
+use Rattle.geoarrow_layout.specs.declared.summary.Bottom.TheVariants.{FixedSizeList, Struct}
 use Rattle.geoarrow_layout.specs.Shapes.{IsBytes, IsText}
 use Rattle.geoarrow_layout.specs.Inferred.{Inferred, is_float64, are_float64}
 use Rattle.geoarrow_layout.specs.Layouts.{layout}
@@ -17,12 +19,16 @@ use Rattle.geoarrow_schema.specs.declared.types.GeoArrowType.{GeoArrowType}
 use Rattle.geoarrow_schema.specs.Types.{kind_of, meta_of}
 use Rattle.geoarrow_schema.specs.Reads.{HasGeoArrowName, Reads, ReadsAlone, ReadsAsNone, FieldRefusedAs}
 
+-- the tree is well-known binary or text, in some width
+abbrev pub IsStored : Tree → Kind → Type 0
+IsStored t (Wkb w) = IsBytes w t
+IsStored t (Wkt w) = IsText w t
+IsStored t _ = ⊥
+
 -- the kind is inferred from the tree: a point, well-known binary or well-known text
 abbrev pub InferredAs : Tree → Kind → Type 0
 InferredAs t (Native Point c d) = Inferred t c d
-InferredAs t (Wkb w) = IsBytes w t
-InferredAs t (Wkt w) = IsText w t
-InferredAs t _ = ⊥
+InferredAs t k = IsStored t k
 
 -- the field has no GeoArrow name, its metadata text denotes the metadata, and the kind is inferred from its tree
 unfoldable pub InfersAs : FieldTree → Kind → Metadata → Type 0
@@ -54,14 +60,16 @@ uninferred_text (struct fs) = cond (are_float64 fs) (codes "cannot infer: field 
 uninferred_text (fixed_size_list n t b m size) = cond (is_float64 t) (codes "cannot infer: list size") (codes "cannot infer: inner field is not Float64")
 uninferred_text _ = codes "cannot infer: data type"
 
--- no kind is inferred from the tree, and the message says why
-abbrev pub TreeUninferredAs : Tree → Text → Type 0
-TreeUninferredAs t message = ((k : Kind) → ¬ InferredAs t k) × (message ≡ uninferred_text t)
+-- so of a tree of that bottom below no lists; only private contracts cite it
+abbrev pub bottom_text : Bottom → Text
+bottom_text (Struct count names all_floats) = cond all_floats (codes "cannot infer: field count") (codes "cannot infer: fields are not all Float64")
+bottom_text (FixedSizeList named size floats) = cond floats (codes "cannot infer: list size") (codes "cannot infer: inner field is not Float64")
+bottom_text _ = codes "cannot infer: data type"
 
 -- the error with which a field without a GeoArrow name is refused: that of its metadata text, if that denotes none; `InvalidGeoArrow` for
--- its tree, if it denotes one
+-- its tree, if it denotes one and no kind is inferred from the tree, with the message that says why
 abbrev pub UninferredAs : FieldTree → GeoArrowError → Type 0
-UninferredAs f (InvalidGeoArrow s) = ((m : Metadata) × DenotesMetadata (extension_metadata f) m) × TreeUninferredAs f.tree (string_bytes s)
+UninferredAs f (InvalidGeoArrow s) = ((m : Metadata) × DenotesMetadata (extension_metadata f) m) × ((k : Kind) → ¬ InferredAs f.tree k) × (string_bytes s ≡ uninferred_text f.tree)
 UninferredAs f (Arrow a) = ((m : Metadata) → ¬ DenotesMetadata (extension_metadata f) m) × TextRefusedAs (extension_metadata f) a
 UninferredAs f _ = ⊥
 
@@ -71,18 +79,11 @@ IsInferenceRefusal f e = IsGeoMemory e ⊎ (ReadsAsNone f × InfersNone f × ((H
 
 -- what a field is read as or, without a GeoArrow name, what is inferred for it
 abbrev pub IsInference : FieldTree → Result GeoArrowType GeoArrowError → Type 0
-IsInference f (Ok g) = ReadsOrInfers f g
-IsInference f (Err e) = IsInferenceRefusal f e
+IsInference f r = MatchResult r (ReadsOrInfers f) (IsInferenceRefusal f)
 
 -- the result is the one kind that is inferred from the tree, or `None` if there is none
 abbrev pub AnswersInferred : Tree → Option Kind → Type 0
 AnswersInferred t r = (k : Kind) → (r ≡ Some k) ↔ InferredAs t k
-
--- the tree is well-known binary or text, in some width
-abbrev pub IsStored : Tree → Kind → Type 0
-IsStored t (Wkb w) = IsBytes w t
-IsStored t (Wkt w) = IsText w t
-IsStored t _ = ⊥
 
 -- a kind that can be inferred from its data type: points, well-known binary and text
 abbrev pub IsInferable : Kind → Type 0

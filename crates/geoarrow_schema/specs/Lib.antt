@@ -1,6 +1,5 @@
 pub mod Types
 pub mod Changes
 pub mod Reads
-pub mod Refusals
 pub mod Normal
 pub mod Infers

@@ -1,8 +1,8 @@
 -- What a field reads as, and what is written.
-use Rattle.std.specs.Prelude.{◌≡◌, ◌⊎◌, Bool, Option, Some, None, Result, Ok, Err, ⊤}
+use Rattle.std.specs.Prelude.{◌≡◌, ◌⊎◌, Bool, Option, Some, None, Result, Ok, Err, MatchResult}
 use Rattle.arrow_values.specs.Tree.{Text, Tree, FieldTree}
-use Rattle.arrow_values.specs.Texts.{extension_name, extension_metadata, set_extension}
-use Rattle.arrow_values.specs.Errors.{IsGeoMemory}
+use Rattle.arrow_values.specs.Texts.{extension_name, extension_metadata}
+use Rattle.arrow_values.specs.Errors.{IsGeoMemory, IsInvalidOf}
 use Rattle.arrow_values.specs.declared.error.ArrowError.{ArrowError}
 use Rattle.arrow_values.specs.declared.error.GeoArrowError.{GeoArrowError}
 use Rattle.arrow_values.specs.declared.error.GeoArrowError.TheVariants.{Arrow, InvalidGeoArrow}
@@ -14,7 +14,7 @@ use Rattle.geoarrow_layout.specs.Kinds.{name_text, name_of}
 use Rattle.geoarrow_layout.specs.Shapes.{IsBytes, IsText}
 use Rattle.geoarrow_layout.specs.Layouts.{layout}
 use Rattle.geoarrow_meta.specs.declared.metadata.Metadata.{Metadata}
-use Rattle.geoarrow_meta.specs.Written.{meta_value, printed}
+use Rattle.geoarrow_meta.specs.Written.{meta_value}
 use Rattle.geoarrow_meta.specs.Read.{DenotesMetadata, TextRefusedAs}
 use Rattle.serde_json.specs.Data.{Data}
 use Rattle.geoarrow_native.specs.Column.{ReadsAs, IsLayoutRefusal, written_field}
@@ -45,13 +45,9 @@ ReadsAlone f g = (k : Kind) (m : Metadata) → ReadsAs f k m → (k ≡ kind_of 
 abbrev pub HasWrongStorage : FieldTree → Type 0
 HasWrongStorage f = (HasName f Wkb × ((w : Width) → ¬ IsBytes w f.tree)) ⊎ (HasName f Wkt × ((w : Width) → ¬ IsText w f.tree))
 
--- the error is that of the fault that the field's tree has under its extension name
-abbrev pub TreeRefusedAs : FieldTree → ArrowError → Type 0
-TreeRefusedAs f a = (n : ExtensionName) × HasName f n × IsLayoutRefusal n f.tree a
-
--- the error is that of the field's metadata text or, if that denotes a metadata, that of its tree
+-- the error is that of the field's metadata text or, if that denotes a metadata, that of the fault that its tree has under its extension name
 abbrev pub ColumnRefusedAs : FieldTree → ArrowError → Type 0
-ColumnRefusedAs f a = TextRefusedAs (extension_metadata f) a ⊎ (((m : Metadata) × DenotesMetadata (extension_metadata f) m) × TreeRefusedAs f a)
+ColumnRefusedAs f a = TextRefusedAs (extension_metadata f) a ⊎ (((m : Metadata) × DenotesMetadata (extension_metadata f) m) × (n : ExtensionName) × HasName f n × IsLayoutRefusal n f.tree a)
 
 -- the error with which a field with a GeoArrow name is refused
 abbrev pub FieldRefusedAs : FieldTree → GeoArrowError → Type 0
@@ -69,30 +65,17 @@ IsReading f (Ok (Some g)) = Reads f g
 IsReading f (Ok None) = ¬ HasGeoArrowName f
 IsReading f (Err e) = IsRefusedBy f e
 
--- an `InvalidGeoArrow`
-abbrev pub IsInvalid : GeoArrowError → Type 0
-IsInvalid (InvalidGeoArrow s) = ⊤
-IsInvalid _ = ⊥
-
 -- out of memory; or the field is read as nothing, and this is its error: without a GeoArrow name an `InvalidGeoArrow`
 abbrev pub IsTypeRefusal : FieldTree → GeoArrowError → Type 0
-IsTypeRefusal f e = IsGeoMemory e ⊎ (ReadsAsNone f × ((HasGeoArrowName f × FieldRefusedAs f e) ⊎ (¬ HasGeoArrowName f × IsInvalid e)))
+IsTypeRefusal f e = IsGeoMemory e ⊎ (ReadsAsNone f × ((HasGeoArrowName f × FieldRefusedAs f e) ⊎ (¬ HasGeoArrowName f × (text : Text) × IsInvalidOf text e)))
 
 -- what a field is read as by a call that must return a type
 abbrev pub IsTypeReading : FieldTree → Result GeoArrowType GeoArrowError → Type 0
-IsTypeReading f (Ok g) = Reads f g
-IsTypeReading f (Err e) = IsTypeRefusal f e
+IsTypeReading f r = MatchResult r (Reads f) (IsTypeRefusal f)
 
 -- what is written of a type: name, tree and metadata value
-abbrev pub Written : Type 0
-Written = Text × Tree × Option Data
-
-abbrev pub writes : GeoArrowType → Written
+abbrev pub writes : GeoArrowType → Text × Tree × Option Data
 writes g = (name_of (kind_of g), layout (kind_of g), meta_value (meta_of g))
-
--- the field with the extension name of a kind and the metadata text of a metadata, otherwise unchanged
-abbrev pub with_extension : FieldTree → Kind → Metadata → FieldTree
-with_extension f k m = record f { metadata = set_extension (name_of k) (printed m) f.metadata }
 
 -- the field of that name and nullability that is written for a type
 abbrev pub field_of : Text → Bool → GeoArrowType → FieldTree

@@ -7,8 +7,7 @@ ghost use Rattle.geoarrow_layout.specs.declared.kinds.Dimension.{Dimension};
 ghost use Rattle.geoarrow_layout.specs.declared.encodings.Kind.{Kind};
 ghost use Rattle.geoarrow_layout.specs.Inferred.{Inferred};
 ghost use Rattle.geoarrow_schema.specs.Reads.{HasGeoArrowName};
-ghost use Rattle.geoarrow_schema.specs.Infers.{InferredAs, Infers, InfersAlone, ReadsOrInfersAlone, InfersNone, uninferred_text, UninferredAs, IsInference, AnswersInferred};
-ghost use Rattle.geoarrow_schema.specs.Refusals.{bottom_text};
+ghost use Rattle.geoarrow_schema.specs.Infers.{InferredAs, ReadsOrInfersAlone, InfersNone, uninferred_text, bottom_text, UninferredAs, IsInference, AnswersInferred};
 
 use crate::read::{name_of, read_named};
 use crate::types::GeoArrowType;
@@ -36,6 +35,7 @@ impl GeoArrowType {
     /// let inferred = GeoArrowType::from_arrow_field(alloc, &unnamed)?;
     /// assert!(rt; matches!(inferred, GeoArrowType::Wkb(_)));
     /// ```
+    #[tactic(auto, using(crate::proofs::Inferring::named_inference))]
     pub fn from_arrow_field(alloc: Global, field: &Field) -> GeoArrowResult<GeoArrowType>
         ensures inference { IsInference field.now result }
         ensures only { IfOk result (ReadsOrInfersAlone field.now) }
@@ -48,12 +48,11 @@ impl GeoArrowType {
 }
 
 /// The type that a field without a GeoArrow name is taken for.
-#[tactic(auto, using(crate::proofs::Inferring::type_inferred, crate::proofs::Inferring::text_error))]
+#[tactic(auto, using(crate::proofs::Inferring::type_inferred, crate::proofs::Inferring::text_error, crate::proofs::Inferring::unnamed_error))]
 fn infer(alloc: Global, field: &Field) -> GeoArrowResult<GeoArrowType>
     requires { ¬ HasGeoArrowName field.now }
-    ensures ok { IfOk result (Infers field.now) }
-    ensures only { IfOk result (InfersAlone field.now) }
-    ensures refused { IfErr result (λ e. IsGeoMemory e ⊎ (InfersNone field.now × UninferredAs field.now e)) }
+    ensures inference { IsInference field.now result }
+    ensures only { IfOk result (ReadsOrInfersAlone field.now) }
 {
     let Some(kind) = infer_kind(field.data_type()) else {
         return Err(inference_error(alloc, field));

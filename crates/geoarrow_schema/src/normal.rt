@@ -1,12 +1,12 @@
 //! The normal form of a type, and of a field that holds one.
 ghost use Rattle.std.specs.Prelude.{◌≡◌, ◌↔◌, Ok, None, IsOk, IfOk, IfErr, IfSome, IsTrue};
 ghost use Rattle.arrow_values.specs.Errors.{IsMemory};
+ghost use Rattle.geoarrow_layout.specs.Shapes.{Accepted};
 ghost use Rattle.geoarrow_layout.specs.Layouts.{layout};
-ghost use Rattle.geoarrow_meta.specs.Read.{DenotesMetadata};
-ghost use Rattle.geoarrow_meta.specs.Written.{printed, normal, NestsWithin};
+ghost use Rattle.geoarrow_meta.specs.Written.{normal};
 ghost use Rattle.geoarrow_schema.specs.declared.types.GeoArrowType.{GeoArrowType};
 ghost use Rattle.geoarrow_schema.specs.Types.{kind_of, meta_of};
-ghost use Rattle.geoarrow_schema.specs.Reads.{HasGeoArrowName, Reads, IsRefusedBy, writes, with_extension};
+ghost use Rattle.geoarrow_schema.specs.Reads.{HasGeoArrowName, Reads, IsRefusedBy, writes};
 ghost use Rattle.geoarrow_schema.specs.Normal.{normal_of, rewritten, HasKeysOf, ReadsNormally, ReadsShallow, IsCanonical};
 
 use crate::types::GeoArrowType;
@@ -41,6 +41,7 @@ impl GeoArrowType {
     /// let other_type = GeoArrowType::try_from_field(alloc, other)?;
     /// Ok(one_type.same_written(&other_type))
     /// ```
+    #[tactic(auto, using(crate::proofs::Rewriting::kinds_written))]
     pub fn same_written(&self, other: &GeoArrowType) -> bool
         ensures written { IsTrue result ↔ (writes self.now ≡ writes other.now) }
         ensures normal { IsTrue result ↔ (normal_of self.now ≡ normal_of other.now) }
@@ -96,7 +97,7 @@ impl GeoArrowType {
     /// nothing writes what the normal form drops.
     fn set_normal_extension(&self, alloc: Global, column: Field) -> Result<Field, ArrowError>
         requires { column.tree ≡ layout (kind_of self.now) }
-        ensures written { IfOk result (λ f. f ≡ with_extension column (kind_of self.now) (normal (meta_of self.now))) }
+        ensures written { IfOk result (λ f. f ≡ rewritten column (kind_of self.now) (normal (meta_of self.now))) }
         ensures keys { IfOk result (HasKeysOf self.now column) }
         ensures reads_back { IfOk result (λ f. ReadsNormally f (kind_of self.now) (meta_of self.now)) }
         ensures nested { IfOk result (λ f. ReadsShallow f self.now) }
@@ -108,11 +109,14 @@ impl GeoArrowType {
     }
 
     /// The field with the extension name and the metadata text of this type.
+    #[tactic(auto, using(crate::proofs::Rewriting::normal_written, crate::proofs::Rewriting::reads_where, crate::proofs::Rewriting::normal_value))]
     fn set_extension(&self, alloc: Global, bare: Field) -> Result<Field, ArrowError>
-        ensures written { IfOk result (λ f. f ≡ with_extension bare (kind_of self.now) (meta_of self.now)) }
+        ensures written { IfOk result (λ f. bare.tree ≡ layout (kind_of self.now)
+            → f ≡ rewritten bare (kind_of self.now) (normal (meta_of self.now))) }
         ensures keys { IfOk result (HasKeysOf self.now bare) }
-        ensures nested { IfOk result (λ _. NestsWithin 100 (meta_of self.now).crs.value
-            → DenotesMetadata (printed (meta_of self.now)) (normal (meta_of self.now))) }
+        ensures reads_back { IfOk result (λ f. Accepted (kind_of self.now) bare.tree
+            → ReadsNormally f (kind_of self.now) (meta_of self.now)) }
+        ensures nested { IfOk result (λ f. Accepted (kind_of self.now) bare.tree → ReadsShallow f self.now) }
         ensures refused { IfErr result IsMemory }
     {
         let text = self.metadata().serialize(alloc)?;

@@ -10,8 +10,8 @@ ghost use Rattle.geoarrow_layout.specs.Shapes.{Accepts};
 ghost use Rattle.geoarrow_layout.specs.FaultAt.{HasFault, FaultAt};
 ghost use Rattle.geoarrow_meta.specs.Read.{TextRefusedAs, IsTextReading};
 ghost use Rattle.geoarrow_native.specs.Column.{IsColumn};
-ghost use Rattle.geoarrow_schema.specs.Reads.{HasName, Reads, ReadsAlone, ColumnRefusedAs, IsReading, IsTypeReading};
-ghost use Rattle.geoarrow_schema.specs.Refusals.{IsRefusal};
+ghost use Rattle.geoarrow_schema.specs.Reads.{HasName, Reads, ReadsAlone, ColumnRefusedAs, IsRefusedBy, IsReading, IsTypeReading};
+ghost use Rattle.geoarrow_schema.specs.Infers.{ReadsOrInfersAlone};
 
 use crate::types::GeoArrowType;
 use arrow_values::{ArrowError, Field, GeoArrowError, GeoArrowResult};
@@ -116,8 +116,8 @@ pub(crate) fn read_named(
 ) -> GeoArrowResult<GeoArrowType>
     requires { HasName field.now name }
     ensures ok { IfOk result (Reads field.now) }
-    ensures only { IfOk result (ReadsAlone field.now) }
-    ensures refused { IfErr result (IsRefusal field.now) }
+    ensures only { IfOk result (ReadsOrInfersAlone field.now) }
+    ensures refused { IfErr result (IsRefusedBy field.now) }
 {
     match parse_kind(name, field.data_type()) {
         Ok(kind) => read_kind(alloc, field, kind),
@@ -126,12 +126,12 @@ pub(crate) fn read_named(
 }
 
 /// The type that a field is read as whose name and data type are those of a kind.
-#[tactic(auto, using(crate::proofs::Reading::none_of_text, crate::proofs::Reading::column_reads, crate::proofs::Reading::type_reads, crate::proofs::Reading::reads_alone, crate::proofs::Reading::column_refused))]
+#[tactic(auto, using(crate::proofs::Reading::type_reads, crate::proofs::Reading::reads_alone, crate::proofs::Reading::column_refused))]
 fn read_kind(alloc: Global, field: &Field, kind: Kind) -> GeoArrowResult<GeoArrowType>
     requires { IsColumn field.now kind }
     ensures ok { IfOk result (Reads field.now) }
-    ensures only { IfOk result (ReadsAlone field.now) }
-    ensures refused { IfErr result (IsRefusal field.now) }
+    ensures only { IfOk result (ReadsOrInfersAlone field.now) }
+    ensures refused { IfErr result (IsRefusedBy field.now) }
 {
     let metadata = Arc::new(alloc, read_metadata_of_named(alloc, field)?)?;
     reads_as_one_column(field);
@@ -142,11 +142,12 @@ fn read_kind(alloc: Global, field: &Field, kind: Kind) -> GeoArrowResult<GeoArro
 /// The refusal of a field of that name whose data type is of no kind of it and has that fault under it.
 #[cold]
 #[inline(never)]
+#[tactic(auto, using(crate::proofs::Reading::unstored_refused))]
 fn refusal(alloc: Global, field: &Field, name: ExtensionName, fault: LayoutFault) -> GeoArrowError
     requires named { HasName field.now name }
     requires no_kind { (k : Kind) → ¬ Accepts (name_text name) field.now.tree k }
     requires at_fault { HasFault (FaultAt name field.now.tree) fault }
-    ensures { IsRefusal field.now result }
+    ensures { IsRefusedBy field.now result }
 {
     match name {
         ExtensionName::Wkb => {
@@ -155,7 +156,7 @@ fn refusal(alloc: Global, field: &Field, name: ExtensionName, fault: LayoutFault
         ExtensionName::Wkt => {
             GeoArrowError::invalid_geoarrow(alloc, "geoarrow.wkt needs a text type")
         }
-        ExtensionName::Native(_) | ExtensionName::Geometry | ExtensionName::Rect => {
+        _ => {
             names_are_distinct();
             GeoArrowError::Arrow(structured_refusal(alloc, field, name, fault))
         }
