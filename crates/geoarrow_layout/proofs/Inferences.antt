@@ -1,5 +1,5 @@
 -- Points that trees are taken for.
-use Rattle.geoarrow_layout.proofs.Terms.{◌≡◌, ◌↔◌, inl, inr, ℤ, pos, refl, sym, ap, subst, ◌∙◌, arith, true, false, Option, Some, None, List, length, same_Some, [], ◌∷◌, get_or, FieldTree, field_trees, Text, Tree, fixed_size_list, struct, FieldTrees, CoordType, Interleaved, Separated, Dimension, XY, XYZ, XYM, LayoutFault, BadFieldNames, Path, SeparatedFault, size_of, names_of, IsSeparatedAs, Leaf, is_float64, are_float64, interleaved_name, AnswersSome, Inferred, IsInferredAs, IsInferredSize, among_back, dimension_named}
+use Rattle.geoarrow_layout.proofs.Terms.{◌≡◌, ◌↔◌, inl, inr, ℤ, pos, refl, sym, ap, subst, ◌∙◌, arith, true, false, Option, Some, None, List, length, same_Some, [], ◌∷◌, get_or, FieldTree, field_trees, Text, Tree, fixed_size_list, struct, FieldTrees, CoordType, Interleaved, Separated, Dimension, XY, XYZ, XYM, LayoutFault, BadFieldNames, Path, SeparatedFault, size_of, names_of, IsSeparatedAs, Leaf, is_float64, are_float64, interleaved_name, YieldsSome, Inferred, IsInferredAs, IsInferredSize, among_back, dimension_named}
 
 abbrev PairOption : Type 0
 PairOption = Option (CoordType × Dimension)
@@ -7,17 +7,17 @@ PairOption = Option (CoordType × Dimension)
 abbrev Pairs : CoordType → Option Dimension → PairOption → Type 0
 Pairs b o r = (c : CoordType) (d : Dimension) → (r ≡ Some (c, d)) ↔ ((b ≡ c) × (o ≡ Some d))
 
-pub separated_inferred : (t : Tree) (xs ys : List FieldTree) (o : Option Dimension) (r : PairOption) → t ≡ struct (field_trees xs) → ys ≡ xs → ((d : Dimension) → (o ≡ Some d) ↔ ((are_float64 (field_trees ys) ≡ true) × IsInferredAs d (names_of (field_trees ys)))) → Pairs Separated o r → AnswersSome r (Inferred t)
+pub separated_inferred : (t : Tree) (xs ys : List FieldTree) (o : Option Dimension) (r : PairOption) → t ≡ struct (field_trees xs) → ys ≡ xs → ((d : Dimension) → (o ≡ Some d) ↔ ((are_float64 (field_trees ys) ≡ true) × IsInferredAs d (names_of (field_trees ys)))) → Pairs Separated o r → YieldsSome r (Inferred t)
 separated_inferred t xs ys o r is same says pairs = rw (is, ← same) at_pair
   where
-    at_pair : AnswersSome r (Inferred (struct (field_trees ys)))
+    at_pair : YieldsSome r (Inferred (struct (field_trees ys)))
     at_pair Separated d = (λ e. (says d).0 ((pairs Separated d).0 e).1, λ h. (pairs Separated d).1 (refl, (says d).1 h))
     at_pair Interleaved d = (λ e. let bad = ((pairs Interleaved d).0 e).0 in cc, λ h. absurd h)
 
-pub interleaved_inferred : (t : Tree) (x y : FieldTree) (z told : ℤ) (o : Option Dimension) (r : PairOption) → t ≡ fixed_size_list x.name x.tree x.nullable x.metadata z → y ≡ x → told ≡ z → ((d : Dimension) → (o ≡ Some d) ↔ ((is_float64 y.tree ≡ true) × IsInferredSize d y.name told)) → Pairs Interleaved o r → AnswersSome r (Inferred t)
+pub interleaved_inferred : (t : Tree) (x y : FieldTree) (z told : ℤ) (o : Option Dimension) (r : PairOption) → t ≡ fixed_size_list x.name x.tree x.nullable x.metadata z → y ≡ x → told ≡ z → ((d : Dimension) → (o ≡ Some d) ↔ ((is_float64 y.tree ≡ true) × IsInferredSize d y.name told)) → Pairs Interleaved o r → YieldsSome r (Inferred t)
 interleaved_inferred t x y z told o r is same size says pairs = rw (is, ← same, ← size) at_pair
   where
-    at_pair : AnswersSome r (Inferred (fixed_size_list y.name y.tree y.nullable y.metadata told))
+    at_pair : YieldsSome r (Inferred (fixed_size_list y.name y.tree y.nullable y.metadata told))
     at_pair Interleaved d = (λ e. (says d).0 ((pairs Interleaved d).0 e).1, λ h. (pairs Interleaved d).1 (refl, (says d).1 h))
     at_pair Separated d = (λ e. let bad = ((pairs Separated d).0 e).0 in cc, λ h. absurd h)
 

@@ -1,5 +1,5 @@
 -- The kind of a name and a tree: there is one at most, and it is what a reader's answer says.
-use Rattle.geoarrow_layout.proofs.Terms.{◌≡◌, ◌⊎◌, inl, inr, Bool, true≢false, IsTrue, is_ok, cond, refl, sym, ap, subst, ◌∙◌, ◌↔◌, IfErr, Option, Some, None, Result, Ok, Err, bytes_eq, same_Some, Text, Tree, Point, LineString, Polygon, MultiPoint, MultiLineString, MultiPolygon, GeometryCollection, Width, Plain, Large, View, Kind, OfNative, OfGeometry, OfRect, OfWkb, OfWkt, ExtensionName, name_text, extension_of, Native, IsBytes, IsText, Accepted, Accepts, IsStructured, AnswersOne, any_native_same, geometry_same, box_shape_same, LayoutFault, Summary, Summarizes, IsAccepted, Path, HasFault, FaultAt, Tells, AnswersKind, NativeKind, CoordType, Dimension, Mixed, Geometry, BoxShape, NativeFault, MixedFault, GeometryFault, BoxFault, TellsBoth, Answers, coords_in, native_first, mixed_first}
+use Rattle.geoarrow_layout.proofs.Terms.{◌≡◌, ◌⊎◌, inl, inr, Bool, true≢false, IsTrue, is_ok, cond, refl, sym, ap, subst, ◌∙◌, ◌↔◌, IfErr, Option, Some, None, Result, Ok, Err, bytes_eq, same_Some, Text, Tree, Point, LineString, Polygon, MultiPoint, MultiLineString, MultiPolygon, GeometryCollection, Width, Plain, Large, View, Kind, OfNative, OfGeometry, OfRect, OfWkb, OfWkt, ExtensionName, name_text, extension_of, Native, IsBytes, IsText, Accepted, Accepts, IsStructured, YieldsOne, any_native_same, geometry_same, box_shape_same, LayoutFault, Summary, Summarizes, IsAccepted, Path, HasFault, FaultAt, Tells, YieldsKind, NativeKind, CoordType, Dimension, Mixed, Geometry, BoxShape, NativeFault, MixedFault, GeometryFault, BoxFault, TellsBoth, Yields, coords_in, native_first, mixed_first}
 use Rattle.geoarrow_layout.specs.declared.names.ExtensionName.TheVariants as names
 use Rattle.geoarrow_layout.proofs.FaultLaws.{accepted_apart, native_apart, mixed_none, geometry_apart, box_apart}
 use Rattle.geoarrow_layout.proofs.Readings.{Answer, exactly, exactly_one}
@@ -44,27 +44,27 @@ no_fault_if_accepted n t k p f h e = accepted_apart k t p f h.1 (subst (λ m. Fa
 -- ---- answers
 
 -- a kind that accepts the tree is the one
-pub kind_some : (n : Text) (t : Tree) (k : Kind) → IsStructured k → Accepts n t k → AnswersKind n t (Some k)
+pub kind_some : (n : Text) (t : Tree) (k : Kind) → IsStructured k → Accepts n t k → YieldsKind n t (Some k)
 kind_some n t k s here = λ l. (λ e. subst (λ x. Accepts n t x × IsStructured x) (same_Some k l e) (here, s), λ h. ap (λ x. Some x) (one_kind n t k l here h.0))
 
 -- the kind of a column, told by the reader of its extension name
-pub kind_exact : (n : ExtensionName) (t : Tree) (r : Result Kind LayoutFault) → Tells r (Accepts (name_text n) t) (FaultAt n t) → AnswersOne r (Accepts (name_text n) t)
+pub kind_exact : (n : ExtensionName) (t : Tree) (r : Result Kind LayoutFault) → Tells r (Accepts (name_text n) t) (FaultAt n t) → YieldsOne r (Accepts (name_text n) t)
 kind_exact n t r h = exactly_one r (Accepts (name_text n) t) (FaultAt n t) (one_kind (name_text n) t) (no_fault_if_accepted n t) h
 
 -- the same, told by the reader of a data type
-pub native_exact : (k : NativeKind) (t : Tree) (r : Answer) → TellsBoth r (Native t k) (NativeFault k t) → Answers r (Native t k)
+pub native_exact : (k : NativeKind) (t : Tree) (r : Answer) → TellsBoth r (Native t k) (NativeFault k t) → Yields r (Native t k)
 native_exact k t r = exactly (coords_in t) r (Native t k) (NativeFault k t) (native_first k t) (native_apart k t)
 
-pub mixed_exact : (t : Tree) (r : Answer) → TellsBoth r (Mixed t) (MixedFault t) → Answers r (Mixed t)
+pub mixed_exact : (t : Tree) (r : Answer) → TellsBoth r (Mixed t) (MixedFault t) → Yields r (Mixed t)
 mixed_exact t r = exactly (coords_in t) r (Mixed t) (MixedFault t) (mixed_first t) (mixed_none t)
 
-pub geometry_exact : (t : Tree) (r : Result CoordType LayoutFault) → Tells r (Geometry t) (GeometryFault t) → AnswersOne r (Geometry t)
+pub geometry_exact : (t : Tree) (r : Result CoordType LayoutFault) → Tells r (Geometry t) (GeometryFault t) → YieldsOne r (Geometry t)
 geometry_exact t r = exactly_one r (Geometry t) (GeometryFault t) (geometry_same t) (geometry_apart t)
 
-pub box_exact : (t : Tree) (r : Result Dimension LayoutFault) → Tells r (BoxShape t) (BoxFault t) → AnswersOne r (BoxShape t)
+pub box_exact : (t : Tree) (r : Result Dimension LayoutFault) → Tells r (BoxShape t) (BoxFault t) → YieldsOne r (BoxShape t)
 box_exact t r = exactly_one r (BoxShape t) (BoxFault t) (box_shape_same t) (box_apart t)
 
-pub answer_none : (x : Text) (n : ExtensionName) (t : Tree) (f : LayoutFault) → x ≡ name_text n → HasFault (FaultAt n t) f → AnswersKind x t None
+pub answer_none : (x : Text) (n : ExtensionName) (t : Tree) (f : LayoutFault) → x ≡ name_text n → HasFault (FaultAt n t) f → YieldsKind x t None
 answer_none x n t f named fault l = (λ e. cc, λ h. absurd (no_fault_if_accepted n t l fault.0 f (sym named ∙ h.0.0, h.0.1) fault.1))
 
 -- well-known binary and text have no structure
@@ -74,22 +74,22 @@ not_plain (OfWkt w) s plain = s
 not_plain k s (inl e) = cc
 not_plain k s (inr e) = cc
 
-pub answer_plain : (x : Text) (n : ExtensionName) (t : Tree) → x ≡ name_text n → (n ≡ names.Wkb) ⊎ (n ≡ names.Wkt) → AnswersKind x t None
+pub answer_plain : (x : Text) (n : ExtensionName) (t : Tree) → x ≡ name_text n → (n ≡ names.Wkb) ⊎ (n ≡ names.Wkt) → YieldsKind x t None
 answer_plain x n t named plain l = (λ e. cc, λ h. absurd (not_plain l h.1 (subst (λ m. (m ≡ names.Wkb) ⊎ (m ≡ names.Wkt)) (one_name n (extension_of l) (sym named ∙ h.0.0)) plain)))
 
 -- whether there is a kind
-pub accepted_ok : (n : Text) (t : Tree) (r : Result Kind LayoutFault) (b : Bool) → b ≡ is_ok r → AnswersOne r (Accepts n t) → IsTrue b ↔ IsAccepted n t
+pub accepted_ok : (n : Text) (t : Tree) (r : Result Kind LayoutFault) (b : Bool) → b ≡ is_ok r → YieldsOne r (Accepts n t) → IsTrue b ↔ IsAccepted n t
 accepted_ok n t (Ok k) b is a = (λ e. (k, (a k).0 refl), λ x. is)
 accepted_ok n t (Err f) b is a = (λ e. absurd (true≢false (sym e ∙ is)), λ x. let bad = (a x.0).1 x.1 in cc)
 
 -- there is a kind, or a fault
-pub either : (r : Result Kind LayoutFault) (n : ExtensionName) (t : Tree) → AnswersOne r (Accepts (name_text n) t) → IfErr r (HasFault (FaultAt n t)) → IsAccepted (name_text n) t ⊎ ((p : Path) × (f : LayoutFault) × FaultAt n t p f)
+pub either : (r : Result Kind LayoutFault) (n : ExtensionName) (t : Tree) → YieldsOne r (Accepts (name_text n) t) → IfErr r (HasFault (FaultAt n t)) → IsAccepted (name_text n) t ⊎ ((p : Path) × (f : LayoutFault) × FaultAt n t p f)
 either (Ok k) n t a h = inl (k, (a k).0 refl)
 either (Err f) n t a h = inr (h.0, f, h.1)
 
 -- what a summary says under each name, it says of all its trees
 abbrev pub Told : Summary → ExtensionName → Type 0
-Told s n = (r : Option Kind) × ((t : Tree) → Summarizes s t → AnswersKind (name_text n) t r)
+Told s n = (r : Option Kind) × ((t : Tree) → Summarizes s t → YieldsKind (name_text n) t r)
 
 pub by_name : (P : ExtensionName → Type 0) → P (names.Native Point) → P (names.Native LineString) → P (names.Native Polygon) → P (names.Native MultiPoint) → P (names.Native MultiLineString)
     → P (names.Native MultiPolygon) → P (names.Native GeometryCollection) → P names.Geometry → P names.Rect → (k : Kind) → IsStructured k → P (extension_of k)

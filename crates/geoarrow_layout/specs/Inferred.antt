@@ -5,8 +5,8 @@ use Rattle.arrow_values.specs.Tree.{Text, Tree, plain, float64, fixed_size_list,
 use Rattle.geoarrow_layout.specs.Shapes.{SameNames, names_of, IsSeparatedAs}
 
 -- the result is the coordinate type and dimension for which R holds, or none if it holds for none
-abbrev pub AnswersSome : Option (CoordType × Dimension) → (CoordType → Dimension → Type 0) → Type 0
-AnswersSome r R = (c : CoordType) (d : Dimension) → (r ≡ Some (c, d)) ↔ R c d
+abbrev pub YieldsSome : Option (CoordType × Dimension) → (CoordType → Dimension → Type 0) → Type 0
+YieldsSome r R = (c : CoordType) (d : Dimension) → (r ≡ Some (c, d)) ↔ R c d
 
 -- whether the data type is `Float64`
 abbrev pub is_float64 : Tree → Bool

@@ -5,12 +5,12 @@ use Rattle.arrow_values.specs.Tree.{Text, Tree, plain, binary, large_binary, bin
 use Rattle.geoarrow_layout.specs.Kinds.{size_of, interleaved_name, type_id_of, name_of}
 
 -- the result is the coordinate type and dimension for which R holds, or an error if it holds for none
-abbrev pub Answers : Result (CoordType × Dimension) LayoutFault → (CoordType → Dimension → Type 0) → Type 0
-Answers r R = (c : CoordType) (d : Dimension) → (r ≡ Ok (c, d)) ↔ R c d
+abbrev pub Yields : Result (CoordType × Dimension) LayoutFault → (CoordType → Dimension → Type 0) → Type 0
+Yields r R = (c : CoordType) (d : Dimension) → (r ≡ Ok (c, d)) ↔ R c d
 
 -- the result is the value for which R holds, or an error if it holds for none
-abbrev pub AnswersOne : {X : Type 0} → Result X LayoutFault → (X → Type 0) → Type 0
-AnswersOne {X} r R = (x : X) → (r ≡ Ok x) ↔ R x
+abbrev pub YieldsOne : {X : Type 0} → Result X LayoutFault → (X → Type 0) → Type 0
+YieldsOne {X} r R = (x : X) → (r ≡ Ok x) ↔ R x
 
 -- the names of fields, in order
 abbrev pub names_of : FieldTrees → List Text
@@ -153,5 +153,5 @@ IsStructured (OfWkt w) = ⊥
 IsStructured k = Unit {0}
 
 -- the result is the kind of a column with that name and data type; none if there is none, and for well-known binary and text
-abbrev pub AnswersKind : Text → Tree → Option Kind → Type 0
-AnswersKind name t r = (k : Kind) → (r ≡ Some k) ↔ (Accepts name t k × IsStructured k)
+abbrev pub YieldsKind : Text → Tree → Option Kind → Type 0
+YieldsKind name t r = (k : Kind) → (r ≡ Some k) ↔ (Accepts name t k × IsStructured k)

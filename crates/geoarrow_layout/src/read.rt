@@ -4,13 +4,13 @@
 //! None of them allocates.
 ghost use Rattle.std.specs.Prelude.{false, IfErr, IfOk, ◌≡◌, IfSome, ◌↔◌, IsTrue, Some, ◌≢◌, ◌∷◌, [], true, ◌≤◌, ◌<◌, Ok, ℕ, List, Option, None, length, ◌&&◌, MatchResult};
 ghost use Rattle.arrow_values.specs.View.{tree, field_trees};
-ghost use Rattle.geoarrow_layout.specs.Shapes.{Answers, AnswersOne, Leaf, Under, Native, Mixed, Collection, Geometry, BoxShape, IsBytes, IsText, Accepts, AnswersKind, IsStructured, IsSeparatedAs, IsBoxAs, names_of};
+ghost use Rattle.geoarrow_layout.specs.Shapes.{Yields, YieldsOne, Leaf, Under, Native, Mixed, Collection, Geometry, BoxShape, IsBytes, IsText, Accepts, YieldsKind, IsStructured, IsSeparatedAs, IsBoxAs, names_of};
 ghost use Rattle.geoarrow_layout.specs.Kinds.{name_text, extension_of, name_of};
 ghost use Rattle.geoarrow_layout.specs.FaultAt.{HasFault, BoxFault, MixedFault, NativeFault, GeometryFault, FaultAt, SeparatedFault, CoordinateFault, BoxNamesFault, LevelsFault};
 ghost use Rattle.arrow_values.specs.Tree.{Tree, Text, struct};
 ghost use Rattle.geoarrow_layout.specs.Summary.{AreOf, IsCoordFault, Summarizes, IsBits, SomeAt, IsBottom, IsUnion, Tells, IsNoLeaf, ShowsIn, NativeIn, NativeFaultIn, MemberIn, MemberFaultIn, TellsBoth, missing_fault, IsOtherFault, UnionSays, has_bit};
 ghost use Rattle.geoarrow_layout.specs.Candidates.{Holds, IsAccepted};
-ghost use Rattle.geoarrow_layout.specs.Inferred.{AnswersSome, Inferred, IsInferredAs, IsInferredSize, is_float64, are_float64};
+ghost use Rattle.geoarrow_layout.specs.Inferred.{YieldsSome, Inferred, IsInferredAs, IsInferredSize, is_float64, are_float64};
 ghost use Rattle.geoarrow_layout.specs.declared.summary.ListWidth.{ListWidth};
 ghost use Rattle.geoarrow_layout.specs.declared.names.ExtensionName.TheVariants as names;
 
@@ -35,7 +35,7 @@ pub(crate) type Answer = Result<(CoordType, Dimension), LayoutFault>;
 /// assert_eq!(rt; parse_point(&data_type), Ok(wanted));
 /// ```
 pub fn parse_point(data_type: &DataType) -> Result<(CoordType, Dimension), LayoutFault>
-    ensures exact { Answers result (Leaf (tree data_type.now)) }
+    ensures exact { Yields result (Leaf (tree data_type.now)) }
     ensures fault { IfErr result (HasFault (NativeFault NativeKind.Point (tree data_type.now))) }
 {
     parse_native(NativeKind::Point, data_type)
@@ -44,7 +44,7 @@ pub fn parse_point(data_type: &DataType) -> Result<(CoordType, Dimension), Layou
 /// Reads a line string (GeoArrow, "LineString"): one list over a coordinate, of either width. Errs on any other data
 /// type. Allocates nothing.
 pub fn parse_linestring(data_type: &DataType) -> Result<(CoordType, Dimension), LayoutFault>
-    ensures exact { Answers result (Native (tree data_type.now) NativeKind.LineString) }
+    ensures exact { Yields result (Native (tree data_type.now) NativeKind.LineString) }
     ensures fault { IfErr result (HasFault (NativeFault NativeKind.LineString (tree data_type.now))) }
 {
     parse_native(NativeKind::LineString, data_type)
@@ -53,7 +53,7 @@ pub fn parse_linestring(data_type: &DataType) -> Result<(CoordType, Dimension), 
 /// Reads a polygon (GeoArrow, "Polygon"): two lists over a coordinate, both of one width. Errs on any other data type.
 /// Allocates nothing.
 pub fn parse_polygon(data_type: &DataType) -> Result<(CoordType, Dimension), LayoutFault>
-    ensures exact { Answers result (Native (tree data_type.now) NativeKind.Polygon) }
+    ensures exact { Yields result (Native (tree data_type.now) NativeKind.Polygon) }
     ensures fault { IfErr result (HasFault (NativeFault NativeKind.Polygon (tree data_type.now))) }
 {
     parse_native(NativeKind::Polygon, data_type)
@@ -62,7 +62,7 @@ pub fn parse_polygon(data_type: &DataType) -> Result<(CoordType, Dimension), Lay
 /// Reads a multipoint (GeoArrow, "MultiPoint"): one list over a coordinate, of either width. Errs on any other data
 /// type. Allocates nothing.
 pub fn parse_multipoint(data_type: &DataType) -> Result<(CoordType, Dimension), LayoutFault>
-    ensures exact { Answers result (Native (tree data_type.now) NativeKind.MultiPoint) }
+    ensures exact { Yields result (Native (tree data_type.now) NativeKind.MultiPoint) }
     ensures fault { IfErr result (HasFault (NativeFault NativeKind.MultiPoint (tree data_type.now))) }
 {
     parse_native(NativeKind::MultiPoint, data_type)
@@ -71,7 +71,7 @@ pub fn parse_multipoint(data_type: &DataType) -> Result<(CoordType, Dimension), 
 /// Reads a multilinestring (GeoArrow, "MultiLineString"): two lists over a coordinate, both of one width. Errs on any
 /// other data type. Allocates nothing.
 pub fn parse_multilinestring(data_type: &DataType) -> Result<(CoordType, Dimension), LayoutFault>
-    ensures exact { Answers result (Native (tree data_type.now) NativeKind.MultiLineString) }
+    ensures exact { Yields result (Native (tree data_type.now) NativeKind.MultiLineString) }
     ensures fault { IfErr result (HasFault (NativeFault NativeKind.MultiLineString (tree data_type.now))) }
 {
     parse_native(NativeKind::MultiLineString, data_type)
@@ -80,7 +80,7 @@ pub fn parse_multilinestring(data_type: &DataType) -> Result<(CoordType, Dimensi
 /// Reads a multipolygon (GeoArrow, "MultiPolygon"): three lists over a coordinate, all of one width. Errs on any other
 /// data type. Allocates nothing.
 pub fn parse_multipolygon(data_type: &DataType) -> Result<(CoordType, Dimension), LayoutFault>
-    ensures exact { Answers result (Native (tree data_type.now) NativeKind.MultiPolygon) }
+    ensures exact { Yields result (Native (tree data_type.now) NativeKind.MultiPolygon) }
     ensures fault { IfErr result (HasFault (NativeFault NativeKind.MultiPolygon (tree data_type.now))) }
 {
     parse_native(NativeKind::MultiPolygon, data_type)
@@ -91,7 +91,7 @@ pub fn parse_multipolygon(data_type: &DataType) -> Result<(CoordType, Dimension)
 /// and dimension. Errs on any other data type. Allocates nothing.
 #[tactic(auto, using(crate::proofs::KindSteps::mixed_exact, crate::proofs::Readings::told_fault))]
 pub fn parse_mixed(data_type: &DataType) -> Result<(CoordType, Dimension), LayoutFault>
-    ensures exact { Answers result (Mixed (tree data_type.now)) }
+    ensures exact { Yields result (Mixed (tree data_type.now)) }
     ensures fault { IfErr result (HasFault (MixedFault (tree data_type.now))) }
 {
     mixed_read(data_type)
@@ -110,7 +110,7 @@ fn mixed_read(data_type: &DataType) -> Answer
 pub fn parse_geometry_collection(
     data_type: &DataType,
 ) -> Result<(CoordType, Dimension), LayoutFault>
-    ensures exact { Answers result (Collection (tree data_type.now)) }
+    ensures exact { Yields result (Collection (tree data_type.now)) }
     ensures fault { IfErr result (HasFault (NativeFault NativeKind.GeometryCollection (tree data_type.now))) }
 {
     parse_native(NativeKind::GeometryCollection, data_type)
@@ -121,7 +121,7 @@ pub fn parse_geometry_collection(
 /// any other data type. Allocates nothing.
 #[tactic(auto, using(crate::proofs::KindSteps::geometry_exact, crate::proofs::Readings::told_fault))]
 pub fn parse_geometry(data_type: &DataType) -> Result<CoordType, LayoutFault>
-    ensures exact { AnswersOne result (Geometry (tree data_type.now)) }
+    ensures exact { YieldsOne result (Geometry (tree data_type.now)) }
     ensures fault { IfErr result (HasFault (GeometryFault (tree data_type.now))) }
 {
     geometry_read(data_type)
@@ -141,7 +141,7 @@ pub fn parse_native(
     kind: NativeKind,
     data_type: &DataType,
 ) -> Result<(CoordType, Dimension), LayoutFault>
-    ensures exact { Answers result (Native (tree data_type.now) kind) }
+    ensures exact { Yields result (Native (tree data_type.now) kind) }
     ensures fault { IfErr result (HasFault (NativeFault kind (tree data_type.now))) }
 {
     native_read(kind, data_type)
@@ -157,7 +157,7 @@ fn native_read(kind: NativeKind, data_type: &DataType) -> Answer
 
 /// Reads well-known binary (GeoArrow, "WKB"): bytes, of any width. Errs on any other data type. Allocates nothing.
 pub fn parse_wkb(data_type: &DataType) -> Result<Width, LayoutFault>
-    ensures exact { AnswersOne result (λ width. IsBytes width (tree data_type.now)) }
+    ensures exact { YieldsOne result (λ width. IsBytes width (tree data_type.now)) }
     ensures fault { IfErr result (HasFault (FaultAt names.Wkb (tree data_type.now))) }
 {
     bytes_width(data_type).ok_or(LayoutFault::UnexpectedType)
@@ -165,7 +165,7 @@ pub fn parse_wkb(data_type: &DataType) -> Result<Width, LayoutFault>
 
 /// Reads well-known text (GeoArrow, "WKT"): text, of any width. Errs on any other data type. Allocates nothing.
 pub fn parse_wkt(data_type: &DataType) -> Result<Width, LayoutFault>
-    ensures exact { AnswersOne result (λ width. IsText width (tree data_type.now)) }
+    ensures exact { YieldsOne result (λ width. IsText width (tree data_type.now)) }
     ensures fault { IfErr result (HasFault (FaultAt names.Wkt (tree data_type.now))) }
 {
     text_width(data_type).ok_or(LayoutFault::UnexpectedType)
@@ -187,7 +187,7 @@ pub fn parse_wkt(data_type: &DataType) -> Result<Width, LayoutFault>
 /// ```
 #[tactic(auto, using(crate::proofs::KindSteps::kind_exact, crate::proofs::Readings::told_fault))]
 pub fn parse_kind(name: ExtensionName, data_type: &DataType) -> Result<Kind, LayoutFault>
-    ensures exact { AnswersOne result (Accepts (name_text name) (tree data_type.now)) }
+    ensures exact { YieldsOne result (Accepts (name_text name) (tree data_type.now)) }
     ensures fault { IfErr result (HasFault (FaultAt name (tree data_type.now))) }
 {
     kind_read(name, data_type)
@@ -209,7 +209,7 @@ fn kind_read(name: ExtensionName, data_type: &DataType) -> Result<Kind, LayoutFa
 /// failing that, `zmin` and `zmax`. Errs on any other data type. Allocates nothing.
 #[tactic(auto, using(crate::proofs::KindSteps::box_exact, crate::proofs::Readings::told_fault))]
 pub fn parse_box(data_type: &DataType) -> Result<Dimension, LayoutFault>
-    ensures exact { AnswersOne result (BoxShape (tree data_type.now)) }
+    ensures exact { YieldsOne result (BoxShape (tree data_type.now)) }
     ensures fault { IfErr result (HasFault (BoxFault (tree data_type.now))) }
 {
     box_read(data_type)
@@ -228,7 +228,7 @@ impl Summary {
     /// name has such a data type, and none for well-known binary and text, of which a summary says nothing. Where the
     /// summary is of no data type at all, a kind that is answered is one of that name too. Allocates nothing.
     pub fn kind(&self, name: &str) -> Option<Kind>
-        ensures exact { (t : Tree) → Summarizes self.now t → AnswersKind name.now t result }
+        ensures exact { (t : Tree) → Summarizes self.now t → YieldsKind name.now t result }
         ensures named { IfSome result (λ k. (name.now ≡ name_of k) × IsStructured k) }
     {
         let Some(known) = ExtensionName::from_text(name) else {
@@ -360,7 +360,7 @@ fn is_kind(name: ExtensionName, summary: &Summary) -> bool
 /// assert_eq!(rt; infer_point(&data_type), Some(wanted));
 /// ```
 pub fn infer_point(data_type: &DataType) -> Option<(CoordType, Dimension)>
-    ensures exact { AnswersSome result (Inferred (tree data_type.now)) }
+    ensures exact { YieldsSome result (Inferred (tree data_type.now)) }
     ensures agrees { (c b : CoordType) (d e : Dimension) → result ≡ Some (c, d) → Leaf (tree data_type.now) b e → (c ≡ b) × (d ≡ e) }
 {
     taken_for(data_type)
@@ -369,7 +369,7 @@ pub fn infer_point(data_type: &DataType) -> Option<(CoordType, Dimension)>
 /// The coordinate type and dimension of a point that the data type is taken for.
 #[inline(always)]
 fn taken_for(data_type: &DataType) -> Option<(CoordType, Dimension)>
-    ensures { AnswersSome result (Inferred (tree data_type.now)) }
+    ensures { YieldsSome result (Inferred (tree data_type.now)) }
 {
     match data_type {
         DataType::Struct(fields) => {

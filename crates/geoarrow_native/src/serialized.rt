@@ -20,7 +20,7 @@ pub trait Encoding {
     ghost use Rattle.geoarrow_layout.specs.declared.encodings.Width.{Width};
     ghost use Rattle.geoarrow_layout.specs.declared.names.ExtensionName.{ExtensionName};
     ghost use Rattle.geoarrow_layout.specs.Kinds.{name_text};
-    ghost use Rattle.geoarrow_layout.specs.Shapes.{AnswersOne};
+    ghost use Rattle.geoarrow_layout.specs.Shapes.{YieldsOne};
     ghost use Rattle.geoarrow_layout.specs.FaultAt.{HasFault, FaultAt};
 
     /// The extension name.
@@ -42,7 +42,7 @@ pub trait Encoding {
     /// The width in which a data type holds geometries in this encoding. Errs where it holds none, with the fault that the
     /// data type has under the extension name.
     fn parse(data_type: &DataType) -> Result<Width, LayoutFault>
-        ensures exact { AnswersOne result (λ w. IsStored w (tree data_type.now)) }
+        ensures exact { YieldsOne result (λ w. IsStored w (tree data_type.now)) }
         ensures fault { IfErr result (HasFault (FaultAt name (tree data_type.now))) };
 }
 

@@ -1,9 +1,9 @@
 -- What a tree is taken for.
 use Rattle.geoarrow_schema.proofs.Terms.{◌≡◌, ◌⊎◌, inl, inr, ◌∙◌, sym, ap, subst, Option, Some, Result, Ok, Err, same_Some, arc_value, Text, Tree, FieldTree, extension_metadata, IsMemory, IsGeoMemory}
-use Rattle.geoarrow_schema.proofs.Terms.{IsInvalidOf, ArrowError, GeoArrowError, Arrow, InvalidGeoArrow, CoordType, Dimension, Point, Width, Plain, Kind, Native, Wkb, Wkt, AnswersOne}
-use Rattle.geoarrow_schema.proofs.Terms.{IsBytes, IsText, AnswersSome, Inferred, Metadata, DenotesMetadata, TextRefusedAs, Arc, Global, GeoArrowType, kind_of, metadata_of, meta_of, SameType}
+use Rattle.geoarrow_schema.proofs.Terms.{IsInvalidOf, ArrowError, GeoArrowError, Arrow, InvalidGeoArrow, CoordType, Dimension, Point, Width, Plain, Kind, Native, Wkb, Wkt, YieldsOne}
+use Rattle.geoarrow_schema.proofs.Terms.{IsBytes, IsText, YieldsSome, Inferred, Metadata, DenotesMetadata, TextRefusedAs, Arc, Global, GeoArrowType, kind_of, metadata_of, meta_of, SameType}
 use Rattle.geoarrow_schema.proofs.Terms.{HasGeoArrowName, Reads, IsRefusedBy, InferredAs, InfersAs, Infers, ReadsOrInfers, ReadsOrInfersAlone, InfersNone, uninferred_text, UninferredAs}
-use Rattle.geoarrow_schema.proofs.Terms.{IsInferenceRefusal, IsInference, AnswersInferred, IfOk, IfErr, arith}
+use Rattle.geoarrow_schema.proofs.Terms.{IsInferenceRefusal, IsInference, YieldsInferred, IfOk, IfErr, arith}
 use Rattle.geoarrow_layout.specs.declared.fault.LayoutFault.{LayoutFault}
 use Rattle.geoarrow_meta.specs.Laws.{text_denotes_one}
 use Rattle.geoarrow_schema.proofs.Reading.{read_has_name, read_uninferred}
@@ -12,7 +12,7 @@ use Rattle.geoarrow_schema.proofs.Reading.{read_has_name, read_uninferred}
 apart : (w v : Width) (t : Tree) → IsBytes w t → IsText v t → ⊥
 apart w v t h g = grind arith
 
-pub bytes_inferred : (t : Tree) (w : Width) (r : Result Width LayoutFault) → ((c : CoordType) (d : Dimension) → ¬ Inferred t c d) → r ≡ Ok w → AnswersOne r (λ v. IsBytes v t) → AnswersInferred t (Some (Wkb w))
+pub bytes_inferred : (t : Tree) (w : Width) (r : Result Width LayoutFault) → ((c : CoordType) (d : Dimension) → ¬ Inferred t c d) → r ≡ Ok w → YieldsOne r (λ v. IsBytes v t) → YieldsInferred t (Some (Wkb w))
 bytes_inferred t w r none is a = λ k. (λ e. subst (InferredAs t) (same_Some (Wkb w) k e) ((a w).0 is), λ h. back k h)
   where
     back : (k : Kind) → InferredAs t k → Some (Wkb w) ≡ Some k
@@ -21,7 +21,7 @@ bytes_inferred t w r none is a = λ k. (λ e. subst (InferredAs t) (same_Some (W
     back (Wkt v) h = absurd (apart w v t ((a w).0 is) h)
     back _ h = absurd h
 
-pub point_inferred : (t : Tree) (p : CoordType × Dimension) (r : Option (CoordType × Dimension)) → r ≡ Some p → AnswersSome r (Inferred t) → AnswersInferred t (Some (Native Point p.0 p.1))
+pub point_inferred : (t : Tree) (p : CoordType × Dimension) (r : Option (CoordType × Dimension)) → r ≡ Some p → YieldsSome r (Inferred t) → YieldsInferred t (Some (Native Point p.0 p.1))
 point_inferred t p r is a = λ k. (λ e. subst (InferredAs t) (same_Some (Native Point p.0 p.1) k e) here, λ h. back k h)
   where
     here : Inferred t p.0 p.1
@@ -42,10 +42,10 @@ unfolding InfersAs
 type_inferred f k m g kind meta unnamed stands column = (unnamed, rw meta stands, rw kind column)
 
 -- as for one alone, and read as none beside
-pub infers_alone : (f : FieldTree) (t : Tree) (r : Option Kind) (g : GeoArrowType) → t ≡ f.tree → AnswersInferred t r → Infers f g → ReadsOrInfersAlone f g
+pub infers_alone : (f : FieldTree) (t : Tree) (r : Option Kind) (g : GeoArrowType) → t ≡ f.tree → YieldsInferred t r → Infers f g → ReadsOrInfersAlone f g
 unfolding InfersAs
 infers_alone f t r g same answers here =
-    let is : AnswersInferred f.tree r = subst (λ u. AnswersInferred u r) same answers in (
+    let is : YieldsInferred f.tree r = subst (λ u. YieldsInferred u r) same answers in (
       (λ k m there. absurd (here.0 (read_has_name f k m there))),
       λ k m there.
           (same_Some k (kind_of g) (sym ((is k).1 there.2) ∙ (is (kind_of g)).1 here.2), text_denotes_one (extension_metadata f) m (meta_of g) there.1 here.1),

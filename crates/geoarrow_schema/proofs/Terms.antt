@@ -13,13 +13,13 @@ pub use Rattle.arrow_values.specs.declared.error.GeoArrowError.TheVariants.{Arro
 pub use Rattle.geoarrow_layout.specs.declared.encodings.Width.{Width}
 pub use Rattle.geoarrow_layout.specs.declared.encodings.Kind.{Kind}
 pub use Rattle.geoarrow_layout.specs.Kinds.{name_text, extension_of, name_of}
-pub use Rattle.geoarrow_layout.specs.Shapes.{Accepts, Accepted, IsBytes, IsText, AnswersOne, ListsOver}
+pub use Rattle.geoarrow_layout.specs.Shapes.{Accepts, Accepted, IsBytes, IsText, YieldsOne, ListsOver}
 pub use Rattle.geoarrow_layout.specs.declared.kinds.CoordType.{CoordType}
 pub use Rattle.geoarrow_layout.specs.declared.kinds.Dimension.{Dimension}
 pub use Rattle.geoarrow_layout.specs.declared.encodings.NativeKind.TheVariants.{Point}
 pub use Rattle.geoarrow_layout.specs.declared.encodings.Width.TheVariants.{Plain}
 pub use Rattle.geoarrow_layout.specs.declared.encodings.Kind.TheVariants.{Native, Wkb, Wkt}
-pub use Rattle.geoarrow_layout.specs.Inferred.{AnswersSome, Inferred}
+pub use Rattle.geoarrow_layout.specs.Inferred.{YieldsSome, Inferred}
 pub use Rattle.geoarrow_layout.specs.Layouts.{layout, leaf_layout}
 pub use Rattle.geoarrow_meta.specs.declared.metadata.Metadata.{Metadata}
 pub use Rattle.geoarrow_meta.specs.Read.{DenotesMetadata, TextRefusedAs, empty}
@@ -29,4 +29,4 @@ pub use Rattle.geoarrow_schema.specs.declared.types.GeoArrowType.{GeoArrowType}
 pub use Rattle.geoarrow_schema.specs.Types.{kind_of, metadata_of, meta_of, SameType}
 pub use Rattle.geoarrow_schema.specs.Reads.{HasName, HasGeoArrowName, Reads, ReadsAsNone, ReadsAlone, HasWrongStorage, ColumnRefusedAs, IsRefusedBy, IsTypeRefusal, writes}
 unfoldable pub use Rattle.geoarrow_schema.specs.Infers.{InfersAs}
-pub use Rattle.geoarrow_schema.specs.Infers.{ReadsOrInfersAlone, InferredAs, Infers, ReadsOrInfers, InfersNone, uninferred_text, UninferredAs, IsInferenceRefusal, IsInference, AnswersInferred, IsInferable, IsBareColumn, bottom_text}
+pub use Rattle.geoarrow_schema.specs.Infers.{ReadsOrInfersAlone, InferredAs, Infers, ReadsOrInfers, InfersNone, uninferred_text, UninferredAs, IsInferenceRefusal, IsInference, YieldsInferred, IsInferable, IsBareColumn, bottom_text}

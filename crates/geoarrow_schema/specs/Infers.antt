@@ -82,8 +82,8 @@ abbrev pub IsInference : FieldTree → Result GeoArrowType GeoArrowError → Typ
 IsInference f r = MatchResult r (ReadsOrInfers f) (IsInferenceRefusal f)
 
 -- the result is the one kind that is inferred from the tree, or `None` if there is none
-abbrev pub AnswersInferred : Tree → Option Kind → Type 0
-AnswersInferred t r = (k : Kind) → (r ≡ Some k) ↔ InferredAs t k
+abbrev pub YieldsInferred : Tree → Option Kind → Type 0
+YieldsInferred t r = (k : Kind) → (r ≡ Some k) ↔ InferredAs t k
 
 -- a kind that can be inferred from its data type: points, well-known binary and text
 abbrev pub IsInferable : Kind → Type 0

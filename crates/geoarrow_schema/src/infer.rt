@@ -7,7 +7,7 @@ ghost use Rattle.geoarrow_layout.specs.declared.kinds.Dimension.{Dimension};
 ghost use Rattle.geoarrow_layout.specs.declared.encodings.Kind.{Kind};
 ghost use Rattle.geoarrow_layout.specs.Inferred.{Inferred};
 ghost use Rattle.geoarrow_schema.specs.Reads.{HasGeoArrowName};
-ghost use Rattle.geoarrow_schema.specs.Infers.{InferredAs, ReadsOrInfersAlone, InfersNone, uninferred_text, bottom_text, UninferredAs, IsInference, AnswersInferred};
+ghost use Rattle.geoarrow_schema.specs.Infers.{InferredAs, ReadsOrInfersAlone, InfersNone, uninferred_text, bottom_text, UninferredAs, IsInference, YieldsInferred};
 
 use crate::read::{name_of, read_named};
 use crate::types::GeoArrowType;
@@ -82,7 +82,7 @@ fn inference_error(alloc: Global, field: &Field) -> GeoArrowError
 /// assert_eq!(rt; infer_kind(&DataType::Boolean), None);
 /// ```
 pub fn infer_kind(data_type: &DataType) -> Option<Kind>
-    ensures { AnswersInferred (tree data_type.now) result }
+    ensures { YieldsInferred (tree data_type.now) result }
 {
     match infer_point(data_type) {
         Some(pair) => Some(Kind::Native(NativeKind::Point, pair.0, pair.1)),
@@ -93,7 +93,7 @@ pub fn infer_kind(data_type: &DataType) -> Option<Kind>
 /// The kind of well-known binary or text that a data type is taken for, which is no point.
 fn infer_serialized(data_type: &DataType) -> Option<Kind>
     requires { (c : CoordType) (d : Dimension) → ¬ Inferred (tree data_type.now) c d }
-    ensures { AnswersInferred (tree data_type.now) result }
+    ensures { YieldsInferred (tree data_type.now) result }
 {
     match parse_wkb(data_type) {
         Ok(width) => Some(Kind::Wkb(width)),

@@ -2,7 +2,7 @@ use Rattle.std.proofs.Common.{◌≡◌, Option, Some, subst}
 use Rattle.arrow_values.specs.Tree.{Tree}
 use Rattle.arrow_values.specs.View.{tree}
 use Rattle.geoarrow_layout.specs.declared.encodings.Kind.{Kind}
-use Rattle.geoarrow_schema.specs.Infers.{InferredAs, AnswersInferred}
+use Rattle.geoarrow_schema.specs.Infers.{InferredAs, YieldsInferred}
 use Rattle.column_check.proofs.Agreement.{agrees_with_inference, whole_inferred}
 use Rattle.column_check.proofs.laws.agrees_with_inference.Goals as goal
 
@@ -10,9 +10,9 @@ one_of : (r : Option Kind) (j k : Kind) → r ≡ Some j → r ≡ Some k → j 
 one_of r j k h g = cc
 
 -- one kind is inferred, where one answer says which
-one_answer : (t u : Tree) (r : Option Kind) → AnswersInferred t r → t ≡ u → (j k : Kind) → InferredAs u j → InferredAs u k → j ≡ k
+one_answer : (t u : Tree) (r : Option Kind) → YieldsInferred t r → t ≡ u → (j k : Kind) → InferredAs u j → InferredAs u k → j ≡ k
 one_answer t u r answers same j k h g =
-    let answer : AnswersInferred u r = subst (λ x. AnswersInferred x r) same answers in
+    let answer : YieldsInferred u r = subst (λ x. YieldsInferred x r) same answers in
     one_of r j k ((answer j).1 h) ((answer k).1 g)
 
 pub returns-clause-types : goal.returns-clause-types
