@@ -8,7 +8,7 @@ use Rattle.geoarrow_meta.specs.Laws.{text_denotes_one}
 use Rattle.geoarrow_schema.specs.Infers.{InferredAs, InfersAs, Infers, IsStored}
 use Rattle.geoarrow_columns.specs.Same.{SameColumn}
 use Rattle.geoarrow_fields.specs.Answer.{SameReport}
-use Rattle.geoarrow_fields.proofs.Terms.{FieldTree, Text, Tree, fixed_size_list, struct, extension_metadata, CoordType, Interleaved, Separated, Dimension, Point, Width, Plain, Kind, Native, Wkb, Wkt, coord_type_of, dimension_of, extension_of, name_of, DenotesMetadata, normal, printed, ReadsAs, GeoArrowType, SameType, kind_of, meta_of, HasGeoArrowName, Reads, IsCanonical, rewritten, ColumnFault, Arrow, InvalidGeoArrow, Column, Faulty, Geometry, OfInferred, Other, IsColumnOf, IsRefused, IsRefusedFor, IsReport, IsUnread, field_of_line, line_of_field, Command, Canon, Columns, Infer, Read, Done, Bytes, line_feed, lines_of, Answers, AnswersField, AnswersNoType, column_text, coord_type_word, dimension_word, error_text, inferred_text, kind_word, metadata_word, type_text, Answered, Means}
+use Rattle.geoarrow_fields.proofs.Terms.{FieldTree, Text, Tree, fixed_size_list, struct, extension_metadata, CoordType, Interleaved, Separated, Dimension, Point, Width, Plain, Kind, Native, Wkb, Wkt, coord_type_of, dimension_of, extension_of, name_of, DenotesMetadata, normal, printed, ReadsAs, GeoArrowType, SameType, kind_of, meta_of, HasGeoArrowName, Reads, IsCanonical, rewritten, ColumnFault, Arrow, InvalidGeoArrow, Column, Faulty, Geometry, OfInferred, Other, IsColumnOf, IsRefused, IsRefusedFor, IsReport, IsUnread, field_of_line, line_of_field, Command, Canon, Columns, Infer, Read, Done, Bytes, line_feed, lines_of, Answers, AnswersField, AnswersNoType, column_text, coord_type_word, dimension_word, error_text, inferred_text, kind_word, type_text, Answered, Means}
 
 -- ---- a data type is inferred as one kind
 
@@ -29,34 +29,22 @@ one_point (struct fs) Separated Separated d e h k = ap (Native Point Separated) 
 one_point (fixed_size_list n t b m s) Interleaved Interleaved d e h k = ap (Native Point Interleaved) (one_of_size n s d e h.1 k.1)
 one_point _ _ _ d e h k = search
 
--- a tree that is inferred as a point is neither well-known binary nor well-known text, and none is both of these
+-- a tree that is inferred as a point is neither well-known binary nor well-known text
 not_stored : (t : Tree) (c : CoordType) (d : Dimension) (k : Kind) → Inferred t c d → ¬ IsStored t k
-not_stored t c d (Wkb Plain) h k = subst (λ x. Inferred x c d) k h
-not_stored t c d (Wkb _) h k = subst (λ x. Inferred x c d) k h
-not_stored t c d (Wkt Plain) h k = subst (λ x. Inferred x c d) k h
-not_stored t c d (Wkt _) h k = subst (λ x. Inferred x c d) k h
-not_stored t c d _ h k = k
+not_stored (struct fs) c d k h l = grind arith
+not_stored (fixed_size_list n t b m s) c d k h l = grind arith
+not_stored _ c d k h l = h
 
-apart : (t : Tree) (w v : Width) → IsBytes w t → IsText v t → ⊥
-apart t w v h k = grind arith
-
-one_inferred : IsOneKind → (t : Tree) → One (InferredAs t)
-one_inferred one_kind t (Native Point c d) (Native Point b e) h k = one_point t c b d e h k
-one_inferred one_kind t (Wkb w) (Wkb v) h k = one_kind (name_of (Wkb w)) t (Wkb w) (Wkb v) (refl, h) (refl, k)
-one_inferred one_kind t (Wkt w) (Wkt v) h k = one_kind (name_of (Wkt w)) t (Wkt w) (Wkt v) (refl, h) (refl, k)
-one_inferred one_kind t (Native Point c d) l h k = absurd (not_stored t c d l h k)
-one_inferred one_kind t k (Native Point c d) h l = absurd (not_stored t c d k l h)
-one_inferred one_kind t (Wkb w) (Wkt v) h k = absurd (apart t w v h k)
-one_inferred one_kind t (Wkt w) (Wkb v) h k = absurd (apart t v w k h)
-one_inferred one_kind t _ _ h k = search
+one_inferred : (t : Tree) → One (InferredAs t)
+one_inferred t (Native Point c d) (Native Point b e) h k = one_point t c b d e h k
+one_inferred t (Native Point c d) l h k = absurd (not_stored t c d l h k)
+one_inferred t k (Native Point c d) h l = absurd (not_stored t c d k l h)
+one_inferred t _ _ h k = grind arith
 
 -- ---- the words of the same type, and of the same entry
 
-abbrev pub words_of : Kind → Option Text → Bytes
-words_of k text = kind_word k ++ codes " " ++ coord_type_word (coord_type_of k) ++ codes " " ++ dimension_word (dimension_of k) ++ codes " " ++ metadata_word text
-
 same_type : (g h : GeoArrowType) → SameType g h → type_text g ≡ type_text h
-same_type g h same = ap₂ words_of same.0 (ap printed same.1)
+same_type g h same = rw (same.0, same.1)
 
 same_texts : (c d : Column) → SameColumn c d → (column_text c ≡ column_text d) × (inferred_text c ≡ inferred_text d)
 same_texts (Geometry g) (Geometry h) same = let text = same_type g h same in (ap (λ l. codes "geometry " ++ l) text, text)
@@ -85,18 +73,11 @@ refused : (f : FieldTree) (fault : ColumnFault) → IsRefusedFor f fault → IsR
 refused f Arrow h = h.0
 refused f InvalidGeoArrow h = h.0
 
--- a faulty column is refused, or has no GeoArrow name and a metadata text that denotes none
-faulty : (f : FieldTree) (fault : ColumnFault) → IsColumnOf f (Faulty fault) → IsRefused f ⊎ IsUnread f
-faulty f InvalidGeoArrow h = inl h.0
-faulty f Arrow (inl h) = inl h.0
-faulty f Arrow (inr h) = inr h
-
 one_fault : (f : FieldTree) → One (λ fault. IsColumnOf f (Faulty fault))
 one_fault f e d h k = grind arith
 
-faulty_for : (f : FieldTree) (fault : ColumnFault) → IsRefusedFor f fault → IsColumnOf f (Faulty fault)
-faulty_for f Arrow h = inl h
-faulty_for f InvalidGeoArrow h = h
+one_refusal : (f : FieldTree) → One (IsRefusedFor f)
+one_refusal f e d h k = grind arith
 
 pub no_type_read : (f : FieldTree) (a : Bytes) (g : GeoArrowType) → Reads f g → ¬ AnswersNoType f a
 no_type_read f a g r (inl none) = none.0 (reads_parts f g r).0
@@ -106,7 +87,11 @@ one_no_type : (f : FieldTree) → One (AnswersNoType f)
 one_no_type f a b (inl x) (inl y) = x.1 ∙ sym y.1
 one_no_type f a b (inl x) (inr (fault, is, text)) = absurd (x.0 (refused f fault is).0)
 one_no_type f a b (inr (fault, is, text)) (inl y) = absurd (y.0 (refused f fault is).0)
-one_no_type f a b (inr (e, is, x)) (inr (d, so, y)) = x ∙ ap error_text (one_fault f e d (faulty_for f e is) (faulty_for f d so)) ∙ sym y
+one_no_type f a b (inr (e, is, x)) (inr (d, so, y)) = x ∙ ap error_text (one_refusal f e d is so) ∙ sym y
+
+one_inference : (f : FieldTree) (g h : GeoArrowType) → Infers f g → Infers f h → SameType g h
+unfolding InfersAs
+one_inference f g h r s = (one_inferred f.tree (kind_of g) (kind_of h) r.2 s.2, text_denotes_one (extension_metadata f) (meta_of g) (meta_of h) r.1 s.1)
 
 -- ---- a field has one report
 
@@ -119,33 +104,21 @@ module _ (one_kind : IsOneKind) where
         text_denotes_one (extension_metadata f) (meta_of g) (meta_of h) r.1 s.1,
       )
 
-  one_inference : (f : FieldTree) (g h : GeoArrowType) → Infers f g → Infers f h → SameType g h
-  unfolding InfersAs
-  one_inference f g h r s =
-      (one_inferred one_kind f.tree (kind_of g) (kind_of h) r.2 s.2, text_denotes_one (extension_metadata f) (meta_of g) (meta_of h) r.1 s.1)
-
   -- a field has one canonical form
   one_canonical : (f : FieldTree) → One (IsCanonical f)
   one_canonical f n o (g, r, x, back) (h, s, y, also) =
       let same = one_reading f g h r s in
       x ∙ ap₂ (λ k m. rewritten f k (normal m)) same.0 same.1 ∙ sym y
 
-  -- what is faulty is neither read nor inferred, and no other data type
-  not_read : (f : FieldTree) (e : ColumnFault) (g : GeoArrowType) → IsColumnOf f (Faulty e) → ¬ Reads f g
-  not_read f e g h r = ⊎_elim (λ (no : IsRefused f). no.1 (kind_of g) (meta_of g) r) (λ (no : IsUnread f). no.0 (reads_parts f g r).0) (faulty f e h)
-
-  not_inferred : (f : FieldTree) (e : ColumnFault) (g : GeoArrowType) → IsColumnOf f (Faulty e) → ¬ Infers f g
-  not_inferred f e g h i = ⊎_elim (λ (no : IsRefused f). (infers_parts f g i).0 no.0) (λ (no : IsUnread f). no.1 (meta_of g) (infers_parts f g i).1) (faulty f e h)
-
-  not_other : (f : FieldTree) (e : ColumnFault) → IsColumnOf f (Faulty e) → ¬ IsColumnOf f Other
-  not_other f e h o = ⊎_elim (λ (no : IsRefused f). o.0 no.0) (λ (no : IsUnread f). no.1 o.2.0 o.2.1) (faulty f e h)
+  not_faulty : (f : FieldTree) (g : GeoArrowType) (fault : ColumnFault) → Infers f g → ¬ IsColumnOf f (Faulty fault)
+  not_faulty f g fault i h = grind (arith, infers_parts f g i)
 
   pub one_column : (f : FieldTree) (c d : Column) → IsColumnOf f c → IsColumnOf f d → SameColumn c d
   one_column f (Geometry g) (Geometry h) r s = one_reading f g h r s
   one_column f (OfInferred g) (OfInferred h) r s = one_inference f g h r s
   one_column f Other Other r s = tt
   one_column f (Faulty e) (Faulty d) r s = one_fault f e d r s
-  one_column f _ _ r s = grind (arith, not_read, not_inferred, not_other, unnamed, named)
+  one_column f _ _ r s = grind (arith, named, unnamed, not_faulty)
 
   pub one_report : (fs : List FieldTree) (cs ds : List Column) → IsReport fs cs → IsReport fs ds → SameReport cs ds
   one_report [] [] [] r s = tt

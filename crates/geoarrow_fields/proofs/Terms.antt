@@ -1,22 +1,20 @@
 -- The names of the specs that most proofs cite, passed on from one place. Declares nothing.
 unfoldable pub use Rattle.std.specs.Str.{is_utf8}
-pub use Rattle.serde_json.specs.Data.{Data, boolean, depth, member, members_depth, no_members, null, object, put, string, Members}
+pub use Rattle.serde_json.specs.Data.{Data, depth, member, members_depth, no_members, null, object, put, string, Members}
 pub use Rattle.serde_json.specs.Read.{max_depth, read}
 pub use Rattle.serde_json.specs.Written.{compact_text, has_float}
 pub use Rattle.arrow_values.specs.Tree.{FieldTree, Metadata as Texts, Text, Tree, fixed_size_list, plain, struct}
-pub use Rattle.arrow_values.specs.Texts.{extension_metadata, metadata_key, name_key, put_text, remove_text, set_extension, text_at}
+pub use Rattle.arrow_values.specs.Texts.{extension_metadata, extension_name, metadata_key, name_key, put_text, remove_text, set_extension, text_at}
 pub use Rattle.geoarrow_layout.specs.declared.kinds.CoordType.{CoordType}
 pub use Rattle.geoarrow_layout.specs.declared.kinds.CoordType.TheVariants.{Interleaved, Separated}
 pub use Rattle.geoarrow_layout.specs.declared.kinds.Dimension.{Dimension}
-pub use Rattle.geoarrow_layout.specs.declared.kinds.Dimension.TheVariants.{XY, XYM, XYZ, XYZM}
-pub use Rattle.geoarrow_layout.specs.declared.names.ExtensionName.{ExtensionName}
-pub use Rattle.geoarrow_layout.specs.declared.encodings.NativeKind.{NativeKind}
-pub use Rattle.geoarrow_layout.specs.declared.encodings.NativeKind.TheVariants.{Point}
+pub use Rattle.geoarrow_layout.specs.declared.kinds.Dimension.TheVariants.{XY}
+pub use Rattle.geoarrow_layout.specs.declared.encodings.NativeKind.TheVariants.{GeometryCollection, Point}
 pub use Rattle.geoarrow_layout.specs.declared.encodings.Width.{Width}
-pub use Rattle.geoarrow_layout.specs.declared.encodings.Width.TheVariants.{Large, Plain, View}
+pub use Rattle.geoarrow_layout.specs.declared.encodings.Width.TheVariants.{Plain}
 pub use Rattle.geoarrow_layout.specs.declared.encodings.Kind.{Kind}
 pub use Rattle.geoarrow_layout.specs.declared.encodings.Kind.TheVariants.{Geometry as OfGeometry, Native, Rect, Wkb, Wkt}
-pub use Rattle.geoarrow_layout.specs.Kinds.{coord_type_of, dimension_of, extension_of, name_of, name_text}
+pub use Rattle.geoarrow_layout.specs.Kinds.{coord_type_of, dimension_of, extension_of, name_of}
 pub use Rattle.geoarrow_layout.specs.Layouts.{layout}
 pub use Rattle.geoarrow_meta.specs.declared.edges.Edges.{Edges}
 pub use Rattle.geoarrow_meta.specs.declared.crs.crs_type.CrsType.{CrsType}
@@ -42,7 +40,7 @@ pub use Rattle.geoarrow_fields.specs.declared.RunEnd.{RunEnd}
 pub use Rattle.geoarrow_fields.specs.declared.RunEnd.TheVariants.{Done, InputFault, Memory, OutputFault}
 pub use Rattle.geoarrow_fields.specs.Lines.{Bytes, IsLine, IsPastLimit, IsSplit, IsWithinLimits, Stops, ended_lines, line_feed, lines_of, max_line_bytes, max_lines}
 unfoldable pub use Rattle.geoarrow_fields.specs.Answer.{Answered, Answers}
-pub use Rattle.geoarrow_fields.specs.Answer.{AnswersField, AnswersNoType, Means, ReadsAndWrites, RunsTo, column_text, coord_type_word, dimension_word, error_text, inferred_text, kind_word, metadata_word, type_text}
+pub use Rattle.geoarrow_fields.specs.Answer.{AnswersField, AnswersNoType, AnswersUntil, Means, ReadsAndWrites, RunsTo, column_text, coord_type_word, dimension_word, error_text, inferred_text, kind_word, type_text}
 pub use Rattle.geoarrow_fields.specs.declared.output.Fault.{Fault}
 pub use Rattle.geoarrow_fields.specs.declared.output.Fault.TheVariants.{Input, Memory as NoMemory, Output}
-pub use Rattle.geoarrow_fields.specs.Progress.{AnswersUntil, AppendsSome, Breaks, FrontOf, HasCome, IsAt, IsBegun, IsMeant, IsStopped, Leads, bytes_come}
+pub use Rattle.geoarrow_fields.specs.Progress.{AppendsSome, Breaks, FrontOf, HasCome, IsAt, IsBegun, IsMeant, IsStopped, Leads, bytes_come}
