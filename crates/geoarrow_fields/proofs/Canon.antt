@@ -16,7 +16,7 @@ use Rattle.geoarrow_meta.specs.declared.crs.crs_type.CrsType.TheVariants.{Projjs
 use Rattle.geoarrow_meta.specs.Read.{edges_text, crs_type_text, present, some_has_float}
 use Rattle.geoarrow_meta.specs.Written.{of_parts, written, type_unless, IsReadBack}
 use Rattle.geoarrow_schema.specs.declared.types.GeoArrowType.TheVariants as types
-use Rattle.geoarrow_fields.proofs.Terms.{is_utf8, Data, depth, member, members_depth, no_members, null, object, Members, max_depth, read, compact_text, has_float, FieldTree, Text, Texts, extension_metadata, extension_name, metadata_key, Kind, coord_type_of, dimension_of, name_of, layout, Edges, CrsType, Metadata, DenotesMetadata, NestsWithin, ReadsAs, meta_value, normal, printed, GeoArrowType, kind_of, meta_of, Reads, IsCanonical, ReadsNormally, rewritten, ColumnFault, Arrow, InvalidGeoArrow, Column, Faulty, Geometry, OfInferred, Other, IsColumnOf, is_held, members_are_held, held_parts, field_of_line, line_of_field, parts_value, texts_value, type_value, value_of_field, HasLineForm, Command, Canon, Columns, Infer, Read, Done, Bytes, IsLine, line_feed, lines_of, Answers, AnswersField, AnswersNoType, column_text, coord_type_word, dimension_word, error_text, inferred_text, kind_word, type_text, Answered, Means}
+use Rattle.geoarrow_fields.proofs.Terms.{is_utf8, Data, depth, member, members_depth, no_members, null, object, Members, max_depth, read, compact_text, has_float, FieldTree, Text, Texts, extension_metadata, extension_name, metadata_key, Kind, coord_type_of, dimension_of, name_of, layout, Edges, CrsType, Metadata, DenotesMetadata, NestsWithin, ReadsAs, meta_value, normal, printed, GeoArrowType, kind_of, meta_of, Reads, IsCanonical, rewritten, ColumnFault, Arrow, InvalidGeoArrow, Column, Faulty, Geometry, OfInferred, Other, IsColumnOf, is_held, members_are_held, held_parts, field_of_line, line_of_field, parts_value, texts_value, type_value, value_of_field, HasLineForm, Command, Canon, Columns, Infer, Read, Done, Bytes, IsLine, line_feed, lines_of, Answers, AnswersField, AnswersNoType, column_text, coord_type_word, dimension_word, error_text, inferred_text, kind_word, type_text, Answered, Means}
 use Rattle.geoarrow_fields.proofs.Limits.{lines_of-line}
 use Rattle.geoarrow_fields.proofs.OneAnswer.{IsOneKind, reads_parts, infers_parts, one_reading, no_type_read, one_field_answer, answered, answer_of}
 use Rattle.geoarrow_fields.proofs.Layouts.{AreListed, each_kind, layout_form, layout_held, layout_levels}

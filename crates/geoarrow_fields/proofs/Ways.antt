@@ -8,7 +8,7 @@ use Rattle.std.proofs.lemmas.Bool.{eq-eqb, eqb-true}
 use Rattle.std.proofs.lemmas.List.{take-append-drop, take_rest, get_or-take}
 use Rattle.std.proofs.lemmas.List.Elements.{All-from_get_or, All-nil, All-cons, All-append}
 use Rattle.memchr.specs.Find.{is_byte, IsFirstByte}
-use Rattle.geoarrow_fields.proofs.Terms.{Command, Bytes, line_feed, Answers, Answered, AppendsSome, FrontOf, Breaks, Done, OutputFault, Fault, Input, NoMemory, Output, lines_of, max_lines, max_line_bytes, IsLine, IsPastLimit, Stops, Means, ReadsAndWrites, IsBegun, IsAt, AnswersUntil, HasCome, IsMeant, IsStopped}
+use Rattle.geoarrow_fields.proofs.Terms.{Command, Bytes, line_feed, Answers, Answered, AppendsSome, FrontOf, Breaks, Done, OutputFault, Fault, Input, NoMemory, Output, lines_of, max_lines, max_line_bytes, IsLine, IsPastLimit, Means, ReadsAndWrites, IsBegun, IsAt, AnswersUntil, HasCome, IsMeant, IsStopped}
 use Rattle.geoarrow_fields.proofs.Limits.{IsShort, lines_of-last, stops_first, stops_longer, stops_next, stops_for, stops_last, limit_passed, line_inside, begun_inside}
 
 -- ---- faults, and what a writer holds
