@@ -64,9 +64,7 @@ value_back back None t (Some e) held whole nests = let w = written_is null t (So
 value_back back (Some d) t e held whole nests = let w = written_is d t e held in back _ w.0 (w.1 whole) (omega (arith, w.2, nests))
 
 present_held : (o : Option Data) → IsHeldIf o → IsHeldIf (present o)
-present_held None h = tt
-present_held (Some null) h = tt
-present_held (Some _) h = h
+present_held o h = grind arith
 
 member_held : (k : Text) (ms : Members) → members_are_held ms ≡ true → IsHeldIf (get_member k ms)
 member_held k no_members h = tt
@@ -95,8 +93,7 @@ parts_levels n d b (e ∷ m) own = omega (arith, texts_flat m)
 -- the normal form is its own, and is written as the metadata
 normal_same : (v : Option Data) (t : Option CrsType) (e : Option Edges)
     → (type_unless v (type_unless v t e) e ≡ type_unless v t e) × (meta_value (of_parts v (type_unless v t e) e) ≡ meta_value (of_parts v t e))
-normal_same None t None = (refl, refl)
-normal_same _ t e = (refl, refl)
+normal_same v t e = grind arith
 
 -- there is a type of that kind with another metadata
 with_metadata : (g : GeoArrowType) (m : Metadata) → (h : GeoArrowType) × (kind_of h ≡ kind_of g) × (meta_of h ≡ m)
@@ -228,25 +225,20 @@ module _ (listed : AreListed) (put_is : PutIsHeld)
     -- ---- the answer of `canon` is answered by itself, and read as the line that it was the answer to
 
     module _ (back : IsRead) (one_kind : IsOneKind) (g : GeoArrowType) (r : Reads f g) (nests : NestsWithin 100 (meta_of g).crs.value) where
-      abbrev k : Kind
-      k = kind_of g
-
       abbrev m : Metadata
       m = meta_of g
 
-      denotes : DenotesMetadata (extension_metadata f) m
-      denotes = (reads_parts f g r).1
-
       read_back : IsReadBack (meta_value (normal m))
       read_back =
-          let own = crs_held line f is m denotes in
+          let own = crs_held line f is m (reads_parts f g r).1 in
           value_back back m.crs.value (type_unless m.crs.value m.crs.crs_type m.edges) m.edges own.0 own.1 nests
 
-      again : (n : FieldTree) → n ≡ rewritten f k (normal m) → ReadsAs n k (normal m) → rewritten n k (normal m) ≡ n
+      again : (n : FieldTree) → n ≡ rewritten f (kind_of g) (normal m) → ReadsAs n (kind_of g) (normal m) → rewritten n (kind_of g) (normal m) ≡ n
       unfolding ReadsAs
       again n same reads =
-          let texts = set_again (name_of k) (printed (normal m)) f.metadata (texts_held line f is k m denotes) (ap extension_name (sym same) ∙ reads.0.0) in
-          rw same (ap (λ (l : Texts). record f { tree = layout k; metadata = l }) texts)
+          let held = texts_held line f is (kind_of g) m (reads_parts f g r).1 in
+          let texts = set_again (name_of (kind_of g)) (printed (normal m)) f.metadata held (ap extension_name (sym same) ∙ reads.0.0) in
+          rw same (ap (λ (l : Texts). record f { tree = layout (kind_of g); metadata = l }) texts)
 
       pub canon_again : (a : Bytes) → Answers Canon line a → Answers Canon a a × ((text : Bytes) → Answers Read line text → Answers Read a text)
       canon_again a answer = by (answer_of Canon line f a is answer)
@@ -254,8 +246,8 @@ module _ (listed : AreListed) (put_is : PutIsHeld)
           by : AnswersField Canon f a → Answers Canon a a × ((text : Bytes) → Answers Read line text → Answers Read a text)
           by (inl (n, (h, s, made, normally), put)) =
               let type = one_reading one_kind f h g s r in
-              let same : n ≡ rewritten f k (normal m) = rw (type.0, type.1) at made in
-              let reads : ReadsAs n k (normal m) = (rw (type.0, type.1) at normally) read_back in
+              let same : n ≡ rewritten f (kind_of g) (normal m) = rw (type.0, type.1) at made in
+              let reads : ReadsAs n (kind_of g) (normal m) = (rw (type.0, type.1) at normally) read_back in
               let (t, kinds, metas) = with_metadata g (normal m) in
               let normals = normal_same m.crs.value m.crs.crs_type m.edges in
               let once : normal (normal m) ≡ normal m = ap (λ t. of_parts m.crs.value t m.edges) normals.0 in

@@ -1,5 +1,5 @@
 -- The two extension keys in the metadata of a field: setting them keeps the order of the keys, and setting them again changes nothing.
-use Rattle.std.proofs.Common.{◌≡◌, ◌∷◌, [], List, ℕ, true, not, cond, Option, Some, None, IfSome, Ordering, Less, Equal, Greater, nat_cmp, bytes_eq, refl, sym, ap, ◌∙◌, subst, true≢false}
+use Rattle.std.proofs.Common.{◌≡◌, arith, ◌∷◌, [], List, ℕ, true, not, cond, Option, Some, None, IfSome, Ordering, Less, Equal, Greater, nat_cmp, bytes_eq, refl, sym, ap, ◌∙◌, subst}
 use Rattle.std.specs.Str.{chars}
 use Rattle.std.specs.Ordering.{is_lt, is_eq, match_ordering}
 use Rattle.std.specs.Cmp.Lexicographic.{slice_cmp}
@@ -19,8 +19,7 @@ PutIsHeld = (k : List ℕ) (d : Data) (ms : Members) → is_utf8 k ≡ true → 
 -- ---- the order of the keys is kept
 
 moved : (o : Ordering) (a b c : Texts) → texts_value (match_ordering o a b c) ≡ match_ordering o (texts_value a) (texts_value b) (texts_value c)
-moved Less a b c = refl
-moved _ a b c = refl
+moved o a b c = grind arith
 
 texts_put : (k t : Text) (m : Texts) → texts_value (put_text k t m) ≡ put k (string t) (texts_value m)
 texts_put k t [] = refl
@@ -30,8 +29,7 @@ put_text_held : PutIsHeld → (k t : Text) (m : Texts) → is_utf8 k ≡ true �
 put_text_held put_is k t m key text h = subst (λ ms. members_are_held ms ≡ true) (sym (texts_put k t m)) (put_is k (string t) (texts_value m) key text h)
 
 less : (o : Ordering) → is_lt o ≡ true → o ≡ Less
-less Less h = refl
-less _ h = absurd (true≢false (sym h))
+less o h = grind arith
 
 -- what comes before the first key comes before the next
 next_first : (k : Text) (e : Text × Text) (m : Texts) → comes_first k (texts_value (e ∷ m)) ≡ true → comes_first e.0 (texts_value m) ≡ true → comes_first k (texts_value m) ≡ true

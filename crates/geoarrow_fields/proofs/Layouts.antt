@@ -39,9 +39,8 @@ layout_form (Native _ c d) = leaf_form c d
 layout_form (OfGeometry c) = search (leaf_form, mixed_form)
 layout_form (Rect d) = coordinates_form (box_names d)
 layout_form (Wkb Plain) = tt
-layout_form (Wkb _) = tt
 layout_form (Wkt Plain) = tt
-layout_form (Wkt _) = tt
+layout_form _ = tt
 
 pub layout_held : AreListed → (k : Kind) → is_held (type_value (layout k)) ≡ true
 unfolding is_utf8 chars lib.Utf8.encode

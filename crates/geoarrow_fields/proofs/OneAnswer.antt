@@ -1,14 +1,13 @@
 -- A field has one report, and a line one answer.
-use Rattle.std.proofs.Common.{◌≡◌, ◌∙◌, ℤ, inl, inr, List, [], ◌∷◌, ◌++◌, codes, Option, Some, None, refl, sym, ap, ap₂, arith}
+use Rattle.std.proofs.Common.{◌≡◌, ◌∙◌, inl, inr, List, [], ◌∷◌, ◌++◌, codes, Option, Some, None, refl, sym, ap, ap₂, arith}
 use Rattle.std.specs.Prelude.{MatchOption}
 use Rattle.std.proofs.lemmas.Option.{same_Some}
 use Rattle.geoarrow_layout.specs.Shapes.{Accepts}
-use Rattle.geoarrow_layout.specs.Inferred.{IsInferredAs, IsInferredSize, Inferred}
 use Rattle.geoarrow_meta.specs.Laws.{text_denotes_one}
-use Rattle.geoarrow_schema.specs.Infers.{InferredAs, InfersAs, Infers, IsStored}
+use Rattle.geoarrow_schema.specs.Infers.{InferredAs, InfersAs, Infers}
 use Rattle.geoarrow_columns.specs.Same.{SameColumn}
 use Rattle.geoarrow_fields.specs.Answer.{SameReport}
-use Rattle.geoarrow_fields.proofs.Terms.{FieldTree, Text, Tree, fixed_size_list, struct, extension_metadata, CoordType, Interleaved, Separated, Dimension, Point, Kind, Native, extension_of, name_of, DenotesMetadata, normal, ReadsAs, GeoArrowType, SameType, kind_of, meta_of, HasGeoArrowName, Reads, IsCanonical, rewritten, ColumnFault, Arrow, InvalidGeoArrow, Column, Faulty, Geometry, OfInferred, Other, IsColumnOf, IsRefused, IsRefusedFor, IsReport, field_of_line, line_of_field, Command, Canon, Columns, Infer, Read, Done, Bytes, line_feed, lines_of, Answers, AnswersField, AnswersNoType, column_text, error_text, inferred_text, type_text, Answered, Means}
+use Rattle.geoarrow_fields.proofs.Terms.{FieldTree, Text, Tree, extension_metadata, Kind, extension_of, DenotesMetadata, normal, ReadsAs, GeoArrowType, SameType, kind_of, meta_of, HasGeoArrowName, Reads, IsCanonical, rewritten, ColumnFault, Column, Faulty, Geometry, OfInferred, IsColumnOf, IsRefused, IsRefusedFor, IsReport, field_of_line, line_of_field, Command, Canon, Columns, Infer, Read, Done, Bytes, line_feed, lines_of, Answers, AnswersField, AnswersNoType, column_text, error_text, inferred_text, type_text, Answered, Means}
 
 -- ---- a data type is inferred as one kind
 
@@ -18,28 +17,8 @@ One {A} P = (x y : A) → P x → P y → x ≡ y
 abbrev pub IsOneKind : Type 0
 IsOneKind = (name : Text) (t : Tree) (k l : Kind) → Accepts name t k → Accepts name t l → k ≡ l
 
-one_of_names : (names : List Text) → One (λ (d : Dimension). IsInferredAs d names)
-one_of_names names d e h k = grind arith
-
-one_of_size : (name : Text) (size : ℤ) → One (λ (d : Dimension). IsInferredSize d name size)
-one_of_size name size d e h k = grind arith
-
-one_point : (t : Tree) (c b : CoordType) (d e : Dimension) → Inferred t c d → Inferred t b e → Native Point c d ≡ Native Point b e
-one_point (struct fs) Separated Separated d e h k = ap (Native Point Separated) (one_of_names _ d e h.1 k.1)
-one_point (fixed_size_list n t b m s) Interleaved Interleaved d e h k = ap (Native Point Interleaved) (one_of_size n s d e h.1 k.1)
-one_point _ _ _ d e h k = search
-
--- a tree that is inferred as a point is neither well-known binary nor well-known text
-not_stored : (t : Tree) (c : CoordType) (d : Dimension) (k : Kind) → Inferred t c d → ¬ IsStored t k
-not_stored (struct fs) c d k h l = grind arith
-not_stored (fixed_size_list n t b m s) c d k h l = grind arith
-not_stored _ c d k h l = h
-
 one_inferred : (t : Tree) → One (InferredAs t)
-one_inferred t (Native Point c d) (Native Point b e) h k = one_point t c b d e h k
-one_inferred t (Native Point c d) l h k = absurd (not_stored t c d l h k)
-one_inferred t k (Native Point c d) h l = absurd (not_stored t c d k l h)
-one_inferred t _ _ h k = grind arith
+one_inferred t a b h k = grind arith
 
 -- ---- the words of the same type, and of the same entry
 
@@ -47,11 +26,7 @@ same_type : (g h : GeoArrowType) → SameType g h → type_text g ≡ type_text 
 same_type g h same = rw (same.0, same.1)
 
 same_texts : (c d : Column) → SameColumn c d → (column_text c ≡ column_text d) × (inferred_text c ≡ inferred_text d)
-same_texts (Geometry g) (Geometry h) same = let text = same_type g h same in (ap (λ l. codes "geometry " ++ l) text, text)
-same_texts (OfInferred g) (OfInferred h) same = let text = same_type g h same in (ap (λ l. codes "inferred " ++ l) text, text)
-same_texts Other Other same = (refl, refl)
-same_texts (Faulty e) (Faulty f) same = (ap (λ x. column_text (Faulty x)) same, ap (λ x. inferred_text (Faulty x)) same)
-same_texts _ _ same = absurd same
+same_texts c d same = grind (arith, same_type)
 
 -- ---- what a field is read as, and what is inferred for it
 
@@ -66,22 +41,14 @@ infers_parts f g i = (i.0, i.1)
 named : (f : FieldTree) (g : GeoArrowType) → Reads f g → HasGeoArrowName f
 named f g r = (reads_parts f g r).0
 
-unnamed : (f : FieldTree) (g : GeoArrowType) → Infers f g → ¬ HasGeoArrowName f
-unnamed f g i = (infers_parts f g i).0
-
 refused : (f : FieldTree) (fault : ColumnFault) → IsRefusedFor f fault → IsRefused f
-refused f Arrow h = h.0
-refused f InvalidGeoArrow h = h.0
-
-one_fault : (f : FieldTree) → One (λ fault. IsColumnOf f (Faulty fault))
-one_fault f e d h k = grind arith
+refused f fault h = grind arith
 
 one_refusal : (f : FieldTree) → One (IsRefusedFor f)
 one_refusal f e d h k = grind arith
 
 pub no_type_read : (f : FieldTree) (a : Bytes) (g : GeoArrowType) → Reads f g → ¬ AnswersNoType f a
-no_type_read f a g r (inl none) = none.0 (reads_parts f g r).0
-no_type_read f a g r (inr (fault, is, text)) = (refused f fault is).1 (kind_of g) (meta_of g) r
+no_type_read f a g r none = grind (arith, reads_parts f g r, refused)
 
 one_no_type : (f : FieldTree) → One (AnswersNoType f)
 one_no_type f a b (inl x) (inl y) = x.1 ∙ sym y.1
@@ -99,10 +66,7 @@ module _ (one_kind : IsOneKind) where
   pub one_reading : (f : FieldTree) (g h : GeoArrowType) → Reads f g → Reads f h → SameType g h
   unfolding ReadsAs
   one_reading f g h r s =
-      let same : name_of (kind_of g) ≡ name_of (kind_of h) = same_Some _ _ (sym r.0.0 ∙ s.0.0) in (
-        one_kind (name_of (kind_of g)) f.tree (kind_of g) (kind_of h) (refl, r.0.1) (same, s.0.1),
-        text_denotes_one (extension_metadata f) (meta_of g) (meta_of h) r.1 s.1,
-      )
+      (one_kind _ f.tree (kind_of g) (kind_of h) (refl, r.0.1) (same_Some _ _ (sym r.0.0 ∙ s.0.0), s.0.1), text_denotes_one (extension_metadata f) (meta_of g) (meta_of h) r.1 s.1)
 
   -- a field has one canonical form
   one_canonical : (f : FieldTree) → One (IsCanonical f)
@@ -116,9 +80,8 @@ module _ (one_kind : IsOneKind) where
   pub one_column : (f : FieldTree) (c d : Column) → IsColumnOf f c → IsColumnOf f d → SameColumn c d
   one_column f (Geometry g) (Geometry h) r s = one_reading f g h r s
   one_column f (OfInferred g) (OfInferred h) r s = one_inference f g h r s
-  one_column f Other Other r s = tt
-  one_column f (Faulty e) (Faulty d) r s = one_fault f e d r s
-  one_column f _ _ r s = grind (arith, named, unnamed, not_faulty)
+  one_column f (Faulty e) (Faulty d) r s = grind arith
+  one_column f _ _ r s = grind (arith, named, infers_parts, not_faulty)
 
   pub one_report : (fs : List FieldTree) (cs ds : List Column) → IsReport fs cs → IsReport fs ds → SameReport cs ds
   one_report [] [] [] r s = tt

@@ -1,5 +1,5 @@
 -- What a writer holds grows; a run under way, line by line, and its ends. Over plain variables.
-use Rattle.std.proofs.Common.{◌≡◌, ◌≢◌, ◌⊎◌, inl, ℕ, suc, List, [], ◌∷◌, ◌++◌, ◌-◌, ◌+◌, ◌<◌, ◌≤◌, true, eqb, length, take, drop, get_or, All, Option, Some, None, Result, Ok, Err, IfErr, codes, refl, sym, ap, ◌∙◌, subst, append_assoc, append-nil, length-append, length-take, drop-cons, take_all, add-one, arith}
+use Rattle.std.proofs.Common.{◌≡◌, ◌≢◌, ◌⊎◌, inl, ℕ, suc, List, [], ◌∷◌, ◌++◌, ◌-◌, ◌+◌, ◌<◌, ◌≤◌, true, eqb, length, take, drop, get_or, All, Option, Some, None, Result, IfErr, codes, refl, sym, ap, ◌∙◌, subst, append_assoc, append-nil, length-append, length-take, drop-cons, take_all, add-one, arith}
 use Rattle.std.specs.Prelude.{⊤}
 use Rattle.std.specs.Result.{IsErrAnd}
 use Rattle.std.specs.Io.KnownBytes.{Appends, Consumes, Keeps}
@@ -15,8 +15,7 @@ use Rattle.geoarrow_fields.proofs.Limits.{IsShort, lines_of-last, stops_first, s
 
 -- what follows from a fault that is handed on
 pub handed_on : {T E : Type 0} (P : E → Type 0) (r : Result T E) (x : E) → IsErrAnd r (λ e. e ≡ x) → P x → IfErr r P
-handed_on P (Ok _) x is h = absurd is
-handed_on P (Err e) x is h = subst P (sym is) h
+handed_on P r x is h = grind arith
 
 -- an answer to a line, with its line feed, answers that line
 module _ (command : Command) (line text answer : Bytes) (same : text ≡ answer) (is : Answers command line answer) where
