@@ -1,10 +1,8 @@
 -- The canonical field of a field that a line denotes: its line is read back as that field, which is its own canonical form and reads as
 -- the same type. And an answer holds no line feed.
-use Rattle.std.proofs.Common.{◌≡◌, ◌≢◌, inl, inr, ◌+◌, ◌≤◌, ◌==◌, ◌∷◌, [], ◌++◌, List, ℕ, suc, length, All, Bool, true, false, not, Option, Some, None, IfSome, option_map, unwrap_or, codes, refl, sym, ap, ap₂, ◌∙◌, subst, append_assoc, true≢false, arith, nat_cmp}
+use Rattle.std.proofs.Common.{◌≡◌, ◌≢◌, inl, inr, ◌+◌, ◌≤◌, ◌==◌, ◌∷◌, [], ◌++◌, List, ℕ, suc, length, All, Bool, true, false, not, Option, Some, None, IfSome, option_map, unwrap_or, codes, refl, sym, ap, ap₂, ◌∙◌, subst, append_assoc, true≢false, arith}
 use Rattle.std.specs.Prelude.{MatchOption}
 use Rattle.std.specs.List.{list_all}
-use Rattle.std.specs.Ordering.{match_ordering}
-use Rattle.std.specs.Cmp.Lexicographic.{slice_cmp}
 use Rattle.std.specs.Str.{chars}
 use Rattle.std.specs.Arc.{arc_with_value}
 use Rattle.std.proofs.lemmas.Bool.{eq-eqb}
@@ -20,7 +18,7 @@ use Rattle.geoarrow_fields.proofs.Terms.{is_utf8, Data, depth, member, members_d
 use Rattle.geoarrow_fields.proofs.Limits.{lines_of-line}
 use Rattle.geoarrow_fields.proofs.OneAnswer.{IsOneKind, reads_parts, infers_parts, one_reading, no_type_read, one_field_answer, answered, answer_of}
 use Rattle.geoarrow_fields.proofs.Layouts.{AreListed, each_kind, layout_form, layout_held, layout_levels}
-use Rattle.geoarrow_fields.proofs.Extension.{HoldsTexts, PutIsHeld, set_held, set_again, text_held, each_order}
+use Rattle.geoarrow_fields.proofs.Extension.{HoldsTexts, PutIsHeld, set_held, set_again, text_held}
 
 -- ---- the value of a metadata that UTF-8 denotes is held
 
@@ -69,8 +67,8 @@ present_held o h = grind arith
 member_held : (k : Text) (ms : Members) → members_are_held ms ≡ true → IsHeldIf (get_member k ms)
 member_held k no_members h = tt
 member_held k (member l e ms) h =
-    let rest = member_held k ms (held_parts l e ms h).3 in
-    each_order (λ o. IsHeldIf (match_ordering o (get_member k ms) (Some e) (get_member k ms))) (slice_cmp nat_cmp k l) (λ _. rest) (λ _. (held_parts l e ms h).2) (λ _. rest)
+    let p = held_parts l e ms h in
+    grind (arith, p.2, member_held k ms p.3)
 
 get_held : (k : Text) (d : Data) → is_held d ≡ true → IsHeldIf (get k d)
 get_held k (object ms) h = member_held k ms h

@@ -1,12 +1,8 @@
 -- The two extension keys in the metadata of a field: setting them keeps the order of the keys, and setting them again changes nothing.
-use Rattle.std.proofs.Common.{◌≡◌, arith, ◌∷◌, [], List, ℕ, true, not, cond, Option, Some, None, IfSome, Ordering, Less, Equal, Greater, nat_cmp, bytes_eq, refl, sym, ap, ◌∙◌, subst}
+use Rattle.std.proofs.Common.{◌≡◌, arith, ◌∷◌, [], List, ℕ, true, Option, Some, None, IfSome, refl, sym, ap, ◌∙◌, subst}
 use Rattle.std.specs.Str.{chars}
-use Rattle.std.specs.Ordering.{is_lt, is_eq, match_ordering}
-use Rattle.std.specs.Cmp.Lexicographic.{slice_cmp}
-use Rattle.std.proofs.lemmas.Bool.{cond_both}
 use Rattle.std.proofs.lemmas.Cmp.{nat_list_cmp_total, tied_itself}
 use Rattle.std.proofs.lemmas.Map.Text.{is_eq-slice_cmp}
-use Rattle.std.proofs.lemmas.Option.{same_Some}
 use Rattle.field_lines.specs.Held.{comes_first}
 use Rattle.geoarrow_fields.proofs.Terms.{is_utf8, Data, string, Members, put, Text, Texts, name_key, metadata_key, text_at, put_text, remove_text, set_extension, texts_value, is_held, members_are_held, held_parts}
 
@@ -18,37 +14,29 @@ PutIsHeld = (k : List ℕ) (d : Data) (ms : Members) → is_utf8 k ≡ true → 
 
 -- ---- the order of the keys is kept
 
-moved : (o : Ordering) (a b c : Texts) → texts_value (match_ordering o a b c) ≡ match_ordering o (texts_value a) (texts_value b) (texts_value c)
-moved o a b c = grind arith
-
 texts_put : (k t : Text) (m : Texts) → texts_value (put_text k t m) ≡ put k (string t) (texts_value m)
 texts_put k t [] = refl
-texts_put k t (e ∷ m) = moved (slice_cmp nat_cmp k e.0) _ _ _ ∙ rw (texts_put k t m) refl
+texts_put k t (e ∷ m) = grind (arith, texts_put k t m)
 
 put_text_held : PutIsHeld → (k t : Text) (m : Texts) → is_utf8 k ≡ true → is_utf8 t ≡ true → HoldsTexts m → HoldsTexts (put_text k t m)
 put_text_held put_is k t m key text h = subst (λ ms. members_are_held ms ≡ true) (sym (texts_put k t m)) (put_is k (string t) (texts_value m) key text h)
 
-less : (o : Ordering) → is_lt o ≡ true → o ≡ Less
-less o h = grind arith
-
 -- what comes before the first key comes before the next
 next_first : (k : Text) (e : Text × Text) (m : Texts) → comes_first k (texts_value (e ∷ m)) ≡ true → comes_first e.0 (texts_value m) ≡ true → comes_first k (texts_value m) ≡ true
 next_first k e [] here next = refl
-next_first k e (d ∷ m) here next = ap is_lt (nat_list_cmp_total.trans k e.0 d.0 (less _ here) (less _ next))
+next_first k e (d ∷ m) here next = grind (arith, nat_list_cmp_total.trans k e.0 d.0)
 
 first_of_rest : (k q : Text) (m : Texts) → HoldsTexts m → comes_first k (texts_value m) ≡ true → comes_first k (texts_value (remove_text q m)) ≡ true
 first_of_rest k q [] h first = refl
 first_of_rest k q (e ∷ m) h first =
     let p = held_parts e.0 (string e.1) (texts_value m) h in
-    cond_both (not (bytes_eq q e.0)) (e ∷ remove_text q m) (remove_text q m) (λ l. comes_first k (texts_value l) ≡ true) (λ _. first)
-    (λ _. first_of_rest k q m p.3 (next_first k e m first p.0))
+    grind (arith, first, first_of_rest k q m p.3 (next_first k e m first p.0))
 
 remove_text_held : (q : Text) (m : Texts) → HoldsTexts m → HoldsTexts (remove_text q m)
 remove_text_held q [] h = refl
 remove_text_held q (e ∷ m) h =
     let p = held_parts e.0 (string e.1) (texts_value m) h in
-    cond_both (not (bytes_eq q e.0)) (e ∷ remove_text q m) (remove_text q m) HoldsTexts
-    (λ _. rw (first_of_rest e.0 q m p.3 p.0, p.1, p.2) (remove_text_held q m p.3)) (λ _. remove_text_held q m p.3)
+    grind (arith, first_of_rest e.0 q m p.3 p.0, p.1, p.2, remove_text_held q m p.3)
 
 pub set_held : PutIsHeld → (name : Text) (text : Option Text) (m : Texts) → is_utf8 name ≡ true → IfSome text (λ t. is_utf8 t ≡ true) → HoldsTexts m → HoldsTexts (set_extension name text m)
 unfolding is_utf8 chars lib.Utf8.encode
@@ -58,39 +46,28 @@ set_held put_is name (Some t) m named written h =
 
 -- ---- setting the keys again changes nothing
 
--- by the order of two keys
-pub each_order : (P : Ordering → Type 0) (o : Ordering) → (o ≡ Less → P Less) → (o ≡ Equal → P Equal) → (o ≡ Greater → P Greater) → P o
-each_order P Less less equal greater = less refl
-each_order P Equal less equal greater = equal refl
-each_order P Greater less equal greater = greater refl
-
 put_twice : (k t : Text) (m : Texts) → put_text k t (put_text k t m) ≡ put_text k t m
 put_twice k t [] = rw (tied_itself nat_list_cmp_total k) refl
-put_twice k t (e ∷ m) =
-    each_order (λ o. put_text k t (match_ordering o ((k, t) ∷ e ∷ m) ((e.0, t) ∷ m) (e ∷ put_text k t m)) ≡ match_ordering o ((k, t) ∷ e ∷ m) ((e.0, t) ∷ m) (e ∷ put_text k t m)) (slice_cmp nat_cmp k e.0)
-    (λ is. rw (tied_itself nat_list_cmp_total k) refl) (λ is. rw is refl) (λ is. rw is (ap (λ l. e ∷ l) (put_twice k t m)))
+put_twice k t (e ∷ m) = grind (arith, tied_itself nat_list_cmp_total k, put_twice k t m)
 
 remove_twice : (q : Text) (m : Texts) → remove_text q (remove_text q m) ≡ remove_text q m
 remove_twice q [] = refl
-remove_twice q (e ∷ m) =
-    cond_both (not (bytes_eq q e.0)) (e ∷ remove_text q m) (remove_text q m) (λ l. remove_text q l ≡ l)
-    (λ kept. rw kept (ap (λ l. e ∷ l) (remove_twice q m))) (λ _. remove_twice q m)
+remove_twice q (e ∷ m) = grind (arith, remove_twice q m)
 
 -- there is no text at a key that comes before all
 none_before : (k : Text) (m : Texts) → HoldsTexts m → comes_first k (texts_value m) ≡ true → text_at k m ≡ None
 none_before k [] h first = refl
 none_before k (e ∷ m) h first =
     let p = held_parts e.0 (string e.1) (texts_value m) h in
-    rw (← is_eq-slice_cmp k e.0, less _ first) (none_before k m p.3 (next_first k e m first p.0))
+    grind (arith, is_eq-slice_cmp k e.0, none_before k m p.3 (next_first k e m first p.0))
 
 -- putting the text that stands at a key changes nothing
 put_same : (k t : Text) (m : Texts) → HoldsTexts m → text_at k m ≡ Some t → put_text k t m ≡ m
 put_same k t [] h here = absurd cc
 put_same k t (e ∷ m) h here =
     let p = held_parts e.0 (string e.1) (texts_value m) h in
-    each_order (λ o. cond (is_eq o) (Some e.1) (text_at k m) ≡ Some t → match_ordering o ((k, t) ∷ e ∷ m) ((e.0, t) ∷ m) (e ∷ put_text k t m) ≡ e ∷ m) (slice_cmp nat_cmp k e.0)
-    (λ is there. let none = none_before k m p.3 (next_first k e m (ap is_lt is) p.0) in absurd cc)
-    (λ is there. ap (λ u. (e.0, u) ∷ m) (sym (same_Some e.1 t there))) (λ is there. ap (λ l. e ∷ l) (put_same k t m p.3 there)) (rw (← is_eq-slice_cmp k e.0) at here)
+    let none = λ (first : comes_first k (texts_value (e ∷ m)) ≡ true). none_before k m p.3 (next_first k e m first p.0) in
+    grind (arith, is_eq-slice_cmp k e.0, none, put_same k t m p.3)
 
 pub set_again : (name : Text) (text : Option Text) (m : Texts) → HoldsTexts (set_extension name text m) → text_at name_key (set_extension name text m) ≡ Some name
     → set_extension name text (set_extension name text m) ≡ set_extension name text m
@@ -102,4 +79,4 @@ pub text_held : (k : Text) (m : Texts) → HoldsTexts m → IfSome (text_at k m)
 text_held k [] h = tt
 text_held k (e ∷ m) h =
     let p = held_parts e.0 (string e.1) (texts_value m) h in
-    cond_both (bytes_eq k e.0) (Some e.1) (text_at k m) (λ o. IfSome o (λ t. is_utf8 t ≡ true)) (λ _. p.2) (λ _. text_held k m p.3)
+    grind (arith, p.2, text_held k m p.3)

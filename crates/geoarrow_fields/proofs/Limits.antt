@@ -1,6 +1,5 @@
 -- An input, its lines and their limits.
 use Rattle.std.proofs.Common.{◌≡◌, ◌≢◌, ℕ, ◌<◌, inl, inr, List, [], ◌∷◌, ◌++◌, length, refl, sym, ap, ap₂, ◌⊎◌, ◌∙◌, append_assoc, append-nil, All, arith, ◌+◌, ◌≤◌, get_or, subst, length-append}
-use Rattle.std.specs.List.{onto_first}
 use Rattle.std.proofs.lemmas.Bool.{ne_eqb, cases_eq, cases_lt}
 use Rattle.std.proofs.lemmas.List.{get_or_append_left, get_or_at}
 use Rattle.std.proofs.lemmas.List.Elements.{All-nil, All-cons, All-head, All-tail, All-append, All-push, All-drop}
@@ -9,32 +8,25 @@ use Rattle.geoarrow_fields.proofs.Terms.{Bytes, lines_of, ended_lines, line_feed
 
 -- ---- an input and its lines
 
--- another byte stands in the first line
-put_other : (byte : ℕ) (bytes : Bytes) (lines : List Bytes) → byte ≢ line_feed → lines_of bytes ≡ lines → lines_of (byte ∷ bytes) ≡ onto_first byte lines
-put_other byte bytes lines h same = rw (ne_eqb byte line_feed h, same) refl
-
 -- a line that a line feed ends is the first of the lines
 pub lines_of-line : (line rest : Bytes) → IsLine line → lines_of (line ++ (line_feed ∷ rest)) ≡ line ∷ lines_of rest
 lines_of-line [] rest h = refl
 lines_of-line (byte ∷ line) rest h =
-    put_other byte (line ++ (line_feed ∷ rest)) (line ∷ lines_of rest) (All-head (λ b. b ≢ line_feed) byte line h)
-    (lines_of-line line rest (All-tail (λ b. b ≢ line_feed) byte line h))
+    rw (ne_eqb byte line_feed (All-head (λ b. b ≢ line_feed) byte line h), lines_of-line line rest (All-tail (λ b. b ≢ line_feed) byte line h)) refl
 
 -- what no line feed ends is a line of its own
 pub lines_of-last : (rest : Bytes) → IsLine rest → 0 < length rest → lines_of rest ≡ rest ∷ []
 lines_of-last [] h some = absurd (omega arith)
-lines_of-last (byte ∷ []) h some = put_other byte [] [] (All-head (λ b. b ≢ line_feed) byte [] h) refl
+lines_of-last (byte ∷ []) h some = rw (ne_eqb byte line_feed (All-head (λ b. b ≢ line_feed) byte [] h)) refl
 lines_of-last (byte ∷ (next ∷ rest)) h some =
     let more = lines_of-last (next ∷ rest) (All-tail (λ b. b ≢ line_feed) byte (next ∷ rest) h) (omega arith) in
-    put_other byte (next ∷ rest) ((next ∷ rest) ∷ []) (All-head (λ b. b ≢ line_feed) byte (next ∷ rest) h) more
+    rw (ne_eqb byte line_feed (All-head (λ b. b ≢ line_feed) byte (next ∷ rest) h), more) refl
 
 -- the lines of lines put together, and of what comes after them
 lines_of-ended : (lines : List Bytes) (later : Bytes) → All IsLine lines → lines_of (ended_lines lines ++ later) ≡ lines ++ lines_of later
 lines_of-ended [] later h = refl
 lines_of-ended (line ∷ lines) later h =
-    ap lines_of (append_assoc line (line_feed ∷ ended_lines lines) later)
-    ∙ lines_of-line line (ended_lines lines ++ later) (All-head IsLine line lines h)
-    ∙ ap (λ l. line ∷ l) (lines_of-ended lines later (All-tail IsLine line lines h))
+    rw (append_assoc, lines_of-line line (ended_lines lines ++ later) (All-head IsLine line lines h), lines_of-ended lines later (All-tail IsLine line lines h)) refl
 
 lines_of-split : (input : Bytes) (lines : List Bytes) (later : Bytes) → IsSplit input lines later → lines_of input ≡ lines ++ lines_of later
 lines_of-split input lines later split = ap lines_of split.joined ∙ lines_of-ended lines later split.each
