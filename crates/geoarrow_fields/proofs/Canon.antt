@@ -9,12 +9,10 @@ use Rattle.std.proofs.lemmas.Bool.{eq-eqb}
 use Rattle.std.proofs.lemmas.List.Elements.{All-append, All-weaker}
 use Rattle.std.proofs.lemmas.List.Sums.{AllPass-from_list_all}
 use Rattle.serde_json.specs.Find.{get, get_member}
-use Rattle.geoarrow_meta.specs.declared.edges.Edges.TheVariants.{Andoyer}
-use Rattle.geoarrow_meta.specs.declared.crs.crs_type.CrsType.TheVariants.{Projjson}
 use Rattle.geoarrow_meta.specs.Read.{edges_text, crs_type_text, present, some_has_float}
 use Rattle.geoarrow_meta.specs.Written.{of_parts, written, type_unless, IsReadBack}
 use Rattle.geoarrow_schema.specs.declared.types.GeoArrowType.TheVariants as types
-use Rattle.geoarrow_fields.proofs.Terms.{is_utf8, Data, depth, member, members_depth, no_members, null, object, Members, max_depth, read, compact_text, has_float, FieldTree, Text, Texts, extension_metadata, extension_name, metadata_key, Kind, coord_type_of, dimension_of, name_of, layout, Edges, CrsType, Metadata, DenotesMetadata, NestsWithin, ReadsAs, meta_value, normal, printed, GeoArrowType, kind_of, meta_of, Reads, IsCanonical, rewritten, ColumnFault, Arrow, InvalidGeoArrow, Column, Faulty, Geometry, OfInferred, Other, IsColumnOf, is_held, members_are_held, held_parts, field_of_line, line_of_field, parts_value, texts_value, type_value, value_of_field, HasLineForm, Command, Canon, Columns, Infer, Read, Done, Bytes, IsLine, line_feed, lines_of, Answers, AnswersField, AnswersNoType, column_text, coord_type_word, dimension_word, error_text, inferred_text, kind_word, type_text, Answered, Means}
+use Rattle.geoarrow_fields.proofs.Terms.{is_utf8, Data, depth, member, members_depth, no_members, null, Members, max_depth, read, compact_text, has_float, FieldTree, Text, Texts, extension_metadata, extension_name, metadata_key, Kind, coord_type_of, dimension_of, name_of, layout, Edges, CrsType, Metadata, DenotesMetadata, NestsWithin, ReadsAs, meta_value, normal, printed, GeoArrowType, kind_of, meta_of, Reads, IsCanonical, rewritten, ColumnFault, Arrow, InvalidGeoArrow, Column, Faulty, Geometry, OfInferred, Other, IsColumnOf, is_held, members_are_held, held_parts, field_of_line, line_of_field, parts_value, texts_value, type_value, value_of_field, HasLineForm, Command, Canon, Columns, Infer, Read, Done, Bytes, IsLine, line_feed, lines_of, Answers, AnswersField, AnswersNoType, column_text, coord_type_word, dimension_word, error_text, inferred_text, kind_word, type_text, Answered, Means}
 use Rattle.geoarrow_fields.proofs.Limits.{lines_of-line}
 use Rattle.geoarrow_fields.proofs.OneAnswer.{IsOneKind, reads_parts, infers_parts, one_reading, no_type_read, one_field_answer, answered, answer_of}
 use Rattle.geoarrow_fields.proofs.Layouts.{AreListed, each_kind, layout_form, layout_held, layout_levels}
@@ -31,27 +29,20 @@ name_utf8 listed = each_kind listed (λ k. is_utf8 (name_of k)) refl
 
 type_utf8 : (t : CrsType) → is_utf8 (crs_type_text t) ≡ true
 unfolding is_utf8 chars lib.Utf8.encode
-type_utf8 Projjson = refl
-type_utf8 _ = refl
+type_utf8 t = grind arith
 
 edges_utf8 : (e : Edges) → is_utf8 (edges_text e) ≡ true
 unfolding is_utf8 chars lib.Utf8.encode
-edges_utf8 Andoyer = refl
-edges_utf8 _ = refl
+edges_utf8 e = grind arith
 
 -- what is written of a value is held if it is, holds no float if it holds none, and nests two levels more at most
 written_is : (d : Data) (t : Option CrsType) (e : Option Edges) → is_held d ≡ true
     → (is_held (written (Some d) t e) ≡ true) × (has_float d ≡ false → has_float (written (Some d) t e) ≡ false) × (depth (written (Some d) t e) ≤ depth d + 2)
 unfolding is_utf8 chars lib.Utf8.encode
-written_is d None None own = (rw own refl, λ whole. rw whole refl, omega arith)
-written_is d (Some t) None own = (rw (own, type_utf8 t) refl, λ whole. rw whole refl, omega arith)
-written_is d None (Some e) own = (rw (own, edges_utf8 e) refl, λ whole. rw whole refl, omega arith)
-written_is d (Some t) (Some e) own = (rw (own, type_utf8 t, edges_utf8 e) refl, λ whole. rw whole refl, omega arith)
+written_is d t e own = grind (arith, type_utf8, edges_utf8)
 
 value_held : (v : Option Data) (t : Option CrsType) (e : Option Edges) → IsHeldIf v → IsHeldIf (meta_value (of_parts v t e))
-value_held None t None own = tt
-value_held None t (Some e) own = (written_is null t (Some e) refl).0
-value_held (Some d) t e own = (written_is d t e own).0
+value_held v t e own = grind (arith, written_is)
 
 abbrev pub IsRead : Type 0
 IsRead = (d : Data) → is_held d ≡ true → has_float d ≡ false → depth d ≤ max_depth → read (compact_text d) ≡ Some d
@@ -71,22 +62,19 @@ member_held k (member l e ms) h =
     grind (arith, p.2, member_held k ms p.3)
 
 get_held : (k : Text) (d : Data) → is_held d ≡ true → IsHeldIf (get k d)
-get_held k (object ms) h = member_held k ms h
-get_held k _ h = tt
+get_held k d h = grind (arith, member_held)
 
 -- a field's value, from its parts
 parts_held : (n : Text) (d : Data) (b : Bool) (m : Texts) → is_utf8 n ≡ true → is_held d ≡ true → HoldsTexts m → is_held (parts_value n d b m) ≡ true
 unfolding is_utf8 chars lib.Utf8.encode
-parts_held n d b [] name own texts = rw (name, own) refl
-parts_held n d b (e ∷ m) name own texts = rw (texts, name, own) refl
+parts_held n d b m name own texts = grind arith
 
 texts_flat : (m : Texts) → members_depth (texts_value m) ≤ 0
 texts_flat [] = omega arith
 texts_flat (e ∷ m) = omega (arith, texts_flat m)
 
 parts_levels : (n : Text) (d : Data) (b : Bool) (m : Texts) → depth d ≤ 19 → depth (parts_value n d b m) ≤ max_depth
-parts_levels n d b [] own = omega arith
-parts_levels n d b (e ∷ m) own = omega (arith, texts_flat m)
+parts_levels n d b m own = grind (arith, texts_flat m)
 
 -- the normal form is its own, and is written as the metadata
 normal_same : (v : Option Data) (t : Option CrsType) (e : Option Edges)
@@ -143,8 +131,7 @@ module _ (listed : AreListed) (put_is : PutIsHeld)
 
   -- what is printed of a value that is held
   text_of : (o : Option Data) → IsHeldIf o → IfSome (option_map compact_text o) (λ t. is_utf8 t ≡ true)
-  text_of None h = tt
-  text_of (Some d) h = utf8 d h
+  text_of o h = grind (arith, utf8)
 
   module _ (line : Text) (f : FieldTree) (is : field_of_line line ≡ Some f) where
     crs_held : (m : Metadata) → DenotesMetadata (extension_metadata f) m → IsHeldIf m.crs.value × (some_has_float m.crs.value ≡ false)

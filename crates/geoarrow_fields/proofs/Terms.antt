@@ -3,13 +3,13 @@ unfoldable pub use Rattle.std.specs.Str.{is_utf8}
 pub use Rattle.serde_json.specs.Data.{Data, depth, member, members_depth, no_members, null, object, put, string, Members}
 pub use Rattle.serde_json.specs.Read.{max_depth, read}
 pub use Rattle.serde_json.specs.Written.{compact_text, has_float}
-pub use Rattle.arrow_values.specs.Tree.{FieldTree, Metadata as Texts, Text, Tree, fixed_size_list, struct}
+pub use Rattle.arrow_values.specs.Tree.{FieldTree, Metadata as Texts, Text, Tree}
 pub use Rattle.arrow_values.specs.Texts.{extension_metadata, extension_name, metadata_key, name_key, put_text, remove_text, set_extension, text_at}
 pub use Rattle.geoarrow_layout.specs.declared.kinds.CoordType.{CoordType}
 pub use Rattle.geoarrow_layout.specs.declared.kinds.CoordType.TheVariants.{Interleaved, Separated}
 pub use Rattle.geoarrow_layout.specs.declared.kinds.Dimension.{Dimension}
 pub use Rattle.geoarrow_layout.specs.declared.kinds.Dimension.TheVariants.{XY}
-pub use Rattle.geoarrow_layout.specs.declared.encodings.NativeKind.TheVariants.{GeometryCollection, Point}
+pub use Rattle.geoarrow_layout.specs.declared.encodings.NativeKind.TheVariants.{GeometryCollection}
 pub use Rattle.geoarrow_layout.specs.declared.encodings.Width.TheVariants.{Plain}
 pub use Rattle.geoarrow_layout.specs.declared.encodings.Kind.{Kind}
 pub use Rattle.geoarrow_layout.specs.declared.encodings.Kind.TheVariants.{Geometry as OfGeometry, Native, Rect, Wkb, Wkt}
