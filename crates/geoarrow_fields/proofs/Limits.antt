@@ -1,6 +1,6 @@
 -- An input, its lines and their limits.
 use Rattle.std.proofs.Common.{◌≡◌, ◌≢◌, ℕ, ◌<◌, inl, inr, List, [], ◌∷◌, ◌++◌, length, refl, sym, ap, ap₂, ◌⊎◌, ◌∙◌, append_assoc, append-nil, All, arith, ◌+◌, ◌≤◌, get_or, subst, length-append}
-use Rattle.std.proofs.lemmas.Bool.{ne_eqb, cases_eq, cases_lt}
+use Rattle.std.proofs.lemmas.Bool.{ne_eqb, cases_eq}
 use Rattle.std.proofs.lemmas.List.{get_or_append_left, get_or_at}
 use Rattle.std.proofs.lemmas.List.Elements.{All-nil, All-cons, All-head, All-tail, All-append, All-push, All-drop}
 use Rattle.std.proofs.Math.Seq.{drop-append_seam}
@@ -138,10 +138,7 @@ goes_on : (input : Bytes) (count : ℕ) (later line tail : Bytes) → Stops (IsA
 goes_on input count later line tail stop joined is some on =
     let passes : (count ≡ max_lines) ⊎ (max_line_bytes < length line) → IsWithinLimits (lines_of input) ⊎ Stops IsPastLimit input =
     λ past. inr (stops_for IsPastLimit count later input stop (limit_passed count later line tail joined is some past)) in
-    elim (cases_lt max_line_bytes (length line)) [
-      | inl long ↦ passes (inr long)
-      | inr short ↦ elim (cases_lt count max_lines) [ inl less ↦ on (less, short) | inr most ↦ passes (inl (omega (arith, stop.cause.0, stop.within.few))) ]
-    ]
+    grind (arith, on, passes, stop.cause.0, stop.within.few)
 
 walks : (input : Bytes) (count : ℕ) (lines : List Bytes) (rest : Bytes) → Stops (IsAt count (ended_lines lines ++ rest)) input → All IsLine lines → IsLine rest
     → IsWithinLimits (lines_of input) ⊎ Stops IsPastLimit input
