@@ -200,8 +200,8 @@ module _ (listed : AreListed) (put_is : PutIsHeld)
 
   -- ---- the line of the canonical field is read back
 
-  module _ (line_read : (f : FieldTree) → HasLineForm f.tree → is_held (value_of_field f) ≡ true → depth (value_of_field f) ≤ max_depth → field_of_line (line_of_field f) ≡ Some f) (line : Text) (f : FieldTree)
-      (is : field_of_line line ≡ Some f) where
+  module _ (line_read : (f : FieldTree) → HasLineForm f.tree → is_held (value_of_field f) ≡ true → depth (value_of_field f) ≤ max_depth → field_of_line (line_of_field f) ≡ Some f)
+      (line : Text) (f : FieldTree) (is : field_of_line line ≡ Some f) where
     pub canonical_back : (n : FieldTree) → IsCanonical f n → field_of_line (line_of_field n) ≡ Some n
     canonical_back n (g, r, same, normally) =
         let levels = parts_levels f.name (type_value (layout (kind_of g))) f.nullable _ (layout_levels listed (kind_of g)) in
