@@ -1,12 +1,8 @@
 -- The two extension keys in the metadata of a field: setting them keeps the order of the keys, and setting them again changes nothing.
-use Rattle.std.proofs.Common.{◌≡◌, inl, inr, ◌∷◌, [], List, ℕ, true, false, not, Option, Some, None, IfSome, Ordering, Less, Equal, Greater, nat_cmp, bytes_eq, refl, sym, ap, ◌∙◌, subst, true≢false}
+use Rattle.std.proofs.Common.{◌≡◌, arith, ◌∷◌, [], List, ℕ, true, Option, Some, None, IfSome, refl, sym, ap, ◌∙◌, subst}
 use Rattle.std.specs.Str.{chars}
-use Rattle.std.specs.Ordering.{is_lt, is_eq, match_ordering, ordering_reverse}
-use Rattle.std.specs.Cmp.Lexicographic.{slice_cmp}
-use Rattle.std.proofs.lemmas.Bool.{cond_both, cases_Bool}
 use Rattle.std.proofs.lemmas.Cmp.{nat_list_cmp_total, tied_itself}
 use Rattle.std.proofs.lemmas.Map.Text.{is_eq-slice_cmp}
-use Rattle.std.proofs.lemmas.Slice.Eq.{bytes_eq-Decides}
 use Rattle.field_lines.specs.Held.{comes_first}
 use Rattle.geoarrow_fields.proofs.Terms.{is_utf8, Data, string, Members, put, Text, Texts, name_key, metadata_key, text_at, put_text, remove_text, set_extension, texts_value, is_held, members_are_held, held_parts}
 
@@ -18,39 +14,29 @@ PutIsHeld = (k : List ℕ) (d : Data) (ms : Members) → is_utf8 k ≡ true → 
 
 -- ---- the order of the keys is kept
 
-moved : (o : Ordering) (a b c : Texts) → texts_value (match_ordering o a b c) ≡ match_ordering o (texts_value a) (texts_value b) (texts_value c)
-moved Less a b c = refl
-moved _ a b c = refl
-
 texts_put : (k t : Text) (m : Texts) → texts_value (put_text k t m) ≡ put k (string t) (texts_value m)
 texts_put k t [] = refl
-texts_put k t (e ∷ m) = moved (slice_cmp nat_cmp k e.0) _ _ _ ∙ rw (texts_put k t m) refl
+texts_put k t (e ∷ m) = grind (arith, texts_put k t m)
 
 put_text_held : PutIsHeld → (k t : Text) (m : Texts) → is_utf8 k ≡ true → is_utf8 t ≡ true → HoldsTexts m → HoldsTexts (put_text k t m)
 put_text_held put_is k t m key text h = subst (λ ms. members_are_held ms ≡ true) (sym (texts_put k t m)) (put_is k (string t) (texts_value m) key text h)
 
-less : (o : Ordering) → is_lt o ≡ true → o ≡ Less
-less Less h = refl
-less _ h = absurd (true≢false (sym h))
-
 -- what comes before the first key comes before the next
 next_first : (k : Text) (e : Text × Text) (m : Texts) → comes_first k (texts_value (e ∷ m)) ≡ true → comes_first e.0 (texts_value m) ≡ true → comes_first k (texts_value m) ≡ true
 next_first k e [] here next = refl
-next_first k e (d ∷ m) here next = ap is_lt (nat_list_cmp_total.trans k e.0 d.0 (less _ here) (less _ next))
+next_first k e (d ∷ m) here next = grind (arith, nat_list_cmp_total.trans k e.0 d.0)
 
 first_of_rest : (k q : Text) (m : Texts) → HoldsTexts m → comes_first k (texts_value m) ≡ true → comes_first k (texts_value (remove_text q m)) ≡ true
 first_of_rest k q [] h first = refl
 first_of_rest k q (e ∷ m) h first =
     let p = held_parts e.0 (string e.1) (texts_value m) h in
-    cond_both (not (bytes_eq q e.0)) (e ∷ remove_text q m) (remove_text q m) (λ l. comes_first k (texts_value l) ≡ true) (λ _. first)
-    (λ _. first_of_rest k q m p.3 (next_first k e m first p.0))
+    grind (arith, first, first_of_rest k q m p.3 (next_first k e m first p.0))
 
 remove_text_held : (q : Text) (m : Texts) → HoldsTexts m → HoldsTexts (remove_text q m)
 remove_text_held q [] h = refl
 remove_text_held q (e ∷ m) h =
     let p = held_parts e.0 (string e.1) (texts_value m) h in
-    cond_both (not (bytes_eq q e.0)) (e ∷ remove_text q m) (remove_text q m) HoldsTexts
-    (λ _. rw (first_of_rest e.0 q m p.3 p.0, p.1, p.2) (remove_text_held q m p.3)) (λ _. remove_text_held q m p.3)
+    grind (arith, first_of_rest e.0 q m p.3 p.0, p.1, p.2, remove_text_held q m p.3)
 
 pub set_held : PutIsHeld → (name : Text) (text : Option Text) (m : Texts) → is_utf8 name ≡ true → IfSome text (λ t. is_utf8 t ≡ true) → HoldsTexts m → HoldsTexts (set_extension name text m)
 unfolding is_utf8 chars lib.Utf8.encode
@@ -58,69 +44,39 @@ set_held put_is name None m named written h = remove_text_held metadata_key (put
 set_held put_is name (Some t) m named written h =
     put_text_held put_is metadata_key t (put_text name_key name m) refl written (put_text_held put_is name_key name m refl named h)
 
--- ---- setting the keys again: what is put or removed once more changes nothing, and a put changes places with what is done at an earlier key
-
-abbrev order : Text → Text → Ordering
-order = slice_cmp nat_cmp
-
-above : (x k : Text) → order x k ≡ Less → order k x ≡ Greater
-above x k h = nat_list_cmp_total.antisymm k x ∙ ap ordering_reverse h
-
--- by the order of two keys
-pub each_order : (P : Ordering → Type 0) (o : Ordering) → (o ≡ Less → P Less) → (o ≡ Equal → P Equal) → (o ≡ Greater → P Greater) → P o
-each_order P Less less equal greater = less refl
-each_order P Equal less equal greater = equal refl
-each_order P Greater less equal greater = greater refl
+-- ---- setting the keys again changes nothing
 
 put_twice : (k t : Text) (m : Texts) → put_text k t (put_text k t m) ≡ put_text k t m
 put_twice k t [] = rw (tied_itself nat_list_cmp_total k) refl
-put_twice k t (e ∷ m) =
-    each_order (λ o. put_text k t (match_ordering o ((k, t) ∷ e ∷ m) ((e.0, t) ∷ m) (e ∷ put_text k t m)) ≡ match_ordering o ((k, t) ∷ e ∷ m) ((e.0, t) ∷ m) (e ∷ put_text k t m)) (order k e.0)
-    (λ is. rw (tied_itself nat_list_cmp_total k) refl) (λ is. rw is refl) (λ is. rw is (ap (λ l. e ∷ l) (put_twice k t m)))
+put_twice k t (e ∷ m) = grind (arith, tied_itself nat_list_cmp_total k, put_twice k t m)
 
 remove_twice : (q : Text) (m : Texts) → remove_text q (remove_text q m) ≡ remove_text q m
 remove_twice q [] = refl
-remove_twice q (e ∷ m) =
-    cond_both (not (bytes_eq q e.0)) (e ∷ remove_text q m) (remove_text q m) (λ l. remove_text q l ≡ l)
-    (λ kept. rw kept (ap (λ l. e ∷ l) (remove_twice q m))) (λ _. remove_twice q m)
+remove_twice q (e ∷ m) = grind (arith, remove_twice q m)
 
-module _ (k t q : Text) (before : order q k ≡ Less) where
-  apart : bytes_eq q k ≡ false
-  apart = sym (is_eq-slice_cmp q k) ∙ ap is_eq before
+-- there is no text at a key that comes before all
+none_before : (k : Text) (m : Texts) → HoldsTexts m → comes_first k (texts_value m) ≡ true → text_at k m ≡ None
+none_before k [] h first = refl
+none_before k (e ∷ m) h first =
+    let p = held_parts e.0 (string e.1) (texts_value m) h in
+    grind (arith, is_eq-slice_cmp k e.0, none_before k m p.3 (next_first k e m first p.0))
 
-  put_removed : (m : Texts) → put_text k t (remove_text q m) ≡ remove_text q (put_text k t m)
-  put_removed [] = rw apart refl
-  put_removed (e ∷ m) =
-      let kept : bytes_eq q e.0 ≡ false → put_text k t (e ∷ remove_text q m) ≡ remove_text q (put_text k t (e ∷ m)) =
-      λ is. each_order (λ o. match_ordering o ((k, t) ∷ e ∷ remove_text q m) ((e.0, t) ∷ remove_text q m) (e ∷ put_text k t (remove_text q m)) ≡ remove_text q (match_ordering o ((k, t) ∷ e ∷ m) ((e.0, t) ∷ m) (e ∷ put_text k t m))) (order k e.0)
-      (λ _. rw (apart, is) refl) (λ _. rw is refl) (λ _. rw is (ap (λ l. e ∷ l) (put_removed m))) in
-      elim (cases_Bool (bytes_eq q e.0)) [
-        | inl is ↦ let over : order k e.0 ≡ Greater = ap (order k) (sym ((bytes_eq-Decides q e.0).0 is)) ∙ above q k before in rw (over, is) (put_removed m)
-        | inr is ↦ rw is (kept is)
-      ]
+-- putting the text that stands at a key changes nothing
+put_same : (k t : Text) (m : Texts) → HoldsTexts m → text_at k m ≡ Some t → put_text k t m ≡ m
+put_same k t [] h here = absurd cc
+put_same k t (e ∷ m) h here =
+    let p = held_parts e.0 (string e.1) (texts_value m) h in
+    let none = λ (first : comes_first k (texts_value (e ∷ m)) ≡ true). none_before k m p.3 (next_first k e m first p.0) in
+    grind (arith, is_eq-slice_cmp k e.0, none, put_same k t m p.3)
 
-  put_put : (s : Text) (m : Texts) → put_text k t (put_text q s m) ≡ put_text q s (put_text k t m)
-  put_put s [] = rw (above q k before, before) refl
-  put_put s (e ∷ m) =
-      let first : order q e.0 ≡ Less → (q, s) ∷ put_text k t (e ∷ m) ≡ put_text q s (put_text k t (e ∷ m)) =
-      λ is. each_order (λ o. (q, s) ∷ match_ordering o ((k, t) ∷ e ∷ m) ((e.0, t) ∷ m) (e ∷ put_text k t m) ≡ put_text q s (match_ordering o ((k, t) ∷ e ∷ m) ((e.0, t) ∷ m) (e ∷ put_text k t m))) (order k e.0)
-      (λ _. rw before refl) (λ _. rw is refl) (λ _. rw is refl) in
-      each_order (λ o. put_text k t (match_ordering o ((q, s) ∷ e ∷ m) ((e.0, s) ∷ m) (e ∷ put_text q s m)) ≡ put_text q s (put_text k t (e ∷ m))) (order q e.0)
-      (λ is. rw (above q k before) (first is))
-      (λ is. rw (above e.0 k (sym (nat_list_cmp_total.congr q e.0 k is) ∙ before), is) refl)
-      (λ is. rw (above e.0 k (nat_list_cmp_total.trans e.0 q k (nat_list_cmp_total.antisymm e.0 q ∙ ap ordering_reverse is) before), is) (ap (λ l. e ∷ l) (put_put s m)))
-
-pub set_again : (name : Text) (text : Option Text) (m : Texts) → set_extension name text (set_extension name text m) ≡ set_extension name text m
-set_again name None m =
-    ap (remove_text metadata_key) (put_removed name_key name metadata_key refl (put_text name_key name m)) ∙ remove_twice metadata_key (put_text name_key name (put_text name_key name m))
-    ∙ ap (remove_text metadata_key) (put_twice name_key name m)
-set_again name (Some t) m =
-    ap (put_text metadata_key t) (put_put name_key name metadata_key refl t (put_text name_key name m)) ∙ put_twice metadata_key t (put_text name_key name (put_text name_key name m))
-    ∙ ap (put_text metadata_key t) (put_twice name_key name m)
+pub set_again : (name : Text) (text : Option Text) (m : Texts) → HoldsTexts (set_extension name text m) → text_at name_key (set_extension name text m) ≡ Some name
+    → set_extension name text (set_extension name text m) ≡ set_extension name text m
+set_again name None m h named = ap (remove_text metadata_key) (put_same name_key name (set_extension name None m) h named) ∙ remove_twice metadata_key (put_text name_key name m)
+set_again name (Some t) m h named = ap (put_text metadata_key t) (put_same name_key name (set_extension name (Some t) m) h named) ∙ put_twice metadata_key t (put_text name_key name m)
 
 -- the text at a key is UTF-8
 pub text_held : (k : Text) (m : Texts) → HoldsTexts m → IfSome (text_at k m) (λ t. is_utf8 t ≡ true)
 text_held k [] h = tt
 text_held k (e ∷ m) h =
     let p = held_parts e.0 (string e.1) (texts_value m) h in
-    cond_both (bytes_eq k e.0) (Some e.1) (text_at k m) (λ o. IfSome o (λ t. is_utf8 t ≡ true)) (λ _. p.2) (λ _. text_held k m p.3)
+    grind (arith, p.2, text_held k m p.3)

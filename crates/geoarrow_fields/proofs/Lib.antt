@@ -5,4 +5,3 @@ mod Layouts
 mod Extension
 mod OneAnswer
 mod Canon
-mod OneLine

@@ -1,7 +1,6 @@
 -- An input, its lines and their limits.
 use Rattle.std.proofs.Common.{◌≡◌, ◌≢◌, ℕ, ◌<◌, inl, inr, List, [], ◌∷◌, ◌++◌, length, refl, sym, ap, ap₂, ◌⊎◌, ◌∙◌, append_assoc, append-nil, All, arith, ◌+◌, ◌≤◌, get_or, subst, length-append}
-use Rattle.std.specs.List.{onto_first}
-use Rattle.std.proofs.lemmas.Bool.{ne_eqb, cases_eq, cases_lt}
+use Rattle.std.proofs.lemmas.Bool.{ne_eqb, cases_eq}
 use Rattle.std.proofs.lemmas.List.{get_or_append_left, get_or_at}
 use Rattle.std.proofs.lemmas.List.Elements.{All-nil, All-cons, All-head, All-tail, All-append, All-push, All-drop}
 use Rattle.std.proofs.Math.Seq.{drop-append_seam}
@@ -9,32 +8,25 @@ use Rattle.geoarrow_fields.proofs.Terms.{Bytes, lines_of, ended_lines, line_feed
 
 -- ---- an input and its lines
 
--- another byte stands in the first line
-put_other : (byte : ℕ) (bytes : Bytes) (lines : List Bytes) → byte ≢ line_feed → lines_of bytes ≡ lines → lines_of (byte ∷ bytes) ≡ onto_first byte lines
-put_other byte bytes lines h same = rw (ne_eqb byte line_feed h, same) refl
-
 -- a line that a line feed ends is the first of the lines
 pub lines_of-line : (line rest : Bytes) → IsLine line → lines_of (line ++ (line_feed ∷ rest)) ≡ line ∷ lines_of rest
 lines_of-line [] rest h = refl
 lines_of-line (byte ∷ line) rest h =
-    put_other byte (line ++ (line_feed ∷ rest)) (line ∷ lines_of rest) (All-head (λ b. b ≢ line_feed) byte line h)
-    (lines_of-line line rest (All-tail (λ b. b ≢ line_feed) byte line h))
+    rw (ne_eqb byte line_feed (All-head (λ b. b ≢ line_feed) byte line h), lines_of-line line rest (All-tail (λ b. b ≢ line_feed) byte line h)) refl
 
 -- what no line feed ends is a line of its own
 pub lines_of-last : (rest : Bytes) → IsLine rest → 0 < length rest → lines_of rest ≡ rest ∷ []
 lines_of-last [] h some = absurd (omega arith)
-lines_of-last (byte ∷ []) h some = put_other byte [] [] (All-head (λ b. b ≢ line_feed) byte [] h) refl
+lines_of-last (byte ∷ []) h some = rw (ne_eqb byte line_feed (All-head (λ b. b ≢ line_feed) byte [] h)) refl
 lines_of-last (byte ∷ (next ∷ rest)) h some =
     let more = lines_of-last (next ∷ rest) (All-tail (λ b. b ≢ line_feed) byte (next ∷ rest) h) (omega arith) in
-    put_other byte (next ∷ rest) ((next ∷ rest) ∷ []) (All-head (λ b. b ≢ line_feed) byte (next ∷ rest) h) more
+    rw (ne_eqb byte line_feed (All-head (λ b. b ≢ line_feed) byte (next ∷ rest) h), more) refl
 
 -- the lines of lines put together, and of what comes after them
 lines_of-ended : (lines : List Bytes) (later : Bytes) → All IsLine lines → lines_of (ended_lines lines ++ later) ≡ lines ++ lines_of later
 lines_of-ended [] later h = refl
 lines_of-ended (line ∷ lines) later h =
-    ap lines_of (append_assoc line (line_feed ∷ ended_lines lines) later)
-    ∙ lines_of-line line (ended_lines lines ++ later) (All-head IsLine line lines h)
-    ∙ ap (λ l. line ∷ l) (lines_of-ended lines later (All-tail IsLine line lines h))
+    rw (append_assoc, lines_of-line line (ended_lines lines ++ later) (All-head IsLine line lines h), lines_of-ended lines later (All-tail IsLine line lines h)) refl
 
 lines_of-split : (input : Bytes) (lines : List Bytes) (later : Bytes) → IsSplit input lines later → lines_of input ≡ lines ++ lines_of later
 lines_of-split input lines later split = ap lines_of split.joined ∙ lines_of-ended lines later split.each
@@ -125,15 +117,6 @@ pub limit_passed : (count : ℕ) (later line tail : Bytes) → later ≡ line ++
 limit_passed count later line tail joined is some (inl many) = inl (many, some)
 limit_passed count later line tail joined is some (inr long) = inr (record { begun = line; rest = tail; joined = joined; line = is; long = long })
 
--- or fits
-comes : (count : ℕ) (later line tail : Bytes) → count ≤ max_lines → later ≡ line ++ tail → IsLine line → 0 < length later → IsPastLimit count later ⊎ ((count < max_lines) × IsShort line)
-comes count later line tail few joined is some =
-    let passes = limit_passed count later line tail joined is some in
-    elim (cases_lt max_line_bytes (length line)) [
-      | inl long ↦ inl (passes (inr long))
-      | inr short ↦ elim (cases_lt count max_lines) [ inl less ↦ inr (less, short) | inr most ↦ inl (passes (inl (omega arith))) ]
-    ]
-
 -- a line that a line feed ends within its limit is past none
 pub line_inside : (count : ℕ) (later line tail : Bytes) → later ≡ line ++ (line_feed ∷ tail) → (count < max_lines) × IsShort line → ¬ IsPastLimit count later
 line_inside count later line tail joined fits (inl (many, some)) = omega (arith, fits.0, many)
@@ -149,24 +132,27 @@ begun_inside count later room short (inr long) = omega (arith, long.long, ap len
 
 -- ---- an input is within the limits, or passes one
 
+-- a line that comes is past one, or goes on within them
+goes_on : (input : Bytes) (count : ℕ) (later line tail : Bytes) → Stops (IsAt count later) input → later ≡ line ++ tail → IsLine line → 0 < length later
+    → ((count < max_lines) × IsShort line → IsWithinLimits (lines_of input) ⊎ Stops IsPastLimit input) → IsWithinLimits (lines_of input) ⊎ Stops IsPastLimit input
+goes_on input count later line tail stop joined is some on =
+    let passes : (count ≡ max_lines) ⊎ (max_line_bytes < length line) → IsWithinLimits (lines_of input) ⊎ Stops IsPastLimit input =
+    λ past. inr (stops_for IsPastLimit count later input stop (limit_passed count later line tail joined is some past)) in
+    grind (arith, on, passes, stop.cause.0, stop.within.few)
+
 walks : (input : Bytes) (count : ℕ) (lines : List Bytes) (rest : Bytes) → Stops (IsAt count (ended_lines lines ++ rest)) input → All IsLine lines → IsLine rest
     → IsWithinLimits (lines_of input) ⊎ Stops IsPastLimit input
 walks input count [] [] stop each is = inl (stops_last count [] input [] refl (omega (arith, stop.cause.0, stop.within.few), All-nil IsShort) stop).0
 walks input count [] (byte ∷ bytes) stop each is =
     let rest = byte ∷ bytes in
-    elim (comes count rest rest [] (omega (arith, stop.cause.0, stop.within.few)) (sym (append-nil rest)) is (omega arith)) [
-      | inl past ↦ inr (stops_for IsPastLimit count rest input stop past)
-      | inr fits ↦ inl (stops_last count rest input (rest ∷ []) (lines_of-last rest is (omega arith)) (omega (arith, fits.0), All-cons IsShort rest [] fits.1 (All-nil IsShort)) stop).0
-    ]
+    goes_on input count rest rest [] stop (sym (append-nil rest)) is (omega arith)
+    (λ fits. inl (stops_last count rest input (rest ∷ []) (lines_of-last rest is (omega arith)) (omega (arith, fits.0), All-cons IsShort rest [] fits.1 (All-nil IsShort)) stop).0)
 walks input count (line ∷ lines) rest stop each is =
     let here = All-head IsLine line lines each in
-    let later = ended_lines (line ∷ lines) ++ rest in
-    let joined : later ≡ line ++ (line_feed ∷ (ended_lines lines ++ rest)) = append_assoc line (line_feed ∷ ended_lines lines) rest in
-    let some : 0 < length later = omega (arith, ap length joined, length-append line (line_feed ∷ (ended_lines lines ++ rest))) in
-    elim (comes count later line (line_feed ∷ (ended_lines lines ++ rest)) (omega (arith, stop.cause.0, stop.within.few)) joined here some) [
-      | inl past ↦ inr (stops_for IsPastLimit count later input stop past)
-      | inr fits ↦ walks input (count + 1) lines rest (stops_next count later input line (ended_lines lines ++ rest) stop joined here fits) (All-tail IsLine line lines each) is
-    ]
+    let later = ended_lines lines ++ rest in
+    let joined : ended_lines (line ∷ lines) ++ rest ≡ line ++ (line_feed ∷ later) = append_assoc line (line_feed ∷ ended_lines lines) rest in
+    goes_on input count _ line (line_feed ∷ later) stop joined here (omega (arith, ap length joined, length-append line (line_feed ∷ later)))
+    (λ fits. walks input (count + 1) lines rest (stops_next count _ input line later stop joined here fits) (All-tail IsLine line lines each) is)
 
 pub either : (input : Bytes) → IsWithinLimits (lines_of input) ⊎ Stops IsPastLimit input
 either input =

@@ -1,14 +1,13 @@
 -- A field has one report, and a line one answer.
-use Rattle.std.proofs.Common.{◌≡◌, ◌∙◌, ◌⊎◌, ⊎_elim, ℤ, inl, inr, List, [], ◌∷◌, ◌++◌, codes, Option, Some, None, refl, sym, ap, ap₂, subst, arith}
+use Rattle.std.proofs.Common.{◌≡◌, ◌∙◌, inl, inr, List, [], ◌∷◌, ◌++◌, codes, Option, Some, None, refl, sym, ap, ap₂, arith}
 use Rattle.std.specs.Prelude.{MatchOption}
 use Rattle.std.proofs.lemmas.Option.{same_Some}
-use Rattle.geoarrow_layout.specs.Shapes.{IsBytes, IsText, Accepts}
-use Rattle.geoarrow_layout.specs.Inferred.{IsInferredAs, IsInferredSize, Inferred}
+use Rattle.geoarrow_layout.specs.Shapes.{Accepts}
 use Rattle.geoarrow_meta.specs.Laws.{text_denotes_one}
-use Rattle.geoarrow_schema.specs.Infers.{InferredAs, InfersAs, Infers, IsStored}
+use Rattle.geoarrow_schema.specs.Infers.{InferredAs, InfersAs, Infers}
 use Rattle.geoarrow_columns.specs.Same.{SameColumn}
 use Rattle.geoarrow_fields.specs.Answer.{SameReport}
-use Rattle.geoarrow_fields.proofs.Terms.{FieldTree, Text, Tree, fixed_size_list, struct, extension_metadata, CoordType, Interleaved, Separated, Dimension, Point, Width, Plain, Kind, Native, Wkb, Wkt, coord_type_of, dimension_of, extension_of, name_of, DenotesMetadata, normal, printed, ReadsAs, GeoArrowType, SameType, kind_of, meta_of, HasGeoArrowName, Reads, IsCanonical, rewritten, ColumnFault, Arrow, InvalidGeoArrow, Column, Faulty, Geometry, OfInferred, Other, IsColumnOf, IsRefused, IsRefusedFor, IsReport, IsUnread, field_of_line, line_of_field, Command, Canon, Columns, Infer, Read, Done, Bytes, line_feed, lines_of, Answers, AnswersField, AnswersNoType, column_text, coord_type_word, dimension_word, error_text, inferred_text, kind_word, metadata_word, type_text, Answered, Means}
+use Rattle.geoarrow_fields.proofs.Terms.{FieldTree, Text, Tree, extension_metadata, Kind, extension_of, DenotesMetadata, normal, ReadsAs, GeoArrowType, SameType, kind_of, meta_of, HasGeoArrowName, Reads, IsCanonical, rewritten, ColumnFault, Column, Faulty, Geometry, OfInferred, IsColumnOf, IsRefused, IsRefusedFor, IsReport, field_of_line, line_of_field, Command, Canon, Columns, Infer, Read, Done, Bytes, line_feed, lines_of, Answers, AnswersField, AnswersNoType, column_text, error_text, inferred_text, type_text, Answered, Means}
 
 -- ---- a data type is inferred as one kind
 
@@ -18,52 +17,16 @@ One {A} P = (x y : A) → P x → P y → x ≡ y
 abbrev pub IsOneKind : Type 0
 IsOneKind = (name : Text) (t : Tree) (k l : Kind) → Accepts name t k → Accepts name t l → k ≡ l
 
-one_of_names : (names : List Text) → One (λ (d : Dimension). IsInferredAs d names)
-one_of_names names d e h k = grind arith
-
-one_of_size : (name : Text) (size : ℤ) → One (λ (d : Dimension). IsInferredSize d name size)
-one_of_size name size d e h k = grind arith
-
-one_point : (t : Tree) (c b : CoordType) (d e : Dimension) → Inferred t c d → Inferred t b e → Native Point c d ≡ Native Point b e
-one_point (struct fs) Separated Separated d e h k = ap (Native Point Separated) (one_of_names _ d e h.1 k.1)
-one_point (fixed_size_list n t b m s) Interleaved Interleaved d e h k = ap (Native Point Interleaved) (one_of_size n s d e h.1 k.1)
-one_point _ _ _ d e h k = search
-
--- a tree that is inferred as a point is neither well-known binary nor well-known text, and none is both of these
-not_stored : (t : Tree) (c : CoordType) (d : Dimension) (k : Kind) → Inferred t c d → ¬ IsStored t k
-not_stored t c d (Wkb Plain) h k = subst (λ x. Inferred x c d) k h
-not_stored t c d (Wkb _) h k = subst (λ x. Inferred x c d) k h
-not_stored t c d (Wkt Plain) h k = subst (λ x. Inferred x c d) k h
-not_stored t c d (Wkt _) h k = subst (λ x. Inferred x c d) k h
-not_stored t c d _ h k = k
-
-apart : (t : Tree) (w v : Width) → IsBytes w t → IsText v t → ⊥
-apart t w v h k = grind arith
-
-one_inferred : IsOneKind → (t : Tree) → One (InferredAs t)
-one_inferred one_kind t (Native Point c d) (Native Point b e) h k = one_point t c b d e h k
-one_inferred one_kind t (Wkb w) (Wkb v) h k = one_kind (name_of (Wkb w)) t (Wkb w) (Wkb v) (refl, h) (refl, k)
-one_inferred one_kind t (Wkt w) (Wkt v) h k = one_kind (name_of (Wkt w)) t (Wkt w) (Wkt v) (refl, h) (refl, k)
-one_inferred one_kind t (Native Point c d) l h k = absurd (not_stored t c d l h k)
-one_inferred one_kind t k (Native Point c d) h l = absurd (not_stored t c d k l h)
-one_inferred one_kind t (Wkb w) (Wkt v) h k = absurd (apart t w v h k)
-one_inferred one_kind t (Wkt w) (Wkb v) h k = absurd (apart t v w k h)
-one_inferred one_kind t _ _ h k = search
+one_inferred : (t : Tree) → One (InferredAs t)
+one_inferred t a b h k = grind arith
 
 -- ---- the words of the same type, and of the same entry
 
-abbrev pub words_of : Kind → Option Text → Bytes
-words_of k text = kind_word k ++ codes " " ++ coord_type_word (coord_type_of k) ++ codes " " ++ dimension_word (dimension_of k) ++ codes " " ++ metadata_word text
-
 same_type : (g h : GeoArrowType) → SameType g h → type_text g ≡ type_text h
-same_type g h same = ap₂ words_of same.0 (ap printed same.1)
+same_type g h same = rw (same.0, same.1)
 
 same_texts : (c d : Column) → SameColumn c d → (column_text c ≡ column_text d) × (inferred_text c ≡ inferred_text d)
-same_texts (Geometry g) (Geometry h) same = let text = same_type g h same in (ap (λ l. codes "geometry " ++ l) text, text)
-same_texts (OfInferred g) (OfInferred h) same = let text = same_type g h same in (ap (λ l. codes "inferred " ++ l) text, text)
-same_texts Other Other same = (refl, refl)
-same_texts (Faulty e) (Faulty f) same = (ap (λ x. column_text (Faulty x)) same, ap (λ x. inferred_text (Faulty x)) same)
-same_texts _ _ same = absurd same
+same_texts c d same = grind (arith, same_type)
 
 -- ---- what a field is read as, and what is inferred for it
 
@@ -78,35 +41,24 @@ infers_parts f g i = (i.0, i.1)
 named : (f : FieldTree) (g : GeoArrowType) → Reads f g → HasGeoArrowName f
 named f g r = (reads_parts f g r).0
 
-unnamed : (f : FieldTree) (g : GeoArrowType) → Infers f g → ¬ HasGeoArrowName f
-unnamed f g i = (infers_parts f g i).0
-
 refused : (f : FieldTree) (fault : ColumnFault) → IsRefusedFor f fault → IsRefused f
-refused f Arrow h = h.0
-refused f InvalidGeoArrow h = h.0
+refused f fault h = grind arith
 
--- a faulty column is refused, or has no GeoArrow name and a metadata text that denotes none
-faulty : (f : FieldTree) (fault : ColumnFault) → IsColumnOf f (Faulty fault) → IsRefused f ⊎ IsUnread f
-faulty f InvalidGeoArrow h = inl h.0
-faulty f Arrow (inl h) = inl h.0
-faulty f Arrow (inr h) = inr h
-
-one_fault : (f : FieldTree) → One (λ fault. IsColumnOf f (Faulty fault))
-one_fault f e d h k = grind arith
-
-faulty_for : (f : FieldTree) (fault : ColumnFault) → IsRefusedFor f fault → IsColumnOf f (Faulty fault)
-faulty_for f Arrow h = inl h
-faulty_for f InvalidGeoArrow h = h
+one_refusal : (f : FieldTree) → One (IsRefusedFor f)
+one_refusal f e d h k = grind arith
 
 pub no_type_read : (f : FieldTree) (a : Bytes) (g : GeoArrowType) → Reads f g → ¬ AnswersNoType f a
-no_type_read f a g r (inl none) = none.0 (reads_parts f g r).0
-no_type_read f a g r (inr (fault, is, text)) = (refused f fault is).1 (kind_of g) (meta_of g) r
+no_type_read f a g r none = grind (arith, reads_parts f g r, refused)
 
 one_no_type : (f : FieldTree) → One (AnswersNoType f)
 one_no_type f a b (inl x) (inl y) = x.1 ∙ sym y.1
 one_no_type f a b (inl x) (inr (fault, is, text)) = absurd (x.0 (refused f fault is).0)
 one_no_type f a b (inr (fault, is, text)) (inl y) = absurd (y.0 (refused f fault is).0)
-one_no_type f a b (inr (e, is, x)) (inr (d, so, y)) = x ∙ ap error_text (one_fault f e d (faulty_for f e is) (faulty_for f d so)) ∙ sym y
+one_no_type f a b (inr (e, is, x)) (inr (d, so, y)) = x ∙ ap error_text (one_refusal f e d is so) ∙ sym y
+
+one_inference : (f : FieldTree) (g h : GeoArrowType) → Infers f g → Infers f h → SameType g h
+unfolding InfersAs
+one_inference f g h r s = (one_inferred f.tree (kind_of g) (kind_of h) r.2 s.2, text_denotes_one (extension_metadata f) (meta_of g) (meta_of h) r.1 s.1)
 
 -- ---- a field has one report
 
@@ -114,15 +66,7 @@ module _ (one_kind : IsOneKind) where
   pub one_reading : (f : FieldTree) (g h : GeoArrowType) → Reads f g → Reads f h → SameType g h
   unfolding ReadsAs
   one_reading f g h r s =
-      let same : name_of (kind_of g) ≡ name_of (kind_of h) = same_Some _ _ (sym r.0.0 ∙ s.0.0) in (
-        one_kind (name_of (kind_of g)) f.tree (kind_of g) (kind_of h) (refl, r.0.1) (same, s.0.1),
-        text_denotes_one (extension_metadata f) (meta_of g) (meta_of h) r.1 s.1,
-      )
-
-  one_inference : (f : FieldTree) (g h : GeoArrowType) → Infers f g → Infers f h → SameType g h
-  unfolding InfersAs
-  one_inference f g h r s =
-      (one_inferred one_kind f.tree (kind_of g) (kind_of h) r.2 s.2, text_denotes_one (extension_metadata f) (meta_of g) (meta_of h) r.1 s.1)
+      (one_kind _ f.tree (kind_of g) (kind_of h) (refl, r.0.1) (same_Some _ _ (sym r.0.0 ∙ s.0.0), s.0.1), text_denotes_one (extension_metadata f) (meta_of g) (meta_of h) r.1 s.1)
 
   -- a field has one canonical form
   one_canonical : (f : FieldTree) → One (IsCanonical f)
@@ -130,22 +74,14 @@ module _ (one_kind : IsOneKind) where
       let same = one_reading f g h r s in
       x ∙ ap₂ (λ k m. rewritten f k (normal m)) same.0 same.1 ∙ sym y
 
-  -- what is faulty is neither read nor inferred, and no other data type
-  not_read : (f : FieldTree) (e : ColumnFault) (g : GeoArrowType) → IsColumnOf f (Faulty e) → ¬ Reads f g
-  not_read f e g h r = ⊎_elim (λ (no : IsRefused f). no.1 (kind_of g) (meta_of g) r) (λ (no : IsUnread f). no.0 (reads_parts f g r).0) (faulty f e h)
-
-  not_inferred : (f : FieldTree) (e : ColumnFault) (g : GeoArrowType) → IsColumnOf f (Faulty e) → ¬ Infers f g
-  not_inferred f e g h i = ⊎_elim (λ (no : IsRefused f). (infers_parts f g i).0 no.0) (λ (no : IsUnread f). no.1 (meta_of g) (infers_parts f g i).1) (faulty f e h)
-
-  not_other : (f : FieldTree) (e : ColumnFault) → IsColumnOf f (Faulty e) → ¬ IsColumnOf f Other
-  not_other f e h o = ⊎_elim (λ (no : IsRefused f). o.0 no.0) (λ (no : IsUnread f). no.1 o.2.0 o.2.1) (faulty f e h)
+  not_faulty : (f : FieldTree) (g : GeoArrowType) (fault : ColumnFault) → Infers f g → ¬ IsColumnOf f (Faulty fault)
+  not_faulty f g fault i h = grind (arith, infers_parts f g i)
 
   pub one_column : (f : FieldTree) (c d : Column) → IsColumnOf f c → IsColumnOf f d → SameColumn c d
   one_column f (Geometry g) (Geometry h) r s = one_reading f g h r s
   one_column f (OfInferred g) (OfInferred h) r s = one_inference f g h r s
-  one_column f Other Other r s = tt
-  one_column f (Faulty e) (Faulty d) r s = one_fault f e d r s
-  one_column f _ _ r s = grind (arith, not_read, not_inferred, not_other, unnamed, named)
+  one_column f (Faulty e) (Faulty d) r s = grind arith
+  one_column f _ _ r s = grind (arith, named, infers_parts, not_faulty)
 
   pub one_report : (fs : List FieldTree) (cs ds : List Column) → IsReport fs cs → IsReport fs ds → SameReport cs ds
   one_report [] [] [] r s = tt

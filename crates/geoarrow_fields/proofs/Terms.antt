@@ -1,22 +1,19 @@
 -- The names of the specs that most proofs cite, passed on from one place. Declares nothing.
 unfoldable pub use Rattle.std.specs.Str.{is_utf8}
-pub use Rattle.serde_json.specs.Data.{Data, boolean, depth, member, members_depth, no_members, null, object, put, string, Members}
+pub use Rattle.serde_json.specs.Data.{Data, depth, member, members_depth, no_members, null, object, put, string, Members}
 pub use Rattle.serde_json.specs.Read.{max_depth, read}
 pub use Rattle.serde_json.specs.Written.{compact_text, has_float}
-pub use Rattle.arrow_values.specs.Tree.{FieldTree, Metadata as Texts, Text, Tree, fixed_size_list, plain, struct}
-pub use Rattle.arrow_values.specs.Texts.{extension_metadata, metadata_key, name_key, put_text, remove_text, set_extension, text_at}
+pub use Rattle.arrow_values.specs.Tree.{FieldTree, Metadata as Texts, Text, Tree}
+pub use Rattle.arrow_values.specs.Texts.{extension_metadata, extension_name, metadata_key, name_key, put_text, remove_text, set_extension, text_at}
 pub use Rattle.geoarrow_layout.specs.declared.kinds.CoordType.{CoordType}
 pub use Rattle.geoarrow_layout.specs.declared.kinds.CoordType.TheVariants.{Interleaved, Separated}
 pub use Rattle.geoarrow_layout.specs.declared.kinds.Dimension.{Dimension}
-pub use Rattle.geoarrow_layout.specs.declared.kinds.Dimension.TheVariants.{XY, XYM, XYZ, XYZM}
-pub use Rattle.geoarrow_layout.specs.declared.names.ExtensionName.{ExtensionName}
-pub use Rattle.geoarrow_layout.specs.declared.encodings.NativeKind.{NativeKind}
-pub use Rattle.geoarrow_layout.specs.declared.encodings.NativeKind.TheVariants.{Point}
-pub use Rattle.geoarrow_layout.specs.declared.encodings.Width.{Width}
-pub use Rattle.geoarrow_layout.specs.declared.encodings.Width.TheVariants.{Large, Plain, View}
+pub use Rattle.geoarrow_layout.specs.declared.kinds.Dimension.TheVariants.{XY}
+pub use Rattle.geoarrow_layout.specs.declared.encodings.NativeKind.TheVariants.{GeometryCollection}
+pub use Rattle.geoarrow_layout.specs.declared.encodings.Width.TheVariants.{Plain}
 pub use Rattle.geoarrow_layout.specs.declared.encodings.Kind.{Kind}
 pub use Rattle.geoarrow_layout.specs.declared.encodings.Kind.TheVariants.{Geometry as OfGeometry, Native, Rect, Wkb, Wkt}
-pub use Rattle.geoarrow_layout.specs.Kinds.{coord_type_of, dimension_of, extension_of, name_of, name_text}
+pub use Rattle.geoarrow_layout.specs.Kinds.{coord_type_of, dimension_of, extension_of, name_of}
 pub use Rattle.geoarrow_layout.specs.Layouts.{layout}
 pub use Rattle.geoarrow_meta.specs.declared.edges.Edges.{Edges}
 pub use Rattle.geoarrow_meta.specs.declared.crs.crs_type.CrsType.{CrsType}
@@ -27,12 +24,12 @@ unfoldable pub use Rattle.geoarrow_native.specs.Column.{ReadsAs}
 pub use Rattle.geoarrow_schema.specs.declared.types.GeoArrowType.{GeoArrowType}
 pub use Rattle.geoarrow_schema.specs.Types.{SameType, kind_of, meta_of}
 pub use Rattle.geoarrow_schema.specs.Reads.{HasGeoArrowName, Reads}
-pub use Rattle.geoarrow_schema.specs.Normal.{IsCanonical, ReadsNormally, rewritten}
+pub use Rattle.geoarrow_schema.specs.Normal.{IsCanonical, rewritten}
 pub use Rattle.geoarrow_columns.specs.declared.check.ColumnFault.{ColumnFault}
 pub use Rattle.geoarrow_columns.specs.declared.check.ColumnFault.TheVariants.{Arrow, InvalidGeoArrow}
 pub use Rattle.geoarrow_columns.specs.declared.check.Column.{Column}
 pub use Rattle.geoarrow_columns.specs.declared.check.Column.TheVariants.{Faulty, Geometry, Inferred as OfInferred, Other}
-pub use Rattle.geoarrow_columns.specs.Report.{IsColumnOf, IsRefused, IsRefusedFor, IsReport, IsUnread}
+pub use Rattle.geoarrow_columns.specs.Report.{IsColumnOf, IsRefused, IsRefusedFor, IsReport}
 pub use Rattle.field_lines.specs.Held.{held_parts, is_held, members_are_held}
 pub use Rattle.field_lines.specs.Line.{field_of_line, line_of_field, parts_value, texts_value, type_value, value_of_field}
 pub use Rattle.field_lines.specs.LineForm.{HasLineForm}
@@ -42,7 +39,7 @@ pub use Rattle.geoarrow_fields.specs.declared.RunEnd.{RunEnd}
 pub use Rattle.geoarrow_fields.specs.declared.RunEnd.TheVariants.{Done, InputFault, Memory, OutputFault}
 pub use Rattle.geoarrow_fields.specs.Lines.{Bytes, IsLine, IsPastLimit, IsSplit, IsWithinLimits, Stops, ended_lines, line_feed, lines_of, max_line_bytes, max_lines}
 unfoldable pub use Rattle.geoarrow_fields.specs.Answer.{Answered, Answers}
-pub use Rattle.geoarrow_fields.specs.Answer.{AnswersField, AnswersNoType, Means, ReadsAndWrites, RunsTo, column_text, coord_type_word, dimension_word, error_text, inferred_text, kind_word, metadata_word, type_text}
+pub use Rattle.geoarrow_fields.specs.Answer.{AnswersField, AnswersNoType, AnswersUntil, Means, ReadsAndWrites, RunsTo, column_text, coord_type_word, dimension_word, error_text, inferred_text, kind_word, type_text}
 pub use Rattle.geoarrow_fields.specs.declared.output.Fault.{Fault}
 pub use Rattle.geoarrow_fields.specs.declared.output.Fault.TheVariants.{Input, Memory as NoMemory, Output}
-pub use Rattle.geoarrow_fields.specs.Progress.{AnswersUntil, AppendsSome, Breaks, FrontOf, HasCome, IsAt, IsBegun, IsMeant, IsStopped, Leads, bytes_come}
+pub use Rattle.geoarrow_fields.specs.Progress.{AppendsSome, Breaks, FrontOf, HasCome, IsAt, IsBegun, IsMeant, IsStopped, Leads, bytes_come}

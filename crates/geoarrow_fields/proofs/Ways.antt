@@ -1,5 +1,5 @@
 -- What a writer holds grows; a run under way, line by line, and its ends. Over plain variables.
-use Rattle.std.proofs.Common.{◌≡◌, ◌≢◌, ◌⊎◌, inl, ℕ, suc, List, [], ◌∷◌, ◌++◌, ◌-◌, ◌+◌, ◌<◌, ◌≤◌, true, eqb, length, take, drop, get_or, All, Option, Some, None, Result, Ok, Err, IfErr, codes, refl, sym, ap, ◌∙◌, subst, append_assoc, append-nil, length-append, length-take, drop-cons, take_all, add-one, arith}
+use Rattle.std.proofs.Common.{◌≡◌, ◌≢◌, ◌⊎◌, inl, ℕ, suc, List, [], ◌∷◌, ◌++◌, ◌-◌, ◌+◌, ◌<◌, ◌≤◌, true, eqb, length, take, drop, get_or, All, Option, Some, None, Result, IfErr, codes, refl, sym, ap, ◌∙◌, subst, append_assoc, append-nil, length-append, length-take, drop-cons, take_all, add-one, arith}
 use Rattle.std.specs.Prelude.{⊤}
 use Rattle.std.specs.Result.{IsErrAnd}
 use Rattle.std.specs.Io.KnownBytes.{Appends, Consumes, Keeps}
@@ -8,39 +8,31 @@ use Rattle.std.proofs.lemmas.Bool.{eq-eqb, eqb-true}
 use Rattle.std.proofs.lemmas.List.{take-append-drop, take_rest, get_or-take}
 use Rattle.std.proofs.lemmas.List.Elements.{All-from_get_or, All-nil, All-cons, All-append}
 use Rattle.memchr.specs.Find.{is_byte, IsFirstByte}
-use Rattle.geoarrow_fields.proofs.Terms.{Command, Bytes, line_feed, Answers, Answered, AppendsSome, FrontOf, Breaks, Done, OutputFault, Fault, Input, NoMemory, Output, lines_of, max_lines, max_line_bytes, IsLine, IsPastLimit, Stops, Means, ReadsAndWrites, IsBegun, IsAt, AnswersUntil, HasCome, IsMeant, IsStopped}
+use Rattle.geoarrow_fields.proofs.Terms.{Command, Bytes, line_feed, Answers, Answered, AppendsSome, FrontOf, Breaks, Done, OutputFault, Fault, Input, NoMemory, Output, lines_of, max_lines, max_line_bytes, IsLine, IsPastLimit, Means, ReadsAndWrites, IsBegun, IsAt, AnswersUntil, HasCome, IsMeant, IsStopped}
 use Rattle.geoarrow_fields.proofs.Limits.{IsShort, lines_of-last, stops_first, stops_longer, stops_next, stops_for, stops_last, limit_passed, line_inside, begun_inside}
 
 -- ---- faults, and what a writer holds
 
--- a front part of more output after output
-pub front_after : (More Both : Bytes → Type 0) (a : Bytes) → ((b : Bytes) → More b → Both (a ++ b)) → (b : Bytes) → FrontOf More b → FrontOf Both (a ++ b)
-front_after More Both a join b (back, is) = (back, subst Both (sym (append_assoc a b back)) (join (b ++ back) is))
-
 -- what follows from a fault that is handed on
 pub handed_on : {T E : Type 0} (P : E → Type 0) (r : Result T E) (x : E) → IsErrAnd r (λ e. e ≡ x) → P x → IfErr r P
-handed_on P (Ok _) x is h = absurd is
-handed_on P (Err e) x is h = subst P (sym is) h
+handed_on P r x is h = grind arith
 
 -- an answer to a line, with its line feed, answers that line
 module _ (command : Command) (line text answer : Bytes) (same : text ≡ answer) (is : Answers command line answer) where
-  answered_line : (feed : Bytes) → line_feed ∷ [] ≡ feed → Answered command [] (line ∷ []) (text ++ feed)
+  answered_line : Answered command [] (line ∷ []) (text ++ (line_feed ∷ []))
   unfolding Answered
-  answered_line feed fed = (answer, [], is, ap (λ l. text ++ l) (sym fed) ∙ ap (λ l. l ++ (line_feed ∷ [])) same, refl)
+  answered_line = (answer, [], is, ap (λ l. l ++ (line_feed ∷ [])) same, refl)
 
   module _ (old mid new : Option Bytes) where
     pub answer_breaks_off : AppendsSome (FrontOf (λ whole. text ≡ whole)) old new → AppendsSome (FrontOf (Answered command [] (line ∷ []))) old new
-    answer_breaks_off (front, (back, whole), written) =
-        let joined = ap (λ l. l ++ (line_feed ∷ [])) whole ∙ append_assoc front back (line_feed ∷ []) in
-        (front, (back ++ (line_feed ∷ []), subst (Answered command [] (line ∷ [])) joined (answered_line (line_feed ∷ []) refl)), written)
+    answer_breaks_off (front, (back, whole), written) = (front, (back ++ (line_feed ∷ []), rw (← append_assoc, ← whole) answered_line), written)
 
     pub feed_breaks_off : Appends old mid text → AppendsSome (FrontOf (λ whole. line_feed ∷ [] ≡ whole)) mid new
         → AppendsSome (FrontOf (Answered command [] (line ∷ []))) old new
-    feed_breaks_off written (front, part, more) =
-        (text ++ front, front_after _ (Answered command [] (line ∷ [])) text answered_line front part, Appends-trans old mid new text front written more)
+    feed_breaks_off written (front, (back, whole), more) = (text ++ front, (back, rw (append_assoc, ← whole) answered_line), Appends-trans old mid new text front written more)
 
     pub answer_written : Appends old mid text → Appends mid new (line_feed ∷ []) → AppendsSome (Answered command [] (line ∷ [])) old new
-    answer_written written fed = (text ++ (line_feed ∷ []), answered_line (line_feed ∷ []) refl, Appends-trans old mid new text (line_feed ∷ []) written fed)
+    answer_written written fed = (text ++ (line_feed ∷ []), answered_line, Appends-trans old mid new text (line_feed ∷ []) written fed)
 
 pub answered_none : (command : Command) (last : Bytes) → Answered command last [] last
 unfolding Answered
@@ -53,13 +45,6 @@ answered_after command last [] b x y first second = subst (λ l. Answered comman
 answered_after command last (line ∷ a) b x y first second =
     let (answer, rest, is, joined, others) = first in
     (answer, rest ++ y, is, ap (λ l. l ++ y) joined ∙ append_assoc answer (line_feed ∷ rest) y, answered_after command last a b rest y others second)
-
--- a last text after answers
-pub answered_then : (command : Command) (last : Bytes) (lines : List Bytes) (output : Bytes) → Answered command [] lines output
-    → Answered command last lines (output ++ last)
-answered_then command last lines output answered =
-    subst (λ l. Answered command last l (output ++ last)) (append-nil lines)
-    (answered_after command last lines [] output last answered (answered_none command last))
 
 -- a part of the text is written, and then some of its rest
 pub write_goes_on : (text rest : Bytes) (n : ℕ) (old mid new : Option Bytes) → AppendsSome (λ done. text ≡ done ++ rest) old mid → Appends mid new (take n rest)
@@ -84,7 +69,7 @@ writes Before After More {i} {j} {o} {p} {q} join run (more, is, grown) = record
 pub writes_front : (Before After : Bytes → Bytes → Type 0) (More : Bytes → Type 0) {i j o p q : Option Bytes} → ((input output more : Bytes) → Before input output → More more → After input (output ++ more))
     → ReadsAndWrites Before i j o p → AppendsSome (FrontOf More) p q → ReadsAndWrites (λ input. FrontOf (After input)) i j o q
 writes_front Before After More join =
-    writes Before (λ input. FrontOf (After input)) (FrontOf More) (λ input output more is. front_after More (After input) output (λ whole. join input output whole is) more)
+    writes Before (λ input. FrontOf (After input)) (FrontOf More) (λ input output more is part. (part.0, rw append_assoc (join input output (more ++ part.0) is part.1)))
 
 -- nothing has come yet
 pub way_starts : (command : Command) {begun : Bytes} {i o : Option Bytes} → begun ≡ [] → HasCome command 0 begun i i o o
@@ -104,13 +89,13 @@ module _ (command : Command) {count : ℕ} {later : Bytes} {i j o p : Option Byt
 
   -- it ends there, with a last text
   pub way_stops : (Cause : ℕ → Bytes → Type 0) (last : Bytes) (k q : Option Bytes) → Cause count later → Keeps j k → Keeps p q
-      → ReadsAndWrites (λ input output. (stop : Stops Cause input) × Answered command last stop.lines (output ++ last)) i k o q
+      → ReadsAndWrites (λ input output. AnswersUntil Cause command last input (output ++ last)) i k o q
   way_stops Cause last k q cause read written = record {
     input = way.input;
     output = way.output;
     consumed = Consumes-kept i j k way.input way.consumed read;
     written = Appends-kept o p q way.output way.written written;
-    is = (stops_for Cause count later way.input way.is.0 cause, answered_then command last way.is.0.lines way.output way.is.1);
+    is = (stops_for Cause count later way.input way.is.0 cause, rw append-nil at (answered_after command last way.is.0.lines [] way.output last way.is.1 (answered_none command last)));
   }
 
   pub way_passes : (k : Option Bytes) → IsPastLimit count later ⊎ IsLine later → Keeps j k → IsStopped command Input i k o p
@@ -122,27 +107,9 @@ module _ (command : Command) {count : ℕ} {later : Bytes} {i j o p : Option Byt
   pub way_lacks_memory : (q : Option Bytes) → IsBegun count later → Keeps p q → IsStopped command NoMemory i j o q
   way_lacks_memory q is = way_keeps q (begun_inside count later is.room is.short)
 
-  -- a line comes
-  module _ (line rest : Bytes) (q : Option Bytes) (joined : later ≡ line ++ (line_feed ∷ rest)) (is : IsLine line) (fits : (count < max_lines) × IsShort line) where
-    next : (input output more : Bytes) → AnswersUntil (IsAt count later) command input output → Answered command [] (line ∷ []) more → AnswersUntil (IsAt (count + 1) rest) command input (output ++ more)
-    next input output more (stop, answers) answered =
-        (stops_next count later input line rest stop joined is fits, answered_after command [] stop.lines (line ∷ []) output more answers answered)
-
-    pub way_answers : AppendsSome (Answered command [] (line ∷ [])) p q → HasCome command (count + 1) rest i j o q
-    way_answers = writes _ (AnswersUntil (IsAt (count + 1) rest) command) (Answered command [] (line ∷ [])) next way
-
-    pub way_breaks : (fault : Fault) → Breaks fault (Answered command [] (line ∷ [])) p q → IsStopped command fault i j o q
-    way_breaks Input broken = absurd broken
-    way_breaks NoMemory kept = way_keeps q (line_inside count later line rest joined fits) kept
-    way_breaks Output part = (
-      OutputFault,
-      writes_front _ (Means command OutputFault) (Answered command [] (line ∷ []))
-          (λ input output more is answered. let (stop, answers) = next input output more is answered in (stops_for (λ n l. ⊤) (count + 1) rest input stop tt, answers)) way part,
-    )
-
   -- all lines have come
   module _ (last : List Bytes) (q : Option Bytes) (same : lines_of later ≡ last) (fits : (count + length last ≤ max_lines) × All IsShort last) where
-    all : (input output more : Bytes) → AnswersUntil (IsAt count later) command input output → Answered command [] last more → Means command Done input (output ++ more)
+    all : (input output more : Bytes) → AnswersUntil (IsAt count later) command [] input output → Answered command [] last more → Means command Done input (output ++ more)
     all input output more (stop, answers) answered =
         let (within, lines) = stops_last count later input last same fits stop in
         (within, rw lines (answered_after command [] stop.lines last output more answers answered))
@@ -204,11 +171,22 @@ module _ {count : ℕ} (begun rest : Bytes) (is : IsBegun count begun) where
           way_passes command way j (inl (limit_passed count (begun ++ rest) line (line_feed ∷ after rest at) joined line_is some (rw line_length at past))) (Keeps-refl j)
 
       module _ (fits : (count < max_lines) × (length begun + at ≤ max_line_bytes)) (q : Option Bytes) where
+        next : (input output more : Bytes) → AnswersUntil (IsAt count (begun ++ rest)) command [] input output → Answered command [] (line ∷ []) more
+            → AnswersUntil (IsAt (count + 1) (after rest at)) command [] input (output ++ more)
+        next input output more (stop, answers) answered =
+            (stops_next count (begun ++ rest) input line (after rest at) stop joined line_is (rw line_length at fits), answered_after command [] stop.lines (line ∷ []) output more answers answered)
+
         pub line_answered : (cleared : Bytes) → cleared ≡ [] → AppendsSome (Answered command [] (line ∷ [])) p q → HasCome command (count + 1) (cleared ++ after rest at) i j o q
-        line_answered cleared clear answer = rw clear (way_answers command way line (after rest at) q joined line_is (rw line_length at fits) answer)
+        line_answered cleared clear answer = rw clear (writes _ (AnswersUntil (IsAt (count + 1) (after rest at)) command []) (Answered command [] (line ∷ [])) next way answer)
 
         pub line_breaks : (fault : Fault) → Breaks fault (Answered command [] (line ∷ [])) p q → IsStopped command fault i j o q
-        line_breaks = way_breaks command way line (after rest at) q joined line_is (rw line_length at fits)
+        line_breaks Input broken = absurd broken
+        line_breaks NoMemory kept = way_keeps command way q (line_inside count (begun ++ rest) line (after rest at) joined (rw line_length at fits)) kept
+        line_breaks Output part = (
+          OutputFault,
+          writes_front _ (Means command OutputFault) (Answered command [] (line ∷ []))
+              (λ input output more come answered. let (stop, answers) = next input output more come answered in (stops_for (λ n l. ⊤) (count + 1) (after rest at) input stop tt, answers)) way part,
+        )
 
   -- no line feed stands in the rest
   module _ (none : IsFirstByte (is_byte line_feed) rest None) where

@@ -1,7 +1,8 @@
 -- The words of the answers, what is answered to a line, and what a run writes for the bytes that it read, at each of its ends.
-use Rattle.std.specs.Prelude.{◌≡◌, ◌⊎◌, List, [], ◌∷◌, ◌++◌, Option, Some, None, MatchOption, codes, ⊤}
+use Rattle.std.specs.Prelude.{◌≡◌, ◌⊎◌, ℕ, List, [], ◌∷◌, ◌++◌, Option, Some, None, MatchOption, unwrap_or, codes, ⊤}
+use Rattle.std.specs.List.{AllZip}
 use Rattle.std.specs.Io.KnownBytes.{Appends, Consumes, IsAtEnd}
-use Rattle.arrow_values.specs.Tree.{Text, FieldTree}
+use Rattle.arrow_values.specs.Tree.{FieldTree}
 use Rattle.geoarrow_layout.specs.declared.kinds.CoordType.{CoordType}
 use Rattle.geoarrow_layout.specs.declared.kinds.CoordType.TheVariants.{Interleaved, Separated}
 use Rattle.geoarrow_layout.specs.declared.kinds.Dimension.{Dimension}
@@ -62,14 +63,9 @@ abbrev pub dimension_word : Option Dimension → Bytes
 dimension_word (Some d) = dimension_name d
 dimension_word None = codes "-"
 
--- the text of a metadata, if there is one
-abbrev pub metadata_word : Option Text → Bytes
-metadata_word (Some text) = text
-metadata_word None = codes "-"
-
--- a type: kind, coordinate type, dimension and metadata
+-- a type: kind, coordinate type, dimension and the text of its metadata
 abbrev pub type_text : GeoArrowType → Bytes
-type_text g = kind_word (kind_of g) ++ codes " " ++ coord_type_word (coord_type_of (kind_of g)) ++ codes " " ++ dimension_word (dimension_of (kind_of g)) ++ codes " " ++ metadata_word (printed (meta_of g))
+type_text g = kind_word (kind_of g) ++ codes " " ++ coord_type_word (coord_type_of (kind_of g)) ++ codes " " ++ dimension_word (dimension_of (kind_of g)) ++ codes " " ++ unwrap_or (printed (meta_of g)) (codes "-")
 
 -- why a field is refused
 abbrev pub error_text : ColumnFault → Bytes
@@ -93,9 +89,7 @@ inferred_text (Faulty fault) = error_text fault
 
 -- two reports on columns say the same: as many entries, each the same as the other's
 abbrev pub SameReport : List Column → List Column → Type 0
-SameReport [] [] = ⊤
-SameReport (c ∷ cs) (d ∷ ds) = SameColumn c d × SameReport cs ds
-SameReport _ _ = ⊥
+SameReport = AllZip SameColumn
 
 -- no type, for a field without a name of GeoArrow or one that is refused
 abbrev pub AnswersNoType : FieldTree → Bytes → Type 0
@@ -122,15 +116,17 @@ Answered command last [] output = output ≡ last
 Answered command last (line ∷ lines) output =
     (answer : Bytes) × (rest : Bytes) × Answers command line answer × (output ≡ answer ++ (line_feed ∷ rest)) × Answered command last lines rest
 
+-- the lines of the input up to such a cause to stop are answered, and then comes this last text
+abbrev pub AnswersUntil : (ℕ → Bytes → Type 0) → Command → Bytes → Bytes → Bytes → Type 0
+AnswersUntil Cause command last input output = (stop : Stops Cause input) × Answered command last stop.lines output
+
 -- what a run that ends so means to write for an input: the answers to all its lines; to those up to what is past a limit, or as
 -- far as they came whole; to those up to one that is past no limit; to some first ones. All of these are within the limits
 abbrev pub Means : Command → RunEnd → Bytes → Bytes → Type 0
 Means command Done input output = IsWithinLimits (lines_of input) × Answered command [] (lines_of input) output
-Means command InputFault input output =
-    (stop : Stops (λ count later. IsPastLimit count later ⊎ IsLine later) input) × Answered command (codes "error input\n") stop.lines output
-Means command Memory input output =
-    (stop : Stops (λ count later. ¬ IsPastLimit count later) input) × Answered command (codes "error memory\n") stop.lines output
-Means command OutputFault input output = (stop : Stops (λ count later. ⊤) input) × Answered command [] stop.lines output
+Means command InputFault input output = AnswersUntil (λ count later. IsPastLimit count later ⊎ IsLine later) command (codes "error input\n") input output
+Means command Memory input output = AnswersUntil (λ count later. ¬ IsPastLimit count later) command (codes "error memory\n") input output
+Means command OutputFault input output = AnswersUntil (λ count later. ⊤) command [] input output
 
 -- some bytes were read, and an output of this kind for them was written
 pub record ReadsAndWrites (Output : Bytes → Bytes → Type 0) (in_old in_new out_old out_new : Option Bytes) : Type 0 where

@@ -6,8 +6,8 @@ use Rattle.geoarrow_fields.specs.declared.RunEnd.{RunEnd}
 use Rattle.geoarrow_fields.specs.declared.RunEnd.TheVariants.{InputFault, Memory as OutOfMemory, OutputFault}
 use Rattle.geoarrow_fields.specs.declared.output.Fault.{Fault}
 use Rattle.geoarrow_fields.specs.declared.output.Fault.TheVariants.{Input, Memory, Output}
-use Rattle.geoarrow_fields.specs.Lines.{Bytes, max_lines, max_line_bytes, IsLine, Stops}
-use Rattle.geoarrow_fields.specs.Answer.{Answered, Means, ReadsAndWrites, RunsTo}
+use Rattle.geoarrow_fields.specs.Lines.{Bytes, max_lines, max_line_bytes, IsLine}
+use Rattle.geoarrow_fields.specs.Answer.{AnswersUntil, Means, ReadsAndWrites, RunsTo}
 
 -- after `count` lines, what has come of the next one is within the limits
 pub record IsBegun (count : ℕ) (begun : Bytes) : Type 0 where
@@ -20,17 +20,13 @@ pub record IsBegun (count : ℕ) (begun : Bytes) : Type 0 where
 abbrev pub bytes_come : ℕ → Bytes → ℕ
 bytes_come count begun = count * (max_line_bytes + 1) + length begun
 
--- the lines of the input are answered up to such a cause to stop
-abbrev pub AnswersUntil : (ℕ → Bytes → Type 0) → Command → Bytes → Bytes → Type 0
-AnswersUntil Cause command input output = (stop : Stops Cause input) × Answered command [] stop.lines output
-
 -- the place after `count` lines, before `later`
 abbrev pub IsAt : ℕ → Bytes → ℕ → Bytes → Type 0
 IsAt count later n l = (n ≡ count) × (l ≡ later)
 
 -- a run has read `count` lines, which are answered, and then `later`
 abbrev pub HasCome : Command → ℕ → Bytes → (in_old in_new out_old out_new : Option Bytes) → Type 0
-HasCome command count later = ReadsAndWrites (AnswersUntil (IsAt count later) command)
+HasCome command count later = ReadsAndWrites (AnswersUntil (IsAt count later) command [])
 
 -- with this text last, a run has written what it means to write at such an end
 abbrev pub IsMeant : Command → RunEnd → Bytes → (in_old in_new out_old out_new : Option Bytes) → Type 0

@@ -28,9 +28,7 @@ use geoarrow_layout::{kind_is_listed, one_kind};
 #[tactic(auto, using(crate::proofs::Layouts::layout_form))]
 pub fn layouts_have_line_form()
     ensures { (k : Kind) → HasLineForm (layout k) }
-{
-    kind_is_listed();
-}
+{}
 
 /// A law: the line of the canonical field of a field that a line denotes denotes that canonical field. There is nothing to run.
 #[tactic(auto, using(crate::proofs::Canon::canonical_back))]
@@ -64,7 +62,7 @@ pub fn canon_is_closed()
 }
 
 /// A law: an answer holds no line feed. So in a run that is done, as many lines go out as came in. There is nothing to run.
-#[tactic(auto, using(crate::proofs::OneLine::answer_line, crate::proofs::OneLine::as_many))]
+#[tactic(auto, using(crate::proofs::Canon::answer_line, crate::proofs::Canon::as_many))]
 pub fn answer_is_one_line()
     ensures line { (command : Command) (line answer : Bytes) → Answers command line answer → IsLine answer }
     ensures run { (command : Command) (input output : Bytes) → Means command Done input output

@@ -7,8 +7,7 @@ use Rattle.geoarrow_fields.proofs.lines.answer_chunk.Goals as goal
 
 pub returns-then-is_past_limit-clause-err : goal.returns-then-is_past_limit-clause-err
 returns-then-is_past_limit-clause-err g c =
-    let (is, _, come) = c.loop-at.invariant in
-    λ i j o way. line_passes c.loop-at.begun.items c.loop-at.rest.now is c.in-Some.at c.in-Some.ensures _ (come i j o way) c.if-is_past_limit.ensures
+    λ i j o way. line_passes c.loop-at.begun.items c.loop-at.rest.now c.loop-at.invariant.0 c.in-Some.at c.in-Some.ensures _ (c.loop-at.invariant.2 i j o way) c.if-is_past_limit.ensures
 
 pub returns-in_err-end_line-clause-err : goal.returns-in_err-end_line-clause-err
 returns-in_err-end_line-clause-err g c =
@@ -28,15 +27,13 @@ loop-at-preserved g c =
 
 pub returns-then-is_past_limit-2-clause-err : goal.returns-then-is_past_limit-2-clause-err
 returns-then-is_past_limit-2-clause-err g c =
-    let (is, _, come) = c.loop-at.invariant in
     let some : 0 < length c.loop-at.rest.now = grind (arith, common_steps) in
-    λ i j o way. rest_passes c.loop-at.begun.items c.loop-at.rest.now is c.in_default.ensures _ (come i j o way) some c.if-is_past_limit-2.ensures
+    λ i j o way. rest_passes c.loop-at.begun.items c.loop-at.rest.now c.loop-at.invariant.0 c.in_default.ensures _ (c.loop-at.invariant.2 i j o way) some c.if-is_past_limit-2.ensures
 
 pub returns-in_err-extend_from_slice-clause-err : goal.returns-in_err-extend_from_slice-clause-err
 returns-in_err-extend_from_slice-clause-err g c =
-    let (is, _, come) = c.loop-at.invariant in
-    let begun = rest_begun c.loop-at.begun.items c.loop-at.rest.now is c.in_default.ensures c.if-is_past_limit-2.ensures in
-    handed_on _ _ _ c.from_residual-in_err-extend_from_slice.ensures.1 (λ i j o way. way_lacks_memory _ (come i j o way) _ begun (Keeps-refl _))
+    let begun = rest_begun c.loop-at.begun.items c.loop-at.rest.now c.loop-at.invariant.0 c.in_default.ensures c.if-is_past_limit-2.ensures in
+    handed_on _ _ _ c.from_residual-in_err-extend_from_slice.ensures.1 (λ i j o way. way_lacks_memory _ (c.loop-at.invariant.2 i j o way) _ begun (Keeps-refl _))
 
 pub returns-clause-begun : goal.returns-clause-begun
 returns-clause-begun g c =

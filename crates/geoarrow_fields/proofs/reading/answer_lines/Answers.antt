@@ -29,20 +29,16 @@ returns-then-is_empty-clause-done g c =
     let none = ap (λ l. lines_of (l ++ [])) (nil_from_length c.loop-begun.begun.items empty) in
     way_done _ (way_reads _ come [] _ (rw c.if-n-eq0.true at c.in_ok-n.ensures.bytes)) [] _ none (omega (arith, is.few), All-nil IsShort) ([], answered_none _ [], Appends-nil _)
 
-pub returns-then-n-eq0-clause-done : goal.returns-then-n-eq0-clause-done
-returns-then-n-eq0-clause-done g c =
+pub returns-then-n-eq0 : goal.returns-then-n-eq0
+returns-then-n-eq0 g c =
     let (_, is, come) = c.loop-begun.invariant in
     let some : 0 < length c.loop-begun.begun.items = grind (arith, common_steps, c.if-is_empty.ensures, c.is_empty.ensures, c.loop-begun.begun.ok.0) in
     let (same, fits) = begun_last _ _ is some in
-    on_ok_weaker _ (way_done _ (way_reads _ come [] _ (rw c.if-n-eq0.true at c.in_ok-n.ensures.bytes)) _ _ same fits) c.end_line.ensures.ok
-
-pub returns-then-n-eq0-clause-err : goal.returns-then-n-eq0-clause-err
-returns-then-n-eq0-clause-err g c =
-    let (_, is, come) = c.loop-begun.invariant in
-    let some : 0 < length c.loop-begun.begun.items = grind (arith, common_steps, c.if-is_empty.ensures, c.is_empty.ensures, c.loop-begun.begun.ok.0) in
-    let (same, fits) = begun_last _ _ is some in
-    IfErr-weaker _ _ _
-    (λ fault. way_done_breaks _ (way_reads _ come [] _ (rw c.if-n-eq0.true at c.in_ok-n.ensures.bytes)) _ _ same fits fault (rw (append-nil c.loop-begun.begun.items) is)) c.end_line.ensures.err
+    let way = way_reads _ come [] _ (rw c.if-n-eq0.true at c.in_ok-n.ensures.bytes) in record {
+      done = on_ok_weaker _ (way_done _ way _ _ same fits) c.end_line.ensures.ok;
+      end = grind (arith, common_steps);
+      err = IfErr-weaker _ _ _ (λ fault. way_done_breaks _ way _ _ same fits fault (rw (append-nil c.loop-begun.begun.items) is)) c.end_line.ensures.err;
+    }
 
 pub returns-in_err-count-clause-err : goal.returns-in_err-count-clause-err
 returns-in_err-count-clause-err g c =
