@@ -3,7 +3,7 @@ use Rattle.std.proofs.Common.{◌≡◌, ℕ, zero, suc, ◌+◌, ◌*◌, ◌^�
 use Rattle.std.proofs.lemmas.List.{length-append, map-append}
 use Rattle.std.specs.Ordering.{ordering_reverse, match_ordering}
 use Rattle.std.specs.Cmp.{IsTotalOrder}
-use Rattle.std.specs.List.{concat, AllZip, AllByRecursion}
+use Rattle.std.specs.List.{AllZip, AllByRecursion}
 use Rattle.std.specs.List.Sorted.{IsStrictlySortedBy}
 use Rattle.std.specs.Map.{keys_of}
 use Rattle.std.specs.BTreeMap.{insert_entry}
@@ -14,7 +14,7 @@ use Rattle.arrow_values.specs.Texts.{put_text}
 use Rattle.arrow_columns.specs.Column.{ColumnTree}
 use Rattle.arrow_ipc.specs.Wire.{target_at}
 use Rattle.arrow_ipc.specs.Columns.{entry_in, entry_at, entry_price, put_next, texts_at, put_column, columns_by, column_at}
-use Rattle.arrow_ipc.specs.Blocks.{Holds, rounded, vector_block, entry_read, texts_read, columns_read, child_in}
+use Rattle.arrow_ipc.specs.Blocks.{Holds, lengths, rounded, vector_block, entry_read, texts_read, columns_read, child_in}
 use Rattle.arrow_ipc.proofs.Told.{bound}
 use Rattle.arrow_ipc.proofs.Inserted.{texts_inserted}
 use Rattle.arrow_ipc.proofs.Tables.{column_by_table}
@@ -29,26 +29,22 @@ zip_push P [] (y ∷ ys) b x all one = absurd all
 zip_push P (c ∷ cs) [] b x all one = absurd all
 zip_push P (c ∷ cs) (y ∷ ys) b x all one = (all.0, zip_push P cs ys b x all.1 one)
 
-pub length_concat_push : (bs : List (List ℕ)) (b : List ℕ) → length (concat (bs ++ b ∷ [])) ≡ length (concat bs) + length b
-length_concat_push [] b = let e = length-append b [] in let n : length {A = ℕ} [] ≡ 0 = refl in omega (arith, e, n)
-length_concat_push (c ∷ cs) b =
-    let rest = length_concat_push cs b in
-    let one = length-append c (concat (cs ++ b ∷ [])) in
-    let two = length-append c (concat cs) in
-    omega (arith, rest, one, two)
+lengths_push : (bs : List (List ℕ)) (b : List ℕ) → lengths (bs ++ b ∷ []) ≡ lengths bs + length b
+lengths_push [] b = omega arith
+lengths_push (c ∷ cs) b = let rest = lengths_push cs b in omega (arith, rest)
 
 -- the blocks of those that come before the ones left, which have room
 pub record Made {A : Type 0} (P : List ℕ → A → Type 0) (rooms : List A → ℕ) (blocks : List (List ℕ)) (left all : List A) : Type 0 where
   pub done : List A
   pub parts : done ++ left ≡ all
   pub each : AllZip P blocks done
-  pub fits : length (concat blocks) + 4 * length blocks + rooms left ≤ rooms all
+  pub fits : lengths blocks + 4 * length blocks + rooms left ≤ rooms all
 
 module _ {A : Type 0} (P : List ℕ → A → Type 0) (rooms : List A → ℕ) where
   pub made_more : (blocks : List (List ℕ)) (b : List ℕ) (x : A) (left all : List A) → Made P rooms blocks (x ∷ left) all → P b x → 4 + length b + rooms left ≤ rooms (x ∷ left)
       → Made P rooms (blocks ++ b ∷ []) left all
   made_more blocks b x left all m one room =
-      let sum = length_concat_push blocks b in
+      let sum = lengths_push blocks b in
       let many : length (blocks ++ b ∷ []) ≡ length blocks + 1 = length-append blocks (b ∷ []) in
       let before = m.fits in
       record {
@@ -61,7 +57,7 @@ module _ {A : Type 0} (P : List ℕ → A → Type 0) (rooms : List A → ℕ) w
   pub made_all : (blocks : List (List ℕ)) (all : List A) → Made P rooms blocks [] all → AllZip P blocks all
   made_all blocks all m = subst (λ xs. AllZip P blocks xs) (sym (append-nil m.done) ∙ m.parts) m.each
 
-pub length_vector : (bs : List (List ℕ)) → length (vector_block bs) ≡ rounded (4 + 4 * length bs) + length (concat bs)
+pub length_vector : (bs : List (List ℕ)) → length (vector_block bs) ≡ rounded (4 + 4 * length bs) + lengths bs
 length_vector bs = let size = length_linked (length bs) bs [] in omega (arith, size)
 
 -- ---- metadata

@@ -1,13 +1,12 @@
 -- The walk along a vector of tables.
 use Rattle.std.proofs.Common.{◌≡◌, ℕ, ◌+◌, ◌*◌, ◌^◌, ◌<◌, ◌≤◌, ◌∷◌, [], List, length, Result, Ok, refl, subst, arith}
-use Rattle.std.specs.List.{concat, AllZip}
-use Rattle.std.proofs.lemmas.List.{length-append}
+use Rattle.std.specs.List.{AllZip}
 use Rattle.arrow_ipc.specs.Fault.{◌>>=◌}
 use Rattle.arrow_ipc.specs.Wire.{target_at, vector_at}
 use Rattle.arrow_ipc.specs.Tells.{gather}
-use Rattle.arrow_ipc.specs.Blocks.{Holds, vector_block}
+use Rattle.arrow_ipc.specs.Blocks.{Holds, lengths, vector_block}
 use Rattle.arrow_ipc.specs.declared.fault.Fault.{Fault}
-use Rattle.arrow_ipc.proofs.Linked.{length_linked, AreLinked, AreWhole, whole_concat, are_linked, is_vector}
+use Rattle.arrow_ipc.proofs.Linked.{length_linked, AreLinked, AreWhole, whole_lengths, are_linked, is_vector}
 
 -- what is joined from a list, one after the other
 abbrev pub joined : {S E : Type 0} → (S → E → S) → S → List E → S
@@ -23,7 +22,7 @@ module _ {S E : Type 0} (read : List ℕ → ℕ → Result (E × ℕ) Fault) (j
   module _ (bytes : List ℕ) (at start : ℕ) (put : S → ℕ → Result (S × ℕ) Fault)
       (step : (s : S) (i t : ℕ) (v : E × ℕ) → target_at bytes (start + 4 * i) ≡ Ok t → read bytes t ≡ Ok v → put s i ≡ Ok (join s v.0, v.1)) where
     walked : (bs : List (List ℕ)) (xs : List E) → AllZip (Holds read) bs xs → (s : S) (i near : ℕ) → AreLinked bytes at near bs → at + near ≡ start + 4 * i
-        → (n : ℕ) × (n ≤ length (concat bs)) × (gather put s i (length bs) ≡ Ok (joined join s xs, n))
+        → (n : ℕ) × (n ≤ lengths bs) × (gather put s i (length bs) ≡ Ok (joined join s xs, n))
     unfolding gather
     walked [] [] h s i near l place = (0, omega arith, refl)
     walked [] (x ∷ xs) h s i near l place = absurd h
@@ -33,8 +32,7 @@ module _ {S E : Type 0} (read : List ℕ → ℕ → Result (E × ℕ) Fault) (j
         let led : target_at bytes (start + 4 * i) ≡ Ok l.0.to = subst (λ p. target_at bytes p ≡ Ok l.0.to) place l.0.led in
         let first : put s i ≡ Ok (join s x, one.0) = step s i l.0.to (x, one.0) led one.2 in
         let next = walked bs xs h.1 (join s x) (i + 1) (near + 4) l.1 (omega (arith, place)) in
-        let sum = length-append b (concat bs) in
-        (one.0 + next.0, omega (arith, one.1, next.1, sum), rw (first, next.2) refl)
+        (one.0 + next.0, omega (arith, one.1, next.1), rw (first, next.2) refl)
 
   -- the whole vector
   pub vector_holds : (put : List ℕ → ℕ → S → ℕ → Result (S × ℕ) Fault) (s : S)
@@ -44,7 +42,7 @@ module _ {S E : Type 0} (read : List ℕ → ℕ → Result (E × ℕ) Fault) (j
   vector_holds put s step bs xs all small =
       let size = length_linked (length bs) bs [] in
       let wholes = are_whole bs xs all in
-      let whole = whole_concat bs wholes in
+      let whole = whole_lengths bs wholes in
       record {
         whole = omega (arith, size, whole);
         reads = λ bytes at lies.
