@@ -7,9 +7,7 @@ mod Schemas
 mod TypeOf
 mod Words
 mod Levels
-mod Places
 mod Linked
-mod Walks
 mod Made
 mod Tables
 mod Vectors

@@ -21,8 +21,7 @@ use Rattle.arrow_ipc.specs.declared.schema.Endianness.{Endianness}
 use Rattle.arrow_ipc.specs.declared.schema.Endianness.TheVariants.{Little, Big}
 use Rattle.arrow_ipc.specs.declared.write.WriteError.{WriteError}
 use Rattle.arrow_ipc.proofs.Told.{bound}
-use Rattle.arrow_ipc.proofs.Places.{text_is, is_some, is_le, u8_is, u32_is, target_is, is_lt}
-use Rattle.arrow_ipc.proofs.Linked.{length_linked, flat, tail, slot_place, low, length_table, stands, table_holds}
+use Rattle.arrow_ipc.proofs.Linked.{text_is, is_some, is_le, u8_is, u32_is, target_is, is_lt, length_linked, flat, tail, slot_place, low, length_table, stands, table_holds}
 
 pub length_text : (text : Text) → length (text_block text) ≡ rounded (5 + length text)
 length_text text =

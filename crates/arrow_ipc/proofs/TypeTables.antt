@@ -27,17 +27,13 @@ use Rattle.arrow_ipc.specs.declared.kinds.Kind.TheVariants.{Null, List as ListOf
 use Rattle.arrow_ipc.specs.Rooms.{is_sound, table_room}
 use Rattle.arrow_ipc.specs.declared.shapes.Shape.{Shape}
 use Rattle.arrow_ipc.specs.declared.shapes.Shape.TheVariants.{Table}
-use Rattle.arrow_ipc.proofs.Places.{u8_is, u16_is, u32_is, vector_is}
-use Rattle.arrow_ipc.proofs.Linked.{length_linked, by_place, flat, slot_place, tail, lies_within, low, length_table, stands}
+use Rattle.arrow_ipc.proofs.Linked.{u8_is, u16_is, u32_is, length_linked, by_place, flat, slot_place, tail, is_vector, low, length_table, stands, below}
 use Rattle.arrow_ipc.proofs.Ids.{new_id}
 
 -- tests
 both : (a b : Bool) → (a && b) ≡ true → (a ≡ true) × (b ≡ true)
 both true b is = (refl, is)
 both false b is = absurd (cc)
-
-below : (n m : ℕ) → nat_lt n m ≡ true → n < m
-below n m is = grind (arith, nat_tests)
 
 number_within : (n : Option ℕ) → place_of_number n ≤ 12
 number_within None = omega arith
@@ -180,10 +176,9 @@ ids_lie bytes at ids lies few good =
     let rest = tail bytes at (length ids) [] (id_words ids) lies in
     let whole = lies.whole in
     let size = length_vector_of ids in
-    let within = lies_within bytes at (length ids) [] (id_words ids) lies in
-    let is = flat bytes at (length ids) [] (id_words ids) lies in (
-      vector_is bytes at (length ids) (id_words ids ++ rest) (omega (arith, whole)) (omega (arith, few)) (omega (arith, size, within)) is,
-      λ table. walk bytes table (at + 4) (length ids) [] ids 0 (at + 4) rest (by_place bytes at _ 4 is) (omega arith) (omega (arith, whole)) good,
+    let many = length_ids ids in (
+      is_vector bytes at (length ids) [] (id_words ids) lies (omega (arith, many)) (omega (arith, few, size)),
+      λ table. walk bytes table (at + 4) (length ids) [] ids 0 (at + 4) rest (by_place bytes at _ 4 (flat bytes at (length ids) [] (id_words ids) lies)) (omega arith) (omega (arith, whole)) good,
     )
 
 pub union_type : (mode : UnionMode) (ms : MemberTrees) → are_ids [] (member_ids ms) ≡ true → length (union_block mode (member_ids ms)) < 2 ^ 31 → IsType 14 (union_block mode (member_ids ms)) (map column_of (member_fields ms)) (known (union ms mode))
