@@ -1,5 +1,5 @@
 -- A schema that is read, where it lies in other bytes.
-use Rattle.std.proofs.Common.{◌≡◌, ℕ, ◌*◌, ◌-◌, List, length, Result, Ok, Err, sym, ap, ◌∙◌, subst, arith}
+use Rattle.std.proofs.Common.{◌≡◌, ℕ, ◌*◌, ◌-◌, List, length, Result, Ok, Err, sym, ◌∙◌, subst, arith}
 use Rattle.arrow_ipc.specs.Schema.{SchemaTree, schema_tree, Meets, MeetsIn}
 use Rattle.arrow_ipc.specs.Tells.{Fails, Tells}
 use Rattle.arrow_ipc.specs.declared.fault.Fault.{Fault}
@@ -9,13 +9,11 @@ use Rattle.arrow_ipc.specs.declared.schema.Schema.{Schema}
 
 -- where there is no message
 pub met_none : (message : Result (List ℕ) Fault) (read : List ℕ → Result (SchemaTree × ℕ) Fault) (r : Result Schema IpcError) (fault : Fault) → message ≡ Err fault → r ≡ Err (Broken fault) → Meets message read r
-met_none (Ok bytes) read r fault e is = absurd (cc)
-met_none (Err other) read r fault e is = let same : fault ≡ other = cc in is ∙ ap (λ f. Err (Broken f)) same
+met_none message read r fault e is = subst (λ m. Meets m read r) (sym e) is
 
 pub met : (message : Result (List ℕ) Fault) (read other : List ℕ → Result (SchemaTree × ℕ) Fault) (r : Result Schema IpcError) (bytes : List ℕ) → message ≡ Ok bytes → read bytes ≡ other bytes → MeetsIn read bytes r → Meets message other r
-met (Err fault) read other r bytes e same f = absurd (cc)
-met (Ok lies) read other (Ok s) bytes e same f = let here : bytes ≡ lies = cc in subst (λ b. MeetsIn other b (Ok s)) here (f.0, f.1, sym same ∙ f.2)
-met (Ok lies) read other (Err d) bytes e same f = let here : bytes ≡ lies = cc in subst (λ b. MeetsIn other b (Err d)) here (subst (λ t. Fails t (8 * length bytes) d) same f)
+met message read other (Ok s) bytes e same f = subst (λ m. Meets m other (Ok s)) (sym e) (f.0, f.1, sym same ∙ f.2)
+met message read other (Err d) bytes e same f = subst (λ m. Meets m other (Err d)) (sym e) (subst (λ t. Fails t (8 * length bytes) d) same f)
 
 pub meets : (read : List ℕ → Result (SchemaTree × ℕ) Fault) (bytes : List ℕ) (there : Result (SchemaTree × ℕ) Fault) (old new : ℕ) (r : Result Schema IpcError)
     → read bytes ≡ there → Tells schema_tree there old new r → old ≡ 8 * length bytes → MeetsIn read bytes r

@@ -22,8 +22,7 @@ too_dear there x old place is less = λ v e. let same : x ≡ v = cc in subst (�
 
 -- an error was handed on
 pub told : {X A : Type 0} (view : X → A) (there : Result (A × ℕ) Fault) (old new : ℕ) (r : Result X IpcError) (e : IpcError) → r ≡ Err e → Fails there old e → Tells view there old new r
-told view there old new (Ok x) e is f = absurd (cc)
-told view there old new (Err d) e is f = let same : e ≡ d = cc in subst (Fails there old) same f
+told view there old new r e is f = subst (Tells view there old new) (sym is) f
 
 -- what fails first fails in all, whatever comes after
 pub first_fails : {A B : Type 0} (step : Result (A × ℕ) Fault) (rest : A → Result (B × ℕ) Fault) (old : ℕ) (e : IpcError) → Fails step old e → Fails (step >>+ rest) old e
@@ -62,8 +61,7 @@ says_first view over step rest (Budget place) f = absurd f
 says_first view over step rest OutOfMemory f = tt
 
 pub said : {X Y A B : Type 0} (view : X → A) (over : Y → B) (step : Result A Fault) (rest : A → Result B Fault) (r : Result Y IpcError) (e : IpcError) → r ≡ Err e → Says view step (Err e) → Says over (step >>= rest) r
-said view over step rest (Ok y) e is f = absurd (cc)
-said view over step rest (Err d) e is f = let same : e ≡ d = cc in subst (λ e. Says over (step >>= rest) (Err e)) same (says_first view over step rest e f)
+said view over step rest r e is f = subst (Says over (step >>= rest)) (sym is) (says_first view over step rest e f)
 
 pub says_fails : {X A B : Type 0} (view : X → A) (step : Result A Fault) (rest : A → Result (B × ℕ) Fault) (old : ℕ) (e : IpcError) → Says view step (Err e) → Fails (step >>= rest) old e
 says_fails view step rest old (Broken fault) f = rw f refl

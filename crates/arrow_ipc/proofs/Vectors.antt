@@ -1,14 +1,18 @@
 -- Steps of the loops that write a vector of tables.
-use Rattle.std.proofs.Common.{◌≡◌, ℕ, ◌+◌, ◌*◌, ◌-◌, ◌<◌, ◌≤◌, ◌++◌, ◌∷◌, [], List, length, drop, get_or, map, Vec, Global, refl, sym, ap, ◌∙◌, append_assoc, append-nil}
+use Rattle.std.proofs.Common.{◌≡◌, ℕ, ◌+◌, ◌*◌, ◌-◌, ◌<◌, ◌≤◌, ◌++◌, ◌∷◌, [], List, length, drop, get_or, map, Vec, Global, refl, sym, ap, ◌∙◌, append_assoc, append-nil, arith}
 use Rattle.std.proofs.lemmas.List.{length-append, length-map, drop_more, drop_all}
 use Rattle.std.specs.List.{concat}
 use Rattle.arrow_ipc.specs.Blocks.{lengths, word, rounded, padded, offsets, linked}
+use Rattle.arrow_ipc.proofs.Linked.{length_linked}
 
 abbrev pub items : Vec ℕ Global → List ℕ
 items v = v.items
 
 abbrev pub left : List (Vec ℕ Global) → ℕ → List (List ℕ)
 left blocks i = map items (drop i blocks)
+
+pub long_linked : (first : ℕ) (blocks : List (Vec ℕ Global)) (rest : List ℕ) → length (linked first (map items blocks) rest) ≡ rounded (4 + (4 * length blocks + length rest)) + lengths (map items blocks)
+long_linked first blocks rest = let size = length_linked first (map items blocks) rest in let many = length-map blocks items in omega (arith, size, many)
 
 module _ (blocks : List (Vec ℕ Global)) (i : ℕ) (x : Vec ℕ Global) (lt : i < length blocks) (is : x ≡ get_or blocks i x) where
   next : left blocks i ≡ x.items ∷ left blocks (i + 1)

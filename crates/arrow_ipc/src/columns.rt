@@ -177,6 +177,7 @@ fn ids_of_kind(
 }
 
 /// The type of a column, given its children.
+#[tactic(auto, unfolding(crate::specs::Columns::typed))]
 fn read_type(
     alloc: Global,
     bytes: &[u8],
@@ -195,6 +196,7 @@ fn read_type(
 }
 
 /// A column, given its children.
+#[tactic(auto, unfolding(crate::specs::Columns::finished))]
 fn finish(
     alloc: Global,
     bytes: &[u8],

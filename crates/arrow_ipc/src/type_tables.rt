@@ -12,6 +12,7 @@ use arrow_values::{DataType, UnionMode};
 use std::alloc::Global;
 
 /// A union's table, with its type ids.
+#[tactic(auto, using(crate::proofs::TypeTables::length_union))]
 fn union_block(alloc: Global, mode: UnionMode, ids: &[i8]) -> Result<Vec<u8>, WriteError>
     ensures { MakesSound (are_ids [] ids.now) (union_block mode ids.now) result }
 {

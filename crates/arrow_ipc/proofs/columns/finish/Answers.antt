@@ -1,4 +1,4 @@
-use Rattle.std.proofs.Common.{arith, map, refl}
+use Rattle.std.proofs.Common.{arith, map}
 use Rattle.arrow_columns.specs.Column.{type_tree, column_tree}
 use Rattle.arrow_values.specs.Tree.{Metadata}
 use Rattle.arrow_ipc.specs.Parts.{Own, parts_of}
@@ -18,9 +18,3 @@ returns-in_err-metadata c =
     let p : Own = parts_of c.args.parts.now in
     told _ _ _ _ c.from_residual-in_err-metadata.result c.in_err-metadata.field-0.0 (grind arith)
     (rw c.in_ok-data_type.ensures (made_fails (texts_at c.args.bytes.now p.texts) (λ (ms : Metadata). record { name = p.name; data_type = type_tree c.in_ok-data_type.data_type; nullable = p.nullable; metadata = ms }) _ _ c.in_err-metadata.ensures))
-
-pub returns : goal.returns
-unfolding finished
-returns c =
-    let ms = c.in_ok-metadata.ensures in
-    (ms.0, rw (c.in_ok-data_type.ensures, ms.1, ← c.in_ok-name.ensures.ok) refl)

@@ -1,17 +1,12 @@
-use Rattle.std.proofs.Common.{arith, ◌≡◌, ℕ, Ok, Err, refl, sym, ap, ap₂, ◌∙◌}
+use Rattle.std.proofs.Common.{arith, ◌≡◌, ℕ, Ok, refl, sym, ap, ap₂, ◌∙◌}
 use Rattle.arrow_values.specs.Tree.{Text, Metadata}
 use Rattle.arrow_values.specs.View.{texts_of}
 use Rattle.arrow_values.specs.Texts.{put_text}
 use Rattle.arrow_ipc.specs.Columns.{entry_at, entry_price, put_entry}
-use Rattle.arrow_ipc.specs.declared.fault.IpcError.TheVariants.{Broken, Budget}
+use Rattle.arrow_ipc.specs.declared.fault.IpcError.TheVariants.{Budget}
 use Rattle.arrow_ipc.proofs.Told.{told, too_dear}
 use Rattle.arrow_ipc.proofs.Inserted.{texts_inserted}
 use Rattle.arrow_ipc.proofs.columns.put_entry.Goals as goal
-
-pub returns-in_err-entry : goal.returns-in_err-entry
-returns-in_err-entry c =
-    let led : entry_at c.args.bytes.now c.args.at ≡ Err c.in_err-entry.field-0.0 = grind arith in
-    told _ _ _ _ c.from_residual.result (Broken c.in_err-entry.field-0.0) (grind arith) (rw led refl)
 
 pub returns-in_err-spend : goal.returns-in_err-spend
 returns-in_err-spend c =

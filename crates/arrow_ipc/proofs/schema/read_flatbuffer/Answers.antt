@@ -1,28 +1,12 @@
-use Rattle.std.proofs.Common.{arith, ◌≡◌, ℕ, ◌*◌, ◌-◌, length, map, Ok, Err, refl, ap}
+use Rattle.std.proofs.Common.{arith, ◌≡◌, ℕ, ◌*◌, ◌-◌, length, map, Ok, refl, ap}
 use Rattle.arrow_values.specs.Tree.{Metadata}
 use Rattle.arrow_columns.specs.Column.{column_tree}
 use Rattle.arrow_ipc.specs.Columns.{texts_at, columns_by, column_at}
 use Rattle.arrow_ipc.specs.Schema.{schema_tree, head_at, with_columns, schema_at, schema_of}
-use Rattle.arrow_ipc.specs.declared.fault.IpcError.TheVariants.{Broken}
 use Rattle.arrow_ipc.specs.declared.schema.Schema.{Schema}
 use Rattle.arrow_ipc.proofs.Told.{told, first_fails, then_tells, made_fails}
 use Rattle.arrow_ipc.proofs.Schemas.{meets}
 use Rattle.arrow_ipc.proofs.schema.read_flatbuffer.Goals as goal
-
-pub returns-in_err-place : goal.returns-in_err-place
-returns-in_err-place c =
-    let bytes = c.args.bytes.now in
-    let led : c.args.place ≡ Err c.in_err-place.field-0.0 = grind arith in
-    meets (schema_of 61 c.args.place) bytes (schema_of 61 c.args.place bytes) (8 * length bytes) 0 c.from_residual.result refl (told _ _ _ _ c.from_residual.result (Broken c.in_err-place.field-0.0) (grind arith) (rw led refl)) refl
-
-pub returns-in_err-head : goal.returns-in_err-head
-unfolding schema_at
-returns-in_err-head c =
-    let bytes = c.args.bytes.now in
-    let led : c.args.place ≡ Ok c.in_ok-place.field-0 = grind arith in
-    let headed : head_at bytes c.in_ok-place.field-0 ≡ Err c.in_err-head.field-0.0 = grind arith in
-    let r = c.from_residual-in_err-head.result in
-    meets (schema_of 61 c.args.place) bytes (schema_of 61 c.args.place bytes) (8 * length bytes) 0 r refl (told _ _ _ _ r (Broken c.in_err-head.field-0.0) (grind arith) (rw (led, headed) refl)) refl
 
 pub returns-in_err-columns : goal.returns-in_err-columns
 unfolding schema_at

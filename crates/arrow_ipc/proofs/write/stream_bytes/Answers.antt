@@ -1,6 +1,6 @@
-use Rattle.std.proofs.Common.{◌≡◌, ℕ, ◌∷◌, [], List, length, ap, ◌∙◌, arith}
+use Rattle.std.proofs.Common.{IfErr, ◌≡◌, ℕ, ◌∷◌, [], List, length, ap, ◌∙◌, arith}
 use Rattle.std.proofs.lemmas.Grind.{common_steps}
-use Rattle.arrow_ipc.specs.Blocks.{order_number, table_block, schema_block}
+use Rattle.arrow_ipc.specs.Blocks.{order_number, table_block, schema_block, message_block}
 use Rattle.arrow_ipc.specs.Rooms.{Refuses}
 use Rattle.arrow_ipc.proofs.Built.{told, refuses_more}
 use Rattle.arrow_ipc.proofs.Tables.{length_message, stream_built}
@@ -28,5 +28,6 @@ returns-in_err-schema-clause-err c =
     let order : c.match-order.order ≡ order_number c.args.order = grind (arith, common_steps) in
     let bs = c.args.columns.items ∷ c.args.texts.items ∷ [] in
     let same = ap (λ (n : ℕ). length (table_block (12 ∷ 4 ∷ 8 ∷ []) (n ∷ 0 ∷ 0 ∷ 0 ∷ []) bs)) order in
-    let size = length_message (schema_block c.args.columns.items c.args.texts.items c.args.order) in
-    told (λ e. Refuses e ⊥ _) c.from_residual.result c.in_err-schema.field-0.0 (grind arith) (refuses_more c.in_err-schema.field-0.0 ⊥ ⊥ _ _ (λ x. x) (omega (arith, same, size)) c.in_err-schema.ensures)
+    let all = schema_block c.args.columns.items c.args.texts.items c.args.order in
+    let size = length_message all in
+    told (λ r. IfErr r (λ e. Refuses e ⊥ (length (message_block all)))) c.from_residual.result c.in_err-schema.field-0.0 (grind arith) (refuses_more c.in_err-schema.field-0.0 ⊥ ⊥ _ _ (λ x. x) (omega (arith, same, size)) c.in_err-schema.ensures)

@@ -1,4 +1,4 @@
-use Rattle.std.proofs.Common.{◌∷◌, [], length, map, ap, arith}
+use Rattle.std.proofs.Common.{IfErr, ◌∷◌, [], length, map, ap, arith}
 use Rattle.arrow_values.specs.View.{texts_of}
 use Rattle.arrow_columns.specs.Column.{column_tree}
 use Rattle.arrow_ipc.specs.Schema.{schema_tree}
@@ -16,7 +16,7 @@ use Rattle.arrow_ipc.proofs.write.write_schema.Goals as goal
 pub returns-in_err-blocks-clause-err : goal.returns-in_err-blocks-clause-err
 returns-in_err-blocks-clause-err c =
     let s = schema_tree c.args.schema.now in
-    told (λ e. RefusesColumns 61 e s.columns (schema_room s)) c.from_residual.result c.in_err-blocks.field-0.0 (grind arith)
+    told (λ r. IfErr r (λ e. RefusesColumns 61 e s.columns (schema_room s))) c.from_residual.result c.in_err-blocks.field-0.0 (grind arith)
     (refused_more 61 s.columns (columns_room s.columns) (schema_room s) _ (omega arith) (rw c.as_slice.ensures.value at c.in_err-blocks.ensures.err))
 
 pub returns-in_err-columns-clause-err : goal.returns-in_err-columns-clause-err
@@ -25,7 +25,7 @@ returns-in_err-columns-clause-err c =
     let bs = map items c.in_ok-blocks.blocks.items in
     let each : HoldsEach 61 bs s.columns (columns_room s.columns) = rw c.as_slice.ensures.value at c.in_ok-blocks.ensures.each in
     let room = vector_room bs s.columns 61 (columns_room s.columns) each in
-    told (λ e. RefusesColumns 61 e s.columns (schema_room s)) c.from_residual-in_err-columns.result c.in_err-columns.field-0.0 (grind arith)
+    told (λ r. IfErr r (λ e. RefusesColumns 61 e s.columns (schema_room s))) c.from_residual-in_err-columns.result c.in_err-columns.field-0.0 (grind arith)
     (none_refused 61 s.columns (length (vector_block bs)) (schema_room s) _ (omega (arith, room)) (rw c.as_slice-2.ensures.value at c.in_err-columns.ensures))
 
 pub returns-clause-is : goal.returns-clause-is
