@@ -53,6 +53,7 @@ fn entry_at(bytes: &[u8], at: usize) -> Result<(&str, &str), Fault>
 }
 
 /// Puts an entry of metadata to those before it.
+#[tactic(auto, using(crate::proofs::Inserted::texts_inserted))]
 #[inline(never)]
 fn put_entry(
     alloc: Global,
@@ -220,6 +221,7 @@ fn finish(
 }
 
 /// Reads the column to which the offset at a position leads, and all that is below it.
+#[tactic(auto, using(crate::proofs::Told::too_deep, crate::proofs::Told::no_parts))]
 #[cycle(read)]
 fn read_column(
     alloc: Global,

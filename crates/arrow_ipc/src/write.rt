@@ -90,6 +90,7 @@ fn column_blocks(alloc: Global, columns: &[Column]) -> Result<Vec<Vec<u8>>, Writ
 }
 
 /// The stream of a schema, given the blocks of its columns and of its metadata.
+#[tactic(auto, using(crate::proofs::Tables::length_message))]
 fn stream_bytes(
     alloc: Global,
     columns: Vec<u8>,

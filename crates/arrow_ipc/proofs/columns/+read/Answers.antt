@@ -1,20 +1,13 @@
-use Rattle.std.proofs.Common.{arith, ◌≡◌, ◌+◌, ◌-◌, ◌*◌, ◌++◌, ◌∷◌, [], List, Ok, map, refl, sym, ap, ◌∙◌}
+use Rattle.std.proofs.Common.{arith, ◌≡◌, ◌+◌, ◌-◌, ◌*◌, ◌++◌, ◌∷◌, [], List, Ok, map, refl, sym, ap}
 use native.Mathlib.Numerals.{unary_clauses}
 use Rattle.std.proofs.lemmas.List.{map_push}
 use Rattle.arrow_columns.specs.Column.{ColumnTree, column_tree}
 use Rattle.arrow_ipc.specs.Parts.{Own, parts_of}
 use Rattle.arrow_ipc.specs.Columns.{put_column, columns_by, column_at, finished}
-use Rattle.arrow_ipc.specs.declared.fault.IpcError.TheVariants.{Broken, Budget}
-use Rattle.arrow_ipc.proofs.Told.{told, first_fails, then_tells, made_fails, goes_on, breaks_off, is_done, too_deep, no_parts, too_poor, with_parts}
+use Rattle.arrow_ipc.specs.declared.fault.IpcError.TheVariants.{Budget}
+use Rattle.arrow_ipc.proofs.Told.{told, first_fails, then_tells, made_fails, goes_on, breaks_off, is_done, too_poor, with_parts}
 use Rattle.arrow_ipc.proofs.columns.+read.Invariants.{columns_tree}
 use Rattle.arrow_ipc.proofs.columns.+read.Goals as goal
-
-pub read_column-returns-then-depth-eq0 : goal.read_column-returns-then-depth-eq0
-read_column-returns-then-depth-eq0 t c = too_deep c.args.bytes.now c.args.at c.args.depth c.if-depth-eq0.true ∙ grind arith
-
-pub read_column-returns-in_err-parts : goal.read_column-returns-in_err-parts
-read_column-returns-in_err-parts t c =
-    told _ _ _ _ c.from_residual.result (Broken c.in_err-parts.field-0.0) (grind arith) (no_parts c.args.bytes.now c.args.at c.args.depth (omega arith) _ (grind arith))
 
 pub read_column-returns-in_err-spend : goal.read_column-returns-in_err-spend
 read_column-returns-in_err-spend t c =

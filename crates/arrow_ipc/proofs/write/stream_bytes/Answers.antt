@@ -14,15 +14,6 @@ returns-clause-is c =
     stream_built _ _ _ _ _ _ c.in_ok-message.message.items (schema_block c.args.columns.items c.args.texts.items c.args.order) _ c.new-stream.ensures.items c.in_ok-put_word.ensures c.in_ok-put_word-2.ensures
     c.in_ok-extend_from_slice.ensures.items c.in_ok-extend_from_slice-2.ensures.items c.as_slice.ensures.value (c.in_ok-message.ensures.0 ∙ ap (λ (l : List ℕ). table_block (8 ∷ 10 ∷ 4 ∷ []) (4 ∷ 0 ∷ 1 ∷ 0 ∷ []) (l ∷ [])) block) (omega arith)
 
-pub returns-clause-small : goal.returns-clause-small
-returns-clause-small c =
-    let one = length_message c.in_ok-schema.schema.items in
-    let two = length_message (schema_block c.args.columns.items c.args.texts.items c.args.order) in
-    let order : c.match-order.order ≡ order_number c.args.order = grind (arith, common_steps) in
-    let bs = c.args.columns.items ∷ c.args.texts.items ∷ [] in
-    let block = c.in_ok-schema.ensures.0 ∙ ap (λ (n : ℕ). table_block (12 ∷ 4 ∷ 8 ∷ []) (n ∷ 0 ∷ 0 ∷ 0 ∷ []) bs) order in
-    omega (arith, one, two, ap length block, ap length c.in_ok-message.ensures.0)
-
 pub returns-in_err-schema-clause-err : goal.returns-in_err-schema-clause-err
 returns-in_err-schema-clause-err c =
     let order : c.match-order.order ≡ order_number c.args.order = grind (arith, common_steps) in
