@@ -3,7 +3,6 @@ mod Opened
 mod Ids
 mod Told
 mod Inserted
-mod Schemas
 mod TypeOf
 mod Words
 mod Levels

@@ -221,7 +221,7 @@ fn finish(
 }
 
 /// Reads the column to which the offset at a position leads, and all that is below it.
-#[tactic(auto, using(crate::proofs::Told::too_deep, crate::proofs::Told::no_parts))]
+#[tactic(auto, using(crate::proofs::Told::too_deep, crate::proofs::Told::steps))]
 #[cycle(read)]
 fn read_column(
     alloc: Global,

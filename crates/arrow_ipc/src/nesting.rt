@@ -14,6 +14,7 @@ use std::alloc::{AllocError, Global};
 use std::collections::BTreeMap;
 
 /// A column, with the blocks of the columns that its type nests.
+#[tactic(auto, using(crate::proofs::TypeTables::table_size, crate::proofs::TypeTables::no_table))]
 fn finish_block(
     alloc: Global,
     name: &str,

@@ -6,18 +6,12 @@ use Rattle.arrow_ipc.specs.Blocks.{Holds, columns_read, vector_block, order_numb
 use Rattle.arrow_ipc.specs.Rooms.{HoldsEach, columns_room, schema_room}
 use Rattle.arrow_ipc.proofs.Vectors.{items}
 use Rattle.arrow_ipc.specs.Writes.{RefusesColumns}
-use Rattle.arrow_ipc.proofs.Built.{told, none_refused, all_refused, refused_more}
+use Rattle.arrow_ipc.proofs.Built.{told, none_refused, all_refused}
 use Rattle.arrow_ipc.proofs.Made.{columns_hold}
 use Rattle.arrow_ipc.proofs.Linked.{length_table}
 use Rattle.arrow_ipc.proofs.Nestings.{vector_room}
 use Rattle.arrow_ipc.proofs.Tables.{length_message, stream_ok}
 use Rattle.arrow_ipc.proofs.write.write_schema.Goals as goal
-
-pub returns-in_err-blocks-clause-err : goal.returns-in_err-blocks-clause-err
-returns-in_err-blocks-clause-err c =
-    let s = schema_tree c.args.schema.now in
-    told (λ r. IfErr r (λ e. RefusesColumns 61 e s.columns (schema_room s))) c.from_residual.result c.in_err-blocks.field-0.0 (grind arith)
-    (refused_more 61 s.columns (columns_room s.columns) (schema_room s) _ (omega arith) (rw c.as_slice.ensures.value at c.in_err-blocks.ensures.err))
 
 pub returns-in_err-columns-clause-err : goal.returns-in_err-columns-clause-err
 returns-in_err-columns-clause-err c =
