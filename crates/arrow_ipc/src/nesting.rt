@@ -39,7 +39,7 @@ fn finish_block(
 }
 
 /// The fields that a type nests.
-#[tactic(auto, using(crate::proofs::Nestings::fields_lent, crate::proofs::Nestings::members_lent))]
+#[tactic(auto, using(crate::proofs::Nestings::fields_lent))]
 fn nested_fields<'a>(alloc: Global, data_type: &'a DataType) -> Result<Vec<&'a Field>, AllocError>
     ensures { IfOk result (λ fs. map (λ f. f.now) fs.items ≡ nested_fields (tree data_type.now)) }
 {
