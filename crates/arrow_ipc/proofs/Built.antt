@@ -34,17 +34,14 @@ gives (Ok b) block P unfit room made holds le = (subst P (sym made.0) (holds mad
 gives (Err e) block P unfit room made holds le = refuses_more e ⊥ unfit (length block) room (λ x. absurd x) le made
 
 -- an error was handed on
-pub told : {X : Type 0} (P : WriteError → Type 0) (r : Result X WriteError) (e : WriteError) → r ≡ Err e → P e → IfErr r P
-told P (Ok x) e is f = absurd (cc)
-told P (Err d) e is f = let same : e ≡ d = cc in subst P same f
+pub told : {X : Type 0} (P : Result X WriteError → Type 0) (r : Result X WriteError) (e : WriteError) → r ≡ Err e → P (Err e) → P r
+told P r e is f = subst P (sym is) f
 
 pub handed : (P : List ℕ → Type 0) (unfit other : Type 0) (n m : ℕ) (r : Result (Vec ℕ Global) WriteError) (e : WriteError) → r ≡ Err e → (unfit → other) → n ≤ m → Refuses e unfit n → Gives P other m r
-handed P unfit other n m (Ok x) e is f le h = absurd (cc)
-handed P unfit other n m (Err d) e is f le h = let same : e ≡ d = cc in subst (λ e. Refuses e other m) same (refuses_more e unfit other n m f le h)
+handed P unfit other n m r e is f le h = told (Gives P other m) r e is (refuses_more e unfit other n m f le h)
 
 pub unsound : (sound : Bool) (made : List ℕ) (n : ℕ) (r : Result (Vec ℕ Global) WriteError) (e : WriteError) → r ≡ Err e → n ≤ length made → Refuses e ⊥ n → MakesSound sound made r
-unsound sound made n (Ok x) e is le h = absurd (cc)
-unsound sound made n (Err d) e is le h = let same : e ≡ d = cc in subst (λ e. Refuses e (sound ≡ false) (length made)) same (refuses_more e ⊥ (sound ≡ false) n (length made) (λ x. absurd x) le h)
+unsound sound made n r e is le h = told (MakesSound sound made) r e is (refuses_more e ⊥ (sound ≡ false) n (length made) (λ x. absurd x) le h)
 
 pub made_sound : (r : Result (Vec ℕ Global) WriteError) (block made : List ℕ) (sound : Bool) → block ≡ made → sound ≡ true → Makes block r → MakesSound sound made r
 made_sound (Ok b) block made sound same is h = (is, (h.0 ∙ same, subst (λ l. length l < 2 ^ 31) same h.1))

@@ -3,13 +3,10 @@ mod Opened
 mod Ids
 mod Told
 mod Inserted
-mod Schemas
 mod TypeOf
 mod Words
 mod Levels
-mod Places
 mod Linked
-mod Walks
 mod Made
 mod Tables
 mod Vectors

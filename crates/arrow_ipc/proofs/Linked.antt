@@ -1,15 +1,76 @@
--- What stands in a block of linked blocks: its number, its offsets with the blocks to which they lead, its other bytes, and where it
--- is a table, its slots.
-use Rattle.std.proofs.Common.{◌≡◌, ℕ, zero, suc, ◌+◌, ◌*◌, ◌-◌, ◌^◌, ◌%◌, ◌<◌, ◌≤◌, Bool, true, false, ◌++◌, ◌∷◌, [], List, length, replicate, drop, Option, Some, None, Result, Ok, refl, sym, ap, ◌∙◌, subst, arith, append_assoc, nat_lt, ◌==◌, if◌then◌else◌}
+-- What is read at a place of a message from the bytes that stand there, and what stands in a block of linked blocks: its number, its
+-- offsets with the blocks to which they lead, its other bytes, and where it is a table, its slots.
+use Rattle.std.proofs.Common.{◌≡◌, ℕ, zero, suc, ◌+◌, ◌*◌, ◌-◌, ◌^◌, ◌%◌, ◌<◌, ◌≤◌, true, false, ◌++◌, ◌∷◌, [], List, length, take, drop, Some, Ok, refl, sym, ap, ◌∙◌, arith, slice_get, nat_lt, nat_le, ◌==◌, Bool, replicate, Option, None, Result, subst, append_assoc, if◌then◌else◌}
+use Rattle.std.specs.Int.{w16, w32, to_le_bytes, from_le_bytes}
+use Rattle.std.specs.Str.{is_utf8}
 use Rattle.std.specs.List.{concat}
-use Rattle.std.proofs.lemmas.List.{length-append, length-replicate, length-drop, drop-drop, drop_at}
+use Rattle.std.proofs.lemmas.Nat.{from_le_bytes-to_le_bytes_4}
+use Rattle.std.proofs.lemmas.List.{length-drop, drop-drop, drop_at, take_at, length-append, length-replicate}
 use Rattle.std.proofs.lemmas.Bool.Decides.{nat_tests}
 use Rattle.arrow_ipc.specs.Fault.{◌>>=◌}
-use Rattle.arrow_ipc.specs.Wire.{u16_at, ahead, opened_at, slot_of, slot_at, target_at, vector_at}
-use Rattle.arrow_ipc.specs.Blocks.{Lies, word, rounded, padded, offsets, linked, table_size, places, table_block}
+use Rattle.arrow_ipc.specs.Wire.{u8_at, u16_at, u32_at, ahead, vtable_at, target_at, text_at, utf8_at, vector_at, opened_at, slot_of, slot_at}
+use Rattle.arrow_ipc.specs.Blocks.{Lies, Holds, lengths, word, rounded, padded, offsets, linked, table_size, places, table_block}
 use Rattle.arrow_ipc.specs.declared.fault.Fault.{Fault}
-use Rattle.arrow_ipc.specs.declared.fault.Rule.TheVariants.{Vtable, Slot}
-use Rattle.arrow_ipc.proofs.Places.{is_lt, is_not_lt, is_even, u16_is, ahead_is, target_is, vtable_is, vector_is}
+use Rattle.arrow_ipc.specs.declared.fault.Rule.{Rule}
+use Rattle.arrow_ipc.specs.declared.fault.Rule.TheVariants.{Vtable, Offset, Text, Vector, Slot}
+
+pub is_even : (n : ℕ) → n ≡ 0 → (n == 0) ≡ true
+is_even n e = rw e refl
+
+pub is_some : (n : ℕ) → 0 < n → (n == 0) ≡ false
+is_some n e = grind (arith, nat_tests)
+
+pub is_lt : (m n : ℕ) → m < n → nat_lt m n ≡ true
+is_lt m n e = grind (arith, nat_tests)
+
+pub is_not_lt : (m n : ℕ) → n ≤ m → nat_lt m n ≡ false
+is_not_lt m n e = grind (arith, nat_tests)
+
+pub is_le : (m n : ℕ) → m ≤ n → nat_le m n ≡ true
+is_le m n e = grind (arith, nat_tests)
+
+byte_got : (bytes : List ℕ) (at b : ℕ) (rest : List ℕ) → drop at bytes ≡ b ∷ rest → slice_get bytes at ≡ Some b
+byte_got [] zero b rest is = absurd (cc)
+byte_got [] (suc at) b rest is = absurd (cc)
+byte_got (x ∷ xs) zero b rest is = let same : x ≡ b = cc (is) in ap (λ (n : ℕ). Some n) same
+byte_got (x ∷ xs) (suc at) b rest is = byte_got xs at b rest is
+
+module _ (bytes : List ℕ) (at : ℕ) where
+  pub u8_is : (b : ℕ) (rest : List ℕ) → drop at bytes ≡ b ∷ rest → u8_at bytes at ≡ Ok b
+  unfolding u8_at
+  u8_is b rest is = rw (byte_got bytes at b rest is) refl
+
+  pub u16_is : (a b : ℕ) (rest : List ℕ) → at % 2 ≡ 0 → drop at bytes ≡ a ∷ b ∷ rest → u16_at bytes at ≡ Ok (from_le_bytes w16 (a ∷ b ∷ []))
+  unfolding u16_at
+  u16_is a b rest even is = rw (even, is) refl
+
+  pub u32_is : (n : ℕ) (rest : List ℕ) → at % 4 ≡ 0 → n < 2 ^ 32 → drop at bytes ≡ to_le_bytes w32 n ++ rest → u32_at bytes at ≡ Ok n
+  unfolding u32_at
+  u32_is n rest even small is = rw (even, is) (ap (λ (m : ℕ). Ok m) (from_le_bytes-to_le_bytes_4 n small))
+
+  pub ahead_is : (rule : Rule) (by : ℕ) → at + by ≤ length bytes → ahead rule bytes at by ≡ Ok (at + by)
+  unfolding ahead
+  ahead_is rule by le = rw (is_le (at + by) (length bytes) le) refl
+
+  pub target_is : (n : ℕ) (rest : List ℕ) → at % 4 ≡ 0 → 0 < n → n < 2 ^ 32 → at + n ≤ length bytes → drop at bytes ≡ to_le_bytes w32 n ++ rest → target_at bytes at ≡ Ok (at + n)
+  unfolding target_at
+  target_is n rest even some small within is = rw (u32_is n rest even small is, is_some n some) (ahead_is Offset n within)
+
+  pub vtable_is : (k : ℕ) (rest : List ℕ) → at % 4 ≡ 0 → 0 < k → k ≤ 2 ^ 31 → at + k ≤ length bytes → drop at bytes ≡ to_le_bytes w32 (2 ^ 32 - k) ++ rest → vtable_at bytes at ≡ Ok (at + k)
+  unfolding vtable_at
+  vtable_is k rest even some small within is =
+      let back : 2 ^ 32 - (2 ^ 32 - k) ≡ k = omega arith in
+      rw (u32_is (2 ^ 32 - k) rest even (omega arith) is, is_not_lt (2 ^ 32 - k) (2 ^ 31) (omega arith), back) (ahead_is Vtable k within)
+
+-- a text that stands there, with a NUL behind it
+pub text_is : (bytes : List ℕ) (at : ℕ) (text rest : List ℕ) → at % 4 ≡ 0 → length text < 2 ^ 32 → is_utf8 text ≡ true → drop at bytes ≡ to_le_bytes w32 (length text) ++ (text ++ 0 ∷ rest) → utf8_at bytes at ≡ Ok text
+unfolding utf8_at text_at
+text_is bytes at text rest even small valid is =
+    let tail : drop (at + 4) bytes ≡ text ++ 0 ∷ rest = sym (drop-drop 4 at bytes) ∙ ap (drop 4) is in
+    let end : drop (at + 4 + length text) bytes ≡ 0 ∷ rest = sym (drop-drop (length text) (at + 4) bytes) ∙ ap (drop (length text)) tail ∙ drop_at text (0 ∷ rest) (length text) refl in
+    let body : take (length text) (drop (at + 4) bytes) ≡ text = ap (take (length text)) tail ∙ take_at text (0 ∷ rest) (length text) refl in
+    let left : length bytes - (at + 4 + length text) ≡ suc (length rest) = sym (length-drop (at + 4 + length text) bytes) ∙ ap length end in
+    rw (u32_is bytes at (length text) (text ++ 0 ∷ rest) even small is, ahead_is bytes at Text 4 (omega (arith, left)), ahead_is bytes (at + 4) Text (length text) (omega (arith, left)), body, end, valid) refl
 
 -- ---- lengths
 
@@ -28,6 +89,10 @@ length_padded bytes =
     let all = length-append bytes (replicate (rounded (length bytes) - length bytes) 0) in
     omega (arith, fill, all)
 
+length_concat : (bs : List (List ℕ)) → length (concat bs) ≡ lengths bs
+length_concat [] = refl
+length_concat (b ∷ bs) = length-append b (concat bs) ∙ ap (λ n. length b + n) (length_concat bs)
+
 module _ (first : ℕ) (bs : List (List ℕ)) (rest : List ℕ) where
   abbrev far : ℕ
   far = rounded (4 + (4 * length bs + length rest))
@@ -45,12 +110,13 @@ module _ (first : ℕ) (bs : List (List ℕ)) (rest : List ℕ) where
   length_front : length (padded (word first ++ (heads ++ rest))) ≡ far
   length_front = let one = length_padded (word first ++ (heads ++ rest)) in let two = length_heads in one ∙ ap rounded two
 
-  pub length_linked : length (linked first bs rest) ≡ rounded (4 + (4 * length bs + length rest)) + length (concat bs)
+  pub length_linked : length (linked first bs rest) ≡ rounded (4 + (4 * length bs + length rest)) + lengths bs
   unfolding linked
   length_linked =
       let one = length-append (padded (word first ++ (heads ++ rest))) (concat bs) in
       let two = length_front in
-      omega (arith, one, two)
+      let three = length_concat bs in
+      omega (arith, one, two, three)
 
 -- ---- what stands further on
 
@@ -82,26 +148,22 @@ abbrev pub AreWhole : List (List ℕ) → Type 0
 AreWhole [] = Unit {0}
 AreWhole (b ∷ bs) = (length b % 8 ≡ 0) × AreWhole bs
 
-pub whole_concat : (bs : List (List ℕ)) → AreWhole bs → length (concat bs) % 8 ≡ 0
-whole_concat [] all = refl
-whole_concat (b ∷ bs) all =
-    let rest = whole_concat bs all.1 in
-    let sum = length-append b (concat bs) in
-    omega (arith, rest, all.0, sum)
+pub whole_lengths : (bs : List (List ℕ)) → AreWhole bs → lengths bs % 8 ≡ 0
+whole_lengths [] all = refl
+whole_lengths (b ∷ bs) all = let rest = whole_lengths bs all.1 in omega (arith, rest, all.0)
 
 links : (bytes : List ℕ) (at : ℕ) (bs : List (List ℕ)) (near far : ℕ) (rest more : List ℕ) → drop (at + near) bytes ≡ offsets near far bs ++ rest → drop (at + far) bytes ≡ concat bs ++ more
-    → (at + near) % 4 ≡ 0 → (at + far) % 8 ≡ 0 → AreWhole bs → near + 4 * length bs ≤ far → far + length (concat bs) < 2 ^ 32 → at + far + length (concat bs) ≤ length bytes → AreLinked bytes at near bs
+    → (at + near) % 4 ≡ 0 → (at + far) % 8 ≡ 0 → AreWhole bs → near + 4 * length bs ≤ far → far + lengths bs < 2 ^ 32 → at + far + lengths bs ≤ length bytes → AreLinked bytes at near bs
 unfolding offsets
 links bytes at [] near far rest more is has fourth whole all room small within = tt
 links bytes at (b ∷ bs) near far rest more is has fourth whole all room small within =
     let left = offsets (near + 4) (far + length b) bs ++ rest in
     let here : drop (at + near) bytes ≡ word (far - near) ++ left = is ∙ append_assoc (word (far - near)) (offsets (near + 4) (far + length b) bs) rest in
     let there : drop (at + far) bytes ≡ b ++ (concat bs ++ more) = has ∙ append_assoc b (concat bs) more in
-    let sum : length (b ++ concat bs) ≡ length b + length (concat bs) = length-append b (concat bs) in
     let place : at + near + (far - near) ≡ at + far = omega (arith, room) in
     let led : target_at bytes (at + near) ≡ Ok (at + far) = target_is bytes (at + near) (far - near) left fourth (omega (arith, room)) (omega (arith, small)) (omega (arith, place, within)) here ∙ ap (λ (p : ℕ). Ok p) place in
     let next = links bytes at bs (near + 4) (far + length b) rest more (further bytes (at + near) (word (far - near)) left (at + (near + 4)) here (omega arith))
-    (further bytes (at + far) b (concat bs ++ more) (at + (far + length b)) there (omega arith)) (omega (arith, fourth)) (omega (arith, whole, all.0)) all.1 (omega (arith, room)) (omega (arith, small, sum)) (omega (arith, within, sum)) in
+    (further bytes (at + far) b (concat bs ++ more) (at + (far + length b)) there (omega arith)) (omega (arith, fourth)) (omega (arith, whole, all.0)) all.1 (omega (arith, room)) (omega (arith, small)) (omega (arith, within)) in
     (record { to = at + far; led = led; lies = record { after = concat bs ++ more; is = there; whole = whole } }, next)
 
 regroup : (w o r f c a : List ℕ) → (((w ++ (o ++ r)) ++ f) ++ c) ++ a ≡ w ++ (o ++ (r ++ (f ++ (c ++ a))))
@@ -138,12 +200,17 @@ module _ (bytes : List ℕ) (at first : ℕ) (bs : List (List ℕ)) (rest : List
       links bytes at bs 4 (far first bs rest) (rest ++ tail) lies.after (further bytes at (word first) (heads first bs rest ++ (rest ++ tail)) (at + 4) flat refl) bodies
       (omega (arith, whole)) (omega (arith, whole)) all (omega arith) (omega (arith, small, size)) (omega (arith, within, size))
 
-  pub is_vector : first ≡ length bs → length (linked first bs rest) < 2 ^ 32 → vector_at bytes at ≡ Ok (at + 4, length bs)
-  is_vector same small =
+  pub is_vector : 4 * first ≤ 4 * length bs + length rest → length (linked first bs rest) < 2 ^ 32 → vector_at bytes at ≡ Ok (at + 4, first)
+  unfolding vector_at
+  is_vector many small =
       let size = length_linked first bs rest in
       let within = lies_within in
       let whole = lies.whole in
-      subst (λ n. vector_at bytes at ≡ Ok (at + 4, n)) same (vector_is bytes at first (heads first bs rest ++ (rest ++ tail)) (omega (arith, whole)) (omega (arith, same, small, size)) (omega (arith, same, within, size)) flat)
+      rw (
+        u32_is bytes at first _ (omega (arith, whole)) (omega (arith, many, small, size)) flat,
+        ahead_is bytes at Vector 4 (omega (arith, within, size)),
+        ahead_is bytes (at + 4) Vector (4 * first) (omega (arith, many, within, size)),
+      ) refl
 
 -- ---- the slots of a table
 
@@ -168,7 +235,7 @@ chosen : (b : Bool) (x : Option ℕ) → ◌≡◌ {A = Result (Option ℕ) Faul
 chosen true x = refl
 chosen false x = refl
 
-below : (n m : ℕ) → nat_lt n m ≡ true → n < m
+pub below : (n m : ℕ) → nat_lt n m ≡ true → n < m
 below n m is = grind (arith, nat_tests)
 
 above : (n m : ℕ) → nat_lt n m ≡ false → m ≤ n
@@ -188,8 +255,11 @@ module _ (bytes : List ℕ) (at size : ℕ) (within : at + size ≤ length bytes
       let next = found ss i (entry + 2) rest (by_place bytes entry (places (s ∷ ss) ++ rest) 2 is) (omega (arith, even)) all.1 (omega arith) in
       subst (λ n. (u16_at bytes n >>= led) ≡ Ok (slot_place at ss i)) (omega arith) next
 
-module _ (bytes : List ℕ) (at : ℕ) (slots numbers : List ℕ) (bs : List (List ℕ)) (lies : Lies (table_block slots numbers bs) bytes at)
-    (fourth : length numbers % 4 ≡ 0) (few : table_size bs numbers ≤ 2 ^ 31) (all : AreWithin (table_size bs numbers) slots) where
+length_places : (ss : List ℕ) → length (places ss) ≡ 2 * length ss
+length_places [] = refl
+length_places (s ∷ ss) = let rest = length_places ss in omega (arith, rest)
+
+module _ (slots numbers : List ℕ) (bs : List (List ℕ)) where
   abbrev size : ℕ
   size = table_size bs numbers
 
@@ -199,57 +269,88 @@ module _ (bytes : List ℕ) (at : ℕ) (slots numbers : List ℕ) (bs : List (Li
   abbrev vtable : List ℕ
   vtable = (4 + 2 * length slots) ∷ 0 ∷ size ∷ 0 ∷ places slots
 
-  abbrev behind : List ℕ
-  behind = tail bytes at first bs (numbers ++ vtable) lies
-
-  length_places : (ss : List ℕ) → length (places ss) ≡ 2 * length ss
-  length_places [] = refl
-  length_places (s ∷ ss) = let rest = length_places ss in omega (arith, rest)
-
-  ends_at : at + size + (4 + 2 * length slots) ≤ length bytes
-  ends_at =
-      let within = lies_within bytes at first bs (numbers ++ vtable) lies in
+  pub length_table : length (table_block slots numbers bs) ≡ rounded (table_size bs numbers + (4 + 2 * length slots)) + lengths bs
+  length_table =
       let long = length_linked first bs (numbers ++ vtable) in
       let sum = length-append numbers vtable in
       let many = length_places slots in
-      omega (arith, within, long, sum, many)
+      omega (arith, long, sum, many)
 
-  vtable_at_size : drop (at + size) bytes ≡ vtable ++ behind
-  vtable_at_size =
-      let o = offsets 4 (rounded (4 + (4 * length bs + length (numbers ++ vtable)))) bs in
-      let long = length_offsets 4 (rounded (4 + (4 * length bs + length (numbers ++ vtable)))) bs in
-      let is : drop at bytes ≡ word first ++ (o ++ (numbers ++ (vtable ++ behind))) = flat bytes at first bs (numbers ++ vtable) lies ∙ ap (λ l. word first ++ (o ++ l)) (append_assoc numbers vtable behind) in
-      let one = further bytes at (word first) (o ++ (numbers ++ (vtable ++ behind))) (at + 4) is refl in
-      let two = further bytes (at + 4) o (numbers ++ (vtable ++ behind)) (at + 4 + 4 * length bs) one (omega (arith, long)) in
-      further bytes (at + 4 + 4 * length bs) numbers (vtable ++ behind) (at + size) two (omega arith)
+  pub whole_table : AreWhole bs → length (table_block slots numbers bs) % 8 ≡ 0
+  whole_table all = let long = length_table in let whole = whole_lengths bs all in omega (arith, long, whole)
 
-  opened : opened_at bytes at ≡ Ok (record { at = at; vtable = at + size; size = 4 + 2 * length slots })
-  unfolding opened_at
-  opened =
-      let whole = lies.whole in
-      let ended = ends_at in
-      let even : ((4 + 2 * length slots) % 2 == 0) ≡ true = is_even ((4 + 2 * length slots) % 2) (omega arith) in
-      rw (
-        vtable_is bytes at size _ (omega (arith, whole)) (omega arith) few (omega (arith, ended)) (flat bytes at first bs (numbers ++ vtable) lies),
-        low bytes (at + size) (4 + 2 * length slots) _ (omega (arith, whole, fourth)) vtable_at_size,
-        ahead_is bytes (at + size) Vtable (4 + 2 * length slots) ended,
-        even,
-      ) refl
+  module _ (bytes : List ℕ) (at : ℕ) (lies : Lies (table_block slots numbers bs) bytes at) where
+    abbrev behind : List ℕ
+    behind = tail bytes at first bs (numbers ++ vtable) lies
 
-  by_test : (i : ℕ) (b : Bool) → nat_lt i (length slots) ≡ b → slot_at bytes at i ≡ Ok (slot_place at slots i)
-  unfolding slot_at slot_of
-  by_test i true is =
-      let lt = below i (length slots) is in
-      let ended = ends_at in
-      let whole = lies.whole in
-      let got = found bytes at size (omega (arith, ended)) slots i (at + size + 4) behind (by_place bytes (at + size) (vtable ++ behind) 4 vtable_at_size) (omega (arith, whole, fourth)) all lt in
-      let place : at + size + 4 + 2 * i ≡ at + size + (4 + 2 * i) = omega arith in
-      rw (opened, is_not_lt (4 + 2 * length slots) (6 + 2 * i) (omega (arith, lt)), ahead_is bytes (at + size) Vtable (4 + 2 * i) (omega (arith, ended, lt)))
-      (subst (λ n. (u16_at bytes n >>= led bytes at size (omega (arith, ended))) ≡ Ok (slot_place at slots i)) place got)
-  by_test i false is =
-      let le = above i (length slots) is in
-      rw (opened, is_lt (4 + 2 * length slots) (6 + 2 * i) (omega (arith, le)), past at slots i le) refl
+    ends_at : at + size + (4 + 2 * length slots) ≤ length bytes
+    ends_at = let within = lies_within bytes at first bs (numbers ++ vtable) lies in let long = length_table in omega (arith, within, long)
 
-  -- a slot is where the table says
-  pub slot_is : (i : ℕ) → slot_at bytes at i ≡ Ok (slot_place at slots i)
-  slot_is i = by_test i (nat_lt i (length slots)) refl
+    numbers_at : drop (at + (4 + 4 * length bs)) bytes ≡ numbers ++ (vtable ++ behind)
+    numbers_at =
+        let o = offsets 4 (rounded (4 + (4 * length bs + length (numbers ++ vtable)))) bs in
+        let long = length_offsets 4 (rounded (4 + (4 * length bs + length (numbers ++ vtable)))) bs in
+        let is : drop at bytes ≡ word first ++ (o ++ (numbers ++ (vtable ++ behind))) = flat bytes at first bs (numbers ++ vtable) lies ∙ ap (λ l. word first ++ (o ++ l)) (append_assoc numbers vtable behind) in
+        let one = further bytes at (word first) (o ++ (numbers ++ (vtable ++ behind))) (at + 4) is refl in
+        further bytes (at + 4) o (numbers ++ (vtable ++ behind)) (at + (4 + 4 * length bs)) one (omega (arith, long))
+
+    vtable_at_size : drop (at + size) bytes ≡ vtable ++ behind
+    vtable_at_size = further bytes (at + (4 + 4 * length bs)) numbers (vtable ++ behind) (at + size) numbers_at (omega arith)
+
+    module _ (fourth : length numbers % 4 ≡ 0) (few : size ≤ 2 ^ 31) (all : AreWithin size slots) where
+      opened : opened_at bytes at ≡ Ok (record { at = at; vtable = at + size; size = 4 + 2 * length slots })
+      unfolding opened_at
+      opened =
+          let whole = lies.whole in
+          let ended = ends_at in
+          let even : ((4 + 2 * length slots) % 2 == 0) ≡ true = is_even ((4 + 2 * length slots) % 2) (omega arith) in
+          rw (
+            vtable_is bytes at size _ (omega (arith, whole)) (omega arith) few (omega (arith, ended)) (flat bytes at first bs (numbers ++ vtable) lies),
+            low bytes (at + size) (4 + 2 * length slots) _ (omega (arith, whole, fourth)) vtable_at_size,
+            ahead_is bytes (at + size) Vtable (4 + 2 * length slots) ended,
+            even,
+          ) refl
+
+      by_test : (i : ℕ) (b : Bool) → nat_lt i (length slots) ≡ b → slot_at bytes at i ≡ Ok (slot_place at slots i)
+      unfolding slot_at slot_of
+      by_test i true is =
+          let lt = below i (length slots) is in
+          let ended = ends_at in
+          let whole = lies.whole in
+          let got = found bytes at size (omega (arith, ended)) slots i (at + size + 4) behind (by_place bytes (at + size) (vtable ++ behind) 4 vtable_at_size) (omega (arith, whole, fourth)) all lt in
+          let place : at + size + 4 + 2 * i ≡ at + size + (4 + 2 * i) = omega arith in
+          rw (opened, is_not_lt (4 + 2 * length slots) (6 + 2 * i) (omega (arith, lt)), ahead_is bytes (at + size) Vtable (4 + 2 * i) (omega (arith, ended, lt)))
+          (subst (λ n. (u16_at bytes n >>= led bytes at size (omega (arith, ended))) ≡ Ok (slot_place at slots i)) place got)
+      by_test i false is =
+          let le = above i (length slots) is in
+          rw (opened, is_lt (4 + 2 * length slots) (6 + 2 * i) (omega (arith, le)), past at slots i le) refl
+
+-- what is read of a table: its slots, where its offsets lead, and its numbers
+pub record Stands (slots numbers : List ℕ) (bs : List (List ℕ)) (bytes : List ℕ) (at : ℕ) : Type 0 where
+  pub whole : at % 8 ≡ 0
+  pub slot : (i : ℕ) → slot_at bytes at i ≡ Ok (slot_place at slots i)
+  pub links : AreLinked bytes at 4 bs
+  pub more : List ℕ
+  pub number : (k : ℕ) → drop (at + (4 + 4 * length bs + k)) bytes ≡ drop k (numbers ++ more)
+
+module _ (slots numbers : List ℕ) (bs : List (List ℕ)) (fourth : length numbers % 4 ≡ 0) (few : table_size bs numbers ≤ 2 ^ 31) (within : AreWithin (table_size bs numbers) slots)
+    (wholes : AreWhole bs) (small : length (table_block slots numbers bs) < 2 ^ 32) where
+  pub stands : (bytes : List ℕ) (at : ℕ) → Lies (table_block slots numbers bs) bytes at → Stands slots numbers bs bytes at
+  stands bytes at lies =
+      let all = numbers ++ (vtable slots numbers bs ++ behind slots numbers bs bytes at lies) in
+      record {
+        whole = lies.whole;
+        slot = λ i. by_test slots numbers bs bytes at lies fourth few within i (nat_lt i (length slots)) refl;
+        links = are_linked bytes at (first slots numbers bs) bs (numbers ++ vtable slots numbers bs) lies wholes small;
+        more = vtable slots numbers bs ++ behind slots numbers bs bytes at lies;
+        number = λ k. subst (λ n. drop n bytes ≡ drop k all) (omega arith) (by_place bytes (at + (4 + 4 * length bs)) all k (numbers_at slots numbers bs bytes at lies));
+      }
+
+  -- a table holds what is read of it wherever it stands
+  pub table_holds : {A : Type 0} (read : List ℕ → ℕ → Result (A × ℕ) Fault) (a : A)
+      → ((bytes : List ℕ) (at : ℕ) → Stands slots numbers bs bytes at → (n : ℕ) × (n ≤ table_size bs numbers + (4 + 2 * length slots) + lengths bs) × (read bytes at ≡ Ok (a, n)))
+      → Holds read (table_block slots numbers bs) a
+  table_holds read a reads = record {
+    whole = whole_table slots numbers bs wholes;
+    reads = λ bytes at lies. let got = reads bytes at (stands bytes at lies) in let long = length_table slots numbers bs in (got.0, omega (arith, got.1, long), got.2);
+  }

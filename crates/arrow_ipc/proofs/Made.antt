@@ -1,9 +1,9 @@
--- Blocks that are made one after the other, and the vectors of metadata and of columns.
-use Rattle.std.proofs.Common.{◌≡◌, ℕ, zero, suc, ◌+◌, ◌*◌, ◌^◌, ◌<◌, ◌≤◌, ◌++◌, ◌∷◌, [], List, length, String, Global, string_bytes, string_cmp, Ordering, Less, Greater, Ok, refl, sym, ap, ◌∙◌, subst, arith, append_assoc, append-nil}
+-- Blocks that are made one after the other, the walk along a vector of tables, and the vectors of metadata and of columns.
+use Rattle.std.proofs.Common.{◌≡◌, ℕ, zero, suc, ◌+◌, ◌*◌, ◌^◌, ◌<◌, ◌≤◌, ◌++◌, ◌∷◌, [], List, length, String, Global, string_bytes, string_cmp, Ordering, Less, Greater, Ok, refl, sym, ap, ◌∙◌, subst, arith, append_assoc, append-nil, Result}
 use Rattle.std.proofs.lemmas.List.{length-append, map-append}
 use Rattle.std.specs.Ordering.{ordering_reverse, match_ordering}
 use Rattle.std.specs.Cmp.{IsTotalOrder}
-use Rattle.std.specs.List.{concat, AllZip, AllByRecursion}
+use Rattle.std.specs.List.{AllZip, AllByRecursion}
 use Rattle.std.specs.List.Sorted.{IsStrictlySortedBy}
 use Rattle.std.specs.Map.{keys_of}
 use Rattle.std.specs.BTreeMap.{insert_entry}
@@ -12,14 +12,16 @@ use Rattle.arrow_values.specs.Tree.{Text, Metadata}
 use Rattle.arrow_values.specs.View.{texts_of}
 use Rattle.arrow_values.specs.Texts.{put_text}
 use Rattle.arrow_columns.specs.Column.{ColumnTree}
-use Rattle.arrow_ipc.specs.Wire.{target_at}
+use Rattle.arrow_ipc.specs.Wire.{target_at, vector_at}
 use Rattle.arrow_ipc.specs.Columns.{entry_in, entry_at, entry_price, put_next, texts_at, put_column, columns_by, column_at}
-use Rattle.arrow_ipc.specs.Blocks.{Holds, rounded, vector_block, entry_read, texts_read, columns_read, child_in}
+use Rattle.arrow_ipc.specs.Blocks.{Holds, lengths, rounded, vector_block, entry_read, texts_read, columns_read, child_in}
+use Rattle.arrow_ipc.specs.Fault.{◌>>=◌}
+use Rattle.arrow_ipc.specs.Tells.{gather}
+use Rattle.arrow_ipc.specs.declared.fault.Fault.{Fault}
 use Rattle.arrow_ipc.proofs.Told.{bound}
 use Rattle.arrow_ipc.proofs.Inserted.{texts_inserted}
 use Rattle.arrow_ipc.proofs.Tables.{column_by_table}
-use Rattle.arrow_ipc.proofs.Linked.{length_linked}
-use Rattle.arrow_ipc.proofs.Walks.{joined, vector_holds}
+use Rattle.arrow_ipc.proofs.Linked.{length_linked, AreLinked, AreWhole, whole_lengths, are_linked, is_vector}
 
 -- ---- one block after the other
 
@@ -29,26 +31,22 @@ zip_push P [] (y ∷ ys) b x all one = absurd all
 zip_push P (c ∷ cs) [] b x all one = absurd all
 zip_push P (c ∷ cs) (y ∷ ys) b x all one = (all.0, zip_push P cs ys b x all.1 one)
 
-pub length_concat_push : (bs : List (List ℕ)) (b : List ℕ) → length (concat (bs ++ b ∷ [])) ≡ length (concat bs) + length b
-length_concat_push [] b = let e = length-append b [] in let n : length {A = ℕ} [] ≡ 0 = refl in omega (arith, e, n)
-length_concat_push (c ∷ cs) b =
-    let rest = length_concat_push cs b in
-    let one = length-append c (concat (cs ++ b ∷ [])) in
-    let two = length-append c (concat cs) in
-    omega (arith, rest, one, two)
+lengths_push : (bs : List (List ℕ)) (b : List ℕ) → lengths (bs ++ b ∷ []) ≡ lengths bs + length b
+lengths_push [] b = omega arith
+lengths_push (c ∷ cs) b = let rest = lengths_push cs b in omega (arith, rest)
 
 -- the blocks of those that come before the ones left, which have room
 pub record Made {A : Type 0} (P : List ℕ → A → Type 0) (rooms : List A → ℕ) (blocks : List (List ℕ)) (left all : List A) : Type 0 where
   pub done : List A
   pub parts : done ++ left ≡ all
   pub each : AllZip P blocks done
-  pub fits : length (concat blocks) + 4 * length blocks + rooms left ≤ rooms all
+  pub fits : lengths blocks + 4 * length blocks + rooms left ≤ rooms all
 
 module _ {A : Type 0} (P : List ℕ → A → Type 0) (rooms : List A → ℕ) where
   pub made_more : (blocks : List (List ℕ)) (b : List ℕ) (x : A) (left all : List A) → Made P rooms blocks (x ∷ left) all → P b x → 4 + length b + rooms left ≤ rooms (x ∷ left)
       → Made P rooms (blocks ++ b ∷ []) left all
   made_more blocks b x left all m one room =
-      let sum = length_concat_push blocks b in
+      let sum = lengths_push blocks b in
       let many : length (blocks ++ b ∷ []) ≡ length blocks + 1 = length-append blocks (b ∷ []) in
       let before = m.fits in
       record {
@@ -61,8 +59,53 @@ module _ {A : Type 0} (P : List ℕ → A → Type 0) (rooms : List A → ℕ) w
   pub made_all : (blocks : List (List ℕ)) (all : List A) → Made P rooms blocks [] all → AllZip P blocks all
   made_all blocks all m = subst (λ xs. AllZip P blocks xs) (sym (append-nil m.done) ∙ m.parts) m.each
 
-pub length_vector : (bs : List (List ℕ)) → length (vector_block bs) ≡ rounded (4 + 4 * length bs) + length (concat bs)
+pub length_vector : (bs : List (List ℕ)) → length (vector_block bs) ≡ rounded (4 + 4 * length bs) + lengths bs
 length_vector bs = let size = length_linked (length bs) bs [] in omega (arith, size)
+
+-- ---- the walk along a vector of tables
+
+-- what is joined from a list, one after the other
+abbrev pub joined : {S E : Type 0} → (S → E → S) → S → List E → S
+joined join s [] = s
+joined join s (x ∷ xs) = joined join (join s x) xs
+
+module _ {S E : Type 0} (read : List ℕ → ℕ → Result (E × ℕ) Fault) (join : S → E → S) where
+  are_whole : (bs : List (List ℕ)) (xs : List E) → AllZip (Holds read) bs xs → AreWhole bs
+  are_whole [] xs h = tt
+  are_whole (b ∷ bs) [] h = absurd h
+  are_whole (b ∷ bs) (x ∷ xs) h = (h.0.whole, are_whole bs xs h.1)
+
+  module _ (bytes : List ℕ) (at start : ℕ) (put : S → ℕ → Result (S × ℕ) Fault)
+      (step : (s : S) (i t : ℕ) (v : E × ℕ) → target_at bytes (start + 4 * i) ≡ Ok t → read bytes t ≡ Ok v → put s i ≡ Ok (join s v.0, v.1)) where
+    walked : (bs : List (List ℕ)) (xs : List E) → AllZip (Holds read) bs xs → (s : S) (i near : ℕ) → AreLinked bytes at near bs → at + near ≡ start + 4 * i
+        → (n : ℕ) × (n ≤ lengths bs) × (gather put s i (length bs) ≡ Ok (joined join s xs, n))
+    unfolding gather
+    walked [] [] h s i near l place = (0, omega arith, refl)
+    walked [] (x ∷ xs) h s i near l place = absurd h
+    walked (b ∷ bs) [] h s i near l place = absurd h
+    walked (b ∷ bs) (x ∷ xs) h s i near l place =
+        let one = h.0.reads bytes l.0.to l.0.lies in
+        let led : target_at bytes (start + 4 * i) ≡ Ok l.0.to = subst (λ p. target_at bytes p ≡ Ok l.0.to) place l.0.led in
+        let first : put s i ≡ Ok (join s x, one.0) = step s i l.0.to (x, one.0) led one.2 in
+        let next = walked bs xs h.1 (join s x) (i + 1) (near + 4) l.1 (omega (arith, place)) in
+        (one.0 + next.0, omega (arith, one.1, next.1), rw (first, next.2) refl)
+
+  -- the whole vector
+  pub vector_holds : (put : List ℕ → ℕ → S → ℕ → Result (S × ℕ) Fault) (s : S)
+      → ((bytes : List ℕ) (start : ℕ) (s : S) (i t : ℕ) (v : E × ℕ) → target_at bytes (start + 4 * i) ≡ Ok t → read bytes t ≡ Ok v → put bytes start s i ≡ Ok (join s v.0, v.1))
+      → (bs : List (List ℕ)) (xs : List E) → AllZip (Holds read) bs xs → length (vector_block bs) < 2 ^ 32
+      → Holds (λ bytes at. vector_at bytes at >>= λ v. gather (put bytes v.0) s 0 v.1) (vector_block bs) (joined join s xs)
+  vector_holds put s step bs xs all small =
+      let size = length_linked (length bs) bs [] in
+      let wholes = are_whole bs xs all in
+      let whole = whole_lengths bs wholes in
+      record {
+        whole = omega (arith, size, whole);
+        reads = λ bytes at lies.
+            let counted : vector_at bytes at ≡ Ok (at + 4, length bs) = is_vector bytes at (length bs) bs [] lies (omega arith) small in
+            let got = walked bytes at (at + 4) (put bytes (at + 4)) (step bytes (at + 4)) bs xs all s 0 4 (are_linked bytes at (length bs) bs [] lies wholes small) (omega arith) in
+            (got.0, omega (arith, got.1, size), rw counted got.2);
+      }
 
 -- ---- metadata
 

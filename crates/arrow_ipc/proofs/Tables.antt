@@ -8,7 +8,7 @@ use Rattle.arrow_columns.specs.Column.{TypeTree, ColumnTree}
 use Rattle.arrow_ipc.specs.Wire.{utf8_at, u8_at, slot_at, target_at, vector_at, u16_at, u32_at}
 use Rattle.arrow_ipc.specs.Slots.{table_in, u8_in, flag_in, text_in, vector_in, u16_in}
 use Rattle.arrow_ipc.specs.Columns.{entry_in, texts_at, ids_at, ids_of_kind, counted, typed, finished, columns_by, column_at}
-use Rattle.arrow_ipc.specs.Blocks.{Holds, word, rounded, offsets, text_block, text_read, entry_block, entry_read, IsType, places, flag, table_block, column_block, column_in, columns_read, texts_read, Lies, order_number, schema_block, message_block, stream_block}
+use Rattle.arrow_ipc.specs.Blocks.{Holds, word, rounded, offsets, text_block, text_read, entry_block, entry_read, IsType, flag, table_block, column_block, column_in, columns_read, texts_read, order_number, schema_block, message_block, stream_block}
 use Rattle.arrow_ipc.specs.Fault.{◌>>=◌}
 use Rattle.arrow_ipc.specs.Parts.{Own, tag_in, zone_in, index_in, ids_in, parts_in, parts_at}
 use Rattle.arrow_ipc.specs.Kinds.{kind_at}
@@ -21,8 +21,7 @@ use Rattle.arrow_ipc.specs.declared.schema.Endianness.{Endianness}
 use Rattle.arrow_ipc.specs.declared.schema.Endianness.TheVariants.{Little, Big}
 use Rattle.arrow_ipc.specs.declared.write.WriteError.{WriteError}
 use Rattle.arrow_ipc.proofs.Told.{bound}
-use Rattle.arrow_ipc.proofs.Places.{text_is, is_some, is_le, u8_is, u32_is, target_is, is_lt}
-use Rattle.arrow_ipc.proofs.Linked.{length_linked, flat, tail, are_linked, slot_is, by_place, slot_place, low}
+use Rattle.arrow_ipc.proofs.Linked.{text_is, is_some, is_le, u8_is, u32_is, target_is, is_lt, length_linked, flat, tail, slot_place, low, length_table, stands, table_holds}
 
 pub length_text : (text : Text) → length (text_block text) ≡ rounded (5 + length text)
 length_text text =
@@ -51,30 +50,16 @@ is_text bytes at text n is =
     let same : t.0 ≡ text = ap (λ (p : Text × ℕ). p.0) pair in
     (t.1 ∙ ap (λ (t : Text). Ok t) same, sym (ap (λ (p : Text × ℕ). p.1) pair) ∙ ap length same)
 
-pub length_entry : (kb tb : List ℕ) → length (entry_block kb tb) ≡ 24 + (length kb + length tb)
-length_entry kb tb =
-    let size = length_linked (2 ^ 32 - 12) (kb ∷ tb ∷ []) (8 ∷ 0 ∷ 12 ∷ 0 ∷ 4 ∷ 0 ∷ 8 ∷ 0 ∷ []) in
-    let one = length-append kb (tb ++ []) in
-    let two = length-append tb [] in
-    omega (arith, size, one, two)
-
 pub entry_holds : (kb tb : List ℕ) (key text : Text) → Holds text_read kb key → Holds text_read tb text → length (entry_block kb tb) < 2 ^ 32 → Holds entry_read (entry_block kb tb) (key, text)
 unfolding entry_in table_in
 entry_holds kb tb key text hk ht small =
-    let wk = hk.whole in
-    let wt = ht.whole in
-    let size = length_entry kb tb in
-    record {
-      whole = omega (arith, size, wk, wt);
-      reads = λ bytes at lies.
-          let slot = slot_is bytes at (4 ∷ 8 ∷ []) [] (kb ∷ tb ∷ []) lies refl (omega arith) (omega arith, (omega arith, tt)) in
-          let l = are_linked bytes at (2 ^ 32 - 12) (kb ∷ tb ∷ []) (8 ∷ 0 ∷ 12 ∷ 0 ∷ 4 ∷ 0 ∷ 8 ∷ 0 ∷ []) lies (wk, (wt, tt)) small in
-          let k = hk.reads bytes l.0.to l.0.lies in
-          let t = ht.reads bytes l.1.0.to l.1.0.lies in
-          let key_is = is_text bytes l.0.to key k.0 k.2 in
-          let text_is = is_text bytes l.1.0.to text t.0 t.2 in
-          (8 + length key + length text, omega (arith, size, k.1, t.1, key_is.1, text_is.1), rw (slot 0, l.0.led, key_is.0, slot 1, l.1.0.led, text_is.0) refl);
-    }
+    table_holds (4 ∷ 8 ∷ []) [] (kb ∷ tb ∷ []) refl (omega arith) (omega arith, (omega arith, tt)) (hk.whole, (ht.whole, tt)) small entry_read (key, text) (λ bytes at s.
+    let l = s.links in
+    let k = hk.reads bytes l.0.to l.0.lies in
+    let t = ht.reads bytes l.1.0.to l.1.0.lies in
+    let key_is = is_text bytes l.0.to key k.0 k.2 in
+    let text_is = is_text bytes l.1.0.to text t.0 t.2 in
+    (8 + length key + length text, omega (arith, k.1, t.1, key_is.1, text_is.1), rw (s.slot 0, l.0.led, key_is.0, s.slot 1, l.1.0.led, text_is.0) refl))
 
 -- ---- a column's block: its own table, then its name, its type, its children and its metadata
 
@@ -98,20 +83,11 @@ is_column : (depth : ℕ) (bytes : List ℕ) (table : ℕ) (p : Own) (cs : List 
 unfolding column_in finished
 is_column depth bytes table p cs t ms k l parts zone children type texts = rw (parts, children, type, texts) refl
 
-pub length_column : (nb tb cb mb : List ℕ) (nullable : Bool) (tag : ℕ) → length (column_block nb tb cb mb nullable tag) ≡ 48 + (length nb + (length tb + (length cb + length mb)))
-length_column nb tb cb mb nullable tag =
-    let size = length_linked (2 ^ 32 - 24) (nb ∷ tb ∷ cb ∷ mb ∷ []) (flag nullable ∷ tag ∷ 0 ∷ 0 ∷ 18 ∷ 0 ∷ 24 ∷ 0 ∷ places (4 ∷ 20 ∷ 21 ∷ 8 ∷ 0 ∷ 12 ∷ 16 ∷ [])) in
-    let one = length-append nb (tb ++ (cb ++ (mb ++ []))) in
-    let two = length-append tb (cb ++ (mb ++ [])) in
-    let three = length-append cb (mb ++ []) in
-    let four = length-append mb [] in
-    omega (arith, size, one, two, three, four)
-
 flag_is : (b : Bool) → (if flag b == 0 then false else true) ≡ b
 flag_is true = refl
 flag_is false = refl
 
-abbrev slots : List ℕ
+abbrev pub slots : List ℕ
 slots = 4 ∷ 20 ∷ 21 ∷ 8 ∷ 0 ∷ 12 ∷ 16 ∷ []
 
 parts_are : (bytes : List ℕ) (at : ℕ) (nullable : Bool) (tag a b c d : ℕ) (name : Text) (first : Option ℕ) (kind : Kind) (ids : Option (ℕ × ℕ)) (cv mv : ℕ × ℕ)
@@ -126,35 +102,22 @@ parts_are bytes at nullable tag a b c d name first kind ids cv mv slot to_name n
 pub column_holds : (levels : ℕ) (nb tb cb mb : List ℕ) (nullable : Bool) (tag : ℕ) (name : Text) (cs : List ColumnTree) (t : TypeTree) (ms : Metadata)
     → Holds text_read nb name → IsType tag tb cs t → Holds (columns_read levels) cb cs → Holds texts_read mb ms → length (column_block nb tb cb mb nullable tag) < 2 ^ 32
     → Holds (column_in levels) (column_block nb tb cb mb nullable tag) (record { name = name; data_type = t; nullable = nullable; metadata = ms })
-unfolding offsets
 column_holds levels nb tb cb mb nullable tag name cs t ms named typing children texts small =
-    let bs = nb ∷ tb ∷ cb ∷ mb ∷ [] in
-    let numbers : List ℕ = flag nullable ∷ tag ∷ 0 ∷ 0 ∷ [] in
-    let rest : List ℕ = flag nullable ∷ tag ∷ 0 ∷ 0 ∷ 18 ∷ 0 ∷ 24 ∷ 0 ∷ places slots in
-    let size = length_column nb tb cb mb nullable tag in
-    let wn = named.whole in
-    let wt = typing.whole in
-    let wc = children.whole in
-    let wm = texts.whole in
-    record {
-      whole = omega (arith, size, wn, wt, wc, wm);
-      reads = λ bytes at lies.
-          let slot = slot_is bytes at slots numbers bs lies refl (omega arith) (omega arith, (omega arith, (omega arith, (omega arith, (omega arith, (omega arith, (omega arith, tt))))))) in
-          let l = are_linked bytes at (2 ^ 32 - 24) bs rest lies (wn, (wt, (wc, (wm, tt)))) small in
-          let is = flat bytes at (2 ^ 32 - 24) bs rest lies in
-          let first : u8_at bytes (at + 20) ≡ Ok (flag nullable) = u8_is bytes (at + 20) (flag nullable) _ (by_place bytes at _ 20 is) in
-          let second : u8_at bytes (at + 21) ≡ Ok tag = u8_is bytes (at + 21) tag _ (by_place bytes at _ 21 is) in
-          let n = named.reads bytes l.0.to l.0.lies in
-          let r = typing.reads bytes l.1.0.to l.1.0.lies in
-          let c = children.reads bytes l.1.1.0.to l.1.1.0.lies in
-          let m = texts.reads bytes l.1.1.1.0.to l.1.1.1.0.lies in
-          let nv = is_text bytes l.0.to name n.0 n.2 in
-          let cv = bound (vector_at bytes l.1.1.0.to) (columns_by (column_at levels bytes)) (cs, c.0) c.2 in
-          let mv = bound (vector_at bytes l.1.1.1.0.to) (texts_at bytes) (ms, m.0) m.2 in
-          let p : Own = record { table = at; name = name; nullable = nullable; kind = r.kind; zone = []; index = None; children = cv.0; ids = r.ids; texts = mv.0 } in
-          let parted = parts_are bytes at nullable tag _ _ _ _ name r.first r.kind r.ids cv.0 mv.0 slot l.0.led nv.0 first second typing.some typing.least l.1.0.led r.is_first r.is_kind r.no_zone r.is_ids l.1.1.0.led cv.1 l.1.1.1.0.led mv.1 in
-          (16 + length name + 0 + (c.0 + m.0), omega (arith, size, n.1, nv.1, c.1, m.1), is_column levels bytes at p cs t ms c.0 m.0 parted refl cv.2 (is_typed bytes p cs t refl refl (r.is_type at)) mv.2);
-    }
+    table_holds slots (flag nullable ∷ tag ∷ 0 ∷ 0 ∷ []) (nb ∷ tb ∷ cb ∷ mb ∷ []) refl (omega arith) (omega arith, (omega arith, (omega arith, (omega arith, (omega arith, (omega arith, (omega arith, tt)))))))
+    (named.whole, (typing.whole, (children.whole, (texts.whole, tt)))) small (column_in levels) (record { name = name; data_type = t; nullable = nullable; metadata = ms }) (λ bytes at s.
+    let l = s.links in
+    let first : u8_at bytes (at + 20) ≡ Ok (flag nullable) = u8_is bytes (at + 20) (flag nullable) _ (s.number 0) in
+    let second : u8_at bytes (at + 21) ≡ Ok tag = u8_is bytes (at + 21) tag _ (s.number 1) in
+    let n = named.reads bytes l.0.to l.0.lies in
+    let r = typing.reads bytes l.1.0.to l.1.0.lies in
+    let c = children.reads bytes l.1.1.0.to l.1.1.0.lies in
+    let m = texts.reads bytes l.1.1.1.0.to l.1.1.1.0.lies in
+    let nv = is_text bytes l.0.to name n.0 n.2 in
+    let cv = bound (vector_at bytes l.1.1.0.to) (columns_by (column_at levels bytes)) (cs, c.0) c.2 in
+    let mv = bound (vector_at bytes l.1.1.1.0.to) (texts_at bytes) (ms, m.0) m.2 in
+    let p : Own = record { table = at; name = name; nullable = nullable; kind = r.kind; zone = []; index = None; children = cv.0; ids = r.ids; texts = mv.0 } in
+    let parted = parts_are bytes at nullable tag _ _ _ _ name r.first r.kind r.ids cv.0 mv.0 s.slot l.0.led nv.0 first second typing.some typing.least l.1.0.led r.is_first r.is_kind r.no_zone r.is_ids l.1.1.0.led cv.1 l.1.1.1.0.led mv.1 in
+    (16 + length name + 0 + (c.0 + m.0), omega (arith, n.1, nv.1, c.1, m.1), is_column levels bytes at p cs t ms c.0 m.0 parted refl cv.2 (is_typed bytes p cs t refl refl (r.is_type at)) mv.2))
 
 -- as it is written
 flag_byte : (b : Bool) → bool_byte b ≡ flag b
@@ -175,44 +138,26 @@ head_is : (bytes : List ℕ) (at a b : ℕ) (order : Endianness) (cv mv : ℕ ×
 unfolding head_at u16_in table_in vector_in
 head_is bytes at a b order cv mv slot order_is to_columns columns to_texts texts = rw (slot 0, order_is, slot 1, to_columns, columns, slot 2, to_texts, texts, ordered order) refl
 
-pub length_schema : (cb mb : List ℕ) (order : Endianness) → length (schema_block cb mb order) ≡ 32 + (length cb + length mb)
-length_schema cb mb order =
-    let size = length_linked (2 ^ 32 - 16) (cb ∷ mb ∷ []) (order_number order ∷ 0 ∷ 0 ∷ 0 ∷ 10 ∷ 0 ∷ 16 ∷ 0 ∷ places (12 ∷ 4 ∷ 8 ∷ [])) in
-    let one = length-append cb (mb ++ []) in
-    let two = length-append mb [] in
-    omega (arith, size, one, two)
-
 schema_holds : (levels : ℕ) (cb mb : List ℕ) (order : Endianness) (cs : List ColumnTree) (ms : Metadata) → Holds (columns_read levels) cb cs → Holds texts_read mb ms → length (schema_block cb mb order) < 2 ^ 32
     → Holds (schema_at levels) (schema_block cb mb order) (record { columns = cs; metadata = ms; endianness = order })
-unfolding offsets schema_at
+unfolding schema_at
 schema_holds levels cb mb order cs ms columns texts small =
-    let bs = cb ∷ mb ∷ [] in
-    let rest : List ℕ = order_number order ∷ 0 ∷ 0 ∷ 0 ∷ 10 ∷ 0 ∷ 16 ∷ 0 ∷ places (12 ∷ 4 ∷ 8 ∷ []) in
-    let size = length_schema cb mb order in
-    let wc = columns.whole in
-    let wm = texts.whole in
-    record {
-      whole = omega (arith, size, wc, wm);
-      reads = λ bytes at lies.
-          let whole = lies.whole in
-          let slot = slot_is bytes at (12 ∷ 4 ∷ 8 ∷ []) (order_number order ∷ 0 ∷ 0 ∷ 0 ∷ []) bs lies refl (omega arith) (omega arith, (omega arith, (omega arith, tt))) in
-          let l = are_linked bytes at (2 ^ 32 - 16) bs rest lies (wc, (wm, tt)) small in
-          let order_is = low bytes (at + 12) (order_number order) _ (omega (arith, whole)) (by_place bytes at _ 12 (flat bytes at (2 ^ 32 - 16) bs rest lies)) in
-          let c = columns.reads bytes l.0.to l.0.lies in
-          let m = texts.reads bytes l.1.0.to l.1.0.lies in
-          let cv = bound (vector_at bytes l.0.to) (columns_by (column_at levels bytes)) (cs, c.0) c.2 in
-          let mv = bound (vector_at bytes l.1.0.to) (texts_at bytes) (ms, m.0) m.2 in
-          let is = head_is bytes at l.0.to l.1.0.to order cv.0 mv.0 slot order_is l.0.led cv.1 l.1.0.led mv.1 in
-          (c.0 + m.0, omega (arith, size, c.1, m.1), rw (is, cv.2, mv.2) refl);
-    }
+    table_holds (12 ∷ 4 ∷ 8 ∷ []) (order_number order ∷ 0 ∷ 0 ∷ 0 ∷ []) (cb ∷ mb ∷ []) refl (omega arith) (omega arith, (omega arith, (omega arith, tt))) (columns.whole, (texts.whole, tt)) small
+    (schema_at levels) (record { columns = cs; metadata = ms; endianness = order }) (λ bytes at s.
+    let l = s.links in
+    let whole = s.whole in
+    let order_is = low bytes (at + 12) (order_number order) _ (omega (arith, whole)) (s.number 0) in
+    let c = columns.reads bytes l.0.to l.0.lies in
+    let m = texts.reads bytes l.1.0.to l.1.0.lies in
+    let cv = bound (vector_at bytes l.0.to) (columns_by (column_at levels bytes)) (cs, c.0) c.2 in
+    let mv = bound (vector_at bytes l.1.0.to) (texts_at bytes) (ms, m.0) m.2 in
+    let is = head_is bytes at l.0.to l.1.0.to order cv.0 mv.0 s.slot order_is l.0.led cv.1 l.1.0.led mv.1 in
+    (c.0 + m.0, omega (arith, c.1, m.1), rw (is, cv.2, mv.2) refl))
 
 -- ---- the message
 
 pub length_message : (schema : List ℕ) → length (message_block schema) ≡ 32 + length schema
-length_message schema =
-    let size = length_linked (2 ^ 32 - 12) (schema ∷ []) (4 ∷ 0 ∷ 1 ∷ 0 ∷ 10 ∷ 0 ∷ 12 ∷ 0 ∷ places (8 ∷ 10 ∷ 4 ∷ [])) in
-    let one = length-append schema [] in
-    omega (arith, size, one)
+length_message schema = let size = length_table (8 ∷ 10 ∷ 4 ∷ []) (4 ∷ 0 ∷ 1 ∷ 0 ∷ []) (schema ∷ []) in omega (arith, size)
 
 message_is : (bytes : List ℕ) (to : ℕ) → target_at bytes 0 ≡ Ok 8 → ((i : ℕ) → slot_at bytes 8 i ≡ Ok (slot_place 8 (8 ∷ 10 ∷ 4 ∷ []) i)) → u16_at bytes 16 ≡ Ok 4 → u8_at bytes 18 ≡ Ok 1 → target_at bytes 12 ≡ Ok to
     → message_at bytes ≡ Ok to
@@ -221,21 +166,15 @@ message_is bytes to root slot version tag header = rw (root, slot 0, version, sl
 
 message_reads : (levels : ℕ) (block : List ℕ) (s : SchemaTree) → Holds (schema_at levels) block s → length (message_block block) < 2 ^ 32
     → (n : ℕ) × (n ≤ length block) × (schema_of_message levels (message_block block) ≡ Ok (s, n))
-unfolding offsets schema_of_message
+unfolding schema_of_message
 message_reads levels block s h small =
     let bytes = message_block block in
     let numbers : List ℕ = 4 ∷ 0 ∷ 1 ∷ 0 ∷ [] in
-    let rest : List ℕ = 4 ∷ 0 ∷ 1 ∷ 0 ∷ 10 ∷ 0 ∷ 12 ∷ 0 ∷ places (8 ∷ 10 ∷ 4 ∷ []) in
-    let size = length_message block in
-    let lies : Lies (table_block (8 ∷ 10 ∷ 4 ∷ []) numbers (block ∷ [])) bytes 8 = record { after = []; is = sym (append-nil (table_block (8 ∷ 10 ∷ 4 ∷ []) numbers (block ∷ []))); whole = refl } in
-    let root : target_at bytes 0 ≡ Ok 8 = target_is bytes 0 8 (drop 4 bytes) refl (omega arith) (omega arith) (omega (arith, size)) refl in
-    let slot = slot_is bytes 8 (8 ∷ 10 ∷ 4 ∷ []) numbers (block ∷ []) lies refl (omega arith) (omega arith, (omega arith, (omega arith, tt))) in
-    let is = flat bytes 8 (2 ^ 32 - 12) (block ∷ []) rest lies in
-    let version = low bytes 16 4 _ refl (by_place bytes 8 _ 8 is) in
-    let tag = u8_is bytes 18 1 _ (by_place bytes 8 _ 10 is) in
-    let l = are_linked bytes 8 (2 ^ 32 - 12) (block ∷ []) rest lies (h.whole, tt) (omega (arith, small)) in
-    let got = h.reads bytes l.0.to l.0.lies in
-    (got.0, got.1, rw (message_is bytes l.0.to root slot version tag l.0.led) got.2)
+    let table = table_block (8 ∷ 10 ∷ 4 ∷ []) numbers (block ∷ []) in
+    let root : target_at bytes 0 ≡ Ok 8 = target_is bytes 0 8 (drop 4 bytes) refl (omega arith) (omega arith) (omega arith) refl in
+    let m = stands (8 ∷ 10 ∷ 4 ∷ []) numbers (block ∷ []) refl (omega arith) (omega arith, (omega arith, (omega arith, tt))) (h.whole, tt) (omega (arith, small)) bytes 8 (record { after = []; is = sym (append-nil table); whole = refl }) in
+    let got = h.reads bytes m.links.0.to m.links.0.lies in
+    (got.0, got.1, rw (message_is bytes m.links.0.to root m.slot (low bytes 16 4 _ refl (m.number 0)) (u8_is bytes 18 1 _ (m.number 2)) m.links.0.led) got.2)
 
 -- ---- the stream
 

@@ -1,7 +1,6 @@
 -- From what a step returned to what a call returned.
-use Rattle.std.proofs.Common.{◌≡◌, ℕ, ◌+◌, ◌-◌, ◌<◌, ◌≤◌, Result, Ok, Err, refl, sym, ap, ◌∙◌, subst, arith, suc, ap₂, List, length}
-use Rattle.arrow_columns.specs.Column.{ColumnTree, column_tree}
-use Rattle.arrow_columns.specs.declared.column.Column.{Column}
+use Rattle.std.proofs.Common.{◌≡◌, ℕ, ◌+◌, ◌-◌, ◌<◌, ◌≤◌, Result, Ok, Err, refl, sym, ap, ◌∙◌, subst, arith, suc, ap₂, List}
+use Rattle.arrow_columns.specs.Column.{ColumnTree}
 use Rattle.arrow_ipc.specs.Fault.{◌>>=◌, breaks}
 use Rattle.arrow_ipc.specs.Tells.{Fails, Tells, Says, ◌>>+◌, gather}
 use Rattle.arrow_ipc.specs.declared.fault.Fault.{Fault}
@@ -16,14 +15,9 @@ pub bound : {A B : Type 0} (r : Result A Fault) (f : A → Result B Fault) (y : 
 bound (Err e) f y is = absurd (cc)
 bound (Ok x) f y is = (x, refl, is)
 
--- what there is takes too much
-pub too_dear : {A : Type 0} (there : Result (A × ℕ) Fault) (x : A × ℕ) (old place : ℕ) → there ≡ Ok x → old < x.1 → Fails there old (Budget place)
-too_dear there x old place is less = λ v e. let same : x ≡ v = cc in subst (λ v. old < v.1) same less
-
 -- an error was handed on
 pub told : {X A : Type 0} (view : X → A) (there : Result (A × ℕ) Fault) (old new : ℕ) (r : Result X IpcError) (e : IpcError) → r ≡ Err e → Fails there old e → Tells view there old new r
-told view there old new (Ok x) e is f = absurd (cc)
-told view there old new (Err d) e is f = let same : e ≡ d = cc in subst (Fails there old) same f
+told view there old new r e is f = subst (Tells view there old new) (sym is) f
 
 -- what fails first fails in all, whatever comes after
 pub first_fails : {A B : Type 0} (step : Result (A × ℕ) Fault) (rest : A → Result (B × ℕ) Fault) (old : ℕ) (e : IpcError) → Fails step old e → Fails (step >>+ rest) old e
@@ -62,13 +56,7 @@ says_first view over step rest (Budget place) f = absurd f
 says_first view over step rest OutOfMemory f = tt
 
 pub said : {X Y A B : Type 0} (view : X → A) (over : Y → B) (step : Result A Fault) (rest : A → Result B Fault) (r : Result Y IpcError) (e : IpcError) → r ≡ Err e → Says view step (Err e) → Says over (step >>= rest) r
-said view over step rest (Ok y) e is f = absurd (cc)
-said view over step rest (Err d) e is f = let same : e ≡ d = cc in subst (λ e. Says over (step >>= rest) (Err e)) same (says_first view over step rest e f)
-
-pub says_fails : {X A B : Type 0} (view : X → A) (step : Result A Fault) (rest : A → Result (B × ℕ) Fault) (old : ℕ) (e : IpcError) → Says view step (Err e) → Fails (step >>= rest) old e
-says_fails view step rest old (Broken fault) f = rw f refl
-says_fails view step rest old (Budget place) f = absurd f
-says_fails view step rest old OutOfMemory f = tt
+said view over step rest r e is f = subst (Says over (step >>= rest)) (sym is) (says_first view over step rest e f)
 
 -- ---- what a loop gathers, one element after the other: what is still gathered tells all
 
@@ -100,18 +88,6 @@ module _ (bytes : List ℕ) (at depth : ℕ) where
   abbrev pub rest : Own → Result (ColumnTree × ℕ) Fault
   rest p = columns_by (column_at (depth - 1) bytes) p.children >>+ finished bytes p
 
-  steps : 0 < depth → column_at depth bytes at ≡ (priced (parts_at bytes at) >>+ rest)
+  pub steps : 0 < depth → column_at depth bytes at ≡ (priced (parts_at bytes at) >>+ rest)
   unfolding column_at
   steps some = let k : depth ≡ suc (depth - 1) = omega arith in ap (λ d. column_at d bytes at) k
-
-  module _ (some : 0 < depth) where
-    pub no_parts : (fault : Fault) → parts_at bytes at ≡ Err fault → column_at depth bytes at ≡ Err fault
-    no_parts fault is = steps some ∙ rw is refl
-
-    module _ (p : Own) (is : parts_at bytes at ≡ Ok p) where
-      pub too_poor : (old place : ℕ) → old < 16 + length p.name + length p.zone → Fails (column_at depth bytes at) old (Budget place)
-      too_poor old place less = rw (steps some) (first_fails (priced (parts_at bytes at)) rest old (Budget place) (too_dear (priced (parts_at bytes at)) (p, 16 + length p.name + length p.zone) old place (rw is refl) less))
-
-      pub with_parts : (old left new : ℕ) (r : Result Column IpcError) → left + (16 + length p.name + length p.zone) ≡ old → Tells column_tree (rest p) left new r → Tells column_tree (column_at depth bytes at) old new r
-      with_parts old left new r sum f =
-          rw (steps some) (then_tells column_tree (priced (parts_at bytes at)) rest p old left new r (omega (arith, sum), rw is (ap (λ (n : ℕ). Ok (p, n)) (omega (arith, sum)))) f)

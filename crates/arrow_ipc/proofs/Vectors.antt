@@ -1,14 +1,18 @@
 -- Steps of the loops that write a vector of tables.
-use Rattle.std.proofs.Common.{◌≡◌, ℕ, ◌+◌, ◌*◌, ◌-◌, ◌<◌, ◌≤◌, ◌++◌, ◌∷◌, [], List, length, drop, get_or, map, Vec, Global, refl, sym, ap, ◌∙◌, append_assoc, append-nil}
+use Rattle.std.proofs.Common.{◌≡◌, ℕ, ◌+◌, ◌*◌, ◌-◌, ◌<◌, ◌≤◌, ◌++◌, ◌∷◌, [], List, length, drop, get_or, map, Vec, Global, refl, sym, ap, ◌∙◌, append_assoc, append-nil, arith}
 use Rattle.std.proofs.lemmas.List.{length-append, length-map, drop_more, drop_all}
 use Rattle.std.specs.List.{concat}
-use Rattle.arrow_ipc.specs.Blocks.{word, rounded, padded, offsets, linked}
+use Rattle.arrow_ipc.specs.Blocks.{lengths, word, rounded, padded, offsets, linked}
+use Rattle.arrow_ipc.proofs.Linked.{length_linked}
 
 abbrev pub items : Vec ℕ Global → List ℕ
 items v = v.items
 
 abbrev pub left : List (Vec ℕ Global) → ℕ → List (List ℕ)
 left blocks i = map items (drop i blocks)
+
+pub long_linked : (first : ℕ) (blocks : List (Vec ℕ Global)) (rest : List ℕ) → length (linked first (map items blocks) rest) ≡ rounded (4 + (4 * length blocks + length rest)) + lengths (map items blocks)
+long_linked first blocks rest = let size = length_linked first (map items blocks) rest in let many = length-map blocks items in omega (arith, size, many)
 
 module _ (blocks : List (Vec ℕ Global)) (i : ℕ) (x : Vec ℕ Global) (lt : i < length blocks) (is : x ≡ get_or blocks i x) where
   next : left blocks i ≡ x.items ∷ left blocks (i + 1)
@@ -24,8 +28,8 @@ module _ (blocks : List (Vec ℕ Global)) (i : ℕ) (x : Vec ℕ Global) (lt : i
       ∙ ap (λ l. l ++ offsets (length done + 4) (table + length x.items) (left blocks (i + 1))) made
       ∙ append_assoc done (word (table - length done)) (offsets (length done + 4) (table + length x.items) (left blocks (i + 1))) ∙ sym here ∙ so_far
 
-  pub lengths_more : length (concat (left blocks i)) ≡ length x.items + length (concat (left blocks (i + 1)))
-  lengths_more = ap (λ bs. length (concat bs)) next ∙ length-append x.items (concat (left blocks (i + 1)))
+  pub lengths_more : lengths (left blocks i) ≡ length x.items + lengths (left blocks (i + 1))
+  lengths_more = ap lengths next
 
 module _ (blocks : List (Vec ℕ Global)) (i : ℕ) (le : length blocks ≤ i) where
   none_left : left blocks i ≡ []
@@ -35,8 +39,8 @@ module _ (blocks : List (Vec ℕ Global)) (i : ℕ) (le : length blocks ≤ i) w
   unfolding offsets
   offsets_done done table whole so_far = sym (append-nil done) ∙ sym (ap (λ bs. done ++ offsets (length done) table bs) none_left) ∙ so_far
 
-  pub lengths_done : length (concat (left blocks i)) ≡ 0
-  lengths_done = ap (λ bs. length (concat bs)) none_left
+  pub lengths_done : lengths (left blocks i) ≡ 0
+  lengths_done = ap lengths none_left
 
   pub blocks_done : (done whole : List ℕ) → done ++ concat (left blocks i) ≡ whole → done ≡ whole
   blocks_done done whole so_far = sym (append-nil done) ∙ sym (ap (λ bs. done ++ concat bs) none_left) ∙ so_far

@@ -47,6 +47,11 @@ unfoldable pub offsets : ℕ → ℕ → List (List ℕ) → List ℕ
 offsets at table [] = []
 offsets at table (b ∷ bs) = word (table - at) ++ offsets (at + 4) (table + length b) bs
 
+-- how many bytes blocks have in all
+abbrev pub lengths : List (List ℕ) → ℕ
+lengths [] = 0
+lengths (b ∷ bs) = length b + lengths bs
+
 -- a number, offsets to blocks, and other bytes, with the blocks behind them
 unfoldable pub linked : ℕ → List (List ℕ) → List ℕ → List ℕ
 linked first bs rest = padded (word first ++ (offsets 4 (rounded (4 + (4 * length bs + length rest))) bs ++ rest)) ++ concat bs

@@ -1,12 +1,12 @@
 -- Which types a message can hold, and how many bytes a schema takes at most.
 use Rattle.std.specs.Prelude.{◌≡◌, ℕ, ◌+◌, ◌*◌, ◌^◌, ◌<◌, ◌≤◌, ◌⊎◌, Option, Result, Ok, Err, ℤ, pos, negsuc, Bool, true, false, ◌&&◌, List, [], ◌∷◌, length, nat_lt}
-use Rattle.std.specs.List.{concat, AllZip}
+use Rattle.std.specs.List.{AllZip}
 use Rattle.std.specs.declared.vec.Vec.{Vec}
 use Rattle.std.specs.declared.alloc.Global.{Global}
 use Rattle.arrow_values.specs.Tree.{Text, Metadata, Tree, plain, list, large_list, fixed_size_list, struct, union, FieldTrees, no_fields, field, MemberTrees, no_members, member, FieldTree, depth}
 use Rattle.arrow_columns.specs.Column.{TypeTree, known, other, ColumnTree}
 use Rattle.arrow_ipc.specs.Schema.{SchemaTree}
-use Rattle.arrow_ipc.specs.Blocks.{Holds, column_in, child_in}
+use Rattle.arrow_ipc.specs.Blocks.{Holds, lengths, column_in, child_in}
 use Rattle.arrow_ipc.specs.Shapes.{member_ids, are_ids, nested_columns, shape_tag, shape_bytes, has_table}
 use Rattle.arrow_ipc.specs.declared.shapes.Shape.{Shape}
 use Rattle.arrow_ipc.specs.declared.write.WriteError.{WriteError}
@@ -42,13 +42,9 @@ abbrev pub texts_room : Metadata → ℕ
 texts_room [] = 12
 texts_room (e ∷ es) = 4 + entry_room e + texts_room es
 
-abbrev pub member_count : MemberTrees → ℕ
-member_count no_members = 0
-member_count (member i n t b m ms) = 1 + member_count ms
-
 -- a type's table
 abbrev pub table_room : Tree → ℕ
-table_room (union ms mode) = 36 + 4 * member_count ms
+table_room (union ms mode) = 36 + 4 * length (member_ids ms)
 table_room _ = 24
 
 -- the columns that a type nests, each with its offset
@@ -134,7 +130,7 @@ AreUnfit levels (c ∷ cs) = IsUnfitType levels c.data_type ⊎ AreUnfit levels 
 -- the blocks of columns that have no more than so many levels, and take so much as a vector
 pub record HoldsEach (levels : ℕ) (blocks : List (List ℕ)) (cs : List ColumnTree) (room : ℕ) : Type 0 where
   pub each : AllZip (Holds (child_in levels)) blocks cs
-  pub most : length (concat blocks) + 4 * length blocks + 12 ≤ room
+  pub most : lengths blocks + 4 * length blocks + 12 ≤ room
 
 -- a column's block, where those of the columns that its type nests are given
 unfoldable pub IsNesting : List (List ℕ) → Tree → Text → Bool → Metadata → List ℕ → Type 0

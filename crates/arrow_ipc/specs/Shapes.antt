@@ -8,55 +8,29 @@ use Rattle.arrow_ipc.specs.Blocks.{type_block, union_block}
 use Rattle.arrow_ipc.specs.declared.shapes.Shape.{Shape}
 use Rattle.arrow_ipc.specs.declared.shapes.Shape.TheVariants.{Table, Members}
 
-abbrev pub tag_of : Plain → ℕ
-tag_of null = 1
-tag_of boolean = 6
-tag_of int8 = 2
-tag_of int16 = 2
-tag_of int32 = 2
-tag_of int64 = 2
-tag_of uint8 = 2
-tag_of uint16 = 2
-tag_of uint32 = 2
-tag_of uint64 = 2
-tag_of float16 = 3
-tag_of float32 = 3
-tag_of float64 = 3
-tag_of date32 = 8
-tag_of date64 = 8
-tag_of binary = 4
-tag_of large_binary = 19
-tag_of binary_view = 23
-tag_of utf8 = 5
-tag_of large_utf8 = 20
-tag_of utf8_view = 24
-
-abbrev pub number_of : Plain → Option ℕ
-number_of int8 = Some 8
-number_of int16 = Some 16
-number_of int32 = Some 32
-number_of int64 = Some 64
-number_of uint8 = Some 8
-number_of uint16 = Some 16
-number_of uint32 = Some 32
-number_of uint64 = Some 64
-number_of float16 = Some 0
-number_of float32 = Some 1
-number_of float64 = Some 2
-number_of date32 = Some 0
-number_of date64 = Some 1
-number_of _ = None
-
-abbrev pub truth_of : Plain → Option Bool
-truth_of int8 = Some true
-truth_of int16 = Some true
-truth_of int32 = Some true
-truth_of int64 = Some true
-truth_of uint8 = Some false
-truth_of uint16 = Some false
-truth_of uint32 = Some false
-truth_of uint64 = Some false
-truth_of _ = None
+-- of a plain type
+abbrev pub plain_shape : Plain → Shape
+plain_shape null = Table 1 None None
+plain_shape boolean = Table 6 None None
+plain_shape int8 = Table 2 (Some 8) (Some true)
+plain_shape int16 = Table 2 (Some 16) (Some true)
+plain_shape int32 = Table 2 (Some 32) (Some true)
+plain_shape int64 = Table 2 (Some 64) (Some true)
+plain_shape uint8 = Table 2 (Some 8) (Some false)
+plain_shape uint16 = Table 2 (Some 16) (Some false)
+plain_shape uint32 = Table 2 (Some 32) (Some false)
+plain_shape uint64 = Table 2 (Some 64) (Some false)
+plain_shape float16 = Table 3 (Some 0) None
+plain_shape float32 = Table 3 (Some 1) None
+plain_shape float64 = Table 3 (Some 2) None
+plain_shape date32 = Table 8 (Some 0) None
+plain_shape date64 = Table 8 (Some 1) None
+plain_shape binary = Table 4 None None
+plain_shape large_binary = Table 19 None None
+plain_shape binary_view = Table 23 None None
+plain_shape utf8 = Table 5 None None
+plain_shape large_utf8 = Table 20 None None
+plain_shape utf8_view = Table 24 None None
 
 -- a field is a column whose type is a data type
 abbrev pub column_of : FieldTree → ColumnTree
@@ -69,7 +43,7 @@ sized_shape (negsuc n) = None
 
 -- of any type; none where it is one that no message can hold
 abbrev pub shape_of : Tree → Option Shape
-shape_of (plain p) = Some (Table (tag_of p) (number_of p) (truth_of p))
+shape_of (plain p) = Some (plain_shape p)
 shape_of (list n t b m) = Some (Table 12 None None)
 shape_of (large_list n t b m) = Some (Table 21 None None)
 shape_of (fixed_size_list n t b m s) = sized_shape s

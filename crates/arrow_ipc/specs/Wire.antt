@@ -39,15 +39,11 @@ u32_at bytes at = if at % 4 == 0 then first_u32 at (drop at bytes) else breaks N
 unfoldable pub ahead : Rule → List ℕ → ℕ → ℕ → Result ℕ Fault
 ahead rule bytes at by = if nat_le (at + by) (length bytes) then Ok (at + by) else breaks rule at
 
--- the position so many bytes back
-unfoldable pub behind : ℕ → ℕ → Result ℕ Fault
-behind at by = if nat_le by at then Ok (at - by) else breaks Vtable at
-
 -- where the vtable of a table is: the table begins with how far it is back, in two's complement
 unfoldable pub vtable_at : List ℕ → ℕ → Result ℕ Fault
 vtable_at bytes table = do
   back ← u32_at bytes table
-  if nat_lt back (2 ^ 31) then behind table back else ahead Vtable bytes table (2 ^ 32 - back)
+  if nat_lt back (2 ^ 31) then (if nat_le back table then Ok (table - back) else breaks Vtable table) else ahead Vtable bytes table (2 ^ 32 - back)
 
 -- a table that is opened: its vtable, which begins with its own size in bytes, lies before the end
 unfoldable pub opened_at : List ℕ → ℕ → Result Table Fault

@@ -41,6 +41,7 @@ pub(crate) fn text_block(alloc: Global, text: &str) -> Result<Vec<u8>, WriteErro
 }
 
 /// A number, offsets to blocks, and other bytes, up to a multiple of eight; behind them the blocks.
+#[tactic(auto, using(crate::proofs::Vectors::long_linked))]
 pub(crate) fn linked_block(
     alloc: Global,
     first: u32,
@@ -101,6 +102,7 @@ pub(crate) fn table_block(
 }
 
 /// A vector of tables, with their blocks behind it.
+#[tactic(auto, using(crate::proofs::Vectors::long_linked))]
 pub(crate) fn vector_block(alloc: Global, blocks: &[Vec<u8>]) -> Result<Vec<u8>, WriteError>
     ensures { Makes (vector_block (map (λ v. v.items) blocks.now)) result }
 {

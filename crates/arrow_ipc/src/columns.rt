@@ -5,7 +5,7 @@ ghost use Rattle.arrow_columns.specs.Column.{type_tree, column_tree};
 ghost use Rattle.arrow_ipc.specs.Fault.{map_ok};
 ghost use Rattle.arrow_ipc.specs.Parts.{parts_of};
 ghost use Rattle.arrow_ipc.specs.Tells.{Tells, Says};
-ghost use Rattle.arrow_ipc.specs.Columns.{entry_at, put_entry, texts_at, id_at, is_new, put_id, are_as_many, ids_at, ids_of_kind, counted, typed, finished, columns_by, column_at};
+ghost use Rattle.arrow_ipc.specs.Columns.{entry_at, put_entry, texts_at, id_at, is_new, put_id, are_as_many, ids_at, ids_of_kind, typed, finished, columns_by, column_at};
 
 use crate::fault::{Fault, IpcError, Rule};
 use crate::kinds::Kind;
@@ -53,6 +53,7 @@ fn entry_at(bytes: &[u8], at: usize) -> Result<(&str, &str), Fault>
 }
 
 /// Puts an entry of metadata to those before it.
+#[tactic(auto, using(crate::proofs::Inserted::texts_inserted))]
 #[inline(never)]
 fn put_entry(
     alloc: Global,
@@ -176,17 +177,8 @@ fn ids_of_kind(
     }
 }
 
-/// A type, or that its table has a wrong number of children.
-fn counted(table: usize, found: Option<ColumnType>) -> Result<ColumnType, Fault>
-    ensures { map_ok type_tree result ≡ counted table (option_map type_tree found) }
-{
-    match found {
-        Some(found) => Ok(found),
-        None => Err(Fault::new(Rule::Children, table)),
-    }
-}
-
 /// The type of a column, given its children.
+#[tactic(auto, unfolding(crate::specs::Columns::typed))]
 fn read_type(
     alloc: Global,
     bytes: &[u8],
@@ -197,13 +189,15 @@ fn read_type(
     ensures { Says type_tree (typed bytes.now (parts_of parts.now) (map column_tree children.items)) result }
 {
     let ids = ids_of_kind(alloc, bytes, parts, children.len())?;
-    let found = type_of(alloc, parts.kind, parts.zone, ids, children)?;
-    let values = counted(parts.table, found)?;
+    let Some(values) = type_of(alloc, parts.kind, parts.zone, ids, children)? else {
+        return Err(IpcError::Broken(Fault::new(Rule::Children, parts.table)));
+    };
     let data_type = with_dictionary(alloc, parts.index, values)?;
     Ok(data_type)
 }
 
 /// A column, given its children.
+#[tactic(auto, unfolding(crate::specs::Columns::finished))]
 fn finish(
     alloc: Global,
     bytes: &[u8],
@@ -227,6 +221,7 @@ fn finish(
 }
 
 /// Reads the column to which the offset at a position leads, and all that is below it.
+#[tactic(auto, using(crate::proofs::Told::too_deep, crate::proofs::Told::steps))]
 #[cycle(read)]
 fn read_column(
     alloc: Global,

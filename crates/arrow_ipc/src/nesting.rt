@@ -14,6 +14,7 @@ use std::alloc::{AllocError, Global};
 use std::collections::BTreeMap;
 
 /// A column, with the blocks of the columns that its type nests.
+#[tactic(auto, using(crate::proofs::TypeTables::table_size, crate::proofs::TypeTables::no_table))]
 fn finish_block(
     alloc: Global,
     name: &str,
@@ -38,6 +39,7 @@ fn finish_block(
 }
 
 /// The fields that a type nests.
+#[tactic(auto, using(crate::proofs::Nestings::fields_lent))]
 fn nested_fields<'a>(alloc: Global, data_type: &'a DataType) -> Result<Vec<&'a Field>, AllocError>
     ensures { IfOk result (λ fs. map (λ f. f.now) fs.items ≡ nested_fields (tree data_type.now)) }
 {

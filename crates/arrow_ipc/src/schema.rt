@@ -140,6 +140,7 @@ fn footer_in(bytes: &[u8]) -> Result<&[u8], Fault>
 }
 
 /// Reads the schema whose table is at that place of a message or footer, within a budget of eight times its bytes.
+#[tactic(auto, unfolding(crate::specs::Schema::schema_at))]
 fn read_flatbuffer(
     alloc: Global,
     bytes: &[u8],
@@ -170,6 +171,7 @@ fn read_flatbuffer(
 /// let refused = read_schema(alloc, &[0xff, 0xff, 0xff, 0xff, 0, 0, 0, 0]);
 /// assert!(rt; matches!(refused, Err(IpcError::Broken(fault)) if fault.rule == Rule::Envelope));
 /// ```
+#[tactic(auto, unfolding(crate::specs::Schema::schema_of_message))]
 pub fn read_schema(alloc: Global, stream: &[u8]) -> Result<Schema, IpcError>
     ensures { Meets (message_in stream.now) (schema_of_message NESTING_LIMIT) result }
 {
@@ -180,6 +182,7 @@ pub fn read_schema(alloc: Global, stream: &[u8]) -> Result<Schema, IpcError>
 /// The schema of an Arrow file, from its end: the bytes of the file, or as many of its last ones as the footer, its
 /// size and the magic take. Errs as `read_schema`; the byte is counted from the footer's first (of an `Envelope` from the first
 /// that is given).
+#[tactic(auto, unfolding(crate::specs::Schema::schema_of_footer))]
 pub fn read_file_footer(alloc: Global, end: &[u8]) -> Result<Schema, IpcError>
     ensures { Meets (footer_in end.now) (schema_of_footer NESTING_LIMIT) result }
 {

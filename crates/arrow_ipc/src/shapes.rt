@@ -1,7 +1,7 @@
 //! The tags of types, and what their tables have of their own.
 ghost use Rattle.std.specs.Prelude.{◌≡◌, ◌∷◌, [], IfOk};
 ghost use Rattle.arrow_values.specs.View.{tree};
-ghost use Rattle.arrow_ipc.specs.Shapes.{shape_of, sized_shape, ids_of};
+ghost use Rattle.arrow_ipc.specs.Shapes.{shape_of, ids_of};
 
 use arrow_values::{DataType, UnionMode};
 use std::alloc::{AllocError, Global};
@@ -41,20 +41,11 @@ pub(crate) fn shape_of(data_type: &DataType) -> Option<Shape>
         DataType::Utf8View => Some(Shape::Table(24, None, None)),
         DataType::List(_) => Some(Shape::Table(12, None, None)),
         DataType::LargeList(_) => Some(Shape::Table(21, None, None)),
-        DataType::FixedSizeList(_, size) => sized_shape(*size),
+        DataType::FixedSizeList(_, size) if *size < 0 => None,
+        DataType::FixedSizeList(_, size) => Some(Shape::Table(16, Some(*size as u32), None)),
         DataType::Struct(_) => Some(Shape::Table(13, None, None)),
         DataType::Union(_, mode) => Some(Shape::Members(*mode)),
     }
-}
-
-/// The shape of a list of that size.
-fn sized_shape(size: i32) -> Option<Shape>
-    ensures { result ≡ sized_shape size }
-{
-    if size < 0 {
-        return None;
-    }
-    Some(Shape::Table(16, Some(size as u32), None))
 }
 
 /// The type ids of a union; of another type none.

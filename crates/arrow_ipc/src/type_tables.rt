@@ -1,9 +1,8 @@
 //! The tables of types.
-ghost use Rattle.std.specs.Prelude.{◌≡◌, ◌&&◌, not, []};
-ghost use Rattle.arrow_values.specs.Union.{has};
+ghost use Rattle.std.specs.Prelude.{◌≡◌, []};
 ghost use Rattle.arrow_values.specs.View.{tree};
 ghost use Rattle.arrow_ipc.specs.Blocks.{union_block};
-ghost use Rattle.arrow_ipc.specs.Shapes.{shape_of, ids_of, is_id, are_ids};
+ghost use Rattle.arrow_ipc.specs.Shapes.{shape_of, ids_of, are_ids};
 ghost use Rattle.arrow_ipc.specs.Rooms.{MakesSound, IsTable};
 
 use crate::blocks::{linked_block, put_word, table_block, type_block};
@@ -12,14 +11,8 @@ use crate::write::WriteError;
 use arrow_values::{DataType, UnionMode};
 use std::alloc::Global;
 
-/// Whether a type id is 0 to 127, and none of those before it.
-fn is_new_id(id: i8, before: &[i8]) -> bool
-    ensures { result ≡ is_id id && not (has id before.now) }
-{
-    id >= 0 && !before.contains(&id)
-}
-
 /// A union's table, with its type ids.
+#[tactic(auto, using(crate::proofs::TypeTables::length_union))]
 fn union_block(alloc: Global, mode: UnionMode, ids: &[i8]) -> Result<Vec<u8>, WriteError>
     ensures { MakesSound (are_ids [] ids.now) (union_block mode ids.now) result }
 {
@@ -29,7 +22,7 @@ fn union_block(alloc: Global, mode: UnionMode, ids: &[i8]) -> Result<Vec<u8>, Wr
     let mut words = Vec::new(alloc);
     'each: for i in 0..ids.len() {
         let id = ids[i];
-        if !is_new_id(id, &ids[..i]) {
+        if id < 0 || ids[..i].contains(&id) {
             return Err(WriteError::Column(0));
         }
         put_word(&mut words, id as u32)?;

@@ -59,6 +59,7 @@ fn unit_word(unit: Unit) -> &'static str
 }
 
 /// A decimal's text; the scale is in two's complement.
+#[tactic(auto, using(crate::proofs::Words::scale_above, crate::proofs::Words::scale_below))]
 fn decimal_text(alloc: Global, width: u32, precision: u32, scale: u32) -> Result<String, AllocError>
     ensures { IfOk result (λ text. string_bytes text ≡ decimal_text width precision scale) }
 {
@@ -81,6 +82,7 @@ fn timestamp_text(alloc: Global, unit: Unit, zone: &str) -> Result<String, Alloc
 }
 
 /// A time's text.
+#[tactic(auto, using(crate::proofs::Words::time_is))]
 fn time_text(alloc: Global, unit: Unit) -> Result<String, AllocError>
     ensures { IfOk result (λ text. string_bytes text ≡ time_text unit) }
 {
@@ -225,6 +227,7 @@ fn nested_type(
 }
 
 /// A type of a kind; `None` where the number of children is wrong.
+#[tactic(auto, unfolding(crate::specs::Types::type_of))]
 pub(crate) fn type_of(
     alloc: Global,
     kind: Kind,

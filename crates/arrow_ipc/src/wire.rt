@@ -1,6 +1,6 @@
 //! FlatBuffers: what stands at a position of a message, and where its offsets lead.
 ghost use Rattle.std.specs.Prelude.{◌≡◌, ◌+◌, ◌*◌, ◌≤◌, length, IfOk};
-ghost use Rattle.arrow_ipc.specs.Wire.{u8_at, u16_at, u32_at, ahead, behind, vtable_at, opened_at, IsOpen, slot_at, target_at, text_at, utf8_at, vector_at};
+ghost use Rattle.arrow_ipc.specs.Wire.{u8_at, u16_at, u32_at, ahead, vtable_at, opened_at, IsOpen, slot_at, target_at, text_at, utf8_at, vector_at};
 ghost use Rattle.arrow_ipc.specs.Fault.{map_ok};
 
 use crate::fault::{Fault, Rule};
@@ -56,18 +56,6 @@ pub(crate) fn ahead(rule: Rule, bytes: &[u8], at: usize, by: usize) -> Result<us
     }
 }
 
-/// The position so many bytes back.
-#[tactic(auto, unfolding(crate::specs::Wire::behind))]
-fn behind(at: usize, by: usize) -> Result<usize, Fault>
-    ensures { result ≡ behind at by }
-{
-    if by <= at {
-        Ok(at - by)
-    } else {
-        Err(Fault::new(Rule::Vtable, at))
-    }
-}
-
 /// Where the vtable of a table is.
 #[tactic(auto, unfolding(crate::specs::Wire::vtable_at))]
 fn vtable_at(bytes: &[u8], table: usize) -> Result<usize, Fault>
@@ -75,7 +63,9 @@ fn vtable_at(bytes: &[u8], table: usize) -> Result<usize, Fault>
 {
     let back = u32_at(bytes, table)?;
     if back < 0x8000_0000 {
-        behind(table, back as usize)
+        table
+            .checked_sub(back as usize)
+            .ok_or(Fault::new(Rule::Vtable, table))
     } else {
         ahead(Rule::Vtable, bytes, table, 0x1_0000_0000 - back as usize)
     }
@@ -84,6 +74,7 @@ fn vtable_at(bytes: &[u8], table: usize) -> Result<usize, Fault>
 /// A table whose vtable lies before the end: where the table and its vtable are, and how many bytes the vtable has.
 #[derive(Clone, Copy)]
 pub(crate) struct Table {
+    /// Where the table is.
     pub at: usize,
     vtable: usize,
     size: u16,
@@ -151,7 +142,7 @@ fn text_at(bytes: &[u8], at: usize) -> Result<&[u8], Fault>
 }
 
 /// A text in UTF-8.
-#[tactic(auto, using(crate::proofs::Texts::utf8_is, crate::proofs::Texts::utf8_is_not), unfolding(crate::specs::Wire::utf8_at))]
+#[tactic(auto, using(crate::proofs::Texts::utf8_tests), unfolding(crate::specs::Wire::utf8_at))]
 pub(crate) fn utf8_at(bytes: &[u8], at: usize) -> Result<&str, Fault>
     ensures { map_ok (λ s. s.now) result ≡ utf8_at bytes.now at }
 {

@@ -5,6 +5,7 @@ ghost use Rattle.arrow_ipc.specs.Schema.{schema_tree};
 ghost use Rattle.arrow_ipc.specs.Denotes.{IsStreamOf};
 ghost use Rattle.arrow_ipc.specs.Blocks.{Holds, child_in, message_block, schema_block, stream_block};
 ghost use Rattle.arrow_ipc.specs.Rooms.{Refuses, Gives, IsUnfitType, HoldsEach, room_of, columns_room, schema_room};
+ghost use Rattle.arrow_ipc.specs.declared.write.WriteError.TheVariants.{OutOfMemory};
 ghost use Rattle.arrow_ipc.specs.Writes.{refused, RefusesColumns};
 
 use crate::blocks::{put_word, table_block, texts_block, vector_block};
@@ -30,8 +31,6 @@ pub enum WriteError {
 }
 
 impl From<AllocError> for WriteError {
-    ghost use Rattle.arrow_ipc.specs.declared.write.WriteError.TheVariants.{OutOfMemory};
-
     ghost from_gives = { λ _ e. e ≡ OutOfMemory };
 
     fn from(_refused: AllocError) -> WriteError {
@@ -40,8 +39,6 @@ impl From<AllocError> for WriteError {
 }
 
 impl<T: Drop> From<AllocFailed<T>> for WriteError {
-    ghost use Rattle.arrow_ipc.specs.declared.write.WriteError.TheVariants.{OutOfMemory};
-
     ghost from_gives = { λ _ e. e ≡ OutOfMemory };
 
     fn from(_refused: AllocFailed<T>) -> WriteError {
@@ -72,6 +69,7 @@ fn any_column(alloc: Global, column: &Column) -> Result<Vec<u8>, WriteError>
             &column.metadata,
             NESTING_LIMIT,
         ),
+        // no message can hold the type, here and in the blocks below: `refused` puts the index of the column
         ColumnType::Other(_) => Err(WriteError::Column(0)),
     }
 }
@@ -92,6 +90,7 @@ fn column_blocks(alloc: Global, columns: &[Column]) -> Result<Vec<Vec<u8>>, Writ
 }
 
 /// The stream of a schema, given the blocks of its columns and of its metadata.
+#[tactic(auto, using(crate::proofs::Tables::length_message))]
 fn stream_bytes(
     alloc: Global,
     columns: Vec<u8>,

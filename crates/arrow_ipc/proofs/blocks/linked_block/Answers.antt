@@ -1,11 +1,9 @@
 use Rattle.std.proofs.Common.{◌≡◌, ◌+◌, ◌-◌, ◌++◌, length, ap, ◌∙◌, arith}
-use Rattle.std.proofs.lemmas.List.{length-map, length-append}
+use Rattle.std.proofs.lemmas.List.{length-append}
 use Rattle.std.proofs.lemmas.Grind.{common_steps}
 use Rattle.arrow_ipc.specs.Blocks.{word, linked}
-use Rattle.arrow_ipc.proofs.Vectors.{items, left, offsets_more, lengths_more, offsets_done, lengths_done, blocks_done, linked_begins}
-use Rattle.arrow_ipc.proofs.Linked.{length_linked}
+use Rattle.arrow_ipc.proofs.Vectors.{left, long_linked, offsets_more, lengths_more, offsets_done, lengths_done, blocks_done, linked_begins}
 use Rattle.arrow_ipc.proofs.blocks.linked_block.Goals as goal
-use Rattle.arrow_ipc.proofs.blocks.linked_block.Goals.{then-blocks-ge536870912-via-then-blocks-ge536870912, then-blocks-ge536870912-via-else-blocks-ge536870912+then-rest-ge2147483648}
 
 pub offsets-preserved : goal.offsets-preserved
 offsets-preserved c =
@@ -21,24 +19,6 @@ offsets-preserved c =
       high = omega (arith, l.invariant.high);
     }
 
-pub returns-then-blocks-ge536870912 : goal.returns-then-blocks-ge536870912
-returns-then-blocks-ge536870912 c =
-    let size = length_linked c.args.first (left c.args.blocks.now 0) c.args.rest.now in
-    let many : length (left c.args.blocks.now 0) ≡ length c.args.blocks.now = length-map c.args.blocks.now items in
-    elim c.then-blocks-ge536870912.branch [ then-blocks-ge536870912-via-then-blocks-ge536870912 w ↦ omega (arith, size, many) | then-blocks-ge536870912-via-else-blocks-ge536870912+then-rest-ge2147483648 w ↦ omega (arith, size, many) ]
-
-pub returns-then-end-ge2147483648 : goal.returns-then-end-ge2147483648
-returns-then-end-ge2147483648 c =
-    let size = length_linked c.args.first (left c.args.blocks.now 0) c.args.rest.now in
-    let many : length (left c.args.blocks.now 0) ≡ length c.args.blocks.now = length-map c.args.blocks.now items in
-    omega (arith, size, many, c.offsets.invariant.lies)
-
-pub returns-then-end-ge2147483648-2 : goal.returns-then-end-ge2147483648-2
-returns-then-end-ge2147483648-2 c =
-    let size = length_linked c.args.first (left c.args.blocks.now 0) c.args.rest.now in
-    let many : length (left c.args.blocks.now 0) ≡ length c.args.blocks.now = length-map c.args.blocks.now items in
-    omega (arith, size, many, c.offsets.invariant.lies)
-
 pub bodies-init : goal.bodies-init
 bodies-init c =
     let l = c.offsets in
@@ -48,7 +28,6 @@ bodies-init c =
 pub returns : goal.returns
 returns c =
     let is = blocks_done c.args.blocks.now c.bodies.piece-index c.bodies-test.false c.bodies.block.items (linked c.args.first (left c.args.blocks.now 0) c.args.rest.now) c.bodies.invariant in
-    let size = length_linked c.args.first (left c.args.blocks.now 0) c.args.rest.now in
-    let many : length (left c.args.blocks.now 0) ≡ length c.args.blocks.now = length-map c.args.blocks.now items in
+    let size = long_linked c.args.first c.args.blocks.now c.args.rest.now in
     let none = lengths_done c.args.blocks.now c.offsets.one-index c.offsets-test.false in
-    (is, omega (arith, size, many, c.offsets.invariant.lies, none))
+    (is, omega (arith, size, c.offsets.invariant.lies, none))

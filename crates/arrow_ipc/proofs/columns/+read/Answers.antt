@@ -1,40 +1,11 @@
-use Rattle.std.proofs.Common.{arith, ◌≡◌, ◌+◌, ◌-◌, ◌*◌, ◌++◌, ◌∷◌, [], List, Ok, map, refl, sym, ap, ◌∙◌}
+use Rattle.std.proofs.Common.{arith, ◌≡◌, ◌+◌, ◌-◌, ◌*◌, ◌++◌, ◌∷◌, [], List, Ok, map, refl, sym, ap}
 use native.Mathlib.Numerals.{unary_clauses}
 use Rattle.std.proofs.lemmas.List.{map_push}
 use Rattle.arrow_columns.specs.Column.{ColumnTree, column_tree}
-use Rattle.arrow_ipc.specs.Parts.{Own, parts_of}
-use Rattle.arrow_ipc.specs.Columns.{put_column, columns_by, column_at, finished}
-use Rattle.arrow_ipc.specs.declared.fault.IpcError.TheVariants.{Broken, Budget}
-use Rattle.arrow_ipc.proofs.Told.{told, first_fails, then_tells, made_fails, goes_on, breaks_off, is_done, too_deep, no_parts, too_poor, with_parts}
+use Rattle.arrow_ipc.specs.Columns.{put_column, columns_by, column_at}
+use Rattle.arrow_ipc.proofs.Told.{made_fails, goes_on, breaks_off, is_done}
 use Rattle.arrow_ipc.proofs.columns.+read.Invariants.{columns_tree}
 use Rattle.arrow_ipc.proofs.columns.+read.Goals as goal
-
-pub read_column-returns-then-depth-eq0 : goal.read_column-returns-then-depth-eq0
-read_column-returns-then-depth-eq0 t c = too_deep c.args.bytes.now c.args.at c.args.depth c.if-depth-eq0.true ∙ grind arith
-
-pub read_column-returns-in_err-parts : goal.read_column-returns-in_err-parts
-read_column-returns-in_err-parts t c =
-    told _ _ _ _ c.from_residual.result (Broken c.in_err-parts.field-0.0) (grind arith) (no_parts c.args.bytes.now c.args.at c.args.depth (omega arith) _ (grind arith))
-
-pub read_column-returns-in_err-spend : goal.read_column-returns-in_err-spend
-read_column-returns-in_err-spend t c =
-    let p : Own = parts_of c.in_ok-parts.parts in
-    told _ _ _ _ c.from_residual-in_err-spend.result (Budget c.args.at) (grind arith)
-    (too_poor c.args.bytes.now c.args.at c.args.depth (omega arith) p (grind arith) c.args.budget.now c.args.at (omega (arith, c.in_err-spend.ensures.err.1)))
-
-pub read_column-returns-in_err-children : goal.read_column-returns-in_err-children
-read_column-returns-in_err-children t c =
-    let p : Own = parts_of c.in_ok-parts.parts in
-    let columns = columns_by (column_at (c.args.depth - 1) c.args.bytes.now) p.children in
-    with_parts c.args.bytes.now c.args.at c.args.depth (omega arith) p (grind arith) c.args.budget.now c.spend.new.budget _ c.from_residual-in_err-children.result (omega (arith, c.in_ok-spend.ensures.ok))
-    (told _ _ _ _ c.from_residual-in_err-children.result c.in_err-children.field-0.0 (grind arith) (first_fails columns (finished c.args.bytes.now p) c.spend.new.budget _ c.in_err-children.ensures))
-
-pub read_column-returns : goal.read_column-returns
-read_column-returns t c =
-    let p : Own = parts_of c.in_ok-parts.parts in
-    let columns = columns_by (column_at (c.args.depth - 1) c.args.bytes.now) p.children in
-    with_parts c.args.bytes.now c.args.at c.args.depth (omega arith) p (grind arith) c.args.budget.now c.spend.new.budget _ c.finish.result (omega (arith, c.in_ok-spend.ensures.ok))
-    (then_tells column_tree columns (finished c.args.bytes.now p) _ c.spend.new.budget c.read_columns.new.budget _ c.finish.result c.in_ok-children.ensures c.finish.ensures)
 
 pub read_columns-columns-init : goal.read_columns-columns-init
 read_columns-columns-init t c = λ new r f. simp (unary_clauses, c.new-found.ensures.items) at f

@@ -1,4 +1,4 @@
-use Rattle.std.proofs.Common.{◌≡◌, ◌-◌, ◌≤◌, map, sym, ap, ◌∙◌, subst, arith}
+use Rattle.std.proofs.Common.{IfErr, ◌≡◌, ◌-◌, ◌≤◌, map, sym, ap, ◌∙◌, subst, arith}
 use Rattle.arrow_values.specs.Tree.{depth}
 use Rattle.arrow_values.specs.View.{tree, texts_of}
 use Rattle.arrow_ipc.specs.Shapes.{column_of}
@@ -46,6 +46,6 @@ field_blocks-returns-in_err-field_block-clause-err t c =
     let l = c.columns in
     let x = c.field-item.result in
     let e = c.in_err-field_block.field-0.0 in
-    told (λ e. Refuses e (AreUnfit c.args.levels (map (λ f. column_of f.now) c.args.fields.now)) (columns_room (map (λ f. column_of f.now) c.args.fields.now))) c.from_residual.result e (grind arith)
+    told (λ r. IfErr r (λ e. Refuses e (AreUnfit c.args.levels (map (λ f. column_of f.now) c.args.fields.now)) (columns_room (map (λ f. column_of f.now) c.args.fields.now)))) c.from_residual.result e (grind arith)
     (each_refused (λ f. column_of f.now) c.args.levels l.blocks.items c.args.fields.now l.field-index l.invariant x c.columns-test.true c.field-item.is e
     (refuses_more e (IsUnfit c.args.levels x.now.tree) (IsUnfit c.args.levels x.now.tree) (field_room x.now) (room_of (column_of x.now)) (λ u. u) (omega arith) c.in_err-field_block.ensures))

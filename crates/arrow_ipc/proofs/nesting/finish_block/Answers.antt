@@ -1,12 +1,12 @@
 use Rattle.std.proofs.Common.{◌≡◌, ◌∷◌, [], false, map, length, ap, arith}
 use Rattle.arrow_values.specs.View.{tree, texts_of}
-use Rattle.arrow_ipc.specs.Blocks.{column_block}
-use Rattle.arrow_ipc.specs.Shapes.{shape_of, ids_of, shape_bytes, has_table}
+use Rattle.arrow_ipc.specs.Blocks.{flag, column_block}
 use Rattle.arrow_ipc.specs.Rooms.{IsNesting, is_sound}
 use Rattle.arrow_ipc.proofs.Vectors.{items}
-use Rattle.arrow_ipc.proofs.Built.{gives, handed}
-use Rattle.arrow_ipc.proofs.Tables.{length_column, flagged}
-use Rattle.arrow_ipc.proofs.TypeTables.{table_size, no_table}
+use Rattle.arrow_ipc.proofs.Built.{gives}
+use Rattle.arrow_ipc.proofs.Linked.{length_table}
+use Rattle.arrow_ipc.proofs.Tables.{slots, flagged}
+use Rattle.arrow_ipc.proofs.TypeTables.{table_size}
 use Rattle.arrow_ipc.proofs.Nestings.{nest_holds}
 use Rattle.arrow_ipc.proofs.nesting.finish_block.Goals as goal
 
@@ -19,16 +19,10 @@ returns c =
     let m = c.in_ok-texts.texts.items in
     let t = c.in_ok-typed.typed in
     let cb = c.in_ok-children.children.items in
-    let size = length_column n t.1.items cb m c.args.nullable t.0 in
+    let size = length_table slots (flag c.args.nullable ∷ t.0 ∷ 0 ∷ 0 ∷ []) (n ∷ t.1.items ∷ cb ∷ m ∷ []) in
     let table = table_size d in
     let typed = c.in_ok-typed.ensures in
     gives c.table_block.result (column_block n t.1.items cb m c.args.nullable t.0) (IsNesting bs d c.args.name.now c.args.nullable texts) (is_sound d ≡ false) _
     (rw (flagged c.args.nullable t.0 (n ∷ t.1.items ∷ cb ∷ m ∷ [])) at c.table_block.ensures)
     (λ small. nest_holds bs d c.args.name.now c.args.nullable texts n t.1.items cb m t.0 small c.in_ok-name.ensures.0 c.in_ok-texts.ensures.0 typed.0 typed.1 c.in_ok-children.ensures)
     (omega (arith, size, table, c.in_ok-name.ensures.1, c.in_ok-texts.ensures.1, ap length typed.1.1.0, ap length c.in_ok-children.ensures.0))
-
-pub returns-in_err-typed : goal.returns-in_err-typed
-returns-in_err-typed c =
-    let d = tree c.args.data_type.now in
-    let size = table_size d in
-    handed _ (has_table (shape_of d) (ids_of d) ≡ false) (is_sound d ≡ false) (length (shape_bytes (shape_of d) (ids_of d))) _ c.from_residual-in_err-typed.result c.in_err-typed.field-0.0 (grind arith) (no_table d) (omega (arith, size)) c.in_err-typed.ensures

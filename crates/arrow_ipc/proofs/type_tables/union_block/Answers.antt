@@ -7,9 +7,6 @@ use Rattle.arrow_ipc.proofs.Built.{made_sound, unsound}
 use Rattle.arrow_ipc.proofs.TypeTables.{length_vector_of, length_union, ids_written, union_built}
 use Rattle.arrow_ipc.proofs.type_tables.union_block.Goals as goal
 
-pub returns-then-ids-ge536870912 : goal.returns-then-ids-ge536870912
-returns-then-ids-ge536870912 c = let size = length_union c.args.mode c.args.ids.now in omega (arith, size)
-
 pub returns : goal.returns
 returns c =
     let ids = c.args.ids.now in

@@ -1,22 +1,17 @@
-use Rattle.std.proofs.Common.{length, map, ap, arith}
+use Rattle.std.proofs.Common.{IfErr, ◌∷◌, [], length, map, ap, arith}
 use Rattle.arrow_values.specs.View.{texts_of}
 use Rattle.arrow_columns.specs.Column.{column_tree}
 use Rattle.arrow_ipc.specs.Schema.{schema_tree}
-use Rattle.arrow_ipc.specs.Blocks.{Holds, columns_read, vector_block, schema_block, message_block}
+use Rattle.arrow_ipc.specs.Blocks.{Holds, columns_read, vector_block, order_number, schema_block, message_block}
 use Rattle.arrow_ipc.specs.Rooms.{HoldsEach, columns_room, schema_room}
 use Rattle.arrow_ipc.proofs.Vectors.{items}
 use Rattle.arrow_ipc.specs.Writes.{RefusesColumns}
-use Rattle.arrow_ipc.proofs.Built.{told, none_refused, all_refused, refused_more}
+use Rattle.arrow_ipc.proofs.Built.{told, none_refused, all_refused}
 use Rattle.arrow_ipc.proofs.Made.{columns_hold}
+use Rattle.arrow_ipc.proofs.Linked.{length_table}
 use Rattle.arrow_ipc.proofs.Nestings.{vector_room}
-use Rattle.arrow_ipc.proofs.Tables.{length_schema, length_message, stream_ok}
+use Rattle.arrow_ipc.proofs.Tables.{length_message, stream_ok}
 use Rattle.arrow_ipc.proofs.write.write_schema.Goals as goal
-
-pub returns-in_err-blocks-clause-err : goal.returns-in_err-blocks-clause-err
-returns-in_err-blocks-clause-err c =
-    let s = schema_tree c.args.schema.now in
-    told (λ e. RefusesColumns 61 e s.columns (schema_room s)) c.from_residual.result c.in_err-blocks.field-0.0 (grind arith)
-    (refused_more 61 s.columns (columns_room s.columns) (schema_room s) _ (omega arith) (rw c.as_slice.ensures.value at c.in_err-blocks.ensures.err))
 
 pub returns-in_err-columns-clause-err : goal.returns-in_err-columns-clause-err
 returns-in_err-columns-clause-err c =
@@ -24,7 +19,7 @@ returns-in_err-columns-clause-err c =
     let bs = map items c.in_ok-blocks.blocks.items in
     let each : HoldsEach 61 bs s.columns (columns_room s.columns) = rw c.as_slice.ensures.value at c.in_ok-blocks.ensures.each in
     let room = vector_room bs s.columns 61 (columns_room s.columns) each in
-    told (λ e. RefusesColumns 61 e s.columns (schema_room s)) c.from_residual-in_err-columns.result c.in_err-columns.field-0.0 (grind arith)
+    told (λ r. IfErr r (λ e. RefusesColumns 61 e s.columns (schema_room s))) c.from_residual-in_err-columns.result c.in_err-columns.field-0.0 (grind arith)
     (none_refused 61 s.columns (length (vector_block bs)) (schema_room s) _ (omega (arith, room)) (rw c.as_slice-2.ensures.value at c.in_err-columns.ensures))
 
 pub returns-clause-is : goal.returns-clause-is
@@ -46,6 +41,6 @@ returns-clause-err c =
     let each : HoldsEach 61 (map items c.in_ok-blocks.blocks.items) cs (columns_room cs) = rw c.as_slice.ensures.value at c.in_ok-blocks.ensures.each in
     let room = vector_room (map items c.in_ok-blocks.blocks.items) cs 61 (columns_room cs) each in
     let made = rw c.as_slice-2.ensures.value at c.in_ok-columns.ensures in
-    let one = length_schema cb mb s.endianness in
+    let one = length_table (12 ∷ 4 ∷ 8 ∷ []) (order_number s.endianness ∷ 0 ∷ 0 ∷ 0 ∷ []) (cb ∷ mb ∷ []) in
     let two = length_message (schema_block cb mb s.endianness) in
     all_refused 61 cs (length (message_block (schema_block cb mb s.endianness))) _ c.stream_bytes.result (omega (arith, one, two, room, ap length made.0, c.in_ok-texts.ensures.1)) c.stream_bytes.ensures.err
