@@ -46,24 +46,12 @@ pub fn parse_line_with_scratch(
     let Ok(text) = simdutf8::compat::from_utf8(line) else {
         return Ok(None);
     };
-    match parse_text(alloc, text, scratch) {
-        Ok(field) => Ok(field),
-        Err(Refusal::Text) => Ok(None),
+    let mut reader = Reader::new(text, scratch)?;
+    match take_field(alloc, &mut reader, MAX_DEPTH) {
+        Ok(field) if reader.next().is_none() => Ok(field),
+        Ok(_) | Err(Refusal::Text) => Ok(None),
         Err(Refusal::Memory) => Err(AllocError),
     }
-}
-
-/// The field that a text denotes.
-fn parse_text(alloc: Global, text: &str, scratch: &mut Scratch) -> Result<Option<Field>, Refusal>
-    ensures ok { IfOk result (λ o. o ≡ option_and_then field_of_value (read text.now)) }
-    ensures text { result ≡ Err Refusal.Text → None ≡ option_and_then field_of_value (read text.now) }
-{
-    let mut reader = Reader::new(text, scratch)?;
-    let field = take_field(alloc, &mut reader, MAX_DEPTH)?;
-    if reader.next().is_some() {
-        return Err(Refusal::Text);
-    }
-    Ok(field)
 }
 
 /// The line of a field, without a line feed: compact JSON with its keys in the order of their bytes,

@@ -19,7 +19,7 @@ use crate::scalars::{take_id, take_mode, take_size};
 use crate::unions::make_union;
 use arrow_values::{DataType, Field, Fields};
 use json::{Reader, Token};
-use std::alloc::{AllocError, Global};
+use std::alloc::Global;
 use std::collections::BTreeMap;
 use value_tokens::{
     Refusal, open_array, open_object, read_bool, read_str, skip_items, skip_members, skip_rest,
@@ -44,10 +44,9 @@ pub(crate) fn take_field(
     }
 }
 
-/// The field that comes next, in a box. Out of line, since a result that holds a field takes much room on the stack, which is
-/// cleared at each call of the function that receives it.
+/// The field that comes next, in a box.
 #[cycle(take)]
-#[inline(never)]
+#[inline(always)]
 fn take_boxed(
     alloc: Global,
     reader: &mut Reader<'_>,
@@ -89,10 +88,10 @@ fn take_parts<'a>(
             _ => skip_value(reader, depth)?,
         }
     }
-    Ok(field_of(alloc, name, nullable, data_type, metadata)?)
+    field_of(alloc, name, nullable, data_type, metadata)
 }
 
-/// The field of these parts, where each is there.
+/// The field of these parts, where each is there. A name that layouts have allocates nothing.
 #[inline(always)]
 fn field_of(
     alloc: Global,
@@ -100,34 +99,21 @@ fn field_of(
     nullable: Option<bool>,
     data_type: Option<DataType>,
     metadata: Option<BTreeMap<String, String>>,
-) -> Result<Option<Field>, AllocError>
-    ensures { IfOk result (λ o. o ≡ field_from (option_map (λ n. n.now) name.entry) nullable (option_map tree data_type) (option_map (λ m. texts_of m.entries) metadata)) }
+) -> Result<Option<Field>, Refusal>
+    ensures ok { IfOk result (λ o. o ≡ field_from (option_map (λ n. n.now) name.entry) nullable (option_map tree data_type) (option_map (λ m. texts_of m.entries) metadata)) }
+    ensures never_text { result ≡ Err Refusal.Text → ⊥ }
 {
     match (name, nullable, data_type, metadata) {
-        (Some(name), Some(nullable), Some(data_type), Some(metadata)) => {
-            Ok(Some(named_field(alloc, name, nullable, data_type, metadata)?))
-        }
+        (Some(name), Some(nullable), Some(data_type), Some(metadata)) => match layout_name(name) {
+            Some(name) => Ok(Some(Field::fixed(alloc, name, data_type, nullable).with_metadata(
+                metadata,
+            ))),
+            None => {
+                let name = String::from_str(alloc, name)?;
+                Ok(Some(Field::from_parts(name, data_type, nullable, metadata)))
+            }
+        },
         _ => Ok(None),
-    }
-}
-
-/// The field of that name. A name that layouts have allocates nothing.
-#[inline(always)]
-fn named_field(
-    alloc: Global,
-    name: &str,
-    nullable: bool,
-    data_type: DataType,
-    metadata: BTreeMap<String, String>,
-) -> Result<Field, AllocError>
-    ensures { IfOk result (λ f. f ≡ field_tree name.now (tree data_type) nullable (texts_of metadata.entries)) }
-{
-    match layout_name(name) {
-        Some(name) => { Ok(Field::fixed(alloc, name, data_type, nullable).with_metadata(metadata)) }
-        None => {
-            let name = String::from_str(alloc, name)?;
-            Ok(Field::from_parts(name, data_type, nullable, metadata))
-        }
     }
 }
 
@@ -318,6 +304,7 @@ fn take_union<'a>(
 /// The list of fields that comes next.
 #[cycle(take)]
 #[tactic(auto, using(crate::proofs::TokenItems::taking_items))]
+#[inline(always)]
 fn take_fields(
     alloc: Global,
     reader: &mut Reader<'_>,

@@ -1,5 +1,5 @@
 -- The columns by GeoParquet metadata, one after another.
-use Rattle.std.proofs.Common.{◌≡◌, Bool, true, false, cond, List, [], ◌∷◌, ◌++◌, Option, None, Some, String, Global, codes, bytes_eq, inl, inr, refl, sym, ap, ◌∙◌, subst, append_assoc, true≢false, if◌then◌else◌, Result, Ok, Err, IfOk, map, option_map, string_bytes}
+use Rattle.std.proofs.Common.{◌≡◌, Bool, true, false, cond, List, [], ◌∷◌, ◌++◌, Option, None, Some, String, Global, codes, bytes_eq, inl, inr, refl, sym, ◌∙◌, subst, append_assoc, true≢false, if◌then◌else◌, Result, Ok, Err, IfOk, map, option_map, string_bytes}
 use Rattle.std.specs.Borrow.{Bor}
 use Rattle.std.specs.BTreeMap.{BTreeMap, get_by_text, UpdatesBy}
 use Rattle.std.specs.Cmp.Lexicographic.{slice_cmp}
@@ -7,7 +7,6 @@ use Rattle.std.specs.Ordering.{nat_cmp}
 use Rattle.std.specs.String.{string_cmp}
 use Rattle.std.proofs.lemmas.List.{append-nil, map-append}
 use Rattle.std.proofs.lemmas.Map.Text.{btree_map_updates_text}
-use Rattle.std.proofs.lemmas.Slice.Eq.{bytes_eq-Decides}
 use Rattle.std.specs.declared.alloc.AllocError.{AllocError}
 use Rattle.arrow_values.specs.Tree.{Text}
 use Rattle.arrow_columns.specs.Column.{ColumnTree, column_tree}
@@ -21,7 +20,7 @@ use Rattle.geoparquet.specs.Encodings.{IsEncodedAs}
 use Rattle.serde_json.specs.Data.{Data}
 use Rattle.serde_json.specs.Find.{get}
 use Rattle.geo_columns.specs.Extensions.{member_named, IsTextOfMember, IsColumnText, AreColumnTexts}
-use Rattle.geo_columns.specs.GeoColumns.{IsNamed, IsNameFor, extended, IsGeoColumn, IsGeoColumnOf, IsTextLeft, AreGeoColumnsFrom, AreGeoColumns}
+use Rattle.geo_columns.specs.GeoColumns.{IsNameFor, extended, IsGeoColumn, IsGeoColumnOf, IsTextLeft, AreGeoColumnsFrom, AreGeoColumns}
 
 -- ---- one more column
 

@@ -18,21 +18,16 @@ pub handed_on : {T E : Type 0} (P : E → Type 0) (r : Result T E) (x : E) → I
 handed_on P r x is h = grind arith
 
 -- an answer to a line, with its line feed, answers that line
-module _ (command : Command) (line text answer : Bytes) (same : text ≡ answer) (is : Answers command line answer) where
-  answered_line : Answered command [] (line ∷ []) (text ++ (line_feed ∷ []))
+module _ (command : Command) (line answer text : Bytes) (is : Answers command line answer) (fed : text ≡ answer ++ (line_feed ∷ [])) where
+  answered_line : Answered command [] (line ∷ []) text
   unfolding Answered
-  answered_line = (answer, [], is, ap (λ l. l ++ (line_feed ∷ [])) same, refl)
+  answered_line = (answer, [], is, fed, refl)
 
-  module _ (old mid new : Option Bytes) where
-    pub answer_breaks_off : AppendsSome (FrontOf (λ whole. text ≡ whole)) old new → AppendsSome (FrontOf (Answered command [] (line ∷ []))) old new
-    answer_breaks_off (front, (back, whole), written) = (front, (back ++ (line_feed ∷ []), rw (← append_assoc, ← whole) answered_line), written)
+  pub answer_written : (old new : Option Bytes) → Appends old new text → AppendsSome (Answered command [] (line ∷ [])) old new
+  answer_written old new written = (text, answered_line, written)
 
-    pub feed_breaks_off : Appends old mid text → AppendsSome (FrontOf (λ whole. line_feed ∷ [] ≡ whole)) mid new
-        → AppendsSome (FrontOf (Answered command [] (line ∷ []))) old new
-    feed_breaks_off written (front, (back, whole), more) = (text ++ front, (back, rw (append_assoc, ← whole) answered_line), Appends-trans old mid new text front written more)
-
-    pub answer_written : Appends old mid text → Appends mid new (line_feed ∷ []) → AppendsSome (Answered command [] (line ∷ [])) old new
-    answer_written written fed = (text ++ (line_feed ∷ []), answered_line, Appends-trans old mid new text (line_feed ∷ []) written fed)
+  pub answer_breaks_off : (old new : Option Bytes) → AppendsSome (FrontOf (λ whole. text ≡ whole)) old new → AppendsSome (FrontOf (Answered command [] (line ∷ []))) old new
+  answer_breaks_off old new (front, (back, whole), written) = (front, (back, rw (← whole) answered_line), written)
 
 pub answered_none : (command : Command) (last : Bytes) → Answered command last [] last
 unfolding Answered

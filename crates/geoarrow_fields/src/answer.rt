@@ -6,7 +6,7 @@ ghost use Rattle.geoarrow_columns.specs.Report.{IsRefusedFor};
 ghost use Rattle.geoarrow_fields.specs.Answer.{Answers, AnswersField, error_text};
 
 use crate::Command;
-use crate::words::{column_text, error_text, inferred_text, type_text};
+use crate::words::{column_text, error_text, inferred_text, type_after};
 use arrow_values::{Field, GeoArrowError};
 use field_lines::{field_line, parse_line_with_scratch};
 use geoarrow_columns::{ColumnFault, check_column};
@@ -33,16 +33,9 @@ pub(crate) fn answer_line_with_scratch(
 ) -> Result<String, AllocError>
     ensures { IfOk result (λ answer. Answers command line.now (string_bytes answer)) }
 {
-    match parse_line_with_scratch(alloc, line, scratch)? {
-        Some(field) => answer_field(alloc, command, field),
-        None => String::from_str(alloc, "error field"),
-    }
-}
-
-/// The answer to a field.
-fn answer_field(alloc: Global, command: Command, field: Field) -> Result<String, AllocError>
-    ensures { IfOk result (λ answer. AnswersField command field (string_bytes answer)) }
-{
+    let Some(field) = parse_line_with_scratch(alloc, line, scratch)? else {
+        return String::from_str(alloc, "error field");
+    };
     match command {
         Command::Read => answer_read(alloc, &field),
         Command::Infer => inferred_text(alloc, &check_column(alloc, &field)?),
@@ -56,7 +49,7 @@ fn answer_read(alloc: Global, field: &Field) -> Result<String, AllocError>
     ensures { IfOk result (λ answer. AnswersField Command.Read field.now (string_bytes answer)) }
 {
     match GeoArrowType::from_extension_field(alloc, field) {
-        Ok(Some(found)) => type_text(alloc, &found),
+        Ok(Some(found)) => type_after(alloc, "", &found),
         Ok(None) => String::from_str(alloc, "none"),
         Err(error) => answer_refused(alloc, field, &error),
     }

@@ -62,9 +62,9 @@ pub(crate) fn write_answer<W: Write>(
     ensures err { IfErr result (λ fault. Breaks fault (Answered command [] (line.now ∷ []))
         (W.contents writer.old) (W.contents writer.new)) }
 {
-    let answer = answer_line_with_scratch(alloc, command, line, scratch)?;
-    write_whole(writer, answer.as_bytes())?;
-    write_whole(writer, b"\n")
+    let mut answer = answer_line_with_scratch(alloc, command, line, scratch)?;
+    answer.push_str("\n")?;
+    write_whole(writer, answer.as_bytes())
 }
 
 /// Writes the last line of an end, and returns that end unless the writer fails.

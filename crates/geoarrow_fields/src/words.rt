@@ -1,20 +1,25 @@
 //! The words of the answers.
-ghost use Rattle.std.specs.Prelude.{◌≡◌, ◌++◌, IfOk, option_map, string_bytes};
-ghost use Rattle.geoarrow_meta.specs.Written.{printed};
-ghost use Rattle.geoarrow_fields.specs.Answer.{native_word, kind_word, coord_type_word, dimension_word, type_text, error_text, column_text, inferred_text};
+ghost use Rattle.std.specs.Prelude.{◌≡◌, ◌++◌, IfOk, string_bytes};
+ghost use Rattle.geoarrow_fields.specs.Answer.{kind_word, coord_type_word, dimension_word, type_text, error_text, column_text, inferred_text};
 
 use geoarrow_columns::{Column, ColumnFault};
-use geoarrow_schema::{CoordType, Dimension, GeoArrowType, Kind, Metadata, NativeKind, Width};
+use geoarrow_schema::{CoordType, Dimension, GeoArrowType, Kind, NativeKind, Width};
 use std::alloc::{AllocError, Global};
 
 /// The capacity for the words of a type and what comes before them, without its metadata.
 const WORDS_ROOM: usize = 48;
 
 /// A type, after a text: kind, coordinate type, dimension and metadata.
-fn type_behind(alloc: Global, before: &str, found: &GeoArrowType) -> Result<String, AllocError>
+pub(crate) fn type_after(
+    alloc: Global,
+    before: &str,
+    found: &GeoArrowType,
+) -> Result<String, AllocError>
     ensures { IfOk result (λ text. string_bytes text ≡ before.now ++ type_text found.now) }
 {
-    let written = metadata_text(alloc, found.metadata())?;
+    let Ok(written) = found.metadata().serialize(alloc) else {
+        return Err(AllocError);
+    };
     let metadata = match &written {
         Some(text) => text.as_str(),
         None => "-",
@@ -33,20 +38,13 @@ fn type_behind(alloc: Global, before: &str, found: &GeoArrowType) -> Result<Stri
     Ok(text)
 }
 
-/// A type: kind, coordinate type, dimension and metadata.
-pub(crate) fn type_text(alloc: Global, found: &GeoArrowType) -> Result<String, AllocError>
-    ensures { IfOk result (λ text. string_bytes text ≡ type_text found.now) }
-{
-    type_behind(alloc, "", found)
-}
-
 /// What a column holds, as `columns` says it.
 pub(crate) fn column_text(alloc: Global, column: &Column) -> Result<String, AllocError>
     ensures { IfOk result (λ text. string_bytes text ≡ column_text column.now) }
 {
     match column {
-        Column::Geometry(found) => type_behind(alloc, "geometry ", found),
-        Column::Inferred(found) => type_behind(alloc, "inferred ", found),
+        Column::Geometry(found) => type_after(alloc, "geometry ", found),
+        Column::Inferred(found) => type_after(alloc, "inferred ", found),
         Column::Other => String::from_str(alloc, "other"),
         Column::Faulty(ColumnFault::Arrow) => String::from_str(alloc, "faulty arrow"),
         Column::Faulty(ColumnFault::InvalidGeoArrow) => String::from_str(alloc, "faulty invalid"),
@@ -58,7 +56,7 @@ pub(crate) fn inferred_text(alloc: Global, column: &Column) -> Result<String, Al
     ensures { IfOk result (λ text. string_bytes text ≡ inferred_text column.now) }
 {
     match column {
-        Column::Geometry(found) | Column::Inferred(found) => type_text(alloc, found),
+        Column::Geometry(found) | Column::Inferred(found) => type_after(alloc, "", found),
         Column::Other => String::from_str(alloc, "error invalid"),
         Column::Faulty(fault) => String::from_str(alloc, error_text(*fault)),
     }
@@ -74,16 +72,6 @@ pub(crate) fn error_text(fault: ColumnFault) -> &'static str
     }
 }
 
-/// The text of a metadata, if it has one.
-fn metadata_text(alloc: Global, metadata: &Metadata) -> Result<Option<String>, AllocError>
-    ensures { IfOk result (λ text. option_map string_bytes text ≡ printed metadata.now) }
-{
-    match metadata.serialize(alloc) {
-        Ok(text) => Ok(text),
-        Err(_) => Err(AllocError),
-    }
-}
-
 /// The word of a kind, as answers have it (`docs/FORMAT.md`, 2.2): `point` to `geometrycollection`, `box`, `geometry`, and `wkb`,
 /// `large_wkb`, `wkb_view` and the like of `wkt`. Allocates nothing.
 ///
@@ -94,7 +82,13 @@ pub fn kind_word(kind: Kind) -> &'static str
     ensures { result.now ≡ kind_word kind }
 {
     match kind {
-        Kind::Native(kind, _, _) => native_word(kind),
+        Kind::Native(NativeKind::Point, _, _) => "point",
+        Kind::Native(NativeKind::LineString, _, _) => "linestring",
+        Kind::Native(NativeKind::Polygon, _, _) => "polygon",
+        Kind::Native(NativeKind::MultiPoint, _, _) => "multipoint",
+        Kind::Native(NativeKind::MultiLineString, _, _) => "multilinestring",
+        Kind::Native(NativeKind::MultiPolygon, _, _) => "multipolygon",
+        Kind::Native(NativeKind::GeometryCollection, _, _) => "geometrycollection",
         Kind::Geometry(_) => "geometry",
         Kind::Rect(_) => "box",
         Kind::Wkb(Width::Plain) => "wkb",
@@ -103,21 +97,6 @@ pub fn kind_word(kind: Kind) -> &'static str
         Kind::Wkt(Width::Plain) => "wkt",
         Kind::Wkt(Width::Large) => "large_wkt",
         Kind::Wkt(Width::View) => "wkt_view",
-    }
-}
-
-/// The word of a native kind.
-fn native_word(kind: NativeKind) -> &'static str
-    ensures { result.now ≡ native_word kind }
-{
-    match kind {
-        NativeKind::Point => "point",
-        NativeKind::LineString => "linestring",
-        NativeKind::Polygon => "polygon",
-        NativeKind::MultiPoint => "multipoint",
-        NativeKind::MultiLineString => "multilinestring",
-        NativeKind::MultiPolygon => "multipolygon",
-        NativeKind::GeometryCollection => "geometrycollection",
     }
 }
 

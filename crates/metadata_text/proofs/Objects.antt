@@ -6,7 +6,6 @@ use Rattle.json.specs.Reads.{token_of, Yields}
 use Rattle.json.specs.declared.token.Token.{Token}
 use Rattle.json.specs.declared.token.Token.TheVariants.{BeginObject}
 use Rattle.serde_json.specs.Data.{Data, object, Members, no_members}
-use Rattle.serde_json.specs.Find.{as_object}
 use Rattle.value_tokens.specs.Next.{next_value, next_members}
 use Rattle.value_tokens.specs.Turns.{no_value, value-object}
 use Rattle.value_tokens.specs.Beginnings.{value_begins, no_object}

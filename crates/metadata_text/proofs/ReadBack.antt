@@ -11,7 +11,7 @@ use Rattle.json.specs.Tree.{json_tokens}
 use Rattle.json.proofs.Unique.Spelling.{value-json_tokens_back}
 use Rattle.json.proofs.Nesting.{value-depth}
 use Rattle.json.proofs.Printed.Trees.{value-json_tokens}
-use Rattle.serde_json.specs.Data.{Data, null, object, Members, no_members, put}
+use Rattle.serde_json.specs.Data.{Data, object, Members, no_members, put}
 use Rattle.serde_json.specs.Data as tree
 use Rattle.serde_json.specs.Read.{of_json, converted, read}
 use Rattle.value_tokens.specs.Next.{next_value, next_members}

@@ -52,6 +52,6 @@ Refuses bytes (errors.Invalid rule offset) read = (left : ℕ) × (read ≡ Err 
 Refuses bytes errors.Memory read = Unit {0}
 
 -- a public call returned, seen by view, what reading these bytes gives, or is out of memory
-abbrev pub Answers : {X Y : Type 0} → (X → Y) → List ℕ → Result X FooterError → Result Y Fault → Type 0
-Answers view bytes (Ok x) read = read ≡ Ok (view x)
-Answers view bytes (Err e) read = Refuses bytes e read
+abbrev pub Says : {X Y : Type 0} → (X → Y) → List ℕ → Result X FooterError → Result Y Fault → Type 0
+Says view bytes (Ok x) read = read ≡ Ok (view x)
+Says view bytes (Err e) read = Refuses bytes e read

@@ -1,6 +1,6 @@
 //! A footer, and the end of a file, which says where its footer begins.
 ghost use Rattle.std.specs.Prelude.{◌≡◌, map};
-ghost use Rattle.parquet_footer.specs.Fault.{Returns, Gives, Answers};
+ghost use Rattle.parquet_footer.specs.Fault.{Returns, Gives, Says};
 ghost use Rattle.parquet_footer.specs.Element.{element, element_at};
 ghost use Rattle.parquet_footer.specs.Tail.{length_at};
 ghost use Rattle.parquet_footer.specs.Footer.{all_at, pairing, key_value_at, contents, footer_at};
@@ -87,7 +87,7 @@ fn footer_at(alloc: Global, bytes: &[u8]) -> Result<Footer<'_>, Stop>
 /// Errs with `Invalid` where the bytes break a rule, with the first one that they break and its offset, which is at most
 /// the number of bytes; and with `Memory`.
 pub fn read_footer(alloc: Global, bytes: &[u8]) -> Result<Footer<'_>, FooterError>
-    ensures { Answers contents bytes.now result (footer_at bytes.now) }
+    ensures { Says contents bytes.now result (footer_at bytes.now) }
 {
     match footer_at(alloc, bytes) {
         Ok(footer) => Ok(footer),

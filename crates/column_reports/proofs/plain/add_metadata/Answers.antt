@@ -1,4 +1,4 @@
-use Rattle.std.proofs.Common.{◌≡◌, ◌∷◌, [], ◌++◌, map, string_bytes, sym, ap, ◌∙◌, append_assoc}
+use Rattle.std.proofs.Common.{◌∷◌, [], ◌++◌, map, string_bytes, sym, ap, ◌∙◌, append_assoc}
 use Rattle.column_reports.specs.Reasons.{crs_type_message, edges_message, metadata_words}
 use Rattle.column_reports.proofs.plain.add_metadata.Goals as goal
 

@@ -107,7 +107,7 @@ take_parts-parts-preserved-then-str_eq-4 t c =
     parts_go_on c.parts.invariant (rw (c.in-Some.is, c.in-metadata.is) at c.in_ok-key.ensures.value) read.1 refl refl refl read.2
 
 pub take_parts-returns-clause-ok : goal.take_parts-returns-clause-ok
-take_parts-returns-clause-ok t c = parts_end c.parts.invariant c.in_ok-field_of.ensures (grind arith)
+take_parts-returns-clause-ok t c = IfOk-weaker c.field_of.result _ _ (λ o is. parts_end c.parts.invariant is (grind arith)) c.field_of.ensures.ok
 
 pub take_pair-returns-then-not-take_end_array-clause-ok : goal.take_pair-returns-then-not-take_end_array-clause-ok
 take_pair-returns-then-not-take_end_array-clause-ok t c =

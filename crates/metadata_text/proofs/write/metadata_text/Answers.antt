@@ -1,10 +1,8 @@
-use Rattle.std.proofs.Common.{◌≡◌, ◌++◌, [], ◌∷◌, codes, option_map, sym, ap, ◌∙◌}
-use Rattle.json.specs.Token.{begin_object, end_object, key}
+use Rattle.std.proofs.Common.{◌++◌, sym, ap, ◌∙◌}
 use Rattle.json.specs.Lex.{tokens}
 use Rattle.json.specs.Print.{print}
-use Rattle.value_tokens.specs.Adds.{Adds, sent, then}
-use Rattle.geoarrow_meta.specs.Read.{crs_type_text, edges_text}
-use Rattle.metadata_text.specs.Written.{crs_tokens, string_tokens, metadata_tokens}
+use Rattle.value_tokens.specs.Adds.{sent, then}
+use Rattle.metadata_text.specs.Written.{crs_tokens, metadata_tokens}
 use Rattle.metadata_text.proofs.ReadBack.{reads, whole_text}
 use Rattle.metadata_text.proofs.write.metadata_text.Goals as goal
 

@@ -1,4 +1,4 @@
-use Rattle.std.proofs.Common.{◌≡◌, map, arith}
+use Rattle.std.proofs.Common.{map, arith}
 use Rattle.parquet_footer.specs.Element.{element}
 use Rattle.parquet_footer.specs.Footer.{contents, pairing}
 use Rattle.parquet_columns.specs.Columns.{columns_of}

@@ -1,9 +1,7 @@
-use Rattle.std.proofs.Common.{◌≡◌, Ok, Err, arith}
+use Rattle.std.proofs.Common.{◌≡◌, Ok, arith}
 use Rattle.arrow_values.specs.Texts.{text_of}
-use Rattle.parquet_footer.specs.Footer.{Contents, contents, footer_at}
-use Rattle.parquet_schema.specs.Fault.{map_ok}
+use Rattle.parquet_footer.specs.Footer.{contents, footer_at}
 use Rattle.parquet_schema.specs.Reads.{IsValueOf}
-use Rattle.parquet_schema.specs.declared.fault.SchemaError.TheVariants.{OutOfMemory}
 use Rattle.parquet_schema.proofs.Steps.{is_parsed, is_refused}
 use Rattle.parquet_schema.proofs.file.value_in_bytes.Goals as goal
 

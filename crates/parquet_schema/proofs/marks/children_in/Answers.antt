@@ -1,6 +1,4 @@
 use Rattle.std.proofs.Common.{◌-◌, ◌+◌, ap, ◌∙◌, arith}
-use Rattle.parquet_footer.specs.Element.{element}
-use Rattle.parquet_schema.specs.Geometry.{count_of, children_in}
 use Rattle.parquet_schema.proofs.Children.{takes, passes, all_found, same_item}
 use Rattle.parquet_schema.proofs.marks.children_in.Goals as goal
 use Rattle.parquet_schema.proofs.marks.children_in.Goals.{then-below-eq0+in_ok-push, else-below-eq0}

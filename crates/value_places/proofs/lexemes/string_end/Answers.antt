@@ -7,7 +7,7 @@ use Rattle.value_places.proofs.Cuts.{cut_none}
 use Rattle.value_places.proofs.Strings.{past, lex_past, closing}
 use Rattle.value_places.proofs.Texts.{past_quote, past_step, past_end, content_cut}
 use Rattle.value_places.proofs.lexemes.string_end.Goals as goal
-use Rattle.value_places.proofs.lexemes.string_end.Goals.{Then-bytes-at-eq34, After-loop-at}
+use Rattle.value_places.proofs.lexemes.string_end.Goals.{Then-bytes-at-eq34}
 
 pub loop-at-preserved : goal.loop-at-preserved
 loop-at-preserved c =
