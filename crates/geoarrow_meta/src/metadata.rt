@@ -141,14 +141,9 @@ impl Metadata {
         let Some(edges) = edges else {
             return Err(external_fault(alloc, "unknown edges"));
         };
-        let kept = match crs {
-            Some(found) => Some(CrsValue::new(found)),
-            None => None,
-        };
-        Ok(Metadata {
-            crs: Crs::of_parts(kept, crs_type),
-            edges,
-        })
+        let value = crs.map(CrsValue::new);
+        let crs = Crs { value, crs_type };
+        Ok(Metadata { crs, edges })
     }
 
     /// The text that denotes the metadata at a field's `ARROW:extension:metadata`: the compact JSON text of `to_value`.
@@ -164,17 +159,6 @@ impl Metadata {
             → DenotesMetadata (option_map string_bytes text) (normal self.now)) }
         ensures nested { IfOk result (λ text. NestsWithin 100 self.now.crs.value
             → DenotesMetadata (option_map string_bytes text) (normal self.now)) }
-    {
-        Ok(self.print(alloc)?)
-    }
-
-    // The text of `serialize`.
-    fn print(&self, alloc: Global) -> Result<Option<String>, AllocError>
-        ensures text { MatchResult result (λ text. option_map string_bytes text ≡ printed self.now)
-            (λ _. IsSome (printed self.now)) }
-        ensures read_back { OnOk result (NestsWithin max_depth (meta_value self.now)
-            → IsReadBack (meta_value self.now)) }
-        ensures valid { IfSome self.now.crs.value IsCrsValue }
     {
         let value = self.crs.crs_value();
         if self.is_bare() {
@@ -217,10 +201,7 @@ impl Metadata {
             Ok(None) => Err(external_fault(alloc, "metadata is not an object")),
             Err(refusal) => return Err(unread(alloc, refusal)),
         };
-        match read {
-            Ok(metadata) => Ok(metadata),
-            Err(e) => Err(into_external(alloc, e)),
-        }
+        read.map_err(|e| into_external(alloc, e))
     }
 
     /// The metadata of `deserialize` in an `Arc`, as extension types hold their metadata. Errs as `deserialize` does.
@@ -280,13 +261,10 @@ impl Metadata {
         ensures value { result ≡ normal self }
         ensures again { normal result ≡ result }
     {
-        if !self.is_bare() {
-            return self;
+        let mut normal = self;
+        if normal.is_bare() {
+            normal.crs.crs_type = None;
         }
-        let Metadata { crs, edges } = self;
-        Metadata {
-            crs: crs.without_type(),
-            edges,
-        }
+        normal
     }
 }

@@ -5,7 +5,7 @@ ghost use Rattle.serde_json.specs.View.{view, number_view, items_view, members_v
 ghost use Rattle.serde_json.specs.Find.{is_float};
 ghost use Rattle.serde_json.specs.Written.{has_float, items_have_float, members_have_float};
 ghost use Rattle.geoarrow_meta.specs.Code.{same};
-ghost use Rattle.geoarrow_meta.specs.Whole.{is_integer, is_whole, items_are_whole, members_are_whole};
+ghost use Rattle.geoarrow_meta.specs.Whole.{is_whole, items_are_whole, members_are_whole};
 
 use serde_json::{Map, Number, Value};
 
@@ -22,17 +22,10 @@ pub fn holds_whole_numbers(value: &Value) -> bool
 {
     match value {
         Value::Null | Value::Bool(_) | Value::String(_) => true,
-        Value::Number(number) => is_whole_number(number),
+        Value::Number(number) => number.as_u64().is_some() || number.as_i64().is_some(),
         Value::Array(items) => items_hold_whole(items),
         Value::Object(members) => members_hold_whole(members),
     }
-}
-
-fn is_whole_number(number: &Number) -> bool
-    ensures no_float { result ≡ not (is_float (number_view number.now)) }
-    ensures integer { result ≡ is_integer (number_view number.now) }
-{
-    number.as_u64().is_some() || number.as_i64().is_some()
 }
 
 #[cycle(whole)]

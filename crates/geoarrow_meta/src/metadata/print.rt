@@ -1,5 +1,5 @@
 //! The JSON object that a metadata is written as, printed with no JSON value between.
-ghost use Rattle.std.specs.Prelude.{◌≡◌, false, IfSome, OnOk, option_map, unwrap_or};
+ghost use Rattle.std.specs.Prelude.{◌≡◌, false, IfSome, OnOk, option_map};
 ghost use Rattle.serde_json.specs.Data.{null};
 ghost use Rattle.serde_json.specs.View.{view};
 ghost use Rattle.serde_json.specs.Written.{has_float};
@@ -27,21 +27,13 @@ pub(crate) fn print_parts(
 {
     out.begin_object()?;
     out.key("crs")?;
-    print_crs(value, out)?;
+    match value {
+        Some(value) => print_value(value, out)?,
+        None => out.null()?,
+    }
     print_text("crs_type", crs_type.map(CrsType::as_text), out)?;
     print_text("edges", edges.map(Edges::as_text), out)?;
     out.end_object()
-}
-
-fn print_crs(value: Option<&Value>, out: &mut Writer) -> Result<(), AllocError>
-    requires { IfSome value (λ v. has_float (view v.now) ≡ false) }
-    ensures { OnOk result
-        (Prints (unwrap_or (option_map (λ v. view v.now) value.entry) null) out.old out.new) }
-{
-    match value {
-        Some(value) => print_value(value, out),
-        None => out.null(),
-    }
 }
 
 // Prints a text at the key, if there is one.

@@ -25,12 +25,8 @@ pub(crate) fn written_value(
         None => Value::Null,
     };
     serde_json::put(&mut members, alloc, "crs", crs)?;
-    put_text(
-        &mut members,
-        alloc,
-        "crs_type",
-        crs_type.map(CrsType::as_text),
-    )?;
+    let crs_type = crs_type.map(CrsType::as_text);
+    put_text(&mut members, alloc, "crs_type", crs_type)?;
     put_text(&mut members, alloc, "edges", edges.map(Edges::as_text))?;
     Ok(Value::Object(members))
 }
