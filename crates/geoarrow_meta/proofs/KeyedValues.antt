@@ -7,7 +7,7 @@ use Rattle.serde_json.specs.Data.{Data, null, string, object, Members, no_member
 use Rattle.serde_json.specs.Find.{as_null, as_str, get_member}
 use Rattle.arrow_values.specs.Tree.{Text}
 use Rattle.value_tokens.specs.Next.{next_value, next_members}
-use Rattle.value_tokens.specs.Turns.{member_read, member_refused}
+use Rattle.value_tokens.specs.Turns.{member_read}
 use Rattle.value_tokens.specs.Presence.{get_member-put_at}
 use Rattle.geoarrow_meta.specs.declared.edges.Edges.{Edges}
 use Rattle.geoarrow_meta.specs.declared.crs.crs_type.CrsType.{CrsType}
@@ -50,9 +50,6 @@ none_yet depth all = record { found = no_members; decides = refl; values = recor
 
 module _ {depth : _} {all left : List Token} {crs : Option Data} {crs_type : Option (Option CrsType)} {edges : Option (Option Edges)}
     (way : AreValuesSoFar depth all left crs crs_type edges) (k : Text) (s : List Token) (named : read_key left ≡ Some (Some k, s)) where
-  pub values_refused : next_value depth s ≡ None → next_members depth no_members all ≡ None
-  values_refused refused = way.decides ∙ member_refused depth way.found k left s named refused
-
   module _ {d : Data} {r : List Token} (read : next_value depth s ≡ Some (d, r)) where
     goes_on : {crs : Option Data} {crs_type : Option (Option CrsType)} {edges : Option (Option Edges)} → crs ≡ put_at (codes "crs") k d way.found
         → IsNamed crs_type_data crs_type (put_at (codes "crs_type") k d way.found) → IsNamed edges_data edges (put_at (codes "edges") k d way.found) → AreValuesSoFar depth all r crs crs_type edges
