@@ -51,7 +51,7 @@ fn read_tokens(alloc: Global, text: &str) -> Result<Option<KeyValues<Value>>, Re
     Ok(found)
 }
 
-#[tactic(auto, using(crate::proofs::KeyedValues::none_yet, value_tokens::specs::Turns::key_refused, value_tokens::specs::Turns::member_refused, value_tokens::specs::Turns::members_over))]
+#[tactic(auto, using(crate::proofs::KeyedValues::none_yet, crate::proofs::KeyedValues::crs_taken, crate::proofs::KeyedValues::passed, value_tokens::specs::Turns::after_some, value_tokens::specs::Turns::key_refused, value_tokens::specs::Turns::member_refused, value_tokens::specs::Turns::members_over))]
 fn take_values(
     alloc: Global,
     reader: &mut Reader<'_>,

@@ -1,14 +1,7 @@
 use Rattle.std.proofs.Common.{Some, arith}
-use Rattle.value_tokens.specs.Next.{next_value}
-use Rattle.value_tokens.specs.Turns.{after_some}
 use Rattle.geoarrow_meta.specs.Read.{present}
-use Rattle.geoarrow_meta.proofs.KeyedValues.{crs_taken, crs_type_taken, edges_taken, passed}
+use Rattle.geoarrow_meta.proofs.KeyedValues.{crs_type_taken, edges_taken}
 use Rattle.geoarrow_meta.proofs.metadata.tokens.take_values.Goals as goal
-
-pub values-preserved-then-str_eq : goal.values-preserved-then-str_eq
-values-preserved-then-str_eq c =
-    let read = c.in_ok-crs-in-crs.ensures.ok in
-    crs_taken c.values.invariant c.in-Some-2.key.now c.next_key.new.self (grind arith) read.1 c.in-crs.is read.2
 
 pub values-preserved-then-str_eq-2 : goal.values-preserved-then-str_eq-2
 values-preserved-then-str_eq-2 c =
@@ -19,9 +12,3 @@ pub values-preserved-then-str_eq-3 : goal.values-preserved-then-str_eq-3
 values-preserved-then-str_eq-3 c =
     let read = c.in_ok-take_word-in-edges.ensures.ok in
     edges_taken c.values.invariant c.in-Some-2.key.now c.next_key.new.self (grind arith) read.1 c.in-edges.is (c.edges_of-edges.ensures (present (Some read.0)) read.2)
-
-pub values-preserved : goal.values-preserved
-values-preserved c =
-    let d = after_some (next_value c.in-Some.below c.next_key.new.self) c.skip_value.new.reader c.in_ok-skip_value-in_default-key.ensures.ok in
-    let other = c.in_default-key in
-    passed c.values.invariant c.in-Some-2.key.now c.next_key.new.self (grind arith) d.1 other.not-crs other.not-crs_type other.not-edges
