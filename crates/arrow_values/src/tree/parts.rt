@@ -27,7 +27,7 @@ impl Field {
     ) -> Result<Field, AllocError>
         ensures { IfOk result (λ f. f ≡ field_tree name.now (tree data_type) nullable []) }
     {
-        let name = Name::copied(alloc, name)?;
+        let name = Name::Owned(String::from_str(alloc, name)?);
         Ok(Field::of_parts(name, data_type, nullable, BTreeMap::new(alloc)))
     }
 
