@@ -125,23 +125,18 @@ impl Metadata {
         ensures err { IfErr result (λ e. (d : Data) → IsSome (as_object d)
             → AreValuesOf d (option_map view values.crs) values.crs_type values.edges → RefusedAs d e) }
     {
-        let KeyValues {
-            crs,
-            crs_type,
-            edges,
-        } = values;
-        if let Some(found) = &crs {
+        if let Some(found) = &values.crs {
             if !holds_whole_numbers(found) {
                 return Err(crs_fault(alloc, "CRS holds a number that is not whole"));
             }
         }
-        let Some(crs_type) = crs_type else {
+        let Some(crs_type) = values.crs_type else {
             return Err(external_fault(alloc, "unknown crs_type"));
         };
-        let Some(edges) = edges else {
+        let Some(edges) = values.edges else {
             return Err(external_fault(alloc, "unknown edges"));
         };
-        let value = crs.map(CrsValue::new);
+        let value = values.crs.map(CrsValue::new);
         let crs = Crs { value, crs_type };
         Ok(Metadata { crs, edges })
     }
