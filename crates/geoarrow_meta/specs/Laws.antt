@@ -1,5 +1,7 @@
 -- Laws of metadata, for the crates above.
-use Rattle.std.proofs.Common.{◌≡◌, Option, Some, None, option_map, refl, sym, ap, ◌∙◌, subst}
+use Rattle.std.proofs.Common.{◌≡◌, false, Option, Some, None, option_map, refl, sym, ap, ◌∙◌, subst, true≢false}
+use Rattle.std.proofs.lemmas.Slice.Eq.{bytes_eq-Decides}
+use Rattle.std.specs.Str.{bytes_eq}
 use Rattle.arrow_values.specs.Tree.{Text}
 use Rattle.serde_json.specs.Data.{Data, string}
 use Rattle.geoarrow_meta.specs.declared.edges.Edges.{Edges}
@@ -9,12 +11,15 @@ use Rattle.geoarrow_meta.specs.declared.crs.crs_type.CrsType.TheVariants.{Projjs
 use Rattle.geoarrow_meta.specs.declared.metadata.Metadata.{Metadata}
 use Rattle.geoarrow_meta.specs.Read.{edges_text, crs_type_text, Denotes, DenotesMetadata}
 
+differ : (s t : Text) → bytes_eq s t ≡ false → s ≡ t → ⊥
+differ s t other e = true≢false (sym ((bytes_eq-Decides s t).1 e) ∙ other)
+
 crs_type_text-inj : (a b : CrsType) → crs_type_text a ≡ crs_type_text b → a ≡ b
 crs_type_text-inj Projjson Projjson e = refl
 crs_type_text-inj Wkt2_2019 Wkt2_2019 e = refl
 crs_type_text-inj AuthorityCode AuthorityCode e = refl
 crs_type_text-inj Srid Srid e = refl
-crs_type_text-inj _ _ e = cc
+crs_type_text-inj _ _ e = absurd (differ _ _ refl e)
 
 edges_text-inj : (a b : Edges) → edges_text a ≡ edges_text b → a ≡ b
 edges_text-inj Andoyer Andoyer e = refl
@@ -22,13 +27,13 @@ edges_text-inj Karney Karney e = refl
 edges_text-inj Spherical Spherical e = refl
 edges_text-inj Thomas Thomas e = refl
 edges_text-inj Vincenty Vincenty e = refl
-edges_text-inj _ _ e = cc
+edges_text-inj _ _ e = absurd (differ _ _ refl e)
 
 same_name : {A : Type 0} (text : A → Text) → ((a b : A) → text a ≡ text b → a ≡ b)
     → (a b : Option A) → option_map (λ x. string (text x)) a ≡ option_map (λ x. string (text x)) b → a ≡ b
 same_name text inj None None e = refl
 same_name text inj (Some a) (Some b) e = ap Some (inj a b cc)
-same_name text inj _ _ e = cc
+same_name text inj _ _ e = absurd (cc)
 
 -- a JSON value denotes at most one metadata
 pub denotes_one : (d : Data) (m n : Metadata) → Denotes d m → Denotes d n → m ≡ n

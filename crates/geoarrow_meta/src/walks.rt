@@ -56,7 +56,7 @@ fn members_hold_whole(members: &Map<String, Value>) -> bool
 
 // Whether two values whose numbers are whole are the same.
 #[cycle(same)]
-#[tactic(auto, using(arrow_values::specs::Equal::codes, crate::proofs::Views::view_Bool, crate::proofs::Views::view_String))]
+#[tactic(auto, using(arrow_values::specs::Equal::codes, serde_json::specs::declared::value::Value::the_lemmas))]
 pub(crate) fn same_value(a: &Value, b: &Value) -> bool
     requires first { has_float (view a.now) ≡ false }
     requires second { has_float (view b.now) ≡ false }
