@@ -29,7 +29,7 @@ use arrow_values::{ArrowError, Field, GeoArrowResult};
 use json::Writer;
 pub use key_values::KeyValues;
 use key_values::values_of;
-use print::print_parts;
+use print::print_object;
 use serde_json::Value;
 use std::alloc::{AllocError, Global};
 use std::sync::Arc;
@@ -93,11 +93,10 @@ impl Metadata {
         ensures memory { IfErr result (λ _. IsSome (meta_value self.now)) }
         ensures valid { IfSome self.now.crs.value IsCrsValue }
     {
-        let value = self.crs.crs_value();
-        if value.is_none() && self.edges.is_none() {
+        if self.is_bare() {
             return Ok(None);
         }
-        Ok(Some(written_value(alloc, value, self.crs.crs_type(), self.edges)?))
+        Ok(Some(written_value(alloc, self)?))
     }
 
     /// The metadata that a JSON value denotes (GeoArrow, "Extension metadata"). The value must be an object. A
@@ -155,12 +154,11 @@ impl Metadata {
         ensures nested { IfOk result (λ text. NestsWithin 100 self.now.crs.value
             → DenotesMetadata (option_map string_bytes text) (normal self.now)) }
     {
-        let value = self.crs.crs_value();
         if self.is_bare() {
             return Ok(None);
         }
         let mut out = Writer::new(Vec::with_capacity(alloc, 128)?);
-        print_parts(value, self.crs.crs_type(), self.edges, &mut out)?;
+        print_object(self, &mut out)?;
         Ok(Some(unsafe { String::from_utf8_unchecked(out.into_inner()) }))
     }
 
@@ -245,7 +243,8 @@ impl Metadata {
 
     // Whether there is neither a CRS value nor edges.
     fn is_bare(&self) -> bool
-        ensures { result ≡ is_bare self.now.crs.value self.now.edges }
+        ensures bare { result ≡ is_bare self.now.crs.value self.now.edges }
+        ensures valid { IfSome self.now.crs.value IsCrsValue }
     {
         self.crs.crs_value().is_none() && self.edges.is_none()
     }

@@ -1,7 +1,6 @@
 use Rattle.std.proofs.Common.{if◌then◌else◌, None, Some, option_map, sym, ap, ◌∙◌, subst}
 use Rattle.serde_json.specs.Read.{max_depth}
 use Rattle.serde_json.specs.Written.{compact_text}
-use Rattle.value_tokens.specs.Adds.{Prints}
 use Rattle.value_tokens.specs.Printed.{printed, reads_back}
 use Rattle.geoarrow_meta.specs.Read.{DenotesMetadata}
 use Rattle.geoarrow_meta.specs.Written.{meta_value, normal, written, IsReadBack, NestsWithin}
@@ -12,10 +11,9 @@ pub returns : goal.returns
 returns c =
     let m = c.args.self.now in
     let d = written m.crs.value m.crs.crs_type m.edges in
-    let is = ap (λ bare. if bare then None else Some d) (sym c.if-is_bare.false ∙ c.is_bare.ensures) in
-    let prints : Prints d c.new-out.result c.print_parts.new.out = rw (← c.crs_value-value.ensures.value, ← c.crs_type.ensures) c.in_ok-print_parts.ensures in
-    let text = ap Some (ap (λ b. b.items) c.from_utf8_unchecked.ensures.value ∙ printed d (c.new-out.ensures.before ∙ c.in_ok-with_capacity.ensures.items) c.new-out.ensures.tokens prints c.into_inner.ensures.items) ∙ ap (option_map compact_text) is in
-    let back = subst (λ o. NestsWithin max_depth o → IsReadBack o) is (reads_back d c.new-out.ensures.tokens prints c.into_inner.ensures.reads_back) in
+    let is = ap (λ bare. if bare then None else Some d) (sym c.if-is_bare.false ∙ c.is_bare.ensures.bare) in
+    let text = ap Some (ap (λ b. b.items) c.from_utf8_unchecked.ensures.value ∙ printed d (c.new-out.ensures.before ∙ c.in_ok-with_capacity.ensures.items) c.new-out.ensures.tokens c.in_ok-print_object.ensures c.into_inner.ensures.items) ∙ ap (option_map compact_text) is in
+    let back = subst (λ o. NestsWithin max_depth o → IsReadBack o) is (reads_back d c.new-out.ensures.tokens c.in_ok-print_object.ensures c.into_inner.ensures.reads_back) in
     let stands = λ (back : IsReadBack (meta_value m)).
-    subst (λ o. DenotesMetadata o (normal m)) (sym text) (denotes_normal m c.crs_value-value.ensures.valid back) in
+    subst (λ o. DenotesMetadata o (normal m)) (sym text) (denotes_normal m c.is_bare.ensures.valid back) in
     record { text = text; read_back = back; reads_as = stands; nested = λ shallow. stands (back (nests_within m shallow)) }
