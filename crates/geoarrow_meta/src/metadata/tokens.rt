@@ -1,11 +1,11 @@
 //! The values of the three keys of the JSON object that a text is. The last value of a key counts.
 ghost use Rattle.std.specs.Prelude.{◌≡◌, ◌<◌, length, Some, None, Err, IfOk, OnOk, option_map};
-ghost use Rattle.serde_json.specs.Data.{Data, Members, no_members, object};
+ghost use Rattle.serde_json.specs.Data.{Data};
 ghost use Rattle.serde_json.specs.Read.{read};
 ghost use Rattle.serde_json.specs.View.{view};
-ghost use Rattle.value_tokens.specs.Next.{next_value, next_members, ReadsValue};
+ghost use Rattle.value_tokens.specs.Next.{next_value, ReadsValue};
 ghost use Rattle.geoarrow_meta.specs.Read.{present};
-ghost use Rattle.geoarrow_meta.specs.KeyValues.{IsWord, AreValuesOf, Finds};
+ghost use Rattle.geoarrow_meta.specs.KeyValues.{IsWord, Finds};
 
 use crate::metadata::key_values::{KeyValues, crs_type_of, edges_of};
 use crate::metadata::plain::plain_values;
