@@ -108,6 +108,7 @@ impl Crs {
         Crs::of_text(crs, None)
     }
 
+    // The CRS of a text, of that type.
     fn of_text(text: String, crs_type: Option<CrsType>) -> Crs
         ensures value { result.value ≡ Some (string (string_bytes text)) }
         ensures crs_type { result.crs_type ≡ crs_type }
