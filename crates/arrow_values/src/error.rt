@@ -161,17 +161,12 @@ impl GeoArrowError {
             other => Ok(ArrowError::ExternalError(Box::new(alloc, other)?)),
         }
     }
-}
 
-impl GeoArrowError {
     /// An `InvalidGeoArrow` with that message; or out of memory if there is none for the message.
     pub fn invalid_geoarrow(alloc: Global, message: &str) -> GeoArrowError
         ensures { IsGeoMemory result ⊎ IsInvalidOf message.now result }
     {
-        match String::from_str(alloc, message) {
-            Ok(message) => GeoArrowError::InvalidGeoArrow(message),
-            Err(_) => GeoArrowError::Arrow(ArrowError::OutOfMemory),
-        }
+        String::from_str(alloc, message).map_or(AllocError.into(), GeoArrowError::InvalidGeoArrow)
     }
 }
 
@@ -180,10 +175,7 @@ impl ArrowError {
     pub fn schema_error(alloc: Global, message: &str) -> ArrowError
         ensures { IsMemory result ⊎ IsSchemaOf message.now result }
     {
-        match String::from_str(alloc, message) {
-            Ok(message) => ArrowError::SchemaError(message),
-            Err(_) => ArrowError::OutOfMemory,
-        }
+        String::from_str(alloc, message).map_or(AllocError.into(), ArrowError::SchemaError)
     }
 }
 
@@ -191,8 +183,5 @@ impl ArrowError {
 pub(crate) fn invalid_argument(alloc: Global, message: &str) -> ArrowError
     ensures { IsInvalidArgument result }
 {
-    match String::from_str(alloc, message) {
-        Ok(message) => ArrowError::InvalidArgumentError(message),
-        Err(_) => ArrowError::OutOfMemory,
-    }
+    String::from_str(alloc, message).map_or(AllocError.into(), ArrowError::InvalidArgumentError)
 }

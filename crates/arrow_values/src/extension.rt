@@ -134,13 +134,11 @@ impl Field {
             → E.Agrees e a × (E.value_of (E.metadata_of e) ≡ E.value_of (E.metadata_of a))) }
         ensures refused { IfErr result (λ r. IsMemory r ⊎ IsRefusedAs E.ExtensionType self.now r) }
     {
-        match self.extension_type_name() {
-            None => return Err(invalid_argument(alloc, "extension name missing")),
-            Some(name) => {
-                if name != E::extension_name() {
-                    return Err(invalid_argument(alloc, "extension name differs"));
-                }
-            }
+        let Some(name) = self.extension_type_name() else {
+            return Err(invalid_argument(alloc, "extension name missing"));
+        };
+        if name != E::extension_name() {
+            return Err(invalid_argument(alloc, "extension name differs"));
         }
         let metadata = E::deserialize_metadata(alloc, self.extension_type_metadata())?;
         E::try_new(alloc, self.data_type(), metadata)

@@ -4,7 +4,7 @@ ghost use Rattle.std.specs.Option.{option_map};
 ghost use Rattle.std.specs.String.{string_cmp};
 ghost use Rattle.std.specs.BTreeMap.{IsOrdered};
 ghost use Rattle.arrow_values.specs.View.{texts_of};
-ghost use Rattle.arrow_values.specs.Texts.{name_key, metadata_key, text_at, text_of, put_text, remove_text, set_extension};
+ghost use Rattle.arrow_values.specs.Texts.{name_key, metadata_key, text_at, text_of, put_text, set_extension};
 
 use crate::tree::{EXTENSION_TYPE_METADATA_KEY, EXTENSION_TYPE_NAME_KEY};
 use std::alloc::{AllocError, Global};
@@ -89,14 +89,6 @@ fn put_text(
     Ok(())
 }
 
-/// Removes the text at a key.
-fn remove_text(texts: &mut BTreeMap<String, String>, key: &str)
-    requires { IsOrdered string_cmp texts.old }
-    ensures { texts_of texts.new.entries ≡ remove_text key.now (texts_of texts.old.entries) }
-{
-    texts.remove(key);
-}
-
 /// Puts `name` at the name key, and at the metadata key `text`, or nothing. When out of memory some of it may be put.
 pub(crate) fn set_extension(
     alloc: Global,
@@ -110,13 +102,12 @@ pub(crate) fn set_extension(
     let bare = texts.is_empty();
     let name = String::from_str(alloc, name)?;
     put_text(alloc, texts, EXTENSION_TYPE_NAME_KEY, name)?;
-    match text {
-        Some(text) => put_text(alloc, texts, EXTENSION_TYPE_METADATA_KEY, text),
-        None => {
-            if !bare {
-                remove_text(texts, EXTENSION_TYPE_METADATA_KEY);
-            }
-            Ok(())
-        }
+    if let Some(text) = text {
+        return put_text(alloc, texts, EXTENSION_TYPE_METADATA_KEY, text);
     }
+    if bare {
+        return Ok(());
+    }
+    texts.remove(EXTENSION_TYPE_METADATA_KEY);
+    Ok(())
 }

@@ -7,7 +7,7 @@ use Rattle.serde_json.specs.Data.{Data, null, string, object, Members, no_member
 use Rattle.serde_json.specs.Find.{as_null, as_str, get_member}
 use Rattle.arrow_values.specs.Tree.{Text}
 use Rattle.value_tokens.specs.Next.{next_value, next_members}
-use Rattle.value_tokens.specs.Turns.{member_read, member_refused}
+use Rattle.value_tokens.specs.Turns.{member_read}
 use Rattle.value_tokens.specs.Presence.{get_member-put_at}
 use Rattle.geoarrow_meta.specs.declared.edges.Edges.{Edges}
 use Rattle.geoarrow_meta.specs.declared.crs.crs_type.CrsType.{CrsType}
@@ -30,11 +30,11 @@ no_word _ e f (Some s) is = cc
 
 -- ---- a member that is put
 
-pub differs : (q k : Text) → (k ≡ q → ⊥) → bytes_eq q k ≡ false
+differs : (q k : Text) → (k ≡ q → ⊥) → bytes_eq q k ≡ false
 differs q k other = grind (arith, bytes_eq-Decides q k)
 
 -- what is found at a key once a value stands at k
-abbrev pub put_at : Text → Text → Data → Members → Option Data
+abbrev put_at : Text → Text → Data → Members → Option Data
 put_at q k d found = present (cond (bytes_eq q k) (Some d) (get_member q found))
 
 -- ---- the members that are taken so far
@@ -50,18 +50,29 @@ none_yet depth all = record { found = no_members; decides = refl; values = recor
 
 module _ {depth : _} {all left : List Token} {crs : Option Data} {crs_type : Option (Option CrsType)} {edges : Option (Option Edges)}
     (way : AreValuesSoFar depth all left crs crs_type edges) (k : Text) (s : List Token) (named : read_key left ≡ Some (Some k, s)) where
-  pub values_refused : next_value depth s ≡ None → next_members depth no_members all ≡ None
-  values_refused refused = way.decides ∙ member_refused depth way.found k left s named refused
+  module _ {d : Data} {r : List Token} (read : next_value depth s ≡ Some (d, r)) where
+    goes_on : {crs : Option Data} {crs_type : Option (Option CrsType)} {edges : Option (Option Edges)} → crs ≡ put_at (codes "crs") k d way.found
+        → IsNamed crs_type_data crs_type (put_at (codes "crs_type") k d way.found) → IsNamed edges_data edges (put_at (codes "edges") k d way.found) → AreValuesSoFar depth all r crs crs_type edges
+    goes_on crs crs_type edges = record {
+      found = put k d way.found;
+      decides = way.decides ∙ member_read depth way.found k left s r d named read;
+      values = record {
+        at_crs = rw (get_member-put_at (codes "crs") k d way.found) crs;
+        at_crs_type = rw (get_member-put_at (codes "crs_type") k d way.found) crs_type;
+        at_edges = rw (get_member-put_at (codes "edges") k d way.found) edges;
+      };
+    }
 
-  pub values_go_on : {d : Data} {r : List Token} {crs : Option Data} {crs_type : Option (Option CrsType)} {edges : Option (Option Edges)} → next_value depth s ≡ Some (d, r)
-      → crs ≡ put_at (codes "crs") k d way.found → IsNamed crs_type_data crs_type (put_at (codes "crs_type") k d way.found) → IsNamed edges_data edges (put_at (codes "edges") k d way.found)
-      → AreValuesSoFar depth all r crs crs_type edges
-  values_go_on {d} {r} read crs crs_type edges = record {
-    found = put k d way.found;
-    decides = way.decides ∙ member_read depth way.found k left s r d named read;
-    values = record {
-      at_crs = rw (get_member-put_at (codes "crs") k d way.found) crs;
-      at_crs_type = rw (get_member-put_at (codes "crs_type") k d way.found) crs_type;
-      at_edges = rw (get_member-put_at (codes "edges") k d way.found) edges;
-    };
-  }
+    -- of one of the three keys
+    pub crs_taken : {crs : Option Data} → k ≡ codes "crs" → crs ≡ present (Some d) → AreValuesSoFar depth all r crs crs_type edges
+    crs_taken is crs = goes_on (rw is crs) (rw is way.values.at_crs_type) (rw is way.values.at_edges)
+
+    pub crs_type_taken : {crs_type : Option (Option CrsType)} → k ≡ codes "crs_type" → IsNamed crs_type_data crs_type (present (Some d)) → AreValuesSoFar depth all r crs crs_type edges
+    crs_type_taken is crs_type = goes_on (rw is way.values.at_crs) (rw is crs_type) (rw is way.values.at_edges)
+
+    pub edges_taken : {edges : Option (Option Edges)} → k ≡ codes "edges" → IsNamed edges_data edges (present (Some d)) → AreValuesSoFar depth all r crs crs_type edges
+    edges_taken is edges = goes_on (rw is way.values.at_crs) (rw is way.values.at_crs_type) (rw is edges)
+
+    -- and of another
+    pub passed : (k ≡ codes "crs" → ⊥) → (k ≡ codes "crs_type" → ⊥) → (k ≡ codes "edges" → ⊥) → AreValuesSoFar depth all r crs crs_type edges
+    passed a b c = goes_on (rw (differs (codes "crs") k a) way.values.at_crs) (rw (differs (codes "crs_type") k b) way.values.at_crs_type) (rw (differs (codes "edges") k c) way.values.at_edges)

@@ -1,6 +1,5 @@
 pub mod Equality
 pub mod Order
-pub mod Views
 pub mod ReadBack
 pub mod KeyedValues
 pub mod Stands

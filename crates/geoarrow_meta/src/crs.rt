@@ -31,8 +31,8 @@ pub use value::CrsValue;
 /// ```
 #[derive(Debug, Default, PartialEq, Eq, Hash, Drop)]
 pub struct Crs {
-    value: Option<CrsValue>,
-    crs_type: Option<CrsType>,
+    pub(crate) value: Option<CrsValue>,
+    pub(crate) crs_type: Option<CrsType>,
 }
 
 impl Crs {
@@ -79,10 +79,7 @@ impl Crs {
         ensures value { result.value ≡ Some (string (string_bytes text)) }
         ensures crs_type { result.crs_type ≡ Some CrsType.Wkt2_2019 }
     {
-        Crs {
-            value: Some(CrsValue::new(Value::String(text))),
-            crs_type: Some(CrsType::Wkt2_2019),
-        }
+        Crs::of_text(text, Some(CrsType::Wkt2_2019))
     }
 
     /// The CRS of a text `AUTHORITY:CODE`, of type `AuthorityCode`. The text must contain a colon, which
@@ -92,10 +89,7 @@ impl Crs {
         ensures value { result.value ≡ Some (string (string_bytes code)) }
         ensures crs_type { result.crs_type ≡ Some CrsType.AuthorityCode }
     {
-        Crs {
-            value: Some(CrsValue::new(Value::String(code))),
-            crs_type: Some(CrsType::AuthorityCode),
-        }
+        Crs::of_text(code, Some(CrsType::AuthorityCode))
     }
 
     /// The CRS of an opaque text that only its producer understands, of type `Srid`.
@@ -103,10 +97,7 @@ impl Crs {
         ensures value { result.value ≡ Some (string (string_bytes srid)) }
         ensures crs_type { result.crs_type ≡ Some CrsType.Srid }
     {
-        Crs {
-            value: Some(CrsValue::new(Value::String(srid))),
-            crs_type: Some(CrsType::Srid),
-        }
+        Crs::of_text(srid, Some(CrsType::Srid))
     }
 
     /// The CRS of a text whose format is not known: it has no type.
@@ -114,29 +105,16 @@ impl Crs {
         ensures value { result.value ≡ Some (string (string_bytes crs)) }
         ensures crs_type { result.crs_type ≡ None }
     {
-        Crs {
-            value: Some(CrsValue::new(Value::String(crs))),
-            crs_type: None,
-        }
+        Crs::of_text(crs, None)
     }
 
-    // The CRS of two parts.
-    pub(crate) fn of_parts(value: Option<CrsValue>, crs_type: Option<CrsType>) -> Crs
-        ensures value { result.value ≡ value }
+    // The CRS of a text, of that type.
+    fn of_text(text: String, crs_type: Option<CrsType>) -> Crs
+        ensures value { result.value ≡ Some (string (string_bytes text)) }
         ensures crs_type { result.crs_type ≡ crs_type }
     {
+        let value = Some(CrsValue::new(Value::String(text)));
         Crs { value, crs_type }
-    }
-
-    // The CRS of the value alone.
-    pub(crate) fn without_type(self) -> Crs
-        ensures value { result.value ≡ self.value }
-        ensures crs_type { result.crs_type ≡ None }
-    {
-        Crs {
-            value: self.value,
-            crs_type: None,
-        }
     }
 
     /// The format of the value, if it is known.
@@ -151,10 +129,7 @@ impl Crs {
         ensures value { option_map (λ v. view v.now) result ≡ self.now.value }
         ensures valid { IfSome self.now.value IsCrsValue }
     {
-        match &self.value {
-            Some(value) => Some(value.as_value()),
-            None => None,
-        }
+        self.value.as_ref().map(CrsValue::as_value)
     }
 
     // Whether both hold the same value, or none.
@@ -164,9 +139,7 @@ impl Crs {
         ensures valid { IfSome self.now.value IsCrsValue }
         ensures other_valid { IfSome other.now.value IsCrsValue }
     {
-        let mine = self.crs_value();
-        let theirs = other.crs_value();
-        match (mine, theirs) {
+        match (self.crs_value(), other.crs_value()) {
             (None, None) => true,
             (Some(a), Some(b)) => same_value(a, b),
             _ => false,
@@ -177,12 +150,9 @@ impl Crs {
     pub fn try_clone(&self, alloc: Global) -> Result<Crs, AllocError>
         ensures { IfOk result (λ c. c ≡ self.now) }
     {
-        let value = match &self.value {
-            Some(value) => Some(value.try_clone(alloc)?),
-            None => None,
-        };
+        let value = self.value.as_ref().map(|value| value.try_clone(alloc));
         Ok(Crs {
-            value,
+            value: value.transpose()?,
             crs_type: self.crs_type,
         })
     }

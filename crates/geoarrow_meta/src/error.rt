@@ -7,37 +7,30 @@ ghost use Rattle.serde_json.specs.Read.{read};
 ghost use Rattle.geoarrow_meta.specs.Read.{HasFloat, RefusedAs, TextRefusedAs, IsExternalOrMemory};
 
 use arrow_values::{ArrowError, GeoArrowError};
-use std::alloc::Global;
+use std::alloc::{AllocError, Global};
 use value_tokens::Refusal;
 
 // A `Crs` error of that text; out-of-memory where there is none for the text.
 pub(crate) fn crs_fault(alloc: Global, text: &str) -> GeoArrowError
     ensures { (d : Data) → HasFloat d → RefusedAs d result }
 {
-    match String::from_str(alloc, text) {
-        Ok(message) => GeoArrowError::Crs(message),
-        Err(_) => GeoArrowError::Arrow(ArrowError::OutOfMemory),
-    }
+    String::from_str(alloc, text).map_or(AllocError.into(), GeoArrowError::Crs)
 }
 
 // An `External` error of that text; out-of-memory where there is none for the text.
 pub(crate) fn external_fault(alloc: Global, text: &str) -> GeoArrowError
     ensures { IsExternalOrMemory result }
 {
-    match String::from_str(alloc, text) {
-        Ok(message) => GeoArrowError::External(message),
-        Err(_) => GeoArrowError::Arrow(ArrowError::OutOfMemory),
-    }
+    String::from_str(alloc, text).map_or(AllocError.into(), GeoArrowError::External)
 }
 
 // The error as one of Arrow; out-of-memory where there is none for the box.
 pub(crate) fn into_external(alloc: Global, error: GeoArrowError) -> ArrowError
     ensures { IsArrowMemory result ⊎ IsArrowFormOf error result }
 {
-    match error.into_arrow_error(alloc) {
-        Ok(error) => error,
-        Err(_) => ArrowError::OutOfMemory,
-    }
+    error
+        .into_arrow_error(alloc)
+        .unwrap_or(ArrowError::OutOfMemory)
 }
 
 // What is answered for a text that was not read.

@@ -1,11 +1,10 @@
 //! Laws of the metadata, for the crates above: functions whose contract is the law.
-ghost use Rattle.std.specs.Prelude.{◌≡◌, ◌↔◌, true, IsTrue, IfSome};
+ghost use Rattle.std.specs.Prelude.{◌≡◌, ◌↔◌, IsTrue};
 ghost use Rattle.arrow_values.specs.Texts.{text_of};
 ghost use Rattle.serde_json.specs.View.{view};
 ghost use Rattle.geoarrow_meta.specs.declared.metadata.Metadata.{Metadata};
 ghost use Rattle.geoarrow_meta.specs.contracts.metadata.MetadataPartialEq.TheImpl as metadatas;
 ghost use Rattle.geoarrow_meta.specs.Written.{meta_value, printed, normal, IsReadBack, NestsWithin};
-ghost use Rattle.geoarrow_meta.specs.Whole.{is_whole};
 ghost use Rattle.geoarrow_meta.specs.Read.{Denotes, DenotesMetadata};
 
 use crate::crs::{Crs, CrsType};
@@ -46,19 +45,7 @@ pub fn nested_reads_back(metadata: &Metadata)
     ensures { NestsWithin 100 metadata.now.crs.value
         → IsReadBack (meta_value metadata.now) }
 {
-    crs_value_is_whole(metadata.crs());
-}
-
-// A CRS value is as `serde_json` holds one whose numbers are whole.
-fn crs_value_is_whole(crs: &Crs)
-    ensures { IfSome crs.now.value (λ d. is_whole d ≡ true) }
-{
-    match crs.crs_value() {
-        Some(value) => {
-            holds_whole_numbers(value);
-        }
-        None => {}
-    }
+    metadata.crs().crs_value().map(holds_whole_numbers);
 }
 
 /// A law: a JSON value denotes one metadata at most. There is nothing to run.

@@ -29,7 +29,7 @@ use arrow_values::{ArrowError, Field, GeoArrowResult};
 use json::Writer;
 pub use key_values::KeyValues;
 use key_values::values_of;
-use print::print_parts;
+use print::print_object;
 use serde_json::Value;
 use std::alloc::{AllocError, Global};
 use std::sync::Arc;
@@ -93,11 +93,10 @@ impl Metadata {
         ensures memory { IfErr result (λ _. IsSome (meta_value self.now)) }
         ensures valid { IfSome self.now.crs.value IsCrsValue }
     {
-        let value = self.crs.crs_value();
-        if value.is_none() && self.edges.is_none() {
+        if self.is_bare() {
             return Ok(None);
         }
-        Ok(Some(written_value(alloc, value, self.crs.crs_type(), self.edges)?))
+        Ok(Some(written_value(alloc, self)?))
     }
 
     /// The metadata that a JSON value denotes (GeoArrow, "Extension metadata"). The value must be an object. A
@@ -125,30 +124,20 @@ impl Metadata {
         ensures err { IfErr result (λ e. (d : Data) → IsSome (as_object d)
             → AreValuesOf d (option_map view values.crs) values.crs_type values.edges → RefusedAs d e) }
     {
-        let KeyValues {
-            crs,
-            crs_type,
-            edges,
-        } = values;
-        if let Some(found) = &crs {
+        if let Some(found) = &values.crs {
             if !holds_whole_numbers(found) {
                 return Err(crs_fault(alloc, "CRS holds a number that is not whole"));
             }
         }
-        let Some(crs_type) = crs_type else {
+        let Some(crs_type) = values.crs_type else {
             return Err(external_fault(alloc, "unknown crs_type"));
         };
-        let Some(edges) = edges else {
+        let Some(edges) = values.edges else {
             return Err(external_fault(alloc, "unknown edges"));
         };
-        let kept = match crs {
-            Some(found) => Some(CrsValue::new(found)),
-            None => None,
-        };
-        Ok(Metadata {
-            crs: Crs::of_parts(kept, crs_type),
-            edges,
-        })
+        let value = values.crs.map(CrsValue::new);
+        let crs = Crs { value, crs_type };
+        Ok(Metadata { crs, edges })
     }
 
     /// The text that denotes the metadata at a field's `ARROW:extension:metadata`: the compact JSON text of `to_value`.
@@ -165,23 +154,11 @@ impl Metadata {
         ensures nested { IfOk result (λ text. NestsWithin 100 self.now.crs.value
             → DenotesMetadata (option_map string_bytes text) (normal self.now)) }
     {
-        Ok(self.print(alloc)?)
-    }
-
-    // The text of `serialize`.
-    fn print(&self, alloc: Global) -> Result<Option<String>, AllocError>
-        ensures text { MatchResult result (λ text. option_map string_bytes text ≡ printed self.now)
-            (λ _. IsSome (printed self.now)) }
-        ensures read_back { OnOk result (NestsWithin max_depth (meta_value self.now)
-            → IsReadBack (meta_value self.now)) }
-        ensures valid { IfSome self.now.crs.value IsCrsValue }
-    {
-        let value = self.crs.crs_value();
         if self.is_bare() {
             return Ok(None);
         }
         let mut out = Writer::new(Vec::with_capacity(alloc, 128)?);
-        print_parts(value, self.crs.crs_type(), self.edges, &mut out)?;
+        print_object(self, &mut out)?;
         Ok(Some(unsafe { String::from_utf8_unchecked(out.into_inner()) }))
     }
 
@@ -217,10 +194,7 @@ impl Metadata {
             Ok(None) => Err(external_fault(alloc, "metadata is not an object")),
             Err(refusal) => return Err(unread(alloc, refusal)),
         };
-        match read {
-            Ok(metadata) => Ok(metadata),
-            Err(e) => Err(into_external(alloc, e)),
-        }
+        read.map_err(|e| into_external(alloc, e))
     }
 
     /// The metadata of `deserialize` in an `Arc`, as extension types hold their metadata. Errs as `deserialize` does.
@@ -269,7 +243,8 @@ impl Metadata {
 
     // Whether there is neither a CRS value nor edges.
     fn is_bare(&self) -> bool
-        ensures { result ≡ is_bare self.now.crs.value self.now.edges }
+        ensures bare { result ≡ is_bare self.now.crs.value self.now.edges }
+        ensures valid { IfSome self.now.crs.value IsCrsValue }
     {
         self.crs.crs_value().is_none() && self.edges.is_none()
     }
@@ -280,13 +255,10 @@ impl Metadata {
         ensures value { result ≡ normal self }
         ensures again { normal result ≡ result }
     {
-        if !self.is_bare() {
-            return self;
+        let mut normal = self;
+        if normal.is_bare() {
+            normal.crs.crs_type = None;
         }
-        let Metadata { crs, edges } = self;
-        Metadata {
-            crs: crs.without_type(),
-            edges,
-        }
+        normal
     }
 }

@@ -44,10 +44,7 @@ pub trait CrsTransform: Debug {
             (AnswersValue result) }
     {
         if let Some(CrsType::Projjson) = crs.crs_type() {
-            match crs.crs_value() {
-                Some(value) => Ok(Some(value.clone()?)),
-                None => Ok(None),
-            }
+            Ok(crs.crs_value().map(Value::clone).transpose()?)
         } else {
             self._convert_to_projjson(alloc, crs)
         }

@@ -1,13 +1,12 @@
 //! Walks over JSON values: whether their numbers are whole, and whether two of them are the same.
 ghost use Rattle.std.specs.Prelude.{◌≡◌, not, true, false};
-ghost use Rattle.serde_json.specs.Data.{number, array, object};
-ghost use Rattle.serde_json.specs.View.{view, number_view, items_view, members_view};
-ghost use Rattle.serde_json.specs.Find.{is_float};
+ghost use Rattle.serde_json.specs.Data.{array, object};
+ghost use Rattle.serde_json.specs.View.{view, items_view, members_view};
 ghost use Rattle.serde_json.specs.Written.{has_float, items_have_float, members_have_float};
 ghost use Rattle.geoarrow_meta.specs.Code.{same};
-ghost use Rattle.geoarrow_meta.specs.Whole.{is_integer, is_whole, items_are_whole, members_are_whole};
+ghost use Rattle.geoarrow_meta.specs.Whole.{is_whole, items_are_whole, members_are_whole};
 
-use serde_json::{Map, Number, Value};
+use serde_json::{Map, Value};
 
 /// Whether each number in a JSON value, at any depth, is one that `serde_json` holds as whole: an integer of 64 bits,
 /// written with no fraction and no exponent, other than `-0`. A CRS must hold no other number, to be read into a `Metadata`.
@@ -22,17 +21,10 @@ pub fn holds_whole_numbers(value: &Value) -> bool
 {
     match value {
         Value::Null | Value::Bool(_) | Value::String(_) => true,
-        Value::Number(number) => is_whole_number(number),
+        Value::Number(number) => number.as_u64().is_some() || number.as_i64().is_some(),
         Value::Array(items) => items_hold_whole(items),
         Value::Object(members) => members_hold_whole(members),
     }
-}
-
-fn is_whole_number(number: &Number) -> bool
-    ensures no_float { result ≡ not (is_float (number_view number.now)) }
-    ensures integer { result ≡ is_integer (number_view number.now) }
-{
-    number.as_u64().is_some() || number.as_i64().is_some()
 }
 
 #[cycle(whole)]
@@ -63,7 +55,7 @@ fn members_hold_whole(members: &Map<String, Value>) -> bool
 
 // Whether two values whose numbers are whole are the same.
 #[cycle(same)]
-#[tactic(auto, using(arrow_values::specs::Equal::codes, crate::proofs::Views::view_Bool, crate::proofs::Views::view_String))]
+#[tactic(auto, using(arrow_values::specs::Equal::codes, serde_json::specs::declared::value::Value::the_lemmas))]
 pub(crate) fn same_value(a: &Value, b: &Value) -> bool
     requires first { has_float (view a.now) ≡ false }
     requires second { has_float (view b.now) ≡ false }
@@ -72,23 +64,12 @@ pub(crate) fn same_value(a: &Value, b: &Value) -> bool
     match (a, b) {
         (Value::Null, Value::Null) => true,
         (Value::Bool(x), Value::Bool(y)) => *x == *y,
-        (Value::Number(x), Value::Number(y)) => same_number(x, y),
+        (Value::Number(x), Value::Number(y)) => {
+            x.as_u64() == y.as_u64() && x.as_i64() == y.as_i64()
+        }
         (Value::String(x), Value::String(y)) => x.as_str() == y.as_str(),
         (Value::Array(x), Value::Array(y)) => same_arrays(x, y),
         (Value::Object(x), Value::Object(y)) => same_objects(x, y),
-        _ => false,
-    }
-}
-
-#[tactic(auto, using(arrow_values::specs::Equal::codes))]
-fn same_number(a: &Number, b: &Number) -> bool
-    requires first { is_float (number_view a.now) ≡ false }
-    requires second { is_float (number_view b.now) ≡ false }
-    ensures { result ≡ same (number (number_view a.now)) (number (number_view b.now)) }
-{
-    match (a.as_u64(), b.as_u64()) {
-        (Some(x), Some(y)) => x == y,
-        (None, None) => a.as_i64() == b.as_i64(),
         _ => false,
     }
 }

@@ -1,10 +1,9 @@
 //! Equality: two data types, fields or lists of them are equal where all parts are, nested metadata and order included.
 ghost use Rattle.std.specs.Prelude.{◌≡◌, ◌&&◌, ◌↔◌, IsTrue};
-ghost use Rattle.std.specs.Ordering.{int_eq};
 ghost use Rattle.std.specs.Cmp.{decided, partial_equiv_from_equiv};
 ghost use Rattle.std.proofs.lemmas.Cmp.{on_equiv};
 ghost use Rattle.arrow_values.specs.View.{tree, texts_of};
-ghost use Rattle.arrow_values.specs.Equal.{tree_eq, metadata_eq, field_eq, field_lists_eq, member_eq, member_lists_eq, tree_decides, field_decides, field_lists_decide, member_lists_decide};
+ghost use Rattle.arrow_values.specs.Equal.{tree_eq, metadata_eq, field_eq, field_lists_eq, member_lists_eq, tree_decides, field_decides, field_lists_decide, member_lists_decide};
 
 use crate::tree::name::same_name;
 use crate::tree::{DataType, Field, Fields, UnionFields};
@@ -196,6 +195,7 @@ fn same_fields(a: &Fields, b: &Fields) -> bool
 }
 
 #[cycle(equal)]
+#[tactic(auto, using(crate::specs::Equal::same_int))]
 fn same_members(a: &UnionFields, b: &UnionFields) -> bool
     ensures { result ≡ member_lists_eq a.now b.now }
 {
@@ -203,17 +203,10 @@ fn same_members(a: &UnionFields, b: &UnionFields) -> bool
         return false;
     }
     for i in 0..a.members.len() {
-        if !same_member(&a.members[i], &b.members[i]) {
+        let (one, other) = (&a.members[i], &b.members[i]);
+        if one.0 != other.0 || !same_field(&one.1, &other.1) {
             return false;
         }
     }
     true
-}
-
-#[cycle(equal)]
-#[tactic(auto, using(crate::specs::Equal::same_int))]
-fn same_member(a: &(i8, Field), b: &(i8, Field)) -> bool
-    ensures { result ≡ member_eq a.now b.now }
-{
-    a.0 == b.0 && same_field(&a.1, &b.1)
 }

@@ -16,13 +16,6 @@ pub(crate) enum Name {
 }
 
 impl Name {
-    /// A name of that text, which is copied.
-    pub(crate) fn copied(alloc: Global, text: &str) -> Result<Name, AllocError>
-        ensures { IfOk result (λ n. name_bytes n ≡ text.now) }
-    {
-        Ok(Name::Owned(String::from_str(alloc, text)?))
-    }
-
     /// The text.
     #[inline(always)]
     pub(crate) fn as_str(&self) -> &str
@@ -50,7 +43,7 @@ impl Name {
     {
         match self {
             Name::Fixed(name) => Ok(Name::Fixed(*name)),
-            Name::Owned(text) => Name::copied(alloc, text.as_str()),
+            Name::Owned(text) => Ok(Name::Owned(String::from_str(alloc, text.as_str())?)),
         }
     }
 }

@@ -4,7 +4,7 @@ ghost use Rattle.std.specs.Option.{option_map};
 ghost use Rattle.arrow_values.specs.Tree.{list, field_tree};
 ghost use Rattle.arrow_values.specs.View.{tree, texts_of};
 ghost use Rattle.arrow_values.specs.Texts.{text_of, extension_name, extension_metadata, set_extension, SetsExtension};
-ghost use Rattle.arrow_values.specs.Name.{fixed_text, name_bytes};
+ghost use Rattle.arrow_values.specs.Name.{fixed_text};
 
 use crate::texts::{has_extension, set_extension, text_at};
 use crate::tree::{DataType, Field, FixedName, Name};
@@ -27,15 +27,20 @@ impl Field {
     ) -> Result<Field, AllocError>
         ensures { IfOk result (λ f. f ≡ field_tree name.now (tree data_type) nullable []) }
     {
-        let name = Name::copied(alloc, name)?;
-        Ok(Field::of_parts(name, data_type, nullable, BTreeMap::new(alloc)))
+        let name = String::from_str(alloc, name)?;
+        Ok(Field::from_parts(name, data_type, nullable, BTreeMap::new(alloc)))
     }
 
     /// A field with a name that layouts use, that data type and nullability, without metadata. Allocates nothing.
     pub fn fixed(alloc: Global, name: FixedName, data_type: DataType, nullable: bool) -> Field
         ensures { result ≡ field_tree (fixed_text name) (tree data_type) nullable [] }
     {
-        Field::of_parts(Name::Fixed(name), data_type, nullable, BTreeMap::new(alloc))
+        Field {
+            name: Name::Fixed(name),
+            data_type,
+            nullable,
+            metadata: BTreeMap::new(alloc),
+        }
     }
 
     /// A field of type `List(value)`, without metadata of its own. Errs only when out of memory.
@@ -60,20 +65,8 @@ impl Field {
     ) -> Field
         ensures { result ≡ field_tree (string_bytes name) (tree data_type) nullable (texts_of metadata.entries) }
     {
-        Field::of_parts(Name::Owned(name), data_type, nullable, metadata)
-    }
-
-    #[inline(always)]
-    fn of_parts(
-        name: Name,
-        data_type: DataType,
-        nullable: bool,
-        metadata: BTreeMap<String, String>,
-    ) -> Field
-        ensures { result ≡ field_tree (name_bytes name) (tree data_type) nullable (texts_of metadata.entries) }
-    {
         Field {
-            name,
+            name: Name::Owned(name),
             data_type,
             nullable,
             metadata,
@@ -129,7 +122,9 @@ impl Field {
     pub fn with_metadata(self, metadata: BTreeMap<String, String>) -> Field
         ensures { result ≡ record self { metadata = texts_of metadata.entries } }
     {
-        Field::of_parts(self.name, self.data_type, self.nullable, metadata)
+        let mut field = self;
+        field.metadata = metadata;
+        field
     }
 
     /// Replaces the field's metadata with that map.
@@ -143,7 +138,9 @@ impl Field {
     pub fn with_data_type(self, data_type: DataType) -> Field
         ensures { result ≡ record self { tree = tree data_type } }
     {
-        Field::of_parts(self.name, data_type, self.nullable, self.metadata)
+        let mut field = self;
+        field.data_type = data_type;
+        field
     }
 
     /// The field with that extension name and that text of its metadata (Arrow, "Extension Types"): the name at

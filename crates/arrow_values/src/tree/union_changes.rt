@@ -1,5 +1,5 @@
 //! Unions made of ids and fields, cut and joined.
-ghost use Rattle.std.specs.Prelude.{◌≡◌, ◌++◌, ◌⊎◌, [], IsOk, IfOk, IfErr, OnOk, OnErr, MatchResult, IsTrue, None, true};
+ghost use Rattle.std.specs.Prelude.{◌≡◌, ◌++◌, ◌⊎◌, [], IsOk, IfOk, IfErr, OnOk, OnErr, MatchResult, None, true};
 ghost use Rattle.std.specs.List.{list_all, zip};
 ghost use Rattle.arrow_values.specs.Union.{AreUnionParts, HasTypeIds, are_distinct, has, has_id, is_type_id, retained, shared_id};
 ghost use Rattle.arrow_values.specs.Errors.{IsMemory, is_invalid_argument, fault_id};
@@ -68,10 +68,9 @@ impl UnionFields {
             return Err((other, AppendFault::RepeatedId(id)));
         }
         let mut members = other.members;
-        match self.members.append(&mut members) {
-            Ok(()) => Ok(()),
-            Err(_) => Err((UnionFields { members }, AppendFault::OutOfMemory)),
-        }
+        self.members
+            .append(&mut members)
+            .map_err(|_| (UnionFields { members }, AppendFault::OutOfMemory))
     }
 
     /// Whether a member has the id.
@@ -98,12 +97,7 @@ impl UnionFields {
 fn none_negative(ids: &[i8]) -> bool
     ensures { result ≡ list_all is_type_id ids.now }
 {
-    for id in ids {
-        if *id < 0 {
-            return false;
-        }
-    }
-    true
+    ids.iter().all(|id| *id >= 0)
 }
 
 /// Whether each id occurs once.

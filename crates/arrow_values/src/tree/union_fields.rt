@@ -54,10 +54,7 @@ impl UnionFields {
     pub fn get(&self, index: usize) -> Option<(i8, &Field)>
         ensures { option_map member_of_ref result ≡ slice_get self.now index }
     {
-        match self.members.get(index) {
-            Some(member) => Some((member.0, &member.1)),
-            None => None,
-        }
+        self.members.get(index).map(|member| (member.0, &member.1))
     }
 
     /// The members as a slice.

@@ -26,12 +26,9 @@ pub struct KeyValues<V> {
 pub(crate) fn values_of(alloc: Global, value: &Value) -> Result<KeyValues<Value>, AllocError>
     ensures { IfOk result (λ s. AreValuesOf (view value.now) (option_map view s.crs) s.crs_type s.edges) }
 {
-    let crs = match present_at(value, "crs") {
-        Some(found) => Some(found.clone()?),
-        None => None,
-    };
+    let crs = present_at(value, "crs").map(Value::clone);
     Ok(KeyValues {
-        crs,
+        crs: crs.transpose()?,
         crs_type: crs_type_of(word_at(value, "crs_type")),
         edges: edges_of(word_at(value, "edges")),
     })
@@ -40,10 +37,7 @@ pub(crate) fn values_of(alloc: Global, value: &Value) -> Result<KeyValues<Value>
 fn present_at<'v>(value: &'v Value, key: &str) -> Option<&'v Value>
     ensures { option_map (λ v. view v.now) result ≡ at_key key.now (view value.now) }
 {
-    match value.get(key) {
-        Some(found) if !found.is_null() => Some(found),
-        _ => None,
-    }
+    value.get(key).filter(|found| !found.is_null())
 }
 
 // The text at the key, or its absence; none where another value stands there.

@@ -6,7 +6,7 @@ ghost use Rattle.serde_json.specs.Read.{read};
 ghost use Rattle.geoarrow_meta.specs.KeyValues.{AreValuesOf, Finds};
 
 use crate::metadata::key_values::{KeyValues, crs_type_of, edges_of};
-use crate::metadata::plain_members::{NotPlain, PlainMembers};
+use crate::metadata::plain_members::{NotPlain, next_member, object_start};
 use serde_json::Value;
 use std::alloc::{AllocError, Global};
 
@@ -38,11 +38,14 @@ fn take_members<'a>(text: &'a str) -> Result<KeyValues<&'a str>, NotPlain>
     ensures { IfOk result (λ s. (ms : Members) × (read text.entry.now ≡ Some (object ms))
         × AreValuesOf (object ms) (option_map string (option_map (λ t. t.now) s.crs)) s.crs_type s.edges) }
 {
-    let mut members = PlainMembers::new(text)?;
+    let mut at = object_start(text)?;
+    let mut after_member = false;
     let mut crs = None;
     let mut crs_type = Some(None);
     let mut edges = Some(None);
-    'values: while let Some((key, word)) = members.next()? {
+    'values: while let Some((key, word, next)) = next_member(text, at, after_member)? {
+        at = next;
+        after_member = true;
         match key {
             "crs" => crs = word,
             "crs_type" => crs_type = crs_type_of(Some(word)),

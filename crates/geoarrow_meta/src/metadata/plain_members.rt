@@ -1,96 +1,54 @@
 //! Objects of plain texts, read without a scratch and without an allocation.
 //!
-//! A text is plain if its JSON has no escape. [`PlainMembers`] reads an object whose values are plain texts and nulls, with any
-//! spaces and keys, straight from its bytes. So it costs less than a `json::Reader`, which first finds where the tokens of a
-//! text begin. Of any other text it says nothing but that it is another: it may be JSON, or none.
+//! A text is plain if its JSON has no escape. An object whose values are plain texts and nulls, with any spaces and keys, is read
+//! straight from its bytes, a member at a time. So it costs less than a `json::Reader`, which first finds where the tokens of a
+//! text begin. Of any other text this says nothing but that it is another: it may be JSON, or none.
 ghost use Rattle.std.specs.Prelude.{◌≡◌, ◌≢◌, ◌≤◌, ◌+◌, [], ◌∷◌, length, drop, slice_index, true, false, ◌||◌, IfOk, MatchOption, option_map};
 ghost use Rattle.std.specs.List.{prefix_len};
-ghost use Rattle.json.specs.Lex.{Place, tokens, token, colon, begins_colon, may_begin, punctuate};
+ghost use Rattle.json.specs.Lex.{Place, tokens, token, colon, operator, operator_lexeme, class, begins_colon, may_begin, punctuate};
 ghost use Rattle.json.specs.Token as spec;
 ghost use Rattle.json.specs.Word as word;
 ghost use Rattle.json.specs.Run as run;
 ghost use Rattle.geoarrow_meta.specs.PlainTokens.{lexemes_at, tokens_left, Passes, word_token};
 
-use std::marker::Model;
-
 /// The text is no object of plain texts and nulls.
 #[derive(Debug, Clone, Copy, PartialEq, Eq)]
 pub(crate) struct NotPlain;
 
-/// The members that are left of an object of plain texts. A contract sees the tokens that are left of its text.
-#[derive(Drop)]
-pub(crate) struct PlainMembers<'a> {
+/// The place behind the brace that opens the object that the text is.
+#[inline]
+pub(crate) fn object_start(text: &str) -> Result<usize, NotPlain>
+    ensures tokens { IfOk result (λ at. tokens text.now ≡ spec.begin_object ∷ tokens_left false text.now at) }
+    ensures within { IfOk result (λ at. at ≤ length text.now) }
+{
+    let at = after_operator(text, after_spaces(text, 0), b'{')?;
+    Ok(at)
+}
+
+/// The next member: its key, its text, which is `None` if it is null, and the place before what follows it. Returns `None` at the
+/// end of the object, if that is the end of the text.
+#[inline]
+pub(crate) fn next_member<'a>(
     text: &'a str,
-    // Behind the brace that opens the object, or before what follows the last member that was read.
     at: usize,
     after_member: bool,
-}
-
-impl<'a> Model for PlainMembers<'a> {
-    ghost use Rattle.std.specs.Prelude.{◌≤◌, List, length};
-    ghost use Rattle.std.specs.Str.{IsUtf8};
-    ghost use Rattle.json.specs.Token.{Token, tokens_code};
-
-    ghost Value = { List Token };
-
-    ghost coded = { tokens_code };
-
-    ghost use Rattle.geoarrow_meta.specs.PlainTokens.{tokens_left};
-
-    ghost view = { λ a. tokens_left a.after_member a.text.now a.at };
-
-    ghost invariant = { λ a. IsUtf8 a.text.now × (a.at ≤ length a.text.now) };
-}
-
-impl<'a> PlainMembers<'a> {
-    /// The members of the object that the text is.
-    #[inline]
-    pub(crate) fn new(text: &'a str) -> Result<PlainMembers<'a>, NotPlain>
-        ensures { IfOk result (λ members. tokens text.now ≡ spec.begin_object ∷ members) }
-    {
-        let at = after_spaces(text, 0);
-        if byte_at(text, at) != b'{' {
+) -> Result<Option<(&'a str, Option<&'a str>, usize)>, NotPlain>
+    requires { at ≤ length text.now }
+    ensures { IfOk result (λ o. MatchOption o (tokens_left after_member text.entry.now at ≡ spec.end_object ∷ [])
+        (λ m. (tokens_left after_member text.entry.now at
+        ≡ spec.key m.0.now ∷ word_token (option_map (λ s. s.now) m.1) ∷ tokens_left true text.entry.now m.2) × (m.2 ≤ length text.entry.now))) }
+{
+    let at = after_spaces(text, at);
+    if byte_at(text, at) == b'}' {
+        if after_spaces(text, at + 1) < text.len() {
             return Err(NotPlain);
         }
-        Ok(PlainMembers {
-            text,
-            at: at + 1,
-            after_member: false,
-        })
+        return Ok(None);
     }
-
-    /// The next member: its key, and its text, which is `None` if it is null. Returns `None` at the end of the object, if
-    /// that is the end of the text.
-    #[inline]
-    pub(crate) fn next(&mut self) -> Result<Option<(&'a str, Option<&'a str>)>, NotPlain>
-        ensures { IfOk result (λ o. MatchOption o (self.old ≡ spec.end_object ∷ [])
-            (λ m. self.old ≡ spec.key m.0.now ∷ word_token (option_map (λ s. s.now) m.1) ∷ self.new)) }
-    {
-        let text = self.text;
-        let at = after_spaces(text, self.at);
-        if byte_at(text, at) == b'}' {
-            nothing_follows(text, at + 1)?;
-            return Ok(None);
-        }
-        let at = key_place(text, at, self.after_member)?;
-        let (key, at) = plain_key(text, at)?;
-        let (word, at) = plain_word(text, at)?;
-        self.at = at;
-        self.after_member = true;
-        Ok(Some((key, word)))
-    }
-}
-
-// Errs if anything but spaces is left from there on.
-#[tactic(auto, using(crate::proofs::PlainTexts::none_left))]
-fn nothing_follows(text: &str, at: usize) -> Result<(), NotPlain>
-    requires { at ≤ length text.now }
-    ensures { IfOk result (λ o. lexemes_at text.now at ≡ []) }
-{
-    if after_spaces(text, at) < text.len() {
-        return Err(NotPlain);
-    }
-    Ok(())
+    let at = key_place(text, at, after_member)?;
+    let (key, at) = plain_key(text, at)?;
+    let (word, at) = plain_word(text, at)?;
+    Ok(Some((key, word, at)))
 }
 
 // Where the next key should be: behind the comma that follows a member.
@@ -103,10 +61,8 @@ fn key_place(text: &str, at: usize, after_member: bool) -> Result<usize, NotPlai
     if !after_member {
         return Ok(at);
     }
-    if byte_at(text, at) != b',' {
-        return Err(NotPlain);
-    }
-    Ok(after_spaces(text, at + 1))
+    let at = after_operator(text, at, b',')?;
+    Ok(after_spaces(text, at))
 }
 
 // The key there, and the place after its colon.
@@ -116,11 +72,8 @@ fn plain_key<'a>(text: &'a str, at: usize) -> Result<(&'a str, usize), NotPlain>
     ensures { IfOk result (λ p. Passes text.entry.now at (token (spec.string p.0.now) ∷ colon ∷ []) p.1) }
 {
     let (key, at) = plain_text(text, at)?;
-    let at = after_spaces(text, at);
-    if byte_at(text, at) != b':' {
-        return Err(NotPlain);
-    }
-    Ok((key, at + 1))
+    let at = after_operator(text, after_spaces(text, at), b':')?;
+    Ok((key, at))
 }
 
 // The plain text or null that comes next, and the place of the comma or the closing brace after it.
@@ -149,6 +102,19 @@ fn text_or_null<'a>(text: &'a str, at: usize) -> Result<(Option<&'a str>, usize)
     }
     let (word, at) = plain_text(text, at)?;
     Ok((Some(word), at))
+}
+
+// The place after the brace, comma or colon there.
+#[inline(always)]
+fn after_operator(text: &str, at: usize, byte: u8) -> Result<usize, NotPlain>
+    requires within { at ≤ length text.now }
+    requires operator { class byte ≡ operator }
+    ensures { IfOk result (λ next. Passes text.now at (operator_lexeme byte ∷ []) next) }
+{
+    if byte_at(text, at) != byte {
+        return Err(NotPlain);
+    }
+    Ok(at + 1)
 }
 
 // The plain text there, between its quotes, and the place after it.

@@ -1,47 +1,34 @@
 //! The JSON object that a metadata is written as, printed with no JSON value between.
-ghost use Rattle.std.specs.Prelude.{◌≡◌, false, IfSome, OnOk, option_map, unwrap_or};
-ghost use Rattle.serde_json.specs.Data.{null};
-ghost use Rattle.serde_json.specs.View.{view};
-ghost use Rattle.serde_json.specs.Written.{has_float};
+ghost use Rattle.std.specs.Prelude.{OnOk, option_map};
 ghost use Rattle.value_tokens.specs.Adds.{Adds, Prints};
 ghost use Rattle.geoarrow_meta.specs.Prints.{text_tokens};
 ghost use Rattle.geoarrow_meta.specs.Written.{written};
 
 use crate::crs::CrsType;
 use crate::edges::Edges;
+use crate::metadata::Metadata;
 use json::Writer;
-use serde_json::Value;
 use std::alloc::AllocError;
 use value_tokens::print_value;
 
-// Prints the object of those parts. Errs only when out of memory.
-pub(crate) fn print_parts(
-    value: Option<&Value>,
-    crs_type: Option<CrsType>,
-    edges: Option<Edges>,
-    out: &mut Writer,
-) -> Result<(), AllocError>
-    requires { IfSome value (λ v. has_float (view v.now) ≡ false) }
+// Prints the object of the parts of a metadata. Errs only when out of memory.
+pub(crate) fn print_object(metadata: &Metadata, out: &mut Writer) -> Result<(), AllocError>
     ensures { OnOk result
-        (Prints (written (option_map (λ v. view v.now) value.entry) crs_type edges) out.old out.new) }
+        (Prints (written metadata.now.crs.value metadata.now.crs.crs_type metadata.now.edges) out.old out.new) }
 {
     out.begin_object()?;
     out.key("crs")?;
-    print_crs(value, out)?;
-    print_text("crs_type", crs_type.map(CrsType::as_text), out)?;
-    print_text("edges", edges.map(Edges::as_text), out)?;
-    out.end_object()
-}
-
-fn print_crs(value: Option<&Value>, out: &mut Writer) -> Result<(), AllocError>
-    requires { IfSome value (λ v. has_float (view v.now) ≡ false) }
-    ensures { OnOk result
-        (Prints (unwrap_or (option_map (λ v. view v.now) value.entry) null) out.old out.new) }
-{
-    match value {
-        Some(value) => print_value(value, out),
-        None => out.null(),
+    match metadata.crs().crs_value() {
+        Some(value) => print_value(value, out)?,
+        None => out.null()?,
     }
+    print_text(
+        "crs_type",
+        metadata.crs().crs_type().map(CrsType::as_text),
+        out,
+    )?;
+    print_text("edges", metadata.edges().map(Edges::as_text), out)?;
+    out.end_object()
 }
 
 // Prints a text at the key, if there is one.

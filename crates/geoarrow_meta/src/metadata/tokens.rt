@@ -1,11 +1,11 @@
 //! The values of the three keys of the JSON object that a text is. The last value of a key counts.
 ghost use Rattle.std.specs.Prelude.{◌≡◌, ◌<◌, length, Some, None, Err, IfOk, OnOk, option_map};
-ghost use Rattle.serde_json.specs.Data.{Data, Members, no_members, object};
+ghost use Rattle.serde_json.specs.Data.{Data};
 ghost use Rattle.serde_json.specs.Read.{read};
 ghost use Rattle.serde_json.specs.View.{view};
-ghost use Rattle.value_tokens.specs.Next.{next_value, next_members, ReadsValue};
+ghost use Rattle.value_tokens.specs.Next.{next_value, ReadsValue};
 ghost use Rattle.geoarrow_meta.specs.Read.{present};
-ghost use Rattle.geoarrow_meta.specs.KeyValues.{IsWord, AreValuesOf, Finds};
+ghost use Rattle.geoarrow_meta.specs.KeyValues.{IsWord, Finds};
 
 use crate::metadata::key_values::{KeyValues, crs_type_of, edges_of};
 use crate::metadata::plain::plain_values;
@@ -51,6 +51,7 @@ fn read_tokens(alloc: Global, text: &str) -> Result<Option<KeyValues<Value>>, Re
     Ok(found)
 }
 
+#[tactic(auto, using(crate::proofs::KeyedValues::none_yet, crate::proofs::KeyedValues::crs_taken, crate::proofs::KeyedValues::passed, value_tokens::specs::Turns::after_some, value_tokens::specs::Turns::key_refused, value_tokens::specs::Turns::member_refused, value_tokens::specs::Turns::members_over))]
 fn take_values(
     alloc: Global,
     reader: &mut Reader<'_>,
@@ -59,39 +60,25 @@ fn take_values(
     ensures ok { IfOk result (λ o. (d : Data) × (next_value depth reader.old ≡ Some (d, reader.new)) × Finds o d) }
     ensures text { result ≡ Err Refusal.Text → next_value depth reader.old ≡ None }
 {
-    match open_object(reader, depth)? {
-        Some(below) => Ok(Some(take_members(alloc, reader, below)?)),
-        None => Ok(None),
-    }
-}
-
-// The members that are left of an object.
-#[tactic(auto, using(crate::proofs::KeyedValues::none_yet, value_tokens::specs::Turns::key_refused, value_tokens::specs::Turns::members_over))]
-fn take_members(
-    alloc: Global,
-    reader: &mut Reader<'_>,
-    depth: usize,
-) -> Result<KeyValues<Value>, Refusal>
-    ensures ok { IfOk result (λ s. (ms : Members) × (next_members depth no_members reader.old ≡ Some (ms, reader.new))
-        × AreValuesOf (object ms) (option_map view s.crs) s.crs_type s.edges) }
-    ensures text { result ≡ Err Refusal.Text → next_members depth no_members reader.old ≡ None }
-{
+    let Some(below) = open_object(reader, depth)? else {
+        return Ok(None);
+    };
     let mut crs = None;
     let mut crs_type = Some(None);
     let mut edges = Some(None);
     'values: while let Some(key) = reader.next_key()? {
         match key {
-            "crs" => crs = take_crs(alloc, reader, depth)?,
-            "crs_type" => crs_type = crs_type_of(take_word(reader, depth)?),
-            "edges" => edges = edges_of(take_word(reader, depth)?),
-            _ => skip_value(reader, depth)?,
+            "crs" => crs = take_crs(alloc, reader, below)?,
+            "crs_type" => crs_type = crs_type_of(take_word(reader, below)?),
+            "edges" => edges = edges_of(take_word(reader, below)?),
+            _ => skip_value(reader, below)?,
         }
     }
-    Ok(KeyValues {
+    Ok(Some(KeyValues {
         crs,
         crs_type,
         edges,
-    })
+    }))
 }
 
 // The value that comes next, null as absent.
@@ -101,10 +88,7 @@ fn take_crs(alloc: Global, reader: &mut Reader<'_>, depth: usize) -> Result<Opti
     ensures text { result ≡ Err Refusal.Text → next_value depth reader.old ≡ None }
 {
     let value = read_value(alloc, reader, depth)?;
-    if value.is_null() {
-        return Ok(None);
-    }
-    Ok(Some(value))
+    Ok(Some(value).filter(|value| !value.is_null()))
 }
 
 // The text that comes next, null as absent; none where another value comes. Allocates nothing.

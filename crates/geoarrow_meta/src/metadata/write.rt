@@ -1,37 +1,30 @@
 //! The JSON object that a metadata is written as.
-ghost use Rattle.std.specs.Prelude.{◌≡◌, IfOk, OnOk, MatchOption, option_map};
+ghost use Rattle.std.specs.Prelude.{◌≡◌, IfOk, OnOk, MatchOption};
 ghost use Rattle.serde_json.specs.Data.{string, put};
 ghost use Rattle.serde_json.specs.View.{view, members_view};
 ghost use Rattle.geoarrow_meta.specs.Written.{written};
 
 use crate::crs::CrsType;
 use crate::edges::Edges;
+use crate::metadata::Metadata;
 use serde_json::{Map, Value};
 use std::alloc::{AllocError, Global};
 
-// The object of those parts. Errs only when out of memory.
-pub(crate) fn written_value(
-    alloc: Global,
-    value: Option<&Value>,
-    crs_type: Option<CrsType>,
-    edges: Option<Edges>,
-) -> Result<Value, AllocError>
+// The object of the parts of a metadata. Errs only when out of memory.
+pub(crate) fn written_value(alloc: Global, metadata: &Metadata) -> Result<Value, AllocError>
     ensures { IfOk result (λ v. view v
-        ≡ written (option_map (λ v. view v.now) value.entry) crs_type edges) }
+        ≡ written metadata.now.crs.value metadata.now.crs.crs_type metadata.now.edges) }
 {
     let mut members = Map::new(alloc);
-    let crs = match value {
+    let crs = match metadata.crs().crs_value() {
         Some(value) => value.clone()?,
         None => Value::Null,
     };
     serde_json::put(&mut members, alloc, "crs", crs)?;
-    put_text(
-        &mut members,
-        alloc,
-        "crs_type",
-        crs_type.map(CrsType::as_text),
-    )?;
-    put_text(&mut members, alloc, "edges", edges.map(Edges::as_text))?;
+    let crs_type = metadata.crs().crs_type().map(CrsType::as_text);
+    put_text(&mut members, alloc, "crs_type", crs_type)?;
+    let edges = metadata.edges().map(Edges::as_text);
+    put_text(&mut members, alloc, "edges", edges)?;
     Ok(Value::Object(members))
 }
 

@@ -1,4 +1,4 @@
-use Rattle.std.proofs.Common.{◌≡◌, ℕ, List, [], ◌∷◌, Option, None, Some, codes, option_map, option_and_then, refl, ap, ◌∙◌, arith}
+use Rattle.std.proofs.Common.{◌≡◌, ◌≤◌, ℕ, true, false, List, [], ◌∷◌, length, Option, None, Some, option_map, option_and_then, refl, ap, ◌∙◌, arith}
 use Rattle.json.specs.Json as json
 use Rattle.json.specs.Json.{read_key, parse_map}
 use Rattle.json.specs.Lex.{tokens}
@@ -7,14 +7,11 @@ use Rattle.serde_json.specs.Data.{Data, null, string, object}
 use Rattle.serde_json.specs.Read.{of_json, max_depth, read}
 use Rattle.arrow_values.specs.Tree.{Text}
 use Rattle.value_tokens.specs.Next.{next_value}
-use Rattle.geoarrow_meta.specs.PlainTokens.{word_token}
+use Rattle.geoarrow_meta.specs.PlainTokens.{tokens_left, word_token}
 use Rattle.value_tokens.specs.Turns.{converted_some, members_over}
 use Rattle.value_tokens.specs.Beginnings.{next_object, next_string, next_null}
-use Rattle.geoarrow_meta.specs.declared.edges.Edges.{Edges}
-use Rattle.geoarrow_meta.specs.declared.crs.crs_type.CrsType.{CrsType}
-use Rattle.geoarrow_meta.specs.Read.{crs_type_data, edges_data, present}
-use Rattle.geoarrow_meta.specs.KeyValues.{IsNamed}
-use Rattle.geoarrow_meta.proofs.KeyedValues.{AreValuesSoFar, put_at, values_go_on, differs}
+use Rattle.geoarrow_meta.specs.Read.{present}
+use Rattle.geoarrow_meta.proofs.KeyedValues.{crs_taken, crs_type_taken, edges_taken, passed}
 use Rattle.geoarrow_meta.proofs.metadata.plain.take_members.Goals as goal
 use Rattle.geoarrow_meta.proofs.metadata.plain.take_members.Goals.{In-Some}
 
@@ -38,37 +35,35 @@ read_whole text d e =
     let j = converted_some of_json (json.value max_depth (tokens text)) d [] e in
     ap (λ o. option_and_then of_json (option_and_then (λ p. json.if_last p.0 p.1) o)) j.1 ∙ j.2
 
-go_on : (c : In-Some) {crs : Option Data} {crs_type : Option (Option CrsType)} {edges : Option (Option Edges)} → let put = λ (q : Text). put_at q c.in-Some.key.now (word_value (option_map (λ s. s.now) c.in-Some.word)) c.values.invariant.found in
-    crs ≡ put (codes "crs") → IsNamed crs_type_data crs_type (put (codes "crs_type")) → IsNamed edges_data edges (put (codes "edges")) → AreValuesSoFar 126 c.in_ok-members.members c.next.new.self crs crs_type edges
-go_on c =
-    let word = option_map (λ s. s.now) c.in-Some.word in
-    let left = rw c.in-Some.is at c.in_ok-key.ensures in
-    values_go_on c.values.invariant c.in-Some.key.now (word_token word ∷ c.next.new.self) (ap read_key left) (next_word 126 word c.next.new.self)
+-- the next member, and its place in the text
+next_key : (c : In-Some) → let text = c.args.text.now in
+    (read_key (tokens_left c.values.after_member text c.values.at) ≡ Some (Some c.in-Some.key.now, word_token (option_map (λ s. s.now) c.in-Some.word) ∷ tokens_left true text c.in-Some.next)) × (c.in-Some.next ≤ length text)
+next_key c = let next = rw c.in-Some.is at c.in_ok-key.ensures in (ap read_key next.0, next.1)
 
 pub values-preserved-then-str_eq : goal.values-preserved-then-str_eq
 values-preserved-then-str_eq c =
-    let values = c.values.invariant.values in
-    go_on (goal.at.values-preserved-then-str_eq c).In-Some (rw c.in-crs.is (as_present _)) (rw c.in-crs.is values.at_crs_type) (rw c.in-crs.is values.at_edges)
+    let next = next_key (goal.at.values-preserved-then-str_eq c).In-Some in
+    (crs_taken c.values.invariant.0 _ _ next.0 (next_word 126 _ _) c.in-crs.is (as_present _), next.1)
 
 pub values-preserved-then-str_eq-2 : goal.values-preserved-then-str_eq-2
 values-preserved-then-str_eq-2 c =
-    let values = c.values.invariant.values in
-    go_on (goal.at.values-preserved-then-str_eq-2 c).In-Some (rw c.in-crs_type.is values.at_crs) (rw c.in-crs_type.is (c.crs_type_of-crs_type.ensures _ (as_present _))) (rw c.in-crs_type.is values.at_edges)
+    let next = next_key (goal.at.values-preserved-then-str_eq-2 c).In-Some in
+    (crs_type_taken c.values.invariant.0 _ _ next.0 (next_word 126 _ _) c.in-crs_type.is (c.crs_type_of-crs_type.ensures _ (as_present _)), next.1)
 
 pub values-preserved-then-str_eq-3 : goal.values-preserved-then-str_eq-3
 values-preserved-then-str_eq-3 c =
-    let values = c.values.invariant.values in
-    go_on (goal.at.values-preserved-then-str_eq-3 c).In-Some (rw c.in-edges.is values.at_crs) (rw c.in-edges.is values.at_crs_type) (rw c.in-edges.is (c.edges_of-edges.ensures _ (as_present _)))
+    let next = next_key (goal.at.values-preserved-then-str_eq-3 c).In-Some in
+    (edges_taken c.values.invariant.0 _ _ next.0 (next_word 126 _ _) c.in-edges.is (c.edges_of-edges.ensures _ (as_present _)), next.1)
 
 pub values-preserved : goal.values-preserved
 values-preserved c =
-    let values = c.values.invariant.values in
-    let key = c.in-Some.key.now in
-    go_on (goal.at.values-preserved c).In-Some (rw (differs (codes "crs") key (grind arith)) values.at_crs) (rw (differs (codes "crs_type") key (grind arith)) values.at_crs_type) (rw (differs (codes "edges") key (grind arith)) values.at_edges)
+    let next = next_key (goal.at.values-preserved c).In-Some in
+    (passed c.values.invariant.0 _ _ next.0 (next_word 126 _ _) (grind arith) (grind arith) (grind arith), next.1)
 
 pub returns : goal.returns
 returns c =
-    let way = c.values.invariant in
-    let members = way.decides ∙ members_over 126 way.found c.values.members [] (ap read_key (rw c.in_default.is at c.in_ok-key.ensures)) in
-    let object_read = ap (next_value 127) c.in_ok-members.ensures ∙ next_object 126 c.in_ok-members.members ∙ ap (parse_map object) members in
+    let way = c.values.invariant.0 in
+    let end = ap read_key (rw c.in_default.is at c.in_ok-key.ensures) in
+    let members = way.decides ∙ members_over 126 way.found (tokens_left c.values.after_member c.args.text.now c.values.at) [] end in
+    let object_read = ap (next_value 127) c.in_ok-at.ensures.tokens ∙ next_object 126 (tokens_left false c.args.text.now c.in_ok-at.at) ∙ ap (parse_map object) members in
     (way.found, read_whole c.args.text.now (object way.found) object_read, way.values)

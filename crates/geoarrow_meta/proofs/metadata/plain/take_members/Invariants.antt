@@ -1,10 +1,13 @@
-use Rattle.std.proofs.Common.{length, option_map}
+use Rattle.std.proofs.Common.{◌≤◌, false, length, option_map}
 use Rattle.serde_json.specs.Data.{string}
+use Rattle.geoarrow_meta.specs.PlainTokens.{tokens_left}
 use Rattle.geoarrow_meta.proofs.KeyedValues.{AreValuesSoFar}
 use Rattle.geoarrow_meta.proofs.metadata.plain.take_members.Given as goal
 
 abbrev pub invariant-values : goal.invariant-values
-invariant-values l = AreValuesSoFar 126 l.initial.members l.members (option_map string (option_map (λ t. t.now) l.crs)) l.crs_type l.edges
+invariant-values l =
+    AreValuesSoFar 126 (tokens_left false l.text l.initial.at) (tokens_left l.after_member l.text l.at) (option_map string (option_map (λ t. t.now) l.crs)) l.crs_type l.edges
+    × (l.at ≤ length l.text)
 
 abbrev pub decreases-values : goal.decreases-values
-decreases-values l = length l.members
+decreases-values l = length (tokens_left l.after_member l.text l.at)
