@@ -25,11 +25,11 @@ no_third count bits three lacks = λ ns same is. (
 
 pub with_z : (count bits : ℕ) → count ≡ 3 → has_bit bits 0 ≡ true → has_bit bits 1 ≡ true → has_bit bits 2 ≡ true → NamesAnswer count bits (Ok XYZ)
 with_z count bits three x y z = λ ns same is.
-    (sym same ∙ three, same_three _ _ _ ns refl refl refl (sym same ∙ three) (sym (has_at _ 0 bits ns (omega arith) refl refl is) ∙ x) (sym (has_at _ 1 bits ns (omega arith) refl refl is) ∙ y) (sym (has_at _ 2 bits ns (omega arith) refl refl is) ∙ z))
+    (sym same ∙ three, same_three _ _ _ ns refl refl refl (sym same ∙ three) (sym (has_at _ 0 bits ns (omega arith) refl refl is) ∙ x, (sym (has_at _ 1 bits ns (omega arith) refl refl is) ∙ y, (sym (has_at _ 2 bits ns (omega arith) refl refl is) ∙ z, tt))))
 
 pub with_m : (count bits : ℕ) → count ≡ 3 → has_bit bits 0 ≡ true → has_bit bits 1 ≡ true → has_bit bits 3 ≡ true → NamesAnswer count bits (Ok XYM)
 with_m count bits three x y m = λ ns same is.
-    (sym same ∙ three, same_three _ _ _ ns refl refl refl (sym same ∙ three) (sym (has_at _ 0 bits ns (omega arith) refl refl is) ∙ x) (sym (has_at _ 1 bits ns (omega arith) refl refl is) ∙ y) (sym (has_at _ 3 bits ns (omega arith) refl refl is) ∙ m))
+    (sym same ∙ three, same_three _ _ _ ns refl refl refl (sym same ∙ three) (sym (has_at _ 0 bits ns (omega arith) refl refl is) ∙ x, (sym (has_at _ 1 bits ns (omega arith) refl refl is) ∙ y, (sym (has_at _ 3 bits ns (omega arith) refl refl is) ∙ m, tt))))
 
 -- the leaf that a struct is
 abbrev pub LeafAnswer : Bottom → Answer → Type 0

@@ -82,12 +82,7 @@ impl Dimension {
         ensures order { result ≡ order_of self.now }
         ensures small { result ≤ 3 }
     {
-        match self {
-            Dimension::XY => 0,
-            Dimension::XYZ => 1,
-            Dimension::XYM => 2,
-            Dimension::XYZM => 3,
-        }
+        *self as u8
     }
 
     /// The dimension with the name of those dimensions; for 2, 3 and 4 dimensions with no known meaning it is XY, XYZ
@@ -254,20 +249,12 @@ pub(crate) fn place_of(coord_type: CoordType) -> u8
     ensures place { result ≡ place_of coord_type }
     ensures small { result < 8 }
 {
-    match coord_type {
-        CoordType::Interleaved => 0,
-        CoordType::Separated => 1,
-    }
+    coord_type as u8
 }
 
 /// The size of the fixed size list of an interleaved coordinate.
 pub(crate) fn list_size(dimension: Dimension) -> i32
     ensures { result ≡ pos (size_of dimension) }
 {
-    match dimension {
-        Dimension::XY => 2,
-        Dimension::XYZ => 3,
-        Dimension::XYM => 3,
-        Dimension::XYZM => 4,
-    }
+    dimension.size() as i32
 }

@@ -94,15 +94,7 @@ pub fn parse_mixed(data_type: &DataType) -> Result<(CoordType, Dimension), Layou
     ensures exact { Yields result (Mixed (tree data_type.now)) }
     ensures fault { IfErr result (HasFault (MixedFault (tree data_type.now))) }
 {
-    mixed_read(data_type)
-}
-
-/// The union in a collection, or its fault.
-#[inline(always)]
-fn mixed_read(data_type: &DataType) -> Answer
-    ensures { TellsBoth result (Mixed (tree data_type.now)) (MixedFault (tree data_type.now)) }
-{
-    mixed(&summarize(data_type))
+    mixed(data_type)
 }
 
 /// Reads a collection (GeoArrow, "GeometryCollection"): one list, of either width, over a union as `parse_mixed` reads.
@@ -119,38 +111,21 @@ pub fn parse_geometry_collection(
 /// Reads geometries of any kind (GeoArrow, "Geometry"): a union of at least one member, where each member is of the
 /// kind and the dimension that its type id says, collections among them, and all are of one coordinate type. Errs on
 /// any other data type. Allocates nothing.
-#[tactic(auto, using(crate::proofs::KindSteps::geometry_exact, crate::proofs::Readings::told_fault))]
+#[tactic(auto, using(crate::proofs::KindSteps::geometry_exact, crate::proofs::KindSteps::geometry_told))]
 pub fn parse_geometry(data_type: &DataType) -> Result<CoordType, LayoutFault>
     ensures exact { YieldsOne result (Geometry (tree data_type.now)) }
     ensures fault { IfErr result (HasFault (GeometryFault (tree data_type.now))) }
-{
-    geometry_read(data_type)
-}
-
-/// A geometry, or its fault.
-#[inline(always)]
-fn geometry_read(data_type: &DataType) -> Result<CoordType, LayoutFault>
-    ensures { Tells result (Geometry (tree data_type.now)) (GeometryFault (tree data_type.now)) }
 {
     geometry(&summarize(data_type))
 }
 
 /// Reads a native kind, as its own reader does. Errs on any data type that is not of that kind. Allocates nothing.
-#[tactic(auto, using(crate::proofs::Readings::told_fault))]
 pub fn parse_native(
     kind: NativeKind,
     data_type: &DataType,
 ) -> Result<(CoordType, Dimension), LayoutFault>
     ensures exact { Yields result (Native (tree data_type.now) kind) }
     ensures fault { IfErr result (HasFault (NativeFault kind (tree data_type.now))) }
-{
-    native_read(kind, data_type)
-}
-
-/// A native kind, or its fault.
-#[inline(always)]
-fn native_read(kind: NativeKind, data_type: &DataType) -> Answer
-    ensures { TellsBoth result (Native (tree data_type.now) kind) (NativeFault kind (tree data_type.now)) }
 {
     native(true, kind, &summarize(data_type))
 }
@@ -207,18 +182,10 @@ fn kind_read(name: ExtensionName, data_type: &DataType) -> Result<Kind, LayoutFa
 
 /// Reads a box (GeoArrow, "Box"): a struct of four fields or of eight, or of six fields that include `mmin` and `mmax` or,
 /// failing that, `zmin` and `zmax`. Errs on any other data type. Allocates nothing.
-#[tactic(auto, using(crate::proofs::KindSteps::box_exact, crate::proofs::Readings::told_fault))]
+#[tactic(auto, using(crate::proofs::KindSteps::box_exact, crate::proofs::KindSteps::box_told))]
 pub fn parse_box(data_type: &DataType) -> Result<Dimension, LayoutFault>
     ensures exact { YieldsOne result (BoxShape (tree data_type.now)) }
     ensures fault { IfErr result (HasFault (BoxFault (tree data_type.now))) }
-{
-    box_read(data_type)
-}
-
-/// A box, or its fault.
-#[inline(always)]
-fn box_read(data_type: &DataType) -> Result<Dimension, LayoutFault>
-    ensures { Tells result (BoxShape (tree data_type.now)) (BoxFault (tree data_type.now)) }
 {
     boxed(&summarize(data_type))
 }
@@ -637,9 +604,10 @@ pub(crate) fn member(collections: bool, id: i8, summary: &Summary) -> Answer
 
 /// A union of members of one coordinate type and dimension.
 #[tactic(auto, using(crate::proofs::UnionSteps::root_mixed, crate::proofs::UnionSteps::at_root))]
-pub(crate) fn mixed(summary: &Summary) -> Answer
-    ensures { (t : Tree) → Summarizes summary.now t → TellsBoth result (Mixed t) (MixedFault t) }
+fn mixed(data_type: &DataType) -> Answer
+    ensures { TellsBoth result (Mixed (tree data_type.now)) (MixedFault (tree data_type.now)) }
 {
+    let summary = summarize(data_type);
     if 0 < summary.levels {
         return Err(LayoutFault::UnexpectedType);
     }
@@ -657,7 +625,7 @@ pub(crate) fn mixed(summary: &Summary) -> Answer
 
 /// A union of members of one coordinate type.
 #[tactic(auto, using(crate::proofs::UnionSteps::root_geometry, crate::proofs::UnionSteps::at_root))]
-pub(crate) fn geometry(summary: &Summary) -> Result<CoordType, LayoutFault>
+fn geometry(summary: &Summary) -> Result<CoordType, LayoutFault>
     ensures { (t : Tree) → Summarizes summary.now t → Tells result (Geometry t) (GeometryFault t) }
 {
     if 0 < summary.levels {
@@ -675,7 +643,7 @@ pub(crate) fn geometry(summary: &Summary) -> Result<CoordType, LayoutFault>
 }
 
 /// Whether both numbers are in the set.
-pub(crate) fn has_both(bits: u16, i: u8, j: u8) -> bool
+fn has_both(bits: u16, i: u8, j: u8) -> bool
     requires i_in { i < 16 }
     requires j_in { j < 16 }
     ensures { result ≡ (has_bit bits i && has_bit bits j) }
@@ -706,7 +674,7 @@ fn box_dimension(count: usize, names: u16) -> Result<Dimension, LayoutFault>
 
 /// A box.
 #[tactic(auto, using(crate::proofs::Structs::root_box, crate::proofs::UnionSteps::at_root))]
-pub(crate) fn boxed(summary: &Summary) -> Result<Dimension, LayoutFault>
+fn boxed(summary: &Summary) -> Result<Dimension, LayoutFault>
     ensures { (t : Tree) → Summarizes summary.now t → Tells result (BoxShape t) (BoxFault t) }
 {
     if 0 < summary.levels {

@@ -259,28 +259,16 @@ fn is_layout(data_type: &DataType, kind: &Kind) -> bool
     ensures { IsTrue result ↔ (tree data_type.now ≡ layout kind.now) }
 {
     match kind {
+        Kind::Native(NativeKind::GeometryCollection, coord_type, dimension) => {
+            is_collection(data_type, *coord_type, *dimension)
+        }
         Kind::Native(kind, coord_type, dimension) => {
-            is_native(data_type, *kind, *coord_type, *dimension)
+            is_over_leaf(data_type, list_names(*kind), *coord_type, *dimension)
         }
         Kind::Geometry(coord_type) => is_geometry(data_type, *coord_type),
         Kind::Rect(dimension) => is_struct(data_type, box_names(*dimension)),
         Kind::Wkb(width) => bytes_width(data_type) == Some(*width),
         Kind::Wkt(width) => text_width(data_type) == Some(*width),
-    }
-}
-
-/// Whether the data type is the one that is written for the native kind.
-fn is_native(
-    data_type: &DataType,
-    kind: NativeKind,
-    coord_type: CoordType,
-    dimension: Dimension,
-) -> bool
-    ensures { IsTrue result ↔ (tree data_type.now ≡ layout (Kind.Native kind coord_type dimension)) }
-{
-    match kind {
-        NativeKind::GeometryCollection => is_collection(data_type, coord_type, dimension),
-        _ => is_over_leaf(data_type, list_names(kind), coord_type, dimension),
     }
 }
 

@@ -40,7 +40,7 @@ only_alike (member i n t b m ms) ns j u each only =
 
 pub is_met-returns-then-is_only : goal.is_met-returns-then-is_only
 is_met-returns-then-is_only t c =
-    let by = only_alike _ _ _ _ c.requires (c.is_only.ensures c.if-is_only.true) in
+    let by = only_alike _ _ _ _ c.requires (c.is_only.ensures.0 c.if-is_only.true) in
     (λ h. by.0 (c.has_id.ensures.0 h), λ h. c.has_id.ensures.1 (by.1 h))
 
 pub same-returns-then-each_has_same : goal.same-returns-then-each_has_same

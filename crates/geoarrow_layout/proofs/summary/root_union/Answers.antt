@@ -9,7 +9,7 @@ loop-item-init c = record { seen = seen_none GeometryMember GeometryMemberFault 
 pub loop-item-preserved : goal.loop-item-preserved
 loop-item-preserved c =
     let id_is : to_z w8 (of_z w8 c.item-item.result.0) ≡ c.item-item.result.0 = search (rules, to_z-of_z) in
-    let below = subst (λ t. ShowsIn true c.nested_summary-below.result t) c.data_type.ensures c.nested_summary-below.ensures in
+    let below = subst (λ t. ShowsIn true c.member_summary-below.result t) c.data_type.ensures c.member_summary-below.ensures in
     record {
       seen = seen_more GeometryMember GeometryMemberFault geometry_member_first geometry_member_apart _ _ _ _ _ _ _ _ c.member-part.result _ c.loop-item.item-index c.item-item.result c.loop-item-test.true c.item-item.is
           (subst (λ i. TellsBoth c.member-part.result (GeometryMember i c.item-item.result.1.tree) (GeometryMemberFault i c.item-item.result.1.tree)) id_is (c.member-part.ensures c.item-item.result.1.tree below))
