@@ -57,6 +57,9 @@ mutual
   each_sym no_members ns h = tt
   each_sym (member i n t b m ms) ns h = (has_from ns i t (alike_sym t) h.0, each_sym ms ns h.1)
 
+pub has_among : (ms : MemberTrees) (j : ℤ) (u : Tree) → HasAlike ms j u ↔ Among j u ms
+has_among ms j u = (has_sym ms j u, has_from ms j u (alike_sym u))
+
 mutual
   pub alike_refl : (t : Tree) → Alike t t
   alike_refl (plain p) = refl

@@ -102,21 +102,8 @@ fn is_met(members: &UnionFields, others: &UnionFields, other: &(i8, Field)) -> b
     if is_only(other, others) {
         has_id(other, members)
     } else {
-        has_same(members, other)
+        any_same(other, members)
     }
-}
-
-/// Whether some member has the other's id and is alike.
-#[cycle(same)]
-fn has_same(members: &UnionFields, other: &(i8, Field)) -> bool
-    ensures { IsTrue result ↔ HasAlike (member_trees members.now) other.now.0 other.now.1.tree }
-{
-    for (id, field) in members.as_slice() {
-        if *id == other.0 && same(field.data_type(), other.1.data_type()) {
-            return true;
-        }
-    }
-    false
 }
 
 /// Whether some member has the other's id.
