@@ -8,7 +8,7 @@ ghost use Rattle.geoarrow_layout.specs.Shapes.{Yields, YieldsOne, Leaf, Under, N
 ghost use Rattle.geoarrow_layout.specs.Kinds.{name_text, extension_of, name_of};
 ghost use Rattle.geoarrow_layout.specs.FaultAt.{HasFault, BoxFault, MixedFault, NativeFault, GeometryFault, FaultAt, SeparatedFault, CoordinateFault, BoxNamesFault, LevelsFault};
 ghost use Rattle.arrow_values.specs.Tree.{Tree, Text, struct};
-ghost use Rattle.geoarrow_layout.specs.Summary.{AreOf, IsCoordFault, Summarizes, IsBits, SomeAt, IsBottom, IsUnion, Tells, IsNoLeaf, ShowsIn, NativeIn, NativeFaultIn, MemberIn, MemberFaultIn, TellsBoth, missing_fault, IsOtherFault, UnionSays, has_bit};
+ghost use Rattle.geoarrow_layout.specs.Summary.{AreOf, IsCoordFault, Summarizes, IsBits, SomeAt, IsBottom, IsUnion, Tells, IsNoLeaf, ShowsIn, NativeIn, NativeFaultIn, MemberIn, MemberFaultIn, TellsBoth, IsOtherFault, IsLevelFault, MixedSays, has_bit};
 ghost use Rattle.geoarrow_layout.specs.Candidates.{Holds, IsAccepted};
 ghost use Rattle.geoarrow_layout.specs.Inferred.{YieldsSome, Inferred, IsInferredAs, IsInferredSize, is_float64, are_float64};
 ghost use Rattle.geoarrow_layout.specs.declared.summary.ListWidth.{ListWidth};
@@ -220,18 +220,12 @@ fn kind_under(name: ExtensionName, summary: &Summary) -> Result<Kind, LayoutFaul
     ensures named { IfOk result (λ k. (extension_of k ≡ name) × IsStructured k) }
 {
     match name {
-        ExtensionName::Native(kind) => match native(true, kind, summary) {
-            Ok(pair) => Ok(Kind::Native(kind, pair.0, pair.1)),
-            Err(fault) => Err(fault),
-        },
-        ExtensionName::Geometry => match geometry(summary) {
-            Ok(coord_type) => Ok(Kind::Geometry(coord_type)),
-            Err(fault) => Err(fault),
-        },
-        ExtensionName::Rect => match boxed(summary) {
-            Ok(dimension) => Ok(Kind::Rect(dimension)),
-            Err(fault) => Err(fault),
-        },
+        ExtensionName::Native(kind) => {
+            let pair = native(true, kind, summary)?;
+            Ok(Kind::Native(kind, pair.0, pair.1))
+        }
+        ExtensionName::Geometry => Ok(Kind::Geometry(geometry(summary)?)),
+        ExtensionName::Rect => Ok(Kind::Rect(boxed(summary)?)),
         ExtensionName::Wkb | ExtensionName::Wkt => Err(LayoutFault::UnexpectedType),
     }
 }
@@ -456,11 +450,7 @@ fn leaf(bottom: &Bottom) -> Answer
     ensures { (w : Option ListWidth) (levels : ℕ) (u : Tree) → IsBottom IsNoLeaf w levels bottom.now u → TellsBoth result (Leaf u) (CoordinateFault u) }
 {
     match bottom {
-        Bottom::FixedSizeList {
-            named,
-            size,
-            float64: _,
-        } => {
+        Bottom::FixedSizeList { named, size, .. } => {
             let Some(dimension) = named else {
                 return Err(LayoutFault::BadInterleavedName);
             };
@@ -470,11 +460,7 @@ fn leaf(bottom: &Bottom) -> Answer
                 Err(LayoutFault::BadSize)
             }
         }
-        Bottom::Struct {
-            count,
-            names,
-            all_float64: _,
-        } => {
+        Bottom::Struct { count, names, .. } => {
             let dimension = separated_dimension(*count, *names)?;
             Ok((CoordType::Separated, dimension))
         }
@@ -482,13 +468,20 @@ fn leaf(bottom: &Bottom) -> Answer
     }
 }
 
-/// The fault of a data type with too few list levels.
-fn missing_level(bottom: &Bottom) -> LayoutFault
-    ensures { result ≡ missing_fault bottom.now }
+/// What is below exactly so many list levels; the fault of a data type that has fewer or more.
+#[inline(always)]
+fn bottom_below(summary: &Summary, levels: u8) -> Result<&Bottom, LayoutFault>
+    ensures { MatchResult result (λ b. (summary.now.levels ≡ levels) × (b.now ≡ summary.now.bottom)) (IsLevelFault summary.now levels) }
 {
-    match bottom {
-        Bottom::OtherWidth => LayoutFault::MixedWidths,
-        _ => LayoutFault::UnexpectedType,
+    if levels < summary.levels {
+        return Err(LayoutFault::UnexpectedType);
+    }
+    if levels == summary.levels {
+        return Ok(&summary.bottom);
+    }
+    match summary.bottom {
+        Bottom::OtherWidth => Err(LayoutFault::MixedWidths),
+        _ => Err(LayoutFault::UnexpectedType),
     }
 }
 
@@ -497,13 +490,7 @@ fn leaf_under(summary: &Summary, levels: u8) -> Answer
     requires { levels ≤ 3 }
     ensures { (t : Tree) → ShowsIn false summary.now t → TellsBoth result (Under Leaf levels t) (LevelsFault CoordinateFault None levels t) }
 {
-    if summary.levels < levels {
-        return Err(missing_level(&summary.bottom));
-    }
-    if levels < summary.levels {
-        return Err(LayoutFault::UnexpectedType);
-    }
-    leaf(&summary.bottom)
+    leaf(bottom_below(summary, levels)?)
 }
 
 /// The coordinate type of a union, from what was seen of its members.
@@ -526,17 +513,22 @@ fn one_of_union(
     }
 }
 
-/// The coordinate type and dimension of a union, from what was seen of its members.
-fn both_of_union(
-    no_members: bool,
-    fault: Option<LayoutFault>,
-    coord_types: u8,
-    dimensions: u8,
-) -> Answer
-    ensures { UnionSays no_members fault coord_types dimensions result }
+/// The coordinate type and dimension of a union in a collection, from what was seen of its members.
+fn mixed_bottom(bottom: &Bottom) -> Answer
+    ensures { MixedSays bottom.now result }
 {
-    let coord_type = one_of_union(no_members, fault, coord_types)?;
-    match only_dimension(dimensions) {
+    let Bottom::Union {
+        no_members,
+        coord_types,
+        dimensions,
+        mixed_fault,
+        ..
+    } = bottom
+    else {
+        return Err(LayoutFault::UnexpectedType);
+    };
+    let coord_type = one_of_union(*no_members, *mixed_fault, *coord_types)?;
+    match only_dimension(*dimensions) {
         Some(dimension) => Ok((coord_type, dimension)),
         None => Err(LayoutFault::SeveralDimensions),
     }
@@ -546,22 +538,7 @@ fn both_of_union(
 fn collection(summary: &Summary) -> Answer
     ensures { (t : Tree) → ShowsIn true summary.now t → TellsBoth result (Collection t) (LevelsFault MixedFault None 1 t) }
 {
-    if summary.levels < 1 {
-        return Err(missing_level(&summary.bottom));
-    }
-    if 1 < summary.levels {
-        return Err(LayoutFault::UnexpectedType);
-    }
-    match summary.bottom {
-        Bottom::Union {
-            no_members,
-            coord_types,
-            dimensions,
-            mixed_fault,
-            ..
-        } => both_of_union(no_members, mixed_fault, coord_types, dimensions),
-        _ => Err(LayoutFault::UnexpectedType),
-    }
+    mixed_bottom(bottom_below(summary, 1)?)
 }
 
 /// A native kind; a collection only where collections are allowed.
@@ -603,41 +580,24 @@ pub(crate) fn member(collections: bool, id: i8, summary: &Summary) -> Answer
 }
 
 /// A union of members of one coordinate type and dimension.
-#[tactic(auto, using(crate::proofs::UnionSteps::root_mixed, crate::proofs::UnionSteps::at_root))]
 fn mixed(data_type: &DataType) -> Answer
     ensures { TellsBoth result (Mixed (tree data_type.now)) (MixedFault (tree data_type.now)) }
 {
     let summary = summarize(data_type);
-    if 0 < summary.levels {
-        return Err(LayoutFault::UnexpectedType);
-    }
-    match summary.bottom {
-        Bottom::Union {
-            no_members,
-            coord_types,
-            dimensions,
-            mixed_fault,
-            ..
-        } => both_of_union(no_members, mixed_fault, coord_types, dimensions),
-        _ => Err(LayoutFault::UnexpectedType),
-    }
+    mixed_bottom(bottom_below(&summary, 0)?)
 }
 
 /// A union of members of one coordinate type.
-#[tactic(auto, using(crate::proofs::UnionSteps::root_geometry, crate::proofs::UnionSteps::at_root))]
 fn geometry(summary: &Summary) -> Result<CoordType, LayoutFault>
     ensures { (t : Tree) → Summarizes summary.now t → Tells result (Geometry t) (GeometryFault t) }
 {
-    if 0 < summary.levels {
-        return Err(LayoutFault::UnexpectedType);
-    }
-    match summary.bottom {
+    match bottom_below(summary, 0)? {
         Bottom::Union {
             no_members,
             coord_types,
             geometry_fault,
             ..
-        } => one_of_union(no_members, geometry_fault, coord_types),
+        } => one_of_union(*no_members, *geometry_fault, *coord_types),
         _ => Err(LayoutFault::UnexpectedType),
     }
 }
@@ -673,19 +633,11 @@ fn box_dimension(count: usize, names: u16) -> Result<Dimension, LayoutFault>
 }
 
 /// A box.
-#[tactic(auto, using(crate::proofs::Structs::root_box, crate::proofs::UnionSteps::at_root))]
 fn boxed(summary: &Summary) -> Result<Dimension, LayoutFault>
     ensures { (t : Tree) → Summarizes summary.now t → Tells result (BoxShape t) (BoxFault t) }
 {
-    if 0 < summary.levels {
-        return Err(LayoutFault::UnexpectedType);
-    }
-    match summary.bottom {
-        Bottom::Struct {
-            count,
-            names,
-            all_float64: _,
-        } => box_dimension(count, names),
+    match bottom_below(summary, 0)? {
+        Bottom::Struct { count, names, .. } => box_dimension(*count, *names),
         _ => Err(LayoutFault::UnexpectedType),
     }
 }

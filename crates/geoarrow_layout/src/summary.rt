@@ -133,10 +133,7 @@ pub(crate) fn is_float64(data_type: &DataType) -> bool
     ensures value { result ≡ is_float64 (tree data_type.now) }
     ensures same { IsTrue result ↔ (tree data_type.now ≡ plain float64) }
 {
-    match data_type {
-        DataType::Float64 => true,
-        _ => false,
-    }
+    matches!(data_type, DataType::Float64)
 }
 
 /// A struct of these fields.
