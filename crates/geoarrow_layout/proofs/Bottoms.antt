@@ -1,5 +1,5 @@
 -- What stands below the lists, and which fault it is.
-use Rattle.geoarrow_layout.proofs.Terms.{◌≡◌, ◌<◌, ◌≤◌, inl, inr, ℕ, zero, suc, ℤ, ◌+◌, refl, sym, ap, subst, arith, add-one, Bool, Option, Some, None, Ok, Err, [], ◌∷◌, same_Some, Text, Metadata, Tree, plain, list, large_list, fixed_size_list, struct, union, FieldTrees, MemberTrees, UnionMode, CoordType, Dimension, LayoutFault, UnexpectedType, ListWidth, Lists, LargeLists, Bottom, FixedSizeList, Struct, Union, OtherWidth, Deep, Other, Summary, ListsOver, Faults, HasFault, CoordinateFault, MixedFault, LevelsFault, IsBottom, AreLevels, SummarizesBy, TellsBoth, Under, IsFixedSize, IsStruct, missing_fault, IsWidth, IsNoLeaf, IsLevelFault, ShowsIn, false}
+use Rattle.geoarrow_layout.proofs.Terms.{◌≡◌, ◌<◌, ◌≤◌, inl, inr, ℕ, zero, suc, ℤ, ◌+◌, refl, sym, ap, subst, arith, add-one, Bool, Option, Some, None, Ok, Err, [], ◌∷◌, same_Some, Text, Metadata, Tree, plain, list, large_list, fixed_size_list, struct, union, FieldTrees, MemberTrees, UnionMode, CoordType, Dimension, LayoutFault, UnexpectedType, ListWidth, Lists, LargeLists, Bottom, OtherWidth, Deep, Other, Summary, ListsOver, Faults, HasFault, CoordinateFault, MixedFault, LevelsFault, IsBottom, AreLevels, SummarizesBy, TellsBoth, Under, IsFixedSize, IsStruct, missing_fault, IsWidth, IsNoLeaf, IsLevelFault, ShowsIn, false}
 use Rattle.geoarrow_layout.proofs.Readings.{Answer}
 
 -- one level more
@@ -47,10 +47,6 @@ lists_refused F lacks Lists (suc n) (list x t b m) u some h = (lacks x t b m).0
 lists_refused F lacks LargeLists (suc n) (large_list x t b m) u some h = (lacks x t b m).1
 lists_refused F lacks _ (suc n) _ u some h = absurd h
 
-pub levels_refused : (F : Faults) → RefusesLists F → (w : Option ListWidth) (n : ℕ) (t u : Tree) → 0 < n → AreLevels w n t u → F t [] UnexpectedType
-levels_refused F lacks None n t u some h = absurd (omega (arith, h.0))
-levels_refused F lacks (Some w) n t u some h = lists_refused F lacks w n t u some h.2
-
 -- n levels are wanted; F is the fault below all of them
 level_below : (F : Faults) (w : ListWidth) (n : ℕ) (t u : Tree) (f : LayoutFault) → ListsOver w n t u → HasFault (F u) f → HasFault (LevelsFault F (Some w) n t) f
 level_below F w zero t u f h r = subst (λ x. HasFault (F x) f) (sym h) r
@@ -84,29 +80,18 @@ outermost F _ (suc k) (suc n) _ u f some h r = absurd h
 
 -- ---- the fault where a level is missing
 
--- of a union no bottom says that a list is there
-no_leaf_no_list : (n : ℕ) (b : Bottom) (ms : MemberTrees) → IsNoLeaf n b ms → missing_fault b ≡ UnexpectedType
-no_leaf_no_list n (Union empty ids coords dims fault geometry) ms h = refl
-no_leaf_no_list n Deep ms h = refl
-no_leaf_no_list n Other ms h = refl
-no_leaf_no_list n _ ms h = absurd h
-
-missing_sized : (b : Bottom) (x : Text) (t : Tree) (z : ℤ) → IsFixedSize b x t z → missing_fault b ≡ UnexpectedType
-missing_sized (FixedSizeList named size floats) x t z h = refl
-missing_sized _ x t z h = absurd h
-
-missing_struct : (b : Bottom) (fs : FieldTrees) → IsStruct b fs → missing_fault b ≡ UnexpectedType
-missing_struct (Struct count names floats) fs h = refl
-missing_struct _ fs h = absurd h
+not_other : (b : Bottom) → (b ≡ OtherWidth → ⊥) → missing_fault b ≡ UnexpectedType
+not_other OtherWidth h = absurd (h refl)
+not_other _ h = refl
 
 missing_below : (F : Faults) (w : Option ListWidth) (n : ℕ) (b : Bottom) (u : Tree) (m : ℕ) → n < 3 → IsBottom IsNoLeaf w n b u → LevelsFault F w (suc m) u [] (missing_fault b)
 missing_below F (Some Lists) n b (large_list x t k a) m few (inl e) = (refl, ap missing_fault e.1)
 missing_below F (Some LargeLists) n b (list x t k a) m few (inl e) = (refl, ap missing_fault e.1)
 missing_below F w n b (list x t k a) m few (inl e) = let bad = e.0 in cc
 missing_below F w n b (large_list x t k a) m few (inl e) = let bad = e.0 in cc
-missing_below F w n b (fixed_size_list x t k a z) m few h = (refl, missing_sized b x t z h)
-missing_below F w n b (struct fs) m few h = (refl, missing_struct b fs h)
-missing_below F w n b (union ms mode) m few h = (refl, no_leaf_no_list n b ms h)
+missing_below F w n b (fixed_size_list x t k a z) m few h = (refl, not_other b (λ e. subst (λ y. IsFixedSize y x t z) e h))
+missing_below F w n b (struct fs) m few h = (refl, not_other b (λ e. subst (λ y. IsStruct y fs) e h))
+missing_below F w n b (union ms mode) m few h = (refl, not_other b (λ e. subst (λ y. IsNoLeaf n y ms) e h))
 missing_below F w n b (plain p) m few h = (refl, ap missing_fault h)
 missing_below F w n b _ m few (inr e) = absurd (omega (arith, few, e.1))
 
