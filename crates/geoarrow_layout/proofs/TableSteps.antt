@@ -1,6 +1,5 @@
 -- Steps of the comparison with the table of written data types.
-use Rattle.geoarrow_layout.proofs.Terms.{◌≡◌, ◌↔◌, ◌<◌, ◌+◌, ℕ, zero, suc, ℤ, Bool, true, false, true≢false, IsTrue, Some, List, [], ◌∷◌, ◌++◌, drop, length, get_or, sym, ap, subst, ◌∙◌, arith, Option, Contains, same_Some, drop_more, same_from_push, Tree, struct, union, FieldTree, Members, field_trees, member_trees, UnionMode, Dimension, NativeKind, Kind, member_layout, layout, Width, field_list, member_list, listed_fields, listed_members, option_eq}
-use Rattle.geoarrow_layout.proofs.Written.{layouts_are_distinct}
+use Rattle.geoarrow_layout.proofs.Terms.{◌≡◌, ◌↔◌, ◌+◌, ℤ, Bool, true, false, true≢false, IsTrue, Some, List, [], ◌∷◌, ◌++◌, sym, ap, ◌∙◌, Option, same_from_push, Tree, struct, union, FieldTree, Members, field_trees, member_trees, UnionMode, Dimension, NativeKind, member_layout, Width, field_list, member_list, listed_fields, listed_members, option_eq}
 use Rattle.geoarrow_layout.specs.contracts.encodings.Width as width
 use Rattle.geoarrow_layout.proofs.Equality.{option_decides, bare_decides}
 use Rattle.geoarrow_layout.specs.contracts.encodings.WidthPartialEq.TheImpl as widths
@@ -37,20 +36,6 @@ all_of_dimension ms rest M x k d t U a b r is here one one_holds two two_holds s
   (λ h. is ∙ ap (λ z. z ++ (x ∷ [])) (says.0 h) ∙ ap (λ z. M ++ (z ∷ [])) (one.0 one_holds ∙ ap (member_layout k d) (sym here ∙ two.0 two_holds))),
   (λ e. says.1 (same_from_push rest M x (member_layout k d U) (sym is ∙ e)).0),
 )
-
--- one kind after the other
-pub contained_later : (xs : List Kind) (i : ℕ) (d k : Kind) → i < length xs → (get_or xs i d ≡ k → ⊥) → Contains (drop i xs) k → Contains (drop (i + 1) xs) k
-contained_later xs i d k lt other h = later (subst (λ z. Contains z k) (drop_more xs i d lt) h)
-  where
-    later : Contains (get_or xs i d ∷ drop (i + 1) xs) k → Contains (drop (i + 1) xs) k
-    later (zero, l, is) = absurd (other is)
-    later (suc n, l, is) = (n, omega (arith, l), is)
-
-pub not_kind : (t : Tree) (j k : Kind) (b : Bool) → IsTrue b ↔ (t ≡ layout j) → b ≡ false → t ≡ layout k → j ≡ k → ⊥
-not_kind t j k b says fails h same = true≢false (sym (says.1 (h ∙ ap layout (sym same))) ∙ fails)
-
-pub found_kind : (t : Tree) (j : Kind) → t ≡ layout j → (k : Kind) → (Some j ≡ Some k) ↔ (t ≡ layout k)
-found_kind t j is k = ((λ h. is ∙ ap layout (same_Some j k h)), (λ h. ap (λ x. Some x) (layouts_are_distinct j k (sym is ∙ h))))
 
 -- ---- whether a width that is told is the one that is asked for
 

@@ -4,7 +4,7 @@ use Rattle.geoarrow_layout.proofs.Readings.{Answer, exactly}
 use Rattle.geoarrow_layout.proofs.MemberLists.{Items, all_map, all_inside, all_some, first_some, all_both, some_more, one_more}
 use Rattle.geoarrow_layout.proofs.FaultLaws.{Read, ApartMember, MemberReads, order_same}
 use Rattle.geoarrow_layout.proofs.Bottoms.{RefusesLists, at_bottom, no_union, level_fault}
-use Rattle.geoarrow_layout.proofs.FieldSteps.{bits_like, bits_added, no_bits, bit_is}
+use Rattle.geoarrow_layout.proofs.FieldSteps.{bits_like, bits_added, no_bits, bit_is, id_moved}
 
 abbrev pub OneReading : MemberReads → Type 0
 OneReading R = (i : ℤ) → ReadsFirst (R i)
@@ -186,14 +186,15 @@ keyed_added K place S n more A xs x adds is before =
 abbrev Ids : MemberTrees → ℕ → Type 0
 Ids ms i = (i < 64) × SomeMember (λ j t. j ≡ pos i) ms
 
-pub seen_more : (R : MemberReads) (F : ℤ → Faults) → OneReading R → ApartMember R F → (ids ids2 coords coords2 dims dims2 : ℕ) (fault fault2 : Option LayoutFault) (part : Answer) (xs : Items) (k : ℕ) (x : ℤ × FieldTree) → k < length xs → x ≡ get_or xs k x
-    → TellsBoth part (R x.0 x.1.tree) (F x.0 x.1.tree) → AddsBits ids (λ i. (i < 64) × (x.0 ≡ pos i)) ids2 → AddsBits coords (ReadAt (λ y. place_of y.0) part) coords2 → AddsBits dims (ReadAt (λ y. order_of y.1) part) dims2
+pub seen_more : (R : MemberReads) (F : ℤ → Faults) → OneReading R → ApartMember R F → (ids ids2 coords coords2 dims dims2 : ℕ) (fault fault2 : Option LayoutFault) (part : Answer) (xs : Items) (k : ℕ) (x : ℤ × FieldTree) (z : ℤ) → k < length xs → x ≡ get_or xs k x → z ≡ x.0
+    → TellsBoth part (R z x.1.tree) (F z x.1.tree) → AddsBits ids (λ i. (i < 64) × (z ≡ pos i)) ids2 → AddsBits coords (ReadAt (λ y. place_of y.0) part) coords2 → AddsBits dims (ReadAt (λ y. order_of y.1) part) dims2
     → fault2 ≡ first_fault fault part → Seen R F ids coords dims fault (member_trees (take k xs)) → Seen R F ids2 coords2 dims2 fault2 (member_trees (take (k + 1) xs))
-seen_more R F one apart ids ids2 coords coords2 dims dims2 fault fault2 part all k x lt at told add_id add_coord add_dim next before =
+seen_more R F one apart ids ids2 coords coords2 dims dims2 fault fault2 part all k x z lt at id says add_id add_coord add_dim next before =
     let xs = take k all in
+    let told = subst (λ i. TellsBoth part (R i x.1.tree) (F i x.1.tree)) id says in
     let read : Yields part (R x.0 x.1.tree) = exactly (coords_in x.1.tree) part (R x.0 x.1.tree) (F x.0 x.1.tree) (one x.0 x.1.tree) (apart x.0 x.1.tree) told in
     subst (λ ys. Seen R F ids2 coords2 dims2 fault2 (member_trees ys)) (sym (one_more all k x lt at)) record {
-      id_bits = bits_added ids ids2 (λ i. (i < 64) × (x.0 ≡ pos i)) (Ids (member_trees xs)) (Ids (member_trees (xs ++ (x ∷ [])))) add_id (λ i. let is = some_more (λ j t. j ≡ pos i) xs x in (
+      id_bits = bits_added ids ids2 (λ i. (i < 64) × (x.0 ≡ pos i)) (Ids (member_trees xs)) (Ids (member_trees (xs ++ (x ∷ [])))) (id_moved _ _ x.0 z id add_id) (λ i. let is = some_more (λ j t. j ≡ pos i) xs x in (
         (λ q. elim (is.0 q.1) [ inl s ↦ inl (q.0, s) | inr s ↦ inr (q.0, s) ]),
         (λ h. elim h [ inl p ↦ (p.0, is.1 (inl p.1)) | inr a ↦ (a.0, is.1 (inr a.1)) ]),
       )) before.id_bits;
@@ -216,10 +217,10 @@ pub has_members : (xs : Items) (empty : Bool) → empty ≡ nat_eq (length xs) 0
 has_members [] empty h = (λ e. let bad : true ≡ false = sym h ∙ e in cc, λ m. absurd m)
 has_members (y ∷ ys) empty h = (λ e. tt, λ m. let z : nat_eq (suc (length ys)) 0 ≡ false = eqb-suc-zero (length ys) in h ∙ z)
 
-pub fault_next : (R : MemberReads) (F : ℤ → Faults) (fault more : Option LayoutFault) (part : Answer) (xs : Items) (k : ℕ) (x : ℤ × FieldTree) → k < length xs → x ≡ get_or xs k x
-    → TellsBoth part (R x.0 x.1.tree) (F x.0 x.1.tree) → more ≡ first_fault fault part → IsFaultOf R F fault (member_trees (take k xs)) → IsFaultOf R F more (member_trees (take (k + 1) xs))
-fault_next R F fault more part xs k x lt at read next before =
-    subst (λ ys. IsFaultOf R F more (member_trees ys)) (sym (one_more xs k x lt at)) (subst (λ o. IsFaultOf R F o (member_trees (take k xs ++ (x ∷ [])))) (sym next) (fault_added R F fault part (take k xs) x read before))
+pub fault_next : (R : MemberReads) (F : ℤ → Faults) (fault more : Option LayoutFault) (part : Answer) (xs : Items) (k : ℕ) (x : ℤ × FieldTree) (z : ℤ) → k < length xs → x ≡ get_or xs k x → z ≡ x.0
+    → TellsBoth part (R z x.1.tree) (F z x.1.tree) → more ≡ first_fault fault part → IsFaultOf R F fault (member_trees (take k xs)) → IsFaultOf R F more (member_trees (take (k + 1) xs))
+fault_next R F fault more part xs k x z lt at id read next before =
+    subst (λ ys. IsFaultOf R F more (member_trees ys)) (sym (one_more xs k x lt at)) (subst (λ o. IsFaultOf R F o (member_trees (take k xs ++ (x ∷ [])))) (sym next) (fault_added R F fault part (take k xs) x (subst (λ i. TellsBoth part (R i x.1.tree) (F i x.1.tree)) id read) before))
 
 -- ---- the root
 

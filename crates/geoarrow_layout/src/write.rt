@@ -1,5 +1,5 @@
 //! The data types that are written, and the kind that a data type was written for.
-ghost use Rattle.std.specs.Prelude.{◌≡◌, ◌++◌, [], false, pos, map, IfOk, IsOk, OnOk, ◌↔◌, IsTrue, Some, Contains, codes};
+ghost use Rattle.std.specs.Prelude.{◌≡◌, ◌++◌, [], false, pos, map, IfOk, IsOk, OnOk, ◌↔◌, IsTrue, Some, codes};
 ghost use Rattle.arrow_values.specs.Name.{fixed_text};
 ghost use Rattle.arrow_values.specs.Tree.{list, struct};
 ghost use Rattle.arrow_values.specs.View.{tree, field_trees};
@@ -239,19 +239,10 @@ fn push_dimension(
 pub fn written_kind(data_type: &DataType) -> Option<Kind>
     ensures { (k : Kind) → (result ≡ Some k) ↔ (tree data_type.now ≡ layout k) }
 {
-    first_written(data_type, &Kind::ALL)
-}
-
-/// The first of the kinds whose written data type this is.
-fn first_written(data_type: &DataType, kinds: &[Kind]) -> Option<Kind>
-    ensures { (k : Kind) → Contains kinds.now k → (result ≡ Some k) ↔ (tree data_type.now ≡ layout k) }
-{
-    for kind in kinds {
-        if is_layout(data_type, kind) {
-            return Some(*kind);
-        }
-    }
-    None
+    Kind::ALL
+        .iter()
+        .find(|kind| is_layout(data_type, kind))
+        .copied()
 }
 
 /// Whether the data type is the one that is written for the kind.
