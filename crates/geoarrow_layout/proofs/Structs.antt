@@ -10,18 +10,13 @@ DimensionAnswer = Result Dimension LayoutFault
 abbrev pub NamesAnswer : ℕ → ℕ → DimensionAnswer → Type 0
 NamesAnswer count bits r = (ns : List Text) → count ≡ length ns → IsBits bits (λ i. SomeAt i ns) → Tells r (λ d. IsSeparatedAs d ns) (SeparatedFault ns)
 
-pub no_third : (count bits : ℕ) → count ≡ 3 → (((has_bit bits 0 && has_bit bits 1) ≡ true) × ((has_bit bits 2 ≡ true) ⊎ (has_bit bits 3 ≡ true)) → ⊥) → NamesAnswer count bits (Err BadFieldNames)
-no_third count bits three lacks = λ ns same is. (
-  [],
-  inr (
-    sym same ∙ three,
-    (λ d h.
-        let have = three_have ns d (sym same ∙ three) h in
-        let third : (has_bit bits 2 ≡ true) ⊎ (has_bit bits 3 ≡ true) = elim have.2 [ inl e ↦ inl (has_at _ 2 bits ns (omega arith) refl refl is ∙ e) | inr e ↦ inr (has_at _ 3 bits ns (omega arith) refl refl is ∙ e) ] in
-        lacks (and_from _ _ (has_at _ 0 bits ns (omega arith) refl refl is ∙ have.0) (has_at _ 1 bits ns (omega arith) refl refl is ∙ have.1), third)),
-    (refl, refl),
-  ),
-)
+pub no_third : (count bits : ℕ) → count ≡ 3 → ((has_bit bits 0 && has_bit bits 1) ≡ true → (has_bit bits 2 ≡ true) ⊎ (has_bit bits 3 ≡ true) → ⊥) → NamesAnswer count bits (Err BadFieldNames)
+no_third count bits three lacks = λ ns same is.
+    let none : (d : Dimension) → ¬ IsSeparatedAs d ns = λ d h.
+    let have = three_have ns d (sym same ∙ three) h in
+    lacks (and_from _ _ (has_at _ 0 bits ns (omega arith) refl refl is ∙ have.0) (has_at _ 1 bits ns (omega arith) refl refl is ∙ have.1))
+    (elim have.2 [ inl e ↦ inl (has_at _ 2 bits ns (omega arith) refl refl is ∙ e) | inr e ↦ inr (has_at _ 3 bits ns (omega arith) refl refl is ∙ e) ]) in
+    ([], inr (sym same ∙ three, none, (refl, refl)))
 
 pub with_z : (count bits : ℕ) → count ≡ 3 → (has_bit bits 0 && has_bit bits 1) ≡ true → has_bit bits 2 ≡ true → NamesAnswer count bits (Ok XYZ)
 with_z count bits three xy z = λ ns same is.

@@ -7,7 +7,7 @@ ghost use Rattle.geoarrow_layout.specs.Layouts.{list_names, type_name, dimension
 
 use crate::kinds::CoordType::{Interleaved, Separated};
 use crate::kinds::Dimension::{XY, XYM, XYZ, XYZM};
-use crate::kinds::{CoordType, Dimension, dimension_at};
+use crate::kinds::{CoordType, Dimension, by_dimension, dimension_at};
 use crate::names::ExtensionName;
 use arrow_values::FixedName;
 
@@ -44,13 +44,10 @@ macro_rules! all_kinds {
 /// The name of a member, from a table: for each native kind, the names in the order of the dimensions.
 macro_rules! member_names {
     ($of:expr, $in:expr; $($kind:ident $z:ident $m:ident $zm:ident,)*) => {
-        match ($of, $in) {
-            $(
-                (NativeKind::$kind, XY) => FixedName::$kind,
-                (NativeKind::$kind, XYZ) => FixedName::$z,
-                (NativeKind::$kind, XYM) => FixedName::$m,
-                (NativeKind::$kind, XYZM) => FixedName::$zm,
-            )*
+        match $of {
+            $(NativeKind::$kind => by_dimension!($in;
+                FixedName::$kind, FixedName::$z, FixedName::$m, FixedName::$zm
+            ),)*
         }
     };
 }

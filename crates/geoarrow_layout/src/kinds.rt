@@ -46,6 +46,33 @@ impl Default for CoordType {
     }
 }
 
+/// What a table of four says of a dimension, the four in the order of the dimensions.
+macro_rules! by_dimension {
+    ($dimension:expr; $xy:expr, $xyz:expr, $xym:expr, $xyzm:expr) => {
+        match $dimension {
+            Dimension::XY => $xy,
+            Dimension::XYZ => $xyz,
+            Dimension::XYM => $xym,
+            Dimension::XYZM => $xyzm,
+        }
+    };
+}
+
+pub(crate) use by_dimension;
+
+/// The dimension of which such a table says a value, if there is one.
+macro_rules! dimension_with {
+    ($value:expr; $xy:literal, $xyz:literal, $xym:literal, $xyzm:literal) => {
+        match $value {
+            $xy => Some(Dimension::XY),
+            $xyz => Some(Dimension::XYZ),
+            $xym => Some(Dimension::XYM),
+            $xyzm => Some(Dimension::XYZM),
+            _ => None,
+        }
+    };
+}
+
 /// Which dimensions a coordinate has (GeoArrow, "Coordinate").
 /// [`Dimension::try_from_dimensions`] has an example.
 #[derive(Clone, Copy, Debug, PartialEq, Eq, Hash)]
@@ -69,12 +96,7 @@ impl Dimension {
     pub fn size(&self) -> usize
         ensures { result ≡ size_of self.now }
     {
-        match self {
-            Dimension::XY => 2,
-            Dimension::XYZ => 3,
-            Dimension::XYM => 3,
-            Dimension::XYZM => 4,
-        }
+        by_dimension!(self; 2, 3, 3, 4)
     }
 
     /// Its number among the four, from 0, as type ids count them (GeoArrow, "Geometry": the table of type ids).
@@ -114,12 +136,7 @@ impl Dimension {
     fn name(self) -> &'static str
         ensures { result.now ≡ dimension_name self }
     {
-        match self {
-            Dimension::XY => "XY",
-            Dimension::XYZ => "XYZ",
-            Dimension::XYM => "XYM",
-            Dimension::XYZM => "XYZM",
-        }
+        by_dimension!(self; "XY", "XYZ", "XYM", "XYZM")
     }
 }
 
@@ -141,12 +158,7 @@ impl From<Dimension> for Dimensions {
     ghost from_gives = { λ d e. e ≡ dimensions_of d };
 
     fn from(dimension: Dimension) -> Dimensions {
-        match dimension {
-            Dimension::XY => Dimensions::Xy,
-            Dimension::XYZ => Dimensions::Xyz,
-            Dimension::XYM => Dimensions::Xym,
-            Dimension::XYZM => Dimensions::Xyzm,
-        }
+        by_dimension!(dimension; Dimensions::Xy, Dimensions::Xyz, Dimensions::Xym, Dimensions::Xyzm)
     }
 }
 
@@ -162,75 +174,47 @@ pub(crate) const DIMENSIONS: [Dimension; 4] = [
 pub(crate) fn dimension_at(order: u8) -> Option<Dimension>
     ensures { (d : Dimension) → (result ≡ Some d) ↔ (order ≡ order_of d) }
 {
-    match order {
-        0 => Some(Dimension::XY),
-        1 => Some(Dimension::XYZ),
-        2 => Some(Dimension::XYM),
-        3 => Some(Dimension::XYZM),
-        _ => None,
-    }
+    dimension_with!(order; 0, 1, 2, 3)
 }
 
 /// The name of the inner field of an interleaved coordinate.
 pub(crate) fn interleaved_name(dimension: Dimension) -> FixedName
     ensures { fixed_text result ≡ interleaved_name dimension }
 {
-    match dimension {
-        Dimension::XY => Xy,
-        Dimension::XYZ => Xyz,
-        Dimension::XYM => Xym,
-        Dimension::XYZM => Xyzm,
-    }
+    by_dimension!(dimension; Xy, Xyz, Xym, Xyzm)
 }
 
 /// The names of the fields of a separated coordinate.
 pub(crate) fn coordinate_names(dimension: Dimension) -> &'static [FixedName]
     ensures { map fixed_text result.now ≡ coordinate_names dimension }
 {
-    match dimension {
-        Dimension::XY => &[X, Y],
-        Dimension::XYZ => &[X, Y, Z],
-        Dimension::XYM => &[X, Y, M],
-        Dimension::XYZM => &[X, Y, Z, M],
-    }
+    by_dimension!(dimension; &[X, Y], &[X, Y, Z], &[X, Y, M], &[X, Y, Z, M])
 }
 
 /// The names of the fields of a box.
 pub(crate) fn box_names(dimension: Dimension) -> &'static [FixedName]
     ensures { map fixed_text result.now ≡ box_names dimension }
 {
-    match dimension {
-        Dimension::XY => &[Xmin, Ymin, Xmax, Ymax],
-        Dimension::XYZ => &[Xmin, Ymin, Zmin, Xmax, Ymax, Zmax],
-        Dimension::XYM => &[Xmin, Ymin, Mmin, Xmax, Ymax, Mmax],
-        Dimension::XYZM => &[Xmin, Ymin, Zmin, Mmin, Xmax, Ymax, Zmax, Mmax],
-    }
+    by_dimension!(dimension;
+        &[Xmin, Ymin, Xmax, Ymax],
+        &[Xmin, Ymin, Zmin, Xmax, Ymax, Zmax],
+        &[Xmin, Ymin, Mmin, Xmax, Ymax, Mmax],
+        &[Xmin, Ymin, Zmin, Mmin, Xmax, Ymax, Zmax, Mmax]
+    )
 }
 
 /// The dimension that the inner field of a fixed size list names.
 pub(crate) fn named_dimension(name: &str) -> Option<Dimension>
     ensures { (d : Dimension) → (result ≡ Some d) ↔ (name.now ≡ interleaved_name d) }
 {
-    match name {
-        "xy" => Some(Dimension::XY),
-        "xyz" => Some(Dimension::XYZ),
-        "xym" => Some(Dimension::XYM),
-        "xyzm" => Some(Dimension::XYZM),
-        _ => None,
-    }
+    dimension_with!(name; "xy", "xyz", "xym", "xyzm")
 }
 
 /// The one dimension of a set.
 pub(crate) fn only_dimension(bits: u8) -> Option<Dimension>
     ensures { (d : Dimension) → (result ≡ Some d) ↔ (bits ≡ 2 ^ order_of d) }
 {
-    match bits {
-        1 => Some(Dimension::XY),
-        2 => Some(Dimension::XYZ),
-        4 => Some(Dimension::XYM),
-        8 => Some(Dimension::XYZM),
-        _ => None,
-    }
+    dimension_with!(bits; 1, 2, 4, 8)
 }
 
 /// The one coordinate type of a set.
