@@ -11,15 +11,10 @@ OneReading R = (i : ℤ) → ReadsFirst (R i)
 
 -- one bit alone
 is_pow : (n j : ℕ) → IsBits n (λ i. i ≡ j) → n ≡ 2 ^ j
-is_pow n j h = same_from_bits n (2 ^ j) (λ i. at_bit i (cases_eq i j))
-  where
-    at_bit : (i : ℕ) → (i ≡ j) ⊎ (i ≢ j) → bit_at n i ≡ bit_at (2 ^ j) i
-    at_bit i (inl e) = let one : bit_at (2 ^ j) i ≡ 1 = ap (bit_at (2 ^ j)) e ∙ bit_at-pow_same j in (bit_is n (λ k. k ≡ j) i h).1 e ∙ sym one
-    at_bit i (inr e) =
-        let none : bit_at n i ≢ 1 = λ one. e ((bit_is n (λ k. k ≡ j) i h).0 one) in
-        let small : bit_at n i < 2 = bit_at-lt n i in
-        let other : bit_at (2 ^ j) i ≡ 0 = bit_at-pow_other j i e in
-        omega arith
+is_pow n j h = same_from_bits n (2 ^ j) (λ i. elim (cases_eq i j) [
+  | inl e ↦ let one : bit_at (2 ^ j) i ≡ 1 = ap (bit_at (2 ^ j)) e ∙ bit_at-pow_same j in (bit_is n (λ k. k ≡ j) i h).1 e ∙ sym one
+  | inr e ↦ let none : bit_at n i ≢ 1 = λ one. e ((bit_is n (λ k. k ≡ j) i h).0 one) in omega (arith, bit_at-lt n i, bit_at-pow_other j i e)
+])
 
 pow_bit : (n j i : ℕ) → n ≡ 2 ^ j → bit_at n i ≡ 1 → i ≡ j
 pow_bit n j i is one = elim (cases_eq i j) [ inl e ↦ e | inr e ↦ let z : bit_at n i ≡ 0 = ap (λ m. bit_at m i) is ∙ bit_at-pow_other j i e in absurd (omega arith) ]
@@ -138,11 +133,8 @@ nested_mixed = mixed_at Member member_first (λ i t c d m. m) IsNested 1 inner_s
 
 -- a summary says less of unions
 pub weaken : (U V : ℕ → Bottom → MemberTrees → Type 0) → ((n : ℕ) (b : Bottom) (ms : MemberTrees) → U n b ms → V n b ms) → (s : Summary) (t : Tree) → SummarizesBy U s t → SummarizesBy V s t
-weaken U V f s t h = (h.0, h.1, at_tree h.0 h.2)
-  where
-    at_tree : (u : Tree) → IsBottom U s.width s.levels s.bottom u → IsBottom V s.width s.levels s.bottom u
-    at_tree (union ms mode) k = f s.levels s.bottom ms k
-    at_tree _ k = k
+weaken U V f s t (union ms mode, levels, k) = (union ms mode, levels, f s.levels s.bottom ms k)
+weaken U V f s t (u, levels, k) = (u, levels, k)
 
 nested_no_leaf : (n : ℕ) (b : Bottom) (ms : MemberTrees) → IsNested n b ms → IsNoLeaf n b ms
 nested_no_leaf (suc n) (Union empty ids coords dims fault geometry) ms h = tt
