@@ -1,5 +1,5 @@
 -- What stands below the lists, and which fault it is.
-use Rattle.geoarrow_layout.proofs.Terms.{◌≡◌, ◌<◌, ◌≤◌, inl, inr, ℕ, zero, suc, ℤ, ◌+◌, refl, sym, ap, subst, arith, add-one, Bool, Option, Some, None, Ok, Err, [], ◌∷◌, same_Some, Text, Metadata, Tree, plain, list, large_list, fixed_size_list, struct, union, FieldTrees, MemberTrees, UnionMode, CoordType, Dimension, LayoutFault, UnexpectedType, ListWidth, Lists, LargeLists, Bottom, OtherWidth, Deep, Other, Summary, ListsOver, Faults, HasFault, CoordinateFault, MixedFault, LevelsFault, IsBottom, AreLevels, SummarizesBy, TellsBoth, Under, IsFixedSize, IsStruct, missing_fault, IsWidth, IsNoLeaf, IsLevelFault, ShowsIn, false}
+use Rattle.geoarrow_layout.proofs.Terms.{◌≡◌, ◌<◌, ◌≤◌, inl, inr, ℕ, zero, suc, ℤ, ◌+◌, refl, sym, ap, subst, arith, add-one, Bool, Option, Some, None, Ok, Err, [], ◌∷◌, same_Some, Text, Metadata, Tree, plain, list, large_list, fixed_size_list, struct, union, FieldTrees, MemberTrees, UnionMode, CoordType, Dimension, LayoutFault, UnexpectedType, ListWidth, Lists, LargeLists, Bottom, OtherWidth, Deep, Other, Summary, ListsOver, Faults, HasFault, MixedFault, LevelsFault, IsBottom, AreLevels, SummarizesBy, TellsBoth, Under, IsFixedSize, IsStruct, missing_fault, IsWidth, IsNoLeaf, IsLevelFault, ShowsIn, false}
 use Rattle.geoarrow_layout.proofs.Readings.{Answer}
 
 -- one level more
@@ -34,12 +34,6 @@ at_bottom U Q w n b entered sizes structs unions _ h = absurd (elim h [ inl e �
 -- a list is at fault itself, as an unexpected type
 abbrev pub RefusesLists : Faults → Type 0
 RefusesLists F = (x : Text) (t : Tree) (b : Bool) (m : Metadata) → F (list x t b m) [] UnexpectedType × F (large_list x t b m) [] UnexpectedType
-
-pub coordinate_refuses : RefusesLists CoordinateFault
-coordinate_refuses x t b m = ((refl, refl), (refl, refl))
-
-pub mixed_refuses : RefusesLists MixedFault
-mixed_refuses x t b m = ((refl, refl), (refl, refl))
 
 lists_refused : (F : Faults) → RefusesLists F → (w : ListWidth) (n : ℕ) (t u : Tree) → 0 < n → ListsOver w n t u → F t [] UnexpectedType
 lists_refused F lacks w zero t u some h = absurd (omega arith)
