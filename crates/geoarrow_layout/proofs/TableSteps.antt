@@ -1,8 +1,5 @@
 -- Steps of the comparison with the table of written data types.
-use Rattle.geoarrow_layout.proofs.Terms.{◌≡◌, ◌↔◌, ◌+◌, ℤ, Bool, true, false, true≢false, IsTrue, Some, List, [], ◌∷◌, ◌++◌, sym, ap, ◌∙◌, Option, same_from_push, Tree, struct, union, FieldTree, Members, field_trees, member_trees, UnionMode, Dimension, NativeKind, member_layout, Width, field_list, member_list, listed_fields, listed_members, option_eq}
-use Rattle.geoarrow_layout.specs.contracts.encodings.Width as width
-use Rattle.geoarrow_layout.proofs.Equality.{option_decides, bare_decides}
-use Rattle.geoarrow_layout.specs.contracts.encodings.WidthPartialEq.TheImpl as widths
+use Rattle.geoarrow_layout.proofs.Terms.{◌≡◌, ◌↔◌, ◌+◌, ℤ, Bool, true, false, true≢false, IsTrue, List, [], ◌∷◌, ◌++◌, sym, ap, ◌∙◌, same_from_push, Tree, struct, union, FieldTree, Members, field_trees, member_trees, UnionMode, Dimension, NativeKind, member_layout, field_list, member_list, listed_fields, listed_members}
 
 -- a struct of these fields, a union of these members
 abbrev fields_in : Tree → List FieldTree
@@ -36,10 +33,3 @@ all_of_dimension ms rest M x k d t U a b r is here one one_holds two two_holds s
   (λ h. is ∙ ap (λ z. z ++ (x ∷ [])) (says.0 h) ∙ ap (λ z. M ++ (z ∷ [])) (one.0 one_holds ∙ ap (member_layout k d) (sym here ∙ two.0 two_holds))),
   (λ e. says.1 (same_from_push rest M x (member_layout k d U) (sym is ∙ e)).0),
 )
-
--- ---- whether a width that is told is the one that is asked for
-
-pub told : (P : Width → Type 0) (r : Option Width) (w : Width) (b : Bool) → ((v : Width) → (r ≡ Some v) ↔ P v) → b ≡ option_eq (widths.eq-value).it r (Some w) → IsTrue b ↔ P w
-told P r w b says is =
-    let same = option_decides _ (bare_decides width.the_type tt) r (Some w) in
-    (λ h. (says w).0 (same.0 (sym is ∙ h)), λ p. is ∙ same.1 ((says w).1 p))

@@ -6,7 +6,6 @@ ghost use Rattle.std.specs.Prelude.{false, IfErr, IfOk, ◌≡◌, IfSome, ◌�
 ghost use Rattle.arrow_values.specs.View.{tree, field_trees};
 ghost use Rattle.geoarrow_layout.specs.Shapes.{Yields, YieldsOne, Leaf, Under, Native, Mixed, Collection, Geometry, BoxShape, IsBytes, IsText, Accepts, YieldsKind, IsStructured, IsSeparatedAs, IsBoxAs, names_of};
 ghost use Rattle.geoarrow_layout.specs.Kinds.{name_text, extension_of, name_of};
-ghost use Rattle.geoarrow_layout.specs.Layouts.{layout};
 ghost use Rattle.geoarrow_layout.specs.FaultAt.{HasFault, BoxFault, MixedFault, NativeFault, GeometryFault, FaultAt, SeparatedFault, CoordinateFault, BoxNamesFault, LevelsFault};
 ghost use Rattle.arrow_values.specs.Tree.{Tree, Text, struct};
 ghost use Rattle.geoarrow_layout.specs.Summary.{AreOf, IsCoordFault, Summarizes, IsBits, SomeAt, IsBottom, IsUnion, Tells, IsNoLeaf, ShowsIn, NativeIn, NativeFaultIn, MemberIn, MemberFaultIn, TellsBoth, IsOtherFault, IsLevelFault, MixedSays, has_bit};
@@ -278,9 +277,8 @@ pub fn candidates(data_type: &DataType) -> Candidates
 }
 
 /// How the bytes of well-known binary are stored.
-pub(crate) fn bytes_width(data_type: &DataType) -> Option<Width>
-    ensures read { (w : Width) → (result ≡ Some w) ↔ IsBytes w (tree data_type.now) }
-    ensures written { (w : Width) → (result ≡ Some w) ↔ (tree data_type.now ≡ layout (Kind.Wkb w)) }
+fn bytes_width(data_type: &DataType) -> Option<Width>
+    ensures { (w : Width) → (result ≡ Some w) ↔ IsBytes w (tree data_type.now) }
 {
     match data_type {
         DataType::Binary => Some(Width::Plain),
@@ -291,9 +289,8 @@ pub(crate) fn bytes_width(data_type: &DataType) -> Option<Width>
 }
 
 /// How the text of well-known text is stored.
-pub(crate) fn text_width(data_type: &DataType) -> Option<Width>
-    ensures read { (w : Width) → (result ≡ Some w) ↔ IsText w (tree data_type.now) }
-    ensures written { (w : Width) → (result ≡ Some w) ↔ (tree data_type.now ≡ layout (Kind.Wkt w)) }
+fn text_width(data_type: &DataType) -> Option<Width>
+    ensures { (w : Width) → (result ≡ Some w) ↔ IsText w (tree data_type.now) }
 {
     match data_type {
         DataType::Utf8 => Some(Width::Plain),

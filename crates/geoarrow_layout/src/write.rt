@@ -11,7 +11,6 @@ use crate::encodings::{Kind, NativeKind, Width, list_names, member_name, type_id
 use crate::kinds::{
     CoordType, DIMENSIONS, Dimension, box_names, coordinate_names, interleaved_name, list_size,
 };
-use crate::read::{bytes_width, text_width};
 use crate::summary::is_float64;
 use arrow_values::{DataType, Field, Fields, FixedName, UnionFields, UnionMode};
 use std::alloc::{AllocError, Global};
@@ -258,8 +257,8 @@ fn is_layout(data_type: &DataType, kind: &Kind) -> bool
         }
         Kind::Geometry(coord_type) => is_geometry(data_type, *coord_type),
         Kind::Rect(dimension) => is_struct(data_type, box_names(*dimension)),
-        Kind::Wkb(width) => bytes_width(data_type) == Some(*width),
-        Kind::Wkt(width) => text_width(data_type) == Some(*width),
+        Kind::Wkb(width) => *data_type == wkb_data_type(*width),
+        Kind::Wkt(width) => *data_type == wkt_data_type(*width),
     }
 }
 
