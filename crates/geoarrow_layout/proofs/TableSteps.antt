@@ -1,5 +1,5 @@
 -- Steps of the comparison with the table of written data types.
-use Rattle.geoarrow_layout.proofs.Terms.{◌≡◌, ◌↔◌, ◌+◌, ℤ, Bool, true, false, true≢false, IsTrue, List, [], ◌∷◌, ◌++◌, sym, ap, ◌∙◌, same_from_push, Tree, struct, union, FieldTree, Members, field_trees, member_trees, UnionMode, Dimension, NativeKind, member_layout, field_list, member_list, listed_fields, listed_members}
+use Rattle.geoarrow_layout.proofs.Terms.{◌≡◌, ◌↔◌, ℤ, Bool, true, false, true≢false, IsTrue, List, [], ◌∷◌, ◌++◌, sym, ap, ◌∙◌, same_from_push, Tree, struct, union, FieldTree, Members, field_trees, member_trees, UnionMode, Dimension, NativeKind, member_layout, field_list, member_list, listed_fields, listed_members}
 
 -- a struct of these fields, a union of these members
 abbrev fields_in : Tree → List FieldTree
