@@ -5,6 +5,7 @@ ghost use Rattle.geoarrow_layout.specs.Kinds.{size_of, order_of, interleaved_nam
 ghost use Rattle.geoarrow_layout.specs.Layouts.{coordinate_names, box_names};
 ghost use Rattle.geoarrow_layout.specs.Summary.{place_of};
 
+use crate::kinds::Dimension::{XY, XYM, XYZ, XYZM};
 use arrow_values::FixedName::{
     self, M, Mmax, Mmin, X, Xmax, Xmin, Xy, Xym, Xyz, Xyzm, Y, Ymax, Ymin, Z, Zmax, Zmin,
 };
@@ -50,10 +51,10 @@ impl Default for CoordType {
 macro_rules! by_dimension {
     ($dimension:expr; $xy:expr, $xyz:expr, $xym:expr, $xyzm:expr) => {
         match $dimension {
-            Dimension::XY => $xy,
-            Dimension::XYZ => $xyz,
-            Dimension::XYM => $xym,
-            Dimension::XYZM => $xyzm,
+            XY => $xy,
+            XYZ => $xyz,
+            XYM => $xym,
+            XYZM => $xyzm,
         }
     };
 }
@@ -64,10 +65,10 @@ pub(crate) use by_dimension;
 macro_rules! dimension_with {
     ($value:expr; $xy:literal, $xyz:literal, $xym:literal, $xyzm:literal) => {
         match $value {
-            $xy => Some(Dimension::XY),
-            $xyz => Some(Dimension::XYZ),
-            $xym => Some(Dimension::XYM),
-            $xyzm => Some(Dimension::XYZM),
+            $xy => Some(XY),
+            $xyz => Some(XYZ),
+            $xym => Some(XYM),
+            $xyzm => Some(XYZM),
             _ => None,
         }
     };
@@ -122,10 +123,10 @@ impl Dimension {
         ensures refusal { IfErr result (λ e. IsGeoMemory e ⊎ RefusesDimensions dimensions e) }
     {
         match dimensions {
-            Dimensions::Xy | Dimensions::Unknown(2) => Ok(Dimension::XY),
-            Dimensions::Xyz | Dimensions::Unknown(3) => Ok(Dimension::XYZ),
-            Dimensions::Xym => Ok(Dimension::XYM),
-            Dimensions::Xyzm | Dimensions::Unknown(4) => Ok(Dimension::XYZM),
+            Dimensions::Xy | Dimensions::Unknown(2) => Ok(XY),
+            Dimensions::Xyz | Dimensions::Unknown(3) => Ok(XYZ),
+            Dimensions::Xym => Ok(XYM),
+            Dimensions::Xyzm | Dimensions::Unknown(4) => Ok(XYZM),
             Dimensions::Unknown(n) => Err(GeoArrowError::InvalidGeoArrow(format!(in alloc;
                 "Unsupported dimension Unknown({n})"
             )?)),
@@ -163,12 +164,7 @@ impl From<Dimension> for Dimensions {
 }
 
 /// All dimensions, in their order.
-pub(crate) const DIMENSIONS: [Dimension; 4] = [
-    Dimension::XY,
-    Dimension::XYZ,
-    Dimension::XYM,
-    Dimension::XYZM,
-];
+pub(crate) const DIMENSIONS: [Dimension; 4] = [XY, XYZ, XYM, XYZM];
 
 /// The dimension of that place.
 pub(crate) fn dimension_at(order: u8) -> Option<Dimension>
