@@ -114,7 +114,10 @@ texts = decided Same (λ a b. let d = bytes_eq-Decides b a in ((λ h. sym (d.0 h
 
 all_named : (names xs : List Text) → AllByRecursion (λ x. has_name x names ≡ true) xs → (q : Text) → has_name q xs ≡ true → has_name q names ≡ true
 all_named names [] all q h = absurd (true≢false (sym h))
-all_named names (x ∷ xs) all q h = elim (or_cases (bytes_eq x q) (has_name q xs) h) [ inl e ↦ subst (λ m. has_name m names ≡ true) ((bytes_eq-Decides x q).0 e) all.0 | inr r ↦ all_named names xs all.1 q r ]
+all_named names (x ∷ xs) all q h = elim (or_cases (bytes_eq x q) (has_name q xs) h) [
+  | inl e ↦ subst (λ m. has_name m names ≡ true) ((bytes_eq-Decides x q).0 e) all.0
+  | inr r ↦ all_named names xs all.1 q r
+]
 
 -- three names among which are three different ones are just those: a fourth would make them four
 pub same_three : (x y z : Text) (names : List Text) → bytes_eq y x ≡ false → bytes_eq z x ≡ false → bytes_eq z y ≡ false → length names ≡ 3 → AllByRecursion (λ m. has_name m names ≡ true) (x ∷ y ∷ z ∷ []) → SameNames names (x ∷ y ∷ z ∷ [])
@@ -122,7 +125,11 @@ unfolding SameNames IsDistinct
 same_three x y z names yx zx zy count all = λ n. same_from_decides {P = has_name n names ≡ true} _ _ ((λ e. e), (λ e. e)) (all_named names (x ∷ y ∷ z ∷ []) all n, λ h. by n h _ _ _ refl refl refl)
   where
     by : (n : Text) → has_name n names ≡ true → (a b c : Bool) → bytes_eq x n ≡ a → bytes_eq y n ≡ b → bytes_eq z n ≡ c → (a || (b || (c || false))) ≡ true
-    by n h false false false e f g = absurd (omega (arith, length-le_from_is_member texts (n ∷ x ∷ y ∷ z ∷ []) names ((e, (f, (g, tt))), ((yx, (zx, tt)), ((zy, tt), (tt, tt)))) (all_named names (n ∷ x ∷ y ∷ z ∷ []) (h, all))))
+    by n h false false false e f g = absurd (omega (
+      arith,
+      length-le_from_is_member texts (n ∷ x ∷ y ∷ z ∷ []) names
+          ((e, (f, (g, tt))), ((yx, (zx, tt)), ((zy, tt), (tt, tt)))) (all_named names (n ∷ x ∷ y ∷ z ∷ []) (h, all)),
+    ))
     by n h true b c e f g = refl
     by n h false true c e f g = refl
     by n h _ _ _ e f g = refl

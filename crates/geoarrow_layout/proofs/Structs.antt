@@ -20,13 +20,19 @@ no_third count bits three lacks = λ ns same is.
 
 pub with_z : (count bits : ℕ) → count ≡ 3 → (has_bit bits 0 && has_bit bits 1) ≡ true → has_bit bits 2 ≡ true → NamesAnswer count bits (Ok XYZ)
 with_z count bits three xy z = λ ns same is.
-    let p = and_parts (has_bit bits 0) (has_bit bits 1) xy in
-    (sym same ∙ three, same_three _ _ _ ns refl refl refl (sym same ∙ three) (sym (has_at _ 0 bits ns (omega arith) refl refl is) ∙ p.0, (sym (has_at _ 1 bits ns (omega arith) refl refl is) ∙ p.1, (sym (has_at _ 2 bits ns (omega arith) refl refl is) ∙ z, tt))))
+    let p = and_parts (has_bit bits 0) (has_bit bits 1) xy in (
+      sym same ∙ three,
+      same_three _ _ _ ns refl refl refl (sym same ∙ three)
+          (sym (has_at _ 0 bits ns (omega arith) refl refl is) ∙ p.0, (sym (has_at _ 1 bits ns (omega arith) refl refl is) ∙ p.1, (sym (has_at _ 2 bits ns (omega arith) refl refl is) ∙ z, tt))),
+    )
 
 pub with_m : (count bits : ℕ) → count ≡ 3 → (has_bit bits 0 && has_bit bits 1) ≡ true → has_bit bits 3 ≡ true → NamesAnswer count bits (Ok XYM)
 with_m count bits three xy m = λ ns same is.
-    let p = and_parts (has_bit bits 0) (has_bit bits 1) xy in
-    (sym same ∙ three, same_three _ _ _ ns refl refl refl (sym same ∙ three) (sym (has_at _ 0 bits ns (omega arith) refl refl is) ∙ p.0, (sym (has_at _ 1 bits ns (omega arith) refl refl is) ∙ p.1, (sym (has_at _ 3 bits ns (omega arith) refl refl is) ∙ m, tt))))
+    let p = and_parts (has_bit bits 0) (has_bit bits 1) xy in (
+      sym same ∙ three,
+      same_three _ _ _ ns refl refl refl (sym same ∙ three)
+          (sym (has_at _ 0 bits ns (omega arith) refl refl is) ∙ p.0, (sym (has_at _ 1 bits ns (omega arith) refl refl is) ∙ p.1, (sym (has_at _ 3 bits ns (omega arith) refl refl is) ∙ m, tt))),
+    )
 
 -- the leaf that a struct is
 abbrev pub LeafAnswer : Bottom → Answer → Type 0

@@ -110,7 +110,8 @@ abbrev SeenMixed : MemberReads → Bottom → MemberTrees → Type 0
 SeenMixed S (Union empty ids coords dims fault geometry) ms = ((empty ≡ false) ↔ HasMembers ms) × CoordBits S coords ms × DimensionBits S dims ms × IsFaultOf Member MemberFault fault ms
 SeenMixed S _ ms = ⊥
 
-mixed_at : (S : MemberReads) → OneReading S → ((i : ℤ) (t : Tree) (c : CoordType) (d : Dimension) → Member i t c d → S i t c d) → (U : ℕ → Bottom → MemberTrees → Type 0) (n : ℕ) → ((b : Bottom) (ms : MemberTrees) → U n b ms → SeenMixed S b ms)
+mixed_at : (S : MemberReads) → OneReading S
+    → ((i : ℤ) (t : Tree) (c : CoordType) (d : Dimension) → Member i t c d → S i t c d) → (U : ℕ → Bottom → MemberTrees → Type 0) (n : ℕ) → ((b : Bottom) (ms : MemberTrees) → U n b ms → SeenMixed S b ms)
     → (w : Option ListWidth) (b : Bottom) (u : Tree) (r : Answer) → MixedSays b r → IsBottom U w n b u → TellsBoth r (Mixed u) (MixedFault u)
 mixed_at S one sub U n sees w (Union empty ids coords dims fault geometry) u r says h =
     at_bottom U (λ x. TellsBoth r (Mixed x) (MixedFault x)) w n (Union empty ids coords dims fault geometry) tt (λ x t b m z k. absurd k) (λ fs k. absurd k)
@@ -212,7 +213,9 @@ has_members (y ∷ ys) empty h = (λ e. tt, λ m. let z : nat_eq (suc (length ys
 pub fault_next : (R : MemberReads) (F : ℤ → Faults) (fault more : Option LayoutFault) (part : Answer) (xs : Items) (k : ℕ) (x : ℤ × FieldTree) (z : ℤ) → k < length xs → x ≡ get_or xs k x → z ≡ x.0
     → TellsBoth part (R z x.1.tree) (F z x.1.tree) → more ≡ first_fault fault part → IsFaultOf R F fault (member_trees (take k xs)) → IsFaultOf R F more (member_trees (take (k + 1) xs))
 fault_next R F fault more part xs k x z lt at id read next before =
-    subst (λ ys. IsFaultOf R F more (member_trees ys)) (sym (one_more xs k x lt at)) (subst (λ o. IsFaultOf R F o (member_trees (take k xs ++ (x ∷ [])))) (sym next) (fault_added R F fault part (take k xs) x (subst (λ i. TellsBoth part (R i x.1.tree) (F i x.1.tree)) id read) before))
+    let told = subst (λ i. TellsBoth part (R i x.1.tree) (F i x.1.tree)) id read in
+    subst (λ ys. IsFaultOf R F more (member_trees ys)) (sym (one_more xs k x lt at))
+    (subst (λ o. IsFaultOf R F o (member_trees (take k xs ++ (x ∷ [])))) (sym next) (fault_added R F fault part (take k xs) x told before))
 
 -- ---- the root
 

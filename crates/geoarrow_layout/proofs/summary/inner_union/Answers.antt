@@ -9,8 +9,9 @@ loop-item-init c = seen_none Member MemberFault _ _ _ _ (search rules) (search r
 pub loop-item-preserved : goal.loop-item-preserved
 loop-item-preserved c =
     let below = subst (λ t. ShowsIn false c.leaf_summary-below.result t) c.data_type.ensures c.leaf_summary-below.ensures in
-    seen_more Member MemberFault member_first member_apart _ _ _ _ _ _ _ _ c.member-part.result _ c.loop-item.item-index c.item-item.result _ c.loop-item-test.true c.item-item.is (search (rules, to_z-of_z))
-    (c.member-part.ensures c.item-item.result.1.tree below) c.with_member-seen.ensures.ids c.with_member-seen.ensures.coord_types c.with_member-seen.ensures.dimensions c.with_member-seen.ensures.fault c.loop-item.invariant
+    seen_more Member MemberFault member_first member_apart _ _ _ _ _ _ _ _ c.member-part.result _ c.loop-item.item-index c.item-item.result _ c.loop-item-test.true c.item-item.is
+    (search (rules, to_z-of_z)) (c.member-part.ensures c.item-item.result.1.tree below) c.with_member-seen.ensures.ids
+    c.with_member-seen.ensures.coord_types c.with_member-seen.ensures.dimensions c.with_member-seen.ensures.fault c.loop-item.invariant
 
 pub returns : goal.returns
 returns c = (has_members _ _ c.is_empty.ensures, rw (take_all _ _ c.loop-item-test.false) at c.loop-item.invariant, refl)

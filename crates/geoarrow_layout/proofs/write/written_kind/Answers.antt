@@ -9,7 +9,8 @@ use Rattle.geoarrow_layout.proofs.Written.{layouts_are_distinct}
 use Rattle.geoarrow_layout.proofs.write.written_kind.Goals as goal
 
 -- the first kind with this layout is the one, and where there is none, no kind has it
-written_found : (t : Tree) (S : Bor Kind → Type 0) → ((x : Bor Kind) → S x → t ≡ layout x.now) → (r : Option (Bor Kind)) → MatchOption r (AllWithin (λ k. t ≡ layout k → ⊥) ALL 0 (length ALL)) S → (k : Kind) → (option_copied r ≡ Some k) ↔ (t ≡ layout k)
+written_found : (t : Tree) (S : Bor Kind → Type 0) → ((x : Bor Kind) → S x → t ≡ layout x.now) → (r : Option (Bor Kind))
+    → MatchOption r (AllWithin (λ k. t ≡ layout k → ⊥) ALL 0 (length ALL)) S → (k : Kind) → (option_copied r ≡ Some k) ↔ (t ≡ layout k)
 written_found t S is None h k = (λ e. cc, λ same. let l = listed k in absurd (h l.0 k (omega arith) l.1 (same ∙ ap layout (sym l.2))))
 written_found t S is (Some x) h k = (λ e. is x h ∙ ap layout (same_Some x.now k e), λ e. ap (λ y. Some y) (layouts_are_distinct x.now k (sym (is x h) ∙ e)))
 
