@@ -4,10 +4,6 @@ use Rattle.arrow_values.specs.Tree.{Plain}
 use Rattle.geoarrow_layout.specs.Shapes.{SameNames}
 use Rattle.geoarrow_layout.proofs.MemberLists.{all_map, all_some}
 
-names_refl : (xs : List Text) → AlikeNames xs xs
-unfolding SameNames
-names_refl xs = (refl, λ h n. refl)
-
 names_sym : (xs ys : List Text) → AlikeNames xs ys → AlikeNames ys xs
 unfolding SameNames
 names_sym xs ys h = (sym h.0, λ k n. sym (h.1 (elim k [ inl e ↦ inl (h.0 ∙ e) | inr e ↦ inr (h.0 ∙ e) ]) n))
@@ -57,13 +53,18 @@ mutual
   each_sym no_members ns h = tt
   each_sym (member i n t b m ms) ns h = (has_from ns i t (alike_sym t) h.0, each_sym ms ns h.1)
 
+pub has_among : (ms : MemberTrees) (j : ℤ) (u : Tree) → HasAlike ms j u ↔ Among j u ms
+has_among ms j u = (has_sym ms j u, has_from ms j u (alike_sym u))
+
 mutual
+  unfolding SameNames
+
   pub alike_refl : (t : Tree) → Alike t t
   alike_refl (plain p) = refl
   alike_refl (list n t b m) = alike_refl t
   alike_refl (large_list n t b m) = alike_refl t
   alike_refl (fixed_size_list n t b m s) = (refl, refl)
-  alike_refl (struct fs) = names_refl (names_of fs)
+  alike_refl (struct fs) = (refl, λ h n. refl)
   alike_refl (union ms mode) = let each = each_refl ms ms (λ i t h. h) in (each, each_sym ms ms each)
 
   each_refl : (ms ns : MemberTrees) → ((i : ℤ) (t : Tree) → Among i t ms → Among i t ns) → EachHasAlike ms ns

@@ -1,5 +1,5 @@
 -- What stands below the lists, and which fault it is.
-use Rattle.geoarrow_layout.proofs.Terms.{◌≡◌, ◌<◌, ◌≤◌, inl, inr, ℕ, zero, suc, ℤ, ◌+◌, refl, sym, ap, subst, arith, add-one, Bool, Option, Some, None, Ok, Err, [], ◌∷◌, same_Some, Text, Metadata, Tree, plain, list, large_list, fixed_size_list, struct, union, FieldTrees, MemberTrees, UnionMode, CoordType, Dimension, LayoutFault, UnexpectedType, ListWidth, Lists, LargeLists, Bottom, FixedSizeList, Struct, Union, OtherWidth, Deep, Other, Summary, ListsOver, Faults, HasFault, CoordinateFault, MixedFault, LevelsFault, IsBottom, AreLevels, SummarizesBy, TellsBoth, Under, IsFixedSize, IsStruct, IsInnerUnion, missing_fault, IsWidth}
+use Rattle.geoarrow_layout.proofs.Terms.{◌≡◌, ◌<◌, ◌≤◌, inl, inr, ℕ, zero, suc, ℤ, ◌+◌, refl, sym, ap, subst, arith, add-one, Bool, Option, Some, None, Ok, Err, [], ◌∷◌, same_Some, Text, Metadata, Tree, plain, list, large_list, fixed_size_list, struct, union, FieldTrees, MemberTrees, UnionMode, CoordType, Dimension, LayoutFault, UnexpectedType, ListWidth, Lists, LargeLists, Bottom, OtherWidth, Deep, Other, Summary, ListsOver, Faults, HasFault, MixedFault, LevelsFault, IsBottom, AreLevels, SummarizesBy, TellsBoth, Under, IsFixedSize, IsStruct, missing_fault, IsWidth, IsNoLeaf, IsLevelFault, ShowsIn, false}
 use Rattle.geoarrow_layout.proofs.Readings.{Answer}
 
 -- one level more
@@ -35,21 +35,11 @@ at_bottom U Q w n b entered sizes structs unions _ h = absurd (elim h [ inl e �
 abbrev pub RefusesLists : Faults → Type 0
 RefusesLists F = (x : Text) (t : Tree) (b : Bool) (m : Metadata) → F (list x t b m) [] UnexpectedType × F (large_list x t b m) [] UnexpectedType
 
-pub coordinate_refuses : RefusesLists CoordinateFault
-coordinate_refuses x t b m = ((refl, refl), (refl, refl))
-
-pub mixed_refuses : RefusesLists MixedFault
-mixed_refuses x t b m = ((refl, refl), (refl, refl))
-
 lists_refused : (F : Faults) → RefusesLists F → (w : ListWidth) (n : ℕ) (t u : Tree) → 0 < n → ListsOver w n t u → F t [] UnexpectedType
 lists_refused F lacks w zero t u some h = absurd (omega arith)
 lists_refused F lacks Lists (suc n) (list x t b m) u some h = (lacks x t b m).0
 lists_refused F lacks LargeLists (suc n) (large_list x t b m) u some h = (lacks x t b m).1
 lists_refused F lacks _ (suc n) _ u some h = absurd h
-
-pub levels_refused : (F : Faults) → RefusesLists F → (w : Option ListWidth) (n : ℕ) (t u : Tree) → 0 < n → AreLevels w n t u → F t [] UnexpectedType
-levels_refused F lacks None n t u some h = absurd (omega (arith, h.0))
-levels_refused F lacks (Some w) n t u some h = lists_refused F lacks w n t u some h.2
 
 -- n levels are wanted; F is the fault below all of them
 level_below : (F : Faults) (w : ListWidth) (n : ℕ) (t u : Tree) (f : LayoutFault) → ListsOver w n t u → HasFault (F u) f → HasFault (LevelsFault F (Some w) n t) f
@@ -84,36 +74,28 @@ outermost F _ (suc k) (suc n) _ u f some h r = absurd h
 
 -- ---- the fault where a level is missing
 
--- of a union the bottom does not say that it is a list
-abbrev pub NoListAtUnion : (ℕ → Bottom → MemberTrees → Type 0) → Type 0
-NoListAtUnion U = (n : ℕ) (b : Bottom) (ms : MemberTrees) → U n b ms → missing_fault b ≡ UnexpectedType
+not_other : (b : Bottom) → (b ≡ OtherWidth → ⊥) → missing_fault b ≡ UnexpectedType
+not_other OtherWidth h = absurd (h refl)
+not_other _ h = refl
 
-missing_sized : (b : Bottom) (x : Text) (t : Tree) (z : ℤ) → IsFixedSize b x t z → missing_fault b ≡ UnexpectedType
-missing_sized (FixedSizeList named size floats) x t z h = refl
-missing_sized _ x t z h = absurd h
+missing_below : (F : Faults) (w : Option ListWidth) (n : ℕ) (b : Bottom) (u : Tree) (m : ℕ) → n < 3 → IsBottom IsNoLeaf w n b u → LevelsFault F w (suc m) u [] (missing_fault b)
+missing_below F (Some Lists) n b (large_list x t k a) m few (inl e) = (refl, ap missing_fault e.1)
+missing_below F (Some LargeLists) n b (list x t k a) m few (inl e) = (refl, ap missing_fault e.1)
+missing_below F w n b (list x t k a) m few (inl e) = let bad = e.0 in cc
+missing_below F w n b (large_list x t k a) m few (inl e) = let bad = e.0 in cc
+missing_below F w n b (fixed_size_list x t k a z) m few h = (refl, not_other b (λ e. subst (λ y. IsFixedSize y x t z) e h))
+missing_below F w n b (struct fs) m few h = (refl, not_other b (λ e. subst (λ y. IsStruct y fs) e h))
+missing_below F w n b (union ms mode) m few h = (refl, not_other b (λ e. subst (λ y. IsNoLeaf n y ms) e h))
+missing_below F w n b (plain p) m few h = (refl, ap missing_fault h)
+missing_below F w n b _ m few (inr e) = absurd (omega (arith, few, e.1))
 
-missing_struct : (b : Bottom) (fs : FieldTrees) → IsStruct b fs → missing_fault b ≡ UnexpectedType
-missing_struct (Struct count names floats) fs h = refl
-missing_struct _ fs h = absurd h
+missing_lists : (F : Faults) (w : Option ListWidth) (k n : ℕ) (b : Bottom) (t u : Tree) → AreLevels w k t u → IsBottom IsNoLeaf w k b u → k < n → n ≤ 3 → HasFault (LevelsFault F None n t) (missing_fault b)
+missing_lists F w k zero b t u h bottom lt few = absurd (omega arith)
+missing_lists F None k (suc n) b t u h bottom lt few = ([], subst (λ x. LevelsFault F None (suc n) x [] (missing_fault b)) (sym h.1) (missing_below F None k b u n (omega arith) bottom))
+missing_lists F (Some w) k (suc n) b t u h bottom lt few =
+    outermost F w k (suc n) t u (missing_fault b) h.0 h.2 (level_missing F w k (suc n) t u (missing_fault b) h.2 lt (λ m. missing_below F (Some w) k b u m (omega arith) bottom))
 
-missing_below : (F : Faults) (U : ℕ → Bottom → MemberTrees → Type 0) → NoListAtUnion U → (w : Option ListWidth) (n : ℕ) (b : Bottom) (u : Tree) (m : ℕ) → n < 3 → IsBottom U w n b u → LevelsFault F w (suc m) u [] (missing_fault b)
-missing_below F U lacks (Some Lists) n b (large_list x t k a) m few (inl e) = (refl, ap missing_fault e.1)
-missing_below F U lacks (Some LargeLists) n b (list x t k a) m few (inl e) = (refl, ap missing_fault e.1)
-missing_below F U lacks w n b (list x t k a) m few (inl e) = let bad = e.0 in cc
-missing_below F U lacks w n b (large_list x t k a) m few (inl e) = let bad = e.0 in cc
-missing_below F U lacks w n b (fixed_size_list x t k a z) m few h = (refl, missing_sized b x t z h)
-missing_below F U lacks w n b (struct fs) m few h = (refl, missing_struct b fs h)
-missing_below F U lacks w n b (union ms mode) m few h = (refl, lacks n b ms h)
-missing_below F U lacks w n b (plain p) m few h = (refl, ap missing_fault h)
-missing_below F U lacks w n b _ m few (inr e) = absurd (omega (arith, few, e.1))
-
-pub missing_lists : (F : Faults) (U : ℕ → Bottom → MemberTrees → Type 0) → NoListAtUnion U → (w : Option ListWidth) (k n : ℕ) (b : Bottom) (t u : Tree) → AreLevels w k t u → IsBottom U w k b u → k < n → n ≤ 3 → HasFault (LevelsFault F None n t) (missing_fault b)
-missing_lists F U lacks w k zero b t u h bottom lt few = absurd (omega arith)
-missing_lists F U lacks None k (suc n) b t u h bottom lt few = ([], subst (λ x. LevelsFault F None (suc n) x [] (missing_fault b)) (sym h.1) (missing_below F U lacks None k b u n (omega arith) bottom))
-missing_lists F U lacks (Some w) k (suc n) b t u h bottom lt few =
-    outermost F w k (suc n) t u (missing_fault b) h.0 h.2 (level_missing F w k (suc n) t u (missing_fault b) h.2 lt (λ m. missing_below F U lacks (Some w) k b u m (omega arith) bottom))
-
-pub above_lists : (F : Faults) → RefusesLists F → (w : Option ListWidth) (k n : ℕ) (t u : Tree) → AreLevels w k t u → n < k → HasFault (LevelsFault F None n t) UnexpectedType
+above_lists : (F : Faults) → RefusesLists F → (w : Option ListWidth) (k n : ℕ) (t u : Tree) → AreLevels w k t u → n < k → HasFault (LevelsFault F None n t) UnexpectedType
 above_lists F lacks None k n t u h lt = absurd (omega (arith, h.0))
 above_lists F lacks (Some w) k n t u h lt = outermost F w k n t u UnexpectedType h.0 h.2 (level_above F lacks w k n t u h.2 lt)
 
@@ -130,18 +112,21 @@ are_levels (Some w) n t u h = (w, h.2)
 abbrev TellsUnder : (Tree → CoordType → Dimension → Type 0) → Faults → ℕ → Answer → Tree → Type 0
 TellsUnder P F m r t = TellsBoth r (Under P m t) (LevelsFault F None m t)
 
-pub under_same : (U : ℕ → Bottom → MemberTrees → Type 0) (P : Tree → CoordType → Dimension → Type 0) (F : Faults) (s : Summary) (m : ℕ) (r : Answer) (t : Tree) → s.levels ≡ m → (h : SummarizesBy U s t) → TellsBoth r (P h.0) (F h.0) → TellsUnder P F m r t
-under_same U P F s m (Ok x) t same h a = (h.0, are_levels s.width m t h.0 (subst (λ n. AreLevels s.width n t h.0) same h.1), a)
-under_same U P F s m (Err f) t same h a = below_lists F s.width m t h.0 f (subst (λ n. AreLevels s.width n t h.0) same h.1) a
+pub under_same : (U : ℕ → Bottom → MemberTrees → Type 0) (P : Tree → CoordType → Dimension → Type 0) (F : Faults) (s : Summary) (m : ℕ) (b : Bottom) (r : Answer) → s.levels ≡ m → b ≡ s.bottom
+    → ((u : Tree) → IsBottom U s.width m b u → TellsBoth r (P u) (F u)) → (t : Tree) → SummarizesBy U s t → TellsUnder P F m r t
+under_same U P F s m b r same is says t h =
+    told r (says h.0 (subst (λ n. IsBottom U s.width n b h.0) same (subst (λ x. IsBottom U s.width s.levels x h.0) (sym is) h.2)))
+  where
+    told : (r : Answer) → TellsBoth r (P h.0) (F h.0) → TellsUnder P F m r t
+    told (Ok x) a = (h.0, are_levels s.width m t h.0 (subst (λ n. AreLevels s.width n t h.0) same h.1), a)
+    told (Err f) a = below_lists F s.width m t h.0 f (subst (λ n. AreLevels s.width n t h.0) same h.1) a
 
--- where no union stands below one list, the collection is at fault there
-no_union : (U : ℕ → Bottom → MemberTrees → Type 0) (w : Option ListWidth) (n : ℕ) (b : Bottom) (u : Tree) → ((ms : MemberTrees) → U n b ms → ⊥) → IsBottom U w n b u → HasFault (MixedFault u) UnexpectedType
+-- there are fewer levels or more
+pub level_fault : (F : Faults) → RefusesLists F → (s : Summary) (n : ℕ) (f : LayoutFault) → n ≤ 3 → IsLevelFault s n f → (t : Tree) → ShowsIn false s t → HasFault (LevelsFault F None n t) f
+level_fault F lacks s n f few (inl e) t h = rw e.1 (missing_lists F s.width s.levels n s.bottom t h.0 h.1 h.2 e.0 few)
+level_fault F lacks s n f few (inr e) t h = rw e.1 (above_lists F lacks s.width s.levels n t h.0 h.1 e.0)
+
+-- where no union stands below, the union in a collection is at fault there
+pub no_union : (U : ℕ → Bottom → MemberTrees → Type 0) (w : Option ListWidth) (n : ℕ) (b : Bottom) (u : Tree) → ((ms : MemberTrees) → U n b ms → ⊥) → IsBottom U w n b u → HasFault (MixedFault u) UnexpectedType
 no_union U w n b (union ms mode) lacks h = absurd (lacks ms h)
 no_union U w n b _ lacks h = ([], (refl, refl))
-
-pub no_inner : (b : Bottom) → ((empty : Bool) (ids coords dims : ℕ) (fault geometry : Option LayoutFault) → b ≡ Union empty ids coords dims fault geometry → ⊥) → (ms : MemberTrees) → IsInnerUnion b ms → ⊥
-no_inner (Union empty ids coords dims fault geometry) other ms h = other empty ids coords dims fault geometry refl
-no_inner _ other ms h = absurd h
-
-pub under_no_union : (U : ℕ → Bottom → MemberTrees → Type 0) (P : Tree → CoordType → Dimension → Type 0) (s : Summary) (m : ℕ) (t : Tree) → s.levels ≡ m → ((ms : MemberTrees) → U m s.bottom ms → ⊥) → SummarizesBy U s t → TellsUnder P MixedFault m (Err UnexpectedType) t
-under_no_union U P s m t same lacks h = under_same U P MixedFault s m (Err UnexpectedType) t same h (no_union U s.width m s.bottom h.0 lacks (subst (λ n. IsBottom U s.width n s.bottom h.0) same h.2))

@@ -17,11 +17,8 @@ pub step_down : (F : Located) (before after : Path) (i : ℕ) (p : Path) (f : La
 step_down F before after i p f h e = h p f e ∙ append_assoc before (i ∷ []) p
 
 pub into_item : (F : Located) (before between after : Path) → between ≡ before ++ (0 ∷ []) → LeadsTo F between after → LeadsTo (InItem F) before after
-into_item F before between after is h = λ p f e. at_path p f e
-  where
-    at_path : (p : Path) (f : LayoutFault) → InItem F p f → after ≡ before ++ p
-    at_path (zero ∷ p) f e = step_down F before after 0 p f (subst (λ b. LeadsTo F b after) is h) e
-    at_path _ f e = absurd e
+into_item F before between after is h (zero ∷ p) f e = step_down F before after 0 p f (subst (λ b. LeadsTo F b after) is h) e
+into_item F before between after is h _ f e = absurd e
 
 -- levels are gone down
 ended_here : (w : Option ListWidth) (n : ℕ) (t : Tree) → Ended w 0 t → StaysHere (LevelsFault CoordinateFault w (suc n) t)

@@ -1,27 +1,21 @@
 -- Sets of bits, and what one reading adds to them; the fields of a struct: which names are those of a coordinate, and which bits stand for them.
-use Rattle.geoarrow_layout.proofs.Terms.{◌≡◌, ◌↔◌, ◌<◌, ◌⊎◌, ◌*◌, ◌%◌, ◌^◌, inl, inr, ℕ, sym, ap, subst, ◌∙◌, ◌≤◌, true, false, ℤ, pos, Ok, Err, refl, arith, bit_at, bit_or, bit_at_set_same, bit_at_set_other, bit_at-zero, cases_eq, ltb-true, ltb-false, bits, ReadAt, w8, w16, w64, CoordType, Dimension, LayoutFault, negsuc, nat_abs, lt_z, suc, Bool, ◌||◌, true≢false, Decides, IsTrue, list_all, and_parts, and_from, List, [], ◌∷◌, length, zero, ◌+◌, ◌&&◌, cond, ◌++◌, take, get_or, eq-eqb, list_any, bytes_eq, bytes_eq-Decides, Text, FieldTree, field_trees, XYZ, XYM, has_name, IsSeparatedAs, names_of, SomeAt, place_in, known_names, is_float64, are_float64, has_bit, eqb-true, or_cases, or_left, or_right, same_from_decides, and-true, and_assoc, IsBits, AddsBit}
+use Rattle.geoarrow_layout.proofs.Terms.{◌≡◌, ◌↔◌, ◌<◌, ◌⊎◌, ◌*◌, ◌%◌, ◌^◌, inl, inr, ℕ, sym, ap, subst, ◌∙◌, ◌≤◌, true, false, ℤ, pos, Ok, Err, refl, arith, bit_at, bit_or, bit_at_set_same, bit_at_set_other, bit_at-zero, cases_eq, ltb-true, ltb-false, bits, ReadAt, w8, w64, CoordType, Dimension, LayoutFault, negsuc, nat_abs, lt_z, suc, Bool, ◌||◌, true≢false, Decides, IsTrue, list_all, and_parts, and_from, List, [], ◌∷◌, length, zero, ◌+◌, ◌&&◌, cond, ◌++◌, take, get_or, eq-eqb, list_any, bytes_eq, bytes_eq-Decides, Text, FieldTree, field_trees, XYZ, XYM, has_name, IsSeparatedAs, names_of, SomeAt, place_in, known_names, is_float64, are_float64, has_bit, eqb-true, or_cases, or_left, or_right, same_from_decides, and-true, and_assoc, IsBits, AddsBit}
+use Rattle.std.proofs.lemmas.Map.Made.{length-le_from_is_member}
+use Rattle.std.specs.Cmp.{IsEquivalence, decided}
 use Rattle.std.specs.Int.{Width}
+use Rattle.std.specs.List.{AllByRecursion, IsDistinct}
 use Rattle.geoarrow_layout.specs.Summary.{IsBits, AddsBit, AddsBits}
 use Rattle.geoarrow_layout.proofs.Readings.{Answer, ok_same}
 use Rattle.geoarrow_layout.specs.Shapes.{SameNames}
 use Rattle.geoarrow_layout.proofs.MemberLists.{or_more, one_more}
 
-adds_bit : (w : Width) (n i : ℕ) → i < bits w → AddsBit n i (bit_or n (1 * 2 ^ i % 2 ^ bits w))
+pub adds_bit : (w : Width) (n i : ℕ) → i < bits w → AddsBit n i (bit_or n (1 * 2 ^ i % 2 ^ bits w))
 unfolding AddsBit
 adds_bit w n i within = λ k. elim (cases_eq k i) [
   | inl e ↦ (λ h. inr e, λ h. ap (bit_at (bit_or n (1 * 2 ^ i % 2 ^ bits w))) e ∙ bit_at_set_same w n i within)
   | inr e ↦ let other = bit_at_set_other w n i within k e in
       (λ h. inl (sym other ∙ h), λ h. elim h [ inl was ↦ other ∙ was | inr is ↦ absurd (e is) ])
 ]
-
-pub adds_bit_8 : (n i : ℕ) → i < 8 → AddsBit n i (bit_or n (1 * 2 ^ i % 2 ^ 8))
-adds_bit_8 = adds_bit w8
-
-pub adds_bit_16 : (n i : ℕ) → i < 16 → AddsBit n i (bit_or n (1 * 2 ^ i % 2 ^ 16))
-adds_bit_16 = adds_bit w16
-
-pub adds_bit_64 : (n i : ℕ) → i < 64 → AddsBit n i (bit_or n (1 * 2 ^ i % 2 ^ 64))
-adds_bit_64 = adds_bit w64
 
 pub bits_like : (n : ℕ) (P Q : ℕ → Type 0) → ((i : ℕ) → P i → Q i) → ((i : ℕ) → Q i → P i) → IsBits n P → IsBits n Q
 unfolding IsBits
@@ -56,12 +50,15 @@ adds_one n j more P there only adds = λ i. (
   (λ h. elim h [ inl e ↦ (adds i).1 (inl e) | inr p ↦ (adds i).1 (inr (only i p)) ]),
 )
 
-pub number_added : (number : CoordType × Dimension → ℕ) (n j more : ℕ) (part : Answer) (p : CoordType × Dimension) → part ≡ Ok p → j ≡ number p → AddsBit n j more → AddsBits n (ReadAt number part) more
-number_added number n j more part p is place adds =
-    adds_one n j more (ReadAt number part) (p, is, place) (λ i h. h.2 ∙ ap number (ok_same h.0 p (sym h.1 ∙ is)) ∙ sym place) adds
+pub number_added : (number : CoordType × Dimension → ℕ) (n j : ℕ) (part : Answer) (p : CoordType × Dimension) → part ≡ Ok p → j ≡ number p → j < 8 → AddsBits n (ReadAt number part) (bit_or n (1 * 2 ^ j % 2 ^ 8))
+number_added number n j part p is place small =
+    adds_one n j _ (ReadAt number part) (p, is, place) (λ i h. h.2 ∙ ap number (ok_same h.0 p (sym h.1 ∙ is)) ∙ sym place) (adds_bit w8 n j small)
 
 pub number_kept : (number : CoordType × Dimension → ℕ) (n : ℕ) (part : Answer) (f : LayoutFault) → part ≡ Err f → AddsBits n (ReadAt number part) n
 number_kept number n part f is = adds_none n (ReadAt number part) (λ i h. let bad = sym h.1 ∙ is in cc)
+
+pub id_moved : (n more : ℕ) (id z : ℤ) → z ≡ id → AddsBits n (λ i. (i < 64) × (z ≡ pos i)) more → AddsBits n (λ i. (i < 64) × (id ≡ pos i)) more
+id_moved n more id z is adds = subst (λ (y : ℤ). AddsBits n (λ i. (i < 64) × (y ≡ pos i)) more) is adds
 
 outside : (z : ℤ) (i : ℕ) → (lt_z z (pos 0) ≡ true) ⊎ (lt_z (pos 63) z ≡ true) → i < 64 → z ≡ pos i → ⊥
 outside (pos n) i (inl h) small e = let lt : n < 0 = ltb-true n 0 h in omega arith
@@ -75,10 +72,10 @@ between (negsuc n) h k = cc
 pub id_outside : (n : ℕ) (id z : ℤ) → z ≡ id → (lt_z z (pos 0) ≡ true) ⊎ (lt_z (pos 63) z ≡ true) → AddsBits n (λ i. (i < 64) × (id ≡ pos i)) n
 id_outside n id z is h = adds_none n (λ i. (i < 64) × (id ≡ pos i)) (λ i p. outside z i h p.0 (is ∙ p.1))
 
-pub id_between : (n more : ℕ) (id z : ℤ) → z ≡ id → lt_z z (pos 0) ≡ false → lt_z (pos 63) z ≡ false → AddsBit n (nat_abs z) more → AddsBits n (λ i. (i < 64) × (id ≡ pos i)) more
-id_between n more id z is h k adds =
+pub id_between : (n : ℕ) (id z : ℤ) → z ≡ id → lt_z z (pos 0) ≡ false → lt_z (pos 63) z ≡ false → AddsBits n (λ i. (i < 64) × (id ≡ pos i)) (bit_or n (1 * 2 ^ nat_abs z % 2 ^ 64))
+id_between n id z is h k =
     let b = between z h k in
-    adds_one n (nat_abs z) more (λ i. (i < 64) × (id ≡ pos i)) (b.1, sym is ∙ b.0) (λ i p. let same = sym p.1 ∙ sym is ∙ b.0 in cc) adds
+    adds_one n (nat_abs z) _ (λ i. (i < 64) × (id ≡ pos i)) (b.1, sym is ∙ b.0) (λ i p. let same = sym p.1 ∙ sym is ∙ b.0 in cc) (adds_bit w64 n (nat_abs z) b.1)
 
 pub length_names : (fs : List FieldTree) → length (names_of (field_trees fs)) ≡ length fs
 length_names [] = refl
@@ -97,56 +94,45 @@ all_decides (x ∷ xs) ys = (
   (λ f. and_from _ _ (f x.name (or_left _ _ ((bytes_eq-Decides x.name x.name).1 refl))) ((all_decides xs ys).1 (λ n h. f n (or_right (bytes_eq x.name n) _ h)))),
 )
 
-pub same_decides : (xs ys : List FieldTree) (p q : Bool) → p ≡ list_all (λ f. has_name f.name (names_of (field_trees ys))) xs → q ≡ list_all (λ f. has_name f.name (names_of (field_trees xs))) ys → (IsTrue (p && q) ↔ SameNames (names_of (field_trees xs)) (names_of (field_trees ys)))
+pub same_first : (xs ys : List FieldTree) (p q : Bool) → p ≡ list_all (λ f. has_name f.name (names_of (field_trees ys))) xs → p ≡ true → q ≡ list_all (λ f. has_name f.name (names_of (field_trees xs))) ys → IsTrue q ↔ SameNames (names_of (field_trees xs)) (names_of (field_trees ys))
 unfolding SameNames
-same_decides xs ys p q e f = (
-  (λ h n. let both = and_parts p q h in
-      same_from_decides {P = has_name n (names_of (field_trees ys)) ≡ true} _ _ ((all_decides xs _).0 (sym e ∙ both.0) n, (all_decides ys _).0 (sym f ∙ both.1) n) ((λ e. e), (λ e. e))),
-  (λ s. and_from p q (e ∙ (all_decides xs _).1 (λ n h. sym (s n) ∙ h)) (f ∙ (all_decides ys _).1 (λ n h. s n ∙ h))),
+same_first xs ys p q e t f = (
+  (λ h n. same_from_decides {P = has_name n (names_of (field_trees ys)) ≡ true} _ _ ((all_decides xs _).0 (sym e ∙ t) n, (all_decides ys _).0 (sym f ∙ h) n) ((λ e. e), (λ e. e))),
+  (λ s. f ∙ (all_decides ys _).1 (λ n h. s n ∙ h)),
 )
 
-or_swap : (p q r : Bool) → (p || (q || r)) ≡ (q || (p || r))
-or_swap true true r = refl
-or_swap _ _ r = refl
-
--- names without one of them
-record Without (x : Text) (names : List Text) : Type 0 where
-  rest : List Text
-  shorter : length names ≡ suc (length rest)
-  same : (n : Text) → has_name n names ≡ (bytes_eq x n || has_name n rest)
-
-without_head : (x a : Text) (names : List Text) (b : Bool) → bytes_eq a x ≡ b → (has_name x names ≡ true → Without x names) → has_name x (a ∷ names) ≡ true → Without x (a ∷ names)
-without_head x a names true e further h =
-    let same_name : a ≡ x = (bytes_eq-Decides a x).0 e in
-    record { rest = names; shorter = refl; same = λ n. ap (λ y. bytes_eq y n || has_name n names) same_name }
-without_head x a names false e further h =
-    let among : has_name x names ≡ true = ap (λ b. b || has_name x names) (sym e) ∙ h in
-    let w = further among in
-    record {
-      rest = a ∷ w.rest;
-      shorter = omega (arith, w.shorter);
-      same = λ n. ap (λ r. bytes_eq a n || r) (w.same n) ∙ or_swap (bytes_eq a n) (bytes_eq x n) (has_name n w.rest);
-    }
-
-without : (x : Text) (names : List Text) → has_name x names ≡ true → Without x names
-without x [] h = cc
-without x (a ∷ names) h = without_head x a names (bytes_eq a x) refl (without x names) h
-
-empty_from : (names : List Text) → length names ≡ 0 → names ≡ []
-empty_from [] h = refl
-empty_from (a ∷ names) h = absurd (omega arith)
-
--- three names among which are three different ones are just those
-pub same_three : (x y z : Text) (names : List Text) → bytes_eq x y ≡ false → bytes_eq x z ≡ false → bytes_eq y z ≡ false → length names ≡ 3 → has_name x names ≡ true → has_name y names ≡ true → has_name z names ≡ true → SameNames names (x ∷ y ∷ z ∷ [])
+pub not_same : (xs ys : List FieldTree) (p : Bool) → p ≡ list_all (λ f. has_name f.name (names_of (field_trees ys))) xs → p ≡ false → SameNames (names_of (field_trees xs)) (names_of (field_trees ys)) → ⊥
 unfolding SameNames
-same_three x y z names xy xz yz count hx hy hz =
-    let a = without x names hx in
-    let has_y : has_name y a.rest ≡ true = ap (λ b. b || has_name y a.rest) (sym xy) ∙ sym (a.same y) ∙ hy in
-    let b = without y a.rest has_y in
-    let has_z : has_name z b.rest ≡ true = ap (λ p. p || has_name z b.rest) (sym yz) ∙ sym (b.same z) ∙ ap (λ p. p || has_name z a.rest) (sym xz) ∙ sym (a.same z) ∙ hz in
-    let d = without z b.rest has_z in
-    let none : d.rest ≡ [] = empty_from d.rest (omega arith) in
-    λ n. a.same n ∙ ap (λ r. bytes_eq x n || r) (b.same n ∙ ap (λ r. bytes_eq y n || r) (d.same n ∙ ap (λ r. bytes_eq z n || has_name n r) none))
+not_same xs ys p e fails s = true≢false (sym (e ∙ (all_decides xs _).1 (λ n h. sym (s n) ∙ h)) ∙ fails)
+
+-- texts are told apart by their bytes
+abbrev Same : Text → Text → Bool
+Same a b = bytes_eq b a
+
+texts : IsEquivalence Same
+texts = decided Same (λ a b. let d = bytes_eq-Decides b a in ((λ h. sym (d.0 h)), (λ e. d.1 (sym e))))
+
+all_named : (names xs : List Text) → AllByRecursion (λ x. has_name x names ≡ true) xs → (q : Text) → has_name q xs ≡ true → has_name q names ≡ true
+all_named names [] all q h = absurd (true≢false (sym h))
+all_named names (x ∷ xs) all q h = elim (or_cases (bytes_eq x q) (has_name q xs) h) [
+  | inl e ↦ subst (λ m. has_name m names ≡ true) ((bytes_eq-Decides x q).0 e) all.0
+  | inr r ↦ all_named names xs all.1 q r
+]
+
+-- three names among which are three different ones are just those: a fourth would make them four
+pub same_three : (x y z : Text) (names : List Text) → bytes_eq y x ≡ false → bytes_eq z x ≡ false → bytes_eq z y ≡ false → length names ≡ 3 → AllByRecursion (λ m. has_name m names ≡ true) (x ∷ y ∷ z ∷ []) → SameNames names (x ∷ y ∷ z ∷ [])
+unfolding SameNames IsDistinct
+same_three x y z names yx zx zy count all = λ n. same_from_decides {P = has_name n names ≡ true} _ _ ((λ e. e), (λ e. e)) (all_named names (x ∷ y ∷ z ∷ []) all n, λ h. by n h _ _ _ refl refl refl)
+  where
+    by : (n : Text) → has_name n names ≡ true → (a b c : Bool) → bytes_eq x n ≡ a → bytes_eq y n ≡ b → bytes_eq z n ≡ c → (a || (b || (c || false))) ≡ true
+    by n h false false false e f g = absurd (omega (
+      arith,
+      length-le_from_is_member texts (n ∷ x ∷ y ∷ z ∷ []) names
+          ((e, (f, (g, tt))), ((yx, (zx, tt)), ((zy, tt), (tt, tt)))) (all_named names (n ∷ x ∷ y ∷ z ∷ []) (h, all)),
+    ))
+    by n h true b c e f g = refl
+    by n h false true c e f g = refl
+    by n h _ _ _ e f g = refl
 
 pub three_have : (names : List Text) (d : Dimension) → length names ≡ 3 → IsSeparatedAs d names → (has_name (120 ∷ []) names ≡ true) × (has_name (121 ∷ []) names ≡ true) × ((has_name (122 ∷ []) names ≡ true) ⊎ (has_name (109 ∷ []) names ≡ true))
 unfolding SameNames

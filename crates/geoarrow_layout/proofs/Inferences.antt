@@ -8,18 +8,12 @@ abbrev Pairs : CoordType → Option Dimension → PairOption → Type 0
 Pairs b o r = (c : CoordType) (d : Dimension) → (r ≡ Some (c, d)) ↔ ((b ≡ c) × (o ≡ Some d))
 
 pub separated_inferred : (t : Tree) (xs ys : List FieldTree) (o : Option Dimension) (r : PairOption) → t ≡ struct (field_trees xs) → ys ≡ xs → ((d : Dimension) → (o ≡ Some d) ↔ ((are_float64 (field_trees ys) ≡ true) × IsInferredAs d (names_of (field_trees ys)))) → Pairs Separated o r → YieldsSome r (Inferred t)
-separated_inferred t xs ys o r is same says pairs = rw (is, ← same) at_pair
-  where
-    at_pair : YieldsSome r (Inferred (struct (field_trees ys)))
-    at_pair Separated d = (λ e. (says d).0 ((pairs Separated d).0 e).1, λ h. (pairs Separated d).1 (refl, (says d).1 h))
-    at_pair Interleaved d = (λ e. let bad = ((pairs Interleaved d).0 e).0 in cc, λ h. absurd h)
+separated_inferred t xs ys o r is same says pairs Separated d = rw (is, ← same) (λ e. (says d).0 ((pairs Separated d).0 e).1, λ h. (pairs Separated d).1 (refl, (says d).1 h))
+separated_inferred t xs ys o r is same says pairs Interleaved d = rw is (λ e. let bad = ((pairs Interleaved d).0 e).0 in cc, λ h. absurd h)
 
 pub interleaved_inferred : (t : Tree) (x y : FieldTree) (z told : ℤ) (o : Option Dimension) (r : PairOption) → t ≡ fixed_size_list x.name x.tree x.nullable x.metadata z → y ≡ x → told ≡ z → ((d : Dimension) → (o ≡ Some d) ↔ ((is_float64 y.tree ≡ true) × IsInferredSize d y.name told)) → Pairs Interleaved o r → YieldsSome r (Inferred t)
-interleaved_inferred t x y z told o r is same size says pairs = rw (is, ← same, ← size) at_pair
-  where
-    at_pair : YieldsSome r (Inferred (fixed_size_list y.name y.tree y.nullable y.metadata told))
-    at_pair Interleaved d = (λ e. (says d).0 ((pairs Interleaved d).0 e).1, λ h. (pairs Interleaved d).1 (refl, (says d).1 h))
-    at_pair Separated d = (λ e. let bad = ((pairs Separated d).0 e).0 in cc, λ h. absurd h)
+interleaved_inferred t x y z told o r is same size says pairs Interleaved d = rw (is, ← same, ← size) (λ e. (says d).0 ((pairs Interleaved d).0 e).1, λ h. (pairs Interleaved d).1 (refl, (says d).1 h))
+interleaved_inferred t x y z told o r is same size says pairs Separated d = rw is (λ e. let bad = ((pairs Separated d).0 e).0 in cc, λ h. absurd h)
 
 pub two_fields : (fs : List FieldTree) (x y a b : FieldTree) → length fs ≡ 2 → x ≡ get_or fs 0 a → y ≡ get_or fs 1 b → fs ≡ x ∷ y ∷ []
 two_fields (f ∷ g ∷ []) x y a b two first second = cc
@@ -33,11 +27,8 @@ pub all_inferred : (fs : FieldTrees) (r : Option Dimension) → are_float64 fs �
 all_inferred fs r all says d = (λ e. (all, (says d).0 e), λ h. (says d).1 h.1)
 
 pub two_inferred : (fs : FieldTrees) (r : Option Dimension) → are_float64 fs ≡ true → length (names_of fs) ≡ 2 → r ≡ Some XY → (d : Dimension) → (r ≡ Some d) ↔ ((are_float64 fs ≡ true) × IsInferredAs d (names_of fs))
-two_inferred fs r all two is = all_inferred fs r all (by is)
-  where
-    by : r ≡ Some XY → (d : Dimension) → (r ≡ Some d) ↔ IsInferredAs d (names_of fs)
-    by is XY = (λ e. two, λ h. is)
-    by is _ = (λ e. let bad = sym is ∙ e in cc, λ h. absurd (omega arith))
+two_inferred fs r all two is XY = (λ e. (all, two), λ h. is)
+two_inferred fs r all two is _ = (λ e. let bad = sym is ∙ e in cc, λ h. let k = h.1 in absurd (omega arith))
 
 -- a coordinate is taken for what it is read as
 names_agree : (ns : List Text) (d e : Dimension) → IsInferredAs d ns → IsSeparatedAs e ns → d ≡ e

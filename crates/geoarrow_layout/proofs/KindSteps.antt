@@ -2,7 +2,7 @@
 use Rattle.geoarrow_layout.proofs.Terms.{◌≡◌, ◌⊎◌, inl, inr, Bool, true≢false, IsTrue, is_ok, cond, refl, sym, ap, subst, ◌∙◌, ◌↔◌, IfErr, Option, Some, None, Result, Ok, Err, bytes_eq, same_Some, Text, Tree, Point, LineString, Polygon, MultiPoint, MultiLineString, MultiPolygon, GeometryCollection, Width, Plain, Large, View, Kind, OfNative, OfGeometry, OfRect, OfWkb, OfWkt, ExtensionName, name_text, extension_of, Native, IsBytes, IsText, Accepted, Accepts, IsStructured, YieldsOne, any_native_same, geometry_same, box_shape_same, LayoutFault, Summary, Summarizes, IsAccepted, Path, HasFault, FaultAt, Tells, YieldsKind, NativeKind, CoordType, Dimension, Mixed, Geometry, BoxShape, NativeFault, MixedFault, GeometryFault, BoxFault, TellsBoth, Yields, coords_in, native_first, mixed_first}
 use Rattle.geoarrow_layout.specs.declared.names.ExtensionName.TheVariants as names
 use Rattle.geoarrow_layout.proofs.FaultLaws.{accepted_apart, native_apart, mixed_none, geometry_apart, box_apart}
-use Rattle.geoarrow_layout.proofs.Readings.{Answer, exactly, exactly_one}
+use Rattle.geoarrow_layout.proofs.Readings.{Answer, exactly, exactly_one, told_fault}
 
 -- a text says which name it is, so two names of one text are one
 abbrev named : Text → ExtensionName
@@ -60,6 +60,12 @@ mixed_exact t r = exactly (coords_in t) r (Mixed t) (MixedFault t) (mixed_first 
 
 pub geometry_exact : (t : Tree) (r : Result CoordType LayoutFault) → Tells r (Geometry t) (GeometryFault t) → YieldsOne r (Geometry t)
 geometry_exact t r = exactly_one r (Geometry t) (GeometryFault t) (geometry_same t) (geometry_apart t)
+
+pub geometry_told : (t : Tree) (r : Result CoordType LayoutFault) → Tells r (Geometry t) (GeometryFault t) → IfErr r (HasFault (GeometryFault t))
+geometry_told t r = told_fault r (Geometry t) (GeometryFault t)
+
+pub box_told : (t : Tree) (r : Result Dimension LayoutFault) → Tells r (BoxShape t) (BoxFault t) → IfErr r (HasFault (BoxFault t))
+box_told t r = told_fault r (BoxShape t) (BoxFault t)
 
 pub box_exact : (t : Tree) (r : Result Dimension LayoutFault) → Tells r (BoxShape t) (BoxFault t) → YieldsOne r (BoxShape t)
 box_exact t r = exactly_one r (BoxShape t) (BoxFault t) (box_shape_same t) (box_apart t)

@@ -129,16 +129,13 @@ pub two_at_most : (t : Tree) (a b c : Text) → IsAccepted a t → IsAccepted b 
 two_at_most t a b c h k l = of_two _ _ a b c (name_at a t h) (name_at b t k) (name_at c t l)
 
 -- the kind under a name
-as_native : (l : Kind) (k : NativeKind) (t : Tree) → names.Native k ≡ extension_of l → Accepted l t → (c : CoordType) × (d : Dimension) × Native t k c d
-as_native (OfNative m c d) k t e h = let same : k ≡ m = cc in (c, d, subst (λ x. Native t x c d) (sym same) h)
-as_native _ k t e h = cc
-
 native_accepted : (k : NativeKind) (t : Tree) → IsAccepted (name_text (names.Native k)) t → (c : CoordType) × (d : Dimension) × Native t k c d
-native_accepted k t a = as_native a.0 k t (one_name (names.Native k) (extension_of a.0) a.1.0) a.1.1
+native_accepted k t (OfNative m c d, (is, h)) = let e = one_name (names.Native k) (names.Native m) is in let same : k ≡ m = cc in (c, d, subst (λ x. Native t x c d) (sym same) h)
+native_accepted k t (l, (is, h)) = let e = one_name (names.Native k) (extension_of l) is in cc
 
-as_box : (l : Kind) (t : Tree) → names.Rect ≡ extension_of l → Accepted l t → (d : Dimension) × BoxShape t d
-as_box (OfRect d) t e h = (d, h)
-as_box _ t e h = cc
+box_accepted : (t : Tree) → IsAccepted (name_text names.Rect) t → (d : Dimension) × BoxShape t d
+box_accepted t (OfRect d, (is, h)) = (d, h)
+box_accepted t (l, (is, h)) = let e = one_name names.Rect (extension_of l) is in cc
 
 size_within : (d : Dimension) → (2 ≤ size_of d) × (size_of d ≤ 4)
 size_within XY = (omega arith, omega arith)
@@ -153,7 +150,7 @@ four_of _ c d e h k = absurd k
 point_and_box_four : (t : Tree) → IsAccepted (name_text (names.Native Point)) t → IsAccepted (name_text names.Rect) t → IsStructOfFour t
 point_and_box_four t h k =
     let p = native_accepted Point t h in
-    let b = as_box k.0 t (one_name names.Rect (extension_of k.0) k.1.0) k.1.1 in
+    let b = box_accepted t k in
     four_of t p.0 p.1 b.0 (subst (λ x. Leaf x p.0 p.1) (sym p.2.1.1) p.2.2) b.1
 
 -- the two names of one data type, if they are two
@@ -183,13 +180,10 @@ box_of_four : (t : Tree) → IsStructOfFour t → IsAccepted (name_text names.Re
 box_of_four (struct fs) h = (OfRect XY, (refl, h))
 box_of_four _ h = absurd h
 
-renamed_both : (t : Tree) (a b m n : Text) → a ≡ m → b ≡ n → IsAccepted m t ↔ IsAccepted n t → IsAccepted a t ↔ IsAccepted b t
-renamed_both t a b m n first second h = (λ x. moved n b t second (h.0 (moved a m t (sym first) x)), λ x. moved m a t first (h.1 (moved b n t (sym second) x)))
-
 pub both_accepted : (t : Tree) (a b : Text) → Share t a b → IsAccepted a t ↔ IsAccepted b t
-both_accepted t a b (inl h) = renamed_both t a b _ _ h.0 h.1 (as_other LineString MultiPoint t (λ c d x. x), as_other MultiPoint LineString t (λ c d x. x))
-both_accepted t a b (inr (inl h)) = renamed_both t a b _ _ h.0 h.1 (as_other Polygon MultiLineString t (λ c d x. x), as_other MultiLineString Polygon t (λ c d x. x))
-both_accepted t a b (inr (inr h)) = renamed_both t a b _ _ h.0 h.1 (λ x. box_of_four t h.2, λ x. point_of_four t h.2)
+both_accepted t a b (inl h) = rw (h.0, h.1) (as_other LineString MultiPoint t (λ c d x. x), as_other MultiPoint LineString t (λ c d x. x))
+both_accepted t a b (inr (inl h)) = rw (h.0, h.1) (as_other Polygon MultiLineString t (λ c d x. x), as_other MultiLineString Polygon t (λ c d x. x))
+both_accepted t a b (inr (inr h)) = rw (h.0, h.1) (λ x. box_of_four t h.2, λ x. point_of_four t h.2)
 
 -- ---- no name
 

@@ -11,17 +11,13 @@ abbrev pub no_parts : Option (NativeKind × Dimension)
 no_parts = None
 
 -- the answer of a kind, if the dimension is that of the type id
-kept : (N : KindReads) (F : NativeKind → Faults) (i : ℤ) (t : Tree) (k : NativeKind) (d : Dimension) (read r : Answer) → i ≡ pos (type_id_of k d) → MatchResult r (λ x. (read ≡ Ok x) × (x.1 ≡ d)) (IsOtherFault read d)
-    → TellsBoth read (N t k) (F k t) → TellsBoth r (Part N i t) (PartFault N F i t)
-kept N F i t k d read (Ok x) id h a = let read_is : N t k x.0 x.1 = subst (λ z. TellsBoth z (N t k) (F k t)) h.0 a in (k, id ∙ ap (λ e. pos (type_id_of k e)) (sym h.1), read_is)
-kept N F i t k d read (Err f) id (inl e) a = let fault : HasFault (F k t) f = subst (λ z. TellsBoth z (N t k) (F k t)) e a in (fault.0, inr (k, d, id, inl fault.1))
-kept N F i t k d read (Err f) id (inr e) a =
-    let read_is : N t k e.1 e.2 = subst (λ z. TellsBoth z (N t k) (F k t)) e.3 a in
-    ([], inr (k, d, id, inr (e.1, e.2, read_is, e.4, (refl, e.0))))
-
 pub part_answer : (N : KindReads) (F : NativeKind → Faults) (i z : ℤ) (t : Tree) (k : NativeKind) (d : Dimension) (read r : Answer) → z ≡ i → IsPartsOf z (some_parts k d) → MatchResult r (λ x. (read ≡ Ok x) × (x.1 ≡ d)) (IsOtherFault read d)
     → TellsBoth read (N t k) (F k t) → TellsBoth r (Part N i t) (PartFault N F i t)
-part_answer N F i z t k d read r is parts h native = kept N F i t k d read r (sym is ∙ (parts k d).0 refl) h native
+part_answer N F i z t k d read (Ok x) is parts h a = let read_is : N t k x.0 x.1 = subst (λ y. TellsBoth y (N t k) (F k t)) h.0 a in (k, sym is ∙ (parts k d).0 refl ∙ ap (λ e. pos (type_id_of k e)) (sym h.1), read_is)
+part_answer N F i z t k d read (Err f) is parts (inl e) a = let fault : HasFault (F k t) f = subst (λ y. TellsBoth y (N t k) (F k t)) e a in (fault.0, inr (k, d, sym is ∙ (parts k d).0 refl, inl fault.1))
+part_answer N F i z t k d read (Err f) is parts (inr e) a =
+    let read_is : N t k e.1 e.2 = subst (λ y. TellsBoth y (N t k) (F k t)) e.3 a in
+    ([], inr (k, d, sym is ∙ (parts k d).0 refl, inr (e.1, e.2, read_is, e.4, (refl, e.0))))
 
 pub part_unknown : (N : KindReads) (F : NativeKind → Faults) (i z : ℤ) (t : Tree) → z ≡ i → IsPartsOf z no_parts → TellsBoth (refused BadTypeId) (Part N i t) (PartFault N F i t)
 part_unknown N F i z t is parts = ([], inl ((λ k d id. let bad : no_parts ≡ some_parts k d = (parts k d).1 (is ∙ id) in cc), (refl, refl)))

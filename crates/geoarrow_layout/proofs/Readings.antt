@@ -1,5 +1,5 @@
 -- What a reader answers, in short words.
-use Rattle.geoarrow_layout.proofs.Terms.{◌≡◌, ◌↔◌, sym, subst, ℤ, pos, Result, Ok, Err, Option, Some, ap, ◌∙◌, IfErr, CoordType, Dimension, LayoutFault, NativeKind, type_id_of, Yields, YieldsOne, Path, Located, HasFault, Tells, TellsBoth}
+use Rattle.geoarrow_layout.proofs.Terms.{◌≡◌, ◌↔◌, sym, subst, ℤ, pos, Result, Ok, Err, Option, Some, ap, ◌∙◌, IfErr, CoordType, Dimension, LayoutFault, NativeKind, type_id_of, Yields, YieldsOne, Path, Located, HasFault, Tells, TellsBoth, IsErrAnd}
 
 abbrev pub Answer : Type 0
 Answer = Result (CoordType × Dimension) LayoutFault
@@ -34,3 +34,8 @@ exactly v r R F first apart h = let all = exactly_one r (λ x. R x.0 x.1) F (λ 
 pub told_fault : {X : Type 0} (r : Result X LayoutFault) (R : X → Type 0) (F : Located) → Tells r R F → IfErr r (HasFault F)
 told_fault (Ok x) R F h = tt
 told_fault (Err f) R F h = h
+
+-- the exit of a `?` is the fault that it met
+pub refused_as : {X : Type 0} (r : Result X LayoutFault) (f : LayoutFault) (R : X → Type 0) (F : Located) → IsErrAnd r (λ e. e ≡ f) → HasFault F f → Tells r R F
+refused_as (Ok x) f R F is h = absurd is
+refused_as (Err e) f R F is h = subst (HasFault F) (sym is) h

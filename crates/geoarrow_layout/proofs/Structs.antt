@@ -1,5 +1,5 @@
 -- What the names of a struct's fields say, by their bits: the dimension of a coordinate, and that of a box.
-use Rattle.geoarrow_layout.proofs.Terms.{◌≡◌, ◌⊎◌, ℕ, refl, sym, ◌∙◌, arith, Bool, true, false, Result, Ok, Err, inl, inr, List, length, Option, ◌&&◌, [], Text, Tree, struct, FieldTrees, Separated, Dimension, XYZ, XYM, LayoutFault, BadFieldNames, ListWidth, Bottom, Struct, names_of, IsSeparatedAs, Leaf, IsBoxAs, BoxShape, Path, SeparatedFault, CoordinateFault, BoxFault, SomeAt, IsBottom, IsUnion, has_bit, IsNoLeaf, Tells, TellsBoth, BoxNamesFault, IsBits, and_parts}
+use Rattle.geoarrow_layout.proofs.Terms.{◌≡◌, ◌⊎◌, ℕ, refl, sym, ◌∙◌, arith, Bool, true, false, Result, Ok, Err, inl, inr, List, length, Option, ◌&&◌, [], Text, Tree, struct, FieldTrees, Separated, Dimension, XYZ, XYM, LayoutFault, BadFieldNames, ListWidth, Bottom, Struct, names_of, IsSeparatedAs, Leaf, IsBoxAs, BoxShape, Path, SeparatedFault, CoordinateFault, BoxFault, SomeAt, IsBottom, IsUnion, has_bit, IsNoLeaf, Tells, TellsBoth, BoxNamesFault, IsBits, and_parts, and_from}
 use Rattle.geoarrow_layout.proofs.FieldSteps.{same_three, three_have, has_at}
 use Rattle.geoarrow_layout.proofs.Readings.{Answer}
 use Rattle.geoarrow_layout.proofs.Bottoms.{at_bottom}
@@ -10,26 +10,29 @@ DimensionAnswer = Result Dimension LayoutFault
 abbrev pub NamesAnswer : ℕ → ℕ → DimensionAnswer → Type 0
 NamesAnswer count bits r = (ns : List Text) → count ≡ length ns → IsBits bits (λ i. SomeAt i ns) → Tells r (λ d. IsSeparatedAs d ns) (SeparatedFault ns)
 
-pub no_third : (count bits : ℕ) → count ≡ 3 → ((has_bit bits 0 ≡ true) × (has_bit bits 1 ≡ true) × ((has_bit bits 2 ≡ true) ⊎ (has_bit bits 3 ≡ true)) → ⊥) → NamesAnswer count bits (Err BadFieldNames)
-no_third count bits three lacks = λ ns same is. (
-  [],
-  inr (
-    sym same ∙ three,
-    (λ d h.
-        let have = three_have ns d (sym same ∙ three) h in
-        let third : (has_bit bits 2 ≡ true) ⊎ (has_bit bits 3 ≡ true) = elim have.2 [ inl e ↦ inl (has_at _ 2 bits ns (omega arith) refl refl is ∙ e) | inr e ↦ inr (has_at _ 3 bits ns (omega arith) refl refl is ∙ e) ] in
-        lacks (has_at _ 0 bits ns (omega arith) refl refl is ∙ have.0, has_at _ 1 bits ns (omega arith) refl refl is ∙ have.1, third)),
-    (refl, refl),
-  ),
-)
+pub no_third : (count bits : ℕ) → count ≡ 3 → ((has_bit bits 0 && has_bit bits 1) ≡ true → (has_bit bits 2 ≡ true) ⊎ (has_bit bits 3 ≡ true) → ⊥) → NamesAnswer count bits (Err BadFieldNames)
+no_third count bits three lacks = λ ns same is.
+    let none : (d : Dimension) → ¬ IsSeparatedAs d ns = λ d h.
+    let have = three_have ns d (sym same ∙ three) h in
+    lacks (and_from _ _ (has_at _ 0 bits ns (omega arith) refl refl is ∙ have.0) (has_at _ 1 bits ns (omega arith) refl refl is ∙ have.1))
+    (elim have.2 [ inl e ↦ inl (has_at _ 2 bits ns (omega arith) refl refl is ∙ e) | inr e ↦ inr (has_at _ 3 bits ns (omega arith) refl refl is ∙ e) ]) in
+    ([], inr (sym same ∙ three, none, (refl, refl)))
 
-pub with_z : (count bits : ℕ) → count ≡ 3 → has_bit bits 0 ≡ true → has_bit bits 1 ≡ true → has_bit bits 2 ≡ true → NamesAnswer count bits (Ok XYZ)
-with_z count bits three x y z = λ ns same is.
-    (sym same ∙ three, same_three _ _ _ ns refl refl refl (sym same ∙ three) (sym (has_at _ 0 bits ns (omega arith) refl refl is) ∙ x) (sym (has_at _ 1 bits ns (omega arith) refl refl is) ∙ y) (sym (has_at _ 2 bits ns (omega arith) refl refl is) ∙ z))
+pub with_z : (count bits : ℕ) → count ≡ 3 → (has_bit bits 0 && has_bit bits 1) ≡ true → has_bit bits 2 ≡ true → NamesAnswer count bits (Ok XYZ)
+with_z count bits three xy z = λ ns same is.
+    let p = and_parts (has_bit bits 0) (has_bit bits 1) xy in (
+      sym same ∙ three,
+      same_three _ _ _ ns refl refl refl (sym same ∙ three)
+          (sym (has_at _ 0 bits ns (omega arith) refl refl is) ∙ p.0, (sym (has_at _ 1 bits ns (omega arith) refl refl is) ∙ p.1, (sym (has_at _ 2 bits ns (omega arith) refl refl is) ∙ z, tt))),
+    )
 
-pub with_m : (count bits : ℕ) → count ≡ 3 → has_bit bits 0 ≡ true → has_bit bits 1 ≡ true → has_bit bits 3 ≡ true → NamesAnswer count bits (Ok XYM)
-with_m count bits three x y m = λ ns same is.
-    (sym same ∙ three, same_three _ _ _ ns refl refl refl (sym same ∙ three) (sym (has_at _ 0 bits ns (omega arith) refl refl is) ∙ x) (sym (has_at _ 1 bits ns (omega arith) refl refl is) ∙ y) (sym (has_at _ 3 bits ns (omega arith) refl refl is) ∙ m))
+pub with_m : (count bits : ℕ) → count ≡ 3 → (has_bit bits 0 && has_bit bits 1) ≡ true → has_bit bits 3 ≡ true → NamesAnswer count bits (Ok XYM)
+with_m count bits three xy m = λ ns same is.
+    let p = and_parts (has_bit bits 0) (has_bit bits 1) xy in (
+      sym same ∙ three,
+      same_three _ _ _ ns refl refl refl (sym same ∙ three)
+          (sym (has_at _ 0 bits ns (omega arith) refl refl is) ∙ p.0, (sym (has_at _ 1 bits ns (omega arith) refl refl is) ∙ p.1, (sym (has_at _ 3 bits ns (omega arith) refl refl is) ∙ m, tt))),
+    )
 
 -- the leaf that a struct is
 abbrev pub LeafAnswer : Bottom → Answer → Type 0

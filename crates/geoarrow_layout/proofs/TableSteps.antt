@@ -1,9 +1,5 @@
 -- Steps of the comparison with the table of written data types.
-use Rattle.geoarrow_layout.proofs.Terms.{◌≡◌, ◌↔◌, ◌<◌, ◌+◌, ℕ, zero, suc, ℤ, Bool, true, false, true≢false, IsTrue, Some, List, [], ◌∷◌, ◌++◌, drop, length, get_or, sym, ap, subst, ◌∙◌, arith, Option, Contains, same_Some, drop_more, same_from_push, Tree, struct, union, FieldTree, Members, field_trees, member_trees, UnionMode, Dimension, NativeKind, Kind, Wkb, Wkt, member_layout, layout, Width, Plain, IsBytes, IsText, field_list, member_list, listed_fields, listed_members, option_eq}
-use Rattle.geoarrow_layout.proofs.Written.{layouts_are_distinct}
-use Rattle.geoarrow_layout.specs.contracts.encodings.Width as width
-use Rattle.geoarrow_layout.proofs.Equality.{option_decides, bare_decides}
-use Rattle.geoarrow_layout.specs.contracts.encodings.WidthPartialEq.TheImpl as widths
+use Rattle.geoarrow_layout.proofs.Terms.{◌≡◌, ◌↔◌, ℤ, Bool, true, false, true≢false, IsTrue, List, [], ◌∷◌, ◌++◌, sym, ap, ◌∙◌, same_from_push, Tree, struct, union, FieldTree, Members, field_trees, member_trees, UnionMode, Dimension, NativeKind, member_layout, field_list, member_list, listed_fields, listed_members}
 
 -- a struct of these fields, a union of these members
 abbrev fields_in : Tree → List FieldTree
@@ -37,33 +33,3 @@ all_of_dimension ms rest M x k d t U a b r is here one one_holds two two_holds s
   (λ h. is ∙ ap (λ z. z ++ (x ∷ [])) (says.0 h) ∙ ap (λ z. M ++ (z ∷ [])) (one.0 one_holds ∙ ap (member_layout k d) (sym here ∙ two.0 two_holds))),
   (λ e. says.1 (same_from_push rest M x (member_layout k d U) (sym is ∙ e)).0),
 )
-
--- one kind after the other
-pub contained_later : (xs : List Kind) (i : ℕ) (d k : Kind) → i < length xs → (get_or xs i d ≡ k → ⊥) → Contains (drop i xs) k → Contains (drop (i + 1) xs) k
-contained_later xs i d k lt other h = later (subst (λ z. Contains z k) (drop_more xs i d lt) h)
-  where
-    later : Contains (get_or xs i d ∷ drop (i + 1) xs) k → Contains (drop (i + 1) xs) k
-    later (zero, l, is) = absurd (other is)
-    later (suc n, l, is) = (n, omega (arith, l), is)
-
-pub not_kind : (t : Tree) (j k : Kind) (b : Bool) → IsTrue b ↔ (t ≡ layout j) → b ≡ false → t ≡ layout k → j ≡ k → ⊥
-not_kind t j k b says fails h same = true≢false (sym (says.1 (h ∙ ap layout (sym same))) ∙ fails)
-
-pub found_kind : (t : Tree) (j : Kind) → t ≡ layout j → (k : Kind) → (Some j ≡ Some k) ↔ (t ≡ layout k)
-found_kind t j is k = ((λ h. is ∙ ap layout (same_Some j k h)), (λ h. ap (λ x. Some x) (layouts_are_distinct j k (sym is ∙ h))))
-
--- ---- whether a width that is told of a tree is the one that is asked for
-
-told : (P : Width → Tree → Type 0) (t : Tree) (r : Option Width) (w : Width) (b : Bool) → ((v : Width) → (r ≡ Some v) ↔ P v t)
-    → b ≡ option_eq (widths.eq-value).it r (Some w) → IsTrue b ↔ P w t
-told P t r w b says is = (λ h. (says w).0 ((option_decides _ (bare_decides width.the_type tt) r (Some w)).0 (sym is ∙ h)), λ p. is ∙ (option_decides _ (bare_decides width.the_type tt) r (Some w)).1 ((says w).1 p))
-
-pub bytes_told : (t : Tree) (r : Option Width) (w : Width) (b : Bool) → ((v : Width) → (r ≡ Some v) ↔ IsBytes v t)
-    → b ≡ option_eq (widths.eq-value).it r (Some w) → IsTrue b ↔ (t ≡ layout (Wkb w))
-bytes_told t r Plain b says is = told IsBytes t r Plain b says is
-bytes_told t r w b says is = told IsBytes t r w b says is
-
-pub text_told : (t : Tree) (r : Option Width) (w : Width) (b : Bool) → ((v : Width) → (r ≡ Some v) ↔ IsText v t)
-    → b ≡ option_eq (widths.eq-value).it r (Some w) → IsTrue b ↔ (t ≡ layout (Wkt w))
-text_told t r Plain b says is = told IsText t r Plain b says is
-text_told t r w b says is = told IsText t r w b says is

@@ -12,7 +12,7 @@ pub use Rattle.geoarrow_layout.specs.Kinds.{extension_of, interleaved_name, name
 pub use Rattle.geoarrow_layout.specs.Layouts.{IsWritten, IsWrittenSome, coordinate, dimension_members, geometry_members, layout, leaf_layout, member_layout, members_over, mixed_layout, mixed_members, native_layout, over_leaf_layout}
 pub use Rattle.geoarrow_layout.specs.OneShape.{ReadsFirst, among_back, any_native_same, box_shape_same, coords_in, dimension_named, geometry_member_first, geometry_same, member_first, mixed_first, named_back, native_first, over_leaf_first}
 pub use Rattle.geoarrow_layout.specs.Shapes.{Accepted, Accepts, AllMembers, Yields, YieldsKind, YieldsOne, BoxShape, Collection, Geometry, GeometryMember, HasMembers, HaveBoth, IsBoxAs, IsBytes, IsSeparatedAs, IsStructured, IsText, Leaf, ListsOver, Member, Mixed, Native, OverLeaf, SomeMember, Under, has_name, levels_of, names_of}
-pub use Rattle.geoarrow_layout.specs.Summary.{AreLevels, IsBits, IsBottom, IsFaultOf, IsFixedSize, IsInnerUnion, IsStruct, IsUnion, Seen, SomeAt, Summarizes, SummarizesBy, known_names, place_in, place_of, AddsBit, AddsBits, AreOf, Ended, FirstOrNone, IsCoordFault, IsNested, IsNoLeaf, IsOtherFault, IsWidth, LeadsTo, MemberFaultIn, MemberIn, NativeFaultIn, NativeIn, ReadAt, ShowsIn, StaysHere, Tells, TellsBoth, UnionSays, first_fault, has_bit, missing_fault}
+pub use Rattle.geoarrow_layout.specs.Summary.{AreLevels, IsBits, IsBottom, IsFaultOf, IsFixedSize, IsInnerUnion, IsLevelFault, MixedSays, IsStruct, IsUnion, Seen, SomeAt, Summarizes, SummarizesBy, known_names, place_in, place_of, AddsBit, AddsBits, AreOf, Ended, FirstOrNone, IsCoordFault, IsNested, IsNoLeaf, IsOtherFault, IsWidth, LeadsTo, MemberFaultIn, MemberIn, NativeFaultIn, NativeIn, ReadAt, ShowsIn, StaysHere, Tells, TellsBoth, first_fault, has_bit, missing_fault, IsRootUnion}
 pub use Rattle.geoarrow_layout.specs.Words.{BadFieldCount, BadFieldNames, BadInterleavedName, BadSize, BadTypeId, Bottom, CoordType, Deep, Dense, Dimension, EmptyUnion, ExtensionName, FixedSizeList, GeometryCollection, Interleaved, Kind, Large, LargeLists, LayoutFault, LineString, ListWidth, Lists, MemberDimension, MixedWidths, MultiLineString, MultiPoint, MultiPolygon, NativeKind, OfGeometry, OfNative, OfRect, OfWkb, OfWkt, Other, OtherWidth, Plain, Plain as Narrow, Point, Polygon, Rect, Separated, SeveralCoordTypes, SeveralDimensions, Struct, Summary, UnexpectedType, Union, UnionMode, View, Width, Wkb, Wkt, XY, XYM, XYZ, XYZM, bit_at, bytes_eq, bytes_eq-Decides, list_all, list_any}
 pub use Rattle.geoarrow_layout.specs.declared.encodings.TheConstants.Kind.{ALL}
 pub use Rattle.geoarrow_layout.specs.declared.names.Candidates.TheVariants.{None as NoName}
@@ -33,6 +33,7 @@ pub use Rattle.std.specs.Cmp.{booleans_Decides, signed_Decides, unsigned_Decides
 pub use Rattle.std.specs.Int.RustNames.{bit_or}
 pub use Rattle.std.specs.List.{Contains, filter}
 pub use Rattle.std.specs.Option.{option_eq}
+pub use Rattle.std.specs.Result.{IsErrAnd}
 pub use denote.Enum.Bare.{Bare, same_true, sameb, true_same}
 pub use denote.Enum.Declared.{Declared}
 pub use lib.IntN.{nat_abs, negsuc}

@@ -1,25 +1,20 @@
 -- What was seen of members says what the union is.
-use Rattle.geoarrow_layout.proofs.Terms.{ShowsIn, ◌≡◌, ◌≢◌, ◌↔◌, ◌<◌, ◌+◌, ◌^◌, ◌⊎◌, inl, inr, ℕ, zero, suc, ℤ, pos, Result, Ok, Err, Option, Some, None, MatchOption, MatchResult, Bool, true, false, [], ◌∷◌, ◌++◌, take, length, get_or, refl, sym, ap, subst, ◌∙◌, arith, nat_eq, bit_at, eqb-suc-zero, cases_eq, same_from_bits, bit_at-pow_same, bit_at-pow_other, bit_at-lt, Tree, union, FieldTree, MemberTrees, no_members, member, member_trees, CoordType, Interleaved, Dimension, LayoutFault, UnexpectedType, ListWidth, Bottom, Union, Deep, Other, Summary, order_of, Mixed, Geometry, Member, GeometryMember, AllMembers, SomeMember, HasMembers, Yields, Path, Faults, HasFault, FirstFault, UnionFault, MemberFault, MixedFault, GeometryMemberFault, GeometryFault, BoxFault, IsFaultOf, Seen, place_of, AreLevels, IsBottom, IsUnion, SummarizesBy, Summarizes, ReadAt, Tells, TellsBoth, IsNested, IsNoLeaf, ReadsFirst, coords_in, member_first, geometry_member_first, DimensionsFault, IsBits, AddsBits, first_fault, AreOf, IsCoordFault, UnionSays}
+use Rattle.geoarrow_layout.proofs.Terms.{ShowsIn, ◌≡◌, ◌≢◌, ◌↔◌, ◌<◌, ◌+◌, ◌^◌, ◌⊎◌, inl, inr, ℕ, zero, suc, ℤ, pos, Result, Ok, Err, Option, Some, None, MatchOption, MatchResult, Bool, true, false, [], ◌∷◌, ◌++◌, take, length, get_or, refl, sym, ap, subst, ◌∙◌, arith, nat_eq, bit_at, eqb-suc-zero, cases_eq, same_from_bits, bit_at-pow_same, bit_at-pow_other, bit_at-lt, Tree, union, FieldTree, MemberTrees, no_members, member, member_trees, CoordType, Interleaved, Dimension, LayoutFault, ListWidth, Bottom, Union, Summary, order_of, Mixed, Geometry, Member, GeometryMember, AllMembers, SomeMember, HasMembers, Yields, Path, Faults, HasFault, FirstFault, UnionFault, MemberFault, MixedFault, GeometryMemberFault, GeometryFault, IsFaultOf, Seen, place_of, AreLevels, IsBottom, IsUnion, SummarizesBy, Summarizes, ReadAt, Tells, TellsBoth, IsNested, IsNoLeaf, ReadsFirst, coords_in, member_first, geometry_member_first, DimensionsFault, IsBits, AddsBits, first_fault, AreOf, IsCoordFault, MixedSays, IsRootUnion, IsInnerUnion, IsLevelFault}
 use Rattle.geoarrow_layout.proofs.Readings.{Answer, exactly}
 use Rattle.geoarrow_layout.proofs.MemberLists.{Items, all_map, all_inside, all_some, first_some, all_both, some_more, one_more}
 use Rattle.geoarrow_layout.proofs.FaultLaws.{Read, ApartMember, MemberReads, order_same}
-use Rattle.geoarrow_layout.proofs.Bottoms.{NoListAtUnion, RefusesLists, mixed_refuses, levels_refused, at_bottom}
-use Rattle.geoarrow_layout.proofs.FieldSteps.{bits_like, bits_added, no_bits, bit_is}
+use Rattle.geoarrow_layout.proofs.Bottoms.{RefusesLists, at_bottom, no_union, level_fault}
+use Rattle.geoarrow_layout.proofs.FieldSteps.{bits_like, bits_added, no_bits, bit_is, id_moved}
 
 abbrev pub OneReading : MemberReads → Type 0
 OneReading R = (i : ℤ) → ReadsFirst (R i)
 
 -- one bit alone
 is_pow : (n j : ℕ) → IsBits n (λ i. i ≡ j) → n ≡ 2 ^ j
-is_pow n j h = same_from_bits n (2 ^ j) (λ i. at_bit i (cases_eq i j))
-  where
-    at_bit : (i : ℕ) → (i ≡ j) ⊎ (i ≢ j) → bit_at n i ≡ bit_at (2 ^ j) i
-    at_bit i (inl e) = let one : bit_at (2 ^ j) i ≡ 1 = ap (bit_at (2 ^ j)) e ∙ bit_at-pow_same j in (bit_is n (λ k. k ≡ j) i h).1 e ∙ sym one
-    at_bit i (inr e) =
-        let none : bit_at n i ≢ 1 = λ one. e ((bit_is n (λ k. k ≡ j) i h).0 one) in
-        let small : bit_at n i < 2 = bit_at-lt n i in
-        let other : bit_at (2 ^ j) i ≡ 0 = bit_at-pow_other j i e in
-        omega arith
+is_pow n j h = same_from_bits n (2 ^ j) (λ i. elim (cases_eq i j) [
+  | inl e ↦ let one : bit_at (2 ^ j) i ≡ 1 = ap (bit_at (2 ^ j)) e ∙ bit_at-pow_same j in (bit_is n (λ k. k ≡ j) i h).1 e ∙ sym one
+  | inr e ↦ let none : bit_at n i ≢ 1 = λ one. e ((bit_is n (λ k. k ≡ j) i h).0 one) in omega (arith, bit_at-lt n i, bit_at-pow_other j i e)
+])
 
 pow_bit : (n j i : ℕ) → n ≡ 2 ^ j → bit_at n i ≡ 1 → i ≡ j
 pow_bit n j i is one = elim (cases_eq i j) [ inl e ↦ e | inr e ↦ let z : bit_at n i ≡ 0 = ap (λ m. bit_at m i) is ∙ bit_at-pow_other j i e in absurd (omega arith) ]
@@ -77,20 +72,20 @@ coord_fault R S sub one F empty fault coords f (member i n t b m ms) (inr (inr e
 
 -- members of one coordinate type and dimension
 mixed_from : (S : MemberReads) → OneReading S → ((i : ℤ) (t : Tree) (c : CoordType) (d : Dimension) → Member i t c d → S i t c d)
-    → (empty : Bool) (fault : Option LayoutFault) (coords dims : ℕ) (r : Answer) (ms : MemberTrees)
-    → UnionSays empty fault coords dims r → ((empty ≡ false) ↔ HasMembers ms) → CoordBits S coords ms → DimensionBits S dims ms
+    → (empty : Bool) (ids coords dims : ℕ) (fault geometry : Option LayoutFault) (r : Answer) (ms : MemberTrees)
+    → MixedSays (Union empty ids coords dims fault geometry) r → ((empty ≡ false) ↔ HasMembers ms) → CoordBits S coords ms → DimensionBits S dims ms
     → IsFaultOf Member MemberFault fault ms → TellsBoth r (λ c d. HasMembers ms × AllMembers (λ i t. Member i t c d) ms) (λ p f. UnionFault Member MemberFault ms p f ⊎ DimensionsFault ms p f)
-mixed_from S one sub empty fault coords dims (Ok x) ms says some coord_bits dimension_bits first =
+mixed_from S one sub empty ids coords dims fault geometry (Ok x) ms says some coord_bits dimension_bits first =
     let of = of_one Member S sub MemberFault empty fault coords ms x.0 says.0 coord_bits first in (
       some.0 says.0.0,
       all_inside (Read Member) (λ i t. Member i t x.0 x.1) ms (λ i t p inside.
           let dimension = keyed_only Dimension order_of (AtDimension S) order_same dims ms x.1 dimension_bits says.1 p.1 (inside (AtDimension S p.1) (p.0, sub i t p.0 p.1 p.2)) in
           subst (λ b. Member i t b x.1) (of.1 i t p inside) (subst (λ e. Member i t p.0 e) dimension p.2)) of.0,
     )
-mixed_from S one sub empty fault coords dims (Err f) ms (inl says) some coord_bits dimension_bits first =
+mixed_from S one sub empty ids coords dims fault geometry (Err f) ms (inl says) some coord_bits dimension_bits first =
     let found = coord_fault Member S sub one MemberFault empty fault coords f ms says some coord_bits first in
     (found.0, inl found.1)
-mixed_from S one sub empty fault coords dims (Err f) ms (inr says) some coord_bits dimension_bits first =
+mixed_from S one sub empty ids coords dims fault geometry (Err f) ms (inr says) some coord_bits dimension_bits first =
     let c = says.0.0 in
     let of = of_one Member S sub MemberFault empty fault coords ms c says.0.1 coord_bits first in (
       [],
@@ -110,32 +105,41 @@ one_from R one F empty fault coords (Ok c) ms says some coord_bits first =
     (some.0 says.0, all_inside (Read R) (AtCoord R c) ms (λ i t p inside. (p.1, subst (λ b. R i t b p.1) (of.1 i t p inside) p.2)) of.0)
 one_from R one F empty fault coords (Err f) ms says some coord_bits first = coord_fault R R (λ i t b d x. x) one F empty fault coords f ms says some coord_bits first
 
--- a union that stands below one list
-pub nested_union : (w : Option ListWidth) (levels : ℕ) (empty : Bool) (ids coords dims : ℕ) (fault geometry : Option LayoutFault) (u : Tree) (r : Answer) → levels ≡ 1
-    → IsBottom IsNested w levels (Union empty ids coords dims fault geometry) u → UnionSays empty fault coords dims r → TellsBoth r (Mixed u) (MixedFault u)
-nested_union w levels empty ids coords dims fault geometry u r one h says =
-    at_bottom IsNested (λ x. TellsBoth r (Mixed x) (MixedFault x)) w 1 (Union empty ids coords dims fault geometry) tt (λ x t b m z k. absurd k) (λ fs k. absurd k)
-    (λ ms mode k. (mixed_from Member member_first (λ i t c d m. m) empty fault coords dims r ms says k.0 k.1.coord_bits k.1.dimension_bits k.1.fault_found))
-    u (subst (λ n. IsBottom IsNested w n (Union empty ids coords dims fault geometry) u) one h)
+-- what the bottom says of a union, by a reading S of its members
+abbrev SeenMixed : MemberReads → Bottom → MemberTrees → Type 0
+SeenMixed S (Union empty ids coords dims fault geometry) ms = ((empty ≡ false) ↔ HasMembers ms) × CoordBits S coords ms × DimensionBits S dims ms × IsFaultOf Member MemberFault fault ms
+SeenMixed S _ ms = ⊥
+
+mixed_at : (S : MemberReads) → OneReading S
+    → ((i : ℤ) (t : Tree) (c : CoordType) (d : Dimension) → Member i t c d → S i t c d) → (U : ℕ → Bottom → MemberTrees → Type 0) (n : ℕ) → ((b : Bottom) (ms : MemberTrees) → U n b ms → SeenMixed S b ms)
+    → (w : Option ListWidth) (b : Bottom) (u : Tree) (r : Answer) → MixedSays b r → IsBottom U w n b u → TellsBoth r (Mixed u) (MixedFault u)
+mixed_at S one sub U n sees w (Union empty ids coords dims fault geometry) u r says h =
+    at_bottom U (λ x. TellsBoth r (Mixed x) (MixedFault x)) w n (Union empty ids coords dims fault geometry) tt (λ x t b m z k. absurd k) (λ fs k. absurd k)
+    (λ ms mode k. let seen = sees _ ms k in mixed_from S one sub empty ids coords dims fault geometry r ms says seen.0 seen.1 seen.2 seen.3) u h
+mixed_at S one sub U n sees w b u r says h = subst (λ x. TellsBoth x (Mixed u) (MixedFault u)) (sym says) (no_union U w n b u (sees b) h)
+
+root_seen : (b : Bottom) (ms : MemberTrees) → IsRootUnion b ms → SeenMixed GeometryMember b ms
+root_seen (Union empty ids coords dims fault geometry) ms h = (h.0, h.1.coord_bits, h.1.dimension_bits, h.2)
+root_seen _ ms h = absurd h
+
+inner_seen : (b : Bottom) (ms : MemberTrees) → IsInnerUnion b ms → SeenMixed Member b ms
+inner_seen (Union empty ids coords dims fault geometry) ms h = (h.0, h.1.coord_bits, h.1.dimension_bits, h.1.fault_found)
+inner_seen _ ms h = absurd h
+
+pub root_mixed : (w : Option ListWidth) (b : Bottom) (u : Tree) (r : Answer) → MixedSays b r → IsBottom IsUnion w 0 b u → TellsBoth r (Mixed u) (MixedFault u)
+root_mixed = mixed_at GeometryMember geometry_member_first (λ i t c d m. inl m) IsUnion 0 root_seen
+
+pub nested_mixed : (w : Option ListWidth) (b : Bottom) (u : Tree) (r : Answer) → MixedSays b r → IsBottom IsNested w 1 b u → TellsBoth r (Mixed u) (MixedFault u)
+nested_mixed = mixed_at Member member_first (λ i t c d m. m) IsNested 1 inner_seen
 
 -- a summary says less of unions
 pub weaken : (U V : ℕ → Bottom → MemberTrees → Type 0) → ((n : ℕ) (b : Bottom) (ms : MemberTrees) → U n b ms → V n b ms) → (s : Summary) (t : Tree) → SummarizesBy U s t → SummarizesBy V s t
-weaken U V f s t h = (h.0, h.1, at_tree h.0 h.2)
-  where
-    at_tree : (u : Tree) → IsBottom U s.width s.levels s.bottom u → IsBottom V s.width s.levels s.bottom u
-    at_tree (union ms mode) k = f s.levels s.bottom ms k
-    at_tree _ k = k
+weaken U V f s t (union ms mode, levels, k) = (union ms mode, levels, f s.levels s.bottom ms k)
+weaken U V f s t (u, levels, k) = (u, levels, k)
 
 nested_no_leaf : (n : ℕ) (b : Bottom) (ms : MemberTrees) → IsNested n b ms → IsNoLeaf n b ms
 nested_no_leaf (suc n) (Union empty ids coords dims fault geometry) ms h = tt
 nested_no_leaf _ _ ms h = search
-
--- of a union no bottom says that a list is there
-pub no_leaf_no_list : NoListAtUnion IsNoLeaf
-no_leaf_no_list n (Union empty ids coords dims fault geometry) ms h = refl
-no_leaf_no_list n Deep ms h = refl
-no_leaf_no_list n Other ms h = refl
-no_leaf_no_list n _ ms h = absurd h
 
 pub shows_of_inner : (s : Summary) (t : Tree) → ShowsIn true s t → ShowsIn false s t
 shows_of_inner s t h = weaken IsNested IsNoLeaf nested_no_leaf s t h
@@ -175,14 +179,15 @@ keyed_added K place S n more A xs x adds is before =
 abbrev Ids : MemberTrees → ℕ → Type 0
 Ids ms i = (i < 64) × SomeMember (λ j t. j ≡ pos i) ms
 
-pub seen_more : (R : MemberReads) (F : ℤ → Faults) → OneReading R → ApartMember R F → (ids ids2 coords coords2 dims dims2 : ℕ) (fault fault2 : Option LayoutFault) (part : Answer) (xs : Items) (k : ℕ) (x : ℤ × FieldTree) → k < length xs → x ≡ get_or xs k x
-    → TellsBoth part (R x.0 x.1.tree) (F x.0 x.1.tree) → AddsBits ids (λ i. (i < 64) × (x.0 ≡ pos i)) ids2 → AddsBits coords (ReadAt (λ y. place_of y.0) part) coords2 → AddsBits dims (ReadAt (λ y. order_of y.1) part) dims2
+pub seen_more : (R : MemberReads) (F : ℤ → Faults) → OneReading R → ApartMember R F → (ids ids2 coords coords2 dims dims2 : ℕ) (fault fault2 : Option LayoutFault) (part : Answer) (xs : Items) (k : ℕ) (x : ℤ × FieldTree) (z : ℤ) → k < length xs → x ≡ get_or xs k x → z ≡ x.0
+    → TellsBoth part (R z x.1.tree) (F z x.1.tree) → AddsBits ids (λ i. (i < 64) × (z ≡ pos i)) ids2 → AddsBits coords (ReadAt (λ y. place_of y.0) part) coords2 → AddsBits dims (ReadAt (λ y. order_of y.1) part) dims2
     → fault2 ≡ first_fault fault part → Seen R F ids coords dims fault (member_trees (take k xs)) → Seen R F ids2 coords2 dims2 fault2 (member_trees (take (k + 1) xs))
-seen_more R F one apart ids ids2 coords coords2 dims dims2 fault fault2 part all k x lt at told add_id add_coord add_dim next before =
+seen_more R F one apart ids ids2 coords coords2 dims dims2 fault fault2 part all k x z lt at id says add_id add_coord add_dim next before =
     let xs = take k all in
+    let told = subst (λ i. TellsBoth part (R i x.1.tree) (F i x.1.tree)) id says in
     let read : Yields part (R x.0 x.1.tree) = exactly (coords_in x.1.tree) part (R x.0 x.1.tree) (F x.0 x.1.tree) (one x.0 x.1.tree) (apart x.0 x.1.tree) told in
     subst (λ ys. Seen R F ids2 coords2 dims2 fault2 (member_trees ys)) (sym (one_more all k x lt at)) record {
-      id_bits = bits_added ids ids2 (λ i. (i < 64) × (x.0 ≡ pos i)) (Ids (member_trees xs)) (Ids (member_trees (xs ++ (x ∷ [])))) add_id (λ i. let is = some_more (λ j t. j ≡ pos i) xs x in (
+      id_bits = bits_added ids ids2 (λ i. (i < 64) × (x.0 ≡ pos i)) (Ids (member_trees xs)) (Ids (member_trees (xs ++ (x ∷ [])))) (id_moved _ _ x.0 z id add_id) (λ i. let is = some_more (λ j t. j ≡ pos i) xs x in (
         (λ q. elim (is.0 q.1) [ inl s ↦ inl (q.0, s) | inr s ↦ inr (q.0, s) ]),
         (λ h. elim h [ inl p ↦ (p.0, is.1 (inl p.1)) | inr a ↦ (a.0, is.1 (inr a.1)) ]),
       )) before.id_bits;
@@ -205,10 +210,12 @@ pub has_members : (xs : Items) (empty : Bool) → empty ≡ nat_eq (length xs) 0
 has_members [] empty h = (λ e. let bad : true ≡ false = sym h ∙ e in cc, λ m. absurd m)
 has_members (y ∷ ys) empty h = (λ e. tt, λ m. let z : nat_eq (suc (length ys)) 0 ≡ false = eqb-suc-zero (length ys) in h ∙ z)
 
-pub fault_next : (R : MemberReads) (F : ℤ → Faults) (fault more : Option LayoutFault) (part : Answer) (xs : Items) (k : ℕ) (x : ℤ × FieldTree) → k < length xs → x ≡ get_or xs k x
-    → TellsBoth part (R x.0 x.1.tree) (F x.0 x.1.tree) → more ≡ first_fault fault part → IsFaultOf R F fault (member_trees (take k xs)) → IsFaultOf R F more (member_trees (take (k + 1) xs))
-fault_next R F fault more part xs k x lt at read next before =
-    subst (λ ys. IsFaultOf R F more (member_trees ys)) (sym (one_more xs k x lt at)) (subst (λ o. IsFaultOf R F o (member_trees (take k xs ++ (x ∷ [])))) (sym next) (fault_added R F fault part (take k xs) x read before))
+pub fault_next : (R : MemberReads) (F : ℤ → Faults) (fault more : Option LayoutFault) (part : Answer) (xs : Items) (k : ℕ) (x : ℤ × FieldTree) (z : ℤ) → k < length xs → x ≡ get_or xs k x → z ≡ x.0
+    → TellsBoth part (R z x.1.tree) (F z x.1.tree) → more ≡ first_fault fault part → IsFaultOf R F fault (member_trees (take k xs)) → IsFaultOf R F more (member_trees (take (k + 1) xs))
+fault_next R F fault more part xs k x z lt at id read next before =
+    let told = subst (λ i. TellsBoth part (R i x.1.tree) (F i x.1.tree)) id read in
+    subst (λ ys. IsFaultOf R F more (member_trees ys)) (sym (one_more xs k x lt at))
+    (subst (λ o. IsFaultOf R F o (member_trees (take k xs ++ (x ∷ [])))) (sym next) (fault_added R F fault part (take k xs) x told before))
 
 -- ---- the root
 
@@ -216,26 +223,11 @@ levels_none : (w : Option ListWidth) (n : ℕ) (t u : Tree) → AreLevels w n t 
 levels_none None n t u h z = h.1
 levels_none (Some w) n t u h z = absurd (omega (arith, h.0))
 
-pub at_root : (s : Summary) (b : Bottom) (t : Tree) → s.levels ≡ 0 → s.bottom ≡ b → Summarizes s t → IsBottom IsUnion s.width 0 b t
-at_root s b t none is h = subst (λ u. IsBottom IsUnion s.width 0 b u) (sym (levels_none s.width s.levels t h.0 h.1 none)) (rw (← none, ← is) h.2)
+pub at_root : (s : Summary) (b : Bottom) (t : Tree) → s.levels ≡ 0 → b ≡ s.bottom → Summarizes s t → IsBottom IsUnion s.width 0 b t
+at_root s b t none is h = subst (λ u. IsBottom IsUnion s.width 0 b u) (sym (levels_none s.width s.levels t h.0 h.1 none)) (rw (← none, is) h.2)
 
-below_root : (F : Faults) → RefusesLists F → (s : Summary) → 0 < s.levels → (t : Tree) → Summarizes s t → HasFault (F t) UnexpectedType
-below_root F refuses s some t h = ([], levels_refused F refuses s.width s.levels t h.0 some h.1)
-
-pub below_mixed : (s : Summary) → 0 < s.levels → (t : Tree) → Summarizes s t → HasFault (MixedFault t) UnexpectedType
-below_mixed = below_root MixedFault mixed_refuses
-
-pub below_geometry : (s : Summary) → 0 < s.levels → (t : Tree) → Summarizes s t → HasFault (GeometryFault t) UnexpectedType
-below_geometry = below_root GeometryFault (λ x t b m. ((refl, refl), (refl, refl)))
-
-pub below_box : (s : Summary) → 0 < s.levels → (t : Tree) → Summarizes s t → HasFault (BoxFault t) UnexpectedType
-below_box = below_root BoxFault (λ x t b m. ((refl, refl), (refl, refl)))
-
-pub root_mixed : (w : Option ListWidth) (empty : Bool) (ids coords dims : ℕ) (fault geometry : Option LayoutFault) (u : Tree) (r : Answer)
-    → IsBottom IsUnion w 0 (Union empty ids coords dims fault geometry) u → UnionSays empty fault coords dims r → TellsBoth r (Mixed u) (MixedFault u)
-root_mixed w empty ids coords dims fault geometry u r k says =
-    at_bottom IsUnion (λ x. TellsBoth r (Mixed x) (MixedFault x)) w 0 (Union empty ids coords dims fault geometry) tt (λ x t b m z h. absurd h) (λ fs h. absurd h)
-    (λ ms mode h. (mixed_from GeometryMember geometry_member_first (λ i t c d m. inl m) empty fault coords dims r ms says h.0 h.1.coord_bits h.1.dimension_bits h.2)) u k
+pub root_fault : (F : Faults) → RefusesLists F → (s : Summary) (f : LayoutFault) → IsLevelFault s 0 f → (t : Tree) → Summarizes s t → HasFault (F t) f
+root_fault F refuses s f e t h = level_fault F refuses s 0 f (omega arith) e t (shows_of_inner s t (inner_of s t h))
 
 pub root_geometry : (w : Option ListWidth) (empty : Bool) (ids coords dims : ℕ) (fault geometry : Option LayoutFault) (u : Tree) (r : Result CoordType LayoutFault)
     → IsBottom IsUnion w 0 (Union empty ids coords dims fault geometry) u → MatchResult r (AreOf empty geometry coords) (IsCoordFault empty geometry coords) → Tells r (Geometry u) (GeometryFault u)

@@ -1,5 +1,5 @@
 -- What is written is read as what it was written for, so the data types that are written are pairwise distinct.
-use Rattle.geoarrow_layout.proofs.Terms.{◌≡◌, [], ◌∷◌, ◌++◌, true, false, refl, sym, subst, member_trees, CoordType, Interleaved, Separated, Dimension, XY, XYZ, XYM, XYZM, Lists, NativeKind, Point, LineString, Polygon, MultiPoint, MultiLineString, MultiPolygon, GeometryCollection, Plain, Kind, OfNative, OfGeometry, OfRect, OfWkb, OfWkt, Leaf, levels_of, Member, AllMembers, Collection, GeometryMember, Geometry, Native, BoxShape, Accepted, Under, leaf_layout, member_layout, mixed_members, native_layout, geometry_members, layout, HasTypeIds, over_leaf_layout, mixed_layout, dimension_members, IsWritten, IsWrittenSome, cond, List, codes, ◌∙◌, ap, bytes_eq, Text, Tree, plain, list, struct, union, ExtensionName, extension_of, names_of}
+use Rattle.geoarrow_layout.proofs.Terms.{◌≡◌, [], ◌∷◌, ◌++◌, true, false, refl, sym, subst, member_trees, CoordType, Interleaved, Separated, Dimension, XY, XYZ, XYM, XYZM, Lists, NativeKind, Point, LineString, Polygon, MultiPoint, MultiLineString, MultiPolygon, GeometryCollection, Plain, Kind, OfNative, OfGeometry, OfRect, OfWkb, OfWkt, Leaf, levels_of, Member, AllMembers, GeometryMember, Native, BoxShape, Accepted, Under, leaf_layout, member_layout, mixed_members, native_layout, geometry_members, layout, HasTypeIds, over_leaf_layout, mixed_layout, dimension_members, IsWritten, IsWrittenSome, cond, List, codes, ◌∙◌, ap, bytes_eq, Text, Tree, plain, list, struct, union, ExtensionName, extension_of, names_of}
 use Rattle.geoarrow_layout.specs.Shapes.{SameNames}
 use Rattle.geoarrow_layout.proofs.MemberLists.{all_map, all_both}
 use Rattle.geoarrow_layout.proofs.Parts.{to_part}
@@ -24,9 +24,6 @@ written_mixed c d =
     let at = λ (k : NativeKind). written_under k c d in
     ((Point, refl, at Point), ((LineString, refl, at LineString), ((Polygon, refl, at Polygon), ((MultiPoint, refl, at MultiPoint), ((MultiLineString, refl, at MultiLineString), ((MultiPolygon, refl, at MultiPolygon), tt))))))
 
-written_collection : (c : CoordType) (d : Dimension) → Collection (native_layout GeometryCollection c d) c d
-written_collection c d = (mixed_layout c d, (Lists, refl), (tt, written_mixed c d))
-
 -- what is written for the members
 pub mixed_written : (c : CoordType) (d : Dimension) → AllMembers (IsWritten c d) (member_trees (mixed_members c d))
 mixed_written c d = ((Point, refl, refl), ((LineString, refl, refl), ((Polygon, refl, refl), ((MultiPoint, refl, refl), ((MultiLineString, refl, refl), ((MultiPolygon, refl, refl), tt))))))
@@ -46,15 +43,8 @@ geometry_written c =
     )
 
 written_native : (k : NativeKind) (c : CoordType) (d : Dimension) → Native (native_layout k c d) k c d
-written_native GeometryCollection c d = written_collection c d
+written_native GeometryCollection c d = (mixed_layout c d, (Lists, refl), (tt, written_mixed c d))
 written_native k c d = written_under k c d
-
-written_geometry : (c : CoordType) → Geometry (layout (OfGeometry c)) c
-written_geometry c = (
-  tt,
-  all_map (IsWrittenSome c) (λ i t. (d : Dimension) × GeometryMember i t c d)
-      (λ i t w. (w.0, to_part w.1.0 i t c w.0 w.1.1 (subst (λ u. Native u w.1.0 c w.0) (sym w.1.2) (written_native w.1.0 c w.0)))) (member_trees (geometry_members c)) (geometry_written c),
-)
 
 written_box : (d : Dimension) → BoxShape (layout (OfRect d)) d
 written_box XYZ = (refl, λ h. let bad : false ≡ true = h.0 in cc, (refl, refl))
@@ -63,7 +53,11 @@ written_box _ = refl
 
 pub written : (k : Kind) → Accepted k (layout k)
 written (OfNative k c d) = written_native k c d
-written (OfGeometry c) = written_geometry c
+written (OfGeometry c) = (
+  tt,
+  all_map (IsWrittenSome c) (λ i t. (d : Dimension) × GeometryMember i t c d)
+      (λ i t w. (w.0, to_part w.1.0 i t c w.0 w.1.1 (subst (λ u. Native u w.1.0 c w.0) (sym w.1.2) (written_native w.1.0 c w.0)))) (member_trees (geometry_members c)) (geometry_written c),
+)
 written (OfRect d) = written_box d
 written (OfWkb Plain) = refl
 written (OfWkt Plain) = refl

@@ -183,6 +183,10 @@ abbrev pub missing_fault : Bottom → LayoutFault
 missing_fault OtherWidth = MixedWidths
 missing_fault _ = UnexpectedType
 
+-- the fault of a data type whose list levels are not so many
+abbrev pub IsLevelFault : Summary → ℕ → LayoutFault → Type 0
+IsLevelFault s n f = ((s.levels < n) × (f ≡ missing_fault s.bottom)) ⊎ ((n < s.levels) × (f ≡ UnexpectedType))
+
 -- the fault of a member whose data type was read as one of its kind, in any dimension
 abbrev pub IsOtherFault : Result (CoordType × Dimension) LayoutFault → Dimension → LayoutFault → Type 0
 IsOtherFault read d f = (read ≡ Err f) ⊎ ((f ≡ MemberDimension) × (c : CoordType) × (e : Dimension) × (read ≡ Ok (c, e)) × (e ≢ d))
@@ -204,11 +208,12 @@ IsCoordFault empty fault coord_types f =
     ⊎ (((empty ≡ false) × (fault ≡ Some f))
     ⊎ ((empty ≡ false) × (fault ≡ None) × ((c : CoordType) → coord_types ≢ 2 ^ place_of c) × (f ≡ SeveralCoordTypes)))
 
--- the result is the one coordinate type and dimension of a union's members, by what the walk found, or else their fault
-abbrev pub UnionSays : Bool → Option LayoutFault → ℕ → ℕ → Result (CoordType × Dimension) LayoutFault → Type 0
-UnionSays empty fault coord_types dimensions r =
+-- the result is the one coordinate type and dimension of the members of a union in a collection, by what the walk found, or else their fault
+abbrev pub MixedSays : Bottom → Result (CoordType × Dimension) LayoutFault → Type 0
+MixedSays (Union empty ids coord_types dimensions fault geometry) r =
     MatchResult r (λ x. AreOf empty fault coord_types x.0 × (dimensions ≡ 2 ^ order_of x.1))
     (λ f. IsCoordFault empty fault coord_types f ⊎ (((c : CoordType) × AreOf empty fault coord_types c) × ((d : Dimension) → dimensions ≢ 2 ^ order_of d) × (f ≡ SeveralDimensions)))
+MixedSays _ r = r ≡ Err UnexpectedType
 
 -- i is the number of what was read
 abbrev pub ReadAt : (CoordType × Dimension → ℕ) → Result (CoordType × Dimension) LayoutFault → ℕ → Type 0

@@ -7,7 +7,7 @@ ghost use Rattle.geoarrow_layout.specs.Layouts.{list_names, type_name, dimension
 
 use crate::kinds::CoordType::{Interleaved, Separated};
 use crate::kinds::Dimension::{XY, XYM, XYZ, XYZM};
-use crate::kinds::{CoordType, Dimension, dimension_at};
+use crate::kinds::{CoordType, Dimension, by_dimension, dimension_at};
 use crate::names::ExtensionName;
 use arrow_values::FixedName;
 
@@ -38,6 +38,17 @@ macro_rules! all_kinds {
             Kind::Wkt(Width::Large),
             Kind::Wkt(Width::View),
         ]
+    };
+}
+
+/// The name of a member, from a table: for each native kind, the names in the order of the dimensions.
+macro_rules! member_names {
+    ($of:expr, $in:expr; $($kind:ident $z:ident $m:ident $zm:ident,)*) => {
+        match $of {
+            $(NativeKind::$kind => by_dimension!($in;
+                FixedName::$kind, FixedName::$z, FixedName::$m, FixedName::$zm
+            ),)*
+        }
     };
 }
 
@@ -190,15 +201,7 @@ fn offset_of(kind: NativeKind) -> u8
     ensures offset { result ≡ offset_of kind }
     ensures small { result ≤ 7 }
 {
-    match kind {
-        NativeKind::Point => 1,
-        NativeKind::LineString => 2,
-        NativeKind::Polygon => 3,
-        NativeKind::MultiPoint => 4,
-        NativeKind::MultiLineString => 5,
-        NativeKind::MultiPolygon => 6,
-        NativeKind::GeometryCollection => 7,
-    }
+    kind as u8 + 1
 }
 
 /// The names of the list items of a kind, from the outermost list.
@@ -220,36 +223,15 @@ pub(crate) fn list_names(kind: NativeKind) -> &'static [FixedName]
 pub(crate) fn member_name(kind: NativeKind, dimension: Dimension) -> FixedName
     ensures { fixed_text result ≡ type_name kind ++ dimension_suffix dimension }
 {
-    match (kind, dimension) {
-        (NativeKind::Point, XY) => FixedName::Point,
-        (NativeKind::Point, XYZ) => FixedName::PointZ,
-        (NativeKind::Point, XYM) => FixedName::PointM,
-        (NativeKind::Point, XYZM) => FixedName::PointZm,
-        (NativeKind::LineString, XY) => FixedName::LineString,
-        (NativeKind::LineString, XYZ) => FixedName::LineStringZ,
-        (NativeKind::LineString, XYM) => FixedName::LineStringM,
-        (NativeKind::LineString, XYZM) => FixedName::LineStringZm,
-        (NativeKind::Polygon, XY) => FixedName::Polygon,
-        (NativeKind::Polygon, XYZ) => FixedName::PolygonZ,
-        (NativeKind::Polygon, XYM) => FixedName::PolygonM,
-        (NativeKind::Polygon, XYZM) => FixedName::PolygonZm,
-        (NativeKind::MultiPoint, XY) => FixedName::MultiPoint,
-        (NativeKind::MultiPoint, XYZ) => FixedName::MultiPointZ,
-        (NativeKind::MultiPoint, XYM) => FixedName::MultiPointM,
-        (NativeKind::MultiPoint, XYZM) => FixedName::MultiPointZm,
-        (NativeKind::MultiLineString, XY) => FixedName::MultiLineString,
-        (NativeKind::MultiLineString, XYZ) => FixedName::MultiLineStringZ,
-        (NativeKind::MultiLineString, XYM) => FixedName::MultiLineStringM,
-        (NativeKind::MultiLineString, XYZM) => FixedName::MultiLineStringZm,
-        (NativeKind::MultiPolygon, XY) => FixedName::MultiPolygon,
-        (NativeKind::MultiPolygon, XYZ) => FixedName::MultiPolygonZ,
-        (NativeKind::MultiPolygon, XYM) => FixedName::MultiPolygonM,
-        (NativeKind::MultiPolygon, XYZM) => FixedName::MultiPolygonZm,
-        (NativeKind::GeometryCollection, XY) => FixedName::GeometryCollection,
-        (NativeKind::GeometryCollection, XYZ) => FixedName::GeometryCollectionZ,
-        (NativeKind::GeometryCollection, XYM) => FixedName::GeometryCollectionM,
-        (NativeKind::GeometryCollection, XYZM) => FixedName::GeometryCollectionZm,
-    }
+    member_names!(kind, dimension;
+        Point PointZ PointM PointZm,
+        LineString LineStringZ LineStringM LineStringZm,
+        Polygon PolygonZ PolygonM PolygonZm,
+        MultiPoint MultiPointZ MultiPointM MultiPointZm,
+        MultiLineString MultiLineStringZ MultiLineStringM MultiLineStringZm,
+        MultiPolygon MultiPolygonZ MultiPolygonM MultiPolygonZm,
+        GeometryCollection GeometryCollectionZ GeometryCollectionM GeometryCollectionZm,
+    )
 }
 
 /// How many lists a native kind has.

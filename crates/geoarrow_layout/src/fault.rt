@@ -41,10 +41,8 @@ impl LayoutFault {
     pub fn into_arrow_error(self, alloc: Global) -> ArrowError
         ensures { IsMemory result ⊎ IsErrorOfFault self result }
     {
-        match self.try_arrow_error(alloc) {
-            Ok(error) => error,
-            Err(_) => ArrowError::OutOfMemory,
-        }
+        self.try_arrow_error(alloc)
+            .unwrap_or(ArrowError::OutOfMemory)
     }
 
     /// The error of the fault. Errs only when out of memory.

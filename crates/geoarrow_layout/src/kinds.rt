@@ -5,6 +5,7 @@ ghost use Rattle.geoarrow_layout.specs.Kinds.{size_of, order_of, interleaved_nam
 ghost use Rattle.geoarrow_layout.specs.Layouts.{coordinate_names, box_names};
 ghost use Rattle.geoarrow_layout.specs.Summary.{place_of};
 
+use crate::kinds::Dimension::{XY, XYM, XYZ, XYZM};
 use arrow_values::FixedName::{
     self, M, Mmax, Mmin, X, Xmax, Xmin, Xy, Xym, Xyz, Xyzm, Y, Ymax, Ymin, Z, Zmax, Zmin,
 };
@@ -46,6 +47,33 @@ impl Default for CoordType {
     }
 }
 
+/// What a table of four says of a dimension, the four in the order of the dimensions.
+macro_rules! by_dimension {
+    ($dimension:expr; $xy:expr, $xyz:expr, $xym:expr, $xyzm:expr) => {
+        match $dimension {
+            XY => $xy,
+            XYZ => $xyz,
+            XYM => $xym,
+            XYZM => $xyzm,
+        }
+    };
+}
+
+pub(crate) use by_dimension;
+
+/// The dimension of which such a table says a value, if there is one.
+macro_rules! dimension_with {
+    ($value:expr; $xy:literal, $xyz:literal, $xym:literal, $xyzm:literal) => {
+        match $value {
+            $xy => Some(XY),
+            $xyz => Some(XYZ),
+            $xym => Some(XYM),
+            $xyzm => Some(XYZM),
+            _ => None,
+        }
+    };
+}
+
 /// Which dimensions a coordinate has (GeoArrow, "Coordinate").
 /// [`Dimension::try_from_dimensions`] has an example.
 #[derive(Clone, Copy, Debug, PartialEq, Eq, Hash)]
@@ -69,12 +97,7 @@ impl Dimension {
     pub fn size(&self) -> usize
         ensures { result ≡ size_of self.now }
     {
-        match self {
-            Dimension::XY => 2,
-            Dimension::XYZ => 3,
-            Dimension::XYM => 3,
-            Dimension::XYZM => 4,
-        }
+        by_dimension!(self; 2, 3, 3, 4)
     }
 
     /// Its number among the four, from 0, as type ids count them (GeoArrow, "Geometry": the table of type ids).
@@ -82,12 +105,7 @@ impl Dimension {
         ensures order { result ≡ order_of self.now }
         ensures small { result ≤ 3 }
     {
-        match self {
-            Dimension::XY => 0,
-            Dimension::XYZ => 1,
-            Dimension::XYM => 2,
-            Dimension::XYZM => 3,
-        }
+        *self as u8
     }
 
     /// The dimension with the name of those dimensions; for 2, 3 and 4 dimensions with no known meaning it is XY, XYZ
@@ -105,10 +123,10 @@ impl Dimension {
         ensures refusal { IfErr result (λ e. IsGeoMemory e ⊎ RefusesDimensions dimensions e) }
     {
         match dimensions {
-            Dimensions::Xy | Dimensions::Unknown(2) => Ok(Dimension::XY),
-            Dimensions::Xyz | Dimensions::Unknown(3) => Ok(Dimension::XYZ),
-            Dimensions::Xym => Ok(Dimension::XYM),
-            Dimensions::Xyzm | Dimensions::Unknown(4) => Ok(Dimension::XYZM),
+            Dimensions::Xy | Dimensions::Unknown(2) => Ok(XY),
+            Dimensions::Xyz | Dimensions::Unknown(3) => Ok(XYZ),
+            Dimensions::Xym => Ok(XYM),
+            Dimensions::Xyzm | Dimensions::Unknown(4) => Ok(XYZM),
             Dimensions::Unknown(n) => Err(GeoArrowError::InvalidGeoArrow(format!(in alloc;
                 "Unsupported dimension Unknown({n})"
             )?)),
@@ -119,12 +137,7 @@ impl Dimension {
     fn name(self) -> &'static str
         ensures { result.now ≡ dimension_name self }
     {
-        match self {
-            Dimension::XY => "XY",
-            Dimension::XYZ => "XYZ",
-            Dimension::XYM => "XYM",
-            Dimension::XYZM => "XYZM",
-        }
+        by_dimension!(self; "XY", "XYZ", "XYM", "XYZM")
     }
 }
 
@@ -146,96 +159,58 @@ impl From<Dimension> for Dimensions {
     ghost from_gives = { λ d e. e ≡ dimensions_of d };
 
     fn from(dimension: Dimension) -> Dimensions {
-        match dimension {
-            Dimension::XY => Dimensions::Xy,
-            Dimension::XYZ => Dimensions::Xyz,
-            Dimension::XYM => Dimensions::Xym,
-            Dimension::XYZM => Dimensions::Xyzm,
-        }
+        by_dimension!(dimension; Dimensions::Xy, Dimensions::Xyz, Dimensions::Xym, Dimensions::Xyzm)
     }
 }
 
 /// All dimensions, in their order.
-pub(crate) const DIMENSIONS: [Dimension; 4] = [
-    Dimension::XY,
-    Dimension::XYZ,
-    Dimension::XYM,
-    Dimension::XYZM,
-];
+pub(crate) const DIMENSIONS: [Dimension; 4] = [XY, XYZ, XYM, XYZM];
 
 /// The dimension of that place.
 pub(crate) fn dimension_at(order: u8) -> Option<Dimension>
     ensures { (d : Dimension) → (result ≡ Some d) ↔ (order ≡ order_of d) }
 {
-    match order {
-        0 => Some(Dimension::XY),
-        1 => Some(Dimension::XYZ),
-        2 => Some(Dimension::XYM),
-        3 => Some(Dimension::XYZM),
-        _ => None,
-    }
+    dimension_with!(order; 0, 1, 2, 3)
 }
 
 /// The name of the inner field of an interleaved coordinate.
 pub(crate) fn interleaved_name(dimension: Dimension) -> FixedName
     ensures { fixed_text result ≡ interleaved_name dimension }
 {
-    match dimension {
-        Dimension::XY => Xy,
-        Dimension::XYZ => Xyz,
-        Dimension::XYM => Xym,
-        Dimension::XYZM => Xyzm,
-    }
+    by_dimension!(dimension; Xy, Xyz, Xym, Xyzm)
 }
 
 /// The names of the fields of a separated coordinate.
 pub(crate) fn coordinate_names(dimension: Dimension) -> &'static [FixedName]
     ensures { map fixed_text result.now ≡ coordinate_names dimension }
 {
-    match dimension {
-        Dimension::XY => &[X, Y],
-        Dimension::XYZ => &[X, Y, Z],
-        Dimension::XYM => &[X, Y, M],
-        Dimension::XYZM => &[X, Y, Z, M],
-    }
+    by_dimension!(dimension; &[X, Y], &[X, Y, Z], &[X, Y, M], &[X, Y, Z, M])
 }
 
 /// The names of the fields of a box.
 pub(crate) fn box_names(dimension: Dimension) -> &'static [FixedName]
     ensures { map fixed_text result.now ≡ box_names dimension }
 {
-    match dimension {
-        Dimension::XY => &[Xmin, Ymin, Xmax, Ymax],
-        Dimension::XYZ => &[Xmin, Ymin, Zmin, Xmax, Ymax, Zmax],
-        Dimension::XYM => &[Xmin, Ymin, Mmin, Xmax, Ymax, Mmax],
-        Dimension::XYZM => &[Xmin, Ymin, Zmin, Mmin, Xmax, Ymax, Zmax, Mmax],
-    }
+    by_dimension!(dimension;
+        &[Xmin, Ymin, Xmax, Ymax],
+        &[Xmin, Ymin, Zmin, Xmax, Ymax, Zmax],
+        &[Xmin, Ymin, Mmin, Xmax, Ymax, Mmax],
+        &[Xmin, Ymin, Zmin, Mmin, Xmax, Ymax, Zmax, Mmax]
+    )
 }
 
 /// The dimension that the inner field of a fixed size list names.
 pub(crate) fn named_dimension(name: &str) -> Option<Dimension>
     ensures { (d : Dimension) → (result ≡ Some d) ↔ (name.now ≡ interleaved_name d) }
 {
-    match name {
-        "xy" => Some(Dimension::XY),
-        "xyz" => Some(Dimension::XYZ),
-        "xym" => Some(Dimension::XYM),
-        "xyzm" => Some(Dimension::XYZM),
-        _ => None,
-    }
+    dimension_with!(name; "xy", "xyz", "xym", "xyzm")
 }
 
 /// The one dimension of a set.
 pub(crate) fn only_dimension(bits: u8) -> Option<Dimension>
     ensures { (d : Dimension) → (result ≡ Some d) ↔ (bits ≡ 2 ^ order_of d) }
 {
-    match bits {
-        1 => Some(Dimension::XY),
-        2 => Some(Dimension::XYZ),
-        4 => Some(Dimension::XYM),
-        8 => Some(Dimension::XYZM),
-        _ => None,
-    }
+    dimension_with!(bits; 1, 2, 4, 8)
 }
 
 /// The one coordinate type of a set.
@@ -254,20 +229,12 @@ pub(crate) fn place_of(coord_type: CoordType) -> u8
     ensures place { result ≡ place_of coord_type }
     ensures small { result < 8 }
 {
-    match coord_type {
-        CoordType::Interleaved => 0,
-        CoordType::Separated => 1,
-    }
+    coord_type as u8
 }
 
 /// The size of the fixed size list of an interleaved coordinate.
 pub(crate) fn list_size(dimension: Dimension) -> i32
     ensures { result ≡ pos (size_of dimension) }
 {
-    match dimension {
-        Dimension::XY => 2,
-        Dimension::XYZ => 3,
-        Dimension::XYM => 3,
-        Dimension::XYZM => 4,
-    }
+    dimension.size() as i32
 }

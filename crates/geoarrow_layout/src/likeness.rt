@@ -1,7 +1,6 @@
 //! Data types that no reader distinguishes, and unions that lose or gain members.
 ghost use Rattle.std.specs.Prelude.{◌≡◌, ◌↔◌, IsTrue, ◌≢◌, ◌++◌, [], None, IsOk, IfErr, OnOk, OnErr};
-ghost use Rattle.std.specs.List.{list_any, list_all};
-ghost use Rattle.std.specs.Str.{bytes_eq};
+ghost use Rattle.std.specs.List.{list_all};
 ghost use Rattle.arrow_values.specs.View.{tree, field_trees, member_trees};
 ghost use Rattle.geoarrow_layout.specs.Shapes.{names_of, has_name, SameNames, AllMembers, SomeMember};
 ghost use Rattle.geoarrow_layout.specs.Alike.{Alike, AlikeNames, EachHasAlike, HasAlike};
@@ -103,21 +102,8 @@ fn is_met(members: &UnionFields, others: &UnionFields, other: &(i8, Field)) -> b
     if is_only(other, others) {
         has_id(other, members)
     } else {
-        has_same(members, other)
+        any_same(other, members)
     }
-}
-
-/// Whether some member has the other's id and is alike.
-#[cycle(same)]
-fn has_same(members: &UnionFields, other: &(i8, Field)) -> bool
-    ensures { IsTrue result ↔ HasAlike (member_trees members.now) other.now.0 other.now.1.tree }
-{
-    for (id, field) in members.as_slice() {
-        if *id == other.0 && same(field.data_type(), other.1.data_type()) {
-            return true;
-        }
-    }
-    false
 }
 
 /// Whether some member has the other's id.
@@ -134,7 +120,7 @@ fn has_id(other: &(i8, Field), members: &UnionFields) -> bool
 
 /// Whether each member with the other's id has its data type.
 fn is_only(other: &(i8, Field), members: &UnionFields) -> bool
-    ensures { IsTrue result → AllMembers (λ i t. i ≡ other.now.0 → t ≡ other.now.1.tree) (member_trees members.now) }
+    ensures { IsTrue result ↔ AllMembers (λ i t. i ≡ other.now.0 → t ≡ other.now.1.tree) (member_trees members.now) }
 {
     for member in members.as_slice() {
         if !is_same_or_apart(member, other) {
@@ -146,7 +132,7 @@ fn is_only(other: &(i8, Field), members: &UnionFields) -> bool
 
 /// Whether the two members have one data type if they have one id.
 fn is_same_or_apart(member: &(i8, Field), other: &(i8, Field)) -> bool
-    ensures { IsTrue result → member.now.0 ≡ other.now.0 → member.now.1.tree ≡ other.now.1.tree }
+    ensures { IsTrue result ↔ (member.now.0 ≡ other.now.0 → member.now.1.tree ≡ other.now.1.tree) }
 {
     member.0 != other.0 || *member.1.data_type() == *other.1.data_type()
 }
@@ -167,11 +153,11 @@ fn same_struct(fields: &[Field], others: &[Field]) -> bool
 }
 
 /// Whether the fields have the same set of names.
-#[tactic(auto, using(crate::proofs::FieldSteps::same_decides))]
+#[tactic(auto, using(crate::proofs::FieldSteps::same_first, crate::proofs::FieldSteps::not_same))]
 fn same_names(fields: &[Field], others: &[Field]) -> bool
     ensures { IsTrue result ↔ SameNames (names_of (field_trees fields.now)) (names_of (field_trees others.now)) }
 {
-    are_all_named(fields, others) & are_all_named(others, fields)
+    are_all_named(fields, others) && are_all_named(others, fields)
 }
 
 /// Whether each field's name is among those of the others.
@@ -184,13 +170,6 @@ fn are_all_named(fields: &[Field], others: &[Field]) -> bool
 /// Whether the name is among those of the fields.
 fn has_name(fields: &[Field], name: &str) -> bool
     ensures { result ≡ has_name name.now (names_of (field_trees fields.now)) }
-{
-    any_named(fields, name)
-}
-
-/// Whether the name is that of any field.
-fn any_named(fields: &[Field], name: &str) -> bool
-    ensures { result ≡ list_any (λ f. bytes_eq f.name name.now) fields.now }
 {
     fields.iter().any(|field| field.name() == name)
 }

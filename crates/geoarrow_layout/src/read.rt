@@ -8,7 +8,7 @@ ghost use Rattle.geoarrow_layout.specs.Shapes.{Yields, YieldsOne, Leaf, Under, N
 ghost use Rattle.geoarrow_layout.specs.Kinds.{name_text, extension_of, name_of};
 ghost use Rattle.geoarrow_layout.specs.FaultAt.{HasFault, BoxFault, MixedFault, NativeFault, GeometryFault, FaultAt, SeparatedFault, CoordinateFault, BoxNamesFault, LevelsFault};
 ghost use Rattle.arrow_values.specs.Tree.{Tree, Text, struct};
-ghost use Rattle.geoarrow_layout.specs.Summary.{AreOf, IsCoordFault, Summarizes, IsBits, SomeAt, IsBottom, IsUnion, Tells, IsNoLeaf, ShowsIn, NativeIn, NativeFaultIn, MemberIn, MemberFaultIn, TellsBoth, missing_fault, IsOtherFault, UnionSays, has_bit};
+ghost use Rattle.geoarrow_layout.specs.Summary.{AreOf, IsCoordFault, Summarizes, IsBits, SomeAt, IsBottom, IsUnion, Tells, IsNoLeaf, ShowsIn, NativeIn, NativeFaultIn, MemberIn, MemberFaultIn, TellsBoth, IsOtherFault, IsLevelFault, MixedSays, has_bit};
 ghost use Rattle.geoarrow_layout.specs.Candidates.{Holds, IsAccepted};
 ghost use Rattle.geoarrow_layout.specs.Inferred.{YieldsSome, Inferred, IsInferredAs, IsInferredSize, is_float64, are_float64};
 ghost use Rattle.geoarrow_layout.specs.declared.summary.ListWidth.{ListWidth};
@@ -94,15 +94,7 @@ pub fn parse_mixed(data_type: &DataType) -> Result<(CoordType, Dimension), Layou
     ensures exact { Yields result (Mixed (tree data_type.now)) }
     ensures fault { IfErr result (HasFault (MixedFault (tree data_type.now))) }
 {
-    mixed_read(data_type)
-}
-
-/// The union in a collection, or its fault.
-#[inline(always)]
-fn mixed_read(data_type: &DataType) -> Answer
-    ensures { TellsBoth result (Mixed (tree data_type.now)) (MixedFault (tree data_type.now)) }
-{
-    mixed(&summarize(data_type))
+    mixed(data_type)
 }
 
 /// Reads a collection (GeoArrow, "GeometryCollection"): one list, of either width, over a union as `parse_mixed` reads.
@@ -119,38 +111,21 @@ pub fn parse_geometry_collection(
 /// Reads geometries of any kind (GeoArrow, "Geometry"): a union of at least one member, where each member is of the
 /// kind and the dimension that its type id says, collections among them, and all are of one coordinate type. Errs on
 /// any other data type. Allocates nothing.
-#[tactic(auto, using(crate::proofs::KindSteps::geometry_exact, crate::proofs::Readings::told_fault))]
+#[tactic(auto, using(crate::proofs::KindSteps::geometry_exact, crate::proofs::KindSteps::geometry_told))]
 pub fn parse_geometry(data_type: &DataType) -> Result<CoordType, LayoutFault>
     ensures exact { YieldsOne result (Geometry (tree data_type.now)) }
     ensures fault { IfErr result (HasFault (GeometryFault (tree data_type.now))) }
-{
-    geometry_read(data_type)
-}
-
-/// A geometry, or its fault.
-#[inline(always)]
-fn geometry_read(data_type: &DataType) -> Result<CoordType, LayoutFault>
-    ensures { Tells result (Geometry (tree data_type.now)) (GeometryFault (tree data_type.now)) }
 {
     geometry(&summarize(data_type))
 }
 
 /// Reads a native kind, as its own reader does. Errs on any data type that is not of that kind. Allocates nothing.
-#[tactic(auto, using(crate::proofs::Readings::told_fault))]
 pub fn parse_native(
     kind: NativeKind,
     data_type: &DataType,
 ) -> Result<(CoordType, Dimension), LayoutFault>
     ensures exact { Yields result (Native (tree data_type.now) kind) }
     ensures fault { IfErr result (HasFault (NativeFault kind (tree data_type.now))) }
-{
-    native_read(kind, data_type)
-}
-
-/// A native kind, or its fault.
-#[inline(always)]
-fn native_read(kind: NativeKind, data_type: &DataType) -> Answer
-    ensures { TellsBoth result (Native (tree data_type.now) kind) (NativeFault kind (tree data_type.now)) }
 {
     native(true, kind, &summarize(data_type))
 }
@@ -207,18 +182,10 @@ fn kind_read(name: ExtensionName, data_type: &DataType) -> Result<Kind, LayoutFa
 
 /// Reads a box (GeoArrow, "Box"): a struct of four fields or of eight, or of six fields that include `mmin` and `mmax` or,
 /// failing that, `zmin` and `zmax`. Errs on any other data type. Allocates nothing.
-#[tactic(auto, using(crate::proofs::KindSteps::box_exact, crate::proofs::Readings::told_fault))]
+#[tactic(auto, using(crate::proofs::KindSteps::box_exact, crate::proofs::KindSteps::box_told))]
 pub fn parse_box(data_type: &DataType) -> Result<Dimension, LayoutFault>
     ensures exact { YieldsOne result (BoxShape (tree data_type.now)) }
     ensures fault { IfErr result (HasFault (BoxFault (tree data_type.now))) }
-{
-    box_read(data_type)
-}
-
-/// A box, or its fault.
-#[inline(always)]
-fn box_read(data_type: &DataType) -> Result<Dimension, LayoutFault>
-    ensures { Tells result (BoxShape (tree data_type.now)) (BoxFault (tree data_type.now)) }
 {
     boxed(&summarize(data_type))
 }
@@ -253,18 +220,12 @@ fn kind_under(name: ExtensionName, summary: &Summary) -> Result<Kind, LayoutFaul
     ensures named { IfOk result (λ k. (extension_of k ≡ name) × IsStructured k) }
 {
     match name {
-        ExtensionName::Native(kind) => match native(true, kind, summary) {
-            Ok(pair) => Ok(Kind::Native(kind, pair.0, pair.1)),
-            Err(fault) => Err(fault),
-        },
-        ExtensionName::Geometry => match geometry(summary) {
-            Ok(coord_type) => Ok(Kind::Geometry(coord_type)),
-            Err(fault) => Err(fault),
-        },
-        ExtensionName::Rect => match boxed(summary) {
-            Ok(dimension) => Ok(Kind::Rect(dimension)),
-            Err(fault) => Err(fault),
-        },
+        ExtensionName::Native(kind) => {
+            let pair = native(true, kind, summary)?;
+            Ok(Kind::Native(kind, pair.0, pair.1))
+        }
+        ExtensionName::Geometry => Ok(Kind::Geometry(geometry(summary)?)),
+        ExtensionName::Rect => Ok(Kind::Rect(boxed(summary)?)),
         ExtensionName::Wkb | ExtensionName::Wkt => Err(LayoutFault::UnexpectedType),
     }
 }
@@ -316,7 +277,7 @@ pub fn candidates(data_type: &DataType) -> Candidates
 }
 
 /// How the bytes of well-known binary are stored.
-pub(crate) fn bytes_width(data_type: &DataType) -> Option<Width>
+fn bytes_width(data_type: &DataType) -> Option<Width>
     ensures { (w : Width) → (result ≡ Some w) ↔ IsBytes w (tree data_type.now) }
 {
     match data_type {
@@ -328,7 +289,7 @@ pub(crate) fn bytes_width(data_type: &DataType) -> Option<Width>
 }
 
 /// How the text of well-known text is stored.
-pub(crate) fn text_width(data_type: &DataType) -> Option<Width>
+fn text_width(data_type: &DataType) -> Option<Width>
     ensures { (w : Width) → (result ≡ Some w) ↔ IsText w (tree data_type.now) }
 {
     match data_type {
@@ -464,10 +425,7 @@ fn separated_dimension(count: usize, names: u16) -> Result<Dimension, LayoutFaul
     match count {
         2 => Ok(Dimension::XY),
         3 => {
-            if !has_bit(names, 0) {
-                return Err(LayoutFault::BadFieldNames);
-            }
-            if !has_bit(names, 1) {
+            if !has_both(names, 0, 1) {
                 return Err(LayoutFault::BadFieldNames);
             }
             if has_bit(names, 3) {
@@ -489,11 +447,7 @@ fn leaf(bottom: &Bottom) -> Answer
     ensures { (w : Option ListWidth) (levels : ℕ) (u : Tree) → IsBottom IsNoLeaf w levels bottom.now u → TellsBoth result (Leaf u) (CoordinateFault u) }
 {
     match bottom {
-        Bottom::FixedSizeList {
-            named,
-            size,
-            float64: _,
-        } => {
+        Bottom::FixedSizeList { named, size, .. } => {
             let Some(dimension) = named else {
                 return Err(LayoutFault::BadInterleavedName);
             };
@@ -503,11 +457,7 @@ fn leaf(bottom: &Bottom) -> Answer
                 Err(LayoutFault::BadSize)
             }
         }
-        Bottom::Struct {
-            count,
-            names,
-            all_float64: _,
-        } => {
+        Bottom::Struct { count, names, .. } => {
             let dimension = separated_dimension(*count, *names)?;
             Ok((CoordType::Separated, dimension))
         }
@@ -515,13 +465,20 @@ fn leaf(bottom: &Bottom) -> Answer
     }
 }
 
-/// The fault of a data type with too few list levels.
-fn missing_level(bottom: &Bottom) -> LayoutFault
-    ensures { result ≡ missing_fault bottom.now }
+/// What is below exactly so many list levels; the fault of a data type that has fewer or more.
+#[inline(always)]
+fn bottom_below(summary: &Summary, levels: u8) -> Result<&Bottom, LayoutFault>
+    ensures { MatchResult result (λ b. (summary.now.levels ≡ levels) × (b.now ≡ summary.now.bottom)) (IsLevelFault summary.now levels) }
 {
-    match bottom {
-        Bottom::OtherWidth => LayoutFault::MixedWidths,
-        _ => LayoutFault::UnexpectedType,
+    if levels < summary.levels {
+        return Err(LayoutFault::UnexpectedType);
+    }
+    if levels == summary.levels {
+        return Ok(&summary.bottom);
+    }
+    match summary.bottom {
+        Bottom::OtherWidth => Err(LayoutFault::MixedWidths),
+        _ => Err(LayoutFault::UnexpectedType),
     }
 }
 
@@ -530,13 +487,7 @@ fn leaf_under(summary: &Summary, levels: u8) -> Answer
     requires { levels ≤ 3 }
     ensures { (t : Tree) → ShowsIn false summary.now t → TellsBoth result (Under Leaf levels t) (LevelsFault CoordinateFault None levels t) }
 {
-    if summary.levels < levels {
-        return Err(missing_level(&summary.bottom));
-    }
-    if levels < summary.levels {
-        return Err(LayoutFault::UnexpectedType);
-    }
-    leaf(&summary.bottom)
+    leaf(bottom_below(summary, levels)?)
 }
 
 /// The coordinate type of a union, from what was seen of its members.
@@ -559,17 +510,22 @@ fn one_of_union(
     }
 }
 
-/// The coordinate type and dimension of a union, from what was seen of its members.
-fn both_of_union(
-    no_members: bool,
-    fault: Option<LayoutFault>,
-    coord_types: u8,
-    dimensions: u8,
-) -> Answer
-    ensures { UnionSays no_members fault coord_types dimensions result }
+/// The coordinate type and dimension of a union in a collection, from what was seen of its members.
+fn mixed_bottom(bottom: &Bottom) -> Answer
+    ensures { MixedSays bottom.now result }
 {
-    let coord_type = one_of_union(no_members, fault, coord_types)?;
-    match only_dimension(dimensions) {
+    let Bottom::Union {
+        no_members,
+        coord_types,
+        dimensions,
+        mixed_fault,
+        ..
+    } = bottom
+    else {
+        return Err(LayoutFault::UnexpectedType);
+    };
+    let coord_type = one_of_union(*no_members, *mixed_fault, *coord_types)?;
+    match only_dimension(*dimensions) {
         Some(dimension) => Ok((coord_type, dimension)),
         None => Err(LayoutFault::SeveralDimensions),
     }
@@ -579,22 +535,7 @@ fn both_of_union(
 fn collection(summary: &Summary) -> Answer
     ensures { (t : Tree) → ShowsIn true summary.now t → TellsBoth result (Collection t) (LevelsFault MixedFault None 1 t) }
 {
-    if summary.levels < 1 {
-        return Err(missing_level(&summary.bottom));
-    }
-    if 1 < summary.levels {
-        return Err(LayoutFault::UnexpectedType);
-    }
-    match summary.bottom {
-        Bottom::Union {
-            no_members,
-            coord_types,
-            dimensions,
-            mixed_fault,
-            ..
-        } => both_of_union(no_members, mixed_fault, coord_types, dimensions),
-        _ => Err(LayoutFault::UnexpectedType),
-    }
+    mixed_bottom(bottom_below(summary, 1)?)
 }
 
 /// A native kind; a collection only where collections are allowed.
@@ -636,46 +577,30 @@ pub(crate) fn member(collections: bool, id: i8, summary: &Summary) -> Answer
 }
 
 /// A union of members of one coordinate type and dimension.
-#[tactic(auto, using(crate::proofs::UnionSteps::root_mixed, crate::proofs::UnionSteps::at_root))]
-pub(crate) fn mixed(summary: &Summary) -> Answer
-    ensures { (t : Tree) → Summarizes summary.now t → TellsBoth result (Mixed t) (MixedFault t) }
+fn mixed(data_type: &DataType) -> Answer
+    ensures { TellsBoth result (Mixed (tree data_type.now)) (MixedFault (tree data_type.now)) }
 {
-    if 0 < summary.levels {
-        return Err(LayoutFault::UnexpectedType);
-    }
-    match summary.bottom {
-        Bottom::Union {
-            no_members,
-            coord_types,
-            dimensions,
-            mixed_fault,
-            ..
-        } => both_of_union(no_members, mixed_fault, coord_types, dimensions),
-        _ => Err(LayoutFault::UnexpectedType),
-    }
+    let summary = summarize(data_type);
+    mixed_bottom(bottom_below(&summary, 0)?)
 }
 
 /// A union of members of one coordinate type.
-#[tactic(auto, using(crate::proofs::UnionSteps::root_geometry, crate::proofs::UnionSteps::at_root))]
-pub(crate) fn geometry(summary: &Summary) -> Result<CoordType, LayoutFault>
+fn geometry(summary: &Summary) -> Result<CoordType, LayoutFault>
     ensures { (t : Tree) → Summarizes summary.now t → Tells result (Geometry t) (GeometryFault t) }
 {
-    if 0 < summary.levels {
-        return Err(LayoutFault::UnexpectedType);
-    }
-    match summary.bottom {
+    match bottom_below(summary, 0)? {
         Bottom::Union {
             no_members,
             coord_types,
             geometry_fault,
             ..
-        } => one_of_union(no_members, geometry_fault, coord_types),
+        } => one_of_union(*no_members, *geometry_fault, *coord_types),
         _ => Err(LayoutFault::UnexpectedType),
     }
 }
 
 /// Whether both numbers are in the set.
-pub(crate) fn has_both(bits: u16, i: u8, j: u8) -> bool
+fn has_both(bits: u16, i: u8, j: u8) -> bool
     requires i_in { i < 16 }
     requires j_in { j < 16 }
     ensures { result ≡ (has_bit bits i && has_bit bits j) }
@@ -705,19 +630,11 @@ fn box_dimension(count: usize, names: u16) -> Result<Dimension, LayoutFault>
 }
 
 /// A box.
-#[tactic(auto, using(crate::proofs::Structs::root_box, crate::proofs::UnionSteps::at_root))]
-pub(crate) fn boxed(summary: &Summary) -> Result<Dimension, LayoutFault>
+fn boxed(summary: &Summary) -> Result<Dimension, LayoutFault>
     ensures { (t : Tree) → Summarizes summary.now t → Tells result (BoxShape t) (BoxFault t) }
 {
-    if 0 < summary.levels {
-        return Err(LayoutFault::UnexpectedType);
-    }
-    match summary.bottom {
-        Bottom::Struct {
-            count,
-            names,
-            all_float64: _,
-        } => box_dimension(count, names),
+    match bottom_below(summary, 0)? {
+        Bottom::Struct { count, names, .. } => box_dimension(*count, *names),
         _ => Err(LayoutFault::UnexpectedType),
     }
 }

@@ -4,7 +4,7 @@ ghost use Rattle.arrow_values.specs.View.{tree, field_trees, member_trees};
 ghost use Rattle.arrow_values.specs.Tree.{Tree, plain, float64};
 ghost use Rattle.geoarrow_layout.specs.Kinds.{interleaved_name, order_of};
 ghost use Rattle.geoarrow_layout.specs.Shapes.{ListsOver, Member, GeometryMember};
-ghost use Rattle.geoarrow_layout.specs.Summary.{place_in, known_names, IsStruct, IsBottom, AreLevels, place_of, IsInnerUnion, IsRootUnion, Summarizes, IsNoLeaf, Ended, IsWidth, ShowsIn, AddsBits, ReadAt, first_fault, TellsBoth, AddsBit, has_bit};
+ghost use Rattle.geoarrow_layout.specs.Summary.{place_in, known_names, IsStruct, IsBottom, AreLevels, place_of, IsInnerUnion, IsRootUnion, Summarizes, IsNoLeaf, Ended, IsWidth, ShowsIn, AddsBits, ReadAt, first_fault, TellsBoth, has_bit};
 ghost use Rattle.geoarrow_layout.specs.Inferred.{is_float64};
 ghost use Rattle.geoarrow_layout.specs.FaultAt.{MemberFault, GeometryMemberFault};
 
@@ -133,10 +133,7 @@ pub(crate) fn is_float64(data_type: &DataType) -> bool
     ensures value { result ≡ is_float64 (tree data_type.now) }
     ensures same { IsTrue result ↔ (tree data_type.now ≡ plain float64) }
 {
-    match data_type {
-        DataType::Float64 => true,
-        _ => false,
-    }
+    matches!(data_type, DataType::Float64)
 }
 
 /// A struct of these fields.
@@ -146,7 +143,7 @@ pub(crate) fn struct_bottom(fields: &[Field]) -> Bottom
     let mut names = 0;
     let mut all_float64 = true;
     for field in fields {
-        names = with_bit_u16(names, name_place(field.name()));
+        names |= 1 << name_place(field.name());
         all_float64 &= is_float64(field.data_type());
     }
     Bottom::Struct {
@@ -252,7 +249,7 @@ fn with_id(ids: u64, id: i8) -> u64
     if 63 < id {
         return ids;
     }
-    with_bit_u64(ids, id as u8)
+    ids | 1 << id as u8
 }
 
 /// The first fault.
@@ -288,8 +285,8 @@ fn with_member(seen: Members, id: i8, part: &Answer) -> Members
     match part {
         Ok(pair) => Members {
             ids,
-            coord_types: with_bit_u8(seen.coord_types, place_of(pair.0)),
-            dimensions: with_bit_u8(seen.dimensions, pair.1.order()),
+            coord_types: seen.coord_types | 1 << place_of(pair.0),
+            dimensions: seen.dimensions | 1 << pair.1.order(),
             fault,
         },
         Err(_) => Members { ids, fault, ..seen },
@@ -328,30 +325,19 @@ fn inner_union(members: &[(i8, Field)]) -> Bottom
     }
 }
 
-/// The summary of a member: a union below a list is entered.
-pub(crate) fn nested_summary(data_type: &DataType) -> Summary
-    ensures { ShowsIn true result (tree data_type.now) }
+/// The summary of a member: a union below a list is entered only where collections are allowed.
+pub(crate) fn member_summary(collections: bool, data_type: &DataType) -> Summary
+    ensures { ShowsIn collections result (tree data_type.now) }
 {
     let below = below_lists(data_type);
     let bottom = match below.rest {
-        DataType::Union(members, _) => inner_union(members.as_slice()),
+        DataType::Union(members, _) if collections => inner_union(members.as_slice()),
         _ => leaf_bottom(&below),
     };
     Summary {
         levels: below.levels,
         width: below.width,
         bottom,
-    }
-}
-
-/// The summary of a member: a union below a list is entered only where collections are allowed.
-pub(crate) fn member_summary(collections: bool, data_type: &DataType) -> Summary
-    ensures { ShowsIn collections result (tree data_type.now) }
-{
-    if collections {
-        nested_summary(data_type)
-    } else {
-        leaf_summary(data_type)
     }
 }
 
@@ -375,7 +361,7 @@ fn root_union(members: &[(i8, Field)]) -> Bottom
     let mut seen = Members::default();
     let mut mixed_fault = None;
     for item in members {
-        let below = nested_summary(item.1.data_type());
+        let below = member_summary(true, item.1.data_type());
         let part = member(true, item.0, &below);
         seen = with_member(seen, item.0, &part);
         mixed_fault = first_fault(mixed_fault, &in_collection(item.0, part));
@@ -411,33 +397,6 @@ pub fn summarize(data_type: &DataType) -> Summary
         width: below.width,
         bottom,
     }
-}
-
-/// The set with one number more.
-#[tactic(auto, using(crate::proofs::FieldSteps::adds_bit_8))]
-pub(crate) fn with_bit_u8(bits: u8, i: u8) -> u8
-    requires { i < 8 }
-    ensures { AddsBit bits i result }
-{
-    bits | 1 << i
-}
-
-/// The set with one number more.
-#[tactic(auto, using(crate::proofs::FieldSteps::adds_bit_16))]
-pub(crate) fn with_bit_u16(bits: u16, i: u8) -> u16
-    requires { i < 16 }
-    ensures { AddsBit bits i result }
-{
-    bits | 1 << i
-}
-
-/// The set with one number more.
-#[tactic(auto, using(crate::proofs::FieldSteps::adds_bit_64))]
-pub(crate) fn with_bit_u64(bits: u64, i: u8) -> u64
-    requires { i < 64 }
-    ensures { AddsBit bits i result }
-{
-    bits | 1 << i
 }
 
 /// Whether the number is in the set.

@@ -1,5 +1,5 @@
 //! The data types that are written, and the kind that a data type was written for.
-ghost use Rattle.std.specs.Prelude.{◌≡◌, ◌++◌, [], false, pos, map, IfOk, IsOk, OnOk, ◌↔◌, IsTrue, Some, Contains, codes};
+ghost use Rattle.std.specs.Prelude.{◌≡◌, ◌++◌, [], false, pos, map, IfOk, IsOk, OnOk, ◌↔◌, IsTrue, Some, codes};
 ghost use Rattle.arrow_values.specs.Name.{fixed_text};
 ghost use Rattle.arrow_values.specs.Tree.{list, struct};
 ghost use Rattle.arrow_values.specs.View.{tree, field_trees};
@@ -11,7 +11,6 @@ use crate::encodings::{Kind, NativeKind, Width, list_names, member_name, type_id
 use crate::kinds::{
     CoordType, DIMENSIONS, Dimension, box_names, coordinate_names, interleaved_name, list_size,
 };
-use crate::read::{bytes_width, text_width};
 use crate::summary::is_float64;
 use arrow_values::{DataType, Field, Fields, FixedName, UnionFields, UnionMode};
 use std::alloc::{AllocError, Global};
@@ -239,19 +238,10 @@ fn push_dimension(
 pub fn written_kind(data_type: &DataType) -> Option<Kind>
     ensures { (k : Kind) → (result ≡ Some k) ↔ (tree data_type.now ≡ layout k) }
 {
-    first_written(data_type, &Kind::ALL)
-}
-
-/// The first of the kinds whose written data type this is.
-fn first_written(data_type: &DataType, kinds: &[Kind]) -> Option<Kind>
-    ensures { (k : Kind) → Contains kinds.now k → (result ≡ Some k) ↔ (tree data_type.now ≡ layout k) }
-{
-    for kind in kinds {
-        if is_layout(data_type, kind) {
-            return Some(*kind);
-        }
-    }
-    None
+    Kind::ALL
+        .iter()
+        .find(|kind| is_layout(data_type, kind))
+        .copied()
 }
 
 /// Whether the data type is the one that is written for the kind.
@@ -259,28 +249,16 @@ fn is_layout(data_type: &DataType, kind: &Kind) -> bool
     ensures { IsTrue result ↔ (tree data_type.now ≡ layout kind.now) }
 {
     match kind {
+        Kind::Native(NativeKind::GeometryCollection, coord_type, dimension) => {
+            is_collection(data_type, *coord_type, *dimension)
+        }
         Kind::Native(kind, coord_type, dimension) => {
-            is_native(data_type, *kind, *coord_type, *dimension)
+            is_over_leaf(data_type, list_names(*kind), *coord_type, *dimension)
         }
         Kind::Geometry(coord_type) => is_geometry(data_type, *coord_type),
         Kind::Rect(dimension) => is_struct(data_type, box_names(*dimension)),
-        Kind::Wkb(width) => bytes_width(data_type) == Some(*width),
-        Kind::Wkt(width) => text_width(data_type) == Some(*width),
-    }
-}
-
-/// Whether the data type is the one that is written for the native kind.
-fn is_native(
-    data_type: &DataType,
-    kind: NativeKind,
-    coord_type: CoordType,
-    dimension: Dimension,
-) -> bool
-    ensures { IsTrue result ↔ (tree data_type.now ≡ layout (Kind.Native kind coord_type dimension)) }
-{
-    match kind {
-        NativeKind::GeometryCollection => is_collection(data_type, coord_type, dimension),
-        _ => is_over_leaf(data_type, list_names(kind), coord_type, dimension),
+        Kind::Wkb(width) => *data_type == wkb_data_type(*width),
+        Kind::Wkt(width) => *data_type == wkt_data_type(*width),
     }
 }
 

@@ -1,5 +1,6 @@
 use Rattle.geoarrow_layout.proofs.Terms.{◌≡◌, ◌↔◌, inl, inr, ℕ, zero, suc, ◌<◌, ◌+◌, ◌*◌, ◌∙◌, ℤ, List, [], ◌∷◌, length, get_or, drop, drop_more, sym, ap, subst, true≢false, arith, FieldTree, Tree, MemberTrees, no_members, member, depth, members_size, member_trees, AllMembers, SomeMember, Alike, EachHasAlike, HasAlike}
 use Rattle.geoarrow_layout.proofs.MemberLists.{all_some}
+use Rattle.geoarrow_layout.proofs.AlikeLaws.{has_among}
 use Rattle.geoarrow_layout.proofs.likeness.+same.Goals as goal
 
 -- a member lies less deep than its union
@@ -40,22 +41,32 @@ only_alike (member i n t b m ms) ns j u each only =
 
 pub is_met-returns-then-is_only : goal.is_met-returns-then-is_only
 is_met-returns-then-is_only t c =
-    let by = only_alike _ _ _ _ c.requires (c.is_only.ensures c.if-is_only.true) in
+    let by = only_alike _ _ _ _ c.requires (c.is_only.ensures.0 c.if-is_only.true) in
     (λ h. by.0 (c.has_id.ensures.0 h), λ h. c.has_id.ensures.1 (by.1 h))
 
 pub same-returns-then-each_has_same : goal.same-returns-then-each_has_same
 same-returns-then-each_has_same t c =
     rw (c.in-Union-Union.is-0, c.in-Union-Union.is-1) (λ h. (c.each_has_same.ensures.0 c.if-each_has_same.true, c.all_are_met.ensures.0 h), λ h. c.all_are_met.ensures.1 h.1)
 
+pub is_met-returns-else-is_only : goal.is_met-returns-else-is_only
+is_met-returns-else-is_only t c = let by = has_among _ _ _ in (λ h. by.1 (c.any_same.ensures.0 h), λ h. c.any_same.ensures.1 (by.0 h))
+
 pub each_has_same-any_same-requires : goal.each_has_same-any_same-requires
 each_has_same-any_same-requires t c =
     let h = element_depth _ _ _ _ c.as_slice-member-items.ensures c.loop-member-test.true c.member-item.is in
-    let d : 3 * members_size c.args.members.now ≡ t = c.decreases in
+    let d : 2 * (members_size c.args.members.now + members_size c.args.others.now) ≡ t = c.decreases in
     (omega (arith, h, d), tt)
 
-pub has_same-same-requires : goal.has_same-same-requires
-has_same-same-requires t c =
+pub any_same-same-requires : goal.any_same-same-requires
+any_same-same-requires t c =
     let h = element_depth _ _ _ _ c.as_slice-id-items.ensures c.loop-id-test.true c.loop-id-item.is in
     let e = ap depth c.data_type.ensures in
-    let d : 3 * members_size c.args.members.now ≡ t = c.decreases in
-    (omega (arith, h, e, d), tt)
+    let f = ap depth c.data_type-then-member-id.ensures in
+    let d : 2 * (depth c.args.member.now.1.tree + members_size c.args.others.now) ≡ t = c.decreases in
+    (omega (arith, h, e, f, d), tt)
+
+pub all_are_met-is_met-requires : goal.all_are_met-is_met-requires
+all_are_met-is_met-requires t c =
+    let h = element_depth _ _ _ _ c.as_slice-other-items.ensures c.loop-other-test.true c.other-item.is in
+    let d : 2 * (members_size c.args.members.now + members_size c.args.others.now) ≡ t = c.decreases in
+    (omega (arith, h, d), c.requires)

@@ -11,24 +11,18 @@ invariant-any_same-loop-id l =
 abbrev pub invariant-each_has_same-loop-member : goal.invariant-each_has_same-loop-member
 invariant-each_has_same-loop-member l = EachHasAlike (member_trees (drop l.member-index l.member-items)) (member_trees l.others) ↔ EachHasAlike (member_trees l.members) (member_trees l.others)
 
-abbrev pub invariant-has_same-loop-id : goal.invariant-has_same-loop-id
-invariant-has_same-loop-id l = HasAlike (member_trees (drop l.id-index l.id-items)) l.other.0 l.other.1.tree ↔ HasAlike (member_trees l.members) l.other.0 l.other.1.tree
-
--- a call goes down the first tree, and a function that calls another on the same one stands above it
+-- a call goes down one of the two trees, and a function that calls another on the same ones stands above it
 abbrev pub decreases-same : goal.decreases-same
-decreases-same l = 3 * depth (tree l.a.now)
+decreases-same l = 2 * (depth (tree l.a.now) + depth (tree l.b.now))
 
 abbrev pub decreases-each_has_same : goal.decreases-each_has_same
-decreases-each_has_same l = 3 * members_size l.members.now
+decreases-each_has_same l = 2 * (members_size l.members.now + members_size l.others.now)
 
 abbrev pub decreases-any_same : goal.decreases-any_same
-decreases-any_same l = 3 * depth l.member.now.1.tree + 1
+decreases-any_same l = 2 * (depth l.member.now.1.tree + members_size l.others.now)
 
 abbrev pub decreases-all_are_met : goal.decreases-all_are_met
-decreases-all_are_met l = 3 * members_size l.members.now + 2
+decreases-all_are_met l = 2 * (members_size l.members.now + members_size l.others.now)
 
 abbrev pub decreases-is_met : goal.decreases-is_met
-decreases-is_met l = 3 * members_size l.members.now + 1
-
-abbrev pub decreases-has_same : goal.decreases-has_same
-decreases-has_same l = 3 * members_size l.members.now
+decreases-is_met l = 2 * (depth l.other.now.1.tree + members_size l.members.now) + 1

@@ -1,6 +1,11 @@
-use Rattle.geoarrow_layout.proofs.Terms.{◌∙◌}
+use borrow.Author.Tests.{tests}
+use Rattle.std.proofs.lemmas.Iterator.{YieldsList-from_slice}
+use Rattle.std.proofs.lemmas.Iterator.Search.{any_from_yields_List}
+use Rattle.geoarrow_layout.proofs.Terms.{◌∙◌, rules, bytes_eq}
 use Rattle.geoarrow_layout.proofs.FieldSteps.{has_name_fields}
 use Rattle.geoarrow_layout.proofs.likeness.has_name.Goals as goal
 
 pub returns : goal.returns
-returns c = c.any_named.ensures ∙ has_name_fields c.args.name.now c.args.fields.now
+returns c =
+    any_from_yields_List (λ f. bytes_eq f.name c.args.name.now) _ _ _ c.any.ensures.ran (YieldsList-from_slice c.args.fields.now cc) (λ x b q k. search (rules, tests))
+    ∙ has_name_fields c.args.name.now c.args.fields.now

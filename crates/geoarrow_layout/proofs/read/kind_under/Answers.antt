@@ -1,11 +1,12 @@
 use Rattle.geoarrow_layout.proofs.UnionSteps.{inner_of}
+use Rattle.geoarrow_layout.proofs.Readings.{refused_as}
 use Rattle.geoarrow_layout.proofs.read.kind_under.Goals as goal
 
-pub returns-in-Err-clause-told : goal.returns-in-Err-clause-told
-returns-in-Err-clause-told c = rw c.in-Native.is (λ t h. c.in-Err.ensures t (inner_of c.args.summary.now t h))
+pub returns-in_err-pair-in-Native-clause-told : goal.returns-in_err-pair-in-Native-clause-told
+returns-in_err-pair-in-Native-clause-told c = rw c.in-Native.is (λ t h. refused_as _ _ _ _ c.from_residual.ensures.1 (c.in_err-pair-in-Native.ensures t (inner_of c.args.summary.now t h)))
 
-pub returns-in-Err-geometry-clause-told : goal.returns-in-Err-geometry-clause-told
-returns-in-Err-geometry-clause-told c = rw c.in-Geometry.is c.in-Err-geometry.ensures
+pub returns-in_err-geometry-in-Geometry-clause-told : goal.returns-in_err-geometry-in-Geometry-clause-told
+returns-in_err-geometry-in-Geometry-clause-told c = rw c.in-Geometry.is (λ t h. refused_as _ _ _ _ c.from_residual-in_err-geometry-in-Geometry.ensures.1 (c.in_err-geometry-in-Geometry.ensures t h))
 
-pub returns-in-Err-boxed-clause-told : goal.returns-in-Err-boxed-clause-told
-returns-in-Err-boxed-clause-told c = rw c.in-Rect.is c.in-Err-boxed.ensures
+pub returns-in_err-boxed-in-Rect-clause-told : goal.returns-in_err-boxed-in-Rect-clause-told
+returns-in_err-boxed-in-Rect-clause-told c = rw c.in-Rect.is (λ t h. refused_as _ _ _ _ c.from_residual-in_err-boxed-in-Rect.ensures.1 (c.in_err-boxed-in-Rect.ensures t h))

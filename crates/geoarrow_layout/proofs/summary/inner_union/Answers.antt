@@ -1,4 +1,4 @@
-use Rattle.geoarrow_layout.proofs.Terms.{ShowsIn, false, ◌≡◌, refl, subst, rules, w8, to_z, of_z, ℤ, pos, ◌<◌, to_z-of_z, take_all, Member, MemberFault, member_first, TellsBoth, AddsBits}
+use Rattle.geoarrow_layout.proofs.Terms.{ShowsIn, false, refl, subst, rules, to_z-of_z, take_all, Member, MemberFault, member_first}
 use Rattle.geoarrow_layout.proofs.FaultLaws.{member_apart}
 use Rattle.geoarrow_layout.proofs.UnionSteps.{seen_more, seen_none, has_members}
 use Rattle.geoarrow_layout.proofs.summary.inner_union.Goals as goal
@@ -8,11 +8,9 @@ loop-item-init c = seen_none Member MemberFault _ _ _ _ (search rules) (search r
 
 pub loop-item-preserved : goal.loop-item-preserved
 loop-item-preserved c =
-    let id_is : to_z w8 (of_z w8 c.item-item.result.0) ≡ c.item-item.result.0 = search (rules, to_z-of_z) in
     let below = subst (λ t. ShowsIn false c.leaf_summary-below.result t) c.data_type.ensures c.leaf_summary-below.ensures in
-    seen_more Member MemberFault member_first member_apart _ _ _ _ _ _ _ _ c.member-part.result _ c.loop-item.item-index c.item-item.result c.loop-item-test.true c.item-item.is
-    (subst (λ i. TellsBoth c.member-part.result (Member i c.item-item.result.1.tree) (MemberFault i c.item-item.result.1.tree)) id_is (c.member-part.ensures c.item-item.result.1.tree below))
-    (subst (λ (id : ℤ). AddsBits c.loop-item.seen.ids (λ i. (i < 64) × (id ≡ pos i)) c.with_member-seen.result.ids) id_is c.with_member-seen.ensures.ids)
+    seen_more Member MemberFault member_first member_apart _ _ _ _ _ _ _ _ c.member-part.result _ c.loop-item.item-index c.item-item.result _ c.loop-item-test.true c.item-item.is
+    (search (rules, to_z-of_z)) (c.member-part.ensures c.item-item.result.1.tree below) c.with_member-seen.ensures.ids
     c.with_member-seen.ensures.coord_types c.with_member-seen.ensures.dimensions c.with_member-seen.ensures.fault c.loop-item.invariant
 
 pub returns : goal.returns

@@ -1,4 +1,4 @@
-use Rattle.geoarrow_layout.proofs.Terms.{ShowsIn, true, ◌≡◌, subst, rules, w8, to_z, of_z, ℤ, pos, ◌<◌, to_z-of_z, take_all, Member, GeometryMember, MemberFault, GeometryMemberFault, geometry_member_first, TellsBoth, AddsBits}
+use Rattle.geoarrow_layout.proofs.Terms.{ShowsIn, true, subst, rules, to_z-of_z, take_all, Member, GeometryMember, MemberFault, GeometryMemberFault, geometry_member_first}
 use Rattle.geoarrow_layout.proofs.FaultLaws.{geometry_member_apart}
 use Rattle.geoarrow_layout.proofs.UnionSteps.{seen_more, seen_none, has_members, fault_next}
 use Rattle.geoarrow_layout.proofs.summary.root_union.Goals as goal
@@ -8,16 +8,14 @@ loop-item-init c = record { seen = seen_none GeometryMember GeometryMemberFault 
 
 pub loop-item-preserved : goal.loop-item-preserved
 loop-item-preserved c =
-    let id_is : to_z w8 (of_z w8 c.item-item.result.0) ≡ c.item-item.result.0 = search (rules, to_z-of_z) in
-    let below = subst (λ t. ShowsIn true c.nested_summary-below.result t) c.data_type.ensures c.nested_summary-below.ensures in
+    let below = subst (λ t. ShowsIn true c.member_summary-below.result t) c.data_type.ensures c.member_summary-below.ensures in
+    let told = c.member-part.ensures c.item-item.result.1.tree below in
     record {
-      seen = seen_more GeometryMember GeometryMemberFault geometry_member_first geometry_member_apart _ _ _ _ _ _ _ _ c.member-part.result _ c.loop-item.item-index c.item-item.result c.loop-item-test.true c.item-item.is
-          (subst (λ i. TellsBoth c.member-part.result (GeometryMember i c.item-item.result.1.tree) (GeometryMemberFault i c.item-item.result.1.tree)) id_is (c.member-part.ensures c.item-item.result.1.tree below))
-          (subst (λ (id : ℤ). AddsBits c.loop-item.seen.ids (λ i. (i < 64) × (id ≡ pos i)) c.with_member-seen.result.ids) id_is c.with_member-seen.ensures.ids)
+      seen = seen_more GeometryMember GeometryMemberFault geometry_member_first geometry_member_apart _ _ _ _ _ _ _ _ c.member-part.result _ c.loop-item.item-index c.item-item.result _
+          c.loop-item-test.true c.item-item.is (search (rules, to_z-of_z)) told c.with_member-seen.ensures.ids
           c.with_member-seen.ensures.coord_types c.with_member-seen.ensures.dimensions c.with_member-seen.ensures.fault c.loop-item.invariant.seen;
-      mixed = fault_next Member MemberFault _ _ _ _ c.loop-item.item-index c.item-item.result c.loop-item-test.true c.item-item.is
-          (subst (λ i. TellsBoth c.in_collection.result (Member i c.item-item.result.1.tree) (MemberFault i c.item-item.result.1.tree)) id_is (c.in_collection.ensures c.item-item.result.1.tree (c.member-part.ensures c.item-item.result.1.tree below)))
-          c.first_fault-mixed_fault.ensures c.loop-item.invariant.mixed;
+      mixed = fault_next Member MemberFault _ _ _ _ c.loop-item.item-index c.item-item.result _ c.loop-item-test.true c.item-item.is (search (rules, to_z-of_z))
+          (c.in_collection.ensures c.item-item.result.1.tree told) c.first_fault-mixed_fault.ensures c.loop-item.invariant.mixed;
     }
 
 pub returns : goal.returns
