@@ -35,10 +35,8 @@ impl ColumnType<Geometry> {
         ensures metadata { result.metadata ≡ metadata }
     {
         let coord_type = CoordType::Separated;
-        ColumnType {
-            encoding: Geometry { coord_type },
-            metadata,
-        }
+        let encoding = Geometry { coord_type };
+        ColumnType { encoding, metadata }
     }
 
     /// `new` of the default metadata. Errs only when out of memory.
@@ -54,10 +52,8 @@ impl ColumnType<Geometry> {
         ensures coord_type { result.encoding.coord_type ≡ coord_type }
         ensures metadata { result.metadata ≡ self.metadata }
     {
-        ColumnType {
-            encoding: Geometry { coord_type },
-            ..self
-        }
+        let encoding = Geometry { coord_type };
+        ColumnType { encoding, ..self }
     }
 
     /// How the coordinates are stored.
@@ -78,10 +74,10 @@ impl fmt::Debug for ColumnType<Geometry> {
 }
 
 impl ColumnEncoding for Geometry {
-    ghost use Rattle.std.proofs.Common.{refl, sym, subst};
     ghost use Rattle.geoarrow_layout.specs.declared.names.ExtensionName.TheVariants as names;
     ghost use Rattle.geoarrow_layout.specs.Shapes as shapes;
     ghost use Rattle.geoarrow_layout.specs.OneShape.{geometry_same};
+    ghost use Rattle.geoarrow_native.specs.Agree.{same_geometry};
 
     const NAME: &'static str = "geoarrow.geometry";
 
@@ -89,13 +85,7 @@ impl ColumnEncoding for Geometry {
 
     ghost Accepts = { λ t e. shapes.Geometry t e.coord_type };
 
-    ghost Agrees = { λ a b. a.coord_type ≡ b.coord_type };
-
-    ghost accepts_one = { λ t a b h k. geometry_same t a.coord_type b.coord_type h k };
-
-    ghost accepts_by_shape = { λ t a e h k. subst (λ c. shapes.Geometry t c) (sym k) h };
-
-    ghost agrees_with_itself = { λ e. refl };
+    ghost accepts_one = { λ t a b h k. same_geometry a b (geometry_same t a.coord_type b.coord_type h k) };
 
     fn encoding_name() -> &'static str {
         Self::NAME

@@ -81,11 +81,8 @@ impl<S: NativeShape> ColumnType<Native<S>> {
     pub fn into_inner(self) -> (CoordType, Dimension, Arc<Metadata>)
         ensures { result ≡ (self.encoding.coord_type, self.encoding.dimension, self.metadata) }
     {
-        (
-            self.encoding.coord_type,
-            self.encoding.dimension,
-            self.metadata,
-        )
+        let encoding = self.encoding;
+        (encoding.coord_type, encoding.dimension, self.metadata)
     }
 }
 
@@ -100,10 +97,10 @@ impl<S: NativeShape> fmt::Debug for ColumnType<Native<S>> {
 }
 
 impl<S: NativeShape> ColumnEncoding for Native<S> {
-    ghost use Rattle.std.proofs.Common.{refl, sym, subst};
     ghost use Rattle.geoarrow_layout.specs.declared.names.ExtensionName.TheVariants as names;
     ghost use Rattle.geoarrow_layout.specs.Shapes.{Native as IsOfKind};
     ghost use Rattle.geoarrow_layout.specs.OneShape.{any_native_same};
+    ghost use Rattle.geoarrow_native.specs.Agree.{same_native};
 
     const NAME: &'static str = S::NAME;
 
@@ -111,14 +108,8 @@ impl<S: NativeShape> ColumnEncoding for Native<S> {
 
     ghost Accepts = { λ t e. IsOfKind t S.KIND e.coord_type e.dimension };
 
-    ghost Agrees = { λ a b. (a.coord_type ≡ b.coord_type) × (a.dimension ≡ b.dimension) };
-
-    ghost accepts_one = { λ t a b h k. any_native_same S.KIND t a.coord_type b.coord_type a.dimension b.dimension h k };
-
-    ghost accepts_by_shape = { λ t a e h k. subst (λ c. IsOfKind t S.KIND c e.dimension) (sym k.0)
-        (subst (λ d. IsOfKind t S.KIND a.coord_type d) (sym k.1) h) };
-
-    ghost agrees_with_itself = { λ e. (refl, refl) };
+    ghost accepts_one = { λ t a b h k. same_native a b
+        (any_native_same S.KIND t a.coord_type b.coord_type a.dimension b.dimension h k) };
 
     fn encoding_name() -> &'static str {
         S::shape_name()
