@@ -22,4 +22,4 @@ same_geometry a b e = ap {B = Geometry} (λ c. record { coord_type = c }) e
 pub same_native : {S : Type 0} (a b : Native S) → (a.coord_type ≡ b.coord_type) × (a.dimension ≡ b.dimension) → a ≡ b
 same_native {S} a b e =
     ap {B = Native S} (λ c. record { coord_type = c; dimension = a.dimension; shape = a.shape }) e.0
-        ∙ ap {B = Native S} (λ d. record { coord_type = b.coord_type; dimension = d; shape = a.shape }) e.1
+    ∙ ap {B = Native S} (λ d. record { coord_type = b.coord_type; dimension = d; shape = a.shape }) e.1

@@ -99,10 +99,7 @@ impl ColumnEncoding for Rect {
     }
 
     fn difference(&self, other: &Rect) -> Option<&'static str> {
-        if self.dimension != other.dimension {
-            return Some("unexpected dimension");
-        }
-        None
+        (self.dimension != other.dimension).then_some("unexpected dimension")
     }
 }
 

@@ -99,10 +99,7 @@ impl ColumnEncoding for Geometry {
     }
 
     fn difference(&self, other: &Geometry) -> Option<&'static str> {
-        if self.coord_type != other.coord_type {
-            return Some("unexpected coordinate type");
-        }
-        None
+        (self.coord_type != other.coord_type).then_some("unexpected coordinate type")
     }
 }
 

@@ -130,10 +130,7 @@ impl<S: NativeShape> ColumnEncoding for Native<S> {
         if self.coord_type != other.coord_type {
             return Some("unexpected coordinate type");
         }
-        if self.dimension != other.dimension {
-            return Some("unexpected dimension");
-        }
-        None
+        (self.dimension != other.dimension).then_some("unexpected dimension")
     }
 }
 
