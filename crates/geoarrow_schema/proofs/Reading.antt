@@ -1,7 +1,7 @@
 -- A field's name, tree and metadata text, and what it reads as.
 use Rattle.geoarrow_schema.proofs.Terms.{◌≡◌, ◌⊎◌, ◌∙◌, inl, inr, ap, sym, subst, same_Some, arc_value, Text, Tree, FieldTree, extension_metadata, IsMemory, IsGeoMemory, IsInvalidOf, ArrowError}
 use Rattle.geoarrow_schema.proofs.Terms.{GeoArrowError, Arrow, InvalidGeoArrow, Width, Kind, name_text, extension_of, name_of, Accepts, Accepted, IsBytes, IsText, Metadata, DenotesMetadata}
-use Rattle.geoarrow_schema.proofs.Terms.{TextRefusedAs, Arc, Global, IsColumn, ReadsAs, GeoArrowType, kind_of, metadata_of, meta_of, HasName, HasGeoArrowName, Reads, ReadsAsNone, ReadsAlone}
+use Rattle.geoarrow_schema.proofs.Terms.{TextRefusedAs, Arc, Global, IsColumn, ReadsAs, GeoArrowType, kind_of, metadata_of, meta_of, HasName, HasGeoArrowName, Reads, ReadsAsNone}
 use Rattle.geoarrow_schema.proofs.Terms.{HasWrongStorage, ColumnRefusedAs, IsRefusedBy, IsTypeRefusal, InfersAs, ReadsOrInfersAlone}
 use Rattle.geoarrow_layout.specs.declared.names.ExtensionName.{ExtensionName}
 use Rattle.geoarrow_layout.specs.declared.names.ExtensionName.TheVariants.{Wkb, Wkt}

@@ -1,5 +1,5 @@
 -- The names that most proofs cite, passed on from one place. Declares nothing.
-pub use Rattle.std.proofs.Common.{◌≡◌, ◌⊎◌, ◌∙◌, inl, inr, ap, sym, subst, Option, Some, Result, Ok, Err, IfOk, IfErr, None, refl, option_map, true, false, codes, ◌<◌, ◌≤◌, ℕ, zero, suc, arith}
+pub use Rattle.std.proofs.Common.{◌≡◌, ◌⊎◌, ◌∙◌, inl, inr, ap, sym, subst, Option, Some, Result, Ok, Err, IfOk, IfErr, None, refl, true, false, codes, ◌<◌, ◌≤◌, ℕ, zero, suc, arith}
 pub use Rattle.std.proofs.lemmas.Option.{same_Some}
 pub use Rattle.std.specs.Arc.{arc_value}
 pub use Rattle.std.specs.declared.sync.Arc.{Arc}
@@ -13,7 +13,7 @@ pub use Rattle.arrow_values.specs.declared.error.GeoArrowError.TheVariants.{Arro
 pub use Rattle.geoarrow_layout.specs.declared.encodings.Width.{Width}
 pub use Rattle.geoarrow_layout.specs.declared.encodings.Kind.{Kind}
 pub use Rattle.geoarrow_layout.specs.Kinds.{name_text, extension_of, name_of}
-pub use Rattle.geoarrow_layout.specs.Shapes.{Accepts, Accepted, IsBytes, IsText, YieldsOne, ListsOver}
+pub use Rattle.geoarrow_layout.specs.Shapes.{Accepts, Accepted, IsBytes, IsText, YieldsOne}
 pub use Rattle.geoarrow_layout.specs.declared.kinds.CoordType.{CoordType}
 pub use Rattle.geoarrow_layout.specs.declared.kinds.Dimension.{Dimension}
 pub use Rattle.geoarrow_layout.specs.declared.encodings.NativeKind.TheVariants.{Point}

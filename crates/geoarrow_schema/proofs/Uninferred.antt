@@ -1,12 +1,12 @@
 -- Why nothing is inferred from a tree, by its summary.
-use Rattle.geoarrow_schema.proofs.Terms.{◌≡◌, inl, inr, ◌∙◌, ◌<◌, ◌≤◌, ℕ, zero, suc, refl, sym, ap, subst, arith, codes, Option, Some, None, Text, Tree, plain, list, large_list, fixed_size_list}
-use Rattle.geoarrow_schema.proofs.Terms.{struct, union, ListsOver, uninferred_text, bottom_text}
+use Rattle.geoarrow_schema.proofs.Terms.{◌≡◌, ◌∙◌, ◌<◌, ◌≤◌, ℕ, zero, suc, refl, sym, ap, arith, codes, Option, Some, None, Text, Tree, plain, list, large_list, fixed_size_list}
+use Rattle.geoarrow_schema.proofs.Terms.{struct, union, uninferred_text, bottom_text}
 use Rattle.geoarrow_layout.specs.declared.summary.ListWidth.{ListWidth}
 use Rattle.geoarrow_layout.specs.declared.summary.ListWidth.TheVariants.{List as Lists, LargeList as LargeLists}
 use Rattle.geoarrow_layout.specs.declared.summary.Bottom.{Bottom}
 use Rattle.geoarrow_layout.specs.declared.summary.Bottom.TheVariants.{FixedSizeList, Struct, Union}
 use Rattle.geoarrow_layout.specs.declared.summary.Summary.{Summary}
-use Rattle.geoarrow_layout.specs.Summary.{IsUnion, IsList, IsBottom, AreLevels, Summarizes}
+use Rattle.geoarrow_layout.specs.Summary.{IsUnion, IsBottom, AreLevels, Summarizes}
 
 abbrev other : Text
 other = codes "cannot infer: data type"

@@ -82,19 +82,10 @@ fn read_under(alloc: Global, field: &Field, text: &str) -> GeoArrowResult<Option
     ensures reading { IsReading field.now result }
     ensures only { IfOk result (λ found. IfSome found (ReadsAlone field.now)) }
 {
-    let Some(name) = name_under(field, text) else {
+    let Some(name) = ExtensionName::from_text(text) else {
         return Ok(None);
     };
     Ok(Some(read_named(alloc, field, name)?))
-}
-
-/// The GeoArrow name that the extension name of a field is.
-#[inline(always)]
-fn name_under(_field: &Field, text: &str) -> Option<ExtensionName>
-    requires { extension_name _field.now ≡ Some text.now }
-    ensures { (name : ExtensionName) → (result ≡ Some name) ↔ HasName _field.now name }
-{
-    ExtensionName::from_text(text)
 }
 
 /// The GeoArrow name that stands on a field.
@@ -133,7 +124,10 @@ fn read_kind(alloc: Global, field: &Field, kind: Kind) -> GeoArrowResult<GeoArro
     ensures only { IfOk result (ReadsOrInfersAlone field.now) }
     ensures refused { IfErr result (IsRefusedBy field.now) }
 {
-    let metadata = Arc::new(alloc, read_metadata_of_named(alloc, field)?)?;
+    let metadata = Arc::new(
+        alloc,
+        Metadata::deserialize(alloc, text_beside_name(field))?,
+    )?;
     reads_as_one_column(field);
     names_are_distinct();
     Ok(GeoArrowType::from_kind(kind, metadata))
@@ -181,16 +175,6 @@ fn structured_refusal(
         Ok(_) => fault.into_arrow_error(alloc),
         Err(error) => error,
     }
-}
-
-/// The metadata of a field with an extension name.
-#[inline(always)]
-fn read_metadata_of_named(alloc: Global, field: &Field) -> Result<Metadata, ArrowError>
-    requires { (name : Text) × (extension_name field.now ≡ Some name) }
-    ensures exact { IsTextReading (extension_metadata field.now) result }
-    ensures refusal { IfErr result (TextRefusedAs (extension_metadata field.now)) }
-{
-    Metadata::deserialize(alloc, text_beside_name(field))
 }
 
 /// The metadata text of a field with an extension name, which is not looked for where the name is the only text.
