@@ -9,10 +9,12 @@ ghost use Rattle.geoarrow_layout.specs.Inferred.{Inferred};
 ghost use Rattle.geoarrow_schema.specs.Reads.{HasGeoArrowName};
 ghost use Rattle.geoarrow_schema.specs.Infers.{InferredAs, ReadsOrInfersAlone, InfersNone, uninferred_text, bottom_text, UninferredAs, IsInference, YieldsInferred};
 
-use crate::read::{name_of, read_named};
+use crate::read::read_named;
 use crate::types::GeoArrowType;
 use arrow_values::{DataType, Field, GeoArrowError, GeoArrowResult};
-use geoarrow_layout::{Bottom, Kind, NativeKind, infer_point, parse_wkb, parse_wkt, summarize};
+use geoarrow_layout::{
+    Bottom, ExtensionName, Kind, NativeKind, infer_point, parse_wkb, parse_wkt, summarize,
+};
 use geoarrow_meta::Metadata;
 use std::alloc::Global;
 use std::sync::Arc;
@@ -40,9 +42,12 @@ impl GeoArrowType {
         ensures inference { IsInference field.now result }
         ensures only { IfOk result (ReadsOrInfersAlone field.now) }
     {
-        match name_of(field) {
-            Some(name) => read_named(alloc, field, name),
+        match field.extension_type_name() {
             None => infer(alloc, field),
+            Some(text) => match ExtensionName::from_text(text) {
+                Some(name) => read_named(alloc, field, name),
+                None => infer(alloc, field),
+            },
         }
     }
 }

@@ -14,7 +14,7 @@ ghost use Rattle.geoarrow_schema.specs.Reads.{HasName, Reads, ReadsAlone, Column
 ghost use Rattle.geoarrow_schema.specs.Infers.{ReadsOrInfersAlone};
 
 use crate::types::GeoArrowType;
-use arrow_values::{ArrowError, Field, GeoArrowError, GeoArrowResult};
+use arrow_values::{Field, GeoArrowError, GeoArrowResult};
 use geoarrow_layout::{ExtensionName, Kind, LayoutFault, names_are_distinct, parse_kind};
 use geoarrow_meta::Metadata;
 use geoarrow_native::laws::reads_as_one_column;
@@ -88,17 +88,6 @@ fn read_under(alloc: Global, field: &Field, text: &str) -> GeoArrowResult<Option
     Ok(Some(read_named(alloc, field, name)?))
 }
 
-/// The GeoArrow name that stands on a field.
-#[inline(always)]
-pub(crate) fn name_of(field: &Field) -> Option<ExtensionName>
-    ensures { (name : ExtensionName) → (result ≡ Some name) ↔ HasName field.now name }
-{
-    match field.extension_type_name() {
-        None => None,
-        Some(text) => ExtensionName::from_text(text),
-    }
-}
-
 /// The type that a field of that name is read as.
 pub(crate) fn read_named(
     alloc: Global,
@@ -133,7 +122,8 @@ fn read_kind(alloc: Global, field: &Field, kind: Kind) -> GeoArrowResult<GeoArro
     Ok(GeoArrowType::from_kind(kind, metadata))
 }
 
-/// The refusal of a field of that name whose data type is of no kind of it and has that fault under it.
+/// The refusal of a field of that name whose data type is of no kind of it and has that fault under it: for a name other than
+/// those of well-known binary and text, that of its metadata, if it is refused, goes before.
 #[cold]
 #[inline(never)]
 #[tactic(auto, using(crate::proofs::Reading::unstored_refused))]
@@ -152,28 +142,11 @@ fn refusal(alloc: Global, field: &Field, name: ExtensionName, fault: LayoutFault
         }
         _ => {
             names_are_distinct();
-            GeoArrowError::Arrow(structured_refusal(alloc, field, name, fault))
+            match Metadata::try_from_field(alloc, field) {
+                Ok(_) => GeoArrowError::Arrow(fault.into_arrow_error(alloc)),
+                Err(error) => GeoArrowError::Arrow(error),
+            }
         }
-    }
-}
-
-/// The refusal of a field of that name whose data type has that fault under it: that of its metadata, if it is refused,
-/// goes before.
-#[cold]
-#[inline(never)]
-fn structured_refusal(
-    alloc: Global,
-    field: &Field,
-    _name: ExtensionName,
-    fault: LayoutFault,
-) -> ArrowError
-    requires named { HasName field.now _name }
-    requires at_fault { HasFault (FaultAt _name field.now.tree) fault }
-    ensures { IsMemory result ⊎ ColumnRefusedAs field.now result }
-{
-    match Metadata::try_from_field(alloc, field) {
-        Ok(_) => fault.into_arrow_error(alloc),
-        Err(error) => error,
     }
 }
 
