@@ -23,7 +23,6 @@ pub use Rattle.geoarrow_layout.specs.Inferred.{YieldsSome, Inferred}
 pub use Rattle.geoarrow_layout.specs.Layouts.{layout, leaf_layout}
 pub use Rattle.geoarrow_meta.specs.declared.metadata.Metadata.{Metadata}
 pub use Rattle.geoarrow_meta.specs.Read.{DenotesMetadata, TextRefusedAs, empty}
-pub use Rattle.geoarrow_native.specs.Column.{IsColumn}
 unfoldable pub use Rattle.geoarrow_native.specs.Column.{ReadsAs}
 pub use Rattle.geoarrow_schema.specs.declared.types.GeoArrowType.{GeoArrowType}
 pub use Rattle.geoarrow_schema.specs.Types.{kind_of, metadata_of, meta_of, SameType}

@@ -9,13 +9,12 @@ ghost use Rattle.geoarrow_layout.specs.Kinds.{name_text};
 ghost use Rattle.geoarrow_layout.specs.Shapes.{Accepts};
 ghost use Rattle.geoarrow_layout.specs.FaultAt.{HasFault, FaultAt};
 ghost use Rattle.geoarrow_meta.specs.Read.{TextRefusedAs, IsTextReading};
-ghost use Rattle.geoarrow_native.specs.Column.{IsColumn};
 ghost use Rattle.geoarrow_schema.specs.Reads.{HasName, Reads, ReadsAlone, ColumnRefusedAs, IsRefusedBy, IsReading, IsTypeReading};
 ghost use Rattle.geoarrow_schema.specs.Infers.{ReadsOrInfersAlone};
 
 use crate::types::GeoArrowType;
 use arrow_values::{Field, GeoArrowError, GeoArrowResult};
-use geoarrow_layout::{ExtensionName, Kind, LayoutFault, names_are_distinct, parse_kind};
+use geoarrow_layout::{ExtensionName, LayoutFault, names_are_distinct, parse_kind};
 use geoarrow_meta::Metadata;
 use geoarrow_native::laws::reads_as_one_column;
 use std::alloc::Global;
@@ -100,26 +99,15 @@ pub(crate) fn read_named(
     ensures refused { IfErr result (IsRefusedBy field.now) }
 {
     match parse_kind(name, field.data_type()) {
-        Ok(kind) => read_kind(alloc, field, kind),
+        Ok(kind) => {
+            names_are_distinct();
+            reads_as_one_column(field);
+            let metadata = Metadata::deserialize(alloc, text_beside_name(field))?;
+            let metadata = Arc::new(alloc, metadata)?;
+            Ok(GeoArrowType::from_kind(kind, metadata))
+        }
         Err(fault) => Err(refusal(alloc, field, name, fault)),
     }
-}
-
-/// The type that a field is read as whose name and data type are those of a kind.
-#[tactic(auto, using(crate::proofs::Reading::type_reads, crate::proofs::Reading::reads_alone, crate::proofs::Reading::column_refused))]
-fn read_kind(alloc: Global, field: &Field, kind: Kind) -> GeoArrowResult<GeoArrowType>
-    requires { IsColumn field.now kind }
-    ensures ok { IfOk result (Reads field.now) }
-    ensures only { IfOk result (ReadsOrInfersAlone field.now) }
-    ensures refused { IfErr result (IsRefusedBy field.now) }
-{
-    let metadata = Arc::new(
-        alloc,
-        Metadata::deserialize(alloc, text_beside_name(field))?,
-    )?;
-    reads_as_one_column(field);
-    names_are_distinct();
-    Ok(GeoArrowType::from_kind(kind, metadata))
 }
 
 /// The refusal of a field of that name whose data type is of no kind of it and has that fault under it: for a name other than
