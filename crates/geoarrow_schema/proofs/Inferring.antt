@@ -1,5 +1,5 @@
 -- What a tree is taken for.
-use Rattle.geoarrow_schema.proofs.Terms.{◌≡◌, ◌⊎◌, inl, inr, ◌∙◌, sym, ap, subst, Option, Some, Result, Ok, Err, same_Some, arc_value, Text, Tree, FieldTree, extension_metadata, IsMemory, IsGeoMemory}
+use Rattle.geoarrow_schema.proofs.Terms.{◌≡◌, ◌⊎◌, inl, inr, ◌∙◌, sym, ap, subst, Option, Some, None, Result, Ok, Err, same_Some, arc_value, Text, Tree, FieldTree, extension_metadata, IsMemory, IsGeoMemory}
 use Rattle.geoarrow_schema.proofs.Terms.{IsInvalidOf, ArrowError, GeoArrowError, Arrow, InvalidGeoArrow, CoordType, Dimension, Point, Width, Plain, Kind, Native, Wkb, Wkt, YieldsOne}
 use Rattle.geoarrow_schema.proofs.Terms.{IsBytes, IsText, YieldsSome, Inferred, Metadata, DenotesMetadata, TextRefusedAs, Arc, Global, GeoArrowType, kind_of, metadata_of, meta_of, SameType}
 use Rattle.geoarrow_schema.proofs.Terms.{HasGeoArrowName, Reads, IsRefusedBy, InferredAs, InfersAs, Infers, ReadsOrInfers, ReadsOrInfersAlone, InfersNone, uninferred_text, UninferredAs}
@@ -12,11 +12,11 @@ use Rattle.geoarrow_schema.proofs.Reading.{read_has_name, read_uninferred}
 apart : (w v : Width) (t : Tree) → IsBytes w t → IsText v t → ⊥
 apart w v t h g = grind arith
 
-pub bytes_inferred : (t : Tree) (w : Width) (r : Result Width LayoutFault) → ((c : CoordType) (d : Dimension) → ¬ Inferred t c d) → r ≡ Ok w → YieldsOne r (λ v. IsBytes v t) → YieldsInferred t (Some (Wkb w))
-bytes_inferred t w r none is a = λ k. (λ e. subst (InferredAs t) (same_Some (Wkb w) k e) ((a w).0 is), λ h. back k h)
+pub bytes_inferred : (t : Tree) (p : Option (CoordType × Dimension)) (w : Width) (r : Result Width LayoutFault) → p ≡ None → YieldsSome p (Inferred t) → r ≡ Ok w → YieldsOne r (λ v. IsBytes v t) → YieldsInferred t (Some (Wkb w))
+bytes_inferred t p w r none point is a = λ k. (λ e. subst (InferredAs t) (same_Some (Wkb w) k e) ((a w).0 is), λ h. back k h)
   where
     back : (k : Kind) → InferredAs t k → Some (Wkb w) ≡ Some k
-    back (Native Point c d) h = absurd (none c d h)
+    back (Native Point c d) h = cc ((point c d).1 h)
     back (Wkb v) h = cc ((a v).1 h)
     back (Wkt v) h = absurd (apart w v t ((a w).0 is) h)
     back _ h = absurd h

@@ -2,10 +2,7 @@
 ghost use Rattle.std.specs.Prelude.{◌≡◌, ◌⊎◌, IfOk, IfErr};
 ghost use Rattle.arrow_values.specs.View.{tree};
 ghost use Rattle.arrow_values.specs.Errors.{IsGeoMemory};
-ghost use Rattle.geoarrow_layout.specs.declared.kinds.CoordType.{CoordType};
-ghost use Rattle.geoarrow_layout.specs.declared.kinds.Dimension.{Dimension};
 ghost use Rattle.geoarrow_layout.specs.declared.encodings.Kind.{Kind};
-ghost use Rattle.geoarrow_layout.specs.Inferred.{Inferred};
 ghost use Rattle.geoarrow_schema.specs.Reads.{HasGeoArrowName};
 ghost use Rattle.geoarrow_schema.specs.Infers.{InferredAs, ReadsOrInfersAlone, InfersNone, uninferred_text, bottom_text, UninferredAs, IsInference, YieldsInferred};
 
@@ -91,20 +88,12 @@ pub fn infer_kind(data_type: &DataType) -> Option<Kind>
 {
     match infer_point(data_type) {
         Some(pair) => Some(Kind::Native(NativeKind::Point, pair.0, pair.1)),
-        None => infer_serialized(data_type),
-    }
-}
-
-/// The kind of well-known binary or text that a data type is taken for, which is no point.
-fn infer_serialized(data_type: &DataType) -> Option<Kind>
-    requires { (c : CoordType) (d : Dimension) → ¬ Inferred (tree data_type.now) c d }
-    ensures { YieldsInferred (tree data_type.now) result }
-{
-    match parse_wkb(data_type) {
-        Ok(width) => Some(Kind::Wkb(width)),
-        Err(_) => match parse_wkt(data_type) {
-            Ok(width) => Some(Kind::Wkt(width)),
-            Err(_) => None,
+        None => match parse_wkb(data_type) {
+            Ok(width) => Some(Kind::Wkb(width)),
+            Err(_) => match parse_wkt(data_type) {
+                Ok(width) => Some(Kind::Wkt(width)),
+                Err(_) => None,
+            },
         },
     }
 }
