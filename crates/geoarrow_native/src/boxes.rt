@@ -1,5 +1,10 @@
 //! The encoding of boxes.
 ghost use Rattle.std.specs.Prelude.{◌≡◌};
+ghost use Rattle.geoarrow_layout.specs.declared.encodings.Kind.TheVariants as kinds;
+ghost use Rattle.geoarrow_layout.specs.declared.names.ExtensionName.TheVariants as names;
+ghost use Rattle.geoarrow_layout.specs.Shapes.{BoxShape};
+ghost use Rattle.geoarrow_layout.specs.OneShape.{box_shape_same};
+ghost use Rattle.geoarrow_native.specs.Agree.{same_box};
 
 use crate::column::{ColumnEncoding, ColumnType, KindEncoding};
 use arrow_values::{ArrowError, DataType};
@@ -74,11 +79,6 @@ impl fmt::Debug for ColumnType<Rect> {
 }
 
 impl ColumnEncoding for Rect {
-    ghost use Rattle.geoarrow_layout.specs.declared.names.ExtensionName.TheVariants as names;
-    ghost use Rattle.geoarrow_layout.specs.Shapes.{BoxShape};
-    ghost use Rattle.geoarrow_layout.specs.OneShape.{box_shape_same};
-    ghost use Rattle.geoarrow_native.specs.Agree.{same_box};
-
     const NAME: &'static str = "geoarrow.box";
 
     ghost name = { names.Rect };
@@ -104,8 +104,6 @@ impl ColumnEncoding for Rect {
 }
 
 impl KindEncoding for Rect {
-    ghost use Rattle.geoarrow_layout.specs.declared.encodings.Kind.TheVariants as kinds;
-
     ghost kind_of = { λ e. kinds.Rect e.dimension };
 
     fn kind(&self) -> Kind {

@@ -3,6 +3,11 @@ ghost use Rattle.std.specs.Prelude.{◌≡◌, IfOk};
 ghost use Rattle.std.specs.Arc.{arc_value};
 ghost use Rattle.geoarrow_layout.specs.declared.kinds.CoordType.TheVariants.{Separated};
 ghost use Rattle.geoarrow_meta.specs.Read.{empty};
+ghost use Rattle.geoarrow_layout.specs.declared.encodings.Kind.TheVariants as kinds;
+ghost use Rattle.geoarrow_layout.specs.declared.names.ExtensionName.TheVariants as names;
+ghost use Rattle.geoarrow_layout.specs.Shapes as shapes;
+ghost use Rattle.geoarrow_layout.specs.OneShape.{geometry_same};
+ghost use Rattle.geoarrow_native.specs.Agree.{same_geometry};
 
 use crate::column::{ColumnEncoding, ColumnType, KindEncoding};
 use arrow_values::{ArrowError, DataType};
@@ -74,11 +79,6 @@ impl fmt::Debug for ColumnType<Geometry> {
 }
 
 impl ColumnEncoding for Geometry {
-    ghost use Rattle.geoarrow_layout.specs.declared.names.ExtensionName.TheVariants as names;
-    ghost use Rattle.geoarrow_layout.specs.Shapes as shapes;
-    ghost use Rattle.geoarrow_layout.specs.OneShape.{geometry_same};
-    ghost use Rattle.geoarrow_native.specs.Agree.{same_geometry};
-
     const NAME: &'static str = "geoarrow.geometry";
 
     ghost name = { names.Geometry };
@@ -104,8 +104,6 @@ impl ColumnEncoding for Geometry {
 }
 
 impl KindEncoding for Geometry {
-    ghost use Rattle.geoarrow_layout.specs.declared.encodings.Kind.TheVariants as kinds;
-
     ghost kind_of = { λ e. kinds.Geometry e.coord_type };
 
     fn kind(&self) -> Kind {

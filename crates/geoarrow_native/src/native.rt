@@ -1,6 +1,11 @@
 //! The native encoding, written once for all shapes.
 ghost use Rattle.std.specs.Prelude.{◌≡◌};
 ghost use Rattle.geoarrow_layout.specs.declared.kinds.CoordType.TheVariants.{Separated};
+ghost use Rattle.geoarrow_layout.specs.declared.encodings.Kind.TheVariants as kinds;
+ghost use Rattle.geoarrow_layout.specs.declared.names.ExtensionName.TheVariants as names;
+ghost use Rattle.geoarrow_layout.specs.Shapes.{Native as IsOfKind};
+ghost use Rattle.geoarrow_layout.specs.OneShape.{any_native_same};
+ghost use Rattle.geoarrow_native.specs.Agree.{same_native};
 
 use crate::column::{ColumnEncoding, ColumnType, KindEncoding};
 use crate::shape::NativeShape;
@@ -97,11 +102,6 @@ impl<S: NativeShape> fmt::Debug for ColumnType<Native<S>> {
 }
 
 impl<S: NativeShape> ColumnEncoding for Native<S> {
-    ghost use Rattle.geoarrow_layout.specs.declared.names.ExtensionName.TheVariants as names;
-    ghost use Rattle.geoarrow_layout.specs.Shapes.{Native as IsOfKind};
-    ghost use Rattle.geoarrow_layout.specs.OneShape.{any_native_same};
-    ghost use Rattle.geoarrow_native.specs.Agree.{same_native};
-
     const NAME: &'static str = S::NAME;
 
     ghost name = { names.Native S.KIND };
@@ -135,8 +135,6 @@ impl<S: NativeShape> ColumnEncoding for Native<S> {
 }
 
 impl<S: NativeShape> KindEncoding for Native<S> {
-    ghost use Rattle.geoarrow_layout.specs.declared.encodings.Kind.TheVariants as kinds;
-
     ghost kind_of = { λ e. kinds.Native S.KIND e.coord_type e.dimension };
 
     fn kind(&self) -> Kind {
