@@ -1,10 +1,10 @@
 -- The names that most proofs cite, passed on from one place. Declares nothing.
-pub use Rattle.std.proofs.Common.{◌≡◌, ◌⊎◌, ◌∙◌, inl, inr, ap, sym, subst, Option, Some, Result, Ok, Err, IfOk, IfErr, None, refl, true, false, codes, ◌<◌, ◌≤◌, ℕ, zero, suc, arith}
+pub use Rattle.std.proofs.Common.{◌≡◌, ◌⊎◌, ◌∙◌, inl, inr, ap, sym, subst, Option, Some, Result, Ok, Err, IfOk, IfErr, None, refl, true, false, codes, ◌<◌, ◌≤◌, ℕ, suc, arith}
 pub use Rattle.std.proofs.lemmas.Option.{same_Some}
 pub use Rattle.std.specs.Arc.{arc_value}
 pub use Rattle.std.specs.declared.sync.Arc.{Arc}
 pub use Rattle.std.specs.declared.alloc.Global.{Global}
-pub use Rattle.arrow_values.specs.Tree.{Text, Tree, FieldTree, plain, list, large_list, fixed_size_list, struct, union}
+pub use Rattle.arrow_values.specs.Tree.{Text, Tree, FieldTree, plain, list, large_list, fixed_size_list, struct}
 pub use Rattle.arrow_values.specs.Texts.{extension_metadata, SetsExtension, name_key, metadata_key, set_extension}
 pub use Rattle.arrow_values.specs.Errors.{IsMemory, IsGeoMemory, IsInvalidOf}
 pub use Rattle.arrow_values.specs.declared.error.ArrowError.{ArrowError}
@@ -17,8 +17,7 @@ pub use Rattle.geoarrow_layout.specs.Shapes.{Accepts, Accepted, IsBytes, IsText,
 pub use Rattle.geoarrow_layout.specs.declared.kinds.CoordType.{CoordType}
 pub use Rattle.geoarrow_layout.specs.declared.kinds.Dimension.{Dimension}
 pub use Rattle.geoarrow_layout.specs.declared.encodings.NativeKind.TheVariants.{Point}
-pub use Rattle.geoarrow_layout.specs.declared.encodings.Width.TheVariants.{Plain}
-pub use Rattle.geoarrow_layout.specs.declared.encodings.Kind.TheVariants.{Native, Wkb, Wkt}
+pub use Rattle.geoarrow_layout.specs.declared.encodings.Kind.TheVariants.{Native, Wkb}
 pub use Rattle.geoarrow_layout.specs.Inferred.{YieldsSome, Inferred}
 pub use Rattle.geoarrow_layout.specs.Layouts.{layout, leaf_layout}
 pub use Rattle.geoarrow_meta.specs.declared.metadata.Metadata.{Metadata}

@@ -75,8 +75,15 @@ macro_rules! of_each {
     };
 }
 
-/// The type with what its column is changed to, if its variant is named, otherwise unchanged.
+/// The type with what its column is changed to, if it is native or of the variant named, otherwise unchanged.
 macro_rules! changed {
+    ($type:expr, $column:ident => $changed:expr, $other:ident) => {
+        changed!(
+            $type, $column => $changed,
+            $other | Point | LineString | Polygon | MultiPoint | MultiLineString | MultiPolygon
+                | GeometryCollection
+        )
+    };
     ($type:expr, $column:ident => $changed:expr, $($variant:ident)|+) => {
         match $type {
             $(GeoArrowType::$variant($column) => GeoArrowType::$variant($changed),)+
@@ -187,11 +194,7 @@ impl GeoArrowType {
         ensures kind { kind_of result ≡ with_coord_type coord_type (kind_of self) }
         ensures metadata { metadata_of result ≡ metadata_of self }
     {
-        changed!(
-            self, t => t.with_coord_type(coord_type),
-            Point | LineString | Polygon | MultiPoint | MultiLineString | MultiPolygon | GeometryCollection
-                | Geometry
-        )
+        changed!(self, t => t.with_coord_type(coord_type), Geometry)
     }
 
     /// The type with that dimension, otherwise unchanged. Geometries of any kind and well-known binary and text have no
@@ -207,11 +210,7 @@ impl GeoArrowType {
         ensures kind { kind_of result ≡ with_dimension dimension (kind_of self) }
         ensures metadata { metadata_of result ≡ metadata_of self }
     {
-        changed!(
-            self, t => t.with_dimension(dimension),
-            Point | LineString | Polygon | MultiPoint | MultiLineString | MultiPolygon | GeometryCollection
-                | Rect
-        )
+        changed!(self, t => t.with_dimension(dimension), Rect)
     }
 
     /// The type with that metadata, otherwise unchanged.
