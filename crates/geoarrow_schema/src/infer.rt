@@ -1,5 +1,5 @@
 //! Which type is inferred for a field without a GeoArrow name.
-ghost use Rattle.std.specs.Prelude.{◌≡◌, ◌⊎◌, IfOk, IfErr};
+ghost use Rattle.std.specs.Prelude.{◌≡◌, ◌⊎◌, IfOk};
 ghost use Rattle.arrow_values.specs.View.{tree};
 ghost use Rattle.arrow_values.specs.Errors.{IsGeoMemory};
 ghost use Rattle.geoarrow_layout.specs.declared.encodings.Kind.{Kind};

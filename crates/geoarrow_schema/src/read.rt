@@ -1,15 +1,13 @@
 //! Which type a field is read as.
-ghost use Rattle.std.specs.Prelude.{◌≡◌, ◌⊎◌, ◌↔◌, Some, IfOk, IfErr, IfSome};
+ghost use Rattle.std.specs.Prelude.{◌≡◌, Some, IfOk, IfErr, IfSome};
 ghost use Rattle.arrow_values.specs.Tree.{Text};
 ghost use Rattle.arrow_values.specs.Texts.{text_of, extension_name, extension_metadata};
-ghost use Rattle.arrow_values.specs.Errors.{IsMemory};
 ghost use Rattle.geoarrow_layout.specs.declared.names.ExtensionName.{ExtensionName};
 ghost use Rattle.geoarrow_layout.specs.declared.encodings.Kind.{Kind};
 ghost use Rattle.geoarrow_layout.specs.Kinds.{name_text};
 ghost use Rattle.geoarrow_layout.specs.Shapes.{Accepts};
 ghost use Rattle.geoarrow_layout.specs.FaultAt.{HasFault, FaultAt};
-ghost use Rattle.geoarrow_meta.specs.Read.{TextRefusedAs, IsTextReading};
-ghost use Rattle.geoarrow_schema.specs.Reads.{HasName, Reads, ReadsAlone, ColumnRefusedAs, IsRefusedBy, IsReading, IsTypeReading};
+ghost use Rattle.geoarrow_schema.specs.Reads.{HasName, Reads, ReadsAlone, IsRefusedBy, IsReading, IsTypeReading};
 ghost use Rattle.geoarrow_schema.specs.Infers.{ReadsOrInfersAlone};
 
 use crate::types::GeoArrowType;
