@@ -1,11 +1,9 @@
 //! What the columns of a schema hold.
 ghost use Rattle.std.specs.Prelude.{IfOk, IfErr};
 ghost use Rattle.arrow_values.specs.Errors.{IsGeoMemory};
-ghost use Rattle.geoarrow_schema.specs.Reads.{HasGeoArrowName, IsRefusedBy};
-ghost use Rattle.geoarrow_schema.specs.Infers.{IsInference, IsInferenceRefusal};
 ghost use Rattle.geoarrow_columns.specs.Report.{IsColumnOf, IsReport, IsVariantOf};
 
-use arrow_values::{ArrowError, Field, GeoArrowError, GeoArrowResult};
+use arrow_values::{ArrowError, Field, GeoArrowError};
 use geoarrow_schema::GeoArrowType;
 use std::alloc::{AllocError, Global};
 
@@ -64,49 +62,21 @@ pub fn check_columns(alloc: Global, fields: &[Field]) -> Result<Vec<Column>, All
 }
 
 /// What one column holds, as `check_columns` says it. Errs only when out of memory.
+#[tactic(auto, using(crate::proofs::Reports::taken_for, crate::proofs::Reports::uninferred, crate::proofs::Reports::named_faulty))]
 pub fn check_column(alloc: Global, field: &Field) -> Result<Column, AllocError>
     ensures { IfOk result (IsColumnOf field.now) }
 {
     match GeoArrowType::from_extension_field(alloc, field) {
         Ok(Some(found)) => Ok(Column::Geometry(found)),
-        Ok(None) => column_unnamed(field, GeoArrowType::from_arrow_field(alloc, field)),
-        Err(error) => column_refused(field, &error),
+        Ok(None) => match GeoArrowType::from_arrow_field(alloc, field) {
+            Ok(found) => Ok(Column::Inferred(found)),
+            Err(error) => match ColumnFault::of_error(&error)? {
+                ColumnFault::InvalidGeoArrow => Ok(Column::Other),
+                ColumnFault::Arrow => Ok(Column::Faulty(ColumnFault::Arrow)),
+            },
+        },
+        Err(error) => Ok(Column::Faulty(ColumnFault::of_error(&error)?)),
     }
-}
-
-/// What a column holds on whose field no GeoArrow name stands, and which is taken for a type or refused.
-#[tactic(auto, using(crate::proofs::Reports::taken_for))]
-fn column_unnamed(field: &Field, taken: GeoArrowResult<GeoArrowType>) -> Result<Column, AllocError>
-    requires unnamed { ¬ HasGeoArrowName field.now }
-    requires inference { IsInference field.now taken }
-    ensures { IfOk result (IsColumnOf field.now) }
-{
-    match taken {
-        Ok(found) => Ok(Column::Inferred(found)),
-        Err(error) => column_uninferred(field, &error),
-    }
-}
-
-/// What a column holds on whose field no GeoArrow name stands, and for which no type is inferred because of an error.
-#[tactic(auto, using(crate::proofs::Reports::uninferred))]
-fn column_uninferred(field: &Field, error: &GeoArrowError) -> Result<Column, AllocError>
-    requires unnamed { ¬ HasGeoArrowName field.now }
-    requires refused { IsInferenceRefusal field.now error.now }
-    ensures { IfOk result (IsColumnOf field.now) }
-{
-    match ColumnFault::of_error(error)? {
-        ColumnFault::InvalidGeoArrow => Ok(Column::Other),
-        ColumnFault::Arrow => Ok(Column::Faulty(ColumnFault::Arrow)),
-    }
-}
-
-/// What a column holds that is refused by an error under the GeoArrow name that stands on its field.
-#[tactic(auto, using(crate::proofs::Reports::named_faulty))]
-fn column_refused(field: &Field, error: &GeoArrowError) -> Result<Column, AllocError>
-    requires { IsRefusedBy field.now error.now }
-    ensures { IfOk result (IsColumnOf field.now) }
-{
-    Ok(Column::Faulty(ColumnFault::of_error(error)?))
 }
 
 impl ColumnFault {

@@ -1,4 +1,6 @@
 //! The shapes of many parts.
+ghost use Rattle.std.specs.Prelude.{refl, pos};
+ghost use Rattle.geoarrow_layout.specs.declared.encodings.NativeKind.TheVariants as kinds;
 
 use geoarrow_layout::NativeKind;
 use geoarrow_native::NativeShape;
@@ -7,9 +9,6 @@ use geoarrow_native::NativeShape;
 pub struct MultiPoint;
 
 impl NativeShape for MultiPoint {
-    ghost use Rattle.std.specs.Prelude.{refl, pos};
-    ghost use Rattle.geoarrow_layout.specs.declared.encodings.NativeKind.TheVariants as kinds;
-
     const NAME: &'static str = "geoarrow.multipoint";
 
     const TYPE: &'static str = "MultiPointType";
@@ -23,19 +22,12 @@ impl NativeShape for MultiPoint {
     ghost OFFSET = { pos 4 };
 
     ghost offset_is = { refl };
-
-    fn shape_name() -> &'static str {
-        Self::NAME
-    }
 }
 
 /// The shape of multilinestrings.
 pub struct MultiLineString;
 
 impl NativeShape for MultiLineString {
-    ghost use Rattle.std.specs.Prelude.{refl, pos};
-    ghost use Rattle.geoarrow_layout.specs.declared.encodings.NativeKind.TheVariants as kinds;
-
     const NAME: &'static str = "geoarrow.multilinestring";
 
     const TYPE: &'static str = "MultiLineStringType";
@@ -49,19 +41,12 @@ impl NativeShape for MultiLineString {
     ghost OFFSET = { pos 5 };
 
     ghost offset_is = { refl };
-
-    fn shape_name() -> &'static str {
-        Self::NAME
-    }
 }
 
 /// The shape of multipolygons.
 pub struct MultiPolygon;
 
 impl NativeShape for MultiPolygon {
-    ghost use Rattle.std.specs.Prelude.{refl, pos};
-    ghost use Rattle.geoarrow_layout.specs.declared.encodings.NativeKind.TheVariants as kinds;
-
     const NAME: &'static str = "geoarrow.multipolygon";
 
     const TYPE: &'static str = "MultiPolygonType";
@@ -75,19 +60,12 @@ impl NativeShape for MultiPolygon {
     ghost OFFSET = { pos 6 };
 
     ghost offset_is = { refl };
-
-    fn shape_name() -> &'static str {
-        Self::NAME
-    }
 }
 
 /// The shape of collections of geometries.
 pub struct GeometryCollection;
 
 impl NativeShape for GeometryCollection {
-    ghost use Rattle.std.specs.Prelude.{refl, pos};
-    ghost use Rattle.geoarrow_layout.specs.declared.encodings.NativeKind.TheVariants as kinds;
-
     const NAME: &'static str = "geoarrow.geometrycollection";
 
     const TYPE: &'static str = "GeometryCollectionType";
@@ -101,8 +79,4 @@ impl NativeShape for GeometryCollection {
     ghost OFFSET = { pos 7 };
 
     ghost offset_is = { refl };
-
-    fn shape_name() -> &'static str {
-        Self::NAME
-    }
 }

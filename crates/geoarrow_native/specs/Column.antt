@@ -37,3 +37,7 @@ IsLayoutRefusal n t e = (fault : LayoutFault) × HasFault (FaultAt n t) fault ×
 -- it accepts it as another
 abbrev pub RefusesOther : {A : Type 0} → (A → Type 0) → (ArrowError → Type 0) → ArrowError → Type 0
 RefusesOther {A} IsAccepted IsRefused e = (((a : A) → ¬ IsAccepted a) × IsRefused e) ⊎ (((a : A) × IsAccepted a) × (is_schema e ≡ true))
+
+-- two encodings are of one coordinate type and one dimension, as far as they have them: they are the same
+abbrev pub Agrees : {E : Type 0} → E → E → Type 0
+Agrees a b = a ≡ b

@@ -1,5 +1,10 @@
 //! The encoding of boxes.
 ghost use Rattle.std.specs.Prelude.{◌≡◌};
+ghost use Rattle.geoarrow_layout.specs.declared.encodings.Kind.TheVariants as kinds;
+ghost use Rattle.geoarrow_layout.specs.declared.names.ExtensionName.TheVariants as names;
+ghost use Rattle.geoarrow_layout.specs.Shapes.{BoxShape};
+ghost use Rattle.geoarrow_layout.specs.OneShape.{box_shape_same};
+ghost use Rattle.geoarrow_native.specs.Agree.{same_box};
 
 use crate::column::{ColumnEncoding, ColumnType, KindEncoding};
 use arrow_values::{ArrowError, DataType};
@@ -43,10 +48,8 @@ impl ColumnType<Rect> {
         ensures dimension { result.encoding.dimension ≡ dimension }
         ensures metadata { result.metadata ≡ metadata }
     {
-        ColumnType {
-            encoding: Rect { dimension },
-            metadata,
-        }
+        let encoding = Rect { dimension };
+        ColumnType { encoding, metadata }
     }
 
     /// The type with that dimension, otherwise unchanged.
@@ -54,10 +57,8 @@ impl ColumnType<Rect> {
         ensures dimension { result.encoding.dimension ≡ dimension }
         ensures metadata { result.metadata ≡ self.metadata }
     {
-        ColumnType {
-            encoding: Rect { dimension },
-            ..self
-        }
+        let encoding = Rect { dimension };
+        ColumnType { encoding, ..self }
     }
 
     /// The dimension of the boxes.
@@ -78,24 +79,13 @@ impl fmt::Debug for ColumnType<Rect> {
 }
 
 impl ColumnEncoding for Rect {
-    ghost use Rattle.std.proofs.Common.{refl, sym, subst};
-    ghost use Rattle.geoarrow_layout.specs.declared.names.ExtensionName.TheVariants as names;
-    ghost use Rattle.geoarrow_layout.specs.Shapes.{BoxShape};
-    ghost use Rattle.geoarrow_layout.specs.OneShape.{box_shape_same};
-
     const NAME: &'static str = "geoarrow.box";
 
     ghost name = { names.Rect };
 
     ghost Accepts = { λ t e. BoxShape t e.dimension };
 
-    ghost Agrees = { λ a b. a.dimension ≡ b.dimension };
-
-    ghost accepts_one = { λ t a b h k. box_shape_same t a.dimension b.dimension h k };
-
-    ghost accepts_by_shape = { λ t a e h k. subst (λ d. BoxShape t d) (sym k) h };
-
-    ghost agrees_with_itself = { λ e. refl };
+    ghost accepts_one = { λ t a b h k. same_box a b (box_shape_same t a.dimension b.dimension h k) };
 
     fn encoding_name() -> &'static str {
         Self::NAME
@@ -109,16 +99,11 @@ impl ColumnEncoding for Rect {
     }
 
     fn difference(&self, other: &Rect) -> Option<&'static str> {
-        if self.dimension != other.dimension {
-            return Some("unexpected dimension");
-        }
-        None
+        (self.dimension != other.dimension).then_some("unexpected dimension")
     }
 }
 
 impl KindEncoding for Rect {
-    ghost use Rattle.geoarrow_layout.specs.declared.encodings.Kind.TheVariants as kinds;
-
     ghost kind_of = { λ e. kinds.Rect e.dimension };
 
     fn kind(&self) -> Kind {

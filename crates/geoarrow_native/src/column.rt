@@ -23,7 +23,7 @@ pub trait ColumnEncoding: Copy {
     ghost use Rattle.arrow_values.specs.Errors.{IsMemory};
     ghost use Rattle.geoarrow_layout.specs.declared.names.ExtensionName.{ExtensionName};
     ghost use Rattle.geoarrow_layout.specs.Kinds.{name_text};
-    ghost use Rattle.geoarrow_native.specs.Column.{IsLayoutRefusal};
+    ghost use Rattle.geoarrow_native.specs.Column.{Agrees, IsLayoutRefusal};
 
     /// The extension name.
     const NAME: &'static str;
@@ -33,9 +33,6 @@ pub trait ColumnEncoding: Copy {
 
     // A tree is accepted as that of a column in this encoding.
     ghost Accepts: { Tree → Self → Type 0 };
-
-    // Two are of one coordinate type and one dimension, as far as they have them.
-    ghost Agrees: { Self → Self → Type 0 };
 
     /// `NAME`.
     fn encoding_name() -> &'static str
@@ -54,11 +51,6 @@ pub trait ColumnEncoding: Copy {
 
     // A tree is accepted as one alone.
     ghost accepts_one: { (t : Tree) (a b : Self) → Accepts t a → Accepts t b → Agrees a b };
-
-    // A tree that is accepted as one is accepted as each that agrees with it.
-    ghost accepts_by_shape: { (t : Tree) (a e : Self) → Accepts t a → Agrees e a → Accepts t e };
-
-    ghost agrees_with_itself: { (e : Self) → Agrees e e };
 }
 
 /// An encoding that decides the data type of its columns.
@@ -153,6 +145,7 @@ impl<E: KindEncoding> ColumnType<E> {
 }
 
 impl<E: ColumnEncoding> ExtensionType for ColumnType<E> {
+    ghost use Rattle.std.proofs.Common.{refl, sym, subst};
     ghost use Rattle.geoarrow_layout.specs.Kinds.{name_text as text_of};
     ghost use Rattle.geoarrow_meta.specs.Written.{printed as printed_text};
     ghost use Rattle.geoarrow_meta.specs.Read.{DenotesMetadata, TextRefusedAs};
@@ -178,7 +171,7 @@ impl<E: ColumnEncoding> ExtensionType for ColumnType<E> {
 
     ghost Accepts = { λ t e. E.Accepts t e.encoding };
 
-    ghost Agrees = { λ a b. E.Agrees a.encoding b.encoding };
+    ghost Agrees = { λ a b. a.encoding ≡ b.encoding };
 
     ghost RefusesText = { TextRefusedAs };
 
@@ -190,9 +183,9 @@ impl<E: ColumnEncoding> ExtensionType for ColumnType<E> {
 
     ghost denotes_one = { text_denotes_one };
 
-    ghost accepts_by_shape = { λ t a e h k. E.accepts_by_shape t a.encoding e.encoding h k };
+    ghost accepts_by_shape = { λ t a e h k. subst (E.Accepts t) (sym k) h };
 
-    ghost agrees_with_itself = { λ e. E.agrees_with_itself e.encoding };
+    ghost agrees_with_itself = { λ e. refl };
 
     fn extension_name() -> &'static str {
         E::encoding_name()

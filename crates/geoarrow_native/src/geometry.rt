@@ -3,6 +3,11 @@ ghost use Rattle.std.specs.Prelude.{◌≡◌, IfOk};
 ghost use Rattle.std.specs.Arc.{arc_value};
 ghost use Rattle.geoarrow_layout.specs.declared.kinds.CoordType.TheVariants.{Separated};
 ghost use Rattle.geoarrow_meta.specs.Read.{empty};
+ghost use Rattle.geoarrow_layout.specs.declared.encodings.Kind.TheVariants as kinds;
+ghost use Rattle.geoarrow_layout.specs.declared.names.ExtensionName.TheVariants as names;
+ghost use Rattle.geoarrow_layout.specs.Shapes as shapes;
+ghost use Rattle.geoarrow_layout.specs.OneShape.{geometry_same};
+ghost use Rattle.geoarrow_native.specs.Agree.{same_geometry};
 
 use crate::column::{ColumnEncoding, ColumnType, KindEncoding};
 use arrow_values::{ArrowError, DataType};
@@ -35,10 +40,8 @@ impl ColumnType<Geometry> {
         ensures metadata { result.metadata ≡ metadata }
     {
         let coord_type = CoordType::Separated;
-        ColumnType {
-            encoding: Geometry { coord_type },
-            metadata,
-        }
+        let encoding = Geometry { coord_type };
+        ColumnType { encoding, metadata }
     }
 
     /// `new` of the default metadata. Errs only when out of memory.
@@ -54,10 +57,8 @@ impl ColumnType<Geometry> {
         ensures coord_type { result.encoding.coord_type ≡ coord_type }
         ensures metadata { result.metadata ≡ self.metadata }
     {
-        ColumnType {
-            encoding: Geometry { coord_type },
-            ..self
-        }
+        let encoding = Geometry { coord_type };
+        ColumnType { encoding, ..self }
     }
 
     /// How the coordinates are stored.
@@ -78,24 +79,13 @@ impl fmt::Debug for ColumnType<Geometry> {
 }
 
 impl ColumnEncoding for Geometry {
-    ghost use Rattle.std.proofs.Common.{refl, sym, subst};
-    ghost use Rattle.geoarrow_layout.specs.declared.names.ExtensionName.TheVariants as names;
-    ghost use Rattle.geoarrow_layout.specs.Shapes as shapes;
-    ghost use Rattle.geoarrow_layout.specs.OneShape.{geometry_same};
-
     const NAME: &'static str = "geoarrow.geometry";
 
     ghost name = { names.Geometry };
 
     ghost Accepts = { λ t e. shapes.Geometry t e.coord_type };
 
-    ghost Agrees = { λ a b. a.coord_type ≡ b.coord_type };
-
-    ghost accepts_one = { λ t a b h k. geometry_same t a.coord_type b.coord_type h k };
-
-    ghost accepts_by_shape = { λ t a e h k. subst (λ c. shapes.Geometry t c) (sym k) h };
-
-    ghost agrees_with_itself = { λ e. refl };
+    ghost accepts_one = { λ t a b h k. same_geometry a b (geometry_same t a.coord_type b.coord_type h k) };
 
     fn encoding_name() -> &'static str {
         Self::NAME
@@ -109,16 +99,11 @@ impl ColumnEncoding for Geometry {
     }
 
     fn difference(&self, other: &Geometry) -> Option<&'static str> {
-        if self.coord_type != other.coord_type {
-            return Some("unexpected coordinate type");
-        }
-        None
+        (self.coord_type != other.coord_type).then_some("unexpected coordinate type")
     }
 }
 
 impl KindEncoding for Geometry {
-    ghost use Rattle.geoarrow_layout.specs.declared.encodings.Kind.TheVariants as kinds;
-
     ghost kind_of = { λ e. kinds.Geometry e.coord_type };
 
     fn kind(&self) -> Kind {

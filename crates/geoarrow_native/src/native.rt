@@ -1,6 +1,11 @@
 //! The native encoding, written once for all shapes.
 ghost use Rattle.std.specs.Prelude.{◌≡◌};
 ghost use Rattle.geoarrow_layout.specs.declared.kinds.CoordType.TheVariants.{Separated};
+ghost use Rattle.geoarrow_layout.specs.declared.encodings.Kind.TheVariants as kinds;
+ghost use Rattle.geoarrow_layout.specs.declared.names.ExtensionName.TheVariants as names;
+ghost use Rattle.geoarrow_layout.specs.Shapes.{Native as IsOfKind};
+ghost use Rattle.geoarrow_layout.specs.OneShape.{any_native_same};
+ghost use Rattle.geoarrow_native.specs.Agree.{same_native};
 
 use crate::column::{ColumnEncoding, ColumnType, KindEncoding};
 use crate::shape::NativeShape;
@@ -81,11 +86,8 @@ impl<S: NativeShape> ColumnType<Native<S>> {
     pub fn into_inner(self) -> (CoordType, Dimension, Arc<Metadata>)
         ensures { result ≡ (self.encoding.coord_type, self.encoding.dimension, self.metadata) }
     {
-        (
-            self.encoding.coord_type,
-            self.encoding.dimension,
-            self.metadata,
-        )
+        let encoding = self.encoding;
+        (encoding.coord_type, encoding.dimension, self.metadata)
     }
 }
 
@@ -100,25 +102,14 @@ impl<S: NativeShape> fmt::Debug for ColumnType<Native<S>> {
 }
 
 impl<S: NativeShape> ColumnEncoding for Native<S> {
-    ghost use Rattle.std.proofs.Common.{refl, sym, subst};
-    ghost use Rattle.geoarrow_layout.specs.declared.names.ExtensionName.TheVariants as names;
-    ghost use Rattle.geoarrow_layout.specs.Shapes.{Native as IsOfKind};
-    ghost use Rattle.geoarrow_layout.specs.OneShape.{any_native_same};
-
     const NAME: &'static str = S::NAME;
 
     ghost name = { names.Native S.KIND };
 
     ghost Accepts = { λ t e. IsOfKind t S.KIND e.coord_type e.dimension };
 
-    ghost Agrees = { λ a b. (a.coord_type ≡ b.coord_type) × (a.dimension ≡ b.dimension) };
-
-    ghost accepts_one = { λ t a b h k. any_native_same S.KIND t a.coord_type b.coord_type a.dimension b.dimension h k };
-
-    ghost accepts_by_shape = { λ t a e h k. subst (λ c. IsOfKind t S.KIND c e.dimension) (sym k.0)
-        (subst (λ d. IsOfKind t S.KIND a.coord_type d) (sym k.1) h) };
-
-    ghost agrees_with_itself = { λ e. (refl, refl) };
+    ghost accepts_one = { λ t a b h k. same_native a b
+        (any_native_same S.KIND t a.coord_type b.coord_type a.dimension b.dimension h k) };
 
     fn encoding_name() -> &'static str {
         S::shape_name()
@@ -139,16 +130,11 @@ impl<S: NativeShape> ColumnEncoding for Native<S> {
         if self.coord_type != other.coord_type {
             return Some("unexpected coordinate type");
         }
-        if self.dimension != other.dimension {
-            return Some("unexpected dimension");
-        }
-        None
+        (self.dimension != other.dimension).then_some("unexpected dimension")
     }
 }
 
 impl<S: NativeShape> KindEncoding for Native<S> {
-    ghost use Rattle.geoarrow_layout.specs.declared.encodings.Kind.TheVariants as kinds;
-
     ghost kind_of = { λ e. kinds.Native S.KIND e.coord_type e.dimension };
 
     fn kind(&self) -> Kind {

@@ -1,6 +1,8 @@
 //! The serialized encodings, written once for well-known binary and text.
 ghost use Rattle.std.specs.Prelude.{◌≡◌, IfOk};
 ghost use Rattle.std.specs.Arc.{arc_value};
+ghost use Rattle.geoarrow_layout.specs.declared.names.ExtensionName.TheVariants as names;
+ghost use Rattle.geoarrow_layout.specs.Shapes.{IsBytes, IsText};
 ghost use Rattle.geoarrow_meta.specs.Read.{empty};
 
 use crate::column::{ColumnEncoding, ColumnType};
@@ -50,9 +52,6 @@ pub trait Encoding {
 pub struct Wkb;
 
 impl Encoding for Wkb {
-    ghost use Rattle.geoarrow_layout.specs.declared.names.ExtensionName.TheVariants as names;
-    ghost use Rattle.geoarrow_layout.specs.Shapes.{IsBytes};
-
     const NAME: &'static str = "geoarrow.wkb";
 
     const TYPE: &'static str = "WkbType";
@@ -74,9 +73,6 @@ impl Encoding for Wkb {
 pub struct Wkt;
 
 impl Encoding for Wkt {
-    ghost use Rattle.geoarrow_layout.specs.declared.names.ExtensionName.TheVariants as names;
-    ghost use Rattle.geoarrow_layout.specs.Shapes.{IsText};
-
     const NAME: &'static str = "geoarrow.wkt";
 
     const TYPE: &'static str = "WktType";
@@ -127,25 +123,16 @@ impl<E: Encoding> ColumnType<Serialized<E>> {
     pub fn new(metadata: Arc<Metadata>) -> ColumnType<Serialized<E>>
         ensures { result.metadata ≡ metadata }
     {
-        ColumnType {
-            encoding: Serialized {
-                encoding: PhantomData,
-            },
-            metadata,
-        }
+        let encoding = PhantomData;
+        let encoding = Serialized { encoding };
+        ColumnType { encoding, metadata }
     }
 
     /// `new` of the default metadata. Errs only when out of memory.
     pub fn try_default(alloc: Global) -> Result<ColumnType<Serialized<E>>, AllocError>
         ensures { IfOk result (λ e. arc_value e.metadata ≡ empty) }
     {
-        let metadata = Arc::new(alloc, Metadata::default())?;
-        Ok(ColumnType {
-            encoding: Serialized {
-                encoding: PhantomData,
-            },
-            metadata,
-        })
+        Ok(Self::new(Arc::new(alloc, Metadata::default())?))
     }
 }
 
@@ -158,7 +145,7 @@ impl<E: Encoding> fmt::Debug for ColumnType<Serialized<E>> {
 }
 
 impl<E: Encoding> ColumnEncoding for Serialized<E> {
-    ghost use Rattle.std.specs.Prelude.{⊤};
+    ghost use Rattle.std.specs.Prelude.{refl};
     ghost use Rattle.geoarrow_layout.specs.declared.encodings.Width.{Width};
 
     const NAME: &'static str = E::NAME;
@@ -167,23 +154,16 @@ impl<E: Encoding> ColumnEncoding for Serialized<E> {
 
     ghost Accepts = { λ t _. (w : Width) × E.IsStored w t };
 
-    ghost Agrees = { λ _ _. ⊤ };
-
-    ghost accepts_one = { λ t a b h k. tt };
-
-    ghost accepts_by_shape = { λ t a e h _. h };
-
-    ghost agrees_with_itself = { λ e. tt };
+    ghost accepts_one = { λ t a b h k. refl };
 
     fn encoding_name() -> &'static str {
         E::encoding_name()
     }
 
     fn read(alloc: Global, data_type: &DataType) -> Result<Serialized<E>, ArrowError> {
+        let encoding = PhantomData;
         match E::parse(data_type) {
-            Ok(_) => Ok(Serialized {
-                encoding: PhantomData,
-            }),
+            Ok(_) => Ok(Serialized { encoding }),
             Err(fault) => Err(fault.into_arrow_error(alloc)),
         }
     }

@@ -1,6 +1,8 @@
 //! What differs between the native types.
+ghost use Rattle.std.specs.Prelude.{refl, pos};
+ghost use Rattle.geoarrow_layout.specs.declared.encodings.NativeKind.TheVariants as kinds;
 
-use geoarrow_layout::NativeKind;
+use geoarrow_layout::{ExtensionName, NativeKind};
 
 /// The shape of a native type: the parameter of `NativeType`. Each shape is an empty struct, which represents a kind of
 /// geometry; it holds no geometry.
@@ -28,7 +30,10 @@ pub trait NativeShape {
 
     /// `NAME`.
     fn shape_name() -> &'static str
-        ensures { result.now ≡ name_text (names.Native KIND) };
+        ensures { result.now ≡ name_text (names.Native KIND) }
+    {
+        ExtensionName::Native(Self::KIND).as_text()
+    }
 
     ghost offset_is: { OFFSET ≡ pos (offset_of KIND) };
 }
@@ -37,9 +42,6 @@ pub trait NativeShape {
 pub struct Point;
 
 impl NativeShape for Point {
-    ghost use Rattle.std.specs.Prelude.{refl, pos};
-    ghost use Rattle.geoarrow_layout.specs.declared.encodings.NativeKind.TheVariants as kinds;
-
     const NAME: &'static str = "geoarrow.point";
 
     const TYPE: &'static str = "PointType";
@@ -53,19 +55,12 @@ impl NativeShape for Point {
     ghost OFFSET = { pos 1 };
 
     ghost offset_is = { refl };
-
-    fn shape_name() -> &'static str {
-        Self::NAME
-    }
 }
 
 /// The shape of line strings.
 pub struct LineString;
 
 impl NativeShape for LineString {
-    ghost use Rattle.std.specs.Prelude.{refl, pos};
-    ghost use Rattle.geoarrow_layout.specs.declared.encodings.NativeKind.TheVariants as kinds;
-
     const NAME: &'static str = "geoarrow.linestring";
 
     const TYPE: &'static str = "LineStringType";
@@ -79,19 +74,12 @@ impl NativeShape for LineString {
     ghost OFFSET = { pos 2 };
 
     ghost offset_is = { refl };
-
-    fn shape_name() -> &'static str {
-        Self::NAME
-    }
 }
 
 /// The shape of polygons.
 pub struct Polygon;
 
 impl NativeShape for Polygon {
-    ghost use Rattle.std.specs.Prelude.{refl, pos};
-    ghost use Rattle.geoarrow_layout.specs.declared.encodings.NativeKind.TheVariants as kinds;
-
     const NAME: &'static str = "geoarrow.polygon";
 
     const TYPE: &'static str = "PolygonType";
@@ -105,8 +93,4 @@ impl NativeShape for Polygon {
     ghost OFFSET = { pos 3 };
 
     ghost offset_is = { refl };
-
-    fn shape_name() -> &'static str {
-        Self::NAME
-    }
 }

@@ -1,5 +1,5 @@
 -- What is written of points, well-known binary and text is taken for that.
-use Rattle.geoarrow_schema.proofs.Terms.{◌≡◌, ◌∙◌, refl, sym, subst, true, false, codes, FieldTree, CoordType, Dimension, Point, Plain, Kind, Native, Wkb, Wkt, Inferred, layout, leaf_layout}
+use Rattle.geoarrow_schema.proofs.Terms.{◌≡◌, ◌∙◌, refl, sym, subst, arith, true, false, codes, FieldTree, CoordType, Dimension, Point, Kind, Native, Inferred, layout, leaf_layout}
 use Rattle.geoarrow_schema.proofs.Terms.{DenotesMetadata, empty, GeoArrowType, kind_of, meta_of, InfersAs, Infers, InferredAs, IsInferable, IsBareColumn}
 use Rattle.std.proofs.lemmas.Bool.{false≢true}
 use Rattle.std.proofs.lemmas.Slice.Eq.{bytes_eq-Decides}
@@ -17,11 +17,7 @@ leaf_inferred _ _ = (refl, refl)
 
 layout_inferred : (k : Kind) → IsInferable k → InferredAs (layout k) k
 layout_inferred (Native Point c d) h = leaf_inferred c d
-layout_inferred (Wkb Plain) h = refl
-layout_inferred (Wkb w) h = refl
-layout_inferred (Wkt Plain) h = refl
-layout_inferred (Wkt w) h = refl
-layout_inferred _ h = absurd h
+layout_inferred _ h = grind arith
 
 pub bare_inferred : (f : FieldTree) (g : GeoArrowType) → IsInferable (kind_of g) → IsBareColumn f (kind_of g) → meta_of g ≡ empty → Infers f g
 unfolding InfersAs

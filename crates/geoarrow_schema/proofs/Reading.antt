@@ -1,7 +1,7 @@
 -- A field's name, tree and metadata text, and what it reads as.
-use Rattle.geoarrow_schema.proofs.Terms.{◌≡◌, ◌⊎◌, ◌∙◌, inl, inr, ap, sym, subst, same_Some, arc_value, Text, Tree, FieldTree, extension_metadata, IsMemory, IsGeoMemory, IsInvalidOf, ArrowError}
+use Rattle.geoarrow_schema.proofs.Terms.{◌≡◌, ◌⊎◌, ◌∙◌, inl, inr, ap, sym, subst, Some, same_Some, arc_value, Text, Tree, FieldTree, extension_metadata, IsMemory, IsGeoMemory, IsInvalidOf, ArrowError}
 use Rattle.geoarrow_schema.proofs.Terms.{GeoArrowError, Arrow, InvalidGeoArrow, Width, Kind, name_text, extension_of, name_of, Accepts, Accepted, IsBytes, IsText, Metadata, DenotesMetadata}
-use Rattle.geoarrow_schema.proofs.Terms.{TextRefusedAs, Arc, Global, IsColumn, ReadsAs, GeoArrowType, kind_of, metadata_of, meta_of, HasName, HasGeoArrowName, Reads, ReadsAsNone, ReadsAlone}
+use Rattle.geoarrow_schema.proofs.Terms.{TextRefusedAs, Arc, Global, ReadsAs, GeoArrowType, kind_of, metadata_of, meta_of, HasName, HasGeoArrowName, Reads, ReadsAsNone}
 use Rattle.geoarrow_schema.proofs.Terms.{HasWrongStorage, ColumnRefusedAs, IsRefusedBy, IsTypeRefusal, InfersAs, ReadsOrInfersAlone}
 use Rattle.geoarrow_layout.specs.declared.names.ExtensionName.{ExtensionName}
 use Rattle.geoarrow_layout.specs.declared.names.ExtensionName.TheVariants.{Wkb, Wkt}
@@ -17,10 +17,10 @@ pub read_uninferred : (f : FieldTree) (j k : Kind) (m n : Metadata) → ReadsAs 
 unfolding InfersAs
 read_uninferred f j k m n reads infers = infers.0 (read_has_name f j m reads)
 
--- a column with a metadata is read as the type of them
-pub type_reads : (f : FieldTree) (k : Kind) (m : Arc Metadata Global) (g : GeoArrowType) → kind_of g ≡ k → metadata_of g ≡ m → IsColumn f k → DenotesMetadata (extension_metadata f) (arc_value m) → Reads f g
+-- a field of the name and the data type of a kind, with a metadata, is read as the type of them
+pub type_reads : (f : FieldTree) (n : ExtensionName) (k : Kind) (m : Arc Metadata Global) (g : GeoArrowType) → kind_of g ≡ k → metadata_of g ≡ m → HasName f n → Accepts (name_text n) f.tree k → DenotesMetadata (extension_metadata f) (arc_value m) → Reads f g
 unfolding ReadsAs
-type_reads f k m g kind meta column stands = rw (kind, meta) (column, stands)
+type_reads f n k m g kind meta named column stands = rw (kind, meta) ((named ∙ ap Some column.0, column.1), stands)
 
 -- and as no other, and taken for none beside
 pub reads_alone : (f : FieldTree) (g : GeoArrowType) → ((j k : Kind) (m n : Metadata) → ReadsAs f j m → ReadsAs f k n → (j ≡ k) × (m ≡ n)) → Reads f g → ReadsOrInfersAlone f g
@@ -54,13 +54,14 @@ wrong_storage f n (inr is) named none = inr (subst (HasName f) is named, λ w h.
 
 -- ---- refusals
 
--- that of a column whose metadata text is refused
-pub column_refused : NamesAreDistinct → (f : FieldTree) (k : Kind) (a : ArrowError) → IsColumn f k → IsMemory a ⊎ ((m : Metadata) → ¬ DenotesMetadata (extension_metadata f) m) → TextRefusedAs (extension_metadata f) a → IsRefusedBy f (Arrow a)
+-- that of a field of the name and the data type of a kind whose metadata text is refused
+pub column_refused : NamesAreDistinct → (f : FieldTree) (n : ExtensionName) (k : Kind) (a : ArrowError) → HasName f n → Accepts (name_text n) f.tree k
+    → IsMemory a ⊎ ((m : Metadata) → ¬ DenotesMetadata (extension_metadata f) m) → TextRefusedAs (extension_metadata f) a → IsRefusedBy f (Arrow a)
 unfolding ReadsAs
-column_refused distinct f k a column (inl memory) refused = ((extension_of k, column.0), inl (ap Arrow memory))
-column_refused distinct f k a column (inr none) refused =
+column_refused distinct f n k a named column (inl memory) refused = ((n, named), inl (ap Arrow memory))
+column_refused distinct f n k a named column (inr none) refused =
     let stored = kind_stored k f.tree column.1 in
-    ((extension_of k, column.0), inr (λ k m r. none m r.1, (well_stored distinct f (extension_of k) column.0 stored.0 stored.1, inl refused)))
+    ((n, named), inr (λ j m r. none m r.1, (well_stored distinct f (extension_of k) (named ∙ ap Some column.0) stored.0 stored.1, inl refused)))
 
 -- that of a field whose name is of well-known binary or text, and whose tree is not
 pub unstored_refused : (f : FieldTree) (n : ExtensionName) (text : Text) (e : GeoArrowError) → (n ≡ Wkb) ⊎ (n ≡ Wkt) → HasName f n → ((k : Kind) → ¬ Accepts (name_text n) f.tree k)

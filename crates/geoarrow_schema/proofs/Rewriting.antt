@@ -1,12 +1,11 @@
 -- A field in normal form reads as that.
-use Rattle.geoarrow_schema.proofs.Terms.{◌≡◌, ◌∙◌, Option, None, refl, sym, ap, subst, option_map, Text, FieldTree, SetsExtension, name_key, metadata_key, set_extension, Kind, name_of, Accepted}
+use Rattle.geoarrow_schema.proofs.Terms.{◌≡◌, Option, None, refl, sym, ap, subst, FieldTree, SetsExtension, name_key, metadata_key, set_extension, Kind, name_of, Accepted}
 use Rattle.geoarrow_schema.proofs.Terms.{layout, Metadata, DenotesMetadata, ReadsAs, GeoArrowType, kind_of, meta_of, Reads, ReadsAlone, writes}
 use Rattle.serde_json.specs.Data.{Data}
-use Rattle.serde_json.specs.Written.{compact_text}
 use Rattle.geoarrow_meta.specs.declared.crs.crs_type.CrsType.{CrsType}
 use Rattle.geoarrow_meta.specs.declared.edges.Edges.{Edges}
-use Rattle.geoarrow_meta.specs.Written.{meta_value, printed, type_unless, normal, IsReadBack, NestsWithin}
-use Rattle.geoarrow_schema.specs.Normal.{rewritten, HasKeysOf, ReadsNormally, ReadsShallow}
+use Rattle.geoarrow_meta.specs.Written.{meta_value, printed, type_unless, normal}
+use Rattle.geoarrow_schema.specs.Normal.{rewritten, HasKeysOf, ReadsShallow}
 
 -- the normal form is written as the metadata itself
 same_value : (v : Option Data) (t : Option CrsType) (e : Option Edges)

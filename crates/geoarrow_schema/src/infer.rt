@@ -1,18 +1,17 @@
 //! Which type is inferred for a field without a GeoArrow name.
-ghost use Rattle.std.specs.Prelude.{◌≡◌, ◌⊎◌, IfOk, IfErr};
+ghost use Rattle.std.specs.Prelude.{◌≡◌, ◌⊎◌, IfOk};
 ghost use Rattle.arrow_values.specs.View.{tree};
 ghost use Rattle.arrow_values.specs.Errors.{IsGeoMemory};
-ghost use Rattle.geoarrow_layout.specs.declared.kinds.CoordType.{CoordType};
-ghost use Rattle.geoarrow_layout.specs.declared.kinds.Dimension.{Dimension};
 ghost use Rattle.geoarrow_layout.specs.declared.encodings.Kind.{Kind};
-ghost use Rattle.geoarrow_layout.specs.Inferred.{Inferred};
 ghost use Rattle.geoarrow_schema.specs.Reads.{HasGeoArrowName};
 ghost use Rattle.geoarrow_schema.specs.Infers.{InferredAs, ReadsOrInfersAlone, InfersNone, uninferred_text, bottom_text, UninferredAs, IsInference, YieldsInferred};
 
-use crate::read::{name_of, read_named};
+use crate::read::read_named;
 use crate::types::GeoArrowType;
 use arrow_values::{DataType, Field, GeoArrowError, GeoArrowResult};
-use geoarrow_layout::{Bottom, Kind, NativeKind, infer_point, parse_wkb, parse_wkt, summarize};
+use geoarrow_layout::{
+    Bottom, ExtensionName, Kind, NativeKind, infer_point, parse_wkb, parse_wkt, summarize,
+};
 use geoarrow_meta::Metadata;
 use std::alloc::Global;
 use std::sync::Arc;
@@ -40,9 +39,12 @@ impl GeoArrowType {
         ensures inference { IsInference field.now result }
         ensures only { IfOk result (ReadsOrInfersAlone field.now) }
     {
-        match name_of(field) {
-            Some(name) => read_named(alloc, field, name),
+        match field.extension_type_name() {
             None => infer(alloc, field),
+            Some(text) => match ExtensionName::from_text(text) {
+                Some(name) => read_named(alloc, field, name),
+                None => infer(alloc, field),
+            },
         }
     }
 }
@@ -86,20 +88,12 @@ pub fn infer_kind(data_type: &DataType) -> Option<Kind>
 {
     match infer_point(data_type) {
         Some(pair) => Some(Kind::Native(NativeKind::Point, pair.0, pair.1)),
-        None => infer_serialized(data_type),
-    }
-}
-
-/// The kind of well-known binary or text that a data type is taken for, which is no point.
-fn infer_serialized(data_type: &DataType) -> Option<Kind>
-    requires { (c : CoordType) (d : Dimension) → ¬ Inferred (tree data_type.now) c d }
-    ensures { YieldsInferred (tree data_type.now) result }
-{
-    match parse_wkb(data_type) {
-        Ok(width) => Some(Kind::Wkb(width)),
-        Err(_) => match parse_wkt(data_type) {
-            Ok(width) => Some(Kind::Wkt(width)),
-            Err(_) => None,
+        None => match parse_wkb(data_type) {
+            Ok(width) => Some(Kind::Wkb(width)),
+            Err(_) => match parse_wkt(data_type) {
+                Ok(width) => Some(Kind::Wkt(width)),
+                Err(_) => None,
+            },
         },
     }
 }

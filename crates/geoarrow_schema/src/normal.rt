@@ -13,7 +13,6 @@ use crate::types::GeoArrowType;
 use arrow_values::{ArrowError, Field, GeoArrowResult};
 use geoarrow_layout::{Kind, layout_reads_back, layouts_are_distinct};
 use geoarrow_meta::Metadata;
-use geoarrow_meta::laws::printed_reads_back;
 use std::alloc::{AllocError, Global};
 use std::sync::Arc;
 
@@ -74,7 +73,12 @@ impl GeoArrowType {
     {
         match GeoArrowType::from_extension_field(alloc, field)? {
             None => Ok(None),
-            Some(found) => Ok(Some(canonical(alloc, field, &found)?)),
+            Some(found) => {
+                let data_type = found.to_data_type(alloc)?;
+                let bare = field.try_clone_with_data_type(alloc, data_type)?;
+                layout_reads_back(found.kind());
+                Ok(Some(found.set_normal_extension(alloc, bare)?))
+            }
         }
     }
 
@@ -90,37 +94,24 @@ impl GeoArrowType {
         ensures refused { IfErr result IsMemory }
     {
         let data_type = self.to_data_type(alloc)?;
+        layout_reads_back(self.kind());
         self.set_normal_extension(alloc, field.with_data_type(data_type))
     }
 
     /// The field of this type's data type with the extension keys of its normal form: those of the type itself, since
     /// nothing writes what the normal form drops.
+    #[tactic(auto, using(crate::proofs::Rewriting::normal_written, crate::proofs::Rewriting::reads_where, crate::proofs::Rewriting::normal_value))]
     fn set_normal_extension(&self, alloc: Global, column: Field) -> Result<Field, ArrowError>
-        requires { column.tree ≡ layout (kind_of self.now) }
+        requires layout { column.tree ≡ layout (kind_of self.now) }
+        requires column { Accepted (kind_of self.now) column.tree }
         ensures written { IfOk result (λ f. f ≡ rewritten column (kind_of self.now) (normal (meta_of self.now))) }
         ensures keys { IfOk result (HasKeysOf self.now column) }
         ensures reads_back { IfOk result (λ f. ReadsNormally f (kind_of self.now) (meta_of self.now)) }
         ensures nested { IfOk result (λ f. ReadsShallow f self.now) }
         ensures refused { IfErr result IsMemory }
     {
-        layout_reads_back(self.kind());
-        printed_reads_back(self.metadata());
-        self.set_extension(alloc, column)
-    }
-
-    /// The field with the extension name and the metadata text of this type.
-    #[tactic(auto, using(crate::proofs::Rewriting::normal_written, crate::proofs::Rewriting::reads_where, crate::proofs::Rewriting::normal_value))]
-    fn set_extension(&self, alloc: Global, bare: Field) -> Result<Field, ArrowError>
-        ensures written { IfOk result (λ f. bare.tree ≡ layout (kind_of self.now)
-            → f ≡ rewritten bare (kind_of self.now) (normal (meta_of self.now))) }
-        ensures keys { IfOk result (HasKeysOf self.now bare) }
-        ensures reads_back { IfOk result (λ f. Accepted (kind_of self.now) bare.tree
-            → ReadsNormally f (kind_of self.now) (meta_of self.now)) }
-        ensures nested { IfOk result (λ f. Accepted (kind_of self.now) bare.tree → ReadsShallow f self.now) }
-        ensures refused { IfErr result IsMemory }
-    {
         let text = self.metadata().serialize(alloc)?;
-        Ok(bare.with_extension_texts(alloc, self.kind().name(), text)?)
+        Ok(column.with_extension_texts(alloc, self.kind().name(), text)?)
     }
 }
 
@@ -136,17 +127,4 @@ fn same_kind(one: Kind, other: Kind) -> bool
         (Kind::Wkt(w), Kind::Wkt(v)) => w == v,
         _ => false,
     }
-}
-
-/// The field of `rewrite_field`, of a field that is kept.
-fn canonical(alloc: Global, field: &Field, found: &GeoArrowType) -> Result<Field, ArrowError>
-    ensures written { IfOk result (λ f. f ≡ rewritten field.now (kind_of found.now) (normal (meta_of found.now))) }
-    ensures keys { IfOk result (HasKeysOf found.now field.now) }
-    ensures reads_back { IfOk result (λ f. ReadsNormally f (kind_of found.now) (meta_of found.now)) }
-    ensures nested { IfOk result (λ f. ReadsShallow f found.now) }
-    ensures refused { IfErr result IsMemory }
-{
-    let data_type = found.to_data_type(alloc)?;
-    let bare = field.try_clone_with_data_type(alloc, data_type)?;
-    found.set_normal_extension(alloc, bare)
 }

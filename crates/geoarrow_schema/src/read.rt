@@ -1,21 +1,18 @@
 //! Which type a field is read as.
-ghost use Rattle.std.specs.Prelude.{◌≡◌, ◌⊎◌, ◌↔◌, Some, IfOk, IfErr, IfSome};
+ghost use Rattle.std.specs.Prelude.{◌≡◌, Some, IfOk, IfErr, IfSome};
 ghost use Rattle.arrow_values.specs.Tree.{Text};
 ghost use Rattle.arrow_values.specs.Texts.{text_of, extension_name, extension_metadata};
-ghost use Rattle.arrow_values.specs.Errors.{IsMemory};
 ghost use Rattle.geoarrow_layout.specs.declared.names.ExtensionName.{ExtensionName};
 ghost use Rattle.geoarrow_layout.specs.declared.encodings.Kind.{Kind};
 ghost use Rattle.geoarrow_layout.specs.Kinds.{name_text};
 ghost use Rattle.geoarrow_layout.specs.Shapes.{Accepts};
 ghost use Rattle.geoarrow_layout.specs.FaultAt.{HasFault, FaultAt};
-ghost use Rattle.geoarrow_meta.specs.Read.{TextRefusedAs, IsTextReading};
-ghost use Rattle.geoarrow_native.specs.Column.{IsColumn};
-ghost use Rattle.geoarrow_schema.specs.Reads.{HasName, Reads, ReadsAlone, ColumnRefusedAs, IsRefusedBy, IsReading, IsTypeReading};
+ghost use Rattle.geoarrow_schema.specs.Reads.{HasName, Reads, ReadsAlone, IsRefusedBy, IsReading, IsTypeReading};
 ghost use Rattle.geoarrow_schema.specs.Infers.{ReadsOrInfersAlone};
 
 use crate::types::GeoArrowType;
-use arrow_values::{ArrowError, Field, GeoArrowError, GeoArrowResult};
-use geoarrow_layout::{ExtensionName, Kind, LayoutFault, names_are_distinct, parse_kind};
+use arrow_values::{Field, GeoArrowError, GeoArrowResult};
+use geoarrow_layout::{ExtensionName, LayoutFault, names_are_distinct, parse_kind};
 use geoarrow_meta::Metadata;
 use geoarrow_native::laws::reads_as_one_column;
 use std::alloc::Global;
@@ -82,30 +79,10 @@ fn read_under(alloc: Global, field: &Field, text: &str) -> GeoArrowResult<Option
     ensures reading { IsReading field.now result }
     ensures only { IfOk result (λ found. IfSome found (ReadsAlone field.now)) }
 {
-    let Some(name) = name_under(field, text) else {
+    let Some(name) = ExtensionName::from_text(text) else {
         return Ok(None);
     };
     Ok(Some(read_named(alloc, field, name)?))
-}
-
-/// The GeoArrow name that the extension name of a field is.
-#[inline(always)]
-fn name_under(_field: &Field, text: &str) -> Option<ExtensionName>
-    requires { extension_name _field.now ≡ Some text.now }
-    ensures { (name : ExtensionName) → (result ≡ Some name) ↔ HasName _field.now name }
-{
-    ExtensionName::from_text(text)
-}
-
-/// The GeoArrow name that stands on a field.
-#[inline(always)]
-pub(crate) fn name_of(field: &Field) -> Option<ExtensionName>
-    ensures { (name : ExtensionName) → (result ≡ Some name) ↔ HasName field.now name }
-{
-    match field.extension_type_name() {
-        None => None,
-        Some(text) => ExtensionName::from_text(text),
-    }
 }
 
 /// The type that a field of that name is read as.
@@ -120,26 +97,19 @@ pub(crate) fn read_named(
     ensures refused { IfErr result (IsRefusedBy field.now) }
 {
     match parse_kind(name, field.data_type()) {
-        Ok(kind) => read_kind(alloc, field, kind),
+        Ok(kind) => {
+            names_are_distinct();
+            reads_as_one_column(field);
+            let metadata = Metadata::deserialize(alloc, text_beside_name(field))?;
+            let metadata = Arc::new(alloc, metadata)?;
+            Ok(GeoArrowType::from_kind(kind, metadata))
+        }
         Err(fault) => Err(refusal(alloc, field, name, fault)),
     }
 }
 
-/// The type that a field is read as whose name and data type are those of a kind.
-#[tactic(auto, using(crate::proofs::Reading::type_reads, crate::proofs::Reading::reads_alone, crate::proofs::Reading::column_refused))]
-fn read_kind(alloc: Global, field: &Field, kind: Kind) -> GeoArrowResult<GeoArrowType>
-    requires { IsColumn field.now kind }
-    ensures ok { IfOk result (Reads field.now) }
-    ensures only { IfOk result (ReadsOrInfersAlone field.now) }
-    ensures refused { IfErr result (IsRefusedBy field.now) }
-{
-    let metadata = Arc::new(alloc, read_metadata_of_named(alloc, field)?)?;
-    reads_as_one_column(field);
-    names_are_distinct();
-    Ok(GeoArrowType::from_kind(kind, metadata))
-}
-
-/// The refusal of a field of that name whose data type is of no kind of it and has that fault under it.
+/// The refusal of a field of that name whose data type is of no kind of it and has that fault under it: for a name other than
+/// those of well-known binary and text, that of its metadata, if it is refused, goes before.
 #[cold]
 #[inline(never)]
 #[tactic(auto, using(crate::proofs::Reading::unstored_refused))]
@@ -158,39 +128,12 @@ fn refusal(alloc: Global, field: &Field, name: ExtensionName, fault: LayoutFault
         }
         _ => {
             names_are_distinct();
-            GeoArrowError::Arrow(structured_refusal(alloc, field, name, fault))
+            match Metadata::try_from_field(alloc, field) {
+                Ok(_) => GeoArrowError::Arrow(fault.into_arrow_error(alloc)),
+                Err(error) => GeoArrowError::Arrow(error),
+            }
         }
     }
-}
-
-/// The refusal of a field of that name whose data type has that fault under it: that of its metadata, if it is refused,
-/// goes before.
-#[cold]
-#[inline(never)]
-fn structured_refusal(
-    alloc: Global,
-    field: &Field,
-    _name: ExtensionName,
-    fault: LayoutFault,
-) -> ArrowError
-    requires named { HasName field.now _name }
-    requires at_fault { HasFault (FaultAt _name field.now.tree) fault }
-    ensures { IsMemory result ⊎ ColumnRefusedAs field.now result }
-{
-    match Metadata::try_from_field(alloc, field) {
-        Ok(_) => fault.into_arrow_error(alloc),
-        Err(error) => error,
-    }
-}
-
-/// The metadata of a field with an extension name.
-#[inline(always)]
-fn read_metadata_of_named(alloc: Global, field: &Field) -> Result<Metadata, ArrowError>
-    requires { (name : Text) × (extension_name field.now ≡ Some name) }
-    ensures exact { IsTextReading (extension_metadata field.now) result }
-    ensures refusal { IfErr result (TextRefusedAs (extension_metadata field.now)) }
-{
-    Metadata::deserialize(alloc, text_beside_name(field))
 }
 
 /// The metadata text of a field with an extension name, which is not looked for where the name is the only text.

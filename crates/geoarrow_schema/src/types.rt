@@ -66,6 +66,41 @@ pub enum GeoArrowType {
     WktView(WktType),
 }
 
+/// What is made of the column of a type, in the same way for each variant; all are named.
+macro_rules! of_each {
+    ($type:expr, $column:ident => $made:expr, $($variant:ident)|+) => {
+        match $type {
+            $(GeoArrowType::$variant($column) => $made,)+
+        }
+    };
+}
+
+/// The type with what its column is changed to, if it is native or of the variant named, otherwise unchanged.
+macro_rules! changed {
+    ($type:expr, $column:ident => $changed:expr, $other:ident) => {
+        changed!(
+            $type, $column => $changed,
+            $other | Point | LineString | Polygon | MultiPoint | MultiLineString | MultiPolygon
+                | GeometryCollection
+        )
+    };
+    ($type:expr, $column:ident => $changed:expr, $($variant:ident)|+) => {
+        match $type {
+            $(GeoArrowType::$variant($column) => GeoArrowType::$variant($changed),)+
+            other => other,
+        }
+    };
+}
+
+/// The type with that column, of the variant of the native kind; all kinds are named.
+macro_rules! of_that_kind {
+    ($kind:expr => $column:expr, $($variant:ident)|+) => {
+        match $kind {
+            $(NativeKind::$variant => GeoArrowType::$variant($column),)+
+        }
+    };
+}
+
 impl GeoArrowType {
     /// The type with that kind and metadata.
     pub fn from_kind(kind: Kind, metadata: Arc<Metadata>) -> GeoArrowType
@@ -116,23 +151,11 @@ impl GeoArrowType {
     pub fn metadata(&self) -> &Arc<Metadata>
         ensures { result.now ≡ metadata_of self.now }
     {
-        match self {
-            GeoArrowType::Point(t) => t.metadata(),
-            GeoArrowType::LineString(t) => t.metadata(),
-            GeoArrowType::Polygon(t) => t.metadata(),
-            GeoArrowType::MultiPoint(t) => t.metadata(),
-            GeoArrowType::MultiLineString(t) => t.metadata(),
-            GeoArrowType::MultiPolygon(t) => t.metadata(),
-            GeoArrowType::GeometryCollection(t) => t.metadata(),
-            GeoArrowType::Rect(t) => t.metadata(),
-            GeoArrowType::Geometry(t) => t.metadata(),
-            GeoArrowType::Wkb(t) | GeoArrowType::LargeWkb(t) | GeoArrowType::WkbView(t) => {
-                t.metadata()
-            }
-            GeoArrowType::Wkt(t) | GeoArrowType::LargeWkt(t) | GeoArrowType::WktView(t) => {
-                t.metadata()
-            }
-        }
+        of_each!(
+            self, t => t.metadata(),
+            Point | LineString | Polygon | MultiPoint | MultiLineString | MultiPolygon | GeometryCollection
+                | Rect | Geometry | Wkb | LargeWkb | WkbView | Wkt | LargeWkt | WktView
+        )
     }
 
     /// How the coordinates are stored: `Separated` for boxes, and `None` for well-known binary and text.
@@ -171,23 +194,7 @@ impl GeoArrowType {
         ensures kind { kind_of result ≡ with_coord_type coord_type (kind_of self) }
         ensures metadata { metadata_of result ≡ metadata_of self }
     {
-        match self {
-            GeoArrowType::Point(t) => GeoArrowType::Point(t.with_coord_type(coord_type)),
-            GeoArrowType::LineString(t) => GeoArrowType::LineString(t.with_coord_type(coord_type)),
-            GeoArrowType::Polygon(t) => GeoArrowType::Polygon(t.with_coord_type(coord_type)),
-            GeoArrowType::MultiPoint(t) => GeoArrowType::MultiPoint(t.with_coord_type(coord_type)),
-            GeoArrowType::MultiLineString(t) => GeoArrowType::MultiLineString(t.with_coord_type(
-                coord_type,
-            )),
-            GeoArrowType::MultiPolygon(t) => GeoArrowType::MultiPolygon(t.with_coord_type(
-                coord_type,
-            )),
-            GeoArrowType::GeometryCollection(t) => GeoArrowType::GeometryCollection(
-                t.with_coord_type(coord_type),
-            ),
-            GeoArrowType::Geometry(t) => GeoArrowType::Geometry(t.with_coord_type(coord_type)),
-            other => other,
-        }
+        changed!(self, t => t.with_coord_type(coord_type), Geometry)
     }
 
     /// The type with that dimension, otherwise unchanged. Geometries of any kind and well-known binary and text have no
@@ -203,23 +210,7 @@ impl GeoArrowType {
         ensures kind { kind_of result ≡ with_dimension dimension (kind_of self) }
         ensures metadata { metadata_of result ≡ metadata_of self }
     {
-        match self {
-            GeoArrowType::Point(t) => GeoArrowType::Point(t.with_dimension(dimension)),
-            GeoArrowType::LineString(t) => GeoArrowType::LineString(t.with_dimension(dimension)),
-            GeoArrowType::Polygon(t) => GeoArrowType::Polygon(t.with_dimension(dimension)),
-            GeoArrowType::MultiPoint(t) => GeoArrowType::MultiPoint(t.with_dimension(dimension)),
-            GeoArrowType::MultiLineString(t) => GeoArrowType::MultiLineString(t.with_dimension(
-                dimension,
-            )),
-            GeoArrowType::MultiPolygon(t) => GeoArrowType::MultiPolygon(t.with_dimension(
-                dimension,
-            )),
-            GeoArrowType::GeometryCollection(t) => GeoArrowType::GeometryCollection(
-                t.with_dimension(dimension),
-            ),
-            GeoArrowType::Rect(t) => GeoArrowType::Rect(t.with_dimension(dimension)),
-            other => other,
-        }
+        changed!(self, t => t.with_dimension(dimension), Rect)
     }
 
     /// The type with that metadata, otherwise unchanged.
@@ -239,7 +230,7 @@ fn native_kind<S: NativeShape>(native: &NativeType<S>) -> Kind
 }
 
 /// The type of that native kind, with these parts.
-fn native_type(
+pub(crate) fn native_type(
     kind: NativeKind,
     coord_type: CoordType,
     dimension: Dimension,
@@ -248,27 +239,8 @@ fn native_type(
     ensures kind { kind_of result ≡ OfNative kind coord_type dimension }
     ensures metadata { metadata_of result ≡ metadata }
 {
-    match kind {
-        NativeKind::Point => GeoArrowType::Point(PointType::new(
-            dimension, metadata,
-        ).with_coord_type(coord_type)),
-        NativeKind::LineString => GeoArrowType::LineString(LineStringType::new(
-            dimension, metadata,
-        ).with_coord_type(coord_type)),
-        NativeKind::Polygon => GeoArrowType::Polygon(PolygonType::new(
-            dimension, metadata,
-        ).with_coord_type(coord_type)),
-        NativeKind::MultiPoint => GeoArrowType::MultiPoint(MultiPointType::new(
-            dimension, metadata,
-        ).with_coord_type(coord_type)),
-        NativeKind::MultiLineString => GeoArrowType::MultiLineString(MultiLineStringType::new(
-            dimension, metadata,
-        ).with_coord_type(coord_type)),
-        NativeKind::MultiPolygon => GeoArrowType::MultiPolygon(MultiPolygonType::new(
-            dimension, metadata,
-        ).with_coord_type(coord_type)),
-        NativeKind::GeometryCollection => GeoArrowType::GeometryCollection(
-            GeometryCollectionType::new(dimension, metadata).with_coord_type(coord_type),
-        ),
-    }
+    of_that_kind!(
+        kind => NativeType::new(dimension, metadata).with_coord_type(coord_type),
+        Point | LineString | Polygon | MultiPoint | MultiLineString | MultiPolygon | GeometryCollection
+    )
 }
