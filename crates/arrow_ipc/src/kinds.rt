@@ -1,5 +1,7 @@
 //! Types by their tags, with their widths, units and sizes.
-ghost use Rattle.std.specs.Prelude.{◌≡◌};
+ghost use Rattle.std.specs.Prelude.{◌≡◌, ◌∷◌, []};
+ghost use Rattle.arrow_values.specs.declared.tree.UnionMode.TheVariants.{Sparse, Dense};
+ghost use Rattle.arrow_ipc.specs.declared.kinds.Kind.TheVariants.{YearMonthInterval, DayTimeInterval, MonthDayNanoInterval, Union};
 ghost use Rattle.arrow_ipc.specs.Wire.{IsOpen};
 ghost use Rattle.arrow_ipc.specs.Kinds.{unit_in, choice_at, int_at, decimal_at, time_width, time_at, size_in, kind_at};
 
@@ -152,6 +154,31 @@ fn time_at(bytes: &[u8], table: &Table) -> Result<Kind, Fault>
     }
 }
 
+/// An interval by its unit.
+fn interval_at(bytes: &[u8], table: &Table) -> Result<Kind, Fault>
+    requires { IsOpen bytes.now table.now }
+    ensures { result ≡ choice_at bytes.now table.now.at 0 (YearMonthInterval ∷ DayTimeInterval ∷ MonthDayNanoInterval ∷ []) }
+{
+    let kinds = [
+        Kind::YearMonthInterval,
+        Kind::DayTimeInterval,
+        Kind::MonthDayNanoInterval,
+    ];
+    choice_at(bytes, table, 0, &kinds)
+}
+
+/// A union by its mode.
+fn union_at(bytes: &[u8], table: &Table) -> Result<Kind, Fault>
+    requires { IsOpen bytes.now table.now }
+    ensures { result ≡ choice_at bytes.now table.now.at 0 (Union Sparse ∷ Union Dense ∷ []) }
+{
+    let kinds = [
+        Kind::Union(UnionMode::Sparse),
+        Kind::Union(UnionMode::Dense),
+    ];
+    choice_at(bytes, table, 0, &kinds)
+}
+
 /// The size in slot 0, which is not negative.
 #[tactic(auto, unfolding(crate::specs::Kinds::size_in))]
 fn size_in(bytes: &[u8], table: &Table) -> Result<i32, Fault>
@@ -188,27 +215,10 @@ pub(crate) fn kind_at(bytes: &[u8], tag: u8, table: &Table) -> Result<Kind, Faul
         8 => choice_at(bytes, table, 1, &[Kind::Date32, Kind::Date64]),
         9 => time_at(bytes, table),
         10 => Ok(Kind::Timestamp(unit_in(bytes, table, 0)?)),
-        11 => choice_at(
-            bytes,
-            table,
-            0,
-            &[
-                Kind::YearMonthInterval,
-                Kind::DayTimeInterval,
-                Kind::MonthDayNanoInterval,
-            ],
-        ),
+        11 => interval_at(bytes, table),
         12 => Ok(Kind::List(ListForm::Small)),
         13 => Ok(Kind::Struct),
-        14 => choice_at(
-            bytes,
-            table,
-            0,
-            &[
-                Kind::Union(UnionMode::Sparse),
-                Kind::Union(UnionMode::Dense),
-            ],
-        ),
+        14 => union_at(bytes, table),
         15 => Ok(Kind::FixedSizeBinary(size_in(bytes, table)?)),
         16 => Ok(Kind::List(ListForm::Fixed(size_in(bytes, table)?))),
         17 => Ok(Kind::Map),
