@@ -15,7 +15,7 @@ use Rattle.arrow_columns.specs.declared.nested.ListForm.TheVariants.{Fixed}
 use Rattle.arrow_ipc.specs.Fault.{◌>>=◌}
 use Rattle.arrow_ipc.specs.Wire.{u8_at, u16_at, u32_at, slot_at, target_at, vector_at}
 use Rattle.arrow_ipc.specs.Slots.{u8_in, u16_in, u32_in, flag_in}
-use Rattle.arrow_ipc.specs.Kinds.{int_at, choice_at, size_in, kind_at}
+use Rattle.arrow_ipc.specs.Kinds.{int_at, number_at, plain_of, kind_at}
 use Rattle.arrow_ipc.specs.Parts.{zone_in, ids_in}
 use Rattle.arrow_ipc.specs.Types.{type_of}
 use Rattle.arrow_ipc.specs.Columns.{ids_at, ids_of_kind, counted, is_new, put_id, ids_from}
@@ -23,7 +23,8 @@ use Rattle.arrow_ipc.specs.Blocks.{Lies, IsType, word, offsets, number, truth, p
 use Rattle.arrow_ipc.specs.Shapes.{column_of, member_ids, are_ids, member_fields, nested_columns, shape_of, ids_of, shape_tag, shape_bytes, has_table}
 use Rattle.arrow_ipc.specs.declared.fault.Fault.{Fault}
 use Rattle.arrow_ipc.specs.declared.kinds.Kind.{Kind}
-use Rattle.arrow_ipc.specs.declared.kinds.Kind.TheVariants.{Null, List as ListOf, Struct, Union}
+use Rattle.arrow_ipc.specs.declared.kinds.Kind.TheVariants.{Plain, List as ListOf, Struct, Union}
+use Rattle.arrow_values.specs.declared.tree.DataType.TheVariants.{Null}
 use Rattle.arrow_ipc.specs.Rooms.{is_sound, table_room}
 use Rattle.arrow_ipc.specs.declared.shapes.Shape.{Shape}
 use Rattle.arrow_ipc.specs.declared.shapes.Shape.TheVariants.{Table}
@@ -140,7 +141,7 @@ count_columns no_members = refl
 count_columns (member i n t b m ms) = let rest = count_columns ms in omega (arith, rest)
 
 by_mode : (bytes : List ℕ) (table : ℕ) (mode : UnionMode) → slot_at bytes table 0 ≡ Ok (Some (table + 8)) → u16_at bytes (table + 8) ≡ Ok (mode_number mode) → kind_at bytes 14 table ≡ Ok (Union mode)
-unfolding kind_at choice_at u16_in
+unfolding kind_at number_at plain_of u16_in
 by_mode bytes table Sparse here is = rw (here, is) refl
 by_mode bytes table Dense here is = rw (here, is) refl
 
@@ -230,7 +231,7 @@ truth_in _ = None
 
 -- a type that has a table
 pub table_is : (t : Tree) → has_table (shape_of t) (ids_of t) ≡ true → length (shape_bytes (shape_of t) (ids_of t)) < 2 ^ 31 → IsType (shape_tag (shape_of t)) (shape_bytes (shape_of t) (ids_of t)) (nested_columns t) (known t)
-unfolding kind_at int_at choice_at size_in type_of u8_in u16_in u32_in flag_in
+unfolding kind_at number_at plain_of int_at type_of u8_in u16_in u32_in flag_in
 table_is (union ms mode) sound small = union_type mode ms sound small
 table_is (struct fs) sound small =
     is_type 13 None None _ _ Struct (omega arith) (omega arith) refl refl (omega arith) (λ bytes at o k e. rw (o.slot 0) at e) (λ bytes table. rw (all_are_known (field_list fs), are_fields (field_list fs), field_trees_of_list fs) refl)
@@ -239,7 +240,7 @@ table_is (fixed_size_list n t b m (pos s)) sound small =
     let lt : nat_lt s (2 ^ 31) ≡ true = grind arith in
     let few = below s (2 ^ 31) lt in
     rw lt (is_type 16 (Some s) None _ _ (ListOf (Fixed (pos s))) (omega arith) (omega arith) refl refl (omega (arith, few)) (λ bytes at o k e. simp (o.slot, o.word_is, lt) at e) (λ bytes table. refl))
-table_is (plain null) sound small = is_type 1 None None _ _ Null (omega arith) (omega arith) refl refl (omega arith) (λ bytes at o k e. rw (o.slot 0) at e) (λ bytes table. refl)
+table_is (plain null) sound small = is_type 1 None None _ _ (Plain Null) (omega arith) (omega arith) refl refl (omega arith) (λ bytes at o k e. rw (o.slot 0) at e) (λ bytes table. refl)
 table_is t sound small =
     is_type (shape_tag (shape_of t)) (number_in (shape_of t)) (truth_in (shape_of t)) (nested_columns t) (known t) _ (omega arith) (omega arith) refl refl (omega arith)
     (λ bytes at o k e. simp (o.slot, o.word_is, o.half_is, o.byte_is) at e) (λ bytes table. refl)

@@ -1,11 +1,11 @@
 //! Columns with all that is below them, read into memory of their own within a budget.
 ghost use Rattle.std.specs.Prelude.{◌≡◌, ◌+◌, ◌*◌, ◌≤◌, length, IfOk, IfErr, IfSome, OnOk, map, option_map, ◌++◌, ◌∷◌, [], ◌<◌};
 ghost use Rattle.arrow_values.specs.View.{texts_of};
-ghost use Rattle.arrow_columns.specs.Column.{type_tree, column_tree};
+ghost use Rattle.arrow_columns.specs.Column.{column_tree};
 ghost use Rattle.arrow_ipc.specs.Fault.{map_ok};
 ghost use Rattle.arrow_ipc.specs.Parts.{parts_of};
 ghost use Rattle.arrow_ipc.specs.Tells.{Tells, Says};
-ghost use Rattle.arrow_ipc.specs.Columns.{entry_at, put_entry, texts_at, id_at, is_new, put_id, are_as_many, ids_at, ids_of_kind, typed, finished, columns_by, column_at};
+ghost use Rattle.arrow_ipc.specs.Columns.{entry_at, put_entry, texts_at, id_at, is_new, put_id, are_as_many, ids_at, ids_of_kind, finished, columns_by, column_at};
 
 use crate::fault::{Fault, IpcError, Rule};
 use crate::kinds::Kind;
@@ -13,18 +13,15 @@ use crate::parts::{Parts, parts_at};
 use crate::slots::table_in;
 use crate::types::{type_of, with_dictionary};
 use crate::wire::{open, target_at, u32_at, utf8_at};
-use arrow_columns::{Column, ColumnType};
+use arrow_columns::Column;
 use std::alloc::Global;
 use std::collections::BTreeMap;
 
+/// What is read, or why it is not.
+type Read<T> = Result<T, IpcError>;
+
 /// Takes an amount and the bytes of two texts from a budget.
-fn spend(
-    budget: &mut usize,
-    amount: usize,
-    one: &str,
-    other: &str,
-    at: usize,
-) -> Result<(), IpcError>
+fn spend(budget: &mut usize, amount: usize, one: &str, other: &str, at: usize) -> Read<()>
     ensures ok { OnOk result (budget.new + (amount + length one.now + length other.now) ≡ budget.old) }
     ensures err { IfErr result (λ e. (e ≡ IpcError.Budget at) × (budget.old < amount + length one.now + length other.now)) }
 {
@@ -61,7 +58,7 @@ fn put_entry(
     at: usize,
     budget: &mut usize,
     texts: &mut BTreeMap<String, String>,
-) -> Result<(), IpcError>
+) -> Read<()>
     ensures { Tells (λ _. texts_of texts.new.entries) (put_entry bytes.now at (texts_of texts.old.entries)) budget.old budget.new result }
 {
     let entry = entry_at(bytes, at)?;
@@ -79,7 +76,7 @@ pub(crate) fn read_texts(
     bytes: &[u8],
     entries: (usize, usize),
     budget: &mut usize,
-) -> Result<BTreeMap<String, String>, IpcError>
+) -> Read<BTreeMap<String, String>>
     requires { entries.0 + 4 * entries.1 ≤ length bytes.now }
     ensures { Tells (λ m. texts_of m.entries) (texts_at bytes.now entries) budget.old budget.new result }
 {
@@ -110,19 +107,13 @@ fn is_new(id: usize, ids: &[i8]) -> bool
 
 /// Puts a type id to those before it.
 #[tactic(auto, using(crate::proofs::Ids::no_id, crate::proofs::Ids::old_id, crate::proofs::Ids::new_id))]
-fn put_id(
-    bytes: &[u8],
-    table: usize,
-    written: Option<(usize, usize)>,
-    i: usize,
-    ids: &mut Vec<i8>,
-) -> Result<(), IpcError>
-    requires { IfSome written (λ v. v.0 + 4 * i + 4 ≤ length bytes.now) }
-    ensures { Says (λ _. ids.new.items) (put_id bytes.now table written ids.old.items i) result }
+fn put_id(bytes: &[u8], parts: &Parts<'_>, i: usize, ids: &mut Vec<i8>) -> Read<()>
+    requires { IfSome parts.now.ids (λ v. v.0 + 4 * i + 4 ≤ length bytes.now) }
+    ensures { Says (λ _. ids.new.items) (put_id bytes.now parts.now.table parts.now.ids ids.old.items i) result }
 {
-    let id = id_at(bytes, written, i)?;
+    let id = id_at(bytes, parts.ids, i)?;
     if !is_new(id, ids.as_slice()) {
-        return Err(IpcError::Broken(Fault::new(Rule::TypeIds, table)));
+        return Err(IpcError::Broken(Fault::new(Rule::TypeIds, parts.table)));
     }
     ids.push(id as i8)?;
     Ok(())
@@ -141,75 +132,49 @@ fn are_as_many(written: Option<(usize, usize)>, count: usize) -> bool
 /// The type ids of a union of so many children.
 #[tactic(auto, unfolding(crate::specs::Columns::ids_at))]
 #[inline(never)]
-fn read_ids(
-    alloc: Global,
-    bytes: &[u8],
-    table: usize,
-    written: Option<(usize, usize)>,
-    count: usize,
-) -> Result<Vec<i8>, IpcError>
-    requires { IfSome written (λ v. v.0 + 4 * v.1 ≤ length bytes.now) }
-    ensures { Says (λ ids. ids.items) (ids_at bytes.now table written count) result }
+fn read_ids(alloc: Global, bytes: &[u8], parts: &Parts<'_>, count: usize) -> Read<Vec<i8>>
+    requires { IfSome parts.now.ids (λ v. v.0 + 4 * v.1 ≤ length bytes.now) }
+    ensures { Says (λ ids. ids.items) (ids_at bytes.now parts.now.table parts.now.ids count) result }
 {
-    if !are_as_many(written, count) {
-        return Err(IpcError::Broken(Fault::new(Rule::TypeIds, table)));
+    if !are_as_many(parts.ids, count) {
+        return Err(IpcError::Broken(Fault::new(Rule::TypeIds, parts.table)));
     }
     let mut ids = Vec::new(alloc);
     'ids: for i in 0..count {
-        put_id(bytes, table, written, i, &mut ids)?;
+        put_id(bytes, parts, i, &mut ids)?;
     }
     Ok(ids)
 }
 
 /// The type ids of a column: of one that is no union, none.
-fn ids_of_kind(
-    alloc: Global,
-    bytes: &[u8],
-    parts: &Parts<'_>,
-    count: usize,
-) -> Result<Vec<i8>, IpcError>
+fn ids_of_kind(alloc: Global, bytes: &[u8], parts: &Parts<'_>, count: usize) -> Read<Vec<i8>>
     requires { IfSome parts.now.ids (λ v. v.0 + 4 * v.1 ≤ length bytes.now) }
     ensures { Says (λ ids. ids.items) (ids_of_kind parts.now.kind (ids_at bytes.now parts.now.table parts.now.ids count)) result }
 {
     match parts.kind {
-        Kind::Union(_) => read_ids(alloc, bytes, parts.table, parts.ids, count),
+        Kind::Union(_) => read_ids(alloc, bytes, parts, count),
         _ => Ok(Vec::new(alloc)),
     }
 }
 
-/// The type of a column, given its children.
-#[tactic(auto, unfolding(crate::specs::Columns::typed))]
-fn read_type(
-    alloc: Global,
-    bytes: &[u8],
-    parts: &Parts<'_>,
-    children: Vec<Column>,
-) -> Result<ColumnType, IpcError>
-    requires { IfSome parts.now.ids (λ v. v.0 + 4 * v.1 ≤ length bytes.now) }
-    ensures { Says type_tree (typed bytes.now (parts_of parts.now) (map column_tree children.items)) result }
-{
-    let ids = ids_of_kind(alloc, bytes, parts, children.len())?;
-    let Some(values) = type_of(alloc, parts.kind, parts.zone, ids, children)? else {
-        return Err(IpcError::Broken(Fault::new(Rule::Children, parts.table)));
-    };
-    let data_type = with_dictionary(alloc, parts.index, values)?;
-    Ok(data_type)
-}
-
 /// A column, given its children.
-#[tactic(auto, unfolding(crate::specs::Columns::finished))]
+#[tactic(auto, unfolding(crate::specs::Columns::finished, crate::specs::Columns::typed))]
 fn finish(
     alloc: Global,
     bytes: &[u8],
     parts: &Parts<'_>,
     children: Vec<Column>,
     budget: &mut usize,
-) -> Result<Column, IpcError>
+) -> Read<Column>
     requires ids { IfSome parts.now.ids (λ v. v.0 + 4 * v.1 ≤ length bytes.now) }
     requires texts { parts.now.texts.0 + 4 * parts.now.texts.1 ≤ length bytes.now }
     ensures { Tells column_tree (finished bytes.now (parts_of parts.now) (map column_tree children.items)) budget.old budget.new result }
 {
-    let data_type = read_type(alloc, bytes, parts, children)?;
+    let ids = ids_of_kind(alloc, bytes, parts, children.len())?;
+    let Some(values) = type_of(alloc, &parts.kind, parts.zone, ids, children)? else {
+        return Err(IpcError::Broken(Fault::new(Rule::Children, parts.table)));
+    };
+    let data_type = with_dictionary(alloc, &parts.index, values)?;
     let metadata = read_texts(alloc, bytes, parts.texts, budget)?;
     let name = String::from_str(alloc, parts.name)?;
     Ok(Column {
@@ -229,7 +194,7 @@ fn read_column(
     at: usize,
     depth: usize,
     budget: &mut usize,
-) -> Result<Column, IpcError>
+) -> Read<Column>
     ensures { Tells column_tree (column_at depth bytes.now at) budget.old budget.new result }
 {
     if depth == 0 {
@@ -249,7 +214,7 @@ pub(crate) fn read_columns(
     offsets: (usize, usize),
     depth: usize,
     budget: &mut usize,
-) -> Result<Vec<Column>, IpcError>
+) -> Read<Vec<Column>>
     requires { offsets.0 + 4 * offsets.1 ≤ length bytes.now }
     ensures { Tells (λ v. map column_tree v.items) (columns_by (column_at depth bytes.now) offsets) budget.old budget.new result }
 {

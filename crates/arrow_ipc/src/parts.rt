@@ -9,18 +9,19 @@ use crate::kinds::{Kind, int_at, kind_at};
 use crate::longs::u64_in;
 use crate::slots::{flag_in, table_in, text_in, u8_in, vector_in};
 use crate::wire::{Table, open, slot_at, target_at, vector_at};
+use arrow_values::DataType;
 
-/// How the values of a dictionary are looked up: by integers of that kind, and whether their order is one of the values.
-#[derive(Clone, Copy)]
+/// How the values of a dictionary are looked up: by integers of that type, and whether their order is one of the values.
+#[derive(Drop)]
 pub(crate) struct Index {
-    /// The kind of the integers.
-    pub kind: Kind,
+    /// The type of the integers.
+    pub integers: DataType,
     /// Whether the order of the values is that of the integers.
     pub ordered: bool,
 }
 
 /// What a column's table says of the column itself. A vector is where its elements begin, and how many they are.
-#[derive(Clone, Copy)]
+#[derive(Drop)]
 pub(crate) struct Parts<'a> {
     /// Where the column's table is.
     pub table: usize,
@@ -71,14 +72,14 @@ fn zone_in<'a>(bytes: &'a [u8], tag: u8, table: &Table) -> Result<&'a str, Fault
     }
 }
 
-/// The kind of a dictionary's indices.
+/// The type of a dictionary's indices.
 #[tactic(auto, using(crate::proofs::Opened::u32_opens), unfolding(crate::specs::Parts::index_at, crate::specs::Kinds::int_at))]
-fn index_at(bytes: &[u8], table: &Table) -> Result<Kind, Fault>
+fn index_at(bytes: &[u8], table: &Table) -> Result<DataType, Fault>
     requires { IsOpen bytes.now table.now }
     ensures { result ≡ index_at bytes.now table.now.at }
 {
     match slot_at(bytes, table, 1)? {
-        None => Ok(Kind::Int32),
+        None => Ok(DataType::Int32),
         Some(slot) => int_at(bytes, &open(bytes, target_at(bytes, slot)?)?),
     }
 }
@@ -94,9 +95,9 @@ fn index_in(bytes: &[u8], table: &Table) -> Result<Option<Index>, Fault>
         Some(slot) => {
             let dictionary = open(bytes, target_at(bytes, slot)?)?;
             let _id = u64_in(bytes, &dictionary, 0)?;
-            let kind = index_at(bytes, &dictionary)?;
+            let integers = index_at(bytes, &dictionary)?;
             let ordered = flag_in(bytes, &dictionary, 2)?;
-            Ok(Some(Index { kind, ordered }))
+            Ok(Some(Index { integers, ordered }))
         }
     }
 }
