@@ -71,9 +71,13 @@ pub type_built : (n : Option ℕ) (b : Option Bool) (p q : ℕ × ℕ) (numbers 
     → table_block (p.0 ∷ q.0 ∷ []) numbers [] ≡ type_block n b
 type_built n b p q numbers first second is = rw (is, first, second) refl
 
--- a type with no time zone and no type ids, by its kind, which is read after slot 0
+-- what is read after all that stands in the table
+abbrev after_all : List ℕ → ℕ → Result Kind Fault → Result Kind Fault
+after_all bytes at k = u32_at bytes (at + 4) >>= λ w. u16_at bytes (at + 4) >>= λ h. u8_at bytes (at + 8) >>= λ b. slot_at bytes at 0 >>= λ s. k
+
+-- a type with no time zone and no type ids, by its kind
 is_type : (tag : ℕ) (n : Option ℕ) (b : Option Bool) (cs : List ColumnTree) (t : TypeTree) (kind : Kind) → 0 < tag → tag ≤ 26 → (tag == 10) ≡ false → (tag == 14) ≡ false → number n < 2 ^ 32
-    → ((bytes : List ℕ) (at : ℕ) → Own n b bytes at → (k : Result Kind Fault) → k ≡ (slot_at bytes at 0 >>= λ first. kind_at bytes tag at) → k ≡ Ok kind)
+    → ((bytes : List ℕ) (at : ℕ) → Own n b bytes at → (k : Result Kind Fault) → k ≡ after_all bytes at (kind_at bytes tag at) → k ≡ Ok kind)
     → ((bytes : List ℕ) (table : ℕ) → (ids_of_kind kind (ids_at bytes table None (length cs)) >>= λ i. counted table (type_of kind [] i cs)) ≡ Ok t) → IsType tag (type_block n b) cs t
 unfolding zone_in ids_in
 is_type tag n b cs t kind some least no_zone no_ids small kind_is type_is =
@@ -89,7 +93,7 @@ is_type tag n b cs t kind some least no_zone no_ids small kind_is type_is =
             kind = kind;
             ids = None;
             is_first = own.slot 0;
-            is_kind = kind_is bytes at own (kind_at bytes tag at) (rw (own.slot 0) refl);
+            is_kind = kind_is bytes at own (kind_at bytes tag at) (rw (own.word_is, own.half_is, own.byte_is, own.slot 0) refl);
             no_zone = rw no_zone refl;
             is_ids = rw no_ids refl;
             is_type = type_is bytes;
@@ -234,13 +238,13 @@ pub table_is : (t : Tree) → has_table (shape_of t) (ids_of t) ≡ true → len
 unfolding kind_at number_at plain_of int_at type_of u8_in u16_in u32_in flag_in
 table_is (union ms mode) sound small = union_type mode ms sound small
 table_is (struct fs) sound small =
-    is_type 13 None None _ _ Struct (omega arith) (omega arith) refl refl (omega arith) (λ bytes at o k e. rw (o.slot 0) at e) (λ bytes table. rw (all_are_known (field_list fs), are_fields (field_list fs), field_trees_of_list fs) refl)
+    is_type 13 None None _ _ Struct (omega arith) (omega arith) refl refl (omega arith) (λ bytes at o k e. simp (o.slot, o.word_is, o.half_is, o.byte_is) at e) (λ bytes table. rw (all_are_known (field_list fs), are_fields (field_list fs), field_trees_of_list fs) refl)
 table_is (fixed_size_list n t b m (negsuc s)) sound small = absurd (cc)
 table_is (fixed_size_list n t b m (pos s)) sound small =
     let lt : nat_lt s (2 ^ 31) ≡ true = grind arith in
     let few = below s (2 ^ 31) lt in
-    rw lt (is_type 16 (Some s) None _ _ (ListOf (Fixed (pos s))) (omega arith) (omega arith) refl refl (omega (arith, few)) (λ bytes at o k e. simp (o.slot, o.word_is, lt) at e) (λ bytes table. refl))
-table_is (plain null) sound small = is_type 1 None None _ _ (Plain Null) (omega arith) (omega arith) refl refl (omega arith) (λ bytes at o k e. rw (o.slot 0) at e) (λ bytes table. refl)
+    rw lt (is_type 16 (Some s) None _ _ (ListOf (Fixed (pos s))) (omega arith) (omega arith) refl refl (omega (arith, few)) (λ bytes at o k e. simp (o.slot, o.word_is, o.half_is, o.byte_is, lt) at e) (λ bytes table. refl))
+table_is (plain null) sound small = is_type 1 None None _ _ (Plain Null) (omega arith) (omega arith) refl refl (omega arith) (λ bytes at o k e. simp (o.slot, o.word_is, o.half_is, o.byte_is) at e) (λ bytes table. refl)
 table_is t sound small =
     is_type (shape_tag (shape_of t)) (number_in (shape_of t)) (truth_in (shape_of t)) (nested_columns t) (known t) _ (omega arith) (omega arith) refl refl (omega arith)
     (λ bytes at o k e. simp (o.slot, o.word_is, o.half_is, o.byte_is) at e) (λ bytes table. refl)

@@ -136,14 +136,8 @@ pub(crate) fn texts_block(alloc: Global, texts: &BTreeMap<String, String>) -> Ma
 pub(crate) fn type_block(alloc: Global, number: Option<u32>, truth: Option<bool>) -> Made<Vec<u8>>
     ensures { Makes (type_block number truth) result }
 {
-    let (number_place, number) = match number {
-        Some(number) => (4, number),
-        None => (0, 0),
-    };
-    let (truth_place, truth) = match truth {
-        Some(truth) => (8, truth as u8),
-        None => (0, 0),
-    };
+    let (number_place, number) = number.map_or((0, 0), |number| (4, number));
+    let (truth_place, truth) = truth.map_or((0, 0), |truth| (8, truth as u8));
     let mut numbers = Vec::with_capacity(alloc, 8)?;
     put_word(&mut numbers, number)?;
     numbers.extend_from_slice(&[truth, 0, 0, 0])?;

@@ -25,16 +25,11 @@ fn spend(budget: &mut usize, amount: usize, one: &str, other: &str, at: usize) -
     ensures ok { OnOk result (budget.new + (amount + length one.now + length other.now) ≡ budget.old) }
     ensures err { IfErr result (λ e. (e ≡ IpcError.Budget at) × (budget.old < amount + length one.now + length other.now)) }
 {
-    let Some(left) = budget.checked_sub(amount) else {
-        return Err(IpcError::Budget(at));
-    };
-    let Some(left) = left.checked_sub(one.len()) else {
-        return Err(IpcError::Budget(at));
-    };
-    let Some(left) = left.checked_sub(other.len()) else {
-        return Err(IpcError::Budget(at));
-    };
-    *budget = left;
+    let left = budget
+        .checked_sub(amount)
+        .and_then(|left| left.checked_sub(one.len()))
+        .and_then(|left| left.checked_sub(other.len()));
+    *budget = left.ok_or(IpcError::Budget(at))?;
     Ok(())
 }
 
@@ -174,14 +169,11 @@ fn finish(
     let Some(values) = type_of(alloc, &parts.kind, parts.zone, ids, children)? else {
         return Err(IpcError::Broken(Fault::new(Rule::Children, parts.table)));
     };
-    let data_type = with_dictionary(alloc, &parts.index, values)?;
-    let metadata = read_texts(alloc, bytes, parts.texts, budget)?;
-    let name = String::from_str(alloc, parts.name)?;
     Ok(Column {
-        name,
+        data_type: with_dictionary(alloc, &parts.index, values)?,
+        metadata: read_texts(alloc, bytes, parts.texts, budget)?,
+        name: String::from_str(alloc, parts.name)?,
         nullable: parts.nullable,
-        data_type,
-        metadata,
     })
 }
 
@@ -220,8 +212,7 @@ pub(crate) fn read_columns(
 {
     let mut found = Vec::new(alloc);
     'columns: for i in 0..offsets.1 {
-        let column = read_column(alloc, bytes, offsets.0 + 4 * i, depth, budget)?;
-        found.push(column)?;
+        found.push(read_column(alloc, bytes, offsets.0 + 4 * i, depth, budget)?)?;
     }
     Ok(found)
 }

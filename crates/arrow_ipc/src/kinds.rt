@@ -67,11 +67,9 @@ fn decimal_at(bytes: &[u8], table: &Table) -> Result<Named, Fault>
     let precision = u32_in(bytes, table, 0, 0)?;
     let scale = u32_in(bytes, table, 1, 0)?;
     let width = u32_in(bytes, table, 2, 128)?;
-    if precision >= 128 || (scale >= 128 && scale < 0xffff_ff80) {
-        return Err(Fault::new(Rule::Parameter, table.at));
-    }
+    let fits = precision < 128 && (scale < 128 || scale >= 0xffff_ff80);
     match width {
-        32 | 64 | 128 | 256 => Ok(Named::Decimal(width, precision, scale)),
+        32 | 64 | 128 | 256 if fits => Ok(Named::Decimal(width, precision, scale)),
         _ => Err(Fault::new(Rule::Parameter, table.at)),
     }
 }
@@ -83,10 +81,7 @@ fn time_at(bytes: &[u8], table: &Table) -> Result<Named, Fault>
     ensures { result ≡ time_at bytes.now table.now.at }
 {
     let unit = u16_in(bytes, table, 0, 1)? as u32;
-    if unit > 3 {
-        return Err(Fault::new(Rule::Parameter, table.at));
-    }
-    if u32_in(bytes, table, 1, 32)? != time_width(unit) {
+    if unit > 3 || u32_in(bytes, table, 1, 32)? != time_width(unit) {
         return Err(Fault::new(Rule::Parameter, table.at));
     }
     Ok(Named::Time(unit))

@@ -11,11 +11,8 @@ use crate::wire::{Table, slot_at};
 fn u64_at(bytes: &[u8], at: usize) -> Result<u64, Fault>
     ensures { result ≡ u64_at bytes.now at }
 {
-    if at % 8 != 0 {
-        return Err(Fault::new(Rule::Number, at));
-    }
     match bytes.get(at..) {
-        Some([a, b, c, d, e, f, g, h, ..]) => {
+        Some([a, b, c, d, e, f, g, h, ..]) if at % 8 == 0 => {
             Ok(u64::from_le_bytes([*a, *b, *c, *d, *e, *f, *g, *h]))
         }
         _ => Err(Fault::new(Rule::Number, at)),
@@ -28,8 +25,6 @@ pub(crate) fn u64_in(bytes: &[u8], table: &Table, i: u16) -> Result<u64, Fault>
     requires { IsOpen bytes.now table.now }
     ensures { result ≡ u64_in bytes.now table.now.at i }
 {
-    match slot_at(bytes, table, i)? {
-        None => Ok(0),
-        Some(slot) => u64_at(bytes, slot),
-    }
+    let slot = slot_at(bytes, table, i)?;
+    slot.map_or(Ok(0), |slot| u64_at(bytes, slot))
 }

@@ -134,21 +134,15 @@ pub(crate) fn parts_at(bytes: &[u8], at: usize) -> Result<Parts<'_>, Fault>
     let tag = tag_in(bytes, &table)?;
     let value = open(bytes, table_in(bytes, &table, 3)?)?;
     let _first = slot_at(bytes, &value, 0)?;
-    let kind = kind_at(bytes, tag, &value)?;
-    let zone = zone_in(bytes, tag, &value)?;
-    let ids = ids_in(bytes, tag, &value)?;
-    let index = index_in(bytes, &table)?;
-    let children = vector_in(bytes, &table, 5)?;
-    let texts = vector_in(bytes, &table, 6)?;
     Ok(Parts {
         table: table.at,
         name,
         nullable,
-        kind,
-        zone,
-        index,
-        children,
-        ids,
-        texts,
+        kind: kind_at(bytes, tag, &value)?,
+        zone: zone_in(bytes, tag, &value)?,
+        ids: ids_in(bytes, tag, &value)?,
+        index: index_in(bytes, &table)?,
+        children: vector_in(bytes, &table, 5)?,
+        texts: vector_in(bytes, &table, 6)?,
     })
 }

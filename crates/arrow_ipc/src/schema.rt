@@ -128,11 +128,9 @@ fn read_flatbuffer(
     let fields = vector_at(bytes, table_in(bytes, &table, 1)?)?;
     let texts = vector_in(bytes, &table, 2)?;
     let mut budget = bytes.len() * 8;
-    let columns = read_columns(alloc, bytes, fields, NESTING_LIMIT, &mut budget)?;
-    let metadata = read_texts(alloc, bytes, texts, &mut budget)?;
     Ok(Schema {
-        columns,
-        metadata,
+        columns: read_columns(alloc, bytes, fields, NESTING_LIMIT, &mut budget)?,
+        metadata: read_texts(alloc, bytes, texts, &mut budget)?,
         endianness,
     })
 }

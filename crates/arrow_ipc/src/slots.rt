@@ -14,10 +14,8 @@ pub(crate) fn u8_in(bytes: &[u8], table: &Table, i: u16, missing: u8) -> Result<
     requires { IsOpen bytes.now table.now }
     ensures { result ≡ u8_in bytes.now table.now.at i missing }
 {
-    match slot_at(bytes, table, i)? {
-        None => Ok(missing),
-        Some(slot) => u8_at(bytes, slot),
-    }
+    let slot = slot_at(bytes, table, i)?;
+    slot.map_or(Ok(missing), |slot| u8_at(bytes, slot))
 }
 
 /// Whether a slot holds a byte other than 0.
@@ -37,10 +35,8 @@ pub(crate) fn u16_in(bytes: &[u8], table: &Table, i: u16, missing: u16) -> Resul
     requires { IsOpen bytes.now table.now }
     ensures { result ≡ u16_in bytes.now table.now.at i missing }
 {
-    match slot_at(bytes, table, i)? {
-        None => Ok(missing),
-        Some(slot) => u16_at(bytes, slot),
-    }
+    let slot = slot_at(bytes, table, i)?;
+    slot.map_or(Ok(missing), |slot| u16_at(bytes, slot))
 }
 
 /// A number of four bytes in a slot.
@@ -49,10 +45,8 @@ pub(crate) fn u32_in(bytes: &[u8], table: &Table, i: u16, missing: u32) -> Resul
     requires { IsOpen bytes.now table.now }
     ensures { result ≡ u32_in bytes.now table.now.at i missing }
 {
-    match slot_at(bytes, table, i)? {
-        None => Ok(missing),
-        Some(slot) => u32_at(bytes, slot),
-    }
+    let slot = slot_at(bytes, table, i)?;
+    slot.map_or(Ok(missing), |slot| u32_at(bytes, slot))
 }
 
 /// The text to which a slot leads, or the empty text where it is missing.

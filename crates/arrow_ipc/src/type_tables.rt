@@ -28,11 +28,7 @@ fn union_block(alloc: Global, mode: UnionMode, ids: &[i8]) -> Made<Vec<u8>>
         put_word(&mut words, id as u32)?;
     }
     let vector = linked_block(alloc, ids.len() as u32, &[], words.as_slice())?;
-    let mode = match mode {
-        UnionMode::Sparse => 0,
-        UnionMode::Dense => 1,
-    };
-    table_block(alloc, &[8, 4], &[mode, 0, 0, 0], &[vector])
+    table_block(alloc, &[8, 4], &[mode as u8, 0, 0, 0], &[vector])
 }
 
 /// A type's tag and table.

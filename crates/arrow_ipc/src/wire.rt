@@ -21,11 +21,8 @@ pub(crate) fn u8_at(bytes: &[u8], at: usize) -> Result<u8, Fault>
 pub(crate) fn u16_at(bytes: &[u8], at: usize) -> Result<u16, Fault>
     ensures { result ≡ u16_at bytes.now at }
 {
-    if at % 2 != 0 {
-        return Err(Fault::new(Rule::Number, at));
-    }
     match bytes.get(at..) {
-        Some([a, b, ..]) => Ok(u16::from_le_bytes([*a, *b])),
+        Some([a, b, ..]) if at % 2 == 0 => Ok(u16::from_le_bytes([*a, *b])),
         _ => Err(Fault::new(Rule::Number, at)),
     }
 }
@@ -35,11 +32,8 @@ pub(crate) fn u16_at(bytes: &[u8], at: usize) -> Result<u16, Fault>
 pub(crate) fn u32_at(bytes: &[u8], at: usize) -> Result<u32, Fault>
     ensures { result ≡ u32_at bytes.now at }
 {
-    if at % 4 != 0 {
-        return Err(Fault::new(Rule::Number, at));
-    }
     match bytes.get(at..) {
-        Some([a, b, c, d, ..]) => Ok(u32::from_le_bytes([*a, *b, *c, *d])),
+        Some([a, b, c, d, ..]) if at % 4 == 0 => Ok(u32::from_le_bytes([*a, *b, *c, *d])),
         _ => Err(Fault::new(Rule::Number, at)),
     }
 }

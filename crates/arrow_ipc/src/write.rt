@@ -99,11 +99,8 @@ fn stream_bytes(alloc: Global, columns: Vec<u8>, texts: Vec<u8>, order: Endianne
     ensures small { IfOk result (λ _. length (message_block (schema_block columns.items texts.items order)) < 2 ^ 31) }
     ensures err { IfErr result (λ e. Refuses e ⊥ (length (message_block (schema_block columns.items texts.items order)))) }
 {
-    let order = match order {
-        Endianness::Little => 0,
-        Endianness::Big => 1,
-    };
-    let schema = table_block(alloc, &[12, 4, 8], &[order, 0, 0, 0], &[columns, texts])?;
+    let numbers = [order as u8, 0, 0, 0];
+    let schema = table_block(alloc, &[12, 4, 8], &numbers, &[columns, texts])?;
     let message = table_block(alloc, &[8, 10, 4], &[4, 0, 1, 0], &[schema])?;
     if message.len() >= 0x7fff_fff8 {
         return Err(WriteError::TooLarge);

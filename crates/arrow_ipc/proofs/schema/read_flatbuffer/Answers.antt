@@ -11,7 +11,7 @@ returns c =
     let led : c.args.place ≡ Ok c.in_ok-place.field-0 = grind arith in
     let h : Head = record { endianness = order; fields = c.in_ok-fields.fields; texts = c.in_ok-texts.texts } in
     let headed : head_at bytes c.in_ok-place.field-0 ≡ Ok h = grind arith in
-    let cs = c.in_ok-columns.ensures in
-    let ms = c.in_ok-metadata.ensures in
-    let s : Schema = record { columns = c.in_ok-columns.columns; metadata = c.in_ok-metadata.metadata; endianness = order } in
+    let cs = c.in_ok-read_columns.ensures in
+    let ms = c.in_ok-read_texts.ensures in
+    let s : Schema = record { columns = c.in_ok-read_columns.field-0; metadata = c.in_ok-read_texts.field-0; endianness = order } in
     (8 * length bytes - c.read_texts.new.budget, omega (arith, cs.0, ms.0), rw (led, headed, cs.1, ms.1) (ap (λ (n : ℕ). Ok (schema_tree s, n)) (omega (arith, cs.0, ms.0))))
