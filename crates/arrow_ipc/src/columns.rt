@@ -12,13 +12,16 @@ use crate::kinds::Kind;
 use crate::parts::{Parts, parts_at};
 use crate::slots::table_in;
 use crate::types::{type_of, with_dictionary};
-use crate::wire::{open, target_at, u32_at, utf8_at};
+use crate::wire::{Vector, open, target_at, u32_at, utf8_at};
 use arrow_columns::Column;
 use std::alloc::Global;
 use std::collections::BTreeMap;
 
 /// What is read, or why it is not.
-type Read<T> = Result<T, IpcError>;
+pub(crate) type Read<T> = Result<T, IpcError>;
+
+/// The texts of metadata.
+type Texts = BTreeMap<String, String>;
 
 /// Takes an amount and the bytes of two texts from a budget.
 fn spend(budget: &mut usize, amount: usize, one: &str, other: &str, at: usize) -> Read<()>
@@ -47,43 +50,32 @@ fn entry_at(bytes: &[u8], at: usize) -> Result<(&str, &str), Fault>
 /// Puts an entry of metadata to those before it.
 #[tactic(auto, using(crate::proofs::Inserted::texts_inserted))]
 #[inline(never)]
-fn put_entry(
-    alloc: Global,
-    bytes: &[u8],
-    at: usize,
-    budget: &mut usize,
-    texts: &mut BTreeMap<String, String>,
-) -> Read<()>
-    ensures { Tells (λ _. texts_of texts.new.entries) (put_entry bytes.now at (texts_of texts.old.entries)) budget.old budget.new result }
+fn put_entry(alloc: Global, bytes: &[u8], at: usize, budget: &mut usize, to: &mut Texts) -> Read<()>
+    ensures { Tells (λ _. texts_of to.new.entries) (put_entry bytes.now at (texts_of to.old.entries)) budget.old budget.new result }
 {
     let entry = entry_at(bytes, at)?;
     spend(budget, 8, entry.0, entry.1, at)?;
     let key = String::from_str(alloc, entry.0)?;
     let text = String::from_str(alloc, entry.1)?;
-    texts.insert(key, text)?;
+    to.insert(key, text)?;
     Ok(())
 }
 
 /// The metadata to which the offsets of a vector lead.
 #[tactic(auto, unfolding(crate::specs::Columns::texts_at))]
-pub(crate) fn read_texts(
-    alloc: Global,
-    bytes: &[u8],
-    entries: (usize, usize),
-    budget: &mut usize,
-) -> Read<BTreeMap<String, String>>
-    requires { entries.0 + 4 * entries.1 ≤ length bytes.now }
-    ensures { Tells (λ m. texts_of m.entries) (texts_at bytes.now entries) budget.old budget.new result }
+pub(crate) fn read_texts(alloc: Global, bytes: &[u8], at: Vector, budget: &mut usize) -> Read<Texts>
+    requires { at.0 + 4 * at.1 ≤ length bytes.now }
+    ensures { Tells (λ m. texts_of m.entries) (texts_at bytes.now at) budget.old budget.new result }
 {
     let mut texts = BTreeMap::new(alloc);
-    'entries: for i in 0..entries.1 {
-        put_entry(alloc, bytes, entries.0 + 4 * i, budget, &mut texts)?;
+    'entries: for i in 0..at.1 {
+        put_entry(alloc, bytes, at.0 + 4 * i, budget, &mut texts)?;
     }
     Ok(texts)
 }
 
 /// The type id at an index: where they are not written, the index.
-fn id_at(bytes: &[u8], written: Option<(usize, usize)>, i: usize) -> Result<usize, Fault>
+fn id_at(bytes: &[u8], written: Option<Vector>, i: usize) -> Result<usize, Fault>
     requires { IfSome written (λ v. v.0 + 4 * i + 4 ≤ length bytes.now) }
     ensures { result ≡ id_at bytes.now written i }
 {
@@ -115,7 +107,7 @@ fn put_id(bytes: &[u8], parts: &Parts<'_>, i: usize, ids: &mut Vec<i8>) -> Read<
 }
 
 /// Whether as many type ids are written, if any, as there are children.
-fn are_as_many(written: Option<(usize, usize)>, count: usize) -> bool
+fn are_as_many(written: Option<Vector>, count: usize) -> bool
     ensures { result ≡ are_as_many written count }
 {
     match written {
@@ -203,7 +195,7 @@ fn read_column(
 pub(crate) fn read_columns(
     alloc: Global,
     bytes: &[u8],
-    offsets: (usize, usize),
+    offsets: Vector,
     depth: usize,
     budget: &mut usize,
 ) -> Read<Vec<Column>>

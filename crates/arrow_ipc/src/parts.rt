@@ -8,7 +8,7 @@ use crate::fault::{Fault, Rule};
 use crate::kinds::{Kind, int_at, kind_at};
 use crate::longs::u64_in;
 use crate::slots::{flag_in, table_in, text_in, u8_in, vector_in};
-use crate::wire::{Table, open, slot_at, target_at, vector_at};
+use crate::wire::{Table, Vector, open, slot_at, target_at, vector_at};
 use arrow_values::DataType;
 
 /// How the values of a dictionary are looked up: by integers of that type, and whether their order is one of the values.
@@ -20,7 +20,7 @@ pub(crate) struct Index {
     pub ordered: bool,
 }
 
-/// What a column's table says of the column itself. A vector is where its elements begin, and how many they are.
+/// What a column's table says of the column itself.
 #[derive(Drop)]
 pub(crate) struct Parts<'a> {
     /// Where the column's table is.
@@ -36,11 +36,11 @@ pub(crate) struct Parts<'a> {
     /// The dictionary, if it has one.
     pub index: Option<Index>,
     /// The tables of its children.
-    pub children: (usize, usize),
+    pub children: Vector,
     /// The type ids of a union, if it says them.
-    pub ids: Option<(usize, usize)>,
+    pub ids: Option<Vector>,
     /// The tables of its metadata.
-    pub texts: (usize, usize),
+    pub texts: Vector,
 }
 
 /// The tag of a column's type.
@@ -105,7 +105,7 @@ fn index_in(bytes: &[u8], table: &Table) -> Result<Option<Index>, Fault>
 /// Where the type ids of a union are; `None` where they are missing, and of another type.
 #[tactic(auto, unfolding(crate::specs::Parts::ids_in))]
 #[inline(always)]
-fn ids_in(bytes: &[u8], tag: u8, table: &Table) -> Result<Option<(usize, usize)>, Fault>
+fn ids_in(bytes: &[u8], tag: u8, table: &Table) -> Result<Option<Vector>, Fault>
     requires { IsOpen bytes.now table.now }
     ensures is { result ≡ ids_in bytes.now tag table.now.at }
     ensures within { IfOk result (λ o. IfSome o (λ p. p.0 + 4 * p.1 ≤ length bytes.now)) }

@@ -3,7 +3,7 @@ ghost use Rattle.std.specs.Prelude.{◌≡◌, ◌+◌, ◌*◌, ◌^◌, ◌≤
 ghost use Rattle.arrow_ipc.specs.Fault.{map_ok};
 ghost use Rattle.arrow_ipc.specs.Schema.{message_at, footer_at, cut, message_in, footer_in, schema_of, Meets, MeetsIn, schema_of_message, schema_of_footer};
 
-use crate::columns::{read_columns, read_texts};
+use crate::columns::{Read, read_columns, read_texts};
 use crate::fault::{Fault, IpcError, Rule};
 use crate::longs::u64_in;
 use crate::slots::{table_in, u8_in, u16_in, vector_in};
@@ -112,11 +112,7 @@ fn footer_in(bytes: &[u8]) -> Result<&[u8], Fault>
 
 /// Reads the schema whose table is at that place of a message or footer, within a budget of eight times its bytes.
 #[tactic(auto, using(crate::proofs::Opened::u16_opens), unfolding(crate::specs::Schema::schema_at, crate::specs::Schema::head_at))]
-fn read_flatbuffer(
-    alloc: Global,
-    bytes: &[u8],
-    place: Result<usize, Fault>,
-) -> Result<Schema, IpcError>
+fn read_flatbuffer(alloc: Global, bytes: &[u8], place: Result<usize, Fault>) -> Read<Schema>
     requires { length bytes.now < 2 ^ 32 }
     ensures { MeetsIn (schema_of NESTING_LIMIT place) bytes.now result }
 {

@@ -5,7 +5,7 @@ ghost use Rattle.arrow_ipc.specs.Slots.{u8_in, flag_in, u16_in, u32_in, text_in,
 ghost use Rattle.arrow_ipc.specs.Fault.{map_ok};
 
 use crate::fault::{Fault, Rule};
-use crate::wire::{Table, slot_at, target_at, u8_at, u16_at, u32_at, utf8_at, vector_at};
+use crate::wire::{Table, Vector, slot_at, target_at, u8_at, u16_at, u32_at, utf8_at, vector_at};
 
 /// A byte in a slot.
 #[tactic(auto, unfolding(crate::specs::Slots::u8_in))]
@@ -77,7 +77,7 @@ pub(crate) fn table_in(bytes: &[u8], table: &Table, i: u16) -> Result<usize, Fau
 /// The vector to which a slot leads, or one with no elements where it is missing.
 #[tactic(auto, unfolding(crate::specs::Slots::vector_in))]
 #[inline(always)]
-pub(crate) fn vector_in(bytes: &[u8], table: &Table, i: u16) -> Result<(usize, usize), Fault>
+pub(crate) fn vector_in(bytes: &[u8], table: &Table, i: u16) -> Result<Vector, Fault>
     requires { IsOpen bytes.now table.now }
     ensures is { result ≡ vector_in bytes.now table.now.at i }
     ensures within { IfOk result (λ p. p.0 + 4 * p.1 ≤ length bytes.now) }

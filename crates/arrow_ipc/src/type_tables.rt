@@ -7,13 +7,13 @@ ghost use Rattle.arrow_ipc.specs.Rooms.{MakesSound, IsTable};
 
 use crate::blocks::{linked_block, put_word, table_block, type_block};
 use crate::shapes::{Shape, shape_of, type_ids};
-use crate::write::{Made, WriteError};
+use crate::write::{Block, WriteError};
 use arrow_values::{DataType, UnionMode};
 use std::alloc::Global;
 
 /// A union's table, with its type ids.
 #[tactic(auto, using(crate::proofs::TypeTables::length_union))]
-fn union_block(alloc: Global, mode: UnionMode, ids: &[i8]) -> Made<Vec<u8>>
+fn union_block(alloc: Global, mode: UnionMode, ids: &[i8]) -> Block
     ensures { MakesSound (are_ids [] ids.now) (union_block mode ids.now) result }
 {
     if ids.len() >= 0x2000_0000 {
@@ -32,7 +32,7 @@ fn union_block(alloc: Global, mode: UnionMode, ids: &[i8]) -> Made<Vec<u8>>
 }
 
 /// A type's tag and table.
-pub(crate) fn type_table(alloc: Global, data_type: &DataType) -> Made<(u8, Vec<u8>)>
+pub(crate) fn type_table(alloc: Global, data_type: &DataType) -> Result<(u8, Vec<u8>), WriteError>
     ensures { IsTable (shape_of (tree data_type.now)) (ids_of (tree data_type.now)) result }
 {
     match shape_of(data_type) {

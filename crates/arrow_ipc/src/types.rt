@@ -16,6 +16,8 @@ use std::alloc::{AllocError, Global};
 /// What is made; only memory may lack.
 type Made<T> = Result<T, AllocError>;
 
+type Typed = Made<ColumnType>;
+
 /// The word of a unit.
 fn unit_word(unit: u32) -> &'static str
     ensures { result.now ≡ unit_word unit }
@@ -94,12 +96,7 @@ fn member_parts(alloc: Global, ids: &[i8], children: &[Column]) -> Made<Vec<Stri
 }
 
 /// A union of children under type ids, which are 0 to 127, each once, and as many as the children.
-fn union_type(
-    alloc: Global,
-    mode: UnionMode,
-    ids: Vec<i8>,
-    children: Vec<Column>,
-) -> Made<ColumnType>
+fn union_type(alloc: Global, mode: UnionMode, ids: Vec<i8>, children: Vec<Column>) -> Typed
     ensures { IfOk result (λ made. type_tree made ≡ union_type mode ids.items (map column_tree children.items)) }
 {
     if !all_known(children.as_slice()) {
@@ -154,11 +151,7 @@ pub(crate) fn type_of(
 }
 
 /// A type, or where it has a dictionary, that of the dictionary.
-pub(crate) fn with_dictionary(
-    alloc: Global,
-    index: &Option<Index>,
-    values: ColumnType,
-) -> Made<ColumnType>
+pub(crate) fn with_dictionary(alloc: Global, index: &Option<Index>, values: ColumnType) -> Typed
     ensures { IfOk result (λ made. type_tree made ≡ with_dictionary index.now (type_tree values)) }
 {
     let Some(index) = index else {

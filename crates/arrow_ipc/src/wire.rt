@@ -65,6 +65,9 @@ fn vtable_at(bytes: &[u8], table: usize) -> Result<usize, Fault>
     }
 }
 
+/// Where the elements of a vector begin, and how many they are.
+pub(crate) type Vector = (usize, usize);
+
 /// A table whose vtable lies before the end: where the table and its vtable are, and how many bytes the vtable has.
 #[derive(Clone, Copy)]
 pub(crate) struct Table {
@@ -148,7 +151,7 @@ pub(crate) fn utf8_at(bytes: &[u8], at: usize) -> Result<&str, Fault>
 
 /// Where the elements of a vector begin, of four bytes each, and how many they are.
 #[tactic(auto, unfolding(crate::specs::Wire::vector_at, crate::specs::Wire::ahead))]
-pub(crate) fn vector_at(bytes: &[u8], at: usize) -> Result<(usize, usize), Fault>
+pub(crate) fn vector_at(bytes: &[u8], at: usize) -> Result<Vector, Fault>
     ensures is { result ≡ vector_at bytes.now at }
     ensures within { IfOk result (λ p. p.0 + 4 * p.1 ≤ length bytes.now) }
 {

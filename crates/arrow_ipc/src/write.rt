@@ -30,8 +30,8 @@ pub enum WriteError {
     OutOfMemory,
 }
 
-/// What is made, or why it is not.
-pub(crate) type Made<T> = Result<T, WriteError>;
+/// A block that is made, or why it is not.
+pub(crate) type Block = Result<Vec<u8>, WriteError>;
 
 impl From<AllocError> for WriteError {
     ghost from_gives = { λ _ e. e ≡ OutOfMemory };
@@ -60,7 +60,7 @@ fn refused(error: WriteError, index: usize) -> WriteError
 }
 
 /// A column of any type.
-fn any_column(alloc: Global, column: &Column) -> Made<Vec<u8>>
+fn any_column(alloc: Global, column: &Column) -> Block
     ensures { Gives (λ b. Holds (child_in NESTING_LIMIT) b (column_tree column.now)) (IsUnfitType NESTING_LIMIT (type_tree column.now.data_type)) (room_of (column_tree column.now)) result }
 {
     match &column.data_type {
@@ -78,7 +78,7 @@ fn any_column(alloc: Global, column: &Column) -> Made<Vec<u8>>
 }
 
 /// The columns of a schema.
-fn column_blocks(alloc: Global, columns: &[Column]) -> Made<Vec<Vec<u8>>>
+fn column_blocks(alloc: Global, columns: &[Column]) -> Result<Vec<Vec<u8>>, WriteError>
     ensures each { IfOk result (λ bs. HoldsEach NESTING_LIMIT (map (λ v. v.items) bs.items) (map column_tree columns.now) (columns_room (map column_tree columns.now))) }
     ensures err { IfErr result (λ e. RefusesColumns NESTING_LIMIT e (map column_tree columns.now) (columns_room (map column_tree columns.now))) }
 {
@@ -94,7 +94,7 @@ fn column_blocks(alloc: Global, columns: &[Column]) -> Made<Vec<Vec<u8>>>
 
 /// The stream of a schema, given the blocks of its columns and of its metadata.
 #[tactic(auto, using(crate::proofs::Tables::length_message))]
-fn stream_bytes(alloc: Global, columns: Vec<u8>, texts: Vec<u8>, order: Endianness) -> Made<Vec<u8>>
+fn stream_bytes(alloc: Global, columns: Vec<u8>, texts: Vec<u8>, order: Endianness) -> Block
     ensures is { IfOk result (λ b. b.items ≡ stream_block (message_block (schema_block columns.items texts.items order))) }
     ensures small { IfOk result (λ _. length (message_block (schema_block columns.items texts.items order)) < 2 ^ 31) }
     ensures err { IfErr result (λ e. Refuses e ⊥ (length (message_block (schema_block columns.items texts.items order)))) }
