@@ -21,7 +21,8 @@ use Rattle.arrow_ipc.specs.declared.schema.Endianness.{Endianness}
 use Rattle.arrow_ipc.specs.declared.schema.Endianness.TheVariants.{Little, Big}
 use Rattle.arrow_ipc.specs.declared.write.WriteError.{WriteError}
 use Rattle.arrow_ipc.proofs.Told.{bound}
-use Rattle.arrow_ipc.proofs.Linked.{text_is, is_some, is_le, u8_is, u32_is, target_is, is_lt, length_linked, flat, tail, slot_place, low, length_table, stands, table_holds}
+use Rattle.std.proofs.lemmas.Bool.{lt-ltb, le-leb}
+use Rattle.arrow_ipc.proofs.Linked.{text_is, is_some, u8_is, u32_is, target_is, length_linked, flat, tail, slot_place, low, length_table, stands, table_holds}
 
 pub length_text : (text : Text) → length (text_block text) ≡ rounded (5 + length text)
 length_text text =
@@ -97,7 +98,7 @@ parts_are : (bytes : List ℕ) (at : ℕ) (nullable : Bool) (tag a b c d : ℕ) 
     → parts_in bytes at ≡ Ok (record { table = at; name = name; nullable = nullable; kind = kind; zone = []; index = None; children = cv; ids = ids; texts = mv })
 unfolding parts_in text_in flag_in u8_in tag_in table_in index_in vector_in
 parts_are bytes at nullable tag a b c d name first kind ids cv mv slot to_name named second third some least to_type is_first is_kind no_zone is_ids to_children children to_texts texts =
-    rw (slot 0, to_name, named, slot 1, second, flag_is nullable, slot 2, third, is_some tag some, is_le tag 26 least, slot 3, to_type, is_first, is_kind, no_zone, is_ids, slot 4, slot 5, to_children, children, slot 6, to_texts, texts) refl
+    rw (slot 0, to_name, named, slot 1, second, flag_is nullable, slot 2, third, is_some tag some, le-leb tag 26 least, slot 3, to_type, is_first, is_kind, no_zone, is_ids, slot 4, slot 5, to_children, children, slot 6, to_texts, texts) refl
 
 pub column_holds : (levels : ℕ) (nb tb cb mb : List ℕ) (nullable : Bool) (tag : ℕ) (name : Text) (cs : List ColumnTree) (t : TypeTree) (ms : Metadata)
     → Holds text_read nb name → IsType tag tb cs t → Holds (columns_read levels) cb cs → Holds texts_read mb ms → length (column_block nb tb cb mb nullable tag) < 2 ^ 32
@@ -186,7 +187,7 @@ in_stream message some small =
     let first : u32_at bytes 0 ≡ Ok 0xffff_ffff = u32_is bytes 0 0xffff_ffff (drop 4 bytes) refl (omega arith) refl in
     let size : u32_at bytes 4 ≡ Ok (length message) = u32_is bytes 4 (length message) message refl (omega (arith, small)) refl in
     let all : take (length message) message ≡ message = ap (take (length message)) (sym (append-nil message)) ∙ take_at message [] (length message) refl in
-    rw (first, size, is_lt 0 (length message) some, is_le (8 + length message) (length bytes) (omega (arith, long)), all) refl
+    rw (first, size, lt-ltb 0 (length message) some, le-leb (8 + length message) (length bytes) (omega (arith, long)), all) refl
 
 pub stream_is : (levels : ℕ) (cb mb : List ℕ) (order : Endianness) (cs : List ColumnTree) (ms : Metadata) → Holds (columns_read levels) cb cs → Holds texts_read mb ms
     → length (message_block (schema_block cb mb order)) < 2 ^ 31 → IsStreamOf levels (stream_block (message_block (schema_block cb mb order))) (record { columns = cs; metadata = ms; endianness = order })

@@ -28,7 +28,8 @@ use Rattle.arrow_values.specs.declared.tree.DataType.TheVariants.{Null}
 use Rattle.arrow_ipc.specs.Rooms.{is_sound, table_room}
 use Rattle.arrow_ipc.specs.declared.shapes.Shape.{Shape}
 use Rattle.arrow_ipc.specs.declared.shapes.Shape.TheVariants.{Table}
-use Rattle.arrow_ipc.proofs.Linked.{u8_is, u16_is, u32_is, length_linked, by_place, flat, slot_place, tail, is_vector, low, length_table, stands, below}
+use Rattle.std.proofs.lemmas.Bool.{ltb-true, eq-eqb}
+use Rattle.arrow_ipc.proofs.Linked.{u8_is, u16_is, u32_is, length_linked, by_place, flat, slot_place, tail, is_vector, low, length_table, stands}
 use Rattle.arrow_ipc.proofs.Ids.{new_id}
 
 -- tests
@@ -111,9 +112,6 @@ are_fields (f ∷ fs) = ap (λ l. f ∷ l) (are_fields fs)
 
 -- ---- a union's table, with its type ids
 
-same_number : (n m : ℕ) → n ≡ m → (n == m) ≡ true
-same_number n m is = grind (arith, nat_tests)
-
 length_ids : (ids : List ℤ) → length (id_words ids) ≡ 4 * length ids
 length_ids [] = refl
 length_ids (i ∷ is) =
@@ -129,7 +127,7 @@ module _ (bytes : List ℕ) (table start count : ℕ) where
   walk done (negsuc n ∷ left) i at rest is place even good = absurd (cc)
   walk done (pos n ∷ left) i at rest is place even good =
       let new = both (is_new n done) (are_ids (done ++ pos n ∷ []) left) good in
-      let small = below n 128 (both (nat_lt n 128) (not (has (pos n) done)) new.0).0 in
+      let small = ltb-true n 128 (both (nat_lt n 128) (not (has (pos n) done)) new.0).0 in
       let cut : drop at bytes ≡ word n ++ (id_words left ++ rest) = is ∙ append_assoc (word n) (id_words left) rest in
       let here : u32_at bytes (start + 4 * i) ≡ Ok n = subst (λ p. u32_at bytes p ≡ Ok n) place (u32_is bytes at n (id_words left ++ rest) even (omega (arith, small)) cut) in
       let first : put_id bytes table (Some (start, count)) done i ≡ Ok (done ++ pos n ∷ []) = new_id bytes table (Some (start, count)) done i n here new.0 in
@@ -158,7 +156,7 @@ is_union : (bytes : List ℕ) (table : ℕ) (mode : UnionMode) (ms : MemberTrees
 unfolding ids_at type_of
 is_union bytes table mode ms v many ids =
     let count = count_columns ms in
-    let as_many : (v.1 == length (member_ids ms)) ≡ true = same_number v.1 (length (member_ids ms)) many in
+    let as_many : (v.1 == length (member_ids ms)) ≡ true = eq-eqb v.1 (length (member_ids ms)) many in
     rw (count, as_many, ids, all_are_known (member_fields ms), are_fields (member_fields ms), members_back ms) refl
 
 pub length_vector_of : (ids : List ℤ) → length (linked (length ids) [] (id_words ids)) ≡ rounded (4 + 4 * length ids)
@@ -242,7 +240,7 @@ table_is (struct fs) sound small =
 table_is (fixed_size_list n t b m (negsuc s)) sound small = absurd (cc)
 table_is (fixed_size_list n t b m (pos s)) sound small =
     let lt : nat_lt s (2 ^ 31) ≡ true = grind arith in
-    let few = below s (2 ^ 31) lt in
+    let few = ltb-true s (2 ^ 31) lt in
     rw lt (is_type 16 (Some s) None _ _ (ListOf (Fixed (pos s))) (omega arith) (omega arith) refl refl (omega (arith, few)) (λ bytes at o k e. simp (o.slot, o.word_is, o.half_is, o.byte_is, lt) at e) (λ bytes table. refl))
 table_is (plain null) sound small = is_type 1 None None _ _ (Plain Null) (omega arith) (omega arith) refl refl (omega arith) (λ bytes at o k e. simp (o.slot, o.word_is, o.half_is, o.byte_is) at e) (λ bytes table. refl)
 table_is t sound small =
