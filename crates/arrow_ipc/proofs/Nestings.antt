@@ -1,13 +1,13 @@
 -- The columns that a type nests, one block after the other.
 use Rattle.std.proofs.Common.{◌≡◌, ℕ, zero, suc, ◌+◌, ◌-◌, ◌^◌, ◌<◌, ◌≤◌, ◌⊎◌, inl, inr, max, Bool, true, false, ◌&&◌, ◌++◌, ◌∷◌, [], List, length, map, drop, get_or, Vec, Global, Result, Ok, Err, refl, sym, ap, ◌∙◌, subst, arith, append-nil}
 use Rattle.std.proofs.lemmas.List.{map_push, drop_more, drop_all}
-use Rattle.arrow_values.specs.Tree.{Text, Metadata, Tree, plain, list, large_list, fixed_size_list, struct, union, FieldTrees, no_fields, field, MemberTrees, no_members, member, FieldTree, Members, depth, fields_depth, members_depth}
+use Rattle.arrow_values.specs.Tree.{Text, Metadata, Tree, plain, struct, union, FieldTrees, no_fields, field, MemberTrees, no_members, member, FieldTree, Members, depth, fields_depth, members_depth}
 use Rattle.std.specs.Borrow.{Bor}
 use Rattle.arrow_values.specs.View.{field_trees, member_trees, field_list, listed_fields}
 use Rattle.arrow_columns.specs.Column.{known, ColumnTree}
 use Rattle.arrow_ipc.specs.Blocks.{Holds, child_in, text_read, texts_read, columns_read, vector_block, column_block, IsType}
-use Rattle.arrow_ipc.specs.Shapes.{member_ids, are_ids, shape_of, ids_of, shape_tag, shape_bytes, has_table, column_of, member_fields, nested_fields, nested_columns}
-use Rattle.arrow_ipc.specs.Rooms.{is_size, is_sound, are_sound, members_sound, fields_room, members_room, nested_room, table_room, column_room, texts_room, room_of, columns_room, Refuses, Gives, IsUnfit, IsUnfitType, AreUnfit, HoldsEach, IsNesting}
+use Rattle.arrow_ipc.specs.Shapes.{shape_of, ids_of, shape_tag, shape_bytes, has_table, column_of, member_fields, nested_fields, nested_columns}
+use Rattle.arrow_ipc.specs.Rooms.{is_sound, are_sound, members_sound, fields_room, members_room, nested_room, table_room, column_room, texts_room, room_of, columns_room, Refuses, Gives, IsUnfit, IsUnfitType, AreUnfit, HoldsEach, IsNesting}
 use Rattle.arrow_ipc.specs.declared.write.WriteError.{WriteError}
 use Rattle.arrow_ipc.proofs.Vectors.{items}
 use Rattle.arrow_ipc.proofs.Made.{Made, made_more, made_all, length_vector, columns_hold}
@@ -37,12 +37,9 @@ deepest_members no_members = refl
 deepest_members (member i n t b m ms) = let rest = deepest_members ms in omega (arith, rest)
 
 pub nests_less : (t : Tree) → deepest (nested_fields t) ≤ depth t
-nests_less (plain p) = omega arith
-nests_less (list n t b m) = omega arith
-nests_less (large_list n t b m) = omega arith
-nests_less (fixed_size_list n t b m s) = omega arith
 nests_less (struct fs) = let same = deepest_fields fs in omega (arith, same)
 nests_less (union ms mode) = let same = deepest_members ms in omega (arith, same)
+nests_less _ = omega arith
 
 module _ {A : Type 0} (f : A → ColumnTree) (levels : ℕ) where
   among : (xs : List A) (i : ℕ) (x : A) → i < length xs → x ≡ get_or xs i x → IsUnfitType levels (f x).data_type → AreUnfit levels (map f xs)
@@ -85,30 +82,20 @@ members_room_is no_members = refl
 members_room_is (member i n t b m ms) = let rest = members_room_is ms in omega (arith, rest)
 
 pub nested_room_is : (t : Tree) → columns_room (nested_columns t) ≡ nested_room t
-nested_room_is (plain p) = refl
-nested_room_is (list n t b m) = omega arith
-nested_room_is (large_list n t b m) = omega arith
-nested_room_is (fixed_size_list n t b m s) = omega arith
 nested_room_is (struct fs) = fields_room_is fs
 nested_room_is (union ms mode) = members_room_is ms
+nested_room_is _ = omega arith
 
 either : (a b : Bool) → (a ≡ false) ⊎ (b ≡ false) → (a && b) ≡ false
-either true b (inl e) = absurd (cc)
-either false b (inl e) = refl
-either true b (inr e) = e
-either false b (inr e) = refl
+either a b e = grind arith
 
 fields_unfit : (levels : ℕ) (fs : FieldTrees) → AreUnfit levels (map column_of (field_list fs)) → (are_sound fs ≡ false) ⊎ (levels < fields_depth fs)
 fields_unfit levels no_fields u = absurd u
-fields_unfit levels (field n t b m fs) (inl (inl e)) = inl (either (is_sound t) (are_sound fs) (inl e))
-fields_unfit levels (field n t b m fs) (inl (inr deep)) = inr (omega (arith, deep))
-fields_unfit levels (field n t b m fs) (inr u) = elim (fields_unfit levels fs u) [ inl e ↦ inl (either (is_sound t) (are_sound fs) (inr e)) | inr deep ↦ inr (omega (arith, deep)) ]
+fields_unfit levels (field n t b m fs) u = grind (arith, either, fields_unfit levels fs)
 
 members_unfit : (levels : ℕ) (ms : MemberTrees) → AreUnfit levels (map column_of (member_fields ms)) → (members_sound ms ≡ false) ⊎ (levels < members_depth ms)
 members_unfit levels no_members u = absurd u
-members_unfit levels (member i n t b m ms) (inl (inl e)) = inl (either (is_sound t) (members_sound ms) (inl e))
-members_unfit levels (member i n t b m ms) (inl (inr deep)) = inr (omega (arith, deep))
-members_unfit levels (member i n t b m ms) (inr u) = elim (members_unfit levels ms u) [ inl e ↦ inl (either (is_sound t) (members_sound ms) (inr e)) | inr deep ↦ inr (omega (arith, deep)) ]
+members_unfit levels (member i n t b m ms) u = grind (arith, either, members_unfit levels ms)
 
 members_listed : (ms : Members) → map (λ m. m.1) ms ≡ member_fields (member_trees ms)
 members_listed [] = refl
@@ -133,18 +120,9 @@ each_is levels bs cs t same each = subst (λ n. HoldsEach levels bs (nested_colu
 
 pub nested_unfit : (levels : ℕ) (t : Tree) → 0 < levels → AreUnfit (levels - 1) (nested_columns t) → IsUnfit levels t
 nested_unfit levels (plain p) some u = absurd u
-nested_unfit levels (list n t b m) some (inl (inl e)) = inl e
-nested_unfit levels (list n t b m) some (inl (inr deep)) = inr (omega (arith, deep))
-nested_unfit levels (list n t b m) some (inr u) = absurd u
-nested_unfit levels (large_list n t b m) some (inl (inl e)) = inl e
-nested_unfit levels (large_list n t b m) some (inl (inr deep)) = inr (omega (arith, deep))
-nested_unfit levels (large_list n t b m) some (inr u) = absurd u
-nested_unfit levels (fixed_size_list n t b m s) some (inl (inl e)) = inl (either (is_size s) (is_sound t) (inr e))
-nested_unfit levels (fixed_size_list n t b m s) some (inl (inr deep)) = inr (omega (arith, deep))
-nested_unfit levels (fixed_size_list n t b m s) some (inr u) = absurd u
-nested_unfit levels (struct fs) some u = elim (fields_unfit (levels - 1) fs u) [ inl e ↦ inl e | inr deep ↦ inr (omega (arith, deep)) ]
-nested_unfit levels (union ms mode) some u =
-    elim (members_unfit (levels - 1) ms u) [ inl e ↦ inl (either (are_ids [] (member_ids ms)) (members_sound ms) (inr e)) | inr deep ↦ inr (omega (arith, deep)) ]
+nested_unfit levels (struct fs) some u = grind (arith, fields_unfit (levels - 1) fs)
+nested_unfit levels (union ms mode) some u = grind (arith, either, members_unfit (levels - 1) ms)
+nested_unfit levels _ some u = grind (arith, either)
 
 -- ---- a column, given the blocks of what its type nests
 

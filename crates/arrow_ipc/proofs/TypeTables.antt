@@ -1,7 +1,6 @@
 -- The tables of types.
 use Rattle.std.proofs.Common.{◌≡◌, ℕ, ◌+◌, ◌^◌, ◌<◌, ◌≤◌, pos, Bool, true, false, ◌&&◌, not, ◌++◌, ◌∷◌, [], List, length, map, Option, Some, None, Result, Ok, refl, ap, arith, nat_lt, ◌==◌, ◌*◌, ◌%◌, ℤ, negsuc, drop, sym, ◌∙◌, subst, append_assoc, append-nil, if◌then◌else◌}
 use Rattle.std.specs.Int.{w16, from_le_bytes, byte_at}
-use Rattle.std.proofs.lemmas.Bool.Decides.{nat_tests}
 use Rattle.std.specs.List.{zip}
 use Rattle.std.proofs.lemmas.List.{length-append, drop_all}
 use Rattle.arrow_values.specs.Tree.{null, plain, fixed_size_list, struct, FieldTree, union, MemberTrees, no_members, member, Tree}

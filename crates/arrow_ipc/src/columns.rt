@@ -62,7 +62,7 @@ fn put_entry(alloc: Global, bytes: &[u8], at: usize, budget: &mut usize, to: &mu
 }
 
 /// The metadata to which the offsets of a vector lead.
-#[tactic(auto, unfolding(crate::specs::Columns::texts_at))]
+#[tactic(auto, using(crate::proofs::Told::goes_on), unfolding(crate::specs::Columns::texts_at))]
 pub(crate) fn read_texts(alloc: Global, bytes: &[u8], at: Vector, budget: &mut usize) -> Read<Texts>
     requires { at.0 + 4 * at.1 ≤ length bytes.now }
     ensures { Tells (λ m. texts_of m.entries) (texts_at bytes.now at) budget.old budget.new result }
@@ -117,7 +117,7 @@ fn are_as_many(written: Option<Vector>, count: usize) -> bool
 }
 
 /// The type ids of a union of so many children.
-#[tactic(auto, unfolding(crate::specs::Columns::ids_at))]
+#[tactic(auto, using(crate::proofs::Ids::next_id), unfolding(crate::specs::Columns::ids_at))]
 #[inline(never)]
 fn read_ids(alloc: Global, bytes: &[u8], parts: &Parts<'_>, count: usize) -> Read<Vec<i8>>
     requires { IfSome parts.now.ids (λ v. v.0 + 4 * v.1 ≤ length bytes.now) }

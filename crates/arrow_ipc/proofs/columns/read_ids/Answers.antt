@@ -9,11 +9,6 @@ use Rattle.arrow_ipc.proofs.columns.read_ids.Goals as goal
 pub ids-init : goal.ids-init
 ids-init c = λ r f. simp (unary_clauses, c.new-ids.ensures.items) at f
 
-pub ids-preserved : goal.ids-preserved
-ids-preserved c =
-    let l = c.ids in
-    λ r f. l.invariant r (rw (next_id c.args.bytes.now c.args.parts.now.table c.args.parts.now.ids l.ids.items l.i c.args.count c.ids-test.true, c.in_ok-put_id.ensures) f)
-
 pub returns-in_err-put_id : goal.returns-in_err-put_id
 unfolding ids_at
 returns-in_err-put_id c =

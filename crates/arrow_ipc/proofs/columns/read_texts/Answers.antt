@@ -2,17 +2,12 @@ use Rattle.std.proofs.Common.{arith, Ok, refl}
 use native.Mathlib.Numerals.{unary_clauses}
 use Rattle.arrow_values.specs.View.{texts_of}
 use Rattle.arrow_ipc.specs.Columns.{put_next, texts_at}
-use Rattle.arrow_ipc.proofs.Told.{goes_on, breaks_off, is_done}
+use Rattle.arrow_ipc.proofs.Told.{breaks_off, is_done}
 use Rattle.arrow_ipc.proofs.columns.read_texts.Invariants.{map_texts}
 use Rattle.arrow_ipc.proofs.columns.read_texts.Goals as goal
 
 pub entries-init : goal.entries-init
 entries-init c = λ new r f. simp (unary_clauses, c.new-texts.ensures.empty) at f
-
-pub entries-preserved : goal.entries-preserved
-entries-preserved c =
-    let l = c.entries in
-    λ new r f. l.invariant new r (goes_on map_texts (put_next c.args.bytes.now c.args.at.0) (texts_of l.texts.entries) l.i c.args.at.1 l.budget c.entries-test.true _ c.put_entry.new.budget new r c.in_ok-put_entry.ensures f)
 
 pub returns-in_err-put_entry : goal.returns-in_err-put_entry
 unfolding texts_at
