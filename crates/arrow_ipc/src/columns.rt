@@ -191,6 +191,7 @@ fn read_column(
 }
 
 /// Reads the columns to which the offsets of a vector lead.
+#[tactic(auto, using(crate::proofs::Told::goes_on, std::proofs::lemmas::List::map_push))]
 #[cycle(read)]
 pub(crate) fn read_columns(
     alloc: Global,

@@ -66,6 +66,7 @@ fn nested_fields<'a>(alloc: Global, data_type: &'a DataType) -> Result<Vec<&'a F
 }
 
 /// A column of a data type, with so many levels for itself and what it nests.
+#[tactic(auto, using(crate::proofs::Nestings::nests_less))]
 #[cycle(write)]
 pub(crate) fn data_block(
     alloc: Global,
@@ -102,6 +103,7 @@ fn field_block(alloc: Global, field: &Field, levels: usize) -> Block
 }
 
 /// The columns that a type nests.
+#[tactic(auto, using(crate::proofs::Nestings::falls, crate::proofs::Nestings::each_more))]
 #[cycle(write)]
 fn field_blocks(alloc: Global, fields: &[&Field], levels: usize) -> Result<Vec<Vec<u8>>, WriteError>
     ensures each { IfOk result (λ bs. HoldsEach levels (map (λ v. v.items) bs.items) (map (λ f. column_of f.now) fields.now) (columns_room (map (λ f. column_of f.now) fields.now))) }

@@ -78,6 +78,7 @@ fn any_column(alloc: Global, column: &Column) -> Block
 }
 
 /// The columns of a schema.
+#[tactic(auto, using(crate::proofs::Nestings::each_more, crate::proofs::Nestings::each_done))]
 fn column_blocks(alloc: Global, columns: &[Column]) -> Result<Vec<Vec<u8>>, WriteError>
     ensures each { IfOk result (λ bs. HoldsEach NESTING_LIMIT (map (λ v. v.items) bs.items) (map column_tree columns.now) (columns_room (map column_tree columns.now))) }
     ensures err { IfErr result (λ e. RefusesColumns NESTING_LIMIT e (map column_tree columns.now) (columns_room (map column_tree columns.now))) }
