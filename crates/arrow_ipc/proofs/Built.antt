@@ -8,12 +8,14 @@ use Rattle.std.specs.Option.{option_map}
 use Rattle.arrow_values.specs.Tree.{Text}
 use Rattle.arrow_values.specs.View.{texts_of}
 use Rattle.arrow_columns.specs.Column.{ColumnTree}
-use Rattle.arrow_ipc.specs.Blocks.{Holds, word, padded, offsets, linked, text_block, vector_block, entry_read, texts_read}
+use Rattle.arrow_ipc.specs.Blocks.{Holds, word, padded, offsets, linked, text_block, text_read, entry_block, vector_block, entry_read, texts_read}
 use Rattle.arrow_ipc.specs.Rooms.{Refuses, Makes, MakesSound, Gives, texts_room, IsUnfitType}
 use Rattle.arrow_ipc.specs.declared.write.WriteError.{WriteError}
 use Rattle.arrow_ipc.specs.declared.write.WriteError.TheVariants.{Column, TooLarge, OutOfMemory}
 use Rattle.arrow_ipc.specs.Writes.{refused, RefusesColumns}
 use Rattle.arrow_ipc.proofs.Vectors.{items}
+use Rattle.arrow_ipc.proofs.Linked.{length_table}
+use Rattle.arrow_ipc.proofs.Tables.{entry_holds}
 use Rattle.arrow_ipc.proofs.Made.{Made, Texts, made_more, made_all, texts_hold, length_vector}
 
 pub text_built : (s a b c d more text : List ℕ) (n : ℕ) → s ≡ [] → a ≡ s ++ word n → b ≡ a ++ more → c ≡ b ++ 0 ∷ [] → d ≡ padded c → n ≡ length text → more ≡ text → d ≡ text_block text
@@ -32,6 +34,12 @@ refuses_more OutOfMemory P Q n m f le r = tt
 pub gives : (r : Result (Vec ℕ Global) WriteError) (block : List ℕ) (P : List ℕ → Type 0) (unfit : Type 0) (room : ℕ) → Makes block r → (length block < 2 ^ 31 → P block) → length block ≤ room → Gives P unfit room r
 gives (Ok b) block P unfit room made holds le = (subst P (sym made.0) (holds made.1), rw made.0 le)
 gives (Err e) block P unfit room made holds le = refuses_more e ⊥ unfit (length block) room (λ x. absurd x) le made
+
+pub entry_gives : (kb tb : List ℕ) (key text : Text) → Holds text_read kb key × (length kb ≤ 12 + length key) → Holds text_read tb text × (length tb ≤ 12 + length text) → (r : Result (Vec ℕ Global) WriteError)
+    → Makes (entry_block kb tb) r → Gives (λ b. Holds entry_read b (key, text)) ⊥ (48 + length key + length text) r
+entry_gives kb tb key text k t r made =
+    let size = length_table (4 ∷ 8 ∷ []) [] (kb ∷ tb ∷ []) in
+    gives r (entry_block kb tb) (λ b. Holds entry_read b (key, text)) ⊥ (48 + length key + length text) made (λ small. entry_holds kb tb key text k.0 t.0 (omega (arith, small))) (omega (arith, size, k.1, t.1))
 
 -- an error was handed on
 pub told : {X : Type 0} (P : Result X WriteError → Type 0) (r : Result X WriteError) (e : WriteError) → r ≡ Err e → P (Err e) → P r

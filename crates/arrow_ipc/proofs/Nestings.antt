@@ -5,15 +5,17 @@ use Rattle.arrow_values.specs.Tree.{Text, Metadata, Tree, plain, struct, union, 
 use Rattle.std.specs.Borrow.{Bor}
 use Rattle.arrow_values.specs.View.{field_trees, member_trees, field_list, listed_fields}
 use Rattle.arrow_columns.specs.Column.{known, ColumnTree}
-use Rattle.arrow_ipc.specs.Blocks.{Holds, child_in, text_read, texts_read, columns_read, vector_block, column_block, IsType}
+use Rattle.arrow_ipc.specs.Blocks.{Holds, child_in, text_read, texts_read, columns_read, vector_block, flag, table_block, column_block, IsType}
 use Rattle.arrow_ipc.specs.Shapes.{shape_of, ids_of, shape_tag, shape_bytes, has_table, column_of, member_fields, nested_fields, nested_columns}
-use Rattle.arrow_ipc.specs.Rooms.{is_sound, are_sound, members_sound, fields_room, members_room, nested_room, table_room, column_room, texts_room, room_of, columns_room, Refuses, Gives, IsUnfit, IsUnfitType, AreUnfit, HoldsEach, IsNesting}
+use Rattle.arrow_ipc.specs.Rooms.{is_sound, are_sound, members_sound, fields_room, members_room, nested_room, table_room, column_room, texts_room, room_of, columns_room, Refuses, Makes, Gives, IsUnfit, IsUnfitType, AreUnfit, HoldsEach, IsNesting}
 use Rattle.arrow_ipc.specs.declared.write.WriteError.{WriteError}
 use Rattle.arrow_ipc.proofs.Vectors.{items}
 use Rattle.arrow_ipc.proofs.Made.{Made, made_more, made_all, length_vector, columns_hold}
-use Rattle.arrow_ipc.proofs.Tables.{column_holds}
-use Rattle.arrow_ipc.proofs.TypeTables.{table_is}
-use Rattle.arrow_ipc.proofs.Built.{refuses_more}
+use Rattle.arrow_ipc.proofs.Tables.{column_holds, slots, flagged}
+use Rattle.arrow_ipc.proofs.TypeTables.{table_is, table_size}
+use Rattle.arrow_ipc.proofs.Built.{refuses_more, gives}
+use Rattle.arrow_ipc.proofs.Linked.{length_table}
+use mir.Val.{bool_byte}
 
 -- fields nest less than the type that nests them
 abbrev pub deepest : List FieldTree → ℕ
@@ -129,15 +131,20 @@ nested_unfit levels _ some u = grind (arith, either)
 pub vector_room : (bs : List (List ℕ)) (cs : List ColumnTree) (levels room : ℕ) → HoldsEach levels bs cs room → length (vector_block bs) ≤ room
 vector_room bs cs levels room each = let size = length_vector bs in let most = each.most in omega (arith, size, most)
 
-pub nest_holds : (bs : List (List ℕ)) (t : Tree) (name : Text) (nullable : Bool) (texts : Metadata) (nb tb cb mb : List ℕ) (tag : ℕ)
-    → length (column_block nb tb cb mb nullable tag) < 2 ^ 31 → Holds text_read nb name → Holds texts_read mb texts → tag ≡ shape_tag (shape_of t)
-    → (has_table (shape_of t) (ids_of t) ≡ true) × ((tb ≡ shape_bytes (shape_of t) (ids_of t)) × (length (shape_bytes (shape_of t) (ids_of t)) < 2 ^ 31)) → (cb ≡ vector_block bs) × (length (vector_block bs) < 2 ^ 31)
-    → IsNesting bs t name nullable texts (column_block nb tb cb mb nullable tag)
+pub nest_gives : (bs : List (List ℕ)) (t : Tree) (name : Text) (nullable : Bool) (texts : Metadata) (nb tb cb mb : List ℕ) (tag : ℕ) → Holds text_read nb name × (length nb ≤ 12 + length name)
+    → Holds texts_read mb texts × (length mb ≤ texts_room texts) → (cb ≡ vector_block bs) × (length (vector_block bs) < 2 ^ 31) → tag ≡ shape_tag (shape_of t)
+    → (has_table (shape_of t) (ids_of t) ≡ true) × ((tb ≡ shape_bytes (shape_of t) (ids_of t)) × (length (shape_bytes (shape_of t) (ids_of t)) < 2 ^ 31))
+    → (r : Result (Vec ℕ Global) WriteError) → Makes (table_block slots (bool_byte nullable ∷ tag ∷ 0 ∷ 0 ∷ []) (nb ∷ tb ∷ cb ∷ mb ∷ [])) r
+    → Gives (IsNesting bs t name nullable texts) (is_sound t ≡ false) (60 + length name + (table_room t + length (vector_block bs)) + texts_room texts) r
 unfolding IsNesting
-nest_holds bs t name nullable texts nb tb cb mb tag few named written tagged table vector = λ levels each.
+nest_gives bs t name nullable texts nb tb cb mb tag named written vector tagged table r made =
+    let size = length_table slots (flag nullable ∷ tag ∷ 0 ∷ 0 ∷ []) (nb ∷ tb ∷ cb ∷ mb ∷ []) in
+    let room = table_size t in
+    gives r (column_block nb tb cb mb nullable tag) (IsNesting bs t name nullable texts) (is_sound t ≡ false) _ (rw (flagged nullable tag (nb ∷ tb ∷ cb ∷ mb ∷ [])) at made) (λ small levels each.
     let nested : Holds (columns_read levels) cb (nested_columns t) = rw vector.0 (columns_hold levels bs (nested_columns t) each (omega (arith, vector.1))) in
     let typing : IsType tag tb (nested_columns t) (known t) = rw (tagged, table.1.0) (table_is t table.0 table.1.1) in
-    column_holds levels nb tb cb mb nullable tag name (nested_columns t) (known t) texts named typing nested written (omega (arith, few))
+    column_holds levels nb tb cb mb nullable tag name (nested_columns t) (known t) texts named.0 typing nested written.0 (omega (arith, small)))
+    (omega (arith, size, room, named.1, written.1, ap length table.1.0, ap length vector.0))
 
 pub data_gives : (r : Result (Vec ℕ Global) WriteError) (bs : List (List ℕ)) (t : Tree) (name : Text) (nullable : Bool) (texts : Metadata) (levels : ℕ)
     → Gives (IsNesting bs t name nullable texts) (is_sound t ≡ false) (60 + length name + (table_room t + length (vector_block bs)) + texts_room texts) r → HoldsEach (levels - 1) bs (nested_columns t) (nested_room t) → 0 < levels

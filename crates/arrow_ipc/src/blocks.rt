@@ -103,6 +103,7 @@ pub(crate) fn vector_block(alloc: Global, blocks: &[Vec<u8>]) -> Block
 }
 
 /// An entry of metadata.
+
 fn entry_block(alloc: Global, key: &str, text: &str) -> Block
     ensures { Gives (λ b. Holds entry_read b (key.now, text.now)) ⊥ (48 + length key.now + length text.now) result }
 {

@@ -103,7 +103,7 @@ fn field_block(alloc: Global, field: &Field, levels: usize) -> Block
 }
 
 /// The columns that a type nests.
-#[tactic(auto, using(crate::proofs::Nestings::falls, crate::proofs::Nestings::each_more))]
+#[tactic(auto, using(crate::proofs::Nestings::falls, crate::proofs::Nestings::each_more, crate::proofs::Nestings::each_refused))]
 #[cycle(write)]
 fn field_blocks(alloc: Global, fields: &[&Field], levels: usize) -> Result<Vec<Vec<u8>>, WriteError>
     ensures each { IfOk result (λ bs. HoldsEach levels (map (λ v. v.items) bs.items) (map (λ f. column_of f.now) fields.now) (columns_room (map (λ f. column_of f.now) fields.now))) }

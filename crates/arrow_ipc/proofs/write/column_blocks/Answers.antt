@@ -14,4 +14,3 @@ returns-in-Err-clause-err c =
     subst (λ e. RefusesColumns 61 e cs (columns_room cs)) (sym c.refused.ensures)
     (column_refused 61 cs l.i (column_tree x.result) (room_of (column_tree x.result)) (columns_room cs) (element column_tree c.args.columns.now l.i x.result c.columns-test.true x.is)
     (each_room column_tree 61 l.blocks.items c.args.columns.now l.i l.invariant x.result c.columns-test.true x.is) c.in-Err.error c.in-Err.ensures)
-
