@@ -110,10 +110,7 @@ fn put_id(bytes: &[u8], parts: &Parts<'_>, i: usize, ids: &mut Vec<i8>) -> Read<
 fn are_as_many(written: Option<Vector>, count: usize) -> bool
     ensures { result ≡ are_as_many written count }
 {
-    match written {
-        None => true,
-        Some(ids) => ids.1 == count,
-    }
+    written.map_or(true, |ids| ids.1 == count)
 }
 
 /// The type ids of a union of so many children.

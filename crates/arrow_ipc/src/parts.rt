@@ -6,8 +6,7 @@ ghost use Rattle.arrow_ipc.specs.Parts.{tag_in, zone_in, index_at, index_in, ids
 
 use crate::fault::{Fault, Rule};
 use crate::kinds::{Kind, int_at, kind_at};
-use crate::longs::u64_in;
-use crate::slots::{flag_in, table_in, text_in, u8_in, vector_in};
+use crate::slots::{flag_in, table_in, text_in, u8_in, u64_in, vector_in};
 use crate::wire::{Table, Vector, open, slot_at, target_at, vector_at};
 use arrow_values::DataType;
 

@@ -5,8 +5,7 @@ ghost use Rattle.arrow_ipc.specs.Schema.{message_at, footer_at, cut, message_in,
 
 use crate::columns::{Read, read_columns, read_texts};
 use crate::fault::{Fault, IpcError, Rule};
-use crate::longs::u64_in;
-use crate::slots::{table_in, u8_in, u16_in, vector_in};
+use crate::slots::{table_in, u8_in, u16_in, u64_in, vector_in};
 use crate::wire::{open, target_at, u32_at, vector_at};
 use arrow_columns::Column;
 use std::alloc::Global;

@@ -3,9 +3,12 @@ ghost use Rattle.std.specs.Prelude.{◌≡◌, ◌+◌, ◌*◌, ◌≤◌, leng
 ghost use Rattle.arrow_ipc.specs.Wire.{IsOpen};
 ghost use Rattle.arrow_ipc.specs.Slots.{u8_in, flag_in, u16_in, u32_in, text_in, table_in, vector_in};
 ghost use Rattle.arrow_ipc.specs.Fault.{map_ok};
+ghost use Rattle.arrow_ipc.specs.Longs.{u64_in};
 
 use crate::fault::{Fault, Rule};
-use crate::wire::{Table, Vector, slot_at, target_at, u8_at, u16_at, u32_at, utf8_at, vector_at};
+use crate::wire::{
+    Table, Vector, slot_at, target_at, u8_at, u16_at, u32_at, u64_at, utf8_at, vector_at,
+};
 
 /// A byte in a slot.
 #[tactic(auto, unfolding(crate::specs::Slots::u8_in))]
@@ -47,6 +50,16 @@ pub(crate) fn u32_in(bytes: &[u8], table: &Table, i: u16, missing: u32) -> Resul
 {
     let slot = slot_at(bytes, table, i)?;
     slot.map_or(Ok(missing), |slot| u32_at(bytes, slot))
+}
+
+/// A number of eight bytes in a slot; 0 where it is missing.
+#[tactic(auto, unfolding(crate::specs::Longs::u64_in))]
+pub(crate) fn u64_in(bytes: &[u8], table: &Table, i: u16) -> Result<u64, Fault>
+    requires { IsOpen bytes.now table.now }
+    ensures { result ≡ u64_in bytes.now table.now.at i }
+{
+    let slot = slot_at(bytes, table, i)?;
+    slot.map_or(Ok(0), |slot| u64_at(bytes, slot))
 }
 
 /// The text to which a slot leads, or the empty text where it is missing.

@@ -2,6 +2,7 @@
 ghost use Rattle.std.specs.Prelude.{◌≡◌, ◌+◌, ◌*◌, ◌≤◌, length, IfOk};
 ghost use Rattle.arrow_ipc.specs.Wire.{u8_at, u16_at, u32_at, ahead, vtable_at, opened_at, IsOpen, slot_at, target_at, text_at, utf8_at, vector_at};
 ghost use Rattle.arrow_ipc.specs.Fault.{map_ok};
+ghost use Rattle.arrow_ipc.specs.Longs.{u64_at};
 
 use crate::fault::{Fault, Rule};
 
@@ -34,6 +35,19 @@ pub(crate) fn u32_at(bytes: &[u8], at: usize) -> Result<u32, Fault>
 {
     match bytes.get(at..) {
         Some([a, b, c, d, ..]) if at % 4 == 0 => Ok(u32::from_le_bytes([*a, *b, *c, *d])),
+        _ => Err(Fault::new(Rule::Number, at)),
+    }
+}
+
+/// The number of eight bytes at a position.
+#[tactic(auto, unfolding(crate::specs::Longs::u64_at))]
+pub(crate) fn u64_at(bytes: &[u8], at: usize) -> Result<u64, Fault>
+    ensures { result ≡ u64_at bytes.now at }
+{
+    match bytes.get(at..) {
+        Some([a, b, c, d, e, f, g, h, ..]) if at % 8 == 0 => {
+            Ok(u64::from_le_bytes([*a, *b, *c, *d, *e, *f, *g, *h]))
+        }
         _ => Err(Fault::new(Rule::Number, at)),
     }
 }
