@@ -84,11 +84,7 @@ fn member_parts(alloc: Global, ids: &[i8], children: &[Column]) -> Made<Vec<Stri
     ensures { IfOk result (λ parts. map string_bytes parts.items ≡ member_parts ids.now (map column_tree children.now)) }
 {
     let mut parts = Vec::new(alloc);
-    let mut rest = children.iter();
-    for id in ids {
-        let Some(child) = rest.next() else {
-            return Ok(parts);
-        };
+    for (id, child) in ids.iter().zip(children) {
         let part = child.notation(alloc)?;
         parts.push(member_notation(alloc, part.as_str(), *id)?)?;
     }
