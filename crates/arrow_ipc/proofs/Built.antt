@@ -26,8 +26,7 @@ text_built s a b c d more text n s1 a2 b3 c4 d5 many same =
 -- the room is no less, and what cannot be held the same
 pub refuses_more : (e : WriteError) (P Q : Type 0) (n m : ℕ) → (P → Q) → n ≤ m → Refuses e P n → Refuses e Q m
 refuses_more (Column i) P Q n m f le r = f r
-refuses_more TooLarge P Q n m f le r = omega (arith, le, r)
-refuses_more OutOfMemory P Q n m f le r = tt
+refuses_more _ P Q n m f le r = grind arith
 
 -- and by a result
 -- a block that was made holds what it should, in the room that it has
@@ -87,20 +86,12 @@ element f xs i x lt is = slice_get-map f xs i ∙ ap (option_map f) (slice_get-g
 -- of one of the columns
 pub column_refused : (levels : ℕ) (cs : List ColumnTree) (i : ℕ) (c : ColumnTree) (n room : ℕ) → slice_get cs i ≡ Some c → n ≤ room → (e : WriteError) → Refuses e (IsUnfitType levels c.data_type) n → RefusesColumns levels (refused e i) cs room
 column_refused levels cs i c n room is le (Column j) r = (c, is, r)
-column_refused levels cs i c n room is le TooLarge r = omega (arith, le, r)
-column_refused levels cs i c n room is le OutOfMemory r = tt
+column_refused levels cs i c n room is le _ r = grind arith
 
 -- of what has no type
 pub none_refused : (levels : ℕ) (cs : List ColumnTree) (n room : ℕ) (e : WriteError) → n ≤ room → Refuses e ⊥ n → RefusesColumns levels e cs room
-none_refused levels cs n room (Column j) le f = absurd f
-none_refused levels cs n room TooLarge le f = omega (arith, le, f)
-none_refused levels cs n room OutOfMemory le f = tt
+none_refused levels cs n room e le f = grind arith
 
 pub all_refused : {X : Type 0} (levels : ℕ) (cs : List ColumnTree) (n room : ℕ) (r : Result X WriteError) → n ≤ room → IfErr r (λ e. Refuses e ⊥ n) → IfErr r (λ e. RefusesColumns levels e cs room)
 all_refused levels cs n room (Ok x) le f = tt
 all_refused levels cs n room (Err e) le f = none_refused levels cs n room e le f
-
-pub refused_more : (levels : ℕ) (cs : List ColumnTree) (n room : ℕ) (e : WriteError) → n ≤ room → RefusesColumns levels e cs n → RefusesColumns levels e cs room
-refused_more levels cs n room (Column j) le f = f
-refused_more levels cs n room TooLarge le f = omega (arith, le, f)
-refused_more levels cs n room OutOfMemory le f = tt

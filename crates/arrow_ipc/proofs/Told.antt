@@ -44,16 +44,11 @@ then_tells view step rest x old mid new (Err OutOfMemory) one f = tt
 
 -- what is made of it takes as much
 pub made_fails : {A B : Type 0} (step : Result (A × ℕ) Fault) (f : A → B) (old : ℕ) (e : IpcError) → Fails step old e → Fails (step >>= λ x. Ok (f x.0, x.1)) old e
-made_fails step f old (Broken fault) h = rw h refl
-made_fails (Err d) f old (Budget place) h = λ v is. absurd (cc)
-made_fails (Ok x) f old (Budget place) h = λ v is. let same : x.1 ≡ v.1 = cc (is) in let dear = h x refl in omega (arith, same, dear)
-made_fails step f old OutOfMemory h = tt
+made_fails step f old e h = grind arith
 
 -- a step without a budget fails, before others without one, and before others with one
 says_first : {X Y A B : Type 0} (view : X → A) (over : Y → B) (step : Result A Fault) (rest : A → Result B Fault) (e : IpcError) → Says view step (Err e) → Says over (step >>= rest) (Err e)
-says_first view over step rest (Broken fault) f = rw f refl
-says_first view over step rest (Budget place) f = absurd f
-says_first view over step rest OutOfMemory f = tt
+says_first view over step rest e f = grind arith
 
 pub said : {X Y A B : Type 0} (view : X → A) (over : Y → B) (step : Result A Fault) (rest : A → Result B Fault) (r : Result Y IpcError) (e : IpcError) → r ≡ Err e → Says view step (Err e) → Says over (step >>= rest) r
 said view over step rest r e is f = subst (Says over (step >>= rest)) (sym is) (says_first view over step rest e f)

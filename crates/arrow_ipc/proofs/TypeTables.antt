@@ -33,16 +33,13 @@ use Rattle.arrow_ipc.proofs.Ids.{new_id}
 
 -- tests
 both : (a b : Bool) → (a && b) ≡ true → (a ≡ true) × (b ≡ true)
-both true b is = (refl, is)
-both false b is = absurd (cc)
+both a b is = grind arith
 
 number_within : (n : Option ℕ) → place_of_number n ≤ 12
-number_within None = omega arith
-number_within (Some n) = omega arith
+number_within n = grind arith
 
 truth_within : (b : Option Bool) → place_of_truth b ≤ 12
-truth_within None = omega arith
-truth_within (Some b) = omega arith
+truth_within b = grind arith
 
 -- what stands in a table with a number and a truth value
 record Own (n : Option ℕ) (b : Option Bool) (bytes : List ℕ) (at : ℕ) : Type 0 where
