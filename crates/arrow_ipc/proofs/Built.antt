@@ -31,8 +31,7 @@ refuses_more _ P Q n m f le r = grind arith
 -- and by a result
 -- a block that was made holds what it should, in the room that it has
 pub gives : (r : Result (Vec ℕ Global) WriteError) (block : List ℕ) (P : List ℕ → Type 0) (unfit : Type 0) (room : ℕ) → Makes block r → (length block < 2 ^ 31 → P block) → length block ≤ room → Gives P unfit room r
-gives (Ok b) block P unfit room made holds le = (subst P (sym made.0) (holds made.1), rw made.0 le)
-gives (Err e) block P unfit room made holds le = refuses_more e ⊥ unfit (length block) room (λ x. absurd x) le made
+gives r block P unfit room made holds le = grind (arith, refuses_more)
 
 pub entry_gives : (kb tb : List ℕ) (key text : Text) → Holds text_read kb key × (length kb ≤ 12 + length key) → Holds text_read tb text × (length tb ≤ 12 + length text) → (r : Result (Vec ℕ Global) WriteError)
     → Makes (entry_block kb tb) r → Gives (λ b. Holds entry_read b (key, text)) ⊥ (48 + length key + length text) r
@@ -48,11 +47,10 @@ pub handed : (P : List ℕ → Type 0) (unfit other : Type 0) (n m : ℕ) (r : R
 handed P unfit other n m r e is f le h = told (Gives P other m) r e is (refuses_more e unfit other n m f le h)
 
 pub unsound : (sound : Bool) (made : List ℕ) (n : ℕ) (r : Result (Vec ℕ Global) WriteError) (e : WriteError) → r ≡ Err e → n ≤ length made → Refuses e ⊥ n → MakesSound sound made r
-unsound sound made n r e is le h = told (MakesSound sound made) r e is (refuses_more e ⊥ (sound ≡ false) n (length made) (λ x. absurd x) le h)
+unsound sound made n r e is le h = grind arith
 
 pub made_sound : (r : Result (Vec ℕ Global) WriteError) (block made : List ℕ) (sound : Bool) → block ≡ made → sound ≡ true → Makes block r → MakesSound sound made r
-made_sound (Ok b) block made sound same is h = (is, (h.0 ∙ same, subst (λ l. length l < 2 ^ 31) same h.1))
-made_sound (Err e) block made sound same is h = refuses_more e ⊥ (sound ≡ false) (length block) (length made) (λ x. absurd x) (rw same (omega arith)) h
+made_sound r block made sound same is h = grind (arith, refuses_more)
 
 -- ---- entries, one after the other
 
@@ -93,5 +91,4 @@ pub none_refused : (levels : ℕ) (cs : List ColumnTree) (n room : ℕ) (e : Wri
 none_refused levels cs n room e le f = grind arith
 
 pub all_refused : {X : Type 0} (levels : ℕ) (cs : List ColumnTree) (n room : ℕ) (r : Result X WriteError) → n ≤ room → IfErr r (λ e. Refuses e ⊥ n) → IfErr r (λ e. RefusesColumns levels e cs room)
-all_refused levels cs n room (Ok x) le f = tt
-all_refused levels cs n room (Err e) le f = none_refused levels cs n room e le f
+all_refused levels cs n room r le f = grind (arith, none_refused)

@@ -89,8 +89,7 @@ denotes_one place read law s t a b =
 -- laws: a schema that is read is the one that is denoted
 met : (place : Result (List ℕ) Fault) (read : ℕ → List ℕ → Result (SchemaTree × ℕ) Fault) (levels : ℕ) (s : Schema) → Meets place (read levels) (Ok s)
     → (bytes : List ℕ) × (place ≡ Ok bytes) × Denotes read bytes (schema_tree s)
-met (Ok bytes) read levels s m = (bytes, refl, (levels, m.0, m.2))
-met (Err fault) read levels s m = absurd (cc)
+met place read levels s m = grind arith
 
 pub stream_read_is_denoted : (levels : ℕ) (stream : List ℕ) (s : Schema) → Meets (message_in stream) (schema_of_message levels) (Ok s) → StreamDenotes stream (schema_tree s)
 stream_read_is_denoted levels stream s m = met (message_in stream) schema_of_message levels s m

@@ -221,8 +221,7 @@ pub low : (bytes : List ℕ) (at n : ℕ) (rest : List ℕ) → at % 2 ≡ 0 →
 low bytes at n rest even is = u16_is bytes at n 0 rest even is ∙ ap (λ (k : ℕ). Ok k) (omega arith)
 
 chosen : (b : Bool) (x : Option ℕ) → ◌≡◌ {A = Result (Option ℕ) Fault} (if b then Ok None else Ok x) (Ok (if b then None else x))
-chosen true x = refl
-chosen false x = refl
+chosen b x = grind arith
 
 module _ (bytes : List ℕ) (at size : ℕ) (within : at + size ≤ length bytes) where
   abbrev led : ℕ → Result (Option ℕ) Fault

@@ -16,8 +16,7 @@ unfolding slot_at
 by_table bytes table i is = rw is refl
 
 ends : (even : Bool) (at vtable size : ℕ) (table : Table) → (if even then Ok (record { at = at; vtable = vtable; size = size }) else breaks Vtable vtable) ≡ Ok table → (vtable ≡ table.vtable) × (size ≡ table.size)
-ends true at vtable size table is = (cc, cc)
-ends false at vtable size table is = absurd (cc)
+ends even at vtable size table is = grind arith
 
 ahead_within : (rule : Rule) (bytes : List ℕ) (at by place : ℕ) → ahead rule bytes at by ≡ Ok place → at + by ≤ length bytes
 unfolding ahead

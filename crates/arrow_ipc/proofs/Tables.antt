@@ -45,11 +45,7 @@ text_holds text valid small =
     }
 
 pub is_text : (bytes : List ℕ) (at : ℕ) (text : Text) (n : ℕ) → text_read bytes at ≡ Ok (text, n) → (utf8_at bytes at ≡ Ok text) × (n ≡ length text)
-is_text bytes at text n is =
-    let t = bound (utf8_at bytes at) (λ t. Ok (t, length t)) (text, n) is in
-    let pair : ◌≡◌ {A = Text × ℕ} (t.0, length t.0) (text, n) = cc (t.2) in
-    let same : t.0 ≡ text = ap (λ (p : Text × ℕ). p.0) pair in
-    (t.1 ∙ ap (λ (t : Text). Ok t) same, sym (ap (λ (p : Text × ℕ). p.1) pair) ∙ ap length same)
+is_text bytes at text n is = grind arith
 
 pub entry_holds : (kb tb : List ℕ) (key text : Text) → Holds text_read kb key → Holds text_read tb text → length (entry_block kb tb) < 2 ^ 32 → Holds entry_read (entry_block kb tb) (key, text)
 unfolding entry_in table_in
@@ -85,8 +81,7 @@ unfolding column_in finished
 is_column depth bytes table p cs t ms k l parts zone children type texts = rw (parts, children, type, texts) refl
 
 flag_is : (b : Bool) → (if flag b == 0 then false else true) ≡ b
-flag_is true = refl
-flag_is false = refl
+flag_is b = grind arith
 
 abbrev pub slots : List ℕ
 slots = 4 ∷ 20 ∷ 21 ∷ 8 ∷ 0 ∷ 12 ∷ 16 ∷ []
@@ -122,8 +117,7 @@ column_holds levels nb tb cb mb nullable tag name cs t ms named typing children 
 
 -- as it is written
 flag_byte : (b : Bool) → bool_byte b ≡ flag b
-flag_byte true = refl
-flag_byte false = refl
+flag_byte b = grind arith
 
 pub flagged : (nullable : Bool) (tag : ℕ) (bs : List (List ℕ)) → table_block slots (bool_byte nullable ∷ tag ∷ 0 ∷ 0 ∷ []) bs ≡ table_block slots (flag nullable ∷ tag ∷ 0 ∷ 0 ∷ []) bs
 flagged nullable tag bs = ap (λ (f : ℕ). table_block slots (f ∷ tag ∷ 0 ∷ 0 ∷ []) bs) (flag_byte nullable)
@@ -131,8 +125,7 @@ flagged nullable tag bs = ap (λ (f : ℕ). table_block slots (f ∷ tag ∷ 0 �
 -- ---- the block of a schema, in a message, in a stream
 
 ordered : (order : Endianness) → (if order_number order == 0 then Little else Big) ≡ order
-ordered Little = refl
-ordered Big = refl
+ordered order = grind arith
 
 head_is : (bytes : List ℕ) (at a b : ℕ) (order : Endianness) (cv mv : ℕ × ℕ) → ((i : ℕ) → slot_at bytes at i ≡ Ok (slot_place at (12 ∷ 4 ∷ 8 ∷ []) i)) → u16_at bytes (at + 12) ≡ Ok (order_number order)
     → target_at bytes (at + 4) ≡ Ok a → vector_at bytes a ≡ Ok cv → target_at bytes (at + 8) ≡ Ok b → vector_at bytes b ≡ Ok mv → head_at bytes at ≡ Ok (record { endianness = order; fields = cv; texts = mv })

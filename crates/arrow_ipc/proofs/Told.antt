@@ -21,26 +21,12 @@ told view there old new r e is f = subst (Tells view there old new) (sym is) f
 
 -- what fails first fails in all, whatever comes after
 pub first_fails : {A B : Type 0} (step : Result (A × ℕ) Fault) (rest : A → Result (B × ℕ) Fault) (old : ℕ) (e : IpcError) → Fails step old e → Fails (step >>+ rest) old e
-first_fails step rest old (Broken fault) f = rw f refl
-first_fails (Err d) rest old (Budget place) f = λ v is. absurd (cc)
-first_fails (Ok x) rest old (Budget place) f = λ v is.
-    let last = bound (rest x.0) (λ y. Ok (y.0, x.1 + y.1)) v is in
-    let sum : x.1 + last.0.1 ≡ v.1 = cc (last.2) in
-    let dear = f x refl in
-    omega (arith, sum, dear)
-first_fails step rest old OutOfMemory f = tt
+first_fails step rest old e f = grind (arith, bound)
 
 -- and where the first step was taken, the rest tells all
 pub then_tells : {X A B : Type 0} (view : X → B) (step : Result (A × ℕ) Fault) (rest : A → Result (B × ℕ) Fault) (x : A) (old mid new : ℕ) (r : Result X IpcError)
     → (mid ≤ old) × (step ≡ Ok (x, old - mid)) → Tells view (rest x) mid new r → Tells view (step >>+ rest) old new r
-then_tells view step rest x old mid new (Ok y) one f = (omega (arith, one.0, f.0), rw (one.1, f.1) (ap (λ (n : ℕ). Ok (view y, n)) (omega (arith, one.0, f.0))))
-then_tells view step rest x old mid new (Err (Broken fault)) one f = rw (one.1, f) refl
-then_tells view step rest x old mid new (Err (Budget place)) one f = λ v is.
-    let last = bound (rest x) (λ y. Ok (y.0, old - mid + y.1)) v (sym (ap (λ r. r >>+ rest) one.1) ∙ is) in
-    let sum : old - mid + last.0.1 ≡ v.1 = cc (last.2) in
-    let dear = f last.0 last.1 in
-    omega (arith, sum, dear, one.0)
-then_tells view step rest x old mid new (Err OutOfMemory) one f = tt
+then_tells view step rest x old mid new r one f = grind (arith, bound)
 
 -- what is made of it takes as much
 pub made_fails : {A B : Type 0} (step : Result (A × ℕ) Fault) (f : A → B) (old : ℕ) (e : IpcError) → Fails step old e → Fails (step >>= λ x. Ok (f x.0, x.1)) old e

@@ -255,8 +255,4 @@ table_size (plain null) = omega (arith, length_type)
 table_size _ = omega (arith, length_type)
 
 pub no_table : (t : Tree) → has_table (shape_of t) (ids_of t) ≡ false → is_sound t ≡ false
-no_table (fixed_size_list n t b m (pos s)) none = let no : nat_lt s (2 ^ 31) ≡ false = grind arith in rw no refl
-no_table (fixed_size_list n t b m (negsuc s)) none = refl
-no_table (union ms mode) none = rw none refl
-no_table (plain null) none = absurd (cc)
-no_table _ none = absurd (cc)
+no_table t none = grind arith

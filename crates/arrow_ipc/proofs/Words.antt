@@ -37,8 +37,7 @@ module _ (width precision scale : ℕ) where
       seven (codes "decimal") (decimal width) (codes "(") (decimal precision) (codes ", -") (decimal (4294967296 - scale)) (codes ")") ∙ whole
 
 digit : (b : Bool) → bool_byte b ≡ (if b then 1 else 0)
-digit true = refl
-digit false = refl
+digit b = grind arith
 
 pub dictionary_is : (index : Index) (values word : Text) → word ≡ plain_word (tree index.integers)
     → codes "dictionary<values=" ++ (values ++ (codes ", indices=" ++ (word ++ (codes ", ordered=" ++ (decimal (bool_byte index.ordered) ++ codes ">"))))) ≡ dictionary_text index values
