@@ -1,5 +1,5 @@
 -- What is put one after the other gives a block, or why it does not.
-use Rattle.std.proofs.Common.{◌≡◌, ℕ, ◌+◌, ◌^◌, ◌<◌, ◌≤◌, ◌++◌, ◌∷◌, [], List, length, map, Vec, String, Global, string_bytes, string_cmp, Result, Ok, Err, IfErr, Bool, true, false, sym, ap, ◌∙◌, subst, arith, append_assoc, append-nil, get_or, Some, slice_get}
+use Rattle.std.proofs.Common.{◌≡◌, ℕ, ◌+◌, ◌^◌, ◌<◌, ◌≤◌, ◌++◌, ◌∷◌, [], List, length, map, Vec, String, Global, string_bytes, string_cmp, Result, Err, IfErr, Bool, true, sym, ap, ◌∙◌, subst, arith, append_assoc, append-nil, get_or, Some, slice_get}
 use Rattle.std.proofs.lemmas.List.{map_push}
 use Rattle.std.specs.List.Sorted.{IsStrictlySortedBy}
 use Rattle.std.specs.Map.{keys_of}
@@ -11,7 +11,7 @@ use Rattle.arrow_columns.specs.Column.{ColumnTree}
 use Rattle.arrow_ipc.specs.Blocks.{Holds, word, padded, offsets, linked, text_block, text_read, entry_block, vector_block, entry_read, texts_read}
 use Rattle.arrow_ipc.specs.Rooms.{Refuses, Makes, MakesSound, Gives, texts_room, IsUnfitType}
 use Rattle.arrow_ipc.specs.declared.write.WriteError.{WriteError}
-use Rattle.arrow_ipc.specs.declared.write.WriteError.TheVariants.{Column, TooLarge, OutOfMemory}
+use Rattle.arrow_ipc.specs.declared.write.WriteError.TheVariants.{Column}
 use Rattle.arrow_ipc.specs.Writes.{refused, RefusesColumns}
 use Rattle.arrow_ipc.proofs.Vectors.{items}
 use Rattle.arrow_ipc.proofs.Linked.{length_table}

@@ -73,10 +73,7 @@ length_offsets near far (b ∷ bs) =
 
 pub length_padded : (bytes : List ℕ) → length (padded bytes) ≡ rounded (length bytes)
 unfolding padded
-length_padded bytes =
-    let fill = length-replicate {A = ℕ} (rounded (length bytes) - length bytes) 0 in
-    let all = length-append bytes (replicate (rounded (length bytes) - length bytes) 0) in
-    omega (arith, fill, all)
+length_padded bytes = grind (arith, length-append, length-replicate)
 
 length_concat : (bs : List (List ℕ)) → length (concat bs) ≡ lengths bs
 length_concat [] = refl
@@ -90,22 +87,14 @@ module _ (first : ℕ) (bs : List (List ℕ)) (rest : List ℕ) where
   heads = offsets 4 far bs
 
   length_heads : length (word first ++ (heads ++ rest)) ≡ 4 + (4 * length bs + length rest)
-  length_heads =
-      let one : length (word first ++ (heads ++ rest)) ≡ 4 + length (heads ++ rest) = length-append (word first) (heads ++ rest) in
-      let two = length-append heads rest in
-      let three = length_offsets 4 far bs in
-      omega (arith, one, two, three)
+  length_heads = grind (arith, length-append, length_offsets)
 
   length_front : length (padded (word first ++ (heads ++ rest))) ≡ far
   length_front = let one = length_padded (word first ++ (heads ++ rest)) in let two = length_heads in one ∙ ap rounded two
 
   pub length_linked : length (linked first bs rest) ≡ rounded (4 + (4 * length bs + length rest)) + lengths bs
   unfolding linked
-  length_linked =
-      let one = length-append (padded (word first ++ (heads ++ rest))) (concat bs) in
-      let two = length_front in
-      let three = length_concat bs in
-      omega (arith, one, two, three)
+  length_linked = grind (arith, length-append, length_front, length_concat)
 
 -- ---- what stands further on
 

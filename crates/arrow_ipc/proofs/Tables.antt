@@ -25,10 +25,7 @@ use Rattle.std.proofs.lemmas.Bool.{lt-ltb, le-leb}
 use Rattle.arrow_ipc.proofs.Linked.{text_is, is_some, u8_is, u32_is, target_is, length_linked, flat, tail, slot_place, low, length_table, stands, table_holds}
 
 pub length_text : (text : Text) → length (text_block text) ≡ rounded (5 + length text)
-length_text text =
-    let size = length_linked (length text) [] (text ++ 0 ∷ []) in
-    let sum = length-append text (0 ∷ []) in
-    omega (arith, size, sum)
+length_text text = grind (arith, length_linked, length-append)
 
 pub text_holds : (text : Text) → is_utf8 text ≡ true → length text < 2 ^ 31 → Holds text_read (text_block text) text
 unfolding offsets
@@ -69,10 +66,7 @@ column_by_table depth bytes at table v led is = rw led is
 is_typed : (bytes : List ℕ) (p : Own) (cs : List ColumnTree) (t : TypeTree) → p.zone ≡ [] → p.index ≡ None
     → (ids_of_kind p.kind (ids_at bytes p.table p.ids (length cs)) >>= λ i. counted p.table (type_of p.kind [] i cs)) ≡ Ok t → typed bytes p cs ≡ Ok t
 unfolding typed
-is_typed bytes p cs t zone index is =
-    let two = bound (ids_of_kind p.kind (ids_at bytes p.table p.ids (length cs))) (λ i. counted p.table (type_of p.kind [] i cs)) t is in
-    let three : counted p.table (type_of p.kind p.zone two.0 cs) ≡ Ok t = rw zone two.2 in
-    rw (two.1, three, index) refl
+is_typed bytes p cs t zone index is = grind (arith, bound)
 
 is_column : (depth : ℕ) (bytes : List ℕ) (table : ℕ) (p : Own) (cs : List ColumnTree) (t : TypeTree) (ms : Metadata) (k l : ℕ) → parts_in bytes table ≡ Ok p → p.zone ≡ []
     → columns_by (column_at depth bytes) p.children ≡ Ok (cs, k) → typed bytes p cs ≡ Ok t → texts_at bytes p.texts ≡ Ok (ms, l)

@@ -156,10 +156,7 @@ is_union bytes table mode ms v many ids =
     rw (count, as_many, ids, all_are_known (member_fields ms), are_fields (member_fields ms), members_back ms) refl
 
 pub length_vector_of : (ids : List ℤ) → length (linked (length ids) [] (id_words ids)) ≡ rounded (4 + 4 * length ids)
-length_vector_of ids =
-    let size = length_linked (length ids) [] (id_words ids) in
-    let many = length_ids ids in
-    omega (arith, size, many)
+length_vector_of ids = grind (arith, length_linked, length_ids)
 
 pub length_union : (mode : UnionMode) (ids : List ℤ) → length (union_block mode ids) ≡ 24 + rounded (4 + 4 * length ids)
 length_union mode ids =
