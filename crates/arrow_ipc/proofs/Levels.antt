@@ -74,9 +74,7 @@ one_schema read bytes law s t a b = grind (arith, law a.0 (a.0 + b.0), law b.0 (
 pub denotes_one : (place : Result (List ℕ) Fault) (read : ℕ → List ℕ → Result (SchemaTree × ℕ) Fault)
     → ((bytes : List ℕ) (levels more : ℕ) → levels ≤ more → (v : SchemaTree × ℕ) → read levels bytes ≡ Ok v → read more bytes ≡ Ok v) → (s t : SchemaTree)
     → ((bytes : List ℕ) × (place ≡ Ok bytes) × Denotes read bytes s) → ((bytes : List ℕ) × (place ≡ Ok bytes) × Denotes read bytes t) → s ≡ t
-denotes_one place read law s t a b =
-    let same : b.0 ≡ a.0 = cc (a.1, b.1) in
-    one_schema read a.0 (law a.0) s t a.2 (subst (λ bytes. Denotes read bytes t) same b.2)
+denotes_one place read law s t a b = grind (arith, one_schema)
 
 -- laws: a schema that is read is the one that is denoted
 met : (place : Result (List ℕ) Fault) (read : ℕ → List ℕ → Result (SchemaTree × ℕ) Fault) (levels : ℕ) (s : Schema) → Meets place (read levels) (Ok s)

@@ -66,10 +66,7 @@ text_is bytes at text rest even small valid is =
 pub length_offsets : (near far : ℕ) (bs : List (List ℕ)) → length (offsets near far bs) ≡ 4 * length bs
 unfolding offsets
 length_offsets near far [] = refl
-length_offsets near far (b ∷ bs) =
-    let rest = length_offsets (near + 4) (far + length b) bs in
-    let all : length (offsets near far (b ∷ bs)) ≡ 4 + length (offsets (near + 4) (far + length b) bs) = length-append (word (far - near)) (offsets (near + 4) (far + length b) bs) in
-    omega (arith, rest, all)
+length_offsets near far (b ∷ bs) = grind (arith, length-append, length_offsets (near + 4) (far + length b) bs)
 
 pub length_padded : (bytes : List ℕ) → length (padded bytes) ≡ rounded (length bytes)
 unfolding padded
@@ -106,10 +103,7 @@ module _ (bytes : List ℕ) (at : ℕ) where
   further a b to is place = subst (λ n. drop n bytes ≡ b) place (by_place (a ++ b) (length a) is ∙ drop_at a b (length a) refl)
 
   pub ends : (y : List ℕ) → drop at bytes ≡ y → 0 < length y → at + length y ≡ length bytes
-  ends y is some =
-      let left = length-drop at bytes in
-      let same : length (drop at bytes) ≡ length y = ap length is in
-      omega (arith, left, same)
+  ends y is some = grind (arith, length-drop)
 
 -- ---- the blocks to which offsets lead
 
@@ -241,11 +235,7 @@ module _ (slots numbers : List ℕ) (bs : List (List ℕ)) where
   vtable = (4 + 2 * length slots) ∷ 0 ∷ size ∷ 0 ∷ places slots
 
   pub length_table : length (table_block slots numbers bs) ≡ rounded (table_size bs numbers + (4 + 2 * length slots)) + lengths bs
-  length_table =
-      let long = length_linked first bs (numbers ++ vtable) in
-      let sum = length-append numbers vtable in
-      let many = length_places slots in
-      omega (arith, long, sum, many)
+  length_table = grind (arith, length_linked, length-append, length_places)
 
   pub whole_table : AreWhole bs → length (table_block slots numbers bs) % 8 ≡ 0
   whole_table all = let long = length_table in let whole = whole_lengths bs all in omega (arith, long, whole)

@@ -1,5 +1,5 @@
 -- Blocks that are made one after the other, the walk along a vector of tables, and the vectors of metadata and of columns.
-use Rattle.std.proofs.Common.{◌≡◌, ℕ, zero, suc, ◌+◌, ◌*◌, ◌^◌, ◌<◌, ◌≤◌, ◌++◌, ◌∷◌, [], List, length, String, Global, string_bytes, string_cmp, Ordering, Less, Greater, Ok, refl, sym, ap, ◌∙◌, subst, arith, append_assoc, append-nil, Result}
+use Rattle.std.proofs.Common.{◌≡◌, ℕ, ◌+◌, ◌*◌, ◌^◌, ◌<◌, ◌≤◌, ◌++◌, ◌∷◌, [], List, length, String, Global, string_bytes, string_cmp, Ordering, Less, Greater, Ok, refl, sym, ap, ◌∙◌, subst, arith, append_assoc, append-nil, Result}
 use Rattle.std.proofs.lemmas.List.{length-append, map-append}
 use Rattle.std.specs.Ordering.{ordering_reverse, match_ordering}
 use Rattle.std.specs.Cmp.{IsTotalOrder}
@@ -161,8 +161,7 @@ joined_columns done [] = sym (append-nil done)
 joined_columns done (c ∷ left) = joined_columns (done ++ c ∷ []) left ∙ append_assoc done (c ∷ []) left
 
 child_at : (levels : ℕ) (bytes : List ℕ) (at table : ℕ) (v : ColumnTree × ℕ) → target_at bytes at ≡ Ok table → child_in levels bytes table ≡ Ok v → column_at levels bytes at ≡ Ok v
-child_at zero bytes at table v led is = absurd (cc)
-child_at (suc levels) bytes at table v led is = column_by_table levels bytes at table v led is
+child_at levels bytes at table v led is = grind (arith, column_by_table)
 
 column_step : (levels : ℕ) (bytes : List ℕ) (start : ℕ) (s : List ColumnTree) (i t : ℕ) (v : ColumnTree × ℕ) → target_at bytes (start + 4 * i) ≡ Ok t → child_in levels bytes t ≡ Ok v
     → put_column (column_at levels bytes) start s i ≡ Ok (push s v.0, v.1)

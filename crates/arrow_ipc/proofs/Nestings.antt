@@ -56,10 +56,7 @@ module _ {A : Type 0} (f : A → ColumnTree) (levels : ℕ) where
 
       pub each_more : (new : List (Vec ℕ Global)) (b : Vec ℕ Global) → new ≡ blocks ++ b ∷ [] → Holds (child_in levels) b.items (f x) → length b.items ≤ room_of (f x)
           → Made (Holds (child_in levels)) columns_room (map items new) (map f (drop (i + 1) xs)) (map f xs)
-      each_more new b pushed one most =
-          let same : map items new ≡ map items blocks ++ b.items ∷ [] = ap (map items) pushed ∙ map_push items blocks b in
-          subst (λ bs. Made (Holds (child_in levels)) columns_room bs (map f (drop (i + 1) xs)) (map f xs)) (sym same)
-          (made_more (Holds (child_in levels)) columns_room (map items blocks) b.items (f x) (map f (drop (i + 1) xs)) (map f xs) here one (omega (arith, most)))
+      each_more new b pushed one most = grind (arith, map_push, made_more, here)
 
       pub each_room : room_of (f x) ≤ columns_room (map f xs)
       each_room = let m = here in let fits = m.fits in omega (arith, fits)

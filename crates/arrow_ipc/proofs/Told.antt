@@ -1,5 +1,5 @@
 -- From what a step returned to what a call returned.
-use Rattle.std.proofs.Common.{◌≡◌, ℕ, ◌+◌, ◌-◌, ◌<◌, ◌≤◌, Result, Ok, Err, refl, sym, ap, subst, arith, suc, ap₂, List}
+use Rattle.std.proofs.Common.{◌≡◌, ℕ, ◌+◌, ◌-◌, ◌<◌, ◌≤◌, Result, Ok, Err, refl, sym, ap, subst, arith, suc, List}
 use Rattle.arrow_columns.specs.Column.{ColumnTree}
 use Rattle.arrow_ipc.specs.Fault.{◌>>=◌, breaks}
 use Rattle.arrow_ipc.specs.Tells.{Fails, Tells, Says, ◌>>+◌, gather}
@@ -54,9 +54,7 @@ module _ {X S : Type 0} (view : X → S) (put : S → ℕ → Result (S × ℕ) 
 
   pub is_done : count ≤ i → (x : X) → view x ≡ s → Tells view (gather put s i (count - i)) old old (Ok x)
   unfolding gather
-  is_done le x same =
-      let k : count - i ≡ 0 = omega arith in
-      (omega arith, rw k (ap₂ (λ (t : S) (n : ℕ). Ok (t, n)) (sym same) (omega arith)))
+  is_done le x same = grind arith
 
 -- ---- a column, by what its own table says
 

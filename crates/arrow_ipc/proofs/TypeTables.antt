@@ -18,7 +18,7 @@ use Rattle.arrow_ipc.specs.Kinds.{int_at, number_at, plain_of, kind_at}
 use Rattle.arrow_ipc.specs.Parts.{zone_in, ids_in}
 use Rattle.arrow_ipc.specs.Types.{type_of}
 use Rattle.arrow_ipc.specs.Columns.{ids_at, ids_of_kind, counted, is_new, put_id, ids_from}
-use Rattle.arrow_ipc.specs.Blocks.{Lies, IsType, word, offsets, number, truth, place_of_number, place_of_truth, table_block, type_block, rounded, linked, mode_number, id_number, id_words, union_block}
+use Rattle.arrow_ipc.specs.Blocks.{Lies, IsType, word, offsets, number, truth, place_of_number, place_of_truth, table_block, type_block, rounded, linked, mode_number, id_words, union_block}
 use Rattle.arrow_ipc.specs.Shapes.{column_of, member_ids, are_ids, member_fields, nested_columns, shape_of, ids_of, shape_tag, shape_bytes, has_table}
 use Rattle.arrow_ipc.specs.declared.fault.Fault.{Fault}
 use Rattle.arrow_ipc.specs.declared.kinds.Kind.{Kind}
@@ -110,10 +110,7 @@ are_fields (f ∷ fs) = ap (λ l. f ∷ l) (are_fields fs)
 
 length_ids : (ids : List ℤ) → length (id_words ids) ≡ 4 * length ids
 length_ids [] = refl
-length_ids (i ∷ is) =
-    let rest = length_ids is in
-    let all : length (id_words (i ∷ is)) ≡ 4 + length (id_words is) = length-append (word (id_number i)) (id_words is) in
-    omega (arith, rest, all)
+length_ids (i ∷ is) = grind (arith, length-append, length_ids is)
 
 module _ (bytes : List ℕ) (table start count : ℕ) where
   walk : (done left : List ℤ) (i at : ℕ) (rest : List ℕ) → drop at bytes ≡ id_words left ++ rest → at ≡ start + 4 * i → at % 4 ≡ 0 → are_ids done left ≡ true
