@@ -1,4 +1,4 @@
-use Rattle.std.proofs.Common.{arith, ◌+◌, ◌-◌, ◌*◌, ◌++◌, ◌∷◌, [], Ok, map, refl}
+use Rattle.std.proofs.Common.{arith, ◌+◌, ◌*◌, ◌++◌, ◌∷◌, [], Ok, map, refl}
 use native.Mathlib.Numerals.{unary_clauses}
 use Rattle.arrow_columns.specs.Column.{column_tree}
 use Rattle.arrow_ipc.specs.Columns.{put_column, columns_by, column_at}
