@@ -1,5 +1,5 @@
 -- The texts of a map after an insert, and metadata with one more entry.
-use Rattle.std.proofs.Common.{◌≡◌, List, [], ◌∷◌, String, Global, Ordering, Less, Equal, Greater, string_bytes, refl, ◌∙◌}
+use Rattle.std.proofs.Common.{◌≡◌, List, [], ◌∷◌, String, Global, Ordering, string_bytes, refl, ◌∙◌, arith}
 use Rattle.std.specs.BTreeMap.{insert_entry}
 use Rattle.std.specs.String.{string_cmp}
 use Rattle.std.specs.Ordering.{match_ordering}
@@ -10,9 +10,7 @@ abbrev Entries : Type 0
 Entries = List (String Global × String Global)
 
 moved : (r : Ordering) (a b c : Entries) → texts_of (match_ordering r a b c) ≡ match_ordering r (texts_of a) (texts_of b) (texts_of c)
-moved Less a b c = refl
-moved Equal a b c = refl
-moved Greater a b c = refl
+moved r a b c = grind arith
 
 pub texts_inserted : (es : Entries) (k v : String Global) → texts_of (insert_entry string_cmp es k v) ≡ put_text (string_bytes k) (string_bytes v) (texts_of es)
 texts_inserted [] k v = refl

@@ -1,5 +1,5 @@
 -- More levels change nothing of what is read with fewer. So a message or footer denotes one schema at most.
-use Rattle.std.proofs.Common.{◌≡◌, ℕ, zero, suc, ◌+◌, ◌*◌, ◌-◌, ◌≤◌, ◌++◌, ◌∷◌, [], List, Result, Ok, Err, refl, ap, subst, arith}
+use Rattle.std.proofs.Common.{◌≡◌, ℕ, zero, suc, ◌+◌, ◌-◌, ◌≤◌, [], List, Result, Ok, Err, subst, arith}
 use Rattle.arrow_columns.specs.Column.{ColumnTree}
 use Rattle.arrow_ipc.specs.Fault.{◌>>=◌}
 use Rattle.arrow_ipc.specs.Parts.{parts_at}
@@ -14,14 +14,11 @@ use Rattle.arrow_ipc.proofs.Told.{bound}
 -- two steps that read as much as two others
 both_more : {A B : Type 0} (r s : Result (A × ℕ) Fault) (f g : A → Result (B × ℕ) Fault) → ((x : A × ℕ) → r ≡ Ok x → s ≡ Ok x) → ((x : A) (y : B × ℕ) → f x ≡ Ok y → g x ≡ Ok y)
     → (v : B × ℕ) → (r >>+ f) ≡ Ok v → (s >>+ g) ≡ Ok v
-both_more (Err e) s f g one rest v is = absurd (cc)
-both_more (Ok x) s f g one rest v is =
-    let last = bound (f x.0) (λ y. Ok (y.0, x.1 + y.1)) v is in
-    rw (one x refl, rest x.0 last.0 last.1) last.2
+both_more r s f g one rest v is = grind (arith, bound)
 
 module _ (read more : ℕ → Result (ColumnTree × ℕ) Fault) (deeper : (at : ℕ) (v : ColumnTree × ℕ) → read at ≡ Ok v → more at ≡ Ok v) where
   put_more : (start : ℕ) (cs : List ColumnTree) (i : ℕ) (v : List ColumnTree × ℕ) → put_column read start cs i ≡ Ok v → put_column more start cs i ≡ Ok v
-  put_more start cs i v is = let one = bound (read (start + 4 * i)) (λ c. Ok (cs ++ c.0 ∷ [], c.1)) v is in rw (deeper (start + 4 * i) one.0 one.1) one.2
+  put_more start cs i v is = grind (arith, bound, deeper)
 
   gather_more : (start : ℕ) (cs : List ColumnTree) (i n : ℕ) (v : List ColumnTree × ℕ) → gather (put_column read start) cs i n ≡ Ok v → gather (put_column more start) cs i n ≡ Ok v
   unfolding gather
@@ -71,26 +68,18 @@ module _ (bytes : List ℕ) where
 
 one_schema : (read : ℕ → List ℕ → Result (SchemaTree × ℕ) Fault) (bytes : List ℕ) → ((levels more : ℕ) → levels ≤ more → (v : SchemaTree × ℕ) → read levels bytes ≡ Ok v → read more bytes ≡ Ok v)
     → (s t : SchemaTree) → Denotes read bytes s → Denotes read bytes t → s ≡ t
-one_schema read bytes law s t a b =
-    let all = a.0 + b.0 in
-    let one : read all bytes ≡ Ok (s, a.1) = law a.0 all (omega arith) (s, a.1) a.2 in
-    let other : read all bytes ≡ Ok (t, b.1) = law b.0 all (omega arith) (t, b.1) b.2 in
-    let same : ◌≡◌ {A = SchemaTree × ℕ} (s, a.1) (t, b.1) = cc (one, other) in
-    ap (λ (p : SchemaTree × ℕ). p.0) same
+one_schema read bytes law s t a b = grind (arith, law a.0 (a.0 + b.0), law b.0 (a.0 + b.0))
 
 -- laws: one schema at most is denoted
 pub denotes_one : (place : Result (List ℕ) Fault) (read : ℕ → List ℕ → Result (SchemaTree × ℕ) Fault)
     → ((bytes : List ℕ) (levels more : ℕ) → levels ≤ more → (v : SchemaTree × ℕ) → read levels bytes ≡ Ok v → read more bytes ≡ Ok v) → (s t : SchemaTree)
     → ((bytes : List ℕ) × (place ≡ Ok bytes) × Denotes read bytes s) → ((bytes : List ℕ) × (place ≡ Ok bytes) × Denotes read bytes t) → s ≡ t
-denotes_one place read law s t a b =
-    let same : b.0 ≡ a.0 = cc (a.1, b.1) in
-    one_schema read a.0 (law a.0) s t a.2 (subst (λ bytes. Denotes read bytes t) same b.2)
+denotes_one place read law s t a b = grind (arith, one_schema)
 
 -- laws: a schema that is read is the one that is denoted
 met : (place : Result (List ℕ) Fault) (read : ℕ → List ℕ → Result (SchemaTree × ℕ) Fault) (levels : ℕ) (s : Schema) → Meets place (read levels) (Ok s)
     → (bytes : List ℕ) × (place ≡ Ok bytes) × Denotes read bytes (schema_tree s)
-met (Ok bytes) read levels s m = (bytes, refl, (levels, m.0, m.2))
-met (Err fault) read levels s m = absurd (cc)
+met place read levels s m = grind arith
 
 pub stream_read_is_denoted : (levels : ℕ) (stream : List ℕ) (s : Schema) → Meets (message_in stream) (schema_of_message levels) (Ok s) → StreamDenotes stream (schema_tree s)
 stream_read_is_denoted levels stream s m = met (message_in stream) schema_of_message levels s m

@@ -1,11 +1,12 @@
 -- What is read at a place of a message from the bytes that stand there, and what stands in a block of linked blocks: its number, its
 -- offsets with the blocks to which they lead, its other bytes, and where it is a table, its slots.
-use Rattle.std.proofs.Common.{◌≡◌, ℕ, zero, suc, ◌+◌, ◌*◌, ◌-◌, ◌^◌, ◌%◌, ◌<◌, ◌≤◌, true, false, ◌++◌, ◌∷◌, [], List, length, take, drop, Some, Ok, refl, sym, ap, ◌∙◌, arith, slice_get, nat_lt, nat_le, ◌==◌, Bool, replicate, Option, None, Result, subst, append_assoc, if◌then◌else◌}
+use Rattle.std.proofs.Common.{◌≡◌, ℕ, zero, suc, ◌+◌, ◌*◌, ◌-◌, ◌^◌, ◌%◌, ◌<◌, ◌≤◌, true, false, ◌++◌, ◌∷◌, [], List, length, take, drop, Some, Ok, refl, sym, ap, ◌∙◌, arith, slice_get, nat_lt, ◌==◌, Bool, replicate, Option, None, Result, subst, append_assoc, if◌then◌else◌}
 use Rattle.std.specs.Int.{w16, w32, to_le_bytes, from_le_bytes}
 use Rattle.std.specs.Str.{is_utf8}
 use Rattle.std.specs.List.{concat}
 use Rattle.std.proofs.lemmas.Nat.{from_le_bytes-to_le_bytes_4}
 use Rattle.std.proofs.lemmas.List.{length-drop, drop-drop, drop_at, take_at, length-append, length-replicate}
+use Rattle.std.proofs.lemmas.Bool.{lt-ltb, le-ltb, le-leb, ltb-true, ltb-false, eq-eqb}
 use Rattle.std.proofs.lemmas.Bool.Decides.{nat_tests}
 use Rattle.arrow_ipc.specs.Fault.{◌>>=◌}
 use Rattle.arrow_ipc.specs.Wire.{u8_at, u16_at, u32_at, ahead, vtable_at, target_at, text_at, utf8_at, vector_at, opened_at, slot_of, slot_at}
@@ -14,20 +15,8 @@ use Rattle.arrow_ipc.specs.declared.fault.Fault.{Fault}
 use Rattle.arrow_ipc.specs.declared.fault.Rule.{Rule}
 use Rattle.arrow_ipc.specs.declared.fault.Rule.TheVariants.{Vtable, Offset, Text, Vector, Slot}
 
-pub is_even : (n : ℕ) → n ≡ 0 → (n == 0) ≡ true
-is_even n e = rw e refl
-
 pub is_some : (n : ℕ) → 0 < n → (n == 0) ≡ false
 is_some n e = grind (arith, nat_tests)
-
-pub is_lt : (m n : ℕ) → m < n → nat_lt m n ≡ true
-is_lt m n e = grind (arith, nat_tests)
-
-pub is_not_lt : (m n : ℕ) → n ≤ m → nat_lt m n ≡ false
-is_not_lt m n e = grind (arith, nat_tests)
-
-pub is_le : (m n : ℕ) → m ≤ n → nat_le m n ≡ true
-is_le m n e = grind (arith, nat_tests)
 
 byte_got : (bytes : List ℕ) (at b : ℕ) (rest : List ℕ) → drop at bytes ≡ b ∷ rest → slice_get bytes at ≡ Some b
 byte_got [] zero b rest is = absurd (cc)
@@ -50,7 +39,7 @@ module _ (bytes : List ℕ) (at : ℕ) where
 
   pub ahead_is : (rule : Rule) (by : ℕ) → at + by ≤ length bytes → ahead rule bytes at by ≡ Ok (at + by)
   unfolding ahead
-  ahead_is rule by le = rw (is_le (at + by) (length bytes) le) refl
+  ahead_is rule by le = rw (le-leb (at + by) (length bytes) le) refl
 
   pub target_is : (n : ℕ) (rest : List ℕ) → at % 4 ≡ 0 → 0 < n → n < 2 ^ 32 → at + n ≤ length bytes → drop at bytes ≡ to_le_bytes w32 n ++ rest → target_at bytes at ≡ Ok (at + n)
   unfolding target_at
@@ -60,7 +49,7 @@ module _ (bytes : List ℕ) (at : ℕ) where
   unfolding vtable_at
   vtable_is k rest even some small within is =
       let back : 2 ^ 32 - (2 ^ 32 - k) ≡ k = omega arith in
-      rw (u32_is (2 ^ 32 - k) rest even (omega arith) is, is_not_lt (2 ^ 32 - k) (2 ^ 31) (omega arith), back) (ahead_is Vtable k within)
+      rw (u32_is (2 ^ 32 - k) rest even (omega arith) is, le-ltb (2 ^ 32 - k) (2 ^ 31) (omega arith), back) (ahead_is Vtable k within)
 
 -- a text that stands there, with a NUL behind it
 pub text_is : (bytes : List ℕ) (at : ℕ) (text rest : List ℕ) → at % 4 ≡ 0 → length text < 2 ^ 32 → is_utf8 text ≡ true → drop at bytes ≡ to_le_bytes w32 (length text) ++ (text ++ 0 ∷ rest) → utf8_at bytes at ≡ Ok text
@@ -77,17 +66,11 @@ text_is bytes at text rest even small valid is =
 pub length_offsets : (near far : ℕ) (bs : List (List ℕ)) → length (offsets near far bs) ≡ 4 * length bs
 unfolding offsets
 length_offsets near far [] = refl
-length_offsets near far (b ∷ bs) =
-    let rest = length_offsets (near + 4) (far + length b) bs in
-    let all : length (offsets near far (b ∷ bs)) ≡ 4 + length (offsets (near + 4) (far + length b) bs) = length-append (word (far - near)) (offsets (near + 4) (far + length b) bs) in
-    omega (arith, rest, all)
+length_offsets near far (b ∷ bs) = grind (arith, length-append, length_offsets (near + 4) (far + length b) bs)
 
 pub length_padded : (bytes : List ℕ) → length (padded bytes) ≡ rounded (length bytes)
 unfolding padded
-length_padded bytes =
-    let fill = length-replicate {A = ℕ} (rounded (length bytes) - length bytes) 0 in
-    let all = length-append bytes (replicate (rounded (length bytes) - length bytes) 0) in
-    omega (arith, fill, all)
+length_padded bytes = grind (arith, length-append, length-replicate)
 
 length_concat : (bs : List (List ℕ)) → length (concat bs) ≡ lengths bs
 length_concat [] = refl
@@ -101,22 +84,14 @@ module _ (first : ℕ) (bs : List (List ℕ)) (rest : List ℕ) where
   heads = offsets 4 far bs
 
   length_heads : length (word first ++ (heads ++ rest)) ≡ 4 + (4 * length bs + length rest)
-  length_heads =
-      let one : length (word first ++ (heads ++ rest)) ≡ 4 + length (heads ++ rest) = length-append (word first) (heads ++ rest) in
-      let two = length-append heads rest in
-      let three = length_offsets 4 far bs in
-      omega (arith, one, two, three)
+  length_heads = grind (arith, length-append, length_offsets)
 
   length_front : length (padded (word first ++ (heads ++ rest))) ≡ far
   length_front = let one = length_padded (word first ++ (heads ++ rest)) in let two = length_heads in one ∙ ap rounded two
 
   pub length_linked : length (linked first bs rest) ≡ rounded (4 + (4 * length bs + length rest)) + lengths bs
   unfolding linked
-  length_linked =
-      let one = length-append (padded (word first ++ (heads ++ rest))) (concat bs) in
-      let two = length_front in
-      let three = length_concat bs in
-      omega (arith, one, two, three)
+  length_linked = grind (arith, length-append, length_front, length_concat)
 
 -- ---- what stands further on
 
@@ -128,10 +103,7 @@ module _ (bytes : List ℕ) (at : ℕ) where
   further a b to is place = subst (λ n. drop n bytes ≡ b) place (by_place (a ++ b) (length a) is ∙ drop_at a b (length a) refl)
 
   pub ends : (y : List ℕ) → drop at bytes ≡ y → 0 < length y → at + length y ≡ length bytes
-  ends y is some =
-      let left = length-drop at bytes in
-      let same : length (drop at bytes) ≡ length y = ap length is in
-      omega (arith, left, same)
+  ends y is some = grind (arith, length-drop)
 
 -- ---- the blocks to which offsets lead
 
@@ -232,14 +204,7 @@ pub low : (bytes : List ℕ) (at n : ℕ) (rest : List ℕ) → at % 2 ≡ 0 →
 low bytes at n rest even is = u16_is bytes at n 0 rest even is ∙ ap (λ (k : ℕ). Ok k) (omega arith)
 
 chosen : (b : Bool) (x : Option ℕ) → ◌≡◌ {A = Result (Option ℕ) Fault} (if b then Ok None else Ok x) (Ok (if b then None else x))
-chosen true x = refl
-chosen false x = refl
-
-pub below : (n m : ℕ) → nat_lt n m ≡ true → n < m
-below n m is = grind (arith, nat_tests)
-
-above : (n m : ℕ) → nat_lt n m ≡ false → m ≤ n
-above n m is = grind (arith, nat_tests)
+chosen b x = grind arith
 
 module _ (bytes : List ℕ) (at size : ℕ) (within : at + size ≤ length bytes) where
   abbrev led : ℕ → Result (Option ℕ) Fault
@@ -270,11 +235,7 @@ module _ (slots numbers : List ℕ) (bs : List (List ℕ)) where
   vtable = (4 + 2 * length slots) ∷ 0 ∷ size ∷ 0 ∷ places slots
 
   pub length_table : length (table_block slots numbers bs) ≡ rounded (table_size bs numbers + (4 + 2 * length slots)) + lengths bs
-  length_table =
-      let long = length_linked first bs (numbers ++ vtable) in
-      let sum = length-append numbers vtable in
-      let many = length_places slots in
-      omega (arith, long, sum, many)
+  length_table = grind (arith, length_linked, length-append, length_places)
 
   pub whole_table : AreWhole bs → length (table_block slots numbers bs) % 8 ≡ 0
   whole_table all = let long = length_table in let whole = whole_lengths bs all in omega (arith, long, whole)
@@ -303,7 +264,7 @@ module _ (slots numbers : List ℕ) (bs : List (List ℕ)) where
       opened =
           let whole = lies.whole in
           let ended = ends_at in
-          let even : ((4 + 2 * length slots) % 2 == 0) ≡ true = is_even ((4 + 2 * length slots) % 2) (omega arith) in
+          let even : ((4 + 2 * length slots) % 2 == 0) ≡ true = eq-eqb ((4 + 2 * length slots) % 2) 0 (omega arith) in
           rw (
             vtable_is bytes at size _ (omega (arith, whole)) (omega arith) few (omega (arith, ended)) (flat bytes at first bs (numbers ++ vtable) lies),
             low bytes (at + size) (4 + 2 * length slots) _ (omega (arith, whole, fourth)) vtable_at_size,
@@ -314,16 +275,16 @@ module _ (slots numbers : List ℕ) (bs : List (List ℕ)) where
       by_test : (i : ℕ) (b : Bool) → nat_lt i (length slots) ≡ b → slot_at bytes at i ≡ Ok (slot_place at slots i)
       unfolding slot_at slot_of
       by_test i true is =
-          let lt = below i (length slots) is in
+          let lt = ltb-true i (length slots) is in
           let ended = ends_at in
           let whole = lies.whole in
           let got = found bytes at size (omega (arith, ended)) slots i (at + size + 4) behind (by_place bytes (at + size) (vtable ++ behind) 4 vtable_at_size) (omega (arith, whole, fourth)) all lt in
           let place : at + size + 4 + 2 * i ≡ at + size + (4 + 2 * i) = omega arith in
-          rw (opened, is_not_lt (4 + 2 * length slots) (6 + 2 * i) (omega (arith, lt)), ahead_is bytes (at + size) Vtable (4 + 2 * i) (omega (arith, ended, lt)))
+          rw (opened, le-ltb (4 + 2 * length slots) (6 + 2 * i) (omega (arith, lt)), ahead_is bytes (at + size) Vtable (4 + 2 * i) (omega (arith, ended, lt)))
           (subst (λ n. (u16_at bytes n >>= led bytes at size (omega (arith, ended))) ≡ Ok (slot_place at slots i)) place got)
       by_test i false is =
-          let le = above i (length slots) is in
-          rw (opened, is_lt (4 + 2 * length slots) (6 + 2 * i) (omega (arith, le)), past at slots i le) refl
+          let le = ltb-false i (length slots) is in
+          rw (opened, lt-ltb (4 + 2 * length slots) (6 + 2 * i) (omega (arith, le)), past at slots i le) refl
 
 -- what is read of a table: its slots, where its offsets lead, and its numbers
 pub record Stands (slots numbers : List ℕ) (bs : List (List ℕ)) (bytes : List ℕ) (at : ℕ) : Type 0 where

@@ -1,5 +1,5 @@
 -- Blocks that are made one after the other, the walk along a vector of tables, and the vectors of metadata and of columns.
-use Rattle.std.proofs.Common.{◌≡◌, ℕ, zero, suc, ◌+◌, ◌*◌, ◌^◌, ◌<◌, ◌≤◌, ◌++◌, ◌∷◌, [], List, length, String, Global, string_bytes, string_cmp, Ordering, Less, Greater, Ok, refl, sym, ap, ◌∙◌, subst, arith, append_assoc, append-nil, Result}
+use Rattle.std.proofs.Common.{◌≡◌, ℕ, ◌+◌, ◌*◌, ◌^◌, ◌<◌, ◌≤◌, ◌++◌, ◌∷◌, [], List, length, String, Global, string_bytes, string_cmp, Ordering, Less, Greater, Ok, refl, sym, ap, ◌∙◌, subst, arith, append_assoc, append-nil, Result}
 use Rattle.std.proofs.lemmas.List.{length-append, map-append}
 use Rattle.std.specs.Ordering.{ordering_reverse, match_ordering}
 use Rattle.std.specs.Cmp.{IsTotalOrder}
@@ -13,7 +13,7 @@ use Rattle.arrow_values.specs.View.{texts_of}
 use Rattle.arrow_values.specs.Texts.{put_text}
 use Rattle.arrow_columns.specs.Column.{ColumnTree}
 use Rattle.arrow_ipc.specs.Wire.{target_at, vector_at}
-use Rattle.arrow_ipc.specs.Columns.{entry_in, entry_at, entry_price, put_next, texts_at, put_column, columns_by, column_at}
+use Rattle.arrow_ipc.specs.Columns.{entry_at, put_next, texts_at, put_column, columns_by, column_at}
 use Rattle.arrow_ipc.specs.Blocks.{Holds, lengths, rounded, vector_block, entry_read, texts_read, columns_read, child_in}
 use Rattle.arrow_ipc.specs.Fault.{◌>>=◌}
 use Rattle.arrow_ipc.specs.Tells.{gather}
@@ -142,10 +142,7 @@ joined_texts done (e ∷ left) h =
 entry_step : (bytes : List ℕ) (start : ℕ) (s : Metadata) (i t : ℕ) (v : (Text × Text) × ℕ) → target_at bytes (start + 4 * i) ≡ Ok t → entry_read bytes t ≡ Ok v
     → put_next bytes start s i ≡ Ok (put s v.0, v.1)
 unfolding entry_at
-entry_step bytes start s i t v led is =
-    let e = bound (entry_in bytes t) (λ e. Ok (e, entry_price e)) v is in
-    let pair : ◌≡◌ {A = (Text × Text) × ℕ} (e.0, entry_price e.0) v = cc (e.2) in
-    rw (led, e.1) (ap (λ (w : (Text × Text) × ℕ). Ok (put_text w.0.0 w.0.1 s, w.1)) pair)
+entry_step bytes start s i t v led is = grind (arith, bound)
 
 pub texts_hold : (es : Texts) → IsStrictlySortedBy string_cmp (keys_of es) → (bs : List (List ℕ)) → AllZip (Holds entry_read) bs (texts_of es) → length (vector_block bs) < 2 ^ 32
     → Holds texts_read (vector_block bs) (texts_of es)
@@ -164,8 +161,7 @@ joined_columns done [] = sym (append-nil done)
 joined_columns done (c ∷ left) = joined_columns (done ++ c ∷ []) left ∙ append_assoc done (c ∷ []) left
 
 child_at : (levels : ℕ) (bytes : List ℕ) (at table : ℕ) (v : ColumnTree × ℕ) → target_at bytes at ≡ Ok table → child_in levels bytes table ≡ Ok v → column_at levels bytes at ≡ Ok v
-child_at zero bytes at table v led is = absurd (cc)
-child_at (suc levels) bytes at table v led is = column_by_table levels bytes at table v led is
+child_at levels bytes at table v led is = grind (arith, column_by_table)
 
 column_step : (levels : ℕ) (bytes : List ℕ) (start : ℕ) (s : List ColumnTree) (i t : ℕ) (v : ColumnTree × ℕ) → target_at bytes (start + 4 * i) ≡ Ok t → child_in levels bytes t ≡ Ok v
     → put_column (column_at levels bytes) start s i ≡ Ok (push s v.0, v.1)

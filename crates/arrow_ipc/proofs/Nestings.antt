@@ -1,19 +1,21 @@
 -- The columns that a type nests, one block after the other.
 use Rattle.std.proofs.Common.{◌≡◌, ℕ, zero, suc, ◌+◌, ◌-◌, ◌^◌, ◌<◌, ◌≤◌, ◌⊎◌, inl, inr, max, Bool, true, false, ◌&&◌, ◌++◌, ◌∷◌, [], List, length, map, drop, get_or, Vec, Global, Result, Ok, Err, refl, sym, ap, ◌∙◌, subst, arith, append-nil}
 use Rattle.std.proofs.lemmas.List.{map_push, drop_more, drop_all}
-use Rattle.arrow_values.specs.Tree.{Text, Metadata, Tree, plain, list, large_list, fixed_size_list, struct, union, FieldTrees, no_fields, field, MemberTrees, no_members, member, FieldTree, Members, depth, fields_depth, members_depth}
+use Rattle.arrow_values.specs.Tree.{Text, Metadata, Tree, plain, struct, union, FieldTrees, no_fields, field, MemberTrees, no_members, member, FieldTree, Members, depth, fields_depth, members_depth}
 use Rattle.std.specs.Borrow.{Bor}
 use Rattle.arrow_values.specs.View.{field_trees, member_trees, field_list, listed_fields}
 use Rattle.arrow_columns.specs.Column.{known, ColumnTree}
-use Rattle.arrow_ipc.specs.Blocks.{Holds, child_in, text_read, texts_read, columns_read, vector_block, column_block, IsType}
-use Rattle.arrow_ipc.specs.Shapes.{member_ids, are_ids, shape_of, ids_of, shape_tag, shape_bytes, has_table, column_of, member_fields, nested_fields, nested_columns}
-use Rattle.arrow_ipc.specs.Rooms.{is_size, is_sound, are_sound, members_sound, fields_room, members_room, nested_room, table_room, column_room, texts_room, room_of, columns_room, Refuses, Gives, IsUnfit, IsUnfitType, AreUnfit, HoldsEach, IsNesting}
+use Rattle.arrow_ipc.specs.Blocks.{Holds, child_in, text_read, texts_read, columns_read, vector_block, flag, table_block, column_block, IsType}
+use Rattle.arrow_ipc.specs.Shapes.{shape_of, ids_of, shape_tag, shape_bytes, has_table, column_of, member_fields, nested_fields, nested_columns}
+use Rattle.arrow_ipc.specs.Rooms.{is_sound, are_sound, members_sound, fields_room, members_room, nested_room, table_room, column_room, texts_room, room_of, columns_room, Refuses, Makes, Gives, IsUnfit, IsUnfitType, AreUnfit, HoldsEach, IsNesting}
 use Rattle.arrow_ipc.specs.declared.write.WriteError.{WriteError}
 use Rattle.arrow_ipc.proofs.Vectors.{items}
 use Rattle.arrow_ipc.proofs.Made.{Made, made_more, made_all, length_vector, columns_hold}
-use Rattle.arrow_ipc.proofs.Tables.{column_holds}
-use Rattle.arrow_ipc.proofs.TypeTables.{table_is}
-use Rattle.arrow_ipc.proofs.Built.{refuses_more}
+use Rattle.arrow_ipc.proofs.Tables.{column_holds, slots, flagged}
+use Rattle.arrow_ipc.proofs.TypeTables.{table_is, table_size}
+use Rattle.arrow_ipc.proofs.Built.{refuses_more, gives}
+use Rattle.arrow_ipc.proofs.Linked.{length_table}
+use mir.Val.{bool_byte}
 
 -- fields nest less than the type that nests them
 abbrev pub deepest : List FieldTree → ℕ
@@ -37,12 +39,9 @@ deepest_members no_members = refl
 deepest_members (member i n t b m ms) = let rest = deepest_members ms in omega (arith, rest)
 
 pub nests_less : (t : Tree) → deepest (nested_fields t) ≤ depth t
-nests_less (plain p) = omega arith
-nests_less (list n t b m) = omega arith
-nests_less (large_list n t b m) = omega arith
-nests_less (fixed_size_list n t b m s) = omega arith
 nests_less (struct fs) = let same = deepest_fields fs in omega (arith, same)
 nests_less (union ms mode) = let same = deepest_members ms in omega (arith, same)
+nests_less _ = omega arith
 
 module _ {A : Type 0} (f : A → ColumnTree) (levels : ℕ) where
   among : (xs : List A) (i : ℕ) (x : A) → i < length xs → x ≡ get_or xs i x → IsUnfitType levels (f x).data_type → AreUnfit levels (map f xs)
@@ -57,10 +56,7 @@ module _ {A : Type 0} (f : A → ColumnTree) (levels : ℕ) where
 
       pub each_more : (new : List (Vec ℕ Global)) (b : Vec ℕ Global) → new ≡ blocks ++ b ∷ [] → Holds (child_in levels) b.items (f x) → length b.items ≤ room_of (f x)
           → Made (Holds (child_in levels)) columns_room (map items new) (map f (drop (i + 1) xs)) (map f xs)
-      each_more new b pushed one most =
-          let same : map items new ≡ map items blocks ++ b.items ∷ [] = ap (map items) pushed ∙ map_push items blocks b in
-          subst (λ bs. Made (Holds (child_in levels)) columns_room bs (map f (drop (i + 1) xs)) (map f xs)) (sym same)
-          (made_more (Holds (child_in levels)) columns_room (map items blocks) b.items (f x) (map f (drop (i + 1) xs)) (map f xs) here one (omega (arith, most)))
+      each_more new b pushed one most = grind (arith, map_push, made_more, here)
 
       pub each_room : room_of (f x) ≤ columns_room (map f xs)
       each_room = let m = here in let fits = m.fits in omega (arith, fits)
@@ -85,30 +81,20 @@ members_room_is no_members = refl
 members_room_is (member i n t b m ms) = let rest = members_room_is ms in omega (arith, rest)
 
 pub nested_room_is : (t : Tree) → columns_room (nested_columns t) ≡ nested_room t
-nested_room_is (plain p) = refl
-nested_room_is (list n t b m) = omega arith
-nested_room_is (large_list n t b m) = omega arith
-nested_room_is (fixed_size_list n t b m s) = omega arith
 nested_room_is (struct fs) = fields_room_is fs
 nested_room_is (union ms mode) = members_room_is ms
+nested_room_is _ = omega arith
 
 either : (a b : Bool) → (a ≡ false) ⊎ (b ≡ false) → (a && b) ≡ false
-either true b (inl e) = absurd (cc)
-either false b (inl e) = refl
-either true b (inr e) = e
-either false b (inr e) = refl
+either a b e = grind arith
 
 fields_unfit : (levels : ℕ) (fs : FieldTrees) → AreUnfit levels (map column_of (field_list fs)) → (are_sound fs ≡ false) ⊎ (levels < fields_depth fs)
 fields_unfit levels no_fields u = absurd u
-fields_unfit levels (field n t b m fs) (inl (inl e)) = inl (either (is_sound t) (are_sound fs) (inl e))
-fields_unfit levels (field n t b m fs) (inl (inr deep)) = inr (omega (arith, deep))
-fields_unfit levels (field n t b m fs) (inr u) = elim (fields_unfit levels fs u) [ inl e ↦ inl (either (is_sound t) (are_sound fs) (inr e)) | inr deep ↦ inr (omega (arith, deep)) ]
+fields_unfit levels (field n t b m fs) u = grind (arith, either, fields_unfit levels fs)
 
 members_unfit : (levels : ℕ) (ms : MemberTrees) → AreUnfit levels (map column_of (member_fields ms)) → (members_sound ms ≡ false) ⊎ (levels < members_depth ms)
 members_unfit levels no_members u = absurd u
-members_unfit levels (member i n t b m ms) (inl (inl e)) = inl (either (is_sound t) (members_sound ms) (inl e))
-members_unfit levels (member i n t b m ms) (inl (inr deep)) = inr (omega (arith, deep))
-members_unfit levels (member i n t b m ms) (inr u) = elim (members_unfit levels ms u) [ inl e ↦ inl (either (is_sound t) (members_sound ms) (inr e)) | inr deep ↦ inr (omega (arith, deep)) ]
+members_unfit levels (member i n t b m ms) u = grind (arith, either, members_unfit levels ms)
 
 members_listed : (ms : Members) → map (λ m. m.1) ms ≡ member_fields (member_trees ms)
 members_listed [] = refl
@@ -133,33 +119,29 @@ each_is levels bs cs t same each = subst (λ n. HoldsEach levels bs (nested_colu
 
 pub nested_unfit : (levels : ℕ) (t : Tree) → 0 < levels → AreUnfit (levels - 1) (nested_columns t) → IsUnfit levels t
 nested_unfit levels (plain p) some u = absurd u
-nested_unfit levels (list n t b m) some (inl (inl e)) = inl e
-nested_unfit levels (list n t b m) some (inl (inr deep)) = inr (omega (arith, deep))
-nested_unfit levels (list n t b m) some (inr u) = absurd u
-nested_unfit levels (large_list n t b m) some (inl (inl e)) = inl e
-nested_unfit levels (large_list n t b m) some (inl (inr deep)) = inr (omega (arith, deep))
-nested_unfit levels (large_list n t b m) some (inr u) = absurd u
-nested_unfit levels (fixed_size_list n t b m s) some (inl (inl e)) = inl (either (is_size s) (is_sound t) (inr e))
-nested_unfit levels (fixed_size_list n t b m s) some (inl (inr deep)) = inr (omega (arith, deep))
-nested_unfit levels (fixed_size_list n t b m s) some (inr u) = absurd u
-nested_unfit levels (struct fs) some u = elim (fields_unfit (levels - 1) fs u) [ inl e ↦ inl e | inr deep ↦ inr (omega (arith, deep)) ]
-nested_unfit levels (union ms mode) some u =
-    elim (members_unfit (levels - 1) ms u) [ inl e ↦ inl (either (are_ids [] (member_ids ms)) (members_sound ms) (inr e)) | inr deep ↦ inr (omega (arith, deep)) ]
+nested_unfit levels (struct fs) some u = grind (arith, fields_unfit (levels - 1) fs)
+nested_unfit levels (union ms mode) some u = grind (arith, either, members_unfit (levels - 1) ms)
+nested_unfit levels _ some u = grind (arith, either)
 
 -- ---- a column, given the blocks of what its type nests
 
 pub vector_room : (bs : List (List ℕ)) (cs : List ColumnTree) (levels room : ℕ) → HoldsEach levels bs cs room → length (vector_block bs) ≤ room
 vector_room bs cs levels room each = let size = length_vector bs in let most = each.most in omega (arith, size, most)
 
-pub nest_holds : (bs : List (List ℕ)) (t : Tree) (name : Text) (nullable : Bool) (texts : Metadata) (nb tb cb mb : List ℕ) (tag : ℕ)
-    → length (column_block nb tb cb mb nullable tag) < 2 ^ 31 → Holds text_read nb name → Holds texts_read mb texts → tag ≡ shape_tag (shape_of t)
-    → (has_table (shape_of t) (ids_of t) ≡ true) × ((tb ≡ shape_bytes (shape_of t) (ids_of t)) × (length (shape_bytes (shape_of t) (ids_of t)) < 2 ^ 31)) → (cb ≡ vector_block bs) × (length (vector_block bs) < 2 ^ 31)
-    → IsNesting bs t name nullable texts (column_block nb tb cb mb nullable tag)
+pub nest_gives : (bs : List (List ℕ)) (t : Tree) (name : Text) (nullable : Bool) (texts : Metadata) (nb tb cb mb : List ℕ) (tag : ℕ) → Holds text_read nb name × (length nb ≤ 12 + length name)
+    → Holds texts_read mb texts × (length mb ≤ texts_room texts) → (cb ≡ vector_block bs) × (length (vector_block bs) < 2 ^ 31) → tag ≡ shape_tag (shape_of t)
+    → (has_table (shape_of t) (ids_of t) ≡ true) × ((tb ≡ shape_bytes (shape_of t) (ids_of t)) × (length (shape_bytes (shape_of t) (ids_of t)) < 2 ^ 31))
+    → (r : Result (Vec ℕ Global) WriteError) → Makes (table_block slots (bool_byte nullable ∷ tag ∷ 0 ∷ 0 ∷ []) (nb ∷ tb ∷ cb ∷ mb ∷ [])) r
+    → Gives (IsNesting bs t name nullable texts) (is_sound t ≡ false) (60 + length name + (table_room t + length (vector_block bs)) + texts_room texts) r
 unfolding IsNesting
-nest_holds bs t name nullable texts nb tb cb mb tag few named written tagged table vector = λ levels each.
+nest_gives bs t name nullable texts nb tb cb mb tag named written vector tagged table r made =
+    let size = length_table slots (flag nullable ∷ tag ∷ 0 ∷ 0 ∷ []) (nb ∷ tb ∷ cb ∷ mb ∷ []) in
+    let room = table_size t in
+    gives r (column_block nb tb cb mb nullable tag) (IsNesting bs t name nullable texts) (is_sound t ≡ false) _ (rw (flagged nullable tag (nb ∷ tb ∷ cb ∷ mb ∷ [])) at made) (λ small levels each.
     let nested : Holds (columns_read levels) cb (nested_columns t) = rw vector.0 (columns_hold levels bs (nested_columns t) each (omega (arith, vector.1))) in
     let typing : IsType tag tb (nested_columns t) (known t) = rw (tagged, table.1.0) (table_is t table.0 table.1.1) in
-    column_holds levels nb tb cb mb nullable tag name (nested_columns t) (known t) texts named typing nested written (omega (arith, few))
+    column_holds levels nb tb cb mb nullable tag name (nested_columns t) (known t) texts named.0 typing nested written.0 (omega (arith, small)))
+    (omega (arith, size, room, named.1, written.1, ap length table.1.0, ap length vector.0))
 
 pub data_gives : (r : Result (Vec ℕ Global) WriteError) (bs : List (List ℕ)) (t : Tree) (name : Text) (nullable : Bool) (texts : Metadata) (levels : ℕ)
     → Gives (IsNesting bs t name nullable texts) (is_sound t ≡ false) (60 + length name + (table_room t + length (vector_block bs)) + texts_room texts) r → HoldsEach (levels - 1) bs (nested_columns t) (nested_room t) → 0 < levels

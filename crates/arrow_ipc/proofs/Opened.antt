@@ -1,8 +1,8 @@
 -- A table that is opened, or why it is not.
-use Rattle.std.proofs.Common.{◌≡◌, ℕ, ◌+◌, ◌%◌, ◌≤◌, Bool, true, false, List, [], length, Ok, refl, arith, ◌==◌, if◌then◌else◌}
+use Rattle.std.proofs.Common.{◌≡◌, ℕ, ◌+◌, ◌≤◌, Bool, List, [], length, Ok, refl, arith, if◌then◌else◌}
 use Rattle.std.proofs.lemmas.Bool.Decides.{nat_tests}
 use Rattle.arrow_ipc.specs.Fault.{◌>>=◌, breaks}
-use Rattle.arrow_ipc.specs.Wire.{vtable_at, u16_at, u32_at, ahead, utf8_at, opened_at, slot_of, slot_at}
+use Rattle.arrow_ipc.specs.Wire.{u16_at, u32_at, ahead, utf8_at, opened_at, slot_of, slot_at}
 use Rattle.arrow_ipc.specs.Slots.{number_or, led_to, needed, u16_in, u32_in, text_in, table_in}
 use Rattle.arrow_ipc.specs.Longs.{u64_at, u64_in}
 use Rattle.arrow_ipc.specs.declared.fault.Rule.{Rule}
@@ -16,8 +16,7 @@ unfolding slot_at
 by_table bytes table i is = rw is refl
 
 ends : (even : Bool) (at vtable size : ℕ) (table : Table) → (if even then Ok (record { at = at; vtable = vtable; size = size }) else breaks Vtable vtable) ≡ Ok table → (vtable ≡ table.vtable) × (size ≡ table.size)
-ends true at vtable size table is = (cc, cc)
-ends false at vtable size table is = absurd (cc)
+ends even at vtable size table is = grind arith
 
 ahead_within : (rule : Rule) (bytes : List ℕ) (at by place : ℕ) → ahead rule bytes at by ≡ Ok place → at + by ≤ length bytes
 unfolding ahead
@@ -26,13 +25,7 @@ ahead_within rule bytes at by place is = grind (arith, nat_tests)
 -- the vtable lies before the end
 pub within : (bytes : List ℕ) (table : Table) → opened_at bytes table.at ≡ Ok table → table.vtable + table.size ≤ length bytes
 unfolding opened_at
-within bytes table is =
-    let first = bound (vtable_at bytes table.at) (λ vtable. u16_at bytes vtable >>= λ size. ahead Vtable bytes vtable size >>= λ end. if size % 2 == 0 then Ok (record { at = table.at; vtable = vtable; size = size }) else breaks Vtable vtable) table is in
-    let second = bound (u16_at bytes first.0) (λ size. ahead Vtable bytes first.0 size >>= λ end. if size % 2 == 0 then Ok (record { at = table.at; vtable = first.0; size = size }) else breaks Vtable first.0) table first.2 in
-    let third = bound (ahead Vtable bytes first.0 second.0) (λ end. if second.0 % 2 == 0 then Ok (record { at = table.at; vtable = first.0; size = second.0 }) else breaks Vtable first.0) table second.2 in
-    let same = ends (second.0 % 2 == 0) table.at first.0 second.0 table third.2 in
-    let le = ahead_within Vtable bytes first.0 second.0 third.0 third.1 in
-    omega (arith, le, same.0, same.1)
+within bytes table is = grind (arith, bound, ahead_within)
 
 -- what is read through a slot, from the opened table
 module _ (bytes : List ℕ) (at i : ℕ) where

@@ -21,13 +21,11 @@ use Rattle.arrow_ipc.specs.declared.schema.Endianness.{Endianness}
 use Rattle.arrow_ipc.specs.declared.schema.Endianness.TheVariants.{Little, Big}
 use Rattle.arrow_ipc.specs.declared.write.WriteError.{WriteError}
 use Rattle.arrow_ipc.proofs.Told.{bound}
-use Rattle.arrow_ipc.proofs.Linked.{text_is, is_some, is_le, u8_is, u32_is, target_is, is_lt, length_linked, flat, tail, slot_place, low, length_table, stands, table_holds}
+use Rattle.std.proofs.lemmas.Bool.{lt-ltb, le-leb}
+use Rattle.arrow_ipc.proofs.Linked.{text_is, is_some, u8_is, u32_is, target_is, length_linked, flat, tail, slot_place, low, length_table, stands, table_holds}
 
 pub length_text : (text : Text) → length (text_block text) ≡ rounded (5 + length text)
-length_text text =
-    let size = length_linked (length text) [] (text ++ 0 ∷ []) in
-    let sum = length-append text (0 ∷ []) in
-    omega (arith, size, sum)
+length_text text = grind (arith, length_linked, length-append)
 
 pub text_holds : (text : Text) → is_utf8 text ≡ true → length text < 2 ^ 31 → Holds text_read (text_block text) text
 unfolding offsets
@@ -44,11 +42,7 @@ text_holds text valid small =
     }
 
 pub is_text : (bytes : List ℕ) (at : ℕ) (text : Text) (n : ℕ) → text_read bytes at ≡ Ok (text, n) → (utf8_at bytes at ≡ Ok text) × (n ≡ length text)
-is_text bytes at text n is =
-    let t = bound (utf8_at bytes at) (λ t. Ok (t, length t)) (text, n) is in
-    let pair : ◌≡◌ {A = Text × ℕ} (t.0, length t.0) (text, n) = cc (t.2) in
-    let same : t.0 ≡ text = ap (λ (p : Text × ℕ). p.0) pair in
-    (t.1 ∙ ap (λ (t : Text). Ok t) same, sym (ap (λ (p : Text × ℕ). p.1) pair) ∙ ap length same)
+is_text bytes at text n is = grind arith
 
 pub entry_holds : (kb tb : List ℕ) (key text : Text) → Holds text_read kb key → Holds text_read tb text → length (entry_block kb tb) < 2 ^ 32 → Holds entry_read (entry_block kb tb) (key, text)
 unfolding entry_in table_in
@@ -72,10 +66,7 @@ column_by_table depth bytes at table v led is = rw led is
 is_typed : (bytes : List ℕ) (p : Own) (cs : List ColumnTree) (t : TypeTree) → p.zone ≡ [] → p.index ≡ None
     → (ids_of_kind p.kind (ids_at bytes p.table p.ids (length cs)) >>= λ i. counted p.table (type_of p.kind [] i cs)) ≡ Ok t → typed bytes p cs ≡ Ok t
 unfolding typed
-is_typed bytes p cs t zone index is =
-    let two = bound (ids_of_kind p.kind (ids_at bytes p.table p.ids (length cs))) (λ i. counted p.table (type_of p.kind [] i cs)) t is in
-    let three : counted p.table (type_of p.kind p.zone two.0 cs) ≡ Ok t = rw zone two.2 in
-    rw (two.1, three, index) refl
+is_typed bytes p cs t zone index is = grind (arith, bound)
 
 is_column : (depth : ℕ) (bytes : List ℕ) (table : ℕ) (p : Own) (cs : List ColumnTree) (t : TypeTree) (ms : Metadata) (k l : ℕ) → parts_in bytes table ≡ Ok p → p.zone ≡ []
     → columns_by (column_at depth bytes) p.children ≡ Ok (cs, k) → typed bytes p cs ≡ Ok t → texts_at bytes p.texts ≡ Ok (ms, l)
@@ -84,8 +75,7 @@ unfolding column_in finished
 is_column depth bytes table p cs t ms k l parts zone children type texts = rw (parts, children, type, texts) refl
 
 flag_is : (b : Bool) → (if flag b == 0 then false else true) ≡ b
-flag_is true = refl
-flag_is false = refl
+flag_is b = grind arith
 
 abbrev pub slots : List ℕ
 slots = 4 ∷ 20 ∷ 21 ∷ 8 ∷ 0 ∷ 12 ∷ 16 ∷ []
@@ -97,7 +87,7 @@ parts_are : (bytes : List ℕ) (at : ℕ) (nullable : Bool) (tag a b c d : ℕ) 
     → parts_in bytes at ≡ Ok (record { table = at; name = name; nullable = nullable; kind = kind; zone = []; index = None; children = cv; ids = ids; texts = mv })
 unfolding parts_in text_in flag_in u8_in tag_in table_in index_in vector_in
 parts_are bytes at nullable tag a b c d name first kind ids cv mv slot to_name named second third some least to_type is_first is_kind no_zone is_ids to_children children to_texts texts =
-    rw (slot 0, to_name, named, slot 1, second, flag_is nullable, slot 2, third, is_some tag some, is_le tag 26 least, slot 3, to_type, is_first, is_kind, no_zone, is_ids, slot 4, slot 5, to_children, children, slot 6, to_texts, texts) refl
+    rw (slot 0, to_name, named, slot 1, second, flag_is nullable, slot 2, third, is_some tag some, le-leb tag 26 least, slot 3, to_type, is_first, is_kind, no_zone, is_ids, slot 4, slot 5, to_children, children, slot 6, to_texts, texts) refl
 
 pub column_holds : (levels : ℕ) (nb tb cb mb : List ℕ) (nullable : Bool) (tag : ℕ) (name : Text) (cs : List ColumnTree) (t : TypeTree) (ms : Metadata)
     → Holds text_read nb name → IsType tag tb cs t → Holds (columns_read levels) cb cs → Holds texts_read mb ms → length (column_block nb tb cb mb nullable tag) < 2 ^ 32
@@ -121,8 +111,7 @@ column_holds levels nb tb cb mb nullable tag name cs t ms named typing children 
 
 -- as it is written
 flag_byte : (b : Bool) → bool_byte b ≡ flag b
-flag_byte true = refl
-flag_byte false = refl
+flag_byte b = grind arith
 
 pub flagged : (nullable : Bool) (tag : ℕ) (bs : List (List ℕ)) → table_block slots (bool_byte nullable ∷ tag ∷ 0 ∷ 0 ∷ []) bs ≡ table_block slots (flag nullable ∷ tag ∷ 0 ∷ 0 ∷ []) bs
 flagged nullable tag bs = ap (λ (f : ℕ). table_block slots (f ∷ tag ∷ 0 ∷ 0 ∷ []) bs) (flag_byte nullable)
@@ -130,8 +119,7 @@ flagged nullable tag bs = ap (λ (f : ℕ). table_block slots (f ∷ tag ∷ 0 �
 -- ---- the block of a schema, in a message, in a stream
 
 ordered : (order : Endianness) → (if order_number order == 0 then Little else Big) ≡ order
-ordered Little = refl
-ordered Big = refl
+ordered order = grind arith
 
 head_is : (bytes : List ℕ) (at a b : ℕ) (order : Endianness) (cv mv : ℕ × ℕ) → ((i : ℕ) → slot_at bytes at i ≡ Ok (slot_place at (12 ∷ 4 ∷ 8 ∷ []) i)) → u16_at bytes (at + 12) ≡ Ok (order_number order)
     → target_at bytes (at + 4) ≡ Ok a → vector_at bytes a ≡ Ok cv → target_at bytes (at + 8) ≡ Ok b → vector_at bytes b ≡ Ok mv → head_at bytes at ≡ Ok (record { endianness = order; fields = cv; texts = mv })
@@ -186,7 +174,7 @@ in_stream message some small =
     let first : u32_at bytes 0 ≡ Ok 0xffff_ffff = u32_is bytes 0 0xffff_ffff (drop 4 bytes) refl (omega arith) refl in
     let size : u32_at bytes 4 ≡ Ok (length message) = u32_is bytes 4 (length message) message refl (omega (arith, small)) refl in
     let all : take (length message) message ≡ message = ap (take (length message)) (sym (append-nil message)) ∙ take_at message [] (length message) refl in
-    rw (first, size, is_lt 0 (length message) some, is_le (8 + length message) (length bytes) (omega (arith, long)), all) refl
+    rw (first, size, lt-ltb 0 (length message) some, le-leb (8 + length message) (length bytes) (omega (arith, long)), all) refl
 
 pub stream_is : (levels : ℕ) (cb mb : List ℕ) (order : Endianness) (cs : List ColumnTree) (ms : Metadata) → Holds (columns_read levels) cb cs → Holds texts_read mb ms
     → length (message_block (schema_block cb mb order)) < 2 ^ 31 → IsStreamOf levels (stream_block (message_block (schema_block cb mb order))) (record { columns = cs; metadata = ms; endianness = order })

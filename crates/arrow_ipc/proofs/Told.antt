@@ -1,11 +1,10 @@
 -- From what a step returned to what a call returned.
-use Rattle.std.proofs.Common.{◌≡◌, ℕ, ◌+◌, ◌-◌, ◌<◌, ◌≤◌, Result, Ok, Err, refl, sym, ap, ◌∙◌, subst, arith, suc, ap₂, List}
+use Rattle.std.proofs.Common.{◌≡◌, ℕ, ◌+◌, ◌-◌, ◌<◌, ◌≤◌, Result, Ok, Err, refl, sym, ap, subst, arith, suc, List}
 use Rattle.arrow_columns.specs.Column.{ColumnTree}
 use Rattle.arrow_ipc.specs.Fault.{◌>>=◌, breaks}
 use Rattle.arrow_ipc.specs.Tells.{Fails, Tells, Says, ◌>>+◌, gather}
 use Rattle.arrow_ipc.specs.declared.fault.Fault.{Fault}
 use Rattle.arrow_ipc.specs.declared.fault.IpcError.{IpcError}
-use Rattle.arrow_ipc.specs.declared.fault.IpcError.TheVariants.{Broken, Budget, OutOfMemory}
 use Rattle.arrow_ipc.specs.Parts.{Own, parts_at}
 use Rattle.arrow_ipc.specs.Columns.{columns_by, finished, priced, column_at}
 use Rattle.arrow_ipc.specs.declared.fault.Rule.TheVariants.{Depth}
@@ -21,39 +20,20 @@ told view there old new r e is f = subst (Tells view there old new) (sym is) f
 
 -- what fails first fails in all, whatever comes after
 pub first_fails : {A B : Type 0} (step : Result (A × ℕ) Fault) (rest : A → Result (B × ℕ) Fault) (old : ℕ) (e : IpcError) → Fails step old e → Fails (step >>+ rest) old e
-first_fails step rest old (Broken fault) f = rw f refl
-first_fails (Err d) rest old (Budget place) f = λ v is. absurd (cc)
-first_fails (Ok x) rest old (Budget place) f = λ v is.
-    let last = bound (rest x.0) (λ y. Ok (y.0, x.1 + y.1)) v is in
-    let sum : x.1 + last.0.1 ≡ v.1 = cc (last.2) in
-    let dear = f x refl in
-    omega (arith, sum, dear)
-first_fails step rest old OutOfMemory f = tt
+first_fails step rest old e f = grind (arith, bound)
 
 -- and where the first step was taken, the rest tells all
 pub then_tells : {X A B : Type 0} (view : X → B) (step : Result (A × ℕ) Fault) (rest : A → Result (B × ℕ) Fault) (x : A) (old mid new : ℕ) (r : Result X IpcError)
     → (mid ≤ old) × (step ≡ Ok (x, old - mid)) → Tells view (rest x) mid new r → Tells view (step >>+ rest) old new r
-then_tells view step rest x old mid new (Ok y) one f = (omega (arith, one.0, f.0), rw (one.1, f.1) (ap (λ (n : ℕ). Ok (view y, n)) (omega (arith, one.0, f.0))))
-then_tells view step rest x old mid new (Err (Broken fault)) one f = rw (one.1, f) refl
-then_tells view step rest x old mid new (Err (Budget place)) one f = λ v is.
-    let last = bound (rest x) (λ y. Ok (y.0, old - mid + y.1)) v (sym (ap (λ r. r >>+ rest) one.1) ∙ is) in
-    let sum : old - mid + last.0.1 ≡ v.1 = cc (last.2) in
-    let dear = f last.0 last.1 in
-    omega (arith, sum, dear, one.0)
-then_tells view step rest x old mid new (Err OutOfMemory) one f = tt
+then_tells view step rest x old mid new r one f = grind (arith, bound)
 
 -- what is made of it takes as much
 pub made_fails : {A B : Type 0} (step : Result (A × ℕ) Fault) (f : A → B) (old : ℕ) (e : IpcError) → Fails step old e → Fails (step >>= λ x. Ok (f x.0, x.1)) old e
-made_fails step f old (Broken fault) h = rw h refl
-made_fails (Err d) f old (Budget place) h = λ v is. absurd (cc)
-made_fails (Ok x) f old (Budget place) h = λ v is. let same : x.1 ≡ v.1 = cc (is) in let dear = h x refl in omega (arith, same, dear)
-made_fails step f old OutOfMemory h = tt
+made_fails step f old e h = grind arith
 
 -- a step without a budget fails, before others without one, and before others with one
 says_first : {X Y A B : Type 0} (view : X → A) (over : Y → B) (step : Result A Fault) (rest : A → Result B Fault) (e : IpcError) → Says view step (Err e) → Says over (step >>= rest) (Err e)
-says_first view over step rest (Broken fault) f = rw f refl
-says_first view over step rest (Budget place) f = absurd f
-says_first view over step rest OutOfMemory f = tt
+says_first view over step rest e f = grind arith
 
 pub said : {X Y A B : Type 0} (view : X → A) (over : Y → B) (step : Result A Fault) (rest : A → Result B Fault) (r : Result Y IpcError) (e : IpcError) → r ≡ Err e → Says view step (Err e) → Says over (step >>= rest) r
 said view over step rest r e is f = subst (Says over (step >>= rest)) (sym is) (says_first view over step rest e f)
@@ -74,9 +54,7 @@ module _ {X S : Type 0} (view : X → S) (put : S → ℕ → Result (S × ℕ) 
 
   pub is_done : count ≤ i → (x : X) → view x ≡ s → Tells view (gather put s i (count - i)) old old (Ok x)
   unfolding gather
-  is_done le x same =
-      let k : count - i ≡ 0 = omega arith in
-      (omega arith, rw k (ap₂ (λ (t : S) (n : ℕ). Ok (t, n)) (sym same) (omega arith)))
+  is_done le x same = grind arith
 
 -- ---- a column, by what its own table says
 

@@ -1,7 +1,6 @@
 -- The tables of types.
 use Rattle.std.proofs.Common.{◌≡◌, ℕ, ◌+◌, ◌^◌, ◌<◌, ◌≤◌, pos, Bool, true, false, ◌&&◌, not, ◌++◌, ◌∷◌, [], List, length, map, Option, Some, None, Result, Ok, refl, ap, arith, nat_lt, ◌==◌, ◌*◌, ◌%◌, ℤ, negsuc, drop, sym, ◌∙◌, subst, append_assoc, append-nil, if◌then◌else◌}
 use Rattle.std.specs.Int.{w16, from_le_bytes, byte_at}
-use Rattle.std.proofs.lemmas.Bool.Decides.{nat_tests}
 use Rattle.std.specs.List.{zip}
 use Rattle.std.proofs.lemmas.List.{length-append, drop_all}
 use Rattle.arrow_values.specs.Tree.{null, plain, fixed_size_list, struct, FieldTree, union, MemberTrees, no_members, member, Tree}
@@ -15,33 +14,32 @@ use Rattle.arrow_columns.specs.declared.nested.ListForm.TheVariants.{Fixed}
 use Rattle.arrow_ipc.specs.Fault.{◌>>=◌}
 use Rattle.arrow_ipc.specs.Wire.{u8_at, u16_at, u32_at, slot_at, target_at, vector_at}
 use Rattle.arrow_ipc.specs.Slots.{u8_in, u16_in, u32_in, flag_in}
-use Rattle.arrow_ipc.specs.Kinds.{int_at, choice_at, size_in, kind_at}
+use Rattle.arrow_ipc.specs.Kinds.{int_at, number_at, plain_of, kind_at}
 use Rattle.arrow_ipc.specs.Parts.{zone_in, ids_in}
 use Rattle.arrow_ipc.specs.Types.{type_of}
 use Rattle.arrow_ipc.specs.Columns.{ids_at, ids_of_kind, counted, is_new, put_id, ids_from}
-use Rattle.arrow_ipc.specs.Blocks.{Lies, IsType, word, offsets, number, truth, place_of_number, place_of_truth, table_block, type_block, rounded, linked, mode_number, id_number, id_words, union_block}
+use Rattle.arrow_ipc.specs.Blocks.{Lies, IsType, word, offsets, number, truth, place_of_number, place_of_truth, table_block, type_block, rounded, linked, mode_number, id_words, union_block}
 use Rattle.arrow_ipc.specs.Shapes.{column_of, member_ids, are_ids, member_fields, nested_columns, shape_of, ids_of, shape_tag, shape_bytes, has_table}
 use Rattle.arrow_ipc.specs.declared.fault.Fault.{Fault}
 use Rattle.arrow_ipc.specs.declared.kinds.Kind.{Kind}
-use Rattle.arrow_ipc.specs.declared.kinds.Kind.TheVariants.{Null, List as ListOf, Struct, Union}
+use Rattle.arrow_ipc.specs.declared.kinds.Kind.TheVariants.{Plain, List as ListOf, Struct, Union}
+use Rattle.arrow_values.specs.declared.tree.DataType.TheVariants.{Null}
 use Rattle.arrow_ipc.specs.Rooms.{is_sound, table_room}
 use Rattle.arrow_ipc.specs.declared.shapes.Shape.{Shape}
 use Rattle.arrow_ipc.specs.declared.shapes.Shape.TheVariants.{Table}
-use Rattle.arrow_ipc.proofs.Linked.{u8_is, u16_is, u32_is, length_linked, by_place, flat, slot_place, tail, is_vector, low, length_table, stands, below}
+use Rattle.std.proofs.lemmas.Bool.{ltb-true, eq-eqb}
+use Rattle.arrow_ipc.proofs.Linked.{u8_is, u16_is, u32_is, length_linked, by_place, flat, slot_place, tail, is_vector, low, length_table, stands}
 use Rattle.arrow_ipc.proofs.Ids.{new_id}
 
 -- tests
 both : (a b : Bool) → (a && b) ≡ true → (a ≡ true) × (b ≡ true)
-both true b is = (refl, is)
-both false b is = absurd (cc)
+both a b is = grind arith
 
 number_within : (n : Option ℕ) → place_of_number n ≤ 12
-number_within None = omega arith
-number_within (Some n) = omega arith
+number_within n = grind arith
 
 truth_within : (b : Option Bool) → place_of_truth b ≤ 12
-truth_within None = omega arith
-truth_within (Some b) = omega arith
+truth_within b = grind arith
 
 -- what stands in a table with a number and a truth value
 record Own (n : Option ℕ) (b : Option Bool) (bytes : List ℕ) (at : ℕ) : Type 0 where
@@ -70,9 +68,13 @@ pub type_built : (n : Option ℕ) (b : Option Bool) (p q : ℕ × ℕ) (numbers 
     → table_block (p.0 ∷ q.0 ∷ []) numbers [] ≡ type_block n b
 type_built n b p q numbers first second is = rw (is, first, second) refl
 
--- a type with no time zone and no type ids, by its kind, which is read after slot 0
+-- what is read after all that stands in the table
+abbrev after_all : List ℕ → ℕ → Result Kind Fault → Result Kind Fault
+after_all bytes at k = u32_at bytes (at + 4) >>= λ w. u16_at bytes (at + 4) >>= λ h. u8_at bytes (at + 8) >>= λ b. slot_at bytes at 0 >>= λ s. k
+
+-- a type with no time zone and no type ids, by its kind
 is_type : (tag : ℕ) (n : Option ℕ) (b : Option Bool) (cs : List ColumnTree) (t : TypeTree) (kind : Kind) → 0 < tag → tag ≤ 26 → (tag == 10) ≡ false → (tag == 14) ≡ false → number n < 2 ^ 32
-    → ((bytes : List ℕ) (at : ℕ) → Own n b bytes at → (k : Result Kind Fault) → k ≡ (slot_at bytes at 0 >>= λ first. kind_at bytes tag at) → k ≡ Ok kind)
+    → ((bytes : List ℕ) (at : ℕ) → Own n b bytes at → (k : Result Kind Fault) → k ≡ after_all bytes at (kind_at bytes tag at) → k ≡ Ok kind)
     → ((bytes : List ℕ) (table : ℕ) → (ids_of_kind kind (ids_at bytes table None (length cs)) >>= λ i. counted table (type_of kind [] i cs)) ≡ Ok t) → IsType tag (type_block n b) cs t
 unfolding zone_in ids_in
 is_type tag n b cs t kind some least no_zone no_ids small kind_is type_is =
@@ -88,7 +90,7 @@ is_type tag n b cs t kind some least no_zone no_ids small kind_is type_is =
             kind = kind;
             ids = None;
             is_first = own.slot 0;
-            is_kind = kind_is bytes at own (kind_at bytes tag at) (rw (own.slot 0) refl);
+            is_kind = kind_is bytes at own (kind_at bytes tag at) (rw (own.word_is, own.half_is, own.byte_is, own.slot 0) refl);
             no_zone = rw no_zone refl;
             is_ids = rw no_ids refl;
             is_type = type_is bytes;
@@ -106,15 +108,9 @@ are_fields (f ∷ fs) = ap (λ l. f ∷ l) (are_fields fs)
 
 -- ---- a union's table, with its type ids
 
-same_number : (n m : ℕ) → n ≡ m → (n == m) ≡ true
-same_number n m is = grind (arith, nat_tests)
-
 length_ids : (ids : List ℤ) → length (id_words ids) ≡ 4 * length ids
 length_ids [] = refl
-length_ids (i ∷ is) =
-    let rest = length_ids is in
-    let all : length (id_words (i ∷ is)) ≡ 4 + length (id_words is) = length-append (word (id_number i)) (id_words is) in
-    omega (arith, rest, all)
+length_ids (i ∷ is) = grind (arith, length-append, length_ids is)
 
 module _ (bytes : List ℕ) (table start count : ℕ) where
   walk : (done left : List ℤ) (i at : ℕ) (rest : List ℕ) → drop at bytes ≡ id_words left ++ rest → at ≡ start + 4 * i → at % 4 ≡ 0 → are_ids done left ≡ true
@@ -124,7 +120,7 @@ module _ (bytes : List ℕ) (table start count : ℕ) where
   walk done (negsuc n ∷ left) i at rest is place even good = absurd (cc)
   walk done (pos n ∷ left) i at rest is place even good =
       let new = both (is_new n done) (are_ids (done ++ pos n ∷ []) left) good in
-      let small = below n 128 (both (nat_lt n 128) (not (has (pos n) done)) new.0).0 in
+      let small = ltb-true n 128 (both (nat_lt n 128) (not (has (pos n) done)) new.0).0 in
       let cut : drop at bytes ≡ word n ++ (id_words left ++ rest) = is ∙ append_assoc (word n) (id_words left) rest in
       let here : u32_at bytes (start + 4 * i) ≡ Ok n = subst (λ p. u32_at bytes p ≡ Ok n) place (u32_is bytes at n (id_words left ++ rest) even (omega (arith, small)) cut) in
       let first : put_id bytes table (Some (start, count)) done i ≡ Ok (done ++ pos n ∷ []) = new_id bytes table (Some (start, count)) done i n here new.0 in
@@ -140,7 +136,7 @@ count_columns no_members = refl
 count_columns (member i n t b m ms) = let rest = count_columns ms in omega (arith, rest)
 
 by_mode : (bytes : List ℕ) (table : ℕ) (mode : UnionMode) → slot_at bytes table 0 ≡ Ok (Some (table + 8)) → u16_at bytes (table + 8) ≡ Ok (mode_number mode) → kind_at bytes 14 table ≡ Ok (Union mode)
-unfolding kind_at choice_at u16_in
+unfolding kind_at number_at plain_of u16_in
 by_mode bytes table Sparse here is = rw (here, is) refl
 by_mode bytes table Dense here is = rw (here, is) refl
 
@@ -153,14 +149,11 @@ is_union : (bytes : List ℕ) (table : ℕ) (mode : UnionMode) (ms : MemberTrees
 unfolding ids_at type_of
 is_union bytes table mode ms v many ids =
     let count = count_columns ms in
-    let as_many : (v.1 == length (member_ids ms)) ≡ true = same_number v.1 (length (member_ids ms)) many in
+    let as_many : (v.1 == length (member_ids ms)) ≡ true = eq-eqb v.1 (length (member_ids ms)) many in
     rw (count, as_many, ids, all_are_known (member_fields ms), are_fields (member_fields ms), members_back ms) refl
 
 pub length_vector_of : (ids : List ℤ) → length (linked (length ids) [] (id_words ids)) ≡ rounded (4 + 4 * length ids)
-length_vector_of ids =
-    let size = length_linked (length ids) [] (id_words ids) in
-    let many = length_ids ids in
-    omega (arith, size, many)
+length_vector_of ids = grind (arith, length_linked, length_ids)
 
 pub length_union : (mode : UnionMode) (ids : List ℤ) → length (union_block mode ids) ≡ 24 + rounded (4 + 4 * length ids)
 length_union mode ids =
@@ -230,16 +223,16 @@ truth_in _ = None
 
 -- a type that has a table
 pub table_is : (t : Tree) → has_table (shape_of t) (ids_of t) ≡ true → length (shape_bytes (shape_of t) (ids_of t)) < 2 ^ 31 → IsType (shape_tag (shape_of t)) (shape_bytes (shape_of t) (ids_of t)) (nested_columns t) (known t)
-unfolding kind_at int_at choice_at size_in type_of u8_in u16_in u32_in flag_in
+unfolding kind_at number_at plain_of int_at type_of u8_in u16_in u32_in flag_in
 table_is (union ms mode) sound small = union_type mode ms sound small
 table_is (struct fs) sound small =
-    is_type 13 None None _ _ Struct (omega arith) (omega arith) refl refl (omega arith) (λ bytes at o k e. rw (o.slot 0) at e) (λ bytes table. rw (all_are_known (field_list fs), are_fields (field_list fs), field_trees_of_list fs) refl)
+    is_type 13 None None _ _ Struct (omega arith) (omega arith) refl refl (omega arith) (λ bytes at o k e. simp (o.slot, o.word_is, o.half_is, o.byte_is) at e) (λ bytes table. rw (all_are_known (field_list fs), are_fields (field_list fs), field_trees_of_list fs) refl)
 table_is (fixed_size_list n t b m (negsuc s)) sound small = absurd (cc)
 table_is (fixed_size_list n t b m (pos s)) sound small =
     let lt : nat_lt s (2 ^ 31) ≡ true = grind arith in
-    let few = below s (2 ^ 31) lt in
-    rw lt (is_type 16 (Some s) None _ _ (ListOf (Fixed (pos s))) (omega arith) (omega arith) refl refl (omega (arith, few)) (λ bytes at o k e. simp (o.slot, o.word_is, lt) at e) (λ bytes table. refl))
-table_is (plain null) sound small = is_type 1 None None _ _ Null (omega arith) (omega arith) refl refl (omega arith) (λ bytes at o k e. rw (o.slot 0) at e) (λ bytes table. refl)
+    let few = ltb-true s (2 ^ 31) lt in
+    rw lt (is_type 16 (Some s) None _ _ (ListOf (Fixed (pos s))) (omega arith) (omega arith) refl refl (omega (arith, few)) (λ bytes at o k e. simp (o.slot, o.word_is, o.half_is, o.byte_is, lt) at e) (λ bytes table. refl))
+table_is (plain null) sound small = is_type 1 None None _ _ (Plain Null) (omega arith) (omega arith) refl refl (omega arith) (λ bytes at o k e. simp (o.slot, o.word_is, o.half_is, o.byte_is) at e) (λ bytes table. refl)
 table_is t sound small =
     is_type (shape_tag (shape_of t)) (number_in (shape_of t)) (truth_in (shape_of t)) (nested_columns t) (known t) _ (omega arith) (omega arith) refl refl (omega arith)
     (λ bytes at o k e. simp (o.slot, o.word_is, o.half_is, o.byte_is) at e) (λ bytes table. refl)
@@ -256,8 +249,4 @@ table_size (plain null) = omega (arith, length_type)
 table_size _ = omega (arith, length_type)
 
 pub no_table : (t : Tree) → has_table (shape_of t) (ids_of t) ≡ false → is_sound t ≡ false
-no_table (fixed_size_list n t b m (pos s)) none = let no : nat_lt s (2 ^ 31) ≡ false = grind arith in rw no refl
-no_table (fixed_size_list n t b m (negsuc s)) none = refl
-no_table (union ms mode) none = rw none refl
-no_table (plain null) none = absurd (cc)
-no_table _ none = absurd (cc)
+no_table t none = grind arith

@@ -1,10 +1,10 @@
 -- Laws of what is written: it denotes the schema, and is read.
-use Rattle.std.proofs.Common.{◌≡◌, ℕ, ◌*◌, ◌≤◌, List, length, Result, Ok, Err, MatchResult, refl, ap, subst, arith}
+use Rattle.std.proofs.Common.{◌≡◌, ℕ, ◌*◌, ◌≤◌, List, length, Result, Ok, MatchResult, subst, arith}
 use Rattle.arrow_ipc.specs.Schema.{SchemaTree, schema_tree, message_in, schema_of_message, Meets, MeetsIn}
 use Rattle.arrow_ipc.specs.Denotes.{StreamDenotes, IsStreamOf}
 use Rattle.arrow_ipc.specs.declared.fault.Fault.{Fault}
 use Rattle.arrow_ipc.specs.declared.fault.IpcError.{IpcError}
-use Rattle.arrow_ipc.specs.declared.fault.IpcError.TheVariants.{Broken, Budget, OutOfMemory}
+use Rattle.arrow_ipc.specs.declared.fault.IpcError.TheVariants.{OutOfMemory}
 use Rattle.arrow_ipc.specs.declared.schema.Schema.{Schema}
 
 pub written_is_denoted : (levels : ℕ) (stream : List ℕ) (s : SchemaTree) → IsStreamOf levels stream s → StreamDenotes stream s
@@ -12,12 +12,7 @@ written_is_denoted levels stream s w = (w.0, w.1, (levels, w.2.0, w.2.2))
 
 module _ (read : List ℕ → Result (SchemaTree × ℕ) Fault) (bytes : List ℕ) (s : SchemaTree) (n : ℕ) (few : n ≤ 8 * length bytes) (is : read bytes ≡ Ok (s, n)) where
   read_back : (r : Result Schema IpcError) → MeetsIn read bytes r → MatchResult r (λ t. schema_tree t ≡ s) (λ e. e ≡ OutOfMemory)
-  read_back (Ok t) m =
-      let same : ◌≡◌ {A = SchemaTree × ℕ} (schema_tree t, m.0) (s, n) = cc (m.2, is) in
-      ap (λ (p : SchemaTree × ℕ). p.0) same
-  read_back (Err (Broken fault)) m = absurd (cc (m, is))
-  read_back (Err (Budget place)) m = let more = m (s, n) is in absurd (omega (arith, more, few))
-  read_back (Err OutOfMemory) m = refl
+  read_back r m = grind arith
 
 pub written_is_read : (levels : ℕ) (stream : List ℕ) (s : SchemaTree) (r : Result Schema IpcError) → IsStreamOf levels stream s → Meets (message_in stream) (schema_of_message levels) r
     → MatchResult r (λ t. schema_tree t ≡ s) (λ e. e ≡ OutOfMemory)

@@ -1,5 +1,6 @@
 -- The columns of a message, with all that is below them. What a column takes of the budget is 16 for its tables and the bytes of
 -- its texts, and 8 and its texts for each entry of its metadata.
+use Rattle.std.specs.Option.{option_map_or}
 use Rattle.std.specs.Prelude.{ℕ, zero, suc, ◌+◌, ◌*◌, ℤ, pos, Bool, true, ◌&&◌, not, List, [], ◌∷◌, ◌++◌, length, Option, Some, None, Result, Ok, nat_lt, ◌==◌, if◌then◌else◌}
 use Rattle.arrow_values.specs.Tree.{Text, Metadata}
 use Rattle.arrow_values.specs.Texts.{put_text}
@@ -63,8 +64,7 @@ ids_from bytes table written ids i (suc n) = do
   ids_from bytes table written more (i + 1) n
 
 abbrev pub are_as_many : Option (ℕ × ℕ) → ℕ → Bool
-are_as_many None count = true
-are_as_many (Some v) count = v.1 == count
+are_as_many written count = option_map_or (λ v. v.1 == count) written true
 
 unfoldable pub ids_at : List ℕ → ℕ → Option (ℕ × ℕ) → ℕ → Result (List ℤ) Fault
 ids_at bytes table written count = if are_as_many written count then ids_from bytes table written [] 0 count else breaks TypeIds table

@@ -1,35 +1,20 @@
--- Types by their tags, with their widths, units and sizes, and what counts where a slot is missing.
-use Rattle.std.specs.Prelude.{ℕ, ℤ, pos, ◌^◌, Bool, ◌||◌, List, [], ◌∷◌, Option, Some, None, Result, Ok, nat_lt, nat_le, slice_get, ◌==◌, if◌then◌else◌}
+-- Types by their tags, with their widths, units and sizes, and what counts where a slot is missing. A unit is 0 for seconds, 1 for
+-- milliseconds, 2 for microseconds, 3 for nanoseconds.
+use Rattle.std.specs.Prelude.{ℕ, pos, ◌^◌, Bool, ◌||◌, List, Option, Some, None, Result, Ok, nat_lt, nat_le, ◌==◌, if◌then◌else◌}
 use Rattle.arrow_ipc.specs.Fault.{◌>>=◌, breaks}
 use Rattle.arrow_ipc.specs.Slots.{flag_in, u16_in, u32_in}
 use Rattle.arrow_ipc.specs.declared.fault.Fault.{Fault}
-use Rattle.arrow_ipc.specs.declared.fault.Rule.TheVariants.{Parameter, Tag}
+use Rattle.arrow_ipc.specs.declared.fault.Rule.TheVariants.{Parameter}
+use Rattle.arrow_values.specs.declared.tree.DataType.{DataType}
+use Rattle.arrow_values.specs.declared.tree.DataType.TheVariants.{Null, Boolean, Int8, Int16, Int32, Int64, UInt8, UInt16, UInt32, UInt64, Float16, Float32, Float64, Date32, Date64, Binary, LargeBinary, BinaryView, Utf8, LargeUtf8, Utf8View}
 use Rattle.arrow_values.specs.declared.tree.UnionMode.TheVariants.{Sparse, Dense}
-use Rattle.arrow_ipc.specs.declared.kinds.Unit as units
-use Rattle.arrow_ipc.specs.declared.kinds.Unit.TheVariants.{Second, Millisecond, Microsecond, Nanosecond}
 use Rattle.arrow_columns.specs.declared.nested.ListForm.TheVariants.{Small, Large, Fixed}
+use Rattle.arrow_ipc.specs.declared.kinds.Named as named
+use Rattle.arrow_ipc.specs.declared.kinds.Named.TheVariants.{Decimal, Time, Timestamp, Duration, Interval, FixedSizeBinary}
 use Rattle.arrow_ipc.specs.declared.kinds.Kind.{Kind}
-use Rattle.arrow_ipc.specs.declared.kinds.Kind.TheVariants.{Null, Boolean, Int8, Int16, Int32, Int64, UInt8, UInt16, UInt32, UInt64, Float16, Float32, Float64, Date32, Date64, Binary, LargeBinary, BinaryView, Utf8, LargeUtf8, Utf8View, Decimal, Time, Timestamp, Duration, YearMonthInterval, DayTimeInterval, MonthDayNanoInterval, FixedSizeBinary, List as ListOf, Struct, Union, Map, RunEndEncoded, ListView, LargeListView}
+use Rattle.arrow_ipc.specs.declared.kinds.Kind.TheVariants.{Plain, Named, List as ListOf, Struct, Union, Map, RunEndEncoded, ListView, LargeListView}
 
-unfoldable pub unit_in : List ℕ → ℕ → ℕ → Result units.Unit Fault
-unit_in bytes table missing = do
-  unit ← u16_in bytes table 0 missing
-  if unit == 0 then Ok Second else
-      if unit == 1 then Ok Millisecond else
-      if unit == 2 then Ok Microsecond else
-      if unit == 3 then Ok Nanosecond else breaks Parameter table
-
--- the kind whose index is in slot 0
-abbrev pub among : ℕ → Option Kind → Result Kind Fault
-among table (Some kind) = Ok kind
-among table None = breaks Parameter table
-
-unfoldable pub choice_at : List ℕ → ℕ → ℕ → List Kind → Result Kind Fault
-choice_at bytes table missing kinds = do
-  index ← u16_in bytes table 0 missing
-  among table (slice_get kinds index)
-
-unfoldable pub int_at : List ℕ → ℕ → Result Kind Fault
+unfoldable pub int_at : List ℕ → ℕ → Result DataType Fault
 int_at bytes table = do
   width ← u32_in bytes table 0 0
   signed ← flag_in bytes table 1
@@ -42,7 +27,7 @@ int_at bytes table = do
 abbrev pub fits_byte : ℕ → Bool
 fits_byte n = nat_lt n 128 || nat_le 0xffff_ff80 n
 
-unfoldable pub decimal_at : List ℕ → ℕ → Result Kind Fault
+unfoldable pub decimal_at : List ℕ → ℕ → Result named.Named Fault
 decimal_at bytes table = do
   precision ← u32_in bytes table 0 0
   scale ← u32_in bytes table 1 0
@@ -53,49 +38,67 @@ decimal_at bytes table = do
       if width == 128 then Ok (Decimal width precision scale) else
       if width == 256 then Ok (Decimal width precision scale) else breaks Parameter table) else breaks Parameter table) else breaks Parameter table
 
-abbrev pub time_width : units.Unit → ℕ
-time_width Second = 32
-time_width Millisecond = 32
-time_width Microsecond = 64
-time_width Nanosecond = 64
+abbrev pub time_width : ℕ → ℕ
+time_width unit = if nat_lt unit 2 then 32 else 64
 
-unfoldable pub time_at : List ℕ → ℕ → Result Kind Fault
+unfoldable pub time_at : List ℕ → ℕ → Result named.Named Fault
 time_at bytes table = do
-  unit ← unit_in bytes table 1
-  width ← u32_in bytes table 1 32
-  if width == time_width unit then Ok (Time unit) else breaks Parameter table
+  unit ← u16_in bytes table 0 1
+  if nat_lt 3 unit then breaks Parameter table else (do
+    width ← u32_in bytes table 1 32
+    if width == time_width unit then Ok (Time unit) else breaks Parameter table)
 
--- a size that is not negative
-unfoldable pub size_in : List ℕ → ℕ → Result ℤ Fault
-size_in bytes table = do
-  size ← u32_in bytes table 0 0
-  if nat_lt size (2 ^ 31) then Ok (pos size) else breaks Parameter table
+-- the number in slot 0: a unit, a mode or a size
+unfoldable pub number_at : List ℕ → ℕ → ℕ → Result ℕ Fault
+number_at bytes tag table =
+    if tag == 3 then u16_in bytes table 0 0 else
+    if tag == 8 then u16_in bytes table 0 1 else
+    if tag == 10 then u16_in bytes table 0 0 else
+    if tag == 11 then u16_in bytes table 0 0 else
+    if tag == 14 then u16_in bytes table 0 0 else
+    if tag == 15 then u32_in bytes table 0 0 else
+    if tag == 16 then u32_in bytes table 0 0 else
+    if tag == 18 then u16_in bytes table 0 1 else Ok 0
 
+-- a data type that nests nothing, by its tag and number, but for integers
+unfoldable pub plain_of : ℕ → ℕ → Option DataType
+plain_of tag number =
+    if tag == 1 then Some Null else
+    if tag == 3 then (if number == 0 then Some Float16 else if number == 1 then Some Float32 else if number == 2 then Some Float64 else None) else
+    if tag == 4 then Some Binary else
+    if tag == 5 then Some Utf8 else
+    if tag == 6 then Some Boolean else
+    if tag == 8 then (if number == 0 then Some Date32 else if number == 1 then Some Date64 else None) else
+    if tag == 19 then Some LargeBinary else
+    if tag == 20 then Some LargeUtf8 else
+    if tag == 23 then Some BinaryView else
+    if tag == 24 then Some Utf8View else None
+
+abbrev pub plain_or : Option DataType → Result Kind Fault → Result Kind Fault
+plain_or (Some d) other = Ok (Plain d)
+plain_or None other = other
+
+abbrev pub below : ℕ → ℕ → ℕ → Kind → Result Kind Fault
+below table number bound kind = if nat_lt number bound then Ok kind else breaks Parameter table
+
+-- a type by its tag, which is 1 to 26
 unfoldable pub kind_at : List ℕ → ℕ → ℕ → Result Kind Fault
-kind_at bytes tag table =
-    if tag == 1 then Ok Null else
-    if tag == 2 then int_at bytes table else
-    if tag == 3 then choice_at bytes table 0 (Float16 ∷ Float32 ∷ Float64 ∷ []) else
-    if tag == 4 then Ok Binary else
-    if tag == 5 then Ok Utf8 else
-    if tag == 6 then Ok Boolean else
-    if tag == 7 then decimal_at bytes table else
-    if tag == 8 then choice_at bytes table 1 (Date32 ∷ Date64 ∷ []) else
-    if tag == 9 then time_at bytes table else
-    if tag == 10 then (unit_in bytes table 0 >>= λ unit. Ok (Timestamp unit)) else
-    if tag == 11 then choice_at bytes table 0 (YearMonthInterval ∷ DayTimeInterval ∷ MonthDayNanoInterval ∷ []) else
-    if tag == 12 then Ok (ListOf Small) else
-    if tag == 13 then Ok Struct else
-    if tag == 14 then choice_at bytes table 0 (Union Sparse ∷ Union Dense ∷ []) else
-    if tag == 15 then (size_in bytes table >>= λ size. Ok (FixedSizeBinary size)) else
-    if tag == 16 then (size_in bytes table >>= λ size. Ok (ListOf (Fixed size))) else
-    if tag == 17 then Ok Map else
-    if tag == 18 then (unit_in bytes table 1 >>= λ unit. Ok (Duration unit)) else
-    if tag == 19 then Ok LargeBinary else
-    if tag == 20 then Ok LargeUtf8 else
-    if tag == 21 then Ok (ListOf Large) else
-    if tag == 22 then Ok RunEndEncoded else
-    if tag == 23 then Ok BinaryView else
-    if tag == 24 then Ok Utf8View else
-    if tag == 25 then Ok ListView else
-    if tag == 26 then Ok LargeListView else breaks Tag table
+kind_at bytes tag table = do
+  number ← number_at bytes tag table
+  plain_or (plain_of tag number) (
+      if tag == 2 then (int_at bytes table >>= λ t. Ok (Plain t)) else
+      if tag == 7 then (decimal_at bytes table >>= λ t. Ok (Named t)) else
+      if tag == 9 then (time_at bytes table >>= λ t. Ok (Named t)) else
+      if tag == 10 then below table number 4 (Named (Timestamp number)) else
+      if tag == 11 then below table number 3 (Named (Interval number)) else
+      if tag == 12 then Ok (ListOf Small) else
+      if tag == 13 then Ok Struct else
+      if tag == 14 then (if number == 0 then Ok (Union Sparse) else if number == 1 then Ok (Union Dense) else breaks Parameter table) else
+      if tag == 15 then below table number (2 ^ 31) (Named (FixedSizeBinary (pos number))) else
+      if tag == 16 then below table number (2 ^ 31) (ListOf (Fixed (pos number))) else
+      if tag == 17 then Ok Map else
+      if tag == 18 then below table number 4 (Named (Duration number)) else
+      if tag == 21 then Ok (ListOf Large) else
+      if tag == 22 then Ok RunEndEncoded else
+      if tag == 25 then Ok ListView else
+      if tag == 26 then Ok LargeListView else breaks Parameter table)

@@ -9,7 +9,8 @@ use Rattle.arrow_ipc.specs.Kinds.{int_at, kind_at}
 use Rattle.arrow_ipc.specs.declared.fault.Fault.{Fault}
 use Rattle.arrow_ipc.specs.declared.fault.Rule.TheVariants.{Missing, Tag}
 use Rattle.arrow_ipc.specs.declared.kinds.Kind.{Kind}
-use Rattle.arrow_ipc.specs.declared.kinds.Kind.TheVariants.{Int32}
+use Rattle.arrow_values.specs.declared.tree.DataType.{DataType}
+use Rattle.arrow_values.specs.declared.tree.DataType.TheVariants.{Int32}
 use Rattle.arrow_ipc.specs.declared.parts.Index.{Index}
 use Rattle.arrow_ipc.specs.declared.parts.Parts.{Parts}
 
@@ -24,15 +25,15 @@ unfoldable pub zone_in : List ℕ → ℕ → ℕ → Result (List ℕ) Fault
 zone_in bytes tag table = if tag == 10 then text_in bytes table 1 else Ok []
 
 -- a dictionary has a number of its own in slot 0, which is not kept; its indices are 32-bit integers where nothing else is said
-unfoldable pub index_at : List ℕ → ℕ → Result Kind Fault
+unfoldable pub index_at : List ℕ → ℕ → Result DataType Fault
 index_at bytes table = slot_at bytes table 1 >>= led_to Int32 (int_at bytes) bytes
 
 abbrev pub index_of : List ℕ → ℕ → Result (Option Index) Fault
 index_of bytes table = do
   id ← u64_in bytes table 0
-  kind ← index_at bytes table
+  integers ← index_at bytes table
   ordered ← flag_in bytes table 2
-  Ok (Some (record { kind = kind; ordered = ordered }))
+  Ok (Some (record { integers = integers; ordered = ordered }))
 
 unfoldable pub index_in : List ℕ → ℕ → Result (Option Index) Fault
 index_in bytes table = slot_at bytes table 4 >>= led_to None (index_of bytes) bytes

@@ -65,17 +65,16 @@ abbrev mutual
   members_room no_members = 12
   members_room (member i n t b m ms) = 64 + length n + (table_room t + nested_room t) + texts_room m + members_room ms
 
--- a column
-abbrev pub column_room : Text → Tree → Metadata → ℕ
-column_room n t m = 60 + length n + (table_room t + nested_room t) + texts_room m
-
-abbrev pub field_room : FieldTree → ℕ
-field_room f = column_room f.name f.tree f.metadata
-
 -- a column of any type, with so many bytes of texts
 abbrev pub room_of_type : TypeTree → ℕ → ℕ
 room_of_type (known t) texts = 60 + (table_room t + nested_room t) + texts
 room_of_type (other t) texts = 60 + texts
+
+abbrev pub column_room : Text → Tree → Metadata → ℕ
+column_room n t m = room_of_type (known t) (length n + texts_room m)
+
+abbrev pub field_room : FieldTree → ℕ
+field_room f = column_room f.name f.tree f.metadata
 
 -- a schema in a stream
 abbrev pub room_of : ColumnTree → ℕ

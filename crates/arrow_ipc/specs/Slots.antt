@@ -1,4 +1,5 @@
 -- The slots of a table, with what counts where one is missing.
+use Rattle.std.specs.Option.{option_map_or}
 use Rattle.std.specs.Prelude.{ℕ, Bool, true, false, List, [], Option, Some, None, Result, Ok, ◌==◌, if◌then◌else◌}
 use Rattle.arrow_ipc.specs.Fault.{◌>>=◌, breaks}
 use Rattle.arrow_ipc.specs.Wire.{u8_at, u16_at, u32_at, slot_at, target_at, utf8_at, vector_at}
@@ -7,8 +8,7 @@ use Rattle.arrow_ipc.specs.declared.fault.Rule.TheVariants.{Missing}
 
 -- a number in a slot
 abbrev pub number_or : (List ℕ → ℕ → Result ℕ Fault) → List ℕ → ℕ → Option ℕ → Result ℕ Fault
-number_or read bytes missing None = Ok missing
-number_or read bytes missing (Some slot) = read bytes slot
+number_or read bytes missing o = option_map_or (read bytes) o (Ok missing)
 
 unfoldable pub u8_in : List ℕ → ℕ → ℕ → ℕ → Result ℕ Fault
 u8_in bytes table i missing = slot_at bytes table i >>= number_or u8_at bytes missing

@@ -4,7 +4,7 @@ ghost use Rattle.arrow_values.specs.View.{texts_of};
 ghost use Rattle.arrow_ipc.specs.Blocks.{Holds, word, padded, linked, vector_block, table_size, table_block, text_read, entry_read, texts_read, type_block};
 ghost use Rattle.arrow_ipc.specs.Rooms.{Makes, Gives, texts_room};
 
-use crate::write::WriteError;
+use crate::write::{Block, WriteError};
 use std::alloc::{AllocError, Global};
 use std::collections::BTreeMap;
 
@@ -26,7 +26,7 @@ fn pad(bytes: &mut Vec<u8>) -> Result<(), AllocError>
 }
 
 /// A text, with a NUL behind it.
-pub(crate) fn text_block(alloc: Global, text: &str) -> Result<Vec<u8>, WriteError>
+pub(crate) fn text_block(alloc: Global, text: &str) -> Block
     ensures { Gives (λ b. Holds text_read b text.now) ⊥ (12 + length text.now) result }
 {
     if text.len() >= 0x8000_0000 {
@@ -42,12 +42,7 @@ pub(crate) fn text_block(alloc: Global, text: &str) -> Result<Vec<u8>, WriteErro
 
 /// A number, offsets to blocks, and other bytes, up to a multiple of eight; behind them the blocks.
 #[tactic(auto, using(crate::proofs::Vectors::long_linked))]
-pub(crate) fn linked_block(
-    alloc: Global,
-    first: u32,
-    blocks: &[Vec<u8>],
-    rest: &[u8],
-) -> Result<Vec<u8>, WriteError>
+pub(crate) fn linked_block(alloc: Global, first: u32, blocks: &[Vec<u8>], rest: &[u8]) -> Block
     ensures { Makes (linked first (map (λ v. v.items) blocks.now) rest.now) result }
 {
     if blocks.len() >= 0x2000_0000 || rest.len() >= 0x8000_0000 {
@@ -77,12 +72,7 @@ pub(crate) fn linked_block(
 
 /// A table with the blocks to which its offsets lead. Its offsets come first, then its numbers, then its vtable; `slots` has for each
 /// slot how far it is from the table's begin, 0 where it is missing.
-pub(crate) fn table_block(
-    alloc: Global,
-    slots: &[u8],
-    numbers: &[u8],
-    blocks: &[Vec<u8>],
-) -> Result<Vec<u8>, WriteError>
+pub(crate) fn table_block(alloc: Global, slots: &[u8], numbers: &[u8], blocks: &[Vec<u8>]) -> Block
     requires { table_size (map (λ v. v.items) blocks.now) numbers.now + 2 * length slots.now < 100 }
     ensures { Makes (table_block slots.now numbers.now (map (λ v. v.items) blocks.now)) result }
 {
@@ -103,7 +93,7 @@ pub(crate) fn table_block(
 
 /// A vector of tables, with their blocks behind it.
 #[tactic(auto, using(crate::proofs::Vectors::long_linked))]
-pub(crate) fn vector_block(alloc: Global, blocks: &[Vec<u8>]) -> Result<Vec<u8>, WriteError>
+pub(crate) fn vector_block(alloc: Global, blocks: &[Vec<u8>]) -> Block
     ensures { Makes (vector_block (map (λ v. v.items) blocks.now)) result }
 {
     if blocks.len() >= 0x2000_0000 {
@@ -113,7 +103,8 @@ pub(crate) fn vector_block(alloc: Global, blocks: &[Vec<u8>]) -> Result<Vec<u8>,
 }
 
 /// An entry of metadata.
-fn entry_block(alloc: Global, key: &str, text: &str) -> Result<Vec<u8>, WriteError>
+
+fn entry_block(alloc: Global, key: &str, text: &str) -> Block
     ensures { Gives (λ b. Holds entry_read b (key.now, text.now)) ⊥ (48 + length key.now + length text.now) result }
 {
     let first = text_block(alloc, key)?;
@@ -122,10 +113,7 @@ fn entry_block(alloc: Global, key: &str, text: &str) -> Result<Vec<u8>, WriteErr
 }
 
 /// Metadata.
-pub(crate) fn texts_block(
-    alloc: Global,
-    texts: &BTreeMap<String, String>,
-) -> Result<Vec<u8>, WriteError>
+pub(crate) fn texts_block(alloc: Global, texts: &BTreeMap<String, String>) -> Block
     ensures { Gives (λ b. Holds texts_read b (texts_of texts.now.entries)) ⊥ (texts_room (texts_of texts.now.entries)) result }
 {
     let mut blocks = Vec::new(alloc);
@@ -136,21 +124,11 @@ pub(crate) fn texts_block(
 }
 
 /// A type's table, with a number and a truth value of its own.
-pub(crate) fn type_block(
-    alloc: Global,
-    number: Option<u32>,
-    truth: Option<bool>,
-) -> Result<Vec<u8>, WriteError>
+pub(crate) fn type_block(alloc: Global, number: Option<u32>, truth: Option<bool>) -> Block
     ensures { Makes (type_block number truth) result }
 {
-    let (number_place, number) = match number {
-        Some(number) => (4, number),
-        None => (0, 0),
-    };
-    let (truth_place, truth) = match truth {
-        Some(truth) => (8, truth as u8),
-        None => (0, 0),
-    };
+    let (number_place, number) = number.map_or((0, 0), |number| (4, number));
+    let (truth_place, truth) = truth.map_or((0, 0), |truth| (8, truth as u8));
     let mut numbers = Vec::with_capacity(alloc, 8)?;
     put_word(&mut numbers, number)?;
     numbers.extend_from_slice(&[truth, 0, 0, 0])?;

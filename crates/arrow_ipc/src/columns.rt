@@ -1,43 +1,38 @@
 //! Columns with all that is below them, read into memory of their own within a budget.
 ghost use Rattle.std.specs.Prelude.{◌≡◌, ◌+◌, ◌*◌, ◌≤◌, length, IfOk, IfErr, IfSome, OnOk, map, option_map, ◌++◌, ◌∷◌, [], ◌<◌};
 ghost use Rattle.arrow_values.specs.View.{texts_of};
-ghost use Rattle.arrow_columns.specs.Column.{type_tree, column_tree};
+ghost use Rattle.arrow_columns.specs.Column.{column_tree};
 ghost use Rattle.arrow_ipc.specs.Fault.{map_ok};
 ghost use Rattle.arrow_ipc.specs.Parts.{parts_of};
 ghost use Rattle.arrow_ipc.specs.Tells.{Tells, Says};
-ghost use Rattle.arrow_ipc.specs.Columns.{entry_at, put_entry, texts_at, id_at, is_new, put_id, are_as_many, ids_at, ids_of_kind, typed, finished, columns_by, column_at};
+ghost use Rattle.arrow_ipc.specs.Columns.{entry_at, put_entry, texts_at, id_at, is_new, put_id, are_as_many, ids_at, ids_of_kind, finished, columns_by, column_at};
 
 use crate::fault::{Fault, IpcError, Rule};
 use crate::kinds::Kind;
 use crate::parts::{Parts, parts_at};
 use crate::slots::table_in;
 use crate::types::{type_of, with_dictionary};
-use crate::wire::{open, target_at, u32_at, utf8_at};
-use arrow_columns::{Column, ColumnType};
+use crate::wire::{Vector, open, target_at, u32_at, utf8_at};
+use arrow_columns::Column;
 use std::alloc::Global;
 use std::collections::BTreeMap;
 
+/// What is read, or why it is not.
+pub(crate) type Read<T> = Result<T, IpcError>;
+
+/// The texts of metadata.
+type Texts = BTreeMap<String, String>;
+
 /// Takes an amount and the bytes of two texts from a budget.
-fn spend(
-    budget: &mut usize,
-    amount: usize,
-    one: &str,
-    other: &str,
-    at: usize,
-) -> Result<(), IpcError>
+fn spend(budget: &mut usize, amount: usize, one: &str, other: &str, at: usize) -> Read<()>
     ensures ok { OnOk result (budget.new + (amount + length one.now + length other.now) ≡ budget.old) }
     ensures err { IfErr result (λ e. (e ≡ IpcError.Budget at) × (budget.old < amount + length one.now + length other.now)) }
 {
-    let Some(left) = budget.checked_sub(amount) else {
-        return Err(IpcError::Budget(at));
-    };
-    let Some(left) = left.checked_sub(one.len()) else {
-        return Err(IpcError::Budget(at));
-    };
-    let Some(left) = left.checked_sub(other.len()) else {
-        return Err(IpcError::Budget(at));
-    };
-    *budget = left;
+    let left = budget
+        .checked_sub(amount)
+        .and_then(|left| left.checked_sub(one.len()))
+        .and_then(|left| left.checked_sub(other.len()));
+    *budget = left.ok_or(IpcError::Budget(at))?;
     Ok(())
 }
 
@@ -55,43 +50,32 @@ fn entry_at(bytes: &[u8], at: usize) -> Result<(&str, &str), Fault>
 /// Puts an entry of metadata to those before it.
 #[tactic(auto, using(crate::proofs::Inserted::texts_inserted))]
 #[inline(never)]
-fn put_entry(
-    alloc: Global,
-    bytes: &[u8],
-    at: usize,
-    budget: &mut usize,
-    texts: &mut BTreeMap<String, String>,
-) -> Result<(), IpcError>
-    ensures { Tells (λ _. texts_of texts.new.entries) (put_entry bytes.now at (texts_of texts.old.entries)) budget.old budget.new result }
+fn put_entry(alloc: Global, bytes: &[u8], at: usize, budget: &mut usize, to: &mut Texts) -> Read<()>
+    ensures { Tells (λ _. texts_of to.new.entries) (put_entry bytes.now at (texts_of to.old.entries)) budget.old budget.new result }
 {
     let entry = entry_at(bytes, at)?;
     spend(budget, 8, entry.0, entry.1, at)?;
     let key = String::from_str(alloc, entry.0)?;
     let text = String::from_str(alloc, entry.1)?;
-    texts.insert(key, text)?;
+    to.insert(key, text)?;
     Ok(())
 }
 
 /// The metadata to which the offsets of a vector lead.
-#[tactic(auto, unfolding(crate::specs::Columns::texts_at))]
-pub(crate) fn read_texts(
-    alloc: Global,
-    bytes: &[u8],
-    entries: (usize, usize),
-    budget: &mut usize,
-) -> Result<BTreeMap<String, String>, IpcError>
-    requires { entries.0 + 4 * entries.1 ≤ length bytes.now }
-    ensures { Tells (λ m. texts_of m.entries) (texts_at bytes.now entries) budget.old budget.new result }
+#[tactic(auto, using(crate::proofs::Told::goes_on), unfolding(crate::specs::Columns::texts_at))]
+pub(crate) fn read_texts(alloc: Global, bytes: &[u8], at: Vector, budget: &mut usize) -> Read<Texts>
+    requires { at.0 + 4 * at.1 ≤ length bytes.now }
+    ensures { Tells (λ m. texts_of m.entries) (texts_at bytes.now at) budget.old budget.new result }
 {
     let mut texts = BTreeMap::new(alloc);
-    'entries: for i in 0..entries.1 {
-        put_entry(alloc, bytes, entries.0 + 4 * i, budget, &mut texts)?;
+    'entries: for i in 0..at.1 {
+        put_entry(alloc, bytes, at.0 + 4 * i, budget, &mut texts)?;
     }
     Ok(texts)
 }
 
 /// The type id at an index: where they are not written, the index.
-fn id_at(bytes: &[u8], written: Option<(usize, usize)>, i: usize) -> Result<usize, Fault>
+fn id_at(bytes: &[u8], written: Option<Vector>, i: usize) -> Result<usize, Fault>
     requires { IfSome written (λ v. v.0 + 4 * i + 4 ≤ length bytes.now) }
     ensures { result ≡ id_at bytes.now written i }
 {
@@ -110,113 +94,75 @@ fn is_new(id: usize, ids: &[i8]) -> bool
 
 /// Puts a type id to those before it.
 #[tactic(auto, using(crate::proofs::Ids::no_id, crate::proofs::Ids::old_id, crate::proofs::Ids::new_id))]
-fn put_id(
-    bytes: &[u8],
-    table: usize,
-    written: Option<(usize, usize)>,
-    i: usize,
-    ids: &mut Vec<i8>,
-) -> Result<(), IpcError>
-    requires { IfSome written (λ v. v.0 + 4 * i + 4 ≤ length bytes.now) }
-    ensures { Says (λ _. ids.new.items) (put_id bytes.now table written ids.old.items i) result }
+fn put_id(bytes: &[u8], parts: &Parts<'_>, i: usize, ids: &mut Vec<i8>) -> Read<()>
+    requires { IfSome parts.now.ids (λ v. v.0 + 4 * i + 4 ≤ length bytes.now) }
+    ensures { Says (λ _. ids.new.items) (put_id bytes.now parts.now.table parts.now.ids ids.old.items i) result }
 {
-    let id = id_at(bytes, written, i)?;
+    let id = id_at(bytes, parts.ids, i)?;
     if !is_new(id, ids.as_slice()) {
-        return Err(IpcError::Broken(Fault::new(Rule::TypeIds, table)));
+        return Err(IpcError::Broken(Fault::new(Rule::TypeIds, parts.table)));
     }
     ids.push(id as i8)?;
     Ok(())
 }
 
 /// Whether as many type ids are written, if any, as there are children.
-fn are_as_many(written: Option<(usize, usize)>, count: usize) -> bool
+fn are_as_many(written: Option<Vector>, count: usize) -> bool
     ensures { result ≡ are_as_many written count }
 {
-    match written {
-        None => true,
-        Some(ids) => ids.1 == count,
-    }
+    written.map_or(true, |ids| ids.1 == count)
 }
 
 /// The type ids of a union of so many children.
-#[tactic(auto, unfolding(crate::specs::Columns::ids_at))]
+#[tactic(auto, using(crate::proofs::Ids::next_id), unfolding(crate::specs::Columns::ids_at))]
 #[inline(never)]
-fn read_ids(
-    alloc: Global,
-    bytes: &[u8],
-    table: usize,
-    written: Option<(usize, usize)>,
-    count: usize,
-) -> Result<Vec<i8>, IpcError>
-    requires { IfSome written (λ v. v.0 + 4 * v.1 ≤ length bytes.now) }
-    ensures { Says (λ ids. ids.items) (ids_at bytes.now table written count) result }
+fn read_ids(alloc: Global, bytes: &[u8], parts: &Parts<'_>, count: usize) -> Read<Vec<i8>>
+    requires { IfSome parts.now.ids (λ v. v.0 + 4 * v.1 ≤ length bytes.now) }
+    ensures { Says (λ ids. ids.items) (ids_at bytes.now parts.now.table parts.now.ids count) result }
 {
-    if !are_as_many(written, count) {
-        return Err(IpcError::Broken(Fault::new(Rule::TypeIds, table)));
+    if !are_as_many(parts.ids, count) {
+        return Err(IpcError::Broken(Fault::new(Rule::TypeIds, parts.table)));
     }
     let mut ids = Vec::new(alloc);
     'ids: for i in 0..count {
-        put_id(bytes, table, written, i, &mut ids)?;
+        put_id(bytes, parts, i, &mut ids)?;
     }
     Ok(ids)
 }
 
 /// The type ids of a column: of one that is no union, none.
-fn ids_of_kind(
-    alloc: Global,
-    bytes: &[u8],
-    parts: &Parts<'_>,
-    count: usize,
-) -> Result<Vec<i8>, IpcError>
+fn ids_of_kind(alloc: Global, bytes: &[u8], parts: &Parts<'_>, count: usize) -> Read<Vec<i8>>
     requires { IfSome parts.now.ids (λ v. v.0 + 4 * v.1 ≤ length bytes.now) }
     ensures { Says (λ ids. ids.items) (ids_of_kind parts.now.kind (ids_at bytes.now parts.now.table parts.now.ids count)) result }
 {
     match parts.kind {
-        Kind::Union(_) => read_ids(alloc, bytes, parts.table, parts.ids, count),
+        Kind::Union(_) => read_ids(alloc, bytes, parts, count),
         _ => Ok(Vec::new(alloc)),
     }
 }
 
-/// The type of a column, given its children.
-#[tactic(auto, unfolding(crate::specs::Columns::typed))]
-fn read_type(
-    alloc: Global,
-    bytes: &[u8],
-    parts: &Parts<'_>,
-    children: Vec<Column>,
-) -> Result<ColumnType, IpcError>
-    requires { IfSome parts.now.ids (λ v. v.0 + 4 * v.1 ≤ length bytes.now) }
-    ensures { Says type_tree (typed bytes.now (parts_of parts.now) (map column_tree children.items)) result }
-{
-    let ids = ids_of_kind(alloc, bytes, parts, children.len())?;
-    let Some(values) = type_of(alloc, parts.kind, parts.zone, ids, children)? else {
-        return Err(IpcError::Broken(Fault::new(Rule::Children, parts.table)));
-    };
-    let data_type = with_dictionary(alloc, parts.index, values)?;
-    Ok(data_type)
-}
-
 /// A column, given its children.
-#[tactic(auto, unfolding(crate::specs::Columns::finished))]
+#[tactic(auto, unfolding(crate::specs::Columns::finished, crate::specs::Columns::typed))]
 fn finish(
     alloc: Global,
     bytes: &[u8],
     parts: &Parts<'_>,
     children: Vec<Column>,
     budget: &mut usize,
-) -> Result<Column, IpcError>
+) -> Read<Column>
     requires ids { IfSome parts.now.ids (λ v. v.0 + 4 * v.1 ≤ length bytes.now) }
     requires texts { parts.now.texts.0 + 4 * parts.now.texts.1 ≤ length bytes.now }
     ensures { Tells column_tree (finished bytes.now (parts_of parts.now) (map column_tree children.items)) budget.old budget.new result }
 {
-    let data_type = read_type(alloc, bytes, parts, children)?;
-    let metadata = read_texts(alloc, bytes, parts.texts, budget)?;
-    let name = String::from_str(alloc, parts.name)?;
+    let ids = ids_of_kind(alloc, bytes, parts, children.len())?;
+    let Some(values) = type_of(alloc, &parts.kind, parts.zone, ids, children)? else {
+        return Err(IpcError::Broken(Fault::new(Rule::Children, parts.table)));
+    };
     Ok(Column {
-        name,
+        data_type: with_dictionary(alloc, &parts.index, values)?,
+        metadata: read_texts(alloc, bytes, parts.texts, budget)?,
+        name: String::from_str(alloc, parts.name)?,
         nullable: parts.nullable,
-        data_type,
-        metadata,
     })
 }
 
@@ -229,7 +175,7 @@ fn read_column(
     at: usize,
     depth: usize,
     budget: &mut usize,
-) -> Result<Column, IpcError>
+) -> Read<Column>
     ensures { Tells column_tree (column_at depth bytes.now at) budget.old budget.new result }
 {
     if depth == 0 {
@@ -242,21 +188,21 @@ fn read_column(
 }
 
 /// Reads the columns to which the offsets of a vector lead.
+#[tactic(auto, using(crate::proofs::Told::goes_on, std::proofs::lemmas::List::map_push))]
 #[cycle(read)]
 pub(crate) fn read_columns(
     alloc: Global,
     bytes: &[u8],
-    offsets: (usize, usize),
+    offsets: Vector,
     depth: usize,
     budget: &mut usize,
-) -> Result<Vec<Column>, IpcError>
+) -> Read<Vec<Column>>
     requires { offsets.0 + 4 * offsets.1 ≤ length bytes.now }
     ensures { Tells (λ v. map column_tree v.items) (columns_by (column_at depth bytes.now) offsets) budget.old budget.new result }
 {
     let mut found = Vec::new(alloc);
     'columns: for i in 0..offsets.1 {
-        let column = read_column(alloc, bytes, offsets.0 + 4 * i, depth, budget)?;
-        found.push(column)?;
+        found.push(read_column(alloc, bytes, offsets.0 + 4 * i, depth, budget)?)?;
     }
     Ok(found)
 }

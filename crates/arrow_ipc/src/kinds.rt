@@ -1,56 +1,33 @@
 //! Types by their tags, with their widths, units and sizes.
 ghost use Rattle.std.specs.Prelude.{◌≡◌};
 ghost use Rattle.arrow_ipc.specs.Wire.{IsOpen};
-ghost use Rattle.arrow_ipc.specs.Kinds.{unit_in, choice_at, int_at, decimal_at, time_width, time_at, size_in, kind_at};
+ghost use Rattle.arrow_ipc.specs.Kinds.{int_at, decimal_at, time_width, time_at, number_at, plain_of, kind_at};
 
 use crate::fault::{Fault, Rule};
 use crate::slots::{flag_in, u16_in, u32_in};
 use crate::wire::Table;
 use arrow_columns::ListForm;
-use arrow_values::UnionMode;
+use arrow_values::{DataType, UnionMode};
 
-/// A unit of time.
+/// A type that has a text in place of a data type. A unit is 0 for seconds, 1 for milliseconds, 2 for microseconds, 3 for nanoseconds.
 #[derive(Clone, Copy)]
-pub(crate) enum Unit {
-    Second,
-    Millisecond,
-    Microsecond,
-    Nanosecond,
+pub(crate) enum Named {
+    /// Width in bits, precision, and the scale in two's complement.
+    Decimal(u32, u32, u32),
+    Time(u32),
+    Timestamp(u32),
+    Duration(u32),
+    /// 0 for months, 1 for days with milliseconds, 2 for all three with nanoseconds.
+    Interval(u32),
+    FixedSizeBinary(i32),
 }
 
 /// A type with its own parts, without what is nested in it.
-#[derive(Clone, Copy)]
+#[derive(Drop)]
 pub(crate) enum Kind {
-    Null,
-    Boolean,
-    Int8,
-    Int16,
-    Int32,
-    Int64,
-    UInt8,
-    UInt16,
-    UInt32,
-    UInt64,
-    Float16,
-    Float32,
-    Float64,
-    Date32,
-    Date64,
-    Binary,
-    LargeBinary,
-    BinaryView,
-    Utf8,
-    LargeUtf8,
-    Utf8View,
-    /// Width in bits, precision, and the scale in two's complement.
-    Decimal(u32, u32, u32),
-    Time(Unit),
-    Timestamp(Unit),
-    Duration(Unit),
-    YearMonthInterval,
-    DayTimeInterval,
-    MonthDayNanoInterval,
-    FixedSizeBinary(i32),
+    /// A data type that nests nothing.
+    Plain(DataType),
+    Named(Named),
     List(ListForm),
     Struct,
     Union(UnionMode),
@@ -60,109 +37,97 @@ pub(crate) enum Kind {
     LargeListView,
 }
 
-/// The unit in slot 0.
-#[tactic(auto, unfolding(crate::specs::Kinds::unit_in))]
-fn unit_in(bytes: &[u8], table: &Table, missing: u16) -> Result<Unit, Fault>
-    requires { IsOpen bytes.now table.now }
-    ensures { result ≡ unit_in bytes.now table.now.at missing }
-{
-    match u16_in(bytes, table, 0, missing)? {
-        0 => Ok(Unit::Second),
-        1 => Ok(Unit::Millisecond),
-        2 => Ok(Unit::Microsecond),
-        3 => Ok(Unit::Nanosecond),
-        _ => Err(Fault::new(Rule::Parameter, table.at)),
-    }
-}
-
-/// The kind whose index is in slot 0.
-#[tactic(auto, unfolding(crate::specs::Kinds::choice_at))]
-fn choice_at(bytes: &[u8], table: &Table, missing: u16, kinds: &[Kind]) -> Result<Kind, Fault>
-    requires { IsOpen bytes.now table.now }
-    ensures { result ≡ choice_at bytes.now table.now.at missing kinds.now }
-{
-    let index = u16_in(bytes, table, 0, missing)?;
-    match kinds.get(index as usize) {
-        Some(kind) => Ok(*kind),
-        None => Err(Fault::new(Rule::Parameter, table.at)),
-    }
-}
-
 /// An integer by its width and sign.
 #[tactic(auto, unfolding(crate::specs::Kinds::int_at))]
-pub(crate) fn int_at(bytes: &[u8], table: &Table) -> Result<Kind, Fault>
+pub(crate) fn int_at(bytes: &[u8], table: &Table) -> Result<DataType, Fault>
     requires { IsOpen bytes.now table.now }
     ensures { result ≡ int_at bytes.now table.now.at }
 {
     let width = u32_in(bytes, table, 0, 0)?;
     let signed = flag_in(bytes, table, 1)?;
     match (width, signed) {
-        (8, true) => Ok(Kind::Int8),
-        (8, false) => Ok(Kind::UInt8),
-        (16, true) => Ok(Kind::Int16),
-        (16, false) => Ok(Kind::UInt16),
-        (32, true) => Ok(Kind::Int32),
-        (32, false) => Ok(Kind::UInt32),
-        (64, true) => Ok(Kind::Int64),
-        (64, false) => Ok(Kind::UInt64),
+        (8, true) => Ok(DataType::Int8),
+        (8, false) => Ok(DataType::UInt8),
+        (16, true) => Ok(DataType::Int16),
+        (16, false) => Ok(DataType::UInt16),
+        (32, true) => Ok(DataType::Int32),
+        (32, false) => Ok(DataType::UInt32),
+        (64, true) => Ok(DataType::Int64),
+        (64, false) => Ok(DataType::UInt64),
         _ => Err(Fault::new(Rule::Parameter, table.at)),
     }
 }
 
 /// A decimal by its precision, scale and width.
 #[tactic(auto, unfolding(crate::specs::Kinds::decimal_at))]
-fn decimal_at(bytes: &[u8], table: &Table) -> Result<Kind, Fault>
+fn decimal_at(bytes: &[u8], table: &Table) -> Result<Named, Fault>
     requires { IsOpen bytes.now table.now }
     ensures { result ≡ decimal_at bytes.now table.now.at }
 {
     let precision = u32_in(bytes, table, 0, 0)?;
     let scale = u32_in(bytes, table, 1, 0)?;
     let width = u32_in(bytes, table, 2, 128)?;
-    if precision >= 128 || (scale >= 128 && scale < 0xffff_ff80) {
-        return Err(Fault::new(Rule::Parameter, table.at));
-    }
+    let fits = precision < 128 && (scale < 128 || scale >= 0xffff_ff80);
     match width {
-        32 | 64 | 128 | 256 => Ok(Kind::Decimal(width, precision, scale)),
+        32 | 64 | 128 | 256 if fits => Ok(Named::Decimal(width, precision, scale)),
         _ => Err(Fault::new(Rule::Parameter, table.at)),
-    }
-}
-
-/// How many bits a time of day of that unit has.
-pub(crate) fn time_width(unit: Unit) -> u32
-    ensures { result ≡ time_width unit }
-{
-    match unit {
-        Unit::Second | Unit::Millisecond => 32,
-        Unit::Microsecond | Unit::Nanosecond => 64,
     }
 }
 
 /// A time of day by its unit, with its width.
 #[tactic(auto, unfolding(crate::specs::Kinds::time_at))]
-fn time_at(bytes: &[u8], table: &Table) -> Result<Kind, Fault>
+fn time_at(bytes: &[u8], table: &Table) -> Result<Named, Fault>
     requires { IsOpen bytes.now table.now }
     ensures { result ≡ time_at bytes.now table.now.at }
 {
-    let unit = unit_in(bytes, table, 1)?;
-    let width = u32_in(bytes, table, 1, 32)?;
-    if width == time_width(unit) {
-        Ok(Kind::Time(unit))
-    } else {
-        Err(Fault::new(Rule::Parameter, table.at))
+    let unit = u16_in(bytes, table, 0, 1)? as u32;
+    if unit > 3 || u32_in(bytes, table, 1, 32)? != time_width(unit) {
+        return Err(Fault::new(Rule::Parameter, table.at));
+    }
+    Ok(Named::Time(unit))
+}
+
+/// How many bits a time of day of that unit has.
+pub(crate) fn time_width(unit: u32) -> u32
+    ensures { result ≡ time_width unit }
+{
+    if unit < 2 { 32 } else { 64 }
+}
+
+/// The number in slot 0 of a type's table: a unit, a mode or a size; of a type with no such number 0.
+#[tactic(auto, unfolding(crate::specs::Kinds::number_at))]
+fn number_at(bytes: &[u8], tag: u8, table: &Table) -> Result<u32, Fault>
+    requires { IsOpen bytes.now table.now }
+    ensures { result ≡ number_at bytes.now tag table.now.at }
+{
+    match tag {
+        3 | 10 | 11 | 14 => Ok(u16_in(bytes, table, 0, 0)? as u32),
+        8 | 18 => Ok(u16_in(bytes, table, 0, 1)? as u32),
+        15 | 16 => u32_in(bytes, table, 0, 0),
+        _ => Ok(0),
     }
 }
 
-/// The size in slot 0, which is not negative.
-#[tactic(auto, unfolding(crate::specs::Kinds::size_in))]
-fn size_in(bytes: &[u8], table: &Table) -> Result<i32, Fault>
-    requires { IsOpen bytes.now table.now }
-    ensures { result ≡ size_in bytes.now table.now.at }
+/// The data type that nests nothing, by its tag and number; an integer has more to be looked at.
+#[tactic(auto, unfolding(crate::specs::Kinds::plain_of))]
+fn plain_of(tag: u8, number: u32) -> Option<DataType>
+    ensures { result ≡ plain_of tag number }
 {
-    let size = u32_in(bytes, table, 0, 0)?;
-    if size < 0x8000_0000 {
-        Ok(size as i32)
-    } else {
-        Err(Fault::new(Rule::Parameter, table.at))
+    match (tag, number) {
+        (1, _) => Some(DataType::Null),
+        (3, 0) => Some(DataType::Float16),
+        (3, 1) => Some(DataType::Float32),
+        (3, 2) => Some(DataType::Float64),
+        (4, _) => Some(DataType::Binary),
+        (5, _) => Some(DataType::Utf8),
+        (6, _) => Some(DataType::Boolean),
+        (8, 0) => Some(DataType::Date32),
+        (8, 1) => Some(DataType::Date64),
+        (19, _) => Some(DataType::LargeBinary),
+        (20, _) => Some(DataType::LargeUtf8),
+        (23, _) => Some(DataType::BinaryView),
+        (24, _) => Some(DataType::Utf8View),
+        _ => None,
     }
 }
 
@@ -172,55 +137,28 @@ pub(crate) fn kind_at(bytes: &[u8], tag: u8, table: &Table) -> Result<Kind, Faul
     requires { IsOpen bytes.now table.now }
     ensures { result ≡ kind_at bytes.now tag table.now.at }
 {
-    match tag {
-        1 => Ok(Kind::Null),
-        2 => int_at(bytes, table),
-        3 => choice_at(
-            bytes,
-            table,
-            0,
-            &[Kind::Float16, Kind::Float32, Kind::Float64],
-        ),
-        4 => Ok(Kind::Binary),
-        5 => Ok(Kind::Utf8),
-        6 => Ok(Kind::Boolean),
-        7 => decimal_at(bytes, table),
-        8 => choice_at(bytes, table, 1, &[Kind::Date32, Kind::Date64]),
-        9 => time_at(bytes, table),
-        10 => Ok(Kind::Timestamp(unit_in(bytes, table, 0)?)),
-        11 => choice_at(
-            bytes,
-            table,
-            0,
-            &[
-                Kind::YearMonthInterval,
-                Kind::DayTimeInterval,
-                Kind::MonthDayNanoInterval,
-            ],
-        ),
-        12 => Ok(Kind::List(ListForm::Small)),
-        13 => Ok(Kind::Struct),
-        14 => choice_at(
-            bytes,
-            table,
-            0,
-            &[
-                Kind::Union(UnionMode::Sparse),
-                Kind::Union(UnionMode::Dense),
-            ],
-        ),
-        15 => Ok(Kind::FixedSizeBinary(size_in(bytes, table)?)),
-        16 => Ok(Kind::List(ListForm::Fixed(size_in(bytes, table)?))),
-        17 => Ok(Kind::Map),
-        18 => Ok(Kind::Duration(unit_in(bytes, table, 1)?)),
-        19 => Ok(Kind::LargeBinary),
-        20 => Ok(Kind::LargeUtf8),
-        21 => Ok(Kind::List(ListForm::Large)),
-        22 => Ok(Kind::RunEndEncoded),
-        23 => Ok(Kind::BinaryView),
-        24 => Ok(Kind::Utf8View),
-        25 => Ok(Kind::ListView),
-        26 => Ok(Kind::LargeListView),
-        _ => Err(Fault::new(Rule::Tag, table.at)),
+    let number = number_at(bytes, tag, table)?;
+    if let Some(data_type) = plain_of(tag, number) {
+        return Ok(Kind::Plain(data_type));
+    }
+    match (tag, number) {
+        (2, _) => Ok(Kind::Plain(int_at(bytes, table)?)),
+        (7, _) => Ok(Kind::Named(decimal_at(bytes, table)?)),
+        (9, _) => Ok(Kind::Named(time_at(bytes, table)?)),
+        (10, 0..=3) => Ok(Kind::Named(Named::Timestamp(number))),
+        (11, 0..=2) => Ok(Kind::Named(Named::Interval(number))),
+        (12, _) => Ok(Kind::List(ListForm::Small)),
+        (13, _) => Ok(Kind::Struct),
+        (14, 0) => Ok(Kind::Union(UnionMode::Sparse)),
+        (14, 1) => Ok(Kind::Union(UnionMode::Dense)),
+        (15, 0..=0x7fff_ffff) => Ok(Kind::Named(Named::FixedSizeBinary(number as i32))),
+        (16, 0..=0x7fff_ffff) => Ok(Kind::List(ListForm::Fixed(number as i32))),
+        (17, _) => Ok(Kind::Map),
+        (18, 0..=3) => Ok(Kind::Named(Named::Duration(number))),
+        (21, _) => Ok(Kind::List(ListForm::Large)),
+        (22, _) => Ok(Kind::RunEndEncoded),
+        (25, _) => Ok(Kind::ListView),
+        (26, _) => Ok(Kind::LargeListView),
+        _ => Err(Fault::new(Rule::Parameter, table.at)),
     }
 }

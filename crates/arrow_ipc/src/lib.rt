@@ -7,7 +7,6 @@ mod columns;
 mod fault;
 mod kinds;
 pub mod laws;
-mod longs;
 mod nesting;
 mod parts;
 mod schema;

@@ -8,7 +8,7 @@ ghost use Rattle.arrow_ipc.specs.Rooms.{Refuses, Gives, IsUnfit, AreUnfit, Holds
 
 use crate::blocks::{table_block, text_block, texts_block, vector_block};
 use crate::type_tables::type_table;
-use crate::write::WriteError;
+use crate::write::{Block, WriteError};
 use arrow_values::{DataType, Field};
 use std::alloc::{AllocError, Global};
 use std::collections::BTreeMap;
@@ -22,7 +22,7 @@ fn finish_block(
     data_type: &DataType,
     texts: &BTreeMap<String, String>,
     blocks: &[Vec<u8>],
-) -> Result<Vec<u8>, WriteError>
+) -> Block
     ensures { Gives (IsNesting (map (λ v. v.items) blocks.now) (tree data_type.now) name.now nullable (texts_of texts.now.entries)) (is_sound (tree data_type.now) ≡ false)
         (60 + length name.now + (table_room (tree data_type.now) + length (vector_block (map (λ v. v.items) blocks.now))) + texts_room (texts_of texts.now.entries)) result }
 {
@@ -66,6 +66,7 @@ fn nested_fields<'a>(alloc: Global, data_type: &'a DataType) -> Result<Vec<&'a F
 }
 
 /// A column of a data type, with so many levels for itself and what it nests.
+#[tactic(auto, using(crate::proofs::Nestings::nests_less))]
 #[cycle(write)]
 pub(crate) fn data_block(
     alloc: Global,
@@ -74,7 +75,7 @@ pub(crate) fn data_block(
     data_type: &DataType,
     texts: &BTreeMap<String, String>,
     levels: usize,
-) -> Result<Vec<u8>, WriteError>
+) -> Block
     ensures { Gives (λ b. Holds (child_in levels) b (record { name = name.now; data_type = known (tree data_type.now); nullable = nullable; metadata = texts_of texts.now.entries }))
         (IsUnfit levels (tree data_type.now)) (column_room name.now (tree data_type.now) (texts_of texts.now.entries)) result }
 {
@@ -88,7 +89,7 @@ pub(crate) fn data_block(
 
 /// A column of a field.
 #[cycle(write)]
-fn field_block(alloc: Global, field: &Field, levels: usize) -> Result<Vec<u8>, WriteError>
+fn field_block(alloc: Global, field: &Field, levels: usize) -> Block
     ensures { Gives (λ b. Holds (child_in levels) b (column_of field.now)) (IsUnfit levels field.now.tree) (field_room field.now) result }
 {
     data_block(
@@ -102,6 +103,7 @@ fn field_block(alloc: Global, field: &Field, levels: usize) -> Result<Vec<u8>, W
 }
 
 /// The columns that a type nests.
+#[tactic(auto, using(crate::proofs::Nestings::falls, crate::proofs::Nestings::each_more, crate::proofs::Nestings::each_refused))]
 #[cycle(write)]
 fn field_blocks(alloc: Global, fields: &[&Field], levels: usize) -> Result<Vec<Vec<u8>>, WriteError>
     ensures each { IfOk result (λ bs. HoldsEach levels (map (λ v. v.items) bs.items) (map (λ f. column_of f.now) fields.now) (columns_room (map (λ f. column_of f.now) fields.now))) }

@@ -6,21 +6,21 @@ ghost use Rattle.arrow_ipc.specs.Parts.{tag_in, zone_in, index_at, index_in, ids
 
 use crate::fault::{Fault, Rule};
 use crate::kinds::{Kind, int_at, kind_at};
-use crate::longs::u64_in;
-use crate::slots::{flag_in, table_in, text_in, u8_in, vector_in};
-use crate::wire::{Table, open, slot_at, target_at, vector_at};
+use crate::slots::{flag_in, table_in, text_in, u8_in, u64_in, vector_in};
+use crate::wire::{Table, Vector, open, slot_at, target_at, vector_at};
+use arrow_values::DataType;
 
-/// How the values of a dictionary are looked up: by integers of that kind, and whether their order is one of the values.
-#[derive(Clone, Copy)]
+/// How the values of a dictionary are looked up: by integers of that type, and whether their order is one of the values.
+#[derive(Drop)]
 pub(crate) struct Index {
-    /// The kind of the integers.
-    pub kind: Kind,
+    /// The type of the integers.
+    pub integers: DataType,
     /// Whether the order of the values is that of the integers.
     pub ordered: bool,
 }
 
-/// What a column's table says of the column itself. A vector is where its elements begin, and how many they are.
-#[derive(Clone, Copy)]
+/// What a column's table says of the column itself.
+#[derive(Drop)]
 pub(crate) struct Parts<'a> {
     /// Where the column's table is.
     pub table: usize,
@@ -35,11 +35,11 @@ pub(crate) struct Parts<'a> {
     /// The dictionary, if it has one.
     pub index: Option<Index>,
     /// The tables of its children.
-    pub children: (usize, usize),
+    pub children: Vector,
     /// The type ids of a union, if it says them.
-    pub ids: Option<(usize, usize)>,
+    pub ids: Option<Vector>,
     /// The tables of its metadata.
-    pub texts: (usize, usize),
+    pub texts: Vector,
 }
 
 /// The tag of a column's type.
@@ -71,14 +71,14 @@ fn zone_in<'a>(bytes: &'a [u8], tag: u8, table: &Table) -> Result<&'a str, Fault
     }
 }
 
-/// The kind of a dictionary's indices.
+/// The type of a dictionary's indices.
 #[tactic(auto, using(crate::proofs::Opened::u32_opens), unfolding(crate::specs::Parts::index_at, crate::specs::Kinds::int_at))]
-fn index_at(bytes: &[u8], table: &Table) -> Result<Kind, Fault>
+fn index_at(bytes: &[u8], table: &Table) -> Result<DataType, Fault>
     requires { IsOpen bytes.now table.now }
     ensures { result ≡ index_at bytes.now table.now.at }
 {
     match slot_at(bytes, table, 1)? {
-        None => Ok(Kind::Int32),
+        None => Ok(DataType::Int32),
         Some(slot) => int_at(bytes, &open(bytes, target_at(bytes, slot)?)?),
     }
 }
@@ -94,9 +94,9 @@ fn index_in(bytes: &[u8], table: &Table) -> Result<Option<Index>, Fault>
         Some(slot) => {
             let dictionary = open(bytes, target_at(bytes, slot)?)?;
             let _id = u64_in(bytes, &dictionary, 0)?;
-            let kind = index_at(bytes, &dictionary)?;
+            let integers = index_at(bytes, &dictionary)?;
             let ordered = flag_in(bytes, &dictionary, 2)?;
-            Ok(Some(Index { kind, ordered }))
+            Ok(Some(Index { integers, ordered }))
         }
     }
 }
@@ -104,7 +104,7 @@ fn index_in(bytes: &[u8], table: &Table) -> Result<Option<Index>, Fault>
 /// Where the type ids of a union are; `None` where they are missing, and of another type.
 #[tactic(auto, unfolding(crate::specs::Parts::ids_in))]
 #[inline(always)]
-fn ids_in(bytes: &[u8], tag: u8, table: &Table) -> Result<Option<(usize, usize)>, Fault>
+fn ids_in(bytes: &[u8], tag: u8, table: &Table) -> Result<Option<Vector>, Fault>
     requires { IsOpen bytes.now table.now }
     ensures is { result ≡ ids_in bytes.now tag table.now.at }
     ensures within { IfOk result (λ o. IfSome o (λ p. p.0 + 4 * p.1 ≤ length bytes.now)) }
@@ -133,21 +133,15 @@ pub(crate) fn parts_at(bytes: &[u8], at: usize) -> Result<Parts<'_>, Fault>
     let tag = tag_in(bytes, &table)?;
     let value = open(bytes, table_in(bytes, &table, 3)?)?;
     let _first = slot_at(bytes, &value, 0)?;
-    let kind = kind_at(bytes, tag, &value)?;
-    let zone = zone_in(bytes, tag, &value)?;
-    let ids = ids_in(bytes, tag, &value)?;
-    let index = index_in(bytes, &table)?;
-    let children = vector_in(bytes, &table, 5)?;
-    let texts = vector_in(bytes, &table, 6)?;
     Ok(Parts {
         table: table.at,
         name,
         nullable,
-        kind,
-        zone,
-        index,
-        children,
-        ids,
-        texts,
+        kind: kind_at(bytes, tag, &value)?,
+        zone: zone_in(bytes, tag, &value)?,
+        ids: ids_in(bytes, tag, &value)?,
+        index: index_in(bytes, &table)?,
+        children: vector_in(bytes, &table, 5)?,
+        texts: vector_in(bytes, &table, 6)?,
     })
 }

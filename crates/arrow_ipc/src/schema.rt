@@ -1,12 +1,11 @@
 //! The schema of a message or of a file's footer.
 ghost use Rattle.std.specs.Prelude.{◌≡◌, ◌+◌, ◌*◌, ◌^◌, ◌≤◌, ◌<◌, length, IfOk};
 ghost use Rattle.arrow_ipc.specs.Fault.{map_ok};
-ghost use Rattle.arrow_ipc.specs.Schema.{head_at, message_at, footer_at, cut, message_in, footer_in, schema_of, Meets, MeetsIn, schema_of_message, schema_of_footer};
+ghost use Rattle.arrow_ipc.specs.Schema.{message_at, footer_at, cut, message_in, footer_in, schema_of, Meets, MeetsIn, schema_of_message, schema_of_footer};
 
-use crate::columns::{read_columns, read_texts};
+use crate::columns::{Read, read_columns, read_texts};
 use crate::fault::{Fault, IpcError, Rule};
-use crate::longs::u64_in;
-use crate::slots::{table_in, u8_in, u16_in, vector_in};
+use crate::slots::{table_in, u8_in, u16_in, u64_in, vector_in};
 use crate::wire::{open, target_at, u32_at, vector_at};
 use arrow_columns::Column;
 use std::alloc::Global;
@@ -33,35 +32,6 @@ pub struct Schema {
     pub metadata: BTreeMap<String, String>,
     /// The byte order of the data.
     pub endianness: Endianness,
-}
-
-/// What a schema's table says before its columns are read.
-#[derive(Clone, Copy)]
-struct Head {
-    endianness: Endianness,
-    fields: (usize, usize),
-    texts: (usize, usize),
-}
-
-/// What a schema's table says before its columns are read.
-#[tactic(auto, using(crate::proofs::Opened::u16_opens), unfolding(crate::specs::Schema::head_at))]
-fn head_at(bytes: &[u8], table: usize) -> Result<Head, Fault>
-    ensures is { result ≡ head_at bytes.now table }
-    ensures fields { IfOk result (λ h. h.fields.0 + 4 * h.fields.1 ≤ length bytes.now) }
-    ensures texts { IfOk result (λ h. h.texts.0 + 4 * h.texts.1 ≤ length bytes.now) }
-{
-    let table = open(bytes, table)?;
-    let endianness = match u16_in(bytes, &table, 0, 0)? {
-        0 => Endianness::Little,
-        _ => Endianness::Big,
-    };
-    let fields = vector_at(bytes, table_in(bytes, &table, 1)?)?;
-    let texts = vector_in(bytes, &table, 2)?;
-    Ok(Head {
-        endianness,
-        fields,
-        texts,
-    })
 }
 
 /// Where the schema of a message is.
@@ -140,23 +110,23 @@ fn footer_in(bytes: &[u8]) -> Result<&[u8], Fault>
 }
 
 /// Reads the schema whose table is at that place of a message or footer, within a budget of eight times its bytes.
-#[tactic(auto, unfolding(crate::specs::Schema::schema_at))]
-fn read_flatbuffer(
-    alloc: Global,
-    bytes: &[u8],
-    place: Result<usize, Fault>,
-) -> Result<Schema, IpcError>
+#[tactic(auto, using(crate::proofs::Opened::u16_opens), unfolding(crate::specs::Schema::schema_at, crate::specs::Schema::head_at))]
+fn read_flatbuffer(alloc: Global, bytes: &[u8], place: Result<usize, Fault>) -> Read<Schema>
     requires { length bytes.now < 2 ^ 32 }
     ensures { MeetsIn (schema_of NESTING_LIMIT place) bytes.now result }
 {
-    let head = head_at(bytes, place?)?;
+    let table = open(bytes, place?)?;
+    let endianness = match u16_in(bytes, &table, 0, 0)? {
+        0 => Endianness::Little,
+        _ => Endianness::Big,
+    };
+    let fields = vector_at(bytes, table_in(bytes, &table, 1)?)?;
+    let texts = vector_in(bytes, &table, 2)?;
     let mut budget = bytes.len() * 8;
-    let columns = read_columns(alloc, bytes, head.fields, NESTING_LIMIT, &mut budget)?;
-    let metadata = read_texts(alloc, bytes, head.texts, &mut budget)?;
     Ok(Schema {
-        columns,
-        metadata,
-        endianness: head.endianness,
+        columns: read_columns(alloc, bytes, fields, NESTING_LIMIT, &mut budget)?,
+        metadata: read_texts(alloc, bytes, texts, &mut budget)?,
+        endianness,
     })
 }
 

@@ -3,9 +3,12 @@ ghost use Rattle.std.specs.Prelude.{◌≡◌, ◌+◌, ◌*◌, ◌≤◌, leng
 ghost use Rattle.arrow_ipc.specs.Wire.{IsOpen};
 ghost use Rattle.arrow_ipc.specs.Slots.{u8_in, flag_in, u16_in, u32_in, text_in, table_in, vector_in};
 ghost use Rattle.arrow_ipc.specs.Fault.{map_ok};
+ghost use Rattle.arrow_ipc.specs.Longs.{u64_in};
 
 use crate::fault::{Fault, Rule};
-use crate::wire::{Table, slot_at, target_at, u8_at, u16_at, u32_at, utf8_at, vector_at};
+use crate::wire::{
+    Table, Vector, slot_at, target_at, u8_at, u16_at, u32_at, u64_at, utf8_at, vector_at,
+};
 
 /// A byte in a slot.
 #[tactic(auto, unfolding(crate::specs::Slots::u8_in))]
@@ -14,10 +17,8 @@ pub(crate) fn u8_in(bytes: &[u8], table: &Table, i: u16, missing: u8) -> Result<
     requires { IsOpen bytes.now table.now }
     ensures { result ≡ u8_in bytes.now table.now.at i missing }
 {
-    match slot_at(bytes, table, i)? {
-        None => Ok(missing),
-        Some(slot) => u8_at(bytes, slot),
-    }
+    let slot = slot_at(bytes, table, i)?;
+    slot.map_or(Ok(missing), |slot| u8_at(bytes, slot))
 }
 
 /// Whether a slot holds a byte other than 0.
@@ -37,10 +38,8 @@ pub(crate) fn u16_in(bytes: &[u8], table: &Table, i: u16, missing: u16) -> Resul
     requires { IsOpen bytes.now table.now }
     ensures { result ≡ u16_in bytes.now table.now.at i missing }
 {
-    match slot_at(bytes, table, i)? {
-        None => Ok(missing),
-        Some(slot) => u16_at(bytes, slot),
-    }
+    let slot = slot_at(bytes, table, i)?;
+    slot.map_or(Ok(missing), |slot| u16_at(bytes, slot))
 }
 
 /// A number of four bytes in a slot.
@@ -49,10 +48,18 @@ pub(crate) fn u32_in(bytes: &[u8], table: &Table, i: u16, missing: u32) -> Resul
     requires { IsOpen bytes.now table.now }
     ensures { result ≡ u32_in bytes.now table.now.at i missing }
 {
-    match slot_at(bytes, table, i)? {
-        None => Ok(missing),
-        Some(slot) => u32_at(bytes, slot),
-    }
+    let slot = slot_at(bytes, table, i)?;
+    slot.map_or(Ok(missing), |slot| u32_at(bytes, slot))
+}
+
+/// A number of eight bytes in a slot; 0 where it is missing.
+#[tactic(auto, unfolding(crate::specs::Longs::u64_in))]
+pub(crate) fn u64_in(bytes: &[u8], table: &Table, i: u16) -> Result<u64, Fault>
+    requires { IsOpen bytes.now table.now }
+    ensures { result ≡ u64_in bytes.now table.now.at i }
+{
+    let slot = slot_at(bytes, table, i)?;
+    slot.map_or(Ok(0), |slot| u64_at(bytes, slot))
 }
 
 /// The text to which a slot leads, or the empty text where it is missing.
@@ -83,7 +90,7 @@ pub(crate) fn table_in(bytes: &[u8], table: &Table, i: u16) -> Result<usize, Fau
 /// The vector to which a slot leads, or one with no elements where it is missing.
 #[tactic(auto, unfolding(crate::specs::Slots::vector_in))]
 #[inline(always)]
-pub(crate) fn vector_in(bytes: &[u8], table: &Table, i: u16) -> Result<(usize, usize), Fault>
+pub(crate) fn vector_in(bytes: &[u8], table: &Table, i: u16) -> Result<Vector, Fault>
     requires { IsOpen bytes.now table.now }
     ensures is { result ≡ vector_in bytes.now table.now.at i }
     ensures within { IfOk result (λ p. p.0 + 4 * p.1 ≤ length bytes.now) }

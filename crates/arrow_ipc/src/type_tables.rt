@@ -7,13 +7,13 @@ ghost use Rattle.arrow_ipc.specs.Rooms.{MakesSound, IsTable};
 
 use crate::blocks::{linked_block, put_word, table_block, type_block};
 use crate::shapes::{Shape, shape_of, type_ids};
-use crate::write::WriteError;
+use crate::write::{Block, WriteError};
 use arrow_values::{DataType, UnionMode};
 use std::alloc::Global;
 
 /// A union's table, with its type ids.
 #[tactic(auto, using(crate::proofs::TypeTables::length_union))]
-fn union_block(alloc: Global, mode: UnionMode, ids: &[i8]) -> Result<Vec<u8>, WriteError>
+fn union_block(alloc: Global, mode: UnionMode, ids: &[i8]) -> Block
     ensures { MakesSound (are_ids [] ids.now) (union_block mode ids.now) result }
 {
     if ids.len() >= 0x2000_0000 {
@@ -28,11 +28,7 @@ fn union_block(alloc: Global, mode: UnionMode, ids: &[i8]) -> Result<Vec<u8>, Wr
         put_word(&mut words, id as u32)?;
     }
     let vector = linked_block(alloc, ids.len() as u32, &[], words.as_slice())?;
-    let mode = match mode {
-        UnionMode::Sparse => 0,
-        UnionMode::Dense => 1,
-    };
-    table_block(alloc, &[8, 4], &[mode, 0, 0, 0], &[vector])
+    table_block(alloc, &[8, 4], &[mode as u8, 0, 0, 0], &[vector])
 }
 
 /// A type's tag and table.

@@ -2,6 +2,7 @@
 ghost use Rattle.std.specs.Prelude.{◌≡◌, ◌+◌, ◌*◌, ◌≤◌, length, IfOk};
 ghost use Rattle.arrow_ipc.specs.Wire.{u8_at, u16_at, u32_at, ahead, vtable_at, opened_at, IsOpen, slot_at, target_at, text_at, utf8_at, vector_at};
 ghost use Rattle.arrow_ipc.specs.Fault.{map_ok};
+ghost use Rattle.arrow_ipc.specs.Longs.{u64_at};
 
 use crate::fault::{Fault, Rule};
 
@@ -21,11 +22,8 @@ pub(crate) fn u8_at(bytes: &[u8], at: usize) -> Result<u8, Fault>
 pub(crate) fn u16_at(bytes: &[u8], at: usize) -> Result<u16, Fault>
     ensures { result ≡ u16_at bytes.now at }
 {
-    if at % 2 != 0 {
-        return Err(Fault::new(Rule::Number, at));
-    }
     match bytes.get(at..) {
-        Some([a, b, ..]) => Ok(u16::from_le_bytes([*a, *b])),
+        Some([a, b, ..]) if at % 2 == 0 => Ok(u16::from_le_bytes([*a, *b])),
         _ => Err(Fault::new(Rule::Number, at)),
     }
 }
@@ -35,11 +33,21 @@ pub(crate) fn u16_at(bytes: &[u8], at: usize) -> Result<u16, Fault>
 pub(crate) fn u32_at(bytes: &[u8], at: usize) -> Result<u32, Fault>
     ensures { result ≡ u32_at bytes.now at }
 {
-    if at % 4 != 0 {
-        return Err(Fault::new(Rule::Number, at));
-    }
     match bytes.get(at..) {
-        Some([a, b, c, d, ..]) => Ok(u32::from_le_bytes([*a, *b, *c, *d])),
+        Some([a, b, c, d, ..]) if at % 4 == 0 => Ok(u32::from_le_bytes([*a, *b, *c, *d])),
+        _ => Err(Fault::new(Rule::Number, at)),
+    }
+}
+
+/// The number of eight bytes at a position.
+#[tactic(auto, unfolding(crate::specs::Longs::u64_at))]
+pub(crate) fn u64_at(bytes: &[u8], at: usize) -> Result<u64, Fault>
+    ensures { result ≡ u64_at bytes.now at }
+{
+    match bytes.get(at..) {
+        Some([a, b, c, d, e, f, g, h, ..]) if at % 8 == 0 => {
+            Ok(u64::from_le_bytes([*a, *b, *c, *d, *e, *f, *g, *h]))
+        }
         _ => Err(Fault::new(Rule::Number, at)),
     }
 }
@@ -70,6 +78,9 @@ fn vtable_at(bytes: &[u8], table: usize) -> Result<usize, Fault>
         ahead(Rule::Vtable, bytes, table, 0x1_0000_0000 - back as usize)
     }
 }
+
+/// Where the elements of a vector begin, and how many they are.
+pub(crate) type Vector = (usize, usize);
 
 /// A table whose vtable lies before the end: where the table and its vtable are, and how many bytes the vtable has.
 #[derive(Clone, Copy)]
@@ -154,7 +165,7 @@ pub(crate) fn utf8_at(bytes: &[u8], at: usize) -> Result<&str, Fault>
 
 /// Where the elements of a vector begin, of four bytes each, and how many they are.
 #[tactic(auto, unfolding(crate::specs::Wire::vector_at, crate::specs::Wire::ahead))]
-pub(crate) fn vector_at(bytes: &[u8], at: usize) -> Result<(usize, usize), Fault>
+pub(crate) fn vector_at(bytes: &[u8], at: usize) -> Result<Vector, Fault>
     ensures is { result ≡ vector_at bytes.now at }
     ensures within { IfOk result (λ p. p.0 + 4 * p.1 ≤ length bytes.now) }
 {

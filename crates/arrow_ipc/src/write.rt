@@ -30,6 +30,9 @@ pub enum WriteError {
     OutOfMemory,
 }
 
+/// A block that is made, or why it is not.
+pub(crate) type Block = Result<Vec<u8>, WriteError>;
+
 impl From<AllocError> for WriteError {
     ghost from_gives = { λ _ e. e ≡ OutOfMemory };
 
@@ -57,7 +60,7 @@ fn refused(error: WriteError, index: usize) -> WriteError
 }
 
 /// A column of any type.
-fn any_column(alloc: Global, column: &Column) -> Result<Vec<u8>, WriteError>
+fn any_column(alloc: Global, column: &Column) -> Block
     ensures { Gives (λ b. Holds (child_in NESTING_LIMIT) b (column_tree column.now)) (IsUnfitType NESTING_LIMIT (type_tree column.now.data_type)) (room_of (column_tree column.now)) result }
 {
     match &column.data_type {
@@ -75,6 +78,7 @@ fn any_column(alloc: Global, column: &Column) -> Result<Vec<u8>, WriteError>
 }
 
 /// The columns of a schema.
+#[tactic(auto, using(crate::proofs::Nestings::each_more, crate::proofs::Nestings::each_done))]
 fn column_blocks(alloc: Global, columns: &[Column]) -> Result<Vec<Vec<u8>>, WriteError>
     ensures each { IfOk result (λ bs. HoldsEach NESTING_LIMIT (map (λ v. v.items) bs.items) (map column_tree columns.now) (columns_room (map column_tree columns.now))) }
     ensures err { IfErr result (λ e. RefusesColumns NESTING_LIMIT e (map column_tree columns.now) (columns_room (map column_tree columns.now))) }
@@ -91,21 +95,13 @@ fn column_blocks(alloc: Global, columns: &[Column]) -> Result<Vec<Vec<u8>>, Writ
 
 /// The stream of a schema, given the blocks of its columns and of its metadata.
 #[tactic(auto, using(crate::proofs::Tables::length_message))]
-fn stream_bytes(
-    alloc: Global,
-    columns: Vec<u8>,
-    texts: Vec<u8>,
-    order: Endianness,
-) -> Result<Vec<u8>, WriteError>
+fn stream_bytes(alloc: Global, columns: Vec<u8>, texts: Vec<u8>, order: Endianness) -> Block
     ensures is { IfOk result (λ b. b.items ≡ stream_block (message_block (schema_block columns.items texts.items order))) }
     ensures small { IfOk result (λ _. length (message_block (schema_block columns.items texts.items order)) < 2 ^ 31) }
     ensures err { IfErr result (λ e. Refuses e ⊥ (length (message_block (schema_block columns.items texts.items order)))) }
 {
-    let order = match order {
-        Endianness::Little => 0,
-        Endianness::Big => 1,
-    };
-    let schema = table_block(alloc, &[12, 4, 8], &[order, 0, 0, 0], &[columns, texts])?;
+    let numbers = [order as u8, 0, 0, 0];
+    let schema = table_block(alloc, &[12, 4, 8], &numbers, &[columns, texts])?;
     let message = table_block(alloc, &[8, 10, 4], &[4, 0, 1, 0], &[schema])?;
     if message.len() >= 0x7fff_fff8 {
         return Err(WriteError::TooLarge);

@@ -1,33 +1,22 @@
-use Rattle.std.proofs.Common.{arith, ◌≡◌, ◌+◌, ◌-◌, ◌*◌, ◌++◌, ◌∷◌, [], List, Ok, map, refl, sym, ap}
+use Rattle.std.proofs.Common.{arith, ◌+◌, ◌*◌, ◌++◌, ◌∷◌, [], Ok, map, refl}
 use native.Mathlib.Numerals.{unary_clauses}
-use Rattle.std.proofs.lemmas.List.{map_push}
-use Rattle.arrow_columns.specs.Column.{ColumnTree, column_tree}
+use Rattle.arrow_columns.specs.Column.{column_tree}
 use Rattle.arrow_ipc.specs.Columns.{put_column, columns_by, column_at}
-use Rattle.arrow_ipc.proofs.Told.{made_fails, goes_on, breaks_off, is_done}
+use Rattle.arrow_ipc.proofs.Told.{made_fails, breaks_off, is_done}
 use Rattle.arrow_ipc.proofs.columns.+read.Invariants.{columns_tree}
 use Rattle.arrow_ipc.proofs.columns.+read.Goals as goal
 
 pub read_columns-columns-init : goal.read_columns-columns-init
 read_columns-columns-init t c = λ new r f. simp (unary_clauses, c.new-found.ensures.items) at f
 
-pub read_columns-columns-preserved : goal.read_columns-columns-preserved
-read_columns-columns-preserved t c =
-    let l = c.columns in
-    let one = c.in_ok-column.ensures in
-    let put = put_column (column_at c.args.depth c.args.bytes.now) c.args.offsets.0 in
-    let e : map column_tree c.push.new.self.items ≡ map column_tree l.found.items ++ column_tree c.in_ok-column.column ∷ [] = rw c.in_ok-push.ensures.items (map_push _ l.found.items c.in_ok-column.column) in
-    let is : put (map column_tree l.found.items) l.i ≡ Ok (map column_tree c.push.new.self.items, l.budget - c.read_column.new.budget) =
-    rw one.1 (ap (λ (xs : List ColumnTree). Ok (xs, l.budget - c.read_column.new.budget)) (sym e)) in
-    λ new r f. l.invariant new r (goes_on columns_tree put (map column_tree l.found.items) l.i c.args.offsets.1 l.budget c.columns-test.true _ c.read_column.new.budget new r (one.0, is) f)
-
-pub read_columns-returns-in_err-column : goal.read_columns-returns-in_err-column
+pub read_columns-returns-in_err-read_column : goal.read_columns-returns-in_err-read_column
 unfolding columns_by
-read_columns-returns-in_err-column t c =
+read_columns-returns-in_err-read_column t c =
     let l = c.columns in
     let read = column_at c.args.depth c.args.bytes.now in
     let cs = map column_tree l.found.items in
-    l.invariant _ c.from_residual.result (breaks_off columns_tree (put_column read c.args.offsets.0) cs l.i c.args.offsets.1 l.budget c.columns-test.true _ c.from_residual.result c.in_err-column.field-0.0 (grind arith)
-    (made_fails (read (c.args.offsets.0 + 4 * l.i)) (λ k. cs ++ k ∷ []) l.budget _ c.in_err-column.ensures))
+    l.invariant _ c.from_residual.result (breaks_off columns_tree (put_column read c.args.offsets.0) cs l.i c.args.offsets.1 l.budget c.columns-test.true _ c.from_residual.result c.in_err-read_column.field-0.0 (grind arith)
+    (made_fails (read (c.args.offsets.0 + 4 * l.i)) (λ k. cs ++ k ∷ []) l.budget _ c.in_err-read_column.ensures))
 
 pub read_columns-returns : goal.read_columns-returns
 unfolding columns_by

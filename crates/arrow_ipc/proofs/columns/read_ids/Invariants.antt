@@ -10,4 +10,4 @@ vec_ids v = v.items
 -- what the ids that are left say, all say
 abbrev pub invariant-ids : goal.invariant-ids
 invariant-ids l =
-    (r : Result (Vec ℤ Global) IpcError) → Says vec_ids (ids_from l.bytes l.table l.written l.ids.items l.i (l.count - l.i)) r → Says vec_ids (ids_from l.bytes l.table l.written [] 0 l.count) r
+    (r : Result (Vec ℤ Global) IpcError) → Says vec_ids (ids_from l.bytes l.parts.table l.parts.ids l.ids.items l.i (l.count - l.i)) r → Says vec_ids (ids_from l.bytes l.parts.table l.parts.ids [] 0 l.count) r

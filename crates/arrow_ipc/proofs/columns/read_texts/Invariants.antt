@@ -12,5 +12,5 @@ map_texts m = texts_of m.entries
 -- what the entries that are left tell, all tell
 abbrev pub invariant-entries : goal.invariant-entries
 invariant-entries l =
-    (new : ℕ) (r : Result (BTreeMap (String Global) (String Global)) IpcError) → Tells map_texts (gather (put_next l.bytes l.entries.0) (texts_of l.texts.entries) l.i (l.entries.1 - l.i)) l.budget new r
-    → Tells map_texts (gather (put_next l.bytes l.entries.0) [] 0 l.entries.1) l.initial.budget new r
+    (new : ℕ) (r : Result (BTreeMap (String Global) (String Global)) IpcError) → Tells map_texts (gather (put_next l.bytes l.at.0) (texts_of l.texts.entries) l.i (l.at.1 - l.i)) l.budget new r
+    → Tells map_texts (gather (put_next l.bytes l.at.0) [] 0 l.at.1) l.initial.budget new r

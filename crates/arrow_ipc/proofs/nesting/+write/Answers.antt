@@ -1,18 +1,11 @@
-use Rattle.std.proofs.Common.{IfErr, ◌≡◌, ◌-◌, ◌≤◌, map, sym, ap, ◌∙◌, subst, arith}
-use Rattle.arrow_values.specs.Tree.{depth}
+use Rattle.std.proofs.Common.{◌≡◌, ◌-◌, map, ap, ◌∙◌, subst, arith}
 use Rattle.arrow_values.specs.View.{tree, texts_of}
 use Rattle.arrow_ipc.specs.Shapes.{column_of}
-use Rattle.arrow_ipc.specs.Rooms.{Refuses, nested_room, column_room, field_room, room_of, columns_room, IsUnfit, AreUnfit}
+use Rattle.arrow_ipc.specs.Rooms.{nested_room, column_room, columns_room, IsUnfit, AreUnfit}
 use Rattle.arrow_ipc.proofs.Vectors.{items}
-use Rattle.arrow_ipc.proofs.Built.{told, refuses_more, handed}
-use Rattle.arrow_ipc.proofs.Nestings.{lent, deepest, falls, nests_less, nested_room_is, columns_are, each_is, nested_unfit, each_more, each_refused, data_gives}
+use Rattle.arrow_ipc.proofs.Built.{handed}
+use Rattle.arrow_ipc.proofs.Nestings.{lent, nested_room_is, columns_are, each_is, nested_unfit, data_gives}
 use Rattle.arrow_ipc.proofs.nesting.+write.Goals as goal
-
-pub data_block-field_blocks-requires : goal.data_block-field_blocks-requires
-data_block-field_blocks-requires t c =
-    let d = tree c.args.data_type.now in
-    let less : deepest (lent c.as_slice.result.now) ≤ depth d = subst (λ fs. deepest fs ≤ depth d) (sym (ap lent c.as_slice.ensures.value ∙ c.in_ok-fields.ensures)) (nests_less d) in
-    (omega (arith, less), tt)
 
 pub data_block-returns : goal.data_block-returns
 data_block-returns t c =
@@ -29,23 +22,3 @@ data_block-returns-in_err-blocks t c =
     let room : columns_room (map (λ f. column_of f.now) fs) ≡ nested_room d = ap columns_room same ∙ nested_room_is d in
     handed _ (AreUnfit (c.args.levels - 1) (map (λ f. column_of f.now) fs)) (IsUnfit c.args.levels d) (columns_room (map (λ f. column_of f.now) fs)) (column_room c.args.name.now d (texts_of c.args.texts.now.entries))
     c.from_residual-in_err-blocks.result c.in_err-blocks.field-0.0 (grind arith) (λ u. nested_unfit c.args.levels d (omega arith) (subst (AreUnfit (c.args.levels - 1)) same u)) (omega (arith, room)) c.in_err-blocks.ensures.err
-
-pub field_blocks-field_block-requires : goal.field_blocks-field_block-requires
-field_blocks-field_block-requires t c =
-    let low = falls c.args.fields.now c.columns.field-index _ c.columns-test.true c.field-item.is in
-    (omega (arith, low), tt)
-
-pub field_blocks-columns-preserved : goal.field_blocks-columns-preserved
-field_blocks-columns-preserved t c =
-    let l = c.columns in
-    each_more (λ f. column_of f.now) c.args.levels l.blocks.items c.args.fields.now l.field-index l.invariant c.field-item.result c.columns-test.true c.field-item.is c.push.new.self.items c.in_ok-field_block.field-0 c.in_ok-push.ensures.items
-    c.in_ok-field_block.ensures.0 (omega (arith, c.in_ok-field_block.ensures.1))
-
-pub field_blocks-returns-in_err-field_block-clause-err : goal.field_blocks-returns-in_err-field_block-clause-err
-field_blocks-returns-in_err-field_block-clause-err t c =
-    let l = c.columns in
-    let x = c.field-item.result in
-    let e = c.in_err-field_block.field-0.0 in
-    told (λ r. IfErr r (λ e. Refuses e (AreUnfit c.args.levels (map (λ f. column_of f.now) c.args.fields.now)) (columns_room (map (λ f. column_of f.now) c.args.fields.now)))) c.from_residual.result e (grind arith)
-    (each_refused (λ f. column_of f.now) c.args.levels l.blocks.items c.args.fields.now l.field-index l.invariant x c.columns-test.true c.field-item.is e
-    (refuses_more e (IsUnfit c.args.levels x.now.tree) (IsUnfit c.args.levels x.now.tree) (field_room x.now) (room_of (column_of x.now)) (λ u. u) (omega arith) c.in_err-field_block.ensures))

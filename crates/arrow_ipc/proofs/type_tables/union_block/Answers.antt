@@ -1,7 +1,7 @@
 use Rattle.std.proofs.Common.{◌≡◌, [], length, take, true, sym, ap, ◌∙◌, arith}
 use Rattle.std.proofs.lemmas.List.{drop_all}
 use Rattle.std.proofs.lemmas.Grind.{common_steps}
-use Rattle.arrow_ipc.specs.Blocks.{mode_number, linked, union_block}
+use Rattle.arrow_ipc.specs.Blocks.{linked, union_block}
 use Rattle.arrow_ipc.specs.Shapes.{are_ids}
 use Rattle.arrow_ipc.proofs.Built.{made_sound, unsound}
 use Rattle.arrow_ipc.proofs.TypeTables.{length_vector_of, length_union, ids_written, union_built}
@@ -10,10 +10,9 @@ use Rattle.arrow_ipc.proofs.type_tables.union_block.Goals as goal
 pub returns : goal.returns
 returns c =
     let ids = c.args.ids.now in
-    let mode : c.match-mode.mode ≡ mode_number c.args.mode = grind (arith, common_steps) in
     let written = c.as_slice.ensures.value ∙ ids_written c.each.words.items ids c.each.i c.each.invariant.written (omega arith) in
     let sound : are_ids [] ids ≡ true = sym c.each.invariant.sound ∙ ap (are_ids (take c.each.i ids)) (drop_all c.each.i ids (omega arith)) in
-    made_sound c.table_block.result _ (union_block c.args.mode ids) (are_ids [] ids) (union_built c.args.mode ids c.match-mode.mode c.as_slice.result.now c.in_ok-vector.vector.items mode written c.in_ok-vector.ensures.0) sound c.table_block.ensures
+    made_sound c.table_block.result _ (union_block c.args.mode ids) (are_ids [] ids) (union_built c.args.mode ids _ c.as_slice.result.now c.in_ok-vector.vector.items (grind (arith, common_steps)) written c.in_ok-vector.ensures.0) sound c.table_block.ensures
 
 pub returns-in_err-vector : goal.returns-in_err-vector
 returns-in_err-vector c =
