@@ -8,8 +8,8 @@ use std::alloc::{AllocError, Global};
 use std::sync::Arc;
 use std::test::Fail;
 use uses::{
-    are_written_alike, column_kind, join_unions, keep_wanted, projjson_text, survey_columns,
-    write_column,
+    any_type, are_written_alike, column_kind, join_unions, keep_wanted, projjson_text,
+    survey_columns, write_column,
 };
 
 /// A CRS in PROJJSON.
@@ -24,7 +24,7 @@ fn points(alloc: Global, projjson: &str) -> Result<Field, Fail> {
         Crs::default()
     };
     let metadata = Arc::new(alloc, Metadata::new(crs, None))?;
-    let geometry = GeoArrowType::Point(PointType::new(Dimension::XY, metadata));
+    let geometry = any_type(PointType::new(Dimension::XY, metadata));
     Ok(write_column(alloc, "place", true, geometry)?)
 }
 

@@ -1,3 +1,4 @@
 pub mod Columns
+pub mod Conversions
 pub mod Surveys
 pub mod Unions

@@ -4,6 +4,7 @@
 
 mod checker;
 mod comparison;
+mod conversion;
 mod crs_text;
 mod joiner;
 mod own_extension_type;
@@ -13,6 +14,7 @@ mod writer;
 
 pub use checker::{Survey, survey_columns};
 pub use comparison::are_written_alike;
+pub use conversion::any_type;
 pub use crs_text::projjson_text;
 pub use joiner::join_unions;
 pub use own_extension_type::Marked;
