@@ -195,14 +195,14 @@ fn read_fails_at_each_call(rt: HostRuntime) -> Result<(), Fail> {
     Ok(())
 }
 
-/// A write that fails: nothing more is written, and what was stays. Each answer takes four calls and its line feed one.
+/// A write that fails: nothing more is written, and what was stays. Each answer with its line feed takes four calls.
 #[test]
 fn write_fails_at_each_call(rt: HostRuntime) -> Result<(), Fail> {
-    for call in 0..21usize {
+    for call in 0..17usize {
         let mut out = Slow::new(rt.alloc(), 3, call, true);
         let mut reader = LINES;
         let end = run(rt.alloc(), Command::Read, &mut reader, &mut out);
-        let want = if call < 20 {
+        let want = if call < 16 {
             RunEnd::OutputFault
         } else {
             RunEnd::Done
@@ -210,10 +210,7 @@ fn write_fails_at_each_call(rt: HostRuntime) -> Result<(), Fail> {
         assert!(rt; end == want, "at {call}");
         assert!(rt; out.call == call, "at {call}");
         assert!(rt; ANSWERS.starts_with(out.text.as_slice()), "at {call}");
-        assert!(rt;
-            out.text.len() == call / 5 * 12 + (call % 5 * 3).min(11),
-            "at {call}"
-        );
+        assert!(rt; out.text.len() == call * 3, "at {call}");
     }
     Ok(())
 }
@@ -221,7 +218,7 @@ fn write_fails_at_each_call(rt: HostRuntime) -> Result<(), Fail> {
 /// So many bytes a call at most, the call that fails, whether the flush succeeds, and how many bytes stand at the end.
 const FAULTS: &[(usize, usize, bool, usize)] = &[
     (0, usize::MAX, true, 0),
-    (3, 20, true, 48),
+    (3, 16, true, 48),
     (3, usize::MAX, false, 60),
 ];
 
