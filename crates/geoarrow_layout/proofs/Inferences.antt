@@ -1,23 +1,5 @@
 -- Points that trees are taken for.
-use Rattle.geoarrow_layout.proofs.Terms.{◌≡◌, ◌↔◌, inl, inr, ℤ, pos, refl, sym, ap, subst, ◌∙◌, arith, true, false, Option, Some, None, List, length, same_Some, [], ◌∷◌, get_or, FieldTree, field_trees, Text, Tree, fixed_size_list, struct, FieldTrees, CoordType, Interleaved, Separated, Dimension, XY, XYZ, XYM, LayoutFault, BadFieldNames, Path, SeparatedFault, size_of, names_of, IsSeparatedAs, Leaf, is_float64, are_float64, interleaved_name, YieldsSome, Inferred, IsInferredAs, IsInferredSize, among_back, dimension_named}
-
-abbrev PairOption : Type 0
-PairOption = Option (CoordType × Dimension)
-
-abbrev Pairs : CoordType → Option Dimension → PairOption → Type 0
-Pairs b o r = (c : CoordType) (d : Dimension) → (r ≡ Some (c, d)) ↔ ((b ≡ c) × (o ≡ Some d))
-
-pub separated_inferred : (t : Tree) (xs ys : List FieldTree) (o : Option Dimension) (r : PairOption) → t ≡ struct (field_trees xs) → ys ≡ xs → ((d : Dimension) → (o ≡ Some d) ↔ ((are_float64 (field_trees ys) ≡ true) × IsInferredAs d (names_of (field_trees ys)))) → Pairs Separated o r → YieldsSome r (Inferred t)
-separated_inferred t xs ys o r is same says pairs Separated d = rw (is, ← same) (λ e. (says d).0 ((pairs Separated d).0 e).1, λ h. (pairs Separated d).1 (refl, (says d).1 h))
-separated_inferred t xs ys o r is same says pairs Interleaved d = rw is (λ e. let bad = ((pairs Interleaved d).0 e).0 in cc, λ h. absurd h)
-
-pub interleaved_inferred : (t : Tree) (x y : FieldTree) (z told : ℤ) (o : Option Dimension) (r : PairOption) → t ≡ fixed_size_list x.name x.tree x.nullable x.metadata z → y ≡ x → told ≡ z → ((d : Dimension) → (o ≡ Some d) ↔ ((is_float64 y.tree ≡ true) × IsInferredSize d y.name told)) → Pairs Interleaved o r → YieldsSome r (Inferred t)
-interleaved_inferred t x y z told o r is same size says pairs Interleaved d = rw (is, ← same, ← size) (λ e. (says d).0 ((pairs Interleaved d).0 e).1, λ h. (pairs Interleaved d).1 (refl, (says d).1 h))
-interleaved_inferred t x y z told o r is same size says pairs Separated d = rw is (λ e. let bad = ((pairs Separated d).0 e).0 in cc, λ h. absurd h)
-
-pub two_fields : (fs : List FieldTree) (x y a b : FieldTree) → length fs ≡ 2 → x ≡ get_or fs 0 a → y ≡ get_or fs 1 b → fs ≡ x ∷ y ∷ []
-two_fields (f ∷ g ∷ []) x y a b two first second = cc
-two_fields _ x y a b two first second = absurd (omega arith)
+use Rattle.geoarrow_layout.proofs.Terms.{◌≡◌, ◌↔◌, inl, inr, ℤ, pos, refl, sym, ap, subst, ◌∙◌, arith, true, false, Option, Some, None, List, length, same_Some, Text, Tree, fixed_size_list, struct, FieldTrees, CoordType, Interleaved, Separated, Dimension, XY, XYZ, XYM, LayoutFault, BadFieldNames, Path, SeparatedFault, size_of, names_of, IsSeparatedAs, Leaf, are_float64, interleaved_name, Inferred, IsInferredAs, IsInferredSize, among_back, dimension_named}
 
 -- what the fields say, where all are numbers
 pub none_inferred : (fs : FieldTrees) (r : Option Dimension) → are_float64 fs ≡ false → r ≡ None → (d : Dimension) → (r ≡ Some d) ↔ ((are_float64 fs ≡ true) × IsInferredAs d (names_of fs))
@@ -74,3 +56,6 @@ pub inferred_as_read : (t : Tree) (c b : CoordType) (d e : Dimension) → Inferr
 inferred_as_read (fixed_size_list n t x m z) Interleaved Interleaved d e h k = (refl, size_agrees n z d e h.1 k.0 (let same = sym (size_inferred_as d n z h.1) ∙ k.1 in cc))
 inferred_as_read (struct fs) Separated Separated d e h k = (refl, names_agree (names_of fs) d e h.1 k)
 inferred_as_read _ _ _ d e h k = search
+
+pub agrees : (t : Tree) (x : CoordType × Dimension) → Inferred t x.0 x.1 → (c b : CoordType) (d e : Dimension) → Some x ≡ Some (c, d) → Leaf t b e → (c ≡ b) × (d ≡ e)
+agrees t x h c b d e is leaf = inferred_as_read t c b d e (subst (λ y. Inferred t y.0 y.1) (same_Some x (c, d) is) h) leaf

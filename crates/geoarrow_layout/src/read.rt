@@ -135,7 +135,12 @@ pub fn parse_wkb(data_type: &DataType) -> Result<Width, LayoutFault>
     ensures exact { YieldsOne result (λ width. IsBytes width (tree data_type.now)) }
     ensures fault { IfErr result (HasFault (FaultAt names.Wkb (tree data_type.now))) }
 {
-    bytes_width(data_type).ok_or(LayoutFault::UnexpectedType)
+    match data_type {
+        DataType::Binary => Ok(Width::Plain),
+        DataType::LargeBinary => Ok(Width::Large),
+        DataType::BinaryView => Ok(Width::View),
+        _ => Err(LayoutFault::UnexpectedType),
+    }
 }
 
 /// Reads well-known text (GeoArrow, "WKT"): text, of any width. Errs on any other data type. Allocates nothing.
@@ -143,7 +148,12 @@ pub fn parse_wkt(data_type: &DataType) -> Result<Width, LayoutFault>
     ensures exact { YieldsOne result (λ width. IsText width (tree data_type.now)) }
     ensures fault { IfErr result (HasFault (FaultAt names.Wkt (tree data_type.now))) }
 {
-    text_width(data_type).ok_or(LayoutFault::UnexpectedType)
+    match data_type {
+        DataType::Utf8 => Ok(Width::Plain),
+        DataType::LargeUtf8 => Ok(Width::Large),
+        DataType::Utf8View => Ok(Width::View),
+        _ => Err(LayoutFault::UnexpectedType),
+    }
 }
 
 /// Reads the data type of a column with that extension name: returns its kind. Errs on any data type that has no
@@ -276,30 +286,6 @@ pub fn candidates(data_type: &DataType) -> Candidates
     Candidates::None
 }
 
-/// How the bytes of well-known binary are stored.
-fn bytes_width(data_type: &DataType) -> Option<Width>
-    ensures { (w : Width) → (result ≡ Some w) ↔ IsBytes w (tree data_type.now) }
-{
-    match data_type {
-        DataType::Binary => Some(Width::Plain),
-        DataType::LargeBinary => Some(Width::Large),
-        DataType::BinaryView => Some(Width::View),
-        _ => None,
-    }
-}
-
-/// How the text of well-known text is stored.
-fn text_width(data_type: &DataType) -> Option<Width>
-    ensures { (w : Width) → (result ≡ Some w) ↔ IsText w (tree data_type.now) }
-{
-    match data_type {
-        DataType::Utf8 => Some(Width::Plain),
-        DataType::LargeUtf8 => Some(Width::Large),
-        DataType::Utf8View => Some(Width::View),
-        _ => None,
-    }
-}
-
 /// Whether a column of that extension name has a kind, by the summary of its data type.
 fn is_kind(name: ExtensionName, summary: &Summary) -> bool
     requires { (name ≢ names.Wkb) × (name ≢ names.Wkt) }
@@ -324,32 +310,16 @@ pub fn infer_point(data_type: &DataType) -> Option<(CoordType, Dimension)>
     ensures exact { YieldsSome result (Inferred (tree data_type.now)) }
     ensures agrees { (c b : CoordType) (d e : Dimension) → result ≡ Some (c, d) → Leaf (tree data_type.now) b e → (c ≡ b) × (d ≡ e) }
 {
-    taken_for(data_type)
-}
-
-/// The coordinate type and dimension of a point that the data type is taken for.
-#[inline(always)]
-fn taken_for(data_type: &DataType) -> Option<(CoordType, Dimension)>
-    ensures { YieldsSome result (Inferred (tree data_type.now)) }
-{
     match data_type {
         DataType::Struct(fields) => {
-            paired(CoordType::Separated, struct_dimension(fields.as_slice()))
+            let dimension = struct_dimension(fields.as_slice())?;
+            Some((CoordType::Separated, dimension))
         }
         DataType::FixedSizeList(inner, size) => {
-            paired(CoordType::Interleaved, sized_dimension(inner, *size))
+            let dimension = sized_dimension(inner, *size)?;
+            Some((CoordType::Interleaved, dimension))
         }
         _ => None,
-    }
-}
-
-/// The coordinate type with the dimension, if there is one.
-fn paired(coord_type: CoordType, dimension: Option<Dimension>) -> Option<(CoordType, Dimension)>
-    ensures { (c : CoordType) (d : Dimension) → (result ≡ Some (c, d)) ↔ ((coord_type ≡ c) × (dimension ≡ Some d)) }
-{
-    match dimension {
-        Some(dimension) => Some((coord_type, dimension)),
-        None => None,
     }
 }
 
@@ -369,34 +339,15 @@ fn sized_dimension(inner: &Field, size: i32) -> Option<Dimension>
     }
 }
 
-/// The dimension that is inferred from a struct of these fields.
+/// The dimension that is inferred from a struct of these fields: of two, whatever their names are.
 #[inline(always)]
+#[tactic(auto, using(crate::proofs::Inferences::two_inferred, crate::proofs::Inferences::none_inferred))]
 fn struct_dimension(fields: &[Field]) -> Option<Dimension>
     ensures { (d : Dimension) → (result ≡ Some d) ↔ ((are_float64 (field_trees fields.now) ≡ true) × IsInferredAs d (names_of (field_trees fields.now))) }
 {
-    if let [first, second] = fields {
-        return pair(first, second);
-    }
-    let Bottom::Struct {
-        count,
-        names,
-        all_float64,
-    } = struct_bottom(fields)
-    else {
-        return None;
+    let [first, second] = fields else {
+        return named_dimension_of(fields);
     };
-    if !all_float64 {
-        return None;
-    }
-    counted_dimension(count, names)
-}
-
-/// The dimension that is inferred from a struct of two fields, whatever their names are.
-#[inline(always)]
-#[tactic(auto, using(crate::proofs::Inferences::two_inferred, crate::proofs::Inferences::none_inferred))]
-fn pair(first: &Field, second: &Field) -> Option<Dimension>
-    ensures { (d : Dimension) → (result ≡ Some d) ↔ ((are_float64 (field_trees (first.now ∷ second.now ∷ [])) ≡ true) × IsInferredAs d (names_of (field_trees (first.now ∷ second.now ∷ [])))) }
-{
     if is_float64(first.data_type()) && is_float64(second.data_type()) {
         Some(Dimension::XY)
     } else {
@@ -404,10 +355,19 @@ fn pair(first: &Field, second: &Field) -> Option<Dimension>
     }
 }
 
-/// The dimension that is inferred from so many fields, of which the bits say the names.
-fn counted_dimension(count: usize, names: u16) -> Option<Dimension>
-    ensures { (ns : List Text) → count ≡ length ns → IsBits names (λ i. SomeAt i ns) → (d : Dimension) → (result ≡ Some d) ↔ IsInferredAs d ns }
+/// The dimension that is inferred from a struct of these fields, by their names.
+#[inline(never)]
+fn named_dimension_of(fields: &[Field]) -> Option<Dimension>
+    ensures { (d : Dimension) → (result ≡ Some d) ↔ ((are_float64 (field_trees fields.now) ≡ true) × IsInferredAs d (names_of (field_trees fields.now))) }
 {
+    let Bottom::Struct {
+        count,
+        names,
+        all_float64: true,
+    } = struct_bottom(fields)
+    else {
+        return None;
+    };
     match separated_dimension(count, names) {
         Ok(dimension) => Some(dimension),
         Err(fault) => match fault {
@@ -483,6 +443,7 @@ fn bottom_below(summary: &Summary, levels: u8) -> Result<&Bottom, LayoutFault>
 }
 
 /// So many lists over a coordinate.
+#[inline(always)]
 fn leaf_under(summary: &Summary, levels: u8) -> Answer
     requires { levels ≤ 3 }
     ensures { (t : Tree) → ShowsIn false summary.now t → TellsBoth result (Under Leaf levels t) (LevelsFault CoordinateFault None levels t) }
@@ -539,6 +500,7 @@ fn collection(summary: &Summary) -> Answer
 }
 
 /// A native kind; a collection only where collections are allowed.
+#[inline(always)]
 pub(crate) fn native(collections: bool, kind: NativeKind, summary: &Summary) -> Answer
     ensures { (t : Tree) → ShowsIn collections summary.now t → TellsBoth result (NativeIn collections t kind) (NativeFaultIn collections kind t) }
 {

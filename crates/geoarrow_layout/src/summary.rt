@@ -87,34 +87,6 @@ fn name_place(name: &str) -> u8
     ensures place { result ≡ place_in name.now known_names }
     ensures small { result ≤ 8 }
 {
-    let bytes = name.as_bytes();
-    if bytes.len() == 1 {
-        return letter_place(bytes[0]);
-    }
-    long_place(name)
-}
-
-/// The place of a name of one byte.
-#[inline(always)]
-fn letter_place(letter: u8) -> u8
-    ensures place { result ≡ place_in (letter ∷ []) known_names }
-    ensures small { result ≤ 8 }
-{
-    match letter {
-        b'x' => 0,
-        b'y' => 1,
-        b'z' => 2,
-        b'm' => 3,
-        _ => 8,
-    }
-}
-
-/// The place of a name, by a comparison with each.
-#[inline(never)]
-fn long_place(name: &str) -> u8
-    ensures place { result ≡ place_in name.now known_names }
-    ensures small { result ≤ 8 }
-{
     match name {
         "x" => 0,
         "y" => 1,
@@ -137,6 +109,7 @@ pub(crate) fn is_float64(data_type: &DataType) -> bool
 }
 
 /// A struct of these fields.
+#[inline(always)]
 pub(crate) fn struct_bottom(fields: &[Field]) -> Bottom
     ensures { IsStruct result (field_trees fields.now) }
 {
@@ -183,31 +156,40 @@ pub(crate) fn list_item(
     }
 }
 
-/// Goes down the levels from the one that was reached, to the third at most.
-#[tactic(auto, using(crate::proofs::Bottoms::level_more))]
-fn descend<'a>(width: Option<ListWidth>, levels: u8, data_type: &'a DataType) -> Below<'a>
-    requires { MatchOption width (levels ≡ 0) (λ w. (0 < levels) × (levels ≤ 3)) }
-    ensures over { (root : Tree) → AreLevels width levels root (tree data_type.now) → AreLevels result.width result.levels root (tree result.rest.now) }
-    ensures ended { Ended result.width result.levels (tree result.rest.now) }
-{
-    if levels < 3 {
-        if let Some((found, item)) = list_item(width, data_type) {
-            return descend(Some(found), levels + 1, item);
-        }
-    }
-    Below {
-        levels,
-        width,
-        rest: data_type,
-    }
-}
-
-/// Goes down the list levels of the outermost list's width.
+/// Goes down the list levels of the outermost list's width, to the third at most.
+#[inline(always)]
+#[tactic(auto, using(crate::proofs::Bottoms::level_more, crate::proofs::Bottoms::third_ended))]
 pub(crate) fn below_lists(data_type: &DataType) -> Below<'_>
     ensures levels { AreLevels result.width result.levels (tree data_type.now) (tree result.rest.now) }
     ensures ended { Ended result.width result.levels (tree result.rest.now) }
 {
-    descend(None, 0, data_type)
+    let mut below = Below {
+        levels: 0,
+        width: None,
+        rest: data_type,
+    };
+    while below.levels < 3 {
+        let Some((found, item)) = list_item(below.width, below.rest) else {
+            return below;
+        };
+        below = Below {
+            levels: below.levels + 1,
+            width: Some(found),
+            rest: item,
+        };
+    }
+    below
+}
+
+/// The summary of what is below these levels, by its bottom.
+macro_rules! summary_over {
+    ($below:ident, $bottom:expr) => {
+        Summary {
+            levels: $below.levels,
+            width: $below.width,
+            bottom: $bottom,
+        }
+    };
 }
 
 /// A list that is no further level.
@@ -221,6 +203,7 @@ fn list_bottom(width: Option<ListWidth>, found: ListWidth) -> Bottom
 }
 
 /// What stands below the levels, where a union is not entered.
+#[inline(always)]
 fn leaf_bottom(below: &Below<'_>) -> Bottom
     requires { Ended below.now.width below.now.levels (tree below.now.rest.now) }
     ensures { IsBottom IsNoLeaf below.now.width below.now.levels result (tree below.now.rest.now) }
@@ -298,11 +281,7 @@ pub(crate) fn leaf_summary(data_type: &DataType) -> Summary
     ensures { ShowsIn false result (tree data_type.now) }
 {
     let below = below_lists(data_type);
-    Summary {
-        levels: below.levels,
-        width: below.width,
-        bottom: leaf_bottom(&below),
-    }
+    summary_over!(below, leaf_bottom(&below))
 }
 
 /// A union below lists, whose members hold no union that anyone reads.
@@ -330,14 +309,11 @@ pub(crate) fn member_summary(collections: bool, data_type: &DataType) -> Summary
     ensures { ShowsIn collections result (tree data_type.now) }
 {
     let below = below_lists(data_type);
-    let bottom = match below.rest {
-        DataType::Union(members, _) if collections => inner_union(members.as_slice()),
-        _ => leaf_bottom(&below),
-    };
-    Summary {
-        levels: below.levels,
-        width: below.width,
-        bottom,
+    match below.rest {
+        DataType::Union(members, _) if collections => {
+            summary_over!(below, inner_union(members.as_slice()))
+        }
+        _ => summary_over!(below, leaf_bottom(&below)),
     }
 }
 
@@ -382,20 +358,12 @@ pub fn summarize(data_type: &DataType) -> Summary
     ensures { Summarizes result (tree data_type.now) }
 {
     let below = below_lists(data_type);
-    let bottom = match below.rest {
-        DataType::Union(members, _) => {
-            if below.levels == 0 {
-                root_union(members.as_slice())
-            } else {
-                inner_union(members.as_slice())
-            }
+    match below.rest {
+        DataType::Union(members, _) if below.levels == 0 => {
+            summary_over!(below, root_union(members.as_slice()))
         }
-        _ => leaf_bottom(&below),
-    };
-    Summary {
-        levels: below.levels,
-        width: below.width,
-        bottom,
+        DataType::Union(members, _) => summary_over!(below, inner_union(members.as_slice())),
+        _ => summary_over!(below, leaf_bottom(&below)),
     }
 }
 

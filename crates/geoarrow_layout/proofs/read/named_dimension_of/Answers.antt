@@ -1,0 +1,22 @@
+use Rattle.geoarrow_layout.proofs.Terms.{sym, ◌∙◌, subst, SeparatedFault, names_of, field_trees}
+use Rattle.geoarrow_layout.proofs.Inferences.{all_inferred, read_inferred, other_inferred, not_inferred}
+use Rattle.geoarrow_layout.proofs.read.named_dimension_of.Goals as goal
+
+pub returns-in-Ok : goal.returns-in-Ok
+returns-in-Ok c =
+    let s = c.in-Struct-default-default-true in
+    all_inferred _ _ (sym s.ensures.2 ∙ s.all_float64-test) (λ d. read_inferred _ c.in-Ok.dimension d (c.in-Ok.ensures _ s.ensures.0 s.ensures.1))
+
+pub returns-in-BadFieldNames : goal.returns-in-BadFieldNames
+returns-in-BadFieldNames c =
+    let s = c.in-Struct-default-default-true in
+    let ns = names_of (field_trees c.args.fields.now) in
+    let f = c.in-Err.ensures ns s.ensures.0 s.ensures.1 in
+    all_inferred _ _ (sym s.ensures.2 ∙ s.all_float64-test) (λ d. other_inferred ns f.0 (subst (λ x. SeparatedFault ns f.0 x) c.in-BadFieldNames.is f.1) d)
+
+pub returns-in_default-fault : goal.returns-in_default-fault
+returns-in_default-fault c =
+    let s = c.in-Struct-default-default-true in
+    let ns = names_of (field_trees c.args.fields.now) in
+    let f = c.in-Err.ensures ns s.ensures.0 s.ensures.1 in
+    all_inferred _ _ (sym s.ensures.2 ∙ s.all_float64-test) (λ d. not_inferred ns f.0 c.in-Err.fault c.in_default-fault.not-BadFieldNames f.1 d)
