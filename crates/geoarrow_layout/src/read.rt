@@ -175,14 +175,6 @@ pub fn parse_kind(name: ExtensionName, data_type: &DataType) -> Result<Kind, Lay
     ensures exact { YieldsOne result (Accepts (name_text name) (tree data_type.now)) }
     ensures fault { IfErr result (HasFault (FaultAt name (tree data_type.now))) }
 {
-    kind_read(name, data_type)
-}
-
-/// The kind, by the reader of the name.
-#[inline(always)]
-fn kind_read(name: ExtensionName, data_type: &DataType) -> Result<Kind, LayoutFault>
-    ensures { Tells result (Accepts (name_text name) (tree data_type.now)) (FaultAt name (tree data_type.now)) }
-{
     match name {
         ExtensionName::Wkb => Ok(Kind::Wkb(parse_wkb(data_type)?)),
         ExtensionName::Wkt => Ok(Kind::Wkt(parse_wkt(data_type)?)),
@@ -442,15 +434,6 @@ fn bottom_below(summary: &Summary, levels: u8) -> Result<&Bottom, LayoutFault>
     }
 }
 
-/// So many lists over a coordinate.
-#[inline(always)]
-fn leaf_under(summary: &Summary, levels: u8) -> Answer
-    requires { levels ≤ 3 }
-    ensures { (t : Tree) → ShowsIn false summary.now t → TellsBoth result (Under Leaf levels t) (LevelsFault CoordinateFault None levels t) }
-{
-    leaf(bottom_below(summary, levels)?)
-}
-
 /// The coordinate type of a union, from what was seen of its members.
 fn one_of_union(
     no_members: bool,
@@ -492,13 +475,6 @@ fn mixed_bottom(bottom: &Bottom) -> Answer
     }
 }
 
-/// A list over a union of members of one coordinate type and dimension.
-fn collection(summary: &Summary) -> Answer
-    ensures { (t : Tree) → ShowsIn true summary.now t → TellsBoth result (Collection t) (LevelsFault MixedFault None 1 t) }
-{
-    mixed_bottom(bottom_below(summary, 1)?)
-}
-
 /// A native kind; a collection only where collections are allowed.
 #[inline(always)]
 pub(crate) fn native(collections: bool, kind: NativeKind, summary: &Summary) -> Answer
@@ -507,12 +483,12 @@ pub(crate) fn native(collections: bool, kind: NativeKind, summary: &Summary) -> 
     match kind {
         NativeKind::GeometryCollection => {
             if collections {
-                collection(summary)
+                mixed_bottom(bottom_below(summary, 1)?)
             } else {
                 Err(LayoutFault::BadTypeId)
             }
         }
-        _ => leaf_under(summary, levels(kind)),
+        _ => leaf(bottom_below(summary, levels(kind))?),
     }
 }
 

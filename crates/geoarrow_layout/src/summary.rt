@@ -226,10 +226,7 @@ fn leaf_bottom(below: &Below<'_>) -> Bottom
 fn with_id(ids: u64, id: i8) -> u64
     ensures { AddsBits ids (λ i. (i < 64) × (id ≡ pos i)) result }
 {
-    if id < 0 {
-        return ids;
-    }
-    if 63 < id {
+    if id < 0 || 63 < id {
         return ids;
     }
     ids | 1 << id as u8

@@ -1,12 +1,30 @@
-use Rattle.geoarrow_layout.proofs.Terms.{[], refl}
+use Rattle.geoarrow_layout.proofs.Terms.{[], refl, arith, Leaf, Mixed, CoordinateFault, MixedFault, IsNoLeaf, IsNested}
+use Rattle.geoarrow_layout.proofs.Bottoms.{under_same, level_fault}
 use Rattle.geoarrow_layout.proofs.Parts.{over_leaf_answer}
+use Rattle.geoarrow_layout.proofs.UnionSteps.{nested_mixed, shows_of_inner}
+use Rattle.geoarrow_layout.proofs.Readings.{refused_as}
 use Rattle.geoarrow_layout.proofs.read.native.Goals as goal
 
-pub returns-then-collections : goal.returns-then-collections
-returns-then-collections c = rw (c.if-collections.true, c.in-GeometryCollection.is) c.collection.ensures
+pub returns-in_ok-bottom_below-in-GeometryCollection : goal.returns-in_ok-bottom_below-in-GeometryCollection
+returns-in_ok-bottom_below-in-GeometryCollection c =
+    let below = c.in_ok-bottom_below-in-GeometryCollection.ensures in
+    rw (c.if-collections.true, c.in-GeometryCollection.is) (under_same IsNested Mixed MixedFault c.args.summary.now 1 _ _ below.0 below.1 (λ u. nested_mixed _ _ u _ c.mixed_bottom.ensures))
+
+pub returns-in_err-bottom_below-in-GeometryCollection : goal.returns-in_err-bottom_below-in-GeometryCollection
+returns-in_err-bottom_below-in-GeometryCollection c = rw (c.if-collections.true, c.in-GeometryCollection.is) (λ t h. refused_as _ _ _ _ c.from_residual.ensures.1
+    (level_fault MixedFault (λ x t b m. ((refl, refl), (refl, refl))) c.args.summary.now 1 _ (omega arith) c.in_err-bottom_below-in-GeometryCollection.ensures t (shows_of_inner _ t h)))
 
 pub returns-else-collections : goal.returns-else-collections
 returns-else-collections c = rw (c.if-collections.false, c.in-GeometryCollection.is) (λ t h. ([], (refl, refl)))
 
-pub returns-in_default : goal.returns-in_default
-returns-in_default c = λ t h. over_leaf_answer c.args.collections c.args.kind c.levels.result c.args.summary.now t _ c.in_default.not-GeometryCollection c.levels.ensures.levels c.leaf_under.ensures h
+pub returns-in_ok-bottom_below-in_default : goal.returns-in_ok-bottom_below-in_default
+returns-in_ok-bottom_below-in_default c = λ t h.
+    let below = c.in_ok-bottom_below-in_default.ensures in
+    over_leaf_answer c.args.collections c.args.kind c.levels.result c.args.summary.now t _ c.in_default.not-GeometryCollection c.levels.ensures.levels
+    (under_same IsNoLeaf Leaf CoordinateFault c.args.summary.now c.levels.result _ _ below.0 below.1 (c.leaf.ensures _ _)) h
+
+pub returns-in_err-bottom_below-in_default : goal.returns-in_err-bottom_below-in_default
+returns-in_err-bottom_below-in_default c = λ t h.
+    over_leaf_answer c.args.collections c.args.kind c.levels.result c.args.summary.now t _ c.in_default.not-GeometryCollection c.levels.ensures.levels
+    (λ u k. refused_as _ _ _ _ c.from_residual-in_err-bottom_below-in_default.ensures.1
+    (level_fault CoordinateFault (λ x t b m. ((refl, refl), (refl, refl))) c.args.summary.now c.levels.result _ c.levels.ensures.few c.in_err-bottom_below-in_default.ensures u k)) h

@@ -1,0 +1,8 @@
+use Rattle.geoarrow_layout.proofs.KindSteps.{kind_exact}
+use Rattle.geoarrow_layout.proofs.Readings.{told_fault}
+use Rattle.geoarrow_layout.proofs.read.parse_kind.Goals as goal
+
+pub returns-in_default : goal.returns-in_default
+returns-in_default c =
+    let told = c.kind_under.ensures.told _ c.summarize.ensures in
+    record { exact = kind_exact c.args.name _ _ told; fault = told_fault _ _ _ told }
