@@ -8,7 +8,7 @@ ghost use Rattle.geoarrow_layout.specs.Shapes.{Yields, YieldsOne, Leaf, Under, N
 ghost use Rattle.geoarrow_layout.specs.Kinds.{name_text, extension_of, name_of};
 ghost use Rattle.geoarrow_layout.specs.FaultAt.{HasFault, BoxFault, MixedFault, NativeFault, GeometryFault, FaultAt, SeparatedFault, CoordinateFault, BoxNamesFault, LevelsFault};
 ghost use Rattle.arrow_values.specs.Tree.{Tree, Text, struct};
-ghost use Rattle.geoarrow_layout.specs.Summary.{AreOf, IsCoordFault, Summarizes, IsBits, SomeAt, IsBottom, IsUnion, Tells, IsNoLeaf, ShowsIn, NativeIn, NativeFaultIn, MemberIn, MemberFaultIn, TellsBoth, IsOtherFault, IsLevelFault, MixedSays, has_bit};
+ghost use Rattle.geoarrow_layout.specs.Summary.{AreOf, IsCoordFault, Summarizes, IsBits, SomeAt, IsBottom, IsUnion, Tells, IsNoLeaf, ShowsIn, NativeIn, NativeFaultIn, MemberIn, MemberFaultIn, TellsBoth, IsLevelFault, MixedSays, has_bit};
 ghost use Rattle.geoarrow_layout.specs.Candidates.{Holds, IsAccepted};
 ghost use Rattle.geoarrow_layout.specs.Inferred.{YieldsSome, Inferred, IsInferredAs, IsInferredSize, is_float64, are_float64};
 ghost use Rattle.geoarrow_layout.specs.declared.summary.ListWidth.{ListWidth};
@@ -492,18 +492,6 @@ pub(crate) fn native(collections: bool, kind: NativeKind, summary: &Summary) -> 
     }
 }
 
-/// What was read of a member, if it has the dimension that the type id says.
-#[inline(always)]
-fn of_dimension(dimension: Dimension, read: Answer) -> Answer
-    ensures { MatchResult result (λ x. (read ≡ Ok x) × (x.1 ≡ dimension)) (IsOtherFault read dimension) }
-{
-    match read {
-        Ok(pair) if pair.1 == dimension => Ok(pair),
-        Ok(_) => Err(LayoutFault::MemberDimension),
-        Err(fault) => Err(fault),
-    }
-}
-
 /// A member of a union of geometries, or, where collections are not allowed, of the union in a collection.
 pub(crate) fn member(collections: bool, id: i8, summary: &Summary) -> Answer
     ensures { (t : Tree) → ShowsIn collections summary.now t → TellsBoth result (MemberIn collections id t) (MemberFaultIn collections id t) }
@@ -511,7 +499,11 @@ pub(crate) fn member(collections: bool, id: i8, summary: &Summary) -> Answer
     let Some((kind, dimension)) = parts_of_id(id) else {
         return Err(LayoutFault::BadTypeId);
     };
-    of_dimension(dimension, native(collections, kind, summary))
+    match native(collections, kind, summary) {
+        Ok(pair) if pair.1 == dimension => Ok(pair),
+        Ok(_) => Err(LayoutFault::MemberDimension),
+        Err(fault) => Err(fault),
+    }
 }
 
 /// A union of members of one coordinate type and dimension.
