@@ -1,5 +1,5 @@
 -- `Alike` is an equivalence, and alike trees are of the same kinds.
-use Rattle.geoarrow_layout.proofs.Terms.{◌≡◌, inl, inr, ℤ, List, refl, sym, ◌∙◌, subst, ◌↔◌, ℕ, zero, suc, codes, ap, Text, Tree, plain, list, large_list, fixed_size_list, struct, union, MemberTrees, no_members, member, names_of, AllMembers, SomeMember, Leaf, IsSeparatedAs, ListsOver, levels_of, OverLeaf, Member, Mixed, HasMembers, Collection, Native, GeometryMember, IsBoxAs, Accepted, AlikeNames, Alike, EachHasAlike, HasAlike, CoordType, Interleaved, Separated, Dimension, XYZ, XYM, NativeKind, GeometryCollection, Kind, OfNative, OfGeometry, OfRect, OfWkb, OfWkt, ListWidth, Lists, LargeLists, HaveBoth, Narrow, Under}
+use Rattle.geoarrow_layout.proofs.Terms.{◌≡◌, inl, inr, ℤ, List, refl, sym, ◌∙◌, subst, ◌↔◌, ℕ, zero, suc, codes, ap, Text, Tree, plain, list, large_list, fixed_size_list, struct, union, MemberTrees, no_members, member, names_of, AllMembers, SomeMember, Leaf, IsSeparatedAs, ListsOver, levels_of, OverLeaf, Member, Mixed, HasMembers, Native, GeometryMember, IsBoxAs, Accepted, AlikeNames, Alike, EachHasAlike, HasAlike, CoordType, Interleaved, Separated, Dimension, XYZ, XYM, NativeKind, GeometryCollection, Kind, OfNative, OfGeometry, OfRect, OfWkb, OfWkt, ListWidth, Lists, LargeLists, HaveBoth, Narrow, Under}
 use Rattle.arrow_values.specs.Tree.{Plain}
 use Rattle.geoarrow_layout.specs.Shapes.{SameNames}
 use Rattle.geoarrow_layout.proofs.MemberLists.{all_map, all_some}
@@ -151,17 +151,13 @@ alike_mixed : (t u : Tree) (c : CoordType) (d : Dimension) → Alike t u → Mix
 alike_mixed (union ms mode) (union ns mode') c d h l = (alike_some ms ns h.0 l.0, alike_all (λ i t. Member i t c d) (member_shared c d) ms ns h.1 l.1)
 alike_mixed _ _ c d h l = search
 
-alike_collection : (t u : Tree) (c : CoordType) (d : Dimension) → Alike t u → Collection t c d → Collection u c d
-alike_collection = alike_below Mixed alike_mixed 1
-
-pub geometry_shared : (c : CoordType) → Shared (λ i t. (d : Dimension) × GeometryMember i t c d)
-geometry_shared c i t u h m =
-    (m.0, elim m.1 [ inl x ↦ inl (member_shared c m.0 i t u h x) | inr x ↦ inr (x.0, alike_collection t u c m.0 h x.1) ])
-
 -- kinds
 alike_native : (k : NativeKind) (t u : Tree) (c : CoordType) (d : Dimension) → Alike t u → Native t k c d → Native u k c d
-alike_native GeometryCollection t u c d h l = alike_collection t u c d h l
+alike_native GeometryCollection t u c d h l = alike_below Mixed alike_mixed 1 t u c d h l
 alike_native k t u c d h l = alike_over k t u c d h l
+
+pub geometry_shared : (c : CoordType) → Shared (λ i t. (d : Dimension) × GeometryMember i t c d)
+geometry_shared c i t u h m = (m.0, (m.1.0, m.1.1, alike_native m.1.0 t u c m.0 h m.1.2))
 
 -- only a plain data type is that of well-known binary or text, and it is alike to itself alone
 plain_same : (p : Plain) (t u : Tree) → Alike t u → t ≡ plain p → u ≡ plain p

@@ -211,16 +211,11 @@ pub native_apart : (k : NativeKind) → Apart (λ t. Native t k) (NativeFault k)
 native_apart GeometryCollection t c d p f h e = levels_apart Mixed MixedFault mixed_none None h.1.0 1 t h.0 c d p f (inl refl) h.1.1 h.2 e
 native_apart k t c d p f h e = over_leaf_apart k t c d p f h e
 
-as_native : (k : NativeKind) (t : Tree) (c : CoordType) (d : Dimension) → OverLeaf t k c d → Native t k c d
-as_native GeometryCollection t c d h = absurd h
-as_native k t c d h = h
-
 geometry_member_one : OneMember GeometryMemberFault
 geometry_member_one = part_one Native NativeFault native_one native_apart
 
 pub geometry_member_apart : ApartMember GeometryMember GeometryMemberFault
-geometry_member_apart i t c d p f (inl h) k = part_apart Native NativeFault native_first native_apart i t h.0 c d p f h.1 (as_native h.0 t c d h.2) k
-geometry_member_apart i t c d p f (inr h) k = part_apart Native NativeFault native_first native_apart i t GeometryCollection c d p f h.0 h.1 k
+geometry_member_apart i t c d p f h k = part_apart Native NativeFault native_first native_apart i t h.0 c d p f h.1 h.2 k
 
 -- the same where collections are allowed or not
 pub native_apart_in : (b : Bool) → ApartNative (NativeIn b) (NativeFaultIn b)

@@ -1,5 +1,5 @@
 -- The path to a fault, step by step.
-use Rattle.geoarrow_layout.proofs.Terms.{◌≡◌, ◌<◌, ◌≤◌, ◌+◌, inl, inr, Bool, true, false, is_err, Option, None, Some, MatchOption, MatchResult, ℕ, zero, suc, ℤ, pos, List, [], ◌∷◌, ◌++◌, length, take, Result, OnOk, get_or, refl, sym, ap, subst, ◌∙◌, arith, append_assoc, Ok, Err, Tree, list, large_list, union, FieldTree, MemberTrees, no_members, member, field_trees, member_trees, UnionMode, CoordType, Dimension, NativeKind, GeometryCollection, LayoutFault, ListWidth, Lists, LargeLists, type_id_of, levels_of, ListsOver, AllMembers, Member, GeometryMember, Path, Located, Faults, HasFault, InItem, CoordinateFault, OverLeafFault, NativeFault, PartFault, FirstFault, UnionFault, MemberFault, MixedFault, GeometryMemberFault, GeometryFault, LeadsTo, FirstOrNone, TellsBoth, field_at, member_at, Ended, IsWidth, LevelsFault, StaysHere}
+use Rattle.geoarrow_layout.proofs.Terms.{◌≡◌, ◌<◌, ◌≤◌, ◌+◌, inl, inr, Option, None, Some, MatchOption, MatchResult, ℕ, zero, suc, ℤ, pos, List, [], ◌∷◌, ◌++◌, length, take, Result, OnOk, get_or, refl, sym, ap, subst, ◌∙◌, arith, append_assoc, Ok, Err, Tree, list, large_list, union, FieldTree, MemberTrees, no_members, member, field_trees, member_trees, UnionMode, CoordType, Dimension, NativeKind, GeometryCollection, LayoutFault, ListWidth, Lists, LargeLists, type_id_of, levels_of, ListsOver, AllMembers, Member, GeometryMember, Path, Located, Faults, HasFault, InItem, CoordinateFault, OverLeafFault, NativeFault, PartFault, FirstFault, UnionFault, MemberFault, MixedFault, GeometryMemberFault, GeometryFault, LeadsTo, FirstOrNone, TellsBoth, field_at, member_at, Ended, IsWidth, LevelsFault, StaysHere}
 use Rattle.geoarrow_layout.proofs.Readings.{Answer, IsPartsOf, some_parts}
 use Rattle.geoarrow_layout.proofs.Parts.{no_parts}
 use Rattle.geoarrow_layout.proofs.MemberLists.{Items, all_map, all_both, one_more}
@@ -66,15 +66,6 @@ at_member R F apart xs k x before between after lt at all bad is h = λ p f e. e
   | inl first ↦ let r = first_at R F apart xs k x bad.0 lt at all bad.1 p f first in step_down (F x.0 x.1.tree) before after k r.0 f (subst (λ b. LeadsTo (F x.0 x.1.tree) b after) is h) r.2 ∙ ap (λ q. before ++ q) (sym r.1)
   | inr none ↦ let read = all_at (Read R) xs k x lt at none.0 in absurd (apart x.0 x.1.tree read.0 read.1 bad.1.0 bad.0 read.2 bad.1.1)
 ]
-
--- what an answer that is none, or is one, says
-pub told_err : (r : Answer) (R : CoordType → Dimension → Type 0) (F : Located) (b : Bool) → b ≡ is_err r → b ≡ true → TellsBoth r R F → (g : LayoutFault) × HasFault F g
-told_err (Ok x) R F b is e h = let bad : true ≡ false = sym e ∙ is in cc
-told_err (Err f) R F b is e h = (f, h)
-
-pub told_read : (r : Answer) (R : CoordType → Dimension → Type 0) (F : Located) (b : Bool) → b ≡ is_err r → b ≡ false → TellsBoth r R F → (c : CoordType) × (d : Dimension) × R c d
-told_read (Ok x) R F b is e h = (x.0, x.1, h)
-told_read (Err f) R F b is e h = let bad : false ≡ true = sym e ∙ is in cc
 
 pub read_more : (R : MemberReads) (xs : Items) (k : ℕ) (x : ℤ × FieldTree) → k < length xs → x ≡ get_or xs k x → Read R x.0 x.1.tree → AllMembers (Read R) (member_trees (take k xs)) → AllMembers (Read R) (member_trees (take (k + 1) xs))
 read_more R xs k x lt at read before = subst (λ ys. AllMembers (Read R) (member_trees ys)) (sym (one_more xs k x lt at)) ((all_both (Read R) (take k xs) (x ∷ [])).1 (before, (read, tt)))

@@ -1,10 +1,10 @@
 -- Ids and members: each is read in one way.
-use Rattle.geoarrow_layout.proofs.Terms.{◌≡◌, ◌≢◌, inl, inr, ℕ, ℤ, pos, Bool, true, false, Option, None, some_pair_parts, Ok, Err, MatchResult, refl, sym, ap, subst, ◌∙◌, [], Tree, CoordType, Dimension, LayoutFault, BadTypeId, NativeKind, GeometryCollection, type_id_of, levels_of, OverLeaf, Member, GeometryMember, Native, Leaf, Under, Path, Faults, HasFault, MemberFault, CoordinateFault, LevelsFault, PartFault, OverLeafFault, NativeFault, GeometryMemberFault, TellsBoth, Summary, IsOtherFault, ShowsIn, NativeIn, NativeFaultIn, MemberIn, MemberFaultIn}
+use Rattle.geoarrow_layout.proofs.Terms.{◌≡◌, ◌≢◌, inl, inr, ℕ, ℤ, pos, Bool, true, false, Option, None, some_pair_parts, Ok, Err, MatchResult, refl, sym, ap, subst, ◌∙◌, [], Tree, CoordType, Dimension, LayoutFault, BadTypeId, NativeKind, GeometryCollection, type_id_of, levels_of, OverLeaf, Member, GeometryMember, Native, Leaf, Under, Path, Faults, HasFault, MemberFault, CoordinateFault, LevelsFault, PartFault, OverLeafFault, NativeFault, GeometryMemberFault, TellsBoth, Summary, IsOtherFault, ShowsIn, NativeIn, NativeFaultIn}
 use Rattle.geoarrow_layout.proofs.UnionSteps.{shows_of_inner}
 use Rattle.geoarrow_layout.proofs.Readings.{Answer, IsPartsOf, some_parts, refused}
 use Rattle.geoarrow_layout.proofs.FaultLaws.{KindReads, KindFault}
 
-abbrev pub Part : KindReads → ℤ → Tree → CoordType → Dimension → Type 0
+abbrev Part : KindReads → ℤ → Tree → CoordType → Dimension → Type 0
 Part N i t c d = (k : NativeKind) × (i ≡ pos (type_id_of k d)) × N t k c d
 
 abbrev pub no_parts : Option (NativeKind × Dimension)
@@ -22,16 +22,6 @@ part_answer N F i z t k d read (Err f) is parts (inr e) a =
 pub part_unknown : (N : KindReads) (F : NativeKind → Faults) (i z : ℤ) (t : Tree) → z ≡ i → IsPartsOf z no_parts → TellsBoth (refused BadTypeId) (Part N i t) (PartFault N F i t)
 part_unknown N F i z t is parts = ([], inl ((λ k d id. let bad : no_parts ≡ some_parts k d = (parts k d).1 (is ∙ id) in cc), (refl, refl)))
 
--- a member of a geometry
-pub to_part : (k : NativeKind) (i : ℤ) (t : Tree) (c : CoordType) (d : Dimension) → i ≡ pos (type_id_of k d) → Native t k c d → GeometryMember i t c d
-to_part GeometryCollection i t c d id h = inr (id, h)
-to_part k i t c d id h = inl (k, id, h)
-
-pub member_answer : (b : Bool) (r : Answer) (i : ℤ) (t : Tree) → TellsBoth r (Part (NativeIn b) i t) (PartFault (NativeIn b) (NativeFaultIn b) i t) → TellsBoth r (MemberIn b i t) (MemberFaultIn b i t)
-member_answer true (Ok x) i t h = to_part h.0 i t x.0 x.1 h.1 h.2
-member_answer false (Ok x) i t h = h
-member_answer b (Err f) i t h = h
-
 -- the lists of a kind other than a collection
 pub over_leaf_answer : (b : Bool) (k : NativeKind) (n : ℕ) (s : Summary) (t : Tree) (r : Answer) → (k ≢ GeometryCollection) → n ≡ levels_of k → ((u : Tree) → ShowsIn false s u → TellsBoth r (Under Leaf n u) (LevelsFault CoordinateFault None n u)) → ShowsIn b s t → TellsBoth r (NativeIn b t k) (NativeFaultIn b k t)
 over_leaf_answer b GeometryCollection n s t r other same says shown = absurd (other refl)
@@ -39,13 +29,16 @@ over_leaf_answer true k n s t r other same says shown = subst (λ m. TellsBoth r
 over_leaf_answer false k n s t r other same says shown = subst (λ m. TellsBoth r (Under Leaf m t) (LevelsFault CoordinateFault None m t)) same (says t shown)
 
 -- a member of a geometry that is no collection is the same in a collection
+over_leaf : (k : NativeKind) (t : Tree) (c : CoordType) (d : Dimension) → (k ≡ GeometryCollection → ⊥) → Native t k c d → OverLeaf t k c d
+over_leaf GeometryCollection t c d other h = absurd (other refl)
+over_leaf k t c d other h = h
+
 kind_fault_same : (k : NativeKind) (d : Dimension) (t : Tree) (p : Path) (f : LayoutFault) → (k ≡ GeometryCollection → ⊥) → KindFault Native NativeFault k d t p f → KindFault OverLeaf OverLeafFault k d t p f
 kind_fault_same GeometryCollection d t p f other h = absurd (other refl)
 kind_fault_same k d t p f other h = h
 
 pub no_collection : (i z : ℤ) (t : Tree) (r : Option (NativeKind × Dimension)) (part : Answer) → z ≡ i → IsPartsOf z r → ((d : Dimension) → r ≡ some_parts GeometryCollection d → ⊥) → TellsBoth part (GeometryMember i t) (GeometryMemberFault i t) → TellsBoth part (Member i t) (MemberFault i t)
-no_collection i z t r (Ok x) is parts other (inl m) = m
-no_collection i z t r (Ok x) is parts other (inr m) = absurd (other x.1 ((parts GeometryCollection x.1).1 (is ∙ m.0)))
+no_collection i z t r (Ok x) is parts other m = (m.0, m.1, over_leaf m.0 t x.0 x.1 (λ k. other x.1 ((parts m.0 x.1).1 (is ∙ m.1) ∙ ap (λ y. some_parts y x.1) k)) m.2)
 no_collection i z t r (Err f) is parts other (p, inl e) = (p, inl e)
 no_collection i z t r (Err f) is parts other (p, inr e) = (p, inr (e.0, e.1, e.2, kind_fault_same e.0 e.1 t p f (λ k. other e.1 ((parts e.0 e.1).1 (is ∙ e.2) ∙ ap (λ x. some_parts x e.1) k)) e.3))
 

@@ -1,5 +1,5 @@
 -- What was seen of members says what the union is.
-use Rattle.geoarrow_layout.proofs.Terms.{ShowsIn, ◌≡◌, ◌≢◌, ◌↔◌, ◌<◌, ◌+◌, ◌^◌, ◌⊎◌, inl, inr, ℕ, zero, suc, ℤ, pos, Result, Ok, Err, Option, Some, None, MatchOption, MatchResult, Bool, true, false, [], ◌∷◌, ◌++◌, take, length, get_or, refl, sym, ap, subst, ◌∙◌, arith, nat_eq, bit_at, eqb-suc-zero, cases_eq, same_from_bits, bit_at-pow_same, bit_at-pow_other, bit_at-lt, Tree, union, FieldTree, MemberTrees, no_members, member, member_trees, CoordType, Interleaved, Dimension, LayoutFault, ListWidth, Bottom, Union, Summary, order_of, Mixed, Geometry, Member, GeometryMember, AllMembers, SomeMember, HasMembers, Yields, Path, Faults, HasFault, FirstFault, UnionFault, MemberFault, MixedFault, GeometryMemberFault, GeometryFault, IsFaultOf, Seen, place_of, AreLevels, IsBottom, IsUnion, SummarizesBy, Summarizes, ReadAt, Tells, TellsBoth, IsNested, IsNoLeaf, ReadsFirst, coords_in, member_first, geometry_member_first, DimensionsFault, IsBits, AddsBits, first_fault, AreOf, IsCoordFault, MixedSays, IsRootUnion, IsInnerUnion, IsLevelFault}
+use Rattle.geoarrow_layout.proofs.Terms.{ShowsIn, ◌≡◌, ◌≢◌, ◌↔◌, ◌<◌, ◌+◌, ◌^◌, ◌⊎◌, inl, inr, ℕ, zero, suc, ℤ, pos, Result, Ok, Err, Option, Some, None, MatchOption, MatchResult, Bool, true, false, [], ◌∷◌, ◌++◌, take, length, get_or, refl, sym, ap, subst, ◌∙◌, arith, nat_eq, bit_at, eqb-suc-zero, cases_eq, same_from_bits, bit_at-pow_same, bit_at-pow_other, bit_at-lt, Tree, union, FieldTree, MemberTrees, no_members, member, member_trees, CoordType, Interleaved, Dimension, LayoutFault, ListWidth, Bottom, Union, Summary, order_of, Mixed, Geometry, Member, GeometryMember, OverLeaf, Native, NativeKind, GeometryCollection, AllMembers, SomeMember, HasMembers, Yields, Path, Faults, HasFault, FirstFault, UnionFault, MemberFault, MixedFault, GeometryMemberFault, GeometryFault, IsFaultOf, Seen, place_of, AreLevels, IsBottom, IsUnion, SummarizesBy, Summarizes, ReadAt, Tells, TellsBoth, IsNested, IsNoLeaf, ReadsFirst, coords_in, member_first, geometry_member_first, DimensionsFault, IsBits, AddsBits, first_fault, AreOf, IsCoordFault, MixedSays, IsRootUnion, IsInnerUnion, IsLevelFault}
 use Rattle.geoarrow_layout.proofs.Readings.{Answer, exactly}
 use Rattle.geoarrow_layout.proofs.MemberLists.{Items, all_map, all_inside, all_some, first_some, all_both, some_more, one_more}
 use Rattle.geoarrow_layout.proofs.FaultLaws.{Read, ApartMember, MemberReads, order_same}
@@ -126,8 +126,12 @@ inner_seen : (b : Bottom) (ms : MemberTrees) → IsInnerUnion b ms → SeenMixed
 inner_seen (Union empty ids coords dims fault geometry) ms h = (h.0, h.1.coord_bits, h.1.dimension_bits, h.1.fault_found)
 inner_seen _ ms h = absurd h
 
+as_native : (k : NativeKind) (t : Tree) (c : CoordType) (d : Dimension) → OverLeaf t k c d → Native t k c d
+as_native GeometryCollection t c d h = absurd h
+as_native k t c d h = h
+
 pub root_mixed : (w : Option ListWidth) (b : Bottom) (u : Tree) (r : Answer) → MixedSays b r → IsBottom IsUnion w 0 b u → TellsBoth r (Mixed u) (MixedFault u)
-root_mixed = mixed_at GeometryMember geometry_member_first (λ i t c d m. inl m) IsUnion 0 root_seen
+root_mixed = mixed_at GeometryMember geometry_member_first (λ i t c d m. (m.0, m.1, as_native m.0 t c d m.2)) IsUnion 0 root_seen
 
 pub nested_mixed : (w : Option ListWidth) (b : Bottom) (u : Tree) (r : Answer) → MixedSays b r → IsBottom IsNested w 1 b u → TellsBoth r (Mixed u) (MixedFault u)
 nested_mixed = mixed_at Member member_first (λ i t c d m. m) IsNested 1 inner_seen

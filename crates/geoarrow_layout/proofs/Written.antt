@@ -2,7 +2,6 @@
 use Rattle.geoarrow_layout.proofs.Terms.{◌≡◌, [], ◌∷◌, ◌++◌, true, false, refl, sym, subst, member_trees, CoordType, Interleaved, Separated, Dimension, XY, XYZ, XYM, XYZM, Lists, NativeKind, Point, LineString, Polygon, MultiPoint, MultiLineString, MultiPolygon, GeometryCollection, Plain, Kind, OfNative, OfGeometry, OfRect, OfWkb, OfWkt, Leaf, levels_of, Member, AllMembers, GeometryMember, Native, BoxShape, Accepted, Under, leaf_layout, member_layout, mixed_members, native_layout, geometry_members, layout, HasTypeIds, over_leaf_layout, mixed_layout, dimension_members, IsWritten, IsWrittenSome, cond, List, codes, ◌∙◌, ap, bytes_eq, Text, Tree, plain, list, struct, union, ExtensionName, extension_of, names_of}
 use Rattle.geoarrow_layout.specs.Shapes.{SameNames}
 use Rattle.geoarrow_layout.proofs.MemberLists.{all_map, all_both}
-use Rattle.geoarrow_layout.proofs.Parts.{to_part}
 use Rattle.geoarrow_layout.specs.declared.names.ExtensionName.TheVariants as names
 use Rattle.geoarrow_layout.proofs.KindSteps.{same_kind}
 use Rattle.geoarrow_layout.proofs.NamesSteps.{plain_name}
@@ -56,7 +55,7 @@ written (OfNative k c d) = written_native k c d
 written (OfGeometry c) = (
   tt,
   all_map (IsWrittenSome c) (λ i t. (d : Dimension) × GeometryMember i t c d)
-      (λ i t w. (w.0, to_part w.1.0 i t c w.0 w.1.1 (subst (λ u. Native u w.1.0 c w.0) (sym w.1.2) (written_native w.1.0 c w.0)))) (member_trees (geometry_members c)) (geometry_written c),
+      (λ i t w. (w.0, (w.1.0, w.1.1, subst (λ u. Native u w.1.0 c w.0) (sym w.1.2) (written_native w.1.0 c w.0)))) (member_trees (geometry_members c)) (geometry_written c),
 )
 written (OfRect d) = written_box d
 written (OfWkb Plain) = refl

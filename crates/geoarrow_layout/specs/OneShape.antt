@@ -1,6 +1,6 @@
 -- Laws of `Shapes`: a data type of a kind has one coordinate type and one dimension, those of its first coordinate.
 use Rattle.std.specs.Prelude.{◌≡◌}
-use Rattle.geoarrow_layout.specs.Words.{inl, inr, refl, sym, ap, ◌∙◌, arith, ℕ, zero, suc, ℤ, nat_eq, List, length, codes, cond, bytes_eq, CoordType, Interleaved, Separated, Dimension, XY, XYZ, XYM, XYZM, NativeKind, GeometryCollection, ListWidth, Lists, LargeLists}
+use Rattle.geoarrow_layout.specs.Words.{refl, sym, ap, ◌∙◌, arith, ℕ, zero, suc, ℤ, nat_eq, List, length, codes, cond, bytes_eq, CoordType, Interleaved, Separated, Dimension, XY, XYZ, XYM, XYZM, NativeKind, GeometryCollection, ListWidth, Lists, LargeLists}
 use Rattle.arrow_values.specs.Tree.{Text, Tree, plain, list, large_list, fixed_size_list, struct, union, MemberTrees, no_members, member}
 use Rattle.geoarrow_layout.specs.Kinds.{interleaved_name}
 use Rattle.geoarrow_layout.specs.Shapes.{SameNames, has_name, names_of, IsSeparatedAs, Leaf, ListsOver, Under, levels_of, OverLeaf, Member, Mixed, Native, GeometryMember, Geometry, IsBoxAs, BoxShape}
@@ -72,8 +72,7 @@ native_first GeometryCollection t c d h = under_first Mixed mixed_first 1 t c d 
 native_first k t c d h = over_leaf_first k t c d h
 
 pub geometry_member_first : (i : ℤ) → ReadsFirst (GeometryMember i)
-geometry_member_first i t c d (inl h) = member_first i t c d h
-geometry_member_first i t c d (inr h) = native_first GeometryCollection t c d h.1
+geometry_member_first i t c d h = native_first h.0 t c d h.2
 
 pub geometry_first : (t : Tree) (c : CoordType) → Geometry t c → (coords_in t).0 ≡ c
 geometry_first (union no_members mode) c h = absurd h.0

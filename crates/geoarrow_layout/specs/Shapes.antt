@@ -97,9 +97,9 @@ abbrev pub Native : Tree → NativeKind → CoordType → Dimension → Type 0
 Native t GeometryCollection c d = Collection t c d
 Native t k c d = OverLeaf t k c d
 
--- a member of a geometry: a member of a collection, or a collection
+-- a member of a geometry: the same, of any native kind, collections among them
 abbrev pub GeometryMember : ℤ → Tree → CoordType → Dimension → Type 0
-GeometryMember i t c d = Member i t c d ⊎ ((i ≡ pos (type_id_of GeometryCollection d)) × Collection t c d)
+GeometryMember i t c d = (k : NativeKind) × (i ≡ pos (type_id_of k d)) × Native t k c d
 
 -- the data type is a geometry: a union of at least one member, all of one coordinate type
 abbrev pub Geometry : Tree → CoordType → Type 0

@@ -2,7 +2,7 @@
 use Rattle.std.specs.Prelude.{◌≤◌, ◌≡◌, ◌↔◌, ◌<◌, ◌⊎◌, ◌∷◌, ◌≢◌, ◌^◌, ◌++◌}
 use Rattle.geoarrow_layout.specs.Words.{ℕ, zero, suc, ℤ, pos, false, cond, Option, Some, None, MatchOption, List, [], length, codes, bit_at, bytes_eq, CoordType, Interleaved, Separated, Dimension, LayoutFault, UnexpectedType, ListWidth, Lists, LargeLists, Bottom, FixedSizeList, Struct, Union, OtherWidth, Deep, Other, Summary, nat_eq, Bool, true, Result, Ok, Err, MatchResult, MixedWidths, MemberDimension, EmptyUnion, SeveralCoordTypes, SeveralDimensions, NativeKind}
 use Rattle.arrow_values.specs.Tree.{Text, Tree, plain, list, large_list, fixed_size_list, struct, union, FieldTrees, MemberTrees}
-use Rattle.geoarrow_layout.specs.Kinds.{interleaved_name, order_of}
+use Rattle.geoarrow_layout.specs.Kinds.{interleaved_name, order_of, type_id_of}
 use Rattle.geoarrow_layout.specs.Shapes.{names_of, ListsOver, Member, GeometryMember, HasMembers, AllMembers, SomeMember, OverLeaf, Native}
 use Rattle.geoarrow_layout.specs.Inferred.{is_float64, are_float64}
 use Rattle.geoarrow_layout.specs.FaultAt.{Faults, HasFault, FirstFault, MemberFault, GeometryMemberFault, Path, Located, OverLeafFault, PartFault, NativeFault}
@@ -152,8 +152,7 @@ NativeFaultIn true = NativeFault
 NativeFaultIn false = OverLeafFault
 
 abbrev pub MemberIn : Bool → ℤ → Tree → CoordType → Dimension → Type 0
-MemberIn true = GeometryMember
-MemberIn false = Member
+MemberIn b i t c d = (k : NativeKind) × (i ≡ pos (type_id_of k d)) × NativeIn b t k c d
 
 abbrev pub MemberFaultIn : Bool → ℤ → Faults
 MemberFaultIn b i t p f = PartFault (NativeIn b) (NativeFaultIn b) i t p f

@@ -179,8 +179,7 @@ fn push_place<'a>(
     for place in 0..members.len() {
         let item = &members[place];
         let below = member_summary(collections, item.1.data_type());
-        let read = member(collections, item.0, &below);
-        if read.is_err() {
+        if let Err(_) = member(collections, item.0, &below) {
             path.push(place)?;
             return Ok(inside(collections, item.0, item.1.data_type()));
         }

@@ -1,30 +1,30 @@
-use Rattle.geoarrow_layout.proofs.Terms.{◌≡◌, ◌∙◌, sym, ap, ◌++◌, ◌∷◌, [], subst, rules, w8, to_z, of_z, to_z-of_z, take_all, member_trees, TellsBoth, LeadsTo, FirstOrNone, ShowsIn, MemberIn, MemberFaultIn}
+use Rattle.geoarrow_layout.proofs.Terms.{◌≡◌, ◌∙◌, sym, ap, ◌++◌, ◌∷◌, [], subst, rules, w8, to_z, of_z, to_z-of_z, take_all, member_trees, HasFault, LeadsTo, FirstOrNone, ShowsIn, MemberIn, MemberFaultIn}
 use Rattle.geoarrow_layout.proofs.FaultLaws.{member_apart_in}
-use Rattle.geoarrow_layout.proofs.FaultPaths.{goes_on, at_member, told_err, told_read, read_more, at_no_member}
+use Rattle.geoarrow_layout.proofs.FaultPaths.{goes_on, at_member, read_more, at_no_member}
 use Rattle.geoarrow_layout.proofs.find.push_place.Goals as goal
 
-pub returns-then-is_err : goal.returns-then-is_err
-returns-then-is_err c =
+pub returns-in-Err : goal.returns-in-Err
+returns-in-Err c =
     let b = c.args.collections in
     let x = c.index-members-place.result in
     let id_is : to_z w8 (of_z w8 x.0) ≡ x.0 = search (rules, to_z-of_z) in
     let shown = subst (λ u. ShowsIn b c.member_summary-below.result u) c.data_type.ensures c.member_summary-below.ensures in
-    let told = subst (λ i. TellsBoth c.member-read.result (MemberIn b i x.1.tree) (MemberFaultIn b i x.1.tree)) id_is (c.member-read.ensures x.1.tree shown) in
-    let bad = told_err c.member-read.result (MemberIn b x.0 x.1.tree) (MemberFaultIn b x.0 x.1.tree) _ c.is_err.ensures.value c.if-is_err.true told in
+    let bad = subst (λ i. HasFault (MemberFaultIn b i x.1.tree) c.in-Err.field-0) id_is (c.in-Err.ensures x.1.tree shown) in
     goes_on c.inside.result _ (MemberFaultIn b x.0 x.1.tree) _ _ _
-    (λ end leads. at_member (MemberIn b) (MemberFaultIn b) (member_apart_in b) c.args.members.now c.loop-place.place x c.args.path.now.items c.push.new.self.items end c.loop-place-test.true c.index-members-place.is c.loop-place.invariant.read bad
+    (λ end leads. at_member (MemberIn b) (MemberFaultIn b) (member_apart_in b) c.args.members.now c.loop-place.place x c.args.path.now.items c.push.new.self.items end c.loop-place-test.true c.index-members-place.is c.loop-place.invariant.read (c.in-Err.field-0, bad)
     (c.in_ok-push.ensures.items ∙ ap (λ p. p ++ (c.loop-place.place ∷ [])) c.loop-place.invariant.same) leads)
-    (rw (← id_is, ← c.data_type-then-is_err.ensures) c.inside.ensures)
+    (rw (← id_is, ← c.data_type-in-Err.ensures) c.inside.ensures)
 
 pub loop-place-preserved : goal.loop-place-preserved
 loop-place-preserved c =
     let b = c.args.collections in
     let x = c.index-members-place.result in
+    let y = c.in_default.field-0 in
     let id_is : to_z w8 (of_z w8 x.0) ≡ x.0 = search (rules, to_z-of_z) in
     let shown = subst (λ u. ShowsIn b c.member_summary-below.result u) c.data_type.ensures c.member_summary-below.ensures in
-    let told = subst (λ i. TellsBoth c.member-read.result (MemberIn b i x.1.tree) (MemberFaultIn b i x.1.tree)) id_is (c.member-read.ensures x.1.tree shown) in
+    let read = subst (λ i. MemberIn b i x.1.tree y.0 y.1) id_is (c.in_default.ensures x.1.tree shown) in
     record {
-      read = read_more (MemberIn b) c.args.members.now c.loop-place.place x c.loop-place-test.true c.index-members-place.is (told_read c.member-read.result (MemberIn b x.0 x.1.tree) (MemberFaultIn b x.0 x.1.tree) _ c.is_err.ensures.value c.if-is_err.false told) c.loop-place.invariant.read;
+      read = read_more (MemberIn b) c.args.members.now c.loop-place.place x c.loop-place-test.true c.index-members-place.is (y.0, y.1, read) c.loop-place.invariant.read;
       same = c.loop-place.invariant.same;
     }
 
