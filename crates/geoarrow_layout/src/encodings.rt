@@ -184,9 +184,7 @@ pub(crate) fn parts_of_id(id: i8) -> Option<(NativeKind, Dimension)>
         return None;
     }
     let number = id as u8;
-    let dimension = dimension_at(number / 10)?;
-    let kind = kind_at(number % 10)?;
-    Some((kind, dimension))
+    Some((kind_at(number % 10)?, dimension_at(number / 10)?))
 }
 
 /// The type id of a native kind in a dimension.

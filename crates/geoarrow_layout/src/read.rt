@@ -89,12 +89,12 @@ pub fn parse_multipolygon(data_type: &DataType) -> Result<(CoordType, Dimension)
 /// Reads the union in a collection (GeoArrow, "GeometryCollection"): a union of at least one member, where each member
 /// is of the kind and the dimension that its type id says, no collection among them, and all are of one coordinate type
 /// and dimension. Errs on any other data type. Allocates nothing.
-#[tactic(auto, using(crate::proofs::KindSteps::mixed_exact, crate::proofs::Readings::told_fault))]
 pub fn parse_mixed(data_type: &DataType) -> Result<(CoordType, Dimension), LayoutFault>
     ensures exact { Yields result (Mixed (tree data_type.now)) }
     ensures fault { IfErr result (HasFault (MixedFault (tree data_type.now))) }
 {
-    mixed(data_type)
+    let summary = summarize(data_type);
+    mixed_bottom(bottom_below(&summary, 0)?)
 }
 
 /// Reads a collection (GeoArrow, "GeometryCollection"): one list, of either width, over a union as `parse_mixed` reads.
@@ -504,14 +504,6 @@ pub(crate) fn member(collections: bool, id: i8, summary: &Summary) -> Answer
         Ok(_) => Err(LayoutFault::MemberDimension),
         Err(fault) => Err(fault),
     }
-}
-
-/// A union of members of one coordinate type and dimension.
-fn mixed(data_type: &DataType) -> Answer
-    ensures { TellsBoth result (Mixed (tree data_type.now)) (MixedFault (tree data_type.now)) }
-{
-    let summary = summarize(data_type);
-    mixed_bottom(bottom_below(&summary, 0)?)
 }
 
 /// A union of members of one coordinate type.

@@ -282,7 +282,6 @@ pub(crate) fn leaf_summary(data_type: &DataType) -> Summary
 }
 
 /// A union below lists, whose members hold no union that anyone reads.
-#[inline(never)]
 fn inner_union(members: &[(i8, Field)]) -> Bottom
     ensures { IsInnerUnion result (member_trees members.now) }
 {
@@ -329,7 +328,6 @@ fn in_collection(id: i8, part: Answer) -> Answer
 }
 
 /// A union that is the whole data type.
-#[inline(never)]
 fn root_union(members: &[(i8, Field)]) -> Bottom
     ensures { IsRootUnion result (member_trees members.now) }
 {
