@@ -55,10 +55,7 @@ pub fn child_field(data_type: &DataType, place: usize) -> Option<&Field>
             if place == 0 { Some(item) } else { None }
         }
         DataType::Struct(fields) => fields.as_slice().get(place),
-        DataType::Union(members, _) => match members.as_slice().get(place) {
-            Some(member) => Some(&member.1),
-            None => None,
-        },
+        DataType::Union(members, _) => Some(&members.as_slice().get(place)?.1),
         _ => None,
     }
 }

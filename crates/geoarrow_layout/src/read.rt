@@ -340,11 +340,7 @@ fn struct_dimension(fields: &[Field]) -> Option<Dimension>
     let [first, second] = fields else {
         return named_dimension_of(fields);
     };
-    if is_float64(first.data_type()) && is_float64(second.data_type()) {
-        Some(Dimension::XY)
-    } else {
-        None
-    }
+    (is_float64(first.data_type()) && is_float64(second.data_type())).then_some(Dimension::XY)
 }
 
 /// The dimension that is inferred from a struct of these fields, by their names.
@@ -376,18 +372,10 @@ fn separated_dimension(count: usize, names: u16) -> Result<Dimension, LayoutFaul
 {
     match count {
         2 => Ok(Dimension::XY),
-        3 => {
-            if !has_both(names, 0, 1) {
-                return Err(LayoutFault::BadFieldNames);
-            }
-            if has_bit(names, 3) {
-                Ok(Dimension::XYM)
-            } else if has_bit(names, 2) {
-                Ok(Dimension::XYZ)
-            } else {
-                Err(LayoutFault::BadFieldNames)
-            }
-        }
+        3 if !has_both(names, 0, 1) => Err(LayoutFault::BadFieldNames),
+        3 if has_bit(names, 3) => Ok(Dimension::XYM),
+        3 if has_bit(names, 2) => Ok(Dimension::XYZ),
+        3 => Err(LayoutFault::BadFieldNames),
         4 => Ok(Dimension::XYZM),
         _ => Err(LayoutFault::BadFieldCount),
     }
@@ -399,16 +387,13 @@ fn leaf(bottom: &Bottom) -> Answer
     ensures { (w : Option ListWidth) (levels : ℕ) (u : Tree) → IsBottom IsNoLeaf w levels bottom.now u → TellsBoth result (Leaf u) (CoordinateFault u) }
 {
     match bottom {
-        Bottom::FixedSizeList { named, size, .. } => {
-            let Some(dimension) = named else {
-                return Err(LayoutFault::BadInterleavedName);
-            };
-            if *size == list_size(*dimension) {
+        Bottom::FixedSizeList { named, size, .. } => match named {
+            Some(dimension) if *size == list_size(*dimension) => {
                 Ok((CoordType::Interleaved, *dimension))
-            } else {
-                Err(LayoutFault::BadSize)
             }
-        }
+            Some(_) => Err(LayoutFault::BadSize),
+            None => Err(LayoutFault::BadInterleavedName),
+        },
         Bottom::Struct { count, names, .. } => {
             let dimension = separated_dimension(*count, *names)?;
             Ok((CoordType::Separated, dimension))
@@ -422,14 +407,9 @@ fn leaf(bottom: &Bottom) -> Answer
 fn bottom_below(summary: &Summary, levels: u8) -> Result<&Bottom, LayoutFault>
     ensures { MatchResult result (λ b. (summary.now.levels ≡ levels) × (b.now ≡ summary.now.bottom)) (IsLevelFault summary.now levels) }
 {
-    if levels < summary.levels {
-        return Err(LayoutFault::UnexpectedType);
-    }
-    if levels == summary.levels {
-        return Ok(&summary.bottom);
-    }
     match summary.bottom {
-        Bottom::OtherWidth => Err(LayoutFault::MixedWidths),
+        _ if levels == summary.levels => Ok(&summary.bottom),
+        Bottom::OtherWidth if summary.levels < levels => Err(LayoutFault::MixedWidths),
         _ => Err(LayoutFault::UnexpectedType),
     }
 }
@@ -448,10 +428,7 @@ fn one_of_union(
     if let Some(fault) = fault {
         return Err(fault);
     }
-    match only_coord_type(coord_types) {
-        Some(coord_type) => Ok(coord_type),
-        None => Err(LayoutFault::SeveralCoordTypes),
-    }
+    only_coord_type(coord_types).ok_or(LayoutFault::SeveralCoordTypes)
 }
 
 /// The coordinate type and dimension of a union in a collection, from what was seen of its members.
@@ -481,13 +458,8 @@ pub(crate) fn native(collections: bool, kind: NativeKind, summary: &Summary) -> 
     ensures { (t : Tree) → ShowsIn collections summary.now t → TellsBoth result (NativeIn collections t kind) (NativeFaultIn collections kind t) }
 {
     match kind {
-        NativeKind::GeometryCollection => {
-            if collections {
-                mixed_bottom(bottom_below(summary, 1)?)
-            } else {
-                Err(LayoutFault::BadTypeId)
-            }
-        }
+        NativeKind::GeometryCollection if collections => mixed_bottom(bottom_below(summary, 1)?),
+        NativeKind::GeometryCollection => Err(LayoutFault::BadTypeId),
         _ => leaf(bottom_below(summary, levels(kind))?),
     }
 }
@@ -537,15 +509,9 @@ fn box_dimension(count: usize, names: u16) -> Result<Dimension, LayoutFault>
 {
     match count {
         4 => Ok(Dimension::XY),
-        6 => {
-            if has_both(names, 6, 7) {
-                Ok(Dimension::XYM)
-            } else if has_both(names, 4, 5) {
-                Ok(Dimension::XYZ)
-            } else {
-                Err(LayoutFault::BadFieldNames)
-            }
-        }
+        6 if has_both(names, 6, 7) => Ok(Dimension::XYM),
+        6 if has_both(names, 4, 5) => Ok(Dimension::XYZ),
+        6 => Err(LayoutFault::BadFieldNames),
         8 => Ok(Dimension::XYZM),
         _ => Err(LayoutFault::BadFieldCount),
     }

@@ -293,14 +293,12 @@ fn are_coordinates(fields: &[Field], names: &[FixedName]) -> bool
 fn is_leaf(data_type: &DataType, coord_type: CoordType, dimension: Dimension) -> bool
     ensures { IsTrue result ↔ (tree data_type.now ≡ leaf_layout coord_type dimension) }
 {
-    match coord_type {
-        CoordType::Interleaved => match data_type {
-            DataType::FixedSizeList(field, size) => {
-                *size == list_size(dimension) && is_coordinate(field, interleaved_name(dimension))
-            }
-            _ => false,
-        },
-        CoordType::Separated => is_struct(data_type, coordinate_names(dimension)),
+    match (coord_type, data_type) {
+        (CoordType::Separated, _) => is_struct(data_type, coordinate_names(dimension)),
+        (CoordType::Interleaved, DataType::FixedSizeList(field, size)) => {
+            *size == list_size(dimension) && is_coordinate(field, interleaved_name(dimension))
+        }
+        (CoordType::Interleaved, _) => false,
     }
 }
 
@@ -347,26 +345,24 @@ fn is_collection(data_type: &DataType, coord_type: CoordType, dimension: Dimensi
 fn is_mixed(data_type: &DataType, coord_type: CoordType, dimension: Dimension) -> bool
     ensures { IsTrue result ↔ (tree data_type.now ≡ mixed_layout coord_type dimension) }
 {
-    let DataType::Union(members, mode) = data_type else {
-        return false;
-    };
-    if *mode != UnionMode::Dense {
-        return false;
+    match data_type {
+        DataType::Union(members, UnionMode::Dense) => {
+            are_members_over(members.as_slice(), &COLLECTED, coord_type, dimension)
+        }
+        _ => false,
     }
-    are_members_over(members.as_slice(), &COLLECTED, coord_type, dimension)
 }
 
 /// Whether the data type is the one that is written for geometries of any kind.
 fn is_geometry(data_type: &DataType, coord_type: CoordType) -> bool
     ensures { IsTrue result ↔ (tree data_type.now ≡ layout (Kind.Geometry coord_type)) }
 {
-    let DataType::Union(members, mode) = data_type else {
-        return false;
-    };
-    if *mode != UnionMode::Dense {
-        return false;
+    match data_type {
+        DataType::Union(members, UnionMode::Dense) => {
+            are_in(members.as_slice(), &DIMENSIONS, coord_type)
+        }
+        _ => false,
     }
-    are_in(members.as_slice(), &DIMENSIONS, coord_type)
 }
 
 /// Whether the members are those that are written for geometries of these dimensions.
