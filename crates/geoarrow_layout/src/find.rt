@@ -193,9 +193,7 @@ fn inside<'a>(
 ) -> Option<(NativeKind, &'a DataType)>
     ensures { MatchOption result (StaysHere (MemberFaultIn collections id (tree data_type.now))) (λ x. (p : Path) (f : LayoutFault) → MemberFaultIn collections id (tree data_type.now) p f → NativeFaultIn collections x.0 (tree x.1.now) p f) }
 {
-    let Some((kind, _)) = parts_of_id(id) else {
-        return None;
-    };
+    let (kind, _) = parts_of_id(id)?;
     match native(collections, kind, &member_summary(collections, data_type)) {
         Ok(_) => None,
         Err(_) => Some((kind, data_type)),

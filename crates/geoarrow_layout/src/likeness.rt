@@ -143,13 +143,10 @@ fn is_same_or_apart(member: &(i8, Field), other: &(i8, Field)) -> bool
 fn same_struct(fields: &[Field], others: &[Field]) -> bool
     ensures { IsTrue result ↔ AlikeNames (names_of (field_trees fields.now)) (names_of (field_trees others.now)) }
 {
-    if fields.len() != others.len() {
-        return false;
-    }
-    if fields.len() == 3 || fields.len() == 6 {
-        same_names(fields, others)
-    } else {
-        true
+    match fields.len() {
+        count if count != others.len() => false,
+        3 | 6 => same_names(fields, others),
+        _ => true,
     }
 }
 

@@ -422,13 +422,11 @@ fn one_of_union(
 ) -> Result<CoordType, LayoutFault>
     ensures { MatchResult result (AreOf no_members fault coord_types) (IsCoordFault no_members fault coord_types) }
 {
-    if no_members {
-        return Err(LayoutFault::EmptyUnion);
+    match fault {
+        _ if no_members => Err(LayoutFault::EmptyUnion),
+        Some(fault) => Err(fault),
+        None => only_coord_type(coord_types).ok_or(LayoutFault::SeveralCoordTypes),
     }
-    if let Some(fault) = fault {
-        return Err(fault);
-    }
-    only_coord_type(coord_types).ok_or(LayoutFault::SeveralCoordTypes)
 }
 
 /// The coordinate type and dimension of a union in a collection, from what was seen of its members.
