@@ -1,16 +1,12 @@
 -- The path to a fault, step by step.
-use Rattle.geoarrow_layout.proofs.Terms.{◌≡◌, ◌<◌, ◌≤◌, ◌+◌, inl, inr, Option, None, Some, MatchOption, MatchResult, ℕ, zero, suc, ℤ, pos, List, [], ◌∷◌, ◌++◌, length, take, Result, OnOk, get_or, refl, sym, ap, subst, ◌∙◌, arith, append_assoc, Ok, Err, Tree, list, large_list, union, FieldTree, MemberTrees, no_members, member, field_trees, member_trees, UnionMode, CoordType, Dimension, NativeKind, GeometryCollection, LayoutFault, ListWidth, Lists, LargeLists, type_id_of, levels_of, ListsOver, AllMembers, Member, GeometryMember, Path, Located, Faults, HasFault, InItem, CoordinateFault, OverLeafFault, NativeFault, PartFault, FirstFault, UnionFault, MemberFault, MixedFault, GeometryMemberFault, GeometryFault, LeadsTo, FirstOrNone, TellsBoth, field_at, member_at, Ended, IsWidth, LevelsFault, StaysHere}
+use Rattle.geoarrow_layout.proofs.Terms.{◌≡◌, ◌<◌, ◌≤◌, ◌+◌, inl, inr, Option, None, Some, MatchOption, MatchResult, ℕ, zero, suc, ℤ, pos, List, [], ◌∷◌, ◌++◌, length, take, Result, OnOk, get_or, refl, sym, ap, subst, ◌∙◌, arith, append-nil, append_assoc, Ok, Err, Tree, list, large_list, union, FieldTree, MemberTrees, no_members, member, field_trees, member_trees, UnionMode, CoordType, Dimension, NativeKind, GeometryCollection, LayoutFault, ListWidth, Lists, LargeLists, type_id_of, levels_of, ListsOver, AllMembers, Member, GeometryMember, Path, Located, Faults, HasFault, InItem, CoordinateFault, OverLeafFault, NativeFault, PartFault, FirstFault, UnionFault, MemberFault, MixedFault, GeometryMemberFault, GeometryFault, LeadsTo, FirstOrNone, TellsBoth, field_at, member_at, Ended, IsWidth, LevelsFault, StaysHere}
 use Rattle.geoarrow_layout.proofs.Readings.{Answer, IsPartsOf, some_parts}
 use Rattle.geoarrow_layout.proofs.Parts.{no_parts}
 use Rattle.geoarrow_layout.proofs.MemberLists.{Items, all_map, all_both, one_more}
 use Rattle.geoarrow_layout.proofs.FaultLaws.{id_same, ApartMember, MemberReads, Read, KindReads, ApartNative, KindFault, first_apart, behind}
 
-append_none : (p : Path) → p ≡ p ++ []
-append_none [] = refl
-append_none (i ∷ p) = ap (λ q. i ∷ q) (append_none p)
-
 pub stays : (F : Located) (before : Path) → StaysHere F → LeadsTo F before before
-stays F before here = λ p f h. append_none before ∙ ap (λ q. before ++ q) (sym (here p f h))
+stays F before here = λ p f h. sym (append-nil before) ∙ ap (λ q. before ++ q) (sym (here p f h))
 
 -- one step down
 pub step_down : (F : Located) (before after : Path) (i : ℕ) (p : Path) (f : LayoutFault) → LeadsTo F (before ++ (i ∷ [])) after → F p f → after ≡ before ++ (i ∷ p)

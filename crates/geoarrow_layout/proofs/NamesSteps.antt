@@ -118,12 +118,7 @@ box_alone t no_point b = named _ names.Rect t b (λ n e. moved _ n t e b) (λ n 
 -- ---- two names of one data type
 
 of_two : (x y a b c : Text) → (a ≡ x) ⊎ (a ≡ y) → (b ≡ x) ⊎ (b ≡ y) → (c ≡ x) ⊎ (c ≡ y) → (a ≡ b) ⊎ ((a ≡ c) ⊎ (b ≡ c))
-of_two x y a b c (inl h) (inl k) e = inl (h ∙ sym k)
-of_two x y a b c (inr h) (inr k) e = inl (h ∙ sym k)
-of_two x y a b c (inl h) (inr k) (inl e) = inr (inl (h ∙ sym e))
-of_two x y a b c (inl h) (inr k) (inr e) = inr (inr (k ∙ sym e))
-of_two x y a b c (inr h) (inl k) (inl e) = inr (inr (k ∙ sym e))
-of_two x y a b c (inr h) (inl k) (inr e) = inr (inl (h ∙ sym e))
+of_two x y a b c h k e = grind arith
 
 pub two_at_most : (t : Tree) (a b c : Text) → IsAccepted a t → IsAccepted b t → IsAccepted c t → (a ≡ b) ⊎ ((a ≡ c) ⊎ (b ≡ c))
 two_at_most t a b c h k l = of_two _ _ a b c (name_at a t h) (name_at b t k) (name_at c t l)

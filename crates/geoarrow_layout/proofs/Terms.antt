@@ -16,7 +16,7 @@ pub use Rattle.geoarrow_layout.specs.Summary.{AreLevels, IsBits, IsBottom, IsFau
 pub use Rattle.geoarrow_layout.specs.Words.{BadFieldCount, BadFieldNames, BadInterleavedName, BadSize, BadTypeId, Bottom, CoordType, Deep, Dense, Dimension, EmptyUnion, ExtensionName, FixedSizeList, GeometryCollection, Interleaved, Kind, Large, LargeLists, LayoutFault, LineString, ListWidth, Lists, MemberDimension, MixedWidths, MultiLineString, MultiPoint, MultiPolygon, NativeKind, OfGeometry, OfNative, OfRect, OfWkb, OfWkt, Other, OtherWidth, Plain, Plain as Narrow, Point, Polygon, Rect, Separated, SeveralCoordTypes, SeveralDimensions, Struct, Summary, UnexpectedType, Union, UnionMode, View, Width, Wkb, Wkt, XY, XYM, XYZ, XYZM, bit_at, bytes_eq, bytes_eq-Decides, list_all, list_any}
 pub use Rattle.geoarrow_layout.specs.declared.encodings.TheConstants.Kind.{ALL}
 pub use Rattle.geoarrow_layout.specs.declared.names.Candidates.TheVariants.{None as NoName}
-pub use Rattle.std.proofs.Common.{Bool, Err, IfErr, IsTrue, List, MatchOption, MatchResult, None, Ok, OnOk, Option, Result, Some, [], add-one, ap, append_assoc, arith, codes, cond, drop, eq-eqb, false, get_or, inl, inr, is_err, is_ok, length, lit<, map, nat_eq, of_z, pos, refl, rules, subst, suc, sym, take, to_z, true, true≢false, w16, w32, w64, w8, zero, ℕ, ℤ, ◌%◌, ◌&&◌, ◌*◌, ◌++◌, ◌+◌, ◌-◌, ◌<◌, ◌^◌, ◌||◌, ◌↔◌, ◌∙◌, ◌∷◌, ◌≡◌, ◌≢◌, ◌≤◌, ◌⊎◌}
+pub use Rattle.std.proofs.Common.{Bool, Err, IfErr, IsTrue, List, MatchOption, MatchResult, None, Ok, OnOk, Option, Result, Some, [], add-one, ap, append-nil, append_assoc, arith, codes, cond, drop, eq-eqb, false, get_or, inl, inr, is_err, is_ok, length, lit<, map, nat_eq, of_z, pos, refl, rules, subst, suc, sym, take, to_z, true, true≢false, w16, w32, w64, w8, zero, ℕ, ℤ, ◌%◌, ◌&&◌, ◌*◌, ◌++◌, ◌+◌, ◌-◌, ◌<◌, ◌^◌, ◌||◌, ◌↔◌, ◌∙◌, ◌∷◌, ◌≡◌, ◌≢◌, ◌≤◌, ◌⊎◌}
 pub use Rattle.std.proofs.Math.Bool.{and-true, and_assoc}
 pub use Rattle.std.proofs.Math.Dec.{eqb-suc-zero}
 pub use Rattle.std.proofs.Math.Seq.{take-suc}
