@@ -27,10 +27,7 @@ in_item_none F _ f none h = absurd h
 
 -- a fault of one sort or another, which exclude each other
 either_one : (A B : Located) → One A → One B → ((p q : Path) (f g : LayoutFault) → A p f → B q g → ⊥) → One (λ p f. A p f ⊎ B p f)
-either_one A B one two apart p q f g (inl h) (inl k) = one p q f g h k
-either_one A B one two apart p q f g (inl h) (inr k) = absurd (apart p q f g h k)
-either_one A B one two apart p q f g (inr h) (inl k) = absurd (apart q p g f k h)
-either_one A B one two apart p q f g (inr h) (inr k) = two p q f g h k
+either_one A B one two apart p q f g h k = grind (arith, one, two, apart)
 
 -- ---- coordinates and boxes
 

@@ -1,4 +1,5 @@
 -- Points that trees are taken for.
+use Rattle.geoarrow_layout.proofs.FaultLaws.{separated_length}
 use Rattle.geoarrow_layout.proofs.Terms.{◌≡◌, ◌↔◌, inl, inr, ℤ, pos, refl, sym, ap, subst, ◌∙◌, arith, true, false, Option, Some, None, List, length, same_Some, Text, Tree, fixed_size_list, struct, FieldTrees, CoordType, Interleaved, Separated, Dimension, XY, XYZ, XYM, LayoutFault, BadFieldNames, Path, SeparatedFault, size_of, names_of, IsSeparatedAs, Leaf, are_float64, interleaved_name, Inferred, IsInferredAs, IsInferredSize, among_back, dimension_named}
 
 -- what the fields say, where all are numbers
@@ -35,8 +36,7 @@ other_inferred ns p (inr h) _ = (λ e. cc, λ k. absurd (omega (arith, h.0)))
 
 inferred_length : (ns : List Text) (d : Dimension) → IsInferredAs d ns → length ns ≡ size_of d
 inferred_length ns XYZ h = h.0
-inferred_length ns XYM h = h.0
-inferred_length ns _ h = h
+inferred_length ns d h = separated_length ns d h
 
 pub not_inferred : (ns : List Text) (p : Path) (f : LayoutFault) → (f ≡ BadFieldNames → ⊥) → SeparatedFault ns p f → (d : Dimension) → (None ≡ Some d) ↔ IsInferredAs d ns
 not_inferred ns p f other (inl h) d = (λ e. cc, λ k. absurd (h.0 d (inferred_length ns d k)))
