@@ -213,17 +213,6 @@ pub(crate) fn only_dimension(bits: u8) -> Option<Dimension>
     dimension_with!(bits; 1, 2, 4, 8)
 }
 
-/// The one coordinate type of a set.
-pub(crate) fn only_coord_type(bits: u8) -> Option<CoordType>
-    ensures { (c : CoordType) → (result ≡ Some c) ↔ (bits ≡ 2 ^ place_of c) }
-{
-    match bits {
-        1 => Some(CoordType::Interleaved),
-        2 => Some(CoordType::Separated),
-        _ => None,
-    }
-}
-
 /// The place of a coordinate type among the two.
 pub(crate) fn place_of(coord_type: CoordType) -> u8
     ensures place { result ≡ place_of coord_type }

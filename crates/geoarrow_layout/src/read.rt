@@ -16,7 +16,7 @@ ghost use Rattle.geoarrow_layout.specs.declared.names.ExtensionName.TheVariants 
 
 use crate::encodings::{Kind, NativeKind, Width, levels, parts_of_id};
 use crate::fault::LayoutFault;
-use crate::kinds::{CoordType, Dimension, list_size, only_coord_type, only_dimension};
+use crate::kinds::{CoordType, Dimension, list_size, only_dimension};
 use crate::names::{Candidates, ExtensionName};
 use crate::summary::{Bottom, Summary, has_bit, is_float64, struct_bottom, summarize};
 use arrow_values::{DataType, Field};
@@ -422,10 +422,12 @@ fn one_of_union(
 ) -> Result<CoordType, LayoutFault>
     ensures { MatchResult result (AreOf no_members fault coord_types) (IsCoordFault no_members fault coord_types) }
 {
-    match fault {
+    match (fault, coord_types) {
         _ if no_members => Err(LayoutFault::EmptyUnion),
-        Some(fault) => Err(fault),
-        None => only_coord_type(coord_types).ok_or(LayoutFault::SeveralCoordTypes),
+        (Some(fault), _) => Err(fault),
+        (None, 1) => Ok(CoordType::Interleaved),
+        (None, 2) => Ok(CoordType::Separated),
+        (None, _) => Err(LayoutFault::SeveralCoordTypes),
     }
 }
 

@@ -236,7 +236,11 @@ fn with_id(ids: u64, id: i8) -> u64
 fn first_fault(fault: Option<LayoutFault>, part: &Answer) -> Option<LayoutFault>
     ensures { result ≡ first_fault fault part.now }
 {
-    fault.or(part.err())
+    match (fault, part) {
+        (Some(fault), _) => Some(fault),
+        (None, Err(fault)) => Some(*fault),
+        (None, Ok(_)) => None,
+    }
 }
 
 /// What was seen of the members of a union; by default, what was seen before the first.
