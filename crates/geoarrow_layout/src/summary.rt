@@ -236,11 +236,7 @@ fn with_id(ids: u64, id: i8) -> u64
 fn first_fault(fault: Option<LayoutFault>, part: &Answer) -> Option<LayoutFault>
     ensures { result ≡ first_fault fault part.now }
 {
-    match (fault, part) {
-        (Some(fault), _) => Some(fault),
-        (None, Err(fault)) => Some(*fault),
-        (None, Ok(_)) => None,
-    }
+    fault.or(part.err())
 }
 
 /// What was seen of the members of a union; by default, what was seen before the first.
