@@ -209,20 +209,10 @@ impl Metadata {
             ⊎ ((m : Metadata) → DenotesMetadata (text_of metadata.entry) m → ⊥)) }
         ensures refusal { IfErr result (λ e. IsMemory e ⊎ TextRefusedAs (text_of metadata.entry) e) }
     {
-        match metadata {
-            None => Ok(Arc::new(alloc, Metadata::default())?),
-            Some(text) => Metadata::shared_of_text(alloc, text),
+        if metadata.is_none() {
+            return Ok(Arc::new(alloc, Metadata::default())?);
         }
-    }
-
-    // The metadata that a text denotes, in an `Arc`.
-    #[inline(never)]
-    fn shared_of_text(alloc: Global, text: &str) -> Result<Arc<Metadata>, ArrowError>
-        ensures exact { MatchResult result (λ m. DenotesMetadata (Some text.now) (arc_value m))
-            (λ e. IsMemory e ⊎ ((m : Metadata) → DenotesMetadata (Some text.now) m → ⊥)) }
-        ensures refusal { IfErr result (λ e. IsMemory e ⊎ TextRefusedAs (Some text.now) e) }
-    {
-        let read = Metadata::of_text(alloc, text)?;
+        let read = Metadata::deserialize(alloc, metadata)?;
         Ok(Arc::new(alloc, read)?)
     }
 
