@@ -1,12 +1,14 @@
 -- Reports, field by field.
-use Rattle.std.proofs.Common.{◌≡◌, ◌∙◌, ◌<◌, ℕ, ◌+◌, take, length, get_or, inl, sym, ap, List, [], ◌∷◌, ◌++◌, Option, Some, None, Global}
+use Rattle.std.proofs.Common.{◌≡◌, ◌∙◌, ◌<◌, ℕ, ◌+◌, take, length, get_or, ◌⊎◌, inl, inr, sym, ap, subst, List, [], ◌∷◌, ◌++◌, Option, Some, None, Global}
 use Rattle.std.proofs.lemmas.List.{take_more}
 use Rattle.std.specs.Arc.{arc_value}
 use Rattle.std.specs.declared.sync.Arc.{Arc}
 use Rattle.arrow_values.specs.Tree.{Tree, FieldTree}
 use Rattle.arrow_values.specs.Texts.{extension_metadata}
-use Rattle.arrow_values.specs.Errors.{IsGeoMemory}
+use Rattle.arrow_values.specs.Errors.{IsMemory}
+use Rattle.arrow_values.specs.declared.error.ArrowError.{ArrowError}
 use Rattle.arrow_values.specs.declared.error.GeoArrowError.{GeoArrowError}
+use Rattle.arrow_values.specs.declared.error.GeoArrowError.TheVariants.{Arrow as OfArrow}
 use Rattle.geoarrow_layout.specs.declared.encodings.Kind.{Kind}
 use Rattle.geoarrow_meta.specs.declared.metadata.Metadata.{Metadata}
 use Rattle.geoarrow_meta.specs.Read.{DenotesMetadata}
@@ -14,11 +16,10 @@ use Rattle.geoarrow_schema.specs.declared.types.GeoArrowType.{GeoArrowType}
 use Rattle.geoarrow_schema.specs.Types.{kind_of, metadata_of}
 use Rattle.geoarrow_schema.specs.Reads.{HasGeoArrowName, IsRefusedBy}
 use Rattle.geoarrow_schema.specs.Infers.{Infers, InfersAs, InfersNone, YieldsInferred}
-use Rattle.geoarrow_columns.specs.declared.check.ColumnFault.{ColumnFault}
 use Rattle.geoarrow_columns.specs.declared.check.ColumnFault.TheVariants.{Arrow, InvalidGeoArrow}
 use Rattle.geoarrow_columns.specs.declared.check.Column.{Column}
 use Rattle.geoarrow_columns.specs.declared.check.Column.TheVariants.{Faulty}
-use Rattle.geoarrow_columns.specs.Report.{refused_for, IsColumnOf, IsReport, IsVariantOf}
+use Rattle.geoarrow_columns.specs.Report.{refused_for, IsColumnOf, IsFaultyBy, IsReport}
 
 report_more : (fs : List FieldTree) (cs : List Column) (f : FieldTree) (c : Column) → IsReport fs cs → IsColumnOf f c → IsReport (fs ++ f ∷ []) (cs ++ c ∷ [])
 report_more [] [] f c h g = (g, tt)
@@ -41,7 +42,11 @@ pub taken_for_none : (f : FieldTree) (t : Tree) (r : Option Kind) → t ≡ f.tr
 unfolding InfersAs
 taken_for_none f t r same yields none k m h = let some : r ≡ Some k = (yields k).1 (rw same h.2) in absurd cc
 
--- a field that is refused under a GeoArrow name is a column of the fault of its error
-pub named_faulty : (f : FieldTree) (e : GeoArrowError) (fault : ColumnFault) → ¬ IsGeoMemory e → IsVariantOf e fault → IsRefusedBy f e → IsColumnOf f (Faulty fault)
-named_faulty f e InvalidGeoArrow rich is refused = refused_for f e InvalidGeoArrow rich is refused
-named_faulty f e Arrow rich is refused = inl (refused_for f e Arrow rich is refused)
+-- a field that is refused under a GeoArrow name, or whose metadata text is, is a column of the fault of its error
+pub named_faulty : (f : FieldTree) (e : GeoArrowError) → IsRefusedBy f e → IsFaultyBy f e
+named_faulty f e refused InvalidGeoArrow rich is = refused_for f e InvalidGeoArrow rich is refused
+named_faulty f e refused Arrow rich is = inl (refused_for f e Arrow rich is refused)
+
+pub unread_faulty : (f : FieldTree) (a : ArrowError) → ¬ HasGeoArrowName f → IsMemory a ⊎ ((m : Metadata) → ¬ DenotesMetadata (extension_metadata f) m) → IsFaultyBy f (OfArrow a)
+unread_faulty f a unnamed (inl memory) fault rich is = absurd (rich (ap OfArrow memory))
+unread_faulty f a unnamed (inr none) fault rich is = subst (λ x. IsColumnOf f (Faulty x)) (sym is) (inr (unnamed, none))

@@ -1,12 +1,9 @@
 //! What the columns of a schema hold.
-ghost use Rattle.std.specs.Prelude.{◌≡◌, IfOk, IfErr};
-ghost use Rattle.arrow_values.specs.Errors.{IsMemory, IsGeoMemory};
-ghost use Rattle.geoarrow_schema.specs.Reads.{HasGeoArrowName};
-ghost use Rattle.geoarrow_columns.specs.declared.check.Column.TheVariants.{Faulty};
-ghost use Rattle.geoarrow_columns.specs.declared.check.ColumnFault.TheVariants.{Arrow};
-ghost use Rattle.geoarrow_columns.specs.Report.{IsColumnOf, IsReport, IsVariantOf};
+ghost use Rattle.std.specs.Prelude.{IfOk, IfErr};
+ghost use Rattle.arrow_values.specs.Errors.{IsGeoMemory};
+ghost use Rattle.geoarrow_columns.specs.Report.{IsColumnOf, IsFaultyBy, IsReport, IsVariantOf};
 
-use arrow_values::{ArrowError, Field, GeoArrowError};
+use arrow_values::{ArrowError, Field, GeoArrowError, GeoArrowResult};
 use geoarrow_meta::Metadata;
 use geoarrow_schema::{GeoArrowType, infer_kind};
 use std::alloc::{AllocError, Global};
@@ -66,46 +63,31 @@ pub fn check_columns(alloc: Global, fields: &[Field]) -> Result<Vec<Column>, All
 }
 
 /// What one column holds, as `check_columns` says it. Errs only when out of memory.
-#[tactic(auto, using(crate::proofs::Reports::named_faulty))]
 pub fn check_column(alloc: Global, field: &Field) -> Result<Column, AllocError>
     ensures { IfOk result (IsColumnOf field.now) }
 {
-    match GeoArrowType::from_extension_field(alloc, field) {
-        Ok(Some(found)) => Ok(Column::Geometry(found)),
-        Ok(None) => check_unnamed(alloc, field),
+    match find_column(alloc, field) {
+        Ok(column) => Ok(column),
         Err(error) => Ok(Column::Faulty(ColumnFault::of_error(&error)?)),
     }
 }
 
-/// What a column without a GeoArrow name holds. Errs only when out of memory.
-#[tactic(auto, using(crate::proofs::Reports::taken_for_none))]
-fn check_unnamed(alloc: Global, field: &Field) -> Result<Column, AllocError>
-    requires { ¬ HasGeoArrowName field.now }
-    ensures { IfOk result (IsColumnOf field.now) }
+/// What a column holds that is not refused. Errs as its field is refused.
+#[tactic(auto, using(crate::proofs::Reports::taken_for_none, crate::proofs::Reports::named_faulty, crate::proofs::Reports::unread_faulty))]
+fn find_column(alloc: Global, field: &Field) -> GeoArrowResult<Column>
+    ensures ok { IfOk result (IsColumnOf field.now) }
+    ensures err { IfErr result (IsFaultyBy field.now) }
 {
+    if let Some(found) = GeoArrowType::from_extension_field(alloc, field)? {
+        return Ok(Column::Geometry(found));
+    }
     let text = field.extension_type_metadata();
-    match infer_kind(field.data_type()) {
-        Some(kind) => match Metadata::deserialize_shared(alloc, text) {
-            Ok(metadata) => Ok(Column::Inferred(GeoArrowType::from_kind(kind, metadata))),
-            Err(error) => unread(&error),
-        },
-        None => match Metadata::deserialize(alloc, text) {
-            Ok(_) => Ok(Column::Other),
-            Err(error) => unread(&error),
-        },
-    }
-}
-
-/// What a column without a GeoArrow name holds whose metadata text is refused by an error. Errs where that is out-of-memory.
-#[cold]
-#[inline(never)]
-fn unread(error: &ArrowError) -> Result<Column, AllocError>
-    ensures { IfOk result (λ column. (column ≡ Faulty Arrow) × ¬ IsMemory error.now) }
-{
-    match error {
-        ArrowError::OutOfMemory => Err(AllocError),
-        _ => Ok(Column::Faulty(ColumnFault::Arrow)),
-    }
+    let Some(kind) = infer_kind(field.data_type()) else {
+        Metadata::deserialize(alloc, text)?;
+        return Ok(Column::Other);
+    };
+    let metadata = Metadata::deserialize_shared(alloc, text)?;
+    Ok(Column::Inferred(GeoArrowType::from_kind(kind, metadata)))
 }
 
 impl ColumnFault {
