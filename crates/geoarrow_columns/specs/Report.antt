@@ -49,6 +49,10 @@ abbrev pub IsVariantOf : GeoArrowError → ColumnFault → Type 0
 IsVariantOf (Invalid s) fault = fault ≡ InvalidGeoArrow
 IsVariantOf _ fault = fault ≡ Arrow
 
+-- a field that is refused with that error, but not because memory ran out, is a column of the fault of the error
+abbrev pub IsFaultyBy : FieldTree → GeoArrowError → Type 0
+IsFaultyBy f e = (fault : ColumnFault) → ¬ IsGeoMemory e → IsVariantOf e fault → IsColumnOf f (Faulty fault)
+
 -- a field that is refused, but not because memory ran out, is refused for the fault of that error
 pub refused_for : (f : FieldTree) (e : GeoArrowError) (fault : ColumnFault) → ¬ IsGeoMemory e → IsVariantOf e fault → IsRefusedBy f e → IsRefusedFor f fault
 refused_for f e fault rich is (named, inl memory) = absurd (rich memory)

@@ -1,10 +1,11 @@
 //! What the columns of a schema hold.
 ghost use Rattle.std.specs.Prelude.{IfOk, IfErr};
 ghost use Rattle.arrow_values.specs.Errors.{IsGeoMemory};
-ghost use Rattle.geoarrow_columns.specs.Report.{IsColumnOf, IsReport, IsVariantOf};
+ghost use Rattle.geoarrow_columns.specs.Report.{IsColumnOf, IsFaultyBy, IsReport, IsVariantOf};
 
-use arrow_values::{ArrowError, Field, GeoArrowError};
-use geoarrow_schema::GeoArrowType;
+use arrow_values::{ArrowError, Field, GeoArrowError, GeoArrowResult};
+use geoarrow_meta::Metadata;
+use geoarrow_schema::{GeoArrowType, infer_kind};
 use std::alloc::{AllocError, Global};
 
 /// What a column holds (docs/FORMAT.md, 1.7).
@@ -54,7 +55,7 @@ pub enum ColumnFault {
 pub fn check_columns(alloc: Global, fields: &[Field]) -> Result<Vec<Column>, AllocError>
     ensures { IfOk result (λ columns. IsReport fields.now columns.items) }
 {
-    let mut columns = Vec::new(alloc);
+    let mut columns = Vec::with_capacity(alloc, fields.len())?;
     for field in fields {
         columns.push(check_column(alloc, field)?)?;
     }
@@ -62,21 +63,31 @@ pub fn check_columns(alloc: Global, fields: &[Field]) -> Result<Vec<Column>, All
 }
 
 /// What one column holds, as `check_columns` says it. Errs only when out of memory.
-#[tactic(auto, using(crate::proofs::Reports::taken_for, crate::proofs::Reports::uninferred, crate::proofs::Reports::named_faulty))]
 pub fn check_column(alloc: Global, field: &Field) -> Result<Column, AllocError>
     ensures { IfOk result (IsColumnOf field.now) }
 {
-    match GeoArrowType::from_extension_field(alloc, field) {
-        Ok(Some(found)) => Ok(Column::Geometry(found)),
-        Ok(None) => match GeoArrowType::from_arrow_field(alloc, field) {
-            Ok(found) => Ok(Column::Inferred(found)),
-            Err(error) => match ColumnFault::of_error(&error)? {
-                ColumnFault::InvalidGeoArrow => Ok(Column::Other),
-                ColumnFault::Arrow => Ok(Column::Faulty(ColumnFault::Arrow)),
-            },
-        },
+    match find_column(alloc, field) {
+        Ok(column) => Ok(column),
         Err(error) => Ok(Column::Faulty(ColumnFault::of_error(&error)?)),
     }
+}
+
+/// What a column holds that is not refused. Errs as its field is refused.
+#[tactic(auto, using(crate::proofs::Reports::taken_for_none, crate::proofs::Reports::named_faulty, crate::proofs::Reports::unread_faulty))]
+fn find_column(alloc: Global, field: &Field) -> GeoArrowResult<Column>
+    ensures ok { IfOk result (IsColumnOf field.now) }
+    ensures err { IfErr result (IsFaultyBy field.now) }
+{
+    if let Some(found) = GeoArrowType::from_extension_field(alloc, field)? {
+        return Ok(Column::Geometry(found));
+    }
+    let text = field.extension_type_metadata();
+    let Some(kind) = infer_kind(field.data_type()) else {
+        Metadata::deserialize(alloc, text)?;
+        return Ok(Column::Other);
+    };
+    let metadata = Metadata::deserialize_shared(alloc, text)?;
+    Ok(Column::Inferred(GeoArrowType::from_kind(kind, metadata)))
 }
 
 impl ColumnFault {

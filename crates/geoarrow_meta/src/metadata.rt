@@ -172,7 +172,7 @@ impl Metadata {
     /// assert_eq!(rt; metadata.edges(), Some(Edges::Spherical));
     /// assert_eq!(rt; metadata.crs().crs_type(), None);
     /// ```
-    #[inline]
+    #[inline(always)]
     pub fn deserialize(alloc: Global, metadata: Option<&str>) -> Result<Metadata, ArrowError>
         ensures exact { IsTextReading (text_of metadata.entry) result }
         ensures refusal { IfErr result (TextRefusedAs (text_of metadata.entry)) }
@@ -185,6 +185,7 @@ impl Metadata {
     }
 
     // The metadata that a text denotes.
+    #[inline(never)]
     fn of_text(alloc: Global, text: &str) -> Result<Metadata, ArrowError>
         ensures exact { IsTextReading (Some text.now) result }
         ensures refusal { IfErr result (TextRefusedAs (Some text.now)) }
@@ -198,6 +199,7 @@ impl Metadata {
     }
 
     /// The metadata of `deserialize` in an `Arc`, as extension types hold their metadata. Errs as `deserialize` does.
+    #[inline(always)]
     pub fn deserialize_shared(
         alloc: Global,
         metadata: Option<&str>,
@@ -207,13 +209,16 @@ impl Metadata {
             ⊎ ((m : Metadata) → DenotesMetadata (text_of metadata.entry) m → ⊥)) }
         ensures refusal { IfErr result (λ e. IsMemory e ⊎ TextRefusedAs (text_of metadata.entry) e) }
     {
+        if metadata.is_none() {
+            return Ok(Arc::new(alloc, Metadata::default())?);
+        }
         let read = Metadata::deserialize(alloc, metadata)?;
         Ok(Arc::new(alloc, read)?)
     }
 
     /// The metadata that a field's metadata text, or its absence, denotes, whatever the name of its extension type.
     /// Errs as `deserialize` does.
-    #[inline]
+    #[inline(always)]
     pub fn try_from_field(alloc: Global, field: &Field) -> Result<Metadata, ArrowError>
         ensures exact { IsTextReading (extension_metadata field.now) result }
         ensures refusal { IfErr result (TextRefusedAs (extension_metadata field.now)) }

@@ -15,6 +15,7 @@ use serde_json::{Map, Value};
 /// assert!(rt; holds_whole_numbers(&Value::Null));
 /// ```
 #[cycle(whole)]
+#[inline(always)]
 pub fn holds_whole_numbers(value: &Value) -> bool
     ensures no_float { result ≡ not (has_float (view value.now)) }
     ensures integers { result ≡ is_whole (view value.now) }
@@ -28,6 +29,7 @@ pub fn holds_whole_numbers(value: &Value) -> bool
 }
 
 #[cycle(whole)]
+#[inline(never)]
 fn items_hold_whole(items: &Vec<Value>) -> bool
     ensures no_float { result ≡ not (items_have_float (items_view items.now.items)) }
     ensures integers { result ≡ items_are_whole (items_view items.now.items) }
@@ -41,6 +43,7 @@ fn items_hold_whole(items: &Vec<Value>) -> bool
 }
 
 #[cycle(whole)]
+#[inline(never)]
 fn members_hold_whole(members: &Map<String, Value>) -> bool
     ensures no_float { result ≡ not (members_have_float (members_view members.now.entries)) }
     ensures integers { result ≡ members_are_whole (members_view members.now.entries) }

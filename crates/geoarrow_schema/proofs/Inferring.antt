@@ -46,10 +46,11 @@ infers_alone f t r g same answers here =
 abbrev IsUninferred : FieldTree → GeoArrowError → Type 0
 IsUninferred f e = IsGeoMemory e ⊎ (InfersNone f × UninferredAs f e)
 
-pub text_error : (f : FieldTree) (a : ArrowError) → IsMemory a ⊎ ((m : Metadata) → ¬ DenotesMetadata (extension_metadata f) m) → TextRefusedAs (extension_metadata f) a → IsUninferred f (Arrow a)
+pub text_error : (f : FieldTree) (a : ArrowError) → IsMemory a ⊎ ((m : Metadata) → ¬ DenotesMetadata (extension_metadata f) m) → IsMemory a ⊎ TextRefusedAs (extension_metadata f) a → IsUninferred f (Arrow a)
 unfolding InfersAs
+text_error f a (inr none) (inr refused) = inr ((λ k m h. none m h.1), (none, refused))
 text_error f a (inl memory) refused = inl (ap Arrow memory)
-text_error f a (inr none) refused = inr ((λ k m h. none m h.1), (none, refused))
+text_error f a none (inl memory) = inl (ap Arrow memory)
 
 pub none_for_tree : (f : FieldTree) → ((k : Kind) → ¬ InferredAs f.tree k) → InfersNone f
 unfolding InfersAs

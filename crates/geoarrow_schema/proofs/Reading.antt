@@ -56,10 +56,11 @@ wrong_storage f n (inr is) named none = inr (subst (HasName f) is named, λ w h.
 
 -- that of a field of the name and the data type of a kind whose metadata text is refused
 pub column_refused : NamesAreDistinct → (f : FieldTree) (n : ExtensionName) (k : Kind) (a : ArrowError) → HasName f n → Accepts (name_text n) f.tree k
-    → IsMemory a ⊎ ((m : Metadata) → ¬ DenotesMetadata (extension_metadata f) m) → TextRefusedAs (extension_metadata f) a → IsRefusedBy f (Arrow a)
+    → IsMemory a ⊎ ((m : Metadata) → ¬ DenotesMetadata (extension_metadata f) m) → IsMemory a ⊎ TextRefusedAs (extension_metadata f) a → IsRefusedBy f (Arrow a)
 unfolding ReadsAs
 column_refused distinct f n k a named column (inl memory) refused = ((n, named), inl (ap Arrow memory))
-column_refused distinct f n k a named column (inr none) refused =
+column_refused distinct f n k a named column none (inl memory) = ((n, named), inl (ap Arrow memory))
+column_refused distinct f n k a named column (inr none) (inr refused) =
     let stored = kind_stored k f.tree column.1 in
     ((n, named), inr (λ j m r. none m r.1, (well_stored distinct f (extension_of k) (named ∙ ap Some column.0) stored.0 stored.1, inl refused)))
 

@@ -1,6 +1,7 @@
 //! Which type is inferred for a field without a GeoArrow name.
-ghost use Rattle.std.specs.Prelude.{◌≡◌, ◌⊎◌, IfOk};
+ghost use Rattle.std.specs.Prelude.{◌≡◌, ◌⊎◌, Some, IfOk};
 ghost use Rattle.arrow_values.specs.View.{tree};
+ghost use Rattle.arrow_values.specs.Texts.{extension_name};
 ghost use Rattle.arrow_values.specs.Errors.{IsGeoMemory};
 ghost use Rattle.geoarrow_layout.specs.declared.encodings.Kind.{Kind};
 ghost use Rattle.geoarrow_schema.specs.Reads.{HasGeoArrowName};
@@ -14,7 +15,6 @@ use geoarrow_layout::{
 };
 use geoarrow_meta::Metadata;
 use std::alloc::Global;
-use std::sync::Arc;
 
 impl GeoArrowType {
     /// The type that a field is read as by `from_extension_field`. If that returns `None`, the type that is inferred
@@ -34,22 +34,33 @@ impl GeoArrowType {
     /// let inferred = GeoArrowType::from_arrow_field(alloc, &unnamed)?;
     /// assert!(rt; matches!(inferred, GeoArrowType::Wkb(_)));
     /// ```
-    #[tactic(auto, using(crate::proofs::Inferring::named_inference))]
     pub fn from_arrow_field(alloc: Global, field: &Field) -> GeoArrowResult<GeoArrowType>
         ensures inference { IsInference field.now result }
         ensures only { IfOk result (ReadsOrInfersAlone field.now) }
     {
         match field.extension_type_name() {
             None => infer(alloc, field),
-            Some(text) => match ExtensionName::from_text(text) {
-                Some(name) => read_named(alloc, field, name),
-                None => infer(alloc, field),
-            },
+            Some(text) => read_or_infer(alloc, field, text),
         }
     }
 }
 
+/// The type that a field with that extension name is read as or, if the name is not GeoArrow's, taken for.
+#[inline(never)]
+#[tactic(auto, using(crate::proofs::Inferring::named_inference))]
+fn read_or_infer(alloc: Global, field: &Field, text: &str) -> GeoArrowResult<GeoArrowType>
+    requires { extension_name field.now ≡ Some text.now }
+    ensures inference { IsInference field.now result }
+    ensures only { IfOk result (ReadsOrInfersAlone field.now) }
+{
+    match ExtensionName::from_text(text) {
+        Some(name) => read_named(alloc, field, name),
+        None => infer(alloc, field),
+    }
+}
+
 /// The type that a field without a GeoArrow name is taken for.
+#[inline(always)]
 #[tactic(auto, using(crate::proofs::Inferring::type_inferred, crate::proofs::Inferring::text_error, crate::proofs::Inferring::unnamed_error))]
 fn infer(alloc: Global, field: &Field) -> GeoArrowResult<GeoArrowType>
     requires { ¬ HasGeoArrowName field.now }
@@ -59,7 +70,7 @@ fn infer(alloc: Global, field: &Field) -> GeoArrowResult<GeoArrowType>
     let Some(kind) = infer_kind(field.data_type()) else {
         return Err(inference_error(alloc, field));
     };
-    let metadata = Arc::new(alloc, Metadata::try_from_field(alloc, field)?)?;
+    let metadata = Metadata::deserialize_shared(alloc, field.extension_type_metadata())?;
     Ok(GeoArrowType::from_kind(kind, metadata))
 }
 

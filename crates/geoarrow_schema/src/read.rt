@@ -16,7 +16,6 @@ use geoarrow_layout::{ExtensionName, LayoutFault, names_are_distinct, parse_kind
 use geoarrow_meta::Metadata;
 use geoarrow_native::laws::reads_as_one_column;
 use std::alloc::Global;
-use std::sync::Arc;
 
 impl GeoArrowType {
     /// The type that a field is read as (GeoArrow, "Extension types"): the field has the extension name of the type,
@@ -100,8 +99,7 @@ pub(crate) fn read_named(
         Ok(kind) => {
             names_are_distinct();
             reads_as_one_column(field);
-            let metadata = Metadata::deserialize(alloc, text_beside_name(field))?;
-            let metadata = Arc::new(alloc, metadata)?;
+            let metadata = Metadata::deserialize_shared(alloc, text_beside_name(field))?;
             Ok(GeoArrowType::from_kind(kind, metadata))
         }
         Err(fault) => Err(refusal(alloc, field, name, fault)),

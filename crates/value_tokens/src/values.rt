@@ -13,7 +13,7 @@ use std::alloc::{AllocError, Global};
 /// Takes a value, and returns it.
 #[cycle(read)]
 #[tactic(auto, using(crate::proofs::Firsts::first_values))]
-#[inline]
+#[inline(always)]
 pub fn read_value(alloc: Global, reader: &mut Reader<'_>, depth: usize) -> Result<Value, Refusal>
     ensures ok { IfOk result (λ v. next_value depth reader.old ≡ Some (view v, reader.new)) }
     ensures shorter { OnOk result (length reader.new < length reader.old) }

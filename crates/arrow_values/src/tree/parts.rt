@@ -161,9 +161,19 @@ impl Field {
         if has_extension(&self.metadata, name, &text) {
             return Ok(self);
         }
-        let mut field = self;
-        set_extension(alloc, &mut field.metadata, name, text)?;
-        Ok(field)
+        let Field {
+            name: own_name,
+            data_type,
+            nullable,
+            mut metadata,
+        } = self;
+        set_extension(alloc, &mut metadata, name, text)?;
+        Ok(Field {
+            name: own_name,
+            data_type,
+            nullable,
+            metadata,
+        })
     }
 
     /// The text at `EXTENSION_TYPE_NAME_KEY`, if there is one.

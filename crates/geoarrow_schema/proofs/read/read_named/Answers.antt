@@ -3,8 +3,8 @@ use Rattle.geoarrow_schema.proofs.Terms.{ArrowError, Reads}
 use Rattle.geoarrow_schema.proofs.Reading.{type_reads, reads_alone, column_refused}
 use Rattle.geoarrow_schema.proofs.read.read_named.Goals as goal
 
-pub returns-in_ok-metadata-in-Ok-2 : goal.returns-in_ok-metadata-in-Ok-2
-returns-in_ok-metadata-in-Ok-2 c =
+pub returns-in_ok-metadata-in-Ok : goal.returns-in_ok-metadata-in-Ok
+returns-in_ok-metadata-in-Ok c =
     let reads : Reads c.args.field.now c.from_kind.result = type_reads _ c.args.name _ _ _ c.from_kind.ensures.kind c.from_kind.ensures.metadata c.requires (search rules) (search rules) in
     record { ok = reads; only = reads_alone _ _ c.reads_as_one_column.ensures reads; refused = search rules }
 
