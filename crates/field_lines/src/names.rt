@@ -59,33 +59,33 @@ pub(crate) fn mode_name(mode: UnionMode) -> &'static str
 }
 
 /// The name of that text, if it is one that nearly every layout has: of a coordinate, of a bound of a box, or of the items of
-/// a list.
+/// a list. Lengths are compared first, so a text is compared with few others.
 pub(crate) fn layout_name(text: &str) -> Option<FixedName>
     ensures { IfSome result (λ name. fixed_text name ≡ text.now) }
 {
-    match text {
-        "x" => Some(FixedName::X),
-        "y" => Some(FixedName::Y),
-        "z" => Some(FixedName::Z),
-        "m" => Some(FixedName::M),
-        "xy" => Some(FixedName::Xy),
-        "xyz" => Some(FixedName::Xyz),
-        "xym" => Some(FixedName::Xym),
-        "xyzm" => Some(FixedName::Xyzm),
-        "vertices" => Some(FixedName::Vertices),
-        "rings" => Some(FixedName::Rings),
-        "points" => Some(FixedName::Points),
-        "linestrings" => Some(FixedName::Linestrings),
-        "polygons" => Some(FixedName::Polygons),
-        "geometries" => Some(FixedName::Geometries),
-        "xmin" => Some(FixedName::Xmin),
-        "ymin" => Some(FixedName::Ymin),
-        "zmin" => Some(FixedName::Zmin),
-        "mmin" => Some(FixedName::Mmin),
-        "xmax" => Some(FixedName::Xmax),
-        "ymax" => Some(FixedName::Ymax),
-        "zmax" => Some(FixedName::Zmax),
-        "mmax" => Some(FixedName::Mmax),
+    match (text.len(), text) {
+        (1, "x") => Some(FixedName::X),
+        (1, "y") => Some(FixedName::Y),
+        (1, "z") => Some(FixedName::Z),
+        (1, "m") => Some(FixedName::M),
+        (2, "xy") => Some(FixedName::Xy),
+        (3, "xyz") => Some(FixedName::Xyz),
+        (3, "xym") => Some(FixedName::Xym),
+        (4, "xyzm") => Some(FixedName::Xyzm),
+        (4, "xmin") => Some(FixedName::Xmin),
+        (4, "ymin") => Some(FixedName::Ymin),
+        (4, "zmin") => Some(FixedName::Zmin),
+        (4, "mmin") => Some(FixedName::Mmin),
+        (4, "xmax") => Some(FixedName::Xmax),
+        (4, "ymax") => Some(FixedName::Ymax),
+        (4, "zmax") => Some(FixedName::Zmax),
+        (4, "mmax") => Some(FixedName::Mmax),
+        (5, "rings") => Some(FixedName::Rings),
+        (6, "points") => Some(FixedName::Points),
+        (8, "vertices") => Some(FixedName::Vertices),
+        (8, "polygons") => Some(FixedName::Polygons),
+        (10, "geometries") => Some(FixedName::Geometries),
+        (11, "linestrings") => Some(FixedName::Linestrings),
         _ => None,
     }
 }

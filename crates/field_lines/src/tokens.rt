@@ -2,7 +2,7 @@
 //!
 //! Each reader takes one value whole. It answers none where the value is JSON and denotes nothing, so that a later
 //! member of the same key may still count.
-ghost use Rattle.std.specs.Prelude.{◌≡◌, ◌<◌, ◌⊎◌, codes, length, None, Err, IfOk, IfSome, IsTrue, OnOk};
+ghost use Rattle.std.specs.Prelude.{◌≡◌, ◌<◌, ◌⊎◌, bytes_eq, codes, length, not, None, Err, IfOk, IfSome, IsTrue, OnOk};
 ghost use Rattle.std.specs.Option.{option_map, option_and_then};
 ghost use Rattle.std.specs.List.{zip};
 ghost use Rattle.serde_json.specs.Data.{no_members, object, array};
@@ -105,9 +105,11 @@ fn field_of(
 {
     match (name, nullable, data_type, metadata) {
         (Some(name), Some(nullable), Some(data_type), Some(metadata)) => match layout_name(name) {
-            Some(name) => Ok(Some(Field::fixed(alloc, name, data_type, nullable).with_metadata(
-                metadata,
-            ))),
+            Some(name) => {
+                let mut field = Field::fixed(alloc, name, data_type, nullable);
+                field.set_metadata(metadata);
+                Ok(Some(field))
+            }
             None => {
                 let name = String::from_str(alloc, name)?;
                 Ok(Some(Field::from_parts(name, data_type, nullable, metadata)))
@@ -184,7 +186,7 @@ fn take_only(
 {
     let mut data_type = take_keyed(alloc, reader, depth, only)?;
     'only: while let Some(key) = reader.next_key()? {
-        if key != only {
+        if differ(key, only) {
             skip_value(reader, depth)?;
             skip_members(reader, depth)?;
             return Ok(None);
@@ -192,6 +194,15 @@ fn take_only(
         data_type = take_keyed(alloc, reader, depth, only)?;
     }
     Ok(data_type)
+}
+
+/// Whether these keys differ. It is not inlined, since few objects have a second key.
+#[cold]
+#[inline(never)]
+fn differ(a: &str, b: &str) -> bool
+    ensures { result ≡ not (bytes_eq a.now b.now) }
+{
+    a != b
 }
 
 /// The type that the value at the one key of an object says.
@@ -211,9 +222,10 @@ fn take_keyed(
     match key {
         "list" => Ok(take_boxed(alloc, reader, depth)?.map(DataType::List)),
         "large_list" => Ok(take_boxed(alloc, reader, depth)?.map(DataType::LargeList)),
-        "struct" => Ok(take_fields(alloc, reader, depth)?.map(|fields| DataType::Struct(
-            Fields::from(fields),
-        ))),
+        "struct" => match take_fields(alloc, reader, depth)? {
+            Some(fields) => Ok(Some(DataType::Struct(Fields::from(fields)))),
+            None => Ok(None),
+        },
         _ => {
             skip_value(reader, depth)?;
             Ok(None)

@@ -33,14 +33,15 @@ pub(crate) fn answer_line_with_scratch(
 ) -> Result<String, AllocError>
     ensures { IfOk result (λ answer. Answers command line.now (string_bytes answer)) }
 {
-    let Some(field) = parse_line_with_scratch(alloc, line, scratch)? else {
-        return String::from_str(alloc, "error field");
-    };
-    match command {
-        Command::Read => answer_read(alloc, &field),
-        Command::Infer => inferred_text(alloc, &check_column(alloc, &field)?),
-        Command::Canon => answer_canon(alloc, field),
-        Command::Columns => column_text(alloc, &check_column(alloc, &field)?),
+    match parse_line_with_scratch(alloc, line, scratch) {
+        Ok(Some(field)) => match command {
+            Command::Read => answer_read(alloc, &field),
+            Command::Infer => answer_infer(alloc, &field),
+            Command::Canon => answer_canon(alloc, field),
+            Command::Columns => answer_columns(alloc, &field),
+        },
+        Ok(None) => String::from_str(alloc, "error field"),
+        Err(error) => Err(error),
     }
 }
 
@@ -53,6 +54,20 @@ fn answer_read(alloc: Global, field: &Field) -> Result<String, AllocError>
         Ok(None) => String::from_str(alloc, "none"),
         Err(error) => answer_refused(alloc, field, &error),
     }
+}
+
+/// The type that the field is read as, or that is inferred.
+fn answer_infer(alloc: Global, field: &Field) -> Result<String, AllocError>
+    ensures { IfOk result (λ answer. AnswersField Command.Infer field.now (string_bytes answer)) }
+{
+    inferred_text(alloc, &check_column(alloc, field)?)
+}
+
+/// What a column of the field holds.
+fn answer_columns(alloc: Global, field: &Field) -> Result<String, AllocError>
+    ensures { IfOk result (λ answer. AnswersField Command.Columns field.now (string_bytes answer)) }
+{
+    column_text(alloc, &check_column(alloc, field)?)
 }
 
 /// The line of the field in normal form.

@@ -1,5 +1,6 @@
 //! The words of the answers.
-ghost use Rattle.std.specs.Prelude.{◌≡◌, ◌++◌, IfOk, string_bytes};
+ghost use Rattle.std.specs.Prelude.{◌≡◌, ◌++◌, codes, IfOk, string_bytes};
+ghost use Rattle.geoarrow_layout.specs.Kinds.{coord_type_of, dimension_of};
 ghost use Rattle.geoarrow_fields.specs.Answer.{kind_word, coord_type_word, dimension_word, type_text, error_text, column_text, inferred_text};
 
 use geoarrow_columns::{Column, ColumnFault};
@@ -29,13 +30,32 @@ pub(crate) fn type_after(
     text.push_str(before)?;
     let kind = found.kind();
     text.push_str(kind_word(kind))?;
-    text.push_str(" ")?;
-    text.push_str(coord_type_word(kind.coord_type()))?;
-    text.push_str(" ")?;
-    text.push_str(dimension_word(kind.dimension()))?;
-    text.push_str(" ")?;
+    text.push_str(layout_words(kind))?;
     text.push_str(metadata)?;
     Ok(text)
+}
+
+/// The words of the coordinate type and of the dimension of a kind, with the blanks around them: one text, so that it is copied at once.
+fn layout_words(kind: Kind) -> &'static str
+    ensures { result.now ≡ codes " " ++ coord_type_word (coord_type_of kind) ++ codes " " ++ dimension_word (dimension_of kind) ++ codes " " }
+{
+    match kind {
+        Kind::Native(_, CoordType::Interleaved, Dimension::XY) => " interleaved XY ",
+        Kind::Native(_, CoordType::Interleaved, Dimension::XYZ) => " interleaved XYZ ",
+        Kind::Native(_, CoordType::Interleaved, Dimension::XYM) => " interleaved XYM ",
+        Kind::Native(_, CoordType::Interleaved, Dimension::XYZM) => " interleaved XYZM ",
+        Kind::Native(_, CoordType::Separated, Dimension::XY) | Kind::Rect(Dimension::XY) =>
+            " separated XY ",
+        Kind::Native(_, CoordType::Separated, Dimension::XYZ) | Kind::Rect(Dimension::XYZ) =>
+            " separated XYZ ",
+        Kind::Native(_, CoordType::Separated, Dimension::XYM) | Kind::Rect(Dimension::XYM) =>
+            " separated XYM ",
+        Kind::Native(_, CoordType::Separated, Dimension::XYZM) | Kind::Rect(Dimension::XYZM) =>
+            " separated XYZM ",
+        Kind::Geometry(CoordType::Interleaved) => " interleaved - ",
+        Kind::Geometry(CoordType::Separated) => " separated - ",
+        Kind::Wkb(_) | Kind::Wkt(_) => " - - ",
+    }
 }
 
 /// What a column holds, as `columns` says it.

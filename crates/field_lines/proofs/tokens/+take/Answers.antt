@@ -69,11 +69,11 @@ take_keys-returns-in_default-clause-ok t c = (no_members, members_over c.args.de
 
 pub take_only-only-preserved : goal.take_only-only-preserved
 take_only-only-preserved t c =
-    only_go_on c.only.invariant (rw c.in-Some.is at c.in_ok-key.ensures.value) c.ne.ensures c.if-ne.false c.in_ok-data_type-2.ensures.ok
+    only_go_on c.only.invariant (rw c.in-Some.is at c.in_ok-key.ensures.value) c.differ.ensures c.if-differ.false c.in_ok-data_type-2.ensures.ok
 
-pub take_only-returns-then-ne-clause-ok : goal.take_only-returns-then-ne-clause-ok
-take_only-returns-then-ne-clause-ok t c =
-    only_spoiled c.only.invariant (search rules) (rw c.in-Some.is at c.in_ok-key.ensures.value) c.ne.ensures c.if-ne.true c.in_ok-skip_value.ensures.ok c.in_ok-skip_members.ensures.ok
+pub take_only-returns-then-differ-clause-ok : goal.take_only-returns-then-differ-clause-ok
+take_only-returns-then-differ-clause-ok t c =
+    only_spoiled c.only.invariant (search rules) (rw c.in-Some.is at c.in_ok-key.ensures.value) c.differ.ensures c.if-differ.true c.in_ok-skip_value.ensures.ok c.in_ok-skip_members.ensures.ok
 
 pub take_parts-parts-init : goal.take_parts-parts-init
 take_parts-parts-init t c =
