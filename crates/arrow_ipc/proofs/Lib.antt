@@ -2,9 +2,7 @@ mod Texts
 mod Opened
 mod Ids
 mod Told
-mod Inserted
 mod TypeOf
-mod Words
 mod Levels
 mod Linked
 mod Made
