@@ -10,5 +10,4 @@ mod Tables
 mod Vectors
 mod TypeTables
 mod Nestings
-mod Built
 mod Written

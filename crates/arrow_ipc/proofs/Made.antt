@@ -1,6 +1,6 @@
 -- Blocks that are made one after the other, the walk along a vector of tables, and the vectors of metadata and of columns.
-use Rattle.std.proofs.Common.{◌≡◌, ℕ, ◌+◌, ◌*◌, ◌^◌, ◌<◌, ◌≤◌, ◌++◌, ◌∷◌, [], List, length, String, Global, string_bytes, string_cmp, Ordering, Less, Greater, Ok, refl, sym, ap, ◌∙◌, subst, arith, append_assoc, append-nil, Result}
-use Rattle.std.proofs.lemmas.List.{length-append, map-append}
+use Rattle.std.proofs.Common.{◌≡◌, ℕ, ◌+◌, ◌*◌, ◌^◌, ◌<◌, ◌≤◌, ◌++◌, ◌∷◌, [], List, length, String, Global, string_bytes, string_cmp, map, Ordering, Less, Greater, Ok, refl, sym, ap, ◌∙◌, subst, arith, append_assoc, append-nil, Result, Vec}
+use Rattle.std.proofs.lemmas.List.{length-append, map-append, map_push}
 use Rattle.std.specs.Ordering.{ordering_reverse, match_ordering}
 use Rattle.std.specs.Cmp.{IsTotalOrder}
 use Rattle.std.specs.List.{AllZip, AllByRecursion}
@@ -14,14 +14,29 @@ use Rattle.arrow_values.specs.Texts.{put_text}
 use Rattle.arrow_columns.specs.Column.{ColumnTree}
 use Rattle.arrow_ipc.specs.Wire.{target_at, vector_at}
 use Rattle.arrow_ipc.specs.Columns.{entry_at, put_next, texts_at, put_column, columns_by, column_at}
-use Rattle.arrow_ipc.specs.Blocks.{Holds, lengths, rounded, vector_block, entry_read, texts_read, columns_read, child_in}
+use Rattle.arrow_ipc.specs.Blocks.{Holds, lengths, vector_block, entry_read, texts_read, columns_read, child_in}
 use Rattle.arrow_ipc.specs.Fault.{◌>>=◌}
 use Rattle.arrow_ipc.specs.Tells.{gather}
+use Rattle.arrow_ipc.specs.Rooms.{texts_room, Refuses, Makes, Gives}
 use Rattle.arrow_ipc.specs.declared.fault.Fault.{Fault}
+use Rattle.arrow_ipc.specs.declared.write.WriteError.{WriteError}
+use Rattle.arrow_ipc.specs.declared.write.WriteError.TheVariants.{Column}
 use Rattle.arrow_ipc.proofs.Told.{bound}
+use Rattle.arrow_ipc.proofs.Vectors.{items}
 use Rattle.arrow_values.proofs.TextLaws.{texts_of_insert}
 use Rattle.arrow_ipc.proofs.Tables.{column_by_table}
 use Rattle.arrow_ipc.proofs.Linked.{length_linked, AreLinked, AreWhole, whole_lengths, are_linked, is_vector}
+
+-- ---- a block that was made, or why not
+
+-- the room is no less, and what cannot be held the same
+pub refuses_more : (e : WriteError) (P Q : Type 0) (n m : ℕ) → (P → Q) → n ≤ m → Refuses e P n → Refuses e Q m
+refuses_more (Column i) P Q n m f le r = f r
+refuses_more _ P Q n m f le r = grind arith
+
+-- it holds what it should, in the room that it has
+pub gives : (r : Result (Vec ℕ Global) WriteError) (block : List ℕ) (P : List ℕ → Type 0) (unfit : Type 0) (room : ℕ) → Makes block r → (length block < 2 ^ 31 → P block) → length block ≤ room → Gives P unfit room r
+gives r block P unfit room made holds le = grind (arith, refuses_more)
 
 -- ---- one block after the other
 
@@ -56,11 +71,15 @@ module _ {A : Type 0} (P : List ℕ → A → Type 0) (rooms : List A → ℕ) w
         fits = omega (arith, sum, many, before, room);
       }
 
-  pub made_all : (blocks : List (List ℕ)) (all : List A) → Made P rooms blocks [] all → AllZip P blocks all
-  made_all blocks all m = subst (λ xs. AllZip P blocks xs) (sym (append-nil m.done) ∙ m.parts) m.each
-
-pub length_vector : (bs : List (List ℕ)) → length (vector_block bs) ≡ rounded (4 + 4 * length bs) + lengths bs
-length_vector bs = let size = length_linked (length bs) bs [] in omega (arith, size)
+  -- the vector of all of them
+  pub made_gives : {B : Type 0} (read : List ℕ → ℕ → Result (B × ℕ) Fault) (a : B) (unfit : Type 0) (blocks : List (List ℕ)) (all : List A) → rooms [] ≡ 12 → Made P rooms blocks [] all
+      → (AllZip P blocks all → length (vector_block blocks) < 2 ^ 32 → Holds read (vector_block blocks) a) → (r : Result (Vec ℕ Global) WriteError) → Makes (vector_block blocks) r
+      → Gives (λ b. Holds read b a) unfit (rooms all) r
+  made_gives read a unfit blocks all none m holds r made =
+      let fits = m.fits in
+      let size = length_linked (length blocks) blocks [] in
+      gives r (vector_block blocks) (λ b. Holds read b a) unfit (rooms all) made
+      (λ small. holds (subst (λ xs. AllZip P blocks xs) (sym (append-nil m.done) ∙ m.parts) m.each) (omega (arith, small))) (omega (arith, fits, size, none))
 
 -- ---- the walk along a vector of tables
 
@@ -150,6 +169,19 @@ unfolding texts_at
 texts_hold es sorted bs all small =
     let h = vector_holds entry_read put put_next [] entry_step bs (texts_of es) all small in
     subst (λ (m : Metadata). Holds texts_read (vector_block bs) m) (joined_texts [] es sorted) h
+
+-- one more entry
+module _ (blocks : List (Vec ℕ Global)) (left rest all : Texts) (k v : String Global) (kb vb : Text) (splits : left ≡ (k, v) ∷ rest) (key : kb ≡ string_bytes k) (text : vb ≡ string_bytes v)
+    (way : Made (Holds entry_read) texts_room (map items blocks) (texts_of left) (texts_of all)) where
+  here : Made (Holds entry_read) texts_room (map items blocks) ((kb, vb) ∷ texts_of rest) (texts_of all)
+  here = rw (key, text) (subst (λ (l : Texts). Made (Holds entry_read) texts_room (map items blocks) (texts_of l) (texts_of all)) splits way)
+
+  pub entries_more : (new : List (Vec ℕ Global)) (b : Vec ℕ Global) → new ≡ blocks ++ b ∷ [] → Holds entry_read b.items (kb, vb) → length b.items ≤ 48 + length kb + length vb
+      → Made (Holds entry_read) texts_room (map items new) (texts_of rest) (texts_of all)
+  entries_more new b pushed one most =
+      let same : map items new ≡ map items blocks ++ b.items ∷ [] = ap (map items) pushed ∙ map_push items blocks b in
+      subst (λ bs. Made (Holds entry_read) texts_room bs (texts_of rest) (texts_of all)) (sym same)
+      (made_more (Holds entry_read) texts_room (map items blocks) b.items (kb, vb) (texts_of rest) (texts_of all) here one (omega (arith, most)))
 
 -- ---- columns
 

@@ -1,5 +1,5 @@
 -- The blocks of texts, of entries, of columns, of schemas and of messages.
-use Rattle.std.proofs.Common.{◌≡◌, ℕ, ◌+◌, ◌-◌, ◌^◌, ◌<◌, true, ◌++◌, ◌∷◌, [], List, length, Ok, refl, sym, ap, ◌∙◌, arith, append_assoc, suc, ◌≤◌, Bool, false, Option, None, ◌==◌, if◌then◌else◌, take, drop, Vec, Global, Result, Err, IfOk, append-nil}
+use Rattle.std.proofs.Common.{◌≡◌, ℕ, ◌+◌, ◌-◌, ◌^◌, ◌<◌, true, ◌++◌, ◌∷◌, [], List, length, Ok, refl, sym, ap, ◌∙◌, arith, append_assoc, suc, ◌≤◌, Bool, false, Option, None, ◌==◌, if◌then◌else◌, take, drop, append-nil}
 use Rattle.std.specs.Str.{is_utf8}
 use Rattle.std.proofs.lemmas.List.{length-append, take_at}
 use mir.Val.{bool_byte}
@@ -16,10 +16,9 @@ use Rattle.arrow_ipc.specs.Types.{type_of}
 use Rattle.arrow_ipc.specs.declared.kinds.Kind.{Kind}
 use Rattle.arrow_ipc.specs.Longs.{u64_in}
 use Rattle.arrow_ipc.specs.Schema.{SchemaTree, head_at, schema_at, message_at, cut, message_in, schema_of_message}
-use Rattle.arrow_ipc.specs.Denotes.{IsStreamOf}
+use Rattle.arrow_ipc.specs.Writes.{Streams}
 use Rattle.arrow_ipc.specs.declared.schema.Endianness.{Endianness}
 use Rattle.arrow_ipc.specs.declared.schema.Endianness.TheVariants.{Little, Big}
-use Rattle.arrow_ipc.specs.declared.write.WriteError.{WriteError}
 use Rattle.arrow_ipc.proofs.Told.{bound}
 use Rattle.std.proofs.lemmas.Bool.{lt-ltb, le-leb}
 use Rattle.arrow_ipc.proofs.Linked.{text_is, is_some, u8_is, u32_is, target_is, length_linked, flat, tail, slot_place, low, length_table, stands, table_holds}
@@ -142,9 +141,12 @@ schema_holds levels cb mb order cs ms columns texts small =
     let is = head_is bytes at l.0.to l.1.0.to order cv.0 mv.0 s.slot order_is l.0.led cv.1 l.1.0.led mv.1 in
     (c.0 + m.0, omega (arith, c.1, m.1), rw (is, cv.2, mv.2) refl))
 
+pub length_schema : (columns texts : List ℕ) (order : ℕ) → length (table_block (12 ∷ 4 ∷ 8 ∷ []) (order ∷ 0 ∷ 0 ∷ 0 ∷ []) (columns ∷ texts ∷ [])) ≡ 32 + length columns + length texts
+length_schema columns texts order = let size = length_table (12 ∷ 4 ∷ 8 ∷ []) (order ∷ 0 ∷ 0 ∷ 0 ∷ []) (columns ∷ texts ∷ []) in omega (arith, size)
+
 -- ---- the message
 
-pub length_message : (schema : List ℕ) → length (message_block schema) ≡ 32 + length schema
+pub length_message : (schema : List ℕ) → length (table_block (8 ∷ 10 ∷ 4 ∷ []) (4 ∷ 0 ∷ 1 ∷ 0 ∷ []) (schema ∷ [])) ≡ 24 + length schema
 length_message schema = let size = length_table (8 ∷ 10 ∷ 4 ∷ []) (4 ∷ 0 ∷ 1 ∷ 0 ∷ []) (schema ∷ []) in omega (arith, size)
 
 message_is : (bytes : List ℕ) (to : ℕ) → target_at bytes 0 ≡ Ok 8 → ((i : ℕ) → slot_at bytes 8 i ≡ Ok (slot_place 8 (8 ∷ 10 ∷ 4 ∷ []) i)) → u16_at bytes 16 ≡ Ok 4 → u8_at bytes 18 ≡ Ok 1 → target_at bytes 12 ≡ Ok to
@@ -176,19 +178,13 @@ in_stream message some small =
     let all : take (length message) message ≡ message = ap (take (length message)) (sym (append-nil message)) ∙ take_at message [] (length message) refl in
     rw (first, size, lt-ltb 0 (length message) some, le-leb (8 + length message) (length bytes) (omega (arith, long)), all) refl
 
-pub stream_is : (levels : ℕ) (cb mb : List ℕ) (order : Endianness) (cs : List ColumnTree) (ms : Metadata) → Holds (columns_read levels) cb cs → Holds texts_read mb ms
-    → length (message_block (schema_block cb mb order)) < 2 ^ 31 → IsStreamOf levels (stream_block (message_block (schema_block cb mb order))) (record { columns = cs; metadata = ms; endianness = order })
-stream_is levels cb mb order cs ms columns texts small =
+pub stream_holds : (levels : ℕ) (cb mb : List ℕ) (order : Endianness) → length (message_block (schema_block cb mb order)) < 2 ^ 31 → Streams levels cb mb order (stream_block (message_block (schema_block cb mb order)))
+unfolding Streams
+stream_holds levels cb mb order small cs ms columns texts =
     let block = schema_block cb mb order in
     let size = length_message block in
     let got = message_reads levels block (record { columns = cs; metadata = ms; endianness = order }) (schema_holds levels cb mb order cs ms columns texts (omega (arith, size, small))) (omega (arith, small)) in
     (message_block block, in_stream (message_block block) (omega (arith, size)) (omega (arith, small)), (got.0, omega (arith, got.1, size), got.2))
-
-pub stream_ok : (levels : ℕ) (cb mb : List ℕ) (order : Endianness) (cs : List ColumnTree) (ms : Metadata) → Holds (columns_read levels) cb cs → Holds texts_read mb ms
-    → (r : Result (Vec ℕ Global) WriteError) → IfOk r (λ b. b.items ≡ stream_block (message_block (schema_block cb mb order))) → IfOk r (λ b. length (message_block (schema_block cb mb order)) < 2 ^ 31)
-    → IfOk r (λ b. IsStreamOf levels b.items (record { columns = cs; metadata = ms; endianness = order }))
-stream_ok levels cb mb order cs ms columns texts (Ok b) is small = rw is (stream_is levels cb mb order cs ms columns texts small)
-stream_ok levels cb mb order cs ms columns texts (Err e) is small = tt
 
 pub stream_built : (s a b c d e message block : List ℕ) (x : ℕ) → s ≡ [] → a ≡ s ++ word 0xffff_ffff → b ≡ a ++ word x → c ≡ b ++ (8 ∷ 0 ∷ 0 ∷ 0 ∷ 0 ∷ 0 ∷ 0 ∷ 0 ∷ []) → d ≡ c ++ e → e ≡ message
     → message ≡ table_block (8 ∷ 10 ∷ 4 ∷ []) (4 ∷ 0 ∷ 1 ∷ 0 ∷ []) (block ∷ []) → x ≡ 8 + length message → d ≡ stream_block (message_block block)

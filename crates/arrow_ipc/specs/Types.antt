@@ -1,5 +1,5 @@
 -- A column's type, from its kind and its children.
-use Rattle.std.specs.Prelude.{ℕ, ◌^◌, ◌-◌, ℤ, List, ◌++◌, length, map, codes, Option, Some, None, nat_lt, ◌==◌, if◌then◌else◌}
+use Rattle.std.specs.Prelude.{ℕ, ℤ, List, ◌++◌, length, map, codes, Option, Some, None, ◌==◌, if◌then◌else◌}
 use Rattle.std.specs.List.{zip}
 use Rattle.std.specs.Fmt.{decimal, signed_decimal}
 use Rattle.std.specs.Int.{w32, cast_signed}

@@ -3,8 +3,7 @@ use Rattle.std.proofs.lemmas.List.{drop_all}
 use Rattle.std.proofs.lemmas.Grind.{common_steps}
 use Rattle.arrow_ipc.specs.Blocks.{linked, union_block}
 use Rattle.arrow_ipc.specs.Shapes.{are_ids}
-use Rattle.arrow_ipc.proofs.Built.{made_sound, unsound}
-use Rattle.arrow_ipc.proofs.TypeTables.{length_vector_of, length_union, ids_written, union_built}
+use Rattle.arrow_ipc.proofs.TypeTables.{made_sound, unsound, length_vector_of, length_union, ids_written, union_built}
 use Rattle.arrow_ipc.proofs.type_tables.union_block.Goals as goal
 
 pub returns : goal.returns
