@@ -62,7 +62,7 @@ fn put_entry(alloc: Global, bytes: &[u8], at: usize, budget: &mut usize, to: &mu
 }
 
 /// The metadata to which the offsets of a vector lead.
-#[tactic(auto, using(crate::proofs::Told::goes_on), unfolding(crate::specs::Columns::texts_at))]
+#[tactic(auto, using(crate::proofs::Told::begins, crate::proofs::Told::goes_on, crate::proofs::Told::breaks_off, crate::proofs::Told::is_done), unfolding(crate::specs::Columns::texts_at))]
 pub(crate) fn read_texts(alloc: Global, bytes: &[u8], at: Vector, budget: &mut usize) -> Read<Texts>
     requires { at.0 + 4 * at.1 ≤ length bytes.now }
     ensures { Tells (λ m. texts_of m.entries) (texts_at bytes.now at) budget.old budget.new result }
@@ -114,7 +114,7 @@ fn are_as_many(written: Option<Vector>, count: usize) -> bool
 }
 
 /// The type ids of a union of so many children.
-#[tactic(auto, using(crate::proofs::Ids::next_id), unfolding(crate::specs::Columns::ids_at))]
+#[tactic(auto, using(crate::proofs::Ids::next_id, crate::proofs::Ids::all_ids), unfolding(crate::specs::Columns::ids_at))]
 #[inline(never)]
 fn read_ids(alloc: Global, bytes: &[u8], parts: &Parts<'_>, count: usize) -> Read<Vec<i8>>
     requires { IfSome parts.now.ids (λ v. v.0 + 4 * v.1 ≤ length bytes.now) }
@@ -188,7 +188,7 @@ fn read_column(
 }
 
 /// Reads the columns to which the offsets of a vector lead.
-#[tactic(auto, using(crate::proofs::Told::goes_on, std::proofs::lemmas::List::map_push))]
+#[tactic(auto, using(crate::proofs::Told::begins, crate::proofs::Told::goes_on, crate::proofs::Told::breaks_off, crate::proofs::Told::put_fails, crate::proofs::Told::is_done, std::proofs::lemmas::List::map_push), unfolding(crate::specs::Columns::columns_by))]
 #[cycle(read)]
 pub(crate) fn read_columns(
     alloc: Global,
