@@ -1,5 +1,4 @@
 mod Texts
-mod Opened
 mod Ids
 mod Told
 mod TypeOf

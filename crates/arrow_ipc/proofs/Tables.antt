@@ -5,7 +5,7 @@ use Rattle.std.proofs.lemmas.List.{length-append, take_at}
 use mir.Val.{bool_byte}
 use Rattle.arrow_values.specs.Tree.{Text, Metadata}
 use Rattle.arrow_columns.specs.Column.{TypeTree, ColumnTree}
-use Rattle.arrow_ipc.specs.Wire.{utf8_at, u8_at, slot_at, target_at, vector_at, u16_at, u32_at}
+use Rattle.arrow_ipc.specs.Wire.{utf8_at, u8_at, opened_at, slot_at, target_at, vector_at, u16_at, u32_at}
 use Rattle.arrow_ipc.specs.Slots.{table_in, u8_in, flag_in, text_in, vector_in, u16_in}
 use Rattle.arrow_ipc.specs.Columns.{entry_in, texts_at, ids_at, ids_of_kind, counted, typed, finished, columns_by, column_at}
 use Rattle.arrow_ipc.specs.Blocks.{Holds, word, rounded, offsets, text_block, text_read, entry_block, entry_read, IsType, flag, table_block, column_block, column_in, columns_read, texts_read, order_number, schema_block, message_block, stream_block}
@@ -14,6 +14,7 @@ use Rattle.arrow_ipc.specs.Parts.{Own, tag_in, zone_in, index_in, ids_in, parts_
 use Rattle.arrow_ipc.specs.Kinds.{kind_at}
 use Rattle.arrow_ipc.specs.Types.{type_of}
 use Rattle.arrow_ipc.specs.declared.kinds.Kind.{Kind}
+use Rattle.arrow_ipc.specs.declared.wire.Table.{Table}
 use Rattle.arrow_ipc.specs.Longs.{u64_in}
 use Rattle.arrow_ipc.specs.Schema.{SchemaTree, head_at, schema_at, message_at, cut, message_in, schema_of_message}
 use Rattle.arrow_ipc.specs.Writes.{Streams}
@@ -52,7 +53,7 @@ entry_holds kb tb key text hk ht small =
     let t = ht.reads bytes l.1.0.to l.1.0.lies in
     let key_is = is_text bytes l.0.to key k.0 k.2 in
     let text_is = is_text bytes l.1.0.to text t.0 t.2 in
-    (8 + length key + length text, omega (arith, k.1, t.1, key_is.1, text_is.1), rw (s.slot 0, l.0.led, key_is.0, s.slot 1, l.1.0.led, text_is.0) refl))
+    (8 + length key + length text, omega (arith, k.1, t.1, key_is.1, text_is.1), rw (s.is_open, s.slot 0, l.0.led, key_is.0, s.slot 1, l.1.0.led, text_is.0) refl))
 
 -- ---- a column's block: its own table, then its name, its type, its children and its metadata
 
@@ -79,14 +80,14 @@ flag_is b = grind arith
 abbrev pub slots : List ℕ
 slots = 4 ∷ 20 ∷ 21 ∷ 8 ∷ 0 ∷ 12 ∷ 16 ∷ []
 
-parts_are : (bytes : List ℕ) (at : ℕ) (nullable : Bool) (tag a b c d : ℕ) (name : Text) (first : Option ℕ) (kind : Kind) (ids : Option (ℕ × ℕ)) (cv mv : ℕ × ℕ)
-    → ((i : ℕ) → slot_at bytes at i ≡ Ok (slot_place at slots i)) → target_at bytes (at + 4) ≡ Ok a → utf8_at bytes a ≡ Ok name → u8_at bytes (at + 20) ≡ Ok (flag nullable)
-    → u8_at bytes (at + 21) ≡ Ok tag → 0 < tag → tag ≤ 26 → target_at bytes (at + 8) ≡ Ok b → slot_at bytes b 0 ≡ Ok first → kind_at bytes tag b ≡ Ok kind → zone_in bytes tag b ≡ Ok [] → ids_in bytes tag b ≡ Ok ids
+parts_are : (bytes : List ℕ) (at : ℕ) (table value : Table) (nullable : Bool) (tag a b c d : ℕ) (name : Text) (first : Option ℕ) (kind : Kind) (ids : Option (ℕ × ℕ)) (cv mv : ℕ × ℕ)
+    → opened_at bytes at ≡ Ok table → table.at ≡ at → ((i : ℕ) → slot_at bytes table i ≡ Ok (slot_place at slots i)) → target_at bytes (at + 4) ≡ Ok a → utf8_at bytes a ≡ Ok name → u8_at bytes (at + 20) ≡ Ok (flag nullable)
+    → u8_at bytes (at + 21) ≡ Ok tag → 0 < tag → tag ≤ 26 → target_at bytes (at + 8) ≡ Ok b → opened_at bytes b ≡ Ok value → slot_at bytes value 0 ≡ Ok first → kind_at bytes tag value ≡ Ok kind → zone_in bytes tag value ≡ Ok [] → ids_in bytes tag value ≡ Ok ids
     → target_at bytes (at + 12) ≡ Ok c → vector_at bytes c ≡ Ok cv → target_at bytes (at + 16) ≡ Ok d → vector_at bytes d ≡ Ok mv
     → parts_in bytes at ≡ Ok (record { table = at; name = name; nullable = nullable; kind = kind; zone = []; index = None; children = cv; ids = ids; texts = mv })
 unfolding parts_in text_in flag_in u8_in tag_in table_in index_in vector_in
-parts_are bytes at nullable tag a b c d name first kind ids cv mv slot to_name named second third some least to_type is_first is_kind no_zone is_ids to_children children to_texts texts =
-    rw (slot 0, to_name, named, slot 1, second, flag_is nullable, slot 2, third, is_some tag some, le-leb tag 26 least, slot 3, to_type, is_first, is_kind, no_zone, is_ids, slot 4, slot 5, to_children, children, slot 6, to_texts, texts) refl
+parts_are bytes at table value nullable tag a b c d name first kind ids cv mv is_open here slot to_name named second third some least to_type is_value is_first is_kind no_zone is_ids to_children children to_texts texts =
+    rw (is_open, slot 0, to_name, named, slot 1, second, flag_is nullable, slot 2, third, is_some tag some, le-leb tag 26 least, slot 3, to_type, is_value, is_first, is_kind, no_zone, is_ids, slot 4, slot 5, to_children, children, slot 6, to_texts, texts, here) refl
 
 pub column_holds : (levels : ℕ) (nb tb cb mb : List ℕ) (nullable : Bool) (tag : ℕ) (name : Text) (cs : List ColumnTree) (t : TypeTree) (ms : Metadata)
     → Holds text_read nb name → IsType tag tb cs t → Holds (columns_read levels) cb cs → Holds texts_read mb ms → length (column_block nb tb cb mb nullable tag) < 2 ^ 32
@@ -105,7 +106,7 @@ column_holds levels nb tb cb mb nullable tag name cs t ms named typing children 
     let cv = bound (vector_at bytes l.1.1.0.to) (columns_by (column_at levels bytes)) (cs, c.0) c.2 in
     let mv = bound (vector_at bytes l.1.1.1.0.to) (texts_at bytes) (ms, m.0) m.2 in
     let p : Own = record { table = at; name = name; nullable = nullable; kind = r.kind; zone = []; index = None; children = cv.0; ids = r.ids; texts = mv.0 } in
-    let parted = parts_are bytes at nullable tag _ _ _ _ name r.first r.kind r.ids cv.0 mv.0 s.slot l.0.led nv.0 first second typing.some typing.least l.1.0.led r.is_first r.is_kind r.no_zone r.is_ids l.1.1.0.led cv.1 l.1.1.1.0.led mv.1 in
+    let parted = parts_are bytes at _ r.table nullable tag _ _ _ _ name r.first r.kind r.ids cv.0 mv.0 s.is_open refl s.slot l.0.led nv.0 first second typing.some typing.least l.1.0.led r.is_open r.is_first r.is_kind r.no_zone r.is_ids l.1.1.0.led cv.1 l.1.1.1.0.led mv.1 in
     (16 + length name + 0 + (c.0 + m.0), omega (arith, n.1, nv.1, c.1, m.1), is_column levels bytes at p cs t ms c.0 m.0 parted refl cv.2 (is_typed bytes p cs t refl refl (r.is_type at)) mv.2))
 
 -- as it is written
@@ -120,10 +121,10 @@ flagged nullable tag bs = ap (λ (f : ℕ). table_block slots (f ∷ tag ∷ 0 �
 ordered : (order : Endianness) → (if order_number order == 0 then Little else Big) ≡ order
 ordered order = grind arith
 
-head_is : (bytes : List ℕ) (at a b : ℕ) (order : Endianness) (cv mv : ℕ × ℕ) → ((i : ℕ) → slot_at bytes at i ≡ Ok (slot_place at (12 ∷ 4 ∷ 8 ∷ []) i)) → u16_at bytes (at + 12) ≡ Ok (order_number order)
+head_is : (bytes : List ℕ) (at a b : ℕ) (table : Table) (order : Endianness) (cv mv : ℕ × ℕ) → opened_at bytes at ≡ Ok table → ((i : ℕ) → slot_at bytes table i ≡ Ok (slot_place at (12 ∷ 4 ∷ 8 ∷ []) i)) → u16_at bytes (at + 12) ≡ Ok (order_number order)
     → target_at bytes (at + 4) ≡ Ok a → vector_at bytes a ≡ Ok cv → target_at bytes (at + 8) ≡ Ok b → vector_at bytes b ≡ Ok mv → head_at bytes at ≡ Ok (record { endianness = order; fields = cv; texts = mv })
 unfolding head_at u16_in table_in vector_in
-head_is bytes at a b order cv mv slot order_is to_columns columns to_texts texts = rw (slot 0, order_is, slot 1, to_columns, columns, slot 2, to_texts, texts, ordered order) refl
+head_is bytes at a b table order cv mv is_open slot order_is to_columns columns to_texts texts = rw (is_open, slot 0, order_is, slot 1, to_columns, columns, slot 2, to_texts, texts, ordered order) refl
 
 schema_holds : (levels : ℕ) (cb mb : List ℕ) (order : Endianness) (cs : List ColumnTree) (ms : Metadata) → Holds (columns_read levels) cb cs → Holds texts_read mb ms → length (schema_block cb mb order) < 2 ^ 32
     → Holds (schema_at levels) (schema_block cb mb order) (record { columns = cs; metadata = ms; endianness = order })
@@ -138,7 +139,7 @@ schema_holds levels cb mb order cs ms columns texts small =
     let m = texts.reads bytes l.1.0.to l.1.0.lies in
     let cv = bound (vector_at bytes l.0.to) (columns_by (column_at levels bytes)) (cs, c.0) c.2 in
     let mv = bound (vector_at bytes l.1.0.to) (texts_at bytes) (ms, m.0) m.2 in
-    let is = head_is bytes at l.0.to l.1.0.to order cv.0 mv.0 s.slot order_is l.0.led cv.1 l.1.0.led mv.1 in
+    let is = head_is bytes at l.0.to l.1.0.to _ order cv.0 mv.0 s.is_open s.slot order_is l.0.led cv.1 l.1.0.led mv.1 in
     (c.0 + m.0, omega (arith, c.1, m.1), rw (is, cv.2, mv.2) refl))
 
 pub length_schema : (columns texts : List ℕ) (order : ℕ) → length (table_block (12 ∷ 4 ∷ 8 ∷ []) (order ∷ 0 ∷ 0 ∷ 0 ∷ []) (columns ∷ texts ∷ [])) ≡ 32 + length columns + length texts
@@ -149,10 +150,10 @@ length_schema columns texts order = let size = length_table (12 ∷ 4 ∷ 8 ∷ 
 pub length_message : (schema : List ℕ) → length (table_block (8 ∷ 10 ∷ 4 ∷ []) (4 ∷ 0 ∷ 1 ∷ 0 ∷ []) (schema ∷ [])) ≡ 24 + length schema
 length_message schema = let size = length_table (8 ∷ 10 ∷ 4 ∷ []) (4 ∷ 0 ∷ 1 ∷ 0 ∷ []) (schema ∷ []) in omega (arith, size)
 
-message_is : (bytes : List ℕ) (to : ℕ) → target_at bytes 0 ≡ Ok 8 → ((i : ℕ) → slot_at bytes 8 i ≡ Ok (slot_place 8 (8 ∷ 10 ∷ 4 ∷ []) i)) → u16_at bytes 16 ≡ Ok 4 → u8_at bytes 18 ≡ Ok 1 → target_at bytes 12 ≡ Ok to
+message_is : (bytes : List ℕ) (to : ℕ) (table : Table) → target_at bytes 0 ≡ Ok 8 → opened_at bytes 8 ≡ Ok table → ((i : ℕ) → slot_at bytes table i ≡ Ok (slot_place 8 (8 ∷ 10 ∷ 4 ∷ []) i)) → u16_at bytes 16 ≡ Ok 4 → u8_at bytes 18 ≡ Ok 1 → target_at bytes 12 ≡ Ok to
     → message_at bytes ≡ Ok to
 unfolding message_at u64_in u16_in u8_in table_in
-message_is bytes to root slot version tag header = rw (root, slot 0, version, slot 1, tag, slot 3, slot 2, header) refl
+message_is bytes to table root is_open slot version tag header = rw (root, is_open, slot 0, version, slot 1, tag, slot 3, slot 2, header) refl
 
 message_reads : (levels : ℕ) (block : List ℕ) (s : SchemaTree) → Holds (schema_at levels) block s → length (message_block block) < 2 ^ 32
     → (n : ℕ) × (n ≤ length block) × (schema_of_message levels (message_block block) ≡ Ok (s, n))
@@ -164,7 +165,7 @@ message_reads levels block s h small =
     let root : target_at bytes 0 ≡ Ok 8 = target_is bytes 0 8 (drop 4 bytes) refl (omega arith) (omega arith) (omega arith) refl in
     let m = stands (8 ∷ 10 ∷ 4 ∷ []) numbers (block ∷ []) refl (omega arith) (omega arith, (omega arith, (omega arith, tt))) (h.whole, tt) (omega (arith, small)) bytes 8 (record { after = []; is = sym (append-nil table); whole = refl }) in
     let got = h.reads bytes m.links.0.to m.links.0.lies in
-    (got.0, got.1, rw (message_is bytes m.links.0.to root m.slot (low bytes 16 4 _ refl (m.number 0)) (u8_is bytes 18 1 _ (m.number 2)) m.links.0.led) got.2)
+    (got.0, got.1, rw (message_is bytes m.links.0.to _ root m.is_open m.slot (low bytes 16 4 _ refl (m.number 0)) (u8_is bytes 18 1 _ (m.number 2)) m.links.0.led) got.2)
 
 -- ---- the stream
 

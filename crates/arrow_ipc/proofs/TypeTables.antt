@@ -12,7 +12,7 @@ use Rattle.arrow_columns.specs.Column.{TypeTree, known, ColumnTree}
 use Rattle.arrow_columns.specs.Nested.{all_known, known_fields}
 use Rattle.arrow_columns.specs.declared.nested.ListForm.TheVariants.{Fixed}
 use Rattle.arrow_ipc.specs.Fault.{◌>>=◌}
-use Rattle.arrow_ipc.specs.Wire.{u8_at, u16_at, u32_at, slot_at, target_at, vector_at}
+use Rattle.arrow_ipc.specs.Wire.{u8_at, u16_at, u32_at, opened_at, slot_at, target_at, vector_at}
 use Rattle.arrow_ipc.specs.Slots.{u8_in, u16_in, u32_in, flag_in}
 use Rattle.arrow_ipc.specs.Kinds.{int_at, number_at, plain_of, kind_at}
 use Rattle.arrow_ipc.specs.Parts.{zone_in, ids_in}
@@ -22,13 +22,14 @@ use Rattle.arrow_ipc.specs.Blocks.{Lies, IsType, word, offsets, number, truth, p
 use Rattle.arrow_ipc.specs.Shapes.{column_of, member_ids, are_ids, member_fields, nested_columns, shape_of, ids_of, shape_tag, shape_bytes, has_table}
 use Rattle.arrow_ipc.specs.declared.fault.Fault.{Fault}
 use Rattle.arrow_ipc.specs.declared.kinds.Kind.{Kind}
+use Rattle.arrow_ipc.specs.declared.wire.Table.{Table as Opened}
 use Rattle.arrow_ipc.specs.declared.kinds.Kind.TheVariants.{Plain, List as ListOf, Struct, Union}
 use Rattle.arrow_values.specs.declared.tree.DataType.TheVariants.{Null}
 use Rattle.arrow_ipc.specs.Rooms.{is_sound, table_room, Refuses, Makes, MakesSound}
 use Rattle.arrow_ipc.specs.declared.shapes.Shape.{Shape}
 use Rattle.arrow_ipc.specs.declared.shapes.Shape.TheVariants.{Table}
 use Rattle.std.proofs.lemmas.Bool.{ltb-true, eq-eqb}
-use Rattle.arrow_ipc.proofs.Linked.{u8_is, u16_is, u32_is, length_linked, by_place, flat, slot_place, tail, is_vector, low, length_table, stands}
+use Rattle.arrow_ipc.proofs.Linked.{opened_table, u8_is, u16_is, u32_is, length_linked, by_place, flat, slot_place, tail, is_vector, low, length_table, stands}
 use Rattle.arrow_ipc.specs.declared.write.WriteError.{WriteError}
 use Rattle.arrow_ipc.proofs.Made.{refuses_more}
 use Rattle.arrow_ipc.proofs.Ids.{new_id}
@@ -44,8 +45,9 @@ truth_within : (b : Option Bool) → place_of_truth b ≤ 12
 truth_within b = grind arith
 
 -- what stands in a table with a number and a truth value
-record Own (n : Option ℕ) (b : Option Bool) (bytes : List ℕ) (at : ℕ) : Type 0 where
-  slot : (i : ℕ) → slot_at bytes at i ≡ Ok (slot_place at (place_of_number n ∷ place_of_truth b ∷ []) i)
+record Own (n : Option ℕ) (b : Option Bool) (bytes : List ℕ) (at : ℕ) (table : Opened) : Type 0 where
+  is_open : opened_at bytes at ≡ Ok table
+  slot : (i : ℕ) → slot_at bytes table i ≡ Ok (slot_place at (place_of_number n ∷ place_of_truth b ∷ []) i)
   word_is : u32_at bytes (at + 4) ≡ Ok (number n)
   half_is : u16_at bytes (at + 4) ≡ Ok (from_le_bytes w16 (byte_at 0 (number n) ∷ byte_at 1 (number n) ∷ []))
   byte_is : u8_at bytes (at + 8) ≡ Ok (truth b)
@@ -53,13 +55,17 @@ record Own (n : Option ℕ) (b : Option Bool) (bytes : List ℕ) (at : ℕ) : Ty
 pub length_type : (n : Option ℕ) (b : Option Bool) → length (type_block n b) ≡ 24
 length_type n b = let size = length_table (place_of_number n ∷ place_of_truth b ∷ []) (word (number n) ++ (truth b ∷ 0 ∷ 0 ∷ 0 ∷ [])) [] in omega (arith, size)
 
-owns : (n : Option ℕ) (b : Option Bool) → number n < 2 ^ 32 → (bytes : List ℕ) (at : ℕ) → Lies (type_block n b) bytes at → Own n b bytes at
+abbrev type_opened : Option ℕ → Option Bool → ℕ → Opened
+type_opened n b at = opened_table (place_of_number n ∷ place_of_truth b ∷ []) (word (number n) ++ (truth b ∷ 0 ∷ 0 ∷ 0 ∷ [])) [] at
+
+owns : (n : Option ℕ) (b : Option Bool) → number n < 2 ^ 32 → (bytes : List ℕ) (at : ℕ) → Lies (type_block n b) bytes at → Own n b bytes at (type_opened n b at)
 owns n b small bytes at lies =
     let numbers : List ℕ = word (number n) ++ (truth b ∷ 0 ∷ 0 ∷ 0 ∷ []) in
     let few = length_type n b in
     let s = stands (place_of_number n ∷ place_of_truth b ∷ []) numbers [] refl (omega arith) (number_within n, (truth_within b, tt)) tt (omega (arith, few)) bytes at lies in
     let whole = lies.whole in
     record {
+      is_open = s.is_open;
       slot = s.slot;
       word_is = u32_is bytes (at + 4) (number n) _ (omega (arith, whole)) small (s.number 0);
       half_is = u16_is bytes (at + 4) (byte_at 0 (number n)) (byte_at 1 (number n)) _ (omega (arith, whole)) (s.number 0);
@@ -71,12 +77,12 @@ pub type_built : (n : Option ℕ) (b : Option Bool) (p q : ℕ × ℕ) (numbers 
 type_built n b p q numbers first second is = rw (is, first, second) refl
 
 -- what is read after all that stands in the table
-abbrev after_all : List ℕ → ℕ → Result Kind Fault → Result Kind Fault
-after_all bytes at k = u32_at bytes (at + 4) >>= λ w. u16_at bytes (at + 4) >>= λ h. u8_at bytes (at + 8) >>= λ b. slot_at bytes at 0 >>= λ s. k
+abbrev after_all : List ℕ → ℕ → Opened → Result Kind Fault → Result Kind Fault
+after_all bytes at table k = u32_at bytes (at + 4) >>= λ w. u16_at bytes (at + 4) >>= λ h. u8_at bytes (at + 8) >>= λ b. slot_at bytes table 0 >>= λ s. k
 
 -- a type with no time zone and no type ids, by its kind
 is_type : (tag : ℕ) (n : Option ℕ) (b : Option Bool) (cs : List ColumnTree) (t : TypeTree) (kind : Kind) → 0 < tag → tag ≤ 26 → (tag == 10) ≡ false → (tag == 14) ≡ false → number n < 2 ^ 32
-    → ((bytes : List ℕ) (at : ℕ) → Own n b bytes at → (k : Result Kind Fault) → k ≡ after_all bytes at (kind_at bytes tag at) → k ≡ Ok kind)
+    → ((bytes : List ℕ) (at : ℕ) (table : Opened) → Own n b bytes at table → (k : Result Kind Fault) → k ≡ after_all bytes at table (kind_at bytes tag table) → k ≡ Ok kind)
     → ((bytes : List ℕ) (table : ℕ) → (ids_of_kind kind (ids_at bytes table None (length cs)) >>= λ i. counted table (type_of kind [] i cs)) ≡ Ok t) → IsType tag (type_block n b) cs t
 unfolding zone_in ids_in
 is_type tag n b cs t kind some least no_zone no_ids small kind_is type_is =
@@ -88,11 +94,13 @@ is_type tag n b cs t kind some least no_zone no_ids small kind_is type_is =
       reads = λ bytes at lies.
           let own = owns n b small bytes at lies in
           record {
+            table = type_opened n b at;
             first = slot_place at (place_of_number n ∷ place_of_truth b ∷ []) 0;
             kind = kind;
             ids = None;
+            is_open = own.is_open;
             is_first = own.slot 0;
-            is_kind = kind_is bytes at own (kind_at bytes tag at) (rw (own.word_is, own.half_is, own.byte_is, own.slot 0) refl);
+            is_kind = kind_is bytes at (type_opened n b at) own (kind_at bytes tag (type_opened n b at)) (rw (own.word_is, own.half_is, own.byte_is, own.slot 0) refl);
             no_zone = rw no_zone refl;
             is_ids = rw no_ids refl;
             is_type = type_is bytes;
@@ -137,12 +145,12 @@ count_columns : (ms : MemberTrees) → length (map column_of (member_fields ms))
 count_columns no_members = refl
 count_columns (member i n t b m ms) = let rest = count_columns ms in omega (arith, rest)
 
-by_mode : (bytes : List ℕ) (table : ℕ) (mode : UnionMode) → slot_at bytes table 0 ≡ Ok (Some (table + 8)) → u16_at bytes (table + 8) ≡ Ok (mode_number mode) → kind_at bytes 14 table ≡ Ok (Union mode)
+by_mode : (bytes : List ℕ) (table : Opened) (at : ℕ) (mode : UnionMode) → slot_at bytes table 0 ≡ Ok (Some at) → u16_at bytes at ≡ Ok (mode_number mode) → kind_at bytes 14 table ≡ Ok (Union mode)
 unfolding kind_at number_at plain_of u16_in
-by_mode bytes table Sparse here is = rw (here, is) refl
-by_mode bytes table Dense here is = rw (here, is) refl
+by_mode bytes table at Sparse here is = rw (here, is) refl
+by_mode bytes table at Dense here is = rw (here, is) refl
 
-has_ids : (bytes : List ℕ) (table at to : ℕ) (v : ℕ × ℕ) → slot_at bytes table 1 ≡ Ok (Some at) → target_at bytes at ≡ Ok to → vector_at bytes to ≡ Ok v → ids_in bytes 14 table ≡ Ok (Some v)
+has_ids : (bytes : List ℕ) (table : Opened) (at to : ℕ) (v : ℕ × ℕ) → slot_at bytes table 1 ≡ Ok (Some at) → target_at bytes at ≡ Ok to → vector_at bytes to ≡ Ok v → ids_in bytes 14 table ≡ Ok (Some v)
 unfolding ids_in
 has_ids bytes table at to v here led is = rw (here, led, is) refl
 
@@ -193,13 +201,15 @@ union_type mode ms good few =
           let mode_is = low bytes (at + 8) (mode_number mode) _ (omega (arith, whole)) (s.number 0) in
           let v = ids_lie bytes l.0.to ids l.0.lies (omega (arith, size, few)) good in
           record {
+            table = _;
             first = Some (at + 8);
             kind = Union mode;
             ids = Some (l.0.to + 4, length ids);
+            is_open = s.is_open;
             is_first = s.slot 0;
-            is_kind = by_mode bytes at mode (s.slot 0) mode_is;
+            is_kind = by_mode bytes _ (at + 8) mode (s.slot 0) mode_is;
             no_zone = refl;
-            is_ids = has_ids bytes at (at + 4) l.0.to (l.0.to + 4, length ids) (s.slot 1) l.0.led v.0;
+            is_ids = has_ids bytes _ (at + 4) l.0.to (l.0.to + 4, length ids) (s.slot 1) l.0.led v.0;
             is_type = λ table. is_union bytes table mode ms (l.0.to + 4, length ids) refl (v.1 table);
           };
     }
@@ -234,16 +244,16 @@ pub table_is : (t : Tree) → has_table (shape_of t) (ids_of t) ≡ true → len
 unfolding kind_at number_at plain_of int_at type_of u8_in u16_in u32_in flag_in
 table_is (union ms mode) sound small = union_type mode ms sound small
 table_is (struct fs) sound small =
-    is_type 13 None None _ _ Struct (omega arith) (omega arith) refl refl (omega arith) (λ bytes at o k e. simp (o.slot, o.word_is, o.half_is, o.byte_is) at e) (λ bytes table. rw (all_are_known (field_list fs), are_fields (field_list fs), field_trees_of_list fs) refl)
+    is_type 13 None None _ _ Struct (omega arith) (omega arith) refl refl (omega arith) (λ bytes at table o k e. simp (o.slot, o.word_is, o.half_is, o.byte_is) at e) (λ bytes table. rw (all_are_known (field_list fs), are_fields (field_list fs), field_trees_of_list fs) refl)
 table_is (fixed_size_list n t b m (negsuc s)) sound small = absurd (cc)
 table_is (fixed_size_list n t b m (pos s)) sound small =
     let lt : nat_lt s (2 ^ 31) ≡ true = grind arith in
     let few = ltb-true s (2 ^ 31) lt in
-    rw lt (is_type 16 (Some s) None _ _ (ListOf (Fixed (pos s))) (omega arith) (omega arith) refl refl (omega (arith, few)) (λ bytes at o k e. simp (o.slot, o.word_is, o.half_is, o.byte_is, lt) at e) (λ bytes table. refl))
-table_is (plain null) sound small = is_type 1 None None _ _ (Plain Null) (omega arith) (omega arith) refl refl (omega arith) (λ bytes at o k e. simp (o.slot, o.word_is, o.half_is, o.byte_is) at e) (λ bytes table. refl)
+    rw lt (is_type 16 (Some s) None _ _ (ListOf (Fixed (pos s))) (omega arith) (omega arith) refl refl (omega (arith, few)) (λ bytes at table o k e. simp (o.slot, o.word_is, o.half_is, o.byte_is, lt) at e) (λ bytes table. refl))
+table_is (plain null) sound small = is_type 1 None None _ _ (Plain Null) (omega arith) (omega arith) refl refl (omega arith) (λ bytes at table o k e. simp (o.slot, o.word_is, o.half_is, o.byte_is) at e) (λ bytes table. refl)
 table_is t sound small =
     is_type (shape_tag (shape_of t)) (number_in (shape_of t)) (truth_in (shape_of t)) (nested_columns t) (known t) _ (omega arith) (omega arith) refl refl (omega arith)
-    (λ bytes at o k e. simp (o.slot, o.word_is, o.half_is, o.byte_is) at e) (λ bytes table. refl)
+    (λ bytes at table o k e. simp (o.slot, o.word_is, o.half_is, o.byte_is) at e) (λ bytes table. refl)
 
 sized_size : (s : ℕ) (b : Bool) → length (shape_bytes (if b then Some (Table 16 (Some s) None) else None) []) ≤ 24
 sized_size s true = omega (arith, length_type)

@@ -9,7 +9,7 @@ use Rattle.arrow_values.specs.declared.tree.UnionMode.TheVariants.{Sparse, Dense
 use Rattle.arrow_columns.specs.Column.{TypeTree, ColumnTree}
 use Rattle.arrow_ipc.specs.Fault.{◌>>=◌, breaks}
 use Rattle.arrow_ipc.specs.Tells.{◌>>+◌}
-use Rattle.arrow_ipc.specs.Wire.{slot_at, utf8_at, vector_at}
+use Rattle.arrow_ipc.specs.Wire.{opened_at, slot_at, utf8_at, vector_at}
 use Rattle.arrow_ipc.specs.Kinds.{kind_at}
 use Rattle.arrow_ipc.specs.Types.{type_of}
 use Rattle.arrow_ipc.specs.Parts.{zone_in, ids_in, parts_in}
@@ -17,6 +17,7 @@ use Rattle.arrow_ipc.specs.Columns.{entry_in, entry_price, texts_at, ids_at, ids
 use Rattle.arrow_ipc.specs.declared.fault.Fault.{Fault}
 use Rattle.arrow_ipc.specs.declared.fault.Rule.TheVariants.{Depth}
 use Rattle.arrow_ipc.specs.declared.kinds.Kind.{Kind}
+use Rattle.arrow_ipc.specs.declared.wire.Table.{Table}
 use Rattle.arrow_ipc.specs.declared.schema.Endianness.{Endianness}
 use Rattle.arrow_ipc.specs.declared.schema.Endianness.TheVariants.{Little, Big}
 
@@ -109,13 +110,15 @@ column_block name type children texts nullable tag =
 
 -- what is read of a type's table, given the children
 pub record ReadsType (tag : ℕ) (cs : List ColumnTree) (t : TypeTree) (bytes : List ℕ) (at : ℕ) : Type 0 where
+  pub table : Table
   pub first : Option ℕ
   pub kind : Kind
   pub ids : Option (ℕ × ℕ)
-  pub is_first : slot_at bytes at 0 ≡ Ok first
-  pub is_kind : kind_at bytes tag at ≡ Ok kind
-  pub no_zone : zone_in bytes tag at ≡ Ok []
-  pub is_ids : ids_in bytes tag at ≡ Ok ids
+  pub is_open : opened_at bytes at ≡ Ok table
+  pub is_first : slot_at bytes table 0 ≡ Ok first
+  pub is_kind : kind_at bytes tag table ≡ Ok kind
+  pub no_zone : zone_in bytes tag table ≡ Ok []
+  pub is_ids : ids_in bytes tag table ≡ Ok ids
   pub is_type : (table : ℕ) → (ids_of_kind kind (ids_at bytes table ids (length cs)) >>= λ i. counted table (type_of kind [] i cs)) ≡ Ok t
 
 -- a type's block

@@ -7,7 +7,7 @@ use Rattle.arrow_values.specs.Texts.{put_text}
 use Rattle.arrow_values.specs.Union.{has}
 use Rattle.arrow_columns.specs.Column.{TypeTree, ColumnTree}
 use Rattle.arrow_ipc.specs.Fault.{◌>>=◌, breaks}
-use Rattle.arrow_ipc.specs.Wire.{u32_at, target_at, utf8_at}
+use Rattle.arrow_ipc.specs.Wire.{opened_at, u32_at, target_at, utf8_at}
 use Rattle.arrow_ipc.specs.Slots.{table_in}
 use Rattle.arrow_ipc.specs.Parts.{Own, parts_at}
 use Rattle.arrow_ipc.specs.Types.{type_of, with_dictionary}
@@ -19,7 +19,8 @@ use Rattle.arrow_ipc.specs.declared.kinds.Kind.TheVariants.{Union}
 
 -- an entry of metadata: slot 0 of its table is its key, slot 1 its text. The last text of a key counts
 unfoldable pub entry_in : List ℕ → ℕ → Result (Text × Text) Fault
-entry_in bytes table = do
+entry_in bytes at = do
+  table ← opened_at bytes at
   key ← (table_in bytes table 0 >>= utf8_at bytes)
   text ← (table_in bytes table 1 >>= utf8_at bytes)
   Ok (key, text)

@@ -37,7 +37,7 @@ fn spend(budget: &mut usize, amount: usize, one: &str, other: &str, at: usize) -
 }
 
 /// The entry of metadata to which the offset at a position leads: its key and its text.
-#[tactic(auto, using(crate::proofs::Opened::table_opens), unfolding(crate::specs::Columns::entry_at, crate::specs::Columns::entry_in))]
+#[tactic(auto, unfolding(crate::specs::Columns::entry_at, crate::specs::Columns::entry_in))]
 fn entry_at(bytes: &[u8], at: usize) -> Result<(&str, &str), Fault>
     ensures { map_ok (λ e. (e.0.now, e.1.now)) result ≡ entry_at bytes.now at }
 {

@@ -47,7 +47,7 @@ pub(crate) struct Parts<'a> {
 #[inline(always)]
 fn tag_in(bytes: &[u8], table: &Table) -> Result<u8, Fault>
     requires { IsOpen bytes.now table.now }
-    ensures { result ≡ tag_in bytes.now table.now.at }
+    ensures { result ≡ tag_in bytes.now table.now }
 {
     let tag = u8_in(bytes, table, 2, 0)?;
     match tag {
@@ -62,7 +62,7 @@ fn tag_in(bytes: &[u8], table: &Table) -> Result<u8, Fault>
 #[inline(always)]
 fn zone_in<'a>(bytes: &'a [u8], tag: u8, table: &Table) -> Result<&'a str, Fault>
     requires { IsOpen bytes.now table.now }
-    ensures { map_ok (λ s. s.now) result ≡ zone_in bytes.now tag table.now.at }
+    ensures { map_ok (λ s. s.now) result ≡ zone_in bytes.now tag table.now }
 {
     if tag == 10 {
         text_in(bytes, table, 1)
@@ -72,10 +72,10 @@ fn zone_in<'a>(bytes: &'a [u8], tag: u8, table: &Table) -> Result<&'a str, Fault
 }
 
 /// The type of a dictionary's indices.
-#[tactic(auto, using(crate::proofs::Opened::u32_opens), unfolding(crate::specs::Parts::index_at, crate::specs::Kinds::int_at))]
+#[tactic(auto, unfolding(crate::specs::Parts::index_at, crate::specs::Kinds::int_at))]
 fn index_at(bytes: &[u8], table: &Table) -> Result<DataType, Fault>
     requires { IsOpen bytes.now table.now }
-    ensures { result ≡ index_at bytes.now table.now.at }
+    ensures { result ≡ index_at bytes.now table.now }
 {
     match slot_at(bytes, table, 1)? {
         None => Ok(DataType::Int32),
@@ -84,10 +84,10 @@ fn index_at(bytes: &[u8], table: &Table) -> Result<DataType, Fault>
 }
 
 /// A column's dictionary, if it has one.
-#[tactic(auto, using(crate::proofs::Opened::u64_opens), unfolding(crate::specs::Parts::index_in))]
+#[tactic(auto, unfolding(crate::specs::Parts::index_in))]
 fn index_in(bytes: &[u8], table: &Table) -> Result<Option<Index>, Fault>
     requires { IsOpen bytes.now table.now }
-    ensures { result ≡ index_in bytes.now table.now.at }
+    ensures { result ≡ index_in bytes.now table.now }
 {
     match slot_at(bytes, table, 4)? {
         None => Ok(None),
@@ -106,7 +106,7 @@ fn index_in(bytes: &[u8], table: &Table) -> Result<Option<Index>, Fault>
 #[inline(always)]
 fn ids_in(bytes: &[u8], tag: u8, table: &Table) -> Result<Option<Vector>, Fault>
     requires { IsOpen bytes.now table.now }
-    ensures is { result ≡ ids_in bytes.now tag table.now.at }
+    ensures is { result ≡ ids_in bytes.now tag table.now }
     ensures within { IfOk result (λ o. IfSome o (λ p. p.0 + 4 * p.1 ≤ length bytes.now)) }
 {
     if tag != 14 {
@@ -119,7 +119,7 @@ fn ids_in(bytes: &[u8], tag: u8, table: &Table) -> Result<Option<Vector>, Fault>
 }
 
 /// What the table of a column, to which the offset at a position leads, says of the column itself.
-#[tactic(auto, using(crate::proofs::Opened::text_opens, crate::proofs::Opened::slot_opens), unfolding(crate::specs::Parts::parts_at, crate::specs::Parts::parts_in))]
+#[tactic(auto, unfolding(crate::specs::Parts::parts_at, crate::specs::Parts::parts_in))]
 #[inline(never)]
 pub(crate) fn parts_at(bytes: &[u8], at: usize) -> Result<Parts<'_>, Fault>
     ensures is { map_ok parts_of result ≡ parts_at bytes.now at }
