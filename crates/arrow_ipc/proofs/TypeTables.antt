@@ -17,7 +17,7 @@ use Rattle.arrow_ipc.specs.Slots.{u8_in, u16_in, u32_in, flag_in}
 use Rattle.arrow_ipc.specs.Kinds.{int_at, number_at, plain_of, kind_at}
 use Rattle.arrow_ipc.specs.Parts.{zone_in, ids_in}
 use Rattle.arrow_ipc.specs.Types.{type_of}
-use Rattle.arrow_ipc.specs.Columns.{ids_at, ids_of_kind, counted, is_new, put_id, ids_from}
+use Rattle.arrow_ipc.specs.Columns.{ids_at, typed, is_new, put_id, ids_from}
 use Rattle.arrow_ipc.specs.Blocks.{Lies, IsType, word, offsets, number, truth, place_of_number, place_of_truth, table_block, type_block, rounded, linked, mode_number, id_words, union_block}
 use Rattle.arrow_ipc.specs.Shapes.{column_of, member_ids, are_ids, member_fields, nested_columns, shape_of, ids_of, shape_tag, shape_bytes, has_table}
 use Rattle.arrow_ipc.specs.declared.fault.Fault.{Fault}
@@ -83,7 +83,7 @@ after_all bytes at table k = u32_at bytes (at + 4) >>= λ w. u16_at bytes (at + 
 -- a type with no time zone and no type ids, by its kind
 is_type : (tag : ℕ) (n : Option ℕ) (b : Option Bool) (cs : List ColumnTree) (t : TypeTree) (kind : Kind) → 0 < tag → tag ≤ 26 → (tag == 10) ≡ false → (tag == 14) ≡ false → number n < 2 ^ 32
     → ((bytes : List ℕ) (at : ℕ) (table : Opened) → Own n b bytes at table → (k : Result Kind Fault) → k ≡ after_all bytes at table (kind_at bytes tag table) → k ≡ Ok kind)
-    → ((bytes : List ℕ) (table : ℕ) → (ids_of_kind kind (ids_at bytes table None (length cs)) >>= λ i. counted table (type_of kind [] i cs)) ≡ Ok t) → IsType tag (type_block n b) cs t
+    → ((bytes : List ℕ) (place : ℕ) → typed bytes place kind [] None cs ≡ Ok t) → IsType tag (type_block n b) cs t
 unfolding zone_in ids_in
 is_type tag n b cs t kind some least no_zone no_ids small kind_is type_is =
     let size = length_type n b in
@@ -155,7 +155,7 @@ unfolding ids_in
 has_ids bytes table at to v here led is = rw (here, led, is) refl
 
 is_union : (bytes : List ℕ) (table : ℕ) (mode : UnionMode) (ms : MemberTrees) (v : ℕ × ℕ) → v.1 ≡ length (member_ids ms) → ids_from bytes table (Some v) [] 0 (length (member_ids ms)) ≡ Ok (member_ids ms)
-    → (ids_of_kind (Union mode) (ids_at bytes table (Some v) (length (map column_of (member_fields ms)))) >>= λ i. counted table (type_of (Union mode) [] i (map column_of (member_fields ms)))) ≡ Ok (known (union ms mode))
+    → typed bytes table (Union mode) [] (Some v) (map column_of (member_fields ms)) ≡ Ok (known (union ms mode))
 unfolding ids_at type_of
 is_union bytes table mode ms v many ids =
     let count = count_columns ms in

@@ -13,7 +13,7 @@ use Rattle.arrow_ipc.specs.Wire.{opened_at, slot_at, utf8_at, vector_at}
 use Rattle.arrow_ipc.specs.Kinds.{kind_at}
 use Rattle.arrow_ipc.specs.Types.{type_of}
 use Rattle.arrow_ipc.specs.Parts.{zone_in, ids_in, parts_in}
-use Rattle.arrow_ipc.specs.Columns.{entry_in, entry_price, texts_at, ids_at, ids_of_kind, counted, columns_by, column_at, finished, priced}
+use Rattle.arrow_ipc.specs.Columns.{entry_in, entry_price, texts_at, typed, columns_by, column_at, finished, priced}
 use Rattle.arrow_ipc.specs.declared.fault.Fault.{Fault}
 use Rattle.arrow_ipc.specs.declared.fault.Rule.TheVariants.{Depth}
 use Rattle.arrow_ipc.specs.declared.kinds.Kind.{Kind}
@@ -119,7 +119,7 @@ pub record ReadsType (tag : ℕ) (cs : List ColumnTree) (t : TypeTree) (bytes : 
   pub is_kind : kind_at bytes tag table ≡ Ok kind
   pub no_zone : zone_in bytes tag table ≡ Ok []
   pub is_ids : ids_in bytes tag table ≡ Ok ids
-  pub is_type : (table : ℕ) → (ids_of_kind kind (ids_at bytes table ids (length cs)) >>= λ i. counted table (type_of kind [] i cs)) ≡ Ok t
+  pub is_type : (place : ℕ) → typed bytes place kind [] ids cs ≡ Ok t
 
 -- a type's block
 pub record IsType (tag : ℕ) (block : List ℕ) (cs : List ColumnTree) (t : TypeTree) : Type 0 where

@@ -78,19 +78,18 @@ abbrev pub counted : ℕ → Option TypeTree → Result TypeTree Fault
 counted table None = breaks Children table
 counted table (Some t) = Ok t
 
--- the type of a column, given its children
-unfoldable pub typed : List ℕ → Own → List ColumnTree → Result TypeTree Fault
-typed bytes p cs = do
-  ids ← ids_of_kind p.kind (ids_at bytes p.table p.ids (length cs))
-  t ← counted p.table (type_of p.kind p.zone ids cs)
-  Ok (with_dictionary p.index t)
+-- the type of a kind, given its children
+abbrev pub typed : List ℕ → ℕ → Kind → Text → Option (ℕ × ℕ) → List ColumnTree → Result TypeTree Fault
+typed bytes table kind zone written cs = do
+  ids ← ids_of_kind kind (ids_at bytes table written (length cs))
+  counted table (type_of kind zone ids cs)
 
 -- a column, given its children
 unfoldable pub finished : List ℕ → Own → List ColumnTree → Result (ColumnTree × ℕ) Fault
 finished bytes p cs = do
-  t ← typed bytes p cs
+  t ← typed bytes p.table p.kind p.zone p.ids cs
   ms ← texts_at bytes p.texts
-  Ok (record { name = p.name; data_type = t; nullable = p.nullable; metadata = ms.0 }, ms.1)
+  Ok (record { name = p.name; data_type = with_dictionary p.index t; nullable = p.nullable; metadata = ms.0 }, ms.1)
 
 abbrev pub priced : Result Own Fault → Result (Own × ℕ) Fault
 priced parts = parts >>= λ p. Ok (p, 16 + length p.name + length p.zone)

@@ -142,7 +142,7 @@ fn ids_of_kind(alloc: Global, bytes: &[u8], parts: &Parts<'_>, count: usize) -> 
 }
 
 /// A column, given its children.
-#[tactic(auto, unfolding(crate::specs::Columns::finished, crate::specs::Columns::typed))]
+#[tactic(auto, unfolding(crate::specs::Columns::finished))]
 fn finish(
     alloc: Global,
     bytes: &[u8],
