@@ -1,20 +1,15 @@
 -- The blocks of texts, of entries, of columns, of schemas and of messages.
-use Rattle.std.proofs.Common.{◌≡◌, ℕ, ◌+◌, ◌-◌, ◌^◌, ◌<◌, true, ◌++◌, ◌∷◌, [], List, length, Ok, refl, sym, ap, ◌∙◌, arith, append_assoc, suc, ◌≤◌, Bool, false, Option, None, ◌==◌, if◌then◌else◌, take, drop, append-nil}
+use Rattle.std.proofs.Common.{◌≡◌, ℕ, ◌+◌, ◌-◌, ◌^◌, ◌<◌, true, ◌++◌, ◌∷◌, [], List, length, Ok, refl, sym, ap, ◌∙◌, arith, append_assoc, suc, ◌≤◌, Bool, false, ◌==◌, if◌then◌else◌, take, drop, append-nil}
 use Rattle.std.specs.Str.{is_utf8}
 use Rattle.std.proofs.lemmas.List.{length-append, take_at}
 use mir.Val.{bool_byte}
 use Rattle.arrow_values.specs.Tree.{Text, Metadata}
 use Rattle.arrow_columns.specs.Column.{TypeTree, ColumnTree}
-use Rattle.arrow_ipc.specs.Wire.{utf8_at, u8_at, opened_at, slot_at, target_at, vector_at, u16_at, u32_at}
+use Rattle.arrow_ipc.specs.Wire.{utf8_at, u8_at, target_at, vector_at, u32_at}
 use Rattle.arrow_ipc.specs.Slots.{table_in, u8_in, flag_in, text_in, vector_in, u16_in}
-use Rattle.arrow_ipc.specs.Columns.{entry_in, texts_at, ids_at, ids_of_kind, counted, typed, finished, columns_by, column_at}
+use Rattle.arrow_ipc.specs.Columns.{entry_in, texts_at, finished, columns_by, column_at}
 use Rattle.arrow_ipc.specs.Blocks.{Holds, word, rounded, offsets, text_block, text_read, entry_block, entry_read, IsType, flag, table_block, column_block, column_in, columns_read, texts_read, order_number, schema_block, message_block, stream_block}
-use Rattle.arrow_ipc.specs.Fault.{◌>>=◌}
-use Rattle.arrow_ipc.specs.Parts.{Own, tag_in, zone_in, index_in, ids_in, parts_in, parts_at}
-use Rattle.arrow_ipc.specs.Kinds.{kind_at}
-use Rattle.arrow_ipc.specs.Types.{type_of}
-use Rattle.arrow_ipc.specs.declared.kinds.Kind.{Kind}
-use Rattle.arrow_ipc.specs.declared.wire.Table.{Table}
+use Rattle.arrow_ipc.specs.Parts.{tag_in, index_in, parts_in, parts_at}
 use Rattle.arrow_ipc.specs.Longs.{u64_in}
 use Rattle.arrow_ipc.specs.Schema.{SchemaTree, head_at, schema_at, message_at, cut, message_in, schema_of_message}
 use Rattle.arrow_ipc.specs.Writes.{Streams}
@@ -22,7 +17,7 @@ use Rattle.arrow_ipc.specs.declared.schema.Endianness.{Endianness}
 use Rattle.arrow_ipc.specs.declared.schema.Endianness.TheVariants.{Little, Big}
 use Rattle.arrow_ipc.proofs.Told.{bound}
 use Rattle.std.proofs.lemmas.Bool.{lt-ltb, le-leb}
-use Rattle.arrow_ipc.proofs.Linked.{text_is, is_some, u8_is, u32_is, target_is, length_linked, flat, tail, slot_place, low, length_table, stands, table_holds}
+use Rattle.arrow_ipc.proofs.Linked.{text_is, is_some, u8_is, u32_is, target_is, length_linked, flat, tail, low, length_table, stands, table_holds}
 
 pub length_text : (text : Text) → length (text_block text) ≡ rounded (5 + length text)
 length_text text = grind (arith, length_linked, length-append)
@@ -84,11 +79,40 @@ column_holds levels nb tb cb mb nullable tag name cs t ms named typing children 
     let m = texts.reads bytes l.1.1.1.0.to l.1.1.1.0.lies in
     let nv = is_text bytes l.0.to name n.0 n.2 in
     let cv = bound (vector_at bytes l.1.1.0.to) (columns_by (column_at levels bytes)) (cs, c.0) c.2 in
-    let mv = bound (vector_at bytes l.1.1.1.0.to) (texts_at bytes) (ms, m.0) m.2 in
-    (16 + length name + 0 + (c.0 + m.0), omega (arith, n.1, nv.1, c.1, m.1), rw (
-      s.is_open, s.slot 0, l.0.led, nv.0, s.slot 1, first, flag_is nullable, s.slot 2, second, is_some tag typing.some, le-leb tag 26 typing.least, s.slot 3, l.1.0.led, r.is_open, r.is_first, r.is_kind, r.no_zone, r.is_ids,
-      s.slot 4, s.slot 5, l.1.1.0.led, cv.1, s.slot 6, l.1.1.1.0.led, mv.1, cv.2, r.is_type at, mv.2,
-    ) refl))
+    let mv = bound (vector_at bytes l.1.1.1.0.to) (texts_at bytes) (ms, m.0) m.2 in (
+      16 + length name + 0 + (c.0 + m.0),
+      omega (arith, n.1, nv.1, c.1, m.1),
+      rw (
+        s.is_open,
+        s.slot 0,
+        l.0.led,
+        nv.0,
+        s.slot 1,
+        first,
+        flag_is nullable,
+        s.slot 2,
+        second,
+        is_some tag typing.some,
+        le-leb tag 26 typing.least,
+        s.slot 3,
+        l.1.0.led,
+        r.is_open,
+        r.is_first,
+        r.is_kind,
+        r.no_zone,
+        r.is_ids,
+        s.slot 4,
+        s.slot 5,
+        l.1.1.0.led,
+        cv.1,
+        s.slot 6,
+        l.1.1.1.0.led,
+        mv.1,
+        cv.2,
+        r.is_type at,
+        mv.2,
+      ) refl,
+    ))
 
 -- as it is written
 flag_byte : (b : Bool) → bool_byte b ≡ flag b

@@ -11,16 +11,17 @@ use Rattle.arrow_values.specs.declared.tree.UnionMode.TheVariants.{Sparse, Dense
 use Rattle.arrow_columns.specs.Column.{TypeTree, known, ColumnTree}
 use Rattle.arrow_columns.specs.Nested.{all_known, known_fields}
 use Rattle.arrow_columns.specs.declared.nested.ListForm.TheVariants.{Fixed}
-use Rattle.arrow_ipc.specs.Fault.{◌>>=◌}
-use Rattle.arrow_ipc.specs.Wire.{u8_at, u16_at, u32_at, opened_at, slot_at, target_at, vector_at}
+use Rattle.arrow_ipc.specs.Fault.{◌>>=◌, breaks}
+use Rattle.arrow_ipc.specs.Wire.{u8_at, u16_at, u32_at, slot_at}
 use Rattle.arrow_ipc.specs.Slots.{u8_in, u16_in, u32_in, flag_in}
 use Rattle.arrow_ipc.specs.Kinds.{int_at, number_at, plain_of, kind_at}
 use Rattle.arrow_ipc.specs.Parts.{zone_in, ids_in}
 use Rattle.arrow_ipc.specs.Types.{type_of}
 use Rattle.arrow_ipc.specs.Columns.{ids_at, typed, is_new, put_id, ids_from}
-use Rattle.arrow_ipc.specs.Blocks.{Lies, IsType, word, offsets, number, truth, place_of_number, place_of_truth, table_block, type_block, rounded, linked, mode_number, id_words, union_block}
+use Rattle.arrow_ipc.specs.Blocks.{IsType, word, offsets, number, truth, place_of_number, place_of_truth, table_block, type_block, rounded, linked, mode_number, id_words, union_block}
 use Rattle.arrow_ipc.specs.Shapes.{column_of, member_ids, are_ids, member_fields, nested_columns, shape_of, ids_of, shape_tag, shape_bytes, has_table}
 use Rattle.arrow_ipc.specs.declared.fault.Fault.{Fault}
+use Rattle.arrow_ipc.specs.declared.fault.Rule.TheVariants.{Parameter}
 use Rattle.arrow_ipc.specs.declared.kinds.Kind.{Kind}
 use Rattle.arrow_ipc.specs.declared.wire.Table.{Table as Opened}
 use Rattle.arrow_ipc.specs.declared.kinds.Kind.TheVariants.{Plain, List as ListOf, Struct, Union}
@@ -29,7 +30,7 @@ use Rattle.arrow_ipc.specs.Rooms.{is_sound, table_room, Refuses, Makes, MakesSou
 use Rattle.arrow_ipc.specs.declared.shapes.Shape.{Shape}
 use Rattle.arrow_ipc.specs.declared.shapes.Shape.TheVariants.{Table}
 use Rattle.std.proofs.lemmas.Bool.{ltb-true, eq-eqb}
-use Rattle.arrow_ipc.proofs.Linked.{opened_table, u8_is, u16_is, u32_is, length_linked, by_place, flat, slot_place, tail, is_vector, low, length_table, stands}
+use Rattle.arrow_ipc.proofs.Linked.{u8_is, u16_is, u32_is, length_linked, by_place, flat, slot_place, tail, is_vector, low, length_table, stands}
 use Rattle.arrow_ipc.specs.declared.write.WriteError.{WriteError}
 use Rattle.arrow_ipc.proofs.Made.{refuses_more}
 use Rattle.arrow_ipc.proofs.Ids.{new_id}
@@ -46,7 +47,6 @@ truth_within b = grind arith
 
 -- what stands in a table with a number and a truth value
 record Own (n : Option ℕ) (b : Option Bool) (bytes : List ℕ) (at : ℕ) (table : Opened) : Type 0 where
-  is_open : opened_at bytes at ≡ Ok table
   slot : (i : ℕ) → slot_at bytes table i ≡ Ok (slot_place at (place_of_number n ∷ place_of_truth b ∷ []) i)
   word_is : u32_at bytes (at + 4) ≡ Ok (number n)
   half_is : u16_at bytes (at + 4) ≡ Ok (from_le_bytes w16 (byte_at 0 (number n) ∷ byte_at 1 (number n) ∷ []))
@@ -54,23 +54,6 @@ record Own (n : Option ℕ) (b : Option Bool) (bytes : List ℕ) (at : ℕ) (tab
 
 pub length_type : (n : Option ℕ) (b : Option Bool) → length (type_block n b) ≡ 24
 length_type n b = let size = length_table (place_of_number n ∷ place_of_truth b ∷ []) (word (number n) ++ (truth b ∷ 0 ∷ 0 ∷ 0 ∷ [])) [] in omega (arith, size)
-
-abbrev type_opened : Option ℕ → Option Bool → ℕ → Opened
-type_opened n b at = opened_table (place_of_number n ∷ place_of_truth b ∷ []) (word (number n) ++ (truth b ∷ 0 ∷ 0 ∷ 0 ∷ [])) [] at
-
-owns : (n : Option ℕ) (b : Option Bool) → number n < 2 ^ 32 → (bytes : List ℕ) (at : ℕ) → Lies (type_block n b) bytes at → Own n b bytes at (type_opened n b at)
-owns n b small bytes at lies =
-    let numbers : List ℕ = word (number n) ++ (truth b ∷ 0 ∷ 0 ∷ 0 ∷ []) in
-    let few = length_type n b in
-    let s = stands (place_of_number n ∷ place_of_truth b ∷ []) numbers [] refl (omega arith) (number_within n, (truth_within b, tt)) tt (omega (arith, few)) bytes at lies in
-    let whole = lies.whole in
-    record {
-      is_open = s.is_open;
-      slot = s.slot;
-      word_is = u32_is bytes (at + 4) (number n) _ (omega (arith, whole)) small (s.number 0);
-      half_is = u16_is bytes (at + 4) (byte_at 0 (number n)) (byte_at 1 (number n)) _ (omega (arith, whole)) (s.number 0);
-      byte_is = u8_is bytes (at + 8) (truth b) _ (s.number 4);
-    }
 
 pub type_built : (n : Option ℕ) (b : Option Bool) (p q : ℕ × ℕ) (numbers : List ℕ) → p ≡ (place_of_number n, number n) → q ≡ (place_of_truth b, truth b) → numbers ≡ word p.1 ++ (q.1 ∷ 0 ∷ 0 ∷ 0 ∷ [])
     → table_block (p.0 ∷ q.0 ∷ []) numbers [] ≡ type_block n b
@@ -92,15 +75,22 @@ is_type tag n b cs t kind some least no_zone no_ids small kind_is type_is =
       some = some;
       least = least;
       reads = λ bytes at lies.
-          let own = owns n b small bytes at lies in
+          let s = stands (place_of_number n ∷ place_of_truth b ∷ []) (word (number n) ++ (truth b ∷ 0 ∷ 0 ∷ 0 ∷ [])) [] refl (omega arith) (number_within n, (truth_within b, tt)) tt (omega (arith, size)) bytes at lies in
+          let whole = lies.whole in
+          let own : Own n b bytes at _ = record {
+            slot = s.slot;
+            word_is = u32_is bytes (at + 4) (number n) _ (omega (arith, whole)) small (s.number 0);
+            half_is = u16_is bytes (at + 4) (byte_at 0 (number n)) (byte_at 1 (number n)) _ (omega (arith, whole)) (s.number 0);
+            byte_is = u8_is bytes (at + 8) (truth b) _ (s.number 4);
+          } in
           record {
-            table = type_opened n b at;
-            first = slot_place at (place_of_number n ∷ place_of_truth b ∷ []) 0;
+            table = _;
+            first = _;
             kind = kind;
             ids = None;
-            is_open = own.is_open;
-            is_first = own.slot 0;
-            is_kind = kind_is bytes at (type_opened n b at) own (kind_at bytes tag (type_opened n b at)) (rw (own.word_is, own.half_is, own.byte_is, own.slot 0) refl);
+            is_open = s.is_open;
+            is_first = s.slot 0;
+            is_kind = kind_is bytes at _ own (kind_at bytes tag _) (rw (own.word_is, own.half_is, own.byte_is, own.slot 0) refl);
             no_zone = rw no_zone refl;
             is_ids = rw no_ids refl;
             is_type = type_is bytes;
@@ -145,22 +135,9 @@ count_columns : (ms : MemberTrees) → length (map column_of (member_fields ms))
 count_columns no_members = refl
 count_columns (member i n t b m ms) = let rest = count_columns ms in omega (arith, rest)
 
-by_mode : (bytes : List ℕ) (table : Opened) (at : ℕ) (mode : UnionMode) → slot_at bytes table 0 ≡ Ok (Some at) → u16_at bytes at ≡ Ok (mode_number mode) → kind_at bytes 14 table ≡ Ok (Union mode)
-unfolding kind_at number_at plain_of u16_in
-by_mode bytes table at Sparse here is = rw (here, is) refl
-by_mode bytes table at Dense here is = rw (here, is) refl
-
-has_ids : (bytes : List ℕ) (table : Opened) (at to : ℕ) (v : ℕ × ℕ) → slot_at bytes table 1 ≡ Ok (Some at) → target_at bytes at ≡ Ok to → vector_at bytes to ≡ Ok v → ids_in bytes 14 table ≡ Ok (Some v)
-unfolding ids_in
-has_ids bytes table at to v here led is = rw (here, led, is) refl
-
-is_union : (bytes : List ℕ) (table : ℕ) (mode : UnionMode) (ms : MemberTrees) (v : ℕ × ℕ) → v.1 ≡ length (member_ids ms) → ids_from bytes table (Some v) [] 0 (length (member_ids ms)) ≡ Ok (member_ids ms)
-    → typed bytes table (Union mode) [] (Some v) (map column_of (member_fields ms)) ≡ Ok (known (union ms mode))
-unfolding ids_at type_of
-is_union bytes table mode ms v many ids =
-    let count = count_columns ms in
-    let as_many : (v.1 == length (member_ids ms)) ≡ true = eq-eqb v.1 (length (member_ids ms)) many in
-    rw (count, as_many, ids, all_are_known (member_fields ms), are_fields (member_fields ms), members_back ms) refl
+moded : (mode : UnionMode) (at : ℕ) → ◌≡◌ {A = Result Kind Fault} (if mode_number mode == 0 then Ok (Union Sparse) else if mode_number mode == 1 then Ok (Union Dense) else breaks Parameter at) (Ok (Union mode))
+moded Sparse at = refl
+moded Dense at = refl
 
 pub length_vector_of : (ids : List ℤ) → length (linked (length ids) [] (id_words ids)) ≡ rounded (4 + 4 * length ids)
 length_vector_of ids = grind (arith, length_linked, length_ids)
@@ -171,25 +148,13 @@ length_union mode ids =
     let vector = length_vector_of ids in
     omega (arith, size, vector)
 
--- the vector of the type ids
-ids_lie : (bytes : List ℕ) (at : ℕ) (ids : List ℤ) → Lies (linked (length ids) [] (id_words ids)) bytes at → length ids < 2 ^ 29 → are_ids [] ids ≡ true
-    → (vector_at bytes at ≡ Ok (at + 4, length ids)) × ((table : ℕ) → ids_from bytes table (Some (at + 4, length ids)) [] 0 (length ids) ≡ Ok ids)
-unfolding offsets
-ids_lie bytes at ids lies few good =
-    let rest = tail bytes at (length ids) [] (id_words ids) lies in
-    let whole = lies.whole in
-    let size = length_vector_of ids in
-    let many = length_ids ids in (
-      is_vector bytes at (length ids) [] (id_words ids) lies (omega (arith, many)) (omega (arith, few, size)),
-      λ table. walk bytes table (at + 4) (length ids) [] ids 0 (at + 4) rest (by_place bytes at _ 4 (flat bytes at (length ids) [] (id_words ids) lies)) (omega arith) (omega (arith, whole)) good,
-    )
-
 pub union_type : (mode : UnionMode) (ms : MemberTrees) → are_ids [] (member_ids ms) ≡ true → length (union_block mode (member_ids ms)) < 2 ^ 31 → IsType 14 (union_block mode (member_ids ms)) (map column_of (member_fields ms)) (known (union ms mode))
-unfolding zone_in
+unfolding kind_at number_at plain_of u16_in zone_in ids_in ids_at type_of offsets
 union_type mode ms good few =
     let ids = member_ids ms in
     let size = length_union mode ids in
     let long = length_vector_of ids in
+    let many = length_ids ids in
     record {
       whole = omega (arith, size);
       some = omega arith;
@@ -199,7 +164,11 @@ union_type mode ms good few =
           let whole = lies.whole in
           let l = s.links in
           let mode_is = low bytes (at + 8) (mode_number mode) _ (omega (arith, whole)) (s.number 0) in
-          let v = ids_lie bytes l.0.to ids l.0.lies (omega (arith, size, few)) good in
+          let fourth = l.0.lies.whole in
+          let vector = is_vector bytes l.0.to (length ids) [] (id_words ids) l.0.lies (omega (arith, many)) (omega (arith, few, size, long)) in
+          let after = tail bytes l.0.to (length ids) [] (id_words ids) l.0.lies in
+          let start = by_place bytes l.0.to (word (length ids) ++ (id_words ids ++ after)) 4 (flat bytes l.0.to (length ids) [] (id_words ids) l.0.lies) in
+          let read : (place : ℕ) → ids_from bytes place (Some (l.0.to + 4, length ids)) [] 0 (length ids) ≡ Ok ids = λ place. walk bytes place (l.0.to + 4) (length ids) [] ids 0 (l.0.to + 4) after start (omega arith) (omega (arith, fourth)) good in
           record {
             table = _;
             first = Some (at + 8);
@@ -207,10 +176,10 @@ union_type mode ms good few =
             ids = Some (l.0.to + 4, length ids);
             is_open = s.is_open;
             is_first = s.slot 0;
-            is_kind = by_mode bytes _ (at + 8) mode (s.slot 0) mode_is;
+            is_kind = rw (s.slot 0, mode_is) (moded mode at);
             no_zone = refl;
-            is_ids = has_ids bytes _ (at + 4) l.0.to (l.0.to + 4, length ids) (s.slot 1) l.0.led v.0;
-            is_type = λ table. is_union bytes table mode ms (l.0.to + 4, length ids) refl (v.1 table);
+            is_ids = rw (s.slot 1, l.0.led, vector) refl;
+            is_type = λ place. rw (count_columns ms, eq-eqb (length ids) (length ids) refl, read place, all_are_known (member_fields ms), are_fields (member_fields ms), members_back ms) refl;
           };
     }
 

@@ -11,7 +11,6 @@ use Rattle.arrow_ipc.specs.Fault.{◌>>=◌, breaks}
 use Rattle.arrow_ipc.specs.Tells.{◌>>+◌}
 use Rattle.arrow_ipc.specs.Wire.{opened_at, slot_at, utf8_at, vector_at}
 use Rattle.arrow_ipc.specs.Kinds.{kind_at}
-use Rattle.arrow_ipc.specs.Types.{type_of}
 use Rattle.arrow_ipc.specs.Parts.{zone_in, ids_in, parts_in}
 use Rattle.arrow_ipc.specs.Columns.{entry_in, entry_price, texts_at, typed, columns_by, column_at, finished, priced}
 use Rattle.arrow_ipc.specs.declared.fault.Fault.{Fault}
