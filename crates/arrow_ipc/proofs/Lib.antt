@@ -9,4 +9,3 @@ mod Tables
 mod Vectors
 mod TypeTables
 mod Nestings
-mod Written
