@@ -5,7 +5,7 @@ ghost use Rattle.arrow_columns.specs.Column.{column_tree};
 ghost use Rattle.arrow_ipc.specs.Fault.{map_ok};
 ghost use Rattle.arrow_ipc.specs.Parts.{parts_of};
 ghost use Rattle.arrow_ipc.specs.Tells.{Tells, Says};
-ghost use Rattle.arrow_ipc.specs.Columns.{entry_at, put_entry, texts_at, id_at, is_new, put_id, are_as_many, ids_at, ids_of_kind, finished, columns_by, column_at};
+ghost use Rattle.arrow_ipc.specs.Columns.{entry_at, put_entry, texts_at, id_at, is_new, put_id, ids_at, finished, columns_by, column_at};
 
 use crate::fault::{Fault, IpcError, Rule};
 use crate::kinds::Kind;
@@ -106,13 +106,6 @@ fn put_id(bytes: &[u8], parts: &Parts<'_>, i: usize, ids: &mut Vec<i8>) -> Read<
     Ok(())
 }
 
-/// Whether as many type ids are written, if any, as there are children.
-fn are_as_many(written: Option<Vector>, count: usize) -> bool
-    ensures { result ≡ are_as_many written count }
-{
-    written.map_or(true, |ids| ids.1 == count)
-}
-
 /// The type ids of a union of so many children.
 #[tactic(auto, using(crate::proofs::Ids::next_id, crate::proofs::Ids::all_ids), unfolding(crate::specs::Columns::ids_at))]
 #[inline(never)]
@@ -120,7 +113,7 @@ fn read_ids(alloc: Global, bytes: &[u8], parts: &Parts<'_>, count: usize) -> Rea
     requires { IfSome parts.now.ids (λ v. v.0 + 4 * v.1 ≤ length bytes.now) }
     ensures { Says (λ ids. ids.items) (ids_at bytes.now parts.now.table parts.now.ids count) result }
 {
-    if !are_as_many(parts.ids, count) {
+    if parts.ids.map_or(false, |ids| ids.1 != count) {
         return Err(IpcError::Broken(Fault::new(Rule::TypeIds, parts.table)));
     }
     let mut ids = Vec::new(alloc);
@@ -128,17 +121,6 @@ fn read_ids(alloc: Global, bytes: &[u8], parts: &Parts<'_>, count: usize) -> Rea
         put_id(bytes, parts, i, &mut ids)?;
     }
     Ok(ids)
-}
-
-/// The type ids of a column: of one that is no union, none.
-fn ids_of_kind(alloc: Global, bytes: &[u8], parts: &Parts<'_>, count: usize) -> Read<Vec<i8>>
-    requires { IfSome parts.now.ids (λ v. v.0 + 4 * v.1 ≤ length bytes.now) }
-    ensures { Says (λ ids. ids.items) (ids_of_kind parts.now.kind (ids_at bytes.now parts.now.table parts.now.ids count)) result }
-{
-    match parts.kind {
-        Kind::Union(_) => read_ids(alloc, bytes, parts, count),
-        _ => Ok(Vec::new(alloc)),
-    }
 }
 
 /// A column, given its children.
@@ -154,7 +136,10 @@ fn finish(
     requires texts { parts.now.texts.0 + 4 * parts.now.texts.1 ≤ length bytes.now }
     ensures { Tells column_tree (finished bytes.now (parts_of parts.now) (map column_tree children.items)) budget.old budget.new result }
 {
-    let ids = ids_of_kind(alloc, bytes, parts, children.len())?;
+    let ids = match parts.kind {
+        Kind::Union(_) => read_ids(alloc, bytes, parts, children.len())?,
+        _ => Vec::new(alloc),
+    };
     let Some(values) = type_of(alloc, &parts.kind, parts.zone, ids, children)? else {
         return Err(IpcError::Broken(Fault::new(Rule::Children, parts.table)));
     };
