@@ -4,7 +4,7 @@ ghost use Rattle.arrow_values.specs.View.{tree, texts_of};
 ghost use Rattle.arrow_columns.specs.Column.{known};
 ghost use Rattle.arrow_ipc.specs.Blocks.{Holds, child_in, columns_read};
 ghost use Rattle.arrow_ipc.specs.Shapes.{column_of, nested_columns};
-ghost use Rattle.arrow_ipc.specs.Rooms.{Gives, IsUnfit, AreUnfit, column_room, field_room, columns_room};
+ghost use Rattle.arrow_ipc.specs.Rooms.{Gives, IsUnfit, AreUnfit, column_room, columns_room};
 
 use crate::blocks::{table_block, text_block, texts_block, vector_block};
 use crate::type_tables::type_table;
@@ -70,30 +70,23 @@ pub(crate) fn data_block(
     )
 }
 
-/// A column of a field.
-#[cycle(write)]
-fn field_block(alloc: Global, field: &Field, levels: usize) -> Block
-    ensures { Gives (λ b. Holds (child_in levels) b (column_of field.now)) (IsUnfit levels field.now.tree) (field_room field.now) result }
-{
-    data_block(
-        alloc,
-        field.name(),
-        field.is_nullable(),
-        field.data_type(),
-        field.metadata(),
-        levels,
-    )
-}
-
 /// The vector of the columns that a type nests.
-#[tactic(auto, using(crate::proofs::Nestings::falls, crate::proofs::Nestings::each_more, crate::proofs::Nestings::each_refused, crate::proofs::Nestings::each_gives))]
+#[tactic(auto, using(crate::proofs::Nestings::falls, crate::proofs::Nestings::each_more, crate::proofs::Nestings::each_refused))]
 #[cycle(write)]
 fn children_block(alloc: Global, fields: &[&Field], levels: usize) -> Block
     ensures { Gives (λ b. Holds (columns_read levels) b (map (λ f. column_of f.now) fields.now)) (AreUnfit levels (map (λ f. column_of f.now) fields.now)) (columns_room (map (λ f. column_of f.now) fields.now)) result }
 {
     let mut blocks = Vec::new(alloc);
     'columns: for field in fields {
-        blocks.push(field_block(alloc, field, levels)?)?;
+        let block = data_block(
+            alloc,
+            field.name(),
+            field.is_nullable(),
+            field.data_type(),
+            field.metadata(),
+            levels,
+        )?;
+        blocks.push(block)?;
     }
     vector_block(alloc, blocks.as_slice())
 }

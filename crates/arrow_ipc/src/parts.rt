@@ -2,7 +2,7 @@
 ghost use Rattle.std.specs.Prelude.{◌≡◌, ◌+◌, ◌*◌, ◌≤◌, length, IfOk, IfSome};
 ghost use Rattle.arrow_ipc.specs.Fault.{map_ok};
 ghost use Rattle.arrow_ipc.specs.Wire.{IsOpen};
-ghost use Rattle.arrow_ipc.specs.Parts.{tag_in, zone_in, index_at, index_in, ids_in, parts_of, parts_at};
+ghost use Rattle.arrow_ipc.specs.Parts.{tag_in, index_at, index_in, ids_in, parts_of, parts_at};
 
 use crate::fault::{Fault, Rule};
 use crate::kinds::{Kind, int_at, kind_at};
@@ -57,20 +57,6 @@ fn tag_in(bytes: &[u8], table: &Table) -> Result<u8, Fault>
     }
 }
 
-/// The time zone of a timestamp; of another type the empty text.
-#[tactic(auto, unfolding(crate::specs::Parts::zone_in))]
-#[inline(always)]
-fn zone_in<'a>(bytes: &'a [u8], tag: u8, table: &Table) -> Result<&'a str, Fault>
-    requires { IsOpen bytes.now table.now }
-    ensures { map_ok (λ s. s.now) result ≡ zone_in bytes.now tag table.now }
-{
-    if tag == 10 {
-        text_in(bytes, table, 1)
-    } else {
-        Ok("")
-    }
-}
-
 /// The type of a dictionary's indices.
 #[tactic(auto, unfolding(crate::specs::Parts::index_at, crate::specs::Kinds::int_at))]
 fn index_at(bytes: &[u8], table: &Table) -> Result<DataType, Fault>
@@ -119,7 +105,7 @@ fn ids_in(bytes: &[u8], tag: u8, table: &Table) -> Result<Option<Vector>, Fault>
 }
 
 /// What the table of a column, to which the offset at a position leads, says of the column itself.
-#[tactic(auto, unfolding(crate::specs::Parts::parts_at, crate::specs::Parts::parts_in))]
+#[tactic(auto, unfolding(crate::specs::Parts::parts_at, crate::specs::Parts::parts_in, crate::specs::Parts::zone_in))]
 #[inline(never)]
 pub(crate) fn parts_at(bytes: &[u8], at: usize) -> Result<Parts<'_>, Fault>
     ensures is { map_ok parts_of result ≡ parts_at bytes.now at }
@@ -138,7 +124,11 @@ pub(crate) fn parts_at(bytes: &[u8], at: usize) -> Result<Parts<'_>, Fault>
         name,
         nullable,
         kind: kind_at(bytes, tag, &value)?,
-        zone: zone_in(bytes, tag, &value)?,
+        zone: if tag == 10 {
+            text_in(bytes, &value, 1)?
+        } else {
+            ""
+        },
         ids: ids_in(bytes, tag, &value)?,
         index: index_in(bytes, &table)?,
         children: vector_in(bytes, &table, 5)?,

@@ -10,13 +10,10 @@ use Rattle.arrow_ipc.proofs.Nestings.{lent, deepest}
 use Rattle.arrow_ipc.proofs.nesting.+write.Given as goal
 
 abbrev pub decreases-data_block : goal.decreases-data_block
-decreases-data_block l = 3 * depth (tree l.data_type.now) + 1
-
-abbrev pub decreases-field_block : goal.decreases-field_block
-decreases-field_block l = 3 * depth l.field.now.tree + 2
+decreases-data_block l = 2 * depth (tree l.data_type.now) + 1
 
 abbrev pub decreases-children_block : goal.decreases-children_block
-decreases-children_block l = 3 * deepest (lent l.fields.now)
+decreases-children_block l = 2 * deepest (lent l.fields.now)
 
 -- the blocks of the columns so far, before those that are left
 abbrev pub invariant-children_block-columns : goal.invariant-children_block-columns
