@@ -1,5 +1,5 @@
 -- Laws of what is read: more levels change nothing of what is read with fewer. So a message or footer denotes one schema at most.
-use Rattle.std.proofs.Common.{◌≡◌, ℕ, zero, suc, ◌+◌, ◌*◌, ◌≤◌, List, length, Result, Ok, Err, MatchResult, subst, arith}
+use Rattle.std.proofs.Common.{◌≡◌, ℕ, zero, suc, ◌+◌, ◌*◌, ◌≤◌, List, length, Result, Ok, Err, MatchResult, arith}
 use Rattle.arrow_columns.specs.Column.{ColumnTree}
 use Rattle.arrow_ipc.specs.Fault.{◌>>=◌}
 use Rattle.arrow_ipc.specs.Parts.{parts_at}

@@ -1,6 +1,6 @@
 -- Blocks that are made one after the other, the walk along a vector of tables, and the vectors of metadata and of columns.
-use Rattle.std.proofs.Common.{◌≡◌, ℕ, ◌+◌, ◌*◌, ◌^◌, ◌<◌, ◌≤◌, ◌++◌, ◌∷◌, [], List, length, String, Global, string_bytes, string_cmp, map, Ordering, Less, Greater, Ok, refl, sym, ap, ◌∙◌, subst, arith, append_assoc, append-nil, Result, Vec}
-use Rattle.std.proofs.lemmas.List.{length-append, map-append, map_push}
+use Rattle.std.proofs.Common.{◌≡◌, ℕ, ◌+◌, ◌*◌, ◌^◌, ◌<◌, ◌≤◌, ◌++◌, ◌∷◌, [], List, length, String, Global, string_bytes, string_cmp, Ordering, Less, Greater, Ok, refl, sym, ap, ◌∙◌, subst, arith, append_assoc, append-nil, Result, Vec}
+use Rattle.std.proofs.lemmas.List.{length-append, map-append}
 use Rattle.std.specs.Ordering.{ordering_reverse, match_ordering}
 use Rattle.std.specs.Cmp.{IsTotalOrder}
 use Rattle.std.specs.List.{AllZip, AllByRecursion}
@@ -17,12 +17,11 @@ use Rattle.arrow_ipc.specs.Columns.{entry_at, put_next, texts_at, put_column, co
 use Rattle.arrow_ipc.specs.Blocks.{Holds, lengths, vector_block, entry_read, texts_read, columns_read, child_in}
 use Rattle.arrow_ipc.specs.Fault.{◌>>=◌}
 use Rattle.arrow_ipc.specs.Tells.{gather}
-use Rattle.arrow_ipc.specs.Rooms.{texts_room, Refuses, Makes, Gives}
+use Rattle.arrow_ipc.specs.Rooms.{Refuses, Makes, Gives}
 use Rattle.arrow_ipc.specs.declared.fault.Fault.{Fault}
 use Rattle.arrow_ipc.specs.declared.write.WriteError.{WriteError}
 use Rattle.arrow_ipc.specs.declared.write.WriteError.TheVariants.{Column}
 use Rattle.arrow_ipc.proofs.Told.{bound}
-use Rattle.arrow_ipc.proofs.Vectors.{items}
 use Rattle.arrow_values.proofs.TextLaws.{texts_of_insert}
 use Rattle.arrow_ipc.proofs.Tables.{column_by_table}
 use Rattle.arrow_ipc.proofs.Linked.{length_linked, AreLinked, AreWhole, whole_lengths, are_linked, is_vector}
@@ -169,19 +168,6 @@ unfolding texts_at
 texts_hold es sorted bs all small =
     let h = vector_holds entry_read put put_next [] entry_step bs (texts_of es) all small in
     subst (λ (m : Metadata). Holds texts_read (vector_block bs) m) (joined_texts [] es sorted) h
-
--- one more entry
-module _ (blocks : List (Vec ℕ Global)) (left rest all : Texts) (k v : String Global) (kb vb : Text) (splits : left ≡ (k, v) ∷ rest) (key : kb ≡ string_bytes k) (text : vb ≡ string_bytes v)
-    (way : Made (Holds entry_read) texts_room (map items blocks) (texts_of left) (texts_of all)) where
-  here : Made (Holds entry_read) texts_room (map items blocks) ((kb, vb) ∷ texts_of rest) (texts_of all)
-  here = rw (key, text) (subst (λ (l : Texts). Made (Holds entry_read) texts_room (map items blocks) (texts_of l) (texts_of all)) splits way)
-
-  pub entries_more : (new : List (Vec ℕ Global)) (b : Vec ℕ Global) → new ≡ blocks ++ b ∷ [] → Holds entry_read b.items (kb, vb) → length b.items ≤ 48 + length kb + length vb
-      → Made (Holds entry_read) texts_room (map items new) (texts_of rest) (texts_of all)
-  entries_more new b pushed one most =
-      let same : map items new ≡ map items blocks ++ b.items ∷ [] = ap (map items) pushed ∙ map_push items blocks b in
-      subst (λ bs. Made (Holds entry_read) texts_room bs (texts_of rest) (texts_of all)) (sym same)
-      (made_more (Holds entry_read) texts_room (map items blocks) b.items (kb, vb) (texts_of rest) (texts_of all) here one (omega (arith, most)))
 
 -- ---- columns
 

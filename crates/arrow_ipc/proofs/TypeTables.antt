@@ -1,5 +1,5 @@
 -- The tables of types.
-use Rattle.std.proofs.Common.{◌≡◌, ℕ, ◌+◌, ◌^◌, ◌<◌, ◌≤◌, pos, Bool, true, false, ◌&&◌, not, ◌++◌, ◌∷◌, [], List, length, map, Option, Some, None, Result, Ok, Err, Vec, Global, refl, ap, arith, nat_lt, ◌==◌, ◌*◌, ◌%◌, ℤ, negsuc, drop, sym, ◌∙◌, subst, append_assoc, append-nil, if◌then◌else◌}
+use Rattle.std.proofs.Common.{◌≡◌, ℕ, ◌+◌, ◌^◌, ◌<◌, ◌≤◌, pos, Bool, true, false, ◌&&◌, not, ◌++◌, ◌∷◌, [], List, length, map, Option, Some, None, Result, Ok, refl, ap, arith, nat_lt, ◌==◌, ◌*◌, ◌%◌, ℤ, negsuc, drop, sym, ◌∙◌, subst, append_assoc, append-nil, if◌then◌else◌}
 use Rattle.std.specs.Int.{w16, from_le_bytes, byte_at}
 use Rattle.std.specs.List.{zip}
 use Rattle.std.proofs.lemmas.List.{length-append, drop_all}
@@ -26,13 +26,11 @@ use Rattle.arrow_ipc.specs.declared.kinds.Kind.{Kind}
 use Rattle.arrow_ipc.specs.declared.wire.Table.{Table as Opened}
 use Rattle.arrow_ipc.specs.declared.kinds.Kind.TheVariants.{Plain, List as ListOf, Struct, Union}
 use Rattle.arrow_values.specs.declared.tree.DataType.TheVariants.{Null}
-use Rattle.arrow_ipc.specs.Rooms.{is_sound, table_room, Refuses, Makes, MakesSound}
+use Rattle.arrow_ipc.specs.Rooms.{is_sound, table_room}
 use Rattle.arrow_ipc.specs.declared.shapes.Shape.{Shape}
 use Rattle.arrow_ipc.specs.declared.shapes.Shape.TheVariants.{Table}
 use Rattle.std.proofs.lemmas.Bool.{ltb-true, eq-eqb}
 use Rattle.arrow_ipc.proofs.Linked.{u8_is, u16_is, u32_is, length_linked, by_place, flat, slot_place, tail, is_vector, low, length_table, stands}
-use Rattle.arrow_ipc.specs.declared.write.WriteError.{WriteError}
-use Rattle.arrow_ipc.proofs.Made.{refuses_more}
 use Rattle.arrow_ipc.proofs.Ids.{new_id}
 
 -- tests
@@ -54,10 +52,6 @@ record Own (n : Option ℕ) (b : Option Bool) (bytes : List ℕ) (at : ℕ) (tab
 
 pub length_type : (n : Option ℕ) (b : Option Bool) → length (type_block n b) ≡ 24
 length_type n b = let size = length_table (place_of_number n ∷ place_of_truth b ∷ []) (word (number n) ++ (truth b ∷ 0 ∷ 0 ∷ 0 ∷ [])) [] in omega (arith, size)
-
-pub type_built : (n : Option ℕ) (b : Option Bool) (p q : ℕ × ℕ) (numbers : List ℕ) → p ≡ (place_of_number n, number n) → q ≡ (place_of_truth b, truth b) → numbers ≡ word p.1 ++ (q.1 ∷ 0 ∷ 0 ∷ 0 ∷ [])
-    → table_block (p.0 ∷ q.0 ∷ []) numbers [] ≡ type_block n b
-type_built n b p q numbers first second is = rw (is, first, second) refl
 
 -- what is read after all that stands in the table
 abbrev after_all : List ℕ → ℕ → Opened → Result Kind Fault → Result Kind Fault
@@ -184,12 +178,6 @@ union_type mode ms good few =
     }
 
 -- ---- as it is written
-
-pub unsound : (sound : Bool) (made : List ℕ) (n : ℕ) (r : Result (Vec ℕ Global) WriteError) (e : WriteError) → r ≡ Err e → n ≤ length made → Refuses e ⊥ n → MakesSound sound made r
-unsound sound made n r e is le h = grind arith
-
-pub made_sound : (r : Result (Vec ℕ Global) WriteError) (block made : List ℕ) (sound : Bool) → block ≡ made → sound ≡ true → Makes block r → MakesSound sound made r
-made_sound r block made sound same is h = grind (arith, refuses_more)
 
 pub ids_written : (words : List ℕ) (ids : List ℤ) (i : ℕ) → words ++ id_words (drop i ids) ≡ id_words ids → length ids ≤ i → words ≡ id_words ids
 ids_written words ids i written le = sym (append-nil words) ∙ sym (ap (λ (l : List ℤ). words ++ id_words l) (drop_all i ids le)) ∙ written

@@ -103,7 +103,6 @@ pub(crate) fn vector_block(alloc: Global, blocks: &[Vec<u8>]) -> Block
 }
 
 /// An entry of metadata.
-
 fn entry_block(alloc: Global, key: &str, text: &str) -> Block
     ensures { Gives (λ b. Holds entry_read b (key.now, text.now)) ⊥ (48 + length key.now + length text.now) result }
 {
@@ -127,10 +126,9 @@ pub(crate) fn texts_block(alloc: Global, texts: &BTreeMap<String, String>) -> Bl
 pub(crate) fn type_block(alloc: Global, number: Option<u32>, truth: Option<bool>) -> Block
     ensures { Makes (type_block number truth) result }
 {
-    let (number_place, number) = number.map_or((0, 0), |number| (4, number));
-    let (truth_place, truth) = truth.map_or((0, 0), |truth| (8, truth as u8));
+    let places = [number.map_or(0, |_| 4), truth.map_or(0, |_| 8)];
     let mut numbers = Vec::with_capacity(alloc, 8)?;
-    put_word(&mut numbers, number)?;
-    numbers.extend_from_slice(&[truth, 0, 0, 0])?;
-    table_block(alloc, &[number_place, truth_place], numbers.as_slice(), &[])
+    put_word(&mut numbers, number.unwrap_or(0))?;
+    numbers.extend_from_slice(&[truth.unwrap_or(false) as u8, 0, 0, 0])?;
+    table_block(alloc, &places, numbers.as_slice(), &[])
 }
