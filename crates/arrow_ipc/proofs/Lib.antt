@@ -6,6 +6,5 @@ mod Levels
 mod Linked
 mod Made
 mod Tables
-mod Vectors
 mod TypeTables
 mod Nestings

@@ -1,11 +1,11 @@
 -- What is read at a place of a message from the bytes that stand there, and what stands in a block of linked blocks: its number, its
 -- offsets with the blocks to which they lead, its other bytes, and where it is a table, its slots.
-use Rattle.std.proofs.Common.{◌≡◌, ℕ, zero, suc, ◌+◌, ◌*◌, ◌-◌, ◌^◌, ◌%◌, ◌<◌, ◌≤◌, true, false, ◌++◌, ◌∷◌, [], List, length, take, drop, Some, Ok, refl, sym, ap, ◌∙◌, arith, slice_get, nat_lt, ◌==◌, Bool, replicate, Option, None, Result, subst, append_assoc, if◌then◌else◌}
+use Rattle.std.proofs.Common.{◌≡◌, ℕ, zero, suc, ◌+◌, ◌*◌, ◌-◌, ◌^◌, ◌%◌, ◌<◌, ◌≤◌, true, false, ◌++◌, ◌∷◌, [], List, length, take, drop, Some, Ok, refl, sym, ap, ◌∙◌, arith, slice_get, nat_lt, ◌==◌, Bool, replicate, Option, None, Result, subst, append_assoc, if◌then◌else◌, map, Vec, Global}
 use Rattle.std.specs.Int.{w16, w32, to_le_bytes, from_le_bytes}
 use Rattle.std.specs.Str.{is_utf8}
 use Rattle.std.specs.List.{concat}
 use Rattle.std.proofs.lemmas.Nat.{from_le_bytes-to_le_bytes_4}
-use Rattle.std.proofs.lemmas.List.{length-drop, drop-drop, drop_at, take_at, length-append, length-replicate}
+use Rattle.std.proofs.lemmas.List.{length-drop, drop-drop, drop_at, take_at, length-append, length-replicate, length-map}
 use Rattle.std.proofs.lemmas.Bool.{lt-ltb, le-ltb, le-leb, ltb-true, ltb-false, eq-eqb}
 use Rattle.std.proofs.lemmas.Bool.Decides.{nat_tests}
 use Rattle.arrow_ipc.specs.Fault.{◌>>=◌}
@@ -93,6 +93,12 @@ module _ (first : ℕ) (bs : List (List ℕ)) (rest : List ℕ) where
   pub length_linked : length (linked first bs rest) ≡ rounded (4 + (4 * length bs + length rest)) + lengths bs
   unfolding linked
   length_linked = grind (arith, length-append, length_front, length_concat)
+
+abbrev pub items : Vec ℕ Global → List ℕ
+items v = v.items
+
+pub long_linked : (first : ℕ) (blocks : List (Vec ℕ Global)) (rest : List ℕ) → length (linked first (map items blocks) rest) ≡ rounded (4 + (4 * length blocks + length rest)) + lengths (map items blocks)
+long_linked first blocks rest = grind (arith, length_linked, length-map)
 
 -- ---- what stands further on
 

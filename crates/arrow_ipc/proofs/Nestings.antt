@@ -14,7 +14,7 @@ use Rattle.arrow_ipc.specs.Rooms.{are_sound, members_sound, fields_room, members
 use Rattle.arrow_ipc.specs.Writes.{RefusesColumns, GivesColumns}
 use Rattle.arrow_ipc.specs.declared.write.WriteError.{WriteError}
 use Rattle.arrow_ipc.specs.declared.write.WriteError.TheVariants.{Column as Unfit}
-use Rattle.arrow_ipc.proofs.Vectors.{items}
+use Rattle.arrow_ipc.proofs.Linked.{items}
 use Rattle.arrow_ipc.proofs.Made.{Made, made_more, made_gives, refuses_more, gives, columns_hold}
 use Rattle.arrow_ipc.proofs.Tables.{column_holds, slots, flagged}
 use Rattle.arrow_ipc.proofs.TypeTables.{table_is, table_size}

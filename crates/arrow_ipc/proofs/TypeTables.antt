@@ -18,7 +18,7 @@ use Rattle.arrow_ipc.specs.Kinds.{int_at, number_at, plain_of, kind_at}
 use Rattle.arrow_ipc.specs.Parts.{zone_in, ids_in}
 use Rattle.arrow_ipc.specs.Types.{type_of}
 use Rattle.arrow_ipc.specs.Columns.{ids_at, typed, is_new, put_id, ids_from}
-use Rattle.arrow_ipc.specs.Blocks.{IsType, word, offsets, number, truth, place_of_number, place_of_truth, table_block, type_block, rounded, linked, mode_number, id_words, union_block}
+use Rattle.arrow_ipc.specs.Blocks.{IsType, word, offsets, number, truth, place_of_number, place_of_truth, type_block, rounded, linked, mode_number, id_words, union_block}
 use Rattle.arrow_ipc.specs.Shapes.{column_of, member_ids, are_ids, member_fields, nested_columns, shape_of, ids_of, shape_tag, shape_bytes, has_table}
 use Rattle.arrow_ipc.specs.declared.fault.Fault.{Fault}
 use Rattle.arrow_ipc.specs.declared.fault.Rule.TheVariants.{Parameter}
@@ -177,14 +177,9 @@ union_type mode ms good few =
           };
     }
 
--- ---- as it is written
-
+-- as it is written
 pub ids_written : (words : List ℕ) (ids : List ℤ) (i : ℕ) → words ++ id_words (drop i ids) ≡ id_words ids → length ids ≤ i → words ≡ id_words ids
 ids_written words ids i written le = sym (append-nil words) ∙ sym (ap (λ (l : List ℤ). words ++ id_words l) (drop_all i ids le)) ∙ written
-
-pub union_built : (mode : UnionMode) (ids : List ℤ) (number : ℕ) (words vector : List ℕ) → number ≡ mode_number mode → words ≡ id_words ids → vector ≡ linked (length ids) [] words
-    → table_block (8 ∷ 4 ∷ []) (number ∷ 0 ∷ 0 ∷ 0 ∷ []) (vector ∷ []) ≡ union_block mode ids
-union_built mode ids number words vector moded written is = rw (is, written, moded) refl
 
 -- ---- a type's table and its columns, by its shape
 

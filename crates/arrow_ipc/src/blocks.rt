@@ -41,7 +41,7 @@ pub(crate) fn text_block(alloc: Global, text: &str) -> Block
 }
 
 /// A number, offsets to blocks, and other bytes, up to a multiple of eight; behind them the blocks.
-#[tactic(auto, using(crate::proofs::Vectors::long_linked))]
+#[tactic(auto, using(crate::proofs::Linked::long_linked, std::proofs::lemmas::List::drop_all, std::proofs::lemmas::List::drop_more, std::proofs::lemmas::List::append_assoc), unfolding(crate::specs::Blocks::offsets, crate::specs::Blocks::linked))]
 pub(crate) fn linked_block(alloc: Global, first: u32, blocks: &[Vec<u8>], rest: &[u8]) -> Block
     ensures { Makes (linked first (map (λ v. v.items) blocks.now) rest.now) result }
 {
@@ -92,7 +92,7 @@ pub(crate) fn table_block(alloc: Global, slots: &[u8], numbers: &[u8], blocks: &
 }
 
 /// A vector of tables, with their blocks behind it.
-#[tactic(auto, using(crate::proofs::Vectors::long_linked))]
+#[tactic(auto, using(crate::proofs::Linked::long_linked))]
 pub(crate) fn vector_block(alloc: Global, blocks: &[Vec<u8>]) -> Block
     ensures { Makes (vector_block (map (λ v. v.items) blocks.now)) result }
 {

@@ -2,7 +2,7 @@ use Rattle.std.proofs.Common.{map, drop}
 use Rattle.arrow_columns.specs.Column.{column_tree}
 use Rattle.arrow_ipc.specs.Blocks.{Holds, child_in}
 use Rattle.arrow_ipc.specs.Rooms.{columns_room}
-use Rattle.arrow_ipc.proofs.Vectors.{items}
+use Rattle.arrow_ipc.proofs.Linked.{items}
 use Rattle.arrow_ipc.proofs.Made.{Made}
 use Rattle.arrow_ipc.proofs.write.columns_block.Given as goal
 
