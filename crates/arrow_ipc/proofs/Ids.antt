@@ -14,14 +14,6 @@ module _ (bytes : List ℕ) (table : ℕ) (written : Option (ℕ × ℕ)) (ids :
   unfolding ids_from
   all_ids count le = let k : count - i ≡ 0 = omega arith in rw k refl
 
-  pub no_id : (fault : Fault) → id_at bytes written i ≡ Err fault → put_id bytes table written ids i ≡ Err fault
-  unfolding put_id
-  no_id fault e = rw e refl
-
-  pub old_id : (id : ℕ) → id_at bytes written i ≡ Ok id → is_new id ids ≡ false → put_id bytes table written ids i ≡ breaks TypeIds table
-  unfolding put_id
-  old_id id e new = rw (e, new) refl
-
   pub new_id : (id : ℕ) → id_at bytes written i ≡ Ok id → is_new id ids ≡ true → put_id bytes table written ids i ≡ Ok (ids ++ pos id ∷ [])
   unfolding put_id
   new_id id e new = rw (e, new) refl

@@ -8,7 +8,7 @@ use Rattle.std.specs.Borrow.{Bor}
 use Rattle.arrow_values.specs.View.{field_trees, member_trees, field_list, listed_fields}
 use Rattle.arrow_columns.specs.Column.{TypeTree, known, other, ColumnTree, column_tree}
 use Rattle.arrow_columns.specs.declared.column.Column.{Column}
-use Rattle.arrow_ipc.specs.Blocks.{Holds, child_in, text_read, texts_read, columns_read, vector_block, flag, table_block, column_block, IsType}
+use Rattle.arrow_ipc.specs.Blocks.{Holds, child_in, text_read, texts_read, columns_read, vector_block, table_block, column_block, IsType}
 use Rattle.arrow_ipc.specs.Shapes.{shape_of, ids_of, shape_tag, shape_bytes, has_table, column_of, member_fields, nested_columns}
 use Rattle.arrow_ipc.specs.Rooms.{are_sound, members_sound, fields_room, members_room, nested_room, column_room, texts_room, room_of, columns_room, Refuses, Makes, Gives, IsUnfit, IsUnfitType, AreUnfit}
 use Rattle.arrow_ipc.specs.Writes.{RefusesColumns, GivesColumns}
@@ -16,7 +16,7 @@ use Rattle.arrow_ipc.specs.declared.write.WriteError.{WriteError}
 use Rattle.arrow_ipc.specs.declared.write.WriteError.TheVariants.{Column as Unfit}
 use Rattle.arrow_ipc.proofs.Linked.{items}
 use Rattle.arrow_ipc.proofs.Made.{Made, made_more, made_gives, refuses_more, gives, columns_hold}
-use Rattle.arrow_ipc.proofs.Tables.{column_holds, slots, flagged}
+use Rattle.arrow_ipc.proofs.Tables.{column_holds, slots}
 use Rattle.arrow_ipc.proofs.TypeTables.{table_is, table_size}
 use Rattle.arrow_ipc.proofs.Linked.{length_table}
 use mir.Val.{bool_byte}
@@ -139,11 +139,11 @@ pub data_gives : (levels : ℕ) (t : Tree) (name : Text) (nullable : Bool) (text
     → Gives (λ b. Holds (child_in levels) b (record { name = name; data_type = known t; nullable = nullable; metadata = texts })) (IsUnfit levels t) (column_room name t texts) r
 data_gives zero t name nullable texts nb tb cb mb tag cs some same named written nested tagged table r made = absurd (omega arith)
 data_gives (suc levels) t name nullable texts nb tb cb mb tag cs some same named written nested tagged table r made =
-    let size = length_table slots (flag nullable ∷ tag ∷ 0 ∷ 0 ∷ []) (nb ∷ tb ∷ cb ∷ mb ∷ []) in
+    let size = length_table slots (bool_byte nullable ∷ tag ∷ 0 ∷ 0 ∷ []) (nb ∷ tb ∷ cb ∷ mb ∷ []) in
     let room = table_size t in
     let most = nested_room_is t in
     let below : suc levels - 1 ≡ levels = omega arith in
-    gives r (column_block nb tb cb mb nullable tag) _ _ _ (rw (flagged nullable tag (nb ∷ tb ∷ cb ∷ mb ∷ [])) at made) (λ small.
+    gives r (column_block nb tb cb mb nullable tag) _ _ _ made (λ small.
     let typing : IsType tag tb (nested_columns t) (known t) = rw (tagged, table.1.0) (table_is t table.0 table.1.1) in
     column_holds levels nb tb cb mb nullable tag name (nested_columns t) (known t) texts named.0 typing (rw (below, same) at nested.0) written.0 (omega (arith, small)))
     (omega (arith, size, room, most, named.1, written.1, ap length table.1.0, nested.1, ap columns_room same))

@@ -8,7 +8,7 @@ use Rattle.arrow_columns.specs.Column.{TypeTree, ColumnTree}
 use Rattle.arrow_ipc.specs.Wire.{utf8_at, u8_at, target_at, vector_at, u32_at}
 use Rattle.arrow_ipc.specs.Slots.{table_in, u8_in, flag_in, text_in, vector_in, u16_in}
 use Rattle.arrow_ipc.specs.Columns.{entry_in, texts_at, finished, columns_by, column_at}
-use Rattle.arrow_ipc.specs.Blocks.{Holds, word, rounded, offsets, text_block, text_read, entry_block, entry_read, IsType, flag, table_block, column_block, column_in, columns_read, texts_read, order_number, schema_block, message_block, stream_block}
+use Rattle.arrow_ipc.specs.Blocks.{Holds, word, rounded, offsets, text_block, text_read, entry_block, entry_read, IsType, table_block, column_block, column_in, columns_read, texts_read, order_number, schema_block, message_block, stream_block}
 use Rattle.arrow_ipc.specs.Parts.{tag_in, index_in, parts_in, parts_at}
 use Rattle.arrow_ipc.specs.Longs.{u64_in}
 use Rattle.arrow_ipc.specs.Schema.{SchemaTree, head_at, schema_at, message_at, cut, message_in, schema_of_message}
@@ -57,7 +57,7 @@ pub column_by_table : (depth : ℕ) (bytes : List ℕ) (at table : ℕ) (v : Col
 unfolding column_at parts_at column_in
 column_by_table depth bytes at table v led is = rw led is
 
-flag_is : (b : Bool) → (if flag b == 0 then false else true) ≡ b
+flag_is : (b : Bool) → (if bool_byte b == 0 then false else true) ≡ b
 flag_is b = grind arith
 
 abbrev pub slots : List ℕ
@@ -68,10 +68,10 @@ pub column_holds : (levels : ℕ) (nb tb cb mb : List ℕ) (nullable : Bool) (ta
     → Holds (column_in levels) (column_block nb tb cb mb nullable tag) (record { name = name; data_type = t; nullable = nullable; metadata = ms })
 unfolding column_in finished parts_in text_in flag_in u8_in tag_in table_in index_in vector_in
 column_holds levels nb tb cb mb nullable tag name cs t ms named typing children texts small =
-    table_holds slots (flag nullable ∷ tag ∷ 0 ∷ 0 ∷ []) (nb ∷ tb ∷ cb ∷ mb ∷ []) refl (omega arith) (omega arith, (omega arith, (omega arith, (omega arith, (omega arith, (omega arith, (omega arith, tt)))))))
+    table_holds slots (bool_byte nullable ∷ tag ∷ 0 ∷ 0 ∷ []) (nb ∷ tb ∷ cb ∷ mb ∷ []) refl (omega arith) (omega arith, (omega arith, (omega arith, (omega arith, (omega arith, (omega arith, (omega arith, tt)))))))
     (named.whole, (typing.whole, (children.whole, (texts.whole, tt)))) small (column_in levels) (record { name = name; data_type = t; nullable = nullable; metadata = ms }) (λ bytes at s.
     let l = s.links in
-    let first : u8_at bytes (at + 20) ≡ Ok (flag nullable) = u8_is bytes (at + 20) (flag nullable) _ (s.number 0) in
+    let first : u8_at bytes (at + 20) ≡ Ok (bool_byte nullable) = u8_is bytes (at + 20) (bool_byte nullable) _ (s.number 0) in
     let second : u8_at bytes (at + 21) ≡ Ok tag = u8_is bytes (at + 21) tag _ (s.number 1) in
     let n = named.reads bytes l.0.to l.0.lies in
     let r = typing.reads bytes l.1.0.to l.1.0.lies in
@@ -113,13 +113,6 @@ column_holds levels nb tb cb mb nullable tag name cs t ms named typing children 
         mv.2,
       ) refl,
     ))
-
--- as it is written
-flag_byte : (b : Bool) → bool_byte b ≡ flag b
-flag_byte b = grind arith
-
-pub flagged : (nullable : Bool) (tag : ℕ) (bs : List (List ℕ)) → table_block slots (bool_byte nullable ∷ tag ∷ 0 ∷ 0 ∷ []) bs ≡ table_block slots (flag nullable ∷ tag ∷ 0 ∷ 0 ∷ []) bs
-flagged nullable tag bs = ap (λ (f : ℕ). table_block slots (f ∷ tag ∷ 0 ∷ 0 ∷ []) bs) (flag_byte nullable)
 
 -- ---- the block of a schema, in a message, in a stream
 

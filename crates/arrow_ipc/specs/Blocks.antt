@@ -1,8 +1,9 @@
 -- Blocks of which a message is made: bytes that may stand at any multiple of eight, and lead to nothing but themselves. In a
 -- table's block the table comes first, its vtable behind it, and what its offsets lead to behind that.
-use Rattle.std.specs.Prelude.{◌≡◌, ℕ, zero, suc, ◌+◌, ◌-◌, ◌*◌, ◌/◌, ◌%◌, ◌^◌, ◌<◌, ◌≤◌, ℤ, pos, negsuc, Bool, List, [], ◌∷◌, ◌++◌, length, drop, replicate, Option, Some, None, Result, Ok, if◌then◌else◌}
+use Rattle.std.specs.Prelude.{◌≡◌, ℕ, zero, suc, ◌+◌, ◌-◌, ◌*◌, ◌/◌, ◌%◌, ◌^◌, ◌<◌, ◌≤◌, ℤ, pos, negsuc, Bool, List, [], ◌∷◌, ◌++◌, length, drop, replicate, Option, Some, None, Result, Ok}
 use Rattle.std.specs.Int.{w32, to_le_bytes}
 use Rattle.std.specs.List.{concat}
+use mir.Val.{bool_byte}
 use Rattle.arrow_values.specs.Tree.{Text, Metadata}
 use Rattle.arrow_values.specs.declared.tree.UnionMode.{UnionMode}
 use Rattle.arrow_values.specs.declared.tree.UnionMode.TheVariants.{Sparse, Dense}
@@ -100,12 +101,9 @@ abbrev pub columns_read : ℕ → List ℕ → ℕ → Result (List ColumnTree �
 columns_read depth bytes at = vector_at bytes at >>= columns_by (column_at depth bytes)
 
 -- a column, given the blocks of its name, its type, its children and its metadata
-abbrev pub flag : Bool → ℕ
-flag b = if b then 1 else 0
-
 abbrev pub column_block : List ℕ → List ℕ → List ℕ → List ℕ → Bool → ℕ → List ℕ
 column_block name type children texts nullable tag =
-    table_block (4 ∷ 20 ∷ 21 ∷ 8 ∷ 0 ∷ 12 ∷ 16 ∷ []) (flag nullable ∷ tag ∷ 0 ∷ 0 ∷ []) (name ∷ type ∷ children ∷ texts ∷ [])
+    table_block (4 ∷ 20 ∷ 21 ∷ 8 ∷ 0 ∷ 12 ∷ 16 ∷ []) (bool_byte nullable ∷ tag ∷ 0 ∷ 0 ∷ []) (name ∷ type ∷ children ∷ texts ∷ [])
 
 -- what is read of a type's table, given the children
 pub record ReadsType (tag : ℕ) (cs : List ColumnTree) (t : TypeTree) (bytes : List ℕ) (at : ℕ) : Type 0 where
@@ -134,7 +132,7 @@ number (Some n) = n
 
 abbrev pub truth : Option Bool → ℕ
 truth None = 0
-truth (Some b) = flag b
+truth (Some b) = bool_byte b
 
 abbrev pub place_of_number : Option ℕ → ℕ
 place_of_number None = 0

@@ -93,7 +93,7 @@ fn is_new(id: usize, ids: &[i8]) -> bool
 }
 
 /// Puts a type id to those before it.
-#[tactic(auto, using(crate::proofs::Ids::no_id, crate::proofs::Ids::old_id, crate::proofs::Ids::new_id))]
+#[tactic(auto, unfolding(crate::specs::Columns::put_id))]
 fn put_id(bytes: &[u8], parts: &Parts<'_>, i: usize, ids: &mut Vec<i8>) -> Read<()>
     requires { IfSome parts.now.ids (λ v. v.0 + 4 * i + 4 ≤ length bytes.now) }
     ensures { Says (λ _. ids.new.items) (put_id bytes.now parts.now.table parts.now.ids ids.old.items i) result }
