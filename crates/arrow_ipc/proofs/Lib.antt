@@ -1,5 +1,4 @@
 mod Texts
-mod Ids
 mod Told
 mod TypeOf
 mod Levels

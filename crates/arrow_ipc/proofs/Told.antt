@@ -1,12 +1,12 @@
 -- From what a step returned to what a call returned.
-use Rattle.std.proofs.Common.{◌≡◌, ℕ, ◌+◌, ◌*◌, ◌-◌, ◌<◌, ◌≤◌, Result, Ok, Err, refl, ap, ◌∙◌, arith, suc, List}
+use Rattle.std.proofs.Common.{◌≡◌, ℕ, ◌+◌, ◌*◌, ◌-◌, ◌<◌, ◌≤◌, Result, Ok, Err, refl, ap, ◌∙◌, arith, suc, List, ℤ, Option}
 use Rattle.arrow_columns.specs.Column.{ColumnTree}
 use Rattle.arrow_ipc.specs.Fault.{◌>>=◌, breaks}
 use Rattle.arrow_ipc.specs.Tells.{Fails, ◌>>+◌, gather}
 use Rattle.arrow_ipc.specs.declared.fault.Fault.{Fault}
 use Rattle.arrow_ipc.specs.declared.fault.IpcError.{IpcError}
 use Rattle.arrow_ipc.specs.Parts.{Own, parts_at}
-use Rattle.arrow_ipc.specs.Columns.{put_column, columns_by, finished, priced, column_at}
+use Rattle.arrow_ipc.specs.Columns.{put_id, ids_from, put_column, columns_by, finished, priced, column_at}
 use Rattle.arrow_ipc.specs.declared.fault.Rule.TheVariants.{Depth}
 
 -- what a chain of two gave came from both
@@ -70,3 +70,14 @@ module _ (bytes : List ℕ) (at depth : ℕ) where
   pub steps : 0 < depth → column_at depth bytes at ≡ (priced (parts_at bytes at) >>+ rest)
   unfolding column_at
   steps some = let k : depth ≡ suc (depth - 1) = omega arith in ap (λ d. column_at d bytes at) k
+
+-- ---- the type ids of a union, one after the other
+
+module _ (bytes : List ℕ) (table : ℕ) (written : Option (ℕ × ℕ)) (ids : List ℤ) (i : ℕ) where
+  pub next_id : (count : ℕ) → i < count → ids_from bytes table written ids i (count - i) ≡ (put_id bytes table written ids i >>= λ more. ids_from bytes table written more (i + 1) (count - (i + 1)))
+  unfolding ids_from
+  next_id count more = let k : count - i ≡ suc (count - (i + 1)) = omega arith in rw k refl
+
+  pub all_ids : (count : ℕ) → count ≤ i → ids_from bytes table written ids i (count - i) ≡ Ok ids
+  unfolding ids_from
+  all_ids count le = let k : count - i ≡ 0 = omega arith in rw k refl

@@ -31,7 +31,6 @@ use Rattle.arrow_ipc.specs.declared.shapes.Shape.{Shape}
 use Rattle.arrow_ipc.specs.declared.shapes.Shape.TheVariants.{Table}
 use Rattle.std.proofs.lemmas.Bool.{ltb-true, eq-eqb}
 use Rattle.arrow_ipc.proofs.Linked.{u8_is, u16_is, u32_is, length_linked, by_place, flat, slot_place, tail, is_vector, low, length_table, stands}
-use Rattle.arrow_ipc.proofs.Ids.{new_id}
 
 -- tests
 both : (a b : Bool) → (a && b) ≡ true → (a ≡ true) × (b ≡ true)
@@ -109,7 +108,7 @@ length_ids (i ∷ is) = grind (arith, length-append, length_ids is)
 module _ (bytes : List ℕ) (table start count : ℕ) where
   walk : (done left : List ℤ) (i at : ℕ) (rest : List ℕ) → drop at bytes ≡ id_words left ++ rest → at ≡ start + 4 * i → at % 4 ≡ 0 → are_ids done left ≡ true
       → ids_from bytes table (Some (start, count)) done i (length left) ≡ Ok (done ++ left)
-  unfolding ids_from
+  unfolding ids_from put_id
   walk done [] i at rest is place even good = ap (λ (l : List ℤ). Ok l) (sym (append-nil done))
   walk done (negsuc n ∷ left) i at rest is place even good = absurd (cc)
   walk done (pos n ∷ left) i at rest is place even good =
@@ -117,9 +116,8 @@ module _ (bytes : List ℕ) (table start count : ℕ) where
       let small = ltb-true n 128 (both (nat_lt n 128) (not (has (pos n) done)) new.0).0 in
       let cut : drop at bytes ≡ word n ++ (id_words left ++ rest) = is ∙ append_assoc (word n) (id_words left) rest in
       let here : u32_at bytes (start + 4 * i) ≡ Ok n = subst (λ p. u32_at bytes p ≡ Ok n) place (u32_is bytes at n (id_words left ++ rest) even (omega (arith, small)) cut) in
-      let first : put_id bytes table (Some (start, count)) done i ≡ Ok (done ++ pos n ∷ []) = new_id bytes table (Some (start, count)) done i n here new.0 in
       let next = walk (done ++ pos n ∷ []) left (i + 1) (at + 4) rest (by_place bytes at (word n ++ (id_words left ++ rest)) 4 cut) (omega (arith, place)) (omega (arith, even)) new.1 in
-      rw first next ∙ ap (λ (l : List ℤ). Ok l) (append_assoc done (pos n ∷ []) left)
+      rw (here, new.0) next ∙ ap (λ (l : List ℤ). Ok l) (append_assoc done (pos n ∷ []) left)
 
 members_back : (ms : MemberTrees) → member_trees (zip (member_ids ms) (member_fields ms)) ≡ ms
 members_back no_members = refl

@@ -107,7 +107,7 @@ fn put_id(bytes: &[u8], parts: &Parts<'_>, i: usize, ids: &mut Vec<i8>) -> Read<
 }
 
 /// The type ids of a union of so many children.
-#[tactic(auto, using(crate::proofs::Ids::next_id, crate::proofs::Ids::all_ids), unfolding(crate::specs::Columns::ids_at))]
+#[tactic(auto, using(crate::proofs::Told::next_id, crate::proofs::Told::all_ids), unfolding(crate::specs::Columns::ids_at))]
 #[inline(never)]
 fn read_ids(alloc: Global, bytes: &[u8], parts: &Parts<'_>, count: usize) -> Read<Vec<i8>>
     requires { IfSome parts.now.ids (λ v. v.0 + 4 * v.1 ≤ length bytes.now) }
