@@ -109,9 +109,6 @@ module _ (bytes : List ℕ) (at : ℕ) where
   pub further : (a b : List ℕ) (to : ℕ) → drop at bytes ≡ a ++ b → at + length a ≡ to → drop to bytes ≡ b
   further a b to is place = subst (λ n. drop n bytes ≡ b) place (by_place (a ++ b) (length a) is ∙ drop_at a b (length a) refl)
 
-  pub ends : (y : List ℕ) → drop at bytes ≡ y → 0 < length y → at + length y ≡ length bytes
-  ends y is some = grind (arith, length-drop)
-
 -- ---- the blocks to which offsets lead
 
 pub record Leads (bytes : List ℕ) (at : ℕ) (block : List ℕ) : Type 0 where
@@ -145,9 +142,6 @@ links bytes at (b ∷ bs) near far rest more is has fourth whole all room small 
     (further bytes (at + far) b (concat bs ++ more) (at + (far + length b)) there (omega arith)) (omega (arith, fourth)) (omega (arith, whole, all.0)) all.1 (omega (arith, room)) (omega (arith, small)) (omega (arith, within)) in
     (record { to = at + far; led = led; lies = record { after = concat bs ++ more; is = there; whole = whole } }, next)
 
-regroup : (w o r f c a : List ℕ) → (((w ++ (o ++ r)) ++ f) ++ c) ++ a ≡ w ++ (o ++ (r ++ (f ++ (c ++ a))))
-regroup w o r f c a = simp append_assoc
-
 module _ (bytes : List ℕ) (at first : ℕ) (bs : List (List ℕ)) (rest : List ℕ) (lies : Lies (linked first bs rest) bytes at) where
   -- what comes behind the other bytes
   abbrev pub tail : List ℕ
@@ -155,14 +149,10 @@ module _ (bytes : List ℕ) (at first : ℕ) (bs : List (List ℕ)) (rest : List
 
   pub flat : drop at bytes ≡ word first ++ (offsets 4 (rounded (4 + (4 * length bs + length rest))) bs ++ (rest ++ tail))
   unfolding linked padded
-  flat = lies.is ∙ regroup (word first) (heads first bs rest) rest (replicate (rounded (length (word first ++ (heads first bs rest ++ rest))) - length (word first ++ (heads first bs rest ++ rest))) 0) (concat bs) lies.after
+  flat = lies.is ∙ simp append_assoc
 
   pub lies_within : at + length (linked first bs rest) ≤ length bytes
-  lies_within =
-      let size = length_linked first bs rest in
-      let sum = length-append (linked first bs rest) lies.after in
-      let all = ends bytes at (linked first bs rest ++ lies.after) lies.is (omega (arith, size, sum)) in
-      omega (arith, all, sum)
+  lies_within = let all = ap length lies.is in grind (arith, length-drop, length-append, length_linked)
 
   bodies : drop (at + far first bs rest) bytes ≡ concat bs ++ lies.after
   unfolding linked

@@ -155,7 +155,7 @@ union_type mode ms good few =
           let s = stands (8 ∷ 4 ∷ []) (mode_number mode ∷ 0 ∷ 0 ∷ 0 ∷ []) (linked (length ids) [] (id_words ids) ∷ []) refl (omega arith) (omega arith, (omega arith, tt)) (omega (arith, long), tt) (omega (arith, few)) bytes at lies in
           let whole = lies.whole in
           let l = s.links in
-          let mode_is = low bytes (at + 8) (mode_number mode) _ (omega (arith, whole)) (s.number 0) in
+          let mode_is = low bytes (at + 8) (mode_number mode) (0 ∷ 0 ∷ s.more) (omega (arith, whole)) (s.number 0) in
           let fourth = l.0.lies.whole in
           let vector = is_vector bytes l.0.to (length ids) [] (id_words ids) l.0.lies (omega (arith, many)) (omega (arith, few, size, long)) in
           let after = tail bytes l.0.to (length ids) [] (id_words ids) l.0.lies in
@@ -170,7 +170,7 @@ union_type mode ms good few =
             is_first = s.slot 0;
             is_kind = rw (s.slot 0, mode_is) (moded mode at);
             no_zone = refl;
-            is_ids = rw (s.slot 1, l.0.led, vector) refl;
+            is_ids = rw (s.slot 1, l.0.led, vector) (refl {a = Ok (Some (l.0.to + 4, length ids))});
             is_type = λ place. rw (count_columns ms, eq-eqb (length ids) (length ids) refl, read place, all_are_known (member_fields ms), are_fields (member_fields ms), members_back ms) refl;
           };
     }

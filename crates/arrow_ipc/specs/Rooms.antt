@@ -2,7 +2,7 @@
 use Rattle.std.specs.Prelude.{◌≡◌, ℕ, ◌+◌, ◌*◌, ◌^◌, ◌<◌, ◌≤◌, ◌⊎◌, Option, Result, Ok, Err, ℤ, pos, negsuc, Bool, true, false, ◌&&◌, List, [], ◌∷◌, length, nat_lt}
 use Rattle.std.specs.declared.vec.Vec.{Vec}
 use Rattle.std.specs.declared.alloc.Global.{Global}
-use Rattle.arrow_values.specs.Tree.{Text, Metadata, Tree, plain, list, large_list, fixed_size_list, struct, union, FieldTrees, no_fields, field, MemberTrees, no_members, member, FieldTree, depth}
+use Rattle.arrow_values.specs.Tree.{Text, Metadata, Tree, plain, list, large_list, fixed_size_list, struct, union, FieldTrees, no_fields, field, MemberTrees, no_members, member, depth}
 use Rattle.arrow_columns.specs.Column.{TypeTree, known, other, ColumnTree}
 use Rattle.arrow_ipc.specs.Schema.{SchemaTree}
 use Rattle.arrow_ipc.specs.Shapes.{member_ids, are_ids, shape_tag, shape_bytes, has_table}
@@ -70,9 +70,6 @@ room_of_type (other t) texts = 60 + texts
 
 abbrev pub column_room : Text → Tree → Metadata → ℕ
 column_room n t m = room_of_type (known t) (length n + texts_room m)
-
-abbrev pub field_room : FieldTree → ℕ
-field_room f = column_room f.name f.tree f.metadata
 
 -- a schema in a stream
 abbrev pub room_of : ColumnTree → ℕ
