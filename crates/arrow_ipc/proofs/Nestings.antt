@@ -1,6 +1,6 @@
 -- The columns that a type nests, one block after the other.
-use Rattle.std.proofs.Common.{◌≡◌, ℕ, zero, suc, ◌+◌, ◌-◌, ◌^◌, ◌<◌, ◌≤◌, ◌⊎◌, inl, inr, max, Bool, true, false, ◌&&◌, ◌++◌, ◌∷◌, [], List, length, map, drop, get_or, Vec, Global, Result, Ok, Err, refl, sym, ap, ◌∙◌, subst, arith, append-nil}
-use Rattle.std.proofs.lemmas.List.{map_push, drop_more, drop_all}
+use Rattle.std.proofs.Common.{◌≡◌, ℕ, zero, suc, ◌+◌, ◌-◌, ◌^◌, ◌<◌, ◌≤◌, ◌⊎◌, inl, inr, max, Bool, true, false, ◌&&◌, ◌++◌, ◌∷◌, [], List, length, map, drop, get_or, Vec, Global, Result, Ok, Err, refl, sym, ap, ◌∙◌, arith, append-nil}
+use Rattle.std.proofs.lemmas.List.{drop_all}
 use Rattle.arrow_values.specs.Tree.{Text, Metadata, Tree, plain, struct, union, FieldTrees, no_fields, field, MemberTrees, no_members, member, FieldTree, Members, depth, fields_depth, members_depth}
 use Rattle.std.proofs.lemmas.Option.{slice_get-map, slice_get_read}
 use Rattle.std.specs.Option.{option_map}
@@ -8,14 +8,13 @@ use Rattle.std.specs.Borrow.{Bor}
 use Rattle.arrow_values.specs.View.{field_trees, member_trees, field_list, listed_fields}
 use Rattle.arrow_columns.specs.Column.{TypeTree, known, other, ColumnTree, column_tree}
 use Rattle.arrow_columns.specs.declared.column.Column.{Column}
-use Rattle.arrow_ipc.specs.Blocks.{Holds, child_in, text_read, texts_read, columns_read, vector_block, table_block, column_block, IsType}
+use Rattle.arrow_ipc.specs.Blocks.{Holds, child_in, text_read, texts_read, columns_read, table_block, column_block, IsType}
 use Rattle.arrow_ipc.specs.Shapes.{shape_of, ids_of, shape_tag, shape_bytes, has_table, column_of, member_fields, nested_columns}
 use Rattle.arrow_ipc.specs.Rooms.{are_sound, members_sound, fields_room, members_room, nested_room, column_room, texts_room, room_of, columns_room, Refuses, Makes, Gives, IsUnfit, IsUnfitType, AreUnfit}
 use Rattle.arrow_ipc.specs.Writes.{RefusesColumns, GivesColumns}
 use Rattle.arrow_ipc.specs.declared.write.WriteError.{WriteError}
 use Rattle.arrow_ipc.specs.declared.write.WriteError.TheVariants.{Column as Unfit}
-use Rattle.arrow_ipc.proofs.Linked.{items}
-use Rattle.arrow_ipc.proofs.Made.{Made, made_more, made_gives, refuses_more, gives, columns_hold}
+use Rattle.arrow_ipc.proofs.Made.{refuses_more, gives}
 use Rattle.arrow_ipc.proofs.Tables.{column_holds, slots}
 use Rattle.arrow_ipc.proofs.TypeTables.{table_is, table_size}
 use Rattle.arrow_ipc.proofs.Linked.{length_table}
@@ -51,32 +50,12 @@ nests_less (struct fs) = let same = deepest_fields fs in omega (arith, same)
 nests_less (union ms mode) = let same = deepest_members ms in omega (arith, same)
 nests_less _ = omega arith
 
-module _ {A : Type 0} (f : A → ColumnTree) (levels : ℕ) where
-  among : (xs : List A) (i : ℕ) (x : A) → i < length xs → x ≡ get_or xs i x → IsUnfitType levels (f x).data_type → AreUnfit levels (map f xs)
-  among [] i x lt is u = absurd (omega arith)
-  among (y ∷ ys) zero x lt is u = inl (subst (λ z. IsUnfitType levels (f z).data_type) is u)
-  among (y ∷ ys) (suc i) x lt is u = inr (among ys i x (omega arith) is u)
-
-  module _ (blocks : List (Vec ℕ Global)) (xs : List A) (i : ℕ) (way : Made (Holds (child_in levels)) columns_room (map items blocks) (map f (drop i xs)) (map f xs)) where
-    module _ (x : A) (lt : i < length xs) (is : x ≡ get_or xs i x) where
-      here : Made (Holds (child_in levels)) columns_room (map items blocks) (f x ∷ map f (drop (i + 1) xs)) (map f xs)
-      here = subst (λ cs. Made (Holds (child_in levels)) columns_room (map items blocks) cs (map f xs)) (ap (map f) (drop_more xs i x lt) ∙ ap (λ y. f y ∷ map f (drop (i + 1) xs)) (sym is)) way
-
-      pub each_more : (new : List (Vec ℕ Global)) (b : Vec ℕ Global) → new ≡ blocks ++ b ∷ [] → Holds (child_in levels) b.items (f x) → length b.items ≤ room_of (f x)
-          → Made (Holds (child_in levels)) columns_room (map items new) (map f (drop (i + 1) xs)) (map f xs)
-      each_more new b pushed one most = grind (arith, map_push, made_more, here)
-
-      pub each_room : room_of (f x) ≤ columns_room (map f xs)
-      each_room = let m = here in let fits = m.fits in omega (arith, fits)
-
-      pub each_refused : (e : WriteError) → Refuses e (IsUnfitType levels (f x).data_type) (room_of (f x)) → Refuses e (AreUnfit levels (map f xs)) (columns_room (map f xs))
-      each_refused e r = refuses_more e (IsUnfitType levels (f x).data_type) (AreUnfit levels (map f xs)) (room_of (f x)) (columns_room (map f xs)) (among xs i x lt is) each_room r
-
-    pub each_gives : length xs ≤ i → (unfit : Type 0) (r : Result (Vec ℕ Global) WriteError) → Makes (vector_block (map items blocks)) r
-        → Gives (λ b. Holds (columns_read levels) b (map f xs)) unfit (columns_room (map f xs)) r
-    each_gives le unfit r made =
-        let m : Made (Holds (child_in levels)) columns_room (map items blocks) [] (map f xs) = subst (λ cs. Made (Holds (child_in levels)) columns_room (map items blocks) cs (map f xs)) (ap (map f) (drop_all i xs le)) way in
-        made_gives (Holds (child_in levels)) columns_room (columns_read levels) (map f xs) unfit (map items blocks) (map f xs) refl m (columns_hold levels (map items blocks) (map f xs)) r made
+-- what refuses one of the columns refuses them all
+pub each_refused : {A : Type 0} (f : A → ColumnTree) (levels : ℕ) (xs : List A) (i : ℕ) (x : A) → i < length xs → x ≡ get_or xs i x → (e : WriteError) → Refuses e (IsUnfitType levels (f x).data_type) (room_of (f x))
+    → Refuses e (AreUnfit levels (map f xs)) (columns_room (map f xs))
+each_refused f levels [] i x lt is e r = absurd (omega arith)
+each_refused f levels (y ∷ ys) zero x lt is e r = refuses_more e (IsUnfitType levels (f y).data_type) _ (room_of (f y)) _ inl (omega arith) (rw is at r)
+each_refused f levels (y ∷ ys) (suc i) x lt is e r = refuses_more e (AreUnfit levels (map f ys)) _ (columns_room (map f ys)) _ inr (omega arith) (each_refused f levels ys i x (omega arith) is e r)
 
 -- ---- what a type nests
 

@@ -112,6 +112,7 @@ fn entry_block(alloc: Global, key: &str, text: &str) -> Block
 }
 
 /// Metadata.
+#[tactic(auto, using(crate::proofs::Made::made_more, std::proofs::lemmas::List::map_push))]
 pub(crate) fn texts_block(alloc: Global, texts: &BTreeMap<String, String>) -> Block
     ensures { Gives (λ b. Holds texts_read b (texts_of texts.now.entries)) ⊥ (texts_room (texts_of texts.now.entries)) result }
 {

@@ -71,7 +71,7 @@ pub(crate) fn data_block(
 }
 
 /// The vector of the columns that a type nests.
-#[tactic(auto, using(crate::proofs::Nestings::falls, crate::proofs::Nestings::each_more, crate::proofs::Nestings::each_refused))]
+#[tactic(auto, using(crate::proofs::Nestings::falls, crate::proofs::Nestings::each_refused, crate::proofs::Made::made_more, std::proofs::lemmas::List::drop_more, std::proofs::lemmas::List::map_push))]
 #[cycle(write)]
 fn children_block(alloc: Global, fields: &[&Field], levels: usize) -> Block
     ensures { Gives (λ b. Holds (columns_read levels) b (map (λ f. column_of f.now) fields.now)) (AreUnfit levels (map (λ f. column_of f.now) fields.now)) (columns_room (map (λ f. column_of f.now) fields.now)) result }

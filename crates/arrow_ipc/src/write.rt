@@ -68,7 +68,7 @@ fn any_column(alloc: Global, column: &Column) -> Block
 }
 
 /// The vector of the columns of a schema.
-#[tactic(auto, using(crate::proofs::Nestings::each_more))]
+#[tactic(auto, using(crate::proofs::Made::made_more, std::proofs::lemmas::List::drop_more, std::proofs::lemmas::List::map_push))]
 fn columns_block(alloc: Global, columns: &[Column]) -> Block
     ensures { GivesColumns NESTING_LIMIT (map column_tree columns.now) result }
 {

@@ -1,18 +1,10 @@
-use Rattle.std.proofs.Common.{◌≡◌, map, refl, rules, arith}
-use Rattle.std.proofs.lemmas.List.{map_push}
+use Rattle.std.proofs.Common.{◌≡◌, map, refl, rules}
 use Rattle.arrow_values.specs.View.{texts_of}
 use Rattle.arrow_ipc.specs.Blocks.{Holds, entry_read, texts_read}
 use Rattle.arrow_ipc.specs.Rooms.{texts_room}
 use Rattle.arrow_ipc.proofs.Linked.{items}
-use Rattle.arrow_ipc.proofs.Made.{made_more, made_gives, texts_hold}
+use Rattle.arrow_ipc.proofs.Made.{made_gives, texts_hold}
 use Rattle.arrow_ipc.proofs.blocks.texts_block.Goals as goal
-
-pub entries-preserved : goal.entries-preserved
-entries-preserved c =
-    let l = c.entries in
-    let b = c.in_ok-entry_block.field-0 in
-    let one = rw (c.as_str.ensures.value, c.as_str-in-entries.ensures.value) at c.in_ok-entry_block.ensures in
-    rw (c.in_ok-push.ensures.items, map_push) (made_more (Holds entry_read) texts_room (map items l.blocks.items) b.items _ _ _ (rw c.in-Some.ensures.steps at l.invariant) one.0 (omega (arith, one.1)))
 
 pub returns : goal.returns
 returns c =
