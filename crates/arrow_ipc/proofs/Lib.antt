@@ -1,6 +1,4 @@
-mod Texts
 mod Told
-mod TypeOf
 mod Levels
 mod Linked
 mod Made

@@ -69,7 +69,7 @@ fn named_text(alloc: Global, named: Named, zone: &str) -> Made<String>
 }
 
 /// The children as members of a notation, each with its type id.
-#[tactic(auto, using(crate::proofs::TypeOf::text_push))]
+#[tactic(auto, using(std::proofs::lemmas::List::map_push, std::proofs::lemmas::List::append_assoc))]
 fn member_parts(alloc: Global, ids: &[i8], children: &[Column]) -> Made<Vec<String>>
     ensures { IfOk result (λ parts. map string_bytes parts.items ≡ member_parts ids.now (map column_tree children.now)) }
 {

@@ -153,7 +153,7 @@ fn text_at(bytes: &[u8], at: usize) -> Result<&[u8], Fault>
 }
 
 /// A text in UTF-8.
-#[tactic(auto, using(crate::proofs::Texts::utf8_tests), unfolding(crate::specs::Wire::utf8_at))]
+#[tactic(auto, using(crate::proofs::Linked::utf8_tests), unfolding(crate::specs::Wire::utf8_at))]
 pub(crate) fn utf8_at(bytes: &[u8], at: usize) -> Result<&str, Fault>
     ensures { map_ok (λ s. s.now) result ≡ utf8_at bytes.now at }
 {
