@@ -14,7 +14,7 @@ use std::alloc::{AllocError, Global};
 use std::collections::BTreeMap;
 
 /// The fields that a type nests.
-#[tactic(auto, using(crate::proofs::Nestings::fields_lent, crate::proofs::Nestings::members_lent))]
+#[tactic(auto, using(crate::proofs::Nestings::fields_lent))]
 fn nested_fields<'a>(alloc: Global, data_type: &'a DataType) -> Result<Vec<&'a Field>, AllocError>
     ensures { IfOk result (λ fs. map (λ f. column_of f.now) fs.items ≡ nested_columns (tree data_type.now)) }
 {
