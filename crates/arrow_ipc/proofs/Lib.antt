@@ -1,16 +1,7 @@
-mod Texts
-mod Opened
-mod Ids
 mod Told
-mod Inserted
-mod TypeOf
-mod Words
 mod Levels
 mod Linked
 mod Made
 mod Tables
-mod Vectors
 mod TypeTables
 mod Nestings
-mod Built
-mod Written

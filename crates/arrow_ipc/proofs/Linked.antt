@@ -1,19 +1,24 @@
 -- What is read at a place of a message from the bytes that stand there, and what stands in a block of linked blocks: its number, its
 -- offsets with the blocks to which they lead, its other bytes, and where it is a table, its slots.
-use Rattle.std.proofs.Common.{◌≡◌, ℕ, zero, suc, ◌+◌, ◌*◌, ◌-◌, ◌^◌, ◌%◌, ◌<◌, ◌≤◌, true, false, ◌++◌, ◌∷◌, [], List, length, take, drop, Some, Ok, refl, sym, ap, ◌∙◌, arith, slice_get, nat_lt, ◌==◌, Bool, replicate, Option, None, Result, subst, append_assoc, if◌then◌else◌}
+use Rattle.std.proofs.Common.{◌≡◌, ℕ, zero, suc, ◌+◌, ◌*◌, ◌-◌, ◌^◌, ◌%◌, ◌<◌, ◌≤◌, true, false, ◌++◌, ◌∷◌, [], List, length, take, drop, Some, Ok, refl, sym, ap, ◌∙◌, arith, slice_get, nat_lt, ◌==◌, Bool, replicate, Option, None, Result, subst, append_assoc, if◌then◌else◌, map, Vec, Global}
 use Rattle.std.specs.Int.{w16, w32, to_le_bytes, from_le_bytes}
 use Rattle.std.specs.Str.{is_utf8}
 use Rattle.std.specs.List.{concat}
 use Rattle.std.proofs.lemmas.Nat.{from_le_bytes-to_le_bytes_4}
-use Rattle.std.proofs.lemmas.List.{length-drop, drop-drop, drop_at, take_at, length-append, length-replicate}
+use Rattle.std.proofs.lemmas.List.{length-drop, drop-drop, drop_at, take_at, length-append, length-replicate, length-map}
 use Rattle.std.proofs.lemmas.Bool.{lt-ltb, le-ltb, le-leb, ltb-true, ltb-false, eq-eqb}
 use Rattle.std.proofs.lemmas.Bool.Decides.{nat_tests}
+use Rattle.std.proofs.lemmas.Str.{IsUtf8-from_is_utf8, is_utf8-from_IsUtf8}
 use Rattle.arrow_ipc.specs.Fault.{◌>>=◌}
-use Rattle.arrow_ipc.specs.Wire.{u8_at, u16_at, u32_at, ahead, vtable_at, target_at, text_at, utf8_at, vector_at, opened_at, slot_of, slot_at}
+use Rattle.arrow_ipc.specs.Wire.{u8_at, u16_at, u32_at, ahead, vtable_at, target_at, text_at, utf8_at, vector_at, opened_at, slot_at}
 use Rattle.arrow_ipc.specs.Blocks.{Lies, Holds, lengths, word, rounded, padded, offsets, linked, table_size, places, table_block}
 use Rattle.arrow_ipc.specs.declared.fault.Fault.{Fault}
+use Rattle.arrow_ipc.specs.declared.wire.Table.{Table}
 use Rattle.arrow_ipc.specs.declared.fault.Rule.{Rule}
 use Rattle.arrow_ipc.specs.declared.fault.Rule.TheVariants.{Vtable, Offset, Text, Vector, Slot}
+
+-- the test for UTF-8
+pub ruleset utf8_tests = (IsUtf8-from_is_utf8, is_utf8-from_IsUtf8)
 
 pub is_some : (n : ℕ) → 0 < n → (n == 0) ≡ false
 is_some n e = grind (arith, nat_tests)
@@ -93,6 +98,12 @@ module _ (first : ℕ) (bs : List (List ℕ)) (rest : List ℕ) where
   unfolding linked
   length_linked = grind (arith, length-append, length_front, length_concat)
 
+abbrev pub items : Vec ℕ Global → List ℕ
+items v = v.items
+
+pub long_linked : (first : ℕ) (blocks : List (Vec ℕ Global)) (rest : List ℕ) → length (linked first (map items blocks) rest) ≡ rounded (4 + (4 * length blocks + length rest)) + lengths (map items blocks)
+long_linked first blocks rest = grind (arith, length_linked, length-map)
+
 -- ---- what stands further on
 
 module _ (bytes : List ℕ) (at : ℕ) where
@@ -101,9 +112,6 @@ module _ (bytes : List ℕ) (at : ℕ) where
 
   pub further : (a b : List ℕ) (to : ℕ) → drop at bytes ≡ a ++ b → at + length a ≡ to → drop to bytes ≡ b
   further a b to is place = subst (λ n. drop n bytes ≡ b) place (by_place (a ++ b) (length a) is ∙ drop_at a b (length a) refl)
-
-  pub ends : (y : List ℕ) → drop at bytes ≡ y → 0 < length y → at + length y ≡ length bytes
-  ends y is some = grind (arith, length-drop)
 
 -- ---- the blocks to which offsets lead
 
@@ -138,9 +146,6 @@ links bytes at (b ∷ bs) near far rest more is has fourth whole all room small 
     (further bytes (at + far) b (concat bs ++ more) (at + (far + length b)) there (omega arith)) (omega (arith, fourth)) (omega (arith, whole, all.0)) all.1 (omega (arith, room)) (omega (arith, small)) (omega (arith, within)) in
     (record { to = at + far; led = led; lies = record { after = concat bs ++ more; is = there; whole = whole } }, next)
 
-regroup : (w o r f c a : List ℕ) → (((w ++ (o ++ r)) ++ f) ++ c) ++ a ≡ w ++ (o ++ (r ++ (f ++ (c ++ a))))
-regroup w o r f c a = simp append_assoc
-
 module _ (bytes : List ℕ) (at first : ℕ) (bs : List (List ℕ)) (rest : List ℕ) (lies : Lies (linked first bs rest) bytes at) where
   -- what comes behind the other bytes
   abbrev pub tail : List ℕ
@@ -148,14 +153,10 @@ module _ (bytes : List ℕ) (at first : ℕ) (bs : List (List ℕ)) (rest : List
 
   pub flat : drop at bytes ≡ word first ++ (offsets 4 (rounded (4 + (4 * length bs + length rest))) bs ++ (rest ++ tail))
   unfolding linked padded
-  flat = lies.is ∙ regroup (word first) (heads first bs rest) rest (replicate (rounded (length (word first ++ (heads first bs rest ++ rest))) - length (word first ++ (heads first bs rest ++ rest))) 0) (concat bs) lies.after
+  flat = lies.is ∙ simp append_assoc
 
   pub lies_within : at + length (linked first bs rest) ≤ length bytes
-  lies_within =
-      let size = length_linked first bs rest in
-      let sum = length-append (linked first bs rest) lies.after in
-      let all = ends bytes at (linked first bs rest ++ lies.after) lies.is (omega (arith, size, sum)) in
-      omega (arith, all, sum)
+  lies_within = let all = ap length lies.is in grind (arith, length-drop, length-append, length_linked)
 
   bodies : drop (at + far first bs rest) bytes ≡ concat bs ++ lies.after
   unfolding linked
@@ -220,6 +221,10 @@ module _ (bytes : List ℕ) (at size : ℕ) (within : at + size ≤ length bytes
       let next = found ss i (entry + 2) rest (by_place bytes entry (places (s ∷ ss) ++ rest) 2 is) (omega (arith, even)) all.1 (omega arith) in
       subst (λ n. (u16_at bytes n >>= led) ≡ Ok (slot_place at ss i)) (omega arith) next
 
+-- a table that is opened
+abbrev pub opened_table : List ℕ → List ℕ → List (List ℕ) → ℕ → Table
+opened_table slots numbers bs at = record { at = at; vtable = at + table_size bs numbers; size = 4 + 2 * length slots }
+
 length_places : (ss : List ℕ) → length (places ss) ≡ 2 * length ss
 length_places [] = refl
 length_places (s ∷ ss) = let rest = length_places ss in omega (arith, rest)
@@ -259,7 +264,7 @@ module _ (slots numbers : List ℕ) (bs : List (List ℕ)) where
     vtable_at_size = further bytes (at + (4 + 4 * length bs)) numbers (vtable ++ behind) (at + size) numbers_at (omega arith)
 
     module _ (fourth : length numbers % 4 ≡ 0) (few : size ≤ 2 ^ 31) (all : AreWithin size slots) where
-      opened : opened_at bytes at ≡ Ok (record { at = at; vtable = at + size; size = 4 + 2 * length slots })
+      opened : opened_at bytes at ≡ Ok (opened_table slots numbers bs at)
       unfolding opened_at
       opened =
           let whole = lies.whole in
@@ -272,24 +277,25 @@ module _ (slots numbers : List ℕ) (bs : List (List ℕ)) where
             even,
           ) refl
 
-      by_test : (i : ℕ) (b : Bool) → nat_lt i (length slots) ≡ b → slot_at bytes at i ≡ Ok (slot_place at slots i)
-      unfolding slot_at slot_of
+      by_test : (i : ℕ) (b : Bool) → nat_lt i (length slots) ≡ b → slot_at bytes (opened_table slots numbers bs at) i ≡ Ok (slot_place at slots i)
+      unfolding slot_at
       by_test i true is =
           let lt = ltb-true i (length slots) is in
           let ended = ends_at in
           let whole = lies.whole in
           let got = found bytes at size (omega (arith, ended)) slots i (at + size + 4) behind (by_place bytes (at + size) (vtable ++ behind) 4 vtable_at_size) (omega (arith, whole, fourth)) all lt in
           let place : at + size + 4 + 2 * i ≡ at + size + (4 + 2 * i) = omega arith in
-          rw (opened, le-ltb (4 + 2 * length slots) (6 + 2 * i) (omega (arith, lt)), ahead_is bytes (at + size) Vtable (4 + 2 * i) (omega (arith, ended, lt)))
+          rw (le-ltb (4 + 2 * length slots) (6 + 2 * i) (omega (arith, lt)), ahead_is bytes (at + size) Vtable (4 + 2 * i) (omega (arith, ended, lt)))
           (subst (λ n. (u16_at bytes n >>= led bytes at size (omega (arith, ended))) ≡ Ok (slot_place at slots i)) place got)
       by_test i false is =
           let le = ltb-false i (length slots) is in
-          rw (opened, lt-ltb (4 + 2 * length slots) (6 + 2 * i) (omega (arith, le)), past at slots i le) refl
+          rw (lt-ltb (4 + 2 * length slots) (6 + 2 * i) (omega (arith, le)), past at slots i le) refl
 
 -- what is read of a table: its slots, where its offsets lead, and its numbers
 pub record Stands (slots numbers : List ℕ) (bs : List (List ℕ)) (bytes : List ℕ) (at : ℕ) : Type 0 where
   pub whole : at % 8 ≡ 0
-  pub slot : (i : ℕ) → slot_at bytes at i ≡ Ok (slot_place at slots i)
+  pub is_open : opened_at bytes at ≡ Ok (opened_table slots numbers bs at)
+  pub slot : (i : ℕ) → slot_at bytes (opened_table slots numbers bs at) i ≡ Ok (slot_place at slots i)
   pub links : AreLinked bytes at 4 bs
   pub more : List ℕ
   pub number : (k : ℕ) → drop (at + (4 + 4 * length bs + k)) bytes ≡ drop k (numbers ++ more)
@@ -301,6 +307,7 @@ module _ (slots numbers : List ℕ) (bs : List (List ℕ)) (fourth : length numb
       let all = numbers ++ (vtable slots numbers bs ++ behind slots numbers bs bytes at lies) in
       record {
         whole = lies.whole;
+        is_open = opened slots numbers bs bytes at lies fourth few within;
         slot = λ i. by_test slots numbers bs bytes at lies fourth few within i (nat_lt i (length slots)) refl;
         links = are_linked bytes at (first slots numbers bs) bs (numbers ++ vtable slots numbers bs) lies wholes small;
         more = vtable slots numbers bs ++ behind slots numbers bs bytes at lies;

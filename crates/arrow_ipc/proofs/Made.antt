@@ -1,5 +1,5 @@
 -- Blocks that are made one after the other, the walk along a vector of tables, and the vectors of metadata and of columns.
-use Rattle.std.proofs.Common.{◌≡◌, ℕ, ◌+◌, ◌*◌, ◌^◌, ◌<◌, ◌≤◌, ◌++◌, ◌∷◌, [], List, length, String, Global, string_bytes, string_cmp, Ordering, Less, Greater, Ok, refl, sym, ap, ◌∙◌, subst, arith, append_assoc, append-nil, Result}
+use Rattle.std.proofs.Common.{◌≡◌, ℕ, ◌+◌, ◌*◌, ◌^◌, ◌<◌, ◌≤◌, ◌++◌, ◌∷◌, [], List, length, String, Global, string_bytes, string_cmp, Ordering, Less, Greater, Ok, refl, sym, ap, ◌∙◌, subst, arith, append_assoc, append-nil, Result, Vec}
 use Rattle.std.proofs.lemmas.List.{length-append, map-append}
 use Rattle.std.specs.Ordering.{ordering_reverse, match_ordering}
 use Rattle.std.specs.Cmp.{IsTotalOrder}
@@ -14,14 +14,28 @@ use Rattle.arrow_values.specs.Texts.{put_text}
 use Rattle.arrow_columns.specs.Column.{ColumnTree}
 use Rattle.arrow_ipc.specs.Wire.{target_at, vector_at}
 use Rattle.arrow_ipc.specs.Columns.{entry_at, put_next, texts_at, put_column, columns_by, column_at}
-use Rattle.arrow_ipc.specs.Blocks.{Holds, lengths, rounded, vector_block, entry_read, texts_read, columns_read, child_in}
+use Rattle.arrow_ipc.specs.Blocks.{Holds, lengths, vector_block, entry_read, texts_read, columns_read, child_in}
 use Rattle.arrow_ipc.specs.Fault.{◌>>=◌}
 use Rattle.arrow_ipc.specs.Tells.{gather}
+use Rattle.arrow_ipc.specs.Rooms.{Refuses, Makes, Gives}
 use Rattle.arrow_ipc.specs.declared.fault.Fault.{Fault}
+use Rattle.arrow_ipc.specs.declared.write.WriteError.{WriteError}
+use Rattle.arrow_ipc.specs.declared.write.WriteError.TheVariants.{Column}
 use Rattle.arrow_ipc.proofs.Told.{bound}
-use Rattle.arrow_ipc.proofs.Inserted.{texts_inserted}
+use Rattle.arrow_values.proofs.TextLaws.{texts_of_insert}
 use Rattle.arrow_ipc.proofs.Tables.{column_by_table}
 use Rattle.arrow_ipc.proofs.Linked.{length_linked, AreLinked, AreWhole, whole_lengths, are_linked, is_vector}
+
+-- ---- a block that was made, or why not
+
+-- the room is no less, and what cannot be held the same
+pub refuses_more : (e : WriteError) (P Q : Type 0) (n m : ℕ) → (P → Q) → n ≤ m → Refuses e P n → Refuses e Q m
+refuses_more (Column i) P Q n m f le r = f r
+refuses_more _ P Q n m f le r = grind arith
+
+-- it holds what it should, in the room that it has
+pub gives : (r : Result (Vec ℕ Global) WriteError) (block : List ℕ) (P : List ℕ → Type 0) (unfit : Type 0) (room : ℕ) → Makes block r → (length block < 2 ^ 31 → P block) → length block ≤ room → Gives P unfit room r
+gives r block P unfit room made holds le = grind (arith, refuses_more)
 
 -- ---- one block after the other
 
@@ -56,11 +70,15 @@ module _ {A : Type 0} (P : List ℕ → A → Type 0) (rooms : List A → ℕ) w
         fits = omega (arith, sum, many, before, room);
       }
 
-  pub made_all : (blocks : List (List ℕ)) (all : List A) → Made P rooms blocks [] all → AllZip P blocks all
-  made_all blocks all m = subst (λ xs. AllZip P blocks xs) (sym (append-nil m.done) ∙ m.parts) m.each
-
-pub length_vector : (bs : List (List ℕ)) → length (vector_block bs) ≡ rounded (4 + 4 * length bs) + lengths bs
-length_vector bs = let size = length_linked (length bs) bs [] in omega (arith, size)
+  -- the vector of all of them
+  pub made_gives : {B : Type 0} (read : List ℕ → ℕ → Result (B × ℕ) Fault) (a : B) (unfit : Type 0) (blocks : List (List ℕ)) (all : List A) → rooms [] ≡ 12 → Made P rooms blocks [] all
+      → (AllZip P blocks all → length (vector_block blocks) < 2 ^ 32 → Holds read (vector_block blocks) a) → (r : Result (Vec ℕ Global) WriteError) → Makes (vector_block blocks) r
+      → Gives (λ b. Holds read b a) unfit (rooms all) r
+  made_gives read a unfit blocks all none m holds r made =
+      let fits = m.fits in
+      let size = length_linked (length blocks) blocks [] in
+      gives r (vector_block blocks) (λ b. Holds read b a) unfit (rooms all) made
+      (λ small. holds (subst (λ xs. AllZip P blocks xs) (sym (append-nil m.done) ∙ m.parts) m.each) (omega (arith, small))) (omega (arith, fits, size, none))
 
 -- ---- the walk along a vector of tables
 
@@ -131,7 +149,7 @@ put_last : (done : Texts) (k t : String Global) (left : Texts) → IsStrictlySor
     → put_text (string_bytes k) (string_bytes t) (texts_of done) ≡ texts_of (done ++ (k, t) ∷ [])
 put_last done k t left h =
     let sorted = subst (IsStrictlySortedBy string_cmp) (map-append (λ (e : String Global × String Global). e.0) done ((k, t) ∷ left)) h in
-    sym (texts_inserted done k t) ∙ ap texts_of (insert_last string_cmp_total done k t (keys_of left) sorted)
+    sym (texts_of_insert done k t) ∙ ap texts_of (insert_last string_cmp_total done k t (keys_of left) sorted)
 
 joined_texts : (done left : Texts) → IsStrictlySortedBy string_cmp (keys_of (done ++ left)) → joined put (texts_of done) (texts_of left) ≡ texts_of (done ++ left)
 joined_texts done [] h = ap texts_of (sym (append-nil done))

@@ -1,28 +1,23 @@
 -- The blocks of texts, of entries, of columns, of schemas and of messages.
-use Rattle.std.proofs.Common.{◌≡◌, ℕ, ◌+◌, ◌-◌, ◌^◌, ◌<◌, true, ◌++◌, ◌∷◌, [], List, length, Ok, refl, sym, ap, ◌∙◌, arith, append_assoc, suc, ◌≤◌, Bool, false, Option, None, ◌==◌, if◌then◌else◌, take, drop, Vec, Global, Result, Err, IfOk, append-nil}
+use Rattle.std.proofs.Common.{◌≡◌, ℕ, ◌+◌, ◌-◌, ◌^◌, ◌<◌, true, ◌++◌, ◌∷◌, [], List, length, Ok, refl, sym, ap, ◌∙◌, arith, append_assoc, suc, ◌≤◌, Bool, false, ◌==◌, if◌then◌else◌, take, drop, append-nil}
 use Rattle.std.specs.Str.{is_utf8}
 use Rattle.std.proofs.lemmas.List.{length-append, take_at}
 use mir.Val.{bool_byte}
 use Rattle.arrow_values.specs.Tree.{Text, Metadata}
 use Rattle.arrow_columns.specs.Column.{TypeTree, ColumnTree}
-use Rattle.arrow_ipc.specs.Wire.{utf8_at, u8_at, slot_at, target_at, vector_at, u16_at, u32_at}
+use Rattle.arrow_ipc.specs.Wire.{utf8_at, u8_at, target_at, vector_at, u32_at}
 use Rattle.arrow_ipc.specs.Slots.{table_in, u8_in, flag_in, text_in, vector_in, u16_in}
-use Rattle.arrow_ipc.specs.Columns.{entry_in, texts_at, ids_at, ids_of_kind, counted, typed, finished, columns_by, column_at}
-use Rattle.arrow_ipc.specs.Blocks.{Holds, word, rounded, offsets, text_block, text_read, entry_block, entry_read, IsType, flag, table_block, column_block, column_in, columns_read, texts_read, order_number, schema_block, message_block, stream_block}
-use Rattle.arrow_ipc.specs.Fault.{◌>>=◌}
-use Rattle.arrow_ipc.specs.Parts.{Own, tag_in, zone_in, index_in, ids_in, parts_in, parts_at}
-use Rattle.arrow_ipc.specs.Kinds.{kind_at}
-use Rattle.arrow_ipc.specs.Types.{type_of}
-use Rattle.arrow_ipc.specs.declared.kinds.Kind.{Kind}
+use Rattle.arrow_ipc.specs.Columns.{entry_in, texts_at, finished, columns_by, column_at}
+use Rattle.arrow_ipc.specs.Blocks.{Holds, word, rounded, offsets, text_block, text_read, entry_block, entry_read, IsType, table_block, column_block, column_in, columns_read, texts_read, order_number, schema_block, message_block, stream_block}
+use Rattle.arrow_ipc.specs.Parts.{tag_in, index_in, parts_in, parts_at}
 use Rattle.arrow_ipc.specs.Longs.{u64_in}
 use Rattle.arrow_ipc.specs.Schema.{SchemaTree, head_at, schema_at, message_at, cut, message_in, schema_of_message}
-use Rattle.arrow_ipc.specs.Denotes.{IsStreamOf}
+use Rattle.arrow_ipc.specs.Writes.{Streams}
 use Rattle.arrow_ipc.specs.declared.schema.Endianness.{Endianness}
 use Rattle.arrow_ipc.specs.declared.schema.Endianness.TheVariants.{Little, Big}
-use Rattle.arrow_ipc.specs.declared.write.WriteError.{WriteError}
 use Rattle.arrow_ipc.proofs.Told.{bound}
 use Rattle.std.proofs.lemmas.Bool.{lt-ltb, le-leb}
-use Rattle.arrow_ipc.proofs.Linked.{text_is, is_some, u8_is, u32_is, target_is, length_linked, flat, tail, slot_place, low, length_table, stands, table_holds}
+use Rattle.arrow_ipc.proofs.Linked.{text_is, is_some, u8_is, u32_is, target_is, length_linked, flat, tail, low, length_table, stands, table_holds}
 
 pub length_text : (text : Text) → length (text_block text) ≡ rounded (5 + length text)
 length_text text = grind (arith, length_linked, length-append)
@@ -53,7 +48,7 @@ entry_holds kb tb key text hk ht small =
     let t = ht.reads bytes l.1.0.to l.1.0.lies in
     let key_is = is_text bytes l.0.to key k.0 k.2 in
     let text_is = is_text bytes l.1.0.to text t.0 t.2 in
-    (8 + length key + length text, omega (arith, k.1, t.1, key_is.1, text_is.1), rw (s.slot 0, l.0.led, key_is.0, s.slot 1, l.1.0.led, text_is.0) refl))
+    (8 + length key + length text, omega (arith, k.1, t.1, key_is.1, text_is.1), rw (s.is_open, s.slot 0, l.0.led, key_is.0, s.slot 1, l.1.0.led, text_is.0) refl))
 
 -- ---- a column's block: its own table, then its name, its type, its children and its metadata
 
@@ -62,41 +57,21 @@ pub column_by_table : (depth : ℕ) (bytes : List ℕ) (at table : ℕ) (v : Col
 unfolding column_at parts_at column_in
 column_by_table depth bytes at table v led is = rw led is
 
--- the type, and the column, from what the table says
-is_typed : (bytes : List ℕ) (p : Own) (cs : List ColumnTree) (t : TypeTree) → p.zone ≡ [] → p.index ≡ None
-    → (ids_of_kind p.kind (ids_at bytes p.table p.ids (length cs)) >>= λ i. counted p.table (type_of p.kind [] i cs)) ≡ Ok t → typed bytes p cs ≡ Ok t
-unfolding typed
-is_typed bytes p cs t zone index is = grind (arith, bound)
-
-is_column : (depth : ℕ) (bytes : List ℕ) (table : ℕ) (p : Own) (cs : List ColumnTree) (t : TypeTree) (ms : Metadata) (k l : ℕ) → parts_in bytes table ≡ Ok p → p.zone ≡ []
-    → columns_by (column_at depth bytes) p.children ≡ Ok (cs, k) → typed bytes p cs ≡ Ok t → texts_at bytes p.texts ≡ Ok (ms, l)
-    → column_in depth bytes table ≡ Ok (record { name = p.name; data_type = t; nullable = p.nullable; metadata = ms }, 16 + length p.name + length p.zone + (k + l))
-unfolding column_in finished
-is_column depth bytes table p cs t ms k l parts zone children type texts = rw (parts, children, type, texts) refl
-
-flag_is : (b : Bool) → (if flag b == 0 then false else true) ≡ b
+flag_is : (b : Bool) → (if bool_byte b == 0 then false else true) ≡ b
 flag_is b = grind arith
 
 abbrev pub slots : List ℕ
 slots = 4 ∷ 20 ∷ 21 ∷ 8 ∷ 0 ∷ 12 ∷ 16 ∷ []
 
-parts_are : (bytes : List ℕ) (at : ℕ) (nullable : Bool) (tag a b c d : ℕ) (name : Text) (first : Option ℕ) (kind : Kind) (ids : Option (ℕ × ℕ)) (cv mv : ℕ × ℕ)
-    → ((i : ℕ) → slot_at bytes at i ≡ Ok (slot_place at slots i)) → target_at bytes (at + 4) ≡ Ok a → utf8_at bytes a ≡ Ok name → u8_at bytes (at + 20) ≡ Ok (flag nullable)
-    → u8_at bytes (at + 21) ≡ Ok tag → 0 < tag → tag ≤ 26 → target_at bytes (at + 8) ≡ Ok b → slot_at bytes b 0 ≡ Ok first → kind_at bytes tag b ≡ Ok kind → zone_in bytes tag b ≡ Ok [] → ids_in bytes tag b ≡ Ok ids
-    → target_at bytes (at + 12) ≡ Ok c → vector_at bytes c ≡ Ok cv → target_at bytes (at + 16) ≡ Ok d → vector_at bytes d ≡ Ok mv
-    → parts_in bytes at ≡ Ok (record { table = at; name = name; nullable = nullable; kind = kind; zone = []; index = None; children = cv; ids = ids; texts = mv })
-unfolding parts_in text_in flag_in u8_in tag_in table_in index_in vector_in
-parts_are bytes at nullable tag a b c d name first kind ids cv mv slot to_name named second third some least to_type is_first is_kind no_zone is_ids to_children children to_texts texts =
-    rw (slot 0, to_name, named, slot 1, second, flag_is nullable, slot 2, third, is_some tag some, le-leb tag 26 least, slot 3, to_type, is_first, is_kind, no_zone, is_ids, slot 4, slot 5, to_children, children, slot 6, to_texts, texts) refl
-
 pub column_holds : (levels : ℕ) (nb tb cb mb : List ℕ) (nullable : Bool) (tag : ℕ) (name : Text) (cs : List ColumnTree) (t : TypeTree) (ms : Metadata)
     → Holds text_read nb name → IsType tag tb cs t → Holds (columns_read levels) cb cs → Holds texts_read mb ms → length (column_block nb tb cb mb nullable tag) < 2 ^ 32
     → Holds (column_in levels) (column_block nb tb cb mb nullable tag) (record { name = name; data_type = t; nullable = nullable; metadata = ms })
+unfolding column_in finished parts_in text_in flag_in u8_in tag_in table_in index_in vector_in
 column_holds levels nb tb cb mb nullable tag name cs t ms named typing children texts small =
-    table_holds slots (flag nullable ∷ tag ∷ 0 ∷ 0 ∷ []) (nb ∷ tb ∷ cb ∷ mb ∷ []) refl (omega arith) (omega arith, (omega arith, (omega arith, (omega arith, (omega arith, (omega arith, (omega arith, tt)))))))
+    table_holds slots (bool_byte nullable ∷ tag ∷ 0 ∷ 0 ∷ []) (nb ∷ tb ∷ cb ∷ mb ∷ []) refl (omega arith) (omega arith, (omega arith, (omega arith, (omega arith, (omega arith, (omega arith, (omega arith, tt)))))))
     (named.whole, (typing.whole, (children.whole, (texts.whole, tt)))) small (column_in levels) (record { name = name; data_type = t; nullable = nullable; metadata = ms }) (λ bytes at s.
     let l = s.links in
-    let first : u8_at bytes (at + 20) ≡ Ok (flag nullable) = u8_is bytes (at + 20) (flag nullable) _ (s.number 0) in
+    let first : u8_at bytes (at + 20) ≡ Ok (bool_byte nullable) = u8_is bytes (at + 20) (bool_byte nullable) _ (s.number 0) in
     let second : u8_at bytes (at + 21) ≡ Ok tag = u8_is bytes (at + 21) tag _ (s.number 1) in
     let n = named.reads bytes l.0.to l.0.lies in
     let r = typing.reads bytes l.1.0.to l.1.0.lies in
@@ -104,31 +79,49 @@ column_holds levels nb tb cb mb nullable tag name cs t ms named typing children 
     let m = texts.reads bytes l.1.1.1.0.to l.1.1.1.0.lies in
     let nv = is_text bytes l.0.to name n.0 n.2 in
     let cv = bound (vector_at bytes l.1.1.0.to) (columns_by (column_at levels bytes)) (cs, c.0) c.2 in
-    let mv = bound (vector_at bytes l.1.1.1.0.to) (texts_at bytes) (ms, m.0) m.2 in
-    let p : Own = record { table = at; name = name; nullable = nullable; kind = r.kind; zone = []; index = None; children = cv.0; ids = r.ids; texts = mv.0 } in
-    let parted = parts_are bytes at nullable tag _ _ _ _ name r.first r.kind r.ids cv.0 mv.0 s.slot l.0.led nv.0 first second typing.some typing.least l.1.0.led r.is_first r.is_kind r.no_zone r.is_ids l.1.1.0.led cv.1 l.1.1.1.0.led mv.1 in
-    (16 + length name + 0 + (c.0 + m.0), omega (arith, n.1, nv.1, c.1, m.1), is_column levels bytes at p cs t ms c.0 m.0 parted refl cv.2 (is_typed bytes p cs t refl refl (r.is_type at)) mv.2))
-
--- as it is written
-flag_byte : (b : Bool) → bool_byte b ≡ flag b
-flag_byte b = grind arith
-
-pub flagged : (nullable : Bool) (tag : ℕ) (bs : List (List ℕ)) → table_block slots (bool_byte nullable ∷ tag ∷ 0 ∷ 0 ∷ []) bs ≡ table_block slots (flag nullable ∷ tag ∷ 0 ∷ 0 ∷ []) bs
-flagged nullable tag bs = ap (λ (f : ℕ). table_block slots (f ∷ tag ∷ 0 ∷ 0 ∷ []) bs) (flag_byte nullable)
+    let mv = bound (vector_at bytes l.1.1.1.0.to) (texts_at bytes) (ms, m.0) m.2 in (
+      16 + length name + 0 + (c.0 + m.0),
+      omega (arith, n.1, nv.1, c.1, m.1),
+      rw (
+        s.is_open,
+        s.slot 0,
+        l.0.led,
+        nv.0,
+        s.slot 1,
+        first,
+        flag_is nullable,
+        s.slot 2,
+        second,
+        is_some tag typing.some,
+        le-leb tag 26 typing.least,
+        s.slot 3,
+        l.1.0.led,
+        r.is_open,
+        r.is_first,
+        r.is_kind,
+        r.no_zone,
+        r.is_ids,
+        s.slot 4,
+        s.slot 5,
+        l.1.1.0.led,
+        cv.1,
+        s.slot 6,
+        l.1.1.1.0.led,
+        mv.1,
+        cv.2,
+        r.is_type at,
+        mv.2,
+      ) refl,
+    ))
 
 -- ---- the block of a schema, in a message, in a stream
 
 ordered : (order : Endianness) → (if order_number order == 0 then Little else Big) ≡ order
 ordered order = grind arith
 
-head_is : (bytes : List ℕ) (at a b : ℕ) (order : Endianness) (cv mv : ℕ × ℕ) → ((i : ℕ) → slot_at bytes at i ≡ Ok (slot_place at (12 ∷ 4 ∷ 8 ∷ []) i)) → u16_at bytes (at + 12) ≡ Ok (order_number order)
-    → target_at bytes (at + 4) ≡ Ok a → vector_at bytes a ≡ Ok cv → target_at bytes (at + 8) ≡ Ok b → vector_at bytes b ≡ Ok mv → head_at bytes at ≡ Ok (record { endianness = order; fields = cv; texts = mv })
-unfolding head_at u16_in table_in vector_in
-head_is bytes at a b order cv mv slot order_is to_columns columns to_texts texts = rw (slot 0, order_is, slot 1, to_columns, columns, slot 2, to_texts, texts, ordered order) refl
-
 schema_holds : (levels : ℕ) (cb mb : List ℕ) (order : Endianness) (cs : List ColumnTree) (ms : Metadata) → Holds (columns_read levels) cb cs → Holds texts_read mb ms → length (schema_block cb mb order) < 2 ^ 32
     → Holds (schema_at levels) (schema_block cb mb order) (record { columns = cs; metadata = ms; endianness = order })
-unfolding schema_at
+unfolding schema_at head_at u16_in table_in vector_in
 schema_holds levels cb mb order cs ms columns texts small =
     table_holds (12 ∷ 4 ∷ 8 ∷ []) (order_number order ∷ 0 ∷ 0 ∷ 0 ∷ []) (cb ∷ mb ∷ []) refl (omega arith) (omega arith, (omega arith, (omega arith, tt))) (columns.whole, (texts.whole, tt)) small
     (schema_at levels) (record { columns = cs; metadata = ms; endianness = order }) (λ bytes at s.
@@ -139,22 +132,19 @@ schema_holds levels cb mb order cs ms columns texts small =
     let m = texts.reads bytes l.1.0.to l.1.0.lies in
     let cv = bound (vector_at bytes l.0.to) (columns_by (column_at levels bytes)) (cs, c.0) c.2 in
     let mv = bound (vector_at bytes l.1.0.to) (texts_at bytes) (ms, m.0) m.2 in
-    let is = head_is bytes at l.0.to l.1.0.to order cv.0 mv.0 s.slot order_is l.0.led cv.1 l.1.0.led mv.1 in
-    (c.0 + m.0, omega (arith, c.1, m.1), rw (is, cv.2, mv.2) refl))
+    (c.0 + m.0, omega (arith, c.1, m.1), rw (s.is_open, s.slot 0, order_is, s.slot 1, l.0.led, cv.1, s.slot 2, l.1.0.led, mv.1, ordered order, cv.2, mv.2) refl))
+
+pub length_schema : (columns texts : List ℕ) (order : ℕ) → length (table_block (12 ∷ 4 ∷ 8 ∷ []) (order ∷ 0 ∷ 0 ∷ 0 ∷ []) (columns ∷ texts ∷ [])) ≡ 32 + length columns + length texts
+length_schema columns texts order = let size = length_table (12 ∷ 4 ∷ 8 ∷ []) (order ∷ 0 ∷ 0 ∷ 0 ∷ []) (columns ∷ texts ∷ []) in omega (arith, size)
 
 -- ---- the message
 
-pub length_message : (schema : List ℕ) → length (message_block schema) ≡ 32 + length schema
+pub length_message : (schema : List ℕ) → length (table_block (8 ∷ 10 ∷ 4 ∷ []) (4 ∷ 0 ∷ 1 ∷ 0 ∷ []) (schema ∷ [])) ≡ 24 + length schema
 length_message schema = let size = length_table (8 ∷ 10 ∷ 4 ∷ []) (4 ∷ 0 ∷ 1 ∷ 0 ∷ []) (schema ∷ []) in omega (arith, size)
-
-message_is : (bytes : List ℕ) (to : ℕ) → target_at bytes 0 ≡ Ok 8 → ((i : ℕ) → slot_at bytes 8 i ≡ Ok (slot_place 8 (8 ∷ 10 ∷ 4 ∷ []) i)) → u16_at bytes 16 ≡ Ok 4 → u8_at bytes 18 ≡ Ok 1 → target_at bytes 12 ≡ Ok to
-    → message_at bytes ≡ Ok to
-unfolding message_at u64_in u16_in u8_in table_in
-message_is bytes to root slot version tag header = rw (root, slot 0, version, slot 1, tag, slot 3, slot 2, header) refl
 
 message_reads : (levels : ℕ) (block : List ℕ) (s : SchemaTree) → Holds (schema_at levels) block s → length (message_block block) < 2 ^ 32
     → (n : ℕ) × (n ≤ length block) × (schema_of_message levels (message_block block) ≡ Ok (s, n))
-unfolding schema_of_message
+unfolding schema_of_message message_at u64_in u16_in u8_in table_in
 message_reads levels block s h small =
     let bytes = message_block block in
     let numbers : List ℕ = 4 ∷ 0 ∷ 1 ∷ 0 ∷ [] in
@@ -162,7 +152,7 @@ message_reads levels block s h small =
     let root : target_at bytes 0 ≡ Ok 8 = target_is bytes 0 8 (drop 4 bytes) refl (omega arith) (omega arith) (omega arith) refl in
     let m = stands (8 ∷ 10 ∷ 4 ∷ []) numbers (block ∷ []) refl (omega arith) (omega arith, (omega arith, (omega arith, tt))) (h.whole, tt) (omega (arith, small)) bytes 8 (record { after = []; is = sym (append-nil table); whole = refl }) in
     let got = h.reads bytes m.links.0.to m.links.0.lies in
-    (got.0, got.1, rw (message_is bytes m.links.0.to root m.slot (low bytes 16 4 _ refl (m.number 0)) (u8_is bytes 18 1 _ (m.number 2)) m.links.0.led) got.2)
+    (got.0, got.1, rw (root, m.is_open, m.slot 0, low bytes 16 4 _ refl (m.number 0), m.slot 1, u8_is bytes 18 1 _ (m.number 2), m.slot 3, m.slot 2, m.links.0.led) got.2)
 
 -- ---- the stream
 
@@ -176,19 +166,13 @@ in_stream message some small =
     let all : take (length message) message ≡ message = ap (take (length message)) (sym (append-nil message)) ∙ take_at message [] (length message) refl in
     rw (first, size, lt-ltb 0 (length message) some, le-leb (8 + length message) (length bytes) (omega (arith, long)), all) refl
 
-pub stream_is : (levels : ℕ) (cb mb : List ℕ) (order : Endianness) (cs : List ColumnTree) (ms : Metadata) → Holds (columns_read levels) cb cs → Holds texts_read mb ms
-    → length (message_block (schema_block cb mb order)) < 2 ^ 31 → IsStreamOf levels (stream_block (message_block (schema_block cb mb order))) (record { columns = cs; metadata = ms; endianness = order })
-stream_is levels cb mb order cs ms columns texts small =
+pub stream_holds : (levels : ℕ) (cb mb : List ℕ) (order : Endianness) → length (message_block (schema_block cb mb order)) < 2 ^ 31 → Streams levels cb mb order (stream_block (message_block (schema_block cb mb order)))
+unfolding Streams
+stream_holds levels cb mb order small cs ms columns texts =
     let block = schema_block cb mb order in
     let size = length_message block in
     let got = message_reads levels block (record { columns = cs; metadata = ms; endianness = order }) (schema_holds levels cb mb order cs ms columns texts (omega (arith, size, small))) (omega (arith, small)) in
     (message_block block, in_stream (message_block block) (omega (arith, size)) (omega (arith, small)), (got.0, omega (arith, got.1, size), got.2))
-
-pub stream_ok : (levels : ℕ) (cb mb : List ℕ) (order : Endianness) (cs : List ColumnTree) (ms : Metadata) → Holds (columns_read levels) cb cs → Holds texts_read mb ms
-    → (r : Result (Vec ℕ Global) WriteError) → IfOk r (λ b. b.items ≡ stream_block (message_block (schema_block cb mb order))) → IfOk r (λ b. length (message_block (schema_block cb mb order)) < 2 ^ 31)
-    → IfOk r (λ b. IsStreamOf levels b.items (record { columns = cs; metadata = ms; endianness = order }))
-stream_ok levels cb mb order cs ms columns texts (Ok b) is small = rw is (stream_is levels cb mb order cs ms columns texts small)
-stream_ok levels cb mb order cs ms columns texts (Err e) is small = tt
 
 pub stream_built : (s a b c d e message block : List ℕ) (x : ℕ) → s ≡ [] → a ≡ s ++ word 0xffff_ffff → b ≡ a ++ word x → c ≡ b ++ (8 ∷ 0 ∷ 0 ∷ 0 ∷ 0 ∷ 0 ∷ 0 ∷ 0 ∷ []) → d ≡ c ++ e → e ≡ message
     → message ≡ table_block (8 ∷ 10 ∷ 4 ∷ []) (4 ∷ 0 ∷ 1 ∷ 0 ∷ []) (block ∷ []) → x ≡ 8 + length message → d ≡ stream_block (message_block block)

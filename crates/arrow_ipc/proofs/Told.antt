@@ -1,12 +1,12 @@
 -- From what a step returned to what a call returned.
-use Rattle.std.proofs.Common.{◌≡◌, ℕ, ◌+◌, ◌-◌, ◌<◌, ◌≤◌, Result, Ok, Err, refl, sym, ap, subst, arith, suc, List}
+use Rattle.std.proofs.Common.{◌≡◌, ℕ, ◌+◌, ◌*◌, ◌-◌, ◌<◌, ◌≤◌, Result, Ok, Err, refl, ap, ◌∙◌, arith, suc, List, ℤ, Option}
 use Rattle.arrow_columns.specs.Column.{ColumnTree}
 use Rattle.arrow_ipc.specs.Fault.{◌>>=◌, breaks}
-use Rattle.arrow_ipc.specs.Tells.{Fails, Tells, Says, ◌>>+◌, gather}
+use Rattle.arrow_ipc.specs.Tells.{Fails, ◌>>+◌, gather}
 use Rattle.arrow_ipc.specs.declared.fault.Fault.{Fault}
 use Rattle.arrow_ipc.specs.declared.fault.IpcError.{IpcError}
 use Rattle.arrow_ipc.specs.Parts.{Own, parts_at}
-use Rattle.arrow_ipc.specs.Columns.{columns_by, finished, priced, column_at}
+use Rattle.arrow_ipc.specs.Columns.{put_id, ids_from, put_column, columns_by, finished, priced, column_at}
 use Rattle.arrow_ipc.specs.declared.fault.Rule.TheVariants.{Depth}
 
 -- what a chain of two gave came from both
@@ -14,47 +14,48 @@ pub bound : {A B : Type 0} (r : Result A Fault) (f : A → Result B Fault) (y : 
 bound (Err e) f y is = absurd (cc)
 bound (Ok x) f y is = (x, refl, is)
 
--- an error was handed on
-pub told : {X A : Type 0} (view : X → A) (there : Result (A × ℕ) Fault) (old new : ℕ) (r : Result X IpcError) (e : IpcError) → r ≡ Err e → Fails there old e → Tells view there old new r
-told view there old new r e is f = subst (Tells view there old new) (sym is) f
-
 -- what fails first fails in all, whatever comes after
-pub first_fails : {A B : Type 0} (step : Result (A × ℕ) Fault) (rest : A → Result (B × ℕ) Fault) (old : ℕ) (e : IpcError) → Fails step old e → Fails (step >>+ rest) old e
+first_fails : {A B : Type 0} (step : Result (A × ℕ) Fault) (rest : A → Result (B × ℕ) Fault) (old : ℕ) (e : IpcError) → Fails step old e → Fails (step >>+ rest) old e
 first_fails step rest old e f = grind (arith, bound)
 
--- and where the first step was taken, the rest tells all
-pub then_tells : {X A B : Type 0} (view : X → B) (step : Result (A × ℕ) Fault) (rest : A → Result (B × ℕ) Fault) (x : A) (old mid new : ℕ) (r : Result X IpcError)
-    → (mid ≤ old) × (step ≡ Ok (x, old - mid)) → Tells view (rest x) mid new r → Tells view (step >>+ rest) old new r
-then_tells view step rest x old mid new r one f = grind (arith, bound)
+-- ---- what a loop gathers, one element after the other: what is left, after what was taken before
 
--- what is made of it takes as much
-pub made_fails : {A B : Type 0} (step : Result (A × ℕ) Fault) (f : A → B) (old : ℕ) (e : IpcError) → Fails step old e → Fails (step >>= λ x. Ok (f x.0, x.1)) old e
-made_fails step f old e h = grind arith
+unfoldable pub after : {A : Type 0} → ℕ → Result (A × ℕ) Fault → Result (A × ℕ) Fault
+after taken r = r >>= λ x. Ok (x.0, taken + x.1)
 
--- a step without a budget fails, before others without one, and before others with one
-says_first : {X Y A B : Type 0} (view : X → A) (over : Y → B) (step : Result A Fault) (rest : A → Result B Fault) (e : IpcError) → Says view step (Err e) → Says over (step >>= rest) (Err e)
-says_first view over step rest e f = grind arith
+pub begins : {S : Type 0} (put : S → ℕ → Result (S × ℕ) Fault) (s : S) (count first : ℕ) → gather put s 0 count ≡ after (first - first) (gather put s 0 (count - 0))
+unfolding after
+begins put s count first =
+    let none : first - first ≡ 0 = omega arith in
+    let k : count - 0 ≡ count = omega arith in
+    rw (none, k) (kept (gather put s 0 count))
+  where
+    kept : {A : Type 0} (r : Result (A × ℕ) Fault) → r ≡ (r >>= λ x. Ok (x.0, 0 + x.1))
+    kept r = grind arith
 
-pub said : {X Y A B : Type 0} (view : X → A) (over : Y → B) (step : Result A Fault) (rest : A → Result B Fault) (r : Result Y IpcError) (e : IpcError) → r ≡ Err e → Says view step (Err e) → Says over (step >>= rest) r
-said view over step rest r e is f = subst (Says over (step >>= rest)) (sym is) (says_first view over step rest e f)
-
--- ---- what a loop gathers, one element after the other: what is still gathered tells all
-
-module _ {X S : Type 0} (view : X → S) (put : S → ℕ → Result (S × ℕ) Fault) (s : S) (i count old : ℕ) where
+module _ {S : Type 0} (put : S → ℕ → Result (S × ℕ) Fault) (s : S) (i count first old : ℕ) (all : Result (S × ℕ) Fault) (le : old ≤ first) (is : all ≡ after (first - old) (gather put s i (count - i))) where
   turn : i < count → gather put s i (count - i) ≡ (put s i >>+ λ x. gather put x (i + 1) (count - (i + 1)))
   unfolding gather
   turn more = let k : count - i ≡ suc (count - (i + 1)) = omega arith in rw k refl
 
-  pub goes_on : i < count → (t : S) (mid new : ℕ) (r : Result X IpcError) → (mid ≤ old) × (put s i ≡ Ok (t, old - mid))
-      → Tells view (gather put t (i + 1) (count - (i + 1))) mid new r → Tells view (gather put s i (count - i)) old new r
-  goes_on more t mid new r one f = rw (turn more) (then_tells view (put s i) (λ x. gather put x (i + 1) (count - (i + 1))) t old mid new r one f)
+  taken : (new : ℕ) → new ≤ old → (r : Result (S × ℕ) Fault) → after (first - old) (r >>= λ y. Ok (y.0, old - new + y.1)) ≡ after (first - new) r
+  unfolding after
+  taken new fell (Ok y) = ap (λ (n : ℕ). Ok (y.0, n)) (omega arith)
+  taken new fell (Err e) = refl
 
-  pub breaks_off : i < count → (new : ℕ) (r : Result X IpcError) (e : IpcError) → r ≡ Err e → Fails (put s i) old e → Tells view (gather put s i (count - i)) old new r
-  breaks_off more new r e is f = rw (turn more) (told view (put s i >>+ λ x. gather put x (i + 1) (count - (i + 1))) old new r e is (first_fails (put s i) (λ x. gather put x (i + 1) (count - (i + 1))) old e f))
+  pub goes_on : i < count → (t : S) (new : ℕ) → new ≤ old → put s i ≡ Ok (t, old - new) → all ≡ after (first - new) (gather put t (i + 1) (count - (i + 1)))
+  goes_on more t new fell one = is ∙ ap (after (first - old)) (turn more ∙ ap (λ r. r >>+ λ x. gather put x (i + 1) (count - (i + 1))) one) ∙ taken new fell (gather put t (i + 1) (count - (i + 1)))
 
-  pub is_done : count ≤ i → (x : X) → view x ≡ s → Tells view (gather put s i (count - i)) old old (Ok x)
-  unfolding gather
-  is_done le x same = grind arith
+  pub breaks_off : i < count → (e : IpcError) → Fails (put s i) old e → Fails all first e
+  unfolding after
+  breaks_off more e f = let fails = first_fails (put s i) (λ x. gather put x (i + 1) (count - (i + 1))) old e f in let t = turn more in grind (arith, bound)
+
+  pub is_done : count ≤ i → all ≡ Ok (s, first - old)
+  unfolding after gather
+  is_done le = let k : count - i ≡ 0 = omega arith in is ∙ rw k (ap (λ (n : ℕ). Ok (s, n)) (omega arith))
+
+pub put_fails : (read : ℕ → Result (ColumnTree × ℕ) Fault) (start : ℕ) (cs : List ColumnTree) (i old : ℕ) (e : IpcError) → Fails (read (start + 4 * i)) old e → Fails (put_column read start cs i) old e
+put_fails read start cs i old e f = grind arith
 
 -- ---- a column, by what its own table says
 
@@ -69,3 +70,14 @@ module _ (bytes : List ℕ) (at depth : ℕ) where
   pub steps : 0 < depth → column_at depth bytes at ≡ (priced (parts_at bytes at) >>+ rest)
   unfolding column_at
   steps some = let k : depth ≡ suc (depth - 1) = omega arith in ap (λ d. column_at d bytes at) k
+
+-- ---- the type ids of a union, one after the other
+
+module _ (bytes : List ℕ) (table : ℕ) (written : Option (ℕ × ℕ)) (ids : List ℤ) (i : ℕ) where
+  pub next_id : (count : ℕ) → i < count → ids_from bytes table written ids i (count - i) ≡ (put_id bytes table written ids i >>= λ more. ids_from bytes table written more (i + 1) (count - (i + 1)))
+  unfolding ids_from
+  next_id count more = let k : count - i ≡ suc (count - (i + 1)) = omega arith in rw k refl
+
+  pub all_ids : (count : ℕ) → count ≤ i → ids_from bytes table written ids i (count - i) ≡ Ok ids
+  unfolding ids_from
+  all_ids count le = let k : count - i ≡ 0 = omega arith in rw k refl

@@ -11,17 +11,19 @@ use Rattle.arrow_values.specs.declared.tree.UnionMode.TheVariants.{Sparse, Dense
 use Rattle.arrow_columns.specs.Column.{TypeTree, known, ColumnTree}
 use Rattle.arrow_columns.specs.Nested.{all_known, known_fields}
 use Rattle.arrow_columns.specs.declared.nested.ListForm.TheVariants.{Fixed}
-use Rattle.arrow_ipc.specs.Fault.{◌>>=◌}
-use Rattle.arrow_ipc.specs.Wire.{u8_at, u16_at, u32_at, slot_at, target_at, vector_at}
+use Rattle.arrow_ipc.specs.Fault.{◌>>=◌, breaks}
+use Rattle.arrow_ipc.specs.Wire.{u8_at, u16_at, u32_at, slot_at}
 use Rattle.arrow_ipc.specs.Slots.{u8_in, u16_in, u32_in, flag_in}
 use Rattle.arrow_ipc.specs.Kinds.{int_at, number_at, plain_of, kind_at}
 use Rattle.arrow_ipc.specs.Parts.{zone_in, ids_in}
 use Rattle.arrow_ipc.specs.Types.{type_of}
-use Rattle.arrow_ipc.specs.Columns.{ids_at, ids_of_kind, counted, is_new, put_id, ids_from}
-use Rattle.arrow_ipc.specs.Blocks.{Lies, IsType, word, offsets, number, truth, place_of_number, place_of_truth, table_block, type_block, rounded, linked, mode_number, id_words, union_block}
+use Rattle.arrow_ipc.specs.Columns.{ids_at, typed, is_new, put_id, ids_from}
+use Rattle.arrow_ipc.specs.Blocks.{IsType, word, offsets, number, truth, place_of_number, place_of_truth, type_block, rounded, linked, mode_number, id_words, union_block}
 use Rattle.arrow_ipc.specs.Shapes.{column_of, member_ids, are_ids, member_fields, nested_columns, shape_of, ids_of, shape_tag, shape_bytes, has_table}
 use Rattle.arrow_ipc.specs.declared.fault.Fault.{Fault}
+use Rattle.arrow_ipc.specs.declared.fault.Rule.TheVariants.{Parameter}
 use Rattle.arrow_ipc.specs.declared.kinds.Kind.{Kind}
+use Rattle.arrow_ipc.specs.declared.wire.Table.{Table as Opened}
 use Rattle.arrow_ipc.specs.declared.kinds.Kind.TheVariants.{Plain, List as ListOf, Struct, Union}
 use Rattle.arrow_values.specs.declared.tree.DataType.TheVariants.{Null}
 use Rattle.arrow_ipc.specs.Rooms.{is_sound, table_room}
@@ -29,7 +31,6 @@ use Rattle.arrow_ipc.specs.declared.shapes.Shape.{Shape}
 use Rattle.arrow_ipc.specs.declared.shapes.Shape.TheVariants.{Table}
 use Rattle.std.proofs.lemmas.Bool.{ltb-true, eq-eqb}
 use Rattle.arrow_ipc.proofs.Linked.{u8_is, u16_is, u32_is, length_linked, by_place, flat, slot_place, tail, is_vector, low, length_table, stands}
-use Rattle.arrow_ipc.proofs.Ids.{new_id}
 
 -- tests
 both : (a b : Bool) → (a && b) ≡ true → (a ≡ true) × (b ≡ true)
@@ -42,8 +43,8 @@ truth_within : (b : Option Bool) → place_of_truth b ≤ 12
 truth_within b = grind arith
 
 -- what stands in a table with a number and a truth value
-record Own (n : Option ℕ) (b : Option Bool) (bytes : List ℕ) (at : ℕ) : Type 0 where
-  slot : (i : ℕ) → slot_at bytes at i ≡ Ok (slot_place at (place_of_number n ∷ place_of_truth b ∷ []) i)
+record Own (n : Option ℕ) (b : Option Bool) (bytes : List ℕ) (at : ℕ) (table : Opened) : Type 0 where
+  slot : (i : ℕ) → slot_at bytes table i ≡ Ok (slot_place at (place_of_number n ∷ place_of_truth b ∷ []) i)
   word_is : u32_at bytes (at + 4) ≡ Ok (number n)
   half_is : u16_at bytes (at + 4) ≡ Ok (from_le_bytes w16 (byte_at 0 (number n) ∷ byte_at 1 (number n) ∷ []))
   byte_is : u8_at bytes (at + 8) ≡ Ok (truth b)
@@ -51,31 +52,14 @@ record Own (n : Option ℕ) (b : Option Bool) (bytes : List ℕ) (at : ℕ) : Ty
 pub length_type : (n : Option ℕ) (b : Option Bool) → length (type_block n b) ≡ 24
 length_type n b = let size = length_table (place_of_number n ∷ place_of_truth b ∷ []) (word (number n) ++ (truth b ∷ 0 ∷ 0 ∷ 0 ∷ [])) [] in omega (arith, size)
 
-owns : (n : Option ℕ) (b : Option Bool) → number n < 2 ^ 32 → (bytes : List ℕ) (at : ℕ) → Lies (type_block n b) bytes at → Own n b bytes at
-owns n b small bytes at lies =
-    let numbers : List ℕ = word (number n) ++ (truth b ∷ 0 ∷ 0 ∷ 0 ∷ []) in
-    let few = length_type n b in
-    let s = stands (place_of_number n ∷ place_of_truth b ∷ []) numbers [] refl (omega arith) (number_within n, (truth_within b, tt)) tt (omega (arith, few)) bytes at lies in
-    let whole = lies.whole in
-    record {
-      slot = s.slot;
-      word_is = u32_is bytes (at + 4) (number n) _ (omega (arith, whole)) small (s.number 0);
-      half_is = u16_is bytes (at + 4) (byte_at 0 (number n)) (byte_at 1 (number n)) _ (omega (arith, whole)) (s.number 0);
-      byte_is = u8_is bytes (at + 8) (truth b) _ (s.number 4);
-    }
-
-pub type_built : (n : Option ℕ) (b : Option Bool) (p q : ℕ × ℕ) (numbers : List ℕ) → p ≡ (place_of_number n, number n) → q ≡ (place_of_truth b, truth b) → numbers ≡ word p.1 ++ (q.1 ∷ 0 ∷ 0 ∷ 0 ∷ [])
-    → table_block (p.0 ∷ q.0 ∷ []) numbers [] ≡ type_block n b
-type_built n b p q numbers first second is = rw (is, first, second) refl
-
 -- what is read after all that stands in the table
-abbrev after_all : List ℕ → ℕ → Result Kind Fault → Result Kind Fault
-after_all bytes at k = u32_at bytes (at + 4) >>= λ w. u16_at bytes (at + 4) >>= λ h. u8_at bytes (at + 8) >>= λ b. slot_at bytes at 0 >>= λ s. k
+abbrev after_all : List ℕ → ℕ → Opened → Result Kind Fault → Result Kind Fault
+after_all bytes at table k = u32_at bytes (at + 4) >>= λ w. u16_at bytes (at + 4) >>= λ h. u8_at bytes (at + 8) >>= λ b. slot_at bytes table 0 >>= λ s. k
 
 -- a type with no time zone and no type ids, by its kind
 is_type : (tag : ℕ) (n : Option ℕ) (b : Option Bool) (cs : List ColumnTree) (t : TypeTree) (kind : Kind) → 0 < tag → tag ≤ 26 → (tag == 10) ≡ false → (tag == 14) ≡ false → number n < 2 ^ 32
-    → ((bytes : List ℕ) (at : ℕ) → Own n b bytes at → (k : Result Kind Fault) → k ≡ after_all bytes at (kind_at bytes tag at) → k ≡ Ok kind)
-    → ((bytes : List ℕ) (table : ℕ) → (ids_of_kind kind (ids_at bytes table None (length cs)) >>= λ i. counted table (type_of kind [] i cs)) ≡ Ok t) → IsType tag (type_block n b) cs t
+    → ((bytes : List ℕ) (at : ℕ) (table : Opened) → Own n b bytes at table → (k : Result Kind Fault) → k ≡ after_all bytes at table (kind_at bytes tag table) → k ≡ Ok kind)
+    → ((bytes : List ℕ) (place : ℕ) → typed bytes place kind [] None cs ≡ Ok t) → IsType tag (type_block n b) cs t
 unfolding zone_in ids_in
 is_type tag n b cs t kind some least no_zone no_ids small kind_is type_is =
     let size = length_type n b in
@@ -84,13 +68,22 @@ is_type tag n b cs t kind some least no_zone no_ids small kind_is type_is =
       some = some;
       least = least;
       reads = λ bytes at lies.
-          let own = owns n b small bytes at lies in
+          let s = stands (place_of_number n ∷ place_of_truth b ∷ []) (word (number n) ++ (truth b ∷ 0 ∷ 0 ∷ 0 ∷ [])) [] refl (omega arith) (number_within n, (truth_within b, tt)) tt (omega (arith, size)) bytes at lies in
+          let whole = lies.whole in
+          let own : Own n b bytes at _ = record {
+            slot = s.slot;
+            word_is = u32_is bytes (at + 4) (number n) _ (omega (arith, whole)) small (s.number 0);
+            half_is = u16_is bytes (at + 4) (byte_at 0 (number n)) (byte_at 1 (number n)) _ (omega (arith, whole)) (s.number 0);
+            byte_is = u8_is bytes (at + 8) (truth b) _ (s.number 4);
+          } in
           record {
-            first = slot_place at (place_of_number n ∷ place_of_truth b ∷ []) 0;
+            table = _;
+            first = _;
             kind = kind;
             ids = None;
-            is_first = own.slot 0;
-            is_kind = kind_is bytes at own (kind_at bytes tag at) (rw (own.word_is, own.half_is, own.byte_is, own.slot 0) refl);
+            is_open = s.is_open;
+            is_first = s.slot 0;
+            is_kind = kind_is bytes at _ own (kind_at bytes tag _) (rw (own.word_is, own.half_is, own.byte_is, own.slot 0) refl);
             no_zone = rw no_zone refl;
             is_ids = rw no_ids refl;
             is_type = type_is bytes;
@@ -115,7 +108,7 @@ length_ids (i ∷ is) = grind (arith, length-append, length_ids is)
 module _ (bytes : List ℕ) (table start count : ℕ) where
   walk : (done left : List ℤ) (i at : ℕ) (rest : List ℕ) → drop at bytes ≡ id_words left ++ rest → at ≡ start + 4 * i → at % 4 ≡ 0 → are_ids done left ≡ true
       → ids_from bytes table (Some (start, count)) done i (length left) ≡ Ok (done ++ left)
-  unfolding ids_from
+  unfolding ids_from put_id
   walk done [] i at rest is place even good = ap (λ (l : List ℤ). Ok l) (sym (append-nil done))
   walk done (negsuc n ∷ left) i at rest is place even good = absurd (cc)
   walk done (pos n ∷ left) i at rest is place even good =
@@ -123,9 +116,8 @@ module _ (bytes : List ℕ) (table start count : ℕ) where
       let small = ltb-true n 128 (both (nat_lt n 128) (not (has (pos n) done)) new.0).0 in
       let cut : drop at bytes ≡ word n ++ (id_words left ++ rest) = is ∙ append_assoc (word n) (id_words left) rest in
       let here : u32_at bytes (start + 4 * i) ≡ Ok n = subst (λ p. u32_at bytes p ≡ Ok n) place (u32_is bytes at n (id_words left ++ rest) even (omega (arith, small)) cut) in
-      let first : put_id bytes table (Some (start, count)) done i ≡ Ok (done ++ pos n ∷ []) = new_id bytes table (Some (start, count)) done i n here new.0 in
       let next = walk (done ++ pos n ∷ []) left (i + 1) (at + 4) rest (by_place bytes at (word n ++ (id_words left ++ rest)) 4 cut) (omega (arith, place)) (omega (arith, even)) new.1 in
-      rw first next ∙ ap (λ (l : List ℤ). Ok l) (append_assoc done (pos n ∷ []) left)
+      rw (here, new.0) next ∙ ap (λ (l : List ℤ). Ok l) (append_assoc done (pos n ∷ []) left)
 
 members_back : (ms : MemberTrees) → member_trees (zip (member_ids ms) (member_fields ms)) ≡ ms
 members_back no_members = refl
@@ -135,22 +127,9 @@ count_columns : (ms : MemberTrees) → length (map column_of (member_fields ms))
 count_columns no_members = refl
 count_columns (member i n t b m ms) = let rest = count_columns ms in omega (arith, rest)
 
-by_mode : (bytes : List ℕ) (table : ℕ) (mode : UnionMode) → slot_at bytes table 0 ≡ Ok (Some (table + 8)) → u16_at bytes (table + 8) ≡ Ok (mode_number mode) → kind_at bytes 14 table ≡ Ok (Union mode)
-unfolding kind_at number_at plain_of u16_in
-by_mode bytes table Sparse here is = rw (here, is) refl
-by_mode bytes table Dense here is = rw (here, is) refl
-
-has_ids : (bytes : List ℕ) (table at to : ℕ) (v : ℕ × ℕ) → slot_at bytes table 1 ≡ Ok (Some at) → target_at bytes at ≡ Ok to → vector_at bytes to ≡ Ok v → ids_in bytes 14 table ≡ Ok (Some v)
-unfolding ids_in
-has_ids bytes table at to v here led is = rw (here, led, is) refl
-
-is_union : (bytes : List ℕ) (table : ℕ) (mode : UnionMode) (ms : MemberTrees) (v : ℕ × ℕ) → v.1 ≡ length (member_ids ms) → ids_from bytes table (Some v) [] 0 (length (member_ids ms)) ≡ Ok (member_ids ms)
-    → (ids_of_kind (Union mode) (ids_at bytes table (Some v) (length (map column_of (member_fields ms)))) >>= λ i. counted table (type_of (Union mode) [] i (map column_of (member_fields ms)))) ≡ Ok (known (union ms mode))
-unfolding ids_at type_of
-is_union bytes table mode ms v many ids =
-    let count = count_columns ms in
-    let as_many : (v.1 == length (member_ids ms)) ≡ true = eq-eqb v.1 (length (member_ids ms)) many in
-    rw (count, as_many, ids, all_are_known (member_fields ms), are_fields (member_fields ms), members_back ms) refl
+moded : (mode : UnionMode) (at : ℕ) → ◌≡◌ {A = Result Kind Fault} (if mode_number mode == 0 then Ok (Union Sparse) else if mode_number mode == 1 then Ok (Union Dense) else breaks Parameter at) (Ok (Union mode))
+moded Sparse at = refl
+moded Dense at = refl
 
 pub length_vector_of : (ids : List ℤ) → length (linked (length ids) [] (id_words ids)) ≡ rounded (4 + 4 * length ids)
 length_vector_of ids = grind (arith, length_linked, length_ids)
@@ -161,25 +140,13 @@ length_union mode ids =
     let vector = length_vector_of ids in
     omega (arith, size, vector)
 
--- the vector of the type ids
-ids_lie : (bytes : List ℕ) (at : ℕ) (ids : List ℤ) → Lies (linked (length ids) [] (id_words ids)) bytes at → length ids < 2 ^ 29 → are_ids [] ids ≡ true
-    → (vector_at bytes at ≡ Ok (at + 4, length ids)) × ((table : ℕ) → ids_from bytes table (Some (at + 4, length ids)) [] 0 (length ids) ≡ Ok ids)
-unfolding offsets
-ids_lie bytes at ids lies few good =
-    let rest = tail bytes at (length ids) [] (id_words ids) lies in
-    let whole = lies.whole in
-    let size = length_vector_of ids in
-    let many = length_ids ids in (
-      is_vector bytes at (length ids) [] (id_words ids) lies (omega (arith, many)) (omega (arith, few, size)),
-      λ table. walk bytes table (at + 4) (length ids) [] ids 0 (at + 4) rest (by_place bytes at _ 4 (flat bytes at (length ids) [] (id_words ids) lies)) (omega arith) (omega (arith, whole)) good,
-    )
-
 pub union_type : (mode : UnionMode) (ms : MemberTrees) → are_ids [] (member_ids ms) ≡ true → length (union_block mode (member_ids ms)) < 2 ^ 31 → IsType 14 (union_block mode (member_ids ms)) (map column_of (member_fields ms)) (known (union ms mode))
-unfolding zone_in
+unfolding kind_at number_at plain_of u16_in zone_in ids_in ids_at type_of offsets
 union_type mode ms good few =
     let ids = member_ids ms in
     let size = length_union mode ids in
     let long = length_vector_of ids in
+    let many = length_ids ids in
     record {
       whole = omega (arith, size);
       some = omega arith;
@@ -188,28 +155,29 @@ union_type mode ms good few =
           let s = stands (8 ∷ 4 ∷ []) (mode_number mode ∷ 0 ∷ 0 ∷ 0 ∷ []) (linked (length ids) [] (id_words ids) ∷ []) refl (omega arith) (omega arith, (omega arith, tt)) (omega (arith, long), tt) (omega (arith, few)) bytes at lies in
           let whole = lies.whole in
           let l = s.links in
-          let mode_is = low bytes (at + 8) (mode_number mode) _ (omega (arith, whole)) (s.number 0) in
-          let v = ids_lie bytes l.0.to ids l.0.lies (omega (arith, size, few)) good in
+          let mode_is = low bytes (at + 8) (mode_number mode) (0 ∷ 0 ∷ s.more) (omega (arith, whole)) (s.number 0) in
+          let fourth = l.0.lies.whole in
+          let vector = is_vector bytes l.0.to (length ids) [] (id_words ids) l.0.lies (omega (arith, many)) (omega (arith, few, size, long)) in
+          let after = tail bytes l.0.to (length ids) [] (id_words ids) l.0.lies in
+          let start = by_place bytes l.0.to (word (length ids) ++ (id_words ids ++ after)) 4 (flat bytes l.0.to (length ids) [] (id_words ids) l.0.lies) in
+          let read : (place : ℕ) → ids_from bytes place (Some (l.0.to + 4, length ids)) [] 0 (length ids) ≡ Ok ids = λ place. walk bytes place (l.0.to + 4) (length ids) [] ids 0 (l.0.to + 4) after start (omega arith) (omega (arith, fourth)) good in
           record {
+            table = _;
             first = Some (at + 8);
             kind = Union mode;
             ids = Some (l.0.to + 4, length ids);
+            is_open = s.is_open;
             is_first = s.slot 0;
-            is_kind = by_mode bytes at mode (s.slot 0) mode_is;
+            is_kind = rw (s.slot 0, mode_is) (moded mode at);
             no_zone = refl;
-            is_ids = has_ids bytes at (at + 4) l.0.to (l.0.to + 4, length ids) (s.slot 1) l.0.led v.0;
-            is_type = λ table. is_union bytes table mode ms (l.0.to + 4, length ids) refl (v.1 table);
+            is_ids = rw (s.slot 1, l.0.led, vector) (refl {a = Ok (Some (l.0.to + 4, length ids))});
+            is_type = λ place. rw (count_columns ms, eq-eqb (length ids) (length ids) refl, read place, all_are_known (member_fields ms), are_fields (member_fields ms), members_back ms) refl;
           };
     }
 
--- ---- as it is written
-
+-- as it is written
 pub ids_written : (words : List ℕ) (ids : List ℤ) (i : ℕ) → words ++ id_words (drop i ids) ≡ id_words ids → length ids ≤ i → words ≡ id_words ids
 ids_written words ids i written le = sym (append-nil words) ∙ sym (ap (λ (l : List ℤ). words ++ id_words l) (drop_all i ids le)) ∙ written
-
-pub union_built : (mode : UnionMode) (ids : List ℤ) (number : ℕ) (words vector : List ℕ) → number ≡ mode_number mode → words ≡ id_words ids → vector ≡ linked (length ids) [] words
-    → table_block (8 ∷ 4 ∷ []) (number ∷ 0 ∷ 0 ∷ 0 ∷ []) (vector ∷ []) ≡ union_block mode ids
-union_built mode ids number words vector moded written is = rw (is, written, moded) refl
 
 -- ---- a type's table and its columns, by its shape
 
@@ -226,16 +194,16 @@ pub table_is : (t : Tree) → has_table (shape_of t) (ids_of t) ≡ true → len
 unfolding kind_at number_at plain_of int_at type_of u8_in u16_in u32_in flag_in
 table_is (union ms mode) sound small = union_type mode ms sound small
 table_is (struct fs) sound small =
-    is_type 13 None None _ _ Struct (omega arith) (omega arith) refl refl (omega arith) (λ bytes at o k e. simp (o.slot, o.word_is, o.half_is, o.byte_is) at e) (λ bytes table. rw (all_are_known (field_list fs), are_fields (field_list fs), field_trees_of_list fs) refl)
+    is_type 13 None None _ _ Struct (omega arith) (omega arith) refl refl (omega arith) (λ bytes at table o k e. simp (o.slot, o.word_is, o.half_is, o.byte_is) at e) (λ bytes table. rw (all_are_known (field_list fs), are_fields (field_list fs), field_trees_of_list fs) refl)
 table_is (fixed_size_list n t b m (negsuc s)) sound small = absurd (cc)
 table_is (fixed_size_list n t b m (pos s)) sound small =
     let lt : nat_lt s (2 ^ 31) ≡ true = grind arith in
     let few = ltb-true s (2 ^ 31) lt in
-    rw lt (is_type 16 (Some s) None _ _ (ListOf (Fixed (pos s))) (omega arith) (omega arith) refl refl (omega (arith, few)) (λ bytes at o k e. simp (o.slot, o.word_is, o.half_is, o.byte_is, lt) at e) (λ bytes table. refl))
-table_is (plain null) sound small = is_type 1 None None _ _ (Plain Null) (omega arith) (omega arith) refl refl (omega arith) (λ bytes at o k e. simp (o.slot, o.word_is, o.half_is, o.byte_is) at e) (λ bytes table. refl)
+    rw lt (is_type 16 (Some s) None _ _ (ListOf (Fixed (pos s))) (omega arith) (omega arith) refl refl (omega (arith, few)) (λ bytes at table o k e. simp (o.slot, o.word_is, o.half_is, o.byte_is, lt) at e) (λ bytes table. refl))
+table_is (plain null) sound small = is_type 1 None None _ _ (Plain Null) (omega arith) (omega arith) refl refl (omega arith) (λ bytes at table o k e. simp (o.slot, o.word_is, o.half_is, o.byte_is) at e) (λ bytes table. refl)
 table_is t sound small =
     is_type (shape_tag (shape_of t)) (number_in (shape_of t)) (truth_in (shape_of t)) (nested_columns t) (known t) _ (omega arith) (omega arith) refl refl (omega arith)
-    (λ bytes at o k e. simp (o.slot, o.word_is, o.half_is, o.byte_is) at e) (λ bytes table. refl)
+    (λ bytes at table o k e. simp (o.slot, o.word_is, o.half_is, o.byte_is) at e) (λ bytes table. refl)
 
 sized_size : (s : ℕ) (b : Bool) → length (shape_bytes (if b then Some (Table 16 (Some s) None) else None) []) ≤ 24
 sized_size s true = omega (arith, length_type)

@@ -1,22 +1,23 @@
 -- Blocks of which a message is made: bytes that may stand at any multiple of eight, and lead to nothing but themselves. In a
 -- table's block the table comes first, its vtable behind it, and what its offsets lead to behind that.
-use Rattle.std.specs.Prelude.{◌≡◌, ℕ, zero, suc, ◌+◌, ◌-◌, ◌*◌, ◌/◌, ◌%◌, ◌^◌, ◌<◌, ◌≤◌, ℤ, pos, negsuc, Bool, List, [], ◌∷◌, ◌++◌, length, drop, replicate, Option, Some, None, Result, Ok, if◌then◌else◌}
+use Rattle.std.specs.Prelude.{◌≡◌, ℕ, zero, suc, ◌+◌, ◌-◌, ◌*◌, ◌/◌, ◌%◌, ◌^◌, ◌<◌, ◌≤◌, ℤ, pos, negsuc, Bool, List, [], ◌∷◌, ◌++◌, length, drop, replicate, Option, Some, None, Result, Ok}
 use Rattle.std.specs.Int.{w32, to_le_bytes}
 use Rattle.std.specs.List.{concat}
+use mir.Val.{bool_byte}
 use Rattle.arrow_values.specs.Tree.{Text, Metadata}
 use Rattle.arrow_values.specs.declared.tree.UnionMode.{UnionMode}
 use Rattle.arrow_values.specs.declared.tree.UnionMode.TheVariants.{Sparse, Dense}
 use Rattle.arrow_columns.specs.Column.{TypeTree, ColumnTree}
 use Rattle.arrow_ipc.specs.Fault.{◌>>=◌, breaks}
 use Rattle.arrow_ipc.specs.Tells.{◌>>+◌}
-use Rattle.arrow_ipc.specs.Wire.{slot_at, utf8_at, vector_at}
+use Rattle.arrow_ipc.specs.Wire.{opened_at, slot_at, utf8_at, vector_at}
 use Rattle.arrow_ipc.specs.Kinds.{kind_at}
-use Rattle.arrow_ipc.specs.Types.{type_of}
 use Rattle.arrow_ipc.specs.Parts.{zone_in, ids_in, parts_in}
-use Rattle.arrow_ipc.specs.Columns.{entry_in, entry_price, texts_at, ids_at, ids_of_kind, counted, columns_by, column_at, finished, priced}
+use Rattle.arrow_ipc.specs.Columns.{entry_in, entry_price, texts_at, typed, columns_by, column_at, finished, priced}
 use Rattle.arrow_ipc.specs.declared.fault.Fault.{Fault}
 use Rattle.arrow_ipc.specs.declared.fault.Rule.TheVariants.{Depth}
 use Rattle.arrow_ipc.specs.declared.kinds.Kind.{Kind}
+use Rattle.arrow_ipc.specs.declared.wire.Table.{Table}
 use Rattle.arrow_ipc.specs.declared.schema.Endianness.{Endianness}
 use Rattle.arrow_ipc.specs.declared.schema.Endianness.TheVariants.{Little, Big}
 
@@ -100,23 +101,22 @@ abbrev pub columns_read : ℕ → List ℕ → ℕ → Result (List ColumnTree �
 columns_read depth bytes at = vector_at bytes at >>= columns_by (column_at depth bytes)
 
 -- a column, given the blocks of its name, its type, its children and its metadata
-abbrev pub flag : Bool → ℕ
-flag b = if b then 1 else 0
-
 abbrev pub column_block : List ℕ → List ℕ → List ℕ → List ℕ → Bool → ℕ → List ℕ
 column_block name type children texts nullable tag =
-    table_block (4 ∷ 20 ∷ 21 ∷ 8 ∷ 0 ∷ 12 ∷ 16 ∷ []) (flag nullable ∷ tag ∷ 0 ∷ 0 ∷ []) (name ∷ type ∷ children ∷ texts ∷ [])
+    table_block (4 ∷ 20 ∷ 21 ∷ 8 ∷ 0 ∷ 12 ∷ 16 ∷ []) (bool_byte nullable ∷ tag ∷ 0 ∷ 0 ∷ []) (name ∷ type ∷ children ∷ texts ∷ [])
 
 -- what is read of a type's table, given the children
 pub record ReadsType (tag : ℕ) (cs : List ColumnTree) (t : TypeTree) (bytes : List ℕ) (at : ℕ) : Type 0 where
+  pub table : Table
   pub first : Option ℕ
   pub kind : Kind
   pub ids : Option (ℕ × ℕ)
-  pub is_first : slot_at bytes at 0 ≡ Ok first
-  pub is_kind : kind_at bytes tag at ≡ Ok kind
-  pub no_zone : zone_in bytes tag at ≡ Ok []
-  pub is_ids : ids_in bytes tag at ≡ Ok ids
-  pub is_type : (table : ℕ) → (ids_of_kind kind (ids_at bytes table ids (length cs)) >>= λ i. counted table (type_of kind [] i cs)) ≡ Ok t
+  pub is_open : opened_at bytes at ≡ Ok table
+  pub is_first : slot_at bytes table 0 ≡ Ok first
+  pub is_kind : kind_at bytes tag table ≡ Ok kind
+  pub no_zone : zone_in bytes tag table ≡ Ok []
+  pub is_ids : ids_in bytes tag table ≡ Ok ids
+  pub is_type : (place : ℕ) → typed bytes place kind [] ids cs ≡ Ok t
 
 -- a type's block
 pub record IsType (tag : ℕ) (block : List ℕ) (cs : List ColumnTree) (t : TypeTree) : Type 0 where
@@ -132,7 +132,7 @@ number (Some n) = n
 
 abbrev pub truth : Option Bool → ℕ
 truth None = 0
-truth (Some b) = flag b
+truth (Some b) = bool_byte b
 
 abbrev pub place_of_number : Option ℕ → ℕ
 place_of_number None = 0

@@ -7,7 +7,7 @@ use Rattle.arrow_values.specs.Texts.{put_text}
 use Rattle.arrow_values.specs.Union.{has}
 use Rattle.arrow_columns.specs.Column.{TypeTree, ColumnTree}
 use Rattle.arrow_ipc.specs.Fault.{◌>>=◌, breaks}
-use Rattle.arrow_ipc.specs.Wire.{u32_at, target_at, utf8_at}
+use Rattle.arrow_ipc.specs.Wire.{opened_at, u32_at, target_at, utf8_at}
 use Rattle.arrow_ipc.specs.Slots.{table_in}
 use Rattle.arrow_ipc.specs.Parts.{Own, parts_at}
 use Rattle.arrow_ipc.specs.Types.{type_of, with_dictionary}
@@ -19,7 +19,8 @@ use Rattle.arrow_ipc.specs.declared.kinds.Kind.TheVariants.{Union}
 
 -- an entry of metadata: slot 0 of its table is its key, slot 1 its text. The last text of a key counts
 unfoldable pub entry_in : List ℕ → ℕ → Result (Text × Text) Fault
-entry_in bytes table = do
+entry_in bytes at = do
+  table ← opened_at bytes at
   key ← (table_in bytes table 0 >>= utf8_at bytes)
   text ← (table_in bytes table 1 >>= utf8_at bytes)
   Ok (key, text)
@@ -77,19 +78,18 @@ abbrev pub counted : ℕ → Option TypeTree → Result TypeTree Fault
 counted table None = breaks Children table
 counted table (Some t) = Ok t
 
--- the type of a column, given its children
-unfoldable pub typed : List ℕ → Own → List ColumnTree → Result TypeTree Fault
-typed bytes p cs = do
-  ids ← ids_of_kind p.kind (ids_at bytes p.table p.ids (length cs))
-  t ← counted p.table (type_of p.kind p.zone ids cs)
-  Ok (with_dictionary p.index t)
+-- the type of a kind, given its children
+abbrev pub typed : List ℕ → ℕ → Kind → Text → Option (ℕ × ℕ) → List ColumnTree → Result TypeTree Fault
+typed bytes table kind zone written cs = do
+  ids ← ids_of_kind kind (ids_at bytes table written (length cs))
+  counted table (type_of kind zone ids cs)
 
 -- a column, given its children
 unfoldable pub finished : List ℕ → Own → List ColumnTree → Result (ColumnTree × ℕ) Fault
 finished bytes p cs = do
-  t ← typed bytes p cs
+  t ← typed bytes p.table p.kind p.zone p.ids cs
   ms ← texts_at bytes p.texts
-  Ok (record { name = p.name; data_type = t; nullable = p.nullable; metadata = ms.0 }, ms.1)
+  Ok (record { name = p.name; data_type = with_dictionary p.index t; nullable = p.nullable; metadata = ms.0 }, ms.1)
 
 abbrev pub priced : Result Own Fault → Result (Own × ℕ) Fault
 priced parts = parts >>= λ p. Ok (p, 16 + length p.name + length p.zone)

@@ -11,23 +11,24 @@ use Rattle.arrow_values.specs.declared.tree.UnionMode.TheVariants.{Sparse, Dense
 use Rattle.arrow_columns.specs.declared.nested.ListForm.TheVariants.{Small, Large, Fixed}
 use Rattle.arrow_ipc.specs.declared.kinds.Named as named
 use Rattle.arrow_ipc.specs.declared.kinds.Named.TheVariants.{Decimal, Time, Timestamp, Duration, Interval, FixedSizeBinary}
+use Rattle.arrow_ipc.specs.declared.wire.Table.{Table}
 use Rattle.arrow_ipc.specs.declared.kinds.Kind.{Kind}
 use Rattle.arrow_ipc.specs.declared.kinds.Kind.TheVariants.{Plain, Named, List as ListOf, Struct, Union, Map, RunEndEncoded, ListView, LargeListView}
 
-unfoldable pub int_at : List ℕ → ℕ → Result DataType Fault
+unfoldable pub int_at : List ℕ → Table → Result DataType Fault
 int_at bytes table = do
   width ← u32_in bytes table 0 0
   signed ← flag_in bytes table 1
   if width == 8 then Ok (if signed then Int8 else UInt8) else
       if width == 16 then Ok (if signed then Int16 else UInt16) else
       if width == 32 then Ok (if signed then Int32 else UInt32) else
-      if width == 64 then Ok (if signed then Int64 else UInt64) else breaks Parameter table
+      if width == 64 then Ok (if signed then Int64 else UInt64) else breaks Parameter table.at
 
 -- a number in two's complement is one of a signed byte
 abbrev pub fits_byte : ℕ → Bool
 fits_byte n = nat_lt n 128 || nat_le 0xffff_ff80 n
 
-unfoldable pub decimal_at : List ℕ → ℕ → Result named.Named Fault
+unfoldable pub decimal_at : List ℕ → Table → Result named.Named Fault
 decimal_at bytes table = do
   precision ← u32_in bytes table 0 0
   scale ← u32_in bytes table 1 0
@@ -36,20 +37,20 @@ decimal_at bytes table = do
       if width == 32 then Ok (Decimal width precision scale) else
       if width == 64 then Ok (Decimal width precision scale) else
       if width == 128 then Ok (Decimal width precision scale) else
-      if width == 256 then Ok (Decimal width precision scale) else breaks Parameter table) else breaks Parameter table) else breaks Parameter table
+      if width == 256 then Ok (Decimal width precision scale) else breaks Parameter table.at) else breaks Parameter table.at) else breaks Parameter table.at
 
 abbrev pub time_width : ℕ → ℕ
 time_width unit = if nat_lt unit 2 then 32 else 64
 
-unfoldable pub time_at : List ℕ → ℕ → Result named.Named Fault
+unfoldable pub time_at : List ℕ → Table → Result named.Named Fault
 time_at bytes table = do
   unit ← u16_in bytes table 0 1
-  if nat_lt 3 unit then breaks Parameter table else (do
+  if nat_lt 3 unit then breaks Parameter table.at else (do
     width ← u32_in bytes table 1 32
-    if width == time_width unit then Ok (Time unit) else breaks Parameter table)
+    if width == time_width unit then Ok (Time unit) else breaks Parameter table.at)
 
 -- the number in slot 0: a unit, a mode or a size
-unfoldable pub number_at : List ℕ → ℕ → ℕ → Result ℕ Fault
+unfoldable pub number_at : List ℕ → ℕ → Table → Result ℕ Fault
 number_at bytes tag table =
     if tag == 3 then u16_in bytes table 0 0 else
     if tag == 8 then u16_in bytes table 0 1 else
@@ -78,11 +79,11 @@ abbrev pub plain_or : Option DataType → Result Kind Fault → Result Kind Faul
 plain_or (Some d) other = Ok (Plain d)
 plain_or None other = other
 
-abbrev pub below : ℕ → ℕ → ℕ → Kind → Result Kind Fault
-below table number bound kind = if nat_lt number bound then Ok kind else breaks Parameter table
+abbrev pub below : Table → ℕ → ℕ → Kind → Result Kind Fault
+below table number bound kind = if nat_lt number bound then Ok kind else breaks Parameter table.at
 
 -- a type by its tag, which is 1 to 26
-unfoldable pub kind_at : List ℕ → ℕ → ℕ → Result Kind Fault
+unfoldable pub kind_at : List ℕ → ℕ → Table → Result Kind Fault
 kind_at bytes tag table = do
   number ← number_at bytes tag table
   plain_or (plain_of tag number) (
@@ -93,7 +94,7 @@ kind_at bytes tag table = do
       if tag == 11 then below table number 3 (Named (Interval number)) else
       if tag == 12 then Ok (ListOf Small) else
       if tag == 13 then Ok Struct else
-      if tag == 14 then (if number == 0 then Ok (Union Sparse) else if number == 1 then Ok (Union Dense) else breaks Parameter table) else
+      if tag == 14 then (if number == 0 then Ok (Union Sparse) else if number == 1 then Ok (Union Dense) else breaks Parameter table.at) else
       if tag == 15 then below table number (2 ^ 31) (Named (FixedSizeBinary (pos number))) else
       if tag == 16 then below table number (2 ^ 31) (ListOf (Fixed (pos number))) else
       if tag == 17 then Ok Map else
@@ -101,4 +102,4 @@ kind_at bytes tag table = do
       if tag == 21 then Ok (ListOf Large) else
       if tag == 22 then Ok RunEndEncoded else
       if tag == 25 then Ok ListView else
-      if tag == 26 then Ok LargeListView else breaks Parameter table)
+      if tag == 26 then Ok LargeListView else breaks Parameter table.at)

@@ -2,11 +2,12 @@
 -- dictionary, 5 its children, 6 its metadata.
 use Rattle.std.specs.Prelude.{ℕ, Bool, List, [], Option, Some, None, Result, Ok, nat_le, ◌==◌, if◌then◌else◌}
 use Rattle.arrow_ipc.specs.Fault.{◌>>=◌, breaks}
-use Rattle.arrow_ipc.specs.Wire.{slot_at, target_at, vector_at}
+use Rattle.arrow_ipc.specs.Wire.{opened_at, slot_at, target_at, vector_at}
 use Rattle.arrow_ipc.specs.Slots.{u8_in, flag_in, text_in, table_in, vector_in, led_to}
 use Rattle.arrow_ipc.specs.Longs.{u64_in}
 use Rattle.arrow_ipc.specs.Kinds.{int_at, kind_at}
 use Rattle.arrow_ipc.specs.declared.fault.Fault.{Fault}
+use Rattle.arrow_ipc.specs.declared.wire.Table.{Table}
 use Rattle.arrow_ipc.specs.declared.fault.Rule.TheVariants.{Missing, Tag}
 use Rattle.arrow_ipc.specs.declared.kinds.Kind.{Kind}
 use Rattle.arrow_values.specs.declared.tree.DataType.{DataType}
@@ -15,27 +16,31 @@ use Rattle.arrow_ipc.specs.declared.parts.Index.{Index}
 use Rattle.arrow_ipc.specs.declared.parts.Parts.{Parts}
 
 -- the tag of a type is 1 to 26
-unfoldable pub tag_in : List ℕ → ℕ → Result ℕ Fault
+unfoldable pub tag_in : List ℕ → Table → Result ℕ Fault
 tag_in bytes table = do
   tag ← u8_in bytes table 2 0
-  if tag == 0 then breaks Missing table else if nat_le tag 26 then Ok tag else breaks Tag table
+  if tag == 0 then breaks Missing table.at else if nat_le tag 26 then Ok tag else breaks Tag table.at
 
 -- the time zone, which a timestamp has in slot 1
-unfoldable pub zone_in : List ℕ → ℕ → ℕ → Result (List ℕ) Fault
+unfoldable pub zone_in : List ℕ → ℕ → Table → Result (List ℕ) Fault
 zone_in bytes tag table = if tag == 10 then text_in bytes table 1 else Ok []
 
 -- a dictionary has a number of its own in slot 0, which is not kept; its indices are 32-bit integers where nothing else is said
-unfoldable pub index_at : List ℕ → ℕ → Result DataType Fault
-index_at bytes table = slot_at bytes table 1 >>= led_to Int32 (int_at bytes) bytes
+abbrev pub int_of : List ℕ → ℕ → Result DataType Fault
+int_of bytes at = opened_at bytes at >>= int_at bytes
+
+unfoldable pub index_at : List ℕ → Table → Result DataType Fault
+index_at bytes table = slot_at bytes table 1 >>= led_to Int32 (int_of bytes) bytes
 
 abbrev pub index_of : List ℕ → ℕ → Result (Option Index) Fault
-index_of bytes table = do
+index_of bytes at = do
+  table ← opened_at bytes at
   id ← u64_in bytes table 0
   integers ← index_at bytes table
   ordered ← flag_in bytes table 2
   Ok (Some (record { integers = integers; ordered = ordered }))
 
-unfoldable pub index_in : List ℕ → ℕ → Result (Option Index) Fault
+unfoldable pub index_in : List ℕ → Table → Result (Option Index) Fault
 index_in bytes table = slot_at bytes table 4 >>= led_to None (index_of bytes) bytes
 
 -- the type ids, which a union has in slot 1
@@ -44,7 +49,7 @@ ids_of bytes at = do
   ids ← vector_at bytes at
   Ok (Some ids)
 
-unfoldable pub ids_in : List ℕ → ℕ → ℕ → Result (Option (ℕ × ℕ)) Fault
+unfoldable pub ids_in : List ℕ → ℕ → Table → Result (Option (ℕ × ℕ)) Fault
 ids_in bytes tag table = if tag == 14 then (slot_at bytes table 1 >>= led_to None (ids_of bytes) bytes) else Ok None
 
 pub record Own : Type 0 where
@@ -63,11 +68,12 @@ parts_of p = record { table = p.table; name = p.name.now; nullable = p.nullable;
 
 -- of the column whose table that is
 unfoldable pub parts_in : List ℕ → ℕ → Result Own Fault
-parts_in bytes table = do
+parts_in bytes at = do
+  table ← opened_at bytes at
   name ← text_in bytes table 0
   nullable ← flag_in bytes table 1
   tag ← tag_in bytes table
-  value ← table_in bytes table 3
+  value ← (table_in bytes table 3 >>= opened_at bytes)
   first ← slot_at bytes value 0
   kind ← kind_at bytes tag value
   zone ← zone_in bytes tag value
@@ -75,7 +81,7 @@ parts_in bytes table = do
   index ← index_in bytes table
   children ← vector_in bytes table 5
   texts ← vector_in bytes table 6
-  Ok (record { table = table; name = name; nullable = nullable; kind = kind; zone = zone; index = index; children = children; ids = ids; texts = texts })
+  Ok (record { table = table.at; name = name; nullable = nullable; kind = kind; zone = zone; index = index; children = children; ids = ids; texts = texts })
 
 -- of the column to which the offset at a position leads
 unfoldable pub parts_at : List ℕ → ℕ → Result Own Fault

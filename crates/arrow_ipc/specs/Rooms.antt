@@ -1,13 +1,11 @@
 -- Which types a message can hold, and how many bytes a schema takes at most.
 use Rattle.std.specs.Prelude.{◌≡◌, ℕ, ◌+◌, ◌*◌, ◌^◌, ◌<◌, ◌≤◌, ◌⊎◌, Option, Result, Ok, Err, ℤ, pos, negsuc, Bool, true, false, ◌&&◌, List, [], ◌∷◌, length, nat_lt}
-use Rattle.std.specs.List.{AllZip}
 use Rattle.std.specs.declared.vec.Vec.{Vec}
 use Rattle.std.specs.declared.alloc.Global.{Global}
-use Rattle.arrow_values.specs.Tree.{Text, Metadata, Tree, plain, list, large_list, fixed_size_list, struct, union, FieldTrees, no_fields, field, MemberTrees, no_members, member, FieldTree, depth}
+use Rattle.arrow_values.specs.Tree.{Text, Metadata, Tree, plain, list, large_list, fixed_size_list, struct, union, FieldTrees, no_fields, field, MemberTrees, no_members, member, depth}
 use Rattle.arrow_columns.specs.Column.{TypeTree, known, other, ColumnTree}
 use Rattle.arrow_ipc.specs.Schema.{SchemaTree}
-use Rattle.arrow_ipc.specs.Blocks.{Holds, lengths, column_in, child_in}
-use Rattle.arrow_ipc.specs.Shapes.{member_ids, are_ids, nested_columns, shape_tag, shape_bytes, has_table}
+use Rattle.arrow_ipc.specs.Shapes.{member_ids, are_ids, shape_tag, shape_bytes, has_table}
 use Rattle.arrow_ipc.specs.declared.shapes.Shape.{Shape}
 use Rattle.arrow_ipc.specs.declared.write.WriteError.{WriteError}
 use Rattle.arrow_ipc.specs.declared.write.WriteError.TheVariants.{Column, TooLarge, OutOfMemory}
@@ -73,9 +71,6 @@ room_of_type (other t) texts = 60 + texts
 abbrev pub column_room : Text → Tree → Metadata → ℕ
 column_room n t m = room_of_type (known t) (length n + texts_room m)
 
-abbrev pub field_room : FieldTree → ℕ
-field_room f = column_room f.name f.tree f.metadata
-
 -- a schema in a stream
 abbrev pub room_of : ColumnTree → ℕ
 room_of c = room_of_type c.data_type (length c.name + texts_room c.metadata)
@@ -125,13 +120,3 @@ IsUnfitType levels (other text) = Unit {0}
 abbrev pub AreUnfit : ℕ → List ColumnTree → Type 0
 AreUnfit levels [] = ⊥
 AreUnfit levels (c ∷ cs) = IsUnfitType levels c.data_type ⊎ AreUnfit levels cs
-
--- the blocks of columns that have no more than so many levels, and take so much as a vector
-pub record HoldsEach (levels : ℕ) (blocks : List (List ℕ)) (cs : List ColumnTree) (room : ℕ) : Type 0 where
-  pub each : AllZip (Holds (child_in levels)) blocks cs
-  pub most : lengths blocks + 4 * length blocks + 12 ≤ room
-
--- a column's block, where those of the columns that its type nests are given
-unfoldable pub IsNesting : List (List ℕ) → Tree → Text → Bool → Metadata → List ℕ → Type 0
-IsNesting blocks t name nullable texts block =
-    (levels : ℕ) → AllZip (Holds (child_in levels)) blocks (nested_columns t) → Holds (column_in levels) block (record { name = name; data_type = known t; nullable = nullable; metadata = texts })

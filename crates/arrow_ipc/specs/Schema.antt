@@ -6,7 +6,7 @@ use Rattle.arrow_values.specs.Tree.{Metadata}
 use Rattle.arrow_values.specs.View.{texts_of}
 use Rattle.arrow_columns.specs.Column.{ColumnTree, column_tree}
 use Rattle.arrow_ipc.specs.Fault.{◌>>=◌, breaks}
-use Rattle.arrow_ipc.specs.Wire.{u32_at, target_at, vector_at}
+use Rattle.arrow_ipc.specs.Wire.{u32_at, opened_at, target_at, vector_at}
 use Rattle.arrow_ipc.specs.Longs.{u64_in}
 use Rattle.arrow_ipc.specs.Slots.{u8_in, u16_in, table_in, vector_in}
 use Rattle.arrow_ipc.specs.Columns.{texts_at, columns_by, column_at}
@@ -35,7 +35,8 @@ pub record Head : Type 0 where
 
 -- a schema's table: slot 0 its byte order, 1 its columns, which it must have, 2 its metadata
 unfoldable pub head_at : List ℕ → ℕ → Result Head Fault
-head_at bytes table = do
+head_at bytes at = do
+  table ← opened_at bytes at
   order ← u16_in bytes table 0 0
   fields ← (table_in bytes table 1 >>= vector_at bytes)
   texts ← vector_in bytes table 2
@@ -61,18 +62,18 @@ is_version version = nat_le 3 version && nat_le version 4
 -- body, which is 0
 unfoldable pub message_at : List ℕ → Result ℕ Fault
 message_at bytes = do
-  message ← target_at bytes 0
+  message ← (target_at bytes 0 >>= opened_at bytes)
   version ← u16_in bytes message 0 0
   tag ← u8_in bytes message 1 0
   body ← u64_in bytes message 3
-  if is_version version && (tag == 1) && (body == 0) then table_in bytes message 2 else breaks Message message
+  if is_version version && (tag == 1) && (body == 0) then table_in bytes message 2 else breaks Message message.at
 
 -- the schema's table in a footer: slot 0 its version, 1 the schema
 unfoldable pub footer_at : List ℕ → Result ℕ Fault
 footer_at bytes = do
-  footer ← target_at bytes 0
+  footer ← (target_at bytes 0 >>= opened_at bytes)
   version ← u16_in bytes footer 0 0
-  if is_version version then table_in bytes footer 1 else breaks Message footer
+  if is_version version then table_in bytes footer 1 else breaks Message footer.at
 
 -- so many bytes from a position on, which are some
 unfoldable pub cut : List ℕ → ℕ → ℕ → Result (List ℕ) Fault

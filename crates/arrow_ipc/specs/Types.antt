@@ -1,7 +1,9 @@
 -- A column's type, from its kind and its children.
-use Rattle.std.specs.Prelude.{ℕ, ◌^◌, ◌-◌, ℤ, List, ◌++◌, length, map, codes, Option, Some, None, nat_lt, ◌==◌, if◌then◌else◌}
+use Rattle.std.specs.Prelude.{ℕ, ℤ, List, ◌++◌, length, map, codes, Option, Some, None, ◌==◌, if◌then◌else◌}
 use Rattle.std.specs.List.{zip}
-use Rattle.std.specs.Fmt.{decimal}
+use Rattle.std.specs.Fmt.{decimal, signed_decimal}
+use Rattle.std.specs.Int.{w32, cast_signed}
+use mir.Val.{bool_byte}
 use Rattle.arrow_values.specs.Tree.{Text, union}
 use Rattle.arrow_values.specs.View.{tree, member_trees}
 use Rattle.arrow_values.specs.declared.tree.UnionMode.{UnionMode}
@@ -21,12 +23,10 @@ unit_word unit = if unit == 0 then codes "s" else if unit == 1 then codes "ms" e
 
 -- a decimal, whose scale is in two's complement
 abbrev pub decimal_text : ℕ → ℕ → ℕ → Text
-decimal_text width precision scale =
-    if nat_lt scale (2 ^ 31) then codes "decimal" ++ decimal width ++ codes "(" ++ decimal precision ++ codes ", " ++ decimal scale ++ codes ")" else
-    codes "decimal" ++ decimal width ++ codes "(" ++ decimal precision ++ codes ", -" ++ decimal (2 ^ 32 - scale) ++ codes ")"
+decimal_text width precision scale = codes "decimal" ++ (decimal width ++ (codes "(" ++ (decimal precision ++ (codes ", " ++ (signed_decimal (cast_signed w32 scale) ++ codes ")")))))
 
 abbrev pub time_text : ℕ → Text
-time_text unit = codes "time" ++ decimal (time_width unit) ++ codes "[" ++ unit_word unit ++ codes "]"
+time_text unit = codes "time" ++ (decimal (time_width unit) ++ (codes "[" ++ (unit_word unit ++ codes "]")))
 
 abbrev pub duration_text : ℕ → Text
 duration_text unit = codes "duration[" ++ unit_word unit ++ codes "]"
@@ -49,7 +49,7 @@ named_text (FixedSizeBinary size) zone = sized_text (codes "fixed_size_binary") 
 -- a dictionary of values of a type
 abbrev pub dictionary_text : Index → Text → Text
 dictionary_text index values =
-    codes "dictionary<values=" ++ values ++ codes ", indices=" ++ plain_word (tree index.integers) ++ codes ", ordered=" ++ decimal (if index.ordered then 1 else 0) ++ codes ">"
+    codes "dictionary<values=" ++ (values ++ (codes ", indices=" ++ (plain_word (tree index.integers) ++ (codes ", ordered=" ++ (decimal (bool_byte index.ordered) ++ codes ">")))))
 
 abbrev pub with_dictionary : Option Index → TypeTree → TypeTree
 with_dictionary None t = t

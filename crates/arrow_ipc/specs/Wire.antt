@@ -1,6 +1,6 @@
 -- FlatBuffers: what stands at a position of a message. Nothing stands past its end, and a number stands at a multiple of its
 -- size.
-use Rattle.std.specs.Prelude.{◌≡◌, ℕ, ◌+◌, ◌-◌, ◌*◌, ◌^◌, ◌%◌, List, [], ◌∷◌, length, take, drop, Option, Some, None, Result, Ok, nat_lt, nat_le, ◌==◌, if◌then◌else◌, slice_get}
+use Rattle.std.specs.Prelude.{ℕ, ◌+◌, ◌-◌, ◌*◌, ◌^◌, ◌%◌, ◌≤◌, List, [], ◌∷◌, length, take, drop, Option, Some, None, Result, Ok, nat_lt, nat_le, ◌==◌, if◌then◌else◌, slice_get}
 use Rattle.std.specs.Int.{w16, w32, from_le_bytes}
 use Rattle.std.specs.Str.{is_utf8}
 use Rattle.arrow_ipc.specs.Fault.{◌>>=◌, breaks}
@@ -54,21 +54,17 @@ opened_at bytes table = do
   if size % 2 == 0 then Ok (record { at = table; vtable = vtable; size = size }) else breaks Vtable vtable
 
 abbrev pub IsOpen : List ℕ → Table → Type 0
-IsOpen bytes table = opened_at bytes table.at ≡ Ok table
+IsOpen bytes table = table.vtable + table.size ≤ length bytes
 
 -- where slot i of an opened table is, or None where the table does not have it: behind its size and the size of the table, the vtable
 -- has for each slot how far it is from the table's begin, 0 where it is missing; slots past the size are missing
-unfoldable pub slot_of : List ℕ → ℕ → Table → Result (Option ℕ) Fault
-slot_of bytes i table = if nat_lt table.size (6 + 2 * i) then Ok None else (do
+unfoldable pub slot_at : List ℕ → Table → ℕ → Result (Option ℕ) Fault
+slot_at bytes table i = if nat_lt table.size (6 + 2 * i) then Ok None else (do
   entry ← ahead Vtable bytes table.vtable (4 + 2 * i)
   far ← u16_at bytes entry
   if far == 0 then Ok None else (do
     slot ← ahead Slot bytes table.at far
     Ok (Some slot)))
-
--- where slot i of the table at a position is
-unfoldable pub slot_at : List ℕ → ℕ → ℕ → Result (Option ℕ) Fault
-slot_at bytes table i = opened_at bytes table >>= slot_of bytes i
 
 -- where the offset at a position leads, always on
 unfoldable pub target_at : List ℕ → ℕ → Result ℕ Fault

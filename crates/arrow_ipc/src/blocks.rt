@@ -41,7 +41,7 @@ pub(crate) fn text_block(alloc: Global, text: &str) -> Block
 }
 
 /// A number, offsets to blocks, and other bytes, up to a multiple of eight; behind them the blocks.
-#[tactic(auto, using(crate::proofs::Vectors::long_linked))]
+#[tactic(auto, using(crate::proofs::Linked::long_linked, std::proofs::lemmas::List::drop_all, std::proofs::lemmas::List::drop_more, std::proofs::lemmas::List::append_assoc), unfolding(crate::specs::Blocks::offsets, crate::specs::Blocks::linked))]
 pub(crate) fn linked_block(alloc: Global, first: u32, blocks: &[Vec<u8>], rest: &[u8]) -> Block
     ensures { Makes (linked first (map (λ v. v.items) blocks.now) rest.now) result }
 {
@@ -92,7 +92,7 @@ pub(crate) fn table_block(alloc: Global, slots: &[u8], numbers: &[u8], blocks: &
 }
 
 /// A vector of tables, with their blocks behind it.
-#[tactic(auto, using(crate::proofs::Vectors::long_linked))]
+#[tactic(auto, using(crate::proofs::Linked::long_linked))]
 pub(crate) fn vector_block(alloc: Global, blocks: &[Vec<u8>]) -> Block
     ensures { Makes (vector_block (map (λ v. v.items) blocks.now)) result }
 {
@@ -103,7 +103,6 @@ pub(crate) fn vector_block(alloc: Global, blocks: &[Vec<u8>]) -> Block
 }
 
 /// An entry of metadata.
-
 fn entry_block(alloc: Global, key: &str, text: &str) -> Block
     ensures { Gives (λ b. Holds entry_read b (key.now, text.now)) ⊥ (48 + length key.now + length text.now) result }
 {
@@ -113,6 +112,7 @@ fn entry_block(alloc: Global, key: &str, text: &str) -> Block
 }
 
 /// Metadata.
+#[tactic(auto, using(crate::proofs::Made::made_more, std::proofs::lemmas::List::map_push))]
 pub(crate) fn texts_block(alloc: Global, texts: &BTreeMap<String, String>) -> Block
     ensures { Gives (λ b. Holds texts_read b (texts_of texts.now.entries)) ⊥ (texts_room (texts_of texts.now.entries)) result }
 {
@@ -127,10 +127,9 @@ pub(crate) fn texts_block(alloc: Global, texts: &BTreeMap<String, String>) -> Bl
 pub(crate) fn type_block(alloc: Global, number: Option<u32>, truth: Option<bool>) -> Block
     ensures { Makes (type_block number truth) result }
 {
-    let (number_place, number) = number.map_or((0, 0), |number| (4, number));
-    let (truth_place, truth) = truth.map_or((0, 0), |truth| (8, truth as u8));
+    let places = [number.map_or(0, |_| 4), truth.map_or(0, |_| 8)];
     let mut numbers = Vec::with_capacity(alloc, 8)?;
-    put_word(&mut numbers, number)?;
-    numbers.extend_from_slice(&[truth, 0, 0, 0])?;
-    table_block(alloc, &[number_place, truth_place], numbers.as_slice(), &[])
+    put_word(&mut numbers, number.unwrap_or(0))?;
+    numbers.extend_from_slice(&[truth.unwrap_or(false) as u8, 0, 0, 0])?;
+    table_block(alloc, &places, numbers.as_slice(), &[])
 }

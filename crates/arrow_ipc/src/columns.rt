@@ -5,7 +5,7 @@ ghost use Rattle.arrow_columns.specs.Column.{column_tree};
 ghost use Rattle.arrow_ipc.specs.Fault.{map_ok};
 ghost use Rattle.arrow_ipc.specs.Parts.{parts_of};
 ghost use Rattle.arrow_ipc.specs.Tells.{Tells, Says};
-ghost use Rattle.arrow_ipc.specs.Columns.{entry_at, put_entry, texts_at, id_at, is_new, put_id, are_as_many, ids_at, ids_of_kind, finished, columns_by, column_at};
+ghost use Rattle.arrow_ipc.specs.Columns.{entry_at, put_entry, texts_at, id_at, is_new, put_id, ids_at, finished, columns_by, column_at};
 
 use crate::fault::{Fault, IpcError, Rule};
 use crate::kinds::Kind;
@@ -37,7 +37,7 @@ fn spend(budget: &mut usize, amount: usize, one: &str, other: &str, at: usize) -
 }
 
 /// The entry of metadata to which the offset at a position leads: its key and its text.
-#[tactic(auto, using(crate::proofs::Opened::table_opens), unfolding(crate::specs::Columns::entry_at, crate::specs::Columns::entry_in))]
+#[tactic(auto, unfolding(crate::specs::Columns::entry_at, crate::specs::Columns::entry_in))]
 fn entry_at(bytes: &[u8], at: usize) -> Result<(&str, &str), Fault>
     ensures { map_ok (λ e. (e.0.now, e.1.now)) result ≡ entry_at bytes.now at }
 {
@@ -48,7 +48,7 @@ fn entry_at(bytes: &[u8], at: usize) -> Result<(&str, &str), Fault>
 }
 
 /// Puts an entry of metadata to those before it.
-#[tactic(auto, using(crate::proofs::Inserted::texts_inserted))]
+#[tactic(auto, using(arrow_values::proofs::TextLaws::texts_of_insert))]
 #[inline(never)]
 fn put_entry(alloc: Global, bytes: &[u8], at: usize, budget: &mut usize, to: &mut Texts) -> Read<()>
     ensures { Tells (λ _. texts_of to.new.entries) (put_entry bytes.now at (texts_of to.old.entries)) budget.old budget.new result }
@@ -62,7 +62,7 @@ fn put_entry(alloc: Global, bytes: &[u8], at: usize, budget: &mut usize, to: &mu
 }
 
 /// The metadata to which the offsets of a vector lead.
-#[tactic(auto, using(crate::proofs::Told::goes_on), unfolding(crate::specs::Columns::texts_at))]
+#[tactic(auto, using(crate::proofs::Told::begins, crate::proofs::Told::goes_on, crate::proofs::Told::breaks_off, crate::proofs::Told::is_done), unfolding(crate::specs::Columns::texts_at))]
 pub(crate) fn read_texts(alloc: Global, bytes: &[u8], at: Vector, budget: &mut usize) -> Read<Texts>
     requires { at.0 + 4 * at.1 ≤ length bytes.now }
     ensures { Tells (λ m. texts_of m.entries) (texts_at bytes.now at) budget.old budget.new result }
@@ -93,7 +93,7 @@ fn is_new(id: usize, ids: &[i8]) -> bool
 }
 
 /// Puts a type id to those before it.
-#[tactic(auto, using(crate::proofs::Ids::no_id, crate::proofs::Ids::old_id, crate::proofs::Ids::new_id))]
+#[tactic(auto, unfolding(crate::specs::Columns::put_id))]
 fn put_id(bytes: &[u8], parts: &Parts<'_>, i: usize, ids: &mut Vec<i8>) -> Read<()>
     requires { IfSome parts.now.ids (λ v. v.0 + 4 * i + 4 ≤ length bytes.now) }
     ensures { Says (λ _. ids.new.items) (put_id bytes.now parts.now.table parts.now.ids ids.old.items i) result }
@@ -106,21 +106,14 @@ fn put_id(bytes: &[u8], parts: &Parts<'_>, i: usize, ids: &mut Vec<i8>) -> Read<
     Ok(())
 }
 
-/// Whether as many type ids are written, if any, as there are children.
-fn are_as_many(written: Option<Vector>, count: usize) -> bool
-    ensures { result ≡ are_as_many written count }
-{
-    written.map_or(true, |ids| ids.1 == count)
-}
-
 /// The type ids of a union of so many children.
-#[tactic(auto, using(crate::proofs::Ids::next_id), unfolding(crate::specs::Columns::ids_at))]
+#[tactic(auto, using(crate::proofs::Told::next_id, crate::proofs::Told::all_ids), unfolding(crate::specs::Columns::ids_at))]
 #[inline(never)]
 fn read_ids(alloc: Global, bytes: &[u8], parts: &Parts<'_>, count: usize) -> Read<Vec<i8>>
     requires { IfSome parts.now.ids (λ v. v.0 + 4 * v.1 ≤ length bytes.now) }
     ensures { Says (λ ids. ids.items) (ids_at bytes.now parts.now.table parts.now.ids count) result }
 {
-    if !are_as_many(parts.ids, count) {
+    if parts.ids.map_or(false, |ids| ids.1 != count) {
         return Err(IpcError::Broken(Fault::new(Rule::TypeIds, parts.table)));
     }
     let mut ids = Vec::new(alloc);
@@ -130,19 +123,8 @@ fn read_ids(alloc: Global, bytes: &[u8], parts: &Parts<'_>, count: usize) -> Rea
     Ok(ids)
 }
 
-/// The type ids of a column: of one that is no union, none.
-fn ids_of_kind(alloc: Global, bytes: &[u8], parts: &Parts<'_>, count: usize) -> Read<Vec<i8>>
-    requires { IfSome parts.now.ids (λ v. v.0 + 4 * v.1 ≤ length bytes.now) }
-    ensures { Says (λ ids. ids.items) (ids_of_kind parts.now.kind (ids_at bytes.now parts.now.table parts.now.ids count)) result }
-{
-    match parts.kind {
-        Kind::Union(_) => read_ids(alloc, bytes, parts, count),
-        _ => Ok(Vec::new(alloc)),
-    }
-}
-
 /// A column, given its children.
-#[tactic(auto, unfolding(crate::specs::Columns::finished, crate::specs::Columns::typed))]
+#[tactic(auto, unfolding(crate::specs::Columns::finished))]
 fn finish(
     alloc: Global,
     bytes: &[u8],
@@ -154,7 +136,10 @@ fn finish(
     requires texts { parts.now.texts.0 + 4 * parts.now.texts.1 ≤ length bytes.now }
     ensures { Tells column_tree (finished bytes.now (parts_of parts.now) (map column_tree children.items)) budget.old budget.new result }
 {
-    let ids = ids_of_kind(alloc, bytes, parts, children.len())?;
+    let ids = match parts.kind {
+        Kind::Union(_) => read_ids(alloc, bytes, parts, children.len())?,
+        _ => Vec::new(alloc),
+    };
     let Some(values) = type_of(alloc, &parts.kind, parts.zone, ids, children)? else {
         return Err(IpcError::Broken(Fault::new(Rule::Children, parts.table)));
     };
@@ -188,7 +173,7 @@ fn read_column(
 }
 
 /// Reads the columns to which the offsets of a vector lead.
-#[tactic(auto, using(crate::proofs::Told::goes_on, std::proofs::lemmas::List::map_push))]
+#[tactic(auto, using(crate::proofs::Told::begins, crate::proofs::Told::goes_on, crate::proofs::Told::breaks_off, crate::proofs::Told::put_fails, crate::proofs::Told::is_done, std::proofs::lemmas::List::map_push), unfolding(crate::specs::Columns::columns_by))]
 #[cycle(read)]
 pub(crate) fn read_columns(
     alloc: Global,

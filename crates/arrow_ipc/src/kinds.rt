@@ -41,7 +41,7 @@ pub(crate) enum Kind {
 #[tactic(auto, unfolding(crate::specs::Kinds::int_at))]
 pub(crate) fn int_at(bytes: &[u8], table: &Table) -> Result<DataType, Fault>
     requires { IsOpen bytes.now table.now }
-    ensures { result ≡ int_at bytes.now table.now.at }
+    ensures { result ≡ int_at bytes.now table.now }
 {
     let width = u32_in(bytes, table, 0, 0)?;
     let signed = flag_in(bytes, table, 1)?;
@@ -62,7 +62,7 @@ pub(crate) fn int_at(bytes: &[u8], table: &Table) -> Result<DataType, Fault>
 #[tactic(auto, unfolding(crate::specs::Kinds::decimal_at))]
 fn decimal_at(bytes: &[u8], table: &Table) -> Result<Named, Fault>
     requires { IsOpen bytes.now table.now }
-    ensures { result ≡ decimal_at bytes.now table.now.at }
+    ensures { result ≡ decimal_at bytes.now table.now }
 {
     let precision = u32_in(bytes, table, 0, 0)?;
     let scale = u32_in(bytes, table, 1, 0)?;
@@ -78,7 +78,7 @@ fn decimal_at(bytes: &[u8], table: &Table) -> Result<Named, Fault>
 #[tactic(auto, unfolding(crate::specs::Kinds::time_at))]
 fn time_at(bytes: &[u8], table: &Table) -> Result<Named, Fault>
     requires { IsOpen bytes.now table.now }
-    ensures { result ≡ time_at bytes.now table.now.at }
+    ensures { result ≡ time_at bytes.now table.now }
 {
     let unit = u16_in(bytes, table, 0, 1)? as u32;
     if unit > 3 || u32_in(bytes, table, 1, 32)? != time_width(unit) {
@@ -98,7 +98,7 @@ pub(crate) fn time_width(unit: u32) -> u32
 #[tactic(auto, unfolding(crate::specs::Kinds::number_at))]
 fn number_at(bytes: &[u8], tag: u8, table: &Table) -> Result<u32, Fault>
     requires { IsOpen bytes.now table.now }
-    ensures { result ≡ number_at bytes.now tag table.now.at }
+    ensures { result ≡ number_at bytes.now tag table.now }
 {
     match tag {
         3 | 10 | 11 | 14 => Ok(u16_in(bytes, table, 0, 0)? as u32),
@@ -135,7 +135,7 @@ fn plain_of(tag: u8, number: u32) -> Option<DataType>
 #[tactic(auto, unfolding(crate::specs::Kinds::kind_at))]
 pub(crate) fn kind_at(bytes: &[u8], tag: u8, table: &Table) -> Result<Kind, Fault>
     requires { IsOpen bytes.now table.now }
-    ensures { result ≡ kind_at bytes.now tag table.now.at }
+    ensures { result ≡ kind_at bytes.now tag table.now }
 {
     let number = number_at(bytes, tag, table)?;
     if let Some(data_type) = plain_of(tag, number) {

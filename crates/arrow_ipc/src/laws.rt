@@ -34,7 +34,7 @@ pub fn read_is_denoted()
 
 /// A law: a stream that `write_schema` wrote denotes the schema that it was given, and what `read_schema` answers of that stream is that
 /// schema, or out of memory. There is nothing to run.
-#[tactic(auto, using(crate::proofs::Written::written_is_denoted, crate::proofs::Written::written_is_read))]
+#[tactic(auto, using(crate::proofs::Levels::written_is_denoted, crate::proofs::Levels::written_is_read))]
 pub fn written_is_read()
     ensures denoted { (levels : ℕ) (stream : List ℕ) (s : SchemaTree) → IsStreamOf levels stream s → StreamDenotes stream s }
     ensures read { (levels : ℕ) (stream : List ℕ) (s : SchemaTree) (result : Result Schema IpcError) → IsStreamOf levels stream s

@@ -1,10 +1,10 @@
 //! Columns of data types, with all that they nest.
-ghost use Rattle.std.specs.Prelude.{◌≡◌, ◌+◌, length, map, IfOk, IfErr, false};
+ghost use Rattle.std.specs.Prelude.{◌≡◌, map, IfOk};
 ghost use Rattle.arrow_values.specs.View.{tree, texts_of};
 ghost use Rattle.arrow_columns.specs.Column.{known};
-ghost use Rattle.arrow_ipc.specs.Blocks.{Holds, child_in, vector_block};
-ghost use Rattle.arrow_ipc.specs.Shapes.{column_of, nested_fields};
-ghost use Rattle.arrow_ipc.specs.Rooms.{Refuses, Gives, IsUnfit, AreUnfit, HoldsEach, IsNesting, is_sound, table_room, column_room, field_room, columns_room, texts_room};
+ghost use Rattle.arrow_ipc.specs.Blocks.{Holds, child_in, columns_read};
+ghost use Rattle.arrow_ipc.specs.Shapes.{column_of, nested_columns};
+ghost use Rattle.arrow_ipc.specs.Rooms.{Gives, IsUnfit, AreUnfit, column_room, columns_room};
 
 use crate::blocks::{table_block, text_block, texts_block, vector_block};
 use crate::type_tables::type_table;
@@ -13,35 +13,10 @@ use arrow_values::{DataType, Field};
 use std::alloc::{AllocError, Global};
 use std::collections::BTreeMap;
 
-/// A column, with the blocks of the columns that its type nests.
-#[tactic(auto, using(crate::proofs::TypeTables::table_size, crate::proofs::TypeTables::no_table))]
-fn finish_block(
-    alloc: Global,
-    name: &str,
-    nullable: bool,
-    data_type: &DataType,
-    texts: &BTreeMap<String, String>,
-    blocks: &[Vec<u8>],
-) -> Block
-    ensures { Gives (IsNesting (map (λ v. v.items) blocks.now) (tree data_type.now) name.now nullable (texts_of texts.now.entries)) (is_sound (tree data_type.now) ≡ false)
-        (60 + length name.now + (table_room (tree data_type.now) + length (vector_block (map (λ v. v.items) blocks.now))) + texts_room (texts_of texts.now.entries)) result }
-{
-    let children = vector_block(alloc, blocks)?;
-    let typed = type_table(alloc, data_type)?;
-    let name = text_block(alloc, name)?;
-    let texts = texts_block(alloc, texts)?;
-    table_block(
-        alloc,
-        &[4, 20, 21, 8, 0, 12, 16],
-        &[nullable as u8, typed.0, 0, 0],
-        &[name, typed.1, children, texts],
-    )
-}
-
 /// The fields that a type nests.
 #[tactic(auto, using(crate::proofs::Nestings::fields_lent))]
 fn nested_fields<'a>(alloc: Global, data_type: &'a DataType) -> Result<Vec<&'a Field>, AllocError>
-    ensures { IfOk result (λ fs. map (λ f. f.now) fs.items ≡ nested_fields (tree data_type.now)) }
+    ensures { IfOk result (λ fs. map (λ f. column_of f.now) fs.items ≡ nested_columns (tree data_type.now)) }
 {
     let mut nested = Vec::new(alloc);
     match data_type {
@@ -66,7 +41,7 @@ fn nested_fields<'a>(alloc: Global, data_type: &'a DataType) -> Result<Vec<&'a F
 }
 
 /// A column of a data type, with so many levels for itself and what it nests.
-#[tactic(auto, using(crate::proofs::Nestings::nests_less))]
+#[tactic(auto, using(crate::proofs::Nestings::nests_less, crate::proofs::Nestings::nested_refused, crate::proofs::TypeTables::table_size, crate::proofs::TypeTables::no_table))]
 #[cycle(write)]
 pub(crate) fn data_block(
     alloc: Global,
@@ -83,35 +58,35 @@ pub(crate) fn data_block(
         return Err(WriteError::Column(0));
     }
     let fields = nested_fields(alloc, data_type)?;
-    let blocks = field_blocks(alloc, fields.as_slice(), levels - 1)?;
-    finish_block(alloc, name, nullable, data_type, texts, blocks.as_slice())
-}
-
-/// A column of a field.
-#[cycle(write)]
-fn field_block(alloc: Global, field: &Field, levels: usize) -> Block
-    ensures { Gives (λ b. Holds (child_in levels) b (column_of field.now)) (IsUnfit levels field.now.tree) (field_room field.now) result }
-{
-    data_block(
+    let children = children_block(alloc, fields.as_slice(), levels - 1)?;
+    let typed = type_table(alloc, data_type)?;
+    let name = text_block(alloc, name)?;
+    let texts = texts_block(alloc, texts)?;
+    table_block(
         alloc,
-        field.name(),
-        field.is_nullable(),
-        field.data_type(),
-        field.metadata(),
-        levels,
+        &[4, 20, 21, 8, 0, 12, 16],
+        &[nullable as u8, typed.0, 0, 0],
+        &[name, typed.1, children, texts],
     )
 }
 
-/// The columns that a type nests.
-#[tactic(auto, using(crate::proofs::Nestings::falls, crate::proofs::Nestings::each_more, crate::proofs::Nestings::each_refused))]
+/// The vector of the columns that a type nests.
+#[tactic(auto, using(crate::proofs::Nestings::falls, crate::proofs::Nestings::each_refused, crate::proofs::Made::made_more, std::proofs::lemmas::List::drop_more, std::proofs::lemmas::List::map_push))]
 #[cycle(write)]
-fn field_blocks(alloc: Global, fields: &[&Field], levels: usize) -> Result<Vec<Vec<u8>>, WriteError>
-    ensures each { IfOk result (λ bs. HoldsEach levels (map (λ v. v.items) bs.items) (map (λ f. column_of f.now) fields.now) (columns_room (map (λ f. column_of f.now) fields.now))) }
-    ensures err { IfErr result (λ e. Refuses e (AreUnfit levels (map (λ f. column_of f.now) fields.now)) (columns_room (map (λ f. column_of f.now) fields.now))) }
+fn children_block(alloc: Global, fields: &[&Field], levels: usize) -> Block
+    ensures { Gives (λ b. Holds (columns_read levels) b (map (λ f. column_of f.now) fields.now)) (AreUnfit levels (map (λ f. column_of f.now) fields.now)) (columns_room (map (λ f. column_of f.now) fields.now)) result }
 {
     let mut blocks = Vec::new(alloc);
     'columns: for field in fields {
-        blocks.push(field_block(alloc, field, levels)?)?;
+        let block = data_block(
+            alloc,
+            field.name(),
+            field.is_nullable(),
+            field.data_type(),
+            field.metadata(),
+            levels,
+        )?;
+        blocks.push(block)?;
     }
-    Ok(blocks)
+    vector_block(alloc, blocks.as_slice())
 }

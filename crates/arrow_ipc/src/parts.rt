@@ -2,7 +2,7 @@
 ghost use Rattle.std.specs.Prelude.{◌≡◌, ◌+◌, ◌*◌, ◌≤◌, length, IfOk, IfSome};
 ghost use Rattle.arrow_ipc.specs.Fault.{map_ok};
 ghost use Rattle.arrow_ipc.specs.Wire.{IsOpen};
-ghost use Rattle.arrow_ipc.specs.Parts.{tag_in, zone_in, index_at, index_in, ids_in, parts_of, parts_at};
+ghost use Rattle.arrow_ipc.specs.Parts.{tag_in, index_at, index_in, ids_in, parts_of, parts_at};
 
 use crate::fault::{Fault, Rule};
 use crate::kinds::{Kind, int_at, kind_at};
@@ -47,7 +47,7 @@ pub(crate) struct Parts<'a> {
 #[inline(always)]
 fn tag_in(bytes: &[u8], table: &Table) -> Result<u8, Fault>
     requires { IsOpen bytes.now table.now }
-    ensures { result ≡ tag_in bytes.now table.now.at }
+    ensures { result ≡ tag_in bytes.now table.now }
 {
     let tag = u8_in(bytes, table, 2, 0)?;
     match tag {
@@ -57,25 +57,11 @@ fn tag_in(bytes: &[u8], table: &Table) -> Result<u8, Fault>
     }
 }
 
-/// The time zone of a timestamp; of another type the empty text.
-#[tactic(auto, unfolding(crate::specs::Parts::zone_in))]
-#[inline(always)]
-fn zone_in<'a>(bytes: &'a [u8], tag: u8, table: &Table) -> Result<&'a str, Fault>
-    requires { IsOpen bytes.now table.now }
-    ensures { map_ok (λ s. s.now) result ≡ zone_in bytes.now tag table.now.at }
-{
-    if tag == 10 {
-        text_in(bytes, table, 1)
-    } else {
-        Ok("")
-    }
-}
-
 /// The type of a dictionary's indices.
-#[tactic(auto, using(crate::proofs::Opened::u32_opens), unfolding(crate::specs::Parts::index_at, crate::specs::Kinds::int_at))]
+#[tactic(auto, unfolding(crate::specs::Parts::index_at, crate::specs::Kinds::int_at))]
 fn index_at(bytes: &[u8], table: &Table) -> Result<DataType, Fault>
     requires { IsOpen bytes.now table.now }
-    ensures { result ≡ index_at bytes.now table.now.at }
+    ensures { result ≡ index_at bytes.now table.now }
 {
     match slot_at(bytes, table, 1)? {
         None => Ok(DataType::Int32),
@@ -84,10 +70,10 @@ fn index_at(bytes: &[u8], table: &Table) -> Result<DataType, Fault>
 }
 
 /// A column's dictionary, if it has one.
-#[tactic(auto, using(crate::proofs::Opened::u64_opens), unfolding(crate::specs::Parts::index_in))]
+#[tactic(auto, unfolding(crate::specs::Parts::index_in))]
 fn index_in(bytes: &[u8], table: &Table) -> Result<Option<Index>, Fault>
     requires { IsOpen bytes.now table.now }
-    ensures { result ≡ index_in bytes.now table.now.at }
+    ensures { result ≡ index_in bytes.now table.now }
 {
     match slot_at(bytes, table, 4)? {
         None => Ok(None),
@@ -106,7 +92,7 @@ fn index_in(bytes: &[u8], table: &Table) -> Result<Option<Index>, Fault>
 #[inline(always)]
 fn ids_in(bytes: &[u8], tag: u8, table: &Table) -> Result<Option<Vector>, Fault>
     requires { IsOpen bytes.now table.now }
-    ensures is { result ≡ ids_in bytes.now tag table.now.at }
+    ensures is { result ≡ ids_in bytes.now tag table.now }
     ensures within { IfOk result (λ o. IfSome o (λ p. p.0 + 4 * p.1 ≤ length bytes.now)) }
 {
     if tag != 14 {
@@ -119,7 +105,7 @@ fn ids_in(bytes: &[u8], tag: u8, table: &Table) -> Result<Option<Vector>, Fault>
 }
 
 /// What the table of a column, to which the offset at a position leads, says of the column itself.
-#[tactic(auto, using(crate::proofs::Opened::text_opens, crate::proofs::Opened::slot_opens), unfolding(crate::specs::Parts::parts_at, crate::specs::Parts::parts_in))]
+#[tactic(auto, unfolding(crate::specs::Parts::parts_at, crate::specs::Parts::parts_in, crate::specs::Parts::zone_in))]
 #[inline(never)]
 pub(crate) fn parts_at(bytes: &[u8], at: usize) -> Result<Parts<'_>, Fault>
     ensures is { map_ok parts_of result ≡ parts_at bytes.now at }
@@ -138,7 +124,11 @@ pub(crate) fn parts_at(bytes: &[u8], at: usize) -> Result<Parts<'_>, Fault>
         name,
         nullable,
         kind: kind_at(bytes, tag, &value)?,
-        zone: zone_in(bytes, tag, &value)?,
+        zone: if tag == 10 {
+            text_in(bytes, &value, 1)?
+        } else {
+            ""
+        },
         ids: ids_in(bytes, tag, &value)?,
         index: index_in(bytes, &table)?,
         children: vector_in(bytes, &table, 5)?,

@@ -35,7 +35,7 @@ pub struct Schema {
 }
 
 /// Where the schema of a message is.
-#[tactic(auto, using(crate::proofs::Opened::u16_opens), unfolding(crate::specs::Schema::message_at))]
+#[tactic(auto, unfolding(crate::specs::Schema::message_at))]
 fn message_at(bytes: &[u8]) -> Result<usize, Fault>
     ensures { result ≡ message_at bytes.now }
 {
@@ -50,7 +50,7 @@ fn message_at(bytes: &[u8]) -> Result<usize, Fault>
 }
 
 /// Where the schema of a file's footer is.
-#[tactic(auto, using(crate::proofs::Opened::u16_opens), unfolding(crate::specs::Schema::footer_at))]
+#[tactic(auto, unfolding(crate::specs::Schema::footer_at))]
 fn footer_at(bytes: &[u8]) -> Result<usize, Fault>
     ensures { result ≡ footer_at bytes.now }
 {
@@ -110,7 +110,7 @@ fn footer_in(bytes: &[u8]) -> Result<&[u8], Fault>
 }
 
 /// Reads the schema whose table is at that place of a message or footer, within a budget of eight times its bytes.
-#[tactic(auto, using(crate::proofs::Opened::u16_opens), unfolding(crate::specs::Schema::schema_at, crate::specs::Schema::head_at))]
+#[tactic(auto, unfolding(crate::specs::Schema::schema_at, crate::specs::Schema::head_at))]
 fn read_flatbuffer(alloc: Global, bytes: &[u8], place: Result<usize, Fault>) -> Read<Schema>
     requires { length bytes.now < 2 ^ 32 }
     ensures { MeetsIn (schema_of NESTING_LIMIT place) bytes.now result }

@@ -15,7 +15,7 @@ use crate::wire::{
 #[inline(always)]
 pub(crate) fn u8_in(bytes: &[u8], table: &Table, i: u16, missing: u8) -> Result<u8, Fault>
     requires { IsOpen bytes.now table.now }
-    ensures { result ≡ u8_in bytes.now table.now.at i missing }
+    ensures { result ≡ u8_in bytes.now table.now i missing }
 {
     let slot = slot_at(bytes, table, i)?;
     slot.map_or(Ok(missing), |slot| u8_at(bytes, slot))
@@ -26,7 +26,7 @@ pub(crate) fn u8_in(bytes: &[u8], table: &Table, i: u16, missing: u8) -> Result<
 #[inline(always)]
 pub(crate) fn flag_in(bytes: &[u8], table: &Table, i: u16) -> Result<bool, Fault>
     requires { IsOpen bytes.now table.now }
-    ensures { result ≡ flag_in bytes.now table.now.at i }
+    ensures { result ≡ flag_in bytes.now table.now i }
 {
     let byte = u8_in(bytes, table, i, 0)?;
     Ok(byte != 0)
@@ -36,7 +36,7 @@ pub(crate) fn flag_in(bytes: &[u8], table: &Table, i: u16) -> Result<bool, Fault
 #[tactic(auto, unfolding(crate::specs::Slots::u16_in))]
 pub(crate) fn u16_in(bytes: &[u8], table: &Table, i: u16, missing: u16) -> Result<u16, Fault>
     requires { IsOpen bytes.now table.now }
-    ensures { result ≡ u16_in bytes.now table.now.at i missing }
+    ensures { result ≡ u16_in bytes.now table.now i missing }
 {
     let slot = slot_at(bytes, table, i)?;
     slot.map_or(Ok(missing), |slot| u16_at(bytes, slot))
@@ -46,7 +46,7 @@ pub(crate) fn u16_in(bytes: &[u8], table: &Table, i: u16, missing: u16) -> Resul
 #[tactic(auto, unfolding(crate::specs::Slots::u32_in))]
 pub(crate) fn u32_in(bytes: &[u8], table: &Table, i: u16, missing: u32) -> Result<u32, Fault>
     requires { IsOpen bytes.now table.now }
-    ensures { result ≡ u32_in bytes.now table.now.at i missing }
+    ensures { result ≡ u32_in bytes.now table.now i missing }
 {
     let slot = slot_at(bytes, table, i)?;
     slot.map_or(Ok(missing), |slot| u32_at(bytes, slot))
@@ -56,7 +56,7 @@ pub(crate) fn u32_in(bytes: &[u8], table: &Table, i: u16, missing: u32) -> Resul
 #[tactic(auto, unfolding(crate::specs::Longs::u64_in))]
 pub(crate) fn u64_in(bytes: &[u8], table: &Table, i: u16) -> Result<u64, Fault>
     requires { IsOpen bytes.now table.now }
-    ensures { result ≡ u64_in bytes.now table.now.at i }
+    ensures { result ≡ u64_in bytes.now table.now i }
 {
     let slot = slot_at(bytes, table, i)?;
     slot.map_or(Ok(0), |slot| u64_at(bytes, slot))
@@ -66,7 +66,7 @@ pub(crate) fn u64_in(bytes: &[u8], table: &Table, i: u16) -> Result<u64, Fault>
 #[tactic(auto, unfolding(crate::specs::Slots::text_in))]
 pub(crate) fn text_in<'a>(bytes: &'a [u8], table: &Table, i: u16) -> Result<&'a str, Fault>
     requires { IsOpen bytes.now table.now }
-    ensures { map_ok (λ s. s.now) result ≡ text_in bytes.now table.now.at i }
+    ensures { map_ok (λ s. s.now) result ≡ text_in bytes.now table.now i }
 {
     match slot_at(bytes, table, i)? {
         None => Ok(""),
@@ -79,7 +79,7 @@ pub(crate) fn text_in<'a>(bytes: &'a [u8], table: &Table, i: u16) -> Result<&'a 
 #[inline(always)]
 pub(crate) fn table_in(bytes: &[u8], table: &Table, i: u16) -> Result<usize, Fault>
     requires { IsOpen bytes.now table.now }
-    ensures { result ≡ table_in bytes.now table.now.at i }
+    ensures { result ≡ table_in bytes.now table.now i }
 {
     match slot_at(bytes, table, i)? {
         None => Err(Fault::new(Rule::Missing, table.at)),
@@ -92,7 +92,7 @@ pub(crate) fn table_in(bytes: &[u8], table: &Table, i: u16) -> Result<usize, Fau
 #[inline(always)]
 pub(crate) fn vector_in(bytes: &[u8], table: &Table, i: u16) -> Result<Vector, Fault>
     requires { IsOpen bytes.now table.now }
-    ensures is { result ≡ vector_in bytes.now table.now.at i }
+    ensures is { result ≡ vector_in bytes.now table.now i }
     ensures within { IfOk result (λ p. p.0 + 4 * p.1 ≤ length bytes.now) }
 {
     match slot_at(bytes, table, i)? {

@@ -12,7 +12,7 @@ use arrow_values::{DataType, UnionMode};
 use std::alloc::Global;
 
 /// A union's table, with its type ids.
-#[tactic(auto, using(crate::proofs::TypeTables::length_union))]
+#[tactic(auto, using(crate::proofs::TypeTables::length_union, crate::proofs::TypeTables::length_vector_of, crate::proofs::TypeTables::ids_written, std::proofs::lemmas::List::drop_all))]
 fn union_block(alloc: Global, mode: UnionMode, ids: &[i8]) -> Block
     ensures { MakesSound (are_ids [] ids.now) (union_block mode ids.now) result }
 {

@@ -2,7 +2,7 @@
 ghost use Rattle.std.specs.Prelude.{◌≡◌, IfOk, IsTrue, map, option_map, string_bytes};
 ghost use Rattle.arrow_columns.specs.Column.{type_tree, column_tree};
 ghost use Rattle.arrow_columns.specs.Nested.{only, list_type, all_known, known_fields, struct_type};
-ghost use Rattle.arrow_ipc.specs.Types.{unit_word, decimal_text, timestamp_text, named_text, member_parts, union_type, others, type_of, with_dictionary};
+ghost use Rattle.arrow_ipc.specs.Types.{unit_word, timestamp_text, named_text, member_parts, union_type, others, type_of, with_dictionary};
 
 use crate::kinds::{Kind, Named, time_width};
 use crate::parts::Index;
@@ -30,18 +30,6 @@ fn unit_word(unit: u32) -> &'static str
     }
 }
 
-/// A decimal's text; the scale is in two's complement.
-#[tactic(auto, using(crate::proofs::Words::scale_above, crate::proofs::Words::scale_below))]
-fn decimal_text(alloc: Global, width: u32, precision: u32, scale: u32) -> Made<String>
-    ensures { IfOk result (λ text. string_bytes text ≡ decimal_text width precision scale) }
-{
-    if scale < 0x8000_0000 {
-        return format!(in alloc; "decimal{width}({precision}, {scale})");
-    }
-    let below = 0x1_0000_0000 - scale as u64;
-    format!(in alloc; "decimal{width}({precision}, -{below})")
-}
-
 /// A timestamp's text.
 fn timestamp_text(alloc: Global, unit: u32, zone: &str) -> Made<String>
     ensures { IfOk result (λ text. string_bytes text ≡ timestamp_text unit zone.now) }
@@ -54,13 +42,15 @@ fn timestamp_text(alloc: Global, unit: u32, zone: &str) -> Made<String>
 }
 
 /// The text of a type that has one in place of a data type.
-#[tactic(auto, using(crate::proofs::Words::time_is))]
 #[inline(never)]
 fn named_text(alloc: Global, named: Named, zone: &str) -> Made<String>
     ensures { IfOk result (λ text. string_bytes text ≡ named_text named zone.now) }
 {
     match named {
-        Named::Decimal(width, precision, scale) => decimal_text(alloc, width, precision, scale),
+        Named::Decimal(width, precision, scale) => {
+            let scale = scale.cast_signed();
+            format!(in alloc; "decimal{width}({precision}, {scale})")
+        }
         Named::Time(unit) => {
             let width = time_width(unit);
             let word = unit_word(unit);
@@ -79,7 +69,7 @@ fn named_text(alloc: Global, named: Named, zone: &str) -> Made<String>
 }
 
 /// The children as members of a notation, each with its type id.
-#[tactic(auto, using(crate::proofs::TypeOf::text_push))]
+#[tactic(auto, using(std::proofs::lemmas::List::map_push, std::proofs::lemmas::List::append_assoc))]
 fn member_parts(alloc: Global, ids: &[i8], children: &[Column]) -> Made<Vec<String>>
     ensures { IfOk result (λ parts. map string_bytes parts.items ≡ member_parts ids.now (map column_tree children.now)) }
 {

@@ -92,11 +92,11 @@ pub(crate) struct Table {
 }
 
 /// The table at a position, with its vtable.
-#[tactic(auto, unfolding(crate::specs::Wire::opened_at))]
+#[tactic(auto, unfolding(crate::specs::Wire::opened_at, crate::specs::Wire::ahead))]
 #[inline(always)]
 pub(crate) fn open(bytes: &[u8], at: usize) -> Result<Table, Fault>
     ensures is { result ≡ opened_at bytes.now at }
-    ensures here { IfOk result (λ t. t.at ≡ at) }
+    ensures within { IfOk result (λ t. IsOpen bytes.now t) }
 {
     let vtable = vtable_at(bytes, at)?;
     let size = u16_at(bytes, vtable)?;
@@ -108,11 +108,11 @@ pub(crate) fn open(bytes: &[u8], at: usize) -> Result<Table, Fault>
 }
 
 /// Where a slot of a table is; `None` where the table does not have it.
-#[tactic(auto, using(crate::proofs::Opened::by_table, crate::proofs::Opened::within), unfolding(crate::specs::Wire::slot_of, crate::specs::Wire::ahead))]
+#[tactic(auto, unfolding(crate::specs::Wire::slot_at, crate::specs::Wire::ahead))]
 #[inline(always)]
 pub(crate) fn slot_at(bytes: &[u8], table: &Table, i: u16) -> Result<Option<usize>, Fault>
     requires { IsOpen bytes.now table.now }
-    ensures { result ≡ slot_at bytes.now table.now.at i }
+    ensures { result ≡ slot_at bytes.now table.now i }
 {
     let entry = 4 + 2 * i as usize;
     if (table.size as usize) < entry + 2 {
@@ -153,7 +153,7 @@ fn text_at(bytes: &[u8], at: usize) -> Result<&[u8], Fault>
 }
 
 /// A text in UTF-8.
-#[tactic(auto, using(crate::proofs::Texts::utf8_tests), unfolding(crate::specs::Wire::utf8_at))]
+#[tactic(auto, using(crate::proofs::Linked::utf8_tests), unfolding(crate::specs::Wire::utf8_at))]
 pub(crate) fn utf8_at(bytes: &[u8], at: usize) -> Result<&str, Fault>
     ensures { map_ok (λ s. s.now) result ≡ utf8_at bytes.now at }
 {

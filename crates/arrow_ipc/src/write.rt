@@ -1,12 +1,12 @@
 //! A schema as the message at the head of a stream.
-ghost use Rattle.std.specs.Prelude.{◌≡◌, ◌^◌, ◌<◌, length, map, IfOk, IfErr};
+ghost use Rattle.std.specs.Prelude.{◌≡◌, ◌+◌, length, map, IfOk, IfErr};
 ghost use Rattle.arrow_columns.specs.Column.{type_tree, column_tree};
 ghost use Rattle.arrow_ipc.specs.Schema.{schema_tree};
 ghost use Rattle.arrow_ipc.specs.Denotes.{IsStreamOf};
-ghost use Rattle.arrow_ipc.specs.Blocks.{Holds, child_in, message_block, schema_block, stream_block};
-ghost use Rattle.arrow_ipc.specs.Rooms.{Refuses, Gives, IsUnfitType, HoldsEach, room_of, columns_room, schema_room};
+ghost use Rattle.arrow_ipc.specs.Blocks.{Holds, child_in};
+ghost use Rattle.arrow_ipc.specs.Rooms.{Gives, IsUnfitType, room_of, schema_room};
 ghost use Rattle.arrow_ipc.specs.declared.write.WriteError.TheVariants.{OutOfMemory};
-ghost use Rattle.arrow_ipc.specs.Writes.{refused, RefusesColumns};
+ghost use Rattle.arrow_ipc.specs.Writes.{Streams, RefusesColumns, GivesColumns};
 
 use crate::blocks::{put_word, table_block, texts_block, vector_block};
 use crate::nesting::data_block;
@@ -49,16 +49,6 @@ impl<T: Drop> From<AllocFailed<T>> for WriteError {
     }
 }
 
-/// The error of a column's block, of the column with that index.
-fn refused(error: WriteError, index: usize) -> WriteError
-    ensures { result ≡ refused error index }
-{
-    match error {
-        WriteError::Column(_) => WriteError::Column(index),
-        _ => error,
-    }
-}
-
 /// A column of any type.
 fn any_column(alloc: Global, column: &Column) -> Block
     ensures { Gives (λ b. Holds (child_in NESTING_LIMIT) b (column_tree column.now)) (IsUnfitType NESTING_LIMIT (type_tree column.now.data_type)) (room_of (column_tree column.now)) result }
@@ -72,33 +62,30 @@ fn any_column(alloc: Global, column: &Column) -> Block
             &column.metadata,
             NESTING_LIMIT,
         ),
-        // no message can hold the type, here and in the blocks below: `refused` puts the index of the column
+        // no message can hold the type, here and in the blocks below: `columns_block` puts the index of the column
         ColumnType::Other(_) => Err(WriteError::Column(0)),
     }
 }
 
-/// The columns of a schema.
-#[tactic(auto, using(crate::proofs::Nestings::each_more, crate::proofs::Nestings::each_done))]
-fn column_blocks(alloc: Global, columns: &[Column]) -> Result<Vec<Vec<u8>>, WriteError>
-    ensures each { IfOk result (λ bs. HoldsEach NESTING_LIMIT (map (λ v. v.items) bs.items) (map column_tree columns.now) (columns_room (map column_tree columns.now))) }
-    ensures err { IfErr result (λ e. RefusesColumns NESTING_LIMIT e (map column_tree columns.now) (columns_room (map column_tree columns.now))) }
+/// The vector of the columns of a schema.
+#[tactic(auto, using(crate::proofs::Made::made_more, std::proofs::lemmas::List::drop_more, std::proofs::lemmas::List::map_push))]
+fn columns_block(alloc: Global, columns: &[Column]) -> Block
+    ensures { GivesColumns NESTING_LIMIT (map column_tree columns.now) result }
 {
     let mut blocks = Vec::new(alloc);
     'columns: for i in 0..columns.len() {
         match any_column(alloc, &columns[i]) {
-            Ok(block) => blocks.push(block)?,
-            Err(error) => return Err(refused(error, i)),
+            Err(WriteError::Column(_)) => return Err(WriteError::Column(i)),
+            block => blocks.push(block?)?,
         }
     }
-    Ok(blocks)
+    vector_block(alloc, blocks.as_slice())
 }
 
 /// The stream of a schema, given the blocks of its columns and of its metadata.
-#[tactic(auto, using(crate::proofs::Tables::length_message))]
+#[tactic(auto, using(crate::proofs::Tables::length_schema, crate::proofs::Tables::length_message))]
 fn stream_bytes(alloc: Global, columns: Vec<u8>, texts: Vec<u8>, order: Endianness) -> Block
-    ensures is { IfOk result (λ b. b.items ≡ stream_block (message_block (schema_block columns.items texts.items order))) }
-    ensures small { IfOk result (λ _. length (message_block (schema_block columns.items texts.items order)) < 2 ^ 31) }
-    ensures err { IfErr result (λ e. Refuses e ⊥ (length (message_block (schema_block columns.items texts.items order)))) }
+    ensures { Gives (Streams NESTING_LIMIT columns.items texts.items order) ⊥ (72 + length columns.items + length texts.items) result }
 {
     let numbers = [order as u8, 0, 0, 0];
     let schema = table_block(alloc, &[12, 4, 8], &numbers, &[columns, texts])?;
@@ -126,12 +113,12 @@ fn stream_bytes(alloc: Global, columns: Vec<u8>, texts: Vec<u8>, order: Endianne
 /// let again = read_schema(alloc, stream.as_slice());
 /// assert!(rt; matches!(again, Ok(schema) if schema.columns.len() == 1));
 /// ```
+#[tactic(auto, unfolding(crate::specs::Writes::Streams))]
 pub fn write_schema(alloc: Global, schema: &Schema) -> Result<Vec<u8>, WriteError>
     ensures is { IfOk result (λ b. IsStreamOf NESTING_LIMIT b.items (schema_tree schema.now)) }
     ensures err { IfErr result (λ e. RefusesColumns NESTING_LIMIT e (map column_tree schema.now.columns.items) (schema_room (schema_tree schema.now))) }
 {
-    let blocks = column_blocks(alloc, schema.columns.as_slice())?;
-    let columns = vector_block(alloc, blocks.as_slice())?;
+    let columns = columns_block(alloc, schema.columns.as_slice())?;
     let texts = texts_block(alloc, &schema.metadata)?;
     stream_bytes(alloc, columns, texts, schema.endianness)
 }

@@ -1,5 +1,12 @@
-use Rattle.arrow_ipc.proofs.Built.{entry_gives}
+use Rattle.std.proofs.Common.{◌∷◌, [], arith}
+use Rattle.arrow_ipc.proofs.Linked.{length_table}
+use Rattle.arrow_ipc.proofs.Tables.{entry_holds}
+use Rattle.arrow_ipc.proofs.Made.{gives}
 use Rattle.arrow_ipc.proofs.blocks.entry_block.Goals as goal
 
 pub returns : goal.returns
-returns c = entry_gives _ _ c.args.key.now c.args.text.now c.in_ok-first.ensures c.in_ok-second.ensures c.table_block.result c.table_block.ensures
+returns c =
+    let k = c.in_ok-first.ensures in
+    let t = c.in_ok-second.ensures in
+    let size = length_table (4 ∷ 8 ∷ []) [] (c.in_ok-first.first.items ∷ c.in_ok-second.second.items ∷ []) in
+    gives c.table_block.result _ _ _ _ c.table_block.ensures (λ small. entry_holds _ _ c.args.key.now c.args.text.now k.0 t.0 (omega (arith, small))) (omega (arith, size, k.1, t.1))

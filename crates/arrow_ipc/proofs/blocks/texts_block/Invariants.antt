@@ -2,7 +2,7 @@ use Rattle.std.proofs.Common.{map}
 use Rattle.arrow_values.specs.View.{texts_of}
 use Rattle.arrow_ipc.specs.Blocks.{Holds, entry_read}
 use Rattle.arrow_ipc.specs.Rooms.{texts_room}
-use Rattle.arrow_ipc.proofs.Vectors.{items}
+use Rattle.arrow_ipc.proofs.Linked.{items}
 use Rattle.arrow_ipc.proofs.Made.{Made}
 use Rattle.arrow_ipc.proofs.blocks.texts_block.Given as goal
 

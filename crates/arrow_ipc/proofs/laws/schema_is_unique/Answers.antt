@@ -2,8 +2,5 @@ use Rattle.arrow_ipc.specs.Schema.{message_in, footer_in, schema_of_message, sch
 use Rattle.arrow_ipc.proofs.Levels.{message_more, footer_more, denotes_one}
 use Rattle.arrow_ipc.proofs.laws.schema_is_unique.Goals as goal
 
-pub returns-clause-stream : goal.returns-clause-stream
-returns-clause-stream c = λ stream. denotes_one (message_in stream) schema_of_message message_more
-
-pub returns-clause-file : goal.returns-clause-file
-returns-clause-file c = λ file. denotes_one (footer_in file) schema_of_footer footer_more
+pub returns : goal.returns
+returns c = record { stream = λ stream. denotes_one schema_of_message message_more (message_in stream); file = λ file. denotes_one schema_of_footer footer_more (footer_in file) }

@@ -4,21 +4,18 @@ use Rattle.arrow_values.specs.View.{tree}
 use Rattle.arrow_ipc.specs.Blocks.{Holds, child_in}
 use Rattle.arrow_ipc.specs.Shapes.{column_of}
 use Rattle.arrow_ipc.specs.Rooms.{columns_room}
-use Rattle.arrow_ipc.proofs.Vectors.{items}
+use Rattle.arrow_ipc.proofs.Linked.{items}
 use Rattle.arrow_ipc.proofs.Made.{Made}
 use Rattle.arrow_ipc.proofs.Nestings.{lent, deepest}
 use Rattle.arrow_ipc.proofs.nesting.+write.Given as goal
 
 abbrev pub decreases-data_block : goal.decreases-data_block
-decreases-data_block l = 3 * depth (tree l.data_type.now) + 1
+decreases-data_block l = 2 * depth (tree l.data_type.now) + 1
 
-abbrev pub decreases-field_block : goal.decreases-field_block
-decreases-field_block l = 3 * depth l.field.now.tree + 2
-
-abbrev pub decreases-field_blocks : goal.decreases-field_blocks
-decreases-field_blocks l = 3 * deepest (lent l.fields.now)
+abbrev pub decreases-children_block : goal.decreases-children_block
+decreases-children_block l = 2 * deepest (lent l.fields.now)
 
 -- the blocks of the columns so far, before those that are left
-abbrev pub invariant-field_blocks-columns : goal.invariant-field_blocks-columns
-invariant-field_blocks-columns l =
+abbrev pub invariant-children_block-columns : goal.invariant-children_block-columns
+invariant-children_block-columns l =
     Made (Holds (child_in l.levels)) columns_room (map items l.blocks.items) (map (λ f. column_of f.now) (drop l.field-index l.fields)) (map (λ f. column_of f.now) l.fields)
