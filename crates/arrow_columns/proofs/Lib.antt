@@ -1,3 +1,4 @@
 mod Joined
 mod Steps
 mod Known
+mod Named

@@ -1,3 +1,4 @@
 pub mod Column
 pub mod Notation
 pub mod Nested
+pub mod Names

@@ -2,10 +2,12 @@
 #![tactic(auto)]
 
 mod column;
+mod names;
 mod nested;
 mod notation;
 
 pub use column::{Column, ColumnType};
+pub use names::ColumnNames;
 pub use nested::{ListForm, all_known, fields_of, list_type, only_column, parts_of, struct_type};
 pub use notation::{
     data_type_notation, member_notation, nested_notation, part_notation, plain_name,

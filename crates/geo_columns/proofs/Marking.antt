@@ -14,7 +14,7 @@ use Rattle.arrow_columns.specs.declared.column.Column.{Column}
 use Rattle.crs_text.specs.MemberText.{text_in}
 use Rattle.geoarrow_layout.specs.declared.names.ExtensionName.{ExtensionName}
 use Rattle.geoparquet.specs.Checks.{value_of}
-use Rattle.geoparquet.specs.Roots.{first_of}
+use Rattle.arrow_columns.specs.Names.{first_of}
 use Rattle.geoparquet.specs.Values.{at, text_of_value}
 use Rattle.geoparquet.specs.Encodings.{IsEncodedAs}
 use Rattle.serde_json.specs.Data.{Data}

@@ -8,7 +8,7 @@ use Rattle.arrow_columns.specs.Column.{ColumnTree, name_on}
 use Rattle.geoarrow_layout.specs.Kinds.{name_text}
 use Rattle.geoarrow_layout.specs.declared.names.ExtensionName.{ExtensionName}
 use Rattle.geoparquet.specs.Encodings.{IsEncodedAs}
-use Rattle.geoparquet.specs.Roots.{first_of}
+use Rattle.arrow_columns.specs.Names.{first_of}
 use Rattle.geoparquet.specs.Values.{at, text_of_value}
 use Rattle.geo_columns.specs.Extensions.{member_named, IsExtensionText, IsColumnText, IsTextOfMember}
 

@@ -1,5 +1,5 @@
 pub mod Answering
-pub mod Named
+pub mod Floats
 pub mod Sizes
 pub mod Naming
 pub mod Soundness

@@ -13,7 +13,7 @@ use Rattle.serde_json.specs.Find.{get, get_member, as_object}
 use Rattle.arrow_values.specs.Tree.{Text}
 use Rattle.arrow_columns.specs.Column.{ColumnTree}
 use Rattle.geoparquet.specs.Values.{text_of_value}
-use Rattle.geoparquet.specs.Roots.{is_one}
+use Rattle.arrow_columns.specs.Names.{is_one}
 use Rattle.geoparquet.specs.Checks.{Place, Holds, IsPrimary, AreColumns, are_names, places_in, places_of_columns, keys_in, columns_in, answer_of, AreAnswers}
 use Rattle.geoparquet.specs.Sound.{AllHold, NamesOne, AreSound, IsSound}
 use Rattle.geoparquet.specs.declared.finding.GeoFinding.{GeoFinding}

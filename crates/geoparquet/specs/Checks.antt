@@ -8,7 +8,7 @@ use Rattle.arrow_columns.specs.Column.{ColumnTree, metadata_on}
 use Rattle.geoarrow_meta.specs.Read.{at_key}
 use Rattle.geoparquet.specs.Values.{at, text_of_value, IsCrs, IsEdges, EdgesAgree, IsOrientation, IsEpoch}
 use Rattle.geoparquet.specs.Encodings.{IsEncoding}
-use Rattle.geoparquet.specs.Roots.{is_one, first_of}
+use Rattle.arrow_columns.specs.Names.{is_one, first_of}
 use Rattle.geoparquet.specs.Identifiers.{CrsAgree}
 use Rattle.geoparquet.specs.Coverings.{IsCovering}
 use Rattle.geoparquet.specs.GeometryTypes.{AreTypes}

@@ -6,7 +6,7 @@ use Rattle.arrow_values.specs.Tree.{Text, Tree, plain, float16, float32, float64
 use Rattle.arrow_values.specs.Tree.{FieldTrees, no_fields, field}
 use Rattle.arrow_columns.specs.Column.{TypeTree, known, ColumnTree}
 use Rattle.geoparquet.specs.Values.{at}
-use Rattle.geoparquet.specs.Roots.{first_of}
+use Rattle.arrow_columns.specs.Names.{first_of}
 
 -- whether the type is one of floats
 abbrev pub is_floating : Tree → Bool

@@ -1,5 +1,4 @@
 pub mod Values
-pub mod Roots
 pub mod Encodings
 pub mod GeometryTypes
 pub mod Boxes

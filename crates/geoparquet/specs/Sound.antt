@@ -5,7 +5,7 @@ use Rattle.serde_json.specs.Find.{get}
 use Rattle.arrow_values.specs.Tree.{Text}
 use Rattle.arrow_columns.specs.Column.{ColumnTree}
 use Rattle.geoparquet.specs.Values.{text_of_value}
-use Rattle.geoparquet.specs.Roots.{is_one}
+use Rattle.arrow_columns.specs.Names.{is_one}
 use Rattle.geoparquet.specs.Checks.{Holds, keys_in, columns_in}
 use Rattle.geoparquet.specs.declared.finding.GeoCheck.TheVariants.{Encoding, CrsAgrees, Edges}
 use Rattle.geoparquet.specs.declared.finding.GeoFinding.{GeoFinding}

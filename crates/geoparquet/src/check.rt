@@ -8,12 +8,12 @@ ghost use Rattle.geoparquet.specs.Checks.{checks_of_all, checks_of_column, Holds
 use crate::crs::crs_agree;
 use crate::encoding::{are_types, is_encoding};
 use crate::finding::{GeoCheck, GeoFinding};
-use crate::schema::{are_columns, first_named, is_covering, is_primary, own_metadata};
+use crate::schema::{are_columns, is_covering, is_primary, own_metadata};
 use crate::values::{
     columns_in, copied, is_bbox, is_crs, is_edges, is_epoch, is_orientation, member_at,
     member_of_column, present_at, text_in, value_of,
 };
-use arrow_columns::Column;
+use arrow_columns::{Column, ColumnNames};
 use serde_json::Value;
 use std::alloc::{AllocError, Global};
 
@@ -44,21 +44,22 @@ pub fn check_geo(
     ensures { IfOk result (λ findings. AreFindings geo.now (map column_tree columns.now) findings.items) }
 {
     let value = value_of(alloc, geo)?;
+    let names = ColumnNames::new(alloc, columns)?;
     let mut findings = Vec::new(alloc);
-    add_findings(alloc, &mut findings, None, &checks_of_all(&value, columns))?;
+    add_findings(alloc, &mut findings, None, &checks_of_all(&value, &names))?;
     let Some(members) = columns_in(&value) else {
         return Ok(findings);
     };
     for (key, _member) in members.iter() {
         let key = key.as_str();
-        let of_column = checks_of_column(alloc, &value, columns, key)?;
+        let of_column = checks_of_column(alloc, &value, &names, key)?;
         add_findings(alloc, &mut findings, Some(key), &of_column)?;
     }
     Ok(findings)
 }
 
 /// What holds of all the metadata.
-fn checks_of_all(value: &Value, columns: &[Column]) -> [(GeoCheck, bool); 4]
+fn checks_of_all(value: &Value, columns: &ColumnNames<'_>) -> [(GeoCheck, bool); 4]
     ensures { AreHeld (Holds (view value.now) (map column_tree columns.now) None) checks_of_all result }
 {
     [
@@ -74,12 +75,12 @@ fn checks_of_all(value: &Value, columns: &[Column]) -> [(GeoCheck, bool); 4]
 fn checks_of_column(
     alloc: Global,
     value: &Value,
-    columns: &[Column],
+    columns: &ColumnNames<'_>,
     key: &str,
 ) -> Result<[(GeoCheck, bool); 9], AllocError>
     ensures { IfOk result (AreHeld (Holds (view value.now) (map column_tree columns.now) (Some key.now)) checks_of_column) }
 {
-    let column = first_named(columns, key);
+    let column = columns.first(key);
     let own = own_metadata(alloc, column)?;
     let member = member_of_column(value, key);
     let crs = member_at(member, "crs");

@@ -16,5 +16,4 @@ pub use check::check_geo;
 pub use encoding::encoded_as;
 pub use equality_laws::geo_check_equality_is_exact;
 pub use finding::{GeoCheck, GeoFinding};
-pub use schema::first_named;
 pub use values::{member_of_column, text_in, value_of};

@@ -7,40 +7,23 @@ ghost use Rattle.arrow_values.specs.Texts.{text_of};
 ghost use Rattle.arrow_values.specs.View.{tree, field_trees};
 ghost use Rattle.geoparquet.specs.Coverings.{is_floating, has_floats, IsColumnWith, IsPathTo, IsPath, AreBounds, IsCovering};
 ghost use Rattle.geoparquet.specs.Values.{text_of_value};
-ghost use Rattle.geoparquet.specs.Roots.{is_one, first_of};
 ghost use Rattle.geoparquet.specs.Checks.{AreColumns, IsPrimary, own_metadata};
 
 use crate::values::{items_in, member_at, member_of_column, text_in, value_of};
-use arrow_columns::{Column, ColumnType};
+use arrow_columns::{Column, ColumnNames, ColumnType};
 use arrow_values::{DataType, Field, Fields};
 use serde_json::{Map, Value};
 use std::alloc::{AllocError, Global};
 
-/// Whether one column, and no other, has that name.
-#[tactic(auto, unfolding(crate::specs::Roots::is_one))]
-fn is_one(columns: &[Column], name: &str) -> bool
-    ensures { result ≡ is_one (map column_tree columns.now) name.now }
-{
-    let is_named = |column: &&Column| column.name.as_str() == name;
-    columns.iter().filter(is_named).count() == 1
-}
-
-/// The first of some columns that has that name, if one has it.
-pub fn first_named<'c>(columns: &'c [Column], name: &str) -> Option<&'c Column>
-    ensures { option_map (λ c. column_tree c.now) result ≡ first_of (map column_tree columns.now) name.now }
-{
-    columns.iter().find(|column| column.name.as_str() == name)
-}
-
 /// Whether `columns` is an object with a member at least, whose keys are each the name of one column.
-pub(crate) fn are_columns(members: Option<&Map<String, Value>>, columns: &[Column]) -> bool
+pub(crate) fn are_columns(members: Option<&Map<String, Value>>, columns: &ColumnNames<'_>) -> bool
     ensures { IsTrue result ↔ AreColumns (map column_tree columns.now) (option_map (λ m. members_view m.now.entries) members.entry) }
 {
     let Some(members) = members else {
         return false;
     };
     for (key, _member) in members.iter() {
-        if !is_one(columns, key.as_str()) {
+        if !columns.is_one(key.as_str()) {
             return false;
         }
     }
@@ -99,17 +82,17 @@ fn is_column_with(name: &str, column: Option<&Column>) -> bool
 }
 
 /// Whether there are two texts, the name of a column and that of floats in its group.
-fn is_path_to(columns: &[Column], column: Option<&str>, name: Option<&str>) -> bool
+fn is_path_to(columns: &ColumnNames<'_>, column: Option<&str>, name: Option<&str>) -> bool
     ensures { IsTrue result ↔ IsPathTo (map column_tree columns.now) (text_of column.entry) (text_of name.entry) }
 {
     match (column, name) {
-        (Some(column), Some(name)) => is_column_with(name, first_named(columns, column)),
+        (Some(column), Some(name)) => is_column_with(name, columns.first(column)),
         _ => false,
     }
 }
 
 /// Whether a value is a path to floats: an array of two such texts.
-fn is_path(columns: &[Column], found: Option<&Value>) -> bool
+fn is_path(columns: &ColumnNames<'_>, found: Option<&Value>) -> bool
     ensures { IsTrue result ↔ IsPath (map column_tree columns.now) (option_map (λ v. view v.now) found.entry) }
 {
     match items_in(found) {
@@ -119,7 +102,7 @@ fn is_path(columns: &[Column], found: Option<&Value>) -> bool
 }
 
 /// Whether `bbox` of a covering has a path for each bound.
-fn are_bounds(columns: &[Column], bounds: Option<&Value>) -> bool
+fn are_bounds(columns: &ColumnNames<'_>, bounds: Option<&Value>) -> bool
     ensures { IsTrue result ↔ AreBounds (map column_tree columns.now) (option_map (λ v. view v.now) bounds.entry) }
 {
     let least = member_at(bounds, "zmin");
@@ -133,8 +116,11 @@ fn are_bounds(columns: &[Column], bounds: Option<&Value>) -> bool
 }
 
 /// Whether `covering` is absent or has such a `bbox`.
-pub(crate) fn is_covering(columns: &[Column], found: Option<&Value>) -> bool
+pub(crate) fn is_covering(columns: &ColumnNames<'_>, found: Option<&Value>) -> bool
     ensures { IsTrue result ↔ IsCovering (map column_tree columns.now) (option_map (λ v. view v.now) found.entry) }
 {
-    found.is_none_or(|covering| are_bounds(columns, covering.get("bbox")))
+    match found {
+        Some(covering) => are_bounds(columns, covering.get("bbox")),
+        None => true,
+    }
 }

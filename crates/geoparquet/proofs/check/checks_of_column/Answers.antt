@@ -11,7 +11,7 @@ returns c =
     let d = view c.args.value.now in
     let cs = map column_tree c.args.columns.now in
     let held : List (GeoCheck × Bool) = (Encoding, c.is_encoding.result) ∷ (Types, c.are_types.result) ∷ (Crs, c.is_crs.result) ∷ (CrsAgrees, c.in_ok-is_own_crs.is_own_crs) ∷ (Edges, c.is_edges.result) ∷ (Orientation, c.is_orientation.result) ∷ (Bbox, c.is_bbox.result) ∷ (Epoch, c.is_epoch.result) ∷ (Covering, c.is_covering.result) ∷ [] in
-    let found : Entry = record { member = option_map (λ v. view v.now) c.member_of_column-member.result; column = option_map (λ t. column_tree t.now) c.first_named-column.result } in
+    let found : Entry = record { member = option_map (λ v. view v.now) c.member_of_column-member.result; column = option_map (λ t. column_tree t.now) c.first-column.result } in
     let of_found : AreHeld (HoldsOf d cs found) checks_of_column held = (refl, search rules, (refl, search rules, (refl, search rules, (refl, search rules, (refl, search rules, (refl, search rules, (refl, search rules, (refl, search rules, (refl, search rules, tt))))))))) in
-    let same = ap₂ (λ m t. record { member = m; column = t }) c.member_of_column-member.ensures c.first_named-column.ensures in
+    let same = ap₂ (λ m t. record { member = m; column = t }) c.member_of_column-member.ensures c.first-column.ensures in
     subst (λ (e : Entry). AreHeld (HoldsOf d cs e) checks_of_column held) same of_found

@@ -2,7 +2,7 @@ use Rattle.std.proofs.Common.{rules, tests, ◌&&◌, bytes_eq, ◌∙◌}
 use Rattle.std.proofs.lemmas.Iterator.{YieldsList-from_slice}
 use Rattle.std.proofs.lemmas.Iterator.Search.{any_from_yields_List}
 use Rattle.geoparquet.specs.Coverings.{is_floating}
-use Rattle.geoparquet.proofs.Named.{floats_any}
+use Rattle.geoparquet.proofs.Floats.{floats_any}
 use Rattle.geoparquet.proofs.schema.has_floats.Goals as goal
 
 pub returns : goal.returns
