@@ -1,3 +1,4 @@
+mod Inserted
 mod Told
 mod Levels
 mod Linked

@@ -22,7 +22,7 @@ use Rattle.arrow_ipc.specs.declared.fault.Fault.{Fault}
 use Rattle.arrow_ipc.specs.declared.write.WriteError.{WriteError}
 use Rattle.arrow_ipc.specs.declared.write.WriteError.TheVariants.{Column}
 use Rattle.arrow_ipc.proofs.Told.{bound}
-use Rattle.arrow_values.proofs.TextLaws.{texts_of_insert}
+use Rattle.arrow_ipc.proofs.Inserted.{texts_inserted}
 use Rattle.arrow_ipc.proofs.Tables.{column_by_table}
 use Rattle.arrow_ipc.proofs.Linked.{length_linked, AreLinked, AreWhole, whole_lengths, are_linked, is_vector}
 
@@ -149,7 +149,7 @@ put_last : (done : Texts) (k t : String Global) (left : Texts) → IsStrictlySor
     → put_text (string_bytes k) (string_bytes t) (texts_of done) ≡ texts_of (done ++ (k, t) ∷ [])
 put_last done k t left h =
     let sorted = subst (IsStrictlySortedBy string_cmp) (map-append (λ (e : String Global × String Global). e.0) done ((k, t) ∷ left)) h in
-    sym (texts_of_insert done k t) ∙ ap texts_of (insert_last string_cmp_total done k t (keys_of left) sorted)
+    sym (texts_inserted done k t) ∙ ap texts_of (insert_last string_cmp_total done k t (keys_of left) sorted)
 
 joined_texts : (done left : Texts) → IsStrictlySortedBy string_cmp (keys_of (done ++ left)) → joined put (texts_of done) (texts_of left) ≡ texts_of (done ++ left)
 joined_texts done [] h = ap texts_of (sym (append-nil done))

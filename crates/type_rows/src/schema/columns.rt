@@ -31,14 +31,20 @@ pub fn read(it: &mut Asked<'_>) -> Result<(), AllocError> {
     Ok(())
 }
 
+/// What is said of a type that is read, or of the refusal.
+fn said_of(alloc: Global, found: &GeoArrowResult<GeoArrowType>) -> Said {
+    let mut said = Said::new(alloc);
+    match found {
+        Ok(found) => say_type(&mut said, alloc, found),
+        Err(error) => say_error(&mut said, error),
+    }
+    said
+}
+
 /// Says the answers of `try_from_field` and `from_arrow_field`, with ` / ` before each; nothing where both are what is said.
 fn say_otherwise(said: &mut Said, alloc: Global, field: &Field) {
-    let mut second = Said::new(alloc);
-    let found = GeoArrowType::try_from_field(alloc, field).map(Some);
-    say_read(&mut second, alloc, &found);
-    let mut third = Said::new(alloc);
-    let found = GeoArrowType::from_arrow_field(alloc, field).map(Some);
-    say_read(&mut third, alloc, &found);
+    let second = said_of(alloc, &GeoArrowType::try_from_field(alloc, field));
+    let third = said_of(alloc, &GeoArrowType::from_arrow_field(alloc, field));
     if second.is_lacking || third.is_lacking {
         said.fail();
     } else if second.text != said.text || third.text != said.text {
