@@ -299,7 +299,7 @@ The checks of GeoParquet metadata behind the columns: those that do not hold, or
 Words that are answered at once
 
   $ geoarrow_check --version
-  geoarrow_check 1.0.0 (rattle-kit-13b)
+  geoarrow_check 1.0.0 (rattle-kit-13f)
 
   $ geoarrow_check --help | head -n 1
   usage: geoarrow_check [--json | --lines | --ipc] [--infer] [--all-checks] [--quiet] [--require-geometry] [--expect COLUMN=WANT].. FILE..

@@ -97,7 +97,7 @@ The script of the other program: its own words, what it builds, and what it runs
   > bin/geoarrow_check --json 'a b' c 2>&1 | sed 's/; what rt says.*//'
   > bin/geoarrow_check --json -
   usage: geoarrow_check [--json | --lines | --ipc] [--infer] [--all-checks] [--quiet] [--require-geometry] [--expect COLUMN=WANT].. FILE..
-  geoarrow_check 1.0.0 (rattle-kit-13b)
+  geoarrow_check 1.0.0 (rattle-kit-13f)
   geoarrow_check: proving and building the program
   geoarrow_check: proved geoarrow_check
   geoarrow_check: built

@@ -32,7 +32,7 @@ Status: 0 if no column is invalid, each check holds and all that is expected is 
 ";
 
 /// The version, as `--version` prints it.
-const VERSION: &str = "geoarrow_check 1.0.0 (rattle-kit-13b)\n";
+const VERSION: &str = "geoarrow_check 1.0.0 (rattle-kit-13f)\n";
 
 /// Reports a file on standard output; or says on standard error why it cannot be read. Returns the status.
 fn check(rt: &HostRuntime, file: &str, asked: &Asked) -> io::Result<u8> {
