@@ -101,6 +101,7 @@ fn print_other_type(notation: &str, out: &mut Writer) -> Result<(), AllocError>
 
 /// Writes a type.
 #[cycle(print)]
+#[inline(always)]
 fn print_type(data_type: &DataType, out: &mut Writer) -> Result<(), AllocError>
     ensures { OnOk result (Prints (type_value (tree data_type.now)) out.old out.new) }
 {

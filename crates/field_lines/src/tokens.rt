@@ -103,20 +103,24 @@ fn field_of(
     ensures ok { IfOk result (λ o. o ≡ field_from (option_map (λ n. n.now) name.entry) nullable (option_map tree data_type) (option_map (λ m. texts_of m.entries) metadata)) }
     ensures never_text { result ≡ Err Refusal.Text → ⊥ }
 {
-    match (name, nullable, data_type, metadata) {
-        (Some(name), Some(nullable), Some(data_type), Some(metadata)) => match layout_name(name) {
-            Some(name) => {
-                let mut field = Field::fixed(alloc, name, data_type, nullable);
-                field.set_metadata(metadata);
-                Ok(Some(field))
-            }
-            None => {
-                let name = String::from_str(alloc, name)?;
-                Ok(Some(Field::from_parts(name, data_type, nullable, metadata)))
-            }
-        },
-        _ => Ok(None),
-    }
+    let (Some(name), Some(nullable)) = (name, nullable) else {
+        return Ok(None);
+    };
+    let Some(data_type) = data_type else {
+        return Ok(None);
+    };
+    let Some(metadata) = metadata else {
+        return Ok(None);
+    };
+    let mut field = match layout_name(name) {
+        Some(name) => Field::fixed(alloc, name, data_type, nullable),
+        None => {
+            let name = String::from_str(alloc, name)?;
+            Field::from_parts(name, data_type, nullable, BTreeMap::new(alloc))
+        }
+    };
+    field.set_metadata(metadata);
+    Ok(Some(field))
 }
 
 /// The type that comes next.

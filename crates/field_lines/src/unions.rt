@@ -1,8 +1,7 @@
 //! The union of ids and fields.
-ghost use Rattle.std.specs.Prelude.{◌≡◌, IfOk, IsTrue, ◌↔◌};
+ghost use Rattle.std.specs.Prelude.{◌≡◌, IfOk};
 ghost use Rattle.std.specs.Option.{option_map};
 ghost use Rattle.std.specs.List.{zip};
-ghost use Rattle.arrow_values.specs.Errors.{IsMemory};
 ghost use Rattle.arrow_values.specs.View.{tree, member_trees};
 ghost use Rattle.field_lines.specs.FieldOfValue.{union_of};
 ghost use Rattle.field_lines.specs.Steps.{AreMemberParts};
@@ -23,18 +22,9 @@ pub(crate) fn make_union(
 {
     match UnionFields::try_new(alloc, ids, fields) {
         Ok(members) => Ok(Some(DataType::Union(members, mode))),
-        Err(error) => {
-            if is_memory(&error) {
-                return Err(AllocError);
-            }
-            Ok(None)
-        }
+        Err(error) => match error {
+            ArrowError::OutOfMemory => Err(AllocError),
+            _ => Ok(None),
+        },
     }
-}
-
-/// Whether an error is out-of-memory.
-fn is_memory(error: &ArrowError) -> bool
-    ensures { IsTrue result ↔ IsMemory error.now }
-{
-    matches!(error, ArrowError::OutOfMemory)
 }

@@ -13,7 +13,7 @@ use std::alloc::Global;
 
 /// Takes a value, and returns the text that it is, as the reader lends it. Allocates nothing.
 #[tactic(auto, using(crate::proofs::Firsts::first_tokens))]
-#[inline]
+#[inline(always)]
 pub fn read_str<'a>(reader: &mut Reader<'a>, depth: usize) -> Result<Option<&'a str>, Refusal>
     ensures ok { IfOk result (λ o. ReadsValue as_str depth reader.old (option_map (λ s. s.now) o) reader.new) }
     ensures shorter { OnOk result (length reader.new < length reader.old) }
@@ -49,7 +49,7 @@ pub fn read_text(
 
 /// Takes a value, and returns the truth value that it is. Allocates nothing.
 #[tactic(auto, using(crate::proofs::Firsts::first_tokens))]
-#[inline]
+#[inline(always)]
 pub fn read_bool(reader: &mut Reader<'_>, depth: usize) -> Result<Option<bool>, Refusal>
     ensures ok { IfOk result (λ o. ReadsValue as_bool depth reader.old o reader.new) }
     ensures shorter { OnOk result (length reader.new < length reader.old) }
@@ -68,7 +68,7 @@ pub fn read_bool(reader: &mut Reader<'_>, depth: usize) -> Result<Option<bool>, 
 
 /// Takes a value, and returns the number that it is. Allocates nothing.
 #[tactic(auto, using(crate::proofs::Firsts::first_tokens))]
-#[inline]
+#[inline(always)]
 pub fn read_number(reader: &mut Reader<'_>, depth: usize) -> Result<Option<Number>, Refusal>
     ensures ok { IfOk result (λ o. ReadsValue as_number depth reader.old (option_map number_view o) reader.new) }
     ensures shorter { OnOk result (length reader.new < length reader.old) }
