@@ -1,6 +1,5 @@
 //! Why a data type is refused by a reader.
-ghost use Rattle.std.specs.Prelude.{◌≡◌, ◌⊎◌, IfOk};
-ghost use Rattle.arrow_values.specs.Errors.{IsMemory};
+ghost use Rattle.geoarrow_layout.specs.Cited.{◌≡◌, ◌⊎◌, IfOk, IsMemory};
 
 use arrow_values::{ArrowError, GeoArrowError};
 use std::alloc::{AllocError, Global};
@@ -11,7 +10,7 @@ use std::alloc::{AllocError, Global};
 pub enum LayoutFault {
     /// The data type, or one inside it, is of another sort.
     UnexpectedType,
-    /// The inner field of a fixed size list is not named `xy`, `xyz`, `xym` or `xyzm`.
+    /// The name of the inner field of a fixed size list is that of no dimension.
     BadInterleavedName,
     /// The size of a fixed size list does not match the dimension that its inner field names.
     BadSize,
@@ -34,7 +33,7 @@ pub enum LayoutFault {
 }
 
 impl LayoutFault {
-    ghost use Rattle.geoarrow_layout.specs.Faults.{fault_text, IsErrorOfFault};
+    ghost use Rattle.geoarrow_layout.specs.Cited.{fault_text, IsErrorOfFault};
 
     /// The fault as an error of Arrow: `BadSize` is an `InvalidGeoArrow` in an `ExternalError`, as in the Rust crate,
     /// and every other a `SchemaError`; or `OutOfMemory` where there is no memory for its text or its box.

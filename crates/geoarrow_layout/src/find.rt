@@ -1,18 +1,16 @@
 //! Where the fault of a data type is.
-ghost use Rattle.std.specs.Prelude.{◌≡◌, None, Some, IfOk, OnOk, MatchOption};
-ghost use Rattle.arrow_values.specs.View.{tree, field_trees, member_trees};
-ghost use Rattle.geoarrow_layout.specs.Kinds.{name_text};
-ghost use Rattle.geoarrow_layout.specs.Candidates.{IsAccepted};
-ghost use Rattle.geoarrow_layout.specs.FaultAt.{Path, CoordinateFault, LevelsFault, OverLeafFault, MixedFault, NativeFault, GeometryFault, FaultAt, child_at, field_at, member_at};
-ghost use Rattle.geoarrow_layout.specs.Summary.{LeadsTo, FirstOrNone, StaysHere, MemberIn, MemberFaultIn, NativeFaultIn};
+ghost use Rattle.geoarrow_layout.specs.Cited.{◌≡◌, None, Some, IfOk, OnOk, MatchOption, tree, field_trees, member_trees, name_text, IsAccepted, Path, CoordinateFault, LevelsFault, OverLeafFault, MixedFault, NativeFault, GeometryFault, FaultAt, child_at, field_at, member_at, LeadsTo, FirstOrNone, StaysHere, MemberIn, MemberFaultIn, NativeFaultIn};
 
-use crate::encodings::{NativeKind, levels, parts_of_id};
+use crate::encodings::{NativeKind, list_names, parts_of_id};
 use crate::fault::LayoutFault;
 use crate::names::ExtensionName;
 use crate::read::{member, native, parse_kind};
 use crate::summary::{ListWidth, list_item, member_summary};
 use arrow_values::{DataType, Field};
 use std::alloc::{AllocError, Global};
+
+/// What it answers to add to a path: an error only where there is no memory.
+type Added = Result<(), AllocError>;
 
 /// Why a data type has no kind under an extension name, and where (GeoArrow, "Native encoding"): the fault that
 /// `parse_kind` errs with, and the way from the data type to the one inside it that is at fault, as the place of a
@@ -61,11 +59,7 @@ pub fn child_field(data_type: &DataType, place: usize) -> Option<&Field>
 }
 
 /// Adds the path to the fault, if there is one.
-fn push_path(
-    path: &mut Vec<usize>,
-    name: ExtensionName,
-    data_type: &DataType,
-) -> Result<(), AllocError>
+fn push_path(path: &mut Vec<usize>, name: ExtensionName, data_type: &DataType) -> Added
     ensures { OnOk result (LeadsTo (FaultAt name (tree data_type.now)) path.old.items path.new.items) }
 {
     match name {
@@ -77,11 +71,7 @@ fn push_path(
 
 /// Adds the path to the fault as one of a native kind.
 #[tactic(auto, using(crate::proofs::FaultPaths::native_leads))]
-fn push_native(
-    path: &mut Vec<usize>,
-    kind: NativeKind,
-    data_type: &DataType,
-) -> Result<(), AllocError>
+fn push_native(path: &mut Vec<usize>, kind: NativeKind, data_type: &DataType) -> Added
     ensures { OnOk result (LeadsTo (NativeFault kind (tree data_type.now)) path.old.items path.new.items) }
 {
     match kind {
@@ -91,16 +81,12 @@ fn push_native(
 }
 
 /// Adds the path to the fault as the lists of a kind over a coordinate; a collection is not allowed.
-fn push_over_leaf(
-    path: &mut Vec<usize>,
-    kind: NativeKind,
-    data_type: &DataType,
-) -> Result<(), AllocError>
+fn push_over_leaf(path: &mut Vec<usize>, kind: NativeKind, data_type: &DataType) -> Added
     ensures { OnOk result (LeadsTo (OverLeafFault kind (tree data_type.now)) path.old.items path.new.items) }
 {
     match kind {
         NativeKind::GeometryCollection => Ok(()),
-        _ => push_levels(path, None, levels(kind), data_type),
+        _ => push_levels(path, None, list_names(kind).len() as u8, data_type),
     }
 }
 
@@ -110,7 +96,7 @@ fn push_levels(
     width: Option<ListWidth>,
     levels: u8,
     data_type: &DataType,
-) -> Result<(), AllocError>
+) -> Added
     ensures { OnOk result (LeadsTo (LevelsFault CoordinateFault width levels (tree data_type.now)) path.old.items path.new.items) }
 {
     if levels == 0 {
@@ -126,7 +112,7 @@ fn push_levels(
 }
 
 /// Adds the path to the fault as a collection.
-fn push_collection(path: &mut Vec<usize>, data_type: &DataType) -> Result<(), AllocError>
+fn push_collection(path: &mut Vec<usize>, data_type: &DataType) -> Added
     ensures { OnOk result (LeadsTo (LevelsFault MixedFault None 1 (tree data_type.now)) path.old.items path.new.items) }
 {
     match data_type {
@@ -139,7 +125,7 @@ fn push_collection(path: &mut Vec<usize>, data_type: &DataType) -> Result<(), Al
 }
 
 /// Adds the path to the fault as the union in a collection.
-fn push_mixed(path: &mut Vec<usize>, data_type: &DataType) -> Result<(), AllocError>
+fn push_mixed(path: &mut Vec<usize>, data_type: &DataType) -> Added
     ensures { OnOk result (LeadsTo (MixedFault (tree data_type.now)) path.old.items path.new.items) }
 {
     let DataType::Union(members, _) = data_type else {
@@ -152,7 +138,7 @@ fn push_mixed(path: &mut Vec<usize>, data_type: &DataType) -> Result<(), AllocEr
 }
 
 /// Adds the path to the fault as geometries of any kind.
-fn push_geometry(path: &mut Vec<usize>, data_type: &DataType) -> Result<(), AllocError>
+fn push_geometry(path: &mut Vec<usize>, data_type: &DataType) -> Added
     ensures { OnOk result (LeadsTo (GeometryFault (tree data_type.now)) path.old.items path.new.items) }
 {
     let DataType::Union(members, _) = data_type else {

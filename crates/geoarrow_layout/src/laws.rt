@@ -1,20 +1,5 @@
 //! Laws of the layouts, for the crates above: functions with nothing to run, whose contract is the law, and laws of `==`.
-ghost use Rattle.std.specs.Prelude.{◌≡◌, ◌↔◌, Contains, ◌≢◌, ◌<◌, ◌⊎◌, ◌++◌, true, ℕ, ℤ, List, length, get_or, IsTrue};
-ghost use Rattle.arrow_values.specs.Tree.{Text, Tree, FieldTree, Members};
-ghost use Rattle.arrow_values.specs.View.{member_trees, tree};
-ghost use Rattle.arrow_values.specs.Union.{HasTypeIds, has, retained};
-ghost use Rattle.arrow_values.specs.Coordinates.{dimensions_size};
-ghost use Rattle.geoarrow_layout.specs.Kinds.{size_of, dimensions_of, IsDimension, name_text, name_of};
-ghost use Rattle.geoarrow_layout.specs.declared.names.ExtensionName.{ExtensionName};
-ghost use Rattle.geoarrow_layout.specs.Shapes.{Leaf, AllMembers, Accepts, IsStructured};
-ghost use Rattle.geoarrow_layout.specs.Summary.{Summarizes};
-ghost use Rattle.geoarrow_layout.specs.Inferred.{Inferred};
-ghost use Rattle.geoarrow_layout.specs.Layouts.{leaf_layout, layout, mixed_members, geometry_members, IsWritten, IsWrittenSome};
-ghost use Rattle.geoarrow_layout.specs.Alike.{Alike};
-ghost use Rattle.geoarrow_layout.specs.Candidates.{IsAccepted, Share, SameCandidates};
-ghost use Rattle.geoarrow_layout.specs.FaultAt.{Path, FaultAt};
-ghost use Rattle.geoarrow_layout.specs.declared.fault.LayoutFault.{LayoutFault};
-ghost use Rattle.geoarrow_layout.specs.Changes.{AlikeUnions};
+ghost use Rattle.geoarrow_layout.specs.Cited.{◌≡◌, ◌↔◌, Contains, ◌≢◌, ◌<◌, ◌⊎◌, ◌++◌, true, ℕ, ℤ, List, length, get_or, IsTrue, Text, Tree, FieldTree, Members, member_trees, tree, HasTypeIds, has, retained, dimensions_size, size_of, dimensions_of, IsDimension, name_text, name_of, ExtensionName, Leaf, AllMembers, Accepts, IsStructured, Summarizes, Inferred, leaf_layout, layout, mixed_members, geometry_members, IsWritten, IsWrittenSome, Alike, IsAccepted, Share, SameCandidates, Path, FaultAt, LayoutFault, AlikeUnions};
 
 use crate::encodings::{Kind, NativeKind, Width};
 use crate::fault::LayoutFault;

@@ -1,13 +1,5 @@
 //! Data types that no reader distinguishes, and unions that lose or gain members.
-ghost use Rattle.std.specs.Prelude.{◌≡◌, ◌↔◌, IsTrue, ◌≢◌, ◌++◌, [], None, IsOk, IfErr, OnOk, OnErr};
-ghost use Rattle.std.specs.List.{list_all};
-ghost use Rattle.arrow_values.specs.View.{tree, field_trees, member_trees};
-ghost use Rattle.geoarrow_layout.specs.Shapes.{names_of, has_name, SameNames, AllMembers, SomeMember};
-ghost use Rattle.geoarrow_layout.specs.Alike.{Alike, AlikeNames, EachHasAlike, HasAlike};
-ghost use Rattle.arrow_values.specs.Tree.{Members};
-ghost use Rattle.arrow_values.specs.Union.{HasTypeIds, retained, shared_id};
-ghost use Rattle.arrow_values.specs.Errors.{fault_id};
-ghost use Rattle.geoarrow_layout.specs.Changes.{GeometryUnion, MixedUnion, AlikeUnions, EachOf, AreJust};
+ghost use Rattle.geoarrow_layout.specs.Cited.{◌≡◌, ◌↔◌, IsTrue, ◌≢◌, ◌++◌, [], None, IsOk, IfErr, OnOk, OnErr, list_all, tree, field_trees, member_trees, names_of, has_name, SameNames, AllMembers, SomeMember, Alike, AlikeNames, EachHasAlike, HasAlike, Members, HasTypeIds, retained, shared_id, fault_id, GeometryUnion, MixedUnion, AlikeUnions, EachOf, AreJust};
 
 use crate::kinds::{CoordType, Dimension};
 use arrow_values::{AppendFault, DataType, Field, UnionFields};

@@ -2,27 +2,18 @@
 //! geometries and boxes use only the summary of the data type, so they ignore the nullability, the metadata and the data
 //! types of coordinate fields, the names of list items and members, and the mode of a union and the order of its members.
 //! None of them allocates.
-ghost use Rattle.std.specs.Prelude.{false, IfErr, IfOk, ◌≡◌, IfSome, ◌↔◌, IsTrue, Some, ◌≢◌, ◌∷◌, [], true, ◌≤◌, ◌<◌, Ok, ℕ, List, Option, None, length, ◌&&◌, MatchResult};
-ghost use Rattle.arrow_values.specs.View.{tree, field_trees};
-ghost use Rattle.geoarrow_layout.specs.Shapes.{Yields, YieldsOne, Leaf, Under, Native, Mixed, Collection, Geometry, BoxShape, IsBytes, IsText, Accepts, YieldsKind, IsStructured, IsSeparatedAs, IsBoxAs, names_of};
-ghost use Rattle.geoarrow_layout.specs.Kinds.{name_text, extension_of, name_of};
-ghost use Rattle.geoarrow_layout.specs.FaultAt.{HasFault, BoxFault, MixedFault, NativeFault, GeometryFault, FaultAt, SeparatedFault, CoordinateFault, BoxNamesFault, LevelsFault};
-ghost use Rattle.arrow_values.specs.Tree.{Tree, Text, struct};
-ghost use Rattle.geoarrow_layout.specs.Summary.{AreOf, IsCoordFault, Summarizes, IsBits, SomeAt, IsBottom, IsUnion, Tells, IsNoLeaf, ShowsIn, NativeIn, NativeFaultIn, MemberIn, MemberFaultIn, TellsBoth, IsLevelFault, MixedSays, has_bit};
-ghost use Rattle.geoarrow_layout.specs.Candidates.{Holds, IsAccepted};
-ghost use Rattle.geoarrow_layout.specs.Inferred.{YieldsSome, Inferred, IsInferredAs, IsInferredSize, is_float64, are_float64};
-ghost use Rattle.geoarrow_layout.specs.declared.summary.ListWidth.{ListWidth};
+ghost use Rattle.geoarrow_layout.specs.Cited.{false, IfErr, IfOk, ◌≡◌, IfSome, ◌↔◌, IsTrue, Some, ◌≢◌, ◌∷◌, [], true, ◌≤◌, ◌<◌, Ok, ℕ, List, Option, None, length, ◌&&◌, MatchResult, tree, field_trees, Yields, YieldsOne, Leaf, Under, Native, Mixed, Collection, Geometry, BoxShape, IsBytes, IsText, Accepts, YieldsKind, IsStructured, IsSeparatedAs, IsBoxAs, names_of, name_text, extension_of, name_of, HasFault, BoxFault, MixedFault, NativeFault, GeometryFault, FaultAt, SeparatedFault, CoordinateFault, BoxNamesFault, LevelsFault, Tree, Text, struct, AreOf, IsCoordFault, Summarizes, IsBits, SomeAt, IsBottom, IsUnion, Tells, IsNoLeaf, ShowsIn, NativeIn, NativeFaultIn, MemberIn, MemberFaultIn, TellsBoth, IsLevelFault, MixedSays, has_bit, Holds, IsAccepted, YieldsSome, Inferred, IsInferredAs, IsInferredSize, is_float64, are_float64, ListWidth};
 ghost use Rattle.geoarrow_layout.specs.declared.names.ExtensionName.TheVariants as names;
 
-use crate::encodings::{Kind, NativeKind, Width, levels, parts_of_id};
+use crate::encodings::{Kind, NativeKind, Width, list_names, parts_of_id};
 use crate::fault::LayoutFault;
-use crate::kinds::{CoordType, Dimension, list_size, only_dimension};
+use crate::kinds::{CoordType, Coordinate, Dimension, list_size, only_dimension};
 use crate::names::{Candidates, ExtensionName};
 use crate::summary::{Bottom, Summary, has_bit, is_float64, struct_bottom, summarize};
 use arrow_values::{DataType, Field};
 
 /// What a reader of coordinates returns.
-pub(crate) type Answer = Result<(CoordType, Dimension), LayoutFault>;
+pub(crate) type Answer = Result<Coordinate, LayoutFault>;
 
 /// Reads a point (GeoArrow, "Coordinate", "Point"): a fixed size list whose inner field's name gives the dimension and
 /// whose size matches it, or a struct of two fields, of four, or of three named x, y and z or x, y and m in
@@ -460,7 +451,7 @@ pub(crate) fn native(collections: bool, kind: NativeKind, summary: &Summary) -> 
     match kind {
         NativeKind::GeometryCollection if collections => mixed_bottom(bottom_below(summary, 1)?),
         NativeKind::GeometryCollection => Err(LayoutFault::BadTypeId),
-        _ => leaf(bottom_below(summary, levels(kind))?),
+        _ => leaf(bottom_below(summary, list_names(kind).len() as u8)?),
     }
 }
 

@@ -1,12 +1,5 @@
 //! What one walk over a data type finds.
-ghost use Rattle.std.specs.Prelude.{true, false, ◌≡◌, ◌≢◌, ◌<◌, ◌≤◌, ◌↔◌, ◌∷◌, [], IsTrue, Some, MatchOption, ⊤, pos, None};
-ghost use Rattle.arrow_values.specs.View.{tree, field_trees, member_trees};
-ghost use Rattle.arrow_values.specs.Tree.{Tree, plain, float64};
-ghost use Rattle.geoarrow_layout.specs.Kinds.{interleaved_name, order_of};
-ghost use Rattle.geoarrow_layout.specs.Shapes.{ListsOver, Member, GeometryMember};
-ghost use Rattle.geoarrow_layout.specs.Summary.{place_in, known_names, IsStruct, IsBottom, AreLevels, place_of, IsInnerUnion, IsRootUnion, Summarizes, IsNoLeaf, Ended, IsWidth, ShowsIn, AddsBits, ReadAt, first_fault, TellsBoth, has_bit};
-ghost use Rattle.geoarrow_layout.specs.Inferred.{is_float64};
-ghost use Rattle.geoarrow_layout.specs.FaultAt.{MemberFault, GeometryMemberFault};
+ghost use Rattle.geoarrow_layout.specs.Cited.{true, false, ◌≡◌, ◌≢◌, ◌<◌, ◌≤◌, ◌↔◌, ◌∷◌, [], IsTrue, Some, MatchOption, ⊤, pos, None, tree, field_trees, member_trees, Tree, plain, float64, interleaved_name, order_of, ListsOver, Member, GeometryMember, place_in, known_names, IsStruct, IsBottom, AreLevels, place_of, IsInnerUnion, IsRootUnion, Summarizes, IsNoLeaf, Ended, IsWidth, ShowsIn, AddsBits, ReadAt, first_fault, TellsBoth, has_bit, is_float64, MemberFault, GeometryMemberFault};
 
 use crate::encodings::{NativeKind, parts_of_id};
 use crate::fault::LayoutFault;

@@ -6,4 +6,4 @@ pub returns-in-Union-default-Dense : goal.returns-in-Union-default-Dense
 returns-in-Union-default-Dense c =
     let u = c.in-Union-default-Dense in
     let dense : u.field-1 ≡ Dense = search rules in
-    union_same _ _ (mixed_members c.args.coord_type c.args.dimension) _ _ _ (ap tree u.is) dense (rw (← c.as_slice.ensures) c.are_members_over.ensures)
+    union_same _ _ (mixed_members c.args.leaf.0 c.args.leaf.1) _ _ _ (ap tree u.is) dense (rw (← c.as_slice.ensures) c.are_members_over.ensures)
