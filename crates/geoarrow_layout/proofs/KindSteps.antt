@@ -1,5 +1,5 @@
 -- The kind of a name and a tree: there is one at most, and it is what a reader's answer says.
-use Rattle.geoarrow_layout.proofs.Terms.{◌≡◌, ◌⊎◌, inl, inr, Bool, true≢false, IsTrue, is_ok, cond, refl, sym, ap, subst, ◌∙◌, ◌↔◌, IfErr, Option, Some, None, Result, Ok, Err, bytes_eq, same_Some, Text, Tree, Point, LineString, Polygon, MultiPoint, MultiLineString, MultiPolygon, GeometryCollection, Width, Plain, Large, View, Kind, OfNative, OfGeometry, OfRect, OfWkb, OfWkt, ExtensionName, name_text, extension_of, Native, IsBytes, IsText, Accepted, Accepts, IsStructured, YieldsOne, any_native_same, geometry_same, box_shape_same, LayoutFault, Summary, Summarizes, IsAccepted, Path, HasFault, FaultAt, Tells, YieldsKind, NativeKind, CoordType, Dimension, Mixed, Geometry, BoxShape, NativeFault, MixedFault, GeometryFault, BoxFault, TellsBoth, Yields, coords_in, native_first, mixed_first}
+use Rattle.geoarrow_layout.proofs.Terms.{◌≡◌, ◌≢◌, ◌⊎◌, inl, inr, IfOk, IfSome, name_of, result_ok, Bool, true≢false, IsTrue, is_ok, cond, refl, sym, ap, subst, ◌∙◌, ◌↔◌, IfErr, Option, Some, None, Result, Ok, Err, bytes_eq, same_Some, Text, Tree, Point, LineString, Polygon, MultiPoint, MultiLineString, MultiPolygon, GeometryCollection, Width, Plain, Large, View, Kind, OfNative, OfGeometry, OfRect, OfWkb, OfWkt, ExtensionName, name_text, extension_of, Native, IsBytes, IsText, Accepted, Accepts, IsStructured, YieldsOne, any_native_same, geometry_same, box_shape_same, LayoutFault, Summary, Summarizes, IsAccepted, Path, HasFault, FaultAt, Tells, YieldsKind, NativeKind, CoordType, Dimension, Mixed, Geometry, BoxShape, NativeFault, MixedFault, GeometryFault, BoxFault, TellsBoth, Yields, coords_in, native_first, mixed_first}
 use Rattle.geoarrow_layout.specs.declared.names.ExtensionName.TheVariants as names
 use Rattle.geoarrow_layout.proofs.FaultLaws.{accepted_apart, native_apart, mixed_none, geometry_apart, box_apart}
 use Rattle.geoarrow_layout.proofs.Readings.{Answer, exactly, exactly_one, told_fault}
@@ -70,18 +70,27 @@ box_told t r = told_fault r (BoxShape t) (BoxFault t)
 pub box_exact : (t : Tree) (r : Result Dimension LayoutFault) → Tells r (BoxShape t) (BoxFault t) → YieldsOne r (BoxShape t)
 box_exact t r = exactly_one r (BoxShape t) (BoxFault t) (box_shape_same t) (box_apart t)
 
-pub answer_none : (x : Text) (n : ExtensionName) (t : Tree) (f : LayoutFault) → x ≡ name_text n → HasFault (FaultAt n t) f → YieldsKind x t None
-answer_none x n t f named fault l = (λ e. cc, λ h. absurd (no_fault_if_accepted n t l fault.0 f (sym named ∙ h.0.0, h.0.1) fault.1))
-
 -- well-known binary and text have no structure
-not_plain : (k : Kind) → IsStructured k → (extension_of k ≡ names.Wkb) ⊎ (extension_of k ≡ names.Wkt) → ⊥
-not_plain (OfWkb w) s plain = s
-not_plain (OfWkt w) s plain = s
-not_plain k s (inl e) = cc
-not_plain k s (inr e) = cc
+not_plain : (n : ExtensionName) (k : Kind) → IsStructured k → extension_of k ≡ n → (n ≢ names.Wkb) × (n ≢ names.Wkt)
+not_plain n (OfWkb w) s e = absurd s
+not_plain n (OfWkt w) s e = absurd s
+not_plain n k s e = (λ f. cc, λ f. cc)
 
-pub answer_plain : (x : Text) (n : ExtensionName) (t : Tree) → x ≡ name_text n → (n ≡ names.Wkb) ⊎ (n ≡ names.Wkt) → YieldsKind x t None
-answer_plain x n t named plain l = (λ e. cc, λ h. absurd (not_plain l h.1 (subst (λ m. (m ≡ names.Wkb) ⊎ (m ≡ names.Wkt)) (one_name n (extension_of l) (sym named ∙ h.0.0)) plain)))
+-- the kind that a summary says, if it is one
+pub kind_answer : (x : Text) (n : ExtensionName) (t : Tree) (r : Result Kind LayoutFault) → x ≡ name_text n → IfOk r (λ k. (extension_of k ≡ n) × IsStructured k)
+    → ((n ≢ names.Wkb) × (n ≢ names.Wkt) → Tells r (Accepts (name_text n) t) (FaultAt n t)) → YieldsKind x t (result_ok r)
+kind_answer x n t (Ok k) is of told = let h = told (not_plain n k of.1 of.0) in kind_some x t k of.1 (is ∙ h.0, h.1)
+kind_answer x n t (Err f) is of told = λ l. (
+  λ e. cc,
+  λ h.
+      let same : n ≡ extension_of l = one_name n (extension_of l) (sym is ∙ h.0.0) in
+      let fault = told (not_plain n l h.1 (sym same)) in
+      absurd (no_fault_if_accepted n t l fault.0 f (sym is ∙ h.0.0, h.0.1) fault.1),
+)
+
+pub kind_named : (x : Text) (n : ExtensionName) (r : Result Kind LayoutFault) → x ≡ name_text n → IfOk r (λ k. (extension_of k ≡ n) × IsStructured k) → IfSome (result_ok r) (λ k. (x ≡ name_of k) × IsStructured k)
+kind_named x n (Ok k) is of = (is ∙ ap name_text (sym of.0), of.1)
+kind_named x n (Err f) is of = tt
 
 -- whether there is a kind
 pub accepted_ok : (n : Text) (t : Tree) (r : Result Kind LayoutFault) (b : Bool) → b ≡ is_ok r → YieldsOne r (Accepts n t) → IsTrue b ↔ IsAccepted n t

@@ -9,7 +9,7 @@ use arrow_values::FixedName;
 
 /// A kind in each coordinate type and dimension, for each of these native kinds, and then the other kinds.
 macro_rules! all_kinds {
-    ($($kind:ident),*) => {
+    ($($kind:ident)*) => {
         [
             $(
                 Kind::Native(NativeKind::$kind, Interleaved, XY),
@@ -145,15 +145,9 @@ impl Kind {
     }
 
     /// All 68 kinds, each once.
-    pub const ALL: [Kind; 68] = all_kinds!(
-        Point,
-        LineString,
-        Polygon,
-        MultiPoint,
-        MultiLineString,
-        MultiPolygon,
-        GeometryCollection
-    );
+    pub const ALL: [Kind; 68] = all_kinds! {
+        Point LineString Polygon MultiPoint MultiLineString MultiPolygon GeometryCollection
+    };
 }
 
 /// The native kind whose type id in two dimensions that is.

@@ -101,9 +101,8 @@ impl Dimension {
         *self as u8
     }
 
-    /// The dimension with the name of those dimensions; for 2, 3 and 4 dimensions with no known meaning it is XY, XYZ
-    /// and XYZM. Errs with `InvalidGeoArrow` for any other number of dimensions with no known meaning; allocates nothing
-    /// otherwise.
+    /// The dimension with the name of those dimensions; for 2, 3 and 4 of no known meaning it is XY, XYZ and XYZM. Errs
+    /// with `InvalidGeoArrow` for any other number of no known meaning; allocates nothing otherwise.
     ///
     /// ```rust
     /// let dimension = Dimension::try_from_dimensions(alloc, Dimensions::Unknown(3))?;

@@ -32,8 +32,7 @@ pub fn parse_point(data_type: &DataType) -> Result<(CoordType, Dimension), Layou
     parse_native(NativeKind::Point, data_type)
 }
 
-/// Reads a line string (GeoArrow, "LineString"): one list over a coordinate, of either width. Errs on any other data
-/// type. Allocates nothing.
+/// Reads a line string (GeoArrow, "LineString"), as `parse_native` does: one list over a coordinate, of either width.
 pub fn parse_linestring(data_type: &DataType) -> Result<(CoordType, Dimension), LayoutFault>
     ensures exact { Yields result (Native (tree data_type.now) NativeKind.LineString) }
     ensures fault { IfErr result (HasFault (NativeFault NativeKind.LineString (tree data_type.now))) }
@@ -41,8 +40,7 @@ pub fn parse_linestring(data_type: &DataType) -> Result<(CoordType, Dimension), 
     parse_native(NativeKind::LineString, data_type)
 }
 
-/// Reads a polygon (GeoArrow, "Polygon"): two lists over a coordinate, both of one width. Errs on any other data type.
-/// Allocates nothing.
+/// Reads a polygon (GeoArrow, "Polygon"), as `parse_native` does: two lists over a coordinate, both of one width.
 pub fn parse_polygon(data_type: &DataType) -> Result<(CoordType, Dimension), LayoutFault>
     ensures exact { Yields result (Native (tree data_type.now) NativeKind.Polygon) }
     ensures fault { IfErr result (HasFault (NativeFault NativeKind.Polygon (tree data_type.now))) }
@@ -50,8 +48,7 @@ pub fn parse_polygon(data_type: &DataType) -> Result<(CoordType, Dimension), Lay
     parse_native(NativeKind::Polygon, data_type)
 }
 
-/// Reads a multipoint (GeoArrow, "MultiPoint"): one list over a coordinate, of either width. Errs on any other data
-/// type. Allocates nothing.
+/// Reads a multipoint (GeoArrow, "MultiPoint"), as `parse_native` does: one list over a coordinate, of either width.
 pub fn parse_multipoint(data_type: &DataType) -> Result<(CoordType, Dimension), LayoutFault>
     ensures exact { Yields result (Native (tree data_type.now) NativeKind.MultiPoint) }
     ensures fault { IfErr result (HasFault (NativeFault NativeKind.MultiPoint (tree data_type.now))) }
@@ -59,8 +56,7 @@ pub fn parse_multipoint(data_type: &DataType) -> Result<(CoordType, Dimension), 
     parse_native(NativeKind::MultiPoint, data_type)
 }
 
-/// Reads a multilinestring (GeoArrow, "MultiLineString"): two lists over a coordinate, both of one width. Errs on any
-/// other data type. Allocates nothing.
+/// Reads a multilinestring (GeoArrow, "MultiLineString"), as `parse_native` does: two lists, of one width, over a coordinate.
 pub fn parse_multilinestring(data_type: &DataType) -> Result<(CoordType, Dimension), LayoutFault>
     ensures exact { Yields result (Native (tree data_type.now) NativeKind.MultiLineString) }
     ensures fault { IfErr result (HasFault (NativeFault NativeKind.MultiLineString (tree data_type.now))) }
@@ -68,8 +64,7 @@ pub fn parse_multilinestring(data_type: &DataType) -> Result<(CoordType, Dimensi
     parse_native(NativeKind::MultiLineString, data_type)
 }
 
-/// Reads a multipolygon (GeoArrow, "MultiPolygon"): three lists over a coordinate, all of one width. Errs on any other
-/// data type. Allocates nothing.
+/// Reads a multipolygon (GeoArrow, "MultiPolygon"), as `parse_native` does: three lists, of one width, over a coordinate.
 pub fn parse_multipolygon(data_type: &DataType) -> Result<(CoordType, Dimension), LayoutFault>
     ensures exact { Yields result (Native (tree data_type.now) NativeKind.MultiPolygon) }
     ensures fault { IfErr result (HasFault (NativeFault NativeKind.MultiPolygon (tree data_type.now))) }
@@ -88,8 +83,7 @@ pub fn parse_mixed(data_type: &DataType) -> Result<(CoordType, Dimension), Layou
     mixed_bottom(bottom_below(&summary, 0)?)
 }
 
-/// Reads a collection (GeoArrow, "GeometryCollection"): one list, of either width, over a union as `parse_mixed` reads.
-/// Errs on any other data type. Allocates nothing.
+/// Reads a collection (GeoArrow, "GeometryCollection"), as `parse_native` does: one list over what `parse_mixed` reads.
 pub fn parse_geometry_collection(
     data_type: &DataType,
 ) -> Result<(CoordType, Dimension), LayoutFault>
@@ -110,7 +104,7 @@ pub fn parse_geometry(data_type: &DataType) -> Result<CoordType, LayoutFault>
     geometry(&summarize(data_type))
 }
 
-/// Reads a native kind, as its own reader does. Errs on any data type that is not of that kind. Allocates nothing.
+/// Reads a native kind (GeoArrow, "Native encoding"). Errs on any data type that is not of that kind. Allocates nothing.
 pub fn parse_native(
     kind: NativeKind,
     data_type: &DataType,
@@ -147,8 +141,7 @@ pub fn parse_wkt(data_type: &DataType) -> Result<Width, LayoutFault>
     }
 }
 
-/// Reads the data type of a column with that extension name: returns its kind. Errs on any data type that has no
-/// kind under that name. Allocates nothing.
+/// The kind of a column with that extension name and data type. Errs where it has none. Allocates nothing.
 ///
 /// ```rust
 /// let name = ExtensionName::Wkb;
@@ -194,13 +187,7 @@ impl Summary {
         let Some(known) = ExtensionName::from_text(name) else {
             return None;
         };
-        match known {
-            ExtensionName::Wkb | ExtensionName::Wkt => None,
-            _ => match kind_under(known, self) {
-                Ok(kind) => Some(kind),
-                Err(_) => None,
-            },
-        }
+        kind_under(known, self).ok()
     }
 }
 
@@ -208,8 +195,7 @@ impl Summary {
 /// binary and text.
 #[inline(always)]
 fn kind_under(name: ExtensionName, summary: &Summary) -> Result<Kind, LayoutFault>
-    requires { (name ≢ names.Wkb) × (name ≢ names.Wkt) }
-    ensures told { (t : Tree) → Summarizes summary.now t → Tells result (Accepts (name_text name) t) (FaultAt name t) }
+    ensures told { (name ≢ names.Wkb) × (name ≢ names.Wkt) → (t : Tree) → Summarizes summary.now t → Tells result (Accepts (name_text name) t) (FaultAt name t) }
     ensures named { IfOk result (λ k. (extension_of k ≡ name) × IsStructured k) }
 {
     match name {

@@ -21,8 +21,7 @@ pub enum ListWidth {
 /// [`Summary`] has an example.
 #[derive(Clone, Copy, Debug, PartialEq, Eq)]
 pub enum Bottom {
-    /// A fixed size list: the dimension that the inner field names, the size, and whether the inner type is
-    /// `Float64`.
+    /// A fixed size list: the dimension that the inner field names, the size, and whether it is of `Float64`.
     FixedSizeList {
         named: Option<Dimension>,
         size: i32,
@@ -338,8 +337,7 @@ fn root_union(members: &[(i8, Field)]) -> Bottom
     }
 }
 
-/// The summary of a data type, found in one walk that goes no further than three list levels and two unions. Allocates
-/// nothing.
+/// The summary of a data type, found in one walk, no further than three list levels and two unions. Allocates nothing.
 pub fn summarize(data_type: &DataType) -> Summary
     ensures { Summarizes result (tree data_type.now) }
 {

@@ -88,8 +88,7 @@ pub fn geometry_data_type(alloc: Global, coord_type: CoordType) -> Result<DataTy
     Ok(DataType::Union(UnionFields::from_members(members), UnionMode::Dense))
 }
 
-/// The data type of a box (GeoArrow, "Box"): a struct of the least and the greatest value of each dimension. Errs only
-/// when out of memory.
+/// The data type of a box (GeoArrow, "Box"): a struct of the bounds of each dimension. Errs only when out of memory.
 pub fn box_data_type(alloc: Global, dimension: Dimension) -> Result<DataType, AllocError>
     ensures { IfOk result (λ t. tree t ≡ layout (Kind.Rect dimension)) }
 {
@@ -118,8 +117,7 @@ pub fn wkt_data_type(width: Width) -> DataType
     }
 }
 
-/// The data type of a column of a kind, as written. Errs only when out of memory, and never
-/// for well-known binary and text.
+/// The data type of a column of a kind. Errs only when out of memory, and never for well-known binary and text.
 pub fn kind_data_type(alloc: Global, kind: Kind) -> Result<DataType, AllocError>
     ensures layout { IfOk result (λ t. tree t ≡ layout kind) }
     ensures no_memory { ¬ IsStructured kind → IsOk result }
