@@ -22,7 +22,7 @@ pub fn layout_reads_back(kind: Kind)
 {}
 
 /// A law: every kind is in `Kind::ALL`.
-#[tactic(auto, using(crate::proofs::Listed::listed))]
+#[tactic(auto, using(crate::proofs::Written::listed))]
 pub fn kind_is_listed()
     ensures { (k : Kind) → Contains Kind.ALL k }
 {}
@@ -76,7 +76,7 @@ pub fn dimension_reads_back(dimension: Dimension)
 {}
 
 /// A law: where a point is inferred from a data type that is also read as one, it is the same point.
-#[tactic(auto, using(crate::proofs::Inferences::inferred_as_read))]
+#[tactic(auto, using(crate::proofs::Structs::inferred_as_read))]
 pub fn inferred_as_read()
     ensures { (t : Tree) (c b : CoordType) (d e : Dimension) → Inferred t c d → Leaf t b e → (c ≡ b) × (d ≡ e) }
 {}
@@ -131,7 +131,7 @@ pub fn two_names_at_most()
 {}
 
 /// A law: no kind is twice in `Kind::ALL`.
-#[tactic(auto, using(crate::proofs::Listed::listed_once))]
+#[tactic(auto, using(crate::proofs::Written::listed_once))]
 pub fn kinds_are_listed_once()
     ensures { (i j : ℕ) (k : Kind) → i < length Kind.ALL → j < length Kind.ALL → get_or Kind.ALL i k ≡ get_or Kind.ALL j k → i ≡ j }
 {}

@@ -131,7 +131,7 @@ fn is_same_or_apart(member: &(i8, Field), other: &(i8, Field)) -> bool
 }
 
 /// Whether structs of these fields are alike.
-#[tactic(auto, using(crate::proofs::FieldSteps::length_names))]
+#[tactic(auto, using(crate::proofs::Structs::length_names))]
 fn same_struct(fields: &[Field], others: &[Field]) -> bool
     ensures { IsTrue result ↔ AlikeNames (names_of (field_trees fields.now)) (names_of (field_trees others.now)) }
 {
@@ -143,7 +143,7 @@ fn same_struct(fields: &[Field], others: &[Field]) -> bool
 }
 
 /// Whether the fields have the same set of names.
-#[tactic(auto, using(crate::proofs::FieldSteps::same_first, crate::proofs::FieldSteps::not_same))]
+#[tactic(auto, using(crate::proofs::Structs::same_first, crate::proofs::Structs::not_same))]
 fn same_names(fields: &[Field], others: &[Field]) -> bool
     ensures { IsTrue result ↔ SameNames (names_of (field_trees fields.now)) (names_of (field_trees others.now)) }
 {

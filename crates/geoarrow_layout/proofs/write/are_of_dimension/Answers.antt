@@ -1,4 +1,4 @@
-use Rattle.geoarrow_layout.proofs.TableSteps.{not_last, all_of_dimension}
+use Rattle.geoarrow_layout.proofs.Written.{not_last, all_of_dimension}
 use Rattle.geoarrow_layout.proofs.Terms.{mixed_members, native_layout, GeometryCollection}
 use Rattle.geoarrow_layout.proofs.write.are_of_dimension.Goals as goal
 
