@@ -20,7 +20,7 @@ pub use Rattle.std.specs.Cmp.{booleans_Decides, signed_Decides, unsigned_Decides
 pub use Rattle.std.specs.Int.RustNames.{bit_or}
 pub use Rattle.std.specs.List.{Contains, filter}
 pub use Rattle.std.specs.Option.{option_eq}
-pub use Rattle.std.specs.Result.{IsErrAnd, result_ok}
+pub use Rattle.std.specs.Result.{IsErrAnd, IsOkAnd, result_ok}
 pub use denote.Enum.Bare.{Bare, same_true, sameb, true_same}
 pub use denote.Enum.Declared.{Declared}
 pub use lib.IntN.{nat_abs, negsuc}
