@@ -1,8 +1,7 @@
 -- The path to a fault, step by step.
 use Rattle.geoarrow_layout.proofs.Terms.{◌≡◌, ◌<◌, ◌≤◌, ◌+◌, inl, inr, Option, None, Some, MatchOption, MatchResult, ℕ, zero, suc, ℤ, pos, List, [], ◌∷◌, ◌++◌, length, take, Result, OnOk, get_or, refl, sym, ap, subst, ◌∙◌, arith, append-nil, append_assoc, Ok, Err, Tree, list, large_list, union, FieldTree, MemberTrees, no_members, member, field_trees, member_trees, UnionMode, CoordType, Dimension, NativeKind, GeometryCollection, LayoutFault, ListWidth, Lists, LargeLists, type_id_of, levels_of, ListsOver, AllMembers, Member, GeometryMember, Path, Located, Faults, HasFault, InItem, CoordinateFault, OverLeafFault, NativeFault, PartFault, FirstFault, UnionFault, MemberFault, MixedFault, GeometryMemberFault, GeometryFault, LeadsTo, FirstOrNone, TellsBoth, field_at, member_at, Ended, IsWidth, LevelsFault, StaysHere}
-use Rattle.geoarrow_layout.proofs.Readings.{Answer, IsPartsOf, some_parts}
-use Rattle.geoarrow_layout.proofs.Parts.{no_parts}
-use Rattle.geoarrow_layout.proofs.MemberLists.{Items, all_map, all_both, one_more}
+use Rattle.geoarrow_layout.proofs.Readings.{Answer, IsPartsOf, some_parts, Items, all_map, all_both, one_more}
+use Rattle.geoarrow_layout.proofs.UnionSteps.{no_parts}
 use Rattle.geoarrow_layout.proofs.FaultLaws.{id_same, ApartMember, MemberReads, Read, KindReads, ApartNative, KindFault, first_apart, behind}
 
 pub stays : (F : Located) (before : Path) → StaysHere F → LeadsTo F before before

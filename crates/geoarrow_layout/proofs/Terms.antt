@@ -1,20 +1,7 @@
 -- The words and the lemmas of the libraries and the names of the specs that the proofs cite, passed on from one place. Declares nothing.
-pub use Rattle.arrow_values.specs.Name.{fixed_text}
-pub use Rattle.arrow_values.specs.Tree.{FieldTree, FieldTrees, MemberTrees, Members, Metadata, Plain as PlainType, Text, Tree, binary, binary_view, depth, fixed_size_list, large_binary, large_list, large_utf8, list, member, no_members, plain, struct, union, utf8, utf8_view}
-pub use Rattle.arrow_values.specs.Union.{HasTypeIds, has, retained}
-pub use Rattle.arrow_values.specs.View.{field_list, field_trees, listed_fields, listed_members, member_list, member_trees, members_size, tree}
-pub use Rattle.geoarrow_layout.specs.Alike.{Alike, AlikeNames, EachHasAlike, HasAlike}
-pub use Rattle.geoarrow_layout.specs.Candidates.{Holds, IsAccepted, IsStructOfFour, Share}
-pub use Rattle.geoarrow_layout.specs.Changes.{AlikeUnions, AreJust, EachOf}
-pub use Rattle.geoarrow_layout.specs.FaultAt.{BoxFault, BoxNamesFault, CoordinateFault, DimensionsFault, FaultAt, Faults, FirstFault, GeometryFault, GeometryMemberFault, HasFault, Here, InItem, LevelsFault, Located, MemberFault, MixedFault, NativeFault, OverLeafFault, PartFault, Path, SeparatedFault, UnionFault, field_at, member_at}
-pub use Rattle.geoarrow_layout.specs.Inferred.{YieldsSome, Inferred, IsInferredAs, IsInferredSize, are_float64, is_float64}
-pub use Rattle.geoarrow_layout.specs.Kinds.{extension_of, interleaved_name, name_text, offset_of, order_of, size_of, type_id_of}
-pub use Rattle.geoarrow_layout.specs.Layouts.{IsWritten, IsWrittenSome, coordinate, dimension_members, geometry_members, layout, leaf_layout, member_layout, members_over, mixed_layout, mixed_members, native_layout, over_leaf_layout}
-pub use Rattle.geoarrow_layout.specs.OneShape.{ReadsFirst, among_back, any_native_same, box_shape_same, coords_in, dimension_named, geometry_member_first, geometry_same, member_first, mixed_first, named_back, native_first, over_leaf_first}
-pub use Rattle.geoarrow_layout.specs.Shapes.{Accepted, Accepts, AllMembers, Yields, YieldsKind, YieldsOne, BoxShape, Collection, Geometry, GeometryMember, HasMembers, HaveBoth, IsBoxAs, IsBytes, IsSeparatedAs, IsStructured, IsText, Leaf, ListsOver, Member, Mixed, Native, OverLeaf, SomeMember, Under, has_name, levels_of, names_of}
-pub use Rattle.geoarrow_layout.specs.Summary.{AreLevels, IsBits, IsBottom, IsFaultOf, IsFixedSize, IsInnerUnion, IsLevelFault, MixedSays, IsStruct, IsUnion, Seen, SomeAt, Summarizes, SummarizesBy, known_names, place_in, place_of, AddsBit, AddsBits, AreOf, Ended, FirstOrNone, IsCoordFault, IsNested, IsNoLeaf, IsOtherFault, IsWidth, LeadsTo, MemberFaultIn, MemberIn, NativeFaultIn, NativeIn, ReadAt, ShowsIn, StaysHere, Tells, TellsBoth, first_fault, has_bit, missing_fault, IsRootUnion}
-pub use Rattle.geoarrow_layout.specs.Words.{BadFieldCount, BadFieldNames, BadInterleavedName, BadSize, BadTypeId, Bottom, CoordType, Deep, Dense, Dimension, EmptyUnion, ExtensionName, FixedSizeList, GeometryCollection, Interleaved, Kind, Large, LargeLists, LayoutFault, LineString, ListWidth, Lists, MemberDimension, MixedWidths, MultiLineString, MultiPoint, MultiPolygon, NativeKind, OfGeometry, OfNative, OfRect, OfWkb, OfWkt, Other, OtherWidth, Plain, Plain as Narrow, Point, Polygon, Rect, Separated, SeveralCoordTypes, SeveralDimensions, Struct, Summary, UnexpectedType, Union, UnionMode, View, Width, Wkb, Wkt, XY, XYM, XYZ, XYZM, bit_at, bytes_eq, bytes_eq-Decides, list_all, list_any}
+pub use Rattle.geoarrow_layout.specs.Cited.{IfOk, IfSome, name_of, Accepted, Accepts, AddsBit, AddsBits, Alike, AlikeNames, AlikeUnions, AllMembers, AreJust, AreLevels, AreOf, BadFieldCount, BadFieldNames, BadInterleavedName, BadSize, BadTypeId, Bottom, BoxFault, BoxNamesFault, BoxShape, Collection, CoordType, CoordinateFault, Deep, Dense, Dimension, DimensionsFault, EachHasAlike, EachOf, EmptyUnion, Ended, ExtensionName, FaultAt, Faults, FieldTree, FieldTrees, FirstFault, FirstOrNone, FixedSizeList, Geometry, GeometryCollection, GeometryFault, GeometryMember, GeometryMemberFault, HasAlike, HasFault, HasMembers, HasTypeIds, HaveBoth, Here, Holds, InItem, Inferred, Interleaved, IsAccepted, IsBits, IsBottom, IsBoxAs, IsBytes, IsCoordFault, IsFaultOf, IsFixedSize, IsInferredAs, IsInferredSize, IsInnerUnion, IsLevelFault, IsNested, IsNoLeaf, IsOtherFault, IsRootUnion, IsSeparatedAs, IsStruct, IsStructOfFour, IsStructured, IsText, IsUnion, IsWidth, IsWritten, IsWrittenSome, Kind, Large, LargeLists, LayoutFault, LeadsTo, Leaf, LevelsFault, LineString, ListWidth, Lists, ListsOver, Located, Member, MemberDimension, MemberFault, MemberFaultIn, MemberIn, MemberTrees, Members, Metadata, Mixed, MixedFault, MixedSays, MixedWidths, MultiLineString, MultiPoint, MultiPolygon, Narrow, Native, NativeFault, NativeFaultIn, NativeIn, NativeKind, OfGeometry, OfNative, OfRect, OfWkb, OfWkt, Other, OtherWidth, OverLeaf, OverLeafFault, PartFault, Path, Plain, PlainType, Point, Polygon, ReadAt, ReadsFirst, Rect, Seen, Separated, SeparatedFault, SeveralCoordTypes, SeveralDimensions, Share, ShowsIn, SomeAt, SomeMember, StaysHere, Struct, Summarizes, SummarizesBy, Summary, Tells, TellsBoth, Text, Tree, Under, UnexpectedType, Union, UnionFault, UnionMode, View, Width, Wkb, Wkt, XY, XYM, XYZ, XYZM, Yields, YieldsKind, YieldsOne, YieldsSome, among_back, any_native_same, are_float64, binary, binary_view, bit_at, box_shape_same, bytes_eq, bytes_eq-Decides, coordinate, coords_in, depth, dimension_members, dimension_named, extension_of, field_at, field_list, field_trees, first_fault, fixed_size_list, fixed_text, geometry_member_first, geometry_members, geometry_same, has, has_bit, has_name, interleaved_name, is_float64, known_names, large_binary, large_list, large_utf8, layout, leaf_layout, levels_of, list, list_all, list_any, listed_fields, listed_members, member, member_at, member_first, member_layout, member_list, member_trees, members_in, members_over, members_size, missing_fault, mixed_first, mixed_layout, mixed_members, name_text, named_back, names_of, native_first, native_layout, no_members, offset_of, order_of, over_leaf_first, over_leaf_layout, place_in, place_of, plain, retained, size_of, struct, tree, type_id_of, union, utf8, utf8_view}
 pub use Rattle.geoarrow_layout.specs.declared.encodings.TheConstants.Kind.{ALL}
+pub use Rattle.geoarrow_layout.specs.declared.kinds.TheConstants.{DIMENSIONS}
 pub use Rattle.geoarrow_layout.specs.declared.names.Candidates.TheVariants.{None as NoName}
 pub use Rattle.std.proofs.Common.{Bool, Err, IfErr, IsTrue, List, MatchOption, MatchResult, None, Ok, OnOk, Option, Result, Some, [], add-one, ap, append-nil, append_assoc, arith, codes, cond, drop, eq-eqb, false, get_or, inl, inr, is_err, is_ok, length, lit<, map, nat_eq, of_z, pos, refl, rules, subst, suc, sym, take, to_z, true, true≢false, w16, w32, w64, w8, zero, ℕ, ℤ, ◌%◌, ◌&&◌, ◌*◌, ◌++◌, ◌+◌, ◌-◌, ◌<◌, ◌^◌, ◌||◌, ◌↔◌, ◌∙◌, ◌∷◌, ◌≡◌, ◌≢◌, ◌≤◌, ◌⊎◌}
 pub use Rattle.std.proofs.Math.Bool.{and-true, and_assoc}
@@ -33,7 +20,7 @@ pub use Rattle.std.specs.Cmp.{booleans_Decides, signed_Decides, unsigned_Decides
 pub use Rattle.std.specs.Int.RustNames.{bit_or}
 pub use Rattle.std.specs.List.{Contains, filter}
 pub use Rattle.std.specs.Option.{option_eq}
-pub use Rattle.std.specs.Result.{IsErrAnd}
+pub use Rattle.std.specs.Result.{IsErrAnd, IsOkAnd, result_ok}
 pub use denote.Enum.Bare.{Bare, same_true, sameb, true_same}
 pub use denote.Enum.Declared.{Declared}
 pub use lib.IntN.{nat_abs, negsuc}

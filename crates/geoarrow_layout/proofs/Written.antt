@@ -1,10 +1,11 @@
--- What is written is read as what it was written for, so the data types that are written are pairwise distinct.
-use Rattle.geoarrow_layout.proofs.Terms.{◌≡◌, [], ◌∷◌, ◌++◌, true, false, refl, sym, subst, member_trees, CoordType, Interleaved, Separated, Dimension, XY, XYZ, XYM, XYZM, Lists, NativeKind, Point, LineString, Polygon, MultiPoint, MultiLineString, MultiPolygon, GeometryCollection, Plain, Kind, OfNative, OfGeometry, OfRect, OfWkb, OfWkt, Leaf, levels_of, Member, AllMembers, GeometryMember, Native, BoxShape, Accepted, Under, leaf_layout, member_layout, mixed_members, native_layout, geometry_members, layout, HasTypeIds, over_leaf_layout, mixed_layout, dimension_members, IsWritten, IsWrittenSome, cond, List, codes, ◌∙◌, ap, bytes_eq, Text, Tree, plain, list, struct, union, ExtensionName, extension_of, names_of}
+-- What is written is read as what it was written for, so the data types that are written are pairwise distinct; the comparison with them; every kind is listed, and once.
+use Rattle.geoarrow_layout.proofs.Terms.{◌≡◌, [], ◌∷◌, ◌++◌, true, false, refl, sym, subst, member_trees, CoordType, Interleaved, Separated, Dimension, XY, XYZ, XYM, DIMENSIONS, members_in, Lists, NativeKind, Point, LineString, Polygon, MultiPoint, MultiLineString, MultiPolygon, GeometryCollection, Plain, Kind, OfNative, OfGeometry, OfRect, OfWkb, OfWkt, Leaf, levels_of, Member, AllMembers, GeometryMember, Native, BoxShape, Accepted, Under, leaf_layout, member_layout, mixed_members, native_layout, geometry_members, layout, HasTypeIds, over_leaf_layout, mixed_layout, dimension_members, IsWritten, IsWrittenSome, cond, List, codes, ◌∙◌, ap, bytes_eq, Text, Tree, plain, list, struct, union, ExtensionName, extension_of, names_of, ◌↔◌, ℤ, Bool, true≢false, IsTrue, same_from_push, FieldTree, Members, field_trees, UnionMode, field_list, member_list, listed_fields, listed_members, ◌<◌, ℕ, ◌+◌, ◌*◌, ◌-◌, length, get_or, lit<, arith, Contains, Large, View, order_of, place_of, ALL, offset_of}
 use Rattle.geoarrow_layout.specs.Shapes.{SameNames}
-use Rattle.geoarrow_layout.proofs.MemberLists.{all_map, all_both}
+use Rattle.geoarrow_layout.proofs.Readings.{all_map, all_both}
 use Rattle.geoarrow_layout.specs.declared.names.ExtensionName.TheVariants as names
-use Rattle.geoarrow_layout.proofs.KindSteps.{same_kind}
-use Rattle.geoarrow_layout.proofs.NamesSteps.{plain_name}
+use Rattle.geoarrow_layout.proofs.KindSteps.{same_kind, plain_name}
+use Rattle.std.proofs.Math.ListN.{get_or-map}
+use Rattle.std.proofs.lemmas.List.FromFn.{get_or-range_with_len}
 
 pub written_leaf : (c : CoordType) (d : Dimension) → Leaf (leaf_layout c d) c d
 unfolding SameNames
@@ -32,14 +33,12 @@ dimension_written c d =
     (all_both (IsWrittenSome c) (mixed_members c d) (member_layout GeometryCollection d (native_layout GeometryCollection c d) ∷ [])).1
     (all_map (IsWritten c d) (IsWrittenSome c) (λ i t m. (d, m)) (member_trees (mixed_members c d)) (mixed_written c d), ((d, (GeometryCollection, refl, refl)), tt))
 
+in_written : (c : CoordType) (ds : List Dimension) → AllMembers (IsWrittenSome c) (member_trees (members_in ds c))
+in_written c [] = tt
+in_written c (d ∷ ds) = (all_both (IsWrittenSome c) (dimension_members c d) (members_in ds c)).1 (dimension_written c d, in_written c ds)
+
 pub geometry_written : (c : CoordType) → AllMembers (IsWrittenSome c) (member_trees (geometry_members c))
-geometry_written c =
-    let P = IsWrittenSome c in
-    (all_both P (dimension_members c XY ++ dimension_members c XYZ ++ dimension_members c XYM) (dimension_members c XYZM)).1 (
-      (all_both P (dimension_members c XY ++ dimension_members c XYZ) (dimension_members c XYM)).1
-          ((all_both P (dimension_members c XY) (dimension_members c XYZ)).1 (dimension_written c XY, dimension_written c XYZ), dimension_written c XYM),
-      dimension_written c XYZM,
-    )
+geometry_written c = in_written c DIMENSIONS
 
 written_native : (k : NativeKind) (c : CoordType) (d : Dimension) → Native (native_layout k c d) k c d
 written_native GeometryCollection c d = (mixed_layout c d, (Lists, refl), (tt, written_mixed c d))
@@ -100,3 +99,80 @@ name_back _ = refl
 
 pub layouts_are_distinct : (j k : Kind) → layout j ≡ layout k → j ≡ k
 layouts_are_distinct j k same = same_kind (layout k) j k (sym (name_back j) ∙ ap name_in same ∙ name_back k) (subst (Accepted j) same (written j)) (written k)
+
+-- ---- the comparison with the table of written data types
+
+-- a struct of these fields, a union of these members
+abbrev fields_in : Tree → List FieldTree
+fields_in (struct fs) = field_list fs
+fields_in _ = []
+
+abbrev members_of : Tree → Members
+members_of (union ms mode) = member_list ms
+members_of _ = []
+
+pub struct_same : (t : Tree) (xs ys : List FieldTree) (b : Bool) → t ≡ struct (field_trees xs) → IsTrue b ↔ (xs ≡ ys) → IsTrue b ↔ (t ≡ struct (field_trees ys))
+struct_same t xs ys b is says = (
+  (λ h. is ∙ ap (λ z. struct (field_trees z)) (says.0 h)),
+  (λ e. says.1 (sym (listed_fields xs) ∙ ap fields_in (sym is ∙ e) ∙ listed_fields ys)),
+)
+
+pub union_same : (t : Tree) (xs ys : Members) (m n : UnionMode) (b : Bool) → t ≡ union (member_trees xs) m → m ≡ n → IsTrue b ↔ (xs ≡ ys) → IsTrue b ↔ (t ≡ union (member_trees ys) n)
+union_same t xs ys m n b is mode says = (
+  (λ h. is ∙ ap (λ z. union (member_trees z) m) (says.0 h) ∙ ap (λ z. union (member_trees ys) z) mode),
+  (λ e. says.1 (sym (listed_members xs) ∙ ap members_of (sym is ∙ e) ∙ listed_members ys)),
+)
+
+pub not_last : (ms rest M : Members) (x : ℤ × FieldTree) (k : NativeKind) (d : Dimension) (t U : Tree) (b : Bool) → ms ≡ rest ++ (x ∷ []) → t ≡ x.1.tree → IsTrue b ↔ (t ≡ U) → b ≡ false → IsTrue false ↔ (ms ≡ M ++ (member_layout k d U ∷ []))
+not_last ms rest M x k d t U b is here says fails = (
+  (λ h. absurd (true≢false (sym h))),
+  (λ e. let p = same_from_push rest M x (member_layout k d U) (sym is ∙ e) in absurd (true≢false (sym (says.1 (here ∙ ap (λ m. m.1.tree) p.1)) ∙ fails))),
+)
+
+pub all_of_dimension : (ms rest M : Members) (x : ℤ × FieldTree) (k : NativeKind) (d : Dimension) (t U : Tree) (a b r : Bool) → ms ≡ rest ++ (x ∷ []) → t ≡ x.1.tree → IsTrue a ↔ (x ≡ member_layout k d x.1.tree) → a ≡ true → IsTrue b ↔ (t ≡ U) → b ≡ true → IsTrue r ↔ (rest ≡ M) → IsTrue r ↔ (ms ≡ M ++ (member_layout k d U ∷ []))
+all_of_dimension ms rest M x k d t U a b r is here one one_holds two two_holds says = (
+  (λ h. is ∙ ap (λ z. z ++ (x ∷ [])) (says.0 h) ∙ ap (λ z. M ++ (z ∷ [])) (one.0 one_holds ∙ ap (member_layout k d) (sym here ∙ two.0 two_holds))),
+  (λ e. says.1 (same_from_push rest M x (member_layout k d U) (sym is ∙ e)).0),
+)
+
+-- ---- every kind is listed, and once
+
+-- where a native kind stands
+abbrev place : NativeKind → CoordType → Dimension → ℕ
+place k c d = 8 * (offset_of k - 1) + (4 * place_of c + order_of d)
+
+natives : (d : Dimension) (c : CoordType) (k : NativeKind) → Contains ALL (OfNative k c d)
+natives XY Interleaved Point = (0, lit< tt, refl)
+natives d Separated Point = (place Point Separated d, lit< tt, refl)
+natives d c LineString = (place LineString c d, lit< tt, refl)
+natives d c k = (place k c d, lit< tt, refl)
+
+-- where a kind stands
+abbrev place_of_kind : Kind → ℕ
+place_of_kind (OfNative k c d) = place k c d
+place_of_kind (OfGeometry c) = 56 + place_of c
+place_of_kind (OfRect d) = 58 + order_of d
+place_of_kind (OfWkb Plain) = 62
+place_of_kind (OfWkb Large) = 63
+place_of_kind (OfWkb View) = 64
+place_of_kind (OfWkt Plain) = 65
+place_of_kind (OfWkt Large) = 66
+place_of_kind (OfWkt View) = 67
+
+pub listed : (k : Kind) → Contains ALL k
+listed (OfNative k c d) = natives d c k
+listed (OfGeometry Interleaved) = (56, lit< tt, refl)
+listed (OfRect XY) = (58, lit< tt, refl)
+listed (OfWkb Plain) = (62, lit< tt, refl)
+listed (OfWkt Plain) = (65, lit< tt, refl)
+listed k = (place_of_kind k, lit< tt, refl)
+
+-- the kinds stand where they say
+placed : (i : ℕ) (k : Kind) → i < length ALL → place_of_kind (get_or ALL i k) ≡ i
+placed i k lt =
+    let is : place_of_kind (get_or ALL i k) ≡ 0 + i = sym (get_or-map place_of_kind ALL i k) ∙ get_or-range_with_len 0 68 i (place_of_kind k) lt in
+    omega arith
+
+pub listed_once : (i j : ℕ) (k : Kind) → i < length ALL → j < length ALL → get_or ALL i k ≡ get_or ALL j k → i ≡ j
+listed_once i j k small other same =
+    sym (placed i k small) ∙ ap place_of_kind same ∙ placed j k other

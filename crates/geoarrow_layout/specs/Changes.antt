@@ -1,8 +1,5 @@
 -- What a union is read as when members are dropped or joined; the mode never matters.
-use Rattle.std.specs.Prelude.{◌≢◌, ◌↔◌, ◌⊎◌}
-use Rattle.geoarrow_layout.specs.Words.{[], ℤ, Contains, UnionMode, CoordType, Dimension}
-use Rattle.arrow_values.specs.Tree.{union, FieldTree, Members}
-use Rattle.arrow_values.specs.View.{member_trees}
+use Rattle.geoarrow_layout.specs.Words.{◌≢◌, ◌↔◌, ◌⊎◌, union, FieldTree, Members, member_trees, [], ℤ, Contains, UnionMode, CoordType, Dimension}
 use Rattle.geoarrow_layout.specs.Shapes.{Geometry, Mixed}
 use Rattle.geoarrow_layout.specs.Alike.{Alike}
 

@@ -1,6 +1,5 @@
 -- The faults of data types, as errors of Arrow.
-use Rattle.geoarrow_layout.specs.Words.{codes, ArrowError, ExternalError', LayoutFault, UnexpectedType, BadInterleavedName, BadSize, BadFieldNames, BadFieldCount, MixedWidths, BadTypeId, MemberDimension, EmptyUnion, SeveralCoordTypes, SeveralDimensions}
-use Rattle.arrow_values.specs.Tree.{Text}
+use Rattle.geoarrow_layout.specs.Words.{Text, codes, ArrowError, ExternalError', LayoutFault, UnexpectedType, BadInterleavedName, BadSize, BadFieldNames, BadFieldCount, MixedWidths, BadTypeId, MemberDimension, EmptyUnion, SeveralCoordTypes, SeveralDimensions}
 use Rattle.arrow_values.specs.Errors.{IsSchemaOf, IsInvalidOf}
 
 -- the message of a fault

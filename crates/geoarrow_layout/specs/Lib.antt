@@ -10,3 +10,4 @@ pub mod Changes
 pub mod Candidates
 pub mod OneShape
 pub mod FaultAt
+pub mod Cited

@@ -1,4 +1,6 @@
 -- The words of std and the names of the types of Rust, for the definitions: passed on from one place. Declares nothing.
+pub use Rattle.arrow_values.specs.Tree.{FieldTree, FieldTrees, MemberTrees, Members, Text, Tree, binary, binary_view, field, field_tree, fixed_size_list, float64, large_binary, large_list, large_utf8, list, member, no_fields, no_members, null, plain, struct, union, utf8, utf8_view}
+pub use Rattle.arrow_values.specs.View.{field_trees, member_trees}
 pub use Rattle.arrow_values.specs.declared.coordinates.Dimensions.{Dimensions}
 pub use Rattle.arrow_values.specs.declared.coordinates.Dimensions.TheVariants.{Unknown, Xy, Xym, Xyz, Xyzm}
 pub use Rattle.arrow_values.specs.declared.error.ArrowError.{ArrowError}
@@ -32,5 +34,5 @@ pub use Rattle.std.proofs.lemmas.Slice.Eq.{bytes_eq-Decides}
 pub use Rattle.std.specs.Fmt.{decimal}
 pub use Rattle.std.specs.Int.{bit_at}
 pub use Rattle.std.specs.List.{list_all, list_any}
-pub use Rattle.std.specs.Prelude.{Bool, Contains, Err, List, MatchOption, MatchResult, None, Ok, Option, Result, Some, [], codes, cond, false, length, map, nat_eq, pos, string_bytes, suc, true, zero, ℕ, ℤ}
+pub use Rattle.std.specs.Prelude.{Bool, Contains, Err, List, MatchOption, MatchResult, None, Ok, Option, Result, Some, [], codes, cond, false, length, map, nat_eq, pos, string_bytes, suc, true, zero, ℕ, ℤ, ◌&&◌, ◌*◌, ◌++◌, ◌+◌, ◌<◌, ◌^◌, ◌↔◌, ◌∷◌, ◌≡◌, ◌≢◌, ◌≤◌, ◌⊎◌}
 pub use Rattle.std.specs.Str.{bytes_eq}

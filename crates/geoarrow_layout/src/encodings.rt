@@ -1,9 +1,5 @@
 //! The kinds of columns, and the tables of kinds: names, lists and type ids.
-ghost use Rattle.std.specs.Prelude.{◌≡◌, ◌≤◌, ◌↔◌, Some, pos, ◌++◌, map};
-ghost use Rattle.geoarrow_layout.specs.Kinds.{extension_of, name_of, coord_type_of, dimension_of, offset_of, type_id_of};
-ghost use Rattle.arrow_values.specs.Name.{fixed_text};
-ghost use Rattle.geoarrow_layout.specs.Shapes.{levels_of};
-ghost use Rattle.geoarrow_layout.specs.Layouts.{list_names, type_name, dimension_suffix};
+ghost use Rattle.geoarrow_layout.specs.Cited.{◌≡◌, ◌≤◌, ◌↔◌, Some, pos, ◌++◌, map, length, extension_of, name_of, coord_type_of, dimension_of, offset_of, type_id_of, fixed_text, levels_of, list_names, type_name, dimension_suffix};
 
 use crate::kinds::CoordType::{Interleaved, Separated};
 use crate::kinds::Dimension::{XY, XYM, XYZ, XYZM};
@@ -13,7 +9,7 @@ use arrow_values::FixedName;
 
 /// A kind in each coordinate type and dimension, for each of these native kinds, and then the other kinds.
 macro_rules! all_kinds {
-    ($($kind:ident),*) => {
+    ($($kind:ident)*) => {
         [
             $(
                 Kind::Native(NativeKind::$kind, Interleaved, XY),
@@ -149,15 +145,9 @@ impl Kind {
     }
 
     /// All 68 kinds, each once.
-    pub const ALL: [Kind; 68] = all_kinds!(
-        Point,
-        LineString,
-        Polygon,
-        MultiPoint,
-        MultiLineString,
-        MultiPolygon,
-        GeometryCollection
-    );
+    pub const ALL: [Kind; 68] = all_kinds! {
+        Point LineString Polygon MultiPoint MultiLineString MultiPolygon GeometryCollection
+    };
 }
 
 /// The native kind whose type id in two dimensions that is.
@@ -202,9 +192,11 @@ fn offset_of(kind: NativeKind) -> u8
     kind as u8 + 1
 }
 
-/// The names of the list items of a kind, from the outermost list.
+/// The names of the list items of a kind, from the outermost list: one for each of its lists.
 pub(crate) fn list_names(kind: NativeKind) -> &'static [FixedName]
-    ensures { map fixed_text result.now ≡ list_names kind }
+    ensures names { map fixed_text result.now ≡ list_names kind }
+    ensures levels { length result.now ≡ levels_of kind }
+    ensures few { length result.now ≤ 3 }
 {
     match kind {
         NativeKind::Point => &[],
@@ -230,20 +222,4 @@ pub(crate) fn member_name(kind: NativeKind, dimension: Dimension) -> FixedName
         MultiPolygon MultiPolygonZ MultiPolygonM MultiPolygonZm,
         GeometryCollection GeometryCollectionZ GeometryCollectionM GeometryCollectionZm,
     )
-}
-
-/// How many lists a native kind has.
-pub(crate) fn levels(kind: NativeKind) -> u8
-    ensures levels { result ≡ levels_of kind }
-    ensures few { result ≤ 3 }
-{
-    match kind {
-        NativeKind::Point => 0,
-        NativeKind::LineString => 1,
-        NativeKind::Polygon => 2,
-        NativeKind::MultiPoint => 1,
-        NativeKind::MultiLineString => 2,
-        NativeKind::MultiPolygon => 3,
-        NativeKind::GeometryCollection => 1,
-    }
 }

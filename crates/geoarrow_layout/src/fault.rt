@@ -1,8 +1,11 @@
-//! Why a data type is refused by a reader.
-ghost use Rattle.std.specs.Prelude.{◌≡◌, ◌⊎◌, IfOk};
-ghost use Rattle.arrow_values.specs.Errors.{IsMemory};
+//! Why a data type is refused by a reader, and where it is at fault.
+ghost use Rattle.geoarrow_layout.specs.Cited.{◌≡◌, ◌⊎◌, IfOk, IsMemory, None, Some, OnOk, MatchOption, tree, field_trees, member_trees, name_text, IsAccepted, Path, CoordinateFault, LevelsFault, OverLeafFault, MixedFault, NativeFault, GeometryFault, FaultAt, child_at, field_at, member_at, LeadsTo, FirstOrNone, StaysHere, MemberIn, MemberFaultIn, NativeFaultIn};
 
-use arrow_values::{ArrowError, GeoArrowError};
+use crate::encodings::{NativeKind, list_names, parts_of_id};
+use crate::names::ExtensionName;
+use crate::read::{member, native, parse_kind};
+use crate::summary::{ListWidth, list_item, member_summary};
+use arrow_values::{ArrowError, DataType, Field, GeoArrowError};
 use std::alloc::{AllocError, Global};
 
 /// Why a data type does not have the layout that a reader expects.
@@ -11,7 +14,7 @@ use std::alloc::{AllocError, Global};
 pub enum LayoutFault {
     /// The data type, or one inside it, is of another sort.
     UnexpectedType,
-    /// The inner field of a fixed size list is not named `xy`, `xyz`, `xym` or `xyzm`.
+    /// The name of the inner field of a fixed size list is that of no dimension.
     BadInterleavedName,
     /// The size of a fixed size list does not match the dimension that its inner field names.
     BadSize,
@@ -34,7 +37,7 @@ pub enum LayoutFault {
 }
 
 impl LayoutFault {
-    ghost use Rattle.geoarrow_layout.specs.Faults.{fault_text, IsErrorOfFault};
+    ghost use Rattle.geoarrow_layout.specs.Cited.{fault_text, IsErrorOfFault};
 
     /// The fault as an error of Arrow: `BadSize` is an `InvalidGeoArrow` in an `ExternalError`, as in the Rust crate,
     /// and every other a `SchemaError`; or `OutOfMemory` where there is no memory for its text or its box.
@@ -76,5 +79,182 @@ impl LayoutFault {
             LayoutFault::SeveralCoordTypes => "several coordinate types in union",
             LayoutFault::SeveralDimensions => "several dimensions in union",
         }
+    }
+}
+
+/// What it answers to add to a path: an error only where there is no memory.
+type Added = Result<(), AllocError>;
+
+/// Why a data type has no kind under an extension name, and where (GeoArrow, "Native encoding"): the fault that
+/// `parse_kind` errs with, and the way from the data type to the one inside it that is at fault, as the place of a
+/// child field at each step, from 0; `child_field` finds the field at a place. `None` if the data type has a kind under
+/// the name. Errs only when out of memory.
+///
+/// ```rust
+/// let name = ExtensionName::Native(NativeKind::LineString);
+/// let found = find_fault(alloc, name, &data_type)?;
+/// ```
+pub fn find_fault(
+    alloc: Global,
+    name: ExtensionName,
+    data_type: &DataType,
+) -> Result<Option<(Vec<usize>, LayoutFault)>, AllocError>
+    ensures { IfOk result (λ r. MatchOption r (IsAccepted (name_text name) (tree data_type.now)) (λ found. FaultAt name (tree data_type.now) found.0.items found.1)) }
+{
+    match parse_kind(name, data_type) {
+        Ok(_) => Ok(None),
+        Err(fault) => {
+            let mut path = Vec::new(alloc);
+            push_path(&mut path, name, data_type)?;
+            Ok(Some((path, fault)))
+        }
+    }
+}
+
+/// The child field of a data type at a place, from 0, as the paths of `find_fault` count them: the item of a list, which
+/// has the place 0, a field of a struct, or a member of a union. `None` where there is none. Allocates nothing.
+///
+/// ```rust
+/// let item = child_field(&data_type, 0);
+/// ```
+#[tactic(auto, using(crate::proofs::FaultPaths::field_there, crate::proofs::FaultPaths::no_field_there, crate::proofs::FaultPaths::member_there, crate::proofs::FaultPaths::no_member_there))]
+pub fn child_field(data_type: &DataType, place: usize) -> Option<&Field>
+    ensures { MatchOption result (child_at (tree data_type.now) place ≡ None) (λ f. child_at (tree data_type.now) place ≡ Some f.now) }
+{
+    match data_type {
+        DataType::List(item) | DataType::LargeList(item) | DataType::FixedSizeList(item, _) => {
+            if place == 0 { Some(item) } else { None }
+        }
+        DataType::Struct(fields) => fields.as_slice().get(place),
+        DataType::Union(members, _) => Some(&members.as_slice().get(place)?.1),
+        _ => None,
+    }
+}
+
+/// Adds the path to the fault, if there is one.
+fn push_path(path: &mut Vec<usize>, name: ExtensionName, data_type: &DataType) -> Added
+    ensures { OnOk result (LeadsTo (FaultAt name (tree data_type.now)) path.old.items path.new.items) }
+{
+    match name {
+        ExtensionName::Native(kind) => push_native(path, kind, data_type),
+        ExtensionName::Geometry => push_geometry(path, data_type),
+        _ => Ok(()),
+    }
+}
+
+/// Adds the path to the fault as one of a native kind.
+#[tactic(auto, using(crate::proofs::FaultPaths::native_leads))]
+fn push_native(path: &mut Vec<usize>, kind: NativeKind, data_type: &DataType) -> Added
+    ensures { OnOk result (LeadsTo (NativeFault kind (tree data_type.now)) path.old.items path.new.items) }
+{
+    match kind {
+        NativeKind::GeometryCollection => push_collection(path, data_type),
+        _ => push_over_leaf(path, kind, data_type),
+    }
+}
+
+/// Adds the path to the fault as the lists of a kind over a coordinate; a collection is not allowed.
+fn push_over_leaf(path: &mut Vec<usize>, kind: NativeKind, data_type: &DataType) -> Added
+    ensures { OnOk result (LeadsTo (OverLeafFault kind (tree data_type.now)) path.old.items path.new.items) }
+{
+    match kind {
+        NativeKind::GeometryCollection => Ok(()),
+        _ => push_levels(path, None, list_names(kind).len() as u8, data_type),
+    }
+}
+
+/// Adds the path to the fault as so many lists of that width, or of either where it is `None`, over a coordinate.
+fn push_levels(
+    path: &mut Vec<usize>,
+    width: Option<ListWidth>,
+    levels: u8,
+    data_type: &DataType,
+) -> Added
+    ensures { OnOk result (LeadsTo (LevelsFault CoordinateFault width levels (tree data_type.now)) path.old.items path.new.items) }
+{
+    if levels == 0 {
+        return Ok(());
+    }
+    match list_item(width, data_type) {
+        Some((found, item)) => {
+            path.push(0)?;
+            push_levels(path, Some(found), levels - 1, item)
+        }
+        None => Ok(()),
+    }
+}
+
+/// Adds the path to the fault as a collection.
+fn push_collection(path: &mut Vec<usize>, data_type: &DataType) -> Added
+    ensures { OnOk result (LeadsTo (LevelsFault MixedFault None 1 (tree data_type.now)) path.old.items path.new.items) }
+{
+    match data_type {
+        DataType::List(item) | DataType::LargeList(item) => {
+            path.push(0)?;
+            push_mixed(path, item.data_type())
+        }
+        _ => Ok(()),
+    }
+}
+
+/// Adds the path to the fault as the union in a collection.
+fn push_mixed(path: &mut Vec<usize>, data_type: &DataType) -> Added
+    ensures { OnOk result (LeadsTo (MixedFault (tree data_type.now)) path.old.items path.new.items) }
+{
+    let DataType::Union(members, _) = data_type else {
+        return Ok(());
+    };
+    match push_place(path, false, members.as_slice())? {
+        Some((kind, inner)) => push_over_leaf(path, kind, inner),
+        None => Ok(()),
+    }
+}
+
+/// Adds the path to the fault as geometries of any kind.
+fn push_geometry(path: &mut Vec<usize>, data_type: &DataType) -> Added
+    ensures { OnOk result (LeadsTo (GeometryFault (tree data_type.now)) path.old.items path.new.items) }
+{
+    let DataType::Union(members, _) = data_type else {
+        return Ok(());
+    };
+    match push_place(path, true, members.as_slice())? {
+        Some((kind, inner)) => push_native(path, kind, inner),
+        None => Ok(()),
+    }
+}
+
+/// Adds the place of the first member with a fault, if there is one. Where the path goes on inside of that member, returns
+/// the kind that its type id says, and its data type.
+fn push_place<'a>(
+    path: &mut Vec<usize>,
+    collections: bool,
+    members: &'a [(i8, Field)],
+) -> Result<Option<(NativeKind, &'a DataType)>, AllocError>
+    ensures { IfOk result (λ r. MatchOption r (LeadsTo (FirstOrNone (MemberIn collections) (MemberFaultIn collections) (member_trees members.now)) path.old.items path.new.items) (λ x. (end : Path) → LeadsTo (NativeFaultIn collections x.0 (tree x.1.now)) path.new.items end → LeadsTo (FirstOrNone (MemberIn collections) (MemberFaultIn collections) (member_trees members.now)) path.old.items end)) }
+{
+    for place in 0..members.len() {
+        let item = &members[place];
+        let below = member_summary(collections, item.1.data_type());
+        if let Err(_) = member(collections, item.0, &below) {
+            path.push(place)?;
+            return Ok(inside(collections, item.0, item.1.data_type()));
+        }
+    }
+    Ok(None)
+}
+
+/// The kind that a member's type id says, and its data type, where that has a fault as one of the kind; `None` where the
+/// member has no other fault than one of its own.
+fn inside<'a>(
+    collections: bool,
+    id: i8,
+    data_type: &'a DataType,
+) -> Option<(NativeKind, &'a DataType)>
+    ensures { MatchOption result (StaysHere (MemberFaultIn collections id (tree data_type.now))) (λ x. (p : Path) (f : LayoutFault) → MemberFaultIn collections id (tree data_type.now) p f → NativeFaultIn collections x.0 (tree x.1.now) p f) }
+{
+    let (kind, _) = parts_of_id(id)?;
+    match native(collections, kind, &member_summary(collections, data_type)) {
+        Ok(_) => None,
+        Err(_) => Some((kind, data_type)),
     }
 }

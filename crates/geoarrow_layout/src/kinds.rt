@@ -1,9 +1,5 @@
 //! What a layout has: a coordinate type and a dimension, with the tables of both.
-ghost use Rattle.std.specs.Prelude.{◌≡◌, ◌≤◌, ◌<◌, ◌↔◌, ◌⊎◌, ◌^◌, IfOk, IfErr, Some, Ok, pos, map};
-ghost use Rattle.arrow_values.specs.Name.{fixed_text};
-ghost use Rattle.geoarrow_layout.specs.Kinds.{size_of, order_of, interleaved_name};
-ghost use Rattle.geoarrow_layout.specs.Layouts.{coordinate_names, box_names};
-ghost use Rattle.geoarrow_layout.specs.Summary.{place_of};
+ghost use Rattle.geoarrow_layout.specs.Cited.{◌≡◌, ◌≤◌, ◌<◌, ◌↔◌, ◌⊎◌, ◌^◌, IfOk, IfErr, Some, Ok, pos, map, fixed_text, size_of, order_of, interleaved_name, coordinate_names, box_names, place_of};
 
 use crate::kinds::Dimension::{XY, XYM, XYZ, XYZM};
 use arrow_values::FixedName::{
@@ -37,8 +33,7 @@ pub enum CoordType {
 }
 
 impl Default for CoordType {
-    ghost use Rattle.std.specs.Prelude.{◌≡◌};
-    ghost use Rattle.geoarrow_layout.specs.declared.kinds.CoordType.TheVariants.{Separated};
+    ghost use Rattle.geoarrow_layout.specs.Cited.{◌≡◌, Separated};
 
     ghost is_default = { λ c. c ≡ Separated };
 
@@ -89,9 +84,7 @@ pub enum Dimension {
 }
 
 impl Dimension {
-    ghost use Rattle.arrow_values.specs.Coordinates.{dimensions_size};
-    ghost use Rattle.geoarrow_layout.specs.Kinds.{dimension_name, IsDimension, RefusesDimensions};
-    ghost use Rattle.arrow_values.specs.Errors.{IsGeoMemory};
+    ghost use Rattle.geoarrow_layout.specs.Cited.{dimensions_size, IsDimension, RefusesDimensions, IsGeoMemory};
 
     /// How many numbers a coordinate has: 2, 3, 3, 4.
     pub fn size(&self) -> usize
@@ -108,9 +101,8 @@ impl Dimension {
         *self as u8
     }
 
-    /// The dimension with the name of those dimensions; for 2, 3 and 4 dimensions with no known meaning it is XY, XYZ
-    /// and XYZM. Errs with `InvalidGeoArrow` for any other number of dimensions with no known meaning; allocates nothing
-    /// otherwise.
+    /// The dimension with the name of those dimensions; for 2, 3 and 4 of no known meaning it is XY, XYZ and XYZM. Errs
+    /// with `InvalidGeoArrow` for any other number of no known meaning; allocates nothing otherwise.
     ///
     /// ```rust
     /// let dimension = Dimension::try_from_dimensions(alloc, Dimensions::Unknown(3))?;
@@ -132,29 +124,20 @@ impl Dimension {
             )?)),
         }
     }
-
-    /// The variant's name.
-    fn name(self) -> &'static str
-        ensures { result.now ≡ dimension_name self }
-    {
-        by_dimension!(self; "XY", "XYZ", "XYM", "XYZM")
-    }
 }
 
 impl fmt::Display for Dimension {
-    ghost use Rattle.std.specs.Prelude.{Some};
-    ghost use Rattle.geoarrow_layout.specs.Kinds.{dimension_name};
+    ghost use Rattle.geoarrow_layout.specs.Cited.{Some, dimension_name};
 
     ghost output = { λ d. Some (dimension_name d) };
 
     fn fmt<W: fmt::Write>(&self, f: &mut fmt::Formatter<W>) -> fmt::Result {
-        f.write_str(self.name())
+        f.write_str(by_dimension!(self; "XY", "XYZ", "XYM", "XYZM"))
     }
 }
 
 impl From<Dimension> for Dimensions {
-    ghost use Rattle.std.specs.Prelude.{◌≡◌};
-    ghost use Rattle.geoarrow_layout.specs.Kinds.{dimensions_of};
+    ghost use Rattle.geoarrow_layout.specs.Cited.{◌≡◌, dimensions_of};
 
     ghost from_gives = { λ d e. e ≡ dimensions_of d };
 
@@ -162,6 +145,9 @@ impl From<Dimension> for Dimensions {
         by_dimension!(dimension; Dimensions::Xy, Dimensions::Xyz, Dimensions::Xym, Dimensions::Xyzm)
     }
 }
+
+/// The type and the dimension of a coordinate.
+pub(crate) type Coordinate = (CoordType, Dimension);
 
 /// All dimensions, in their order.
 pub(crate) const DIMENSIONS: [Dimension; 4] = [XY, XYZ, XYM, XYZM];

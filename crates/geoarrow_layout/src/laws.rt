@@ -1,20 +1,5 @@
 //! Laws of the layouts, for the crates above: functions with nothing to run, whose contract is the law, and laws of `==`.
-ghost use Rattle.std.specs.Prelude.{◌≡◌, ◌↔◌, Contains, ◌≢◌, ◌<◌, ◌⊎◌, ◌++◌, true, ℕ, ℤ, List, length, get_or, IsTrue};
-ghost use Rattle.arrow_values.specs.Tree.{Text, Tree, FieldTree, Members};
-ghost use Rattle.arrow_values.specs.View.{member_trees, tree};
-ghost use Rattle.arrow_values.specs.Union.{HasTypeIds, has, retained};
-ghost use Rattle.arrow_values.specs.Coordinates.{dimensions_size};
-ghost use Rattle.geoarrow_layout.specs.Kinds.{size_of, dimensions_of, IsDimension, name_text, name_of};
-ghost use Rattle.geoarrow_layout.specs.declared.names.ExtensionName.{ExtensionName};
-ghost use Rattle.geoarrow_layout.specs.Shapes.{Leaf, AllMembers, Accepts, IsStructured};
-ghost use Rattle.geoarrow_layout.specs.Summary.{Summarizes};
-ghost use Rattle.geoarrow_layout.specs.Inferred.{Inferred};
-ghost use Rattle.geoarrow_layout.specs.Layouts.{leaf_layout, layout, mixed_members, geometry_members, IsWritten, IsWrittenSome};
-ghost use Rattle.geoarrow_layout.specs.Alike.{Alike};
-ghost use Rattle.geoarrow_layout.specs.Candidates.{IsAccepted, Share, SameCandidates};
-ghost use Rattle.geoarrow_layout.specs.FaultAt.{Path, FaultAt};
-ghost use Rattle.geoarrow_layout.specs.declared.fault.LayoutFault.{LayoutFault};
-ghost use Rattle.geoarrow_layout.specs.Changes.{AlikeUnions};
+ghost use Rattle.geoarrow_layout.specs.Cited.{◌≡◌, ◌↔◌, Contains, ◌≢◌, ◌<◌, ◌⊎◌, ◌++◌, true, ℕ, ℤ, List, length, get_or, IsTrue, Text, Tree, FieldTree, Members, member_trees, tree, HasTypeIds, has, retained, dimensions_size, size_of, dimensions_of, IsDimension, name_text, name_of, ExtensionName, Leaf, AllMembers, Accepts, IsStructured, Summarizes, Inferred, leaf_layout, layout, mixed_members, geometry_members, IsWritten, IsWrittenSome, Alike, IsAccepted, Share, SameCandidates, Path, FaultAt, LayoutFault, AlikeUnions};
 
 use crate::encodings::{Kind, NativeKind, Width};
 use crate::fault::LayoutFault;
@@ -37,7 +22,7 @@ pub fn layout_reads_back(kind: Kind)
 {}
 
 /// A law: every kind is in `Kind::ALL`.
-#[tactic(auto, using(crate::proofs::Listed::listed))]
+#[tactic(auto, using(crate::proofs::Written::listed))]
 pub fn kind_is_listed()
     ensures { (k : Kind) → Contains Kind.ALL k }
 {}
@@ -91,7 +76,7 @@ pub fn dimension_reads_back(dimension: Dimension)
 {}
 
 /// A law: where a point is inferred from a data type that is also read as one, it is the same point.
-#[tactic(auto, using(crate::proofs::Inferences::inferred_as_read))]
+#[tactic(auto, using(crate::proofs::Structs::inferred_as_read))]
 pub fn inferred_as_read()
     ensures { (t : Tree) (c b : CoordType) (d e : Dimension) → Inferred t c d → Leaf t b e → (c ≡ b) × (d ≡ e) }
 {}
@@ -146,7 +131,7 @@ pub fn two_names_at_most()
 {}
 
 /// A law: no kind is twice in `Kind::ALL`.
-#[tactic(auto, using(crate::proofs::Listed::listed_once))]
+#[tactic(auto, using(crate::proofs::Written::listed_once))]
 pub fn kinds_are_listed_once()
     ensures { (i j : ℕ) (k : Kind) → i < length Kind.ALL → j < length Kind.ALL → get_or Kind.ALL i k ≡ get_or Kind.ALL j k → i ≡ j }
 {}

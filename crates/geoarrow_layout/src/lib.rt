@@ -3,7 +3,6 @@
 
 mod encodings;
 mod fault;
-mod find;
 mod kinds;
 mod laws;
 mod likeness;
@@ -13,8 +12,7 @@ mod summary;
 mod write;
 
 pub use encodings::{Kind, NativeKind, Width};
-pub use fault::LayoutFault;
-pub use find::{child_field, find_fault};
+pub use fault::{LayoutFault, child_field, find_fault};
 pub use kinds::{CoordType, Dimension};
 pub use laws::{
     accepted_or_at_fault, alike_are_one_kind, alike_both_ways, alike_in_turn, alike_to_itself,

@@ -1,13 +1,5 @@
 //! Data types that no reader distinguishes, and unions that lose or gain members.
-ghost use Rattle.std.specs.Prelude.{◌≡◌, ◌↔◌, IsTrue, ◌≢◌, ◌++◌, [], None, IsOk, IfErr, OnOk, OnErr};
-ghost use Rattle.std.specs.List.{list_all};
-ghost use Rattle.arrow_values.specs.View.{tree, field_trees, member_trees};
-ghost use Rattle.geoarrow_layout.specs.Shapes.{names_of, has_name, SameNames, AllMembers, SomeMember};
-ghost use Rattle.geoarrow_layout.specs.Alike.{Alike, AlikeNames, EachHasAlike, HasAlike};
-ghost use Rattle.arrow_values.specs.Tree.{Members};
-ghost use Rattle.arrow_values.specs.Union.{HasTypeIds, retained, shared_id};
-ghost use Rattle.arrow_values.specs.Errors.{fault_id};
-ghost use Rattle.geoarrow_layout.specs.Changes.{GeometryUnion, MixedUnion, AlikeUnions, EachOf, AreJust};
+ghost use Rattle.geoarrow_layout.specs.Cited.{◌≡◌, ◌↔◌, IsTrue, ◌≢◌, ◌++◌, [], None, IsOk, IfErr, OnOk, OnErr, list_all, tree, field_trees, member_trees, names_of, has_name, SameNames, AllMembers, SomeMember, Alike, AlikeNames, EachHasAlike, HasAlike, Members, HasTypeIds, retained, shared_id, fault_id, GeometryUnion, MixedUnion, AlikeUnions, EachOf, AreJust};
 
 use crate::kinds::{CoordType, Dimension};
 use arrow_values::{AppendFault, DataType, Field, UnionFields};
@@ -139,7 +131,7 @@ fn is_same_or_apart(member: &(i8, Field), other: &(i8, Field)) -> bool
 }
 
 /// Whether structs of these fields are alike.
-#[tactic(auto, using(crate::proofs::FieldSteps::length_names))]
+#[tactic(auto, using(crate::proofs::Structs::length_names))]
 fn same_struct(fields: &[Field], others: &[Field]) -> bool
     ensures { IsTrue result ↔ AlikeNames (names_of (field_trees fields.now)) (names_of (field_trees others.now)) }
 {
@@ -151,7 +143,7 @@ fn same_struct(fields: &[Field], others: &[Field]) -> bool
 }
 
 /// Whether the fields have the same set of names.
-#[tactic(auto, using(crate::proofs::FieldSteps::same_first, crate::proofs::FieldSteps::not_same))]
+#[tactic(auto, using(crate::proofs::Structs::same_first, crate::proofs::Structs::not_same))]
 fn same_names(fields: &[Field], others: &[Field]) -> bool
     ensures { IsTrue result ↔ SameNames (names_of (field_trees fields.now)) (names_of (field_trees others.now)) }
 {

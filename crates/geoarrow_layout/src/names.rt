@@ -1,7 +1,5 @@
 //! The extension names, and those under which a data type can be read.
-ghost use Rattle.std.specs.Prelude.{◌≡◌, ◌↔◌, Some};
-ghost use Rattle.geoarrow_layout.specs.declared.names.ExtensionName.{ExtensionName};
-ghost use Rattle.geoarrow_layout.specs.Kinds.{name_text};
+ghost use Rattle.geoarrow_layout.specs.Cited.{◌≡◌, ◌↔◌, Some, ExtensionName, name_text};
 
 use crate::encodings::NativeKind;
 

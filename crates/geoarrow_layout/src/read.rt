@@ -2,27 +2,18 @@
 //! geometries and boxes use only the summary of the data type, so they ignore the nullability, the metadata and the data
 //! types of coordinate fields, the names of list items and members, and the mode of a union and the order of its members.
 //! None of them allocates.
-ghost use Rattle.std.specs.Prelude.{false, IfErr, IfOk, ◌≡◌, IfSome, ◌↔◌, IsTrue, Some, ◌≢◌, ◌∷◌, [], true, ◌≤◌, ◌<◌, Ok, ℕ, List, Option, None, length, ◌&&◌, MatchResult};
-ghost use Rattle.arrow_values.specs.View.{tree, field_trees};
-ghost use Rattle.geoarrow_layout.specs.Shapes.{Yields, YieldsOne, Leaf, Under, Native, Mixed, Collection, Geometry, BoxShape, IsBytes, IsText, Accepts, YieldsKind, IsStructured, IsSeparatedAs, IsBoxAs, names_of};
-ghost use Rattle.geoarrow_layout.specs.Kinds.{name_text, extension_of, name_of};
-ghost use Rattle.geoarrow_layout.specs.FaultAt.{HasFault, BoxFault, MixedFault, NativeFault, GeometryFault, FaultAt, SeparatedFault, CoordinateFault, BoxNamesFault, LevelsFault};
-ghost use Rattle.arrow_values.specs.Tree.{Tree, Text, struct};
-ghost use Rattle.geoarrow_layout.specs.Summary.{AreOf, IsCoordFault, Summarizes, IsBits, SomeAt, IsBottom, IsUnion, Tells, IsNoLeaf, ShowsIn, NativeIn, NativeFaultIn, MemberIn, MemberFaultIn, TellsBoth, IsLevelFault, MixedSays, has_bit};
-ghost use Rattle.geoarrow_layout.specs.Candidates.{Holds, IsAccepted};
-ghost use Rattle.geoarrow_layout.specs.Inferred.{YieldsSome, Inferred, IsInferredAs, IsInferredSize, is_float64, are_float64};
-ghost use Rattle.geoarrow_layout.specs.declared.summary.ListWidth.{ListWidth};
+ghost use Rattle.geoarrow_layout.specs.Cited.{false, IfErr, IfOk, ◌≡◌, IfSome, ◌↔◌, IsTrue, Some, ◌≢◌, ◌∷◌, [], true, ◌≤◌, ◌<◌, Ok, ℕ, List, Option, None, length, ◌&&◌, MatchResult, tree, field_trees, Yields, YieldsOne, Leaf, Under, Native, Mixed, Collection, Geometry, BoxShape, IsBytes, IsText, Accepts, YieldsKind, IsStructured, IsSeparatedAs, IsBoxAs, names_of, name_text, extension_of, name_of, HasFault, BoxFault, MixedFault, NativeFault, GeometryFault, FaultAt, SeparatedFault, CoordinateFault, BoxNamesFault, LevelsFault, Tree, Text, struct, AreOf, IsCoordFault, Summarizes, IsBits, SomeAt, IsBottom, IsUnion, Tells, IsNoLeaf, ShowsIn, NativeIn, NativeFaultIn, MemberIn, MemberFaultIn, TellsBoth, IsLevelFault, MixedSays, has_bit, Holds, IsAccepted, YieldsSome, Inferred, IsInferredAs, IsInferredSize, is_float64, are_float64, ListWidth};
 ghost use Rattle.geoarrow_layout.specs.declared.names.ExtensionName.TheVariants as names;
 
-use crate::encodings::{Kind, NativeKind, Width, levels, parts_of_id};
+use crate::encodings::{Kind, NativeKind, Width, list_names, parts_of_id};
 use crate::fault::LayoutFault;
-use crate::kinds::{CoordType, Dimension, list_size, only_dimension};
+use crate::kinds::{CoordType, Coordinate, Dimension, list_size, only_dimension};
 use crate::names::{Candidates, ExtensionName};
 use crate::summary::{Bottom, Summary, has_bit, is_float64, struct_bottom, summarize};
 use arrow_values::{DataType, Field};
 
 /// What a reader of coordinates returns.
-pub(crate) type Answer = Result<(CoordType, Dimension), LayoutFault>;
+pub(crate) type Answer = Result<Coordinate, LayoutFault>;
 
 /// Reads a point (GeoArrow, "Coordinate", "Point"): a fixed size list whose inner field's name gives the dimension and
 /// whose size matches it, or a struct of two fields, of four, or of three named x, y and z or x, y and m in
@@ -41,8 +32,7 @@ pub fn parse_point(data_type: &DataType) -> Result<(CoordType, Dimension), Layou
     parse_native(NativeKind::Point, data_type)
 }
 
-/// Reads a line string (GeoArrow, "LineString"): one list over a coordinate, of either width. Errs on any other data
-/// type. Allocates nothing.
+/// Reads a line string (GeoArrow, "LineString"), as `parse_native` does: one list over a coordinate, of either width.
 pub fn parse_linestring(data_type: &DataType) -> Result<(CoordType, Dimension), LayoutFault>
     ensures exact { Yields result (Native (tree data_type.now) NativeKind.LineString) }
     ensures fault { IfErr result (HasFault (NativeFault NativeKind.LineString (tree data_type.now))) }
@@ -50,8 +40,7 @@ pub fn parse_linestring(data_type: &DataType) -> Result<(CoordType, Dimension), 
     parse_native(NativeKind::LineString, data_type)
 }
 
-/// Reads a polygon (GeoArrow, "Polygon"): two lists over a coordinate, both of one width. Errs on any other data type.
-/// Allocates nothing.
+/// Reads a polygon (GeoArrow, "Polygon"), as `parse_native` does: two lists over a coordinate, both of one width.
 pub fn parse_polygon(data_type: &DataType) -> Result<(CoordType, Dimension), LayoutFault>
     ensures exact { Yields result (Native (tree data_type.now) NativeKind.Polygon) }
     ensures fault { IfErr result (HasFault (NativeFault NativeKind.Polygon (tree data_type.now))) }
@@ -59,8 +48,7 @@ pub fn parse_polygon(data_type: &DataType) -> Result<(CoordType, Dimension), Lay
     parse_native(NativeKind::Polygon, data_type)
 }
 
-/// Reads a multipoint (GeoArrow, "MultiPoint"): one list over a coordinate, of either width. Errs on any other data
-/// type. Allocates nothing.
+/// Reads a multipoint (GeoArrow, "MultiPoint"), as `parse_native` does: one list over a coordinate, of either width.
 pub fn parse_multipoint(data_type: &DataType) -> Result<(CoordType, Dimension), LayoutFault>
     ensures exact { Yields result (Native (tree data_type.now) NativeKind.MultiPoint) }
     ensures fault { IfErr result (HasFault (NativeFault NativeKind.MultiPoint (tree data_type.now))) }
@@ -68,8 +56,7 @@ pub fn parse_multipoint(data_type: &DataType) -> Result<(CoordType, Dimension), 
     parse_native(NativeKind::MultiPoint, data_type)
 }
 
-/// Reads a multilinestring (GeoArrow, "MultiLineString"): two lists over a coordinate, both of one width. Errs on any
-/// other data type. Allocates nothing.
+/// Reads a multilinestring (GeoArrow, "MultiLineString"), as `parse_native` does: two lists, of one width, over a coordinate.
 pub fn parse_multilinestring(data_type: &DataType) -> Result<(CoordType, Dimension), LayoutFault>
     ensures exact { Yields result (Native (tree data_type.now) NativeKind.MultiLineString) }
     ensures fault { IfErr result (HasFault (NativeFault NativeKind.MultiLineString (tree data_type.now))) }
@@ -77,8 +64,7 @@ pub fn parse_multilinestring(data_type: &DataType) -> Result<(CoordType, Dimensi
     parse_native(NativeKind::MultiLineString, data_type)
 }
 
-/// Reads a multipolygon (GeoArrow, "MultiPolygon"): three lists over a coordinate, all of one width. Errs on any other
-/// data type. Allocates nothing.
+/// Reads a multipolygon (GeoArrow, "MultiPolygon"), as `parse_native` does: three lists, of one width, over a coordinate.
 pub fn parse_multipolygon(data_type: &DataType) -> Result<(CoordType, Dimension), LayoutFault>
     ensures exact { Yields result (Native (tree data_type.now) NativeKind.MultiPolygon) }
     ensures fault { IfErr result (HasFault (NativeFault NativeKind.MultiPolygon (tree data_type.now))) }
@@ -97,8 +83,7 @@ pub fn parse_mixed(data_type: &DataType) -> Result<(CoordType, Dimension), Layou
     mixed_bottom(bottom_below(&summary, 0)?)
 }
 
-/// Reads a collection (GeoArrow, "GeometryCollection"): one list, of either width, over a union as `parse_mixed` reads.
-/// Errs on any other data type. Allocates nothing.
+/// Reads a collection (GeoArrow, "GeometryCollection"), as `parse_native` does: one list over what `parse_mixed` reads.
 pub fn parse_geometry_collection(
     data_type: &DataType,
 ) -> Result<(CoordType, Dimension), LayoutFault>
@@ -119,7 +104,7 @@ pub fn parse_geometry(data_type: &DataType) -> Result<CoordType, LayoutFault>
     geometry(&summarize(data_type))
 }
 
-/// Reads a native kind, as its own reader does. Errs on any data type that is not of that kind. Allocates nothing.
+/// Reads a native kind (GeoArrow, "Native encoding"). Errs on any data type that is not of that kind. Allocates nothing.
 pub fn parse_native(
     kind: NativeKind,
     data_type: &DataType,
@@ -156,8 +141,7 @@ pub fn parse_wkt(data_type: &DataType) -> Result<Width, LayoutFault>
     }
 }
 
-/// Reads the data type of a column with that extension name: returns its kind. Errs on any data type that has no
-/// kind under that name. Allocates nothing.
+/// The kind of a column with that extension name and data type. Errs where it has none. Allocates nothing.
 ///
 /// ```rust
 /// let name = ExtensionName::Wkb;
@@ -203,13 +187,7 @@ impl Summary {
         let Some(known) = ExtensionName::from_text(name) else {
             return None;
         };
-        match known {
-            ExtensionName::Wkb | ExtensionName::Wkt => None,
-            _ => match kind_under(known, self) {
-                Ok(kind) => Some(kind),
-                Err(_) => None,
-            },
-        }
+        kind_under(known, self).ok()
     }
 }
 
@@ -217,8 +195,7 @@ impl Summary {
 /// binary and text.
 #[inline(always)]
 fn kind_under(name: ExtensionName, summary: &Summary) -> Result<Kind, LayoutFault>
-    requires { (name ≢ names.Wkb) × (name ≢ names.Wkt) }
-    ensures told { (t : Tree) → Summarizes summary.now t → Tells result (Accepts (name_text name) t) (FaultAt name t) }
+    ensures told { (name ≢ names.Wkb) × (name ≢ names.Wkt) → (t : Tree) → Summarizes summary.now t → Tells result (Accepts (name_text name) t) (FaultAt name t) }
     ensures named { IfOk result (λ k. (extension_of k ≡ name) × IsStructured k) }
 {
     match name {
@@ -226,8 +203,8 @@ fn kind_under(name: ExtensionName, summary: &Summary) -> Result<Kind, LayoutFaul
             let pair = native(true, kind, summary)?;
             Ok(Kind::Native(kind, pair.0, pair.1))
         }
-        ExtensionName::Geometry => Ok(Kind::Geometry(geometry(summary)?)),
-        ExtensionName::Rect => Ok(Kind::Rect(boxed(summary)?)),
+        ExtensionName::Geometry => geometry(summary).map(Kind::Geometry),
+        ExtensionName::Rect => boxed(summary).map(Kind::Rect),
         ExtensionName::Wkb | ExtensionName::Wkt => Err(LayoutFault::UnexpectedType),
     }
 }
@@ -333,7 +310,7 @@ fn sized_dimension(inner: &Field, size: i32) -> Option<Dimension>
 
 /// The dimension that is inferred from a struct of these fields: of two, whatever their names are.
 #[inline(always)]
-#[tactic(auto, using(crate::proofs::Inferences::two_inferred, crate::proofs::Inferences::none_inferred))]
+#[tactic(auto, using(crate::proofs::Structs::two_inferred, crate::proofs::Structs::none_inferred))]
 fn struct_dimension(fields: &[Field]) -> Option<Dimension>
     ensures { (d : Dimension) → (result ≡ Some d) ↔ ((are_float64 (field_trees fields.now) ≡ true) × IsInferredAs d (names_of (field_trees fields.now))) }
 {
@@ -460,7 +437,7 @@ pub(crate) fn native(collections: bool, kind: NativeKind, summary: &Summary) -> 
     match kind {
         NativeKind::GeometryCollection if collections => mixed_bottom(bottom_below(summary, 1)?),
         NativeKind::GeometryCollection => Err(LayoutFault::BadTypeId),
-        _ => leaf(bottom_below(summary, levels(kind))?),
+        _ => leaf(bottom_below(summary, list_names(kind).len() as u8)?),
     }
 }
 

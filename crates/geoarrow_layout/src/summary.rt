@@ -1,12 +1,5 @@
 //! What one walk over a data type finds.
-ghost use Rattle.std.specs.Prelude.{true, false, ◌≡◌, ◌≢◌, ◌<◌, ◌≤◌, ◌↔◌, ◌∷◌, [], IsTrue, Some, MatchOption, ⊤, pos, None};
-ghost use Rattle.arrow_values.specs.View.{tree, field_trees, member_trees};
-ghost use Rattle.arrow_values.specs.Tree.{Tree, plain, float64};
-ghost use Rattle.geoarrow_layout.specs.Kinds.{interleaved_name, order_of};
-ghost use Rattle.geoarrow_layout.specs.Shapes.{ListsOver, Member, GeometryMember};
-ghost use Rattle.geoarrow_layout.specs.Summary.{place_in, known_names, IsStruct, IsBottom, AreLevels, place_of, IsInnerUnion, IsRootUnion, Summarizes, IsNoLeaf, Ended, IsWidth, ShowsIn, AddsBits, ReadAt, first_fault, TellsBoth, has_bit};
-ghost use Rattle.geoarrow_layout.specs.Inferred.{is_float64};
-ghost use Rattle.geoarrow_layout.specs.FaultAt.{MemberFault, GeometryMemberFault};
+ghost use Rattle.geoarrow_layout.specs.Cited.{true, false, ◌≡◌, ◌≢◌, ◌<◌, ◌≤◌, ◌↔◌, ◌∷◌, [], IsTrue, Some, MatchOption, ⊤, pos, None, tree, field_trees, member_trees, Tree, plain, float64, interleaved_name, order_of, ListsOver, Member, GeometryMember, place_in, known_names, IsStruct, IsBottom, AreLevels, place_of, IsInnerUnion, IsRootUnion, Summarizes, IsNoLeaf, Ended, IsWidth, ShowsIn, AddsBits, ReadAt, first_fault, TellsBoth, has_bit, is_float64, MemberFault, GeometryMemberFault};
 
 use crate::encodings::{NativeKind, parts_of_id};
 use crate::fault::LayoutFault;
@@ -28,8 +21,7 @@ pub enum ListWidth {
 /// [`Summary`] has an example.
 #[derive(Clone, Copy, Debug, PartialEq, Eq)]
 pub enum Bottom {
-    /// A fixed size list: the dimension that the inner field names, the size, and whether the inner type is
-    /// `Float64`.
+    /// A fixed size list: the dimension that the inner field names, the size, and whether it is of `Float64`.
     FixedSizeList {
         named: Option<Dimension>,
         size: i32,
@@ -192,37 +184,28 @@ macro_rules! summary_over {
     };
 }
 
-/// A list that is no further level.
-fn list_bottom(width: Option<ListWidth>, found: ListWidth) -> Bottom
-    ensures { MatchOption width ⊤ (λ w. (w ≡ found → result ≡ Bottom.Deep) × (w ≢ found → result ≡ Bottom.OtherWidth)) }
-{
-    match width {
-        Some(w) if w == found => Bottom::Deep,
-        _ => Bottom::OtherWidth,
-    }
-}
-
 /// What stands below the levels, where a union is not entered.
 #[inline(always)]
 fn leaf_bottom(below: &Below<'_>) -> Bottom
     requires { Ended below.now.width below.now.levels (tree below.now.rest.now) }
     ensures { IsBottom IsNoLeaf below.now.width below.now.levels result (tree below.now.rest.now) }
 {
-    match below.rest {
-        DataType::FixedSizeList(inner, size) => Bottom::FixedSizeList {
+    match (below.rest, below.width) {
+        (DataType::FixedSizeList(inner, size), _) => Bottom::FixedSizeList {
             named: named_dimension(inner.name()),
             size: *size,
             float64: is_float64(inner.data_type()),
         },
-        DataType::Struct(fields) => struct_bottom(fields.as_slice()),
-        DataType::List(_) => list_bottom(below.width, ListWidth::List),
-        DataType::LargeList(_) => list_bottom(below.width, ListWidth::LargeList),
+        (DataType::Struct(fields), _) => struct_bottom(fields.as_slice()),
+        (DataType::List(_), Some(ListWidth::LargeList)) => Bottom::OtherWidth,
+        (DataType::LargeList(_), Some(ListWidth::List)) => Bottom::OtherWidth,
+        (DataType::List(_) | DataType::LargeList(_), _) => Bottom::Deep,
         _ => Bottom::Other,
     }
 }
 
 /// The set of type ids with one more; ids that are not from 0 to 63 are left out.
-#[tactic(auto, using(crate::proofs::FieldSteps::id_outside, crate::proofs::FieldSteps::id_between))]
+#[tactic(auto, using(crate::proofs::Structs::id_outside, crate::proofs::Structs::id_between))]
 fn with_id(ids: u64, id: i8) -> u64
     ensures { AddsBits ids (λ i. (i < 64) × (id ≡ pos i)) result }
 {
@@ -249,7 +232,7 @@ struct Members {
 }
 
 /// What was seen with one member more, of that type id and read as that.
-#[tactic(auto, using(crate::proofs::FieldSteps::number_added, crate::proofs::FieldSteps::number_kept))]
+#[tactic(auto, using(crate::proofs::Structs::number_added, crate::proofs::Structs::number_kept))]
 fn with_member(seen: Members, id: i8, part: &Answer) -> Members
     ensures ids { AddsBits seen.ids (λ i. (i < 64) × (id ≡ pos i)) result.ids }
     ensures coord_types { AddsBits seen.coord_types (ReadAt (λ x. place_of x.0) part.now) result.coord_types }
@@ -345,8 +328,7 @@ fn root_union(members: &[(i8, Field)]) -> Bottom
     }
 }
 
-/// The summary of a data type, found in one walk that goes no further than three list levels and two unions. Allocates
-/// nothing.
+/// The summary of a data type, found in one walk, no further than three list levels and two unions. Allocates nothing.
 pub fn summarize(data_type: &DataType) -> Summary
     ensures { Summarizes result (tree data_type.now) }
 {

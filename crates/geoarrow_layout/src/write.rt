@@ -1,15 +1,10 @@
 //! The data types that are written, and the kind that a data type was written for.
-ghost use Rattle.std.specs.Prelude.{◌≡◌, ◌++◌, [], false, pos, map, IfOk, IsOk, OnOk, ◌↔◌, IsTrue, Some, codes};
-ghost use Rattle.arrow_values.specs.Name.{fixed_text};
-ghost use Rattle.arrow_values.specs.Tree.{list, struct};
-ghost use Rattle.arrow_values.specs.View.{tree, field_trees};
-ghost use Rattle.geoarrow_layout.specs.Kinds.{size_of};
-ghost use Rattle.geoarrow_layout.specs.Layouts.{coordinate, coordinate_names, leaf_layout, lists_over, over_leaf_layout, member_layout, members_over, mixed_members, mixed_layout, dimension_members, box_names, layout, geometry_members, IsBare, members_in};
-ghost use Rattle.geoarrow_layout.specs.Shapes.{IsStructured};
+ghost use Rattle.geoarrow_layout.specs.Cited.{◌≡◌, ◌++◌, [], false, pos, map, IfOk, IsOk, OnOk, ◌↔◌, IsTrue, Some, codes, fixed_text, list, struct, tree, field_trees, size_of, coordinate, coordinate_names, leaf_layout, lists_over, over_leaf_layout, member_layout, members_over, mixed_members, mixed_layout, dimension_members, box_names, layout, geometry_members, IsBare, members_in, IsStructured};
 
 use crate::encodings::{Kind, NativeKind, Width, list_names, member_name, type_id};
 use crate::kinds::{
-    CoordType, DIMENSIONS, Dimension, box_names, coordinate_names, interleaved_name, list_size,
+    CoordType, Coordinate, DIMENSIONS, Dimension, box_names, coordinate_names, interleaved_name,
+    list_size,
 };
 use crate::summary::is_float64;
 use arrow_values::{DataType, Field, Fields, FixedName, UnionFields, UnionMode};
@@ -60,7 +55,7 @@ pub fn list_data_type(
             let members = mixed_data_type(alloc, coord_type, dimension)?;
             lists_over(alloc, list_names(kind), members)
         }
-        _ => over_leaf(alloc, kind, coord_type, dimension),
+        _ => over_leaf(alloc, kind, (coord_type, dimension)),
     }
 }
 
@@ -75,7 +70,7 @@ pub fn mixed_data_type(
     ensures { IfOk result (λ t. tree t ≡ mixed_layout coord_type dimension) }
 {
     let mut members = Vec::with_capacity(alloc, 6)?;
-    push_over(alloc, &mut members, &COLLECTED, coord_type, dimension)?;
+    push_over(alloc, &mut members, &COLLECTED, (coord_type, dimension))?;
     Ok(DataType::Union(UnionFields::from_members(members), UnionMode::Dense))
 }
 
@@ -86,15 +81,14 @@ pub fn geometry_data_type(alloc: Global, coord_type: CoordType) -> Result<DataTy
     ensures { IfOk result (λ t. tree t ≡ layout (Kind.Geometry coord_type)) }
 {
     let mut members = Vec::with_capacity(alloc, 28)?;
-    push_dimension(alloc, &mut members, coord_type, Dimension::XY)?;
-    push_dimension(alloc, &mut members, coord_type, Dimension::XYZ)?;
-    push_dimension(alloc, &mut members, coord_type, Dimension::XYM)?;
-    push_dimension(alloc, &mut members, coord_type, Dimension::XYZM)?;
+    push_dimension(alloc, &mut members, (coord_type, Dimension::XY))?;
+    push_dimension(alloc, &mut members, (coord_type, Dimension::XYZ))?;
+    push_dimension(alloc, &mut members, (coord_type, Dimension::XYM))?;
+    push_dimension(alloc, &mut members, (coord_type, Dimension::XYZM))?;
     Ok(DataType::Union(UnionFields::from_members(members), UnionMode::Dense))
 }
 
-/// The data type of a box (GeoArrow, "Box"): a struct of the least and the greatest value of each dimension. Errs only
-/// when out of memory.
+/// The data type of a box (GeoArrow, "Box"): a struct of the bounds of each dimension. Errs only when out of memory.
 pub fn box_data_type(alloc: Global, dimension: Dimension) -> Result<DataType, AllocError>
     ensures { IfOk result (λ t. tree t ≡ layout (Kind.Rect dimension)) }
 {
@@ -123,8 +117,7 @@ pub fn wkt_data_type(width: Width) -> DataType
     }
 }
 
-/// The data type of a column of a kind, as written. Errs only when out of memory, and never
-/// for well-known binary and text.
+/// The data type of a column of a kind. Errs only when out of memory, and never for well-known binary and text.
 pub fn kind_data_type(alloc: Global, kind: Kind) -> Result<DataType, AllocError>
     ensures layout { IfOk result (λ t. tree t ≡ layout kind) }
     ensures no_memory { ¬ IsStructured kind → IsOk result }
@@ -175,16 +168,11 @@ fn lists_over(alloc: Global, names: &[FixedName], inner: DataType) -> Result<Dat
 
 /// The lists of a kind over a coordinate.
 #[inline(always)]
-fn over_leaf(
-    alloc: Global,
-    kind: NativeKind,
-    coord_type: CoordType,
-    dimension: Dimension,
-) -> Result<DataType, AllocError>
-    ensures { IfOk result (λ t. tree t ≡ over_leaf_layout kind coord_type dimension) }
+fn over_leaf(alloc: Global, kind: NativeKind, leaf: Coordinate) -> Result<DataType, AllocError>
+    ensures { IfOk result (λ t. tree t ≡ over_leaf_layout kind leaf.0 leaf.1) }
 {
-    let leaf = coord_data_type(alloc, coord_type, dimension)?;
-    lists_over(alloc, list_names(kind), leaf)
+    let inner = coord_data_type(alloc, leaf.0, leaf.1)?;
+    lists_over(alloc, list_names(kind), inner)
 }
 
 /// The member of a union for a kind in a dimension, which holds that data type.
@@ -205,14 +193,13 @@ fn push_over(
     alloc: Global,
     members: &mut Vec<(i8, Field)>,
     kinds: &[NativeKind],
-    coord_type: CoordType,
-    dimension: Dimension,
+    leaf: Coordinate,
 ) -> Result<(), AllocError>
-    ensures { OnOk result (members.new.items ≡ members.old.items ++ members_over kinds.now coord_type dimension) }
+    ensures { OnOk result (members.new.items ≡ members.old.items ++ members_over kinds.now leaf.0 leaf.1) }
 {
     for kind in kinds {
-        let data_type = over_leaf(alloc, *kind, coord_type, dimension)?;
-        members.push(member_of(alloc, *kind, dimension, data_type))?;
+        let data_type = over_leaf(alloc, *kind, leaf)?;
+        members.push(member_of(alloc, *kind, leaf.1, data_type))?;
     }
     Ok(())
 }
@@ -221,15 +208,14 @@ fn push_over(
 fn push_dimension(
     alloc: Global,
     members: &mut Vec<(i8, Field)>,
-    coord_type: CoordType,
-    dimension: Dimension,
+    leaf: Coordinate,
 ) -> Result<(), AllocError>
-    ensures { OnOk result (members.new.items ≡ members.old.items ++ dimension_members coord_type dimension) }
+    ensures { OnOk result (members.new.items ≡ members.old.items ++ dimension_members leaf.0 leaf.1) }
 {
-    push_over(alloc, members, &COLLECTED, coord_type, dimension)?;
+    push_over(alloc, members, &COLLECTED, leaf)?;
     let kind = NativeKind::GeometryCollection;
-    let data_type = list_data_type(alloc, kind, coord_type, dimension)?;
-    members.push(member_of(alloc, kind, dimension, data_type))?;
+    let data_type = list_data_type(alloc, kind, leaf.0, leaf.1)?;
+    members.push(member_of(alloc, kind, leaf.1, data_type))?;
     Ok(())
 }
 
@@ -250,10 +236,10 @@ fn is_layout(data_type: &DataType, kind: &Kind) -> bool
 {
     match kind {
         Kind::Native(NativeKind::GeometryCollection, coord_type, dimension) => {
-            is_collection(data_type, *coord_type, *dimension)
+            is_collection(data_type, (*coord_type, *dimension))
         }
         Kind::Native(kind, coord_type, dimension) => {
-            is_over_leaf(data_type, list_names(*kind), *coord_type, *dimension)
+            is_over_leaf(data_type, list_names(*kind), (*coord_type, *dimension))
         }
         Kind::Geometry(coord_type) => is_geometry(data_type, *coord_type),
         Kind::Rect(dimension) => is_struct(data_type, box_names(*dimension)),
@@ -290,13 +276,13 @@ fn are_coordinates(fields: &[Field], names: &[FixedName]) -> bool
 }
 
 /// Whether the data type is the one that is written for a coordinate.
-fn is_leaf(data_type: &DataType, coord_type: CoordType, dimension: Dimension) -> bool
-    ensures { IsTrue result ↔ (tree data_type.now ≡ leaf_layout coord_type dimension) }
+fn is_leaf(data_type: &DataType, leaf: Coordinate) -> bool
+    ensures { IsTrue result ↔ (tree data_type.now ≡ leaf_layout leaf.0 leaf.1) }
 {
-    match (coord_type, data_type) {
-        (CoordType::Separated, _) => is_struct(data_type, coordinate_names(dimension)),
+    match (leaf.0, data_type) {
+        (CoordType::Separated, _) => is_struct(data_type, coordinate_names(leaf.1)),
         (CoordType::Interleaved, DataType::FixedSizeList(field, size)) => {
-            *size == list_size(dimension) && is_coordinate(field, interleaved_name(dimension))
+            *size == list_size(leaf.1) && is_coordinate(field, interleaved_name(leaf.1))
         }
         (CoordType::Interleaved, _) => false,
     }
@@ -313,41 +299,35 @@ fn is_struct(data_type: &DataType, names: &[FixedName]) -> bool
 }
 
 /// Whether the data type is lists of items of these names over a coordinate.
-fn is_over_leaf(
-    data_type: &DataType,
-    names: &[FixedName],
-    coord_type: CoordType,
-    dimension: Dimension,
-) -> bool
-    ensures { IsTrue result ↔ (tree data_type.now ≡ lists_over (map fixed_text names.now) (leaf_layout coord_type dimension)) }
+fn is_over_leaf(data_type: &DataType, names: &[FixedName], leaf: Coordinate) -> bool
+    ensures { IsTrue result ↔ (tree data_type.now ≡ lists_over (map fixed_text names.now) (leaf_layout leaf.0 leaf.1)) }
 {
     let Some((name, others)) = names.split_first() else {
-        return is_leaf(data_type, coord_type, dimension);
+        return is_leaf(data_type, leaf);
     };
     let DataType::List(field) = data_type else {
         return false;
     };
-    is_bare(field, *name, false) && is_over_leaf(field.data_type(), others, coord_type, dimension)
+    is_bare(field, *name, false) && is_over_leaf(field.data_type(), others, leaf)
 }
 
 /// Whether the data type is the one that is written for a collection.
-fn is_collection(data_type: &DataType, coord_type: CoordType, dimension: Dimension) -> bool
-    ensures { IsTrue result ↔ (tree data_type.now ≡ list (codes "geometries") (mixed_layout coord_type dimension) false []) }
+fn is_collection(data_type: &DataType, leaf: Coordinate) -> bool
+    ensures { IsTrue result ↔ (tree data_type.now ≡ list (codes "geometries") (mixed_layout leaf.0 leaf.1) false []) }
 {
     let DataType::List(field) = data_type else {
         return false;
     };
-    is_bare(field, FixedName::Geometries, false)
-        && is_mixed(field.data_type(), coord_type, dimension)
+    is_bare(field, FixedName::Geometries, false) && is_mixed(field.data_type(), leaf)
 }
 
 /// Whether the data type is the union in a collection.
-fn is_mixed(data_type: &DataType, coord_type: CoordType, dimension: Dimension) -> bool
-    ensures { IsTrue result ↔ (tree data_type.now ≡ mixed_layout coord_type dimension) }
+fn is_mixed(data_type: &DataType, leaf: Coordinate) -> bool
+    ensures { IsTrue result ↔ (tree data_type.now ≡ mixed_layout leaf.0 leaf.1) }
 {
     match data_type {
         DataType::Union(members, UnionMode::Dense) => {
-            are_members_over(members.as_slice(), &COLLECTED, coord_type, dimension)
+            are_members_over(members.as_slice(), &COLLECTED, leaf)
         }
         _ => false,
     }
@@ -376,33 +356,28 @@ fn are_in(members: &[(i8, Field)], dimensions: &[Dimension], coord_type: CoordTy
         return false;
     }
     let (first, rest) = members.split_at(7);
-    are_of_dimension(first, coord_type, *dimension) && are_in(rest, others, coord_type)
+    are_of_dimension(first, (coord_type, *dimension)) && are_in(rest, others, coord_type)
 }
 
 /// Whether the members are those that are written for geometries of one dimension.
-fn are_of_dimension(members: &[(i8, Field)], coord_type: CoordType, dimension: Dimension) -> bool
-    ensures { IsTrue result ↔ (members.now ≡ dimension_members coord_type dimension) }
+fn are_of_dimension(members: &[(i8, Field)], leaf: Coordinate) -> bool
+    ensures { IsTrue result ↔ (members.now ≡ dimension_members leaf.0 leaf.1) }
 {
     let Some((last, rest)) = members.split_last() else {
         return false;
     };
-    if !is_member(last, NativeKind::GeometryCollection, dimension) {
+    if !is_member(last, NativeKind::GeometryCollection, leaf.1) {
         return false;
     }
-    if !is_collection(last.1.data_type(), coord_type, dimension) {
+    if !is_collection(last.1.data_type(), leaf) {
         return false;
     }
-    are_members_over(rest, &COLLECTED, coord_type, dimension)
+    are_members_over(rest, &COLLECTED, leaf)
 }
 
 /// Whether the members are those of these kinds, each over a coordinate.
-fn are_members_over(
-    members: &[(i8, Field)],
-    kinds: &[NativeKind],
-    coord_type: CoordType,
-    dimension: Dimension,
-) -> bool
-    ensures { IsTrue result ↔ (members.now ≡ members_over kinds.now coord_type dimension) }
+fn are_members_over(members: &[(i8, Field)], kinds: &[NativeKind], leaf: Coordinate) -> bool
+    ensures { IsTrue result ↔ (members.now ≡ members_over kinds.now leaf.0 leaf.1) }
 {
     let Some((kind, others)) = kinds.split_first() else {
         return members.is_empty();
@@ -410,14 +385,9 @@ fn are_members_over(
     let Some((member, rest)) = members.split_first() else {
         return false;
     };
-    is_member(member, *kind, dimension)
-        && is_over_leaf(
-            member.1.data_type(),
-            list_names(*kind),
-            coord_type,
-            dimension,
-        )
-        && are_members_over(rest, others, coord_type, dimension)
+    is_member(member, *kind, leaf.1)
+        && is_over_leaf(member.1.data_type(), list_names(*kind), leaf)
+        && are_members_over(rest, others, leaf)
 }
 
 /// Whether the member is the one for the kind in the dimension, but for its data type.

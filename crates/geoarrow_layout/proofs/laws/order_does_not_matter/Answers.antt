@@ -1,4 +1,4 @@
-use Rattle.geoarrow_layout.proofs.UnionChanges.{same_members_alike}
+use Rattle.geoarrow_layout.proofs.AlikeLaws.{same_members_alike}
 use Rattle.geoarrow_layout.proofs.laws.order_does_not_matter.Goals as goal
 
 pub returns : goal.returns

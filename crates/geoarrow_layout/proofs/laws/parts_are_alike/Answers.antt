@@ -1,4 +1,4 @@
-use Rattle.geoarrow_layout.proofs.UnionChanges.{split_and_joined}
+use Rattle.geoarrow_layout.proofs.AlikeLaws.{split_and_joined}
 use Rattle.geoarrow_layout.proofs.laws.parts_are_alike.Goals as goal
 
 pub returns : goal.returns

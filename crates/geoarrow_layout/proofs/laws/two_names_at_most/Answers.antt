@@ -1,4 +1,4 @@
-use Rattle.geoarrow_layout.proofs.NamesSteps.{two_at_most, which_two, both_accepted}
+use Rattle.geoarrow_layout.proofs.KindSteps.{two_at_most, which_two, both_accepted}
 use Rattle.geoarrow_layout.proofs.laws.two_names_at_most.Goals as goal
 
 pub returns : goal.returns

@@ -1,5 +1,5 @@
 use Rattle.geoarrow_layout.proofs.Terms.{◌≡◌, ◌↔◌, inl, inr, ℕ, zero, suc, ◌<◌, ◌+◌, ◌*◌, ◌∙◌, ℤ, List, [], ◌∷◌, length, get_or, drop, drop_more, sym, ap, subst, true≢false, arith, FieldTree, Tree, MemberTrees, no_members, member, depth, members_size, member_trees, AllMembers, SomeMember, Alike, EachHasAlike, HasAlike}
-use Rattle.geoarrow_layout.proofs.MemberLists.{all_some}
+use Rattle.geoarrow_layout.proofs.Readings.{all_some}
 use Rattle.geoarrow_layout.proofs.AlikeLaws.{has_among}
 use Rattle.geoarrow_layout.proofs.likeness.+same.Goals as goal
 

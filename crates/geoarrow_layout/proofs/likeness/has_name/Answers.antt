@@ -2,7 +2,7 @@ use borrow.Author.Tests.{tests}
 use Rattle.std.proofs.lemmas.Iterator.{YieldsList-from_slice}
 use Rattle.std.proofs.lemmas.Iterator.Search.{any_from_yields_List}
 use Rattle.geoarrow_layout.proofs.Terms.{◌∙◌, rules, bytes_eq}
-use Rattle.geoarrow_layout.proofs.FieldSteps.{has_name_fields}
+use Rattle.geoarrow_layout.proofs.Structs.{has_name_fields}
 use Rattle.geoarrow_layout.proofs.likeness.has_name.Goals as goal
 
 pub returns : goal.returns

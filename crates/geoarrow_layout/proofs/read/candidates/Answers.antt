@@ -1,7 +1,6 @@
 use Rattle.geoarrow_layout.proofs.Terms.{refl, tree, iff_false, LineString, MultiPoint, Polygon, MultiLineString, MultiPolygon, GeometryCollection, Point}
 use Rattle.geoarrow_layout.specs.declared.names.ExtensionName.TheVariants as names
-use Rattle.geoarrow_layout.proofs.KindSteps.{accepted_ok}
-use Rattle.geoarrow_layout.proofs.NamesSteps.{alone, both, point_alone, box_alone, as_other, no_names}
+use Rattle.geoarrow_layout.proofs.KindSteps.{accepted_ok, alone, both, point_alone, box_alone, as_other, no_names}
 use Rattle.geoarrow_layout.proofs.read.candidates.Goals as goal
 
 pub returns-then-is_ok : goal.returns-then-is_ok

@@ -1,6 +1,6 @@
 use Rattle.geoarrow_layout.proofs.Terms.{◌≡◌, ◌≢◌, inl, inr, refl, rules, to_z-of_z, MemberDimension, NativeIn, NativeFaultIn}
 use Rattle.geoarrow_layout.proofs.Readings.{ok, refused}
-use Rattle.geoarrow_layout.proofs.Parts.{part_answer, part_unknown}
+use Rattle.geoarrow_layout.proofs.UnionSteps.{part_answer, part_unknown}
 use Rattle.geoarrow_layout.proofs.read.member.Goals as goal
 
 pub returns-in-Ok : goal.returns-in-Ok

@@ -1,7 +1,6 @@
-use Rattle.geoarrow_layout.proofs.Terms.{[], refl, arith, Leaf, Mixed, CoordinateFault, MixedFault, IsNoLeaf, IsNested}
+use Rattle.geoarrow_layout.proofs.Terms.{[], length, refl, arith, Leaf, Mixed, CoordinateFault, MixedFault, IsNoLeaf, IsNested}
 use Rattle.geoarrow_layout.proofs.Bottoms.{under_same, level_fault}
-use Rattle.geoarrow_layout.proofs.Parts.{over_leaf_answer}
-use Rattle.geoarrow_layout.proofs.UnionSteps.{nested_mixed, shows_of_inner}
+use Rattle.geoarrow_layout.proofs.UnionSteps.{over_leaf_answer, nested_mixed, shows_of_inner}
 use Rattle.geoarrow_layout.proofs.Readings.{refused_as}
 use Rattle.geoarrow_layout.proofs.read.native.Goals as goal
 
@@ -20,11 +19,11 @@ returns-in-GeometryCollection-2 c = rw (c.if-collections.false, c.in-GeometryCol
 pub returns-in_ok-bottom_below-in_default : goal.returns-in_ok-bottom_below-in_default
 returns-in_ok-bottom_below-in_default c = λ t h.
     let below = c.in_ok-bottom_below-in_default.ensures in
-    over_leaf_answer c.args.collections c.args.kind c.levels.result c.args.summary.now t _ c.in_default.not-GeometryCollection c.levels.ensures.levels
-    (under_same IsNoLeaf Leaf CoordinateFault c.args.summary.now c.levels.result _ _ below.0 below.1 (c.leaf.ensures _ _)) h
+    over_leaf_answer c.args.collections c.args.kind (length c.list_names.result.now) c.args.summary.now t _ c.in_default.not-GeometryCollection (omega arith)
+    (under_same IsNoLeaf Leaf CoordinateFault c.args.summary.now (length c.list_names.result.now) _ _ below.0 below.1 (c.leaf.ensures _ _)) h
 
 pub returns-in_err-bottom_below-in_default : goal.returns-in_err-bottom_below-in_default
 returns-in_err-bottom_below-in_default c = λ t h.
-    over_leaf_answer c.args.collections c.args.kind c.levels.result c.args.summary.now t _ c.in_default.not-GeometryCollection c.levels.ensures.levels
+    over_leaf_answer c.args.collections c.args.kind (length c.list_names.result.now) c.args.summary.now t _ c.in_default.not-GeometryCollection (omega arith)
     (λ u k. refused_as _ _ _ _ c.from_residual-in_err-bottom_below-in_default.ensures.1
-    (level_fault CoordinateFault (λ x t b m. ((refl, refl), (refl, refl))) c.args.summary.now c.levels.result _ c.levels.ensures.few c.in_err-bottom_below-in_default.ensures u k)) h
+    (level_fault CoordinateFault (λ x t b m. ((refl, refl), (refl, refl))) c.args.summary.now (length c.list_names.result.now) _ (omega arith) c.in_err-bottom_below-in_default.ensures u k)) h

@@ -1,5 +1,5 @@
 use Rattle.geoarrow_layout.proofs.Terms.{rules, to_z-of_z}
-use Rattle.geoarrow_layout.proofs.Parts.{a_collection, kind_no_collection, no_collection, no_parts}
+use Rattle.geoarrow_layout.proofs.UnionSteps.{a_collection, kind_no_collection, no_collection, no_parts}
 use Rattle.geoarrow_layout.proofs.summary.in_collection.Goals as goal
 
 pub returns-in-GeometryCollection : goal.returns-in-GeometryCollection

@@ -1,5 +1,5 @@
 use Rattle.geoarrow_layout.proofs.Terms.{sym, ◌∙◌, ap, ◌&&◌, take_all, arith, w16, place_in, known_names, is_float64}
-use Rattle.geoarrow_layout.proofs.FieldSteps.{length_names, adds_bit, fields_seen_none, fields_seen_more}
+use Rattle.geoarrow_layout.proofs.Structs.{length_names, adds_bit, fields_seen_none, fields_seen_more}
 use Rattle.geoarrow_layout.proofs.summary.struct_bottom.Goals as goal
 
 pub loop-field-init : goal.loop-field-init

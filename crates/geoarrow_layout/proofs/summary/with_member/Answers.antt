@@ -1,5 +1,5 @@
 use Rattle.geoarrow_layout.proofs.Terms.{rules, to_z-of_z}
-use Rattle.geoarrow_layout.proofs.FieldSteps.{id_moved}
+use Rattle.geoarrow_layout.proofs.Structs.{id_moved}
 use Rattle.geoarrow_layout.proofs.summary.with_member.Goals as goal
 
 pub returns-in-Ok-clause-ids : goal.returns-in-Ok-clause-ids

@@ -1,5 +1,5 @@
 use Rattle.geoarrow_layout.proofs.Terms.{◌≡◌, ap, rules, tree, Dense, geometry_members}
-use Rattle.geoarrow_layout.proofs.TableSteps.{union_same}
+use Rattle.geoarrow_layout.proofs.Written.{union_same}
 use Rattle.geoarrow_layout.proofs.write.is_geometry.Goals as goal
 
 pub returns-in-Union-default-Dense : goal.returns-in-Union-default-Dense

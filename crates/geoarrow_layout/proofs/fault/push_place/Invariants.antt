@@ -1,6 +1,6 @@
 use Rattle.geoarrow_layout.proofs.Terms.{◌≡◌, take, member_trees, AllMembers, MemberIn}
 use Rattle.geoarrow_layout.proofs.FaultLaws.{Read}
-use Rattle.geoarrow_layout.proofs.find.push_place.Given as goal
+use Rattle.geoarrow_layout.proofs.fault.push_place.Given as goal
 
 abbrev pub invariant-loop-place : goal.invariant-loop-place
 invariant-loop-place l = record {

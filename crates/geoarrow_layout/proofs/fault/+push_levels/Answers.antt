@@ -1,6 +1,6 @@
 use Rattle.geoarrow_layout.proofs.Terms.{on_ok_weaker, ◌-◌, arith, tree}
 use Rattle.geoarrow_layout.proofs.FaultPaths.{level_leads, no_item}
-use Rattle.geoarrow_layout.proofs.find.+push_levels.Goals as goal
+use Rattle.geoarrow_layout.proofs.fault.+push_levels.Goals as goal
 
 pub returns-in_ok-push-in-Some : goal.returns-in_ok-push-in-Some
 returns-in_ok-push-in-Some t c =

@@ -1,7 +1,7 @@
 use Rattle.geoarrow_layout.proofs.Terms.{◌≡◌, ◌∙◌, sym, ap, ◌++◌, ◌∷◌, [], subst, rules, w8, to_z, of_z, to_z-of_z, take_all, member_trees, HasFault, LeadsTo, FirstOrNone, ShowsIn, MemberIn, MemberFaultIn}
 use Rattle.geoarrow_layout.proofs.FaultLaws.{member_apart_in}
 use Rattle.geoarrow_layout.proofs.FaultPaths.{goes_on, at_member, read_more, at_no_member}
-use Rattle.geoarrow_layout.proofs.find.push_place.Goals as goal
+use Rattle.geoarrow_layout.proofs.fault.push_place.Goals as goal
 
 pub returns-in-Err : goal.returns-in-Err
 returns-in-Err c =

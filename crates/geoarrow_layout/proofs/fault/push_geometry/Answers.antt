@@ -1,6 +1,6 @@
 use Rattle.geoarrow_layout.proofs.Terms.{on_ok_weaker, ap, tree}
 use Rattle.geoarrow_layout.proofs.FaultPaths.{geometry_leads}
-use Rattle.geoarrow_layout.proofs.find.push_geometry.Goals as goal
+use Rattle.geoarrow_layout.proofs.fault.push_geometry.Goals as goal
 
 pub returns-in-Some : goal.returns-in-Some
 returns-in-Some c =

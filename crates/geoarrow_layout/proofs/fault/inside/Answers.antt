@@ -2,7 +2,7 @@ use Rattle.geoarrow_layout.proofs.Terms.{rules, to_z-of_z, tree, NativeIn, Nativ
 use Rattle.geoarrow_layout.proofs.Readings.{ok, refused}
 use Rattle.geoarrow_layout.proofs.FaultLaws.{native_apart_in}
 use Rattle.geoarrow_layout.proofs.FaultPaths.{unknown_here, kind_inside}
-use Rattle.geoarrow_layout.proofs.find.inside.Goals as goal
+use Rattle.geoarrow_layout.proofs.fault.inside.Goals as goal
 
 pub returns-in_err-kind : goal.returns-in_err-kind
 returns-in_err-kind c = rw c.from_residual.ensures

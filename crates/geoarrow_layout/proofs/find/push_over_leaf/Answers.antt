@@ -1,5 +1,0 @@
-use Rattle.geoarrow_layout.proofs.FaultPaths.{over_leaf_leads}
-use Rattle.geoarrow_layout.proofs.find.push_over_leaf.Goals as goal
-
-pub returns-in_default : goal.returns-in_default
-returns-in_default c = over_leaf_leads c.push_levels.result _ _ _ _ _ c.in_default.not-GeometryCollection c.levels.ensures.levels c.push_levels.ensures
