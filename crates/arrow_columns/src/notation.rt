@@ -1,5 +1,5 @@
 //! The notation of data types, which names a plain type as the line format does and nests as Arrow's libraries print it.
-ghost use Rattle.std.specs.Prelude.{◌≡◌, ◌∷◌, [], IfOk, map, string_bytes};
+ghost use Rattle.std.specs.Prelude.{◌≡◌, ◌∷◌, [], IfOk, codes, map, string_bytes};
 ghost use Rattle.arrow_values.specs.View.{tree, field_trees, member_trees};
 ghost use Rattle.arrow_columns.specs.Notation.{null_word, part_text, member_text, nested_text, sized_text, union_word, plain_word, field_text, tree_text, field_texts, member_texts};
 
@@ -23,21 +23,15 @@ pub fn part_notation(
 ) -> Result<String, AllocError>
     ensures { IfOk result (λ text. string_bytes text ≡ part_text name.now data_type.now nullable) }
 {
-    let mut text = String::from_str(alloc, name)?;
-    text.push_str(": ")?;
-    text.push_str(data_type)?;
-    text.push_str(null_word(nullable))?;
-    Ok(text)
+    let behind = null_word(nullable);
+    format!(in alloc; "{name}: {data_type}{behind}")
 }
 
 /// A member of a union: the part, an equals sign and the type id. Errs only when out of memory.
 pub fn member_notation(alloc: Global, part: &str, id: i8) -> Result<String, AllocError>
     ensures { IfOk result (λ text. string_bytes text ≡ member_text part.now id) }
 {
-    let id = format!(in alloc; "={id}")?;
-    let mut text = String::from_str(alloc, part)?;
-    text.push_str(id.as_str())?;
-    Ok(text)
+    format!(in alloc; "{part}={id}")
 }
 
 /// A nested type: its word, and in angle brackets its parts, with a comma and a space between two. Errs only when out of
@@ -46,21 +40,14 @@ pub fn nested_notation(alloc: Global, word: &str, parts: &[String]) -> Result<St
     ensures { IfOk result (λ text. string_bytes text ≡ nested_text word.now (map string_bytes parts.now)) }
 {
     let inner = parts.join(alloc, ", ")?;
-    let mut text = String::from_str(alloc, word)?;
-    text.push_str("<")?;
-    text.push_str(inner.as_str())?;
-    text.push_str(">")?;
-    Ok(text)
+    format!(in alloc; "{word}<{inner}>")
 }
 
 /// A type with a size behind it in square brackets. Errs only when out of memory.
 pub fn sized_notation(alloc: Global, data_type: &str, size: i32) -> Result<String, AllocError>
     ensures { IfOk result (λ text. string_bytes text ≡ sized_text data_type.now size) }
 {
-    let size = format!(in alloc; "[{size}]")?;
-    let mut text = String::from_str(alloc, data_type)?;
-    text.push_str(size.as_str())?;
-    Ok(text)
+    format!(in alloc; "{data_type}[{size}]")
 }
 
 /// The word of a union: `sparse_union` or `dense_union`.
@@ -128,14 +115,8 @@ pub fn data_type_notation(alloc: Global, data_type: &DataType) -> Result<String,
             let list = list_notation(alloc, "fixed_size_list", field)?;
             sized_notation(alloc, list.as_str(), *size)
         }
-        DataType::Struct(fields) => {
-            let parts = fields_notation(alloc, fields)?;
-            nested_notation(alloc, "struct", parts.as_slice())
-        }
-        DataType::Union(members, mode) => {
-            let parts = members_notation(alloc, members)?;
-            nested_notation(alloc, union_word(*mode), parts.as_slice())
-        }
+        DataType::Struct(fields) => struct_notation(alloc, fields),
+        DataType::Union(members, mode) => union_notation(alloc, members, *mode),
         plain => String::from_str(alloc, plain_name(plain)),
     }
 }
@@ -158,27 +139,31 @@ fn field_notation(alloc: Global, field: &Field) -> Result<String, AllocError>
     part_notation(alloc, field.name(), data_type.as_str(), field.is_nullable())
 }
 
-/// The fields of a struct as parts.
+/// A struct.
 #[cycle(notation)]
-fn fields_notation(alloc: Global, fields: &Fields) -> Result<Vec<String>, AllocError>
-    ensures { IfOk result (λ parts. map string_bytes parts.items ≡ field_texts (field_trees fields.now)) }
+fn struct_notation(alloc: Global, fields: &Fields) -> Result<String, AllocError>
+    ensures { IfOk result (λ text. string_bytes text ≡ nested_text (codes "struct") (field_texts (field_trees fields.now))) }
 {
     let mut parts = Vec::new(alloc);
     for field in fields.as_slice() {
         parts.push(field_notation(alloc, field)?)?;
     }
-    Ok(parts)
+    nested_notation(alloc, "struct", parts.as_slice())
 }
 
-/// The members of a union as parts.
+/// A union.
 #[cycle(notation)]
-fn members_notation(alloc: Global, members: &UnionFields) -> Result<Vec<String>, AllocError>
-    ensures { IfOk result (λ parts. map string_bytes parts.items ≡ member_texts (member_trees members.now)) }
+fn union_notation(
+    alloc: Global,
+    members: &UnionFields,
+    mode: UnionMode,
+) -> Result<String, AllocError>
+    ensures { IfOk result (λ text. string_bytes text ≡ nested_text (union_word mode) (member_texts (member_trees members.now))) }
 {
     let mut parts = Vec::new(alloc);
     for member in members.as_slice() {
         let part = field_notation(alloc, &member.1)?;
         parts.push(member_notation(alloc, part.as_str(), member.0)?)?;
     }
-    Ok(parts)
+    nested_notation(alloc, union_word(mode), parts.as_slice())
 }

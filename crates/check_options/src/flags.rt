@@ -4,7 +4,7 @@ ghost use Rattle.check_options.specs.declared.flags.Flag.{Flag};
 ghost use Rattle.check_options.specs.Flags.{word_of, no_flags, with_flag, output_of};
 
 /// A word that stands alone.
-#[derive(Debug, Clone, Copy)]
+#[derive(Clone, Copy)]
 pub(crate) enum Flag {
     Json,
     Lines,

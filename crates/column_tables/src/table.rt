@@ -9,7 +9,7 @@ use std::alloc::{AllocError, Global};
 const LINE_BYTES: usize = 120;
 
 /// How many characters the widest cell of each column has, but for the last column.
-#[derive(Debug, Clone, Copy)]
+#[derive(Clone, Copy)]
 pub(crate) struct Rooms {
     name: usize,
     holds: usize,

@@ -2,7 +2,7 @@
 ghost use Rattle.std.specs.Prelude.{IfOk, option_map};
 ghost use Rattle.crs_text.specs.Crs.{IsCrsText};
 
-use crate::text::member_text_with_scratch;
+use crate::text::{member_text, member_text_with_scratch};
 use json::Scratch;
 use std::alloc::{AllocError, Global};
 
@@ -20,7 +20,7 @@ use std::alloc::{AllocError, Global};
 pub fn crs_text<'a>(alloc: Global, text: &'a str) -> Result<Option<&'a str>, AllocError>
     ensures { IfOk result (λ o. IsCrsText text.now (option_map (λ c. c.now) o)) }
 {
-    crs_text_with_scratch(text, &mut Scratch::new(alloc))
+    member_text(alloc, text, "crs")
 }
 
 /// What [`crs_text`] answers. The scratch buffer is kept by the caller from text to text: a new one has 16 KiB to clear. Errs only when

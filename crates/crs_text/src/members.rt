@@ -18,7 +18,7 @@ use value_places::{member_value, value_end};
 use value_tokens::{Refusal, skip_value};
 
 /// A part of a text, from one byte to before another.
-#[derive(Debug, Clone, Copy)]
+#[derive(Clone, Copy)]
 pub(crate) struct Place {
     pub(crate) from: usize,
     pub(crate) to: usize,

@@ -11,7 +11,7 @@ ghost use Rattle.json.specs.Word as word;
 ghost use Rattle.value_places.specs.Lexemes.{cut, lexemes_at, kind_of, Passes, NoSpaceBefore};
 
 /// What a lexeme is to the nesting of values.
-#[derive(Debug, Clone, Copy, PartialEq, Eq)]
+#[derive(Clone, Copy)]
 pub(crate) enum Kind {
     Comma,
     Colon,
@@ -21,7 +21,7 @@ pub(crate) enum Kind {
 }
 
 /// A lexeme, with the place after it.
-#[derive(Debug, Clone, Copy)]
+#[derive(Clone, Copy)]
 pub(crate) struct Lexeme {
     pub(crate) kind: Kind,
     pub(crate) end: usize,
