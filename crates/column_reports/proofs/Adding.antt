@@ -182,10 +182,6 @@ pub still : (parts : List Text) → ends_behind true parts ≡ true
 still [] = refl
 still (part ∷ parts) = refl
 
-pub ends_with : (b : Bool) (parts : List Text) (part : Text) → ends_behind b (parts ++ part ∷ []) ≡ true
-ends_with b [] part = refl
-ends_with b (first ∷ parts) part = refl
-
 -- what is added for v is added for w
 pub for : {V : Type 0} (parts : V → List Text) {v w : V} {a b : Written} → AddsParts (parts v) a b → v ≡ w → AddsParts (parts w) a b
 for parts {a = a} {b} added is = subst (λ v. AddsParts (parts v) a b) is added

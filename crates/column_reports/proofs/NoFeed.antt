@@ -179,9 +179,8 @@ warned_lines key (w ∷ ws) = more (member_line key (array_line (warning_lines (
 pub report_line : (file : Option Text) (index : ℕ) (c : ColumnTree) (crs : Option Text) (f : ColumnFinding) (ws : List Warning) → index < 2 ^ 64 → All (λ b. b ≢ 10) (line_text file index c crs f ws)
 report_line file index c crs f ws small =
     let g = geometry_in f in
-    let column = also (also (also (string_lines (codes "crs_type") (crs_type_of g)) (string_lines (codes "edges") (edges_of g))) (string_lines (codes "extension") (name_on c))) (string_lines (codes "file") file) in
-    let found = also (also (found_lines (codes "reasons") f) (string_lines (codes "state") (Some (state_word f)))) (string_lines (codes "type") (Some (type_word c g))) in
     let line : Line (line_text file index c crs f ws) =
-    object_line (also (also (also (also (string_lines (codes "column") (Some c.name)) (crs_lines (codes "crs") (crs_of g crs))) (also column (more (member_line (codes "index") (digits_line index small)) none))) found)
-    (warned_lines (codes "warnings") ws)) in
+    object_line (also (also (also (also (also (also (also (also (also (also (string_lines (codes "column") (Some c.name)) (crs_lines (codes "crs") (crs_of g crs))) (string_lines (codes "crs_type") (crs_type_of g)))
+    (string_lines (codes "edges") (edges_of g))) (string_lines (codes "extension") (name_on c))) (string_lines (codes "file") file)) (more (member_line (codes "index") (digits_line index small)) none))
+    (found_lines (codes "reasons") f)) (string_lines (codes "state") (Some (state_word f)))) (string_lines (codes "type") (Some (type_word c g)))) (warned_lines (codes "warnings") ws)) in
     line.all

@@ -62,26 +62,18 @@ abbrev pub string_if : Text → Option Text → List Text
 string_if key text = member_if key (option_map quoted text)
 
 -- the members, in the order of their keys
-abbrev pub column_members : Option Text → ℕ → ColumnTree → Option GeometryColumn → List Text
-column_members file index c g =
-    string_if (codes "crs_type") (crs_type_of g)
-    ++ string_if (codes "edges") (edges_of g)
-    ++ string_if (codes "extension") (name_on c)
-    ++ string_if (codes "file") file
-    ++ member_if (codes "index") (Some (decimal index))
-
-abbrev pub found_members : ColumnTree → ColumnFinding → List Text
-found_members c f =
-    member_if (codes "reasons") (reasons_in f)
-    ++ string_if (codes "state") (Some (state_word f))
-    ++ string_if (codes "type") (Some (type_word c (geometry_in f)))
-
 abbrev pub members_of : Option Text → ℕ → ColumnTree → Option Text → ColumnFinding → List Warning → List Text
 members_of file index c crs f ws =
     string_if (codes "column") (Some c.name)
     ++ member_if (codes "crs") (option_map on_one_line (crs_of (geometry_in f) crs))
-    ++ column_members file index c (geometry_in f)
-    ++ found_members c f
+    ++ string_if (codes "crs_type") (crs_type_of (geometry_in f))
+    ++ string_if (codes "edges") (edges_of (geometry_in f))
+    ++ string_if (codes "extension") (name_on c)
+    ++ string_if (codes "file") file
+    ++ member_if (codes "index") (Some (decimal index))
+    ++ member_if (codes "reasons") (reasons_in f)
+    ++ string_if (codes "state") (Some (state_word f))
+    ++ string_if (codes "type") (Some (type_word c (geometry_in f)))
     ++ member_if (codes "warnings") (warnings_in ws)
 
 -- the report: the file, where it is named, the place of the column, the column, the text of its CRS, what is said of it, and its warnings

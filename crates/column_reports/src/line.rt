@@ -1,9 +1,8 @@
 //! The line of a column.
-ghost use Rattle.std.specs.Prelude.{◌≡◌, IfOk, OnOk, option_map, string_bytes};
+ghost use Rattle.std.specs.Prelude.{◌≡◌, IfOk, string_bytes};
 ghost use Rattle.arrow_values.specs.Texts.{text_of};
 ghost use Rattle.arrow_columns.specs.Column.{column_tree};
-ghost use Rattle.column_reports.specs.Report.{column_members, found_members, line_text};
-ghost use Rattle.column_reports.specs.Appended.{AddsParts};
+ghost use Rattle.column_reports.specs.Report.{line_text};
 
 use crate::crs::put_crs;
 use crate::put::{put_number, put_text, put_text_if};
@@ -11,7 +10,7 @@ use crate::reasons::put_reasons;
 use crate::warnings::put_warnings;
 use crate::words::{crs_of, crs_type_of, edges_of, state_word, type_word};
 use arrow_columns::Column;
-use column_check::{Finding, Geometry, Warning};
+use column_check::{Finding, Warning};
 use json::Writer;
 use std::alloc::{AllocError, Global};
 
@@ -67,45 +66,20 @@ pub fn json_line(
     ensures { IfOk result (λ text. string_bytes text ≡ line_text (text_of file.entry) index (column_tree column.now) (text_of crs.entry) finding.now warnings.now) }
 {
     let geometry = finding.geometry();
+    let type_word = type_word(alloc, column, geometry)?;
     let mut out = Writer::new(Vec::with_capacity(alloc, LINE_ROOM)?);
     out.begin_object()?;
     put_text(&mut out, "column", column.name.as_str())?;
     let mut out = put_crs(out, crs_of(geometry, crs))?;
-    put_column(&mut out, column, file, index, geometry)?;
-    put_found(alloc, &mut out, column, finding)?;
+    put_text_if(&mut out, "crs_type", crs_type_of(geometry))?;
+    put_text_if(&mut out, "edges", edges_of(geometry))?;
+    put_text_if(&mut out, "extension", column.extension_type_name())?;
+    put_text_if(&mut out, "file", file)?;
+    put_number(&mut out, "index", index)?;
+    put_reasons(&mut out, finding)?;
+    put_text(&mut out, "state", state_word(finding))?;
+    put_text(&mut out, "type", type_word.as_str())?;
     put_warnings(&mut out, warnings)?;
     out.end_object()?;
     Ok(unsafe { String::from_utf8_unchecked(out.into_inner()) })
-}
-
-/// Writes the CRS type and the edges of geometries, the extension name of a column, and where it is.
-fn put_column(
-    out: &mut Writer,
-    column: &Column,
-    file: Option<&str>,
-    index: usize,
-    geometry: Option<&Geometry>,
-) -> Result<(), AllocError>
-    ensures { OnOk result (AddsParts (column_members (text_of file.entry) index (column_tree column.now) (option_map (λ g. g.now) geometry.entry)) out.old out.new) }
-{
-    put_text_if(out, "crs_type", crs_type_of(geometry))?;
-    put_text_if(out, "edges", edges_of(geometry))?;
-    put_text_if(out, "extension", column.extension_type_name())?;
-    put_text_if(out, "file", file)?;
-    put_number(out, "index", index)
-}
-
-/// Writes why a column is invalid, its state and its type.
-fn put_found(
-    alloc: Global,
-    out: &mut Writer,
-    column: &Column,
-    finding: &Finding,
-) -> Result<(), AllocError>
-    ensures { OnOk result (AddsParts (found_members (column_tree column.now) finding.now) out.old out.new) }
-{
-    put_reasons(out, finding)?;
-    put_text(out, "state", state_word(finding))?;
-    let type_word = type_word(alloc, column, finding.geometry())?;
-    put_text(out, "type", type_word.as_str())
 }

@@ -28,10 +28,12 @@ pub(crate) fn state_word(finding: &Finding) -> &'static str
 fn kind_text(alloc: Global, kind: Kind) -> Result<String, AllocError>
     ensures { IfOk result (λ text. string_bytes text ≡ kind_text kind) }
 {
-    let word = kind_word(kind);
-    let coord_type = coord_type_word(kind.coord_type());
-    let dimension = dimension_word(kind.dimension());
-    format!(in alloc; "{word} {coord_type} {dimension}")
+    let mut text = String::from_str(alloc, kind_word(kind))?;
+    text.push_str(" ")?;
+    text.push_str(coord_type_word(kind.coord_type()))?;
+    text.push_str(" ")?;
+    text.push_str(dimension_word(kind.dimension()))?;
+    Ok(text)
 }
 
 /// The word of edges.
