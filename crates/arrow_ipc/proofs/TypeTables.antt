@@ -22,13 +22,13 @@ use Rattle.arrow_ipc.specs.Blocks.{IsType, word, offsets, number, truth, place_o
 use Rattle.arrow_ipc.specs.Shapes.{column_of, member_ids, are_ids, member_fields, nested_columns, shape_of, ids_of, shape_tag, shape_bytes, has_table}
 use Rattle.arrow_ipc.specs.declared.fault.Fault.{Fault}
 use Rattle.arrow_ipc.specs.declared.fault.Rule.TheVariants.{Parameter}
-use Rattle.arrow_ipc.specs.declared.kinds.Kind.{Kind}
+use Rattle.arrow_ipc.specs.declared.parts.Kind.{Kind}
 use Rattle.arrow_ipc.specs.declared.wire.Table.{Table as Opened}
-use Rattle.arrow_ipc.specs.declared.kinds.Kind.TheVariants.{Plain, List as ListOf, Struct, Union}
+use Rattle.arrow_ipc.specs.declared.parts.Kind.TheVariants.{Plain, List as ListOf, Struct, Union}
 use Rattle.arrow_values.specs.declared.tree.DataType.TheVariants.{Null}
 use Rattle.arrow_ipc.specs.Rooms.{is_sound, table_room}
-use Rattle.arrow_ipc.specs.declared.shapes.Shape.{Shape}
-use Rattle.arrow_ipc.specs.declared.shapes.Shape.TheVariants.{Table}
+use Rattle.arrow_ipc.specs.declared.nesting.Shape.{Shape}
+use Rattle.arrow_ipc.specs.declared.nesting.Shape.TheVariants.{Table}
 use Rattle.std.proofs.lemmas.Bool.{ltb-true, eq-eqb}
 use Rattle.arrow_ipc.proofs.Linked.{u8_is, u16_is, u32_is, length_linked, by_place, flat, slot_place, tail, is_vector, low, length_table, stands}
 

@@ -1,7 +1,7 @@
 use Rattle.std.proofs.Common.{append-nil, sym, ◌∙◌, arith}
 use Rattle.std.proofs.lemmas.List.{drop_all}
 use Rattle.arrow_ipc.proofs.Linked.{long_linked}
-use Rattle.arrow_ipc.proofs.blocks.linked_block.Goals as goal
+use Rattle.arrow_ipc.proofs.write.linked_block.Goals as goal
 
 pub returns : goal.returns
 returns c =
