@@ -70,7 +70,7 @@ fn type_ids(alloc: Global, data_type: &DataType) -> Result<Vec<i8>, AllocError>
 }
 
 /// A union's table, with its type ids.
-#[tactic(auto, using(crate::proofs::TypeTables::length_union, crate::proofs::TypeTables::length_vector_of, crate::proofs::TypeTables::ids_written, std::proofs::lemmas::List::drop_all))]
+#[tactic(auto, using(crate::proofs::Tables::length_union, crate::proofs::Tables::length_vector_of, crate::proofs::Tables::ids_written, std::proofs::lemmas::List::drop_all))]
 fn union_block(alloc: Global, mode: UnionMode, ids: &[i8]) -> Block
     ensures { MakesSound (are_ids [] ids.now) (union_block mode ids.now) result }
 {
@@ -102,7 +102,7 @@ fn type_table(alloc: Global, data_type: &DataType) -> Result<(u8, Vec<u8>), Writ
 }
 
 /// The fields that a type nests.
-#[tactic(auto, using(crate::proofs::Nestings::fields_lent))]
+#[tactic(auto, using(crate::proofs::Made::fields_lent))]
 fn nested_fields<'a>(alloc: Global, data_type: &'a DataType) -> Result<Vec<&'a Field>, AllocError>
     ensures { IfOk result (λ fs. map (λ f. column_of f.now) fs.items ≡ nested_columns (tree data_type.now)) }
 {
@@ -129,7 +129,7 @@ fn nested_fields<'a>(alloc: Global, data_type: &'a DataType) -> Result<Vec<&'a F
 }
 
 /// A column of a data type, with so many levels for itself and what it nests.
-#[tactic(auto, using(crate::proofs::Nestings::nests_less, crate::proofs::Nestings::nested_refused, crate::proofs::TypeTables::table_size, crate::proofs::TypeTables::no_table))]
+#[tactic(auto, using(crate::proofs::Made::nested_refused, crate::proofs::Tables::table_size, crate::proofs::Tables::no_table))]
 #[cycle(write)]
 pub(crate) fn data_block(
     alloc: Global,
@@ -159,7 +159,7 @@ pub(crate) fn data_block(
 }
 
 /// The vector of the columns that a type nests.
-#[tactic(auto, using(crate::proofs::Nestings::falls, crate::proofs::Nestings::each_refused, crate::proofs::Made::made_more, std::proofs::lemmas::List::drop_more, std::proofs::lemmas::List::map_push))]
+#[tactic(auto, using(crate::proofs::Made::each_refused, crate::proofs::Made::made_more, std::proofs::lemmas::List::drop_more, std::proofs::lemmas::List::map_push))]
 #[cycle(write)]
 fn children_block(alloc: Global, fields: &[&Field], levels: usize) -> Block
     ensures { Gives (λ b. Holds (columns_read levels) b (map (λ f. column_of f.now) fields.now)) (AreUnfit levels (map (λ f. column_of f.now) fields.now)) (columns_room (map (λ f. column_of f.now) fields.now)) result }

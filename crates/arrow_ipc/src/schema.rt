@@ -73,7 +73,7 @@ fn entry_at(bytes: &[u8], at: usize) -> Result<(&str, &str), Fault>
 }
 
 /// Puts an entry of metadata to those before it.
-#[tactic(auto, using(crate::proofs::Inserted::texts_inserted))]
+#[tactic(auto, using(crate::proofs::Told::texts_inserted))]
 #[inline(never)]
 fn put_entry(alloc: Global, bytes: &[u8], at: usize, budget: &mut usize, to: &mut Texts) -> Read<()>
     ensures { Tells (λ _. texts_of to.new.entries) (put_entry bytes.now at (texts_of to.old.entries)) budget.old budget.new result }

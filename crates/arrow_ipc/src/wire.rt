@@ -238,10 +238,8 @@ pub(crate) fn table_in(bytes: &[u8], table: &Table, i: u16) -> Result<usize, Fau
     requires { IsOpen bytes.now table.now }
     ensures { result ≡ table_in bytes.now table.now i }
 {
-    match slot_at(bytes, table, i)? {
-        None => Err(Fault::new(Rule::Missing, table.at)),
-        Some(slot) => target_at(bytes, slot),
-    }
+    let slot = slot_at(bytes, table, i)?.ok_or(Fault::new(Rule::Missing, table.at))?;
+    target_at(bytes, slot)
 }
 
 /// The vector to which a slot leads, or one with no elements where it is missing.

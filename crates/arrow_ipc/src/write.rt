@@ -1,10 +1,10 @@
 //! A schema as the message at the head of a stream, and the blocks of which a message is made, each of a length that is a multiple of eight.
-ghost use Rattle.std.specs.Prelude.{◌≡◌, ◌+◌, ◌*◌, ◌^◌, ◌<◌, ◌++◌, ◌∷◌, [], length, OnOk, map, IfOk, IfErr};
+ghost use Rattle.std.specs.Prelude.{◌≡◌, ◌+◌, ◌*◌, ◌<◌, ◌++◌, ◌∷◌, [], length, OnOk, map, IfOk, IfErr};
 ghost use Rattle.arrow_values.specs.View.{texts_of};
 ghost use Rattle.arrow_columns.specs.Column.{type_tree, column_tree};
 ghost use Rattle.arrow_ipc.specs.Schema.{schema_tree};
 ghost use Rattle.arrow_ipc.specs.Denotes.{IsStreamOf};
-ghost use Rattle.arrow_ipc.specs.Blocks.{Holds, child_in, word, padded, linked, vector_block, table_size, table_block, text_read, entry_read, texts_read, type_block};
+ghost use Rattle.arrow_ipc.specs.Blocks.{Holds, child_in, word, linked, vector_block, table_size, table_block, text_read, entry_read, texts_read, type_block};
 ghost use Rattle.arrow_ipc.specs.Rooms.{Makes, Gives, IsUnfitType, texts_room, room_of, schema_room};
 ghost use Rattle.arrow_ipc.specs.declared.write.WriteError.TheVariants.{OutOfMemory};
 ghost use Rattle.arrow_ipc.specs.Writes.{Streams, RefusesColumns, GivesColumns};
@@ -57,16 +57,6 @@ pub(crate) fn put_word(bytes: &mut Vec<u8>, number: u32) -> Result<(), AllocErro
     bytes.extend_from_slice(&number.to_le_bytes())
 }
 
-/// Puts zeros up to a multiple of eight.
-#[tactic(auto, unfolding(crate::specs::Blocks::padded))]
-fn pad(bytes: &mut Vec<u8>) -> Result<(), AllocError>
-    requires { length bytes.old.items < 2 ^ 40 }
-    ensures { OnOk result (bytes.new.items ≡ padded bytes.old.items) }
-{
-    let rounded = (bytes.len() + 7) / 8 * 8;
-    bytes.resize(rounded, 0)
-}
-
 /// A text, with a NUL behind it.
 pub(crate) fn text_block(alloc: Global, text: &str) -> Block
     ensures { Gives (λ b. Holds text_read b text.now) ⊥ (12 + length text.now) result }
@@ -79,7 +69,7 @@ pub(crate) fn text_block(alloc: Global, text: &str) -> Block
 }
 
 /// A number, offsets to blocks, and other bytes, up to a multiple of eight; behind them the blocks.
-#[tactic(auto, using(crate::proofs::Linked::long_linked, std::proofs::lemmas::List::drop_all, std::proofs::lemmas::List::drop_more, std::proofs::lemmas::List::append_assoc), unfolding(crate::specs::Blocks::offsets, crate::specs::Blocks::linked))]
+#[tactic(auto, using(crate::proofs::Linked::long_linked, crate::proofs::Linked::zeros_put, std::proofs::lemmas::List::drop_all, std::proofs::lemmas::List::drop_more, std::proofs::lemmas::List::append_assoc), unfolding(crate::specs::Blocks::offsets, crate::specs::Blocks::linked))]
 pub(crate) fn linked_block(alloc: Global, first: u32, blocks: &[Vec<u8>], rest: &[u8]) -> Block
     ensures { Makes (linked first (map (λ v. v.items) blocks.now) rest.now) result }
 {
@@ -101,7 +91,7 @@ pub(crate) fn linked_block(alloc: Global, first: u32, blocks: &[Vec<u8>], rest: 
         return Err(WriteError::TooLarge);
     }
     block.extend_from_slice(rest)?;
-    pad(&mut block)?;
+    block.resize((block.len() + 7) / 8 * 8, 0)?;
     'bodies: for piece in blocks {
         block.extend_from_slice(piece.as_slice())?;
     }
