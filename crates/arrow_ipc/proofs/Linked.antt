@@ -5,7 +5,7 @@ use Rattle.std.specs.Int.{w16, w32, to_le_bytes, from_le_bytes}
 use Rattle.std.specs.Str.{is_utf8}
 use Rattle.std.specs.List.{concat}
 use Rattle.std.proofs.lemmas.Nat.{from_le_bytes-to_le_bytes_4}
-use Rattle.std.proofs.lemmas.List.{length-drop, drop-drop, drop_at, take_at, length-append, length-replicate, length-map}
+use Rattle.std.proofs.lemmas.List.{length-drop, drop-drop, drop_at, take_at, take_all, length-append, length-replicate, length-map}
 use Rattle.std.proofs.lemmas.Bool.{lt-ltb, le-ltb, le-leb, ltb-true, ltb-false, eq-eqb}
 use Rattle.std.proofs.lemmas.Bool.Decides.{nat_tests}
 use Rattle.std.proofs.lemmas.Str.{IsUtf8-from_is_utf8, is_utf8-from_IsUtf8}
@@ -76,6 +76,10 @@ length_offsets near far (b ∷ bs) = grind (arith, length-append, length_offsets
 pub length_padded : (bytes : List ℕ) → length (padded bytes) ≡ rounded (length bytes)
 unfolding padded
 length_padded bytes = grind (arith, length-append, length-replicate)
+
+pub zeros_put : (bytes : List ℕ) → take (rounded (length bytes)) bytes ++ replicate (rounded (length bytes) - length bytes) 0 ≡ padded bytes
+unfolding padded
+zeros_put bytes = ap (λ l. l ++ replicate (rounded (length bytes) - length bytes) 0) (take_all (rounded (length bytes)) bytes (omega arith))
 
 length_concat : (bs : List (List ℕ)) → length (concat bs) ≡ lengths bs
 length_concat [] = refl

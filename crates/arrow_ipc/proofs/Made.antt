@@ -1,6 +1,7 @@
--- Blocks that are made one after the other, the walk along a vector of tables, and the vectors of metadata and of columns.
-use Rattle.std.proofs.Common.{◌≡◌, ℕ, ◌+◌, ◌*◌, ◌^◌, ◌<◌, ◌≤◌, ◌++◌, ◌∷◌, [], List, length, String, Global, string_bytes, string_cmp, Ordering, Less, Greater, Ok, refl, sym, ap, ◌∙◌, subst, arith, append_assoc, append-nil, Result, Vec}
-use Rattle.std.proofs.lemmas.List.{length-append, map-append}
+-- Blocks that are made one after the other, the walk along a vector of tables, and the vectors of metadata, of columns, and of the
+-- columns that a type nests.
+use Rattle.std.proofs.Common.{◌≡◌, ℕ, ◌+◌, ◌*◌, ◌^◌, ◌<◌, ◌≤◌, ◌++◌, ◌∷◌, [], List, length, String, Global, string_bytes, string_cmp, Ordering, Less, Greater, Ok, refl, sym, ap, ◌∙◌, subst, arith, append_assoc, append-nil, Result, Vec, zero, suc, ◌-◌, ◌⊎◌, inl, inr, max, Bool, true, false, ◌&&◌, map, drop, get_or, Err}
+use Rattle.std.proofs.lemmas.List.{length-append, map-append, drop_all}
 use Rattle.std.specs.Ordering.{ordering_reverse, match_ordering}
 use Rattle.std.specs.Cmp.{IsTotalOrder}
 use Rattle.std.specs.List.{AllZip, AllByRecursion}
@@ -8,29 +9,35 @@ use Rattle.std.specs.List.Sorted.{IsStrictlySortedBy}
 use Rattle.std.specs.Map.{keys_of}
 use Rattle.std.specs.BTreeMap.{insert_entry}
 use Rattle.std.specs.String.{string_cmp_total}
-use Rattle.arrow_values.specs.Tree.{Text, Metadata}
-use Rattle.arrow_values.specs.View.{texts_of}
+use Rattle.arrow_values.specs.Tree.{Text, Metadata, Tree, plain, struct, union, FieldTrees, no_fields, field, MemberTrees, no_members, member, FieldTree, Members, fields_depth, members_depth}
+use Rattle.arrow_values.specs.View.{texts_of, field_trees, member_trees, field_list, listed_fields}
 use Rattle.arrow_values.specs.Texts.{put_text}
-use Rattle.arrow_columns.specs.Column.{ColumnTree}
+use Rattle.arrow_columns.specs.Column.{ColumnTree, TypeTree, known, other, column_tree}
 use Rattle.arrow_ipc.specs.Wire.{target_at, vector_at}
 use Rattle.arrow_ipc.specs.Columns.{entry_at, put_next, texts_at, put_column, columns_by, column_at}
-use Rattle.arrow_ipc.specs.Blocks.{Holds, lengths, vector_block, entry_read, texts_read, columns_read, child_in}
+use Rattle.arrow_ipc.specs.Blocks.{Holds, lengths, vector_block, entry_read, texts_read, columns_read, child_in, text_read, table_block, column_block, IsType}
 use Rattle.arrow_ipc.specs.Fault.{◌>>=◌}
 use Rattle.arrow_ipc.specs.Tells.{gather}
-use Rattle.arrow_ipc.specs.Rooms.{Refuses, Makes, Gives}
+use Rattle.arrow_ipc.specs.Rooms.{Refuses, Makes, Gives, are_sound, members_sound, fields_room, members_room, nested_room, column_room, texts_room, room_of, columns_room, IsUnfit, IsUnfitType, AreUnfit}
 use Rattle.arrow_ipc.specs.declared.fault.Fault.{Fault}
 use Rattle.arrow_ipc.specs.declared.write.WriteError.{WriteError}
-use Rattle.arrow_ipc.specs.declared.write.WriteError.TheVariants.{Column}
-use Rattle.arrow_ipc.proofs.Told.{bound}
-use Rattle.arrow_ipc.proofs.Inserted.{texts_inserted}
-use Rattle.arrow_ipc.proofs.Tables.{column_by_table}
-use Rattle.arrow_ipc.proofs.Linked.{length_linked, AreLinked, AreWhole, whole_lengths, are_linked, is_vector}
+use Rattle.arrow_ipc.specs.declared.write.WriteError.TheVariants.{Column as Unfit}
+use Rattle.arrow_ipc.proofs.Told.{bound, texts_inserted}
+use Rattle.arrow_ipc.proofs.Tables.{column_by_table, column_holds, slots, table_is, table_size}
+use Rattle.arrow_ipc.proofs.Linked.{length_linked, AreLinked, AreWhole, whole_lengths, are_linked, is_vector, length_table}
+use Rattle.std.proofs.lemmas.Option.{slice_get-map, slice_get_read}
+use Rattle.std.specs.Option.{option_map}
+use Rattle.std.specs.Borrow.{Bor}
+use Rattle.arrow_columns.specs.declared.column.Column.{Column}
+use Rattle.arrow_ipc.specs.Shapes.{shape_of, ids_of, shape_tag, shape_bytes, has_table, column_of, member_fields, nested_columns}
+use Rattle.arrow_ipc.specs.Writes.{RefusesColumns, GivesColumns}
+use mir.Val.{bool_byte}
 
 -- ---- a block that was made, or why not
 
 -- the room is no less, and what cannot be held the same
 pub refuses_more : (e : WriteError) (P Q : Type 0) (n m : ℕ) → (P → Q) → n ≤ m → Refuses e P n → Refuses e Q m
-refuses_more (Column i) P Q n m f le r = f r
+refuses_more (Unfit i) P Q n m f le r = f r
 refuses_more _ P Q n m f le r = grind arith
 
 -- it holds what it should, in the room that it has
@@ -185,9 +192,105 @@ column_step : (levels : ℕ) (bytes : List ℕ) (start : ℕ) (s : List ColumnTr
     → put_column (column_at levels bytes) start s i ≡ Ok (push s v.0, v.1)
 column_step levels bytes start s i t v led is = rw (child_at levels bytes (start + 4 * i) t v led is) refl
 
-pub columns_hold : (levels : ℕ) (bs : List (List ℕ)) (cs : List ColumnTree) → AllZip (Holds (child_in levels)) bs cs → length (vector_block bs) < 2 ^ 32
+columns_hold : (levels : ℕ) (bs : List (List ℕ)) (cs : List ColumnTree) → AllZip (Holds (child_in levels)) bs cs → length (vector_block bs) < 2 ^ 32
     → Holds (columns_read levels) (vector_block bs) cs
 unfolding columns_by
 columns_hold levels bs cs all small =
     let h = vector_holds (child_in levels) push (λ bytes. put_column (column_at levels bytes)) [] (column_step levels) bs cs all small in
     subst (λ (l : List ColumnTree). Holds (columns_read levels) (vector_block bs) l) (joined_columns [] cs) h
+
+-- the vector of all of them, where none is left
+pub columns_made : (levels : ℕ) (unfit : Type 0) (blocks : List (List ℕ)) (left cs : List ColumnTree) → Made (Holds (child_in levels)) columns_room blocks left cs → left ≡ []
+    → (r : Result (Vec ℕ Global) WriteError) → Makes (vector_block blocks) r → Gives (λ b. Holds (columns_read levels) b cs) unfit (columns_room cs) r
+columns_made levels unfit blocks left cs m none r made = made_gives (Holds (child_in levels)) columns_room (columns_read levels) cs unfit blocks cs refl (rw none at m) (columns_hold levels blocks cs) r made
+
+-- ---- the columns that a type nests, one block after the other
+
+abbrev pub lent : List (Bor FieldTree) → List ColumnTree
+lent fs = map (λ f. column_of f.now) fs
+
+-- what refuses one of the columns refuses them all
+pub each_refused : {A : Type 0} (f : A → ColumnTree) (levels : ℕ) (xs : List A) (i : ℕ) (x : A) → i < length xs → x ≡ get_or xs i x → (e : WriteError) → Refuses e (IsUnfitType levels (f x).data_type) (room_of (f x))
+    → Refuses e (AreUnfit levels (map f xs)) (columns_room (map f xs))
+each_refused f levels [] i x lt is e r = absurd (omega arith)
+each_refused f levels (y ∷ ys) zero x lt is e r = refuses_more e (IsUnfitType levels (f y).data_type) _ (room_of (f y)) _ inl (omega arith) (rw is at r)
+each_refused f levels (y ∷ ys) (suc i) x lt is e r = refuses_more e (AreUnfit levels (map f ys)) _ (columns_room (map f ys)) _ inr (omega arith) (each_refused f levels ys i x (omega arith) is e r)
+
+-- ---- what a type nests
+
+fields_room_is : (fs : FieldTrees) → columns_room (map column_of (field_list fs)) ≡ fields_room fs
+fields_room_is no_fields = refl
+fields_room_is (field n t b m fs) = let rest = fields_room_is fs in omega (arith, rest)
+
+members_room_is : (ms : MemberTrees) → columns_room (map column_of (member_fields ms)) ≡ members_room ms
+members_room_is no_members = refl
+members_room_is (member i n t b m ms) = let rest = members_room_is ms in omega (arith, rest)
+
+pub nested_room_is : (t : Tree) → columns_room (nested_columns t) ≡ nested_room t
+nested_room_is (struct fs) = fields_room_is fs
+nested_room_is (union ms mode) = members_room_is ms
+nested_room_is _ = omega arith
+
+either : (a b : Bool) → (a ≡ false) ⊎ (b ≡ false) → (a && b) ≡ false
+either a b e = grind arith
+
+fields_unfit : (levels : ℕ) (fs : FieldTrees) → AreUnfit levels (map column_of (field_list fs)) → (are_sound fs ≡ false) ⊎ (levels < fields_depth fs)
+fields_unfit levels no_fields u = absurd u
+fields_unfit levels (field n t b m fs) u = grind (arith, either, fields_unfit levels fs)
+
+members_unfit : (levels : ℕ) (ms : MemberTrees) → AreUnfit levels (map column_of (member_fields ms)) → (members_sound ms ≡ false) ⊎ (levels < members_depth ms)
+members_unfit levels no_members u = absurd u
+members_unfit levels (member i n t b m ms) u = grind (arith, either, members_unfit levels ms)
+
+nested_unfit : (levels : ℕ) (t : Tree) → 0 < levels → AreUnfit (levels - 1) (nested_columns t) → IsUnfit levels t
+nested_unfit levels (plain p) some u = absurd u
+nested_unfit levels (struct fs) some u = grind (arith, fields_unfit (levels - 1) fs)
+nested_unfit levels (union ms mode) some u = grind (arith, either, members_unfit (levels - 1) ms)
+nested_unfit levels _ some u = grind (arith, either)
+
+pub nested_refused : (e : WriteError) (levels : ℕ) (t : Tree) (cs : List ColumnTree) (room : ℕ) → cs ≡ nested_columns t → 0 < levels → nested_room t ≤ room → Refuses e (AreUnfit (levels - 1) cs) (columns_room cs)
+    → Refuses e (IsUnfit levels t) room
+nested_refused e levels t cs room same some le r =
+    let size = nested_room_is t in
+    refuses_more e (AreUnfit (levels - 1) (nested_columns t)) (IsUnfit levels t) (columns_room (nested_columns t)) room (nested_unfit levels t some) (omega (arith, size)) (rw same at r)
+
+pub fields_lent : (lends : List (Bor FieldTree)) (all fs : List FieldTree) (i : ℕ) → lent lends ++ map column_of (drop i all) ≡ map column_of all → length all ≤ i → all ≡ fs
+    → lent lends ≡ map column_of (field_list (field_trees fs))
+fields_lent lends all fs i so_far le same =
+    sym (append-nil (lent lends)) ∙ ap (λ l. lent lends ++ map column_of l) (sym (drop_all i all le)) ∙ so_far ∙ ap (map column_of) (same ∙ sym (listed_fields fs))
+
+members_listed : (ms : Members) → map (λ m. column_of m.1) ms ≡ map column_of (member_fields (member_trees ms))
+members_listed [] = refl
+members_listed (m ∷ ms) = ap (λ cs. column_of m.1 ∷ cs) (members_listed ms)
+
+pub members_lent : (lends : List (Bor FieldTree)) (all ms : Members) (i : ℕ) → lent lends ++ map (λ m. column_of m.1) (drop i all) ≡ map (λ m. column_of m.1) all → length all ≤ i → all ≡ ms
+    → lent lends ≡ map column_of (member_fields (member_trees ms))
+members_lent lends all ms i so_far le same =
+    sym (append-nil (lent lends)) ∙ ap (λ (l : Members). lent lends ++ map (λ m. column_of m.1) l) (sym (drop_all i all le)) ∙ so_far ∙ ap (map (λ m. column_of m.1)) same ∙ members_listed ms
+
+-- ---- a column, given the blocks of its name, its type, what its type nests and its metadata
+
+pub data_gives : (levels : ℕ) (t : Tree) (name : Text) (nullable : Bool) (texts : Metadata) (nb tb cb mb : List ℕ) (tag : ℕ) (cs : List ColumnTree) → 0 < levels → cs ≡ nested_columns t
+    → Holds text_read nb name × (length nb ≤ 12 + length name) → Holds texts_read mb texts × (length mb ≤ texts_room texts) → Holds (columns_read (levels - 1)) cb cs × (length cb ≤ columns_room cs)
+    → tag ≡ shape_tag (shape_of t) → (has_table (shape_of t) (ids_of t) ≡ true) × ((tb ≡ shape_bytes (shape_of t) (ids_of t)) × (length (shape_bytes (shape_of t) (ids_of t)) < 2 ^ 31))
+    → (r : Result (Vec ℕ Global) WriteError) → Makes (table_block slots (bool_byte nullable ∷ tag ∷ 0 ∷ 0 ∷ []) (nb ∷ tb ∷ cb ∷ mb ∷ [])) r
+    → Gives (λ b. Holds (child_in levels) b (record { name = name; data_type = known t; nullable = nullable; metadata = texts })) (IsUnfit levels t) (column_room name t texts) r
+data_gives zero t name nullable texts nb tb cb mb tag cs some same named written nested tagged table r made = absurd (omega arith)
+data_gives (suc levels) t name nullable texts nb tb cb mb tag cs some same named written nested tagged table r made =
+    let size = length_table slots (bool_byte nullable ∷ tag ∷ 0 ∷ 0 ∷ []) (nb ∷ tb ∷ cb ∷ mb ∷ []) in
+    let room = table_size t in
+    let most = nested_room_is t in
+    let below : suc levels - 1 ≡ levels = omega arith in
+    gives r (column_block nb tb cb mb nullable tag) _ _ _ made (λ small.
+    let typing : IsType tag tb (nested_columns t) (known t) = rw (tagged, table.1.0) (table_is t table.0 table.1.1) in
+    column_holds levels nb tb cb mb nullable tag name (nested_columns t) (known t) texts named.0 typing (rw (below, same) at nested.0) written.0 (omega (arith, small)))
+    (omega (arith, size, room, most, named.1, written.1, ap length table.1.0, nested.1, ap columns_room same))
+
+-- ---- the columns of a schema
+
+pub column_refused : (levels : ℕ) (xs : List Column) (i : ℕ) (x : Column) (room : ℕ) → i < length xs → x ≡ get_or xs i x → IsUnfitType levels (column_tree x).data_type → RefusesColumns levels (Unfit i) (map column_tree xs) room
+column_refused levels xs i x room lt is u = (column_tree x, slice_get-map column_tree xs i ∙ ap (option_map column_tree) (slice_get_read xs (length xs) i x refl lt is), u)
+
+pub columns_give : (levels : ℕ) (cs : List ColumnTree) (r : Result (Vec ℕ Global) WriteError) → Gives (λ b. Holds (columns_read levels) b cs) ⊥ (columns_room cs) r → GivesColumns levels cs r
+columns_give levels cs (Ok b) g = g
+columns_give levels cs (Err e) g = grind arith

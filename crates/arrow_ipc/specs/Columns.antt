@@ -14,8 +14,8 @@ use Rattle.arrow_ipc.specs.Types.{type_of, with_dictionary}
 use Rattle.arrow_ipc.specs.Tells.{◌>>+◌, gather}
 use Rattle.arrow_ipc.specs.declared.fault.Fault.{Fault}
 use Rattle.arrow_ipc.specs.declared.fault.Rule.TheVariants.{Children, TypeIds, Depth}
-use Rattle.arrow_ipc.specs.declared.kinds.Kind.{Kind}
-use Rattle.arrow_ipc.specs.declared.kinds.Kind.TheVariants.{Union}
+use Rattle.arrow_ipc.specs.declared.parts.Kind.{Kind}
+use Rattle.arrow_ipc.specs.declared.parts.Kind.TheVariants.{Union}
 
 -- an entry of metadata: slot 0 of its table is its key, slot 1 its text. The last text of a key counts
 unfoldable pub entry_in : List ℕ → ℕ → Result (Text × Text) Fault

@@ -9,11 +9,11 @@ use Rattle.arrow_values.specs.declared.tree.DataType.{DataType}
 use Rattle.arrow_values.specs.declared.tree.DataType.TheVariants.{Null, Boolean, Int8, Int16, Int32, Int64, UInt8, UInt16, UInt32, UInt64, Float16, Float32, Float64, Date32, Date64, Binary, LargeBinary, BinaryView, Utf8, LargeUtf8, Utf8View}
 use Rattle.arrow_values.specs.declared.tree.UnionMode.TheVariants.{Sparse, Dense}
 use Rattle.arrow_columns.specs.declared.nested.ListForm.TheVariants.{Small, Large, Fixed}
-use Rattle.arrow_ipc.specs.declared.kinds.Named as named
-use Rattle.arrow_ipc.specs.declared.kinds.Named.TheVariants.{Decimal, Time, Timestamp, Duration, Interval, FixedSizeBinary}
+use Rattle.arrow_ipc.specs.declared.parts.Named as named
+use Rattle.arrow_ipc.specs.declared.parts.Named.TheVariants.{Decimal, Time, Timestamp, Duration, Interval, FixedSizeBinary}
 use Rattle.arrow_ipc.specs.declared.wire.Table.{Table}
-use Rattle.arrow_ipc.specs.declared.kinds.Kind.{Kind}
-use Rattle.arrow_ipc.specs.declared.kinds.Kind.TheVariants.{Plain, Named, List as ListOf, Struct, Union, Map, RunEndEncoded, ListView, LargeListView}
+use Rattle.arrow_ipc.specs.declared.parts.Kind.{Kind}
+use Rattle.arrow_ipc.specs.declared.parts.Kind.TheVariants.{Plain, Named, List as ListOf, Struct, Union, Map, RunEndEncoded, ListView, LargeListView}
 
 unfoldable pub int_at : List ℕ → Table → Result DataType Fault
 int_at bytes table = do
@@ -39,15 +39,12 @@ decimal_at bytes table = do
       if width == 128 then Ok (Decimal width precision scale) else
       if width == 256 then Ok (Decimal width precision scale) else breaks Parameter table.at) else breaks Parameter table.at) else breaks Parameter table.at
 
-abbrev pub time_width : ℕ → ℕ
-time_width unit = if nat_lt unit 2 then 32 else 64
-
 unfoldable pub time_at : List ℕ → Table → Result named.Named Fault
 time_at bytes table = do
   unit ← u16_in bytes table 0 1
   if nat_lt 3 unit then breaks Parameter table.at else (do
     width ← u32_in bytes table 1 32
-    if width == time_width unit then Ok (Time unit) else breaks Parameter table.at)
+    if width == (if nat_lt unit 2 then 32 else 64) then Ok (Time unit) else breaks Parameter table.at)
 
 -- the number in slot 0: a unit, a mode or a size
 unfoldable pub number_at : List ℕ → ℕ → Table → Result ℕ Fault

@@ -9,7 +9,7 @@ use Rattle.arrow_ipc.specs.Kinds.{int_at, kind_at}
 use Rattle.arrow_ipc.specs.declared.fault.Fault.{Fault}
 use Rattle.arrow_ipc.specs.declared.wire.Table.{Table}
 use Rattle.arrow_ipc.specs.declared.fault.Rule.TheVariants.{Missing, Tag}
-use Rattle.arrow_ipc.specs.declared.kinds.Kind.{Kind}
+use Rattle.arrow_ipc.specs.declared.parts.Kind.{Kind}
 use Rattle.arrow_values.specs.declared.tree.DataType.{DataType}
 use Rattle.arrow_values.specs.declared.tree.DataType.TheVariants.{Int32}
 use Rattle.arrow_ipc.specs.declared.parts.Index.{Index}

@@ -6,7 +6,7 @@ use Rattle.arrow_values.specs.Tree.{Text, Metadata, Tree, plain, list, large_lis
 use Rattle.arrow_columns.specs.Column.{TypeTree, known, other, ColumnTree}
 use Rattle.arrow_ipc.specs.Schema.{SchemaTree}
 use Rattle.arrow_ipc.specs.Shapes.{member_ids, are_ids, shape_tag, shape_bytes, has_table}
-use Rattle.arrow_ipc.specs.declared.shapes.Shape.{Shape}
+use Rattle.arrow_ipc.specs.declared.nesting.Shape.{Shape}
 use Rattle.arrow_ipc.specs.declared.write.WriteError.{WriteError}
 use Rattle.arrow_ipc.specs.declared.write.WriteError.TheVariants.{Column, TooLarge, OutOfMemory}
 

@@ -5,8 +5,8 @@ use Rattle.arrow_values.specs.View.{field_list}
 use Rattle.arrow_columns.specs.Column.{known, ColumnTree}
 use Rattle.arrow_values.specs.Union.{has}
 use Rattle.arrow_ipc.specs.Blocks.{type_block, union_block}
-use Rattle.arrow_ipc.specs.declared.shapes.Shape.{Shape}
-use Rattle.arrow_ipc.specs.declared.shapes.Shape.TheVariants.{Table, Members}
+use Rattle.arrow_ipc.specs.declared.nesting.Shape.{Shape}
+use Rattle.arrow_ipc.specs.declared.nesting.Shape.TheVariants.{Table, Members}
 
 -- of a plain type
 abbrev pub plain_shape : Plain → Shape

@@ -1,5 +1,5 @@
 -- A column's type, from its kind and its children.
-use Rattle.std.specs.Prelude.{ℕ, ℤ, List, ◌++◌, length, map, codes, Option, Some, None, ◌==◌, if◌then◌else◌}
+use Rattle.std.specs.Prelude.{ℕ, ℤ, List, [], ◌++◌, nat_lt, length, map, codes, Option, Some, None, ◌==◌, if◌then◌else◌}
 use Rattle.std.specs.List.{zip}
 use Rattle.std.specs.Fmt.{decimal, signed_decimal}
 use Rattle.std.specs.Int.{w32, cast_signed}
@@ -11,11 +11,10 @@ use Rattle.arrow_columns.specs.Column.{TypeTree, known, other, ColumnTree}
 use Rattle.arrow_columns.specs.Notation.{plain_word, nested_text, sized_text, member_text, union_word, type_text, column_text}
 use Rattle.arrow_columns.specs.Nested.{only, list_type, all_known, known_fields, struct_type}
 use Rattle.arrow_columns.specs.declared.nested.ListForm.{ListForm}
-use Rattle.arrow_ipc.specs.Kinds.{time_width}
-use Rattle.arrow_ipc.specs.declared.kinds.Named as named
-use Rattle.arrow_ipc.specs.declared.kinds.Named.TheVariants.{Decimal, Time, Timestamp, Duration, Interval, FixedSizeBinary}
-use Rattle.arrow_ipc.specs.declared.kinds.Kind.{Kind}
-use Rattle.arrow_ipc.specs.declared.kinds.Kind.TheVariants.{Plain, Named, List as ListOf, Struct, Union, Map, RunEndEncoded, ListView, LargeListView}
+use Rattle.arrow_ipc.specs.declared.parts.Named as named
+use Rattle.arrow_ipc.specs.declared.parts.Named.TheVariants.{Decimal, Time, Timestamp, Duration, Interval, FixedSizeBinary}
+use Rattle.arrow_ipc.specs.declared.parts.Kind.{Kind}
+use Rattle.arrow_ipc.specs.declared.parts.Kind.TheVariants.{Plain, Named, List as ListOf, Struct, Union, Map, RunEndEncoded, ListView, LargeListView}
 use Rattle.arrow_ipc.specs.declared.parts.Index.{Index}
 
 abbrev pub unit_word : ℕ → Text
@@ -25,14 +24,9 @@ unit_word unit = if unit == 0 then codes "s" else if unit == 1 then codes "ms" e
 abbrev pub decimal_text : ℕ → ℕ → ℕ → Text
 decimal_text width precision scale = codes "decimal" ++ (decimal width ++ (codes "(" ++ (decimal precision ++ (codes ", " ++ (signed_decimal (cast_signed w32 scale) ++ codes ")")))))
 
-abbrev pub time_text : ℕ → Text
-time_text unit = codes "time" ++ (decimal (time_width unit) ++ (codes "[" ++ (unit_word unit ++ codes "]")))
-
-abbrev pub duration_text : ℕ → Text
-duration_text unit = codes "duration[" ++ unit_word unit ++ codes "]"
-
-abbrev pub timestamp_text : ℕ → Text → Text
-timestamp_text unit zone = if length zone == 0 then codes "timestamp[" ++ unit_word unit ++ codes "]" else codes "timestamp[" ++ unit_word unit ++ codes ", tz=" ++ zone ++ codes "]"
+-- a type of so many units, with a time zone where it has one
+abbrev pub timed_text : Text → ℕ → Text → Text
+timed_text word unit zone = if length zone == 0 then word ++ (codes "[" ++ (unit_word unit ++ codes "]")) else word ++ (codes "[" ++ (unit_word unit ++ (codes ", tz=" ++ (zone ++ codes "]"))))
 
 abbrev pub interval_text : ℕ → Text
 interval_text unit = if unit == 0 then codes "month_interval" else if unit == 1 then codes "day_time_interval" else codes "month_day_nano_interval"
@@ -40,9 +34,9 @@ interval_text unit = if unit == 0 then codes "month_interval" else if unit == 1 
 -- the types that have a text in place of a data type
 abbrev pub named_text : named.Named → Text → Text
 named_text (Decimal width precision scale) zone = decimal_text width precision scale
-named_text (Time unit) zone = time_text unit
-named_text (Timestamp unit) zone = timestamp_text unit zone
-named_text (Duration unit) zone = duration_text unit
+named_text (Time unit) zone = timed_text (if nat_lt unit 2 then codes "time32" else codes "time64") unit []
+named_text (Timestamp unit) zone = timed_text (codes "timestamp") unit zone
+named_text (Duration unit) zone = timed_text (codes "duration") unit []
 named_text (Interval unit) zone = interval_text unit
 named_text (FixedSizeBinary size) zone = sized_text (codes "fixed_size_binary") size
 

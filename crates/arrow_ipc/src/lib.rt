@@ -2,17 +2,11 @@
 //! bytes come.
 #![tactic(auto)]
 
-mod blocks;
-mod columns;
 mod fault;
-mod kinds;
 pub mod laws;
 mod nesting;
 mod parts;
 mod schema;
-mod shapes;
-mod slots;
-mod type_tables;
 mod types;
 mod wire;
 mod write;

@@ -1,20 +1,108 @@
-//! Columns of data types, with all that they nest.
-ghost use Rattle.std.specs.Prelude.{◌≡◌, map, IfOk};
+//! Columns of data types, with the tables of their types and all that they nest.
+ghost use Rattle.std.specs.Prelude.{◌≡◌, [], map, IfOk};
 ghost use Rattle.arrow_values.specs.View.{tree, texts_of};
 ghost use Rattle.arrow_columns.specs.Column.{known};
-ghost use Rattle.arrow_ipc.specs.Blocks.{Holds, child_in, columns_read};
-ghost use Rattle.arrow_ipc.specs.Shapes.{column_of, nested_columns};
-ghost use Rattle.arrow_ipc.specs.Rooms.{Gives, IsUnfit, AreUnfit, column_room, columns_room};
+ghost use Rattle.arrow_ipc.specs.Blocks.{Holds, child_in, columns_read, union_block};
+ghost use Rattle.arrow_ipc.specs.Shapes.{shape_of, ids_of, are_ids, column_of, nested_columns};
+ghost use Rattle.arrow_ipc.specs.Rooms.{MakesSound, IsTable, Gives, IsUnfit, AreUnfit, column_room, columns_room};
 
-use crate::blocks::{table_block, text_block, texts_block, vector_block};
-use crate::type_tables::type_table;
-use crate::write::{Block, WriteError};
-use arrow_values::{DataType, Field};
+use crate::write::{
+    Block, WriteError, linked_block, put_word, table_block, text_block, texts_block, type_block,
+    vector_block,
+};
+use arrow_values::{DataType, Field, UnionMode};
 use std::alloc::{AllocError, Global};
 use std::collections::BTreeMap;
 
+/// A type's tag with the number and the truth value that its table has, or the mode of a union.
+#[derive(Clone, Copy)]
+enum Shape {
+    Table(u8, Option<u32>, Option<bool>),
+    Members(UnionMode),
+}
+
+/// The shape of a type; `None` of a list of negative size.
+fn shape_of(data_type: &DataType) -> Option<Shape>
+    ensures { result ≡ shape_of (tree data_type.now) }
+{
+    match data_type {
+        DataType::Null => Some(Shape::Table(1, None, None)),
+        DataType::Boolean => Some(Shape::Table(6, None, None)),
+        DataType::Int8 => Some(Shape::Table(2, Some(8), Some(true))),
+        DataType::Int16 => Some(Shape::Table(2, Some(16), Some(true))),
+        DataType::Int32 => Some(Shape::Table(2, Some(32), Some(true))),
+        DataType::Int64 => Some(Shape::Table(2, Some(64), Some(true))),
+        DataType::UInt8 => Some(Shape::Table(2, Some(8), Some(false))),
+        DataType::UInt16 => Some(Shape::Table(2, Some(16), Some(false))),
+        DataType::UInt32 => Some(Shape::Table(2, Some(32), Some(false))),
+        DataType::UInt64 => Some(Shape::Table(2, Some(64), Some(false))),
+        DataType::Float16 => Some(Shape::Table(3, Some(0), None)),
+        DataType::Float32 => Some(Shape::Table(3, Some(1), None)),
+        DataType::Float64 => Some(Shape::Table(3, Some(2), None)),
+        DataType::Date32 => Some(Shape::Table(8, Some(0), None)),
+        DataType::Date64 => Some(Shape::Table(8, Some(1), None)),
+        DataType::Binary => Some(Shape::Table(4, None, None)),
+        DataType::LargeBinary => Some(Shape::Table(19, None, None)),
+        DataType::BinaryView => Some(Shape::Table(23, None, None)),
+        DataType::Utf8 => Some(Shape::Table(5, None, None)),
+        DataType::LargeUtf8 => Some(Shape::Table(20, None, None)),
+        DataType::Utf8View => Some(Shape::Table(24, None, None)),
+        DataType::List(_) => Some(Shape::Table(12, None, None)),
+        DataType::LargeList(_) => Some(Shape::Table(21, None, None)),
+        DataType::FixedSizeList(_, size) if *size < 0 => None,
+        DataType::FixedSizeList(_, size) => Some(Shape::Table(16, Some(*size as u32), None)),
+        DataType::Struct(_) => Some(Shape::Table(13, None, None)),
+        DataType::Union(_, mode) => Some(Shape::Members(*mode)),
+    }
+}
+
+/// The type ids of a union; of another type none.
+fn type_ids(alloc: Global, data_type: &DataType) -> Result<Vec<i8>, AllocError>
+    ensures { IfOk result (λ ids. ids.items ≡ ids_of (tree data_type.now)) }
+{
+    let mut ids = Vec::new(alloc);
+    if let DataType::Union(members, _) = data_type {
+        for member in members.as_slice() {
+            ids.push(member.0)?;
+        }
+    }
+    Ok(ids)
+}
+
+/// A union's table, with its type ids.
+#[tactic(auto, using(crate::proofs::Tables::length_union, crate::proofs::Tables::length_vector_of, crate::proofs::Tables::ids_written, std::proofs::lemmas::List::drop_all))]
+fn union_block(alloc: Global, mode: UnionMode, ids: &[i8]) -> Block
+    ensures { MakesSound (are_ids [] ids.now) (union_block mode ids.now) result }
+{
+    let count = u32::try_from(ids.len()).or(Err(WriteError::TooLarge))?;
+    let mut words = Vec::new(alloc);
+    'each: for i in 0..ids.len() {
+        let id = ids[i];
+        if id < 0 || ids[..i].contains(&id) {
+            return Err(WriteError::Column(0));
+        }
+        put_word(&mut words, id as u32)?;
+    }
+    let vector = linked_block(alloc, count, &[], words.as_slice())?;
+    table_block(alloc, &[8, 4], &[mode as u8, 0, 0, 0], &[vector])
+}
+
+/// A type's tag and table.
+fn type_table(alloc: Global, data_type: &DataType) -> Result<(u8, Vec<u8>), WriteError>
+    ensures { IsTable (shape_of (tree data_type.now)) (ids_of (tree data_type.now)) result }
+{
+    match shape_of(data_type) {
+        None => Err(WriteError::Column(0)),
+        Some(Shape::Table(tag, number, truth)) => Ok((tag, type_block(alloc, number, truth)?)),
+        Some(Shape::Members(mode)) => {
+            let ids = type_ids(alloc, data_type)?;
+            Ok((14, union_block(alloc, mode, ids.as_slice())?))
+        }
+    }
+}
+
 /// The fields that a type nests.
-#[tactic(auto, using(crate::proofs::Nestings::fields_lent))]
+#[tactic(auto, using(crate::proofs::Made::fields_lent))]
 fn nested_fields<'a>(alloc: Global, data_type: &'a DataType) -> Result<Vec<&'a Field>, AllocError>
     ensures { IfOk result (λ fs. map (λ f. column_of f.now) fs.items ≡ nested_columns (tree data_type.now)) }
 {
@@ -41,7 +129,7 @@ fn nested_fields<'a>(alloc: Global, data_type: &'a DataType) -> Result<Vec<&'a F
 }
 
 /// A column of a data type, with so many levels for itself and what it nests.
-#[tactic(auto, using(crate::proofs::Nestings::nests_less, crate::proofs::Nestings::nested_refused, crate::proofs::TypeTables::table_size, crate::proofs::TypeTables::no_table))]
+#[tactic(auto, using(crate::proofs::Made::nested_refused, crate::proofs::Tables::table_size, crate::proofs::Tables::no_table))]
 #[cycle(write)]
 pub(crate) fn data_block(
     alloc: Global,
@@ -71,7 +159,7 @@ pub(crate) fn data_block(
 }
 
 /// The vector of the columns that a type nests.
-#[tactic(auto, using(crate::proofs::Nestings::falls, crate::proofs::Nestings::each_refused, crate::proofs::Made::made_more, std::proofs::lemmas::List::drop_more, std::proofs::lemmas::List::map_push))]
+#[tactic(auto, using(crate::proofs::Made::each_refused, crate::proofs::Made::made_more, std::proofs::lemmas::List::drop_more, std::proofs::lemmas::List::map_push))]
 #[cycle(write)]
 fn children_block(alloc: Global, fields: &[&Field], levels: usize) -> Block
     ensures { Gives (λ b. Holds (columns_read levels) b (map (λ f. column_of f.now) fields.now)) (AreUnfit levels (map (λ f. column_of f.now) fields.now)) (columns_room (map (λ f. column_of f.now) fields.now)) result }

@@ -2,10 +2,9 @@
 ghost use Rattle.std.specs.Prelude.{◌≡◌, IfOk, IsTrue, map, option_map, string_bytes};
 ghost use Rattle.arrow_columns.specs.Column.{type_tree, column_tree};
 ghost use Rattle.arrow_columns.specs.Nested.{only, list_type, all_known, known_fields, struct_type};
-ghost use Rattle.arrow_ipc.specs.Types.{unit_word, timestamp_text, named_text, member_parts, union_type, others, type_of, with_dictionary};
+ghost use Rattle.arrow_ipc.specs.Types.{timed_text, named_text, member_parts, union_type, others, type_of, with_dictionary};
 
-use crate::kinds::{Kind, Named, time_width};
-use crate::parts::Index;
+use crate::parts::{Index, Kind, Named};
 use arrow_columns::{
     Column, ColumnType, all_known, fields_of, list_type, member_notation, nested_notation,
     only_column, parts_of, plain_name, sized_notation, struct_type, union_word,
@@ -18,27 +17,20 @@ type Made<T> = Result<T, AllocError>;
 
 type Typed = Made<ColumnType>;
 
-/// The word of a unit.
-fn unit_word(unit: u32) -> &'static str
-    ensures { result.now ≡ unit_word unit }
+/// A type of so many units, with a time zone where it has one.
+fn timed_text(alloc: Global, word: &str, unit: u32, zone: &str) -> Made<String>
+    ensures { IfOk result (λ text. string_bytes text ≡ timed_text word.now unit zone.now) }
 {
-    match unit {
+    let unit = match unit {
         0 => "s",
         1 => "ms",
         2 => "us",
         _ => "ns",
-    }
-}
-
-/// A timestamp's text.
-fn timestamp_text(alloc: Global, unit: u32, zone: &str) -> Made<String>
-    ensures { IfOk result (λ text. string_bytes text ≡ timestamp_text unit zone.now) }
-{
-    let word = unit_word(unit);
+    };
     if zone.is_empty() {
-        return format!(in alloc; "timestamp[{word}]");
+        return format!(in alloc; "{word}[{unit}]");
     }
-    format!(in alloc; "timestamp[{word}, tz={zone}]")
+    format!(in alloc; "{word}[{unit}, tz={zone}]")
 }
 
 /// The text of a type that has one in place of a data type.
@@ -51,16 +43,10 @@ fn named_text(alloc: Global, named: Named, zone: &str) -> Made<String>
             let scale = scale.cast_signed();
             format!(in alloc; "decimal{width}({precision}, {scale})")
         }
-        Named::Time(unit) => {
-            let width = time_width(unit);
-            let word = unit_word(unit);
-            format!(in alloc; "time{width}[{word}]")
-        }
-        Named::Timestamp(unit) => timestamp_text(alloc, unit, zone),
-        Named::Duration(unit) => {
-            let word = unit_word(unit);
-            format!(in alloc; "duration[{word}]")
-        }
+        Named::Time(unit) if unit < 2 => timed_text(alloc, "time32", unit, ""),
+        Named::Time(unit) => timed_text(alloc, "time64", unit, ""),
+        Named::Timestamp(unit) => timed_text(alloc, "timestamp", unit, zone),
+        Named::Duration(unit) => timed_text(alloc, "duration", unit, ""),
         Named::Interval(0) => String::from_str(alloc, "month_interval"),
         Named::Interval(1) => String::from_str(alloc, "day_time_interval"),
         Named::Interval(_) => String::from_str(alloc, "month_day_nano_interval"),

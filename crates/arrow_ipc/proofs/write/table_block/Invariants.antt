@@ -1,7 +1,7 @@
 use Rattle.std.proofs.Common.{◌≡◌, ◌+◌, ◌*◌, ◌++◌, ◌∷◌, length, map, drop}
 use Rattle.arrow_ipc.specs.Blocks.{table_size, places}
 use Rattle.arrow_ipc.proofs.Linked.{items}
-use Rattle.arrow_ipc.proofs.blocks.table_block.Given as goal
+use Rattle.arrow_ipc.proofs.write.table_block.Given as goal
 
 -- the numbers and the vtable so far, before the slots that are left
 abbrev pub invariant-slots : goal.invariant-slots

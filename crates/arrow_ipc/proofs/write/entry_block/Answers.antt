@@ -2,7 +2,7 @@ use Rattle.std.proofs.Common.{◌∷◌, [], arith}
 use Rattle.arrow_ipc.proofs.Linked.{length_table}
 use Rattle.arrow_ipc.proofs.Tables.{entry_holds}
 use Rattle.arrow_ipc.proofs.Made.{gives}
-use Rattle.arrow_ipc.proofs.blocks.entry_block.Goals as goal
+use Rattle.arrow_ipc.proofs.write.entry_block.Goals as goal
 
 pub returns : goal.returns
 returns c =

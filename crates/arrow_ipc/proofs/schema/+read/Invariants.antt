@@ -3,7 +3,7 @@ use Rattle.arrow_columns.specs.Column.{column_tree}
 use Rattle.arrow_ipc.specs.Columns.{put_column, column_at}
 use Rattle.arrow_ipc.specs.Tells.{gather}
 use Rattle.arrow_ipc.proofs.Told.{after}
-use Rattle.arrow_ipc.proofs.columns.+read.Given as goal
+use Rattle.arrow_ipc.proofs.schema.+read.Given as goal
 
 abbrev pub decreases-read_column : goal.decreases-read_column
 decreases-read_column l = 2 * l.depth

@@ -3,7 +3,7 @@ use Rattle.arrow_values.specs.View.{texts_of}
 use Rattle.arrow_ipc.specs.Columns.{put_next}
 use Rattle.arrow_ipc.specs.Tells.{gather}
 use Rattle.arrow_ipc.proofs.Told.{after}
-use Rattle.arrow_ipc.proofs.columns.read_texts.Given as goal
+use Rattle.arrow_ipc.proofs.schema.read_texts.Given as goal
 
 -- the entries that are left, after those so far, are all
 abbrev pub invariant-entries : goal.invariant-entries

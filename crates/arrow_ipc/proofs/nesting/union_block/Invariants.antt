@@ -1,7 +1,7 @@
 use Rattle.std.proofs.Common.{◌≡◌, ◌++◌, [], take, drop}
 use Rattle.arrow_ipc.specs.Blocks.{id_words}
 use Rattle.arrow_ipc.specs.Shapes.{are_ids}
-use Rattle.arrow_ipc.proofs.type_tables.union_block.Given as goal
+use Rattle.arrow_ipc.proofs.nesting.union_block.Given as goal
 
 -- the ids so far, before those that are left
 abbrev pub invariant-each : goal.invariant-each

@@ -1,6 +1,6 @@
 use Rattle.std.proofs.Common.{◌≡◌, ◌-◌, []}
 use Rattle.arrow_ipc.specs.Columns.{ids_from}
-use Rattle.arrow_ipc.proofs.columns.read_ids.Given as goal
+use Rattle.arrow_ipc.proofs.schema.read_ids.Given as goal
 
 -- the ids that are left, after those so far, are all
 abbrev pub invariant-ids : goal.invariant-ids

@@ -4,7 +4,7 @@ use Rattle.arrow_ipc.specs.Blocks.{Holds, entry_read}
 use Rattle.arrow_ipc.specs.Rooms.{texts_room}
 use Rattle.arrow_ipc.proofs.Linked.{items}
 use Rattle.arrow_ipc.proofs.Made.{Made}
-use Rattle.arrow_ipc.proofs.blocks.texts_block.Given as goal
+use Rattle.arrow_ipc.proofs.write.texts_block.Given as goal
 
 -- the blocks of the entries so far, before those that are left
 abbrev pub invariant-entries : goal.invariant-entries

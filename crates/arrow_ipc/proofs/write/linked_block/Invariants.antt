@@ -2,7 +2,7 @@ use Rattle.std.proofs.Common.{◌≡◌, ◌+◌, ◌*◌, ◌≤◌, ◌++◌, 
 use Rattle.std.specs.List.{concat}
 use Rattle.arrow_ipc.specs.Blocks.{lengths, word, rounded, offsets, linked}
 use Rattle.arrow_ipc.proofs.Linked.{items}
-use Rattle.arrow_ipc.proofs.blocks.linked_block.Given as goal
+use Rattle.arrow_ipc.proofs.write.linked_block.Given as goal
 
 -- the number and the offsets so far, before those that are left
 abbrev pub invariant-offsets : goal.invariant-offsets

@@ -1,7 +1,7 @@
 use Rattle.std.proofs.Common.{◌≡◌, ◌++◌, drop}
 use Rattle.arrow_values.specs.View.{member_trees}
 use Rattle.arrow_ipc.specs.Shapes.{member_ids}
-use Rattle.arrow_ipc.proofs.shapes.type_ids.Given as goal
+use Rattle.arrow_ipc.proofs.nesting.type_ids.Given as goal
 
 -- the ids so far, before those that are left
 abbrev pub invariant-loop-member : goal.invariant-loop-member
