@@ -33,6 +33,6 @@ pub use read::{
 };
 pub use summary::{Bottom, ListWidth, Summary, summarize};
 pub use write::{
-    box_data_type, coord_data_type, geometry_data_type, kind_data_type, list_data_type,
+    box_data_type, coord_data_type, geometry_data_type, is_layout, kind_data_type, list_data_type,
     mixed_data_type, wkb_data_type, wkt_data_type, written_kind,
 };

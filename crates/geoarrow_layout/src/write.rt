@@ -22,6 +22,7 @@ const COLLECTED: [NativeKind; 6] = [
 
 /// The data type of a coordinate, which is also that of a point (GeoArrow, "Coordinate", "Point"): a fixed size list of
 /// `Float64`, or a struct of `Float64` fields. Errs only when out of memory.
+#[inline(always)]
 pub fn coord_data_type(
     alloc: Global,
     coord_type: CoordType,
@@ -118,6 +119,7 @@ pub fn wkt_data_type(width: Width) -> DataType
 }
 
 /// The data type of a column of a kind. Errs only when out of memory, and never for well-known binary and text.
+#[inline(always)]
 pub fn kind_data_type(alloc: Global, kind: Kind) -> Result<DataType, AllocError>
     ensures layout { IfOk result (λ t. tree t ≡ layout kind) }
     ensures no_memory { ¬ IsStructured kind → IsOk result }
@@ -142,6 +144,7 @@ fn coordinate(alloc: Global, name: FixedName) -> Field
 }
 
 /// A struct with such a field of each name.
+#[inline(always)]
 fn struct_of(alloc: Global, names: &[FixedName]) -> Result<DataType, AllocError>
     ensures { IfOk result (λ t. tree t ≡ struct (field_trees (map coordinate (map fixed_text names.now)))) }
 {
@@ -230,8 +233,9 @@ pub fn written_kind(data_type: &DataType) -> Option<Kind>
         .copied()
 }
 
-/// Whether the data type is the one that is written for the kind.
-fn is_layout(data_type: &DataType, kind: &Kind) -> bool
+/// Whether the data type is the one that is written for the kind, to the last name, nullability and mode (GeoArrow,
+/// "Native encoding", "Geometry", "Box"). Allocates nothing.
+pub fn is_layout(data_type: &DataType, kind: &Kind) -> bool
     ensures { IsTrue result ↔ (tree data_type.now ≡ layout kind.now) }
 {
     match kind {

@@ -11,7 +11,7 @@ ghost use Rattle.geoarrow_schema.specs.Normal.{normal_of, rewritten, HasKeysOf, 
 
 use crate::types::GeoArrowType;
 use arrow_values::{ArrowError, Field, GeoArrowResult};
-use geoarrow_layout::{Kind, layout_reads_back, layouts_are_distinct};
+use geoarrow_layout::{Kind, is_layout, layout_reads_back, layouts_are_distinct};
 use geoarrow_meta::Metadata;
 use std::alloc::{AllocError, Global};
 use std::sync::Arc;
@@ -93,8 +93,12 @@ impl GeoArrowType {
         ensures nested { IfOk result (λ f. ReadsShallow f self.now) }
         ensures refused { IfErr result IsMemory }
     {
+        let kind = self.kind();
+        layout_reads_back(kind);
+        if is_layout(field.data_type(), &kind) {
+            return self.set_normal_extension(alloc, field);
+        }
         let data_type = self.to_data_type(alloc)?;
-        layout_reads_back(self.kind());
         self.set_normal_extension(alloc, field.with_data_type(data_type))
     }
 
