@@ -1,2 +1,3 @@
+mod Leaves
 mod Shapes
 mod Walks

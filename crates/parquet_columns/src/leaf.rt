@@ -185,7 +185,6 @@ fn is_null(meaning: Meaning) -> bool
 
 /// The type of the leaf with that index, by how its values are stored, what they mean, their length, and the digits of
 /// decimal numbers.
-#[tactic(auto, unfolding(crate::specs::Leaf::leaf_type))]
 pub(crate) fn leaf_type(
     alloc: Global,
     at: usize,
