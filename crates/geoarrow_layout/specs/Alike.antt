@@ -1,5 +1,6 @@
 -- When two data types are alike: the same plain type, or the same lists, structs and unions as far as a reader looks.
-use Rattle.geoarrow_layout.specs.Words.{◌≡◌, ◌⊎◌, Text, Tree, plain, list, large_list, fixed_size_list, struct, union, MemberTrees, no_members, member, ℤ, List, length}
+use Rattle.std.specs.Prelude.{◌≡◌, ◌⊎◌}
+use Rattle.geoarrow_layout.specs.Words.{Text, Tree, plain, list, large_list, fixed_size_list, struct, union, MemberTrees, no_members, member, ℤ, List, length}
 use Rattle.geoarrow_layout.specs.Shapes.{names_of, SameNames, AllMembers, SomeMember}
 
 -- structs with these field names are alike: the same number, and if that is three or six, the same set of names

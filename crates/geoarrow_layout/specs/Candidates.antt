@@ -1,5 +1,6 @@
 -- The extension names under which a data type can be read.
-use Rattle.geoarrow_layout.specs.Words.{◌≡◌, ◌⊎◌, Text, Tree, struct, length, Point, LineString, Polygon, MultiPoint, MultiLineString, Kind, Candidates, One, LineStringOrMultiPoint, PolygonOrMultiLineString, PointOrBox}
+use Rattle.std.specs.Prelude.{◌≡◌, ◌⊎◌}
+use Rattle.geoarrow_layout.specs.Words.{Text, Tree, struct, length, Point, LineString, Polygon, MultiPoint, MultiLineString, Kind, Candidates, One, LineStringOrMultiPoint, PolygonOrMultiLineString, PointOrBox}
 use Rattle.geoarrow_layout.specs.declared.names.Candidates.TheVariants.{None}
 use Rattle.geoarrow_layout.specs.declared.names.ExtensionName.TheVariants as names
 use Rattle.geoarrow_layout.specs.Kinds.{name_text}

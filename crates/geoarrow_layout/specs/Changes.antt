@@ -1,5 +1,6 @@
 -- What a union is read as when members are dropped or joined; the mode never matters.
-use Rattle.geoarrow_layout.specs.Words.{◌≢◌, ◌↔◌, ◌⊎◌, union, FieldTree, Members, member_trees, [], ℤ, Contains, UnionMode, CoordType, Dimension}
+use Rattle.std.specs.Prelude.{◌≢◌, ◌↔◌, ◌⊎◌}
+use Rattle.geoarrow_layout.specs.Words.{union, FieldTree, Members, member_trees, [], ℤ, Contains, UnionMode, CoordType, Dimension}
 use Rattle.geoarrow_layout.specs.Shapes.{Geometry, Mixed}
 use Rattle.geoarrow_layout.specs.Alike.{Alike}
 

@@ -1,5 +1,6 @@
 -- Which fault a reader names, and where it is: the table of faults, rule by rule.
-use Rattle.geoarrow_layout.specs.Words.{◌≡◌, ◌≢◌, ◌*◌, ◌⊎◌, ◌∷◌, ◌++◌, Text, Tree, plain, null, list, large_list, fixed_size_list, struct, union, FieldTrees, no_fields, field, MemberTrees, no_members, member, FieldTree, field_tree, ℕ, zero, suc, ℤ, pos, List, [], length, Option, None, Some, CoordType, Dimension, NativeKind, GeometryCollection, Width, ListWidth, Lists, LargeLists, LayoutFault, UnexpectedType, BadInterleavedName, BadSize, BadFieldNames, BadFieldCount, MixedWidths, BadTypeId, MemberDimension, EmptyUnion, SeveralCoordTypes, SeveralDimensions, ExtensionName}
+use Rattle.std.specs.Prelude.{◌≡◌, ◌≢◌, ◌*◌, ◌⊎◌, ◌∷◌, ◌++◌}
+use Rattle.geoarrow_layout.specs.Words.{Text, Tree, plain, null, list, large_list, fixed_size_list, struct, union, FieldTrees, no_fields, field, MemberTrees, no_members, member, FieldTree, field_tree, ℕ, zero, suc, ℤ, pos, List, [], length, Option, None, Some, CoordType, Dimension, NativeKind, GeometryCollection, Width, ListWidth, Lists, LargeLists, LayoutFault, UnexpectedType, BadInterleavedName, BadSize, BadFieldNames, BadFieldCount, MixedWidths, BadTypeId, MemberDimension, EmptyUnion, SeveralCoordTypes, SeveralDimensions, ExtensionName}
 use Rattle.geoarrow_layout.specs.declared.names.ExtensionName.TheVariants as names
 use Rattle.geoarrow_layout.specs.Kinds.{size_of, interleaved_name, type_id_of}
 use Rattle.geoarrow_layout.specs.Shapes.{names_of, IsSeparatedAs, levels_of, OverLeaf, Member, AllMembers, Native, GeometryMember, IsBoxAs, IsBytes, IsText}

@@ -1,5 +1,6 @@
 -- Which data types are inferred as points, without an extension name.
-use Rattle.geoarrow_layout.specs.Words.{◌≡◌, ◌↔◌, ◌∷◌, ◌&&◌, Text, Tree, plain, float64, fixed_size_list, struct, FieldTrees, no_fields, field, ℤ, pos, List, [], length, codes, Bool, true, false, Option, Some, CoordType, Interleaved, Separated, Dimension, XY, XYZ, XYM, XYZM}
+use Rattle.std.specs.Prelude.{◌≡◌, ◌↔◌, ◌∷◌, ◌&&◌}
+use Rattle.geoarrow_layout.specs.Words.{Text, Tree, plain, float64, fixed_size_list, struct, FieldTrees, no_fields, field, ℤ, pos, List, [], length, codes, Bool, true, false, Option, Some, CoordType, Interleaved, Separated, Dimension, XY, XYZ, XYM, XYZM}
 use Rattle.geoarrow_layout.specs.Shapes.{SameNames, names_of, IsSeparatedAs}
 
 -- the result is the coordinate type and dimension for which R holds, or none if it holds for none

@@ -1,5 +1,6 @@
 -- Tables of dimensions and kinds: sizes, names and type ids.
-use Rattle.geoarrow_layout.specs.Words.{◌+◌, ◌≡◌, ◌*◌, ◌++◌, Text, ℕ, Option, Some, None, codes, string_bytes, decimal, Dimensions, Xy, Xyz, Xym, Xyzm, Unknown, GeoArrowError, InvalidGeoArrow, CoordType, Separated, Dimension, XY, XYZ, XYM, XYZM, NativeKind, Point, LineString, Polygon, MultiPoint, MultiLineString, MultiPolygon, GeometryCollection, ExtensionName, Kind, Native, Geometry, Rect, Wkb, Wkt}
+use Rattle.std.specs.Prelude.{◌+◌, ◌≡◌, ◌*◌, ◌++◌}
+use Rattle.geoarrow_layout.specs.Words.{Text, ℕ, Option, Some, None, codes, string_bytes, decimal, Dimensions, Xy, Xyz, Xym, Xyzm, Unknown, GeoArrowError, InvalidGeoArrow, CoordType, Separated, Dimension, XY, XYZ, XYM, XYZM, NativeKind, Point, LineString, Polygon, MultiPoint, MultiLineString, MultiPolygon, GeometryCollection, ExtensionName, Kind, Native, Geometry, Rect, Wkb, Wkt}
 use Rattle.geoarrow_layout.specs.declared.names.ExtensionName.TheVariants as names
 
 -- how many numbers a coordinate has

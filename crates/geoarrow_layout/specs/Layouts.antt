@@ -1,5 +1,6 @@
 -- The data types as written: names, list levels, type ids and nullability.
-use Rattle.geoarrow_layout.specs.Words.{◌≡◌, ◌∷◌, ◌++◌, Text, Tree, plain, float64, binary, large_binary, binary_view, utf8, large_utf8, utf8_view, list, fixed_size_list, struct, union, FieldTree, field_tree, Members, field_trees, member_trees, ℤ, pos, Bool, true, false, List, [], map, codes, Dense, CoordType, Interleaved, Separated, Dimension, XY, XYZ, XYM, XYZM, NativeKind, Point, LineString, Polygon, MultiPoint, MultiLineString, MultiPolygon, GeometryCollection, Plain, Large, View, Kind, Native, Geometry, Rect, Wkb, Wkt}
+use Rattle.std.specs.Prelude.{◌≡◌, ◌∷◌, ◌++◌}
+use Rattle.geoarrow_layout.specs.Words.{Text, Tree, plain, float64, binary, large_binary, binary_view, utf8, large_utf8, utf8_view, list, fixed_size_list, struct, union, FieldTree, field_tree, Members, field_trees, member_trees, ℤ, pos, Bool, true, false, List, [], map, codes, Dense, CoordType, Interleaved, Separated, Dimension, XY, XYZ, XYM, XYZM, NativeKind, Point, LineString, Polygon, MultiPoint, MultiLineString, MultiPolygon, GeometryCollection, Plain, Large, View, Kind, Native, Geometry, Rect, Wkb, Wkt}
 use Rattle.geoarrow_layout.specs.Kinds.{size_of, interleaved_name, type_id_of}
 
 -- a field of a coordinate or a box: `Float64`, not nullable, without metadata

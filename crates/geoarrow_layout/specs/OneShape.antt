@@ -1,5 +1,6 @@
 -- Laws of `Shapes`: a data type of a kind has one coordinate type and one dimension, those of its first coordinate.
-use Rattle.geoarrow_layout.specs.Words.{◌≡◌, Text, Tree, plain, list, large_list, fixed_size_list, struct, union, MemberTrees, no_members, member, refl, sym, ap, ◌∙◌, arith, ℕ, zero, suc, ℤ, nat_eq, List, length, codes, cond, bytes_eq, CoordType, Interleaved, Separated, Dimension, XY, XYZ, XYM, XYZM, NativeKind, GeometryCollection, ListWidth, Lists, LargeLists}
+use Rattle.std.specs.Prelude.{◌≡◌}
+use Rattle.geoarrow_layout.specs.Words.{Text, Tree, plain, list, large_list, fixed_size_list, struct, union, MemberTrees, no_members, member, refl, sym, ap, ◌∙◌, arith, ℕ, zero, suc, ℤ, nat_eq, List, length, codes, cond, bytes_eq, CoordType, Interleaved, Separated, Dimension, XY, XYZ, XYM, XYZM, NativeKind, GeometryCollection, ListWidth, Lists, LargeLists}
 use Rattle.geoarrow_layout.specs.Kinds.{interleaved_name}
 use Rattle.geoarrow_layout.specs.Shapes.{SameNames, has_name, names_of, IsSeparatedAs, Leaf, ListsOver, Under, levels_of, OverLeaf, Member, Mixed, Native, GeometryMember, Geometry, IsBoxAs, BoxShape}
 

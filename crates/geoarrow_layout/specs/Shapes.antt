@@ -1,5 +1,6 @@
 -- The data types as read: which data type is of which kind.
-use Rattle.geoarrow_layout.specs.Words.{◌≡◌, ◌↔◌, ◌⊎◌, ◌∷◌, Text, Tree, plain, binary, large_binary, binary_view, utf8, large_utf8, utf8_view, list, large_list, fixed_size_list, struct, union, FieldTrees, no_fields, field, MemberTrees, no_members, member, ℕ, zero, suc, ℤ, pos, List, [], length, codes, Bool, true, Option, Some, Result, Ok, list_any, bytes_eq, CoordType, Interleaved, Separated, Dimension, XY, XYZ, XYM, XYZM, NativeKind, Point, LineString, Polygon, MultiPoint, MultiLineString, MultiPolygon, GeometryCollection, Width, Plain, Large, View, Kind, OfNative, OfGeometry, OfRect, OfWkb, OfWkt, ListWidth, Lists, LargeLists, LayoutFault}
+use Rattle.std.specs.Prelude.{◌≡◌, ◌↔◌, ◌⊎◌, ◌∷◌}
+use Rattle.geoarrow_layout.specs.Words.{Text, Tree, plain, binary, large_binary, binary_view, utf8, large_utf8, utf8_view, list, large_list, fixed_size_list, struct, union, FieldTrees, no_fields, field, MemberTrees, no_members, member, ℕ, zero, suc, ℤ, pos, List, [], length, codes, Bool, true, Option, Some, Result, Ok, list_any, bytes_eq, CoordType, Interleaved, Separated, Dimension, XY, XYZ, XYM, XYZM, NativeKind, Point, LineString, Polygon, MultiPoint, MultiLineString, MultiPolygon, GeometryCollection, Width, Plain, Large, View, Kind, OfNative, OfGeometry, OfRect, OfWkb, OfWkt, ListWidth, Lists, LargeLists, LayoutFault}
 use Rattle.geoarrow_layout.specs.Kinds.{size_of, interleaved_name, type_id_of, name_of}
 
 -- the result is the coordinate type and dimension for which R holds, or an error if it holds for none

@@ -34,5 +34,5 @@ pub use Rattle.std.proofs.lemmas.Slice.Eq.{bytes_eq-Decides}
 pub use Rattle.std.specs.Fmt.{decimal}
 pub use Rattle.std.specs.Int.{bit_at}
 pub use Rattle.std.specs.List.{list_all, list_any}
-pub use Rattle.std.specs.Prelude.{Bool, Contains, Err, List, MatchOption, MatchResult, None, Ok, Option, Result, Some, [], codes, cond, false, length, map, nat_eq, pos, string_bytes, suc, true, zero, ℕ, ℤ, ◌&&◌, ◌*◌, ◌++◌, ◌+◌, ◌<◌, ◌^◌, ◌↔◌, ◌∷◌, ◌≡◌, ◌≢◌, ◌≤◌, ◌⊎◌}
+pub use Rattle.std.specs.Prelude.{Bool, Contains, Err, List, MatchOption, MatchResult, None, Ok, Option, Result, Some, [], codes, cond, false, length, map, nat_eq, pos, string_bytes, suc, true, zero, ℕ, ℤ}
 pub use Rattle.std.specs.Str.{bytes_eq}

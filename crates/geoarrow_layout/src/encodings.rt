@@ -1,5 +1,6 @@
 //! The kinds of columns, and the tables of kinds: names, lists and type ids.
-ghost use Rattle.geoarrow_layout.specs.Cited.{◌≡◌, ◌≤◌, ◌↔◌, Some, pos, ◌++◌, map, length, extension_of, name_of, coord_type_of, dimension_of, offset_of, type_id_of, fixed_text, levels_of, list_names, type_name, dimension_suffix};
+ghost use Rattle.std.specs.Prelude.{◌≡◌, ◌≤◌, ◌↔◌, ◌++◌};
+ghost use Rattle.geoarrow_layout.specs.Cited.{Some, pos, map, length, extension_of, name_of, coord_type_of, dimension_of, offset_of, type_id_of, fixed_text, levels_of, list_names, type_name, dimension_suffix};
 
 use crate::kinds::CoordType::{Interleaved, Separated};
 use crate::kinds::Dimension::{XY, XYM, XYZ, XYZM};

@@ -1,5 +1,6 @@
 //! What a layout has: a coordinate type and a dimension, with the tables of both.
-ghost use Rattle.geoarrow_layout.specs.Cited.{◌≡◌, ◌≤◌, ◌<◌, ◌↔◌, ◌⊎◌, ◌^◌, IfOk, IfErr, Some, Ok, pos, map, fixed_text, size_of, order_of, interleaved_name, coordinate_names, box_names, place_of};
+ghost use Rattle.std.specs.Prelude.{◌≡◌, ◌≤◌, ◌<◌, ◌↔◌, ◌⊎◌, ◌^◌};
+ghost use Rattle.geoarrow_layout.specs.Cited.{IfOk, IfErr, Some, Ok, pos, map, fixed_text, size_of, order_of, interleaved_name, coordinate_names, box_names, place_of};
 
 use crate::kinds::Dimension::{XY, XYM, XYZ, XYZM};
 use arrow_values::FixedName::{
@@ -33,7 +34,7 @@ pub enum CoordType {
 }
 
 impl Default for CoordType {
-    ghost use Rattle.geoarrow_layout.specs.Cited.{◌≡◌, Separated};
+    ghost use Rattle.geoarrow_layout.specs.Cited.{Separated};
 
     ghost is_default = { λ c. c ≡ Separated };
 
@@ -137,7 +138,7 @@ impl fmt::Display for Dimension {
 }
 
 impl From<Dimension> for Dimensions {
-    ghost use Rattle.geoarrow_layout.specs.Cited.{◌≡◌, dimensions_of};
+    ghost use Rattle.geoarrow_layout.specs.Cited.{dimensions_of};
 
     ghost from_gives = { λ d e. e ≡ dimensions_of d };
 

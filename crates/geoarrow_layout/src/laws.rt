@@ -1,5 +1,6 @@
 //! Laws of the layouts, for the crates above: functions with nothing to run, whose contract is the law, and laws of `==`.
-ghost use Rattle.geoarrow_layout.specs.Cited.{◌≡◌, ◌↔◌, Contains, ◌≢◌, ◌<◌, ◌⊎◌, ◌++◌, true, ℕ, ℤ, List, length, get_or, IsTrue, Text, Tree, FieldTree, Members, member_trees, tree, HasTypeIds, has, retained, dimensions_size, size_of, dimensions_of, IsDimension, name_text, name_of, ExtensionName, Leaf, AllMembers, Accepts, IsStructured, Summarizes, Inferred, leaf_layout, layout, mixed_members, geometry_members, IsWritten, IsWrittenSome, Alike, IsAccepted, Share, SameCandidates, Path, FaultAt, LayoutFault, AlikeUnions};
+ghost use Rattle.std.specs.Prelude.{◌≡◌, ◌↔◌, ◌≢◌, ◌<◌, ◌⊎◌, ◌++◌};
+ghost use Rattle.geoarrow_layout.specs.Cited.{Contains, true, ℕ, ℤ, List, length, get_or, IsTrue, Text, Tree, FieldTree, Members, member_trees, tree, HasTypeIds, has, retained, dimensions_size, size_of, dimensions_of, IsDimension, name_text, name_of, ExtensionName, Leaf, AllMembers, Accepts, IsStructured, Summarizes, Inferred, leaf_layout, layout, mixed_members, geometry_members, IsWritten, IsWrittenSome, Alike, IsAccepted, Share, SameCandidates, Path, FaultAt, LayoutFault, AlikeUnions};
 
 use crate::encodings::{Kind, NativeKind, Width};
 use crate::fault::LayoutFault;

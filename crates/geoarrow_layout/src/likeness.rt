@@ -1,5 +1,6 @@
 //! Data types that no reader distinguishes, and unions that lose or gain members.
-ghost use Rattle.geoarrow_layout.specs.Cited.{◌≡◌, ◌↔◌, IsTrue, ◌≢◌, ◌++◌, [], None, IsOk, IfErr, OnOk, OnErr, list_all, tree, field_trees, member_trees, names_of, has_name, SameNames, AllMembers, SomeMember, Alike, AlikeNames, EachHasAlike, HasAlike, Members, HasTypeIds, retained, shared_id, fault_id, GeometryUnion, MixedUnion, AlikeUnions, EachOf, AreJust};
+ghost use Rattle.std.specs.Prelude.{◌≡◌, ◌↔◌, ◌≢◌, ◌++◌};
+ghost use Rattle.geoarrow_layout.specs.Cited.{IsTrue, [], None, IsOk, IfErr, OnOk, OnErr, list_all, tree, field_trees, member_trees, names_of, has_name, SameNames, AllMembers, SomeMember, Alike, AlikeNames, EachHasAlike, HasAlike, Members, HasTypeIds, retained, shared_id, fault_id, GeometryUnion, MixedUnion, AlikeUnions, EachOf, AreJust};
 
 use crate::kinds::{CoordType, Dimension};
 use arrow_values::{AppendFault, DataType, Field, UnionFields};

@@ -1,5 +1,6 @@
 //! The extension names, and those under which a data type can be read.
-ghost use Rattle.geoarrow_layout.specs.Cited.{◌≡◌, ◌↔◌, Some, ExtensionName, name_text};
+ghost use Rattle.std.specs.Prelude.{◌≡◌, ◌↔◌};
+ghost use Rattle.geoarrow_layout.specs.Cited.{Some, ExtensionName, name_text};
 
 use crate::encodings::NativeKind;
 
