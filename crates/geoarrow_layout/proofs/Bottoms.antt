@@ -1,6 +1,7 @@
 -- What stands below the lists, and which fault it is.
-use Rattle.geoarrow_layout.proofs.Terms.{◌≡◌, ◌<◌, ◌≤◌, inl, inr, ℕ, zero, suc, ℤ, ◌+◌, refl, sym, ap, subst, arith, add-one, Bool, Option, Some, None, Ok, Err, [], ◌∷◌, same_Some, Text, Metadata, Tree, plain, list, large_list, fixed_size_list, struct, union, FieldTrees, MemberTrees, UnionMode, CoordType, Dimension, LayoutFault, UnexpectedType, ListWidth, Lists, LargeLists, Bottom, OtherWidth, Deep, Other, Summary, ListsOver, Faults, HasFault, MixedFault, LevelsFault, IsBottom, AreLevels, SummarizesBy, TellsBoth, Under, IsFixedSize, IsStruct, missing_fault, IsWidth, IsNoLeaf, IsLevelFault, ShowsIn, Ended, false}
+use Rattle.geoarrow_layout.proofs.Terms.{◌≡◌, ◌<◌, ◌≤◌, inl, inr, ℕ, zero, suc, ℤ, ◌+◌, ◌-◌, refl, sym, ap, subst, arith, add-one, Bool, Option, Some, None, Ok, Err, [], ◌∷◌, same_Some, Text, Metadata, Tree, plain, list, large_list, fixed_size_list, struct, union, FieldTrees, MemberTrees, UnionMode, CoordType, Dimension, LayoutFault, UnexpectedType, ListWidth, Lists, LargeLists, Bottom, OtherWidth, Deep, Other, Summary, ListsOver, Faults, HasFault, MixedFault, LevelsFault, IsBottom, AreLevels, SummarizesBy, TellsBoth, Under, IsFixedSize, IsStruct, missing_fault, IsWidth, IsNoLeaf, IsLevelFault, ShowsIn, Ended, false}
 use Rattle.geoarrow_layout.proofs.Readings.{Answer}
+use Rattle.std.proofs.Math.Nat.{add-zero, suc-add, zero-add}
 
 -- one level more
 lists_more : (v : ListWidth) (n : ℕ) (t x u : Tree) → ListsOver v n t x → ListsOver v 1 x u → ListsOver v (suc n) t u
@@ -48,20 +49,12 @@ lists_refused F lacks Lists (suc n) (list x t b m) u some h = (lacks x t b m).0
 lists_refused F lacks LargeLists (suc n) (large_list x t b m) u some h = (lacks x t b m).1
 lists_refused F lacks _ (suc n) _ u some h = absurd h
 
--- n levels are wanted; F is the fault below all of them
-level_below : (F : Faults) (w : ListWidth) (n : ℕ) (t u : Tree) (f : LayoutFault) → ListsOver w n t u → HasFault (F u) f → HasFault (LevelsFault F (Some w) n t) f
-level_below F w zero t u f h r = subst (λ x. HasFault (F x) f) (sym h) r
-level_below F Lists (suc n) (list x t b m) u f h r = let s = level_below F Lists n t u f h r in (zero ∷ s.0, s.1)
-level_below F LargeLists (suc n) (large_list x t b m) u f h r = let s = level_below F LargeLists n t u f h r in (zero ∷ s.0, s.1)
-level_below F _ (suc n) _ u f h r = absurd h
-
--- there are fewer
-level_missing : (F : Faults) (w : ListWidth) (k n : ℕ) (t u : Tree) (f : LayoutFault) → ListsOver w k t u → k < n → ((m : ℕ) → LevelsFault F (Some w) (suc m) u [] f) → HasFault (LevelsFault F (Some w) n t) f
-level_missing F w k zero t u f h lt here = absurd (omega arith)
-level_missing F w zero (suc n) t u f h lt here = ([], subst (λ x. LevelsFault F (Some w) (suc n) x [] f) (sym h) (here n))
-level_missing F Lists (suc k) (suc n) (list x t b m) u f h lt here = let s = level_missing F Lists k n t u f h (omega arith) here in (zero ∷ s.0, s.1)
-level_missing F LargeLists (suc k) (suc n) (large_list x t b m) u f h lt here = let s = level_missing F LargeLists k n t u f h (omega arith) here in (zero ∷ s.0, s.1)
-level_missing F _ (suc k) (suc n) _ u f h lt here = absurd h
+-- below k lists of one width, the fault of what is there, with k levels less
+level_walk : (F : Faults) (w : ListWidth) (k m : ℕ) (t u : Tree) (f : LayoutFault) → ListsOver w k t u → HasFault (LevelsFault F (Some w) m u) f → HasFault (LevelsFault F (Some w) (k + m) t) f
+level_walk F w zero m t u f h r = rw zero-add (subst (λ x. HasFault (LevelsFault F (Some w) m x) f) (sym h) r)
+level_walk F Lists (suc k) m (list x t b a) u f h r = let s = level_walk F Lists k m t u f h r in rw suc-add (zero ∷ s.0, s.1)
+level_walk F LargeLists (suc k) m (large_list x t b a) u f h r = let s = level_walk F LargeLists k m t u f h r in rw suc-add (zero ∷ s.0, s.1)
+level_walk F _ (suc k) m _ u f h r = absurd h
 
 -- there are more
 level_above : (F : Faults) → RefusesLists F → (w : ListWidth) (k n : ℕ) (t u : Tree) → ListsOver w k t u → n < k → HasFault (LevelsFault F (Some w) n t) UnexpectedType
@@ -96,19 +89,23 @@ missing_below F w n b (union ms mode) m few h = (refl, not_other b (λ e. subst 
 missing_below F w n b (plain p) m few h = (refl, ap missing_fault h)
 missing_below F w n b _ m few (inr e) = absurd (omega (arith, few, e.1))
 
+-- m levels are wanted below those that there are
+below_levels : (F : Faults) (w : Option ListWidth) (k m : ℕ) (t u : Tree) (f : LayoutFault) → AreLevels w k t u → HasFault (LevelsFault F w m u) f → HasFault (LevelsFault F None (k + m) t) f
+below_levels F None k m t u f h r = rw (h.0, h.1, zero-add) r
+below_levels F (Some w) k m t u f h r = outermost F w k (k + m) t u f h.0 h.2 (level_walk F w k m t u f h.2 r)
+
 missing_lists : (F : Faults) (w : Option ListWidth) (k n : ℕ) (b : Bottom) (t u : Tree) → AreLevels w k t u → IsBottom IsNoLeaf w k b u → k < n → n ≤ 3 → HasFault (LevelsFault F None n t) (missing_fault b)
-missing_lists F w k zero b t u h bottom lt few = absurd (omega arith)
-missing_lists F None k (suc n) b t u h bottom lt few = ([], subst (λ x. LevelsFault F None (suc n) x [] (missing_fault b)) (sym h.1) (missing_below F None k b u n (omega arith) bottom))
-missing_lists F (Some w) k (suc n) b t u h bottom lt few =
-    outermost F w k (suc n) t u (missing_fault b) h.0 h.2 (level_missing F w k (suc n) t u (missing_fault b) h.2 lt (λ m. missing_below F (Some w) k b u m (omega arith) bottom))
+missing_lists F w k n b t u h bottom lt few =
+    let m = n - suc k in
+    let same : k + suc m ≡ n = omega arith in
+    subst (λ i. HasFault (LevelsFault F None i t) (missing_fault b)) same (below_levels F w k (suc m) t u (missing_fault b) h ([], missing_below F w k b u m (omega arith) bottom))
 
 above_lists : (F : Faults) → RefusesLists F → (w : Option ListWidth) (k n : ℕ) (t u : Tree) → AreLevels w k t u → n < k → HasFault (LevelsFault F None n t) UnexpectedType
 above_lists F lacks None k n t u h lt = absurd (omega (arith, h.0))
 above_lists F lacks (Some w) k n t u h lt = outermost F w k n t u UnexpectedType h.0 h.2 (level_above F lacks w k n t u h.2 lt)
 
 below_lists : (F : Faults) (w : Option ListWidth) (k : ℕ) (t u : Tree) (f : LayoutFault) → AreLevels w k t u → HasFault (F u) f → HasFault (LevelsFault F None k t) f
-below_lists F None k t u f h r = subst (λ n. HasFault (LevelsFault F None n t) f) (sym h.0) (subst (λ x. HasFault (F x) f) (sym h.1) r)
-below_lists F (Some w) k t u f h r = outermost F w k k t u f h.0 h.2 (level_below F w k t u f h.2 r)
+below_lists F w k t u f h r = subst (λ n. HasFault (LevelsFault F None n t) f) (add-zero k) (below_levels F w k 0 t u f h r)
 
 are_levels : (w : Option ListWidth) (n : ℕ) (t u : Tree) → AreLevels w n t u → (v : ListWidth) × ListsOver v n t u
 are_levels None n t u h = (Lists, rw h.0 h.1)

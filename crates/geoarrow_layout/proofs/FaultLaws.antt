@@ -93,9 +93,6 @@ over_leaf_apart k t c d p f h e = levels_apart Leaf CoordinateFault coordinate_a
 abbrev pub KindReads : Type 1
 KindReads = Tree → NativeKind → CoordType → Dimension → Type 0
 
-abbrev OneNative : KindReads → Type 0
-OneNative N = (k : NativeKind) → ReadsFirst (λ t. N t k)
-
 -- a type id is that of one kind and one dimension
 pub order_same : (d e : Dimension) → order_of d ≡ order_of e → d ≡ e
 order_same XY XY h = refl
@@ -109,7 +106,7 @@ offset_small : (k : NativeKind) → offset_of k ≤ 7
 offset_small Point = omega arith
 offset_small _ = omega arith
 
-pub id_same : (i : ℤ) (k l : NativeKind) (d e : Dimension) → i ≡ pos (type_id_of k d) → i ≡ pos (type_id_of l e) → (k ≡ l) × (d ≡ e)
+id_same : (i : ℤ) (k l : NativeKind) (d e : Dimension) → i ≡ pos (type_id_of k d) → i ≡ pos (type_id_of l e) → (k ≡ l) × (d ≡ e)
 id_same i k l d e h g =
     let n : 10 * order_of d + offset_of k ≡ 10 * order_of e + offset_of l = cc in
     let one : order_of d ≡ order_of e = omega (arith, offset_small k, offset_small l) in
@@ -125,22 +122,21 @@ KindFault N F k d t p f = F k t p f ⊎ ((c : CoordType) × (e : Dimension) × N
 kind_fault_one : (N : KindReads) (F : NativeKind → Faults) → ((k : NativeKind) (t : Tree) → One (F k t)) → ApartNative N F → (k : NativeKind) (d : Dimension) (t : Tree) → One (KindFault N F k d t)
 kind_fault_one N F one apart k d t = either_one _ _ (one k t) (λ p q f g h l. here_one MemberDimension p q f g h.4 l.4) (λ p q f g h l. apart k t l.0 l.1 p f l.2 h)
 
+-- a member whose type id is that of the kind and the dimension has their fault
+pub kind_only : (N : KindReads) (F : NativeKind → Faults) (i : ℤ) (t : Tree) (k : NativeKind) (d : Dimension) (p : Path) (f : LayoutFault) → i ≡ pos (type_id_of k d) → PartFault N F i t p f → KindFault N F k d t p f
+kind_only N F i t k d p f id (inl h) = absurd (h.0 k d id)
+kind_only N F i t k d p f id (inr h) = let same = id_same i h.0 k h.1 d h.2 id in subst (λ x. KindFault N F k x t p f) same.1 (subst (λ x. KindFault N F x h.1 t p f) same.0 h.3)
+
 part_one : (N : KindReads) (F : NativeKind → Faults) → ((k : NativeKind) (t : Tree) → One (F k t)) → ApartNative N F → (i : ℤ) (t : Tree) → One (PartFault N F i t)
 part_one N F one apart i t = either_one _ _ (λ p q f g h l. here_one BadTypeId p q f g h.1 l.1)
-    (λ p q f g h l.
-    let same = id_same i l.0 h.0 l.1 h.1 l.2 h.2 in
-    kind_fault_one N F one apart h.0 h.1 t p q f g h.3 (subst (λ d. KindFault N F h.0 d t q g) same.1 (subst (λ k. KindFault N F k l.1 t q g) same.0 l.3)))
+    (λ p q f g h l. kind_fault_one N F one apart h.0 h.1 t p q f g h.3 (kind_only N F i t h.0 h.1 q g h.2 (inr l)))
     (λ p q f g h l. h.0 l.0 l.1 l.2)
 
-kind_fault_none : (N : KindReads) (F : NativeKind → Faults) → OneNative N → ApartNative N F → (k : NativeKind) (d : Dimension) (t : Tree) (c : CoordType) (p : Path) (f : LayoutFault) → N t k c d → KindFault N F k d t p f → ⊥
-kind_fault_none N F same apart k d t c p f h (inl e) = apart k t c d p f h e
-kind_fault_none N F same apart k d t c p f h (inr e) = e.3 (ap (λ x. x.1) (sym (same k t e.0 e.1 e.2) ∙ same k t c d h))
-
-part_apart : (N : KindReads) (F : NativeKind → Faults) → OneNative N → ApartNative N F → (i : ℤ) (t : Tree) (k : NativeKind) (c : CoordType) (d : Dimension) (p : Path) (f : LayoutFault) → i ≡ pos (type_id_of k d) → N t k c d → PartFault N F i t p f → ⊥
-part_apart N F same apart i t k c d p f id h (inl e) = e.0 k d id
-part_apart N F same apart i t k c d p f id h (inr e) =
-    let is = id_same i e.0 k e.1 d e.2 id in
-    kind_fault_none N F same apart k d t c p f h (subst (λ x. KindFault N F k x t p f) is.1 (subst (λ x. KindFault N F x e.1 t p f) is.0 e.3))
+part_apart : (N : KindReads) (F : NativeKind → Faults) → ((k : NativeKind) → ReadsFirst (λ t. N t k)) → ApartNative N F → (i : ℤ) (t : Tree) (k : NativeKind) (c : CoordType) (d : Dimension) (p : Path) (f : LayoutFault) → i ≡ pos (type_id_of k d) → N t k c d → PartFault N F i t p f → ⊥
+part_apart N F same apart i t k c d p f id h e = elim (kind_only N F i t k d p f id e) [
+  | inl x ↦ apart k t c d p f h x
+  | inr x ↦ x.3 (ap (λ y. y.1) (sym (same k t x.0 x.1 x.2) ∙ same k t c d h))
+]
 
 abbrev pub MemberReads : Type 1
 MemberReads = ℤ → Tree → CoordType → Dimension → Type 0

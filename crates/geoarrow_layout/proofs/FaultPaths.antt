@@ -1,8 +1,7 @@
 -- The path to a fault, step by step.
 use Rattle.geoarrow_layout.proofs.Terms.{◌≡◌, ◌<◌, ◌≤◌, ◌+◌, inl, inr, Option, None, Some, MatchOption, MatchResult, ℕ, zero, suc, ℤ, pos, List, [], ◌∷◌, ◌++◌, length, take, Result, OnOk, get_or, refl, sym, ap, subst, ◌∙◌, arith, append-nil, append_assoc, Ok, Err, Tree, list, large_list, union, FieldTree, MemberTrees, no_members, member, field_trees, member_trees, UnionMode, CoordType, Dimension, NativeKind, GeometryCollection, LayoutFault, ListWidth, Lists, LargeLists, type_id_of, levels_of, ListsOver, AllMembers, Member, GeometryMember, Path, Located, Faults, HasFault, InItem, CoordinateFault, OverLeafFault, NativeFault, PartFault, FirstFault, UnionFault, MemberFault, MixedFault, GeometryMemberFault, GeometryFault, LeadsTo, FirstOrNone, TellsBoth, field_at, member_at, Ended, IsWidth, LevelsFault, StaysHere}
 use Rattle.geoarrow_layout.proofs.Readings.{Answer, IsPartsOf, some_parts, Items, all_map, all_both, one_more}
-use Rattle.geoarrow_layout.proofs.UnionSteps.{no_parts}
-use Rattle.geoarrow_layout.proofs.FaultLaws.{id_same, ApartMember, MemberReads, Read, KindReads, ApartNative, KindFault, first_apart, behind}
+use Rattle.geoarrow_layout.proofs.FaultLaws.{kind_only, ApartMember, MemberReads, Read, KindReads, ApartNative, first_apart, behind}
 
 pub stays : (F : Located) (before : Path) → StaysHere F → LeadsTo F before before
 stays F before here = λ p f h. sym (append-nil before) ∙ ap (λ q. before ++ q) (sym (here p f h))
@@ -16,17 +15,6 @@ into_item F before between after is h (zero ∷ p) f e = step_down F before afte
 into_item F before between after is h _ f e = absurd e
 
 -- levels are gone down
-ended_here : (w : Option ListWidth) (n : ℕ) (t : Tree) → Ended w 0 t → StaysHere (LevelsFault CoordinateFault w (suc n) t)
-ended_here None n (list x t b m) e p f h = absurd e
-ended_here None n (large_list x t b m) e p f h = absurd e
-ended_here (Some Lists) n (list x t b m) e p f h = absurd (omega arith)
-ended_here (Some LargeLists) n (large_list x t b m) e p f h = absurd (omega arith)
-ended_here _ n _ e p f h = h.0
-
-pub no_item : (w : Option ListWidth) (levels : ℕ) (t : Tree) (before : Path) → 0 < levels → Ended w 0 t → LeadsTo (LevelsFault CoordinateFault w levels t) before before
-no_item w zero t before some e = absurd (omega arith)
-no_item w (suc n) t before some e = stays (LevelsFault CoordinateFault w (suc n) t) before (ended_here w n t e)
-
 level_item : (w : Option ListWidth) (v : ListWidth) (n : ℕ) (t u : Tree) (p : Path) (f : LayoutFault) → IsWidth w v → ListsOver v 1 t u → LevelsFault CoordinateFault w (suc n) t p f → InItem (LevelsFault CoordinateFault (Some v) n u) p f
 level_item (Some Lists) LargeLists n t u p f is one h = elim is [ inl e ↦ cc | inr e ↦ cc ]
 level_item (Some LargeLists) Lists n t u p f is one h = elim is [ inl e ↦ cc | inr e ↦ cc ]
@@ -95,21 +83,14 @@ native_leads r k t before after other h = h
 
 -- ---- one member
 
-kind_only : (N : KindReads) (F : NativeKind → Faults) (i : ℤ) (t : Tree) (k : NativeKind) (d : Dimension) (p : Path) (f : LayoutFault) → i ≡ pos (type_id_of k d) → PartFault N F i t p f → KindFault N F k d t p f
-kind_only N F i t k d p f id (inl h) = absurd (h.0 k d id)
-kind_only N F i t k d p f id (inr h) = let same = id_same i h.0 k h.1 d h.2 id in subst (λ x. KindFault N F k x t p f) same.1 (subst (λ x. KindFault N F x h.1 t p f) same.0 h.3)
-
-read_stays : (N : KindReads) (F : NativeKind → Faults) → ApartNative N F → (i : ℤ) (t : Tree) (k : NativeKind) (d : Dimension) (x : CoordType × Dimension) → i ≡ pos (type_id_of k d) → N t k x.0 x.1 → StaysHere (PartFault N F i t)
-read_stays N F apart i t k d x id read p f h = elim (kind_only N F i t k d p f id h) [ inl e ↦ absurd (apart k t x.0 x.1 p f read e) | inr e ↦ e.4.0 ]
-
-pub unknown_here : (N : KindReads) (F : NativeKind → Faults) (i z : ℤ) (t : Tree) → z ≡ i → IsPartsOf z no_parts → StaysHere (PartFault N F i t)
+pub unknown_here : (N : KindReads) (F : NativeKind → Faults) (i z : ℤ) (t : Tree) → z ≡ i → IsPartsOf z None → StaysHere (PartFault N F i t)
 unknown_here N F i z t is parts p f (inl h) = h.1.0
-unknown_here N F i z t is parts p f (inr h) = let bad : no_parts ≡ some_parts h.0 h.1 = (parts h.0 h.1).1 (is ∙ h.2) in cc
+unknown_here N F i z t is parts p f (inr h) = let bad : None ≡ some_parts h.0 h.1 = (parts h.0 h.1).1 (is ∙ h.2) in cc
 
 -- a member that is read as one of its kind has no fault inside, and one that is not has that of its kind
 pub kind_inside : (N : KindReads) (F : NativeKind → Faults) → ApartNative N F → (i z : ℤ) (t : Tree) (k : NativeKind) (d : Dimension) (r : Answer) → z ≡ i → IsPartsOf z (some_parts k d) → TellsBoth r (N t k) (F k t)
     → MatchResult r (λ x. StaysHere (PartFault N F i t)) (λ g. (p : Path) (f : LayoutFault) → PartFault N F i t p f → F k t p f)
-kind_inside N F apart i z t k d (Ok x) same parts h = read_stays N F apart i t k d x (sym same ∙ (parts k d).0 refl) h
+kind_inside N F apart i z t k d (Ok x) same parts h = λ p f e. elim (kind_only N F i t k d p f (sym same ∙ (parts k d).0 refl) e) [ inl y ↦ absurd (apart k t x.0 x.1 p f h y) | inr y ↦ y.4.0 ]
 kind_inside N F apart i z t k d (Err g) same parts h = λ p f e. elim (kind_only N F i t k d p f (sym same ∙ (parts k d).0 refl) e) [ inl x ↦ x | inr x ↦ absurd (apart k t x.0 x.1 h.0 g x.2 h.1) ]
 
 -- the path goes on inside of a member, or ends there

@@ -1,5 +1,6 @@
 -- The kind of a name and a tree: there is one at most, and it is what a reader's answer says; the names of a tree: two at most, and which two.
-use Rattle.geoarrow_layout.proofs.Terms.{◌≡◌, ◌≢◌, ◌⊎◌, inl, inr, IfOk, IfSome, name_of, result_ok, Bool, true≢false, IsTrue, is_ok, cond, refl, sym, ap, subst, ◌∙◌, ◌↔◌, IfErr, Option, Some, Result, Ok, Err, bytes_eq, same_Some, Text, Tree, Point, LineString, Polygon, MultiPoint, MultiLineString, MultiPolygon, GeometryCollection, Width, Plain, Large, View, Kind, OfNative, OfGeometry, OfRect, OfWkb, OfWkt, ExtensionName, name_text, extension_of, Native, IsBytes, IsText, Accepted, Accepts, IsStructured, YieldsOne, any_native_same, geometry_same, box_shape_same, LayoutFault, Summary, Summarizes, IsAccepted, Path, HasFault, FaultAt, Tells, YieldsKind, NativeKind, CoordType, Dimension, Mixed, Geometry, BoxShape, NativeFault, MixedFault, GeometryFault, BoxFault, TellsBoth, Yields, coords_in, native_first, mixed_first, ◌≤◌, ℕ, zero, suc, arith, PlainType, binary, large_binary, binary_view, utf8, large_utf8, utf8_view, plain, list, large_list, fixed_size_list, struct, union, Interleaved, Separated, XY, XYZM, ListWidth, Lists, LargeLists, size_of, names_of, ListsOver, levels_of, Leaf, NoName, Holds, IsStructOfFour, Share}
+use Rattle.geoarrow_layout.proofs.Terms.{◌≡◌, ◌≢◌, ◌⊎◌, inl, inr, IfOk, IfSome, name_of, result_ok, Bool, true≢false, IsTrue, is_ok, cond, refl, sym, ap, subst, ◌∙◌, ◌↔◌, IfErr, Option, Some, Result, Ok, Err, bytes_eq, same_Some, Text, Tree, Point, LineString, Polygon, MultiPoint, MultiLineString, MultiPolygon, GeometryCollection, Width, Plain, Large, View, Kind, OfNative, OfGeometry, OfRect, OfWkb, OfWkt, ExtensionName, name_text, extension_of, Native, IsBytes, IsText, Accepted, Accepts, IsStructured, YieldsOne, any_native_same, geometry_same, box_shape_same, LayoutFault, Summary, Summarizes, IsAccepted, Path, HasFault, FaultAt, Tells, YieldsKind, NativeKind, CoordType, Dimension, Mixed, Geometry, BoxShape, NativeFault, MixedFault, GeometryFault, BoxFault, TellsBoth, Yields, coords_in, native_first, mixed_first, ◌≤◌, ℕ, zero, suc, arith, PlainType, binary, large_binary, binary_view, utf8, large_utf8, utf8_view, plain, list, large_list, fixed_size_list, struct, union, Interleaved, Separated, XY, ListWidth, Lists, LargeLists, size_of, names_of, ListsOver, levels_of, Leaf, NoName, Holds, IsStructOfFour, Share}
+use Rattle.geoarrow_layout.specs.Words.{XYZM}
 use Rattle.geoarrow_layout.specs.declared.names.ExtensionName.TheVariants as names
 use Rattle.geoarrow_layout.proofs.FaultLaws.{accepted_apart, native_apart, mixed_none, geometry_apart, box_apart, separated_length, box_length}
 use Rattle.geoarrow_layout.proofs.Readings.{Answer, exactly, exactly_one, told_fault}

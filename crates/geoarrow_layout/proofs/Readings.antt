@@ -10,17 +10,14 @@ ok x = Ok x
 pub ok_same : {X : Type 0} (x y : X) → ok x ≡ ok y → x ≡ y
 ok_same x y h = cc
 
-abbrev pub Parts : Type 0
-Parts = Option (NativeKind × Dimension)
-
-abbrev pub some_parts : NativeKind → Dimension → Parts
+abbrev pub some_parts : NativeKind → Dimension → Option (NativeKind × Dimension)
 some_parts k d = Some (k, d)
 
 abbrev pub refused : LayoutFault → Answer
 refused e = Err e
 
 -- the parts of an id
-abbrev pub IsPartsOf : ℤ → Parts → Type 0
+abbrev pub IsPartsOf : ℤ → Option (NativeKind × Dimension) → Type 0
 IsPartsOf i r = (k : NativeKind) (d : Dimension) → (r ≡ some_parts k d) ↔ (i ≡ pos (type_id_of k d))
 
 -- what holds for one value alone, and for none where there is a fault, is answered exactly

@@ -1,21 +1,24 @@
 -- Sets of bits, and what one reading adds to them; the fields of a struct: which names are those of a coordinate or a box, by their bits, and which point is inferred.
-use Rattle.geoarrow_layout.proofs.Terms.{◌≡◌, ◌↔◌, ◌<◌, ◌⊎◌, ◌*◌, ◌%◌, ◌^◌, inl, inr, ℕ, sym, ap, subst, ◌∙◌, ◌≤◌, true, false, ℤ, pos, Ok, Err, refl, arith, bit_at, bit_or, bit_at_set_same, bit_at_set_other, bit_at-zero, cases_eq, ltb-true, ltb-false, bits, ReadAt, w8, w64, CoordType, Dimension, LayoutFault, negsuc, nat_abs, lt_z, suc, Bool, ◌||◌, true≢false, Decides, IsTrue, list_all, and_parts, and_from, List, [], ◌∷◌, length, zero, ◌+◌, ◌&&◌, cond, ◌++◌, take, get_or, eq-eqb, list_any, bytes_eq, bytes_eq-Decides, Text, FieldTree, field_trees, XYZ, XYM, has_name, IsSeparatedAs, names_of, SomeAt, place_in, known_names, is_float64, are_float64, has_bit, eqb-true, or_cases, or_left, or_right, same_from_decides, and-true, and_assoc, IsBits, AddsBit, Result, Option, Tree, struct, FieldTrees, Separated, BadFieldNames, ListWidth, Bottom, Struct, Leaf, IsBoxAs, BoxShape, Path, SeparatedFault, CoordinateFault, BoxFault, IsBottom, IsUnion, IsNoLeaf, Tells, TellsBoth, BoxNamesFault, Some, None, same_Some, fixed_size_list, Interleaved, XY, size_of, interleaved_name, Inferred, IsInferredAs, IsInferredSize, among_back, dimension_named}
+use Rattle.geoarrow_layout.proofs.Terms.{◌≡◌, ◌↔◌, ◌<◌, ◌⊎◌, ◌*◌, ◌%◌, ◌^◌, inl, inr, ℕ, sym, ap, subst, ◌∙◌, ◌≤◌, true, false, ℤ, pos, Ok, Err, refl, arith, bit_at, bit_or, bit_at_set_same, bit_at_set_other, bit_at-zero, cases_eq, ltb-true, ltb-false, bits, ReadAt, w8, w64, CoordType, Dimension, LayoutFault, negsuc, nat_abs, lt_z, suc, Bool, ◌||◌, true≢false, Decides, IsTrue, list_all, and_parts, and_from, List, [], ◌∷◌, length, zero, ◌+◌, ◌&&◌, cond, ◌++◌, take, get_or, eq-eqb, list_any, bytes_eq, bytes_eq-Decides, Text, FieldTree, field_trees, XYZ, XYM, has_name, IsSeparatedAs, names_of, SomeAt, place_in, known_names, is_float64, are_float64, nat_eq, codes, HaveBoth, HasFault, eqb-true, or_cases, or_left, or_right, same_from_decides, and-true, and_assoc, IsBits, Result, Option, Tree, struct, FieldTrees, Separated, BadFieldNames, ListWidth, Bottom, Struct, Leaf, IsBoxAs, BoxShape, Path, SeparatedFault, CoordinateFault, BoxFault, IsBottom, IsUnion, IsNoLeaf, Tells, TellsBoth, BoxNamesFault, Some, None, same_Some, fixed_size_list, Interleaved, XY, size_of, interleaved_name, Inferred, IsInferredAs, IsInferredSize, among_back, dimension_named}
+use Rattle.std.proofs.Math.ListN.{get_or-map}
+use Rattle.std.proofs.lemmas.List.FromFn.{get_or-range_with_len}
 use Rattle.std.proofs.lemmas.Map.Made.{length-le_from_is_member}
 use Rattle.std.specs.Cmp.{IsEquivalence, decided}
 use Rattle.std.specs.Int.{Width}
 use Rattle.std.specs.List.{AllByRecursion, IsDistinct}
-use Rattle.geoarrow_layout.specs.Summary.{IsBits, AddsBit, AddsBits}
+use Rattle.geoarrow_layout.specs.Summary.{IsBits, AddsBits}
 use Rattle.geoarrow_layout.proofs.Readings.{Answer, ok_same, or_more, one_more}
 use Rattle.geoarrow_layout.specs.Shapes.{SameNames}
 use Rattle.geoarrow_layout.proofs.Bottoms.{at_bottom}
 use Rattle.geoarrow_layout.proofs.FaultLaws.{separated_length}
 
-pub adds_bit : (w : Width) (n i : ℕ) → i < bits w → AddsBit n i (bit_or n (1 * 2 ^ i % 2 ^ bits w))
-unfolding AddsBit
-adds_bit w n i within = λ k. elim (cases_eq k i) [
-  | inl e ↦ (λ h. inr e, λ h. ap (bit_at (bit_or n (1 * 2 ^ i % 2 ^ bits w))) e ∙ bit_at_set_same w n i within)
+-- one bit more, that of the one number with P
+pub adds_bit : (w : Width) (n i : ℕ) (P : ℕ → Type 0) → i < bits w → P i → ((k : ℕ) → P k → k ≡ i) → AddsBits n P (bit_or n (1 * 2 ^ i % 2 ^ bits w))
+unfolding AddsBits
+adds_bit w n i P within there only = λ k. elim (cases_eq k i) [
+  | inl e ↦ (λ h. inr (subst P (sym e) there), λ h. ap (bit_at (bit_or n (1 * 2 ^ i % 2 ^ bits w))) e ∙ bit_at_set_same w n i within)
   | inr e ↦ let other = bit_at_set_other w n i within k e in
-      (λ h. inl (sym other ∙ h), λ h. elim h [ inl was ↦ other ∙ was | inr is ↦ absurd (e is) ])
+      (λ h. inl (sym other ∙ h), λ h. elim h [ inl was ↦ other ∙ was | inr p ↦ absurd (e (only k p)) ])
 ]
 
 pub bits_like : (n : ℕ) (P Q : ℕ → Type 0) → ((i : ℕ) → P i → Q i) → ((i : ℕ) → Q i → P i) → IsBits n P → IsBits n Q
@@ -44,16 +47,9 @@ adds_none : (n : ℕ) (P : ℕ → Type 0) → ((i : ℕ) → P i → ⊥) → A
 unfolding AddsBits
 adds_none n P none = λ i. (λ e. inl e, λ h. elim h [ inl e ↦ e | inr p ↦ absurd (none i p) ])
 
-pub adds_one : (n j more : ℕ) (P : ℕ → Type 0) → P j → ((i : ℕ) → P i → i ≡ j) → AddsBit n j more → AddsBits n P more
-unfolding AddsBit AddsBits
-adds_one n j more P there only adds = λ i. (
-  (λ e. elim ((adds i).0 e) [ inl was ↦ inl was | inr is ↦ inr (subst P (sym is) there) ]),
-  (λ h. elim h [ inl e ↦ (adds i).1 (inl e) | inr p ↦ (adds i).1 (inr (only i p)) ]),
-)
-
 pub number_added : (number : CoordType × Dimension → ℕ) (n j : ℕ) (part : Answer) (p : CoordType × Dimension) → part ≡ Ok p → j ≡ number p → j < 8 → AddsBits n (ReadAt number part) (bit_or n (1 * 2 ^ j % 2 ^ 8))
 number_added number n j part p is place small =
-    adds_one n j _ (ReadAt number part) (p, is, place) (λ i h. h.2 ∙ ap number (ok_same h.0 p (sym h.1 ∙ is)) ∙ sym place) (adds_bit w8 n j small)
+    adds_bit w8 n j (ReadAt number part) small (p, is, place) (λ i h. h.2 ∙ ap number (ok_same h.0 p (sym h.1 ∙ is)) ∙ sym place)
 
 pub number_kept : (number : CoordType × Dimension → ℕ) (n : ℕ) (part : Answer) (f : LayoutFault) → part ≡ Err f → AddsBits n (ReadAt number part) n
 number_kept number n part f is = adds_none n (ReadAt number part) (λ i h. let bad = sym h.1 ∙ is in cc)
@@ -76,7 +72,7 @@ id_outside n id z is h = adds_none n (λ i. (i < 64) × (id ≡ pos i)) (λ i p.
 pub id_between : (n : ℕ) (id z : ℤ) → z ≡ id → lt_z z (pos 0) ≡ false → lt_z (pos 63) z ≡ false → AddsBits n (λ i. (i < 64) × (id ≡ pos i)) (bit_or n (1 * 2 ^ nat_abs z % 2 ^ 64))
 id_between n id z is h k =
     let b = between z h k in
-    adds_one n (nat_abs z) _ (λ i. (i < 64) × (id ≡ pos i)) (b.1, sym is ∙ b.0) (λ i p. let same = sym p.1 ∙ sym is ∙ b.0 in cc) (adds_bit w64 n (nat_abs z) b.1)
+    adds_bit w64 n (nat_abs z) (λ i. (i < 64) × (id ≡ pos i)) b.1 (b.1, sym is ∙ b.0) (λ i p. let same = sym p.1 ∙ sym is ∙ b.0 in cc)
 
 pub length_names : (fs : List FieldTree) → length (names_of (field_trees fs)) ≡ length fs
 length_names [] = refl
@@ -121,10 +117,13 @@ all_named names (x ∷ xs) all q h = elim (or_cases (bytes_eq x q) (has_name q x
 ]
 
 -- three names among which are three different ones are just those: a fourth would make them four
-pub same_three : (x y z : Text) (names : List Text) → bytes_eq y x ≡ false → bytes_eq z x ≡ false → bytes_eq z y ≡ false → length names ≡ 3 → AllByRecursion (λ m. has_name m names ≡ true) (x ∷ y ∷ z ∷ []) → SameNames names (x ∷ y ∷ z ∷ [])
+pub same_three : (x y z : Text) (names : List Text) → bytes_eq y x ≡ false → bytes_eq z x ≡ false → bytes_eq z y ≡ false → length names ≡ 3 → HaveBoth x y names → has_name z names ≡ true → SameNames names (x ∷ y ∷ z ∷ [])
 unfolding SameNames IsDistinct
-same_three x y z names yx zx zy count all = λ n. same_from_decides {P = has_name n names ≡ true} _ _ ((λ e. e), (λ e. e)) (all_named names (x ∷ y ∷ z ∷ []) all n, λ h. by n h _ _ _ refl refl refl)
+same_three x y z names yx zx zy count xy third = λ n. same_from_decides {P = has_name n names ≡ true} _ _ ((λ e. e), (λ e. e)) (all_named names (x ∷ y ∷ z ∷ []) all n, λ h. by n h _ _ _ refl refl refl)
   where
+    all : AllByRecursion (λ m. has_name m names ≡ true) (x ∷ y ∷ z ∷ [])
+    all = (xy.0, (xy.1, (third, tt)))
+
     by : (n : Text) → has_name n names ≡ true → (a b c : Bool) → bytes_eq x n ≡ a → bytes_eq y n ≡ b → bytes_eq z n ≡ c → (a || (b || (c || false))) ≡ true
     by n h false false false e f g = absurd (omega (
       arith,
@@ -135,39 +134,29 @@ same_three x y z names yx zx zy count all = λ n. same_from_decides {P = has_nam
     by n h false true c e f g = refl
     by n h _ _ _ e f g = refl
 
-pub three_have : (names : List Text) (d : Dimension) → length names ≡ 3 → IsSeparatedAs d names → (has_name (120 ∷ []) names ≡ true) × (has_name (121 ∷ []) names ≡ true) × ((has_name (122 ∷ []) names ≡ true) ⊎ (has_name (109 ∷ []) names ≡ true))
-unfolding SameNames
-three_have names XYZ count h = (h.1 (120 ∷ []), h.1 (121 ∷ []), inl (h.1 (122 ∷ [])))
-three_have names XYM count h = (h.1 (120 ∷ []), h.1 (121 ∷ []), inr (h.1 (109 ∷ [])))
-three_have names _ count h = absurd (omega arith)
-
 -- ---- the bits of names, one field at a time
 
-abbrev pub FieldItems : Type 0
-FieldItems = List FieldTree
-
-some_more : (i : ℕ) (xs : FieldItems) (x : FieldTree) → SomeAt i (names_of (field_trees (xs ++ (x ∷ [])))) ↔ (SomeAt i (names_of (field_trees xs)) ⊎ (place_in x.name known_names ≡ i))
+some_more : (i : ℕ) (xs : List FieldTree) (x : FieldTree) → SomeAt i (names_of (field_trees (xs ++ (x ∷ [])))) ↔ (SomeAt i (names_of (field_trees xs)) ⊎ (place_in x.name known_names ≡ i))
 some_more i [] x = (λ h. elim h [ inl p ↦ inr p | inr e ↦ inl e ], λ h. elim h [ inl e ↦ inr e | inr p ↦ inl p ])
 some_more i (y ∷ xs) x = or_more (some_more i xs x)
 
-floats_more : (xs : FieldItems) (x : FieldTree) → are_float64 (field_trees (xs ++ (x ∷ []))) ≡ (are_float64 (field_trees xs) && is_float64 x.tree)
+floats_more : (xs : List FieldTree) (x : FieldTree) → are_float64 (field_trees (xs ++ (x ∷ []))) ≡ (are_float64 (field_trees xs) && is_float64 x.tree)
 floats_more [] x = and-true (is_float64 x.tree)
 floats_more (y ∷ xs) x = ap (λ b. is_float64 y.tree && b) (floats_more xs x) ∙ sym (and_assoc (is_float64 y.tree) (are_float64 (field_trees xs)) (is_float64 x.tree))
 
 -- what was seen of the fields so far
-pub record FieldsSeen (names : ℕ) (all_floats : Bool) (xs : FieldItems) : Type 0 where
+pub record FieldsSeen (names : ℕ) (all_floats : Bool) (xs : List FieldTree) : Type 0 where
   pub bits : IsBits names (λ i. SomeAt i (names_of (field_trees xs)))
   pub floats : all_floats ≡ are_float64 (field_trees xs)
 
 pub fields_seen_none : FieldsSeen 0 true []
 fields_seen_none = record { bits = no_bits (λ i. ⊥) (λ i h. h); floats = refl }
 
-pub fields_seen_more : (names place more : ℕ) (b b2 : Bool) (xs : FieldItems) (k : ℕ) (x : FieldTree) → k < length xs → x ≡ get_or xs k x → place ≡ place_in x.name known_names → AddsBit names place more → b2 ≡ (b && is_float64 x.tree) → FieldsSeen names b (take k xs) → FieldsSeen more b2 (take (k + 1) xs)
-fields_seen_more names place more b b2 all k x lt at is adds float before =
+pub fields_seen_more : (names more : ℕ) (b b2 : Bool) (xs : List FieldTree) (k : ℕ) (x : FieldTree) → k < length xs → x ≡ get_or xs k x → AddsBits names (λ i. place_in x.name known_names ≡ i) more → b2 ≡ (b && is_float64 x.tree) → FieldsSeen names b (take k xs) → FieldsSeen more b2 (take (k + 1) xs)
+fields_seen_more names more b b2 all k x lt at adds float before =
     let xs = take k all in
     subst (FieldsSeen more b2) (sym (one_more all k x lt at)) record {
-      bits = bits_added names more (λ i. place_in x.name known_names ≡ i) (λ i. SomeAt i (names_of (field_trees xs))) (λ i. SomeAt i (names_of (field_trees (xs ++ (x ∷ [])))))
-          (adds_one names place more (λ i. place_in x.name known_names ≡ i) (sym is) (λ i e. sym e ∙ sym is) adds) (λ i. some_more i xs x) before.bits;
+      bits = bits_added names more (λ i. place_in x.name known_names ≡ i) (λ i. SomeAt i (names_of (field_trees xs))) (λ i. SomeAt i (names_of (field_trees (xs ++ (x ∷ []))))) adds (λ i. some_more i xs x) before.bits;
       floats = float ∙ ap (λ q. q && is_float64 x.tree) before.floats ∙ sym (floats_more xs x);
     }
 
@@ -181,27 +170,27 @@ place_to : (n : Text) (ms : List Text) (k : ℕ) → k < length ms → place_in 
 place_to n [] k lt h = absurd (omega arith)
 place_to n (m ∷ ms) k lt h = place_to_head n m ms k (bytes_eq n m) refl (λ j l e. place_to n ms j l e) lt h
 
-some_named : (m : Text) (k : ℕ) (ns : List Text) → k < 8 → get_or known_names k [] ≡ m → SomeAt k ns → has_name m ns ≡ true
-some_named m k [] lt at h = absurd h
-some_named m k (n ∷ ns) lt at h = elim h [
-  | inl e ↦ or_left (bytes_eq n m) (has_name m ns) (ap (λ x. bytes_eq n x) (sym at) ∙ place_to n known_names k lt e)
-  | inr e ↦ or_right (bytes_eq n m) (has_name m ns) (some_named m k ns lt at e)
-]
+-- a known name stands at its own place
+place_back : (k : ℕ) → k < 8 → place_in (get_or known_names k []) known_names ≡ k
+place_back k lt =
+    let is : place_in (get_or known_names k []) known_names ≡ 0 + k = sym (get_or-map (λ n. place_in n known_names) known_names k []) ∙ get_or-range_with_len 0 8 k _ lt in
+    omega arith
 
-named_some : (m : Text) (k : ℕ) (ns : List Text) → place_in m known_names ≡ k → has_name m ns ≡ true → SomeAt k ns
-named_some m k [] at h = cc
-named_some m k (n ∷ ns) at h = elim (or_cases (bytes_eq n m) (has_name m ns) h) [
-  | inl e ↦ let same : n ≡ m = (bytes_eq-Decides n m).0 e in inl (ap (λ x. place_in x known_names) same ∙ at)
-  | inr e ↦ inr (named_some m k ns at e)
-]
+some_named : (k : ℕ) (ns : List Text) → k < 8 → SomeAt k ns ↔ (has_name (get_or known_names k []) ns ≡ true)
+some_named k [] lt = (λ h. absurd h, λ h. cc)
+some_named k (n ∷ ns) lt =
+    let m = get_or known_names k [] in
+    let rest = some_named k ns lt in (
+      (λ h. elim h [ inl e ↦ or_left (bytes_eq n m) (has_name m ns) (place_to n known_names k lt e) | inr e ↦ or_right (bytes_eq n m) (has_name m ns) (rest.0 e) ]),
+      (λ h. elim (or_cases (bytes_eq n m) (has_name m ns) h) [ inl e ↦ inl (ap (λ x. place_in x known_names) ((bytes_eq-Decides n m).0 e) ∙ place_back k lt) | inr e ↦ inr (rest.1 e) ]),
+    )
 
 -- the bit of a known name says whether the name is there
-pub has_at : (m : Text) (k bits : ℕ) (ns : List Text) → k < 8 → get_or known_names k [] ≡ m → place_in m known_names ≡ k → IsBits bits (λ i. SomeAt i ns) → has_bit bits k ≡ has_name m ns
-has_at m k bits ns lt at is h =
+pub has_at : (bits k : ℕ) → k < 8 → (ns : List Text) → IsBits bits (λ i. SomeAt i ns) → nat_eq (bit_at bits k) 1 ≡ has_name (get_or known_names k []) ns
+has_at bits k lt ns h =
     let bit = bit_is bits (λ i. SomeAt i ns) k h in
-    same_from_decides {P = SomeAt k ns} (has_bit bits k) (has_name m ns)
-    ((λ e. bit.0 (eqb-true (bit_at bits k) 1 e)), (λ s. eq-eqb (bit_at bits k) 1 (bit.1 s)))
-    ((λ e. named_some m k ns is e), (λ s. some_named m k ns lt at s))
+    let named = some_named k ns lt in
+    same_from_decides {P = SomeAt k ns} (nat_eq (bit_at bits k) 1) (has_name (get_or known_names k []) ns) ((λ e. bit.0 (eqb-true (bit_at bits k) 1 e)), (λ s. eq-eqb (bit_at bits k) 1 (bit.1 s))) (named.1, named.0)
 
 -- ---- what the names of a struct's fields say, by their bits: the dimension of a coordinate, and that of a box
 
@@ -211,29 +200,15 @@ DimensionAnswer = Result Dimension LayoutFault
 abbrev pub NamesAnswer : ℕ → ℕ → DimensionAnswer → Type 0
 NamesAnswer count bits r = (ns : List Text) → count ≡ length ns → IsBits bits (λ i. SomeAt i ns) → Tells r (λ d. IsSeparatedAs d ns) (SeparatedFault ns)
 
-pub no_third : (count bits : ℕ) → count ≡ 3 → ((has_bit bits 0 && has_bit bits 1) ≡ true → (has_bit bits 2 ≡ true) ⊎ (has_bit bits 3 ≡ true) → ⊥) → NamesAnswer count bits (Err BadFieldNames)
-no_third count bits three lacks = λ ns same is.
-    let none : (d : Dimension) → ¬ IsSeparatedAs d ns = λ d h.
-    let have = three_have ns d (sym same ∙ three) h in
-    lacks (and_from _ _ (has_at _ 0 bits ns (omega arith) refl refl is ∙ have.0) (has_at _ 1 bits ns (omega arith) refl refl is ∙ have.1))
-    (elim have.2 [ inl e ↦ inl (has_at _ 2 bits ns (omega arith) refl refl is ∙ e) | inr e ↦ inr (has_at _ 3 bits ns (omega arith) refl refl is ∙ e) ]) in
-    ([], inr (sym same ∙ three, none, (refl, refl)))
-
-pub with_z : (count bits : ℕ) → count ≡ 3 → (has_bit bits 0 && has_bit bits 1) ≡ true → has_bit bits 2 ≡ true → NamesAnswer count bits (Ok XYZ)
-with_z count bits three xy z = λ ns same is.
-    let p = and_parts (has_bit bits 0) (has_bit bits 1) xy in (
-      sym same ∙ three,
-      same_three _ _ _ ns refl refl refl (sym same ∙ three)
-          (sym (has_at _ 0 bits ns (omega arith) refl refl is) ∙ p.0, (sym (has_at _ 1 bits ns (omega arith) refl refl is) ∙ p.1, (sym (has_at _ 2 bits ns (omega arith) refl refl is) ∙ z, tt))),
-    )
-
-pub with_m : (count bits : ℕ) → count ≡ 3 → (has_bit bits 0 && has_bit bits 1) ≡ true → has_bit bits 3 ≡ true → NamesAnswer count bits (Ok XYM)
-with_m count bits three xy m = λ ns same is.
-    let p = and_parts (has_bit bits 0) (has_bit bits 1) xy in (
-      sym same ∙ three,
-      same_three _ _ _ ns refl refl refl (sym same ∙ three)
-          (sym (has_at _ 0 bits ns (omega arith) refl refl is) ∙ p.0, (sym (has_at _ 1 bits ns (omega arith) refl refl is) ∙ p.1, (sym (has_at _ 3 bits ns (omega arith) refl refl is) ∙ m, tt))),
-    )
+-- three names that are not x, y and one of z and m are those of no dimension
+pub no_third : (ns : List Text) → length ns ≡ 3 → (HaveBoth (codes "x") (codes "y") ns → (has_name (codes "z") ns ≡ true) ⊎ (has_name (codes "m") ns ≡ true) → ⊥) → HasFault (SeparatedFault ns) BadFieldNames
+unfolding SameNames
+no_third ns three lacks = ([], inr (three, none, (refl, refl)))
+  where
+    none : (d : Dimension) → ¬ IsSeparatedAs d ns
+    none XYZ h = lacks (h.1 (codes "x"), h.1 (codes "y")) (inl (h.1 (codes "z")))
+    none XYM h = lacks (h.1 (codes "x"), h.1 (codes "y")) (inr (h.1 (codes "m")))
+    none _ h = absurd (omega arith)
 
 -- the leaf that a struct is
 abbrev pub LeafAnswer : Bottom → Answer → Type 0
@@ -253,29 +228,14 @@ struct_no_leaf count names floats f h w n u is = at_struct (λ x. (p : Path) × 
 abbrev pub BoxNames : ℕ → ℕ → DimensionAnswer → Type 0
 BoxNames count bits r = (ns : List Text) → count ≡ length ns → IsBits bits (λ i. SomeAt i ns) → Tells r (λ d. IsBoxAs d ns) (BoxNamesFault ns)
 
-not_both : (a b : Bool) → (a && b) ≡ false → (a ≡ true) × (b ≡ true) → ⊥
-not_both a b h p = let both : (a && b) ≡ true = rw (p.0, p.1) refl in cc
-
-pub box_with_m : (count bits : ℕ) → count ≡ 6 → (has_bit bits 6 && has_bit bits 7) ≡ true → BoxNames count bits (Ok XYM)
-box_with_m count bits six m = λ ns same is.
-    let p = and_parts (has_bit bits 6) (has_bit bits 7) m in
-    (sym same ∙ six, (sym (has_at _ 6 bits ns (omega arith) refl refl is) ∙ p.0, sym (has_at _ 7 bits ns (omega arith) refl refl is) ∙ p.1))
-
-pub box_with_z : (count bits : ℕ) → count ≡ 6 → (has_bit bits 6 && has_bit bits 7) ≡ false → (has_bit bits 4 && has_bit bits 5) ≡ true → BoxNames count bits (Ok XYZ)
-box_with_z count bits six no_m z = λ ns same is.
-    let p = and_parts (has_bit bits 4) (has_bit bits 5) z in (
-      sym same ∙ six,
-      (λ q. not_both (has_bit bits 6) (has_bit bits 7) no_m (has_at _ 6 bits ns (omega arith) refl refl is ∙ q.0, has_at _ 7 bits ns (omega arith) refl refl is ∙ q.1)),
-      (sym (has_at _ 4 bits ns (omega arith) refl refl is) ∙ p.0, sym (has_at _ 5 bits ns (omega arith) refl refl is) ∙ p.1),
-    )
-
-pub no_box : (count bits : ℕ) → count ≡ 6 → (has_bit bits 6 && has_bit bits 7) ≡ false → (has_bit bits 4 && has_bit bits 5) ≡ false → BoxNames count bits (Err BadFieldNames)
-no_box count bits six no_m no_z = λ ns same is. ([], inr (sym same ∙ six, (λ d h. none ns d (sym same ∙ six) is h), (refl, refl)))
+-- six names without both bounds of m or of z are those of no box
+pub no_box : (ns : List Text) → length ns ≡ 6 → ¬ HaveBoth (codes "mmin") (codes "mmax") ns → ¬ HaveBoth (codes "zmin") (codes "zmax") ns → HasFault (BoxNamesFault ns) BadFieldNames
+no_box ns six no_m no_z = ([], inr (six, none, (refl, refl)))
   where
-    none : (ns : List Text) (d : Dimension) → length ns ≡ 6 → IsBits bits (λ i. SomeAt i ns) → IsBoxAs d ns → ⊥
-    none ns XYM count6 is h = not_both (has_bit bits 6) (has_bit bits 7) no_m (has_at _ 6 bits ns (omega arith) refl refl is ∙ h.1.0, has_at _ 7 bits ns (omega arith) refl refl is ∙ h.1.1)
-    none ns XYZ count6 is h = not_both (has_bit bits 4) (has_bit bits 5) no_z (has_at _ 4 bits ns (omega arith) refl refl is ∙ h.2.0, has_at _ 5 bits ns (omega arith) refl refl is ∙ h.2.1)
-    none ns _ count6 is h = omega arith
+    none : (d : Dimension) → ¬ IsBoxAs d ns
+    none XYM h = no_m h.1
+    none XYZ h = no_z h.2
+    none _ h = absurd (omega arith)
 
 pub root_box : (w : Option ListWidth) (count names : ℕ) (floats : Bool) (u : Tree) (r : DimensionAnswer) → IsBottom IsUnion w 0 (Struct count names floats) u → BoxNames count names r → Tells r (BoxShape u) (BoxFault u)
 root_box w count names floats u r k says = at_bottom IsUnion (λ x. Tells r (BoxShape x) (BoxFault x)) w 0 (Struct count names floats) tt (λ x t b m z h. absurd h) (λ fs h. says (names_of fs) h.0 h.1) (λ ms mode h. absurd h) u k

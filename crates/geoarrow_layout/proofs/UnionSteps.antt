@@ -243,9 +243,6 @@ root_geometry w empty ids coords dims fault geometry u r k says =
 abbrev Part : KindReads → ℤ → Tree → CoordType → Dimension → Type 0
 Part N i t c d = (k : NativeKind) × (i ≡ pos (type_id_of k d)) × N t k c d
 
-abbrev pub no_parts : Option (NativeKind × Dimension)
-no_parts = None
-
 -- the answer of a kind, if the dimension is that of the type id
 pub part_answer : (N : KindReads) (F : NativeKind → Faults) (i z : ℤ) (t : Tree) (k : NativeKind) (d : Dimension) (read r : Answer) → z ≡ i → IsPartsOf z (some_parts k d) → MatchResult r (λ x. (read ≡ Ok x) × (x.1 ≡ d)) (IsOtherFault read d)
     → TellsBoth read (N t k) (F k t) → TellsBoth r (Part N i t) (PartFault N F i t)
@@ -255,8 +252,8 @@ part_answer N F i z t k d read (Err f) is parts (inr e) a =
     let read_is : N t k e.1 e.2 = subst (λ y. TellsBoth y (N t k) (F k t)) e.3 a in
     ([], inr (k, d, sym is ∙ (parts k d).0 refl, inr (e.1, e.2, read_is, e.4, (refl, e.0))))
 
-pub part_unknown : (N : KindReads) (F : NativeKind → Faults) (i z : ℤ) (t : Tree) → z ≡ i → IsPartsOf z no_parts → TellsBoth (refused BadTypeId) (Part N i t) (PartFault N F i t)
-part_unknown N F i z t is parts = ([], inl ((λ k d id. let bad : no_parts ≡ some_parts k d = (parts k d).1 (is ∙ id) in cc), (refl, refl)))
+pub part_unknown : (N : KindReads) (F : NativeKind → Faults) (i z : ℤ) (t : Tree) → z ≡ i → IsPartsOf z None → TellsBoth (refused BadTypeId) (Part N i t) (PartFault N F i t)
+part_unknown N F i z t is parts = ([], inl ((λ k d id. let bad : None ≡ some_parts k d = (parts k d).1 (is ∙ id) in cc), (refl, refl)))
 
 -- the lists of a kind other than a collection
 pub over_leaf_answer : (b : Bool) (k : NativeKind) (n : ℕ) (s : Summary) (t : Tree) (r : Answer) → (k ≢ GeometryCollection) → n ≡ levels_of k → ((u : Tree) → ShowsIn false s u → TellsBoth r (Under Leaf n u) (LevelsFault CoordinateFault None n u)) → ShowsIn b s t → TellsBoth r (NativeIn b t k) (NativeFaultIn b k t)
@@ -280,6 +277,3 @@ no_collection i z t r (Err f) is parts other (p, inr e) = (p, inr (e.0, e.1, e.2
 
 pub a_collection : (i z : ℤ) (t : Tree) (k : NativeKind) (d : Dimension) → z ≡ i → IsPartsOf z (some_parts k d) → k ≡ GeometryCollection → TellsBoth (refused BadTypeId) (Member i t) (MemberFault i t)
 a_collection i z t k d is parts same = ([], inr (k, d, sym is ∙ (parts k d).0 refl, inl (subst (λ x. OverLeafFault x t [] BadTypeId) (sym same) (refl, refl))))
-
-pub kind_no_collection : (i z : ℤ) (t : Tree) (k : NativeKind) (d : Dimension) (part : Answer) → z ≡ i → IsPartsOf z (some_parts k d) → (k ≢ GeometryCollection) → TellsBoth part (GeometryMember i t) (GeometryMemberFault i t) → TellsBoth part (Member i t) (MemberFault i t)
-kind_no_collection i z t k d part is parts other h = no_collection i z t (some_parts k d) part is parts (λ e same. other (some_pair_parts k GeometryCollection d e same).0) h

@@ -1,5 +1,5 @@
 -- What is written is read as what it was written for, so the data types that are written are pairwise distinct; the comparison with them; every kind is listed, and once.
-use Rattle.geoarrow_layout.proofs.Terms.{◌≡◌, [], ◌∷◌, ◌++◌, true, false, refl, sym, subst, member_trees, CoordType, Interleaved, Separated, Dimension, XY, XYZ, XYM, DIMENSIONS, members_in, Lists, NativeKind, Point, LineString, Polygon, MultiPoint, MultiLineString, MultiPolygon, GeometryCollection, Plain, Kind, OfNative, OfGeometry, OfRect, OfWkb, OfWkt, Leaf, levels_of, Member, AllMembers, GeometryMember, Native, BoxShape, Accepted, Under, leaf_layout, member_layout, mixed_members, native_layout, geometry_members, layout, HasTypeIds, over_leaf_layout, mixed_layout, dimension_members, IsWritten, IsWrittenSome, cond, List, codes, ◌∙◌, ap, bytes_eq, Text, Tree, plain, list, struct, union, ExtensionName, extension_of, names_of, ◌↔◌, ℤ, Bool, true≢false, IsTrue, same_from_push, FieldTree, Members, field_trees, UnionMode, field_list, member_list, listed_fields, listed_members, ◌<◌, ℕ, ◌+◌, ◌*◌, ◌-◌, length, get_or, lit<, arith, Contains, Large, View, order_of, place_of, ALL, offset_of}
+use Rattle.geoarrow_layout.proofs.Terms.{◌≡◌, [], ◌∷◌, ◌++◌, true, false, refl, sym, subst, member_trees, CoordType, Interleaved, Separated, Dimension, XY, XYZ, XYM, DIMENSIONS, KINDS, members_in, native_members, Lists, NativeKind, Point, LineString, Polygon, MultiPoint, MultiLineString, MultiPolygon, GeometryCollection, Plain, Kind, OfNative, OfGeometry, OfRect, OfWkb, OfWkt, Leaf, levels_of, Member, AllMembers, GeometryMember, Native, BoxShape, Accepted, Under, leaf_layout, member_layout, mixed_members, native_layout, geometry_members, layout, HasTypeIds, over_leaf_layout, mixed_layout, dimension_members, IsWritten, IsWrittenSome, cond, List, codes, ◌∙◌, ap, bytes_eq, Text, Tree, plain, list, struct, union, ExtensionName, extension_of, names_of, ◌↔◌, ℤ, Bool, true≢false, IsTrue, same_from_push, FieldTree, Members, field_trees, UnionMode, field_list, member_list, listed_fields, listed_members, ◌<◌, ℕ, ◌+◌, ◌*◌, ◌-◌, length, get_or, lit<, arith, Contains, Large, View, order_of, place_of, ALL, offset_of}
 use Rattle.geoarrow_layout.specs.Shapes.{SameNames}
 use Rattle.geoarrow_layout.proofs.Readings.{all_map, all_both}
 use Rattle.geoarrow_layout.specs.declared.names.ExtensionName.TheVariants as names
@@ -25,20 +25,15 @@ written_mixed c d =
     ((Point, refl, at Point), ((LineString, refl, at LineString), ((Polygon, refl, at Polygon), ((MultiPoint, refl, at MultiPoint), ((MultiLineString, refl, at MultiLineString), ((MultiPolygon, refl, at MultiPolygon), tt))))))
 
 -- what is written for the members
-pub mixed_written : (c : CoordType) (d : Dimension) → AllMembers (IsWritten c d) (member_trees (mixed_members c d))
-mixed_written c d = ((Point, refl, refl), ((LineString, refl, refl), ((Polygon, refl, refl), ((MultiPoint, refl, refl), ((MultiLineString, refl, refl), ((MultiPolygon, refl, refl), tt))))))
+pub natives_written : (c : CoordType) (d : Dimension) (ks : List NativeKind) → AllMembers (IsWritten c d) (member_trees (native_members ks c d))
+natives_written c d [] = tt
+natives_written c d (k ∷ ks) = ((k, refl, refl), natives_written c d ks)
 
-dimension_written : (c : CoordType) (d : Dimension) → AllMembers (IsWrittenSome c) (member_trees (dimension_members c d))
-dimension_written c d =
-    (all_both (IsWrittenSome c) (mixed_members c d) (member_layout GeometryCollection d (native_layout GeometryCollection c d) ∷ [])).1
-    (all_map (IsWritten c d) (IsWrittenSome c) (λ i t m. (d, m)) (member_trees (mixed_members c d)) (mixed_written c d), ((d, (GeometryCollection, refl, refl)), tt))
-
-in_written : (c : CoordType) (ds : List Dimension) → AllMembers (IsWrittenSome c) (member_trees (members_in ds c))
+pub in_written : (c : CoordType) (ds : List Dimension) → AllMembers (IsWrittenSome c) (member_trees (members_in ds c))
 in_written c [] = tt
-in_written c (d ∷ ds) = (all_both (IsWrittenSome c) (dimension_members c d) (members_in ds c)).1 (dimension_written c d, in_written c ds)
-
-pub geometry_written : (c : CoordType) → AllMembers (IsWrittenSome c) (member_trees (geometry_members c))
-geometry_written c = in_written c DIMENSIONS
+in_written c (d ∷ ds) =
+    let each = all_map (IsWritten c d) (IsWrittenSome c) (λ i t m. (d, m)) (member_trees (dimension_members c d)) (natives_written c d KINDS) in
+    (all_both (IsWrittenSome c) (dimension_members c d) (members_in ds c)).1 (each, in_written c ds)
 
 written_native : (k : NativeKind) (c : CoordType) (d : Dimension) → Native (native_layout k c d) k c d
 written_native GeometryCollection c d = (mixed_layout c d, (Lists, refl), (tt, written_mixed c d))
@@ -54,7 +49,7 @@ written (OfNative k c d) = written_native k c d
 written (OfGeometry c) = (
   tt,
   all_map (IsWrittenSome c) (λ i t. (d : Dimension) × GeometryMember i t c d)
-      (λ i t w. (w.0, (w.1.0, w.1.1, subst (λ u. Native u w.1.0 c w.0) (sym w.1.2) (written_native w.1.0 c w.0)))) (member_trees (geometry_members c)) (geometry_written c),
+      (λ i t w. (w.0, (w.1.0, w.1.1, subst (λ u. Native u w.1.0 c w.0) (sym w.1.2) (written_native w.1.0 c w.0)))) (member_trees (geometry_members c)) (in_written c DIMENSIONS),
 )
 written (OfRect d) = written_box d
 written (OfWkb Plain) = refl
@@ -121,18 +116,6 @@ pub union_same : (t : Tree) (xs ys : Members) (m n : UnionMode) (b : Bool) → t
 union_same t xs ys m n b is mode says = (
   (λ h. is ∙ ap (λ z. union (member_trees z) m) (says.0 h) ∙ ap (λ z. union (member_trees ys) z) mode),
   (λ e. says.1 (sym (listed_members xs) ∙ ap members_of (sym is ∙ e) ∙ listed_members ys)),
-)
-
-pub not_last : (ms rest M : Members) (x : ℤ × FieldTree) (k : NativeKind) (d : Dimension) (t U : Tree) (b : Bool) → ms ≡ rest ++ (x ∷ []) → t ≡ x.1.tree → IsTrue b ↔ (t ≡ U) → b ≡ false → IsTrue false ↔ (ms ≡ M ++ (member_layout k d U ∷ []))
-not_last ms rest M x k d t U b is here says fails = (
-  (λ h. absurd (true≢false (sym h))),
-  (λ e. let p = same_from_push rest M x (member_layout k d U) (sym is ∙ e) in absurd (true≢false (sym (says.1 (here ∙ ap (λ m. m.1.tree) p.1)) ∙ fails))),
-)
-
-pub all_of_dimension : (ms rest M : Members) (x : ℤ × FieldTree) (k : NativeKind) (d : Dimension) (t U : Tree) (a b r : Bool) → ms ≡ rest ++ (x ∷ []) → t ≡ x.1.tree → IsTrue a ↔ (x ≡ member_layout k d x.1.tree) → a ≡ true → IsTrue b ↔ (t ≡ U) → b ≡ true → IsTrue r ↔ (rest ≡ M) → IsTrue r ↔ (ms ≡ M ++ (member_layout k d U ∷ []))
-all_of_dimension ms rest M x k d t U a b r is here one one_holds two two_holds says = (
-  (λ h. is ∙ ap (λ z. z ++ (x ∷ [])) (says.0 h) ∙ ap (λ z. M ++ (z ∷ [])) (one.0 one_holds ∙ ap (member_layout k d) (sym here ∙ two.0 two_holds))),
-  (λ e. says.1 (same_from_push rest M x (member_layout k d U) (sym is ∙ e)).0),
 )
 
 -- ---- every kind is listed, and once

@@ -11,10 +11,10 @@ pub use Rattle.geoarrow_layout.specs.Changes.{AlikeUnions, AreJust, EachOf, Geom
 pub use Rattle.geoarrow_layout.specs.FaultAt.{BoxFault, BoxNamesFault, CoordinateFault, DimensionsFault, FaultAt, Faults, FirstFault, GeometryFault, GeometryMemberFault, HasFault, Here, InItem, LevelsFault, Located, MemberFault, MixedFault, NativeFault, OverLeafFault, PartFault, Path, SeparatedFault, UnionFault, child_at, field_at, member_at}
 pub use Rattle.geoarrow_layout.specs.Faults.{IsErrorOfFault, fault_text}
 pub use Rattle.geoarrow_layout.specs.Inferred.{Inferred, IsInferredAs, IsInferredSize, YieldsSome, are_float64, is_float64}
-pub use Rattle.geoarrow_layout.specs.Kinds.{IsDimension, RefusesDimensions, coord_type_of, dimension_name, dimension_of, dimensions_of, extension_of, interleaved_name, name_of, name_text, offset_of, order_of, size_of, type_id_of}
-pub use Rattle.geoarrow_layout.specs.Layouts.{IsBare, IsWritten, IsWrittenSome, box_names, coordinate, coordinate_names, dimension_members, dimension_suffix, geometry_members, layout, leaf_layout, list_names, lists_over, member_layout, members_in, members_over, mixed_layout, mixed_members, native_layout, over_leaf_layout, type_name}
+pub use Rattle.geoarrow_layout.specs.Kinds.{IsDimension, RefusesDimensions, box_names, coord_type_of, coordinate_names, dimension_name, dimension_of, dimension_suffix, dimensions_of, extension_of, interleaved_name, name_of, name_text, offset_of, order_of, size_of, type_id_of}
+pub use Rattle.geoarrow_layout.specs.Layouts.{IsBare, IsWritten, IsWrittenSome, coordinate, dimension_members, geometry_members, layout, leaf_layout, list_names, lists_over, member_layout, members_in, members_over, mixed_layout, mixed_members, native_layout, native_members, over_leaf_layout, type_name}
 pub use Rattle.geoarrow_layout.specs.OneShape.{ReadsFirst, among_back, any_native_same, box_shape_same, coords_in, dimension_named, geometry_member_first, geometry_same, member_first, mixed_first, named_back, native_first, over_leaf_first}
 pub use Rattle.geoarrow_layout.specs.Shapes.{Accepted, Accepts, AllMembers, BoxShape, Collection, Geometry, GeometryMember, HasMembers, HaveBoth, IsBoxAs, IsBytes, IsSeparatedAs, IsStructured, IsText, Leaf, ListsOver, Member, Mixed, Native, OverLeaf, SameNames, SomeMember, Under, Yields, YieldsKind, YieldsOne, has_name, levels_of, names_of}
-pub use Rattle.geoarrow_layout.specs.Summary.{AddsBit, AddsBits, AreLevels, AreOf, Ended, FirstOrNone, IsBits, IsBottom, IsCoordFault, IsFaultOf, IsFixedSize, IsInnerUnion, IsLevelFault, IsNested, IsNoLeaf, IsOtherFault, IsRootUnion, IsStruct, IsUnion, IsWidth, LeadsTo, MemberFaultIn, MemberIn, MixedSays, NativeFaultIn, NativeIn, ReadAt, Seen, ShowsIn, SomeAt, StaysHere, Summarizes, SummarizesBy, Tells, TellsBoth, first_fault, has_bit, known_names, missing_fault, place_in, place_of}
-pub use Rattle.geoarrow_layout.specs.Words.{BadFieldCount, BadFieldNames, BadInterleavedName, BadSize, BadTypeId, Bottom, Contains, CoordType, Deep, Dense, Dimension, EmptyUnion, ExtensionName, FieldTree, FieldTrees, FixedSizeList, GeometryCollection, Interleaved, Kind, Large, LargeLists, LayoutFault, LineString, List, ListWidth, Lists, MatchOption, MatchResult, MemberDimension, MemberTrees, Members, MixedWidths, MultiLineString, MultiPoint, MultiPolygon, NativeKind, None, OfGeometry, OfNative, OfRect, OfWkb, OfWkt, Ok, Option, Other, OtherWidth, Plain, Plain as Narrow, Point, Polygon, Rect, Separated, SeveralCoordTypes, SeveralDimensions, Some, Struct, Summary, Text, Tree, UnexpectedType, Union, UnionMode, View, Width, Wkb, Wkt, XY, XYM, XYZ, XYZM, [], binary, binary_view, bit_at, bytes_eq, bytes_eq-Decides, codes, false, field_trees, fixed_size_list, float64, large_binary, large_list, large_utf8, length, list, list_all, list_any, map, member, member_trees, no_members, plain, pos, struct, true, union, utf8, utf8_view, ℕ, ℤ}
+pub use Rattle.geoarrow_layout.specs.Summary.{AddsBits, AreLevels, AreOf, Ended, FirstOrNone, IsBits, IsBottom, IsCoordFault, IsFaultOf, IsFixedSize, IsInnerUnion, IsLevelFault, IsNested, IsNoLeaf, IsOtherFault, IsRootUnion, IsStruct, IsUnion, IsWidth, LeadsTo, MemberFaultIn, MemberIn, MixedSays, NativeFaultIn, NativeIn, ReadAt, Seen, ShowsIn, SomeAt, StaysHere, Summarizes, SummarizesBy, Tells, TellsBoth, first_fault, known_names, missing_fault, place_in, place_of}
+pub use Rattle.geoarrow_layout.specs.Words.{BadFieldCount, BadFieldNames, BadInterleavedName, BadSize, BadTypeId, Bottom, Contains, CoordType, Deep, Dense, Dimension, EmptyUnion, ExtensionName, FieldTree, FieldTrees, FixedSizeList, GeometryCollection, Interleaved, Kind, Large, LargeLists, LayoutFault, LineString, List, ListWidth, Lists, MatchOption, MatchResult, MemberDimension, MemberTrees, Members, MixedWidths, MultiLineString, MultiPoint, MultiPolygon, NativeKind, None, OfGeometry, OfNative, OfRect, OfWkb, OfWkt, Ok, Option, Other, OtherWidth, Plain, Plain as Narrow, Point, Polygon, Rect, Separated, SeveralCoordTypes, SeveralDimensions, Some, Struct, Summary, Text, Tree, UnexpectedType, Union, UnionMode, View, Width, Wkb, Wkt, XY, XYM, XYZ, [], binary, binary_view, bit_at, bytes_eq, bytes_eq-Decides, codes, false, field_trees, fixed_size_list, float64, large_binary, large_list, large_utf8, length, list, list_all, list_any, map, member, member_trees, no_members, plain, pos, struct, true, union, utf8, utf8_view, ℕ, ℤ}
 pub use Rattle.std.specs.Prelude.{IfErr, IfOk, IfSome, IsOk, IsTrue, OnErr, OnOk, get_or, ⊤}

@@ -1,6 +1,7 @@
 -- Which data types are inferred as points, without an extension name.
 use Rattle.std.specs.Prelude.{◌≡◌, ◌↔◌, ◌∷◌, ◌&&◌}
-use Rattle.geoarrow_layout.specs.Words.{Text, Tree, plain, float64, fixed_size_list, struct, FieldTrees, no_fields, field, ℤ, pos, List, [], length, codes, Bool, true, false, Option, Some, CoordType, Interleaved, Separated, Dimension, XY, XYZ, XYM, XYZM}
+use Rattle.geoarrow_layout.specs.Words.{Text, Tree, plain, float64, fixed_size_list, struct, FieldTrees, no_fields, field, ℤ, pos, List, [], length, codes, Bool, true, false, Option, Some, CoordType, Interleaved, Separated, Dimension, XYZ, XYM}
+use Rattle.geoarrow_layout.specs.Kinds.{size_of}
 use Rattle.geoarrow_layout.specs.Shapes.{SameNames, names_of, IsSeparatedAs}
 
 -- the result is the coordinate type and dimension for which R holds, or none if it holds for none
@@ -24,10 +25,9 @@ IsInferredAs d names = IsSeparatedAs d names
 
 -- so is a fixed size list: its size gives the dimension, and if that is three, the name of the inner field
 abbrev pub IsInferredSize : Dimension → Text → ℤ → Type 0
-IsInferredSize XY name size = size ≡ pos 2
 IsInferredSize XYZ name size = (size ≡ pos 3) × ¬ (name ≡ codes "xym")
 IsInferredSize XYM name size = (size ≡ pos 3) × (name ≡ codes "xym")
-IsInferredSize XYZM name size = size ≡ pos 4
+IsInferredSize d name size = size ≡ pos (size_of d)
 
 -- the data type is inferred as a point: all its numbers are `Float64`
 abbrev pub Inferred : Tree → CoordType → Dimension → Type 0

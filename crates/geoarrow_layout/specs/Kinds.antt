@@ -1,6 +1,6 @@
 -- Tables of dimensions and kinds: sizes, names and type ids.
-use Rattle.std.specs.Prelude.{◌+◌, ◌≡◌, ◌*◌, ◌++◌}
-use Rattle.geoarrow_layout.specs.Words.{Text, ℕ, Option, Some, None, codes, string_bytes, decimal, Dimensions, Xy, Xyz, Xym, Xyzm, Unknown, GeoArrowError, InvalidGeoArrow, CoordType, Separated, Dimension, XY, XYZ, XYM, XYZM, NativeKind, Point, LineString, Polygon, MultiPoint, MultiLineString, MultiPolygon, GeometryCollection, ExtensionName, Kind, Native, Geometry, Rect, Wkb, Wkt}
+use Rattle.std.specs.Prelude.{◌+◌, ◌≡◌, ◌*◌, ◌++◌, ◌∷◌}
+use Rattle.geoarrow_layout.specs.Words.{Text, ℕ, List, [], Option, Some, None, codes, string_bytes, decimal, Dimensions, Xy, Xyz, Xym, Xyzm, Unknown, GeoArrowError, InvalidGeoArrow, CoordType, Separated, Dimension, XY, XYZ, XYM, XYZM, NativeKind, Point, LineString, Polygon, MultiPoint, MultiLineString, MultiPolygon, GeometryCollection, ExtensionName, Kind, Native, Geometry, Rect, Wkb, Wkt}
 use Rattle.geoarrow_layout.specs.declared.names.ExtensionName.TheVariants as names
 
 -- how many numbers a coordinate has
@@ -23,6 +23,31 @@ interleaved_name XY = codes "xy"
 interleaved_name XYZ = codes "xyz"
 interleaved_name XYM = codes "xym"
 interleaved_name XYZM = codes "xyzm"
+
+-- the field names of a separated coordinate, in order
+abbrev pub coordinate_names : Dimension → List Text
+coordinate_names XY = codes "x" ∷ codes "y" ∷ []
+coordinate_names XYZ = codes "x" ∷ codes "y" ∷ codes "z" ∷ []
+coordinate_names XYM = codes "x" ∷ codes "y" ∷ codes "m" ∷ []
+coordinate_names XYZM = codes "x" ∷ codes "y" ∷ codes "z" ∷ codes "m" ∷ []
+
+-- the field names of a box: the lower bounds, then the upper ones
+abbrev pub box_names : Dimension → List Text
+box_names XY = codes "xmin" ∷ codes "ymin" ∷ codes "xmax" ∷ codes "ymax" ∷ []
+box_names XYZ = codes "xmin" ∷ codes "ymin" ∷ codes "zmin" ∷ codes "xmax" ∷ codes "ymax" ∷ codes "zmax" ∷ []
+box_names XYM = codes "xmin" ∷ codes "ymin" ∷ codes "mmin" ∷ codes "xmax" ∷ codes "ymax" ∷ codes "mmax" ∷ []
+box_names XYZM = codes "xmin" ∷ codes "ymin" ∷ codes "zmin" ∷ codes "mmin" ∷ codes "xmax" ∷ codes "ymax" ∷ codes "zmax" ∷ codes "mmax" ∷ []
+
+-- what follows the name of a kind in the name of a union's member, by the dimension
+abbrev pub dimension_suffix : Dimension → Text
+dimension_suffix XY = []
+dimension_suffix XYZ = codes " Z"
+dimension_suffix XYM = codes " M"
+dimension_suffix XYZM = codes " ZM"
+
+-- all of them, in their order
+abbrev pub dimensions : List Dimension
+dimensions = XY ∷ XYZ ∷ XYM ∷ XYZM ∷ []
 
 -- the same dimension, as geometry traits name it
 abbrev pub dimensions_of : Dimension → Dimensions

@@ -1,18 +1,12 @@
 -- The data types as written: names, list levels, type ids and nullability.
 use Rattle.std.specs.Prelude.{◌≡◌, ◌∷◌, ◌++◌}
-use Rattle.geoarrow_layout.specs.Words.{Text, Tree, plain, float64, binary, large_binary, binary_view, utf8, large_utf8, utf8_view, list, fixed_size_list, struct, union, FieldTree, field_tree, Members, field_trees, member_trees, ℤ, pos, Bool, true, false, List, [], map, codes, Dense, CoordType, Interleaved, Separated, Dimension, XY, XYZ, XYM, XYZM, NativeKind, Point, LineString, Polygon, MultiPoint, MultiLineString, MultiPolygon, GeometryCollection, Plain, Large, View, Kind, Native, Geometry, Rect, Wkb, Wkt}
-use Rattle.geoarrow_layout.specs.Kinds.{size_of, interleaved_name, type_id_of}
+use Rattle.geoarrow_layout.specs.Words.{Text, Tree, plain, float64, binary, large_binary, binary_view, utf8, large_utf8, utf8_view, list, fixed_size_list, struct, union, FieldTree, field_tree, Members, field_trees, member_trees, ℤ, pos, Bool, true, false, List, [], map, codes, Dense, CoordType, Interleaved, Separated, Dimension, NativeKind, Point, LineString, Polygon, MultiPoint, MultiLineString, MultiPolygon, GeometryCollection, Plain, Large, View, Kind, Native, Geometry, Rect, Wkb, Wkt}
+use Rattle.geoarrow_layout.specs.Kinds.{size_of, interleaved_name, dimension_suffix, dimensions, type_id_of}
+pub use Rattle.geoarrow_layout.specs.Kinds.{coordinate_names, box_names}
 
 -- a field of a coordinate or a box: `Float64`, not nullable, without metadata
 abbrev pub coordinate : Text → FieldTree
 coordinate name = field_tree name (plain float64) false []
-
--- the field names of a separated coordinate, in order
-abbrev pub coordinate_names : Dimension → List Text
-coordinate_names XY = codes "x" ∷ codes "y" ∷ []
-coordinate_names XYZ = codes "x" ∷ codes "y" ∷ codes "z" ∷ []
-coordinate_names XYM = codes "x" ∷ codes "y" ∷ codes "m" ∷ []
-coordinate_names XYZM = codes "x" ∷ codes "y" ∷ codes "z" ∷ codes "m" ∷ []
 
 -- the data type of a coordinate
 abbrev pub leaf_layout : CoordType → Dimension → Tree
@@ -48,13 +42,6 @@ type_name MultiLineString = codes "MultiLineString"
 type_name MultiPolygon = codes "MultiPolygon"
 type_name GeometryCollection = codes "GeometryCollection"
 
--- what follows it in that name, by the dimension
-abbrev pub dimension_suffix : Dimension → Text
-dimension_suffix XY = []
-dimension_suffix XYZ = codes " Z"
-dimension_suffix XYM = codes " M"
-dimension_suffix XYZM = codes " ZM"
-
 -- a union's member: its type id, and its field, named by kind and dimension, nullable
 abbrev pub member_layout : NativeKind → Dimension → Tree → ℤ × FieldTree
 member_layout k d t = (pos (type_id_of k d), field_tree (type_name k ++ dimension_suffix d) t true [])
@@ -76,20 +63,22 @@ abbrev pub native_layout : NativeKind → CoordType → Dimension → Tree
 native_layout GeometryCollection c d = lists_over (list_names GeometryCollection) (mixed_layout c d)
 native_layout k c d = over_leaf_layout k c d
 
+-- a member for each of some kinds, each as the kind is written
+abbrev pub native_members : List NativeKind → CoordType → Dimension → Members
+native_members ks c d = map (λ k. member_layout k d (native_layout k c d)) ks
+
 -- the members of a geometry's union that are of one dimension, the collection last
 abbrev pub dimension_members : CoordType → Dimension → Members
 dimension_members c d = mixed_members c d ++ (member_layout GeometryCollection d (native_layout GeometryCollection c d) ∷ [])
 
+-- the members of a geometry's union that are of these dimensions
+abbrev pub members_in : List Dimension → CoordType → Members
+members_in [] c = []
+members_in (d ∷ ds) c = dimension_members c d ++ members_in ds c
+
 -- all 28 members of a geometry's union
 abbrev pub geometry_members : CoordType → Members
-geometry_members c = dimension_members c XY ++ dimension_members c XYZ ++ dimension_members c XYM ++ dimension_members c XYZM
-
--- the field names of a box: the lower bounds, then the upper ones
-abbrev pub box_names : Dimension → List Text
-box_names XY = codes "xmin" ∷ codes "ymin" ∷ codes "xmax" ∷ codes "ymax" ∷ []
-box_names XYZ = codes "xmin" ∷ codes "ymin" ∷ codes "zmin" ∷ codes "xmax" ∷ codes "ymax" ∷ codes "zmax" ∷ []
-box_names XYM = codes "xmin" ∷ codes "ymin" ∷ codes "mmin" ∷ codes "xmax" ∷ codes "ymax" ∷ codes "mmax" ∷ []
-box_names XYZM = codes "xmin" ∷ codes "ymin" ∷ codes "zmin" ∷ codes "mmin" ∷ codes "xmax" ∷ codes "ymax" ∷ codes "zmax" ∷ codes "mmax" ∷ []
+geometry_members c = members_in dimensions c
 
 -- the data type as written of a kind
 abbrev pub layout : Kind → Tree
@@ -106,11 +95,6 @@ layout (Wkt View) = plain utf8_view
 -- the field has this name and nullability, and no metadata
 abbrev pub IsBare : Text → Bool → FieldTree → Type 0
 IsBare name nullable f = (f.name ≡ name) × (f.nullable ≡ nullable) × (f.metadata ≡ [])
-
--- the members of a geometry's union, as written, that are of these dimensions
-abbrev pub members_in : List Dimension → CoordType → Members
-members_in [] c = []
-members_in (d ∷ ds) c = dimension_members c d ++ members_in ds c
 
 -- a union's member as written: its type id and its data type are those of one kind, in this coordinate type and dimension
 abbrev pub IsWritten : CoordType → Dimension → ℤ → Tree → Type 0

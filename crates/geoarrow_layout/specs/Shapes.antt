@@ -1,6 +1,6 @@
 -- The data types as read: which data type is of which kind.
-use Rattle.std.specs.Prelude.{◌≡◌, ◌↔◌, ◌⊎◌, ◌∷◌}
-use Rattle.geoarrow_layout.specs.Words.{Text, Tree, plain, binary, large_binary, binary_view, utf8, large_utf8, utf8_view, list, large_list, fixed_size_list, struct, union, FieldTrees, no_fields, field, MemberTrees, no_members, member, ℕ, zero, suc, ℤ, pos, List, [], length, codes, Bool, true, Option, Some, Result, Ok, list_any, bytes_eq, CoordType, Interleaved, Separated, Dimension, XY, XYZ, XYM, XYZM, NativeKind, Point, LineString, Polygon, MultiPoint, MultiLineString, MultiPolygon, GeometryCollection, Width, Plain, Large, View, Kind, OfNative, OfGeometry, OfRect, OfWkb, OfWkt, ListWidth, Lists, LargeLists, LayoutFault}
+use Rattle.std.specs.Prelude.{◌≡◌, ◌*◌, ◌↔◌, ◌⊎◌, ◌∷◌}
+use Rattle.geoarrow_layout.specs.Words.{Text, Tree, plain, binary, large_binary, binary_view, utf8, large_utf8, utf8_view, list, large_list, fixed_size_list, struct, union, FieldTrees, no_fields, field, MemberTrees, no_members, member, ℕ, zero, suc, ℤ, pos, List, [], length, codes, Bool, true, Option, Some, Result, Ok, list_any, bytes_eq, CoordType, Interleaved, Separated, Dimension, XYZ, XYM, NativeKind, Point, LineString, Polygon, MultiPoint, MultiLineString, MultiPolygon, GeometryCollection, Width, Plain, Large, View, Kind, OfNative, OfGeometry, OfRect, OfWkb, OfWkt, ListWidth, Lists, LargeLists, LayoutFault}
 use Rattle.geoarrow_layout.specs.Kinds.{size_of, interleaved_name, type_id_of, name_of}
 
 -- the result is the coordinate type and dimension for which R holds, or an error if it holds for none
@@ -26,10 +26,9 @@ SameNames xs ys = (n : Text) → has_name n xs ≡ has_name n ys
 
 -- fields with these names are a separated coordinate: their number gives the dimension, and if there are three, their names
 abbrev pub IsSeparatedAs : Dimension → List Text → Type 0
-IsSeparatedAs XY names = length names ≡ 2
 IsSeparatedAs XYZ names = (length names ≡ 3) × SameNames names (codes "x" ∷ codes "y" ∷ codes "z" ∷ [])
 IsSeparatedAs XYM names = (length names ≡ 3) × SameNames names (codes "x" ∷ codes "y" ∷ codes "m" ∷ [])
-IsSeparatedAs XYZM names = length names ≡ 4
+IsSeparatedAs d names = length names ≡ size_of d
 
 -- the data type is a coordinate of that type and dimension
 abbrev pub Leaf : Tree → CoordType → Dimension → Type 0
@@ -111,10 +110,9 @@ HaveBoth m n names = (has_name m names ≡ true) × (has_name n names ≡ true)
 
 -- fields with these names are a box: their number gives the dimension, and if there are six, their names
 abbrev pub IsBoxAs : Dimension → List Text → Type 0
-IsBoxAs XY names = length names ≡ 4
 IsBoxAs XYZ names = (length names ≡ 6) × ¬ HaveBoth (codes "mmin") (codes "mmax") names × HaveBoth (codes "zmin") (codes "zmax") names
 IsBoxAs XYM names = (length names ≡ 6) × HaveBoth (codes "mmin") (codes "mmax") names
-IsBoxAs XYZM names = length names ≡ 8
+IsBoxAs d names = length names ≡ 2 * size_of d
 
 -- the data type is a box of that dimension
 abbrev pub BoxShape : Tree → Dimension → Type 0

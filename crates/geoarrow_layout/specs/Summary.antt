@@ -100,14 +100,6 @@ Summarizes s t = SummarizesBy IsUnion s t
 
 -- ---- steps
 
--- whether bit i of the number is set
-abbrev pub has_bit : ℕ → ℕ → Bool
-has_bit bits i = nat_eq (bit_at bits i) 1
-
--- `more` has the bits of `bits`, and bit i
-unfoldable pub AddsBit : ℕ → ℕ → ℕ → Type 0
-AddsBit bits i more = (k : ℕ) → (bit_at more k ≡ 1) ↔ ((bit_at bits k ≡ 1) ⊎ (k ≡ i))
-
 -- `more` has the bits of `bits`, and those for which P holds
 unfoldable pub AddsBits : ℕ → (ℕ → Type 0) → ℕ → Type 0
 AddsBits bits P more = (i : ℕ) → (bit_at more i ≡ 1) ↔ ((bit_at bits i ≡ 1) ⊎ P i)

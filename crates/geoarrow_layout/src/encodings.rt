@@ -151,6 +151,17 @@ impl Kind {
     };
 }
 
+/// The native kinds, in the order of their type ids; all but the last are those of the members of a collection.
+pub(crate) const KINDS: [NativeKind; 7] = [
+    NativeKind::Point,
+    NativeKind::LineString,
+    NativeKind::Polygon,
+    NativeKind::MultiPoint,
+    NativeKind::MultiLineString,
+    NativeKind::MultiPolygon,
+    NativeKind::GeometryCollection,
+];
+
 /// The native kind whose type id in two dimensions that is.
 fn kind_at(offset: u8) -> Option<NativeKind>
     ensures { (k : NativeKind) → (result ≡ Some k) ↔ (offset ≡ offset_of k) }

@@ -149,7 +149,13 @@ fn push_native(path: &mut Vec<usize>, kind: NativeKind, data_type: &DataType) ->
     ensures { OnOk result (LeadsTo (NativeFault kind (tree data_type.now)) path.old.items path.new.items) }
 {
     match kind {
-        NativeKind::GeometryCollection => push_collection(path, data_type),
+        NativeKind::GeometryCollection => match data_type {
+            DataType::List(item) | DataType::LargeList(item) => {
+                path.push(0)?;
+                push_mixed(path, item.data_type())
+            }
+            _ => Ok(()),
+        },
         _ => push_over_leaf(path, kind, data_type),
     }
 }
@@ -182,19 +188,6 @@ fn push_levels(
             push_levels(path, Some(found), levels - 1, item)
         }
         None => Ok(()),
-    }
-}
-
-/// Adds the path to the fault as a collection.
-fn push_collection(path: &mut Vec<usize>, data_type: &DataType) -> Added
-    ensures { OnOk result (LeadsTo (LevelsFault MixedFault None 1 (tree data_type.now)) path.old.items path.new.items) }
-{
-    match data_type {
-        DataType::List(item) | DataType::LargeList(item) => {
-            path.push(0)?;
-            push_mixed(path, item.data_type())
-        }
-        _ => Ok(()),
     }
 }
 

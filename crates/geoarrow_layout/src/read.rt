@@ -3,14 +3,14 @@
 //! types of coordinate fields, the names of list items and members, and the mode of a union and the order of its members.
 //! None of them allocates.
 ghost use Rattle.std.specs.Prelude.{◌≡◌, ◌↔◌, ◌≢◌, ◌∷◌, ◌≤◌, ◌<◌, ◌&&◌};
-ghost use Rattle.geoarrow_layout.specs.Cited.{false, IfErr, IfOk, IfSome, IsTrue, Some, [], true, Ok, ℕ, List, Option, None, length, MatchResult, tree, field_trees, Yields, YieldsOne, Leaf, Under, Native, Mixed, Collection, Geometry, BoxShape, IsBytes, IsText, Accepts, YieldsKind, IsStructured, IsSeparatedAs, IsBoxAs, names_of, name_text, extension_of, name_of, HasFault, BoxFault, MixedFault, NativeFault, GeometryFault, FaultAt, SeparatedFault, CoordinateFault, BoxNamesFault, LevelsFault, Tree, Text, struct, AreOf, IsCoordFault, Summarizes, IsBits, SomeAt, IsBottom, IsUnion, Tells, IsNoLeaf, ShowsIn, NativeIn, NativeFaultIn, MemberIn, MemberFaultIn, TellsBoth, IsLevelFault, MixedSays, has_bit, Holds, IsAccepted, YieldsSome, Inferred, IsInferredAs, IsInferredSize, is_float64, are_float64, ListWidth};
+ghost use Rattle.geoarrow_layout.specs.Cited.{false, IfErr, IfOk, IfSome, IsTrue, Some, [], true, Ok, ℕ, List, Option, None, length, MatchResult, tree, field_trees, Yields, YieldsOne, Leaf, Under, Native, Mixed, Collection, Geometry, BoxShape, IsBytes, IsText, Accepts, YieldsKind, IsStructured, IsSeparatedAs, IsBoxAs, names_of, name_text, extension_of, name_of, HasFault, BoxFault, MixedFault, NativeFault, GeometryFault, FaultAt, SeparatedFault, CoordinateFault, BoxNamesFault, LevelsFault, Tree, Text, struct, AreOf, IsCoordFault, Summarizes, IsBits, SomeAt, IsBottom, IsUnion, Tells, IsNoLeaf, ShowsIn, NativeIn, NativeFaultIn, MemberIn, MemberFaultIn, TellsBoth, IsLevelFault, MixedSays, HaveBoth, known_names, get_or, Holds, IsAccepted, YieldsSome, Inferred, IsInferredAs, IsInferredSize, is_float64, are_float64, ListWidth};
 ghost use Rattle.geoarrow_layout.specs.declared.names.ExtensionName.TheVariants as names;
 
 use crate::encodings::{Kind, NativeKind, Width, list_names, parts_of_id};
 use crate::fault::LayoutFault;
 use crate::kinds::{CoordType, Coordinate, Dimension, list_size, only_dimension};
 use crate::names::{Candidates, ExtensionName};
-use crate::summary::{Bottom, Summary, has_bit, is_float64, struct_bottom, summarize};
+use crate::summary::{Bottom, Summary, has_known, is_float64, struct_bottom, summarize};
 use arrow_values::{DataType, Field};
 
 /// What a reader of coordinates returns.
@@ -323,6 +323,7 @@ fn struct_dimension(fields: &[Field]) -> Option<Dimension>
 
 /// The dimension that is inferred from a struct of these fields, by their names.
 #[inline(never)]
+#[tactic(auto, using(crate::proofs::Structs::all_inferred, crate::proofs::Structs::read_inferred))]
 fn named_dimension_of(fields: &[Field]) -> Option<Dimension>
     ensures { (d : Dimension) → (result ≡ Some d) ↔ ((are_float64 (field_trees fields.now) ≡ true) × IsInferredAs d (names_of (field_trees fields.now))) }
 {
@@ -344,15 +345,14 @@ fn named_dimension_of(fields: &[Field]) -> Option<Dimension>
 }
 
 /// The dimension that the fields of a struct say.
-#[tactic(auto, using(crate::proofs::Structs::with_z, crate::proofs::Structs::with_m))]
 fn separated_dimension(count: usize, names: u16) -> Result<Dimension, LayoutFault>
     ensures { (ns : List Text) → count ≡ length ns → IsBits names (λ i. SomeAt i ns) → Tells result (λ d. IsSeparatedAs d ns) (SeparatedFault ns) }
 {
     match count {
         2 => Ok(Dimension::XY),
         3 if !has_both(names, 0, 1) => Err(LayoutFault::BadFieldNames),
-        3 if has_bit(names, 3) => Ok(Dimension::XYM),
-        3 if has_bit(names, 2) => Ok(Dimension::XYZ),
+        3 if has_known(names, 3) => Ok(Dimension::XYM),
+        3 if has_known(names, 2) => Ok(Dimension::XYZ),
         3 => Err(LayoutFault::BadFieldNames),
         4 => Ok(Dimension::XYZM),
         _ => Err(LayoutFault::BadFieldCount),
@@ -457,6 +457,7 @@ pub(crate) fn member(collections: bool, id: i8, summary: &Summary) -> Answer
 }
 
 /// A union of members of one coordinate type.
+#[tactic(auto, using(crate::proofs::UnionSteps::root_geometry, crate::proofs::UnionSteps::at_root))]
 fn geometry(summary: &Summary) -> Result<CoordType, LayoutFault>
     ensures { (t : Tree) → Summarizes summary.now t → Tells result (Geometry t) (GeometryFault t) }
 {
@@ -471,17 +472,15 @@ fn geometry(summary: &Summary) -> Result<CoordType, LayoutFault>
     }
 }
 
-/// Whether both numbers are in the set.
-fn has_both(bits: u16, i: u8, j: u8) -> bool
-    requires i_in { i < 16 }
-    requires j_in { j < 16 }
-    ensures { result ≡ (has_bit bits i && has_bit bits j) }
+/// Whether the known names of both places occur.
+fn has_both(bits: u16, place: u8, other: u8) -> bool
+    requires { (place < 8) × (other < 8) }
+    ensures { (ns : List Text) → IsBits bits (λ i. SomeAt i ns) → IsTrue result ↔ HaveBoth (get_or known_names place []) (get_or known_names other []) ns }
 {
-    has_bit(bits, i) && has_bit(bits, j)
+    has_known(bits, place) && has_known(bits, other)
 }
 
 /// The dimension that the fields of a box say.
-#[tactic(auto, using(crate::proofs::Structs::box_with_m, crate::proofs::Structs::box_with_z))]
 fn box_dimension(count: usize, names: u16) -> Result<Dimension, LayoutFault>
     ensures { (ns : List Text) → count ≡ length ns → IsBits names (λ i. SomeAt i ns) → Tells result (λ d. IsBoxAs d ns) (BoxNamesFault ns) }
 {
@@ -496,6 +495,7 @@ fn box_dimension(count: usize, names: u16) -> Result<Dimension, LayoutFault>
 }
 
 /// A box.
+#[tactic(auto, using(crate::proofs::Structs::root_box, crate::proofs::UnionSteps::at_root))]
 fn boxed(summary: &Summary) -> Result<Dimension, LayoutFault>
     ensures { (t : Tree) → Summarizes summary.now t → Tells result (BoxShape t) (BoxFault t) }
 {

@@ -1,6 +1,6 @@
 //! What one walk over a data type finds.
 ghost use Rattle.std.specs.Prelude.{◌≡◌, ◌≢◌, ◌<◌, ◌≤◌, ◌↔◌, ◌∷◌};
-ghost use Rattle.geoarrow_layout.specs.Cited.{true, false, [], IsTrue, Some, MatchOption, ⊤, pos, None, tree, field_trees, member_trees, Tree, plain, float64, interleaved_name, order_of, ListsOver, Member, GeometryMember, place_in, known_names, IsStruct, IsBottom, AreLevels, place_of, IsInnerUnion, IsRootUnion, Summarizes, IsNoLeaf, Ended, IsWidth, ShowsIn, AddsBits, ReadAt, first_fault, TellsBoth, has_bit, is_float64, MemberFault, GeometryMemberFault};
+ghost use Rattle.geoarrow_layout.specs.Cited.{true, false, [], IsTrue, Some, MatchOption, ⊤, pos, None, tree, field_trees, member_trees, Tree, plain, float64, interleaved_name, order_of, ListsOver, Member, GeometryMember, place_in, known_names, IsStruct, IsBottom, AreLevels, place_of, IsInnerUnion, IsRootUnion, Summarizes, IsNoLeaf, Ended, IsWidth, ShowsIn, AddsBits, ReadAt, first_fault, TellsBoth, IsBits, SomeAt, has_name, get_or, List, Text, is_float64, MemberFault, GeometryMemberFault};
 
 use crate::encodings::{NativeKind, parts_of_id};
 use crate::fault::LayoutFault;
@@ -254,7 +254,7 @@ fn with_member(seen: Members, id: i8, part: &Answer) -> Members
 }
 
 /// The summary of a data type in which no union is entered.
-pub(crate) fn leaf_summary(data_type: &DataType) -> Summary
+fn leaf_summary(data_type: &DataType) -> Summary
     ensures { ShowsIn false result (tree data_type.now) }
 {
     let below = below_lists(data_type);
@@ -343,10 +343,10 @@ pub fn summarize(data_type: &DataType) -> Summary
     }
 }
 
-/// Whether the number is in the set.
-pub(crate) fn has_bit(bits: u16, i: u8) -> bool
-    requires { i < 16 }
-    ensures { result ≡ has_bit bits i }
+/// Whether the known name of that place occurs, by the bits of the names that do.
+pub(crate) fn has_known(bits: u16, place: u8) -> bool
+    requires { place < 8 }
+    ensures { (ns : List Text) → IsBits bits (λ i. SomeAt i ns) → result ≡ has_name (get_or known_names place []) ns }
 {
-    bits >> i & 1 == 1
+    bits >> place & 1 == 1
 }

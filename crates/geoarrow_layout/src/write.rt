@@ -1,8 +1,8 @@
 //! The data types that are written, and the kind that a data type was written for.
 ghost use Rattle.std.specs.Prelude.{◌≡◌, ◌++◌, ◌↔◌};
-ghost use Rattle.geoarrow_layout.specs.Cited.{[], false, pos, map, IfOk, IsOk, OnOk, IsTrue, Some, codes, fixed_text, list, struct, tree, field_trees, size_of, coordinate, coordinate_names, leaf_layout, lists_over, over_leaf_layout, member_layout, members_over, mixed_members, mixed_layout, dimension_members, box_names, layout, geometry_members, IsBare, members_in, IsStructured};
+ghost use Rattle.geoarrow_layout.specs.Cited.{[], false, pos, map, IfOk, IsOk, OnOk, IsTrue, Some, codes, fixed_text, list, struct, tree, field_trees, size_of, coordinate, coordinate_names, leaf_layout, lists_over, over_leaf_layout, member_layout, members_over, mixed_members, mixed_layout, box_names, layout, geometry_members, IsBare, members_in, native_layout, native_members, IsStructured};
 
-use crate::encodings::{Kind, NativeKind, Width, list_names, member_name, type_id};
+use crate::encodings::{KINDS, Kind, NativeKind, Width, list_names, member_name, type_id};
 use crate::kinds::{
     CoordType, Coordinate, DIMENSIONS, Dimension, box_names, coordinate_names, interleaved_name,
     list_size,
@@ -10,16 +10,6 @@ use crate::kinds::{
 use crate::summary::is_float64;
 use arrow_values::{DataType, Field, Fields, FixedName, UnionFields, UnionMode};
 use std::alloc::{AllocError, Global};
-
-/// The kinds of the members of the union in a collection, in the order of their type ids.
-const COLLECTED: [NativeKind; 6] = [
-    NativeKind::Point,
-    NativeKind::LineString,
-    NativeKind::Polygon,
-    NativeKind::MultiPoint,
-    NativeKind::MultiLineString,
-    NativeKind::MultiPolygon,
-];
 
 /// The data type of a coordinate, which is also that of a point (GeoArrow, "Coordinate", "Point"): a fixed size list of
 /// `Float64`, or a struct of `Float64` fields. Errs only when out of memory.
@@ -72,7 +62,7 @@ pub fn mixed_data_type(
     ensures { IfOk result (λ t. tree t ≡ mixed_layout coord_type dimension) }
 {
     let mut members = Vec::with_capacity(alloc, 6)?;
-    push_over(alloc, &mut members, &COLLECTED, (coord_type, dimension))?;
+    push_over(alloc, &mut members, &KINDS[..6], (coord_type, dimension))?;
     Ok(DataType::Union(UnionFields::from_members(members), UnionMode::Dense))
 }
 
@@ -83,10 +73,10 @@ pub fn geometry_data_type(alloc: Global, coord_type: CoordType) -> Result<DataTy
     ensures { IfOk result (λ t. tree t ≡ layout (Kind.Geometry coord_type)) }
 {
     let mut members = Vec::with_capacity(alloc, 28)?;
-    push_dimension(alloc, &mut members, (coord_type, Dimension::XY))?;
-    push_dimension(alloc, &mut members, (coord_type, Dimension::XYZ))?;
-    push_dimension(alloc, &mut members, (coord_type, Dimension::XYM))?;
-    push_dimension(alloc, &mut members, (coord_type, Dimension::XYZM))?;
+    push_natives(alloc, &mut members, &KINDS, (coord_type, Dimension::XY))?;
+    push_natives(alloc, &mut members, &KINDS, (coord_type, Dimension::XYZ))?;
+    push_natives(alloc, &mut members, &KINDS, (coord_type, Dimension::XYM))?;
+    push_natives(alloc, &mut members, &KINDS, (coord_type, Dimension::XYZM))?;
     Ok(DataType::Union(UnionFields::from_members(members), UnionMode::Dense))
 }
 
@@ -208,18 +198,19 @@ fn push_over(
     Ok(())
 }
 
-/// Puts the members of a union of geometries that are of one dimension last.
-fn push_dimension(
+/// Puts a member for each of these kinds last, each as the kind is written, in one dimension.
+fn push_natives(
     alloc: Global,
     members: &mut Vec<(i8, Field)>,
+    kinds: &[NativeKind],
     leaf: Coordinate,
 ) -> Result<(), AllocError>
-    ensures { OnOk result (members.new.items ≡ members.old.items ++ dimension_members leaf.0 leaf.1) }
+    ensures { OnOk result (members.new.items ≡ members.old.items ++ native_members kinds.now leaf.0 leaf.1) }
 {
-    push_over(alloc, members, &COLLECTED, leaf)?;
-    let kind = NativeKind::GeometryCollection;
-    let data_type = list_data_type(alloc, kind, leaf.0, leaf.1)?;
-    members.push(member_of(alloc, kind, leaf.1, data_type))?;
+    for kind in kinds {
+        let data_type = list_data_type(alloc, *kind, leaf.0, leaf.1)?;
+        members.push(member_of(alloc, *kind, leaf.1, data_type))?;
+    }
     Ok(())
 }
 
@@ -240,11 +231,8 @@ pub fn is_layout(data_type: &DataType, kind: &Kind) -> bool
     ensures { IsTrue result ↔ (tree data_type.now ≡ layout kind.now) }
 {
     match kind {
-        Kind::Native(NativeKind::GeometryCollection, coord_type, dimension) => {
-            is_collection(data_type, (*coord_type, *dimension))
-        }
         Kind::Native(kind, coord_type, dimension) => {
-            is_over_leaf(data_type, list_names(*kind), (*coord_type, *dimension))
+            is_native(data_type, *kind, (*coord_type, *dimension))
         }
         Kind::Geometry(coord_type) => is_geometry(data_type, *coord_type),
         Kind::Rect(dimension) => is_struct(data_type, box_names(*dimension)),
@@ -316,6 +304,16 @@ fn is_over_leaf(data_type: &DataType, names: &[FixedName], leaf: Coordinate) -> 
     is_bare(field, *name, false) && is_over_leaf(field.data_type(), others, leaf)
 }
 
+/// Whether the data type is the one that is written for a native kind.
+fn is_native(data_type: &DataType, kind: NativeKind, leaf: Coordinate) -> bool
+    ensures { IsTrue result ↔ (tree data_type.now ≡ native_layout kind leaf.0 leaf.1) }
+{
+    match kind {
+        NativeKind::GeometryCollection => is_collection(data_type, leaf),
+        _ => is_over_leaf(data_type, list_names(kind), leaf),
+    }
+}
+
 /// Whether the data type is the one that is written for a collection.
 fn is_collection(data_type: &DataType, leaf: Coordinate) -> bool
     ensures { IsTrue result ↔ (tree data_type.now ≡ list (codes "geometries") (mixed_layout leaf.0 leaf.1) false []) }
@@ -332,7 +330,7 @@ fn is_mixed(data_type: &DataType, leaf: Coordinate) -> bool
 {
     match data_type {
         DataType::Union(members, UnionMode::Dense) => {
-            are_members_over(members.as_slice(), &COLLECTED, leaf)
+            are_members_over(members.as_slice(), &KINDS[..6], leaf)
         }
         _ => false,
     }
@@ -361,23 +359,22 @@ fn are_in(members: &[(i8, Field)], dimensions: &[Dimension], coord_type: CoordTy
         return false;
     }
     let (first, rest) = members.split_at(7);
-    are_of_dimension(first, (coord_type, *dimension)) && are_in(rest, others, coord_type)
+    are_natives(first, &KINDS, (coord_type, *dimension)) && are_in(rest, others, coord_type)
 }
 
-/// Whether the members are those that are written for geometries of one dimension.
-fn are_of_dimension(members: &[(i8, Field)], leaf: Coordinate) -> bool
-    ensures { IsTrue result ↔ (members.now ≡ dimension_members leaf.0 leaf.1) }
+/// Whether the members are those that are written for these kinds.
+fn are_natives(members: &[(i8, Field)], kinds: &[NativeKind], leaf: Coordinate) -> bool
+    ensures { IsTrue result ↔ (members.now ≡ native_members kinds.now leaf.0 leaf.1) }
 {
-    let Some((last, rest)) = members.split_last() else {
+    let Some((kind, others)) = kinds.split_first() else {
+        return members.is_empty();
+    };
+    let Some((member, rest)) = members.split_first() else {
         return false;
     };
-    if !is_member(last, NativeKind::GeometryCollection, leaf.1) {
-        return false;
-    }
-    if !is_collection(last.1.data_type(), leaf) {
-        return false;
-    }
-    are_members_over(rest, &COLLECTED, leaf)
+    is_member(member, *kind, leaf.1)
+        && is_native(member.1.data_type(), *kind, leaf)
+        && are_natives(rest, others, leaf)
 }
 
 /// Whether the members are those of these kinds, each over a coordinate.

@@ -3,9 +3,6 @@ use Rattle.geoarrow_layout.proofs.UnionSteps.{at_root, root_geometry, root_fault
 use Rattle.geoarrow_layout.proofs.Readings.{refused_as}
 use Rattle.geoarrow_layout.proofs.read.geometry.Goals as goal
 
-pub returns-in-Union : goal.returns-in-Union
-returns-in-Union c = λ t h. root_geometry _ _ _ _ _ _ _ t _ (at_root c.args.summary.now _ t c.in_ok-no_members.ensures.0 (sym c.in-Union.is ∙ c.in_ok-no_members.ensures.1) h) c.one_of_union.ensures
-
 pub returns-in_err-no_members : goal.returns-in_err-no_members
 returns-in_err-no_members c = λ t h. refused_as _ _ _ _ c.from_residual.ensures.1
     (root_fault GeometryFault (λ x t b m. ((refl, refl), (refl, refl))) c.args.summary.now _ c.in_err-no_members.ensures t h)

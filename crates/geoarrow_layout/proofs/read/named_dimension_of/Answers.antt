@@ -2,11 +2,6 @@ use Rattle.geoarrow_layout.proofs.Terms.{sym, ◌∙◌, subst, SeparatedFault, 
 use Rattle.geoarrow_layout.proofs.Structs.{all_inferred, read_inferred, other_inferred, not_inferred}
 use Rattle.geoarrow_layout.proofs.read.named_dimension_of.Goals as goal
 
-pub returns-in-Ok : goal.returns-in-Ok
-returns-in-Ok c =
-    let s = c.in-Struct-default-default-true in
-    all_inferred _ _ (sym s.ensures.2 ∙ s.all_float64-test) (λ d. read_inferred _ c.in-Ok.dimension d (c.in-Ok.ensures _ s.ensures.0 s.ensures.1))
-
 pub returns-in-BadFieldNames : goal.returns-in-BadFieldNames
 returns-in-BadFieldNames c =
     let s = c.in-Struct-default-default-true in

@@ -1,4 +1,4 @@
-use Rattle.geoarrow_layout.proofs.Terms.{sym, ◌∙◌, ap, ◌&&◌, take_all, arith, w16, place_in, known_names, is_float64}
+use Rattle.geoarrow_layout.proofs.Terms.{◌≡◌, sym, ◌∙◌, ap, ◌&&◌, take_all, arith, w16, place_in, known_names, is_float64}
 use Rattle.geoarrow_layout.proofs.Structs.{length_names, adds_bit, fields_seen_none, fields_seen_more}
 use Rattle.geoarrow_layout.proofs.summary.struct_bottom.Goals as goal
 
@@ -7,9 +7,10 @@ loop-field-init c = fields_seen_none
 
 pub loop-field-preserved : goal.loop-field-preserved
 loop-field-preserved c =
-    fields_seen_more _ _ _ _ _ _ c.loop-field.field-index c.field-item.result c.loop-field-test.true c.field-item.is
-    (c.name_place.ensures.place ∙ ap (λ n. place_in n known_names) c.name.ensures)
-    (adds_bit w16 _ _ (omega arith))
+    let x = c.field-item.result in
+    let place = c.name_place.ensures.place ∙ ap (λ n. place_in n known_names) c.name.ensures in
+    fields_seen_more _ _ _ _ _ c.loop-field.field-index x c.loop-field-test.true c.field-item.is
+    (adds_bit w16 _ _ (λ i. place_in x.name known_names ≡ i) (omega arith) (sym place) (λ i e. sym e ∙ sym place))
     (ap (λ b. c.loop-field.all_float64 && b) (c.is_float64-all_float64.ensures.value ∙ ap is_float64 c.data_type.ensures))
     c.loop-field.invariant
 
