@@ -43,12 +43,6 @@ at_bottom U Q w n b entered sizes structs unions _ h = absurd (elim h [ inl e �
 abbrev pub RefusesLists : Faults → Type 0
 RefusesLists F = (x : Text) (t : Tree) (b : Bool) (m : Metadata) → F (list x t b m) [] UnexpectedType × F (large_list x t b m) [] UnexpectedType
 
-lists_refused : (F : Faults) → RefusesLists F → (w : ListWidth) (n : ℕ) (t u : Tree) → 0 < n → ListsOver w n t u → F t [] UnexpectedType
-lists_refused F lacks w zero t u some h = absurd (omega arith)
-lists_refused F lacks Lists (suc n) (list x t b m) u some h = (lacks x t b m).0
-lists_refused F lacks LargeLists (suc n) (large_list x t b m) u some h = (lacks x t b m).1
-lists_refused F lacks _ (suc n) _ u some h = absurd h
-
 -- below k lists of one width, the fault of what is there, with k levels less
 level_walk : (F : Faults) (w : ListWidth) (k m : ℕ) (t u : Tree) (f : LayoutFault) → ListsOver w k t u → HasFault (LevelsFault F (Some w) m u) f → HasFault (LevelsFault F (Some w) (k + m) t) f
 level_walk F w zero m t u f h r = rw zero-add (subst (λ x. HasFault (LevelsFault F (Some w) m x) f) (sym h) r)
@@ -59,10 +53,11 @@ level_walk F _ (suc k) m _ u f h r = absurd h
 -- there are more
 level_above : (F : Faults) → RefusesLists F → (w : ListWidth) (k n : ℕ) (t u : Tree) → ListsOver w k t u → n < k → HasFault (LevelsFault F (Some w) n t) UnexpectedType
 level_above F lacks w zero n t u h lt = absurd (omega arith)
-level_above F lacks w (suc k) zero t u h lt = ([], lists_refused F lacks w (suc k) t u (omega arith) h)
+level_above F lacks Lists (suc k) zero (list x t b m) u h lt = ([], (lacks x t b m).0)
+level_above F lacks LargeLists (suc k) zero (large_list x t b m) u h lt = ([], (lacks x t b m).1)
 level_above F lacks Lists (suc k) (suc n) (list x t b m) u h lt = let s = level_above F lacks Lists k n t u h (omega arith) in (zero ∷ s.0, s.1)
 level_above F lacks LargeLists (suc k) (suc n) (large_list x t b m) u h lt = let s = level_above F lacks LargeLists k n t u h (omega arith) in (zero ∷ s.0, s.1)
-level_above F lacks _ (suc k) (suc n) _ u h lt = absurd h
+level_above F lacks _ (suc k) _ _ u h lt = absurd h
 
 -- the outermost list gives the width
 outermost : (F : Faults) (w : ListWidth) (k n : ℕ) (t u : Tree) (f : LayoutFault) → 0 < k → ListsOver w k t u → HasFault (LevelsFault F (Some w) n t) f → HasFault (LevelsFault F None n t) f

@@ -1,5 +1,5 @@
 -- The path to a fault, step by step.
-use Rattle.geoarrow_layout.proofs.Terms.{◌≡◌, ◌<◌, ◌≤◌, ◌+◌, inl, inr, Option, None, Some, MatchOption, MatchResult, ℕ, zero, suc, ℤ, pos, List, [], ◌∷◌, ◌++◌, length, take, Result, OnOk, get_or, refl, sym, ap, subst, ◌∙◌, arith, append-nil, append_assoc, Ok, Err, Tree, list, large_list, union, FieldTree, MemberTrees, no_members, member, field_trees, member_trees, UnionMode, CoordType, Dimension, NativeKind, GeometryCollection, LayoutFault, ListWidth, Lists, LargeLists, type_id_of, levels_of, ListsOver, AllMembers, Member, GeometryMember, Path, Located, Faults, HasFault, InItem, CoordinateFault, OverLeafFault, NativeFault, PartFault, FirstFault, UnionFault, MemberFault, MixedFault, GeometryMemberFault, GeometryFault, LeadsTo, FirstOrNone, TellsBoth, field_at, member_at, Ended, IsWidth, LevelsFault, StaysHere}
+use Rattle.geoarrow_layout.proofs.Terms.{Bool, true, false, MemberIn, MemberFaultIn, NativeFaultIn, UnionFaultIn, ◌≡◌, ◌<◌, ◌≤◌, ◌+◌, inl, inr, Option, None, Some, MatchOption, MatchResult, ℕ, zero, suc, ℤ, pos, List, [], ◌∷◌, ◌++◌, length, take, Result, OnOk, get_or, refl, sym, ap, subst, ◌∙◌, arith, append-nil, append_assoc, Ok, Err, Tree, list, large_list, union, FieldTree, MemberTrees, no_members, member, field_trees, member_trees, UnionMode, CoordType, Dimension, NativeKind, GeometryCollection, LayoutFault, ListWidth, Lists, LargeLists, type_id_of, levels_of, ListsOver, AllMembers, Member, GeometryMember, Path, Located, Faults, HasFault, InItem, CoordinateFault, OverLeafFault, NativeFault, PartFault, FirstFault, UnionFault, MemberFault, MixedFault, GeometryMemberFault, GeometryFault, LeadsTo, FirstOrNone, TellsBoth, field_at, member_at, Ended, IsWidth, LevelsFault, StaysHere}
 use Rattle.geoarrow_layout.proofs.Readings.{Answer, IsPartsOf, some_parts, Items, all_map, all_both, one_more}
 use Rattle.geoarrow_layout.proofs.FaultLaws.{kind_only, ApartMember, MemberReads, Read, KindReads, ApartNative, first_apart, behind}
 
@@ -61,25 +61,19 @@ union_first R F no_members p f h = inr (tt, h.0)
 union_first R F (member i n t b m ms) p f (inl h) = inl h
 union_first R F (member i n t b m ms) p f (inr h) = inr (h.0, h.2.0)
 
-pub mixed_leads : (t : Tree) (ms ns : Items) (mode : UnionMode) (before after : Path) → t ≡ union (member_trees ms) mode → ns ≡ ms → LeadsTo (FirstOrNone Member MemberFault (member_trees ns)) before after → LeadsTo (MixedFault t) before after
-mixed_leads t ms ns mode before after is same h = subst (λ u. LeadsTo (MixedFault u) before after) (sym is) (λ p f e. subst (λ xs. LeadsTo (FirstOrNone Member MemberFault (member_trees xs)) before after) same h p f (elim e [
-  | inl u ↦ union_first Member MemberFault (member_trees ms) p f u
-  | inr d ↦ inr (all_map (λ i t. (x : Dimension) × Member i t d.0.0 x) (Read Member) (λ i t y. (d.0.0, y.0, y.1)) (member_trees ms) d.0.1, d.2.0)
-]))
+pub union_leads : (b : Bool) (t : Tree) (ms ns : Items) (mode : UnionMode) (before after : Path) → t ≡ union (member_trees ms) mode → ns ≡ ms → LeadsTo (FirstOrNone (MemberIn b) (MemberFaultIn b) (member_trees ns)) before after → LeadsTo (UnionFaultIn b t) before after
+union_leads b t ms ns mode before after is same h = subst (λ u. LeadsTo (UnionFaultIn b u) before after) (sym is)
+    (λ p f e. subst (λ xs. LeadsTo (FirstOrNone (MemberIn b) (MemberFaultIn b) (member_trees xs)) before after) same h p f (first b p f e))
+  where
+    first : (b : Bool) (p : Path) (f : LayoutFault) → UnionFaultIn b (union (member_trees ms) mode) p f → FirstOrNone (MemberIn b) (MemberFaultIn b) (member_trees ms) p f
+    first true p f u = union_first GeometryMember GeometryMemberFault (member_trees ms) p f u
+    first false p f (inl u) = union_first Member MemberFault (member_trees ms) p f u
+    first false p f (inr d) = inr (all_map (λ i t. (x : Dimension) × Member i t d.0.0 x) (Read Member) (λ i t y. (d.0.0, y.0, y.1)) (member_trees ms) d.0.1, d.2.0)
 
-pub geometry_leads : (t : Tree) (ms ns : Items) (mode : UnionMode) (before after : Path) → t ≡ union (member_trees ms) mode → ns ≡ ms → LeadsTo (FirstOrNone GeometryMember GeometryMemberFault (member_trees ns)) before after → LeadsTo (GeometryFault t) before after
-geometry_leads t ms ns mode before after is same h = subst (λ u. LeadsTo (GeometryFault u) before after) (sym is)
-    (λ p f e. subst (λ xs. LeadsTo (FirstOrNone GeometryMember GeometryMemberFault (member_trees xs)) before after) same h p f (union_first GeometryMember GeometryMemberFault (member_trees ms) p f e))
-
--- ---- native kinds
-
-pub over_leaf_leads : {X E : Type 0} (r : Result X E) (k : NativeKind) (n : ℕ) (t : Tree) (before after : Path) → (k ≡ GeometryCollection → ⊥) → n ≡ levels_of k → OnOk r (LeadsTo (LevelsFault CoordinateFault None n t) before after) → OnOk r (LeadsTo (OverLeafFault k t) before after)
-over_leaf_leads r GeometryCollection n t before after other same h = absurd (other refl)
-over_leaf_leads r k n t before after other same h = subst (λ m. OnOk r (LeadsTo (LevelsFault CoordinateFault None m t) before after)) same h
-
-pub native_leads : {X E : Type 0} (r : Result X E) (k : NativeKind) (t : Tree) (before after : Path) → (k ≡ GeometryCollection → ⊥) → OnOk r (LeadsTo (OverLeafFault k t) before after) → OnOk r (LeadsTo (NativeFault k t) before after)
-native_leads r GeometryCollection t before after other h = absurd (other refl)
-native_leads r k t before after other h = h
+pub native_leads : {X E : Type 0} (b : Bool) (r : Result X E) (k : NativeKind) (n : ℕ) (t : Tree) (before after : Path) → (k ≡ GeometryCollection → ⊥) → n ≡ levels_of k → OnOk r (LeadsTo (LevelsFault CoordinateFault None n t) before after) → OnOk r (LeadsTo (NativeFaultIn b k t) before after)
+native_leads b r GeometryCollection n t before after other same h = absurd (other refl)
+native_leads true r k n t before after other same h = subst (λ m. OnOk r (LeadsTo (LevelsFault CoordinateFault None m t) before after)) same h
+native_leads false r k n t before after other same h = subst (λ m. OnOk r (LeadsTo (LevelsFault CoordinateFault None m t) before after)) same h
 
 -- ---- one member
 

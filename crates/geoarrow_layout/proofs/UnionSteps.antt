@@ -1,5 +1,5 @@
 -- What was seen of members says what the union is; ids and members are each read in one way.
-use Rattle.geoarrow_layout.proofs.Terms.{ShowsIn, ◌≡◌, ◌≢◌, ◌↔◌, ◌<◌, ◌+◌, ◌^◌, ◌⊎◌, inl, inr, ℕ, zero, suc, ℤ, pos, Result, Ok, Err, Option, Some, None, MatchOption, MatchResult, Bool, true, false, [], ◌∷◌, ◌++◌, take, length, get_or, refl, sym, ap, subst, ◌∙◌, arith, nat_eq, bit_at, eqb-suc-zero, cases_eq, same_from_bits, bit_at-pow_same, bit_at-pow_other, bit_at-lt, Tree, union, FieldTree, MemberTrees, no_members, member, member_trees, CoordType, Interleaved, Dimension, LayoutFault, ListWidth, Bottom, Union, Summary, order_of, Mixed, Geometry, Member, GeometryMember, OverLeaf, Native, NativeKind, GeometryCollection, AllMembers, SomeMember, HasMembers, Yields, Path, Faults, HasFault, FirstFault, UnionFault, MemberFault, MixedFault, GeometryMemberFault, GeometryFault, IsFaultOf, Seen, place_of, AreLevels, IsBottom, IsUnion, SummarizesBy, Summarizes, ReadAt, Tells, TellsBoth, IsNested, IsNoLeaf, ReadsFirst, coords_in, member_first, geometry_member_first, DimensionsFault, IsBits, AddsBits, first_fault, AreOf, IsCoordFault, MixedSays, IsRootUnion, IsInnerUnion, IsLevelFault, some_pair_parts, BadTypeId, type_id_of, levels_of, Leaf, Under, CoordinateFault, LevelsFault, PartFault, OverLeafFault, NativeFault, IsOtherFault, NativeIn, NativeFaultIn}
+use Rattle.geoarrow_layout.proofs.Terms.{ShowsIn, ◌≡◌, ◌≢◌, ◌↔◌, ◌<◌, ◌+◌, ◌^◌, ◌⊎◌, inl, inr, ℕ, zero, suc, ℤ, pos, Result, Ok, Err, Option, Some, None, MatchOption, MatchResult, Bool, true, false, [], ◌∷◌, ◌++◌, take, length, get_or, refl, sym, ap, subst, ◌∙◌, arith, nat_eq, bit_at, eqb-suc-zero, cases_eq, same_from_bits, bit_at-pow_same, bit_at-pow_other, bit_at-lt, Tree, union, FieldTree, MemberTrees, no_members, member, member_trees, CoordType, Interleaved, Dimension, LayoutFault, ListWidth, Bottom, Union, Summary, order_of, Mixed, Geometry, Member, GeometryMember, OverLeaf, Native, NativeKind, GeometryCollection, AllMembers, SomeMember, HasMembers, Yields, Path, Faults, HasFault, FirstFault, UnionFault, MemberFault, MixedFault, GeometryMemberFault, GeometryFault, IsFaultOf, Seen, place_of, AreLevels, IsBottom, IsUnion, SummarizesBy, Summarizes, ReadAt, Tells, TellsBoth, IsNested, IsNoLeaf, ReadsFirst, coords_in, member_first, geometry_member_first, DimensionsFault, IsBits, AddsBits, first_fault, AreOf, IsCoordFault, MixedSays, IsRootUnion, IsInnerUnion, IsLevelFault, some_pair_parts, BadTypeId, MemberDimension, type_id_of, levels_of, Leaf, Under, CoordinateFault, LevelsFault, PartFault, OverLeafFault, NativeFault, NativeIn, NativeFaultIn}
 use Rattle.geoarrow_layout.proofs.Readings.{Answer, exactly, Items, all_map, all_inside, all_some, first_some, all_both, some_more, one_more, IsPartsOf, some_parts, refused}
 use Rattle.geoarrow_layout.proofs.FaultLaws.{Read, ApartMember, MemberReads, order_same, KindReads, KindFault}
 use Rattle.geoarrow_layout.proofs.Bottoms.{RefusesLists, at_bottom, no_union, level_fault}
@@ -244,7 +244,7 @@ abbrev Part : KindReads → ℤ → Tree → CoordType → Dimension → Type 0
 Part N i t c d = (k : NativeKind) × (i ≡ pos (type_id_of k d)) × N t k c d
 
 -- the answer of a kind, if the dimension is that of the type id
-pub part_answer : (N : KindReads) (F : NativeKind → Faults) (i z : ℤ) (t : Tree) (k : NativeKind) (d : Dimension) (read r : Answer) → z ≡ i → IsPartsOf z (some_parts k d) → MatchResult r (λ x. (read ≡ Ok x) × (x.1 ≡ d)) (IsOtherFault read d)
+pub part_answer : (N : KindReads) (F : NativeKind → Faults) (i z : ℤ) (t : Tree) (k : NativeKind) (d : Dimension) (read r : Answer) → z ≡ i → IsPartsOf z (some_parts k d) → MatchResult r (λ x. (read ≡ Ok x) × (x.1 ≡ d)) (λ f. (read ≡ Err f) ⊎ ((f ≡ MemberDimension) × (c : CoordType) × (e : Dimension) × (read ≡ Ok (c, e)) × (e ≢ d)))
     → TellsBoth read (N t k) (F k t) → TellsBoth r (Part N i t) (PartFault N F i t)
 part_answer N F i z t k d read (Ok x) is parts h a = let read_is : N t k x.0 x.1 = subst (λ y. TellsBoth y (N t k) (F k t)) h.0 a in (k, sym is ∙ (parts k d).0 refl ∙ ap (λ e. pos (type_id_of k e)) (sym h.1), read_is)
 part_answer N F i z t k d read (Err f) is parts (inl e) a = let fault : HasFault (F k t) f = subst (λ y. TellsBoth y (N t k) (F k t)) e a in (fault.0, inr (k, d, sym is ∙ (parts k d).0 refl, inl fault.1))

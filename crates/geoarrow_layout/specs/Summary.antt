@@ -1,10 +1,10 @@
 -- What a summary says of its data type, and what the steps of the walk and of the readers do.
 use Rattle.std.specs.Prelude.{◌≤◌, ◌≡◌, ◌↔◌, ◌<◌, ◌⊎◌, ◌∷◌, ◌≢◌, ◌^◌, ◌++◌}
-use Rattle.geoarrow_layout.specs.Words.{Text, Tree, plain, list, large_list, fixed_size_list, struct, union, FieldTrees, MemberTrees, ℕ, zero, suc, ℤ, pos, false, cond, Option, Some, None, MatchOption, List, [], length, codes, bit_at, bytes_eq, CoordType, Interleaved, Separated, Dimension, LayoutFault, UnexpectedType, ListWidth, Lists, LargeLists, Bottom, FixedSizeList, Struct, Union, OtherWidth, Deep, Other, Summary, nat_eq, Bool, true, Result, Ok, Err, MatchResult, MixedWidths, MemberDimension, EmptyUnion, SeveralCoordTypes, SeveralDimensions, NativeKind}
+use Rattle.geoarrow_layout.specs.Words.{Text, Tree, plain, list, large_list, fixed_size_list, struct, union, FieldTrees, MemberTrees, ℕ, zero, suc, ℤ, pos, false, cond, Option, Some, None, MatchOption, List, [], length, codes, bit_at, bytes_eq, CoordType, Interleaved, Separated, Dimension, LayoutFault, UnexpectedType, ListWidth, Lists, LargeLists, Bottom, FixedSizeList, Struct, Union, OtherWidth, Deep, Other, Summary, nat_eq, Bool, true, Result, Ok, Err, MatchResult, MixedWidths, EmptyUnion, SeveralCoordTypes, SeveralDimensions, NativeKind}
 use Rattle.geoarrow_layout.specs.Kinds.{interleaved_name, order_of, type_id_of}
 use Rattle.geoarrow_layout.specs.Shapes.{names_of, ListsOver, Member, GeometryMember, HasMembers, AllMembers, SomeMember, OverLeaf, Native}
 use Rattle.geoarrow_layout.specs.Inferred.{is_float64, are_float64}
-use Rattle.geoarrow_layout.specs.FaultAt.{Faults, HasFault, FirstFault, MemberFault, GeometryMemberFault, Path, Located, OverLeafFault, PartFault, NativeFault}
+use Rattle.geoarrow_layout.specs.FaultAt.{Faults, HasFault, FirstFault, MemberFault, GeometryMemberFault, Path, Located, OverLeafFault, PartFault, NativeFault, MixedFault, GeometryFault}
 
 -- bit i of the number, counted from the lowest, is set exactly if P holds for i
 unfoldable pub IsBits : ℕ → (ℕ → Type 0) → Type 0
@@ -142,6 +142,11 @@ abbrev pub NativeFaultIn : Bool → NativeKind → Faults
 NativeFaultIn true = NativeFault
 NativeFaultIn false = OverLeafFault
 
+-- the faults of the union in a collection, which holds no collections, and of a geometry, which does
+abbrev pub UnionFaultIn : Bool → Faults
+UnionFaultIn true = GeometryFault
+UnionFaultIn false = MixedFault
+
 abbrev pub MemberIn : Bool → ℤ → Tree → CoordType → Dimension → Type 0
 MemberIn b i t c d = (k : NativeKind) × (i ≡ pos (type_id_of k d)) × NativeIn b t k c d
 
@@ -176,10 +181,6 @@ missing_fault _ = UnexpectedType
 -- the fault of a data type whose list levels are not so many
 abbrev pub IsLevelFault : Summary → ℕ → LayoutFault → Type 0
 IsLevelFault s n f = ((s.levels < n) × (f ≡ missing_fault s.bottom)) ⊎ ((n < s.levels) × (f ≡ UnexpectedType))
-
--- the fault of a member whose data type was read as one of its kind, in any dimension
-abbrev pub IsOtherFault : Result (CoordType × Dimension) LayoutFault → Dimension → LayoutFault → Type 0
-IsOtherFault read d f = (read ≡ Err f) ⊎ ((f ≡ MemberDimension) × (c : CoordType) × (e : Dimension) × (read ≡ Ok (c, e)) × (e ≢ d))
 
 -- the first fault, with one member more
 abbrev pub first_fault : Option LayoutFault → Result (CoordType × Dimension) LayoutFault → Option LayoutFault

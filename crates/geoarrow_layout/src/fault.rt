@@ -1,6 +1,6 @@
 //! Why a data type is refused by a reader, and where it is at fault.
 ghost use Rattle.std.specs.Prelude.{◌≡◌, ◌⊎◌};
-ghost use Rattle.geoarrow_layout.specs.Cited.{IfOk, IsMemory, None, Some, OnOk, MatchOption, tree, field_trees, member_trees, name_text, IsAccepted, Path, CoordinateFault, LevelsFault, OverLeafFault, MixedFault, NativeFault, GeometryFault, FaultAt, child_at, field_at, member_at, LeadsTo, FirstOrNone, StaysHere, MemberIn, MemberFaultIn, NativeFaultIn};
+ghost use Rattle.geoarrow_layout.specs.Cited.{IfOk, IsMemory, None, Some, OnOk, MatchOption, tree, field_trees, member_trees, name_text, IsAccepted, Path, CoordinateFault, LevelsFault, FaultAt, child_at, field_at, member_at, LeadsTo, FirstOrNone, StaysHere, MemberIn, MemberFaultIn, NativeFaultIn, UnionFaultIn};
 
 use crate::encodings::{NativeKind, list_names, parts_of_id};
 use crate::names::ExtensionName;
@@ -63,7 +63,6 @@ impl LayoutFault {
         }
     }
 
-    /// The message.
     fn text(self) -> &'static str
         ensures { result.now ≡ fault_text self }
     {
@@ -137,34 +136,30 @@ fn push_path(path: &mut Vec<usize>, name: ExtensionName, data_type: &DataType) -
     ensures { OnOk result (LeadsTo (FaultAt name (tree data_type.now)) path.old.items path.new.items) }
 {
     match name {
-        ExtensionName::Native(kind) => push_native(path, kind, data_type),
-        ExtensionName::Geometry => push_geometry(path, data_type),
+        ExtensionName::Native(kind) => push_native(path, true, kind, data_type),
+        ExtensionName::Geometry => push_union(path, true, data_type),
         _ => Ok(()),
     }
 }
 
-/// Adds the path to the fault as one of a native kind.
-#[tactic(auto, using(crate::proofs::FaultPaths::native_leads))]
-fn push_native(path: &mut Vec<usize>, kind: NativeKind, data_type: &DataType) -> Added
-    ensures { OnOk result (LeadsTo (NativeFault kind (tree data_type.now)) path.old.items path.new.items) }
+/// Adds the path to the fault as one of a native kind; a collection only where collections are allowed.
+#[cycle(paths)]
+fn push_native(
+    path: &mut Vec<usize>,
+    collections: bool,
+    kind: NativeKind,
+    data_type: &DataType,
+) -> Added
+    ensures { OnOk result (LeadsTo (NativeFaultIn collections kind (tree data_type.now)) path.old.items path.new.items) }
 {
     match kind {
-        NativeKind::GeometryCollection => match data_type {
+        NativeKind::GeometryCollection if collections => match data_type {
             DataType::List(item) | DataType::LargeList(item) => {
                 path.push(0)?;
-                push_mixed(path, item.data_type())
+                push_union(path, false, item.data_type())
             }
             _ => Ok(()),
         },
-        _ => push_over_leaf(path, kind, data_type),
-    }
-}
-
-/// Adds the path to the fault as the lists of a kind over a coordinate; a collection is not allowed.
-fn push_over_leaf(path: &mut Vec<usize>, kind: NativeKind, data_type: &DataType) -> Added
-    ensures { OnOk result (LeadsTo (OverLeafFault kind (tree data_type.now)) path.old.items path.new.items) }
-{
-    match kind {
         NativeKind::GeometryCollection => Ok(()),
         _ => push_levels(path, None, list_names(kind).len() as u8, data_type),
     }
@@ -191,28 +186,16 @@ fn push_levels(
     }
 }
 
-/// Adds the path to the fault as the union in a collection.
-fn push_mixed(path: &mut Vec<usize>, data_type: &DataType) -> Added
-    ensures { OnOk result (LeadsTo (MixedFault (tree data_type.now)) path.old.items path.new.items) }
+/// Adds the path to the fault as geometries of any kind, or, where collections are not allowed, as the union in one.
+#[cycle(paths)]
+fn push_union(path: &mut Vec<usize>, collections: bool, data_type: &DataType) -> Added
+    ensures { OnOk result (LeadsTo (UnionFaultIn collections (tree data_type.now)) path.old.items path.new.items) }
 {
     let DataType::Union(members, _) = data_type else {
         return Ok(());
     };
-    match push_place(path, false, members.as_slice())? {
-        Some((kind, inner)) => push_over_leaf(path, kind, inner),
-        None => Ok(()),
-    }
-}
-
-/// Adds the path to the fault as geometries of any kind.
-fn push_geometry(path: &mut Vec<usize>, data_type: &DataType) -> Added
-    ensures { OnOk result (LeadsTo (GeometryFault (tree data_type.now)) path.old.items path.new.items) }
-{
-    let DataType::Union(members, _) = data_type else {
-        return Ok(());
-    };
-    match push_place(path, true, members.as_slice())? {
-        Some((kind, inner)) => push_native(path, kind, inner),
+    match push_place(path, collections, members.as_slice())? {
+        Some((kind, inner)) => push_native(path, collections, kind, inner),
         None => Ok(()),
     }
 }

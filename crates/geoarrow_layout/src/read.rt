@@ -359,7 +359,6 @@ fn separated_dimension(count: usize, names: u16) -> Result<Dimension, LayoutFaul
     }
 }
 
-/// A coordinate.
 #[tactic(auto, using(crate::proofs::Structs::struct_leaf))]
 fn leaf(bottom: &Bottom) -> Answer
     ensures { (w : Option ListWidth) (levels : ℕ) (u : Tree) → IsBottom IsNoLeaf w levels bottom.now u → TellsBoth result (Leaf u) (CoordinateFault u) }
@@ -494,7 +493,6 @@ fn box_dimension(count: usize, names: u16) -> Result<Dimension, LayoutFault>
     }
 }
 
-/// A box.
 #[tactic(auto, using(crate::proofs::Structs::root_box, crate::proofs::UnionSteps::at_root))]
 fn boxed(summary: &Summary) -> Result<Dimension, LayoutFault>
     ensures { (t : Tree) → Summarizes summary.now t → Tells result (BoxShape t) (BoxFault t) }

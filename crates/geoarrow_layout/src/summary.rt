@@ -93,7 +93,6 @@ fn name_place(name: &str) -> u8
     }
 }
 
-/// Whether the data type is `Float64`.
 pub(crate) fn is_float64(data_type: &DataType) -> bool
     ensures value { result ≡ is_float64 (tree data_type.now) }
     ensures same { IsTrue result ↔ (tree data_type.now ≡ plain float64) }
@@ -101,7 +100,6 @@ pub(crate) fn is_float64(data_type: &DataType) -> bool
     matches!(data_type, DataType::Float64)
 }
 
-/// A struct of these fields.
 #[inline(always)]
 pub(crate) fn struct_bottom(fields: &[Field]) -> Bottom
     ensures { IsStruct result (field_trees fields.now) }
@@ -216,7 +214,6 @@ fn with_id(ids: u64, id: i8) -> u64
     ids | 1 << id as u8
 }
 
-/// The first fault.
 fn first_fault(fault: Option<LayoutFault>, part: &Answer) -> Option<LayoutFault>
     ensures { result ≡ first_fault fault part.now }
 {

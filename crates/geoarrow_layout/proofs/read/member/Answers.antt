@@ -4,23 +4,20 @@ use Rattle.geoarrow_layout.proofs.UnionSteps.{part_answer, part_unknown}
 use Rattle.geoarrow_layout.proofs.read.member.Goals as goal
 
 pub returns-in-Ok : goal.returns-in-Ok
-returns-in-Ok c = λ t h.
-    let b = c.args.collections in
+returns-in-Ok c =
     let same : c.in-Ok.pair.1 ≡ c.in-Some.dimension = search rules in
-    part_answer (NativeIn b) (NativeFaultIn b) c.args.id _ t _ _ _ (ok c.in-Ok.pair) (search (rules, to_z-of_z)) c.in-Some.ensures (c.in-Ok.is, same) (c.native.ensures t h)
+    λ t h. part_answer (NativeIn c.args.collections) (NativeFaultIn c.args.collections) c.args.id _ t _ _ _ (ok c.in-Ok.pair) (search (rules, to_z-of_z))
+    c.in-Some.ensures (c.in-Ok.is, same) (c.native.ensures t h)
 
 pub returns-in-Ok-2 : goal.returns-in-Ok-2
-returns-in-Ok-2 c = λ t h.
-    let b = c.args.collections in
+returns-in-Ok-2 c =
     let other : c.in-Ok-2.field-0.1 ≢ c.in-Some.dimension = search rules in
-    part_answer (NativeIn b) (NativeFaultIn b) c.args.id _ t _ _ _ (refused MemberDimension) (search (rules, to_z-of_z)) c.in-Some.ensures (inr (refl, c.in-Ok-2.field-0.0, c.in-Ok-2.field-0.1, c.in-Ok-2.is, other)) (c.native.ensures t h)
+    λ t h. part_answer (NativeIn c.args.collections) (NativeFaultIn c.args.collections) c.args.id _ t _ _ _ (refused MemberDimension) (search (rules, to_z-of_z))
+    c.in-Some.ensures (inr (refl, c.in-Ok-2.field-0.0, c.in-Ok-2.field-0.1, c.in-Ok-2.is, other)) (c.native.ensures t h)
 
 pub returns-in-Err : goal.returns-in-Err
-returns-in-Err c = λ t h.
-    let b = c.args.collections in
-    part_answer (NativeIn b) (NativeFaultIn b) c.args.id _ t _ _ _ (refused c.in-Err.fault) (search (rules, to_z-of_z)) c.in-Some.ensures (inl c.in-Err.is) (c.native.ensures t h)
+returns-in-Err c = λ t h. part_answer (NativeIn c.args.collections) (NativeFaultIn c.args.collections) c.args.id _ t _ _ _ (refused c.in-Err.fault) (search (rules, to_z-of_z))
+    c.in-Some.ensures (inl c.in-Err.is) (c.native.ensures t h)
 
 pub returns-in_default : goal.returns-in_default
-returns-in_default c = λ t h.
-    let b = c.args.collections in
-    part_unknown (NativeIn b) (NativeFaultIn b) c.args.id _ t (search (rules, to_z-of_z)) c.in_default.ensures
+returns-in_default c = λ t h. part_unknown (NativeIn c.args.collections) (NativeFaultIn c.args.collections) c.args.id _ t (search (rules, to_z-of_z)) c.in_default.ensures
