@@ -99,9 +99,6 @@ above_lists : (F : Faults) → RefusesLists F → (w : Option ListWidth) (k n : 
 above_lists F lacks None k n t u h lt = absurd (omega (arith, h.0))
 above_lists F lacks (Some w) k n t u h lt = outermost F w k n t u UnexpectedType h.0 h.2 (level_above F lacks w k n t u h.2 lt)
 
-below_lists : (F : Faults) (w : Option ListWidth) (k : ℕ) (t u : Tree) (f : LayoutFault) → AreLevels w k t u → HasFault (F u) f → HasFault (LevelsFault F None k t) f
-below_lists F w k t u f h r = subst (λ n. HasFault (LevelsFault F None n t) f) (add-zero k) (below_levels F w k 0 t u f h r)
-
 are_levels : (w : Option ListWidth) (n : ℕ) (t u : Tree) → AreLevels w n t u → (v : ListWidth) × ListsOver v n t u
 are_levels None n t u h = (Lists, rw h.0 h.1)
 are_levels (Some w) n t u h = (w, h.2)
@@ -118,7 +115,7 @@ under_same U P F s m b r same is says t h =
   where
     told : (r : Answer) → TellsBoth r (P h.0) (F h.0) → TellsUnder P F m r t
     told (Ok x) a = (h.0, are_levels s.width m t h.0 (subst (λ n. AreLevels s.width n t h.0) same h.1), a)
-    told (Err f) a = below_lists F s.width m t h.0 f (subst (λ n. AreLevels s.width n t h.0) same h.1) a
+    told (Err f) a = subst (λ n. HasFault (LevelsFault F None n t) f) (add-zero m) (below_levels F s.width m 0 t h.0 f (subst (λ n. AreLevels s.width n t h.0) same h.1) a)
 
 -- there are fewer levels or more
 pub level_fault : (F : Faults) → RefusesLists F → (s : Summary) (n : ℕ) (f : LayoutFault) → n ≤ 3 → IsLevelFault s n f → (t : Tree) → ShowsIn false s t → HasFault (LevelsFault F None n t) f

@@ -30,25 +30,21 @@ level_leads w v levels n t u before between after same is one pushed h = rw same
 
 -- the first member at fault is the one at k, if each before it is read
 first_at : (R : MemberReads) (F : ℤ → Faults) → ApartMember R F → (xs : Items) (k : ℕ) (x : ℤ × FieldTree) (g : LayoutFault) → k < length xs → x ≡ get_or xs k x → AllMembers (Read R) (member_trees (take k xs)) → HasFault (F x.0 x.1.tree) g
-    → (p : Path) (f : LayoutFault) → FirstFault R F (member_trees xs) p f → (q : Path) × (p ≡ k ∷ q) × F x.0 x.1.tree q f
+    → (p : Path) (f : LayoutFault) → FirstOrNone R F (member_trees xs) p f → (q : Path) × (p ≡ k ∷ q) × F x.0 x.1.tree q f
 first_at R F apart [] k x g lt at all bad p f h = absurd (omega arith)
-first_at R F apart (y ∷ xs) zero x g lt at all bad (zero ∷ p) f h = (p, refl, subst (λ z. F z.0 z.1.tree p f) (sym at) h)
-first_at R F apart (y ∷ xs) zero x g lt at all bad (suc j ∷ p) f h = absurd (apart y.0 y.1.tree h.0.0 h.0.1 bad.0 g h.0.2 (subst (λ z. F z.0 z.1.tree bad.0 g) at bad.1))
-first_at R F apart (y ∷ xs) (suc k) x g lt at all bad (zero ∷ p) f h = absurd (apart y.0 y.1.tree all.0.0 all.0.1 p f all.0.2 h)
-first_at R F apart (y ∷ xs) (suc k) x g lt at all bad (suc j ∷ p) f h = let r = first_at R F apart xs k x g (omega arith) at all.1 bad (j ∷ p) f h.1 in (r.0, ap behind r.1, r.2)
-first_at R F apart (y ∷ xs) _ x g lt at all bad [] f h = absurd h
-
-all_at : (P : ℤ → Tree → Type 0) (xs : Items) (k : ℕ) (x : ℤ × FieldTree) → k < length xs → x ≡ get_or xs k x → AllMembers P (member_trees xs) → P x.0 x.1.tree
-all_at P [] k x lt at all = absurd (omega arith)
-all_at P (y ∷ xs) zero x lt at all = subst (λ z. P z.0 z.1.tree) (sym at) all.0
-all_at P (y ∷ xs) (suc k) x lt at all = all_at P xs k x (omega arith) at all.1
+first_at R F apart (y ∷ xs) zero x g lt at all bad (zero ∷ p) f (inl h) = (p, refl, subst (λ z. F z.0 z.1.tree p f) (sym at) h)
+first_at R F apart (y ∷ xs) zero x g lt at all bad (suc j ∷ p) f (inl h) = absurd (apart y.0 y.1.tree h.0.0 h.0.1 bad.0 g h.0.2 (subst (λ z. F z.0 z.1.tree bad.0 g) at bad.1))
+first_at R F apart (y ∷ xs) zero x g lt at all bad p f (inr h) = absurd (apart y.0 y.1.tree h.0.0.0 h.0.0.1 bad.0 g h.0.0.2 (subst (λ z. F z.0 z.1.tree bad.0 g) at bad.1))
+first_at R F apart (y ∷ xs) (suc k) x g lt at all bad (zero ∷ p) f (inl h) = absurd (apart y.0 y.1.tree all.0.0 all.0.1 p f all.0.2 h)
+first_at R F apart (y ∷ xs) (suc k) x g lt at all bad (suc j ∷ p) f (inl h) = let r = first_at R F apart xs k x g (omega arith) at all.1 bad (j ∷ p) f (inl h.1) in (r.0, ap behind r.1, r.2)
+first_at R F apart (y ∷ xs) (suc k) x g lt at all bad p f (inr h) = let r = first_at R F apart xs k x g (omega arith) at all.1 bad p f (inr (h.0.1, h.1)) in let none : [] ≡ k ∷ r.0 = sym h.1 ∙ r.1 in absurd cc
+first_at R F apart (y ∷ xs) _ x g lt at all bad [] f (inl h) = absurd h
 
 pub at_member : (R : MemberReads) (F : ℤ → Faults) → ApartMember R F → (xs : Items) (k : ℕ) (x : ℤ × FieldTree) (before between after : Path) → k < length xs → x ≡ get_or xs k x → AllMembers (Read R) (member_trees (take k xs)) → (g : LayoutFault) × HasFault (F x.0 x.1.tree) g
     → between ≡ before ++ (k ∷ []) → LeadsTo (F x.0 x.1.tree) between after → LeadsTo (FirstOrNone R F (member_trees xs)) before after
-at_member R F apart xs k x before between after lt at all bad is h = λ p f e. elim e [
-  | inl first ↦ let r = first_at R F apart xs k x bad.0 lt at all bad.1 p f first in step_down (F x.0 x.1.tree) before after k r.0 f (subst (λ b. LeadsTo (F x.0 x.1.tree) b after) is h) r.2 ∙ ap (λ q. before ++ q) (sym r.1)
-  | inr none ↦ let read = all_at (Read R) xs k x lt at none.0 in absurd (apart x.0 x.1.tree read.0 read.1 bad.1.0 bad.0 read.2 bad.1.1)
-]
+at_member R F apart xs k x before between after lt at all bad is h = λ p f e.
+    let r = first_at R F apart xs k x bad.0 lt at all bad.1 p f e in
+    step_down (F x.0 x.1.tree) before after k r.0 f (subst (λ b. LeadsTo (F x.0 x.1.tree) b after) is h) r.2 ∙ ap (λ q. before ++ q) (sym r.1)
 
 pub read_more : (R : MemberReads) (xs : Items) (k : ℕ) (x : ℤ × FieldTree) → k < length xs → x ≡ get_or xs k x → Read R x.0 x.1.tree → AllMembers (Read R) (member_trees (take k xs)) → AllMembers (Read R) (member_trees (take (k + 1) xs))
 read_more R xs k x lt at read before = subst (λ ys. AllMembers (Read R) (member_trees ys)) (sym (one_more xs k x lt at)) ((all_both (Read R) (take k xs) (x ∷ [])).1 (before, (read, tt)))
@@ -86,12 +82,6 @@ pub kind_inside : (N : KindReads) (F : NativeKind → Faults) → ApartNative N 
     → MatchResult r (λ x. StaysHere (PartFault N F i t)) (λ g. (p : Path) (f : LayoutFault) → PartFault N F i t p f → F k t p f)
 kind_inside N F apart i z t k d (Ok x) same parts h = λ p f e. elim (kind_only N F i t k d p f (sym same ∙ (parts k d).0 refl) e) [ inl y ↦ absurd (apart k t x.0 x.1 p f h y) | inr y ↦ y.4.0 ]
 kind_inside N F apart i z t k d (Err g) same parts h = λ p f e. elim (kind_only N F i t k d p f (sym same ∙ (parts k d).0 refl) e) [ inl x ↦ x | inr x ↦ absurd (apart k t x.0 x.1 h.0 g x.2 h.1) ]
-
--- the path goes on inside of a member, or ends there
-pub goes_on : {X : Type 0} (r : Option X) (K : X → Located) (F G : Located) (before between : Path) → ((end : Path) → LeadsTo F between end → LeadsTo G before end)
-    → MatchOption r (StaysHere F) (λ x. (p : Path) (f : LayoutFault) → F p f → K x p f) → MatchOption r (LeadsTo G before between) (λ x. (end : Path) → LeadsTo (K x) between end → LeadsTo G before end)
-goes_on None K F G before between up here = up between (stays F between here)
-goes_on (Some x) K F G before between up on = λ end h. up end (λ p f e. h p f (on p f e))
 
 -- ---- the field at a place
 

@@ -274,12 +274,9 @@ other_inferred ns p (inr h) XYZ = (λ e. (h.0, λ m. h.1 XYM (h.0, m)), λ k. re
 other_inferred ns p (inr h) XYM = (λ e. cc, λ k. absurd (h.1 XYM k))
 other_inferred ns p (inr h) _ = (λ e. cc, λ k. absurd (omega (arith, h.0)))
 
-inferred_length : (ns : List Text) (d : Dimension) → IsInferredAs d ns → length ns ≡ size_of d
-inferred_length ns XYZ h = h.0
-inferred_length ns d h = separated_length ns d h
-
 pub not_inferred : (ns : List Text) (p : Path) (f : LayoutFault) → (f ≡ BadFieldNames → ⊥) → SeparatedFault ns p f → (d : Dimension) → (None ≡ Some d) ↔ IsInferredAs d ns
-not_inferred ns p f other (inl h) d = (λ e. cc, λ k. absurd (h.0 d (inferred_length ns d k)))
+not_inferred ns p f other (inl h) XYZ = (λ e. cc, λ k. absurd (h.0 XYZ k.0))
+not_inferred ns p f other (inl h) d = (λ e. cc, λ k. absurd (h.0 d (separated_length ns d k)))
 not_inferred ns p f other (inr h) d = absurd (other h.2.1)
 
 size_inferred_as : (d : Dimension) (name : Text) (z : ℤ) → IsInferredSize d name z → z ≡ pos (size_of d)

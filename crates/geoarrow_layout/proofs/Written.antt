@@ -98,24 +98,16 @@ layouts_are_distinct j k same = same_kind (layout k) j k (sym (name_back j) ∙ 
 -- ---- the comparison with the table of written data types
 
 -- a struct of these fields, a union of these members
-abbrev fields_in : Tree → List FieldTree
-fields_in (struct fs) = field_list fs
-fields_in _ = []
-
-abbrev members_of : Tree → Members
-members_of (union ms mode) = member_list ms
-members_of _ = []
-
 pub struct_same : (t : Tree) (xs ys : List FieldTree) (b : Bool) → t ≡ struct (field_trees xs) → IsTrue b ↔ (xs ≡ ys) → IsTrue b ↔ (t ≡ struct (field_trees ys))
 struct_same t xs ys b is says = (
   (λ h. is ∙ ap (λ z. struct (field_trees z)) (says.0 h)),
-  (λ e. says.1 (sym (listed_fields xs) ∙ ap fields_in (sym is ∙ e) ∙ listed_fields ys)),
+  (λ e. let same : field_trees xs ≡ field_trees ys = cc in says.1 (sym (listed_fields xs) ∙ ap field_list same ∙ listed_fields ys)),
 )
 
 pub union_same : (t : Tree) (xs ys : Members) (m n : UnionMode) (b : Bool) → t ≡ union (member_trees xs) m → m ≡ n → IsTrue b ↔ (xs ≡ ys) → IsTrue b ↔ (t ≡ union (member_trees ys) n)
 union_same t xs ys m n b is mode says = (
   (λ h. is ∙ ap (λ z. union (member_trees z) m) (says.0 h) ∙ ap (λ z. union (member_trees ys) z) mode),
-  (λ e. says.1 (sym (listed_members xs) ∙ ap members_of (sym is ∙ e) ∙ listed_members ys)),
+  (λ e. let same : member_trees xs ≡ member_trees ys = cc in says.1 (sym (listed_members xs) ∙ ap member_list same ∙ listed_members ys)),
 )
 
 -- ---- every kind is listed, and once

@@ -1,6 +1,6 @@
 //! Why a data type is refused by a reader, and where it is at fault.
 ghost use Rattle.std.specs.Prelude.{◌≡◌, ◌⊎◌};
-ghost use Rattle.geoarrow_layout.specs.Cited.{IfOk, IsMemory, None, Some, OnOk, MatchOption, tree, field_trees, member_trees, name_text, IsAccepted, Path, CoordinateFault, LevelsFault, FaultAt, child_at, field_at, member_at, LeadsTo, FirstOrNone, StaysHere, MemberIn, MemberFaultIn, NativeFaultIn, UnionFaultIn};
+ghost use Rattle.geoarrow_layout.specs.Cited.{IfOk, IsMemory, None, Some, OnOk, MatchOption, tree, field_trees, member_trees, name_text, IsAccepted, Path, CoordinateFault, LevelsFault, FaultAt, child_at, field_at, member_at, LeadsTo, FirstOrNone, MemberIn, MemberFaultIn, NativeFaultIn, UnionFaultIn};
 
 use crate::encodings::{NativeKind, list_names, parts_of_id};
 use crate::names::ExtensionName;
@@ -195,43 +195,40 @@ fn push_union(path: &mut Vec<usize>, collections: bool, data_type: &DataType) ->
         return Ok(());
     };
     match push_place(path, collections, members.as_slice())? {
-        Some((kind, inner)) => push_native(path, collections, kind, inner),
+        Some(item) => push_member(path, collections, item.0, item.1.data_type()),
         None => Ok(()),
     }
 }
 
-/// Adds the place of the first member with a fault, if there is one. Where the path goes on inside of that member, returns
-/// the kind that its type id says, and its data type.
+/// Adds the path to the fault as a member of that type id.
+#[cycle(paths)]
+fn push_member(path: &mut Vec<usize>, collections: bool, id: i8, data_type: &DataType) -> Added
+    ensures { OnOk result (LeadsTo (MemberFaultIn collections id (tree data_type.now)) path.old.items path.new.items) }
+{
+    let Some((kind, _)) = parts_of_id(id) else {
+        return Ok(());
+    };
+    match native(collections, kind, &member_summary(collections, data_type)) {
+        Ok(_) => Ok(()),
+        Err(_) => push_native(path, collections, kind, data_type),
+    }
+}
+
+/// Adds the place of the first member with a fault, if there is one, and returns that member.
 fn push_place<'a>(
     path: &mut Vec<usize>,
     collections: bool,
     members: &'a [(i8, Field)],
-) -> Result<Option<(NativeKind, &'a DataType)>, AllocError>
-    ensures { IfOk result (λ r. MatchOption r (LeadsTo (FirstOrNone (MemberIn collections) (MemberFaultIn collections) (member_trees members.now)) path.old.items path.new.items) (λ x. (end : Path) → LeadsTo (NativeFaultIn collections x.0 (tree x.1.now)) path.new.items end → LeadsTo (FirstOrNone (MemberIn collections) (MemberFaultIn collections) (member_trees members.now)) path.old.items end)) }
+) -> Result<Option<&'a (i8, Field)>, AllocError>
+    ensures { IfOk result (λ r. MatchOption r (LeadsTo (FirstOrNone (MemberIn collections) (MemberFaultIn collections) (member_trees members.now)) path.old.items path.new.items) (λ m. (end : Path) → LeadsTo (MemberFaultIn collections m.now.0 m.now.1.tree) path.new.items end → LeadsTo (FirstOrNone (MemberIn collections) (MemberFaultIn collections) (member_trees members.now)) path.old.items end)) }
 {
     for place in 0..members.len() {
         let item = &members[place];
         let below = member_summary(collections, item.1.data_type());
         if let Err(_) = member(collections, item.0, &below) {
             path.push(place)?;
-            return Ok(inside(collections, item.0, item.1.data_type()));
+            return Ok(Some(item));
         }
     }
     Ok(None)
-}
-
-/// The kind that a member's type id says, and its data type, where that has a fault as one of the kind; `None` where the
-/// member has no other fault than one of its own.
-fn inside<'a>(
-    collections: bool,
-    id: i8,
-    data_type: &'a DataType,
-) -> Option<(NativeKind, &'a DataType)>
-    ensures { MatchOption result (StaysHere (MemberFaultIn collections id (tree data_type.now))) (λ x. (p : Path) (f : LayoutFault) → MemberFaultIn collections id (tree data_type.now) p f → NativeFaultIn collections x.0 (tree x.1.now) p f) }
-{
-    let (kind, _) = parts_of_id(id)?;
-    match native(collections, kind, &member_summary(collections, data_type)) {
-        Ok(_) => None,
-        Err(_) => Some((kind, data_type)),
-    }
 }

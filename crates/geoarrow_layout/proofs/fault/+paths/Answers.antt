@@ -1,14 +1,31 @@
-use Rattle.geoarrow_layout.proofs.Terms.{on_ok_weaker, ap, arith, tree}
-use Rattle.geoarrow_layout.proofs.FaultPaths.{native_leads, union_leads}
+use Rattle.geoarrow_layout.proofs.Terms.{◌≡◌, on_ok_weaker, ap, arith, rules, w8, to_z, of_z, to_z-of_z, tree, NativeIn, NativeFaultIn, MemberFaultIn}
+use Rattle.geoarrow_layout.proofs.Readings.{ok, refused}
+use Rattle.geoarrow_layout.proofs.FaultLaws.{native_apart_in}
+use Rattle.geoarrow_layout.proofs.FaultPaths.{native_leads, union_leads, stays, unknown_here, kind_inside}
 use Rattle.geoarrow_layout.proofs.fault.+paths.Goals as goal
 
 pub push_native-returns-in_default : goal.push_native-returns-in_default
 push_native-returns-in_default t c = native_leads c.args.collections c.push_levels.result _ _ _ _ _ c.in_default.not-GeometryCollection (omega arith) c.push_levels.ensures
 
+pub push_member-returns-in_default : goal.push_member-returns-in_default
+push_member-returns-in_default t c = stays _ _ (unknown_here (NativeIn c.args.collections) (NativeFaultIn c.args.collections) c.args.id _ (tree c.args.data_type.now) (search (rules, to_z-of_z)) c.in_default.ensures)
+
+pub push_member-returns-in-Ok : goal.push_member-returns-in-Ok
+push_member-returns-in-Ok t c = stays _ _ (kind_inside _ _ (native_apart_in c.args.collections) c.args.id _ (tree c.args.data_type.now) c.in-Some.kind _ (ok c.in-Ok.field-0)
+    (search (rules, to_z-of_z)) c.in-Some.ensures (c.in-Ok.ensures _ c.member_summary.ensures))
+
+pub push_member-returns-in-Err : goal.push_member-returns-in-Err
+push_member-returns-in-Err t c =
+    let inside = kind_inside _ _ (native_apart_in c.args.collections) c.args.id _ (tree c.args.data_type.now) c.in-Some.kind _ (refused c.in-Err.field-0)
+    (search (rules, to_z-of_z)) c.in-Some.ensures (c.in-Err.ensures _ c.member_summary.ensures) in
+    on_ok_weaker c.push_native.result (λ h p f e. h p f (inside p f e)) c.push_native.ensures
+
 pub push_union-returns-in-Some : goal.push_union-returns-in-Some
 push_union-returns-in-Some t c =
-    let goes_on = rw c.in-Some.is at c.in_ok-kind.ensures in
-    on_ok_weaker c.push_native.result (λ h. union_leads _ _ c.in-Union.members _ c.in-Union.field-1 _ _ (ap tree c.in-Union.is) c.as_slice.ensures (goes_on _ h)) c.push_native.ensures
+    let id_is : to_z w8 (of_z w8 c.in-Some.item.now.0) ≡ c.in-Some.item.now.0 = search (rules, to_z-of_z) in
+    let goes_on = rw c.in-Some.is at c.in_ok-item.ensures in
+    on_ok_weaker c.push_member.result (λ h. union_leads _ _ c.in-Union.members _ c.in-Union.field-1 _ _ (ap tree c.in-Union.is) c.as_slice.ensures (goes_on _ h))
+    (rw (id_is, c.data_type.ensures) at c.push_member.ensures)
 
 pub push_union-returns-in-None : goal.push_union-returns-in-None
-push_union-returns-in-None t c = union_leads _ _ c.in-Union.members _ c.in-Union.field-1 _ _ (ap tree c.in-Union.is) c.as_slice.ensures (rw c.in-None.is at c.in_ok-kind.ensures)
+push_union-returns-in-None t c = union_leads _ _ c.in-Union.members _ c.in-Union.field-1 _ _ (ap tree c.in-Union.is) c.as_slice.ensures (rw c.in-None.is at c.in_ok-item.ensures)

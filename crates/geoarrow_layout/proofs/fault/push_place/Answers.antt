@@ -1,6 +1,6 @@
 use Rattle.geoarrow_layout.proofs.Terms.{◌≡◌, ◌∙◌, sym, ap, ◌++◌, ◌∷◌, [], subst, rules, w8, to_z, of_z, to_z-of_z, take_all, member_trees, HasFault, LeadsTo, FirstOrNone, ShowsIn, MemberIn, MemberFaultIn}
 use Rattle.geoarrow_layout.proofs.FaultLaws.{member_apart_in}
-use Rattle.geoarrow_layout.proofs.FaultPaths.{goes_on, at_member, read_more, at_no_member}
+use Rattle.geoarrow_layout.proofs.FaultPaths.{at_member, read_more, at_no_member}
 use Rattle.geoarrow_layout.proofs.fault.push_place.Goals as goal
 
 pub returns-in-Err : goal.returns-in-Err
@@ -10,10 +10,8 @@ returns-in-Err c =
     let id_is : to_z w8 (of_z w8 x.0) ≡ x.0 = search (rules, to_z-of_z) in
     let shown = subst (λ u. ShowsIn b c.member_summary-below.result u) c.data_type.ensures c.member_summary-below.ensures in
     let bad = subst (λ i. HasFault (MemberFaultIn b i x.1.tree) c.in-Err.field-0) id_is (c.in-Err.ensures x.1.tree shown) in
-    goes_on c.inside.result _ (MemberFaultIn b x.0 x.1.tree) _ _ _
-    (λ end leads. at_member (MemberIn b) (MemberFaultIn b) (member_apart_in b) c.args.members.now c.loop-place.place x c.args.path.now.items c.push.new.self.items end c.loop-place-test.true c.index-members-place.is c.loop-place.invariant.read (c.in-Err.field-0, bad)
-    (c.in_ok-push.ensures.items ∙ ap (λ p. p ++ (c.loop-place.place ∷ [])) c.loop-place.invariant.same) leads)
-    (rw (← id_is, ← c.data_type-in-Err.ensures) c.inside.ensures)
+    λ end leads. at_member (MemberIn b) (MemberFaultIn b) (member_apart_in b) c.args.members.now c.loop-place.place x c.args.path.now.items c.push.new.self.items end
+    c.loop-place-test.true c.index-members-place.is c.loop-place.invariant.read (c.in-Err.field-0, bad) (c.in_ok-push.ensures.items ∙ ap (λ p. p ++ (c.loop-place.place ∷ [])) c.loop-place.invariant.same) leads
 
 pub loop-place-preserved : goal.loop-place-preserved
 loop-place-preserved c =
