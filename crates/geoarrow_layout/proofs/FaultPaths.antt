@@ -1,5 +1,5 @@
 -- The path to a fault, step by step.
-use Rattle.geoarrow_layout.proofs.Terms.{Bool, true, false, MemberIn, MemberFaultIn, NativeFaultIn, UnionFaultIn, ◌≡◌, ◌<◌, ◌≤◌, ◌+◌, inl, inr, Option, None, Some, MatchOption, MatchResult, ℕ, zero, suc, ℤ, pos, List, [], ◌∷◌, ◌++◌, length, take, Result, OnOk, get_or, refl, sym, ap, subst, ◌∙◌, arith, append-nil, append_assoc, Ok, Err, Tree, list, large_list, union, FieldTree, MemberTrees, no_members, member, field_trees, member_trees, UnionMode, CoordType, Dimension, NativeKind, GeometryCollection, LayoutFault, ListWidth, Lists, LargeLists, type_id_of, levels_of, ListsOver, AllMembers, Member, GeometryMember, Path, Located, Faults, HasFault, InItem, CoordinateFault, OverLeafFault, NativeFault, PartFault, FirstFault, UnionFault, MemberFault, MixedFault, GeometryMemberFault, GeometryFault, LeadsTo, FirstOrNone, TellsBoth, field_at, member_at, Ended, IsWidth, LevelsFault, StaysHere}
+use Rattle.geoarrow_layout.proofs.Terms.{Bool, true, false, MemberIn, MemberFaultIn, NativeFaultIn, UnionFaultIn, ◌≡◌, ◌<◌, ◌≤◌, ◌+◌, inl, inr, Option, None, Some, MatchResult, ℕ, zero, suc, ℤ, List, [], ◌∷◌, ◌++◌, length, take, Result, OnOk, get_or, refl, sym, ap, subst, ◌∙◌, arith, append-nil, append_assoc, Ok, Err, Tree, list, large_list, union, FieldTree, MemberTrees, no_members, member, field_trees, member_trees, UnionMode, Dimension, NativeKind, GeometryCollection, LayoutFault, ListWidth, Lists, LargeLists, levels_of, ListsOver, AllMembers, Member, GeometryMember, Path, Located, Faults, HasFault, InItem, CoordinateFault, PartFault, UnionFault, MemberFault, GeometryMemberFault, LeadsTo, FirstOrNone, TellsBoth, field_at, member_at, IsWidth, LevelsFault, StaysHere}
 use Rattle.geoarrow_layout.proofs.Readings.{Answer, IsPartsOf, some_parts, Items, all_map, all_both, one_more}
 use Rattle.geoarrow_layout.proofs.FaultLaws.{kind_only, ApartMember, MemberReads, Read, KindReads, ApartNative, first_apart, behind}
 

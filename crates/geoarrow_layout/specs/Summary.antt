@@ -1,6 +1,6 @@
 -- What a summary says of its data type, and what the steps of the walk and of the readers do.
 use Rattle.std.specs.Prelude.{◌≤◌, ◌≡◌, ◌↔◌, ◌<◌, ◌⊎◌, ◌∷◌, ◌≢◌, ◌^◌, ◌++◌}
-use Rattle.geoarrow_layout.specs.Words.{Text, Tree, plain, list, large_list, fixed_size_list, struct, union, FieldTrees, MemberTrees, ℕ, zero, suc, ℤ, pos, false, cond, Option, Some, None, MatchOption, List, [], length, codes, bit_at, bytes_eq, CoordType, Interleaved, Separated, Dimension, LayoutFault, UnexpectedType, ListWidth, Lists, LargeLists, Bottom, FixedSizeList, Struct, Union, OtherWidth, Deep, Other, Summary, nat_eq, Bool, true, Result, Ok, Err, MatchResult, MixedWidths, EmptyUnion, SeveralCoordTypes, SeveralDimensions, NativeKind}
+use Rattle.geoarrow_layout.specs.Words.{Text, Tree, plain, list, large_list, fixed_size_list, struct, union, FieldTrees, MemberTrees, ℕ, zero, suc, ℤ, pos, false, cond, Option, Some, None, MatchOption, List, [], length, codes, bit_at, bytes_eq, CoordType, Interleaved, Separated, Dimension, LayoutFault, UnexpectedType, ListWidth, Lists, LargeLists, Bottom, FixedSizeList, Struct, Union, OtherWidth, Deep, Other, Summary, Bool, true, Result, Ok, Err, MatchResult, MixedWidths, EmptyUnion, SeveralCoordTypes, SeveralDimensions, NativeKind}
 use Rattle.geoarrow_layout.specs.Kinds.{interleaved_name, order_of, type_id_of}
 use Rattle.geoarrow_layout.specs.Shapes.{names_of, ListsOver, Member, GeometryMember, HasMembers, AllMembers, SomeMember, OverLeaf, Native}
 use Rattle.geoarrow_layout.specs.Inferred.{is_float64, are_float64}

@@ -1,6 +1,6 @@
 //! Why a data type is refused by a reader, and where it is at fault.
 ghost use Rattle.std.specs.Prelude.{◌≡◌, ◌⊎◌};
-ghost use Rattle.geoarrow_layout.specs.Cited.{IfOk, IsMemory, None, Some, OnOk, MatchOption, tree, field_trees, member_trees, name_text, IsAccepted, Path, CoordinateFault, LevelsFault, FaultAt, child_at, field_at, member_at, LeadsTo, FirstOrNone, MemberIn, MemberFaultIn, NativeFaultIn, UnionFaultIn};
+ghost use Rattle.geoarrow_layout.specs.Cited.{IfOk, IsMemory, None, Some, OnOk, MatchOption, tree, member_trees, name_text, IsAccepted, Path, CoordinateFault, LevelsFault, FaultAt, child_at, LeadsTo, FirstOrNone, MemberIn, MemberFaultIn, NativeFaultIn, UnionFaultIn};
 
 use crate::encodings::{NativeKind, list_names, parts_of_id};
 use crate::names::ExtensionName;

@@ -1,6 +1,6 @@
 //! What one walk over a data type finds.
-ghost use Rattle.std.specs.Prelude.{◌≡◌, ◌≢◌, ◌<◌, ◌≤◌, ◌↔◌, ◌∷◌};
-ghost use Rattle.geoarrow_layout.specs.Cited.{true, false, [], IsTrue, Some, MatchOption, ⊤, pos, None, tree, field_trees, member_trees, Tree, plain, float64, interleaved_name, order_of, ListsOver, Member, GeometryMember, place_in, known_names, IsStruct, IsBottom, AreLevels, place_of, IsInnerUnion, IsRootUnion, Summarizes, IsNoLeaf, Ended, IsWidth, ShowsIn, AddsBits, ReadAt, first_fault, TellsBoth, IsBits, SomeAt, has_name, get_or, List, Text, is_float64, MemberFault, GeometryMemberFault};
+ghost use Rattle.std.specs.Prelude.{◌≡◌, ◌<◌, ◌≤◌, ◌↔◌};
+ghost use Rattle.geoarrow_layout.specs.Cited.{false, [], IsTrue, MatchOption, pos, tree, field_trees, member_trees, Tree, plain, float64, order_of, ListsOver, Member, GeometryMember, place_in, known_names, IsStruct, IsBottom, AreLevels, place_of, IsInnerUnion, IsRootUnion, Summarizes, IsNoLeaf, Ended, IsWidth, ShowsIn, AddsBits, ReadAt, first_fault, TellsBoth, IsBits, SomeAt, has_name, get_or, List, Text, is_float64, MemberFault, GeometryMemberFault};
 
 use crate::encodings::{NativeKind, parts_of_id};
 use crate::fault::LayoutFault;

@@ -1,6 +1,6 @@
 //! The data types that are written, and the kind that a data type was written for.
 ghost use Rattle.std.specs.Prelude.{◌≡◌, ◌++◌, ◌↔◌};
-ghost use Rattle.geoarrow_layout.specs.Cited.{[], false, pos, map, IfOk, IsOk, OnOk, IsTrue, Some, codes, fixed_text, list, struct, tree, field_trees, size_of, coordinate, coordinate_names, leaf_layout, lists_over, over_leaf_layout, member_layout, members_over, mixed_members, mixed_layout, box_names, layout, geometry_members, IsBare, members_in, native_layout, native_members, IsStructured};
+ghost use Rattle.geoarrow_layout.specs.Cited.{[], false, map, IfOk, IsOk, OnOk, IsTrue, Some, codes, fixed_text, list, struct, tree, field_trees, coordinate, leaf_layout, lists_over, over_leaf_layout, member_layout, members_over, mixed_layout, layout, IsBare, members_in, native_layout, native_members, IsStructured};
 
 use crate::encodings::{KINDS, Kind, NativeKind, Width, list_names, member_name, type_id};
 use crate::kinds::{

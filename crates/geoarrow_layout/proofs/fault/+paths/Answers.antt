@@ -1,4 +1,4 @@
-use Rattle.geoarrow_layout.proofs.Terms.{◌≡◌, on_ok_weaker, ap, arith, rules, w8, to_z, of_z, to_z-of_z, tree, NativeIn, NativeFaultIn, MemberFaultIn}
+use Rattle.geoarrow_layout.proofs.Terms.{◌≡◌, on_ok_weaker, ap, arith, rules, w8, to_z, of_z, to_z-of_z, tree, NativeIn, NativeFaultIn}
 use Rattle.geoarrow_layout.proofs.Readings.{ok, refused}
 use Rattle.geoarrow_layout.proofs.FaultLaws.{native_apart_in}
 use Rattle.geoarrow_layout.proofs.FaultPaths.{native_leads, union_leads, stays, unknown_here, kind_inside}

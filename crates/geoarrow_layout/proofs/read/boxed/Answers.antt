@@ -1,6 +1,5 @@
-use Rattle.geoarrow_layout.proofs.Terms.{refl, sym, ◌∙◌, BoxFault}
-use Rattle.geoarrow_layout.proofs.Structs.{root_box}
-use Rattle.geoarrow_layout.proofs.UnionSteps.{at_root, root_fault}
+use Rattle.geoarrow_layout.proofs.Terms.{refl, BoxFault}
+use Rattle.geoarrow_layout.proofs.UnionSteps.{root_fault}
 use Rattle.geoarrow_layout.proofs.Readings.{refused_as}
 use Rattle.geoarrow_layout.proofs.read.boxed.Goals as goal
 

@@ -1,5 +1,5 @@
-use Rattle.geoarrow_layout.proofs.Terms.{refl, sym, ◌∙◌, GeometryFault}
-use Rattle.geoarrow_layout.proofs.UnionSteps.{at_root, root_geometry, root_fault}
+use Rattle.geoarrow_layout.proofs.Terms.{refl, GeometryFault}
+use Rattle.geoarrow_layout.proofs.UnionSteps.{root_fault}
 use Rattle.geoarrow_layout.proofs.Readings.{refused_as}
 use Rattle.geoarrow_layout.proofs.read.geometry.Goals as goal
 

@@ -1,5 +1,5 @@
 use Rattle.geoarrow_layout.proofs.Terms.{sym, ◌∙◌, subst, SeparatedFault, names_of, field_trees}
-use Rattle.geoarrow_layout.proofs.Structs.{all_inferred, read_inferred, other_inferred, not_inferred}
+use Rattle.geoarrow_layout.proofs.Structs.{all_inferred, other_inferred, not_inferred}
 use Rattle.geoarrow_layout.proofs.read.named_dimension_of.Goals as goal
 
 pub returns-in-BadFieldNames : goal.returns-in-BadFieldNames
