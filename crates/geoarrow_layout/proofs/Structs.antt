@@ -1,9 +1,11 @@
 -- Sets of bits, and what one reading adds to them; the fields of a struct: which names are those of a coordinate or a box, by their bits, and which point is inferred.
 use Rattle.geoarrow_layout.proofs.Terms.{◌≡◌, ◌↔◌, ◌<◌, ◌⊎◌, ◌*◌, ◌%◌, ◌^◌, inl, inr, ℕ, sym, ap, subst, ◌∙◌, ◌≤◌, true, false, ℤ, pos, Ok, Err, refl, arith, bit_at, bit_or, bit_at_set_same, bit_at_set_other, bit_at-zero, cases_eq, ltb-true, ltb-false, bits, ReadAt, w8, w64, CoordType, Dimension, LayoutFault, negsuc, nat_abs, lt_z, suc, Bool, ◌||◌, true≢false, Decides, IsTrue, list_all, and_parts, and_from, List, [], ◌∷◌, length, zero, ◌+◌, ◌&&◌, cond, ◌++◌, take, get_or, eq-eqb, list_any, bytes_eq, bytes_eq-Decides, Text, FieldTree, field_trees, XYZ, XYM, has_name, IsSeparatedAs, names_of, SomeAt, place_in, known_names, is_float64, are_float64, nat_eq, codes, HaveBoth, HasFault, eqb-true, or_cases, or_left, or_right, same_from_decides, and-true, and_assoc, IsBits, Result, Option, Tree, struct, FieldTrees, Separated, BadFieldNames, ListWidth, Bottom, Struct, Leaf, IsBoxAs, BoxShape, Path, SeparatedFault, CoordinateFault, BoxFault, IsBottom, IsUnion, IsNoLeaf, Tells, TellsBoth, BoxNamesFault, Some, None, same_Some, fixed_size_list, Interleaved, XY, size_of, interleaved_name, Inferred, IsInferredAs, IsInferredSize, among_back, dimension_named}
+use Rattle.std.proofs.Common.{bit_and, ◌/◌}
 use Rattle.std.proofs.Math.ListN.{get_or-map}
 use Rattle.std.proofs.lemmas.List.FromFn.{get_or-range_with_len}
 use Rattle.std.proofs.lemmas.Map.Made.{length-le_from_is_member}
 use Rattle.std.specs.Cmp.{IsEquivalence, decided}
+use Rattle.std.proofs.lemmas.Nat.Bits.{shr_and_one}
 use Rattle.std.specs.Int.{Width}
 use Rattle.std.specs.List.{AllByRecursion, IsDistinct}
 use Rattle.geoarrow_layout.specs.Summary.{IsBits, AddsBits}
@@ -186,11 +188,11 @@ some_named k (n ∷ ns) lt =
     )
 
 -- the bit of a known name says whether the name is there
-pub has_at : (bits k : ℕ) → k < 8 → (ns : List Text) → IsBits bits (λ i. SomeAt i ns) → nat_eq (bit_at bits k) 1 ≡ has_name (get_or known_names k []) ns
+pub has_at : (bits k : ℕ) → k < 8 → (ns : List Text) → IsBits bits (λ i. SomeAt i ns) → nat_eq (bit_and (bits / 2 ^ k) 1) 1 ≡ has_name (get_or known_names k []) ns
 has_at bits k lt ns h =
     let bit = bit_is bits (λ i. SomeAt i ns) k h in
     let named = some_named k ns lt in
-    same_from_decides {P = SomeAt k ns} (nat_eq (bit_at bits k) 1) (has_name (get_or known_names k []) ns) ((λ e. bit.0 (eqb-true (bit_at bits k) 1 e)), (λ s. eq-eqb (bit_at bits k) 1 (bit.1 s))) (named.1, named.0)
+    ap (λ x. nat_eq x 1) (shr_and_one bits k) ∙ same_from_decides {P = SomeAt k ns} (nat_eq (bit_at bits k) 1) (has_name (get_or known_names k []) ns) ((λ e. bit.0 (eqb-true (bit_at bits k) 1 e)), (λ s. eq-eqb (bit_at bits k) 1 (bit.1 s))) (named.1, named.0)
 
 -- ---- what the names of a struct's fields say, by their bits: the dimension of a coordinate, and that of a box
 

@@ -155,7 +155,6 @@ pub fn parse_wkt(data_type: &DataType) -> Result<Width, LayoutFault>
 ///     Err(LayoutFault::UnexpectedType)
 /// );
 /// ```
-#[tactic(auto, using(crate::proofs::KindSteps::kind_exact, crate::proofs::Readings::told_fault))]
 pub fn parse_kind(name: ExtensionName, data_type: &DataType) -> Result<Kind, LayoutFault>
     ensures exact { YieldsOne result (Accepts (name_text name) (tree data_type.now)) }
     ensures fault { IfErr result (HasFault (FaultAt name (tree data_type.now))) }

@@ -341,6 +341,7 @@ pub fn summarize(data_type: &DataType) -> Summary
 }
 
 /// Whether the known name of that place occurs, by the bits of the names that do.
+#[tactic(auto, using(crate::proofs::Structs::has_at))]
 pub(crate) fn has_known(bits: u16, place: u8) -> bool
     requires { place < 8 }
     ensures { (ns : List Text) → IsBits bits (λ i. SomeAt i ns) → result ≡ has_name (get_or known_names place []) ns }
