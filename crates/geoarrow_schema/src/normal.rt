@@ -115,7 +115,7 @@ impl GeoArrowType {
 
     /// The field of this type's data type with the extension keys of its normal form: those of the type itself, since
     /// nothing writes what the normal form drops.
-    #[tactic(auto, using(crate::proofs::Rewriting::normal_written, crate::proofs::Rewriting::reads_where, crate::proofs::Rewriting::normal_value))]
+    #[tactic(auto, using(crate::proofs::Rewriting::normal_written, crate::proofs::Rewriting::reads_where, geoarrow_meta::specs::Laws::normal_value))]
     fn set_normal_extension(&self, alloc: Global, column: Field) -> Result<Field, ArrowError>
         requires layout { column.tree ≡ layout (kind_of self.now) }
         requires column { Accepted (kind_of self.now) column.tree }
