@@ -10,7 +10,7 @@ use Rattle.geoarrow_meta.specs.declared.metadata.Metadata.{Metadata}
 use Rattle.geoarrow_meta.specs.CrsValue.{IsCrsValue}
 use Rattle.geoarrow_meta.specs.Written.{of_parts, meta_value, normal, written, IsReadBack, NestsWithin}
 use Rattle.geoarrow_meta.specs.Read.{empty, present, some_has_float, Denotes, DenotesMetadata}
-use Rattle.geoarrow_meta.specs.Laws.{denotes_one}
+use Rattle.geoarrow_meta.specs.Laws.{denotes_one, normal_value}
 
 -- a value that may stand as a CRS value is found where it stands
 there : (v : Option Data) → IfSome v IsCrsValue → (v ≡ present (Some (unwrap_or v null))) × (some_has_float (present (Some (unwrap_or v null))) ≡ false)
@@ -41,10 +41,6 @@ denotes_normal m h r = text_stands (meta_value m) (normal m) (parts_stand m.crs.
 
 -- ---- two metadata are written alike exactly where their normal forms are equal
 
-meta_value-normal : (v : Option Data) (t : Option CrsType) (e : Option Edges) → meta_value (normal (of_parts v t e)) ≡ meta_value (of_parts v t e)
-meta_value-normal None t None = refl
-meta_value-normal _ t e = refl
-
 denotes_both : (o : Option Data) (m n : Metadata) → StandsAs o m → StandsAs o n → m ≡ n
 denotes_both None m n h k = h ∙ sym k
 denotes_both (Some d) m n h k = denotes_one d m n h k
@@ -52,7 +48,7 @@ denotes_both (Some d) m n h k = denotes_one d m n h k
 pub written_alike : (m n : Metadata) → IfSome m.crs.value IsCrsValue → IfSome n.crs.value IsCrsValue → (meta_value m ≡ meta_value n) ↔ (normal m ≡ normal n)
 written_alike m n h k = (
   λ e. denotes_both _ _ _ (subst (λ o. StandsAs o (normal m)) e (parts_stand m.crs.value m.crs.crs_type m.edges h)) (parts_stand n.crs.value n.crs.crs_type n.edges k),
-  λ e. sym (meta_value-normal m.crs.value m.crs.crs_type m.edges) ∙ ap meta_value e ∙ meta_value-normal n.crs.value n.crs.crs_type n.edges,
+  λ e. sym (normal_value m) ∙ ap meta_value e ∙ normal_value n,
 )
 
 -- ---- the bound on nesting

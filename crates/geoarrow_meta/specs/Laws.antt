@@ -10,6 +10,7 @@ use Rattle.geoarrow_meta.specs.declared.crs.crs_type.CrsType.{CrsType}
 use Rattle.geoarrow_meta.specs.declared.crs.crs_type.CrsType.TheVariants.{Projjson, Wkt2_2019, AuthorityCode, Srid}
 use Rattle.geoarrow_meta.specs.declared.metadata.Metadata.{Metadata}
 use Rattle.geoarrow_meta.specs.Read.{edges_text, crs_type_text, Denotes, DenotesMetadata}
+use Rattle.geoarrow_meta.specs.Written.{of_parts, meta_value, normal}
 
 differ : (s t : Text) → bytes_eq s t ≡ false → s ≡ t → ⊥
 differ s t other e = true≢false (sym ((bytes_eq-Decides s t).1 e) ∙ other)
@@ -52,3 +53,11 @@ text_denotes_one (Some s) m n a b =
     let same : Some a.0 ≡ Some b.0 = sym a.1 ∙ b.1 in
     let f : a.0 ≡ b.0 = cc in
     denotes_one b.0 m n (subst (λ d. Denotes d m) f a.2) b.2
+
+-- the normal form of a metadata is written as the metadata itself
+parts_written : (v : Option Data) (t : Option CrsType) (e : Option Edges) → meta_value (normal (of_parts v t e)) ≡ meta_value (of_parts v t e)
+parts_written None t None = refl
+parts_written _ t e = refl
+
+pub normal_value : (m : Metadata) → meta_value (normal m) ≡ meta_value m
+normal_value m = parts_written m.crs.value m.crs.crs_type m.edges

@@ -4,7 +4,7 @@ ghost use Rattle.geoarrow_layout.specs.declared.encodings.NativeKind.TheVariants
 ghost use Rattle.geoarrow_layout.specs.declared.names.ExtensionName.TheVariants as names;
 ghost use Rattle.geoarrow_layout.specs.Kinds.{name_text};
 
-use crate::shape::{GeometryCollection, MultiLineString, MultiPoint, MultiPolygon};
+use crate::{GeometryCollection, MultiLineString, MultiPoint, MultiPolygon};
 use geoarrow_native::NativeShape;
 
 /// A law: the constants `NAME` of multipoints, multilinestrings, multipolygons and collections are their extension names.

@@ -1,11 +1,32 @@
 //! GeoArrow's native types of many parts: shapes for `NativeType` of `geoarrow_native`.
 #![tactic(auto)]
 
-pub mod laws;
-mod shape;
+ghost use Rattle.std.specs.Prelude.{refl, pos};
+ghost use Rattle.geoarrow_layout.specs.declared.encodings.NativeKind.TheVariants as kinds;
 
-use geoarrow_native::NativeType;
-pub use shape::{GeometryCollection, MultiLineString, MultiPoint, MultiPolygon};
+pub mod laws;
+
+use geoarrow_layout::NativeKind;
+use geoarrow_native::{NativeShape, NativeType};
+
+/// The shape of multipoints.
+pub struct MultiPoint;
+
+impl NativeShape for MultiPoint {
+    const NAME: &'static str = "geoarrow.multipoint";
+
+    const TYPE: &'static str = "MultiPointType";
+
+    const KIND: NativeKind = NativeKind::MultiPoint;
+
+    const OFFSET: i8 = 4;
+
+    ghost KIND = { kinds.MultiPoint };
+
+    ghost OFFSET = { pos 4 };
+
+    ghost offset_is = { refl };
+}
 
 /// Multipoints (GeoArrow, "MultiPoint"): each value is a list of points.
 ///
@@ -17,6 +38,25 @@ pub use shape::{GeometryCollection, MultiLineString, MultiPoint, MultiPolygon};
 /// assert!(rt; points.data_type(alloc)? == DataType::List(Box::new(alloc, items)?));
 /// ```
 pub type MultiPointType = NativeType<MultiPoint>;
+
+/// The shape of multilinestrings.
+pub struct MultiLineString;
+
+impl NativeShape for MultiLineString {
+    const NAME: &'static str = "geoarrow.multilinestring";
+
+    const TYPE: &'static str = "MultiLineStringType";
+
+    const KIND: NativeKind = NativeKind::MultiLineString;
+
+    const OFFSET: i8 = 5;
+
+    ghost KIND = { kinds.MultiLineString };
+
+    ghost OFFSET = { pos 5 };
+
+    ghost offset_is = { refl };
+}
 
 /// Multilinestrings (GeoArrow, "MultiLineString"): each value is a list of line strings.
 ///
@@ -30,6 +70,25 @@ pub type MultiPointType = NativeType<MultiPoint>;
 /// ```
 pub type MultiLineStringType = NativeType<MultiLineString>;
 
+/// The shape of multipolygons.
+pub struct MultiPolygon;
+
+impl NativeShape for MultiPolygon {
+    const NAME: &'static str = "geoarrow.multipolygon";
+
+    const TYPE: &'static str = "MultiPolygonType";
+
+    const KIND: NativeKind = NativeKind::MultiPolygon;
+
+    const OFFSET: i8 = 6;
+
+    ghost KIND = { kinds.MultiPolygon };
+
+    ghost OFFSET = { pos 6 };
+
+    ghost offset_is = { refl };
+}
+
 /// Multipolygons (GeoArrow, "MultiPolygon"): each value is a list of polygons.
 ///
 /// ```rust
@@ -42,6 +101,25 @@ pub type MultiLineStringType = NativeType<MultiLineString>;
 /// assert!(rt; polygons.data_type(alloc)? == DataType::List(Box::new(alloc, items)?));
 /// ```
 pub type MultiPolygonType = NativeType<MultiPolygon>;
+
+/// The shape of collections of geometries.
+pub struct GeometryCollection;
+
+impl NativeShape for GeometryCollection {
+    const NAME: &'static str = "geoarrow.geometrycollection";
+
+    const TYPE: &'static str = "GeometryCollectionType";
+
+    const KIND: NativeKind = NativeKind::GeometryCollection;
+
+    const OFFSET: i8 = 7;
+
+    ghost KIND = { kinds.GeometryCollection };
+
+    ghost OFFSET = { pos 7 };
+
+    ghost offset_is = { refl };
+}
 
 /// Collections (GeoArrow, "GeometryCollection"): each value is a list of geometries of the other kinds, all of one
 /// coordinate type and dimension.

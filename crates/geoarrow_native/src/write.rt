@@ -8,7 +8,6 @@ use arrow_values::{ArrowError, Field};
 use geoarrow_layout::{Kind, kind_data_type, layout_reads_back};
 use geoarrow_meta::Metadata;
 use std::alloc::Global;
-use std::collections::BTreeMap;
 
 /// The field of a column of a kind: that name and nullability, the kind's data type, and as its metadata the extension
 /// name and the metadata's text, if there is one (GeoArrow, "Extension types"). It reads back as the kind and the normal
@@ -29,10 +28,8 @@ pub fn column_field(
         → ReadsAs f kind (normal metadata.now)) }
     ensures refused { IfErr result IsMemory }
 {
-    let data_type = kind_data_type(alloc, kind)?;
-    let name = String::from_str(alloc, name)?;
     let text = metadata.serialize(alloc)?;
     layout_reads_back(kind);
-    let field = Field::from_parts(name, data_type, nullable, BTreeMap::new(alloc));
+    let field = Field::new(alloc, name, kind_data_type(alloc, kind)?, nullable)?;
     Ok(field.with_extension_texts(alloc, kind.name(), text)?)
 }

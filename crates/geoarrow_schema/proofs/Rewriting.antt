@@ -1,25 +1,14 @@
 -- A field in normal form reads as that.
-use Rattle.geoarrow_schema.proofs.Terms.{◌≡◌, Option, None, refl, sym, ap, subst, FieldTree, SetsExtension, name_key, metadata_key, set_extension, Kind, name_of, Accepted}
+use Rattle.geoarrow_schema.proofs.Terms.{◌≡◌, sym, ap, subst, FieldTree, SetsExtension, name_key, metadata_key, set_extension, Kind, name_of, Accepted}
 use Rattle.geoarrow_schema.proofs.Terms.{layout, Metadata, DenotesMetadata, ReadsAs, GeoArrowType, kind_of, meta_of, Reads, ReadsAlone, writes}
-use Rattle.serde_json.specs.Data.{Data}
-use Rattle.geoarrow_meta.specs.declared.crs.crs_type.CrsType.{CrsType}
-use Rattle.geoarrow_meta.specs.declared.edges.Edges.{Edges}
-use Rattle.geoarrow_meta.specs.Written.{meta_value, printed, type_unless, normal}
+use Rattle.geoarrow_meta.specs.Laws.{normal_value}
+use Rattle.geoarrow_meta.specs.Written.{printed, normal}
 use Rattle.geoarrow_schema.specs.Normal.{rewritten, HasKeysOf, ReadsShallow}
-
--- the normal form is written as the metadata itself
-same_value : (v : Option Data) (t : Option CrsType) (e : Option Edges)
-    → meta_value (record { crs = record { value = v; crs_type = type_unless v t e }; edges = e }) ≡ meta_value (record { crs = record { value = v; crs_type = t }; edges = e })
-same_value None t None = refl
-same_value _ t e = refl
-
-pub normal_value : (m : Metadata) → meta_value (normal m) ≡ meta_value m
-normal_value m = same_value m.crs.value m.crs.crs_type m.edges
 
 pub kinds_written : ((j k : Kind) → layout j ≡ layout k → j ≡ k) → (g h : GeoArrowType) → writes g ≡ writes h → kind_of g ≡ kind_of h
 kinds_written distinct g h same = distinct (kind_of g) (kind_of h) (ap (λ w. w.1) same)
 
--- and so is a field
+-- a field with the extension keys of a metadata has those of its normal form, which is written as the metadata itself
 pub normal_written : (f n : FieldTree) (k : Kind) (m : Metadata) → f.tree ≡ layout k → n ≡ record f { metadata = set_extension (name_of k) (printed m) f.metadata } → n ≡ rewritten f k (normal m)
 normal_written f n k m typed is = rw (normal_value m, ← typed) is
 

@@ -71,15 +71,26 @@ impl GeoArrowType {
         ensures none { (result ≡ Ok None) ↔ ¬ HasGeoArrowName field.now }
         ensures refused { IfErr result (IsRefusedBy field.now) }
     {
-        match GeoArrowType::from_extension_field(alloc, field)? {
-            None => Ok(None),
-            Some(found) => {
-                let data_type = found.to_data_type(alloc)?;
-                let bare = field.try_clone_with_data_type(alloc, data_type)?;
-                layout_reads_back(found.kind());
-                Ok(Some(found.set_normal_extension(alloc, bare)?))
-            }
-        }
+        let rewritten = match GeoArrowType::from_extension_field(alloc, field)? {
+            None => return Ok(None),
+            Some(found) => found.rewritten_copy(alloc, field),
+        };
+        Ok(Some(rewritten?))
+    }
+
+    /// The field that `rewrite_field` makes of an equal one.
+    #[inline(always)]
+    fn rewritten_copy(&self, alloc: Global, field: &Field) -> Result<Field, ArrowError>
+        ensures written { IfOk result (λ f. f ≡ rewritten field.now (kind_of self.now) (normal (meta_of self.now))) }
+        ensures keys { IfOk result (HasKeysOf self.now field.now) }
+        ensures reads_back { IfOk result (λ f. ReadsNormally f (kind_of self.now) (meta_of self.now)) }
+        ensures nested { IfOk result (λ f. ReadsShallow f self.now) }
+        ensures refused { IfErr result IsMemory }
+    {
+        let data_type = self.to_data_type(alloc)?;
+        let bare = field.try_clone_with_data_type(alloc, data_type)?;
+        layout_reads_back(self.kind());
+        self.set_normal_extension(alloc, bare)
     }
 
     /// The field with the data type and the two extension keys that `to_field` writes for the normal form of this type; its
@@ -104,7 +115,7 @@ impl GeoArrowType {
 
     /// The field of this type's data type with the extension keys of its normal form: those of the type itself, since
     /// nothing writes what the normal form drops.
-    #[tactic(auto, using(crate::proofs::Rewriting::normal_written, crate::proofs::Rewriting::reads_where, crate::proofs::Rewriting::normal_value))]
+    #[tactic(auto, using(crate::proofs::Rewriting::normal_written, crate::proofs::Rewriting::reads_where, geoarrow_meta::specs::Laws::normal_value))]
     fn set_normal_extension(&self, alloc: Global, column: Field) -> Result<Field, ArrowError>
         requires layout { column.tree ≡ layout (kind_of self.now) }
         requires column { Accepted (kind_of self.now) column.tree }

@@ -12,7 +12,7 @@ ghost use Rattle.json.specs.Run as run;
 ghost use Rattle.geoarrow_meta.specs.PlainTokens.{lexemes_at, tokens_left, Passes, word_token};
 
 /// The text is no object of plain texts and nulls.
-#[derive(Debug, Clone, Copy, PartialEq, Eq)]
+#[derive(Clone, Copy)]
 pub(crate) struct NotPlain;
 
 /// The place behind the brace that opens the object that the text is.
