@@ -1,5 +1,5 @@
 -- The members of an object from tokens: those of a field, of which the last value at each key counts, and those of a type, with one key or two and no others.
-use Rattle.std.proofs.Common.{◌≡◌, ℕ, ◌≤◌, List, length, Bool, true, false, cond, bytes_eq, nat_cmp, Option, Some, None, option_and_then, codes, refl, sym, ap, ◌∙◌, arith, ◌<◌, Less, Greater, not, ◌⊎◌, Result, Ok, Err, IsErrAnd}
+use Rattle.std.proofs.Common.{◌≡◌, ℕ, List, length, Bool, true, false, cond, bytes_eq, nat_cmp, Option, Some, None, option_and_then, codes, refl, sym, ap, ◌∙◌, arith, ◌<◌, Less, Greater, not, ◌⊎◌, Result, Ok, Err, IsErrAnd}
 use Rattle.field_lines.proofs.Terms.{both_ways, not-true, not-false, slice_cmp, nat_list_cmp_total, tied_itself, Token, read_key, Data, object, Members, no_members, member, put, get_member, as_str, as_bool, as_object, Text, Metadata, Tree, FieldTree, under, metadata_of_value, field_from, field_of_value, type_in, type_of_value, are_keys, keyed_at, IsNeither, next_value, next_members, ReadsMembers, next_after, after, ReadsValue, ReadsAfter, no_value, object_too_deep, value-object, member_read, members_over, value_takes, key_refused, after_some, taken, named}
 use Rattle.std.proofs.lemmas.Map.Text.{is_eq-slice_cmp}
 use Rattle.std.proofs.lemmas.Slice.Eq.{bytes_eq-Decides}
@@ -21,7 +21,8 @@ pub member_takes : (depth : ℕ) (ts s r : List Token) (k : Text) (d : Data) →
 member_takes depth ts s r k d key e = let less = value_takes depth s r d e in let first = read_key-shorter ts (Some k) s key in omega arith
 
 -- and so does a value before a key
-pub takes_key : {A : Type 0} {f : Data → A} {a : A} {next : Option Text} (depth : ℕ) (ts s r : List Token) → ReadsValue f depth ts a s → read_key s ≡ Some (next, r) → length r < length ts
+pub takes_key : {A : Type 0} {f : Data → A} {a : A} {next : Option Text} (depth : ℕ) (ts s r : List Token)
+    → ReadsValue f depth ts a s → read_key s ≡ Some (next, r) → length r < length ts
 takes_key {next = next} depth ts s r read key = let less = value_takes depth ts s read.0 read.1 in let first = read_key-shorter s next r key in omega arith
 
 -- what holds where a text is refused holds where a `?` passes that on
@@ -38,10 +39,18 @@ no_member depth found k s refused = ap (option_and_then (λ p. next_members dept
 pub get_member-at : (q k : Text) (d : Data) (ms : Members) → get_member q (member k d ms) ≡ cond (bytes_eq q k) (Some d) (get_member q ms)
 get_member-at q k d ms = let same = is_eq-slice_cmp q k in grind arith
 
+-- a value or the others, and what f says of either
+chosen : {A : Type 0} (f : Data → Option A) (b : Bool) (d : Data) (found : Option Data) {rest : Option A} → rest ≡ option_and_then f found
+    → cond b (f d) rest ≡ option_and_then f (cond b (Some d) found)
+chosen f true d found same = refl
+chosen f false d found same = same
+
 -- the type is what stands at its key
 type_in-get : (ms : Members) → type_in ms ≡ under type_of_value (codes "type") ms
 type_in-get no_members = refl
-type_in-get (member k d ms) = let at = get_member-at (codes "type") k d ms in let rest = type_in-get ms in grind arith
+type_in-get (member k d ms) =
+    chosen type_of_value (bytes_eq (codes "type") k) d (get_member (codes "type") ms) (type_in-get ms)
+    ∙ ap (option_and_then type_of_value) (sym (get_member-at (codes "type") k d ms))
 
 -- what f says of what stands at the key q, after d is put at k
 put_at : {A : Type 0} (f : Option Data → A) (q k : Text) (d : Data) (found : Members) → f (get_member q (put k d found)) ≡ cond (bytes_eq q k) (f (Some d)) (f (get_member q found))
@@ -73,7 +82,8 @@ module _ {depth : ℕ} {all left s r : List Token} {k : Text} {d : Data} {name n
         at_metadata = m ∙ ap (λ o. cond (bytes_eq (codes "metadata") k) (metadata_of_value (Some d)) o) way.at_metadata ∙ sym (put_at metadata_of_value (codes "metadata") k d way.found);
       }
 
-module _ {depth : ℕ} {all left : List Token} {name : Option Text} {nullable : Option Bool} {tree : Option Tree} {metadata : Option Metadata} (way : ArePartsUnderWay depth all left name nullable tree metadata) where
+module _ {depth : ℕ} {all left : List Token} {name : Option Text} {nullable : Option Bool} {tree : Option Tree} {metadata : Option Metadata}
+    (way : ArePartsUnderWay depth all left name nullable tree metadata) where
   pub parts_no_key : read_key left ≡ None → next_members depth no_members all ≡ None
   parts_no_key none = way.decides ∙ member_turn depth way.found left ∙ ap (turn depth way.found) none
 
@@ -130,7 +140,8 @@ skipped depth found k s {u} {r} passed rest =
     (ms.0, taken depth found k s u d.0 d.1 ∙ ms.1, kept depth k (put k d.0 found) ms.0 u r ms.1 (has_new k d.0 found))
 
 -- members that are skipped, of which one cannot be read
-skipped_none : (depth : ℕ) (found : Members) (k : Text) (s : List Token) {u : List Token} → after (next_value depth s) ≡ Some u → ((more : Members) → next_members depth more u ≡ None) → next_after depth found k s ≡ None
+skipped_none : (depth : ℕ) (found : Members) (k : Text) (s : List Token) {u : List Token} → after (next_value depth s) ≡ Some u
+    → ((more : Members) → next_members depth more u ≡ None) → next_after depth found k s ≡ None
 skipped_none depth found k s {u} passed none = let d = after_some (next_value depth s) u passed in taken depth found k s u d.0 d.1 ∙ none (put k d.0 found)
 
 -- ---- one key
@@ -143,7 +154,8 @@ pub record IsOnlyUnderWay (depth : _) (only : Text) (all left : List Token) (ans
 put_only : (k : Text) (d e : Data) → put k d (member k e no_members) ≡ member k d no_members
 put_only k d e = rw (tied_itself nat_list_cmp_total k)
 
-pub only_no_key : {depth : ℕ} {only : Text} {all left : List Token} {answer : Option Tree} → IsOnlyUnderWay depth only all left answer → read_key left ≡ None → next_after depth no_members only all ≡ None
+pub only_no_key : {depth : ℕ} {only : Text} {all left : List Token} {answer : Option Tree} → IsOnlyUnderWay depth only all left answer
+    → read_key left ≡ None → next_after depth no_members only all ≡ None
 only_no_key {depth} {only} {left = left} way none =
     way.decides ∙ member_turn depth (member only way.value no_members) left ∙ ap (turn depth (member only way.value no_members)) none
 
@@ -154,8 +166,8 @@ module _ {depth : ℕ} {only : Text} {all left s : List Token} {answer : Option 
   pub only_no_member : {k : Text} → read_key left ≡ Some (Some k, s) → next_value depth s ≡ None → next_after depth no_members only all ≡ None
   only_no_member {k} e refused = only_came e ∙ no_member depth (member only way.value no_members) k s refused
 
-  pub only_no_members : {k : Text} {u : List Token} → read_key left ≡ Some (Some k, s) → after (next_value depth s) ≡ Some u → ((more : Members) → next_members depth more u ≡ None)
-      → next_after depth no_members only all ≡ None
+  pub only_no_members : {k : Text} {u : List Token} → read_key left ≡ Some (Some k, s) → after (next_value depth s) ≡ Some u
+      → ((more : Members) → next_members depth more u ≡ None) → next_after depth no_members only all ≡ None
   only_no_members {k} e passed none = only_came e ∙ skipped_none depth (member only way.value no_members) k s passed none
 
   pub only_go_on : {k : Text} {r : List Token} {new : Option Tree} {b : Bool} → read_key left ≡ Some (Some k, s) → b ≡ not (bytes_eq k only) → b ≡ false → ReadsValue (keyed_at only) depth s new r

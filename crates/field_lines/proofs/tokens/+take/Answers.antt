@@ -1,5 +1,5 @@
 use Rattle.std.proofs.Common.{rules, arith, ◌≡◌, ◌-◌, [], ◌∷◌, ◌++◌, Some, Err, IsTrue, option_map, option_and_then, subst₂, refl, sym, ap, ap₂, ◌∙◌}
-use Rattle.field_lines.proofs.Terms.{IfOk-weaker, zip, parse_map, string, no_items, item, no_members, is_type_id, texts_of, field_before, field_of_value, type_of_value, fields_of_value, members_of_value, AreMemberParts, pair_read, value-object, members_over, after_some}
+use Rattle.field_lines.proofs.Terms.{IfOk-weaker, taken, struct, zip, parse_map, string, no_items, item, no_members, is_type_id, texts_of, field_before, field_of_value, type_of_value, fields_of_value, members_of_value, AreMemberParts, pair_read, value-object, members_over, after_some}
 use Rattle.std.proofs.lemmas.Int.{to_z-of_z}
 use Rattle.field_lines.proofs.TokenMembers.{text_refused, member_takes, takes_key, part_other, parts_no_key, parts_no_member, only_no_key, only_no_member, only_no_members, two_no_key, parts_go_on, parts_end, no_type, only_go_on, only_spoiled, first_read, second_read, two_spoiled, of_fixed_size_list, of_union, no_type_of}
 use Rattle.field_lines.proofs.TokenItems.{array_read, item_takes, pair_before, item_turn, item_taken, taken_start, taken_go_on, taken_end, taken_spoiled, members_in-pair, zip_push, parts_push}
@@ -24,10 +24,12 @@ take_fixed_size_list-keys-smaller-then-str_eq t c =
     takes_key c.args.depth c.keys.reader c.take_boxed.new.reader c.next_key.new.self c.in_ok-field-in-fixed_size_list.ensures.ok c.in_ok-next-in-fixed_size_list.ensures.value
 
 pub take_fixed_size_list-returns-in_err-next-in-fixed_size_list-clause-text : goal.take_fixed_size_list-returns-in_err-next-in-fixed_size_list-clause-text
-take_fixed_size_list-returns-in_err-next-in-fixed_size_list-clause-text t c _ = two_no_key c.keys.invariant (ap (option_map (λ s. s.now)) c.in-Some.is) c.in_ok-field-in-fixed_size_list.ensures.ok c.in_err-next-in-fixed_size_list.ensures.value
+take_fixed_size_list-returns-in_err-next-in-fixed_size_list-clause-text t c _ =
+    two_no_key c.keys.invariant (ap (option_map (λ s. s.now)) c.in-Some.is) c.in_ok-field-in-fixed_size_list.ensures.ok c.in_err-next-in-fixed_size_list.ensures.value
 
 pub take_fixed_size_list-returns-in_err-next-in-size-clause-text : goal.take_fixed_size_list-returns-in_err-next-in-size-clause-text
-take_fixed_size_list-returns-in_err-next-in-size-clause-text t c _ = two_no_key c.keys.invariant (ap (option_map (λ s. s.now)) c.in-Some.is) c.in_ok-size-in-size.ensures.ok c.in_err-next-in-size.ensures.value
+take_fixed_size_list-returns-in_err-next-in-size-clause-text t c _ =
+    two_no_key c.keys.invariant (ap (option_map (λ s. s.now)) c.in-Some.is) c.in_ok-size-in-size.ensures.ok c.in_err-next-in-size.ensures.value
 
 pub take_union-keys-preserved : goal.take_union-keys-preserved
 take_union-keys-preserved t c =
@@ -47,10 +49,12 @@ take_union-keys-smaller t c =
     takes_key c.args.depth c.keys.reader c.take_members.new.reader c.next_key-in-union.new.self c.in_ok-members-in-union.ensures.ok c.in_ok-next-in-union.ensures.value
 
 pub take_union-returns-in_err-next-in-mode-clause-text : goal.take_union-returns-in_err-next-in-mode-clause-text
-take_union-returns-in_err-next-in-mode-clause-text t c _ = two_no_key c.keys.invariant.0 (ap (option_map (λ s. s.now)) c.in-Some.is) c.in_ok-mode-in-mode.ensures.ok c.in_err-next-in-mode.ensures.value
+take_union-returns-in_err-next-in-mode-clause-text t c _ =
+    two_no_key c.keys.invariant.0 (ap (option_map (λ s. s.now)) c.in-Some.is) c.in_ok-mode-in-mode.ensures.ok c.in_err-next-in-mode.ensures.value
 
 pub take_union-returns-in_err-next-in-union-clause-text : goal.take_union-returns-in_err-next-in-union-clause-text
-take_union-returns-in_err-next-in-union-clause-text t c _ = two_no_key c.keys.invariant.0 (ap (option_map (λ s. s.now)) c.in-Some.is) c.in_ok-members-in-union.ensures.ok c.in_err-next-in-union.ensures.value
+take_union-returns-in_err-next-in-union-clause-text t c _ =
+    two_no_key c.keys.invariant.0 (ap (option_map (λ s. s.now)) c.in-Some.is) c.in_ok-members-in-union.ensures.ok c.in_err-next-in-union.ensures.value
 
 pub take_fields-items-preserved : goal.take_fields-items-preserved
 take_fields-items-preserved t c =
@@ -95,6 +99,27 @@ take_members-returns-in-None-clause-ok t c =
 pub take_keys-returns-in_default-clause-ok : goal.take_keys-returns-in_default-clause-ok
 take_keys-returns-in_default-clause-ok t c = (no_members, members_over c.args.depth no_members c.args.reader.now c.next_key.new.self (grind arith), refl)
 
+pub take_boxed-returns-in_ok-new-in-Some-clause-ok : goal.take_boxed-returns-in_ok-new-in-Some-clause-ok
+take_boxed-returns-in_ok-new-in-Some-clause-ok t c = rw (c.in_ok-new-in-Some.ensures.ok, ← c.in-Some.is) c.in_ok-field.ensures.ok
+
+pub take_boxed-returns-in-None-clause-ok : goal.take_boxed-returns-in-None-clause-ok
+take_boxed-returns-in-None-clause-ok t c = rw c.in-None.is at c.in_ok-field.ensures.ok
+
+pub take_keyed-returns-in-Some-clause-ok : goal.take_keyed-returns-in-Some-clause-ok
+take_keyed-returns-in-Some-clause-ok t c =
+    let read = rw c.in-Some.is at c.in_ok-fields-in-struct.ensures.ok in
+    rw (c.in-struct.is, c.from.ensures) (read.0, read.1, ap (option_map struct) read.2)
+
+pub take_keyed-returns-in-None-clause-ok : goal.take_keyed-returns-in-None-clause-ok
+take_keyed-returns-in-None-clause-ok t c =
+    let read = rw c.in-None.is at c.in_ok-fields-in-struct.ensures.ok in
+    rw c.in-struct.is (read.0, read.1, ap (option_map struct) read.2)
+
+pub take_only-only-init : goal.take_only-only-init
+take_only-only-init t c =
+    let read = c.in_ok-data_type.ensures.ok in
+    record { value = read.0; decides = taken c.args.depth no_members c.args.only.now c.args.reader.now c.take_keyed.new.reader read.0 read.1; answers = read.2 }
+
 pub take_only-only-preserved : goal.take_only-only-preserved
 take_only-only-preserved t c =
     only_go_on c.only.invariant (rw c.in-Some.is at c.in_ok-key.ensures.value) c.differ.ensures c.if-differ.false c.in_ok-data_type-2.ensures.ok
@@ -112,15 +137,18 @@ take_only-returns-in_err-key-clause-text t c _ = only_no_key c.only.invariant c.
 
 pub take_only-returns-in_err-skip_value-clause-text : goal.take_only-returns-in_err-skip_value-clause-text
 take_only-returns-in_err-skip_value-clause-text t c =
-    text_refused c.from_residual-in_err-skip_value.ensures.1 (λ e. only_no_member c.only.invariant (rw c.in-Some.is at c.in_ok-key.ensures.value) (c.in_err-skip_value.ensures.text (ap Err e)))
+    text_refused c.from_residual-in_err-skip_value.ensures.1
+    (λ e. only_no_member c.only.invariant (rw c.in-Some.is at c.in_ok-key.ensures.value) (c.in_err-skip_value.ensures.text (ap Err e)))
 
 pub take_only-returns-in_err-skip_members-clause-text : goal.take_only-returns-in_err-skip_members-clause-text
 take_only-returns-in_err-skip_members-clause-text t c =
-    text_refused c.from_residual-in_err-skip_members.ensures.1 (λ e. only_no_members c.only.invariant (rw c.in-Some.is at c.in_ok-key.ensures.value) c.in_ok-skip_value.ensures.ok (c.in_err-skip_members.ensures.text (ap Err e)))
+    text_refused c.from_residual-in_err-skip_members.ensures.1
+    (λ e. only_no_members c.only.invariant (rw c.in-Some.is at c.in_ok-key.ensures.value) c.in_ok-skip_value.ensures.ok (c.in_err-skip_members.ensures.text (ap Err e)))
 
 pub take_only-returns-in_err-data_type-2-clause-text : goal.take_only-returns-in_err-data_type-2-clause-text
 take_only-returns-in_err-data_type-2-clause-text t c =
-    text_refused c.from_residual-in_err-data_type-2.ensures.1 (λ e. only_no_member c.only.invariant (rw c.in-Some.is at c.in_ok-key.ensures.value) (c.in_err-data_type-2.ensures.text (ap Err e)))
+    text_refused c.from_residual-in_err-data_type-2.ensures.1
+    (λ e. only_no_member c.only.invariant (rw c.in-Some.is at c.in_ok-key.ensures.value) (c.in_err-data_type-2.ensures.text (ap Err e)))
 
 pub take_parts-parts-init : goal.take_parts-parts-init
 take_parts-parts-init t c =
@@ -162,23 +190,28 @@ take_parts-returns-in_err-key-clause-text t c _ = parts_no_key c.parts.invariant
 
 pub take_parts-returns-in_err-name-in-name-clause-text : goal.take_parts-returns-in_err-name-in-name-clause-text
 take_parts-returns-in_err-name-in-name-clause-text t c =
-    text_refused c.from_residual-in_err-name-in-name.ensures.1 (λ e. parts_no_member c.parts.invariant (rw c.in-Some.is at c.in_ok-key.ensures.value) (c.in_err-name-in-name.ensures.text (ap Err e)))
+    text_refused c.from_residual-in_err-name-in-name.ensures.1
+    (λ e. parts_no_member c.parts.invariant (rw c.in-Some.is at c.in_ok-key.ensures.value) (c.in_err-name-in-name.ensures.text (ap Err e)))
 
 pub take_parts-returns-in_err-nullable-in-nullable-clause-text : goal.take_parts-returns-in_err-nullable-in-nullable-clause-text
 take_parts-returns-in_err-nullable-in-nullable-clause-text t c =
-    text_refused c.from_residual-in_err-nullable-in-nullable.ensures.1 (λ e. parts_no_member c.parts.invariant (rw c.in-Some.is at c.in_ok-key.ensures.value) (c.in_err-nullable-in-nullable.ensures.text (ap Err e)))
+    text_refused c.from_residual-in_err-nullable-in-nullable.ensures.1
+    (λ e. parts_no_member c.parts.invariant (rw c.in-Some.is at c.in_ok-key.ensures.value) (c.in_err-nullable-in-nullable.ensures.text (ap Err e)))
 
 pub take_parts-returns-in_err-data_type-in-type-clause-text : goal.take_parts-returns-in_err-data_type-in-type-clause-text
 take_parts-returns-in_err-data_type-in-type-clause-text t c =
-    text_refused c.from_residual-in_err-data_type-in-type.ensures.1 (λ e. parts_no_member c.parts.invariant (rw c.in-Some.is at c.in_ok-key.ensures.value) (c.in_err-data_type-in-type.ensures.text (ap Err e)))
+    text_refused c.from_residual-in_err-data_type-in-type.ensures.1
+    (λ e. parts_no_member c.parts.invariant (rw c.in-Some.is at c.in_ok-key.ensures.value) (c.in_err-data_type-in-type.ensures.text (ap Err e)))
 
 pub take_parts-returns-in_err-metadata-in-metadata-clause-text : goal.take_parts-returns-in_err-metadata-in-metadata-clause-text
 take_parts-returns-in_err-metadata-in-metadata-clause-text t c =
-    text_refused c.from_residual-in_err-metadata-in-metadata.ensures.1 (λ e. parts_no_member c.parts.invariant (rw c.in-Some.is at c.in_ok-key.ensures.value) (c.in_err-metadata-in-metadata.ensures.text (ap Err e)))
+    text_refused c.from_residual-in_err-metadata-in-metadata.ensures.1
+    (λ e. parts_no_member c.parts.invariant (rw c.in-Some.is at c.in_ok-key.ensures.value) (c.in_err-metadata-in-metadata.ensures.text (ap Err e)))
 
 pub take_parts-returns-in_err-skip_value-in_default-key-clause-text : goal.take_parts-returns-in_err-skip_value-in_default-key-clause-text
 take_parts-returns-in_err-skip_value-in_default-key-clause-text t c =
-    text_refused c.from_residual-in_err-skip_value-in_default-key.ensures.1 (λ e. parts_no_member c.parts.invariant (rw c.in-Some.is at c.in_ok-key.ensures.value) (c.in_err-skip_value-in_default-key.ensures.text (ap Err e)))
+    text_refused c.from_residual-in_err-skip_value-in_default-key.ensures.1
+    (λ e. parts_no_member c.parts.invariant (rw c.in-Some.is at c.in_ok-key.ensures.value) (c.in_err-skip_value-in_default-key.ensures.text (ap Err e)))
 
 pub take_parts-returns-clause-ok : goal.take_parts-returns-clause-ok
 take_parts-returns-clause-ok t c = IfOk-weaker c.field_of.result _ _ (λ o is. parts_end c.parts.invariant is (grind arith)) c.field_of.ensures.ok
