@@ -1,5 +1,5 @@
 -- The items of a list from tokens: what is left decides.
-use Rattle.std.proofs.Common.{◌≡◌, ℕ, ◌≤◌, ℤ, List, [], ◌∷◌, ◌++◌, ◌+◌, length, length-append, append_assoc, append-nil, IsTrue, Option, Some, None, option_map, option_and_then, refl, sym, ap, subst, ◌∙◌, arith}
+use Rattle.std.proofs.Common.{◌≡◌, ℕ, ◌<◌, ℤ, List, [], ◌∷◌, ◌++◌, ◌+◌, length, length-append, append_assoc, append-nil, IsTrue, Option, Some, None, option_map, option_and_then, refl, sym, ap, subst, ◌∙◌, arith}
 use Rattle.field_lines.proofs.Terms.{and_from, zip, Token, parse_map, after_end_array, Data, array, Items, no_items, item, FieldTree, MemberTrees, is_type_id, member_before, field_of_value, id_of_value, members_in, AreMemberParts, pair_read, tree_ids, member_trees, next_value, next_items, after, ReadsValue, ReadsItems, item_read, item_refused, items_over, value_takes, after_some}
 use Rattle.std.proofs.lemmas.List.Folds.{list_all-append}
 
@@ -30,16 +30,19 @@ item_taken depth ts {s} {r} read going =
     let value = ap (next_value depth) (sym going.1) ∙ read.1 in
     (read.0, item_read depth ts r read.0 going.0 value, read.2, value)
 
+-- an item takes tokens
+pub item_takes : {A : Type 0} {f : Data → A} {o : A} (depth : ℕ) (ts r : List Token) {s : List Token} → ReadsValue f depth s o r → GoesOn ts s → length r < length ts
+item_takes depth ts r read going = let one = item_taken depth ts read going in value_takes depth ts r one.0 one.3
+
 -- ---- the items so far made these, which stand before what those that are left make
 
 pub record AreItemsTaken {X T : Type 0} (trees : List X → T) (whole : Items → Option T) (depth : _) (all left : List Token) (made : List X) : Type 0 where
   pub some : (xs : List X) (r : List Token) → ReadsItems whole depth left (Some (trees xs)) r → ReadsItems whole depth all (Some (trees (made ++ xs))) r
   pub none : (r : List Token) → ReadsItems whole depth left None r → ReadsItems whole depth all None r
   pub refused : next_items depth left ≡ None → next_items depth all ≡ None
-  pub fewer : length left ≤ length all
 
 pub taken_start : {X T : Type 0} {trees : List X → T} {whole : Items → Option T} {depth : ℕ} {all : List Token} {made : List X} → made ≡ [] → AreItemsTaken trees whole depth all all made
-taken_start is = rw is (record { some = λ xs r e. e; none = λ r e. e; refused = λ e. e; fewer = omega arith })
+taken_start is = rw is (record { some = λ xs r e. e; none = λ r e. e; refused = λ e. e })
 
 module _ {X T : Type 0} {trees : List X → T} {whole : Items → Option T} {depth : ℕ} {all left : List Token} {made : List X} (way : AreItemsTaken trees whole depth all left made) where
   pub taken_end : {r : List Token} → whole no_items ≡ Some (trees []) → after_end_array left ≡ Some r → ReadsItems whole depth all (Some (trees made)) r
@@ -51,14 +54,12 @@ module _ {X T : Type 0} {trees : List X → T} {whole : Items → Option T} {dep
     pub taken_go_on : {s r : List Token} {x : X} {new : List X} → ReadsValue item_of depth s (Some x) r → new ≡ made ++ (x ∷ []) → GoesOn left s → AreItemsTaken trees whole depth all r new
     taken_go_on {s} {r} {x} {new} read is going =
         let one = item_taken depth left read going in
-        let less = value_takes depth left r one.0 one.3 in
         record {
           some = λ xs u rest.
               rw (is, append_assoc made (x ∷ []) xs)
               (way.some (x ∷ xs) u (item one.0 rest.0, one.1 ∙ ap (parse_map (item one.0)) rest.1, rw (law one.0 rest.0, ← one.2, ← rest.2) (ap Some (sym (more x xs)))));
           none = λ u rest. way.none u (item one.0 rest.0, one.1 ∙ ap (parse_map (item one.0)) rest.1, rw (law one.0 rest.0, ← one.2, ← rest.2));
           refused = λ e. way.refused (one.1 ∙ ap (parse_map (item one.0)) e);
-          fewer = omega (arith, way.fewer);
         }
 
     pub taken_spoiled : {s u r : List Token} → ReadsValue item_of depth s None u → after (next_items depth u) ≡ Some r → GoesOn left s → ReadsItems whole depth all None r

@@ -1,9 +1,10 @@
 -- The members of an object from tokens: those of a field, of which the last value at each key counts, and those of a type, with one key or two and no others.
-use Rattle.std.proofs.Common.{◌≡◌, ℕ, ◌≤◌, List, length, Bool, true, false, cond, bytes_eq, nat_cmp, Option, Some, None, option_and_then, codes, refl, sym, ap, ◌∙◌, arith, ◌<◌, Less, Greater, not, ◌⊎◌}
+use Rattle.std.proofs.Common.{◌≡◌, ℕ, List, length, Bool, true, false, cond, bytes_eq, nat_cmp, Option, Some, None, option_and_then, codes, refl, sym, ap, ◌∙◌, arith, ◌<◌, Less, Greater, not, ◌⊎◌, Result, Ok, Err, IsErrAnd}
 use Rattle.field_lines.proofs.Terms.{both_ways, not-true, not-false, slice_cmp, nat_list_cmp_total, tied_itself, Token, read_key, Data, object, Members, no_members, member, put, get_member, as_str, as_bool, as_object, Text, Metadata, Tree, FieldTree, under, metadata_of_value, field_from, field_of_value, type_in, type_of_value, are_keys, keyed_at, IsNeither, next_value, next_members, ReadsMembers, next_after, after, ReadsValue, ReadsAfter, no_value, object_too_deep, value-object, member_read, members_over, value_takes, key_refused, after_some, taken, named}
 use Rattle.std.proofs.lemmas.Map.Text.{is_eq-slice_cmp}
 use Rattle.std.proofs.lemmas.Slice.Eq.{bytes_eq-Decides}
 use Rattle.json.proofs.Grammar.{read_key-shorter}
+use Rattle.value_tokens.specs.declared.refusal.Refusal.{Refusal}
 use Rattle.value_tokens.specs.Presence.{get_member-put_at, Has, kept, has_new, has_taken}
 
 -- what the key that is next leaves
@@ -19,15 +20,37 @@ member_turn depth found ts = grind (arith, key_refused, members_over, named)
 pub member_takes : (depth : ℕ) (ts s r : List Token) (k : Text) (d : Data) → read_key ts ≡ Some (Some k, s) → next_value depth s ≡ Some (d, r) → length r < length ts
 member_takes depth ts s r k d key e = let less = value_takes depth s r d e in let first = read_key-shorter ts (Some k) s key in omega arith
 
+-- and so does a value before a key
+pub takes_key : {A : Type 0} {f : Data → A} {a : A} {next : Option Text} (depth : ℕ) (ts s r : List Token)
+    → ReadsValue f depth ts a s → read_key s ≡ Some (next, r) → length r < length ts
+takes_key {next = next} depth ts s r read key = let less = value_takes depth ts s read.0 read.1 in let first = read_key-shorter s next r key in omega arith
+
+-- what holds where a text is refused holds where a `?` passes that on
+pub text_refused : {T P : Type 0} {r : Result T Refusal} {e : Refusal} → IsErrAnd r (λ y. y ≡ e) → (e ≡ Refusal.Text → P) → r ≡ Err Refusal.Text → P
+text_refused {r = Ok x} is then same = absurd is
+text_refused {r = Err y} is then same = then (cc)
+
+-- members of which the next has no value
+no_member : (depth : ℕ) (found : Members) (k : Text) (s : List Token) → next_value depth s ≡ None → next_after depth found k s ≡ None
+no_member depth found k s refused = ap (option_and_then (λ p. next_members depth (put k p.0 found) p.1)) refused
+
 -- ---- the parts of a field
 
 pub get_member-at : (q k : Text) (d : Data) (ms : Members) → get_member q (member k d ms) ≡ cond (bytes_eq q k) (Some d) (get_member q ms)
 get_member-at q k d ms = let same = is_eq-slice_cmp q k in grind arith
 
+-- a value or the others, and what f says of either
+chosen : {A : Type 0} (f : Data → Option A) (b : Bool) (d : Data) (found : Option Data) {rest : Option A} → rest ≡ option_and_then f found
+    → cond b (f d) rest ≡ option_and_then f (cond b (Some d) found)
+chosen f true d found same = refl
+chosen f false d found same = same
+
 -- the type is what stands at its key
 type_in-get : (ms : Members) → type_in ms ≡ under type_of_value (codes "type") ms
 type_in-get no_members = refl
-type_in-get (member k d ms) = let at = get_member-at (codes "type") k d ms in let rest = type_in-get ms in grind arith
+type_in-get (member k d ms) =
+    chosen type_of_value (bytes_eq (codes "type") k) d (get_member (codes "type") ms) (type_in-get ms)
+    ∙ ap (option_and_then type_of_value) (sym (get_member-at (codes "type") k d ms))
 
 -- what f says of what stands at the key q, after d is put at k
 put_at : {A : Type 0} (f : Option Data → A) (q k : Text) (d : Data) (found : Members) → f (get_member q (put k d found)) ≡ cond (bytes_eq q k) (f (Some d)) (f (get_member q found))
@@ -40,7 +63,6 @@ pub record ArePartsUnderWay (depth : _) (all left : List Token) (name : Option T
   pub at_nullable : nullable ≡ under as_bool (codes "nullable") found
   pub at_type : tree ≡ under type_of_value (codes "type") found
   pub at_metadata : metadata ≡ metadata_of_value (get_member (codes "metadata") found)
-  pub fewer : length left ≤ length all
 
 -- a part after a value at the key k
 abbrev pub Part : {A : Type 0} → Text → Text → Option A → Option A → Option A → Type 0
@@ -58,8 +80,15 @@ module _ {depth : ℕ} {all left s r : List Token} {k : Text} {d : Data} {name n
         at_nullable = b ∙ ap (λ o. cond (bytes_eq (codes "nullable") k) (as_bool d) o) way.at_nullable ∙ sym (put_at (option_and_then as_bool) (codes "nullable") k d way.found);
         at_type = t ∙ ap (λ o. cond (bytes_eq (codes "type") k) (type_of_value d) o) way.at_type ∙ sym (put_at (option_and_then type_of_value) (codes "type") k d way.found);
         at_metadata = m ∙ ap (λ o. cond (bytes_eq (codes "metadata") k) (metadata_of_value (Some d)) o) way.at_metadata ∙ sym (put_at metadata_of_value (codes "metadata") k d way.found);
-        fewer = omega (arith, way.fewer, member_takes depth left s r k d named read);
       }
+
+module _ {depth : ℕ} {all left : List Token} {name : Option Text} {nullable : Option Bool} {tree : Option Tree} {metadata : Option Metadata}
+    (way : ArePartsUnderWay depth all left name nullable tree metadata) where
+  pub parts_no_key : read_key left ≡ None → next_members depth no_members all ≡ None
+  parts_no_key none = way.decides ∙ member_turn depth way.found left ∙ ap (turn depth way.found) none
+
+  pub parts_no_member : {s : List Token} {k : Text} → read_key left ≡ Some (Some k, s) → next_value depth s ≡ None → next_members depth no_members all ≡ None
+  parts_no_member {s} {k} named refused = way.decides ∙ member_turn depth way.found left ∙ ap (turn depth way.found) named ∙ no_member depth way.found k s refused
 
 pub parts_end : {depth : ℕ} {all left r : List Token} {name : Option Text} {nullable : Option Bool} {tree : Option Tree} {metadata : Option Metadata} {o : Option FieldTree}
     → ArePartsUnderWay depth all left name nullable tree metadata → o ≡ field_from name nullable tree metadata → read_key left ≡ Some (None, r)
@@ -110,18 +139,37 @@ skipped depth found k s {u} {r} passed rest =
     let ms = after_some (next_members depth (put k d.0 found) u) r (rest (put k d.0 found)) in
     (ms.0, taken depth found k s u d.0 d.1 ∙ ms.1, kept depth k (put k d.0 found) ms.0 u r ms.1 (has_new k d.0 found))
 
+-- members that are skipped, of which one cannot be read
+skipped_none : (depth : ℕ) (found : Members) (k : Text) (s : List Token) {u : List Token} → after (next_value depth s) ≡ Some u
+    → ((more : Members) → next_members depth more u ≡ None) → next_after depth found k s ≡ None
+skipped_none depth found k s {u} passed none = let d = after_some (next_value depth s) u passed in taken depth found k s u d.0 d.1 ∙ none (put k d.0 found)
+
 -- ---- one key
 
 pub record IsOnlyUnderWay (depth : _) (only : Text) (all left : List Token) (answer : Option Tree) : Type 0 where
   pub value : Data
   pub decides : next_after depth no_members only all ≡ next_members depth (member only value no_members) left
   pub answers : answer ≡ keyed_at only value
-  pub fewer : length left < length all
 
 put_only : (k : Text) (d e : Data) → put k d (member k e no_members) ≡ member k d no_members
 put_only k d e = rw (tied_itself nat_list_cmp_total k)
 
+pub only_no_key : {depth : ℕ} {only : Text} {all left : List Token} {answer : Option Tree} → IsOnlyUnderWay depth only all left answer
+    → read_key left ≡ None → next_after depth no_members only all ≡ None
+only_no_key {depth} {only} {left = left} way none =
+    way.decides ∙ member_turn depth (member only way.value no_members) left ∙ ap (turn depth (member only way.value no_members)) none
+
 module _ {depth : ℕ} {only : Text} {all left s : List Token} {answer : Option Tree} (way : IsOnlyUnderWay depth only all left answer) where
+  only_came : {k : Text} → read_key left ≡ Some (Some k, s) → next_after depth no_members only all ≡ next_after depth (member only way.value no_members) k s
+  only_came {k} e = way.decides ∙ named depth (member only way.value no_members) k left s e
+
+  pub only_no_member : {k : Text} → read_key left ≡ Some (Some k, s) → next_value depth s ≡ None → next_after depth no_members only all ≡ None
+  only_no_member {k} e refused = only_came e ∙ no_member depth (member only way.value no_members) k s refused
+
+  pub only_no_members : {k : Text} {u : List Token} → read_key left ≡ Some (Some k, s) → after (next_value depth s) ≡ Some u
+      → ((more : Members) → next_members depth more u ≡ None) → next_after depth no_members only all ≡ None
+  only_no_members {k} e passed none = only_came e ∙ skipped_none depth (member only way.value no_members) k s passed none
+
   pub only_go_on : {k : Text} {r : List Token} {new : Option Tree} {b : Bool} → read_key left ≡ Some (Some k, s) → b ≡ not (bytes_eq k only) → b ≡ false → ReadsValue (keyed_at only) depth s new r
       → IsOnlyUnderWay depth only all r new
   only_go_on {k} {r} named e same read =
@@ -131,14 +179,13 @@ module _ {depth : ℕ} {only : Text} {all left s : List Token} {answer : Option 
         decides = way.decides ∙ member_read depth (member only way.value no_members) k left s r read.0 named read.1
             ∙ rw (is, put_only only read.0 way.value);
         answers = read.2;
-        fewer = omega (arith, way.fewer, member_takes depth left s r k read.0 named read.1);
       }
 
   pub only_spoiled : {k : Text} {u r : List Token} {b : Bool} → IsNeither (codes "fixed_size_list") (codes "size") only × IsNeither (codes "mode") (codes "union") only → read_key left ≡ Some (Some k, s)
       → b ≡ not (bytes_eq k only) → b ≡ true → after (next_value depth s) ≡ Some u → ((found : Members) → after (next_members depth found u) ≡ Some r) → ReadsAfter denoted depth no_members only all None r
   only_spoiled {k} {r = r} none came e differs passed rest =
       let ms = skipped depth (member only way.value no_members) k s passed rest in
-      let read = way.decides ∙ named depth (member only way.value no_members) k left s came ∙ ms.1 in
+      let read = only_came came ∙ ms.1 in
       let has = has_taken depth only no_members ms.0 all r read in
       let other = λ (is : only ≡ k). both_ways _ (not-true _ (sym e ∙ differs)) ((bytes_eq-Decides k only).1 (sym is)) in
       (ms.0, read, no_type_of ms.0 none.0 none.1 has has ms.2 (λ d is _. absurd (other is)))
@@ -158,7 +205,6 @@ pub record AreTwoUnderWay {A B : Type 0} (f : Data → Option A) (g : Data → O
   pub at_second : Option Data
   pub decides : next_after depth no_members first all ≡ turn depth (two k l at_first at_second) (Some (next, left))
   pub answers : (x ≡ option_and_then f at_first) × (y ≡ option_and_then g at_second)
-  pub fewer : (length left ≤ length all) × (next ≡ None → length left < length all)
 
 -- keys that stand in this order
 abbrev pub AreOrdered : Text → Text → Type 0
@@ -176,16 +222,19 @@ module _ {A B : Type 0} {f : Data → Option A} {g : Data → Option B} {k l : T
       → read_key r ≡ Some (next, s) → put q read.0 (two k l before.at_first before.at_second) ≡ two k l a b
       → (new_x ≡ option_and_then f a) × (new_y ≡ option_and_then g b) → AreTwoUnderWay f g k l depth first all s next new_x new_y
   took {r = r} {s} {next} a b read e same answers =
-      let less = value_takes depth left r read.0 read.1 in
-      let shorter = read_key-shorter r next s e in
       record {
         at_first = a;
         at_second = b;
         decides = before.decides ∙ ap (λ n. turn depth (two k l before.at_first before.at_second) (Some (n, left))) came
             ∙ taken depth _ q left r read.0 read.1 ∙ ap (λ ms. next_members depth ms r) same ∙ member_turn depth _ r ∙ ap (turn depth _) e;
         answers = answers;
-        fewer = (omega (arith, before.fewer.0), λ _. omega (arith, before.fewer.0));
       }
+
+  two_came : next_after depth no_members first all ≡ next_after depth (two k l before.at_first before.at_second) q left
+  two_came = before.decides ∙ ap (λ n. turn depth (two k l before.at_first before.at_second) (Some (n, left))) came
+
+  pub two_no_key : {C : Type 0} {h : Data → C} {o : C} {r : List Token} → ReadsValue h depth left o r → read_key r ≡ None → next_after depth no_members first all ≡ None
+  two_no_key {r = r} read none = two_came ∙ taken depth _ q left r read.0 read.1 ∙ member_turn depth _ r ∙ ap (turn depth _) none
 
   -- a third key beside the two
   pub two_spoiled : {u r : List Token} → after (next_value depth left) ≡ Some u → ((found : Members) → after (next_members depth found u) ≡ Some r)

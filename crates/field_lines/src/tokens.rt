@@ -2,7 +2,7 @@
 //!
 //! Each reader takes one value whole. It answers none where the value is JSON and denotes nothing, so that a later
 //! member of the same key may still count.
-ghost use Rattle.std.specs.Prelude.{◌≡◌, ◌<◌, ◌⊎◌, bytes_eq, codes, length, not, None, Err, IfOk, IfSome, IsTrue, OnOk};
+ghost use Rattle.std.specs.Prelude.{◌≡◌, ◌⊎◌, bytes_eq, codes, not, None, Err, IfOk, IfSome, IsTrue};
 ghost use Rattle.std.specs.Option.{option_map, option_and_then};
 ghost use Rattle.std.specs.List.{zip};
 ghost use Rattle.serde_json.specs.Data.{no_members, object, array};
@@ -35,7 +35,6 @@ pub(crate) fn take_field(
     depth: usize,
 ) -> Result<Option<Field>, Refusal>
     ensures ok { IfOk result (λ o. ReadsValue field_of_value depth reader.old o reader.new) }
-    ensures shorter { OnOk result (length reader.new < length reader.old) }
     ensures text { result ≡ Err Refusal.Text → next_value depth reader.old ≡ None }
 {
     match open_object(reader, depth)? {
@@ -53,7 +52,6 @@ fn take_boxed(
     depth: usize,
 ) -> Result<Option<Box<Field>>, Refusal>
     ensures ok { IfOk result (λ o. ReadsValue field_of_value depth reader.old (option_map (λ b. b.value) o) reader.new) }
-    ensures shorter { OnOk result (length reader.new < length reader.old) }
     ensures text { result ≡ Err Refusal.Text → next_value depth reader.old ≡ None }
 {
     match take_field(alloc, reader, depth)? {
@@ -72,7 +70,6 @@ fn take_parts<'a>(
     depth: usize,
 ) -> Result<Option<Field>, Refusal>
     ensures ok { IfOk result (λ o. ReadsMembers (λ ms. field_of_value (object ms)) depth no_members reader.old o reader.new) }
-    ensures shorter { OnOk result (length reader.new < length reader.old) }
     ensures text { result ≡ Err Refusal.Text → next_members depth no_members reader.old ≡ None }
 {
     let mut name = None;
@@ -133,7 +130,6 @@ fn take_type(
     depth: usize,
 ) -> Result<Option<DataType>, Refusal>
     ensures ok { IfOk result (λ o. ReadsValue type_of_value depth reader.old (option_map tree o) reader.new) }
-    ensures shorter { OnOk result (length reader.new < length reader.old) }
     ensures text { result ≡ Err Refusal.Text → next_value depth reader.old ≡ None }
 {
     let token = reader.next().ok_or(Refusal::Text)?;
@@ -161,7 +157,6 @@ fn take_keys(
     depth: usize,
 ) -> Result<Option<DataType>, Refusal>
     ensures ok { IfOk result (λ o. ReadsMembers (λ ms. type_of_value (object ms)) depth no_members reader.old (option_map tree o) reader.new) }
-    ensures shorter { OnOk result (length reader.new < length reader.old) }
     ensures text { result ≡ Err Refusal.Text → next_members depth no_members reader.old ≡ None }
 {
     let Some(key) = reader.next_key()? else {
@@ -185,7 +180,6 @@ fn take_only(
 ) -> Result<Option<DataType>, Refusal>
     requires { IsNeither (codes "fixed_size_list") (codes "size") only.now × IsNeither (codes "mode") (codes "union") only.now }
     ensures ok { IfOk result (λ o. ReadsAfter (λ ms. type_of_value (object ms)) depth no_members only.now reader.old (option_map tree o) reader.new) }
-    ensures shorter { OnOk result (length reader.new < length reader.old) }
     ensures text { result ≡ Err Refusal.Text → next_after depth no_members only.now reader.old ≡ None }
 {
     let mut data_type = take_keyed(alloc, reader, depth, only)?;
@@ -220,7 +214,6 @@ fn take_keyed(
     key: &str,
 ) -> Result<Option<DataType>, Refusal>
     ensures ok { IfOk result (λ o. ReadsValue (keyed_at key.now) depth reader.old (option_map tree o) reader.new) }
-    ensures shorter { OnOk result (length reader.new < length reader.old) }
     ensures text { result ≡ Err Refusal.Text → next_value depth reader.old ≡ None }
 {
     match key {
@@ -248,7 +241,6 @@ fn take_fixed_size_list<'a>(
 ) -> Result<Option<DataType>, Refusal>
     requires { (first.now ≡ codes "fixed_size_list") ⊎ (first.now ≡ codes "size") }
     ensures ok { IfOk result (λ o. ReadsAfter (λ ms. type_of_value (object ms)) depth no_members first.now reader.old (option_map tree o) reader.new) }
-    ensures shorter { OnOk result (length reader.new < length reader.old) }
     ensures text { result ≡ Err Refusal.Text → next_after depth no_members first.now reader.old ≡ None }
 {
     let mut field = None;
@@ -288,7 +280,6 @@ fn take_union<'a>(
 ) -> Result<Option<DataType>, Refusal>
     requires { (first.now ≡ codes "mode") ⊎ (first.now ≡ codes "union") }
     ensures ok { IfOk result (λ o. ReadsAfter (λ ms. type_of_value (object ms)) depth no_members first.now reader.old (option_map tree o) reader.new) }
-    ensures shorter { OnOk result (length reader.new < length reader.old) }
     ensures text { result ≡ Err Refusal.Text → next_after depth no_members first.now reader.old ≡ None }
 {
     let mut mode = None;
@@ -327,7 +318,6 @@ fn take_fields(
     depth: usize,
 ) -> Result<Option<Vec<Field>>, Refusal>
     ensures ok { IfOk result (λ o. ReadsValue fields_of_value depth reader.old (option_map (λ v. field_trees v.items) o) reader.new) }
-    ensures shorter { OnOk result (length reader.new < length reader.old) }
     ensures text { result ≡ Err Refusal.Text → next_value depth reader.old ≡ None }
 {
     let Some(below) = open_array(reader, depth)? else {
@@ -356,7 +346,6 @@ fn take_members(
 ) -> Result<Option<(Vec<i8>, Vec<Field>)>, Refusal>
     ensures ok { IfOk result (λ o. ReadsValue members_of_value depth reader.old (option_map (λ p. member_trees (zip p.0.items p.1.items)) o) reader.new) }
     ensures parts { IfOk result (λ o. IfSome o (λ p. AreMemberParts p.0.items p.1.items)) }
-    ensures shorter { OnOk result (length reader.new < length reader.old) }
     ensures text { result ≡ Err Refusal.Text → next_value depth reader.old ≡ None }
 {
     let Some(below) = open_array(reader, depth)? else {
@@ -389,7 +378,6 @@ fn take_pair(
 ) -> Result<Option<(i8, Field)>, Refusal>
     ensures ok { IfOk result (λ o. ReadsValue pair_read depth reader.old o reader.new) }
     ensures id { IfOk result (λ o. IfSome o (λ p. IsTrue (is_type_id p.0))) }
-    ensures shorter { OnOk result (length reader.new < length reader.old) }
     ensures text { result ≡ Err Refusal.Text → next_value depth reader.old ≡ None }
 {
     let Some(below) = open_array(reader, depth)? else {

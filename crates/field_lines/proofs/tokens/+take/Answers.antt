@@ -1,8 +1,8 @@
-use Rattle.std.proofs.Common.{rules, arith, ◌≡◌, ◌-◌, [], ◌∷◌, ◌++◌, Some, IsTrue, option_map, option_and_then, subst₂, refl, sym, ap, ap₂, ◌∙◌}
-use Rattle.field_lines.proofs.Terms.{IfOk-weaker, zip, parse_map, string, no_items, item, no_members, is_type_id, texts_of, field_before, field_of_value, type_of_value, fields_of_value, members_of_value, AreMemberParts, pair_read, value-object, members_over, after_some}
+use Rattle.std.proofs.Common.{rules, arith, ◌≡◌, ◌-◌, [], ◌∷◌, ◌++◌, Some, Err, IsTrue, option_map, option_and_then, subst₂, refl, sym, ap, ap₂, ◌∙◌}
+use Rattle.field_lines.proofs.Terms.{IfOk-weaker, taken, struct, zip, parse_map, string, no_items, item, no_members, is_type_id, texts_of, field_before, field_of_value, type_of_value, fields_of_value, members_of_value, AreMemberParts, pair_read, value-object, members_over, after_some}
 use Rattle.std.proofs.lemmas.Int.{to_z-of_z}
-use Rattle.field_lines.proofs.TokenMembers.{part_other, parts_go_on, parts_end, no_type, only_go_on, only_spoiled, first_read, second_read, two_spoiled, of_fixed_size_list, of_union, no_type_of}
-use Rattle.field_lines.proofs.TokenItems.{array_read, pair_before, item_turn, item_taken, taken_start, taken_go_on, taken_end, taken_spoiled, members_in-pair, zip_push, parts_push}
+use Rattle.field_lines.proofs.TokenMembers.{text_refused, member_takes, takes_key, part_other, parts_no_key, parts_no_member, only_no_key, only_no_member, only_no_members, two_no_key, parts_go_on, parts_end, no_type, only_go_on, only_spoiled, first_read, second_read, two_spoiled, of_fixed_size_list, of_union, no_type_of}
+use Rattle.field_lines.proofs.TokenItems.{array_read, item_takes, pair_before, item_turn, item_taken, taken_start, taken_go_on, taken_end, taken_spoiled, members_in-pair, zip_push, parts_push}
 use Rattle.value_tokens.specs.Beginnings.{passed, next_string, no_object, no_text, object_read}
 use Rattle.field_lines.proofs.tokens.+take.Goals as goal
 
@@ -19,6 +19,18 @@ take_fixed_size_list-returns-in_default-key-clause-ok t c =
     two_spoiled c.keys.invariant (ap (option_map (λ s. s.now)) c.in-Some.is) c.in_ok-skip_value-in_default-key.ensures.ok c.in_ok-skip_members-in_default-key.ensures.ok
     (λ ms a b. let of = of_fixed_size_list {q = c.args.first.now} (search rules) in no_type_of ms (c.in_default-key.not-fixed_size_list, c.in_default-key.not-size) of.0 a b b (λ d _ _. of.1 d))
 
+pub take_fixed_size_list-keys-smaller-then-str_eq : goal.take_fixed_size_list-keys-smaller-then-str_eq
+take_fixed_size_list-keys-smaller-then-str_eq t c =
+    takes_key c.args.depth c.keys.reader c.take_boxed.new.reader c.next_key.new.self c.in_ok-field-in-fixed_size_list.ensures.ok c.in_ok-next-in-fixed_size_list.ensures.value
+
+pub take_fixed_size_list-returns-in_err-next-in-fixed_size_list-clause-text : goal.take_fixed_size_list-returns-in_err-next-in-fixed_size_list-clause-text
+take_fixed_size_list-returns-in_err-next-in-fixed_size_list-clause-text t c _ =
+    two_no_key c.keys.invariant (ap (option_map (λ s. s.now)) c.in-Some.is) c.in_ok-field-in-fixed_size_list.ensures.ok c.in_err-next-in-fixed_size_list.ensures.value
+
+pub take_fixed_size_list-returns-in_err-next-in-size-clause-text : goal.take_fixed_size_list-returns-in_err-next-in-size-clause-text
+take_fixed_size_list-returns-in_err-next-in-size-clause-text t c _ =
+    two_no_key c.keys.invariant (ap (option_map (λ s. s.now)) c.in-Some.is) c.in_ok-size-in-size.ensures.ok c.in_err-next-in-size.ensures.value
+
 pub take_union-keys-preserved : goal.take_union-keys-preserved
 take_union-keys-preserved t c =
     (second_read (refl, refl) c.keys.invariant.0 (rw (c.in-Some.is, c.in-union.is)) c.in_ok-members-in-union.ensures.ok c.in_ok-next-in-union.ensures.value, c.in_ok-members-in-union.ensures.parts)
@@ -32,9 +44,25 @@ take_union-returns-in_default-key-clause-ok t c =
     two_spoiled c.keys.invariant.0 (ap (option_map (λ s. s.now)) c.in-Some.is) c.in_ok-skip_value-in_default-key.ensures.ok c.in_ok-skip_members-in_default-key.ensures.ok
     (λ ms a b. let of = of_union {q = c.args.first.now} (search rules) in no_type_of ms of.0 (c.in_default-key.not-mode, c.in_default-key.not-union) b a b (λ d _ _. of.1 d))
 
+pub take_union-keys-smaller : goal.take_union-keys-smaller
+take_union-keys-smaller t c =
+    takes_key c.args.depth c.keys.reader c.take_members.new.reader c.next_key-in-union.new.self c.in_ok-members-in-union.ensures.ok c.in_ok-next-in-union.ensures.value
+
+pub take_union-returns-in_err-next-in-mode-clause-text : goal.take_union-returns-in_err-next-in-mode-clause-text
+take_union-returns-in_err-next-in-mode-clause-text t c _ =
+    two_no_key c.keys.invariant.0 (ap (option_map (λ s. s.now)) c.in-Some.is) c.in_ok-mode-in-mode.ensures.ok c.in_err-next-in-mode.ensures.value
+
+pub take_union-returns-in_err-next-in-union-clause-text : goal.take_union-returns-in_err-next-in-union-clause-text
+take_union-returns-in_err-next-in-union-clause-text t c _ =
+    two_no_key c.keys.invariant.0 (ap (option_map (λ s. s.now)) c.in-Some.is) c.in_ok-members-in-union.ensures.ok c.in_err-next-in-union.ensures.value
+
 pub take_fields-items-preserved : goal.take_fields-items-preserved
 take_fields-items-preserved t c =
     taken_go_on c.items.invariant field_before field_of_value (λ x xs. refl) (λ d ds. refl) (rw c.in-Some-2.is at c.in_ok-field.ensures.ok) c.in_ok-push-in-Some-2.ensures.items (grind arith)
+
+pub take_fields-items-smaller : goal.take_fields-items-smaller
+take_fields-items-smaller t c =
+    item_takes c.in-Some.below c.items.reader c.take_field.new.reader c.in_ok-field.ensures.ok (grind arith)
 
 pub take_fields-returns-clause-ok : goal.take_fields-returns-clause-ok
 take_fields-returns-clause-ok t c = array_read fields_of_value _ _ _ _ _ _ (rw c.in-Some.is at c.in_ok-below.ensures.ok).0 (taken_end c.items.invariant refl (grind arith))
@@ -57,6 +85,10 @@ take_members-pairs-preserved t c =
       subst₂ AreMemberParts (sym ids) (sym fields) (parts_push _ _ _ _ l.invariant.1 good),
     )
 
+pub take_members-pairs-smaller : goal.take_members-pairs-smaller
+take_members-pairs-smaller t c =
+    item_takes c.in-Some.below c.pairs.reader c.take_pair.new.reader c.in_ok-id.ensures.ok (grind arith)
+
 pub take_members-returns-clause-ok : goal.take_members-returns-clause-ok
 take_members-returns-clause-ok t c = array_read members_of_value _ _ _ _ _ _ (rw c.in-Some.is at c.in_ok-below.ensures.ok).0 (taken_end c.pairs.invariant.0 refl (grind arith))
 
@@ -67,6 +99,27 @@ take_members-returns-in-None-clause-ok t c =
 pub take_keys-returns-in_default-clause-ok : goal.take_keys-returns-in_default-clause-ok
 take_keys-returns-in_default-clause-ok t c = (no_members, members_over c.args.depth no_members c.args.reader.now c.next_key.new.self (grind arith), refl)
 
+pub take_boxed-returns-in_ok-new-in-Some-clause-ok : goal.take_boxed-returns-in_ok-new-in-Some-clause-ok
+take_boxed-returns-in_ok-new-in-Some-clause-ok t c = rw (c.in_ok-new-in-Some.ensures.ok, ← c.in-Some.is) c.in_ok-field.ensures.ok
+
+pub take_boxed-returns-in-None-clause-ok : goal.take_boxed-returns-in-None-clause-ok
+take_boxed-returns-in-None-clause-ok t c = rw c.in-None.is at c.in_ok-field.ensures.ok
+
+pub take_keyed-returns-in-Some-clause-ok : goal.take_keyed-returns-in-Some-clause-ok
+take_keyed-returns-in-Some-clause-ok t c =
+    let read = rw c.in-Some.is at c.in_ok-fields-in-struct.ensures.ok in
+    rw (c.in-struct.is, c.from.ensures) (read.0, read.1, ap (option_map struct) read.2)
+
+pub take_keyed-returns-in-None-clause-ok : goal.take_keyed-returns-in-None-clause-ok
+take_keyed-returns-in-None-clause-ok t c =
+    let read = rw c.in-None.is at c.in_ok-fields-in-struct.ensures.ok in
+    rw c.in-struct.is (read.0, read.1, ap (option_map struct) read.2)
+
+pub take_only-only-init : goal.take_only-only-init
+take_only-only-init t c =
+    let read = c.in_ok-data_type.ensures.ok in
+    record { value = read.0; decides = taken c.args.depth no_members c.args.only.now c.args.reader.now c.take_keyed.new.reader read.0 read.1; answers = read.2 }
+
 pub take_only-only-preserved : goal.take_only-only-preserved
 take_only-only-preserved t c =
     only_go_on c.only.invariant (rw c.in-Some.is at c.in_ok-key.ensures.value) c.differ.ensures c.if-differ.false c.in_ok-data_type-2.ensures.ok
@@ -75,10 +128,32 @@ pub take_only-returns-then-differ-clause-ok : goal.take_only-returns-then-differ
 take_only-returns-then-differ-clause-ok t c =
     only_spoiled c.only.invariant (search rules) (rw c.in-Some.is at c.in_ok-key.ensures.value) c.differ.ensures c.if-differ.true c.in_ok-skip_value.ensures.ok c.in_ok-skip_members.ensures.ok
 
+pub take_only-only-smaller : goal.take_only-only-smaller
+take_only-only-smaller t c =
+    member_takes c.args.depth c.only.reader c.next_key.new.self c.take_keyed-in-Some.new.reader _ _ (rw c.in-Some.is at c.in_ok-key.ensures.value) c.in_ok-data_type-2.ensures.ok.1
+
+pub take_only-returns-in_err-key-clause-text : goal.take_only-returns-in_err-key-clause-text
+take_only-returns-in_err-key-clause-text t c _ = only_no_key c.only.invariant c.in_err-key.ensures.value
+
+pub take_only-returns-in_err-skip_value-clause-text : goal.take_only-returns-in_err-skip_value-clause-text
+take_only-returns-in_err-skip_value-clause-text t c =
+    text_refused c.from_residual-in_err-skip_value.ensures.1
+    (λ e. only_no_member c.only.invariant (rw c.in-Some.is at c.in_ok-key.ensures.value) (c.in_err-skip_value.ensures.text (ap Err e)))
+
+pub take_only-returns-in_err-skip_members-clause-text : goal.take_only-returns-in_err-skip_members-clause-text
+take_only-returns-in_err-skip_members-clause-text t c =
+    text_refused c.from_residual-in_err-skip_members.ensures.1
+    (λ e. only_no_members c.only.invariant (rw c.in-Some.is at c.in_ok-key.ensures.value) c.in_ok-skip_value.ensures.ok (c.in_err-skip_members.ensures.text (ap Err e)))
+
+pub take_only-returns-in_err-data_type-2-clause-text : goal.take_only-returns-in_err-data_type-2-clause-text
+take_only-returns-in_err-data_type-2-clause-text t c =
+    text_refused c.from_residual-in_err-data_type-2.ensures.1
+    (λ e. only_no_member c.only.invariant (rw c.in-Some.is at c.in_ok-key.ensures.value) (c.in_err-data_type-2.ensures.text (ap Err e)))
+
 pub take_parts-parts-init : goal.take_parts-parts-init
 take_parts-parts-init t c =
     let none = ap (λ es. Some (texts_of es)) c.new.ensures.empty in
-    record { found = no_members; decides = refl; at_name = refl; at_nullable = refl; at_type = refl; at_metadata = none; fewer = omega arith }
+    record { found = no_members; decides = refl; at_name = refl; at_nullable = refl; at_type = refl; at_metadata = none }
 
 pub take_parts-parts-preserved : goal.take_parts-parts-preserved
 take_parts-parts-preserved t c =
@@ -105,6 +180,38 @@ pub take_parts-parts-preserved-then-str_eq-4 : goal.take_parts-parts-preserved-t
 take_parts-parts-preserved-then-str_eq-4 t c =
     let read = c.in_ok-metadata-in-metadata.ensures.ok in
     parts_go_on c.parts.invariant (rw (c.in-Some.is, c.in-metadata.is) at c.in_ok-key.ensures.value) read.1 refl refl refl read.2
+
+pub take_parts-parts-smaller-then-str_eq-3 : goal.take_parts-parts-smaller-then-str_eq-3
+take_parts-parts-smaller-then-str_eq-3 t c =
+    member_takes c.args.depth c.parts.reader c.next_key.new.self c.take_type.new.reader _ _ (rw c.in-Some.is at c.in_ok-key.ensures.value) c.in_ok-data_type-in-type.ensures.ok.1
+
+pub take_parts-returns-in_err-key-clause-text : goal.take_parts-returns-in_err-key-clause-text
+take_parts-returns-in_err-key-clause-text t c _ = parts_no_key c.parts.invariant c.in_err-key.ensures.value
+
+pub take_parts-returns-in_err-name-in-name-clause-text : goal.take_parts-returns-in_err-name-in-name-clause-text
+take_parts-returns-in_err-name-in-name-clause-text t c =
+    text_refused c.from_residual-in_err-name-in-name.ensures.1
+    (λ e. parts_no_member c.parts.invariant (rw c.in-Some.is at c.in_ok-key.ensures.value) (c.in_err-name-in-name.ensures.text (ap Err e)))
+
+pub take_parts-returns-in_err-nullable-in-nullable-clause-text : goal.take_parts-returns-in_err-nullable-in-nullable-clause-text
+take_parts-returns-in_err-nullable-in-nullable-clause-text t c =
+    text_refused c.from_residual-in_err-nullable-in-nullable.ensures.1
+    (λ e. parts_no_member c.parts.invariant (rw c.in-Some.is at c.in_ok-key.ensures.value) (c.in_err-nullable-in-nullable.ensures.text (ap Err e)))
+
+pub take_parts-returns-in_err-data_type-in-type-clause-text : goal.take_parts-returns-in_err-data_type-in-type-clause-text
+take_parts-returns-in_err-data_type-in-type-clause-text t c =
+    text_refused c.from_residual-in_err-data_type-in-type.ensures.1
+    (λ e. parts_no_member c.parts.invariant (rw c.in-Some.is at c.in_ok-key.ensures.value) (c.in_err-data_type-in-type.ensures.text (ap Err e)))
+
+pub take_parts-returns-in_err-metadata-in-metadata-clause-text : goal.take_parts-returns-in_err-metadata-in-metadata-clause-text
+take_parts-returns-in_err-metadata-in-metadata-clause-text t c =
+    text_refused c.from_residual-in_err-metadata-in-metadata.ensures.1
+    (λ e. parts_no_member c.parts.invariant (rw c.in-Some.is at c.in_ok-key.ensures.value) (c.in_err-metadata-in-metadata.ensures.text (ap Err e)))
+
+pub take_parts-returns-in_err-skip_value-in_default-key-clause-text : goal.take_parts-returns-in_err-skip_value-in_default-key-clause-text
+take_parts-returns-in_err-skip_value-in_default-key-clause-text t c =
+    text_refused c.from_residual-in_err-skip_value-in_default-key.ensures.1
+    (λ e. parts_no_member c.parts.invariant (rw c.in-Some.is at c.in_ok-key.ensures.value) (c.in_err-skip_value-in_default-key.ensures.text (ap Err e)))
 
 pub take_parts-returns-clause-ok : goal.take_parts-returns-clause-ok
 take_parts-returns-clause-ok t c = IfOk-weaker c.field_of.result _ _ (λ o is. parts_end c.parts.invariant is (grind arith)) c.field_of.ensures.ok
