@@ -78,9 +78,10 @@ pub fn name_in<T: Copy>(names: &[T], place: Found<'_>, bytes: &[u8]) -> Result<O
     let Some(number) = number_in(place)? else {
         return Ok(None);
     };
-    let name = names.get(number as usize).copied();
-    ensure(name.is_some(), Rule::Name, bytes)?;
-    Ok(name)
+    match names.get(number as usize) {
+        Some(name) => Ok(Some(*name)),
+        None => Err(broken(Rule::Name, bytes)),
+    }
 }
 
 /// The text in a field, where it is there.
