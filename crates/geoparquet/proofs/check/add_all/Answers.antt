@@ -32,10 +32,11 @@ loop-key-preserved c =
     let e : Entries = (c.in-Some-2.key.now, c.in-Some-2._member.now) in
     let step : c.loop-key.key-iterator ≡ e ∷ c.next.new.self = c.in-Some-2.ensures.steps in
     let name : key ≡ string_bytes c.in-Some-2.key.now = c.as_str-key.ensures.value in
-    answered_next (view c.args.value.now) (map column_tree c.args.columns.now) key (string_bytes c.in-Some-2.key.now) (keys_of (members_view c.loop-key.key-iterator)) (keys_of (members_view c.next.new.self))
-    _ _ c.in_ok-of_column.of_column (ap (λ es. keys_of (members_view es)) step) name c.in_ok-add_findings-2.ensures c.in_ok-of_column.ensures c.loop-key.invariant
+    answered_next (view c.args.value.now) (map column_tree c.args.columns.now) key (string_bytes c.in-Some-2.key.now)
+    (keys_of (members_view c.loop-key.key-iterator)) (keys_of (members_view c.next.new.self)) _ _ c.in_ok-of_column.of_column (ap (λ es. keys_of (members_view es)) step) name c.in_ok-add_findings-2.ensures c.in_ok-of_column.ensures c.loop-key.invariant
 
 pub returns : goal.returns
 returns c =
     let none : c.loop-key.key-iterator ≡ [] = search rules in
-    answered_last (view c.args.value.now) (map column_tree c.args.columns.now) (keys_of (members_view c.loop-key.key-iterator)) _ (ap (λ es. keys_of (members_view es)) none) c.loop-key.invariant
+    answered_last (view c.args.value.now) (map column_tree c.args.columns.now) (keys_of (members_view c.loop-key.key-iterator)) _
+    (ap (λ es. keys_of (members_view es)) none) c.loop-key.invariant
