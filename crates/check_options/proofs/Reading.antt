@@ -1,6 +1,6 @@
 -- The words that were read so far.
-use Rattle.std.proofs.Common.{◌≡◌, ℕ, zero, suc, ◌+◌, ◌<◌, List, [], ◌∷◌, ◌++◌, length, get_or, take, drop, map, flat_map, Bool, true, false, string_bytes, refl, sym, ap, ◌∙◌, subst, append_assoc, arith}
-use Rattle.std.proofs.lemmas.List.{take_more, map-append, append-nil, at_drop_more, take-append-drop}
+use Rattle.std.proofs.Common.{◌≡◌, ℕ, zero, suc, ◌+◌, ◌<◌, ◌≤◌, List, [], ◌∷◌, ◌++◌, length, get_or, take, drop, map, flat_map, Bool, true, false, string_bytes, refl, sym, ap, ◌∙◌, subst, append_assoc, arith}
+use Rattle.std.proofs.lemmas.List.{take_all, take_more, map-append, append-nil, at_drop_more, take-append-drop}
 use Rattle.std.proofs.lemmas.List.Elements.{All-append}
 use Rattle.std.proofs.lemmas.Grind.{flat_map-append, fold-append}
 use Rattle.std.specs.List.{fold}
@@ -26,9 +26,6 @@ asks_more items x =
     let wants = one_item wants_in items x in
     let files = one_item files_in items x in
     cc
-
-pub starts : ReadTo [] false (asked_of [])
-starts = record { items = []; spelled = refl; good = (λ k d lt. absurd (omega arith)); noted = refl }
 
 all_of_one : (x : Item) → IsItem x → All IsItem (x ∷ [])
 all_of_one x good zero d lt = good
@@ -71,8 +68,12 @@ refuses front expects old read words rest reason are stops = (
   stops,
 )
 
-pub spells : (words : List Text) (asked : AskedView) (read : ReadTo words false asked) → Spell read.items words
-spells words asked read = (read.spelled ∙ append-nil (flat_map words_of read.items), read.good)
+-- all words were read
+pub all_read : (ws : List (String Global)) (i : ℕ) (expects : Bool) (asked : AskedView) → length ws ≤ i → ReadTo (map string_bytes (take i ws)) expects asked → ReadTo (map string_bytes ws) expects asked
+all_read ws i expects asked end = subst (λ xs. ReadTo (map string_bytes xs) expects asked) (take_all i ws end)
+
+pub spells : (words : List Text) (expects : Bool) (asked : AskedView) → expects ≡ false → (read : ReadTo words expects asked) → Spell read.items words
+spells words expects asked none read = (read.spelled ∙ ap (λ b. flat_map words_of read.items ++ waiting b) none ∙ append-nil (flat_map words_of read.items), read.good)
 
 cut : (ws : List (String Global)) (i : ℕ) (w : String Global) → i < length ws → w ≡ get_or ws i w → ws ≡ take i ws ++ w ∷ drop (i + 1) ws
 cut ws i w lt is = sym (take-append-drop i ws) ∙ ap (λ xs. take i ws ++ xs) (at_drop_more (λ xs. xs) ws i w lt ∙ ap (λ x. x ∷ drop (i + 1) ws) (sym is))

@@ -1,9 +1,23 @@
 //! The known word that is nearest to a word.
-ghost use Rattle.std.specs.Prelude.{◌≡◌, IfOk};
+ghost use Rattle.std.specs.Prelude.{◌≡◌, IfOk, map};
+ghost use Rattle.std.specs.List.{fold};
 ghost use Rattle.check_options.specs.Nearest.{nearer, nearest};
 
 use std::alloc::{AllocError, Global};
 use strsim::levenshtein;
+
+/// The known words behind the first, `--json`.
+const OTHERS: [&str; 9] = [
+    "--lines",
+    "--ipc",
+    "--infer",
+    "--all-checks",
+    "--quiet",
+    "--require-geometry",
+    "--expect",
+    "--help",
+    "--version",
+];
 
 /// Of two words the one that is nearer, and the first where neither is.
 #[tactic(auto, unfolding(crate::specs::Nearest::nearer))]
@@ -20,17 +34,25 @@ fn nearer<'a>(
     Ok(if to_other < to_one { other } else { one })
 }
 
+/// Of a word and others the one that is nearest to a word; of several the first.
+fn nearest_of(
+    alloc: Global,
+    word: &str,
+    first: &'static str,
+    others: &[&'static str],
+) -> Result<&'static str, AllocError>
+    ensures { IfOk result (λ near. near.now ≡ fold (nearer word.now) first.entry.now (map (λ other. other.now) others.entry.now)) }
+{
+    let mut near = first;
+    for other in others {
+        near = nearer(alloc, word, near, other)?;
+    }
+    Ok(near)
+}
+
 /// The nearest of the known words; of several the first.
 pub(crate) fn nearest(alloc: Global, word: &str) -> Result<&'static str, AllocError>
     ensures { IfOk result (λ near. near.now ≡ nearest word.now) }
 {
-    let near = nearer(alloc, word, "--json", "--lines")?;
-    let near = nearer(alloc, word, near, "--ipc")?;
-    let near = nearer(alloc, word, near, "--infer")?;
-    let near = nearer(alloc, word, near, "--all-checks")?;
-    let near = nearer(alloc, word, near, "--quiet")?;
-    let near = nearer(alloc, word, near, "--require-geometry")?;
-    let near = nearer(alloc, word, near, "--expect")?;
-    let near = nearer(alloc, word, near, "--help")?;
-    nearer(alloc, word, near, "--version")
+    nearest_of(alloc, word, "--json", &OTHERS)
 }

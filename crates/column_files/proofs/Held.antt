@@ -1,8 +1,8 @@
 -- Bytes that are held, and the line that they begin with, over plain variables.
 use Rattle.std.proofs.Common.{◌≡◌, inl, inr, ℕ, ◌+◌, ◌-◌, ◌<◌, ◌≤◌, true, List, [], ◌++◌, length, take, drop, drop_of_length-le, get_or, Option, Some, None, IfSome, Ok, Err, sym, ap, ◌∙◌, subst, arith}
 use Rattle.std.proofs.lemmas.Bool.{cases_lt}
-use Rattle.std.proofs.lemmas.List.{append-nil, get_or_append_left, get_or-drop, length-append, length-drop, length-take-le, take-append-le, take_all, drop-append-le}
-use Rattle.std.specs.Io.KnownBytes.{Keeps, prepend_known}
+use Rattle.std.proofs.lemmas.List.{append-nil, append_assoc, get_or_append_left, get_or-drop, length-append, length-drop, length-take-le, take-append-le, take_all, drop-append-le}
+use Rattle.std.specs.Io.KnownBytes.{Keeps, Consumes, prepend_known}
 use Rattle.memchr.specs.Find.{is_byte, Passes, Nowhere, IsFirstByte}
 use Rattle.arrow_columns.specs.Column.{column_tree}
 use Rattle.arrow_columns.specs.declared.column.Column.{Column}
@@ -52,6 +52,18 @@ module _ (held : List ℕ) (seen : ℕ) (none : Nowhere (IsFeed held) 0 seen) wh
     record { low = omega arith; high = omega (arith, found.high, length-drop seen held); before = λ k low high. none_to at found.before k high },
     subst (λ x. is_byte line_feed x ≡ true) (get_or-drop seen held at 0) is,
   )
+
+-- more is read behind bytes that have none
+pub reads_on : (old source left : Option (List ℕ)) (held next more : List ℕ) → next ≡ held ++ more → Keeps old (prepend_known held source) → Consumes source left more → HasNoFeed held
+    → Keeps old (prepend_known next left) × (length held ≤ length next) × Nowhere (IsFeed next) 0 (length held)
+reads_on old source left held next more is kept gives none =
+    (keeps old source left kept gives, omega (arith, length-append held more, ap length is), subst (λ l. Nowhere (IsFeed l) 0 (length held)) (sym is) (none_in_more held more (length held) (omega arith) none))
+  where
+    keeps : (old source left : Option (List ℕ)) → Keeps old (prepend_known held source) → Consumes source left more → Keeps old (prepend_known next left)
+    keeps None source left kept gives = tt
+    keeps (Some text) None left kept gives = absurd kept
+    keeps (Some text) (Some xs) None kept gives = absurd gives
+    keeps (Some text) (Some xs) (Some ys) kept gives = ap (λ l. l ++ ys) is ∙ append_assoc held more ys ∙ ap (λ l. held ++ l) (sym gives) ∙ kept
 
 -- ---- lines that are too long
 

@@ -177,11 +177,6 @@ goes_on {opening} {ps} held qs b is = record {
 pub more : {opening : Text} {ps qs : List Text} {a b : Written} → Holds opening ps a → AddsParts qs a b → Holds opening (ps ++ qs) b
 more {qs = qs} {b = b} held added = goes_on held qs b added.text
 
--- a value stands before any parts, and so behind them
-pub still : (parts : List Text) → ends_behind true parts ≡ true
-still [] = refl
-still (part ∷ parts) = refl
-
 -- what is added for v is added for w
 pub for : {V : Type 0} (parts : V → List Text) {v w : V} {a b : Written} → AddsParts (parts v) a b → v ≡ w → AddsParts (parts w) a b
 for parts {a = a} {b} added is = subst (λ v. AddsParts (parts v) a b) is added

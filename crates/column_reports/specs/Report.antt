@@ -61,20 +61,28 @@ reasons_in f = None
 abbrev pub string_if : Text → Option Text → List Text
 string_if key text = member_if key (option_map quoted text)
 
--- the members, in the order of their keys
+-- the members, in the order of their keys: the column and its CRS; what geometries are like, and names; the column's place and what is found of it
+abbrev pub names_of : Option Text → ColumnTree → Option GeometryColumn → List Text
+names_of file c g =
+    string_if (codes "crs_type") (crs_type_of g)
+    ++ string_if (codes "edges") (edges_of g)
+    ++ string_if (codes "extension") (name_on c)
+    ++ string_if (codes "file") file
+
+abbrev pub found_of : ℕ → ColumnFinding → Text → List Warning → List Text
+found_of index f word ws =
+    member_if (codes "index") (Some (decimal index))
+    ++ member_if (codes "reasons") (reasons_in f)
+    ++ string_if (codes "state") (Some (state_word f))
+    ++ string_if (codes "type") (Some word)
+    ++ member_if (codes "warnings") (warnings_in ws)
+
 abbrev pub members_of : Option Text → ℕ → ColumnTree → Option Text → ColumnFinding → List Warning → List Text
 members_of file index c crs f ws =
     string_if (codes "column") (Some c.name)
     ++ member_if (codes "crs") (option_map on_one_line (crs_of (geometry_in f) crs))
-    ++ string_if (codes "crs_type") (crs_type_of (geometry_in f))
-    ++ string_if (codes "edges") (edges_of (geometry_in f))
-    ++ string_if (codes "extension") (name_on c)
-    ++ string_if (codes "file") file
-    ++ member_if (codes "index") (Some (decimal index))
-    ++ member_if (codes "reasons") (reasons_in f)
-    ++ string_if (codes "state") (Some (state_word f))
-    ++ string_if (codes "type") (Some (type_word c (geometry_in f)))
-    ++ member_if (codes "warnings") (warnings_in ws)
+    ++ names_of file c (geometry_in f)
+    ++ found_of index f (type_word c (geometry_in f)) ws
 
 -- the report: the file, where it is named, the place of the column, the column, the text of its CRS, what is said of it, and its warnings
 abbrev pub line_text : Option Text → ℕ → ColumnTree → Option Text → ColumnFinding → List Warning → Text

@@ -1,8 +1,9 @@
 //! The line of a column.
-ghost use Rattle.std.specs.Prelude.{◌≡◌, IfOk, string_bytes};
+ghost use Rattle.std.specs.Prelude.{◌≡◌, IfOk, OnOk, option_map, string_bytes};
 ghost use Rattle.arrow_values.specs.Texts.{text_of};
 ghost use Rattle.arrow_columns.specs.Column.{column_tree};
-ghost use Rattle.column_reports.specs.Report.{line_text};
+ghost use Rattle.column_reports.specs.Report.{names_of, found_of, line_text};
+ghost use Rattle.column_reports.specs.Appended.{AddsParts};
 
 use crate::crs::put_crs;
 use crate::put::{put_number, put_text, put_text_if};
@@ -10,7 +11,7 @@ use crate::reasons::put_reasons;
 use crate::warnings::put_warnings;
 use crate::words::{crs_of, crs_type_of, edges_of, state_word, type_word};
 use arrow_columns::Column;
-use column_check::{Finding, Warning};
+use column_check::{Finding, Geometry, Warning};
 use json::Writer;
 use std::alloc::{AllocError, Global};
 
@@ -71,15 +72,40 @@ pub fn json_line(
     out.begin_object()?;
     put_text(&mut out, "column", column.name.as_str())?;
     let mut out = put_crs(out, crs_of(geometry, crs))?;
-    put_text_if(&mut out, "crs_type", crs_type_of(geometry))?;
-    put_text_if(&mut out, "edges", edges_of(geometry))?;
-    put_text_if(&mut out, "extension", column.extension_type_name())?;
-    put_text_if(&mut out, "file", file)?;
-    put_number(&mut out, "index", index)?;
-    put_reasons(&mut out, finding)?;
-    put_text(&mut out, "state", state_word(finding))?;
-    put_text(&mut out, "type", type_word.as_str())?;
-    put_warnings(&mut out, warnings)?;
+    put_names(&mut out, geometry, column, file)?;
+    put_found(&mut out, index, finding, type_word.as_str(), warnings)?;
     out.end_object()?;
     Ok(unsafe { String::from_utf8_unchecked(out.into_inner()) })
+}
+
+/// Writes what geometries are like, and the names of the extension and the file: those that there are.
+fn put_names(
+    out: &mut Writer,
+    geometry: Option<&Geometry>,
+    column: &Column,
+    file: Option<&str>,
+) -> Result<(), AllocError>
+    ensures { OnOk result (AddsParts (names_of (text_of file.entry) (column_tree column.now) (option_map (λ g. g.now) geometry.entry)) out.old out.new) }
+{
+    put_text_if(out, "crs_type", crs_type_of(geometry))?;
+    put_text_if(out, "edges", edges_of(geometry))?;
+    put_text_if(out, "extension", column.extension_type_name())?;
+    put_text_if(out, "file", file)
+}
+
+/// Writes the place of a column and what is found of it, with the word of its type.
+fn put_found(
+    out: &mut Writer,
+    index: usize,
+    finding: &Finding,
+    word: &str,
+    warnings: &[Warning],
+) -> Result<(), AllocError>
+    ensures { OnOk result (AddsParts (found_of index finding.now word.now warnings.now) out.old out.new) }
+{
+    put_number(out, "index", index)?;
+    put_reasons(out, finding)?;
+    put_text(out, "state", state_word(finding))?;
+    put_text(out, "type", word)?;
+    put_warnings(out, warnings)
 }

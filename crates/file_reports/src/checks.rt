@@ -11,7 +11,7 @@ ghost use Rattle.parquet_schema.specs.Reads.{footer_in};
 ghost use Rattle.file_reports.specs.Checks.{is_failed, AreChecked, AddsText, AddsFindings, warning_text};
 ghost use Rattle.file_reports.specs.Report.{IsParquetReport};
 
-use crate::report::{Report, report_columns};
+use crate::report::{Report, push_line, report_columns};
 use arrow_columns::Column;
 use column_files::FileFault;
 use geo_columns::geo_columns;
@@ -114,8 +114,7 @@ fn with_warning(alloc: Global, report: Report, file: Option<&str>) -> Result<Rep
     let mut report = report;
     if report.has_geometry {
         let line = no_geo_line(alloc, file)?;
-        report.lines.push_str(line.as_str())?;
-        report.lines.push_str("\n")?;
+        push_line(&mut report.lines, line.as_str())?;
     }
     Ok(report)
 }

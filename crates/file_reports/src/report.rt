@@ -143,11 +143,18 @@ fn add_column(
 {
     let finding = check_column(alloc, column, infer)?;
     let line = column_line_of(alloc, scratch, file, index, column, &finding)?;
-    report.lines.push_str(line.as_str())?;
-    report.lines.push_str("\n")?;
+    push_line(&mut report.lines, line.as_str())?;
     report.has_invalid = report.has_invalid | finding.is_invalid();
     report.has_geometry = report.has_geometry | finding.is_geometry();
     Ok(())
+}
+
+/// Adds a line, with its line feed.
+pub(crate) fn push_line(text: &mut String, line: &str) -> Result<(), AllocError>
+    ensures { OnOk result (string_bytes text.new ≡ string_bytes text.old ++ (line.now ++ (line_feed ∷ []))) }
+{
+    text.push_str(line)?;
+    text.push_str("\n")
 }
 
 /// The line of JSON of a column at that place, of which that is said (docs/FORMAT.md, 2.5), with what is doubtful of it and the text of its CRS, and without a

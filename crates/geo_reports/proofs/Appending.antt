@@ -1,7 +1,7 @@
 -- What was written so far.
 use Rattle.std.proofs.Common.{◌≡◌, ℕ, ◌+◌, ◌<◌, ◌≤◌, List, [], ◌∷◌, ◌++◌, length, Bool, Option, get_or, drop, take, map, string_bytes, sym, ap, ◌∙◌, append_assoc}
 use Rattle.std.proofs.lemmas.List.{at_drop_more, drop_all, append-nil, map-append}
-use Rattle.std.specs.Prelude.{String, Result, Ok, Err, OnOk}
+use Rattle.std.specs.Prelude.{String}
 use Rattle.std.specs.declared.alloc.Global.{Global}
 use Rattle.json.specs.Token.{Token, string}
 use Rattle.json.specs.Print.{print}
@@ -39,8 +39,3 @@ one_more names i name {start} taken before adds =
 -- the text of a writer that began with nothing
 pub whole_text : (before bytes : List ℕ) (ts us : List Token) → before ≡ [] → ts ≡ us → bytes ≡ before ++ print ts → bytes ≡ print us
 whole_text before bytes ts us none are is = is ∙ ap (λ xs. xs ++ print ts) none ∙ ap print are
-
--- what follows from an Ok
-pub on_ok : {E P Q : Type 0} (r : Result (Unit {0}) E) → OnOk r P → (P → Q) → OnOk r Q
-on_ok (Ok u) p f = f p
-on_ok (Err e) p f = tt

@@ -15,17 +15,20 @@ text_tokens name (Some s) = key name ∷ string s ∷ []
 abbrev pub path_tokens : List Text → List Token
 path_tokens path = (key (codes "path") ∷ []) ++ ((begin_array ∷ []) ++ (map string path ++ end_array ∷ []))
 
--- the tokens of a finding: an object with its members in the order of their keys
-abbrev pub line_tokens : Option Text → GeoFinding → List Token
-line_tokens file f =
+-- the tokens of a finding with a path: an object with its members in the order of their keys
+abbrev pub finding_tokens : Option Text → GeoFinding → List Text → List Token
+finding_tokens file f path =
     (begin_object ∷ [])
     ++ (text_tokens (codes "check") (Some (code_of f.check))
     ++ (text_tokens (codes "column") (option_map string_bytes f.column)
     ++ (text_tokens (codes "file") file
     ++ (text_tokens (codes "message") (Some (message_of f.check))
     ++ ((key (codes "ok") ∷ boolean f.ok ∷ [])
-    ++ (path_tokens (path_of f.check (option_map string_bytes f.column))
+    ++ (path_tokens path
     ++ end_object ∷ []))))))
+
+abbrev pub line_tokens : Option Text → GeoFinding → List Token
+line_tokens file f = finding_tokens file f (path_of f.check (option_map string_bytes f.column))
 
 abbrev pub line_text : Option Text → GeoFinding → Text
 line_text file f = print (line_tokens file f)

@@ -3,7 +3,7 @@ ghost use Rattle.std.specs.Prelude.{◌≡◌, ◌∷◌, [], ◌++◌, IfOk, On
 ghost use Rattle.json.specs.Token.{key, string, boolean};
 ghost use Rattle.arrow_values.specs.Texts.{text_of};
 ghost use Rattle.value_tokens.specs.Adds.{Adds};
-ghost use Rattle.geo_reports.specs.Lines.{text_tokens, path_tokens, line_text};
+ghost use Rattle.geo_reports.specs.Lines.{text_tokens, path_tokens, finding_tokens, line_text};
 
 use geoparquet::GeoFinding;
 use json::Writer;
@@ -27,15 +27,27 @@ pub fn check_line(
 {
     let path = finding.path(alloc)?;
     let mut out = Writer::new(Vec::new(alloc));
-    out.begin_object()?;
-    put_text(&mut out, "check", Some(finding.check.code()))?;
-    put_text(&mut out, "column", column_of(finding))?;
-    put_text(&mut out, "file", file)?;
-    put_text(&mut out, "message", Some(finding.check.message()))?;
-    put_ok(&mut out, finding.ok)?;
-    put_path(&mut out, path.as_slice())?;
-    out.end_object()?;
+    put_finding(&mut out, file, finding, path.as_slice())?;
     Ok(unsafe { String::from_utf8_unchecked(out.into_inner()) })
+}
+
+// Writes the object of a finding with that path.
+fn put_finding(
+    out: &mut Writer,
+    file: Option<&str>,
+    finding: &GeoFinding,
+    path: &[String],
+) -> Result<(), AllocError>
+    ensures { OnOk result (Adds (finding_tokens (text_of file.entry) finding.now (map string_bytes path.now)) out.old out.new) }
+{
+    out.begin_object()?;
+    put_text(out, "check", Some(finding.check.code()))?;
+    put_text(out, "column", column_of(finding))?;
+    put_text(out, "file", file)?;
+    put_text(out, "message", Some(finding.check.message()))?;
+    put_ok(out, finding.ok)?;
+    put_path(out, path)?;
+    out.end_object()
 }
 
 // The column that a finding is on.

@@ -1,7 +1,8 @@
 //! The warning of a file that has columns of geometries, and no metadata of GeoParquet.
-ghost use Rattle.std.specs.Prelude.{◌≡◌, IfOk, string_bytes};
+ghost use Rattle.std.specs.Prelude.{◌≡◌, IfOk, OnOk, string_bytes};
 ghost use Rattle.arrow_values.specs.Texts.{text_of};
-ghost use Rattle.geo_reports.specs.Warnings.{no_geo_code, no_geo_message, no_geo_text};
+ghost use Rattle.value_tokens.specs.Adds.{Adds};
+ghost use Rattle.geo_reports.specs.Warnings.{no_geo_code, no_geo_message, no_geo_tokens, no_geo_text};
 
 use crate::line::put_text;
 use json::Writer;
@@ -34,10 +35,17 @@ pub fn no_geo_line(alloc: Global, file: Option<&str>) -> Result<String, AllocErr
     ensures { IfOk result (λ line. string_bytes line ≡ no_geo_text (text_of file.entry)) }
 {
     let mut out = Writer::new(Vec::new(alloc));
-    out.begin_object()?;
-    put_text(&mut out, "file", file)?;
-    put_text(&mut out, "message", Some(no_geo_message()))?;
-    put_text(&mut out, "warning", Some(no_geo_code()))?;
-    out.end_object()?;
+    put_warning(&mut out, file)?;
     Ok(unsafe { String::from_utf8_unchecked(out.into_inner()) })
+}
+
+// Writes the object of the warning.
+fn put_warning(out: &mut Writer, file: Option<&str>) -> Result<(), AllocError>
+    ensures { OnOk result (Adds (no_geo_tokens (text_of file.entry)) out.old out.new) }
+{
+    out.begin_object()?;
+    put_text(out, "file", file)?;
+    put_text(out, "message", Some(no_geo_message()))?;
+    put_text(out, "warning", Some(no_geo_code()))?;
+    out.end_object()
 }

@@ -1,9 +1,9 @@
 //! The checks, one after another.
-ghost use Rattle.std.specs.Prelude.{◌≡◌, ◌++◌, IfOk, OnOk, Some, None, map};
+ghost use Rattle.std.specs.Prelude.{◌≡◌, [], ◌++◌, IfOk, OnOk, Some, None, map};
 ghost use Rattle.serde_json.specs.View.{view};
 ghost use Rattle.arrow_columns.specs.Column.{column_tree};
 ghost use Rattle.arrow_values.specs.Texts.{text_of};
-ghost use Rattle.geoparquet.specs.Checks.{checks_of_all, checks_of_column, Holds, answer_of, given, AreHeld, AreFindings};
+ghost use Rattle.geoparquet.specs.Checks.{checks_of_all, checks_of_column, places_in, Holds, answer_of, given, AreHeld, AreAnswers, AreFindings};
 
 use crate::crs::crs_agree;
 use crate::encoding::{are_types, is_encoding};
@@ -46,16 +46,30 @@ pub fn check_geo(
     let value = value_of(alloc, geo)?;
     let names = ColumnNames::new(alloc, columns)?;
     let mut findings = Vec::new(alloc);
-    add_findings(alloc, &mut findings, None, &checks_of_all(&value, &names))?;
-    let Some(members) = columns_in(&value) else {
-        return Ok(findings);
+    add_all(alloc, &mut findings, &value, &names)?;
+    Ok(findings)
+}
+
+/// Adds the findings of all checks to none. Errs only when out of memory.
+fn add_all(
+    alloc: Global,
+    findings: &mut Vec<GeoFinding>,
+    value: &Value,
+    columns: &ColumnNames<'_>,
+) -> Result<(), AllocError>
+    requires { findings.now.items ≡ [] }
+    ensures { OnOk result (AreAnswers (view value.now) (map column_tree columns.now) (places_in (view value.now)) (map answer_of findings.new.items)) }
+{
+    add_findings(alloc, findings, None, &checks_of_all(value, columns))?;
+    let Some(members) = columns_in(value) else {
+        return Ok(());
     };
     for (key, _member) in members.iter() {
         let key = key.as_str();
-        let of_column = checks_of_column(alloc, &value, &names, key)?;
-        add_findings(alloc, &mut findings, Some(key), &of_column)?;
+        let of_column = checks_of_column(alloc, value, columns, key)?;
+        add_findings(alloc, findings, Some(key), &of_column)?;
     }
-    Ok(findings)
+    Ok(())
 }
 
 /// What holds of all the metadata.

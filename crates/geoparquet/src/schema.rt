@@ -44,7 +44,10 @@ pub(crate) fn is_primary(value: &Value) -> bool
 pub(crate) fn own_metadata(alloc: Global, column: Option<&Column>) -> Result<Value, AllocError>
     ensures { IfOk result (λ value. view value ≡ own_metadata (option_map (λ c. column_tree c.now) column.entry)) }
 {
-    match column.and_then(Column::extension_type_metadata) {
+    let Some(column) = column else {
+        return Ok(Value::Null);
+    };
+    match column.extension_type_metadata() {
         Some(text) => value_of(alloc, text),
         None => Ok(Value::Null),
     }

@@ -51,7 +51,10 @@ pub fn member_of_column<'v>(value: &'v Value, name: &str) -> Option<&'v Value>
 pub(crate) fn present_at<'v>(value: &'v Value, key: &str) -> Option<&'v Value>
     ensures { option_map (λ v. view v.now) result ≡ at_key key.now (view value.now) }
 {
-    value.get(key).filter(|found| !found.is_null())
+    match value.get(key) {
+        Some(Value::Null) => None,
+        found => found,
+    }
 }
 
 /// The members of `columns`, where it is an object.
@@ -79,7 +82,10 @@ pub fn text_in(value: Option<&Value>) -> Option<&str>
 pub(crate) fn copied(alloc: Global, text: Option<&str>) -> Result<Option<String>, AllocError>
     ensures { IfOk result (λ copy. option_map string_bytes copy ≡ text_of text.entry) }
 {
-    text.map(|text| String::from_str(alloc, text)).transpose()
+    match text {
+        Some(text) => Ok(Some(String::from_str(alloc, text)?)),
+        None => Ok(None),
+    }
 }
 
 /// Whether `crs` is absent, null or an object.

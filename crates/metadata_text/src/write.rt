@@ -35,13 +35,27 @@ pub fn metadata_text(
     ensures reads { IfOk result (λ text. (d : Data) → IsCrs crs.entry d → read (string_bytes text) ≡ Some (metadata_data d crs_type edges)) }
 {
     let mut out = Writer::new(Vec::new(alloc));
+    put_metadata(alloc, crs, crs_type, edges, &mut out)?;
+    Ok(unsafe { String::from_utf8_unchecked(out.into_inner()) })
+}
+
+// Writes the object.
+fn put_metadata(
+    alloc: Global,
+    crs: WrittenCrs<'_>,
+    crs_type: Option<CrsType>,
+    edges: Option<Edges>,
+    out: &mut Writer,
+) -> Result<(), AllocError>
+    requires { (d : Data) × IsCrs crs d }
+    ensures { OnOk result (Adds (metadata_tokens (crs_tokens crs.entry) crs_type edges) out.old out.new) }
+{
     out.begin_object()?;
     out.key("crs")?;
-    put_crs(alloc, crs, &mut out)?;
-    put_crs_type(crs_type, &mut out)?;
-    put_edges(edges, &mut out)?;
-    out.end_object()?;
-    Ok(unsafe { String::from_utf8_unchecked(out.into_inner()) })
+    put_crs(alloc, crs, out)?;
+    put_crs_type(crs_type, out)?;
+    put_edges(edges, out)?;
+    out.end_object()
 }
 
 // Writes a CRS.

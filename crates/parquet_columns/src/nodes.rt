@@ -2,7 +2,7 @@
 ghost use Rattle.std.specs.Prelude.{◌≡◌, ◌≢◌, ◌∷◌, [], length, map, IfOk, IfErr};
 ghost use Rattle.arrow_columns.specs.Column.{type_tree, column_tree};
 ghost use Rattle.parquet_columns.specs.Fault.{Says};
-ghost use Rattle.parquet_columns.specs.Nodes.{shape_tree, node_tree, shape_type, plain_column, is_optional, is_repeated, column_by, column_of, one_shape, group_shape, is_item_name, item_by, list_shape, is_group, map_type, map_shape};
+ghost use Rattle.parquet_columns.specs.Nodes.{wrapper, shape_tree, node_tree, shape_type, plain_column, is_optional, is_repeated, column_by, column_of, one_shape, group_shape, is_item_name, item_by, list_shape, is_group, map_type, map_shape};
 
 use crate::fault::{ColumnsError, Fault, Rule};
 use arrow_columns::{
@@ -175,23 +175,30 @@ fn is_item_name(alloc: Global, list: &str, name: &str) -> Result<bool, AllocErro
     Ok(name == "array" || name == tuple.as_str())
 }
 
+/// The item of a LIST of a name, by its repeated element of that name, a group of one element that is not repeated.
+fn wrapped_item(alloc: Global, list: &str, name: &str, column: Column) -> Result<Column, AllocError>
+    ensures { IfOk result (λ made. column_tree made ≡ item_by list.now name.now (wrapper (column_tree column))) }
+{
+    if !is_item_name(alloc, list, name)? {
+        return Ok(column);
+    }
+    let data_type = shape_type(alloc, Shape::Wrapper(column))?;
+    plain_column(alloc, name, false, data_type)
+}
+
 /// The item of a LIST of a name, by its repeated element.
 fn item_by(alloc: Global, list: &str, node: Node<'_>) -> Result<Column, AllocError>
     ensures { IfOk result (λ made. column_tree made ≡ item_by list.now (node_tree node.entry).name (node_tree node.entry).shape) }
 {
     let Node { name, shape, .. } = node;
-    let data_type = match shape {
-        Shape::Wrapper(column) => {
-            if !is_item_name(alloc, list, name)? {
-                return Ok(column);
-            }
-            let columns = vec![in alloc; column]?;
-            struct_type(alloc, columns)?
+    match shape {
+        Shape::Wrapper(column) => wrapped_item(alloc, list, name, column),
+        Shape::Typed(data_type) => plain_column(alloc, name, false, data_type),
+        Shape::Group(columns) => {
+            let data_type = struct_type(alloc, columns)?;
+            plain_column(alloc, name, false, data_type)
         }
-        Shape::Typed(data_type) => data_type,
-        Shape::Group(columns) => struct_type(alloc, columns)?,
-    };
-    plain_column(alloc, name, false, data_type)
+    }
 }
 
 /// What a LIST stands for, by the elements below it; it is the one with that index.

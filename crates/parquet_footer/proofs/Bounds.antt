@@ -5,8 +5,8 @@ use Rattle.parquet_footer.specs.declared.logical.TimeUnit.{TimeUnit}
 use Rattle.parquet_footer.specs.Fault.{needed, ◌>>=◌}
 use Rattle.parquet_footer.specs.Wire.{byte_at, number_at, number_past, count_at, bytes_past, binary_at, text_at, list_at, map_at, field_at}
 use Rattle.parquet_footer.specs.Fields.{Spot, noted, noting, pair_at, value_of, number_in, named, name_in, text_in, flag_in, structs_in}
-use Rattle.parquet_footer.specs.Logical.{Logical, time, timestamp, algorithms, union_at, unit_of, unit_in, clock_at, width_in, integer_at, geometry_at, geography_at, member_at, logical_at, logical_in}
-use Rattle.parquet_footer.specs.Element.{physical_types, repetitions, storage_at, element_at}
+use Rattle.parquet_footer.specs.Logical.{Logical, time, timestamp, algorithms, union_at, unit_of, unit_in, clock_at, clock, width_in, integer_at, geometry_at, geography_at, member_at, logical_at, logical_in}
+use Rattle.parquet_footer.specs.Element.{physical_types, repetitions, storage_at, numbers_at, element_at}
 use Rattle.parquet_footer.specs.Footer.{all_at, key_value_at, footer_at}
 use Rattle.parquet_footer.specs.Skip.{fields_at, items_past, plain_past, over, struct_past, pair_past, nested_past, value_past}
 
@@ -230,10 +230,13 @@ module _ (n : ℕ) (bytes : List ℕ) (h : length bytes ≤ n) where
   unit_in_within p f = step (λ p. length p.1 ≤ n) _ n _ _ (place_within n bytes p h f) (λ p k. step (λ x. length x ≤ n) _ n _ _ (value_of_within n 12 p k) (λ x l.
       step (λ x. length x.1.1 ≤ n) _ n _ _ (union_within n x l) (λ u _. unit_within n x l u.0)))
 
-  pub clock_within : (says : Bool → TimeUnit → Logical) → Within (λ x. Unit {0}) n (clock_at says bytes)
-  clock_within says = step (λ x. FoundBoth n x.0 × (length x.1 ≤ n)) _ n _ _ (pair_within n 1 2 bytes h) (λ found k.
+  pub clock_at_within : Within (λ x. Unit {0}) n (clock_at bytes)
+  clock_at_within = step (λ x. FoundBoth n x.0 × (length x.1 ≤ n)) _ n _ _ (pair_within n 1 2 bytes h) (λ found k.
       step (λ x. Unit {0}) _ n _ _ (flag_within n bytes h found.0.0 k.0.0) (λ utc _.
       step (λ x. Unit {0}) _ n _ _ (unit_in_within found.0.1 k.0.1) (λ unit _. reads _ n _ tt)))
+
+  pub clock_within : (says : Bool → TimeUnit → Logical) → Within (λ x. Unit {0}) n (clock says bytes)
+  clock_within says = step (λ x. Unit {0}) _ n _ _ clock_at_within (λ found _. reads _ n _ tt)
 
   pub integer_within : Within (λ x. Unit {0}) n (integer_at bytes)
   integer_within = step (λ x. FoundBoth n x.0 × (length x.1 ≤ n)) _ n _ _ (pair_within n 1 2 bytes h) (λ found k.
@@ -258,16 +261,17 @@ logical_in_within n None f = reads _ n _ tt
 logical_in_within n (Some p) f = step (λ x. length x ≤ n) _ n _ _ (value_of_within n 12 p f) (λ x k. step (λ x. Unit {0}) _ n _ _ (logical_within n x k) (λ says _. reads _ n _ tt))
 
 module _ (n : ℕ) (bytes : List ℕ) (h : length bytes ≤ n) where
+  numbers_within : (one other : ℕ) → Within (λ x. Unit {0}) n (numbers_at one other bytes)
+  numbers_within one other = step (λ x. FoundBoth n x.0 × (length x.1 ≤ n)) _ n _ _ (pair_within n one other bytes h) (λ found k.
+      step (λ x. Unit {0}) _ n _ _ (number_in_within n found.0.0 k.0.0) (λ first _.
+      step (λ x. Unit {0}) _ n _ _ (number_in_within n found.0.1 k.0.1) (λ second _. reads _ n _ tt)))
+
   pub element_within : Within (λ x. length x.1 ≤ n) n (element_at bytes)
   element_within = step (λ x. Unit {0}) _ n _ _ (storage_within n bytes h) (λ storage _.
-      step (λ x. FoundBoth n x.0 × (length x.1 ≤ n)) _ n _ _ (pair_within n 5 6 bytes h) (λ one k.
-      step (λ x. Unit {0}) _ n _ _ (number_in_within n one.0.0 k.0.0) (λ num_children _.
-      step (λ x. Unit {0}) _ n _ _ (number_in_within n one.0.1 k.0.1) (λ converted_type _.
-      step (λ x. FoundBoth n x.0 × (length x.1 ≤ n)) _ n _ _ (pair_within n 7 8 bytes h) (λ two l.
-      step (λ x. Unit {0}) _ n _ _ (number_in_within n two.0.0 l.0.0) (λ scale _.
-      step (λ x. Unit {0}) _ n _ _ (number_in_within n two.0.1 l.0.1) (λ precision _.
-      step (λ x. FoundBoth n x.0 × (length x.1 ≤ n)) _ n _ _ (pair_within n 10 10 bytes h) (λ last m.
-      step (λ x. Unit {0}) _ n _ _ (logical_in_within n last.0.0 m.0.0) (λ logical_type _. reads _ n _ m.1)))))))))
+      step (λ x. Unit {0}) _ n _ _ (numbers_within 5 6) (λ one _.
+      step (λ x. Unit {0}) _ n _ _ (numbers_within 7 8) (λ two _.
+      step (λ x. FoundBoth n x.0 × (length x.1 ≤ n)) _ n _ _ (pair_within n 10 10 bytes h) (λ last k.
+      step (λ x. Unit {0}) _ n _ _ (logical_in_within n last.0.0 k.0.0) (λ logical_type _. reads _ n _ k.1)))))
 
   pub key_value_within : Within (λ x. length x.1 ≤ n) n (key_value_at bytes)
   key_value_within = step (λ x. FoundBoth n x.0 × (length x.1 ≤ n)) _ n _ _ (pair_within n 1 2 bytes h) (λ found k.

@@ -38,6 +38,14 @@ storage_at bytes = do
   name ← needed bytes text
   Ok (record { physical_type = physical_type; type_length = type_length; repetition = repetition; name = name })
 
+-- the numbers in two fields, by their ids, where they are there
+abbrev pub numbers_at : ℕ → ℕ → List ℕ → Result (Option ℕ × Option ℕ) Fault
+numbers_at one other bytes = do
+  found ← pair_at one other bytes
+  first ← number_in found.0.0
+  second ← number_in found.0.1
+  Ok (first, second)
+
 pub record Element : Type 0 where
   pub storage : Stored
   pub num_children : Option ℕ
@@ -53,12 +61,8 @@ element e = record { storage = stored e.storage; num_children = e.num_children; 
 abbrev pub element_at : List ℕ → Result (Element × List ℕ) Fault
 element_at bytes = do
   storage ← storage_at bytes
-  one ← pair_at 5 6 bytes
-  num_children ← number_in one.0.0
-  converted_type ← number_in one.0.1
-  two ← pair_at 7 8 bytes
-  scale ← number_in two.0.0
-  precision ← number_in two.0.1
+  one ← numbers_at 5 6 bytes
+  two ← numbers_at 7 8 bytes
   last ← pair_at 10 10 bytes
   logical_type ← logical_in last.0.0
-  Ok (record { storage = storage; num_children = num_children; converted_type = converted_type; scale = scale; precision = precision; logical_type = logical_type }, last.1)
+  Ok (record { storage = storage; num_children = one.0; converted_type = one.1; scale = two.0; precision = two.1; logical_type = logical_type }, last.1)

@@ -66,12 +66,17 @@ width_in bytes place = do
   Ok width.0
 
 -- TIME and TIMESTAMP: 1 isAdjustedToUTC, 2 unit
-abbrev pub clock_at : (Bool → TimeUnit → Logical) → List ℕ → Result Logical Fault
-clock_at says bytes = do
+abbrev pub clock_at : List ℕ → Result (Bool × TimeUnit) Fault
+clock_at bytes = do
   found ← pair_at 1 2 bytes
   utc ← flag_in bytes found.0.0
   unit ← unit_in bytes found.0.1
-  Ok (says utc unit)
+  Ok (utc, unit)
+
+abbrev pub clock : (Bool → TimeUnit → Logical) → List ℕ → Result Logical Fault
+clock says bytes = do
+  found ← clock_at bytes
+  Ok (says found.0 found.1)
 
 -- INTEGER: 1 bitWidth, 2 isSigned
 abbrev pub integer_at : List ℕ → Result Logical Fault
@@ -99,8 +104,8 @@ geography_at bytes = do
 -- the struct of a member, by its id
 unfoldable pub member_at : ℕ → List ℕ → Result Logical Fault
 member_at id bytes =
-    if id == 7 then clock_at time bytes else
-    if id == 8 then clock_at timestamp bytes else
+    if id == 7 then clock time bytes else
+    if id == 8 then clock timestamp bytes else
     if id == 10 then integer_at bytes else
     if id == 17 then geometry_at bytes else
     if id == 18 then geography_at bytes else Ok (other id)

@@ -1,6 +1,7 @@
 //! An element of the schema: a leaf or a group.
+ghost use Rattle.std.specs.Prelude.{◌≡◌};
 ghost use Rattle.parquet_footer.specs.Fault.{Returns};
-ghost use Rattle.parquet_footer.specs.Element.{stored, storage_at, element, element_at};
+ghost use Rattle.parquet_footer.specs.Element.{stored, storage_at, numbers_at, element, element_at};
 
 use crate::fault::{Fault, Rule, broken};
 use crate::fields::{name_in, number_in, pair_at, text_in};
@@ -105,17 +106,21 @@ fn storage_at(bytes: &[u8]) -> Result<Storage<'_>, Fault>
     })
 }
 
+/// The numbers in two fields of an element, by their ids, where they are there.
+fn numbers_at(bytes: &[u8], one: u16, other: u16) -> Result<(Option<u32>, Option<u32>), Fault>
+    ensures { result ≡ numbers_at one other bytes.now }
+{
+    let (first, second, _rest) = pair_at(bytes, one, other)?;
+    Ok((number_in(first)?, number_in(second)?))
+}
+
 /// An element, and the bytes behind it.
 pub fn element_at(bytes: &[u8]) -> Result<(SchemaElement<'_>, &[u8]), Fault>
     ensures { Returns (λ x. (element x.0, x.1.now)) result (element_at bytes.now) }
 {
     let storage = storage_at(bytes)?;
-    let (children, converted, _rest) = pair_at(bytes, 5, 6)?;
-    let num_children = number_in(children)?;
-    let converted_type = number_in(converted)?;
-    let (scale, precision, _rest) = pair_at(bytes, 7, 8)?;
-    let scale = number_in(scale)?;
-    let precision = number_in(precision)?;
+    let (num_children, converted_type) = numbers_at(bytes, 5, 6)?;
+    let (scale, precision) = numbers_at(bytes, 7, 8)?;
     let (logical, _same, rest) = pair_at(bytes, 10, 10)?;
     let element = SchemaElement {
         storage,

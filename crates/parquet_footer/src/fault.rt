@@ -33,7 +33,7 @@ pub enum Rule {
 }
 
 /// A rule that is broken, and how many bytes are left there.
-#[derive(Debug, Clone, Copy)]
+#[derive(Clone, Copy)]
 pub struct Fault {
     /// How many bytes are left where it is broken.
     pub left: usize,
@@ -63,7 +63,7 @@ pub fn ensure(is_kept: bool, rule: Rule, bytes: &[u8]) -> Result<(), Fault>
 }
 
 /// Why a call that allocates gives nothing.
-#[derive(Debug, Clone, Copy)]
+#[derive(Clone, Copy)]
 pub enum Stop {
     /// A rule is broken.
     Fault(Fault),

@@ -8,7 +8,7 @@ use crate::skip::{LEVELS, value_past};
 use crate::wire::{count_at, field_at, list_at, text_at};
 
 /// The type of a value, and the bytes that it begins.
-#[derive(Debug, Clone, Copy)]
+#[derive(Clone, Copy)]
 pub struct Place<'a> {
     /// The type, as the compact protocol numbers it.
     pub kind: u8,
@@ -64,8 +64,11 @@ pub fn value_of(kind: u8, place: Place<'_>) -> Result<&[u8], Fault>
 pub fn number_in(place: Found<'_>) -> Result<Option<u32>, Fault>
     ensures { result ≡ number_in (spots place.entry) }
 {
-    let number = |place| Ok(count_at(value_of(5, place)?)?.0);
-    place.map(number).transpose()
+    let Some(place) = place else {
+        return Ok(None);
+    };
+    let (number, _rest) = count_at(value_of(5, place)?)?;
+    Ok(Some(number))
 }
 
 /// The name that the number in a field denotes, where it is there: the names stand in the order of their numbers, from 0 on.
@@ -75,9 +78,10 @@ pub fn name_in<T: Copy>(names: &[T], place: Found<'_>, bytes: &[u8]) -> Result<O
     let Some(number) = number_in(place)? else {
         return Ok(None);
     };
-    let name = names.get(number as usize).copied();
-    ensure(name.is_some(), Rule::Name, bytes)?;
-    Ok(name)
+    match names.get(number as usize) {
+        Some(name) => Ok(Some(*name)),
+        None => Err(broken(Rule::Name, bytes)),
+    }
 }
 
 /// The text in a field, where it is there.

@@ -3,7 +3,7 @@
 ghost use Rattle.std.specs.Prelude.{◌≡◌, option_map};
 ghost use Rattle.parquet_footer.specs.Fault.{Returns};
 ghost use Rattle.parquet_footer.specs.Fields.{spot, spots};
-ghost use Rattle.parquet_footer.specs.Logical.{logical, union_at, unit_in, width_in, logical_at, logical_in};
+ghost use Rattle.parquet_footer.specs.Logical.{logical, union_at, unit_in, width_in, clock_at, logical_at, logical_in};
 
 use crate::fault::{Fault, Rule, broken, ensure};
 use crate::fields::{Found, Place, flag_in, name_in, pair_at, text_in, value_of};
@@ -97,6 +97,14 @@ fn union_at(bytes: &[u8]) -> Result<(u16, Place<'_>), Fault>
     Ok((id, Place { kind, bytes: value }))
 }
 
+/// What TIME and TIMESTAMP say: whether they are adjusted to UTC, and their unit.
+fn clock_at(bytes: &[u8]) -> Result<(bool, TimeUnit), Fault>
+    ensures { result ≡ clock_at bytes.now }
+{
+    let (utc, unit, _rest) = pair_at(bytes, 1, 2)?;
+    Ok((flag_in(bytes, utc)?, unit_in(bytes, unit)?))
+}
+
 /// What a logical type says, by the id of the union's member.
 #[tactic(auto, unfolding(crate::specs::Logical::logical_at, crate::specs::Logical::member_at))]
 fn logical_at(bytes: &[u8]) -> Result<LogicalType<'_>, Fault>
@@ -106,12 +114,12 @@ fn logical_at(bytes: &[u8]) -> Result<LogicalType<'_>, Fault>
     let bytes = value_of(12, member)?;
     match id {
         7 => {
-            let (utc, unit, _rest) = pair_at(bytes, 1, 2)?;
-            Ok(LogicalType::Time(flag_in(bytes, utc)?, unit_in(bytes, unit)?))
+            let (utc, unit) = clock_at(bytes)?;
+            Ok(LogicalType::Time(utc, unit))
         }
         8 => {
-            let (utc, unit, _rest) = pair_at(bytes, 1, 2)?;
-            Ok(LogicalType::Timestamp(flag_in(bytes, utc)?, unit_in(bytes, unit)?))
+            let (utc, unit) = clock_at(bytes)?;
+            Ok(LogicalType::Timestamp(utc, unit))
         }
         10 => {
             let (width, signed, _rest) = pair_at(bytes, 1, 2)?;

@@ -87,7 +87,10 @@ pub fn text_at(bytes: &[u8]) -> Result<&str, Fault>
     ensures { Returns (λ x. x.now) result (text_at bytes.now) }
 {
     let (text, _rest) = binary_at(bytes)?;
-    str::from_utf8(text).map_err(|_| broken(Rule::Utf8, bytes))
+    match str::from_utf8(text) {
+        Ok(text) => Ok(text),
+        Err(_) => Err(broken(Rule::Utf8, bytes)),
+    }
 }
 
 /// The type of an item, by the type in the head of its list or map.

@@ -7,16 +7,14 @@ use Rattle.arrow_columns.specs.Column.{column_tree}
 use Rattle.column_check.specs.States.{geometry_in}
 use Rattle.value_tokens.specs.Adds.{sent}
 use Rattle.column_reports.specs.Parts.{member_if, on_one_line}
-use Rattle.column_reports.specs.Report.{string_if, crs_of, crs_type_of, edges_of, type_word, state_word, members_of}
-use Rattle.column_reports.specs.Warnings.{warnings_in}
-use Rattle.column_reports.specs.Appended.{text_up_to_next, with_commas, ends_behind}
-use Rattle.column_reports.proofs.Adding.{opens, then, line_begun, goes_on, more, still, ends_at, for}
+use Rattle.column_reports.specs.Report.{string_if, crs_of, type_word, names_of, found_of, members_of}
+use Rattle.column_reports.specs.Appended.{text_up_to_next, with_commas}
+use Rattle.column_reports.proofs.Adding.{opens, then, line_begun, goes_on, more, ends_at, for}
 use Rattle.column_reports.proofs.line.json_line.Goals as goal
 
 pub from_utf8_unchecked-requires : goal.from_utf8_unchecked-requires
 from_utf8_unchecked-requires c =
-    let rest = then c.in_ok-put_text_if.ensures (then c.in_ok-put_text_if-2.ensures (then c.in_ok-put_text_if-3.ensures (then c.in_ok-put_text_if-4.ensures (then c.in_ok-put_number.ensures
-    (then c.in_ok-put_reasons.ensures (then c.in_ok-put_text-2.ensures (then c.in_ok-put_text-3.ensures c.in_ok-put_warnings.ensures))))))) in
+    let rest = then c.in_ok-put_names.ensures c.in_ok-put_found.ensures in
     let before = subst IsUtf8 (sym ((sent c.in_ok-end_object.ensures).before ∙ rest.before)) c.in_ok-out.ensures.utf8 in
     subst IsUtf8 (sym c.into_inner.ensures.items) (IsUtf8-append _ _ before c.into_inner.ensures.utf8)
 
@@ -31,14 +29,9 @@ returns c =
     let crs_text = λ (s : Option Text). member_if (codes "crs") (option_map on_one_line s) in
     let crs_is : text_of c.crs_of.result ≡ crs_of (geometry_in f) given = c.crs_of.ensures ∙ ap (λ g. crs_of g given) found in
     let crs = c.in_ok-out.ensures.text ∙ ap (λ s. text_up_to_next c.put_text.new.out ++ with_commas (crs_text s)) crs_is in
-    let crs_type = for (string_if (codes "crs_type")) c.in_ok-put_text_if.ensures (c.crs_type_of.ensures ∙ ap crs_type_of found) in
-    let edges = for (string_if (codes "edges")) c.in_ok-put_text_if-2.ensures (c.edges_of.ensures ∙ ap edges_of found) in
-    let extension = for (string_if (codes "extension")) c.in_ok-put_text_if-3.ensures c.extension_type_name.ensures in
-    let state = for (λ s. string_if (codes "state") (Some s)) c.in_ok-put_text-2.ensures c.state_word.ensures in
-    let kind = for (λ s. string_if (codes "type") (Some s)) c.in_ok-put_text-3.ensures (c.as_str-2.ensures.value ∙ c.in_ok-type_word.ensures ∙ ap (type_word tree) found) in
+    let names = for (names_of (text_of c.args.file) tree) c.in_ok-put_names.ensures found in
+    let word = c.as_str-2.ensures.value ∙ c.in_ok-type_word.ensures ∙ ap (type_word tree) found in
+    let rest = for (λ s. found_of c.args.index f s c.args.warnings.now) c.in_ok-put_found.ensures word in
     let up_to_crs = goes_on (more begun column) (crs_text (crs_of (geometry_in f) given)) c.in_ok-out.out crs in
-    let warned = c.in_ok-put_warnings.ensures in
-    let all = more (more (more (more (more (more (more (more (more up_to_crs crs_type) edges) extension) c.in_ok-put_text_if-4.ensures) c.in_ok-put_number.ensures) c.in_ok-put_reasons.ensures) state) kind) warned in
-    let ended = warned.ended ∙ ap (λ b. ends_behind b (member_if (codes "warnings") (warnings_in c.args.warnings.now))) kind.ended ∙ still _ in
     let members = members_of (text_of c.args.file) c.args.index tree given f c.args.warnings.now in
-    ap (λ v. v.items) c.from_utf8_unchecked.ensures.value ∙ c.into_inner.ensures.items ∙ ends_at (123 ∷ []) members all.text ended (sent c.in_ok-end_object.ensures) refl
+    ap (λ v. v.items) c.from_utf8_unchecked.ensures.value ∙ c.into_inner.ensures.items ∙ ends_at (123 ∷ []) members (more (more up_to_crs names) rest).text rest.ended (sent c.in_ok-end_object.ensures) refl

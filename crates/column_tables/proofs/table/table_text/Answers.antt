@@ -1,7 +1,6 @@
-use Rattle.std.proofs.Common.{◌∷◌, [], ◌++◌, map, flat_map, take, sym, ap, ◌∙◌, append_assoc}
-use Rattle.std.proofs.lemmas.List.{append-nil}
-use Rattle.std.proofs.lemmas.List.Concat.{flat_map-append}
-use Rattle.column_tables.specs.Table.{line_of, line_text, head}
+use Rattle.std.proofs.Common.{◌≡◌, ◌∷◌, ◌++◌, map, flat_map, take, sym, ap, ◌∙◌, arith}
+use Rattle.std.proofs.lemmas.List.{take_all, flat_map_more}
+use Rattle.column_tables.specs.Table.{line_of, line_text, head, rooms_of}
 use Rattle.column_tables.proofs.Rows.{map_more}
 use Rattle.column_tables.proofs.table.table_text.Goals as goal
 
@@ -11,7 +10,14 @@ loop-row-preserved c =
     let rows = c.args.rows.now in
     let f = line_text c.rooms_of-rooms.result in
     let row = line_of c.row-item.result in
-    let done = map line_of (take l.row-index rows) in
-    c.in_ok-push_row-2.ensures ∙ ap (λ s. s ++ f row) l.invariant ∙ append_assoc (f head) (flat_map f done) (f row)
-    ∙ ap (λ s. f head ++ s) (ap (λ s. flat_map f done ++ s) (sym (append-nil (f row))) ∙ sym (flat_map-append f done (row ∷ []))
-    ∙ ap (flat_map f) (sym (map_more line_of rows l.row-index c.row-item.result c.loop-row-test.true c.row-item.is)))
+    c.in_ok-push_row-2.ensures ∙ ap (λ s. s ++ f row) l.invariant ∙ flat_map_more f (f head) (map line_of (take l.row-index rows)) row
+    ∙ ap (λ ls. f head ++ flat_map f ls) (sym (map_more line_of rows l.row-index c.row-item.result c.loop-row-test.true c.row-item.is))
+
+pub returns : goal.returns
+returns c =
+    let l = c.loop-row in
+    let rows = c.args.rows.now in
+    let f = line_text c.rooms_of-rooms.result in
+    let lines = map line_of rows in
+    let rooms : c.rooms_of-rooms.result ≡ rooms_of (head ∷ lines) = c.rooms_of-rooms.ensures ∙ ap (λ h. rooms_of (h ∷ lines)) c.in_ok-head.ensures in
+    l.invariant ∙ ap (λ rs. f head ++ flat_map f (map line_of rs)) (take_all l.row-index rows (omega arith)) ∙ ap (λ r. line_text r head ++ flat_map (line_text r) lines) rooms

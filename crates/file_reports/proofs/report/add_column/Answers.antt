@@ -1,19 +1,14 @@
-use Rattle.std.proofs.Common.{[], ◌∷◌, ◌++◌, ap, ◌∙◌, append_assoc, string_bytes, rules}
-use Rattle.file_reports.specs.Report.{line_feed}
+use Rattle.std.proofs.Common.{string_bytes, rules}
 use Rattle.file_reports.proofs.report.add_column.Goals as goal
 
 pub returns : goal.returns
-returns c =
-    let line = string_bytes c.in_ok-line.line in
-    let old = string_bytes c.args.report.now.lines in
-    let one = rw c.as_str.ensures.value at c.in_ok-push_str.ensures.bytes in
-    let two = c.in_ok-push_str-2.ensures.bytes in (
-      c.in_ok-finding.finding,
-      line,
-      c.in_ok-finding.ensures,
-      c.in_ok-line.ensures,
-      two ∙ ap (λ t. t ++ (line_feed ∷ [])) one ∙ append_assoc old line (line_feed ∷ []),
-      search rules,
-      search rules,
-      search rules,
-    )
+returns c = (
+  c.in_ok-finding.finding,
+  string_bytes c.in_ok-line.line,
+  c.in_ok-finding.ensures,
+  c.in_ok-line.ensures,
+  rw c.as_str.ensures.value at c.in_ok-push_line.ensures,
+  search rules,
+  search rules,
+  search rules,
+)

@@ -1,14 +1,11 @@
 use Rattle.std.proofs.Common.{◌++◌, ap, ◌∙◌}
 use Rattle.arrow_values.specs.Texts.{text_of}
-use Rattle.value_tokens.specs.Adds.{sent, then}
 use Rattle.geo_reports.specs.Warnings.{no_geo_tokens}
 use Rattle.geo_reports.proofs.Appending.{whole_text}
 use Rattle.geo_reports.proofs.warning.no_geo_line.Goals as goal
 
 pub returns : goal.returns
 returns c =
-    let message = rw c.no_geo_message.ensures at c.in_ok-put_text-2.ensures in
-    let code = rw c.no_geo_code.ensures at c.in_ok-put_text-3.ensures in
-    let added = then (sent c.in_ok-begin_object.ensures) (then c.in_ok-put_text.ensures (then message (then code (sent c.in_ok-end_object.ensures)))) in
+    let added = c.in_ok-put_warning.ensures in
     let are = added.tokens ∙ ap (λ xs. xs ++ no_geo_tokens (text_of c.args.file)) c.new-out.ensures.tokens in
     ap (λ b. b.items) c.from_utf8_unchecked.ensures.value ∙ whole_text _ _ _ _ (added.before ∙ c.new-out.ensures.before ∙ c.new.ensures.items) are c.into_inner.ensures.items

@@ -1,16 +1,13 @@
 use Rattle.std.proofs.Common.{◌++◌, sym, ap, ◌∙◌}
 use Rattle.json.specs.Lex.{tokens}
 use Rattle.json.specs.Print.{print}
-use Rattle.value_tokens.specs.Adds.{sent, then}
 use Rattle.metadata_text.specs.Written.{crs_tokens, metadata_tokens}
 use Rattle.metadata_text.proofs.ReadBack.{reads, whole_text}
 use Rattle.metadata_text.proofs.write.metadata_text.Goals as goal
 
 pub returns : goal.returns
 returns c =
-    let opened = then (sent c.in_ok-begin_object.ensures) (sent c.in_ok-key.ensures) in
-    let closed = then c.in_ok-put_edges.ensures (sent c.in_ok-end_object.ensures) in
-    let added = then opened (then c.in_ok-put_crs.ensures (then c.in_ok-put_crs_type.ensures closed)) in
+    let added = c.in_ok-put_metadata.ensures in
     let ts = metadata_tokens (crs_tokens c.args.crs) c.args.crs_type c.args.edges in
     let are = added.tokens ∙ ap (λ xs. xs ++ ts) c.new-out.ensures.tokens in
     let text = ap (λ b. b.items) c.from_utf8_unchecked.ensures.value ∙ whole_text _ _ _ _ (added.before ∙ c.new-out.ensures.before ∙ c.new.ensures.items) are c.into_inner.ensures.items in

@@ -1,4 +1,4 @@
-use Rattle.std.proofs.Common.{arith, ◌≡◌, ℕ, ◌++◌, ◌∷◌, [], List, Ok, Err, map, Vec, Global, ◌∙◌}
+use Rattle.std.proofs.Common.{arith, ◌≡◌, ℕ, ◌++◌, ◌∷◌, [], List, Ok, Err, map, Vec, Global, sym, ◌∙◌}
 use Rattle.std.proofs.lemmas.List.{map_push}
 use Rattle.parquet_footer.specs.Element.{Element, element}
 use Rattle.parquet_columns.specs.declared.nodes.Node.{Node}
@@ -27,21 +27,21 @@ read_node-returns-in_err-head t c =
 pub read_node-returns-in_err-below : goal.read_node-returns-in_err-below
 read_node-returns-in_err-below t c =
     let es : List Element = map element c.args.elements.now in
-    let led : head_at es c.args.at ≡ Ok (head_tree c.in_ok-head.head) = grind arith in
+    let led : head_at es c.args.at ≡ Ok (head_tree c.in_ok-head.head) = sym c.in_ok-head.ensures.is in
     said one (node_at c.args.levels es c.args.at) c.from_residual-in_err-below.result c.in_err-below.field-0.0 (grind arith)
     (nodes_fail es c.args.at (head_tree c.in_ok-head.head) led c.args.levels (omega arith) _ c.children_of-count.ensures several one _ c.in_err-below.ensures)
 
 pub read_node-returns-in_err-node : goal.read_node-returns-in_err-node
 read_node-returns-in_err-node t c =
     let es : List Element = map element c.args.elements.now in
-    let led : head_at es c.args.at ≡ Ok (head_tree c.in_ok-head.head) = grind arith in
+    let led : head_at es c.args.at ≡ Ok (head_tree c.in_ok-head.head) = sym c.in_ok-head.ensures.is in
     said one (node_at c.args.levels es c.args.at) c.from_residual-in_err-node.result c.in_err-node.field-0.0 (grind arith)
     (finish_fails es c.args.at (head_tree c.in_ok-head.head) led c.args.levels (omega arith) _ c.children_of-count.ensures _ c.in_ok-below.ensures node_tree one _ c.in_err-node.ensures)
 
 pub read_node-returns : goal.read_node-returns
 read_node-returns t c =
     let es : List Element = map element c.args.elements.now in
-    let led : head_at es c.args.at ≡ Ok (head_tree c.in_ok-head.head) = grind arith in
+    let led : head_at es c.args.at ≡ Ok (head_tree c.in_ok-head.head) = sym c.in_ok-head.ensures.is in
     is_node es c.args.at (head_tree c.in_ok-head.head) led c.args.levels (omega arith) _ c.children_of-count.ensures _ c.in_ok-below.ensures _ c.in_ok-node.ensures
 
 pub read_nodes-returns-in_err-node : goal.read_nodes-returns-in_err-node
