@@ -1,4 +1,3 @@
 mod Told
 mod Linked
-mod Made
-mod Tables
+mod Blocks

@@ -1,16 +1,16 @@
 -- What is read at a place of a message from the bytes that stand there, and what stands in a block of linked blocks: its number, its
 -- offsets with the blocks to which they lead, its other bytes, and where it is a table, its slots.
-use Rattle.std.proofs.Common.{◌≡◌, ℕ, zero, suc, ◌+◌, ◌*◌, ◌-◌, ◌^◌, ◌%◌, ◌<◌, ◌≤◌, true, false, ◌++◌, ◌∷◌, [], List, length, take, drop, Some, Ok, refl, sym, ap, ◌∙◌, arith, slice_get, nat_lt, ◌==◌, Bool, replicate, Option, None, Result, subst, append_assoc, if◌then◌else◌, map, Vec, Global}
-use Rattle.std.specs.Int.{w16, w32, to_le_bytes, from_le_bytes}
+use Rattle.std.proofs.Common.{get_or, ◌≡◌, ℕ, zero, suc, ◌+◌, ◌*◌, ◌-◌, ◌^◌, ◌%◌, ◌<◌, ◌≤◌, true, false, ◌++◌, ◌∷◌, [], List, length, take, drop, Some, Ok, refl, sym, ap, ◌∙◌, arith, nat_lt, ◌==◌, Bool, replicate, Option, None, Result, subst, append_assoc, if◌then◌else◌, map, Vec, Global}
+use Rattle.std.specs.Int.{w8, w16, w32, to_le_bytes, from_le_bytes}
 use Rattle.std.specs.Str.{is_utf8}
 use Rattle.std.specs.List.{concat}
 use Rattle.std.proofs.lemmas.Nat.{from_le_bytes-to_le_bytes_4}
-use Rattle.std.proofs.lemmas.List.{length-drop, drop-drop, drop_at, take_at, take_all, length-append, length-replicate, length-map}
+use Rattle.std.proofs.lemmas.List.{get_or_past, length-drop, drop-drop, drop_at, take_at, take_all, length-append, length-replicate, length-map}
 use Rattle.std.proofs.lemmas.Bool.{lt-ltb, le-ltb, le-leb, ltb-true, ltb-false, eq-eqb}
 use Rattle.std.proofs.lemmas.Bool.Decides.{nat_tests}
 use Rattle.std.proofs.lemmas.Str.{IsUtf8-from_is_utf8, is_utf8-from_IsUtf8}
 use Rattle.arrow_ipc.specs.Fault.{◌>>=◌}
-use Rattle.arrow_ipc.specs.Wire.{u8_at, u16_at, u32_at, ahead, vtable_at, target_at, text_at, utf8_at, vector_at, opened_at, slot_at}
+use Rattle.arrow_ipc.specs.Wire.{integer_at, ahead, vtable_at, target_at, text_at, utf8_at, vector_at, opened_at, slot_at}
 use Rattle.arrow_ipc.specs.Blocks.{Lies, Holds, lengths, word, rounded, padded, offsets, linked, table_size, places, table_block}
 use Rattle.arrow_ipc.specs.declared.fault.Fault.{Fault}
 use Rattle.arrow_ipc.specs.declared.wire.Table.{Table}
@@ -23,24 +23,18 @@ pub ruleset utf8_tests = (IsUtf8-from_is_utf8, is_utf8-from_IsUtf8)
 pub is_some : (n : ℕ) → 0 < n → (n == 0) ≡ false
 is_some n e = grind (arith, nat_tests)
 
-byte_got : (bytes : List ℕ) (at b : ℕ) (rest : List ℕ) → drop at bytes ≡ b ∷ rest → slice_get bytes at ≡ Some b
-byte_got [] zero b rest is = absurd (cc)
-byte_got [] (suc at) b rest is = absurd (cc)
-byte_got (x ∷ xs) zero b rest is = let same : x ≡ b = cc (is) in ap (λ (n : ℕ). Some n) same
-byte_got (x ∷ xs) (suc at) b rest is = byte_got xs at b rest is
-
 module _ (bytes : List ℕ) (at : ℕ) where
-  pub u8_is : (b : ℕ) (rest : List ℕ) → drop at bytes ≡ b ∷ rest → u8_at bytes at ≡ Ok b
-  unfolding u8_at
-  u8_is b rest is = rw (byte_got bytes at b rest is) refl
+  pub u8_is : (b : ℕ) (rest : List ℕ) → drop at bytes ≡ b ∷ rest → integer_at bytes at w8 ≡ Ok b
+  unfolding integer_at
+  u8_is b rest is = let even : at % 1 ≡ 0 = omega arith in rw (even, is, le-leb 1 (length (b ∷ rest)) (omega arith)) refl
 
-  pub u16_is : (a b : ℕ) (rest : List ℕ) → at % 2 ≡ 0 → drop at bytes ≡ a ∷ b ∷ rest → u16_at bytes at ≡ Ok (from_le_bytes w16 (a ∷ b ∷ []))
-  unfolding u16_at
-  u16_is a b rest even is = rw (even, is) refl
+  pub u16_is : (a b : ℕ) (rest : List ℕ) → at % 2 ≡ 0 → drop at bytes ≡ a ∷ b ∷ rest → integer_at bytes at w16 ≡ Ok (from_le_bytes w16 (a ∷ b ∷ []))
+  unfolding integer_at
+  u16_is a b rest even is = rw (even, is, le-leb 2 (length (a ∷ b ∷ rest)) (omega arith)) refl
 
-  pub u32_is : (n : ℕ) (rest : List ℕ) → at % 4 ≡ 0 → n < 2 ^ 32 → drop at bytes ≡ to_le_bytes w32 n ++ rest → u32_at bytes at ≡ Ok n
-  unfolding u32_at
-  u32_is n rest even small is = rw (even, is) (ap (λ (m : ℕ). Ok m) (from_le_bytes-to_le_bytes_4 n small))
+  pub u32_is : (n : ℕ) (rest : List ℕ) → at % 4 ≡ 0 → n < 2 ^ 32 → drop at bytes ≡ to_le_bytes w32 n ++ rest → integer_at bytes at w32 ≡ Ok n
+  unfolding integer_at
+  u32_is n rest even small is = rw (even, is, le-leb 4 (length (to_le_bytes w32 n ++ rest)) (omega arith)) (ap (λ (m : ℕ). Ok m) (from_le_bytes-to_le_bytes_4 n small))
 
   pub ahead_is : (rule : Rule) (by : ℕ) → at + by ≤ length bytes → ahead rule bytes at by ≡ Ok (at + by)
   unfolding ahead
@@ -183,47 +177,35 @@ module _ (bytes : List ℕ) (at first : ℕ) (bs : List (List ℕ)) (rest : List
       let size = length_linked first bs rest in
       let within = lies_within in
       let whole = lies.whole in
-      rw (
-        u32_is bytes at first _ (omega (arith, whole)) (omega (arith, many, small, size)) flat,
-        ahead_is bytes at Vector 4 (omega (arith, within, size)),
-        ahead_is bytes (at + 4) Vector (4 * first) (omega (arith, many, within, size)),
-      ) refl
+      let count = u32_is bytes at first _ (omega (arith, whole)) (omega (arith, many, small, size)) flat in
+      rw (count, ahead_is bytes at Vector 4 (omega (arith, within, size)), ahead_is bytes (at + 4) Vector (4 * first) (omega (arith, many, within, size))) refl
 
 -- ---- the slots of a table
 
 abbrev pub slot_place : ℕ → List ℕ → ℕ → Option ℕ
-slot_place at [] i = None
-slot_place at (s ∷ ss) zero = if s == 0 then None else Some (at + s)
-slot_place at (s ∷ ss) (suc i) = slot_place at ss i
+slot_place at ss i = if get_or ss i 0 == 0 then None else Some (at + get_or ss i 0)
 
 abbrev pub AreWithin : ℕ → List ℕ → Type 0
 AreWithin size [] = Unit {0}
 AreWithin size (s ∷ ss) = (s ≤ size) × AreWithin size ss
 
-past : (at : ℕ) (ss : List ℕ) (i : ℕ) → length ss ≤ i → slot_place at ss i ≡ None
-past at [] i le = refl
-past at (s ∷ ss) zero le = absurd (omega arith)
-past at (s ∷ ss) (suc i) le = past at ss i (omega arith)
+each_within : (size : ℕ) (ss : List ℕ) (i : ℕ) → AreWithin size ss → get_or ss i 0 ≤ size
+each_within size [] i all = omega arith
+each_within size (s ∷ ss) zero all = all.0
+each_within size (s ∷ ss) (suc i) all = each_within size ss i all.1
 
-pub low : (bytes : List ℕ) (at n : ℕ) (rest : List ℕ) → at % 2 ≡ 0 → drop at bytes ≡ n ∷ 0 ∷ rest → u16_at bytes at ≡ Ok n
+pub low : (bytes : List ℕ) (at n : ℕ) (rest : List ℕ) → at % 2 ≡ 0 → drop at bytes ≡ n ∷ 0 ∷ rest → integer_at bytes at w16 ≡ Ok n
 low bytes at n rest even is = u16_is bytes at n 0 rest even is ∙ ap (λ (k : ℕ). Ok k) (omega arith)
 
 chosen : (b : Bool) (x : Option ℕ) → ◌≡◌ {A = Result (Option ℕ) Fault} (if b then Ok None else Ok x) (Ok (if b then None else x))
 chosen b x = grind arith
 
-module _ (bytes : List ℕ) (at size : ℕ) (within : at + size ≤ length bytes) where
-  abbrev led : ℕ → Result (Option ℕ) Fault
-  led n = if n == 0 then Ok None else (ahead Slot bytes at n >>= λ slot. Ok (Some slot))
-
-  found : (ss : List ℕ) (i entry : ℕ) (rest : List ℕ) → drop entry bytes ≡ places ss ++ rest → entry % 2 ≡ 0 → AreWithin size ss → i < length ss → (u16_at bytes (entry + 2 * i) >>= led) ≡ Ok (slot_place at ss i)
-  found [] i entry rest is even all lt = absurd (omega arith)
-  found (s ∷ ss) zero entry rest is even all lt =
-      let here : u16_at bytes (entry + 0) ≡ Ok s = subst (λ n. u16_at bytes n ≡ Ok s) (omega arith) (low bytes entry s (places ss ++ rest) even is) in
-      let ahead_of : ahead Slot bytes at s ≡ Ok (at + s) = ahead_is bytes at Slot s (omega (arith, within, all.0)) in
-      rw (here, ahead_of) (chosen (s == 0) (Some (at + s)))
-  found (s ∷ ss) (suc i) entry rest is even all lt =
-      let next = found ss i (entry + 2) rest (by_place bytes entry (places (s ∷ ss) ++ rest) 2 is) (omega (arith, even)) all.1 (omega arith) in
-      subst (λ n. (u16_at bytes n >>= led) ≡ Ok (slot_place at ss i)) (omega arith) next
+found : (bytes ss : List ℕ) (i entry : ℕ) (rest : List ℕ) → drop entry bytes ≡ places ss ++ rest → entry % 2 ≡ 0 → i < length ss → integer_at bytes (entry + 2 * i) w16 ≡ Ok (get_or ss i 0)
+found bytes [] i entry rest is even lt = absurd (omega arith)
+found bytes (s ∷ ss) zero entry rest is even lt = subst (λ n. integer_at bytes n w16 ≡ Ok s) (omega arith) (low bytes entry s (places ss ++ rest) even is)
+found bytes (s ∷ ss) (suc i) entry rest is even lt =
+    let next = found bytes ss i (entry + 2) rest (by_place bytes entry (places (s ∷ ss) ++ rest) 2 is) (omega (arith, even)) (omega arith) in
+    subst (λ n. integer_at bytes n w16 ≡ Ok (get_or ss i 0)) (omega arith) next
 
 -- a table that is opened
 abbrev pub opened_table : List ℕ → List ℕ → List (List ℕ) → ℕ → Table
@@ -274,12 +256,9 @@ module _ (slots numbers : List ℕ) (bs : List (List ℕ)) where
           let whole = lies.whole in
           let ended = ends_at in
           let even : ((4 + 2 * length slots) % 2 == 0) ≡ true = eq-eqb ((4 + 2 * length slots) % 2) 0 (omega arith) in
-          rw (
-            vtable_is bytes at size _ (omega (arith, whole)) (omega arith) few (omega (arith, ended)) (flat bytes at first bs (numbers ++ vtable) lies),
-            low bytes (at + size) (4 + 2 * length slots) _ (omega (arith, whole, fourth)) vtable_at_size,
-            ahead_is bytes (at + size) Vtable (4 + 2 * length slots) ended,
-            even,
-          ) refl
+          let back = vtable_is bytes at size _ (omega (arith, whole)) (omega arith) few (omega (arith, ended)) (flat bytes at first bs (numbers ++ vtable) lies) in
+          let long = low bytes (at + size) (4 + 2 * length slots) _ (omega (arith, whole, fourth)) vtable_at_size in
+          rw (back, long, ahead_is bytes (at + size) Vtable (4 + 2 * length slots) ended, even) refl
 
       by_test : (i : ℕ) (b : Bool) → nat_lt i (length slots) ≡ b → slot_at bytes (opened_table slots numbers bs at) i ≡ Ok (slot_place at slots i)
       unfolding slot_at
@@ -287,13 +266,16 @@ module _ (slots numbers : List ℕ) (bs : List (List ℕ)) where
           let lt = ltb-true i (length slots) is in
           let ended = ends_at in
           let whole = lies.whole in
-          let got = found bytes at size (omega (arith, ended)) slots i (at + size + 4) behind (by_place bytes (at + size) (vtable ++ behind) 4 vtable_at_size) (omega (arith, whole, fourth)) all lt in
+          let s = get_or slots i 0 in
+          let got = found bytes slots i (at + size + 4) behind (by_place bytes (at + size) (vtable ++ behind) 4 vtable_at_size) (omega (arith, whole, fourth)) lt in
           let place : at + size + 4 + 2 * i ≡ at + size + (4 + 2 * i) = omega arith in
-          rw (le-ltb (4 + 2 * length slots) (6 + 2 * i) (omega (arith, lt)), ahead_is bytes (at + size) Vtable (4 + 2 * i) (omega (arith, ended, lt)))
-          (subst (λ n. (u16_at bytes n >>= led bytes at size (omega (arith, ended))) ≡ Ok (slot_place at slots i)) place got)
+          let here = subst (λ n. integer_at bytes n w16 ≡ Ok s) place got in
+          let near = each_within size slots i all in
+          let entry_is = ahead_is bytes (at + size) Vtable (4 + 2 * i) (omega (arith, ended, lt)) in
+          rw (le-ltb (4 + 2 * length slots) (6 + 2 * i) (omega (arith, lt)), entry_is, here, ahead_is bytes at Slot s (omega (arith, ended, near))) (chosen (s == 0) (Some (at + s)))
       by_test i false is =
           let le = ltb-false i (length slots) is in
-          rw (lt-ltb (4 + 2 * length slots) (6 + 2 * i) (omega (arith, le)), past at slots i le) refl
+          rw (lt-ltb (4 + 2 * length slots) (6 + 2 * i) (omega (arith, le)), get_or_past slots i 0 le) refl
 
 -- what is read of a table: its slots, where its offsets lead, and its numbers
 pub record Stands (slots numbers : List ℕ) (bs : List (List ℕ)) (bytes : List ℕ) (at : ℕ) : Type 0 where

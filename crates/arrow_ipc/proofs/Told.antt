@@ -1,5 +1,5 @@
 -- From what a step returned to what a call returned; and laws of what is read.
-use Rattle.std.proofs.Common.{◌≡◌, ℕ, ◌+◌, ◌*◌, ◌-◌, ◌<◌, ◌≤◌, Result, Ok, Err, refl, ap, ◌∙◌, arith, suc, List, ℤ, Option, zero, length, MatchResult, [], ◌∷◌, String, Global, Ordering, string_bytes}
+use Rattle.std.proofs.Common.{◌≡◌, ℕ, ◌+◌, ◌*◌, ◌-◌, ◌<◌, ◌≤◌, Result, Ok, Err, refl, ap, ◌∙◌, arith, suc, List, ℤ, Option, zero, length, MatchResult}
 use Rattle.arrow_columns.specs.Column.{ColumnTree}
 use Rattle.arrow_ipc.specs.Fault.{◌>>=◌, breaks}
 use Rattle.arrow_ipc.specs.Tells.{Fails, ◌>>+◌, gather}
@@ -12,11 +12,6 @@ use Rattle.arrow_ipc.specs.Schema.{SchemaTree, schema_tree, head_at, with_column
 use Rattle.arrow_ipc.specs.Denotes.{Denotes, StreamDenotes, FileDenotes, IsStreamOf}
 use Rattle.arrow_ipc.specs.declared.fault.IpcError.TheVariants.{OutOfMemory}
 use Rattle.arrow_ipc.specs.declared.schema.Schema.{Schema}
-use Rattle.std.specs.BTreeMap.{insert_entry}
-use Rattle.std.specs.String.{string_cmp}
-use Rattle.std.specs.Ordering.{match_ordering}
-use Rattle.arrow_values.specs.View.{texts_of}
-use Rattle.arrow_values.specs.Texts.{put_text}
 
 -- what a chain of two gave came from both
 pub bound : {A B : Type 0} (r : Result A Fault) (f : A → Result B Fault) (y : B) → (r >>= f) ≡ Ok y → (x : A) × (r ≡ Ok x) × (f x ≡ Ok y)
@@ -37,10 +32,7 @@ unfolding after
 begins put s count first =
     let none : first - first ≡ 0 = omega arith in
     let k : count - 0 ≡ count = omega arith in
-    rw (none, k) (kept (gather put s 0 count))
-  where
-    kept : {A : Type 0} (r : Result (A × ℕ) Fault) → r ≡ (r >>= λ x. Ok (x.0, 0 + x.1))
-    kept r = grind arith
+    rw (none, k) (grind arith)
 
 module _ {S : Type 0} (put : S → ℕ → Result (S × ℕ) Fault) (s : S) (i count first old : ℕ) (all : Result (S × ℕ) Fault) (le : old ≤ first) (is : all ≡ after (first - old) (gather put s i (count - i))) where
   turn : i < count → gather put s i (count - i) ≡ (put s i >>+ λ x. gather put x (i + 1) (count - (i + 1)))
@@ -165,15 +157,3 @@ read_back read bytes s n few is r m = grind arith
 pub written_is_read : (levels : ℕ) (stream : List ℕ) (s : SchemaTree) (r : Result Schema IpcError) → IsStreamOf levels stream s → Meets (message_in stream) (schema_of_message levels) r
     → MatchResult r (λ t. schema_tree t ≡ s) (λ e. e ≡ OutOfMemory)
 written_is_read levels stream s r w m = read_back (schema_of_message levels) w.0 s w.2.0 w.2.1 w.2.2 r (rw w.1 at m)
-
--- ---- the texts of a map after an insert
-
-abbrev Entries : Type 0
-Entries = List (String Global × String Global)
-
-moved : (r : Ordering) (a b c : Entries) → texts_of (match_ordering r a b c) ≡ match_ordering r (texts_of a) (texts_of b) (texts_of c)
-moved r a b c = grind arith
-
-pub texts_inserted : (es : Entries) (k v : String Global) → texts_of (insert_entry string_cmp es k v) ≡ put_text (string_bytes k) (string_bytes v) (texts_of es)
-texts_inserted [] k v = refl
-texts_inserted (e ∷ es) k v = moved (string_cmp k e.0) _ _ _ ∙ rw (texts_inserted es k v)

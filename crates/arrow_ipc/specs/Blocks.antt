@@ -12,7 +12,7 @@ use Rattle.arrow_ipc.specs.Fault.{◌>>=◌, breaks}
 use Rattle.arrow_ipc.specs.Tells.{◌>>+◌}
 use Rattle.arrow_ipc.specs.Wire.{opened_at, slot_at, utf8_at, vector_at}
 use Rattle.arrow_ipc.specs.Kinds.{kind_at}
-use Rattle.arrow_ipc.specs.Parts.{zone_in, ids_in, parts_in}
+use Rattle.arrow_ipc.specs.Parts.{zone_or_ids, parts_in}
 use Rattle.arrow_ipc.specs.Columns.{entry_in, entry_price, texts_at, typed, columns_by, column_at, finished, priced}
 use Rattle.arrow_ipc.specs.declared.fault.Fault.{Fault}
 use Rattle.arrow_ipc.specs.declared.fault.Rule.TheVariants.{Depth}
@@ -114,8 +114,7 @@ pub record ReadsType (tag : ℕ) (cs : List ColumnTree) (t : TypeTree) (bytes : 
   pub is_open : opened_at bytes at ≡ Ok table
   pub is_first : slot_at bytes table 0 ≡ Ok first
   pub is_kind : kind_at bytes tag table ≡ Ok kind
-  pub no_zone : zone_in bytes tag table ≡ Ok []
-  pub is_ids : ids_in bytes tag table ≡ Ok ids
+  pub is_own : zone_or_ids bytes tag table ≡ Ok ([], ids)
   pub is_type : (place : ℕ) → typed bytes place kind [] ids cs ≡ Ok t
 
 -- a type's block

@@ -1,5 +1,6 @@
 -- The columns of a message, with all that is below them. What a column takes of the budget is 16 for its tables and the bytes of
 -- its texts, and 8 and its texts for each entry of its metadata.
+use Rattle.std.specs.Int.{w32}
 use Rattle.std.specs.Option.{option_map_or}
 use Rattle.std.specs.Prelude.{ℕ, zero, suc, ◌+◌, ◌*◌, ℤ, pos, Bool, true, ◌&&◌, not, List, [], ◌∷◌, ◌++◌, length, Option, Some, None, Result, Ok, nat_lt, ◌==◌, if◌then◌else◌}
 use Rattle.arrow_values.specs.Tree.{Text, Metadata}
@@ -7,7 +8,7 @@ use Rattle.arrow_values.specs.Texts.{put_text}
 use Rattle.arrow_values.specs.Union.{has}
 use Rattle.arrow_columns.specs.Column.{TypeTree, ColumnTree}
 use Rattle.arrow_ipc.specs.Fault.{◌>>=◌, breaks}
-use Rattle.arrow_ipc.specs.Wire.{opened_at, u32_at, target_at, utf8_at}
+use Rattle.arrow_ipc.specs.Wire.{opened_at, integer_at, target_at, utf8_at}
 use Rattle.arrow_ipc.specs.Slots.{table_in}
 use Rattle.arrow_ipc.specs.Parts.{Own, parts_at}
 use Rattle.arrow_ipc.specs.Types.{type_of, with_dictionary}
@@ -47,7 +48,7 @@ texts_at bytes v = gather (put_next bytes v.0) [] 0 v.1
 -- the type ids of a union: where they are not written 0, 1, 2 and on
 abbrev pub id_at : List ℕ → Option (ℕ × ℕ) → ℕ → Result ℕ Fault
 id_at bytes None i = Ok i
-id_at bytes (Some v) i = u32_at bytes (v.0 + 4 * i)
+id_at bytes (Some v) i = integer_at bytes (v.0 + 4 * i) w32
 
 abbrev pub is_new : ℕ → List ℤ → Bool
 is_new id ids = nat_lt id 128 && not (has (pos id) ids)

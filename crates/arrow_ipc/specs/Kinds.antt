@@ -1,8 +1,9 @@
 -- Types by their tags, with their widths, units and sizes, and what counts where a slot is missing. A unit is 0 for seconds, 1 for
 -- milliseconds, 2 for microseconds, 3 for nanoseconds.
-use Rattle.std.specs.Prelude.{ℕ, pos, ◌^◌, Bool, ◌||◌, List, Option, Some, None, Result, Ok, nat_lt, nat_le, ◌==◌, if◌then◌else◌}
+use Rattle.std.specs.Prelude.{ℕ, pos, ◌^◌, Bool, ◌||◌, List, Result, Ok, nat_lt, nat_le, ◌==◌, if◌then◌else◌}
+use Rattle.std.specs.Int.{w16, w32, cast_signed}
 use Rattle.arrow_ipc.specs.Fault.{◌>>=◌, breaks}
-use Rattle.arrow_ipc.specs.Slots.{flag_in, u16_in, u32_in}
+use Rattle.arrow_ipc.specs.Slots.{flag_in, integer_in}
 use Rattle.arrow_ipc.specs.declared.fault.Fault.{Fault}
 use Rattle.arrow_ipc.specs.declared.fault.Rule.TheVariants.{Parameter}
 use Rattle.arrow_values.specs.declared.tree.DataType.{DataType}
@@ -17,7 +18,7 @@ use Rattle.arrow_ipc.specs.declared.parts.Kind.TheVariants.{Plain, Named, List a
 
 unfoldable pub int_at : List ℕ → Table → Result DataType Fault
 int_at bytes table = do
-  width ← u32_in bytes table 0 0
+  width ← integer_in bytes table 0 w32 0
   signed ← flag_in bytes table 1
   if width == 8 then Ok (if signed then Int8 else UInt8) else
       if width == 16 then Ok (if signed then Int16 else UInt16) else
@@ -30,51 +31,32 @@ fits_byte n = nat_lt n 128 || nat_le 0xffff_ff80 n
 
 unfoldable pub decimal_at : List ℕ → Table → Result named.Named Fault
 decimal_at bytes table = do
-  precision ← u32_in bytes table 0 0
-  scale ← u32_in bytes table 1 0
-  width ← u32_in bytes table 2 128
+  precision ← integer_in bytes table 0 w32 0
+  scale ← integer_in bytes table 1 w32 0
+  width ← integer_in bytes table 2 w32 128
   if nat_lt precision 128 then (if fits_byte scale then (
-      if width == 32 then Ok (Decimal width precision scale) else
-      if width == 64 then Ok (Decimal width precision scale) else
-      if width == 128 then Ok (Decimal width precision scale) else
-      if width == 256 then Ok (Decimal width precision scale) else breaks Parameter table.at) else breaks Parameter table.at) else breaks Parameter table.at
+      if width == 32 then Ok (Decimal width precision (cast_signed w32 scale)) else
+      if width == 64 then Ok (Decimal width precision (cast_signed w32 scale)) else
+      if width == 128 then Ok (Decimal width precision (cast_signed w32 scale)) else
+      if width == 256 then Ok (Decimal width precision (cast_signed w32 scale)) else breaks Parameter table.at) else breaks Parameter table.at) else breaks Parameter table.at
 
-unfoldable pub time_at : List ℕ → Table → Result named.Named Fault
-time_at bytes table = do
-  unit ← u16_in bytes table 0 1
-  if nat_lt 3 unit then breaks Parameter table.at else (do
-    width ← u32_in bytes table 1 32
-    if width == (if nat_lt unit 2 then 32 else 64) then Ok (Time unit) else breaks Parameter table.at)
+unfoldable pub time_at : List ℕ → Table → ℕ → Result named.Named Fault
+time_at bytes table unit = if nat_lt unit 4 then (do
+  width ← integer_in bytes table 1 w32 32
+  if width == (if nat_lt unit 2 then 32 else 64) then Ok (Time unit) else breaks Parameter table.at) else breaks Parameter table.at
 
 -- the number in slot 0: a unit, a mode or a size
 unfoldable pub number_at : List ℕ → ℕ → Table → Result ℕ Fault
 number_at bytes tag table =
-    if tag == 3 then u16_in bytes table 0 0 else
-    if tag == 8 then u16_in bytes table 0 1 else
-    if tag == 10 then u16_in bytes table 0 0 else
-    if tag == 11 then u16_in bytes table 0 0 else
-    if tag == 14 then u16_in bytes table 0 0 else
-    if tag == 15 then u32_in bytes table 0 0 else
-    if tag == 16 then u32_in bytes table 0 0 else
-    if tag == 18 then u16_in bytes table 0 1 else Ok 0
-
--- a data type that nests nothing, by its tag and number, but for integers
-unfoldable pub plain_of : ℕ → ℕ → Option DataType
-plain_of tag number =
-    if tag == 1 then Some Null else
-    if tag == 3 then (if number == 0 then Some Float16 else if number == 1 then Some Float32 else if number == 2 then Some Float64 else None) else
-    if tag == 4 then Some Binary else
-    if tag == 5 then Some Utf8 else
-    if tag == 6 then Some Boolean else
-    if tag == 8 then (if number == 0 then Some Date32 else if number == 1 then Some Date64 else None) else
-    if tag == 19 then Some LargeBinary else
-    if tag == 20 then Some LargeUtf8 else
-    if tag == 23 then Some BinaryView else
-    if tag == 24 then Some Utf8View else None
-
-abbrev pub plain_or : Option DataType → Result Kind Fault → Result Kind Fault
-plain_or (Some d) other = Ok (Plain d)
-plain_or None other = other
+    if tag == 3 then integer_in bytes table 0 w16 0 else
+    if tag == 8 then integer_in bytes table 0 w16 1 else
+    if tag == 9 then integer_in bytes table 0 w16 1 else
+    if tag == 10 then integer_in bytes table 0 w16 0 else
+    if tag == 11 then integer_in bytes table 0 w16 0 else
+    if tag == 14 then integer_in bytes table 0 w16 0 else
+    if tag == 15 then integer_in bytes table 0 w32 0 else
+    if tag == 16 then integer_in bytes table 0 w32 0 else
+    if tag == 18 then integer_in bytes table 0 w16 1 else Ok 0
 
 abbrev pub below : Table → ℕ → ℕ → Kind → Result Kind Fault
 below table number bound kind = if nat_lt number bound then Ok kind else breaks Parameter table.at
@@ -83,10 +65,15 @@ below table number bound kind = if nat_lt number bound then Ok kind else breaks 
 unfoldable pub kind_at : List ℕ → ℕ → Table → Result Kind Fault
 kind_at bytes tag table = do
   number ← number_at bytes tag table
-  plain_or (plain_of tag number) (
+  if tag == 1 then Ok (Plain Null) else
       if tag == 2 then (int_at bytes table >>= λ t. Ok (Plain t)) else
+      if tag == 3 then (if number == 0 then Ok (Plain Float16) else if number == 1 then Ok (Plain Float32) else if number == 2 then Ok (Plain Float64) else breaks Parameter table.at) else
+      if tag == 4 then Ok (Plain Binary) else
+      if tag == 5 then Ok (Plain Utf8) else
+      if tag == 6 then Ok (Plain Boolean) else
       if tag == 7 then (decimal_at bytes table >>= λ t. Ok (Named t)) else
-      if tag == 9 then (time_at bytes table >>= λ t. Ok (Named t)) else
+      if tag == 8 then (if number == 0 then Ok (Plain Date32) else if number == 1 then Ok (Plain Date64) else breaks Parameter table.at) else
+      if tag == 9 then (time_at bytes table number >>= λ t. Ok (Named t)) else
       if tag == 10 then below table number 4 (Named (Timestamp number)) else
       if tag == 11 then below table number 3 (Named (Interval number)) else
       if tag == 12 then Ok (ListOf Small) else
@@ -96,7 +83,11 @@ kind_at bytes tag table = do
       if tag == 16 then below table number (2 ^ 31) (ListOf (Fixed (pos number))) else
       if tag == 17 then Ok Map else
       if tag == 18 then below table number 4 (Named (Duration number)) else
+      if tag == 19 then Ok (Plain LargeBinary) else
+      if tag == 20 then Ok (Plain LargeUtf8) else
       if tag == 21 then Ok (ListOf Large) else
       if tag == 22 then Ok RunEndEncoded else
+      if tag == 23 then Ok (Plain BinaryView) else
+      if tag == 24 then Ok (Plain Utf8View) else
       if tag == 25 then Ok ListView else
-      if tag == 26 then Ok LargeListView else breaks Parameter table.at)
+      if tag == 26 then Ok LargeListView else breaks Parameter table.at

@@ -1,7 +1,6 @@
 pub mod Fault
 pub mod Wire
 pub mod Slots
-pub mod Longs
 pub mod Kinds
 pub mod Parts
 pub mod Types

@@ -1,10 +1,11 @@
 -- What a column's table says of the column itself: its slots are 0 name, 1 nullable, 2 and 3 the type's tag and table, 4 its
 -- dictionary, 5 its children, 6 its metadata.
-use Rattle.std.specs.Prelude.{ℕ, Bool, List, [], Option, Some, None, Result, Ok, nat_le, ◌==◌, if◌then◌else◌}
+use Rattle.std.specs.Prelude.{ℕ, Bool, List, [], Option, None, Result, Ok, nat_le, ◌==◌, if◌then◌else◌}
+use Rattle.std.specs.Int.{w8, w64}
+use Rattle.std.specs.Option.{option_map, option_transpose, unwrap_or}
 use Rattle.arrow_ipc.specs.Fault.{◌>>=◌, breaks}
-use Rattle.arrow_ipc.specs.Wire.{opened_at, slot_at, target_at, vector_at}
-use Rattle.arrow_ipc.specs.Slots.{u8_in, flag_in, text_in, table_in, vector_in, led_to}
-use Rattle.arrow_ipc.specs.Longs.{u64_in}
+use Rattle.arrow_ipc.specs.Wire.{opened_at, slot_at, target_at}
+use Rattle.arrow_ipc.specs.Slots.{integer_in, flag_in, led_by, read_or, text_in, table_in, vector_in}
 use Rattle.arrow_ipc.specs.Kinds.{int_at, kind_at}
 use Rattle.arrow_ipc.specs.declared.fault.Fault.{Fault}
 use Rattle.arrow_ipc.specs.declared.wire.Table.{Table}
@@ -18,39 +19,29 @@ use Rattle.arrow_ipc.specs.declared.parts.Parts.{Parts}
 -- the tag of a type is 1 to 26
 unfoldable pub tag_in : List ℕ → Table → Result ℕ Fault
 tag_in bytes table = do
-  tag ← u8_in bytes table 2 0
+  tag ← integer_in bytes table 2 w8 0
   if tag == 0 then breaks Missing table.at else if nat_le tag 26 then Ok tag else breaks Tag table.at
 
--- the time zone, which a timestamp has in slot 1
-unfoldable pub zone_in : List ℕ → ℕ → Table → Result (List ℕ) Fault
-zone_in bytes tag table = if tag == 10 then text_in bytes table 1 else Ok []
+-- what the table of a type has in slot 1: the time zone of a timestamp, and the type ids that a union may have
+unfoldable pub zone_or_ids : List ℕ → ℕ → Table → Result (List ℕ × Option (ℕ × ℕ)) Fault
+zone_or_ids bytes tag table =
+    if tag == 10 then (text_in bytes table 1 >>= λ zone. Ok (zone, None)) else
+    if tag == 14 then (vector_in bytes table 1 >>= λ ids. Ok ([], ids)) else Ok ([], None)
 
 -- a dictionary has a number of its own in slot 0, which is not kept; its indices are 32-bit integers where nothing else is said
 abbrev pub int_of : List ℕ → ℕ → Result DataType Fault
 int_of bytes at = opened_at bytes at >>= int_at bytes
 
-unfoldable pub index_at : List ℕ → Table → Result DataType Fault
-index_at bytes table = slot_at bytes table 1 >>= led_to Int32 (int_of bytes) bytes
-
-abbrev pub index_of : List ℕ → ℕ → Result (Option Index) Fault
-index_of bytes at = do
+unfoldable pub index_at : List ℕ → ℕ → Result Index Fault
+index_at bytes at = do
   table ← opened_at bytes at
-  id ← u64_in bytes table 0
-  integers ← index_at bytes table
+  id ← integer_in bytes table 0 w64 0
+  integers ← (led_by bytes table 1 >>= read_or Int32 (int_of bytes))
   ordered ← flag_in bytes table 2
-  Ok (Some (record { integers = integers; ordered = ordered }))
+  Ok (record { integers = integers; ordered = ordered })
 
 unfoldable pub index_in : List ℕ → Table → Result (Option Index) Fault
-index_in bytes table = slot_at bytes table 4 >>= led_to None (index_of bytes) bytes
-
--- the type ids, which a union has in slot 1
-abbrev pub ids_of : List ℕ → ℕ → Result (Option (ℕ × ℕ)) Fault
-ids_of bytes at = do
-  ids ← vector_at bytes at
-  Ok (Some ids)
-
-unfoldable pub ids_in : List ℕ → ℕ → Table → Result (Option (ℕ × ℕ)) Fault
-ids_in bytes tag table = if tag == 14 then (slot_at bytes table 1 >>= led_to None (ids_of bytes) bytes) else Ok None
+index_in bytes table = led_by bytes table 4 >>= λ place. option_transpose (option_map (index_at bytes) place)
 
 pub record Own : Type 0 where
   pub table : ℕ
@@ -76,12 +67,11 @@ parts_in bytes at = do
   value ← (table_in bytes table 3 >>= opened_at bytes)
   first ← slot_at bytes value 0
   kind ← kind_at bytes tag value
-  zone ← zone_in bytes tag value
-  ids ← ids_in bytes tag value
+  own ← zone_or_ids bytes tag value
   index ← index_in bytes table
   children ← vector_in bytes table 5
   texts ← vector_in bytes table 6
-  Ok (record { table = table.at; name = name; nullable = nullable; kind = kind; zone = zone; index = index; children = children; ids = ids; texts = texts })
+  Ok (record { table = table.at; name = name; nullable = nullable; kind = kind; zone = own.0; index = index; children = unwrap_or children (0, 0); ids = own.1; texts = unwrap_or texts (0, 0) })
 
 -- of the column to which the offset at a position leads
 unfoldable pub parts_at : List ℕ → ℕ → Result Own Fault

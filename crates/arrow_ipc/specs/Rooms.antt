@@ -1,12 +1,11 @@
 -- Which types a message can hold, and how many bytes a schema takes at most.
-use Rattle.std.specs.Prelude.{◌≡◌, ℕ, ◌+◌, ◌*◌, ◌^◌, ◌<◌, ◌≤◌, ◌⊎◌, Option, Result, Ok, Err, ℤ, pos, negsuc, Bool, true, false, ◌&&◌, List, [], ◌∷◌, length, nat_lt}
+use Rattle.std.specs.Prelude.{◌≡◌, ℕ, ◌+◌, ◌*◌, ◌^◌, ◌<◌, ◌≤◌, ◌⊎◌, Result, Ok, Err, ℤ, pos, negsuc, Bool, true, false, ◌&&◌, List, [], ◌∷◌, length, nat_lt}
 use Rattle.std.specs.declared.vec.Vec.{Vec}
 use Rattle.std.specs.declared.alloc.Global.{Global}
 use Rattle.arrow_values.specs.Tree.{Text, Metadata, Tree, plain, list, large_list, fixed_size_list, struct, union, FieldTrees, no_fields, field, MemberTrees, no_members, member, depth}
 use Rattle.arrow_columns.specs.Column.{TypeTree, known, other, ColumnTree}
 use Rattle.arrow_ipc.specs.Schema.{SchemaTree}
-use Rattle.arrow_ipc.specs.Shapes.{member_ids, are_ids, shape_tag, shape_bytes, has_table}
-use Rattle.arrow_ipc.specs.declared.nesting.Shape.{Shape}
+use Rattle.arrow_ipc.specs.Shapes.{member_ids, are_ids, tag_of, bytes_of, has_table}
 use Rattle.arrow_ipc.specs.declared.write.WriteError.{WriteError}
 use Rattle.arrow_ipc.specs.declared.write.WriteError.TheVariants.{Column, TooLarge, OutOfMemory}
 
@@ -99,9 +98,9 @@ MakesSound sound block (Ok b) = (sound ≡ true) × ((b.items ≡ block) × (len
 MakesSound sound block (Err e) = Refuses e (sound ≡ false) (length block)
 
 -- a type's tag and table
-abbrev pub IsTable : Option Shape → List ℤ → Result (ℕ × Vec ℕ Global) WriteError → Type 0
-IsTable shape ids (Ok p) = (p.0 ≡ shape_tag shape) × MakesSound (has_table shape ids) (shape_bytes shape ids) (Ok p.1)
-IsTable shape ids (Err e) = Refuses e (has_table shape ids ≡ false) (length (shape_bytes shape ids))
+abbrev pub IsTable : Tree → Result (ℕ × Vec ℕ Global) WriteError → Type 0
+IsTable t (Ok p) = (p.0 ≡ tag_of t) × MakesSound (has_table t) (bytes_of t) (Ok p.1)
+IsTable t (Err e) = Refuses e (has_table t ≡ false) (length (bytes_of t))
 
 -- a block was made of which that is so, in so much room; or why not
 abbrev pub Gives : (List ℕ → Type 0) → Type 0 → ℕ → Result (Vec ℕ Global) WriteError → Type 0

@@ -1,14 +1,14 @@
 -- The schema of a message, and what stands around messages.
 use Rattle.std.specs.Prelude.{◌≡◌, ℕ, ◌+◌, ◌-◌, ◌*◌, ◌≤◌, Bool, ◌&&◌, List, [], ◌∷◌, length, take, drop, map, Result, Ok, Err, nat_lt, nat_le, ◌==◌, if◌then◌else◌, codes}
 use Rattle.std.specs.Str.{bytes_eq}
-use Rattle.std.specs.Int.{w32, from_le_bytes}
+use Rattle.std.specs.Int.{w8, w16, w32, w64, from_le_bytes}
+use Rattle.std.specs.Option.{unwrap_or}
 use Rattle.arrow_values.specs.Tree.{Metadata}
 use Rattle.arrow_values.specs.View.{texts_of}
 use Rattle.arrow_columns.specs.Column.{ColumnTree, column_tree}
 use Rattle.arrow_ipc.specs.Fault.{◌>>=◌, breaks}
-use Rattle.arrow_ipc.specs.Wire.{u32_at, opened_at, target_at, vector_at}
-use Rattle.arrow_ipc.specs.Longs.{u64_in}
-use Rattle.arrow_ipc.specs.Slots.{u8_in, u16_in, table_in, vector_in}
+use Rattle.arrow_ipc.specs.Wire.{integer_at, opened_at, target_at, vector_at}
+use Rattle.arrow_ipc.specs.Slots.{integer_in, table_in, vector_in}
 use Rattle.arrow_ipc.specs.Columns.{texts_at, columns_by, column_at}
 use Rattle.arrow_ipc.specs.Tells.{Fails, ◌>>+◌}
 use Rattle.arrow_ipc.specs.declared.fault.Fault.{Fault}
@@ -37,10 +37,10 @@ pub record Head : Type 0 where
 unfoldable pub head_at : List ℕ → ℕ → Result Head Fault
 head_at bytes at = do
   table ← opened_at bytes at
-  order ← u16_in bytes table 0 0
+  order ← integer_in bytes table 0 w16 0
   fields ← (table_in bytes table 1 >>= vector_at bytes)
   texts ← vector_in bytes table 2
-  Ok (record { endianness = if order == 0 then Little else Big; fields = fields; texts = texts })
+  Ok (record { endianness = if order == 0 then Little else Big; fields = fields; texts = unwrap_or texts (0, 0) })
 
 -- a schema whose columns are read
 abbrev pub with_columns : List ℕ → Head → List ColumnTree → Result (SchemaTree × ℕ) Fault
@@ -63,16 +63,16 @@ is_version version = nat_le 3 version && nat_le version 4
 unfoldable pub message_at : List ℕ → Result ℕ Fault
 message_at bytes = do
   message ← (target_at bytes 0 >>= opened_at bytes)
-  version ← u16_in bytes message 0 0
-  tag ← u8_in bytes message 1 0
-  body ← u64_in bytes message 3
+  version ← integer_in bytes message 0 w16 0
+  tag ← integer_in bytes message 1 w8 0
+  body ← integer_in bytes message 3 w64 0
   if is_version version && (tag == 1) && (body == 0) then table_in bytes message 2 else breaks Message message.at
 
 -- the schema's table in a footer: slot 0 its version, 1 the schema
 unfoldable pub footer_at : List ℕ → Result ℕ Fault
 footer_at bytes = do
   footer ← (target_at bytes 0 >>= opened_at bytes)
-  version ← u16_in bytes footer 0 0
+  version ← integer_in bytes footer 0 w16 0
   if is_version version then table_in bytes footer 1 else breaks Message footer.at
 
 -- so many bytes from a position on, which are some
@@ -82,9 +82,9 @@ cut bytes start size = if nat_lt 0 size && nat_le (start + size) (length bytes) 
 -- the message of a stream: its size, which may have four bytes 255 before it, and the message
 unfoldable pub message_in : List ℕ → Result (List ℕ) Fault
 message_in bytes = do
-  first ← u32_at bytes 0
+  first ← integer_at bytes 0 w32
   if first == 0xffff_ffff then (do
-    size ← u32_at bytes 4
+    size ← integer_at bytes 4 w32
     cut bytes 8 size) else cut bytes 4 first
 
 -- the size at a file's end, with its magic behind it

@@ -2,7 +2,6 @@
 use Rattle.std.specs.Prelude.{ℕ, ℤ, List, [], ◌++◌, nat_lt, length, map, codes, Option, Some, None, ◌==◌, if◌then◌else◌}
 use Rattle.std.specs.List.{zip}
 use Rattle.std.specs.Fmt.{decimal, signed_decimal}
-use Rattle.std.specs.Int.{w32, cast_signed}
 use mir.Val.{bool_byte}
 use Rattle.arrow_values.specs.Tree.{Text, union}
 use Rattle.arrow_values.specs.View.{tree, member_trees}
@@ -20,9 +19,8 @@ use Rattle.arrow_ipc.specs.declared.parts.Index.{Index}
 abbrev pub unit_word : ℕ → Text
 unit_word unit = if unit == 0 then codes "s" else if unit == 1 then codes "ms" else if unit == 2 then codes "us" else codes "ns"
 
--- a decimal, whose scale is in two's complement
-abbrev pub decimal_text : ℕ → ℕ → ℕ → Text
-decimal_text width precision scale = codes "decimal" ++ (decimal width ++ (codes "(" ++ (decimal precision ++ (codes ", " ++ (signed_decimal (cast_signed w32 scale) ++ codes ")")))))
+abbrev pub decimal_text : ℕ → ℕ → ℤ → Text
+decimal_text width precision scale = codes "decimal" ++ (decimal width ++ (codes "(" ++ (decimal precision ++ (codes ", " ++ (signed_decimal scale ++ codes ")")))))
 
 -- a type of so many units, with a time zone where it has one
 abbrev pub timed_text : Text → ℕ → Text → Text

@@ -1,5 +1,5 @@
 //! Why no schema is read.
-ghost use Rattle.std.specs.Prelude.{◌≡◌};
+ghost use Rattle.std.specs.Prelude.{◌≡◌, true, false, OnOk, IfErr};
 ghost use Rattle.arrow_ipc.specs.declared.fault.IpcError.TheVariants.{Broken, OutOfMemory};
 
 use std::alloc::{AllocError, AllocFailed};
@@ -64,12 +64,22 @@ pub struct Fault {
     pub at: usize,
 }
 
-impl Fault {
-    pub(crate) fn new(rule: Rule, at: usize) -> Fault
-        ensures { result ≡ record { rule = rule; at = at } }
-    {
-        Fault { rule, at }
-    }
+/// What is found, or the rule that is broken.
+pub(crate) type Found<T> = Result<T, Fault>;
+
+/// A rule that is broken at a byte.
+pub(crate) fn broken(rule: Rule, at: usize) -> Fault
+    ensures { result ≡ record { rule = rule; at = at } }
+{
+    Fault { rule, at }
+}
+
+/// Errs with a rule that is broken where it does not hold.
+pub(crate) fn ensure(holds: bool, rule: Rule, at: usize) -> Found<()>
+    ensures ok { OnOk result (holds ≡ true) }
+    ensures err { IfErr result (λ f. (holds ≡ false) × (f ≡ record { rule = rule; at = at })) }
+{
+    holds.then_some(()).ok_or(broken(rule, at))
 }
 
 /// Why no schema is read.

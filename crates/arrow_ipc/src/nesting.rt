@@ -1,9 +1,9 @@
 //! Columns of data types, with the tables of their types and all that they nest.
 ghost use Rattle.std.specs.Prelude.{◌≡◌, [], map, IfOk};
-ghost use Rattle.arrow_values.specs.View.{tree, texts_of};
+ghost use Rattle.arrow_values.specs.View.{tree, member_trees, texts_of};
 ghost use Rattle.arrow_columns.specs.Column.{known};
 ghost use Rattle.arrow_ipc.specs.Blocks.{Holds, child_in, columns_read, union_block};
-ghost use Rattle.arrow_ipc.specs.Shapes.{shape_of, ids_of, are_ids, column_of, nested_columns};
+ghost use Rattle.arrow_ipc.specs.Shapes.{shape_of, member_ids, are_ids, column_of, nested_columns};
 ghost use Rattle.arrow_ipc.specs.Rooms.{MakesSound, IsTable, Gives, IsUnfit, AreUnfit, column_room, columns_room};
 
 use crate::write::{
@@ -14,73 +14,54 @@ use arrow_values::{DataType, Field, UnionMode};
 use std::alloc::{AllocError, Global};
 use std::collections::BTreeMap;
 
-/// A type's tag with the number and the truth value that its table has, or the mode of a union.
-#[derive(Clone, Copy)]
-enum Shape {
-    Table(u8, Option<u32>, Option<bool>),
-    Members(UnionMode),
-}
-
-/// The shape of a type; `None` of a list of negative size.
-fn shape_of(data_type: &DataType) -> Option<Shape>
+/// A type's tag with the number and the truth value that its table has; `None` of a union, and of a list of negative size.
+fn shape_of(data_type: &DataType) -> Option<(u8, Option<u32>, Option<bool>)>
     ensures { result ≡ shape_of (tree data_type.now) }
 {
     match data_type {
-        DataType::Null => Some(Shape::Table(1, None, None)),
-        DataType::Boolean => Some(Shape::Table(6, None, None)),
-        DataType::Int8 => Some(Shape::Table(2, Some(8), Some(true))),
-        DataType::Int16 => Some(Shape::Table(2, Some(16), Some(true))),
-        DataType::Int32 => Some(Shape::Table(2, Some(32), Some(true))),
-        DataType::Int64 => Some(Shape::Table(2, Some(64), Some(true))),
-        DataType::UInt8 => Some(Shape::Table(2, Some(8), Some(false))),
-        DataType::UInt16 => Some(Shape::Table(2, Some(16), Some(false))),
-        DataType::UInt32 => Some(Shape::Table(2, Some(32), Some(false))),
-        DataType::UInt64 => Some(Shape::Table(2, Some(64), Some(false))),
-        DataType::Float16 => Some(Shape::Table(3, Some(0), None)),
-        DataType::Float32 => Some(Shape::Table(3, Some(1), None)),
-        DataType::Float64 => Some(Shape::Table(3, Some(2), None)),
-        DataType::Date32 => Some(Shape::Table(8, Some(0), None)),
-        DataType::Date64 => Some(Shape::Table(8, Some(1), None)),
-        DataType::Binary => Some(Shape::Table(4, None, None)),
-        DataType::LargeBinary => Some(Shape::Table(19, None, None)),
-        DataType::BinaryView => Some(Shape::Table(23, None, None)),
-        DataType::Utf8 => Some(Shape::Table(5, None, None)),
-        DataType::LargeUtf8 => Some(Shape::Table(20, None, None)),
-        DataType::Utf8View => Some(Shape::Table(24, None, None)),
-        DataType::List(_) => Some(Shape::Table(12, None, None)),
-        DataType::LargeList(_) => Some(Shape::Table(21, None, None)),
-        DataType::FixedSizeList(_, size) if *size < 0 => None,
-        DataType::FixedSizeList(_, size) => Some(Shape::Table(16, Some(*size as u32), None)),
-        DataType::Struct(_) => Some(Shape::Table(13, None, None)),
-        DataType::Union(_, mode) => Some(Shape::Members(*mode)),
+        DataType::Null => Some((1, None, None)),
+        DataType::Boolean => Some((6, None, None)),
+        DataType::Int8 => Some((2, Some(8), Some(true))),
+        DataType::Int16 => Some((2, Some(16), Some(true))),
+        DataType::Int32 => Some((2, Some(32), Some(true))),
+        DataType::Int64 => Some((2, Some(64), Some(true))),
+        DataType::UInt8 => Some((2, Some(8), Some(false))),
+        DataType::UInt16 => Some((2, Some(16), Some(false))),
+        DataType::UInt32 => Some((2, Some(32), Some(false))),
+        DataType::UInt64 => Some((2, Some(64), Some(false))),
+        DataType::Float16 => Some((3, Some(0), None)),
+        DataType::Float32 => Some((3, Some(1), None)),
+        DataType::Float64 => Some((3, Some(2), None)),
+        DataType::Date32 => Some((8, Some(0), None)),
+        DataType::Date64 => Some((8, Some(1), None)),
+        DataType::Binary => Some((4, None, None)),
+        DataType::LargeBinary => Some((19, None, None)),
+        DataType::BinaryView => Some((23, None, None)),
+        DataType::Utf8 => Some((5, None, None)),
+        DataType::LargeUtf8 => Some((20, None, None)),
+        DataType::Utf8View => Some((24, None, None)),
+        DataType::List(_) => Some((12, None, None)),
+        DataType::LargeList(_) => Some((21, None, None)),
+        DataType::FixedSizeList(_, size) => Some((16, Some(u32::try_from(*size).ok()?), None)),
+        DataType::Struct(_) => Some((13, None, None)),
+        DataType::Union(_, _) => None,
     }
-}
-
-/// The type ids of a union; of another type none.
-fn type_ids(alloc: Global, data_type: &DataType) -> Result<Vec<i8>, AllocError>
-    ensures { IfOk result (λ ids. ids.items ≡ ids_of (tree data_type.now)) }
-{
-    let mut ids = Vec::new(alloc);
-    if let DataType::Union(members, _) = data_type {
-        for member in members.as_slice() {
-            ids.push(member.0)?;
-        }
-    }
-    Ok(ids)
 }
 
 /// A union's table, with its type ids.
-#[tactic(auto, using(crate::proofs::Tables::length_union, crate::proofs::Tables::length_vector_of, crate::proofs::Tables::ids_written, std::proofs::lemmas::List::drop_all))]
-fn union_block(alloc: Global, mode: UnionMode, ids: &[i8]) -> Block
-    ensures { MakesSound (are_ids [] ids.now) (union_block mode ids.now) result }
+#[tactic(auto, using(crate::proofs::Blocks::length_union, crate::proofs::Blocks::length_vector_of, crate::proofs::Blocks::ids_written, crate::proofs::Blocks::ids_sound, crate::proofs::Blocks::count_ids))]
+fn union_block(alloc: Global, mode: UnionMode, members: &[(i8, Field)]) -> Block
+    ensures { MakesSound (are_ids [] (member_ids (member_trees members.now))) (union_block mode (member_ids (member_trees members.now))) result }
 {
-    let count = u32::try_from(ids.len()).or(Err(WriteError::TooLarge))?;
+    let count = u32::try_from(members.len()).or(Err(WriteError::TooLarge))?;
+    let mut ids = Vec::new(alloc);
     let mut words = Vec::new(alloc);
-    'each: for i in 0..ids.len() {
-        let id = ids[i];
-        if id < 0 || ids[..i].contains(&id) {
+    'each: for member in members {
+        let id = member.0;
+        if id < 0 || ids.as_slice().contains(&id) {
             return Err(WriteError::Column(0));
         }
+        ids.push(id)?;
         put_word(&mut words, id as u32)?;
     }
     let vector = linked_block(alloc, count, &[], words.as_slice())?;
@@ -89,20 +70,17 @@ fn union_block(alloc: Global, mode: UnionMode, ids: &[i8]) -> Block
 
 /// A type's tag and table.
 fn type_table(alloc: Global, data_type: &DataType) -> Result<(u8, Vec<u8>), WriteError>
-    ensures { IsTable (shape_of (tree data_type.now)) (ids_of (tree data_type.now)) result }
+    ensures { IsTable (tree data_type.now) result }
 {
-    match shape_of(data_type) {
-        None => Err(WriteError::Column(0)),
-        Some(Shape::Table(tag, number, truth)) => Ok((tag, type_block(alloc, number, truth)?)),
-        Some(Shape::Members(mode)) => {
-            let ids = type_ids(alloc, data_type)?;
-            Ok((14, union_block(alloc, mode, ids.as_slice())?))
-        }
+    if let DataType::Union(members, mode) = data_type {
+        return Ok((14, union_block(alloc, *mode, members.as_slice())?));
     }
+    let (tag, number, truth) = shape_of(data_type).ok_or(WriteError::Column(0))?;
+    Ok((tag, type_block(alloc, number, truth)?))
 }
 
 /// The fields that a type nests.
-#[tactic(auto, using(crate::proofs::Made::fields_lent))]
+#[tactic(auto, using(crate::proofs::Blocks::fields_lent))]
 fn nested_fields<'a>(alloc: Global, data_type: &'a DataType) -> Result<Vec<&'a Field>, AllocError>
     ensures { IfOk result (λ fs. map (λ f. column_of f.now) fs.items ≡ nested_columns (tree data_type.now)) }
 {
@@ -129,7 +107,7 @@ fn nested_fields<'a>(alloc: Global, data_type: &'a DataType) -> Result<Vec<&'a F
 }
 
 /// A column of a data type, with so many levels for itself and what it nests.
-#[tactic(auto, using(crate::proofs::Made::nested_refused, crate::proofs::Tables::table_size, crate::proofs::Tables::no_table))]
+#[tactic(auto, using(crate::proofs::Blocks::nested_refused, crate::proofs::Blocks::table_size, crate::proofs::Blocks::no_table))]
 #[cycle(write)]
 pub(crate) fn data_block(
     alloc: Global,
@@ -147,19 +125,16 @@ pub(crate) fn data_block(
     }
     let fields = nested_fields(alloc, data_type)?;
     let children = children_block(alloc, fields.as_slice(), levels - 1)?;
-    let typed = type_table(alloc, data_type)?;
+    let (tag, table) = type_table(alloc, data_type)?;
     let name = text_block(alloc, name)?;
     let texts = texts_block(alloc, texts)?;
-    table_block(
-        alloc,
-        &[4, 20, 21, 8, 0, 12, 16],
-        &[nullable as u8, typed.0, 0, 0],
-        &[name, typed.1, children, texts],
-    )
+    let numbers = [nullable as u8, tag, 0, 0];
+    let blocks = [name, table, children, texts];
+    table_block(alloc, &[4, 20, 21, 8, 0, 12, 16], &numbers, &blocks)
 }
 
 /// The vector of the columns that a type nests.
-#[tactic(auto, using(crate::proofs::Made::each_refused, crate::proofs::Made::made_more, std::proofs::lemmas::List::drop_more, std::proofs::lemmas::List::map_push))]
+#[tactic(auto, using(crate::proofs::Blocks::each_refused, crate::proofs::Blocks::made_more, std::proofs::lemmas::List::drop_more, std::proofs::lemmas::List::map_push))]
 #[cycle(write)]
 fn children_block(alloc: Global, fields: &[&Field], levels: usize) -> Block
     ensures { Gives (λ b. Holds (columns_read levels) b (map (λ f. column_of f.now) fields.now)) (AreUnfit levels (map (λ f. column_of f.now) fields.now)) (columns_room (map (λ f. column_of f.now) fields.now)) result }

@@ -9,11 +9,11 @@ ghost use Rattle.arrow_ipc.specs.Tells.{Tells, Says};
 ghost use Rattle.arrow_ipc.specs.Columns.{entry_at, put_entry, texts_at, id_at, is_new, ids_at, finished, columns_by, column_at};
 ghost use Rattle.arrow_ipc.specs.Schema.{message_at, footer_at, cut, message_in, footer_in, schema_of, Meets, MeetsIn, schema_of_message, schema_of_footer};
 
-use crate::fault::{Fault, IpcError, Rule};
+use crate::fault::{Found, IpcError, Rule, broken, ensure};
 use crate::parts::{Kind, Parts, parts_at};
 use crate::types::{type_of, with_dictionary};
 use crate::wire::{
-    Vector, open, table_in, target_at, u8_in, u16_in, u32_at, u64_in, utf8_at, vector_at, vector_in,
+    Vector, integer_at, integer_in, open, table_in, target_at, utf8_at, vector_at, vector_in,
 };
 use arrow_columns::Column;
 use std::alloc::Global;
@@ -63,7 +63,7 @@ fn spend(budget: &mut usize, amount: usize, one: &str, other: &str, at: usize) -
 
 /// The entry of metadata to which the offset at a position leads: its key and its text.
 #[tactic(auto, unfolding(crate::specs::Columns::entry_at, crate::specs::Columns::entry_in))]
-fn entry_at(bytes: &[u8], at: usize) -> Result<(&str, &str), Fault>
+fn entry_at(bytes: &[u8], at: usize) -> Found<(&str, &str)>
     ensures { map_ok (λ e. (e.0.now, e.1.now)) result ≡ entry_at bytes.now at }
 {
     let table = open(bytes, target_at(bytes, at)?)?;
@@ -73,16 +73,17 @@ fn entry_at(bytes: &[u8], at: usize) -> Result<(&str, &str), Fault>
 }
 
 /// Puts an entry of metadata to those before it.
-#[tactic(auto, using(crate::proofs::Told::texts_inserted))]
+#[tactic(auto, using(arrow_values::proofs::TextLaws::texts_of_insert))]
 #[inline(never)]
 fn put_entry(alloc: Global, bytes: &[u8], at: usize, budget: &mut usize, to: &mut Texts) -> Read<()>
     ensures { Tells (λ _. texts_of to.new.entries) (put_entry bytes.now at (texts_of to.old.entries)) budget.old budget.new result }
 {
-    let entry = entry_at(bytes, at)?;
-    spend(budget, 8, entry.0, entry.1, at)?;
-    let key = String::from_str(alloc, entry.0)?;
-    let text = String::from_str(alloc, entry.1)?;
-    to.insert(key, text)?;
+    let (key, text) = entry_at(bytes, at)?;
+    spend(budget, 8, key, text, at)?;
+    to.insert(
+        String::from_str(alloc, key)?,
+        String::from_str(alloc, text)?,
+    )?;
     Ok(())
 }
 
@@ -100,13 +101,13 @@ fn read_texts(alloc: Global, bytes: &[u8], at: Vector, budget: &mut usize) -> Re
 }
 
 /// The type id at an index: where they are not written, the index.
-fn id_at(bytes: &[u8], written: Option<Vector>, i: usize) -> Result<usize, Fault>
+fn id_at(bytes: &[u8], written: Option<Vector>, i: usize) -> Found<usize>
     requires { IfSome written (λ v. v.0 + 4 * i + 4 ≤ length bytes.now) }
     ensures { result ≡ id_at bytes.now written i }
 {
     match written {
         None => Ok(i),
-        Some((start, _)) => Ok(u32_at(bytes, start + 4 * i)? as usize),
+        Some((start, _)) => integer_at(bytes, start + 4 * i, 4),
     }
 }
 
@@ -124,16 +125,12 @@ fn read_ids(alloc: Global, bytes: &[u8], parts: &Parts<'_>, count: usize) -> Rea
     requires { IfSome parts.now.ids (λ v. v.0 + 4 * v.1 ≤ length bytes.now) }
     ensures { Says (λ ids. ids.items) (ids_at bytes.now parts.now.table parts.now.ids count) result }
 {
-    let wrong = IpcError::Broken(Fault::new(Rule::TypeIds, parts.table));
-    if parts.ids.map_or(false, |ids| ids.1 != count) {
-        return Err(wrong);
-    }
+    let as_many = parts.ids.map_or(true, |ids| ids.1 == count);
+    ensure(as_many, Rule::TypeIds, parts.table)?;
     let mut ids = Vec::new(alloc);
     'ids: for i in 0..count {
         let id = id_at(bytes, parts.ids, i)?;
-        if !is_new(id, ids.as_slice()) {
-            return Err(wrong);
-        }
+        ensure(is_new(id, ids.as_slice()), Rule::TypeIds, parts.table)?;
         ids.push(id as i8)?;
     }
     Ok(ids)
@@ -156,10 +153,8 @@ fn finish(
         Kind::Union(_) => read_ids(alloc, bytes, parts, children.len())?,
         _ => Vec::new(alloc),
     };
-    let values = type_of(alloc, &parts.kind, parts.zone, ids, children)?.ok_or(Fault::new(
-        Rule::Children,
-        parts.table,
-    ))?;
+    let made = type_of(alloc, &parts.kind, parts.zone, ids, children)?;
+    let values = made.ok_or(broken(Rule::Children, parts.table))?;
     Ok(Column {
         data_type: with_dictionary(alloc, &parts.index, values)?,
         metadata: read_texts(alloc, bytes, parts.texts, budget)?,
@@ -171,18 +166,10 @@ fn finish(
 /// Reads the column to which the offset at a position leads, and all that is below it.
 #[tactic(auto, using(crate::proofs::Told::too_deep, crate::proofs::Told::steps))]
 #[cycle(read)]
-fn read_column(
-    alloc: Global,
-    bytes: &[u8],
-    at: usize,
-    depth: usize,
-    budget: &mut usize,
-) -> Read<Column>
+fn column(alloc: Global, bytes: &[u8], at: usize, depth: usize, budget: &mut usize) -> Read<Column>
     ensures { Tells column_tree (column_at depth bytes.now at) budget.old budget.new result }
 {
-    if depth == 0 {
-        return Err(IpcError::Broken(Fault::new(Rule::Depth, at)));
-    }
+    ensure(depth > 0, Rule::Depth, at)?;
     let parts = parts_at(bytes, at)?;
     spend(budget, 16, parts.name, parts.zone, at)?;
     let children = read_columns(alloc, bytes, parts.children, depth - 1, budget)?;
@@ -204,98 +191,92 @@ fn read_columns(
 {
     let mut found = Vec::new(alloc);
     'columns: for i in 0..offsets.1 {
-        found.push(read_column(alloc, bytes, offsets.0 + 4 * i, depth, budget)?)?;
+        found.push(column(alloc, bytes, offsets.0 + 4 * i, depth, budget)?)?;
     }
     Ok(found)
 }
 
 /// Where the schema of a message is.
 #[tactic(auto, unfolding(crate::specs::Schema::message_at))]
-fn message_at(bytes: &[u8]) -> Result<usize, Fault>
+fn message_at(bytes: &[u8]) -> Found<usize>
     ensures { result ≡ message_at bytes.now }
 {
     let message = open(bytes, target_at(bytes, 0)?)?;
-    let version = u16_in(bytes, &message, 0, 0)?;
-    let tag = u8_in(bytes, &message, 1, 0)?;
-    let body = u64_in(bytes, &message, 3)?;
-    if body != 0 || tag != 1 || version < 3 || version > 4 {
-        return Err(Fault::new(Rule::Message, message.at));
+    let version = integer_in(bytes, &message, 0, 2, 0)?;
+    let tag = integer_in(bytes, &message, 1, 1, 0)?;
+    let body = integer_in(bytes, &message, 3, 8, 0)?;
+    match (version, tag, body) {
+        (3 | 4, 1, 0) => table_in(bytes, &message, 2),
+        _ => Err(broken(Rule::Message, message.at)),
     }
-    table_in(bytes, &message, 2)
 }
 
 /// Where the schema of a file's footer is.
 #[tactic(auto, unfolding(crate::specs::Schema::footer_at))]
-fn footer_at(bytes: &[u8]) -> Result<usize, Fault>
+fn footer_at(bytes: &[u8]) -> Found<usize>
     ensures { result ≡ footer_at bytes.now }
 {
     let footer = open(bytes, target_at(bytes, 0)?)?;
-    let version = u16_in(bytes, &footer, 0, 0)?;
-    if version < 3 || version > 4 {
-        return Err(Fault::new(Rule::Message, footer.at));
+    match integer_in(bytes, &footer, 0, 2, 0)? {
+        3 | 4 => table_in(bytes, &footer, 1),
+        _ => Err(broken(Rule::Message, footer.at)),
     }
-    table_in(bytes, &footer, 1)
 }
 
 /// The bytes of that size from a position on, which are some.
 #[tactic(auto, unfolding(crate::specs::Schema::cut))]
-fn cut(bytes: &[u8], start: usize, size: u32) -> Result<&[u8], Fault>
+fn cut(bytes: &[u8], start: usize, size: usize) -> Found<&[u8]>
+    requires { size < 2 ^ 32 }
     ensures is { map_ok (λ m. m.now) result ≡ cut bytes.now start size }
     ensures small { IfOk result (λ m. length m.now < 2 ^ 32) }
 {
-    let size = size as usize;
-    if size == 0 || bytes.len() < start || bytes.len() - start < size {
-        return Err(Fault::new(Rule::Envelope, start));
+    match bytes.get(start..) {
+        Some(rest) if 0 < size && size <= rest.len() => Ok(&rest[..size]),
+        _ => Err(broken(Rule::Envelope, start)),
     }
-    Ok(&bytes[start..start + size])
 }
 
 /// The message at the head of a stream.
 #[tactic(auto, unfolding(crate::specs::Schema::message_in))]
-fn message_in(bytes: &[u8]) -> Result<&[u8], Fault>
+fn message_in(bytes: &[u8]) -> Found<&[u8]>
     ensures is { map_ok (λ m. m.now) result ≡ message_in bytes.now }
     ensures small { IfOk result (λ m. length m.now < 2 ^ 32) }
 {
-    let first = u32_at(bytes, 0)?;
-    if first != 0xffff_ffff {
-        return cut(bytes, 4, first);
+    match integer_at(bytes, 0, 4)? {
+        0xffff_ffff => cut(bytes, 8, integer_at(bytes, 4, 4)?),
+        size => cut(bytes, 4, size),
     }
-    cut(bytes, 8, u32_at(bytes, 4)?)
 }
 
 /// The footer at the end of a file.
 #[tactic(auto, unfolding(crate::specs::Schema::footer_in))]
-fn footer_in(bytes: &[u8]) -> Result<&[u8], Fault>
+fn footer_in(bytes: &[u8]) -> Found<&[u8]>
     ensures is { map_ok (λ m. m.now) result ≡ footer_in bytes.now }
     ensures small { IfOk result (λ m. length m.now < 2 ^ 32) }
 {
-    if bytes.len() < 10 {
-        return Err(Fault::new(Rule::Envelope, 0));
-    }
+    ensure(bytes.len() >= 10, Rule::Envelope, 0)?;
     let end = bytes.len() - 10;
     let size = match &bytes[end..] {
-        [a, b, c, d, 65, 82, 82, 79, 87, 49] => u32::from_le_bytes([*a, *b, *c, *d]),
-        _ => return Err(Fault::new(Rule::Envelope, end)),
+        [a, b, c, d, 65, 82, 82, 79, 87, 49] => u32::from_le_bytes([*a, *b, *c, *d]) as usize,
+        _ => return Err(broken(Rule::Envelope, end)),
     };
-    if (size as usize) > end {
-        return Err(Fault::new(Rule::Envelope, end));
-    }
-    cut(&bytes[..end], end - size as usize, size)
+    ensure(size <= end, Rule::Envelope, end)?;
+    cut(&bytes[..end], end - size, size)
 }
 
 /// Reads the schema whose table is at that place of a message or footer, within a budget of eight times its bytes.
 #[tactic(auto, unfolding(crate::specs::Schema::schema_at, crate::specs::Schema::head_at))]
-fn read_flatbuffer(alloc: Global, bytes: &[u8], place: Result<usize, Fault>) -> Read<Schema>
+fn read_flatbuffer(alloc: Global, bytes: &[u8], place: Found<usize>) -> Read<Schema>
     requires { length bytes.now < 2 ^ 32 }
     ensures { MeetsIn (schema_of NESTING_LIMIT place) bytes.now result }
 {
     let table = open(bytes, place?)?;
-    let endianness = match u16_in(bytes, &table, 0, 0)? {
+    let endianness = match integer_in(bytes, &table, 0, 2, 0)? {
         0 => Endianness::Little,
         _ => Endianness::Big,
     };
     let fields = vector_at(bytes, table_in(bytes, &table, 1)?)?;
-    let texts = vector_in(bytes, &table, 2)?;
+    let texts = vector_in(bytes, &table, 2)?.unwrap_or((0, 0));
     let mut budget = bytes.len() * 8;
     Ok(Schema {
         columns: read_columns(alloc, bytes, fields, NESTING_LIMIT, &mut budget)?,

@@ -18,7 +18,7 @@ type Made<T> = Result<T, AllocError>;
 type Typed = Made<ColumnType>;
 
 /// A type of so many units, with a time zone where it has one.
-fn timed_text(alloc: Global, word: &str, unit: u32, zone: &str) -> Made<String>
+fn timed_text(alloc: Global, word: &str, unit: usize, zone: &str) -> Made<String>
     ensures { IfOk result (λ text. string_bytes text ≡ timed_text word.now unit zone.now) }
 {
     let unit = match unit {
@@ -40,7 +40,6 @@ fn named_text(alloc: Global, named: Named, zone: &str) -> Made<String>
 {
     match named {
         Named::Decimal(width, precision, scale) => {
-            let scale = scale.cast_signed();
             format!(in alloc; "decimal{width}({precision}, {scale})")
         }
         Named::Time(unit) if unit < 2 => timed_text(alloc, "time32", unit, ""),
@@ -77,10 +76,8 @@ fn union_type(alloc: Global, mode: UnionMode, ids: Vec<i8>, children: Vec<Column
         return Ok(ColumnType::Other(text));
     }
     let fields = fields_of(alloc, children)?;
-    match UnionFields::try_new(alloc, ids, fields) {
-        Ok(members) => Ok(ColumnType::Data(DataType::Union(members, mode))),
-        Err(_) => Err(AllocError),
-    }
+    let members = UnionFields::try_new(alloc, ids, fields).or(Err(AllocError))?;
+    Ok(ColumnType::Data(DataType::Union(members, mode)))
 }
 
 /// A type with so many children that is none of the 26.
@@ -130,10 +127,8 @@ pub(crate) fn with_dictionary(alloc: Global, index: &Option<Index>, values: Colu
         return Ok(values);
     };
     let values = values.notation(alloc)?;
-    let indices = plain_name(&index.integers);
+    let keys = plain_name(&index.integers);
     let ordered = index.ordered as u8;
-    let text = format!(in alloc;
-        "dictionary<values={values}, indices={indices}, ordered={ordered}>"
-    )?;
+    let text = format!(in alloc; "dictionary<values={values}, indices={keys}, ordered={ordered}>")?;
     Ok(ColumnType::Other(text))
 }

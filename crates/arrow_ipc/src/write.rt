@@ -80,11 +80,8 @@ pub(crate) fn linked_block(alloc: Global, first: u32, blocks: &[Vec<u8>], rest: 
     let mut block = Vec::with_capacity(alloc, end)?;
     put_word(&mut block, first)?;
     'offsets: for one in blocks {
-        if end >= 0x8000_0000 {
-            return Err(WriteError::TooLarge);
-        }
-        let at = block.len();
-        put_word(&mut block, (end - at) as u32)?;
+        let offset = u32::try_from(end - block.len()).or(Err(WriteError::TooLarge))?;
+        put_word(&mut block, offset)?;
         end += one.len();
     }
     if end >= 0x8000_0000 {
@@ -111,12 +108,8 @@ pub(crate) fn table_block(alloc: Global, slots: &[u8], numbers: &[u8], blocks: &
     'slots: for slot in slots {
         rest.extend_from_slice(&[*slot, 0])?;
     }
-    linked_block(
-        alloc,
-        (0x1_0000_0000 - size) as u32,
-        blocks,
-        rest.as_slice(),
-    )
+    let vtable = (0x1_0000_0000 - size) as u32;
+    linked_block(alloc, vtable, blocks, rest.as_slice())
 }
 
 /// A vector of tables, with their blocks behind it.
@@ -138,7 +131,7 @@ fn entry_block(alloc: Global, key: &str, text: &str) -> Block
 }
 
 /// Metadata.
-#[tactic(auto, using(crate::proofs::Made::made_more, std::proofs::lemmas::List::map_push))]
+#[tactic(auto, using(crate::proofs::Blocks::made_more, std::proofs::lemmas::List::map_push))]
 pub(crate) fn texts_block(alloc: Global, texts: &BTreeMap<String, String>) -> Block
     ensures { Gives (λ b. Holds texts_read b (texts_of texts.now.entries)) ⊥ (texts_room (texts_of texts.now.entries)) result }
 {
@@ -179,7 +172,7 @@ fn any_column(alloc: Global, column: &Column) -> Block
 }
 
 /// The vector of the columns of a schema.
-#[tactic(auto, using(crate::proofs::Made::made_more, std::proofs::lemmas::List::drop_more, std::proofs::lemmas::List::map_push))]
+#[tactic(auto, using(crate::proofs::Blocks::made_more, std::proofs::lemmas::List::drop_more, std::proofs::lemmas::List::map_push))]
 fn columns_block(alloc: Global, columns: &[Column]) -> Block
     ensures { GivesColumns NESTING_LIMIT (map column_tree columns.now) result }
 {
@@ -194,7 +187,7 @@ fn columns_block(alloc: Global, columns: &[Column]) -> Block
 }
 
 /// The stream of a schema, given the blocks of its columns and of its metadata.
-#[tactic(auto, using(crate::proofs::Tables::length_schema, crate::proofs::Tables::length_message))]
+#[tactic(auto, using(crate::proofs::Blocks::length_schema, crate::proofs::Blocks::length_message))]
 fn stream_bytes(alloc: Global, columns: Vec<u8>, texts: Vec<u8>, order: Endianness) -> Block
     ensures { Gives (Streams NESTING_LIMIT columns.items texts.items order) ⊥ (72 + length columns.items + length texts.items) result }
 {

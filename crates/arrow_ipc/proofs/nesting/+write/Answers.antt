@@ -2,7 +2,7 @@ use Rattle.std.proofs.Common.{map, ap, ◌∙◌, arith}
 use Rattle.std.proofs.lemmas.List.{drop_all}
 use Rattle.arrow_values.specs.View.{tree, texts_of}
 use Rattle.arrow_ipc.proofs.Linked.{items}
-use Rattle.arrow_ipc.proofs.Made.{columns_made, lent, data_gives}
+use Rattle.arrow_ipc.proofs.Blocks.{columns_made, lent, data_gives}
 use Rattle.arrow_ipc.proofs.nesting.+write.Goals as goal
 
 pub children_block-returns : goal.children_block-returns
@@ -13,5 +13,5 @@ children_block-returns t c =
 
 pub data_block-returns : goal.data_block-returns
 data_block-returns t c =
-    data_gives c.args.levels (tree c.args.data_type.now) c.args.name.now c.args.nullable (texts_of c.args.texts.now.entries) _ _ _ _ c.in_ok-typed.typed.0 (lent c.as_slice.result.now) (omega arith) (ap lent c.as_slice.ensures.value ∙ c.in_ok-fields.ensures)
-    c.in_ok-name.ensures c.in_ok-texts.ensures c.in_ok-children.ensures c.in_ok-typed.ensures.0 c.in_ok-typed.ensures.1 c.table_block.result c.table_block.ensures
+    data_gives c.args.levels (tree c.args.data_type.now) c.args.name.now c.args.nullable (texts_of c.args.texts.now.entries) _ _ _ _ c.in_ok-tag.tag (lent c.as_slice.result.now) (omega arith) (ap lent c.as_slice.ensures.value ∙ c.in_ok-fields.ensures)
+    c.in_ok-name.ensures c.in_ok-texts.ensures c.in_ok-children.ensures c.in_ok-tag.ensures.0 c.in_ok-tag.ensures.1 c.table_block.result c.table_block.ensures

@@ -3,7 +3,7 @@ use Rattle.arrow_ipc.specs.Blocks.{Holds, child_in}
 use Rattle.arrow_ipc.specs.Shapes.{column_of}
 use Rattle.arrow_ipc.specs.Rooms.{columns_room}
 use Rattle.arrow_ipc.proofs.Linked.{items}
-use Rattle.arrow_ipc.proofs.Made.{Made}
+use Rattle.arrow_ipc.proofs.Blocks.{Made}
 use Rattle.arrow_ipc.proofs.nesting.+write.Given as goal
 
 abbrev pub decreases-data_block : goal.decreases-data_block

@@ -1,7 +1,7 @@
 use Rattle.std.proofs.Common.{◌≡◌, rules, arith}
 use Rattle.arrow_values.specs.Tree.{union}
 use Rattle.arrow_values.specs.View.{tree, member_trees}
-use Rattle.arrow_ipc.proofs.Made.{members_lent}
+use Rattle.arrow_ipc.proofs.Blocks.{members_lent}
 use Rattle.arrow_ipc.proofs.nesting.nested_fields.Goals as goal
 
 pub returns-after-loop-member : goal.returns-after-loop-member

@@ -1,6 +1,6 @@
 use Rattle.std.proofs.Common.{◌≡◌, ◌++◌, map, drop}
 use Rattle.arrow_ipc.specs.Shapes.{column_of}
-use Rattle.arrow_ipc.proofs.Made.{lent}
+use Rattle.arrow_ipc.proofs.Blocks.{lent}
 use Rattle.arrow_ipc.proofs.nesting.nested_fields.Given as goal
 
 -- the columns so far, before those that are left

@@ -5,8 +5,8 @@ use Rattle.arrow_ipc.specs.Tells.{gather}
 use Rattle.arrow_ipc.proofs.Told.{after}
 use Rattle.arrow_ipc.proofs.schema.+read.Given as goal
 
-abbrev pub decreases-read_column : goal.decreases-read_column
-decreases-read_column l = 2 * l.depth
+abbrev pub decreases-column : goal.decreases-column
+decreases-column l = 2 * l.depth
 
 abbrev pub decreases-read_columns : goal.decreases-read_columns
 decreases-read_columns l = 2 * l.depth + 1

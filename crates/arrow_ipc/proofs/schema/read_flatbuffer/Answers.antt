@@ -9,7 +9,7 @@ returns c =
     let bytes = c.args.bytes.now in
     let order = c.match-branch-4.endianness in
     let led : c.args.place ≡ Ok c.in_ok-place.field-0 = grind arith in
-    let h : Head = record { endianness = order; fields = c.in_ok-fields.fields; texts = c.in_ok-texts.texts } in
+    let h : Head = record { endianness = order; fields = c.in_ok-fields.fields; texts = c.unwrap_or-texts.result } in
     let headed : head_at bytes c.in_ok-place.field-0 ≡ Ok h = grind arith in
     let cs = c.in_ok-read_columns.ensures in
     let ms = c.in_ok-read_texts.ensures in

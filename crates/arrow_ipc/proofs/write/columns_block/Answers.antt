@@ -2,7 +2,7 @@ use Rattle.std.proofs.Common.{map, ap}
 use Rattle.std.proofs.lemmas.List.{drop_all}
 use Rattle.arrow_columns.specs.Column.{column_tree}
 use Rattle.arrow_ipc.proofs.Linked.{items}
-use Rattle.arrow_ipc.proofs.Made.{columns_made, column_refused, columns_give}
+use Rattle.arrow_ipc.proofs.Blocks.{columns_made, column_refused, columns_give}
 use Rattle.arrow_ipc.proofs.write.columns_block.Goals as goal
 
 pub returns : goal.returns

@@ -1,7 +1,6 @@
 use Rattle.std.proofs.Common.{◌∷◌, [], arith}
 use Rattle.arrow_ipc.proofs.Linked.{length_table}
-use Rattle.arrow_ipc.proofs.Tables.{entry_holds}
-use Rattle.arrow_ipc.proofs.Made.{gives}
+use Rattle.arrow_ipc.proofs.Blocks.{entry_holds, gives}
 use Rattle.arrow_ipc.proofs.write.entry_block.Goals as goal
 
 pub returns : goal.returns

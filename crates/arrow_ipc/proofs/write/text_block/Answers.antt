@@ -1,8 +1,7 @@
 use Rattle.std.proofs.Common.{◌≡◌, length, ◌++◌, ◌∷◌, [], refl, arith}
 use Rattle.std.proofs.lemmas.Str.{is_utf8-from_IsUtf8}
 use Rattle.arrow_ipc.specs.Blocks.{text_block}
-use Rattle.arrow_ipc.proofs.Tables.{text_holds, length_text}
-use Rattle.arrow_ipc.proofs.Made.{gives}
+use Rattle.arrow_ipc.proofs.Blocks.{text_holds, length_text, gives}
 use Rattle.arrow_ipc.proofs.write.text_block.Goals as goal
 
 pub returns : goal.returns

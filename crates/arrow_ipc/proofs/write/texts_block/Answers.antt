@@ -3,7 +3,7 @@ use Rattle.arrow_values.specs.View.{texts_of}
 use Rattle.arrow_ipc.specs.Blocks.{Holds, entry_read, texts_read}
 use Rattle.arrow_ipc.specs.Rooms.{texts_room}
 use Rattle.arrow_ipc.proofs.Linked.{items}
-use Rattle.arrow_ipc.proofs.Made.{made_gives, texts_hold}
+use Rattle.arrow_ipc.proofs.Blocks.{made_gives, texts_hold}
 use Rattle.arrow_ipc.proofs.write.texts_block.Goals as goal
 
 pub returns : goal.returns
