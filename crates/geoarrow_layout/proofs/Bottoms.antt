@@ -1,5 +1,5 @@
 -- What stands below the lists, and which fault it is.
-use Rattle.geoarrow_layout.proofs.Terms.{◌≡◌, ◌<◌, ◌≤◌, inl, inr, ℕ, zero, suc, ℤ, ◌+◌, ◌-◌, refl, sym, ap, subst, arith, add-one, Bool, Option, Some, None, Ok, Err, [], ◌∷◌, same_Some, Text, Metadata, Tree, plain, list, large_list, fixed_size_list, struct, union, FieldTrees, MemberTrees, UnionMode, CoordType, Dimension, LayoutFault, UnexpectedType, ListWidth, Lists, LargeLists, Bottom, OtherWidth, Deep, Other, Summary, ListsOver, Faults, HasFault, MixedFault, LevelsFault, IsBottom, AreLevels, SummarizesBy, TellsBoth, Under, IsFixedSize, IsStruct, missing_fault, IsWidth, IsNoLeaf, IsLevelFault, ShowsIn, Ended, false}
+use Rattle.geoarrow_layout.proofs.Terms.{◌≡◌, ◌<◌, ◌≤◌, inl, inr, ℕ, zero, suc, ℤ, ◌+◌, ◌-◌, refl, sym, ap, subst, arith, add-one, Bool, Option, Some, None, Ok, Err, [], ◌∷◌, same_Some, Text, Metadata, Tree, plain, list, large_list, fixed_size_list, struct, union, FieldTrees, MemberTrees, UnionMode, CoordType, Dimension, LayoutFault, UnexpectedType, ListWidth, Lists, LargeLists, Bottom, OtherWidth, Deep, Other, Summary, ListsOver, Faults, HasFault, MixedFault, LevelsFault, IsBottom, AreLevels, SummarizesBy, TellsBoth, Under, IsFixedSize, IsStruct, missing_fault, IsWidth, IsNoLeaf, IsLevelFault, ShowsIn, false}
 use Rattle.geoarrow_layout.proofs.Readings.{Answer}
 use Rattle.std.proofs.Math.Nat.{add-zero, suc-add, zero-add}
 
@@ -14,13 +14,6 @@ pub level_more : (w : Option ListWidth) (v : ListWidth) (n : ℕ) (root t u : Tr
 level_more None v n root t u few is one h = rw (h.0, h.1) (omega arith, omega arith, one)
 level_more (Some w) v n root t u few (inl is) one h = cc
 level_more (Some w) v n root t u few (inr is) one h = (omega arith, omega arith, rw add-one (lists_more v n root t u (subst (λ z. ListsOver z n root t) (same_Some w v is) h.2) one))
-
--- a third level is the last
-pub third_ended : (w : Option ListWidth) (n : ℕ) (root t : Tree) → 3 ≤ n → AreLevels w n root t → Ended w n t
-third_ended None n root t few h = absurd (omega (arith, h.0))
-third_ended (Some Lists) n root (list x t b m) few h = omega arith
-third_ended (Some LargeLists) n root (large_list x t b m) few h = omega arith
-third_ended w n root _ few h = search
 
 -- a bottom that is entered, that of a fixed size list, a struct or a union, stands at such a tree alone
 abbrev IsEntered : Bottom → Type 0

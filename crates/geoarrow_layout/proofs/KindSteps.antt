@@ -1,5 +1,5 @@
 -- The kind of a name and a tree: there is one at most, and it is what a reader's answer says; the names of a tree: two at most, and which two.
-use Rattle.geoarrow_layout.proofs.Terms.{◌≡◌, ◌≢◌, ◌⊎◌, inl, inr, IfOk, IfSome, name_of, result_ok, Bool, true≢false, IsTrue, is_ok, cond, refl, sym, ap, subst, ◌∙◌, ◌↔◌, IfErr, Option, Some, Result, Ok, Err, bytes_eq, same_Some, Text, Tree, Point, LineString, Polygon, MultiPoint, MultiLineString, MultiPolygon, GeometryCollection, Width, Plain, Large, View, Kind, OfNative, OfGeometry, OfRect, OfWkb, OfWkt, ExtensionName, name_text, extension_of, Native, IsBytes, IsText, Accepted, Accepts, IsStructured, YieldsOne, any_native_same, geometry_same, box_shape_same, LayoutFault, Summary, Summarizes, IsAccepted, Path, HasFault, FaultAt, Tells, YieldsKind, NativeKind, CoordType, Dimension, Mixed, Geometry, BoxShape, NativeFault, MixedFault, GeometryFault, BoxFault, TellsBoth, Yields, coords_in, native_first, mixed_first, ◌≤◌, ℕ, zero, suc, arith, PlainType, binary, large_binary, binary_view, utf8, large_utf8, utf8_view, plain, list, large_list, fixed_size_list, struct, union, Interleaved, Separated, XY, ListWidth, Lists, LargeLists, size_of, names_of, ListsOver, levels_of, Leaf, NoName, Holds, IsStructOfFour, Share}
+use Rattle.geoarrow_layout.proofs.Terms.{◌≡◌, ◌≢◌, ◌⊎◌, inl, inr, IfOk, result_ok, Bool, true≢false, IsTrue, is_ok, cond, refl, sym, ap, subst, ◌∙◌, ◌↔◌, IfErr, Option, Some, Result, Ok, Err, bytes_eq, same_Some, Text, Tree, Point, LineString, Polygon, MultiPoint, MultiLineString, MultiPolygon, GeometryCollection, Width, Plain, Large, View, Kind, OfNative, OfGeometry, OfRect, OfWkb, OfWkt, ExtensionName, name_text, extension_of, Native, IsBytes, IsText, Accepted, Accepts, IsStructured, YieldsOne, any_native_same, geometry_same, box_shape_same, LayoutFault, Summary, Summarizes, IsAccepted, Path, HasFault, FaultAt, Tells, YieldsKind, NativeKind, CoordType, Dimension, Mixed, Geometry, BoxShape, NativeFault, MixedFault, GeometryFault, BoxFault, TellsBoth, Yields, coords_in, native_first, mixed_first, ◌≤◌, ℕ, zero, suc, arith, PlainType, binary, large_binary, binary_view, utf8, large_utf8, utf8_view, plain, list, large_list, fixed_size_list, struct, union, Interleaved, Separated, XY, ListWidth, Lists, LargeLists, size_of, names_of, ListsOver, levels_of, Leaf, NoName, Holds, IsStructOfFour, Share}
 use Rattle.geoarrow_layout.specs.Words.{XYZM}
 use Rattle.geoarrow_layout.specs.declared.names.ExtensionName.TheVariants as names
 use Rattle.geoarrow_layout.proofs.FaultLaws.{accepted_apart, native_apart, mixed_none, geometry_apart, box_apart, separated_length, box_length}
@@ -88,10 +88,6 @@ kind_answer x n t (Err f) is of told = λ l. (
       let fault = told (not_plain n l h.1 (sym same)) in
       absurd (no_fault_if_accepted n t l fault.0 f (sym is ∙ h.0.0, h.0.1) fault.1),
 )
-
-pub kind_named : (x : Text) (n : ExtensionName) (r : Result Kind LayoutFault) → x ≡ name_text n → IfOk r (λ k. (extension_of k ≡ n) × IsStructured k) → IfSome (result_ok r) (λ k. (x ≡ name_of k) × IsStructured k)
-kind_named x n (Ok k) is of = (is ∙ ap name_text (sym of.0), of.1)
-kind_named x n (Err f) is of = tt
 
 -- whether there is a kind
 pub accepted_ok : (n : Text) (t : Tree) (r : Result Kind LayoutFault) (b : Bool) → b ≡ is_ok r → YieldsOne r (Accepts n t) → IsTrue b ↔ IsAccepted n t

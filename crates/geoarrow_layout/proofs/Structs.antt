@@ -1,5 +1,5 @@
 -- Sets of bits, and what one reading adds to them; the fields of a struct: which names are those of a coordinate or a box, by their bits, and which point is inferred.
-use Rattle.geoarrow_layout.proofs.Terms.{◌≡◌, ◌↔◌, ◌<◌, ◌⊎◌, ◌*◌, ◌%◌, ◌^◌, inl, inr, ℕ, sym, ap, subst, ◌∙◌, ◌≤◌, true, false, ℤ, pos, Ok, Err, refl, arith, bit_at, bit_or, bit_at_set_same, bit_at_set_other, bit_at-zero, cases_eq, ltb-true, ltb-false, bits, ReadAt, w8, w64, CoordType, Dimension, LayoutFault, negsuc, nat_abs, lt_z, suc, Bool, ◌||◌, true≢false, Decides, IsTrue, list_all, and_parts, and_from, List, [], ◌∷◌, length, zero, ◌+◌, ◌&&◌, cond, ◌++◌, take, get_or, eq-eqb, list_any, bytes_eq, bytes_eq-Decides, Text, FieldTree, field_trees, XYZ, XYM, has_name, IsSeparatedAs, names_of, SomeAt, place_in, known_names, is_float64, are_float64, nat_eq, codes, HaveBoth, HasFault, eqb-true, or_cases, or_left, or_right, same_from_decides, and-true, and_assoc, IsBits, Result, Option, Tree, struct, FieldTrees, Separated, BadFieldNames, ListWidth, Bottom, Struct, Leaf, IsBoxAs, BoxShape, Path, SeparatedFault, CoordinateFault, BoxFault, IsBottom, IsUnion, IsNoLeaf, Tells, TellsBoth, BoxNamesFault, Some, None, same_Some, fixed_size_list, Interleaved, XY, size_of, interleaved_name, Inferred, IsInferredAs, IsInferredSize, among_back, dimension_named}
+use Rattle.geoarrow_layout.proofs.Terms.{◌≡◌, ◌↔◌, ◌<◌, ◌⊎◌, ◌*◌, ◌%◌, ◌^◌, inl, inr, ℕ, sym, ap, subst, ◌∙◌, ◌≤◌, true, false, ℤ, pos, Ok, Err, refl, arith, bit_at, bit_or, bit_at_set_same, bit_at_set_other, bit_at-zero, cases_eq, ltb-true, ltb-false, bits, ReadAt, w8, w64, CoordType, Dimension, LayoutFault, negsuc, nat_abs, lt_z, suc, Bool, ◌||◌, true≢false, Decides, IsTrue, list_all, and_parts, and_from, List, [], ◌∷◌, length, zero, ◌+◌, ◌&&◌, cond, ◌++◌, take, get_or, eq-eqb, list_any, bytes_eq, bytes_eq-Decides, Text, FieldTree, field_trees, XYZ, XYM, has_name, IsSeparatedAs, names_of, SomeAt, place_in, known_names, is_float64, are_float64, nat_eq, codes, HaveBoth, HasFault, eqb-true, or_cases, or_left, or_right, same_from_decides, and-true, and_assoc, IsBits, Result, Option, Tree, struct, FieldTrees, Separated, BadFieldNames, ListWidth, Bottom, Struct, Leaf, IsBoxAs, BoxShape, Path, SeparatedFault, CoordinateFault, BoxFault, IsBottom, IsUnion, IsNoLeaf, Tells, TellsBoth, BoxNamesFault, Some, None, same_Some, fixed_size_list, Interleaved, size_of, interleaved_name, Inferred, IsInferredAs, IsInferredSize, among_back, dimension_named}
 use Rattle.std.proofs.Common.{bit_and, ◌/◌}
 use Rattle.std.proofs.Math.ListN.{get_or-map}
 use Rattle.std.proofs.lemmas.List.FromFn.{get_or-range_with_len}
@@ -245,15 +245,8 @@ root_box w count names floats u r k says = at_bottom IsUnion (λ x. Tells r (Box
 -- ---- points that trees are taken for
 
 -- what the fields say, where all are numbers
-pub none_inferred : (fs : FieldTrees) (r : Option Dimension) → are_float64 fs ≡ false → r ≡ None → (d : Dimension) → (r ≡ Some d) ↔ ((are_float64 fs ≡ true) × IsInferredAs d (names_of fs))
-none_inferred fs r floatless is d = (λ e. let bad = sym is ∙ e in cc, λ h. let bad = sym floatless ∙ h.0 in cc)
-
 pub all_inferred : (fs : FieldTrees) (r : Option Dimension) → are_float64 fs ≡ true → ((d : Dimension) → (r ≡ Some d) ↔ IsInferredAs d (names_of fs)) → (d : Dimension) → (r ≡ Some d) ↔ ((are_float64 fs ≡ true) × IsInferredAs d (names_of fs))
 all_inferred fs r all says d = (λ e. (all, (says d).0 e), λ h. (says d).1 h.1)
-
-pub two_inferred : (fs : FieldTrees) (r : Option Dimension) → are_float64 fs ≡ true → length (names_of fs) ≡ 2 → r ≡ Some XY → (d : Dimension) → (r ≡ Some d) ↔ ((are_float64 fs ≡ true) × IsInferredAs d (names_of fs))
-two_inferred fs r all two is XY = (λ e. (all, two), λ h. is)
-two_inferred fs r all two is _ = (λ e. let bad = sym is ∙ e in cc, λ h. let k = h.1 in absurd (omega arith))
 
 -- a coordinate is taken for what it is read as
 names_agree : (ns : List Text) (d e : Dimension) → IsInferredAs d ns → IsSeparatedAs e ns → d ≡ e

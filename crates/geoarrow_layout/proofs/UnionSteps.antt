@@ -252,9 +252,6 @@ part_answer N F i z t k d read (Err f) is parts (inr e) a =
     let read_is : N t k e.1 e.2 = subst (λ y. TellsBoth y (N t k) (F k t)) e.3 a in
     ([], inr (k, d, sym is ∙ (parts k d).0 refl, inr (e.1, e.2, read_is, e.4, (refl, e.0))))
 
-pub part_unknown : (N : KindReads) (F : NativeKind → Faults) (i z : ℤ) (t : Tree) → z ≡ i → IsPartsOf z None → TellsBoth (refused BadTypeId) (Part N i t) (PartFault N F i t)
-part_unknown N F i z t is parts = ([], inl ((λ k d id. let bad : None ≡ some_parts k d = (parts k d).1 (is ∙ id) in cc), (refl, refl)))
-
 -- the lists of a kind other than a collection
 pub over_leaf_answer : (b : Bool) (k : NativeKind) (n : ℕ) (s : Summary) (t : Tree) (r : Answer) → (k ≢ GeometryCollection) → n ≡ levels_of k → ((u : Tree) → ShowsIn false s u → TellsBoth r (Under Leaf n u) (LevelsFault CoordinateFault None n u)) → ShowsIn b s t → TellsBoth r (NativeIn b t k) (NativeFaultIn b k t)
 over_leaf_answer b GeometryCollection n s t r other same says shown = absurd (other refl)

@@ -1,5 +1,5 @@
 -- What is written is read as what it was written for, so the data types that are written are pairwise distinct; the comparison with them; every kind is listed, and once.
-use Rattle.geoarrow_layout.proofs.Terms.{◌≡◌, [], ◌∷◌, true, false, refl, sym, subst, member_trees, CoordType, Interleaved, Separated, Dimension, XY, XYZ, XYM, DIMENSIONS, KINDS, members_in, native_members, Lists, NativeKind, Point, LineString, Polygon, MultiPoint, MultiLineString, MultiPolygon, GeometryCollection, Plain, Kind, OfNative, OfGeometry, OfRect, OfWkb, OfWkt, Leaf, levels_of, Member, AllMembers, GeometryMember, Native, BoxShape, Accepted, Under, leaf_layout, mixed_members, native_layout, geometry_members, layout, HasTypeIds, over_leaf_layout, mixed_layout, dimension_members, IsWritten, IsWrittenSome, cond, List, codes, ◌∙◌, ap, bytes_eq, Text, Tree, plain, list, struct, union, ExtensionName, extension_of, names_of, ◌↔◌, Bool, IsTrue, FieldTree, Members, field_trees, UnionMode, field_list, member_list, listed_fields, listed_members, ◌<◌, ℕ, ◌+◌, ◌*◌, ◌-◌, length, get_or, lit<, arith, Contains, Large, View, order_of, place_of, ALL, offset_of}
+use Rattle.geoarrow_layout.proofs.Terms.{◌≡◌, [], ◌∷◌, true, false, refl, sym, subst, member_trees, CoordType, Interleaved, Separated, Dimension, XY, XYZ, XYM, DIMENSIONS, KINDS, members_in, native_members, Lists, NativeKind, Point, LineString, Polygon, MultiPoint, MultiLineString, MultiPolygon, GeometryCollection, Plain, Kind, OfNative, OfGeometry, OfRect, OfWkb, OfWkt, Leaf, levels_of, Member, AllMembers, GeometryMember, Native, BoxShape, Accepted, Under, leaf_layout, mixed_members, native_layout, geometry_members, layout, over_leaf_layout, mixed_layout, dimension_members, IsWritten, IsWrittenSome, cond, List, codes, ◌∙◌, ap, bytes_eq, Text, Tree, plain, list, struct, union, ExtensionName, extension_of, names_of, ◌↔◌, Bool, IsTrue, FieldTree, Members, field_trees, UnionMode, field_list, member_list, listed_fields, listed_members, ◌<◌, ℕ, ◌+◌, ◌*◌, ◌-◌, length, get_or, lit<, arith, Contains, Large, View, order_of, place_of, ALL, offset_of}
 use Rattle.geoarrow_layout.specs.Shapes.{SameNames}
 use Rattle.geoarrow_layout.proofs.Readings.{all_map, all_both}
 use Rattle.geoarrow_layout.specs.declared.names.ExtensionName.TheVariants as names
@@ -55,14 +55,6 @@ written (OfRect d) = written_box d
 written (OfWkb Plain) = refl
 written (OfWkt Plain) = refl
 written _ = refl
-
--- the ids of written members
-pub mixed_ids : (c : CoordType) (d : Dimension) → HasTypeIds (mixed_members c d)
-mixed_ids c XY = refl
-mixed_ids c _ = refl
-
-pub geometry_ids : (c : CoordType) → HasTypeIds (geometry_members c)
-geometry_ids c = refl
 
 -- what a written data type says of its extension name
 abbrev kind_named : Text → NativeKind

@@ -16,12 +16,8 @@ Holds PointOrBox n = (n ≡ name_text (names.Native Point)) ⊎ (n ≡ name_text
 
 -- the same variant, and for `One` the same name
 abbrev pub SameCandidates : Candidates → Candidates → Type 0
-SameCandidates None None = Unit {0}
 SameCandidates (One name) (One other) = name.now ≡ other.now
-SameCandidates LineStringOrMultiPoint LineStringOrMultiPoint = Unit {0}
-SameCandidates PolygonOrMultiLineString PolygonOrMultiLineString = Unit {0}
-SameCandidates PointOrBox PointOrBox = Unit {0}
-SameCandidates _ _ = ⊥
+SameCandidates a b = a ≡ b
 
 -- under that extension name some kind accepts the data type
 abbrev pub IsAccepted : Text → Tree → Type 0

@@ -29,7 +29,6 @@ pub fn kind_is_listed()
 {}
 
 /// A law: the extension names are texts of their own.
-#[tactic(auto, using(crate::proofs::KindSteps::one_name))]
 pub fn names_are_distinct()
     ensures { (a b : ExtensionName) → name_text a ≡ name_text b → a ≡ b }
 {}
@@ -57,14 +56,12 @@ pub fn read_alike(summary: &Summary)
 
 /// A law: the members that are written for a collection have type ids of their own, from 0 to 127 and all distinct,
 /// each that of its kind and dimension, and each member's data type is what is written for these.
-#[tactic(auto, using(crate::proofs::Written::mixed_ids))]
 pub fn mixed_ids(coord_type: CoordType, dimension: Dimension)
     ensures distinct { HasTypeIds (mixed_members coord_type dimension) }
     ensures own { AllMembers (IsWritten coord_type dimension) (member_trees (mixed_members coord_type dimension)) }
 {}
 
 /// A law: the same for the members that are written for geometries of any kind.
-#[tactic(auto, using(crate::proofs::Written::geometry_ids))]
 pub fn geometry_ids(coord_type: CoordType)
     ensures distinct { HasTypeIds (geometry_members coord_type) }
     ensures own { AllMembers (IsWrittenSome coord_type) (member_trees (geometry_members coord_type)) }

@@ -310,7 +310,6 @@ fn sized_dimension(inner: &Field, size: i32) -> Option<Dimension>
 
 /// The dimension that is inferred from a struct of these fields: of two, whatever their names are.
 #[inline(always)]
-#[tactic(auto, using(crate::proofs::Structs::two_inferred, crate::proofs::Structs::none_inferred))]
 fn struct_dimension(fields: &[Field]) -> Option<Dimension>
     ensures { (d : Dimension) → (result ≡ Some d) ↔ ((are_float64 (field_trees fields.now) ≡ true) × IsInferredAs d (names_of (field_trees fields.now))) }
 {

@@ -149,7 +149,7 @@ pub(crate) fn list_item(
 
 /// Goes down the list levels of the outermost list's width, to the third at most.
 #[inline(always)]
-#[tactic(auto, using(crate::proofs::Bottoms::level_more, crate::proofs::Bottoms::third_ended))]
+#[tactic(auto, using(crate::proofs::Bottoms::level_more))]
 pub(crate) fn below_lists(data_type: &DataType) -> Below<'_>
     ensures levels { AreLevels result.width result.levels (tree data_type.now) (tree result.rest.now) }
     ensures ended { Ended result.width result.levels (tree result.rest.now) }

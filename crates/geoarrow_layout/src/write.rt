@@ -53,7 +53,6 @@ pub fn list_data_type(
 
 /// The data type of the union in a collection (GeoArrow, "GeometryCollection"): a member for each of the other native
 /// kinds. Errs only when out of memory.
-#[tactic(auto, using(crate::proofs::Written::mixed_ids))]
 pub fn mixed_data_type(
     alloc: Global,
     coord_type: CoordType,
@@ -68,7 +67,6 @@ pub fn mixed_data_type(
 
 /// The data type of a column of geometries of any kind (GeoArrow, "Geometry"): a union with a member for each native
 /// kind in each dimension. Errs only when out of memory.
-#[tactic(auto, using(crate::proofs::Written::geometry_ids))]
 pub fn geometry_data_type(alloc: Global, coord_type: CoordType) -> Result<DataType, AllocError>
     ensures { IfOk result (λ t. tree t ≡ layout (Kind.Geometry coord_type)) }
 {

@@ -1,10 +1,7 @@
-use Rattle.geoarrow_layout.proofs.Terms.{inl, inr, refl, OfGeometry, OfRect}
+use Rattle.geoarrow_layout.proofs.Terms.{refl, OfGeometry, OfRect}
 use Rattle.geoarrow_layout.proofs.UnionSteps.{inner_of}
 use Rattle.geoarrow_layout.proofs.Readings.{refused_as, told_map}
 use Rattle.geoarrow_layout.proofs.read.kind_under.Goals as goal
-
-pub returns-in_ok-pair-in-Native-clause-told : goal.returns-in_ok-pair-in-Native-clause-told
-returns-in_ok-pair-in-Native-clause-told c = rw c.in-Native.is (λ other t h. (refl, c.in_ok-pair-in-Native.ensures t (inner_of c.args.summary.now t h)))
 
 pub returns-in_err-pair-in-Native-clause-told : goal.returns-in_err-pair-in-Native-clause-told
 returns-in_err-pair-in-Native-clause-told c = rw c.in-Native.is (λ other t h. refused_as _ _ _ _ c.from_residual.ensures.1 (c.in_err-pair-in-Native.ensures t (inner_of c.args.summary.now t h)))
@@ -14,6 +11,3 @@ returns-in-Geometry-clause-told c = rw c.in-Geometry.is (λ other t h. told_map 
 
 pub returns-in-Rect-clause-told : goal.returns-in-Rect-clause-told
 returns-in-Rect-clause-told c = rw c.in-Rect.is (λ other t h. told_map _ _ (λ x. OfRect x) _ _ _ c.map-in-Rect.ensures.cases (λ x a. (refl, a)) (c.boxed.ensures t h))
-
-pub returns-in-Wkb-clause-told : goal.returns-in-Wkb-clause-told
-returns-in-Wkb-clause-told c = λ other t h. absurd (elim c.in-Wkb.is [ inl e ↦ other.0 e | inr e ↦ other.1 e ])

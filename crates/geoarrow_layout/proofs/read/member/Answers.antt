@@ -1,13 +1,7 @@
-use Rattle.geoarrow_layout.proofs.Terms.{◌≡◌, ◌≢◌, inl, inr, refl, rules, to_z-of_z, MemberDimension, NativeIn, NativeFaultIn}
-use Rattle.geoarrow_layout.proofs.Readings.{ok, refused}
-use Rattle.geoarrow_layout.proofs.UnionSteps.{part_answer, part_unknown}
+use Rattle.geoarrow_layout.proofs.Terms.{◌≢◌, inl, inr, refl, rules, to_z-of_z, MemberDimension, NativeIn, NativeFaultIn}
+use Rattle.geoarrow_layout.proofs.Readings.{refused}
+use Rattle.geoarrow_layout.proofs.UnionSteps.{part_answer}
 use Rattle.geoarrow_layout.proofs.read.member.Goals as goal
-
-pub returns-in-Ok : goal.returns-in-Ok
-returns-in-Ok c =
-    let same : c.in-Ok.pair.1 ≡ c.in-Some.dimension = search rules in
-    λ t h. part_answer (NativeIn c.args.collections) (NativeFaultIn c.args.collections) c.args.id _ t _ _ _ (ok c.in-Ok.pair) (search (rules, to_z-of_z))
-    c.in-Some.ensures (c.in-Ok.is, same) (c.native.ensures t h)
 
 pub returns-in-Ok-2 : goal.returns-in-Ok-2
 returns-in-Ok-2 c =
@@ -18,6 +12,3 @@ returns-in-Ok-2 c =
 pub returns-in-Err : goal.returns-in-Err
 returns-in-Err c = λ t h. part_answer (NativeIn c.args.collections) (NativeFaultIn c.args.collections) c.args.id _ t _ _ _ (refused c.in-Err.fault) (search (rules, to_z-of_z))
     c.in-Some.ensures (inl c.in-Err.is) (c.native.ensures t h)
-
-pub returns-in_default : goal.returns-in_default
-returns-in_default c = λ t h. part_unknown (NativeIn c.args.collections) (NativeFaultIn c.args.collections) c.args.id _ t (search (rules, to_z-of_z)) c.in_default.ensures
