@@ -69,7 +69,8 @@ refuses front expects old read words rest reason are stops = (
 )
 
 -- all words were read
-pub all_read : (ws : List (String Global)) (i : ℕ) (expects : Bool) (asked : AskedView) → length ws ≤ i → ReadTo (map string_bytes (take i ws)) expects asked → ReadTo (map string_bytes ws) expects asked
+pub all_read : (ws : List (String Global)) (i : ℕ) (expects : Bool) (asked : AskedView) → length ws ≤ i
+    → ReadTo (map string_bytes (take i ws)) expects asked → ReadTo (map string_bytes ws) expects asked
 all_read ws i expects asked end = subst (λ xs. ReadTo (map string_bytes xs) expects asked) (take_all i ws end)
 
 pub spells : (words : List Text) (expects : Bool) (asked : AskedView) → expects ≡ false → (read : ReadTo words expects asked) → Spell read.items words

@@ -57,7 +57,8 @@ module _ (held : List ℕ) (seen : ℕ) (none : Nowhere (IsFeed held) 0 seen) wh
 pub reads_on : (old source left : Option (List ℕ)) (held next more : List ℕ) → next ≡ held ++ more → Keeps old (prepend_known held source) → Consumes source left more → HasNoFeed held
     → Keeps old (prepend_known next left) × (length held ≤ length next) × Nowhere (IsFeed next) 0 (length held)
 reads_on old source left held next more is kept gives none =
-    (keeps old source left kept gives, omega (arith, length-append held more, ap length is), subst (λ l. Nowhere (IsFeed l) 0 (length held)) (sym is) (none_in_more held more (length held) (omega arith) none))
+    let here = none_in_more held more (length held) (omega arith) none in
+    (keeps old source left kept gives, omega (arith, length-append held more, ap length is), subst (λ l. Nowhere (IsFeed l) 0 (length held)) (sym is) here)
   where
     keeps : (old source left : Option (List ℕ)) → Keeps old (prepend_known held source) → Consumes source left more → Keeps old (prepend_known next left)
     keeps None source left kept gives = tt

@@ -181,7 +181,8 @@ report_line file index c crs f ws small =
     let g = geometry_in f in
     let line : Line (line_text file index c crs f ws) =
     object_line (also (also (also (string_lines (codes "column") (Some c.name)) (crs_lines (codes "crs") (crs_of g crs)))
-    (also (also (also (string_lines (codes "crs_type") (crs_type_of g)) (string_lines (codes "edges") (edges_of g))) (string_lines (codes "extension") (name_on c))) (string_lines (codes "file") file)))
+    (also (also (also (string_lines (codes "crs_type") (crs_type_of g)) (string_lines (codes "edges") (edges_of g)))
+    (string_lines (codes "extension") (name_on c))) (string_lines (codes "file") file)))
     (also (also (also (also (more (member_line (codes "index") (digits_line index small)) none) (found_lines (codes "reasons") f)) (string_lines (codes "state") (Some (state_word f))))
     (string_lines (codes "type") (Some (type_word c g)))) (warned_lines (codes "warnings") ws))) in
     line.all

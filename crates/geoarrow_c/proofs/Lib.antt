@@ -1,2 +1,3 @@
 mod Runs
 pub mod Feeds
+pub mod Gives

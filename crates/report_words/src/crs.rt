@@ -1,5 +1,5 @@
 //! A CRS for people.
-ghost use Rattle.std.specs.Prelude.{◌≡◌, IfOk, option_map, string_bytes};
+ghost use Rattle.std.specs.Prelude.{◌≡◌, ◌++◌, Some, IfOk, OnOk, codes, option_map, string_bytes};
 ghost use Rattle.serde_json.specs.View.{view};
 ghost use Rattle.arrow_values.specs.Texts.{text_of};
 ghost use Rattle.geoparquet.specs.Identifiers.{code_text};
@@ -77,11 +77,18 @@ fn identifier_shown(
 {
     let mut text = shown(alloc, authority)?;
     if let Some(code) = code {
-        let code = code_shown(alloc, code)?;
-        text.push_str(":")?;
-        text.push_str(code.as_str())?;
+        push_code(alloc, &mut text, code)?;
     }
     Ok(text)
+}
+
+/// Adds a colon and the code of an id.
+fn push_code(alloc: Global, text: &mut String, code: &Value) -> Result<(), AllocError>
+    ensures { OnOk result (string_bytes text.new ≡ string_bytes text.old ++ (codes ":" ++ code_shown (code_text (Some (view code.now))))) }
+{
+    let code = code_shown(alloc, code)?;
+    text.push_str(":")?;
+    text.push_str(code.as_str())
 }
 
 /// A code, which is a text or a whole number.

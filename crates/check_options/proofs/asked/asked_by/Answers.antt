@@ -20,7 +20,8 @@ returns-then-is_expected c =
     let l = c.loop-word in
     let words = map string_bytes c.args.words.now in
     let read = all_read c.args.words.now l.word-index l.is_expected (asked_view l.asked) c.loop-word-test.false l.invariant in
-    inl (refuses words true (asked_view l.asked) (subst (λ b. ReadTo words b (asked_view l.asked)) c.if-is_expected.true read) words [] (string_bytes c.in_ok-from_str.field-0) (sym (append-nil words))
+    inl (refuses words true (asked_view l.asked) (subst (λ b. ReadTo words b (asked_view l.asked)) c.if-is_expected.true read)
+    words [] (string_bytes c.in_ok-from_str.field-0) (sym (append-nil words))
     (inr (refl, c.in_ok-from_str.ensures.ok)))
 
 pub returns-in_ok-from_str-in-Some : goal.returns-in_ok-from_str-in-Some

@@ -34,4 +34,5 @@ returns c =
     let rest = for (λ s. found_of c.args.index f s c.args.warnings.now) c.in_ok-put_found.ensures word in
     let up_to_crs = goes_on (more begun column) (crs_text (crs_of (geometry_in f) given)) c.in_ok-out.out crs in
     let members = members_of (text_of c.args.file) c.args.index tree given f c.args.warnings.now in
-    ap (λ v. v.items) c.from_utf8_unchecked.ensures.value ∙ c.into_inner.ensures.items ∙ ends_at (123 ∷ []) members (more (more up_to_crs names) rest).text rest.ended (sent c.in_ok-end_object.ensures) refl
+    ap (λ v. v.items) c.from_utf8_unchecked.ensures.value ∙ c.into_inner.ensures.items
+    ∙ ends_at (123 ∷ []) members (more (more up_to_crs names) rest).text rest.ended (sent c.in_ok-end_object.ensures) refl

@@ -7,4 +7,5 @@ use Rattle.column_reports.proofs.line.put_found.Goals as goal
 pub returns : goal.returns
 returns c =
     let state = for (λ s. string_if (codes "state") (Some s)) c.in_ok-put_text.ensures c.state_word.ensures in
-    on_ok_weaker c.put_warnings.result (λ warned. then (then (then (then c.in_ok-put_number.ensures c.in_ok-put_reasons.ensures) state) c.in_ok-put_text-2.ensures) warned) c.put_warnings.ensures
+    on_ok_weaker c.put_warnings.result
+    (λ warned. then (then (then (then c.in_ok-put_number.ensures c.in_ok-put_reasons.ensures) state) c.in_ok-put_text-2.ensures) warned) c.put_warnings.ensures

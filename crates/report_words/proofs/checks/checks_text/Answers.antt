@@ -10,7 +10,8 @@ loop-finding-preserved c =
     let line = check_line c.args.all in
     let done = take l.finding-index findings in
     let finding = c.finding-item.result in
-    let taken : take (l.finding-index + 1) findings ≡ done ++ finding ∷ [] = take_more findings l.finding-index finding c.loop-finding-test.true ∙ ap (λ f. done ++ f ∷ []) (sym c.finding-item.is) in
+    let taken : take (l.finding-index + 1) findings ≡ done ++ finding ∷ [] =
+    take_more findings l.finding-index finding c.loop-finding-test.true ∙ ap (λ f. done ++ f ∷ []) (sym c.finding-item.is) in
     c.in_ok-push_line.ensures ∙ ap (λ t. t ++ line finding) l.invariant ∙ flat_map_more line [] done finding ∙ ap (flat_map line) (sym taken)
 
 pub returns : goal.returns
