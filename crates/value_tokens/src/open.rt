@@ -9,7 +9,7 @@ use json::{Reader, Token};
 
 /// Takes the brace that opens an object, where one comes next, and returns how deep its members may nest. Passes over
 /// any other value whole, and returns `None`.
-#[tactic(auto, using(crate::proofs::Firsts::first_tokens))]
+#[tactic(auto, using(crate::proofs::Firsts::first_nested))]
 #[inline(always)]
 pub fn open_object(reader: &mut Reader<'_>, depth: usize) -> Result<Option<usize>, Refusal>
     ensures ok { IfOk result (λ o. OpensObject depth reader.old o reader.new) }
@@ -34,7 +34,7 @@ pub fn open_object(reader: &mut Reader<'_>, depth: usize) -> Result<Option<usize
 
 /// Takes the bracket that opens an array, where one comes next, and returns how deep its items may nest. Passes over any
 /// other value whole, and returns `None`.
-#[tactic(auto, using(crate::proofs::Firsts::first_tokens))]
+#[tactic(auto, using(crate::proofs::Firsts::first_nested))]
 #[inline(always)]
 pub fn open_array(reader: &mut Reader<'_>, depth: usize) -> Result<Option<usize>, Refusal>
     ensures ok { IfOk result (λ o. OpensArray depth reader.old o reader.new) }
