@@ -1,7 +1,6 @@
 //! The types of columns of geometries: one generic type, `ColumnType`, whose parameter is the encoding. The encodings are
 //! the native one, whose parameter is the shape, boxes, geometries of any kind, well-known binary and well-known text. The
-//! shapes of points, line strings and polygons are here; those of multipoints, multilinestrings, multipolygons and
-//! collections are in `geoarrow_multi`.
+//! shapes of points, line strings and polygons are here; those of many parts are in `geoarrow_multi`.
 #![tactic(auto)]
 
 mod boxes;
