@@ -5,7 +5,7 @@ use Rattle.std.specs.Str.{is_utf8}
 use Rattle.std.proofs.lemmas.List.{length-append, take_at, drop_all, map-append}
 use mir.Val.{bool_byte}
 use Rattle.arrow_values.specs.Tree.{Text, Metadata, null, plain, fixed_size_list, struct, FieldTree, union, MemberTrees, no_members, member, Members, Tree, FieldTrees, no_fields, field, fields_depth, members_depth}
-use Rattle.arrow_columns.specs.Column.{TypeTree, ColumnTree, known, other, column_tree}
+use Rattle.arrow_columns.specs.Column.{TypeTree, ColumnTree, known, column_tree}
 use Rattle.arrow_ipc.specs.Wire.{utf8_at, integer_at, target_at, vector_at, slot_at}
 use Rattle.arrow_ipc.specs.Slots.{table_in, integer_in, flag_in, led_by, text_in, vector_in}
 use Rattle.arrow_ipc.specs.Columns.{entry_in, texts_at, finished, columns_by, column_at, ids_at, typed, is_new, put_id, ids_from, entry_at, put_next, put_column}
@@ -16,7 +16,7 @@ use Rattle.arrow_ipc.specs.Writes.{Streams, RefusesColumns, GivesColumns}
 use Rattle.arrow_ipc.specs.declared.schema.Endianness.{Endianness}
 use Rattle.arrow_ipc.specs.declared.schema.Endianness.TheVariants.{Little, Big}
 use Rattle.arrow_ipc.proofs.Told.{bound}
-use Rattle.std.proofs.lemmas.Bool.{lt-ltb, le-leb, ltb-true, eq-eqb}
+use Rattle.std.proofs.lemmas.Bool.{lt-ltb, le-leb, ltb-true, eq-eqb, and_parts}
 use Rattle.arrow_ipc.proofs.Linked.{text_is, is_some, u8_is, u32_is, target_is, length_linked, flat, tail, low, length_table, stands, table_holds, u16_is, by_place, slot_place, is_vector, AreLinked, AreWhole, whole_lengths, are_linked}
 use Rattle.std.specs.Int.{w8, w16, w32, from_le_bytes, byte_at}
 use Rattle.std.specs.List.{push, zip, AllZip, AllByRecursion}
@@ -41,9 +41,8 @@ use Rattle.std.specs.Cmp.{IsTotalOrder}
 use Rattle.std.specs.List.Sorted.{IsStrictlySortedBy}
 use Rattle.std.specs.Map.{keys_of}
 use Rattle.std.specs.BTreeMap.{insert_entry}
-use Rattle.std.specs.String.{string_cmp_total}
+use Rattle.std.specs.String.{string_cmp, string_cmp_total}
 use Rattle.arrow_values.specs.Texts.{put_text}
-use Rattle.arrow_values.proofs.TextLaws.{texts_of_insert}
 use Rattle.arrow_ipc.specs.Tells.{gather}
 use Rattle.arrow_ipc.specs.declared.write.WriteError.{WriteError}
 use Rattle.arrow_ipc.specs.declared.write.WriteError.TheVariants.{Column as Unfit}
@@ -89,9 +88,6 @@ pub column_by_table : (depth : ℕ) (bytes : List ℕ) (at table : ℕ) (v : Col
 unfolding column_at parts_at column_in
 column_by_table depth bytes at table v led is = rw led is
 
-flag_is : (b : Bool) → (if bool_byte b == 0 then false else true) ≡ b
-flag_is b = grind arith
-
 abbrev pub slots : List ℕ
 slots = 4 ∷ 20 ∷ 21 ∷ 8 ∷ 0 ∷ 12 ∷ 16 ∷ []
 
@@ -105,6 +101,7 @@ column_holds levels nb tb cb mb nullable tag name cs t ms named typing children 
     let l = s.links in
     let first : integer_at bytes (at + 20) w8 ≡ Ok (bool_byte nullable) = u8_is bytes (at + 20) (bool_byte nullable) _ (s.number 0) in
     let second : integer_at bytes (at + 21) w8 ≡ Ok tag = u8_is bytes (at + 21) tag _ (s.number 1) in
+    let flag : (if bool_byte nullable == 0 then false else true) ≡ nullable = grind arith in
     let n = named.reads bytes l.0.to l.0.lies in
     let r = typing.reads bytes l.1.0.to l.1.0.lies in
     let c = children.reads bytes l.1.1.0.to l.1.1.0.lies in
@@ -114,14 +111,11 @@ column_holds levels nb tb cb mb nullable tag name cs t ms named typing children 
     let mv = bound (vector_at bytes l.1.1.1.0.to) (texts_at bytes) (ms, m.0) m.2 in (
       16 + length name + 0 + (c.0 + m.0),
       omega (arith, n.1, nv.1, c.1, m.1),
-      rw (s.is_open, s.slot 0, l.0.led, nv.0, s.slot 1, first, flag_is nullable, s.slot 2, second, is_some tag typing.some, le-leb tag 26 typing.least)
+      rw (s.is_open, s.slot 0, l.0.led, nv.0, s.slot 1, first, flag, s.slot 2, second, is_some tag typing.some, le-leb tag 26 typing.least)
           (rw (s.slot 3, l.1.0.led, r.is_open, r.is_first, r.is_kind, r.is_own, s.slot 4, s.slot 5, l.1.1.0.led, cv.1, s.slot 6, l.1.1.1.0.led, mv.1, cv.2, r.is_type at, mv.2) refl),
     ))
 
 -- ---- the block of a schema, in a message, in a stream
-
-ordered : (order : Endianness) → (if order_number order == 0 then Little else Big) ≡ order
-ordered order = grind arith
 
 schema_holds : (levels : ℕ) (cb mb : List ℕ) (order : Endianness) (cs : List ColumnTree) (ms : Metadata) → Holds (columns_read levels) cb cs → Holds texts_read mb ms → length (schema_block cb mb order) < 2 ^ 32
     → Holds (schema_at levels) (schema_block cb mb order) (record { columns = cs; metadata = ms; endianness = order })
@@ -131,12 +125,13 @@ schema_holds levels cb mb order cs ms columns texts small =
     (schema_at levels) (record { columns = cs; metadata = ms; endianness = order }) (λ bytes at s.
     let l = s.links in
     let whole = s.whole in
+    let ordered : (if order_number order == 0 then Little else Big) ≡ order = grind arith in
     let order_is = low bytes (at + 12) (order_number order) _ (omega (arith, whole)) (s.number 0) in
     let c = columns.reads bytes l.0.to l.0.lies in
     let m = texts.reads bytes l.1.0.to l.1.0.lies in
     let cv = bound (vector_at bytes l.0.to) (columns_by (column_at levels bytes)) (cs, c.0) c.2 in
     let mv = bound (vector_at bytes l.1.0.to) (texts_at bytes) (ms, m.0) m.2 in
-    (c.0 + m.0, omega (arith, c.1, m.1), rw (s.is_open, s.slot 0, order_is, s.slot 1, l.0.led, cv.1, s.slot 2, l.1.0.led, mv.1, ordered order, cv.2, mv.2) refl))
+    (c.0 + m.0, omega (arith, c.1, m.1), rw (s.is_open, s.slot 0, order_is, s.slot 1, l.0.led, cv.1, s.slot 2, l.1.0.led, mv.1, ordered, cv.2, mv.2) refl))
 
 pub length_schema : (columns texts : List ℕ) (order : ℕ) → length (table_block (12 ∷ 4 ∷ 8 ∷ []) (order ∷ 0 ∷ 0 ∷ 0 ∷ []) (columns ∷ texts ∷ [])) ≡ 32 + length columns + length texts
 length_schema columns texts order = let size = length_table (12 ∷ 4 ∷ 8 ∷ []) (order ∷ 0 ∷ 0 ∷ 0 ∷ []) (columns ∷ texts ∷ []) in omega (arith, size)
@@ -185,10 +180,6 @@ stream_built s a b c d e message block x s1 a2 b3 c4 d5 e6 same many =
     rw (d5, c4, b3, a2, s1, e6, many, ← size, same) refl
 
 -- ---- the tables of types
-
--- tests
-both : (a b : Bool) → (a && b) ≡ true → (a ≡ true) × (b ≡ true)
-both a b is = grind arith
 
 pub length_type : (n : Option ℕ) (b : Option Bool) → length (type_block n b) ≡ 24
 length_type n b = let size = length_table (place_of_number n ∷ place_of_truth b ∷ []) (word (number n) ++ (truth b ∷ 0 ∷ 0 ∷ 0 ∷ [])) [] in omega (arith, size)
@@ -251,8 +242,8 @@ module _ (bytes : List ℕ) (table start count : ℕ) where
   walk done [] i at rest is place even good = ap (λ (l : List ℤ). Ok l) (sym (append-nil done))
   walk done (negsuc n ∷ left) i at rest is place even good = absurd (cc)
   walk done (pos n ∷ left) i at rest is place even good =
-      let new = both (is_new n done) (are_ids (done ++ pos n ∷ []) left) good in
-      let small = ltb-true n 128 (both (nat_lt n 128) (not (has (pos n) done)) new.0).0 in
+      let new = and_parts (is_new n done) (are_ids (done ++ pos n ∷ []) left) good in
+      let small = ltb-true n 128 (and_parts (nat_lt n 128) (not (has (pos n) done)) new.0).0 in
       let cut : drop at bytes ≡ word n ++ (id_words left ++ rest) = is ∙ append_assoc (word n) (id_words left) rest in
       let here : integer_at bytes (start + 4 * i) w32 ≡ Ok n = subst (λ p. integer_at bytes p w32 ≡ Ok n) place (u32_is bytes at n (id_words left ++ rest) even (omega (arith, small)) cut) in
       let next = walk (done ++ pos n ∷ []) left (i + 1) (at + 4) rest (by_place bytes at (word n ++ (id_words left ++ rest)) 4 cut) (omega (arith, place)) (omega (arith, even)) new.1 in
@@ -471,11 +462,19 @@ Texts = List (String Global × String Global)
 abbrev put : Metadata → Text × Text → Metadata
 put m e = put_text e.0 e.1 m
 
+-- the texts of a map after an insert
+moved : (r : Ordering) (a b c : Texts) → texts_of (match_ordering r a b c) ≡ match_ordering r (texts_of a) (texts_of b) (texts_of c)
+moved r a b c = grind arith
+
+pub texts_inserted : (es : Texts) (k v : String Global) → texts_of (insert_entry string_cmp es k v) ≡ put_text (string_bytes k) (string_bytes v) (texts_of es)
+texts_inserted [] k v = refl
+texts_inserted (e ∷ es) k v = moved (string_cmp k e.0) _ _ _ ∙ rw (texts_inserted es k v)
+
 put_last : (done : Texts) (k t : String Global) (left : Texts) → IsStrictlySortedBy string_cmp (keys_of (done ++ (k, t) ∷ left))
     → put_text (string_bytes k) (string_bytes t) (texts_of done) ≡ texts_of (done ++ (k, t) ∷ [])
 put_last done k t left h =
     let sorted = subst (IsStrictlySortedBy string_cmp) (map-append (λ (e : String Global × String Global). e.0) done ((k, t) ∷ left)) h in
-    sym (texts_of_insert done k t) ∙ ap texts_of (insert_last string_cmp_total done k t (keys_of left) sorted)
+    sym (texts_inserted done k t) ∙ ap texts_of (insert_last string_cmp_total done k t (keys_of left) sorted)
 
 joined_texts : (done left : Texts) → IsStrictlySortedBy string_cmp (keys_of (done ++ left)) → joined put (texts_of done) (texts_of left) ≡ texts_of (done ++ left)
 joined_texts done [] h = ap texts_of (sym (append-nil done))

@@ -9,7 +9,6 @@ use Rattle.std.proofs.lemmas.List.{get_or_past, length-drop, drop-drop, drop_at,
 use Rattle.std.proofs.lemmas.Bool.{lt-ltb, le-ltb, le-leb, ltb-true, ltb-false, eq-eqb}
 use Rattle.std.proofs.lemmas.Bool.Decides.{nat_tests}
 use Rattle.std.proofs.lemmas.Str.{IsUtf8-from_is_utf8, is_utf8-from_IsUtf8}
-use Rattle.arrow_ipc.specs.Fault.{◌>>=◌}
 use Rattle.arrow_ipc.specs.Wire.{integer_at, ahead, vtable_at, target_at, text_at, utf8_at, vector_at, opened_at, slot_at}
 use Rattle.arrow_ipc.specs.Blocks.{Lies, Holds, lengths, word, rounded, padded, offsets, linked, table_size, places, table_block}
 use Rattle.arrow_ipc.specs.declared.fault.Fault.{Fault}

@@ -136,20 +136,11 @@ module _ (read : ℕ → List ℕ → Result (SchemaTree × ℕ) Fault) (law : (
   denotes_one place s t a b = grind (arith, one_schema)
 
 -- a schema that is read is the one that is denoted
-met : (place : Result (List ℕ) Fault) (read : ℕ → List ℕ → Result (SchemaTree × ℕ) Fault) (levels : ℕ) (s : Schema) → Meets place (read levels) (Ok s)
+pub read_is_denoted : (place : Result (List ℕ) Fault) (read : ℕ → List ℕ → Result (SchemaTree × ℕ) Fault) (levels : ℕ) (s : Schema) → Meets place (read levels) (Ok s)
     → (bytes : List ℕ) × (place ≡ Ok bytes) × Denotes read bytes (schema_tree s)
-met place read levels s m = grind arith
+read_is_denoted place read levels s m = grind arith
 
-pub stream_read_is_denoted : (levels : ℕ) (stream : List ℕ) (s : Schema) → Meets (message_in stream) (schema_of_message levels) (Ok s) → StreamDenotes stream (schema_tree s)
-stream_read_is_denoted levels stream s m = met (message_in stream) schema_of_message levels s m
-
-pub file_read_is_denoted : (levels : ℕ) (file : List ℕ) (s : Schema) → Meets (footer_in file) (schema_of_footer levels) (Ok s) → FileDenotes file (schema_tree s)
-file_read_is_denoted levels file s m = met (footer_in file) schema_of_footer levels s m
-
--- what is written is denoted, and is read
-pub written_is_denoted : (levels : ℕ) (stream : List ℕ) (s : SchemaTree) → IsStreamOf levels stream s → StreamDenotes stream s
-written_is_denoted levels stream s w = (w.0, w.1, (levels, w.2.0, w.2.2))
-
+-- what is written is read
 read_back : (read : List ℕ → Result (SchemaTree × ℕ) Fault) (bytes : List ℕ) (s : SchemaTree) (n : ℕ) → n ≤ 8 * length bytes → read bytes ≡ Ok (s, n) → (r : Result Schema IpcError) → MeetsIn read bytes r
     → MatchResult r (λ t. schema_tree t ≡ s) (λ e. e ≡ OutOfMemory)
 read_back read bytes s n few is r m = grind arith

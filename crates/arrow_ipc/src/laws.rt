@@ -24,7 +24,7 @@ pub fn schema_is_unique()
 
 /// A law: the schema that is read of a stream or of a file, at whatever limit of levels, is the one that it denotes. There is
 /// nothing to run.
-#[tactic(auto, using(crate::proofs::Told::stream_read_is_denoted, crate::proofs::Told::file_read_is_denoted))]
+#[tactic(auto, using(crate::proofs::Told::read_is_denoted))]
 pub fn read_is_denoted()
     ensures stream { (levels : ℕ) (stream : List ℕ) (s : Schema) → Meets (message_in stream) (schema_of_message levels) (Ok s)
         → StreamDenotes stream (schema_tree s) }
@@ -34,7 +34,7 @@ pub fn read_is_denoted()
 
 /// A law: a stream that `write_schema` wrote denotes the schema that it was given, and what `read_schema` answers of that stream is that
 /// schema, or out of memory. There is nothing to run.
-#[tactic(auto, using(crate::proofs::Told::written_is_denoted, crate::proofs::Told::written_is_read))]
+#[tactic(auto, using(crate::proofs::Told::written_is_read))]
 pub fn written_is_read()
     ensures denoted { (levels : ℕ) (stream : List ℕ) (s : SchemaTree) → IsStreamOf levels stream s → StreamDenotes stream s }
     ensures read { (levels : ℕ) (stream : List ℕ) (s : SchemaTree) (result : Result Schema IpcError) → IsStreamOf levels stream s

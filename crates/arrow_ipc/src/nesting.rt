@@ -120,11 +120,9 @@ pub(crate) fn data_block(
     ensures { Gives (λ b. Holds (child_in levels) b (record { name = name.now; data_type = known (tree data_type.now); nullable = nullable; metadata = texts_of texts.now.entries }))
         (IsUnfit levels (tree data_type.now)) (column_room name.now (tree data_type.now) (texts_of texts.now.entries)) result }
 {
-    if levels == 0 {
-        return Err(WriteError::Column(0));
-    }
+    let below = levels.checked_sub(1).ok_or(WriteError::Column(0))?;
     let fields = nested_fields(alloc, data_type)?;
-    let children = children_block(alloc, fields.as_slice(), levels - 1)?;
+    let children = children_block(alloc, fields.as_slice(), below)?;
     let (tag, table) = type_table(alloc, data_type)?;
     let name = text_block(alloc, name)?;
     let texts = texts_block(alloc, texts)?;

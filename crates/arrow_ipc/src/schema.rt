@@ -73,7 +73,7 @@ fn entry_at(bytes: &[u8], at: usize) -> Found<(&str, &str)>
 }
 
 /// Puts an entry of metadata to those before it.
-#[tactic(auto, using(arrow_values::proofs::TextLaws::texts_of_insert))]
+#[tactic(auto, using(crate::proofs::Blocks::texts_inserted))]
 #[inline(never)]
 fn put_entry(alloc: Global, bytes: &[u8], at: usize, budget: &mut usize, to: &mut Texts) -> Read<()>
     ensures { Tells (λ _. texts_of to.new.entries) (put_entry bytes.now at (texts_of to.old.entries)) budget.old budget.new result }

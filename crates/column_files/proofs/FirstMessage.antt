@@ -7,7 +7,7 @@ use Rattle.std.proofs.lemmas.List.{length-append, length-take-le, take-append-le
 use Rattle.arrow_ipc.specs.Fault.{breaks}
 use Rattle.arrow_ipc.specs.declared.fault.Rule.TheVariants.{Envelope}
 use Rattle.arrow_ipc.specs.Schema.{message_in, cut, schema_of_message}
-use Rattle.arrow_ipc.specs.Wire.{u32_at}
+use Rattle.arrow_ipc.specs.Wire.{integer_at}
 use Rattle.column_files.specs.Forms.{IsForm}
 use Rattle.column_files.specs.Files.{IsSchemaRead, IsFileRead}
 use Rattle.column_files.specs.Reading.{size_in, GivesSchema, IsHead, ReadAs}
@@ -20,7 +20,7 @@ abbrev stream : ℕ → ℕ → ℕ → ℕ → List ℕ → List ℕ
 stream a b c d rest = 255 ∷ 255 ∷ 255 ∷ 255 ∷ a ∷ b ∷ c ∷ d ∷ rest
 
 message_is : (a b c d : ℕ) (rest : List ℕ) → message_in (stream a b c d rest) ≡ cut (stream a b c d rest) 8 (from_le_bytes w32 (a ∷ b ∷ c ∷ d ∷ []))
-unfolding message_in u32_at
+unfolding message_in integer_at
 message_is a b c d rest = refl
 
 -- a message that is whole is cut out of as many bytes as its size says

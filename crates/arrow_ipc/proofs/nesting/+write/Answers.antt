@@ -1,4 +1,5 @@
-use Rattle.std.proofs.Common.{map, ap, ◌∙◌, arith}
+use Rattle.std.proofs.Common.{◌≡◌, ◌<◌, ◌-◌, map, ap, ◌∙◌, arith}
+use Rattle.std.proofs.lemmas.Grind.{common_steps}
 use Rattle.std.proofs.lemmas.List.{drop_all}
 use Rattle.arrow_values.specs.View.{tree, texts_of}
 use Rattle.arrow_ipc.proofs.Linked.{items}
@@ -13,5 +14,6 @@ children_block-returns t c =
 
 pub data_block-returns : goal.data_block-returns
 data_block-returns t c =
-    data_gives c.args.levels (tree c.args.data_type.now) c.args.name.now c.args.nullable (texts_of c.args.texts.now.entries) _ _ _ _ c.in_ok-tag.tag (lent c.as_slice.result.now) (omega arith) (ap lent c.as_slice.ensures.value ∙ c.in_ok-fields.ensures)
-    c.in_ok-name.ensures c.in_ok-texts.ensures c.in_ok-children.ensures c.in_ok-tag.ensures.0 c.in_ok-tag.ensures.1 c.table_block.result c.table_block.ensures
+    let below : (0 < c.args.levels) × (c.in_ok-below.below ≡ c.args.levels - 1) = grind (arith, common_steps) in
+    data_gives c.args.levels (tree c.args.data_type.now) c.args.name.now c.args.nullable (texts_of c.args.texts.now.entries) _ _ _ _ c.in_ok-tag.tag (lent c.as_slice.result.now) below.0 (ap lent c.as_slice.ensures.value ∙ c.in_ok-fields.ensures)
+    c.in_ok-name.ensures c.in_ok-texts.ensures (rw below.1 at c.in_ok-children.ensures) c.in_ok-tag.ensures.0 c.in_ok-tag.ensures.1 c.table_block.result c.table_block.ensures
