@@ -1,5 +1,4 @@
--- The blocks of texts, of entries, of columns, of schemas and of messages, with the tables of types; and blocks that are made one after the
--- other: the walk along a vector of tables, and the vectors of metadata, of columns, and of the columns that a type nests.
+-- The blocks of texts, entries, columns, schemas and messages, the tables of types, and vectors of blocks: how they are made and walked, one after the other.
 use Rattle.std.proofs.Common.{◌≡◌, ℕ, ◌+◌, ◌-◌, ◌^◌, ◌<◌, true, ◌++◌, ◌∷◌, [], List, length, Ok, refl, sym, ap, ◌∙◌, arith, append_assoc, suc, ◌≤◌, Bool, false, ◌==◌, if◌then◌else◌, take, drop, append-nil, pos, ◌&&◌, not, map, Option, Some, None, Result, nat_lt, ◌*◌, ◌%◌, ℤ, negsuc, subst, String, Global, string_bytes, string_cmp, Ordering, Less, Greater, Vec, zero, ◌⊎◌, inl, inr, get_or}
 use Rattle.std.specs.Str.{is_utf8}
 use Rattle.std.proofs.lemmas.List.{length-append, take_at, drop_all, map-append}
@@ -115,7 +114,7 @@ column_holds levels nb tb cb mb nullable tag name cs t ms named typing children 
           (rw (s.slot 3, l.1.0.led, r.is_open, r.is_first, r.is_kind, r.is_own, s.slot 4, s.slot 5, l.1.1.0.led, cv.1, s.slot 6, l.1.1.1.0.led, mv.1, cv.2, r.is_type at, mv.2) refl),
     ))
 
--- ---- the block of a schema, in a message, in a stream
+-- ---- the block of a schema, and of the message that holds it
 
 schema_holds : (levels : ℕ) (cb mb : List ℕ) (order : Endianness) (cs : List ColumnTree) (ms : Metadata) → Holds (columns_read levels) cb cs → Holds texts_read mb ms → length (schema_block cb mb order) < 2 ^ 32
     → Holds (schema_at levels) (schema_block cb mb order) (record { columns = cs; metadata = ms; endianness = order })
@@ -135,8 +134,6 @@ schema_holds levels cb mb order cs ms columns texts small =
 
 pub length_schema : (columns texts : List ℕ) (order : ℕ) → length (table_block (12 ∷ 4 ∷ 8 ∷ []) (order ∷ 0 ∷ 0 ∷ 0 ∷ []) (columns ∷ texts ∷ [])) ≡ 32 + length columns + length texts
 length_schema columns texts order = let size = length_table (12 ∷ 4 ∷ 8 ∷ []) (order ∷ 0 ∷ 0 ∷ 0 ∷ []) (columns ∷ texts ∷ []) in omega (arith, size)
-
--- ---- the message
 
 pub length_message : (schema : List ℕ) → length (table_block (8 ∷ 10 ∷ 4 ∷ []) (4 ∷ 0 ∷ 1 ∷ 0 ∷ []) (schema ∷ [])) ≡ 24 + length schema
 length_message schema = let size = length_table (8 ∷ 10 ∷ 4 ∷ []) (4 ∷ 0 ∷ 1 ∷ 0 ∷ []) (schema ∷ []) in omega (arith, size)

@@ -8,8 +8,8 @@ use Rattle.arrow_ipc.specs.declared.fault.IpcError.{IpcError}
 use Rattle.arrow_ipc.specs.Parts.{Own, parts_at}
 use Rattle.arrow_ipc.specs.Columns.{put_id, ids_from, put_column, columns_by, finished, priced, column_at}
 use Rattle.arrow_ipc.specs.declared.fault.Rule.TheVariants.{Depth}
-use Rattle.arrow_ipc.specs.Schema.{SchemaTree, schema_tree, head_at, with_columns, schema_at, message_at, footer_at, message_in, footer_in, schema_of_message, schema_of_footer, Meets, MeetsIn}
-use Rattle.arrow_ipc.specs.Denotes.{Denotes, StreamDenotes, FileDenotes, IsStreamOf}
+use Rattle.arrow_ipc.specs.Schema.{SchemaTree, schema_tree, head_at, with_columns, schema_at, message_at, footer_at, message_in, schema_of_message, schema_of_footer, Meets, MeetsIn}
+use Rattle.arrow_ipc.specs.Denotes.{Denotes, IsStreamOf}
 use Rattle.arrow_ipc.specs.declared.fault.IpcError.TheVariants.{OutOfMemory}
 use Rattle.arrow_ipc.specs.declared.schema.Schema.{Schema}
 
