@@ -10,37 +10,43 @@ use parquet_schema::{SchemaError, columns_of_file, value_in_file};
 use rows::asked::Asked;
 use rows::said::Said;
 use rows::say;
-use std::alloc::{AllocError, Global};
 use std::fmt::Debug;
+use std::mem::ManuallyDrop;
 
-/// Says the answer to a text under a command. Errs where the text does not spell bytes.
-pub fn answer(it: &mut Asked<'_>) -> Result<(), AllocError> {
+/// Says the answer to a text under a command. It is lacking where the text does not spell bytes.
+pub fn answer(it: &mut Asked<'_>) {
     let (key, digits) = match it.command {
         "value_in_file" => it.text.split_once(' ').unwrap_or(("", it.text)),
         _ => ("", it.text),
     };
-    let bytes = hex::decode(it.alloc, digits).or(Err(AllocError))?;
+    match hex::decode(it.alloc, digits) {
+        Ok(bytes) => answer_bytes(it, bytes.as_slice(), key),
+        Err(_) => it.said.fail(),
+    }
+}
+
+/// Says the answer to some bytes.
+fn answer_bytes(it: &mut Asked<'_>, bytes: &[u8], key: &str) {
     match it.command {
         "value_in_file" => {
             it.before();
-            let found = value_in_file(it.alloc, bytes.as_slice(), key);
+            let found = ManuallyDrop::new(value_in_file(it.alloc, bytes, key));
             it.after();
             say_value(&mut it.said, &found);
         }
         "read_footer" => {
             it.before();
-            let read = read_footer(it.alloc, bytes.as_slice());
+            let read = ManuallyDrop::new(read_footer(it.alloc, bytes));
             it.after();
             say_answer(&mut it.said, &read);
         }
-        "columns_of" => answer_columns(it, bytes.as_slice()),
         "columns_of_file" => {
             it.before();
-            let made = columns_of_file(it.alloc, bytes.as_slice());
+            let made = ManuallyDrop::new(columns_of_file(it.alloc, bytes));
             it.after();
-            say_file(it.alloc, &mut it.said, &made);
+            say_file(&mut it.said, &made);
         }
-        "footer_length" => match bytes.as_slice().first_chunk::<8>() {
+        "footer_length" => match bytes.first_chunk::<8>() {
             Some(tail) => {
                 it.before();
                 let length = footer_length(tail);
@@ -49,21 +55,21 @@ pub fn answer(it: &mut Asked<'_>) -> Result<(), AllocError> {
             }
             None => it.said.fail(),
         },
-        "each_cut" => each_cut(it.alloc, &mut it.said, bytes.as_slice()),
-        "each_turned" => each_turned(it.alloc, &mut it.said, bytes.as_slice())?,
+        "columns_of" => answer_columns(it, bytes),
+        "each_cut" => each_cut(&mut it.said, bytes),
+        "each_turned" => each_turned(&mut it.said, bytes),
         _ => it.no_command(),
     }
-    Ok(())
 }
 
 /// Says the columns of the footer that some bytes are.
 fn answer_columns(it: &mut Asked<'_>, bytes: &[u8]) {
-    match read_footer(it.alloc, bytes) {
+    match &*ManuallyDrop::new(read_footer(it.alloc, bytes)) {
         Ok(footer) => {
             it.before();
-            let made = columns_of(it.alloc, &footer);
+            let made = ManuallyDrop::new(columns_of(it.alloc, footer));
             it.after();
-            say_columns(it.alloc, &mut it.said, &made);
+            say_columns(&mut it.said, &made);
         }
         Err(_) => it.said.fail(),
     }
@@ -153,12 +159,13 @@ fn say_answer(said: &mut Said, read: &Result<Footer<'_>, FooterError>) {
 }
 
 /// Says columns in Arrow's notation, or the rule that is broken and by which element; out of memory is no answer.
-fn say_columns(alloc: Global, said: &mut Said, made: &Result<Vec<Column>, ColumnsError>) {
+fn say_columns(said: &mut Said, made: &Result<Vec<Column>, ColumnsError>) {
     match made {
         Ok(columns) => {
             for (at, column) in columns.iter().enumerate() {
                 said.push(if at > 0 { "; " } else { "" });
-                said.made(column.notation(alloc));
+                let notation = column.notation(said.alloc);
+                said.made(notation);
             }
         }
         Err(ColumnsError::Broken(fault)) => {
@@ -170,10 +177,11 @@ fn say_columns(alloc: Global, said: &mut Said, made: &Result<Vec<Column>, Column
 }
 
 /// Says the columns of a file in Arrow's notation, each with the name and the metadata of its extension type behind it.
-fn say_named_columns(alloc: Global, said: &mut Said, columns: &[Column]) {
+fn say_named_columns(said: &mut Said, columns: &[Column]) {
     for (at, column) in columns.iter().enumerate() {
         said.push(if at > 0 { "; " } else { "" });
-        said.made(column.notation(alloc));
+        let notation = column.notation(said.alloc);
+        said.made(notation);
         for text in [
             column.extension_type_name(),
             column.extension_type_metadata(),
@@ -187,9 +195,9 @@ fn say_named_columns(alloc: Global, said: &mut Said, columns: &[Column]) {
 }
 
 /// Says the columns of a file, or why there are none; out of memory is no answer.
-fn say_file(alloc: Global, said: &mut Said, made: &Result<Vec<Column>, SchemaError>) {
+fn say_file(said: &mut Said, made: &Result<Vec<Column>, SchemaError>) {
     match made {
-        Ok(columns) => say_named_columns(alloc, said, columns.as_slice()),
+        Ok(columns) => say_named_columns(said, columns.as_slice()),
         Err(error) => say_fault(said, error),
     }
 }
@@ -245,9 +253,9 @@ impl Sum {
     }
 
     /// Adds the answer to some bytes: its text and a line feed, by FNV-1a.
-    fn add(&mut self, alloc: Global, said: &mut Said, bytes: &[u8]) {
-        let mut text = Said::new(alloc);
-        let read = read_footer(alloc, bytes);
+    fn add(&mut self, said: &mut Said, bytes: &[u8]) {
+        let mut text = Said::new(said.alloc);
+        let read = read_footer(said.alloc, bytes);
         say_answer(&mut text, &read);
         text.push("\n");
         if read.is_ok() {
@@ -276,29 +284,30 @@ impl Sum {
 }
 
 /// Reads each front of the bytes that is shorter than they are.
-fn each_cut(alloc: Global, said: &mut Said, bytes: &[u8]) {
+fn each_cut(said: &mut Said, bytes: &[u8]) {
     let mut sum = Sum::new();
     for end in 0..bytes.len() {
-        sum.add(alloc, said, &bytes[..end]);
+        sum.add(said, &bytes[..end]);
     }
     sum.say(said);
 }
 
 /// Reads the bytes with each of their bits turned, that one alone.
-fn each_turned(alloc: Global, said: &mut Said, bytes: &[u8]) -> Result<(), AllocError> {
-    let mut turned = Vec::from_slice(alloc, bytes)?;
+fn each_turned(said: &mut Said, bytes: &[u8]) {
+    let Ok(mut turned) = Vec::from_slice(said.alloc, bytes) else {
+        return said.fail();
+    };
     let mut sum = Sum::new();
     for (at, &byte) in bytes.iter().enumerate() {
         for bit in [1, 2, 4, 8, 16, 32, 64, 128] {
             if let Some(place) = turned.get_mut(at) {
                 *place = byte ^ bit;
             }
-            sum.add(alloc, said, turned.as_slice());
+            sum.add(said, turned.as_slice());
         }
         if let Some(place) = turned.get_mut(at) {
             *place = byte;
         }
     }
     sum.say(said);
-    Ok(())
 }

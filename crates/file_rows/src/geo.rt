@@ -7,21 +7,24 @@ use rows::asked::Asked;
 use rows::said::Said;
 use rows::say;
 use std::alloc::{AllocError, Global};
+use std::mem::ManuallyDrop;
 
-/// Says the answer to a text under a command. Errs when out of memory before the call, and where the lines are no fields.
-pub fn answer(it: &mut Asked<'_>) -> Result<(), AllocError> {
+/// Says the answer to a text under a command. It is lacking when out of memory before the call, and where the lines are no fields.
+pub fn answer(it: &mut Asked<'_>) {
     let (geo, lines) = it.text.split_once(" & ").unwrap_or((it.text, ""));
-    let lines = lines.replace(it.alloc, " & ", "\n")?;
-    let columns = columns_in(it.alloc, lines.as_bytes()).or(Err(AllocError))?;
+    let lines = it.said.replaced(lines, " & ", "\n");
+    let Ok(columns) = columns_in(it.alloc, lines.as_bytes()) else {
+        return it.said.fail();
+    };
+    let columns = ManuallyDrop::new(columns);
     match it.command {
         "check_geo" => say_checks(it, geo, columns.as_slice()),
         "geo_columns" => {
-            let made = geo_columns(it.alloc, geo, columns);
+            let made = geo_columns(it.alloc, geo, ManuallyDrop::into_inner(columns));
             say_columns(it, made);
         }
         _ => it.no_command(),
     }
-    Ok(())
 }
 
 /// Says how many checks there are, and which do not hold.

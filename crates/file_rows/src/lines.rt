@@ -9,7 +9,8 @@ use geoarrow_fields::{Command, answer_line};
 use geoarrow_schema::GeoArrowType;
 use rows::asked::Asked;
 use rows::said::Said;
-use std::alloc::{AllocError, Global};
+use std::alloc::AllocError;
+use std::mem::ManuallyDrop;
 
 /// The command of the program that has a name.
 fn command_of(name: &str) -> Option<Command> {
@@ -23,10 +24,9 @@ fn command_of(name: &str) -> Option<Command> {
 }
 
 /// Says the answer to a line under a command.
-pub fn answer(it: &mut Asked<'_>) -> Result<(), AllocError> {
+pub fn answer(it: &mut Asked<'_>) {
     if let Some(command) = command_of(it.command) {
-        it.said.made(answer_line(it.alloc, command, it.bytes));
-        return Ok(());
+        return it.said.made(answer_line(it.alloc, command, it.bytes));
     }
     match it.command {
         "run" | "serve" => runs::answer(it),
@@ -35,23 +35,23 @@ pub fn answer(it: &mut Asked<'_>) -> Result<(), AllocError> {
 }
 
 /// Says what a command answers about the field that a line denotes, if it denotes one.
-fn of_field(it: &mut Asked<'_>) -> Result<(), AllocError> {
-    let field = parse_line(it.alloc, it.bytes)?;
-    match (it.command, &field) {
-        ("field", Some(field)) => it.said.line(it.alloc, field),
-        ("field", None) => it.said.push("none"),
-        ("refusal", Some(field)) => refusal(it.alloc, &mut it.said, field),
-        ("refusal", None) => it.said.push("no field"),
-        _ => it.no_command(),
+fn of_field(it: &mut Asked<'_>) {
+    let field = ManuallyDrop::new(parse_line(it.alloc, it.bytes));
+    match (it.command, &*field) {
+        ("field", Ok(Some(field))) => it.said.line(field),
+        ("field", Ok(None)) => it.said.push("none"),
+        ("refusal", Ok(Some(field))) => refusal(&mut it.said, field),
+        ("refusal", Ok(None)) => it.said.push("no field"),
+        (_, Ok(_)) => it.no_command(),
+        (_, Err(AllocError)) => it.said.fail(),
     }
-    Ok(())
 }
 
 /// Says the text of the error by which a field is refused; else whether it is read.
-fn refusal(alloc: Global, said: &mut Said, field: &Field) {
-    match GeoArrowType::from_extension_field(alloc, field) {
+fn refusal(said: &mut Said, field: &Field) {
+    match &*ManuallyDrop::new(GeoArrowType::from_extension_field(said.alloc, field)) {
         Ok(Some(_)) => said.push("read as a type"),
         Ok(None) => said.push("read as none"),
-        Err(error) => said.geoarrow_refusal(&error),
+        Err(error) => said.geoarrow_refusal(error),
     }
 }

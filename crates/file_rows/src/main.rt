@@ -8,7 +8,6 @@ mod reports;
 
 use rows::asked::Asked;
 use rows::{Layers, judge_rows};
-use std::alloc::AllocError;
 use std::process::ExitCode;
 
 /// The layers of lines, files and reports.
@@ -17,10 +16,10 @@ struct FileRows {}
 impl Layers for FileRows {
     const NAMES: &'static [&'static str] = &["footers", "geo", "lines", "reports"];
 
-    fn answer(it: &mut Asked<'_>, layer: &str) -> Result<(), AllocError> {
+    fn answer(it: &mut Asked<'_>, layer: &str) {
         match layer {
             "lines" => lines::answer(it),
-            _ if !it.is_text() => Err(AllocError),
+            _ if !it.is_text() => it.said.fail(),
             "footers" => footers::answer(it),
             "geo" => geo::answer(it),
             _ => reports::answer(it),

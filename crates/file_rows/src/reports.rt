@@ -8,21 +8,20 @@ use parquet_schema::SchemaError;
 use rows::asked::Asked;
 use std::alloc::{AllocError, Global};
 
-/// Says the answer to a text under a command. Errs when out of memory before the call.
-pub fn answer(it: &mut Asked<'_>) -> Result<(), AllocError> {
-    let text = it.text.replace(it.alloc, " & ", "\n")?;
+/// Says the answer to a text under a command. It is lacking when out of memory before the call.
+pub fn answer(it: &mut Asked<'_>) {
+    let text = it.said.replaced(it.text, " & ", "\n");
     match it.command {
         "report" => report(it, text.as_bytes(), false),
         "report_inferred" => report(it, text.as_bytes(), true),
-        "report_file" => {
-            let bytes = hex::decode(it.alloc, it.text).or(Err(AllocError))?;
-            report(it, bytes.as_slice(), false);
-        }
+        "report_file" => match hex::decode(it.alloc, it.text) {
+            Ok(bytes) => report(it, bytes.as_slice(), false),
+            Err(_) => it.said.fail(),
+        },
         "reason_words" => words(it, reasons_of(it.alloc, text.as_str())),
         "warning_words" => words(it, warnings_of(it.alloc, text.as_str())),
         _ => it.no_command(),
     }
-    Ok(())
 }
 
 /// Says the report of a file, with ` & ` between its lines.

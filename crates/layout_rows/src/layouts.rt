@@ -13,10 +13,9 @@ mod values;
 use arrow_values::{DataType, Field, Fields, UnionFields};
 use rows::asked::Asked;
 use rows::compared::distinct;
-use std::alloc::AllocError;
 
-/// Says the answer to a text under a command. Errs where the text does not spell what the command is asked about.
-pub fn answer(it: &mut Asked<'_>) -> Result<(), AllocError> {
+/// Says the answer to a text under a command. It is lacking where the text does not spell what the command is asked about.
+pub fn answer(it: &mut Asked<'_>) {
     match it.command {
         "keep_members" | "retain_ids" => changes::kept(it),
         "append_members" | "append" => changes::joined(it),
@@ -32,7 +31,7 @@ pub fn answer(it: &mut Asked<'_>) -> Result<(), AllocError> {
 }
 
 /// Answers the commands about tables, those that compare values, and those that read a data type.
-fn tables_or_read(it: &mut Asked<'_>) -> Result<(), AllocError> {
+fn tables_or_read(it: &mut Asked<'_>) {
     match it.command {
         "parts" => tables::parts(it),
         "default" | "name" => tables::name(it),

@@ -5,7 +5,6 @@ mod layouts;
 
 use rows::asked::Asked;
 use rows::{Layers, judge_rows};
-use std::alloc::AllocError;
 use std::process::ExitCode;
 
 /// The layer of data types and their layouts.
@@ -14,11 +13,11 @@ struct LayoutRows {}
 impl Layers for LayoutRows {
     const NAMES: &'static [&'static str] = &["layouts"];
 
-    fn answer(it: &mut Asked<'_>, _layer: &str) -> Result<(), AllocError> {
+    fn answer(it: &mut Asked<'_>, _layer: &str) {
         if !it.is_text() {
-            return Err(AllocError);
+            return it.said.fail();
         }
-        layouts::answer(it)
+        layouts::answer(it);
     }
 }
 

@@ -4,105 +4,114 @@ use crate::said::Said;
 use crate::texts::halves;
 use crate::{notation, say};
 use arrow_values::{DataType, Field, Fields, UnionFields};
-use std::alloc::{AllocError, Global};
+use std::alloc::AllocError;
 use std::hash::{DefaultHasher, Hash, Hasher};
+use std::mem::ManuallyDrop;
 
 /// What is cloned and compared.
-pub trait Compared: Drop {
-    /// The value that a text spells. Errs also where it spells none.
-    fn spelled(alloc: Global, text: &str) -> Result<Self, AllocError>;
-
-    /// Whether a clone of this value is equal to another, and where values of the type have hashes, so is its hash.
-    fn is_cloned_as(&self, alloc: Global, other: &Self) -> Result<bool, AllocError>;
+pub trait Compared {
+    /// Whether a clone of the value of the first text is equal to that of the second, and where values of the type have hashes, so
+    /// are theirs. The answer is lacking also where a text spells no value.
+    fn are_equal(said: &mut Said, one: &str, other: &str) -> bool;
 }
 
 impl Compared for DataType {
-    fn spelled(alloc: Global, text: &str) -> Result<DataType, AllocError> {
-        notation::data_type(alloc, text)
-    }
-
-    fn is_cloned_as(&self, alloc: Global, other: &DataType) -> Result<bool, AllocError> {
-        Ok(self.try_clone(alloc)? == *other)
+    fn are_equal(said: &mut Said, one: &str, other: &str) -> bool {
+        let one = notation::data_type(said, one);
+        let other = notation::data_type(said, other);
+        let clone = ManuallyDrop::new(one.try_clone(said.alloc));
+        is_same(said, &clone, &other)
     }
 }
 
-impl Compared for Field {
-    fn spelled(alloc: Global, text: &str) -> Result<Field, AllocError> {
-        if text.starts_with('{') {
-            return notation::field(alloc, text);
-        }
-        notation::spelled(alloc, text)
+/// The field that a text spells, in the notation or as a line of JSON.
+fn field(said: &mut Said, text: &str) -> ManuallyDrop<Field> {
+    if text.starts_with('{') {
+        return notation::field(said, text);
     }
+    notation::spelled(said, text)
+}
 
-    fn is_cloned_as(&self, alloc: Global, other: &Field) -> Result<bool, AllocError> {
-        Ok(self.try_clone(alloc)? == *other)
+impl Compared for Field {
+    fn are_equal(said: &mut Said, one: &str, other: &str) -> bool {
+        let one = field(said, one);
+        let other = field(said, other);
+        let clone = ManuallyDrop::new(one.try_clone(said.alloc));
+        is_same(said, &clone, &other)
     }
 }
 
 impl Compared for Fields {
-    fn spelled(alloc: Global, text: &str) -> Result<Fields, AllocError> {
-        notation::fields(alloc, text)
-    }
-
-    fn is_cloned_as(&self, alloc: Global, other: &Fields) -> Result<bool, AllocError> {
-        Ok(self.try_clone(alloc)? == *other)
+    fn are_equal(said: &mut Said, one: &str, other: &str) -> bool {
+        let one = notation::fields(said, one);
+        let other = notation::fields(said, other);
+        let clone = ManuallyDrop::new(one.try_clone(said.alloc));
+        is_same(said, &clone, &other)
     }
 }
 
 impl Compared for UnionFields {
-    fn spelled(alloc: Global, text: &str) -> Result<UnionFields, AllocError> {
-        notation::members(alloc, text)
+    fn are_equal(said: &mut Said, one: &str, other: &str) -> bool {
+        let one = notation::members(said, one);
+        let other = notation::members(said, other);
+        let clone = ManuallyDrop::new(one.try_clone(said.alloc));
+        is_same(said, &clone, &other)
     }
+}
 
-    fn is_cloned_as(&self, alloc: Global, other: &UnionFields) -> Result<bool, AllocError> {
-        Ok(self.try_clone(alloc)? == *other)
+/// Whether a clone is equal to another value.
+fn is_same<T: PartialEq>(said: &mut Said, clone: &Result<T, AllocError>, other: &T) -> bool {
+    match clone {
+        Ok(clone) => *clone == *other,
+        Err(AllocError) => {
+            said.fail();
+            false
+        }
+    }
+}
+
+/// Whether a clone and its hash are equal to another value and to that one's.
+pub fn is_same_hashed<T: PartialEq + Hash>(
+    said: &mut Said,
+    clone: &Result<T, AllocError>,
+    other: &T,
+) -> bool {
+    let is_same = is_same(said, clone, other);
+    match clone {
+        Ok(clone) => is_same && hash_of(clone) == hash_of(other),
+        Err(AllocError) => false,
     }
 }
 
 /// A hash.
-pub fn hash_of<T: Hash>(hashed: &T) -> u64 {
+fn hash_of<T: Hash>(hashed: &T) -> u64 {
     let mut state = DefaultHasher::new();
     hashed.hash(&mut state);
     state.finish()
 }
 
-/// Whether a clone of the value of the first text is equal to that of the second.
-fn are_equal<T: Compared>(alloc: Global, one: &str, other: &str) -> Result<bool, AllocError> {
-    let one = T::spelled(alloc, one)?;
-    let other = T::spelled(alloc, other)?;
-    one.is_cloned_as(alloc, &other)
-}
-
-/// Says that a clone of one value is equal to the other, or is not, where that is not to be; nothing where something is said.
-fn say_not_so<T: Compared>(
-    alloc: Global,
-    said: &mut Said,
-    one: &str,
-    other: &str,
-    are_same: bool,
-) -> Result<(), AllocError> {
-    if said.text.is_empty() && are_equal::<T>(alloc, one, other)? != are_same {
-        say!(said, "not so: {one} and {other}");
-    }
-    Ok(())
-}
-
 /// Says whether each of the values with ` ; ` between them is equal to a clone of itself, and to none of the others.
-pub fn distinct<T: Compared>(it: &mut Asked<'_>) -> Result<(), AllocError> {
+pub fn distinct<T: Compared>(it: &mut Asked<'_>) {
     for (at, one) in it.text.split(" ; ").enumerate() {
         for (other_at, other) in it.text.split(" ; ").enumerate() {
-            say_not_so::<T>(it.alloc, &mut it.said, one, other, at == other_at)?;
+            say_not_so::<T>(&mut it.said, one, other, at == other_at);
         }
     }
     if it.said.text.is_empty() {
         it.said.push("each is equal to itself alone");
     }
-    Ok(())
+}
+
+/// Says that a clone of one value is equal to the other, or is not, where that is not to be; nothing where something is said.
+fn say_not_so<T: Compared>(said: &mut Said, one: &str, other: &str, are_same: bool) {
+    if said.text.is_empty() && T::are_equal(said, one, other) != are_same {
+        say!(said, "not so: {one} and {other}");
+    }
 }
 
 /// Says whether the values with ` | ` between them are equal.
-pub fn equal<T: Compared>(it: &mut Asked<'_>) -> Result<(), AllocError> {
-    let (one, other) = halves(it.text)?;
-    it.said.truth(are_equal::<T>(it.alloc, one, other)?);
-    Ok(())
+pub fn equal<T: Compared>(it: &mut Asked<'_>) {
+    let (one, other) = halves(&mut it.said, it.text);
+    let are_equal = T::are_equal(&mut it.said, one, other);
+    it.said.truth(are_equal);
 }

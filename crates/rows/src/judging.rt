@@ -8,15 +8,15 @@ use crate::asked::Asked;
 use crate::repeated::expanded;
 use crate::said::Said;
 use crate::{faults, say};
-use std::alloc::{AllocError, Global};
+use std::alloc::Global;
 
 /// The layers of a program of rows.
 pub trait Layers {
     /// Their names, each that of a folder of rows.
     const NAMES: &'static [&'static str];
 
-    /// Says the answer of a layer to what is asked. Errs when out of memory, and where the text does not spell what the command is asked about.
-    fn answer(it: &mut Asked<'_>, layer: &str) -> Result<(), AllocError>;
+    /// Says the answer of a layer to what is asked. It is lacking when out of memory, and where the text does not spell what the command is asked about.
+    fn answer(it: &mut Asked<'_>, layer: &str);
 }
 
 /// How many bytes of a text are printed of a wrong row.
@@ -94,8 +94,7 @@ pub fn answered<'a, L: Layers>(alloc: Global, row: Row<'a>) -> Asked<'a> {
         was_called: false,
         was_aided: false,
     };
-    let done = L::answer(&mut it, row.layer);
-    it.said.note(done);
+    L::answer(&mut it, row.layer);
     it
 }
 

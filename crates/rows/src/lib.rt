@@ -17,8 +17,9 @@
 //! row, and last `N passed, M failed`, rows counted. With the argument `faults`, and over the library that `bin/faults` makes,
 //! the rows that speak of memory are answered while requests for memory are refused (`faults`).
 //!
-//! A command says its answer to a text that remembers whether it was out of memory (`said`). So saying cannot fail, and there
-//! is less to prove.
+//! A command says its answer to a text that remembers whether it was out of memory (`said`). So saying cannot fail. Nor can
+//! reading what a row spells: where it spells nothing, or memory is out, the answer is lacking, and another value stands in the
+//! place of what is spelled, which is not dropped. So a command has no early ends with values to drop, and there is less to prove.
 #![tactic(auto)]
 
 pub mod asked;

@@ -4,6 +4,7 @@
 //! the first one on. `BETWEEN` may be empty, and has no `|`. The text has no `<<` and no `>>`.
 use crate::said::Said;
 use crate::say;
+use crate::texts::split;
 use std::alloc::Global;
 
 /// Says a text with a number in the place of each `%`.
@@ -26,18 +27,20 @@ fn say_times(said: &mut Said, (first, end): (u32, u32), between: &str, text: &st
     }
 }
 
-/// The first number of a repetition, and the one behind the last.
-fn numbers(text: &str) -> Option<(u32, u32)> {
-    let (first, end) = text.split_once("..").unwrap_or(("0", text));
-    Some((first.parse::<u32>().ok()?, end.parse::<u32>().ok()?))
+/// The number that a text spells.
+fn number(said: &mut Said, text: &str) -> u32 {
+    said.found(text.parse::<u32>().ok(), 0)
 }
 
-/// The numbers of a repetition, what stands between, and the text; and what stands behind it.
-fn parts(text: &str) -> Option<((u32, u32), &str, &str, &str)> {
-    let (inside, rest) = text.split_once(">>")?;
-    let (count, inside) = inside.split_once('|')?;
-    let (between, text) = inside.split_once('|')?;
-    Some((numbers(count)?, between, text, rest))
+/// Says the text that `COUNT|BETWEEN|TEXT>>`, and what stands behind it, stands for.
+fn say_repeated(said: &mut Said, text: &str) {
+    let (inside, rest) = split(said, text, ">>");
+    let (count, inside) = split(said, inside, "|");
+    let (between, text) = split(said, inside, "|");
+    let (first, end) = count.split_once("..").unwrap_or(("0", count));
+    let numbers = (number(said, first), number(said, end));
+    say_times(said, numbers, between, text);
+    said.push(rest);
 }
 
 /// The text that one stands for; it is lacking where it is spelled otherwise.
@@ -46,11 +49,8 @@ pub fn expanded(alloc: Global, text: &str) -> Said {
     for (at, part) in text.split("<<").enumerate() {
         if at == 0 {
             said.push(part);
-        } else if let Some((numbers, between, text, rest)) = parts(part) {
-            say_times(&mut said, numbers, between, text);
-            said.push(rest);
         } else {
-            said.fail();
+            say_repeated(&mut said, part);
         }
     }
     said

@@ -2,6 +2,8 @@
 use crate::faults;
 use crate::judging::{Layers, Tally, judge};
 use crate::said::Said;
+use std::alloc::Global;
+use std::fs::DirEntry;
 use std::io::Write;
 use std::process::ExitCode;
 use std::{env, fs, io};
@@ -19,11 +21,16 @@ fn is_faults(rt: &HostRuntime) -> io::Result<bool> {
 fn names_in(rt: &HostRuntime, folder: &str) -> io::Result<Vec<String>> {
     let mut names = Vec::new(rt.alloc());
     for entry in fs::read_dir(rt, folder)? {
-        let name = String::from_str(rt.alloc(), entry?.file_name())?;
-        names.push(name)?;
+        add_name(rt.alloc(), &mut names, &entry?)?;
     }
     names.sort()?;
     Ok(names)
+}
+
+/// Adds the name of a file.
+fn add_name(alloc: Global, names: &mut Vec<String>, entry: &DirEntry) -> io::Result<()> {
+    names.push(String::from_str(alloc, entry.file_name())?)?;
+    Ok(())
 }
 
 /// Judges the rows of a file, and prints what is said of them.

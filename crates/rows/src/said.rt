@@ -4,10 +4,12 @@ use arrow_values::{ArrowError, Field, GeoArrowError};
 use field_lines::field_line;
 use std::alloc::{AllocError, Global};
 use std::fmt::Debug;
+use std::mem::forget;
 
 /// A text that remembers whether a part of it is lacking, since it was out of memory or had no answer. So saying cannot fail.
 #[derive(Drop)]
 pub struct Said {
+    pub alloc: Global,
     /// What is said.
     pub text: String,
     /// Whether a part is lacking.
@@ -27,6 +29,7 @@ impl Said {
     /// Nothing as yet.
     pub fn new(alloc: Global) -> Said {
         Said {
+            alloc,
             text: String::new(alloc),
             is_lacking: false,
         }
@@ -41,6 +44,47 @@ impl Said {
     pub fn note(&mut self, done: Result<(), AllocError>) {
         if done.is_err() {
             self.is_lacking = true;
+        }
+    }
+
+    /// What is found; where nothing is, there is no answer, and the other stands in its place.
+    pub fn found<T: Copy>(&mut self, found: Option<T>, other: T) -> T {
+        match found {
+            Some(found) => found,
+            None => {
+                self.fail();
+                other
+            }
+        }
+    }
+
+    /// A text of its own; an empty one when out of memory.
+    pub fn owned(&mut self, text: &str) -> String {
+        match String::from_str(self.alloc, text) {
+            Ok(text) => text,
+            Err(AllocError) => {
+                self.fail();
+                String::new(self.alloc)
+            }
+        }
+    }
+
+    /// A text with one in the place of another; an empty one when out of memory.
+    pub fn replaced(&mut self, text: &str, old: &str, new: &str) -> String {
+        match text.replace(self.alloc, old, new) {
+            Ok(text) => text,
+            Err(AllocError) => {
+                self.fail();
+                String::new(self.alloc)
+            }
+        }
+    }
+
+    /// Puts an item behind the others.
+    pub fn put<T: Drop>(&mut self, items: &mut Vec<T>, item: T) {
+        if let Err(failed) = items.push(item) {
+            forget(failed);
+            self.fail();
         }
     }
 
@@ -93,14 +137,15 @@ impl Said {
     }
 
     /// Says the line of a field.
-    pub fn line(&mut self, alloc: Global, field: &Field) {
-        self.made(field_line(alloc, field));
+    pub fn line(&mut self, field: &Field) {
+        let line = field_line(self.alloc, field);
+        self.made(line);
     }
 
     /// Says the line of a field that was made, or what the refusal prints.
-    pub fn line_or_refusal(&mut self, alloc: Global, made: &Result<Field, ArrowError>) {
+    pub fn line_or_refusal(&mut self, made: &Result<Field, ArrowError>) {
         match made {
-            Ok(field) => self.line(alloc, field),
+            Ok(field) => self.line(field),
             Err(error) => self.refusal(error),
         }
     }

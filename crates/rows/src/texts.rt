@@ -1,50 +1,54 @@
-//! What the texts of rows spell. Each call errs where a text does not spell it.
+//! What the texts of rows spell. Where a text does not spell it, the answer is lacking, and another stands in its place.
 use crate::said::Said;
 use geoarrow_layout::{CoordType, Dimension, Kind};
-use std::alloc::{AllocError, Global};
+
+/// The two parts of a text around the first of another.
+pub fn split<'a>(said: &mut Said, text: &'a str, between: &str) -> (&'a str, &'a str) {
+    said.found(text.split_once(between), ("", ""))
+}
 
 /// The two parts of a text around a bar.
-pub fn halves(text: &str) -> Result<(&str, &str), AllocError> {
-    text.split_once(" | ").ok_or(AllocError)
+pub fn halves<'a>(said: &mut Said, text: &'a str) -> (&'a str, &'a str) {
+    split(said, text, " | ")
 }
 
 /// The first word of a text, and what is left after the space.
-pub fn first_word(text: &str) -> Result<(&str, &str), AllocError> {
-    text.split_once(' ').ok_or(AllocError)
+pub fn first_word<'a>(said: &mut Said, text: &'a str) -> (&'a str, &'a str) {
+    split(said, text, " ")
 }
 
 /// The kind that a text spells, as `Native(Point, Separated, XY)`.
-pub fn kind(alloc: Global, text: &str) -> Result<Kind, AllocError> {
-    let mut said = Said::new(alloc);
+pub fn kind(said: &mut Said, text: &str) -> Kind {
+    let mut name = Said::new(said.alloc);
     for kind in Kind::ALL.iter() {
-        said.text.clear();
-        said.name(kind);
-        if said.is_lacking {
-            return Err(AllocError);
-        }
-        if said.text.as_str() == text {
-            return Ok(*kind);
+        name.text.clear();
+        name.name(kind);
+        if !name.is_lacking && name.text.as_str() == text {
+            return *kind;
         }
     }
-    Err(AllocError)
+    said.fail();
+    Kind::Geometry(CoordType::Interleaved)
 }
 
 /// The coordinate type of that name.
-pub fn coord_type(text: &str) -> Result<CoordType, AllocError> {
+pub fn coord_type(said: &mut Said, text: &str) -> CoordType {
     match text {
-        "Interleaved" | "interleaved" => Ok(CoordType::Interleaved),
-        "Separated" | "separated" => Ok(CoordType::Separated),
-        _ => Err(AllocError),
+        "Separated" | "separated" => return CoordType::Separated,
+        "Interleaved" | "interleaved" => {}
+        _ => said.fail(),
     }
+    CoordType::Interleaved
 }
 
 /// The dimension of that name.
-pub fn dimension(text: &str) -> Result<Dimension, AllocError> {
+pub fn dimension(said: &mut Said, text: &str) -> Dimension {
     match text {
-        "XY" => Ok(Dimension::XY),
-        "XYZ" => Ok(Dimension::XYZ),
-        "XYM" => Ok(Dimension::XYM),
-        "XYZM" => Ok(Dimension::XYZM),
-        _ => Err(AllocError),
+        "XYZ" => return Dimension::XYZ,
+        "XYM" => return Dimension::XYM,
+        "XYZM" => return Dimension::XYZM,
+        "XY" => {}
+        _ => said.fail(),
     }
+    Dimension::XY
 }

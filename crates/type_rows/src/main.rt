@@ -6,7 +6,6 @@ mod schema;
 
 use rows::asked::Asked;
 use rows::{Layers, judge_rows};
-use std::alloc::AllocError;
 use std::process::ExitCode;
 
 /// The layers of metadata and of types.
@@ -15,9 +14,9 @@ struct TypeRows {}
 impl Layers for TypeRows {
     const NAMES: &'static [&'static str] = &["metadata", "schema"];
 
-    fn answer(it: &mut Asked<'_>, layer: &str) -> Result<(), AllocError> {
+    fn answer(it: &mut Asked<'_>, layer: &str) {
         match layer {
-            _ if !it.is_text() => Err(AllocError),
+            _ if !it.is_text() => it.said.fail(),
             "metadata" => metadata::answer(it),
             _ => schema::answer(it),
         }

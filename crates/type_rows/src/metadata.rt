@@ -6,14 +6,13 @@ mod transforms;
 use geoarrow_meta::DefaultCrsTransform;
 use rows::asked::Asked;
 use rows::compared::{distinct, equal};
-use std::alloc::AllocError;
 use texts::Spelled;
 pub use texts::say_text;
 use transforms::{OneText, converted};
 
 /// Says the answer to a text under a command; a call of a transform is of that which converts nothing, or of the other one where
-/// `one_text.` stands before it. Errs where the text does not spell what the command is asked about.
-pub fn answer(it: &mut Asked<'_>) -> Result<(), AllocError> {
+/// `one_text.` stands before it. It is lacking where the text does not spell what the command is asked about.
+pub fn answer(it: &mut Asked<'_>) {
     match it.command {
         "extract_wkt" | "extract_projjson" | "_convert_to_wkt" | "_convert_to_projjson" => {
             converted(it, &DefaultCrsTransform {}, it.command)
@@ -26,17 +25,16 @@ pub fn answer(it: &mut Asked<'_>) -> Result<(), AllocError> {
 }
 
 /// Answers the commands that read metadata, and for those that compare them.
-fn read_or_compare(it: &mut Asked<'_>) -> Result<(), AllocError> {
+fn read_or_compare(it: &mut Asked<'_>) {
     match it.command {
         "deserialize" => texts::deserialized(it, Some(it.text)),
         "of_no_text" => texts::deserialized(it, None),
         "crs_text" => texts::crs_as_written(it),
-        "from_value" => return texts::from_value(it),
-        "Metadata::same_written" => return texts::same_written(it),
-        "equal" => return equal::<Spelled>(it),
-        "distinct" => return distinct::<Spelled>(it),
+        "from_value" => texts::from_value(it),
+        "Metadata::same_written" => texts::same_written(it),
+        "equal" => equal::<Spelled>(it),
+        "distinct" => distinct::<Spelled>(it),
         "serialize" | "to_value" | "Metadata::normalized" | "is_normal" => texts::read(it),
-        _ => return crs::answer(it),
+        _ => crs::answer(it),
     }
-    Ok(())
 }

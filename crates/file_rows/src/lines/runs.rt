@@ -2,7 +2,8 @@
 use geoarrow_fields::{Command, RunEnd, command_of, run, serve};
 use rows::asked::Asked;
 use rows::say;
-use std::alloc::{AllocError, Global};
+use rows::texts::first_word;
+use std::alloc::Global;
 
 /// What a run writes last when out of memory, after the answers to some first lines.
 const OUT_OF_MEMORY: &str = "error memory | ";
@@ -35,19 +36,19 @@ fn is_cut_off(said: &str, wanted: &str) -> bool {
 
 /// Says how a run ends and what it writes, with ` | ` in the place of line feeds. Out of memory is no answer where the run has
 /// written some first answers of those that are wanted, and that it is out of memory.
-pub fn answer(it: &mut Asked<'_>) -> Result<(), AllocError> {
-    let (word, lines) = it.text.split_once(' ').ok_or(AllocError)?;
-    let words = [String::from_str(it.alloc, word)?];
-    let input = lines.replace(it.alloc, " | ", "\n")?;
-    let mut written = Vec::with_capacity(it.alloc, 4096)?;
+pub fn answer(it: &mut Asked<'_>) {
+    let (word, lines) = first_word(&mut it.said, it.text);
+    let words = [it.said.owned(word)];
+    let input = it.said.replaced(lines, " | ", "\n");
+    let mut written = Vec::new(it.alloc);
+    it.said.note(written.reserve(4096));
     let end = run_over(it.alloc, it.command, &words, input.as_str(), &mut written);
-    let written = str::from_utf8(written.as_slice()).map_err(|_| AllocError)?;
-    let written = written.replace(it.alloc, "\n", " | ")?;
+    let written = it.said.found(str::from_utf8(written.as_slice()).ok(), "");
+    let written = it.said.replaced(written, "\n", " | ");
     if let Some(RunEnd::Memory) = end
         && is_cut_off(written.as_str(), it.wanted)
     {
-        return Err(AllocError);
+        it.said.fail();
     }
     say!(it.said, "{end:?} {written}");
-    Ok(())
 }

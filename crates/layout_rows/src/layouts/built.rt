@@ -1,17 +1,20 @@
 //! Commands that build data types. Each says the line of a field `g`, which may be null, of the data type.
-use arrow_values::{DataType, Field};
+use arrow_values::DataType;
 use geoarrow_layout::{
     Kind, box_data_type, coord_data_type, geometry_data_type, kind_data_type, list_data_type,
     mixed_data_type, wkb_data_type, wkt_data_type,
 };
 use rows::asked::Asked;
+use rows::notation::{made, new_field};
 use rows::texts::{coord_type, dimension, first_word, kind};
 use std::alloc::{AllocError, Global};
+use std::mem::ManuallyDrop;
 
 /// Builds coordinates, or the union in a collection.
-fn of_coords(it: &Asked<'_>) -> Result<DataType, AllocError> {
-    let (first, second) = first_word(it.text)?;
-    let (first, second) = (coord_type(first)?, dimension(second)?);
+fn of_coords(it: &mut Asked<'_>) -> Result<DataType, AllocError> {
+    let (first, second) = first_word(&mut it.said, it.text);
+    let first = coord_type(&mut it.said, first);
+    let second = dimension(&mut it.said, second);
     if it.command == "coord_data_type" {
         coord_data_type(it.alloc, first, second)
     } else {
@@ -33,22 +36,25 @@ fn of_sort(alloc: Global, kind: Kind) -> Result<DataType, AllocError> {
 }
 
 /// Builds the layout of a kind by the builder for its sort; says otherwise where `kind_data_type` builds another.
-fn of_kind(it: &mut Asked<'_>) -> Result<DataType, AllocError> {
-    let kind = kind(it.alloc, it.text)?;
-    let data_type = of_sort(it.alloc, kind)?;
-    if kind_data_type(it.alloc, kind)? != data_type {
+fn of_kind(it: &mut Asked<'_>) -> ManuallyDrop<DataType> {
+    let kind = kind(&mut it.said, it.text);
+    let data_type = made(&mut it.said, of_sort(it.alloc, kind));
+    let other = made(&mut it.said, kind_data_type(it.alloc, kind));
+    if *other != *data_type {
         it.said.push("kind_data_type builds another, ");
     }
-    Ok(data_type)
+    data_type
 }
 
 /// Says the line of a field of the data type that is built.
-pub fn answer(it: &mut Asked<'_>) -> Result<(), AllocError> {
-    let data_type = match it.command {
-        "layout" => of_kind(it)?,
-        _ => of_coords(it)?,
+pub fn answer(it: &mut Asked<'_>) {
+    let data_type = if it.command == "layout" {
+        of_kind(it)
+    } else {
+        let built = of_coords(it);
+        made(&mut it.said, built)
     };
-    let field = Field::new(it.alloc, "g", data_type, true)?;
-    it.said.line(it.alloc, &field);
-    Ok(())
+    let data_type = ManuallyDrop::into_inner(data_type);
+    let field = ManuallyDrop::new(new_field(&mut it.said, "g", data_type, true));
+    it.said.line(&field);
 }

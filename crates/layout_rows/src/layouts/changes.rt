@@ -7,7 +7,7 @@ use rows::asked::Asked;
 use rows::said::Said;
 use rows::say;
 use rows::texts::halves;
-use std::alloc::{AllocError, Global};
+use std::mem::ManuallyDrop;
 
 /// The field of the member of that id.
 fn member(members: &UnionFields, id: i8) -> Option<&Field> {
@@ -36,23 +36,33 @@ fn say_ids(said: &mut Said, members: &UnionFields) {
     }
 }
 
+/// The union of those members.
+fn union_of(members: ManuallyDrop<UnionFields>) -> ManuallyDrop<DataType> {
+    let members = ManuallyDrop::into_inner(members);
+    ManuallyDrop::new(DataType::Union(members, UnionMode::Dense))
+}
+
 /// Says the ids of a changed union, and how it is read as one of geometries; says otherwise where a member is none of the
 /// two unions that it came from.
-fn say_changed(said: &mut Said, members: UnionFields, first: &UnionFields, second: &UnionFields) {
+fn say_changed(
+    said: &mut Said,
+    members: ManuallyDrop<UnionFields>,
+    first: &UnionFields,
+    second: &UnionFields,
+) {
     if !are_among(&members, first, second) {
         said.push("another member, ");
     }
     say_ids(said, &members);
-    let union = DataType::Union(members, UnionMode::Dense);
-    say_part(said, &parse_geometry(&union));
+    say_part(said, &parse_geometry(&union_of(members)));
 }
 
 /// Keeps the members of these ids, by the call that speaks of layouts or by the other.
-pub fn kept(it: &mut Asked<'_>) -> Result<(), AllocError> {
-    let (wanted, text) = halves(it.text)?;
-    let wanted = ids(it.alloc, wanted)?;
-    let whole = members(it.alloc, text)?;
-    let mut union = whole.try_clone(it.alloc)?;
+pub fn kept(it: &mut Asked<'_>) {
+    let (wanted, text) = halves(&mut it.said, it.text);
+    let wanted = ids(&mut it.said, wanted);
+    let whole = members(&mut it.said, text);
+    let mut union = members(&mut it.said, text);
     it.before();
     if it.command == "keep_members" {
         keep_members(&mut union, wanted.as_slice());
@@ -61,36 +71,30 @@ pub fn kept(it: &mut Asked<'_>) -> Result<(), AllocError> {
     }
     it.after();
     say_changed(&mut it.said, union, &whole, &whole);
-    Ok(())
 }
 
 /// Puts the members of the second union after those of the first, by the call that speaks of layouts or by the other. A
 /// fault is said otherwise where one of the two is not as it was.
-pub fn joined(it: &mut Asked<'_>) -> Result<(), AllocError> {
-    let (text, other_text) = halves(it.text)?;
-    let first = members(it.alloc, text)?;
-    let second = members(it.alloc, other_text)?;
-    join(it, &first, &second)
-}
-
-/// Joins clones of two unions.
-fn join(it: &mut Asked<'_>, first: &UnionFields, second: &UnionFields) -> Result<(), AllocError> {
-    let mut union = first.try_clone(it.alloc)?;
-    let other = second.try_clone(it.alloc)?;
+pub fn joined(it: &mut Asked<'_>) {
+    let (text, other_text) = halves(&mut it.said, it.text);
+    let first = members(&mut it.said, text);
+    let second = members(&mut it.said, other_text);
+    let mut union = members(&mut it.said, text);
+    let other = ManuallyDrop::into_inner(members(&mut it.said, other_text));
     it.before();
-    let joined = if it.command == "append_members" {
+    let joined = ManuallyDrop::new(if it.command == "append_members" {
         append_members(&mut union, other)
     } else {
         union.append(other)
-    };
+    });
     it.after();
-    match joined {
-        Ok(()) => say_changed(&mut it.said, union, first, second),
+    match &*joined {
+        Ok(()) => say_changed(&mut it.said, union, &first, &second),
         Err((other, fault)) => {
-            say_refused(&mut it.said, fault, union == *first && other == *second);
+            let is_unchanged = *union == *first && *other == *second;
+            say_refused(&mut it.said, *fault, is_unchanged);
         }
     }
-    Ok(())
 }
 
 /// Says a refusal to join, and whether both unions are as they were. Out of memory is no answer where they are.
@@ -102,30 +106,28 @@ fn say_refused(said: &mut Said, fault: AppendFault, unchanged: bool) {
     }
 }
 
-/// A union with the members of these ids alone.
-fn part(alloc: Global, wanted: &str, mut union: UnionFields) -> Result<UnionFields, AllocError> {
-    keep_members(&mut union, ids(alloc, wanted)?.as_slice());
-    Ok(union)
+/// The union of a text with the members of these ids alone.
+fn part(said: &mut Said, wanted: &str, text: &str) -> ManuallyDrop<UnionFields> {
+    let mut union = members(said, text);
+    keep_members(&mut union, ids(said, wanted).as_slice());
+    union
 }
 
 /// Keeps the members of the first ids in a union and those of the second in a clone, joins the two, and says whether that
 /// is alike to the union as it was.
-pub fn parted(it: &mut Asked<'_>) -> Result<(), AllocError> {
-    let (wanted, rest) = halves(it.text)?;
-    let (others, text) = halves(rest)?;
-    let other = part(it.alloc, others, members(it.alloc, text)?)?;
-    let mut union = part(it.alloc, wanted, members(it.alloc, text)?)?;
-    let was = data_type(it.alloc, text)?;
+pub fn parted(it: &mut Asked<'_>) {
+    let (wanted, rest) = halves(&mut it.said, it.text);
+    let (others, text) = halves(&mut it.said, rest);
+    let other = ManuallyDrop::into_inner(part(&mut it.said, others, text));
+    let mut union = part(&mut it.said, wanted, text);
+    let was = data_type(&mut it.said, text);
     if append_members(&mut union, other).is_err() {
-        it.said.push("refused");
-        return Ok(());
+        return it.said.push("refused");
     }
     say_ids(&mut it.said, &union);
-    let union = DataType::Union(union, UnionMode::Dense);
-    it.said.push(if alike(&union, &was) {
+    it.said.push(if alike(&union_of(union), &was) {
         "alike"
     } else {
         "not alike"
     });
-    Ok(())
 }

@@ -1,53 +1,57 @@
 //! What the errors print, and how each of the two holds the other.
 use arrow_values::{ArrowError, GeoArrowError};
 use rows::asked::Asked;
+use rows::said::Said;
 use rows::say;
-use std::alloc::{AllocError, Global};
+use std::alloc::AllocError;
 use std::io;
+use std::mem::ManuallyDrop;
 
 /// The error of GeoArrow of that name, with the message `m` where it has one.
-fn geoarrow_error(alloc: Global, variant: &str) -> Result<GeoArrowError, AllocError> {
-    let message = String::from_str(alloc, "m")?;
+fn geoarrow_error(said: &mut Said, variant: &str) -> GeoArrowError {
+    let message = said.owned("m");
     match variant {
-        "Arrow" => Ok(GeoArrowError::from(ArrowError::SchemaError(message))),
-        "Crs" => Ok(GeoArrowError::Crs(message)),
-        "External" => Ok(GeoArrowError::External(message)),
-        "FlatGeobuf" => Ok(GeoArrowError::FlatGeobuf(message)),
-        "GeoParquet" => Ok(GeoArrowError::GeoParquet(message)),
-        "InvalidGeoArrow" => Ok(GeoArrowError::InvalidGeoArrow(message)),
-        "IncorrectGeometryType" => Ok(GeoArrowError::IncorrectGeometryType(message)),
-        "Wkb" => Ok(GeoArrowError::Wkb(message)),
-        "Wkt" => Ok(GeoArrowError::Wkt(message)),
-        _ => without_message(alloc, variant),
+        "Arrow" => GeoArrowError::from(ArrowError::SchemaError(message)),
+        "Crs" => GeoArrowError::Crs(message),
+        "External" => GeoArrowError::External(message),
+        "FlatGeobuf" => GeoArrowError::FlatGeobuf(message),
+        "GeoParquet" => GeoArrowError::GeoParquet(message),
+        "InvalidGeoArrow" => GeoArrowError::InvalidGeoArrow(message),
+        "IncorrectGeometryType" => GeoArrowError::IncorrectGeometryType(message),
+        "Wkb" => GeoArrowError::Wkb(message),
+        "Wkt" => GeoArrowError::Wkt(message),
+        _ => without_message(said, variant),
     }
 }
 
 /// The error of GeoArrow of that name, without a message; or what a call or a conversion makes.
-fn without_message(alloc: Global, variant: &str) -> Result<GeoArrowError, AllocError> {
+fn without_message(said: &mut Said, variant: &str) -> GeoArrowError {
     match variant {
-        "Overflow" => Ok(GeoArrowError::Overflow),
-        "IOError" => Ok(GeoArrowError::from(io::Error::from(io::ErrorKind::NotFound))),
-        "From<AllocError>" => Ok(GeoArrowError::from(AllocError)),
-        "invalid_geoarrow" => Ok(GeoArrowError::invalid_geoarrow(alloc, "m")),
-        _ => Err(AllocError),
+        "IOError" => return GeoArrowError::from(io::Error::from(io::ErrorKind::NotFound)),
+        "From<AllocError>" => return GeoArrowError::from(AllocError),
+        "invalid_geoarrow" => return GeoArrowError::invalid_geoarrow(said.alloc, "m"),
+        "Overflow" => {}
+        _ => said.fail(),
     }
+    GeoArrowError::Overflow
 }
 
 /// The error of Arrow of that name, with the message `m` where it has one; or what a call or a conversion makes.
-fn arrow_error(alloc: Global, variant: &str) -> Result<ArrowError, AllocError> {
-    let message = String::from_str(alloc, "m")?;
+fn arrow_error(said: &mut Said, variant: &str) -> ArrowError {
+    let message = said.owned("m");
     match variant {
-        "SchemaError" => Ok(ArrowError::SchemaError(message)),
-        "InvalidArgumentError" => Ok(ArrowError::InvalidArgumentError(message)),
-        "ExternalError" => {
-            let inner = Box::new(alloc, GeoArrowError::Crs(message))?;
-            Ok(ArrowError::ExternalError(inner))
-        }
-        "OutOfMemory" => Ok(ArrowError::OutOfMemory),
-        "From<AllocError>" => Ok(ArrowError::from(AllocError)),
-        "schema_error" => Ok(ArrowError::schema_error(alloc, "m")),
-        _ => Err(AllocError),
+        "SchemaError" => return ArrowError::SchemaError(message),
+        "InvalidArgumentError" => return ArrowError::InvalidArgumentError(message),
+        "ExternalError" => match Box::new(said.alloc, GeoArrowError::Crs(message)) {
+            Ok(inner) => return ArrowError::ExternalError(inner),
+            Err(_) => said.fail(),
+        },
+        "From<AllocError>" => return ArrowError::from(AllocError),
+        "schema_error" => return ArrowError::schema_error(said.alloc, "m"),
+        "OutOfMemory" => {}
+        _ => said.fail(),
     }
+    ArrowError::OutOfMemory
 }
 
 /// The name of the variant of an error.
@@ -61,28 +65,28 @@ fn variant_of(error: &ArrowError) -> &'static str {
 }
 
 /// Says which error of Arrow an error of GeoArrow becomes, and what that prints.
-fn into_arrow(it: &mut Asked<'_>) -> Result<(), AllocError> {
-    let error = geoarrow_error(it.alloc, it.text)?;
+fn into_arrow(it: &mut Asked<'_>) {
+    let error = geoarrow_error(&mut it.said, it.text);
     it.before();
-    let found = error.into_arrow_error(it.alloc);
+    let found = ManuallyDrop::new(error.into_arrow_error(it.alloc));
     it.after();
-    let error = found?;
-    say!(it.said, "{}: {error}", variant_of(&error));
-    Ok(())
+    match &*found {
+        Ok(error) => say!(it.said, "{}: {error}", variant_of(error)),
+        Err(AllocError) => it.said.fail(),
+    }
 }
 
 /// Says what an error prints.
-pub fn answer(it: &mut Asked<'_>) -> Result<(), AllocError> {
+pub fn answer(it: &mut Asked<'_>) {
     match it.command {
         "GeoArrowError" => {
-            let error = geoarrow_error(it.alloc, it.text)?;
-            say!(it.said, "{error}");
+            let error = ManuallyDrop::new(geoarrow_error(&mut it.said, it.text));
+            say!(it.said, "{}", *error);
         }
         "ArrowError" => {
-            let error = arrow_error(it.alloc, it.text)?;
-            say!(it.said, "{error}");
+            let error = ManuallyDrop::new(arrow_error(&mut it.said, it.text));
+            say!(it.said, "{}", *error);
         }
-        _ => return into_arrow(it),
+        _ => into_arrow(it),
     }
-    Ok(())
 }

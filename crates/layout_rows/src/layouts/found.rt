@@ -9,21 +9,20 @@ use rows::texts::first_word;
 use std::alloc::AllocError;
 
 /// Says the fault of a data type under a name, which is before it, and the path to the fault; `none` where there is none.
-pub fn found(it: &mut Asked<'_>) -> Result<(), AllocError> {
-    let (named, rest) = first_word(it.text)?;
-    let tree = data_type(it.alloc, rest)?;
+pub fn found(it: &mut Asked<'_>) {
+    let (named, rest) = first_word(&mut it.said, it.text);
+    let tree = data_type(&mut it.said, rest);
     let Some(name) = ExtensionName::from_text(named) else {
-        it.said.fail();
-        return Ok(());
+        return it.said.fail();
     };
-    match find_fault(it.alloc, name, &tree)? {
-        None => it.said.push("none"),
-        Some((path, fault)) => {
-            it.said.name(&fault);
-            say_path(&mut it.said, &path, &tree);
+    match &find_fault(it.alloc, name, &tree) {
+        Ok(None) => it.said.push("none"),
+        Ok(Some((path, fault))) => {
+            it.said.name(fault);
+            say_path(&mut it.said, path, &tree);
         }
+        Err(AllocError) => it.said.fail(),
     }
-    Ok(())
 }
 
 /// Says each step of a path: the place and the name of the child field.

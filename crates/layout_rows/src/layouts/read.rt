@@ -12,9 +12,7 @@ use rows::asked::Asked;
 use rows::said::Said;
 use rows::say;
 use rows::texts::{first_word, halves};
-use std::alloc::AllocError;
 use std::fmt::Debug;
-use std::mem::forget;
 
 /// Says what a reader of one part answers: the part by its name, or the fault.
 pub fn say_part<T: Debug>(said: &mut Said, answer: &Result<T, LayoutFault>) {
@@ -70,25 +68,21 @@ fn say_other(it: &mut Asked<'_>, tree: &DataType) {
     }
 }
 
-/// Says what a call answers about a data type, which is not dropped, since one that nests deep would take more stack than there
-/// is.
-pub fn one(it: &mut Asked<'_>) -> Result<(), AllocError> {
-    let tree = data_type(it.alloc, it.text)?;
+/// Says what a call answers about a data type.
+pub fn one(it: &mut Asked<'_>) {
+    let tree = data_type(&mut it.said, it.text);
     it.before();
     say_read(it, &tree);
     it.after();
-    forget(tree);
-    Ok(())
 }
 
 /// Says what a call answers about a data type and a name, which is before it.
-pub fn named(it: &mut Asked<'_>) -> Result<(), AllocError> {
-    let (named, rest) = first_word(it.text)?;
-    let tree = data_type(it.alloc, rest)?;
+pub fn named(it: &mut Asked<'_>) {
+    let (named, rest) = first_word(&mut it.said, it.text);
+    let tree = data_type(&mut it.said, rest);
     it.before();
     say_named(it, named, &tree);
     it.after();
-    Ok(())
 }
 
 /// Says it; nothing where the name is none that the call takes.
@@ -103,14 +97,13 @@ fn say_named(it: &mut Asked<'_>, named: &str, tree: &DataType) {
 }
 
 /// Says whether two data types are alike, asked both ways round.
-pub fn likeness(it: &mut Asked<'_>) -> Result<(), AllocError> {
-    let (first, second) = halves(it.text)?;
-    let first = data_type(it.alloc, first)?;
-    let second = data_type(it.alloc, second)?;
+pub fn likeness(it: &mut Asked<'_>) {
+    let (first, second) = halves(&mut it.said, it.text);
+    let first = data_type(&mut it.said, first);
+    let second = data_type(&mut it.said, second);
     it.before();
     it.said.push(likeness_of(&first, &second));
     it.after();
-    Ok(())
 }
 
 /// Whether two data types are alike, in words.

@@ -1,53 +1,55 @@
-//! Data types that a text spells. Each call errs where a text does not spell it.
+//! Data types that a text spells. Where a text does not spell one, the answer is lacking.
 //!
 //! A data type is written in the notation of `notation`. After `written` stands a kind in its place, as in
 //! `written Geometry(Separated)`, for the data type of that kind as written; after `mixed` a coordinate type and a dimension,
 //! for the union in a collection as written; and after `sparse` a union, for the same one with the mode `Sparse`.
 use arrow_values::{DataType, UnionFields, UnionMode};
 use geoarrow_layout::{kind_data_type, mixed_data_type};
-use rows::notation;
+use rows::notation::{self, made, no_members};
+use rows::said::Said;
 use rows::texts::{coord_type, dimension, first_word, kind};
-use std::alloc::{AllocError, Global};
+use std::mem::ManuallyDrop;
 
 /// The data type that a text spells.
-pub fn data_type(alloc: Global, text: &str) -> Result<DataType, AllocError> {
-    if let Some(union) = text.strip_prefix("sparse ") {
-        let members = members_of(dense(alloc, union)?)?;
-        return Ok(DataType::Union(members, UnionMode::Sparse));
+pub fn data_type(said: &mut Said, text: &str) -> ManuallyDrop<DataType> {
+    if !text.starts_with("sparse ") {
+        return dense(said, text);
     }
-    dense(alloc, text)
+    let members = ManuallyDrop::into_inner(members(said, text));
+    ManuallyDrop::new(DataType::Union(members, UnionMode::Sparse))
 }
 
 /// The data type of a text without `sparse`.
-fn dense(alloc: Global, text: &str) -> Result<DataType, AllocError> {
+fn dense(said: &mut Said, text: &str) -> ManuallyDrop<DataType> {
     if let Some(name) = text.strip_prefix("written ") {
-        return kind_data_type(alloc, kind(alloc, name)?);
+        let kind = kind(said, name);
+        let built = kind_data_type(said.alloc, kind);
+        return made(said, built);
     }
     if let Some(rest) = text.strip_prefix("mixed ") {
-        let (first, second) = first_word(rest)?;
-        return mixed_data_type(alloc, coord_type(first)?, dimension(second)?);
+        let (first, second) = first_word(said, rest);
+        let (first, second) = (coord_type(said, first), dimension(said, second));
+        let built = mixed_data_type(said.alloc, first, second);
+        return made(said, built);
     }
-    notation::data_type(alloc, text)
-}
-
-/// The members of a union.
-fn members_of(data_type: DataType) -> Result<UnionFields, AllocError> {
-    match data_type {
-        DataType::Union(members, _) => Ok(members),
-        _ => Err(AllocError),
-    }
+    notation::data_type(said, text)
 }
 
 /// The members of the union that a text spells.
-pub fn members(alloc: Global, text: &str) -> Result<UnionFields, AllocError> {
-    members_of(data_type(alloc, text)?)
+pub fn members(said: &mut Said, text: &str) -> ManuallyDrop<UnionFields> {
+    let text = text.strip_prefix("sparse ").unwrap_or(text);
+    ManuallyDrop::new(match ManuallyDrop::into_inner(dense(said, text)) {
+        DataType::Union(members, _) => members,
+        _ => no_members(said),
+    })
 }
 
 /// The type ids that a text spells, with spaces between them.
-pub fn ids(alloc: Global, text: &str) -> Result<Vec<i8>, AllocError> {
-    let mut ids = Vec::new(alloc);
+pub fn ids(said: &mut Said, text: &str) -> Vec<i8> {
+    let mut ids = Vec::new(said.alloc);
     for word in text.split_whitespace() {
-        ids.push(word.parse::<i8>().map_err(|_| AllocError)?)?;
+        let id = said.found(word.parse::<i8>().ok(), 0);
+        said.put(&mut ids, id);
     }
-    Ok(ids)
+    ids
 }

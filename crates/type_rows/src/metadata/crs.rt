@@ -1,13 +1,13 @@
 //! CRS: their tests and constructors, and the texts of their types and of edges.
-use crate::metadata::texts::{say_crs, say_text};
+use crate::metadata::texts::{json, say_crs, say_text};
 use geoarrow_meta::{Crs, CrsType, Edges, Metadata};
 use rows::asked::Asked;
 use rows::say;
-use serde_json::Value;
-use std::alloc::{AllocError, Global};
+use std::alloc::Global;
+use std::mem::ManuallyDrop;
 
 /// Says what a test answers about a text, or what a constructor makes of it.
-pub fn answer(it: &mut Asked<'_>) -> Result<(), AllocError> {
+pub fn answer(it: &mut Asked<'_>) {
     match it.command {
         "is_authority_code" => {
             it.before();
@@ -17,11 +17,10 @@ pub fn answer(it: &mut Asked<'_>) -> Result<(), AllocError> {
         }
         "edges" => say_edges(it),
         "crs_type" => say_crs_type(it),
-        "is_projjson" | "from_projjson" => return of_value(it),
+        "is_projjson" | "from_projjson" => of_value(it),
         "Crs::default" => say_written(it, Crs::default()),
-        _ => return of_text(it),
+        _ => of_text(it),
     }
-    Ok(())
 }
 
 /// Says the edges of a text by their variant, and the text of these; `-` for none.
@@ -45,26 +44,25 @@ fn say_crs_type(it: &mut Asked<'_>) {
 }
 
 /// Says whether the JSON value of a text is taken as PROJJSON, or the parts of the CRS that is made of it.
-fn of_value(it: &mut Asked<'_>) -> Result<(), AllocError> {
-    let value = Value::from_str(it.alloc, it.text).map_err(|_| AllocError)?;
+fn of_value(it: &mut Asked<'_>) {
+    let value = json(&mut it.said, it.text);
     it.before();
     let is_taken = Crs::is_projjson(&value);
     if it.command == "is_projjson" {
         it.after();
         it.said.truth(is_taken);
     } else if is_taken {
-        let crs = Crs::from_projjson(value);
+        let crs = Crs::from_projjson(ManuallyDrop::into_inner(value));
         it.after();
         say_written(it, crs);
     } else {
-        return Err(AllocError);
+        it.said.fail();
     }
-    Ok(())
 }
 
 /// Says the parts of the CRS that a constructor makes of a text, and how it is written.
-fn of_text(it: &mut Asked<'_>) -> Result<(), AllocError> {
-    let text = String::from_str(it.alloc, it.text)?;
+fn of_text(it: &mut Asked<'_>) {
+    let text = it.said.owned(it.text);
     it.before();
     let crs = match it.command {
         "from_wkt2_2019" => Crs::from_wkt2_2019(text),
@@ -73,21 +71,20 @@ fn of_text(it: &mut Asked<'_>) -> Result<(), AllocError> {
         "from_authority_code" if Crs::is_authority_code(text.as_str()) => {
             Crs::from_authority_code(text)
         }
-        _ => return Err(AllocError),
+        _ => return it.said.fail(),
     };
     it.after();
     say_written(it, crs);
-    Ok(())
 }
 
 /// Says the parts of a CRS, and the text of the metadata that holds it alone, which is to be read back as it was.
 fn say_written(it: &mut Asked<'_>, crs: Crs) {
-    let metadata = Metadata::new(crs, None);
+    let metadata = ManuallyDrop::new(Metadata::new(crs, None));
     say_crs(&mut it.said, metadata.crs());
     it.said.push(" as ");
-    let printed = metadata.serialize(it.alloc);
+    let printed = ManuallyDrop::new(metadata.serialize(it.alloc));
     say_text(&mut it.said, &printed);
-    let text = match &printed {
+    let text = match &*printed {
         Ok(Some(text)) => Some(text.as_str()),
         _ => None,
     };

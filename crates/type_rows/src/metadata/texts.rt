@@ -3,12 +3,13 @@ use arrow_values::ArrowError;
 use crs_text::crs_text;
 use geoarrow_meta::{Crs, Metadata};
 use rows::asked::Asked;
-use rows::compared::{Compared, hash_of};
+use rows::compared::{Compared, is_same_hashed};
 use rows::said::Said;
 use rows::say;
 use rows::texts::halves;
 use serde_json::Value;
-use std::alloc::{AllocError, Global};
+use std::alloc::AllocError;
+use std::mem::ManuallyDrop;
 
 /// Says the parts of a CRS: its value as JSON, and the text of its type, each `-` where there is none.
 pub fn say_crs(said: &mut Said, crs: &Crs) {
@@ -49,12 +50,26 @@ fn say_read(said: &mut Said, read: &Result<Metadata, ArrowError>) {
     }
 }
 
-/// The metadata of a text. Errs also where it denotes none.
-pub fn metadata_of(alloc: Global, text: &str) -> Result<Metadata, AllocError> {
-    match Metadata::deserialize(alloc, Some(text)) {
-        Ok(metadata) => Ok(metadata),
-        Err(_) => Err(AllocError),
-    }
+/// The metadata of a text. The answer is lacking where it denotes none.
+pub fn metadata_of(said: &mut Said, text: &str) -> ManuallyDrop<Metadata> {
+    ManuallyDrop::new(match Metadata::deserialize(said.alloc, Some(text)) {
+        Ok(metadata) => metadata,
+        Err(_) => {
+            said.fail();
+            Metadata::new(Crs::default(), None)
+        }
+    })
+}
+
+/// The JSON value of a text. The answer is lacking where it is none.
+pub fn json(said: &mut Said, text: &str) -> ManuallyDrop<Value> {
+    ManuallyDrop::new(match Value::from_str(said.alloc, text) {
+        Ok(value) => value,
+        Err(_) => {
+            said.fail();
+            Value::Null
+        }
+    })
 }
 
 /// Says what a call answers about the metadata of a text, or what the refusal of the text prints.
@@ -83,7 +98,7 @@ fn say_of(it: &mut Asked<'_>, metadata: Metadata) {
 /// Says what a metadata prints, `-` where it prints nothing.
 fn say_serialized(it: &mut Asked<'_>, metadata: &Metadata) {
     it.before();
-    let printed = metadata.serialize(it.alloc);
+    let printed = ManuallyDrop::new(metadata.serialize(it.alloc));
     it.after();
     say_text(&mut it.said, &printed);
 }
@@ -103,7 +118,7 @@ fn say_value(it: &mut Asked<'_>, metadata: &Metadata) {
 /// Says the parts of the metadata of a text, or of no text, or what the refusal prints.
 pub fn deserialized(it: &mut Asked<'_>, text: Option<&str>) {
     it.before();
-    let read = Metadata::deserialize(it.alloc, text);
+    let read = ManuallyDrop::new(Metadata::deserialize(it.alloc, text));
     it.after();
     say_read(&mut it.said, &read);
 }
@@ -118,41 +133,35 @@ pub fn crs_as_written(it: &mut Asked<'_>) {
 }
 
 /// Says the parts of the metadata of the JSON value of a text.
-pub fn from_value(it: &mut Asked<'_>) -> Result<(), AllocError> {
-    let value = Value::from_str(it.alloc, it.text).map_err(|_| AllocError)?;
+pub fn from_value(it: &mut Asked<'_>) {
+    let value = json(&mut it.said, it.text);
     match Metadata::from_value(it.alloc, &value) {
         Ok(metadata) => say_parts(&mut it.said, &metadata),
         Err(error) => it.said.geoarrow_refusal(&error),
     }
-    Ok(())
 }
 
-/// A metadata, which is cloned and compared.
-#[derive(Drop)]
-pub struct Spelled(Metadata);
+/// The metadata of texts, cloned and compared.
+pub struct Spelled {}
 
 impl Compared for Spelled {
-    fn spelled(alloc: Global, text: &str) -> Result<Spelled, AllocError> {
-        Ok(Spelled(metadata_of(alloc, text)?))
-    }
-
-    fn is_cloned_as(&self, alloc: Global, other: &Spelled) -> Result<bool, AllocError> {
-        let (one, other) = (&self.0, &other.0);
-        let clone = one.try_clone(alloc)?;
-        let crs = one.crs().try_clone(alloc)?;
-        let is_same_crs = crs == *other.crs() && hash_of(&crs) == hash_of(other.crs());
-        Ok(clone == *other && hash_of(&clone) == hash_of(other) && is_same_crs)
+    fn are_equal(said: &mut Said, one: &str, other: &str) -> bool {
+        let one = metadata_of(said, one);
+        let other = metadata_of(said, other);
+        let clone = ManuallyDrop::new(one.try_clone(said.alloc));
+        let crs = ManuallyDrop::new(one.crs().try_clone(said.alloc));
+        let is_same_crs = is_same_hashed(said, &crs, other.crs());
+        is_same_hashed(said, &clone, &other) && is_same_crs
     }
 }
 
 /// Says whether the metadata of two texts are written alike.
-pub fn same_written(it: &mut Asked<'_>) -> Result<(), AllocError> {
-    let (one, other) = halves(it.text)?;
-    let one = metadata_of(it.alloc, one)?;
-    let other = metadata_of(it.alloc, other)?;
+pub fn same_written(it: &mut Asked<'_>) {
+    let (one, other) = halves(&mut it.said, it.text);
+    let one = metadata_of(&mut it.said, one);
+    let other = metadata_of(&mut it.said, other);
     it.before();
     let found = one.same_written(&other);
     it.after();
     it.said.truth(found);
-    Ok(())
 }

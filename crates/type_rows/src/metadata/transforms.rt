@@ -6,7 +6,7 @@ use rows::asked::Asked;
 use rows::said::Said;
 use rows::say;
 use serde_json::Value;
-use std::alloc::{AllocError, Global};
+use std::alloc::Global;
 use std::fmt::Display;
 
 /// It converts each CRS to one text, and none to PROJJSON.
@@ -39,12 +39,8 @@ fn say_converted<T: Display>(said: &mut Said, found: &GeoArrowResult<Option<T>>)
 }
 
 /// Says what a call of a transform answers for the CRS of a metadata text.
-pub fn converted<T: CrsTransform>(
-    it: &mut Asked<'_>,
-    transform: &T,
-    call: &str,
-) -> Result<(), AllocError> {
-    let metadata = metadata_of(it.alloc, it.text)?;
+pub fn converted<T: CrsTransform>(it: &mut Asked<'_>, transform: &T, call: &str) {
+    let metadata = metadata_of(&mut it.said, it.text);
     let crs = metadata.crs();
     it.before();
     match call {
@@ -61,5 +57,4 @@ pub fn converted<T: CrsTransform>(
         _ => it.no_command(),
     }
     it.after();
-    Ok(())
 }

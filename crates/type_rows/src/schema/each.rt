@@ -1,6 +1,6 @@
 //! The calls that each of the eleven types has by itself.
 use crate::metadata::say_text;
-use crate::schema::spelled::{field_of, tree_of, type_of};
+use crate::schema::spelled::{field_of, tree_of};
 use crate::schema::words::{dimension_word, say_type};
 use arrow_values::{ArrowError, DataType, ExtensionType, Field};
 use geoarrow_schema::generic::{Encoding, SerializedType, Wkb, Wkt};
@@ -10,16 +10,17 @@ use geoarrow_schema::{
     MultiLineStringType, MultiPointType, MultiPolygonType, PointType, PolygonType,
 };
 use rows::asked::Asked;
+use rows::notation::new_field;
 use rows::said::Said;
 use rows::say;
-use rows::texts::{first_word, halves};
-use std::alloc::AllocError;
+use rows::texts::first_word;
+use std::mem::ManuallyDrop;
 use std::sync::Arc;
 
 /// Says the type of a word, made of a field.
-pub fn make(it: &mut Asked<'_>) -> Result<(), AllocError> {
-    let (word, text) = first_word(it.text)?;
-    let field = field_of(it.alloc, text)?;
+pub fn make(it: &mut Asked<'_>) {
+    let (word, text) = first_word(&mut it.said, it.text);
+    let field = field_of(&mut it.said, text);
     match word {
         "point" => of_geometry::<PointType>(it, &field),
         "linestring" => of_geometry::<LineStringType>(it, &field),
@@ -34,7 +35,6 @@ pub fn make(it: &mut Asked<'_>) -> Result<(), AllocError> {
         "wkt" => of_bytes::<Wkt>(it, &field),
         _ => it.said.fail(),
     }
-    Ok(())
 }
 
 /// A type that is made of a field: by the field's `try_extension_type`; or by the type's own `try_new`, of the data type and of
@@ -61,7 +61,7 @@ fn of_geometry<E: ExtensionType<Metadata = Arc<Metadata>> + Into<GeoArrowType>>(
     match made_of::<E>(it, field) {
         Ok(found) => {
             let found: GeoArrowType = found.into();
-            say_type(&mut it.said, it.alloc, &found);
+            say_type(&mut it.said, &found);
         }
         Err(error) => it.said.refusal(&error),
     }
@@ -75,23 +75,22 @@ fn of_bytes<E: Encoding>(it: &mut Asked<'_>, field: &Field) {
     }
 }
 
-/// The text of a type, and that of the data type or the field over which it is used.
-fn texts_of<'a>(command: &str, text: &'a str) -> Result<(&'a str, &'a str), AllocError> {
-    match command {
-        "serialize_metadata" | "extension_name" => Ok((text, "- | Null")),
-        _ => halves(text),
+/// The field over which a type is used: of the data type that a text spells, or the one that it spells.
+fn used_over(it: &mut Asked<'_>, text: &str) -> ManuallyDrop<Field> {
+    match it.command {
+        "try_with_extension_type" | "with_extension_type" => field_of(&mut it.said, text),
+        "supports_data_type" => {
+            let tree = ManuallyDrop::into_inner(tree_of(&mut it.said, text));
+            ManuallyDrop::new(new_field(&mut it.said, "g", tree, true))
+        }
+        _ => field_of(&mut it.said, "- | Null"),
     }
 }
 
 /// Says what comes of the use of a type, over the data type or the field that stands after it.
-pub fn used(it: &mut Asked<'_>) -> Result<(), AllocError> {
-    let (spelled, rest) = texts_of(it.command, it.text)?;
-    let mut field = if it.command == "supports_data_type" {
-        Field::new(it.alloc, "g", tree_of(it.alloc, rest)?, true)?
-    } else {
-        field_of(it.alloc, rest)?
-    };
-    match &type_of(it.alloc, spelled)? {
+pub fn used(it: &mut Asked<'_>, one: &GeoArrowType, text: &str) {
+    let mut field = used_over(it, text);
+    match one {
         GeoArrowType::Point(own) => use_of(it, own, &mut field),
         GeoArrowType::LineString(own) => use_of(it, own, &mut field),
         GeoArrowType::Polygon(own) => use_of(it, own, &mut field),
@@ -108,7 +107,6 @@ pub fn used(it: &mut Asked<'_>) -> Result<(), AllocError> {
             use_of(it, own, &mut field);
         }
     }
-    Ok(())
 }
 
 /// Says how a type is used: asked whether it supports a data type, written on a field by `try_with_extension_type`, or by
@@ -147,7 +145,7 @@ fn write_on<E: ExtensionType>(it: &mut Asked<'_>, own: &E, field: &mut Field) {
         return it.said.fail();
     };
     match field.try_with_extension_type(it.alloc, own) {
-        Ok(()) => it.said.line(it.alloc, field),
+        Ok(()) => it.said.line(field),
         Err(_) if *field != before => it.said.push("changed"),
         Err(error) => {
             it.said.refusal(&error);
@@ -165,14 +163,13 @@ fn carry<E: ExtensionType>(it: &mut Asked<'_>, own: &E, field: &Field) {
         return it.said.fail();
     };
     let carrying = field.with_extension_type(it.alloc, own);
-    it.said.line_or_refusal(it.alloc, &carrying);
+    it.said.line_or_refusal(&carrying);
 }
 
 /// Says the type id of a native type, its offset, and the dimension by which it goes.
-pub fn geometry_type_id(it: &mut Asked<'_>) -> Result<(), AllocError> {
-    let one = type_of(it.alloc, it.text)?;
+pub fn geometry_type_id(it: &mut Asked<'_>, one: &GeoArrowType) {
     it.before();
-    match &one {
+    match one {
         GeoArrowType::Point(own) => say_type_id(&mut it.said, own),
         GeoArrowType::LineString(own) => say_type_id(&mut it.said, own),
         GeoArrowType::Polygon(own) => say_type_id(&mut it.said, own),
@@ -183,7 +180,6 @@ pub fn geometry_type_id(it: &mut Asked<'_>) -> Result<(), AllocError> {
         _ => it.said.fail(),
     }
     it.after();
-    Ok(())
 }
 
 /// Says the type id, the offset and the dimension of a type that has them.

@@ -1,107 +1,92 @@
 //! The parts of a type, and what stands in their place.
 use crate::schema::spelled::{metadata_of, type_of};
 use crate::schema::words::say_type;
-use geoarrow_schema::{CoordType, Dimension, GeoArrowType, Metadata};
+use geoarrow_schema::GeoArrowType;
 use rows::asked::Asked;
-use rows::compared::{Compared, hash_of};
-use rows::texts::{coord_type, dimension, first_word, halves};
-use std::alloc::{AllocError, Global};
-use std::sync::Arc;
-
-/// What becomes of a type.
-#[derive(Drop)]
-enum Change {
-    /// Nothing.
-    None,
-    /// Another coordinate type.
-    CoordType(CoordType),
-    /// Another dimension.
-    Dimension(Dimension),
-    /// Other metadata.
-    Metadata(Arc<Metadata>),
-    /// Its normal form.
-    Normalized,
-}
-
-/// What a command makes of a type, by what stands in the part's place.
-fn change_of(alloc: Global, command: &str, part: &str) -> Result<Change, AllocError> {
-    match command {
-        "from_kind" => Ok(Change::None),
-        "normalized" => Ok(Change::Normalized),
-        "with_coord_type" => Ok(Change::CoordType(coord_type(part)?)),
-        "with_dimension" => Ok(Change::Dimension(dimension(part)?)),
-        "with_metadata" => Ok(Change::Metadata(metadata_of(alloc, part)?)),
-        _ => Err(AllocError),
-    }
-}
-
-/// What a type becomes.
-fn after(alloc: Global, change: Change, one: GeoArrowType) -> Result<GeoArrowType, AllocError> {
-    match change {
-        Change::None => Ok(one),
-        Change::CoordType(coord_type) => Ok(one.with_coord_type(coord_type)),
-        Change::Dimension(dimension) => Ok(one.with_dimension(dimension)),
-        Change::Metadata(metadata) => Ok(one.with_metadata(metadata)),
-        Change::Normalized => one.normalized(alloc),
-    }
-}
-
-/// What stands in the part's place, and the text of the type.
-fn part_and_type<'a>(command: &str, text: &'a str) -> Result<(&'a str, &'a str), AllocError> {
-    match command {
-        "with_coord_type" | "with_dimension" => first_word(text),
-        "with_metadata" => halves(text),
-        _ => Ok(("", text)),
-    }
-}
+use rows::compared::{Compared, is_same_hashed};
+use rows::said::Said;
+use rows::texts::{coord_type, dimension};
+use std::alloc::AllocError;
+use std::mem::ManuallyDrop;
 
 /// Says a type after a change, as its getters tell it.
-pub fn changed(it: &mut Asked<'_>) -> Result<(), AllocError> {
-    let (part, spelled) = part_and_type(it.command, it.text)?;
-    let change = change_of(it.alloc, it.command, part)?;
-    let one = type_of(it.alloc, spelled)?;
-    it.before();
-    let found = after(it.alloc, change, one);
+pub fn changed(it: &mut Asked<'_>, one: ManuallyDrop<GeoArrowType>, part: &str) {
+    if it.command == "with_metadata" {
+        return with_metadata(it, one, part);
+    }
+    let one = ManuallyDrop::into_inner(one);
+    let changed = match it.command {
+        "with_coord_type" => {
+            let coord_type = coord_type(&mut it.said, part);
+            it.before();
+            one.with_coord_type(coord_type)
+        }
+        "with_dimension" => {
+            let dimension = dimension(&mut it.said, part);
+            it.before();
+            one.with_dimension(dimension)
+        }
+        "normalized" => {
+            it.before();
+            match one.normalized(it.alloc) {
+                Ok(one) => one,
+                Err(AllocError) => return it.said.fail(),
+            }
+        }
+        _ => {
+            it.before();
+            one
+        }
+    };
+    say_changed(it, changed);
+}
+
+/// Says a type with other metadata.
+fn with_metadata(it: &mut Asked<'_>, one: ManuallyDrop<GeoArrowType>, text: &str) {
+    if let Some(metadata) = metadata_of(&mut it.said, text) {
+        it.before();
+        say_changed(it, ManuallyDrop::into_inner(one).with_metadata(metadata));
+    }
+}
+
+/// Says what a type has become.
+fn say_changed(it: &mut Asked<'_>, one: GeoArrowType) {
     it.after();
-    say_type(&mut it.said, it.alloc, &found?);
-    Ok(())
+    say_type(&mut it.said, &ManuallyDrop::new(one));
 }
 
 /// Says whether two types are written alike, and whether their normal forms are equal.
-pub fn same_written(it: &mut Asked<'_>) -> Result<(), AllocError> {
-    let (one, other) = halves(it.text)?;
-    let one = type_of(it.alloc, one)?;
-    let other = type_of(it.alloc, other)?;
+pub fn same_written(it: &mut Asked<'_>, one: ManuallyDrop<GeoArrowType>, other: &str) {
+    let Some(other) = type_of(&mut it.said, other) else {
+        return it.said.fail();
+    };
     it.before();
     let found = one.same_written(&other);
     it.after();
     it.said.truth(found);
     it.said.push(" ");
-    it.said.truth(are_normally_equal(it.alloc, one, other)?);
-    Ok(())
+    let one = ManuallyDrop::into_inner(one).normalized(it.alloc);
+    let other = ManuallyDrop::into_inner(other).normalized(it.alloc);
+    match &*ManuallyDrop::new((one, other)) {
+        (Ok(one), Ok(other)) => it.said.truth(*one == *other),
+        _ => it.said.fail(),
+    }
 }
 
-/// Whether the normal forms of two types are equal.
-fn are_normally_equal(
-    alloc: Global,
-    one: GeoArrowType,
-    other: GeoArrowType,
-) -> Result<bool, AllocError> {
-    let one = one.normalized(alloc)?;
-    Ok(one == other.normalized(alloc)?)
-}
-
-/// A type that is cloned and compared: neither it nor `Compared` is of this crate, so it stands in a type that is.
-#[derive(Drop)]
-pub struct Spelled(GeoArrowType);
+/// The types that texts spell, cloned and compared.
+pub struct Spelled {}
 
 impl Compared for Spelled {
-    fn spelled(alloc: Global, text: &str) -> Result<Spelled, AllocError> {
-        Ok(Spelled(type_of(alloc, text)?))
-    }
-
-    fn is_cloned_as(&self, alloc: Global, other: &Spelled) -> Result<bool, AllocError> {
-        let clone = self.0.try_clone(alloc)?;
-        Ok(clone == other.0 && hash_of(&clone) == hash_of(&other.0))
+    fn are_equal(said: &mut Said, one: &str, other: &str) -> bool {
+        match (type_of(said, one), type_of(said, other)) {
+            (Some(one), Some(other)) => {
+                let clone = ManuallyDrop::new(one.try_clone(said.alloc));
+                is_same_hashed(said, &clone, &other)
+            }
+            _ => {
+                said.fail();
+                false
+            }
+        }
     }
 }

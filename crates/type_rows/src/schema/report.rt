@@ -7,31 +7,31 @@ use geoarrow_schema::Metadata;
 use rows::asked::Asked;
 use rows::said::Said;
 use rows::say;
-use std::alloc::{AllocError, Global};
-use std::mem::forget;
+use std::alloc::AllocError;
+use std::mem::ManuallyDrop;
 
 /// The fields with ` ; ` between them; none where the text is empty.
-fn fields_of(alloc: Global, text: &str) -> Result<Vec<Field>, AllocError> {
-    let mut fields = Vec::new(alloc);
-    if text.is_empty() {
-        return Ok(fields);
+fn fields_of(said: &mut Said, text: &str) -> ManuallyDrop<Vec<Field>> {
+    let mut fields = ManuallyDrop::new(Vec::new(said.alloc));
+    for spelled in text.split(" ; ") {
+        if !text.is_empty() {
+            let field = ManuallyDrop::into_inner(field_of(said, spelled));
+            said.put(&mut fields, field);
+        }
     }
-    for field in text.split(" ; ") {
-        fields.push(field_of(alloc, field)?)?;
-    }
-    Ok(fields)
+    fields
 }
 
 /// Says what a column holds.
-fn say_column(said: &mut Said, alloc: Global, column: &Column) {
+fn say_column(said: &mut Said, column: &Column) {
     match column {
         Column::Geometry(found) => {
             said.push("; geometry ");
-            say_type(said, alloc, found);
+            say_type(said, found);
         }
         Column::Inferred(found) => {
             said.push("; inferred ");
-            say_type(said, alloc, found);
+            say_type(said, found);
         }
         Column::Other => said.push("; other"),
         Column::Faulty(fault) => say!(said, "; faulty {fault:?}"),
@@ -39,48 +39,48 @@ fn say_column(said: &mut Said, alloc: Global, column: &Column) {
 }
 
 /// Says what each of some columns holds.
-fn say_columns(it: &mut Asked<'_>, fields: &[Field]) -> Result<(), AllocError> {
-    let columns = check_columns(it.alloc, fields)?;
-    say!(it.said, "{} columns", columns.len());
-    for column in columns.iter() {
-        say_column(&mut it.said, it.alloc, column);
+fn say_columns(said: &mut Said, checked: &Result<Vec<Column>, AllocError>) {
+    match checked {
+        Ok(columns) => {
+            say!(said, "{} columns", columns.len());
+            for column in columns.iter() {
+                say_column(said, column);
+            }
+        }
+        Err(AllocError) => said.fail(),
     }
-    Ok(())
 }
 
-/// Says what each of the columns with ` ; ` between them holds. The fields are not dropped, since those whose data types nest deep
-/// would take more stack than there is.
-pub fn report(it: &mut Asked<'_>) -> Result<(), AllocError> {
-    let fields = fields_of(it.alloc, it.text)?;
-    let done = say_columns(it, fields.as_slice());
-    forget(fields);
-    done
+/// Says what each of the columns with ` ; ` between them holds.
+pub fn report(it: &mut Asked<'_>) {
+    let fields = fields_of(&mut it.said, it.text);
+    let checked = ManuallyDrop::new(check_columns(it.alloc, fields.as_slice()));
+    say_columns(&mut it.said, &checked);
 }
 
 /// Says a metadata that is read, or what the refusal prints.
-fn say_read(said: &mut Said, alloc: Global, read: &Result<Metadata, ArrowError>) {
+fn say_read(said: &mut Said, read: &Result<Metadata, ArrowError>) {
     match read {
-        Ok(metadata) => say_metadata(said, alloc, metadata),
+        Ok(metadata) => say_metadata(said, metadata),
         Err(error) => said.refusal(error),
     }
 }
 
 /// Says the metadata of a field, whatever its name, as two calls read it: once where they are the same.
-pub fn metadata(it: &mut Asked<'_>) -> Result<(), AllocError> {
-    let alloc = it.alloc;
-    let field = field_of(alloc, it.text)?;
-    let read = Metadata::try_from_field(alloc, &field);
-    say_read(&mut it.said, alloc, &read);
-    let shared = Metadata::deserialize_shared(alloc, field.extension_type_metadata());
+pub fn metadata(said: &mut Said, field: &Field) {
+    let alloc = said.alloc;
+    let read = ManuallyDrop::new(Metadata::try_from_field(alloc, field));
+    say_read(said, &read);
+    let text = field.extension_type_metadata();
+    let shared = ManuallyDrop::new(Metadata::deserialize_shared(alloc, text));
     let mut other = Said::new(alloc);
-    match &shared {
-        Ok(shared) => say_metadata(&mut other, alloc, shared),
+    match &*shared {
+        Ok(shared) => say_metadata(&mut other, shared),
         Err(error) => other.refusal(error),
     }
     if other.is_lacking {
-        it.said.fail();
-    } else if other.text != it.said.text {
-        it.said.push(", otherwise shared");
+        said.fail();
+    } else if other.text != said.text {
+        said.push(", otherwise shared");
     }
-    Ok(())
 }

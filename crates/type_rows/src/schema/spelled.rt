@@ -1,19 +1,20 @@
-//! Fields and types that a text spells. What spells none is an error, so that a row of it is wrong.
+//! Fields and types that a text spells. Where it spells none, the answer is lacking, so that a row of it is wrong.
 use crate::schema::words::{coord_type_word, dimension_word, kind_word};
 use arrow_values::{DataType, EXTENSION_TYPE_METADATA_KEY, EXTENSION_TYPE_NAME_KEY, Field};
 use geoarrow_schema::{GeoArrowType, Kind, Metadata};
-use rows::notation::{column, data_type, field};
+use rows::notation::{column, data_type, field, made};
+use rows::said::Said;
 use rows::texts::{first_word, halves};
-use std::alloc::{AllocError, Global};
+use std::mem::ManuallyDrop;
 use std::sync::Arc;
 
 /// A field that may be null, spelled `NAME METADATA | TYPE`, where the name `-` stands for none, no metadata text need be
 /// there, and `(empty)` is the empty one; or spelled as a line of JSON.
-pub fn field_of(alloc: Global, text: &str) -> Result<Field, AllocError> {
+pub fn field_of(said: &mut Said, text: &str) -> ManuallyDrop<Field> {
     if text.starts_with('{') {
-        return field(alloc, text);
+        return field(said, text);
     }
-    let (texts, tree) = halves(text)?;
+    let (texts, tree) = halves(said, text);
     let (name, metadata) = match texts.split_once(' ') {
         None => (texts, None),
         Some((name, "(empty)")) => (name, Some("")),
@@ -24,44 +25,56 @@ pub fn field_of(alloc: Global, text: &str) -> Result<Field, AllocError> {
         (EXTENSION_TYPE_NAME_KEY, name),
         (EXTENSION_TYPE_METADATA_KEY, metadata),
     ];
-    column(alloc, &texts, tree)
+    column(said, &texts, tree)
 }
 
 /// A data type in the notation, or that of a field that is spelled as a line of JSON.
-pub fn tree_of(alloc: Global, text: &str) -> Result<DataType, AllocError> {
-    if text.starts_with('{') {
-        return field(alloc, text)?.data_type().try_clone(alloc);
+pub fn tree_of(said: &mut Said, text: &str) -> ManuallyDrop<DataType> {
+    if !text.starts_with('{') {
+        return data_type(said, text);
     }
-    data_type(alloc, text)
+    let field = field(said, text);
+    let tree = field.data_type().try_clone(said.alloc);
+    made(said, tree)
 }
 
 /// The type of those four words, the last of them a metadata text or a dash.
-pub fn type_of(alloc: Global, text: &str) -> Result<GeoArrowType, AllocError> {
-    let (kind, rest) = first_word(text)?;
-    let (coord_type, rest) = first_word(rest)?;
-    let (dimension, metadata) = first_word(rest)?;
-    let kind = kind_of(kind, coord_type, dimension)?;
-    Ok(GeoArrowType::from_kind(kind, metadata_of(alloc, metadata)?))
+pub fn type_of(said: &mut Said, text: &str) -> Option<ManuallyDrop<GeoArrowType>> {
+    let (kind, rest) = first_word(said, text);
+    let (coord_type, rest) = first_word(said, rest);
+    let (dimension, metadata) = first_word(said, rest);
+    match (
+        kind_of(kind, coord_type, dimension),
+        metadata_of(said, metadata),
+    ) {
+        (Some(kind), Some(metadata)) => {
+            Some(ManuallyDrop::new(GeoArrowType::from_kind(kind, metadata)))
+        }
+        _ => None,
+    }
 }
 
 /// The kind of those three words.
-fn kind_of(kind: &str, coord_type: &str, dimension: &str) -> Result<Kind, AllocError> {
+fn kind_of(kind: &str, coord_type: &str, dimension: &str) -> Option<Kind> {
     for found in Kind::ALL.iter() {
         if kind_word(*found) == kind
             && coord_type_word(found.coord_type()) == coord_type
             && dimension_word(found.dimension()) == dimension
         {
-            return Ok(*found);
+            return Some(*found);
         }
     }
-    Err(AllocError)
+    None
 }
 
-/// The metadata of a text, or the default for a dash.
-pub fn metadata_of(alloc: Global, text: &str) -> Result<Arc<Metadata>, AllocError> {
+/// The metadata of a text, or the default for a dash. There is no answer where there is none.
+pub fn metadata_of(said: &mut Said, text: &str) -> Option<Arc<Metadata>> {
     let text = if text == "-" { None } else { Some(text) };
-    match Metadata::deserialize(alloc, text) {
-        Ok(metadata) => Ok(Arc::new(alloc, metadata)?),
-        Err(_) => Err(AllocError),
+    if let Ok(metadata) = Metadata::deserialize(said.alloc, text)
+        && let Ok(metadata) = Arc::new(said.alloc, metadata)
+    {
+        return Some(metadata);
     }
+    said.fail();
+    None
 }

@@ -3,22 +3,21 @@ use arrow_values::{ArrowError, GeoArrowError};
 use geoarrow_schema::{CoordType, Dimension, GeoArrowType, Kind, Metadata, NativeKind, Width};
 use rows::said::Said;
 use rows::say;
-use std::alloc::Global;
 
 /// Says a type: its kind, coordinate type, dimension and metadata. It says all that there is of it.
-pub fn say_type(said: &mut Said, alloc: Global, found: &GeoArrowType) {
+pub fn say_type(said: &mut Said, found: &GeoArrowType) {
     said.push(kind_word(found.kind()));
     said.push(" ");
     said.push(coord_type_word(found.coord_type()));
     said.push(" ");
     said.push(dimension_word(found.dimension()));
     said.push(" ");
-    say_metadata(said, alloc, found.metadata());
+    say_metadata(said, found.metadata());
 }
 
 /// Says a metadata: its text; or a dash where it has none, and the CRS type that is there nevertheless.
-pub fn say_metadata(said: &mut Said, alloc: Global, metadata: &Metadata) {
-    match (metadata.serialize(alloc), metadata.crs().crs_type()) {
+pub fn say_metadata(said: &mut Said, metadata: &Metadata) {
+    match (metadata.serialize(said.alloc), metadata.crs().crs_type()) {
         (Ok(Some(text)), _) => said.push(text.as_str()),
         (Ok(None), None) => said.push("-"),
         (Ok(None), Some(lone)) => say!(said, "- {}", lone.as_text()),

@@ -10,11 +10,5 @@ decreases-read_field l = 3 * l.levels + 1
 abbrev pub decreases-read_fields : goal.decreases-read_fields
 decreases-read_fields l = 3 * l.levels + 2
 
-abbrev pub decreases-read_sized : goal.decreases-read_sized
-decreases-read_sized l = 3 * l.levels + 2
-
 abbrev pub decreases-read_members : goal.decreases-read_members
 decreases-read_members l = 3 * l.levels + 2
-
-abbrev pub decreases-read_lists : goal.decreases-read_lists
-decreases-read_lists l = 3 * l.levels + 2
