@@ -21,7 +21,10 @@ stream a b c d rest = 255 ∷ 255 ∷ 255 ∷ 255 ∷ a ∷ b ∷ c ∷ d ∷ re
 
 message_is : (a b c d : ℕ) (rest : List ℕ) → message_in (stream a b c d rest) ≡ cut (stream a b c d rest) 8 (from_le_bytes w32 (a ∷ b ∷ c ∷ d ∷ []))
 unfolding message_in integer_at
-message_is a b c d rest = refl
+message_is a b c d rest =
+    let first : nat_le 4 (length (stream a b c d rest)) ≡ true = le-leb 4 (length (stream a b c d rest)) (omega arith) in
+    let second : nat_le 4 (length (a ∷ b ∷ c ∷ d ∷ rest)) ≡ true = le-leb 4 (length (a ∷ b ∷ c ∷ d ∷ rest)) (omega arith) in
+    rw (first, second) refl
 
 -- a message that is whole is cut out of as many bytes as its size says
 cut_is : (a b c d size : ℕ) (rest : List ℕ) → size ≤ length rest → cut (stream a b c d rest) 8 size ≡ cut (stream a b c d (take size rest)) 8 size
