@@ -68,6 +68,7 @@ pub struct Fault {
 pub(crate) type Found<T> = Result<T, Fault>;
 
 /// A rule that is broken at a byte.
+#[inline(always)]
 pub(crate) fn broken(rule: Rule, at: usize) -> Fault
     ensures { result ≡ record { rule = rule; at = at } }
 {
@@ -75,6 +76,7 @@ pub(crate) fn broken(rule: Rule, at: usize) -> Fault
 }
 
 /// Errs with a rule that is broken where it does not hold.
+#[inline(always)]
 pub(crate) fn ensure(holds: bool, rule: Rule, at: usize) -> Found<()>
     ensures ok { OnOk result (holds ≡ true) }
     ensures err { IfErr result (λ f. (holds ≡ false) × (f ≡ record { rule = rule; at = at })) }

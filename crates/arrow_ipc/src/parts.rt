@@ -205,6 +205,7 @@ fn index_in(bytes: &[u8], table: &Table) -> Found<Option<Index>>
 
 /// What the table of a type has in slot 1: the time zone of a timestamp, and where the type ids of a union are, if it says them.
 #[tactic(auto, unfolding(crate::specs::Parts::zone_or_ids))]
+#[inline(always)]
 fn zone_or_ids<'a>(bytes: &'a [u8], tag: usize, table: &Table) -> Found<(&'a str, Option<Vector>)>
     requires { IsOpen bytes.now table.now }
     ensures is { map_ok (λ p. (p.0.now, p.1)) result ≡ zone_or_ids bytes.now tag table.now }

@@ -6,7 +6,7 @@ ghost use Rattle.arrow_columns.specs.Column.{column_tree};
 ghost use Rattle.arrow_ipc.specs.Fault.{map_ok};
 ghost use Rattle.arrow_ipc.specs.Parts.{parts_of};
 ghost use Rattle.arrow_ipc.specs.Tells.{Tells, Says};
-ghost use Rattle.arrow_ipc.specs.Columns.{entry_at, put_entry, texts_at, id_at, is_new, ids_at, finished, columns_by, column_at};
+ghost use Rattle.arrow_ipc.specs.Columns.{entry_at, put_entry, texts_at, is_new, ids_at, finished, columns_by, column_at};
 ghost use Rattle.arrow_ipc.specs.Schema.{message_at, footer_at, cut, message_in, footer_in, schema_of, Meets, MeetsIn, schema_of_message, schema_of_footer};
 
 use crate::fault::{Found, IpcError, Rule, broken, ensure};
@@ -80,10 +80,8 @@ fn put_entry(alloc: Global, bytes: &[u8], at: usize, budget: &mut usize, to: &mu
 {
     let (key, text) = entry_at(bytes, at)?;
     spend(budget, 8, key, text, at)?;
-    to.insert(
-        String::from_str(alloc, key)?,
-        String::from_str(alloc, text)?,
-    )?;
+    let key = String::from_str(alloc, key)?;
+    to.insert(key, String::from_str(alloc, text)?)?;
     Ok(())
 }
 
@@ -100,17 +98,6 @@ fn read_texts(alloc: Global, bytes: &[u8], at: Vector, budget: &mut usize) -> Re
     Ok(texts)
 }
 
-/// The type id at an index: where they are not written, the index.
-fn id_at(bytes: &[u8], written: Option<Vector>, i: usize) -> Found<usize>
-    requires { IfSome written (λ v. v.0 + 4 * i + 4 ≤ length bytes.now) }
-    ensures { result ≡ id_at bytes.now written i }
-{
-    match written {
-        None => Ok(i),
-        Some((start, _)) => integer_at(bytes, start + 4 * i, 4),
-    }
-}
-
 /// Whether a type id is 0 to 127, and none of those before it.
 fn is_new(id: usize, ids: &[i8]) -> bool
     ensures { result ≡ is_new id ids.now }
@@ -118,7 +105,7 @@ fn is_new(id: usize, ids: &[i8]) -> bool
     id < 128 && !ids.contains(&(id as i8))
 }
 
-/// The type ids of a union of so many children, each 0 to 127, and none of those before it.
+/// The type ids of a union of so many children, each 0 to 127, and none of those before it; where they are not written, 0, 1, 2 and on.
 #[tactic(auto, using(crate::proofs::Told::next_id, crate::proofs::Told::all_ids), unfolding(crate::specs::Columns::ids_at, crate::specs::Columns::put_id))]
 #[inline(never)]
 fn read_ids(alloc: Global, bytes: &[u8], parts: &Parts<'_>, count: usize) -> Read<Vec<i8>>
@@ -129,7 +116,10 @@ fn read_ids(alloc: Global, bytes: &[u8], parts: &Parts<'_>, count: usize) -> Rea
     ensure(as_many, Rule::TypeIds, parts.table)?;
     let mut ids = Vec::new(alloc);
     'ids: for i in 0..count {
-        let id = id_at(bytes, parts.ids, i)?;
+        let id = match parts.ids {
+            None => i,
+            Some((start, _)) => integer_at(bytes, start + 4 * i, 4)?,
+        };
         ensure(is_new(id, ids.as_slice()), Rule::TypeIds, parts.table)?;
         ids.push(id as i8)?;
     }

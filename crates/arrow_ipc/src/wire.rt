@@ -34,14 +34,13 @@ pub(crate) fn integer_at(bytes: &[u8], at: usize, size: usize) -> Found<usize>
 pub(crate) fn ahead(rule: Rule, bytes: &[u8], at: usize, by: usize) -> Found<usize>
     ensures { result ≡ ahead rule bytes.now at by }
 {
-    match bytes.get(at..) {
-        Some(rest) if by <= rest.len() => Ok(at + by),
-        _ => Err(broken(rule, at)),
-    }
+    ensure(at <= bytes.len() && by <= bytes.len() - at, rule, at)?;
+    Ok(at + by)
 }
 
 /// Where the vtable of a table is.
 #[tactic(auto, unfolding(crate::specs::Wire::vtable_at))]
+#[inline(always)]
 fn vtable_at(bytes: &[u8], table: usize) -> Found<usize>
     ensures { result ≡ vtable_at bytes.now table }
 {
@@ -96,6 +95,7 @@ pub(crate) fn slot_at(bytes: &[u8], table: &Table, i: u8) -> Found<Option<usize>
 
 /// Where the offset at a position leads.
 #[tactic(auto, unfolding(crate::specs::Wire::target_at))]
+#[inline(always)]
 pub(crate) fn target_at(bytes: &[u8], at: usize) -> Found<usize>
     ensures { result ≡ target_at bytes.now at }
 {
@@ -122,6 +122,7 @@ pub(crate) fn utf8_at(bytes: &[u8], at: usize) -> Found<&str>
 
 /// Where the elements of a vector begin, of four bytes each, and how many they are.
 #[tactic(auto, unfolding(crate::specs::Wire::vector_at, crate::specs::Wire::ahead))]
+#[inline(always)]
 pub(crate) fn vector_at(bytes: &[u8], at: usize) -> Found<Vector>
     ensures is { result ≡ vector_at bytes.now at }
     ensures within { IfOk result (λ p. p.0 + 4 * p.1 ≤ length bytes.now) }
@@ -141,8 +142,10 @@ pub(crate) fn integer_in(bytes: &[u8], table: &Table, i: u8, size: usize, or: us
     ensures is { result ≡ integer_in bytes.now table.now i (width size) or }
     ensures within { IfOk result (λ n. (n < 256 ^ size) ⊎ (n ≡ or)) }
 {
-    let slot = slot_at(bytes, table, i)?;
-    slot.map_or(Ok(or), |slot| integer_at(bytes, slot, size))
+    match slot_at(bytes, table, i)? {
+        None => Ok(or),
+        Some(slot) => integer_at(bytes, slot, size),
+    }
 }
 
 /// Whether a slot holds a byte other than 0.
@@ -162,8 +165,10 @@ pub(crate) fn led_by(bytes: &[u8], table: &Table, i: u8) -> Found<Option<usize>>
     requires { IsOpen bytes.now table.now }
     ensures { result ≡ led_by bytes.now table.now i }
 {
-    let slot = slot_at(bytes, table, i)?;
-    slot.map(|slot| target_at(bytes, slot)).transpose()
+    match slot_at(bytes, table, i)? {
+        None => Ok(None),
+        Some(slot) => Ok(Some(target_at(bytes, slot)?)),
+    }
 }
 
 /// The text to which a slot leads, or the empty text where it is missing.
@@ -172,8 +177,10 @@ pub(crate) fn text_in<'a>(bytes: &'a [u8], table: &Table, i: u8) -> Found<&'a st
     requires { IsOpen bytes.now table.now }
     ensures { map_ok (λ s. s.now) result ≡ text_in bytes.now table.now i }
 {
-    let place = led_by(bytes, table, i)?;
-    place.map_or(Ok(""), |at| utf8_at(bytes, at))
+    match led_by(bytes, table, i)? {
+        None => Ok(""),
+        Some(at) => utf8_at(bytes, at),
+    }
 }
 
 /// Where a slot leads that a table must have.
@@ -194,6 +201,8 @@ pub(crate) fn vector_in(bytes: &[u8], table: &Table, i: u8) -> Found<Option<Vect
     ensures is { result ≡ vector_in bytes.now table.now i }
     ensures within { IfOk result (λ o. IfSome o (λ p. p.0 + 4 * p.1 ≤ length bytes.now)) }
 {
-    let place = led_by(bytes, table, i)?;
-    place.map(|at| vector_at(bytes, at)).transpose()
+    match led_by(bytes, table, i)? {
+        None => Ok(None),
+        Some(at) => Ok(Some(vector_at(bytes, at)?)),
+    }
 }
