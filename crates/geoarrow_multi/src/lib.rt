@@ -1,10 +1,10 @@
 //! GeoArrow's native types of many parts: shapes for `NativeType` of `geoarrow_native`.
 #![tactic(auto)]
 
-ghost use Rattle.std.specs.Prelude.{refl, pos};
+ghost use Rattle.std.specs.Prelude.{◌≡◌, refl, pos};
 ghost use Rattle.geoarrow_layout.specs.declared.encodings.NativeKind.TheVariants as kinds;
-
-pub mod laws;
+ghost use Rattle.geoarrow_layout.specs.declared.names.ExtensionName.TheVariants as names;
+ghost use Rattle.geoarrow_layout.specs.Kinds.{name_text};
 
 use geoarrow_layout::NativeKind;
 use geoarrow_native::{NativeShape, NativeType};
@@ -93,8 +93,8 @@ impl NativeShape for MultiPolygon {
 ///
 /// ```rust
 /// let metadata = Arc::new(alloc, Metadata::default())?;
-/// let polygons = MultiPolygonType::new(Dimension::XYZM, metadata);
-/// let coordinate = coord_data_type(alloc, CoordType::Separated, Dimension::XYZM)?;
+/// let polygons = MultiPolygonType::new(Dimension::XYZ, metadata);
+/// let coordinate = coord_data_type(alloc, CoordType::Separated, Dimension::XYZ)?;
 /// let vertices = Field::new(alloc, "vertices", coordinate, false)?;
 /// let rings = Field::new_list(alloc, "rings", vertices, false)?;
 /// let items = Field::new_list(alloc, "polygons", rings, false)?;
@@ -132,3 +132,24 @@ impl NativeShape for GeometryCollection {
 /// assert!(rt; collections.data_type(alloc)? == DataType::List(Box::new(alloc, geometries)?));
 /// ```
 pub type GeometryCollectionType = NativeType<GeometryCollection>;
+
+/// Laws of the shapes, for the crates above.
+pub mod laws {
+    use super::{GeometryCollection, MultiLineString, MultiPoint, MultiPolygon};
+    use geoarrow_native::NativeShape;
+
+    /// A law: the constants `NAME` of multipoints, multilinestrings, multipolygons and collections are their extension names.
+    pub fn names_of_shapes() -> (&'static str, &'static str, &'static str, &'static str)
+        ensures points { result.0.now ≡ name_text (names.Native kinds.MultiPoint) }
+        ensures line_strings { result.1.now ≡ name_text (names.Native kinds.MultiLineString) }
+        ensures polygons { result.2.now ≡ name_text (names.Native kinds.MultiPolygon) }
+        ensures collections { result.3.now ≡ name_text (names.Native kinds.GeometryCollection) }
+    {
+        (
+            MultiPoint::NAME,
+            MultiLineString::NAME,
+            MultiPolygon::NAME,
+            GeometryCollection::NAME,
+        )
+    }
+}

@@ -1,6 +1,6 @@
 -- The GeoArrow types: which kind and which metadata each has.
 use Rattle.std.specs.Prelude.{◌≡◌}
-use Rattle.std.specs.Arc.{arc_value}
+use Rattle.std.specs.Arc.{arc_value, arc_with_value}
 use Rattle.std.specs.declared.sync.Arc.{Arc}
 use Rattle.std.specs.declared.alloc.Global.{Global}
 use Rattle.geoarrow_layout.specs.declared.encodings.NativeKind.TheVariants as natives
@@ -50,6 +50,24 @@ metadata_of (WktView t) = t.metadata
 -- its metadata
 abbrev pub meta_of : GeoArrowType → Metadata
 meta_of g = arc_value (metadata_of g)
+
+-- the same type with another metadata
+abbrev pub with_metadata : GeoArrowType → Metadata → GeoArrowType
+with_metadata (Point t) m = Point (record t { metadata = arc_with_value t.metadata m })
+with_metadata (LineString t) m = LineString (record t { metadata = arc_with_value t.metadata m })
+with_metadata (Polygon t) m = Polygon (record t { metadata = arc_with_value t.metadata m })
+with_metadata (MultiPoint t) m = MultiPoint (record t { metadata = arc_with_value t.metadata m })
+with_metadata (MultiLineString t) m = MultiLineString (record t { metadata = arc_with_value t.metadata m })
+with_metadata (MultiPolygon t) m = MultiPolygon (record t { metadata = arc_with_value t.metadata m })
+with_metadata (GeometryCollection t) m = GeometryCollection (record t { metadata = arc_with_value t.metadata m })
+with_metadata (Rect t) m = Rect (record t { metadata = arc_with_value t.metadata m })
+with_metadata (Geometry t) m = Geometry (record t { metadata = arc_with_value t.metadata m })
+with_metadata (Wkb t) m = Wkb (record t { metadata = arc_with_value t.metadata m })
+with_metadata (LargeWkb t) m = LargeWkb (record t { metadata = arc_with_value t.metadata m })
+with_metadata (WkbView t) m = WkbView (record t { metadata = arc_with_value t.metadata m })
+with_metadata (Wkt t) m = Wkt (record t { metadata = arc_with_value t.metadata m })
+with_metadata (LargeWkt t) m = LargeWkt (record t { metadata = arc_with_value t.metadata m })
+with_metadata (WktView t) m = WktView (record t { metadata = arc_with_value t.metadata m })
 
 -- two types are of one kind and one metadata
 abbrev pub SameType : GeoArrowType → GeoArrowType → Type 0
