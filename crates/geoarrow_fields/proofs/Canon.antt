@@ -4,7 +4,6 @@ use Rattle.std.proofs.Common.{◌≡◌, ◌≢◌, inl, inr, ◌+◌, ◌≤◌
 use Rattle.std.specs.Prelude.{MatchOption}
 use Rattle.std.specs.List.{list_all}
 use Rattle.std.specs.Str.{chars}
-use Rattle.std.specs.Arc.{arc_with_value}
 use Rattle.std.proofs.lemmas.Bool.{eq-eqb}
 use Rattle.std.proofs.lemmas.List.Elements.{All-append, All-weaker}
 use Rattle.std.proofs.lemmas.List.Sums.{AllPass-from_list_all}
@@ -12,6 +11,7 @@ use Rattle.serde_json.specs.Find.{get, get_member}
 use Rattle.geoarrow_meta.specs.Read.{edges_text, crs_type_text, present, some_has_float}
 use Rattle.geoarrow_meta.specs.Written.{of_parts, written, type_unless, IsReadBack}
 use Rattle.geoarrow_schema.specs.declared.types.GeoArrowType.TheVariants as types
+use Rattle.geoarrow_schema.specs.Types.{with_metadata}
 use Rattle.geoarrow_fields.proofs.Terms.{is_utf8, Data, depth, member, members_depth, no_members, null, Members, max_depth, read, compact_text, has_float, FieldTree, Text, Texts, extension_metadata, extension_name, metadata_key, Kind, coord_type_of, dimension_of, name_of, layout, Edges, CrsType, Metadata, DenotesMetadata, NestsWithin, ReadsAs, meta_value, normal, printed, GeoArrowType, kind_of, meta_of, Reads, IsCanonical, rewritten, ColumnFault, Arrow, InvalidGeoArrow, Column, Faulty, Geometry, OfInferred, Other, IsColumnOf, is_held, members_are_held, held_parts, field_of_line, line_of_field, parts_value, texts_value, type_value, value_of_field, HasLineForm, Command, Canon, Columns, Infer, Read, Done, Bytes, IsLine, line_feed, lines_of, Answers, AnswersField, AnswersNoType, column_text, coord_type_word, dimension_word, error_text, inferred_text, kind_word, type_text, Answered, Means}
 use Rattle.geoarrow_fields.proofs.Limits.{lines_of-line}
 use Rattle.geoarrow_fields.proofs.OneAnswer.{IsOneKind, reads_parts, infers_parts, one_reading, no_type_read, one_field_answer, answered, answer_of}
@@ -81,23 +81,10 @@ normal_same : (v : Option Data) (t : Option CrsType) (e : Option Edges)
     → (type_unless v (type_unless v t e) e ≡ type_unless v t e) × (meta_value (of_parts v (type_unless v t e) e) ≡ meta_value (of_parts v t e))
 normal_same v t e = grind arith
 
--- there is a type of that kind with another metadata
-with_metadata : (g : GeoArrowType) (m : Metadata) → (h : GeoArrowType) × (kind_of h ≡ kind_of g) × (meta_of h ≡ m)
-with_metadata (types.Point t) m = (types.Point (record t { metadata = arc_with_value t.metadata m }), refl, refl)
-with_metadata (types.LineString t) m = (types.LineString (record t { metadata = arc_with_value t.metadata m }), refl, refl)
-with_metadata (types.Polygon t) m = (types.Polygon (record t { metadata = arc_with_value t.metadata m }), refl, refl)
-with_metadata (types.MultiPoint t) m = (types.MultiPoint (record t { metadata = arc_with_value t.metadata m }), refl, refl)
-with_metadata (types.MultiLineString t) m = (types.MultiLineString (record t { metadata = arc_with_value t.metadata m }), refl, refl)
-with_metadata (types.MultiPolygon t) m = (types.MultiPolygon (record t { metadata = arc_with_value t.metadata m }), refl, refl)
-with_metadata (types.GeometryCollection t) m = (types.GeometryCollection (record t { metadata = arc_with_value t.metadata m }), refl, refl)
-with_metadata (types.Rect t) m = (types.Rect (record t { metadata = arc_with_value t.metadata m }), refl, refl)
-with_metadata (types.Geometry t) m = (types.Geometry (record t { metadata = arc_with_value t.metadata m }), refl, refl)
-with_metadata (types.Wkb t) m = (types.Wkb (record t { metadata = arc_with_value t.metadata m }), refl, refl)
-with_metadata (types.LargeWkb t) m = (types.LargeWkb (record t { metadata = arc_with_value t.metadata m }), refl, refl)
-with_metadata (types.WkbView t) m = (types.WkbView (record t { metadata = arc_with_value t.metadata m }), refl, refl)
-with_metadata (types.Wkt t) m = (types.Wkt (record t { metadata = arc_with_value t.metadata m }), refl, refl)
-with_metadata (types.LargeWkt t) m = (types.LargeWkt (record t { metadata = arc_with_value t.metadata m }), refl, refl)
-with_metadata (types.WktView t) m = (types.WktView (record t { metadata = arc_with_value t.metadata m }), refl, refl)
+-- it is of the same kind, and that is its metadata
+with_metadata_is : (g : GeoArrowType) (m : Metadata) → (kind_of (with_metadata g m) ≡ kind_of g) × (meta_of (with_metadata g m) ≡ m)
+with_metadata_is (types.Point t) m = (refl, refl)
+with_metadata_is _ m = (refl, refl)
 
 -- ---- words
 
@@ -233,7 +220,8 @@ module _ (listed : AreListed) (put_is : PutIsHeld)
               let type = one_reading one_kind f h g s r in
               let same : n ≡ rewritten f (kind_of g) (normal m) = rw (type.0, type.1) at made in
               let reads : ReadsAs n (kind_of g) (normal m) = (rw (type.0, type.1) at normally) read_back in
-              let (t, kinds, metas) = with_metadata g (normal m) in
+              let (kinds, metas) = with_metadata_is g (normal m) in
+              let t = with_metadata g (normal m) in
               let normals = normal_same m.crs.value m.crs.crs_type m.edges in
               let once : normal (normal m) ≡ normal m = ap (λ t. of_parts m.crs.value t m.edges) normals.0 in
               let found : field_of_line a ≡ Some n = ap field_of_line put ∙ canonical_back n (h, s, made, normally) in
