@@ -18,15 +18,11 @@
 //! of a test or of the crate `uses`.
 #![tactic(auto)]
 
-pub mod crs;
-pub mod error;
 mod from;
-pub mod generic;
 mod infer;
 pub mod laws;
 mod normal;
 mod read;
-pub mod type_id;
 mod types;
 mod write;
 
@@ -40,3 +36,27 @@ pub use geoarrow_native::{
 };
 pub use infer::infer_kind;
 pub use types::GeoArrowType;
+
+/// Coordinate reference systems, and how they are transformed from one form to another.
+pub mod crs {
+    pub use geoarrow_meta::{Crs, CrsTransform, CrsType, DefaultCrsTransform};
+}
+
+/// The errors of GeoArrow.
+pub mod error {
+    pub use arrow_values::{GeoArrowError, GeoArrowResult};
+}
+
+/// The ids of types among the members of a union.
+pub mod type_id {
+    pub use geoarrow_native::GeometryTypeId;
+}
+
+/// The generic type behind the eleven types, its encodings and their parameters.
+pub mod generic {
+    pub use geoarrow_multi::{GeometryCollection, MultiLineString, MultiPoint, MultiPolygon};
+    pub use geoarrow_native::{
+        ColumnEncoding, ColumnType, Encoding, Geometry, KindEncoding, LineString, Native,
+        NativeShape, NativeType, Point, Polygon, Rect, Serialized, SerializedType, Wkb, Wkt,
+    };
+}

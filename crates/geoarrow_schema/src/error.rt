@@ -1,3 +1,0 @@
-//! The errors of GeoArrow.
-
-pub use arrow_values::{GeoArrowError, GeoArrowResult};

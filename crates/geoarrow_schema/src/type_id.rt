@@ -1,3 +1,0 @@
-//! The ids of types among the members of a union.
-
-pub use geoarrow_native::GeometryTypeId;
