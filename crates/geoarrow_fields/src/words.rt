@@ -4,7 +4,7 @@ ghost use Rattle.geoarrow_layout.specs.Kinds.{coord_type_of, dimension_of};
 ghost use Rattle.geoarrow_fields.specs.Answer.{kind_word, coord_type_word, dimension_word, type_text, error_text, column_text, inferred_text};
 
 use geoarrow_columns::{Column, ColumnFault};
-use geoarrow_schema::{CoordType, Dimension, GeoArrowType, Kind, Width};
+use geoarrow_schema::{CoordType, Dimension, GeoArrowType, Kind, NativeKind, Width};
 use std::alloc::{AllocError, Global};
 
 /// The capacity for the words of a type and what comes before them, without its metadata.
@@ -102,11 +102,21 @@ pub fn kind_word(kind: Kind) -> &'static str
     ensures { result.now ≡ kind_word kind }
 {
     match kind {
+        Kind::Native(NativeKind::Point, _, _) => "point",
+        Kind::Native(NativeKind::LineString, _, _) => "linestring",
+        Kind::Native(NativeKind::Polygon, _, _) => "polygon",
+        Kind::Native(NativeKind::MultiPoint, _, _) => "multipoint",
+        Kind::Native(NativeKind::MultiLineString, _, _) => "multilinestring",
+        Kind::Native(NativeKind::MultiPolygon, _, _) => "multipolygon",
+        Kind::Native(NativeKind::GeometryCollection, _, _) => "geometrycollection",
+        Kind::Geometry(_) => "geometry",
+        Kind::Rect(_) => "box",
+        Kind::Wkb(Width::Plain) => "wkb",
         Kind::Wkb(Width::Large) => "large_wkb",
         Kind::Wkb(Width::View) => "wkb_view",
+        Kind::Wkt(Width::Plain) => "wkt",
         Kind::Wkt(Width::Large) => "large_wkt",
         Kind::Wkt(Width::View) => "wkt_view",
-        _ => &kind.name()["geoarrow.".len()..],
     }
 }
 
