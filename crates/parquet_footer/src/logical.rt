@@ -63,6 +63,7 @@ const ALGORITHMS: [Algorithm; 5] = [
 ];
 
 /// The unit of time in a field of a struct, whose bytes these are.
+#[tactic(auto, unfolding(crate::specs::Logical::unit_in))]
 fn unit_in(bytes: &[u8], place: Found<'_>) -> Result<TimeUnit, Fault>
     ensures { result ≡ unit_in bytes.now (spots place.entry) }
 {
@@ -77,6 +78,7 @@ fn unit_in(bytes: &[u8], place: Found<'_>) -> Result<TimeUnit, Fault>
 }
 
 /// The bits of an integer in a field of a struct, whose bytes these are.
+#[tactic(auto, unfolding(crate::specs::Logical::width_in))]
 fn width_in(bytes: &[u8], place: Found<'_>) -> Result<u8, Fault>
     ensures { result ≡ width_in bytes.now (spots place.entry) }
 {
@@ -87,6 +89,7 @@ fn width_in(bytes: &[u8], place: Found<'_>) -> Result<u8, Fault>
 }
 
 /// The one field of a union: its id, and its value.
+#[tactic(auto, unfolding(crate::specs::Logical::union_at))]
 fn union_at(bytes: &[u8]) -> Result<(u16, Place<'_>), Fault>
     ensures { Returns (λ x. (x.0, spot x.1)) result (union_at bytes.now) }
 {
@@ -98,6 +101,7 @@ fn union_at(bytes: &[u8]) -> Result<(u16, Place<'_>), Fault>
 }
 
 /// What TIME and TIMESTAMP say: whether they are adjusted to UTC, and their unit.
+#[tactic(auto, unfolding(crate::specs::Logical::clock_at))]
 fn clock_at(bytes: &[u8]) -> Result<(bool, TimeUnit), Fault>
     ensures { result ≡ clock_at bytes.now }
 {
@@ -139,10 +143,12 @@ fn logical_at(bytes: &[u8]) -> Result<LogicalType<'_>, Fault>
 }
 
 /// The logical type in a field, where it is there.
+#[tactic(auto, unfolding(crate::specs::Logical::logical_in))]
 pub fn logical_in(place: Found<'_>) -> Result<Option<LogicalType<'_>>, Fault>
     ensures { Returns (option_map logical) result (logical_in (spots place.entry)) }
 {
-    place
-        .map(|place| logical_at(value_of(12, place)?))
-        .transpose()
+    match place {
+        Some(place) => Ok(Some(logical_at(value_of(12, place)?)?)),
+        None => Ok(None),
+    }
 }
