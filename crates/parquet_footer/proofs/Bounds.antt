@@ -210,10 +210,12 @@ module _ (n : ℕ) (bytes : List ℕ) (h : length bytes ≤ n) where
       step (λ x. Unit {0}) _ n _ _ (needed_within n bytes text h) (λ name _. reads _ n _ tt)))))))
 
   pub geometry_within : Within (λ x. Unit {0}) n (geometry_at bytes)
+  unfolding geometry_at
   geometry_within = step Pair _ n _ _ (pair_within n 1 1 bytes h) (λ found k.
       step (λ x. Unit {0}) _ n _ _ (text_in_within n found.0.0 k.0.0) (λ crs _. reads _ n _ tt))
 
   pub geography_within : Within (λ x. Unit {0}) n (geography_at bytes)
+  unfolding geography_at
   geography_within = step Pair _ n _ _ (pair_within n 1 2 bytes h) (λ found k.
       step (λ x. Unit {0}) _ n _ _ (text_in_within n found.0.0 k.0.0) (λ crs _.
       step (λ x. Unit {0}) _ n _ _ (name_within algorithms found.0.1 k.0.1) (λ algorithm _. reads _ n _ tt)))
@@ -251,6 +253,7 @@ module _ (n : ℕ) (bytes : List ℕ) (h : length bytes ≤ n) where
   clock_within says = step (λ x. Unit {0}) _ n _ _ clock_at_within (λ found _. reads _ n _ tt)
 
   pub integer_within : Within (λ x. Unit {0}) n (integer_at bytes)
+  unfolding integer_at
   integer_within = step (λ x. FoundBoth n x.0 × (length x.1 ≤ n)) _ n _ _ (pair_within n 1 2 bytes h) (λ found k.
       step (λ x. Unit {0}) _ n _ _ (width_in_within n bytes h found.0.0 k.0.0) (λ width _.
       step (λ x. Unit {0}) _ n _ _ (flag_within n bytes h found.0.1 k.0.1) (λ signed _. reads _ n _ tt)))

@@ -79,7 +79,7 @@ clock says bytes = do
   Ok (says found.0 found.1)
 
 -- INTEGER: 1 bitWidth, 2 isSigned
-abbrev pub integer_at : List ℕ → Result Logical Fault
+unfoldable pub integer_at : List ℕ → Result Logical Fault
 integer_at bytes = do
   found ← pair_at 1 2 bytes
   width ← width_in bytes found.0.0
@@ -87,14 +87,14 @@ integer_at bytes = do
   Ok (integer width signed)
 
 -- GEOMETRY: 1 crs
-abbrev pub geometry_at : List ℕ → Result Logical Fault
+unfoldable pub geometry_at : List ℕ → Result Logical Fault
 geometry_at bytes = do
   found ← pair_at 1 1 bytes
   crs ← text_in found.0.0
   Ok (geometry crs)
 
 -- GEOGRAPHY: 1 crs, 2 algorithm
-abbrev pub geography_at : List ℕ → Result Logical Fault
+unfoldable pub geography_at : List ℕ → Result Logical Fault
 geography_at bytes = do
   found ← pair_at 1 2 bytes
   crs ← text_in found.0.0

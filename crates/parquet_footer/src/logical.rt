@@ -3,7 +3,7 @@
 ghost use Rattle.std.specs.Prelude.{◌≡◌, option_map};
 ghost use Rattle.parquet_footer.specs.Fault.{Returns};
 ghost use Rattle.parquet_footer.specs.Fields.{spot, spots};
-ghost use Rattle.parquet_footer.specs.Logical.{logical, union_at, unit_in, width_in, clock_at, logical_at, logical_in};
+ghost use Rattle.parquet_footer.specs.Logical.{logical, union_at, unit_in, width_in, clock_at, integer_at, geometry_at, geography_at, logical_at, logical_in};
 
 use crate::fault::{Fault, Rule, broken, ensure};
 use crate::fields::{Found, Place, flag_in, name_in, pair_at, text_in, value_of};
@@ -109,6 +109,34 @@ fn clock_at(bytes: &[u8]) -> Result<(bool, TimeUnit), Fault>
     Ok((flag_in(bytes, utc)?, unit_in(bytes, unit)?))
 }
 
+/// What INTEGER says.
+#[tactic(auto, unfolding(crate::specs::Logical::integer_at))]
+fn integer_at(bytes: &[u8]) -> Result<LogicalType<'_>, Fault>
+    ensures { Returns logical result (integer_at bytes.now) }
+{
+    let (width, signed, _rest) = pair_at(bytes, 1, 2)?;
+    Ok(LogicalType::Integer(width_in(bytes, width)?, flag_in(bytes, signed)?))
+}
+
+/// What GEOMETRY says.
+#[tactic(auto, unfolding(crate::specs::Logical::geometry_at))]
+fn geometry_at(bytes: &[u8]) -> Result<LogicalType<'_>, Fault>
+    ensures { Returns logical result (geometry_at bytes.now) }
+{
+    let (crs, _same, _rest) = pair_at(bytes, 1, 1)?;
+    Ok(LogicalType::Geometry(text_in(crs)?))
+}
+
+/// What GEOGRAPHY says.
+#[tactic(auto, unfolding(crate::specs::Logical::geography_at))]
+fn geography_at(bytes: &[u8]) -> Result<LogicalType<'_>, Fault>
+    ensures { Returns logical result (geography_at bytes.now) }
+{
+    let (crs, algorithm, _rest) = pair_at(bytes, 1, 2)?;
+    let crs = text_in(crs)?;
+    Ok(LogicalType::Geography(crs, name_in(&ALGORITHMS, algorithm, bytes)?))
+}
+
 /// What a logical type says, by the id of the union's member.
 #[tactic(auto, unfolding(crate::specs::Logical::logical_at, crate::specs::Logical::member_at))]
 fn logical_at(bytes: &[u8]) -> Result<LogicalType<'_>, Fault>
@@ -125,19 +153,9 @@ fn logical_at(bytes: &[u8]) -> Result<LogicalType<'_>, Fault>
             let (utc, unit) = clock_at(bytes)?;
             Ok(LogicalType::Timestamp(utc, unit))
         }
-        10 => {
-            let (width, signed, _rest) = pair_at(bytes, 1, 2)?;
-            Ok(LogicalType::Integer(width_in(bytes, width)?, flag_in(bytes, signed)?))
-        }
-        17 => {
-            let (crs, _same, _rest) = pair_at(bytes, 1, 1)?;
-            Ok(LogicalType::Geometry(text_in(crs)?))
-        }
-        18 => {
-            let (crs, algorithm, _rest) = pair_at(bytes, 1, 2)?;
-            let crs = text_in(crs)?;
-            Ok(LogicalType::Geography(crs, name_in(&ALGORITHMS, algorithm, bytes)?))
-        }
+        10 => integer_at(bytes),
+        17 => geometry_at(bytes),
+        18 => geography_at(bytes),
         _ => Ok(LogicalType::Other(id)),
     }
 }
