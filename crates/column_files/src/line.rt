@@ -204,8 +204,9 @@ fn put_null(alloc: Global, value: &mut Value) -> Result<(), AllocError>
     ensures { OnOk result ((ms : Members) → view value.old ≡ object ms → view value.new ≡ object (with_null ms)) }
 {
     if let Some(members) = value.as_object_mut() {
+        let key = String::from_str(alloc, "type")?;
         let null = Value::from(String::from_str(alloc, "null")?);
-        members.insert(String::from_str(alloc, "type")?, null)?;
+        drop(members.insert(key, null)?);
     }
     Ok(())
 }
