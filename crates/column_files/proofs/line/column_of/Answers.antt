@@ -1,4 +1,4 @@
-use Rattle.std.proofs.Common.{◌≡◌, Some, None, Ok, Err, option_and_then, codes, is_some, true, sym, ap, ◌∙◌, subst, rules}
+use Rattle.std.proofs.Common.{◌≡◌, None, Ok, Err, option_and_then, codes, is_some, true, sym, ap, ◌∙◌, subst, rules}
 use Rattle.serde_json.specs.Find.{as_object, get}
 use Rattle.serde_json.specs.View.{view}
 use Rattle.field_lines.specs.FieldOfValue.{under, field_of_value}
