@@ -9,7 +9,7 @@ ghost use Rattle.field_lines.specs.FieldOfValue.{under, field_of_value};
 ghost use Rattle.field_lines.specs.Line.{field_of_line};
 ghost use Rattle.column_files.specs.Lines.{other_of_value, with_null, with_other, column_of_line};
 ghost use Rattle.column_files.specs.ColumnLines.{line_of_column, FitsLine};
-ghost use Rattle.column_files.specs.LineFaults.{IsLineRead, IsValueRead, IsPartFault};
+ghost use Rattle.column_files.specs.LineFaults.{IsLineRead, IsValueRead, IsPartFault, IsNullRead};
 
 use arrow_columns::{Column, ColumnType};
 use arrow_values::Field;
@@ -86,7 +86,9 @@ pub fn column_line(alloc: Global, column: Column) -> Result<String, AllocError>
     match data_type {
         ColumnType::Data(data_type) => {
             let field = Field::from_parts(name, data_type, nullable, metadata);
-            field_line(alloc, &field)
+            let line = field_line(alloc, &field);
+            drop(field);
+            line
         }
         ColumnType::Other(notation) => {
             other_line(alloc, name.as_str(), nullable, &metadata, notation.as_str())
@@ -114,7 +116,11 @@ fn parse_other_text(alloc: Global, text: &str) -> Result<Result<Column, LineFaul
     ensures { IfOk result (IsLineRead text.now) }
 {
     match Value::from_str(alloc, text) {
-        Ok(value) => column_of(alloc, value),
+        Ok(mut value) => {
+            let read = column_of(alloc, &mut value);
+            drop(value);
+            read
+        }
         Err(error) => {
             if error.is_memory() {
                 return Err(AllocError);
@@ -124,22 +130,38 @@ fn parse_other_text(alloc: Global, text: &str) -> Result<Result<Column, LineFaul
     }
 }
 
-/// The column that a value denotes which denotes no field.
+/// The column that a value denotes which denotes no field. An object then has the type null.
 #[tactic(auto, using(crate::proofs::NullType::not_object, crate::proofs::NullType::no_column_of))]
-fn column_of(alloc: Global, value: Value) -> Result<Result<Column, LineFault>, AllocError>
-    requires none { field_of_value (view value) ≡ None }
-    requires shallow { depth (view value) ≤ max_depth }
-    ensures { IfOk result (IsValueRead (view value)) }
+fn column_of(alloc: Global, value: &mut Value) -> Result<Result<Column, LineFault>, AllocError>
+    requires none { field_of_value (view value.old) ≡ None }
+    requires shallow { depth (view value.old) ≤ max_depth }
+    ensures { IfOk result (IsValueRead (view value.old)) }
 {
     if !value.is_object() {
         return Ok(Err(LineFault::NotObject));
     }
-    let notation = notation_in(alloc, &value)?;
-    let nulled = with_null(alloc, value)?;
-    match (field_of(alloc, &nulled)?, notation) {
-        (None, _) => Ok(Err(key_fault(&nulled))),
-        (Some(_), None) => Ok(Err(LineFault::TypeUnknown)),
-        (Some(field), Some(notation)) => Ok(Ok(other_column(alloc, field, notation)?)),
+    let notation = notation_in(alloc, value)?;
+    let read = null_field(alloc, value)?;
+    match (read, notation) {
+        (Err(fault), _) => Ok(Err(fault)),
+        (Ok(field), None) => {
+            drop(field);
+            Ok(Err(LineFault::TypeUnknown))
+        }
+        (Ok(field), Some(notation)) => Ok(Ok(other_column(alloc, field, notation)?)),
+    }
+}
+
+/// The field that an object denotes with the type null in place of its own, or which of its keys is at fault. The object then has that type.
+fn null_field(alloc: Global, value: &mut Value) -> Result<Result<Field, LineFault>, AllocError>
+    requires is_object { IsSome (as_object (view value.old)) }
+    requires shallow { depth (view value.old) ≤ max_depth }
+    ensures { IfOk result (λ read. (ms : Members) → view value.old ≡ object ms → IsNullRead ms read) }
+{
+    put_null(alloc, value)?;
+    match field_of(alloc, value)? {
+        Some(field) => Ok(Ok(field)),
+        None => Ok(Err(key_fault(value))),
     }
 }
 
@@ -176,24 +198,15 @@ fn has_one_key(value: &Value) -> bool
     }
 }
 
-/// The object with the type null in place of its own.
-fn with_null(alloc: Global, value: Value) -> Result<Value, AllocError>
-    requires { IsSome (as_object (view value)) }
-    ensures { IfOk result (λ nulled. (ms : Members) → view value ≡ object ms → view nulled ≡ object (with_null ms)) }
-{
-    let mut value = value;
-    put_null(alloc, &mut value)?;
-    Ok(value)
-}
-
 /// Puts the type null into an object.
 fn put_null(alloc: Global, value: &mut Value) -> Result<(), AllocError>
     requires { IsSome (as_object (view value.old)) }
     ensures { OnOk result ((ms : Members) → view value.old ≡ object ms → view value.new ≡ object (with_null ms)) }
 {
     if let Some(members) = value.as_object_mut() {
+        let key = String::from_str(alloc, "type")?;
         let null = Value::from(String::from_str(alloc, "null")?);
-        members.insert(String::from_str(alloc, "type")?, null)?;
+        drop(members.insert(key, null)?);
     }
     Ok(())
 }
@@ -211,7 +224,8 @@ fn field_of(alloc: Global, value: &Value) -> Result<Option<Field>, AllocError>
 fn other_column(alloc: Global, field: Field, notation: String) -> Result<Column, AllocError>
     ensures { IfOk result (λ column. column_tree column ≡ with_other (string_bytes notation) field) }
 {
-    let (name, _, nullable, metadata) = field.into_parts(alloc)?;
+    let (name, data_type, nullable, metadata) = field.into_parts(alloc)?;
+    drop(data_type);
     Ok(Column {
         name,
         nullable,

@@ -1,10 +1,21 @@
 -- What groups stand for, by how many elements are below them.
-use Rattle.std.proofs.Common.{◌≡◌, ◌≢◌, ℕ, List, [], ◌∷◌, ◌++◌, length, get_or, map, Err, refl, sym, ap, ◌∙◌, arith}
+use Rattle.std.proofs.Common.{◌≡◌, ◌≢◌, ℕ, Bool, true, false, String, Global, List, [], ◌∷◌, ◌++◌, length, get_or, map, Result, Ok, Err, IfOk, refl, sym, ap, ◌∙◌, subst, arith}
+use Rattle.std.proofs.lemmas.Bool.{false≢true}
 use Rattle.std.proofs.lemmas.List.{map_push, length-map}
-use Rattle.arrow_values.specs.Tree.{Text}
+use Rattle.arrow_values.specs.Tree.{Text, Metadata}
+use Rattle.arrow_values.specs.View.{texts_of}
+use Rattle.arrow_columns.specs.Column.{TypeTree, ColumnTree, column_tree}
+use Rattle.arrow_columns.specs.Nested.{list_type}
+use Rattle.arrow_columns.specs.declared.column.Column.{Column}
+use Rattle.arrow_columns.specs.declared.nested.ListForm.TheVariants.{Small}
+use Rattle.parquet_footer.specs.declared.element.Repetition.{Repetition}
+use Rattle.parquet_footer.specs.declared.element.Repetition.TheVariants.{Required, Optional, Repeated}
 use Rattle.parquet_columns.specs.declared.fault.Rule.TheVariants.{List as ListRule, Map as MapRule}
 use Rattle.parquet_columns.specs.declared.nodes.Node.{Node}
-use Rattle.parquet_columns.specs.Nodes.{NodeTree, group, node_tree, column_of, one_shape, group_shape, list_of, list_shape, map_of, map_shape}
+use Rattle.parquet_columns.specs.Nodes.{NodeTree, typed, wrapper, group, node_tree, shape_type, is_optional, is_repeated, plain_column, column_by, column_of, one_shape, group_shape, is_item_name, item_by, list_of, list_shape, is_group, map_type, map_of, map_shape}
+
+abbrev pub with_parts : Text → Bool → TypeTree → Metadata → ColumnTree
+with_parts name nullable t metadata = record { name = name; data_type = t; nullable = nullable; metadata = metadata }
 
 -- one more column
 pub column_next : (xs : List Node) (x : Node) → map column_of (map node_tree (xs ++ x ∷ [])) ≡ map column_of (map node_tree xs) ++ column_of (node_tree x) ∷ []
@@ -54,3 +65,54 @@ module _ (xs same : List Node) (are : same ≡ xs) (not : length same ≢ 1) whe
 
   pub no_map : (at : ℕ) → map_shape at (map node_tree xs) ≡ Err (record { rule = MapRule; at = at })
   no_map at = several_map at (map node_tree xs) count
+
+-- ---- columns and shapes by what was made
+
+pub made_plain : (name text : Text) (nullable : Bool) (t : TypeTree) (entries : List (String Global × String Global)) → text ≡ name → entries ≡ []
+    → with_parts text nullable t (texts_of entries) ≡ plain_column name nullable t
+made_plain name text nullable t entries same none = rw (same, none) refl
+
+pub kept_item : (list name : Text) (c : ColumnTree) → is_item_name list name ≡ false → c ≡ item_by list name (wrapper c)
+kept_item list name c is = rw is refl
+
+not_optional : (r : Repetition) → is_repeated r ≡ true → is_optional r ≡ false
+not_optional Required is = absurd (false≢true is)
+not_optional Optional is = absurd (false≢true is)
+not_optional Repeated is = refl
+
+module _ (name : Text) (r : Repetition) (t : TypeTree) (c : ColumnTree) (nullable : Bool) (optional : nullable ≡ is_optional r) (is : c ≡ plain_column name nullable t) where
+  pub single_by : is_repeated r ≡ false → c ≡ column_by name r t
+  single_by none =
+      let by : column_by name r t ≡ plain_column name (is_optional r) t = rw none refl in
+      is ∙ ap (λ b. plain_column name b t) optional ∙ sym by
+
+  pub repeated_by : {E : Type 0} (list : TypeTree) (made : Result Column E) → is_repeated r ≡ true → list ≡ list_type Small c → IfOk made (λ m. column_tree m ≡ plain_column name false list)
+      → IfOk made (λ m. column_tree m ≡ column_by name r t)
+  repeated_by list made repeated list_is told =
+      let by : column_by name r t ≡ plain_column name false (list_type Small (plain_column name false t)) = rw repeated refl in
+      let item : c ≡ plain_column name false t = is ∙ ap (λ b. plain_column name b t) (optional ∙ not_optional r repeated) in
+      let e : plain_column name false list ≡ column_by name r t = ap (plain_column name false) (list_is ∙ ap (list_type Small) item) ∙ sym by in
+      subst (λ x. IfOk made (λ m. column_tree m ≡ x)) e told
+
+module _ (r : Repetition) (c d : ColumnTree) where
+  pub lone_shape : is_repeated r ≡ false → c ≡ d → wrapper c ≡ one_shape r d
+  lone_shape none same = rw (same, none) refl
+
+  pub repeated_shape : (cs : List ColumnTree) → is_repeated r ≡ true → c ≡ d → cs ≡ c ∷ [] → group cs ≡ one_shape r d
+  repeated_shape cs is same are = rw (are, same, is) refl
+
+module _ (at : ℕ) (list : Text) (n : NodeTree) where
+  pub not_repeated : is_repeated n.repetition ≡ false → list_of at list n ≡ Err (record { rule = ListRule; at = at })
+  not_repeated none = rw none refl
+
+  pub list_is : (item : ColumnTree) (t : TypeTree) → is_repeated n.repetition ≡ true → item ≡ item_by list n.name n.shape → t ≡ list_type Small item → list_of at list n ≡ Ok (typed t)
+  list_is item t is item_is t_is = rw (is, t_is, item_is) refl
+
+pub map_is : (at : ℕ) (n : NodeTree) (entries t : TypeTree) → is_repeated n.repetition ≡ true → is_group n.shape ≡ true → entries ≡ shape_type n.shape → t ≡ map_type n.name entries
+    → map_of at n ≡ Ok (typed t)
+map_is at n entries t is grouped entries_is t_is = rw (is, grouped, t_is, entries_is) refl
+
+pub column_more : (xs : List Node) (x : Node) (cs ds : List Column) (c : Column) → map column_tree cs ≡ map column_of (map node_tree xs) → ds ≡ cs ++ c ∷ [] → column_tree c ≡ column_of (node_tree x)
+    → map column_tree ds ≡ map column_of (map node_tree (xs ++ x ∷ []))
+column_more xs x cs ds c so_far is same =
+    ap (map column_tree) is ∙ map_push column_tree cs c ∙ ap (λ ts. ts ++ column_tree c ∷ []) so_far ∙ ap (λ t. map column_of (map node_tree xs) ++ t ∷ []) same ∙ sym (column_next xs x)

@@ -2,7 +2,7 @@
 ghost use Rattle.std.specs.Prelude.{◌≡◌, ◌≢◌, ◌∷◌, [], length, map, IfOk, IfErr};
 ghost use Rattle.arrow_columns.specs.Column.{type_tree, column_tree};
 ghost use Rattle.parquet_columns.specs.Fault.{Says};
-ghost use Rattle.parquet_columns.specs.Nodes.{wrapper, shape_tree, node_tree, shape_type, plain_column, is_optional, is_repeated, column_by, column_of, one_shape, group_shape, is_item_name, item_by, list_shape, is_group, map_type, map_shape};
+ghost use Rattle.parquet_columns.specs.Nodes.{wrapper, shape_tree, node_tree, shape_type, plain_column, is_optional, is_repeated, column_by, column_of, one_shape, group_shape, is_item_name, item_by, list_of, list_shape, is_group, map_type, map_of, map_shape};
 
 use crate::fault::{ColumnsError, Fault, Rule};
 use arrow_columns::{
@@ -54,7 +54,10 @@ fn plain_column(
 ) -> Result<Column, AllocError>
     ensures { IfOk result (λ made. column_tree made ≡ plain_column name.now nullable (type_tree data_type)) }
 {
-    let name = String::from_str(alloc, name)?;
+    let Ok(name) = String::from_str(alloc, name) else {
+        drop(data_type);
+        return Err(AllocError);
+    };
     Ok(Column {
         name,
         nullable,
@@ -179,7 +182,11 @@ fn is_item_name(alloc: Global, list: &str, name: &str) -> Result<bool, AllocErro
 fn wrapped_item(alloc: Global, list: &str, name: &str, column: Column) -> Result<Column, AllocError>
     ensures { IfOk result (λ made. column_tree made ≡ item_by list.now name.now (wrapper (column_tree column))) }
 {
-    if !is_item_name(alloc, list, name)? {
+    let Ok(is_item) = is_item_name(alloc, list, name) else {
+        drop(column);
+        return Err(AllocError);
+    };
+    if !is_item {
         return Ok(column);
     }
     let data_type = shape_type(alloc, Shape::Wrapper(column))?;
@@ -212,15 +219,21 @@ pub(crate) fn list_shape(
     ensures { Says shape_tree (list_shape at list.now (map node_tree nodes.entry.items)) result }
 {
     match only_node(nodes) {
-        Ok(node) => {
-            if !is_repeated(node.repetition) {
-                return Err(ColumnsError::Broken(Fault::new(Rule::List, at)));
-            }
-            let item = item_by(alloc, list, node)?;
-            Ok(Shape::Typed(list_type(alloc, ListForm::Small, item)?))
-        }
+        Ok(node) => list_of(alloc, at, list, node),
         Err(_) => Err(ColumnsError::Broken(Fault::new(Rule::List, at))),
     }
+}
+
+/// What a LIST stands for, by the one element below it.
+fn list_of(alloc: Global, at: usize, list: &str, node: Node<'_>) -> Result<Shape, ColumnsError>
+    ensures { Says shape_tree (list_of at list.now (node_tree node.entry)) result }
+{
+    if !is_repeated(node.repetition) {
+        drop(node);
+        return Err(ColumnsError::Broken(Fault::new(Rule::List, at)));
+    }
+    let item = item_by(alloc, list, node)?;
+    Ok(Shape::Typed(list_type(alloc, ListForm::Small, item)?))
 }
 
 /// Whether an element is a group that is neither a LIST nor a MAP.
@@ -237,7 +250,9 @@ fn is_group(shape: &Shape) -> bool
 fn map_type(alloc: Global, name: &str, entries: ColumnType) -> Result<ColumnType, AllocError>
     ensures { IfOk result (λ made. type_tree made ≡ map_type name.now (type_tree entries)) }
 {
-    let text = entries.notation(alloc)?;
+    let text = entries.notation(alloc);
+    drop(entries);
+    let text = text?;
     let part = part_notation(alloc, name, text.as_str(), false)?;
     Ok(ColumnType::Other(nested_notation(alloc, "map", &[part])?))
 }
@@ -252,14 +267,20 @@ pub(crate) fn map_shape(
     ensures { Says shape_tree (map_shape at (map node_tree nodes.entry.items)) result }
 {
     match only_node(nodes) {
-        Ok(node) => {
-            if !is_repeated(node.repetition) || !is_group(&node.shape) {
-                return Err(ColumnsError::Broken(Fault::new(Rule::Map, at)));
-            }
-            let Node { name, shape, .. } = node;
-            let entries = shape_type(alloc, shape)?;
-            Ok(Shape::Typed(map_type(alloc, name, entries)?))
-        }
+        Ok(node) => map_of(alloc, at, node),
         Err(_) => Err(ColumnsError::Broken(Fault::new(Rule::Map, at))),
     }
+}
+
+/// What a MAP stands for, by the one element below it.
+fn map_of(alloc: Global, at: usize, node: Node<'_>) -> Result<Shape, ColumnsError>
+    ensures { Says shape_tree (map_of at (node_tree node.entry)) result }
+{
+    if !is_repeated(node.repetition) || !is_group(&node.shape) {
+        drop(node);
+        return Err(ColumnsError::Broken(Fault::new(Rule::Map, at)));
+    }
+    let Node { name, shape, .. } = node;
+    let entries = shape_type(alloc, shape)?;
+    Ok(Shape::Typed(map_type(alloc, name, entries)?))
 }

@@ -59,12 +59,14 @@ past_within n most (b ∷ rest) h =
 
 module _ (n : ℕ) (bytes : List ℕ) (h : length bytes ≤ n) where
   pub count_within : Within (λ x. length x.1 ≤ n) n (count_at bytes)
+  unfolding count_at
   count_within = step (λ x. length x.1 ≤ n) _ n _ _ (number_within n 5 bytes h) (λ x k. checked _ n _ _ _ h (reads _ n _ k))
 
   pub bytes_within : (count : ℕ) → Within (λ x. length x ≤ n) n (bytes_past count bytes)
   bytes_within count = checked _ n _ _ _ h (reads _ n _ (omega (arith, length-drop count bytes)))
 
   pub binary_within : Within (λ x. length x.1 ≤ n) n (binary_at bytes)
+  unfolding binary_at
   binary_within = step (λ x. length x.1 ≤ n) _ n _ _ (number_within n 5 bytes h) (λ x k. checked _ n _ _ _ h (reads _ n _ (omega (arith, k, length-drop x.0 x.1))))
 
   pub text_within : Within (λ x. Unit {0}) n (text_at bytes)
@@ -76,10 +78,12 @@ module _ (n : ℕ) (bytes : List ℕ) (h : length bytes ≤ n) where
 
 module _ (n : ℕ) (bytes : List ℕ) (h : length bytes ≤ n) where
   pub list_within : Within (λ x. length x.2 ≤ n) n (list_at bytes)
+  unfolding list_at
   list_within = step (λ x. length x.1 ≤ n) _ n _ _ (byte_within n bytes h) (λ b k.
       step (λ x. length x.1 ≤ n) _ n _ _ (size_within n b.1 k b.0) (λ x l. checked _ n _ _ _ h (reads _ n _ l)))
 
   pub map_within : Within (λ x. length x.3 ≤ n) n (map_at bytes)
+  unfolding map_at
   map_within = step (λ x. length x.1 ≤ n) _ n _ _ (number_within n 5 bytes h) (λ x k. either _ n _ _ _ (reads _ n _ k)
       (step (λ x. length x.1 ≤ n) _ n _ _ (byte_within n x.1 k) (λ b l. checked _ n _ _ _ h (reads _ n _ l))))
 
@@ -164,10 +168,12 @@ number_in_within n None f = reads _ n _ tt
 number_in_within n (Some p) f = step (λ x. length x ≤ n) _ n _ _ (value_of_within n 5 p f) (λ x k. step (λ x. length x.1 ≤ n) _ n _ _ (count_within n x k) (λ x _. reads _ n _ tt))
 
 pub text_in_within : (n : ℕ) (p : Option Spot) → Found n p → Within (λ x. Unit {0}) n (text_in p)
+unfolding text_in
 text_in_within n None f = reads _ n _ tt
 text_in_within n (Some p) f = step (λ x. length x ≤ n) _ n _ _ (value_of_within n 8 p f) (λ x k. step (λ x. Unit {0}) _ n _ _ (text_within n x k) (λ x _. reads _ n _ tt))
 
 pub structs_within : (n : ℕ) (p : Option Spot) → Found n p → Within (λ x. length x.1 ≤ n) n (structs_in p)
+unfolding structs_in
 structs_within n None f = reads _ n _ (omega arith)
 structs_within n (Some p) f = step (λ x. length x ≤ n) _ n _ _ (value_of_within n 9 p f) (λ x k.
     step (λ x. length x.2 ≤ n) _ n _ _ (list_within n x k) (λ l m. checked _ n _ _ _ k (reads _ n _ m)))
@@ -187,12 +193,14 @@ module _ (n : ℕ) (bytes : List ℕ) (h : length bytes ≤ n) where
   named_within names (Some m) = checked _ n _ _ _ h (reads _ n _ tt)
 
   pub name_within : {A : Type 0} (names : List A) (p : Option Spot) → Found n p → Within (λ x. Unit {0}) n (name_in names p bytes)
+  unfolding name_in
   name_within names p f = step (λ x. Unit {0}) _ n _ _ (number_in_within n p f) (λ number _. named_within names number)
 
   abbrev Pair : ((Option Spot × Option Spot) × List ℕ) → Type 0
   Pair x = FoundBoth n x.0 × (length x.1 ≤ n)
 
   pub storage_within : Within (λ x. Unit {0}) n (storage_at bytes)
+  unfolding storage_at
   storage_within = step Pair _ n _ _ (pair_within n 1 2 bytes h) (λ types k.
       step (λ x. Unit {0}) _ n _ _ (name_within physical_types types.0.0 k.0.0) (λ physical_type _.
       step (λ x. Unit {0}) _ n _ _ (number_in_within n types.0.1 k.0.1) (λ type_length _.
@@ -202,10 +210,12 @@ module _ (n : ℕ) (bytes : List ℕ) (h : length bytes ≤ n) where
       step (λ x. Unit {0}) _ n _ _ (needed_within n bytes text h) (λ name _. reads _ n _ tt)))))))
 
   pub geometry_within : Within (λ x. Unit {0}) n (geometry_at bytes)
+  unfolding geometry_at
   geometry_within = step Pair _ n _ _ (pair_within n 1 1 bytes h) (λ found k.
       step (λ x. Unit {0}) _ n _ _ (text_in_within n found.0.0 k.0.0) (λ crs _. reads _ n _ tt))
 
   pub geography_within : Within (λ x. Unit {0}) n (geography_at bytes)
+  unfolding geography_at
   geography_within = step Pair _ n _ _ (pair_within n 1 2 bytes h) (λ found k.
       step (λ x. Unit {0}) _ n _ _ (text_in_within n found.0.0 k.0.0) (λ crs _.
       step (λ x. Unit {0}) _ n _ _ (name_within algorithms found.0.1 k.0.1) (λ algorithm _. reads _ n _ tt)))
@@ -217,20 +227,24 @@ module _ (n : ℕ) (bytes : List ℕ) (h : length bytes ≤ n) where
   flag_within p f = step (λ p. length p.1 ≤ n) _ n _ _ (place_within n bytes p h f) (λ p k. checked _ n _ _ _ k (reads _ n _ tt))
 
   pub width_in_within : (p : Option Spot) → Found n p → Within (λ x. Unit {0}) n (width_in bytes p)
+  unfolding width_in
   width_in_within p f = step (λ p. length p.1 ≤ n) _ n _ _ (place_within n bytes p h f) (λ p k.
       step (λ x. length x ≤ n) _ n _ _ (value_of_within n 3 p k) (λ x l. step (λ x. length x.1 ≤ n) _ n _ _ (byte_within n x l) (λ b _. checked _ n _ _ _ h (reads _ n _ tt))))
 
   pub union_within : Within (λ x. length x.1.1 ≤ n) n (union_at bytes)
+  unfolding union_at
   union_within = step (λ x. length x.2 ≤ n) _ n _ _ (field_within n 0 bytes h) (λ f k. checked _ n _ _ _ h
       (step (λ x. length x ≤ n) _ n _ _ (value_within n 64 f.1 f.2 k) (λ rest l.
       step (λ x. length x.1 ≤ n) _ n _ _ (byte_within n rest l) (λ end _. checked _ n _ _ _ l (reads _ n _ k)))))
 
 module _ (n : ℕ) (bytes : List ℕ) (h : length bytes ≤ n) where
   pub unit_in_within : (p : Option Spot) → Found n p → Within (λ x. Unit {0}) n (unit_in bytes p)
+  unfolding unit_in
   unit_in_within p f = step (λ p. length p.1 ≤ n) _ n _ _ (place_within n bytes p h f) (λ p k. step (λ x. length x ≤ n) _ n _ _ (value_of_within n 12 p k) (λ x l.
       step (λ x. length x.1.1 ≤ n) _ n _ _ (union_within n x l) (λ u _. unit_within n x l u.0)))
 
   pub clock_at_within : Within (λ x. Unit {0}) n (clock_at bytes)
+  unfolding clock_at
   clock_at_within = step (λ x. FoundBoth n x.0 × (length x.1 ≤ n)) _ n _ _ (pair_within n 1 2 bytes h) (λ found k.
       step (λ x. Unit {0}) _ n _ _ (flag_within n bytes h found.0.0 k.0.0) (λ utc _.
       step (λ x. Unit {0}) _ n _ _ (unit_in_within found.0.1 k.0.1) (λ unit _. reads _ n _ tt)))
@@ -239,6 +253,7 @@ module _ (n : ℕ) (bytes : List ℕ) (h : length bytes ≤ n) where
   clock_within says = step (λ x. Unit {0}) _ n _ _ clock_at_within (λ found _. reads _ n _ tt)
 
   pub integer_within : Within (λ x. Unit {0}) n (integer_at bytes)
+  unfolding integer_at
   integer_within = step (λ x. FoundBoth n x.0 × (length x.1 ≤ n)) _ n _ _ (pair_within n 1 2 bytes h) (λ found k.
       step (λ x. Unit {0}) _ n _ _ (width_in_within n bytes h found.0.0 k.0.0) (λ width _.
       step (λ x. Unit {0}) _ n _ _ (flag_within n bytes h found.0.1 k.0.1) (λ signed _. reads _ n _ tt)))
@@ -257,16 +272,19 @@ module _ (n : ℕ) (bytes : List ℕ) (h : length bytes ≤ n) where
       step (λ x. length x ≤ n) _ n _ _ (value_of_within n 12 m.1 k) (λ x l. member_within n x l m.0))
 
 pub logical_in_within : (n : ℕ) (p : Option Spot) → Found n p → Within (λ x. Unit {0}) n (logical_in p)
+unfolding logical_in
 logical_in_within n None f = reads _ n _ tt
 logical_in_within n (Some p) f = step (λ x. length x ≤ n) _ n _ _ (value_of_within n 12 p f) (λ x k. step (λ x. Unit {0}) _ n _ _ (logical_within n x k) (λ says _. reads _ n _ tt))
 
 module _ (n : ℕ) (bytes : List ℕ) (h : length bytes ≤ n) where
   numbers_within : (one other : ℕ) → Within (λ x. Unit {0}) n (numbers_at one other bytes)
+  unfolding numbers_at
   numbers_within one other = step (λ x. FoundBoth n x.0 × (length x.1 ≤ n)) _ n _ _ (pair_within n one other bytes h) (λ found k.
       step (λ x. Unit {0}) _ n _ _ (number_in_within n found.0.0 k.0.0) (λ first _.
       step (λ x. Unit {0}) _ n _ _ (number_in_within n found.0.1 k.0.1) (λ second _. reads _ n _ tt)))
 
   pub element_within : Within (λ x. length x.1 ≤ n) n (element_at bytes)
+  unfolding element_at
   element_within = step (λ x. Unit {0}) _ n _ _ (storage_within n bytes h) (λ storage _.
       step (λ x. Unit {0}) _ n _ _ (numbers_within 5 6) (λ one _.
       step (λ x. Unit {0}) _ n _ _ (numbers_within 7 8) (λ two _.
@@ -274,6 +292,7 @@ module _ (n : ℕ) (bytes : List ℕ) (h : length bytes ≤ n) where
       step (λ x. Unit {0}) _ n _ _ (logical_in_within n last.0.0 k.0.0) (λ logical_type _. reads _ n _ k.1)))))
 
   pub key_value_within : Within (λ x. length x.1 ≤ n) n (key_value_at bytes)
+  unfolding key_value_at
   key_value_within = step (λ x. FoundBoth n x.0 × (length x.1 ≤ n)) _ n _ _ (pair_within n 1 2 bytes h) (λ found k.
       step (λ x. Unit {0}) _ n _ _ (text_in_within n found.0.0 k.0.0) (λ text _.
       step (λ x. Unit {0}) _ n _ _ (needed_within n bytes text h) (λ key _.

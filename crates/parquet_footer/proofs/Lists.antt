@@ -1,5 +1,5 @@
 -- Structs one after the other, as a loop reads them.
-use Rattle.std.proofs.Common.{◌≡◌, ℕ, suc, List, [], ◌∷◌, ◌++◌, Result, Ok, Err, refl, sym, ap, ◌∙◌, append_assoc}
+use Rattle.std.proofs.Common.{◌≡◌, ℕ, suc, ◌+◌, ◌-◌, ◌<◌, ◌≤◌, List, [], ◌∷◌, ◌++◌, Result, Ok, Err, refl, sym, ap, ◌∙◌, append_assoc, arith}
 use Rattle.std.proofs.lemmas.List.{append-nil}
 use Rattle.parquet_footer.specs.declared.fault.Fault.{Fault}
 use Rattle.parquet_footer.specs.declared.fault.Stop.{Stop}
@@ -25,21 +25,26 @@ stopped view read (Err stops.Memory) e is f = tt
 stopped view read (Err (stops.Fault d)) stops.Memory is f = absurd (cc)
 stopped view read (Err (stops.Fault d)) (stops.Fault e) is f = let same : e ≡ d = cc in f ∙ ap (λ (e : Fault). Err e) same
 
-module _ {A : Type 0} (item : List ℕ → Result (A × List ℕ) Fault) (front : List A) (n : ℕ) (bytes : List ℕ) (total : Result (List A) Fault) (so_far : with_front front (all_at item n bytes) ≡ total) where
-  pub all_go_on : (m : ℕ) (x : A) (rest : List ℕ) → n ≡ suc m → item bytes ≡ Ok (x, rest) → with_front (front ++ x ∷ []) (all_at item m rest) ≡ total
+-- behind i structs of count
+module _ {A : Type 0} (item : List ℕ → Result (A × List ℕ) Fault) (front : List A) (count i : ℕ) (bytes : List ℕ) (total : Result (List A) Fault) (so_far : with_front front (all_at item (count - i) bytes) ≡ total) where
+  pub all_go_on : (x : A) (rest : List ℕ) → i < count → item bytes ≡ Ok (x, rest) → with_front (front ++ x ∷ []) (all_at item (count - (i + 1)) rest) ≡ total
   unfolding all_at
-  all_go_on m x rest more is =
-      let one : with_front front (all_at item n bytes) ≡ with_front (front ++ x ∷ []) (all_at item m rest) = rw (more, is) (regroup front x (all_at item m rest)) in
+  all_go_on x rest more is =
+      let m = count - (i + 1) in
+      let next : count - i ≡ suc m = omega arith in
+      let one : with_front front (all_at item (count - i) bytes) ≡ with_front (front ++ x ∷ []) (all_at item m rest) = rw (next, is) (regroup front x (all_at item m rest)) in
       sym one ∙ so_far
 
-  pub all_stop : (m : ℕ) (e : Fault) → n ≡ suc m → item bytes ≡ Err e → total ≡ Err e
+  pub all_stop : (e : Fault) → i < count → item bytes ≡ Err e → total ≡ Err e
   unfolding all_at
-  all_stop m e more is =
-      let one : with_front front (all_at item n bytes) ≡ Err e = rw (more, is) refl in
+  all_stop e more is =
+      let next : count - i ≡ suc (count - (i + 1)) = omega arith in
+      let one : with_front front (all_at item (count - i) bytes) ≡ Err e = rw (next, is) refl in
       sym so_far ∙ one
 
-  pub all_done : n ≡ 0 → total ≡ Ok front
+  pub all_done : count ≤ i → total ≡ Ok front
   unfolding all_at
   all_done none =
-      let one : with_front front (all_at item n bytes) ≡ Ok front = rw none (ap (λ (xs : List A). Ok xs) (append-nil front)) in
+      let last : count - i ≡ 0 = omega arith in
+      let one : with_front front (all_at item (count - i) bytes) ≡ Ok front = rw last (ap (λ (xs : List A). Ok xs) (append-nil front)) in
       sym so_far ∙ one

@@ -1,5 +1,5 @@
 -- Fields and items one after the other, as loops pass them.
-use Rattle.std.proofs.Common.{◌≡◌, ℕ, zero, suc, ◌<◌, List, length, Result, Ok, Err, true, false, refl, ◌∙◌, arith, ◌==◌, if◌then◌else◌}
+use Rattle.std.proofs.Common.{◌≡◌, ℕ, zero, suc, ◌+◌, ◌-◌, ◌<◌, ◌≤◌, List, length, Result, Ok, Err, true, false, refl, sym, ◌∙◌, arith, ◌==◌, if◌then◌else◌}
 use Rattle.std.proofs.lemmas.Bool.{ne_eqb}
 use Rattle.parquet_footer.specs.declared.fault.Fault.{Fault}
 use Rattle.parquet_footer.specs.declared.fault.Rule.TheVariants.{End, Depth}
@@ -14,40 +14,57 @@ told view read (Err d) e is f = cc
 pub known : {Y : Type 0} (read : Result Y Fault) (e d : Fault) → d ≡ e → read ≡ Err e → read ≡ Err d
 known read e d same f = cc
 
-module _ {S : Type 0} (step : S → ℕ → ℕ → List ℕ → Result (S × List ℕ) Fault) (n m last : ℕ) (state : S) (bytes : List ℕ) (more : n ≡ suc m) where
-  here : fields_at step n last state bytes ≡ (field_at last bytes >>= λ field. if field.1 == 0 then Ok (state, field.2) else (step state field.0 field.1 field.2 >>= λ next. fields_at step m field.0 next.0 next.1))
+-- behind i fields of count, which are the rest of all
+module _ {S : Type 0} (step : S → ℕ → ℕ → List ℕ → Result (S × List ℕ) Fault) (count i last : ℕ) (state : S) (bytes : List ℕ) (all : Result (S × List ℕ) Fault) (so_far : fields_at step (count - i) last state bytes ≡ all) where
+  module _ (more : i < count) where
+    here : all ≡ (field_at last bytes >>= λ field. if field.1 == 0 then Ok (state, field.2) else (step state field.0 field.1 field.2 >>= λ next. fields_at step (count - (i + 1)) field.0 next.0 next.1))
+    unfolding fields_at
+    here =
+        let next : count - i ≡ suc (count - (i + 1)) = omega arith in
+        sym so_far ∙ rw next refl
+
+    pub no_field : (e : Fault) → field_at last bytes ≡ Err e → all ≡ Err e
+    no_field e is = here ∙ rw is refl
+
+    module _ (id kind : ℕ) (value : List ℕ) (field : field_at last bytes ≡ Ok (id, kind, value)) where
+      pub ended : kind ≡ 0 → all ≡ Ok (state, value)
+      ended none = here ∙ rw (field, none) refl
+
+      pub no_value : 0 < kind → (e : Fault) → step state id kind value ≡ Err e → all ≡ Err e
+      no_value some e is = here ∙ rw (field, ne_eqb kind 0 (omega arith), is) refl
+
+      pub goes_on : 0 < kind → (next : S) (rest : List ℕ) → step state id kind value ≡ Ok (next, rest) → fields_at step (count - (i + 1)) id next rest ≡ all
+      goes_on some next rest is = sym (here ∙ rw (field, ne_eqb kind 0 (omega arith), is) refl)
+
+  pub no_end : count ≤ i → all ≡ Err (broken End bytes)
   unfolding fields_at
-  here = rw more refl
+  no_end none =
+      let last : count - i ≡ 0 = omega arith in
+      sym so_far ∙ rw last refl
 
-  pub no_field : (e : Fault) → field_at last bytes ≡ Err e → fields_at step n last state bytes ≡ Err e
-  no_field e is = here ∙ rw is refl
+-- behind i items of count, which are the rest of all
+module _ (item : List ℕ → Result (List ℕ) Fault) (count i : ℕ) (bytes : List ℕ) (all : Result (List ℕ) Fault) (so_far : items_past item (count - i) bytes ≡ all) where
+  module _ (more : i < count) where
+    next : count - i ≡ suc (count - (i + 1))
+    next = omega arith
 
-  module _ (id kind : ℕ) (value : List ℕ) (field : field_at last bytes ≡ Ok (id, kind, value)) where
-    pub ended : kind ≡ 0 → fields_at step n last state bytes ≡ Ok (state, value)
-    ended none = here ∙ rw (field, none) refl
+    pub one_more : (rest : List ℕ) → item bytes ≡ Ok rest → items_past item (count - (i + 1)) rest ≡ all
+    unfolding items_past
+    one_more rest is =
+        let one : items_past item (count - i) bytes ≡ items_past item (count - (i + 1)) rest = rw (next, is) refl in
+        sym one ∙ so_far
 
-    pub no_value : 0 < kind → (e : Fault) → step state id kind value ≡ Err e → fields_at step n last state bytes ≡ Err e
-    no_value some e is = here ∙ rw (field, ne_eqb kind 0 (omega arith), is) refl
+    pub no_item : (e : Fault) → item bytes ≡ Err e → all ≡ Err e
+    unfolding items_past
+    no_item e is =
+        let one : items_past item (count - i) bytes ≡ Err e = rw (next, is) refl in
+        sym so_far ∙ one
 
-    pub goes_on : 0 < kind → (next : S) (rest : List ℕ) → step state id kind value ≡ Ok (next, rest) → fields_at step n last state bytes ≡ fields_at step m id next rest
-    goes_on some next rest is = here ∙ rw (field, ne_eqb kind 0 (omega arith), is) refl
-
-pub no_end : {S : Type 0} (step : S → ℕ → ℕ → List ℕ → Result (S × List ℕ) Fault) (n last : ℕ) (state : S) (bytes : List ℕ) → n ≡ 0 → fields_at step n last state bytes ≡ Err (broken End bytes)
-unfolding fields_at
-no_end step n last state bytes none = rw none refl
-
-module _ (item : List ℕ → Result (List ℕ) Fault) (n : ℕ) (bytes : List ℕ) where
-  pub one_more : (m : ℕ) (rest : List ℕ) → n ≡ suc m → item bytes ≡ Ok rest → items_past item n bytes ≡ items_past item m rest
+  pub no_more : count ≤ i → all ≡ Ok bytes
   unfolding items_past
-  one_more m rest more is = rw (more, is) refl
-
-  pub no_item : (m : ℕ) (e : Fault) → n ≡ suc m → item bytes ≡ Err e → items_past item n bytes ≡ Err e
-  unfolding items_past
-  no_item m e more is = rw (more, is) refl
-
-  pub no_more : n ≡ 0 → items_past item n bytes ≡ Ok bytes
-  unfolding items_past
-  no_more none = rw none refl
+  no_more none =
+      let last : count - i ≡ 0 = omega arith in
+      sym so_far ∙ rw last refl
 
 pub has_no_parts : (levels kind : ℕ) (bytes : List ℕ) → is_plain kind ≡ true → value_past levels kind bytes ≡ plain_past kind bytes
 unfolding value_past

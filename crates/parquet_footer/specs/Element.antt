@@ -27,7 +27,7 @@ pub record Stored : Type 0 where
 abbrev pub stored : Storage → Stored
 stored s = record { physical_type = s.physical_type; type_length = s.type_length; repetition = s.repetition; name = s.name.now }
 
-abbrev pub storage_at : List ℕ → Result Stored Fault
+unfoldable pub storage_at : List ℕ → Result Stored Fault
 storage_at bytes = do
   types ← pair_at 1 2 bytes
   physical_type ← name_in physical_types types.0.0 bytes
@@ -39,7 +39,7 @@ storage_at bytes = do
   Ok (record { physical_type = physical_type; type_length = type_length; repetition = repetition; name = name })
 
 -- the numbers in two fields, by their ids, where they are there
-abbrev pub numbers_at : ℕ → ℕ → List ℕ → Result (Option ℕ × Option ℕ) Fault
+unfoldable pub numbers_at : ℕ → ℕ → List ℕ → Result (Option ℕ × Option ℕ) Fault
 numbers_at one other bytes = do
   found ← pair_at one other bytes
   first ← number_in found.0.0
@@ -58,7 +58,7 @@ abbrev pub element : SchemaElement → Element
 element e = record { storage = stored e.storage; num_children = e.num_children; converted_type = e.converted_type; scale = e.scale; precision = e.precision; logical_type = option_map logical e.logical_type }
 
 -- an element, with 5 num_children, 6 converted_type, 7 scale, 8 precision, 10 logicalType, and the bytes behind it
-abbrev pub element_at : List ℕ → Result (Element × List ℕ) Fault
+unfoldable pub element_at : List ℕ → Result (Element × List ℕ) Fault
 element_at bytes = do
   storage ← storage_at bytes
   one ← numbers_at 5 6 bytes

@@ -55,12 +55,12 @@ named names (Some n) bytes = do
   _ ← kept (is_some (slice_get names n)) Name bytes
   Ok (slice_get names n)
 
-abbrev pub name_in : {A : Type 0} → List A → Option Spot → List ℕ → Result (Option A) Fault
+unfoldable pub name_in : {A : Type 0} → List A → Option Spot → List ℕ → Result (Option A) Fault
 name_in names place bytes = do
   number ← number_in place
   named names number bytes
 
-abbrev pub text_in : Option Spot → Result (Option (List ℕ)) Fault
+unfoldable pub text_in : Option Spot → Result (Option (List ℕ)) Fault
 text_in None = Ok None
 text_in (Some p) = do
   bytes ← value_of 8 p
@@ -75,7 +75,7 @@ flag_in bytes place = do
   Ok (p.0 == 1)
 
 -- how many structs a list has, none where it is missing, and their bytes; an empty list may have items of any type
-abbrev pub structs_in : Option Spot → Result (ℕ × List ℕ) Fault
+unfoldable pub structs_in : Option Spot → Result (ℕ × List ℕ) Fault
 structs_in None = Ok (0, [])
 structs_in (Some p) = do
   bytes ← value_of 9 p

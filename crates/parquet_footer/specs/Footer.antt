@@ -23,7 +23,7 @@ abbrev pub pairing : KeyValue → Pairing
 pairing p = record { key = p.key.now; value = option_map (λ s. s.now) p.value }
 
 -- KeyValue: 1 key, 2 value
-abbrev pub key_value_at : List ℕ → Result (Pairing × List ℕ) Fault
+unfoldable pub key_value_at : List ℕ → Result (Pairing × List ℕ) Fault
 key_value_at bytes = do
   found ← pair_at 1 2 bytes
   text ← text_in found.0.0

@@ -34,7 +34,7 @@ abbrev pub algorithms : List Algorithm
 algorithms = Spherical ∷ Vincenty ∷ Thomas ∷ Andoyer ∷ Karney ∷ []
 
 -- a union is a struct of one field: its id, and the type and the bytes of its value
-abbrev pub union_at : List ℕ → Result (ℕ × Spot) Fault
+unfoldable pub union_at : List ℕ → Result (ℕ × Spot) Fault
 union_at bytes = do
   field ← field_at 0 bytes
   _ ← kept (not (field.1 == 0)) Union bytes
@@ -50,14 +50,14 @@ unit_of id bytes =
     if id == 2 then Ok Microsecond else
     if id == 3 then Ok Nanosecond else refused Name bytes
 
-abbrev pub unit_in : List ℕ → Option Spot → Result TimeUnit Fault
+unfoldable pub unit_in : List ℕ → Option Spot → Result TimeUnit Fault
 unit_in bytes place = do
   p ← needed bytes place
   value ← value_of 12 p
   member ← union_at value
   unit_of member.0 value
 
-abbrev pub width_in : List ℕ → Option Spot → Result ℕ Fault
+unfoldable pub width_in : List ℕ → Option Spot → Result ℕ Fault
 width_in bytes place = do
   p ← needed bytes place
   value ← value_of 3 p
@@ -66,7 +66,7 @@ width_in bytes place = do
   Ok width.0
 
 -- TIME and TIMESTAMP: 1 isAdjustedToUTC, 2 unit
-abbrev pub clock_at : List ℕ → Result (Bool × TimeUnit) Fault
+unfoldable pub clock_at : List ℕ → Result (Bool × TimeUnit) Fault
 clock_at bytes = do
   found ← pair_at 1 2 bytes
   utc ← flag_in bytes found.0.0
@@ -79,7 +79,7 @@ clock says bytes = do
   Ok (says found.0 found.1)
 
 -- INTEGER: 1 bitWidth, 2 isSigned
-abbrev pub integer_at : List ℕ → Result Logical Fault
+unfoldable pub integer_at : List ℕ → Result Logical Fault
 integer_at bytes = do
   found ← pair_at 1 2 bytes
   width ← width_in bytes found.0.0
@@ -87,14 +87,14 @@ integer_at bytes = do
   Ok (integer width signed)
 
 -- GEOMETRY: 1 crs
-abbrev pub geometry_at : List ℕ → Result Logical Fault
+unfoldable pub geometry_at : List ℕ → Result Logical Fault
 geometry_at bytes = do
   found ← pair_at 1 1 bytes
   crs ← text_in found.0.0
   Ok (geometry crs)
 
 -- GEOGRAPHY: 1 crs, 2 algorithm
-abbrev pub geography_at : List ℕ → Result Logical Fault
+unfoldable pub geography_at : List ℕ → Result Logical Fault
 geography_at bytes = do
   found ← pair_at 1 2 bytes
   crs ← text_in found.0.0
@@ -116,7 +116,7 @@ logical_at bytes = do
   value ← value_of 12 member.1
   member_at member.0 value
 
-abbrev pub logical_in : Option Spot → Result (Option Logical) Fault
+unfoldable pub logical_in : Option Spot → Result (Option Logical) Fault
 logical_in None = Ok None
 logical_in (Some p) = do
   bytes ← value_of 12 p

@@ -27,7 +27,7 @@ number_past most (b ∷ rest) =
     if nat_lt most 2 then refused Number (b ∷ rest) else number_past (most - 1) rest
 
 -- zigzag: 0 is 0, 1 is -1, 2 is 1, 3 is -2 and so on, of which those that are not negative are read
-abbrev pub count_at : List ℕ → Result (ℕ × List ℕ) Fault
+unfoldable pub count_at : List ℕ → Result (ℕ × List ℕ) Fault
 count_at bytes = do
   n ← number_at 5 bytes
   _ ← kept (n.0 % 2 == 0) Negative bytes
@@ -39,7 +39,7 @@ bytes_past n bytes = do
   Ok (drop n bytes)
 
 -- a length, and so many bytes
-abbrev pub binary_at : List ℕ → Result (List ℕ × List ℕ) Fault
+unfoldable pub binary_at : List ℕ → Result (List ℕ × List ℕ) Fault
 binary_at bytes = do
   n ← number_at 5 bytes
   _ ← kept (nat_le n.0 (length n.1)) Length bytes
@@ -55,7 +55,7 @@ abbrev pub item_type : ℕ → ℕ
 item_type type = if type == 1 then 3 else if type == 2 then 3 else type
 
 -- the head of a list or a set: the items' type and how many they are; a size of 15 denotes a number behind it
-abbrev pub list_at : List ℕ → Result (ℕ × ℕ × List ℕ) Fault
+unfoldable pub list_at : List ℕ → Result (ℕ × ℕ × List ℕ) Fault
 list_at bytes = do
   b ← byte_at bytes
   n ← (if nat_lt b.0 240 then Ok (b.0 / 16, b.1) else number_at 5 b.1)
@@ -63,7 +63,7 @@ list_at bytes = do
   Ok (item_type (b.0 % 16), n.0, n.1)
 
 -- the head of a map: the types of keys and values, and how many pairs they are; an empty map has no types
-abbrev pub map_at : List ℕ → Result (ℕ × ℕ × ℕ × List ℕ) Fault
+unfoldable pub map_at : List ℕ → Result (ℕ × ℕ × ℕ × List ℕ) Fault
 map_at bytes = do
   n ← number_at 5 bytes
   if n.0 == 0 then Ok (3, 3, 0, n.1) else (do

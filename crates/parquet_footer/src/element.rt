@@ -89,6 +89,7 @@ const REPETITIONS: [Repetition; 3] = [
 ];
 
 /// The fields 1 to 4 of an element.
+#[tactic(auto, unfolding(crate::specs::Element::storage_at))]
 fn storage_at(bytes: &[u8]) -> Result<Storage<'_>, Fault>
     ensures { Returns stored result (storage_at bytes.now) }
 {
@@ -107,6 +108,7 @@ fn storage_at(bytes: &[u8]) -> Result<Storage<'_>, Fault>
 }
 
 /// The numbers in two fields of an element, by their ids, where they are there.
+#[tactic(auto, unfolding(crate::specs::Element::numbers_at))]
 fn numbers_at(bytes: &[u8], one: u16, other: u16) -> Result<(Option<u32>, Option<u32>), Fault>
     ensures { result ≡ numbers_at one other bytes.now }
 {
@@ -115,6 +117,7 @@ fn numbers_at(bytes: &[u8], one: u16, other: u16) -> Result<(Option<u32>, Option
 }
 
 /// An element, and the bytes behind it.
+#[tactic(auto, unfolding(crate::specs::Element::element_at))]
 pub fn element_at(bytes: &[u8]) -> Result<(SchemaElement<'_>, &[u8]), Fault>
     ensures { Returns (λ x. (element x.0, x.1.now)) result (element_at bytes.now) }
 {

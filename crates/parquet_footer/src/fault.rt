@@ -3,6 +3,8 @@ ghost use Rattle.std.specs.Prelude.{◌≡◌, IsTrue, OnOk, length};
 ghost use Rattle.parquet_footer.specs.Fault.{broken, kept};
 ghost use Rattle.parquet_footer.specs.declared.fault.Stop.TheVariants as stops;
 
+use std::alloc::AllocFailed;
+
 /// A rule that the bytes break.
 #[derive(Debug, Clone, Copy, PartialEq, Eq)]
 pub enum Rule {
@@ -76,6 +78,14 @@ impl From<Fault> for Stop {
 
     fn from(fault: Fault) -> Stop {
         Stop::Fault(fault)
+    }
+}
+
+impl<T: Drop> From<AllocFailed<T>> for Stop {
+    ghost from_gives = { λ _ stop. stop ≡ stops.Memory };
+
+    fn from(_refused: AllocFailed<T>) -> Stop {
+        Stop::Memory
     }
 }
 

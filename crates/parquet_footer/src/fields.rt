@@ -72,6 +72,7 @@ pub fn number_in(place: Found<'_>) -> Result<Option<u32>, Fault>
 }
 
 /// The name that the number in a field denotes, where it is there: the names stand in the order of their numbers, from 0 on.
+#[tactic(auto, unfolding(crate::specs::Fields::name_in))]
 pub fn name_in<T: Copy>(names: &[T], place: Found<'_>, bytes: &[u8]) -> Result<Option<T>, Fault>
     ensures { result ≡ name_in names.now (spots place.entry) bytes.now }
 {
@@ -85,10 +86,14 @@ pub fn name_in<T: Copy>(names: &[T], place: Found<'_>, bytes: &[u8]) -> Result<O
 }
 
 /// The text in a field, where it is there.
+#[tactic(auto, unfolding(crate::specs::Fields::text_in))]
 pub fn text_in(place: Found<'_>) -> Result<Option<&str>, Fault>
     ensures { Returns (option_map (λ s. s.now)) result (text_in (spots place.entry)) }
 {
-    place.map(|place| text_at(value_of(8, place)?)).transpose()
+    match place {
+        Some(place) => Ok(Some(text_at(value_of(8, place)?)?)),
+        None => Ok(None),
+    }
 }
 
 /// The truth value in a field of a struct, whose bytes these are.
@@ -101,6 +106,7 @@ pub fn flag_in(bytes: &[u8], place: Found<'_>) -> Result<bool, Fault>
 }
 
 /// How many structs a list has, which is none where it is missing, and their bytes.
+#[tactic(auto, unfolding(crate::specs::Fields::structs_in))]
 pub fn structs_in(place: Found<'_>) -> Result<(u32, &[u8]), Fault>
     ensures { Returns (λ x. (x.0, x.1.now)) result (structs_in (spots place.entry)) }
 {

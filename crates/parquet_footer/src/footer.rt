@@ -29,6 +29,7 @@ pub struct Footer<'a> {
 }
 
 /// A key and its value, and the bytes behind them.
+#[tactic(auto, unfolding(crate::specs::Footer::key_value_at))]
 fn key_value_at(bytes: &[u8]) -> Result<(KeyValue<'_>, &[u8]), Fault>
     ensures { Returns (λ x. (pairing x.0, x.1.now)) result (key_value_at bytes.now) }
 {
@@ -46,7 +47,7 @@ fn elements_at(alloc: Global, count: u32, bytes: &[u8]) -> Result<Vec<SchemaElem
     let mut rest = bytes;
     'structs: for i in 0..count {
         let (item, behind) = element_at(rest)?;
-        found.push(item).map_err(|_| Stop::Memory)?;
+        found.push(item)?;
         rest = behind;
     }
     Ok(found)
@@ -60,7 +61,7 @@ fn key_values_at(alloc: Global, count: u32, bytes: &[u8]) -> Result<Vec<KeyValue
     let mut rest = bytes;
     'structs: for i in 0..count {
         let (item, behind) = key_value_at(rest)?;
-        found.push(item).map_err(|_| Stop::Memory)?;
+        found.push(item)?;
         rest = behind;
     }
     Ok(found)

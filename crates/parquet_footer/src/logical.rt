@@ -3,7 +3,7 @@
 ghost use Rattle.std.specs.Prelude.{◌≡◌, option_map};
 ghost use Rattle.parquet_footer.specs.Fault.{Returns};
 ghost use Rattle.parquet_footer.specs.Fields.{spot, spots};
-ghost use Rattle.parquet_footer.specs.Logical.{logical, union_at, unit_in, width_in, clock_at, logical_at, logical_in};
+ghost use Rattle.parquet_footer.specs.Logical.{logical, union_at, unit_in, width_in, clock_at, integer_at, geometry_at, geography_at, logical_at, logical_in};
 
 use crate::fault::{Fault, Rule, broken, ensure};
 use crate::fields::{Found, Place, flag_in, name_in, pair_at, text_in, value_of};
@@ -63,6 +63,7 @@ const ALGORITHMS: [Algorithm; 5] = [
 ];
 
 /// The unit of time in a field of a struct, whose bytes these are.
+#[tactic(auto, unfolding(crate::specs::Logical::unit_in))]
 fn unit_in(bytes: &[u8], place: Found<'_>) -> Result<TimeUnit, Fault>
     ensures { result ≡ unit_in bytes.now (spots place.entry) }
 {
@@ -77,6 +78,7 @@ fn unit_in(bytes: &[u8], place: Found<'_>) -> Result<TimeUnit, Fault>
 }
 
 /// The bits of an integer in a field of a struct, whose bytes these are.
+#[tactic(auto, unfolding(crate::specs::Logical::width_in))]
 fn width_in(bytes: &[u8], place: Found<'_>) -> Result<u8, Fault>
     ensures { result ≡ width_in bytes.now (spots place.entry) }
 {
@@ -87,6 +89,7 @@ fn width_in(bytes: &[u8], place: Found<'_>) -> Result<u8, Fault>
 }
 
 /// The one field of a union: its id, and its value.
+#[tactic(auto, unfolding(crate::specs::Logical::union_at))]
 fn union_at(bytes: &[u8]) -> Result<(u16, Place<'_>), Fault>
     ensures { Returns (λ x. (x.0, spot x.1)) result (union_at bytes.now) }
 {
@@ -98,11 +101,40 @@ fn union_at(bytes: &[u8]) -> Result<(u16, Place<'_>), Fault>
 }
 
 /// What TIME and TIMESTAMP say: whether they are adjusted to UTC, and their unit.
+#[tactic(auto, unfolding(crate::specs::Logical::clock_at))]
 fn clock_at(bytes: &[u8]) -> Result<(bool, TimeUnit), Fault>
     ensures { result ≡ clock_at bytes.now }
 {
     let (utc, unit, _rest) = pair_at(bytes, 1, 2)?;
     Ok((flag_in(bytes, utc)?, unit_in(bytes, unit)?))
+}
+
+/// What INTEGER says.
+#[tactic(auto, unfolding(crate::specs::Logical::integer_at))]
+fn integer_at(bytes: &[u8]) -> Result<LogicalType<'_>, Fault>
+    ensures { Returns logical result (integer_at bytes.now) }
+{
+    let (width, signed, _rest) = pair_at(bytes, 1, 2)?;
+    Ok(LogicalType::Integer(width_in(bytes, width)?, flag_in(bytes, signed)?))
+}
+
+/// What GEOMETRY says.
+#[tactic(auto, unfolding(crate::specs::Logical::geometry_at))]
+fn geometry_at(bytes: &[u8]) -> Result<LogicalType<'_>, Fault>
+    ensures { Returns logical result (geometry_at bytes.now) }
+{
+    let (crs, _same, _rest) = pair_at(bytes, 1, 1)?;
+    Ok(LogicalType::Geometry(text_in(crs)?))
+}
+
+/// What GEOGRAPHY says.
+#[tactic(auto, unfolding(crate::specs::Logical::geography_at))]
+fn geography_at(bytes: &[u8]) -> Result<LogicalType<'_>, Fault>
+    ensures { Returns logical result (geography_at bytes.now) }
+{
+    let (crs, algorithm, _rest) = pair_at(bytes, 1, 2)?;
+    let crs = text_in(crs)?;
+    Ok(LogicalType::Geography(crs, name_in(&ALGORITHMS, algorithm, bytes)?))
 }
 
 /// What a logical type says, by the id of the union's member.
@@ -121,28 +153,20 @@ fn logical_at(bytes: &[u8]) -> Result<LogicalType<'_>, Fault>
             let (utc, unit) = clock_at(bytes)?;
             Ok(LogicalType::Timestamp(utc, unit))
         }
-        10 => {
-            let (width, signed, _rest) = pair_at(bytes, 1, 2)?;
-            Ok(LogicalType::Integer(width_in(bytes, width)?, flag_in(bytes, signed)?))
-        }
-        17 => {
-            let (crs, _same, _rest) = pair_at(bytes, 1, 1)?;
-            Ok(LogicalType::Geometry(text_in(crs)?))
-        }
-        18 => {
-            let (crs, algorithm, _rest) = pair_at(bytes, 1, 2)?;
-            let crs = text_in(crs)?;
-            Ok(LogicalType::Geography(crs, name_in(&ALGORITHMS, algorithm, bytes)?))
-        }
+        10 => integer_at(bytes),
+        17 => geometry_at(bytes),
+        18 => geography_at(bytes),
         _ => Ok(LogicalType::Other(id)),
     }
 }
 
 /// The logical type in a field, where it is there.
+#[tactic(auto, unfolding(crate::specs::Logical::logical_in))]
 pub fn logical_in(place: Found<'_>) -> Result<Option<LogicalType<'_>>, Fault>
     ensures { Returns (option_map logical) result (logical_in (spots place.entry)) }
 {
-    place
-        .map(|place| logical_at(value_of(12, place)?))
-        .transpose()
+    match place {
+        Some(place) => Ok(Some(logical_at(value_of(12, place)?)?)),
+        None => Ok(None),
+    }
 }

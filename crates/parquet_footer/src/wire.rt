@@ -53,6 +53,7 @@ pub fn number_past(bytes: &[u8], most: u32) -> Result<&[u8], Fault>
 }
 
 /// A number in zigzag that is not negative.
+#[tactic(auto, unfolding(crate::specs::Wire::count_at))]
 #[inline(never)]
 pub fn count_at(bytes: &[u8]) -> Result<(u32, &[u8]), Fault>
     ensures { Returns (λ x. (x.0, x.1.now)) result (count_at bytes.now) }
@@ -72,6 +73,7 @@ pub fn bytes_past(bytes: &[u8], count: usize) -> Result<&[u8], Fault>
 }
 
 /// A length, and so many bytes.
+#[tactic(auto, unfolding(crate::specs::Wire::binary_at))]
 pub fn binary_at(bytes: &[u8]) -> Result<(&[u8], &[u8]), Fault>
     ensures { Returns (λ x. (x.0.now, x.1.now)) result (binary_at bytes.now) }
 {
@@ -101,6 +103,7 @@ fn item_type(kind: u8) -> u8
 }
 
 /// The head of a list or a set: the items' type, how many they are, and the bytes behind it.
+#[tactic(auto, unfolding(crate::specs::Wire::list_at))]
 pub fn list_at(bytes: &[u8]) -> Result<(u8, u32, &[u8]), Fault>
     ensures { Returns (λ x. (x.0, x.1, x.2.now)) result (list_at bytes.now) }
 {
@@ -115,6 +118,7 @@ pub fn list_at(bytes: &[u8]) -> Result<(u8, u32, &[u8]), Fault>
 }
 
 /// The head of a map: the types of its keys and values, how many pairs they are, and the bytes behind it.
+#[tactic(auto, unfolding(crate::specs::Wire::map_at))]
 pub fn map_at(bytes: &[u8]) -> Result<(u8, u8, u32, &[u8]), Fault>
     ensures { Returns (λ x. (x.0, x.1, x.2, x.3.now)) result (map_at bytes.now) }
 {

@@ -76,7 +76,11 @@ fn marked(
     if column.extension_type_name().is_some() {
         return Ok(column);
     }
-    match extension_text(alloc, footer, child)? {
+    let Ok(text) = extension_text(alloc, footer, child) else {
+        drop(column);
+        return Err(AllocError);
+    };
+    match text {
         None => Ok(column),
         Some(text) => with_extension(alloc, column, WKB, text),
     }

@@ -8,5 +8,5 @@ use Rattle.column_files.proofs.line.put_null.Goals as goal
 pub returns-in_ok-insert : goal.returns-in_ok-insert
 returns-in_ok-insert c = λ ms is.
     let found = c.as_object_mut.ensures.value ∙ ap as_object is in
-    view-Object c.insert.new.self ∙ ap object (null_put_is _ c.insert.new.self.entries c.in_ok-from_str-2.field-0 c.from-null.result ms c.in_ok-insert.ensures.entries c.in_ok-from_str-2.ensures.ok
+    view-Object c.insert.new.self ∙ ap object (null_put_is _ c.insert.new.self.entries c.in_ok-key.key c.from-null.result ms c.in_ok-insert.ensures.entries c.in_ok-key.ensures.ok
     (c.from-null.ensures ∙ ap string c.in_ok-from_str.ensures.ok) (search rules))

@@ -1,5 +1,5 @@
-use Rattle.std.proofs.Common.{rules, ◌≡◌, Ok, [], ◌∷◌, ◌++◌, map, length, refl, sym, subst}
-use Rattle.std.proofs.lemmas.List.{map-append, nil_from_length}
+use Rattle.std.proofs.Common.{rules, ◌≡◌, Ok, Err, [], ◌∷◌, ◌++◌, map, length, refl, sym, ◌∙◌, subst}
+use Rattle.std.proofs.lemmas.List.{map-append, length-map, nil_from_length}
 use Rattle.arrow_columns.specs.Column.{column_tree}
 use Rattle.column_files.specs.LineFaults.{IsLineRead}
 use Rattle.column_files.specs.Lines.{DenotesNext, DenoteTo}
@@ -25,6 +25,14 @@ loop-rest-preserved c =
     subst (λ xs. DenoteTo text (map column_tree xs) behind) (sym pushed)
     (subst (λ cs. DenoteTo text cs behind) (sym (map-append column_tree columns (column ∷ [])))
     (denote_more (map column_tree columns) text c.loop-rest.rest.now behind (column_tree column) c.loop-rest.invariant next))
+
+pub returns-in-Err : goal.returns-in-Err
+returns-in-Err c =
+    let columns = c.loop-rest.columns.items in
+    let line = c.first_line.result.0.now in
+    let denotes : IsLineRead line (Err c.in-Err.fault) = subst (IsLineRead line) c.in-Err.is c.in_ok-column.ensures in
+    let count = length-map columns column_tree ∙ sym (c.len.ensures ∙ c.loop-rest.columns.ok.0) in
+    (map column_tree columns, c.loop-rest.rest.now, count, c.loop-rest.invariant, (line, c.first_line.result.1.now, c.first_line.ensures.line, denotes.0, denotes.1))
 
 pub returns : goal.returns
 returns c =

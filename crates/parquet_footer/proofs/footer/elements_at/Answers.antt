@@ -1,4 +1,4 @@
-use Rattle.std.proofs.Common.{◌≡◌, ◌-◌, ◌+◌, suc, [], ◌∷◌, ◌++◌, map, is_ok, true, arith, rules}
+use Rattle.std.proofs.Common.{◌≡◌, [], ◌∷◌, ◌++◌, map, arith}
 use Rattle.std.proofs.lemmas.List.{map_push}
 use Rattle.parquet_footer.specs.declared.fault.Stop.TheVariants as stops
 use Rattle.parquet_footer.specs.Element.{element, element_at}
@@ -8,20 +8,17 @@ use Rattle.parquet_footer.proofs.footer.elements_at.Goals as goal
 pub returns-in_err-item : goal.returns-in_err-item
 returns-in_err-item c =
     let l = c.structs in
-    let k : c.args.count - l.i ≡ suc (c.args.count - (l.i + 1)) = omega (arith, c.structs-test.true) in
     stopped (λ v. map element v.items) _ c.from_residual.result (stops.Fault c.in_err-item.field-0.0) (grind arith)
-    (all_stop element_at (map element l.found.items) _ l.rest.now _ l.invariant _ _ k c.in_err-item.ensures)
+    (all_stop element_at (map element l.found.items) c.args.count l.i l.rest.now _ l.invariant _ c.structs-test.true c.in_err-item.ensures)
 
 pub structs-preserved : goal.structs-preserved
 structs-preserved c =
     let l = c.structs in
     let x = c.in_ok-item.item in
-    let k : c.args.count - l.i ≡ suc (c.args.count - (l.i + 1)) = omega (arith, c.structs-test.true) in
-    let ok : is_ok c.push.result ≡ true = search rules in
-    let e : map element c.push.new.self.items ≡ map element l.found.items ++ element x ∷ [] = rw (c.push.ensures.items, ok) (map_push _ l.found.items x) in
-    rw e (all_go_on element_at (map element l.found.items) _ l.rest.now _ l.invariant _ (element x) c.in_ok-item.behind.now k c.in_ok-item.ensures)
+    let e : map element c.push.new.self.items ≡ map element l.found.items ++ element x ∷ [] = rw c.in_ok-push.ensures.items (map_push _ l.found.items x) in
+    rw e (all_go_on element_at (map element l.found.items) c.args.count l.i l.rest.now _ l.invariant (element x) c.in_ok-item.behind.now c.structs-test.true c.in_ok-item.ensures)
 
 pub returns : goal.returns
 returns c =
     let l = c.structs in
-    all_done element_at (map element l.found.items) _ l.rest.now _ l.invariant (omega (arith, c.structs-test.false))
+    all_done element_at (map element l.found.items) c.args.count l.i l.rest.now _ l.invariant c.structs-test.false
