@@ -12,6 +12,10 @@ named_plain : (p : Plain) → plain_named (plain_name p) ≡ Some p
 named_plain null = refl
 named_plain _ = refl
 
+-- the type of a word that is its name
+pub plain_at : (word : Text) (p : Plain) → word ≡ plain_name p → Some (plain p) ≡ option_map plain (plain_named word)
+plain_at word p is = rw (is, named_plain p)
+
 named_mode : (mode : UnionMode) → mode_named (mode_name mode) ≡ Some mode
 named_mode mode = grind arith
 
