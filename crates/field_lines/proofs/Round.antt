@@ -1,7 +1,7 @@
 -- The value of a field: it is lean, holds no float, and denotes that field.
-use Rattle.std.proofs.Common.{◌≡◌, ◌≤◌, max, ℤ, [], ◌∷◌, Bool, false, IsTrue, inl, inr, Some, option_map, option_and_then, refl, ap, arith}
+use Rattle.std.proofs.Common.{◌≡◌, ◌≤◌, max, ℤ, [], ◌∷◌, Bool, false, IsTrue, inl, inr, None, Some, codes, option_map, option_and_then, refl, ap, arith}
 use Rattle.field_lines.proofs.Terms.{and_parts, list_all, Data, number, string, depth, max_depth, of_integer, as_integer, as_str, has_float, items_have_float, members_have_float, UnionMode, Text, Metadata, Plain, Tree, plain, list, large_list, fixed_size_list, struct, union, FieldTrees, no_fields, field, MemberTrees, FieldTree, field_tree, is_type_id, are_distinct, kept, is_size, texts_in, list_of, large_list_of, tree_ids, field_of_value, type_of_value, fields_in, members_in, texts_value, parts_value, type_value, fields_value, members_value, value_of_field, other_value, HasLineForm, FieldsHaveLineForm, MembersHaveLineForm}
-use Rattle.serde_json.specs.Data.{members_depth}
+use Rattle.serde_json.specs.Data.{members_depth, object, Members, no_members as nothing, member as with_member}
 use Rattle.arrow_values.specs.Tree.{null, no_members, member}
 use Rattle.arrow_columns.specs.Notation.{plain_name}
 use Rattle.field_lines.specs.Names.{plain_named, mode_name, mode_named}
@@ -11,6 +11,10 @@ use Rattle.field_lines.specs.Lean.{IsLean, AreLean, IsLeanType}
 named_plain : (p : Plain) → plain_named (plain_name p) ≡ Some p
 named_plain null = refl
 named_plain _ = refl
+
+-- the type of a word that is its name
+pub plain_at : (word : Text) (p : Plain) → word ≡ plain_name p → Some (plain p) ≡ option_map plain (plain_named word)
+plain_at word p is = rw (is, named_plain p)
 
 named_mode : (mode : UnionMode) → mode_named (mode_name mode) ≡ Some mode
 named_mode mode = grind arith
@@ -41,10 +45,19 @@ IsValue f d = IsLean d × (has_float d ≡ false) × (HasLineForm f.tree → fie
 abbrev IsTypeValue : Tree → Data → Type 0
 IsTypeValue t d = IsLeanType d × (has_float d ≡ false) × (HasLineForm t → type_of_value d ≡ Some t)
 
+is_missing : (d : Data) → None ≡ Some d → ⊥
+is_missing d e = absurd cc
+
+not_empty : (k : Text) (d : Data) (ms : Members) → Some (object (with_member k d ms)) ≡ Some (object nothing) → ⊥
+not_empty k d ms e = absurd cc
+
+other_keys : codes "metadata" ≡ codes "type" → ⊥
+other_keys e = absurd cc
+
 parts_are : (n : Text) (t : Tree) (d : Data) (b : Bool) (m : Metadata) → IsTypeValue t d → IsValue (field_tree n t b m) (parts_value n d b m)
-parts_are n t d b [] h = ((inr (inl (refl, inl (refl, inl (refl, tt)))), (λ e. tt, (λ e. tt, (λ e. h.0, tt))), λ e. cc), rw h.1 refl, λ form. rw (h.2 form))
+parts_are n t d b [] h = ((inr (inl (refl, inl (refl, inl (refl, tt)))), (λ e. tt, (λ e. tt, (λ e. h.0, tt))), is_missing _), rw h.1 refl, λ form. rw (h.2 form))
 parts_are n t d b (e ∷ es) h = (
-  (inl (refl, inl (refl, inl (refl, inl (refl, tt)))), (λ e. absurd (cc), (λ e. tt, (λ e. tt, (λ e. h.0, tt)))), λ e. cc),
+  (inl (refl, inl (refl, inl (refl, inl (refl, tt)))), (λ e. absurd (other_keys e), (λ e. tt, (λ e. tt, (λ e. h.0, tt)))), not_empty _ _ _),
   rw (texts_whole es, h.1) refl,
   λ form. rw (h.2 form, texts_in-value (e ∷ es)),
 )

@@ -1,8 +1,8 @@
 //! Values that a text spells, cloned and compared.
 use crate::asked::Asked;
+use crate::notation;
 use crate::said::Said;
-use crate::texts::halves;
-use crate::{notation, say};
+use crate::texts::{halves, is_line};
 use arrow_values::{DataType, Field, Fields, UnionFields};
 use std::alloc::AllocError;
 use std::hash::{DefaultHasher, Hash, Hasher};
@@ -26,7 +26,7 @@ impl Compared for DataType {
 
 /// The field that a text spells, in the notation or as a line of JSON.
 fn field(said: &mut Said, text: &str) -> ManuallyDrop<Field> {
-    if text.starts_with('{') {
+    if is_line(text) {
         return notation::field(said, text);
     }
     notation::spelled(said, text)
@@ -92,20 +92,32 @@ fn hash_of<T: Hash>(hashed: &T) -> u64 {
 
 /// Says whether each of the values with ` ; ` between them is equal to a clone of itself, and to none of the others.
 pub fn distinct<T: Compared>(it: &mut Asked<'_>) {
-    for (at, one) in it.text.split(" ; ").enumerate() {
-        for (other_at, other) in it.text.split(" ; ").enumerate() {
-            say_not_so::<T>(&mut it.said, one, other, at == other_at);
-        }
+    let mut at: usize = 0;
+    for one in it.text.split(" ; ") {
+        compare_one::<T>(&mut it.said, it.text, one, at);
+        at = at.saturating_add(1);
     }
     if it.said.text.is_empty() {
         it.said.push("each is equal to itself alone");
     }
 }
 
+/// Compares one of the values, which is at that place, with each of them.
+fn compare_one<T: Compared>(said: &mut Said, text: &str, one: &str, at: usize) {
+    let mut other_at: usize = 0;
+    for other in text.split(" ; ") {
+        say_not_so::<T>(said, one, other, at == other_at);
+        other_at = other_at.saturating_add(1);
+    }
+}
+
 /// Says that a clone of one value is equal to the other, or is not, where that is not to be; nothing where something is said.
 fn say_not_so<T: Compared>(said: &mut Said, one: &str, other: &str, are_same: bool) {
     if said.text.is_empty() && T::are_equal(said, one, other) != are_same {
-        say!(said, "not so: {one} and {other}");
+        said.push("not so: ");
+        said.push(one);
+        said.push(" and ");
+        said.push(other);
     }
 }
 

@@ -5,7 +5,6 @@
 use crate::judging::{Layers, Row, Tally, answered, say_fault, say_found};
 use crate::memory::{refuse, was_refused};
 use crate::said::Said;
-use crate::say;
 use std::alloc::Global;
 
 /// More requests than a row makes.
@@ -28,7 +27,9 @@ fn judge_refused<L: Layers>(alloc: Global, fault: &mut Said, row: Row<'_>, nth: 
     if !was_refused {
         say_fault(fault, row, &it);
     } else if !it.said.is_lacking {
-        say!(fault, ", request {nth} refused");
+        fault.push(", request ");
+        fault.shown(&nth);
+        fault.push(" refused");
         say_found(fault, row, it.said.text.as_str());
     }
     was_refused

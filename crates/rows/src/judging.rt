@@ -5,9 +5,9 @@
 //! stand `* `, if each request for memory that the row makes is to be refused, that one alone, or `unaided `, if its call makes
 //! none. `repeated` says how a question and an answer may be spelled in short.
 use crate::asked::Asked;
+use crate::faults;
 use crate::repeated::expanded;
 use crate::said::Said;
-use crate::{faults, say};
 use std::alloc::Global;
 
 /// The layers of a program of rows.
@@ -144,6 +144,14 @@ fn judge_plain<L: Layers>(alloc: Global, fault: &mut Said, row: Row<'_>) {
     say_fault(fault, row, &it);
 }
 
+/// Says where a row stands.
+fn say_place(report: &mut Said, place: Place<'_>) {
+    report.push(place.file);
+    report.push(":");
+    report.shown(&place.line.saturating_add(1));
+    report.push(": ");
+}
+
 /// Judges a row, and counts and reports it.
 fn judge_row<L: Layers>(
     alloc: Global,
@@ -163,7 +171,7 @@ fn judge_row<L: Layers>(
         tally.right = tally.right.saturating_add(1);
     } else {
         tally.wrong = tally.wrong.saturating_add(1);
-        say!(report, "{}:{}: ", place.file, place.line.saturating_add(1));
+        say_place(report, place);
         say_cut(report, row.question);
         report.push(fault.text.as_str());
         report.push("\n");
@@ -226,12 +234,9 @@ fn judge_spelled<L: Layers>(
 /// Says that something is wrong with a file.
 fn say_wrong(report: &mut Said, tally: &mut Tally, place: Place<'_>, why: &str) {
     tally.wrong = tally.wrong.saturating_add(1);
-    say!(
-        report,
-        "{}:{}: {why}\n",
-        place.file,
-        place.line.saturating_add(1)
-    );
+    say_place(report, place);
+    report.push(why);
+    report.push("\n");
 }
 
 /// Judges the rows of a text.
@@ -259,12 +264,19 @@ fn judge_text<L: Layers>(
 
 /// Says how many rows of a file are right and wrong.
 fn say_tally(report: &mut Said, file: &str, found: Tally) {
-    say!(report, "{file}: {} right", found.right);
+    report.push(file);
+    report.push(": ");
+    report.shown(&found.right);
+    report.push(" right");
     if found.wrong > 0 {
-        say!(report, ", {} wrong", found.wrong);
+        report.push(", ");
+        report.shown(&found.wrong);
+        report.push(" wrong");
     }
     if found.is_faults {
-        say!(report, ", {} requests refused", found.requests);
+        report.push(", ");
+        report.shown(&found.requests);
+        report.push(" requests refused");
     }
     report.push("\n");
 }

@@ -3,17 +3,18 @@
 //! In `<<COUNT|BETWEEN|TEXT>>` each `%` of the text is the number of the repetition, from 0 on; and in `<<FIRST..END|BETWEEN|TEXT>>` from
 //! the first one on. `BETWEEN` may be empty, and has no `|`. The text has no `<<` and no `>>`.
 use crate::said::Said;
-use crate::say;
 use crate::texts::split;
 use std::alloc::Global;
 
 /// Says a text with a number in the place of each `%`.
 fn say_numbered(said: &mut Said, text: &str, number: u32) {
-    for (at, part) in text.split('%').enumerate() {
-        if at > 0 {
-            say!(said, "{number}");
+    let (head, rest) = text.split_once('%').unwrap_or((text, ""));
+    said.push(head);
+    if head.len() < text.len() {
+        for part in rest.split('%') {
+            said.shown(&number);
+            said.push(part);
         }
-        said.push(part);
     }
 }
 
@@ -46,10 +47,10 @@ fn say_repeated(said: &mut Said, text: &str) {
 /// The text that one stands for; it is lacking where it is spelled otherwise.
 pub fn expanded(alloc: Global, text: &str) -> Said {
     let mut said = Said::new(alloc);
-    for (at, part) in text.split("<<").enumerate() {
-        if at == 0 {
-            said.push(part);
-        } else {
+    let (head, rest) = text.split_once("<<").unwrap_or((text, ""));
+    said.push(head);
+    if head.len() < text.len() {
+        for part in rest.split("<<") {
             say_repeated(&mut said, part);
         }
     }

@@ -3,7 +3,7 @@ use crate::say;
 use arrow_values::{ArrowError, Field, GeoArrowError};
 use field_lines::field_line;
 use std::alloc::{AllocError, Global};
-use std::fmt::Debug;
+use std::fmt::{Debug, Display};
 use std::mem::forget;
 
 /// A text that remembers whether a part of it is lacking, since it was out of memory or had no answer. So saying cannot fail.
@@ -107,6 +107,11 @@ impl Said {
         self.push(if truth { "true" } else { "false" });
     }
 
+    /// Says a value as it prints itself.
+    pub fn shown<T: Display>(&mut self, value: &T) {
+        say!(self, "{value}");
+    }
+
     /// Says a value by its name.
     pub fn name<T: Debug>(&mut self, value: &T) {
         say!(self, "{value:?}");
@@ -124,7 +129,7 @@ impl Said {
     pub fn refusal(&mut self, error: &ArrowError) {
         match error {
             ArrowError::OutOfMemory => self.fail(),
-            error => say!(self, "{error}"),
+            error => self.shown(error),
         }
     }
 
@@ -132,7 +137,7 @@ impl Said {
     pub fn geoarrow_refusal(&mut self, error: &GeoArrowError) {
         match error {
             GeoArrowError::Arrow(error) => self.refusal(error),
-            error => say!(self, "{error}"),
+            error => self.shown(error),
         }
     }
 

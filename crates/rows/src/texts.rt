@@ -17,6 +17,16 @@ pub fn first_word<'a>(said: &mut Said, text: &'a str) -> (&'a str, &'a str) {
     split(said, text, " ")
 }
 
+/// What is left of a text behind another one, if it begins with that.
+pub fn behind<'a>(text: &'a str, front: &str) -> Option<&'a str> {
+    text.strip_prefix(front)
+}
+
+/// Whether a text is a line of JSON.
+pub fn is_line(text: &str) -> bool {
+    text.starts_with('{')
+}
+
 /// The kind that a text spells, as `Native(Point, Separated, XY)`.
 pub fn kind(said: &mut Said, text: &str) -> Kind {
     let mut name = Said::new(said.alloc);

@@ -6,6 +6,7 @@ mod transforms;
 use geoarrow_meta::DefaultCrsTransform;
 use rows::asked::Asked;
 use rows::compared::{distinct, equal};
+use rows::texts::behind;
 use texts::Spelled;
 pub use texts::say_text;
 use transforms::{OneText, converted};
@@ -17,7 +18,7 @@ pub fn answer(it: &mut Asked<'_>) {
         "extract_wkt" | "extract_projjson" | "_convert_to_wkt" | "_convert_to_projjson" => {
             converted(it, &DefaultCrsTransform {}, it.command)
         }
-        command => match command.strip_prefix("one_text.") {
+        command => match behind(command, "one_text.") {
             Some(call) => converted(it, &OneText {}, call),
             None => read_or_compare(it),
         },

@@ -5,7 +5,6 @@ use arrow_values::{AppendFault, DataType, Field, UnionFields, UnionMode};
 use geoarrow_layout::{alike, append_members, keep_members, parse_geometry};
 use rows::asked::Asked;
 use rows::said::Said;
-use rows::say;
 use rows::texts::halves;
 use std::mem::ManuallyDrop;
 
@@ -32,7 +31,8 @@ fn are_among(members: &UnionFields, first: &UnionFields, second: &UnionFields) -
 /// Says the type ids of members, in order.
 fn say_ids(said: &mut Said, members: &UnionFields) {
     for (id, _) in members.iter() {
-        say!(said, "{id} ");
+        said.shown(&id);
+        said.push(" ");
     }
 }
 
@@ -101,8 +101,10 @@ pub fn joined(it: &mut Asked<'_>) {
 fn say_refused(said: &mut Said, fault: AppendFault, unchanged: bool) {
     match (fault, unchanged) {
         (AppendFault::OutOfMemory, true) => said.fail(),
-        (fault, true) => said.name(&fault),
-        (fault, false) => say!(said, "{fault:?}, and a union is changed"),
+        (fault, _) => said.name(&fault),
+    }
+    if !unchanged {
+        said.push(", and a union is changed");
     }
 }
 

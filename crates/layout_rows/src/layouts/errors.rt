@@ -2,7 +2,6 @@
 use arrow_values::{ArrowError, GeoArrowError};
 use rows::asked::Asked;
 use rows::said::Said;
-use rows::say;
 use std::alloc::AllocError;
 use std::io;
 use std::mem::ManuallyDrop;
@@ -71,7 +70,11 @@ fn into_arrow(it: &mut Asked<'_>) {
     let found = ManuallyDrop::new(error.into_arrow_error(it.alloc));
     it.after();
     match &*found {
-        Ok(error) => say!(it.said, "{}: {error}", variant_of(error)),
+        Ok(error) => {
+            it.said.push(variant_of(error));
+            it.said.push(": ");
+            it.said.shown(error);
+        }
         Err(AllocError) => it.said.fail(),
     }
 }
@@ -81,11 +84,11 @@ pub fn answer(it: &mut Asked<'_>) {
     match it.command {
         "GeoArrowError" => {
             let error = ManuallyDrop::new(geoarrow_error(&mut it.said, it.text));
-            say!(it.said, "{}", *error);
+            it.said.shown(&*error);
         }
         "ArrowError" => {
             let error = ManuallyDrop::new(arrow_error(&mut it.said, it.text));
-            say!(it.said, "{}", *error);
+            it.said.shown(&*error);
         }
         _ => into_arrow(it),
     }

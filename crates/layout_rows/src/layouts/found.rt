@@ -4,7 +4,6 @@ use arrow_values::DataType;
 use geoarrow_layout::{ExtensionName, child_field, find_fault};
 use rows::asked::Asked;
 use rows::said::Said;
-use rows::say;
 use rows::texts::first_word;
 use std::alloc::AllocError;
 
@@ -32,7 +31,10 @@ fn say_path(said: &mut Said, path: &[usize], tree: &DataType) {
     };
     match child_field(tree, *place) {
         Some(field) => {
-            say!(said, " > {place}:{}", field.name());
+            said.push(" > ");
+            said.shown(place);
+            said.push(":");
+            said.push(field.name());
             say_path(said, rest, field.data_type());
         }
         None => said.fail(),

@@ -10,7 +10,6 @@ use geoarrow_layout::{
 };
 use rows::asked::Asked;
 use rows::said::Said;
-use rows::say;
 use rows::texts::{first_word, halves};
 use std::fmt::Debug;
 
@@ -28,7 +27,11 @@ type Pair = Result<(CoordType, Dimension), LayoutFault>;
 /// Says what it answers.
 fn say_pair(said: &mut Said, answer: Pair) {
     match answer {
-        Ok((coord_type, dimension)) => say!(said, "{coord_type:?} {dimension:?}"),
+        Ok((coord_type, dimension)) => {
+            said.name(&coord_type);
+            said.push(" ");
+            said.name(&dimension);
+        }
         Err(fault) => said.name(&fault),
     }
 }

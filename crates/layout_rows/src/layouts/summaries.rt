@@ -1,7 +1,6 @@
 //! Summaries in words, as `2 LargeList Struct 2 all Float64 x y`.
 use geoarrow_layout::{Bottom, Dimension, Summary};
 use rows::said::Said;
-use rows::say;
 
 /// The names that a layout goes by, each with its bit, and what stands for any other.
 const NAMES: [(u64, &str); 9] = [
@@ -36,16 +35,18 @@ fn set(said: &mut Said, bits: u64, words: &[(u64, &str)]) {
 fn numbers(said: &mut Said, bits: u64) {
     for number in 0..64u32 {
         if bits >> number & 1 != 0 {
-            say!(said, " {number}");
+            said.push(" ");
+            said.shown(&number);
         }
     }
 }
 
 /// Says the dimension that the inner field of a fixed size list names.
 fn named(said: &mut Said, named: Option<Dimension>) {
+    said.push("FixedSizeList ");
     match named {
-        Some(named) => say!(said, "FixedSizeList {named}"),
-        None => said.push("FixedSizeList -"),
+        Some(named) => said.shown(&named),
+        None => said.push("-"),
     }
 }
 
@@ -58,14 +59,20 @@ fn bottom(said: &mut Said, bottom: Bottom) {
             float64,
         } => {
             named(said, dimension);
-            say!(said, " {size} {float64}");
+            said.push(" ");
+            said.shown(&size);
+            said.push(" ");
+            said.truth(float64);
         }
         Bottom::Struct {
             count,
             names,
             all_float64,
         } => {
-            say!(said, "Struct {count} {all_float64}");
+            said.push("Struct ");
+            said.shown(&count);
+            said.push(" ");
+            said.truth(all_float64);
             set(said, u64::from(names), &NAMES);
         }
         Bottom::Union {
@@ -76,7 +83,8 @@ fn bottom(said: &mut Said, bottom: Bottom) {
             mixed_fault,
             geometry_fault,
         } => {
-            say!(said, "Union {no_members}");
+            said.push("Union ");
+            said.truth(no_members);
             numbers(said, ids);
             set(said, u64::from(coord_types), &COORD_TYPES);
             set(said, u64::from(dimensions), &DIMENSIONS);
@@ -93,9 +101,12 @@ fn bottom(said: &mut Said, bottom: Bottom) {
 
 /// Says the levels of a summary, their width, and what stands below them.
 pub fn say_summary(said: &mut Said, summary: Summary) {
+    said.shown(&summary.levels);
+    said.push(" ");
     match summary.width {
-        Some(width) => say!(said, "{} {width:?} ", summary.levels),
-        None => say!(said, "{} - ", summary.levels),
+        Some(width) => said.name(&width),
+        None => said.push("-"),
     }
+    said.push(" ");
     bottom(said, summary.bottom);
 }

@@ -3,27 +3,33 @@ use arrow_values::Dimensions;
 use geoarrow_layout::{CoordType, Dimension, ExtensionName, LayoutFault};
 use rows::asked::Asked;
 use rows::said::Said;
-use rows::{say, texts};
+use rows::texts;
 use std::mem::ManuallyDrop;
 
 /// Says the extension name, the coordinate type and the dimension of a kind.
 pub fn parts(it: &mut Asked<'_>) {
     let kind = texts::kind(&mut it.said, it.text);
     it.said.push(kind.name());
+    it.said.push(" ");
     match kind.coord_type() {
-        Some(coord_type) => say!(it.said, " {coord_type:?}"),
-        None => it.said.push(" -"),
+        Some(coord_type) => it.said.name(&coord_type),
+        None => it.said.push("-"),
     }
+    it.said.push(" ");
     match kind.dimension() {
-        Some(dimension) => say!(it.said, " {dimension}"),
-        None => it.said.push(" -"),
+        Some(dimension) => it.said.shown(&dimension),
+        None => it.said.push("-"),
     }
 }
 
 /// Says the extension name of a text, and its text; or the coordinate type where none is said.
 pub fn name(it: &mut Asked<'_>) {
     match (it.command, ExtensionName::from_text(it.text)) {
-        ("name", Some(name)) => say!(it.said, "{name:?} {}", name.as_text()),
+        ("name", Some(name)) => {
+            it.said.name(&name);
+            it.said.push(" ");
+            it.said.push(name.as_text());
+        }
         ("name", None) => it.said.push("none"),
         _ if it.text == "CoordType" => it.said.name(&CoordType::default()),
         _ => it.said.fail(),
@@ -34,11 +40,15 @@ pub fn name(it: &mut Asked<'_>) {
 pub fn dimensions(it: &mut Asked<'_>) {
     let dimension = texts::dimension(&mut it.said, it.text);
     let dimensions = Dimensions::from(dimension);
-    let (size, order, theirs) = (dimension.size(), dimension.order(), dimensions.size());
-    say!(
-        it.said,
-        "{dimension} {size} {order} {dimensions:?} {theirs}"
-    );
+    it.said.shown(&dimension);
+    it.said.push(" ");
+    it.said.shown(&dimension.size());
+    it.said.push(" ");
+    it.said.shown(&dimension.order());
+    it.said.push(" ");
+    it.said.name(&dimensions);
+    it.said.push(" ");
+    it.said.shown(&dimensions.size());
 }
 
 /// Geometry traits' dimensions of a name, or of a number of no known meaning.
@@ -59,7 +69,7 @@ pub fn dimension(it: &mut Asked<'_>) {
     let found = ManuallyDrop::new(Dimension::try_from_dimensions(it.alloc, dimensions));
     it.after();
     match &*found {
-        Ok(dimension) => say!(it.said, "{dimension}"),
+        Ok(dimension) => it.said.shown(dimension),
         Err(error) => it.said.geoarrow_refusal(error),
     }
 }

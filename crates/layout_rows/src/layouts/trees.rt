@@ -7,12 +7,12 @@ use arrow_values::{DataType, UnionFields, UnionMode};
 use geoarrow_layout::{kind_data_type, mixed_data_type};
 use rows::notation::{self, made, no_members};
 use rows::said::Said;
-use rows::texts::{coord_type, dimension, first_word, kind};
+use rows::texts::{behind, coord_type, dimension, first_word, kind};
 use std::mem::ManuallyDrop;
 
 /// The data type that a text spells.
 pub fn data_type(said: &mut Said, text: &str) -> ManuallyDrop<DataType> {
-    if !text.starts_with("sparse ") {
+    if behind(text, "sparse ").is_none() {
         return dense(said, text);
     }
     let members = ManuallyDrop::into_inner(members(said, text));
@@ -21,12 +21,12 @@ pub fn data_type(said: &mut Said, text: &str) -> ManuallyDrop<DataType> {
 
 /// The data type of a text without `sparse`.
 fn dense(said: &mut Said, text: &str) -> ManuallyDrop<DataType> {
-    if let Some(name) = text.strip_prefix("written ") {
+    if let Some(name) = behind(text, "written ") {
         let kind = kind(said, name);
         let built = kind_data_type(said.alloc, kind);
         return made(said, built);
     }
-    if let Some(rest) = text.strip_prefix("mixed ") {
+    if let Some(rest) = behind(text, "mixed ") {
         let (first, second) = first_word(said, rest);
         let (first, second) = (coord_type(said, first), dimension(said, second));
         let built = mixed_data_type(said.alloc, first, second);
@@ -37,7 +37,7 @@ fn dense(said: &mut Said, text: &str) -> ManuallyDrop<DataType> {
 
 /// The members of the union that a text spells.
 pub fn members(said: &mut Said, text: &str) -> ManuallyDrop<UnionFields> {
-    let text = text.strip_prefix("sparse ").unwrap_or(text);
+    let text = behind(text, "sparse ").unwrap_or(text);
     ManuallyDrop::new(match ManuallyDrop::into_inner(dense(said, text)) {
         DataType::Union(members, _) => members,
         _ => no_members(said),

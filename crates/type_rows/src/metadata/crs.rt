@@ -2,7 +2,6 @@
 use crate::metadata::texts::{json, say_crs, say_text};
 use geoarrow_meta::{Crs, CrsType, Edges, Metadata};
 use rows::asked::Asked;
-use rows::say;
 use std::alloc::Global;
 use std::mem::ManuallyDrop;
 
@@ -27,7 +26,11 @@ pub fn answer(it: &mut Asked<'_>) {
 fn say_edges(it: &mut Asked<'_>) {
     it.before();
     match Edges::from_text(it.text) {
-        Some(edges) => say!(it.said, "{edges:?} {}", edges.as_text()),
+        Some(edges) => {
+            it.said.name(&edges);
+            it.said.push(" ");
+            it.said.push(edges.as_text());
+        }
         None => it.said.push("-"),
     }
     it.after();
@@ -37,7 +40,11 @@ fn say_edges(it: &mut Asked<'_>) {
 fn say_crs_type(it: &mut Asked<'_>) {
     it.before();
     match CrsType::from_text(it.text) {
-        Some(crs_type) => say!(it.said, "{crs_type:?} {}", crs_type.as_text()),
+        Some(crs_type) => {
+            it.said.name(&crs_type);
+            it.said.push(" ");
+            it.said.push(crs_type.as_text());
+        }
         None => it.said.push("-"),
     }
     it.after();

@@ -5,7 +5,6 @@ use geoarrow_meta::{Crs, Metadata};
 use rows::asked::Asked;
 use rows::compared::{Compared, is_same_hashed};
 use rows::said::Said;
-use rows::say;
 use rows::texts::halves;
 use serde_json::Value;
 use std::alloc::AllocError;
@@ -13,10 +12,12 @@ use std::mem::ManuallyDrop;
 
 /// Says the parts of a CRS: its value as JSON, and the text of its type, each `-` where there is none.
 pub fn say_crs(said: &mut Said, crs: &Crs) {
+    said.push("crs ");
     match crs.crs_value() {
-        Some(value) => say!(said, "crs {value} type "),
-        None => said.push("crs - type "),
+        Some(value) => said.shown(value),
+        None => said.push("-"),
     }
+    said.push(" type ");
     match crs.crs_type() {
         Some(crs_type) => said.push(crs_type.as_text()),
         None => said.push("-"),
@@ -109,7 +110,7 @@ fn say_value(it: &mut Asked<'_>, metadata: &Metadata) {
     let value = metadata.to_value(it.alloc);
     it.after();
     match value {
-        Ok(Some(value)) => say!(it.said, "{value}"),
+        Ok(Some(value)) => it.said.shown(&value),
         Ok(None) => it.said.push("-"),
         Err(AllocError) => it.said.fail(),
     }

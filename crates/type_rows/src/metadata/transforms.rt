@@ -4,7 +4,6 @@ use arrow_values::{GeoArrowError, GeoArrowResult};
 use geoarrow_meta::{Crs, CrsTransform};
 use rows::asked::Asked;
 use rows::said::Said;
-use rows::say;
 use serde_json::Value;
 use std::alloc::Global;
 use std::fmt::Display;
@@ -32,7 +31,7 @@ impl CrsTransform for OneText {
 /// Says the text or the PROJJSON value that a CRS is converted to, `-` for none, or what the refusal prints.
 fn say_converted<T: Display>(said: &mut Said, found: &GeoArrowResult<Option<T>>) {
     match found {
-        Ok(Some(found)) => say!(said, "{found}"),
+        Ok(Some(found)) => said.shown(found),
         Ok(None) => said.push("-"),
         Err(error) => said.geoarrow_refusal(error),
     }

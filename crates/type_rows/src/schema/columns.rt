@@ -1,12 +1,13 @@
 //! Fields that are read, and types that are written.
+use crate::schema::each::used;
 use crate::schema::spelled::{field_of, tree_of};
 use crate::schema::words::{say_error, say_type};
-use arrow_values::{ArrowError, DataType, Field};
+use arrow_values::Field;
+use geoarrow_native::{ColumnType, KindEncoding};
 use geoarrow_schema::GeoArrowType;
 use geoarrow_schema::error::GeoArrowResult;
 use rows::asked::Asked;
 use rows::said::Said;
-use rows::say;
 use rows::texts::{first_word, halves};
 use std::alloc::{AllocError, Global};
 use std::mem::ManuallyDrop;
@@ -45,8 +46,10 @@ fn say_otherwise(said: &mut Said, field: &Field) {
     if second.is_lacking || third.is_lacking {
         said.fail();
     } else if second.text != said.text || third.text != said.text {
-        let (second, third) = (second.text, third.text);
-        say!(said, " / {second} / {third}");
+        said.push(" / ");
+        said.push(second.text.as_str());
+        said.push(" / ");
+        said.push(third.text.as_str());
     }
 }
 
@@ -103,19 +106,26 @@ pub fn with_extension_texts(it: &mut Asked<'_>) {
 /// Says the line of the field of a type, which has that name and may be null where `?` stands after that; and of what the
 /// type's own call writes, if that is another.
 pub fn to_field(it: &mut Asked<'_>, one: &GeoArrowType, named: &str) {
-    let name = named.strip_suffix('?').unwrap_or(named);
-    let nullable = named.ends_with('?');
+    let (name, nullable) = name_of(named);
     let written = ManuallyDrop::new(one.to_field(it.alloc, name, nullable));
     it.said.line_or_refusal(&written);
-    if let Some(own) = &*ManuallyDrop::new(own_field(it.alloc, one, name, nullable)) {
-        say_own(it, own);
+    used(it, one, named);
+}
+
+/// The name of a field, and whether it may be null.
+fn name_of(named: &str) -> (&str, bool) {
+    match named.strip_suffix('?') {
+        Some(name) => (name, true),
+        None => (named, false),
     }
 }
 
 /// Says the line of the field that the type's own call writes, if that is another than what is said.
-fn say_own(it: &mut Asked<'_>, own: &Result<Field, ArrowError>) {
-    let mut said = Said::new(it.alloc);
-    said.line_or_refusal(own);
+pub fn own_field<E: KindEncoding>(it: &mut Asked<'_>, own: &ColumnType<E>, named: &str) {
+    let (name, nullable) = name_of(named);
+    let written = ManuallyDrop::new(own.to_field(it.alloc, name, nullable));
+    let mut said = ManuallyDrop::new(Said::new(it.alloc));
+    said.line_or_refusal(&written);
     if said.is_lacking {
         it.said.fail();
     } else if said.text != it.said.text {
@@ -124,57 +134,30 @@ fn say_own(it: &mut Asked<'_>, own: &Result<Field, ArrowError>) {
     }
 }
 
-/// The field that the type in a variant writes by itself; none where it has no such call.
-fn own_field(
-    alloc: Global,
-    one: &GeoArrowType,
-    name: &str,
-    nullable: bool,
-) -> Option<Result<Field, ArrowError>> {
-    Some(match one {
-        GeoArrowType::Point(own) => own.to_field(alloc, name, nullable),
-        GeoArrowType::LineString(own) => own.to_field(alloc, name, nullable),
-        GeoArrowType::Polygon(own) => own.to_field(alloc, name, nullable),
-        GeoArrowType::MultiPoint(own) => own.to_field(alloc, name, nullable),
-        GeoArrowType::MultiLineString(own) => own.to_field(alloc, name, nullable),
-        GeoArrowType::MultiPolygon(own) => own.to_field(alloc, name, nullable),
-        GeoArrowType::GeometryCollection(own) => own.to_field(alloc, name, nullable),
-        GeoArrowType::Rect(own) => own.to_field(alloc, name, nullable),
-        GeoArrowType::Geometry(own) => own.to_field(alloc, name, nullable),
-        _ => return None,
-    })
-}
-
 /// Says whether a data type is the one of a type by its own call, if it has one, by `to_data_type` and by `into_data_type`.
-pub fn data_type(it: &mut Asked<'_>, one: ManuallyDrop<GeoArrowType>, tree: &str) {
-    let tree = tree_of(&mut it.said, tree);
-    match &*ManuallyDrop::new(own_data_type(it.alloc, &one)) {
-        Some(Ok(own)) => it.said.truth(*own == *tree),
-        Some(Err(AllocError)) => it.said.fail(),
-        None => it.said.push("-"),
-    }
+pub fn data_type(it: &mut Asked<'_>, one: ManuallyDrop<GeoArrowType>, text: &str) {
+    used(it, &one, text);
+    let tree = tree_of(&mut it.said, text);
     it.before();
     let to = one.to_data_type(it.alloc);
     let into = ManuallyDrop::into_inner(one).into_data_type(it.alloc);
     it.after();
     match &*ManuallyDrop::new((to, into)) {
-        (Ok(to), Ok(into)) => say!(it.said, " {} {}", *to == *tree, *into == *tree),
+        (Ok(to), Ok(into)) => {
+            it.said.push(" ");
+            it.said.truth(*to == *tree);
+            it.said.push(" ");
+            it.said.truth(*into == *tree);
+        }
         _ => it.said.fail(),
     }
 }
 
-/// The data type that the type in a variant has by itself; none where it has no such call.
-fn own_data_type(alloc: Global, one: &GeoArrowType) -> Option<Result<DataType, AllocError>> {
-    Some(match one {
-        GeoArrowType::Point(own) => own.data_type(alloc),
-        GeoArrowType::LineString(own) => own.data_type(alloc),
-        GeoArrowType::Polygon(own) => own.data_type(alloc),
-        GeoArrowType::MultiPoint(own) => own.data_type(alloc),
-        GeoArrowType::MultiLineString(own) => own.data_type(alloc),
-        GeoArrowType::MultiPolygon(own) => own.data_type(alloc),
-        GeoArrowType::GeometryCollection(own) => own.data_type(alloc),
-        GeoArrowType::Rect(own) => own.data_type(alloc),
-        GeoArrowType::Geometry(own) => own.data_type(alloc),
-        _ => return None,
-    })
+/// Says whether a data type is the one of a type by its own call.
+pub fn own_data_type<E: KindEncoding>(it: &mut Asked<'_>, own: &ColumnType<E>, text: &str) {
+    let tree = tree_of(&mut it.said, text);
+    match &*ManuallyDrop::new(own.data_type(it.alloc)) {
+        Ok(own) => it.said.truth(*own == *tree),
+        Err(AllocError) => it.said.fail(),
+    }
 }

@@ -1,8 +1,10 @@
 //! The calls that each of the eleven types has by itself.
 use crate::metadata::say_text;
+use crate::schema::columns::{own_data_type, own_field};
 use crate::schema::spelled::{field_of, tree_of};
 use crate::schema::words::{dimension_word, say_type};
 use arrow_values::{ArrowError, DataType, ExtensionType, Field};
+use geoarrow_native::{ColumnType, KindEncoding};
 use geoarrow_schema::generic::{Encoding, SerializedType, Wkb, Wkt};
 use geoarrow_schema::type_id::GeometryTypeId;
 use geoarrow_schema::{
@@ -12,7 +14,6 @@ use geoarrow_schema::{
 use rows::asked::Asked;
 use rows::notation::new_field;
 use rows::said::Said;
-use rows::say;
 use rows::texts::first_word;
 use std::mem::ManuallyDrop;
 use std::sync::Arc;
@@ -87,43 +88,65 @@ fn used_over(it: &mut Asked<'_>, text: &str) -> ManuallyDrop<Field> {
     }
 }
 
-/// Says what comes of the use of a type, over the data type or the field that stands after it.
+/// Says what comes of the use of a type by calls of its own, over what stands after it: a data type, a field or a field's name.
 pub fn used(it: &mut Asked<'_>, one: &GeoArrowType, text: &str) {
-    let mut field = used_over(it, text);
     match one {
-        GeoArrowType::Point(own) => use_of(it, own, &mut field),
-        GeoArrowType::LineString(own) => use_of(it, own, &mut field),
-        GeoArrowType::Polygon(own) => use_of(it, own, &mut field),
-        GeoArrowType::MultiPoint(own) => use_of(it, own, &mut field),
-        GeoArrowType::MultiLineString(own) => use_of(it, own, &mut field),
-        GeoArrowType::MultiPolygon(own) => use_of(it, own, &mut field),
-        GeoArrowType::GeometryCollection(own) => use_of(it, own, &mut field),
-        GeoArrowType::Rect(own) => use_of(it, own, &mut field),
-        GeoArrowType::Geometry(own) => use_of(it, own, &mut field),
+        GeoArrowType::Point(own) => use_of_kind(it, own, text),
+        GeoArrowType::LineString(own) => use_of_kind(it, own, text),
+        GeoArrowType::Polygon(own) => use_of_kind(it, own, text),
+        GeoArrowType::MultiPoint(own) => use_of_kind(it, own, text),
+        GeoArrowType::MultiLineString(own) => use_of_kind(it, own, text),
+        GeoArrowType::MultiPolygon(own) => use_of_kind(it, own, text),
+        GeoArrowType::GeometryCollection(own) => use_of_kind(it, own, text),
+        GeoArrowType::Rect(own) => use_of_kind(it, own, text),
+        GeoArrowType::Geometry(own) => use_of_kind(it, own, text),
         GeoArrowType::Wkb(own) | GeoArrowType::LargeWkb(own) | GeoArrowType::WkbView(own) => {
-            use_of(it, own, &mut field);
+            use_of_bytes(it, own, text);
         }
         GeoArrowType::Wkt(own) | GeoArrowType::LargeWkt(own) | GeoArrowType::WktView(own) => {
-            use_of(it, own, &mut field);
+            use_of_bytes(it, own, text);
         }
+    }
+}
+
+/// Says how a type with a kind of its own is used.
+fn use_of_kind<E: KindEncoding>(it: &mut Asked<'_>, own: &ColumnType<E>, text: &str) {
+    match it.command {
+        "to_field" => own_field(it, own, text),
+        "data_type" => own_data_type(it, own, text),
+        _ => use_of(it, own, text),
+    }
+}
+
+/// Says how well-known binary or text is used, which has neither a field nor a data type by a call of its own.
+fn use_of_bytes<E: Encoding>(it: &mut Asked<'_>, own: &SerializedType<E>, text: &str) {
+    match it.command {
+        "to_field" => {}
+        "data_type" => it.said.push("-"),
+        _ => use_of(it, own, text),
     }
 }
 
 /// Says how a type is used: asked whether it supports a data type, written on a field by `try_with_extension_type`, or by
 /// `with_extension_type` on a field that can carry it, asked for its metadata's text, or for its name, by its constant and by its
 /// call.
-fn use_of<E: ExtensionType>(it: &mut Asked<'_>, own: &E, field: &mut Field) {
+fn use_of<E: ExtensionType>(it: &mut Asked<'_>, own: &E, text: &str) {
+    let mut field = used_over(it, text);
     match it.command {
         "supports_data_type" => supports(it, own, field.data_type()),
-        "try_with_extension_type" => write_on(it, own, field),
-        "with_extension_type" => carry(it, own, field),
+        "try_with_extension_type" => write_on(it, own, &mut field),
+        "with_extension_type" => carry(it, own, &field),
         "serialize_metadata" => {
             it.before();
             let text = own.serialize_metadata(it.alloc);
             it.after();
             say_text(&mut it.said, &text);
         }
-        _ => say!(it.said, "{} {}", E::NAME, E::extension_name()),
+        _ => {
+            it.said.push(E::NAME);
+            it.said.push(" ");
+            it.said.push(E::extension_name());
+        }
     }
 }
 
@@ -184,10 +207,9 @@ pub fn geometry_type_id(it: &mut Asked<'_>, one: &GeoArrowType) {
 
 /// Says the type id, the offset and the dimension of a type that has them.
 fn say_type_id<T: GeometryTypeId>(said: &mut Said, own: &T) {
-    let (id, offset) = (own.geometry_type_id(), T::GEOMETRY_TYPE_OFFSET);
-    say!(
-        said,
-        "{id} {offset} {}",
-        dimension_word(Some(own.dimension()))
-    );
+    said.shown(&own.geometry_type_id());
+    said.push(" ");
+    said.shown(&T::GEOMETRY_TYPE_OFFSET);
+    said.push(" ");
+    said.push(dimension_word(Some(own.dimension())));
 }

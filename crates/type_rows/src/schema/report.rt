@@ -6,7 +6,6 @@ use geoarrow_columns::{Column, check_columns};
 use geoarrow_schema::Metadata;
 use rows::asked::Asked;
 use rows::said::Said;
-use rows::say;
 use std::alloc::AllocError;
 use std::mem::ManuallyDrop;
 
@@ -34,7 +33,10 @@ fn say_column(said: &mut Said, column: &Column) {
             say_type(said, found);
         }
         Column::Other => said.push("; other"),
-        Column::Faulty(fault) => say!(said, "; faulty {fault:?}"),
+        Column::Faulty(fault) => {
+            said.push("; faulty ");
+            said.name(fault);
+        }
     }
 }
 
@@ -42,7 +44,8 @@ fn say_column(said: &mut Said, column: &Column) {
 fn say_columns(said: &mut Said, checked: &Result<Vec<Column>, AllocError>) {
     match checked {
         Ok(columns) => {
-            say!(said, "{} columns", columns.len());
+            said.shown(&columns.len());
+            said.push(" columns");
             for column in columns.iter() {
                 say_column(said, column);
             }

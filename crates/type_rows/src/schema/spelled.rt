@@ -4,14 +4,14 @@ use arrow_values::{DataType, EXTENSION_TYPE_METADATA_KEY, EXTENSION_TYPE_NAME_KE
 use geoarrow_schema::{GeoArrowType, Kind, Metadata};
 use rows::notation::{column, data_type, field, made};
 use rows::said::Said;
-use rows::texts::{first_word, halves};
+use rows::texts::{first_word, halves, is_line};
 use std::mem::ManuallyDrop;
 use std::sync::Arc;
 
 /// A field that may be null, spelled `NAME METADATA | TYPE`, where the name `-` stands for none, no metadata text need be
 /// there, and `(empty)` is the empty one; or spelled as a line of JSON.
 pub fn field_of(said: &mut Said, text: &str) -> ManuallyDrop<Field> {
-    if text.starts_with('{') {
+    if is_line(text) {
         return field(said, text);
     }
     let (texts, tree) = halves(said, text);
@@ -30,7 +30,7 @@ pub fn field_of(said: &mut Said, text: &str) -> ManuallyDrop<Field> {
 
 /// A data type in the notation, or that of a field that is spelled as a line of JSON.
 pub fn tree_of(said: &mut Said, text: &str) -> ManuallyDrop<DataType> {
-    if !text.starts_with('{') {
+    if !is_line(text) {
         return data_type(said, text);
     }
     let field = field(said, text);

@@ -2,7 +2,6 @@
 use arrow_values::{ArrowError, GeoArrowError};
 use geoarrow_schema::{CoordType, Dimension, GeoArrowType, Kind, Metadata, NativeKind, Width};
 use rows::said::Said;
-use rows::say;
 
 /// Says a type: its kind, coordinate type, dimension and metadata. It says all that there is of it.
 pub fn say_type(said: &mut Said, found: &GeoArrowType) {
@@ -20,7 +19,10 @@ pub fn say_metadata(said: &mut Said, metadata: &Metadata) {
     match (metadata.serialize(said.alloc), metadata.crs().crs_type()) {
         (Ok(Some(text)), _) => said.push(text.as_str()),
         (Ok(None), None) => said.push("-"),
-        (Ok(None), Some(lone)) => say!(said, "- {}", lone.as_text()),
+        (Ok(None), Some(lone)) => {
+            said.push("- ");
+            said.push(lone.as_text());
+        }
         (Err(error), _) => said.refusal(&error),
     }
 }
@@ -33,7 +35,9 @@ pub fn say_error(said: &mut Said, error: &GeoArrowError) {
         GeoArrowError::InvalidGeoArrow(_) => "InvalidGeoArrow",
         _ => "another variant",
     };
-    say!(said, "{variant}: {error}");
+    said.push(variant);
+    said.push(": ");
+    said.shown(error);
 }
 
 /// The word of a kind.
