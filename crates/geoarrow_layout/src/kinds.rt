@@ -47,15 +47,38 @@ impl Default for CoordType {
 macro_rules! by_dimension {
     ($dimension:expr; $xy:expr, $xyz:expr, $xym:expr, $xyzm:expr) => {
         match $dimension {
-            XY => $xy,
-            XYZ => $xyz,
-            XYM => $xym,
-            XYZM => $xyzm,
+            Dimension::XY => $xy,
+            Dimension::XYZ => $xyz,
+            Dimension::XYM => $xym,
+            Dimension::XYZM => $xyzm,
         }
     };
 }
 
 pub(crate) use by_dimension;
+
+/// What a macro makes of the four dimensions, in their order, and of what else it is given.
+macro_rules! of_dimensions {
+    ($made:ident; $($rest:tt)*) => {
+        $made!(Dimension::XY, Dimension::XYZ, Dimension::XYM, Dimension::XYZM; $($rest)*)
+    };
+}
+
+pub(crate) use of_dimensions;
+
+/// The dimension that a number says: the least with `$least`, the greatest with `$greatest`, and otherwise as the arms
+/// that follow say.
+macro_rules! dimension_of_number {
+    ($found:ident, $number:expr; $least:literal, $greatest:literal; $($arms:tt)*) => {
+        match $number {
+            $least => $found(Dimension::XY),
+            $greatest => $found(Dimension::XYZM),
+            $($arms)*
+        }
+    };
+}
+
+pub(crate) use dimension_of_number;
 
 /// The dimension of which such a table says a value, if there is one.
 macro_rules! dimension_with {

@@ -8,7 +8,9 @@ ghost use Rattle.geoarrow_layout.specs.declared.names.ExtensionName.TheVariants 
 
 use crate::encodings::{Kind, NativeKind, Width, list_names, parts_of_id};
 use crate::fault::LayoutFault;
-use crate::kinds::{CoordType, Coordinate, Dimension, list_size, only_dimension};
+use crate::kinds::{
+    CoordType, Coordinate, Dimension, dimension_of_number, list_size, only_dimension,
+};
 use crate::names::{Candidates, ExtensionName};
 use crate::summary::{Bottom, Summary, has_known, is_float64, struct_bottom, summarize};
 use arrow_values::{DataType, Field};
@@ -213,8 +215,8 @@ fn kind_under(name: ExtensionName, summary: &Summary) -> Result<Kind, LayoutFaul
 /// "Extension types"). Allocates nothing.
 ///
 /// ```rust
-/// let point = coord_data_type(alloc, CoordType::Separated, Dimension::XYZM)?;
-/// assert_eq!(rt; candidates(&point), Candidates::PointOrBox);
+/// let bounds = box_data_type(alloc, Dimension::XY)?;
+/// assert_eq!(rt; candidates(&bounds), Candidates::PointOrBox);
 /// ```
 pub fn candidates(data_type: &DataType) -> Candidates
     ensures { (n : Text) → Holds result n ↔ IsAccepted n (tree data_type.now) }
@@ -299,13 +301,11 @@ fn sized_dimension(inner: &Field, size: i32) -> Option<Dimension>
     if !is_float64(inner.data_type()) {
         return None;
     }
-    match size {
-        2 => Some(Dimension::XY),
+    dimension_of_number!(Some, size; 2, 4;
         3 if inner.name() == "xym" => Some(Dimension::XYM),
         3 => Some(Dimension::XYZ),
-        4 => Some(Dimension::XYZM),
         _ => None,
-    }
+    )
 }
 
 /// The dimension that is inferred from a struct of these fields: of two, whatever their names are.
@@ -346,15 +346,13 @@ fn named_dimension_of(fields: &[Field]) -> Option<Dimension>
 fn separated_dimension(count: usize, names: u16) -> Result<Dimension, LayoutFault>
     ensures { (ns : List Text) → count ≡ length ns → IsBits names (λ i. SomeAt i ns) → Tells result (λ d. IsSeparatedAs d ns) (SeparatedFault ns) }
 {
-    match count {
-        2 => Ok(Dimension::XY),
+    dimension_of_number!(Ok, count; 2, 4;
         3 if !has_both(names, 0, 1) => Err(LayoutFault::BadFieldNames),
         3 if has_known(names, 3) => Ok(Dimension::XYM),
         3 if has_known(names, 2) => Ok(Dimension::XYZ),
         3 => Err(LayoutFault::BadFieldNames),
-        4 => Ok(Dimension::XYZM),
         _ => Err(LayoutFault::BadFieldCount),
-    }
+    )
 }
 
 #[tactic(auto, using(crate::proofs::Structs::struct_leaf))]
@@ -481,14 +479,12 @@ fn has_both(bits: u16, place: u8, other: u8) -> bool
 fn box_dimension(count: usize, names: u16) -> Result<Dimension, LayoutFault>
     ensures { (ns : List Text) → count ≡ length ns → IsBits names (λ i. SomeAt i ns) → Tells result (λ d. IsBoxAs d ns) (BoxNamesFault ns) }
 {
-    match count {
-        4 => Ok(Dimension::XY),
+    dimension_of_number!(Ok, count; 4, 8;
         6 if has_both(names, 6, 7) => Ok(Dimension::XYM),
         6 if has_both(names, 4, 5) => Ok(Dimension::XYZ),
         6 => Err(LayoutFault::BadFieldNames),
-        8 => Ok(Dimension::XYZM),
         _ => Err(LayoutFault::BadFieldCount),
-    }
+    )
 }
 
 #[tactic(auto, using(crate::proofs::Structs::root_box, crate::proofs::UnionSteps::at_root))]
