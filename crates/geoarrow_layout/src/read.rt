@@ -186,10 +186,7 @@ impl Summary {
         ensures exact { (t : Tree) → Summarizes self.now t → YieldsKind name.now t result }
         ensures named { IfSome result (λ k. (name.now ≡ name_of k) × IsStructured k) }
     {
-        let Some(known) = ExtensionName::from_text(name) else {
-            return None;
-        };
-        kind_under(known, self).ok()
+        kind_under(ExtensionName::from_text(name)?, self).ok()
     }
 }
 
@@ -419,10 +416,8 @@ fn mixed_bottom(bottom: &Bottom) -> Answer
         return Err(LayoutFault::UnexpectedType);
     };
     let coord_type = one_of_union(*no_members, *mixed_fault, *coord_types)?;
-    match only_dimension(*dimensions) {
-        Some(dimension) => Ok((coord_type, dimension)),
-        None => Err(LayoutFault::SeveralDimensions),
-    }
+    let dimension = only_dimension(*dimensions).ok_or(LayoutFault::SeveralDimensions)?;
+    Ok((coord_type, dimension))
 }
 
 /// A native kind; a collection only where collections are allowed.
