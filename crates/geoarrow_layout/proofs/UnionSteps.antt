@@ -209,10 +209,6 @@ seen_none R F ids coords dims fault no_ids no_coords no_dims no_fault = rw (no_i
   fault_found = tt;
 }
 
-pub has_members : (xs : Items) (empty : Bool) → empty ≡ nat_eq (length xs) 0 → (empty ≡ false) ↔ HasMembers (member_trees xs)
-has_members [] empty h = (λ e. let bad : true ≡ false = sym h ∙ e in cc, λ m. absurd m)
-has_members (y ∷ ys) empty h = (λ e. tt, λ m. let z : nat_eq (suc (length ys)) 0 ≡ false = eqb-suc-zero (length ys) in h ∙ z)
-
 pub fault_next : (R : MemberReads) (F : ℤ → Faults) (fault more : Option LayoutFault) (part : Answer) (xs : Items) (k : ℕ) (x : ℤ × FieldTree) (z : ℤ) → k < length xs → x ≡ get_or xs k x → z ≡ x.0
     → TellsBoth part (R z x.1.tree) (F z x.1.tree) → more ≡ first_fault fault part → IsFaultOf R F fault (member_trees (take k xs)) → IsFaultOf R F more (member_trees (take (k + 1) xs))
 fault_next R F fault more part xs k x z lt at id read next before =

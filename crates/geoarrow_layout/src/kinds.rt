@@ -66,20 +66,6 @@ macro_rules! of_dimensions {
 
 pub(crate) use of_dimensions;
 
-/// The dimension that a number says: the least with `$least`, the greatest with `$greatest`, and otherwise as the arms
-/// that follow say.
-macro_rules! dimension_of_number {
-    ($found:ident, $number:expr; $least:literal, $greatest:literal; $($arms:tt)*) => {
-        match $number {
-            $least => $found(Dimension::XY),
-            $greatest => $found(Dimension::XYZM),
-            $($arms)*
-        }
-    };
-}
-
-pub(crate) use dimension_of_number;
-
 /// The dimension of which such a table says a value, if there is one.
 macro_rules! dimension_with {
     ($value:expr; $xy:literal, $xyz:literal, $xym:literal, $xyzm:literal) => {
@@ -175,6 +161,9 @@ pub(crate) type Coordinate = (CoordType, Dimension);
 
 /// All dimensions, in their order.
 pub(crate) const DIMENSIONS: [Dimension; 4] = [XY, XYZ, XYM, XYZM];
+
+/// The dimension with a height and a measure.
+pub(crate) const WIDEST: Dimension = XYZM;
 
 /// The dimension of that place.
 pub(crate) fn dimension_at(order: u8) -> Option<Dimension>

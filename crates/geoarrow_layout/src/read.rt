@@ -8,9 +8,7 @@ ghost use Rattle.geoarrow_layout.specs.declared.names.ExtensionName.TheVariants 
 
 use crate::encodings::{Kind, NativeKind, Width, list_names, parts_of_id};
 use crate::fault::LayoutFault;
-use crate::kinds::{
-    CoordType, Coordinate, Dimension, dimension_of_number, list_size, only_dimension,
-};
+use crate::kinds::{CoordType, Coordinate, Dimension, WIDEST, list_size, only_dimension};
 use crate::names::{Candidates, ExtensionName};
 use crate::summary::{Bottom, Summary, has_known, is_float64, struct_bottom, summarize};
 use arrow_values::{DataType, Field};
@@ -295,14 +293,14 @@ pub fn infer_point(data_type: &DataType) -> Option<(CoordType, Dimension)>
 fn sized_dimension(inner: &Field, size: i32) -> Option<Dimension>
     ensures { (d : Dimension) → (result ≡ Some d) ↔ ((is_float64 inner.now.tree ≡ true) × IsInferredSize d inner.now.name size) }
 {
-    if !is_float64(inner.data_type()) {
-        return None;
-    }
-    dimension_of_number!(Some, size; 2, 4;
+    match size {
+        _ if !is_float64(inner.data_type()) => None,
+        2 => Some(Dimension::XY),
         3 if inner.name() == "xym" => Some(Dimension::XYM),
         3 => Some(Dimension::XYZ),
+        4 => Some(WIDEST),
         _ => None,
-    )
+    }
 }
 
 /// The dimension that is inferred from a struct of these fields: of two, whatever their names are.
@@ -343,13 +341,15 @@ fn named_dimension_of(fields: &[Field]) -> Option<Dimension>
 fn separated_dimension(count: usize, names: u16) -> Result<Dimension, LayoutFault>
     ensures { (ns : List Text) → count ≡ length ns → IsBits names (λ i. SomeAt i ns) → Tells result (λ d. IsSeparatedAs d ns) (SeparatedFault ns) }
 {
-    dimension_of_number!(Ok, count; 2, 4;
+    match count {
+        2 => Ok(Dimension::XY),
         3 if !has_both(names, 0, 1) => Err(LayoutFault::BadFieldNames),
         3 if has_known(names, 3) => Ok(Dimension::XYM),
         3 if has_known(names, 2) => Ok(Dimension::XYZ),
         3 => Err(LayoutFault::BadFieldNames),
+        4 => Ok(WIDEST),
         _ => Err(LayoutFault::BadFieldCount),
-    )
+    }
 }
 
 #[tactic(auto, using(crate::proofs::Structs::struct_leaf))]
@@ -474,12 +474,14 @@ fn has_both(bits: u16, place: u8, other: u8) -> bool
 fn box_dimension(count: usize, names: u16) -> Result<Dimension, LayoutFault>
     ensures { (ns : List Text) → count ≡ length ns → IsBits names (λ i. SomeAt i ns) → Tells result (λ d. IsBoxAs d ns) (BoxNamesFault ns) }
 {
-    dimension_of_number!(Ok, count; 4, 8;
+    match count {
+        4 => Ok(Dimension::XY),
         6 if has_both(names, 6, 7) => Ok(Dimension::XYM),
         6 if has_both(names, 4, 5) => Ok(Dimension::XYZ),
         6 => Err(LayoutFault::BadFieldNames),
+        8 => Ok(WIDEST),
         _ => Err(LayoutFault::BadFieldCount),
-    )
+    }
 }
 
 #[tactic(auto, using(crate::proofs::Structs::root_box, crate::proofs::UnionSteps::at_root))]

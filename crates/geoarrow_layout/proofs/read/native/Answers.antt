@@ -13,9 +13,6 @@ pub returns-in_err-bottom_below-in-GeometryCollection : goal.returns-in_err-bott
 returns-in_err-bottom_below-in-GeometryCollection c = rw (c.if-collections.true, c.in-GeometryCollection.is) (λ t h. refused_as _ _ _ _ c.from_residual.ensures.1
     (level_fault MixedFault (λ x t b m. ((refl, refl), (refl, refl))) c.args.summary.now 1 _ (omega arith) c.in_err-bottom_below-in-GeometryCollection.ensures t (shows_of_inner _ t h)))
 
-pub returns-in-GeometryCollection-2 : goal.returns-in-GeometryCollection-2
-returns-in-GeometryCollection-2 c = rw (c.if-collections.false, c.in-GeometryCollection.is) (λ t h. ([], (refl, refl)))
-
 pub returns-in_ok-bottom_below-in_default : goal.returns-in_ok-bottom_below-in_default
 returns-in_ok-bottom_below-in_default c = λ t h.
     let below = c.in_ok-bottom_below-in_default.ensures in
