@@ -210,8 +210,8 @@ fn kind_under(name: ExtensionName, summary: &Summary) -> Result<Kind, LayoutFaul
 /// "Extension types"). Allocates nothing.
 ///
 /// ```rust
-/// let bounds = box_data_type(alloc, Dimension::XY)?;
-/// assert_eq!(rt; candidates(&bounds), Candidates::PointOrBox);
+/// let lines = list_data_type(alloc, NativeKind::LineString, CoordType::Separated, Dimension::XYZ)?;
+/// assert_eq!(rt; candidates(&lines), Candidates::LineStringOrMultiPoint);
 /// ```
 pub fn candidates(data_type: &DataType) -> Candidates
     ensures { (n : Text) → Holds result n ↔ IsAccepted n (tree data_type.now) }
