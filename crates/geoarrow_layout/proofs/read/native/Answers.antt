@@ -1,4 +1,4 @@
-use Rattle.geoarrow_layout.proofs.Terms.{[], length, refl, arith, Leaf, Mixed, CoordinateFault, MixedFault, IsNoLeaf, IsNested}
+use Rattle.geoarrow_layout.proofs.Terms.{length, refl, arith, Leaf, Mixed, CoordinateFault, MixedFault, IsNoLeaf, IsNested}
 use Rattle.geoarrow_layout.proofs.Bottoms.{under_same, level_fault}
 use Rattle.geoarrow_layout.proofs.UnionSteps.{over_leaf_answer, nested_mixed, shows_of_inner}
 use Rattle.geoarrow_layout.proofs.Readings.{refused_as}

@@ -1,4 +1,4 @@
-use Rattle.geoarrow_layout.proofs.Terms.{ShowsIn, false, refl, subst, rules, to_z-of_z, Member, MemberFault, member_first}
+use Rattle.geoarrow_layout.proofs.Terms.{ShowsIn, false, subst, rules, to_z-of_z, Member, MemberFault, member_first}
 use Rattle.geoarrow_layout.proofs.FaultLaws.{member_apart}
 use Rattle.geoarrow_layout.proofs.UnionSteps.{seen_more, seen_none}
 use Rattle.geoarrow_layout.proofs.summary.inner_union.Goals as goal
