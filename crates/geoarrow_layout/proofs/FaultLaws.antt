@@ -1,5 +1,5 @@
 -- A data type has one fault at most under a name, and none if it is accepted.
-use Rattle.geoarrow_layout.proofs.Terms.{◌≡◌, ◌≢◌, ◌*◌, Bool, true, false, inl, inr, ℕ, zero, suc, ℤ, pos, List, [], ◌∷◌, length, sym, ap, subst, ◌∙◌, ◌⊎◌, Text, Metadata, Tree, list, large_list, fixed_size_list, struct, union, MemberTrees, no_members, member, CoordType, Interleaved, Separated, Dimension, XY, XYZ, XYM, NativeKind, GeometryCollection, Kind, OfNative, OfGeometry, OfRect, OfWkb, OfWkt, ListWidth, Lists, LargeLists, LayoutFault, UnexpectedType, BadFieldNames, BadTypeId, ExtensionName, size_of, type_id_of, extension_of, names_of, IsSeparatedAs, Leaf, ListsOver, levels_of, OverLeaf, Member, AllMembers, Mixed, Native, GeometryMember, Geometry, IsBoxAs, BoxShape, Accepted, Path, Located, Faults, InItem, CoordinateFault, BoxFault, LevelsFault, Option, None, Some, IsWidth, OverLeafFault, PartFault, FirstFault, UnionFault, MemberFault, MixedFault, NativeFault, GeometryMemberFault, GeometryFault, FaultAt, BadInterleavedName, BadSize, BadFieldCount, MixedWidths, MemberDimension, EmptyUnion, SeveralCoordTypes, SeveralDimensions, ReadsFirst, named_back, dimension_named, over_leaf_first, native_first, order_of, offset_of, arith, refl, ◌+◌, ◌≤◌, Point, NativeIn, NativeFaultIn, MemberIn, MemberFaultIn, Here}
+use Rattle.geoarrow_layout.proofs.Terms.{◌≡◌, ◌≢◌, ◌*◌, Bool, true, false, inl, inr, ℕ, zero, suc, ℤ, pos, List, [], ◌∷◌, length, sym, ap, subst, ◌∙◌, ◌⊎◌, Text, Metadata, Tree, list, large_list, fixed_size_list, struct, union, MemberTrees, no_members, member, CoordType, Interleaved, Separated, Dimension, XY, XYZ, NativeKind, GeometryCollection, Kind, OfNative, OfGeometry, OfRect, OfWkb, OfWkt, ListWidth, Lists, LargeLists, LayoutFault, UnexpectedType, BadFieldNames, BadTypeId, ExtensionName, size_of, type_id_of, extension_of, names_of, IsSeparatedAs, Leaf, ListsOver, levels_of, OverLeaf, Member, AllMembers, Mixed, Native, GeometryMember, Geometry, IsBoxAs, BoxShape, Accepted, Path, Located, Faults, InItem, CoordinateFault, BoxFault, LevelsFault, Option, None, Some, IsWidth, OverLeafFault, PartFault, FirstFault, UnionFault, MemberFault, MixedFault, NativeFault, GeometryMemberFault, GeometryFault, FaultAt, BadInterleavedName, BadSize, BadFieldCount, MixedWidths, MemberDimension, EmptyUnion, SeveralCoordTypes, SeveralDimensions, ReadsFirst, named_back, dimension_named, over_leaf_first, native_first, order_of, offset_of, arith, refl, ◌+◌, ◌≤◌, Point, NativeIn, NativeFaultIn, MemberIn, MemberFaultIn, Here}
 use Rattle.geoarrow_layout.specs.declared.names.ExtensionName.TheVariants as names
 use Rattle.geoarrow_layout.proofs.Readings.{all_map}
 
@@ -41,14 +41,12 @@ box_one (struct fs) = either_one _ _ (λ p q f g h k. here_one BadFieldCount p q
 box_one _ = here_one UnexpectedType
 
 pub separated_length : (ns : List Text) (d : Dimension) → IsSeparatedAs d ns → length ns ≡ size_of d
-separated_length ns XYZ h = h.0
-separated_length ns XYM h = h.0
-separated_length ns _ h = h
+separated_length ns XY h = h
+separated_length ns _ h = search
 
 pub box_length : (ns : List Text) (d : Dimension) → IsBoxAs d ns → length ns ≡ 2 * size_of d
-box_length ns XYZ h = h.0
-box_length ns XYM h = h.0
-box_length ns _ h = h
+box_length ns XY h = h
+box_length ns _ h = search
 
 coordinate_apart : Apart Leaf CoordinateFault
 coordinate_apart (fixed_size_list n t b m z) Interleaved d p f h (inl k) = k.0 d h.0
@@ -234,8 +232,7 @@ pub one_fault : (n : ExtensionName) (t : Tree) → One (FaultAt n t)
 one_fault (names.Native k) t p q f g h e = native_one k t p q f g h e
 one_fault names.Geometry t p q f g h e = geometry_one t p q f g h e
 one_fault names.Rect t p q f g h e = box_one t p q f g h e
-one_fault names.Wkb t p q f g h k = here_one UnexpectedType p q f g h.1 k.1
-one_fault names.Wkt t p q f g h k = here_one UnexpectedType p q f g h.1 k.1
+one_fault _ t p q f g h e = here_one UnexpectedType p q f g h.1 e.1
 
 pub accepted_apart : (k : Kind) (t : Tree) (p : Path) (f : LayoutFault) → Accepted k t → FaultAt (extension_of k) t p f → ⊥
 accepted_apart (OfNative k c d) t p f h e = native_apart k t c d p f h e

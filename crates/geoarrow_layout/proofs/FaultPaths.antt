@@ -73,10 +73,6 @@ native_leads false r k n t before after other same h = subst (λ m. OnOk r (Lead
 
 -- ---- one member
 
-pub unknown_here : (N : KindReads) (F : NativeKind → Faults) (i z : ℤ) (t : Tree) → z ≡ i → IsPartsOf z None → StaysHere (PartFault N F i t)
-unknown_here N F i z t is parts p f (inl h) = h.1.0
-unknown_here N F i z t is parts p f (inr h) = let bad : None ≡ some_parts h.0 h.1 = (parts h.0 h.1).1 (is ∙ h.2) in cc
-
 -- a member that is read as one of its kind has no fault inside, and one that is not has that of its kind
 pub kind_inside : (N : KindReads) (F : NativeKind → Faults) → ApartNative N F → (i z : ℤ) (t : Tree) (k : NativeKind) (d : Dimension) (r : Answer) → z ≡ i → IsPartsOf z (some_parts k d) → TellsBoth r (N t k) (F k t)
     → MatchResult r (λ x. StaysHere (PartFault N F i t)) (λ g. (p : Path) (f : LayoutFault) → PartFault N F i t p f → F k t p f)

@@ -1,16 +1,12 @@
 -- The kind of a name and a tree: there is one at most, and it is what a reader's answer says; the names of a tree: two at most, and which two.
-use Rattle.geoarrow_layout.proofs.Terms.{◌≡◌, ◌≢◌, ◌⊎◌, inl, inr, IfOk, result_ok, Bool, true≢false, IsTrue, is_ok, cond, refl, sym, ap, subst, ◌∙◌, ◌↔◌, IfErr, Option, Some, Result, Ok, Err, bytes_eq, same_Some, Text, Tree, Point, LineString, Polygon, MultiPoint, MultiLineString, MultiPolygon, GeometryCollection, Width, Plain, Large, View, Kind, OfNative, OfGeometry, OfRect, OfWkb, OfWkt, ExtensionName, name_text, extension_of, Native, IsBytes, IsText, Accepted, Accepts, IsStructured, YieldsOne, any_native_same, geometry_same, box_shape_same, LayoutFault, Summary, Summarizes, IsAccepted, Path, HasFault, FaultAt, Tells, YieldsKind, NativeKind, CoordType, Dimension, Mixed, Geometry, BoxShape, NativeFault, MixedFault, GeometryFault, BoxFault, TellsBoth, Yields, coords_in, native_first, mixed_first, ◌≤◌, ℕ, zero, suc, arith, PlainType, binary, large_binary, binary_view, utf8, large_utf8, utf8_view, plain, list, large_list, fixed_size_list, struct, union, Interleaved, Separated, XY, ListWidth, Lists, LargeLists, size_of, names_of, ListsOver, levels_of, Leaf, NoName, Holds, IsStructOfFour, Share}
-use Rattle.geoarrow_layout.specs.Words.{XYZM}
+use Rattle.geoarrow_layout.proofs.Terms.{◌≡◌, ◌≢◌, ◌⊎◌, inl, inr, IfOk, result_ok, Bool, true≢false, IsTrue, is_ok, refl, sym, ap, subst, ◌∙◌, ◌↔◌, IfErr, Option, Some, Result, Ok, Err, bytes_eq, same_Some, Text, Tree, Point, LineString, Polygon, MultiPolygon, GeometryCollection, Width, Plain, Large, View, Kind, OfNative, OfGeometry, OfRect, OfWkb, OfWkt, ExtensionName, name_text, extension_of, Native, IsBytes, IsText, Accepted, Accepts, IsStructured, YieldsOne, any_native_same, geometry_same, box_shape_same, LayoutFault, Summary, Summarizes, IsAccepted, Path, HasFault, FaultAt, Tells, YieldsKind, NativeKind, CoordType, Dimension, Mixed, Geometry, BoxShape, NativeFault, MixedFault, GeometryFault, BoxFault, TellsBoth, Yields, coords_in, native_first, mixed_first, ◌≤◌, ℕ, zero, suc, arith, PlainType, binary, large_binary, binary_view, utf8, large_utf8, utf8_view, plain, list, large_list, fixed_size_list, struct, union, Interleaved, Separated, XY, ListWidth, Lists, LargeLists, size_of, names_of, ListsOver, levels_of, Leaf, NoName, Holds, IsStructOfFour, Share, dimension_sized, false, first_of, second_kind, second_of, KINDS, map, ◌∷◌, ◌++◌, [], name_of}
 use Rattle.geoarrow_layout.specs.declared.names.ExtensionName.TheVariants as names
 use Rattle.geoarrow_layout.proofs.FaultLaws.{accepted_apart, native_apart, mixed_none, geometry_apart, box_apart, separated_length, box_length}
-use Rattle.geoarrow_layout.proofs.Readings.{Answer, exactly, exactly_one, told_fault}
+use Rattle.geoarrow_layout.proofs.Readings.{Answer, exactly, exactly_one, first_with, told_fault}
 
 -- a text says which name it is, so two names of one text are one
 abbrev named : Text → ExtensionName
-named n =
-    let or = λ (a b : ExtensionName). cond (bytes_eq n (name_text a)) a b in
-    or (names.Native Point) (or (names.Native LineString) (or (names.Native Polygon) (or (names.Native MultiPoint) (or (names.Native MultiLineString) (or (names.Native MultiPolygon)
-    (or (names.Native GeometryCollection) (or names.Geometry (or names.Rect (or names.Wkb names.Wkt)))))))))
+named n = first_with (λ a. bytes_eq n (name_text a)) names.Wkt (map (λ k. names.Native k) KINDS ++ (names.Geometry ∷ names.Rect ∷ names.Wkb ∷ []))
 
 named_back : (a : ExtensionName) → named (name_text a) ≡ a
 named_back (names.Native Point) = refl
@@ -99,31 +95,12 @@ pub either : (r : Result Kind LayoutFault) (n : ExtensionName) (t : Tree) → Yi
 either (Ok k) n t a h = inl (k, (a k).0 refl)
 either (Err f) n t a h = inr (h.0, f, h.1)
 
--- what a summary says under each name, it says of all its trees
-abbrev pub Told : Summary → ExtensionName → Type 0
-Told s n = (r : Option Kind) × ((t : Tree) → Summarizes s t → YieldsKind (name_text n) t r)
+-- what a summary says under the name of a kind, it says of all its trees
+abbrev pub Told : Summary → Kind → Type 0
+Told s k = (r : Option Kind) × ((t : Tree) → Summarizes s t → YieldsKind (name_of k) t r)
 
-pub by_name : (P : ExtensionName → Type 0) → P (names.Native Point) → P (names.Native LineString) → P (names.Native Polygon) → P (names.Native MultiPoint) → P (names.Native MultiLineString)
-    → P (names.Native MultiPolygon) → P (names.Native GeometryCollection) → P names.Geometry → P names.Rect → (k : Kind) → IsStructured k → P (extension_of k)
-by_name P a b c d e f g h i (OfNative Point x y) s = a
-by_name P a b c d e f g h i (OfNative LineString x y) s = b
-by_name P a b c d e f g h i (OfNative Polygon x y) s = c
-by_name P a b c d e f g h i (OfNative MultiPoint x y) s = d
-by_name P a b c d e f g h i (OfNative MultiLineString x y) s = e
-by_name P a b c d e f g h i (OfNative MultiPolygon x y) s = f
-by_name P a b c d e f g h i (OfNative GeometryCollection x y) s = g
-by_name P a b c d e f g h i (OfGeometry x) s = h
-by_name P a b c d e f g h i (OfRect x) s = i
-by_name P a b c d e f g h i _ s = absurd s
-
-moves : (s : Summary) (n : ExtensionName) → Told s n → (t u : Tree) → Summarizes s t → Summarizes s u → (k : Kind) → IsStructured k → Accepts (name_text n) t k → Accepts (name_text n) u k
-moves s n told t u h g k x a = ((told.1 u g k).0 ((told.1 t h k).1 (a, x))).0
-
-pub read_alike : (s : Summary) → ((k : Kind) → IsStructured k → Told s (extension_of k)) → (t u : Tree) → Summarizes s t → Summarizes s u → (name : Text) (k : Kind) → IsStructured k → Accepts name t k ↔ Accepts name u k
-read_alike s told t u h g name k x = (
-  (λ a. (a.0, (moves s (extension_of k) (told k x) t u h g k x (refl, a.1)).1)),
-  (λ a. (a.0, (moves s (extension_of k) (told k x) u t g h k x (refl, a.1)).1)),
-)
+pub moves : (s : Summary) (k : Kind) → Told s k → IsStructured k → (t u : Tree) → Summarizes s t → Summarizes s u → (name : Text) → Accepts name t k → Accepts name u k
+moves s k told x t u h g name a = (a.0, ((told.1 u g k).0 ((told.1 t h k).1 ((refl, a.1), x))).0.1)
 
 -- ---- the extension names of a data type: two at most, and which two
 
@@ -151,25 +128,10 @@ first_in (large_list n t b m) = list_name (first_in t)
 first_in (union ms mode) = names.Geometry
 first_in _ = names.Native Point
 
--- the names that share data types with others: the first of two, and the second of it
-abbrev first_of : ExtensionName → ExtensionName
-first_of (names.Native MultiPoint) = names.Native LineString
-first_of (names.Native MultiLineString) = names.Native Polygon
-first_of names.Rect = names.Native Point
-first_of a = a
-
-abbrev second_of : ExtensionName → ExtensionName
-second_of (names.Native LineString) = names.Native MultiPoint
-second_of (names.Native Polygon) = names.Native MultiLineString
-second_of (names.Native Point) = names.Rect
-second_of a = a
-
 first_or_second : (a : ExtensionName) → (a ≡ first_of a) ⊎ (a ≡ second_of (first_of a))
 first_or_second (names.Native Point) = inl refl
-first_or_second (names.Native MultiPoint) = inr refl
-first_or_second (names.Native MultiLineString) = inr refl
 first_or_second names.Rect = inr refl
-first_or_second _ = inl refl
+first_or_second _ = search (inl, inr, refl)
 
 abbrev list_names : ℕ → ExtensionName → ExtensionName
 list_names zero a = a
@@ -291,7 +253,7 @@ pub as_other : (j k : NativeKind) (t : Tree) → ((c : CoordType) (d : Dimension
 as_other j k t f h = let x = native_accepted j t h in (OfNative k x.0 x.1, (refl, f x.0 x.1 x.2))
 
 point_of_four : (t : Tree) → IsStructOfFour t → IsAccepted (name_text (names.Native Point)) t
-point_of_four (struct fs) h = (OfNative Point Separated XYZM, (refl, (struct fs, (Lists, refl), h)))
+point_of_four (struct fs) h = (OfNative Point Separated (dimension_sized 4 false), (refl, (struct fs, (Lists, refl), h)))
 point_of_four _ h = absurd h
 
 box_of_four : (t : Tree) → IsStructOfFour t → IsAccepted (name_text names.Rect) t
@@ -299,8 +261,8 @@ box_of_four (struct fs) h = (OfRect XY, (refl, h))
 box_of_four _ h = absurd h
 
 pub both_accepted : (t : Tree) (a b : Text) → Share t a b → IsAccepted a t ↔ IsAccepted b t
-both_accepted t a b (inl h) = rw (h.0, h.1) (as_other LineString MultiPoint t (λ c d x. x), as_other MultiPoint LineString t (λ c d x. x))
-both_accepted t a b (inr (inl h)) = rw (h.0, h.1) (as_other Polygon MultiLineString t (λ c d x. x), as_other MultiLineString Polygon t (λ c d x. x))
+both_accepted t a b (inl h) = rw (h.0, h.1) (as_other LineString (second_kind LineString) t (λ c d x. x), as_other (second_kind LineString) LineString t (λ c d x. x))
+both_accepted t a b (inr (inl h)) = rw (h.0, h.1) (as_other Polygon (second_kind Polygon) t (λ c d x. x), as_other (second_kind Polygon) Polygon t (λ c d x. x))
 both_accepted t a b (inr (inr h)) = rw (h.0, h.1) (λ x. box_of_four t h.2, λ x. point_of_four t h.2)
 
 -- ---- no name
@@ -311,9 +273,19 @@ No t a = ¬ IsAccepted (name_text a) t
 pub no_names : (t : Tree) → No t (names.Native Point) → No t (names.Native LineString) → No t (names.Native Polygon) → No t (names.Native MultiPolygon) → No t (names.Native GeometryCollection) → No t names.Geometry → No t names.Rect → No t names.Wkb → No t names.Wkt → Names (Holds NoName) t
 no_names t point line polygon multi collection geometry box wkb wkt n = (λ e. absurd e, λ a. from a.0 a.1.1)
   where
+    second_line : No t (names.Native (second_kind LineString))
+    second_line h = line (as_other (second_kind LineString) LineString t (λ c d y. y) h)
+
+    second_polygon : No t (names.Native (second_kind Polygon))
+    second_polygon h = polygon (as_other (second_kind Polygon) Polygon t (λ c d y. y) h)
+
+    natives : No t (names.Native (second_kind LineString)) → No t (names.Native (second_kind Polygon)) → (k : NativeKind) → No t (names.Native k)
+    natives lines polygons Point = point
+    natives lines polygons _ = search
+
     from : (k : Kind) → Accepted k t → ⊥
+    from (OfNative k c d) h = natives second_line second_polygon k (OfNative k c d, (refl, h))
+    from (OfGeometry c) h = geometry (OfGeometry c, (refl, h))
+    from (OfRect d) h = box (OfRect d, (refl, h))
     from (OfWkb w) h = wkb (OfWkb w, (refl, h))
     from (OfWkt w) h = wkt (OfWkt w, (refl, h))
-    from k h =
-        by_name (No t) point line polygon (λ x. line (as_other MultiPoint LineString t (λ c d y. y) x)) (λ x. polygon (as_other MultiLineString Polygon t (λ c d y. y) x)) multi collection geometry box
-        k tt (k, (refl, h))

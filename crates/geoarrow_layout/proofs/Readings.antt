@@ -1,5 +1,5 @@
 -- What a reader answers, and what holds of all members of a union, or of some.
-use Rattle.geoarrow_layout.proofs.Terms.{◌≡◌, ◌↔◌, sym, subst, ℤ, pos, Result, Ok, Err, Option, Some, ap, ◌∙◌, IfErr, CoordType, Dimension, LayoutFault, NativeKind, type_id_of, Yields, YieldsOne, Path, Located, HasFault, Tells, TellsBoth, IsErrAnd, IsOkAnd, MatchResult, ◌<◌, ◌+◌, ◌⊎◌, inl, inr, ℕ, List, [], ◌∷◌, ◌++◌, take, length, get_or, add-one, take-suc, Tree, FieldTree, MemberTrees, no_members, member, member_trees, AllMembers, SomeMember, HasMembers}
+use Rattle.geoarrow_layout.proofs.Terms.{◌≡◌, ◌↔◌, sym, subst, ℤ, pos, Result, Ok, Err, Option, Some, ap, ◌∙◌, IfErr, CoordType, Dimension, LayoutFault, NativeKind, type_id_of, Yields, YieldsOne, Path, Located, HasFault, Tells, TellsBoth, IsErrAnd, IsOkAnd, MatchResult, ◌<◌, ◌+◌, ◌⊎◌, inl, inr, ℕ, List, [], ◌∷◌, ◌++◌, take, length, get_or, add-one, take-suc, Tree, FieldTree, MemberTrees, no_members, member, member_trees, AllMembers, SomeMember, HasMembers, Bool, cond}
 
 abbrev pub Answer : Type 0
 Answer = Result (CoordType × Dimension) LayoutFault
@@ -15,6 +15,11 @@ some_parts k d = Some (k, d)
 
 abbrev pub refused : LayoutFault → Answer
 refused e = Err e
+
+-- the first that passes the test, or else x
+abbrev pub first_with : {X : Type 0} → (X → Bool) → X → List X → X
+first_with p x [] = x
+first_with p x (y ∷ ys) = cond (p y) y (first_with p x ys)
 
 -- the parts of an id
 abbrev pub IsPartsOf : ℤ → Option (NativeKind × Dimension) → Type 0

@@ -1,5 +1,5 @@
 -- Sets of bits, and what one reading adds to them; the fields of a struct: which names are those of a coordinate or a box, by their bits, and which point is inferred.
-use Rattle.geoarrow_layout.proofs.Terms.{◌≡◌, ◌↔◌, ◌<◌, ◌⊎◌, ◌*◌, ◌%◌, ◌^◌, inl, inr, ℕ, sym, ap, subst, ◌∙◌, ◌≤◌, true, false, ℤ, pos, Ok, Err, refl, arith, bit_at, bit_or, bit_at_set_same, bit_at_set_other, bit_at-zero, cases_eq, ltb-true, ltb-false, bits, ReadAt, w8, w64, CoordType, Dimension, LayoutFault, negsuc, nat_abs, lt_z, suc, Bool, ◌||◌, true≢false, Decides, IsTrue, list_all, and_parts, and_from, List, [], ◌∷◌, length, zero, ◌+◌, ◌&&◌, cond, ◌++◌, take, get_or, eq-eqb, list_any, bytes_eq, bytes_eq-Decides, Text, FieldTree, field_trees, XYZ, XYM, has_name, IsSeparatedAs, names_of, SomeAt, place_in, known_names, is_float64, are_float64, nat_eq, codes, HaveBoth, HasFault, eqb-true, or_cases, or_left, or_right, same_from_decides, and-true, and_assoc, IsBits, Result, Option, Tree, struct, FieldTrees, Separated, BadFieldNames, ListWidth, Bottom, Struct, Leaf, IsBoxAs, BoxShape, Path, SeparatedFault, CoordinateFault, BoxFault, IsBottom, IsUnion, IsNoLeaf, Tells, TellsBoth, BoxNamesFault, Some, None, same_Some, fixed_size_list, Interleaved, size_of, interleaved_name, Inferred, IsInferredAs, IsInferredSize, among_back, dimension_named}
+use Rattle.geoarrow_layout.proofs.Terms.{◌≡◌, ◌↔◌, ◌<◌, ◌⊎◌, ◌*◌, ◌%◌, ◌^◌, inl, inr, ℕ, sym, ap, subst, ◌∙◌, ◌≤◌, true, false, ℤ, pos, Ok, Err, refl, arith, bit_at, bit_or, bit_at_set_same, bit_at_set_other, bit_at-zero, cases_eq, ltb-true, ltb-false, bits, ReadAt, w8, w64, CoordType, Dimension, LayoutFault, negsuc, nat_abs, lt_z, suc, Bool, ◌||◌, true≢false, Decides, IsTrue, list_all, and_parts, and_from, List, [], ◌∷◌, length, zero, ◌+◌, ◌&&◌, cond, ◌++◌, take, get_or, eq-eqb, list_any, bytes_eq, bytes_eq-Decides, Text, FieldTree, field_trees, XY, XYZ, XYM, has_name, IsSeparatedAs, names_of, SomeAt, place_in, known_names, is_float64, are_float64, nat_eq, codes, HaveBoth, HasFault, eqb-true, or_cases, or_left, or_right, same_from_decides, and-true, and_assoc, IsBits, Result, Option, Tree, struct, FieldTrees, Separated, BadFieldNames, ListWidth, Bottom, Struct, Leaf, IsBoxAs, BoxShape, Path, SeparatedFault, CoordinateFault, BoxFault, IsBottom, IsUnion, IsNoLeaf, Tells, TellsBoth, BoxNamesFault, Some, None, same_Some, fixed_size_list, Interleaved, size_of, interleaved_name, Inferred, IsInferredAs, IsInferredSize, among_back, dimension_named}
 use Rattle.std.proofs.Common.{bit_and, ◌/◌}
 use Rattle.std.proofs.Math.ListN.{get_or-map}
 use Rattle.std.proofs.lemmas.List.FromFn.{get_or-range_with_len}
@@ -132,8 +132,6 @@ same_three x y z names yx zx zy count xy third = λ n. same_from_decides {P = ha
       length-le_from_is_member texts (n ∷ x ∷ y ∷ z ∷ []) names
           ((e, (f, (g, tt))), ((yx, (zx, tt)), ((zy, tt), (tt, tt)))) (all_named names (n ∷ x ∷ y ∷ z ∷ []) (h, all)),
     ))
-    by n h true b c e f g = refl
-    by n h false true c e f g = refl
     by n h _ _ _ e f g = refl
 
 -- ---- the bits of names, one field at a time
@@ -230,15 +228,6 @@ struct_no_leaf count names floats f h w n u is = at_struct (λ x. (p : Path) × 
 abbrev pub BoxNames : ℕ → ℕ → DimensionAnswer → Type 0
 BoxNames count bits r = (ns : List Text) → count ≡ length ns → IsBits bits (λ i. SomeAt i ns) → Tells r (λ d. IsBoxAs d ns) (BoxNamesFault ns)
 
--- six names without both bounds of m or of z are those of no box
-pub no_box : (ns : List Text) → length ns ≡ 6 → ¬ HaveBoth (codes "mmin") (codes "mmax") ns → ¬ HaveBoth (codes "zmin") (codes "zmax") ns → HasFault (BoxNamesFault ns) BadFieldNames
-no_box ns six no_m no_z = ([], inr (six, none, (refl, refl)))
-  where
-    none : (d : Dimension) → ¬ IsBoxAs d ns
-    none XYM h = no_m h.1
-    none XYZ h = no_z h.2
-    none _ h = absurd (omega arith)
-
 pub root_box : (w : Option ListWidth) (count names : ℕ) (floats : Bool) (u : Tree) (r : DimensionAnswer) → IsBottom IsUnion w 0 (Struct count names floats) u → BoxNames count names r → Tells r (BoxShape u) (BoxFault u)
 root_box w count names floats u r k says = at_bottom IsUnion (λ x. Tells r (BoxShape x) (BoxFault x)) w 0 (Struct count names floats) tt (λ x t b m z h. absurd h) (λ fs h. says (names_of fs) h.0 h.1) (λ ms mode h. absurd h) u k
 
@@ -275,9 +264,8 @@ not_inferred ns p f other (inl h) d = (λ e. cc, λ k. absurd (h.0 d (separated_
 not_inferred ns p f other (inr h) d = absurd (other h.2.1)
 
 size_inferred_as : (d : Dimension) (name : Text) (z : ℤ) → IsInferredSize d name z → z ≡ pos (size_of d)
-size_inferred_as XYZ name z h = h.0
-size_inferred_as XYM name z h = h.0
-size_inferred_as _ name z h = h
+size_inferred_as XY name z h = h
+size_inferred_as _ name z h = search
 
 size_agrees : (name : Text) (z : ℤ) (d e : Dimension) → IsInferredSize d name z → name ≡ interleaved_name e → size_of d ≡ size_of e → d ≡ e
 size_agrees name z XYZ XYM h named size = absurd (h.1 named)

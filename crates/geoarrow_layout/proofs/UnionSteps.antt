@@ -1,5 +1,5 @@
 -- What was seen of members says what the union is; ids and members are each read in one way.
-use Rattle.geoarrow_layout.proofs.Terms.{ShowsIn, ◌≡◌, ◌≢◌, ◌↔◌, ◌<◌, ◌+◌, ◌^◌, ◌⊎◌, inl, inr, ℕ, zero, suc, ℤ, pos, Result, Ok, Err, Option, Some, None, MatchOption, MatchResult, Bool, true, false, [], ◌∷◌, ◌++◌, take, length, get_or, refl, sym, ap, subst, ◌∙◌, arith, nat_eq, bit_at, eqb-suc-zero, cases_eq, same_from_bits, bit_at-pow_same, bit_at-pow_other, bit_at-lt, Tree, union, FieldTree, MemberTrees, no_members, member, member_trees, CoordType, Interleaved, Dimension, LayoutFault, ListWidth, Bottom, Union, Summary, order_of, Mixed, Geometry, Member, GeometryMember, OverLeaf, Native, NativeKind, GeometryCollection, AllMembers, SomeMember, HasMembers, Yields, Path, Faults, HasFault, FirstFault, UnionFault, MemberFault, MixedFault, GeometryMemberFault, GeometryFault, IsFaultOf, Seen, place_of, AreLevels, IsBottom, IsUnion, SummarizesBy, Summarizes, ReadAt, Tells, TellsBoth, IsNested, IsNoLeaf, ReadsFirst, coords_in, member_first, geometry_member_first, DimensionsFault, IsBits, AddsBits, first_fault, AreOf, IsCoordFault, MixedSays, IsRootUnion, IsInnerUnion, IsLevelFault, BadTypeId, MemberDimension, type_id_of, levels_of, Leaf, Under, CoordinateFault, LevelsFault, PartFault, OverLeafFault, NativeFault, NativeIn, NativeFaultIn}
+use Rattle.geoarrow_layout.proofs.Terms.{ShowsIn, ◌≡◌, ◌≢◌, ◌↔◌, ◌<◌, ◌+◌, ◌^◌, ◌⊎◌, inl, inr, ℕ, zero, suc, ℤ, pos, Result, Ok, Err, Option, Some, None, MatchOption, MatchResult, Bool, true, false, [], ◌∷◌, ◌++◌, take, length, get_or, refl, sym, ap, subst, ◌∙◌, arith, bit_at, cases_eq, same_from_bits, bit_at-pow_same, bit_at-pow_other, bit_at-lt, Tree, union, FieldTree, MemberTrees, no_members, member, member_trees, CoordType, Interleaved, Dimension, LayoutFault, ListWidth, Bottom, Union, Summary, order_of, Mixed, Geometry, Member, GeometryMember, OverLeaf, Native, NativeKind, GeometryCollection, AllMembers, SomeMember, HasMembers, Yields, Path, Faults, HasFault, FirstFault, UnionFault, MemberFault, MixedFault, GeometryMemberFault, GeometryFault, IsFaultOf, Seen, place_of, AreLevels, IsBottom, IsUnion, SummarizesBy, Summarizes, ReadAt, Tells, TellsBoth, IsNested, IsNoLeaf, ReadsFirst, coords_in, member_first, geometry_member_first, DimensionsFault, IsBits, AddsBits, first_fault, AreOf, IsCoordFault, MixedSays, IsRootUnion, IsInnerUnion, IsLevelFault, BadTypeId, MemberDimension, type_id_of, levels_of, Leaf, Under, CoordinateFault, LevelsFault, PartFault, OverLeafFault, NativeFault, NativeIn, NativeFaultIn}
 use Rattle.geoarrow_layout.proofs.Readings.{Answer, exactly, Items, all_map, all_inside, all_some, first_some, all_both, some_more, one_more, IsPartsOf, some_parts, refused}
 use Rattle.geoarrow_layout.proofs.FaultLaws.{Read, ApartMember, MemberReads, order_same, KindReads, KindFault}
 use Rattle.geoarrow_layout.proofs.Bottoms.{RefusesLists, at_bottom, no_union, level_fault}
@@ -208,10 +208,6 @@ seen_none R F ids coords dims fault no_ids no_coords no_dims no_fault = rw (no_i
   dimension_bits = no_bits (Keyed Dimension order_of (AtDimension R) no_members) (λ i h. h.2);
   fault_found = tt;
 }
-
-pub has_members : (xs : Items) (empty : Bool) → empty ≡ nat_eq (length xs) 0 → (empty ≡ false) ↔ HasMembers (member_trees xs)
-has_members [] empty h = (λ e. let bad : true ≡ false = sym h ∙ e in cc, λ m. absurd m)
-has_members (y ∷ ys) empty h = (λ e. tt, λ m. let z : nat_eq (suc (length ys)) 0 ≡ false = eqb-suc-zero (length ys) in h ∙ z)
 
 pub fault_next : (R : MemberReads) (F : ℤ → Faults) (fault more : Option LayoutFault) (part : Answer) (xs : Items) (k : ℕ) (x : ℤ × FieldTree) (z : ℤ) → k < length xs → x ≡ get_or xs k x → z ≡ x.0
     → TellsBoth part (R z x.1.tree) (F z x.1.tree) → more ≡ first_fault fault part → IsFaultOf R F fault (member_trees (take k xs)) → IsFaultOf R F more (member_trees (take (k + 1) xs))

@@ -1,7 +1,8 @@
 -- What is written is read as what it was written for, so the data types that are written are pairwise distinct; the comparison with them; every kind is listed, and once.
-use Rattle.geoarrow_layout.proofs.Terms.{◌≡◌, [], ◌∷◌, true, false, refl, sym, subst, member_trees, CoordType, Interleaved, Separated, Dimension, XY, XYZ, XYM, DIMENSIONS, KINDS, members_in, native_members, Lists, NativeKind, Point, LineString, Polygon, MultiPoint, MultiLineString, MultiPolygon, GeometryCollection, Plain, Kind, OfNative, OfGeometry, OfRect, OfWkb, OfWkt, Leaf, levels_of, Member, AllMembers, GeometryMember, Native, BoxShape, Accepted, Under, leaf_layout, mixed_members, native_layout, geometry_members, layout, over_leaf_layout, mixed_layout, dimension_members, IsWritten, IsWrittenSome, cond, List, codes, ◌∙◌, ap, bytes_eq, Text, Tree, plain, list, struct, union, ExtensionName, extension_of, names_of, ◌↔◌, Bool, IsTrue, FieldTree, Members, field_trees, UnionMode, field_list, member_list, listed_fields, listed_members, ◌<◌, ℕ, ◌+◌, ◌*◌, ◌-◌, length, get_or, lit<, arith, Contains, Large, View, order_of, place_of, ALL, offset_of}
+use Rattle.geoarrow_layout.proofs.Terms.{◌≡◌, [], ◌∷◌, true, false, refl, sym, subst, member_trees, CoordType, Interleaved, Separated, Dimension, XY, XYZ, XYM, DIMENSIONS, KINDS, members_in, native_members, Lists, NativeKind, Point, LineString, GeometryCollection, Plain, Kind, OfNative, OfGeometry, OfRect, OfWkb, OfWkt, Leaf, levels_of, Member, AllMembers, GeometryMember, Native, BoxShape, Accepted, Under, leaf_layout, mixed_members, native_layout, geometry_members, layout, over_leaf_layout, mixed_layout, dimension_members, IsWritten, IsWrittenSome, cond, List, codes, ◌∙◌, ap, bytes_eq, Text, Tree, plain, list, struct, union, ExtensionName, extension_of, names_of, ◌↔◌, Bool, IsTrue, FieldTree, Members, field_trees, UnionMode, field_list, member_list, listed_fields, listed_members, ◌<◌, ℕ, ◌+◌, ◌*◌, ◌-◌, length, get_or, lit<, arith, Contains, Large, View, order_of, place_of, ALL, offset_of, OverLeaf, members_over, list_names, take}
 use Rattle.geoarrow_layout.specs.Shapes.{SameNames}
-use Rattle.geoarrow_layout.proofs.Readings.{all_map, all_both}
+use Rattle.geoarrow_layout.proofs.Readings.{all_map, all_both, first_with}
+use Rattle.std.specs.List.{AllByRecursion}
 use Rattle.geoarrow_layout.specs.declared.names.ExtensionName.TheVariants as names
 use Rattle.geoarrow_layout.proofs.KindSteps.{same_kind, plain_name}
 use Rattle.std.proofs.Math.ListN.{get_or-map}
@@ -20,9 +21,15 @@ written_under Point c d = (leaf_layout c d, (Lists, refl), written_leaf c d)
 written_under k c d = (leaf_layout c d, (Lists, refl), written_leaf c d)
 
 written_mixed : (c : CoordType) (d : Dimension) → AllMembers (λ i t. Member i t c d) (member_trees (mixed_members c d))
-written_mixed c d =
-    let at = λ (k : NativeKind). written_under k c d in
-    ((Point, refl, at Point), ((LineString, refl, at LineString), ((Polygon, refl, at Polygon), ((MultiPoint, refl, at MultiPoint), ((MultiLineString, refl, at MultiLineString), ((MultiPolygon, refl, at MultiPolygon), tt))))))
+written_mixed c d = each (take 6 KINDS) (λ e. cc, (λ e. cc, (λ e. cc, (λ e. cc, (λ e. cc, (λ e. cc, tt))))))
+  where
+    over : (k : NativeKind) → (k ≡ GeometryCollection → ⊥) → OverLeaf (over_leaf_layout k c d) k c d
+    over GeometryCollection other = absurd (other refl)
+    over k other = written_under k c d
+
+    each : (ks : List NativeKind) → AllByRecursion (λ k. k ≡ GeometryCollection → ⊥) ks → AllMembers (λ i t. Member i t c d) (member_trees (members_over ks c d))
+    each [] others = tt
+    each (k ∷ ks) others = ((k, refl, over k others.0), each ks others.1)
 
 -- what is written for the members
 pub natives_written : (c : CoordType) (d : Dimension) (ks : List NativeKind) → AllMembers (IsWritten c d) (member_trees (native_members ks c d))
@@ -56,11 +63,9 @@ written (OfWkb Plain) = refl
 written (OfWkt Plain) = refl
 written _ = refl
 
--- what a written data type says of its extension name
+-- what a written data type says of its extension name: the outermost list, by its item's name, of its kind
 abbrev kind_named : Text → NativeKind
-kind_named n =
-    cond (bytes_eq n (codes "vertices")) LineString (cond (bytes_eq n (codes "rings")) Polygon (cond (bytes_eq n (codes "points")) MultiPoint
-    (cond (bytes_eq n (codes "linestrings")) MultiLineString (cond (bytes_eq n (codes "polygons")) MultiPolygon GeometryCollection))))
+kind_named n = first_with (λ k. bytes_eq n (get_or (list_names k) 0 [])) Point KINDS
 
 abbrev struct_name : List Text → ExtensionName
 struct_name (a ∷ ns) = cond (bytes_eq a (codes "xmin")) names.Rect (names.Native Point)

@@ -1,18 +1,10 @@
 -- The extension names under which a data type can be read.
 use Rattle.std.specs.Prelude.{◌≡◌, ◌⊎◌}
-use Rattle.geoarrow_layout.specs.Words.{Text, Tree, struct, length, Point, LineString, Polygon, MultiPoint, MultiLineString, Kind, Candidates, One, LineStringOrMultiPoint, PolygonOrMultiLineString, PointOrBox}
-use Rattle.geoarrow_layout.specs.declared.names.Candidates.TheVariants.{None}
+use Rattle.geoarrow_layout.specs.Words.{Text, Tree, struct, length, NativeKind, Point, LineString, Polygon, Kind, Candidates}
+use Rattle.geoarrow_layout.specs.declared.names.Candidates.TheVariants.{One}
 use Rattle.geoarrow_layout.specs.declared.names.ExtensionName.TheVariants as names
-use Rattle.geoarrow_layout.specs.Kinds.{name_text}
+use Rattle.geoarrow_layout.specs.Kinds.{name_text, second_kind}
 use Rattle.geoarrow_layout.specs.Shapes.{names_of, Accepts}
-
--- the name is one of the candidates
-abbrev pub Holds : Candidates → Text → Type 0
-Holds None n = ⊥
-Holds (One name) n = n ≡ name.now
-Holds LineStringOrMultiPoint n = (n ≡ name_text (names.Native LineString)) ⊎ (n ≡ name_text (names.Native MultiPoint))
-Holds PolygonOrMultiLineString n = (n ≡ name_text (names.Native Polygon)) ⊎ (n ≡ name_text (names.Native MultiLineString))
-Holds PointOrBox n = (n ≡ name_text (names.Native Point)) ⊎ (n ≡ name_text names.Rect)
 
 -- the same variant, and for `One` the same name
 abbrev pub SameCandidates : Candidates → Candidates → Type 0
@@ -28,9 +20,10 @@ abbrev pub IsStructOfFour : Tree → Type 0
 IsStructOfFour (struct fs) = length (names_of fs) ≡ 4
 IsStructOfFour _ = ⊥
 
--- the two names that share the data type: those of line strings and multipoints, those of polygons and multilinestrings, and of a struct of four fields those of points and boxes
+-- the names of a kind and of the second one with the same data types
+abbrev pub AreBoth : NativeKind → Text → Text → Type 0
+AreBoth k a b = (a ≡ name_text (names.Native k)) × (b ≡ name_text (names.Native (second_kind k)))
+
+-- the two names that share the data type: those of line strings and of polygons with their second kinds', and of a struct of four fields those of points and boxes
 abbrev pub Share : Tree → Text → Text → Type 0
-Share t a b =
-    ((a ≡ name_text (names.Native LineString)) × (b ≡ name_text (names.Native MultiPoint)))
-    ⊎ (((a ≡ name_text (names.Native Polygon)) × (b ≡ name_text (names.Native MultiLineString)))
-    ⊎ ((a ≡ name_text (names.Native Point)) × (b ≡ name_text names.Rect) × IsStructOfFour t))
+Share t a b = AreBoth LineString a b ⊎ (AreBoth Polygon a b ⊎ ((a ≡ name_text (names.Native Point)) × (b ≡ name_text names.Rect) × IsStructOfFour t))

@@ -2,8 +2,8 @@
 use Rattle.std.specs.Prelude.{◌≡◌, ◌≢◌, ◌*◌, ◌⊎◌, ◌∷◌, ◌++◌}
 use Rattle.geoarrow_layout.specs.Words.{Text, Tree, plain, null, list, large_list, fixed_size_list, struct, union, FieldTrees, no_fields, field, MemberTrees, no_members, member, FieldTree, field_tree, ℕ, zero, suc, ℤ, pos, List, [], length, Option, None, Some, CoordType, Dimension, NativeKind, GeometryCollection, Width, ListWidth, Lists, LargeLists, LayoutFault, UnexpectedType, BadInterleavedName, BadSize, BadFieldNames, BadFieldCount, MixedWidths, BadTypeId, MemberDimension, EmptyUnion, SeveralCoordTypes, SeveralDimensions, ExtensionName}
 use Rattle.geoarrow_layout.specs.declared.names.ExtensionName.TheVariants as names
-use Rattle.geoarrow_layout.specs.Kinds.{size_of, interleaved_name, type_id_of}
-use Rattle.geoarrow_layout.specs.Shapes.{names_of, IsSeparatedAs, levels_of, OverLeaf, Member, AllMembers, Native, GeometryMember, IsBoxAs, IsBytes, IsText}
+use Rattle.geoarrow_layout.specs.Kinds.{size_of, interleaved_name, levels_of, type_id_of}
+use Rattle.geoarrow_layout.specs.Shapes.{names_of, IsSeparatedAs, OverLeaf, Member, AllMembers, Native, GeometryMember, IsBoxAs, IsBytes, IsText}
 
 -- the way from a data type to one inside it: at each step the place of a child field, from 0. The item of a list has the place 0
 abbrev pub Path : Type 0

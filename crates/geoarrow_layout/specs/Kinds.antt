@@ -1,6 +1,9 @@
--- Tables of dimensions and kinds: sizes, names and type ids.
-use Rattle.std.specs.Prelude.{◌+◌, ◌≡◌, ◌*◌, ◌++◌, ◌∷◌}
-use Rattle.geoarrow_layout.specs.Words.{Text, ℕ, List, [], Option, Some, None, codes, string_bytes, decimal, Dimensions, Xy, Xyz, Xym, Xyzm, Unknown, GeoArrowError, InvalidGeoArrow, CoordType, Separated, Dimension, XY, XYZ, XYM, XYZM, NativeKind, Point, LineString, Polygon, MultiPoint, MultiLineString, MultiPolygon, GeometryCollection, ExtensionName, Kind, Native, Geometry, Rect, Wkb, Wkt}
+-- Tables of dimensions and kinds: sizes, names and type ids, and which names share data types.
+use Rattle.std.specs.Prelude.{◌+◌, ◌≡◌, ◌⊎◌, ◌*◌, ◌++◌, ◌∷◌}
+use Rattle.geoarrow_layout.specs.Words.{Text, ℕ, List, [], Option, Some, None, codes, string_bytes, decimal, Bool, cond, nat_eq, bytes_eq, Dimensions, GeoArrowError, InvalidGeoArrow, CoordType, Separated, Dimension, NativeKind, Point, LineString, Polygon, MultiPoint, MultiLineString, MultiPolygon, GeometryCollection, ExtensionName, Candidates, Kind, Native, Geometry, Rect, Wkb, Wkt}
+use Rattle.arrow_values.specs.declared.coordinates.Dimensions.TheVariants.{Xy, Xyz, Xym, Xyzm, Unknown}
+use Rattle.geoarrow_layout.specs.declared.kinds.Dimension.TheVariants.{XY, XYZ, XYM, XYZM}
+use Rattle.geoarrow_layout.specs.declared.names.Candidates.TheVariants as candidates
 use Rattle.geoarrow_layout.specs.declared.names.ExtensionName.TheVariants as names
 
 -- how many numbers a coordinate has
@@ -9,6 +12,10 @@ size_of XY = 2
 size_of XYZ = 3
 size_of XYM = 3
 size_of XYZM = 4
+
+-- the dimension with so many numbers; of the two with three, the one with a measure or the one without
+abbrev pub dimension_sized : ℕ → Bool → Dimension
+dimension_sized n measured = cond (nat_eq n 2) XY (cond (nat_eq n 3) (cond measured XYM XYZ) XYZM)
 
 -- the text that a dimension prints
 abbrev pub dimension_name : Dimension → Text
@@ -23,6 +30,10 @@ interleaved_name XY = codes "xy"
 interleaved_name XYZ = codes "xyz"
 interleaved_name XYM = codes "xym"
 interleaved_name XYZM = codes "xyzm"
+
+-- the dimension of an interleaved coordinate with that inner name
+abbrev pub dimension_named : Text → Dimension
+dimension_named n = cond (bytes_eq n (codes "xy")) XY (cond (bytes_eq n (codes "xyz")) XYZ (cond (bytes_eq n (codes "xym")) XYM XYZM))
 
 -- the field names of a separated coordinate, in order
 abbrev pub coordinate_names : Dimension → List Text
@@ -89,6 +100,16 @@ offset_of MultiLineString = 5
 offset_of MultiPolygon = 6
 offset_of GeometryCollection = 7
 
+-- how many lists a native kind has
+abbrev pub levels_of : NativeKind → ℕ
+levels_of Point = 0
+levels_of LineString = 1
+levels_of Polygon = 2
+levels_of MultiPoint = 1
+levels_of MultiLineString = 2
+levels_of MultiPolygon = 3
+levels_of GeometryCollection = 1
+
 -- the type id of a union's member: ten times the number of its dimension, plus that of its kind
 abbrev pub type_id_of : NativeKind → Dimension → ℕ
 type_id_of k d = 10 * order_of d + offset_of k
@@ -106,6 +127,33 @@ name_text names.Geometry = codes "geoarrow.geometry"
 name_text names.Rect = codes "geoarrow.box"
 name_text names.Wkb = codes "geoarrow.wkb"
 name_text names.Wkt = codes "geoarrow.wkt"
+
+-- the second kind with the same data types, if there are two
+abbrev pub second_kind : NativeKind → NativeKind
+second_kind LineString = MultiPoint
+second_kind Polygon = MultiLineString
+second_kind k = k
+
+-- the second name of a data type that has the first one, if it may have two
+abbrev pub second_of : ExtensionName → ExtensionName
+second_of (names.Native Point) = names.Rect
+second_of (names.Native k) = names.Native (second_kind k)
+second_of a = a
+
+-- the first name of such a data type
+abbrev pub first_of : ExtensionName → ExtensionName
+first_of (names.Native MultiPoint) = names.Native LineString
+first_of (names.Native MultiLineString) = names.Native Polygon
+first_of names.Rect = names.Native Point
+first_of a = a
+
+-- the name is one of the candidates
+abbrev pub Holds : Candidates → Text → Type 0
+Holds candidates.None n = ⊥
+Holds (candidates.One name) n = n ≡ name.now
+Holds candidates.LineStringOrMultiPoint n = (n ≡ name_text (names.Native LineString)) ⊎ (n ≡ name_text (names.Native MultiPoint))
+Holds candidates.PolygonOrMultiLineString n = (n ≡ name_text (names.Native Polygon)) ⊎ (n ≡ name_text (names.Native MultiLineString))
+Holds candidates.PointOrBox n = (n ≡ name_text (names.Native Point)) ⊎ (n ≡ name_text names.Rect)
 
 -- the extension name under which a kind is written
 abbrev pub extension_of : Kind → ExtensionName

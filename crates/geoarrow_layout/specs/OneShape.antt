@@ -1,16 +1,12 @@
 -- Laws of `Shapes`: a data type of a kind has one coordinate type and one dimension, those of its first coordinate.
 use Rattle.std.specs.Prelude.{◌≡◌}
-use Rattle.geoarrow_layout.specs.Words.{Text, Tree, plain, list, large_list, fixed_size_list, struct, union, MemberTrees, no_members, member, refl, sym, ap, ◌∙◌, arith, ℕ, zero, suc, ℤ, nat_eq, List, length, codes, cond, bytes_eq, CoordType, Interleaved, Separated, Dimension, XY, XYZ, XYM, XYZM, NativeKind, GeometryCollection, ListWidth, Lists, LargeLists}
-use Rattle.geoarrow_layout.specs.Kinds.{interleaved_name}
-use Rattle.geoarrow_layout.specs.Shapes.{SameNames, has_name, names_of, IsSeparatedAs, Leaf, ListsOver, Under, levels_of, OverLeaf, Member, Mixed, Native, GeometryMember, Geometry, IsBoxAs, BoxShape}
-
--- the dimension of an interleaved coordinate with that inner name
-abbrev pub dimension_named : Text → Dimension
-dimension_named n = cond (bytes_eq n (codes "xy")) XY (cond (bytes_eq n (codes "xyz")) XYZ (cond (bytes_eq n (codes "xym")) XYM XYZM))
+use Rattle.geoarrow_layout.specs.Words.{Text, Tree, plain, list, large_list, fixed_size_list, struct, union, MemberTrees, no_members, member, refl, sym, ap, ◌∙◌, arith, ℕ, zero, suc, ℤ, List, length, codes, CoordType, Interleaved, Separated, Dimension, XY, XYZ, XYM, NativeKind, GeometryCollection, ListWidth, Lists, LargeLists}
+use Rattle.geoarrow_layout.specs.Kinds.{interleaved_name, dimension_sized, dimension_named, levels_of}
+use Rattle.geoarrow_layout.specs.Shapes.{SameNames, has_name, names_of, IsSeparatedAs, Leaf, ListsOver, Under, OverLeaf, Member, Mixed, Native, GeometryMember, Geometry, IsBoxAs, BoxShape}
 
 -- the dimension of a separated coordinate whose fields have these names
 abbrev pub dimension_among : List Text → Dimension
-dimension_among names = cond (nat_eq (length names) 2) XY (cond (nat_eq (length names) 3) (cond (has_name (codes "m") names) XYM XYZ) XYZM)
+dimension_among names = dimension_sized (length names) (has_name (codes "m") names)
 
 abbrev mutual
   -- the first coordinate in a data type

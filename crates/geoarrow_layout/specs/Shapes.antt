@@ -1,7 +1,7 @@
 -- The data types as read: which data type is of which kind.
 use Rattle.std.specs.Prelude.{◌≡◌, ◌*◌, ◌↔◌, ◌⊎◌, ◌∷◌}
-use Rattle.geoarrow_layout.specs.Words.{Text, Tree, plain, binary, large_binary, binary_view, utf8, large_utf8, utf8_view, list, large_list, fixed_size_list, struct, union, FieldTrees, no_fields, field, MemberTrees, no_members, member, ℕ, zero, suc, ℤ, pos, List, [], length, codes, Bool, true, Option, Some, Result, Ok, list_any, bytes_eq, CoordType, Interleaved, Separated, Dimension, XYZ, XYM, NativeKind, Point, LineString, Polygon, MultiPoint, MultiLineString, MultiPolygon, GeometryCollection, Width, Plain, Large, View, Kind, OfNative, OfGeometry, OfRect, OfWkb, OfWkt, ListWidth, Lists, LargeLists, LayoutFault}
-use Rattle.geoarrow_layout.specs.Kinds.{size_of, interleaved_name, type_id_of, name_of}
+use Rattle.geoarrow_layout.specs.Words.{Text, Tree, plain, binary, large_binary, binary_view, utf8, large_utf8, utf8_view, list, large_list, fixed_size_list, struct, union, FieldTrees, no_fields, field, MemberTrees, no_members, member, ℕ, zero, suc, ℤ, pos, List, [], length, codes, Bool, true, Option, Some, Result, Ok, list_any, bytes_eq, CoordType, Interleaved, Separated, Dimension, XYZ, XYM, NativeKind, GeometryCollection, Width, Plain, Large, View, Kind, OfNative, OfGeometry, OfRect, OfWkb, OfWkt, ListWidth, Lists, LargeLists, LayoutFault}
+use Rattle.geoarrow_layout.specs.Kinds.{size_of, interleaved_name, levels_of, type_id_of, name_of}
 
 -- the result is the coordinate type and dimension for which R holds, or an error if it holds for none
 abbrev pub Yields : Result (CoordType × Dimension) LayoutFault → (CoordType → Dimension → Type 0) → Type 0
@@ -42,16 +42,6 @@ ListsOver w zero t u = t ≡ u
 ListsOver Lists (suc n) (list name t b m) u = ListsOver Lists n t u
 ListsOver LargeLists (suc n) (large_list name t b m) u = ListsOver LargeLists n t u
 ListsOver w (suc n) _ u = ⊥
-
--- how many lists a native kind has
-abbrev pub levels_of : NativeKind → ℕ
-levels_of Point = 0
-levels_of LineString = 1
-levels_of Polygon = 2
-levels_of MultiPoint = 1
-levels_of MultiLineString = 2
-levels_of MultiPolygon = 3
-levels_of GeometryCollection = 1
 
 -- the data type t is n lists, all of one width, over a data type for which P holds
 abbrev pub Under : (Tree → CoordType → Dimension → Type 0) → ℕ → Tree → CoordType → Dimension → Type 0

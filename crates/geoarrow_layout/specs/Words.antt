@@ -2,7 +2,6 @@
 pub use Rattle.arrow_values.specs.Tree.{FieldTree, FieldTrees, MemberTrees, Members, Text, Tree, binary, binary_view, field, field_tree, fixed_size_list, float64, large_binary, large_list, large_utf8, list, member, no_fields, no_members, null, plain, struct, union, utf8, utf8_view}
 pub use Rattle.arrow_values.specs.View.{field_trees, member_trees}
 pub use Rattle.arrow_values.specs.declared.coordinates.Dimensions.{Dimensions}
-pub use Rattle.arrow_values.specs.declared.coordinates.Dimensions.TheVariants.{Unknown, Xy, Xym, Xyz, Xyzm}
 pub use Rattle.arrow_values.specs.declared.error.ArrowError.{ArrowError}
 pub use Rattle.arrow_values.specs.declared.error.ArrowError.TheVariants.{ExternalError'}
 pub use Rattle.arrow_values.specs.declared.error.GeoArrowError.{GeoArrowError}
@@ -20,9 +19,8 @@ pub use Rattle.geoarrow_layout.specs.declared.fault.LayoutFault.TheVariants.{Bad
 pub use Rattle.geoarrow_layout.specs.declared.kinds.CoordType.{CoordType}
 pub use Rattle.geoarrow_layout.specs.declared.kinds.CoordType.TheVariants.{Interleaved, Separated}
 pub use Rattle.geoarrow_layout.specs.declared.kinds.Dimension.{Dimension}
-pub use Rattle.geoarrow_layout.specs.declared.kinds.Dimension.TheVariants.{XY, XYM, XYZ, XYZM}
+pub use Rattle.geoarrow_layout.specs.declared.kinds.Dimension.TheVariants.{XY, XYM, XYZ}
 pub use Rattle.geoarrow_layout.specs.declared.names.Candidates.{Candidates}
-pub use Rattle.geoarrow_layout.specs.declared.names.Candidates.TheVariants.{LineStringOrMultiPoint, One, PointOrBox, PolygonOrMultiLineString}
 pub use Rattle.geoarrow_layout.specs.declared.names.ExtensionName.{ExtensionName}
 pub use Rattle.geoarrow_layout.specs.declared.summary.Bottom.{Bottom}
 pub use Rattle.geoarrow_layout.specs.declared.summary.Bottom.TheVariants.{Deep, FixedSizeList, Other, OtherWidth, Struct, Union}

@@ -3,31 +3,30 @@ ghost use Rattle.std.specs.Prelude.{◌≡◌, ◌≤◌, ◌↔◌, ◌++◌};
 ghost use Rattle.geoarrow_layout.specs.Cited.{Some, pos, map, length, extension_of, name_of, coord_type_of, dimension_of, offset_of, type_id_of, fixed_text, levels_of, list_names, type_name, dimension_suffix};
 
 use crate::kinds::CoordType::{Interleaved, Separated};
-use crate::kinds::Dimension::{XY, XYM, XYZ, XYZM};
-use crate::kinds::{CoordType, Dimension, by_dimension, dimension_at};
+use crate::kinds::{CoordType, Dimension, by_dimension, dimension_at, of_dimensions};
 use crate::names::ExtensionName;
 use arrow_values::FixedName;
 
-/// A kind in each coordinate type and dimension, for each of these native kinds, and then the other kinds.
+/// A kind in each coordinate type and these dimensions, for each of these native kinds, and then the other kinds.
 macro_rules! all_kinds {
-    ($($kind:ident)*) => {
+    ($least:path, $high:path, $measured:path, $greatest:path; $($kind:ident)*) => {
         [
             $(
-                Kind::Native(NativeKind::$kind, Interleaved, XY),
-                Kind::Native(NativeKind::$kind, Interleaved, XYZ),
-                Kind::Native(NativeKind::$kind, Interleaved, XYM),
-                Kind::Native(NativeKind::$kind, Interleaved, XYZM),
-                Kind::Native(NativeKind::$kind, Separated, XY),
-                Kind::Native(NativeKind::$kind, Separated, XYZ),
-                Kind::Native(NativeKind::$kind, Separated, XYM),
-                Kind::Native(NativeKind::$kind, Separated, XYZM),
+                Kind::Native(NativeKind::$kind, Interleaved, $least),
+                Kind::Native(NativeKind::$kind, Interleaved, $high),
+                Kind::Native(NativeKind::$kind, Interleaved, $measured),
+                Kind::Native(NativeKind::$kind, Interleaved, $greatest),
+                Kind::Native(NativeKind::$kind, Separated, $least),
+                Kind::Native(NativeKind::$kind, Separated, $high),
+                Kind::Native(NativeKind::$kind, Separated, $measured),
+                Kind::Native(NativeKind::$kind, Separated, $greatest),
             )*
             Kind::Geometry(Interleaved),
             Kind::Geometry(Separated),
-            Kind::Rect(XY),
-            Kind::Rect(XYZ),
-            Kind::Rect(XYM),
-            Kind::Rect(XYZM),
+            Kind::Rect($least),
+            Kind::Rect($high),
+            Kind::Rect($measured),
+            Kind::Rect($greatest),
             Kind::Wkb(Width::Plain),
             Kind::Wkb(Width::Large),
             Kind::Wkb(Width::View),
@@ -146,7 +145,7 @@ impl Kind {
     }
 
     /// All 68 kinds, each once.
-    pub const ALL: [Kind; 68] = all_kinds! {
+    pub const ALL: [Kind; 68] = of_dimensions! { all_kinds;
         Point LineString Polygon MultiPoint MultiLineString MultiPolygon GeometryCollection
     };
 }

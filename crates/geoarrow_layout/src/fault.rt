@@ -174,15 +174,12 @@ fn push_levels(
 ) -> Added
     ensures { OnOk result (LeadsTo (LevelsFault CoordinateFault width levels (tree data_type.now)) path.old.items path.new.items) }
 {
-    if levels == 0 {
-        return Ok(());
-    }
     match list_item(width, data_type) {
-        Some((found, item)) => {
+        Some((found, item)) if 0 < levels => {
             path.push(0)?;
             push_levels(path, Some(found), levels - 1, item)
         }
-        None => Ok(()),
+        _ => Ok(()),
     }
 }
 

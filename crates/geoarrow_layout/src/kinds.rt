@@ -47,15 +47,24 @@ impl Default for CoordType {
 macro_rules! by_dimension {
     ($dimension:expr; $xy:expr, $xyz:expr, $xym:expr, $xyzm:expr) => {
         match $dimension {
-            XY => $xy,
-            XYZ => $xyz,
-            XYM => $xym,
-            XYZM => $xyzm,
+            Dimension::XY => $xy,
+            Dimension::XYZ => $xyz,
+            Dimension::XYM => $xym,
+            Dimension::XYZM => $xyzm,
         }
     };
 }
 
 pub(crate) use by_dimension;
+
+/// What a macro makes of the four dimensions, in their order, and of what else it is given.
+macro_rules! of_dimensions {
+    ($made:ident; $($rest:tt)*) => {
+        $made!(Dimension::XY, Dimension::XYZ, Dimension::XYM, Dimension::XYZM; $($rest)*)
+    };
+}
+
+pub(crate) use of_dimensions;
 
 /// The dimension of which such a table says a value, if there is one.
 macro_rules! dimension_with {
@@ -152,6 +161,9 @@ pub(crate) type Coordinate = (CoordType, Dimension);
 
 /// All dimensions, in their order.
 pub(crate) const DIMENSIONS: [Dimension; 4] = [XY, XYZ, XYM, XYZM];
+
+/// The dimension with a height and a measure.
+pub(crate) const WIDEST: Dimension = XYZM;
 
 /// The dimension of that place.
 pub(crate) fn dimension_at(order: u8) -> Option<Dimension>

@@ -1,6 +1,6 @@
 //! Laws of the layouts, for the crates above: functions with nothing to run, whose contract is the law, and laws of `==`.
 ghost use Rattle.std.specs.Prelude.{◌≡◌, ◌↔◌, ◌≢◌, ◌<◌, ◌⊎◌, ◌++◌};
-ghost use Rattle.geoarrow_layout.specs.Cited.{Contains, true, ℕ, ℤ, List, length, get_or, IsTrue, Text, Tree, FieldTree, Members, member_trees, tree, HasTypeIds, has, retained, dimensions_size, size_of, dimensions_of, IsDimension, name_text, name_of, ExtensionName, Leaf, AllMembers, Accepts, IsStructured, Summarizes, Inferred, leaf_layout, layout, mixed_members, geometry_members, IsWritten, IsWrittenSome, Alike, IsAccepted, Share, SameCandidates, Path, FaultAt, LayoutFault, AlikeUnions};
+ghost use Rattle.geoarrow_layout.specs.Cited.{Contains, true, ℕ, ℤ, List, length, get_or, IsTrue, Text, Tree, FieldTree, Members, member_trees, tree, HasTypeIds, has, retained, dimensions_size, size_of, dimensions_of, IsDimension, name_text, name_of, ExtensionName, Leaf, AllMembers, Accepts, IsStructured, Summarizes, Inferred, leaf_layout, layout, mixed_members, geometry_members, IsWritten, IsWrittenSome, Alike, IsAccepted, SameCandidates, Path, FaultAt, LayoutFault, AlikeUnions};
 
 use crate::encodings::{Kind, NativeKind, Width};
 use crate::fault::LayoutFault;
@@ -43,15 +43,9 @@ pub fn one_kind()
 pub fn read_alike(summary: &Summary)
     ensures { (t u : Tree) → Summarizes summary.now t → Summarizes summary.now u → (name : Text) (k : Kind) → IsStructured k → Accepts name t k ↔ Accepts name u k }
 {
-    summary.kind("geoarrow.point");
-    summary.kind("geoarrow.linestring");
-    summary.kind("geoarrow.polygon");
-    summary.kind("geoarrow.multipoint");
-    summary.kind("geoarrow.multilinestring");
-    summary.kind("geoarrow.multipolygon");
-    summary.kind("geoarrow.geometrycollection");
-    summary.kind("geoarrow.geometry");
-    summary.kind("geoarrow.box");
+    for kind in &Kind::ALL {
+        summary.kind(kind.name());
+    }
 }
 
 /// A law: the members that are written for a collection have type ids of their own, from 0 to 127 and all distinct,
@@ -117,15 +111,6 @@ pub fn parts_are_alike()
 /// A law: unions of the same members, in any order, are alike.
 pub fn order_does_not_matter()
     ensures { (ms ns : Members) → ((m : ℤ × FieldTree) → Contains ms m ↔ Contains ns m) → AlikeUnions ms ns }
-{}
-
-/// A law: a data type has a kind under two names at most (GeoArrow, "Extension types"). Two names that have it are
-/// those of line strings and multipoints, those of polygons and multilinestrings, or, if it is a struct of four fields,
-/// those of points and boxes; and what has a kind under one of such two has one under the other.
-pub fn two_names_at_most()
-    ensures two { (t : Tree) (a b c : Text) → IsAccepted a t → IsAccepted b t → IsAccepted c t → (a ≡ b) ⊎ ((a ≡ c) ⊎ (b ≡ c)) }
-    ensures which { (t : Tree) (a b : Text) → IsAccepted a t → IsAccepted b t → a ≢ b → Share t a b ⊎ Share t b a }
-    ensures both { (t : Tree) (a b : Text) → Share t a b → IsAccepted a t ↔ IsAccepted b t }
 {}
 
 /// A law: no kind is twice in `Kind::ALL`.

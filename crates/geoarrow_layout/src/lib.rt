@@ -22,10 +22,10 @@ pub use laws::{
     layout_reads_back, layouts_are_distinct, leaf_reads_back, list_width_equality_is_exact,
     mixed_ids, name_equality_is_exact, names_are_distinct, native_kind_equality_is_exact,
     no_fault_if_accepted, one_fault, one_kind, order_does_not_matter, parts_are_alike, read_alike,
-    summary_equality_is_exact, two_names_at_most, width_equality_is_exact,
+    summary_equality_is_exact, width_equality_is_exact,
 };
 pub use likeness::{alike, append_members, keep_members};
-pub use names::{Candidates, ExtensionName};
+pub use names::{Candidates, ExtensionName, two_names_at_most};
 pub use read::{
     candidates, infer_point, parse_box, parse_geometry, parse_geometry_collection, parse_kind,
     parse_linestring, parse_mixed, parse_multilinestring, parse_multipoint, parse_multipolygon,

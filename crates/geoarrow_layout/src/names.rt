@@ -1,6 +1,6 @@
 //! The extension names, and those under which a data type can be read.
-ghost use Rattle.std.specs.Prelude.{◌≡◌, ◌↔◌};
-ghost use Rattle.geoarrow_layout.specs.Cited.{Some, ExtensionName, name_text};
+ghost use Rattle.std.specs.Prelude.{◌≡◌, ◌≢◌, ◌↔◌, ◌⊎◌};
+ghost use Rattle.geoarrow_layout.specs.Cited.{Some, ExtensionName, Text, Tree, IsAccepted, Share, name_text};
 
 use crate::encodings::NativeKind;
 
@@ -89,3 +89,12 @@ pub enum Candidates {
     /// `geoarrow.point` and `geoarrow.box`: a struct of four fields.
     PointOrBox,
 }
+
+/// A law: a data type has a kind under two names at most (GeoArrow, "Extension types"). Two names that have it are
+/// those of line strings and multipoints, those of polygons and multilinestrings, or, if it is a struct of four fields,
+/// those of points and boxes; and what has a kind under one of such two has one under the other.
+pub fn two_names_at_most()
+    ensures two { (t : Tree) (a b c : Text) → IsAccepted a t → IsAccepted b t → IsAccepted c t → (a ≡ b) ⊎ ((a ≡ c) ⊎ (b ≡ c)) }
+    ensures which { (t : Tree) (a b : Text) → IsAccepted a t → IsAccepted b t → a ≢ b → Share t a b ⊎ Share t b a }
+    ensures both { (t : Tree) (a b : Text) → Share t a b → IsAccepted a t ↔ IsAccepted b t }
+{}

@@ -8,7 +8,7 @@ ghost use Rattle.geoarrow_layout.specs.declared.names.ExtensionName.TheVariants 
 
 use crate::encodings::{Kind, NativeKind, Width, list_names, parts_of_id};
 use crate::fault::LayoutFault;
-use crate::kinds::{CoordType, Coordinate, Dimension, list_size, only_dimension};
+use crate::kinds::{CoordType, Coordinate, Dimension, WIDEST, list_size, only_dimension};
 use crate::names::{Candidates, ExtensionName};
 use crate::summary::{Bottom, Summary, has_known, is_float64, struct_bottom, summarize};
 use arrow_values::{DataType, Field};
@@ -184,10 +184,7 @@ impl Summary {
         ensures exact { (t : Tree) → Summarizes self.now t → YieldsKind name.now t result }
         ensures named { IfSome result (λ k. (name.now ≡ name_of k) × IsStructured k) }
     {
-        let Some(known) = ExtensionName::from_text(name) else {
-            return None;
-        };
-        kind_under(known, self).ok()
+        kind_under(ExtensionName::from_text(name)?, self).ok()
     }
 }
 
@@ -213,8 +210,8 @@ fn kind_under(name: ExtensionName, summary: &Summary) -> Result<Kind, LayoutFaul
 /// "Extension types"). Allocates nothing.
 ///
 /// ```rust
-/// let point = coord_data_type(alloc, CoordType::Separated, Dimension::XYZM)?;
-/// assert_eq!(rt; candidates(&point), Candidates::PointOrBox);
+/// let lines = list_data_type(alloc, NativeKind::LineString, CoordType::Separated, Dimension::XYZ)?;
+/// assert_eq!(rt; candidates(&lines), Candidates::LineStringOrMultiPoint);
 /// ```
 pub fn candidates(data_type: &DataType) -> Candidates
     ensures { (n : Text) → Holds result n ↔ IsAccepted n (tree data_type.now) }
@@ -296,14 +293,12 @@ pub fn infer_point(data_type: &DataType) -> Option<(CoordType, Dimension)>
 fn sized_dimension(inner: &Field, size: i32) -> Option<Dimension>
     ensures { (d : Dimension) → (result ≡ Some d) ↔ ((is_float64 inner.now.tree ≡ true) × IsInferredSize d inner.now.name size) }
 {
-    if !is_float64(inner.data_type()) {
-        return None;
-    }
     match size {
+        _ if !is_float64(inner.data_type()) => None,
         2 => Some(Dimension::XY),
         3 if inner.name() == "xym" => Some(Dimension::XYM),
         3 => Some(Dimension::XYZ),
-        4 => Some(Dimension::XYZM),
+        4 => Some(WIDEST),
         _ => None,
     }
 }
@@ -352,7 +347,7 @@ fn separated_dimension(count: usize, names: u16) -> Result<Dimension, LayoutFaul
         3 if has_known(names, 3) => Ok(Dimension::XYM),
         3 if has_known(names, 2) => Ok(Dimension::XYZ),
         3 => Err(LayoutFault::BadFieldNames),
-        4 => Ok(Dimension::XYZM),
+        4 => Ok(WIDEST),
         _ => Err(LayoutFault::BadFieldCount),
     }
 }
@@ -421,10 +416,8 @@ fn mixed_bottom(bottom: &Bottom) -> Answer
         return Err(LayoutFault::UnexpectedType);
     };
     let coord_type = one_of_union(*no_members, *mixed_fault, *coord_types)?;
-    match only_dimension(*dimensions) {
-        Some(dimension) => Ok((coord_type, dimension)),
-        None => Err(LayoutFault::SeveralDimensions),
-    }
+    let dimension = only_dimension(*dimensions).ok_or(LayoutFault::SeveralDimensions)?;
+    Ok((coord_type, dimension))
 }
 
 /// A native kind; a collection only where collections are allowed.
@@ -486,7 +479,7 @@ fn box_dimension(count: usize, names: u16) -> Result<Dimension, LayoutFault>
         6 if has_both(names, 6, 7) => Ok(Dimension::XYM),
         6 if has_both(names, 4, 5) => Ok(Dimension::XYZ),
         6 => Err(LayoutFault::BadFieldNames),
-        8 => Ok(Dimension::XYZM),
+        8 => Ok(WIDEST),
         _ => Err(LayoutFault::BadFieldCount),
     }
 }

@@ -71,10 +71,9 @@ pub fn geometry_data_type(alloc: Global, coord_type: CoordType) -> Result<DataTy
     ensures { IfOk result (λ t. tree t ≡ layout (Kind.Geometry coord_type)) }
 {
     let mut members = Vec::with_capacity(alloc, 28)?;
-    push_natives(alloc, &mut members, &KINDS, (coord_type, Dimension::XY))?;
-    push_natives(alloc, &mut members, &KINDS, (coord_type, Dimension::XYZ))?;
-    push_natives(alloc, &mut members, &KINDS, (coord_type, Dimension::XYM))?;
-    push_natives(alloc, &mut members, &KINDS, (coord_type, Dimension::XYZM))?;
+    for dimension in &DIMENSIONS {
+        push_natives(alloc, &mut members, &KINDS, (coord_type, *dimension))?;
+    }
     Ok(DataType::Union(UnionFields::from_members(members), UnionMode::Dense))
 }
 

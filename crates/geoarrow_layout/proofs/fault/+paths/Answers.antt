@@ -1,14 +1,11 @@
-use Rattle.geoarrow_layout.proofs.Terms.{◌≡◌, on_ok_weaker, ap, arith, rules, w8, to_z, of_z, to_z-of_z, tree, NativeIn, NativeFaultIn}
+use Rattle.geoarrow_layout.proofs.Terms.{◌≡◌, on_ok_weaker, ap, arith, rules, w8, to_z, of_z, to_z-of_z, tree}
 use Rattle.geoarrow_layout.proofs.Readings.{ok, refused}
 use Rattle.geoarrow_layout.proofs.FaultLaws.{native_apart_in}
-use Rattle.geoarrow_layout.proofs.FaultPaths.{native_leads, union_leads, stays, unknown_here, kind_inside}
+use Rattle.geoarrow_layout.proofs.FaultPaths.{native_leads, union_leads, stays, kind_inside}
 use Rattle.geoarrow_layout.proofs.fault.+paths.Goals as goal
 
 pub push_native-returns-in_default : goal.push_native-returns-in_default
 push_native-returns-in_default t c = native_leads c.args.collections c.push_levels.result _ _ _ _ _ c.in_default.not-GeometryCollection (omega arith) c.push_levels.ensures
-
-pub push_member-returns-in_default : goal.push_member-returns-in_default
-push_member-returns-in_default t c = stays _ _ (unknown_here (NativeIn c.args.collections) (NativeFaultIn c.args.collections) c.args.id _ (tree c.args.data_type.now) (search (rules, to_z-of_z)) c.in_default.ensures)
 
 pub push_member-returns-in-Ok : goal.push_member-returns-in-Ok
 push_member-returns-in-Ok t c = stays _ _ (kind_inside _ _ (native_apart_in c.args.collections) c.args.id _ (tree c.args.data_type.now) c.in-Some.kind _ (ok c.in-Ok.field-0)

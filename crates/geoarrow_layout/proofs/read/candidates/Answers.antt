@@ -1,4 +1,4 @@
-use Rattle.geoarrow_layout.proofs.Terms.{refl, tree, iff_false, LineString, MultiPoint, Polygon, MultiLineString, MultiPolygon, GeometryCollection, Point}
+use Rattle.geoarrow_layout.proofs.Terms.{refl, tree, iff_false, LineString, Polygon, MultiPolygon, GeometryCollection, Point, second_kind}
 use Rattle.geoarrow_layout.specs.declared.names.ExtensionName.TheVariants as names
 use Rattle.geoarrow_layout.proofs.KindSteps.{accepted_ok, alone, both, point_alone, box_alone, as_other, no_names}
 use Rattle.geoarrow_layout.proofs.read.candidates.Goals as goal
@@ -19,10 +19,10 @@ pub returns-then-is_point-2 : goal.returns-then-is_point-2
 returns-then-is_point-2 c = point_alone _ ((c.is_kind-is_point.ensures _ c.summarize-summary.ensures).0 c.if-is_point-2.true) (iff_false (c.is_kind.ensures _ c.summarize-summary.ensures) c.if-is_kind.false)
 
 pub returns-then-is_kind-2 : goal.returns-then-is_kind-2
-returns-then-is_kind-2 c = let h = (c.is_kind-2.ensures _ c.summarize-summary.ensures).0 c.if-is_kind-2.true in both (names.Native LineString) _ refl h (as_other LineString MultiPoint _ (λ b d x. x) h)
+returns-then-is_kind-2 c = let h = (c.is_kind-2.ensures _ c.summarize-summary.ensures).0 c.if-is_kind-2.true in both (names.Native LineString) _ refl h (as_other LineString (second_kind LineString) _ (λ b d x. x) h)
 
 pub returns-then-is_kind-3 : goal.returns-then-is_kind-3
-returns-then-is_kind-3 c = let h = (c.is_kind-3.ensures _ c.summarize-summary.ensures).0 c.if-is_kind-3.true in both (names.Native Polygon) _ refl h (as_other Polygon MultiLineString _ (λ b d x. x) h)
+returns-then-is_kind-3 c = let h = (c.is_kind-3.ensures _ c.summarize-summary.ensures).0 c.if-is_kind-3.true in both (names.Native Polygon) _ refl h (as_other Polygon (second_kind Polygon) _ (λ b d x. x) h)
 
 pub returns-then-is_kind-4 : goal.returns-then-is_kind-4
 returns-then-is_kind-4 c = alone (names.Native MultiPolygon) _ refl refl ((c.is_kind-4.ensures _ c.summarize-summary.ensures).0 c.if-is_kind-4.true)

@@ -1,4 +1,4 @@
-use Rattle.geoarrow_layout.proofs.Terms.{[], length, refl, arith, Leaf, Mixed, CoordinateFault, MixedFault, IsNoLeaf, IsNested}
+use Rattle.geoarrow_layout.proofs.Terms.{length, refl, arith, Leaf, Mixed, CoordinateFault, MixedFault, IsNoLeaf, IsNested}
 use Rattle.geoarrow_layout.proofs.Bottoms.{under_same, level_fault}
 use Rattle.geoarrow_layout.proofs.UnionSteps.{over_leaf_answer, nested_mixed, shows_of_inner}
 use Rattle.geoarrow_layout.proofs.Readings.{refused_as}
@@ -12,9 +12,6 @@ returns-in_ok-bottom_below-in-GeometryCollection c =
 pub returns-in_err-bottom_below-in-GeometryCollection : goal.returns-in_err-bottom_below-in-GeometryCollection
 returns-in_err-bottom_below-in-GeometryCollection c = rw (c.if-collections.true, c.in-GeometryCollection.is) (λ t h. refused_as _ _ _ _ c.from_residual.ensures.1
     (level_fault MixedFault (λ x t b m. ((refl, refl), (refl, refl))) c.args.summary.now 1 _ (omega arith) c.in_err-bottom_below-in-GeometryCollection.ensures t (shows_of_inner _ t h)))
-
-pub returns-in-GeometryCollection-2 : goal.returns-in-GeometryCollection-2
-returns-in-GeometryCollection-2 c = rw (c.if-collections.false, c.in-GeometryCollection.is) (λ t h. ([], (refl, refl)))
 
 pub returns-in_ok-bottom_below-in_default : goal.returns-in_ok-bottom_below-in_default
 returns-in_ok-bottom_below-in_default c = λ t h.

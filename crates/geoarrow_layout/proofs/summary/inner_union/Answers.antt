@@ -1,6 +1,6 @@
-use Rattle.geoarrow_layout.proofs.Terms.{ShowsIn, false, refl, subst, rules, to_z-of_z, take_all, Member, MemberFault, member_first}
+use Rattle.geoarrow_layout.proofs.Terms.{ShowsIn, false, subst, rules, to_z-of_z, Member, MemberFault, member_first}
 use Rattle.geoarrow_layout.proofs.FaultLaws.{member_apart}
-use Rattle.geoarrow_layout.proofs.UnionSteps.{seen_more, seen_none, has_members}
+use Rattle.geoarrow_layout.proofs.UnionSteps.{seen_more, seen_none}
 use Rattle.geoarrow_layout.proofs.summary.inner_union.Goals as goal
 
 pub loop-item-init : goal.loop-item-init
@@ -12,6 +12,3 @@ loop-item-preserved c =
     seen_more Member MemberFault member_first member_apart _ _ _ _ _ _ _ _ c.member-part.result _ c.loop-item.item-index c.item-item.result _ c.loop-item-test.true c.item-item.is
     (search (rules, to_z-of_z)) (c.member-part.ensures c.item-item.result.1.tree below) c.with_member-seen.ensures.ids
     c.with_member-seen.ensures.coord_types c.with_member-seen.ensures.dimensions c.with_member-seen.ensures.fault c.loop-item.invariant
-
-pub returns : goal.returns
-returns c = (has_members _ _ c.is_empty.ensures, rw (take_all _ _ c.loop-item-test.false) at c.loop-item.invariant, refl)

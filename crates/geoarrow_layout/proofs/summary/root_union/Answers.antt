@@ -1,6 +1,6 @@
-use Rattle.geoarrow_layout.proofs.Terms.{ShowsIn, true, subst, rules, to_z-of_z, take_all, Member, GeometryMember, MemberFault, GeometryMemberFault, geometry_member_first}
+use Rattle.geoarrow_layout.proofs.Terms.{ShowsIn, true, subst, rules, to_z-of_z, Member, GeometryMember, MemberFault, GeometryMemberFault, geometry_member_first}
 use Rattle.geoarrow_layout.proofs.FaultLaws.{geometry_member_apart}
-use Rattle.geoarrow_layout.proofs.UnionSteps.{seen_more, seen_none, has_members, fault_next}
+use Rattle.geoarrow_layout.proofs.UnionSteps.{seen_more, seen_none, fault_next}
 use Rattle.geoarrow_layout.proofs.summary.root_union.Goals as goal
 
 pub loop-item-init : goal.loop-item-init
@@ -17,8 +17,3 @@ loop-item-preserved c =
       mixed = fault_next Member MemberFault _ _ _ _ c.loop-item.item-index c.item-item.result _ c.loop-item-test.true c.item-item.is (search (rules, to_z-of_z))
           (c.in_collection.ensures c.item-item.result.1.tree told) c.first_fault-mixed_fault.ensures c.loop-item.invariant.mixed;
     }
-
-pub returns : goal.returns
-returns c =
-    let all = rw (take_all _ _ c.loop-item-test.false) at c.loop-item.invariant in
-    (has_members _ _ c.is_empty.ensures, all.seen, all.mixed)
