@@ -4,3 +4,4 @@ pub mod ReadBack
 pub mod KeyedValues
 pub mod Stands
 pub mod PlainTexts
+pub mod PlainValues

@@ -1,5 +1,5 @@
 -- What an object of plain texts is to the lexer, a byte or a text at a time.
-use Rattle.std.proofs.Common.{◌≡◌, ℕ, ◌+◌, ◌-◌, ◌<◌, ◌≤◌, Bool, true, false, cond, ◌||◌, ◌==◌, List, [], ◌∷◌, ◌++◌, length, take, drop, get_or, nat_eq, Option, Some, None, ⊎_elim, refl, sym, ap, ap₂, ◌∙◌, arith, lt_of_not-le, length-take, get_or-take}
+use Rattle.std.proofs.Common.{◌≡◌, ℕ, ◌+◌, ◌-◌, ◌<◌, ◌≤◌, Bool, true, false, cond, ◌||◌, ◌==◌, List, [], ◌∷◌, ◌++◌, length, take, drop, get_or, nat_eq, Option, Some, None, ◌⊎◌, ⊎_elim, refl, sym, ap, ap₂, ◌∙◌, arith, lt_of_not-le, length-take, get_or-take}
 use Rattle.std.proofs.lemmas.Bool.{eqb-true, or_cases}
 use Rattle.std.proofs.lemmas.Bool.Decides.{Decides-eqb}
 use Rattle.std.proofs.lemmas.List.{drop_all, drop_more, drop-drop, get_or_past, take-append-drop}
@@ -7,13 +7,13 @@ use Rattle.std.proofs.lemmas.List.Sums.{prefix_len_passes}
 use Rattle.std.proofs.lemmas.Slice.Eq.{starts_is}
 use Rattle.std.specs.List.{prefix_len, starts_with}
 use Rattle.json.specs.Ascii.{null_text}
-use Rattle.json.specs.Token.{Token, end_object, key, string, null}
+use Rattle.json.specs.Token.{Token, begin_object, end_object, begin_array, end_array, key, string, number, null}
 use Rattle.json.specs.Text.{content, plain}
 use Rattle.json.specs.Word.{is_operator, is_space, ends_word, word}
 use Rattle.json.specs.Lex.{Place, fresh, after_comma, after_value, Lexeme, token, colon, class, operator, operator_lexeme, space, lex_byte, between, in_string, lex, string_token, begins_colon, may_begin, punctuate}
 use Rattle.json.specs.Run.{is_plain}
-use Rattle.json.specs.Print.{escape}
-use Rattle.json.proofs.Printed.Numbers.{in_word-ended}
+use Rattle.json.specs.Print.{escape, IsNumber}
+use Rattle.json.proofs.Printed.Numbers.{in_word-ended, lex-number}
 use Rattle.json.proofs.Printed.Plain.{escape_on_plain}
 use Rattle.json.proofs.Printed.Strings.{content-escape, lex-escape}
 use Rattle.geoarrow_meta.specs.PlainTokens.{lexemes_at, word_token}
@@ -80,16 +80,60 @@ null_stands d i x starts next other ends =
     null_ended (drop i d) (drop (i + 4) d) ((starts_is Decides-eqb (drop i d) null_text _ refl).0 starts ∙ ap (λ t. null_text ++ t) (drop-drop 4 i d))
     (ap ends_word (byte_there d (i + 4) x next other).1 ∙ ends)
 
-pub object_ends : (after_member : Bool) (ls : List Lexeme) → ls ≡ token end_object ∷ [] → punctuate (cond after_member after_value fresh) ls ≡ end_object ∷ []
-unfolding punctuate
-object_ends true ls is = ap (punctuate after_value) is
-object_ends false ls is = ap (punctuate fresh) is
+-- ---- where a place is left
 
-pub member_stands : (p : Place) (k : List ℕ) (w : Option (List ℕ)) (ls : List Lexeme) → may_begin p ≡ true → begins_colon ls ≡ false
-    → punctuate p (token (string k) ∷ colon ∷ token (word_token w) ∷ ls) ≡ key k ∷ word_token w ∷ punctuate after_value ls
+pub object_ends : (after_member : Bool) (ls : List Lexeme) → punctuate (cond after_member after_value fresh) (token end_object ∷ ls) ≡ end_object ∷ punctuate after_value ls
 unfolding punctuate
-member_stands fresh k None ls may ends = refl
-member_stands fresh k (Some s) ls may ends = rw ends
-member_stands after_comma k None ls may ends = refl
-member_stands after_comma k (Some s) ls may ends = rw ends
-member_stands _ k w ls may ends = absurd (cc)
+object_ends true ls = refl
+object_ends false ls = refl
+
+pub array_ends : (after_item : Bool) (ls : List Lexeme) → punctuate (cond after_item after_value fresh) (token end_array ∷ ls) ≡ end_array ∷ punctuate after_value ls
+unfolding punctuate
+array_ends true ls = refl
+array_ends false ls = refl
+
+pub object_opens : (p : Place) (ls : List Lexeme) → may_begin p ≡ true → punctuate p (token begin_object ∷ ls) ≡ begin_object ∷ punctuate fresh ls
+unfolding punctuate
+object_opens fresh ls may = refl
+object_opens after_comma ls may = refl
+object_opens _ ls may = absurd (cc)
+
+pub array_opens : (p : Place) (ls : List Lexeme) → may_begin p ≡ true → punctuate p (token begin_array ∷ ls) ≡ begin_array ∷ punctuate fresh ls
+unfolding punctuate
+array_opens fresh ls may = refl
+array_opens after_comma ls may = refl
+array_opens _ ls may = absurd (cc)
+
+pub key_stands : (p : Place) (k : List ℕ) (ls : List Lexeme) → may_begin p ≡ true → punctuate p (token (string k) ∷ colon ∷ ls) ≡ key k ∷ punctuate fresh ls
+unfolding punctuate
+key_stands fresh k ls may = refl
+key_stands after_comma k ls may = refl
+key_stands _ k ls may = absurd (cc)
+
+pub word_stands : (p : Place) (w : Option (List ℕ)) (ls : List Lexeme) → may_begin p ≡ true → begins_colon ls ≡ false → punctuate p (token (word_token w) ∷ ls) ≡ word_token w ∷ punctuate after_value ls
+unfolding punctuate
+word_stands fresh None ls may ends = refl
+word_stands fresh (Some s) ls may ends = rw ends
+word_stands after_comma None ls may ends = refl
+word_stands after_comma (Some s) ls may ends = rw ends
+word_stands _ w ls may ends = absurd (cc)
+
+pub number_stands : (p : Place) (s : List ℕ) (ls : List Lexeme) → may_begin p ≡ true → punctuate p (token (number s) ∷ ls) ≡ number s ∷ punctuate after_value ls
+unfolding punctuate
+number_stands fresh s ls may = refl
+number_stands after_comma s ls may = refl
+number_stands _ s ls may = absurd (cc)
+
+-- no key has ended where a comma, a brace or a bracket is
+pub no_colon : (d : List ℕ) (i x : ℕ) → (x ≡ 44) ⊎ ((x ≡ 93) ⊎ (x ≡ 125)) → get_or d i 0 ≡ x → begins_colon (lexemes_at d i) ≡ false
+no_colon d i x is e =
+    let at = λ (y : ℕ) (c : class y ≡ operator) (is : x ≡ y). operator_stands d i y c (e ∙ is) in
+    ⊎_elim (λ is. ap begins_colon (at 44 refl is).1) (⊎_elim (λ is. ap begins_colon (at 93 refl is).1) (λ is. ap begins_colon (at 125 refl is).1)) is
+
+-- a number up to the place where a word ends
+pub number_lexed : (d s : List ℕ) (i end : ℕ) → i ≤ end → end < length d → s ≡ take (end - i) (drop i d) → IsNumber s → (is_operator (get_or d end 0) || is_space (get_or d end 0)) ≡ true
+    → lexemes_at d i ≡ token (number s) ∷ lexemes_at d end
+number_lexed d s i end le within e is ends =
+    let after : drop (end - i) (drop i d) ≡ drop end d = drop-drop (end - i) i d ∙ ap (λ j. drop j d) (omega arith) in
+    let split : drop i d ≡ s ++ drop end d = sym (take-append-drop (end - i) (drop i d)) ∙ ap₂ (λ s t. s ++ t) (sym e) after in
+    ap (lex between) split ∙ lex-number s (drop end d) is (ap ends_word (drop_more d end 0 within) ∙ ends)

@@ -1,7 +1,9 @@
--- An object of plain texts, as its reader goes through its text.
-use Rattle.std.specs.Prelude.{◌≡◌, ℕ, ◌≤◌, List, ◌++◌, length, drop, Bool, if◌then◌else◌, Option, Some, None}
+-- Objects and arrays of plain texts, as their reader goes through a text.
+use Rattle.std.specs.Prelude.{◌≡◌, ℕ, ◌≤◌, List, ◌∷◌, ◌++◌, length, drop, Bool, true, if◌then◌else◌, Option, Some, None}
 use Rattle.json.specs.Token.{Token, string, null}
-use Rattle.json.specs.Lex.{Lexeme, between, lex, fresh, after_value, punctuate}
+use Rattle.json.specs.Lex.{Lexeme, Place, between, lex, fresh, after_value, may_begin, punctuate}
+use Rattle.serde_json.specs.Data.{Data}
+use Rattle.value_tokens.specs.Next.{next_value}
 
 -- the lexemes of the text from there on
 abbrev pub lexemes_at : List ℕ → ℕ → List Lexeme
@@ -19,3 +21,15 @@ Passes text at passed next = (lexemes_at text at ≡ passed ++ lexemes_at text n
 abbrev pub word_token : Option (List ℕ) → Token
 word_token None = null
 word_token (Some s) = string s
+
+-- the tokens are those from that place on, where a value or a key may begin
+abbrev pub IsBeginning : List ℕ → List Token → ℕ → Type 0
+IsBeginning text ts at = (p : Place) × (may_begin p ≡ true) × (ts ≡ punctuate p (lexemes_at text at))
+
+-- the token is between the two places, wherever a value may begin, and a value that it is has ended
+abbrev pub Takes : List ℕ → ℕ → Token → ℕ → Type 0
+Takes text at t next = ((p : Place) → may_begin p ≡ true → punctuate p (lexemes_at text at) ≡ t ∷ tokens_left true text next) × (next ≤ length text)
+
+-- the value is between the two places, wherever a value may begin, nested at most that deep
+abbrev pub TakesValue : List ℕ → ℕ → ℕ → Data → ℕ → Type 0
+TakesValue text depth at d next = ((p : Place) → may_begin p ≡ true → next_value depth (punctuate p (lexemes_at text at)) ≡ Some (d, tokens_left true text next)) × (next ≤ length text)

@@ -11,12 +11,13 @@ ghost use Rattle.serde_json.specs.Written.{has_float};
 ghost use Rattle.geoarrow_meta.specs.declared.metadata.Metadata.{Metadata};
 ghost use Rattle.geoarrow_meta.specs.CrsValue.{IsCrsValue};
 ghost use Rattle.geoarrow_meta.specs.Written.{meta_value, printed, normal, is_bare, IsReadBack, NestsWithin};
-ghost use Rattle.geoarrow_meta.specs.Read.{empty, Denotes, DenotesMetadata, RefusedAs, TextRefusedAs, IsTextReading};
+ghost use Rattle.geoarrow_meta.specs.Read.{empty, some_has_float, Denotes, DenotesMetadata, RefusedAs, TextRefusedAs, IsTextReading};
 ghost use Rattle.geoarrow_meta.specs.KeyValues.{AreValuesOf};
 
 mod key_values;
 mod plain;
 mod plain_members;
+mod plain_values;
 mod print;
 mod tokens;
 mod write;
@@ -33,6 +34,7 @@ use print::print_object;
 use serde_json::Value;
 use std::alloc::{AllocError, Global};
 use std::sync::Arc;
+use tokens::read_noting;
 pub use tokens::read_values;
 use write::written_value;
 
@@ -129,6 +131,39 @@ impl Metadata {
                 return Err(crs_fault(alloc, "CRS holds a number that is not whole"));
             }
         }
+        Metadata::of_whole(alloc, values)
+    }
+
+    // The metadata of those values, where it is known whether the CRS may hold a float.
+    #[inline(always)]
+    fn of_noted(
+        alloc: Global,
+        values: KeyValues<Value>,
+        may_hold_float: bool,
+    ) -> GeoArrowResult<Metadata>
+        requires found { (d : Data) × AreValuesOf d (option_map view values.crs) values.crs_type values.edges }
+        requires whole { may_hold_float ≡ false → some_has_float (option_map view values.crs) ≡ false }
+        ensures ok { IfOk result (λ m. (d : Data) → IsSome (as_object d)
+            → AreValuesOf d (option_map view values.crs) values.crs_type values.edges → Denotes d m) }
+        ensures err { IfErr result (λ e. (d : Data) → IsSome (as_object d)
+            → AreValuesOf d (option_map view values.crs) values.crs_type values.edges → RefusedAs d e) }
+    {
+        if may_hold_float {
+            return Metadata::of_values(alloc, values);
+        }
+        Metadata::of_whole(alloc, values)
+    }
+
+    // The metadata of those values, of which the CRS holds no float.
+    #[inline(always)]
+    fn of_whole(alloc: Global, values: KeyValues<Value>) -> GeoArrowResult<Metadata>
+        requires found { (d : Data) × AreValuesOf d (option_map view values.crs) values.crs_type values.edges }
+        requires whole { some_has_float (option_map view values.crs) ≡ false }
+        ensures ok { IfOk result (λ m. (d : Data) → IsSome (as_object d)
+            → AreValuesOf d (option_map view values.crs) values.crs_type values.edges → Denotes d m) }
+        ensures err { IfErr result (λ e. (d : Data) → IsSome (as_object d)
+            → AreValuesOf d (option_map view values.crs) values.crs_type values.edges → RefusedAs d e) }
+    {
         let Some(crs_type) = values.crs_type else {
             return Err(external_fault(alloc, "unknown crs_type"));
         };
@@ -190,8 +225,9 @@ impl Metadata {
         ensures exact { IsTextReading (Some text.now) result }
         ensures refusal { IfErr result (TextRefusedAs (Some text.now)) }
     {
-        let read = match read_values(alloc, text) {
-            Ok(Some(values)) => Metadata::of_values(alloc, values),
+        let mut float_read = false;
+        let read = match read_noting(alloc, text, &mut float_read) {
+            Ok(Some(values)) => Metadata::of_noted(alloc, values, float_read),
             Ok(None) => Err(external_fault(alloc, "metadata is not an object")),
             Err(refusal) => return Err(unread(alloc, refusal)),
         };

@@ -23,12 +23,13 @@ mod scalars;
 mod skip;
 mod values;
 
+pub use numbers::number_of;
 pub use open::{open_array, open_object};
 pub use print::print_value;
 pub use refusal::Refusal;
 pub use scalars::{read_bool, read_number, read_str, read_text};
 pub use skip::{skip_items, skip_members, skip_rest, skip_value};
-pub use values::read_value;
+pub use values::{put_member, read_value};
 
 /// How deep the arrays and objects of a text may be nested for `serde_json` to read it.
 pub const MAX_DEPTH: usize = 127;

@@ -8,7 +8,7 @@ use serde_json::Number;
 
 /// The number that a token's text writes, and none where it is out of its range.
 #[inline]
-pub(crate) fn number_of(text: &str) -> Option<Number>
+pub fn number_of(text: &str) -> Option<Number>
     ensures { option_map number_view result ≡ number_of text.now }
 {
     let bytes = text.as_bytes();

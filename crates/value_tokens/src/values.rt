@@ -77,7 +77,7 @@ fn read_members(
     let mut found = Map::new(alloc);
     'members: while let Some(name) = reader.next_key()? {
         let member = read_value(alloc, reader, depth)?;
-        put(&mut found, alloc, name, member)?;
+        put_member(&mut found, alloc, name, member)?;
     }
     Ok(found)
 }
@@ -85,7 +85,7 @@ fn read_members(
 /// Puts a member into those that were found. Out of line, since an object may nest deep and this would take room on the
 /// stack at each level.
 #[inline(never)]
-fn put(
+pub fn put_member(
     found: &mut Map<String, Value>,
     alloc: Global,
     name: &str,

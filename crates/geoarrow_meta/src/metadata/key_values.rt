@@ -1,8 +1,9 @@
 //! The values of the three keys of a metadata's JSON object.
-ghost use Rattle.std.specs.Prelude.{◌≡◌, Option, IfOk, option_map};
+ghost use Rattle.std.specs.Prelude.{◌≡◌, Option, Some, false, IfOk, option_map};
 ghost use Rattle.serde_json.specs.Data.{Data};
 ghost use Rattle.serde_json.specs.View.{view};
-ghost use Rattle.geoarrow_meta.specs.Read.{crs_type_data, edges_data, at_key};
+ghost use Rattle.serde_json.specs.Written.{has_float};
+ghost use Rattle.geoarrow_meta.specs.Read.{crs_type_data, edges_data, at_key, present, some_has_float};
 ghost use Rattle.geoarrow_meta.specs.KeyValues.{IsWord, IsNamed, AreValuesOf};
 
 use crate::crs::CrsType;
@@ -32,6 +33,15 @@ pub(crate) fn values_of(alloc: Global, value: &Value) -> Result<KeyValues<Value>
         crs_type: crs_type_of(word_at(value, "crs_type")),
         edges: edges_of(word_at(value, "edges")),
     })
+}
+
+// The value, null as absent.
+#[inline]
+pub(crate) fn unless_null(value: Value) -> Option<Value>
+    ensures present { option_map view result ≡ present (Some (view value)) }
+    ensures whole { has_float (view value) ≡ false → some_has_float (option_map view result) ≡ false }
+{
+    Some(value).filter(|value| !value.is_null())
 }
 
 fn present_at<'v>(value: &'v Value, key: &str) -> Option<&'v Value>

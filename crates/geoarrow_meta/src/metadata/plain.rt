@@ -1,61 +1,77 @@
-//! The values of the three keys of a text that is an object of plain texts, as most metadata texts are: read from its bytes,
-//! without a scratch.
-ghost use Rattle.std.specs.Prelude.{◌≡◌, Some, IfOk, IfSome, option_map};
-ghost use Rattle.serde_json.specs.Data.{Data, Members, object, string};
+//! The values of the three keys of a text that is an object of plain texts, and whose CRS is made of them and of numbers, as most metadata
+//! texts are: read from its bytes, without a scratch.
+ghost use Rattle.std.specs.Prelude.{◌≡◌, false, Some, IfOk, IfSome, option_map};
+ghost use Rattle.serde_json.specs.Data.{Data, Members, object};
 ghost use Rattle.serde_json.specs.Read.{read};
+ghost use Rattle.serde_json.specs.View.{view};
+ghost use Rattle.geoarrow_meta.specs.Read.{some_has_float};
 ghost use Rattle.geoarrow_meta.specs.KeyValues.{AreValuesOf, Finds};
 
-use crate::metadata::key_values::{KeyValues, crs_type_of, edges_of};
-use crate::metadata::plain_members::{NotPlain, next_member, object_start};
+use crate::metadata::key_values::{KeyValues, crs_type_of, edges_of, unless_null};
+use crate::metadata::plain_members::{after_spaces, next_key, object_start, plain_word};
+use crate::metadata::plain_values::{Unread, plain_value};
 use serde_json::Value;
 use std::alloc::{AllocError, Global};
+use value_tokens::MAX_DEPTH;
 
-// The values of the three keys of the object of plain texts that the text is; none of another text. Allocates only a CRS.
+// The values of the three keys of the object that the text is; none where it is another than those that are read here. Turns
+// `float_read` true where the CRS holds a float.
 #[inline]
 pub(crate) fn plain_values(
     alloc: Global,
     text: &str,
+    float_read: &mut bool,
 ) -> Result<Option<KeyValues<Value>>, AllocError>
-    ensures { IfOk result (λ o. IfSome o (λ s. (d : Data) × (read text.now ≡ Some d) × Finds (Some s) d)) }
+    ensures found { IfOk result (λ o. IfSome o (λ s. (d : Data) × (read text.now ≡ Some d) × Finds (Some s) d)) }
+    ensures floats { IfOk result (λ o. IfSome o (λ s. float_read.new ≡ false → some_has_float (option_map view s.crs) ≡ false)) }
 {
-    let Ok(found) = take_members(text) else {
-        return Ok(None);
-    };
-    let crs = match found.crs {
-        Some(text) => Some(Value::String(String::from_str(alloc, text)?)),
-        None => None,
-    };
-    Ok(Some(KeyValues {
-        crs,
-        crs_type: found.crs_type,
-        edges: found.edges,
-    }))
+    match take_members(alloc, text, float_read) {
+        Ok(found) => Ok(Some(found)),
+        Err(Unread::NotPlain) => Ok(None),
+        Err(Unread::Memory) => Err(AllocError),
+    }
 }
 
-// Those values, with the text of a CRS where it is in the metadata text.
 #[tactic(auto, using(crate::proofs::KeyedValues::none_yet))]
-fn take_members<'a>(text: &'a str) -> Result<KeyValues<&'a str>, NotPlain>
-    ensures { IfOk result (λ s. (ms : Members) × (read text.entry.now ≡ Some (object ms))
-        × AreValuesOf (object ms) (option_map string (option_map (λ t. t.now) s.crs)) s.crs_type s.edges) }
+fn take_members(
+    alloc: Global,
+    text: &str,
+    float_read: &mut bool,
+) -> Result<KeyValues<Value>, Unread>
+    ensures found { IfOk result (λ s. (ms : Members) × (read text.now ≡ Some (object ms))
+        × AreValuesOf (object ms) (option_map view s.crs) s.crs_type s.edges) }
+    ensures floats { IfOk result (λ s. float_read.new ≡ false → some_has_float (option_map view s.crs) ≡ false) }
 {
     let mut at = object_start(text)?;
     let mut after_member = false;
     let mut crs = None;
     let mut crs_type = Some(None);
     let mut edges = Some(None);
-    'values: while let Some((key, word, next)) = next_member(text, at, after_member)? {
-        at = next;
+    'values: loop {
+        let (key, place) = next_key(text, at, after_member)?;
+        let Some(key) = key else {
+            if after_spaces(text, place) < text.len() {
+                return Err(Unread::NotPlain);
+            }
+            return Ok(KeyValues {
+                crs,
+                crs_type,
+                edges,
+            });
+        };
         after_member = true;
-        match key {
-            "crs" => crs = word,
-            "crs_type" => crs_type = crs_type_of(Some(word)),
-            "edges" => edges = edges_of(Some(word)),
-            _ => {}
+        if key == "crs" {
+            let (value, next) = plain_value(alloc, text, place, MAX_DEPTH - 1, float_read)?;
+            crs = unless_null(value);
+            at = next;
+        } else {
+            let (word, next) = plain_word(text, place)?;
+            match key {
+                "crs_type" => crs_type = crs_type_of(Some(word)),
+                "edges" => edges = edges_of(Some(word)),
+                _ => {}
+            }
+            at = next;
         }
     }
-    Ok(KeyValues {
-        crs,
-        crs_type,
-        edges,
-    })
 }

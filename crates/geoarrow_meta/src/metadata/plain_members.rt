@@ -1,17 +1,19 @@
-//! Objects of plain texts, read without a scratch and without an allocation.
+//! The parts of objects and arrays whose texts are plain, read without a scratch and without an allocation.
 //!
-//! A text is plain if its JSON has no escape. An object whose values are plain texts and nulls, with any spaces and keys, is read
-//! straight from its bytes, a member at a time. So it costs less than a `json::Reader`, which first finds where the tokens of a
+//! A text is plain if its JSON has no escape. Objects and arrays of plain texts, nulls and numbers, with any spaces and keys, are read
+//! straight from their bytes, a key or a value at a time. So it costs less than a `json::Reader`, which first finds where the tokens of a
 //! text begin. Of any other text this says nothing but that it is another: it may be JSON, or none.
-ghost use Rattle.std.specs.Prelude.{◌≡◌, ◌≢◌, ◌≤◌, ◌+◌, [], ◌∷◌, length, drop, slice_index, true, false, ◌||◌, IfOk, MatchOption, option_map};
+ghost use Rattle.std.specs.Prelude.{◌≡◌, ◌≢◌, ◌≤◌, ◌+◌, ◌<◌, [], ◌∷◌, length, drop, slice_index, true, false, ◌||◌, IfOk, MatchOption, option_map};
 ghost use Rattle.std.specs.List.{prefix_len};
-ghost use Rattle.json.specs.Lex.{Place, tokens, token, colon, operator, operator_lexeme, class, begins_colon, may_begin, punctuate};
+ghost use Rattle.json.specs.Lex.{tokens, token, colon, operator, operator_lexeme, class};
 ghost use Rattle.json.specs.Token as spec;
 ghost use Rattle.json.specs.Word as word;
 ghost use Rattle.json.specs.Run as run;
-ghost use Rattle.geoarrow_meta.specs.PlainTokens.{lexemes_at, tokens_left, Passes, word_token};
+ghost use Rattle.geoarrow_meta.specs.PlainTokens.{lexemes_at, tokens_left, Passes, IsBeginning, Takes, word_token};
 
-/// The text is no object of plain texts and nulls.
+use json::is_number;
+
+/// The text is another than those that are read here.
 #[derive(Clone, Copy)]
 pub(crate) struct NotPlain;
 
@@ -25,37 +27,48 @@ pub(crate) fn object_start(text: &str) -> Result<usize, NotPlain>
     Ok(at)
 }
 
-/// The next member: its key, its text, which is `None` if it is null, and the place before what follows it. Returns `None` at the
-/// end of the object, if that is the end of the text.
-#[inline]
-pub(crate) fn next_member<'a>(
+/// The next key, and the place of its value; or no key, and the place behind the brace that closes the object.
+#[inline(always)]
+pub(crate) fn next_key<'a>(
     text: &'a str,
     at: usize,
     after_member: bool,
-) -> Result<Option<(&'a str, Option<&'a str>, usize)>, NotPlain>
+) -> Result<(Option<&'a str>, usize), NotPlain>
     requires { at ≤ length text.now }
-    ensures { IfOk result (λ o. MatchOption o (tokens_left after_member text.entry.now at ≡ spec.end_object ∷ [])
-        (λ m. (tokens_left after_member text.entry.now at
-        ≡ spec.key m.0.now ∷ word_token (option_map (λ s. s.now) m.1) ∷ tokens_left true text.entry.now m.2) × (m.2 ≤ length text.entry.now))) }
+    ensures key { IfOk result (λ p. MatchOption p.0
+        (tokens_left after_member text.entry.now at ≡ spec.end_object ∷ tokens_left true text.entry.now p.1)
+        (λ k. tokens_left after_member text.entry.now at ≡ spec.key k.now ∷ tokens_left false text.entry.now p.1)) }
+    ensures within { IfOk result (λ p. p.1 ≤ length text.entry.now) }
 {
     let at = after_spaces(text, at);
     if byte_at(text, at) == b'}' {
-        if after_spaces(text, at + 1) < text.len() {
-            return Err(NotPlain);
-        }
-        return Ok(None);
+        return Ok((None, at + 1));
     }
     let at = key_place(text, at, after_member)?;
     let (key, at) = plain_key(text, at)?;
-    let (word, at) = plain_word(text, at)?;
-    Ok(Some((key, word, at)))
+    Ok((Some(key), at))
 }
 
-// Where the next key should be: behind the comma that follows a member.
+/// True, and the place of the next item; or false, and the place behind the bracket that closes the array.
+#[inline(always)]
+pub(crate) fn next_item(text: &str, at: usize, after_item: bool) -> Result<(bool, usize), NotPlain>
+    requires { at ≤ length text.now }
+    ensures end { IfOk result (λ p. p.0 ≡ false → tokens_left after_item text.now at ≡ spec.end_array ∷ tokens_left true text.now p.1) }
+    ensures item { IfOk result (λ p. p.0 ≡ true → IsBeginning text.now (tokens_left after_item text.now at) p.1) }
+    ensures within { IfOk result (λ p. p.1 ≤ length text.now) }
+{
+    let at = after_spaces(text, at);
+    if byte_at(text, at) == b']' {
+        return Ok((false, at + 1));
+    }
+    Ok((true, key_place(text, at, after_item)?))
+}
+
+// Where the next key or item should be: behind the comma that follows a value.
 #[inline(always)]
 fn key_place(text: &str, at: usize, after_member: bool) -> Result<usize, NotPlain>
     requires { at ≤ length text.now }
-    ensures place { IfOk result (λ next. (p : Place) × (may_begin p ≡ true) × (tokens_left after_member text.now at ≡ punctuate p (lexemes_at text.now next))) }
+    ensures place { IfOk result (IsBeginning text.now (tokens_left after_member text.now at)) }
     ensures within { IfOk result (λ next. next ≤ length text.now) }
 {
     if !after_member {
@@ -76,19 +89,50 @@ fn plain_key<'a>(text: &'a str, at: usize) -> Result<(&'a str, usize), NotPlain>
     Ok((key, at))
 }
 
-// The plain text or null that comes next, and the place of the comma or the closing brace after it.
+/// The plain text or null that comes next, and the place of the comma, the brace or the bracket after it.
 #[inline(always)]
-fn plain_word<'a>(text: &'a str, at: usize) -> Result<(Option<&'a str>, usize), NotPlain>
+pub(crate) fn plain_word<'a>(text: &'a str, at: usize) -> Result<(Option<&'a str>, usize), NotPlain>
     requires { at ≤ length text.now }
-    ensures word { IfOk result (λ p. Passes text.entry.now at (token (word_token (option_map (λ s. s.now) p.0)) ∷ []) p.1) }
-    ensures no_key { IfOk result (λ p. begins_colon (lexemes_at text.entry.now p.1) ≡ false) }
+    ensures { IfOk result (λ p. Takes text.entry.now at (word_token (option_map (λ s. s.now) p.0)) p.1) }
 {
     let (word, at) = text_or_null(text, after_spaces(text, at))?;
     let at = after_spaces(text, at);
     match byte_at(text, at) {
-        b',' | b'}' => Ok((word, at)),
+        b',' | b'}' | b']' => Ok((word, at)),
         _ => Err(NotPlain),
     }
+}
+
+/// The number there, and the place after it.
+#[inline]
+pub(crate) fn plain_number<'a>(text: &'a str, at: usize) -> Result<(&'a str, usize), NotPlain>
+    requires { at ≤ length text.now }
+    ensures { IfOk result (λ p. Takes text.entry.now at (spec.number p.0.now) p.1) }
+{
+    let end = word_end(text, at);
+    if byte_at(text, at) >= 0x80 || end == text.len() {
+        return Err(NotPlain);
+    }
+    let number = &text[at..end];
+    if !is_number(number) {
+        return Err(NotPlain);
+    }
+    Ok((number, end))
+}
+
+// The first place from there on where a word ends; or the end.
+#[inline(always)]
+fn word_end(text: &str, from: usize) -> usize
+    requires { from ≤ length text.now }
+    ensures within { (from ≤ result) × (result ≤ length text.now) }
+    ensures ended { result < length text.now → (word.is_operator (slice_index text.now result) || word.is_space (slice_index text.now result)) ≡ true }
+{
+    let bytes = text.as_bytes();
+    let mut at = from;
+    while at < bytes.len() && !ends_word(bytes[at]) {
+        at += 1;
+    }
+    at
 }
 
 // The plain text or null there, and the place after it.
@@ -104,7 +148,7 @@ fn text_or_null<'a>(text: &'a str, at: usize) -> Result<(Option<&'a str>, usize)
     Ok((Some(word), at))
 }
 
-// The place after the brace, comma or colon there.
+// The place after the brace, bracket, comma or colon there.
 #[inline(always)]
 fn after_operator(text: &str, at: usize, byte: u8) -> Result<usize, NotPlain>
     requires within { at ≤ length text.now }
@@ -144,8 +188,9 @@ fn null_end(text: &str, at: usize) -> Result<usize, NotPlain>
     Ok(at + 4)
 }
 
-// The first place from there on where a quote, a backslash or a control character is; or the end.
-#[inline(always)]
+// The first place from there on where a quote, a backslash or a control character is; or the end. Its loop is faster out of line,
+// where it counts nothing else.
+#[inline(never)]
 fn plain_end(text: &str, from: usize) -> usize
     requires { from ≤ length text.now }
     ensures first { result ≡ from + prefix_len run.is_plain (drop from text.now) }
@@ -153,16 +198,24 @@ fn plain_end(text: &str, from: usize) -> usize
 {
     let bytes = text.as_bytes();
     let mut at = from;
-    while at < bytes.len() && bytes[at] != b'"' && bytes[at] != b'\\' && bytes[at] >= 0x20 {
+    while at < bytes.len() && is_plain(bytes[at]) {
         at += 1;
     }
     at
 }
 
+// Most bytes are small letters, which one comparison tells.
+#[inline(always)]
+fn is_plain(byte: u8) -> bool
+    ensures { result ≡ run.is_plain byte }
+{
+    byte > b'\\' || byte >= 0x20 && byte != b'"' && byte != b'\\'
+}
+
 // The first place from there on where no space is.
 #[tactic(auto, using(crate::proofs::PlainTexts::space_skipped))]
 #[inline(always)]
-fn after_spaces(text: &str, from: usize) -> usize
+pub(crate) fn after_spaces(text: &str, from: usize) -> usize
     requires { from ≤ length text.now }
     ensures same { lexemes_at text.now result ≡ lexemes_at text.now from }
     ensures within { result ≤ length text.now }
@@ -182,17 +235,17 @@ fn is_space(byte: u8) -> bool
     (byte == b' ') | (byte == b'\t') | (byte == b'\n') | (byte == b'\r')
 }
 
-// A comma, a brace that closes or a space ends the word before it.
+// A comma, a brace or a bracket that closes, or a space ends the word before it.
 #[inline(always)]
 fn ends_word(byte: u8) -> bool
     ensures { result ≡ true → (byte ≢ 0) × ((word.is_operator byte || word.is_space byte) ≡ true) }
 {
-    (byte == b',') | (byte == b'}') | is_space(byte)
+    (byte == b',') | (byte == b'}') | (byte == b']') | is_space(byte)
 }
 
 // The byte there, or 0 past the end.
 #[inline(always)]
-fn byte_at(text: &str, at: usize) -> u8
+pub(crate) fn byte_at(text: &str, at: usize) -> u8
     ensures { result ≡ slice_index text.now at }
 {
     let bytes = text.as_bytes();

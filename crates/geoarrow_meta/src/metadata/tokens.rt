@@ -1,13 +1,13 @@
 //! The values of the three keys of the JSON object that a text is. The last value of a key counts.
-ghost use Rattle.std.specs.Prelude.{◌≡◌, ◌<◌, length, Some, None, Err, IfOk, OnOk, option_map};
+ghost use Rattle.std.specs.Prelude.{◌≡◌, ◌<◌, length, false, Some, None, Err, IfOk, IfSome, OnOk, option_map};
 ghost use Rattle.serde_json.specs.Data.{Data};
 ghost use Rattle.serde_json.specs.Read.{read};
 ghost use Rattle.serde_json.specs.View.{view};
 ghost use Rattle.value_tokens.specs.Next.{next_value, ReadsValue};
-ghost use Rattle.geoarrow_meta.specs.Read.{present};
+ghost use Rattle.geoarrow_meta.specs.Read.{present, some_has_float};
 ghost use Rattle.geoarrow_meta.specs.KeyValues.{IsWord, Finds};
 
-use crate::metadata::key_values::{KeyValues, crs_type_of, edges_of};
+use crate::metadata::key_values::{KeyValues, crs_type_of, edges_of, unless_null};
 use crate::metadata::plain::plain_values;
 use json::{Reader, Scratch, Token};
 use serde_json::Value;
@@ -29,9 +29,27 @@ pub fn read_values(alloc: Global, text: &str) -> Result<Option<KeyValues<Value>>
     ensures ok { IfOk result (λ o. (d : Data) × (read text.now ≡ Some d) × Finds o d) }
     ensures text { result ≡ Err Refusal.Text → read text.now ≡ None }
 {
-    match plain_values(alloc, text)? {
+    let mut float_read = false;
+    read_noting(alloc, text, &mut float_read)
+}
+
+// Those values. Leaves `float_read` false only where the CRS holds no float.
+#[inline(always)]
+pub(crate) fn read_noting(
+    alloc: Global,
+    text: &str,
+    float_read: &mut bool,
+) -> Result<Option<KeyValues<Value>>, Refusal>
+    ensures ok { IfOk result (λ o. (d : Data) × (read text.now ≡ Some d) × Finds o d) }
+    ensures whole { IfOk result (λ o. IfSome o (λ s. float_read.new ≡ false → some_has_float (option_map view s.crs) ≡ false)) }
+    ensures text { result ≡ Err Refusal.Text → read text.now ≡ None }
+{
+    match plain_values(alloc, text, float_read)? {
         Some(values) => Ok(Some(values)),
-        None => read_tokens(alloc, text),
+        None => {
+            *float_read = true;
+            read_tokens(alloc, text)
+        }
     }
 }
 
@@ -87,8 +105,7 @@ fn take_crs(alloc: Global, reader: &mut Reader<'_>, depth: usize) -> Result<Opti
     ensures shorter { OnOk result (length reader.new < length reader.old) }
     ensures text { result ≡ Err Refusal.Text → next_value depth reader.old ≡ None }
 {
-    let value = read_value(alloc, reader, depth)?;
-    Ok(Some(value).filter(|value| !value.is_null()))
+    Ok(unless_null(read_value(alloc, reader, depth)?))
 }
 
 // The text that comes next, null as absent; none where another value comes. Allocates nothing.

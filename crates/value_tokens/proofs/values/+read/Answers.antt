@@ -24,4 +24,4 @@ read_items-returns-clause-ok t c =
     l.invariant.some [] r (items_over c.args.depth l.reader r (grind arith)) ∙ ap (λ vs. Some (items_view vs, r)) (append-nil l.found.items)
 
 pub read_members-members-preserved : goal.read_members-members-preserved
-read_members-members-preserved t c = record { decides = grind (arith, member_read, c.in_ok-put.ensures); fewer = grind (arith, read_key-shorter) }
+read_members-members-preserved t c = record { decides = grind (arith, member_read, c.in_ok-put_member.ensures); fewer = grind (arith, read_key-shorter) }

@@ -1,19 +1,20 @@
-use Rattle.std.proofs.Common.{◌≡◌, ◌≤◌, ℕ, true, false, List, [], ◌∷◌, length, Option, None, Some, option_map, option_and_then, refl, ap, ◌∙◌, arith}
+use Rattle.std.proofs.Common.{◌≡◌, ℕ, false, List, [], ◌∷◌, length, Option, None, Some, option_map, option_and_then, codes, refl, sym, ap, ◌∙◌, arith}
+use Rattle.std.proofs.lemmas.Slice.Eq.{bytes_eq-Decides}
 use Rattle.json.specs.Json as json
 use Rattle.json.specs.Json.{read_key, parse_map}
-use Rattle.json.specs.Lex.{tokens}
+use Rattle.json.specs.Lex.{tokens, fresh, after_value, punctuate}
 use Rattle.json.specs.Token.{Token}
 use Rattle.serde_json.specs.Data.{Data, null, string, object}
 use Rattle.serde_json.specs.Read.{of_json, max_depth, read}
 use Rattle.arrow_values.specs.Tree.{Text}
 use Rattle.value_tokens.specs.Next.{next_value}
-use Rattle.geoarrow_meta.specs.PlainTokens.{tokens_left, word_token}
-use Rattle.value_tokens.specs.Turns.{converted_some, members_over}
+use Rattle.value_tokens.specs.Turns.{converted_some, members_over, value_takes}
 use Rattle.value_tokens.specs.Beginnings.{next_object, next_string, next_null}
+use Rattle.geoarrow_meta.specs.PlainTokens.{tokens_left, word_token}
 use Rattle.geoarrow_meta.specs.Read.{present}
 use Rattle.geoarrow_meta.proofs.KeyedValues.{crs_taken, crs_type_taken, edges_taken, passed}
+use Rattle.geoarrow_meta.proofs.PlainTexts.{none_left}
 use Rattle.geoarrow_meta.proofs.metadata.plain.take_members.Goals as goal
-use Rattle.geoarrow_meta.proofs.metadata.plain.take_members.Goals.{In-Some}
 
 -- the value of a plain text or null
 abbrev word_value : Option Text → Data
@@ -35,35 +36,59 @@ read_whole text d e =
     let j = converted_some of_json (json.value max_depth (tokens text)) d [] e in
     ap (λ o. option_and_then of_json (option_and_then (λ p. json.if_last p.0 p.1) o)) j.1 ∙ j.2
 
--- the next member, and its place in the text
-next_key : (c : In-Some) → let text = c.args.text.now in
-    (read_key (tokens_left c.values.after_member text c.values.at) ≡ Some (Some c.in-Some.key.now, word_token (option_map (λ s. s.now) c.in-Some.word) ∷ tokens_left true text c.in-Some.next)) × (c.in-Some.next ≤ length text)
-next_key c = let next = rw c.in-Some.is at c.in_ok-key.ensures in (ap read_key next.0, next.1)
+pub values-preserved-then-eq : goal.values-preserved-then-eq
+values-preserved-then-eq c =
+    let key = rw c.in-Some.is at c.in_ok-key.ensures.key in
+    let value = c.in_ok-value.ensures in
+    record {
+      found = crs_taken c.values.invariant.found _ _ (ap read_key key) (value.value.0 fresh refl) ((bytes_eq-Decides c.in-Some.key.now (codes "crs")).0 (sym c.if-eq.ensures)) c.unless_null-crs.ensures.present;
+      floats = λ none. c.unless_null-crs.ensures.whole (value.floats none).1;
+      within = value.value.1;
+    }
 
-pub values-preserved-then-str_eq : goal.values-preserved-then-str_eq
-values-preserved-then-str_eq c =
-    let next = next_key (goal.at.values-preserved-then-str_eq c).In-Some in
-    (crs_taken c.values.invariant.0 _ _ next.0 (next_word 126 _ _) c.in-crs.is (as_present _), next.1)
+pub values-smaller-then-eq : goal.values-smaller-then-eq
+values-smaller-then-eq c =
+    let key = rw c.in-Some.is at c.in_ok-key.ensures.key in
+    omega (arith, ap length key, value_takes 126 _ _ _ (c.in_ok-value.ensures.value.0 fresh refl))
 
-pub values-preserved-then-str_eq-2 : goal.values-preserved-then-str_eq-2
-values-preserved-then-str_eq-2 c =
-    let next = next_key (goal.at.values-preserved-then-str_eq-2 c).In-Some in
-    (crs_type_taken c.values.invariant.0 _ _ next.0 (next_word 126 _ _) c.in-crs_type.is (c.crs_type_of-crs_type.ensures _ (as_present _)), next.1)
+pub values-preserved-in-crs_type : goal.values-preserved-in-crs_type
+values-preserved-in-crs_type c =
+    let key = rw c.in-Some.is at c.in_ok-key.ensures.key in
+    let word = ap (next_value 126) (c.in_ok-word.ensures.0 fresh refl) ∙ next_word 126 _ _ in
+    record {
+      found = crs_type_taken c.values.invariant.found _ _ (ap read_key key) word c.in-crs_type.is (c.crs_type_of-crs_type.ensures _ (as_present _));
+      floats = c.values.invariant.floats;
+      within = c.in_ok-word.ensures.1;
+    }
 
-pub values-preserved-then-str_eq-3 : goal.values-preserved-then-str_eq-3
-values-preserved-then-str_eq-3 c =
-    let next = next_key (goal.at.values-preserved-then-str_eq-3 c).In-Some in
-    (edges_taken c.values.invariant.0 _ _ next.0 (next_word 126 _ _) c.in-edges.is (c.edges_of-edges.ensures _ (as_present _)), next.1)
+pub values-preserved-in-edges : goal.values-preserved-in-edges
+values-preserved-in-edges c =
+    let key = rw c.in-Some.is at c.in_ok-key.ensures.key in
+    let word = ap (next_value 126) (c.in_ok-word.ensures.0 fresh refl) ∙ next_word 126 _ _ in
+    record {
+      found = edges_taken c.values.invariant.found _ _ (ap read_key key) word c.in-edges.is (c.edges_of-edges.ensures _ (as_present _));
+      floats = c.values.invariant.floats;
+      within = c.in_ok-word.ensures.1;
+    }
 
 pub values-preserved : goal.values-preserved
 values-preserved c =
-    let next = next_key (goal.at.values-preserved c).In-Some in
-    (passed c.values.invariant.0 _ _ next.0 (next_word 126 _ _) (grind arith) (grind arith) (grind arith), next.1)
+    let key = rw c.in-Some.is at c.in_ok-key.ensures.key in
+    let word = ap (next_value 126) (c.in_ok-word.ensures.0 fresh refl) ∙ next_word 126 _ _ in
+    record {
+      found = passed c.values.invariant.found _ _ (ap read_key key) word (grind arith) (grind arith) (grind arith);
+      floats = c.values.invariant.floats;
+      within = c.in_ok-word.ensures.1;
+    }
 
-pub returns : goal.returns
-returns c =
-    let way = c.values.invariant.0 in
-    let end = ap read_key (rw c.in_default.is at c.in_ok-key.ensures) in
-    let members = way.decides ∙ members_over 126 way.found (tokens_left c.values.after_member c.args.text.now c.values.at) [] end in
-    let object_read = ap (next_value 127) c.in_ok-at.ensures.tokens ∙ next_object 126 (tokens_left false c.args.text.now c.in_ok-at.at) ∙ ap (parse_map object) members in
-    (way.found, read_whole c.args.text.now (object way.found) object_read, way.values)
+pub returns-in_default-clause-found : goal.returns-in_default-clause-found
+unfolding punctuate
+returns-in_default-clause-found c =
+    let text = c.args.text.now in
+    let way = c.values.invariant.found in
+    let none = sym c.after_spaces.ensures.same ∙ none_left text c.after_spaces.result c.if-after_spaces-text.false in
+    let key = rw c.in_default.is at c.in_ok-key.ensures.key in
+    let end = ap read_key key ∙ ap (λ ls. Some (None, punctuate after_value ls)) none in
+    let members = way.decides ∙ members_over 126 way.found _ [] end in
+    let object_read = ap (next_value 127) c.in_ok-at.ensures.tokens ∙ next_object 126 (tokens_left false text c.in_ok-at.at) ∙ ap (parse_map object) members in
+    (way.found, read_whole text (object way.found) object_read, way.values)
