@@ -9,24 +9,24 @@ use arrow_values::FixedName;
 
 /// A kind in each coordinate type and these dimensions, for each of these native kinds, and then the other kinds.
 macro_rules! all_kinds {
-    ($least:path, $high:path, $measured:path, $greatest:path; $($kind:ident)*) => {
+    ($xy:path, $z:path, $m:path, $zm:path; $($kind:ident)*) => {
         [
             $(
-                Kind::Native(NativeKind::$kind, Interleaved, $least),
-                Kind::Native(NativeKind::$kind, Interleaved, $high),
-                Kind::Native(NativeKind::$kind, Interleaved, $measured),
-                Kind::Native(NativeKind::$kind, Interleaved, $greatest),
-                Kind::Native(NativeKind::$kind, Separated, $least),
-                Kind::Native(NativeKind::$kind, Separated, $high),
-                Kind::Native(NativeKind::$kind, Separated, $measured),
-                Kind::Native(NativeKind::$kind, Separated, $greatest),
+                Kind::Native(NativeKind::$kind, Interleaved, $xy),
+                Kind::Native(NativeKind::$kind, Interleaved, $z),
+                Kind::Native(NativeKind::$kind, Interleaved, $m),
+                Kind::Native(NativeKind::$kind, Interleaved, $zm),
+                Kind::Native(NativeKind::$kind, Separated, $xy),
+                Kind::Native(NativeKind::$kind, Separated, $z),
+                Kind::Native(NativeKind::$kind, Separated, $m),
+                Kind::Native(NativeKind::$kind, Separated, $zm),
             )*
             Kind::Geometry(Interleaved),
             Kind::Geometry(Separated),
-            Kind::Rect($least),
-            Kind::Rect($high),
-            Kind::Rect($measured),
-            Kind::Rect($greatest),
+            Kind::Rect($xy),
+            Kind::Rect($z),
+            Kind::Rect($m),
+            Kind::Rect($zm),
             Kind::Wkb(Width::Plain),
             Kind::Wkb(Width::Large),
             Kind::Wkb(Width::View),

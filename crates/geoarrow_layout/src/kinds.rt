@@ -162,9 +162,6 @@ pub(crate) type Coordinate = (CoordType, Dimension);
 /// All dimensions, in their order.
 pub(crate) const DIMENSIONS: [Dimension; 4] = [XY, XYZ, XYM, XYZM];
 
-/// The dimension with a height and a measure.
-pub(crate) const WIDEST: Dimension = XYZM;
-
 /// The dimension of that place.
 pub(crate) fn dimension_at(order: u8) -> Option<Dimension>
     ensures { (d : Dimension) → (result ≡ Some d) ↔ (order ≡ order_of d) }

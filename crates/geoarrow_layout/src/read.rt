@@ -8,7 +8,7 @@ ghost use Rattle.geoarrow_layout.specs.declared.names.ExtensionName.TheVariants 
 
 use crate::encodings::{Kind, NativeKind, Width, list_names, parts_of_id};
 use crate::fault::LayoutFault;
-use crate::kinds::{CoordType, Coordinate, Dimension, WIDEST, list_size, only_dimension};
+use crate::kinds::{CoordType, Coordinate, Dimension, list_size, only_dimension};
 use crate::names::{Candidates, ExtensionName};
 use crate::summary::{Bottom, Summary, has_known, is_float64, struct_bottom, summarize};
 use arrow_values::{DataType, Field};
@@ -298,7 +298,7 @@ fn sized_dimension(inner: &Field, size: i32) -> Option<Dimension>
         2 => Some(Dimension::XY),
         3 if inner.name() == "xym" => Some(Dimension::XYM),
         3 => Some(Dimension::XYZ),
-        4 => Some(WIDEST),
+        4 => Some(Dimension::XYZM),
         _ => None,
     }
 }
@@ -347,7 +347,7 @@ fn separated_dimension(count: usize, names: u16) -> Result<Dimension, LayoutFaul
         3 if has_known(names, 3) => Ok(Dimension::XYM),
         3 if has_known(names, 2) => Ok(Dimension::XYZ),
         3 => Err(LayoutFault::BadFieldNames),
-        4 => Ok(WIDEST),
+        4 => Ok(Dimension::XYZM),
         _ => Err(LayoutFault::BadFieldCount),
     }
 }
@@ -479,7 +479,7 @@ fn box_dimension(count: usize, names: u16) -> Result<Dimension, LayoutFault>
         6 if has_both(names, 6, 7) => Ok(Dimension::XYM),
         6 if has_both(names, 4, 5) => Ok(Dimension::XYZ),
         6 => Err(LayoutFault::BadFieldNames),
-        8 => Ok(WIDEST),
+        8 => Ok(Dimension::XYZM),
         _ => Err(LayoutFault::BadFieldCount),
     }
 }
