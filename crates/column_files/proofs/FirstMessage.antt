@@ -54,7 +54,6 @@ same_bytes : (form : Form) (bytes all : List ℕ) → bytes ≡ all → ReadAs f
 same_bytes form bytes all same = λ r. (λ is. subst (λ l. IsFileRead form l r) same is, λ is. subst (λ l. IsFileRead form l r) (sym same) is)
 
 same_found : (bytes all : List ℕ) → message_in bytes ≡ message_in all → ReadAs ArrowStream bytes all
-unfolding IsFileRead
 same_found bytes all same = λ r. (λ is. subst (λ f. IsSchemaRead f (schema_of_message 61) r) same is, λ is. subst (λ f. IsSchemaRead f (schema_of_message 61) r) (sym same) is)
 
 of_stream : (head four more ys : List ℕ) → head ≡ 255 ∷ 255 ∷ 255 ∷ 255 ∷ four → length head ≡ 8 → GivesUpTo (size_in (drop 4 head)) (Some (more ++ ys)) (Some ys) more → ReadAs ArrowStream (head ++ more) (head ++ (more ++ ys))

@@ -36,7 +36,7 @@ IsParquetRead footer (Err (ParquetFault error)) = parquet.IsFileRead footer (Err
 IsParquetRead footer (Err fault) = ⊥
 
 -- what is read of the bytes of a file in that format
-unfoldable pub IsFileRead : Form → List ℕ → Result (Vec Column Global) FileFault → Type 0
+abbrev pub IsFileRead : Form → List ℕ → Result (Vec Column Global) FileFault → Type 0
 IsFileRead ArrowFile bytes r = IsSchemaRead (footer_in bytes) (schema_of_footer 61) r
 IsFileRead ArrowStream bytes r = IsSchemaRead (message_in bytes) (schema_of_message 61) r
 IsFileRead Parquet bytes r = IsParquetRead (parquet.footer_in bytes) r

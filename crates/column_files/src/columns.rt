@@ -74,7 +74,6 @@ pub fn columns_in(alloc: Global, bytes: &[u8]) -> Result<Vec<Column>, FileFault>
 /// let refused = columns_of(alloc, Form::Lines, b"\n");
 /// assert!(rt; matches!(refused, Err(FileFault::NoField(0, LineFault::NotJson(_)))));
 /// ```
-#[tactic(auto, unfolding(crate::specs::Files::IsFileRead))]
 pub fn columns_of(alloc: Global, form: Form, bytes: &[u8]) -> Result<Vec<Column>, FileFault>
     ensures { IsFileRead form bytes.now result }
 {
