@@ -42,7 +42,7 @@ pub enum UnionMode {
 /// assert!(rt; matches!(&list, DataType::List(item) if item.name() == "item"));
 /// ```
 #[cycle(tree)]
-#[derive(Debug)]
+#[derive(Debug, Drop)]
 pub enum DataType {
     /// Nulls.
     Null,
@@ -146,54 +146,6 @@ pub struct Fields {
 pub struct UnionFields {
     members: Vec<(i8, Field)>,
 }
-
-// Most data types have no field inside. That is seen where one is dropped, with no call.
-impl Drop for DataType {
-    #[cycle(drops)]
-    #[inline(always)]
-    fn drop(self) {
-        match self {
-            DataType::Null
-            | DataType::Boolean
-            | DataType::Int8
-            | DataType::Int16
-            | DataType::Int32
-            | DataType::Int64
-            | DataType::UInt8
-            | DataType::UInt16
-            | DataType::UInt32
-            | DataType::UInt64
-            | DataType::Float16
-            | DataType::Float32
-            | DataType::Float64
-            | DataType::Date32
-            | DataType::Date64
-            | DataType::Binary
-            | DataType::LargeBinary
-            | DataType::BinaryView
-            | DataType::Utf8
-            | DataType::LargeUtf8
-            | DataType::Utf8View => {}
-            DataType::List(item) | DataType::LargeList(item) | DataType::FixedSizeList(item, _) => {
-                drop_item(item);
-            }
-            DataType::Struct(fields) => drop_fields(fields),
-            DataType::Union(members, _) => drop_members(members),
-        }
-    }
-}
-
-#[cycle(drops)]
-#[inline(never)]
-fn drop_item(_item: Box<Field>) {}
-
-#[cycle(drops)]
-#[inline(never)]
-fn drop_fields(_fields: Fields) {}
-
-#[cycle(drops)]
-#[inline(never)]
-fn drop_members(_members: UnionFields) {}
 
 impl Model for Field {
     ghost use Rattle.arrow_values.specs.Tree.{FieldTree};
