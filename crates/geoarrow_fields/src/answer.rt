@@ -33,15 +33,14 @@ pub(crate) fn answer_line_with_scratch(
 ) -> Result<String, AllocError>
     ensures { IfOk result (λ answer. Answers command line.now (string_bytes answer)) }
 {
-    match parse_line_with_scratch(alloc, line, scratch) {
-        Ok(Some(field)) => match command {
-            Command::Read => answer_read(alloc, &field),
-            Command::Infer => answer_infer(alloc, &field),
-            Command::Canon => answer_canon(alloc, field),
-            Command::Columns => answer_columns(alloc, &field),
-        },
-        Ok(None) => String::from_str(alloc, "error field"),
-        Err(error) => Err(error),
+    let Some(field) = parse_line_with_scratch(alloc, line, scratch)? else {
+        return String::from_str(alloc, "error field");
+    };
+    match command {
+        Command::Read => answer_read(alloc, &field),
+        Command::Infer => answer_infer(alloc, &field),
+        Command::Canon => answer_canon(alloc, field),
+        Command::Columns => answer_columns(alloc, &field),
     }
 }
 

@@ -8,33 +8,11 @@ use crate::lines::{answer_chunk, end_line};
 use crate::output::{Fault, finish};
 use crate::{Command, RunEnd};
 use json::Scratch;
-use std::alloc::{AllocError, Global};
+use std::alloc::Global;
 use std::io::{Read, Write};
 
 /// The size of the read buffer, in bytes.
 const CHUNK_BYTES: usize = 65_536;
-
-/// A chunk of that many bytes.
-fn zeros(alloc: Global, len: usize) -> Result<Vec<u8>, AllocError>
-    ensures { IfOk result (λ chunk. vec_len chunk ≡ len) }
-{
-    vec![in alloc; 0u8; len]
-}
-
-/// Reads once into the front of a slice, or returns a fault of the input.
-fn read_front<R: Read>(reader: &mut R, chunk: &mut [u8]) -> Result<usize, Fault>
-    requires { 0 < length chunk.old }
-    ensures bound { IfOk result (λ n. n ≤ length chunk.new) }
-    ensures bytes { IfOk result (λ n. Consumes (R.remaining reader.old) (R.remaining reader.new) (take n chunk.new)) }
-    ensures end { IfOk result (λ n. n ≡ 0 → IsAtEnd (R.remaining reader.new)) }
-    ensures err { IfErr result (λ fault. (fault ≡ Fault.Input)
-        × Keeps (R.remaining reader.old) (R.remaining reader.new)) }
-{
-    match reader.read(chunk) {
-        Ok(n) => Ok(n),
-        Err(_) => Err(Fault::Input),
-    }
-}
 
 /// Reads once into the front of a chunk, which keeps its length, or returns a fault of the input.
 fn read_chunk<R: Read>(reader: &mut R, chunk: &mut Vec<u8>) -> Result<usize, Fault>
@@ -46,7 +24,10 @@ fn read_chunk<R: Read>(reader: &mut R, chunk: &mut Vec<u8>) -> Result<usize, Fau
     ensures err { IfErr result (λ fault. (fault ≡ Fault.Input)
         × Keeps (R.remaining reader.old) (R.remaining reader.new)) }
 {
-    read_front(reader, chunk.as_mut_slice())
+    match reader.read(chunk.as_mut_slice()) {
+        Ok(n) => Ok(n),
+        Err(_) => Err(Fault::Input),
+    }
 }
 
 /// Answers the lines of the reader, up to its end.
@@ -62,7 +43,7 @@ fn answer_lines<R: Read, W: Write>(
     ensures err { IfErr result (λ fault. IsStopped command fault
         (R.remaining reader.old) (R.remaining reader.new) (W.contents writer.old) (W.contents writer.new)) }
 {
-    let mut chunk = zeros(alloc, CHUNK_BYTES)?;
+    let mut chunk = vec![in alloc; 0u8; CHUNK_BYTES]?;
     let mut scratch = Scratch::new(alloc);
     let mut begun = Vec::new(alloc);
     let mut count = 0;

@@ -21,10 +21,7 @@ pub(crate) fn type_after(
     let Ok(written) = found.metadata().serialize(alloc) else {
         return Err(AllocError);
     };
-    let metadata = match &written {
-        Some(text) => text.as_str(),
-        None => "-",
-    };
+    let metadata = written.as_deref().unwrap_or("-");
     let room = metadata.len().saturating_add(WORDS_ROOM);
     let mut text = String::with_capacity(alloc, room)?;
     text.push_str(before)?;

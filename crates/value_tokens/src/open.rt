@@ -19,12 +19,8 @@ pub fn open_object(reader: &mut Reader<'_>, depth: usize) -> Result<Option<usize
 {
     let token = reader.next().ok_or(Refusal::Text)?;
     match token {
-        Token::BeginObject => {
-            if depth == 0 {
-                return Err(Refusal::Text);
-            }
-            Ok(Some(depth - 1))
-        }
+        Token::BeginObject if depth == 0 => Err(Refusal::Text),
+        Token::BeginObject => Ok(Some(depth - 1)),
         other => {
             skip_rest(other, reader, depth)?;
             Ok(None)
@@ -44,12 +40,8 @@ pub fn open_array(reader: &mut Reader<'_>, depth: usize) -> Result<Option<usize>
 {
     let token = reader.next().ok_or(Refusal::Text)?;
     match token {
-        Token::BeginArray => {
-            if depth == 0 {
-                return Err(Refusal::Text);
-            }
-            Ok(Some(depth - 1))
-        }
+        Token::BeginArray if depth == 0 => Err(Refusal::Text),
+        Token::BeginArray => Ok(Some(depth - 1)),
         other => {
             skip_rest(other, reader, depth)?;
             Ok(None)

@@ -1,4 +1,6 @@
 //! Why no value is taken.
+ghost use Rattle.std.specs.Prelude.{◌≡◌};
+ghost use Rattle.value_tokens.specs.declared.refusal.Refusal.TheVariants.{Text, Memory};
 
 use json::Invalid;
 use std::alloc::{AllocError, AllocFailed};
@@ -13,9 +15,6 @@ pub enum Refusal {
 }
 
 impl From<AllocError> for Refusal {
-    ghost use Rattle.std.specs.Prelude.{◌≡◌};
-    ghost use Rattle.value_tokens.specs.declared.refusal.Refusal.TheVariants.{Memory};
-
     ghost from_gives = { λ _ refusal. refusal ≡ Memory };
 
     fn from(_refused: AllocError) -> Refusal {
@@ -24,9 +23,6 @@ impl From<AllocError> for Refusal {
 }
 
 impl<T: Drop> From<AllocFailed<T>> for Refusal {
-    ghost use Rattle.std.specs.Prelude.{◌≡◌};
-    ghost use Rattle.value_tokens.specs.declared.refusal.Refusal.TheVariants.{Memory};
-
     ghost from_gives = { λ _ refusal. refusal ≡ Memory };
 
     fn from(_refused: AllocFailed<T>) -> Refusal {
@@ -35,9 +31,6 @@ impl<T: Drop> From<AllocFailed<T>> for Refusal {
 }
 
 impl From<Invalid> for Refusal {
-    ghost use Rattle.std.specs.Prelude.{◌≡◌};
-    ghost use Rattle.value_tokens.specs.declared.refusal.Refusal.TheVariants.{Text};
-
     ghost from_gives = { λ _ refusal. refusal ≡ Text };
 
     fn from(_invalid: Invalid) -> Refusal {

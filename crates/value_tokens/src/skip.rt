@@ -35,23 +35,11 @@ pub fn skip_rest(token: Token<'_>, reader: &mut Reader<'_>, depth: usize) -> Res
 {
     match token {
         Token::String(_) | Token::Bool(_) | Token::Null => Ok(()),
-        Token::Number(text) => match number_of(text) {
-            Some(_) => Ok(()),
-            None => Err(Refusal::Text),
-        },
-        Token::EndObject | Token::EndArray | Token::Key(_) | Token::Bad => Err(Refusal::Text),
-        Token::BeginArray => {
-            if depth == 0 {
-                return Err(Refusal::Text);
-            }
-            skip_items(reader, depth - 1)
-        }
-        Token::BeginObject => {
-            if depth == 0 {
-                return Err(Refusal::Text);
-            }
-            skip_members(reader, depth - 1)
-        }
+        Token::Number(text) if number_of(text).is_some() => Ok(()),
+        Token::BeginArray | Token::BeginObject if depth == 0 => Err(Refusal::Text),
+        Token::BeginArray => skip_items(reader, depth - 1),
+        Token::BeginObject => skip_members(reader, depth - 1),
+        _ => Err(Refusal::Text),
     }
 }
 

@@ -28,19 +28,10 @@ pub fn read_value(alloc: Global, reader: &mut Reader<'_>, depth: usize) -> Resul
         },
         Token::Bool(truth) => Ok(Value::Bool(truth)),
         Token::Null => Ok(Value::Null),
+        Token::BeginArray | Token::BeginObject if depth == 0 => Err(Refusal::Text),
+        Token::BeginArray => Ok(Value::Array(read_items(alloc, reader, depth - 1)?)),
+        Token::BeginObject => Ok(Value::Object(read_members(alloc, reader, depth - 1)?)),
         Token::EndObject | Token::EndArray | Token::Key(_) | Token::Bad => Err(Refusal::Text),
-        Token::BeginArray => {
-            if depth == 0 {
-                return Err(Refusal::Text);
-            }
-            Ok(Value::Array(read_items(alloc, reader, depth - 1)?))
-        }
-        Token::BeginObject => {
-            if depth == 0 {
-                return Err(Refusal::Text);
-            }
-            Ok(Value::Object(read_members(alloc, reader, depth - 1)?))
-        }
     }
 }
 
@@ -82,8 +73,8 @@ fn read_members(
     Ok(found)
 }
 
-/// Puts a member into those that were found. Out of line, since an object may nest deep and this would take room on the
-/// stack at each level.
+/// Puts a member into those of an object, in place of an earlier one of that key. Errs only when out of memory. It is not
+/// inlined, since an object may nest deep and this would take room on the stack at each level.
 #[inline(never)]
 pub fn put_member(
     found: &mut Map<String, Value>,
