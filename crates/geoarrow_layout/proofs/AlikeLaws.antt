@@ -1,16 +1,8 @@
 -- `Alike` is an equivalence, and alike trees are of the same kinds; members that go or come, and what they leave of a union.
-use Rattle.geoarrow_layout.proofs.Terms.{◌≡◌, inl, inr, ℤ, List, refl, sym, ◌∙◌, subst, ◌↔◌, ℕ, zero, suc, codes, ap, Text, Tree, plain, list, large_list, fixed_size_list, struct, union, MemberTrees, no_members, member, names_of, AllMembers, SomeMember, Leaf, IsSeparatedAs, ListsOver, levels_of, OverLeaf, Member, Mixed, HasMembers, Native, GeometryMember, IsBoxAs, Accepted, AlikeNames, Alike, EachHasAlike, HasAlike, CoordType, Interleaved, Separated, Dimension, XYZ, XYM, NativeKind, GeometryCollection, Kind, OfNative, OfGeometry, OfRect, OfWkb, OfWkt, ListWidth, Lists, LargeLists, HaveBoth, Narrow, Under, ◌≢◌, ◌⊎◌, Bool, true, cond, [], ◌∷◌, ◌++◌, arith, filter, Contains, cond_both, All-contains, All-contains_itself, All-filter, Contains-append_left, Contains-append_right, Contains-append_cases, FieldTree, Members, member_trees, UnionMode, Dense, retained, has, AlikeUnions, EachOf, AreJust}
+use Rattle.geoarrow_layout.proofs.Terms.{◌≡◌, inl, inr, ℤ, List, refl, sym, ◌∙◌, subst, ◌↔◌, ℕ, zero, suc, codes, ap, Text, Tree, plain, list, large_list, fixed_size_list, struct, union, MemberTrees, no_members, member, names_of, AllMembers, SomeMember, Leaf, ListsOver, levels_of, OverLeaf, Member, Mixed, HasMembers, Native, GeometryMember, IsBoxAs, Accepted, AlikeNames, Alike, EachHasAlike, HasAlike, CoordType, Interleaved, Separated, Dimension, XYZ, XYM, NativeKind, GeometryCollection, Kind, OfNative, OfGeometry, OfRect, OfWkb, OfWkt, ListWidth, Lists, LargeLists, Narrow, Under, ◌≢◌, ◌⊎◌, Bool, true, cond, [], ◌∷◌, ◌++◌, arith, filter, Contains, cond_both, All-contains, All-contains_itself, All-filter, Contains-append_left, Contains-append_right, Contains-append_cases, FieldTree, Members, member_trees, UnionMode, Dense, retained, has, AlikeUnions, EachOf, AreJust}
 use Rattle.arrow_values.specs.Tree.{Plain}
 use Rattle.geoarrow_layout.specs.Shapes.{SameNames}
 use Rattle.geoarrow_layout.proofs.Readings.{all_map, all_some, all_both}
-
-names_sym : (xs ys : List Text) → AlikeNames xs ys → AlikeNames ys xs
-unfolding SameNames
-names_sym xs ys h = (sym h.0, λ k n. sym (h.1 (elim k [ inl e ↦ inl (h.0 ∙ e) | inr e ↦ inr (h.0 ∙ e) ]) n))
-
-names_trans : (xs ys zs : List Text) → AlikeNames xs ys → AlikeNames ys zs → AlikeNames xs zs
-unfolding SameNames
-names_trans xs ys zs h k = (h.0 ∙ k.0, λ e n. h.1 e n ∙ k.1 (elim e [ inl f ↦ inl (sym h.0 ∙ f) | inr f ↦ inr (sym h.0 ∙ f) ]) n)
 
 any_map : (P Q : ℤ → Tree → Type 0) → ((i : ℤ) (t : Tree) → P i t → Q i t) → (ms : MemberTrees) → SomeMember P ms → SomeMember Q ms
 any_map P Q f no_members h = h
@@ -35,12 +27,14 @@ has_from (member j n u b m ns) i t f (inl e) = inl (sym e.0, f u e.1)
 has_from (member j n u b m ns) i t f (inr h) = inr (has_from ns i t f h)
 
 mutual
+  unfolding SameNames
+
   pub alike_sym : (t u : Tree) → Alike t u → Alike u t
   alike_sym (plain p) (plain q) h = sym h
   alike_sym (list n t b m) (list o u c k) h = alike_sym t u h
   alike_sym (large_list n t b m) (large_list o u c k) h = alike_sym t u h
   alike_sym (fixed_size_list n t b m s) (fixed_size_list o u c k r) h = (sym h.0, sym h.1)
-  alike_sym (struct fs) (struct gs) h = names_sym (names_of fs) (names_of gs) h
+  alike_sym (struct fs) (struct gs) h = (sym h.0, λ k n. sym (h.1 (elim k [ inl e ↦ inl (h.0 ∙ e) | inr e ↦ inr (h.0 ∙ e) ]) n))
   alike_sym (union ms mode) (union ns mode') h = (each_from ns ms (has_sym ms) h.1, each_sym ms ns h.0)
   alike_sym _ _ h = absurd h
 
@@ -52,12 +46,6 @@ mutual
   pub each_sym : (ms ns : MemberTrees) → EachHasAlike ms ns → AllMembers (HasAlike ns) ms
   each_sym no_members ns h = tt
   each_sym (member i n t b m ms) ns h = (has_from ns i t (alike_sym t) h.0, each_sym ms ns h.1)
-
-pub has_among : (ms : MemberTrees) (j : ℤ) (u : Tree) → HasAlike ms j u ↔ Among j u ms
-has_among ms j u = (has_sym ms j u, has_from ms j u (alike_sym u))
-
-mutual
-  unfolding SameNames
 
   pub alike_refl : (t : Tree) → Alike t t
   alike_refl (plain p) = refl
@@ -71,13 +59,18 @@ mutual
   each_refl no_members ns f = tt
   each_refl (member i n t b m ms) ns f = (f i t (inl (refl, alike_refl t)), each_refl ms ns (λ j u h. f j u (inr h)))
 
+pub has_among : (ms : MemberTrees) (j : ℤ) (u : Tree) → HasAlike ms j u ↔ Among j u ms
+has_among ms j u = (has_sym ms j u, has_from ms j u (alike_sym u))
+
 mutual
+  unfolding SameNames
+
   pub alike_trans : (t u v : Tree) → Alike t u → Alike u v → Alike t v
   alike_trans (plain p) (plain q) (plain r) h k = h ∙ k
   alike_trans (list n t b m) (list o u c k) (list p v d l) h e = alike_trans t u v h e
   alike_trans (large_list n t b m) (large_list o u c k) (large_list p v d l) h e = alike_trans t u v h e
   alike_trans (fixed_size_list n t b m s) (fixed_size_list o u c k r) (fixed_size_list p v d l q) h e = (h.0 ∙ e.0, h.1 ∙ e.1)
-  alike_trans (struct fs) (struct gs) (struct hs) h e = names_trans (names_of fs) (names_of gs) (names_of hs) h e
+  alike_trans (struct fs) (struct gs) (struct hs) h e = (h.0 ∙ e.0, λ k n. h.1 k n ∙ e.1 (elim k [ inl f ↦ inl (sym h.0 ∙ f) | inr f ↦ inr (sym h.0 ∙ f) ]) n)
   alike_trans (union ms mode) (union ns mode') (union ps mode'') h e =
       let back = each_map ps ns ms (λ k v x. among_trans k v ns ms x (each_from ns ms (has_sym ms) h.1)) (each_from ps ns (has_sym ns) e.1) in
       (each_map ms ns ps (λ i t x. among_trans i t ns ps x e.0) h.0, each_sym ps ms back)
@@ -90,28 +83,21 @@ mutual
 
 -- ---- kinds
 
--- names
-alike_separated : (xs ys : List Text) (d : Dimension) → AlikeNames xs ys → IsSeparatedAs d xs → IsSeparatedAs d ys
-unfolding SameNames
-alike_separated xs ys XYZ h k = (sym h.0 ∙ k.0, λ n. sym (h.1 (inl k.0) n) ∙ k.1 n)
-alike_separated xs ys XYM h k = (sym h.0 ∙ k.0, λ n. sym (h.1 (inl k.0) n) ∙ k.1 n)
-alike_separated xs ys _ h k = sym h.0 ∙ k
-
-same_both : (m n : Text) (xs ys : List Text) → SameNames xs ys → HaveBoth m n xs ↔ HaveBoth m n ys
-unfolding SameNames
-same_both m n xs ys s = (λ h. (sym (s m) ∙ h.0, sym (s n) ∙ h.1), λ h. (s m ∙ h.0, s n ∙ h.1))
-
 alike_box : (xs ys : List Text) (d : Dimension) → AlikeNames xs ys → IsBoxAs d xs → IsBoxAs d ys
+unfolding SameNames
 alike_box xs ys XYZ h k =
-    let same = λ (m n : Text). same_both m n xs ys (h.1 (inr k.0)) in
-    (sym h.0 ∙ k.0, (λ b. k.1 ((same (codes "mmin") (codes "mmax")).1 b)), (same (codes "zmin") (codes "zmax")).0 k.2)
-alike_box xs ys XYM h k = (sym h.0 ∙ k.0, (same_both (codes "mmin") (codes "mmax") xs ys (h.1 (inr k.0))).0 k.1)
+    let same = h.1 (inr k.0) in
+    (sym h.0 ∙ k.0, (λ b. k.1 (same (codes "mmin") ∙ b.0, same (codes "mmax") ∙ b.1)), (sym (same (codes "zmin")) ∙ k.2.0, sym (same (codes "zmax")) ∙ k.2.1))
+alike_box xs ys XYM h k = let same = h.1 (inr k.0) in (sym h.0 ∙ k.0, (sym (same (codes "mmin")) ∙ k.1.0, sym (same (codes "mmax")) ∙ k.1.1))
 alike_box xs ys _ h k = sym h.0 ∙ k
 
 -- leaves
 alike_leaf : (t u : Tree) (c : CoordType) (d : Dimension) → Alike t u → Leaf t c d → Leaf u c d
+unfolding SameNames
 alike_leaf (fixed_size_list n t b m s) (fixed_size_list o u e k r) Interleaved d h l = (sym h.0 ∙ l.0, sym h.1 ∙ l.1)
-alike_leaf (struct fs) (struct gs) Separated d h l = alike_separated (names_of fs) (names_of gs) d h l
+alike_leaf (struct fs) (struct gs) Separated XYZ h l = (sym h.0 ∙ l.0, λ n. sym (h.1 (inl l.0) n) ∙ l.1 n)
+alike_leaf (struct fs) (struct gs) Separated XYM h l = (sym h.0 ∙ l.0, λ n. sym (h.1 (inl l.0) n) ∙ l.1 n)
+alike_leaf (struct fs) (struct gs) Separated _ h l = sym h.0 ∙ l
 alike_leaf _ _ c d h l = search
 
 -- lists: what is below them is alike too
@@ -144,20 +130,13 @@ alike_some : (ms ns : MemberTrees) → EachHasAlike ms ns → HasMembers ms → 
 alike_some (member i n t b m ms) (member j o u c k ns) h some = tt
 alike_some _ _ h some = search
 
-pub member_shared : (c : CoordType) (d : Dimension) → Shared (λ i t. Member i t c d)
-member_shared c d i t u h m = (m.0, m.1, alike_over m.0 t u c d h m.2)
-
 alike_mixed : (t u : Tree) (c : CoordType) (d : Dimension) → Alike t u → Mixed t c d → Mixed u c d
-alike_mixed (union ms mode) (union ns mode') c d h l = (alike_some ms ns h.0 l.0, alike_all (λ i t. Member i t c d) (member_shared c d) ms ns h.1 l.1)
+alike_mixed (union ms mode) (union ns mode') c d h l = (alike_some ms ns h.0 l.0, alike_all (λ i t. Member i t c d) (λ i t u e m. (m.0, m.1, alike_over m.0 t u c d e m.2)) ms ns h.1 l.1)
 alike_mixed _ _ c d h l = search
 
--- kinds
 alike_native : (k : NativeKind) (t u : Tree) (c : CoordType) (d : Dimension) → Alike t u → Native t k c d → Native u k c d
 alike_native GeometryCollection t u c d h l = alike_below Mixed alike_mixed 1 t u c d h l
 alike_native k t u c d h l = alike_over k t u c d h l
-
-pub geometry_shared : (c : CoordType) → Shared (λ i t. (d : Dimension) × GeometryMember i t c d)
-geometry_shared c i t u h m = (m.0, (m.1.0, m.1.1, alike_native m.1.0 t u c m.0 h m.1.2))
 
 -- only a plain data type is that of well-known binary or text, and it is alike to itself alone
 plain_same : (p : Plain) (t u : Tree) → Alike t u → t ≡ plain p → u ≡ plain p
@@ -167,7 +146,7 @@ plain_same p _ u h e = cc
 
 pub alike_accepted : (k : Kind) (t u : Tree) → Alike t u → Accepted k t → Accepted k u
 alike_accepted (OfNative k c d) t u h a = alike_native k t u c d h a
-alike_accepted (OfGeometry c) (union ms mode) (union ns mode') h a = (alike_some ms ns h.0 a.0, alike_all (λ i t. (d : Dimension) × GeometryMember i t c d) (geometry_shared c) ms ns h.1 a.1)
+alike_accepted (OfGeometry c) (union ms mode) (union ns mode') h a = (alike_some ms ns h.0 a.0, alike_all (λ i t. (d : Dimension) × GeometryMember i t c d) (λ i t u e m. (m.0, (m.1.0, m.1.1, alike_native m.1.0 t u c m.0 e m.1.2))) ms ns h.1 a.1)
 alike_accepted (OfRect d) (struct fs) (struct gs) h a = alike_box (names_of fs) (names_of gs) d h a
 alike_accepted (OfGeometry c) _ _ h a = search
 alike_accepted (OfRect d) _ _ h a = search

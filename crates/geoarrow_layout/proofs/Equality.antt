@@ -1,5 +1,5 @@
 -- The derived `==` of kinds and summaries answers true exactly at equal values.
-use Rattle.geoarrow_layout.proofs.Terms.{Bare, sameb, same_true, true_same, Declared, ◌≡◌, Bool, Option, None, Some, refl, ap, Decides-and, Decides-like, Decides, booleans_Decides, unsigned_Decides, signed_Decides, option_eq, LayoutFault, Kind, Rect, Wkb, Wkt, Bottom, FixedSizeList, Struct, Union, OtherWidth, Summary}
+use Rattle.geoarrow_layout.proofs.Terms.{Bare, sameb, same_true, true_same, Declared, ◌≡◌, Bool, Option, None, Some, refl, ap, Decides-and, Decides-like, Decides, booleans_Decides, unsigned_Decides, signed_Decides, option_eq, Kind, Rect, Wkb, Wkt, Bottom, FixedSizeList, Struct, Union, OtherWidth, Summary}
 use Rattle.geoarrow_layout.specs.declared.encodings.Kind.TheVariants.{Native, Geometry}
 use Rattle.geoarrow_layout.specs.contracts.encodings.KindPartialEq.TheImpl as kinds
 use Rattle.geoarrow_layout.specs.contracts.encodings.NativeKind as native_kind
@@ -30,9 +30,6 @@ kind_decides (Wkb v) (Wkb w) = Decides-like _ (λ p. ap Wkb p) (λ p. cc) (bare_
 kind_decides (Wkt v) (Wkt w) = Decides-like _ (λ p. ap Wkt p) (λ p. cc) (bare_decides width.the_type tt v w)
 kind_decides _ _ = (λ h. cc, λ p. cc)
 
-faults_decide : (a b : Option LayoutFault) → Decides (option_eq (sameb fault.the_type) a b) (a ≡ b)
-faults_decide = option_decides _ (bare_decides fault.the_type tt)
-
 pub bottom_decides : (a b : Bottom) → Decides ((bottoms.eq-value).it a b) (a ≡ b)
 bottom_decides (FixedSizeList named size float64) (FixedSizeList other_named other_size other_float64) =
     Decides-like _ (λ p. cc) (λ p. (cc, (cc, cc))) (Decides-and _ _ (option_decides _ (bare_decides dimension.the_type tt) named other_named) (Decides-and _ _ (signed_Decides size other_size) (booleans_Decides float64 other_float64)))
@@ -41,7 +38,7 @@ bottom_decides (Struct count names float64) (Struct other_count other_names othe
 bottom_decides (Union none ids coords dims mixed geometry) (Union other_none other_ids other_coords other_dims other_mixed other_geometry) =
     Decides-like _ (λ p. cc) (λ p. (cc, (cc, (cc, (cc, (cc, cc))))))
     (Decides-and _ _ (booleans_Decides none other_none) (Decides-and _ _ (unsigned_Decides ids other_ids) (Decides-and _ _ (unsigned_Decides coords other_coords) (Decides-and _ _ (unsigned_Decides dims other_dims)
-    (Decides-and _ _ (faults_decide mixed other_mixed) (faults_decide geometry other_geometry))))))
+    (Decides-and _ _ (option_decides _ (bare_decides fault.the_type tt) mixed other_mixed) (option_decides _ (bare_decides fault.the_type tt) geometry other_geometry))))))
 bottom_decides _ OtherWidth = (λ h. cc, λ p. cc)
 bottom_decides _ _ = (λ h. cc, λ p. cc)
 

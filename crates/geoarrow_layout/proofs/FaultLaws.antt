@@ -1,7 +1,7 @@
--- A data type has one fault at most under a name, and none if it is accepted.
-use Rattle.geoarrow_layout.proofs.Terms.{◌≡◌, ◌≢◌, ◌*◌, Bool, true, false, inl, inr, ℕ, zero, suc, ℤ, pos, List, [], ◌∷◌, length, sym, ap, subst, ◌∙◌, ◌⊎◌, Text, Metadata, Tree, list, large_list, fixed_size_list, struct, union, MemberTrees, no_members, member, CoordType, Interleaved, Separated, Dimension, XY, XYZ, NativeKind, GeometryCollection, Kind, OfNative, OfGeometry, OfRect, OfWkb, OfWkt, ListWidth, Lists, LargeLists, LayoutFault, UnexpectedType, BadFieldNames, BadTypeId, ExtensionName, size_of, type_id_of, extension_of, names_of, IsSeparatedAs, Leaf, ListsOver, levels_of, OverLeaf, Member, AllMembers, Mixed, Native, GeometryMember, Geometry, IsBoxAs, BoxShape, Accepted, Path, Located, Faults, InItem, CoordinateFault, BoxFault, LevelsFault, Option, None, Some, IsWidth, OverLeafFault, PartFault, FirstFault, UnionFault, MemberFault, MixedFault, NativeFault, GeometryMemberFault, GeometryFault, FaultAt, BadInterleavedName, BadSize, BadFieldCount, MixedWidths, MemberDimension, EmptyUnion, SeveralCoordTypes, SeveralDimensions, ReadsFirst, named_back, dimension_named, over_leaf_first, native_first, order_of, offset_of, arith, refl, ◌+◌, ◌≤◌, Point, NativeIn, NativeFaultIn, MemberIn, MemberFaultIn, Here}
+-- A data type has one fault at most under a name, and none if it is accepted; the path to it, step by step.
+use Rattle.geoarrow_layout.proofs.Terms.{◌≡◌, ◌≢◌, ◌*◌, Bool, true, false, inl, inr, ℕ, zero, suc, ℤ, pos, List, [], ◌∷◌, length, sym, ap, subst, ◌∙◌, ◌⊎◌, Text, Metadata, Tree, list, large_list, fixed_size_list, struct, union, MemberTrees, no_members, member, CoordType, Interleaved, Separated, Dimension, XY, XYZ, NativeKind, GeometryCollection, Kind, OfNative, OfGeometry, OfRect, OfWkb, OfWkt, ListWidth, Lists, LargeLists, LayoutFault, UnexpectedType, BadFieldNames, BadTypeId, ExtensionName, size_of, type_id_of, extension_of, names_of, IsSeparatedAs, Leaf, ListsOver, levels_of, OverLeaf, Member, AllMembers, Mixed, Native, GeometryMember, Geometry, IsBoxAs, BoxShape, Accepted, Path, Located, Faults, InItem, CoordinateFault, BoxFault, LevelsFault, Option, None, Some, IsWidth, OverLeafFault, PartFault, FirstFault, UnionFault, MemberFault, MixedFault, NativeFault, GeometryMemberFault, GeometryFault, FaultAt, BadInterleavedName, BadSize, BadFieldCount, MixedWidths, MemberDimension, EmptyUnion, SeveralCoordTypes, SeveralDimensions, ReadsFirst, named_back, dimension_named, over_leaf_first, native_first, order_of, offset_of, arith, refl, ◌+◌, ◌≤◌, Point, NativeIn, NativeFaultIn, MemberIn, MemberFaultIn, Here, Under, UnionFaultIn, ◌<◌, MatchResult, ◌++◌, take, Result, OnOk, get_or, append-nil, append_assoc, Ok, Err, FieldTree, field_trees, member_trees, UnionMode, HasFault, LeadsTo, FirstOrNone, TellsBoth, field_at, member_at, StaysHere}
 use Rattle.geoarrow_layout.specs.declared.names.ExtensionName.TheVariants as names
-use Rattle.geoarrow_layout.proofs.Readings.{all_map}
+use Rattle.geoarrow_layout.proofs.Readings.{all_map, Answer, IsPartsOf, some_parts, Items}
 
 -- a tree has one fault at most
 abbrev pub One : Located → Type 0
@@ -14,16 +14,16 @@ Reads = Tree → CoordType → Dimension → Type 0
 abbrev pub Apart : Reads → Faults → Type 0
 Apart R F = (t : Tree) (c : CoordType) (d : Dimension) (p : Path) (f : LayoutFault) → R t c d → F t p f → ⊥
 
+-- both
+abbrev pub Sole : Reads → Faults → Type 0
+Sole R F = ((t : Tree) → One (F t)) × Apart R F
+
 here_one : (a : LayoutFault) → One (Here a)
 here_one a p q f g h k = (h.0 ∙ sym k.0, h.1 ∙ sym k.1)
 
 in_item_one : (F : Located) → One F → One (InItem F)
 in_item_one F one (zero ∷ p) (zero ∷ q) f g h k = let s = one p q f g h k in (ap (λ r. zero ∷ r) s.0, s.1)
 in_item_one F one _ _ f g h k = search
-
-pub in_item_none : (F : Located) (p : Path) (f : LayoutFault) → ((q : Path) → F q f → ⊥) → InItem F p f → ⊥
-in_item_none F (zero ∷ p) f none h = none p h
-in_item_none F _ f none h = absurd h
 
 -- a fault of one sort or another, which exclude each other
 either_one : (A B : Located) → One A → One B → ((p q : Path) (f g : LayoutFault) → A p f → B q g → ⊥) → One (λ p f. A p f ⊎ B p f)
@@ -74,17 +74,16 @@ levels_apart : (P : Reads) (F : Faults) → Apart P F → (w : Option ListWidth)
 levels_apart P F apart w v zero t u c d p f is h r k = apart t c d p f (subst (λ x. P x c d) (sym h) r) k
 levels_apart P F apart (Some LargeLists) Lists (suc n) (list x t b m) u c d p f is h r k = elim is [ inl e ↦ cc | inr e ↦ cc ]
 levels_apart P F apart (Some Lists) LargeLists (suc n) (large_list x t b m) u c d p f is h r k = elim is [ inl e ↦ cc | inr e ↦ cc ]
-levels_apart P F apart w Lists (suc n) (list x t b m) u c d p f is h r k = in_item_none (LevelsFault F (Some Lists) n t) p f (λ q e. levels_apart P F apart (Some Lists) Lists n t u c d q f (inr refl) h r e) k
-levels_apart P F apart w LargeLists (suc n) (large_list x t b m) u c d p f is h r k = in_item_none (LevelsFault F (Some LargeLists) n t) p f (λ q e. levels_apart P F apart (Some LargeLists) LargeLists n t u c d q f (inr refl) h r e) k
-levels_apart P F apart _ _ (suc n) _ u c d p f is h r k = absurd h
+levels_apart P F apart w Lists (suc n) (list x t b m) u c d (zero ∷ p) f is h r k = levels_apart P F apart (Some Lists) Lists n t u c d p f (inr refl) h r k
+levels_apart P F apart w LargeLists (suc n) (large_list x t b m) u c d (zero ∷ p) f is h r k = levels_apart P F apart (Some LargeLists) LargeLists n t u c d p f (inr refl) h r k
+levels_apart P F apart _ _ (suc n) _ u c d _ f is h r k = search
 
-over_leaf_one : (k : NativeKind) (t : Tree) → One (OverLeafFault k t)
-over_leaf_one GeometryCollection t = here_one BadTypeId
-over_leaf_one k t = levels_one CoordinateFault coordinate_one None (levels_of k) t
+levels_sole : (P : Reads) (F : Faults) → Sole P F → (n : ℕ) → Sole (Under P n) (LevelsFault F None n)
+levels_sole P F sole n = (levels_one F sole.0 None n, λ t c d p f h e. levels_apart P F sole.1 None h.1.0 n t h.0 c d p f (inl refl) h.1.1 h.2 e)
 
-pub over_leaf_apart : (k : NativeKind) → Apart (λ t. OverLeaf t k) (OverLeafFault k)
-over_leaf_apart GeometryCollection t c d p f h e = absurd h
-over_leaf_apart k t c d p f h e = levels_apart Leaf CoordinateFault coordinate_apart None h.1.0 (levels_of k) t h.0 c d p f (inl refl) h.1.1 h.2 e
+pub over_leaf_sole : (k : NativeKind) → Sole (λ t. OverLeaf t k) (OverLeafFault k)
+over_leaf_sole GeometryCollection = ((λ t. here_one BadTypeId), (λ t c d p f h e. absurd h))
+over_leaf_sole k = levels_sole Leaf CoordinateFault (coordinate_one, coordinate_apart) (levels_of k)
 
 -- ---- unions
 
@@ -110,133 +109,199 @@ id_same i k l d e h g =
     let one : order_of d ≡ order_of e = omega (arith, offset_small k, offset_small l) in
     (offset_same k l (omega arith), order_same d e one)
 
-abbrev pub ApartNative : KindReads → (NativeKind → Faults) → Type 0
-ApartNative N F = (k : NativeKind) → Apart (λ t. N t k) (F k)
+abbrev pub SoleNative : KindReads → (NativeKind → Faults) → Type 0
+SoleNative N F = (k : NativeKind) → Sole (λ t. N t k) (F k)
 
 -- what a member of the kind and dimension of its type id has
 abbrev pub KindFault : KindReads → (NativeKind → Faults) → NativeKind → Dimension → Faults
 KindFault N F k d t p f = F k t p f ⊎ ((c : CoordType) × (e : Dimension) × N t k c e × (e ≢ d) × Here MemberDimension p f)
-
-kind_fault_one : (N : KindReads) (F : NativeKind → Faults) → ((k : NativeKind) (t : Tree) → One (F k t)) → ApartNative N F → (k : NativeKind) (d : Dimension) (t : Tree) → One (KindFault N F k d t)
-kind_fault_one N F one apart k d t = either_one _ _ (one k t) (λ p q f g h l. here_one MemberDimension p q f g h.4 l.4) (λ p q f g h l. apart k t l.0 l.1 p f l.2 h)
 
 -- a member whose type id is that of the kind and the dimension has their fault
 pub kind_only : (N : KindReads) (F : NativeKind → Faults) (i : ℤ) (t : Tree) (k : NativeKind) (d : Dimension) (p : Path) (f : LayoutFault) → i ≡ pos (type_id_of k d) → PartFault N F i t p f → KindFault N F k d t p f
 kind_only N F i t k d p f id (inl h) = absurd (h.0 k d id)
 kind_only N F i t k d p f id (inr h) = let same = id_same i h.0 k h.1 d h.2 id in subst (λ x. KindFault N F k x t p f) same.1 (subst (λ x. KindFault N F x h.1 t p f) same.0 h.3)
 
-part_one : (N : KindReads) (F : NativeKind → Faults) → ((k : NativeKind) (t : Tree) → One (F k t)) → ApartNative N F → (i : ℤ) (t : Tree) → One (PartFault N F i t)
-part_one N F one apart i t = either_one _ _ (λ p q f g h l. here_one BadTypeId p q f g h.1 l.1)
-    (λ p q f g h l. kind_fault_one N F one apart h.0 h.1 t p q f g h.3 (kind_only N F i t h.0 h.1 q g h.2 (inr l)))
-    (λ p q f g h l. h.0 l.0 l.1 l.2)
-
-part_apart : (N : KindReads) (F : NativeKind → Faults) → ((k : NativeKind) → ReadsFirst (λ t. N t k)) → ApartNative N F → (i : ℤ) (t : Tree) (k : NativeKind) (c : CoordType) (d : Dimension) (p : Path) (f : LayoutFault) → i ≡ pos (type_id_of k d) → N t k c d → PartFault N F i t p f → ⊥
-part_apart N F same apart i t k c d p f id h e = elim (kind_only N F i t k d p f id e) [
-  | inl x ↦ apart k t c d p f h x
-  | inr x ↦ x.3 (ap (λ y. y.1) (sym (same k t x.0 x.1 x.2) ∙ same k t c d h))
-]
+part_sole : (N : KindReads) (F : NativeKind → Faults) → ((k : NativeKind) → ReadsFirst (λ t. N t k)) → SoleNative N F → (i : ℤ) → Sole (λ t c d. (k : NativeKind) × (i ≡ pos (type_id_of k d)) × N t k c d) (PartFault N F i)
+part_sole N F first sole i = (
+  (λ t. either_one _ _ (λ p q f g h l. here_one BadTypeId p q f g h.1 l.1) (λ p q f g h l. one h.0 h.1 t p q f g h.3 (kind_only N F i t h.0 h.1 q g h.2 (inr l))) (λ p q f g h l. h.0 l.0 l.1 l.2)),
+  (λ t c d p f m e. elim (kind_only N F i t m.0 d p f m.1 e) [ inl x ↦ (sole m.0).1 t c d p f m.2 x | inr x ↦ x.3 (ap (λ y. y.1) (sym (first m.0 t x.0 x.1 x.2) ∙ first m.0 t c d m.2)) ]),
+)
+  where
+    one : (k : NativeKind) (d : Dimension) (t : Tree) → One (KindFault N F k d t)
+    one k d t = either_one _ _ ((sole k).0 t) (λ p q f g h l. here_one MemberDimension p q f g h.4 l.4) (λ p q f g h l. (sole k).1 t l.0 l.1 p f l.2 h)
 
 abbrev pub MemberReads : Type 1
 MemberReads = ℤ → Tree → CoordType → Dimension → Type 0
 
-abbrev pub ApartMember : MemberReads → (ℤ → Faults) → Type 0
-ApartMember R F = (i : ℤ) → Apart (R i) (F i)
-
-abbrev pub OneMember : (ℤ → Faults) → Type 0
-OneMember F = (i : ℤ) (t : Tree) → One (F i t)
+abbrev pub SoleMember : MemberReads → (ℤ → Faults) → Type 0
+SoleMember R F = (i : ℤ) → Sole (R i) (F i)
 
 abbrev pub Read : MemberReads → ℤ → Tree → Type 0
 Read R i t = (c : CoordType) × (d : Dimension) × R i t c d
 
--- the place of a member behind another
-abbrev pub behind : Path → Path
-behind [] = []
-behind (j ∷ p) = suc j ∷ p
+pub first_one : (R : MemberReads) (F : ℤ → Faults) → SoleMember R F → (ms : MemberTrees) → One (FirstFault R F ms)
+first_one R F sole (member i n t b m ms) (zero ∷ p) (zero ∷ q) f g h k = let s = (sole i).0 t p q f g h k in (ap (λ r. zero ∷ r) s.0, s.1)
+first_one R F sole (member i n t b m ms) (zero ∷ p) (suc j ∷ q) f g h k = absurd ((sole i).1 t k.0.0 k.0.1 p f k.0.2 h)
+first_one R F sole (member i n t b m ms) (suc j ∷ p) (zero ∷ q) f g h k = absurd ((sole i).1 t h.0.0 h.0.1 q g h.0.2 k)
+first_one R F sole (member i n t b m ms) (suc j ∷ p) (suc l ∷ q) f g h k = let s = first_one R F sole ms (j ∷ p) (l ∷ q) f g h.1 k.1 in (cc (s.0), s.1)
+first_one R F sole _ _ _ f g h k = search
 
-first_one : (R : MemberReads) (F : ℤ → Faults) → OneMember F → ApartMember R F → (ms : MemberTrees) → One (FirstFault R F ms)
-first_one R F one apart (member i n t b m ms) (zero ∷ p) (zero ∷ q) f g h k = let s = one i t p q f g h k in (ap (λ r. zero ∷ r) s.0, s.1)
-first_one R F one apart (member i n t b m ms) (zero ∷ p) (suc j ∷ q) f g h k = absurd (apart i t k.0.0 k.0.1 p f k.0.2 h)
-first_one R F one apart (member i n t b m ms) (suc j ∷ p) (zero ∷ q) f g h k = absurd (apart i t h.0.0 h.0.1 q g h.0.2 k)
-first_one R F one apart (member i n t b m ms) (suc j ∷ p) (suc l ∷ q) f g h k = let s = first_one R F one apart ms (j ∷ p) (l ∷ q) f g h.1 k.1 in (ap behind s.0, s.1)
-first_one R F one apart _ _ _ f g h k = search
+pub first_apart : (R : MemberReads) (F : ℤ → Faults) → SoleMember R F → (ms : MemberTrees) (p : Path) (f : LayoutFault) → AllMembers (Read R) ms → FirstFault R F ms p f → ⊥
+first_apart R F sole (member i n t b m ms) (zero ∷ p) f h k = (sole i).1 t h.0.0 h.0.1 p f h.0.2 k
+first_apart R F sole (member i n t b m ms) (suc j ∷ p) f h k = first_apart R F sole ms (j ∷ p) f h.1 k.1
+first_apart R F sole _ _ f h k = absurd k
 
-pub first_apart : (R : MemberReads) (F : ℤ → Faults) → ApartMember R F → (ms : MemberTrees) (p : Path) (f : LayoutFault) → AllMembers (Read R) ms → FirstFault R F ms p f → ⊥
-first_apart R F apart (member i n t b m ms) (zero ∷ p) f h k = apart i t h.0.0 h.0.1 p f h.0.2 k
-first_apart R F apart (member i n t b m ms) (suc j ∷ p) f h k = first_apart R F apart ms (j ∷ p) f h.1 k.1
-first_apart R F apart _ _ f h k = absurd k
-
-union_one : (R : MemberReads) (F : ℤ → Faults) → OneMember F → ApartMember R F → (ms : MemberTrees) → One (UnionFault R F ms)
-union_one R F one apart no_members = here_one EmptyUnion
-union_one R F one apart (member i n t b m ms) = either_one _ _ (first_one R F one apart (member i n t b m ms)) (λ p q f g h k. here_one SeveralCoordTypes p q f g h.2 k.2)
-    (λ p q f g h k. first_apart R F apart (member i n t b m ms) p f k.0 h)
+union_one : (R : MemberReads) (F : ℤ → Faults) → SoleMember R F → (ms : MemberTrees) → One (UnionFault R F ms)
+union_one R F sole no_members = here_one EmptyUnion
+union_one R F sole (member i n t b m ms) = either_one _ _ (first_one R F sole (member i n t b m ms)) (λ p q f g h k. here_one SeveralCoordTypes p q f g h.2 k.2)
+    (λ p q f g h k. first_apart R F sole (member i n t b m ms) p f k.0 h)
 
 -- members of one coordinate type, at least one, are at fault as no union
-union_apart : (R : MemberReads) (F : ℤ → Faults) → ApartMember R F → (i : ℤ) (n : Text) (t : Tree) (b : Bool) (m : Metadata) (ms : MemberTrees) (c : CoordType) (p : Path) (f : LayoutFault) → AllMembers (λ j u. (d : Dimension) × R j u c d) (member i n t b m ms) → UnionFault R F (member i n t b m ms) p f → ⊥
-union_apart R F apart i n t b m ms c p f h (inl k) = first_apart R F apart (member i n t b m ms) p f (all_map (λ j u. (d : Dimension) × R j u c d) (Read R) (λ j u x. (c, x.0, x.1)) (member i n t b m ms) h) k
-union_apart R F apart i n t b m ms c p f h (inr k) = k.1 c h
+union_apart : (R : MemberReads) (F : ℤ → Faults) → SoleMember R F → (i : ℤ) (n : Text) (t : Tree) (b : Bool) (m : Metadata) (ms : MemberTrees) (c : CoordType) (p : Path) (f : LayoutFault) → AllMembers (λ j u. (d : Dimension) × R j u c d) (member i n t b m ms) → UnionFault R F (member i n t b m ms) p f → ⊥
+union_apart R F sole i n t b m ms c p f h (inl k) = first_apart R F sole (member i n t b m ms) p f (all_map (λ j u. (d : Dimension) × R j u c d) (Read R) (λ j u x. (c, x.0, x.1)) (member i n t b m ms) h) k
+union_apart R F sole i n t b m ms c p f h (inr k) = k.1 c h
 
-pub member_one : OneMember MemberFault
-member_one = part_one OverLeaf OverLeafFault over_leaf_one over_leaf_apart
-
-pub member_apart : ApartMember Member MemberFault
-member_apart i t c d p f h k = part_apart OverLeaf OverLeafFault over_leaf_first over_leaf_apart i t h.0 c d p f h.1 h.2 k
+pub member_sole : SoleMember Member MemberFault
+member_sole = part_sole OverLeaf OverLeafFault over_leaf_first over_leaf_sole
 
 mixed_one : (t : Tree) → One (MixedFault t)
-mixed_one (union no_members mode) = either_one _ _ (union_one Member MemberFault member_one member_apart no_members) (λ p q f g h k. here_one SeveralDimensions p q f g h.2 k.2)
+mixed_one (union no_members mode) = either_one _ _ (union_one Member MemberFault member_sole no_members) (λ p q f g h k. here_one SeveralDimensions p q f g h.2 k.2)
     (λ p q f g h k. k.1 Interleaved XY tt)
-mixed_one (union (member i n t b m ms) mode) = either_one _ _ (union_one Member MemberFault member_one member_apart (member i n t b m ms)) (λ p q f g h k. here_one SeveralDimensions p q f g h.2 k.2)
-    (λ p q f g h k. union_apart Member MemberFault member_apart i n t b m ms k.0.0 p f k.0.1 h)
+mixed_one (union (member i n t b m ms) mode) = either_one _ _ (union_one Member MemberFault member_sole (member i n t b m ms)) (λ p q f g h k. here_one SeveralDimensions p q f g h.2 k.2)
+    (λ p q f g h k. union_apart Member MemberFault member_sole i n t b m ms k.0.0 p f k.0.1 h)
 mixed_one _ = here_one UnexpectedType
 
 pub mixed_none : Apart Mixed MixedFault
 mixed_none (union no_members mode) c d p f h k = absurd h.0
-mixed_none (union (member i n t b m ms) mode) c d p f h (inl k) = union_apart Member MemberFault member_apart i n t b m ms c p f (all_map (λ j u. Member j u c d) (λ j u. (e : Dimension) × Member j u c e) (λ j u x. (d, x)) (member i n t b m ms) h.1) k
+mixed_none (union (member i n t b m ms) mode) c d p f h (inl k) = union_apart Member MemberFault member_sole i n t b m ms c p f (all_map (λ j u. Member j u c d) (λ j u. (e : Dimension) × Member j u c e) (λ j u x. (d, x)) (member i n t b m ms) h.1) k
 mixed_none (union (member i n t b m ms) mode) c d p f h (inr k) = k.1 c d h.1
 mixed_none _ c d p f h k = absurd h
 
-native_one : (k : NativeKind) (t : Tree) → One (NativeFault k t)
-native_one GeometryCollection t = levels_one MixedFault mixed_one None 1 t
-native_one k t = over_leaf_one k t
+pub native_sole : (k : NativeKind) → Sole (λ t. Native t k) (NativeFault k)
+native_sole GeometryCollection = levels_sole Mixed MixedFault (mixed_one, mixed_none) 1
+native_sole k = over_leaf_sole k
 
-pub native_apart : (k : NativeKind) → Apart (λ t. Native t k) (NativeFault k)
-native_apart GeometryCollection t c d p f h e = levels_apart Mixed MixedFault mixed_none None h.1.0 1 t h.0 c d p f (inl refl) h.1.1 h.2 e
-native_apart k t c d p f h e = over_leaf_apart k t c d p f h e
-
-geometry_member_one : OneMember GeometryMemberFault
-geometry_member_one = part_one Native NativeFault native_one native_apart
-
-pub geometry_member_apart : ApartMember GeometryMember GeometryMemberFault
-geometry_member_apart i t c d p f h k = part_apart Native NativeFault native_first native_apart i t h.0 c d p f h.1 h.2 k
+pub geometry_member_sole : SoleMember GeometryMember GeometryMemberFault
+geometry_member_sole = part_sole Native NativeFault native_first native_sole
 
 -- the same where collections are allowed or not
-pub native_apart_in : (b : Bool) → ApartNative (NativeIn b) (NativeFaultIn b)
-native_apart_in true = native_apart
-native_apart_in false = over_leaf_apart
+pub native_sole_in : (b : Bool) → SoleNative (NativeIn b) (NativeFaultIn b)
+native_sole_in true = native_sole
+native_sole_in false = over_leaf_sole
 
-pub member_apart_in : (b : Bool) → ApartMember (MemberIn b) (MemberFaultIn b)
-member_apart_in true = geometry_member_apart
-member_apart_in false = member_apart
+pub member_sole_in : (b : Bool) → SoleMember (MemberIn b) (MemberFaultIn b)
+member_sole_in true = geometry_member_sole
+member_sole_in false = member_sole
 
 geometry_one : (t : Tree) → One (GeometryFault t)
-geometry_one (union ms mode) = union_one GeometryMember GeometryMemberFault geometry_member_one geometry_member_apart ms
+geometry_one (union ms mode) = union_one GeometryMember GeometryMemberFault geometry_member_sole ms
 geometry_one _ = here_one UnexpectedType
 
 pub geometry_apart : (t : Tree) (c : CoordType) (p : Path) (f : LayoutFault) → Geometry t c → GeometryFault t p f → ⊥
 geometry_apart (union no_members mode) c p f h k = absurd h.0
-geometry_apart (union (member i n t b m ms) mode) c p f h k = union_apart GeometryMember GeometryMemberFault geometry_member_apart i n t b m ms c p f h.1 k
+geometry_apart (union (member i n t b m ms) mode) c p f h k = union_apart GeometryMember GeometryMemberFault geometry_member_sole i n t b m ms c p f h.1 k
 geometry_apart _ c p f h k = absurd h
 
 -- ---- by the extension name
 
 pub one_fault : (n : ExtensionName) (t : Tree) → One (FaultAt n t)
-one_fault (names.Native k) t p q f g h e = native_one k t p q f g h e
+one_fault (names.Native k) t p q f g h e = (native_sole k).0 t p q f g h e
 one_fault names.Geometry t p q f g h e = geometry_one t p q f g h e
 one_fault names.Rect t p q f g h e = box_one t p q f g h e
 one_fault _ t p q f g h e = here_one UnexpectedType p q f g h.1 e.1
 
 pub accepted_apart : (k : Kind) (t : Tree) (p : Path) (f : LayoutFault) → Accepted k t → FaultAt (extension_of k) t p f → ⊥
-accepted_apart (OfNative k c d) t p f h e = native_apart k t c d p f h e
+accepted_apart (OfNative k c d) t p f h e = (native_sole k).1 t c d p f h e
 accepted_apart (OfGeometry c) t p f h e = geometry_apart t c p f h e
 accepted_apart (OfRect d) t p f h e = box_apart t d p f h e
 accepted_apart (OfWkb w) t p f h e = e.0 w h
 accepted_apart (OfWkt w) t p f h e = e.0 w h
+
+-- ---- the path to a fault
+
+pub stays : (F : Located) (before : Path) → StaysHere F → LeadsTo F before before
+stays F before here = λ p f h. sym (append-nil before) ∙ ap (λ q. before ++ q) (sym (here p f h))
+
+-- one step down
+pub step_down : (F : Located) (before after : Path) (i : ℕ) (p : Path) (f : LayoutFault) → LeadsTo F (before ++ (i ∷ [])) after → F p f → after ≡ before ++ (i ∷ p)
+step_down F before after i p f h e = h p f e ∙ append_assoc before (i ∷ []) p
+
+pub into_item : (F : Located) (before between after : Path) → between ≡ before ++ (0 ∷ []) → LeadsTo F between after → LeadsTo (InItem F) before after
+into_item F before between after is h (zero ∷ p) f e = step_down F before after 0 p f (subst (λ b. LeadsTo F b after) is h) e
+into_item F before between after is h _ f e = absurd e
+
+-- levels are gone down
+level_item : (w : Option ListWidth) (v : ListWidth) (n : ℕ) (t u : Tree) (p : Path) (f : LayoutFault) → IsWidth w v → ListsOver v 1 t u → LevelsFault CoordinateFault w (suc n) t p f → InItem (LevelsFault CoordinateFault (Some v) n u) p f
+level_item (Some Lists) LargeLists n t u p f is one h = elim is [ inl e ↦ cc | inr e ↦ cc ]
+level_item (Some LargeLists) Lists n t u p f is one h = elim is [ inl e ↦ cc | inr e ↦ cc ]
+level_item w Lists n (list x t b m) u p f is one h = subst (λ z. InItem (LevelsFault CoordinateFault (Some Lists) n z) p f) one h
+level_item w LargeLists n (large_list x t b m) u p f is one h = subst (λ z. InItem (LevelsFault CoordinateFault (Some LargeLists) n z) p f) one h
+level_item _ _ n _ u p f is one h = absurd one
+
+pub level_leads : (w : Option ListWidth) (v : ListWidth) (levels n : ℕ) (t u : Tree) (before between after : Path) → levels ≡ suc n → IsWidth w v → ListsOver v 1 t u → between ≡ before ++ (0 ∷ [])
+    → LeadsTo (LevelsFault CoordinateFault (Some v) n u) between after → LeadsTo (LevelsFault CoordinateFault w levels t) before after
+level_leads w v levels n t u before between after same is one pushed h = rw same (λ p f e. into_item (LevelsFault CoordinateFault (Some v) n u) before between after pushed h p f (level_item w v n t u p f is one e))
+
+-- ---- members
+
+-- the first member at fault is the one at k, if each before it is read
+first_at : (R : MemberReads) (F : ℤ → Faults) (xs : Items) (k : ℕ) (x : ℤ × FieldTree) (p : Path) (f : LayoutFault) → k < length xs → x ≡ get_or xs k x → AllMembers (Read R) (member_trees (take k xs)) → F x.0 x.1.tree p f → FirstFault R F (member_trees xs) (k ∷ p) f
+first_at R F [] k x p f lt at all bad = absurd (omega arith)
+first_at R F (y ∷ xs) zero x p f lt at all bad = subst (λ z. F z.0 z.1.tree p f) at bad
+first_at R F (y ∷ xs) (suc k) x p f lt at all bad = (all.0, first_at R F xs k x p f (omega arith) at all.1 bad)
+
+pub at_member : (R : MemberReads) (F : ℤ → Faults) → SoleMember R F → (xs : Items) (k : ℕ) (x : ℤ × FieldTree) (before between after : Path) → k < length xs → x ≡ get_or xs k x → AllMembers (Read R) (member_trees (take k xs)) → (g : LayoutFault) × HasFault (F x.0 x.1.tree) g
+    → between ≡ before ++ (k ∷ []) → LeadsTo (F x.0 x.1.tree) between after → LeadsTo (FirstOrNone R F (member_trees xs)) before after
+at_member R F sole xs k x before between after lt at all (g, bad) is h = λ p f e.
+    let here = first_at R F xs k x bad.0 g lt at all bad.1 in
+    let down = step_down (F x.0 x.1.tree) before after k bad.0 g (subst (λ b. LeadsTo (F x.0 x.1.tree) b after) is h) bad.1 in
+    elim e [ inl first ↦ down ∙ ap (λ r. before ++ r) (first_one R F sole (member_trees xs) (k ∷ bad.0) p g f here first).0 | inr none ↦ absurd (first_apart R F sole (member_trees xs) (k ∷ bad.0) g none.0 here) ]
+
+union_first : (R : MemberReads) (F : ℤ → Faults) (ms : MemberTrees) (p : Path) (f : LayoutFault) → UnionFault R F ms p f → FirstOrNone R F ms p f
+union_first R F no_members p f h = inr (tt, h.0)
+union_first R F (member i n t b m ms) p f (inl h) = inl h
+union_first R F (member i n t b m ms) p f (inr h) = inr (h.0, h.2.0)
+
+pub union_leads : (b : Bool) (t : Tree) (ms ns : Items) (mode : UnionMode) (before after : Path) → t ≡ union (member_trees ms) mode → ns ≡ ms → LeadsTo (FirstOrNone (MemberIn b) (MemberFaultIn b) (member_trees ns)) before after → LeadsTo (UnionFaultIn b t) before after
+union_leads b t ms ns mode before after is same h = subst (λ u. LeadsTo (UnionFaultIn b u) before after) (sym is)
+    (λ p f e. subst (λ xs. LeadsTo (FirstOrNone (MemberIn b) (MemberFaultIn b) (member_trees xs)) before after) same h p f (first b p f e))
+  where
+    first : (b : Bool) (p : Path) (f : LayoutFault) → UnionFaultIn b (union (member_trees ms) mode) p f → FirstOrNone (MemberIn b) (MemberFaultIn b) (member_trees ms) p f
+    first true p f u = union_first GeometryMember GeometryMemberFault (member_trees ms) p f u
+    first false p f (inl u) = union_first Member MemberFault (member_trees ms) p f u
+    first false p f (inr d) = inr (all_map (λ i t. (x : Dimension) × Member i t d.0.0 x) (Read Member) (λ i t y. (d.0.0, y.0, y.1)) (member_trees ms) d.0.1, d.2.0)
+
+pub native_leads : {X E : Type 0} (b : Bool) (r : Result X E) (k : NativeKind) (n : ℕ) (t : Tree) (before after : Path) → (k ≡ GeometryCollection → ⊥) → n ≡ levels_of k → OnOk r (LeadsTo (LevelsFault CoordinateFault None n t) before after) → OnOk r (LeadsTo (NativeFaultIn b k t) before after)
+native_leads b r GeometryCollection n t before after other same h = absurd (other refl)
+native_leads true r k n t before after other same h = subst (λ m. OnOk r (LeadsTo (LevelsFault CoordinateFault None m t) before after)) same h
+native_leads false r k n t before after other same h = subst (λ m. OnOk r (LeadsTo (LevelsFault CoordinateFault None m t) before after)) same h
+
+-- ---- one member
+
+-- a member that is read as one of its kind has no fault inside, and one that is not has that of its kind
+pub kind_inside : (N : KindReads) (F : NativeKind → Faults) → SoleNative N F → (i z : ℤ) (t : Tree) (k : NativeKind) (d : Dimension) (r : Answer) → z ≡ i → IsPartsOf z (some_parts k d) → TellsBoth r (N t k) (F k t)
+    → MatchResult r (λ x. StaysHere (PartFault N F i t)) (λ g. (p : Path) (f : LayoutFault) → PartFault N F i t p f → F k t p f)
+kind_inside N F sole i z t k d (Ok x) same parts h = λ p f e. elim (kind_only N F i t k d p f (sym same ∙ (parts k d).0 refl) e) [ inl y ↦ absurd ((sole k).1 t x.0 x.1 p f h y) | inr y ↦ y.4.0 ]
+kind_inside N F sole i z t k d (Err g) same parts h = λ p f e. elim (kind_only N F i t k d p f (sym same ∙ (parts k d).0 refl) e) [ inl x ↦ x | inr x ↦ absurd ((sole k).1 t x.0 x.1 h.0 g x.2 h.1) ]
+
+-- ---- the field at a place
+
+pub field_there : (fs : List FieldTree) (i : ℕ) (x : FieldTree) → i < length fs → x ≡ get_or fs i x → field_at (field_trees fs) i ≡ Some x
+field_there [] i x lt at = absurd (omega arith)
+field_there (f ∷ fs) zero x lt at = ap (λ g. Some g) (sym at)
+field_there (f ∷ fs) (suc i) x lt at = field_there fs i x (omega arith) at
+
+pub no_field_there : (fs : List FieldTree) (i : ℕ) → length fs ≤ i → field_at (field_trees fs) i ≡ None
+no_field_there [] i le = refl
+no_field_there (f ∷ fs) zero le = absurd (omega arith)
+no_field_there (f ∷ fs) (suc i) le = no_field_there fs i (omega arith)
+
+pub member_there : (ms : Items) (i : ℕ) (x : ℤ × FieldTree) → i < length ms → x ≡ get_or ms i x → member_at (member_trees ms) i ≡ Some x.1
+member_there [] i x lt at = absurd (omega arith)
+member_there (m ∷ ms) zero x lt at = ap (λ y. Some y.1) (sym at)
+member_there (m ∷ ms) (suc i) x lt at = member_there ms i x (omega arith) at
+
+pub no_member_there : (ms : Items) (i : ℕ) → length ms ≤ i → member_at (member_trees ms) i ≡ None
+no_member_there [] i le = refl
+no_member_there (m ∷ ms) zero le = absurd (omega arith)
+no_member_there (m ∷ ms) (suc i) le = no_member_there ms i (omega arith)

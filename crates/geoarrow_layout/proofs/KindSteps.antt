@@ -1,19 +1,13 @@
 -- The kind of a name and a tree: there is one at most, and it is what a reader's answer says; the names of a tree: two at most, and which two.
-use Rattle.geoarrow_layout.proofs.Terms.{◌≡◌, ◌≢◌, ◌⊎◌, inl, inr, IfOk, result_ok, Bool, true≢false, IsTrue, is_ok, refl, sym, ap, subst, ◌∙◌, ◌↔◌, IfErr, Option, Some, Result, Ok, Err, bytes_eq, same_Some, Text, Tree, Point, LineString, Polygon, MultiPolygon, GeometryCollection, Width, Plain, Large, View, Kind, OfNative, OfGeometry, OfRect, OfWkb, OfWkt, ExtensionName, name_text, extension_of, Native, IsBytes, IsText, Accepted, Accepts, IsStructured, YieldsOne, any_native_same, geometry_same, box_shape_same, LayoutFault, Summary, Summarizes, IsAccepted, Path, HasFault, FaultAt, Tells, YieldsKind, NativeKind, CoordType, Dimension, Mixed, Geometry, BoxShape, NativeFault, MixedFault, GeometryFault, BoxFault, TellsBoth, Yields, coords_in, native_first, mixed_first, ◌≤◌, ℕ, zero, suc, arith, PlainType, binary, large_binary, binary_view, utf8, large_utf8, utf8_view, plain, list, large_list, fixed_size_list, struct, union, Interleaved, Separated, XY, ListWidth, Lists, LargeLists, size_of, names_of, ListsOver, levels_of, Leaf, NoName, Holds, IsStructOfFour, Share, dimension_sized, false, first_of, second_kind, second_of, KINDS, map, ◌∷◌, ◌++◌, [], name_of}
+use Rattle.geoarrow_layout.proofs.Terms.{◌≡◌, ◌≢◌, ◌⊎◌, inl, inr, MultiPoint, MultiLineString, IfOk, result_ok, Bool, true≢false, IsTrue, is_ok, refl, sym, ap, subst, ◌∙◌, ◌↔◌, IfErr, Option, Some, Result, Ok, Err, same_Some, Text, Tree, Point, LineString, Polygon, MultiPolygon, GeometryCollection, Width, Plain, Large, View, Kind, OfNative, OfGeometry, OfRect, OfWkb, OfWkt, ExtensionName, name_text, extension_of, Native, IsBytes, IsText, Accepted, Accepts, IsStructured, YieldsOne, any_native_same, geometry_same, box_shape_same, LayoutFault, Summary, Summarizes, IsAccepted, Path, HasFault, FaultAt, Tells, YieldsKind, NativeKind, CoordType, Dimension, Mixed, Geometry, BoxShape, NativeFault, MixedFault, GeometryFault, BoxFault, TellsBoth, Yields, coords_in, native_first, mixed_first, ◌≤◌, ℕ, zero, suc, arith, PlainType, binary, large_binary, binary_view, utf8, large_utf8, utf8_view, plain, list, large_list, fixed_size_list, struct, union, Interleaved, Separated, XY, ListWidth, Lists, LargeLists, size_of, names_of, ListsOver, levels_of, Leaf, NoName, Holds, IsStructOfFour, Share, dimension_sized, false, first_of, second_kind, second_of, name_of}
 use Rattle.geoarrow_layout.specs.declared.names.ExtensionName.TheVariants as names
-use Rattle.geoarrow_layout.proofs.FaultLaws.{accepted_apart, native_apart, mixed_none, geometry_apart, box_apart, separated_length, box_length}
-use Rattle.geoarrow_layout.proofs.Readings.{Answer, exactly, exactly_one, first_with, told_fault}
+use Rattle.geoarrow_layout.proofs.FaultLaws.{accepted_apart, native_sole, mixed_none, geometry_apart, box_apart, separated_length, box_length}
+use Rattle.geoarrow_layout.proofs.Readings.{Answer, exactly, exactly_one, told_fault}
 
--- a text says which name it is, so two names of one text are one
-abbrev named : Text → ExtensionName
-named n = first_with (λ a. bytes_eq n (name_text a)) names.Wkt (map (λ k. names.Native k) KINDS ++ (names.Geometry ∷ names.Rect ∷ names.Wkb ∷ []))
-
-named_back : (a : ExtensionName) → named (name_text a) ≡ a
-named_back (names.Native Point) = refl
-named_back _ = refl
-
+-- two names of one text are one
 pub one_name : (a b : ExtensionName) → name_text a ≡ name_text b → a ≡ b
-one_name a b h = sym (named_back a) ∙ ap named h ∙ named_back b
+one_name (names.Native Point) (names.Native Point) h = refl
+one_name _ _ h = grind arith
 
 widths_same : (t : Tree) (w v : Width) → (IsBytes w t → IsBytes v t → w ≡ v) × (IsText w t → IsText v t → w ≡ v)
 widths_same t Plain Plain = (λ h g. refl, λ h g. refl)
@@ -40,17 +34,13 @@ no_fault_if_accepted n t k p f h e = accepted_apart k t p f h.1 (subst (λ m. Fa
 
 -- ---- answers
 
--- a kind that accepts the tree is the one
-pub kind_some : (n : Text) (t : Tree) (k : Kind) → IsStructured k → Accepts n t k → YieldsKind n t (Some k)
-kind_some n t k s here = λ l. (λ e. subst (λ x. Accepts n t x × IsStructured x) (same_Some k l e) (here, s), λ h. ap (λ x. Some x) (one_kind n t k l here h.0))
-
 -- the kind of a column, told by the reader of its extension name
 pub kind_exact : (n : ExtensionName) (t : Tree) (r : Result Kind LayoutFault) → Tells r (Accepts (name_text n) t) (FaultAt n t) → YieldsOne r (Accepts (name_text n) t)
 kind_exact n t r h = exactly_one r (Accepts (name_text n) t) (FaultAt n t) (one_kind (name_text n) t) (no_fault_if_accepted n t) h
 
 -- the same, told by the reader of a data type
 pub native_exact : (k : NativeKind) (t : Tree) (r : Answer) → TellsBoth r (Native t k) (NativeFault k t) → Yields r (Native t k)
-native_exact k t r = exactly (coords_in t) r (Native t k) (NativeFault k t) (native_first k t) (native_apart k t)
+native_exact k t r = exactly (coords_in t) r (Native t k) (NativeFault k t) (native_first k t) ((native_sole k).1 t)
 
 pub mixed_exact : (t : Tree) (r : Answer) → TellsBoth r (Mixed t) (MixedFault t) → Yields r (Mixed t)
 mixed_exact t r = exactly (coords_in t) r (Mixed t) (MixedFault t) (mixed_first t) (mixed_none t)
@@ -76,7 +66,9 @@ not_plain n k s e = (λ f. cc, λ f. cc)
 -- the kind that a summary says, if it is one
 pub kind_answer : (x : Text) (n : ExtensionName) (t : Tree) (r : Result Kind LayoutFault) → x ≡ name_text n → IfOk r (λ k. (extension_of k ≡ n) × IsStructured k)
     → ((n ≢ names.Wkb) × (n ≢ names.Wkt) → Tells r (Accepts (name_text n) t) (FaultAt n t)) → YieldsKind x t (result_ok r)
-kind_answer x n t (Ok k) is of told = let h = told (not_plain n k of.1 of.0) in kind_some x t k of.1 (is ∙ h.0, h.1)
+kind_answer x n t (Ok k) is of told = let h = told (not_plain n k of.1 of.0) in
+    let here : Accepts x t k = (is ∙ h.0, h.1) in
+    λ l. (λ e. subst (λ y. Accepts x t y × IsStructured y) (same_Some k l e) (here, of.1), λ g. ap (λ y. Some y) (one_kind x t k l here g.0))
 kind_answer x n t (Err f) is of told = λ l. (
   λ e. cc,
   λ h.
@@ -202,20 +194,13 @@ box_alone t no_point b = are_names _ names.Rect t b (λ n e. moved _ n t e b) (�
 
 -- ---- two names of one data type
 
-of_two : (x y a b c : Text) → (a ≡ x) ⊎ (a ≡ y) → (b ≡ x) ⊎ (b ≡ y) → (c ≡ x) ⊎ (c ≡ y) → (a ≡ b) ⊎ ((a ≡ c) ⊎ (b ≡ c))
-of_two x y a b c h k e = grind arith
-
 pub two_at_most : (t : Tree) (a b c : Text) → IsAccepted a t → IsAccepted b t → IsAccepted c t → (a ≡ b) ⊎ ((a ≡ c) ⊎ (b ≡ c))
-two_at_most t a b c h k l = of_two _ _ a b c (name_at a t h) (name_at b t k) (name_at c t l)
+two_at_most t a b c h k l = let x = name_at a t h in let y = name_at b t k in let z = name_at c t l in grind arith
 
 -- the kind under a name
 native_accepted : (k : NativeKind) (t : Tree) → IsAccepted (name_text (names.Native k)) t → (c : CoordType) × (d : Dimension) × Native t k c d
 native_accepted k t (OfNative m c d, (is, h)) = let e = one_name (names.Native k) (names.Native m) is in let same : k ≡ m = cc in (c, d, subst (λ x. Native t x c d) (sym same) h)
 native_accepted k t (l, (is, h)) = let e = one_name (names.Native k) (extension_of l) is in cc
-
-box_accepted : (t : Tree) → IsAccepted (name_text names.Rect) t → (d : Dimension) × BoxShape t d
-box_accepted t (OfRect d, (is, h)) = (d, h)
-box_accepted t (l, (is, h)) = let e = one_name names.Rect (extension_of l) is in cc
 
 size_within : (d : Dimension) → (2 ≤ size_of d) × (size_of d ≤ 4)
 size_within XY = (omega arith, omega arith)
@@ -228,10 +213,8 @@ four_of (struct fs) Interleaved d e h k = absurd h
 four_of _ c d e h k = absurd k
 
 point_and_box_four : (t : Tree) → IsAccepted (name_text (names.Native Point)) t → IsAccepted (name_text names.Rect) t → IsStructOfFour t
-point_and_box_four t h k =
-    let p = native_accepted Point t h in
-    let b = box_accepted t k in
-    four_of t p.0 p.1 b.0 (subst (λ x. Leaf x p.0 p.1) (sym p.2.1.1) p.2.2) b.1
+point_and_box_four t h (OfRect e, (is, k)) = let p = native_accepted Point t h in four_of t p.0 p.1 e (subst (λ x. Leaf x p.0 p.1) (sym p.2.1.1) p.2.2) k
+point_and_box_four t h (l, (is, k)) = let e = one_name names.Rect (extension_of l) is in cc
 
 -- the two names of one data type, if they are two
 share : (s : ExtensionName) (t : Tree) (a b : Text) → a ≡ name_text s → b ≡ name_text (second_of s) → IsAccepted a t → IsAccepted b t → (a ≡ b → ⊥) → Share t a b
@@ -252,18 +235,14 @@ which_two t a b x y differ = by (name_at a t x) (name_at b t y)
 pub as_other : (j k : NativeKind) (t : Tree) → ((c : CoordType) (d : Dimension) → Native t j c d → Native t k c d) → IsAccepted (name_text (names.Native j)) t → IsAccepted (name_text (names.Native k)) t
 as_other j k t f h = let x = native_accepted j t h in (OfNative k x.0 x.1, (refl, f x.0 x.1 x.2))
 
-point_of_four : (t : Tree) → IsStructOfFour t → IsAccepted (name_text (names.Native Point)) t
-point_of_four (struct fs) h = (OfNative Point Separated (dimension_sized 4 false), (refl, (struct fs, (Lists, refl), h)))
-point_of_four _ h = absurd h
-
-box_of_four : (t : Tree) → IsStructOfFour t → IsAccepted (name_text names.Rect) t
-box_of_four (struct fs) h = (OfRect XY, (refl, h))
-box_of_four _ h = absurd h
+of_four : (t : Tree) → IsStructOfFour t → IsAccepted (name_text (names.Native Point)) t × IsAccepted (name_text names.Rect) t
+of_four (struct fs) h = ((OfNative Point Separated (dimension_sized 4 false), (refl, (struct fs, (Lists, refl), h))), (OfRect XY, (refl, h)))
+of_four _ h = absurd h
 
 pub both_accepted : (t : Tree) (a b : Text) → Share t a b → IsAccepted a t ↔ IsAccepted b t
 both_accepted t a b (inl h) = rw (h.0, h.1) (as_other LineString (second_kind LineString) t (λ c d x. x), as_other (second_kind LineString) LineString t (λ c d x. x))
 both_accepted t a b (inr (inl h)) = rw (h.0, h.1) (as_other Polygon (second_kind Polygon) t (λ c d x. x), as_other (second_kind Polygon) Polygon t (λ c d x. x))
-both_accepted t a b (inr (inr h)) = rw (h.0, h.1) (λ x. box_of_four t h.2, λ x. point_of_four t h.2)
+both_accepted t a b (inr (inr h)) = rw (h.0, h.1) (λ x. (of_four t h.2).1, λ x. (of_four t h.2).0)
 
 -- ---- no name
 
@@ -271,21 +250,9 @@ abbrev No : Tree → ExtensionName → Type 0
 No t a = ¬ IsAccepted (name_text a) t
 
 pub no_names : (t : Tree) → No t (names.Native Point) → No t (names.Native LineString) → No t (names.Native Polygon) → No t (names.Native MultiPolygon) → No t (names.Native GeometryCollection) → No t names.Geometry → No t names.Rect → No t names.Wkb → No t names.Wkt → Names (Holds NoName) t
-no_names t point line polygon multi collection geometry box wkb wkt n = (λ e. absurd e, λ a. from a.0 a.1.1)
+no_names t point line polygon multi collection geometry box wkb wkt n = (λ e. absurd e, λ a. none (extension_of a.0) (a.0, (refl, a.1.1)))
   where
-    second_line : No t (names.Native (second_kind LineString))
-    second_line h = line (as_other (second_kind LineString) LineString t (λ c d y. y) h)
-
-    second_polygon : No t (names.Native (second_kind Polygon))
-    second_polygon h = polygon (as_other (second_kind Polygon) Polygon t (λ c d y. y) h)
-
-    natives : No t (names.Native (second_kind LineString)) → No t (names.Native (second_kind Polygon)) → (k : NativeKind) → No t (names.Native k)
-    natives lines polygons Point = point
-    natives lines polygons _ = search
-
-    from : (k : Kind) → Accepted k t → ⊥
-    from (OfNative k c d) h = natives second_line second_polygon k (OfNative k c d, (refl, h))
-    from (OfGeometry c) h = geometry (OfGeometry c, (refl, h))
-    from (OfRect d) h = box (OfRect d, (refl, h))
-    from (OfWkb w) h = wkb (OfWkb w, (refl, h))
-    from (OfWkt w) h = wkt (OfWkt w, (refl, h))
+    none : (a : ExtensionName) → No t a
+    none (names.Native MultiPoint) = λ h. line (as_other (second_kind LineString) LineString t (λ c d y. y) h)
+    none (names.Native MultiLineString) = λ h. polygon (as_other (second_kind Polygon) Polygon t (λ c d y. y) h)
+    none _ = search

@@ -1,8 +1,6 @@
 pub mod Terms
 pub mod Readings
 pub mod FaultLaws
-pub mod FaultPaths
-pub mod Bottoms
 pub mod UnionSteps
 pub mod Structs
 pub mod Written

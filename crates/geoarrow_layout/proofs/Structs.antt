@@ -1,17 +1,16 @@
 -- Sets of bits, and what one reading adds to them; the fields of a struct: which names are those of a coordinate or a box, by their bits, and which point is inferred.
-use Rattle.geoarrow_layout.proofs.Terms.{◌≡◌, ◌↔◌, ◌<◌, ◌⊎◌, ◌*◌, ◌%◌, ◌^◌, inl, inr, ℕ, sym, ap, subst, ◌∙◌, ◌≤◌, true, false, ℤ, pos, Ok, Err, refl, arith, bit_at, bit_or, bit_at_set_same, bit_at_set_other, bit_at-zero, cases_eq, ltb-true, ltb-false, bits, ReadAt, w8, w64, CoordType, Dimension, LayoutFault, negsuc, nat_abs, lt_z, suc, Bool, ◌||◌, true≢false, Decides, IsTrue, list_all, and_parts, and_from, List, [], ◌∷◌, length, zero, ◌+◌, ◌&&◌, cond, ◌++◌, take, get_or, eq-eqb, list_any, bytes_eq, bytes_eq-Decides, Text, FieldTree, field_trees, XY, XYZ, XYM, has_name, IsSeparatedAs, names_of, SomeAt, place_in, known_names, is_float64, are_float64, nat_eq, codes, HaveBoth, HasFault, eqb-true, or_cases, or_left, or_right, same_from_decides, and-true, and_assoc, IsBits, Result, Option, Tree, struct, FieldTrees, Separated, BadFieldNames, ListWidth, Bottom, Struct, Leaf, IsBoxAs, BoxShape, Path, SeparatedFault, CoordinateFault, BoxFault, IsBottom, IsUnion, IsNoLeaf, Tells, TellsBoth, BoxNamesFault, Some, None, same_Some, fixed_size_list, Interleaved, size_of, interleaved_name, Inferred, IsInferredAs, IsInferredSize, among_back, dimension_named}
+use Rattle.geoarrow_layout.proofs.Terms.{◌≡◌, ◌↔◌, ◌<◌, ◌⊎◌, ◌*◌, ◌%◌, ◌^◌, inl, inr, ℕ, sym, ap, subst, ◌∙◌, ◌≤◌, true, false, ℤ, pos, Ok, Err, refl, arith, bit_at, bit_or, bit_at_set_same, bit_at_set_other, bit_at-zero, cases_eq, ltb-true, ltb-false, bits, ReadAt, w8, w64, CoordType, Dimension, LayoutFault, negsuc, nat_abs, lt_z, suc, Bool, ◌||◌, true≢false, Decides, IsTrue, list_all, and_parts, and_from, List, [], ◌∷◌, length, ◌+◌, ◌&&◌, ◌++◌, take, get_or, eq-eqb, list_any, bytes_eq, bytes_eq-Decides, Text, FieldTree, field_trees, XY, XYZ, XYM, has_name, IsSeparatedAs, names_of, SomeAt, place_in, known_names, is_float64, are_float64, nat_eq, codes, HaveBoth, HasFault, eqb-true, cond_both, or_cases, or_left, or_right, same_from_decides, and-true, and_assoc, IsBits, Result, Option, Tree, struct, FieldTrees, Separated, BadFieldNames, ListWidth, Bottom, Struct, Leaf, IsBoxAs, BoxShape, Path, SeparatedFault, CoordinateFault, BoxFault, IsBottom, IsUnion, IsNoLeaf, Tells, TellsBoth, BoxNamesFault, Some, None, same_Some, fixed_size_list, Interleaved, size_of, interleaved_name, Inferred, IsInferredAs, IsInferredSize, among_back, dimension_named}
 use Rattle.std.proofs.Common.{bit_and, ◌/◌}
 use Rattle.std.proofs.Math.ListN.{get_or-map}
 use Rattle.std.proofs.lemmas.List.FromFn.{get_or-range_with_len}
 use Rattle.std.proofs.lemmas.Map.Made.{length-le_from_is_member}
-use Rattle.std.specs.Cmp.{IsEquivalence, decided}
+use Rattle.std.specs.Cmp.{decided}
 use Rattle.std.proofs.lemmas.Nat.Bits.{shr_and_one}
 use Rattle.std.specs.Int.{Width}
 use Rattle.std.specs.List.{AllByRecursion, IsDistinct}
 use Rattle.geoarrow_layout.specs.Summary.{IsBits, AddsBits}
-use Rattle.geoarrow_layout.proofs.Readings.{Answer, ok_same, or_more, one_more}
+use Rattle.geoarrow_layout.proofs.Readings.{Answer, ok_same, or_more, one_more, at_bottom}
 use Rattle.geoarrow_layout.specs.Shapes.{SameNames}
-use Rattle.geoarrow_layout.proofs.Bottoms.{at_bottom}
 use Rattle.geoarrow_layout.proofs.FaultLaws.{separated_length}
 
 -- one bit more, that of the one number with P
@@ -104,13 +103,6 @@ pub not_same : (xs ys : List FieldTree) (p : Bool) → p ≡ list_all (λ f. has
 unfolding SameNames
 not_same xs ys p e fails s = true≢false (sym (e ∙ (all_decides xs _).1 (λ n h. sym (s n) ∙ h)) ∙ fails)
 
--- texts are told apart by their bytes
-abbrev Same : Text → Text → Bool
-Same a b = bytes_eq b a
-
-texts : IsEquivalence Same
-texts = decided Same (λ a b. let d = bytes_eq-Decides b a in ((λ h. sym (d.0 h)), (λ e. d.1 (sym e))))
-
 all_named : (names xs : List Text) → AllByRecursion (λ x. has_name x names ≡ true) xs → (q : Text) → has_name q xs ≡ true → has_name q names ≡ true
 all_named names [] all q h = absurd (true≢false (sym h))
 all_named names (x ∷ xs) all q h = elim (or_cases (bytes_eq x q) (has_name q xs) h) [
@@ -129,7 +121,7 @@ same_three x y z names yx zx zy count xy third = λ n. same_from_decides {P = ha
     by : (n : Text) → has_name n names ≡ true → (a b c : Bool) → bytes_eq x n ≡ a → bytes_eq y n ≡ b → bytes_eq z n ≡ c → (a || (b || (c || false))) ≡ true
     by n h false false false e f g = absurd (omega (
       arith,
-      length-le_from_is_member texts (n ∷ x ∷ y ∷ z ∷ []) names
+      length-le_from_is_member {eq = λ a b. bytes_eq b a} (decided _ (λ a b. let d = bytes_eq-Decides b a in ((λ h. sym (d.0 h)), (λ e. d.1 (sym e))))) (n ∷ x ∷ y ∷ z ∷ []) names
           ((e, (f, (g, tt))), ((yx, (zx, tt)), ((zy, tt), (tt, tt)))) (all_named names (n ∷ x ∷ y ∷ z ∷ []) (h, all)),
     ))
     by n h _ _ _ e f g = refl
@@ -149,9 +141,6 @@ pub record FieldsSeen (names : ℕ) (all_floats : Bool) (xs : List FieldTree) : 
   pub bits : IsBits names (λ i. SomeAt i (names_of (field_trees xs)))
   pub floats : all_floats ≡ are_float64 (field_trees xs)
 
-pub fields_seen_none : FieldsSeen 0 true []
-fields_seen_none = record { bits = no_bits (λ i. ⊥) (λ i h. h); floats = refl }
-
 pub fields_seen_more : (names more : ℕ) (b b2 : Bool) (xs : List FieldTree) (k : ℕ) (x : FieldTree) → k < length xs → x ≡ get_or xs k x → AddsBits names (λ i. place_in x.name known_names ≡ i) more → b2 ≡ (b && is_float64 x.tree) → FieldsSeen names b (take k xs) → FieldsSeen more b2 (take (k + 1) xs)
 fields_seen_more names more b b2 all k x lt at adds float before =
     let xs = take k all in
@@ -161,14 +150,11 @@ fields_seen_more names more b b2 all k x lt at adds float before =
     }
 
 -- a known name is there exactly where its bit is set
-place_to_head : (n m : Text) (ms : List Text) (k : ℕ) (b : Bool) → bytes_eq n m ≡ b → ((j : ℕ) → j < length ms → place_in n ms ≡ j → bytes_eq n (get_or ms j []) ≡ true) → k < suc (length ms) → cond b 0 (suc (place_in n ms)) ≡ k → bytes_eq n (get_or (m ∷ ms) k []) ≡ true
-place_to_head n m ms zero true e rec lt h = e
-place_to_head n m ms (suc k) false e rec lt h = rec k (omega arith) (omega arith)
-place_to_head n m ms _ _ e rec lt h = absurd (omega arith)
-
 place_to : (n : Text) (ms : List Text) (k : ℕ) → k < length ms → place_in n ms ≡ k → bytes_eq n (get_or ms k []) ≡ true
 place_to n [] k lt h = absurd (omega arith)
-place_to n (m ∷ ms) k lt h = place_to_head n m ms k (bytes_eq n m) refl (λ j l e. place_to n ms j l e) lt h
+place_to n (m ∷ ms) k lt h =
+    let at = λ (j : ℕ) (here : bytes_eq n (get_or (m ∷ ms) j []) ≡ true) (e : j ≡ k). subst (λ i. bytes_eq n (get_or (m ∷ ms) i []) ≡ true) e here in
+    cond_both (bytes_eq n m) 0 (suc (place_in n ms)) (λ x. x ≡ k → bytes_eq n (get_or (m ∷ ms) k []) ≡ true) (λ e. at 0 e) (λ e z. at (suc (place_in n ms)) (place_to n ms (place_in n ms) (omega (arith, lt, z)) refl) z) h
 
 -- a known name stands at its own place
 place_back : (k : ℕ) → k < 8 → place_in (get_or known_names k []) known_names ≡ k
@@ -225,10 +211,7 @@ struct_no_leaf count names floats f h w n u is = at_struct (λ x. (p : Path) × 
 
 -- ---- boxes
 
-abbrev pub BoxNames : ℕ → ℕ → DimensionAnswer → Type 0
-BoxNames count bits r = (ns : List Text) → count ≡ length ns → IsBits bits (λ i. SomeAt i ns) → Tells r (λ d. IsBoxAs d ns) (BoxNamesFault ns)
-
-pub root_box : (w : Option ListWidth) (count names : ℕ) (floats : Bool) (u : Tree) (r : DimensionAnswer) → IsBottom IsUnion w 0 (Struct count names floats) u → BoxNames count names r → Tells r (BoxShape u) (BoxFault u)
+pub root_box : (w : Option ListWidth) (count names : ℕ) (floats : Bool) (u : Tree) (r : DimensionAnswer) → IsBottom IsUnion w 0 (Struct count names floats) u → ((ns : List Text) → count ≡ length ns → IsBits names (λ i. SomeAt i ns) → Tells r (λ d. IsBoxAs d ns) (BoxNamesFault ns)) → Tells r (BoxShape u) (BoxFault u)
 root_box w count names floats u r k says = at_bottom IsUnion (λ x. Tells r (BoxShape x) (BoxFault x)) w 0 (Struct count names floats) tt (λ x t b m z h. absurd h) (λ fs h. says (names_of fs) h.0 h.1) (λ ms mode h. absurd h) u k
 
 -- ---- points that trees are taken for

@@ -1,8 +1,7 @@
 -- What was seen of members says what the union is; ids and members are each read in one way.
-use Rattle.geoarrow_layout.proofs.Terms.{ShowsIn, ◌≡◌, ◌≢◌, ◌↔◌, ◌<◌, ◌+◌, ◌^◌, ◌⊎◌, inl, inr, ℕ, zero, suc, ℤ, pos, Result, Ok, Err, Option, Some, None, MatchOption, MatchResult, Bool, true, false, [], ◌∷◌, ◌++◌, take, length, get_or, refl, sym, ap, subst, ◌∙◌, arith, bit_at, cases_eq, same_from_bits, bit_at-pow_same, bit_at-pow_other, bit_at-lt, Tree, union, FieldTree, MemberTrees, no_members, member, member_trees, CoordType, Interleaved, Dimension, LayoutFault, ListWidth, Bottom, Union, Summary, order_of, Mixed, Geometry, Member, GeometryMember, OverLeaf, Native, NativeKind, GeometryCollection, AllMembers, SomeMember, HasMembers, Yields, Path, Faults, HasFault, FirstFault, UnionFault, MemberFault, MixedFault, GeometryMemberFault, GeometryFault, IsFaultOf, Seen, place_of, AreLevels, IsBottom, IsUnion, SummarizesBy, Summarizes, ReadAt, Tells, TellsBoth, IsNested, IsNoLeaf, ReadsFirst, coords_in, member_first, geometry_member_first, DimensionsFault, IsBits, AddsBits, first_fault, AreOf, IsCoordFault, MixedSays, IsRootUnion, IsInnerUnion, IsLevelFault, BadTypeId, MemberDimension, type_id_of, levels_of, Leaf, Under, CoordinateFault, LevelsFault, PartFault, OverLeafFault, NativeFault, NativeIn, NativeFaultIn}
-use Rattle.geoarrow_layout.proofs.Readings.{Answer, exactly, Items, all_map, all_inside, all_some, first_some, all_both, some_more, one_more, IsPartsOf, some_parts, refused}
-use Rattle.geoarrow_layout.proofs.FaultLaws.{Read, ApartMember, MemberReads, order_same, KindReads, KindFault}
-use Rattle.geoarrow_layout.proofs.Bottoms.{RefusesLists, at_bottom, no_union, level_fault}
+use Rattle.geoarrow_layout.proofs.Terms.{ShowsIn, ◌≡◌, ◌≢◌, ◌↔◌, ◌<◌, ◌+◌, ◌^◌, ◌⊎◌, inl, inr, ℕ, zero, suc, ℤ, pos, Result, Ok, Err, Option, Some, None, MatchOption, MatchResult, Bool, true, false, [], ◌∷◌, ◌++◌, take, length, get_or, refl, sym, ap, subst, ◌∙◌, arith, bit_at, cases_eq, same_from_bits, bit_at-pow_same, bit_at-pow_other, bit_at-lt, Tree, union, FieldTree, MemberTrees, no_members, member, member_trees, CoordType, Interleaved, Dimension, LayoutFault, ListWidth, Bottom, Union, Summary, order_of, Mixed, Geometry, Member, GeometryMember, OverLeaf, Native, NativeKind, GeometryCollection, AllMembers, SomeMember, HasMembers, Yields, Path, Faults, HasFault, FirstFault, UnionFault, MemberFault, MixedFault, GeometryMemberFault, GeometryFault, IsFaultOf, Seen, place_of, IsBottom, IsUnion, SummarizesBy, Summarizes, ReadAt, Tells, TellsBoth, IsNested, IsNoLeaf, ReadsFirst, coords_in, member_first, geometry_member_first, DimensionsFault, IsBits, AddsBits, first_fault, AreOf, IsCoordFault, MixedSays, IsRootUnion, IsInnerUnion, IsLevelFault, BadTypeId, MemberDimension, type_id_of, levels_of, Leaf, Under, CoordinateFault, LevelsFault, PartFault, OverLeafFault, NativeIn, NativeFaultIn, ListsOver}
+use Rattle.geoarrow_layout.proofs.Readings.{Answer, exactly, Items, all_map, all_inside, all_some, first_some, all_both, some_more, one_more, IsPartsOf, some_parts, refused, RefusesLists, are_levels, at_bottom, no_union, level_fault}
+use Rattle.geoarrow_layout.proofs.FaultLaws.{Read, SoleMember, MemberReads, order_same, KindReads}
 use Rattle.geoarrow_layout.proofs.Structs.{bits_like, bits_added, no_bits, bit_is, id_moved}
 
 abbrev pub OneReading : MemberReads → Type 0
@@ -44,9 +43,6 @@ AtDimension R d i t = (c : CoordType) × R i t c d
 abbrev CoordBits : MemberReads → ℕ → MemberTrees → Type 0
 CoordBits R n ms = IsBits n (Keyed CoordType place_of (AtCoord R) ms)
 
-abbrev DimensionBits : MemberReads → ℕ → MemberTrees → Type 0
-DimensionBits R n ms = IsBits n (Keyed Dimension order_of (AtDimension R) ms)
-
 -- members that the walk finds to be of one coordinate type
 of_one : (R S : MemberReads) → ((i : ℤ) (t : Tree) (c : CoordType) (d : Dimension) → R i t c d → S i t c d) → (F : ℤ → Faults) (empty : Bool) (fault : Option LayoutFault) (coords : ℕ) (ms : MemberTrees) (c : CoordType)
     → AreOf empty fault coords c → CoordBits S coords ms → IsFaultOf R F fault ms → AllMembers (Read R) ms × ((i : ℤ) (t : Tree) (x : Read R i t) → ((W : ℤ → Tree → Type 0) → W i t → SomeMember W ms) → x.0 ≡ c)
@@ -59,8 +55,7 @@ of_one R S sub F empty fault coords ms c h coord_bits first = (
 coord_fault : (R S : MemberReads) → ((i : ℤ) (t : Tree) (c : CoordType) (d : Dimension) → R i t c d → S i t c d) → OneReading S → (F : ℤ → Faults) (empty : Bool) (fault : Option LayoutFault) (coords : ℕ) (f : LayoutFault) (ms : MemberTrees)
     → IsCoordFault empty fault coords f → ((empty ≡ false) ↔ HasMembers ms) → CoordBits S coords ms → IsFaultOf R F fault ms → HasFault (UnionFault R F ms) f
 coord_fault R S sub one F empty fault coords f no_members (inl e) some bits first = ([], (refl, e.1))
-coord_fault R S sub one F empty fault coords f no_members (inr (inl e)) some bits first = absurd (some.0 e.0)
-coord_fault R S sub one F empty fault coords f no_members (inr (inr e)) some bits first = absurd (some.0 e.0)
+coord_fault R S sub one F empty fault coords f no_members (inr e) some bits first = absurd (elim e [ inl x ↦ some.0 x.0 | inr x ↦ some.0 x.0 ])
 coord_fault R S sub one F empty fault coords f (member i n t b m ms) (inl e) some bits first = let no = some.1 tt in let bad : true ≡ false = sym e.0 ∙ no in cc
 coord_fault R S sub one F empty fault coords f (member i n t b m ms) (inr (inl e)) some bits first =
     let found : HasFault (FirstFault R F (member i n t b m ms)) f = subst (λ o. IsFaultOf R F o (member i n t b m ms)) e.1 first in
@@ -72,7 +67,7 @@ coord_fault R S sub one F empty fault coords f (member i n t b m ms) (inr (inr e
 -- members of one coordinate type and dimension
 mixed_from : (S : MemberReads) → OneReading S → ((i : ℤ) (t : Tree) (c : CoordType) (d : Dimension) → Member i t c d → S i t c d)
     → (empty : Bool) (ids coords dims : ℕ) (fault geometry : Option LayoutFault) (r : Answer) (ms : MemberTrees)
-    → MixedSays (Union empty ids coords dims fault geometry) r → ((empty ≡ false) ↔ HasMembers ms) → CoordBits S coords ms → DimensionBits S dims ms
+    → MixedSays (Union empty ids coords dims fault geometry) r → ((empty ≡ false) ↔ HasMembers ms) → CoordBits S coords ms → IsBits dims (Keyed Dimension order_of (AtDimension S) ms)
     → IsFaultOf Member MemberFault fault ms → TellsBoth r (λ c d. HasMembers ms × AllMembers (λ i t. Member i t c d) ms) (λ p f. UnionFault Member MemberFault ms p f ⊎ DimensionsFault ms p f)
 mixed_from S one sub empty ids coords dims fault geometry (Ok x) ms says some coord_bits dimension_bits first =
     let of = of_one Member S sub MemberFault empty fault coords ms x.0 says.0 coord_bits first in (
@@ -106,7 +101,7 @@ one_from R one F empty fault coords (Err f) ms says some coord_bits first = coor
 
 -- what the bottom says of a union, by a reading S of its members
 abbrev SeenMixed : MemberReads → Bottom → MemberTrees → Type 0
-SeenMixed S (Union empty ids coords dims fault geometry) ms = ((empty ≡ false) ↔ HasMembers ms) × CoordBits S coords ms × DimensionBits S dims ms × IsFaultOf Member MemberFault fault ms
+SeenMixed S (Union empty ids coords dims fault geometry) ms = ((empty ≡ false) ↔ HasMembers ms) × CoordBits S coords ms × IsBits dims (Keyed Dimension order_of (AtDimension S) ms) × IsFaultOf Member MemberFault fault ms
 SeenMixed S _ ms = ⊥
 
 mixed_at : (S : MemberReads) → OneReading S
@@ -182,13 +177,13 @@ keyed_added K place S n more A xs x adds is before =
 abbrev Ids : MemberTrees → ℕ → Type 0
 Ids ms i = (i < 64) × SomeMember (λ j t. j ≡ pos i) ms
 
-pub seen_more : (R : MemberReads) (F : ℤ → Faults) → OneReading R → ApartMember R F → (ids ids2 coords coords2 dims dims2 : ℕ) (fault fault2 : Option LayoutFault) (part : Answer) (xs : Items) (k : ℕ) (x : ℤ × FieldTree) (z : ℤ) → k < length xs → x ≡ get_or xs k x → z ≡ x.0
+pub seen_more : (R : MemberReads) (F : ℤ → Faults) → OneReading R → SoleMember R F → (ids ids2 coords coords2 dims dims2 : ℕ) (fault fault2 : Option LayoutFault) (part : Answer) (xs : Items) (k : ℕ) (x : ℤ × FieldTree) (z : ℤ) → k < length xs → x ≡ get_or xs k x → z ≡ x.0
     → TellsBoth part (R z x.1.tree) (F z x.1.tree) → AddsBits ids (λ i. (i < 64) × (z ≡ pos i)) ids2 → AddsBits coords (ReadAt (λ y. place_of y.0) part) coords2 → AddsBits dims (ReadAt (λ y. order_of y.1) part) dims2
     → fault2 ≡ first_fault fault part → Seen R F ids coords dims fault (member_trees (take k xs)) → Seen R F ids2 coords2 dims2 fault2 (member_trees (take (k + 1) xs))
-seen_more R F one apart ids ids2 coords coords2 dims dims2 fault fault2 part all k x z lt at id says add_id add_coord add_dim next before =
+seen_more R F one sole ids ids2 coords coords2 dims dims2 fault fault2 part all k x z lt at id says add_id add_coord add_dim next before =
     let xs = take k all in
     let told = subst (λ i. TellsBoth part (R i x.1.tree) (F i x.1.tree)) id says in
-    let read : Yields part (R x.0 x.1.tree) = exactly (coords_in x.1.tree) part (R x.0 x.1.tree) (F x.0 x.1.tree) (one x.0 x.1.tree) (apart x.0 x.1.tree) told in
+    let read : Yields part (R x.0 x.1.tree) = exactly (coords_in x.1.tree) part (R x.0 x.1.tree) (F x.0 x.1.tree) (one x.0 x.1.tree) ((sole x.0).1 x.1.tree) told in
     subst (λ ys. Seen R F ids2 coords2 dims2 fault2 (member_trees ys)) (sym (one_more all k x lt at)) record {
       id_bits = bits_added ids ids2 (λ i. (i < 64) × (x.0 ≡ pos i)) (Ids (member_trees xs)) (Ids (member_trees (xs ++ (x ∷ [])))) (id_moved _ _ x.0 z id add_id) (λ i. let is = some_more (λ j t. j ≡ pos i) xs x in (
         (λ q. elim (is.0 q.1) [ inl s ↦ inl (q.0, s) | inr s ↦ inr (q.0, s) ]),
@@ -212,18 +207,12 @@ seen_none R F ids coords dims fault no_ids no_coords no_dims no_fault = rw (no_i
 pub fault_next : (R : MemberReads) (F : ℤ → Faults) (fault more : Option LayoutFault) (part : Answer) (xs : Items) (k : ℕ) (x : ℤ × FieldTree) (z : ℤ) → k < length xs → x ≡ get_or xs k x → z ≡ x.0
     → TellsBoth part (R z x.1.tree) (F z x.1.tree) → more ≡ first_fault fault part → IsFaultOf R F fault (member_trees (take k xs)) → IsFaultOf R F more (member_trees (take (k + 1) xs))
 fault_next R F fault more part xs k x z lt at id read next before =
-    let told = subst (λ i. TellsBoth part (R i x.1.tree) (F i x.1.tree)) id read in
-    subst (λ ys. IsFaultOf R F more (member_trees ys)) (sym (one_more xs k x lt at))
-    (subst (λ o. IsFaultOf R F o (member_trees (take k xs ++ (x ∷ [])))) (sym next) (fault_added R F fault part (take k xs) x told before))
+    rw (one_more xs k x lt at, next) (fault_added R F fault part (take k xs) x (subst (λ i. TellsBoth part (R i x.1.tree) (F i x.1.tree)) id read) before)
 
 -- ---- the root
 
-levels_none : (w : Option ListWidth) (n : ℕ) (t u : Tree) → AreLevels w n t u → n ≡ 0 → t ≡ u
-levels_none None n t u h z = h.1
-levels_none (Some w) n t u h z = absurd (omega (arith, h.0))
-
 pub at_root : (s : Summary) (b : Bottom) (t : Tree) → s.levels ≡ 0 → b ≡ s.bottom → Summarizes s t → IsBottom IsUnion s.width 0 b t
-at_root s b t none is h = subst (λ u. IsBottom IsUnion s.width 0 b u) (sym (levels_none s.width s.levels t h.0 h.1 none)) (rw (← none, is) h.2)
+at_root s b t none is h = subst (λ u. IsBottom IsUnion s.width 0 b u) (sym (subst (λ n. ListsOver (are_levels s.width s.levels t h.0 h.1).0 n t h.0) none (are_levels s.width s.levels t h.0 h.1).1)) (rw (← none, is) h.2)
 
 pub root_fault : (F : Faults) → RefusesLists F → (s : Summary) (f : LayoutFault) → IsLevelFault s 0 f → (t : Tree) → Summarizes s t → HasFault (F t) f
 root_fault F refuses s f e t h = level_fault F refuses s 0 f (omega arith) e t (shows_of_inner s t (inner_of s t h))
@@ -236,12 +225,9 @@ root_geometry w empty ids coords dims fault geometry u r k says =
 
 -- ---- ids and members: each is read in one way
 
-abbrev Part : KindReads → ℤ → Tree → CoordType → Dimension → Type 0
-Part N i t c d = (k : NativeKind) × (i ≡ pos (type_id_of k d)) × N t k c d
-
 -- the answer of a kind, if the dimension is that of the type id
 pub part_answer : (N : KindReads) (F : NativeKind → Faults) (i z : ℤ) (t : Tree) (k : NativeKind) (d : Dimension) (read r : Answer) → z ≡ i → IsPartsOf z (some_parts k d) → MatchResult r (λ x. (read ≡ Ok x) × (x.1 ≡ d)) (λ f. (read ≡ Err f) ⊎ ((f ≡ MemberDimension) × (c : CoordType) × (e : Dimension) × (read ≡ Ok (c, e)) × (e ≢ d)))
-    → TellsBoth read (N t k) (F k t) → TellsBoth r (Part N i t) (PartFault N F i t)
+    → TellsBoth read (N t k) (F k t) → TellsBoth r (λ c e. (l : NativeKind) × (i ≡ pos (type_id_of l e)) × N t l c e) (PartFault N F i t)
 part_answer N F i z t k d read (Ok x) is parts h a = let read_is : N t k x.0 x.1 = subst (λ y. TellsBoth y (N t k) (F k t)) h.0 a in (k, sym is ∙ (parts k d).0 refl ∙ ap (λ e. pos (type_id_of k e)) (sym h.1), read_is)
 part_answer N F i z t k d read (Err f) is parts (inl e) a = let fault : HasFault (F k t) f = subst (λ y. TellsBoth y (N t k) (F k t)) e a in (fault.0, inr (k, d, sym is ∙ (parts k d).0 refl, inl fault.1))
 part_answer N F i z t k d read (Err f) is parts (inr e) a =
@@ -254,19 +240,12 @@ over_leaf_answer b GeometryCollection n s t r other same says shown = absurd (ot
 over_leaf_answer true k n s t r other same says shown = subst (λ m. TellsBoth r (Under Leaf m t) (LevelsFault CoordinateFault None m t)) same (says t (shows_of_inner s t shown))
 over_leaf_answer false k n s t r other same says shown = subst (λ m. TellsBoth r (Under Leaf m t) (LevelsFault CoordinateFault None m t)) same (says t shown)
 
--- a member of a geometry that is no collection is the same in a collection
-over_leaf : (k : NativeKind) (t : Tree) (c : CoordType) (d : Dimension) → (k ≡ GeometryCollection → ⊥) → Native t k c d → OverLeaf t k c d
-over_leaf GeometryCollection t c d other h = absurd (other refl)
-over_leaf k t c d other h = h
-
-kind_fault_same : (k : NativeKind) (d : Dimension) (t : Tree) (p : Path) (f : LayoutFault) → (k ≡ GeometryCollection → ⊥) → KindFault Native NativeFault k d t p f → KindFault OverLeaf OverLeafFault k d t p f
-kind_fault_same GeometryCollection d t p f other h = absurd (other refl)
-kind_fault_same k d t p f other h = h
-
 pub no_collection : (i z : ℤ) (t : Tree) (r : Option (NativeKind × Dimension)) (part : Answer) → z ≡ i → IsPartsOf z r → ((d : Dimension) → r ≡ some_parts GeometryCollection d → ⊥) → TellsBoth part (GeometryMember i t) (GeometryMemberFault i t) → TellsBoth part (Member i t) (MemberFault i t)
-no_collection i z t r (Ok x) is parts other m = (m.0, m.1, over_leaf m.0 t x.0 x.1 (λ k. other x.1 ((parts m.0 x.1).1 (is ∙ m.1) ∙ ap (λ y. some_parts y x.1) k)) m.2)
+no_collection i z t r (Ok x) is parts other (GeometryCollection, id, m) = absurd (other x.1 ((parts GeometryCollection x.1).1 (is ∙ id)))
+no_collection i z t r (Ok x) is parts other (k, id, m) = (k, id, m)
 no_collection i z t r (Err f) is parts other (p, inl e) = (p, inl e)
-no_collection i z t r (Err f) is parts other (p, inr e) = (p, inr (e.0, e.1, e.2, kind_fault_same e.0 e.1 t p f (λ k. other e.1 ((parts e.0 e.1).1 (is ∙ e.2) ∙ ap (λ x. some_parts x e.1) k)) e.3))
+no_collection i z t r (Err f) is parts other (p, inr (GeometryCollection, d, id, e)) = absurd (other d ((parts GeometryCollection d).1 (is ∙ id)))
+no_collection i z t r (Err f) is parts other (p, inr (k, d, id, e)) = (p, inr (k, d, id, e))
 
 pub a_collection : (i z : ℤ) (t : Tree) (k : NativeKind) (d : Dimension) → z ≡ i → IsPartsOf z (some_parts k d) → k ≡ GeometryCollection → TellsBoth (refused BadTypeId) (Member i t) (MemberFault i t)
 a_collection i z t k d is parts same = ([], inr (k, d, sym is ∙ (parts k d).0 refl, inl (subst (λ x. OverLeafFault x t [] BadTypeId) (sym same) (refl, refl))))

@@ -21,18 +21,10 @@ macro_rules! all_kinds {
                 Kind::Native(NativeKind::$kind, Separated, $m),
                 Kind::Native(NativeKind::$kind, Separated, $zm),
             )*
-            Kind::Geometry(Interleaved),
-            Kind::Geometry(Separated),
-            Kind::Rect($xy),
-            Kind::Rect($z),
-            Kind::Rect($m),
-            Kind::Rect($zm),
-            Kind::Wkb(Width::Plain),
-            Kind::Wkb(Width::Large),
-            Kind::Wkb(Width::View),
-            Kind::Wkt(Width::Plain),
-            Kind::Wkt(Width::Large),
-            Kind::Wkt(Width::View),
+            Kind::Geometry(Interleaved), Kind::Geometry(Separated),
+            Kind::Rect($xy), Kind::Rect($z), Kind::Rect($m), Kind::Rect($zm),
+            Kind::Wkb(Width::Plain), Kind::Wkb(Width::Large), Kind::Wkb(Width::View),
+            Kind::Wkt(Width::Plain), Kind::Wkt(Width::Large), Kind::Wkt(Width::View),
         ]
     };
 }
@@ -192,15 +184,7 @@ pub(crate) fn parts_of_id(id: i8) -> Option<(NativeKind, Dimension)>
 pub(crate) fn type_id(kind: NativeKind, dimension: Dimension) -> i8
     ensures { result ≡ pos (type_id_of kind dimension) }
 {
-    (dimension.order() * 10 + offset_of(kind)) as i8
-}
-
-/// The type id of a native kind in two dimensions.
-fn offset_of(kind: NativeKind) -> u8
-    ensures offset { result ≡ offset_of kind }
-    ensures small { result ≤ 7 }
-{
-    kind as u8 + 1
+    (dimension.order() * 10 + kind as u8 + 1) as i8
 }
 
 /// The names of the list items of a kind, from the outermost list: one for each of its lists.

@@ -101,14 +101,12 @@ pub fn find_fault(
 ) -> Result<Option<(Vec<usize>, LayoutFault)>, AllocError>
     ensures { IfOk result (λ r. MatchOption r (IsAccepted (name_text name) (tree data_type.now)) (λ found. FaultAt name (tree data_type.now) found.0.items found.1)) }
 {
-    match parse_kind(name, data_type) {
-        Ok(_) => Ok(None),
-        Err(fault) => {
-            let mut path = Vec::new(alloc);
-            push_path(&mut path, name, data_type)?;
-            Ok(Some((path, fault)))
-        }
-    }
+    let Err(fault) = parse_kind(name, data_type) else {
+        return Ok(None);
+    };
+    let mut path = Vec::new(alloc);
+    push_path(&mut path, name, data_type)?;
+    Ok(Some((path, fault)))
 }
 
 /// The child field of a data type at a place, from 0, as the paths of `find_fault` count them: the item of a list, which
@@ -117,7 +115,7 @@ pub fn find_fault(
 /// ```rust
 /// let item = child_field(&data_type, 0);
 /// ```
-#[tactic(auto, using(crate::proofs::FaultPaths::field_there, crate::proofs::FaultPaths::no_field_there, crate::proofs::FaultPaths::member_there, crate::proofs::FaultPaths::no_member_there))]
+#[tactic(auto, using(crate::proofs::FaultLaws::field_there, crate::proofs::FaultLaws::no_field_there, crate::proofs::FaultLaws::member_there, crate::proofs::FaultLaws::no_member_there))]
 pub fn child_field(data_type: &DataType, place: usize) -> Option<&Field>
     ensures { MatchOption result (child_at (tree data_type.now) place ≡ None) (λ f. child_at (tree data_type.now) place ≡ Some f.now) }
 {
@@ -152,15 +150,13 @@ fn push_native(
 ) -> Added
     ensures { OnOk result (LeadsTo (NativeFaultIn collections kind (tree data_type.now)) path.old.items path.new.items) }
 {
-    match kind {
-        NativeKind::GeometryCollection if collections => match data_type {
-            DataType::List(item) | DataType::LargeList(item) => {
-                path.push(0)?;
-                push_union(path, false, item.data_type())
-            }
-            _ => Ok(()),
-        },
-        NativeKind::GeometryCollection => Ok(()),
+    match (kind, data_type) {
+        (NativeKind::GeometryCollection, DataType::List(item) | DataType::LargeList(item))
+            if collections => {
+            path.push(0)?;
+            push_union(path, false, item.data_type())
+        }
+        (NativeKind::GeometryCollection, _) => Ok(()),
         _ => push_levels(path, None, list_names(kind).len() as u8, data_type),
     }
 }

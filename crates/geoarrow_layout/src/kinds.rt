@@ -1,6 +1,6 @@
 //! What a layout has: a coordinate type and a dimension, with the tables of both.
-ghost use Rattle.std.specs.Prelude.{◌≡◌, ◌≤◌, ◌<◌, ◌↔◌, ◌⊎◌, ◌^◌};
-ghost use Rattle.geoarrow_layout.specs.Cited.{IfOk, IfErr, Some, Ok, pos, map, fixed_text, size_of, order_of, interleaved_name, coordinate_names, box_names, place_of};
+ghost use Rattle.std.specs.Prelude.{◌≡◌, ◌≤◌, ◌↔◌, ◌⊎◌, ◌^◌};
+ghost use Rattle.geoarrow_layout.specs.Cited.{IfOk, IfErr, Some, Ok, pos, map, fixed_text, size_of, order_of, interleaved_name, coordinate_names, box_names};
 
 use crate::kinds::Dimension::{XY, XYM, XYZ, XYZM};
 use arrow_values::FixedName::{
@@ -207,14 +207,6 @@ pub(crate) fn only_dimension(bits: u8) -> Option<Dimension>
     ensures { (d : Dimension) → (result ≡ Some d) ↔ (bits ≡ 2 ^ order_of d) }
 {
     dimension_with!(bits; 1, 2, 4, 8)
-}
-
-/// The place of a coordinate type among the two.
-pub(crate) fn place_of(coord_type: CoordType) -> u8
-    ensures place { result ≡ place_of coord_type }
-    ensures small { result < 8 }
-{
-    coord_type as u8
 }
 
 /// The size of the fixed size list of an interleaved coordinate.

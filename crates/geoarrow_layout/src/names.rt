@@ -7,10 +7,7 @@ use crate::encodings::NativeKind;
 /// The extension names of columns of geometries, at a field's `ARROW:extension:name` (GeoArrow, "Extension types").
 ///
 /// ```rust
-/// assert_eq!(rt;
-///     ExtensionName::from_text("geoarrow.box"),
-///     Some(ExtensionName::Rect)
-/// );
+/// assert_eq!(rt; ExtensionName::from_text("geoarrow.box"), Some(ExtensionName::Rect));
 /// assert_eq!(rt; ExtensionName::from_text("geoarrow.rect"), None);
 /// ```
 #[derive(Clone, Copy, Debug, PartialEq, Eq)]
@@ -34,19 +31,17 @@ impl ExtensionName {
         ensures { result.now ≡ name_text self }
     {
         match self {
-            ExtensionName::Native(NativeKind::Point) => "geoarrow.point",
-            ExtensionName::Native(NativeKind::LineString) => "geoarrow.linestring",
-            ExtensionName::Native(NativeKind::Polygon) => "geoarrow.polygon",
-            ExtensionName::Native(NativeKind::MultiPoint) => "geoarrow.multipoint",
-            ExtensionName::Native(NativeKind::MultiLineString) => "geoarrow.multilinestring",
-            ExtensionName::Native(NativeKind::MultiPolygon) => "geoarrow.multipolygon",
-            ExtensionName::Native(NativeKind::GeometryCollection) => {
-                "geoarrow.geometrycollection"
-            }
-            ExtensionName::Geometry => "geoarrow.geometry",
-            ExtensionName::Rect => "geoarrow.box",
-            ExtensionName::Wkb => "geoarrow.wkb",
-            ExtensionName::Wkt => "geoarrow.wkt",
+            Self::Native(NativeKind::Point) => "geoarrow.point",
+            Self::Native(NativeKind::LineString) => "geoarrow.linestring",
+            Self::Native(NativeKind::Polygon) => "geoarrow.polygon",
+            Self::Native(NativeKind::MultiPoint) => "geoarrow.multipoint",
+            Self::Native(NativeKind::MultiLineString) => "geoarrow.multilinestring",
+            Self::Native(NativeKind::MultiPolygon) => "geoarrow.multipolygon",
+            Self::Native(NativeKind::GeometryCollection) => "geoarrow.geometrycollection",
+            Self::Geometry => "geoarrow.geometry",
+            Self::Rect => "geoarrow.box",
+            Self::Wkb => "geoarrow.wkb",
+            Self::Wkt => "geoarrow.wkt",
         }
     }
 
@@ -56,19 +51,17 @@ impl ExtensionName {
         ensures { (name : ExtensionName) → (result ≡ Some name) ↔ (text.now ≡ name_text name) }
     {
         match text {
-            "geoarrow.point" => Some(ExtensionName::Native(NativeKind::Point)),
-            "geoarrow.linestring" => Some(ExtensionName::Native(NativeKind::LineString)),
-            "geoarrow.polygon" => Some(ExtensionName::Native(NativeKind::Polygon)),
-            "geoarrow.multipoint" => Some(ExtensionName::Native(NativeKind::MultiPoint)),
-            "geoarrow.multilinestring" => Some(ExtensionName::Native(NativeKind::MultiLineString)),
-            "geoarrow.multipolygon" => Some(ExtensionName::Native(NativeKind::MultiPolygon)),
-            "geoarrow.geometrycollection" => {
-                Some(ExtensionName::Native(NativeKind::GeometryCollection))
-            }
-            "geoarrow.geometry" => Some(ExtensionName::Geometry),
-            "geoarrow.box" => Some(ExtensionName::Rect),
-            "geoarrow.wkb" => Some(ExtensionName::Wkb),
-            "geoarrow.wkt" => Some(ExtensionName::Wkt),
+            "geoarrow.point" => Some(Self::Native(NativeKind::Point)),
+            "geoarrow.linestring" => Some(Self::Native(NativeKind::LineString)),
+            "geoarrow.polygon" => Some(Self::Native(NativeKind::Polygon)),
+            "geoarrow.multipoint" => Some(Self::Native(NativeKind::MultiPoint)),
+            "geoarrow.multilinestring" => Some(Self::Native(NativeKind::MultiLineString)),
+            "geoarrow.multipolygon" => Some(Self::Native(NativeKind::MultiPolygon)),
+            "geoarrow.geometrycollection" => Some(Self::Native(NativeKind::GeometryCollection)),
+            "geoarrow.geometry" => Some(Self::Geometry),
+            "geoarrow.box" => Some(Self::Rect),
+            "geoarrow.wkb" => Some(Self::Wkb),
+            "geoarrow.wkt" => Some(Self::Wkt),
             _ => None,
         }
     }

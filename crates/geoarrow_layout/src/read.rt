@@ -146,14 +146,8 @@ pub fn parse_wkt(data_type: &DataType) -> Result<Width, LayoutFault>
 ///
 /// ```rust
 /// let name = ExtensionName::Wkb;
-/// assert_eq!(rt;
-///     parse_kind(name, &DataType::LargeBinary),
-///     Ok(Kind::Wkb(Width::Large))
-/// );
-/// assert_eq!(rt;
-///     parse_kind(name, &DataType::Utf8),
-///     Err(LayoutFault::UnexpectedType)
-/// );
+/// assert_eq!(rt; parse_kind(name, &DataType::LargeBinary), Ok(Kind::Wkb(Width::Large)));
+/// assert_eq!(rt; parse_kind(name, &DataType::Utf8), Err(LayoutFault::UnexpectedType));
 /// ```
 pub fn parse_kind(name: ExtensionName, data_type: &DataType) -> Result<Kind, LayoutFault>
     ensures exact { YieldsOne result (Accepts (name_text name) (tree data_type.now)) }
@@ -224,32 +218,28 @@ pub fn candidates(data_type: &DataType) -> Candidates
     }
     let summary = summarize(data_type);
     let is_point = is_kind(ExtensionName::Native(NativeKind::Point), &summary);
+    let collection = NativeKind::GeometryCollection;
     if is_kind(ExtensionName::Rect, &summary) {
         if is_point {
-            return Candidates::PointOrBox;
+            Candidates::PointOrBox
+        } else {
+            Candidates::One("geoarrow.box")
         }
-        return Candidates::One("geoarrow.box");
+    } else if is_point {
+        Candidates::One("geoarrow.point")
+    } else if is_kind(ExtensionName::Native(NativeKind::LineString), &summary) {
+        Candidates::LineStringOrMultiPoint
+    } else if is_kind(ExtensionName::Native(NativeKind::Polygon), &summary) {
+        Candidates::PolygonOrMultiLineString
+    } else if is_kind(ExtensionName::Native(NativeKind::MultiPolygon), &summary) {
+        Candidates::One("geoarrow.multipolygon")
+    } else if is_kind(ExtensionName::Native(collection), &summary) {
+        Candidates::One("geoarrow.geometrycollection")
+    } else if is_kind(ExtensionName::Geometry, &summary) {
+        Candidates::One("geoarrow.geometry")
+    } else {
+        Candidates::None
     }
-    if is_point {
-        return Candidates::One("geoarrow.point");
-    }
-    if is_kind(ExtensionName::Native(NativeKind::LineString), &summary) {
-        return Candidates::LineStringOrMultiPoint;
-    }
-    if is_kind(ExtensionName::Native(NativeKind::Polygon), &summary) {
-        return Candidates::PolygonOrMultiLineString;
-    }
-    if is_kind(ExtensionName::Native(NativeKind::MultiPolygon), &summary) {
-        return Candidates::One("geoarrow.multipolygon");
-    }
-    let collection = NativeKind::GeometryCollection;
-    if is_kind(ExtensionName::Native(collection), &summary) {
-        return Candidates::One("geoarrow.geometrycollection");
-    }
-    if is_kind(ExtensionName::Geometry, &summary) {
-        return Candidates::One("geoarrow.geometry");
-    }
-    Candidates::None
 }
 
 /// Whether a column of that extension name has a kind, by the summary of its data type.
@@ -293,8 +283,10 @@ pub fn infer_point(data_type: &DataType) -> Option<(CoordType, Dimension)>
 fn sized_dimension(inner: &Field, size: i32) -> Option<Dimension>
     ensures { (d : Dimension) → (result ≡ Some d) ↔ ((is_float64 inner.now.tree ≡ true) × IsInferredSize d inner.now.name size) }
 {
+    if !is_float64(inner.data_type()) {
+        return None;
+    }
     match size {
-        _ if !is_float64(inner.data_type()) => None,
         2 => Some(Dimension::XY),
         3 if inner.name() == "xym" => Some(Dimension::XYM),
         3 => Some(Dimension::XYZ),
@@ -377,8 +369,10 @@ fn leaf(bottom: &Bottom) -> Answer
 fn bottom_below(summary: &Summary, levels: u8) -> Result<&Bottom, LayoutFault>
     ensures { MatchResult result (λ b. (summary.now.levels ≡ levels) × (b.now ≡ summary.now.bottom)) (IsLevelFault summary.now levels) }
 {
+    if levels == summary.levels {
+        return Ok(&summary.bottom);
+    }
     match summary.bottom {
-        _ if levels == summary.levels => Ok(&summary.bottom),
         Bottom::OtherWidth if summary.levels < levels => Err(LayoutFault::MixedWidths),
         _ => Err(LayoutFault::UnexpectedType),
     }
@@ -392,8 +386,10 @@ fn one_of_union(
 ) -> Result<CoordType, LayoutFault>
     ensures { MatchResult result (AreOf no_members fault coord_types) (IsCoordFault no_members fault coord_types) }
 {
+    if no_members {
+        return Err(LayoutFault::EmptyUnion);
+    }
     match (fault, coord_types) {
-        _ if no_members => Err(LayoutFault::EmptyUnion),
         (Some(fault), _) => Err(fault),
         (None, 1) => Ok(CoordType::Interleaved),
         (None, 2) => Ok(CoordType::Separated),

@@ -4,7 +4,7 @@ ghost use Rattle.geoarrow_layout.specs.Cited.{false, [], IsTrue, MatchOption, po
 
 use crate::encodings::{NativeKind, parts_of_id};
 use crate::fault::LayoutFault;
-use crate::kinds::{CoordType, Dimension, named_dimension, place_of};
+use crate::kinds::{CoordType, Dimension, named_dimension};
 use crate::read::{Answer, member};
 use arrow_values::{DataType, Field};
 
@@ -149,7 +149,7 @@ pub(crate) fn list_item(
 
 /// Goes down the list levels of the outermost list's width, to the third at most.
 #[inline(always)]
-#[tactic(auto, using(crate::proofs::Bottoms::level_more))]
+#[tactic(auto, using(crate::proofs::Readings::level_more))]
 pub(crate) fn below_lists(data_type: &DataType) -> Below<'_>
     ensures levels { AreLevels result.width result.levels (tree data_type.now) (tree result.rest.now) }
     ensures ended { Ended result.width result.levels (tree result.rest.now) }
@@ -242,7 +242,7 @@ fn with_member(seen: Members, id: i8, part: &Answer) -> Members
     match part {
         Ok(pair) => Members {
             ids,
-            coord_types: seen.coord_types | 1 << place_of(pair.0),
+            coord_types: seen.coord_types | 1 << pair.0 as u8,
             dimensions: seen.dimensions | 1 << pair.1.order(),
             fault,
         },

@@ -1,6 +1,6 @@
 //! The data types that are written, and the kind that a data type was written for.
 ghost use Rattle.std.specs.Prelude.{◌≡◌, ◌++◌, ◌↔◌};
-ghost use Rattle.geoarrow_layout.specs.Cited.{[], false, map, IfOk, IsOk, OnOk, IsTrue, Some, codes, fixed_text, list, struct, tree, field_trees, coordinate, leaf_layout, lists_over, over_leaf_layout, member_layout, members_over, mixed_layout, layout, IsBare, members_in, native_layout, native_members, IsStructured};
+ghost use Rattle.geoarrow_layout.specs.Cited.{[], false, map, IfOk, IsOk, OnOk, IsTrue, Some, codes, fixed_text, list, struct, tree, field_trees, coordinate, leaf_layout, lists_over, over_leaf_layout, member_layout, members_over, mixed_layout, layout, IsBare, members_in, IsStructured};
 
 use crate::encodings::{KINDS, Kind, NativeKind, Width, list_names, member_name, type_id};
 use crate::kinds::{
@@ -23,8 +23,8 @@ pub fn coord_data_type(
 {
     match coord_type {
         CoordType::Interleaved => {
-            let inner = Box::new(alloc, coordinate(alloc, interleaved_name(dimension)))?;
-            Ok(DataType::FixedSizeList(inner, list_size(dimension)))
+            let field = Field::fixed(alloc, interleaved_name(dimension), DataType::Float64, false);
+            Ok(DataType::FixedSizeList(Box::new(alloc, field)?, list_size(dimension)))
         }
         CoordType::Separated => struct_of(alloc, coordinate_names(dimension)),
     }
@@ -71,8 +71,11 @@ pub fn geometry_data_type(alloc: Global, coord_type: CoordType) -> Result<DataTy
     ensures { IfOk result (λ t. tree t ≡ layout (Kind.Geometry coord_type)) }
 {
     let mut members = Vec::with_capacity(alloc, 28)?;
+    let collection = NativeKind::GeometryCollection;
     for dimension in &DIMENSIONS {
-        push_natives(alloc, &mut members, &KINDS, (coord_type, *dimension))?;
+        push_over(alloc, &mut members, &KINDS[..6], (coord_type, *dimension))?;
+        let data_type = list_data_type(alloc, collection, coord_type, *dimension)?;
+        members.push(member_of(alloc, collection, *dimension, data_type))?;
     }
     Ok(DataType::Union(UnionFields::from_members(members), UnionMode::Dense))
 }
@@ -123,22 +126,14 @@ pub fn kind_data_type(alloc: Global, kind: Kind) -> Result<DataType, AllocError>
     }
 }
 
-/// A field of `Float64` that is never null.
-#[inline(always)]
-fn coordinate(alloc: Global, name: FixedName) -> Field
-    ensures { result ≡ coordinate (fixed_text name) }
-{
-    Field::fixed(alloc, name, DataType::Float64, false)
-}
-
-/// A struct with such a field of each name.
+/// A struct with a field of each name, of `Float64` and never null.
 #[inline(always)]
 fn struct_of(alloc: Global, names: &[FixedName]) -> Result<DataType, AllocError>
     ensures { IfOk result (λ t. tree t ≡ struct (field_trees (map coordinate (map fixed_text names.now)))) }
 {
     let mut fields = Vec::with_capacity(alloc, names.len())?;
     for name in names {
-        fields.push(coordinate(alloc, *name))?;
+        fields.push(Field::fixed(alloc, *name, DataType::Float64, false))?;
     }
     Ok(DataType::Struct(Fields::from(fields)))
 }
@@ -147,14 +142,12 @@ fn struct_of(alloc: Global, names: &[FixedName]) -> Result<DataType, AllocError>
 fn lists_over(alloc: Global, names: &[FixedName], inner: DataType) -> Result<DataType, AllocError>
     ensures { IfOk result (λ t. tree t ≡ lists_over (map fixed_text names.now) (tree inner)) }
 {
-    match names.split_first() {
-        Some((name, rest)) => {
-            let lower = lists_over(alloc, rest, inner)?;
-            let item = Box::new(alloc, Field::fixed(alloc, *name, lower, false))?;
-            Ok(DataType::List(item))
-        }
-        None => Ok(inner),
-    }
+    let Some((name, rest)) = names.split_first() else {
+        return Ok(inner);
+    };
+    let lower = lists_over(alloc, rest, inner)?;
+    let item = Box::new(alloc, Field::fixed(alloc, *name, lower, false))?;
+    Ok(DataType::List(item))
 }
 
 /// The lists of a kind over a coordinate.
@@ -167,15 +160,10 @@ fn over_leaf(alloc: Global, kind: NativeKind, leaf: Coordinate) -> Result<DataTy
 }
 
 /// The member of a union for a kind in a dimension, which holds that data type.
-fn member_of(
-    alloc: Global,
-    kind: NativeKind,
-    dimension: Dimension,
-    data_type: DataType,
-) -> (i8, Field)
-    ensures { result ≡ member_layout kind dimension (tree data_type) }
+fn member_of(alloc: Global, kind: NativeKind, dimension: Dimension, inner: DataType) -> (i8, Field)
+    ensures { result ≡ member_layout kind dimension (tree inner) }
 {
-    let field = Field::fixed(alloc, member_name(kind, dimension), data_type, true);
+    let field = Field::fixed(alloc, member_name(kind, dimension), inner, true);
     (type_id(kind, dimension), field)
 }
 
@@ -190,22 +178,6 @@ fn push_over(
 {
     for kind in kinds {
         let data_type = over_leaf(alloc, *kind, leaf)?;
-        members.push(member_of(alloc, *kind, leaf.1, data_type))?;
-    }
-    Ok(())
-}
-
-/// Puts a member for each of these kinds last, each as the kind is written, in one dimension.
-fn push_natives(
-    alloc: Global,
-    members: &mut Vec<(i8, Field)>,
-    kinds: &[NativeKind],
-    leaf: Coordinate,
-) -> Result<(), AllocError>
-    ensures { OnOk result (members.new.items ≡ members.old.items ++ native_members kinds.now leaf.0 leaf.1) }
-{
-    for kind in kinds {
-        let data_type = list_data_type(alloc, *kind, leaf.0, leaf.1)?;
         members.push(member_of(alloc, *kind, leaf.1, data_type))?;
     }
     Ok(())
@@ -228,8 +200,11 @@ pub fn is_layout(data_type: &DataType, kind: &Kind) -> bool
     ensures { IsTrue result ↔ (tree data_type.now ≡ layout kind.now) }
 {
     match kind {
+        Kind::Native(NativeKind::GeometryCollection, coord_type, dimension) => {
+            is_collection(data_type, (*coord_type, *dimension))
+        }
         Kind::Native(kind, coord_type, dimension) => {
-            is_native(data_type, *kind, (*coord_type, *dimension))
+            is_over_leaf(data_type, list_names(*kind), (*coord_type, *dimension))
         }
         Kind::Geometry(coord_type) => is_geometry(data_type, *coord_type),
         Kind::Rect(dimension) => is_struct(data_type, box_names(*dimension)),
@@ -301,16 +276,6 @@ fn is_over_leaf(data_type: &DataType, names: &[FixedName], leaf: Coordinate) -> 
     is_bare(field, *name, false) && is_over_leaf(field.data_type(), others, leaf)
 }
 
-/// Whether the data type is the one that is written for a native kind.
-fn is_native(data_type: &DataType, kind: NativeKind, leaf: Coordinate) -> bool
-    ensures { IsTrue result ↔ (tree data_type.now ≡ native_layout kind leaf.0 leaf.1) }
-{
-    match kind {
-        NativeKind::GeometryCollection => is_collection(data_type, leaf),
-        _ => is_over_leaf(data_type, list_names(kind), leaf),
-    }
-}
-
 /// Whether the data type is the one that is written for a collection.
 fn is_collection(data_type: &DataType, leaf: Coordinate) -> bool
     ensures { IsTrue result ↔ (tree data_type.now ≡ list (codes "geometries") (mixed_layout leaf.0 leaf.1) false []) }
@@ -325,24 +290,20 @@ fn is_collection(data_type: &DataType, leaf: Coordinate) -> bool
 fn is_mixed(data_type: &DataType, leaf: Coordinate) -> bool
     ensures { IsTrue result ↔ (tree data_type.now ≡ mixed_layout leaf.0 leaf.1) }
 {
-    match data_type {
-        DataType::Union(members, UnionMode::Dense) => {
-            are_members_over(members.as_slice(), &KINDS[..6], leaf)
-        }
-        _ => false,
-    }
+    let DataType::Union(members, UnionMode::Dense) = data_type else {
+        return false;
+    };
+    are_members_over(members.as_slice(), &KINDS[..6], leaf)
 }
 
 /// Whether the data type is the one that is written for geometries of any kind.
 fn is_geometry(data_type: &DataType, coord_type: CoordType) -> bool
     ensures { IsTrue result ↔ (tree data_type.now ≡ layout (Kind.Geometry coord_type)) }
 {
-    match data_type {
-        DataType::Union(members, UnionMode::Dense) => {
-            are_in(members.as_slice(), &DIMENSIONS, coord_type)
-        }
-        _ => false,
-    }
+    let DataType::Union(members, UnionMode::Dense) = data_type else {
+        return false;
+    };
+    are_in(members.as_slice(), &DIMENSIONS, coord_type)
 }
 
 /// Whether the members are those that are written for geometries of these dimensions.
@@ -355,23 +316,12 @@ fn are_in(members: &[(i8, Field)], dimensions: &[Dimension], coord_type: CoordTy
     if members.len() < 7 {
         return false;
     }
-    let (first, rest) = members.split_at(7);
-    are_natives(first, &KINDS, (coord_type, *dimension)) && are_in(rest, others, coord_type)
-}
-
-/// Whether the members are those that are written for these kinds.
-fn are_natives(members: &[(i8, Field)], kinds: &[NativeKind], leaf: Coordinate) -> bool
-    ensures { IsTrue result ↔ (members.now ≡ native_members kinds.now leaf.0 leaf.1) }
-{
-    let Some((kind, others)) = kinds.split_first() else {
-        return members.is_empty();
-    };
-    let Some((member, rest)) = members.split_first() else {
-        return false;
-    };
-    is_member(member, *kind, leaf.1)
-        && is_native(member.1.data_type(), *kind, leaf)
-        && are_natives(rest, others, leaf)
+    let (first, rest) = members.split_at(6);
+    let leaf = (coord_type, *dimension);
+    are_members_over(first, &KINDS[..6], leaf)
+        && is_member(&rest[0], NativeKind::GeometryCollection, *dimension)
+        && is_collection(rest[0].1.data_type(), leaf)
+        && are_in(&rest[1..], others, coord_type)
 }
 
 /// Whether the members are those of these kinds, each over a coordinate.

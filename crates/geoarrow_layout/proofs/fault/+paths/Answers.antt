@@ -1,19 +1,18 @@
 use Rattle.geoarrow_layout.proofs.Terms.{◌≡◌, on_ok_weaker, ap, arith, rules, w8, to_z, of_z, to_z-of_z, tree}
 use Rattle.geoarrow_layout.proofs.Readings.{ok, refused}
-use Rattle.geoarrow_layout.proofs.FaultLaws.{native_apart_in}
-use Rattle.geoarrow_layout.proofs.FaultPaths.{native_leads, union_leads, stays, kind_inside}
+use Rattle.geoarrow_layout.proofs.FaultLaws.{native_sole_in, native_leads, union_leads, stays, kind_inside}
 use Rattle.geoarrow_layout.proofs.fault.+paths.Goals as goal
 
 pub push_native-returns-in_default : goal.push_native-returns-in_default
-push_native-returns-in_default t c = native_leads c.args.collections c.push_levels.result _ _ _ _ _ c.in_default.not-GeometryCollection (omega arith) c.push_levels.ensures
+push_native-returns-in_default t c = native_leads c.args.collections c.push_levels.result _ _ _ _ _ c.in_default.not-GeometryCollection-0 (omega arith) c.push_levels.ensures
 
 pub push_member-returns-in-Ok : goal.push_member-returns-in-Ok
-push_member-returns-in-Ok t c = stays _ _ (kind_inside _ _ (native_apart_in c.args.collections) c.args.id _ (tree c.args.data_type.now) c.in-Some.kind _ (ok c.in-Ok.field-0)
+push_member-returns-in-Ok t c = stays _ _ (kind_inside _ _ (native_sole_in c.args.collections) c.args.id _ (tree c.args.data_type.now) c.in-Some.kind _ (ok c.in-Ok.field-0)
     (search (rules, to_z-of_z)) c.in-Some.ensures (c.in-Ok.ensures _ c.member_summary.ensures))
 
 pub push_member-returns-in-Err : goal.push_member-returns-in-Err
 push_member-returns-in-Err t c =
-    let inside = kind_inside _ _ (native_apart_in c.args.collections) c.args.id _ (tree c.args.data_type.now) c.in-Some.kind _ (refused c.in-Err.field-0)
+    let inside = kind_inside _ _ (native_sole_in c.args.collections) c.args.id _ (tree c.args.data_type.now) c.in-Some.kind _ (refused c.in-Err.field-0)
     (search (rules, to_z-of_z)) c.in-Some.ensures (c.in-Err.ensures _ c.member_summary.ensures) in
     on_ok_weaker c.push_native.result (λ h p f e. h p f (inside p f e)) c.push_native.ensures
 

@@ -4,15 +4,10 @@ use Rattle.geoarrow_layout.proofs.AlikeLaws.{has_among}
 use Rattle.geoarrow_layout.proofs.likeness.+same.Goals as goal
 
 -- a member lies less deep than its union
-member_depth : (xs : List (ℤ × FieldTree)) (k : ℕ) (x : ℤ × FieldTree) → k < length xs → depth (get_or xs k x).1.tree < members_size xs
-member_depth [] k x lt = absurd (omega arith)
-member_depth (y ∷ xs) zero x lt = omega arith
-member_depth (y ∷ xs) (suc k) x lt = let h : depth (get_or xs k x).1.tree < members_size xs = member_depth xs k x (omega arith) in omega (arith, h)
-
--- the same of an element that a loop is at
-element_depth : (ms xs : List (ℤ × FieldTree)) (k : ℕ) (x : ℤ × FieldTree) → xs ≡ ms → k < length xs → x ≡ get_or xs k x → depth x.1.tree < members_size ms
-element_depth ms xs k x same lt at =
-    subst (λ zs. depth x.1.tree < members_size zs) same (subst (λ y. depth y.1.tree < members_size xs) (sym at) (member_depth xs k x lt))
+element_depth : (xs : List (ℤ × FieldTree)) (k : ℕ) (x : ℤ × FieldTree) → k < length xs → x ≡ get_or xs k x → depth x.1.tree < members_size xs
+element_depth [] k x lt at = absurd (omega arith)
+element_depth (y ∷ xs) zero x lt at = let same : depth x.1.tree ≡ depth y.1.tree = ap (λ z. depth z.1.tree) at in omega (arith, same)
+element_depth (y ∷ xs) (suc k) x lt at = let h : depth x.1.tree < members_size xs = element_depth xs k x (omega arith) at in omega (arith, h)
 
 -- where the loop stands: the first of the members that are left has an alike one, and the rest have
 each_left : (xs : List (ℤ × FieldTree)) (ns : MemberTrees) (k : ℕ) (x : ℤ × FieldTree) → k < length xs → x ≡ get_or xs k x → EachHasAlike (member_trees (drop k xs)) ns ↔ (SomeMember (λ j u. (x.0 ≡ j) × Alike x.1.tree u) ns × EachHasAlike (member_trees (drop (k + 1) xs)) ns)
@@ -53,20 +48,20 @@ is_met-returns-else-is_only t c = let by = has_among _ _ _ in (λ h. by.1 (c.any
 
 pub each_has_same-any_same-requires : goal.each_has_same-any_same-requires
 each_has_same-any_same-requires t c =
-    let h = element_depth _ _ _ _ c.as_slice-member-items.ensures c.loop-member-test.true c.member-item.is in
+    let h = element_depth _ _ _ c.loop-member-test.true c.member-item.is in
     let d : 2 * (members_size c.args.members.now + members_size c.args.others.now) ≡ t = c.decreases in
-    (omega (arith, h, d), tt)
+    (omega (arith, h, ap members_size c.as_slice-member-items.ensures, d), tt)
 
 pub any_same-same-requires : goal.any_same-same-requires
 any_same-same-requires t c =
-    let h = element_depth _ _ _ _ c.as_slice-id-items.ensures c.loop-id-test.true c.loop-id-item.is in
+    let h = element_depth _ _ _ c.loop-id-test.true c.loop-id-item.is in
     let e = ap depth c.data_type.ensures in
     let f = ap depth c.data_type-then-member-id.ensures in
     let d : 2 * (depth c.args.member.now.1.tree + members_size c.args.others.now) ≡ t = c.decreases in
-    (omega (arith, h, e, f, d), tt)
+    (omega (arith, h, ap members_size c.as_slice-id-items.ensures, e, f, d), tt)
 
 pub all_are_met-is_met-requires : goal.all_are_met-is_met-requires
 all_are_met-is_met-requires t c =
-    let h = element_depth _ _ _ _ c.as_slice-other-items.ensures c.loop-other-test.true c.other-item.is in
+    let h = element_depth _ _ _ c.loop-other-test.true c.other-item.is in
     let d : 2 * (members_size c.args.members.now + members_size c.args.others.now) ≡ t = c.decreases in
-    (omega (arith, h, d), c.requires)
+    (omega (arith, h, ap members_size c.as_slice-other-items.ensures, d), c.requires)

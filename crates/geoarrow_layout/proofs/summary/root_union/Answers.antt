@@ -1,5 +1,5 @@
 use Rattle.geoarrow_layout.proofs.Terms.{ShowsIn, true, subst, rules, to_z-of_z, Member, GeometryMember, MemberFault, GeometryMemberFault, geometry_member_first}
-use Rattle.geoarrow_layout.proofs.FaultLaws.{geometry_member_apart}
+use Rattle.geoarrow_layout.proofs.FaultLaws.{geometry_member_sole}
 use Rattle.geoarrow_layout.proofs.UnionSteps.{seen_more, seen_none, fault_next}
 use Rattle.geoarrow_layout.proofs.summary.root_union.Goals as goal
 
@@ -11,7 +11,7 @@ loop-item-preserved c =
     let below = subst (λ t. ShowsIn true c.member_summary-below.result t) c.data_type.ensures c.member_summary-below.ensures in
     let told = c.member-part.ensures c.item-item.result.1.tree below in
     record {
-      seen = seen_more GeometryMember GeometryMemberFault geometry_member_first geometry_member_apart _ _ _ _ _ _ _ _ c.member-part.result _ c.loop-item.item-index c.item-item.result _
+      seen = seen_more GeometryMember GeometryMemberFault geometry_member_first geometry_member_sole _ _ _ _ _ _ _ _ c.member-part.result _ c.loop-item.item-index c.item-item.result _
           c.loop-item-test.true c.item-item.is (search (rules, to_z-of_z)) told c.with_member-seen.ensures.ids
           c.with_member-seen.ensures.coord_types c.with_member-seen.ensures.dimensions c.with_member-seen.ensures.fault c.loop-item.invariant.seen;
       mixed = fault_next Member MemberFault _ _ _ _ c.loop-item.item-index c.item-item.result _ c.loop-item-test.true c.item-item.is (search (rules, to_z-of_z))

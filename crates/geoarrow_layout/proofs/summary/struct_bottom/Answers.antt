@@ -1,9 +1,9 @@
-use Rattle.geoarrow_layout.proofs.Terms.{◌≡◌, sym, ◌∙◌, ap, ◌&&◌, take_all, arith, w16, place_in, known_names, is_float64}
-use Rattle.geoarrow_layout.proofs.Structs.{length_names, adds_bit, fields_seen_none, fields_seen_more}
+use Rattle.geoarrow_layout.proofs.Terms.{◌≡◌, refl, sym, ◌∙◌, ap, ◌&&◌, take_all, arith, w16, place_in, known_names, is_float64}
+use Rattle.geoarrow_layout.proofs.Structs.{length_names, adds_bit, no_bits, fields_seen_more}
 use Rattle.geoarrow_layout.proofs.summary.struct_bottom.Goals as goal
 
 pub loop-field-init : goal.loop-field-init
-loop-field-init c = fields_seen_none
+loop-field-init c = record { bits = no_bits (λ i. ⊥) (λ i h. h); floats = refl }
 
 pub loop-field-preserved : goal.loop-field-preserved
 loop-field-preserved c =
