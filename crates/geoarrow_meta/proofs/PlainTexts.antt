@@ -63,12 +63,9 @@ text_stands d i stop opens is closes =
     let k = prefix_len is_plain xs in
     let n : k ≡ stop - (i + 1) = omega arith in
     let after : drop k xs ≡ 34 ∷ drop (stop + 1) d = drop-drop k (i + 1) d ∙ ap (λ j. drop j d) (sym is) ∙ last.1 in
-    let written : xs ≡ escape (take k xs) ++ 34 ∷ drop (stop + 1) d = sym (take-append-drop k xs) ∙ ap₂ (λ s t. s ++ t) (sym (plain_escaped xs)) after in (
-      last.0,
-      ap (lex between) (byte_there d i 34 opens (λ h. omega arith)).1
-          ∙ ap₂ (λ c ls. token (string_token c) ∷ ls) (ap (content plain) written ∙ content-escape (take k xs) _) (ap (lex in_string) written ∙ lex-escape (take k xs) (drop (stop + 1) d))
-          ∙ ap (λ j. token (string (take j xs)) ∷ lexemes_at d (stop + 1)) n,
-    )
+    let written : xs ≡ escape (take k xs) ++ 34 ∷ drop (stop + 1) d = sym (take-append-drop k xs) ∙ ap₂ (λ s t. s ++ t) (sym (plain_escaped xs)) after in
+    let quoted = ap₂ (λ c ls. token (string_token c) ∷ ls) (ap (content plain) written ∙ content-escape (take k xs) _) (ap (lex in_string) written ∙ lex-escape (take k xs) (drop (stop + 1) d)) in
+    (last.0, ap (lex between) (byte_there d i 34 opens (λ h. omega arith)).1 ∙ quoted ∙ ap (λ j. token (string (take j xs)) ∷ lexemes_at d (stop + 1)) n)
 
 null_ended : (xs rest : List ℕ) → xs ≡ null_text ++ rest → ends_word rest ≡ true → lex between xs ≡ token null ∷ lex between rest
 unfolding lex word
@@ -92,23 +89,23 @@ unfolding punctuate
 array_ends true ls = refl
 array_ends false ls = refl
 
+-- what holds at both places where a value may begin
+at_beginning : (P : Place → Type 0) → P fresh → P after_comma → (p : Place) → may_begin p ≡ true → P p
+at_beginning P f c fresh may = f
+at_beginning P f c after_comma may = c
+at_beginning P f c _ may = absurd (cc)
+
 pub object_opens : (p : Place) (ls : List Lexeme) → may_begin p ≡ true → punctuate p (token begin_object ∷ ls) ≡ begin_object ∷ punctuate fresh ls
 unfolding punctuate
-object_opens fresh ls may = refl
-object_opens after_comma ls may = refl
-object_opens _ ls may = absurd (cc)
+object_opens p ls may = at_beginning (λ p. punctuate p (token begin_object ∷ ls) ≡ begin_object ∷ punctuate fresh ls) refl refl p may
 
 pub array_opens : (p : Place) (ls : List Lexeme) → may_begin p ≡ true → punctuate p (token begin_array ∷ ls) ≡ begin_array ∷ punctuate fresh ls
 unfolding punctuate
-array_opens fresh ls may = refl
-array_opens after_comma ls may = refl
-array_opens _ ls may = absurd (cc)
+array_opens p ls may = at_beginning (λ p. punctuate p (token begin_array ∷ ls) ≡ begin_array ∷ punctuate fresh ls) refl refl p may
 
 pub key_stands : (p : Place) (k : List ℕ) (ls : List Lexeme) → may_begin p ≡ true → punctuate p (token (string k) ∷ colon ∷ ls) ≡ key k ∷ punctuate fresh ls
 unfolding punctuate
-key_stands fresh k ls may = refl
-key_stands after_comma k ls may = refl
-key_stands _ k ls may = absurd (cc)
+key_stands p k ls may = at_beginning (λ p. punctuate p (token (string k) ∷ colon ∷ ls) ≡ key k ∷ punctuate fresh ls) refl refl p may
 
 pub word_stands : (p : Place) (w : Option (List ℕ)) (ls : List Lexeme) → may_begin p ≡ true → begins_colon ls ≡ false → punctuate p (token (word_token w) ∷ ls) ≡ word_token w ∷ punctuate after_value ls
 unfolding punctuate
@@ -120,9 +117,7 @@ word_stands _ w ls may ends = absurd (cc)
 
 pub number_stands : (p : Place) (s : List ℕ) (ls : List Lexeme) → may_begin p ≡ true → punctuate p (token (number s) ∷ ls) ≡ number s ∷ punctuate after_value ls
 unfolding punctuate
-number_stands fresh s ls may = refl
-number_stands after_comma s ls may = refl
-number_stands _ s ls may = absurd (cc)
+number_stands p s ls may = at_beginning (λ p. punctuate p (token (number s) ∷ ls) ≡ number s ∷ punctuate after_value ls) refl refl p may
 
 -- no key has ended where a comma, a brace or a bracket is
 pub no_colon : (d : List ℕ) (i x : ℕ) → (x ≡ 44) ⊎ ((x ≡ 93) ⊎ (x ≡ 125)) → get_or d i 0 ≡ x → begins_colon (lexemes_at d i) ≡ false

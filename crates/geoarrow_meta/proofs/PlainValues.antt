@@ -9,7 +9,6 @@ use Rattle.json.specs.Json.{after_end_array, parse_map}
 use Rattle.json.specs.Lex.{punctuate}
 use Rattle.json.proofs.Grammar.{closed_array}
 use Rattle.serde_json.specs.Data.{Data, null, number, string, array, object, Members, no_members, member, put}
-use Rattle.serde_json.specs.Find.{is_float}
 use Rattle.serde_json.specs.Read.{number_of}
 use Rattle.serde_json.specs.View.{view, number_view, items_view, members_view}
 use Rattle.serde_json.specs.Written.{has_float, items_have_float, members_have_float}
@@ -72,21 +71,6 @@ not_ended depth ts r d read = by (after_end_array ts) refl
     by (Some rest) e = let none : next_value depth ts ≡ None = ap (next_value depth) (closed_array ts rest e) ∙ no_end_array depth rest in absurd (cc)
 
 -- ---- without a float
-
-pub text_whole : (s : String Global) → has_float (view (variant.String s)) ≡ false
-text_whole s = ap has_float (view-String s)
-
-pub null_whole : has_float (view variant.Null) ≡ false
-null_whole = ap has_float view-Null
-
-pub number_whole : (n : Number) → is_float (number_view n) ≡ false → has_float (view (variant.Number n)) ≡ false
-number_whole n whole = ap has_float (view-Number n) ∙ whole
-
-pub object_whole : (m : BTreeMap (String Global) Value) → members_have_float (members_view m.entries) ≡ false → has_float (view (variant.Object m)) ≡ false
-object_whole m whole = ap has_float (view-Object m) ∙ whole
-
-pub array_whole : (v : Vec Value Global) → items_have_float (items_view v.items) ≡ false → has_float (view (variant.Array v)) ≡ false
-array_whole v whole = ap has_float (view-Array v) ∙ whole
 
 -- an item behind others
 pub item_added : (vs : List Value) (v : Value) → items_have_float (items_view vs) ≡ false → has_float (view v) ≡ false → items_have_float (items_view (vs ++ v ∷ [])) ≡ false

@@ -151,9 +151,8 @@ impl Crs {
         ensures { IfOk result (λ c. c ≡ self.now) }
     {
         let value = self.value.as_ref().map(|value| value.try_clone(alloc));
-        Ok(Crs {
-            value: value.transpose()?,
-            crs_type: self.crs_type,
-        })
+        let value = value.transpose()?;
+        let crs_type = self.crs_type;
+        Ok(Crs { value, crs_type })
     }
 }

@@ -115,28 +115,12 @@ impl Metadata {
         if !value.is_object() {
             return Err(external_fault(alloc, "metadata is not an object"));
         }
-        Metadata::of_values(alloc, values_of(alloc, value)?)
+        Metadata::of_values(alloc, values_of(alloc, value)?, true)
     }
 
-    // The metadata of the values of the three keys of an object.
-    fn of_values(alloc: Global, values: KeyValues<Value>) -> GeoArrowResult<Metadata>
-        requires { (d : Data) × AreValuesOf d (option_map view values.crs) values.crs_type values.edges }
-        ensures ok { IfOk result (λ m. (d : Data) → IsSome (as_object d)
-            → AreValuesOf d (option_map view values.crs) values.crs_type values.edges → Denotes d m) }
-        ensures err { IfErr result (λ e. (d : Data) → IsSome (as_object d)
-            → AreValuesOf d (option_map view values.crs) values.crs_type values.edges → RefusedAs d e) }
-    {
-        if let Some(found) = &values.crs {
-            if !holds_whole_numbers(found) {
-                return Err(crs_fault(alloc, "CRS holds a number that is not whole"));
-            }
-        }
-        Metadata::of_whole(alloc, values)
-    }
-
-    // The metadata of those values, where it is known whether the CRS may hold a float.
+    // The metadata of the values of the three keys of an object, of which the CRS is searched for a float where it may hold one.
     #[inline(always)]
-    fn of_noted(
+    fn of_values(
         alloc: Global,
         values: KeyValues<Value>,
         may_hold_float: bool,
@@ -148,22 +132,9 @@ impl Metadata {
         ensures err { IfErr result (λ e. (d : Data) → IsSome (as_object d)
             → AreValuesOf d (option_map view values.crs) values.crs_type values.edges → RefusedAs d e) }
     {
-        if may_hold_float {
-            return Metadata::of_values(alloc, values);
+        if may_hold_float && holds_float(&values.crs) {
+            return Err(crs_fault(alloc, "CRS holds a number that is not whole"));
         }
-        Metadata::of_whole(alloc, values)
-    }
-
-    // The metadata of those values, of which the CRS holds no float.
-    #[inline(always)]
-    fn of_whole(alloc: Global, values: KeyValues<Value>) -> GeoArrowResult<Metadata>
-        requires found { (d : Data) × AreValuesOf d (option_map view values.crs) values.crs_type values.edges }
-        requires whole { some_has_float (option_map view values.crs) ≡ false }
-        ensures ok { IfOk result (λ m. (d : Data) → IsSome (as_object d)
-            → AreValuesOf d (option_map view values.crs) values.crs_type values.edges → Denotes d m) }
-        ensures err { IfErr result (λ e. (d : Data) → IsSome (as_object d)
-            → AreValuesOf d (option_map view values.crs) values.crs_type values.edges → RefusedAs d e) }
-    {
         let Some(crs_type) = values.crs_type else {
             return Err(external_fault(alloc, "unknown crs_type"));
         };
@@ -227,7 +198,7 @@ impl Metadata {
     {
         let mut float_read = false;
         let read = match read_noting(alloc, text, &mut float_read) {
-            Ok(Some(values)) => Metadata::of_noted(alloc, values, float_read),
+            Ok(Some(values)) => Metadata::of_values(alloc, values, float_read),
             Ok(None) => Err(external_fault(alloc, "metadata is not an object")),
             Err(refusal) => return Err(unread(alloc, refusal)),
         };
@@ -302,4 +273,11 @@ impl Metadata {
         }
         normal
     }
+}
+
+// Whether the value, if there is one, holds a float.
+fn holds_float(value: &Option<Value>) -> bool
+    ensures { result ≡ some_has_float (option_map view value.now) }
+{
+    matches!(value, Some(value) if !holds_whole_numbers(value))
 }

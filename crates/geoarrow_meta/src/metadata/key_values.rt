@@ -1,5 +1,5 @@
 //! The values of the three keys of a metadata's JSON object.
-ghost use Rattle.std.specs.Prelude.{◌≡◌, Option, Some, false, IfOk, option_map};
+ghost use Rattle.std.specs.Prelude.{◌≡◌, Option, None, Some, false, IfOk, option_map};
 ghost use Rattle.serde_json.specs.Data.{Data};
 ghost use Rattle.serde_json.specs.View.{view};
 ghost use Rattle.serde_json.specs.Written.{has_float};
@@ -21,6 +21,18 @@ pub struct KeyValues<V> {
     pub crs_type: Option<Option<CrsType>>,
     /// The value of `edges`.
     pub edges: Option<Option<Edges>>,
+}
+
+// The values of the three keys of an object without members.
+#[inline(always)]
+pub(crate) fn no_values() -> KeyValues<Value>
+    ensures { (result.crs ≡ None) × (result.crs_type ≡ Some None) × (result.edges ≡ Some None) }
+{
+    KeyValues {
+        crs: None,
+        crs_type: Some(None),
+        edges: Some(None),
+    }
 }
 
 // The values of the three keys of a JSON value. Errs only when out of memory.

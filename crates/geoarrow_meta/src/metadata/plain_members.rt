@@ -3,7 +3,7 @@
 //! A text is plain if its JSON has no escape. Objects and arrays of plain texts, nulls and numbers, with any spaces and keys, are read
 //! straight from their bytes, a key or a value at a time. So it costs less than a `json::Reader`, which first finds where the tokens of a
 //! text begin. Of any other text this says nothing but that it is another: it may be JSON, or none.
-ghost use Rattle.std.specs.Prelude.{◌≡◌, ◌≢◌, ◌≤◌, ◌+◌, ◌<◌, [], ◌∷◌, length, drop, slice_index, true, false, ◌||◌, IfOk, MatchOption, option_map};
+ghost use Rattle.std.specs.Prelude.{◌≡◌, ◌≢◌, ◌≤◌, ◌+◌, ◌<◌, [], ◌∷◌, length, take, drop, slice_index, true, false, ◌||◌, IfOk, MatchOption, option_map};
 ghost use Rattle.std.specs.List.{prefix_len};
 ghost use Rattle.json.specs.Lex.{tokens, token, colon, operator, operator_lexeme, class};
 ghost use Rattle.json.specs.Token as spec;
@@ -12,12 +12,14 @@ ghost use Rattle.json.specs.Run as run;
 ghost use Rattle.geoarrow_meta.specs.PlainTokens.{lexemes_at, tokens_left, Passes, IsBeginning, Takes, word_token};
 
 use json::is_number;
+use std::simd::prelude::*;
 
 /// The text is another than those that are read here.
 #[derive(Clone, Copy)]
 pub(crate) struct NotPlain;
 
 /// The place behind the brace that opens the object that the text is.
+#[tactic(auto, unfolding(json::specs::Lex::punctuate))]
 #[inline]
 pub(crate) fn object_start(text: &str) -> Result<usize, NotPlain>
     ensures tokens { IfOk result (λ at. tokens text.now ≡ spec.begin_object ∷ tokens_left false text.now at) }
@@ -44,8 +46,8 @@ pub(crate) fn next_key<'a>(
     if byte_at(text, at) == b'}' {
         return Ok((None, at + 1));
     }
-    let at = key_place(text, at, after_member)?;
-    let (key, at) = plain_key(text, at)?;
+    let (key, at) = plain_text(text, key_place(text, at, after_member)?)?;
+    let at = after_operator(text, after_spaces(text, at), b':')?;
     Ok((Some(key), at))
 }
 
@@ -76,17 +78,6 @@ fn key_place(text: &str, at: usize, after_member: bool) -> Result<usize, NotPlai
     }
     let at = after_operator(text, at, b',')?;
     Ok(after_spaces(text, at))
-}
-
-// The key there, and the place after its colon.
-#[inline(always)]
-fn plain_key<'a>(text: &'a str, at: usize) -> Result<(&'a str, usize), NotPlain>
-    requires { at ≤ length text.now }
-    ensures { IfOk result (λ p. Passes text.entry.now at (token (spec.string p.0.now) ∷ colon ∷ []) p.1) }
-{
-    let (key, at) = plain_text(text, at)?;
-    let at = after_operator(text, after_spaces(text, at), b':')?;
-    Ok((key, at))
 }
 
 /// The plain text or null that comes next, and the place of the comma, the brace or the bracket after it.
@@ -188,8 +179,9 @@ fn null_end(text: &str, at: usize) -> Result<usize, NotPlain>
     Ok(at + 4)
 }
 
-// The first place from there on where a quote, a backslash or a control character is; or the end. Its loop is faster out of line,
-// where it counts nothing else.
+// The first place from there on where a quote, a backslash or a control character is; or the end. Its loops are faster out of line,
+// where they count nothing else.
+#[tactic(auto, using(crate::proofs::PlainRuns::plain_within, crate::proofs::PlainRuns::plain_stops, crate::proofs::PlainRuns::plain_passes))]
 #[inline(never)]
 fn plain_end(text: &str, from: usize) -> usize
     requires { from ≤ length text.now }
@@ -198,10 +190,34 @@ fn plain_end(text: &str, from: usize) -> usize
 {
     let bytes = text.as_bytes();
     let mut at = from;
-    while at < bytes.len() && is_plain(bytes[at]) {
+    'lanes: while bytes.len() - at >= 16 {
+        let plain = plain_lanes(bytes, at);
+        at += plain;
+        if plain < 16 {
+            return at;
+        }
+    }
+    'bytes: while at < bytes.len() && is_plain(bytes[at]) {
         at += 1;
     }
     at
+}
+
+// How many of the 16 bytes from there on come before the first that is not plain.
+#[inline(always)]
+fn plain_lanes(bytes: &[u8], at: usize) -> usize
+    requires { at + 16 ≤ length bytes.now }
+    ensures { result ≡ prefix_len run.is_plain (take 16 (drop at bytes.now)) }
+{
+    let lanes = u8x16::from_slice(&bytes[at..]);
+    let stops = (lanes.simd_eq(u8x16::splat(b'"'))
+        | lanes.simd_eq(u8x16::splat(b'\\'))
+        | lanes.simd_lt(u8x16::splat(0x20))).to_bitmask();
+    if stops == 0 {
+        16
+    } else {
+        stops.trailing_zeros() as usize
+    }
 }
 
 // Most bytes are small letters, which one comparison tells.

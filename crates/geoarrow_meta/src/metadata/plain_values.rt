@@ -13,8 +13,8 @@ ghost use Rattle.geoarrow_meta.specs.PlainTokens.{tokens_left, Takes, TakesValue
 use crate::metadata::plain_members::{
     NotPlain, after_spaces, byte_at, next_item, next_key, plain_number, plain_word,
 };
-use serde_json::{Map, Number, Value};
-use std::alloc::{AllocError, AllocFailed, Global};
+use serde_json::{Map, Value};
+use std::alloc::{AllocError, Global};
 use value_tokens::{number_of, put_member};
 
 /// Why no value is read.
@@ -34,12 +34,6 @@ impl From<NotPlain> for Unread {
 
 impl From<AllocError> for Unread {
     fn from(_refused: AllocError) -> Unread {
-        Unread::Memory
-    }
-}
-
-impl<T: Drop> From<AllocFailed<T>> for Unread {
-    fn from(_refused: AllocFailed<T>) -> Unread {
         Unread::Memory
     }
 }
@@ -68,37 +62,22 @@ pub(crate) fn plain_value(
                 None => Ok((Value::Null, at)),
             }
         }
-        b'{' => {
-            if depth == 0 {
-                return Err(Unread::NotPlain);
-            }
+        b'{' if depth > 0 => {
             let (members, at) = plain_members(alloc, text, at + 1, depth - 1, float_read)?;
             Ok((Value::Object(members), at))
         }
-        b'[' => {
-            if depth == 0 {
-                return Err(Unread::NotPlain);
-            }
+        b'[' if depth > 0 => {
             let (items, at) = plain_items(alloc, text, at + 1, depth - 1, float_read)?;
             Ok((Value::Array(items), at))
         }
+        // A brace or a bracket that would nest too deep is no number.
         _ => {
-            let (number, at) = number_at(text, at, float_read)?;
+            let (numeral, at) = plain_number(text, at)?;
+            let number = number_of(numeral).ok_or(Unread::NotPlain)?;
+            *float_read = *float_read | number.is_f64();
             Ok((Value::Number(number), at))
         }
     }
-}
-
-// The number there, and the place after it.
-fn number_at(text: &str, at: usize, float_read: &mut bool) -> Result<(Number, usize), NotPlain>
-    requires { at ≤ length text.now }
-    ensures number { IfOk result (λ p. (s : Text) × Takes text.now at (spec.number s) p.1 × (number_of s ≡ Some (number_view p.0))) }
-    ensures floats { IfOk result (λ p. float_read.new ≡ false → (float_read.old ≡ false) × (is_float (number_view p.0) ≡ false)) }
-{
-    let (numeral, at) = plain_number(text, at)?;
-    let number = number_of(numeral).ok_or(NotPlain)?;
-    *float_read = *float_read | number.is_f64();
-    Ok((number, at))
 }
 
 // The items that are left of an array, and the place behind its bracket.
@@ -125,7 +104,7 @@ fn plain_items(
             return Ok((found, place));
         }
         let (item, next) = plain_value(alloc, text, place, depth, float_read)?;
-        found.push(item)?;
+        found.push(item).map_err(AllocError::from)?;
         at = next;
         after_item = true;
     }

@@ -22,11 +22,8 @@ pub(crate) fn print_object(metadata: &Metadata, out: &mut Writer) -> Result<(), 
         Some(value) => print_value(value, out)?,
         None => out.null()?,
     }
-    print_text(
-        "crs_type",
-        metadata.crs().crs_type().map(CrsType::as_text),
-        out,
-    )?;
+    let crs_type = metadata.crs().crs_type().map(CrsType::as_text);
+    print_text("crs_type", crs_type, out)?;
     print_text("edges", metadata.edges().map(Edges::as_text), out)?;
     out.end_object()
 }

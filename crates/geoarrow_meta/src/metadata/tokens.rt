@@ -3,12 +3,13 @@ ghost use Rattle.std.specs.Prelude.{◌≡◌, ◌<◌, length, false, Some, Non
 ghost use Rattle.serde_json.specs.Data.{Data};
 ghost use Rattle.serde_json.specs.Read.{read};
 ghost use Rattle.serde_json.specs.View.{view};
-ghost use Rattle.value_tokens.specs.Next.{next_value, ReadsValue};
+ghost use Rattle.value_tokens.specs.Next.{next_value};
 ghost use Rattle.geoarrow_meta.specs.Read.{present, some_has_float};
 ghost use Rattle.geoarrow_meta.specs.KeyValues.{IsWord, Finds};
 
-use crate::metadata::key_values::{KeyValues, crs_type_of, edges_of, unless_null};
+use crate::metadata::key_values::{KeyValues, crs_type_of, edges_of, no_values, unless_null};
 use crate::metadata::plain::plain_values;
+use crate::metadata::plain_values::Unread;
 use json::{Reader, Scratch, Token};
 use serde_json::Value;
 use std::alloc::Global;
@@ -44,9 +45,10 @@ pub(crate) fn read_noting(
     ensures whole { IfOk result (λ o. IfSome o (λ s. float_read.new ≡ false → some_has_float (option_map view s.crs) ≡ false)) }
     ensures text { result ≡ Err Refusal.Text → read text.now ≡ None }
 {
-    match plain_values(alloc, text, float_read)? {
-        Some(values) => Ok(Some(values)),
-        None => {
+    match plain_values(alloc, text, float_read) {
+        Ok(values) => Ok(Some(values)),
+        Err(Unread::Memory) => Err(Refusal::Memory),
+        Err(Unread::NotPlain) => {
             *float_read = true;
             read_tokens(alloc, text)
         }
@@ -81,31 +83,16 @@ fn take_values(
     let Some(below) = open_object(reader, depth)? else {
         return Ok(None);
     };
-    let mut crs = None;
-    let mut crs_type = Some(None);
-    let mut edges = Some(None);
+    let mut found = no_values();
     'values: while let Some(key) = reader.next_key()? {
         match key {
-            "crs" => crs = take_crs(alloc, reader, below)?,
-            "crs_type" => crs_type = crs_type_of(take_word(reader, below)?),
-            "edges" => edges = edges_of(take_word(reader, below)?),
+            "crs" => found.crs = unless_null(read_value(alloc, reader, below)?),
+            "crs_type" => found.crs_type = crs_type_of(take_word(reader, below)?),
+            "edges" => found.edges = edges_of(take_word(reader, below)?),
             _ => skip_value(reader, below)?,
         }
     }
-    Ok(Some(KeyValues {
-        crs,
-        crs_type,
-        edges,
-    }))
-}
-
-// The value that comes next, null as absent.
-fn take_crs(alloc: Global, reader: &mut Reader<'_>, depth: usize) -> Result<Option<Value>, Refusal>
-    ensures ok { IfOk result (λ o. ReadsValue (λ d. present (Some d)) depth reader.old (option_map view o) reader.new) }
-    ensures shorter { OnOk result (length reader.new < length reader.old) }
-    ensures text { result ≡ Err Refusal.Text → next_value depth reader.old ≡ None }
-{
-    Ok(unless_null(read_value(alloc, reader, depth)?))
+    Ok(Some(found))
 }
 
 // The text that comes next, null as absent; none where another value comes. Allocates nothing.

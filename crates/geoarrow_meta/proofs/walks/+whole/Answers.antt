@@ -1,6 +1,18 @@
-use Rattle.std.proofs.Common.{sym, ◌∙◌, rules}
-use Rattle.geoarrow_meta.proofs.Order.{member_passed}
+use Rattle.std.proofs.Common.{◌≡◌, true, List, [], ◌∷◌, String, Global, string_cmp, sym, ap, ◌∙◌, rules}
+use Rattle.std.specs.Ordering.{is_lt}
+use Rattle.std.specs.List.Sorted.{IsStrictlySortedBy}
+use Rattle.std.specs.Map.{keys_of}
+use Rattle.serde_json.specs.View.{view, members_view}
+use Rattle.serde_json.specs.declared.value.Value.{Value}
+use Rattle.geoarrow_meta.specs.Whole.{is_whole, members_are_whole}
 use Rattle.geoarrow_meta.proofs.walks.+whole.Goals as goal
+
+-- where a member is whole, the members after it decide
+member_passed : (es : List (String Global × Value)) (e : String Global × Value) (rest : List (String Global × Value)) → es ≡ e ∷ rest → IsStrictlySortedBy string_cmp (keys_of es) → is_whole (view e.1) ≡ true
+    → IsStrictlySortedBy string_cmp (keys_of rest) × (members_are_whole (members_view es) ≡ members_are_whole (members_view rest))
+unfolding IsStrictlySortedBy
+member_passed es e [] is h whole = let sorted = rw is at h in (sorted.1, rw (is, whole))
+member_passed es e (f ∷ rest) is h whole = let sorted = rw is at h in (sorted.1, rw (is, ap is_lt sorted.0.0, whole))
 
 pub members_hold_whole-loop-key-preserved : goal.members_hold_whole-loop-key-preserved
 members_hold_whole-loop-key-preserved t c =

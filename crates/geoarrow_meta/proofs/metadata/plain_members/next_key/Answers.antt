@@ -1,5 +1,6 @@
-use Rattle.std.proofs.Common.{cond, arith, refl, sym, ap, ◌∙◌}
-use Rattle.json.specs.Lex.{fresh, after_value, punctuate}
+use Rattle.std.proofs.Common.{cond, ◌∷◌, arith, refl, sym, ap, ◌∙◌}
+use Rattle.json.specs.Lex.{fresh, after_value, punctuate, token}
+use Rattle.json.specs.Token.{string}
 use Rattle.geoarrow_meta.specs.PlainTokens.{lexemes_at}
 use Rattle.geoarrow_meta.proofs.PlainTexts.{operator_stands, object_ends, key_stands}
 use Rattle.geoarrow_meta.proofs.metadata.plain_members.next_key.Goals as goal
@@ -13,5 +14,6 @@ returns-then-byte_at-eq125 c =
 
 pub returns-clause-key : goal.returns-clause-key
 returns-clause-key c =
-    let place = c.in_ok-at.ensures.place in
-    ap (punctuate (cond c.args.after_member after_value fresh)) (sym c.after_spaces-at.ensures.same) ∙ place.2 ∙ ap (punctuate place.0) c.in_ok-key.ensures.0 ∙ key_stands place.0 _ _ place.1
+    let place = c.in_ok-key_place.ensures.place in
+    let key = c.in_ok-key.ensures.0 ∙ ap (λ ls. token (string c.in_ok-key.key.now) ∷ ls) (sym c.after_spaces.ensures.same ∙ c.in_ok-at.ensures.0) in
+    ap (punctuate (cond c.args.after_member after_value fresh)) (sym c.after_spaces-at.ensures.same) ∙ place.2 ∙ ap (punctuate place.0) key ∙ key_stands place.0 _ _ place.1

@@ -9,8 +9,7 @@ returns c =
     let at = c.args.at in
     let bytes = c.as_bytes.result.now in
     let starts = c.starts_with.ensures in
-    let all = take_all (length bytes - at) (drop at bytes) (omega (arith, length-drop at bytes)) in (
-      null_stands c.args.text.now at c.byte_at.result (ap (λ t. starts_with nat_eq t null_text) (sym (all ∙ ap (drop at) c.as_bytes.ensures.value)) ∙ sym starts.value ∙ c.if-not-starts_with.false)
-          (sym c.byte_at.ensures) (c.ends_word.ensures c.if-not-ends_word.false).0 (c.ends_word.ensures c.if-not-ends_word.false).1,
-      omega (arith, starts.bound c.if-not-starts_with.false, ap length all, length-drop at bytes),
-    )
+    let all = take_all (length bytes - at) (drop at bytes) (omega (arith, length-drop at bytes)) in
+    let stands = ap (λ t. starts_with nat_eq t null_text) (sym (all ∙ ap (drop at) c.as_bytes.ensures.value)) ∙ sym starts.value ∙ c.if-not-starts_with.false in
+    let ends = c.ends_word.ensures c.if-not-ends_word.false in
+    (null_stands c.args.text.now at c.byte_at.result stands (sym c.byte_at.ensures) ends.0 ends.1, omega (arith, starts.bound c.if-not-starts_with.false, ap length all, length-drop at bytes))

@@ -4,7 +4,7 @@ use Rattle.geoarrow_meta.proofs.KeyedValues.{AreValuesSoFar}
 use Rattle.geoarrow_meta.proofs.metadata.tokens.take_values.Given as goal
 
 abbrev pub invariant-values : goal.invariant-values
-invariant-values l = AreValuesSoFar l.below l.initial.reader l.reader (option_map view l.crs) l.crs_type l.edges
+invariant-values l = AreValuesSoFar l.below l.initial.reader l.reader (option_map view l.found.crs) l.found.crs_type l.found.edges
 
 abbrev pub decreases-values : goal.decreases-values
 decreases-values l = length l.reader

@@ -14,7 +14,7 @@ use Rattle.geoarrow_meta.specs.PlainTokens.{tokens_left, word_token}
 use Rattle.geoarrow_meta.specs.Read.{present}
 use Rattle.geoarrow_meta.proofs.KeyedValues.{crs_taken, crs_type_taken, edges_taken, passed}
 use Rattle.geoarrow_meta.proofs.PlainTexts.{none_left}
-use Rattle.geoarrow_meta.proofs.metadata.plain.take_members.Goals as goal
+use Rattle.geoarrow_meta.proofs.metadata.plain.plain_values.Goals as goal
 
 -- the value of a plain text or null
 abbrev word_value : Option Text → Data
@@ -40,11 +40,8 @@ pub values-preserved-then-eq : goal.values-preserved-then-eq
 values-preserved-then-eq c =
     let key = rw c.in-Some.is at c.in_ok-key.ensures.key in
     let value = c.in_ok-value.ensures in
-    record {
-      found = crs_taken c.values.invariant.found _ _ (ap read_key key) (value.value.0 fresh refl) ((bytes_eq-Decides c.in-Some.key.now (codes "crs")).0 (sym c.if-eq.ensures)) c.unless_null-crs.ensures.present;
-      floats = λ none. c.unless_null-crs.ensures.whole (value.floats none).1;
-      within = value.value.1;
-    }
+    let found = crs_taken c.values.invariant.found _ _ (ap read_key key) (value.value.0 fresh refl) ((bytes_eq-Decides c.in-Some.key.now (codes "crs")).0 (sym c.if-eq.ensures)) c.unless_null.ensures.present in
+    record { found = found; floats = λ none. c.unless_null.ensures.whole (value.floats none).1; within = value.value.1 }
 
 pub values-smaller-then-eq : goal.values-smaller-then-eq
 values-smaller-then-eq c =
@@ -55,31 +52,22 @@ pub values-preserved-in-crs_type : goal.values-preserved-in-crs_type
 values-preserved-in-crs_type c =
     let key = rw c.in-Some.is at c.in_ok-key.ensures.key in
     let word = ap (next_value 126) (c.in_ok-word.ensures.0 fresh refl) ∙ next_word 126 _ _ in
-    record {
-      found = crs_type_taken c.values.invariant.found _ _ (ap read_key key) word c.in-crs_type.is (c.crs_type_of-crs_type.ensures _ (as_present _));
-      floats = c.values.invariant.floats;
-      within = c.in_ok-word.ensures.1;
-    }
+    let found = crs_type_taken c.values.invariant.found _ _ (ap read_key key) word c.in-crs_type.is (c.crs_type_of-found.ensures _ (as_present _)) in
+    record { found = found; floats = c.values.invariant.floats; within = c.in_ok-word.ensures.1 }
 
 pub values-preserved-in-edges : goal.values-preserved-in-edges
 values-preserved-in-edges c =
     let key = rw c.in-Some.is at c.in_ok-key.ensures.key in
     let word = ap (next_value 126) (c.in_ok-word.ensures.0 fresh refl) ∙ next_word 126 _ _ in
-    record {
-      found = edges_taken c.values.invariant.found _ _ (ap read_key key) word c.in-edges.is (c.edges_of-edges.ensures _ (as_present _));
-      floats = c.values.invariant.floats;
-      within = c.in_ok-word.ensures.1;
-    }
+    let found = edges_taken c.values.invariant.found _ _ (ap read_key key) word c.in-edges.is (c.edges_of-found.ensures _ (as_present _)) in
+    record { found = found; floats = c.values.invariant.floats; within = c.in_ok-word.ensures.1 }
 
 pub values-preserved : goal.values-preserved
 values-preserved c =
     let key = rw c.in-Some.is at c.in_ok-key.ensures.key in
     let word = ap (next_value 126) (c.in_ok-word.ensures.0 fresh refl) ∙ next_word 126 _ _ in
-    record {
-      found = passed c.values.invariant.found _ _ (ap read_key key) word (grind arith) (grind arith) (grind arith);
-      floats = c.values.invariant.floats;
-      within = c.in_ok-word.ensures.1;
-    }
+    let found = passed c.values.invariant.found _ _ (ap read_key key) word (grind arith) (grind arith) (grind arith) in
+    record { found = found; floats = c.values.invariant.floats; within = c.in_ok-word.ensures.1 }
 
 pub returns-in_default-clause-found : goal.returns-in_default-clause-found
 unfolding punctuate
