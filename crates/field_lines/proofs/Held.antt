@@ -66,8 +66,7 @@ mutual
 
 -- what UTF-8 is read as is held
 pub read_held : (text : List ℕ) (d : Data) → is_utf8 text ≡ true → read text ≡ Some d → is_held d ≡ true
-read_held text d utf8 is =
-    subst (λ o. IfSome o (λ d. is_held d ≡ true)) is (chained _ of_json _ (texts_utf8 max_depth text (IsUtf8-from_is_utf8 text utf8)) json_held)
+read_held text d utf8 is = subst (λ o. IfSome o (λ d. is_held d ≡ true)) is (chained _ of_json _ (texts_utf8 max_depth text (IsUtf8-from_is_utf8 text utf8)) json_held)
 
 -- ---- what is held is read back
 

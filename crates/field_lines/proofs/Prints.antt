@@ -1,6 +1,8 @@
 -- Steps of the loops that write, and from the tokens that were added one after another to those of a value.
 use Rattle.std.proofs.Common.{◌≡◌, ℕ, ℤ, zero, suc, ◌<◌, ◌≤◌, List, [], ◌∷◌, ◌++◌, length, get_or, String, Global, Ordering, Less, Greater, string_bytes, string_cmp, subst, refl, sym, ap, ◌∙◌, arith, Bool, Some, codes, negsuc, pos, SFits, w64, option_map, option_and_then, ◌+◌, max, drop, Result, OnOk}
-use Rattle.field_lines.proofs.Terms.{on_ok_weaker, ordering_reverse, match_ordering, AllByRecursion, keys_of, Token, key, number_token, string_token, boolean_token, begin_object, end_object, end_array, string, boolean, put, Data, number, object, Items, no_items, item, no_members, member, of_integer, of_json, outline, members_outline, Text, Metadata, texts_of, texts_value, one_key, two_keys, parts_value, PrintsMetadata, Adds, Prints, PrintsItems, then, added, prints_item, prints_end}
+use Rattle.arrow_values.specs.declared.tree.DataType.{DataType}
+use Rattle.arrow_columns.specs.Notation.{plain_word}
+use Rattle.field_lines.proofs.Terms.{on_ok_weaker, ordering_reverse, match_ordering, AllByRecursion, keys_of, Token, key, number_token, string_token, boolean_token, begin_object, end_object, end_array, string, boolean, put, Data, number, object, Items, no_items, item, no_members, member, of_integer, of_json, outline, members_outline, Text, Metadata, texts_of, texts_value, one_key, two_keys, parts_value, PrintsMetadata, Adds, Prints, PrintsItems, then, added, prints_item, prints_end, tree, type_value}
 use Rattle.std.proofs.lemmas.List.{at_drop_more, drop_all}
 use Rattle.std.specs.Cmp.{IsTotalOrder}
 use Rattle.std.specs.List.Sorted.{IsStrictlySortedBy}
@@ -25,13 +27,11 @@ PrintsRest value xs i start now = (end : Written) → PrintsItems (value (drop i
 module _ {A : Type 0} (one : A → Data) (value : List A → Items) (xs : List A) (i : ℕ) {start now : Written}
     (law : (x : A) (xs : List A) → value (x ∷ xs) ≡ item (one x) (value xs)) (way : PrintsRest value xs i start now) where
   pub rest_go_on : (x : A) {new : Written} → i < length xs → x ≡ get_or xs i x → Prints (one x) now new → PrintsRest value xs (i + 1) start new
-  rest_go_on x lt is this end rest =
-      let here = at_drop_more value xs i x lt ∙ law (get_or xs i x) (drop (i + 1) xs) ∙ ap (λ y. item (one y) (value (drop (i + 1) xs))) (sym is) in
+  rest_go_on x lt is this end rest = let here = at_drop_more value xs i x lt ∙ law (get_or xs i x) (drop (i + 1) xs) ∙ ap (λ y. item (one y) (value (drop (i + 1) xs))) (sym is) in
       way end (subst (λ ds. PrintsItems ds now end) (sym here) (prints_item this rest))
 
   pub rest_end : {all : _} {end : Written} → value [] ≡ no_items → length xs ≤ i → xs ≡ all → Adds (end_array ∷ []) now end → PrintsItems (value all) start end
-  rest_end {end = end} none le is finish =
-      let left = subst (λ ds. PrintsItems ds now end) (sym (ap value (drop_all i xs le) ∙ none)) (prints_end finish) in
+  rest_end {end = end} none le is finish = let left = subst (λ ds. PrintsItems ds now end) (sym (ap value (drop_all i xs le) ∙ none)) (prints_end finish) in
       subst (λ l. PrintsItems (value l) start end) is (way end left)
 
 -- the last token is added
@@ -50,8 +50,7 @@ module _ {K : Type 0} {cmp : K → K → Ordering} (total : IsTotalOrder cmp) wh
   pub insert_last : {X : Type 0} (es : List (K × X)) (k : K) (v : X) (more : List K) → IsStrictlySortedBy cmp (keys_of es ++ k ∷ more) → insert_entry cmp es k v ≡ es ++ ((k, v) ∷ [])
   unfolding IsStrictlySortedBy
   insert_last [] k v more h = refl
-  insert_last (e ∷ es) k v more h =
-      let above : cmp k e.0 ≡ Greater = total.antisymm k e.0 ∙ ap ordering_reverse (below_middle e.0 (keys_of es) k more h.0) in
+  insert_last (e ∷ es) k v more h = let above : cmp k e.0 ≡ Greater = total.antisymm k e.0 ∙ ap ordering_reverse (below_middle e.0 (keys_of es) k more h.0) in
       ap (λ r. match_ordering r ((k, v) ∷ e ∷ es) ((e.0, v) ∷ es) (e ∷ insert_entry cmp es k v)) above ∙ ap (λ l. e ∷ l) (insert_last es k v more h.1)
 
 pub ordered : {A B : Type 0} (f : A → B) (o : Ordering) (a b c : A) → f (match_ordering o a b c) ≡ match_ordering o (f a) (f b) (f c)
@@ -106,3 +105,13 @@ prints_parts n d b m {w9 = w9} begin metadata name_key name nullable_key nullabl
 pub prints_metadata : (texts : Texts) {a b c : Written} → (texts ≡ [] → ⊥) → Adds (key (codes "metadata") ∷ []) a b → Prints (object (texts_value (texts_of texts))) b c → PrintsMetadata (texts_of texts) a c
 prints_metadata [] some named value = absurd (some refl)
 prints_metadata (e ∷ es) some named value = record { adds = λ ms end rest. then named (then value.adds rest); reads_back = value.reads_back }
+
+-- a type of the other kinds is the text of its word
+pub plain_value : (t : DataType) → ((f : _) → t ≡ DataType.List f → ⊥) → ((f : _) → t ≡ DataType.LargeList f → ⊥) → ((f n : _) → t ≡ DataType.FixedSizeList f n → ⊥)
+    → ((fs : _) → t ≡ DataType.Struct fs → ⊥) → ((ms mode : _) → t ≡ DataType.Union ms mode → ⊥) → type_value (tree t) ≡ string (plain_word (tree t))
+plain_value (DataType.List f) list large fixed struct union = absurd (list f refl)
+plain_value (DataType.LargeList f) list large fixed struct union = absurd (large f refl)
+plain_value (DataType.FixedSizeList f n) list large fixed struct union = absurd (fixed f n refl)
+plain_value (DataType.Struct fs) list large fixed struct union = absurd (struct fs refl)
+plain_value (DataType.Union ms mode) list large fixed struct union = absurd (union ms mode refl)
+plain_value _ list large fixed struct union = refl

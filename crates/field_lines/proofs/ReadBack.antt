@@ -12,11 +12,9 @@ use Rattle.field_lines.proofs.Compact.{compact_utf8}
 -- ---- the line is read back
 
 pub line_back : (f : FieldTree) → HasLineForm f.tree → is_held (value_of_field f) ≡ true → depth (value_of_field f) ≤ max_depth → field_of_line (line_of_field f) ≡ Some f
-line_back f form held shallow =
-    let v = value_of_field f in
+line_back f form held shallow = let v = value_of_field f in
     let is = value_is f in
-    ap (λ b. option_and_then field_of_value (cond b (read (compact_text v)) None)) (compact_utf8 v held)
-    ∙ ap (option_and_then field_of_value) (held_read_back v held is.1 shallow) ∙ is.2 form
+    ap (λ b. option_and_then field_of_value (cond b (read (compact_text v)) None)) (compact_utf8 v held) ∙ ap (option_and_then field_of_value) (held_read_back v held is.1 shallow) ∙ is.2 form
 
 -- ---- texts in the order of their keys are read back
 
@@ -27,8 +25,7 @@ before_all k (e ∷ es) h = ap is_lt h.0
 texts_ordered : (texts : Texts) → IsStrictlySortedBy string_cmp (keys_of texts) → members_are_held (texts_value (texts_of texts)) ≡ true
 unfolding IsStrictlySortedBy
 texts_ordered [] h = refl
-texts_ordered (e ∷ es) h =
-    let utf8 = λ (s : String Global). is_utf8-from_IsUtf8 (string_bytes s) (IsUtf8-string_bytes s) in
+texts_ordered (e ∷ es) h = let utf8 = λ (s : String Global). is_utf8-from_IsUtf8 (string_bytes s) (IsUtf8-string_bytes s) in
     and_from _ _ (before_all e.0 es h.0) (and_from _ _ (utf8 e.0) (and_from _ _ (utf8 e.1) (texts_ordered es h.1)))
 
 pub texts_read_back : (texts : Texts) → IsStrictlySortedBy string_cmp (keys_of texts) → of_json (outline (object (texts_value (texts_of texts)))) ≡ Some (object (texts_value (texts_of texts)))
@@ -38,8 +35,7 @@ texts_read_back texts h = ap (option_map object) (members_back (texts_value (tex
 
 member_held : (k : Text) (ms : Members) → members_are_held ms ≡ true → IfSome (get_member k ms) (λ d. is_held d ≡ true)
 member_held k no_members h = tt
-member_held k (member l e ms) h =
-    let p = held_parts l e ms h in
+member_held k (member l e ms) h = let p = held_parts l e ms h in
     let at = get_member-at k l e ms in
     let rest = member_held k ms p.3 in
     grind arith
@@ -62,8 +58,7 @@ from_held : (n : Option Text) (b : Option Bool) (t : Option Tree) (m : Option Me
 from_held n b t m name metadata = grind arith
 
 field_held : (d : Data) → is_held d ≡ true → IfSome (field_of_value d) IsHeldField
-field_held (object ms) h =
-    from_held _ _ (type_in ms) _ (chained _ as_str (get_member (codes "name") ms) (member_held (codes "name") ms h) text_held)
+field_held (object ms) h = from_held _ _ (type_in ms) _ (chained _ as_str (get_member (codes "name") ms) (member_held (codes "name") ms h) text_held)
     (texts_held (get_member (codes "metadata") ms) (member_held (codes "metadata") ms h))
 field_held _ h = tt
 

@@ -67,26 +67,22 @@ mutual
   type_is (plain p) = (tt, refl, λ h. ap (option_map plain) (named_plain p))
   type_is (list n t b m) = let f = parts_are n t (type_value t) b m (type_is t) in ((f.0, tt), rw f.1 refl, λ h. ap (option_map list_of) (f.2 h))
   type_is (large_list n t b m) = let f = parts_are n t (type_value t) b m (type_is t) in ((f.0, tt), rw f.1 refl, λ h. ap (option_map large_list_of) (f.2 h))
-  type_is (fixed_size_list n t b m s) =
-      let f = parts_are n t (type_value t) b m (type_is t) in
+  type_is (fixed_size_list n t b m s) = let f = parts_are n t (type_value t) b m (type_is t) in
       ((f.0, (lean_integer s, tt)), rw (f.1, integer_whole s) refl, λ h. rw (f.2 h.0, kept-integer is_size s h.1))
   type_is (struct fs) = let f = fields_are fs in ((f.0, tt), rw f.1 refl, λ h. ap (option_map struct) (f.2 h))
-  type_is (union ms mode) =
-      let u = members_are ms in
+  type_is (union ms mode) = let u = members_are ms in
       ((tt, (u.0, tt)), rw u.1 refl, λ h. let parts = and_parts (list_all is_type_id (tree_ids ms)) (are_distinct (tree_ids ms)) h.1 in rw (named_mode mode, u.2 h.0 parts.0, parts.1))
 
   fields_are : (fs : FieldTrees) → AreLean (fields_value fs) × (items_have_float (fields_value fs) ≡ false) × (FieldsHaveLineForm fs → fields_in (fields_value fs) ≡ Some fs)
   fields_are no_fields = (tt, refl, λ h. refl)
-  fields_are (field n t b m fs) =
-      let f = parts_are n t (type_value t) b m (type_is t) in
+  fields_are (field n t b m fs) = let f = parts_are n t (type_value t) b m (type_is t) in
       let rest = fields_are fs in
       ((f.0, rest.0), rw f.1 rest.1, λ h. rw (f.2 h.0, rest.2 h.1))
 
   members_are : (ms : MemberTrees) → AreLean (members_value ms) × (items_have_float (members_value ms) ≡ false)
       × (MembersHaveLineForm ms → IsTrue (list_all is_type_id (tree_ids ms)) → members_in (members_value ms) ≡ Some ms)
   members_are no_members = (tt, refl, λ h ids. refl)
-  members_are (member i n t b m ms) =
-      let f = parts_are n t (type_value t) b m (type_is t) in
+  members_are (member i n t b m ms) = let f = parts_are n t (type_value t) b m (type_is t) in
       let rest = members_are ms in (
         ((lean_integer i, (f.0, tt)), rest.0),
         rw (integer_whole i, f.1) rest.1,

@@ -26,9 +26,12 @@ GoesOn ts s = (after_end_array ts ≡ None) × (s ≡ ts)
 
 pub item_taken : {A : Type 0} {f : Data → A} (depth : ℕ) (ts : List Token) {s r : List Token} {o : A} → ReadsValue f depth s o r → GoesOn ts s
     → (d : Data) × (next_items depth ts ≡ parse_map (item d) (next_items depth r)) × (o ≡ f d) × (next_value depth ts ≡ Some (d, r))
-item_taken depth ts {s} {r} read going =
-    let value = ap (next_value depth) (sym going.1) ∙ read.1 in
+item_taken depth ts {s} {r} read going = let value = ap (next_value depth) (sym going.1) ∙ read.1 in
     (read.0, item_read depth ts r read.0 going.0 value, read.2, value)
+
+-- an item that cannot be read
+pub item_none : (depth : ℕ) (ts : List Token) {s : List Token} → next_value depth s ≡ None → GoesOn ts s → next_items depth ts ≡ None
+item_none depth ts none going = item_refused depth ts going.0 (ap (next_value depth) (sym going.1) ∙ none)
 
 -- an item takes tokens
 pub item_takes : {A : Type 0} {f : Data → A} {o : A} (depth : ℕ) (ts r : List Token) {s : List Token} → ReadsValue f depth s o r → GoesOn ts s → length r < length ts
@@ -48,23 +51,22 @@ module _ {X T : Type 0} {trees : List X → T} {whole : Items → Option T} {dep
   pub taken_end : {r : List Token} → whole no_items ≡ Some (trees []) → after_end_array left ≡ Some r → ReadsItems whole depth all (Some (trees made)) r
   taken_end {r} none over = subst (λ xs. ReadsItems whole depth all (Some (trees xs)) r) (append-nil made) (way.some [] r (no_items, items_over depth left r over, sym none))
 
+  pub taken_cut : {A : Type 0} {f : Data → A} {o : A} {s u : List Token} → ReadsValue f depth s o u → next_items depth u ≡ None → GoesOn left s → next_items depth all ≡ None
+  taken_cut read none going = let one = item_taken depth left read going in way.refused (one.1 ∙ ap (parse_map (item one.0)) none)
+
   -- with how an item is read before the others
   module _ (step : X → T → T) (item_of : Data → Option X) (more : (x : X) (xs : List X) → step x (trees xs) ≡ trees (x ∷ xs))
       (law : (d : Data) (ds : Items) → whole (item d ds) ≡ option_and_then (λ x. option_map (step x) (whole ds)) (item_of d)) where
     pub taken_go_on : {s r : List Token} {x : X} {new : List X} → ReadsValue item_of depth s (Some x) r → new ≡ made ++ (x ∷ []) → GoesOn left s → AreItemsTaken trees whole depth all r new
-    taken_go_on {s} {r} {x} {new} read is going =
-        let one = item_taken depth left read going in
+    taken_go_on {s} {r} {x} {new} read is going = let one = item_taken depth left read going in
         record {
-          some = λ xs u rest.
-              rw (is, append_assoc made (x ∷ []) xs)
-              (way.some (x ∷ xs) u (item one.0 rest.0, one.1 ∙ ap (parse_map (item one.0)) rest.1, rw (law one.0 rest.0, ← one.2, ← rest.2) (ap Some (sym (more x xs)))));
+          some = λ xs u rest. rw (is, append_assoc made (x ∷ []) xs) (way.some (x ∷ xs) u (item one.0 rest.0, one.1 ∙ ap (parse_map (item one.0)) rest.1, rw (law one.0 rest.0, ← one.2, ← rest.2) (ap Some (sym (more x xs)))));
           none = λ u rest. way.none u (item one.0 rest.0, one.1 ∙ ap (parse_map (item one.0)) rest.1, rw (law one.0 rest.0, ← one.2, ← rest.2));
           refused = λ e. way.refused (one.1 ∙ ap (parse_map (item one.0)) e);
         }
 
     pub taken_spoiled : {s u r : List Token} → ReadsValue item_of depth s None u → after (next_items depth u) ≡ Some r → GoesOn left s → ReadsItems whole depth all None r
-    taken_spoiled {s} {u} {r} read rest going =
-        let one = item_taken depth left read going in
+    taken_spoiled {s} {u} {r} read rest going = let one = item_taken depth left read going in
         let ds = after_some (next_items depth u) r rest in
         way.none r (item one.0 ds.0, one.1 ∙ ap (parse_map (item one.0)) ds.1, rw (law one.0 ds.0, ← one.2))
 

@@ -5,7 +5,7 @@ use Rattle.std.proofs.lemmas.Map.Text.{is_eq-slice_cmp}
 use Rattle.std.proofs.lemmas.Slice.Eq.{bytes_eq-Decides}
 use Rattle.json.proofs.Grammar.{read_key-shorter}
 use Rattle.value_tokens.specs.declared.refusal.Refusal.{Refusal}
-use Rattle.value_tokens.specs.Presence.{get_member-put_at, Has, kept, has_new, has_taken}
+use Rattle.value_tokens.specs.Presence.{get_member-put_at, Has, has_taken}
 
 -- what the key that is next leaves
 abbrev pub turn : ℕ → Members → Option (Option Text × List Token) → Option (Members × List Token)
@@ -31,7 +31,7 @@ text_refused {r = Ok x} is then same = absurd is
 text_refused {r = Err y} is then same = then (cc)
 
 -- members of which the next has no value
-no_member : (depth : ℕ) (found : Members) (k : Text) (s : List Token) → next_value depth s ≡ None → next_after depth found k s ≡ None
+pub no_member : (depth : ℕ) (found : Members) (k : Text) (s : List Token) → next_value depth s ≡ None → next_after depth found k s ≡ None
 no_member depth found k s refused = ap (option_and_then (λ p. next_members depth (put k p.0 found) p.1)) refused
 
 -- ---- the parts of a field
@@ -48,9 +48,7 @@ chosen f false d found same = same
 -- the type is what stands at its key
 type_in-get : (ms : Members) → type_in ms ≡ under type_of_value (codes "type") ms
 type_in-get no_members = refl
-type_in-get (member k d ms) =
-    chosen type_of_value (bytes_eq (codes "type") k) d (get_member (codes "type") ms) (type_in-get ms)
-    ∙ ap (option_and_then type_of_value) (sym (get_member-at (codes "type") k d ms))
+type_in-get (member k d ms) = chosen type_of_value (bytes_eq (codes "type") k) d (get_member (codes "type") ms) (type_in-get ms) ∙ ap (option_and_then type_of_value) (sym (get_member-at (codes "type") k d ms))
 
 -- what f says of what stands at the key q, after d is put at k
 put_at : {A : Type 0} (f : Option Data → A) (q k : Text) (d : Data) (found : Members) → f (get_member q (put k d found)) ≡ cond (bytes_eq q k) (f (Some d)) (f (get_member q found))
@@ -72,15 +70,14 @@ module _ {depth : ℕ} {all left s r : List Token} {k : Text} {d : Data} {name n
   pub parts_go_on : ArePartsUnderWay depth all left name nullable tree metadata → read_key left ≡ Some (Some k, s) → next_value depth s ≡ Some (d, r)
       → Part (codes "name") k new_name (as_str d) name → Part (codes "nullable") k new_nullable (as_bool d) nullable → Part (codes "type") k new_tree (type_of_value d) tree
       → Part (codes "metadata") k new_metadata (metadata_of_value (Some d)) metadata → ArePartsUnderWay depth all r new_name new_nullable new_tree new_metadata
-  parts_go_on way named read n b t m =
-      record {
-        found = put k d way.found;
-        decides = way.decides ∙ member_read depth way.found k left s r d named read;
-        at_name = n ∙ ap (λ o. cond (bytes_eq (codes "name") k) (as_str d) o) way.at_name ∙ sym (put_at (option_and_then as_str) (codes "name") k d way.found);
-        at_nullable = b ∙ ap (λ o. cond (bytes_eq (codes "nullable") k) (as_bool d) o) way.at_nullable ∙ sym (put_at (option_and_then as_bool) (codes "nullable") k d way.found);
-        at_type = t ∙ ap (λ o. cond (bytes_eq (codes "type") k) (type_of_value d) o) way.at_type ∙ sym (put_at (option_and_then type_of_value) (codes "type") k d way.found);
-        at_metadata = m ∙ ap (λ o. cond (bytes_eq (codes "metadata") k) (metadata_of_value (Some d)) o) way.at_metadata ∙ sym (put_at metadata_of_value (codes "metadata") k d way.found);
-      }
+  parts_go_on way named read n b t m = record {
+    found = put k d way.found;
+    decides = way.decides ∙ member_read depth way.found k left s r d named read;
+    at_name = n ∙ ap (λ o. cond (bytes_eq (codes "name") k) (as_str d) o) way.at_name ∙ sym (put_at (option_and_then as_str) (codes "name") k d way.found);
+    at_nullable = b ∙ ap (λ o. cond (bytes_eq (codes "nullable") k) (as_bool d) o) way.at_nullable ∙ sym (put_at (option_and_then as_bool) (codes "nullable") k d way.found);
+    at_type = t ∙ ap (λ o. cond (bytes_eq (codes "type") k) (type_of_value d) o) way.at_type ∙ sym (put_at (option_and_then type_of_value) (codes "type") k d way.found);
+    at_metadata = m ∙ ap (λ o. cond (bytes_eq (codes "metadata") k) (metadata_of_value (Some d)) o) way.at_metadata ∙ sym (put_at metadata_of_value (codes "metadata") k d way.found);
+  }
 
 module _ {depth : ℕ} {all left : List Token} {name : Option Text} {nullable : Option Bool} {tree : Option Tree} {metadata : Option Metadata}
     (way : ArePartsUnderWay depth all left name nullable tree metadata) where
@@ -91,10 +88,8 @@ module _ {depth : ℕ} {all left : List Token} {name : Option Text} {nullable : 
   parts_no_member {s} {k} named refused = way.decides ∙ member_turn depth way.found left ∙ ap (turn depth way.found) named ∙ no_member depth way.found k s refused
 
 pub parts_end : {depth : ℕ} {all left r : List Token} {name : Option Text} {nullable : Option Bool} {tree : Option Tree} {metadata : Option Metadata} {o : Option FieldTree}
-    → ArePartsUnderWay depth all left name nullable tree metadata → o ≡ field_from name nullable tree metadata → read_key left ≡ Some (None, r)
-    → ReadsMembers (λ ms. field_of_value (object ms)) depth no_members all o r
-parts_end {depth} {all} {left} {r} {name} {nullable} {tree} {metadata} way is over =
-    let ms = way.found in
+    → ArePartsUnderWay depth all left name nullable tree metadata → o ≡ field_from name nullable tree metadata → read_key left ≡ Some (None, r) → ReadsMembers (λ ms. field_of_value (object ms)) depth no_members all o r
+parts_end {depth} {all} {left} {r} {name} {nullable} {tree} {metadata} way is over = let ms = way.found in
     (ms, way.decides ∙ members_over depth ms left r over, rw (is, way.at_name, way.at_nullable, way.at_type, way.at_metadata, type_in-get ms))
 
 -- how a type begins
@@ -131,18 +126,24 @@ no_type_of {q} {u} {v} (member k d (member l e no_members)) size union a b c one
     rw (is_no_pair q k l (codes "fixed_size_list") (codes "size") size (either_key q k l d e a), is_no_pair u k l (codes "mode") (codes "union") union (either_key u k l d e b))
 no_type_of _ size union a b c one = refl
 
--- members that are skipped, of which one has the key that was read
-skipped : (depth : ℕ) (found : Members) (k : Text) (s : List Token) {u r : List Token} → after (next_value depth s) ≡ Some u
-    → ((more : Members) → after (next_members depth more u) ≡ Some r) → (ms : Members) × (next_after depth found k s ≡ Some (ms, r)) × Has k ms
-skipped depth found k s {u} {r} passed rest =
-    let d = after_some (next_value depth s) u passed in
-    let ms = after_some (next_members depth (put k d.0 found) u) r (rest (put k d.0 found)) in
-    (ms.0, taken depth found k s u d.0 d.1 ∙ ms.1, kept depth k (put k d.0 found) ms.0 u r ms.1 (has_new k d.0 found))
+-- a value at a key and the members after it are skipped
+pub skipped_after : (depth : ℕ) (found : Members) (k : Text) (s : List Token) {u r : List Token} → after (next_value depth s) ≡ Some u
+    → ((more : Members) → after (next_members depth more u) ≡ Some r) → after (next_after depth found k s) ≡ Some r
+skipped_after depth found k s {u} passed rest = let d = after_some (next_value depth s) u passed in ap after (taken depth found k s u d.0 d.1) ∙ rest (put k d.0 found)
 
--- members that are skipped, of which one cannot be read
-skipped_none : (depth : ℕ) (found : Members) (k : Text) (s : List Token) {u : List Token} → after (next_value depth s) ≡ Some u
+-- the same where one of them cannot be read
+pub skipped_none : (depth : ℕ) (found : Members) (k : Text) (s : List Token) {u : List Token} → after (next_value depth s) ≡ Some u
     → ((more : Members) → next_members depth more u ≡ None) → next_after depth found k s ≡ None
 skipped_none depth found k s {u} passed none = let d = after_some (next_value depth s) u passed in taken depth found k s u d.0 d.1 ∙ none (put k d.0 found)
+
+-- members of which a key is read first
+pub after_key : {A : Type 0} (f : Members → A) (depth : ℕ) (ts : List Token) {k : Text} {s r : List Token} {o : A} → read_key ts ≡ Some (Some k, s) → ReadsAfter f depth no_members k s o r → ReadsMembers f depth no_members ts o r
+after_key f depth ts {k} {s} key read = (read.0, named depth no_members k ts s key ∙ read.1, read.2)
+
+-- members that are skipped, of which one has the key that was read
+skipped : (depth : ℕ) (found : Members) (k : Text) (s : List Token) {r : List Token} → after (next_after depth found k s) ≡ Some r
+    → (ms : Members) × (next_after depth found k s ≡ Some (ms, r)) × Has k ms
+skipped depth found k s {r} rest = let ms = after_some (next_after depth found k s) r rest in (ms.0, ms.1, has_taken depth k found ms.0 s r ms.1)
 
 -- ---- one key
 
@@ -156,8 +157,7 @@ put_only k d e = rw (tied_itself nat_list_cmp_total k)
 
 pub only_no_key : {depth : ℕ} {only : Text} {all left : List Token} {answer : Option Tree} → IsOnlyUnderWay depth only all left answer
     → read_key left ≡ None → next_after depth no_members only all ≡ None
-only_no_key {depth} {only} {left = left} way none =
-    way.decides ∙ member_turn depth (member only way.value no_members) left ∙ ap (turn depth (member only way.value no_members)) none
+only_no_key {depth} {only} {left = left} way none = way.decides ∙ member_turn depth (member only way.value no_members) left ∙ ap (turn depth (member only way.value no_members)) none
 
 module _ {depth : ℕ} {only : Text} {all left s : List Token} {answer : Option Tree} (way : IsOnlyUnderWay depth only all left answer) where
   only_came : {k : Text} → read_key left ≡ Some (Some k, s) → next_after depth no_members only all ≡ next_after depth (member only way.value no_members) k s
@@ -166,25 +166,22 @@ module _ {depth : ℕ} {only : Text} {all left s : List Token} {answer : Option 
   pub only_no_member : {k : Text} → read_key left ≡ Some (Some k, s) → next_value depth s ≡ None → next_after depth no_members only all ≡ None
   only_no_member {k} e refused = only_came e ∙ no_member depth (member only way.value no_members) k s refused
 
-  pub only_no_members : {k : Text} {u : List Token} → read_key left ≡ Some (Some k, s) → after (next_value depth s) ≡ Some u
-      → ((more : Members) → next_members depth more u ≡ None) → next_after depth no_members only all ≡ None
-  only_no_members {k} e passed none = only_came e ∙ skipped_none depth (member only way.value no_members) k s passed none
+  pub only_none : {k : Text} → read_key left ≡ Some (Some k, s) → ((found : Members) (key : Text) → next_after depth found key s ≡ None) → next_after depth no_members only all ≡ None
+  only_none {k} e none = only_came e ∙ none (member only way.value no_members) k
 
   pub only_go_on : {k : Text} {r : List Token} {new : Option Tree} {b : Bool} → read_key left ≡ Some (Some k, s) → b ≡ not (bytes_eq k only) → b ≡ false → ReadsValue (keyed_at only) depth s new r
       → IsOnlyUnderWay depth only all r new
-  only_go_on {k} {r} named e same read =
-      let is : k ≡ only = (bytes_eq-Decides k only).0 (not-false _ (sym e ∙ same)) in
+  only_go_on {k} {r} named e same read = let is : k ≡ only = (bytes_eq-Decides k only).0 (not-false _ (sym e ∙ same)) in
       record {
         value = read.0;
-        decides = way.decides ∙ member_read depth (member only way.value no_members) k left s r read.0 named read.1
-            ∙ rw (is, put_only only read.0 way.value);
+        decides = way.decides ∙ member_read depth (member only way.value no_members) k left s r read.0 named read.1 ∙ rw (is, put_only only read.0 way.value);
         answers = read.2;
       }
 
-  pub only_spoiled : {k : Text} {u r : List Token} {b : Bool} → IsNeither (codes "fixed_size_list") (codes "size") only × IsNeither (codes "mode") (codes "union") only → read_key left ≡ Some (Some k, s)
-      → b ≡ not (bytes_eq k only) → b ≡ true → after (next_value depth s) ≡ Some u → ((found : Members) → after (next_members depth found u) ≡ Some r) → ReadsAfter denoted depth no_members only all None r
-  only_spoiled {k} {r = r} none came e differs passed rest =
-      let ms = skipped depth (member only way.value no_members) k s passed rest in
+  pub only_spoiled : {k : Text} {r : List Token} {b : Bool} → IsNeither (codes "fixed_size_list") (codes "size") only × IsNeither (codes "mode") (codes "union") only → read_key left ≡ Some (Some k, s)
+      → b ≡ not (bytes_eq k only) → b ≡ true → ((found : Members) (key : Text) → after (next_after depth found key s) ≡ Some r) → ReadsAfter denoted depth no_members only all None r
+  only_spoiled {k} {r} none came e differs rest = let found = member only way.value no_members in
+      let ms = skipped depth found k s (rest found k) in
       let read = only_came came ∙ ms.1 in
       let has = has_taken depth only no_members ms.0 all r read in
       let other = λ (is : only ≡ k). both_ways _ (not-true _ (sym e ∙ differs)) ((bytes_eq-Decides k only).1 (sym is)) in
@@ -221,14 +218,13 @@ module _ {A B : Type 0} {f : Data → Option A} {g : Data → Option B} {k l : T
   took : {C : Type 0} {h : Data → C} {o : C} {r s : List Token} {next : Option Text} {new_x : _} {new_y : _} (a b : _) (read : ReadsValue h depth left o r)
       → read_key r ≡ Some (next, s) → put q read.0 (two k l before.at_first before.at_second) ≡ two k l a b
       → (new_x ≡ option_and_then f a) × (new_y ≡ option_and_then g b) → AreTwoUnderWay f g k l depth first all s next new_x new_y
-  took {r = r} {s} {next} a b read e same answers =
-      record {
-        at_first = a;
-        at_second = b;
-        decides = before.decides ∙ ap (λ n. turn depth (two k l before.at_first before.at_second) (Some (n, left))) came
-            ∙ taken depth _ q left r read.0 read.1 ∙ ap (λ ms. next_members depth ms r) same ∙ member_turn depth _ r ∙ ap (turn depth _) e;
-        answers = answers;
-      }
+  took {r = r} {s} {next} a b read e same answers = record {
+    at_first = a;
+    at_second = b;
+    decides = before.decides ∙ ap (λ n. turn depth (two k l before.at_first before.at_second) (Some (n, left))) came
+        ∙ taken depth _ q left r read.0 read.1 ∙ ap (λ ms. next_members depth ms r) same ∙ member_turn depth _ r ∙ ap (turn depth _) e;
+    answers = answers;
+  }
 
   two_came : next_after depth no_members first all ≡ next_after depth (two k l before.at_first before.at_second) q left
   two_came = before.decides ∙ ap (λ n. turn depth (two k l before.at_first before.at_second) (Some (n, left))) came
@@ -236,12 +232,17 @@ module _ {A B : Type 0} {f : Data → Option A} {g : Data → Option B} {k l : T
   pub two_no_key : {C : Type 0} {h : Data → C} {o : C} {r : List Token} → ReadsValue h depth left o r → read_key r ≡ None → next_after depth no_members first all ≡ None
   two_no_key {r = r} read none = two_came ∙ taken depth _ q left r read.0 read.1 ∙ member_turn depth _ r ∙ ap (turn depth _) none
 
+  pub two_no_value : next_value depth left ≡ None → next_after depth no_members first all ≡ None
+  two_no_value refused = two_came ∙ no_member depth _ q left refused
+
   -- a third key beside the two
-  pub two_spoiled : {u r : List Token} → after (next_value depth left) ≡ Some u → ((found : Members) → after (next_members depth found u) ≡ Some r)
+  pub two_none : ((found : Members) (key : Text) → next_after depth found key left ≡ None) → next_after depth no_members first all ≡ None
+  two_none none = two_came ∙ none _ q
+
+  pub two_spoiled : {r : List Token} → ((found : Members) (key : Text) → after (next_after depth found key left) ≡ Some r)
       → ((ms : Members) → Has q ms → Has first ms → None ≡ denoted ms) → ReadsAfter denoted depth no_members first all None r
-  two_spoiled {r = r} passed rest none =
-      let found = two k l before.at_first before.at_second in
-      let ms = skipped depth found q left passed rest in
+  two_spoiled {r} rest none = let found = two k l before.at_first before.at_second in
+      let ms = skipped depth found q left (rest found q) in
       let read = before.decides ∙ ap (λ n. turn depth found (Some (n, left))) came ∙ ms.1 in
       (ms.0, read, none ms.0 ms.2 (has_taken depth first no_members ms.0 all r read))
 

@@ -1,11 +1,11 @@
 -- An object of texts from tokens: the texts so far are the members so far, until a member is no text; then slots, in which the newest value of a key stands.
 use Rattle.std.proofs.Common.{◌≡◌, ◌≤◌, ℕ, List, [], ◌∷◌, ◌++◌, length, map, nat_cmp, IfSome, Option, Some, None, option_map, option_and_then, String, Global, string_bytes, string_cmp, refl, sym, ap, ◌∙◌, subst, arith, append_assoc, append-nil}
-use Rattle.field_lines.proofs.Terms.{slice_cmp, IsStrictlySortedBy, keys_of, Token, read_key, parse_map, Data, string, object, Members, no_members, member, put, as_str, Text, Metadata, texts_of, texts_in, metadata_of_value, slots_in, slots_of, texts_kept, texts_value, next_value, next_members, ReadsValue, ReadsMembers, member_read, members_over}
+use Rattle.field_lines.proofs.Terms.{slice_cmp, IsStrictlySortedBy, keys_of, Token, read_key, parse_map, Data, string, object, Members, no_members, member, put, as_str, Text, Metadata, texts_of, texts_in, metadata_of_value, slots_in, slots_of, texts_kept, texts_value, next_value, next_members, ReadsValue, ReadsMembers, key_refused, member_read, members_over, named}
 use Rattle.std.proofs.lemmas.Iterator.Adapters.{option_map_id}
 use Rattle.std.proofs.lemmas.List.{map-append}
 use Rattle.std.specs.BTreeMap.{insert_entry}
 use Rattle.std.specs.String.{string_cmp_total}
-use Rattle.field_lines.proofs.TokenMembers.{member_takes}
+use Rattle.field_lines.proofs.TokenMembers.{member_takes, no_member}
 use Rattle.field_lines.proofs.Round.{texts_in-value}
 use Rattle.field_lines.proofs.Prints.{Texts, insert_last, ordered, texts_put}
 
@@ -18,8 +18,7 @@ pub record AreTextsUnderWay (depth : _) (all left : List Token) (made : Texts) :
 
 pub texts_go_on : {depth : ℕ} {all left s r : List Token} {made new : Texts} {k : Text} (key text : String Global) → AreTextsUnderWay depth all left made → read_key left ≡ Some (Some k, s)
     → ReadsValue as_str depth s (Some (string_bytes text)) r → string_bytes key ≡ k → new ≡ insert_entry string_cmp made key text → AreTextsUnderWay depth all r new
-texts_go_on {depth} {all} {left} {s} {r} {made} {new} {k} key text way named read copied is =
-    let d = read.0 in
+texts_go_on {depth} {all} {left} {s} {r} {made} {new} {k} key text way named read copied is = let d = read.0 in
     let put_in : texts_value (texts_of new) ≡ put k d (texts_value (texts_of made)) =
     rw (is, texts_put made key text, copied, subst (λ o. IfSome o (λ s. d ≡ string s)) (sym read.2) (text_says d)) in
     record {
@@ -28,8 +27,14 @@ texts_go_on {depth} {all} {left} {s} {r} {made} {new} {k} key text way named rea
     }
 
 pub texts_end : {depth : ℕ} {all left r : List Token} {made : Texts} → AreTextsUnderWay depth all left made → read_key left ≡ Some (None, r) → ReadsMembers texts_in depth no_members all (Some (texts_of made)) r
-texts_end {depth} {all} {left} {r} {made} way over =
-    (texts_value (texts_of made), way.decides ∙ members_over depth (texts_value (texts_of made)) left r over, sym (texts_in-value (texts_of made)))
+texts_end {depth} {all} {left} {r} {made} way over = (texts_value (texts_of made), way.decides ∙ members_over depth (texts_value (texts_of made)) left r over, sym (texts_in-value (texts_of made)))
+
+module _ {depth : ℕ} {all left : List Token} {made : Texts} (way : AreTextsUnderWay depth all left made) where
+  pub texts_no_key : read_key left ≡ None → next_members depth no_members all ≡ None
+  texts_no_key none = way.decides ∙ key_refused depth _ left none
+
+  pub texts_no_member : {s : List Token} {k : Text} → read_key left ≡ Some (Some k, s) → next_value depth s ≡ None → next_members depth no_members all ≡ None
+  texts_no_member {s} {k} key refused = way.decides ∙ named depth _ k left s key ∙ no_member depth _ k s refused
 
 abbrev pub SlotEntries : Type 0
 SlotEntries = List (String Global × Option (String Global))
@@ -47,8 +52,7 @@ slots_insert (e ∷ es) k t = ordered slots_of (string_cmp k e.0) _ _ _ ∙ rw (
 -- a slot is put in as the member is
 pub slot_put : (found : Members) (made new : SlotEntries) (k : Text) (d : Data) (key : String Global) (t : Option (String Global)) → slots_in found ≡ slots_of made → string_bytes key ≡ k → option_map string_bytes t ≡ as_str d
     → new ≡ insert_entry string_cmp made key t → slots_in (put k d found) ≡ slots_of new
-slot_put found made new k d key t same copied text is =
-    slots_put k d found ∙ rw (same, ← copied, ← text, is) (sym (slots_insert made key t))
+slot_put found made new k d key t same copied text is = slots_put k d found ∙ rw (same, ← copied, ← text, is) (sym (slots_insert made key t))
 
 texts_by_slots : (ms : Members) → texts_in ms ≡ texts_kept (slots_in ms)
 texts_by_slots no_members = refl
@@ -63,18 +67,21 @@ pub record AreSlotsUnderWay (depth : _) (all left : List Token) (start made : Sl
 module _ {depth : ℕ} {all left : List Token} {start made : SlotEntries} (way : AreSlotsUnderWay depth all left start made) where
   pub slots_go_on : {s r : List Token} {new : SlotEntries} {k : Text} (key : String Global) (t : Option (String Global)) → read_key left ≡ Some (Some k, s) → ReadsValue as_str depth s (option_map string_bytes t) r
       → string_bytes key ≡ k → new ≡ insert_entry string_cmp made key t → AreSlotsUnderWay depth all r start new
-  slots_go_on {s} {r} {new} {k} key t named read copied is =
-      let d = read.0 in
+  slots_go_on {s} {r} {new} {k} key t named read copied is = let d = read.0 in
       record {
-        goes_on = λ found same.
-            let more = way.goes_on found same in
+        goes_on = λ found same. let more = way.goes_on found same in
             (put k d more.0, more.1 ∙ member_read depth more.0 k left s r d named read.1, slot_put more.0 made new k d key t more.2 copied read.2 is);
         fewer = omega (arith, way.fewer, member_takes depth left s r k d named read.1);
       }
 
+  pub slots_no_key : read_key left ≡ None → (found : Members) → slots_in found ≡ slots_of start → next_members depth found all ≡ None
+  slots_no_key none found same = let more = way.goes_on found same in more.1 ∙ key_refused depth more.0 left none
+
+  pub slots_no_member : {s : List Token} {k : Text} → read_key left ≡ Some (Some k, s) → next_value depth s ≡ None → (found : Members) → slots_in found ≡ slots_of start → next_members depth found all ≡ None
+  slots_no_member {s} {k} key refused found same = let more = way.goes_on found same in more.1 ∙ named depth more.0 k left s key ∙ no_member depth more.0 k s refused
+
   pub slots_end : {r : List Token} {o : Option Metadata} → read_key left ≡ Some (None, r) → o ≡ texts_kept (slots_of made) → (found : Members) → slots_in found ≡ slots_of start → ReadsMembers texts_in depth found all o r
-  slots_end {r} {o} over is found same =
-      let more = way.goes_on found same in
+  slots_end {r} {o} over is found same = let more = way.goes_on found same in
       (more.0, more.1 ∙ members_over depth more.0 left r over, is ∙ ap texts_kept (sym more.2) ∙ sym (texts_by_slots more.0))
 
 -- at the first member that is no text the slots take over
@@ -115,8 +122,7 @@ module _ {X Y Z : Type 0} {seen : X → Z} {whole : Entries Y → Option (List (
   -- one entry goes last
   pub put_one : {new : _} {rest : _} {k : _} {v : Y} (x : X) → ArePut seen whole all made left → left ≡ (k, v) ∷ rest → new ≡ insert_entry string_cmp made k x
       → whole ((k, v) ∷ rest) ≡ option_map (λ es. (string_bytes k, seen x) ∷ es) (whole rest) → ArePut seen whole all new rest
-  put_one {new} {rest} {k} {v} x way split is law =
-      let sorted = subst (λ (l : Entries Y). IsStrictlySortedBy string_cmp (keys_of made ++ keys_of l)) split way.ascending in
+  put_one {new} {rest} {k} {v} x way split is law = let sorted = subst (λ (l : Entries Y). IsStrictlySortedBy string_cmp (keys_of made ++ keys_of l)) split way.ascending in
       let keys = ap (λ l. l ++ keys_of rest) (map-append (λ (e : String Global × X). e.0) made ((k, x) ∷ [])) ∙ append_assoc (keys_of made) (k ∷ []) _ in
       let entries = map-append (λ (e : String Global × X). (string_bytes e.0, seen e.1)) made ((k, x) ∷ []) in
       rw (is ∙ insert_last string_cmp_total made k x (keys_of rest) sorted) (record {

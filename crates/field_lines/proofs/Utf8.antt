@@ -143,8 +143,7 @@ byte_ok m c x xs k u h = let text = in_plain xs [] in grind (arith, word_ok)
 lexed : (m : Mode) (xs pre : List ℕ) → IsUtf8 (pre ++ xs) → AreUtf8Lexemes (lex m xs)
 unfolding lex
 lexed m [] pre u = tt
-lexed m (x ∷ xs) pre u =
-    byte_ok m (class x) x xs (λ n. lex n xs) (λ q. utf8_after pre xs x (grind arith) u) (λ n. lexed n xs (pre ++ x ∷ []) (one_more pre x xs u))
+lexed m (x ∷ xs) pre u = byte_ok m (class x) x xs (λ n. lex n xs) (λ q. utf8_after pre xs x (grind arith) u) (λ n. lexed n xs (pre ++ x ∷ []) (one_more pre x xs u))
 
 punctuated : (p : Place) (ls : List Lexeme) → AreUtf8Lexemes ls → AreUtf8 (punctuate p ls)
 unfolding punctuate

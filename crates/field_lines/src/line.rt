@@ -34,7 +34,6 @@ pub fn parse_line(alloc: Global, line: &[u8]) -> Result<Option<Field>, AllocErro
 
 /// The field that a line denotes, as [`parse_line`] reads it, with a scratch buffer that the caller keeps: reading many lines
 /// with one scratch costs less than with a new one for each. What is left in it of one line has no effect on the next.
-#[tactic(auto, using(crate::proofs::Lean::line_field, crate::proofs::Lean::line_no_text))]
 pub fn parse_line_with_scratch(
     alloc: Global,
     line: &[u8],

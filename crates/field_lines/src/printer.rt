@@ -45,13 +45,6 @@ fn print_integer(n: i64, out: &mut Writer) -> Result<(), AllocError>
     out.i64(n)
 }
 
-/// Writes a text.
-fn print_text(text: &str, out: &mut Writer) -> Result<(), AllocError>
-    ensures { OnOk result (Prints (string text.now) out.old out.new) }
-{
-    out.string(text)
-}
-
 /// Writes a field.
 #[cycle(print)]
 pub(crate) fn print_field(field: &Field, out: &mut Writer) -> Result<(), AllocError>
@@ -95,7 +88,7 @@ fn print_other_type(notation: &str, out: &mut Writer) -> Result<(), AllocError>
 {
     out.begin_object()?;
     out.key("other")?;
-    print_text(notation, out)?;
+    out.string(notation)?;
     out.end_object()
 }
 
@@ -111,7 +104,7 @@ fn print_type(data_type: &DataType, out: &mut Writer) -> Result<(), AllocError>
         DataType::FixedSizeList(field, size) => print_fixed_size_list(field, *size, out),
         DataType::Struct(fields) => print_struct(fields, out),
         DataType::Union(members, mode) => print_union(members, *mode, out),
-        plain => print_text(plain_name(plain), out),
+        plain => out.string(plain_name(plain)),
     }
 }
 

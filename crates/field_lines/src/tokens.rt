@@ -5,13 +5,13 @@
 ghost use Rattle.std.specs.Prelude.{◌≡◌, ◌⊎◌, bytes_eq, codes, not, None, Err, IfOk, IfSome, IsTrue};
 ghost use Rattle.std.specs.Option.{option_map, option_and_then};
 ghost use Rattle.std.specs.List.{zip};
-ghost use Rattle.serde_json.specs.Data.{no_members, object, array};
-ghost use Rattle.arrow_values.specs.Tree.{field_tree};
+ghost use Rattle.serde_json.specs.Data.{Members, no_members, object, array};
+ghost use Rattle.arrow_values.specs.Tree.{Text, field_tree};
 ghost use Rattle.arrow_values.specs.View.{tree, texts_of, field_trees, member_trees};
 ghost use Rattle.arrow_values.specs.Union.{is_type_id};
 ghost use Rattle.field_lines.specs.FieldOfValue.{field_from, field_of_value, type_of_value, fields_of_value, fields_in, members_of_value, members_in};
 ghost use Rattle.field_lines.specs.Steps.{AreMemberParts, IsNeither, keyed_at, pair_read};
-ghost use Rattle.value_tokens.specs.Next.{next_value, next_items, next_members, next_after, ReadsValue, ReadsItems, ReadsMembers, ReadsAfter};
+ghost use Rattle.value_tokens.specs.Next.{next_value, next_items, next_members, next_after, after, ReadsValue, ReadsItems, ReadsMembers, ReadsAfter};
 
 use crate::metadata::take_texts;
 use crate::names::{layout_name, plain_named};
@@ -80,7 +80,10 @@ fn take_parts<'a>(
         match key {
             "name" => name = read_str(reader, depth)?,
             "nullable" => nullable = read_bool(reader, depth)?,
-            "type" => data_type = take_type(alloc, reader, depth)?,
+            "type" => {
+                drop(data_type);
+                data_type = take_type(alloc, reader, depth)?;
+            }
             "metadata" => metadata = take_texts(alloc, reader, depth)?,
             _ => skip_value(reader, depth)?,
         }
@@ -100,13 +103,9 @@ fn field_of(
     ensures ok { IfOk result (λ o. o ≡ field_from (option_map (λ n. n.now) name.entry) nullable (option_map tree data_type) (option_map (λ m. texts_of m.entries) metadata)) }
     ensures never_text { result ≡ Err Refusal.Text → ⊥ }
 {
-    let (Some(name), Some(nullable)) = (name, nullable) else {
-        return Ok(None);
-    };
-    let Some(data_type) = data_type else {
-        return Ok(None);
-    };
-    let Some(metadata) = metadata else {
+    let (Some(name), Some(nullable), Some(data_type), Some(metadata)) = (
+        name, nullable, data_type, metadata,
+    ) else {
         return Ok(None);
     };
     let mut field = match layout_name(name) {
@@ -184,14 +183,26 @@ fn take_only(
 {
     let mut data_type = take_keyed(alloc, reader, depth, only)?;
     'only: while let Some(key) = reader.next_key()? {
+        drop(data_type);
         if differ(key, only) {
-            skip_value(reader, depth)?;
-            skip_members(reader, depth)?;
-            return Ok(None);
+            return take_no_type(reader, depth);
         }
         data_type = take_keyed(alloc, reader, depth, only)?;
     }
     Ok(data_type)
+}
+
+/// No type, of an object with a key that no type of its other keys has: the value at that key, which is next, and the
+/// members after it are skipped.
+#[cold]
+#[inline(never)]
+fn take_no_type(reader: &mut Reader<'_>, depth: usize) -> Result<Option<DataType>, Refusal>
+    ensures ok { IfOk result (λ o. (o ≡ None) × ((found : Members) (key : Text) → after (next_after depth found key reader.old) ≡ Some reader.new)) }
+    ensures text { result ≡ Err Refusal.Text → (found : Members) (key : Text) → next_after depth found key reader.old ≡ None }
+{
+    skip_value(reader, depth)?;
+    skip_members(reader, depth)?;
+    Ok(None)
 }
 
 /// Whether these keys differ. It is not inlined, since few objects have a second key.
@@ -249,6 +260,7 @@ fn take_fixed_size_list<'a>(
     'keys: while let Some(key) = next {
         match key {
             "fixed_size_list" => {
+                drop(field);
                 field = take_boxed(alloc, reader, depth)?;
                 next = reader.next_key()?;
             }
@@ -256,11 +268,7 @@ fn take_fixed_size_list<'a>(
                 size = take_size(reader, depth)?;
                 next = reader.next_key()?;
             }
-            _ => {
-                skip_value(reader, depth)?;
-                skip_members(reader, depth)?;
-                return Ok(None);
-            }
+            _ => return take_no_type(reader, depth),
         }
     }
     match (field, size) {
@@ -292,18 +300,15 @@ fn take_union<'a>(
                 next = reader.next_key()?;
             }
             "union" => {
+                drop(members);
                 members = take_members(alloc, reader, depth)?;
                 next = reader.next_key()?;
             }
-            _ => {
-                skip_value(reader, depth)?;
-                skip_members(reader, depth)?;
-                return Ok(None);
-            }
+            _ => return take_no_type(reader, depth),
         }
     }
     match (mode, members) {
-        (Some(mode), Some((ids, fields))) => Ok(make_union(alloc, mode, ids, fields)?),
+        (Some(mode), Some((ids, fields))) => make_union(alloc, mode, ids, fields),
         _ => Ok(None),
     }
 }
@@ -328,6 +333,7 @@ fn take_fields(
         match take_field(alloc, reader, below)? {
             Some(field) => fields.push(field)?,
             None => {
+                drop(fields);
                 skip_items(reader, below)?;
                 return Ok(None);
             }
@@ -356,10 +362,12 @@ fn take_members(
     'pairs: while !reader.take_end_array() {
         match take_pair(alloc, reader, below)? {
             Some((id, field)) => {
-                ids.push(id)?;
                 fields.push(field)?;
+                ids.push(id)?;
             }
             None => {
+                drop(ids);
+                drop(fields);
                 skip_items(reader, below)?;
                 return Ok(None);
             }
@@ -392,6 +400,7 @@ fn take_pair(
     }
     let field = take_field(alloc, reader, below)?;
     if !reader.take_end_array() {
+        drop(field);
         skip_value(reader, below)?;
         skip_items(reader, below)?;
         return Ok(None);

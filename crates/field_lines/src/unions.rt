@@ -1,5 +1,5 @@
 //! The union of ids and fields.
-ghost use Rattle.std.specs.Prelude.{◌≡◌, IfOk};
+ghost use Rattle.std.specs.Prelude.{◌≡◌, Err, IfOk};
 ghost use Rattle.std.specs.Option.{option_map};
 ghost use Rattle.std.specs.List.{zip};
 ghost use Rattle.arrow_values.specs.View.{tree, member_trees};
@@ -7,7 +7,8 @@ ghost use Rattle.field_lines.specs.FieldOfValue.{union_of};
 ghost use Rattle.field_lines.specs.Steps.{AreMemberParts};
 
 use arrow_values::{ArrowError, DataType, Field, UnionFields, UnionMode};
-use std::alloc::{AllocError, Global};
+use std::alloc::Global;
+use value_tokens::Refusal;
 
 /// The union of these members, and none where an id stands twice.
 #[tactic(auto, using(crate::proofs::TokenItems::tree_ids_zip))]
@@ -16,14 +17,15 @@ pub(crate) fn make_union(
     mode: UnionMode,
     ids: Vec<i8>,
     fields: Vec<Field>,
-) -> Result<Option<DataType>, AllocError>
+) -> Result<Option<DataType>, Refusal>
     requires { AreMemberParts ids.items fields.items }
-    ensures { IfOk result (λ o. option_map tree o ≡ union_of mode (member_trees (zip ids.items fields.items))) }
+    ensures ok { IfOk result (λ o. option_map tree o ≡ union_of mode (member_trees (zip ids.items fields.items))) }
+    ensures never_text { result ≡ Err Refusal.Text → ⊥ }
 {
     match UnionFields::try_new(alloc, ids, fields) {
         Ok(members) => Ok(Some(DataType::Union(members, mode))),
         Err(error) => match error {
-            ArrowError::OutOfMemory => Err(AllocError),
+            ArrowError::OutOfMemory => Err(Refusal::Memory),
             _ => Ok(None),
         },
     }

@@ -41,8 +41,7 @@ abbrev pub decreases-take_pair : goal.decreases-take_pair
 decreases-take_pair l = 8 * l.depth + 2
 
 abbrev pub invariant-take_parts-parts : goal.invariant-take_parts-parts
-invariant-take_parts-parts l =
-    ArePartsUnderWay l.depth l.initial.reader l.reader (option_map (λ n. n.now) l.name) l.nullable (option_map tree l.data_type) (option_map (λ m. texts_of m.entries) l.metadata)
+invariant-take_parts-parts l = ArePartsUnderWay l.depth l.initial.reader l.reader (option_map (λ n. n.now) l.name) l.nullable (option_map tree l.data_type) (option_map (λ m. texts_of m.entries) l.metadata)
 
 abbrev pub decreases-take_parts-parts : goal.decreases-take_parts-parts
 decreases-take_parts-parts l = length l.reader
