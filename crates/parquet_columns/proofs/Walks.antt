@@ -1,5 +1,5 @@
 -- Elements one after the other, each with all that is below it.
-use Rattle.std.proofs.Common.{◌≡◌, ◌≢◌, ◌==◌, true, false, ℕ, suc, ◌+◌, ◌-◌, ◌<◌, ◌≤◌, List, [], ◌∷◌, ◌++◌, length, get_or, map, Some, Result, Ok, Err, refl, sym, ap, subst, ◌∙◌, arith, append_assoc, append-nil}
+use Rattle.std.proofs.Common.{◌≡◌, ◌≢◌, ◌==◌, true, false, ℕ, suc, ◌+◌, ◌-◌, ◌<◌, ◌≤◌, List, [], ◌∷◌, ◌++◌, length, get_or, map, None, Some, Result, Ok, Err, refl, sym, ap, subst, ◌∙◌, arith, append_assoc, append-nil}
 use Rattle.std.specs.List.{slice_get}
 use Rattle.std.proofs.lemmas.Bool.Decides.{nat_tests}
 use Rattle.std.proofs.lemmas.List.{length-map}
@@ -13,7 +13,7 @@ use Rattle.parquet_columns.specs.declared.fault.ColumnsError.{ColumnsError}
 use Rattle.parquet_columns.specs.declared.fault.ColumnsError.TheVariants.{Broken, OutOfMemory}
 use Rattle.parquet_columns.specs.Fault.{◌>>=◌, Says}
 use Rattle.parquet_columns.specs.Nodes.{NodeTree, column_of}
-use Rattle.parquet_columns.specs.Columns.{HeadTree, element_at, head_at, children_of, finished, nodes_by, node_at, root_count, used_up, columns_of}
+use Rattle.parquet_columns.specs.Columns.{HeadTree, element_at, head_at, children_of, finished, nodes_by, node_at, used_up, columns_of}
 
 -- an error was handed on
 pub said : {X A : Type 0} (view : X → A) (there : Result A Fault) (r : Result X ColumnsError) (e : ColumnsError) → r ≡ Err e → Says view there (Err e) → Says view there r
@@ -120,17 +120,17 @@ no_root [] none = refl
 no_root (e ∷ es) none = absurd (omega arith)
 
 module _ (d : SchemaElement) where
-  pub root_fails : (es : List SchemaElement) (e : Fault) → 0 < length es → Err e ≡ root_count (get_or es 0 d).num_children → columns_of (map element es) ≡ Err e
+  pub root_fails : (es : List SchemaElement) → 0 < length es → (get_or es 0 d).num_children ≡ None → columns_of (map element es) ≡ Err (record { rule = Root; at = 0 })
   unfolding columns_of
-  root_fails [] e some is = absurd (omega arith)
-  root_fails (x ∷ es) e some is = rw (sym is) refl
+  root_fails [] some is = absurd (omega arith)
+  root_fails (x ∷ es) some is = rw is refl
 
-  pub root_says : (es : List SchemaElement) (n : ℕ) → 0 < length es → Ok n ≡ root_count (get_or es 0 d).num_children → columns_of (map element es) ≡ (nodes_by (node_at 64 (map element es)) 1 n >>= used_up (map element es))
+  pub root_says : (es : List SchemaElement) (n : ℕ) → 0 < length es → (get_or es 0 d).num_children ≡ Some n → columns_of (map element es) ≡ (nodes_by (node_at 64 (map element es)) 1 n >>= used_up (map element es))
   unfolding columns_of
   root_says [] n some is = absurd (omega arith)
-  root_says (x ∷ es) n some is = rw (sym is) refl
+  root_says (x ∷ es) n some is = rw is refl
 
-  module _ (es : List SchemaElement) (n : ℕ) (some : 0 < length es) (is : Ok n ≡ root_count (get_or es 0 d).num_children) where
+  module _ (es : List SchemaElement) (n : ℕ) (some : 0 < length es) (is : (get_or es 0 d).num_children ≡ Some n) where
     abbrev children : Result (List NodeTree × ℕ) Fault
     children = nodes_by (node_at 64 (map element es)) 1 n
 

@@ -4,7 +4,7 @@ ghost use Rattle.arrow_columns.specs.Column.{column_tree};
 ghost use Rattle.parquet_footer.specs.Element.{element};
 ghost use Rattle.parquet_columns.specs.Fault.{Says, map_ok};
 ghost use Rattle.parquet_columns.specs.Nodes.{shape_tree, node_tree};
-ghost use Rattle.parquet_columns.specs.Columns.{has_children, kind_at, repetition_at, head_tree, head_at, children_of, leaf_shape, shape_at, finished, nodes_by, node_at, root_count, columns_of};
+ghost use Rattle.parquet_columns.specs.Columns.{has_children, kind_at, head_tree, head_at, children_of, leaf_shape, shape_at, nodes_by, node_at, columns_of};
 
 use crate::annotation::{Annotation, annotation_of};
 use crate::fault::{ColumnsError, Fault, Rule};
@@ -66,16 +66,6 @@ fn kind_at(at: usize, physical: Option<PhysicalType>, count: Option<u32>) -> Res
     }
 }
 
-/// The repetition of an element.
-fn repetition_at(at: usize, repetition: Option<Repetition>) -> Result<Repetition, Fault>
-    ensures { result ≡ repetition_at at repetition }
-{
-    match repetition {
-        None => Err(Fault::new(Rule::Repetition, at)),
-        Some(repetition) => Ok(repetition),
-    }
-}
-
 /// What the element with that index says.
 #[tactic(auto, using(crate::proofs::Walks::there_is, crate::proofs::Walks::none_is), unfolding(crate::specs::Columns::head_at))]
 fn head_at<'a>(elements: &[SchemaElement<'a>], at: usize) -> Result<Head<'a>, Fault>
@@ -87,7 +77,9 @@ fn head_at<'a>(elements: &[SchemaElement<'a>], at: usize) -> Result<Head<'a>, Fa
     }
     let element = elements[at];
     let kind = kind_at(at, element.storage.physical_type, element.num_children)?;
-    let repetition = repetition_at(at, element.storage.repetition)?;
+    let Some(repetition) = element.storage.repetition else {
+        return Err(Fault::new(Rule::Repetition, at));
+    };
     Ok(Head {
         element,
         kind,
@@ -117,15 +109,15 @@ fn leaf_shape(
 {
     let meaning = meaning_of(leaf);
     let digits = (leaf.precision, leaf.scale);
-    let found = leaf_type(
+    leaf_type(
         alloc,
         at,
         physical,
         meaning,
         leaf.storage.type_length,
         digits,
-    )?;
-    Ok(Shape::Typed(found))
+    )
+    .map(Shape::Typed)
 }
 
 /// What an element stands for, by the elements below it.
@@ -147,24 +139,6 @@ fn shape_at(
     }
 }
 
-/// An element, by what it says and the elements below it.
-#[tactic(auto, unfolding(crate::specs::Columns::finished))]
-fn finish<'a>(
-    alloc: Global,
-    at: usize,
-    head: &Head<'a>,
-    below: Vec<Node<'_>>,
-) -> Result<Node<'a>, ColumnsError>
-    ensures { Says node_tree (finished at (head_tree head.now) (map node_tree below.entry.items)) result }
-{
-    let shape = shape_at(alloc, at, head, below)?;
-    Ok(Node {
-        name: head.element.storage.name,
-        repetition: head.repetition,
-        shape,
-    })
-}
-
 /// Reads the element with that index and all that is below it; and says which index comes behind.
 #[cycle(read)]
 fn read_node<'a>(
@@ -181,7 +155,12 @@ fn read_node<'a>(
     let head = head_at(elements, at)?;
     let count = children_of(head.kind);
     let (below, next) = read_nodes(alloc, elements, at + 1, count, levels - 1)?;
-    let node = finish(alloc, at, &head, below)?;
+    let shape = shape_at(alloc, at, &head, below)?;
+    let node = Node {
+        name: head.element.storage.name,
+        repetition: head.repetition,
+        shape,
+    };
     Ok((node, next))
 }
 
@@ -204,16 +183,6 @@ fn read_nodes<'a>(
         at = next;
     }
     Ok((found, at))
-}
-
-/// How many children the root has.
-fn root_count(count: Option<u32>) -> Result<u32, Fault>
-    ensures { result ≡ root_count count }
-{
-    match count {
-        None => Err(Fault::new(Rule::Root, 0)),
-        Some(count) => Ok(count),
-    }
 }
 
 /// The columns of the schema in the footer of a Parquet file, with the types that Arrow's libraries give its leaves and
@@ -246,7 +215,9 @@ fn columns_in(alloc: Global, elements: &[SchemaElement<'_>]) -> Result<Vec<Colum
     if elements.is_empty() {
         return Err(ColumnsError::Broken(Fault::new(Rule::Root, 0)));
     }
-    let count = root_count(elements[0].num_children)?;
+    let Some(count) = elements[0].num_children else {
+        return Err(ColumnsError::Broken(Fault::new(Rule::Root, 0)));
+    };
     let (below, next) = read_nodes(alloc, elements, 1, count, NESTING_LIMIT)?;
     if next != elements.len() {
         return Err(ColumnsError::Broken(Fault::new(Rule::Children, next)));

@@ -165,7 +165,7 @@ pub(crate) fn group_shape(alloc: Global, nodes: Vec<Node<'_>>) -> Result<Shape, 
 {
     match only_node(nodes) {
         Ok(node) => one_shape(alloc, node),
-        Err(nodes) => Ok(Shape::Group(columns_of_nodes(alloc, nodes)?)),
+        Err(nodes) => columns_of_nodes(alloc, nodes).map(Shape::Group),
     }
 }
 
@@ -246,15 +246,17 @@ fn is_group(shape: &Shape) -> bool
     }
 }
 
-/// A map whose entries have a name and a type.
-fn map_type(alloc: Global, name: &str, entries: ColumnType) -> Result<ColumnType, AllocError>
-    ensures { IfOk result (λ made. type_tree made ≡ map_type name.now (type_tree entries)) }
+/// A map whose entries are those of an element.
+fn map_type(alloc: Global, node: Node<'_>) -> Result<ColumnType, AllocError>
+    ensures { IfOk result (λ made. type_tree made ≡ map_type (node_tree node.entry).name (shape_type (node_tree node.entry).shape)) }
 {
+    let Node { name, shape, .. } = node;
+    let entries = shape_type(alloc, shape)?;
     let text = entries.notation(alloc);
     drop(entries);
     let text = text?;
     let part = part_notation(alloc, name, text.as_str(), false)?;
-    Ok(ColumnType::Other(nested_notation(alloc, "map", &[part])?))
+    nested_notation(alloc, "map", &[part]).map(ColumnType::Other)
 }
 
 /// What a MAP stands for, by the elements below it; it is the one with that index.
@@ -280,7 +282,5 @@ fn map_of(alloc: Global, at: usize, node: Node<'_>) -> Result<Shape, ColumnsErro
         drop(node);
         return Err(ColumnsError::Broken(Fault::new(Rule::Map, at)));
     }
-    let Node { name, shape, .. } = node;
-    let entries = shape_type(alloc, shape)?;
-    Ok(Shape::Typed(map_type(alloc, name, entries)?))
+    Ok(Shape::Typed(map_type(alloc, node)?))
 }

@@ -1,5 +1,4 @@
 pub mod Bounds
-pub mod Groups
 pub mod Lists
 pub mod Loops
 pub mod Notes

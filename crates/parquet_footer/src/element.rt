@@ -93,12 +93,14 @@ const REPETITIONS: [Repetition; 3] = [
 fn storage_at(bytes: &[u8]) -> Result<Storage<'_>, Fault>
     ensures { Returns stored result (storage_at bytes.now) }
 {
-    let (physical, length, _rest) = pair_at(bytes, 1, 2)?;
+    let (physical, length, _) = pair_at(bytes, 1, 2)?;
     let physical_type = name_in(&PHYSICAL_TYPES, physical, bytes)?;
     let type_length = number_in(length)?;
-    let (repetition, name, _rest) = pair_at(bytes, 3, 4)?;
+    let (repetition, name, _) = pair_at(bytes, 3, 4)?;
     let repetition = name_in(&REPETITIONS, repetition, bytes)?;
-    let name = text_in(name)?.ok_or(broken(Rule::Missing, bytes))?;
+    let Some(name) = text_in(name)? else {
+        return Err(broken(Rule::Missing, bytes));
+    };
     Ok(Storage {
         physical_type,
         type_length,
@@ -112,7 +114,7 @@ fn storage_at(bytes: &[u8]) -> Result<Storage<'_>, Fault>
 fn numbers_at(bytes: &[u8], one: u16, other: u16) -> Result<(Option<u32>, Option<u32>), Fault>
     ensures { result ≡ numbers_at one other bytes.now }
 {
-    let (first, second, _rest) = pair_at(bytes, one, other)?;
+    let (first, second, _) = pair_at(bytes, one, other)?;
     Ok((number_in(first)?, number_in(second)?))
 }
 
@@ -124,7 +126,7 @@ pub fn element_at(bytes: &[u8]) -> Result<(SchemaElement<'_>, &[u8]), Fault>
     let storage = storage_at(bytes)?;
     let (num_children, converted_type) = numbers_at(bytes, 5, 6)?;
     let (scale, precision) = numbers_at(bytes, 7, 8)?;
-    let (logical, _same, rest) = pair_at(bytes, 10, 10)?;
+    let (logical, _, rest) = pair_at(bytes, 10, 10)?;
     let element = SchemaElement {
         storage,
         num_children,

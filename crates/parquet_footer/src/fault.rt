@@ -51,19 +51,6 @@ pub fn broken(rule: Rule, bytes: &[u8]) -> Fault
     Fault { left, rule }
 }
 
-/// Errs with the rule, broken at the front of the bytes, unless it is kept.
-#[inline(always)]
-pub fn ensure(is_kept: bool, rule: Rule, bytes: &[u8]) -> Result<(), Fault>
-    ensures read { result ≡ kept is_kept rule bytes.now }
-    ensures ok { OnOk result (IsTrue is_kept) }
-{
-    if is_kept {
-        Ok(())
-    } else {
-        Err(broken(rule, bytes))
-    }
-}
-
 /// Why a call that allocates gives nothing.
 #[derive(Clone, Copy)]
 pub enum Stop {

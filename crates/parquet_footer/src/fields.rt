@@ -1,9 +1,9 @@
 //! The fields of a struct that are read, by their ids.
 ghost use Rattle.std.specs.Prelude.{◌≡◌, option_map};
 ghost use Rattle.parquet_footer.specs.Fault.{Returns};
-ghost use Rattle.parquet_footer.specs.Fields.{spot, spots, noted, pair_at, value_of, number_in, name_in, text_in, flag_in, structs_in};
+ghost use Rattle.parquet_footer.specs.Fields.{spot, spots, noted, pair_at, number_in, name_in, text_in, flag_in, structs_in};
 
-use crate::fault::{Fault, Rule, broken, ensure};
+use crate::fault::{Fault, Rule, broken};
 use crate::skip::{LEVELS, value_past};
 use crate::wire::{count_at, field_at, list_at, text_at};
 
@@ -52,23 +52,15 @@ pub fn pair_at(bytes: &[u8], one: u16, other: u16) -> Result<(Found<'_>, Found<'
     Err(broken(Rule::End, rest))
 }
 
-/// The bytes of a value, which has that type.
-pub fn value_of(kind: u8, place: Place<'_>) -> Result<&[u8], Fault>
-    ensures { Returns (λ x. x.now) result (value_of kind (spot place.entry)) }
-{
-    ensure(place.kind == kind, Rule::WireType, place.bytes)?;
-    Ok(place.bytes)
-}
-
 /// The number in a field, where it is there.
 pub fn number_in(place: Found<'_>) -> Result<Option<u32>, Fault>
     ensures { result ≡ number_in (spots place.entry) }
 {
-    let Some(place) = place else {
-        return Ok(None);
-    };
-    let (number, _rest) = count_at(value_of(5, place)?)?;
-    Ok(Some(number))
+    match place {
+        None => Ok(None),
+        Some(Place { kind: 5, bytes }) => Ok(Some(count_at(bytes)?.0)),
+        Some(place) => Err(broken(Rule::WireType, place.bytes)),
+    }
 }
 
 /// The name that the number in a field denotes, where it is there: the names stand in the order of their numbers, from 0 on.
@@ -91,8 +83,9 @@ pub fn text_in(place: Found<'_>) -> Result<Option<&str>, Fault>
     ensures { Returns (option_map (λ s. s.now)) result (text_in (spots place.entry)) }
 {
     match place {
-        Some(place) => Ok(Some(text_at(value_of(8, place)?)?)),
         None => Ok(None),
+        Some(Place { kind: 8, bytes }) => text_at(bytes).map(Some),
+        Some(place) => Err(broken(Rule::WireType, place.bytes)),
     }
 }
 
@@ -100,9 +93,12 @@ pub fn text_in(place: Found<'_>) -> Result<Option<&str>, Fault>
 pub fn flag_in(bytes: &[u8], place: Found<'_>) -> Result<bool, Fault>
     ensures { result ≡ flag_in bytes.now (spots place.entry) }
 {
-    let place = place.ok_or(broken(Rule::Missing, bytes))?;
-    ensure(matches!(place.kind, 1 | 2), Rule::WireType, place.bytes)?;
-    Ok(place.kind == 1)
+    match place {
+        None => Err(broken(Rule::Missing, bytes)),
+        Some(Place { kind: 1, .. }) => Ok(true),
+        Some(Place { kind: 2, .. }) => Ok(false),
+        Some(place) => Err(broken(Rule::WireType, place.bytes)),
+    }
 }
 
 /// How many structs a list has, which is none where it is missing, and their bytes.
@@ -110,11 +106,12 @@ pub fn flag_in(bytes: &[u8], place: Found<'_>) -> Result<bool, Fault>
 pub fn structs_in(place: Found<'_>) -> Result<(u32, &[u8]), Fault>
     ensures { Returns (λ x. (x.0, x.1.now)) result (structs_in (spots place.entry)) }
 {
-    let Some(place) = place else {
-        return Ok((0, &[]));
-    };
-    let bytes = value_of(9, place)?;
-    let (kind, count, rest) = list_at(bytes)?;
-    ensure(kind == 12 || count == 0, Rule::WireType, bytes)?;
-    Ok((count, rest))
+    match place {
+        None => Ok((0, &[])),
+        Some(Place { kind: 9, bytes }) => match list_at(bytes)? {
+            (kind, count, rest) if kind == 12 || count == 0 => Ok((count, rest)),
+            _ => Err(broken(Rule::WireType, bytes)),
+        },
+        Some(place) => Err(broken(Rule::WireType, place.bytes)),
+    }
 }

@@ -34,7 +34,9 @@ fn key_value_at(bytes: &[u8]) -> Result<(KeyValue<'_>, &[u8]), Fault>
     ensures { Returns (λ x. (pairing x.0, x.1.now)) result (key_value_at bytes.now) }
 {
     let (key, value, rest) = pair_at(bytes, 1, 2)?;
-    let key = text_in(key)?.ok_or(broken(Rule::Missing, bytes))?;
+    let Some(key) = text_in(key)? else {
+        return Err(broken(Rule::Missing, bytes));
+    };
     let value = text_in(value)?;
     Ok((KeyValue { key, value }, rest))
 }
@@ -72,8 +74,10 @@ fn key_values_at(alloc: Global, count: u32, bytes: &[u8]) -> Result<Vec<KeyValue
 fn footer_at(alloc: Global, bytes: &[u8]) -> Result<Footer<'_>, Stop>
     ensures { Gives contents result (footer_at bytes.now) }
 {
-    let (elements, pairs, _rest) = pair_at(bytes, 2, 5)?;
-    let elements = elements.ok_or(broken(Rule::Missing, bytes))?;
+    let (elements, pairs, _) = pair_at(bytes, 2, 5)?;
+    let Some(elements) = elements else {
+        return Err(Stop::Fault(broken(Rule::Missing, bytes)));
+    };
     let (elements, one) = structs_in(Some(elements))?;
     let (pairs, other) = structs_in(pairs)?;
     Ok(Footer {

@@ -5,10 +5,10 @@ ghost use Rattle.parquet_footer.specs.Fault.{Returns};
 ghost use Rattle.parquet_footer.specs.Fields.{spot, spots};
 ghost use Rattle.parquet_footer.specs.Logical.{logical, union_at, unit_in, width_in, clock_at, integer_at, geometry_at, geography_at, logical_at, logical_in};
 
-use crate::fault::{Fault, Rule, broken, ensure};
-use crate::fields::{Found, Place, flag_in, name_in, pair_at, text_in, value_of};
+use crate::fault::{Fault, Rule, broken};
+use crate::fields::{Found, Place, flag_in, name_in, pair_at, text_in};
 use crate::skip::{LEVELS, value_past};
-use crate::wire::{byte_at, field_at};
+use crate::wire::field_at;
 
 /// How the edges of a geography are interpolated.
 #[derive(Debug, Clone, Copy, PartialEq, Eq)]
@@ -67,13 +67,15 @@ const ALGORITHMS: [Algorithm; 5] = [
 fn unit_in(bytes: &[u8], place: Found<'_>) -> Result<TimeUnit, Fault>
     ensures { result ≡ unit_in bytes.now (spots place.entry) }
 {
-    let place = place.ok_or(broken(Rule::Missing, bytes))?;
-    let value = value_of(12, place)?;
-    match union_at(value)?.0 {
-        1 => Ok(TimeUnit::Millisecond),
-        2 => Ok(TimeUnit::Microsecond),
-        3 => Ok(TimeUnit::Nanosecond),
-        _ => Err(broken(Rule::Name, value)),
+    match place {
+        None => Err(broken(Rule::Missing, bytes)),
+        Some(Place { kind: 12, bytes }) => match union_at(bytes)?.0 {
+            1 => Ok(TimeUnit::Millisecond),
+            2 => Ok(TimeUnit::Microsecond),
+            3 => Ok(TimeUnit::Nanosecond),
+            _ => Err(broken(Rule::Name, bytes)),
+        },
+        Some(place) => Err(broken(Rule::WireType, place.bytes)),
     }
 }
 
@@ -82,10 +84,15 @@ fn unit_in(bytes: &[u8], place: Found<'_>) -> Result<TimeUnit, Fault>
 fn width_in(bytes: &[u8], place: Found<'_>) -> Result<u8, Fault>
     ensures { result ≡ width_in bytes.now (spots place.entry) }
 {
-    let place = place.ok_or(broken(Rule::Missing, bytes))?;
-    let (width, _rest) = byte_at(value_of(3, place)?)?;
-    ensure(matches!(width, 8 | 16 | 32 | 64), Rule::Name, bytes)?;
-    Ok(width)
+    match place {
+        None => Err(broken(Rule::Missing, bytes)),
+        Some(place) if place.kind != 3 => Err(broken(Rule::WireType, place.bytes)),
+        Some(place) => match place.bytes {
+            [] => Err(broken(Rule::End, place.bytes)),
+            [width @ (8 | 16 | 32 | 64), ..] => Ok(*width),
+            _ => Err(broken(Rule::Name, bytes)),
+        },
+    }
 }
 
 /// The one field of a union: its id, and its value.
@@ -94,10 +101,14 @@ fn union_at(bytes: &[u8]) -> Result<(u16, Place<'_>), Fault>
     ensures { Returns (λ x. (x.0, spot x.1)) result (union_at bytes.now) }
 {
     let (id, kind, value) = field_at(0, bytes)?;
-    ensure(kind != 0, Rule::Union, bytes)?;
-    let rest = value_past(kind, value, LEVELS)?;
-    ensure(byte_at(rest)?.0 == 0, Rule::Union, rest)?;
-    Ok((id, Place { kind, bytes: value }))
+    if kind == 0 {
+        return Err(broken(Rule::Union, bytes));
+    }
+    match value_past(kind, value, LEVELS)? {
+        [] => Err(broken(Rule::End, &[])),
+        [0, ..] => Ok((id, Place { kind, bytes: value })),
+        rest => Err(broken(Rule::Union, rest)),
+    }
 }
 
 /// What TIME and TIMESTAMP say: whether they are adjusted to UTC, and their unit.
@@ -105,7 +116,7 @@ fn union_at(bytes: &[u8]) -> Result<(u16, Place<'_>), Fault>
 fn clock_at(bytes: &[u8]) -> Result<(bool, TimeUnit), Fault>
     ensures { result ≡ clock_at bytes.now }
 {
-    let (utc, unit, _rest) = pair_at(bytes, 1, 2)?;
+    let (utc, unit, _) = pair_at(bytes, 1, 2)?;
     Ok((flag_in(bytes, utc)?, unit_in(bytes, unit)?))
 }
 
@@ -114,7 +125,7 @@ fn clock_at(bytes: &[u8]) -> Result<(bool, TimeUnit), Fault>
 fn integer_at(bytes: &[u8]) -> Result<LogicalType<'_>, Fault>
     ensures { Returns logical result (integer_at bytes.now) }
 {
-    let (width, signed, _rest) = pair_at(bytes, 1, 2)?;
+    let (width, signed, _) = pair_at(bytes, 1, 2)?;
     Ok(LogicalType::Integer(width_in(bytes, width)?, flag_in(bytes, signed)?))
 }
 
@@ -123,8 +134,8 @@ fn integer_at(bytes: &[u8]) -> Result<LogicalType<'_>, Fault>
 fn geometry_at(bytes: &[u8]) -> Result<LogicalType<'_>, Fault>
     ensures { Returns logical result (geometry_at bytes.now) }
 {
-    let (crs, _same, _rest) = pair_at(bytes, 1, 1)?;
-    Ok(LogicalType::Geometry(text_in(crs)?))
+    let (crs, _, _) = pair_at(bytes, 1, 1)?;
+    text_in(crs).map(LogicalType::Geometry)
 }
 
 /// What GEOGRAPHY says.
@@ -132,7 +143,7 @@ fn geometry_at(bytes: &[u8]) -> Result<LogicalType<'_>, Fault>
 fn geography_at(bytes: &[u8]) -> Result<LogicalType<'_>, Fault>
     ensures { Returns logical result (geography_at bytes.now) }
 {
-    let (crs, algorithm, _rest) = pair_at(bytes, 1, 2)?;
+    let (crs, algorithm, _) = pair_at(bytes, 1, 2)?;
     let crs = text_in(crs)?;
     Ok(LogicalType::Geography(crs, name_in(&ALGORITHMS, algorithm, bytes)?))
 }
@@ -142,17 +153,13 @@ fn geography_at(bytes: &[u8]) -> Result<LogicalType<'_>, Fault>
 fn logical_at(bytes: &[u8]) -> Result<LogicalType<'_>, Fault>
     ensures { Returns logical result (logical_at bytes.now) }
 {
-    let (id, member) = union_at(bytes)?;
-    let bytes = value_of(12, member)?;
+    let (id, Place { kind, bytes }) = union_at(bytes)?;
+    if kind != 12 {
+        return Err(broken(Rule::WireType, bytes));
+    }
     match id {
-        7 => {
-            let (utc, unit) = clock_at(bytes)?;
-            Ok(LogicalType::Time(utc, unit))
-        }
-        8 => {
-            let (utc, unit) = clock_at(bytes)?;
-            Ok(LogicalType::Timestamp(utc, unit))
-        }
+        7 => clock_at(bytes).map(|(utc, unit)| LogicalType::Time(utc, unit)),
+        8 => clock_at(bytes).map(|(utc, unit)| LogicalType::Timestamp(utc, unit)),
         10 => integer_at(bytes),
         17 => geometry_at(bytes),
         18 => geography_at(bytes),
@@ -166,7 +173,8 @@ pub fn logical_in(place: Found<'_>) -> Result<Option<LogicalType<'_>>, Fault>
     ensures { Returns (option_map logical) result (logical_in (spots place.entry)) }
 {
     match place {
-        Some(place) => Ok(Some(logical_at(value_of(12, place)?)?)),
         None => Ok(None),
+        Some(Place { kind: 12, bytes }) => logical_at(bytes).map(Some),
+        Some(place) => Err(broken(Rule::WireType, place.bytes)),
     }
 }

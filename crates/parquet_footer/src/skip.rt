@@ -75,8 +75,7 @@ fn struct_past(bytes: &[u8], levels: usize) -> Result<&[u8], Fault>
         if kind == 0 {
             return Ok(value);
         }
-        let behind = value_past(kind, value, levels)?;
-        rest = behind;
+        rest = value_past(kind, value, levels)?;
         last = id;
     }
     Err(broken(Rule::End, rest))

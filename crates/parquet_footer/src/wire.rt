@@ -1,39 +1,33 @@
 //! Values of Thrift's compact protocol at the front of the bytes, each with the bytes behind it.
 ghost use Rattle.std.specs.Prelude.{◌≡◌, ◌<◌, length};
 ghost use Rattle.parquet_footer.specs.Fault.{Returns};
-ghost use Rattle.parquet_footer.specs.Wire.{byte_at, number_at, number_past, count_at, bytes_past, binary_at, text_at, item_type, list_at, map_at, field_at};
+ghost use Rattle.parquet_footer.specs.Wire.{number_at, number_past, count_at, bytes_past, binary_at, text_at, item_type, list_at, map_at, field_at};
 
-use crate::fault::{Fault, Rule, broken, ensure};
-
-/// A byte.
-#[inline(always)]
-pub fn byte_at(bytes: &[u8]) -> Result<(u8, &[u8]), Fault>
-    ensures { Returns (λ x. (x.0, x.1.now)) result (byte_at bytes.now) }
-{
-    match bytes {
-        [] => Err(broken(Rule::End, bytes)),
-        [byte, rest @ ..] => Ok((*byte, rest)),
-    }
-}
+use crate::fault::{Fault, Rule, broken};
 
 /// A number in at most so many bytes.
 #[tactic(auto, unfolding(crate::specs::Wire::number_at))]
 pub fn number_at(bytes: &[u8], most: u32) -> Result<(u32, &[u8]), Fault>
     ensures { Returns (λ x. (x.0, x.1.now)) result (number_at most bytes.now) }
 {
-    match bytes {
-        [] => Err(broken(Rule::End, bytes)),
-        [byte, rest @ ..] if *byte < 128 => Ok((*byte as u32, rest)),
-        [byte, rest @ ..] => {
-            ensure(most > 1, Rule::Number, bytes)?;
-            let (high, rest) = number_at(rest, most - 1)?;
-            ensure(high < 0x200_0000, Rule::Number, bytes)?;
-            Ok(((*byte as u32 - 128) + 128 * high, rest))
-        }
+    let Some((byte, rest)) = bytes.split_first() else {
+        return Err(broken(Rule::End, bytes));
+    };
+    if *byte < 128 {
+        return Ok((*byte as u32, rest));
     }
+    if most <= 1 {
+        return Err(broken(Rule::Number, bytes));
+    }
+    let (high, rest) = number_at(rest, most - 1)?;
+    if high >= 0x200_0000 {
+        return Err(broken(Rule::Number, bytes));
+    }
+    Ok(((*byte as u32 - 128) + 128 * high, rest))
 }
 
 /// Passes over a number in at most so many bytes, one at least.
+#[tactic(auto, unfolding(crate::specs::Wire::number_past))]
 #[inline(always)]
 pub fn number_past(bytes: &[u8], most: u32) -> Result<&[u8], Fault>
     requires { 0 < most }
@@ -41,15 +35,17 @@ pub fn number_past(bytes: &[u8], most: u32) -> Result<&[u8], Fault>
 {
     let mut rest = bytes;
     'groups: for i in 1..most {
-        let (byte, behind) = byte_at(rest)?;
-        if byte < 128 {
-            return Ok(behind);
+        match rest.split_first() {
+            None => return Err(broken(Rule::End, rest)),
+            Some((byte, behind)) if *byte < 128 => return Ok(behind),
+            Some((_, behind)) => rest = behind,
         }
-        rest = behind;
     }
-    let (byte, behind) = byte_at(rest)?;
-    ensure(byte < 128, Rule::Number, rest)?;
-    Ok(behind)
+    match rest.split_first() {
+        None => Err(broken(Rule::End, rest)),
+        Some((byte, behind)) if *byte < 128 => Ok(behind),
+        Some(_) => Err(broken(Rule::Number, rest)),
+    }
 }
 
 /// A number in zigzag that is not negative.
@@ -59,7 +55,9 @@ pub fn count_at(bytes: &[u8]) -> Result<(u32, &[u8]), Fault>
     ensures { Returns (λ x. (x.0, x.1.now)) result (count_at bytes.now) }
 {
     let (number, rest) = number_at(bytes, 5)?;
-    ensure(number % 2 == 0, Rule::Negative, bytes)?;
+    if number % 2 != 0 {
+        return Err(broken(Rule::Negative, bytes));
+    }
     Ok((number / 2, rest))
 }
 
@@ -68,7 +66,9 @@ pub fn count_at(bytes: &[u8]) -> Result<(u32, &[u8]), Fault>
 pub fn bytes_past(bytes: &[u8], count: usize) -> Result<&[u8], Fault>
     ensures { Returns (λ x. x.now) result (bytes_past count bytes.now) }
 {
-    ensure(count <= bytes.len(), Rule::End, bytes)?;
+    if count > bytes.len() {
+        return Err(broken(Rule::End, bytes));
+    }
     Ok(&bytes[count..])
 }
 
@@ -79,8 +79,10 @@ pub fn binary_at(bytes: &[u8]) -> Result<(&[u8], &[u8]), Fault>
 {
     let (count, rest) = number_at(bytes, 5)?;
     let count = count as usize;
-    ensure(count <= rest.len(), Rule::Length, bytes)?;
-    Ok((&rest[..count], &rest[count..]))
+    if count > rest.len() {
+        return Err(broken(Rule::Length, bytes));
+    }
+    Ok(rest.split_at(count))
 }
 
 /// A text.
@@ -88,7 +90,7 @@ pub fn binary_at(bytes: &[u8]) -> Result<(&[u8], &[u8]), Fault>
 pub fn text_at(bytes: &[u8]) -> Result<&str, Fault>
     ensures { Returns (λ x. x.now) result (text_at bytes.now) }
 {
-    let (text, _rest) = binary_at(bytes)?;
+    let (text, _) = binary_at(bytes)?;
     match str::from_utf8(text) {
         Ok(text) => Ok(text),
         Err(_) => Err(broken(Rule::Utf8, bytes)),
@@ -107,14 +109,18 @@ fn item_type(kind: u8) -> u8
 pub fn list_at(bytes: &[u8]) -> Result<(u8, u32, &[u8]), Fault>
     ensures { Returns (λ x. (x.0, x.1, x.2.now)) result (list_at bytes.now) }
 {
-    let (head, rest) = byte_at(bytes)?;
-    let (count, rest) = if head < 240 {
-        ((head / 16) as u32, rest)
+    let Some((head, rest)) = bytes.split_first() else {
+        return Err(broken(Rule::End, bytes));
+    };
+    let (count, rest) = if *head < 240 {
+        ((*head / 16) as u32, rest)
     } else {
         number_at(rest, 5)?
     };
-    ensure(count as usize <= rest.len(), Rule::Length, bytes)?;
-    Ok((item_type(head % 16), count, rest))
+    if count as usize > rest.len() {
+        return Err(broken(Rule::Length, bytes));
+    }
+    Ok((item_type(*head % 16), count, rest))
 }
 
 /// The head of a map: the types of its keys and values, how many pairs they are, and the bytes behind it.
@@ -126,9 +132,13 @@ pub fn map_at(bytes: &[u8]) -> Result<(u8, u8, u32, &[u8]), Fault>
     if count == 0 {
         return Ok((3, 3, 0, rest));
     }
-    let (types, rest) = byte_at(rest)?;
-    ensure(count as usize <= rest.len(), Rule::Length, bytes)?;
-    Ok((item_type(types / 16), item_type(types % 16), count, rest))
+    let Some((types, rest)) = rest.split_first() else {
+        return Err(broken(Rule::End, rest));
+    };
+    if count as usize > rest.len() {
+        return Err(broken(Rule::Length, bytes));
+    }
+    Ok((item_type(*types / 16), item_type(*types % 16), count, rest))
 }
 
 /// The head of a field behind a field of that id: its id, its type, which is 0 at the end of a struct, and the
@@ -138,17 +148,23 @@ pub fn map_at(bytes: &[u8]) -> Result<(u8, u8, u32, &[u8]), Fault>
 pub fn field_at(last: u16, bytes: &[u8]) -> Result<(u16, u8, &[u8]), Fault>
     ensures { Returns (λ x. (x.0, x.1, x.2.now)) result (field_at last bytes.now) }
 {
-    let (head, rest) = byte_at(bytes)?;
-    if head == 0 {
+    let Some((head, rest)) = bytes.split_first() else {
+        return Err(broken(Rule::End, bytes));
+    };
+    if *head == 0 {
         return Ok((last, 0, rest));
     }
-    ensure(head % 16 != 0, Rule::WireType, bytes)?;
-    let more = head / 16;
+    if *head % 16 == 0 {
+        return Err(broken(Rule::WireType, bytes));
+    }
+    let more = *head / 16;
     let (id, behind) = if more == 0 {
         count_at(rest)?
     } else {
         (last as u32 + more as u32, rest)
     };
-    ensure(id < 32768, Rule::FieldId, rest)?;
-    Ok((id as u16, head % 16, behind))
+    if id >= 32768 {
+        return Err(broken(Rule::FieldId, rest));
+    }
+    Ok((id as u16, *head % 16, behind))
 }

@@ -1,11 +1,11 @@
-use Rattle.std.proofs.Common.{arith, ◌≡◌, ℕ, ◌++◌, ◌∷◌, [], List, Ok, Err, map, Vec, Global, sym, ◌∙◌}
+use Rattle.std.proofs.Common.{arith, ◌≡◌, ℕ, ◌++◌, ◌∷◌, [], List, Ok, Err, map, Vec, Global, refl, sym, ◌∙◌}
 use Rattle.std.proofs.lemmas.List.{map_push}
 use Rattle.parquet_footer.specs.Element.{Element, element}
 use Rattle.parquet_columns.specs.declared.nodes.Node.{Node}
-use Rattle.parquet_columns.specs.Nodes.{NodeTree, node_tree}
-use Rattle.parquet_columns.specs.Columns.{head_tree, head_at, nodes_by, node_at}
+use Rattle.parquet_columns.specs.Nodes.{NodeTree, shape_tree, node_tree}
+use Rattle.parquet_columns.specs.Columns.{head_tree, head_at, finished, nodes_by, node_at}
 use Rattle.parquet_columns.specs.declared.fault.ColumnsError.TheVariants.{Broken}
-use Rattle.parquet_columns.proofs.Walks.{said, too_deep, no_head, nodes_fail, finish_fails, is_node, fails, goes_on, is_done}
+use Rattle.parquet_columns.proofs.Walks.{said, first_fails, too_deep, no_head, nodes_fail, finish_fails, is_node, fails, goes_on, is_done}
 use Rattle.parquet_columns.proofs.columns.+read.Goals as goal
 
 -- what the two calls return, as their contracts see it
@@ -31,18 +31,20 @@ read_node-returns-in_err-below t c =
     said one (node_at c.args.levels es c.args.at) c.from_residual-in_err-below.result c.in_err-below.field-0.0 (grind arith)
     (nodes_fail es c.args.at (head_tree c.in_ok-head.head) led c.args.levels (omega arith) _ c.children_of-count.ensures several one _ c.in_err-below.ensures)
 
-pub read_node-returns-in_err-node : goal.read_node-returns-in_err-node
-read_node-returns-in_err-node t c =
+pub read_node-returns-in_err-shape : goal.read_node-returns-in_err-shape
+unfolding finished
+read_node-returns-in_err-shape t c =
     let es : List Element = map element c.args.elements.now in
     let led : head_at es c.args.at ≡ Ok (head_tree c.in_ok-head.head) = sym c.in_ok-head.ensures.is in
-    said one (node_at c.args.levels es c.args.at) c.from_residual-in_err-node.result c.in_err-node.field-0.0 (grind arith)
-    (finish_fails es c.args.at (head_tree c.in_ok-head.head) led c.args.levels (omega arith) _ c.children_of-count.ensures _ c.in_ok-below.ensures node_tree one _ c.in_err-node.ensures)
+    said one (node_at c.args.levels es c.args.at) c.from_residual-in_err-shape.result c.in_err-shape.field-0.0 (grind arith)
+    (finish_fails es c.args.at (head_tree c.in_ok-head.head) led c.args.levels (omega arith) _ c.children_of-count.ensures _ c.in_ok-below.ensures node_tree one _ (first_fails shape_tree node_tree _ _ _ c.in_err-shape.ensures))
 
 pub read_node-returns : goal.read_node-returns
+unfolding finished
 read_node-returns t c =
     let es : List Element = map element c.args.elements.now in
     let led : head_at es c.args.at ≡ Ok (head_tree c.in_ok-head.head) = sym c.in_ok-head.ensures.is in
-    is_node es c.args.at (head_tree c.in_ok-head.head) led c.args.levels (omega arith) _ c.children_of-count.ensures _ c.in_ok-below.ensures _ c.in_ok-node.ensures
+    is_node es c.args.at (head_tree c.in_ok-head.head) led c.args.levels (omega arith) _ c.children_of-count.ensures _ c.in_ok-below.ensures _ (rw c.in_ok-shape.ensures refl)
 
 pub read_nodes-returns-in_err-node : goal.read_nodes-returns-in_err-node
 read_nodes-returns-in_err-node t c =

@@ -19,14 +19,14 @@ struct_past-returns-then-kind-eq0 t c =
     let f = c.in_ok-id in
     struct_is v bytes f.value.now (ended (over v) (length bytes) l.i l.last tt l.rest.now _ l.invariant c.fields-test.true f.id f.kind f.value.now f.ensures c.if-kind-eq0.true)
 
-pub struct_past-returns-in_err-behind : goal.struct_past-returns-in_err-behind
-struct_past-returns-in_err-behind t c =
+pub struct_past-returns-in_err-rest : goal.struct_past-returns-in_err-rest
+struct_past-returns-in_err-rest t c =
     let l = c.fields in
     let bytes = c.args.bytes.now in
     let v = value_past c.args.levels in
     let f = c.in_ok-id in
-    told (λ x. x.now) _ c.from_residual-in_err-behind.result c.in_err-behind.field-0.0 (grind arith)
-    (struct_fails v bytes _ (no_value (over v) (length bytes) l.i l.last tt l.rest.now _ l.invariant c.fields-test.true f.id f.kind f.value.now f.ensures (omega arith) _ (over_fails v f.value.now f.id f.kind _ c.in_err-behind.ensures)))
+    told (λ x. x.now) _ c.from_residual-in_err-rest.result c.in_err-rest.field-0.0 (grind arith)
+    (struct_fails v bytes _ (no_value (over v) (length bytes) l.i l.last tt l.rest.now _ l.invariant c.fields-test.true f.id f.kind f.value.now f.ensures (omega arith) _ (over_fails v f.value.now f.id f.kind _ c.in_err-rest.ensures)))
 
 pub struct_past-fields-preserved : goal.struct_past-fields-preserved
 struct_past-fields-preserved t c =
@@ -34,7 +34,7 @@ struct_past-fields-preserved t c =
     let bytes = c.args.bytes.now in
     let v = value_past c.args.levels in
     let f = c.in_ok-id in
-    goes_on (over v) (length bytes) l.i l.last tt l.rest.now _ l.invariant c.fields-test.true f.id f.kind f.value.now f.ensures (omega arith) tt c.in_ok-behind.behind.now (over_is v f.value.now f.id f.kind _ c.in_ok-behind.ensures)
+    goes_on (over v) (length bytes) l.i l.last tt l.rest.now _ l.invariant c.fields-test.true f.id f.kind f.value.now f.ensures (omega arith) tt _ (over_is v f.value.now f.id f.kind _ c.in_ok-rest.ensures)
 
 pub struct_past-returns : goal.struct_past-returns
 struct_past-returns t c =
