@@ -5,8 +5,7 @@ ghost use Rattle.geoarrow_columns.specs.Same.{SameColumn};
 use crate::check::{Column, ColumnFault};
 use geoarrow_schema::laws::type_test_is_exact;
 
-/// A law: `==` returns true for two columns exactly if the variant is the same, and its type, by kind and metadata,
-/// or its fault.
+/// A law: `==` returns true for two columns exactly if the variant is the same, and its fault or its type's kind and metadata.
 #[tactic(auto, using(crate::proofs::Equality::column_test))]
 pub fn equality_is_exact(one: &Column, other: &Column) -> bool
     ensures { IsTrue result ↔ SameColumn one.now other.now }

@@ -121,8 +121,7 @@ impl NativeShape for GeometryCollection {
     ghost offset_is = { refl };
 }
 
-/// Collections (GeoArrow, "GeometryCollection"): each value is a list of geometries of the other kinds, all of one
-/// coordinate type and dimension.
+/// Collections (GeoArrow, "GeometryCollection"): each value is a list of the other kinds, in one coordinate type and dimension.
 ///
 /// ```rust
 /// let metadata = Arc::new(alloc, Metadata::default())?;
@@ -135,8 +134,7 @@ pub type GeometryCollectionType = NativeType<GeometryCollection>;
 
 /// Laws of the shapes, for the crates above.
 pub mod laws {
-    use super::{GeometryCollection, MultiLineString, MultiPoint, MultiPolygon};
-    use geoarrow_native::NativeShape;
+    use super::{GeometryCollection, MultiLineString, MultiPoint, MultiPolygon, NativeShape};
 
     /// A law: the constants `NAME` of multipoints, multilinestrings, multipolygons and collections are their extension names.
     pub fn names_of_shapes() -> (&'static str, &'static str, &'static str, &'static str)

@@ -2,8 +2,7 @@
 ghost use Rattle.std.specs.Prelude.{◌≡◌};
 ghost use Rattle.geoarrow_layout.specs.declared.encodings.Kind.TheVariants as kinds;
 ghost use Rattle.geoarrow_layout.specs.declared.names.ExtensionName.TheVariants as names;
-ghost use Rattle.geoarrow_layout.specs.Shapes.{BoxShape};
-ghost use Rattle.geoarrow_layout.specs.OneShape.{box_shape_same};
+ghost use Rattle.geoarrow_layout.specs.Cited.{BoxShape, box_shape_same};
 ghost use Rattle.geoarrow_native.specs.Agree.{same_box};
 
 use crate::column::{ColumnEncoding, ColumnType, KindEncoding};
@@ -92,10 +91,8 @@ impl ColumnEncoding for Rect {
     }
 
     fn read(alloc: Global, data_type: &DataType) -> Result<Rect, ArrowError> {
-        match parse_box(data_type) {
-            Ok(dimension) => Ok(Rect { dimension }),
-            Err(fault) => Err(fault.into_arrow_error(alloc)),
-        }
+        let dimension = parse_box(data_type).map_err(|fault| fault.into_arrow_error(alloc))?;
+        Ok(Rect { dimension })
     }
 
     fn difference(&self, other: &Rect) -> Option<&'static str> {

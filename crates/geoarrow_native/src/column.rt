@@ -1,11 +1,14 @@
 //! The type of a column, written once for all encodings.
-ghost use Rattle.std.specs.Prelude.{◌≡◌, IfOk, IfErr};
+ghost use Rattle.std.proofs.Common.{◌≡◌, ◌⊎◌, ◌↔◌, None, IfOk, IfErr, MatchResult, refl, sym, subst};
 ghost use Rattle.std.specs.Arc.{arc_value};
-ghost use Rattle.arrow_values.specs.View.{tree};
-ghost use Rattle.arrow_values.specs.Errors.{IsMemory};
-ghost use Rattle.geoarrow_layout.specs.Layouts.{layout};
-ghost use Rattle.geoarrow_meta.specs.Written.{meta_value, normal, IsReadBack, NestsWithin};
-ghost use Rattle.geoarrow_native.specs.Column.{ReadsAs, written_field};
+ghost use Rattle.geoarrow_layout.specs.declared.encodings.Kind.{Kind};
+ghost use Rattle.geoarrow_layout.specs.declared.names.ExtensionName.{ExtensionName};
+ghost use Rattle.geoarrow_layout.specs.Cited.{IsMemory, Tree, layout, name_text as text_of, tree};
+ghost use Rattle.geoarrow_meta.specs.declared.metadata.Metadata.{Metadata as MetadataValue};
+ghost use Rattle.geoarrow_meta.specs.Laws.{text_denotes_one};
+ghost use Rattle.geoarrow_meta.specs.Read.{DenotesMetadata, TextRefusedAs};
+ghost use Rattle.geoarrow_meta.specs.Written.{meta_value, normal, printed as printed_text, IsReadBack, NestsWithin};
+ghost use Rattle.geoarrow_native.specs.Column.{Agrees, IsLayoutRefusal, ReadsAs, RefusesOther, written_field};
 
 use crate::write::column_field;
 use arrow_values::{ArrowError, DataType, ExtensionType, Field};
@@ -14,21 +17,11 @@ use geoarrow_meta::Metadata;
 use std::alloc::{AllocError, Global};
 use std::sync::Arc;
 
-/// How the geometries of a column are encoded: the parameter of `ColumnType`. A value holds the coordinate type and the
-/// dimension, as far as the encoding has them.
+/// How the geometries of a column are encoded: the parameter of `ColumnType`. A value holds coordinate type and dimension, if any.
 pub trait ColumnEncoding: Copy {
-    ghost use Rattle.std.specs.Prelude.{◌≡◌, ◌⊎◌, ◌↔◌, None, IfErr, MatchResult};
-    ghost use Rattle.arrow_values.specs.Tree.{Tree};
-    ghost use Rattle.arrow_values.specs.View.{tree};
-    ghost use Rattle.arrow_values.specs.Errors.{IsMemory};
-    ghost use Rattle.geoarrow_layout.specs.declared.names.ExtensionName.{ExtensionName};
-    ghost use Rattle.geoarrow_layout.specs.Kinds.{name_text};
-    ghost use Rattle.geoarrow_native.specs.Column.{Agrees, IsLayoutRefusal};
-
     /// The extension name.
     const NAME: &'static str;
 
-    // The extension name.
     ghost name: { ExtensionName };
 
     // A tree is accepted as that of a column in this encoding.
@@ -36,7 +29,7 @@ pub trait ColumnEncoding: Copy {
 
     /// `NAME`.
     fn encoding_name() -> &'static str
-        ensures { result.now ≡ name_text name };
+        ensures { result.now ≡ text_of name };
 
     /// The encoding as which a data type is accepted. Errs where it is accepted as none, with the error of the fault that
     /// the data type has under the extension name.
@@ -55,9 +48,6 @@ pub trait ColumnEncoding: Copy {
 
 /// An encoding that decides the data type of its columns.
 pub trait KindEncoding: ColumnEncoding {
-    ghost use Rattle.std.specs.Prelude.{◌≡◌};
-    ghost use Rattle.geoarrow_layout.specs.declared.encodings.Kind.{Kind};
-
     ghost kind_of: { Self → Kind };
 
     /// The kind of the columns.
@@ -111,8 +101,7 @@ impl<E: ColumnEncoding> ColumnType<E> {
 }
 
 impl<E: KindEncoding> ColumnType<E> {
-    /// The data type of a column of this type (GeoArrow, "Native encoding", "Box", "Geometry"). Errs only when out of
-    /// memory.
+    /// The data type of a column of this type (GeoArrow, "Native encoding", "Box", "Geometry"). Errs only when out of memory.
     ///
     /// ```rust
     /// let metadata = Arc::new(alloc, Metadata::default())?;
@@ -145,14 +134,6 @@ impl<E: KindEncoding> ColumnType<E> {
 }
 
 impl<E: ColumnEncoding> ExtensionType for ColumnType<E> {
-    ghost use Rattle.std.proofs.Common.{refl, sym, subst};
-    ghost use Rattle.geoarrow_layout.specs.Kinds.{name_text as text_of};
-    ghost use Rattle.geoarrow_meta.specs.Written.{printed as printed_text};
-    ghost use Rattle.geoarrow_meta.specs.Read.{DenotesMetadata, TextRefusedAs};
-    ghost use Rattle.geoarrow_meta.specs.declared.metadata.Metadata.{Metadata as MetadataValue};
-    ghost use Rattle.geoarrow_meta.specs.Laws.{text_denotes_one};
-    ghost use Rattle.geoarrow_native.specs.Column.{IsLayoutRefusal, RefusesOther};
-
     const NAME: &'static str = E::NAME;
 
     type Metadata = Arc<Metadata>;

@@ -5,8 +5,7 @@ ghost use Rattle.geoarrow_layout.specs.declared.kinds.CoordType.TheVariants.{Sep
 ghost use Rattle.geoarrow_meta.specs.Read.{empty};
 ghost use Rattle.geoarrow_layout.specs.declared.encodings.Kind.TheVariants as kinds;
 ghost use Rattle.geoarrow_layout.specs.declared.names.ExtensionName.TheVariants as names;
-ghost use Rattle.geoarrow_layout.specs.Shapes as shapes;
-ghost use Rattle.geoarrow_layout.specs.OneShape.{geometry_same};
+ghost use Rattle.geoarrow_layout.specs.Cited.{Geometry as IsOfGeometry, geometry_same};
 ghost use Rattle.geoarrow_native.specs.Agree.{same_geometry};
 
 use crate::column::{ColumnEncoding, ColumnType, KindEncoding};
@@ -23,8 +22,7 @@ pub struct Geometry {
     pub(crate) coord_type: CoordType,
 }
 
-/// Geometries of any kind and dimension (GeoArrow, "Geometry"): each value is a member of a union, and all have the same
-/// coordinate type.
+/// Geometries of any kind and dimension (GeoArrow, "Geometry"), of one coordinate type: each value is a member of a union.
 ///
 /// ```rust
 /// let geometries = GeometryType::try_default(alloc)?.with_coord_type(CoordType::Interleaved);
@@ -83,7 +81,7 @@ impl ColumnEncoding for Geometry {
 
     ghost name = { names.Geometry };
 
-    ghost Accepts = { λ t e. shapes.Geometry t e.coord_type };
+    ghost Accepts = { λ t e. IsOfGeometry t e.coord_type };
 
     ghost accepts_one = { λ t a b h k. same_geometry a b (geometry_same t a.coord_type b.coord_type h k) };
 
@@ -92,10 +90,8 @@ impl ColumnEncoding for Geometry {
     }
 
     fn read(alloc: Global, data_type: &DataType) -> Result<Geometry, ArrowError> {
-        match parse_geometry(data_type) {
-            Ok(coord_type) => Ok(Geometry { coord_type }),
-            Err(fault) => Err(fault.into_arrow_error(alloc)),
-        }
+        let coord_type = parse_geometry(data_type).map_err(|fault| fault.into_arrow_error(alloc))?;
+        Ok(Geometry { coord_type })
     }
 
     fn difference(&self, other: &Geometry) -> Option<&'static str> {

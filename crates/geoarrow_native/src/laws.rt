@@ -4,9 +4,8 @@ ghost use Rattle.std.specs.Prelude.{◌≡◌, ◌↔◌, Bool, IsTrue, pos};
 ghost use Rattle.geoarrow_layout.specs.declared.encodings.Kind.{Kind};
 ghost use Rattle.geoarrow_layout.specs.declared.encodings.NativeKind.TheVariants as kinds;
 ghost use Rattle.geoarrow_layout.specs.declared.names.ExtensionName.TheVariants as names;
-ghost use Rattle.geoarrow_layout.specs.Kinds.{name_text, type_id_of};
+ghost use Rattle.geoarrow_layout.specs.Cited.{Text, name_text, type_id_of};
 ghost use Rattle.geoarrow_meta.specs.declared.metadata.Metadata.{Metadata};
-ghost use Rattle.arrow_values.specs.Tree.{Text};
 ghost use Rattle.geoarrow_meta.specs.Written.{meta_value, normal, IsReadBack};
 ghost use Rattle.geoarrow_native.specs.Column.{ReadsAs, written_field};
 

@@ -3,8 +3,7 @@ ghost use Rattle.std.specs.Prelude.{◌≡◌};
 ghost use Rattle.geoarrow_layout.specs.declared.kinds.CoordType.TheVariants.{Separated};
 ghost use Rattle.geoarrow_layout.specs.declared.encodings.Kind.TheVariants as kinds;
 ghost use Rattle.geoarrow_layout.specs.declared.names.ExtensionName.TheVariants as names;
-ghost use Rattle.geoarrow_layout.specs.Shapes.{Native as IsOfKind};
-ghost use Rattle.geoarrow_layout.specs.OneShape.{any_native_same};
+ghost use Rattle.geoarrow_layout.specs.Cited.{Native as IsOfKind, any_native_same};
 ghost use Rattle.geoarrow_native.specs.Agree.{same_native};
 
 use crate::column::{ColumnEncoding, ColumnType, KindEncoding};
@@ -17,8 +16,7 @@ use std::fmt;
 use std::marker::PhantomData;
 use std::sync::Arc;
 
-/// The native encoding of a shape (GeoArrow, "Native encoding"): geometries of one kind, with one coordinate type and one
-/// dimension.
+/// The native encoding of a shape (GeoArrow, "Native encoding"): geometries of one kind, coordinate type and dimension.
 #[derive(Drop)]
 #[derive_where(Clone, Copy, PartialEq, Eq, Hash)]
 pub struct Native<S> {
@@ -47,25 +45,23 @@ impl<S: NativeShape> ColumnType<Native<S>> {
     }
 
     /// The type with that coordinate type, otherwise unchanged.
-    pub fn with_coord_type(self, coord_type: CoordType) -> ColumnType<Native<S>>
+    pub fn with_coord_type(mut self, coord_type: CoordType) -> ColumnType<Native<S>>
         ensures coord_type { result.encoding.coord_type ≡ coord_type }
         ensures dimension { result.encoding.dimension ≡ self.encoding.dimension }
         ensures metadata { result.metadata ≡ self.metadata }
     {
-        let mut encoding = self.encoding;
-        encoding.coord_type = coord_type;
-        ColumnType { encoding, ..self }
+        self.encoding.coord_type = coord_type;
+        self
     }
 
     /// The type with that dimension, otherwise unchanged.
-    pub fn with_dimension(self, dimension: Dimension) -> ColumnType<Native<S>>
+    pub fn with_dimension(mut self, dimension: Dimension) -> ColumnType<Native<S>>
         ensures coord_type { result.encoding.coord_type ≡ self.encoding.coord_type }
         ensures dimension { result.encoding.dimension ≡ dimension }
         ensures metadata { result.metadata ≡ self.metadata }
     {
-        let mut encoding = self.encoding;
-        encoding.dimension = dimension;
-        ColumnType { encoding, ..self }
+        self.encoding.dimension = dimension;
+        self
     }
 
     /// How the coordinates are stored.
@@ -116,14 +112,13 @@ impl<S: NativeShape> ColumnEncoding for Native<S> {
     }
 
     fn read(alloc: Global, data_type: &DataType) -> Result<Native<S>, ArrowError> {
-        match parse_native(S::KIND, data_type) {
-            Ok((coord_type, dimension)) => Ok(Native {
-                coord_type,
-                dimension,
-                shape: PhantomData,
-            }),
-            Err(fault) => Err(fault.into_arrow_error(alloc)),
-        }
+        let found = parse_native(S::KIND, data_type);
+        let (coord_type, dimension) = found.map_err(|fault| fault.into_arrow_error(alloc))?;
+        Ok(Native {
+            coord_type,
+            dimension,
+            shape: PhantomData,
+        })
     }
 
     fn difference(&self, other: &Native<S>) -> Option<&'static str> {

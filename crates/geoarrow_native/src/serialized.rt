@@ -1,8 +1,10 @@
 //! The serialized encodings, written once for well-known binary and text.
-ghost use Rattle.std.specs.Prelude.{◌≡◌, IfOk};
+ghost use Rattle.std.specs.Prelude.{◌≡◌, IfOk, IfErr, refl};
 ghost use Rattle.std.specs.Arc.{arc_value};
+ghost use Rattle.geoarrow_layout.specs.declared.encodings.Width.{Width};
+ghost use Rattle.geoarrow_layout.specs.declared.names.ExtensionName.{ExtensionName};
 ghost use Rattle.geoarrow_layout.specs.declared.names.ExtensionName.TheVariants as names;
-ghost use Rattle.geoarrow_layout.specs.Shapes.{IsBytes, IsText};
+ghost use Rattle.geoarrow_layout.specs.Cited.{FaultAt, HasFault, IsBytes, IsText, Tree, YieldsOne, name_text, tree};
 ghost use Rattle.geoarrow_meta.specs.Read.{empty};
 
 use crate::column::{ColumnEncoding, ColumnType};
@@ -16,22 +18,12 @@ use std::sync::Arc;
 
 /// How geometries are serialized: the parameter of `Serialized`. Each is an empty struct.
 pub trait Encoding {
-    ghost use Rattle.std.specs.Prelude.{◌≡◌, IfErr};
-    ghost use Rattle.arrow_values.specs.Tree.{Tree};
-    ghost use Rattle.arrow_values.specs.View.{tree};
-    ghost use Rattle.geoarrow_layout.specs.declared.encodings.Width.{Width};
-    ghost use Rattle.geoarrow_layout.specs.declared.names.ExtensionName.{ExtensionName};
-    ghost use Rattle.geoarrow_layout.specs.Kinds.{name_text};
-    ghost use Rattle.geoarrow_layout.specs.Shapes.{YieldsOne};
-    ghost use Rattle.geoarrow_layout.specs.FaultAt.{HasFault, FaultAt};
-
     /// The extension name.
     const NAME: &'static str;
 
     /// The name of the type, as `Debug` prints it.
     const TYPE: &'static str;
 
-    // The extension name.
     ghost name: { ExtensionName };
 
     // The data type holds geometries in this encoding, in a width.
@@ -145,9 +137,6 @@ impl<E: Encoding> fmt::Debug for ColumnType<Serialized<E>> {
 }
 
 impl<E: Encoding> ColumnEncoding for Serialized<E> {
-    ghost use Rattle.std.specs.Prelude.{refl};
-    ghost use Rattle.geoarrow_layout.specs.declared.encodings.Width.{Width};
-
     const NAME: &'static str = E::NAME;
 
     ghost name = { E.name };
@@ -161,11 +150,9 @@ impl<E: Encoding> ColumnEncoding for Serialized<E> {
     }
 
     fn read(alloc: Global, data_type: &DataType) -> Result<Serialized<E>, ArrowError> {
+        E::parse(data_type).map_err(|fault| fault.into_arrow_error(alloc))?;
         let encoding = PhantomData;
-        match E::parse(data_type) {
-            Ok(_) => Ok(Serialized { encoding }),
-            Err(fault) => Err(fault.into_arrow_error(alloc)),
-        }
+        Ok(Serialized { encoding })
     }
 
     fn difference(&self, _other: &Serialized<E>) -> Option<&'static str> {

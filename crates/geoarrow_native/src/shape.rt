@@ -1,17 +1,14 @@
 //! What differs between the native types.
-ghost use Rattle.std.specs.Prelude.{refl, pos};
+ghost use Rattle.std.specs.Prelude.{◌≡◌, ℤ, pos, refl};
+ghost use Rattle.geoarrow_layout.specs.declared.encodings.NativeKind.{NativeKind};
 ghost use Rattle.geoarrow_layout.specs.declared.encodings.NativeKind.TheVariants as kinds;
+ghost use Rattle.geoarrow_layout.specs.declared.names.ExtensionName.TheVariants as names;
+ghost use Rattle.geoarrow_layout.specs.Kinds.{name_text, offset_of};
 
 use geoarrow_layout::{ExtensionName, NativeKind};
 
-/// The shape of a native type: the parameter of `NativeType`. Each shape is an empty struct, which represents a kind of
-/// geometry; it holds no geometry.
+/// The shape of a native type: the parameter of `NativeType`. Each is an empty struct, which represents a kind of geometry.
 pub trait NativeShape {
-    ghost use Rattle.std.specs.Prelude.{◌≡◌, ℤ, pos};
-    ghost use Rattle.geoarrow_layout.specs.declared.encodings.NativeKind.{NativeKind};
-    ghost use Rattle.geoarrow_layout.specs.declared.names.ExtensionName.TheVariants as names;
-    ghost use Rattle.geoarrow_layout.specs.Kinds.{name_text, offset_of};
-
     /// The extension name.
     const NAME: &'static str;
 

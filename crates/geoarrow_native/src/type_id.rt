@@ -1,4 +1,8 @@
 //! The id of a type among the members of a union.
+ghost use Rattle.std.specs.Prelude.{◌≡◌, ℤ, pos, ◌≤ℤ◌, ◌+ℤ◌, ◌*◌};
+ghost use Rattle.geoarrow_layout.specs.declared.kinds.Dimension.{Dimension};
+ghost use Rattle.geoarrow_layout.specs.Kinds.{order_of};
+ghost use Rattle.geoarrow_native.specs.Agree.{within_at};
 
 use crate::column::ColumnType;
 use crate::native::Native;
@@ -14,10 +18,6 @@ use geoarrow_layout::Dimension;
 /// assert_eq!(rt; polygons.geometry_type_id(), 13);
 /// ```
 pub trait GeometryTypeId {
-    ghost use Rattle.std.specs.Prelude.{◌≡◌, ℤ, pos, ◌≤ℤ◌, ◌+ℤ◌, ◌*◌};
-    ghost use Rattle.geoarrow_layout.specs.declared.kinds.Dimension.{Dimension};
-    ghost use Rattle.geoarrow_layout.specs.Kinds.{order_of};
-
     /// The type id in two dimensions: 1 to 7.
     const GEOMETRY_TYPE_OFFSET: i8;
 
@@ -40,8 +40,6 @@ pub trait GeometryTypeId {
 }
 
 impl<S: NativeShape> GeometryTypeId for ColumnType<Native<S>> {
-    ghost use Rattle.geoarrow_native.specs.Agree.{within_at};
-
     const GEOMETRY_TYPE_OFFSET: i8 = S::OFFSET;
 
     ghost GEOMETRY_TYPE_OFFSET = { S.OFFSET };

@@ -1,6 +1,5 @@
 //! How a column is written as a field.
-ghost use Rattle.std.specs.Prelude.{◌≡◌, [], None, IfOk, IfErr, string_bytes};
-ghost use Rattle.std.specs.Option.{option_map};
+ghost use Rattle.std.specs.Prelude.{◌≡◌, [], None, IfOk, IfErr, option_map, string_bytes};
 ghost use Rattle.arrow_values.specs.Errors.{IsMemory};
 ghost use Rattle.arrow_values.specs.Texts.{set_extension};
 ghost use Rattle.arrow_values.specs.View.{texts_of};
@@ -13,10 +12,8 @@ use geoarrow_meta::Metadata;
 use std::alloc::{AllocError, Global};
 use std::collections::BTreeMap;
 
-/// The field of a column of a kind: that name and nullability, the kind's data type, and as its metadata the extension
-/// name and the metadata's text, if there is one (GeoArrow, "Extension types"). It reads back as the kind and the normal
-/// form of the metadata, if `serde_json` reads what it printed, which it does if the CRS value is nested at most 100
-/// levels. Errs only when out of memory.
+/// The field of a column of that kind and metadata, as `ColumnType::to_field` writes it (GeoArrow, "Extension types"): it
+/// reads back as the kind and the normal form of the metadata where that says so. Errs only when out of memory.
 #[tactic(auto, using(crate::proofs::Writing::written_reads))]
 pub fn column_field(
     alloc: Global,

@@ -1,6 +1,5 @@
 -- Why nothing is inferred from a tree, by its summary.
-use Rattle.geoarrow_schema.proofs.Terms.{◌≡◌, ◌∙◌, ◌<◌, ◌≤◌, ℕ, suc, refl, sym, ap, arith, codes, Option, Some, Text, Tree, plain, list, large_list, fixed_size_list}
-use Rattle.geoarrow_schema.proofs.Terms.{struct, uninferred_text, bottom_text}
+use Rattle.geoarrow_schema.proofs.Terms.{◌≡◌, ◌∙◌, ◌<◌, ◌≤◌, ℕ, suc, refl, sym, ap, arith, codes, cond, Option, Some, Text, Tree, plain, list, large_list, fixed_size_list, struct, uninferred_text}
 use Rattle.geoarrow_layout.specs.declared.summary.ListWidth.{ListWidth}
 use Rattle.geoarrow_layout.specs.declared.summary.ListWidth.TheVariants.{List as Lists, LargeList as LargeLists}
 use Rattle.geoarrow_layout.specs.declared.summary.Bottom.{Bottom}
@@ -18,6 +17,11 @@ levels_over (Some LargeLists) (suc n) (large_list name t b m) u some h = refl
 levels_over w n t u some h = absurd (grind arith)
 
 -- below none
+abbrev bottom_text : Bottom → Text
+bottom_text (Struct count names floats) = cond floats (codes "cannot infer: field count") (codes "cannot infer: fields are not all Float64")
+bottom_text (FixedSizeList named size floats) = cond floats (codes "cannot infer: list size") (codes "cannot infer: inner field is not Float64")
+bottom_text _ = other
+
 bottom_says : (w : Option ListWidth) (n : ℕ) (b : Bottom) (u : Tree) → IsBottom IsUnion w n b u → bottom_text b ≡ uninferred_text u
 bottom_says w n (FixedSizeList named size floats) (fixed_size_list name t nullable m z) h = ap (λ x. bottom_text (FixedSizeList named size x)) h.2
 bottom_says w n (Struct count names floats) (struct fs) h = ap (λ x. bottom_text (Struct count names x)) h.2

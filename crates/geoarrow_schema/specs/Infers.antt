@@ -8,8 +8,6 @@ use Rattle.arrow_values.specs.declared.error.GeoArrowError.TheVariants.{Arrow, I
 use Rattle.geoarrow_layout.specs.declared.encodings.NativeKind.TheVariants.{Point}
 use Rattle.geoarrow_layout.specs.declared.encodings.Kind.{Kind}
 use Rattle.geoarrow_layout.specs.declared.encodings.Kind.TheVariants.{Native, Wkb, Wkt}
-use Rattle.geoarrow_layout.specs.declared.summary.Bottom.{Bottom}
-use Rattle.geoarrow_layout.specs.declared.summary.Bottom.TheVariants.{FixedSizeList, Struct}
 use Rattle.geoarrow_layout.specs.Shapes.{IsBytes, IsText}
 use Rattle.geoarrow_layout.specs.Inferred.{Inferred, is_float64, are_float64}
 use Rattle.geoarrow_layout.specs.Layouts.{layout}
@@ -59,12 +57,6 @@ abbrev pub uninferred_text : Tree → Text
 uninferred_text (struct fs) = cond (are_float64 fs) (codes "cannot infer: field count") (codes "cannot infer: fields are not all Float64")
 uninferred_text (fixed_size_list n t b m size) = cond (is_float64 t) (codes "cannot infer: list size") (codes "cannot infer: inner field is not Float64")
 uninferred_text _ = codes "cannot infer: data type"
-
--- so of a tree of that bottom below no lists; only private contracts cite it
-abbrev pub bottom_text : Bottom → Text
-bottom_text (Struct count names all_floats) = cond all_floats (codes "cannot infer: field count") (codes "cannot infer: fields are not all Float64")
-bottom_text (FixedSizeList named size floats) = cond floats (codes "cannot infer: list size") (codes "cannot infer: inner field is not Float64")
-bottom_text _ = codes "cannot infer: data type"
 
 -- the error with which a field without a GeoArrow name is refused: that of its metadata text, if that denotes none; `InvalidGeoArrow` for
 -- its tree, if it denotes one and no kind is inferred from the tree, with the message that says why

@@ -1,11 +1,10 @@
 //! Which type is inferred for a field without a GeoArrow name.
 ghost use Rattle.std.specs.Prelude.{◌≡◌, ◌⊎◌, Some, IfOk};
-ghost use Rattle.arrow_values.specs.View.{tree};
 ghost use Rattle.arrow_values.specs.Texts.{extension_name};
-ghost use Rattle.arrow_values.specs.Errors.{IsGeoMemory};
+ghost use Rattle.geoarrow_layout.specs.Cited.{IsGeoMemory, tree};
 ghost use Rattle.geoarrow_layout.specs.declared.encodings.Kind.{Kind};
 ghost use Rattle.geoarrow_schema.specs.Reads.{HasGeoArrowName};
-ghost use Rattle.geoarrow_schema.specs.Infers.{InferredAs, ReadsOrInfersAlone, InfersNone, uninferred_text, bottom_text, UninferredAs, IsInference, YieldsInferred};
+ghost use Rattle.geoarrow_schema.specs.Infers.{InferredAs, ReadsOrInfersAlone, InfersNone, uninferred_text, UninferredAs, IsInference, YieldsInferred};
 
 use crate::read::read_named;
 use crate::types::GeoArrowType;
@@ -97,16 +96,13 @@ fn inference_error(alloc: Global, field: &Field) -> GeoArrowError
 pub fn infer_kind(data_type: &DataType) -> Option<Kind>
     ensures { YieldsInferred (tree data_type.now) result }
 {
-    match infer_point(data_type) {
-        Some(pair) => Some(Kind::Native(NativeKind::Point, pair.0, pair.1)),
-        None => match parse_wkb(data_type) {
-            Ok(width) => Some(Kind::Wkb(width)),
-            Err(_) => match parse_wkt(data_type) {
-                Ok(width) => Some(Kind::Wkt(width)),
-                Err(_) => None,
-            },
-        },
+    if let Some((coord_type, dimension)) = infer_point(data_type) {
+        return Some(Kind::Native(NativeKind::Point, coord_type, dimension));
     }
+    if let Ok(width) = parse_wkb(data_type) {
+        return Some(Kind::Wkb(width));
+    }
+    parse_wkt(data_type).ok().map(Kind::Wkt)
 }
 
 /// Why a data type is taken for none.
@@ -118,14 +114,7 @@ fn fault_text(data_type: &DataType) -> &'static str
     if 0 < summary.levels {
         return "cannot infer: data type";
     }
-    bottom_text(&summary.bottom)
-}
-
-/// Why a data type of that bottom, below no lists, is taken for none.
-fn bottom_text(bottom: &Bottom) -> &'static str
-    ensures { result.now ≡ bottom_text bottom.now }
-{
-    match bottom {
+    match &summary.bottom {
         Bottom::Struct {
             all_float64: false,
             ..

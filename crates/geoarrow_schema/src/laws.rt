@@ -2,9 +2,8 @@
 ghost use Rattle.geoarrow_schema.specs.declared.types.GeoArrowType.{GeoArrowType};
 ghost use Rattle.std.specs.Arc.{arc_value};
 ghost use Rattle.std.specs.Prelude.{◌≡◌, ◌↔◌, IsTrue};
-ghost use Rattle.arrow_values.specs.Tree.{FieldTree};
 ghost use Rattle.geoarrow_layout.specs.declared.names.ExtensionName.TheVariants as names;
-ghost use Rattle.geoarrow_layout.specs.Kinds.{name_text};
+ghost use Rattle.geoarrow_layout.specs.Cited.{FieldTree, name_text};
 ghost use Rattle.geoarrow_meta.specs.Read.{empty};
 ghost use Rattle.geoarrow_schema.specs.contracts.types.GeoArrowTypePartialEq.TheImpl as types;
 ghost use Rattle.geoarrow_schema.specs.Types.{kind_of, meta_of, SameType};
@@ -50,8 +49,7 @@ pub fn written_is_inferred()
         → meta_of g ≡ empty → Infers f g }
 {}
 
-/// A law: `==` returns true for two types of geometries of any kind exactly if coordinate type and metadata are
-/// equal.
+/// A law: `==` returns true for two types of geometries of any kind exactly if coordinate type and metadata are equal.
 pub fn geometry_equality_is_exact(one: &GeometryType, other: &GeometryType) -> bool
     ensures { IsTrue result ↔ ((one.now.encoding.coord_type ≡ other.now.encoding.coord_type)
         × (arc_value one.now.metadata ≡ arc_value other.now.metadata)) }
@@ -96,8 +94,7 @@ pub fn equality_is_exact(one: &GeoArrowType, other: &GeoArrowType) -> bool
     one == other
 }
 
-/// A law: the constants `NAME` of boxes, geometries of any kind, well-known binary and well-known text are their extension
-/// names.
+/// A law: the constants `NAME` of boxes, geometries of any kind, well-known binary and text are their extension names.
 pub fn names_of_types() -> (&'static str, &'static str, &'static str, &'static str)
     ensures boxes { result.0.now ≡ name_text names.Rect }
     ensures geometries { result.1.now ≡ name_text names.Geometry }

@@ -14,8 +14,7 @@
 //! 5. What `GeoArrowType::to_field` writes reads back as the normal form of the type, if `serde_json` reads what it
 //!    printed, which it does if the CRS value is nested at most 100 levels.
 //!
-//! In the examples of the docs `alloc` is the allocator and `rt` the runtime that a test is given; each example is part
-//! of a test or of the crate `uses`.
+//! In the examples `alloc` is the allocator and `rt` the runtime of a test; each is part of a test or of the crate `uses`.
 #![tactic(auto)]
 
 mod from;

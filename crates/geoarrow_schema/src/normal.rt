@@ -1,8 +1,6 @@
 //! The normal form of a type, and of a field that holds one.
 ghost use Rattle.std.specs.Prelude.{◌≡◌, ◌↔◌, Ok, None, IsOk, IfOk, IfErr, IfSome, IsTrue};
-ghost use Rattle.arrow_values.specs.Errors.{IsMemory};
-ghost use Rattle.geoarrow_layout.specs.Shapes.{Accepted};
-ghost use Rattle.geoarrow_layout.specs.Layouts.{layout};
+ghost use Rattle.geoarrow_layout.specs.Cited.{Accepted, IsMemory, layout};
 ghost use Rattle.geoarrow_meta.specs.Written.{normal};
 ghost use Rattle.geoarrow_schema.specs.declared.types.GeoArrowType.{GeoArrowType};
 ghost use Rattle.geoarrow_schema.specs.Types.{kind_of, meta_of};
@@ -11,7 +9,7 @@ ghost use Rattle.geoarrow_schema.specs.Normal.{normal_of, rewritten, HasKeysOf, 
 
 use crate::types::GeoArrowType;
 use arrow_values::{ArrowError, Field, GeoArrowResult};
-use geoarrow_layout::{Kind, is_layout, layout_reads_back, layouts_are_distinct};
+use geoarrow_layout::{is_layout, kind_equality_is_exact, layout_reads_back, layouts_are_distinct};
 use geoarrow_meta::Metadata;
 use std::alloc::{AllocError, Global};
 use std::sync::Arc;
@@ -46,7 +44,8 @@ impl GeoArrowType {
         ensures normal { IsTrue result ↔ (normal_of self.now ≡ normal_of other.now) }
     {
         layouts_are_distinct();
-        same_kind(self.kind(), other.kind()) && self.metadata().same_written(other.metadata())
+        let same_kind = kind_equality_is_exact(self.kind(), other.kind());
+        same_kind && self.metadata().same_written(other.metadata())
     }
 
     /// The canonical field of a field (docs/FORMAT.md, 1.7): it gets the data type and the two extension keys that
@@ -71,32 +70,18 @@ impl GeoArrowType {
         ensures none { (result ≡ Ok None) ↔ ¬ HasGeoArrowName field.now }
         ensures refused { IfErr result (IsRefusedBy field.now) }
     {
-        let rewritten = match GeoArrowType::from_extension_field(alloc, field)? {
-            None => return Ok(None),
-            Some(found) => found.rewritten_copy(alloc, field),
+        let Some(found) = GeoArrowType::from_extension_field(alloc, field)? else {
+            return Ok(None);
         };
-        Ok(Some(rewritten?))
-    }
-
-    /// The field that `rewrite_field` makes of an equal one.
-    #[inline(always)]
-    fn rewritten_copy(&self, alloc: Global, field: &Field) -> Result<Field, ArrowError>
-        ensures written { IfOk result (λ f. f ≡ rewritten field.now (kind_of self.now) (normal (meta_of self.now))) }
-        ensures keys { IfOk result (HasKeysOf self.now field.now) }
-        ensures reads_back { IfOk result (λ f. ReadsNormally f (kind_of self.now) (meta_of self.now)) }
-        ensures nested { IfOk result (λ f. ReadsShallow f self.now) }
-        ensures refused { IfErr result IsMemory }
-    {
-        let data_type = self.to_data_type(alloc)?;
+        let data_type = found.to_data_type(alloc)?;
         let bare = field.try_clone_with_data_type(alloc, data_type)?;
-        layout_reads_back(self.kind());
-        self.set_normal_extension(alloc, bare)
+        layout_reads_back(found.kind());
+        Ok(Some(found.set_normal_extension(alloc, bare)?))
     }
 
     /// The field with the data type and the two extension keys that `to_field` writes for the normal form of this type; its
-    /// name, nullability and other metadata do not change. It reads as that normal form, if `serde_json` reads what it
-    /// printed, which it does if the CRS value is nested at most 100 levels. So a field that is read as this type becomes its canonical form, as `canonical_field` makes it of a field
-    /// that is kept. Errs only when out of memory.
+    /// name, nullability and other metadata do not change. It reads as that normal form where a canonical field does, and is
+    /// the canonical field of the given one if that is read as this type. Errs only when out of memory.
     pub fn rewrite_field(&self, alloc: Global, field: Field) -> Result<Field, ArrowError>
         ensures written { IfOk result (λ f. f ≡ rewritten field (kind_of self.now) (normal (meta_of self.now))) }
         ensures keys { IfOk result (HasKeysOf self.now field) }
@@ -113,8 +98,7 @@ impl GeoArrowType {
         self.set_normal_extension(alloc, field.with_data_type(data_type))
     }
 
-    /// The field of this type's data type with the extension keys of its normal form: those of the type itself, since
-    /// nothing writes what the normal form drops.
+    /// The field of this type's data type with the extension keys of its normal form, which are those of the type itself.
     #[tactic(auto, using(crate::proofs::Rewriting::normal_written, crate::proofs::Rewriting::reads_where, geoarrow_meta::specs::Laws::normal_value))]
     fn set_normal_extension(&self, alloc: Global, column: Field) -> Result<Field, ArrowError>
         requires layout { column.tree ≡ layout (kind_of self.now) }
@@ -127,19 +111,5 @@ impl GeoArrowType {
     {
         let text = self.metadata().serialize(alloc)?;
         Ok(column.with_extension_texts(alloc, self.kind().name(), text)?)
-    }
-}
-
-/// Whether both are one kind.
-fn same_kind(one: Kind, other: Kind) -> bool
-    ensures { IsTrue result ↔ (one ≡ other) }
-{
-    match (one, other) {
-        (Kind::Native(k, c, d), Kind::Native(l, b, e)) => k == l && c == b && d == e,
-        (Kind::Geometry(c), Kind::Geometry(b)) => c == b,
-        (Kind::Rect(d), Kind::Rect(e)) => d == e,
-        (Kind::Wkb(w), Kind::Wkb(v)) => w == v,
-        (Kind::Wkt(w), Kind::Wkt(v)) => w == v,
-        _ => false,
     }
 }

@@ -1,17 +1,15 @@
 //! Which type a field is read as.
 ghost use Rattle.std.specs.Prelude.{◌≡◌, Some, IfOk, IfErr, IfSome};
-ghost use Rattle.arrow_values.specs.Tree.{Text};
 ghost use Rattle.arrow_values.specs.Texts.{text_of, extension_name, extension_metadata};
 ghost use Rattle.geoarrow_layout.specs.declared.names.ExtensionName.{ExtensionName};
 ghost use Rattle.geoarrow_layout.specs.declared.encodings.Kind.{Kind};
-ghost use Rattle.geoarrow_layout.specs.Kinds.{name_text};
-ghost use Rattle.geoarrow_layout.specs.Shapes.{Accepts};
-ghost use Rattle.geoarrow_layout.specs.FaultAt.{HasFault, FaultAt};
+ghost use Rattle.geoarrow_layout.specs.Cited.{Accepts, FaultAt, HasFault, Text, name_text};
 ghost use Rattle.geoarrow_schema.specs.Reads.{HasName, Reads, ReadsAlone, IsRefusedBy, IsReading, IsTypeReading};
 ghost use Rattle.geoarrow_schema.specs.Infers.{ReadsOrInfersAlone};
 
 use crate::types::GeoArrowType;
 use arrow_values::{Field, GeoArrowError, GeoArrowResult};
+use geoarrow_layout::ExtensionName::{Wkb, Wkt};
 use geoarrow_layout::{ExtensionName, LayoutFault, names_are_distinct, parse_kind};
 use geoarrow_meta::Metadata;
 use geoarrow_native::laws::reads_as_one_column;
@@ -50,8 +48,7 @@ impl GeoArrowType {
         }
     }
 
-    /// The type that a field is read as. Errs as `from_extension_field` does, and with `InvalidGeoArrow` if that returns
-    /// `None`.
+    /// The type that a field is read as. Errs as `from_extension_field` does; where that returns `None`, with `InvalidGeoArrow`.
     ///
     /// ```rust
     /// let written = GeoArrowType::Wkb(WkbType::try_default(alloc)?).to_field(alloc, "geom", true)?;
@@ -106,8 +103,7 @@ pub(crate) fn read_named(
     }
 }
 
-/// The refusal of a field of that name whose data type is of no kind of it and has that fault under it: for a name other than
-/// those of well-known binary and text, that of its metadata, if it is refused, goes before.
+/// The refusal of a field of that name for that fault; a refusal of its metadata goes before, but for well-known binary and text.
 #[cold]
 #[inline(never)]
 #[tactic(auto, using(crate::proofs::Reading::unstored_refused))]
@@ -118,12 +114,8 @@ fn refusal(alloc: Global, field: &Field, name: ExtensionName, fault: LayoutFault
     ensures { IsRefusedBy field.now result }
 {
     match name {
-        ExtensionName::Wkb => {
-            GeoArrowError::invalid_geoarrow(alloc, "geoarrow.wkb needs a binary type")
-        }
-        ExtensionName::Wkt => {
-            GeoArrowError::invalid_geoarrow(alloc, "geoarrow.wkt needs a text type")
-        }
+        Wkb => GeoArrowError::invalid_geoarrow(alloc, "geoarrow.wkb needs a binary type"),
+        Wkt => GeoArrowError::invalid_geoarrow(alloc, "geoarrow.wkt needs a text type"),
         _ => {
             names_are_distinct();
             match Metadata::try_from_field(alloc, field) {

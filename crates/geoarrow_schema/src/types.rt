@@ -181,8 +181,7 @@ impl GeoArrowType {
         Ok(GeoArrowType::from_kind(self.kind(), metadata))
     }
 
-    /// The type with that coordinate type, otherwise unchanged. Boxes and well-known binary and text have no such part, and
-    /// are returned unchanged.
+    /// The type with that coordinate type, otherwise unchanged; unchanged altogether if it is a `Rect` or well-known binary or text.
     ///
     /// ```rust
     /// let metadata = Arc::new(alloc, Metadata::default())?;
@@ -197,8 +196,7 @@ impl GeoArrowType {
         changed!(self, t => t.with_coord_type(coord_type), Geometry)
     }
 
-    /// The type with that dimension, otherwise unchanged. Geometries of any kind and well-known binary and text have no
-    /// such part, and are returned unchanged.
+    /// The type with that dimension, otherwise unchanged; unchanged altogether if it is a `Geometry` or well-known binary or text.
     ///
     /// ```rust
     /// let metadata = Arc::new(alloc, Metadata::default())?;

@@ -1,9 +1,6 @@
 //! How a type is written as a field.
 ghost use Rattle.std.specs.Prelude.{◌≡◌, IfOk, IfErr, IsOk};
-ghost use Rattle.arrow_values.specs.View.{tree};
-ghost use Rattle.arrow_values.specs.Errors.{IsMemory};
-ghost use Rattle.geoarrow_layout.specs.Shapes.{IsStructured};
-ghost use Rattle.geoarrow_layout.specs.Layouts.{layout};
+ghost use Rattle.geoarrow_layout.specs.Cited.{IsMemory, IsStructured, layout, tree};
 ghost use Rattle.geoarrow_meta.specs.Written.{meta_value, normal, IsReadBack, NestsWithin};
 ghost use Rattle.geoarrow_native.specs.Column.{ReadsAs};
 ghost use Rattle.geoarrow_schema.specs.Types.{kind_of, meta_of};
