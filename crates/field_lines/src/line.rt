@@ -14,10 +14,7 @@ use arrow_values::Field;
 use json::{Reader, Scratch, Writer};
 use std::alloc::{AllocError, Global};
 use std::collections::BTreeMap;
-use value_tokens::Refusal;
-
-/// How deep the arrays and objects of a line may nest.
-const MAX_DEPTH: usize = 127;
+use value_tokens::{MAX_DEPTH, Refusal};
 
 /// The room that a line is given at first, in bytes. Most lines take no more.
 const LINE_ROOM: usize = 1024;

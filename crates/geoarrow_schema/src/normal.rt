@@ -80,8 +80,9 @@ impl GeoArrowType {
     }
 
     /// The field with the data type and the two extension keys that `to_field` writes for the normal form of this type; its
-    /// name, nullability and other metadata do not change. It reads as that normal form where a canonical field does, and is
-    /// the canonical field of the given one if that is read as this type. Errs only when out of memory.
+    /// name, nullability and other metadata do not change. It reads as that normal form, if `serde_json` reads what it printed,
+    /// which it does if the CRS value is nested at most 100 levels. So a field that is read as this type becomes its canonical
+    /// form, as `canonical_field` makes it of a field that is kept. Errs only when out of memory.
     pub fn rewrite_field(&self, alloc: Global, field: Field) -> Result<Field, ArrowError>
         ensures written { IfOk result (λ f. f ≡ rewritten field (kind_of self.now) (normal (meta_of self.now))) }
         ensures keys { IfOk result (HasKeysOf self.now field) }

@@ -181,7 +181,7 @@ impl GeoArrowType {
         Ok(GeoArrowType::from_kind(self.kind(), metadata))
     }
 
-    /// The type with that coordinate type, otherwise unchanged; unchanged altogether if it is a `Rect` or well-known binary or text.
+    /// The type with that coordinate type, otherwise unchanged. A `Rect`, and well-known binary and text, stay as they are.
     ///
     /// ```rust
     /// let metadata = Arc::new(alloc, Metadata::default())?;
@@ -196,7 +196,7 @@ impl GeoArrowType {
         changed!(self, t => t.with_coord_type(coord_type), Geometry)
     }
 
-    /// The type with that dimension, otherwise unchanged; unchanged altogether if it is a `Geometry` or well-known binary or text.
+    /// The type with that dimension, otherwise unchanged. A `Geometry`, and well-known binary and text, stay as they are.
     ///
     /// ```rust
     /// let metadata = Arc::new(alloc, Metadata::default())?;
