@@ -1,3 +1,4 @@
+mod Terms
 mod Told
 mod Linked
 mod Blocks
