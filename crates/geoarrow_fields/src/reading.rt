@@ -8,11 +8,18 @@ use crate::lines::{answer_chunk, end_line};
 use crate::output::{Fault, finish};
 use crate::{Command, RunEnd};
 use json::Scratch;
-use std::alloc::Global;
+use std::alloc::{AllocError, Global};
 use std::io::{Read, Write};
 
 /// The size of the read buffer, in bytes.
 const CHUNK_BYTES: usize = 65_536;
+
+/// A chunk of that many bytes.
+fn zeros(alloc: Global, len: usize) -> Result<Vec<u8>, AllocError>
+    ensures { IfOk result (λ chunk. vec_len chunk ≡ len) }
+{
+    vec![in alloc; 0u8; len]
+}
 
 /// Reads once into the front of a chunk, which keeps its length, or returns a fault of the input.
 fn read_chunk<R: Read>(reader: &mut R, chunk: &mut Vec<u8>) -> Result<usize, Fault>
@@ -43,7 +50,7 @@ fn answer_lines<R: Read, W: Write>(
     ensures err { IfErr result (λ fault. IsStopped command fault
         (R.remaining reader.old) (R.remaining reader.new) (W.contents writer.old) (W.contents writer.new)) }
 {
-    let mut chunk = vec![in alloc; 0u8; CHUNK_BYTES]?;
+    let mut chunk = zeros(alloc, CHUNK_BYTES)?;
     let mut scratch = Scratch::new(alloc);
     let mut begun = Vec::new(alloc);
     let mut count = 0;
