@@ -1,5 +1,5 @@
 -- The kind of a name and a tree: there is one at most, and it is what a reader's answer says; the names of a tree: two at most, and which two.
-use Rattle.geoarrow_layout.proofs.Terms.{◌≡◌, ◌≢◌, ◌⊎◌, inl, inr, MultiPoint, MultiLineString, IfOk, result_ok, Bool, true≢false, IsTrue, is_ok, refl, sym, ap, subst, ◌∙◌, ◌↔◌, IfErr, Option, Some, Result, Ok, Err, same_Some, Text, Tree, Point, LineString, Polygon, MultiPolygon, GeometryCollection, Width, Plain, Large, View, Kind, OfNative, OfGeometry, OfRect, OfWkb, OfWkt, ExtensionName, name_text, extension_of, Native, IsBytes, IsText, Accepted, Accepts, IsStructured, YieldsOne, any_native_same, geometry_same, box_shape_same, LayoutFault, Summary, Summarizes, IsAccepted, Path, HasFault, FaultAt, Tells, YieldsKind, NativeKind, CoordType, Dimension, Mixed, Geometry, BoxShape, NativeFault, MixedFault, GeometryFault, BoxFault, TellsBoth, Yields, coords_in, native_first, mixed_first, ◌≤◌, ℕ, zero, suc, arith, PlainType, binary, large_binary, binary_view, utf8, large_utf8, utf8_view, plain, list, large_list, fixed_size_list, struct, union, Interleaved, Separated, XY, ListWidth, Lists, LargeLists, size_of, names_of, ListsOver, levels_of, Leaf, NoName, Holds, IsStructOfFour, Share, dimension_sized, false, first_of, second_kind, second_of, name_of}
+use Rattle.geoarrow_layout.proofs.Terms.{◌≡◌, ◌≢◌, ◌⊎◌, inl, inr, IfOk, result_ok, Bool, true≢false, IsTrue, is_ok, refl, sym, ap, subst, ◌∙◌, ◌↔◌, IfErr, Option, Some, Result, Ok, Err, same_Some, Text, Tree, Point, LineString, Polygon, MultiPolygon, GeometryCollection, Width, Plain, Large, View, Kind, OfNative, OfGeometry, OfRect, OfWkb, OfWkt, ExtensionName, name_text, extension_of, Native, IsBytes, IsText, Accepted, Accepts, IsStructured, YieldsOne, any_native_same, geometry_same, box_shape_same, LayoutFault, Summary, Summarizes, IsAccepted, Path, HasFault, FaultAt, Tells, YieldsKind, NativeKind, CoordType, Dimension, Mixed, Geometry, BoxShape, NativeFault, MixedFault, GeometryFault, BoxFault, TellsBoth, Yields, coords_in, native_first, mixed_first, ◌≤◌, ℕ, zero, suc, arith, PlainType, binary, large_binary, binary_view, utf8, large_utf8, utf8_view, plain, list, large_list, fixed_size_list, struct, union, Interleaved, Separated, XY, ListWidth, Lists, LargeLists, size_of, names_of, ListsOver, levels_of, Leaf, NoName, Holds, IsStructOfFour, Share, dimension_sized, false, first_of, second_kind, second_of, name_of}
 use Rattle.geoarrow_layout.specs.declared.names.ExtensionName.TheVariants as names
 use Rattle.geoarrow_layout.proofs.FaultLaws.{accepted_apart, native_sole, mixed_none, geometry_apart, box_apart, separated_length, box_length}
 use Rattle.geoarrow_layout.proofs.Readings.{Answer, exactly, exactly_one, told_fault}
@@ -250,9 +250,14 @@ abbrev No : Tree → ExtensionName → Type 0
 No t a = ¬ IsAccepted (name_text a) t
 
 pub no_names : (t : Tree) → No t (names.Native Point) → No t (names.Native LineString) → No t (names.Native Polygon) → No t (names.Native MultiPolygon) → No t (names.Native GeometryCollection) → No t names.Geometry → No t names.Rect → No t names.Wkb → No t names.Wkt → Names (Holds NoName) t
-no_names t point line polygon multi collection geometry box wkb wkt n = (λ e. absurd e, λ a. none (extension_of a.0) (a.0, (refl, a.1.1)))
+no_names t point line polygon multi collection geometry box wkb wkt n = (λ e. absurd e, λ a. none second_line second_polygon (extension_of a.0) (a.0, (refl, a.1.1)))
   where
-    none : (a : ExtensionName) → No t a
-    none (names.Native MultiPoint) = λ h. line (as_other (second_kind LineString) LineString t (λ c d y. y) h)
-    none (names.Native MultiLineString) = λ h. polygon (as_other (second_kind Polygon) Polygon t (λ c d y. y) h)
-    none _ = search
+    second_line : No t (names.Native (second_kind LineString))
+    second_line h = line (as_other (second_kind LineString) LineString t (λ c d y. y) h)
+
+    second_polygon : No t (names.Native (second_kind Polygon))
+    second_polygon h = polygon (as_other (second_kind Polygon) Polygon t (λ c d y. y) h)
+
+    none : No t (names.Native (second_kind LineString)) → No t (names.Native (second_kind Polygon)) → (a : ExtensionName) → No t a
+    none lines polygons (names.Native Point) = point
+    none lines polygons _ = search

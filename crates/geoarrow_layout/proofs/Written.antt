@@ -1,7 +1,8 @@
 -- What is written is read as what it was written for, so the data types that are written are pairwise distinct; the comparison with them; every kind is listed, and once.
-use Rattle.geoarrow_layout.proofs.Terms.{◌≡◌, [], ◌∷◌, true, false, refl, sym, subst, member_trees, CoordType, Interleaved, Separated, Dimension, XY, XYZ, XYM, DIMENSIONS, KINDS, members_in, native_members, Lists, NativeKind, Point, LineString, Polygon, MultiPoint, MultiLineString, MultiPolygon, GeometryCollection, Plain, Kind, OfNative, OfGeometry, OfRect, OfWkb, OfWkt, Leaf, levels_of, Member, AllMembers, GeometryMember, Native, BoxShape, Accepted, Under, leaf_layout, mixed_members, native_layout, geometry_members, layout, over_leaf_layout, mixed_layout, dimension_members, IsWritten, IsWrittenSome, cond, List, codes, ◌∙◌, ap, bytes_eq, Tree, plain, list, struct, union, ExtensionName, extension_of, names_of, ◌↔◌, Bool, IsTrue, FieldTree, Members, field_trees, UnionMode, field_list, member_list, listed_fields, listed_members, ◌<◌, ℕ, ◌+◌, ◌*◌, ◌-◌, length, get_or, lit<, arith, Contains, Large, View, order_of, place_of, ALL, offset_of, list_names}
+use Rattle.geoarrow_layout.proofs.Terms.{◌≡◌, [], ◌∷◌, true, false, refl, sym, subst, member_trees, CoordType, Interleaved, Separated, Dimension, XY, XYZ, XYM, DIMENSIONS, KINDS, members_in, native_members, Lists, NativeKind, Point, LineString, GeometryCollection, Plain, Kind, OfNative, OfGeometry, OfRect, OfWkb, OfWkt, Leaf, levels_of, Member, AllMembers, GeometryMember, Native, BoxShape, Accepted, Under, leaf_layout, mixed_members, native_layout, geometry_members, layout, over_leaf_layout, mixed_layout, dimension_members, IsWritten, IsWrittenSome, cond, List, codes, ◌∙◌, ap, bytes_eq, Tree, plain, list, struct, union, ExtensionName, extension_of, names_of, ◌↔◌, Bool, IsTrue, FieldTree, Members, field_trees, UnionMode, field_list, member_list, listed_fields, listed_members, ◌<◌, ℕ, ◌+◌, ◌*◌, ◌-◌, length, get_or, lit<, arith, Contains, Large, View, order_of, place_of, ALL, offset_of, list_names, OverLeaf, members_over, take}
 use Rattle.geoarrow_layout.specs.Shapes.{SameNames}
 use Rattle.geoarrow_layout.proofs.Readings.{all_map, all_both, first_with}
+use Rattle.std.specs.List.{AllByRecursion}
 use Rattle.geoarrow_layout.specs.declared.names.ExtensionName.TheVariants as names
 use Rattle.geoarrow_layout.proofs.KindSteps.{same_kind, plain_name}
 use Rattle.std.proofs.Math.ListN.{get_or-map}
@@ -20,9 +21,15 @@ written_under Point c d = (leaf_layout c d, (Lists, refl), written_leaf c d)
 written_under k c d = (leaf_layout c d, (Lists, refl), written_leaf c d)
 
 written_mixed : (c : CoordType) (d : Dimension) → AllMembers (λ i t. Member i t c d) (member_trees (mixed_members c d))
-written_mixed c d =
-    let over = λ (k : NativeKind). written_under k c d in
-    ((Point, refl, over Point), ((LineString, refl, over LineString), ((Polygon, refl, over Polygon), ((MultiPoint, refl, over MultiPoint), ((MultiLineString, refl, over MultiLineString), ((MultiPolygon, refl, over MultiPolygon), tt))))))
+written_mixed c d = each (take 6 KINDS) (λ e. cc, (λ e. cc, (λ e. cc, (λ e. cc, (λ e. cc, (λ e. cc, tt))))))
+  where
+    over : (k : NativeKind) → (k ≡ GeometryCollection → ⊥) → OverLeaf (over_leaf_layout k c d) k c d
+    over GeometryCollection other = absurd (other refl)
+    over k other = written_under k c d
+
+    each : (ks : List NativeKind) → AllByRecursion (λ k. k ≡ GeometryCollection → ⊥) ks → AllMembers (λ i t. Member i t c d) (member_trees (members_over ks c d))
+    each [] others = tt
+    each (k ∷ ks) others = ((k, refl, over k others.0), each ks others.1)
 
 -- what is written for the members
 pub natives_written : (c : CoordType) (d : Dimension) (ks : List NativeKind) → AllMembers (IsWritten c d) (member_trees (native_members ks c d))

@@ -16,5 +16,5 @@ pub use Rattle.geoarrow_layout.specs.Layouts.{IsBare, IsWritten, IsWrittenSome, 
 pub use Rattle.geoarrow_layout.specs.OneShape.{ReadsFirst, among_back, any_native_same, box_shape_same, coords_in, geometry_member_first, geometry_same, member_first, mixed_first, named_back, native_first, over_leaf_first}
 pub use Rattle.geoarrow_layout.specs.Shapes.{Accepted, Accepts, AllMembers, BoxShape, Collection, Geometry, GeometryMember, HasMembers, HaveBoth, IsBoxAs, IsBytes, IsSeparatedAs, IsStructured, IsText, Leaf, ListsOver, Member, Mixed, Native, OverLeaf, SameNames, SomeMember, Under, Yields, YieldsKind, YieldsOne, has_name, names_of}
 pub use Rattle.geoarrow_layout.specs.Summary.{AddsBits, AreLevels, AreOf, Ended, FirstOrNone, IsBits, IsBottom, IsCoordFault, IsFaultOf, IsFixedSize, IsInnerUnion, IsLevelFault, IsNested, IsNoLeaf, IsRootUnion, IsStruct, IsUnion, IsWidth, LeadsTo, MemberFaultIn, MemberIn, MixedSays, NativeFaultIn, NativeIn, ReadAt, Seen, ShowsIn, SomeAt, StaysHere, Summarizes, SummarizesBy, Tells, TellsBoth, UnionFaultIn, first_fault, known_names, missing_fault, place_in, place_of}
-pub use Rattle.geoarrow_layout.specs.Words.{BadFieldCount, BadFieldNames, BadInterleavedName, BadSize, BadTypeId, Bottom, Contains, CoordType, Deep, Dense, Dimension, EmptyUnion, ExtensionName, FieldTree, FieldTrees, FixedSizeList, GeometryCollection, Interleaved, Kind, Large, LargeLists, LayoutFault, LineString, List, ListWidth, Lists, MatchOption, MatchResult, MemberDimension, MemberTrees, Members, MixedWidths, MultiLineString, MultiPoint, MultiPolygon, NativeKind, None, OfGeometry, OfNative, OfRect, OfWkb, OfWkt, Ok, Option, Other, OtherWidth, Plain, Plain as Narrow, Point, Polygon, Rect, Separated, SeveralCoordTypes, SeveralDimensions, Some, Struct, Summary, Text, Tree, UnexpectedType, Union, UnionMode, View, Width, Wkb, Wkt, XY, XYM, XYZ, [], binary, binary_view, bit_at, bytes_eq, bytes_eq-Decides, codes, false, field_trees, fixed_size_list, float64, large_binary, large_list, large_utf8, length, list, list_all, list_any, map, member, member_trees, no_members, plain, pos, struct, true, union, utf8, utf8_view, ℕ, ℤ}
+pub use Rattle.geoarrow_layout.specs.Words.{BadFieldCount, BadFieldNames, BadInterleavedName, BadSize, BadTypeId, Bottom, Contains, CoordType, Deep, Dense, Dimension, EmptyUnion, ExtensionName, FieldTree, FieldTrees, FixedSizeList, GeometryCollection, Interleaved, Kind, Large, LargeLists, LayoutFault, LineString, List, ListWidth, Lists, MatchOption, MatchResult, MemberDimension, MemberTrees, Members, MixedWidths, MultiPolygon, NativeKind, None, OfGeometry, OfNative, OfRect, OfWkb, OfWkt, Ok, Option, Other, OtherWidth, Plain, Plain as Narrow, Point, Polygon, Rect, Separated, SeveralCoordTypes, SeveralDimensions, Some, Struct, Summary, Text, Tree, UnexpectedType, Union, UnionMode, View, Width, Wkb, Wkt, XY, XYM, XYZ, [], binary, binary_view, bit_at, bytes_eq, bytes_eq-Decides, codes, false, field_trees, fixed_size_list, float64, large_binary, large_list, large_utf8, length, list, list_all, list_any, map, member, member_trees, no_members, plain, pos, struct, true, union, utf8, utf8_view, ℕ, ℤ}
 pub use Rattle.std.specs.Prelude.{IfErr, IfOk, IfSome, IsOk, IsTrue, OnErr, OnOk, get_or, ⊤}
