@@ -1,21 +1,40 @@
 -- The blocks of texts, entries, columns, schemas and messages, the tables of types, and vectors of blocks: how they are made and walked, one after the other.
-use Rattle.arrow_ipc.proofs.Terms.{◌≡◌, ℕ, ◌+◌, ◌-◌, ◌^◌, ◌<◌, true, ◌++◌, ◌∷◌, [], List, length, Ok, refl, sym, ap, ◌∙◌, arith, append_assoc, suc, ◌≤◌, Bool, false, ◌==◌, if◌then◌else◌, take, drop, append-nil, pos, ◌&&◌, not, map, Option, Some, None, Result, nat_lt, ◌*◌, ◌%◌, ℤ, negsuc, subst, String, Global, string_bytes, string_cmp, Ordering, Less, Greater, Vec, zero, ◌⊎◌, inl, inr, get_or, is_utf8, length-append, take_at, drop_all, map-append, bool_byte, Text, Metadata, null, plain, fixed_size_list, struct, FieldTree, union, MemberTrees, no_members, member, Members, Tree, FieldTrees, no_fields, field, fields_depth, members_depth, TypeTree, ColumnTree, known, column_tree, utf8_at, integer_at, target_at, vector_at, slot_at, entry_in, texts_at, finished, columns_by, column_at, ids_at, typed, is_new, put_id, ids_from, entry_at, put_next, put_column, Holds, word, rounded, offsets, text_block, text_read, entry_block, entry_read, IsType, table_block, column_block, column_in, columns_read, texts_read, order_number, schema_block, message_block, stream_block, number, truth, place_of_number, place_of_truth, type_block, linked, mode_number, id_words, union_block, lengths, vector_block, child_in, tag_in, index_in, parts_in, parts_at, zone_or_ids, SchemaTree, head_at, schema_at, message_at, cut, message_in, schema_of_message, lt-ltb, le-leb, ltb-true, eq-eqb, and_parts, w8, w16, w32, from_le_bytes, byte_at, push, zip, AllZip, AllByRecursion, member_trees, field_list, field_trees_of_list, texts_of, field_trees, listed_fields, ◌>>=◌, type_of, Shape, column_of, member_ids, are_ids, member_fields, nested_columns, shape_of, tag_of, bytes_of, has_table, Fault, Opened, is_sound, table_room, Refuses, Makes, MakesSound, Gives, are_sound, members_sound, fields_room, members_room, nested_room, column_room, texts_room, room_of, columns_room, IsUnfit, IsUnfitType, AreUnfit, gather, Column}
+use Rattle.std.proofs.Common.{◌≡◌, ℕ, ◌+◌, ◌-◌, ◌^◌, ◌<◌, true, ◌++◌, ◌∷◌, [], List, length, Ok, refl, sym, ap, ◌∙◌, arith, append_assoc, suc, ◌≤◌, Bool, false, ◌==◌, if◌then◌else◌, take, drop, append-nil, pos, ◌&&◌, not, map, Option, Some, None, Result, nat_lt, ◌*◌, ◌%◌, ℤ, negsuc, subst, String, Global, string_bytes, string_cmp, Ordering, Less, Greater, Vec, zero, ◌⊎◌, inl, inr, get_or}
+use Rattle.std.specs.Str.{is_utf8}
+use Rattle.std.proofs.lemmas.List.{length-append, take_at, drop_all, map-append}
+use mir.Val.{bool_byte}
+use Rattle.arrow_values.specs.Tree.{Text, Metadata, null, plain, fixed_size_list, struct, FieldTree, union, MemberTrees, no_members, member, Members, Tree, FieldTrees, no_fields, field, fields_depth, members_depth}
+use Rattle.arrow_columns.specs.Column.{TypeTree, ColumnTree, known, column_tree}
+use Rattle.arrow_ipc.specs.Wire.{utf8_at, integer_at, target_at, vector_at, slot_at}
 use Rattle.arrow_ipc.specs.Slots.{table_in, integer_in, flag_in, led_by, text_in, vector_in}
+use Rattle.arrow_ipc.specs.Columns.{entry_in, texts_at, finished, columns_by, column_at, ids_at, typed, is_new, put_id, ids_from, entry_at, put_next, put_column}
+use Rattle.arrow_ipc.specs.Blocks.{Holds, word, rounded, offsets, text_block, text_read, entry_block, entry_read, IsType, table_block, column_block, column_in, columns_read, texts_read, order_number, schema_block, message_block, stream_block, number, truth, place_of_number, place_of_truth, type_block, linked, mode_number, id_words, union_block, lengths, vector_block, child_in}
+use Rattle.arrow_ipc.specs.Parts.{tag_in, index_in, parts_in, parts_at, zone_or_ids}
+use Rattle.arrow_ipc.specs.Schema.{SchemaTree, head_at, schema_at, message_at, cut, message_in, schema_of_message}
 use Rattle.arrow_ipc.specs.Writes.{Streams, RefusesColumns, GivesColumns}
 use Rattle.arrow_ipc.specs.declared.schema.Endianness.{Endianness}
 use Rattle.arrow_ipc.specs.declared.schema.Endianness.TheVariants.{Little, Big}
 use Rattle.arrow_ipc.proofs.Told.{bound}
-use Rattle.arrow_ipc.proofs.Linked.{text_is, is_some, u8_is, u32_is, target_is, length_linked, flat, tail, low, stands, table_holds, u16_is, by_place, slot_place, is_vector, AreLinked, AreWhole, whole_lengths, are_linked}
-pub use Rattle.arrow_ipc.proofs.Linked.{items, length_table}
+use Rattle.std.proofs.lemmas.Bool.{lt-ltb, le-leb, ltb-true, eq-eqb, and_parts}
+use Rattle.arrow_ipc.proofs.Linked.{text_is, is_some, u8_is, u32_is, target_is, length_linked, flat, tail, low, length_table, stands, table_holds, u16_is, by_place, slot_place, is_vector, AreLinked, AreWhole, whole_lengths, are_linked}
+use Rattle.std.specs.Int.{w8, w16, w32, from_le_bytes, byte_at}
+use Rattle.std.specs.List.{push, zip, AllZip, AllByRecursion}
 use Rattle.std.specs.Option.{option_map_or, option_map}
+use Rattle.arrow_values.specs.View.{member_trees, field_list, field_trees_of_list, texts_of, field_trees, listed_fields}
 use Rattle.arrow_values.specs.Union.{has}
 use Rattle.arrow_values.specs.declared.tree.UnionMode.{UnionMode}
 use Rattle.arrow_columns.specs.Nested.{all_known, known_fields}
 use Rattle.arrow_columns.specs.declared.nested.ListForm.TheVariants.{Fixed}
+use Rattle.arrow_ipc.specs.Fault.{◌>>=◌}
 use Rattle.arrow_ipc.specs.Kinds.{int_at, number_at, kind_at}
+use Rattle.arrow_ipc.specs.Types.{type_of}
+use Rattle.arrow_ipc.specs.Shapes.{Shape, column_of, member_ids, are_ids, member_fields, nested_columns, shape_of, tag_of, bytes_of, has_table}
+use Rattle.arrow_ipc.specs.declared.fault.Fault.{Fault}
 use Rattle.arrow_ipc.specs.declared.parts.Kind.{Kind}
+use Rattle.arrow_ipc.specs.declared.wire.Table.{Table as Opened}
 use Rattle.arrow_ipc.specs.declared.parts.Kind.TheVariants.{Plain, List as ListOf, Struct, Union}
 use Rattle.arrow_values.specs.declared.tree.DataType.TheVariants.{Null}
+use Rattle.arrow_ipc.specs.Rooms.{is_sound, table_room, Refuses, Makes, MakesSound, Gives, are_sound, members_sound, fields_room, members_room, nested_room, column_room, texts_room, room_of, columns_room, IsUnfit, IsUnfitType, AreUnfit}
 use Rattle.std.specs.Ordering.{ordering_reverse, match_ordering}
 use Rattle.std.specs.Cmp.{IsTotalOrder}
 use Rattle.std.specs.List.Sorted.{IsStrictlySortedBy}
@@ -23,10 +42,12 @@ use Rattle.std.specs.Map.{keys_of}
 use Rattle.std.specs.BTreeMap.{insert_entry}
 use Rattle.std.specs.String.{string_cmp, string_cmp_total}
 use Rattle.arrow_values.specs.Texts.{put_text}
+use Rattle.arrow_ipc.specs.Tells.{gather}
 use Rattle.arrow_ipc.specs.declared.write.WriteError.{WriteError}
 use Rattle.arrow_ipc.specs.declared.write.WriteError.TheVariants.{Column as Unfit}
 use Rattle.std.proofs.lemmas.Option.{slice_get-map, slice_get_read}
 use Rattle.std.specs.Borrow.{Bor}
+use Rattle.arrow_columns.specs.declared.column.Column.{Column}
 
 pub length_text : (text : Text) → length (text_block text) ≡ rounded (5 + length text)
 length_text text = grind (arith, length_linked, length-append)
@@ -38,7 +59,8 @@ text_holds text valid small =
     record {
       whole = omega (arith, size);
       reads = λ bytes at lies.
-          let whole = lies.whole in let after = tail bytes at (length text) [] (text ++ 0 ∷ []) lies in
+          let whole = lies.whole in
+          let after = tail bytes at (length text) [] (text ++ 0 ∷ []) lies in
           let is = text_is bytes at text after (omega (arith, whole)) (omega (arith, small)) valid
           (flat bytes at (length text) [] (text ++ 0 ∷ []) lies ∙ ap (λ l. word (length text) ++ l) (append_assoc text (0 ∷ []) after)) in
           (length text, omega (arith, size), rw is refl);
@@ -51,12 +73,15 @@ pub entry_holds : (kb tb : List ℕ) (key text : Text) → Holds text_read kb ke
 unfolding entry_in led_by table_in
 entry_holds kb tb key text hk ht small =
     table_holds (4 ∷ 8 ∷ []) [] (kb ∷ tb ∷ []) refl (omega arith) (omega arith, (omega arith, tt)) (hk.whole, (ht.whole, tt)) small entry_read (key, text) (λ bytes at s.
-    let l = s.links in let k = hk.reads bytes l.0.to l.0.lies in
-    let t = ht.reads bytes l.1.0.to l.1.0.lies in let key_is = is_text bytes l.0.to key k.0 k.2 in
+    let l = s.links in
+    let k = hk.reads bytes l.0.to l.0.lies in
+    let t = ht.reads bytes l.1.0.to l.1.0.lies in
+    let key_is = is_text bytes l.0.to key k.0 k.2 in
     let text_is = is_text bytes l.1.0.to text t.0 t.2 in
     (8 + length key + length text, omega (arith, k.1, t.1, key_is.1, text_is.1), rw (s.is_open, s.slot 0, l.0.led, key_is.0, s.slot 1, l.1.0.led, text_is.0) refl))
 
 -- ---- a column's block: its own table, then its name, its type, its children and its metadata
+
 -- a column is what its table says
 pub column_by_table : (depth : ℕ) (bytes : List ℕ) (at table : ℕ) (v : ColumnTree × ℕ) → target_at bytes at ≡ Ok table → column_in depth bytes table ≡ Ok v → column_at (suc depth) bytes at ≡ Ok v
 unfolding column_at parts_at column_in
@@ -76,9 +101,11 @@ column_holds levels nb tb cb mb nullable tag name cs t ms named typing children 
     let first : integer_at bytes (at + 20) w8 ≡ Ok (bool_byte nullable) = u8_is bytes (at + 20) (bool_byte nullable) _ (s.number 0) in
     let second : integer_at bytes (at + 21) w8 ≡ Ok tag = u8_is bytes (at + 21) tag _ (s.number 1) in
     let flag : (if bool_byte nullable == 0 then false else true) ≡ nullable = grind arith in
-    let n = named.reads bytes l.0.to l.0.lies in let r = typing.reads bytes l.1.0.to l.1.0.lies in
+    let n = named.reads bytes l.0.to l.0.lies in
+    let r = typing.reads bytes l.1.0.to l.1.0.lies in
     let c = children.reads bytes l.1.1.0.to l.1.1.0.lies in
-    let m = texts.reads bytes l.1.1.1.0.to l.1.1.1.0.lies in let nv = is_text bytes l.0.to name n.0 n.2 in
+    let m = texts.reads bytes l.1.1.1.0.to l.1.1.1.0.lies in
+    let nv = is_text bytes l.0.to name n.0 n.2 in
     let cv = bound (vector_at bytes l.1.1.0.to) (columns_by (column_at levels bytes)) (cs, c.0) c.2 in
     let mv = bound (vector_at bytes l.1.1.1.0.to) (texts_at bytes) (ms, m.0) m.2 in (
       16 + length name + 0 + (c.0 + m.0),
@@ -88,16 +115,19 @@ column_holds levels nb tb cb mb nullable tag name cs t ms named typing children 
     ))
 
 -- ---- the block of a schema, and of the message that holds it
+
 schema_holds : (levels : ℕ) (cb mb : List ℕ) (order : Endianness) (cs : List ColumnTree) (ms : Metadata) → Holds (columns_read levels) cb cs → Holds texts_read mb ms → length (schema_block cb mb order) < 2 ^ 32
     → Holds (schema_at levels) (schema_block cb mb order) (record { columns = cs; metadata = ms; endianness = order })
 unfolding schema_at head_at integer_in led_by table_in vector_in
 schema_holds levels cb mb order cs ms columns texts small =
     table_holds (12 ∷ 4 ∷ 8 ∷ []) (order_number order ∷ 0 ∷ 0 ∷ 0 ∷ []) (cb ∷ mb ∷ []) refl (omega arith) (omega arith, (omega arith, (omega arith, tt))) (columns.whole, (texts.whole, tt)) small
     (schema_at levels) (record { columns = cs; metadata = ms; endianness = order }) (λ bytes at s.
-    let l = s.links in let whole = s.whole in
+    let l = s.links in
+    let whole = s.whole in
     let ordered : (if order_number order == 0 then Little else Big) ≡ order = grind arith in
     let order_is = low bytes (at + 12) (order_number order) _ (omega (arith, whole)) (s.number 0) in
-    let c = columns.reads bytes l.0.to l.0.lies in let m = texts.reads bytes l.1.0.to l.1.0.lies in
+    let c = columns.reads bytes l.0.to l.0.lies in
+    let m = texts.reads bytes l.1.0.to l.1.0.lies in
     let cv = bound (vector_at bytes l.0.to) (columns_by (column_at levels bytes)) (cs, c.0) c.2 in
     let mv = bound (vector_at bytes l.1.0.to) (texts_at bytes) (ms, m.0) m.2 in
     (c.0 + m.0, omega (arith, c.1, m.1), rw (s.is_open, s.slot 0, order_is, s.slot 1, l.0.led, cv.1, s.slot 2, l.1.0.led, mv.1, ordered, cv.2, mv.2) refl))
@@ -121,6 +151,7 @@ message_reads levels block s h small =
     (got.0, got.1, rw (root, m.is_open, m.slot 0, low bytes 16 4 _ refl (m.number 0), m.slot 1, u8_is bytes 18 1 _ (m.number 2), m.slot 3, m.slot 2, m.links.0.led) got.2)
 
 -- ---- the stream
+
 in_stream : (message : List ℕ) → 0 < length message → length message < 2 ^ 32 - 1 → message_in (stream_block message) ≡ Ok message
 unfolding message_in cut
 in_stream message some small =
@@ -134,7 +165,8 @@ in_stream message some small =
 pub stream_holds : (levels : ℕ) (cb mb : List ℕ) (order : Endianness) → length (message_block (schema_block cb mb order)) < 2 ^ 31 → Streams levels cb mb order (stream_block (message_block (schema_block cb mb order)))
 unfolding Streams
 stream_holds levels cb mb order small cs ms columns texts =
-    let block = schema_block cb mb order in let size = length_message block in
+    let block = schema_block cb mb order in
+    let size = length_message block in
     let got = message_reads levels block (record { columns = cs; metadata = ms; endianness = order }) (schema_holds levels cb mb order cs ms columns texts (omega (arith, size, small))) (omega (arith, small)) in
     (message_block block, in_stream (message_block block) (omega (arith, size)) (omega (arith, small)), (got.0, omega (arith, got.1, size), got.2))
 
@@ -145,6 +177,7 @@ stream_built s a b c d e message block x s1 a2 b3 c4 d5 e6 same many =
     rw (d5, c4, b3, a2, s1, e6, many, ← size, same) refl
 
 -- ---- the tables of types
+
 pub length_type : (n : Option ℕ) (b : Option Bool) → length (type_block n b) ≡ 24
 length_type n b = let size = length_table (place_of_number n ∷ place_of_truth b ∷ []) (word (number n) ++ (truth b ∷ 0 ∷ 0 ∷ 0 ∷ [])) [] in omega (arith, size)
 
@@ -167,7 +200,8 @@ is_type tag n b cs t kind some least no_zone no_ids small kind_is type_is =
       least = least;
       reads = λ bytes at lies.
           let s = stands (place_of_number n ∷ place_of_truth b ∷ []) (word (number n) ++ (truth b ∷ 0 ∷ 0 ∷ 0 ∷ [])) [] refl (omega arith) (grind arith, (grind arith, tt)) tt (omega (arith, size)) bytes at lies in
-          let whole = lies.whole in let all = u32_is bytes (at + 4) (number n) _ (omega (arith, whole)) small (s.number 0) in
+          let whole = lies.whole in
+          let all = u32_is bytes (at + 4) (number n) _ (omega (arith, whole)) small (s.number 0) in
           let half = u16_is bytes (at + 4) (byte_at 0 (number n)) (byte_at 1 (number n)) _ (omega (arith, whole)) (s.number 0) in
           let byte = u8_is bytes (at + 8) (truth b) _ (s.number 4) in
           record {
@@ -193,6 +227,7 @@ are_fields [] = refl
 are_fields (f ∷ fs) = ap (λ l. f ∷ l) (are_fields fs)
 
 -- ---- a union's table, with its type ids
+
 length_ids : (ids : List ℤ) → length (id_words ids) ≡ 4 * length ids
 length_ids [] = refl
 length_ids (i ∷ is) = grind (arith, length-append, length_ids is)
@@ -231,15 +266,18 @@ length_union mode ids =
 pub union_type : (mode : UnionMode) (ms : MemberTrees) → are_ids [] (member_ids ms) ≡ true → length (union_block mode (member_ids ms)) < 2 ^ 31 → IsType 14 (union_block mode (member_ids ms)) (map column_of (member_fields ms)) (known (union ms mode))
 unfolding kind_at number_at integer_in led_by vector_in zone_or_ids ids_at type_of offsets
 union_type mode ms good few =
-    let ids = member_ids ms in let size = length_union mode ids in
-    let long = length_vector_of ids in let many = length_ids ids in
+    let ids = member_ids ms in
+    let size = length_union mode ids in
+    let long = length_vector_of ids in
+    let many = length_ids ids in
     record {
       whole = omega (arith, size);
       some = omega arith;
       least = omega arith;
       reads = λ bytes at lies.
           let s = stands (8 ∷ 4 ∷ []) (mode_number mode ∷ 0 ∷ 0 ∷ 0 ∷ []) (linked (length ids) [] (id_words ids) ∷ []) refl (omega arith) (omega arith, (omega arith, tt)) (omega (arith, long), tt) (omega (arith, few)) bytes at lies in
-          let whole = lies.whole in let l = s.links in
+          let whole = lies.whole in
+          let l = s.links in
           let mode_is = low bytes (at + 8) (mode_number mode) (0 ∷ 0 ∷ s.more) (omega (arith, whole)) (s.number 0) in
           let fourth = l.0.lies.whole in
           let vector = is_vector bytes l.0.to (length ids) [] (id_words ids) l.0.lies (omega (arith, many)) (omega (arith, few, size, long)) in
@@ -274,6 +312,7 @@ pub makes_sound : (r : Result (Vec ℕ Global) WriteError) (block : List ℕ) �
 makes_sound r block made = grind arith
 
 -- ---- a type's table and its columns, by its shape
+
 -- a type that has a table
 pub table_is : (t : Tree) → has_table t ≡ true → length (bytes_of t) < 2 ^ 31 → IsType (tag_of t) (bytes_of t) (nested_columns t) (known t)
 unfolding kind_at number_at int_at type_of integer_in flag_in
@@ -302,6 +341,7 @@ pub no_table : (t : Tree) → has_table t ≡ false → is_sound t ≡ false
 no_table t none = grind arith
 
 -- ---- a block that was made, or why not
+
 -- the room is no less, and what cannot be held the same
 pub refuses_more : (e : WriteError) (P Q : Type 0) (n m : ℕ) → (P → Q) → n ≤ m → Refuses e P n → Refuses e Q m
 refuses_more (Unfit i) P Q n m f le r = f r
@@ -312,6 +352,7 @@ pub gives : (r : Result (Vec ℕ Global) WriteError) (block : List ℕ) (P : Lis
 gives r block P unfit room made holds le = grind (arith, refuses_more)
 
 -- ---- one block after the other
+
 zip_push : {A : Type 0} (P : List ℕ → A → Type 0) (bs : List (List ℕ)) (xs : List A) (b : List ℕ) (x : A) → AllZip P bs xs → P b x → AllZip P (bs ++ b ∷ []) (xs ++ x ∷ [])
 zip_push P [] [] b x all one = (one, tt)
 zip_push P [] (y ∷ ys) b x all one = absurd all
@@ -348,11 +389,13 @@ module _ {A : Type 0} (P : List ℕ → A → Type 0) (rooms : List A → ℕ) w
       → (AllZip P blocks all → length (vector_block blocks) < 2 ^ 32 → Holds read (vector_block blocks) a) → (r : Result (Vec ℕ Global) WriteError) → Makes (vector_block blocks) r
       → Gives (λ b. Holds read b a) unfit (rooms all) r
   made_gives read a unfit blocks all none m holds r made =
-      let fits = m.fits in let size = length_linked (length blocks) blocks [] in
+      let fits = m.fits in
+      let size = length_linked (length blocks) blocks [] in
       gives r (vector_block blocks) (λ b. Holds read b a) unfit (rooms all) made
       (λ small. holds (subst (λ xs. AllZip P blocks xs) (sym (append-nil m.done) ∙ m.parts) m.each) (omega (arith, small))) (omega (arith, fits, size, none))
 
 -- ---- the walk along a vector of tables
+
 -- what is joined from a list, one after the other
 abbrev pub joined : {S E : Type 0} → (S → E → S) → S → List E → S
 joined join s [] = s
@@ -385,7 +428,8 @@ module _ {S E : Type 0} (read : List ℕ → ℕ → Result (E × ℕ) Fault) (j
       → (bs : List (List ℕ)) (xs : List E) → AllZip (Holds read) bs xs → length (vector_block bs) < 2 ^ 32
       → Holds (λ bytes at. vector_at bytes at >>= λ v. gather (put bytes v.0) s 0 v.1) (vector_block bs) (joined join s xs)
   vector_holds put s step bs xs all small =
-      let size = length_linked (length bs) bs [] in let wholes = are_whole bs xs all in
+      let size = length_linked (length bs) bs [] in
+      let wholes = are_whole bs xs all in
       let whole = whole_lengths bs wholes in
       record {
         whole = omega (arith, size, whole);
@@ -396,6 +440,7 @@ module _ {S E : Type 0} (read : List ℕ → ℕ → Result (E × ℕ) Fault) (j
       }
 
 -- ---- metadata
+
 module _ {K : Type 0} {cmp : K → K → Ordering} (total : IsTotalOrder cmp) where
   below_middle : (first : K) (ks : List K) (k : K) (more : List K) → AllByRecursion (λ y. cmp first y ≡ Less) (ks ++ k ∷ more) → cmp first k ≡ Less
   below_middle first [] k more h = h.0
@@ -447,6 +492,7 @@ texts_hold es sorted bs all small =
     subst (λ (m : Metadata). Holds texts_read (vector_block bs) m) (joined_texts [] es sorted) h
 
 -- ---- columns
+
 joined_columns : (done left : List ColumnTree) → joined push done left ≡ done ++ left
 joined_columns done [] = sym (append-nil done)
 joined_columns done (c ∷ left) = joined_columns (done ++ c ∷ []) left ∙ append_assoc done (c ∷ []) left
@@ -468,6 +514,7 @@ pub columns_made : (levels : ℕ) (unfit : Type 0) (blocks : List (List ℕ)) (l
 columns_made levels unfit blocks left cs m none r made = made_gives (Holds (child_in levels)) columns_room (columns_read levels) cs unfit blocks cs refl (rw none at m) (columns_hold levels blocks cs) r made
 
 -- ---- the columns that a type nests, one block after the other
+
 abbrev pub lent : List (Bor FieldTree) → List ColumnTree
 lent fs = map (λ f. column_of f.now) fs
 
@@ -479,6 +526,7 @@ each_refused f levels (y ∷ ys) zero x lt is e r = refuses_more e (IsUnfitType 
 each_refused f levels (y ∷ ys) (suc i) x lt is e r = refuses_more e (AreUnfit levels (map f ys)) _ (columns_room (map f ys)) _ inr (omega arith) (each_refused f levels ys i x (omega arith) is e r)
 
 -- ---- what a type nests
+
 fields_room_is : (fs : FieldTrees) → columns_room (map column_of (field_list fs)) ≡ fields_room fs
 fields_room_is no_fields = refl
 fields_room_is (field n t b m fs) = let rest = fields_room_is fs in omega (arith, rest)
@@ -530,6 +578,7 @@ members_lent lends all ms i so_far le same =
     sym (append-nil (lent lends)) ∙ ap (λ (l : Members). lent lends ++ map (λ m. column_of m.1) l) (sym (drop_all i all le)) ∙ so_far ∙ ap (map (λ m. column_of m.1)) same ∙ members_listed ms
 
 -- ---- a column, given the blocks of its name, its type, what its type nests and its metadata
+
 pub data_gives : (levels : ℕ) (t : Tree) (name : Text) (nullable : Bool) (texts : Metadata) (nb tb cb mb : List ℕ) (tag : ℕ) (cs : List ColumnTree) → 0 < levels → cs ≡ nested_columns t
     → Holds text_read nb name × (length nb ≤ 12 + length name) → Holds texts_read mb texts × (length mb ≤ texts_room texts) → Holds (columns_read (levels - 1)) cb cs × (length cb ≤ columns_room cs)
     → tag ≡ tag_of t → (has_table t ≡ true) × ((tb ≡ bytes_of t) × (length (bytes_of t) < 2 ^ 31))
@@ -538,7 +587,8 @@ pub data_gives : (levels : ℕ) (t : Tree) (name : Text) (nullable : Bool) (text
 data_gives zero t name nullable texts nb tb cb mb tag cs some same named written nested tagged table r made = absurd (omega arith)
 data_gives (suc levels) t name nullable texts nb tb cb mb tag cs some same named written nested tagged table r made =
     let size = length_table slots (bool_byte nullable ∷ tag ∷ 0 ∷ 0 ∷ []) (nb ∷ tb ∷ cb ∷ mb ∷ []) in
-    let room = table_size t in let most = nested_room_is t in
+    let room = table_size t in
+    let most = nested_room_is t in
     let below : suc levels - 1 ≡ levels = omega arith in
     gives r (column_block nb tb cb mb nullable tag) _ _ _ made (λ small.
     let typing : IsType tag tb (nested_columns t) (known t) = rw (tagged, table.1.0) (table_is t table.0 table.1.1) in
@@ -546,6 +596,7 @@ data_gives (suc levels) t name nullable texts nb tb cb mb tag cs some same named
     (omega (arith, size, room, most, named.1, written.1, ap length table.1.0, nested.1, ap columns_room same))
 
 -- ---- the columns of a schema
+
 pub column_refused : (levels : ℕ) (xs : List Column) (i : ℕ) (x : Column) (room : ℕ) → i < length xs → x ≡ get_or xs i x → IsUnfitType levels (column_tree x).data_type → RefusesColumns levels (Unfit i) (map column_tree xs) room
 column_refused levels xs i x room lt is u = (column_tree x, slice_get-map column_tree xs i ∙ ap (option_map column_tree) (slice_get_read xs (length xs) i x refl lt is), u)
 

@@ -1,4 +1,3 @@
-mod Terms
 mod Told
 mod Linked
 mod Blocks

@@ -1,10 +1,20 @@
 -- What is read at a place of a message from the bytes that stand there, and what stands in a block of linked blocks: its number, its
 -- offsets with the blocks to which they lead, its other bytes, and where it is a table, its slots.
-use Rattle.arrow_ipc.proofs.Terms.{get_or, ◌≡◌, ℕ, zero, suc, ◌+◌, ◌*◌, ◌-◌, ◌^◌, ◌%◌, ◌<◌, ◌≤◌, true, false, ◌++◌, ◌∷◌, [], List, length, take, drop, Some, Ok, refl, sym, ap, ◌∙◌, arith, nat_lt, ◌==◌, Bool, replicate, Option, None, Result, subst, append_assoc, if◌then◌else◌, map, Vec, Global, w8, w16, w32, to_le_bytes, from_le_bytes, is_utf8, concat, get_or_past, length-drop, drop-drop, drop_at, take_at, take_all, length-append, length-replicate, length-map, lt-ltb, le-ltb, le-leb, ltb-true, ltb-false, eq-eqb, IsUtf8-from_is_utf8, is_utf8-from_IsUtf8, integer_at, ahead, vtable_at, target_at, text_at, utf8_at, vector_at, opened_at, slot_at, Lies, Holds, lengths, word, rounded, padded, offsets, linked, table_size, places, table_block, Fault, Table, Vtable, Offset, Vector, Slot}
+use Rattle.std.proofs.Common.{get_or, ◌≡◌, ℕ, zero, suc, ◌+◌, ◌*◌, ◌-◌, ◌^◌, ◌%◌, ◌<◌, ◌≤◌, true, false, ◌++◌, ◌∷◌, [], List, length, take, drop, Some, Ok, refl, sym, ap, ◌∙◌, arith, nat_lt, ◌==◌, Bool, replicate, Option, None, Result, subst, append_assoc, if◌then◌else◌, map, Vec, Global}
+use Rattle.std.specs.Int.{w8, w16, w32, to_le_bytes, from_le_bytes}
+use Rattle.std.specs.Str.{is_utf8}
+use Rattle.std.specs.List.{concat}
 use Rattle.std.proofs.lemmas.Nat.{from_le_bytes-to_le_bytes_4}
+use Rattle.std.proofs.lemmas.List.{get_or_past, length-drop, drop-drop, drop_at, take_at, take_all, length-append, length-replicate, length-map}
+use Rattle.std.proofs.lemmas.Bool.{lt-ltb, le-ltb, le-leb, ltb-true, ltb-false, eq-eqb}
 use Rattle.std.proofs.lemmas.Bool.Decides.{nat_tests}
+use Rattle.std.proofs.lemmas.Str.{IsUtf8-from_is_utf8, is_utf8-from_IsUtf8}
+use Rattle.arrow_ipc.specs.Wire.{integer_at, ahead, vtable_at, target_at, text_at, utf8_at, vector_at, opened_at, slot_at}
+use Rattle.arrow_ipc.specs.Blocks.{Lies, Holds, lengths, word, rounded, padded, offsets, linked, table_size, places, table_block}
+use Rattle.arrow_ipc.specs.declared.fault.Fault.{Fault}
+use Rattle.arrow_ipc.specs.declared.wire.Table.{Table}
 use Rattle.arrow_ipc.specs.declared.fault.Rule.{Rule}
-use Rattle.arrow_ipc.specs.declared.fault.Rule.TheVariants.{Text}
+use Rattle.arrow_ipc.specs.declared.fault.Rule.TheVariants.{Vtable, Offset, Text, Vector, Slot}
 
 -- the test for UTF-8
 pub ruleset utf8_tests = (IsUtf8-from_is_utf8, is_utf8-from_IsUtf8)
@@ -50,6 +60,7 @@ text_is bytes at text rest even small valid is =
     rw (u32_is bytes at (length text) (text ++ 0 ∷ rest) even small is, ahead_is bytes at Text 4 (omega (arith, left)), ahead_is bytes (at + 4) Text (length text) (omega (arith, left)), body, end, valid) refl
 
 -- ---- lengths
+
 pub length_offsets : (near far : ℕ) (bs : List (List ℕ)) → length (offsets near far bs) ≡ 4 * length bs
 unfolding offsets
 length_offsets near far [] = refl
@@ -91,6 +102,7 @@ pub long_linked : (first : ℕ) (blocks : List (Vec ℕ Global)) (rest : List �
 long_linked first blocks rest = grind (arith, length_linked, length-map)
 
 -- ---- what stands further on
+
 module _ (bytes : List ℕ) (at : ℕ) where
   pub by_place : (y : List ℕ) (k : ℕ) → drop at bytes ≡ y → drop (at + k) bytes ≡ drop k y
   by_place y k is = sym (drop-drop k at bytes) ∙ ap (drop k) is
@@ -99,6 +111,7 @@ module _ (bytes : List ℕ) (at : ℕ) where
   further a b to is place = subst (λ n. drop n bytes ≡ b) place (by_place (a ++ b) (length a) is ∙ drop_at a b (length a) refl)
 
 -- ---- the blocks to which offsets lead
+
 pub record Leads (bytes : List ℕ) (at : ℕ) (block : List ℕ) : Type 0 where
   pub to : ℕ
   pub led : target_at bytes at ≡ Ok to
@@ -145,12 +158,14 @@ module _ (bytes : List ℕ) (at first : ℕ) (bs : List (List ℕ)) (rest : List
   bodies : drop (at + far first bs rest) bytes ≡ concat bs ++ lies.after
   unfolding linked
   bodies =
-      let front = padded (word first ++ (heads first bs rest ++ rest)) in let size = length_front first bs rest in
+      let front = padded (word first ++ (heads first bs rest ++ rest)) in
+      let size = length_front first bs rest in
       further bytes at front (concat bs ++ lies.after) (at + far first bs rest) (lies.is ∙ append_assoc front (concat bs) lies.after) (omega (arith, size))
 
   pub are_linked : AreWhole bs → length (linked first bs rest) < 2 ^ 32 → AreLinked bytes at 4 bs
   are_linked all small =
-      let size = length_linked first bs rest in let within = lies_within in
+      let size = length_linked first bs rest in
+      let within = lies_within in
       let whole = lies.whole in
       links bytes at bs 4 (far first bs rest) (rest ++ tail) lies.after (further bytes at (word first) (heads first bs rest ++ (rest ++ tail)) (at + 4) flat refl) bodies
       (omega (arith, whole)) (omega (arith, whole)) all (omega arith) (omega (arith, small, size)) (omega (arith, within, size))
@@ -158,11 +173,14 @@ module _ (bytes : List ℕ) (at first : ℕ) (bs : List (List ℕ)) (rest : List
   pub is_vector : 4 * first ≤ 4 * length bs + length rest → length (linked first bs rest) < 2 ^ 32 → vector_at bytes at ≡ Ok (at + 4, first)
   unfolding vector_at
   is_vector many small =
-      let size = length_linked first bs rest in let within = lies_within in
-      let whole = lies.whole in let count = u32_is bytes at first _ (omega (arith, whole)) (omega (arith, many, small, size)) flat in
+      let size = length_linked first bs rest in
+      let within = lies_within in
+      let whole = lies.whole in
+      let count = u32_is bytes at first _ (omega (arith, whole)) (omega (arith, many, small, size)) flat in
       rw (count, ahead_is bytes at Vector 4 (omega (arith, within, size)), ahead_is bytes (at + 4) Vector (4 * first) (omega (arith, many, within, size))) refl
 
 -- ---- the slots of a table
+
 abbrev pub slot_place : ℕ → List ℕ → ℕ → Option ℕ
 slot_place at ss i = if get_or ss i 0 == 0 then None else Some (at + get_or ss i 0)
 
@@ -234,7 +252,8 @@ module _ (slots numbers : List ℕ) (bs : List (List ℕ)) where
       opened : opened_at bytes at ≡ Ok (opened_table slots numbers bs at)
       unfolding opened_at
       opened =
-          let whole = lies.whole in let ended = ends_at in
+          let whole = lies.whole in
+          let ended = ends_at in
           let even : ((4 + 2 * length slots) % 2 == 0) ≡ true = eq-eqb ((4 + 2 * length slots) % 2) 0 (omega arith) in
           let back = vtable_is bytes at size _ (omega (arith, whole)) (omega arith) few (omega (arith, ended)) (flat bytes at first bs (numbers ++ vtable) lies) in
           let long = low bytes (at + size) (4 + 2 * length slots) _ (omega (arith, whole, fourth)) vtable_at_size in
@@ -243,8 +262,10 @@ module _ (slots numbers : List ℕ) (bs : List (List ℕ)) where
       by_test : (i : ℕ) (b : Bool) → nat_lt i (length slots) ≡ b → slot_at bytes (opened_table slots numbers bs at) i ≡ Ok (slot_place at slots i)
       unfolding slot_at
       by_test i true is =
-          let lt = ltb-true i (length slots) is in let ended = ends_at in
-          let whole = lies.whole in let s = get_or slots i 0 in
+          let lt = ltb-true i (length slots) is in
+          let ended = ends_at in
+          let whole = lies.whole in
+          let s = get_or slots i 0 in
           let got = found bytes slots i (at + size + 4) behind (by_place bytes (at + size) (vtable ++ behind) 4 vtable_at_size) (omega (arith, whole, fourth)) lt in
           let place : at + size + 4 + 2 * i ≡ at + size + (4 + 2 * i) = omega arith in
           let here = subst (λ n. integer_at bytes n w16 ≡ Ok s) place got in

@@ -1,8 +1,17 @@
 -- From what a step returned to what a call returned; and laws of what is read.
-use Rattle.arrow_ipc.proofs.Terms.{◌≡◌, ℕ, ◌+◌, ◌*◌, ◌-◌, ◌<◌, ◌≤◌, Result, Ok, Err, refl, ap, ◌∙◌, arith, suc, List, ℤ, Option, zero, length, MatchResult, ColumnTree, ◌>>=◌, breaks, Fails, ◌>>+◌, gather, Fault, Own, parts_at, put_id, ids_from, put_column, columns_by, finished, priced, column_at, Depth, SchemaTree, schema_tree, head_at, with_columns, schema_at, message_at, footer_at, message_in, schema_of_message, schema_of_footer, Meets, MeetsIn, Schema}
+use Rattle.std.proofs.Common.{◌≡◌, ℕ, ◌+◌, ◌*◌, ◌-◌, ◌<◌, ◌≤◌, Result, Ok, Err, refl, ap, ◌∙◌, arith, suc, List, ℤ, Option, zero, length, MatchResult}
+use Rattle.arrow_columns.specs.Column.{ColumnTree}
+use Rattle.arrow_ipc.specs.Fault.{◌>>=◌, breaks}
+use Rattle.arrow_ipc.specs.Tells.{Fails, ◌>>+◌, gather}
+use Rattle.arrow_ipc.specs.declared.fault.Fault.{Fault}
 use Rattle.arrow_ipc.specs.declared.fault.IpcError.{IpcError}
+use Rattle.arrow_ipc.specs.Parts.{Own, parts_at}
+use Rattle.arrow_ipc.specs.Columns.{put_id, ids_from, put_column, columns_by, finished, priced, column_at}
+use Rattle.arrow_ipc.specs.declared.fault.Rule.TheVariants.{Depth}
+use Rattle.arrow_ipc.specs.Schema.{SchemaTree, schema_tree, head_at, with_columns, schema_at, message_at, footer_at, message_in, schema_of_message, schema_of_footer, Meets, MeetsIn}
 use Rattle.arrow_ipc.specs.Denotes.{Denotes, IsStreamOf}
 use Rattle.arrow_ipc.specs.declared.fault.IpcError.TheVariants.{OutOfMemory}
+use Rattle.arrow_ipc.specs.declared.schema.Schema.{Schema}
 
 -- what a chain of two gave came from both
 pub bound : {A B : Type 0} (r : Result A Fault) (f : A → Result B Fault) (y : B) → (r >>= f) ≡ Ok y → (x : A) × (r ≡ Ok x) × (f x ≡ Ok y)
@@ -14,6 +23,7 @@ first_fails : {A B : Type 0} (step : Result (A × ℕ) Fault) (rest : A → Resu
 first_fails step rest old e f = grind (arith, bound)
 
 -- ---- what a loop gathers, one element after the other: what is left, after what was taken before
+
 unfoldable pub after : {A : Type 0} → ℕ → Result (A × ℕ) Fault → Result (A × ℕ) Fault
 after taken r = r >>= λ x. Ok (x.0, taken + x.1)
 
@@ -49,6 +59,7 @@ pub put_fails : (read : ℕ → Result (ColumnTree × ℕ) Fault) (start : ℕ) 
 put_fails read start cs i old e f = grind arith
 
 -- ---- a column, by what its own table says
+
 module _ (bytes : List ℕ) (at depth : ℕ) where
   pub too_deep : depth ≡ 0 → column_at depth bytes at ≡ breaks Depth at
   unfolding column_at
@@ -62,6 +73,7 @@ module _ (bytes : List ℕ) (at depth : ℕ) where
   steps some = let k : depth ≡ suc (depth - 1) = omega arith in ap (λ d. column_at d bytes at) k
 
 -- ---- the type ids of a union, one after the other
+
 module _ (bytes : List ℕ) (table : ℕ) (written : Option (ℕ × ℕ)) (ids : List ℤ) (i : ℕ) where
   pub next_id : (count : ℕ) → i < count → ids_from bytes table written ids i (count - i) ≡ (put_id bytes table written ids i >>= λ more. ids_from bytes table written more (i + 1) (count - (i + 1)))
   unfolding ids_from
@@ -72,6 +84,7 @@ module _ (bytes : List ℕ) (table : ℕ) (written : Option (ℕ × ℕ)) (ids :
   all_ids count le = let k : count - i ≡ 0 = omega arith in rw k refl
 
 -- ---- laws of what is read: more levels change nothing of what is read with fewer, so a message or footer denotes one schema at most
+
 -- two steps that read as much as two others
 both_more : {A B : Type 0} (r s : Result (A × ℕ) Fault) (f g : A → Result (B × ℕ) Fault) → ((x : A × ℕ) → r ≡ Ok x → s ≡ Ok x) → ((x : A) (y : B × ℕ) → f x ≡ Ok y → g x ≡ Ok y)
     → (v : B × ℕ) → (r >>+ f) ≡ Ok v → (s >>+ g) ≡ Ok v

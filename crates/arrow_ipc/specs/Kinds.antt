@@ -1,4 +1,5 @@
--- Types by their tags, and what counts where a slot is missing. A unit: 0 seconds, 1 milliseconds, 2 microseconds, 3 nanoseconds.
+-- Types by their tags, with their widths, units and sizes, and what counts where a slot is missing. A unit is 0 for seconds, 1 for
+-- milliseconds, 2 for microseconds, 3 for nanoseconds.
 use Rattle.std.specs.Prelude.{ℕ, pos, ◌^◌, Bool, ◌||◌, List, Result, Ok, nat_lt, nat_le, ◌==◌, if◌then◌else◌}
 use Rattle.std.specs.Int.{w16, w32, cast_signed}
 use Rattle.arrow_ipc.specs.Fault.{◌>>=◌, breaks}

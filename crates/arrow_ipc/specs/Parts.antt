@@ -1,4 +1,5 @@
--- What a column's table says of it. Slots: 0 name, 1 nullable, 2 the type's tag, 3 its table, 4 dictionary, 5 children, 6 metadata.
+-- What a column's table says of the column itself: its slots are 0 name, 1 nullable, 2 and 3 the type's tag and table, 4 its
+-- dictionary, 5 its children, 6 its metadata.
 use Rattle.std.specs.Prelude.{ℕ, Bool, List, [], Option, None, Result, Ok, nat_le, ◌==◌, if◌then◌else◌}
 use Rattle.std.specs.Int.{w8, w64}
 use Rattle.std.specs.Option.{option_map, option_transpose, unwrap_or}
@@ -41,10 +42,6 @@ index_at bytes at = do
 
 unfoldable pub index_in : List ℕ → Table → Result (Option Index) Fault
 index_in bytes table = led_by bytes table 4 >>= λ place. option_transpose (option_map (index_at bytes) place)
-
--- the tables of its children and of its metadata
-abbrev pub lists_in : List ℕ → Table → Result ((ℕ × ℕ) × (ℕ × ℕ)) Fault
-lists_in bytes table = vector_in bytes table 5 >>= λ children. vector_in bytes table 6 >>= λ texts. Ok (unwrap_or children (0, 0), unwrap_or texts (0, 0))
 
 pub record Own : Type 0 where
   pub table : ℕ

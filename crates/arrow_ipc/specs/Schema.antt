@@ -58,7 +58,8 @@ schema_at levels bytes table = do
 abbrev pub is_version : ℕ → Bool
 is_version version = nat_le 3 version && nat_le version 4
 
--- the schema's table in a message: slot 0 its version, 1 the header's tag, 1 for a schema, 2 its table; slot 3 the body's length, 0
+-- the schema's table in a message: slot 0 its version, 1 and 2 the header's tag, 1 for a schema, and table; slot 3 the length of its
+-- body, which is 0
 unfoldable pub message_at : List ℕ → Result ℕ Fault
 message_at bytes = do
   message ← (target_at bytes 0 >>= opened_at bytes)

@@ -1,4 +1,5 @@
--- FlatBuffers: what stands at a position of a message: nothing past its end, and a number at a multiple of its size.
+-- FlatBuffers: what stands at a position of a message. Nothing stands past its end, and a number stands at a multiple of its
+-- size.
 use Rattle.std.specs.Prelude.{ℕ, ◌+◌, ◌-◌, ◌*◌, ◌^◌, ◌%◌, ◌≤◌, ◌&&◌, List, [], ◌∷◌, length, take, drop, Option, Some, None, Result, Ok, nat_lt, nat_le, ◌==◌, if◌then◌else◌}
 use Rattle.std.specs.Int.{Width, w8, w16, w32, w64, byte_len, from_le_bytes}
 use Rattle.std.specs.Str.{is_utf8}

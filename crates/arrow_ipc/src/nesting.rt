@@ -139,9 +139,14 @@ fn children_block(alloc: Global, fields: &[&Field], levels: usize) -> Block
 {
     let mut blocks = Vec::new(alloc);
     'columns: for field in fields {
-        let (name, nullable) = (field.name(), field.is_nullable());
-        let (data_type, texts) = (field.data_type(), field.metadata());
-        let block = data_block(alloc, name, nullable, data_type, texts, levels)?;
+        let block = data_block(
+            alloc,
+            field.name(),
+            field.is_nullable(),
+            field.data_type(),
+            field.metadata(),
+            levels,
+        )?;
         blocks.push(block)?;
     }
     vector_block(alloc, blocks.as_slice())

@@ -4,7 +4,7 @@ ghost use Rattle.std.specs.Prelude.{◌≡◌, ◌+◌, ◌*◌, ◌<◌, ◌≤
 ghost use Rattle.arrow_ipc.specs.Fault.{map_ok};
 ghost use Rattle.arrow_ipc.specs.Wire.{IsOpen};
 ghost use Rattle.arrow_ipc.specs.Kinds.{int_at, decimal_at, time_at, number_at, kind_at};
-ghost use Rattle.arrow_ipc.specs.Parts.{int_of, index_at, index_in, zone_or_ids, lists_in, parts_of, parts_at};
+ghost use Rattle.arrow_ipc.specs.Parts.{index_at, index_in, zone_or_ids, parts_of, parts_at};
 
 use crate::fault::{Found, Rule, broken, ensure};
 use crate::wire::{
@@ -49,7 +49,8 @@ pub(crate) fn int_at(bytes: &[u8], table: &Table) -> Found<DataType>
     ensures { result ≡ int_at bytes.now table.now }
 {
     let width = integer_in(bytes, table, 0, 4, 0)?;
-    match (width, flag_in(bytes, table, 1)?) {
+    let signed = flag_in(bytes, table, 1)?;
+    match (width, signed) {
         (8, true) => Ok(DataType::Int8),
         (8, false) => Ok(DataType::UInt8),
         (16, true) => Ok(DataType::Int16),
@@ -179,14 +180,6 @@ pub(crate) struct Parts<'a> {
     pub texts: Vector,
 }
 
-/// The integers of the type whose table is there.
-#[inline(always)]
-fn int_of(bytes: &[u8], at: usize) -> Found<DataType>
-    ensures { result ≡ int_of bytes.now at }
-{
-    int_at(bytes, &open(bytes, at)?)
-}
-
 /// How the dictionary whose table is there is indexed, by 32-bit integers where nothing else is said.
 #[tactic(auto, unfolding(crate::specs::Parts::index_at))]
 fn index_at(bytes: &[u8], at: usize) -> Found<Index>
@@ -195,8 +188,9 @@ fn index_at(bytes: &[u8], at: usize) -> Found<Index>
     let table = open(bytes, at)?;
     let _id = integer_in(bytes, &table, 0, 8, 0)?;
     let place = led_by(bytes, &table, 1)?;
-    let integers = place.map_or(Ok(DataType::Int32), |at| int_of(bytes, at))?;
-    flag_in(bytes, &table, 2).map(|ordered| Index { integers, ordered })
+    let integers = place.map_or(Ok(DataType::Int32), |at| int_at(bytes, &open(bytes, at)?))?;
+    let ordered = flag_in(bytes, &table, 2)?;
+    Ok(Index { integers, ordered })
 }
 
 /// A column's dictionary, if it has one.
@@ -224,22 +218,14 @@ fn zone_or_ids<'a>(bytes: &'a [u8], tag: usize, table: &Table) -> Found<(&'a str
     }
 }
 
-/// Where the tables of a column's children and of its metadata are; none where the slot is missing.
-fn lists_in(bytes: &[u8], table: &Table) -> Found<(Vector, Vector)>
-    requires { IsOpen bytes.now table.now }
-    ensures is { result ≡ lists_in bytes.now table.now }
-    ensures within { IfOk result (λ p. (p.0.0 + 4 * p.0.1 ≤ length bytes.now) × (p.1.0 + 4 * p.1.1 ≤ length bytes.now)) }
-{
-    let children = vector_in(bytes, table, 5)?.unwrap_or((0, 0));
-    Ok((children, vector_in(bytes, table, 6)?.unwrap_or((0, 0))))
-}
-
 /// What the table of a column, to which the offset at a position leads, says of the column itself.
 #[tactic(auto, unfolding(crate::specs::Parts::parts_at, crate::specs::Parts::parts_in, crate::specs::Parts::tag_in))]
 #[inline(never)]
 pub(crate) fn parts_at(bytes: &[u8], at: usize) -> Found<Parts<'_>>
     ensures is { map_ok parts_of result ≡ parts_at bytes.now at }
-    ensures within { IfOk result (λ p. (p.children.0 + 4 * p.children.1 ≤ length bytes.now) × (p.texts.0 + 4 * p.texts.1 ≤ length bytes.now) × IfSome p.ids (λ q. q.0 + 4 * q.1 ≤ length bytes.now)) }
+    ensures children { IfOk result (λ p. p.children.0 + 4 * p.children.1 ≤ length bytes.now) }
+    ensures ids { IfOk result (λ p. IfSome p.ids (λ q. q.0 + 4 * q.1 ≤ length bytes.now)) }
+    ensures texts { IfOk result (λ p. p.texts.0 + 4 * p.texts.1 ≤ length bytes.now) }
 {
     let table = open(bytes, target_at(bytes, at)?)?;
     let name = text_in(bytes, &table, 0)?;
@@ -251,16 +237,15 @@ pub(crate) fn parts_at(bytes: &[u8], at: usize) -> Found<Parts<'_>>
     let _first = slot_at(bytes, &value, 0)?;
     let kind = kind_at(bytes, tag, &value)?;
     let (zone, ids) = zone_or_ids(bytes, tag, &value)?;
-    let index = index_in(bytes, &table)?;
-    lists_in(bytes, &table).map(|(children, texts)| Parts {
+    Ok(Parts {
         table: table.at,
         name,
         nullable,
         kind,
         zone,
         ids,
-        index,
-        children,
-        texts,
+        index: index_in(bytes, &table)?,
+        children: vector_in(bytes, &table, 5)?.unwrap_or((0, 0)),
+        texts: vector_in(bytes, &table, 6)?.unwrap_or((0, 0)),
     })
 }

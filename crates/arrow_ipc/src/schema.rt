@@ -6,7 +6,7 @@ ghost use Rattle.arrow_columns.specs.Column.{column_tree};
 ghost use Rattle.arrow_ipc.specs.Fault.{map_ok};
 ghost use Rattle.arrow_ipc.specs.Parts.{parts_of};
 ghost use Rattle.arrow_ipc.specs.Tells.{Tells, Says};
-ghost use Rattle.arrow_ipc.specs.Columns.{entry_at, put_entry, texts_at, is_new, ids_at, ids_of_kind, finished, columns_by, column_at};
+ghost use Rattle.arrow_ipc.specs.Columns.{entry_at, put_entry, texts_at, is_new, ids_at, finished, columns_by, column_at};
 ghost use Rattle.arrow_ipc.specs.Schema.{message_at, footer_at, cut, message_in, footer_in, schema_of, Meets, MeetsIn, schema_of_message, schema_of_footer};
 
 use crate::fault::{Found, IpcError, Rule, broken, ensure};
@@ -68,7 +68,8 @@ fn entry_at(bytes: &[u8], at: usize) -> Found<(&str, &str)>
 {
     let table = open(bytes, target_at(bytes, at)?)?;
     let key = utf8_at(bytes, table_in(bytes, &table, 0)?)?;
-    Ok((key, utf8_at(bytes, table_in(bytes, &table, 1)?)?))
+    let text = utf8_at(bytes, table_in(bytes, &table, 1)?)?;
+    Ok((key, text))
 }
 
 /// Puts an entry of metadata to those before it.
@@ -105,19 +106,15 @@ fn is_new(id: usize, ids: &[i8]) -> bool
 }
 
 /// The type ids of a union of so many children, each 0 to 127, and none of those before it; where they are not written, 0, 1, 2 and on.
-/// Of any other kind none.
 #[tactic(auto, using(crate::proofs::Told::next_id, crate::proofs::Told::all_ids), unfolding(crate::specs::Columns::ids_at, crate::specs::Columns::put_id))]
 #[inline(never)]
 fn read_ids(alloc: Global, bytes: &[u8], parts: &Parts<'_>, count: usize) -> Read<Vec<i8>>
     requires { IfSome parts.now.ids (λ v. v.0 + 4 * v.1 ≤ length bytes.now) }
-    ensures { Says (λ ids. ids.items) (ids_of_kind parts.now.kind (ids_at bytes.now parts.now.table parts.now.ids count)) result }
+    ensures { Says (λ ids. ids.items) (ids_at bytes.now parts.now.table parts.now.ids count) result }
 {
-    let mut ids = Vec::new(alloc);
-    let Kind::Union(_) = parts.kind else {
-        return Ok(ids);
-    };
     let as_many = parts.ids.map_or(true, |ids| ids.1 == count);
     ensure(as_many, Rule::TypeIds, parts.table)?;
+    let mut ids = Vec::new(alloc);
     'ids: for i in 0..count {
         let id = match parts.ids {
             None => i,
@@ -142,17 +139,17 @@ fn finish(
     requires texts { parts.now.texts.0 + 4 * parts.now.texts.1 ≤ length bytes.now }
     ensures { Tells column_tree (finished bytes.now (parts_of parts.now) (map column_tree children.items)) budget.old budget.new result }
 {
-    let name = String::from_str(alloc, parts.name)?;
-    let ids = read_ids(alloc, bytes, parts, children.len())?;
+    let ids = match parts.kind {
+        Kind::Union(_) => read_ids(alloc, bytes, parts, children.len())?,
+        _ => Vec::new(alloc),
+    };
     let made = type_of(alloc, &parts.kind, parts.zone, ids, children)?;
     let values = made.ok_or(broken(Rule::Children, parts.table))?;
-    let data_type = with_dictionary(alloc, &parts.index, values)?;
-    let nullable = parts.nullable;
-    read_texts(alloc, bytes, parts.texts, budget).map(|metadata| Column {
-        name,
-        nullable,
-        data_type,
-        metadata,
+    Ok(Column {
+        data_type: with_dictionary(alloc, &parts.index, values)?,
+        metadata: read_texts(alloc, bytes, parts.texts, budget)?,
+        name: String::from_str(alloc, parts.name)?,
+        nullable: parts.nullable,
     })
 }
 
@@ -197,7 +194,8 @@ fn message_at(bytes: &[u8]) -> Found<usize>
     let message = open(bytes, target_at(bytes, 0)?)?;
     let version = integer_in(bytes, &message, 0, 2, 0)?;
     let tag = integer_in(bytes, &message, 1, 1, 0)?;
-    match (version, tag, integer_in(bytes, &message, 3, 8, 0)?) {
+    let body = integer_in(bytes, &message, 3, 8, 0)?;
+    match (version, tag, body) {
         (3 | 4, 1, 0) => table_in(bytes, &message, 2),
         _ => Err(broken(Rule::Message, message.at)),
     }

@@ -157,11 +157,15 @@ pub(crate) fn type_block(alloc: Global, number: Option<u32>, truth: Option<bool>
 fn any_column(alloc: Global, column: &Column) -> Block
     ensures { Gives (λ b. Holds (child_in NESTING_LIMIT) b (column_tree column.now)) (IsUnfitType NESTING_LIMIT (type_tree column.now.data_type)) (room_of (column_tree column.now)) result }
 {
-    let (name, nullable, texts) = (column.name.as_str(), column.nullable, &column.metadata);
     match &column.data_type {
-        ColumnType::Data(data_type) => {
-            data_block(alloc, name, nullable, data_type, texts, NESTING_LIMIT)
-        }
+        ColumnType::Data(data_type) => data_block(
+            alloc,
+            column.name.as_str(),
+            column.nullable,
+            data_type,
+            &column.metadata,
+            NESTING_LIMIT,
+        ),
         // no message can hold the type, here and in the blocks below: `columns_block` puts the index of the column
         ColumnType::Other(_) => Err(WriteError::Column(0)),
     }

@@ -1,4 +1,4 @@
-use Rattle.arrow_ipc.proofs.Terms.{message_in, footer_in, schema_of_message, schema_of_footer}
+use Rattle.arrow_ipc.specs.Schema.{message_in, footer_in, schema_of_message, schema_of_footer}
 use Rattle.arrow_ipc.proofs.Told.{message_more, footer_more, denotes_one}
 use Rattle.arrow_ipc.proofs.laws.schema_is_unique.Goals as goal
 

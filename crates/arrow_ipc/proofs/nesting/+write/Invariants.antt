@@ -1,5 +1,9 @@
-use Rattle.arrow_ipc.proofs.Terms.{◌+◌, ◌*◌, map, drop, Holds, child_in, column_of, columns_room}
-use Rattle.arrow_ipc.proofs.Blocks.{items, Made}
+use Rattle.std.proofs.Common.{◌+◌, ◌*◌, map, drop}
+use Rattle.arrow_ipc.specs.Blocks.{Holds, child_in}
+use Rattle.arrow_ipc.specs.Shapes.{column_of}
+use Rattle.arrow_ipc.specs.Rooms.{columns_room}
+use Rattle.arrow_ipc.proofs.Linked.{items}
+use Rattle.arrow_ipc.proofs.Blocks.{Made}
 use Rattle.arrow_ipc.proofs.nesting.+write.Given as goal
 
 abbrev pub decreases-data_block : goal.decreases-data_block

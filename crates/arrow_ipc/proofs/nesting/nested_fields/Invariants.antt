@@ -1,4 +1,5 @@
-use Rattle.arrow_ipc.proofs.Terms.{◌≡◌, ◌++◌, map, drop, column_of}
+use Rattle.std.proofs.Common.{◌≡◌, ◌++◌, map, drop}
+use Rattle.arrow_ipc.specs.Shapes.{column_of}
 use Rattle.arrow_ipc.proofs.Blocks.{lent}
 use Rattle.arrow_ipc.proofs.nesting.nested_fields.Given as goal
 

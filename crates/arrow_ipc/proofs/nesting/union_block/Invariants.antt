@@ -1,4 +1,7 @@
-use Rattle.arrow_ipc.proofs.Terms.{◌≡◌, ◌++◌, [], drop, member_trees, id_words, member_ids, are_ids}
+use Rattle.std.proofs.Common.{◌≡◌, ◌++◌, [], drop}
+use Rattle.arrow_values.specs.View.{member_trees}
+use Rattle.arrow_ipc.specs.Blocks.{id_words}
+use Rattle.arrow_ipc.specs.Shapes.{member_ids, are_ids}
 use Rattle.arrow_ipc.proofs.nesting.union_block.Given as goal
 
 -- the ids so far, before those that are left

@@ -1,4 +1,7 @@
-use Rattle.arrow_ipc.proofs.Terms.{◌≡◌, ◌+◌, ◌*◌, ◌-◌, ◌≤◌, [], map, column_tree, put_column, column_at, gather}
+use Rattle.std.proofs.Common.{◌≡◌, ◌+◌, ◌*◌, ◌-◌, ◌≤◌, [], map}
+use Rattle.arrow_columns.specs.Column.{column_tree}
+use Rattle.arrow_ipc.specs.Columns.{put_column, column_at}
+use Rattle.arrow_ipc.specs.Tells.{gather}
 use Rattle.arrow_ipc.proofs.Told.{after}
 use Rattle.arrow_ipc.proofs.schema.+read.Given as goal
 

@@ -1,4 +1,6 @@
-use Rattle.arrow_ipc.proofs.Terms.{arith, ◌≡◌, ℕ, ◌*◌, ◌-◌, length, Ok, ap, Head, schema_tree, head_at, schema_at, Schema}
+use Rattle.std.proofs.Common.{arith, ◌≡◌, ℕ, ◌*◌, ◌-◌, length, Ok, ap}
+use Rattle.arrow_ipc.specs.Schema.{Head, schema_tree, head_at, schema_at}
+use Rattle.arrow_ipc.specs.declared.schema.Schema.{Schema}
 use Rattle.arrow_ipc.proofs.schema.read_flatbuffer.Goals as goal
 
 pub returns : goal.returns

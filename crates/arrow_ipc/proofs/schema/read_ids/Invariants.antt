@@ -1,4 +1,5 @@
-use Rattle.arrow_ipc.proofs.Terms.{◌≡◌, ◌-◌, [], ids_from}
+use Rattle.std.proofs.Common.{◌≡◌, ◌-◌, []}
+use Rattle.arrow_ipc.specs.Columns.{ids_from}
 use Rattle.arrow_ipc.proofs.schema.read_ids.Given as goal
 
 -- the ids that are left, after those so far, are all

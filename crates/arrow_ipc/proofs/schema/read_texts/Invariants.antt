@@ -1,4 +1,7 @@
-use Rattle.arrow_ipc.proofs.Terms.{◌≡◌, ◌-◌, ◌≤◌, [], texts_of, put_next, gather}
+use Rattle.std.proofs.Common.{◌≡◌, ◌-◌, ◌≤◌, []}
+use Rattle.arrow_values.specs.View.{texts_of}
+use Rattle.arrow_ipc.specs.Columns.{put_next}
+use Rattle.arrow_ipc.specs.Tells.{gather}
 use Rattle.arrow_ipc.proofs.Told.{after}
 use Rattle.arrow_ipc.proofs.schema.read_texts.Given as goal
 

@@ -1,4 +1,8 @@
-use Rattle.arrow_ipc.proofs.Terms.{◌≡◌, ℤ, List, [], ◌∷◌, ◌++◌, map, length, sym, ◌∙◌, ◌⊎◌, inl, inr, append-nil, arith, Text, column_tree, Column, member_parts}
+use Rattle.std.proofs.Common.{◌≡◌, ℤ, List, [], ◌∷◌, ◌++◌, map, length, sym, ◌∙◌, ◌⊎◌, inl, inr, append-nil, arith}
+use Rattle.arrow_values.specs.Tree.{Text}
+use Rattle.arrow_columns.specs.Column.{column_tree}
+use Rattle.arrow_columns.specs.declared.column.Column.{Column}
+use Rattle.arrow_ipc.specs.Types.{member_parts}
 use Rattle.arrow_ipc.proofs.types.member_parts.Goals as goal
 
 -- there are no more ids, or no more children

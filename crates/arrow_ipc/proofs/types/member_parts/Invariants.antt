@@ -1,5 +1,7 @@
-use Rattle.arrow_ipc.proofs.Terms.{◌≡◌, ◌++◌, map, string_bytes, column_tree, member_parts}
+use Rattle.std.proofs.Common.{◌≡◌, ◌++◌, map, string_bytes}
 use Rattle.std.specs.Slice.Iter.{iter_rest}
+use Rattle.arrow_columns.specs.Column.{column_tree}
+use Rattle.arrow_ipc.specs.Types.{member_parts}
 use Rattle.arrow_ipc.proofs.types.member_parts.Given as goal
 
 abbrev pub invariant-loop-id : goal.invariant-loop-id

@@ -1,5 +1,8 @@
-use Rattle.arrow_ipc.proofs.Terms.{map, ap, arith, drop_all, drop_more, map_push, column_tree}
-use Rattle.arrow_ipc.proofs.Blocks.{items, made_more, columns_made, column_refused, columns_give}
+use Rattle.std.proofs.Common.{map, ap}
+use Rattle.std.proofs.lemmas.List.{drop_all}
+use Rattle.arrow_columns.specs.Column.{column_tree}
+use Rattle.arrow_ipc.proofs.Linked.{items}
+use Rattle.arrow_ipc.proofs.Blocks.{columns_made, column_refused, columns_give}
 use Rattle.arrow_ipc.proofs.write.columns_block.Goals as goal
 
 pub returns : goal.returns
@@ -12,6 +15,3 @@ returns c =
 pub returns-in-Err-Column : goal.returns-in-Err-Column
 returns-in-Err-Column c =
     column_refused 61 c.args.columns.now c.columns.i c.index-columns-i.result 0 c.columns-test.true c.index-columns-i.is (rw c.in-Err-Column.field-0-is at c.in-Err-Column.ensures)
-
-pub columns-preserved : goal.columns-preserved
-columns-preserved c = grind (arith, made_more, drop_more, map_push)

@@ -1,5 +1,9 @@
-use Rattle.arrow_ipc.proofs.Terms.{map, drop, column_tree, Holds, child_in, columns_room}
-use Rattle.arrow_ipc.proofs.Blocks.{items, Made}
+use Rattle.std.proofs.Common.{map, drop}
+use Rattle.arrow_columns.specs.Column.{column_tree}
+use Rattle.arrow_ipc.specs.Blocks.{Holds, child_in}
+use Rattle.arrow_ipc.specs.Rooms.{columns_room}
+use Rattle.arrow_ipc.proofs.Linked.{items}
+use Rattle.arrow_ipc.proofs.Blocks.{Made}
 use Rattle.arrow_ipc.proofs.write.columns_block.Given as goal
 
 -- the blocks of the columns so far, before those that are left

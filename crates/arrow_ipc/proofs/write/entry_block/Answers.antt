@@ -1,5 +1,6 @@
-use Rattle.arrow_ipc.proofs.Terms.{◌∷◌, [], arith}
-use Rattle.arrow_ipc.proofs.Blocks.{length_table, entry_holds, gives}
+use Rattle.std.proofs.Common.{◌∷◌, [], arith}
+use Rattle.arrow_ipc.proofs.Linked.{length_table}
+use Rattle.arrow_ipc.proofs.Blocks.{entry_holds, gives}
 use Rattle.arrow_ipc.proofs.write.entry_block.Goals as goal
 
 pub returns : goal.returns

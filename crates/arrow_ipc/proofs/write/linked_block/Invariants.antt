@@ -1,4 +1,6 @@
-use Rattle.arrow_ipc.proofs.Terms.{◌≡◌, ◌+◌, ◌*◌, ◌≤◌, ◌++◌, length, map, drop, concat, lengths, word, rounded, offsets, linked}
+use Rattle.std.proofs.Common.{◌≡◌, ◌+◌, ◌*◌, ◌≤◌, ◌++◌, length, map, drop}
+use Rattle.std.specs.List.{concat}
+use Rattle.arrow_ipc.specs.Blocks.{lengths, word, rounded, offsets, linked}
 use Rattle.arrow_ipc.proofs.Linked.{items}
 use Rattle.arrow_ipc.proofs.write.linked_block.Given as goal
 

@@ -1,4 +1,6 @@
-use Rattle.arrow_ipc.proofs.Terms.{◌≡◌, ℕ, ◌∷◌, [], List, length, ap, ◌∙◌, arith, common_steps, table_block, schema_block, order_number}
+use Rattle.std.proofs.Common.{◌≡◌, ℕ, ◌∷◌, [], List, length, ap, ◌∙◌, arith}
+use Rattle.std.proofs.lemmas.Grind.{common_steps}
+use Rattle.arrow_ipc.specs.Blocks.{table_block, schema_block, order_number}
 use Rattle.arrow_ipc.proofs.Blocks.{stream_built, stream_holds, length_message, length_schema}
 use Rattle.arrow_ipc.proofs.write.stream_bytes.Goals as goal
 

@@ -1,4 +1,5 @@
-use Rattle.arrow_ipc.proofs.Terms.{◌≡◌, ◌+◌, ◌*◌, ◌++◌, ◌∷◌, length, map, drop, table_size, places}
+use Rattle.std.proofs.Common.{◌≡◌, ◌+◌, ◌*◌, ◌++◌, ◌∷◌, length, map, drop}
+use Rattle.arrow_ipc.specs.Blocks.{table_size, places}
 use Rattle.arrow_ipc.proofs.Linked.{items}
 use Rattle.arrow_ipc.proofs.write.table_block.Given as goal
 

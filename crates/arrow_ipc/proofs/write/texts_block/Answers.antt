@@ -1,5 +1,9 @@
-use Rattle.arrow_ipc.proofs.Terms.{◌≡◌, map, refl, rules, texts_of, Holds, entry_read, texts_read, texts_room}
-use Rattle.arrow_ipc.proofs.Blocks.{items, made_gives, texts_hold}
+use Rattle.std.proofs.Common.{◌≡◌, map, refl, rules}
+use Rattle.arrow_values.specs.View.{texts_of}
+use Rattle.arrow_ipc.specs.Blocks.{Holds, entry_read, texts_read}
+use Rattle.arrow_ipc.specs.Rooms.{texts_room}
+use Rattle.arrow_ipc.proofs.Linked.{items}
+use Rattle.arrow_ipc.proofs.Blocks.{made_gives, texts_hold}
 use Rattle.arrow_ipc.proofs.write.texts_block.Goals as goal
 
 pub returns : goal.returns

@@ -1,5 +1,9 @@
-use Rattle.arrow_ipc.proofs.Terms.{map, texts_of, Holds, entry_read, texts_room}
-use Rattle.arrow_ipc.proofs.Blocks.{items, Made}
+use Rattle.std.proofs.Common.{map}
+use Rattle.arrow_values.specs.View.{texts_of}
+use Rattle.arrow_ipc.specs.Blocks.{Holds, entry_read}
+use Rattle.arrow_ipc.specs.Rooms.{texts_room}
+use Rattle.arrow_ipc.proofs.Linked.{items}
+use Rattle.arrow_ipc.proofs.Blocks.{Made}
 use Rattle.arrow_ipc.proofs.write.texts_block.Given as goal
 
 -- the blocks of the entries so far, before those that are left

@@ -1,4 +1,7 @@
-use Rattle.arrow_ipc.proofs.Terms.{◌≡◌, arith, common_steps, bool_byte, number, truth, place_of_number, place_of_truth}
+use Rattle.std.proofs.Common.{◌≡◌, arith}
+use Rattle.std.proofs.lemmas.Grind.{common_steps}
+use mir.Val.{bool_byte}
+use Rattle.arrow_ipc.specs.Blocks.{number, truth, place_of_number, place_of_truth}
 use Rattle.arrow_ipc.proofs.write.type_block.Goals as goal
 
 pub returns : goal.returns
