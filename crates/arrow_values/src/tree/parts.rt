@@ -119,11 +119,12 @@ impl Field {
     }
 
     /// The field with that map as its metadata.
-    pub fn with_metadata(mut self, metadata: BTreeMap<String, String>) -> Field
+    pub fn with_metadata(self, metadata: BTreeMap<String, String>) -> Field
         ensures { result ≡ record self { metadata = texts_of metadata.entries } }
     {
-        self.metadata = metadata;
-        self
+        let mut field = self;
+        field.metadata = metadata;
+        field
     }
 
     /// Replaces the field's metadata with that map.
@@ -134,11 +135,12 @@ impl Field {
     }
 
     /// The field with that data type.
-    pub fn with_data_type(mut self, data_type: DataType) -> Field
+    pub fn with_data_type(self, data_type: DataType) -> Field
         ensures { result ≡ record self { tree = tree data_type } }
     {
-        self.data_type = data_type;
-        self
+        let mut field = self;
+        field.data_type = data_type;
+        field
     }
 
     /// The field with that extension name and that text of its metadata (Arrow, "Extension Types"): the name at
@@ -147,7 +149,7 @@ impl Field {
     /// as it is, which allocates nothing.
     #[tactic(auto, using(crate::proofs::Equal::same_parts, crate::proofs::TextLaws::sets_extension))]
     pub fn with_extension_texts(
-        mut self,
+        self,
         alloc: Global,
         name: &str,
         text: Option<String>,
@@ -159,8 +161,19 @@ impl Field {
         if has_extension(&self.metadata, name, &text) {
             return Ok(self);
         }
-        set_extension(alloc, &mut self.metadata, name, text)?;
-        Ok(self)
+        let Field {
+            name: own_name,
+            data_type,
+            nullable,
+            mut metadata,
+        } = self;
+        set_extension(alloc, &mut metadata, name, text)?;
+        Ok(Field {
+            name: own_name,
+            data_type,
+            nullable,
+            metadata,
+        })
     }
 
     /// The text at `EXTENSION_TYPE_NAME_KEY`, if there is one.
