@@ -192,8 +192,8 @@ fn take_only(
     Ok(data_type)
 }
 
-/// No type, of an object with a key that no type of its other keys has: the value at that key, which is next, and the
-/// members after it are skipped.
+/// Passes over the value that is next and the members after it, and returns no type: the key of that value does not go
+/// with the other keys of the object.
 #[cold]
 #[inline(never)]
 fn take_no_type(reader: &mut Reader<'_>, depth: usize) -> Result<Option<DataType>, Refusal>

@@ -91,7 +91,8 @@ fn find_column(alloc: Global, field: &Field) -> GeoArrowResult<Column>
 }
 
 impl ColumnFault {
-    /// The fault of a field refused by that error: `InvalidGeoArrow` for that variant, else `Arrow`. Errs where it is out-of-memory.
+    /// The fault of a field that is refused by an error: `InvalidGeoArrow` for that variant, and `Arrow` for any other.
+    /// Errs where the error is out-of-memory.
     pub fn of_error(error: &GeoArrowError) -> Result<ColumnFault, AllocError>
         ensures memory { IfOk result (λ _. ¬ IsGeoMemory error.now) }
         ensures variant { IfOk result (λ fault. IsVariantOf error.now fault) }

@@ -184,6 +184,7 @@ pub(crate) fn parts_of_id(id: i8) -> Option<(NativeKind, Dimension)>
 pub(crate) fn type_id(kind: NativeKind, dimension: Dimension) -> i8
     ensures { result ≡ pos (type_id_of kind dimension) }
 {
+    // (the kinds stand in the order of their ids in two dimensions, which are 1 to 7)
     (dimension.order() * 10 + kind as u8 + 1) as i8
 }
 

@@ -22,6 +22,7 @@ pub trait ColumnEncoding: Copy {
     /// The extension name.
     const NAME: &'static str;
 
+    // The extension name.
     ghost name: { ExtensionName };
 
     // A tree is accepted as that of a column in this encoding.

@@ -24,6 +24,7 @@ pub trait Encoding {
     /// The name of the type, as `Debug` prints it.
     const TYPE: &'static str;
 
+    // The extension name.
     ghost name: { ExtensionName };
 
     // The data type holds geometries in this encoding, in a width.

@@ -12,9 +12,10 @@ use geoarrow_meta::Metadata;
 use std::alloc::{AllocError, Global};
 use std::collections::BTreeMap;
 
-/// The field of a column of a kind, as `ColumnType::to_field` writes it (GeoArrow, "Extension types"): that name and
-/// nullability, the kind's data type, and as its metadata the extension name and the metadata's text, if there is one. It
-/// reads back as the kind and the normal form of the metadata, under the condition stated there. Errs only when out of memory.
+/// The field of a column of a kind: that name and nullability, the kind's data type, and as its metadata the extension
+/// name and the metadata's text, if there is one (GeoArrow, "Extension types"). It reads back as the kind and the normal
+/// form of the metadata, if `serde_json` reads what it printed, which it does if the CRS value is nested at most 100
+/// levels. Errs only when out of memory.
 #[tactic(auto, using(crate::proofs::Writing::written_reads))]
 pub fn column_field(
     alloc: Global,

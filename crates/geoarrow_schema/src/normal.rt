@@ -44,6 +44,7 @@ impl GeoArrowType {
         ensures normal { IsTrue result ↔ (normal_of self.now ≡ normal_of other.now) }
     {
         layouts_are_distinct();
+        // (`==` of the kinds, with its law)
         let same_kind = kind_equality_is_exact(self.kind(), other.kind());
         same_kind && self.metadata().same_written(other.metadata())
     }

@@ -3,8 +3,7 @@ ghost use Rattle.std.specs.Prelude.{◌≡◌};
 ghost use Rattle.arrow_values.specs.Name.{fixed_text};
 
 /// A name that a GeoArrow layout has inside: of a coordinate, of a bound of a box, of the items of a list, or of the
-/// member of a union. A variant is named after its text, which `as_text` gives: `Xmin` is `xmin`, `PointZm` is `Point ZM`.
-/// A field of such a name allocates nothing for it.
+/// member of a union. A field of such a name allocates nothing for it.
 ///
 /// ```rust
 /// let x = Field::fixed(alloc, FixedName::X, DataType::Float64, false);
@@ -12,55 +11,105 @@ ghost use Rattle.arrow_values.specs.Name.{fixed_text};
 /// ```
 #[derive(Clone, Copy, Debug, PartialEq, Eq)]
 pub enum FixedName {
+    /// `x`.
     X,
+    /// `y`.
     Y,
+    /// `z`.
     Z,
+    /// `m`.
     M,
+    /// `xy`.
     Xy,
+    /// `xyz`.
     Xyz,
+    /// `xym`.
     Xym,
+    /// `xyzm`.
     Xyzm,
+    /// `xmin`.
     Xmin,
+    /// `ymin`.
     Ymin,
+    /// `zmin`.
     Zmin,
+    /// `mmin`.
     Mmin,
+    /// `xmax`.
     Xmax,
+    /// `ymax`.
     Ymax,
+    /// `zmax`.
     Zmax,
+    /// `mmax`.
     Mmax,
+    /// `vertices`.
     Vertices,
+    /// `rings`.
     Rings,
+    /// `points`.
     Points,
+    /// `linestrings`.
     Linestrings,
+    /// `polygons`.
     Polygons,
+    /// `geometries`.
     Geometries,
+    /// `Point`.
     Point,
+    /// `Point Z`.
     PointZ,
+    /// `Point M`.
     PointM,
+    /// `Point ZM`.
     PointZm,
+    /// `LineString`.
     LineString,
+    /// `LineString Z`.
     LineStringZ,
+    /// `LineString M`.
     LineStringM,
+    /// `LineString ZM`.
     LineStringZm,
+    /// `Polygon`.
     Polygon,
+    /// `Polygon Z`.
     PolygonZ,
+    /// `Polygon M`.
     PolygonM,
+    /// `Polygon ZM`.
     PolygonZm,
+    /// `MultiPoint`.
     MultiPoint,
+    /// `MultiPoint Z`.
     MultiPointZ,
+    /// `MultiPoint M`.
     MultiPointM,
+    /// `MultiPoint ZM`.
     MultiPointZm,
+    /// `MultiLineString`.
     MultiLineString,
+    /// `MultiLineString Z`.
     MultiLineStringZ,
+    /// `MultiLineString M`.
     MultiLineStringM,
+    /// `MultiLineString ZM`.
     MultiLineStringZm,
+    /// `MultiPolygon`.
     MultiPolygon,
+    /// `MultiPolygon Z`.
     MultiPolygonZ,
+    /// `MultiPolygon M`.
     MultiPolygonM,
+    /// `MultiPolygon ZM`.
     MultiPolygonZm,
+    /// `GeometryCollection`.
     GeometryCollection,
+    /// `GeometryCollection Z`.
     GeometryCollectionZ,
+    /// `GeometryCollection M`.
     GeometryCollectionM,
+    /// `GeometryCollection ZM`.
     GeometryCollectionZm,
 }
 
