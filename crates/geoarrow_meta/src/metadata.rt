@@ -132,7 +132,7 @@ impl Metadata {
         ensures err { IfErr result (λ e. (d : Data) → IsSome (as_object d)
             → AreValuesOf d (option_map view values.crs) values.crs_type values.edges → RefusedAs d e) }
     {
-        if may_hold_float && holds_float(&values.crs) {
+        if may_hold_float && matches!(&values.crs, Some(crs) if !holds_whole_numbers(crs)) {
             return Err(crs_fault(alloc, "CRS holds a number that is not whole"));
         }
         let Some(crs_type) = values.crs_type else {
@@ -273,11 +273,4 @@ impl Metadata {
         }
         normal
     }
-}
-
-// Whether the value, if there is one, holds a float.
-fn holds_float(value: &Option<Value>) -> bool
-    ensures { result ≡ some_has_float (option_map view value.now) }
-{
-    matches!(value, Some(value) if !holds_whole_numbers(value))
 }

@@ -1,7 +1,9 @@
 //! The value of a CRS.
 ghost use Rattle.std.specs.Prelude.{◌≡◌, IfOk};
-ghost use Rattle.serde_json.specs.View.{view};
-ghost use Rattle.geoarrow_meta.specs.CrsValue.{IsCrsValue};
+ghost use Rattle.serde_json.specs.Data.{Data};
+ghost use Rattle.serde_json.specs.View.{view, view as data_of};
+ghost use Rattle.geoarrow_meta.specs.Code.{data_code, same};
+ghost use Rattle.geoarrow_meta.specs.CrsValue.{IsCrsValue, same-equiv, same-per, value_fed, value_fed-same};
 
 use crate::walks::same_value;
 use serde_json::Value;
@@ -17,11 +19,6 @@ pub struct CrsValue {
 }
 
 impl Model for CrsValue {
-    ghost use Rattle.serde_json.specs.Data.{Data};
-    ghost use Rattle.serde_json.specs.View.{view as data_of};
-    ghost use Rattle.geoarrow_meta.specs.Code.{data_code};
-    ghost use Rattle.geoarrow_meta.specs.CrsValue.{IsCrsValue};
-
     ghost Value = { Data };
 
     ghost coded = { data_code };
@@ -58,9 +55,6 @@ impl CrsValue {
 }
 
 impl PartialEq for CrsValue {
-    ghost use Rattle.geoarrow_meta.specs.Code.{same};
-    ghost use Rattle.geoarrow_meta.specs.CrsValue.{same-per};
-
     ghost eq = { same };
 
     ghost laws = { same-per };
@@ -71,14 +65,10 @@ impl PartialEq for CrsValue {
 }
 
 impl Eq for CrsValue {
-    ghost use Rattle.geoarrow_meta.specs.CrsValue.{same-equiv};
-
     ghost laws = { same-equiv };
 }
 
 impl Hash for CrsValue {
-    ghost use Rattle.geoarrow_meta.specs.CrsValue.{value_fed, value_fed-same};
-
     ghost hash_input = { value_fed };
 
     ghost respects_eq = { value_fed-same };

@@ -76,10 +76,9 @@ fn word_at<'v>(value: &'v Value, key: &str) -> Option<Option<&'v str>>
 pub(crate) fn crs_type_of(word: Option<Option<&str>>) -> Option<Option<CrsType>>
     ensures { (found : Option Data) → IsWord word.entry found → IsNamed crs_type_data result found }
 {
-    match word {
-        None => None,
-        Some(None) => Some(None),
-        Some(Some(text)) => Some(Some(CrsType::from_text(text)?)),
+    match word? {
+        None => Some(None),
+        Some(text) => Some(Some(CrsType::from_text(text)?)),
     }
 }
 
@@ -87,9 +86,8 @@ pub(crate) fn crs_type_of(word: Option<Option<&str>>) -> Option<Option<CrsType>>
 pub(crate) fn edges_of(word: Option<Option<&str>>) -> Option<Option<Edges>>
     ensures { (found : Option Data) → IsWord word.entry found → IsNamed edges_data result found }
 {
-    match word {
-        None => None,
-        Some(None) => Some(None),
-        Some(Some(text)) => Some(Some(Edges::from_text(text)?)),
+    match word? {
+        None => Some(None),
+        Some(text) => Some(Some(Edges::from_text(text)?)),
     }
 }

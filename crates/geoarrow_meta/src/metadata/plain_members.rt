@@ -25,8 +25,7 @@ pub(crate) fn object_start(text: &str) -> Result<usize, NotPlain>
     ensures tokens { IfOk result (λ at. tokens text.now ≡ spec.begin_object ∷ tokens_left false text.now at) }
     ensures within { IfOk result (λ at. at ≤ length text.now) }
 {
-    let at = after_operator(text, after_spaces(text, 0), b'{')?;
-    Ok(at)
+    after_operator(text, after_spaces(text, 0), b'{')
 }
 
 /// The next key, and the place of its value; or no key, and the place behind the brace that closes the object.

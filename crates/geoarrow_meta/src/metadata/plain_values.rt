@@ -86,7 +86,7 @@ pub(crate) fn plain_value(
 fn plain_items(
     alloc: Global,
     text: &str,
-    at: usize,
+    mut at: usize,
     depth: usize,
     float_read: &mut bool,
 ) -> Result<(Vec<Value>, usize), Unread>
@@ -96,7 +96,6 @@ fn plain_items(
     ensures floats { IfOk result (λ p. float_read.new ≡ false → (float_read.old ≡ false) × (items_have_float (items_view p.0.items) ≡ false)) }
 {
     let mut found = Vec::new(alloc);
-    let mut at = at;
     let mut after_item = false;
     'items: loop {
         let (more, place) = next_item(text, at, after_item)?;
@@ -116,7 +115,7 @@ fn plain_items(
 fn plain_members(
     alloc: Global,
     text: &str,
-    at: usize,
+    mut at: usize,
     depth: usize,
     float_read: &mut bool,
 ) -> Result<(Map<String, Value>, usize), Unread>
@@ -127,7 +126,6 @@ fn plain_members(
     ensures floats { IfOk result (λ p. float_read.new ≡ false → (float_read.old ≡ false) × (members_have_float (members_view p.0.entries) ≡ false)) }
 {
     let mut found = Map::new(alloc);
-    let mut at = at;
     let mut after_member = false;
     'members: loop {
         let (key, place) = next_key(text, at, after_member)?;

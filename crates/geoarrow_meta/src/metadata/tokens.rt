@@ -30,8 +30,7 @@ pub fn read_values(alloc: Global, text: &str) -> Result<Option<KeyValues<Value>>
     ensures ok { IfOk result (λ o. (d : Data) × (read text.now ≡ Some d) × Finds o d) }
     ensures text { result ≡ Err Refusal.Text → read text.now ≡ None }
 {
-    let mut float_read = false;
-    read_noting(alloc, text, &mut float_read)
+    read_noting(alloc, text, &mut false)
 }
 
 // Those values. Leaves `float_read` false only where the CRS holds no float.

@@ -14,9 +14,6 @@ decreases-plain_value l = 2 * l.depth
 abbrev pub decreases-plain_items : goal.decreases-plain_items
 decreases-plain_items l = 2 * l.depth + 1
 
-abbrev pub decreases-plain_members : goal.decreases-plain_members
-decreases-plain_members l = 2 * l.depth + 1
-
 -- the items that are left go behind those so far
 abbrev pub invariant-plain_items-items : goal.invariant-plain_items-items
 invariant-plain_items-items l = record {
@@ -27,6 +24,9 @@ invariant-plain_items-items l = record {
 
 abbrev pub decreases-plain_items-items : goal.decreases-plain_items-items
 decreases-plain_items-items l = length (tokens_left l.after_item l.text l.at)
+
+abbrev pub decreases-plain_members : goal.decreases-plain_members
+decreases-plain_members l = 2 * l.depth + 1
 
 -- what is left is put into the members so far
 abbrev pub invariant-plain_members-members : goal.invariant-plain_members-members
