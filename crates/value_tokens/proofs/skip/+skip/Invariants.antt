@@ -9,9 +9,6 @@ decreases-skip_rest l = 2 * l.depth
 abbrev pub decreases-skip_items : goal.decreases-skip_items
 decreases-skip_items l = 2 * l.depth + 1
 
-abbrev pub decreases-skip_members : goal.decreases-skip_members
-decreases-skip_members l = 2 * l.depth + 1
-
 abbrev pub invariant-skip_items-items : goal.invariant-skip_items-items
 invariant-skip_items-items l = record {
   same : after (next_items l.depth l.initial.reader) ≡ after (next_items l.depth l.reader);
@@ -20,6 +17,9 @@ invariant-skip_items-items l = record {
 
 abbrev pub decreases-skip_items-items : goal.decreases-skip_items-items
 decreases-skip_items-items l = length l.reader
+
+abbrev pub decreases-skip_members : goal.decreases-skip_members
+decreases-skip_members l = 2 * l.depth + 1
 
 abbrev pub invariant-skip_members-members : goal.invariant-skip_members-members
 invariant-skip_members-members l = record {

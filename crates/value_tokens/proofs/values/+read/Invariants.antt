@@ -12,9 +12,6 @@ decreases-read_value l = 2 * l.depth
 abbrev pub decreases-read_items : goal.decreases-read_items
 decreases-read_items l = 2 * l.depth + 1
 
-abbrev pub decreases-read_members : goal.decreases-read_members
-decreases-read_members l = 2 * l.depth + 1
-
 -- the items that are left go behind those so far
 abbrev pub invariant-read_items-items : goal.invariant-read_items-items
 invariant-read_items-items l = record {
@@ -25,6 +22,9 @@ invariant-read_items-items l = record {
 
 abbrev pub decreases-read_items-items : goal.decreases-read_items-items
 decreases-read_items-items l = length l.reader
+
+abbrev pub decreases-read_members : goal.decreases-read_members
+decreases-read_members l = 2 * l.depth + 1
 
 -- what is left is put into the members so far
 abbrev pub invariant-read_members-members : goal.invariant-read_members-members
