@@ -8,18 +8,21 @@ ghost use Rattle.field_lines.specs.Steps.{slots_in, slots_of, texts_kept};
 ghost use Rattle.field_lines.specs.Line.{texts_value};
 ghost use Rattle.value_tokens.specs.Next.{next_value, next_members, ReadsValue, ReadsMembers};
 
+use crate::tokens::Taken;
 use json::Reader;
 use std::alloc::{AllocError, Global};
 use std::collections::BTreeMap;
 use value_tokens::{Refusal, open_object, read_text};
 
+/// Texts by their keys.
+pub(crate) type Texts = BTreeMap<String, String>;
+
+/// Slots by their keys: each holds a text, or none where the value is no text.
+type Slots = BTreeMap<String, Option<String>>;
+
 /// The object of texts that comes next, and none where a member is no text.
 #[tactic(auto, using(crate::proofs::TokenMembers::member_turn))]
-pub(crate) fn take_texts(
-    alloc: Global,
-    reader: &mut Reader<'_>,
-    depth: usize,
-) -> Result<Option<BTreeMap<String, String>>, Refusal>
+pub(crate) fn take_texts(alloc: Global, reader: &mut Reader<'_>, depth: usize) -> Taken<Texts>
     ensures ok { IfOk result (λ o. ReadsValue (λ d. metadata_of_value (Some d)) depth reader.old (option_map (λ m. texts_of m.entries) o) reader.new) }
     ensures shorter { OnOk result (length reader.new < length reader.old) }
     ensures text { result ≡ Err Refusal.Text → next_value depth reader.old ≡ None }
@@ -42,18 +45,12 @@ pub(crate) fn take_texts(
     Ok(Some(texts))
 }
 
-/// The texts of the members so far and of those that are left of an object, and none where a member is no text. A slot
-/// of the members so far holds the text of its key, or none where the value is no text; a later value of the key is put
-/// in its place.
+/// The texts of the members so far, whose slots are given, and of those that are left of an object, and none where a
+/// member is no text. A later value of a key is put in its slot.
 #[cold]
 #[inline(never)]
 #[tactic(auto, using(crate::proofs::TokenMembers::member_turn))]
-fn take_slots(
-    alloc: Global,
-    reader: &mut Reader<'_>,
-    depth: usize,
-    slots: BTreeMap<String, Option<String>>,
-) -> Result<Option<BTreeMap<String, String>>, Refusal>
+fn take_slots(alloc: Global, reader: &mut Reader<'_>, depth: usize, slots: Slots) -> Taken<Texts>
     ensures ok { IfOk result (λ o. (found : Members) → slots_in found ≡ slots_of slots.entries
         → ReadsMembers texts_in depth found reader.old (option_map (λ m. texts_of m.entries) o) reader.new) }
     ensures shorter { OnOk result (length reader.new < length reader.old) }
@@ -72,10 +69,7 @@ fn take_slots(
 /// A slot for each text.
 #[cold]
 #[inline(never)]
-fn slots_of_texts(
-    alloc: Global,
-    texts: BTreeMap<String, String>,
-) -> Result<BTreeMap<String, Option<String>>, AllocError>
+fn slots_of_texts(alloc: Global, texts: Texts) -> Result<Slots, AllocError>
     ensures { IfOk result (λ m. slots_of m.entries ≡ slots_in (texts_value (texts_of texts.entries))) }
 {
     let mut slots = BTreeMap::new(alloc);
@@ -88,10 +82,7 @@ fn slots_of_texts(
 /// The texts of the slots, where each holds one.
 #[cold]
 #[inline(never)]
-fn texts_of_slots(
-    alloc: Global,
-    slots: BTreeMap<String, Option<String>>,
-) -> Result<Option<BTreeMap<String, String>>, AllocError>
+fn texts_of_slots(alloc: Global, slots: Slots) -> Result<Option<Texts>, AllocError>
     ensures { IfOk result (λ o. option_map (λ m. texts_of m.entries) o ≡ texts_kept (slots_of slots.entries)) }
 {
     let mut texts = BTreeMap::new(alloc);

@@ -5,7 +5,7 @@ ghost use Rattle.serde_json.specs.Find.{of_integer};
 ghost use Rattle.arrow_values.specs.View.{tree, texts_of, field_trees, member_trees};
 ghost use Rattle.field_lines.specs.Names.{mode_name};
 ghost use Rattle.field_lines.specs.Steps.{PrintsMetadata};
-ghost use Rattle.field_lines.specs.Line.{texts_value, one_key, two_keys, type_value, fields_value, members_value, value_of_field, other_value};
+ghost use Rattle.field_lines.specs.Line.{one_key, two_keys, type_value, fields_value, members_value, value_of_field, other_value};
 ghost use Rattle.value_tokens.specs.Adds.{Prints};
 
 use crate::names::mode_name;
@@ -15,19 +15,7 @@ use json::Writer;
 use std::alloc::AllocError;
 use std::collections::BTreeMap;
 
-/// Writes an object of texts.
-fn print_texts(texts: &BTreeMap<String, String>, out: &mut Writer) -> Result<(), AllocError>
-    ensures { OnOk result (Prints (object (texts_value (texts_of texts.now.entries))) out.old out.new) }
-{
-    out.begin_object()?;
-    for (key, text) in texts.iter() {
-        out.key(key.as_str())?;
-        out.string(text.as_str())?;
-    }
-    out.end_object()
-}
-
-/// Writes the metadata's key and its texts, unless it is empty.
+/// Writes the metadata's key and an object of its texts, unless it is empty.
 fn print_metadata(metadata: &BTreeMap<String, String>, out: &mut Writer) -> Result<(), AllocError>
     ensures { OnOk result (PrintsMetadata (texts_of metadata.now.entries) out.old out.new) }
 {
@@ -35,14 +23,12 @@ fn print_metadata(metadata: &BTreeMap<String, String>, out: &mut Writer) -> Resu
         return Ok(());
     }
     out.key("metadata")?;
-    print_texts(metadata, out)
-}
-
-/// Writes an integer.
-fn print_integer(n: i64, out: &mut Writer) -> Result<(), AllocError>
-    ensures { OnOk result (Prints (number (of_integer n)) out.old out.new) }
-{
-    out.i64(n)
+    out.begin_object()?;
+    for (key, text) in metadata.iter() {
+        out.key(key.as_str())?;
+        out.string(text.as_str())?;
+    }
+    out.end_object()
 }
 
 /// Writes a field.
@@ -78,17 +64,10 @@ pub(crate) fn print_other(
     out.key("nullable")?;
     out.boolean(nullable)?;
     out.key("type")?;
-    print_other_type(notation, out)?;
-    out.end_object()
-}
-
-/// Writes another type.
-fn print_other_type(notation: &str, out: &mut Writer) -> Result<(), AllocError>
-    ensures { OnOk result (Prints (one_key (codes "other") (string notation.now)) out.old out.new) }
-{
     out.begin_object()?;
     out.key("other")?;
     out.string(notation)?;
+    out.end_object()?;
     out.end_object()
 }
 
@@ -128,7 +107,7 @@ fn print_fixed_size_list(field: &Field, size: i32, out: &mut Writer) -> Result<(
     out.key("fixed_size_list")?;
     print_field(field, out)?;
     out.key("size")?;
-    print_integer(size as i64, out)?;
+    out.i64(size as i64)?;
     out.end_object()
 }
 
@@ -170,7 +149,7 @@ fn print_member(id: i8, field: &Field, out: &mut Writer) -> Result<(), AllocErro
     ensures { OnOk result (Prints (array (item (number (of_integer id)) (item (value_of_field field.now) no_items))) out.old out.new) }
 {
     out.begin_array()?;
-    print_integer(id as i64, out)?;
+    out.i64(id as i64)?;
     print_field(field, out)?;
     out.end_array()
 }

@@ -8,6 +8,7 @@ ghost use Rattle.field_lines.specs.FieldOfValue.{kept, is_size, size_of_value, i
 ghost use Rattle.value_tokens.specs.Next.{next_value, ReadsValue};
 
 use crate::names::mode_named;
+use crate::tokens::Taken;
 use arrow_values::UnionMode;
 use json::Reader;
 use serde_json::Number;
@@ -21,7 +22,7 @@ fn size_of(number: Number) -> Option<i32>
 }
 
 /// The size of a fixed size list that comes next.
-pub(crate) fn take_size(reader: &mut Reader<'_>, depth: usize) -> Result<Option<i32>, Refusal>
+pub(crate) fn take_size(reader: &mut Reader<'_>, depth: usize) -> Taken<i32>
     ensures ok { IfOk result (λ o. ReadsValue size_of_value depth reader.old o reader.new) }
     ensures shorter { OnOk result (length reader.new < length reader.old) }
     ensures text { result ≡ Err Refusal.Text → next_value depth reader.old ≡ None }
@@ -41,7 +42,7 @@ fn id_of(number: Number) -> Option<i8>
 }
 
 /// The type id that comes next.
-pub(crate) fn take_id(reader: &mut Reader<'_>, depth: usize) -> Result<Option<i8>, Refusal>
+pub(crate) fn take_id(reader: &mut Reader<'_>, depth: usize) -> Taken<i8>
     ensures ok { IfOk result (λ o. ReadsValue id_of_value depth reader.old o reader.new) }
     ensures shorter { OnOk result (length reader.new < length reader.old) }
     ensures text { result ≡ Err Refusal.Text → next_value depth reader.old ≡ None }
@@ -50,7 +51,7 @@ pub(crate) fn take_id(reader: &mut Reader<'_>, depth: usize) -> Result<Option<i8
 }
 
 /// The union mode that comes next.
-pub(crate) fn take_mode(reader: &mut Reader<'_>, depth: usize) -> Result<Option<UnionMode>, Refusal>
+pub(crate) fn take_mode(reader: &mut Reader<'_>, depth: usize) -> Taken<UnionMode>
     ensures ok { IfOk result (λ o. ReadsValue mode_of_value depth reader.old o reader.new) }
     ensures shorter { OnOk result (length reader.new < length reader.old) }
     ensures text { result ≡ Err Refusal.Text → next_value depth reader.old ≡ None }

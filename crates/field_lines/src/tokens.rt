@@ -13,7 +13,7 @@ ghost use Rattle.field_lines.specs.FieldOfValue.{field_from, field_of_value, typ
 ghost use Rattle.field_lines.specs.Steps.{AreMemberParts, IsNeither, keyed_at, pair_read};
 ghost use Rattle.value_tokens.specs.Next.{next_value, next_items, next_members, next_after, after, ReadsValue, ReadsItems, ReadsMembers, ReadsAfter};
 
-use crate::metadata::take_texts;
+use crate::metadata::{Texts, take_texts};
 use crate::names::{layout_name, plain_named};
 use crate::scalars::{take_id, take_mode, take_size};
 use crate::unions::make_union;
@@ -26,14 +26,13 @@ use value_tokens::{
     skip_value,
 };
 
+/// What a reader took: what the value denotes, or none; or why no value was taken.
+pub(crate) type Taken<T> = Result<Option<T>, Refusal>;
+
 /// The field that comes next.
 #[cycle(take)]
 #[inline]
-pub(crate) fn take_field(
-    alloc: Global,
-    reader: &mut Reader<'_>,
-    depth: usize,
-) -> Result<Option<Field>, Refusal>
+pub(crate) fn take_field(alloc: Global, reader: &mut Reader<'_>, depth: usize) -> Taken<Field>
     ensures ok { IfOk result (λ o. ReadsValue field_of_value depth reader.old o reader.new) }
     ensures text { result ≡ Err Refusal.Text → next_value depth reader.old ≡ None }
 {
@@ -46,11 +45,7 @@ pub(crate) fn take_field(
 /// The field that comes next, in a box.
 #[cycle(take)]
 #[inline(always)]
-fn take_boxed(
-    alloc: Global,
-    reader: &mut Reader<'_>,
-    depth: usize,
-) -> Result<Option<Box<Field>>, Refusal>
+fn take_boxed(alloc: Global, reader: &mut Reader<'_>, depth: usize) -> Taken<Box<Field>>
     ensures ok { IfOk result (λ o. ReadsValue field_of_value depth reader.old (option_map (λ b. b.value) o) reader.new) }
     ensures text { result ≡ Err Refusal.Text → next_value depth reader.old ≡ None }
 {
@@ -64,11 +59,7 @@ fn take_boxed(
 #[cycle(take)]
 #[inline(never)]
 #[tactic(auto, using(crate::proofs::TokenMembers::member_turn))]
-fn take_parts<'a>(
-    alloc: Global,
-    reader: &mut Reader<'a>,
-    depth: usize,
-) -> Result<Option<Field>, Refusal>
+fn take_parts<'a>(alloc: Global, reader: &mut Reader<'a>, depth: usize) -> Taken<Field>
     ensures ok { IfOk result (λ o. ReadsMembers (λ ms. field_of_value (object ms)) depth no_members reader.old o reader.new) }
     ensures text { result ≡ Err Refusal.Text → next_members depth no_members reader.old ≡ None }
 {
@@ -98,8 +89,8 @@ fn field_of(
     name: Option<&str>,
     nullable: Option<bool>,
     data_type: Option<DataType>,
-    metadata: Option<BTreeMap<String, String>>,
-) -> Result<Option<Field>, Refusal>
+    metadata: Option<Texts>,
+) -> Taken<Field>
     ensures ok { IfOk result (λ o. o ≡ field_from (option_map (λ n. n.now) name.entry) nullable (option_map tree data_type) (option_map (λ m. texts_of m.entries) metadata)) }
     ensures never_text { result ≡ Err Refusal.Text → ⊥ }
 {
@@ -123,11 +114,7 @@ fn field_of(
 #[cycle(take)]
 #[tactic(auto, using(crate::proofs::TokenMembers::type_begins))]
 #[inline]
-fn take_type(
-    alloc: Global,
-    reader: &mut Reader<'_>,
-    depth: usize,
-) -> Result<Option<DataType>, Refusal>
+fn take_type(alloc: Global, reader: &mut Reader<'_>, depth: usize) -> Taken<DataType>
     ensures ok { IfOk result (λ o. ReadsValue type_of_value depth reader.old (option_map tree o) reader.new) }
     ensures text { result ≡ Err Refusal.Text → next_value depth reader.old ≡ None }
 {
@@ -150,11 +137,7 @@ fn take_type(
 /// The type of the members of an object, all of which are left. The first key says which.
 #[cycle(take)]
 #[tactic(auto, using(crate::proofs::TokenMembers::member_turn))]
-fn take_keys(
-    alloc: Global,
-    reader: &mut Reader<'_>,
-    depth: usize,
-) -> Result<Option<DataType>, Refusal>
+fn take_keys(alloc: Global, reader: &mut Reader<'_>, depth: usize) -> Taken<DataType>
     ensures ok { IfOk result (λ o. ReadsMembers (λ ms. type_of_value (object ms)) depth no_members reader.old (option_map tree o) reader.new) }
     ensures text { result ≡ Err Refusal.Text → next_members depth no_members reader.old ≡ None }
 {
@@ -171,12 +154,7 @@ fn take_keys(
 /// The type of an object with one key, which is taken.
 #[cycle(take)]
 #[tactic(auto, using(crate::proofs::TokenMembers::member_turn))]
-fn take_only(
-    alloc: Global,
-    reader: &mut Reader<'_>,
-    depth: usize,
-    only: &str,
-) -> Result<Option<DataType>, Refusal>
+fn take_only(alloc: Global, reader: &mut Reader<'_>, depth: usize, only: &str) -> Taken<DataType>
     requires { IsNeither (codes "fixed_size_list") (codes "size") only.now × IsNeither (codes "mode") (codes "union") only.now }
     ensures ok { IfOk result (λ o. ReadsAfter (λ ms. type_of_value (object ms)) depth no_members only.now reader.old (option_map tree o) reader.new) }
     ensures text { result ≡ Err Refusal.Text → next_after depth no_members only.now reader.old ≡ None }
@@ -196,7 +174,7 @@ fn take_only(
 /// with the other keys of the object.
 #[cold]
 #[inline(never)]
-fn take_no_type(reader: &mut Reader<'_>, depth: usize) -> Result<Option<DataType>, Refusal>
+fn take_no_type(reader: &mut Reader<'_>, depth: usize) -> Taken<DataType>
     ensures ok { IfOk result (λ o. (o ≡ None) × ((found : Members) (key : Text) → after (next_after depth found key reader.old) ≡ Some reader.new)) }
     ensures text { result ≡ Err Refusal.Text → (found : Members) (key : Text) → next_after depth found key reader.old ≡ None }
 {
@@ -218,12 +196,7 @@ fn differ(a: &str, b: &str) -> bool
 #[cycle(take)]
 #[inline(always)]
 #[tactic(auto, using(crate::proofs::TokenMembers::not_keyed))]
-fn take_keyed(
-    alloc: Global,
-    reader: &mut Reader<'_>,
-    depth: usize,
-    key: &str,
-) -> Result<Option<DataType>, Refusal>
+fn take_keyed(alloc: Global, reader: &mut Reader<'_>, depth: usize, key: &str) -> Taken<DataType>
     ensures ok { IfOk result (λ o. ReadsValue (keyed_at key.now) depth reader.old (option_map tree o) reader.new) }
     ensures text { result ≡ Err Refusal.Text → next_value depth reader.old ≡ None }
 {
@@ -249,7 +222,7 @@ fn take_fixed_size_list<'a>(
     reader: &mut Reader<'a>,
     depth: usize,
     first: &'a str,
-) -> Result<Option<DataType>, Refusal>
+) -> Taken<DataType>
     requires { (first.now ≡ codes "fixed_size_list") ⊎ (first.now ≡ codes "size") }
     ensures ok { IfOk result (λ o. ReadsAfter (λ ms. type_of_value (object ms)) depth no_members first.now reader.old (option_map tree o) reader.new) }
     ensures text { result ≡ Err Refusal.Text → next_after depth no_members first.now reader.old ≡ None }
@@ -285,7 +258,7 @@ fn take_union<'a>(
     reader: &mut Reader<'a>,
     depth: usize,
     first: &'a str,
-) -> Result<Option<DataType>, Refusal>
+) -> Taken<DataType>
     requires { (first.now ≡ codes "mode") ⊎ (first.now ≡ codes "union") }
     ensures ok { IfOk result (λ o. ReadsAfter (λ ms. type_of_value (object ms)) depth no_members first.now reader.old (option_map tree o) reader.new) }
     ensures text { result ≡ Err Refusal.Text → next_after depth no_members first.now reader.old ≡ None }
@@ -317,11 +290,7 @@ fn take_union<'a>(
 #[cycle(take)]
 #[tactic(auto, using(crate::proofs::TokenItems::taking_items))]
 #[inline(always)]
-fn take_fields(
-    alloc: Global,
-    reader: &mut Reader<'_>,
-    depth: usize,
-) -> Result<Option<Vec<Field>>, Refusal>
+fn take_fields(alloc: Global, reader: &mut Reader<'_>, depth: usize) -> Taken<Vec<Field>>
     ensures ok { IfOk result (λ o. ReadsValue fields_of_value depth reader.old (option_map (λ v. field_trees v.items) o) reader.new) }
     ensures text { result ≡ Err Refusal.Text → next_value depth reader.old ≡ None }
 {
@@ -349,7 +318,7 @@ fn take_members(
     alloc: Global,
     reader: &mut Reader<'_>,
     depth: usize,
-) -> Result<Option<(Vec<i8>, Vec<Field>)>, Refusal>
+) -> Taken<(Vec<i8>, Vec<Field>)>
     ensures ok { IfOk result (λ o. ReadsValue members_of_value depth reader.old (option_map (λ p. member_trees (zip p.0.items p.1.items)) o) reader.new) }
     ensures parts { IfOk result (λ o. IfSome o (λ p. AreMemberParts p.0.items p.1.items)) }
     ensures text { result ≡ Err Refusal.Text → next_value depth reader.old ≡ None }
@@ -379,11 +348,7 @@ fn take_members(
 /// The pair of id and field that comes next.
 #[cycle(take)]
 #[tactic(auto, using(crate::proofs::TokenItems::item_turn))]
-fn take_pair(
-    alloc: Global,
-    reader: &mut Reader<'_>,
-    depth: usize,
-) -> Result<Option<(i8, Field)>, Refusal>
+fn take_pair(alloc: Global, reader: &mut Reader<'_>, depth: usize) -> Taken<(i8, Field)>
     ensures ok { IfOk result (λ o. ReadsValue pair_read depth reader.old o reader.new) }
     ensures id { IfOk result (λ o. IfSome o (λ p. IsTrue (is_type_id p.0))) }
     ensures text { result ≡ Err Refusal.Text → next_value depth reader.old ≡ None }

@@ -24,9 +24,7 @@ pub(crate) fn make_union(
 {
     match UnionFields::try_new(alloc, ids, fields) {
         Ok(members) => Ok(Some(DataType::Union(members, mode))),
-        Err(error) => match error {
-            ArrowError::OutOfMemory => Err(Refusal::Memory),
-            _ => Ok(None),
-        },
+        Err(ArrowError::OutOfMemory) => Err(Refusal::Memory),
+        Err(_) => Ok(None),
     }
 }

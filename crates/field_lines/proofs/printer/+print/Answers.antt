@@ -2,7 +2,7 @@ use Rattle.std.proofs.Common.{◌≡◌, ℤ, List, codes, refl, w8, w32, w64, a
 use Rattle.field_lines.proofs.Terms.{FieldTree, fields_depth, members_depth, field_trees, member_trees, Data, number, array, Items, no_items, item, of_integer, sent, prints_array, prints_item, prints_end, value_of_field, type_value, fields_value, members_value}
 use Rattle.arrow_values.specs.Tree.{depth}
 use mir.Val.{to_z, of_z}
-use Rattle.field_lines.proofs.Prints.{falls, rest_go_on, rest_end, finished, plain_value, prints_one_key, prints_two_keys, prints_parts, prints_text}
+use Rattle.field_lines.proofs.Prints.{falls, rest_go_on, rest_end, finished, plain_value, prints_one_key, prints_two_keys, prints_parts, prints_text, prints_integer}
 use Rattle.field_lines.proofs.printer.+print.Goals as goal
 
 pub print_field-returns : goal.print_field-returns
@@ -20,7 +20,7 @@ print_list-returns t c = finished _ (prints_one_key c.args.key.now (sent c.in_ok
 pub print_fixed_size_list-returns : goal.print_fixed_size_list-returns
 print_fixed_size_list-returns t c = let same : to_z w64 (of_z w64 (to_z w32 (of_z w32 c.args.size))) ≡ c.args.size = search rules in
     finished _ (prints_two_keys (codes "fixed_size_list") (codes "size") (λ x y. refl) (sent c.in_ok-begin_object.ensures) (sent c.in_ok-key.ensures)
-    c.in_ok-print_field.ensures (sent c.in_ok-key-2.ensures) (rw same at c.in_ok-print_integer.ensures)) c.end_object.ensures
+    c.in_ok-print_field.ensures (sent c.in_ok-key-2.ensures) (prints_integer c.args.size (grind arith) (rw same at (sent c.in_ok-i64.ensures)))) c.end_object.ensures
 
 -- the values of a struct's fields, and of a union's members
 abbrev fields_values : List FieldTree → Items
@@ -65,7 +65,7 @@ print_union-returns t c = let xs = c.as_slice-member-items in
 
 pub print_member-returns : goal.print_member-returns
 print_member-returns t c = let same : to_z w64 (of_z w64 (to_z w8 (of_z w8 c.args.id))) ≡ c.args.id = search rules in
-    let id = prints_item (rw same at c.in_ok-print_integer.ensures) in
+    let id = prints_item (prints_integer c.args.id (grind arith) (rw same at (sent c.in_ok-i64.ensures))) in
     finished _ (λ e. prints_array (sent c.in_ok-begin_array.ensures) (id (prints_item c.in_ok-print_field.ensures (prints_end e)))) c.end_array.ensures
 
 pub print_type-returns-in_default : goal.print_type-returns-in_default

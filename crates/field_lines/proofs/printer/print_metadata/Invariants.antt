@@ -1,7 +1,7 @@
 use Rattle.json.specs.Written.{Written}
 use Rattle.value_tokens.specs.Adds.{Adds}
 use Rattle.field_lines.proofs.Prints.{texts_tokens}
-use Rattle.field_lines.proofs.printer.print_texts.Given as goal
+use Rattle.field_lines.proofs.printer.print_metadata.Given as goal
 
 -- what adds the texts that are left adds all from the start
 abbrev pub invariant-loop-key : goal.invariant-loop-key
