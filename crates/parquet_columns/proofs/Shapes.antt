@@ -1,7 +1,9 @@
 -- What groups stand for, by how many elements are below them.
-use Rattle.std.proofs.Common.{◌≡◌, ◌≢◌, ℕ, Bool, true, false, String, Global, List, [], ◌∷◌, ◌++◌, length, get_or, map, Result, Ok, Err, IfOk, refl, sym, ap, ◌∙◌, subst, arith}
+use Rattle.std.proofs.Common.{◌≡◌, ◌≢◌, ◌||◌, ℕ, Bool, true, false, String, Global, List, [], ◌∷◌, ◌++◌, length, get_or, map, codes, Result, Ok, Err, IfOk, refl, sym, ap, ◌∙◌, subst, arith}
 use Rattle.std.proofs.lemmas.Bool.{false≢true}
-use Rattle.std.proofs.lemmas.List.{map_push, length-map}
+use Rattle.std.proofs.lemmas.List.{append_cancel_right, map_push, length-map}
+use Rattle.std.proofs.lemmas.Slice.Eq.{bytes_eq-Decides}
+use Rattle.std.specs.Str.{bytes_eq}
 use Rattle.arrow_values.specs.Tree.{Text, Metadata}
 use Rattle.arrow_values.specs.View.{texts_of}
 use Rattle.arrow_columns.specs.Column.{TypeTree, ColumnTree, column_tree}
@@ -71,6 +73,25 @@ module _ (xs same : List Node) (are : same ≡ xs) (not : length same ≢ 1) whe
 pub made_plain : (name text : Text) (nullable : Bool) (t : TypeTree) (entries : List (String Global × String Global)) → text ≡ name → entries ≡ []
     → with_parts text nullable t (texts_of entries) ≡ plain_column name nullable t
 made_plain name text nullable t entries same none = rw (same, none) refl
+
+same_tests : (a b : Bool) → (a ≡ true → b ≡ true) → (b ≡ true → a ≡ true) → a ≡ b
+same_tests true b f g = sym (f refl)
+same_tests false true f g = g refl
+same_tests false false f g = refl
+
+-- a name is that of the item, if the list's name is what stands before the ending
+module _ (list name : Text) (other : bytes_eq name (codes "array") ≡ false) where
+  by_ending : bytes_eq name (list ++ codes "_tuple") ≡ is_item_name list name
+  by_ending = sym (ap (λ b. b || bytes_eq name (list ++ codes "_tuple")) other)
+
+  pub named_by : (front : Text) → name ≡ front ++ codes "_tuple" → bytes_eq front list ≡ is_item_name list name
+  named_by front is =
+      let one = bytes_eq-Decides front list in
+      let whole = bytes_eq-Decides name (list ++ codes "_tuple") in
+      same_tests _ _ (λ e. whole.1 (is ∙ ap (λ xs. xs ++ codes "_tuple") (one.0 e))) (λ e. one.1 (append_cancel_right front list (codes "_tuple") (sym is ∙ whole.0 e))) ∙ by_ending
+
+  pub named_otherwise : ((front : Text) → name ≢ front ++ codes "_tuple") → false ≡ is_item_name list name
+  named_otherwise never = same_tests _ _ (λ e. absurd (false≢true e)) (λ e. absurd (never list ((bytes_eq-Decides name (list ++ codes "_tuple")).0 e))) ∙ by_ending
 
 pub kept_item : (list name : Text) (c : ColumnTree) → is_item_name list name ≡ false → c ≡ item_by list name (wrapper c)
 kept_item list name c is = rw is refl

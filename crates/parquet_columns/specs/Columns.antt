@@ -51,7 +51,7 @@ pub record HeadTree : Type 0 where
   pub repetition : Repetition
 
 abbrev pub head_tree : Head → HeadTree
-head_tree h = record { element = element h.element; kind = h.kind; repetition = h.repetition }
+head_tree h = record { element = element h.element.now; kind = h.kind; repetition = h.repetition }
 
 unfoldable pub head_at : List Element → ℕ → Result HeadTree Fault
 head_at es at = do

@@ -29,8 +29,8 @@ enum Kind {
 
 /// What an element says itself.
 #[derive(Clone, Copy)]
-struct Head<'a> {
-    element: SchemaElement<'a>,
+struct Head<'s, 'a> {
+    element: &'s SchemaElement<'a>,
     kind: Kind,
     repetition: Repetition,
 }
@@ -68,14 +68,14 @@ fn kind_at(at: usize, physical: Option<PhysicalType>, count: Option<u32>) -> Res
 
 /// What the element with that index says.
 #[tactic(auto, using(crate::proofs::Walks::there_is, crate::proofs::Walks::none_is), unfolding(crate::specs::Columns::head_at))]
-fn head_at<'a>(elements: &[SchemaElement<'a>], at: usize) -> Result<Head<'a>, Fault>
+fn head_at<'s, 'a>(elements: &'s [SchemaElement<'a>], at: usize) -> Result<Head<'s, 'a>, Fault>
     ensures is { map_ok head_tree result ≡ head_at (map element elements.now) at }
     ensures within { IfOk result (λ _. at < length elements.now) }
 {
     if at >= elements.len() {
         return Err(Fault::new(Rule::Children, at));
     }
-    let element = elements[at];
+    let element = &elements[at];
     let kind = kind_at(at, element.storage.physical_type, element.num_children)?;
     let Some(repetition) = element.storage.repetition else {
         return Err(Fault::new(Rule::Repetition, at));
@@ -124,16 +124,17 @@ fn leaf_shape(
 fn shape_at(
     alloc: Global,
     at: usize,
-    head: &Head<'_>,
+    head: &Head<'_, '_>,
     below: Vec<Node<'_>>,
 ) -> Result<Shape, ColumnsError>
     ensures { Says shape_tree (shape_at at (head_tree head.now) (map node_tree below.entry.items)) result }
 {
+    let element = head.element;
     match head.kind {
-        Kind::Leaf(physical) => leaf_shape(alloc, at, physical, &head.element),
-        Kind::Group(_) => match annotation_of(&head.element) {
+        Kind::Leaf(physical) => leaf_shape(alloc, at, physical, element),
+        Kind::Group(_) => match annotation_of(element) {
             Annotation::Plain => Ok(group_shape(alloc, below)?),
-            Annotation::List => list_shape(alloc, at, head.element.storage.name, below),
+            Annotation::List => list_shape(alloc, at, element.storage.name, below),
             Annotation::Map => map_shape(alloc, at, below),
         },
     }
@@ -156,8 +157,9 @@ fn read_node<'a>(
     let count = children_of(head.kind);
     let (below, next) = read_nodes(alloc, elements, at + 1, count, levels - 1)?;
     let shape = shape_at(alloc, at, &head, below)?;
+    let element = head.element;
     let node = Node {
-        name: head.element.storage.name,
+        name: element.storage.name,
         repetition: head.repetition,
         shape,
     };

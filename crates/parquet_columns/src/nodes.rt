@@ -170,23 +170,23 @@ pub(crate) fn group_shape(alloc: Global, nodes: Vec<Node<'_>>) -> Result<Shape, 
 }
 
 /// Whether the repeated group of a LIST is the item itself, by its name.
-fn is_item_name(alloc: Global, list: &str, name: &str) -> Result<bool, AllocError>
-    ensures { IfOk result (λ is. is ≡ is_item_name list.now name.now) }
+fn is_item_name(list: &str, name: &str) -> bool
+    ensures { result ≡ is_item_name list.now name.now }
 {
-    let mut tuple = String::from_str(alloc, list)?;
-    tuple.push_str("_tuple")?;
-    Ok(name == "array" || name == tuple.as_str())
+    if name == "array" {
+        return true;
+    }
+    match name.as_bytes().strip_suffix(b"_tuple") {
+        Some(front) => front == list.as_bytes(),
+        None => false,
+    }
 }
 
 /// The item of a LIST of a name, by its repeated element of that name, a group of one element that is not repeated.
 fn wrapped_item(alloc: Global, list: &str, name: &str, column: Column) -> Result<Column, AllocError>
     ensures { IfOk result (λ made. column_tree made ≡ item_by list.now name.now (wrapper (column_tree column))) }
 {
-    let Ok(is_item) = is_item_name(alloc, list, name) else {
-        drop(column);
-        return Err(AllocError);
-    };
-    if !is_item {
+    if !is_item_name(list, name) {
         return Ok(column);
     }
     let data_type = shape_type(alloc, Shape::Wrapper(column))?;
