@@ -74,10 +74,6 @@ long_at held len (found, is) long = (omega (arith, found.high, long), λ k low h
 pub long_held : (held : List ℕ) → HasNoFeed held → max_line_bytes < length held → IsLong held
 long_held held none long = (long, λ k low high. none k low (omega (arith, high, long)))
 
-pub long_more : (held more : List ℕ) → IsLong held → IsLong (held ++ more)
-long_more held more (long, none) =
-    (omega (arith, long, length-append held more), none_in_more held more (max_line_bytes + 1) (omega (arith, long)) none)
-
 short_at : (held more : List ℕ) (len : ℕ) → IsFirstByte (is_byte line_feed) held (Some len) → len ≤ max_line_bytes → ¬ IsLong (held ++ more)
 short_at held more len (found, is) short (long, none) =
     none len (omega arith) (omega (arith, short)) (subst (λ x. is_byte line_feed x ≡ true) (sym (get_or_append_left held more 0 len found.high)) is)

@@ -110,11 +110,6 @@ no_column ms none is = other_column_is ms none ∙ ap (λ o. option_and_then (λ
 pub no_other_type : (ms : Members) → field_of_value (object ms) ≡ None → under other_of_value type_key ms ≡ None → column_of_value (object ms) ≡ None
 no_other_type ms none is = other_column_is ms none ∙ ap (option_and_then (λ t. option_map (with_other t) (field_of_value (object (with_null ms))))) is
 
-pub is_other : (ms : Members) (t : Text) (f : FieldTree) → field_of_value (object ms) ≡ None → under other_of_value type_key ms ≡ Some t → field_of_value (object (with_null ms)) ≡ Some f
-    → column_of_value (object ms) ≡ Some (with_other t f)
-is_other ms t f none other is =
-    other_column_is ms none ∙ ap (option_and_then (λ t. option_map (with_other t) (field_of_value (object (with_null ms))))) other ∙ ap (option_map (with_other t)) is
-
 -- null in place of a type nests no deeper
 ordered_depth : (o : Ordering) (a b c : Members) (n : ℕ) → members_depth a ≤ n → members_depth b ≤ n → members_depth c ≤ n → members_depth (match_ordering o a b c) ≤ n
 ordered_depth Less a b c n p q r = p
@@ -154,14 +149,6 @@ other_keys (boolean b) es is many = refl
 other_keys (number n) es is many = refl
 other_keys (string s) es is many = refl
 other_keys (array ds) es is many = refl
-
-pub no_object : (d : Data) → None ≡ as_object d → other_of_value d ≡ None
-no_object (object ms) is = absurd (none-some ms is)
-no_object null is = refl
-no_object (boolean b) is = refl
-no_object (number n) is = refl
-no_object (string s) is = refl
-no_object (array ds) is = refl
 
 pub object_of : (d : Data) → is_some (as_object d) ≡ true → (ms : Members) × (d ≡ object ms)
 object_of (object ms) is = (ms, refl)

@@ -23,10 +23,13 @@ pub enum Form {
 pub fn form_of(bytes: &[u8]) -> Form
     ensures { IsForm bytes.now result }
 {
-    match bytes {
-        [b'A', b'R', b'R', b'O', b'W', b'1', ..] => Form::ArrowFile,
-        [255, 255, 255, 255, ..] => Form::ArrowStream,
-        [b'P', b'A', b'R', b'1', ..] => Form::Parquet,
-        _ => Form::Lines,
+    if bytes.starts_with(b"ARROW1") {
+        Form::ArrowFile
+    } else if bytes.starts_with(&[255, 255, 255, 255]) {
+        Form::ArrowStream
+    } else if bytes.starts_with(b"PAR1") {
+        Form::Parquet
+    } else {
+        Form::Lines
     }
 }

@@ -141,14 +141,16 @@ fn column_of(alloc: Global, value: &mut Value) -> Result<Result<Column, LineFaul
         return Ok(Err(LineFault::NotObject));
     }
     let notation = notation_in(alloc, value)?;
-    let read = null_field(alloc, value)?;
-    match (read, notation) {
-        (Err(fault), _) => Ok(Err(fault)),
-        (Ok(field), None) => {
+    let field = match null_field(alloc, value)? {
+        Ok(field) => field,
+        Err(fault) => return Ok(Err(fault)),
+    };
+    match notation {
+        Some(notation) => Ok(Ok(other_column(alloc, field, notation)?)),
+        None => {
             drop(field);
             Ok(Err(LineFault::TypeUnknown))
         }
-        (Ok(field), Some(notation)) => Ok(Ok(other_column(alloc, field, notation)?)),
     }
 }
 

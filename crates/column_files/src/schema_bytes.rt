@@ -85,24 +85,13 @@ pub fn read_schema_end<S: Read + Seek>(
         Form::Parquet => PARQUET_TAIL,
         Form::ArrowStream | Form::Lines => return read_schema_bytes(form, head, source),
     };
-    match source.seek(SeekFrom::End(0)) {
-        Ok(length) => end_of(alloc, source, length, tail),
-        Err(_) => read_schema_bytes(form, head, source),
-    }
-}
-
-/// The end of a file of that length: the footer, and so many bytes behind it, of which the first four are its size.
-fn end_of<S: Read + Seek>(
-    alloc: Global,
-    source: &mut S,
-    length: u64,
-    tail: u64,
-) -> Result<Vec<u8>, ReadFault>
-    ensures end { OnOk result (IsAtEnd (S.remaining source.new)) }
-    ensures err { IfErr result IsReadError }
-{
+    let Ok(length) = source.seek(SeekFrom::End(0)) else {
+        return read_schema_bytes(form, head, source);
+    };
+    drop(head);
     let last = last_of(alloc, source, length, tail)?;
     let footer = u64::from(size_of_four(last.as_slice()));
+    drop(last);
     last_of(alloc, source, length, footer.saturating_add(tail))
 }
 
