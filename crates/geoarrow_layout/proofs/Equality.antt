@@ -1,6 +1,5 @@
 -- The derived `==` of kinds and summaries answers true exactly at equal values.
-use Rattle.geoarrow_layout.proofs.Terms.{Bare, sameb, same_true, true_same, Declared, ◌≡◌, Bool, Option, None, Some, refl, ap, Decides-and, Decides-like, Decides, booleans_Decides, unsigned_Decides, signed_Decides, option_eq, Kind, Rect, Wkb, Wkt, Bottom, FixedSizeList, Struct, Union, OtherWidth, Summary}
-use Rattle.geoarrow_layout.specs.declared.encodings.Kind.TheVariants.{Native, Geometry}
+use Rattle.geoarrow_layout.proofs.Terms.{Bare, sameb, same_true, true_same, Declared, ◌≡◌, Bool, Option, None, Some, refl, ap, Decides-and, Decides-like, Decides, booleans_Decides, unsigned_Decides, signed_Decides, option_eq, Kind, OfNative, OfGeometry, OfRect, OfWkb, OfWkt, Bottom, FixedSizeList, Struct, Union, OtherWidth, Summary}
 use Rattle.geoarrow_layout.specs.contracts.encodings.KindPartialEq.TheImpl as kinds
 use Rattle.geoarrow_layout.specs.contracts.encodings.NativeKind as native_kind
 use Rattle.geoarrow_layout.specs.contracts.encodings.Width as width
@@ -21,13 +20,13 @@ option_decides E d (Some x) (Some y) = Decides-like _ (λ p. ap Some p) (λ p. c
 option_decides E d _ _ = (λ h. cc, λ p. cc)
 
 pub kind_decides : (a b : Kind) → Decides ((kinds.eq-value).it a b) (a ≡ b)
-kind_decides (Native k c d) (Native l b e) =
+kind_decides (OfNative k c d) (OfNative l b e) =
     Decides-like _ (λ p. cc) (λ p. (cc, (cc, cc)))
     (Decides-and _ _ (bare_decides native_kind.the_type tt k l) (Decides-and _ _ (bare_decides coord_type.the_type tt c b) (bare_decides dimension.the_type tt d e)))
-kind_decides (Geometry c) (Geometry b) = Decides-like _ (λ p. ap Geometry p) (λ p. cc) (bare_decides coord_type.the_type tt c b)
-kind_decides (Rect d) (Rect e) = Decides-like _ (λ p. ap Rect p) (λ p. cc) (bare_decides dimension.the_type tt d e)
-kind_decides (Wkb v) (Wkb w) = Decides-like _ (λ p. ap Wkb p) (λ p. cc) (bare_decides width.the_type tt v w)
-kind_decides (Wkt v) (Wkt w) = Decides-like _ (λ p. ap Wkt p) (λ p. cc) (bare_decides width.the_type tt v w)
+kind_decides (OfGeometry c) (OfGeometry b) = Decides-like _ (λ p. ap OfGeometry p) (λ p. cc) (bare_decides coord_type.the_type tt c b)
+kind_decides (OfRect d) (OfRect e) = Decides-like _ (λ p. ap OfRect p) (λ p. cc) (bare_decides dimension.the_type tt d e)
+kind_decides (OfWkb v) (OfWkb w) = Decides-like _ (λ p. ap OfWkb p) (λ p. cc) (bare_decides width.the_type tt v w)
+kind_decides (OfWkt v) (OfWkt w) = Decides-like _ (λ p. ap OfWkt p) (λ p. cc) (bare_decides width.the_type tt v w)
 kind_decides _ _ = (λ h. cc, λ p. cc)
 
 pub bottom_decides : (a b : Bottom) → Decides ((bottoms.eq-value).it a b) (a ≡ b)

@@ -1,5 +1,5 @@
 -- A data type has one fault at most under a name, and none if it is accepted; the path to it, step by step.
-use Rattle.geoarrow_layout.proofs.Terms.{◌≡◌, ◌≢◌, ◌*◌, Bool, true, false, inl, inr, ℕ, zero, suc, ℤ, pos, List, [], ◌∷◌, length, sym, ap, subst, ◌∙◌, ◌⊎◌, Text, Metadata, Tree, list, large_list, fixed_size_list, struct, union, MemberTrees, no_members, member, CoordType, Interleaved, Separated, Dimension, XY, XYZ, NativeKind, GeometryCollection, Kind, OfNative, OfGeometry, OfRect, OfWkb, OfWkt, ListWidth, Lists, LargeLists, LayoutFault, UnexpectedType, BadFieldNames, BadTypeId, ExtensionName, size_of, type_id_of, extension_of, names_of, IsSeparatedAs, Leaf, ListsOver, levels_of, OverLeaf, Member, AllMembers, Mixed, Native, GeometryMember, Geometry, IsBoxAs, BoxShape, Accepted, Path, Located, Faults, InItem, CoordinateFault, BoxFault, LevelsFault, Option, None, Some, IsWidth, OverLeafFault, PartFault, FirstFault, UnionFault, MemberFault, MixedFault, NativeFault, GeometryMemberFault, GeometryFault, FaultAt, BadInterleavedName, BadSize, BadFieldCount, MixedWidths, MemberDimension, EmptyUnion, SeveralCoordTypes, SeveralDimensions, ReadsFirst, named_back, dimension_named, over_leaf_first, native_first, order_of, offset_of, arith, refl, ◌+◌, ◌≤◌, Point, NativeIn, NativeFaultIn, MemberIn, MemberFaultIn, Here, Under, UnionFaultIn, ◌<◌, MatchResult, ◌++◌, take, Result, OnOk, get_or, append-nil, append_assoc, Ok, Err, FieldTree, field_trees, member_trees, UnionMode, HasFault, LeadsTo, FirstOrNone, TellsBoth, field_at, member_at, StaysHere}
+use Rattle.geoarrow_layout.proofs.Terms.{◌≡◌, ◌≢◌, ◌*◌, Bool, true, false, inl, inr, ℕ, zero, suc, ℤ, pos, List, [], ◌∷◌, length, sym, ap, subst, ◌∙◌, ◌⊎◌, Text, Metadata, Tree, list, large_list, fixed_size_list, struct, union, MemberTrees, no_members, member, CoordType, Interleaved, Separated, Dimension, XY, XYZ, NativeKind, GeometryCollection, Kind, OfNative, OfGeometry, OfRect, OfWkb, OfWkt, ListWidth, Lists, LargeLists, LayoutFault, UnexpectedType, BadFieldNames, BadTypeId, ExtensionName, size_of, type_id_of, extension_of, names_of, IsSeparatedAs, Leaf, ListsOver, levels_of, OverLeaf, Member, AllMembers, Mixed, Native, GeometryMember, Geometry, IsBoxAs, BoxShape, Accepted, Path, Located, Faults, InItem, CoordinateFault, BoxFault, LevelsFault, Option, None, Some, IsWidth, OverLeafFault, PartFault, FirstFault, UnionFault, MemberFault, MixedFault, NativeFault, GeometryMemberFault, GeometryFault, FaultAt, BadInterleavedName, BadSize, BadFieldCount, MixedWidths, MemberDimension, EmptyUnion, SeveralCoordTypes, SeveralDimensions, ReadsFirst, named_back, dimension_named, over_leaf_first, native_first, order_of, offset_of, arith, refl, ◌+◌, ◌≤◌, Point, NativeIn, NativeFaultIn, MemberIn, MemberFaultIn, Here, Under, UnionFaultIn, HasMembers, DimensionsFault, ◌<◌, MatchResult, ◌++◌, take, Result, OnOk, get_or, append-nil, append_assoc, Ok, Err, FieldTree, field_trees, member_trees, UnionMode, HasFault, LeadsTo, FirstOrNone, TellsBoth, field_at, member_at, StaysHere}
 use Rattle.geoarrow_layout.specs.declared.names.ExtensionName.TheVariants as names
 use Rattle.geoarrow_layout.proofs.Readings.{all_map, Answer, IsPartsOf, some_parts, Items}
 
@@ -157,24 +157,26 @@ union_one R F sole (member i n t b m ms) = either_one _ _ (first_one R F sole (m
     (λ p q f g h k. first_apart R F sole (member i n t b m ms) p f k.0 h)
 
 -- members of one coordinate type, at least one, are at fault as no union
-union_apart : (R : MemberReads) (F : ℤ → Faults) → SoleMember R F → (i : ℤ) (n : Text) (t : Tree) (b : Bool) (m : Metadata) (ms : MemberTrees) (c : CoordType) (p : Path) (f : LayoutFault) → AllMembers (λ j u. (d : Dimension) × R j u c d) (member i n t b m ms) → UnionFault R F (member i n t b m ms) p f → ⊥
-union_apart R F sole i n t b m ms c p f h (inl k) = first_apart R F sole (member i n t b m ms) p f (all_map (λ j u. (d : Dimension) × R j u c d) (Read R) (λ j u x. (c, x.0, x.1)) (member i n t b m ms) h) k
-union_apart R F sole i n t b m ms c p f h (inr k) = k.1 c h
+union_apart : (R : MemberReads) (F : ℤ → Faults) → SoleMember R F → (ms : MemberTrees) (c : CoordType) (p : Path) (f : LayoutFault) → HasMembers ms → AllMembers (λ i t. (d : Dimension) × R i t c d) ms → UnionFault R F ms p f → ⊥
+union_apart R F sole no_members c p f some h k = absurd some
+union_apart R F sole (member i n t b m ms) c p f some h (inl k) = first_apart R F sole (member i n t b m ms) p f (all_map (λ j u. (d : Dimension) × R j u c d) (Read R) (λ j u x. (c, x.0, x.1)) (member i n t b m ms) h) k
+union_apart R F sole (member i n t b m ms) c p f some h (inr k) = k.1 c h
 
 pub member_sole : SoleMember Member MemberFault
 member_sole = part_sole OverLeaf OverLeafFault over_leaf_first over_leaf_sole
 
+-- the members of a collection, which are of several dimensions, are no fault as a union
+mixed_two : (ms : MemberTrees) (p q : Path) (f g : LayoutFault) → UnionFault Member MemberFault ms p f → DimensionsFault ms q g → ⊥
+mixed_two no_members p q f g h k = k.1 Interleaved XY tt
+mixed_two (member i n t b m ms) p q f g h k = union_apart Member MemberFault member_sole (member i n t b m ms) k.0.0 p f tt k.0.1 h
+
 mixed_one : (t : Tree) → One (MixedFault t)
-mixed_one (union no_members mode) = either_one _ _ (union_one Member MemberFault member_sole no_members) (λ p q f g h k. here_one SeveralDimensions p q f g h.2 k.2)
-    (λ p q f g h k. k.1 Interleaved XY tt)
-mixed_one (union (member i n t b m ms) mode) = either_one _ _ (union_one Member MemberFault member_sole (member i n t b m ms)) (λ p q f g h k. here_one SeveralDimensions p q f g h.2 k.2)
-    (λ p q f g h k. union_apart Member MemberFault member_sole i n t b m ms k.0.0 p f k.0.1 h)
+mixed_one (union ms mode) = either_one _ _ (union_one Member MemberFault member_sole ms) (λ p q f g h k. here_one SeveralDimensions p q f g h.2 k.2) (mixed_two ms)
 mixed_one _ = here_one UnexpectedType
 
 pub mixed_none : Apart Mixed MixedFault
-mixed_none (union no_members mode) c d p f h k = absurd h.0
-mixed_none (union (member i n t b m ms) mode) c d p f h (inl k) = union_apart Member MemberFault member_sole i n t b m ms c p f (all_map (λ j u. Member j u c d) (λ j u. (e : Dimension) × Member j u c e) (λ j u x. (d, x)) (member i n t b m ms) h.1) k
-mixed_none (union (member i n t b m ms) mode) c d p f h (inr k) = k.1 c d h.1
+mixed_none (union ms mode) c d p f h (inl k) = union_apart Member MemberFault member_sole ms c p f h.0 (all_map (λ i t. Member i t c d) (λ i t. (e : Dimension) × Member i t c e) (λ i t x. (d, x)) ms h.1) k
+mixed_none (union ms mode) c d p f h (inr k) = k.1 c d h.1
 mixed_none _ c d p f h k = absurd h
 
 pub native_sole : (k : NativeKind) → Sole (λ t. Native t k) (NativeFault k)
@@ -198,8 +200,7 @@ geometry_one (union ms mode) = union_one GeometryMember GeometryMemberFault geom
 geometry_one _ = here_one UnexpectedType
 
 pub geometry_apart : (t : Tree) (c : CoordType) (p : Path) (f : LayoutFault) → Geometry t c → GeometryFault t p f → ⊥
-geometry_apart (union no_members mode) c p f h k = absurd h.0
-geometry_apart (union (member i n t b m ms) mode) c p f h k = union_apart GeometryMember GeometryMemberFault geometry_member_sole i n t b m ms c p f h.1 k
+geometry_apart (union ms mode) c p f h k = union_apart GeometryMember GeometryMemberFault geometry_member_sole ms c p f h.0 h.1 k
 geometry_apart _ c p f h k = absurd h
 
 -- ---- by the extension name

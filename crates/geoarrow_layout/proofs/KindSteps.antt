@@ -250,14 +250,11 @@ abbrev No : Tree → ExtensionName → Type 0
 No t a = ¬ IsAccepted (name_text a) t
 
 pub no_names : (t : Tree) → No t (names.Native Point) → No t (names.Native LineString) → No t (names.Native Polygon) → No t (names.Native MultiPolygon) → No t (names.Native GeometryCollection) → No t names.Geometry → No t names.Rect → No t names.Wkb → No t names.Wkt → Names (Holds NoName) t
-no_names t point line polygon multi collection geometry box wkb wkt n = (λ e. absurd e, λ a. none second_line second_polygon (extension_of a.0) (a.0, (refl, a.1.1)))
+no_names t point line polygon multi collection geometry box wkb wkt n = (
+  λ e. absurd e,
+  λ a. none (λ h. line (as_other (second_kind LineString) LineString t (λ c d y. y) h)) (λ h. polygon (as_other (second_kind Polygon) Polygon t (λ c d y. y) h)) (extension_of a.0) (a.0, (refl, a.1.1)),
+)
   where
-    second_line : No t (names.Native (second_kind LineString))
-    second_line h = line (as_other (second_kind LineString) LineString t (λ c d y. y) h)
-
-    second_polygon : No t (names.Native (second_kind Polygon))
-    second_polygon h = polygon (as_other (second_kind Polygon) Polygon t (λ c d y. y) h)
-
     none : No t (names.Native (second_kind LineString)) → No t (names.Native (second_kind Polygon)) → (a : ExtensionName) → No t a
     none lines polygons (names.Native Point) = point
     none lines polygons _ = search

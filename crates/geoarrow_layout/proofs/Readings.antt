@@ -38,12 +38,6 @@ pub told_fault : {X : Type 0} (r : Result X LayoutFault) (R : X → Type 0) (F :
 told_fault (Ok x) R F h = tt
 told_fault (Err f) R F h = h
 
--- what is told of a value is told of what is made of it
-pub told_map : {X Y : Type 0} (r : Result X LayoutFault) (q : Result Y LayoutFault) (f : X → Y) (R : X → Type 0) (S : Y → Type 0) (F : Located) → MatchResult r (λ x. IsOkAnd q (λ y. y ≡ f x)) (λ e. q ≡ Err e) → ((x : X) → R x → S (f x)) → Tells r R F → Tells q S F
-told_map (Ok x) (Ok y) f R S F is moves h = subst S (sym is) (moves x h)
-told_map (Ok x) (Err e) f R S F is moves h = absurd is
-told_map (Err e) q f R S F is moves h = subst (λ z. Tells z S F) (sym is) h
-
 -- the exit of a `?` is the fault that it met
 pub refused_as : {X : Type 0} (r : Result X LayoutFault) (f : LayoutFault) (R : X → Type 0) (F : Located) → IsErrAnd r (λ e. e ≡ f) → HasFault F f → Tells r R F
 refused_as (Ok x) f R F is h = absurd is

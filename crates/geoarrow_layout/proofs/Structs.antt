@@ -1,13 +1,8 @@
 -- Sets of bits, and what one reading adds to them; the fields of a struct: which names are those of a coordinate or a box, by their bits, and which point is inferred.
-use Rattle.geoarrow_layout.proofs.Terms.{◌≡◌, ◌↔◌, ◌<◌, ◌⊎◌, ◌*◌, ◌%◌, ◌^◌, inl, inr, ℕ, sym, ap, subst, ◌∙◌, ◌≤◌, true, false, ℤ, pos, Ok, Err, refl, arith, bit_at, bit_or, bit_at_set_same, bit_at_set_other, bit_at-zero, cases_eq, ltb-true, ltb-false, bits, ReadAt, w8, w64, CoordType, Dimension, LayoutFault, negsuc, nat_abs, lt_z, suc, Bool, ◌||◌, true≢false, Decides, IsTrue, list_all, and_parts, and_from, List, [], ◌∷◌, length, ◌+◌, ◌&&◌, ◌++◌, take, get_or, eq-eqb, list_any, bytes_eq, bytes_eq-Decides, Text, FieldTree, field_trees, XY, XYZ, XYM, has_name, IsSeparatedAs, names_of, SomeAt, place_in, known_names, is_float64, are_float64, nat_eq, codes, HaveBoth, HasFault, eqb-true, cond_both, or_cases, or_left, or_right, same_from_decides, and-true, and_assoc, IsBits, Result, Option, Tree, struct, FieldTrees, Separated, BadFieldNames, ListWidth, Bottom, Struct, Leaf, IsBoxAs, BoxShape, Path, SeparatedFault, CoordinateFault, BoxFault, IsBottom, IsUnion, IsNoLeaf, Tells, TellsBoth, BoxNamesFault, Some, None, same_Some, fixed_size_list, Interleaved, size_of, interleaved_name, Inferred, IsInferredAs, IsInferredSize, among_back, dimension_named}
-use Rattle.std.proofs.Common.{bit_and, ◌/◌}
-use Rattle.std.proofs.Math.ListN.{get_or-map}
-use Rattle.std.proofs.lemmas.List.FromFn.{get_or-range_with_len}
+use Rattle.geoarrow_layout.proofs.Terms.{◌≡◌, ◌↔◌, ◌<◌, ◌⊎◌, ◌*◌, ◌%◌, ◌^◌, inl, inr, ℕ, sym, ap, subst, ◌∙◌, ◌≤◌, true, false, ℤ, pos, Ok, Err, refl, arith, bit_at, bit_or, bit_at_set_same, bit_at_set_other, bit_at-zero, cases_eq, ltb-true, ltb-false, bits, ReadAt, w8, w64, CoordType, Dimension, LayoutFault, negsuc, nat_abs, lt_z, suc, Bool, ◌||◌, true≢false, Decides, IsTrue, list_all, and_parts, and_from, List, [], ◌∷◌, length, ◌+◌, ◌&&◌, ◌++◌, take, get_or, eq-eqb, list_any, bytes_eq, bytes_eq-Decides, Text, FieldTree, field_trees, XY, XYZ, XYM, has_name, IsSeparatedAs, names_of, SomeAt, place_in, known_names, is_float64, are_float64, nat_eq, codes, HaveBoth, HasFault, eqb-true, cond_both, or_cases, or_left, or_right, same_from_decides, and-true, and_assoc, IsBits, Result, Option, Tree, struct, FieldTrees, Separated, BadFieldNames, ListWidth, Bottom, Struct, Leaf, IsBoxAs, BoxShape, Path, SeparatedFault, CoordinateFault, BoxFault, IsBottom, IsUnion, IsNoLeaf, Tells, TellsBoth, BoxNamesFault, Some, None, same_Some, fixed_size_list, Interleaved, size_of, interleaved_name, Inferred, IsInferredAs, IsInferredSize, among_back, dimension_named, bit_and, ◌/◌, get_or-map, get_or-range_with_len, decided, shr_and_one, map, coordinate}
 use Rattle.std.proofs.lemmas.Map.Made.{length-le_from_is_member}
-use Rattle.std.specs.Cmp.{decided}
-use Rattle.std.proofs.lemmas.Nat.Bits.{shr_and_one}
 use Rattle.std.specs.Int.{Width}
-use Rattle.std.specs.List.{AllByRecursion, IsDistinct}
+use Rattle.std.specs.List.{IsDistinct}
 use Rattle.geoarrow_layout.specs.Summary.{IsBits, AddsBits}
 use Rattle.geoarrow_layout.proofs.Readings.{Answer, ok_same, or_more, one_more, at_bottom}
 use Rattle.geoarrow_layout.specs.Shapes.{SameNames}
@@ -103,26 +98,22 @@ pub not_same : (xs ys : List FieldTree) (p : Bool) → p ≡ list_all (λ f. has
 unfolding SameNames
 not_same xs ys p e fails s = true≢false (sym (e ∙ (all_decides xs _).1 (λ n h. sym (s n) ∙ h)) ∙ fails)
 
-all_named : (names xs : List Text) → AllByRecursion (λ x. has_name x names ≡ true) xs → (q : Text) → has_name q xs ≡ true → has_name q names ≡ true
-all_named names [] all q h = absurd (true≢false (sym h))
-all_named names (x ∷ xs) all q h = elim (or_cases (bytes_eq x q) (has_name q xs) h) [
-  | inl e ↦ subst (λ m. has_name m names ≡ true) ((bytes_eq-Decides x q).0 e) all.0
-  | inr r ↦ all_named names xs all.1 q r
-]
-
 -- three names among which are three different ones are just those: a fourth would make them four
 pub same_three : (x y z : Text) (names : List Text) → bytes_eq y x ≡ false → bytes_eq z x ≡ false → bytes_eq z y ≡ false → length names ≡ 3 → HaveBoth x y names → has_name z names ≡ true → SameNames names (x ∷ y ∷ z ∷ [])
 unfolding SameNames IsDistinct
-same_three x y z names yx zx zy count xy third = λ n. same_from_decides {P = has_name n names ≡ true} _ _ ((λ e. e), (λ e. e)) (all_named names (x ∷ y ∷ z ∷ []) all n, λ h. by n h _ _ _ refl refl refl)
+same_three x y z names yx zx zy count xy third = λ n. same_from_decides {P = has_name n names ≡ true} _ _ ((λ e. e), (λ e. e)) (among (x ∷ y ∷ z ∷ []) all n, λ h. by n h _ _ _ refl refl refl)
   where
-    all : AllByRecursion (λ m. has_name m names ≡ true) (x ∷ y ∷ z ∷ [])
-    all = (xy.0, (xy.1, (third, tt)))
+    all : list_all (λ f. has_name f.name names) (map coordinate (x ∷ y ∷ z ∷ [])) ≡ true
+    all = rw (xy.0, xy.1, third) refl
+
+    among : (ns : List Text) → list_all (λ f. has_name f.name names) (map coordinate ns) ≡ true → (q : Text) → has_name q (names_of (field_trees (map coordinate ns))) ≡ true → has_name q names ≡ true
+    among ns = (all_decides (map coordinate ns) names).0
 
     by : (n : Text) → has_name n names ≡ true → (a b c : Bool) → bytes_eq x n ≡ a → bytes_eq y n ≡ b → bytes_eq z n ≡ c → (a || (b || (c || false))) ≡ true
     by n h false false false e f g = absurd (omega (
       arith,
       length-le_from_is_member {eq = λ a b. bytes_eq b a} (decided _ (λ a b. let d = bytes_eq-Decides b a in ((λ h. sym (d.0 h)), (λ e. d.1 (sym e))))) (n ∷ x ∷ y ∷ z ∷ []) names
-          ((e, (f, (g, tt))), ((yx, (zx, tt)), ((zy, tt), (tt, tt)))) (all_named names (n ∷ x ∷ y ∷ z ∷ []) (h, all)),
+          ((e, (f, (g, tt))), ((yx, (zx, tt)), ((zy, tt), (tt, tt)))) (among (n ∷ x ∷ y ∷ z ∷ []) (and_from _ _ h all)),
     ))
     by n h _ _ _ e f g = refl
 

@@ -4,24 +4,28 @@ pub use Rattle.geoarrow_layout.specs.declared.encodings.TheConstants.{KINDS}
 pub use Rattle.geoarrow_layout.specs.declared.encodings.TheConstants.Kind.{ALL}
 pub use Rattle.geoarrow_layout.specs.declared.kinds.TheConstants.{DIMENSIONS}
 pub use Rattle.geoarrow_layout.specs.declared.names.Candidates.TheVariants.{None as NoName}
-pub use Rattle.std.proofs.Common.{Bool, Err, IfErr, IsTrue, List, MatchOption, MatchResult, None, Ok, OnOk, Option, Result, Some, [], add-one, ap, append-nil, append_assoc, arith, codes, cond, drop, eq-eqb, false, get_or, inl, inr, is_err, is_ok, length, lit<, map, nat_eq, of_z, pos, refl, rules, subst, suc, sym, take, to_z, true, true≢false, w16, w32, w64, w8, zero, ℕ, ℤ, ◌%◌, ◌&&◌, ◌*◌, ◌++◌, ◌+◌, ◌-◌, ◌<◌, ◌^◌, ◌||◌, ◌↔◌, ◌∙◌, ◌∷◌, ◌≡◌, ◌≢◌, ◌≤◌, ◌⊎◌}
+pub use Rattle.std.proofs.Common.{Bool, Bor, Err, IfErr, IsTrue, List, MatchOption, MatchResult, None, Ok, OnOk, Option, Result, Some, [], add-one, ap, append-nil, append_assoc, arith, bit_and, codes, cond, drop, eq-eqb, false, get_or, inl, inr, is_err, is_ok, length, lit<, map, nat_eq, of_z, pos, refl, rules, subst, suc, sym, take, to_z, true, true≢false, w16, w32, w64, w8, zero, ℕ, ℤ, ◌%◌, ◌&&◌, ◌*◌, ◌++◌, ◌+◌, ◌-◌, ◌/◌, ◌<◌, ◌^◌, ◌||◌, ◌↔◌, ◌∙◌, ◌∷◌, ◌≡◌, ◌≢◌, ◌≤◌, ◌⊎◌}
 pub use Rattle.std.proofs.Math.Bool.{and-true, and_assoc}
 pub use Rattle.std.proofs.Math.Dec.{eqb-suc-zero}
+pub use Rattle.std.proofs.Math.ListN.{get_or-map}
 pub use Rattle.std.proofs.Math.Seq.{take-suc}
 pub use Rattle.std.proofs.lemmas.Bool.{and_from, and_parts, cases_eq, cond_both, eqb-true, iff_false, ltb-false, ltb-true, or_cases, or_left, or_right}
 pub use Rattle.std.proofs.lemmas.Bool.Decides.{Decides-and, Decides-like, same_from_decides}
 pub use Rattle.std.proofs.lemmas.Int.{to_z-of_z}
-pub use Rattle.std.proofs.lemmas.List.{drop_more, same_from_push, take_all}
+pub use Rattle.std.proofs.lemmas.Iterator.{YieldsList-from_slice, first_from_find}
+pub use Rattle.std.proofs.lemmas.List.{drop_more, get_or_default, take_all}
 pub use Rattle.std.proofs.lemmas.List.Elements.{All-contains, All-contains_itself, All-filter, Contains-append_cases, Contains-append_left, Contains-append_right}
-pub use Rattle.std.proofs.lemmas.Nat.Bits.{bit_at-lt, bit_at-pow_other, bit_at-pow_same, bit_at-zero, bit_at_set_other, bit_at_set_same, same_from_bits}
+pub use Rattle.std.proofs.lemmas.List.FromFn.{get_or-range_with_len}
+pub use Rattle.std.proofs.lemmas.Nat.Bits.{bit_at-lt, bit_at-pow_other, bit_at-pow_same, bit_at-zero, bit_at_set_other, bit_at_set_same, same_from_bits, shr_and_one}
 pub use Rattle.std.proofs.lemmas.Option.{same_Some, some_pair_parts}
 pub use Rattle.std.proofs.lemmas.Result.{err_from_is_err_and, on_ok_weaker}
 pub use Rattle.std.specs.Bool.{Decides}
-pub use Rattle.std.specs.Cmp.{booleans_Decides, signed_Decides, unsigned_Decides}
+pub use Rattle.std.specs.Cmp.{booleans_Decides, decided, signed_Decides, unsigned_Decides}
 pub use Rattle.std.specs.Int.RustNames.{bit_or}
-pub use Rattle.std.specs.List.{AllWithin, Contains, filter}
-pub use Rattle.std.specs.Option.{option_eq}
+pub use Rattle.std.specs.List.{AllByRecursion, AllWithin, Contains, filter}
+pub use Rattle.std.specs.Option.{option_copied, option_eq}
 pub use Rattle.std.specs.Result.{IsErrAnd, IsOkAnd, result_ok}
+pub use borrow.Author.Tests.{tests}
 pub use denote.Enum.Bare.{Bare, same_true, sameb, true_same}
 pub use denote.Enum.Declared.{Declared}
 pub use lib.IntN.{nat_abs, negsuc}

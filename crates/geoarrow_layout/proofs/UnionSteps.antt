@@ -1,6 +1,6 @@
 -- What was seen of members says what the union is; ids and members are each read in one way.
-use Rattle.geoarrow_layout.proofs.Terms.{ShowsIn, ◌≡◌, ◌≢◌, ◌↔◌, ◌<◌, ◌+◌, ◌^◌, ◌⊎◌, inl, inr, ℕ, zero, suc, ℤ, pos, Result, Ok, Err, Option, Some, None, MatchOption, MatchResult, Bool, true, false, [], ◌∷◌, ◌++◌, take, length, get_or, refl, sym, ap, subst, ◌∙◌, arith, bit_at, cases_eq, same_from_bits, bit_at-pow_same, bit_at-pow_other, bit_at-lt, Tree, union, FieldTree, MemberTrees, no_members, member, member_trees, CoordType, Interleaved, Dimension, LayoutFault, ListWidth, Bottom, Union, Summary, order_of, Mixed, Geometry, Member, GeometryMember, OverLeaf, Native, NativeKind, GeometryCollection, AllMembers, SomeMember, HasMembers, Yields, Path, Faults, HasFault, FirstFault, UnionFault, MemberFault, MixedFault, GeometryMemberFault, GeometryFault, IsFaultOf, Seen, place_of, IsBottom, IsUnion, SummarizesBy, Summarizes, ReadAt, Tells, TellsBoth, IsNested, IsNoLeaf, ReadsFirst, coords_in, member_first, geometry_member_first, DimensionsFault, IsBits, AddsBits, first_fault, AreOf, IsCoordFault, MixedSays, IsRootUnion, IsInnerUnion, IsLevelFault, BadTypeId, MemberDimension, type_id_of, levels_of, Leaf, Under, CoordinateFault, LevelsFault, PartFault, OverLeafFault, NativeIn, NativeFaultIn, ListsOver}
-use Rattle.geoarrow_layout.proofs.Readings.{Answer, exactly, Items, all_map, all_inside, all_some, first_some, all_both, some_more, one_more, IsPartsOf, some_parts, refused, RefusesLists, are_levels, at_bottom, no_union, level_fault}
+use Rattle.geoarrow_layout.proofs.Terms.{ShowsIn, ◌≡◌, ◌≢◌, ◌↔◌, ◌<◌, ◌+◌, ◌^◌, ◌⊎◌, inl, inr, ℕ, zero, suc, ℤ, pos, Result, Ok, Err, Option, Some, None, MatchOption, MatchResult, Bool, true, false, [], ◌∷◌, ◌++◌, take, length, get_or, refl, sym, ap, subst, ◌∙◌, arith, bit_at, cases_eq, same_from_bits, bit_at-pow_same, bit_at-pow_other, bit_at-lt, Tree, union, FieldTree, MemberTrees, no_members, member, member_trees, CoordType, Interleaved, Dimension, LayoutFault, ListWidth, Bottom, Union, Summary, order_of, Mixed, Geometry, Member, GeometryMember, OverLeaf, Native, NativeKind, GeometryCollection, AllMembers, SomeMember, HasMembers, Yields, Path, Faults, HasFault, FirstFault, UnionFault, MemberFault, MixedFault, GeometryMemberFault, GeometryFault, IsFaultOf, Seen, place_of, IsBottom, IsUnion, SummarizesBy, Summarizes, ReadAt, Tells, TellsBoth, IsNested, IsNoLeaf, ReadsFirst, coords_in, member_first, geometry_member_first, DimensionsFault, IsBits, AddsBits, first_fault, AreOf, IsCoordFault, MixedSays, IsRootUnion, IsInnerUnion, IsLevelFault, BadTypeId, MemberDimension, type_id_of, levels_of, Leaf, Under, CoordinateFault, LevelsFault, PartFault, OverLeafFault, NativeIn, NativeFaultIn, ListsOver, IsErrAnd}
+use Rattle.geoarrow_layout.proofs.Readings.{Answer, exactly, Items, all_map, all_inside, all_some, first_some, all_both, some_more, one_more, IsPartsOf, some_parts, refused, refused_as, RefusesLists, are_levels, at_bottom, no_union, level_fault}
 use Rattle.geoarrow_layout.proofs.FaultLaws.{Read, SoleMember, MemberReads, order_same, KindReads}
 use Rattle.geoarrow_layout.proofs.Structs.{bits_like, bits_added, no_bits, bit_is, id_moved}
 
@@ -214,8 +214,9 @@ fault_next R F fault more part xs k x z lt at id read next before =
 pub at_root : (s : Summary) (b : Bottom) (t : Tree) → s.levels ≡ 0 → b ≡ s.bottom → Summarizes s t → IsBottom IsUnion s.width 0 b t
 at_root s b t none is h = subst (λ u. IsBottom IsUnion s.width 0 b u) (sym (subst (λ n. ListsOver (are_levels s.width s.levels t h.0 h.1).0 n t h.0) none (are_levels s.width s.levels t h.0 h.1).1)) (rw (← none, is) h.2)
 
-pub root_fault : (F : Faults) → RefusesLists F → (s : Summary) (f : LayoutFault) → IsLevelFault s 0 f → (t : Tree) → Summarizes s t → HasFault (F t) f
-root_fault F refuses s f e t h = level_fault F refuses s 0 f (omega arith) e t (shows_of_inner s t (inner_of s t h))
+-- the exit of a `?` on what is below no lists
+pub root_refused : {X : Type 0} (F : Faults) → RefusesLists F → (s : Summary) (r : Result X LayoutFault) (f : LayoutFault) (R : X → Type 0) → IsErrAnd r (λ e. e ≡ f) → IsLevelFault s 0 f → (t : Tree) → Summarizes s t → Tells r R (F t)
+root_refused F refuses s r f R is e t h = refused_as r f R (F t) is (level_fault F refuses s 0 f (omega arith) e t (shows_of_inner s t (inner_of s t h)))
 
 pub root_geometry : (w : Option ListWidth) (empty : Bool) (ids coords dims : ℕ) (fault geometry : Option LayoutFault) (u : Tree) (r : Result CoordType LayoutFault)
     → IsBottom IsUnion w 0 (Union empty ids coords dims fault geometry) u → MatchResult r (AreOf empty geometry coords) (IsCoordFault empty geometry coords) → Tells r (Geometry u) (GeometryFault u)

@@ -2,8 +2,8 @@
 //! geometries and boxes use only the summary of the data type, so they ignore the nullability, the metadata and the data
 //! types of coordinate fields, the names of list items and members, and the mode of a union and the order of its members.
 //! None of them allocates.
-ghost use Rattle.std.specs.Prelude.{◌≡◌, ◌↔◌, ◌≢◌, ◌<◌};
-ghost use Rattle.geoarrow_layout.specs.Cited.{IfErr, IfOk, IfSome, IsTrue, Some, [], true, ℕ, List, Option, length, MatchResult, tree, field_trees, Yields, YieldsOne, Leaf, Native, Mixed, Collection, Geometry, BoxShape, IsBytes, IsText, Accepts, YieldsKind, IsStructured, IsSeparatedAs, IsBoxAs, names_of, name_text, extension_of, name_of, HasFault, BoxFault, MixedFault, NativeFault, GeometryFault, FaultAt, SeparatedFault, CoordinateFault, BoxNamesFault, Tree, Text, AreOf, IsCoordFault, Summarizes, IsBits, SomeAt, IsBottom, Tells, IsNoLeaf, ShowsIn, NativeIn, NativeFaultIn, MemberIn, MemberFaultIn, TellsBoth, IsLevelFault, MixedSays, HaveBoth, known_names, get_or, Holds, IsAccepted, YieldsSome, Inferred, IsInferredAs, IsInferredSize, is_float64, are_float64, ListWidth};
+ghost use Rattle.std.specs.Prelude.{◌≡◌, ◌↔◌, ◌≢◌};
+ghost use Rattle.geoarrow_layout.specs.Cited.{IfErr, IfOk, IfSome, IsTrue, Some, [], true, ℕ, List, Option, length, MatchResult, tree, field_trees, Yields, YieldsOne, Leaf, Native, Mixed, Collection, Geometry, BoxShape, IsBytes, IsText, Accepts, YieldsKind, IsStructured, IsSeparatedAs, IsBoxAs, names_of, name_text, extension_of, name_of, HasFault, BoxFault, MixedFault, NativeFault, GeometryFault, FaultAt, SeparatedFault, CoordinateFault, BoxNamesFault, Tree, Text, AreOf, IsCoordFault, Summarizes, IsBits, SomeAt, IsBottom, Tells, IsNoLeaf, ShowsIn, NativeIn, NativeFaultIn, MemberIn, MemberFaultIn, TellsBoth, IsLevelFault, MixedSays, Holds, IsAccepted, YieldsSome, Inferred, IsInferredAs, IsInferredSize, is_float64, are_float64, ListWidth};
 ghost use Rattle.geoarrow_layout.specs.declared.names.ExtensionName.TheVariants as names;
 
 use crate::encodings::{Kind, NativeKind, Width, list_names, parts_of_id};
@@ -194,8 +194,8 @@ fn kind_under(name: ExtensionName, summary: &Summary) -> Result<Kind, LayoutFaul
             let pair = native(true, kind, summary)?;
             Ok(Kind::Native(kind, pair.0, pair.1))
         }
-        ExtensionName::Geometry => geometry(summary).map(Kind::Geometry),
-        ExtensionName::Rect => boxed(summary).map(Kind::Rect),
+        ExtensionName::Geometry => Ok(Kind::Geometry(geometry(summary)?)),
+        ExtensionName::Rect => Ok(Kind::Rect(boxed(summary)?)),
         ExtensionName::Wkb | ExtensionName::Wkt => Err(LayoutFault::UnexpectedType),
     }
 }
@@ -322,10 +322,8 @@ fn named_dimension_of(fields: &[Field]) -> Option<Dimension>
     };
     match separated_dimension(count, names) {
         Ok(dimension) => Some(dimension),
-        Err(fault) => match fault {
-            LayoutFault::BadFieldNames => Some(Dimension::XYZ),
-            _ => None,
-        },
+        Err(LayoutFault::BadFieldNames) => Some(Dimension::XYZ),
+        Err(_) => None,
     }
 }
 
@@ -335,7 +333,8 @@ fn separated_dimension(count: usize, names: u16) -> Result<Dimension, LayoutFaul
 {
     match count {
         2 => Ok(Dimension::XY),
-        3 if !has_both(names, 0, 1) => Err(LayoutFault::BadFieldNames),
+        3 if !has_known(names, 0) => Err(LayoutFault::BadFieldNames),
+        3 if !has_known(names, 1) => Err(LayoutFault::BadFieldNames),
         3 if has_known(names, 3) => Ok(Dimension::XYM),
         3 if has_known(names, 2) => Ok(Dimension::XYZ),
         3 => Err(LayoutFault::BadFieldNames),
@@ -458,22 +457,14 @@ fn geometry(summary: &Summary) -> Result<CoordType, LayoutFault>
     }
 }
 
-/// Whether the known names of both places occur.
-fn has_both(bits: u16, place: u8, other: u8) -> bool
-    requires { (place < 8) × (other < 8) }
-    ensures { (ns : List Text) → IsBits bits (λ i. SomeAt i ns) → IsTrue result ↔ HaveBoth (get_or known_names place []) (get_or known_names other []) ns }
-{
-    has_known(bits, place) && has_known(bits, other)
-}
-
 /// The dimension that the fields of a box say.
 fn box_dimension(count: usize, names: u16) -> Result<Dimension, LayoutFault>
     ensures { (ns : List Text) → count ≡ length ns → IsBits names (λ i. SomeAt i ns) → Tells result (λ d. IsBoxAs d ns) (BoxNamesFault ns) }
 {
     match count {
         4 => Ok(Dimension::XY),
-        6 if has_both(names, 6, 7) => Ok(Dimension::XYM),
-        6 if has_both(names, 4, 5) => Ok(Dimension::XYZ),
+        6 if has_known(names, 6) && has_known(names, 7) => Ok(Dimension::XYM),
+        6 if has_known(names, 4) && has_known(names, 5) => Ok(Dimension::XYZ),
         6 => Err(LayoutFault::BadFieldNames),
         8 => Ok(Dimension::XYZM),
         _ => Err(LayoutFault::BadFieldCount),

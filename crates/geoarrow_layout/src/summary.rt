@@ -229,15 +229,14 @@ struct Members {
     fault: Option<LayoutFault>,
 }
 
-/// What was seen with one member more, of that type id and read as that.
+/// What was seen with one member more, which is read as that; the type ids have its own among them.
 #[tactic(auto, using(crate::proofs::Structs::number_added, crate::proofs::Structs::number_kept))]
-fn with_member(seen: Members, id: i8, part: &Answer) -> Members
-    ensures ids { AddsBits seen.ids (λ i. (i < 64) × (id ≡ pos i)) result.ids }
+fn with_member(seen: Members, ids: u64, part: &Answer) -> Members
+    ensures ids { result.ids ≡ ids }
     ensures coord_types { AddsBits seen.coord_types (ReadAt (λ x. place_of x.0) part.now) result.coord_types }
     ensures dimensions { AddsBits seen.dimensions (ReadAt (λ x. order_of x.1) part.now) result.dimensions }
     ensures fault { result.fault ≡ first_fault seen.fault part.now }
 {
-    let ids = with_id(seen.ids, id);
     let fault = first_fault(seen.fault, part);
     match part {
         Ok(pair) => Members {
@@ -250,23 +249,16 @@ fn with_member(seen: Members, id: i8, part: &Answer) -> Members
     }
 }
 
-/// The summary of a data type in which no union is entered.
-fn leaf_summary(data_type: &DataType) -> Summary
-    ensures { ShowsIn false result (tree data_type.now) }
-{
-    let below = below_lists(data_type);
-    summary_over!(below, leaf_bottom(&below))
-}
-
 /// A union below lists, whose members hold no union that anyone reads.
 fn inner_union(members: &[(i8, Field)]) -> Bottom
     ensures { IsInnerUnion result (member_trees members.now) }
 {
     let mut seen = Members::default();
     for item in members {
-        let below = leaf_summary(item.1.data_type());
-        let part = member(false, item.0, &below);
-        seen = with_member(seen, item.0, &part);
+        let below = below_lists(item.1.data_type());
+        let summary = summary_over!(below, leaf_bottom(&below));
+        let part = member(false, item.0, &summary);
+        seen = with_member(seen, with_id(seen.ids, item.0), &part);
     }
     Bottom::Union {
         no_members: members.is_empty(),
@@ -295,11 +287,8 @@ pub(crate) fn member_summary(collections: bool, data_type: &DataType) -> Summary
 fn in_collection(id: i8, part: Answer) -> Answer
     ensures { (t : Tree) → TellsBoth part (GeometryMember id t) (GeometryMemberFault id t) → TellsBoth result (Member id t) (MemberFault id t) }
 {
-    let Some((kind, _)) = parts_of_id(id) else {
-        return part;
-    };
-    match kind {
-        NativeKind::GeometryCollection => Err(LayoutFault::BadTypeId),
+    match parts_of_id(id) {
+        Some((NativeKind::GeometryCollection, _)) => Err(LayoutFault::BadTypeId),
         _ => part,
     }
 }
@@ -313,7 +302,7 @@ fn root_union(members: &[(i8, Field)]) -> Bottom
     for item in members {
         let below = member_summary(true, item.1.data_type());
         let part = member(true, item.0, &below);
-        seen = with_member(seen, item.0, &part);
+        seen = with_member(seen, with_id(seen.ids, item.0), &part);
         mixed_fault = first_fault(mixed_fault, &in_collection(item.0, part));
     }
     Bottom::Union {

@@ -214,6 +214,7 @@ pub fn is_layout(data_type: &DataType, kind: &Kind) -> bool
 }
 
 /// Whether the field has that name, that nullability and no metadata.
+#[inline(always)]
 fn is_bare(field: &Field, name: FixedName, nullable: bool) -> bool
     ensures { IsTrue result ↔ IsBare (fixed_text name) nullable field.now }
 {

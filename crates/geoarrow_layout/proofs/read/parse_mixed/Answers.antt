@@ -1,7 +1,7 @@
 use Rattle.geoarrow_layout.proofs.Terms.{refl, MixedFault}
 use Rattle.geoarrow_layout.proofs.KindSteps.{mixed_exact}
-use Rattle.geoarrow_layout.proofs.UnionSteps.{at_root, root_mixed, root_fault}
-use Rattle.geoarrow_layout.proofs.Readings.{refused_as, told_fault}
+use Rattle.geoarrow_layout.proofs.UnionSteps.{at_root, root_mixed, root_refused}
+use Rattle.geoarrow_layout.proofs.Readings.{told_fault}
 use Rattle.geoarrow_layout.proofs.read.parse_mixed.Goals as goal
 
 pub returns : goal.returns
@@ -12,6 +12,5 @@ returns c =
 
 pub returns-in_err-bottom_below : goal.returns-in_err-bottom_below
 returns-in_err-bottom_below c =
-    let fault = root_fault MixedFault (λ x t b m. ((refl, refl), (refl, refl))) _ _ c.in_err-bottom_below.ensures _ c.summarize-summary.ensures in
-    let told = refused_as _ _ _ _ c.from_residual.ensures.1 fault in
+    let told = root_refused MixedFault (λ x t b m. ((refl, refl), (refl, refl))) _ _ _ _ c.from_residual.ensures.1 c.in_err-bottom_below.ensures _ c.summarize-summary.ensures in
     record { exact = mixed_exact _ _ told; fault = told_fault _ _ _ told }

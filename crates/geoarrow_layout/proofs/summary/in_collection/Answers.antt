@@ -1,10 +1,12 @@
-use Rattle.geoarrow_layout.proofs.Terms.{rules, to_z-of_z, some_pair_parts, GeometryCollection}
+use Rattle.geoarrow_layout.proofs.Terms.{rules, to_z-of_z, ◌≡◌, GeometryCollection, Dimension}
+use Rattle.geoarrow_layout.proofs.Readings.{some_parts}
 use Rattle.geoarrow_layout.proofs.UnionSteps.{a_collection, no_collection}
 use Rattle.geoarrow_layout.proofs.summary.in_collection.Goals as goal
 
-pub returns-in-GeometryCollection : goal.returns-in-GeometryCollection
-returns-in-GeometryCollection c = λ t h. a_collection c.args.id _ t c.in-Some.kind _ (search (rules, to_z-of_z)) c.in-Some.ensures c.in-GeometryCollection.is
+pub returns-in-Some-GeometryCollection-default : goal.returns-in-Some-GeometryCollection-default
+returns-in-Some-GeometryCollection-default c = let s = c.in-Some-GeometryCollection-default in λ t h. a_collection c.args.id _ t _ _ (search (rules, to_z-of_z)) s.ensures s.field-0-0-is
 
-pub returns-in_default-kind : goal.returns-in_default-kind
-returns-in_default-kind c = λ t h. no_collection c.args.id _ t _ _ (search (rules, to_z-of_z)) c.in-Some.ensures
-    (λ d same. c.in_default-kind.not-GeometryCollection (some_pair_parts c.in-Some.kind GeometryCollection _ d same).0) h
+pub returns-in_default : goal.returns-in_default
+returns-in_default c =
+    let other : (d : Dimension) → c.parts_of_id.result ≡ some_parts GeometryCollection d → ⊥ = search rules in
+    λ t h. no_collection c.args.id _ t _ _ (search (rules, to_z-of_z)) c.parts_of_id.ensures other h

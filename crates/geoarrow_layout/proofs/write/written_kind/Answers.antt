@@ -1,9 +1,4 @@
-use borrow.Author.Tests.{tests}
-use Rattle.std.proofs.Common.{Bor}
-use Rattle.std.proofs.lemmas.Iterator.{YieldsList-from_slice, first_from_find}
-use Rattle.std.specs.List.{AllWithin}
-use Rattle.std.specs.Option.{option_copied}
-use Rattle.geoarrow_layout.proofs.Terms.{◌≡◌, ◌↔◌, ◌∙◌, sym, ap, arith, rules, Option, Some, None, MatchOption, same_Some, length, Tree, tree, Kind, layout, ALL}
+use Rattle.geoarrow_layout.proofs.Terms.{tests, Bor, YieldsList-from_slice, first_from_find, AllWithin, option_copied, ◌≡◌, ◌↔◌, ◌∙◌, sym, ap, arith, rules, Option, Some, None, MatchOption, same_Some, length, Tree, tree, Kind, layout, ALL}
 use Rattle.geoarrow_layout.proofs.Written.{listed, layouts_are_distinct}
 use Rattle.geoarrow_layout.proofs.write.written_kind.Goals as goal
 
