@@ -4,7 +4,7 @@ ghost use Rattle.json.specs.Reads.{token_of};
 ghost use Rattle.serde_json.specs.Data.{Members};
 ghost use Rattle.value_tokens.specs.Next.{next_value, next_items, next_members, after};
 
-use crate::numbers::number_of;
+use crate::numbers::number_in_place;
 use crate::refusal::Refusal;
 use json::{Reader, Token};
 
@@ -35,7 +35,7 @@ pub fn skip_rest(token: Token<'_>, reader: &mut Reader<'_>, depth: usize) -> Res
 {
     match token {
         Token::String(_) | Token::Bool(_) | Token::Null => Ok(()),
-        Token::Number(text) if number_of(text).is_some() => Ok(()),
+        Token::Number(text) if number_in_place(text).is_some() => Ok(()),
         Token::BeginArray | Token::BeginObject if depth == 0 => Err(Refusal::Text),
         Token::BeginArray => skip_items(reader, depth - 1),
         Token::BeginObject => skip_members(reader, depth - 1),
