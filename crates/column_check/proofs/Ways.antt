@@ -88,6 +88,18 @@ module _ {A : Type 0} (one : A → List Said) (all : List A → List Said) (law 
       let left : all (drop i xs) ≡ [] = ap all (drop_all i xs le) ∙ none in
       sym (append-nil now) ∙ ap (λ l. now ++ l) (sym left) ∙ so_far ∙ ap (λ ys. before ++ all ys) is
 
+-- a loop over items that each have parts, which are gathered on the way that it began with
+module _ (code : WarningCode) {A X : Type 0} (test : X → Bool) (part : A → List (Names × X)) (parts : List A → List (Names × X)) (law : (x : A) (xs : List A) → parts (x ∷ xs) ≡ part x ++ parts xs)
+    (first : List (Bor Text)) where
+  abbrev at_parts : List (Names × X) → List Said
+  at_parts ps = at_each code (names_on first) (ways_to test ps)
+
+  pub gathers : (xs : List A) (i : ℕ) (before now : List Said) → Rest (λ ys. at_parts (parts ys)) xs i before now → (x : A) (way : List (Bor Text)) (next : List Said) → i < length xs → x ≡ get_or xs i x
+      → way ≡ first → next ≡ now ++ at_each code (names_on way) (ways_to test (part x)) → Rest (λ ys. at_parts (parts ys)) xs (i + 1) before next
+  gathers xs i before now so_far x way next lt is same added =
+      goes_on (λ y. at_parts (part y)) (λ ys. at_parts (parts ys)) (λ y ys. ap at_parts (law y ys) ∙ at_more code (names_on first) test (part y) (parts ys)) xs i before now so_far x next lt is
+      (added ∙ ap (λ w. now ++ at_each code (names_on w) (ways_to test (part x))) same)
+
 -- an item of a loop lies less deep than what it is in
 module _ {A : Type 0} (one : A → ℕ) (all : List A → ℕ) (more : (x : A) (xs : List A) → all (x ∷ xs) ≡ max (suc (one x)) (all xs)) where
   pub falls : (xs : List A) {ys : List A} (i : ℕ) (x : A) → xs ≡ ys → i < length xs → x ≡ get_or xs i x → suc (one x) ≤ all ys

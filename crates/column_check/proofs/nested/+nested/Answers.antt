@@ -1,10 +1,10 @@
-use Rattle.std.proofs.Common.{◌++◌, Bor, List, map, refl, ap, ◌∙◌, arith}
+use Rattle.std.proofs.Common.{Bor, List, map, refl, ap, ◌∙◌, arith}
 use Rattle.arrow_values.specs.Tree.{Text, depth, fields_depth, members_depth}
 use Rattle.arrow_values.specs.View.{tree, field_trees, member_trees}
-use Rattle.column_check.specs.Parts.{and_below, fields_in, fields_of, members_of, ways_to}
-use Rattle.column_check.specs.Warnings.{said, at_each, has_extension_name}
+use Rattle.column_check.specs.Parts.{and_below, fields_in, fields_of, members_of}
+use Rattle.column_check.specs.Warnings.{said, has_extension_name}
 use Rattle.column_check.specs.declared.warning.WarningCode.TheVariants.{NestedGeometry}
-use Rattle.column_check.proofs.Ways.{at_more, down_from, goes_on, falls}
+use Rattle.column_check.proofs.Ways.{down_from, gathers, falls}
 use Rattle.column_check.proofs.nested.+nested.Goals as goal
 
 pub push_field-returns-clause-added : goal.push_field-returns-clause-added
@@ -28,30 +28,22 @@ push_members-push_field-requires t c =
 
 pub push_fields-loop-field-preserved : goal.push_fields-loop-field-preserved
 push_fields-loop-field-preserved t c =
-    let there = map (λ name. name.now) c.args.way.now.items in
-    let x = c.field-item.result in
     let l = c.loop-field in
-    let added = c.in_ok-push_field.ensures.added
-    ∙ ap (λ way. map said l.warnings.items ++ at_each NestedGeometry (map (λ name. name.now) way) (ways_to has_extension_name (and_below x.name x.metadata (fields_in x.tree)))) l.invariant.way in
     record {
       added =
-          goes_on (λ f. at_each NestedGeometry there (ways_to has_extension_name (and_below f.name f.metadata (fields_in f.tree)))) (λ fs. at_each NestedGeometry there (ways_to has_extension_name (fields_of (field_trees fs))))
-          (λ f fs. at_more NestedGeometry there has_extension_name (and_below f.name f.metadata (fields_in f.tree)) (fields_of (field_trees fs))) c.as_slice-field-items.result.now l.field-index (map said c.args.warnings.now.items) (map said l.warnings.items)
-          l.invariant.added x (map said c.push_field.new.warnings.items) c.loop-field-test.true c.field-item.is added;
+          gathers NestedGeometry has_extension_name (λ f. and_below f.name f.metadata (fields_in f.tree)) (λ fs. fields_of (field_trees fs)) (λ f fs. refl) c.args.way.now.items c.as_slice-field-items.result.now
+          l.field-index (map said c.args.warnings.now.items) (map said l.warnings.items) l.invariant.added c.field-item.result l.way.items (map said c.push_field.new.warnings.items)
+          c.loop-field-test.true c.field-item.is l.invariant.way c.in_ok-push_field.ensures.added;
       way = ◌∙◌ {A = List (Bor Text)} c.in_ok-push_field.ensures.way l.invariant.way;
     }
 
 pub push_members-loop-member-preserved : goal.push_members-loop-member-preserved
 push_members-loop-member-preserved t c =
-    let there = map (λ name. name.now) c.args.way.now.items in
-    let x = c.member-item.result in
     let l = c.loop-member in
-    let added = c.in_ok-push_field.ensures.added
-    ∙ ap (λ way. map said l.warnings.items ++ at_each NestedGeometry (map (λ name. name.now) way) (ways_to has_extension_name (and_below x.1.name x.1.metadata (fields_in x.1.tree)))) l.invariant.way in
     record {
       added =
-          goes_on (λ m. at_each NestedGeometry there (ways_to has_extension_name (and_below m.1.name m.1.metadata (fields_in m.1.tree)))) (λ ms. at_each NestedGeometry there (ways_to has_extension_name (members_of (member_trees ms))))
-          (λ m ms. at_more NestedGeometry there has_extension_name (and_below m.1.name m.1.metadata (fields_in m.1.tree)) (members_of (member_trees ms))) c.as_slice-member-items.result.now l.member-index (map said c.args.warnings.now.items) (map said l.warnings.items)
-          l.invariant.added x (map said c.push_field.new.warnings.items) c.loop-member-test.true c.member-item.is added;
+          gathers NestedGeometry has_extension_name (λ m. and_below m.1.name m.1.metadata (fields_in m.1.tree)) (λ ms. members_of (member_trees ms)) (λ m ms. refl) c.args.way.now.items
+          c.as_slice-member-items.result.now l.member-index (map said c.args.warnings.now.items) (map said l.warnings.items) l.invariant.added c.member-item.result l.way.items
+          (map said c.push_field.new.warnings.items) c.loop-member-test.true c.member-item.is l.invariant.way c.in_ok-push_field.ensures.added;
       way = ◌∙◌ {A = List (Bor Text)} c.in_ok-push_field.ensures.way l.invariant.way;
     }
