@@ -35,10 +35,7 @@ fn id_of(number: Number) -> Option<i8>
     ensures { result ≡ option_and_then (kept is_type_id) (as_integer (number_view number)) }
 {
     let id = i8::try_from(number.as_i64()?).ok()?;
-    if id < 0 {
-        return None;
-    }
-    Some(id)
+    (id >= 0).then_some(id)
 }
 
 /// The type id that comes next.

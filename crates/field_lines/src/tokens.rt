@@ -121,12 +121,8 @@ fn take_type(alloc: Global, reader: &mut Reader<'_>, depth: usize) -> Taken<Data
     let token = reader.next().ok_or(Refusal::Text)?;
     match token {
         Token::String(word) => Ok(plain_named(word)),
-        Token::BeginObject => {
-            if depth == 0 {
-                return Err(Refusal::Text);
-            }
-            take_keys(alloc, reader, depth - 1)
-        }
+        Token::BeginObject if depth == 0 => Err(Refusal::Text),
+        Token::BeginObject => take_keys(alloc, reader, depth - 1),
         other => {
             skip_rest(other, reader, depth)?;
             Ok(None)

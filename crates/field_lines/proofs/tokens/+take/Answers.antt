@@ -237,8 +237,8 @@ take_pair-returns-clause-ok t c = let id = c.in_ok-id.ensures.ok in
 pub take_type-returns-in-String-clause-ok : goal.take_type-returns-in-String-clause-ok
 take_type-returns-in-String-clause-ok t c = (string c.in-String.word.now, grind (arith, next_string), c.plain_named.ensures)
 
-pub take_type-returns-else-depth-eq0-clause-ok : goal.take_type-returns-else-depth-eq0-clause-ok
-take_type-returns-else-depth-eq0-clause-ok t c = IfOk-weaker _ _ _ (λ o. object_read type_of_value _ (c.args.depth - 1) _ c.next.new.self c.take_keys.new.reader _ (grind (arith, value-object))) c.take_keys.ensures.ok
+pub take_type-returns-in-BeginObject-2-clause-ok : goal.take_type-returns-in-BeginObject-2-clause-ok
+take_type-returns-in-BeginObject-2-clause-ok t c = IfOk-weaker _ _ _ (λ o. object_read type_of_value _ (c.args.depth - 1) _ c.next.new.self c.take_keys.new.reader _ (grind (arith, value-object))) c.take_keys.ensures.ok
 
 pub take_type-returns-in_ok-skip_rest-in_default-clause-ok : goal.take_type-returns-in_ok-skip_rest-in_default-clause-ok
 take_type-returns-in_ok-skip_rest-in_default-clause-ok t c = let token = c.in_ok-token.token in
@@ -291,8 +291,8 @@ take_keys-returns-in-fixed_size_list-clause-text t c refused = named _ _ _ _ _ (
 pub take_type-returns-in_err-token-clause-text : goal.take_type-returns-in_err-token-clause-text
 take_type-returns-in_err-token-clause-text t c = grind (arith, no_value)
 
-pub take_type-returns-then-depth-eq0-clause-text : goal.take_type-returns-then-depth-eq0-clause-text
-take_type-returns-then-depth-eq0-clause-text t c = grind (arith, object_too_deep)
+pub take_type-returns-in-BeginObject-clause-text : goal.take_type-returns-in-BeginObject-clause-text
+take_type-returns-in-BeginObject-clause-text t c = grind (arith, object_too_deep)
 
-pub take_type-returns-else-depth-eq0-clause-text : goal.take_type-returns-else-depth-eq0-clause-text
-take_type-returns-else-depth-eq0-clause-text t c = grind (arith, value-object)
+pub take_type-returns-in-BeginObject-2-clause-text : goal.take_type-returns-in-BeginObject-2-clause-text
+take_type-returns-in-BeginObject-2-clause-text t c = grind (arith, value-object)
