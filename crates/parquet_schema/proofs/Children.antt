@@ -1,6 +1,7 @@
 -- The children of a root, element by element; and the columns that are marked so far.
 use Rattle.std.proofs.Common.{◌≡◌, ℕ, zero, suc, ◌+◌, ◌-◌, ◌<◌, ◌≤◌, List, [], ◌∷◌, ◌++◌, length, map, drop, get_or, Option, Some, None, option_map, refl, sym, ap, ◌∙◌, append_assoc, arith}
 use Rattle.std.proofs.lemmas.List.{at_drop_more, drop_all, append-nil, map-append, length-map}
+use Rattle.std.proofs.lemmas.Option.{slice_get_past, slice_get_read}
 use Rattle.std.specs.List.{slice_get}
 use Rattle.std.specs.Slice.{IsItemAt}
 use Rattle.std.specs.Borrow.{Bor}
@@ -80,18 +81,6 @@ one_more pairs es made after yielded m c child at so_far place found marks is =
     ∙ ap (λ x. marked_columns pairs es ys ++ x ∷ []) (marks ∙ ap (λ o. marked pairs o (column_tree c)) (found ∙ ap (slice_get es) k))
     ∙ sym (marked_more pairs es ys (column_tree c)) ∙ ap (marked_columns pairs es) (sym (map-append column_tree yielded (c ∷ [])))
 
--- the element at a place
-got : (es : List SchemaElement) (k : ℕ) (d : SchemaElement) → k < length es → slice_get es k ≡ Some (get_or es k d)
-got [] k d lt = absurd (omega arith)
-got (e ∷ es) zero d lt = refl
-got (e ∷ es) (suc k) d lt = got es k d (omega arith)
-
-gone : (es : List SchemaElement) (k : ℕ) → length es ≤ k → slice_get es k ≡ None
-gone [] zero le = refl
-gone [] (suc k) le = refl
-gone (e ∷ es) zero le = absurd (omega arith)
-gone (e ∷ es) (suc k) le = gone es k (omega arith)
-
 pub child_is : (es : List SchemaElement) (k : ℕ) (r : Option (Bor SchemaElement)) → IsItemAt es k r → option_map (λ e. element e.now) r ≡ option_map element (slice_get es k)
-child_is es k None item = sym (ap (option_map element) (gone es k item.3))
-child_is es k (Some x) item = sym (ap (option_map element) (got es k x.now item.3.0) ∙ ap (λ e. Some (element e)) (sym item.1))
+child_is es k None item = sym (ap (option_map element) (slice_get_past es k item.3))
+child_is es k (Some x) item = sym (ap (option_map element) (slice_get_read es (length es) k x.now refl item.3.0 item.1))

@@ -1,5 +1,5 @@
 -- From what a step returned to what a call returned.
-use Rattle.std.proofs.Common.{◌≡◌, ℕ, List, map, Option, Some, None, Result, Ok, Err, true, false, Vec, Global, refl, subst, sym}
+use Rattle.std.proofs.Common.{◌≡◌, ℕ, List, map, Option, Some, None, Result, Ok, Err, Bool, true, false, Vec, Global, refl, subst, sym, ap, ◌∙◌}
 use Rattle.base64.specs.Engines.{standard}
 use Rattle.base64.specs.GeneralPurpose.{decode_of}
 use Rattle.arrow_values.specs.Tree.{Text}
@@ -69,12 +69,20 @@ module _ (cs : List ColumnTree) (text : Text) where
     schema_fails (Encoding error) f = absurd f
     schema_fails Names f = absurd f
 
-    module _ (s : Schema) (held : HoldsSchema bytes (Ok s)) where
-      pub names_differ : same_names (map column_tree s.columns.items) cs ≡ false → IsStoredRead cs text (Err Names)
-      names_differ differ = (bytes, are, s, held, differ)
+    -- what a message and the columns of its schema are as slices, and whether the names are the same
+    module _ (message : List ℕ) (whole : message ≡ bytes) (s : Schema) (held : HoldsSchema message (Ok s)) (columns : List Column) (all : columns ≡ s.columns.items)
+        (same : Bool) (says : same ≡ same_names (map column_tree columns) cs) where
+      holds : HoldsSchema bytes (Ok s)
+      holds = subst (λ m. HoldsSchema m (Ok s)) whole held
 
-      pub is_stored : same_names (map column_tree s.columns.items) cs ≡ true → IsStoredRead cs text (Ok s.columns)
-      is_stored agree = (bytes, are, s, held, (refl, agree))
+      compared : same_names (map column_tree s.columns.items) cs ≡ same
+      compared = ap (λ (xs : List Column). same_names (map column_tree xs) cs) (sym all) ∙ sym says
+
+      pub names_differ : same ≡ false → IsStoredRead cs text (Err Names)
+      names_differ differ = (bytes, are, s, holds, compared ∙ differ)
+
+      pub is_stored : same ≡ true → IsStoredRead cs text (Ok s.columns)
+      is_stored agree = (bytes, are, s, holds, (refl, compared ∙ agree))
 
 pub memory_footer : (c : Contents) → IsFooterRead c (Err OutOfMemory)
 memory_footer c = memory_read (columns_of c.schema) (value_of schema_key c.key_value_metadata)
