@@ -1,5 +1,5 @@
 -- A data type has one fault at most under a name, and none if it is accepted; the path to it, step by step.
-use Rattle.geoarrow_layout.proofs.Terms.{◌≡◌, ◌≢◌, ◌*◌, Bool, true, false, inl, inr, ℕ, zero, suc, ℤ, pos, List, [], ◌∷◌, length, sym, ap, subst, ◌∙◌, ◌⊎◌, Text, Metadata, Tree, list, large_list, fixed_size_list, struct, union, MemberTrees, no_members, member, CoordType, Interleaved, Separated, Dimension, XY, XYZ, NativeKind, GeometryCollection, Kind, OfNative, OfGeometry, OfRect, OfWkb, OfWkt, ListWidth, Lists, LargeLists, LayoutFault, UnexpectedType, BadFieldNames, BadTypeId, ExtensionName, size_of, type_id_of, extension_of, names_of, IsSeparatedAs, Leaf, ListsOver, levels_of, OverLeaf, Member, AllMembers, Mixed, Native, GeometryMember, Geometry, IsBoxAs, BoxShape, Accepted, Path, Located, Faults, InItem, CoordinateFault, BoxFault, LevelsFault, Option, None, Some, IsWidth, OverLeafFault, PartFault, FirstFault, UnionFault, MemberFault, MixedFault, NativeFault, GeometryMemberFault, GeometryFault, FaultAt, BadInterleavedName, BadSize, BadFieldCount, MixedWidths, MemberDimension, EmptyUnion, SeveralCoordTypes, SeveralDimensions, ReadsFirst, named_back, dimension_named, over_leaf_first, native_first, order_of, offset_of, arith, refl, ◌+◌, ◌≤◌, Point, NativeIn, NativeFaultIn, MemberIn, MemberFaultIn, Here, Under, UnionFaultIn, HasMembers, DimensionsFault, ◌<◌, MatchResult, ◌++◌, take, Result, OnOk, get_or, append-nil, append_assoc, Ok, Err, FieldTree, field_trees, member_trees, UnionMode, HasFault, LeadsTo, FirstOrNone, TellsBoth, field_at, member_at, StaysHere}
+use Rattle.geoarrow_layout.proofs.Terms.{◌≡◌, ◌≢◌, ◌*◌, Bool, true, false, inl, inr, ℕ, zero, suc, ℤ, pos, List, [], ◌∷◌, length, sym, ap, subst, ◌∙◌, ◌⊎◌, Text, Tree, list, large_list, fixed_size_list, struct, union, MemberTrees, no_members, member, CoordType, Interleaved, Separated, Dimension, XY, XYZ, NativeKind, GeometryCollection, Kind, OfNative, OfGeometry, OfRect, OfWkb, OfWkt, ListWidth, Lists, LargeLists, LayoutFault, UnexpectedType, BadFieldNames, BadTypeId, ExtensionName, size_of, type_id_of, extension_of, names_of, IsSeparatedAs, Leaf, ListsOver, levels_of, OverLeaf, Member, AllMembers, Mixed, Native, GeometryMember, Geometry, IsBoxAs, BoxShape, Accepted, Path, Located, Faults, InItem, CoordinateFault, BoxFault, LevelsFault, Option, None, Some, IsWidth, OverLeafFault, PartFault, FirstFault, UnionFault, MemberFault, MixedFault, NativeFault, GeometryMemberFault, GeometryFault, FaultAt, BadInterleavedName, BadSize, BadFieldCount, MixedWidths, MemberDimension, EmptyUnion, SeveralCoordTypes, SeveralDimensions, ReadsFirst, named_back, dimension_named, over_leaf_first, native_first, order_of, offset_of, arith, refl, ◌+◌, ◌≤◌, Point, NativeIn, NativeFaultIn, MemberIn, MemberFaultIn, Here, Under, UnionFaultIn, HasMembers, DimensionsFault, ◌<◌, MatchResult, ◌++◌, take, Result, OnOk, get_or, append-nil, append_assoc, Ok, Err, FieldTree, field_trees, member_trees, UnionMode, HasFault, LeadsTo, FirstOrNone, TellsBoth, field_at, member_at, StaysHere}
 use Rattle.geoarrow_layout.specs.declared.names.ExtensionName.TheVariants as names
 use Rattle.geoarrow_layout.proofs.Readings.{all_map, Answer, IsPartsOf, some_parts, Items}
 

@@ -50,9 +50,6 @@ number_added number n j part p is place small =
 pub number_kept : (number : CoordType × Dimension → ℕ) (n : ℕ) (part : Answer) (f : LayoutFault) → part ≡ Err f → AddsBits n (ReadAt number part) n
 number_kept number n part f is = adds_none n (ReadAt number part) (λ i h. let bad = sym h.1 ∙ is in cc)
 
-pub id_moved : (n more : ℕ) (id z : ℤ) → z ≡ id → AddsBits n (λ i. (i < 64) × (z ≡ pos i)) more → AddsBits n (λ i. (i < 64) × (id ≡ pos i)) more
-id_moved n more id z is adds = subst (λ (y : ℤ). AddsBits n (λ i. (i < 64) × (y ≡ pos i)) more) is adds
-
 outside : (z : ℤ) (i : ℕ) → (lt_z z (pos 0) ≡ true) ⊎ (lt_z (pos 63) z ≡ true) → i < 64 → z ≡ pos i → ⊥
 outside (pos n) i (inl h) small e = let lt : n < 0 = ltb-true n 0 h in omega arith
 outside (pos n) i (inr h) small e = let lt : 63 < n = ltb-true 63 n h in let same : n ≡ i = cc in omega arith

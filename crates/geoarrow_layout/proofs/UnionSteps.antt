@@ -1,8 +1,8 @@
 -- What was seen of members says what the union is; ids and members are each read in one way.
-use Rattle.geoarrow_layout.proofs.Terms.{ShowsIn, ◌≡◌, ◌≢◌, ◌↔◌, ◌<◌, ◌+◌, ◌^◌, ◌⊎◌, inl, inr, ℕ, zero, suc, ℤ, pos, Result, Ok, Err, Option, Some, None, MatchOption, MatchResult, Bool, true, false, [], ◌∷◌, ◌++◌, take, length, get_or, refl, sym, ap, subst, ◌∙◌, arith, bit_at, cases_eq, same_from_bits, bit_at-pow_same, bit_at-pow_other, bit_at-lt, Tree, union, FieldTree, MemberTrees, no_members, member, member_trees, CoordType, Interleaved, Dimension, LayoutFault, ListWidth, Bottom, Union, Summary, order_of, Mixed, Geometry, Member, GeometryMember, OverLeaf, Native, NativeKind, GeometryCollection, AllMembers, SomeMember, HasMembers, Yields, Path, Faults, HasFault, FirstFault, UnionFault, MemberFault, MixedFault, GeometryMemberFault, GeometryFault, IsFaultOf, Seen, place_of, IsBottom, IsUnion, SummarizesBy, Summarizes, ReadAt, Tells, TellsBoth, IsNested, IsNoLeaf, ReadsFirst, coords_in, member_first, geometry_member_first, DimensionsFault, IsBits, AddsBits, first_fault, AreOf, IsCoordFault, MixedSays, IsRootUnion, IsInnerUnion, IsLevelFault, BadTypeId, MemberDimension, type_id_of, levels_of, Leaf, Under, CoordinateFault, LevelsFault, PartFault, OverLeafFault, NativeIn, NativeFaultIn, ListsOver, IsErrAnd}
+use Rattle.geoarrow_layout.proofs.Terms.{ShowsIn, ◌≡◌, ◌≢◌, ◌↔◌, ◌<◌, ◌+◌, ◌^◌, ◌⊎◌, inl, inr, ℕ, zero, suc, ℤ, pos, Result, Ok, Err, Option, Some, None, MatchOption, MatchResult, Bool, true, false, [], ◌∷◌, ◌++◌, take, length, get_or, refl, sym, ap, subst, ◌∙◌, arith, bit_at, cases_eq, same_from_bits, bit_at-pow_same, bit_at-pow_other, bit_at-lt, Tree, union, FieldTree, MemberTrees, no_members, member, member_trees, CoordType, Interleaved, Dimension, LayoutFault, ListWidth, Bottom, Union, Summary, order_of, Mixed, Geometry, Member, GeometryMember, OverLeaf, Native, NativeKind, GeometryCollection, AllMembers, SomeMember, HasMembers, Yields, Path, Faults, HasFault, FirstFault, UnionFault, MemberFault, MixedFault, GeometryMemberFault, GeometryFault, IsFaultOf, Seen, place_of, IsBottom, IsUnion, Summarizes, ReadAt, Tells, TellsBoth, IsNested, IsNoLeaf, ReadsFirst, coords_in, member_first, geometry_member_first, DimensionsFault, IsBits, AddsBits, first_fault, AreOf, IsCoordFault, MixedSays, IsRootUnion, IsInnerUnion, IsLevelFault, BadTypeId, MemberDimension, type_id_of, levels_of, Leaf, Under, CoordinateFault, LevelsFault, PartFault, OverLeafFault, NativeIn, NativeFaultIn, ListsOver, IsErrAnd}
 use Rattle.geoarrow_layout.proofs.Readings.{Answer, exactly, Items, all_map, all_inside, all_some, first_some, all_both, some_more, one_more, IsPartsOf, some_parts, refused, refused_as, RefusesLists, are_levels, at_bottom, no_union, level_fault}
 use Rattle.geoarrow_layout.proofs.FaultLaws.{Read, SoleMember, MemberReads, order_same, KindReads}
-use Rattle.geoarrow_layout.proofs.Structs.{bits_like, bits_added, no_bits, bit_is, id_moved}
+use Rattle.geoarrow_layout.proofs.Structs.{bits_like, bits_added, no_bits, bit_is}
 
 abbrev pub OneReading : MemberReads → Type 0
 OneReading R = (i : ℤ) → ReadsFirst (R i)
@@ -131,23 +131,21 @@ pub nested_mixed : (w : Option ListWidth) (b : Bottom) (u : Tree) (r : Answer) �
 nested_mixed = mixed_at Member member_first (λ i t c d m. m) IsNested 1 inner_seen
 
 -- a summary says less of unions
-pub weaken : (U V : ℕ → Bottom → MemberTrees → Type 0) → ((n : ℕ) (b : Bottom) (ms : MemberTrees) → U n b ms → V n b ms) → (s : Summary) (t : Tree) → SummarizesBy U s t → SummarizesBy V s t
-weaken U V f s t (union ms mode, levels, k) = (union ms mode, levels, f s.levels s.bottom ms k)
-weaken U V f s t (u, levels, k) = (u, levels, k)
-
 nested_no_leaf : (n : ℕ) (b : Bottom) (ms : MemberTrees) → IsNested n b ms → IsNoLeaf n b ms
 nested_no_leaf (suc n) (Union empty ids coords dims fault geometry) ms h = tt
 nested_no_leaf _ _ ms h = search
 
 pub shows_of_inner : (s : Summary) (t : Tree) → ShowsIn true s t → ShowsIn false s t
-shows_of_inner s t h = weaken IsNested IsNoLeaf nested_no_leaf s t h
+shows_of_inner s t (union ms mode, levels, k) = (union ms mode, levels, nested_no_leaf s.levels s.bottom ms k)
+shows_of_inner s t (u, levels, k) = (u, levels, k)
 
 union_nested : (n : ℕ) (b : Bottom) (ms : MemberTrees) → IsUnion n b ms → IsNested n b ms
 union_nested zero (Union empty ids coords dims fault geometry) ms h = tt
 union_nested _ _ ms h = search
 
 pub inner_of : (s : Summary) (t : Tree) → Summarizes s t → ShowsIn true s t
-inner_of s t h = weaken IsUnion IsNested union_nested s t h
+inner_of s t (union ms mode, levels, k) = (union ms mode, levels, union_nested s.levels s.bottom ms k)
+inner_of s t (u, levels, k) = (u, levels, k)
 
 -- ---- one more member
 
@@ -185,7 +183,7 @@ seen_more R F one sole ids ids2 coords coords2 dims dims2 fault fault2 part all 
     let told = subst (λ i. TellsBoth part (R i x.1.tree) (F i x.1.tree)) id says in
     let read : Yields part (R x.0 x.1.tree) = exactly (coords_in x.1.tree) part (R x.0 x.1.tree) (F x.0 x.1.tree) (one x.0 x.1.tree) ((sole x.0).1 x.1.tree) told in
     subst (λ ys. Seen R F ids2 coords2 dims2 fault2 (member_trees ys)) (sym (one_more all k x lt at)) record {
-      id_bits = bits_added ids ids2 (λ i. (i < 64) × (x.0 ≡ pos i)) (Ids (member_trees xs)) (Ids (member_trees (xs ++ (x ∷ [])))) (id_moved _ _ x.0 z id add_id) (λ i. let is = some_more (λ j t. j ≡ pos i) xs x in (
+      id_bits = bits_added ids ids2 (λ i. (i < 64) × (x.0 ≡ pos i)) (Ids (member_trees xs)) (Ids (member_trees (xs ++ (x ∷ [])))) (subst (λ (y : ℤ). AddsBits ids (λ i. (i < 64) × (y ≡ pos i)) ids2) id add_id) (λ i. let is = some_more (λ j t. j ≡ pos i) xs x in (
         (λ q. elim (is.0 q.1) [ inl s ↦ inl (q.0, s) | inr s ↦ inr (q.0, s) ]),
         (λ h. elim h [ inl p ↦ (p.0, is.1 (inl p.1)) | inr a ↦ (a.0, is.1 (inr a.1)) ]),
       )) before.id_bits;

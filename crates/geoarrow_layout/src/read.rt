@@ -356,8 +356,7 @@ fn leaf(bottom: &Bottom) -> Answer
             None => Err(LayoutFault::BadInterleavedName),
         },
         Bottom::Struct { count, names, .. } => {
-            let dimension = separated_dimension(*count, *names)?;
-            Ok((CoordType::Separated, dimension))
+            Ok((CoordType::Separated, separated_dimension(*count, *names)?))
         }
         _ => Err(LayoutFault::UnexpectedType),
     }

@@ -256,8 +256,7 @@ fn inner_union(members: &[(i8, Field)]) -> Bottom
     let mut seen = Members::default();
     for item in members {
         let below = below_lists(item.1.data_type());
-        let summary = summary_over!(below, leaf_bottom(&below));
-        let part = member(false, item.0, &summary);
+        let part = member(false, item.0, &summary_over!(below, leaf_bottom(&below)));
         seen = with_member(seen, with_id(seen.ids, item.0), &part);
     }
     Bottom::Union {

@@ -1,4 +1,4 @@
-use Rattle.geoarrow_layout.proofs.Terms.{ShowsIn, true, subst, rules, to_z-of_z, sym, AddsBits, Member, GeometryMember, MemberFault, GeometryMemberFault, geometry_member_first}
+use Rattle.geoarrow_layout.proofs.Terms.{subst, rules, to_z-of_z, sym, AddsBits, Member, GeometryMember, MemberFault, GeometryMemberFault, geometry_member_first}
 use Rattle.geoarrow_layout.proofs.FaultLaws.{geometry_member_sole}
 use Rattle.geoarrow_layout.proofs.UnionSteps.{seen_more, seen_none, fault_next}
 use Rattle.geoarrow_layout.proofs.summary.root_union.Goals as goal
@@ -8,8 +8,7 @@ loop-item-init c = record { seen = seen_none GeometryMember GeometryMemberFault 
 
 pub loop-item-preserved : goal.loop-item-preserved
 loop-item-preserved c =
-    let below = subst (λ t. ShowsIn true c.member_summary-below.result t) c.data_type.ensures c.member_summary-below.ensures in
-    let told = c.member-part.ensures c.item-item.result.1.tree below in
+    let told = c.member-part.ensures c.item-item.result.1.tree (rw c.data_type.ensures at c.member_summary-below.ensures) in
     record {
       seen = seen_more GeometryMember GeometryMemberFault geometry_member_first geometry_member_sole _ _ _ _ _ _ _ _ c.member-part.result _ c.loop-item.item-index c.item-item.result _
           c.loop-item-test.true c.item-item.is (search (rules, to_z-of_z)) told (subst (AddsBits c.loop-item.seen.ids _) (sym c.with_member-seen.ensures.ids) c.with_id.ensures)
