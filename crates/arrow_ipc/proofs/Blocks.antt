@@ -34,7 +34,7 @@ use Rattle.arrow_ipc.specs.declared.parts.Kind.{Kind}
 use Rattle.arrow_ipc.specs.declared.wire.Table.{Table as Opened}
 use Rattle.arrow_ipc.specs.declared.parts.Kind.TheVariants.{Plain, List as ListOf, Struct, Union}
 use Rattle.arrow_values.specs.declared.tree.DataType.TheVariants.{Null}
-use Rattle.arrow_ipc.specs.Rooms.{is_sound, table_room, Refuses, Makes, MakesSound, Gives, are_sound, members_sound, fields_room, members_room, nested_room, column_room, texts_room, room_of, columns_room, IsUnfit, IsUnfitType, AreUnfit}
+use Rattle.arrow_ipc.specs.Rooms.{is_sound, table_room, Refuses, Makes, Gives, are_sound, members_sound, fields_room, members_room, nested_room, column_room, texts_room, room_of, columns_room, IsUnfit, IsUnfitType, AreUnfit}
 use Rattle.std.specs.Ordering.{ordering_reverse, match_ordering}
 use Rattle.std.specs.Cmp.{IsTotalOrder}
 use Rattle.std.specs.List.Sorted.{IsStrictlySortedBy}
@@ -304,12 +304,6 @@ count_ids (m ∷ ms) = let rest = count_ids ms in omega (arith, rest)
 
 pub ids_written : (words : List ℕ) (ms : Members) (i : ℕ) → length ms ≤ i → words ++ id_words (member_ids (member_trees (drop i ms))) ≡ words
 ids_written words ms i le = rw (drop_all i ms le) (append-nil words)
-
-pub ids_sound : (ids : List ℤ) (ms : Members) (i : ℕ) → length ms ≤ i → are_ids ids (member_ids (member_trees (drop i ms))) ≡ true
-ids_sound ids ms i le = rw (drop_all i ms le) refl
-
-pub makes_sound : (r : Result (Vec ℕ Global) WriteError) (block : List ℕ) → Makes block r → MakesSound true block r
-makes_sound r block made = grind arith
 
 -- ---- a type's table and its columns, by its shape
 

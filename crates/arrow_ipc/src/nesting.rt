@@ -49,7 +49,7 @@ fn shape_of(data_type: &DataType) -> Option<(u8, Option<u32>, Option<bool>)>
 }
 
 /// A union's table, with its type ids.
-#[tactic(auto, using(crate::proofs::Blocks::length_union, crate::proofs::Blocks::length_vector_of, crate::proofs::Blocks::ids_written, crate::proofs::Blocks::ids_sound, crate::proofs::Blocks::count_ids))]
+#[tactic(auto, using(crate::proofs::Blocks::length_union, crate::proofs::Blocks::length_vector_of, crate::proofs::Blocks::ids_written, crate::proofs::Blocks::count_ids))]
 fn union_block(alloc: Global, mode: UnionMode, members: &[(i8, Field)]) -> Block
     ensures { MakesSound (are_ids [] (member_ids (member_trees members.now))) (union_block mode (member_ids (member_trees members.now))) result }
 {

@@ -7,5 +7,4 @@ pub returns : goal.returns
 returns c =
     let k = c.in_ok-first.ensures in
     let t = c.in_ok-second.ensures in
-    let size = length_table (4 ∷ 8 ∷ []) [] (c.in_ok-first.first.items ∷ c.in_ok-second.second.items ∷ []) in
-    gives c.table_block.result _ _ _ _ c.table_block.ensures (λ small. entry_holds _ _ c.args.key.now c.args.text.now k.0 t.0 (omega (arith, small))) (omega (arith, size, k.1, t.1))
+    gives c.table_block.result _ _ _ _ c.table_block.ensures (λ small. entry_holds _ _ c.args.key.now c.args.text.now k.0 t.0 (omega (arith, small))) (omega (arith, length_table (4 ∷ 8 ∷ []) [] (c.in_ok-first.first.items ∷ c.in_ok-second.second.items ∷ []), k.1, t.1))

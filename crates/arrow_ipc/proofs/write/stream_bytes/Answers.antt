@@ -14,6 +14,4 @@ returns c =
     let is = stream_built _ _ _ _ _ _ c.in_ok-message.message.items block _ c.new-stream.ensures.items c.in_ok-put_word.ensures c.in_ok-put_word-2.ensures c.in_ok-extend_from_slice.ensures.items
     c.in_ok-extend_from_slice-2.ensures.items c.as_slice.ensures.value message (omega arith) in
     let size = length_message block in
-    let most = length_schema cb mb (order_number c.args.order) in
-    let all = ap length message in
-    rw is (stream_holds 61 cb mb c.args.order (omega (arith, size, all)), omega (arith, size, most))
+    rw is (stream_holds 61 cb mb c.args.order (omega (arith, size, ap length message)), omega (arith, size, length_schema cb mb (order_number c.args.order)))

@@ -8,8 +8,7 @@ use Rattle.arrow_ipc.proofs.write.texts_block.Goals as goal
 
 pub returns : goal.returns
 returns c =
-    let l = c.entries in
     let es = c.args.texts.now.entries in
     let all : c.into_iter-key-iterator.result ≡ es = search rules in
-    made_gives (Holds entry_read) texts_room texts_read (texts_of es) _ (map items l.blocks.items) (texts_of es) refl (rw (c.in-None.ensures.steps.0, all) at l.invariant) (texts_hold es c.iter-key-items.ensures.ordered (map items l.blocks.items))
+    made_gives (Holds entry_read) texts_room texts_read (texts_of es) _ (map items c.entries.blocks.items) (texts_of es) refl (rw (c.in-None.ensures.steps.0, all) at c.entries.invariant) (texts_hold es c.iter-key-items.ensures.ordered (map items c.entries.blocks.items))
     c.vector_block.result (rw c.as_slice.ensures.value at c.vector_block.ensures)
