@@ -18,7 +18,6 @@ mod key_values;
 mod plain;
 mod plain_members;
 mod plain_values;
-mod print;
 mod tokens;
 mod write;
 
@@ -30,13 +29,12 @@ use arrow_values::{ArrowError, Field, GeoArrowResult};
 use json::Writer;
 pub use key_values::KeyValues;
 use key_values::values_of;
-use print::print_object;
 use serde_json::Value;
 use std::alloc::{AllocError, Global};
 use std::sync::Arc;
 use tokens::read_noting;
 pub use tokens::read_values;
-use write::written_value;
+use write::{print_object, written_value};
 
 /// The metadata of an extension type (GeoArrow, "Extension types", "Extension metadata"): a CRS, and how edges run. The
 /// default has the default CRS and no edges. Two are equal, and then hash equally, if both parts are equal.
@@ -239,10 +237,8 @@ impl Metadata {
         ensures value { IsTrue result ↔ (meta_value self.now ≡ meta_value other.now) }
         ensures normal { IsTrue result ↔ (normal self.now ≡ normal other.now) }
     {
-        if !self.crs.same_value(&other.crs) || self.edges != other.edges {
-            return false;
-        }
-        self.is_bare() || self.crs.crs_type() == other.crs.crs_type()
+        let same = self.crs.same_value(&other.crs) && self.edges == other.edges;
+        same && (self.is_bare() || self.crs.crs_type() == other.crs.crs_type())
     }
 
     /// Whether the metadata is in normal form. If it is not, its normal form is the default metadata. Allocates nothing.

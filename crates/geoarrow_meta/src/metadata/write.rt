@@ -1,14 +1,18 @@
-//! The JSON object that a metadata is written as.
-ghost use Rattle.std.specs.Prelude.{◌≡◌, IfOk, OnOk, MatchOption};
+//! The JSON object that a metadata is written as: as a value, and printed with no value between.
+ghost use Rattle.std.specs.Prelude.{◌≡◌, IfOk, OnOk, MatchOption, option_map};
 ghost use Rattle.serde_json.specs.Data.{string, put};
 ghost use Rattle.serde_json.specs.View.{view, members_view};
+ghost use Rattle.value_tokens.specs.Adds.{Adds, Prints};
+ghost use Rattle.geoarrow_meta.specs.Prints.{text_tokens};
 ghost use Rattle.geoarrow_meta.specs.Written.{written};
 
 use crate::crs::CrsType;
 use crate::edges::Edges;
 use crate::metadata::Metadata;
+use json::Writer;
 use serde_json::{Map, Value};
 use std::alloc::{AllocError, Global};
+use value_tokens::print_value;
 
 // The object of the parts of a metadata. Errs only when out of memory.
 pub(crate) fn written_value(alloc: Global, metadata: &Metadata) -> Result<Value, AllocError>
@@ -39,8 +43,35 @@ fn put_text(
         (λ t. members_view members.new.entries ≡ put key.now (string t.now) (members_view members.old.entries))) }
 {
     if let Some(text) = text {
-        let text = Value::try_from_str(alloc, text)?;
-        serde_json::put(members, alloc, key, text)?;
+        serde_json::put(members, alloc, key, Value::try_from_str(alloc, text)?)?;
+    }
+    Ok(())
+}
+
+// Prints the object of the parts of a metadata. Errs only when out of memory.
+pub(crate) fn print_object(metadata: &Metadata, out: &mut Writer) -> Result<(), AllocError>
+    ensures { OnOk result
+        (Prints (written metadata.now.crs.value metadata.now.crs.crs_type metadata.now.edges) out.old out.new) }
+{
+    out.begin_object()?;
+    out.key("crs")?;
+    match metadata.crs().crs_value() {
+        Some(value) => print_value(value, out)?,
+        None => out.null()?,
+    }
+    let crs_type = metadata.crs().crs_type().map(CrsType::as_text);
+    print_text("crs_type", crs_type, out)?;
+    print_text("edges", metadata.edges().map(Edges::as_text), out)?;
+    out.end_object()
+}
+
+// Prints a text at the key, if there is one.
+fn print_text(key: &str, text: Option<&str>, out: &mut Writer) -> Result<(), AllocError>
+    ensures { OnOk result (Adds (text_tokens key.now (option_map (λ t. t.now) text.entry)) out.old out.new) }
+{
+    if let Some(text) = text {
+        out.key(key)?;
+        return out.string(text);
     }
     Ok(())
 }
