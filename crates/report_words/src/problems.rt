@@ -1,5 +1,6 @@
 //! Why a file is not read, in words.
 ghost use Rattle.std.specs.Prelude.{◌≡◌, ◌+◌, IfOk, string_bytes};
+ghost use Rattle.arrow_values.specs.Tree.{Text};
 ghost use Rattle.report_words.specs.Problems.{at_place, at_line, at_line_byte, long_line, line_problem, footer_rule, IsMessageProblem, IsParquetProblem, IsProblem};
 
 use arrow_ipc::IpcError;
@@ -7,6 +8,7 @@ use column_files::{FileFault, LineFault};
 use parquet_footer::{FooterError, Rule};
 use parquet_schema::SchemaError;
 use std::alloc::{AllocError, Global};
+use std::fmt::Display;
 
 const OUT_OF_MEMORY: &str = "out of memory";
 
@@ -51,6 +53,20 @@ fn at_place(
     ensures { IfOk result (λ text. string_bytes text ≡ at_place kind.now number behind.now words.now) }
 {
     format!(in alloc; "{kind}{number}{behind}{words}")
+}
+
+/// The words of a broken rule, behind the place where it is broken.
+fn at_fault<R: Display>(
+    alloc: Global,
+    kind: &str,
+    at: usize,
+    behind: &str,
+    rule: &R,
+) -> Result<String, AllocError>
+    ensures { IfOk result (λ text. (words : Text) × (string_bytes text ≡ at_place kind.now at behind.now words)) }
+{
+    let words = rule.to_string(alloc)?;
+    at_place(alloc, kind, at as u128, behind, words.as_str())
 }
 
 fn at_line(alloc: Global, line: u128, words: &str) -> Result<String, AllocError>
@@ -124,14 +140,7 @@ fn message_problem(alloc: Global, error: &IpcError) -> Result<String, AllocError
 {
     match error {
         IpcError::Broken(fault) => {
-            let words = fault.rule.to_string(alloc)?;
-            at_place(
-                alloc,
-                "byte ",
-                fault.at as u128,
-                " of the message: ",
-                words.as_str(),
-            )
+            at_fault(alloc, "byte ", fault.at, " of the message: ", &fault.rule)
         }
         IpcError::Budget(at) => at_place(
             alloc,
@@ -152,14 +161,7 @@ fn parquet_problem(alloc: Global, error: &SchemaError) -> Result<String, AllocEr
         SchemaError::Footer(error) => footer_problem(alloc, error),
         SchemaError::Cut => String::from_str(alloc, "the footer is larger than the file"),
         SchemaError::Elements(fault) => {
-            let words = fault.rule.to_string(alloc)?;
-            at_place(
-                alloc,
-                "element ",
-                fault.at as u128,
-                " of the schema: ",
-                words.as_str(),
-            )
+            at_fault(alloc, "element ", fault.at, " of the schema: ", &fault.rule)
         }
         SchemaError::Encoding(_) => {
             String::from_str(alloc, "the schema at ARROW:schema is not base64")
