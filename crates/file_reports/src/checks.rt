@@ -95,15 +95,11 @@ fn with_lines(
 ) -> Result<Report, AllocError>
     ensures { IfOk result (AddsText (lines_text (text_of file.entry) false findings.now) (list_any is_failed findings.now) report) }
 {
+    let mut report = report;
     let lines = check_lines(alloc, file, findings, false)?;
-    let mut text = report.lines;
-    text.push_str(lines.as_str())?;
-    Ok(Report {
-        lines: text,
-        has_invalid: report.has_invalid,
-        has_geometry: report.has_geometry,
-        has_failed: has_failed(findings),
-    })
+    report.lines.push_str(lines.as_str())?;
+    report.has_failed = has_failed(findings);
+    Ok(report)
 }
 
 /// The report of a file without GeoParquet metadata, with the line of the warning behind its own where a column holds geometries. Errs only when out of
