@@ -1,5 +1,5 @@
 -- What a reader answers; what holds of all members of a union, or of some; what stands below the lists, and which fault it is.
-use Rattle.geoarrow_layout.proofs.Terms.{◌≡◌, ◌↔◌, sym, subst, ℤ, pos, Result, Ok, Err, Option, Some, ap, ◌∙◌, IfErr, CoordType, Dimension, LayoutFault, NativeKind, type_id_of, Yields, YieldsOne, Path, Located, HasFault, Tells, TellsBoth, IsErrAnd, ◌<◌, ◌+◌, ◌⊎◌, inl, inr, ℕ, List, [], ◌∷◌, ◌++◌, take, length, get_or, add-one, take-suc, Tree, FieldTree, MemberTrees, no_members, member, member_trees, AllMembers, SomeMember, HasMembers, Bool, cond, ◌≤◌, zero, suc, ◌-◌, refl, arith, None, same_Some, Text, Metadata, plain, list, large_list, fixed_size_list, struct, union, FieldTrees, UnionMode, UnexpectedType, ListWidth, Lists, LargeLists, Bottom, OtherWidth, Deep, Other, Summary, ListsOver, Faults, MixedFault, LevelsFault, IsBottom, AreLevels, SummarizesBy, Under, IsFixedSize, IsStruct, missing_fault, IsWidth, IsNoLeaf, IsLevelFault, ShowsIn, false}
+use Rattle.geoarrow_layout.proofs.Terms.{◌≡◌, ◌↔◌, sym, subst, ℤ, pos, Result, Ok, Err, Option, Some, ap, ◌∙◌, IfErr, CoordType, Dimension, LayoutFault, NativeKind, type_id_of, Yields, YieldsOne, Path, Located, HasFault, Tells, TellsBoth, IsErrAnd, IsOkAnd, MatchResult, ◌<◌, ◌+◌, ◌⊎◌, inl, inr, ℕ, List, [], ◌∷◌, ◌++◌, take, length, get_or, add-one, take-suc, Tree, FieldTree, MemberTrees, no_members, member, member_trees, AllMembers, SomeMember, HasMembers, Bool, cond, ◌≤◌, zero, suc, ◌-◌, refl, arith, None, same_Some, Text, Metadata, plain, list, large_list, fixed_size_list, struct, union, FieldTrees, UnionMode, UnexpectedType, ListWidth, Lists, LargeLists, Bottom, OtherWidth, Deep, Other, Summary, ListsOver, Faults, MixedFault, LevelsFault, IsBottom, AreLevels, SummarizesBy, Under, IsFixedSize, IsStruct, missing_fault, IsWidth, IsNoLeaf, IsLevelFault, ShowsIn, false}
 use Rattle.std.proofs.Math.Nat.{add-zero, suc-add, zero-add}
 
 abbrev pub Answer : Type 0
@@ -37,6 +37,12 @@ exactly v r R F first apart h = let all = exactly_one r (λ x. R x.0 x.1) F (λ 
 pub told_fault : {X : Type 0} (r : Result X LayoutFault) (R : X → Type 0) (F : Located) → Tells r R F → IfErr r (HasFault F)
 told_fault (Ok x) R F h = tt
 told_fault (Err f) R F h = h
+
+-- what is told of a value is told of what is made of it
+pub told_map : {X Y : Type 0} (r : Result X LayoutFault) (q : Result Y LayoutFault) (f : X → Y) (R : X → Type 0) (S : Y → Type 0) (F : Located) → MatchResult r (λ x. IsOkAnd q (λ y. y ≡ f x)) (λ e. q ≡ Err e) → ((x : X) → R x → S (f x)) → Tells r R F → Tells q S F
+told_map (Ok x) (Ok y) f R S F is moves h = subst S (sym is) (moves x h)
+told_map (Ok x) (Err e) f R S F is moves h = absurd is
+told_map (Err e) q f R S F is moves h = subst (λ z. Tells z S F) (sym is) h
 
 -- the exit of a `?` is the fault that it met
 pub refused_as : {X : Type 0} (r : Result X LayoutFault) (f : LayoutFault) (R : X → Type 0) (F : Located) → IsErrAnd r (λ e. e ≡ f) → HasFault F f → Tells r R F

@@ -194,8 +194,8 @@ fn kind_under(name: ExtensionName, summary: &Summary) -> Result<Kind, LayoutFaul
             let pair = native(true, kind, summary)?;
             Ok(Kind::Native(kind, pair.0, pair.1))
         }
-        ExtensionName::Geometry => Ok(Kind::Geometry(geometry(summary)?)),
-        ExtensionName::Rect => Ok(Kind::Rect(boxed(summary)?)),
+        ExtensionName::Geometry => geometry(summary).map(Kind::Geometry),
+        ExtensionName::Rect => boxed(summary).map(Kind::Rect),
         ExtensionName::Wkb | ExtensionName::Wkt => Err(LayoutFault::UnexpectedType),
     }
 }
