@@ -1,8 +1,7 @@
 -- `Alike` is an equivalence, and alike trees are of the same kinds; members that go or come, and what they leave of a union.
-use Rattle.geoarrow_layout.proofs.Terms.{◌≡◌, inl, inr, ℤ, List, refl, sym, ◌∙◌, subst, ◌↔◌, ℕ, zero, suc, codes, ap, Text, Tree, plain, list, large_list, fixed_size_list, struct, union, MemberTrees, no_members, member, names_of, AllMembers, SomeMember, Leaf, ListsOver, levels_of, OverLeaf, Member, Mixed, HasMembers, Native, GeometryMember, IsBoxAs, Accepted, AlikeNames, Alike, EachHasAlike, HasAlike, CoordType, Interleaved, Separated, Dimension, XYZ, XYM, NativeKind, GeometryCollection, Kind, OfNative, OfGeometry, OfRect, OfWkb, OfWkt, ListWidth, Lists, LargeLists, Narrow, Under, ◌≢◌, ◌⊎◌, Bool, true, cond, [], ◌∷◌, ◌++◌, arith, filter, Contains, cond_both, All-contains, All-contains_itself, All-filter, Contains-append_left, Contains-append_right, Contains-append_cases, FieldTree, Members, member_trees, UnionMode, Dense, retained, has, AlikeUnions, EachOf, AreJust}
-use Rattle.arrow_values.specs.Tree.{Plain}
+use Rattle.geoarrow_layout.proofs.Terms.{PlainType, ◌≡◌, inl, inr, ℤ, List, refl, sym, ◌∙◌, subst, ◌↔◌, ℕ, zero, suc, codes, ap, Text, Tree, plain, list, large_list, fixed_size_list, struct, union, MemberTrees, no_members, member, names_of, AllMembers, SomeMember, Leaf, ListsOver, levels_of, OverLeaf, Member, Mixed, HasMembers, Native, GeometryMember, IsBoxAs, Accepted, AlikeNames, Alike, EachHasAlike, HasAlike, CoordType, Interleaved, Separated, Dimension, XYZ, XYM, NativeKind, GeometryCollection, Kind, OfNative, OfGeometry, OfRect, OfWkb, OfWkt, ListWidth, Lists, LargeLists, Narrow, Under, ◌≢◌, ◌⊎◌, Bool, true, cond, [], ◌∷◌, ◌++◌, arith, filter, Contains, cond_both, All-contains, All-contains_itself, All-filter, Contains-append_left, Contains-append_right, Contains-append_cases, FieldTree, Members, member_trees, UnionMode, Dense, retained, has, AlikeUnions, EachOf, AreJust}
 use Rattle.geoarrow_layout.specs.Shapes.{SameNames}
-use Rattle.geoarrow_layout.proofs.Readings.{all_map, all_some, all_both}
+use Rattle.geoarrow_layout.proofs.Readings.{all_map, all_some, all_both, all_inside}
 
 any_map : (P Q : ℤ → Tree → Type 0) → ((i : ℤ) (t : Tree) → P i t → Q i t) → (ms : MemberTrees) → SomeMember P ms → SomeMember Q ms
 any_map P Q f no_members h = h
@@ -13,39 +12,17 @@ any_map P Q f (member i n t b m ms) (inr h) = inr (any_map P Q f ms h)
 abbrev pub Among : ℤ → Tree → MemberTrees → Type 0
 Among i t ns = SomeMember (λ j u. (i ≡ j) × Alike t u) ns
 
-each_from : (ms ns : MemberTrees) → ((i : ℤ) (t : Tree) → HasAlike ns i t → Among i t ns) → AllMembers (HasAlike ns) ms → EachHasAlike ms ns
-each_from no_members ns f h = tt
-each_from (member i n t b m ms) ns f h = (f i t h.0, each_from ms ns f h.1)
+-- the words of `Alike` on members, as what holds of all of them and of some
+each_is : (ms ns : MemberTrees) → EachHasAlike ms ns ≡ AllMembers (λ i t. Among i t ns) ms
+each_is no_members ns = refl
+each_is (member i n t b m ms) ns = ap (λ (X : Type 0). Among i t ns × X) (each_is ms ns)
 
-each_map : (ms ns ps : MemberTrees) → ((i : ℤ) (t : Tree) → Among i t ns → Among i t ps) → EachHasAlike ms ns → EachHasAlike ms ps
-each_map no_members ns ps f h = tt
-each_map (member i n t b m ms) ns ps f h = (f i t h.0, each_map ms ns ps f h.1)
-
-has_from : (ns : MemberTrees) (i : ℤ) (t : Tree) → ((u : Tree) → Alike t u → Alike u t) → Among i t ns → HasAlike ns i t
-has_from no_members i t f h = h
-has_from (member j n u b m ns) i t f (inl e) = inl (sym e.0, f u e.1)
-has_from (member j n u b m ns) i t f (inr h) = inr (has_from ns i t f h)
+has_is : (ms : MemberTrees) (j : ℤ) (u : Tree) → HasAlike ms j u ≡ SomeMember (λ i t. (i ≡ j) × Alike t u) ms
+has_is no_members j u = refl
+has_is (member i n t b m ms) j u = ap (λ (X : Type 0). ((i ≡ j) × Alike t u) ⊎ X) (has_is ms j u)
 
 mutual
   unfolding SameNames
-
-  pub alike_sym : (t u : Tree) → Alike t u → Alike u t
-  alike_sym (plain p) (plain q) h = sym h
-  alike_sym (list n t b m) (list o u c k) h = alike_sym t u h
-  alike_sym (large_list n t b m) (large_list o u c k) h = alike_sym t u h
-  alike_sym (fixed_size_list n t b m s) (fixed_size_list o u c k r) h = (sym h.0, sym h.1)
-  alike_sym (struct fs) (struct gs) h = (sym h.0, λ k n. sym (h.1 (elim k [ inl e ↦ inl (h.0 ∙ e) | inr e ↦ inr (h.0 ∙ e) ]) n))
-  alike_sym (union ms mode) (union ns mode') h = (each_from ns ms (has_sym ms) h.1, each_sym ms ns h.0)
-  alike_sym _ _ h = absurd h
-
-  has_sym : (ms : MemberTrees) (j : ℤ) (u : Tree) → HasAlike ms j u → Among j u ms
-  has_sym no_members j u h = h
-  has_sym (member i n t b m ms) j u (inl e) = inl (sym e.0, alike_sym t u e.1)
-  has_sym (member i n t b m ms) j u (inr h) = inr (has_sym ms j u h)
-
-  pub each_sym : (ms ns : MemberTrees) → EachHasAlike ms ns → AllMembers (HasAlike ns) ms
-  each_sym no_members ns h = tt
-  each_sym (member i n t b m ms) ns h = (has_from ns i t (alike_sym t) h.0, each_sym ms ns h.1)
 
   pub alike_refl : (t : Tree) → Alike t t
   alike_refl (plain p) = refl
@@ -53,33 +30,45 @@ mutual
   alike_refl (large_list n t b m) = alike_refl t
   alike_refl (fixed_size_list n t b m s) = (refl, refl)
   alike_refl (struct fs) = (refl, λ h n. refl)
-  alike_refl (union ms mode) = let each = each_refl ms ms (λ i t h. h) in (each, each_sym ms ms each)
+  alike_refl (union ms mode) = rw (each_is ms ms) (
+    all_inside (λ i t. Alike t t) (λ i t. Among i t ms) ms (λ i t p inside. inside (λ j u. (i ≡ j) × Alike t u) (refl, p)) (each_refl ms),
+    all_inside (λ i t. Alike t t) (HasAlike ms) ms (λ i t p inside. rw (has_is ms i t) (inside (λ j u. (j ≡ i) × Alike u t) (refl, p))) (each_refl ms),
+  )
 
-  each_refl : (ms ns : MemberTrees) → ((i : ℤ) (t : Tree) → Among i t ms → Among i t ns) → EachHasAlike ms ns
-  each_refl no_members ns f = tt
-  each_refl (member i n t b m ms) ns f = (f i t (inl (refl, alike_refl t)), each_refl ms ns (λ j u h. f j u (inr h)))
-
-pub has_among : (ms : MemberTrees) (j : ℤ) (u : Tree) → HasAlike ms j u ↔ Among j u ms
-has_among ms j u = (has_sym ms j u, has_from ms j u (alike_sym u))
+  each_refl : (ms : MemberTrees) → AllMembers (λ i t. Alike t t) ms
+  each_refl no_members = tt
+  each_refl (member i n t b m ms) = (alike_refl t, each_refl ms)
 
 mutual
   unfolding SameNames
 
-  pub alike_trans : (t u v : Tree) → Alike t u → Alike u v → Alike t v
-  alike_trans (plain p) (plain q) (plain r) h k = h ∙ k
-  alike_trans (list n t b m) (list o u c k) (list p v d l) h e = alike_trans t u v h e
-  alike_trans (large_list n t b m) (large_list o u c k) (large_list p v d l) h e = alike_trans t u v h e
-  alike_trans (fixed_size_list n t b m s) (fixed_size_list o u c k r) (fixed_size_list p v d l q) h e = (h.0 ∙ e.0, h.1 ∙ e.1)
-  alike_trans (struct fs) (struct gs) (struct hs) h e = (h.0 ∙ e.0, λ k n. h.1 k n ∙ e.1 (elim k [ inl f ↦ inl (sym h.0 ∙ f) | inr f ↦ inr (sym h.0 ∙ f) ]) n)
-  alike_trans (union ms mode) (union ns mode') (union ps mode'') h e =
-      let back = each_map ps ns ms (λ k v x. among_trans k v ns ms x (each_from ns ms (has_sym ms) h.1)) (each_from ps ns (has_sym ns) e.1) in
-      (each_map ms ns ps (λ i t x. among_trans i t ns ps x e.0) h.0, each_sym ps ms back)
-  alike_trans _ _ _ h e = search
+  -- two that one is alike to are alike
+  alike_both : (t u v : Tree) → Alike t u → Alike t v → Alike u v
+  alike_both (plain p) (plain q) (plain r) h k = sym h ∙ k
+  alike_both (list n t b m) (list o u c k) (list p v d l) h e = alike_both t u v h e
+  alike_both (large_list n t b m) (large_list o u c k) (large_list p v d l) h e = alike_both t u v h e
+  alike_both (fixed_size_list n t b m s) (fixed_size_list o u c k r) (fixed_size_list p v d l q) h e = (sym h.0 ∙ e.0, sym h.1 ∙ e.1)
+  alike_both (struct fs) (struct gs) (struct hs) h e = (sym h.0 ∙ e.0, λ k n. sym (h.1 (elim k [ inl f ↦ inl (h.0 ∙ f) | inr f ↦ inr (h.0 ∙ f) ]) n) ∙ e.1 (elim k [ inl f ↦ inl (h.0 ∙ f) | inr f ↦ inr (h.0 ∙ f) ]) n)
+  alike_both (union ms mode) (union ns mode') (union ps mode'') h e =
+      rw (each_is ns ps) (all_map (HasAlike ms) (λ i t. Among i t ps) (λ i t x. (met ms ps e.0 i t x).0) ns h.1, all_map (HasAlike ms) (HasAlike ns) (λ i t x. (met ms ns h.0 i t x).1) ps e.1)
+  alike_both _ _ _ h e = search
 
-  among_trans : (i : ℤ) (t : Tree) (ns ps : MemberTrees) → Among i t ns → EachHasAlike ns ps → Among i t ps
-  among_trans i t no_members ps h e = absurd h
-  among_trans i t (member j n u b m ns) ps (inl x) e = any_map (λ k v. (j ≡ k) × Alike u v) (λ k v. (i ≡ k) × Alike t v) (λ k v y. (x.0 ∙ y.0, alike_trans t u v x.1 y.1)) ps e.0
-  among_trans i t (member j n u b m ns) ps (inr h) e = among_trans i t ns ps h e.1
+  met : (ms ns : MemberTrees) → EachHasAlike ms ns → (k : ℤ) (v : Tree) → HasAlike ms k v → Among k v ns × HasAlike ns k v
+  met no_members ns e k v h = absurd h
+  met (member i n t b m ms) ns e k v (inl x) = (
+    any_map (λ j u. (i ≡ j) × Alike t u) (λ j u. (k ≡ j) × Alike v u) (λ j u y. (sym x.0 ∙ y.0, alike_both t v u x.1 y.1)) ns e.0,
+    rw (has_is ns k v) (any_map (λ j u. (i ≡ j) × Alike t u) (λ j u. (j ≡ k) × Alike u v) (λ j u y. (sym y.0 ∙ x.0, alike_both t u v y.1 x.1)) ns e.0),
+  )
+  met (member i n t b m ms) ns e k v (inr h) = met ms ns e.1 k v h
+
+pub alike_sym : (t u : Tree) → Alike t u → Alike u t
+alike_sym t u h = alike_both t u t h (alike_refl t)
+
+pub alike_trans : (t u v : Tree) → Alike t u → Alike u v → Alike t v
+alike_trans t u v h e = alike_both u t v (alike_sym t u h) e
+
+pub has_among : (ms : MemberTrees) (j : ℤ) (u : Tree) → HasAlike ms j u ↔ Among j u ms
+has_among ms j u = rw (has_is ms j u) (any_map _ _ (λ i t x. (sym x.0, alike_sym t u x.1)) ms, any_map _ _ (λ i t x. (sym x.0, alike_sym u t x.1)) ms)
 
 -- ---- kinds
 
@@ -116,15 +105,10 @@ alike_over : (k : NativeKind) (t u : Tree) (c : CoordType) (d : Dimension) → A
 alike_over GeometryCollection t u c d h l = absurd l
 alike_over k t u c d h l = alike_below Leaf alike_leaf (levels_of k) t u c d h l
 
--- unions: a word that alike trees share, said of each member
-abbrev Shared : (ℤ → Tree → Type 0) → Type 0
-Shared P = (i : ℤ) (t u : Tree) → Alike t u → P i t → P i u
-
-pub alike_all : (P : ℤ → Tree → Type 0) → Shared P → (ms ns : MemberTrees) → AllMembers (HasAlike ms) ns → AllMembers P ms → AllMembers P ns
-alike_all P shared ms ns h all =
-    all_map (HasAlike ms) P
-    (λ j u one. all_some P (λ i t. (j ≡ i) × Alike u t) (P j u) (λ i t p x. subst (λ k. P k u) (sym x.0) (shared i t u (alike_sym u t x.1) p)) ms all (has_sym ms j u one))
-    ns h
+-- unions: what alike trees share, said of each member
+alike_all : (P : ℤ → Tree → Type 0) → ((i : ℤ) (t u : Tree) → Alike t u → P i t → P i u) → (ms ns : MemberTrees) → AllMembers (HasAlike ms) ns → AllMembers P ms → AllMembers P ns
+alike_all P shared ms ns h all = all_map (HasAlike ms) P
+    (λ j u one. all_some P (λ i t. (i ≡ j) × Alike t u) (P j u) (λ i t p x. subst (λ k. P k u) x.0 (shared i t u x.1 p)) ms all (rw (has_is ms j u) at one)) ns h
 
 alike_some : (ms ns : MemberTrees) → EachHasAlike ms ns → HasMembers ms → HasMembers ns
 alike_some (member i n t b m ms) (member j o u c k ns) h some = tt
@@ -139,7 +123,7 @@ alike_native GeometryCollection t u c d h l = alike_below Mixed alike_mixed 1 t 
 alike_native k t u c d h l = alike_over k t u c d h l
 
 -- only a plain data type is that of well-known binary or text, and it is alike to itself alone
-plain_same : (p : Plain) (t u : Tree) → Alike t u → t ≡ plain p → u ≡ plain p
+plain_same : (p : PlainType) (t u : Tree) → Alike t u → t ≡ plain p → u ≡ plain p
 plain_same p (plain q) (plain r) h e = ap (λ x. plain x) (sym h) ∙ e
 plain_same p (plain q) _ h e = absurd h
 plain_same p _ u h e = cc
@@ -148,11 +132,9 @@ pub alike_accepted : (k : Kind) (t u : Tree) → Alike t u → Accepted k t → 
 alike_accepted (OfNative k c d) t u h a = alike_native k t u c d h a
 alike_accepted (OfGeometry c) (union ms mode) (union ns mode') h a = (alike_some ms ns h.0 a.0, alike_all (λ i t. (d : Dimension) × GeometryMember i t c d) (λ i t u e m. (m.0, (m.1.0, m.1.1, alike_native m.1.0 t u c m.0 e m.1.2))) ms ns h.1 a.1)
 alike_accepted (OfRect d) (struct fs) (struct gs) h a = alike_box (names_of fs) (names_of gs) d h a
-alike_accepted (OfGeometry c) _ _ h a = search
-alike_accepted (OfRect d) _ _ h a = search
 alike_accepted (OfWkb Narrow) t u h a = plain_same _ t u h a
 alike_accepted (OfWkt Narrow) t u h a = plain_same _ t u h a
-alike_accepted _ t u h a = plain_same _ t u h a
+alike_accepted _ t u h a = search plain_same
 
 -- ---- members that go or come, and what they leave of a union
 
@@ -192,12 +174,13 @@ contained [] m h = absurd (omega (arith, h.1))
 contained (x ∷ xs) m (zero, lt, is) = inl (ap (λ y. y.0) (sym is), subst (λ y. Alike m.1.tree y.1.tree) (sym is) (alike_refl m.1.tree))
 contained (x ∷ xs) m (suc n, lt, is) = inr (contained xs m (n, omega (arith, lt), is))
 
-each_contained : (ms ns : Members) → ((m : ℤ × FieldTree) → Contains ms m → Contains ns m) → EachHasAlike (member_trees ms) (member_trees ns)
+each_contained : (ms ns : Members) → ((m : ℤ × FieldTree) → Contains ms m → Contains ns m) → AllMembers (λ i t. Among i t (member_trees ns)) (member_trees ms)
 each_contained [] ns f = tt
 each_contained (m ∷ ms) ns f = (contained ns m (f m (0, omega arith, refl)), each_contained ms ns (λ x c. f x (suc c.0, omega (arith, c.1), c.2)))
 
 pub same_members_alike : (ms ns : Members) → ((m : ℤ × FieldTree) → Contains ms m → Contains ns m) → ((m : ℤ × FieldTree) → Contains ns m → Contains ms m) → AlikeUnions ms ns
-same_members_alike ms ns to from = λ x y. (each_contained ms ns to, each_sym (member_trees ns) (member_trees ms) (each_contained ns ms from))
+same_members_alike ms ns to from =
+    λ x y. rw (each_is (member_trees ms) (member_trees ns)) (each_contained ms ns to, all_map (λ i t. Among i t (member_trees ms)) (HasAlike (member_trees ms)) (λ i t. (has_among (member_trees ms) i t).1) (member_trees ns) (each_contained ns ms from))
 
 pub joined_alike : (ms ns all : Members) → all ≡ ms ++ ns → (others : Members) → AreJust ms ns others → AlikeUnions all others
 joined_alike ms ns all joined others just = same_members_alike all others

@@ -36,27 +36,20 @@ coordinate_one (fixed_size_list n t b m z) = either_one _ _ (λ p q f g h k. her
 coordinate_one (struct fs) = either_one _ _ (λ p q f g h k. here_one BadFieldCount p q f g h.1 k.1) (λ p q f g h k. here_one BadFieldNames p q f g h.2 k.2) (λ p q f g h k. h.0 XYZ k.0)
 coordinate_one _ = here_one UnexpectedType
 
-pub box_one : (t : Tree) → One (BoxFault t)
-box_one (struct fs) = either_one _ _ (λ p q f g h k. here_one BadFieldCount p q f g h.1 k.1) (λ p q f g h k. here_one BadFieldNames p q f g h.2 k.2) (λ p q f g h k. h.0 XYZ k.0)
-box_one _ = here_one UnexpectedType
-
-pub separated_length : (ns : List Text) (d : Dimension) → IsSeparatedAs d ns → length ns ≡ size_of d
-separated_length ns XY h = h
-separated_length ns _ h = search
-
-pub box_length : (ns : List Text) (d : Dimension) → IsBoxAs d ns → length ns ≡ 2 * size_of d
-box_length ns XY h = h
-box_length ns _ h = search
+-- the number of the fields of a coordinate, and of a box
+pub lengths : (ns : List Text) (d : Dimension) → (IsSeparatedAs d ns → length ns ≡ size_of d) × (IsBoxAs d ns → length ns ≡ 2 * size_of d)
+lengths ns XY = (λ h. h, λ h. h)
+lengths ns _ = (λ h. search, λ h. search)
 
 coordinate_apart : Apart Leaf CoordinateFault
 coordinate_apart (fixed_size_list n t b m z) Interleaved d p f h (inl k) = k.0 d h.0
 coordinate_apart (fixed_size_list n t b m z) Interleaved d p f h (inr k) = k.2 (h.1 ∙ ap (λ x. pos (size_of x)) (sym (named_back d) ∙ ap dimension_named (sym h.0 ∙ k.1) ∙ named_back k.0))
-coordinate_apart (struct fs) Separated d p f h (inl k) = k.0 d (separated_length (names_of fs) d h)
+coordinate_apart (struct fs) Separated d p f h (inl k) = k.0 d ((lengths (names_of fs) d).0 h)
 coordinate_apart (struct fs) Separated d p f h (inr k) = k.1 d h
 coordinate_apart _ c d p f h k = absurd h
 
 pub box_apart : (t : Tree) (d : Dimension) (p : Path) (f : LayoutFault) → BoxShape t d → BoxFault t p f → ⊥
-box_apart (struct fs) d p f h (inl k) = k.0 d (box_length (names_of fs) d h)
+box_apart (struct fs) d p f h (inl k) = k.0 d ((lengths (names_of fs) d).1 h)
 box_apart (struct fs) d p f h (inr k) = k.1 d h
 box_apart _ d p f h k = absurd h
 
@@ -195,10 +188,6 @@ pub member_sole_in : (b : Bool) → SoleMember (MemberIn b) (MemberFaultIn b)
 member_sole_in true = geometry_member_sole
 member_sole_in false = member_sole
 
-geometry_one : (t : Tree) → One (GeometryFault t)
-geometry_one (union ms mode) = union_one GeometryMember GeometryMemberFault geometry_member_sole ms
-geometry_one _ = here_one UnexpectedType
-
 pub geometry_apart : (t : Tree) (c : CoordType) (p : Path) (f : LayoutFault) → Geometry t c → GeometryFault t p f → ⊥
 geometry_apart (union ms mode) c p f h k = union_apart GeometryMember GeometryMemberFault geometry_member_sole ms c p f h.0 h.1 k
 geometry_apart _ c p f h k = absurd h
@@ -206,10 +195,12 @@ geometry_apart _ c p f h k = absurd h
 -- ---- by the extension name
 
 pub one_fault : (n : ExtensionName) (t : Tree) → One (FaultAt n t)
-one_fault (names.Native k) t p q f g h e = (native_sole k).0 t p q f g h e
-one_fault names.Geometry t p q f g h e = geometry_one t p q f g h e
-one_fault names.Rect t p q f g h e = box_one t p q f g h e
-one_fault _ t p q f g h e = here_one UnexpectedType p q f g h.1 e.1
+one_fault (names.Native k) t = (native_sole k).0 t
+one_fault names.Geometry (union ms mode) = union_one GeometryMember GeometryMemberFault geometry_member_sole ms
+one_fault names.Geometry _ = here_one UnexpectedType
+one_fault names.Rect (struct fs) = either_one _ _ (λ p q f g h k. here_one BadFieldCount p q f g h.1 k.1) (λ p q f g h k. here_one BadFieldNames p q f g h.2 k.2) (λ p q f g h k. h.0 XYZ k.0)
+one_fault names.Rect _ = here_one UnexpectedType
+one_fault _ t = λ p q f g h e. here_one UnexpectedType p q f g h.1 e.1
 
 pub accepted_apart : (k : Kind) (t : Tree) (p : Path) (f : LayoutFault) → Accepted k t → FaultAt (extension_of k) t p f → ⊥
 accepted_apart (OfNative k c d) t p f h e = (native_sole k).1 t c d p f h e

@@ -1,7 +1,7 @@
 -- The kind of a name and a tree: there is one at most, and it is what a reader's answer says; the names of a tree: two at most, and which two.
-use Rattle.geoarrow_layout.proofs.Terms.{◌≡◌, ◌≢◌, ◌⊎◌, inl, inr, IfOk, result_ok, Bool, true≢false, IsTrue, is_ok, refl, sym, ap, subst, ◌∙◌, ◌↔◌, IfErr, Option, Some, Result, Ok, Err, same_Some, Text, Tree, Point, LineString, Polygon, MultiPolygon, GeometryCollection, Width, Plain, Large, View, Kind, OfNative, OfGeometry, OfRect, OfWkb, OfWkt, ExtensionName, name_text, extension_of, Native, IsBytes, IsText, Accepted, Accepts, IsStructured, YieldsOne, any_native_same, geometry_same, box_shape_same, LayoutFault, Summary, Summarizes, IsAccepted, Path, HasFault, FaultAt, Tells, YieldsKind, NativeKind, CoordType, Dimension, Mixed, Geometry, BoxShape, NativeFault, MixedFault, GeometryFault, BoxFault, TellsBoth, Yields, coords_in, native_first, mixed_first, ◌≤◌, ℕ, zero, suc, arith, PlainType, binary, large_binary, binary_view, utf8, large_utf8, utf8_view, plain, list, large_list, fixed_size_list, struct, union, Interleaved, Separated, XY, ListWidth, Lists, LargeLists, size_of, names_of, ListsOver, levels_of, Leaf, NoName, Holds, IsStructOfFour, Share, dimension_sized, false, first_of, second_kind, second_of, name_of}
+use Rattle.geoarrow_layout.proofs.Terms.{◌≡◌, ◌≢◌, ◌⊎◌, inl, inr, IfOk, result_ok, Bool, true≢false, IsTrue, is_ok, refl, sym, ap, subst, ◌∙◌, ◌↔◌, IfErr, Option, Some, Result, Ok, Err, same_Some, Text, Tree, Point, LineString, Polygon, MultiPolygon, GeometryCollection, Plain, Kind, OfNative, OfGeometry, OfRect, OfWkb, OfWkt, ExtensionName, name_text, extension_of, Native, Accepted, Accepts, IsStructured, YieldsOne, any_native_same, geometry_same, box_shape_same, LayoutFault, Summary, Summarizes, IsAccepted, Path, HasFault, FaultAt, Tells, YieldsKind, NativeKind, CoordType, Dimension, Mixed, Geometry, BoxShape, NativeFault, MixedFault, GeometryFault, BoxFault, TellsBoth, Yields, coords_in, native_first, mixed_first, ◌≤◌, ℕ, zero, suc, arith, PlainType, binary, large_binary, binary_view, utf8, large_utf8, utf8_view, plain, list, large_list, fixed_size_list, struct, union, Separated, XY, ListWidth, Lists, LargeLists, size_of, names_of, ListsOver, levels_of, Leaf, NoName, Holds, IsStructOfFour, Share, dimension_sized, false, first_of, second_kind, second_of, name_of}
 use Rattle.geoarrow_layout.specs.declared.names.ExtensionName.TheVariants as names
-use Rattle.geoarrow_layout.proofs.FaultLaws.{accepted_apart, native_sole, mixed_none, geometry_apart, box_apart, separated_length, box_length}
+use Rattle.geoarrow_layout.proofs.FaultLaws.{accepted_apart, native_sole, mixed_none, geometry_apart, box_apart, lengths}
 use Rattle.geoarrow_layout.proofs.Readings.{Answer, exactly, exactly_one, told_fault}
 
 -- two names of one text are one
@@ -9,20 +9,16 @@ pub one_name : (a b : ExtensionName) → name_text a ≡ name_text b → a ≡ b
 one_name (names.Native Point) (names.Native Point) h = refl
 one_name _ _ h = grind arith
 
-widths_same : (t : Tree) (w v : Width) → (IsBytes w t → IsBytes v t → w ≡ v) × (IsText w t → IsText v t → w ≡ v)
-widths_same t Plain Plain = (λ h g. refl, λ h g. refl)
-widths_same t Large Large = (λ h g. refl, λ h g. refl)
-widths_same t View View = (λ h g. refl, λ h g. refl)
-widths_same t _ _ = (λ h g. cc, λ h g. cc)
-
 pub same_kind : (t : Tree) (k l : Kind) → extension_of k ≡ extension_of l → Accepted k t → Accepted l t → k ≡ l
 same_kind t (OfNative k c d) (OfNative l b e) same h g =
     let kinds : k ≡ l = cc in
     let pair = any_native_same l t c b d e (subst (λ x. Native t x c d) kinds h) g in cc
 same_kind t (OfGeometry c) (OfGeometry b) same h g = ap (λ x. OfGeometry x) (geometry_same t c b h g)
 same_kind t (OfRect d) (OfRect e) same h g = ap (λ x. OfRect x) (box_shape_same t d e h g)
-same_kind t (OfWkb w) (OfWkb v) same h g = ap (λ x. OfWkb x) ((widths_same t w v).0 h g)
-same_kind t (OfWkt w) (OfWkt v) same h g = ap (λ x. OfWkt x) ((widths_same t w v).1 h g)
+same_kind t (OfWkb Plain) (OfWkb Plain) same h g = refl
+same_kind t (OfWkb w) (OfWkb Plain) same h g = cc
+same_kind t (OfWkt Plain) (OfWkt Plain) same h g = refl
+same_kind t (OfWkt w) (OfWkt Plain) same h g = cc
 same_kind t k l same h g = cc
 
 pub one_kind : (name : Text) (t : Tree) (k l : Kind) → Accepts name t k → Accepts name t l → k ≡ l
@@ -122,7 +118,6 @@ first_in _ = names.Native Point
 
 first_or_second : (a : ExtensionName) → (a ≡ first_of a) ⊎ (a ≡ second_of (first_of a))
 first_or_second (names.Native Point) = inl refl
-first_or_second names.Rect = inr refl
 first_or_second _ = search (inl, inr, refl)
 
 abbrev list_names : ℕ → ExtensionName → ExtensionName
@@ -140,12 +135,9 @@ leaf_in (fixed_size_list n t b m z) c d h = refl
 leaf_in (struct fs) c d h = refl
 leaf_in _ c d h = absurd h
 
-mixed_in : (t : Tree) (c : CoordType) (d : Dimension) → Mixed t c d → first_in t ≡ names.Geometry
-mixed_in (union ms mode) c d h = refl
-mixed_in _ c d h = absurd h
-
 first_accepted : (k : Kind) (t : Tree) → Accepted k t → first_in t ≡ first_of (extension_of k)
-first_accepted (OfNative GeometryCollection c d) t h = below h.1.0 1 t h.0 h.1.1 ∙ ap list_name (mixed_in h.0 c d h.2)
+first_accepted (OfNative GeometryCollection c d) t (union ms mode, lists, h) = below lists.0 1 t (union ms mode) lists.1
+first_accepted (OfNative GeometryCollection c d) t (_, lists, h) = absurd h
 first_accepted (OfNative Point c d) t h = below h.1.0 0 t h.0 h.1.1 ∙ leaf_in h.0 c d h.2
 first_accepted (OfNative k c d) t h = below h.1.0 (levels_of k) t h.0 h.1.1 ∙ ap (list_names (levels_of k)) (leaf_in h.0 c d h.2)
 first_accepted (OfGeometry c) (union ms mode) h = refl
@@ -186,11 +178,8 @@ pub both : (a : ExtensionName) (t : Tree) → first_of a ≡ a → IsAccepted (n
 both a t first h k =
     are_names (NamedAt a) a t h (λ n x. elim x [ inl e ↦ moved (name_text a) n t e h | inr e ↦ moved (name_text (second_of a)) n t e k ]) (λ n x g. subst (λ s. NamedAt s n) first x)
 
-pub point_alone : (t : Tree) → IsAccepted (name_text (names.Native Point)) t → ¬ IsAccepted (name_text names.Rect) t → Names (λ n. n ≡ name_text (names.Native Point)) t
-point_alone t p no_box = are_names _ (names.Native Point) t p (λ n e. moved _ n t e p) (λ n x g. elim x [ inl e ↦ e | inr e ↦ absurd (no_box (moved n _ t (sym e) g)) ])
-
-pub box_alone : (t : Tree) → ¬ IsAccepted (name_text (names.Native Point)) t → IsAccepted (name_text names.Rect) t → Names (λ n. n ≡ name_text names.Rect) t
-box_alone t no_point b = are_names _ names.Rect t b (λ n e. moved _ n t e b) (λ n x g. elim x [ inl e ↦ absurd (no_point (moved n _ t (sym e) g)) | inr e ↦ e ])
+pub without : (a b : ExtensionName) (t : Tree) → ((n : Text) → NamedAt (first_of a) n → (n ≡ name_text a) ⊎ (n ≡ name_text b)) → IsAccepted (name_text a) t → ¬ IsAccepted (name_text b) t → Names (λ n. n ≡ name_text a) t
+without a b t is h other = are_names _ a t h (λ n e. moved _ n t e h) (λ n x g. elim (is n x) [ inl e ↦ e | inr e ↦ absurd (other (moved n _ t (sym e) g)) ])
 
 -- ---- two names of one data type
 
@@ -208,9 +197,8 @@ size_within d = (omega arith, omega arith)
 
 -- what is a coordinate and a box is a struct of four fields
 four_of : (t : Tree) (c : CoordType) (d e : Dimension) → Leaf t c d → BoxShape t e → IsStructOfFour t
-four_of (struct fs) Separated d e h k = let less = size_within d in let more = size_within e in let s = separated_length (names_of fs) d h in let b = box_length (names_of fs) e k in omega (arith, less.0, less.1, more.0, more.1)
-four_of (struct fs) Interleaved d e h k = absurd h
-four_of _ c d e h k = absurd k
+four_of (struct fs) Separated d e h k = let less = size_within d in let more = size_within e in let s = (lengths (names_of fs) d).0 h in let b = (lengths (names_of fs) e).1 k in omega (arith, less.0, less.1, more.0, more.1)
+four_of _ _ d e h k = search
 
 point_and_box_four : (t : Tree) → IsAccepted (name_text (names.Native Point)) t → IsAccepted (name_text names.Rect) t → IsStructOfFour t
 point_and_box_four t h (OfRect e, (is, k)) = let p = native_accepted Point t h in four_of t p.0 p.1 e (subst (λ x. Leaf x p.0 p.1) (sym p.2.1.1) p.2.2) k

@@ -7,3 +7,4 @@ pub mod Written
 pub mod KindSteps
 pub mod AlikeLaws
 pub mod Equality
+pub mod Lemmas

@@ -1,5 +1,5 @@
 -- What a reader answers; what holds of all members of a union, or of some; what stands below the lists, and which fault it is.
-use Rattle.geoarrow_layout.proofs.Terms.{◌≡◌, ◌↔◌, sym, subst, ℤ, pos, Result, Ok, Err, Option, Some, ap, ◌∙◌, IfErr, CoordType, Dimension, LayoutFault, NativeKind, type_id_of, Yields, YieldsOne, Path, Located, HasFault, Tells, TellsBoth, IsErrAnd, IsOkAnd, MatchResult, ◌<◌, ◌+◌, ◌⊎◌, inl, inr, ℕ, List, [], ◌∷◌, ◌++◌, take, length, get_or, add-one, take-suc, Tree, FieldTree, MemberTrees, no_members, member, member_trees, AllMembers, SomeMember, HasMembers, Bool, cond, ◌≤◌, zero, suc, ◌-◌, refl, arith, None, same_Some, Text, Metadata, plain, list, large_list, fixed_size_list, struct, union, FieldTrees, UnionMode, UnexpectedType, ListWidth, Lists, LargeLists, Bottom, OtherWidth, Deep, Other, Summary, ListsOver, Faults, MixedFault, LevelsFault, IsBottom, AreLevels, SummarizesBy, Under, IsFixedSize, IsStruct, missing_fault, IsWidth, IsNoLeaf, IsLevelFault, ShowsIn, false}
+use Rattle.geoarrow_layout.proofs.Terms.{◌≡◌, ◌↔◌, sym, subst, ℤ, pos, Result, Ok, Err, Option, Some, ap, ◌∙◌, IfErr, CoordType, Dimension, LayoutFault, NativeKind, type_id_of, Yields, YieldsOne, Path, Located, HasFault, Tells, TellsBoth, IsErrAnd, IsOkAnd, MatchResult, ◌<◌, ◌+◌, ◌⊎◌, inl, inr, ℕ, List, [], ◌∷◌, ◌++◌, take, length, get_or, add-one, take-suc, Tree, FieldTree, MemberTrees, no_members, member, member_trees, AllMembers, SomeMember, HasMembers, Bool, ◌≤◌, zero, suc, ◌-◌, refl, arith, None, same_Some, Text, Metadata, plain, list, large_list, fixed_size_list, struct, union, FieldTrees, UnionMode, UnexpectedType, ListWidth, Lists, LargeLists, Bottom, OtherWidth, Deep, Other, Summary, ListsOver, Faults, MixedFault, LevelsFault, IsBottom, AreLevels, SummarizesBy, Under, IsFixedSize, IsStruct, missing_fault, IsWidth, IsNoLeaf, IsLevelFault, ShowsIn, false}
 use Rattle.std.proofs.Math.Nat.{add-zero, suc-add, zero-add}
 
 abbrev pub Answer : Type 0
@@ -16,11 +16,6 @@ some_parts k d = Some (k, d)
 
 abbrev pub refused : LayoutFault → Answer
 refused e = Err e
-
--- the first that passes the test, or else x
-abbrev pub first_with : {X : Type 0} → (X → Bool) → X → List X → X
-first_with p x [] = x
-first_with p x (y ∷ ys) = cond (p y) y (first_with p x ys)
 
 -- the parts of an id
 abbrev pub IsPartsOf : ℤ → Option (NativeKind × Dimension) → Type 0

@@ -1,12 +1,12 @@
 -- Sets of bits, and what one reading adds to them; the fields of a struct: which names are those of a coordinate or a box, by their bits, and which point is inferred.
-use Rattle.geoarrow_layout.proofs.Terms.{◌≡◌, ◌↔◌, ◌<◌, ◌⊎◌, ◌*◌, ◌%◌, ◌^◌, inl, inr, ℕ, sym, ap, subst, ◌∙◌, ◌≤◌, true, false, ℤ, pos, Ok, Err, refl, arith, bit_at, bit_or, bit_at_set_same, bit_at_set_other, bit_at-zero, cases_eq, ltb-true, ltb-false, bits, ReadAt, w8, w64, CoordType, Dimension, LayoutFault, negsuc, nat_abs, lt_z, suc, Bool, ◌||◌, true≢false, Decides, IsTrue, list_all, and_parts, and_from, List, [], ◌∷◌, length, ◌+◌, ◌&&◌, ◌++◌, take, get_or, eq-eqb, list_any, bytes_eq, bytes_eq-Decides, Text, FieldTree, field_trees, XY, XYZ, XYM, has_name, IsSeparatedAs, names_of, SomeAt, place_in, known_names, is_float64, are_float64, nat_eq, codes, HaveBoth, HasFault, eqb-true, cond_both, or_cases, or_left, or_right, same_from_decides, and-true, and_assoc, IsBits, Result, Option, Tree, struct, FieldTrees, Separated, BadFieldNames, ListWidth, Bottom, Struct, Leaf, IsBoxAs, BoxShape, Path, SeparatedFault, CoordinateFault, BoxFault, IsBottom, IsUnion, IsNoLeaf, Tells, TellsBoth, BoxNamesFault, Some, None, same_Some, fixed_size_list, Interleaved, size_of, interleaved_name, Inferred, IsInferredAs, IsInferredSize, among_back, dimension_named, bit_and, ◌/◌, get_or-map, get_or-range_with_len, decided, shr_and_one, map, coordinate}
+use Rattle.geoarrow_layout.proofs.Terms.{◌≡◌, ◌↔◌, ◌<◌, ◌⊎◌, ◌*◌, ◌%◌, ◌^◌, inl, inr, ℕ, sym, ap, subst, ◌∙◌, ◌≤◌, true, false, ℤ, pos, Ok, Err, refl, arith, bit_at, bit_or, bit_at_set_same, bit_at_set_other, bit_at-zero, cases_eq, ltb-true, ltb-false, bits, ReadAt, w8, w64, CoordType, Dimension, LayoutFault, negsuc, nat_abs, lt_z, suc, Bool, ◌||◌, true≢false, Decides, IsTrue, list_all, and_parts, and_from, List, [], ◌∷◌, length, ◌+◌, ◌&&◌, ◌++◌, take, get_or, eq-eqb, list_any, bytes_eq, bytes_eq-Decides, Text, FieldTree, field_trees, XYZ, XYM, has_name, IsSeparatedAs, names_of, SomeAt, place_in, known_names, is_float64, are_float64, nat_eq, codes, HaveBoth, HasFault, eqb-true, cond_both, or_cases, or_left, or_right, same_from_decides, and-true, and_assoc, IsBits, Result, Option, Tree, struct, FieldTrees, Separated, BadFieldNames, ListWidth, Bottom, Struct, Leaf, IsBoxAs, BoxShape, Path, SeparatedFault, CoordinateFault, BoxFault, IsBottom, IsUnion, IsNoLeaf, Tells, TellsBoth, BoxNamesFault, Some, None, same_Some, fixed_size_list, Interleaved, size_of, interleaved_name, Inferred, IsInferredAs, IsInferredSize, among_back, dimension_named, bit_and, ◌/◌, get_or-map, get_or-range_with_len, decided, shr_and_one, map, coordinate}
 use Rattle.std.proofs.lemmas.Map.Made.{length-le_from_is_member}
 use Rattle.std.specs.Int.{Width}
 use Rattle.std.specs.List.{IsDistinct}
 use Rattle.geoarrow_layout.specs.Summary.{IsBits, AddsBits}
 use Rattle.geoarrow_layout.proofs.Readings.{Answer, ok_same, or_more, one_more, at_bottom}
 use Rattle.geoarrow_layout.specs.Shapes.{SameNames}
-use Rattle.geoarrow_layout.proofs.FaultLaws.{separated_length}
+use Rattle.geoarrow_layout.proofs.FaultLaws.{lengths}
 
 -- one bit more, that of the one number with P
 pub adds_bit : (w : Width) (n i : ℕ) (P : ℕ → Type 0) → i < bits w → P i → ((k : ℕ) → P k → k ≡ i) → AddsBits n P (bit_or n (1 * 2 ^ i % 2 ^ bits w))
@@ -168,10 +168,7 @@ has_at bits k lt ns h =
 
 -- ---- what the names of a struct's fields say, by their bits: the dimension of a coordinate, and that of a box
 
-abbrev DimensionAnswer : Type 0
-DimensionAnswer = Result Dimension LayoutFault
-
-abbrev pub NamesAnswer : ℕ → ℕ → DimensionAnswer → Type 0
+abbrev pub NamesAnswer : ℕ → ℕ → Result Dimension LayoutFault → Type 0
 NamesAnswer count bits r = (ns : List Text) → count ≡ length ns → IsBits bits (λ i. SomeAt i ns) → Tells r (λ d. IsSeparatedAs d ns) (SeparatedFault ns)
 
 -- three names that are not x, y and one of z and m are those of no dimension
@@ -199,7 +196,7 @@ struct_no_leaf count names floats f h w n u is = at_struct (λ x. (p : Path) × 
 
 -- ---- boxes
 
-pub root_box : (w : Option ListWidth) (count names : ℕ) (floats : Bool) (u : Tree) (r : DimensionAnswer) → IsBottom IsUnion w 0 (Struct count names floats) u → ((ns : List Text) → count ≡ length ns → IsBits names (λ i. SomeAt i ns) → Tells r (λ d. IsBoxAs d ns) (BoxNamesFault ns)) → Tells r (BoxShape u) (BoxFault u)
+pub root_box : (w : Option ListWidth) (count names : ℕ) (floats : Bool) (u : Tree) (r : Result Dimension LayoutFault) → IsBottom IsUnion w 0 (Struct count names floats) u → ((ns : List Text) → count ≡ length ns → IsBits names (λ i. SomeAt i ns) → Tells r (λ d. IsBoxAs d ns) (BoxNamesFault ns)) → Tells r (BoxShape u) (BoxFault u)
 root_box w count names floats u r k says = at_bottom IsUnion (λ x. Tells r (BoxShape x) (BoxFault x)) w 0 (Struct count names floats) tt (λ x t b m z h. absurd h) (λ fs h. says (names_of fs) h.0 h.1) (λ ms mode h. absurd h) u k
 
 -- ---- points that trees are taken for
@@ -231,20 +228,16 @@ other_inferred ns p (inr h) _ = (λ e. cc, λ k. absurd (omega (arith, h.0)))
 
 pub not_inferred : (ns : List Text) (p : Path) (f : LayoutFault) → (f ≡ BadFieldNames → ⊥) → SeparatedFault ns p f → (d : Dimension) → (None ≡ Some d) ↔ IsInferredAs d ns
 not_inferred ns p f other (inl h) XYZ = (λ e. cc, λ k. absurd (h.0 XYZ k.0))
-not_inferred ns p f other (inl h) d = (λ e. cc, λ k. absurd (h.0 d (separated_length ns d k)))
+not_inferred ns p f other (inl h) d = (λ e. cc, λ k. absurd (h.0 d ((lengths ns d).0 k)))
 not_inferred ns p f other (inr h) d = absurd (other h.2.1)
 
-size_inferred_as : (d : Dimension) (name : Text) (z : ℤ) → IsInferredSize d name z → z ≡ pos (size_of d)
-size_inferred_as XY name z h = h
-size_inferred_as _ name z h = search
-
-size_agrees : (name : Text) (z : ℤ) (d e : Dimension) → IsInferredSize d name z → name ≡ interleaved_name e → size_of d ≡ size_of e → d ≡ e
+size_agrees : (name : Text) (z : ℤ) (d e : Dimension) → IsInferredSize d name z → name ≡ interleaved_name e → z ≡ pos (size_of e) → d ≡ e
 size_agrees name z XYZ XYM h named size = absurd (h.1 named)
 size_agrees name z XYM XYZ h named size = let bad = ap dimension_named (sym h.1 ∙ named) in cc
 size_agrees name z _ _ h named size = grind arith
 
 pub inferred_as_read : (t : Tree) (c b : CoordType) (d e : Dimension) → Inferred t c d → Leaf t b e → (c ≡ b) × (d ≡ e)
-inferred_as_read (fixed_size_list n t x m z) Interleaved Interleaved d e h k = (refl, size_agrees n z d e h.1 k.0 (let same = sym (size_inferred_as d n z h.1) ∙ k.1 in cc))
+inferred_as_read (fixed_size_list n t x m z) Interleaved Interleaved d e h k = (refl, size_agrees n z d e h.1 k.0 k.1)
 inferred_as_read (struct fs) Separated Separated d e h k = (refl, names_agree (names_of fs) d e h.1 k)
 inferred_as_read _ _ _ d e h k = search
 

@@ -14,9 +14,6 @@ is_pow n j h = same_from_bits n (2 ^ j) (λ i. elim (cases_eq i j) [
   | inr e ↦ let none : bit_at n i ≢ 1 = λ one. e ((bit_is n (λ k. k ≡ j) i h).0 one) in omega (arith, bit_at-lt n i, bit_at-pow_other j i e)
 ])
 
-pow_bit : (n j i : ℕ) → n ≡ 2 ^ j → bit_at n i ≡ 1 → i ≡ j
-pow_bit n j i is one = elim (cases_eq i j) [ inl e ↦ e | inr e ↦ let z : bit_at n i ≡ 0 = ap (λ m. bit_at m i) is ∙ bit_at-pow_other j i e in absurd (omega arith) ]
-
 place_same : (c b : CoordType) → place_of c ≡ place_of b → c ≡ b
 place_same Interleaved Interleaved h = refl
 place_same _ _ h = grind arith
@@ -26,7 +23,9 @@ abbrev Keyed : (K : Type 0) → (K → ℕ) → (K → ℤ → Tree → Type 0) 
 Keyed K place S ms i = (k : K) × (i ≡ place k) × SomeMember (S k) ms
 
 keyed_only : (K : Type 0) (place : K → ℕ) (S : K → ℤ → Tree → Type 0) → ((a b : K) → place a ≡ place b → a ≡ b) → (n : ℕ) (ms : MemberTrees) (k : K) → IsBits n (Keyed K place S ms) → n ≡ 2 ^ place k → (b : K) → SomeMember (S b) ms → b ≡ k
-keyed_only K place S one n ms k bits is b some = one b k (pow_bit n (place k) (place b) is ((bit_is n (Keyed K place S ms) (place b) bits).1 (b, refl, some)))
+keyed_only K place S one n ms k bits is b some =
+    let bit : bit_at n (place b) ≡ 1 = (bit_is n (Keyed K place S ms) (place b) bits).1 (b, refl, some) in
+    elim (cases_eq (place b) (place k)) [ inl e ↦ one b k e | inr e ↦ let z : bit_at n (place b) ≡ 0 = ap (λ m. bit_at m (place b)) is ∙ bit_at-pow_other (place k) (place b) e in absurd (omega arith) ]
 
 keyed_pow : (K : Type 0) (place : K → ℕ) (S : K → ℤ → Tree → Type 0) (key : Tree → K) → ((i : ℤ) (t : Tree) (k : K) → S k i t → key t ≡ k) → (n : ℕ) (ms : MemberTrees) (k : K) → IsBits n (Keyed K place S ms) → HasMembers ms → AllMembers (S k) ms → n ≡ 2 ^ place k
 keyed_pow K place S key one n ms k bits some all =
@@ -131,20 +130,17 @@ pub nested_mixed : (w : Option ListWidth) (b : Bottom) (u : Tree) (r : Answer) �
 nested_mixed = mixed_at Member member_first (λ i t c d m. m) IsNested 1 inner_seen
 
 -- a summary says less of unions
-nested_no_leaf : (n : ℕ) (b : Bottom) (ms : MemberTrees) → IsNested n b ms → IsNoLeaf n b ms
-nested_no_leaf (suc n) (Union empty ids coords dims fault geometry) ms h = tt
-nested_no_leaf _ _ ms h = search
+less_said : (n : ℕ) (b : Bottom) (ms : MemberTrees) → (IsUnion n b ms → IsNested n b ms) × (IsNested n b ms → IsNoLeaf n b ms)
+less_said zero (Union empty ids coords dims fault geometry) ms = (λ h. tt, λ h. tt)
+less_said (suc n) (Union empty ids coords dims fault geometry) ms = (λ h. h, λ h. tt)
+less_said _ _ ms = (λ h. search, λ h. search)
 
 pub shows_of_inner : (s : Summary) (t : Tree) → ShowsIn true s t → ShowsIn false s t
-shows_of_inner s t (union ms mode, levels, k) = (union ms mode, levels, nested_no_leaf s.levels s.bottom ms k)
+shows_of_inner s t (union ms mode, levels, k) = (union ms mode, levels, (less_said s.levels s.bottom ms).1 k)
 shows_of_inner s t (u, levels, k) = (u, levels, k)
 
-union_nested : (n : ℕ) (b : Bottom) (ms : MemberTrees) → IsUnion n b ms → IsNested n b ms
-union_nested zero (Union empty ids coords dims fault geometry) ms h = tt
-union_nested _ _ ms h = search
-
 pub inner_of : (s : Summary) (t : Tree) → Summarizes s t → ShowsIn true s t
-inner_of s t (union ms mode, levels, k) = (union ms mode, levels, union_nested s.levels s.bottom ms k)
+inner_of s t (union ms mode, levels, k) = (union ms mode, levels, (less_said s.levels s.bottom ms).0 k)
 inner_of s t (u, levels, k) = (u, levels, k)
 
 -- ---- one more member

@@ -1,7 +1,7 @@
 -- What is written is read as what it was written for, so the data types that are written are pairwise distinct; the comparison with them; every kind is listed, and once.
-use Rattle.geoarrow_layout.proofs.Terms.{◌≡◌, [], ◌∷◌, true, false, refl, sym, subst, member_trees, CoordType, Interleaved, Separated, Dimension, XY, XYZ, XYM, DIMENSIONS, KINDS, members_in, native_members, Lists, NativeKind, Point, LineString, GeometryCollection, Plain, Kind, OfNative, OfGeometry, OfRect, OfWkb, OfWkt, Leaf, levels_of, Member, AllMembers, GeometryMember, Native, BoxShape, Accepted, Under, leaf_layout, mixed_members, native_layout, geometry_members, layout, over_leaf_layout, mixed_layout, dimension_members, IsWritten, IsWrittenSome, cond, List, codes, ◌∙◌, ap, bytes_eq, Tree, plain, list, struct, union, ExtensionName, extension_of, names_of, ◌↔◌, Bool, IsTrue, FieldTree, Members, field_trees, UnionMode, field_list, member_list, listed_fields, listed_members, ◌<◌, ℕ, ◌+◌, ◌*◌, ◌-◌, length, get_or, lit<, arith, Contains, Large, View, order_of, place_of, ALL, offset_of, list_names, OverLeaf, members_over, take, AllByRecursion, get_or-map, get_or-range_with_len}
+use Rattle.geoarrow_layout.proofs.Terms.{filter, ◌≡◌, [], ◌∷◌, true, false, refl, sym, subst, member_trees, CoordType, Interleaved, Separated, Dimension, XY, XYZ, XYM, DIMENSIONS, KINDS, members_in, native_members, Lists, NativeKind, Point, GeometryCollection, Plain, Kind, OfNative, OfGeometry, OfRect, OfWkb, OfWkt, Leaf, levels_of, Member, AllMembers, GeometryMember, Native, Accepted, Under, leaf_layout, mixed_members, native_layout, geometry_members, layout, over_leaf_layout, mixed_layout, dimension_members, IsWritten, IsWrittenSome, cond, List, codes, ◌∙◌, ap, bytes_eq, Tree, plain, list, struct, union, ExtensionName, extension_of, names_of, ◌↔◌, Bool, IsTrue, FieldTree, Members, field_trees, UnionMode, field_list, member_list, listed_fields, listed_members, ◌<◌, ℕ, ◌+◌, ◌*◌, ◌-◌, length, get_or, lit<, arith, Contains, Large, View, order_of, place_of, ALL, offset_of, list_names, OverLeaf, members_over, take, AllByRecursion, get_or-map, get_or-range_with_len}
 use Rattle.geoarrow_layout.specs.Shapes.{SameNames}
-use Rattle.geoarrow_layout.proofs.Readings.{all_map, all_both, first_with}
+use Rattle.geoarrow_layout.proofs.Readings.{all_map, all_both}
 use Rattle.geoarrow_layout.specs.declared.names.ExtensionName.TheVariants as names
 use Rattle.geoarrow_layout.proofs.KindSteps.{same_kind, plain_name}
 
@@ -43,11 +43,6 @@ written_native : (k : NativeKind) (c : CoordType) (d : Dimension) → Native (na
 written_native GeometryCollection c d = (mixed_layout c d, (Lists, refl), (tt, written_mixed c d))
 written_native k c d = written_under k c d
 
-written_box : (d : Dimension) → BoxShape (layout (OfRect d)) d
-written_box XYZ = (refl, λ h. let bad : false ≡ true = h.0 in cc, (refl, refl))
-written_box XYM = (refl, (refl, refl))
-written_box _ = refl
-
 pub written : (k : Kind) → Accepted k (layout k)
 written (OfNative k c d) = written_native k c d
 written (OfGeometry c) = (
@@ -55,7 +50,8 @@ written (OfGeometry c) = (
   all_map (IsWrittenSome c) (λ i t. (d : Dimension) × GeometryMember i t c d)
       (λ i t w. (w.0, (w.1.0, w.1.1, subst (λ u. Native u w.1.0 c w.0) (sym w.1.2) (written_native w.1.0 c w.0)))) (member_trees (geometry_members c)) (in_written c DIMENSIONS),
 )
-written (OfRect d) = written_box d
+written (OfRect XYZ) = (refl, λ h. let bad : false ≡ true = h.0 in cc, (refl, refl))
+written (OfRect XYM) = (refl, (refl, refl))
 written (OfWkb Plain) = refl
 written (OfWkt Plain) = refl
 written _ = refl
@@ -63,7 +59,7 @@ written _ = refl
 -- what a written data type says of its extension name: the outermost list, by its item's name, of its kind
 abbrev name_in : Tree → ExtensionName
 name_in (plain p) = plain_name p
-name_in (list n t b m) = names.Native (first_with (λ k. bytes_eq n (get_or (list_names k) 0 [])) Point KINDS)
+name_in (list n t b m) = names.Native (get_or (filter (λ k. bytes_eq n (get_or (list_names k) 0 [])) KINDS) 0 Point)
 name_in (struct fs) = cond (bytes_eq (get_or (names_of fs) 0 []) (codes "xmin")) names.Rect (names.Native Point)
 name_in (union ms mode) = names.Geometry
 name_in _ = names.Native Point
@@ -97,19 +93,9 @@ union_same t xs ys m n b is mode says = (
 
 -- ---- every kind is listed, and once
 
--- where a native kind stands
-abbrev place : NativeKind → CoordType → Dimension → ℕ
-place k c d = 8 * (offset_of k - 1) + (4 * place_of c + order_of d)
-
-natives : (d : Dimension) (c : CoordType) (k : NativeKind) → Contains ALL (OfNative k c d)
-natives XY Interleaved Point = (0, lit< tt, refl)
-natives d Separated Point = (place Point Separated d, lit< tt, refl)
-natives d c LineString = (place LineString c d, lit< tt, refl)
-natives d c k = (place k c d, lit< tt, refl)
-
 -- where a kind stands
 abbrev place_of_kind : Kind → ℕ
-place_of_kind (OfNative k c d) = place k c d
+place_of_kind (OfNative k c d) = 8 * (offset_of k - 1) + (4 * place_of c + order_of d)
 place_of_kind (OfGeometry c) = 56 + place_of c
 place_of_kind (OfRect d) = 58 + order_of d
 place_of_kind (OfWkb Plain) = 62
@@ -120,7 +106,9 @@ place_of_kind (OfWkt Large) = 66
 place_of_kind (OfWkt View) = 67
 
 pub listed : (k : Kind) → Contains ALL k
-listed (OfNative k c d) = natives d c k
+listed (OfNative Point Interleaved XY) = (0, lit< tt, refl)
+listed (OfNative k Separated XY) = (place_of_kind (OfNative k Separated XY), lit< tt, refl)
+listed (OfNative k Interleaved XYZ) = (place_of_kind (OfNative k Interleaved XYZ), lit< tt, refl)
 listed (OfGeometry Interleaved) = (56, lit< tt, refl)
 listed (OfRect XY) = (58, lit< tt, refl)
 listed (OfWkb Plain) = (62, lit< tt, refl)

@@ -1,6 +1,4 @@
-use Rattle.geoarrow_layout.proofs.Terms.{◌≡◌, on_ok_weaker, ap, arith, rules, w8, to_z, of_z, to_z-of_z, tree}
-use Rattle.geoarrow_layout.proofs.Readings.{ok, refused}
-use Rattle.geoarrow_layout.proofs.FaultLaws.{native_sole_in, native_leads, union_leads, stays, kind_inside}
+use Rattle.geoarrow_layout.proofs.Lemmas.{◌≡◌, on_ok_weaker, ap, arith, rules, w8, to_z, of_z, to_z-of_z, tree, ok, refused, native_sole_in, native_leads, union_leads, stays, kind_inside}
 use Rattle.geoarrow_layout.proofs.fault.+paths.Goals as goal
 
 pub push_native-returns-in_default : goal.push_native-returns-in_default

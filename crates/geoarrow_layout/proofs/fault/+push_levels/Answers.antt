@@ -1,5 +1,4 @@
-use Rattle.geoarrow_layout.proofs.Terms.{on_ok_weaker, ◌-◌, arith, tree}
-use Rattle.geoarrow_layout.proofs.FaultLaws.{level_leads}
+use Rattle.geoarrow_layout.proofs.Lemmas.{on_ok_weaker, ◌-◌, arith, tree, level_leads}
 use Rattle.geoarrow_layout.proofs.fault.+push_levels.Goals as goal
 
 pub returns-in_ok-push-in-Some : goal.returns-in_ok-push-in-Some

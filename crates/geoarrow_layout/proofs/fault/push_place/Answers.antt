@@ -1,6 +1,4 @@
-use Rattle.geoarrow_layout.proofs.Terms.{◌≡◌, ◌∙◌, sym, ap, ◌++◌, ◌∷◌, [], subst, take, rules, w8, to_z, of_z, to_z-of_z, take_all, member_trees, HasFault, LeadsTo, inl, inr, FirstOrNone, MemberIn, MemberFaultIn}
-use Rattle.geoarrow_layout.proofs.Readings.{all_both, one_more}
-use Rattle.geoarrow_layout.proofs.FaultLaws.{first_apart, member_sole_in, at_member, Read, stays}
+use Rattle.geoarrow_layout.proofs.Lemmas.{◌≡◌, ◌∙◌, sym, ap, ◌++◌, ◌∷◌, [], subst, take, rules, w8, to_z, of_z, to_z-of_z, take_all, member_trees, HasFault, LeadsTo, inl, inr, FirstOrNone, MemberIn, MemberFaultIn, all_both, one_more, first_apart, member_sole_in, at_member, Read, stays}
 use Rattle.geoarrow_layout.proofs.fault.push_place.Goals as goal
 
 pub returns-in-Err : goal.returns-in-Err

@@ -1,5 +1,4 @@
-use Rattle.geoarrow_layout.proofs.Terms.{◌≡◌, take, member_trees, AllMembers, MemberIn}
-use Rattle.geoarrow_layout.proofs.FaultLaws.{Read}
+use Rattle.geoarrow_layout.proofs.Lemmas.{◌≡◌, take, member_trees, AllMembers, MemberIn, Read}
 use Rattle.geoarrow_layout.proofs.fault.push_place.Given as goal
 
 abbrev pub invariant-loop-place : goal.invariant-loop-place

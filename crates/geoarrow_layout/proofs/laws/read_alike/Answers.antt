@@ -1,6 +1,4 @@
-use Rattle.geoarrow_layout.proofs.Terms.{get_or_default, ◌<◌, get_or, sym, ap, subst, ◌∙◌, inl, inr, arith, cases_eq, name_of, YieldsKind, ALL}
-use Rattle.geoarrow_layout.proofs.KindSteps.{Told, moves}
-use Rattle.geoarrow_layout.proofs.Written.{listed}
+use Rattle.geoarrow_layout.proofs.Lemmas.{get_or_default, ◌<◌, get_or, sym, ap, subst, ◌∙◌, inl, inr, arith, cases_eq, name_of, YieldsKind, ALL, Told, moves, listed}
 use Rattle.geoarrow_layout.proofs.laws.read_alike.Goals as goal
 
 pub loop-kind-preserved : goal.loop-kind-preserved

@@ -1,5 +1,4 @@
-use Rattle.geoarrow_layout.proofs.Terms.{ALL, AllWithin}
-use Rattle.geoarrow_layout.proofs.KindSteps.{Told}
+use Rattle.geoarrow_layout.proofs.Lemmas.{ALL, AllWithin, Told}
 use Rattle.geoarrow_layout.proofs.laws.read_alike.Given as goal
 
 abbrev pub invariant-loop-kind : goal.invariant-loop-kind

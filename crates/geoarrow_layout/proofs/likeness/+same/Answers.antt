@@ -1,6 +1,4 @@
-use Rattle.geoarrow_layout.proofs.Terms.{◌≡◌, ◌↔◌, inl, inr, ℕ, zero, suc, ◌<◌, ◌+◌, ◌*◌, ◌∙◌, ℤ, List, [], ◌∷◌, length, get_or, drop, drop_more, sym, ap, subst, true≢false, arith, FieldTree, Tree, MemberTrees, no_members, member, depth, members_size, member_trees, AllMembers, SomeMember, Alike, EachHasAlike, HasAlike}
-use Rattle.geoarrow_layout.proofs.Readings.{all_some}
-use Rattle.geoarrow_layout.proofs.AlikeLaws.{has_among}
+use Rattle.geoarrow_layout.proofs.Lemmas.{◌≡◌, ◌↔◌, inl, inr, ℕ, zero, suc, ◌<◌, ◌+◌, ◌*◌, ◌∙◌, ℤ, List, [], ◌∷◌, length, get_or, drop, drop_more, sym, ap, subst, true≢false, arith, FieldTree, Tree, MemberTrees, no_members, member, depth, members_size, member_trees, AllMembers, SomeMember, Alike, EachHasAlike, HasAlike, all_some, has_among}
 use Rattle.geoarrow_layout.proofs.likeness.+same.Goals as goal
 
 -- a member lies less deep than its union

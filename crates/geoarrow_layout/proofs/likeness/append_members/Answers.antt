@@ -1,5 +1,4 @@
-use Rattle.geoarrow_layout.proofs.Terms.{Dimension, GeometryMember, Member, on_ok_weaker}
-use Rattle.geoarrow_layout.proofs.AlikeLaws.{filled_joined, joined_alike}
+use Rattle.geoarrow_layout.proofs.Lemmas.{Dimension, GeometryMember, Member, on_ok_weaker, filled_joined, joined_alike}
 use Rattle.geoarrow_layout.proofs.likeness.append_members.Goals as goal
 
 pub returns-clause-geometry : goal.returns-clause-geometry

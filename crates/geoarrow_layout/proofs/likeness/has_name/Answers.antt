@@ -1,6 +1,5 @@
 use Rattle.std.proofs.lemmas.Iterator.Search.{any_from_yields_List}
-use Rattle.geoarrow_layout.proofs.Terms.{tests, YieldsList-from_slice, ◌∙◌, rules, bytes_eq}
-use Rattle.geoarrow_layout.proofs.Structs.{has_name_fields}
+use Rattle.geoarrow_layout.proofs.Lemmas.{tests, YieldsList-from_slice, ◌∙◌, rules, bytes_eq, has_name_fields}
 use Rattle.geoarrow_layout.proofs.likeness.has_name.Goals as goal
 
 pub returns : goal.returns

@@ -1,5 +1,4 @@
-use Rattle.geoarrow_layout.proofs.Terms.{Dimension, GeometryMember, Member}
-use Rattle.geoarrow_layout.proofs.AlikeLaws.{filled_kept}
+use Rattle.geoarrow_layout.proofs.Lemmas.{Dimension, GeometryMember, Member, filled_kept}
 use Rattle.geoarrow_layout.proofs.likeness.keep_members.Goals as goal
 
 pub returns-clause-geometry : goal.returns-clause-geometry

@@ -1,5 +1,4 @@
-use Rattle.geoarrow_layout.proofs.Terms.{refl, BoxFault}
-use Rattle.geoarrow_layout.proofs.UnionSteps.{root_refused}
+use Rattle.geoarrow_layout.proofs.Lemmas.{refl, BoxFault, root_refused}
 use Rattle.geoarrow_layout.proofs.read.boxed.Goals as goal
 
 pub returns-in_err-count : goal.returns-in_err-count

@@ -1,6 +1,5 @@
-use Rattle.geoarrow_layout.proofs.Terms.{refl, tree, iff_false, LineString, Polygon, MultiPolygon, GeometryCollection, Point, second_kind}
+use Rattle.geoarrow_layout.proofs.Lemmas.{inl, inr, refl, tree, iff_false, LineString, Polygon, MultiPolygon, GeometryCollection, Point, second_kind, accepted_ok, alone, both, without, as_other, no_names}
 use Rattle.geoarrow_layout.specs.declared.names.ExtensionName.TheVariants as names
-use Rattle.geoarrow_layout.proofs.KindSteps.{accepted_ok, alone, both, point_alone, box_alone, as_other, no_names}
 use Rattle.geoarrow_layout.proofs.read.candidates.Goals as goal
 
 pub returns-then-is_ok : goal.returns-then-is_ok
@@ -13,10 +12,10 @@ pub returns-then-is_point : goal.returns-then-is_point
 returns-then-is_point c = both (names.Native Point) _ refl ((c.is_kind-is_point.ensures _ c.summarize-summary.ensures).0 c.if-is_point.true) ((c.is_kind.ensures _ c.summarize-summary.ensures).0 c.if-is_kind.true)
 
 pub returns-else-is_point : goal.returns-else-is_point
-returns-else-is_point c = box_alone _ (iff_false (c.is_kind-is_point.ensures _ c.summarize-summary.ensures) c.if-is_point.false) ((c.is_kind.ensures _ c.summarize-summary.ensures).0 c.if-is_kind.true)
+returns-else-is_point c = without names.Rect (names.Native Point) _ (λ n x. elim x [ inl e ↦ inr e | inr e ↦ inl e ]) ((c.is_kind.ensures _ c.summarize-summary.ensures).0 c.if-is_kind.true) (iff_false (c.is_kind-is_point.ensures _ c.summarize-summary.ensures) c.if-is_point.false)
 
 pub returns-then-is_point-2 : goal.returns-then-is_point-2
-returns-then-is_point-2 c = point_alone _ ((c.is_kind-is_point.ensures _ c.summarize-summary.ensures).0 c.if-is_point-2.true) (iff_false (c.is_kind.ensures _ c.summarize-summary.ensures) c.if-is_kind.false)
+returns-then-is_point-2 c = without (names.Native Point) names.Rect _ (λ n x. x) ((c.is_kind-is_point.ensures _ c.summarize-summary.ensures).0 c.if-is_point-2.true) (iff_false (c.is_kind.ensures _ c.summarize-summary.ensures) c.if-is_kind.false)
 
 pub returns-then-is_kind-2 : goal.returns-then-is_kind-2
 returns-then-is_kind-2 c = let h = (c.is_kind-else-is_point-2.ensures _ c.summarize-summary.ensures).0 c.if-is_kind-2.true in both (names.Native LineString) _ refl h (as_other LineString (second_kind LineString) _ (λ b d x. x) h)

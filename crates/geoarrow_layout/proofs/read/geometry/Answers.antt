@@ -1,5 +1,4 @@
-use Rattle.geoarrow_layout.proofs.Terms.{refl, GeometryFault}
-use Rattle.geoarrow_layout.proofs.UnionSteps.{root_refused}
+use Rattle.geoarrow_layout.proofs.Lemmas.{refl, GeometryFault, root_refused}
 use Rattle.geoarrow_layout.proofs.read.geometry.Goals as goal
 
 pub returns-in_err-no_members : goal.returns-in_err-no_members

@@ -1,5 +1,4 @@
-use Rattle.geoarrow_layout.proofs.Terms.{◌≡◌, rules, w32, to_z, of_z, to_z-of_z, ap, tree, Separated, Interleaved}
-use Rattle.geoarrow_layout.proofs.Structs.{agrees}
+use Rattle.geoarrow_layout.proofs.Lemmas.{◌≡◌, rules, w32, to_z, of_z, to_z-of_z, ap, tree, Separated, Interleaved, agrees}
 use Rattle.geoarrow_layout.proofs.read.infer_point.Goals as goal
 
 pub returns-in_ok-dimension-in-Struct-clause-agrees : goal.returns-in_ok-dimension-in-Struct-clause-agrees

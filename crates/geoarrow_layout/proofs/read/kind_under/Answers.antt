@@ -1,6 +1,4 @@
-use Rattle.geoarrow_layout.proofs.Terms.{refl, OfGeometry, OfRect}
-use Rattle.geoarrow_layout.proofs.UnionSteps.{inner_of}
-use Rattle.geoarrow_layout.proofs.Readings.{refused_as, told_map}
+use Rattle.geoarrow_layout.proofs.Lemmas.{refl, OfGeometry, OfRect, inner_of, refused_as, told_map}
 use Rattle.geoarrow_layout.proofs.read.kind_under.Goals as goal
 
 pub returns-in_err-pair-in-Native-clause-told : goal.returns-in_err-pair-in-Native-clause-told

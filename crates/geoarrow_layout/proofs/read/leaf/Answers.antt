@@ -1,5 +1,4 @@
-use Rattle.geoarrow_layout.proofs.Terms.{err_from_is_err_and}
-use Rattle.geoarrow_layout.proofs.Structs.{struct_no_leaf}
+use Rattle.geoarrow_layout.proofs.Lemmas.{err_from_is_err_and, struct_no_leaf}
 use Rattle.geoarrow_layout.proofs.read.leaf.Goals as goal
 
 pub returns-in_err-separated_dimension-in-Struct : goal.returns-in_err-separated_dimension-in-Struct

@@ -1,6 +1,4 @@
-use Rattle.geoarrow_layout.proofs.Terms.{◌≢◌, inl, inr, refl, rules, to_z-of_z, MemberDimension, NativeIn, NativeFaultIn}
-use Rattle.geoarrow_layout.proofs.Readings.{refused}
-use Rattle.geoarrow_layout.proofs.UnionSteps.{part_answer}
+use Rattle.geoarrow_layout.proofs.Lemmas.{◌≢◌, inl, inr, refl, rules, to_z-of_z, MemberDimension, NativeIn, NativeFaultIn, refused, part_answer}
 use Rattle.geoarrow_layout.proofs.read.member.Goals as goal
 
 pub returns-in-Ok-2 : goal.returns-in-Ok-2

@@ -1,5 +1,4 @@
-use Rattle.geoarrow_layout.proofs.Terms.{rules, ◌≢◌, BadFieldNames, sym, ◌∙◌, subst, SeparatedFault, names_of, field_trees}
-use Rattle.geoarrow_layout.proofs.Structs.{all_inferred, other_inferred, not_inferred}
+use Rattle.geoarrow_layout.proofs.Lemmas.{rules, ◌≢◌, BadFieldNames, sym, ◌∙◌, subst, SeparatedFault, names_of, field_trees, all_inferred, other_inferred, not_inferred}
 use Rattle.geoarrow_layout.proofs.read.named_dimension_of.Goals as goal
 
 pub returns-in-Err-BadFieldNames : goal.returns-in-Err-BadFieldNames

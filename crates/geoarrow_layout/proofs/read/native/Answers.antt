@@ -1,6 +1,4 @@
-use Rattle.geoarrow_layout.proofs.Terms.{length, refl, arith, Leaf, Mixed, CoordinateFault, MixedFault, IsNoLeaf, IsNested}
-use Rattle.geoarrow_layout.proofs.Readings.{under_same, level_fault, refused_as}
-use Rattle.geoarrow_layout.proofs.UnionSteps.{over_leaf_answer, nested_mixed, shows_of_inner}
+use Rattle.geoarrow_layout.proofs.Lemmas.{length, refl, arith, Leaf, Mixed, CoordinateFault, MixedFault, IsNoLeaf, IsNested, under_same, level_fault, refused_as, over_leaf_answer, nested_mixed, shows_of_inner}
 use Rattle.geoarrow_layout.proofs.read.native.Goals as goal
 
 pub returns-in_ok-bottom_below-in-GeometryCollection : goal.returns-in_ok-bottom_below-in-GeometryCollection

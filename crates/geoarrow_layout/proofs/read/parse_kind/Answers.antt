@@ -1,5 +1,4 @@
-use Rattle.geoarrow_layout.proofs.KindSteps.{kind_exact}
-use Rattle.geoarrow_layout.proofs.Readings.{told_fault}
+use Rattle.geoarrow_layout.proofs.Lemmas.{kind_exact, told_fault}
 use Rattle.geoarrow_layout.proofs.read.parse_kind.Goals as goal
 
 pub returns-in_default : goal.returns-in_default

@@ -1,7 +1,4 @@
-use Rattle.geoarrow_layout.proofs.Terms.{refl, MixedFault}
-use Rattle.geoarrow_layout.proofs.KindSteps.{mixed_exact}
-use Rattle.geoarrow_layout.proofs.UnionSteps.{at_root, root_mixed, root_refused}
-use Rattle.geoarrow_layout.proofs.Readings.{told_fault}
+use Rattle.geoarrow_layout.proofs.Lemmas.{refl, MixedFault, mixed_exact, at_root, root_mixed, root_refused, told_fault}
 use Rattle.geoarrow_layout.proofs.read.parse_mixed.Goals as goal
 
 pub returns : goal.returns

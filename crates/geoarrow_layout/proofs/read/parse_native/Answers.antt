@@ -1,6 +1,4 @@
-use Rattle.geoarrow_layout.proofs.KindSteps.{native_exact}
-use Rattle.geoarrow_layout.proofs.Readings.{told_fault}
-use Rattle.geoarrow_layout.proofs.UnionSteps.{inner_of}
+use Rattle.geoarrow_layout.proofs.Lemmas.{native_exact, told_fault, inner_of}
 use Rattle.geoarrow_layout.proofs.read.parse_native.Goals as goal
 
 pub returns : goal.returns

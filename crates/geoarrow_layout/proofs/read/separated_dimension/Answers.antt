@@ -1,5 +1,4 @@
-use Rattle.geoarrow_layout.proofs.Terms.{refl, sym, ◌∙◌, inl, inr, true≢false}
-use Rattle.geoarrow_layout.proofs.Structs.{no_third, same_three}
+use Rattle.geoarrow_layout.proofs.Lemmas.{refl, sym, ◌∙◌, inl, inr, true≢false, no_third, same_three}
 use Rattle.geoarrow_layout.proofs.read.separated_dimension.Goals as goal
 
 pub returns-in-3 : goal.returns-in-3

@@ -1,6 +1,4 @@
-use Rattle.geoarrow_layout.proofs.Terms.{rules, to_z-of_z, ◌≡◌, GeometryCollection, Dimension}
-use Rattle.geoarrow_layout.proofs.Readings.{some_parts}
-use Rattle.geoarrow_layout.proofs.UnionSteps.{a_collection, no_collection}
+use Rattle.geoarrow_layout.proofs.Lemmas.{rules, to_z-of_z, ◌≡◌, GeometryCollection, Dimension, some_parts, a_collection, no_collection}
 use Rattle.geoarrow_layout.proofs.summary.in_collection.Goals as goal
 
 pub returns-in-Some-GeometryCollection-default : goal.returns-in-Some-GeometryCollection-default

@@ -1,6 +1,4 @@
-use Rattle.geoarrow_layout.proofs.Terms.{subst, tree, rules, to_z-of_z, sym, AddsBits, Member, MemberFault, member_first}
-use Rattle.geoarrow_layout.proofs.FaultLaws.{member_sole}
-use Rattle.geoarrow_layout.proofs.UnionSteps.{seen_more, seen_none}
+use Rattle.geoarrow_layout.proofs.Lemmas.{subst, tree, rules, to_z-of_z, sym, AddsBits, Member, MemberFault, member_first, member_sole, seen_more, seen_none}
 use Rattle.geoarrow_layout.proofs.summary.inner_union.Goals as goal
 
 pub loop-item-init : goal.loop-item-init

@@ -1,6 +1,4 @@
-use Rattle.geoarrow_layout.proofs.Terms.{subst, rules, to_z-of_z, sym, AddsBits, Member, GeometryMember, MemberFault, GeometryMemberFault, geometry_member_first}
-use Rattle.geoarrow_layout.proofs.FaultLaws.{geometry_member_sole}
-use Rattle.geoarrow_layout.proofs.UnionSteps.{seen_more, seen_none, fault_next}
+use Rattle.geoarrow_layout.proofs.Lemmas.{subst, rules, to_z-of_z, sym, AddsBits, Member, GeometryMember, MemberFault, GeometryMemberFault, geometry_member_first, geometry_member_sole, seen_more, seen_none, fault_next}
 use Rattle.geoarrow_layout.proofs.summary.root_union.Goals as goal
 
 pub loop-item-init : goal.loop-item-init

@@ -1,5 +1,4 @@
-use Rattle.geoarrow_layout.proofs.Terms.{◌≡◌, refl, sym, ◌∙◌, ap, ◌&&◌, take_all, arith, w16, place_in, known_names, is_float64}
-use Rattle.geoarrow_layout.proofs.Structs.{length_names, adds_bit, no_bits, fields_seen_more}
+use Rattle.geoarrow_layout.proofs.Lemmas.{◌≡◌, refl, sym, ◌∙◌, ap, ◌&&◌, take_all, arith, w16, place_in, known_names, is_float64, length_names, adds_bit, no_bits, fields_seen_more}
 use Rattle.geoarrow_layout.proofs.summary.struct_bottom.Goals as goal
 
 pub loop-field-init : goal.loop-field-init

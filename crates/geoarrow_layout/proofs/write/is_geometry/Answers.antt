@@ -1,5 +1,4 @@
-use Rattle.geoarrow_layout.proofs.Terms.{ap, rules, tree, Dense, geometry_members}
-use Rattle.geoarrow_layout.proofs.Written.{union_same}
+use Rattle.geoarrow_layout.proofs.Lemmas.{ap, rules, tree, Dense, geometry_members, union_same}
 use Rattle.geoarrow_layout.proofs.write.is_geometry.Goals as goal
 
 pub returns : goal.returns

@@ -1,5 +1,4 @@
-use Rattle.geoarrow_layout.proofs.Terms.{ap, tree}
-use Rattle.geoarrow_layout.proofs.Written.{struct_same}
+use Rattle.geoarrow_layout.proofs.Lemmas.{ap, tree, struct_same}
 use Rattle.geoarrow_layout.proofs.write.is_struct.Goals as goal
 
 pub returns : goal.returns

@@ -1,5 +1,4 @@
-use Rattle.geoarrow_layout.proofs.Terms.{tests, Bor, YieldsList-from_slice, first_from_find, AllWithin, option_copied, ◌≡◌, ◌↔◌, ◌∙◌, sym, ap, arith, rules, Option, Some, None, MatchOption, same_Some, length, Tree, tree, Kind, layout, ALL}
-use Rattle.geoarrow_layout.proofs.Written.{listed, layouts_are_distinct}
+use Rattle.geoarrow_layout.proofs.Lemmas.{tests, Bor, YieldsList-from_slice, first_from_find, AllWithin, option_copied, ◌≡◌, ◌↔◌, ◌∙◌, sym, ap, arith, rules, Option, Some, None, MatchOption, same_Some, length, Tree, tree, Kind, layout, ALL, listed, layouts_are_distinct}
 use Rattle.geoarrow_layout.proofs.write.written_kind.Goals as goal
 
 -- the first kind with this layout is the one, and where there is none, no kind has it
