@@ -5,7 +5,7 @@ use Rattle.parquet_footer.specs.declared.logical.TimeUnit.{TimeUnit}
 use Rattle.parquet_footer.specs.Fault.{needed, ◌>>=◌}
 use Rattle.parquet_footer.specs.Wire.{byte_at, number_at, number_past, count_at, bytes_past, binary_at, text_at, list_at, map_at, field_at}
 use Rattle.parquet_footer.specs.Fields.{Spot, noted, noting, pair_at, value_of, number_in, named, name_in, text_in, flag_in, structs_in}
-use Rattle.parquet_footer.specs.Logical.{Logical, time, timestamp, algorithms, union_at, unit_of, unit_in, clock_at, clock, width_in, integer_at, geometry_at, geography_at, member_at, logical_at, logical_in}
+use Rattle.parquet_footer.specs.Logical.{algorithms, union_at, unit_of, unit_in, clock_at, width_in, integer_at, geometry_at, geography_at, member_at, logical_at, logical_in}
 use Rattle.parquet_footer.specs.Element.{physical_types, repetitions, storage_at, numbers_at, element_at}
 use Rattle.parquet_footer.specs.Footer.{all_at, key_value_at, footer_at}
 use Rattle.parquet_footer.specs.Skip.{fields_at, items_past, plain_past, over, struct_past, pair_past, nested_past, value_past}
@@ -243,14 +243,11 @@ module _ (n : ℕ) (bytes : List ℕ) (h : length bytes ≤ n) where
   unit_in_within p f = step (λ p. length p.1 ≤ n) _ n _ _ (place_within n bytes p h f) (λ p k. step (λ x. length x ≤ n) _ n _ _ (value_of_within n 12 p k) (λ x l.
       step (λ x. length x.1.1 ≤ n) _ n _ _ (union_within n x l) (λ u _. unit_within n x l u.0)))
 
-  pub clock_at_within : Within (λ x. Unit {0}) n (clock_at bytes)
+  pub clock_within : (id : ℕ) → Within (λ x. Unit {0}) n (clock_at id bytes)
   unfolding clock_at
-  clock_at_within = step (λ x. FoundBoth n x.0 × (length x.1 ≤ n)) _ n _ _ (pair_within n 1 2 bytes h) (λ found k.
+  clock_within id = step (λ x. FoundBoth n x.0 × (length x.1 ≤ n)) _ n _ _ (pair_within n 1 2 bytes h) (λ found k.
       step (λ x. Unit {0}) _ n _ _ (flag_within n bytes h found.0.0 k.0.0) (λ utc _.
       step (λ x. Unit {0}) _ n _ _ (unit_in_within found.0.1 k.0.1) (λ unit _. reads _ n _ tt)))
-
-  pub clock_within : (says : Bool → TimeUnit → Logical) → Within (λ x. Unit {0}) n (clock says bytes)
-  clock_within says = step (λ x. Unit {0}) _ n _ _ clock_at_within (λ found _. reads _ n _ tt)
 
   pub integer_within : Within (λ x. Unit {0}) n (integer_at bytes)
   unfolding integer_at
@@ -262,7 +259,7 @@ module _ (n : ℕ) (bytes : List ℕ) (h : length bytes ≤ n) where
   pub member_within : (id : ℕ) → Within (λ x. Unit {0}) n (member_at id bytes)
   unfolding member_at
   member_within id =
-      either _ n (id == 7) _ _ (clock_within n bytes h time) (either _ n (id == 8) _ _ (clock_within n bytes h timestamp) (either _ n (id == 10) _ _ (integer_within n bytes h)
+      either _ n (id == 7) _ _ (clock_within n bytes h id) (either _ n (id == 8) _ _ (clock_within n bytes h id) (either _ n (id == 10) _ _ (integer_within n bytes h)
       (either _ n (id == 17) _ _ (geometry_within n bytes h) (either _ n (id == 18) _ _ (geography_within n bytes h) (reads _ n _ tt)))))
 
 module _ (n : ℕ) (bytes : List ℕ) (h : length bytes ≤ n) where

@@ -65,18 +65,13 @@ width_in bytes place = do
   _ ← kept (width.0 == 8 || width.0 == 16 || width.0 == 32 || width.0 == 64) Name bytes
   Ok width.0
 
--- TIME and TIMESTAMP: 1 isAdjustedToUTC, 2 unit
-unfoldable pub clock_at : List ℕ → Result (Bool × TimeUnit) Fault
-clock_at bytes = do
+-- TIME, the member 7, and TIMESTAMP: 1 isAdjustedToUTC, 2 unit
+unfoldable pub clock_at : ℕ → List ℕ → Result Logical Fault
+clock_at id bytes = do
   found ← pair_at 1 2 bytes
   utc ← flag_in bytes found.0.0
   unit ← unit_in bytes found.0.1
-  Ok (utc, unit)
-
-abbrev pub clock : (Bool → TimeUnit → Logical) → List ℕ → Result Logical Fault
-clock says bytes = do
-  found ← clock_at bytes
-  Ok (says found.0 found.1)
+  Ok (if id == 7 then time utc unit else timestamp utc unit)
 
 -- INTEGER: 1 bitWidth, 2 isSigned
 unfoldable pub integer_at : List ℕ → Result Logical Fault
@@ -104,8 +99,8 @@ geography_at bytes = do
 -- the struct of a member, by its id
 unfoldable pub member_at : ℕ → List ℕ → Result Logical Fault
 member_at id bytes =
-    if id == 7 then clock time bytes else
-    if id == 8 then clock timestamp bytes else
+    if id == 7 then clock_at id bytes else
+    if id == 8 then clock_at id bytes else
     if id == 10 then integer_at bytes else
     if id == 17 then geometry_at bytes else
     if id == 18 then geography_at bytes else Ok (other id)

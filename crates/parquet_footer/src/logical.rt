@@ -111,13 +111,19 @@ fn union_at(bytes: &[u8]) -> Result<(u16, Place<'_>), Fault>
     }
 }
 
-/// What TIME and TIMESTAMP say: whether they are adjusted to UTC, and their unit.
+/// What TIME says, whose id is 7, or TIMESTAMP.
 #[tactic(auto, unfolding(crate::specs::Logical::clock_at))]
-fn clock_at(bytes: &[u8]) -> Result<(bool, TimeUnit), Fault>
-    ensures { result ≡ clock_at bytes.now }
+fn clock_at(id: u16, bytes: &[u8]) -> Result<LogicalType<'_>, Fault>
+    ensures { Returns logical result (clock_at id bytes.now) }
 {
     let (utc, unit, _) = pair_at(bytes, 1, 2)?;
-    Ok((flag_in(bytes, utc)?, unit_in(bytes, unit)?))
+    let utc = flag_in(bytes, utc)?;
+    let unit = unit_in(bytes, unit)?;
+    if id == 7 {
+        Ok(LogicalType::Time(utc, unit))
+    } else {
+        Ok(LogicalType::Timestamp(utc, unit))
+    }
 }
 
 /// What INTEGER says.
@@ -158,8 +164,7 @@ fn logical_at(bytes: &[u8]) -> Result<LogicalType<'_>, Fault>
         return Err(broken(Rule::WireType, bytes));
     }
     match id {
-        7 => clock_at(bytes).map(|(utc, unit)| LogicalType::Time(utc, unit)),
-        8 => clock_at(bytes).map(|(utc, unit)| LogicalType::Timestamp(utc, unit)),
+        7 | 8 => clock_at(id, bytes),
         10 => integer_at(bytes),
         17 => geometry_at(bytes),
         18 => geography_at(bytes),

@@ -54,11 +54,11 @@ pub fn number_past(bytes: &[u8], most: u32) -> Result<&[u8], Fault>
 pub fn count_at(bytes: &[u8]) -> Result<(u32, &[u8]), Fault>
     ensures { Returns (λ x. (x.0, x.1.now)) result (count_at bytes.now) }
 {
-    let (number, rest) = number_at(bytes, 5)?;
-    if number % 2 != 0 {
-        return Err(broken(Rule::Negative, bytes));
+    match number_at(bytes, 5) {
+        Ok((number, rest)) if number % 2 == 0 => Ok((number / 2, rest)),
+        Ok(_) => Err(broken(Rule::Negative, bytes)),
+        Err(fault) => Err(fault),
     }
-    Ok((number / 2, rest))
 }
 
 /// Passes over so many bytes.
@@ -91,10 +91,7 @@ pub fn text_at(bytes: &[u8]) -> Result<&str, Fault>
     ensures { Returns (λ x. x.now) result (text_at bytes.now) }
 {
     let (text, _) = binary_at(bytes)?;
-    match str::from_utf8(text) {
-        Ok(text) => Ok(text),
-        Err(_) => Err(broken(Rule::Utf8, bytes)),
-    }
+    str::from_utf8(text).or(Err(broken(Rule::Utf8, bytes)))
 }
 
 /// The type of an item, by the type in the head of its list or map.
