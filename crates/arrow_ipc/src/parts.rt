@@ -4,7 +4,7 @@ ghost use Rattle.std.specs.Prelude.{◌≡◌, ◌+◌, ◌*◌, ◌<◌, ◌≤
 ghost use Rattle.arrow_ipc.specs.Fault.{map_ok};
 ghost use Rattle.arrow_ipc.specs.Wire.{IsOpen};
 ghost use Rattle.arrow_ipc.specs.Kinds.{int_at, decimal_at, time_at, number_at, kind_at};
-ghost use Rattle.arrow_ipc.specs.Parts.{index_at, index_in, zone_or_ids, parts_of, parts_at};
+ghost use Rattle.arrow_ipc.specs.Parts.{index_in, zone_or_ids, parts_of, parts_at};
 
 use crate::fault::{Found, Rule, broken, ensure};
 use crate::wire::{
@@ -180,27 +180,23 @@ pub(crate) struct Parts<'a> {
     pub texts: Vector,
 }
 
-/// How the dictionary whose table is there is indexed, by 32-bit integers where nothing else is said.
-#[tactic(auto, unfolding(crate::specs::Parts::index_at))]
-fn index_at(bytes: &[u8], at: usize) -> Found<Index>
-    ensures { result ≡ index_at bytes.now at }
-{
-    let table = open(bytes, at)?;
-    let _id = integer_in(bytes, &table, 0, 8, 0)?;
-    let place = led_by(bytes, &table, 1)?;
-    let integers = place.map_or(Ok(DataType::Int32), |at| int_at(bytes, &open(bytes, at)?))?;
-    let ordered = flag_in(bytes, &table, 2)?;
-    Ok(Index { integers, ordered })
-}
-
-/// A column's dictionary, if it has one.
-#[tactic(auto, unfolding(crate::specs::Parts::index_in))]
+/// How a column's dictionary is indexed, if it has one: by 32-bit integers where nothing else is said.
+#[tactic(auto, unfolding(crate::specs::Parts::index_at, crate::specs::Parts::index_in))]
 fn index_in(bytes: &[u8], table: &Table) -> Found<Option<Index>>
     requires { IsOpen bytes.now table.now }
     ensures { result ≡ index_in bytes.now table.now }
 {
-    let place = led_by(bytes, table, 4)?;
-    place.map(|at| index_at(bytes, at)).transpose()
+    let Some(at) = led_by(bytes, table, 4)? else {
+        return Ok(None);
+    };
+    let own = open(bytes, at)?;
+    let _id = integer_in(bytes, &own, 0, 8, 0)?;
+    let integers = match led_by(bytes, &own, 1)? {
+        Some(at) => int_at(bytes, &open(bytes, at)?)?,
+        None => DataType::Int32,
+    };
+    let ordered = flag_in(bytes, &own, 2)?;
+    Ok(Some(Index { integers, ordered }))
 }
 
 /// What the table of a type has in slot 1: the time zone of a timestamp, and where the type ids of a union are, if it says them.
@@ -231,8 +227,8 @@ pub(crate) fn parts_at(bytes: &[u8], at: usize) -> Found<Parts<'_>>
     let name = text_in(bytes, &table, 0)?;
     let nullable = flag_in(bytes, &table, 1)?;
     let tag = integer_in(bytes, &table, 2, 1, 0)?;
-    ensure(tag > 0, Rule::Missing, table.at)?;
-    ensure(tag <= 26, Rule::Tag, table.at)?;
+    let rule = if tag == 0 { Rule::Missing } else { Rule::Tag };
+    ensure(0 < tag && tag <= 26, rule, table.at)?;
     let value = open(bytes, table_in(bytes, &table, 3)?)?;
     let _first = slot_at(bytes, &value, 0)?;
     let kind = kind_at(bytes, tag, &value)?;

@@ -53,11 +53,11 @@ fn spend(budget: &mut usize, amount: usize, one: &str, other: &str, at: usize) -
     ensures ok { OnOk result (budget.new + (amount + length one.now + length other.now) ≡ budget.old) }
     ensures err { IfErr result (λ e. (e ≡ IpcError.Budget at) × (budget.old < amount + length one.now + length other.now)) }
 {
-    let left = budget
-        .checked_sub(amount)
-        .and_then(|left| left.checked_sub(one.len()))
-        .and_then(|left| left.checked_sub(other.len()));
-    *budget = left.ok_or(IpcError::Budget(at))?;
+    let left = *budget;
+    if amount > left || one.len() > left - amount || other.len() > left - amount - one.len() {
+        return Err(IpcError::Budget(at));
+    }
+    *budget = left - amount - one.len() - other.len();
     Ok(())
 }
 
@@ -112,8 +112,9 @@ fn read_ids(alloc: Global, bytes: &[u8], parts: &Parts<'_>, count: usize) -> Rea
     requires { IfSome parts.now.ids (λ v. v.0 + 4 * v.1 ≤ length bytes.now) }
     ensures { Says (λ ids. ids.items) (ids_at bytes.now parts.now.table parts.now.ids count) result }
 {
-    let as_many = parts.ids.map_or(true, |ids| ids.1 == count);
-    ensure(as_many, Rule::TypeIds, parts.table)?;
+    if matches!(parts.ids, Some((_, written)) if written != count) {
+        return Err(IpcError::Broken(broken(Rule::TypeIds, parts.table)));
+    }
     let mut ids = Vec::new(alloc);
     'ids: for i in 0..count {
         let id = match parts.ids {

@@ -146,11 +146,10 @@ pub(crate) fn texts_block(alloc: Global, texts: &BTreeMap<String, String>) -> Bl
 pub(crate) fn type_block(alloc: Global, number: Option<u32>, truth: Option<bool>) -> Block
     ensures { Makes (type_block number truth) result }
 {
-    let places = [number.map_or(0, |_| 4), truth.map_or(0, |_| 8)];
-    let mut numbers = Vec::with_capacity(alloc, 8)?;
-    put_word(&mut numbers, number.unwrap_or(0))?;
-    numbers.extend_from_slice(&[truth.unwrap_or(false) as u8, 0, 0, 0])?;
-    table_block(alloc, &places, numbers.as_slice(), &[])
+    let places = [4 * number.is_some() as u8, 8 * truth.is_some() as u8];
+    let [a, b, c, d] = number.unwrap_or(0).to_le_bytes();
+    let numbers = [a, b, c, d, truth.unwrap_or(false) as u8, 0, 0, 0];
+    table_block(alloc, &places, &numbers, &[])
 }
 
 /// A column of any type.

@@ -1,7 +1,14 @@
-use Rattle.std.proofs.Common.{◌*◌, ◌-◌, length, arith}
-use Rattle.arrow_ipc.specs.Schema.{head_at, schema_at}
+use Rattle.std.proofs.Common.{◌≡◌, ℕ, ◌*◌, ◌-◌, length, Ok, ap, arith}
+use Rattle.arrow_ipc.specs.Schema.{Head, schema_tree, head_at, schema_at}
+use Rattle.arrow_ipc.specs.declared.schema.Schema.{Schema}
 use Rattle.arrow_ipc.proofs.schema.read_flatbuffer.Goals as goal
 
 pub returns : goal.returns
 unfolding schema_at head_at
-returns c = (8 * length c.args.bytes.now - c.read_texts.new.budget, grind arith, grind arith)
+returns c =
+    let led : c.args.place ≡ Ok c.in_ok-place.field-0 = grind arith in
+    let h : Head = record { endianness = c.match-branch-4.endianness; fields = c.in_ok-fields.fields; texts = c.unwrap_or-texts.result } in
+    let headed : head_at c.args.bytes.now c.in_ok-place.field-0 ≡ Ok h = grind arith in
+    let low = c.in_ok-read_columns.ensures.0 in
+    let s : Schema = record { columns = c.in_ok-read_columns.field-0; metadata = c.in_ok-read_texts.field-0; endianness = h.endianness } in
+    (8 * length c.args.bytes.now - c.read_texts.new.budget, omega (arith, low, c.in_ok-read_texts.ensures.0), rw (led, headed, c.in_ok-read_columns.ensures.1, c.in_ok-read_texts.ensures.1) (ap (λ (n : ℕ). Ok (schema_tree s, n)) (omega (arith, low, c.in_ok-read_texts.ensures.0))))
