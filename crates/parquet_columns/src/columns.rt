@@ -4,7 +4,7 @@ ghost use Rattle.arrow_columns.specs.Column.{column_tree};
 ghost use Rattle.parquet_footer.specs.Element.{element};
 ghost use Rattle.parquet_columns.specs.Fault.{Says, map_ok};
 ghost use Rattle.parquet_columns.specs.Nodes.{shape_tree, node_tree};
-ghost use Rattle.parquet_columns.specs.Columns.{has_children, kind_at, head_tree, head_at, children_of, leaf_shape, shape_at, nodes_by, node_at, columns_of};
+ghost use Rattle.parquet_columns.specs.Columns.{kind_at, head_tree, head_at, children_of, leaf_shape, shape_at, nodes_by, node_at, columns_of};
 
 use crate::annotation::{Annotation, annotation_of};
 use crate::fault::{ColumnsError, Fault, Rule};
@@ -35,34 +35,14 @@ struct Head<'s, 'a> {
     repetition: Repetition,
 }
 
-/// Whether an element has children.
-fn has_children(count: Option<u32>) -> bool
-    ensures { result ≡ has_children count }
-{
-    match count {
-        None => false,
-        Some(count) => 0 < count,
-    }
-}
-
 /// Whether an element is a leaf or a group.
 fn kind_at(at: usize, physical: Option<PhysicalType>, count: Option<u32>) -> Result<Kind, Fault>
     ensures { result ≡ kind_at at physical count }
 {
     match (physical, count) {
-        (Some(physical), count) => {
-            if has_children(count) {
-                return Err(Fault::new(Rule::Element, at));
-            }
-            Ok(Kind::Leaf(physical))
-        }
-        (None, Some(count)) => {
-            if count == 0 {
-                return Err(Fault::new(Rule::Element, at));
-            }
-            Ok(Kind::Group(count))
-        }
-        (None, None) => Err(Fault::new(Rule::Element, at)),
+        (Some(physical), None | Some(0)) => Ok(Kind::Leaf(physical)),
+        (None, Some(count)) if 0 < count => Ok(Kind::Group(count)),
+        _ => Err(Fault::new(Rule::Element, at)),
     }
 }
 

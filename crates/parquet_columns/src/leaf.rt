@@ -4,7 +4,7 @@ ghost use Rattle.arrow_values.specs.Tree.{plain};
 ghost use Rattle.arrow_values.specs.View.{tree};
 ghost use Rattle.arrow_columns.specs.Column.{type_tree};
 ghost use Rattle.parquet_columns.specs.Fault.{Says};
-ghost use Rattle.parquet_columns.specs.Leaf.{int32_of, int64_of, bytes_of, fixed_of, plain_of, time32_text, time64_text, timestamp_text, clock_text, may_be_decimal, digits_in, digits_of, decimal_text, fixed_type, is_null, leaf_type};
+ghost use Rattle.parquet_columns.specs.Leaf.{int32_of, int64_of, bytes_of, fixed_of, plain_of, time32_text, time64_text, timestamp_text, clock_text, may_be_decimal, digits_of, decimal_text, fixed_type, is_null, leaf_type};
 
 use crate::fault::{ColumnsError, Fault, Rule};
 use crate::meaning::Meaning;
@@ -115,34 +115,12 @@ fn may_be_decimal(physical: PhysicalType) -> bool
     }
 }
 
-/// The digits of decimal numbers, if they are 1 to 76.
-fn digits_in(precision: Option<u32>) -> Option<u32>
-    ensures { result ≡ digits_in precision }
-{
-    match precision {
-        Some(precision) => {
-            if 0 < precision && precision < 77 {
-                Some(precision)
-            } else {
-                None
-            }
-        }
-        None => None,
-    }
-}
-
-/// The digits of the decimal numbers that a leaf has.
+/// The digits of the decimal numbers that a leaf has, if they are 1 to 76.
 fn digits_of(physical: PhysicalType, meaning: Meaning, precision: Option<u32>) -> Option<u32>
     ensures { result ≡ digits_of physical meaning precision }
 {
-    match meaning {
-        Meaning::Decimal => {
-            if may_be_decimal(physical) {
-                digits_in(precision)
-            } else {
-                None
-            }
-        }
+    match (meaning, precision) {
+        (Meaning::Decimal, Some(1..=76)) if may_be_decimal(physical) => precision,
         _ => None,
     }
 }
@@ -151,10 +129,12 @@ fn digits_of(physical: PhysicalType, meaning: Meaning, precision: Option<u32>) -
 fn decimal_text(alloc: Global, precision: u32, scale: u32) -> Result<String, AllocError>
     ensures { IfOk result (λ text. string_bytes text ≡ decimal_text precision scale) }
 {
-    if precision < 39 {
-        return format!(in alloc; "decimal128({precision}, {scale})");
-    }
-    format!(in alloc; "decimal256({precision}, {scale})")
+    let word = if precision < 39 {
+        "decimal128"
+    } else {
+        "decimal256"
+    };
+    format!(in alloc; "{word}({precision}, {scale})")
 }
 
 /// The type of values of a fixed length.
@@ -162,14 +142,11 @@ fn fixed_type(alloc: Global, at: usize, length: Option<u32>) -> Result<ColumnTyp
     ensures { Says type_tree (fixed_type at length) result }
 {
     match length {
-        None => Err(ColumnsError::Broken(Fault::new(Rule::Length, at))),
-        Some(length) => {
-            if length >= 0x8000_0000 {
-                return Err(ColumnsError::Broken(Fault::new(Rule::Length, at)));
-            }
+        Some(length) if length < 0x8000_0000 => {
             let text = sized_notation(alloc, "fixed_size_binary", length as i32)?;
             Ok(ColumnType::Other(text))
         }
+        _ => Err(ColumnsError::Broken(Fault::new(Rule::Length, at))),
     }
 }
 
