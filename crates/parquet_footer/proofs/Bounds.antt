@@ -1,7 +1,6 @@
 -- A rule is broken within the bytes that are read: what a step leaves, and what it finds, is never longer than what it was given.
 use Rattle.std.proofs.Common.{◌≡◌, ℕ, zero, suc, ◌-◌, ◌/◌, ◌≤◌, nat_lt, List, [], ◌∷◌, length, Bool, true, false, Option, Some, None, Result, Ok, Err, subst, arith, length-drop, ◌==◌, if◌then◌else◌}
 use Rattle.parquet_footer.specs.declared.fault.Fault.{Fault}
-use Rattle.parquet_footer.specs.declared.logical.TimeUnit.{TimeUnit}
 use Rattle.parquet_footer.specs.Fault.{needed, ◌>>=◌}
 use Rattle.parquet_footer.specs.Wire.{byte_at, number_at, number_past, count_at, bytes_past, binary_at, text_at, list_at, map_at, field_at}
 use Rattle.parquet_footer.specs.Fields.{Spot, noted, noting, pair_at, value_of, number_in, named, name_in, text_in, flag_in, structs_in}

@@ -98,15 +98,16 @@ fn storage_at(bytes: &[u8]) -> Result<Storage<'_>, Fault>
     let type_length = number_in(length)?;
     let (repetition, name, _) = pair_at(bytes, 3, 4)?;
     let repetition = name_in(&REPETITIONS, repetition, bytes)?;
-    let Some(name) = text_in(name)? else {
-        return Err(broken(Rule::Missing, bytes));
-    };
-    Ok(Storage {
-        physical_type,
-        type_length,
-        repetition,
-        name,
-    })
+    match text_in(name) {
+        Ok(Some(name)) => Ok(Storage {
+            physical_type,
+            type_length,
+            repetition,
+            name,
+        }),
+        Ok(None) => Err(broken(Rule::Missing, bytes)),
+        Err(fault) => Err(fault),
+    }
 }
 
 /// The numbers in two fields of an element, by their ids, where they are there.

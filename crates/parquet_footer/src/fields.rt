@@ -68,12 +68,13 @@ pub fn number_in(place: Found<'_>) -> Result<Option<u32>, Fault>
 pub fn name_in<T: Copy>(names: &[T], place: Found<'_>, bytes: &[u8]) -> Result<Option<T>, Fault>
     ensures { result ≡ name_in names.now (spots place.entry) bytes.now }
 {
-    let Some(number) = number_in(place)? else {
-        return Ok(None);
-    };
-    match names.get(number as usize) {
-        Some(name) => Ok(Some(*name)),
-        None => Err(broken(Rule::Name, bytes)),
+    match number_in(place) {
+        Ok(Some(number)) => match names.get(number as usize) {
+            Some(name) => Ok(Some(*name)),
+            None => Err(broken(Rule::Name, bytes)),
+        },
+        Ok(None) => Ok(None),
+        Err(fault) => Err(fault),
     }
 }
 
@@ -108,9 +109,10 @@ pub fn structs_in(place: Found<'_>) -> Result<(u32, &[u8]), Fault>
 {
     match place {
         None => Ok((0, &[])),
-        Some(Place { kind: 9, bytes }) => match list_at(bytes)? {
-            (kind, count, rest) if kind == 12 || count == 0 => Ok((count, rest)),
-            _ => Err(broken(Rule::WireType, bytes)),
+        Some(Place { kind: 9, bytes }) => match list_at(bytes) {
+            Ok((kind, count, rest)) if kind == 12 || count == 0 => Ok((count, rest)),
+            Ok(_) => Err(broken(Rule::WireType, bytes)),
+            Err(fault) => Err(fault),
         },
         Some(place) => Err(broken(Rule::WireType, place.bytes)),
     }

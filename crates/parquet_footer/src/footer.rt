@@ -75,10 +75,10 @@ fn footer_at(alloc: Global, bytes: &[u8]) -> Result<Footer<'_>, Stop>
     ensures { Gives contents result (footer_at bytes.now) }
 {
     let (elements, pairs, _) = pair_at(bytes, 2, 5)?;
-    if elements.is_none() {
+    let Some(elements) = elements else {
         return Err(Stop::Fault(broken(Rule::Missing, bytes)));
-    }
-    let (elements, one) = structs_in(elements)?;
+    };
+    let (elements, one) = structs_in(Some(elements))?;
     let (pairs, other) = structs_in(pairs)?;
     Ok(Footer {
         schema: elements_at(alloc, elements, one)?,

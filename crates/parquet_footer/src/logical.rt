@@ -69,11 +69,12 @@ fn unit_in(bytes: &[u8], place: Found<'_>) -> Result<TimeUnit, Fault>
 {
     match place {
         None => Err(broken(Rule::Missing, bytes)),
-        Some(Place { kind: 12, bytes }) => match union_at(bytes)?.0 {
-            1 => Ok(TimeUnit::Millisecond),
-            2 => Ok(TimeUnit::Microsecond),
-            3 => Ok(TimeUnit::Nanosecond),
-            _ => Err(broken(Rule::Name, bytes)),
+        Some(Place { kind: 12, bytes }) => match union_at(bytes) {
+            Ok((1, _)) => Ok(TimeUnit::Millisecond),
+            Ok((2, _)) => Ok(TimeUnit::Microsecond),
+            Ok((3, _)) => Ok(TimeUnit::Nanosecond),
+            Ok(_) => Err(broken(Rule::Name, bytes)),
+            Err(fault) => Err(fault),
         },
         Some(place) => Err(broken(Rule::WireType, place.bytes)),
     }
@@ -104,10 +105,11 @@ fn union_at(bytes: &[u8]) -> Result<(u16, Place<'_>), Fault>
     if kind == 0 {
         return Err(broken(Rule::Union, bytes));
     }
-    match value_past(kind, value, LEVELS)? {
-        [] => Err(broken(Rule::End, &[])),
-        [0, ..] => Ok((id, Place { kind, bytes: value })),
-        rest => Err(broken(Rule::Union, rest)),
+    match value_past(kind, value, LEVELS) {
+        Ok([]) => Err(broken(Rule::End, &[])),
+        Ok([0, ..]) => Ok((id, Place { kind, bytes: value })),
+        Ok(rest) => Err(broken(Rule::Union, rest)),
+        Err(fault) => Err(fault),
     }
 }
 

@@ -19,11 +19,11 @@ pub fn number_at(bytes: &[u8], most: u32) -> Result<(u32, &[u8]), Fault>
     if most <= 1 {
         return Err(broken(Rule::Number, bytes));
     }
-    let (high, rest) = number_at(rest, most - 1)?;
-    if high >= 0x200_0000 {
-        return Err(broken(Rule::Number, bytes));
+    match number_at(rest, most - 1) {
+        Ok((high, rest)) if high < 0x200_0000 => Ok(((*byte as u32 - 128) + 128 * high, rest)),
+        Ok(_) => Err(broken(Rule::Number, bytes)),
+        Err(fault) => Err(fault),
     }
-    Ok(((*byte as u32 - 128) + 128 * high, rest))
 }
 
 /// Passes over a number in at most so many bytes, one at least.
@@ -77,12 +77,11 @@ pub fn bytes_past(bytes: &[u8], count: usize) -> Result<&[u8], Fault>
 pub fn binary_at(bytes: &[u8]) -> Result<(&[u8], &[u8]), Fault>
     ensures { Returns (λ x. (x.0.now, x.1.now)) result (binary_at bytes.now) }
 {
-    let (count, rest) = number_at(bytes, 5)?;
-    let count = count as usize;
-    if count > rest.len() {
-        return Err(broken(Rule::Length, bytes));
+    match number_at(bytes, 5) {
+        Ok((count, rest)) if count as usize <= rest.len() => Ok(rest.split_at(count as usize)),
+        Ok(_) => Err(broken(Rule::Length, bytes)),
+        Err(fault) => Err(fault),
     }
-    Ok(rest.split_at(count))
 }
 
 /// A text.
