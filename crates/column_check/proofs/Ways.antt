@@ -1,13 +1,17 @@
--- Warnings at the ends of ways, gathered by walks.
-use Rattle.std.proofs.Common.{◌≡◌, ℕ, zero, suc, ◌+◌, ◌<◌, ◌≤◌, Bool, true, false, cond, Bor, List, [], ◌∷◌, ◌++◌, length, get_or, take, drop, map, max, length-append, refl, sym, ap, ◌∙◌, arith, append_assoc, append-nil}
-use Rattle.std.proofs.lemmas.List.{at_drop_more, drop_all, map-append, map_push}
+-- Warnings at the ends of ways, as a walk finds them.
+use Rattle.std.proofs.Common.{◌≡◌, ℕ, zero, suc, ◌<◌, ◌≤◌, Bool, true, false, cond, List, [], ◌∷◌, ◌++◌, length, get_or, map, max, refl, sym, ap, ◌∙◌, arith, append_assoc, append-nil}
+use Rattle.std.proofs.lemmas.List.{map-append}
 use Rattle.std.proofs.lemmas.List.Elements.{filter-append}
-use Rattle.std.proofs.Math.Seq.{take-append_seam}
 use Rattle.std.specs.List.{filter}
-use Rattle.arrow_values.specs.Tree.{Text}
-use Rattle.column_check.specs.Parts.{Names, below, ways_to}
-use Rattle.column_check.specs.Warnings.{Said, at_each}
+use Rattle.arrow_values.specs.Tree.{Text, Metadata, Tree, plain, list, large_list, fixed_size_list, struct, union, FieldTrees, no_fields, field, MemberTrees, no_members, member}
+use Rattle.geoarrow_layout.specs.declared.encodings.Kind.{Kind}
+use Rattle.column_check.specs.Parts.{Names, below, coordinates_in, coordinates_of, and_below, fields_in, fields_of, members_of, ways_to}
+use Rattle.column_check.specs.Warnings.{Said, at_each, is_doubtful, has_extension_name}
+use Rattle.column_check.specs.Walk.{own, found, found_of, found_among, sought_warnings}
+use Rattle.column_check.specs.declared.walk.Sought.{Sought}
+use Rattle.column_check.specs.declared.walk.Sought.TheVariants.{Coordinates, Extensions}
 use Rattle.column_check.specs.declared.warning.WarningCode.{WarningCode}
+use Rattle.column_check.specs.declared.warning.WarningCode.TheVariants.{NestedGeometry}
 
 module _ (code : WarningCode) (there : Names) where
   -- the parts below a field are those on the way on
@@ -33,9 +37,9 @@ module _ (code : WarningCode) (there : Names) where
       ∙ map-append (λ way. (code, there ++ way)) (ways_to test parts) (ways_to test others)
 
   -- a part behind which stand those below it
-  own : {X : Type 0} (test : X → Bool) (name : Text) (m : X) (parts : List (Names × X))
+  pub at_own : {X : Type 0} (test : X → Bool) (name : Text) (m : X) (parts : List (Names × X))
       → at_each code there (ways_to test ((name ∷ [], m) ∷ below name parts)) ≡ cond (test m) ((code, there ++ name ∷ []) ∷ []) [] ++ at_each code (there ++ name ∷ []) (ways_to test parts)
-  own {X} test name m parts = here (test m) (at_below test name parts)
+  at_own {X} test name m parts = here (test m) (at_below test name parts)
     where
       rest : List (Names × X)
       rest = filter (λ x. test x.1) (below name parts)
@@ -45,60 +49,70 @@ module _ (code : WarningCode) (there : Names) where
       here false h = h
       here true h = ap (λ ws. (code, there ++ name ∷ []) ∷ ws) h
 
--- ---- one step down, to a field of that name
+-- two equations, of texts one behind the other
+join : {A : Type 0} (a b c d : List A) → a ≡ b → c ≡ d → a ++ c ≡ b ++ d
+join a b c d one other = ap (λ x. x ++ c) one ∙ ap (λ x. b ++ x) other
 
--- the names on a way
-abbrev names_on : List (Bor Text) → Names
-names_on way = map (λ name. name.now) way
+-- ---- what a walk finds is at the ends of the ways to the parts that are looked for
 
-module _ (code : WarningCode) {X : Type 0} (test : X → Bool) (way pushed : List (Bor Text)) (last : Bor Text) (name : Text) (parts : List (Names × X)) (is : pushed ≡ way ++ last ∷ []) (named : last.now ≡ name) where
-  one_on : names_on pushed ≡ names_on way ++ name ∷ []
-  one_on = ap names_on is ∙ map_push (λ n. n.now) way last ∙ ap (λ n. names_on way ++ n ∷ []) named
+module _ (code : WarningCode) (kind : Kind) where
+  abbrev at_doubtful : Names → List (Names × Tree) → List Said
+  at_doubtful way parts = at_each code way (ways_to (is_doubtful code kind) parts)
 
-  -- the parts below it
-  pub down : (before after : List Said) (there : List (Names × X)) → there ≡ parts → after ≡ before ++ at_each code (names_on pushed) (ways_to test there) → after ≡ before ++ at_each code (names_on way) (ways_to test (below name parts))
-  down before after there same added =
-      added ∙ ap (λ xs. before ++ at_each code (names_on pushed) (ways_to test xs)) same
-      ∙ ap (λ ns. before ++ at_each code ns (ways_to test parts)) one_on ∙ ap (λ l. before ++ l) (sym (at_below code (names_on way) test name parts))
+  here : (way : Names) (t : Tree) → cond (is_doubtful code kind t) ((code, way) ∷ []) [] ≡ at_doubtful way (([], t) ∷ [])
+  here way t = by_test (is_doubtful code kind t)
+    where
+      by_test : (b : Bool) → cond b ((code, way) ∷ []) [] ≡ at_each code way (map {A = Names × Tree} (λ x. x.0) (cond b (([], t) ∷ []) []))
+      by_test false = refl
+      by_test true = ap (λ names. (code, names) ∷ []) (sym (append-nil way))
 
-  -- the field itself, then the parts below it
-  pub down_from : (m : X) (before own_added all_added : List Said) (slice : List (Bor Text)) (there : List (Names × X)) → slice ≡ pushed → there ≡ parts → own_added ≡ before ++ cond (test m) ((code, names_on slice) ∷ []) []
-      → all_added ≡ own_added ++ at_each code (names_on pushed) (ways_to test there) → all_added ≡ before ++ at_each code (names_on way) (ways_to test ((name ∷ [], m) ∷ below name parts))
-  down_from m before own_added all_added slice there lent same here rest =
-      rest ∙ ap (λ xs. own_added ++ at_each code (names_on pushed) (ways_to test xs)) same
-      ∙ ap (λ l. l ++ at_each code (names_on pushed) (ways_to test parts)) (here ∙ ap (λ w. before ++ cond (test m) ((code, names_on w) ∷ []) []) lent)
-      ∙ append_assoc before (cond (test m) ((code, names_on pushed) ∷ []) []) (at_each code (names_on pushed) (ways_to test parts))
-      ∙ ap (λ ns. before ++ (cond (test m) ((code, ns) ∷ []) [] ++ at_each code ns (ways_to test parts))) one_on
-      ∙ ap (λ l. before ++ l) (sym (own code (names_on way) test name m parts))
+  mutual
+    pub doubtful_found : (way : Names) (t : Tree) → found (Coordinates code kind) way t ≡ at_doubtful way (coordinates_in t)
+    doubtful_found way (plain p) = refl
+    doubtful_found way (list n t b m) = doubtful_found (way ++ n ∷ []) t ∙ sym (at_below code way (is_doubtful code kind) n (coordinates_in t))
+    doubtful_found way (large_list n t b m) = doubtful_found (way ++ n ∷ []) t ∙ sym (at_below code way (is_doubtful code kind) n (coordinates_in t))
+    doubtful_found way (fixed_size_list n t b m size) = here way (fixed_size_list n t b m size)
+    doubtful_found way (struct fs) = here way (struct fs)
+    doubtful_found way (union ms mode) = doubtful_among way ms
 
--- ---- a loop that adds the warnings of each item
+    doubtful_among : (way : Names) (ms : MemberTrees) → found_among (Coordinates code kind) way ms ≡ at_doubtful way (coordinates_of ms)
+    doubtful_among way no_members = refl
+    doubtful_among way (member i n t b m ms) =
+        join _ _ _ _ (doubtful_found (way ++ n ∷ []) t ∙ sym (at_below code way (is_doubtful code kind) n (coordinates_in t))) (doubtful_among way ms)
+        ∙ sym (at_more code way (is_doubtful code kind) (below n (coordinates_in t)) (coordinates_of ms))
 
--- those so far, before those of the items that are left
-abbrev pub Rest : {A : Type 0} → (List A → List Said) → List A → ℕ → List Said → List Said → Type 0
-Rest all xs i before now = now ++ all (drop i xs) ≡ before ++ all xs
+abbrev at_named : Names → List (Names × Metadata) → List Said
+at_named way parts = at_each NestedGeometry way (ways_to has_extension_name parts)
 
-module _ {A : Type 0} (one : A → List Said) (all : List A → List Said) (law : (x : A) (xs : List A) → all (x ∷ xs) ≡ one x ++ all xs) (xs : List A) (i : ℕ) (before now : List Said) (so_far : Rest all xs i before now) where
-  pub goes_on : (x : A) (next : List Said) → i < length xs → x ≡ get_or xs i x → next ≡ now ++ one x → Rest all xs (i + 1) before next
-  goes_on x next lt is added =
-      let here = at_drop_more all xs i x lt ∙ law (get_or xs i x) (drop (i + 1) xs) ∙ ap (λ y. one y ++ all (drop (i + 1) xs)) (sym is) in
-      ap (λ l. l ++ all (drop (i + 1) xs)) added ∙ append_assoc now (one x) (all (drop (i + 1) xs)) ∙ ap (λ l. now ++ l) (sym here) ∙ so_far
+one_named : (way : Names) (n : Text) (m : Metadata) (parts : List (Names × Metadata)) (below : List Said) → below ≡ at_named (way ++ n ∷ []) parts
+    → own Extensions (way ++ n ∷ []) m ++ below ≡ at_named way (and_below n m parts)
+one_named way n m parts below is = ap (λ ws. own Extensions (way ++ n ∷ []) m ++ ws) is ∙ sym (at_own NestedGeometry way has_extension_name n m parts)
 
-  pub ends : {ys : List A} → all [] ≡ [] → length xs ≤ i → xs ≡ ys → now ≡ before ++ all ys
-  ends none le is =
-      let left : all (drop i xs) ≡ [] = ap all (drop_all i xs le) ∙ none in
-      sym (append-nil now) ∙ ap (λ l. now ++ l) (sym left) ∙ so_far ∙ ap (λ ys. before ++ all ys) is
+mutual
+  named_found : (way : Names) (t : Tree) → found Extensions way t ≡ at_named way (fields_in t)
+  named_found way (plain p) = refl
+  named_found way (list n t b m) = one_named way n m (fields_in t) _ (named_found (way ++ n ∷ []) t)
+  named_found way (large_list n t b m) = one_named way n m (fields_in t) _ (named_found (way ++ n ∷ []) t)
+  named_found way (fixed_size_list n t b m size) = one_named way n m (fields_in t) _ (named_found (way ++ n ∷ []) t)
+  named_found way (struct fs) = named_of way fs
+  named_found way (union ms mode) = named_among way ms
 
--- a loop over items that each have parts, which are gathered on the way that it began with
-module _ (code : WarningCode) {A X : Type 0} (test : X → Bool) (part : A → List (Names × X)) (parts : List A → List (Names × X)) (law : (x : A) (xs : List A) → parts (x ∷ xs) ≡ part x ++ parts xs)
-    (first : List (Bor Text)) where
-  abbrev at_parts : List (Names × X) → List Said
-  at_parts ps = at_each code (names_on first) (ways_to test ps)
+  named_of : (way : Names) (fs : FieldTrees) → found_of Extensions way fs ≡ at_named way (fields_of fs)
+  named_of way no_fields = refl
+  named_of way (field n t b m fs) =
+      join _ _ _ _ (one_named way n m (fields_in t) _ (named_found (way ++ n ∷ []) t)) (named_of way fs)
+      ∙ sym (at_more NestedGeometry way has_extension_name (and_below n m (fields_in t)) (fields_of fs))
 
-  pub gathers : (xs : List A) (i : ℕ) (before now : List Said) → Rest (λ ys. at_parts (parts ys)) xs i before now → (x : A) (way : List (Bor Text)) (next : List Said) → i < length xs → x ≡ get_or xs i x
-      → way ≡ first → next ≡ now ++ at_each code (names_on way) (ways_to test (part x)) → Rest (λ ys. at_parts (parts ys)) xs (i + 1) before next
-  gathers xs i before now so_far x way next lt is same added =
-      goes_on (λ y. at_parts (part y)) (λ ys. at_parts (parts ys)) (λ y ys. ap at_parts (law y ys) ∙ at_more code (names_on first) test (part y) (parts ys)) xs i before now so_far x next lt is
-      (added ∙ ap (λ w. now ++ at_each code (names_on w) (ways_to test (part x))) same)
+  named_among : (way : Names) (ms : MemberTrees) → found_among Extensions way ms ≡ at_named way (members_of ms)
+  named_among way no_members = refl
+  named_among way (member i n t b m ms) =
+      join _ _ _ _ (one_named way n m (fields_in t) _ (named_found (way ++ n ∷ []) t)) (named_among way ms)
+      ∙ sym (at_more NestedGeometry way has_extension_name (and_below n m (fields_in t)) (members_of ms))
+
+-- from a column on
+pub all_found : (s : Sought) (t : Tree) → found s [] t ≡ sought_warnings s t
+all_found (Coordinates code kind) t = doubtful_found code kind [] t
+all_found Extensions t = named_found [] t
 
 -- an item of a loop lies less deep than what it is in
 module _ {A : Type 0} (one : A → ℕ) (all : List A → ℕ) (more : (x : A) (xs : List A) → all (x ∷ xs) ≡ max (suc (one x)) (all xs)) where
@@ -106,12 +120,3 @@ module _ {A : Type 0} (one : A → ℕ) (all : List A → ℕ) (more : (x : A) (
   falls [] i x e lt is = absurd (omega arith)
   falls (y ∷ ys) zero x e lt is = rw (← e) (let same : one x ≡ one y = ap one is in let most = more y ys in omega arith)
   falls (y ∷ ys) (suc i) x e lt is = rw (← e) (let low = falls ys i x refl (omega arith) is in let most = more y ys in omega arith)
-
--- what a `pop` after a `push` leaves
-pub popped : {A : Type 0} (xs ys : List A) (x z : A) → xs ++ x ∷ [] ≡ ys ++ z ∷ [] → ys ≡ xs
-popped xs ys x z h =
-    let one : length (xs ++ x ∷ []) ≡ length xs + 1 = length-append xs (x ∷ []) in
-    let other : length (ys ++ z ∷ []) ≡ length ys + 1 = length-append ys (z ∷ []) in
-    let both : length (xs ++ x ∷ []) ≡ length (ys ++ z ∷ []) = ap length h in
-    let same : length ys ≡ length xs = omega (arith, one, other, both) in
-    sym (take-append_seam ys (z ∷ [])) ∙ ap (λ n. take n (ys ++ z ∷ [])) same ∙ ap (take (length xs)) (sym h) ∙ take-append_seam xs (x ∷ [])

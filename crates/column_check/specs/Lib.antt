@@ -5,4 +5,5 @@ pub mod Unique
 pub mod States
 pub mod Parts
 pub mod Warnings
+pub mod Walk
 pub mod Agrees

@@ -1,89 +1,21 @@
-//! What is doubtful of the coordinates of a data type.
-ghost use Rattle.std.specs.Prelude.{◌≡◌, ◌++◌, ◌∷◌, [], map, OnOk};
+//! What is doubtful of a coordinate.
+ghost use Rattle.std.specs.Prelude.{◌≡◌, ◌∷◌, [], map};
 ghost use Rattle.std.specs.List.{list_any};
 ghost use Rattle.std.specs.Str.{bytes_eq};
 ghost use Rattle.std.specs.Cmp.Lexicographic.{pointwise};
-ghost use Rattle.arrow_values.specs.View.{tree, field_trees, member_trees};
+ghost use Rattle.arrow_values.specs.View.{tree, field_trees};
 ghost use Rattle.geoarrow_layout.specs.Shapes.{names_of};
 ghost use Rattle.geoarrow_layout.specs.Layouts.{coordinate_names, box_names};
 ghost use Rattle.geoarrow_layout.specs.declared.kinds.Dimension.TheVariants.{XY, XYZ, XYM, XYZM};
 ghost use Rattle.geoarrow_layout.specs.Inferred.{is_float64, are_float64};
-ghost use Rattle.column_check.specs.Parts.{below, coordinates_in, coordinates_of, ways_to};
-ghost use Rattle.column_check.specs.Warnings.{said, at_each, lacks_doubles, lacks_axis_names, is_doubtful};
+ghost use Rattle.column_check.specs.Warnings.{lacks_doubles, lacks_axis_names, is_doubtful};
 
-use crate::warning::{Warning, WarningCode};
-use crate::way::push_at;
-use arrow_values::{DataType, Field, UnionFields};
+use crate::warning::WarningCode;
+use arrow_values::{DataType, Field};
 use geoarrow_schema::Kind;
-use std::alloc::{AllocError, Global};
-
-/// Adds that warning of each coordinate in a data type of which it holds, on the way to it.
-#[cycle(coordinates)]
-pub(crate) fn push_coordinates<'a>(
-    alloc: Global,
-    warnings: &mut Vec<Warning>,
-    way: &mut Vec<&'a str>,
-    code: WarningCode,
-    kind: Kind,
-    data_type: &'a DataType,
-) -> Result<(), AllocError>
-    ensures added { OnOk result (map said warnings.new.items ≡ map said warnings.old.items ++ at_each code (map (λ name. name.now) way.old.items) (ways_to (is_doubtful code kind) (coordinates_in (tree data_type.now)))) }
-    ensures way { OnOk result (way.new.items ≡ way.old.items) }
-{
-    match data_type {
-        DataType::List(item) | DataType::LargeList(item) => {
-            push_below(alloc, warnings, way, code, kind, item)
-        }
-        DataType::Union(members, _) => { push_members(alloc, warnings, way, code, kind, members) }
-        _ => {
-            if is_doubtful(code, kind, data_type) {
-                push_at(alloc, warnings, code, way.as_slice())?;
-            }
-            Ok(())
-        }
-    }
-}
-
-/// Adds it of each coordinate in the data type of a field.
-#[cycle(coordinates)]
-fn push_below<'a>(
-    alloc: Global,
-    warnings: &mut Vec<Warning>,
-    way: &mut Vec<&'a str>,
-    code: WarningCode,
-    kind: Kind,
-    field: &'a Field,
-) -> Result<(), AllocError>
-    ensures added { OnOk result (map said warnings.new.items ≡ map said warnings.old.items ++ at_each code (map (λ name. name.now) way.old.items) (ways_to (is_doubtful code kind) (below field.now.name (coordinates_in field.now.tree)))) }
-    ensures way { OnOk result (way.new.items ≡ way.old.items) }
-{
-    way.push(field.name())?;
-    push_coordinates(alloc, warnings, way, code, kind, field.data_type())?;
-    way.pop();
-    Ok(())
-}
-
-/// Adds it of each coordinate in the members of a union.
-#[cycle(coordinates)]
-fn push_members<'a>(
-    alloc: Global,
-    warnings: &mut Vec<Warning>,
-    way: &mut Vec<&'a str>,
-    code: WarningCode,
-    kind: Kind,
-    members: &'a UnionFields,
-) -> Result<(), AllocError>
-    ensures added { OnOk result (map said warnings.new.items ≡ map said warnings.old.items ++ at_each code (map (λ name. name.now) way.old.items) (ways_to (is_doubtful code kind) (coordinates_of (member_trees members.now)))) }
-    ensures way { OnOk result (way.new.items ≡ way.old.items) }
-{
-    for member in members.as_slice() {
-        push_below(alloc, warnings, way, code, kind, &member.1)?;
-    }
-    Ok(())
-}
 
 /// Whether that warning holds of a coordinate or a box; of any other data type, none does.
-fn is_doubtful(code: WarningCode, kind: Kind, data_type: &DataType) -> bool
+pub(crate) fn is_doubtful(code: WarningCode, kind: Kind, data_type: &DataType) -> bool
     ensures { result ≡ is_doubtful code kind (tree data_type.now) }
 {
     match code {

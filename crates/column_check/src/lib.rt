@@ -11,7 +11,7 @@ mod data_type;
 mod finding;
 pub mod laws;
 mod metadata;
-mod nested;
+mod walk;
 mod warning;
 mod way;
 

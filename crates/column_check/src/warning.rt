@@ -4,12 +4,12 @@ ghost use Rattle.serde_json.specs.View.{view};
 ghost use Rattle.geoarrow_meta.specs.Read.{some_has_float};
 ghost use Rattle.arrow_columns.specs.Column.{column_tree, type_tree};
 ghost use Rattle.column_check.specs.Metadata.{values_of};
-ghost use Rattle.column_check.specs.Warnings.{said, of_column, is_odd_crs, lacks_type, crs_warnings, geometry_warnings, nested_warnings, AreWarnings};
+ghost use Rattle.column_check.specs.Warnings.{said, is_odd_crs, lacks_type, crs_warnings, geometry_warnings, nested_warnings, AreWarnings};
 
-use crate::coordinates::push_coordinates;
 use crate::finding::{Finding, Geometry};
 use crate::metadata::ColumnMetadata;
-use crate::nested::push_nested;
+use crate::walk::{Sought, push_sought};
+use crate::way::{Way, push_if};
 use arrow_columns::{Column, ColumnType};
 use geoarrow_meta::holds_whole_numbers;
 use serde_json::Value;
@@ -64,7 +64,7 @@ pub fn warnings(
         push_geometry(alloc, &mut warnings, column, geometry)?;
     }
     if let ColumnType::Data(data_type) = &column.data_type {
-        push_nested(alloc, &mut warnings, &mut Vec::new(alloc), data_type)?;
+        push_sought(alloc, &mut warnings, Sought::Extensions, data_type)?;
     }
     Ok(warnings)
 }
@@ -82,10 +82,10 @@ fn push_geometry(
     let ColumnType::Data(data_type) = &column.data_type else {
         return Ok(());
     };
-    let mut way = Vec::new(alloc);
-    let (doubles, axes) = (WarningCode::CoordinatesNotDouble, WarningCode::AxisNames);
-    push_coordinates(alloc, warnings, &mut way, doubles, geometry.kind, data_type)?;
-    push_coordinates(alloc, warnings, &mut way, axes, geometry.kind, data_type)
+    let doubles = Sought::Coordinates(WarningCode::CoordinatesNotDouble, geometry.kind);
+    let axes = Sought::Coordinates(WarningCode::AxisNames, geometry.kind);
+    push_sought(alloc, warnings, doubles, data_type)?;
+    push_sought(alloc, warnings, axes, data_type)
 }
 
 /// Adds what is doubtful of a CRS.
@@ -99,19 +99,13 @@ fn push_crs(
     let Some(crs) = &metadata.crs else {
         return Ok(());
     };
-    push_if(
-        alloc,
-        warnings,
-        WarningCode::CrsNotWhole,
-        !holds_whole_numbers(crs),
-    )?;
-    push_if(
-        alloc,
-        warnings,
-        WarningCode::CrsWithoutType,
-        metadata.crs_type.is_none(),
-    )?;
-    push_if(alloc, warnings, WarningCode::CrsNumber, is_odd_crs(crs))
+    let way = &Way::Column;
+    let is_whole = holds_whole_numbers(crs);
+    let is_typed = metadata.crs_type.is_some();
+    let is_odd = is_odd_crs(crs);
+    push_if(alloc, warnings, WarningCode::CrsNotWhole, way, !is_whole)?;
+    push_if(alloc, warnings, WarningCode::CrsWithoutType, way, !is_typed)?;
+    push_if(alloc, warnings, WarningCode::CrsNumber, way, is_odd)
 }
 
 /// Whether a CRS is neither an object nor a text.
@@ -119,20 +113,4 @@ fn is_odd_crs(crs: &Value) -> bool
     ensures { result ≡ is_odd_crs (Some (view crs.now)) }
 {
     !matches!(crs, Value::Object(_) | Value::String(_))
-}
-
-/// Adds a warning of the column itself, if the test holds.
-fn push_if(
-    alloc: Global,
-    warnings: &mut Vec<Warning>,
-    code: WarningCode,
-    holds: bool,
-) -> Result<(), AllocError>
-    ensures { OnOk result (map said warnings.new.items ≡ map said warnings.old.items ++ of_column code holds) }
-{
-    if holds {
-        let path = Vec::new(alloc);
-        warnings.push(Warning { code, path })?;
-    }
-    Ok(())
 }

@@ -1,31 +1,45 @@
 //! Warnings at the end of a way.
-ghost use Rattle.std.specs.Prelude.{◌≡◌, ◌++◌, ◌∷◌, [], map, OnOk, IfOk, string_bytes};
+ghost use Rattle.std.specs.Prelude.{◌≡◌, ◌++◌, ◌∷◌, [], if◌then◌else◌, map, OnOk, string_bytes};
 ghost use Rattle.column_check.specs.Warnings.{said};
+ghost use Rattle.column_check.specs.Walk.{names_on};
 
 use crate::warning::{Warning, WarningCode};
 use std::alloc::{AllocError, Global};
 
-/// Adds that warning at the end of a way of names.
-pub(crate) fn push_at(
+/// The way from a column down to where a warning is.
+#[derive(Clone, Copy)]
+pub(crate) enum Way<'a> {
+    /// None: it is of the column itself.
+    Column,
+    /// A way, and from its end to a child field of that name.
+    Below(&'a Way<'a>, &'a str),
+}
+
+/// Adds that warning at the end of a way, if the test holds.
+pub(crate) fn push_if(
     alloc: Global,
     warnings: &mut Vec<Warning>,
     code: WarningCode,
-    way: &[&str],
+    way: &Way,
+    holds: bool,
 ) -> Result<(), AllocError>
-    ensures { OnOk result (map said warnings.new.items ≡ map said warnings.old.items ++ (code, map (λ name. name.now) way.now) ∷ []) }
+    ensures { OnOk result (map said warnings.new.items ≡ map said warnings.old.items ++ (if holds then (code, names_on way.now) ∷ [] else [])) }
 {
-    let path = owned(alloc, way)?;
-    warnings.push(Warning { code, path })?;
+    if holds {
+        let mut path = Vec::new(alloc);
+        push_names(alloc, &mut path, way)?;
+        warnings.push(Warning { code, path })?;
+    }
     Ok(())
 }
 
-/// The names, copied.
-fn owned(alloc: Global, way: &[&str]) -> Result<Vec<String>, AllocError>
-    ensures { IfOk result (λ names. map string_bytes names.items ≡ map (λ name. name.now) way.now) }
+/// Adds the names on a way, copied.
+fn push_names(alloc: Global, path: &mut Vec<String>, way: &Way) -> Result<(), AllocError>
+    ensures { OnOk result (map string_bytes path.new.items ≡ map string_bytes path.old.items ++ names_on way.now) }
 {
-    let mut names = Vec::new(alloc);
-    for name in way {
-        names.push(String::from_str(alloc, name)?)?;
+    if let Way::Below(above, name) = way {
+        push_names(alloc, path, above)?;
+        path.push(String::from_str(alloc, name)?)?;
     }
-    Ok(names)
+    Ok(())
 }

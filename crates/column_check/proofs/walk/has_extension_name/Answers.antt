@@ -10,7 +10,7 @@ use Rattle.geoarrow_layout.specs.declared.names.ExtensionName.TheVariants as nam
 use Rattle.geoarrow_layout.specs.Kinds.{name_text}
 use Rattle.geoarrow_layout.specs.Shapes.{has_name}
 use Rattle.column_check.specs.Warnings.{extensions, is_extension_name}
-use Rattle.column_check.proofs.nested.has_extension_name.Goals as goal
+use Rattle.column_check.proofs.walk.has_extension_name.Goals as goal
 
 -- each of the eleven is listed
 listed : (n : ExtensionName) → has_name (name_text n) (map name_text extensions) ≡ true

@@ -1,0 +1,113 @@
+//! The walk down a data type, which adds a warning of each part that is looked for.
+ghost use Rattle.std.specs.Prelude.{◌≡◌, ◌++◌, map, OnOk};
+ghost use Rattle.arrow_values.specs.View.{tree};
+ghost use Rattle.column_check.specs.Warnings.{said, has_extension_name};
+ghost use Rattle.column_check.specs.Walk.{names_on, is_own, found, found_at, sought_warnings};
+
+use crate::coordinates::is_doubtful;
+use crate::warning::{Warning, WarningCode};
+use crate::way::{Way, push_if};
+use arrow_values::{DataType, Field};
+use geoarrow_layout::ExtensionName;
+use geoarrow_schema::Kind;
+use std::alloc::{AllocError, Global};
+
+/// What is looked for in a data type.
+#[derive(Clone, Copy)]
+pub(crate) enum Sought {
+    /// Coordinates and boxes of which that warning holds, in a geometry of that kind.
+    Coordinates(WarningCode, Kind),
+    /// Fields with one of the eleven extension names.
+    Extensions,
+}
+
+/// Adds a warning of each part of a column's data type that is looked for, on the way to it.
+pub(crate) fn push_sought(
+    alloc: Global,
+    warnings: &mut Vec<Warning>,
+    sought: Sought,
+    data_type: &DataType,
+) -> Result<(), AllocError>
+    ensures { OnOk result (map said warnings.new.items ≡ map said warnings.old.items ++ sought_warnings sought (tree data_type.now)) }
+{
+    push_found(alloc, warnings, sought, &Way::Column, data_type)
+}
+
+/// Adds one of each part of the data type at the end of a way. A coordinate or a box has no other in it.
+#[cycle(walk)]
+fn push_found(
+    alloc: Global,
+    warnings: &mut Vec<Warning>,
+    sought: Sought,
+    way: &Way,
+    data_type: &DataType,
+) -> Result<(), AllocError>
+    ensures { OnOk result (map said warnings.new.items ≡ map said warnings.old.items ++ found sought (names_on way.now) (tree data_type.now)) }
+{
+    match data_type {
+        DataType::List(item) | DataType::LargeList(item) => {
+            push_at(alloc, warnings, sought, way, item)
+        }
+        DataType::FixedSizeList(item, _) => match sought {
+            Sought::Coordinates(code, kind) => {
+                let holds = is_doubtful(code, kind, data_type);
+                push_if(alloc, warnings, code, way, holds)
+            }
+            Sought::Extensions => push_at(alloc, warnings, sought, way, item),
+        },
+        DataType::Struct(fields) => {
+            if let Sought::Coordinates(code, kind) = sought {
+                let holds = is_doubtful(code, kind, data_type);
+                return push_if(alloc, warnings, code, way, holds);
+            }
+            for field in fields.as_slice() {
+                push_at(alloc, warnings, sought, way, field)?;
+            }
+            Ok(())
+        }
+        DataType::Union(members, _) => {
+            for member in members.as_slice() {
+                push_at(alloc, warnings, sought, way, &member.1)?;
+            }
+            Ok(())
+        }
+        _ => Ok(()),
+    }
+}
+
+/// Adds one of a child field, if it is looked for, and those of the parts below it.
+#[cycle(walk)]
+fn push_at(
+    alloc: Global,
+    warnings: &mut Vec<Warning>,
+    sought: Sought,
+    way: &Way,
+    field: &Field,
+) -> Result<(), AllocError>
+    ensures { OnOk result (map said warnings.new.items ≡ map said warnings.old.items ++ found_at sought (names_on way.now) field.now) }
+{
+    let here = Way::Below(&*way, field.name());
+    let holds = is_own(sought, field);
+    push_if(alloc, warnings, WarningCode::NestedGeometry, &here, holds)?;
+    push_found(alloc, warnings, sought, &here, field.data_type())
+}
+
+/// Whether a field itself is looked for.
+fn is_own(sought: Sought, field: &Field) -> bool
+    ensures { result ≡ is_own sought field.now.metadata }
+{
+    match sought {
+        Sought::Coordinates(..) => false,
+        Sought::Extensions => has_extension_name(field),
+    }
+}
+
+/// Whether a field has one of the eleven extension names.
+fn has_extension_name(field: &Field) -> bool
+    ensures { result ≡ has_extension_name field.now.metadata }
+{
+    match field.extension_type_name() {
+        Some(text) => ExtensionName::from_text(text).is_some(),
+        None => false,
+    }
+}
