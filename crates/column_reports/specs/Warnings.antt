@@ -7,23 +7,20 @@ use Rattle.column_check.specs.declared.warning.Warning.{Warning}
 use Rattle.column_reports.specs.Parts.{array_text}
 use Rattle.column_reports.specs.Reasons.{reason_text, place_words}
 
--- the code of a warning
-abbrev pub code_text : WarningCode → Text
-code_text CrsNotWhole = codes "CrsNotWhole"
-code_text CrsWithoutType = codes "CrsWithoutType"
-code_text CrsNumber = codes "CrsNumber"
-code_text CoordinatesNotDouble = codes "CoordinatesNotDouble"
-code_text AxisNames = codes "AxisNames"
-code_text NestedGeometry = codes "NestedGeometry"
+-- the code of a warning, and its message
+abbrev code_and_message : WarningCode → Text × Text
+code_and_message CrsNotWhole = (codes "CrsNotWhole", codes "CRS has a number that is not whole")
+code_and_message CrsWithoutType = (codes "CrsWithoutType", codes "CRS without crs_type")
+code_and_message CrsNumber = (codes "CrsNumber", codes "CRS is neither an object nor a text")
+code_and_message CoordinatesNotDouble = (codes "CoordinatesNotDouble", codes "coordinates are not float64")
+code_and_message AxisNames = (codes "AxisNames", codes "fields are not named after the axes, in their order")
+code_and_message NestedGeometry = (codes "NestedGeometry", codes "child field has a GeoArrow extension name")
 
--- the message of a warning
+abbrev pub code_text : WarningCode → Text
+code_text code = (code_and_message code).0
+
 abbrev pub warning_message : WarningCode → Text
-warning_message CrsNotWhole = codes "CRS has a number that is not whole"
-warning_message CrsWithoutType = codes "CRS without crs_type"
-warning_message CrsNumber = codes "CRS is neither an object nor a text"
-warning_message CoordinatesNotDouble = codes "coordinates are not float64"
-warning_message AxisNames = codes "fields are not named after the axes, in their order"
-warning_message NestedGeometry = codes "child field has a GeoArrow extension name"
+warning_message code = (code_and_message code).1
 
 -- a warning, as a reason is written
 abbrev pub warning_text : Warning → Text

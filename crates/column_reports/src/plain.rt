@@ -7,7 +7,7 @@ use crate::reasons::{
     CRS_TYPE_MESSAGE, EDGES_MESSAGE, EXTENSION_MESSAGE, NOT_JSON_MESSAGE, NOT_OBJECT_MESSAGE,
     type_message,
 };
-use crate::warnings::warning_message;
+use crate::warnings::code_and_message;
 use column_check::{MetadataFault, Reasons, TypeFault, Warning};
 use std::alloc::{AllocError, Global};
 
@@ -49,11 +49,8 @@ pub fn warning_words(alloc: Global, warnings: &[Warning]) -> Result<Vec<String>,
 {
     let mut words = Vec::new(alloc);
     for warning in warnings {
-        words.push(words_at(
-            alloc,
-            warning_message(warning.code),
-            warning.path.as_slice(),
-        )?)?;
+        let (_, message) = code_and_message(warning.code);
+        words.push(words_at(alloc, message, warning.path.as_slice())?)?;
     }
     Ok(words)
 }

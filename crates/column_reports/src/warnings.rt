@@ -9,31 +9,26 @@ use column_check::{Warning, WarningCode};
 use json::Writer;
 use std::alloc::AllocError;
 
-/// The code of a warning.
-fn code_text(code: WarningCode) -> &'static str
-    ensures { result.now ≡ code_text code }
+/// The code of a warning, and its message.
+pub(crate) fn code_and_message(code: WarningCode) -> (&'static str, &'static str)
+    ensures { (result.0.now ≡ code_text code) × (result.1.now ≡ warning_message code) }
 {
     match code {
-        WarningCode::CrsNotWhole => "CrsNotWhole",
-        WarningCode::CrsWithoutType => "CrsWithoutType",
-        WarningCode::CrsNumber => "CrsNumber",
-        WarningCode::CoordinatesNotDouble => "CoordinatesNotDouble",
-        WarningCode::AxisNames => "AxisNames",
-        WarningCode::NestedGeometry => "NestedGeometry",
-    }
-}
-
-/// The message of a warning.
-pub(crate) fn warning_message(code: WarningCode) -> &'static str
-    ensures { result.now ≡ warning_message code }
-{
-    match code {
-        WarningCode::CrsNotWhole => "CRS has a number that is not whole",
-        WarningCode::CrsWithoutType => "CRS without crs_type",
-        WarningCode::CrsNumber => "CRS is neither an object nor a text",
-        WarningCode::CoordinatesNotDouble => "coordinates are not float64",
-        WarningCode::AxisNames => "fields are not named after the axes, in their order",
-        WarningCode::NestedGeometry => "child field has a GeoArrow extension name",
+        WarningCode::CrsNotWhole => ("CrsNotWhole", "CRS has a number that is not whole"),
+        WarningCode::CrsWithoutType => ("CrsWithoutType", "CRS without crs_type"),
+        WarningCode::CrsNumber => ("CrsNumber", "CRS is neither an object nor a text"),
+        WarningCode::CoordinatesNotDouble => (
+            "CoordinatesNotDouble",
+            "coordinates are not float64",
+        ),
+        WarningCode::AxisNames => (
+            "AxisNames",
+            "fields are not named after the axes, in their order",
+        ),
+        WarningCode::NestedGeometry => (
+            "NestedGeometry",
+            "child field has a GeoArrow extension name",
+        ),
     }
 }
 
@@ -56,11 +51,6 @@ pub(crate) fn put_warnings(out: &mut Writer, warnings: &[Warning]) -> Result<(),
 fn put_warning(out: &mut Writer, warning: &Warning) -> Result<(), AllocError>
     ensures { OnOk result (AddsParts (warning_text warning.now ∷ []) out.old out.new) }
 {
-    let code = code_text(warning.code);
-    put_reason(
-        out,
-        code,
-        warning_message(warning.code),
-        warning.path.as_slice(),
-    )
+    let (code, message) = code_and_message(warning.code);
+    put_reason(out, code, message, warning.path.as_slice())
 }
