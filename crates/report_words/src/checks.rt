@@ -65,12 +65,7 @@ pub fn has_failed(findings: &Option<Vec<GeoFinding>>) -> bool
 fn is_one_failed(findings: &[GeoFinding]) -> bool
     ensures { result ≡ list_any is_failed findings.now }
 {
-    for finding in findings {
-        if !finding.ok {
-            return true;
-        }
-    }
-    false
+    findings.iter().any(|finding| !finding.ok)
 }
 
 /// The warning in words, if the file has geometries.
