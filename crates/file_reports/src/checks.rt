@@ -78,12 +78,7 @@ fn checked_by(
 fn has_failed(findings: &[GeoFinding]) -> bool
     ensures { result ≡ list_any is_failed findings.now }
 {
-    for finding in findings {
-        if !finding.ok {
-            return true;
-        }
-    }
-    false
+    findings.iter().any(|finding| !finding.ok)
 }
 
 /// The report with the lines of the checks that do not hold behind its own. Errs only when out of memory.
