@@ -1,5 +1,5 @@
 -- Warnings at the ends of ways, as a walk finds them.
-use Rattle.std.proofs.Common.{◌≡◌, ℕ, zero, suc, ◌<◌, ◌≤◌, Bool, true, false, cond, List, [], ◌∷◌, ◌++◌, length, get_or, map, max, refl, sym, ap, ◌∙◌, arith, append_assoc, append-nil}
+use Rattle.std.proofs.Common.{◌≡◌, ℕ, zero, suc, ◌<◌, ◌≤◌, Bool, true, false, cond, List, [], ◌∷◌, ◌++◌, length, get_or, map, max, refl, sym, ap, ap₂, ◌∙◌, arith, append_assoc, append-nil}
 use Rattle.std.proofs.lemmas.List.{map-append}
 use Rattle.std.proofs.lemmas.List.Elements.{filter-append}
 use Rattle.std.specs.List.{filter}
@@ -49,10 +49,6 @@ module _ (code : WarningCode) (there : Names) where
       here false h = h
       here true h = ap (λ ws. (code, there ++ name ∷ []) ∷ ws) h
 
--- two equations, of texts one behind the other
-join : {A : Type 0} (a b c d : List A) → a ≡ b → c ≡ d → a ++ c ≡ b ++ d
-join a b c d one other = ap (λ x. x ++ c) one ∙ ap (λ x. b ++ x) other
-
 -- ---- what a walk finds is at the ends of the ways to the parts that are looked for
 
 module _ (code : WarningCode) (kind : Kind) where
@@ -78,7 +74,7 @@ module _ (code : WarningCode) (kind : Kind) where
     doubtful_among : (way : Names) (ms : MemberTrees) → found_among (Coordinates code kind) way ms ≡ at_doubtful way (coordinates_of ms)
     doubtful_among way no_members = refl
     doubtful_among way (member i n t b m ms) =
-        join _ _ _ _ (doubtful_found (way ++ n ∷ []) t ∙ sym (at_below code way (is_doubtful code kind) n (coordinates_in t))) (doubtful_among way ms)
+        ap₂ (λ x y. x ++ y) (doubtful_found (way ++ n ∷ []) t ∙ sym (at_below code way (is_doubtful code kind) n (coordinates_in t))) (doubtful_among way ms)
         ∙ sym (at_more code way (is_doubtful code kind) (below n (coordinates_in t)) (coordinates_of ms))
 
 abbrev at_named : Names → List (Names × Metadata) → List Said
@@ -100,13 +96,13 @@ mutual
   named_of : (way : Names) (fs : FieldTrees) → found_of Extensions way fs ≡ at_named way (fields_of fs)
   named_of way no_fields = refl
   named_of way (field n t b m fs) =
-      join _ _ _ _ (one_named way n m (fields_in t) _ (named_found (way ++ n ∷ []) t)) (named_of way fs)
+      ap₂ (λ x y. x ++ y) (one_named way n m (fields_in t) _ (named_found (way ++ n ∷ []) t)) (named_of way fs)
       ∙ sym (at_more NestedGeometry way has_extension_name (and_below n m (fields_in t)) (fields_of fs))
 
   named_among : (way : Names) (ms : MemberTrees) → found_among Extensions way ms ≡ at_named way (members_of ms)
   named_among way no_members = refl
   named_among way (member i n t b m ms) =
-      join _ _ _ _ (one_named way n m (fields_in t) _ (named_found (way ++ n ∷ []) t)) (named_among way ms)
+      ap₂ (λ x y. x ++ y) (one_named way n m (fields_in t) _ (named_found (way ++ n ∷ []) t)) (named_among way ms)
       ∙ sym (at_more NestedGeometry way has_extension_name (and_below n m (fields_in t)) (members_of ms))
 
 -- from a column on
