@@ -2,7 +2,7 @@
 use Rattle.std.proofs.Common.{◌≡◌, ◌≢◌, ◌⊎◌, inl, inr, ℕ, suc, ◌+◌, ◌-◌, ◌<◌, ◌≤◌, true, eqb, List, [], ◌∷◌, ◌++◌, length, take, drop, get_or, None, Some, refl, sym, ap, ◌∙◌, subst, append_assoc, append-nil, drop-cons, length-append, length-take, All, arith}
 use Rattle.std.proofs.lemmas.Bool.{eq-eqb, eqb-true}
 use Rattle.std.proofs.lemmas.List.{take-append-drop, take_rest, get_or-take}
-use Rattle.std.proofs.lemmas.List.Elements.{All-nil, All-push, All-from_get_or}
+use Rattle.std.proofs.lemmas.List.Elements.{All-push, All-from_get_or}
 use Rattle.memchr.specs.Find.{is_byte, IsFirstByte}
 use Rattle.geoarrow_fields.specs.Lines.{Bytes, line_feed, max_lines, max_line_bytes, lines_of, ended_lines, IsLine, IsWithinLimits, IsPastLimit, Stops}
 
@@ -12,15 +12,6 @@ IsBehind count rest input = Stops (λ n later. (n ≡ count) × (later ≡ rest)
 
 abbrev IsShort : Bytes → Type 0
 IsShort line = length line ≤ max_line_bytes
-
-pub behind_none : (input : Bytes) → IsBehind 0 input input
-behind_none input = record {
-  lines = [];
-  later = input;
-  split = record { joined = refl; each = All-nil IsLine };
-  within = record { few = omega arith; short = All-nil IsShort };
-  cause = (refl, refl);
-}
 
 -- what stands after a line that comes last
 ended_last : (lines : List Bytes) (line : Bytes) → ended_lines (lines ++ line ∷ []) ≡ ended_lines lines ++ (line ++ (line_feed ∷ []))
