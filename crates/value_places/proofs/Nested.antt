@@ -129,6 +129,19 @@ module _ (whole : Bool) where
     pub rest : r ≡ punctuate after_value (zs ++ ls)
     pub again : (k' : ℕ) → k ≤ k' → (ls' : List Lexeme) → Tail ls' → g k' ls' ≡ Some (a, punctuate after_value (zs ++ ls'))
 
+  -- these tokens are followed by those of zs
+  module _ {A : Type 0} {g : ℕ → List Lexeme → Option (A × List Token)} {k n bound : ℕ} {a : A} {r : List Token} {ls : List Lexeme} (tail : Tail ls) where
+    followed : (x : A) (zs : List Lexeme) → Ends whole n zs → length zs < bound → g k ls ≡ Some (a, r) → ((k' : ℕ) (ls' : List Lexeme) → Tail ls' → g k' ls' ≡ Some (x, punctuate after_value (zs ++ ls'))) → Goes g k n bound a r ls
+    followed x zs ends less e taken =
+        let h = same_pair a x r (punctuate after_value (zs ++ ls)) (sym e ∙ taken k ls tail) in
+        record { zs = zs; ends = ends; fewer = less; rest = h.1; again = λ k' low ls' tail'. taken k' ls' tail' ∙ ap (λ y. Some (y, punctuate after_value (zs ++ ls'))) (sym h.0) }
+
+  -- they are taken where these of another value are
+  module _ {A B : Type 0} {f : ℕ → List Lexeme → Option (B × List Token)} {g : ℕ → List Lexeme → Option (A × List Token)} {j k n low high : ℕ} {a : A} {b : B} {r : List Token} {ls : List Lexeme} where
+    carried : Goes f j n low b r ls → low ≤ high → ((k' : ℕ) → k ≤ k' → (ls' : List Lexeme) → Tail ls' → (rest : List Token) → ((j' : ℕ) → j ≤ j' → f j' ls' ≡ Some (b, rest)) → g k' ls' ≡ Some (a, rest)) → Goes g k n high a r ls
+    carried i less taken =
+        record { zs = i.zs; ends = i.ends; fewer = omega (arith, i.fewer); rest = i.rest; again = λ k' le ls' tail. taken k' le ls' tail (punctuate after_value (i.zs ++ ls')) (λ j' at. i.again j' at ls' tail) }
+
   abbrev ValuesGo : ℕ → Type 0
   ValuesGo b = (k : ℕ) (p : Place) (n : ℕ) (xs ls : List Lexeme) (d : Data) (r : List Token) → Tail ls → length xs < b → Ends whole (suc n) xs → next_value k (punctuate p (xs ++ ls)) ≡ Some (d, r)
       → Goes (λ k ls. next_value k (punctuate p (xs ++ ls))) k (suc n) (length xs) d r ls
@@ -167,46 +180,24 @@ module _ (whole : Bool) where
   opened_array b zero n zs ls d r items tail le ends e = absurd (none_some (sym (array_too_deep (punctuate fresh (zs ++ ls))) ∙ e))
   opened_array b (suc k) n zs ls d r items tail le ends e =
       let m = mapped values.array (next_items k (punctuate fresh (zs ++ ls))) d r (sym (next_array k (punctuate fresh (zs ++ ls))) ∙ e) in
-      let g = items k fresh n zs ls m.0 r tail le ends m.1 in
-      record {
-        zs = g.zs;
-        ends = g.ends;
-        fewer = g.fewer;
-        rest = g.rest;
-        again = λ k' le ls' tail. again_array k k' le (punctuate fresh (zs ++ ls')) (punctuate after_value (g.zs ++ ls')) m.0 (λ j low. g.again j low ls' tail) ∙ ap (λ x. Some (x, punctuate after_value (g.zs ++ ls'))) (sym m.2);
-      }
+      carried (items k fresh n zs ls m.0 r tail le ends m.1) (omega arith) (λ k' le ls' tail rest more. again_array k k' le (punctuate fresh (zs ++ ls')) rest m.0 more ∙ ap (λ x. Some (x, rest)) (sym m.2))
 
   opened_object : (b k n : ℕ) (zs ls : List Lexeme) (d : Data) (r : List Token) → MembersGo b → Tail ls → length zs < b → Ends whole (suc n) zs → next_value k (begin_object ∷ punctuate fresh (zs ++ ls)) ≡ Some (d, r)
       → Goes (λ k ls. next_value k (begin_object ∷ punctuate fresh (zs ++ ls))) k n (length zs) d r ls
   opened_object b zero n zs ls d r members tail le ends e = absurd (none_some (sym (object_too_deep (punctuate fresh (zs ++ ls))) ∙ e))
   opened_object b (suc k) n zs ls d r members tail le ends e =
       let m = mapped values.object (next_members k no_members (punctuate fresh (zs ++ ls))) d r (sym (next_object k (punctuate fresh (zs ++ ls))) ∙ e) in
-      let g = members k fresh n zs ls no_members m.0 r tail le ends m.1 in
-      record {
-        zs = g.zs;
-        ends = g.ends;
-        fewer = g.fewer;
-        rest = g.rest;
-        again = λ k' le ls' tail. again_object k k' le (punctuate fresh (zs ++ ls')) (punctuate after_value (g.zs ++ ls')) m.0 (λ j low. g.again j low ls' tail) ∙ ap (λ x. Some (x, punctuate after_value (g.zs ++ ls'))) (sym m.2);
-      }
+      carried (members k fresh n zs ls no_members m.0 r tail le ends m.1) (omega arith) (λ k' le ls' tail rest more. again_object k k' le (punctuate fresh (zs ++ ls')) rest m.0 more ∙ ap (λ x. Some (x, rest)) (sym m.2))
 
   module _ (k : ℕ) (p : Place) (n : ℕ) (xs zs ls : List Lexeme) (d : Data) (r : List Token) (tail : Tail ls) where
     leaf : (t : Token) (o : Option Data) → Rule t o → ((ls : List Lexeme) → Tail ls → punctuate p (xs ++ ls) ≡ t ∷ punctuate after_value (zs ++ ls)) → length zs < length xs → Ends whole (suc n) zs
         → next_value k (t ∷ punctuate after_value (zs ++ ls)) ≡ Some (d, r) → Goes (λ k ls. next_value k (punctuate p (xs ++ ls))) k (suc n) (length xs) d r ls
     leaf t None rule s less ends e = absurd (none_some (sym (rule k (punctuate after_value (zs ++ ls))) ∙ e))
-    leaf t (Some x) rule s less ends e =
-        let h = same_pair d x r (punctuate after_value (zs ++ ls)) (sym e ∙ rule k (punctuate after_value (zs ++ ls))) in
-        record {
-          zs = zs;
-          ends = ends;
-          fewer = less;
-          rest = h.1;
-          again = λ k' le ls' tail. ap (next_value k') (s ls' tail) ∙ rule k' (punctuate after_value (zs ++ ls')) ∙ ap (λ y. Some (y, punctuate after_value (zs ++ ls'))) (sym h.0);
-        }
+    leaf t (Some x) rule s less ends e = followed tail x zs ends less (ap (next_value k) (s ls tail) ∙ e) (λ k' ls' tail. ap (next_value k') (s ls' tail) ∙ rule k' (punctuate after_value (zs ++ ls')))
 
     carry : (t : Token) → ((ls : List Lexeme) → Tail ls → punctuate p (xs ++ ls) ≡ t ∷ punctuate (place_after t) (zs ++ ls)) → length zs < length xs
         → Goes (λ k ls. next_value k (t ∷ punctuate (place_after t) (zs ++ ls))) k (suc n) (length zs) d r ls → Goes (λ k ls. next_value k (punctuate p (xs ++ ls))) k (suc n) (length xs) d r ls
-    carry t s less g = record { zs = g.zs; ends = g.ends; fewer = omega (arith, g.fewer); rest = g.rest; again = λ k' le ls' tail. ap (next_value k') (s ls' tail) ∙ g.again k' le ls' tail }
+    carry t s less g = carried g (omega arith) (λ k' le ls' tail rest more. ap (next_value k') (s ls' tail) ∙ more k' le)
 
     by_token : (b : ℕ) → ItemsGo b → MembersGo b → (t : Token) → ((ls : List Lexeme) → Tail ls → punctuate p (xs ++ ls) ≡ t ∷ punctuate (place_after t) (zs ++ ls)) → length zs < length xs → length xs < suc b
         → Ends whole (open_after (kind_of_token t) n) zs → next_value k (t ∷ punctuate (place_after t) (zs ++ ls)) ≡ Some (d, r) → Goes (λ k ls. next_value k (punctuate p (xs ++ ls))) k (suc n) (length xs) d r ls
@@ -255,27 +246,12 @@ module _ (whole : Bool) where
     items_more_at (Some q) is going =
         let v = value k p n xs ls q.0 q.1 tail le ends is in
         let m = mapped (item q.0) (next_items k q.1) ds r (sym (item_read k (punctuate p (xs ++ ls)) q.1 q.0 (going ls tail) is) ∙ e) in
-        let i = items k after_value n v.zs ls m.0 r tail (omega (arith, v.fewer)) v.ends (ap (next_items k) (sym v.rest) ∙ m.1) in
-        record {
-          zs = i.zs;
-          ends = i.ends;
-          fewer = omega (arith, v.fewer, i.fewer);
-          rest = i.rest;
-          again = λ k' low ls' tail'. item_read k' (punctuate p (xs ++ ls')) (punctuate after_value (v.zs ++ ls')) q.0 (going ls' tail') (v.again k' low ls' tail')
-              ∙ ap (parse_map (item q.0)) (i.again k' low ls' tail') ∙ ap (λ x. Some (x, punctuate after_value (i.zs ++ ls'))) (sym m.2);
-        }
+        carried (items k after_value n v.zs ls m.0 r tail (omega (arith, v.fewer)) v.ends (ap (next_items k) (sym v.rest) ∙ m.1)) (omega (arith, v.fewer))
+        (λ k' low ls' tail' rest more. item_read k' (punctuate p (xs ++ ls')) (punctuate after_value (v.zs ++ ls')) q.0 (going ls' tail') (v.again k' low ls' tail') ∙ ap (parse_map (item q.0)) (more k' low) ∙ ap (λ x. Some (x, rest)) (sym m.2))
 
     items_end_at : (zs : List Lexeme) → ((ls : List Lexeme) → Tail ls → punctuate p (xs ++ ls) ≡ end_array ∷ punctuate after_value (zs ++ ls)) → length zs < length xs → Ends whole n zs
         → Goes (λ k ls. next_items k (punctuate p (xs ++ ls))) k n (length xs) ds r ls
-    items_end_at zs s less over =
-        let h = same_pair ds no_items r (punctuate after_value (zs ++ ls)) (sym e ∙ items_over k (punctuate p (xs ++ ls)) (punctuate after_value (zs ++ ls)) (ap after_end_array (s ls tail))) in
-        record {
-          zs = zs;
-          ends = over;
-          fewer = less;
-          rest = h.1;
-          again = λ k' low ls' tail'. items_over k' (punctuate p (xs ++ ls')) (punctuate after_value (zs ++ ls')) (ap after_end_array (s ls' tail')) ∙ ap (λ x. Some (x, punctuate after_value (zs ++ ls'))) (sym h.0);
-        }
+    items_end_at zs s less over = followed tail no_items zs over less e (λ k' ls' tail'. items_over k' (punctuate p (xs ++ ls')) (punctuate after_value (zs ++ ls')) (ap after_end_array (s ls' tail')))
 
     items_by : (t : Token) (zs : List Lexeme) → ((ls : List Lexeme) → Tail ls → punctuate p (xs ++ ls) ≡ t ∷ punctuate (place_after t) (zs ++ ls)) → length zs < length xs → Ends whole (open_after (kind_of_token t) n) zs
         → (t ≡ end_array) ⊎ NoEnd t → Goes (λ k ls. next_items k (punctuate p (xs ++ ls))) k n (length xs) ds r ls
@@ -321,26 +297,11 @@ module _ (whole : Bool) where
     members_more_at w zs (Some q) s less over is =
         let v = value k after_key n zs ls q.0 q.1 tail (omega arith) over is in
         let m = sym (member_read k found w (punctuate p (xs ++ ls)) (punctuate after_key (zs ++ ls)) q.1 q.0 (ap read_key (s ls tail)) is) ∙ e in
-        let i = members k after_value n v.zs ls (put w q.0 found) ms r tail (omega (arith, v.fewer)) v.ends (ap (next_members k (put w q.0 found)) (sym v.rest) ∙ m) in
-        record {
-          zs = i.zs;
-          ends = i.ends;
-          fewer = omega (arith, v.fewer, i.fewer);
-          rest = i.rest;
-          again = λ k' low ls' tail'. member_read k' found w (punctuate p (xs ++ ls')) (punctuate after_key (zs ++ ls')) (punctuate after_value (v.zs ++ ls')) q.0 (ap read_key (s ls' tail')) (v.again k' low ls' tail')
-              ∙ i.again k' low ls' tail';
-        }
+        carried (members k after_value n v.zs ls (put w q.0 found) ms r tail (omega (arith, v.fewer)) v.ends (ap (next_members k (put w q.0 found)) (sym v.rest) ∙ m)) (omega (arith, v.fewer))
+        (λ k' low ls' tail' rest more. member_read k' found w (punctuate p (xs ++ ls')) (punctuate after_key (zs ++ ls')) (punctuate after_value (v.zs ++ ls')) q.0 (ap read_key (s ls' tail')) (v.again k' low ls' tail') ∙ more k' low)
 
     members_end_at : (zs : List Lexeme) → ((ls : List Lexeme) → Tail ls → punctuate p (xs ++ ls) ≡ end_object ∷ punctuate after_value (zs ++ ls)) → length zs < length xs → Ends whole n zs → Found
-    members_end_at zs s less over =
-        let h = same_pair ms found r (punctuate after_value (zs ++ ls)) (sym e ∙ members_over k found (punctuate p (xs ++ ls)) (punctuate after_value (zs ++ ls)) (ap read_key (s ls tail))) in
-        record {
-          zs = zs;
-          ends = over;
-          fewer = less;
-          rest = h.1;
-          again = λ k' low ls' tail'. members_over k' found (punctuate p (xs ++ ls')) (punctuate after_value (zs ++ ls')) (ap read_key (s ls' tail')) ∙ ap (λ x. Some (x, punctuate after_value (zs ++ ls'))) (sym h.0);
-        }
+    members_end_at zs s less over = followed tail found zs over less e (λ k' ls' tail'. members_over k' found (punctuate p (xs ++ ls')) (punctuate after_value (zs ++ ls')) (ap read_key (s ls' tail')))
 
     members_by : (t : Token) (zs : List Lexeme) → ((ls : List Lexeme) → Tail ls → punctuate p (xs ++ ls) ≡ t ∷ punctuate (place_after t) (zs ++ ls)) → length zs < length xs → Ends whole (open_after (kind_of_token t) n) zs → KeyCase t → Found
     members_by t zs s less over (at_end is) =
