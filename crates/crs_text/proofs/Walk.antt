@@ -1,5 +1,5 @@
 -- The members that are taken so far, by their tokens and by their places.
-use Rattle.std.proofs.Common.{◌≡◌, ℕ, ◌≤◌, List, [], ◌∷◌, ◌++◌, length, Bool, true, false, Option, None, Some, Result, Ok, Err, sym, ap, ◌∙◌, subst, append_assoc}
+use Rattle.std.proofs.Common.{◌≡◌, ℕ, ◌≤◌, List, [], ◌∷◌, ◌++◌, length, Bool, true, false, Option, None, Some, Result, Ok, Err, refl, sym, ap, ◌∙◌, subst, append_assoc}
 use Rattle.std.specs.Prelude.{IfSome, OnErr}
 use Rattle.std.proofs.lemmas.List.{append-nil}
 use Rattle.json.specs.Token.{Token}
@@ -25,6 +25,11 @@ pub record SoFar (text wanted : List ℕ) (depth from : ℕ) (all left : List To
   pub places : List Member
   pub are : (rest : List Member) → AreMembers text after at rest → AreMembers text false from (places ++ rest)
   pub last : IfSome found (λ p. IsLast wanted places p.from p.to)
+
+-- ---- the start
+
+pub none_yet : {text wanted : List ℕ} {depth from : ℕ} {all : List Token} → all ≡ tokens_left false text from → from ≤ length text → SoFar text wanted depth from all all from None
+none_yet begins inside = record { after = false; stands = begins; within = inside; members = no_members; decides = refl; value = refl; places = []; are = λ rest are. are; last = tt }
 
 -- ---- a member of another key behind the last one
 

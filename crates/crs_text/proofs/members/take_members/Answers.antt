@@ -3,21 +3,11 @@ use Rattle.std.proofs.lemmas.Slice.Eq.{bytes_eq-Decides}
 use Rattle.json.specs.Json.{read_key}
 use Rattle.serde_json.specs.Data.{no_members}
 use Rattle.value_tokens.specs.Turns.{key_refused, member_refused, members_over}
-use Rattle.crs_text.proofs.Walk.{wanted_found, other_found, last_of_all, on_err}
+use Rattle.crs_text.proofs.Walk.{none_yet, wanted_found, other_found, last_of_all, on_err}
 use Rattle.crs_text.proofs.members.take_members.Goals as goal
 
 pub members-init : goal.members-init
-members-init c = record {
-  after = false;
-  stands = c.requires.begins;
-  within = c.requires.within;
-  members = no_members;
-  decides = refl;
-  value = refl;
-  places = [];
-  are = λ rest are. are;
-  last = tt;
-}
+members-init c = none_yet c.requires.begins c.requires.within
 
 pub returns-in_err-key-clause-refused : goal.returns-in_err-key-clause-refused
 returns-in_err-key-clause-refused c =

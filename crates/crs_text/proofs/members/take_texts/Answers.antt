@@ -2,25 +2,12 @@ use Rattle.std.proofs.Common.{◌≡◌, [], false, Some, None, refl, sym, ap, �
 use Rattle.json.specs.Json.{read_key}
 use Rattle.serde_json.specs.Data.{no_members}
 use Rattle.value_tokens.specs.Turns.{key_refused, member_refused}
+use Rattle.crs_text.proofs.Walk.{none_yet}
 use Rattle.crs_text.proofs.Texts.{one_more, all_taken}
 use Rattle.crs_text.proofs.members.take_texts.Goals as goal
 
 pub members-init : goal.members-init
-members-init c = λ key. record {
-  found = None;
-  way = record {
-    after = false;
-    stands = c.requires.begins;
-    within = c.requires.within;
-    members = no_members;
-    decides = refl;
-    value = refl;
-    places = [];
-    are = λ rest are. are;
-    last = tt;
-  };
-  here = rw c.new-texts.ensures.empty;
-}
+members-init c = λ key. record { found = None; way = none_yet c.requires.begins c.requires.within; here = rw c.new-texts.ensures.empty }
 
 pub returns-in_err-name-clause-refused : goal.returns-in_err-name-clause-refused
 returns-in_err-name-clause-refused c = λ _.
