@@ -48,6 +48,9 @@ numbered : (o : Option Num) (ts : List Token) → option_map (λ n. (values.numb
 numbered None ts = refl
 numbered (Some n) ts = refl
 
+never_some : {A : Type 0} {a : A} → None ≡ Some a → ⊥
+never_some e = cc
+
 module _ (whole : Bool) where
   -- what may follow: anything behind a whole value, and nothing where the text ends before
   abbrev pub Tail : List Lexeme → Type 0
@@ -154,9 +157,6 @@ module _ (whole : Bool) where
   MembersGo b = (k : ℕ) (p : Place) (n : ℕ) (xs ls : List Lexeme) (found ms : Members) (r : List Token) → Tail ls → length xs < b → Ends whole (suc n) xs → next_members k found (punctuate p (xs ++ ls)) ≡ Some (ms, r)
       → Goes (λ k ls. next_members k found (punctuate p (xs ++ ls))) k n (length xs) ms r ls
 
-  none_some : {A : Type 0} {a : A} → None ≡ Some a → ⊥
-  none_some e = cc
-
   refuses_value : (k : ℕ) (ts : List Token) → Refuses ts → next_value k ts ≡ None
   refuses_value k ts (inl e) = no_value k ts e
   refuses_value k ts (inr e) = ap (next_value k) e ∙ no_bad k []
@@ -177,14 +177,14 @@ module _ (whole : Bool) where
 
   opened_array : (b k n : ℕ) (zs ls : List Lexeme) (d : Data) (r : List Token) → ItemsGo b → Tail ls → length zs < b → Ends whole (suc n) zs → next_value k (begin_array ∷ punctuate fresh (zs ++ ls)) ≡ Some (d, r)
       → Goes (λ k ls. next_value k (begin_array ∷ punctuate fresh (zs ++ ls))) k n (length zs) d r ls
-  opened_array b zero n zs ls d r items tail le ends e = absurd (none_some (sym (array_too_deep (punctuate fresh (zs ++ ls))) ∙ e))
+  opened_array b zero n zs ls d r items tail le ends e = absurd (never_some (sym (array_too_deep (punctuate fresh (zs ++ ls))) ∙ e))
   opened_array b (suc k) n zs ls d r items tail le ends e =
       let m = mapped values.array (next_items k (punctuate fresh (zs ++ ls))) d r (sym (next_array k (punctuate fresh (zs ++ ls))) ∙ e) in
       carried (items k fresh n zs ls m.0 r tail le ends m.1) (omega arith) (λ k' le ls' tail rest more. again_array k k' le (punctuate fresh (zs ++ ls')) rest m.0 more ∙ ap (λ x. Some (x, rest)) (sym m.2))
 
   opened_object : (b k n : ℕ) (zs ls : List Lexeme) (d : Data) (r : List Token) → MembersGo b → Tail ls → length zs < b → Ends whole (suc n) zs → next_value k (begin_object ∷ punctuate fresh (zs ++ ls)) ≡ Some (d, r)
       → Goes (λ k ls. next_value k (begin_object ∷ punctuate fresh (zs ++ ls))) k n (length zs) d r ls
-  opened_object b zero n zs ls d r members tail le ends e = absurd (none_some (sym (object_too_deep (punctuate fresh (zs ++ ls))) ∙ e))
+  opened_object b zero n zs ls d r members tail le ends e = absurd (never_some (sym (object_too_deep (punctuate fresh (zs ++ ls))) ∙ e))
   opened_object b (suc k) n zs ls d r members tail le ends e =
       let m = mapped values.object (next_members k no_members (punctuate fresh (zs ++ ls))) d r (sym (next_object k (punctuate fresh (zs ++ ls))) ∙ e) in
       carried (members k fresh n zs ls no_members m.0 r tail le ends m.1) (omega arith) (λ k' le ls' tail rest more. again_object k k' le (punctuate fresh (zs ++ ls')) rest m.0 more ∙ ap (λ x. Some (x, rest)) (sym m.2))
@@ -192,7 +192,7 @@ module _ (whole : Bool) where
   module _ (k : ℕ) (p : Place) (n : ℕ) (xs zs ls : List Lexeme) (d : Data) (r : List Token) (tail : Tail ls) where
     leaf : (t : Token) (o : Option Data) → Rule t o → ((ls : List Lexeme) → Tail ls → punctuate p (xs ++ ls) ≡ t ∷ punctuate after_value (zs ++ ls)) → length zs < length xs → Ends whole (suc n) zs
         → next_value k (t ∷ punctuate after_value (zs ++ ls)) ≡ Some (d, r) → Goes (λ k ls. next_value k (punctuate p (xs ++ ls))) k (suc n) (length xs) d r ls
-    leaf t None rule s less ends e = absurd (none_some (sym (rule k (punctuate after_value (zs ++ ls))) ∙ e))
+    leaf t None rule s less ends e = absurd (never_some (sym (rule k (punctuate after_value (zs ++ ls))) ∙ e))
     leaf t (Some x) rule s less ends e = followed tail x zs ends less (ap (next_value k) (s ls tail) ∙ e) (λ k' ls' tail. ap (next_value k') (s ls' tail) ∙ rule k' (punctuate after_value (zs ++ ls')))
 
     carry : (t : Token) → ((ls : List Lexeme) → Tail ls → punctuate p (xs ++ ls) ≡ t ∷ punctuate (place_after t) (zs ++ ls)) → length zs < length xs
@@ -203,18 +203,18 @@ module _ (whole : Bool) where
         → Ends whole (open_after (kind_of_token t) n) zs → next_value k (t ∷ punctuate (place_after t) (zs ++ ls)) ≡ Some (d, r) → Goes (λ k ls. next_value k (punctuate p (xs ++ ls))) k (suc n) (length xs) d r ls
     by_token b items members begin_array s less le ends e = carry begin_array s less (opened_array b k (suc n) zs ls d r items tail (omega arith) ends e)
     by_token b items members begin_object s less le ends e = carry begin_object s less (opened_object b k (suc n) zs ls d r members tail (omega arith) ends e)
-    by_token b items members end_array s less le ends e = absurd (none_some (sym (no_end_array k (punctuate after_value (zs ++ ls))) ∙ e))
-    by_token b items members end_object s less le ends e = absurd (none_some (sym (no_end_object k (punctuate after_value (zs ++ ls))) ∙ e))
-    by_token b items members (key w) s less le ends e = absurd (none_some (sym (no_key k w (punctuate after_key (zs ++ ls))) ∙ e))
+    by_token b items members end_array s less le ends e = absurd (never_some (sym (no_end_array k (punctuate after_value (zs ++ ls))) ∙ e))
+    by_token b items members end_object s less le ends e = absurd (never_some (sym (no_end_object k (punctuate after_value (zs ++ ls))) ∙ e))
+    by_token b items members (key w) s less le ends e = absurd (never_some (sym (no_key k w (punctuate after_key (zs ++ ls))) ∙ e))
     by_token b items members (string w) s less le ends e = leaf (string w) (Some (values.string w)) (λ k ts. next_string k w ts) s less ends e
     by_token b items members (number w) s less le ends e = leaf (number w) (option_map values.number (number_of w)) (λ k ts. next_number k w ts ∙ numbered (number_of w) ts) s less ends e
     by_token b items members (boolean w) s less le ends e = leaf (boolean w) (Some (values.boolean w)) (λ k ts. next_boolean k w ts) s less ends e
     by_token b items members null s less le ends e = leaf null (Some values.null) (λ k ts. next_null k ts) s less ends e
-    by_token b items members bad s less le ends e = absurd (none_some (sym (no_bad k (punctuate after_value (zs ++ ls))) ∙ e))
+    by_token b items members bad s less le ends e = absurd (never_some (sym (no_bad k (punctuate after_value (zs ++ ls))) ∙ e))
 
   value_on : (b k : ℕ) (p : Place) (n : ℕ) (xs ls : List Lexeme) (d : Data) (r : List Token) → ItemsGo b → MembersGo b → Tail ls → length xs < suc b → Step p n xs → next_value k (punctuate p (xs ++ ls)) ≡ Some (d, r)
       → Goes (λ k ls. next_value k (punctuate p (xs ++ ls))) k (suc n) (length xs) d r ls
-  value_on b k p n xs ls d r items members tail le (stuck f) e = absurd (none_some (sym (refuses_value k (punctuate p (xs ++ ls)) (f ls tail)) ∙ e))
+  value_on b k p n xs ls d r items members tail le (stuck f) e = absurd (never_some (sym (refuses_value k (punctuate p (xs ++ ls)) (f ls tail)) ∙ e))
   value_on b k p n xs ls d r items members tail le (takes t zs s less ends) e = by_token k p n xs zs ls d r tail b items members t s less le ends (ap (next_value k) (sym (s ls tail)) ∙ e)
 
   -- ---- the items of an array
@@ -223,16 +223,8 @@ module _ (whole : Bool) where
   NoEnd t = (ts : List Token) → after_end_array (t ∷ ts) ≡ None
 
   closes_array : (t : Token) → (t ≡ end_array) ⊎ NoEnd t
-  closes_array begin_object = inr (λ ts. refl)
-  closes_array end_object = inr (λ ts. refl)
-  closes_array begin_array = inr (λ ts. refl)
   closes_array end_array = inl refl
-  closes_array (key s) = inr (λ ts. refl)
-  closes_array (string s) = inr (λ ts. refl)
-  closes_array (number s) = inr (λ ts. refl)
-  closes_array (boolean b) = inr (λ ts. refl)
-  closes_array null = inr (λ ts. refl)
-  closes_array bad = inr (λ ts. refl)
+  closes_array _ = inr (λ ts. refl)
 
   no_end : (ts : List Token) → Refuses ts → after_end_array ts ≡ None
   no_end ts (inl e) = ap after_end_array e
@@ -242,7 +234,7 @@ module _ (whole : Bool) where
       (e : next_items k (punctuate p (xs ++ ls)) ≡ Some (ds, r)) where
     items_more_at : (o : Option (Data × List Token)) → next_value k (punctuate p (xs ++ ls)) ≡ o → ((ls : List Lexeme) → Tail ls → after_end_array (punctuate p (xs ++ ls)) ≡ None)
         → Goes (λ k ls. next_items k (punctuate p (xs ++ ls))) k n (length xs) ds r ls
-    items_more_at None is going = absurd (none_some (sym (item_refused k (punctuate p (xs ++ ls)) (going ls tail) is) ∙ e))
+    items_more_at None is going = absurd (never_some (sym (item_refused k (punctuate p (xs ++ ls)) (going ls tail) is) ∙ e))
     items_more_at (Some q) is going =
         let v = value k p n xs ls q.0 q.1 tail le ends is in
         let m = mapped (item q.0) (next_items k q.1) ds r (sym (item_read k (punctuate p (xs ++ ls)) q.1 q.0 (going ls tail) is) ∙ e) in
@@ -260,7 +252,7 @@ module _ (whole : Bool) where
     items_by t zs s less over (inr going) = items_more_at (next_value k (punctuate p (xs ++ ls))) refl (λ ls tail. ap after_end_array (s ls tail) ∙ going (punctuate (place_after t) (zs ++ ls)))
 
     items_on : Step p n xs → Goes (λ k ls. next_items k (punctuate p (xs ++ ls))) k n (length xs) ds r ls
-    items_on (stuck f) = absurd (none_some (sym (item_refused k (punctuate p (xs ++ ls)) (no_end _ (f ls tail)) (refuses_value k _ (f ls tail))) ∙ e))
+    items_on (stuck f) = absurd (never_some (sym (item_refused k (punctuate p (xs ++ ls)) (no_end _ (f ls tail)) (refuses_value k _ (f ls tail))) ∙ e))
     items_on (takes t zs s less over) = items_by t zs s less over (closes_array t)
 
   -- ---- the members of an object
@@ -271,16 +263,9 @@ module _ (whole : Bool) where
     at_other : ((ts : List Token) → read_key (t ∷ ts) ≡ None) → KeyCase t
 
   key_case : (t : Token) → KeyCase t
-  key_case begin_object = at_other (λ ts. refl)
   key_case end_object = at_end refl
-  key_case begin_array = at_other (λ ts. refl)
-  key_case end_array = at_other (λ ts. refl)
   key_case (key s) = at_key s refl
-  key_case (string s) = at_other (λ ts. refl)
-  key_case (number s) = at_other (λ ts. refl)
-  key_case (boolean b) = at_other (λ ts. refl)
-  key_case null = at_other (λ ts. refl)
-  key_case bad = at_other (λ ts. refl)
+  key_case _ = at_other (λ ts. refl)
 
   no_key_read : (ts : List Token) → Refuses ts → read_key ts ≡ None
   no_key_read ts (inl e) = ap read_key e
@@ -293,7 +278,7 @@ module _ (whole : Bool) where
 
     members_more_at : (w : List ℕ) (zs : List Lexeme) (o : Option (Data × List Token)) → ((ls : List Lexeme) → Tail ls → punctuate p (xs ++ ls) ≡ key w ∷ punctuate after_key (zs ++ ls)) → length zs < length xs → Ends whole (suc n) zs
         → next_value k (punctuate after_key (zs ++ ls)) ≡ o → Found
-    members_more_at w zs None s less over is = absurd (none_some (sym (member_refused k found w (punctuate p (xs ++ ls)) (punctuate after_key (zs ++ ls)) (ap read_key (s ls tail)) is) ∙ e))
+    members_more_at w zs None s less over is = absurd (never_some (sym (member_refused k found w (punctuate p (xs ++ ls)) (punctuate after_key (zs ++ ls)) (ap read_key (s ls tail)) is) ∙ e))
     members_more_at w zs (Some q) s less over is =
         let v = value k after_key n zs ls q.0 q.1 tail (omega arith) over is in
         let m = sym (member_read k found w (punctuate p (xs ++ ls)) (punctuate after_key (zs ++ ls)) q.1 q.0 (ap read_key (s ls tail)) is) ∙ e in
@@ -310,10 +295,10 @@ module _ (whole : Bool) where
         members_more_at w zs (next_value k (punctuate after_key (zs ++ ls))) (λ ls tail. s ls tail ∙ ap (λ u. u ∷ punctuate (place_after u) (zs ++ ls)) is) less
         (subst (λ u. Ends whole (open_after (kind_of_token u) n) zs) is over) refl
     members_by t zs s less over (at_other none) =
-        absurd (none_some (sym (key_refused k found (punctuate p (xs ++ ls)) (ap read_key (s ls tail) ∙ none (punctuate (place_after t) (zs ++ ls)))) ∙ e))
+        absurd (never_some (sym (key_refused k found (punctuate p (xs ++ ls)) (ap read_key (s ls tail) ∙ none (punctuate (place_after t) (zs ++ ls)))) ∙ e))
 
     members_on : Step p n xs → Found
-    members_on (stuck f) = absurd (none_some (sym (key_refused k found (punctuate p (xs ++ ls)) (no_key_read _ (f ls tail))) ∙ e))
+    members_on (stuck f) = absurd (never_some (sym (key_refused k found (punctuate p (xs ++ ls)) (no_key_read _ (f ls tail))) ∙ e))
     members_on (takes t zs s less over) = members_by t zs s less over (key_case t)
 
   -- ---- all of them
@@ -356,12 +341,7 @@ none_begins (token begin_object) k ls other opens = absurd (opens refl)
 none_begins (token end_object) k ls other opens = no_end_object k (punctuate after_value ls)
 none_begins (token begin_array) k ls other opens = absurd (opens refl)
 none_begins (token end_array) k ls other opens = no_end_array k (punctuate after_value ls)
-none_begins (token (key s)) k ls other opens = absurd (other refl)
-none_begins (token (string s)) k ls other opens = absurd (other refl)
-none_begins (token (number s)) k ls other opens = absurd (other refl)
-none_begins (token (boolean b)) k ls other opens = absurd (other refl)
-none_begins (token null) k ls other opens = absurd (other refl)
-none_begins (token bad) k ls other opens = absurd (other refl)
+none_begins _ k ls other opens = absurd (other refl)
 
 pub none_bad : (k : ℕ) (d : Data) (r : List Token) (l : Lexeme) (ls : List Lexeme) → l ≡ token bad → next_value k (punctuate fresh (l ∷ ls)) ≡ Some (d, r) → ⊥
 unfolding punctuate
@@ -373,9 +353,6 @@ none_bad k d r l ls is e =
 pub record Alone (l : Lexeme) (xs ls : List Lexeme) : Type 0 where
   pub rest : (k : ℕ) (d : Data) (r : List Token) → next_value k (punctuate fresh (l ∷ xs ++ ls)) ≡ Some (d, r) → r ≡ punctuate after_value ls
   pub alone : (k k' : ℕ) (d : Data) (r : List Token) → k ≤ k' → next_value k (punctuate fresh (l ∷ xs ++ ls)) ≡ Some (d, r) → next_value k' (punctuate fresh (l ∷ xs ++ [])) ≡ Some (d, [])
-
-never_some : {A : Type 0} {a : A} → None ≡ Some a → ⊥
-never_some e = cc
 
 -- a token that is a value
 by_rule : (t : Token) (o : Option Data) (l : Lexeme) (ls : List Lexeme) → Rule t o → punctuate fresh (l ∷ ls) ≡ t ∷ punctuate after_value ls → punctuate fresh (l ∷ []) ≡ t ∷ [] → Alone l [] ls
@@ -412,12 +389,6 @@ by_none l ls none = record { rest = λ k d r e. absurd (never_some (sym (none k)
 
 pub leaf_alone : (l : Lexeme) (ls : List Lexeme) → kind_of l ≡ Other → Alone l [] ls
 unfolding punctuate
-leaf_alone comma ls e = absurd (cc)
-leaf_alone colon ls e = absurd (cc)
-leaf_alone (token begin_object) ls e = absurd (cc)
-leaf_alone (token end_object) ls e = absurd (cc)
-leaf_alone (token begin_array) ls e = absurd (cc)
-leaf_alone (token end_array) ls e = absurd (cc)
 leaf_alone (token (key s)) ls e = by_none (token (key s)) ls (λ k. no_bad k [])
 leaf_alone (token (string s)) ls e = by_key (begins_colon ls) s ls refl
 leaf_alone (token (number s)) ls e =
@@ -425,6 +396,7 @@ leaf_alone (token (number s)) ls e =
 leaf_alone (token (boolean b)) ls e = by_rule (boolean b) (Some (values.boolean b)) (token (boolean b)) ls (λ k ts. next_boolean k b ts) refl refl
 leaf_alone (token null) ls e = by_rule null (Some values.null) (token null) ls (λ k ts. next_null k ts) refl refl
 leaf_alone (token bad) ls e = by_none (token bad) ls (λ k. no_bad k [])
+leaf_alone _ ls e = absurd (cc)
 
 ended : (zs ls : List Lexeme) → Ends true 0 zs → zs ++ ls ≡ ls
 ended [] ls h = refl

@@ -1,11 +1,7 @@
 //! Where the values of a JSON text begin and end.
-ghost use Rattle.std.specs.Prelude.{◌≡◌, ℕ, suc, ◌^◌, ◌+◌, ◌-◌, ◌≤◌, ◌<◌, length, drop, take, true, false, Some, None, MatchOption, IfSome};
+ghost use Rattle.std.specs.Prelude.{◌≡◌, ℕ, suc, ◌^◌, ◌+◌, ◌-◌, ◌≤◌, ◌<◌, length, false, Some, None, MatchOption, IfSome};
 ghost use Rattle.std.specs.Str.{IsCharBoundary};
-ghost use Rattle.json.specs.Lex.{Place};
-ghost use Rattle.json.specs.Json.{read_key};
 ghost use Rattle.value_tokens.specs.Next.{next_value};
-ghost use Rattle.json.specs.Token.{Token};
-ghost use Rattle.std.specs.Prelude.{List};
 ghost use Rattle.value_places.specs.Lexemes.{tokens_left};
 ghost use Rattle.value_places.specs.Nesting.{open_after, Closes, NeverCloses};
 ghost use Rattle.value_places.specs.Values.{EndsValue};
