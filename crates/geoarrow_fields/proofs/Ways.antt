@@ -8,7 +8,7 @@ use Rattle.std.proofs.lemmas.Bool.{eq-eqb, eqb-true}
 use Rattle.std.proofs.lemmas.List.{take-append-drop, take_rest, get_or-take}
 use Rattle.std.proofs.lemmas.List.Elements.{All-from_get_or, All-nil, All-cons, All-append}
 use Rattle.memchr.specs.Find.{is_byte, IsFirstByte}
-use Rattle.geoarrow_fields.proofs.Terms.{Command, Bytes, line_feed, Answers, Answered, AppendsSome, FrontOf, Breaks, Done, OutputFault, Fault, Input, NoMemory, Output, lines_of, max_lines, max_line_bytes, IsLine, IsPastLimit, Means, ReadsAndWrites, IsBegun, IsAt, AnswersUntil, HasCome, IsMeant, IsStopped}
+use Rattle.geoarrow_fields.proofs.Terms.{Command, Bytes, line_feed, Answers, Answered, AnswersLine, AppendsSome, FrontOf, Breaks, Done, OutputFault, Fault, Input, NoMemory, Output, lines_of, max_lines, max_line_bytes, IsLine, IsPastLimit, Means, ReadsAndWrites, IsBegun, IsAt, AnswersUntil, HasCome, IsMeant, IsStopped}
 use Rattle.geoarrow_fields.proofs.Limits.{IsShort, lines_of-last, stops_first, stops_longer, stops_next, stops_for, stops_last, limit_passed, line_inside, begun_inside}
 
 -- ---- faults, and what a writer holds
@@ -19,14 +19,14 @@ handed_on P r x is h = grind arith
 
 -- an answer to a line, with its line feed, answers that line
 module _ (command : Command) (line answer text : Bytes) (is : Answers command line answer) (fed : text ≡ answer ++ (line_feed ∷ [])) where
-  answered_line : Answered command [] (line ∷ []) text
+  answered_line : AnswersLine command line text
   unfolding Answered
   answered_line = (answer, [], is, fed, refl)
 
-  pub answer_written : (old new : Option Bytes) → Appends old new text → AppendsSome (Answered command [] (line ∷ [])) old new
+  pub answer_written : (old new : Option Bytes) → Appends old new text → AppendsSome (AnswersLine command line) old new
   answer_written old new written = (text, answered_line, written)
 
-  pub answer_breaks_off : (old new : Option Bytes) → AppendsSome (FrontOf (λ whole. text ≡ whole)) old new → AppendsSome (FrontOf (Answered command [] (line ∷ []))) old new
+  pub answer_breaks_off : (old new : Option Bytes) → AppendsSome (FrontOf (λ whole. text ≡ whole)) old new → AppendsSome (FrontOf (AnswersLine command line)) old new
   answer_breaks_off old new (front, (back, whole), written) = (front, (back, rw (← whole) answered_line), written)
 
 pub answered_none : (command : Command) (last : Bytes) → Answered command last [] last
@@ -166,20 +166,20 @@ module _ {count : ℕ} (begun rest : Bytes) (is : IsBegun count begun) where
           way_passes command way j (inl (limit_passed count (begun ++ rest) line (line_feed ∷ after rest at) joined line_is some (rw line_length at past))) (Keeps-refl j)
 
       module _ (fits : (count < max_lines) × (length begun + at ≤ max_line_bytes)) (q : Option Bytes) where
-        next : (input output more : Bytes) → AnswersUntil (IsAt count (begun ++ rest)) command [] input output → Answered command [] (line ∷ []) more
+        next : (input output more : Bytes) → AnswersUntil (IsAt count (begun ++ rest)) command [] input output → AnswersLine command line more
             → AnswersUntil (IsAt (count + 1) (after rest at)) command [] input (output ++ more)
         next input output more (stop, answers) answered =
             (stops_next count (begun ++ rest) input line (after rest at) stop joined line_is (rw line_length at fits), answered_after command [] stop.lines (line ∷ []) output more answers answered)
 
-        pub line_answered : (cleared : Bytes) → cleared ≡ [] → AppendsSome (Answered command [] (line ∷ [])) p q → HasCome command (count + 1) (cleared ++ after rest at) i j o q
-        line_answered cleared clear answer = rw clear (writes _ (AnswersUntil (IsAt (count + 1) (after rest at)) command []) (Answered command [] (line ∷ [])) next way answer)
+        pub line_answered : (cleared : Bytes) → cleared ≡ [] → AppendsSome (AnswersLine command line) p q → HasCome command (count + 1) (cleared ++ after rest at) i j o q
+        line_answered cleared clear answer = rw clear (writes _ (AnswersUntil (IsAt (count + 1) (after rest at)) command []) (AnswersLine command line) next way answer)
 
-        pub line_breaks : (fault : Fault) → Breaks fault (Answered command [] (line ∷ [])) p q → IsStopped command fault i j o q
+        pub line_breaks : (fault : Fault) → Breaks fault (AnswersLine command line) p q → IsStopped command fault i j o q
         line_breaks Input broken = absurd broken
         line_breaks NoMemory kept = way_keeps command way q (line_inside count (begun ++ rest) line (after rest at) joined (rw line_length at fits)) kept
         line_breaks Output part = (
           OutputFault,
-          writes_front _ (Means command OutputFault) (Answered command [] (line ∷ []))
+          writes_front _ (Means command OutputFault) (AnswersLine command line)
               (λ input output more come answered. let (stop, answers) = next input output more come answered in (stops_for (λ n l. ⊤) (count + 1) (after rest at) input stop tt, answers)) way part,
         )
 

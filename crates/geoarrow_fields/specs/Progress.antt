@@ -1,5 +1,5 @@
 -- Only private contracts cite it. How far a run has come, inside the loop.
-use Rattle.std.specs.Prelude.{◌≡◌, ℕ, ◌+◌, ◌*◌, ◌<◌, ◌≤◌, [], ◌++◌, length, Option, codes}
+use Rattle.std.specs.Prelude.{◌≡◌, ℕ, ◌+◌, ◌*◌, ◌<◌, ◌≤◌, [], ◌∷◌, ◌++◌, length, Option, codes}
 use Rattle.std.specs.Io.KnownBytes.{Appends, Keeps}
 use Rattle.geoarrow_fields.specs.declared.Command.{Command}
 use Rattle.geoarrow_fields.specs.declared.RunEnd.{RunEnd}
@@ -7,7 +7,11 @@ use Rattle.geoarrow_fields.specs.declared.RunEnd.TheVariants.{InputFault, Memory
 use Rattle.geoarrow_fields.specs.declared.output.Fault.{Fault}
 use Rattle.geoarrow_fields.specs.declared.output.Fault.TheVariants.{Input, Memory, Output}
 use Rattle.geoarrow_fields.specs.Lines.{Bytes, max_lines, max_line_bytes, IsLine}
-use Rattle.geoarrow_fields.specs.Answer.{AnswersUntil, Means, ReadsAndWrites, RunsTo}
+use Rattle.geoarrow_fields.specs.Answer.{Answered, AnswersUntil, Means, ReadsAndWrites, RunsTo}
+
+-- the answer to a line is written, with its line feed
+abbrev pub AnswersLine : Command → Bytes → Bytes → Type 0
+AnswersLine command line = Answered command [] (line ∷ [])
 
 -- after `count` lines, what has come of the next one is within the limits
 pub record IsBegun (count : ℕ) (begun : Bytes) : Type 0 where

@@ -52,12 +52,10 @@ pub fn canon_is_closed()
         → NestsWithin 100 (meta_of g).crs.value → Answers Canon line answer
         → Answers Canon answer answer × ((text : Bytes) → Answers Read line text → Answers Read answer text) }
 {
-    kind_is_listed();
-    put_is_held();
+    canonical_line_reads_back();
     read_is_held();
     held_reads_back();
     read_field_is_held();
-    line_reads_back();
     one_kind();
 }
 

@@ -1,8 +1,7 @@
 //! The lines of a chunk of the input: their limits, their answers, and the line that goes on into the next chunk.
 ghost use Rattle.std.specs.Prelude.{◌≡◌, ◌⊎◌, ◌+◌, ◌<◌, ◌≤◌, List, [], ◌∷◌, ◌++◌, length, All, IfOk, OnOk, IfErr, MatchBool};
 ghost use Rattle.geoarrow_fields.specs.Lines.{Bytes, max_lines, max_line_bytes, lines_of, ended_lines, IsLine, IsSplit, IsWithinLimits, IsPastLimit, Stops};
-ghost use Rattle.geoarrow_fields.specs.Answer.{Answered};
-ghost use Rattle.geoarrow_fields.specs.Progress.{IsBegun, HasCome, IsStopped, Leads, AppendsSome, Breaks, bytes_come};
+ghost use Rattle.geoarrow_fields.specs.Progress.{AnswersLine, IsBegun, HasCome, IsStopped, Leads, AppendsSome, Breaks, bytes_come};
 
 use crate::Command;
 use crate::output::{Fault, write_answer};
@@ -53,11 +52,9 @@ pub(crate) fn end_line<W: Write>(
     scratch: &mut Scratch,
     writer: &mut W,
 ) -> Result<(), Fault>
-    ensures ok { OnOk result (AppendsSome (Answered command [] ((begun.old.items ++ end.now) ∷ []))
-        (W.contents writer.old) (W.contents writer.new)) }
+    ensures ok { OnOk result (AppendsSome (AnswersLine command (begun.old.items ++ end.now)) (W.contents writer.old) (W.contents writer.new)) }
     ensures clear { OnOk result (begun.new.items ≡ []) }
-    ensures err { IfErr result (λ fault. Breaks fault (Answered command [] ((begun.old.items ++ end.now) ∷ []))
-        (W.contents writer.old) (W.contents writer.new)) }
+    ensures err { IfErr result (λ fault. Breaks fault (AnswersLine command (begun.old.items ++ end.now)) (W.contents writer.old) (W.contents writer.new)) }
 {
     if begun.is_empty() {
         return write_answer(alloc, command, end, scratch, writer);

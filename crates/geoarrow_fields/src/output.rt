@@ -1,8 +1,7 @@
 //! What is written: answers, each with its line feed, and the line of an end.
-ghost use Rattle.std.specs.Prelude.{◌≡◌, ◌≢◌, [], ◌∷◌, ◌++◌, OnOk, OnErr, IfErr};
+ghost use Rattle.std.specs.Prelude.{◌≡◌, ◌≢◌, OnOk, IfErr};
 ghost use Rattle.std.specs.Io.KnownBytes.{Appends};
-ghost use Rattle.geoarrow_fields.specs.Answer.{Answered};
-ghost use Rattle.geoarrow_fields.specs.Progress.{AppendsSome, FrontOf, Breaks};
+ghost use Rattle.geoarrow_fields.specs.Progress.{AnswersLine, AppendsSome, FrontOf, Breaks};
 
 use crate::answer::answer_line_with_scratch;
 use crate::{Command, RunEnd};
@@ -57,10 +56,8 @@ pub(crate) fn write_answer<W: Write>(
     scratch: &mut Scratch,
     writer: &mut W,
 ) -> Result<(), Fault>
-    ensures ok { OnOk result (AppendsSome (Answered command [] (line.now ∷ []))
-        (W.contents writer.old) (W.contents writer.new)) }
-    ensures err { IfErr result (λ fault. Breaks fault (Answered command [] (line.now ∷ []))
-        (W.contents writer.old) (W.contents writer.new)) }
+    ensures ok { OnOk result (AppendsSome (AnswersLine command line.now) (W.contents writer.old) (W.contents writer.new)) }
+    ensures err { IfErr result (λ fault. Breaks fault (AnswersLine command line.now) (W.contents writer.old) (W.contents writer.new)) }
 {
     let mut answer = answer_line_with_scratch(alloc, command, line, scratch)?;
     answer.push_str("\n")?;

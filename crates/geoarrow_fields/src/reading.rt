@@ -1,5 +1,5 @@
 //! The loop that reads an input, answers its lines and ends.
-ghost use Rattle.std.specs.Prelude.{◌≡◌, ◌<◌, ◌≤◌, [], length, take, IfOk, OnOk, IfErr, vec_len};
+ghost use Rattle.std.specs.Prelude.{◌≡◌, ◌<◌, ◌≤◌, [], take, IfOk, OnOk, IfErr, vec_len};
 ghost use Rattle.std.specs.Io.KnownBytes.{Consumes, IsAtEnd, Keeps};
 ghost use Rattle.geoarrow_fields.specs.Answer.{RunsTo};
 ghost use Rattle.geoarrow_fields.specs.Progress.{IsMeant, IsStopped};
