@@ -1,5 +1,5 @@
 -- Values of plain texts, as they are put together.
-use Rattle.std.proofs.Common.{◌≡◌, ℕ, ◌+◌, ◌-◌, ◌<◌, ◌≤◌, List, [], ◌∷◌, ◌++◌, length, get_or, true, false, Option, None, Some, option_map, String, Global, Vec, BTreeMap, Bor, Ordering, Less, Equal, Greater, nat_cmp, string_bytes, refl, sym, ap, ◌∙◌, subst, rules}
+use Rattle.std.proofs.Common.{◌≡◌, ℕ, ◌+◌, ◌-◌, ◌<◌, ◌≤◌, List, [], ◌∷◌, ◌++◌, length, get_or, Bool, true, false, Option, None, Some, option_map, String, Global, Vec, BTreeMap, Bor, Ordering, Less, Equal, Greater, nat_cmp, string_bytes, refl, sym, ap, ◌∙◌, subst, rules}
 use Rattle.std.proofs.lemmas.Bool.{or_parts}
 use Rattle.std.specs.Ordering.{match_ordering}
 use Rattle.std.specs.Cmp.Lexicographic.{slice_cmp}
@@ -69,6 +69,18 @@ not_ended depth ts r d read = by (after_end_array ts) refl
     by : (o : Option (List Token)) → after_end_array ts ≡ o → after_end_array ts ≡ None
     by None e = e
     by (Some rest) e = let none : next_value depth ts ≡ None = ap (next_value depth) (closed_array ts rest e) ∙ no_end_array depth rest in absurd (cc)
+
+-- ---- what is taken so far
+
+-- the items that are left go behind those so far
+pub record AreItemsSoFar (depth : ℕ) (all left : List Token) (items : List Value) (float_before float_read : Bool) : Type 0 where
+  pub some : (rest : List Value) (r : List Token) → next_items depth left ≡ Some (items_view rest, r) → next_items depth all ≡ Some (items_view (items ++ rest), r)
+  pub floats : float_read ≡ false → (float_before ≡ false) × (items_have_float (items_view items) ≡ false)
+
+-- what is left is put into the members so far
+pub record AreMembersSoFar (depth : ℕ) (all left : List Token) (members : Members) (float_before float_read : Bool) : Type 0 where
+  pub decides : next_members depth no_members all ≡ next_members depth members left
+  pub floats : float_read ≡ false → (float_before ≡ false) × (members_have_float members ≡ false)
 
 -- ---- without a float
 

@@ -5,7 +5,7 @@
 //! text begin. Of any other text this says nothing but that it is another: it may be JSON, or none.
 ghost use Rattle.std.specs.Prelude.{◌≡◌, ◌≢◌, ◌≤◌, ◌+◌, ◌<◌, [], ◌∷◌, length, take, drop, slice_index, true, false, ◌||◌, IfOk, MatchOption, option_map};
 ghost use Rattle.std.specs.List.{prefix_len};
-ghost use Rattle.json.specs.Lex.{tokens, token, colon, operator, operator_lexeme, class};
+ghost use Rattle.json.specs.Lex.{tokens, token, operator, operator_lexeme, class};
 ghost use Rattle.json.specs.Token as spec;
 ghost use Rattle.json.specs.Word as word;
 ghost use Rattle.json.specs.Run as run;

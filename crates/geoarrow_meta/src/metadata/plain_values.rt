@@ -1,14 +1,11 @@
 //! A value of plain texts and numbers, read from its bytes without a scratch, in memory of its own.
 ghost use Rattle.std.specs.Prelude.{◌≡◌, ◌≤◌, length, true, false, Some, IfOk};
 ghost use Rattle.serde_json.specs.Data.{no_members};
-ghost use Rattle.serde_json.specs.Find.{is_float};
 ghost use Rattle.serde_json.specs.Read.{number_of};
-ghost use Rattle.serde_json.specs.View.{view, number_view, items_view, members_view};
+ghost use Rattle.serde_json.specs.View.{view, items_view, members_view};
 ghost use Rattle.serde_json.specs.Written.{has_float, items_have_float, members_have_float};
 ghost use Rattle.value_tokens.specs.Next.{next_items, next_members};
-ghost use Rattle.json.specs.Token as spec;
-ghost use Rattle.arrow_values.specs.Tree.{Text};
-ghost use Rattle.geoarrow_meta.specs.PlainTokens.{tokens_left, Takes, TakesValue};
+ghost use Rattle.geoarrow_meta.specs.PlainTokens.{tokens_left, TakesValue};
 
 use crate::metadata::plain_members::{
     NotPlain, after_spaces, byte_at, next_item, next_key, plain_number, plain_word,

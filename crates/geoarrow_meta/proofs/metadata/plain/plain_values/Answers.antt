@@ -1,4 +1,4 @@
-use Rattle.std.proofs.Common.{◌≡◌, ℕ, false, List, [], ◌∷◌, length, Option, None, Some, option_map, option_and_then, codes, refl, sym, ap, ◌∙◌, arith}
+use Rattle.std.proofs.Common.{◌≡◌, false, List, [], ◌∷◌, length, Option, None, Some, option_map, option_and_then, codes, refl, sym, ap, ◌∙◌, arith}
 use Rattle.std.proofs.lemmas.Slice.Eq.{bytes_eq-Decides}
 use Rattle.json.specs.Json as json
 use Rattle.json.specs.Json.{read_key, parse_map}
@@ -21,9 +21,9 @@ abbrev word_value : Option Text → Data
 word_value None = null
 word_value (Some s) = string s
 
-next_word : (depth : ℕ) (w : Option Text) (ts : List Token) → next_value depth (word_token w ∷ ts) ≡ Some (word_value w, ts)
-next_word depth None ts = next_null depth ts
-next_word depth (Some s) ts = next_string depth s ts
+next_word : (w : Option Text) {ts rest : List Token} → ts ≡ word_token w ∷ rest → next_value 126 ts ≡ Some (word_value w, rest)
+next_word None {rest = rest} is = ap (next_value 126) is ∙ next_null 126 rest
+next_word (Some s) {rest = rest} is = ap (next_value 126) is ∙ next_string 126 s rest
 
 -- as a slot has it
 as_present : (w : Option Text) → option_map string w ≡ present (Some (word_value w))
@@ -50,24 +50,21 @@ values-smaller-then-eq c =
 
 pub values-preserved-in-crs_type : goal.values-preserved-in-crs_type
 values-preserved-in-crs_type c =
-    let key = rw c.in-Some.is at c.in_ok-key.ensures.key in
-    let word = ap (next_value 126) (c.in_ok-word.ensures.0 fresh refl) ∙ next_word 126 _ _ in
-    let found = crs_type_taken c.values.invariant.found _ _ (ap read_key key) word c.in-crs_type.is (c.crs_type_of-found.ensures _ (as_present _)) in
-    record { found = found; floats = c.values.invariant.floats; within = c.in_ok-word.ensures.1 }
+    let named = ap read_key (rw c.in-Some.is at c.in_ok-key.ensures.key) in
+    let word = next_word _ (c.in_ok-word.ensures.0 fresh refl) in
+    record { found = crs_type_taken c.values.invariant.found _ _ named word c.in-crs_type.is (c.crs_type_of-found.ensures _ (as_present _)); floats = c.values.invariant.floats; within = c.in_ok-word.ensures.1 }
 
 pub values-preserved-in-edges : goal.values-preserved-in-edges
 values-preserved-in-edges c =
-    let key = rw c.in-Some.is at c.in_ok-key.ensures.key in
-    let word = ap (next_value 126) (c.in_ok-word.ensures.0 fresh refl) ∙ next_word 126 _ _ in
-    let found = edges_taken c.values.invariant.found _ _ (ap read_key key) word c.in-edges.is (c.edges_of-found.ensures _ (as_present _)) in
-    record { found = found; floats = c.values.invariant.floats; within = c.in_ok-word.ensures.1 }
+    let named = ap read_key (rw c.in-Some.is at c.in_ok-key.ensures.key) in
+    let word = next_word _ (c.in_ok-word.ensures.0 fresh refl) in
+    record { found = edges_taken c.values.invariant.found _ _ named word c.in-edges.is (c.edges_of-found.ensures _ (as_present _)); floats = c.values.invariant.floats; within = c.in_ok-word.ensures.1 }
 
 pub values-preserved : goal.values-preserved
 values-preserved c =
-    let key = rw c.in-Some.is at c.in_ok-key.ensures.key in
-    let word = ap (next_value 126) (c.in_ok-word.ensures.0 fresh refl) ∙ next_word 126 _ _ in
-    let found = passed c.values.invariant.found _ _ (ap read_key key) word (grind arith) (grind arith) (grind arith) in
-    record { found = found; floats = c.values.invariant.floats; within = c.in_ok-word.ensures.1 }
+    let named = ap read_key (rw c.in-Some.is at c.in_ok-key.ensures.key) in
+    let word = next_word _ (c.in_ok-word.ensures.0 fresh refl) in
+    record { found = passed c.values.invariant.found _ _ named word (grind arith) (grind arith) (grind arith); floats = c.values.invariant.floats; within = c.in_ok-word.ensures.1 }
 
 pub returns-in_default-clause-found : goal.returns-in_default-clause-found
 unfolding punctuate

@@ -37,19 +37,20 @@ plain_items-items-preserved t c =
     let place = c.in_ok-more.ensures.item c.if-not-more.false in
     let read = ap (next_value c.args.depth) place.2 ∙ c.in_ok-item.ensures.value.0 place.0 place.1 in
     let turn = item_read c.args.depth _ _ (view v) (not_ended c.args.depth _ _ (view v) read) read in
-    let pushed : c.push.new.self.items ≡ l.found.items ++ v ∷ [] = grind (arith, common_steps) in
-    record {
-      some = λ rest r e. rw (pushed, append_assoc l.found.items (v ∷ []) rest) (l.invariant.some (v ∷ rest) r (turn ∙ ap (parse_map (item (view v))) e));
-      floats = λ none. let here = c.in_ok-item.ensures.floats none in let before = l.invariant.floats here.0 in (before.0, rw pushed (item_added l.found.items v before.1 here.1));
-      within = c.in_ok-item.ensures.value.1;
-    }
+    let pushed : c.push.new.self.items ≡ l.found.items ++ v ∷ [] = grind (arith, common_steps) in (
+      record {
+        some = λ rest r e. rw (pushed, append_assoc l.found.items (v ∷ []) rest) (l.invariant.0.some (v ∷ rest) r (turn ∙ ap (parse_map (item (view v))) e));
+        floats = λ none. let here = c.in_ok-item.ensures.floats none in let before = l.invariant.0.floats here.0 in (before.0, rw pushed (item_added l.found.items v before.1 here.1));
+      },
+      c.in_ok-item.ensures.value.1,
+    )
 
 pub plain_items-returns-then-not-more-clause-items : goal.plain_items-returns-then-not-more-clause-items
 plain_items-returns-then-not-more-clause-items t c =
     let l = c.items in
     let left = tokens_left true c.args.text.now c.in_ok-more.place in
     let ended = ap after_end_array (c.in_ok-more.ensures.end c.if-not-more.true) in
-    l.invariant.some [] left (items_over c.args.depth _ left ended) ∙ ap (λ vs. Some (items_view vs, left)) (append-nil l.found.items)
+    l.invariant.0.some [] left (items_over c.args.depth _ left ended) ∙ ap (λ vs. Some (items_view vs, left)) (append-nil l.found.items)
 
 pub plain_members-members-preserved : goal.plain_members-members-preserved
 plain_members-members-preserved t c =
@@ -59,16 +60,17 @@ plain_members-members-preserved t c =
     let left = tokens_left true c.args.text.now c.in_ok-member.next in
     let found = members_view l.found.entries in
     let member = view c.in_ok-member.member in
-    let turn = member_read c.args.depth found c.in-Some.name.now _ _ left member named read in
-    record {
-      decides = l.invariant.decides ∙ turn ∙ ap (λ ms. next_members c.args.depth ms left) (sym c.in_ok-put_member.ensures);
-      floats = λ none. let here = c.in_ok-member.ensures.floats none in let before = l.invariant.floats here.0 in (before.0, rw c.in_ok-put_member.ensures (member_put c.in-Some.name.now member found before.1 here.1));
-      within = c.in_ok-member.ensures.value.1;
-    }
+    let turn = member_read c.args.depth found c.in-Some.name.now _ _ left member named read in (
+      record {
+        decides = l.invariant.0.decides ∙ turn ∙ ap (λ ms. next_members c.args.depth ms left) (sym c.in_ok-put_member.ensures);
+        floats = λ none. let here = c.in_ok-member.ensures.floats none in let before = l.invariant.0.floats here.0 in (before.0, rw c.in_ok-put_member.ensures (member_put c.in-Some.name.now member found before.1 here.1));
+      },
+      c.in_ok-member.ensures.value.1,
+    )
 
 pub plain_members-returns-in_default-clause-members : goal.plain_members-returns-in_default-clause-members
 plain_members-returns-in_default-clause-members t c =
-    c.members.invariant.decides ∙ members_over c.args.depth (members_view c.members.found.entries) _ _ (ap read_key (rw c.in_default.is at c.in_ok-key.ensures.key))
+    c.members.invariant.0.decides ∙ members_over c.args.depth (members_view c.members.found.entries) _ _ (ap read_key (rw c.in_default.is at c.in_ok-key.ensures.key))
 
 pub plain_items-items-smaller : goal.plain_items-items-smaller
 plain_items-items-smaller t c =
