@@ -17,7 +17,7 @@ use Rattle.parquet_schema.specs.Keys.{schema_key, value_of}
 use Rattle.parquet_schema.specs.Fault.{error_of}
 use Rattle.parquet_schema.specs.Reads.{same_names, IsBuilt, IsDecoded, HoldsSchema, IsStoredRead, IsReadBy, IsFooterRead, IsParsedAs, IsReadAs}
 use Rattle.parquet_schema.specs.declared.fault.SchemaError.{SchemaError}
-use Rattle.parquet_schema.specs.declared.fault.SchemaError.TheVariants.{Footer, Cut, Elements, Encoding, Ipc, Names, OutOfMemory}
+use Rattle.parquet_schema.specs.declared.fault.SchemaError.TheVariants.{Elements, Encoding, Ipc, Names, OutOfMemory}
 
 -- an error was handed on
 pub handed : {X : Type 0} (Is : Result X SchemaError → Type 0) (r : Result X SchemaError) (e : SchemaError) → r ≡ Err e → Is (Err e) → Is r
@@ -37,11 +37,7 @@ module _ (value : Option Text) where
   elements_fail (Err fault) e f = f
   elements_fail (Ok cs) (Elements fault) f = absurd (cc)
   elements_fail (Ok cs) OutOfMemory f = memory_by cs value
-  elements_fail (Ok cs) (Footer error) f = absurd f
-  elements_fail (Ok cs) Cut f = absurd f
-  elements_fail (Ok cs) (Encoding error) f = absurd f
-  elements_fail (Ok cs) (Ipc error) f = absurd f
-  elements_fail (Ok cs) Names f = absurd f
+  elements_fail (Ok cs) _ f = absurd f
 
   pub by_elements : (there : Result (List ColumnTree) elements.Fault) (columns : Vec Column Global) → there ≡ Ok (map column_tree columns.items) → value ≡ None → IsReadBy there value (Ok columns)
   by_elements there columns is none = rw (is, none) refl
@@ -53,21 +49,13 @@ module _ (cs : List ColumnTree) (text : Text) where
   pub decoding_fails : (e : SchemaError) → IsDecoded (decode_of standard text) (Err e) → IsStoredRead cs text (Err e)
   decoding_fails (Encoding error) f = f
   decoding_fails OutOfMemory f = tt
-  decoding_fails (Footer error) f = absurd f
-  decoding_fails Cut f = absurd f
-  decoding_fails (Elements fault) f = absurd f
-  decoding_fails (Ipc error) f = absurd f
-  decoding_fails Names f = absurd f
+  decoding_fails _ f = absurd f
 
   module _ (bytes : List ℕ) (are : decode_of standard text ≡ Ok bytes) where
     pub schema_fails : (e : SchemaError) → HoldsSchema bytes (Err e) → IsStoredRead cs text (Err e)
     schema_fails (Ipc error) f = (bytes, are, f)
     schema_fails OutOfMemory f = tt
-    schema_fails (Footer error) f = absurd f
-    schema_fails Cut f = absurd f
-    schema_fails (Elements fault) f = absurd f
-    schema_fails (Encoding error) f = absurd f
-    schema_fails Names f = absurd f
+    schema_fails _ f = absurd f
 
     -- what a message and the columns of its schema are as slices, and whether the names are the same
     module _ (message : List ℕ) (whole : message ≡ bytes) (s : Schema) (held : HoldsSchema message (Ok s)) (columns : List Column) (all : columns ≡ s.columns.items)
