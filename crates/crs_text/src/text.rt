@@ -1,5 +1,5 @@
 //! The part of a JSON text that is the value of a member.
-ghost use Rattle.std.specs.Prelude.{◌≡◌, ◌≤◌, ◌∷◌, length, IfSome, IfOk, option_map};
+ghost use Rattle.std.specs.Prelude.{◌≡◌, ◌∷◌, IfSome, IfOk, option_map};
 ghost use Rattle.json.specs.Token.{begin_object};
 ghost use Rattle.json.specs.Lex.{tokens};
 ghost use Rattle.crs_text.specs.Members.{IsLastOf};

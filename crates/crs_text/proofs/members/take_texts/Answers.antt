@@ -1,6 +1,5 @@
-use Rattle.std.proofs.Common.{◌≡◌, [], false, Some, None, refl, sym, ap, ◌∙◌, arith}
+use Rattle.std.proofs.Common.{◌≡◌, [], Some, None, sym, ap, ◌∙◌, arith}
 use Rattle.json.specs.Json.{read_key}
-use Rattle.serde_json.specs.Data.{no_members}
 use Rattle.value_tokens.specs.Turns.{key_refused, member_refused}
 use Rattle.crs_text.proofs.Walk.{none_yet}
 use Rattle.crs_text.proofs.Texts.{one_more, all_taken}
