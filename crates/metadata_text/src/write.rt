@@ -1,11 +1,10 @@
 //! The text of extension metadata.
-ghost use Rattle.std.specs.Prelude.{◌≡◌, ◌++◌, codes, Some, IfOk, OnOk, option_map, string_bytes};
+ghost use Rattle.std.specs.Prelude.{◌≡◌, Some, IfOk, OnOk, option_map, string_bytes};
 ghost use Rattle.json.specs.Lex.{tokens};
 ghost use Rattle.json.specs.Print.{print};
 ghost use Rattle.serde_json.specs.Data.{Data};
 ghost use Rattle.serde_json.specs.Read.{read};
 ghost use Rattle.value_tokens.specs.Adds.{Adds};
-ghost use Rattle.geoarrow_meta.specs.Read.{crs_type_text, edges_text};
 ghost use Rattle.metadata_text.specs.Crs.{IsCrs, IsJson};
 ghost use Rattle.metadata_text.specs.Written.{crs_tokens, string_tokens, metadata_tokens, metadata_data};
 
@@ -53,8 +52,8 @@ fn put_metadata(
     out.begin_object()?;
     out.key("crs")?;
     put_crs(alloc, crs, out)?;
-    put_crs_type(crs_type, out)?;
-    put_edges(edges, out)?;
+    put_word("crs_type", crs_type.map(CrsType::as_text), out)?;
+    put_word("edges", edges.map(Edges::as_text), out)?;
     out.end_object()
 }
 
@@ -83,22 +82,13 @@ fn put_json(alloc: Global, text: &str, out: &mut Writer) -> Result<(), AllocErro
     Ok(())
 }
 
-fn put_crs_type(crs_type: Option<CrsType>, out: &mut Writer) -> Result<(), AllocError>
-    ensures { OnOk result (Adds (string_tokens (codes "crs_type") (option_map crs_type_text crs_type)) out.old out.new) }
+// Writes a member with a text, where there is one.
+fn put_word(key: &str, word: Option<&str>, out: &mut Writer) -> Result<(), AllocError>
+    ensures { OnOk result (Adds (string_tokens key.now (option_map (λ w. w.now) word.entry)) out.old out.new) }
 {
-    if let Some(crs_type) = crs_type {
-        out.key("crs_type")?;
-        return out.string(crs_type.as_text());
-    }
-    Ok(())
-}
-
-fn put_edges(edges: Option<Edges>, out: &mut Writer) -> Result<(), AllocError>
-    ensures { OnOk result (Adds (string_tokens (codes "edges") (option_map edges_text edges)) out.old out.new) }
-{
-    if let Some(edges) = edges {
-        out.key("edges")?;
-        return out.string(edges.as_text());
+    if let Some(word) = word {
+        out.key(key)?;
+        return out.string(word);
     }
     Ok(())
 }
