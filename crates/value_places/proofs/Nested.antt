@@ -132,14 +132,14 @@ module _ (whole : Bool) where
     pub rest : r ≡ punctuate after_value (zs ++ ls)
     pub again : (k' : ℕ) → k ≤ k' → (ls' : List Lexeme) → Tail ls' → g k' ls' ≡ Some (a, punctuate after_value (zs ++ ls'))
 
-  -- these tokens are followed by those of zs
+  -- the tokens that g takes end before those of zs, whatever follows
   module _ {A : Type 0} {g : ℕ → List Lexeme → Option (A × List Token)} {k n bound : ℕ} {a : A} {r : List Token} {ls : List Lexeme} (tail : Tail ls) where
     followed : (x : A) (zs : List Lexeme) → Ends whole n zs → length zs < bound → g k ls ≡ Some (a, r) → ((k' : ℕ) (ls' : List Lexeme) → Tail ls' → g k' ls' ≡ Some (x, punctuate after_value (zs ++ ls'))) → Goes g k n bound a r ls
     followed x zs ends less e taken =
         let h = same_pair a x r (punctuate after_value (zs ++ ls)) (sym e ∙ taken k ls tail) in
         record { zs = zs; ends = ends; fewer = less; rest = h.1; again = λ k' low ls' tail'. taken k' ls' tail' ∙ ap (λ y. Some (y, punctuate after_value (zs ++ ls'))) (sym h.0) }
 
-  -- they are taken where these of another value are
+  -- the tokens that g takes end where those that f takes do
   module _ {A B : Type 0} {f : ℕ → List Lexeme → Option (B × List Token)} {g : ℕ → List Lexeme → Option (A × List Token)} {j k n low high : ℕ} {a : A} {b : B} {r : List Token} {ls : List Lexeme} where
     carried : Goes f j n low b r ls → low ≤ high → ((k' : ℕ) → k ≤ k' → (ls' : List Lexeme) → Tail ls' → (rest : List Token) → ((j' : ℕ) → j ≤ j' → f j' ls' ≡ Some (b, rest)) → g k' ls' ≡ Some (a, rest)) → Goes g k n high a r ls
     carried i less taken =
