@@ -183,11 +183,12 @@ fn same_texts(a: &BTreeMap<String, String>, b: &BTreeMap<String, String>) -> boo
 fn same_fields(a: &Fields, b: &Fields) -> bool
     ensures { result ≡ field_lists_eq a.now b.now }
 {
-    if a.members.len() != b.members.len() {
+    let (ones, others) = (a.members.as_slice(), b.members.as_slice());
+    if ones.len() != others.len() {
         return false;
     }
-    for i in 0..a.members.len() {
-        if !same_field(&a.members[i], &b.members[i]) {
+    for i in 0..ones.len() {
+        if !same_field(&ones[i], &others[i]) {
             return false;
         }
     }
@@ -199,11 +200,12 @@ fn same_fields(a: &Fields, b: &Fields) -> bool
 fn same_members(a: &UnionFields, b: &UnionFields) -> bool
     ensures { result ≡ member_lists_eq a.now b.now }
 {
-    if a.members.len() != b.members.len() {
+    let (ones, others) = (a.members.as_slice(), b.members.as_slice());
+    if ones.len() != others.len() {
         return false;
     }
-    for i in 0..a.members.len() {
-        let (one, other) = (&a.members[i], &b.members[i]);
+    for i in 0..ones.len() {
+        let (one, other) = (&ones[i], &others[i]);
         if one.0 != other.0 || !same_field(&one.1, &other.1) {
             return false;
         }

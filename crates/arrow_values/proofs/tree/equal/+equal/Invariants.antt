@@ -4,8 +4,8 @@ use Rattle.arrow_values.proofs.tree.equal.+equal.Given as goal
 
 abbrev pub invariant-same_fields-loop-i : goal.invariant-same_fields-loop-i
 invariant-same_fields-loop-i l =
-    (field_lists_eq l.a l.b ≡ field_lists_eq (drop l.i l.a) (drop l.i l.b))
+    (field_lists_eq l.ones l.others ≡ field_lists_eq (drop l.i l.ones) (drop l.i l.others))
 
 abbrev pub invariant-same_members-loop-i : goal.invariant-same_members-loop-i
 invariant-same_members-loop-i l =
-    (member_lists_eq l.a l.b ≡ member_lists_eq (drop l.i l.a) (drop l.i l.b))
+    (member_lists_eq l.ones l.others ≡ member_lists_eq (drop l.i l.ones) (drop l.i l.others))
