@@ -20,10 +20,10 @@ pub fn are_refused(alloc: Global) -> bool {
 }
 
 /// Answers a row with the n-th request refused, and says what is wrong with that. Whether there was such a request.
-fn judge_refused<L: Layers>(alloc: Global, fault: &mut Said, row: Row<'_>, nth: usize) -> bool {
-    refuse(alloc, nth);
-    let it = answered::<L>(alloc, row);
-    let was_refused = was_refused(alloc);
+fn judge_refused<L: Layers>(fault: &mut Said, row: Row<'_>, nth: usize) -> bool {
+    refuse(fault.alloc, nth);
+    let it = answered::<L>(fault.alloc, row);
+    let was_refused = was_refused(fault.alloc);
     if !was_refused {
         say_fault(fault, row, &it);
     } else if !it.said.is_lacking {
@@ -36,9 +36,9 @@ fn judge_refused<L: Layers>(alloc: Global, fault: &mut Said, row: Row<'_>, nth: 
 }
 
 /// Answers a row with each request refused, one at a time, and says what is wrong with that.
-pub fn judge_starred<L: Layers>(alloc: Global, fault: &mut Said, tally: &mut Tally, row: Row<'_>) {
+pub fn judge_starred<L: Layers>(fault: &mut Said, tally: &mut Tally, row: Row<'_>) {
     for nth in 1..REQUESTS {
-        if !judge_refused::<L>(alloc, fault, row, nth) {
+        if !judge_refused::<L>(fault, row, nth) {
             if nth == 1 {
                 fault.push(": it makes no request for memory");
             }

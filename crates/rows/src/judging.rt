@@ -55,22 +55,19 @@ impl Tally {
     }
 }
 
-/// A row: its layer, its question and its answer.
+/// A row: where it stands, its question and its answer.
 #[derive(Clone, Copy)]
 pub struct Row<'a> {
-    layer: &'a str,
-    is_unaided: bool,
-    question: &'a [u8],
-    answer: &'a [u8],
-}
-
-/// Where a row stands.
-#[derive(Clone, Copy)]
-pub struct Place<'a> {
     pub layer: &'a str,
     pub file: &'a str,
     /// From 0 on.
     pub line: usize,
+    /// Whether each of its requests for memory is to be refused.
+    pub is_starred: bool,
+    /// Whether its call is to make none.
+    pub is_unaided: bool,
+    pub question: &'a [u8],
+    pub answer: &'a [u8],
 }
 
 /// Bytes as a text; an empty one where they are none.
@@ -81,11 +78,11 @@ fn as_text(bytes: &[u8]) -> &str {
 /// The answer that is found to a row.
 pub fn answered<'a, L: Layers>(alloc: Global, row: Row<'a>) -> Asked<'a> {
     let mut parts = row.question.splitn(2, |byte| *byte == b' ');
-    let command = parts.next().unwrap_or(b"");
+    let command = as_text(parts.next().unwrap_or(b""));
     let bytes = parts.next().unwrap_or(b"");
     let mut it = Asked {
         alloc,
-        command: as_text(command),
+        command,
         bytes,
         text: as_text(bytes),
         wanted: as_text(row.answer),
@@ -138,127 +135,91 @@ pub fn say_fault(fault: &mut Said, row: Row<'_>, it: &Asked<'_>) {
     }
 }
 
-/// Answers a row, and says what is wrong with it, if anything is.
-fn judge_plain<L: Layers>(alloc: Global, fault: &mut Said, row: Row<'_>) {
-    let it = answered::<L>(alloc, row);
-    say_fault(fault, row, &it);
-}
-
-/// Says where a row stands.
-fn say_place(report: &mut Said, place: Place<'_>) {
-    report.push(place.file);
+/// Says that something is wrong with a row.
+fn say_wrong(report: &mut Said, tally: &mut Tally, row: Row<'_>, fault: &str) {
+    tally.wrong = tally.wrong.saturating_add(1);
+    report.push(row.file);
     report.push(":");
-    report.shown(&place.line.saturating_add(1));
+    report.shown(&row.line.saturating_add(1));
     report.push(": ");
+    say_cut(report, row.question);
+    report.push(fault);
+    report.push("\n");
 }
 
 /// Judges a row, and counts and reports it.
-fn judge_row<L: Layers>(
-    alloc: Global,
-    report: &mut Said,
-    tally: &mut Tally,
-    place: Place<'_>,
-    row: Row<'_>,
-    is_starred: bool,
-) {
-    let mut fault = Said::new(alloc);
-    if is_starred {
-        faults::judge_starred::<L>(alloc, &mut fault, tally, row);
+fn judge_row<L: Layers>(report: &mut Said, tally: &mut Tally, row: Row<'_>) {
+    let mut fault = Said::new(report.alloc);
+    if row.is_starred {
+        faults::judge_starred::<L>(&mut fault, tally, row);
     } else {
-        judge_plain::<L>(alloc, &mut fault, row);
+        say_fault(&mut fault, row, &answered::<L>(report.alloc, row));
     }
     if fault.text.is_empty() && !fault.is_lacking {
         tally.right = tally.right.saturating_add(1);
     } else {
-        tally.wrong = tally.wrong.saturating_add(1);
-        say_place(report, place);
-        say_cut(report, row.question);
-        report.push(fault.text.as_str());
-        report.push("\n");
+        say_wrong(report, tally, row, fault.text.as_str());
     }
 }
 
-/// Judges a question and its answer, if they are among those that are judged.
-fn judge_lines<L: Layers>(
-    alloc: Global,
-    report: &mut Said,
-    tally: &mut Tally,
-    place: Place<'_>,
-    question: &[u8],
-    answer: &[u8],
-) {
-    let starred = question.strip_prefix(b"* ");
-    let unaided = question.strip_prefix(b"unaided ");
-    let row = Row {
-        layer: place.layer,
-        is_unaided: tally.is_faults && unaided.is_some(),
-        question: starred.or(unaided).unwrap_or(question),
-        answer,
-    };
-    if !tally.is_faults || starred.is_some() || unaided.is_some() {
-        let is_starred = tally.is_faults && starred.is_some();
-        judge_row::<L>(alloc, report, tally, place, row, is_starred);
+/// Judges a row that is spelled whole, if it is among those that are judged.
+fn judge_whole<L: Layers>(report: &mut Said, tally: &mut Tally, mut row: Row<'_>) {
+    if let Some(question) = row.question.strip_prefix(b"* ") {
+        row.question = question;
+        row.is_starred = tally.is_faults;
+    } else if let Some(question) = row.question.strip_prefix(b"unaided ") {
+        row.question = question;
+        row.is_unaided = tally.is_faults;
+    }
+    if !tally.is_faults || row.is_starred || row.is_unaided {
+        judge_row::<L>(report, tally, row);
     }
 }
 
-/// Judges a question and its answer, each of which may be spelled in short.
-fn judge_spelled<L: Layers>(
-    alloc: Global,
-    report: &mut Said,
-    tally: &mut Tally,
-    place: Place<'_>,
-    question: &[u8],
-    answer: &[u8],
-) {
+/// Judges a row whose question and answer may each be spelled in short.
+fn judge_spelled<L: Layers>(report: &mut Said, tally: &mut Tally, row: Row<'_>) {
     tally.rows = tally.rows.saturating_add(1);
-    let (short, short_answer) = (as_text(question), as_text(answer));
-    if !short.contains("<<") && !short_answer.contains("<<") {
-        return judge_lines::<L>(alloc, report, tally, place, question, answer);
+    let (question, answer) = (as_text(row.question), as_text(row.answer));
+    if !question.contains("<<") && !answer.contains("<<") {
+        return judge_whole::<L>(report, tally, row);
     }
-    let question = expanded(alloc, short);
-    let answer = expanded(alloc, short_answer);
+    let question = expanded(report.alloc, question);
+    let answer = expanded(report.alloc, answer);
     if question.is_lacking || answer.is_lacking {
-        return say_wrong(report, tally, place, "what is in << and >> spells nothing");
+        return say_wrong(report, tally, row, ": what is in << and >> spells nothing");
     }
     let question = question.text.as_bytes();
-    judge_lines::<L>(
-        alloc,
+    let answer = answer.text.as_bytes();
+    judge_whole::<L>(
         report,
         tally,
-        place,
-        question,
-        answer.text.as_bytes(),
+        Row {
+            question,
+            answer,
+            ..row
+        },
     );
 }
 
-/// Says that something is wrong with a file.
-fn say_wrong(report: &mut Said, tally: &mut Tally, place: Place<'_>, why: &str) {
-    tally.wrong = tally.wrong.saturating_add(1);
-    say_place(report, place);
-    report.push(why);
-    report.push("\n");
-}
-
-/// Judges the rows of a text.
-fn judge_text<L: Layers>(
-    alloc: Global,
+/// Judges the rows of a text, the first of which stands behind the row that is given.
+fn judge_text<'a, L: Layers>(
     report: &mut Said,
     tally: &mut Tally,
-    mut place: Place<'_>,
-    text: &[u8],
+    mut row: Row<'a>,
+    text: &'a [u8],
 ) {
-    let mut asked: Option<&[u8]> = None;
     for (at, line) in text.split(|byte| *byte == b'\n').enumerate() {
-        if let Some(question) = asked {
-            judge_spelled::<L>(alloc, report, tally, place, question, line);
-            asked = None;
-        } else if !line.is_empty() && !line.starts_with(b"#") && !line.starts_with(b"=") {
-            asked = Some(line);
-            place.line = at;
+        if !row.question.is_empty() {
+            row.answer = line;
+            judge_spelled::<L>(report, tally, row);
+            row.question = b"";
+        } else if !matches!(line.first(), None | Some(b'#' | b'=')) {
+            row.question = line;
+            row.line = at;
         }
     }
-    if asked.is_some() {
-        say_wrong(report, tally, place, "no answer stands behind it");
+    if !row.question.is_empty() {
+        say_wrong(report, tally, row, ": no answer stands behind it");
     }
 }
 
@@ -282,26 +243,25 @@ fn say_tally(report: &mut Said, file: &str, found: Tally) {
 }
 
 /// Judges the rows of a file, and says of it how many are right, if any are judged.
-pub fn judge<L: Layers>(
-    alloc: Global,
-    report: &mut Said,
-    tally: &mut Tally,
-    (layer, file): (&str, &str),
-    text: &[u8],
-) {
+pub fn judge<L: Layers>(report: &mut Said, tally: &mut Tally, file: &str, text: &[u8]) {
     let mut found = Tally::new(tally.is_faults);
-    let place = Place {
+    let (layer, _) = file.split_once('/').unwrap_or((file, ""));
+    let row = Row {
         layer,
         file,
         line: 0,
+        is_starred: false,
+        is_unaided: false,
+        question: b"",
+        answer: b"",
     };
     let text = text.strip_suffix(b"\n").unwrap_or(text);
-    judge_text::<L>(alloc, report, &mut found, place, text);
+    judge_text::<L>(report, &mut found, row, text);
     if found.rows == 0 {
         say_wrong(
             report,
             &mut found,
-            place,
+            row,
             "the file cannot be read, or has no rows",
         );
     }

@@ -112,32 +112,40 @@ pub fn new_field(said: &mut Said, name: &str, data_type: DataType, is_nullable: 
     }
 }
 
+/// The plain types, each behind its name.
+const PLAIN: [(&str, DataType); 21] = [
+    ("Null", DataType::Null),
+    ("Boolean", DataType::Boolean),
+    ("Int8", DataType::Int8),
+    ("Int16", DataType::Int16),
+    ("Int32", DataType::Int32),
+    ("Int64", DataType::Int64),
+    ("UInt8", DataType::UInt8),
+    ("UInt16", DataType::UInt16),
+    ("UInt32", DataType::UInt32),
+    ("UInt64", DataType::UInt64),
+    ("Float16", DataType::Float16),
+    ("Float32", DataType::Float32),
+    ("Float64", DataType::Float64),
+    ("Date32", DataType::Date32),
+    ("Date64", DataType::Date64),
+    ("Binary", DataType::Binary),
+    ("LargeBinary", DataType::LargeBinary),
+    ("BinaryView", DataType::BinaryView),
+    ("Utf8", DataType::Utf8),
+    ("LargeUtf8", DataType::LargeUtf8),
+    ("Utf8View", DataType::Utf8View),
+];
+
 /// The plain type of a name.
 fn plain(said: &mut Said, name: &str) -> DataType {
-    match name {
-        "Null" => DataType::Null,
-        "Boolean" => DataType::Boolean,
-        "Int8" => DataType::Int8,
-        "Int16" => DataType::Int16,
-        "Int32" => DataType::Int32,
-        "Int64" => DataType::Int64,
-        "UInt8" => DataType::UInt8,
-        "UInt16" => DataType::UInt16,
-        "UInt32" => DataType::UInt32,
-        "UInt64" => DataType::UInt64,
-        "Float16" => DataType::Float16,
-        "Float32" => DataType::Float32,
-        "Float64" => DataType::Float64,
-        "Date32" => DataType::Date32,
-        "Date64" => DataType::Date64,
-        "Binary" => DataType::Binary,
-        "LargeBinary" => DataType::LargeBinary,
-        "BinaryView" => DataType::BinaryView,
-        "Utf8" => DataType::Utf8,
-        "LargeUtf8" => DataType::LargeUtf8,
-        "Utf8View" => DataType::Utf8View,
-        _ => no_type(said),
+    for (known, data_type) in PLAIN.iter() {
+        if *known == name {
+            let clone = data_type.try_clone(said.alloc);
+            return ManuallyDrop::into_inner(made(said, clone));
+        }
     }
+    no_type(said)
 }
 
 /// What stands between the commas of a text that are in no brackets, without white space around it; nothing of a text

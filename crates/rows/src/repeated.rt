@@ -8,13 +8,11 @@ use std::alloc::Global;
 
 /// Says a text with a number in the place of each `%`.
 fn say_numbered(said: &mut Said, text: &str, number: u32) {
-    let (head, rest) = text.split_once('%').unwrap_or((text, ""));
-    said.push(head);
-    if head.len() < text.len() {
-        for part in rest.split('%') {
-            said.shown(&number);
-            said.push(part);
-        }
+    let mut parts = text.split('%');
+    said.push(parts.next().unwrap_or(""));
+    for part in parts {
+        said.shown(&number);
+        said.push(part);
     }
 }
 
@@ -47,12 +45,10 @@ fn say_repeated(said: &mut Said, text: &str) {
 /// The text that one stands for; it is lacking where it is spelled otherwise.
 pub fn expanded(alloc: Global, text: &str) -> Said {
     let mut said = Said::new(alloc);
-    let (head, rest) = text.split_once("<<").unwrap_or((text, ""));
-    said.push(head);
-    if head.len() < text.len() {
-        for part in rest.split("<<") {
-            say_repeated(&mut said, part);
-        }
+    let mut parts = text.split("<<");
+    said.push(parts.next().unwrap_or(""));
+    for part in parts {
+        say_repeated(&mut said, part);
     }
     said
 }

@@ -2,77 +2,56 @@
 use crate::faults;
 use crate::judging::{Layers, Tally, judge};
 use crate::said::Said;
-use std::alloc::Global;
-use std::fs::DirEntry;
 use std::io::Write;
 use std::process::ExitCode;
 use std::{env, fs, io};
 
 /// Whether the program's argument is `faults`.
 fn is_faults(rt: &HostRuntime) -> io::Result<bool> {
-    let mut found = false;
-    for word in env::args(rt)?.skip(1) {
-        found = word.as_str() == "faults";
+    match env::args(rt)?.nth(1) {
+        Some(word) => Ok(word.as_str() == "faults"),
+        None => Ok(false),
     }
-    Ok(found)
 }
 
-/// The names of the files in a folder, in order.
-fn names_in(rt: &HostRuntime, folder: &str) -> io::Result<Vec<String>> {
-    let mut names = Vec::new(rt.alloc());
+/// Adds the files in a folder.
+fn add_files(rt: &HostRuntime, files: &mut Vec<String>, folder: &str) -> io::Result<()> {
     for entry in fs::read_dir(rt, folder)? {
-        add_name(rt.alloc(), &mut names, &entry?)?;
+        files.push([folder, "/", entry?.file_name()].concat(rt.alloc())?)?;
     }
-    names.sort()?;
-    Ok(names)
-}
-
-/// Adds the name of a file.
-fn add_name(alloc: Global, names: &mut Vec<String>, entry: &DirEntry) -> io::Result<()> {
-    names.push(String::from_str(alloc, entry.file_name())?)?;
     Ok(())
 }
 
 /// Judges the rows of a file, and prints what is said of them.
-fn judge_file<L: Layers>(
-    rt: &HostRuntime,
-    layer: &str,
-    name: &str,
-    tally: &mut Tally,
-) -> io::Result<()> {
-    let file = [layer, "/", name].concat(rt.alloc())?;
-    let text = fs::read(rt, file.as_str()).unwrap_or(Vec::new(rt.alloc()));
+fn judge_file<L: Layers>(rt: &HostRuntime, tally: &mut Tally, file: &str) -> io::Result<()> {
+    let text = fs::read(rt, file).unwrap_or(Vec::new(rt.alloc()));
     let mut report = Said::new(rt.alloc());
-    judge::<L>(
-        rt.alloc(),
-        &mut report,
-        tally,
-        (layer, file.as_str()),
-        text.as_slice(),
-    );
+    judge::<L>(&mut report, tally, file, text.as_slice());
     rt.stdout().write_all(report.text.as_bytes())
 }
 
-/// Judges the rows of all files.
+/// Judges the rows of all files, in the order of their names.
 fn judge_all<L: Layers>(rt: &HostRuntime, tally: &mut Tally) -> io::Result<()> {
+    let mut files = Vec::new(rt.alloc());
     for layer in L::NAMES {
-        for name in names_in(rt, layer)? {
-            judge_file::<L>(rt, layer, name.as_str(), tally)?;
-        }
+        add_files(rt, &mut files, layer)?;
+    }
+    files.sort_unstable();
+    for file in &files {
+        judge_file::<L>(rt, tally, file.as_str())?;
     }
     Ok(())
 }
 
 /// Judges the rows, and prints how many are right and how many are wrong. Whether all are right.
 fn run<L: Layers>(rt: &HostRuntime) -> io::Result<bool> {
-    let is_faults = is_faults(rt)?;
-    if is_faults && !faults::are_refused(rt.alloc()) {
+    let mut tally = Tally::new(is_faults(rt)?);
+    if tally.is_faults && !faults::are_refused(rt.alloc()) {
         println!(rt; "no request is refused: bin/faults starts this over a library that does so")?;
-        println!(rt; "0 passed, 1 failed")?;
-        return Ok(false);
+        tally.wrong = 1;
+    } else {
+        judge_all::<L>(rt, &mut tally)?;
     }
-    let mut tally = Tally::new(is_faults);
-    judge_all::<L>(rt, &mut tally)?;
     println!(rt; "{} passed, {} failed", tally.right, tally.wrong)?;
     Ok(tally.wrong == 0 && tally.right > 0)
 }
