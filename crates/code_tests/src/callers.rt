@@ -5,6 +5,7 @@ use geoarrow_schema::{
 };
 use serde_json::Value;
 use std::alloc::{AllocError, Global};
+use std::mem::ManuallyDrop;
 use std::sync::Arc;
 use std::test::Fail;
 use uses::{
@@ -17,9 +18,9 @@ const PROJJSON: &str = r#"{"type":"GeographicCRS"}"#;
 
 /// A column of points, whose CRS is this PROJJSON.
 fn points(alloc: Global, projjson: &str) -> Result<Field, Fail> {
-    let value = Value::from_str(alloc, projjson)?;
+    let value = ManuallyDrop::new(Value::from_str(alloc, projjson)?);
     let crs = if Crs::is_projjson(&value) {
-        Crs::from_projjson(value)
+        Crs::from_projjson(ManuallyDrop::into_inner(value))
     } else {
         Crs::default()
     };
@@ -35,23 +36,31 @@ fn shapes(alloc: Global) -> Result<Field, Fail> {
     Ok(write_column(alloc, "shape", true, geometry)?)
 }
 
-/// The members of a union. Errs where the data type is none, so that a test of it fails.
-fn members(data_type: DataType) -> Result<UnionFields, AllocError> {
-    match data_type {
-        DataType::Union(members, _) => Ok(members),
+/// The members with these type ids of the column. Errs where it is none of a union, so that a test of it fails.
+fn kept(alloc: Global, column: &Field, ids: &[i8]) -> Result<UnionFields, AllocError> {
+    let narrowed = ManuallyDrop::new(keep_wanted(alloc, column, ids)?);
+    match (*narrowed).as_ref().map(Field::data_type) {
+        Some(DataType::Union(members, _)) => members.try_clone(alloc),
         _ => Err(AllocError),
     }
 }
 
-/// The members with these type ids of the column.
-fn kept(alloc: Global, column: &Field, ids: &[i8]) -> Result<UnionFields, AllocError> {
-    let narrowed = keep_wanted(alloc, column, ids)?.ok_or(AllocError)?;
-    members(narrowed.data_type().try_clone(alloc)?)
+/// How many members two parts of a column of any kind have, once they are joined.
+fn joined_len(alloc: Global) -> Result<usize, Fail> {
+    let column = ManuallyDrop::new(shapes(alloc)?);
+    let one = kept(alloc, &column, &[1, 3])?;
+    let other = kept(alloc, &column, &[2, 31])?;
+    match &*ManuallyDrop::new(join_unions(one, other)?) {
+        Some(DataType::Union(members, _)) => Ok(members.len()),
+        _ => Ok(0),
+    }
 }
 
 /// Whether columns of points with these two PROJJSON are written alike.
 fn are_alike(alloc: Global, one: &str, other: &str) -> Result<bool, Fail> {
-    Ok(are_written_alike(alloc, &points(alloc, one)?, &points(alloc, other)?)?)
+    let one = ManuallyDrop::new(points(alloc, one)?);
+    let other = ManuallyDrop::new(points(alloc, other)?);
+    Ok(are_written_alike(alloc, &one, &other)?)
 }
 
 /// A column that is called points and holds texts.
@@ -59,12 +68,17 @@ fn faulty(alloc: Global) -> Result<Field, Fail> {
     Ok(points(alloc, PROJJSON)?.with_data_type(DataType::Utf8))
 }
 
+/// The kind of a column of boxes.
+fn box_kind(alloc: Global) -> Result<Kind, Fail> {
+    let metadata = Arc::new(alloc, Metadata::default())?;
+    let boxes = ManuallyDrop::new(BoxType::new(Dimension::XYZ, metadata));
+    let column = ManuallyDrop::new(boxes.to_field(alloc, "bounds", true)?);
+    Ok(column_kind(alloc, &column)?)
+}
+
 #[test]
 fn of_a_kind(rt: HostRuntime) -> Result<(), Fail> {
-    let alloc = rt.alloc();
-    let boxes = BoxType::new(Dimension::XYZ, Arc::new(alloc, Metadata::default())?);
-    let column = boxes.to_field(alloc, "bounds", true)?;
-    assert!(rt; column_kind(alloc, &column)? == Kind::Rect(Dimension::XYZ));
+    assert!(rt; box_kind(rt.alloc())? == Kind::Rect(Dimension::XYZ));
     Ok(())
 }
 
@@ -75,28 +89,36 @@ fn of_two_columns(rt: HostRuntime) -> Result<(), Fail> {
     Ok(())
 }
 
+/// Whether the CRS of a column of points is the text that it was made of.
+fn is_crs_kept(alloc: Global) -> Result<bool, Fail> {
+    let column = ManuallyDrop::new(points(alloc, PROJJSON)?);
+    match &*ManuallyDrop::new(projjson_text(alloc, &column)?) {
+        Some(text) => Ok(text.as_str() == PROJJSON),
+        None => Ok(false),
+    }
+}
+
 #[test]
 fn of_a_crs(rt: HostRuntime) -> Result<(), Fail> {
-    let text = projjson_text(rt.alloc(), &points(rt.alloc(), PROJJSON)?)?;
-    assert!(rt; text.is_some_and(|text| text.as_str() == PROJJSON));
+    assert!(rt; is_crs_kept(rt.alloc())?);
     Ok(())
+}
+
+/// Whether the one column of points and the faulty one before it are found.
+fn is_surveyed(alloc: Global) -> Result<bool, Fail> {
+    let columns = ManuallyDrop::new([faulty(alloc)?, points(alloc, PROJJSON)?]);
+    let survey = ManuallyDrop::new(survey_columns(alloc, &*columns)?);
+    Ok(survey.geometries == 1 && survey.faulty.first() == Some(&0))
 }
 
 #[test]
 fn of_a_schema(rt: HostRuntime) -> Result<(), Fail> {
-    let columns = [faulty(rt.alloc())?, points(rt.alloc(), PROJJSON)?];
-    let survey = survey_columns(rt.alloc(), &columns)?;
-    assert_eq!(rt; survey.geometries, 1);
-    assert_eq!(rt; survey.faulty.first(), Some(&0));
+    assert!(rt; is_surveyed(rt.alloc())?);
     Ok(())
 }
 
 #[test]
 fn of_unions(rt: HostRuntime) -> Result<(), Fail> {
-    let column = shapes(rt.alloc())?;
-    let one = kept(rt.alloc(), &column, &[1, 3])?;
-    let other = kept(rt.alloc(), &column, &[2, 31])?;
-    let joined = members(join_unions(one, other)?.ok_or(AllocError)?)?;
-    assert_eq!(rt; joined.len(), 4);
+    assert!(rt; joined_len(rt.alloc())? == 4);
     Ok(())
 }

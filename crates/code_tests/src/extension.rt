@@ -6,6 +6,7 @@ use arrow_values::{
 use geoarrow_schema::Metadata;
 use std::alloc::{AllocError, Global};
 use std::collections::BTreeMap;
+use std::mem::ManuallyDrop;
 use std::test::Fail;
 use uses::Marked;
 
@@ -78,28 +79,46 @@ fn handed_over(alloc: Global, marked: &Marked) -> Result<Field, ArrowError> {
     field.with_extension_type(alloc, marked)
 }
 
+/// Whether a field has those keys and texts, and is read as the type.
+fn is_of(
+    alloc: Global,
+    field: Field,
+    texts: &[(&str, &str)],
+    marked: &Marked,
+) -> Result<bool, ArrowError> {
+    let field = ManuallyDrop::new(field);
+    let wanted = ManuallyDrop::new(column(alloc, texts, DataType::Binary)?);
+    let found = ManuallyDrop::new(field.try_extension_type::<Marked>(alloc)?);
+    Ok(*field == *wanted && found.metadata == marked.metadata)
+}
+
+/// Whether the type of a metadata text, written by either call, makes a field of those keys and texts that is read as it.
+fn is_written(alloc: Global, text: &str, texts: &[(&str, &str)]) -> Result<bool, ArrowError> {
+    let marked = ManuallyDrop::new(type_of(alloc, text)?);
+    let is_written = is_of(alloc, written(alloc, &marked)?, texts, &marked)?;
+    Ok(is_written && is_of(alloc, handed_over(alloc, &marked)?, texts, &marked)?)
+}
+
 #[test]
 fn of_ones_own_is_written_and_read(rt: HostRuntime) -> Result<(), Fail> {
-    let alloc = rt.alloc();
     for &(text, texts) in WRITTEN.iter() {
-        let marked = type_of(alloc, text)?;
-        let wanted = column(alloc, texts, DataType::Binary)?;
-        for field in [written(alloc, &marked)?, handed_over(alloc, &marked)?].iter() {
-            assert!(rt; *field == wanted, "{text}");
-            let found = field.try_extension_type::<Marked>(alloc)?;
-            assert!(rt; found.metadata == marked.metadata, "{text}");
-        }
+        assert!(rt; is_written(rt.alloc(), text, texts)?, "{text}");
     }
     Ok(())
 }
 
+/// Whether the type is refused on a field of texts, which is then as it was.
+fn is_refused_alone(alloc: Global) -> Result<bool, ArrowError> {
+    let marked = ManuallyDrop::new(type_of(alloc, "{}")?);
+    let stale = ManuallyDrop::new(column(alloc, STALE, DataType::Utf8)?);
+    let mut field = ManuallyDrop::new(column(alloc, STALE, DataType::Utf8)?);
+    let refused = ManuallyDrop::new(field.try_with_extension_type(alloc, &*marked));
+    Ok(refused.is_err() && *field == *stale)
+}
+
 #[test]
 fn of_ones_own_is_refused_with_the_field(rt: HostRuntime) -> Result<(), Fail> {
-    let alloc = rt.alloc();
-    let mut field = column(alloc, STALE, DataType::Utf8)?;
-    let refused = field.try_with_extension_type(alloc, &type_of(alloc, "{}")?);
-    assert!(rt; refused.is_err());
-    assert!(rt; field == column(alloc, STALE, DataType::Utf8)?);
+    assert!(rt; is_refused_alone(rt.alloc())?);
     Ok(())
 }
 
@@ -118,27 +137,26 @@ const REFUSED: [(&str, &str, &str); 4] = [
     ("example.marked", "{}", "Schema error: unexpected data type"),
 ];
 
-/// How the type is refused where it is read from a field of texts with those keys and texts.
-fn read_refusal(alloc: Global, texts: &[(&str, &str)]) -> Result<String, AllocError> {
-    let field = column(alloc, texts, DataType::Utf8)?;
-    match field.try_extension_type::<Marked>(alloc) {
-        Ok(_) => Err(AllocError),
-        Err(error) => error.to_string(alloc),
+/// Whether the type is refused so where it is read from a field of texts with those keys and texts.
+fn is_refused(alloc: Global, texts: &[(&str, &str)], wanted: &str) -> Result<bool, AllocError> {
+    let field = ManuallyDrop::new(column(alloc, texts, DataType::Utf8)?);
+    match &*ManuallyDrop::new(field.try_extension_type::<Marked>(alloc)) {
+        Ok(_) => Ok(false),
+        Err(error) => Ok(error.to_string(alloc)?.as_str() == wanted),
     }
 }
 
 #[test]
 fn of_ones_own_is_not_read_from_other_fields(rt: HostRuntime) -> Result<(), Fail> {
-    let alloc = rt.alloc();
     for &(name, text, wanted) in REFUSED.iter() {
         let texts = [
             (EXTENSION_TYPE_NAME_KEY, name),
             (EXTENSION_TYPE_METADATA_KEY, text),
         ];
-        let refused = read_refusal(alloc, &texts)?;
-        assert!(rt; refused.as_str() == wanted, "{name} {text}");
+        assert!(rt; is_refused(rt.alloc(), &texts, wanted)?, "{name} {text}");
     }
-    let refused = read_refusal(alloc, &[(EXTENSION_TYPE_METADATA_KEY, "{}")])?;
-    assert!(rt; refused.as_str() == "Invalid argument error: extension name missing");
+    let texts = [(EXTENSION_TYPE_METADATA_KEY, "{}")];
+    let wanted = "Invalid argument error: extension name missing";
+    assert!(rt; is_refused(rt.alloc(), &texts, wanted)?);
     Ok(())
 }

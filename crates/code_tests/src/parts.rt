@@ -13,6 +13,7 @@ use std::alloc::{AllocError, Global};
 use std::collections::BTreeMap;
 use std::fmt::Debug;
 use std::hash::{DefaultHasher, Hash, Hasher};
+use std::mem::ManuallyDrop;
 use std::sync::Arc;
 use std::test::Fail;
 
@@ -83,23 +84,22 @@ fn is_encoding<E: Encoding>(alloc: Global, name: &str) -> Result<bool, AllocErro
 }
 
 #[test]
-fn of_types_are_cloned_and_handed_out(rt: HostRuntime) -> Result<(), Fail> {
+fn of_types_are_cloned_and_handed_out(rt: HostRuntime) {
     let alloc = rt.alloc();
     let are_right = [
-        is_native::<Point>(alloc, "PointType {")?,
-        is_native::<LineString>(alloc, "LineStringType {")?,
-        is_native::<Polygon>(alloc, "PolygonType {")?,
-        is_native::<MultiPoint>(alloc, "MultiPointType {")?,
-        is_native::<MultiLineString>(alloc, "MultiLineStringType {")?,
-        is_native::<MultiPolygon>(alloc, "MultiPolygonType {")?,
-        is_native::<GeometryCollection>(alloc, "GeometryCollectionType {")?,
-        is_box(alloc)?,
-        is_geometry(alloc)?,
-        is_encoding::<Wkb>(alloc, "WkbType {")?,
-        is_encoding::<Wkt>(alloc, "WktType {")?,
+        is_native::<Point>(alloc, "PointType {"),
+        is_native::<LineString>(alloc, "LineStringType {"),
+        is_native::<Polygon>(alloc, "PolygonType {"),
+        is_native::<MultiPoint>(alloc, "MultiPointType {"),
+        is_native::<MultiLineString>(alloc, "MultiLineStringType {"),
+        is_native::<MultiPolygon>(alloc, "MultiPolygonType {"),
+        is_native::<GeometryCollection>(alloc, "GeometryCollectionType {"),
+        is_box(alloc),
+        is_geometry(alloc),
+        is_encoding::<Wkb>(alloc, "WkbType {"),
+        is_encoding::<Wkt>(alloc, "WktType {"),
     ];
-    assert!(rt; are_right == [true; 11], "{are_right:?}");
-    Ok(())
+    assert!(rt; are_right == [Ok(true); 11], "{are_right:?}");
 }
 
 /// The field `g` of texts, with those keys and texts.
@@ -110,54 +110,75 @@ fn of_texts(alloc: Global, pairs: &[(&str, &str)]) -> Result<Field, AllocError> 
 /// Whether a new field of a list has no key, and its items keep theirs.
 fn is_list_of_field(alloc: Global) -> Result<bool, AllocError> {
     let list = Field::new_list(alloc, "g", of_texts(alloc, &[("k", "v")])?, true)?;
+    let list = ManuallyDrop::new(list);
     let items = Box::new(alloc, of_texts(alloc, &[("k", "v")])?)?;
-    Ok(list == column(alloc, &[], DataType::List(items))?)
+    let wanted = ManuallyDrop::new(column(alloc, &[], DataType::List(items))?);
+    Ok(*list == *wanted)
 }
 
 /// Whether a field with other keys has these alone.
 fn is_with_metadata(alloc: Global) -> Result<bool, AllocError> {
     let pairs = [("k", "v")];
-    let field = of_texts(alloc, &[("k", "w"), ("l", "w")])?;
-    let changed = field.with_metadata(texts(alloc, &pairs)?);
-    Ok(changed == of_texts(alloc, &pairs)?)
+    let field = ManuallyDrop::new(of_texts(alloc, &[("k", "w"), ("l", "w")])?);
+    let texts = texts(alloc, &pairs)?;
+    let changed = ManuallyDrop::new(ManuallyDrop::into_inner(field).with_metadata(texts));
+    let wanted = ManuallyDrop::new(of_texts(alloc, &pairs)?);
+    Ok(*changed == *wanted)
 }
 
 /// Whether a field whose keys are taken away is the field without any.
 fn is_without_metadata(alloc: Global) -> Result<bool, AllocError> {
-    let mut changed = of_texts(alloc, &[("k", "v")])?;
+    let mut changed = ManuallyDrop::new(of_texts(alloc, &[("k", "v")])?);
     changed.set_metadata(BTreeMap::new(alloc));
-    Ok(changed == of_texts(alloc, &[])?)
+    let wanted = ManuallyDrop::new(of_texts(alloc, &[])?);
+    Ok(*changed == *wanted)
 }
 
 #[test]
-fn of_fields_are_changed_alone(rt: HostRuntime) -> Result<(), Fail> {
+fn of_fields_are_changed_alone(rt: HostRuntime) {
     let alloc = rt.alloc();
     let are_right = [
-        is_list_of_field(alloc)?,
-        is_with_metadata(alloc)?,
-        is_without_metadata(alloc)?,
+        is_list_of_field(alloc),
+        is_with_metadata(alloc),
+        is_without_metadata(alloc),
     ];
-    assert!(rt; are_right == [true; 3], "{are_right:?}");
-    Ok(())
+    assert!(rt; are_right == [Ok(true); 3], "{are_right:?}");
 }
 
 /// The ids of a union's members, and the names of the fields of a struct.
 const MEMBERS: [(i8, &str); 3] = [(7, "x"), (0, "y"), (127, "x")];
 
-/// A struct and a union of those members.
-fn both(alloc: Global, members: &[(i8, &str)]) -> Result<(Fields, UnionFields), ArrowError> {
+/// The ids of members.
+fn ids_of(alloc: Global, members: &[(i8, &str)]) -> Result<Vec<i8>, AllocError> {
     let mut ids = Vec::new(alloc);
-    let mut fields = Vec::new(alloc);
-    let mut others = Vec::new(alloc);
-    for &(id, name) in members {
+    for &(id, _) in members {
         ids.push(id)?;
-        fields.push(Field::new(alloc, name, DataType::Null, true)?)?;
-        others.push(Field::new(alloc, name, DataType::Null, true)?)?;
     }
-    Ok((
-        Fields::from(fields),
-        UnionFields::try_new(alloc, ids, others)?,
-    ))
+    Ok(ids)
+}
+
+/// The fields of members.
+fn fields_of(alloc: Global, members: &[(i8, &str)]) -> Result<Vec<Field>, AllocError> {
+    let mut fields = Vec::new(alloc);
+    for &(_, name) in members {
+        fields.push(Field::new(alloc, name, DataType::Null, true)?)?;
+    }
+    Ok(fields)
+}
+
+/// Whether the fields of a struct have these names, by their places and in order, and there are no others.
+fn are_fields(fields: &Fields, members: &[(i8, &str)]) -> bool {
+    for (place, &(_, name)) in members.iter().enumerate() {
+        if fields.get(place).map(Field::name) != Some(name)
+            || fields.iter().nth(place).map(Field::name) != Some(name)
+        {
+            return false;
+        }
+    }
+    let count = members.len();
+    fields.get(count).is_none()
+        && fields.iter().count() == count
+        && fields.is_empty() == members.is_empty()
 }
 
 /// Whether a member is there, and has that id, and its field that name.
@@ -168,24 +189,32 @@ fn is_member(found: Option<(i8, &Field)>, id: i8, name: &str) -> bool {
     }
 }
 
+/// Whether the members of a union are these, by their places and in order, and there are no others.
+fn are_members(union: &UnionFields, members: &[(i8, &str)]) -> bool {
+    for (place, &(id, name)) in members.iter().enumerate() {
+        if !is_member(union.get(place), id, name) || !is_member(union.iter().nth(place), id, name) {
+            return false;
+        }
+    }
+    let count = members.len();
+    union.get(count).is_none()
+        && union.iter().count() == count
+        && union.is_empty() == members.is_empty()
+}
+
+/// Whether a struct and a union of members have them in order.
+fn stand_in_order(alloc: Global, members: &[(i8, &str)]) -> Result<bool, ArrowError> {
+    let fields = ManuallyDrop::new(Fields::from(fields_of(alloc, members)?));
+    let ids = ids_of(alloc, members)?;
+    let union = UnionFields::try_new(alloc, ids, fields_of(alloc, members)?)?;
+    let union = ManuallyDrop::new(union);
+    Ok(are_fields(&fields, members) && are_members(&union, members))
+}
+
 #[test]
 fn of_structs_and_unions_stand_in_order(rt: HostRuntime) -> Result<(), Fail> {
-    let alloc = rt.alloc();
-    let (fields, union) = both(alloc, &MEMBERS)?;
-    for (place, &(id, name)) in MEMBERS.iter().enumerate() {
-        assert!(rt; fields.get(place).map(Field::name) == Some(name), "{place}");
-        assert!(rt;
-            fields.iter().nth(place).map(Field::name) == Some(name),
-            "{place}"
-        );
-        assert!(rt; is_member(union.get(place), id, name), "{place}");
-        assert!(rt; is_member(union.iter().nth(place), id, name), "{place}");
-    }
-    assert!(rt; fields.get(3).is_none() && fields.iter().count() == 3 && !fields.is_empty());
-    assert!(rt; union.get(3).is_none() && union.iter().count() == 3 && !union.is_empty());
-    let (fields, union) = both(alloc, &[])?;
-    assert!(rt; fields.is_empty() && fields.get(0).is_none() && fields.iter().count() == 0);
-    assert!(rt; union.is_empty() && union.get(0).is_none() && union.iter().count() == 0);
+    assert!(rt; stand_in_order(rt.alloc(), &MEMBERS)?);
+    assert!(rt; stand_in_order(rt.alloc(), &[])?);
     Ok(())
 }
 

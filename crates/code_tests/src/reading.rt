@@ -207,10 +207,8 @@ fn write_fails_at_each_call(rt: HostRuntime) -> Result<(), Fail> {
         } else {
             RunEnd::Done
         };
-        assert!(rt; end == want, "at {call}");
-        assert!(rt; out.call == call, "at {call}");
-        assert!(rt; ANSWERS.starts_with(out.text.as_slice()), "at {call}");
-        assert!(rt; out.text.len() == call * 3, "at {call}");
+        let is_written = ANSWERS.starts_with(out.text.as_slice()) && out.text.len() == call * 3;
+        assert!(rt; end == want && out.call == call && is_written, "at {call}");
     }
     Ok(())
 }

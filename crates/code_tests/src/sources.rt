@@ -7,6 +7,7 @@ use column_files::{
 use std::alloc::{AllocError, Global};
 use std::io;
 use std::io::{Cursor, Error, ErrorKind, Read, Seek, SeekFrom};
+use std::mem::ManuallyDrop;
 use std::test::Fail;
 
 /// Gives one byte a call, and fails at the call `fails_at` alone, where calls count from 0. It does not seek.
@@ -73,15 +74,27 @@ fn add_columns<R: Read>(
     Ok(None)
 }
 
-/// The lines of the columns of a source up to its first fault, and that.
+/// The lines of the columns of a source behind its first bytes, up to its first fault, and that.
 fn columns_of_source<R: Read + Drop>(
     alloc: Global,
+    head: Vec<u8>,
     source: R,
 ) -> Result<(Vec<u8>, Option<ReadFault>), AllocError> {
-    let mut lines = LineColumns::new(alloc, Vec::new(alloc), source);
+    let mut lines = ManuallyDrop::new(LineColumns::new(alloc, head, source));
     let mut text = Vec::new(alloc);
     let fault = add_columns(alloc, &mut lines, &mut text)?;
     Ok((text, fault))
+}
+
+/// Whether a source behind its first bytes gives these lines of columns, and no fault.
+fn are_columns<R: Read + Drop>(
+    alloc: Global,
+    head: Vec<u8>,
+    source: R,
+    wanted: &[u8],
+) -> Result<bool, AllocError> {
+    let found = ManuallyDrop::new(columns_of_source(alloc, head, source)?);
+    Ok(found.0.as_slice() == wanted && found.1.is_none())
 }
 
 /// How many of the first bytes make whole lines.
@@ -96,56 +109,60 @@ fn of_lines_give_columns_in_order(rt: HostRuntime) -> Result<(), Fail> {
     let alloc = rt.alloc();
     let unended = &LINES[..LINES.len() - 1];
     for &text in [LINES, unended].iter() {
-        let (whole, fault) = columns_of_source(alloc, text)?;
-        assert!(rt; whole.as_slice() == LINES && fault.is_none(), "at once");
-        let (slow, fault) = columns_of_source(alloc, OneByte::new(text))?;
         assert!(rt;
-            slow.as_slice() == LINES && fault.is_none(),
+            are_columns(alloc, Vec::new(alloc), text, LINES)?,
+            "at once"
+        );
+        let slow = OneByte::new(text);
+        assert!(rt;
+            are_columns(alloc, Vec::new(alloc), slow, LINES)?,
             "one byte a call"
         );
     }
-    let (none, fault) = columns_of_source(alloc, b"".as_slice())?;
-    assert!(rt; none.is_empty() && fault.is_none(), "nothing");
+    assert!(rt;
+        are_columns(alloc, Vec::new(alloc), b"".as_slice(), b"")?,
+        "nothing"
+    );
     Ok(())
 }
 
-/// The first bytes of lines, which were read to tell the format.
-#[test]
-fn of_lines_begin_with_their_head(rt: HostRuntime) -> Result<(), Fail> {
-    let alloc = rt.alloc();
+/// Whether the first bytes of lines, which are read to tell the format, tell it, and the columns begin with them.
+fn begin_with_head(alloc: Global) -> Result<bool, AllocError> {
     let mut source = OneByte::new(LINES);
     let Ok(head) = read_head(alloc, &mut source) else {
-        return Err(Fail::from(AllocError));
+        return Ok(false);
     };
-    assert!(rt; head.as_slice() == &LINES[..8]);
-    assert!(rt; form_of(head.as_slice()) == Form::Lines);
-    let mut lines = LineColumns::new(alloc, head, source);
-    let mut text = Vec::new(alloc);
-    let fault = add_columns(alloc, &mut lines, &mut text)?;
-    assert!(rt; text.as_slice() == LINES && fault.is_none());
+    let is_head = head.as_slice() == &LINES[..8] && form_of(head.as_slice()) == Form::Lines;
+    Ok(are_columns(alloc, head, source, LINES)? && is_head)
+}
+
+#[test]
+fn of_lines_begin_with_their_head(rt: HostRuntime) -> Result<(), Fail> {
+    assert!(rt; begin_with_head(rt.alloc())?);
     Ok(())
 }
 
-/// A read that fails once: the columns of the whole lines before it are there, and the others come behind it. One that a signal interrupts is not seen.
+/// Whether a read that fails once, behind these bytes, gives the columns of their whole lines, and then the others.
+fn stumbles(alloc: Global, before: &[u8]) -> Result<bool, AllocError> {
+    let source = Stumbling::new(LINES, before.len(), ErrorKind::Other);
+    let mut lines = ManuallyDrop::new(LineColumns::new(alloc, Vec::new(alloc), source));
+    let mut text = ManuallyDrop::new(Vec::new(alloc));
+    let fault = ManuallyDrop::new(add_columns(alloc, &mut lines, &mut text)?);
+    let is_cut = text.len() == whole_lines(before);
+    let is_input = matches!(&*fault, Some(ReadFault::Input(_)));
+    let fault = ManuallyDrop::new(add_columns(alloc, &mut lines, &mut text)?);
+    Ok(is_cut && is_input && text.as_slice() == LINES && fault.is_none())
+}
+
+/// A read that fails once. One that a signal interrupts is not seen.
 #[test]
 fn of_lines_fail_at_each_call(rt: HostRuntime) -> Result<(), Fail> {
     let alloc = rt.alloc();
     for call in 0..LINES.len() + 1 {
-        let source = Stumbling::new(LINES, call, ErrorKind::Other);
-        let mut lines = LineColumns::new(alloc, Vec::new(alloc), source);
-        let mut text = Vec::new(alloc);
-        let fault = add_columns(alloc, &mut lines, &mut text)?;
-        assert!(rt; matches!(fault, Some(ReadFault::Input(_))), "at {call}");
-        assert!(rt; text.len() == whole_lines(&LINES[..call]), "at {call}");
-        let fault = add_columns(alloc, &mut lines, &mut text)?;
-        assert!(rt;
-            text.as_slice() == LINES && fault.is_none(),
-            "behind {call}"
-        );
+        assert!(rt; stumbles(alloc, &LINES[..call])?, "at {call}");
         let source = Stumbling::new(LINES, call, ErrorKind::Interrupted);
-        let (text, fault) = columns_of_source(alloc, source)?;
         assert!(rt;
-            text.as_slice() == LINES && fault.is_none(),
+            are_columns(alloc, Vec::new(alloc), source, LINES)?,
             "interrupted at {call}"
         );
     }
@@ -155,76 +172,78 @@ fn of_lines_fail_at_each_call(rt: HostRuntime) -> Result<(), Fail> {
 /// A line that denotes no column is named each time, with how many stand before it.
 #[test]
 fn of_lines_stop_at_no_field(rt: HostRuntime) -> Result<(), Fail> {
-    let alloc = rt.alloc();
-    let input = b"{\"name\":\"c\",\"nullable\":false,\"type\":\"null\"}\n{}\n".as_slice();
-    let mut lines = LineColumns::new(alloc, Vec::new(alloc), input);
-    let mut text = Vec::new(alloc);
-    for _ in 0..2 {
-        let fault = add_columns(alloc, &mut lines, &mut text)?;
-        let wanted = ReadFault::File(FileFault::NoField(1, LineFault::Name));
-        assert!(rt; text.len() == input.len() - 3);
-        assert!(rt; is_same(alloc, fault, &wanted)?);
-    }
+    assert!(rt; stops_twice(rt.alloc())?);
     Ok(())
+}
+
+/// Whether the columns of one line and of one that denotes none stop at that, and again if they are asked once more.
+fn stops_twice(alloc: Global) -> Result<bool, AllocError> {
+    let input = b"{\"name\":\"c\",\"nullable\":false,\"type\":\"null\"}\n{}\n".as_slice();
+    let mut lines = ManuallyDrop::new(LineColumns::new(alloc, Vec::new(alloc), input));
+    let mut text = ManuallyDrop::new(Vec::new(alloc));
+    let once = ManuallyDrop::new(add_columns(alloc, &mut lines, &mut text)?);
+    let again = ManuallyDrop::new(add_columns(alloc, &mut lines, &mut text)?);
+    let wanted = ReadFault::File(FileFault::NoField(1, LineFault::Name));
+    let wanted = ManuallyDrop::new(wanted);
+    Ok(
+        text.len() == input.len() - 3
+            && is_same(alloc, &once, &wanted)?
+            && is_same(alloc, &again, &wanted)?,
+    )
 }
 
 /// Whether a fault is this one, as `Debug` prints it.
 fn is_same(
     alloc: Global,
-    fault: Option<ReadFault>,
+    fault: &Option<ReadFault>,
     wanted: &ReadFault,
 ) -> Result<bool, AllocError> {
     let Some(fault) = fault else {
         return Ok(false);
     };
-    let found = format!(in alloc; "{fault:?}")?;
-    let wanted = format!(in alloc; "{wanted:?}")?;
+    let found = ManuallyDrop::new(format!(in alloc; "{fault:?}")?);
+    let wanted = ManuallyDrop::new(format!(in alloc; "{wanted:?}")?);
     Ok(found.as_str() == wanted.as_str())
 }
 
-/// The last column of `LINES` in a line of so many bytes, behind the first one.
-fn padded(alloc: Global, len: usize) -> Result<Vec<u8>, AllocError> {
+/// The last column of `LINES`.
+const LAST: &[u8] = b"{\"name\":\"c\",\"nullable\":false,\"type\":\"null\"}";
+
+/// That column in a line of so many bytes, behind the first one, and an end.
+fn padded(alloc: Global, len: usize, end: &[u8]) -> Result<Vec<u8>, AllocError> {
     let mut text = Vec::new(alloc);
     text.extend_from_slice(&LINES[..FIRST])?;
-    text.extend_from_slice(b"{\"name\":\"c\",\"nullable\":false,\"type\":\"null\"}")?;
+    text.extend_from_slice(LAST)?;
     text.resize(FIRST.saturating_add(len), b' ')?;
+    text.extend_from_slice(end)?;
     Ok(text)
+}
+
+/// Whether a source gives the first column, and then a line that is too long.
+fn is_too_long<R: Read + Drop>(alloc: Global, source: R) -> Result<bool, AllocError> {
+    let found = ManuallyDrop::new(columns_of_source(alloc, Vec::new(alloc), source)?);
+    let wanted = ManuallyDrop::new(ReadFault::LongLine(1));
+    Ok(found.0.len() == FIRST && is_same(alloc, &found.1, &wanted)?)
+}
+
+/// Whether a line with that end may have as many bytes as a line may have, and not one more.
+fn is_limited(alloc: Global, end: &[u8]) -> Result<bool, AllocError> {
+    let longest = ManuallyDrop::new(padded(alloc, MAX_LINE_BYTES, end)?);
+    let longer = ManuallyDrop::new(padded(alloc, MAX_LINE_BYTES + 1, end)?);
+    let wanted = ManuallyDrop::new(padded(alloc, LAST.len(), b"\n")?);
+    let source = longest.as_slice();
+    let is_read = are_columns(alloc, Vec::new(alloc), source, wanted.as_slice())?;
+    Ok(is_read && is_too_long(alloc, longer.as_slice())?)
 }
 
 /// As many bytes as a line may have, at the end and before a line feed; one more; and a line without an end.
 #[test]
 fn of_lines_are_limited(rt: HostRuntime) -> Result<(), Fail> {
-    let alloc = rt.alloc();
-    let wanted = ReadFault::LongLine(1);
-    for &(len, end, count) in [
-        (MAX_LINE_BYTES, b"".as_slice(), 2usize),
-        (MAX_LINE_BYTES, b"\n", 2),
-        (MAX_LINE_BYTES + 1, b"", 1),
-        (MAX_LINE_BYTES + 1, b"\n", 1),
-    ]
-    .iter()
-    {
-        let mut input = padded(alloc, len)?;
-        input.extend_from_slice(end)?;
-        let (text, fault) = columns_of_source(alloc, input.as_slice())?;
-        let lines = text
-            .as_slice()
-            .iter()
-            .filter(|&&byte| byte == b'\n')
-            .count();
-        assert!(rt; lines == count, "{len} bytes");
-        assert!(rt; fault.is_none() == (count == 2), "{len} bytes");
-        assert!(rt;
-            count == 2 || is_same(alloc, fault, &wanted)?,
-            "{len} bytes"
-        );
+    for &end in [b"".as_slice(), b"\n"].iter() {
+        assert!(rt; is_limited(rt.alloc(), end)?, "before {end:?}");
     }
     let endless = LINES[..FIRST].chain(Repeated { left: usize::MAX });
-    let (text, fault) = columns_of_source(alloc, endless)?;
-    assert!(rt;
-        text.len() == FIRST && is_same(alloc, fault, &wanted)?,
-        "no end"
-    );
+    assert!(rt; is_too_long(rt.alloc(), endless)?, "no end");
     Ok(())
 }
 
@@ -269,15 +288,26 @@ fn read_end<S: Read + Seek>(
 
 /// Whether these bytes were read.
 fn are_read(read: Result<Vec<u8>, ReadFault>, wanted: &[u8]) -> bool {
-    match read {
+    match &*ManuallyDrop::new(read) {
         Ok(bytes) => bytes.as_slice() == wanted,
         Err(_) => false,
     }
 }
 
+/// Whether the last bytes of a source are read where it seeks, and the first ones where it does not, at once, slowly or in a pipe.
+fn are_given(alloc: Global, form: Form, bytes: &[u8], front: &[u8], end: &[u8]) -> bool {
+    let mut whole = bytes;
+    let mut slow = OneByte::new(bytes);
+    let mut seeking = Cursor::new(bytes);
+    let mut piped = Stumbling::new(bytes, usize::MAX, ErrorKind::Other);
+    are_read(read_whole(alloc, form, &mut whole), front)
+        && are_read(read_whole(alloc, form, &mut slow), front)
+        && are_read(read_end(alloc, form, &mut seeking), end)
+        && are_read(read_end(alloc, form, &mut piped), front)
+}
+
 #[test]
 fn of_schemas_give_what_holds_them(rt: HostRuntime) -> Result<(), Fail> {
-    let alloc = rt.alloc();
     for &(form, bytes, last, first) in SCHEMAS.iter() {
         let front = &bytes[..first.min(bytes.len())];
         let end = if form == Form::ArrowStream {
@@ -285,47 +315,28 @@ fn of_schemas_give_what_holds_them(rt: HostRuntime) -> Result<(), Fail> {
         } else {
             &bytes[bytes.len().saturating_sub(last)..]
         };
-        let mut source = bytes;
-        assert!(rt;
-            are_read(read_whole(alloc, form, &mut source), front),
-            "{form:?} at once"
-        );
-        let mut source = OneByte::new(bytes);
-        assert!(rt;
-            are_read(read_whole(alloc, form, &mut source), front),
-            "{form:?} slowly"
-        );
-        let mut source = Cursor::new(bytes);
-        assert!(rt;
-            are_read(read_end(alloc, form, &mut source), end),
-            "{form:?} at its end"
-        );
-        let mut source = Stumbling::new(bytes, usize::MAX, ErrorKind::Other);
-        assert!(rt;
-            are_read(read_end(alloc, form, &mut source), front),
-            "{form:?} in a pipe"
-        );
+        assert!(rt; are_given(rt.alloc(), form, bytes, front, end), "{form:?}");
     }
     Ok(())
 }
 
-/// A read that fails while a schema is read.
+/// Whether a read of a schema that fails at a call fails so, and one that is interrupted there gives these bytes.
+fn fails_at(alloc: Global, form: Form, bytes: &[u8], wanted: &[u8], call: usize) -> bool {
+    let mut failing = Stumbling::new(bytes, call, ErrorKind::Other);
+    let failed = ManuallyDrop::new(read_whole(alloc, form, &mut failing));
+    let mut interrupted = Stumbling::new(bytes, call, ErrorKind::Interrupted);
+    matches!(&*failed, Err(ReadFault::Input(_)))
+        && are_read(read_whole(alloc, form, &mut interrupted), wanted)
+}
+
 #[test]
 fn of_schemas_fail_at_each_call(rt: HostRuntime) -> Result<(), Fail> {
-    let alloc = rt.alloc();
     for &(form, bytes, _, first) in SCHEMAS.iter() {
-        for call in 0..first.min(bytes.len()) {
-            let mut source = Stumbling::new(bytes, call, ErrorKind::Other);
-            let failed = read_whole(alloc, form, &mut source);
+        let wanted = &bytes[..first.min(bytes.len())];
+        for call in 0..wanted.len() {
             assert!(rt;
-                matches!(failed, Err(ReadFault::Input(_))),
+                fails_at(rt.alloc(), form, bytes, wanted, call),
                 "{form:?} at {call}"
-            );
-            let mut source = Stumbling::new(bytes, call, ErrorKind::Interrupted);
-            let read = read_whole(alloc, form, &mut source);
-            assert!(rt;
-                are_read(read, &bytes[..first]),
-                "{form:?} interrupted at {call}"
             );
         }
     }
